@@ -1,0 +1,3 @@
+pub mod ArenaLemmas
+pub mod NameLaws
+pub mod WinnerLaws

@@ -1,0 +1,21 @@
+-- The numbers of the faults of expressions.
+use Rattle.std.specs.Prelude.{ℕ, Option, Some, None}
+use Rattle.ly_ere.specs.declared.fault.EreFault.{EreFault}
+use Rattle.ly_ere.specs.declared.fault.EreFault.TheVariants.{Empty, UnclosedQuote, UnclosedBracket, UnclosedGroup, StrayOperator, BadRange, EmptySet, UnknownClass, BadInterval, EscapeTooLarge, UnknownName, AnchorInside, TooHeavy, OutOfMemory}
+
+-- a fault's number; want of memory has none
+abbrev pub number_of : EreFault → Option ℕ
+number_of Empty = Some 1
+number_of UnclosedQuote = Some 2
+number_of UnclosedBracket = Some 3
+number_of UnclosedGroup = Some 4
+number_of StrayOperator = Some 5
+number_of BadRange = Some 6
+number_of EmptySet = Some 7
+number_of UnknownClass = Some 8
+number_of BadInterval = Some 9
+number_of EscapeTooLarge = Some 10
+number_of UnknownName = Some 11
+number_of AnchorInside = Some 13
+number_of TooHeavy = Some 17
+number_of OutOfMemory = None

@@ -1,0 +1,14 @@
+-- What holds of winners, as statements.
+use Rattle.std.specs.Prelude.{◌≡◌, ℕ, List, Bool}
+use Rattle.ly_ere.specs.Expression.{Expression}
+use Rattle.ly_ere.specs.declared.pattern.Pattern.{Pattern}
+use Rattle.ly_ere.specs.declared.pattern.Rule.{Rule}
+use Rattle.ly_ere.specs.Winner.{Winner, IsCut, Fits}
+
+-- two winners of one place are one rule and one length
+abbrev pub WinnerIsOne : Type 0
+WinnerIsOne = (names : List Expression) (rules : List Rule) (condition : ℕ) (line : Bool) (rest : List ℕ) (i n m j k l : ℕ) → Winner names rules condition line rest i n m → Winner names rules condition line rest j k l → (i ≡ j) × (n ≡ k)
+
+-- under a true cut the length of a match decides that of its token
+abbrev pub SplitIsOne : Type 0
+SplitIsOne = (names : List Expression) (p : Pattern) (rest : List ℕ) (n m l : ℕ) → IsCut names p → Fits names p rest n m → Fits names p rest n l → m ≡ l

@@ -1,0 +1,23 @@
+-- Definitions in an order in which each uses earlier ones only.
+use Rattle.std.specs.Prelude.{◌≡◌, ◌↔◌, ℕ, ◌<◌, List, length, slice_get, Some}
+use Rattle.ly_ere.specs.Expression.{Expression, set, empty, concat, either, star, plus, optional, repeat, name, Matches}
+
+-- each name in the expression is below n
+abbrev pub UsesBelow : ℕ → Expression → Type 0
+UsesBelow n (set bytes) = Unit {0}
+UsesBelow n empty = Unit {0}
+UsesBelow n (concat r s) = UsesBelow n r × UsesBelow n s
+UsesBelow n (either r s) = UsesBelow n r × UsesBelow n s
+UsesBelow n (star r) = UsesBelow n r
+UsesBelow n (plus r) = UsesBelow n r
+UsesBelow n (optional r) = UsesBelow n r
+UsesBelow n (repeat k m r) = UsesBelow n r
+UsesBelow n (name x) = x < n
+
+-- each definition uses earlier ones only
+abbrev pub AreOrdered : List Expression → Type 0
+AreOrdered names = (n : ℕ) (d : Expression) → slice_get names n ≡ Some d → UsesBelow n d
+
+-- a name stands for its definition
+abbrev pub NameIsDefinition : Type 0
+NameIsDefinition = (names : List Expression) (x : ℕ) (d : Expression) (w : List ℕ) → AreOrdered names → slice_get names x ≡ Some d → x < length names → Matches names (name x) w ↔ Matches names d w

@@ -1,0 +1,57 @@
+-- Candidates and winners: which rule matches at a place of a text (POSIX, lex, "Regular Expressions in lex").
+use Rattle.std.specs.Prelude.{◌≡◌, ℕ, ◌-◌, ◌≤◌, List, [], length, take, drop, slice_get, Bool, IsTrue, Contains, Option, Some, None}
+use Rattle.ly_base.specs.declared.cut.Cut.{Cut}
+use Rattle.ly_base.specs.declared.cut.Cut.TheVariants.{Whole, Head, Tail}
+use Rattle.ly_ere.specs.Expression.{Expression, Matches}
+use Rattle.ly_ere.specs.declared.pattern.Pattern.{Pattern}
+use Rattle.ly_ere.specs.declared.pattern.Rule.{Rule}
+
+-- The bytes after the token follow the pattern's tail, and without a tail there are none.
+abbrev pub InTail : List Expression → Option Expression → List ℕ → Type 0
+InTail names None w = w ≡ []
+InTail names (Some t) w = Matches names t w
+
+-- all strings of an expression have this length
+abbrev pub HasLength : List Expression → Expression → ℕ → Type 0
+HasLength names r n = (w : List ℕ) → Matches names r w → length w ≡ n
+
+-- the cut of a head and a tail tells the truth
+abbrev pub CutHolds : List Expression → Expression → Option Expression → Cut → Type 0
+CutHolds names h None Whole = Unit {0}
+CutHolds names h None (Head n) = ⊥
+CutHolds names h None (Tail n) = ⊥
+CutHolds names h (Some t) Whole = ⊥
+CutHolds names h (Some t) (Head n) = HasLength names h n
+CutHolds names h (Some t) (Tail n) = HasLength names t n
+
+abbrev pub IsCut : List Expression → Pattern → Type 0
+IsCut names p = CutHolds names p.head p.tail p.cut
+
+-- each pattern's cut tells the truth
+abbrev pub AreCut : List Expression → List Rule → Type 0
+AreCut names rules = (i : ℕ) (r : Rule) → slice_get rules i ≡ Some r → IsCut names r.pattern
+
+-- The first n bytes of rest are m bytes of the pattern's head, at least one, and then bytes of its tail.
+pub record Fits (names : List Expression) (p : Pattern) (rest : List ℕ) (n m : ℕ) : Type 0 where
+  pub some_byte : 1 ≤ m
+  pub token_within : m ≤ n
+  pub within : n ≤ length rest
+  pub in_head : Matches names p.head (take m rest)
+  pub in_tail : InTail names p.tail (take (n - m) (drop m rest))
+
+-- Rule i matches n bytes, m of them its token.
+pub record Candidate (names : List Expression) (rules : List Rule) (condition : ℕ) (line : Bool) (rest : List ℕ) (i n m : ℕ) : Type 0 where
+  pub rule : Rule
+  pub is_rule : slice_get rules i ≡ Some rule
+  pub is_active : Contains rule.active.items condition
+  pub at_line : IsTrue rule.pattern.line_start → IsTrue line
+  pub fits : Fits names rule.pattern rest n m
+
+-- The longest match, and of those the first rule's.
+pub record Winner (names : List Expression) (rules : List Rule) (condition : ℕ) (line : Bool) (rest : List ℕ) (i n m : ℕ) : Type 0 where
+  pub is_candidate : Candidate names rules condition line rest i n m
+  pub longest : (j k l : ℕ) → Candidate names rules condition line rest j k l → k ≤ n
+  pub first : (j l : ℕ) → Candidate names rules condition line rest j n l → i ≤ j
+
+abbrev pub HasNoWinner : List Expression → List Rule → ℕ → Bool → List ℕ → Type 0
+HasNoWinner names rules condition line rest = (i n m : ℕ) → Candidate names rules condition line rest i n m → ⊥

@@ -1,0 +1,50 @@
+ghost use Rattle.std.specs.Prelude.{◌≡◌, ◌<◌, length, slice_index_or};
+ghost use Rattle.ly_ere.specs.Expression.{empty};
+
+use crate::arena::Arena;
+use crate::node::Node;
+use std::marker::Model;
+
+/// An expression, kept as a list of nodes whose parts have smaller numbers, and seen as the
+/// expression that its root stands for.
+#[derive(Drop)]
+pub struct Re {
+    arena: Arena,
+    root: usize,
+}
+
+impl Model for Re {
+    ghost use Rattle.std.specs.Prelude.{◌<◌, length, slice_index_or};
+    ghost use Rattle.ly_ere.specs.Expression.{Expression, empty};
+    ghost use Rattle.ly_ere.specs.ExpressionCode.{expression_code};
+
+    ghost Value = { Expression };
+
+    ghost coded = { expression_code };
+
+    ghost view = { λ r. slice_index_or r.arena r.root empty };
+
+    ghost invariant = { λ r. r.root < length r.arena };
+}
+
+impl Re {
+    ghost use Rattle.ly_ere.specs.Arena.{expressions, IsOrdered};
+
+    /// The expression that a number names in an arena.
+    pub fn of(arena: Arena, root: usize) -> Self
+        requires { root < length arena }
+        ensures { result ≡ slice_index_or arena root empty }
+    {
+        Re { arena, root }
+    }
+
+    /// The nodes, whose parts come before them, and the number of the whole expression's node.
+    pub fn nodes(&self) -> (&[Node], usize)
+        ensures within { result.1 < length result.0.now }
+        ensures spelled { slice_index_or (expressions result.0.now) result.1 empty ≡ self.now }
+        ensures ordered { IsOrdered result.0.now }
+    {
+        let nodes = self.arena.nodes();
+        (nodes, self.root)
+    }
+}
