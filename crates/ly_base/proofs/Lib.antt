@@ -1,0 +1,2 @@
+pub mod ByteSetLemmas
+mod WordLemmas

@@ -1,0 +1,2 @@
+pub mod ByteSet
+pub mod Limits
