@@ -1,2 +1,3 @@
 pub mod ByteSetLemmas
+pub mod DeviceLemmas
 mod WordLemmas

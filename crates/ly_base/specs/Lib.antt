@@ -1,2 +1,6 @@
 pub mod ByteSet
+pub mod Counted
+pub mod Device
 pub mod Limits
+pub mod MemSink
+pub mod MemSource

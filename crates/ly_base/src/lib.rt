@@ -1,14 +1,23 @@
-//! What all of lytab shares: sets of bytes, cuts, the numbers of rules and symbols, and limits.
+//! What all of lytab shares: sets of bytes, cuts, the numbers of rules and symbols, limits, readers
+//! and writers that count their failures, and bytes as text.
 #![tactic(auto)]
 
 mod byte_set;
+mod counted;
 mod cut;
+mod device;
 mod limits;
+mod memory;
 mod memory_fault;
 mod numbers;
+mod whole;
 
 pub use byte_set::ByteSet;
+pub use counted::Counted;
 pub use cut::Cut;
+pub use device::{DeviceFailed, Sink, Source};
 pub use limits::Limits;
+pub use memory::{MemSink, MemSource};
 pub use memory_fault::OutOfMemory;
 pub use numbers::{RuleNo, Sym};
+pub use whole::{ReadFault, WriteFault, read_whole, write_whole};

@@ -1,0 +1,30 @@
+-- How a count of failures goes on, and which calls are failures.
+use Rattle.std.specs.Prelude.{◌≡◌, ℕ, ◌+◌, ◌%◌, ◌^◌, Bool, true, false, Result, Ok, Err, nat_eq, nat_lt, ◌&&◌, if◌then◌else◌, Option, None, Some, min, ◌-◌}
+
+-- the count after one more failure; it goes round at 2^64, so it is never the count before
+abbrev pub next_count : ℕ → ℕ
+next_count n = (n + 1) % 2 ^ 64
+
+-- a write of `len` bytes failed: any error, or none of one or more bytes taken
+abbrev pub write_failed : {E : Type 0} → Result ℕ E → ℕ → Bool
+write_failed (Ok n) len = nat_eq n 0 && nat_lt 0 len
+write_failed (Err e) len = true
+
+-- a read failed
+abbrev pub read_failed : {E : Type 0} → Result ℕ E → Bool
+read_failed (Ok n) = false
+read_failed (Err e) = true
+
+-- the count goes on by one exactly where the call failed
+abbrev pub CountsFailure : Bool → ℕ → ℕ → Type 0
+CountsFailure failed old new = new ≡ (if failed then next_count old else old)
+
+-- at most n bytes, and no more than are left before the failure, if it comes
+abbrev pub allowed : Option ℕ → ℕ → ℕ
+allowed None n = n
+allowed (Some left) n = min left n
+
+-- how many bytes are left before the failure after n more
+abbrev pub left_after : Option ℕ → ℕ → Option ℕ
+left_after None n = None
+left_after (Some left) n = Some (left - n)

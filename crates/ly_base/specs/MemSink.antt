@@ -1,0 +1,15 @@
+-- What a MemSink holds.
+use Rattle.std.specs.Prelude.{ℕ, List, Option}
+use Rattle.ly_base.specs.declared.memory.MemSink.{MemSink}
+
+-- the bytes that were written
+abbrev pub written : MemSink → List ℕ
+written s = s.bytes.items
+
+-- how many bytes it takes before it fails, if it will
+abbrev pub takes_at_most : MemSink → Option ℕ
+takes_at_most s = s.left
+
+-- how many calls failed
+abbrev pub write_failures : MemSink → ℕ
+write_failures s = s.failures
