@@ -1,5 +1,5 @@
 -- Lemmas on devices.
-use Rattle.std.proofs.Common.{◌≡◌, ◌+◌, ◌-◌, ◌≤◌, ◌<◌, ℕ, List, ◌++◌, length, take, drop, Some, None, Option, append_assoc, refl, ap, ◌∙◌, sym, arith, nat_eq, nat_lt, false, rules, IfSome, append-nil}
+use Rattle.std.proofs.Common.{◌≡◌, ◌+◌, ◌-◌, ◌<◌, ℕ, List, ◌++◌, length, take, drop, Some, None, Option, append_assoc, ap, ◌∙◌, sym, arith, nat_eq, nat_lt, false, rules, IfSome, append-nil}
 use Rattle.std.specs.Prelude.{◌&&◌}
 use Rattle.std.specs.Io.KnownBytes.{Appends, Consumes, IsAtEnd}
 use Rattle.std.proofs.Math.Seq.{take-add}

@@ -1,3 +1,4 @@
 pub mod ByteSetLemmas
 pub mod DeviceLemmas
 mod WordLemmas
+mod TextLemmas

@@ -4,3 +4,4 @@ pub mod Device
 pub mod Limits
 pub mod MemSink
 pub mod MemSource
+pub mod Text

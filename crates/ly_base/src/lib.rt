@@ -10,6 +10,7 @@ mod limits;
 mod memory;
 mod memory_fault;
 mod numbers;
+mod text;
 mod whole;
 
 pub use byte_set::ByteSet;
@@ -20,4 +21,5 @@ pub use limits::Limits;
 pub use memory::{MemSink, MemSource};
 pub use memory_fault::OutOfMemory;
 pub use numbers::{RuleNo, Sym};
+pub use text::{Terminal, push_escaped, push_leaf, push_no_rule_line};
 pub use whole::{ReadFault, WriteFault, read_whole, write_whole};

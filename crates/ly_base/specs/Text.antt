@@ -1,0 +1,37 @@
+-- Bytes, tokens and answers as printed text.
+use Rattle.std.specs.Prelude.{ℕ, ◌/◌, ◌%◌, List, [], ◌∷◌, ◌++◌, Bool, not, false, ◌&&◌, nat_eq, nat_le, codes, if◌then◌else◌}
+use Rattle.std.specs.Fmt.{decimal, digit_glyph}
+use Rattle.std.specs.List.{flat_map}
+use Rattle.ly_base.specs.declared.text.Terminal.{Terminal}
+use Rattle.ly_base.specs.declared.text.Terminal.TheVariants.{Token, Literal}
+
+-- bytes 32 to 126 stand for themselves, but not `\` and the quote in use
+abbrev pub is_plain : ℕ → ℕ → Bool
+is_plain quote b = nat_le 32 b && nat_le b 126 && not (nat_eq b 92) && not (nat_eq b quote)
+
+-- a byte that doesn't stand for itself: `\n`, `\t`, a backslash before it, or `\x` and two hexadecimal digits
+abbrev pub escape_of : ℕ → List ℕ
+escape_of b = if nat_eq b 10 then codes "\\n" else
+    (if nat_eq b 9 then codes "\\t" else
+    (if nat_le 32 b && nat_le b 126 then 92 ∷ b ∷ [] else codes "\\x" ++ digit_glyph false (b / 16) ∷ digit_glyph false (b % 16) ∷ []))
+
+-- a byte between quotes
+abbrev pub escaped_byte : ℕ → ℕ → List ℕ
+escaped_byte quote b = if is_plain quote b then b ∷ [] else escape_of b
+
+-- bytes between quotes
+abbrev pub escaped : ℕ → List ℕ → List ℕ
+escaped quote bytes = flat_map (escaped_byte quote) bytes
+
+-- a terminal's printed name: a token's as it is, a literal's byte in single quotes
+abbrev pub name_of : Terminal → List ℕ
+name_of (Token name) = name.now
+name_of (Literal b) = 39 ∷ (escaped_byte 39 b ++ 39 ∷ [])
+
+-- a leaf: the terminal's name, then the text in double quotes
+abbrev pub leaf_of : Terminal → List ℕ → List ℕ
+leaf_of terminal text = name_of terminal ++ 34 ∷ (escaped 34 text ++ 34 ∷ [])
+
+-- the line that says where no rule matches
+abbrev pub no_rule_line : ℕ → List ℕ
+no_rule_line byte = codes "no rule matches at byte " ++ decimal byte ++ 10 ∷ []

@@ -1,0 +1,104 @@
+ghost use Rattle.std.specs.Prelude.{◌≡◌, ◌<◌, ◌++◌, false, OnOk};
+ghost use Rattle.std.specs.Fmt.{digit_glyph};
+ghost use Rattle.ly_base.specs.Text.{escape_of, escaped, is_plain, leaf_of, name_of, no_rule_line};
+
+use std::alloc::AllocError;
+use std::io::Write;
+
+/// A terminal, as it is printed.
+#[derive(Clone, Copy, Debug, PartialEq, Eq)]
+pub enum Terminal<'a> {
+    /// A token, by its name.
+    Token(&'a [u8]),
+    /// A byte that stands for itself.
+    Literal(u8),
+}
+
+/// Appends a leaf: the terminal's name, then the token's text in double quotes, as `NUM"12"`. The
+/// name of a literal is its byte in single quotes, as `'+'`.
+///
+/// It fails where memory runs out. How much was appended by then is left open.
+pub fn push_leaf(out: &mut Vec<u8>, terminal: Terminal<'_>, text: &[u8]) -> Result<(), AllocError>
+    ensures { OnOk result (out.new.items ≡ out.old.items ++ leaf_of terminal.entry text.now) }
+{
+    push_name(out, terminal)?;
+    out.push(b'"')?;
+    push_escaped(out, b'"', text)?;
+    out.push(b'"')?;
+    Ok(())
+}
+
+/// Appends a terminal's name.
+fn push_name(out: &mut Vec<u8>, terminal: Terminal<'_>) -> Result<(), AllocError>
+    ensures { OnOk result (out.new.items ≡ out.old.items ++ name_of terminal.entry) }
+{
+    match terminal {
+        Terminal::Token(name) => out.extend_from_slice(name),
+        Terminal::Literal(byte) => {
+            out.push(b'\'')?;
+            push_escaped(out, b'\'', &[byte])?;
+            out.push(b'\'')?;
+            Ok(())
+        }
+    }
+}
+
+/// Appends bytes as they stand between quotes. Bytes 32 to 126 stand for themselves, but `\` and
+/// `quote` have a backslash before them; byte 10 is `\n`, byte 9 is `\t`, and any other is `\x` with
+/// two lower-case hexadecimal digits.
+///
+/// It fails where memory runs out. How much was appended by then is left open.
+pub fn push_escaped(out: &mut Vec<u8>, quote: u8, bytes: &[u8]) -> Result<(), AllocError>
+    ensures { OnOk result (out.new.items ≡ out.old.items ++ escaped quote bytes.now) }
+{
+    // Bytes that stand for themselves are copied a run at a time.
+    let mut start = 0;
+    for (at, byte) in bytes.iter().enumerate() {
+        if !is_plain(quote, *byte) {
+            out.extend_from_slice(&bytes[start..at])?;
+            push_escape(out, *byte)?;
+            start = at + 1;
+        }
+    }
+    out.extend_from_slice(&bytes[start..])
+}
+
+/// Whether the byte stands for itself between these quotes.
+fn is_plain(quote: u8, byte: u8) -> bool
+    ensures { result ≡ is_plain quote byte }
+{
+    (32..=126).contains(&byte) && byte != b'\\' && byte != quote
+}
+
+/// Appends a byte that doesn't stand for itself.
+fn push_escape(out: &mut Vec<u8>, byte: u8) -> Result<(), AllocError>
+    ensures { OnOk result (out.new.items ≡ out.old.items ++ escape_of byte) }
+{
+    match byte {
+        b'\n' => out.extend_from_slice(b"\\n"),
+        b'\t' => out.extend_from_slice(b"\\t"),
+        32..=126 => out.extend_from_slice(&[b'\\', byte]),
+        _ => out.extend_from_slice(&[b'\\', b'x', hex_digit(byte / 16), hex_digit(byte % 16)]),
+    }
+}
+
+/// The lower-case hexadecimal digit of a number below 16.
+fn hex_digit(value: u8) -> u8
+    requires { value < 16 }
+    ensures { result ≡ digit_glyph false value }
+{
+    if value < 10 {
+        b'0' + value
+    } else {
+        b'a' + (value - 10)
+    }
+}
+
+/// Appends the line that says at which byte no rule matches, counted from 0.
+///
+/// It fails where memory runs out. How much was appended by then is left open.
+pub fn push_no_rule_line(out: &mut Vec<u8>, byte: u64) -> Result<(), AllocError>
+    ensures { OnOk result (out.new.items ≡ out.old.items ++ no_rule_line byte) }
+{
+    writeln!(out, "no rule matches at byte {byte}").map_err(|_| AllocError)
+}
