@@ -1,3 +1,5 @@
 pub mod ArenaLemmas
+pub mod LevelLemmas
 pub mod NameLaws
+pub mod SetLemmas
 pub mod WinnerLaws

@@ -3,5 +3,7 @@ pub mod Expression
 pub mod ExpressionCode
 pub mod FaultNumber
 pub mod Laws
+pub mod Levels
 pub mod Names
+pub mod Symbols
 pub mod Winner

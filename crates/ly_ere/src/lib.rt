@@ -2,17 +2,26 @@
 #![tactic(auto)]
 
 mod arena;
+mod bracket;
+mod escape;
+mod extent;
 mod fault;
 mod laws;
+mod level;
 mod names;
 mod node;
 mod pattern;
+mod quoted;
 mod re;
+mod read;
+mod symbol;
 
 pub use arena::Arena;
+pub use extent::pattern_length;
 pub use fault::EreFault;
 pub use laws::{name_is_definition, split_is_one, winner_is_one};
 pub use names::Names;
 pub use node::Node;
 pub use pattern::{Pattern, Rule};
 pub use re::Re;
+pub use read::read_pattern;

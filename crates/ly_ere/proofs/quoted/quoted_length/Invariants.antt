@@ -1,0 +1,8 @@
+use Rattle.std.proofs.Common.{◌≤◌, ◌+◌, ◌-◌, length}
+use Rattle.ly_ere.proofs.quoted.quoted_length.Given as goal
+
+abbrev pub invariant-loop-at : goal.invariant-loop-at
+invariant-loop-at l = (1 ≤ l.at) × (l.at ≤ length l.text + 1)
+
+abbrev pub decreases-loop-at : goal.decreases-loop-at
+decreases-loop-at l = length l.text + 1 - l.at

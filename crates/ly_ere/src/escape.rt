@@ -1,0 +1,106 @@
+ghost use Rattle.std.specs.Prelude.{◌≡◌, ◌<◌, ◌≤◌, ◌+◌, length, IfOk, IfSome};
+
+use crate::fault::EreFault;
+
+/// Reads the escape at the front of a text, which begins with a backslash: its byte, and how many
+/// bytes of the text it takes (POSIX, lex, "Escape Sequences in lex"). One to three octal digits, or `x`
+/// with the longest run of hexadecimal digits, give a byte by its value; `\x` without digits is `x`.
+pub(crate) fn escape(text: &[u8]) -> Result<(u8, usize), EreFault>
+    ensures first { IfOk result (λ found. 2 ≤ found.1) }
+    ensures within { IfOk result (λ found. found.1 ≤ length text.now) }
+{
+    let letter = match text.get(1).copied() {
+        None | Some(b'\n') => return Err(EreFault::StrayOperator),
+        Some(letter) => letter,
+    };
+    let octal = Digits::leading(&text[1..], Radix::Octal, 3);
+    if octal.count > 0 {
+        return Ok((octal.byte()?, 1 + octal.count));
+    }
+    if letter == b'x' {
+        let digits = &text[2..];
+        let hexadecimal = Digits::leading(digits, Radix::Hexadecimal, digits.len());
+        if hexadecimal.count > 0 {
+            return Ok((hexadecimal.byte()?, 2 + hexadecimal.count));
+        }
+    }
+    Ok((meaning_of(letter), 2))
+}
+
+/// What a backslash before a byte that begins no number stands for.
+fn meaning_of(letter: u8) -> u8 {
+    match letter {
+        b'a' => 7,
+        b'b' => 8,
+        b'f' => 12,
+        b'n' => 10,
+        b'r' => 13,
+        b't' => 9,
+        b'v' => 11,
+        other => other,
+    }
+}
+
+#[derive(Clone, Copy)]
+enum Radix {
+    Octal,
+    Hexadecimal,
+}
+
+impl Radix {
+    /// The value of a digit.
+    fn digit(self, byte: u8) -> Option<u16>
+        ensures { IfSome result (λ digit. digit < 16) }
+    {
+        match (self, byte) {
+            (_, b'0'..=b'7') => Some(u16::from(byte - b'0')),
+            (Radix::Hexadecimal, b'8' | b'9') => Some(u16::from(byte - b'0')),
+            (Radix::Hexadecimal, b'a'..=b'f') => Some(u16::from(byte - b'a') + 10),
+            (Radix::Hexadecimal, b'A'..=b'F') => Some(u16::from(byte - b'A') + 10),
+            _ => None,
+        }
+    }
+
+    fn base(self) -> u16
+        ensures { result ≤ 16 }
+    {
+        match self {
+            Radix::Octal => 8,
+            Radix::Hexadecimal => 16,
+        }
+    }
+}
+
+/// The first value that is no byte: digits that come to more count as this.
+const TOO_LARGE: u16 = 256;
+
+/// A run of digits: how many there are, and their value, or `TOO_LARGE`.
+#[derive(Clone, Copy)]
+struct Digits {
+    value: u16,
+    count: usize,
+}
+
+impl Digits {
+    /// The digits at the front of a text, at most `most`.
+    fn leading(text: &[u8], radix: Radix, most: usize) -> Self
+        ensures within { result.count ≤ length text.now }
+    {
+        let mut value = 0u16;
+        for (count, byte) in text.iter().enumerate() {
+            let digit = match radix.digit(*byte) {
+                Some(digit) if count < most => digit,
+                _ => return Digits { value, count },
+            };
+            value = (value * radix.base() + digit).min(TOO_LARGE);
+        }
+        Digits {
+            value,
+            count: text.len(),
+        }
+    }
+
+    fn byte(self) -> Result<u8, EreFault> {
+        u8::try_from(self.value).map_err(|_| EreFault::EscapeTooLarge)
+    }
+}
