@@ -1,0 +1,87 @@
+-- Lemmas on walks.
+use Rattle.std.proofs.Common.{◌≡◌, ◌∙◌, ◌<◌, ◌≤◌, ◌+◌, ◌-◌, ◌++◌, ◌∷◌, [], ℕ, List, Option, Some, None, true, false, take, drop, length, refl, sym, ap, subst, arith, rules, is_some, get_or, inl, inr, IfSome, append_assoc}
+use Rattle.std.specs.Prelude.{option_map}
+use Rattle.ly_base.specs.declared.numbers.RuleNo.{RuleNo}
+use Rattle.std.proofs.lemmas.Bool.{cases_lt}
+use Rattle.std.proofs.lemmas.List.{take_more}
+use Rattle.std.proofs.Math.Seq.{take-add}
+use Rattle.ly_scan.specs.Walk.{Walk, IsBest, IsLongest, better_of}
+
+-- an answer is not at once there and missing
+clash : {A : Type 0} (o : Option A) (a : A) → o ≡ None → o ≡ Some a → ⊥
+clash o a h k = search rules
+
+-- two answers of one place
+two_rules : (o : Option (Option ℕ)) (s : ℕ) → o ≡ Some None → o ≡ Some (Some s) → ⊥
+two_rules o s h k = search rules
+
+-- where each longer beginning has no rule, the best stays
+pub best_stays : (walk : Walk) (text : List ℕ) (i n : ℕ) (best : Option (ℕ × RuleNo)) → i ≤ n
+    → ((m s : ℕ) → i < m → m ≤ n → walk (take m text) ≡ Some (Some s) → ⊥) → IsBest walk text i best → IsBest walk text n best
+best_stays walk text i n None le none h = λ m s one within rule. elim (cases_lt i m) [
+  | inr a ↦ h m s one a rule
+  | inl b ↦ none m s b within rule
+]
+best_stays walk text i n (Some p) le none h = record {
+  some_byte = h.some_byte;
+  within = omega (arith, h.within);
+  has_rule = h.has_rule;
+  longest = λ m s more within rule. elim (cases_lt i m) [
+    | inr a ↦ h.longest m s more a rule
+    | inl b ↦ none m s b within rule
+  ];
+}
+
+-- one more byte with no rule
+pub best_same : (walk : Walk) (text : List ℕ) (i : ℕ) (best : Option (ℕ × RuleNo)) → walk (take (i + 1) text) ≡ Some None
+    → IsBest walk text i best → IsBest walk text (i + 1) best
+best_same walk text i best none h = best_stays walk text i (i + 1) best (omega arith)
+    (λ m s more within rule. let same : m ≡ i + 1 = omega arith in
+    let P : ℕ → Type 0 = λ k. walk (take k text) ≡ Some (Some s) in two_rules _ _ none (subst P same rule)) h
+
+-- one more byte with a rule
+pub best_more : (walk : Walk) (text : List ℕ) (i r : ℕ) → walk (take (i + 1) text) ≡ Some (Some r)
+    → IsLongest walk text (i + 1) (i + 1) r
+best_more walk text i r rule = record {
+  some_byte = omega arith;
+  within = omega arith;
+  has_rule = rule;
+  longest = λ m s more within other. absurd (omega arith);
+}
+
+-- a walk that has ended has no rule further on
+pub best_ended : (walk : Walk) (text : List ℕ) (i : ℕ) (best : Option (ℕ × RuleNo)) → i ≤ length text
+    → ((t u : List ℕ) → walk t ≡ None → walk (t ++ u) ≡ None) → walk (take (i + 1) text) ≡ None
+    → IsBest walk text i best → IsBest walk text (length text) best
+best_ended walk text i best le stays none h = best_stays walk text i (length text) best le
+    (λ m s more within rule. let further : take m text ≡ take (i + 1) text ++ take (m - (i + 1)) (drop (i + 1) text)
+    = ap (λ k. take k text) (omega arith) ∙ take-add (i + 1) (m - (i + 1)) text in
+    clash _ _ (ap walk further ∙ stays _ _ none) rule) h
+
+-- one more byte
+pub best_next : (walk : Walk) (text : List ℕ) (i : ℕ) (rule : Option RuleNo) (best : Option (ℕ × RuleNo)) → walk (take (i + 1) text) ≡ Some (option_map (λ r. r.0) rule)
+    → IsBest walk text i best → IsBest walk text (i + 1) (better_of best (i + 1) rule)
+best_next walk text i None best e h = best_same walk text i best e h
+best_next walk text i (Some r) best e h = best_more walk text i r.0 e
+
+-- after one more byte the walk stands behind it
+pub stands_next : (walk here there : Walk) (text : List ℕ) (i : ℕ) → i < length text
+    → ((more : List ℕ) → here more ≡ walk (take i text ++ more)) → ((more : List ℕ) → there more ≡ here (get_or text i 0 ∷ more))
+    → (more : List ℕ) → there more ≡ walk (take (i + 1) text ++ more)
+stands_next walk here there text i lt h k more = k more ∙ h (get_or text i 0 ∷ more)
+    ∙ ap walk (sym (append_assoc (take i text) (get_or text i 0 ∷ []) more) ∙ ap (λ t. t ++ more) (sym (take_more text i 0 lt)))
+
+-- what is there but not missing
+pub some_or_none : (o : Option (Option ℕ)) → false ≡ is_some o → o ≡ None
+some_or_none None h = refl
+some_or_none (Some a) h = search rules
+
+-- what a walk that goes on says
+pub told : (o : Option (Option ℕ)) (a : Option ℕ) → true ≡ is_some o → IfSome o (λ rule. a ≡ rule) → o ≡ Some a
+told None a h k = search rules
+told (Some b) a h k = ap (λ z. Some z) (sym k)
+
+-- a walk that has ended before its first byte has no rule anywhere
+pub none_from_start : (walk : Walk) (text : List ℕ) → ((t u : List ℕ) → walk t ≡ None → walk (t ++ u) ≡ None)
+    → walk [] ≡ None → (m s : ℕ) → 1 ≤ m → m ≤ length text → walk (take m text) ≡ Some (Some s) → ⊥
+none_from_start walk text stays none m s one within rule = clash _ _ (stays [] (take m text) none) rule

@@ -1,0 +1,95 @@
+ghost use Rattle.std.specs.Prelude.{◌≡◌, length};
+ghost use Rattle.ly_scan.specs.Cuts.{token_len};
+ghost use Rattle.ly_scan.specs.Matching.{Matches};
+ghost use Rattle.ly_scan.specs.Walk.{IsBest, better_of};
+
+use crate::steps::Steps;
+use ly_base::{Cut, RuleNo};
+
+/// What was found at the front of a text.
+#[derive(Clone, Copy, Debug, PartialEq, Eq)]
+pub enum Match {
+    /// A rule matches.
+    Win {
+        /// The rule of the longest match.
+        rule: RuleNo,
+        /// The length of its token in bytes, which is the match or what its cut leaves of it.
+        token_len: usize,
+    },
+    /// A rule matches, and its cut leaves no byte or more than the match.
+    BadCut,
+    /// No rule matches one or more bytes.
+    Stuck,
+}
+
+/// The longest match of one or more bytes at the front of `rest`, which begins at a condition, at
+/// the start of a line or not (POSIX, lex: "the longest possible match"). The walk says which rule
+/// it is, where several match the same bytes.
+pub fn next_match<S: Steps>(
+    steps: &mut S,
+    condition: u32,
+    at_line_start: bool,
+    rest: &[u8],
+) -> Match
+    ensures found { Matches (S.walk steps.old condition at_line_start) (S.cut_of steps.old) rest.now result }
+    ensures same_walk { S.walk steps.new ≡ S.walk steps.old }
+    ensures same_cuts { S.cut_of steps.new ≡ S.cut_of steps.old }
+{
+    match longest(steps, condition, at_line_start, rest) {
+        None => Match::Stuck,
+        Some((length, rule)) => match cut_down(steps.cut(rule), length) {
+            Some(token_len) => Match::Win { rule, token_len },
+            None => Match::BadCut,
+        },
+    }
+}
+
+/// The length of the longest walk that has a rule, and the rule.
+fn longest<S: Steps>(
+    steps: &mut S,
+    condition: u32,
+    at_line_start: bool,
+    rest: &[u8],
+) -> Option<(usize, RuleNo)>
+    ensures best { IsBest (S.walk steps.old condition at_line_start) rest.now (length rest.now) result }
+    ensures same_walk { S.walk steps.new ≡ S.walk steps.old }
+    ensures same_cuts { S.cut_of steps.new ≡ S.cut_of steps.old }
+{
+    let mut best = None;
+    if !steps.start(condition, at_line_start) {
+        return best;
+    }
+    for (at, byte) in rest.iter().enumerate() {
+        if !steps.step(*byte) {
+            return best;
+        }
+        best = better(best, at + 1, steps.accept());
+    }
+    best
+}
+
+/// The better of two answers: the longer one, where it has a rule.
+fn better(
+    best: Option<(usize, RuleNo)>,
+    length: usize,
+    rule: Option<RuleNo>,
+) -> Option<(usize, RuleNo)>
+    ensures { result ≡ better_of best length rule }
+{
+    match rule {
+        Some(rule) => Some((length, rule)),
+        None => best,
+    }
+}
+
+/// The length of the token of a match.
+fn cut_down(cut: Cut, length: usize) -> Option<usize>
+    ensures { result ≡ token_len cut length }
+{
+    match cut {
+        Cut::Whole => Some(length),
+        Cut::Head(len) if 0 < len && len <= length => Some(len),
+        Cut::Tail(len) if len < length => Some(length - len),
+        Cut::Head(_) | Cut::Tail(_) => None,
+    }
+}
