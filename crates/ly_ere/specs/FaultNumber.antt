@@ -1,5 +1,7 @@
 -- The numbers of the faults of expressions.
 use Rattle.std.specs.Prelude.{ℕ, Option, Some, None}
+use Rattle.ly_base.specs.declared.escapes.EscapeFault.{EscapeFault}
+use Rattle.ly_base.specs.declared.escapes.EscapeFault.TheVariants.{Unfinished, TooLarge}
 use Rattle.ly_ere.specs.declared.fault.EreFault.{EreFault}
 use Rattle.ly_ere.specs.declared.fault.EreFault.TheVariants.{Empty, UnclosedQuote, UnclosedBracket, UnclosedGroup, StrayOperator, BadRange, EmptySet, UnknownClass, BadInterval, EscapeTooLarge, UnknownName, AnchorInside, TooHeavy, OutOfMemory}
 
@@ -19,3 +21,8 @@ number_of UnknownName = Some 11
 number_of AnchorInside = Some 13
 number_of TooHeavy = Some 17
 number_of OutOfMemory = None
+
+-- the fault of an escape as one of its expression
+abbrev pub fault_of_escape : EscapeFault → EreFault
+fault_of_escape Unfinished = StrayOperator
+fault_of_escape TooLarge = EscapeTooLarge

@@ -1,9 +1,8 @@
 ghost use Rattle.std.specs.Prelude.{◌<◌, ◌≤◌, ◌+◌, ◌≢◌, [], length, IfOk, IfSome};
 ghost use Rattle.ly_base.specs.ByteSet.{members};
 
-use crate::escape::escape;
 use crate::fault::EreFault;
-use ly_base::ByteSet;
+use ly_base::{ByteSet, escape};
 
 /// How many bytes the bracket expression at the front of a text takes, whose first byte is `[`; `None`
 /// where the line ends first (POSIX, XBD 9.3.5).
@@ -146,7 +145,7 @@ fn point(items: &[u8]) -> Result<(u8, usize), EreFault>
     ensures within { IfOk result (λ found. found.1 ≤ length items.now) }
 {
     match items {
-        [b'\\', ..] => escape(items),
+        [b'\\', ..] => Ok(escape(items)?),
         [b'[', b'.', ..] => named_byte(items, b'.'),
         _ => Ok((items[0], 1)),
     }

@@ -1,6 +1,8 @@
 ghost use Rattle.std.specs.Prelude.{◌≡◌};
+ghost use Rattle.ly_ere.specs.FaultNumber.{fault_of_escape};
 ghost use Rattle.ly_ere.specs.declared.fault.EreFault.TheVariants.{OutOfMemory};
 
+use ly_base::EscapeFault;
 use std::alloc::{AllocError, AllocFailed};
 use thiserror::Error;
 
@@ -91,5 +93,16 @@ impl<T: Drop> From<AllocFailed<T>> for EreFault {
 
     fn from(_error: AllocFailed<T>) -> EreFault {
         EreFault::OutOfMemory
+    }
+}
+
+impl From<EscapeFault> for EreFault {
+    ghost from_gives = { λ fault e. e ≡ fault_of_escape fault };
+
+    fn from(fault: EscapeFault) -> EreFault {
+        match fault {
+            EscapeFault::Unfinished => EreFault::StrayOperator,
+            EscapeFault::TooLarge => EreFault::EscapeTooLarge,
+        }
     }
 }

@@ -3,7 +3,6 @@
 
 mod arena;
 mod bracket;
-mod escape;
 mod extent;
 mod fault;
 mod laws;

@@ -1,7 +1,7 @@
 ghost use Rattle.std.specs.Prelude.{◌<◌, ◌≤◌, length, IfOk, IfSome};
 
-use crate::escape::escape;
 use crate::fault::EreFault;
+use ly_base::escape;
 
 /// How many bytes the string at the front of a text takes, quotes included; its first byte is the opening
 /// quote. `None` where the line ends first.
@@ -29,7 +29,7 @@ pub(crate) fn quoted_byte(inside: &[u8]) -> Result<(u8, usize), EreFault>
     ensures within { IfOk result (λ found. found.1 ≤ length inside.now) }
 {
     match inside {
-        [b'\\', ..] => escape(inside),
+        [b'\\', ..] => Ok(escape(inside)?),
         _ => Ok((inside[0], 1)),
     }
 }

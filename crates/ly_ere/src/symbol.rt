@@ -3,11 +3,10 @@ ghost use Rattle.ly_ere.specs.Symbols.{IsWellFormed};
 ghost use Rattle.ly_base.specs.ByteSet.{members};
 
 use crate::bracket::{bracket, bracket_length};
-use crate::escape::escape;
 use crate::fault::EreFault;
 use crate::node::Node;
 use crate::quoted::quoted_length;
-use ly_base::ByteSet;
+use ly_base::{ByteSet, escape};
 
 /// A word of an expression.
 #[derive(Clone, Copy)]

@@ -1,16 +1,28 @@
 ghost use Rattle.std.specs.Prelude.{◌≡◌, ◌<◌, ◌≤◌, ◌+◌, length, IfOk, IfSome};
 
-use crate::fault::EreFault;
+use thiserror::Error;
+
+/// Why an escape is refused.
+#[derive(Clone, Copy, Debug, PartialEq, Eq, Error)]
+pub enum EscapeFault {
+    /// The text or the line ends after the backslash.
+    #[error("nothing after the backslash")]
+    Unfinished,
+    /// Its value is above 255.
+    #[error("a value above 255")]
+    TooLarge,
+}
 
 /// Reads the escape at the front of a text, which begins with a backslash: its byte, and how many
 /// bytes of the text it takes (POSIX, lex, "Escape Sequences in lex"). One to three octal digits, or `x`
-/// with the longest run of hexadecimal digits, give a byte by its value; `\x` without digits is `x`.
-pub(crate) fn escape(text: &[u8]) -> Result<(u8, usize), EreFault>
+/// with the longest run of hexadecimal digits, give a byte by its value; `\x` without digits is `x`, and
+/// before any other byte the backslash takes away that byte's meaning.
+pub fn escape(text: &[u8]) -> Result<(u8, usize), EscapeFault>
     ensures first { IfOk result (λ found. 2 ≤ found.1) }
     ensures within { IfOk result (λ found. found.1 ≤ length text.now) }
 {
     let letter = match text.get(1).copied() {
-        None | Some(b'\n') => return Err(EreFault::StrayOperator),
+        None | Some(b'\n') => return Err(EscapeFault::Unfinished),
         Some(letter) => letter,
     };
     let octal = Digits::leading(&text[1..], Radix::Octal, 3);
@@ -100,7 +112,7 @@ impl Digits {
         }
     }
 
-    fn byte(self) -> Result<u8, EreFault> {
-        u8::try_from(self.value).map_err(|_| EreFault::EscapeTooLarge)
+    fn byte(self) -> Result<u8, EscapeFault> {
+        u8::try_from(self.value).map_err(|_| EscapeFault::TooLarge)
     }
 }
