@@ -1,0 +1,13 @@
+-- The numbers of the faults of a lex file.
+use Rattle.std.specs.Prelude.{ℕ, Option, Some, None}
+use Rattle.ly_lexread.specs.declared.fault.LexFault.{LexFault}
+use Rattle.ly_lexread.specs.declared.fault.LexFault.TheVariants.{NoRulesMark, BadDefinition, UnknownCondition, BadAction, Pattern, OutOfMemory}
+
+-- a fault's number; want of memory has none
+abbrev pub number_of : LexFault → Option ℕ
+number_of (NoRulesMark line) = Some 20
+number_of (BadDefinition line) = Some 21
+number_of (UnknownCondition line) = Some 22
+number_of (BadAction line) = Some 24
+number_of (Pattern line inner) = Some 26
+number_of OutOfMemory = None

@@ -1,0 +1,3 @@
+pub mod FaultNumber
+pub mod Laws
+pub mod Lexing

@@ -1,0 +1,15 @@
+use crate::action::Action;
+use ly_ere::{Names, Rule};
+
+/// What a lex file says.
+#[derive(Drop)]
+pub struct LexFile {
+    /// The definitions.
+    pub names: Names,
+    /// The rules, in the order of the text.
+    pub rules: Vec<Rule>,
+    /// The action of each rule.
+    pub actions: Vec<Action>,
+    /// How many conditions there are; the initial one is number 0.
+    pub conditions: u32,
+}

@@ -1,0 +1,89 @@
+use crate::action::{Action, read_action};
+use crate::fault::LexFault;
+use crate::file::LexFile;
+use crate::lines::{Line, Lines};
+use ly_base::Limits;
+use ly_ere::{EreFault, Names, Rule, pattern_length, read_pattern};
+use std::alloc::Global;
+
+/// Reads a lex file (POSIX, XCU lex): definitions, a line that begins with `%%`, rules, and all that
+/// follows a second such line, which isn't used. Of the definitions it takes lines that are empty or begin
+/// with a blank; of the rules those of `read_pattern` with the actions of one line.
+///
+/// The faults come for the least line: `NoRulesMark` where no line begins with `%%`; `BadDefinition` for
+/// another line of the definitions and for a `%{` line; `UnknownCondition` for a rule that begins with
+/// `<`; `Pattern` and `BadAction` for the parts of a rule; `OutOfMemory` where a growth was refused.
+pub fn read_lex(alloc: Global, bytes: &[u8], limits: &Limits) -> Result<LexFile, LexFault> {
+    let mut lines = Lines::of(bytes);
+    skip_definitions(&mut lines)?;
+    let names = Names::new(alloc);
+    let mut rules = Vec::new(alloc);
+    let mut actions = Vec::new(alloc);
+    while let Some(line) = lines.take() {
+        if line.begins_with(b"%%") {
+            break;
+        }
+        if line.is_blank() {
+            continue;
+        }
+        let (rule, action) = read_rule(alloc, line, &names, limits)?;
+        rules.push(rule)?;
+        actions.push(action)?;
+    }
+    Ok(LexFile {
+        names,
+        rules,
+        actions,
+        conditions: 1,
+    })
+}
+
+/// Takes the lines of the definitions, and the one that begins the rules.
+fn skip_definitions(lines: &mut Lines<'_>) -> Result<(), LexFault> {
+    while let Some(line) = lines.take() {
+        if line.begins_with(b"%%") {
+            return Ok(());
+        }
+        if !line.is_blank() {
+            return Err(LexFault::BadDefinition { line: line.number });
+        }
+    }
+    Err(LexFault::NoRulesMark {
+        line: lines.last_number(),
+    })
+}
+
+/// Reads the line of a rule: its pattern, blanks, and its action.
+fn read_rule(
+    alloc: Global,
+    line: Line<'_>,
+    names: &Names,
+    limits: &Limits,
+) -> Result<(Rule, Action), LexFault> {
+    if line.begins_with(b"%{") {
+        return Err(LexFault::BadDefinition { line: line.number });
+    }
+    if line.begins_with(b"<") {
+        return Err(LexFault::UnknownCondition { line: line.number });
+    }
+    let (text, behind) = line.bytes.split_at(pattern_length(line.bytes));
+    let rule = match read_pattern(alloc, text, names, limits) {
+        Ok(pattern) => Rule {
+            pattern,
+            active: vec![in alloc; 0]?,
+        },
+        Err(fault) => return Err(pattern_fault(line.number, fault)),
+    };
+    match read_action(alloc, behind)? {
+        Some(action) => Ok((rule, action)),
+        None => Err(LexFault::BadAction { line: line.number }),
+    }
+}
+
+/// The fault of a file whose pattern on this line is refused.
+fn pattern_fault(line: u64, inner: EreFault) -> LexFault {
+    match inner {
+        EreFault::OutOfMemory => LexFault::OutOfMemory,
+        inner => LexFault::Pattern { line, inner },
+    }
+}
