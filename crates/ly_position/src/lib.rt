@@ -1,0 +1,18 @@
+//! From the rules of a lex file to positions with follow sets.
+#![tactic(auto)]
+
+mod build;
+mod fault;
+mod follow;
+mod lists;
+mod nfa;
+mod plain;
+mod plan;
+mod program;
+mod reach;
+mod sparse_set;
+mod starts;
+
+pub use build::positions;
+pub use fault::PosFault;
+pub use nfa::{PosNfa, Position};
