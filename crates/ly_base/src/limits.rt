@@ -1,4 +1,4 @@
-ghost use Rattle.std.specs.Prelude.{◌≡◌, min};
+ghost use Rattle.std.specs.Prelude.{◌≡◌, ◌≤◌, min};
 
 /// The sizes that lytab refuses to pass. A greater limit than this version's counts as this
 /// version's, so a `Limits` never holds one.
@@ -6,6 +6,8 @@ ghost use Rattle.std.specs.Prelude.{◌≡◌, min};
 pub struct Limits {
     pattern_weight: u32,
     total_weight: u32,
+    ghost pattern_in_range: { pattern_weight ≤ 65535 },
+    ghost total_in_range: { total_weight ≤ 65535 },
 }
 
 impl Limits {
