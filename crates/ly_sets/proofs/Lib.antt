@@ -1,0 +1,4 @@
+pub mod NumberSetLemmas
+pub mod RowLemmas
+pub mod LaneLemmas
+pub mod MatrixLemmas

@@ -1,0 +1,3 @@
+pub mod NumberSet
+pub mod TermSet
+pub mod SetMatrix

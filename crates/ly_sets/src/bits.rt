@@ -1,0 +1,115 @@
+//! Rows of words as sets of numbers: number `n` is bit `n % 64` of word `n / 64`.
+//!
+//! A row is whole blocks of four words, so a union has no tail: the words past the width are words
+//! like the others, in which no bit is ever set.
+ghost use Rattle.std.specs.Prelude.{◌≡◌, ◌+◌, ◌*◌, ◌-◌, ◌/◌, ◌<◌, ◌≤◌, ◌↔◌, ◌⊎◌, ℕ, length, true, false, slice_index, bit_or};
+ghost use Rattle.std.specs.FinSet as set;
+ghost use Rattle.ly_sets.specs.NumberSet.{row_set, AllBelow};
+ghost use lib.Lanes.{chunk, put_chunk, zip2};
+
+use std::simd::u64x4;
+
+/// How many words a block has: those that one vector holds.
+const LANES: usize = 4;
+
+const WORD_BITS: usize = 64;
+
+/// How many words hold the numbers below `width`, in whole blocks.
+pub fn words_for(width: usize) -> usize
+    ensures room { width ≤ 64 * result }
+    ensures blocks { (result / 4) * 4 ≡ result }
+{
+    width.div_ceil(LANES * WORD_BITS) * LANES
+}
+
+/// Whether a number is in the row of `len` words from `start` on.
+pub fn contains_bit(words: &[u64], start: usize, len: usize, number: usize) -> bool
+    requires inside { start + len ≤ length words.now }
+    requires below { number < 64 * len }
+    ensures { result ≡ set.contains (row_set start len words.now) number }
+{
+    words[start + number / WORD_BITS] >> (number % WORD_BITS) & 1 == 1
+}
+
+/// Adds a number to the row of `len` words from `start` on.
+pub fn insert_bit(words: &mut [u64], start: usize, len: usize, number: usize)
+    requires inside { start + len ≤ length words.old }
+    requires below { number < 64 * len }
+    ensures added { row_set start len words.new ≡ set.insert (row_set start len words.old) number }
+    ensures others { (k : ℕ) → (k < start) ⊎ (start + len ≤ k) → slice_index words.new k ≡ slice_index words.old k }
+{
+    words[start + number / WORD_BITS] |= 1 << (number % WORD_BITS);
+}
+
+/// How many numbers are in the row of `len` words from `start` on.
+pub fn count_bits(words: &[u64], start: usize, len: usize, width: usize) -> usize
+    requires inside { start + len ≤ length words.now }
+    requires below { AllBelow width (row_set start len words.now) }
+    ensures { result ≡ set.len (row_set start len words.now) }
+{
+    let mut count = 0;
+    for word in &words[start..start + len] {
+        count += word.count_ones() as usize;
+    }
+    count
+}
+
+/// Puts the row from `from` on into the one from `to` on, and tells whether that one grew.
+pub fn union_rows(words: &mut [u64], to: usize, from: usize, len: usize) -> bool
+    requires to_inside { to + len ≤ length words.old }
+    requires from_inside { from + len ≤ length words.old }
+    requires apart { (to + len ≤ from) ⊎ ((from + len ≤ to) ⊎ (to ≡ from)) }
+    requires blocks { (len / 4) * 4 ≡ len }
+    ensures united { row_set to len words.new ≡ set.union (row_set to len words.old) (row_set from len words.old) }
+    ensures grew { (result ≡ false) ↔ (row_set to len words.new ≡ row_set to len words.old) }
+    ensures others { (k : ℕ) → (k < to) ⊎ (to + len ≤ k) → slice_index words.new k ≡ slice_index words.old k }
+{
+    union_words(words, to, from, len)
+}
+
+/// The same, said of each word.
+fn union_words(words: &mut [u64], to: usize, from: usize, len: usize) -> bool
+    requires to_inside { to + len ≤ length words.old }
+    requires from_inside { from + len ≤ length words.old }
+    requires apart { (to + len ≤ from) ⊎ ((from + len ≤ to) ⊎ (to ≡ from)) }
+    requires blocks { (len / 4) * 4 ≡ len }
+    ensures united { (k : ℕ) → k < len → slice_index words.new (to + k) ≡ bit_or (slice_index words.old (to + k)) (slice_index words.old (from + k)) }
+    ensures others { (k : ℕ) → (k < to) ⊎ (to + len ≤ k) → slice_index words.new k ≡ slice_index words.old k }
+    ensures stayed { result ≡ false → (k : ℕ) → slice_index words.new k ≡ slice_index words.old k }
+    ensures grew { result ≡ true → ((k : ℕ) → k < to + len → slice_index words.new k ≡ slice_index words.old k) → ⊥ }
+{
+    let mut grew = false;
+    for block in 0..len / LANES {
+        let at = block * LANES;
+        if union_block(words, to + at, from + at) {
+            grew = true;
+        }
+    }
+    grew
+}
+
+/// The same for one block.
+fn union_block(words: &mut [u64], to: usize, from: usize) -> bool
+    requires to_inside { to + 4 ≤ length words.old }
+    requires from_inside { from + 4 ≤ length words.old }
+    ensures united { (k : ℕ) → k < 4 → slice_index words.new (to + k) ≡ bit_or (slice_index words.old (to + k)) (slice_index words.old (from + k)) }
+    ensures others { (k : ℕ) → (k < to) ⊎ (to + 4 ≤ k) → slice_index words.new k ≡ slice_index words.old k }
+    ensures stayed { result ≡ false → (k : ℕ) → slice_index words.new k ≡ slice_index words.old k }
+    ensures grew { result ≡ true → ((k : ℕ) → k < to + 4 → slice_index words.new k ≡ slice_index words.old k) → ⊥ }
+{
+    union_lanes(words, to, from)
+}
+
+/// The same, said of the vectors.
+fn union_lanes(words: &mut [u64], to: usize, from: usize) -> bool
+    requires to_inside { to + 4 ≤ length words.old }
+    requires from_inside { from + 4 ≤ length words.old }
+    ensures united { words.new ≡ put_chunk to words.old (zip2 bit_or (chunk to 4 words.old) (chunk from 4 words.old)) }
+    ensures grew { result ≡ true → zip2 bit_or (chunk to 4 words.old) (chunk from 4 words.old) ≡ chunk to 4 words.old → ⊥ }
+    ensures stayed { result ≡ false → zip2 bit_or (chunk to 4 words.old) (chunk from 4 words.old) ≡ chunk to 4 words.old }
+{
+    let old = u64x4::from_slice(&words[to..]);
+    let new = old | u64x4::from_slice(&words[from..]);
+    new.copy_to_slice(&mut words[to..]);
+    new.to_array() != old.to_array()
+}
