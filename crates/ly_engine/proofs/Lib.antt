@@ -1,3 +1,4 @@
 pub mod AnswerLemmas
 pub mod LoopLemmas
 pub mod MatchLemmas
+pub mod PositionSetLemmas

@@ -1,3 +1,4 @@
 pub mod Agreement
 pub mod Answering
+pub mod PositionSet
 pub mod Printed

@@ -1,0 +1,27 @@
+-- Sets of numbers below a bound, by the order in which their members came (Briggs and Torczon 1993).
+use Rattle.std.specs.Prelude.{◌≡◌, ℕ, ◌<◌, ◌≤◌, ◌++◌, List, [], ◌∷◌, length, take, fold, slice_index, nat_eq, if◌then◌else◌}
+use Rattle.std.specs.List.{list_any}
+use Rattle.ly_engine.specs.declared.position_set.PositionSet.TheInside.{Inside}
+
+-- the bound, and the members in the order in which they came
+pub record Chosen : Type 0 where
+  pub below : ℕ
+  pub members : List ℕ
+
+-- the members with a number that is added at the end, if it is a new one
+abbrev pub with_member : List ℕ → ℕ → List ℕ
+with_member members number = if list_any (nat_eq number) members then members else members ++ number ∷ []
+
+-- the members with some numbers that are added in their order
+abbrev pub with_members : List ℕ → List ℕ → List ℕ
+with_members members numbers = fold with_member members numbers
+
+-- The first `size` of the slots are members, which are below the bound, and the place of each is known.
+pub record IsPlaced (slots places : List ℕ) (size : ℕ) : Type 0 where
+  pub same_bound : length slots ≡ length places
+  pub room : size ≤ length slots
+  pub within : (k : ℕ) → k < size → slice_index slots k < length places
+  pub placed : (k : ℕ) → k < size → slice_index places (slice_index slots k) ≡ k
+
+abbrev pub chosen : Inside → Chosen
+chosen s = record { below = length s.places.items; members = take s.size s.slots.items }
