@@ -11,3 +11,12 @@ number_of (UnknownCondition line) = Some 22
 number_of (BadAction line) = Some 24
 number_of (Pattern line inner) = Some 26
 number_of OutOfMemory = None
+
+-- the line at fault; want of memory has none
+abbrev pub line_of : LexFault → Option ℕ
+line_of (NoRulesMark line) = Some line
+line_of (BadDefinition line) = Some line
+line_of (UnknownCondition line) = Some line
+line_of (BadAction line) = Some line
+line_of (Pattern line inner) = Some line
+line_of OutOfMemory = None

@@ -1,0 +1,74 @@
+ghost use Rattle.std.specs.Prelude.{◌≡◌};
+ghost use Rattle.ly_engine.specs.declared.fault.TokensFault.TheVariants.{OutOfMemory};
+
+use ly_base::{ReadFault, WriteFault};
+use ly_lexread::LexFault;
+use ly_position::PosFault;
+use std::alloc::AllocError;
+use thiserror::Error;
+
+/// Why there is no answer to a text under a lex file.
+#[derive(Clone, Copy, Debug, PartialEq, Eq, Error)]
+pub enum TokensFault {
+    /// The lex file is refused. Nothing was read or written.
+    #[error("lex file, {0}")]
+    Lex(LexFault),
+    /// The patterns are too heavy together. Nothing was read or written.
+    #[error("{0}")]
+    Positions(PosFault),
+    /// The reader failed in this call. Nothing was written.
+    #[error("the text could not be read")]
+    Read,
+    /// The writer failed in this call, and just the first `written` bytes of the answer went out.
+    #[error("the answer could not be written after {written} bytes")]
+    Write {
+        /// How many bytes went out.
+        written: usize,
+    },
+    /// A growth was refused. Nothing was written.
+    #[error("out of memory")]
+    OutOfMemory,
+}
+
+impl From<AllocError> for TokensFault {
+    ghost from_gives = { λ _ e. e ≡ OutOfMemory };
+
+    fn from(_error: AllocError) -> TokensFault {
+        TokensFault::OutOfMemory
+    }
+}
+
+impl From<LexFault> for TokensFault {
+    fn from(fault: LexFault) -> TokensFault {
+        match fault {
+            LexFault::OutOfMemory => TokensFault::OutOfMemory,
+            fault => TokensFault::Lex(fault),
+        }
+    }
+}
+
+impl From<PosFault> for TokensFault {
+    fn from(fault: PosFault) -> TokensFault {
+        match fault {
+            PosFault::OutOfMemory => TokensFault::OutOfMemory,
+            fault => TokensFault::Positions(fault),
+        }
+    }
+}
+
+impl From<ReadFault> for TokensFault {
+    fn from(fault: ReadFault) -> TokensFault {
+        match fault {
+            ReadFault::Read => TokensFault::Read,
+            ReadFault::OutOfMemory => TokensFault::OutOfMemory,
+        }
+    }
+}
+
+impl From<WriteFault> for TokensFault {
+    fn from(fault: WriteFault) -> TokensFault {
+        TokensFault::Write {
+            written: fault.written,
+        }
+    }
+}
