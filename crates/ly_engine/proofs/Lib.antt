@@ -1,4 +1,7 @@
 pub mod AnswerLemmas
 pub mod LoopLemmas
 pub mod MatchLemmas
+pub mod PositionAgreementLemmas
+pub mod PositionMemberLemmas
 pub mod PositionSetLemmas
+pub mod PositionWalkLemmas

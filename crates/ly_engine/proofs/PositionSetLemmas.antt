@@ -1,14 +1,14 @@
 -- Lemmas on sets whose members stand in the order in which they came.
-use Rattle.std.proofs.Common.{◌≡◌, ℕ, ◌+◌, ◌<◌, ◌≤◌, ◌++◌, List, [], ◌∷◌, length, take, get_or, set, nat_eq, eqb, true, false, ap, sym, refl, ◌∙◌, arith, inl, inr, subst, length-set, length-take, length-take-le, length-append, get_or-take, get_or-set_same, get_or-set_other, fold, All, Contains, ◌⊎◌, ◌↔◌, ⊎_elim, Bool, cond}
+use Rattle.std.proofs.Common.{◌≡◌, ℕ, ◌+◌, ◌<◌, ◌≤◌, ◌++◌, List, [], ◌∷◌, length, take, get_or, set, nat_eq, eqb, true, false, ap, sym, ◌∙◌, arith, inl, inr, length-set, length-take-le, length-append, get_or-take, get_or-set_same, get_or-set_other, All}
 use Rattle.std.specs.List.{list_any, IsDistinct}
 use Rattle.std.specs.Cmp.{nat_eq_equiv}
-use Rattle.std.proofs.lemmas.Bool.{cases_Bool, cases_eq, cases_lt, eq-eqb, eqb-true, false_from_ne_true, ne_eqb}
+use Rattle.std.proofs.lemmas.Bool.{cases_eq, eq-eqb, eqb-true, false_from_ne_true, ne_eqb}
 use Rattle.std.proofs.lemmas.List.{get_or_default, get_or_read, take_more_set}
-use Rattle.std.proofs.lemmas.List.Elements.{All-from_get_or, All-get_or, All-push, Contains-append_left, Contains-push, Contains-push_cases}
+use Rattle.std.proofs.lemmas.List.Elements.{All-from_get_or, All-get_or, All-push}
 use Rattle.std.proofs.lemmas.List.Folds.{Any-from_list_any, list_any_at}
 use Rattle.std.proofs.lemmas.Map.Keys.{IsDistinct-from_apart, IsDistinct-push}
 use Rattle.std.proofs.lemmas.Map.Steps.{length-le_from_distinct_below}
-use Rattle.ly_engine.specs.PositionSet.{Chosen, IsPlaced, with_member, with_members}
+use Rattle.ly_engine.specs.PositionSet.{IsPlaced, with_member}
 
 -- what a list has, it has at a place
 pub place_of_any : (xs : List ℕ) (n : ℕ) → list_any (nat_eq n) xs ≡ true → (k : ℕ) × (k < length xs) × (get_or xs k 0 ≡ n)

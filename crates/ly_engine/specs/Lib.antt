@@ -1,4 +1,5 @@
 pub mod Agreement
 pub mod Answering
 pub mod PositionSet
+pub mod PositionWalk
 pub mod Printed

@@ -1,4 +1,4 @@
-use Rattle.std.proofs.Common.{◌≡◌, ◌<◌, ap, arith, length, take, sym, ◌∙◌, lt-ltb, le-ltb}
+use Rattle.std.proofs.Common.{ap, arith, sym, ◌∙◌, le-ltb}
 use Rattle.ly_engine.specs.PositionSet.{Chosen}
 use Rattle.ly_engine.proofs.PositionSetLemmas.{is_member, is_no_member}
 use Rattle.ly_engine.proofs.position_set.PositionSet.contains.Goals as goal

@@ -1,6 +1,5 @@
-use Rattle.std.proofs.Common.{◌≡◌, ◌<◌, ℕ, List, ap, ap₂, arith, length, length-set, take, sym, ◌∙◌, false, nat_eq}
-use Rattle.std.specs.List.{list_any}
-use Rattle.ly_engine.specs.PositionSet.{Chosen, with_member}
+use Rattle.std.proofs.Common.{◌<◌, ℕ, List, ap, ap₂, arith, length, length-set, sym, ◌∙◌}
+use Rattle.ly_engine.specs.PositionSet.{Chosen}
 use Rattle.ly_engine.proofs.PositionSetLemmas.{room_left, placed_more, members_more}
 use Rattle.ly_engine.proofs.position_set.PositionSet.insert.Goals as goal
 

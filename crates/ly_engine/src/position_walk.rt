@@ -1,0 +1,132 @@
+ghost use Rattle.std.specs.Prelude.{◌≡◌, ◌<◌, [], length, All, IfOk, option_map};
+ghost use Rattle.ly_engine.specs.PositionSet.{with_members};
+ghost use Rattle.ly_engine.specs.PositionWalk.{cut_in, least_end, lesser, next_set, position_walk, positions_ahead, positions_ahead-ended, reads, rule_of};
+ghost use Rattle.ly_position.specs.Nfa.{place_of, starts_of};
+
+use crate::position_set::PositionSet;
+use ly_base::{Cut, RuleNo};
+use ly_ere::Rule;
+use ly_position::{PosNfa, Position};
+use ly_scan::Steps;
+use std::alloc::{AllocError, Global};
+use std::mem;
+
+/// The walk over the sets of positions that a string leads to (Thompson 1968). It keeps one set, in
+/// room that is made with it.
+#[derive(Drop)]
+pub(crate) struct PositionWalk<'a> {
+    nfa: &'a PosNfa,
+    rules: &'a [Rule],
+    current: PositionSet,
+    next: PositionSet,
+    ghost current_bound: { current.below ≡ length nfa.now.positions },
+    ghost next_bound: { next.below ≡ length nfa.now.positions },
+}
+
+impl<'a> PositionWalk<'a> {
+    /// A walk over the positions of these rules.
+    pub(crate) fn new(alloc: Global, nfa: &'a PosNfa, rules: &'a [Rule]) -> Result<Self, AllocError>
+        ensures nfa { IfOk result (λ w. w.nfa.now ≡ nfa.now) }
+        ensures rules { IfOk result (λ w. w.rules.now ≡ rules.now) }
+    {
+        Ok(PositionWalk {
+            nfa,
+            rules,
+            current: PositionSet::new(alloc, nfa.len())?,
+            next: PositionSet::new(alloc, nfa.len())?,
+        })
+    }
+}
+
+impl Steps for PositionWalk<'_> {
+    ghost walk = { λ w. position_walk w.nfa.now };
+
+    ghost ahead = { λ w. positions_ahead w.nfa.now w.current.members };
+
+    ghost cut_of = { λ w. cut_in w.rules.now };
+
+    fn start(&mut self, condition: u32, at_line_start: bool) -> bool {
+        self.current.clear();
+        self.current
+            .extend(self.nfa.start(condition, at_line_start));
+        !self.current.members().is_empty()
+    }
+
+    fn step(&mut self, byte: u8) -> bool {
+        find_next(self.nfa, &self.current, byte, &mut self.next);
+        mem::swap(&mut self.current, &mut self.next);
+        !self.current.members().is_empty()
+    }
+
+    fn accept(&self) -> Option<RuleNo> {
+        least_end(self.nfa, self.current.members())
+    }
+
+    fn cut(&self, rule: RuleNo) -> Cut {
+        match self.rules.get(rule.0 as usize) {
+            Some(rule) => rule.pattern.cut,
+            None => Cut::Whole,
+        }
+    }
+
+    ghost stays_ended = { λ w condition line text more h. positions_ahead-ended w.nfa.now (starts_of w.nfa.now condition line) text more h };
+}
+
+/// Makes a set that of the positions that may come after some, once a byte is read.
+fn find_next(nfa: &PosNfa, from: &PositionSet, byte: u8, to: &mut PositionSet)
+    requires from { from.now.below ≡ length nfa.now.positions }
+    requires to { to.old.below ≡ length nfa.now.positions }
+    ensures { to.new ≡ record to.old { members = with_members [] (next_set nfa.now from.now.members byte) } }
+{
+    to.clear();
+    for position in from.members() {
+        if reads(nfa, *position, byte) {
+            to.extend(nfa.follow(*position));
+        }
+    }
+}
+
+/// Whether a position reads a byte.
+fn reads(nfa: &PosNfa, position: u32, byte: u8) -> bool
+    requires { position < length nfa.now.positions }
+    ensures { result ≡ reads (place_of nfa.now position) byte }
+{
+    match nfa.position(position) {
+        Position::Reads { bytes } => bytes.contains(byte),
+        Position::Ends(_) => false,
+    }
+}
+
+/// The least rule whose pattern ends at one of some positions.
+fn least_end(nfa: &PosNfa, positions: &[u32]) -> Option<RuleNo>
+    requires { All (λ p. p < length nfa.now.positions) positions.now }
+    ensures { option_map (λ r. r.0) result ≡ least_end nfa.now positions.now }
+{
+    let mut least = None;
+    for position in positions {
+        least = lesser(least, rule_of(nfa, *position));
+    }
+    least
+}
+
+/// The rule whose pattern ends at a position.
+fn rule_of(nfa: &PosNfa, position: u32) -> Option<RuleNo>
+    requires { position < length nfa.now.positions }
+    ensures { option_map (λ r. r.0) result ≡ rule_of (place_of nfa.now position) }
+{
+    match nfa.position(position) {
+        Position::Reads { .. } => None,
+        Position::Ends(rule) => Some(rule),
+    }
+}
+
+/// The lesser of two rules, where there are two.
+fn lesser(first: Option<RuleNo>, second: Option<RuleNo>) -> Option<RuleNo>
+    ensures { option_map (λ r. r.0) result ≡ lesser (option_map (λ r. r.0) first) (option_map (λ r. r.0) second) }
+{
+    match (first, second) {
+        (Some(first), Some(second)) if first < second => Some(first),
+        (Some(first), None) => Some(first),
+        (_, second) => second,
+    }
+}
