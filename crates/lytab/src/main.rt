@@ -4,6 +4,8 @@
 mod asked;
 mod line;
 mod program;
+#[cfg(test)]
+mod tests;
 
 use crate::program::perform;
 use std::env;
