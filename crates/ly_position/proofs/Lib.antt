@@ -1,2 +1,9 @@
 pub mod CodeLaws
+pub mod CodePlaces
+pub mod ExpressionLemmas
+pub mod JoinedLemmas
 pub mod ListsLemmas
+pub mod Pigeonhole
+pub mod PlainLemmas
+pub mod SparseSetLemmas
+pub mod WalkLemmas

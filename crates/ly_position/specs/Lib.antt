@@ -1,6 +1,9 @@
 pub mod FaultNumber
 pub mod Lists
 pub mod Nfa
+pub mod Plain
+pub mod Plan
 pub mod Position
 pub mod Program
+pub mod Reach
 pub mod SparseSet

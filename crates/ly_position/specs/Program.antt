@@ -1,5 +1,5 @@
 -- Programs that read strings (Thompson 1968): what they are, how they run, and the code of an expression.
-use Rattle.std.specs.Prelude.{◌≡◌, ℕ, zero, suc, ◌+◌, ◌-◌, ◌≤◌, List, [], ◌∷◌, ◌++◌, slice_get, Contains, Some}
+use Rattle.std.specs.Prelude.{◌≡◌, ◌≢◌, ℕ, zero, suc, ◌+◌, ◌-◌, ◌≤◌, List, [], ◌∷◌, ◌++◌, slice_get, Contains, Some}
 use Rattle.ly_base.specs.ByteSet.{members}
 use Rattle.ly_ere.specs.Expression.{Expression, set, empty, concat, either, star, plus, optional, repeat, name}
 use Rattle.ly_position.specs.declared.program.Instruction.{Instruction}
@@ -54,7 +54,7 @@ code (name x) base next = []
 
 -- no name, no interval, and every set has a member
 abbrev pub IsPlain : Expression → Type 0
-IsPlain (set bytes) = (b : ℕ) × Contains bytes b
+IsPlain (set bytes) = bytes ≢ []
 IsPlain empty = Unit {0}
 IsPlain (concat r s) = IsPlain r × IsPlain s
 IsPlain (either r s) = IsPlain r × IsPlain s

@@ -1,5 +1,9 @@
+ghost use Rattle.std.specs.Prelude.{◌≡◌, ◌≢◌, ℕ, ◌<◌, ◌≤◌, [], ◌∷◌, ◌++◌, ◌⊎◌, length, Contains, Some, IfOk, OnOk};
+
+use ly_base::ByteSet;
 use ly_ere::{Arena, Node};
 use std::alloc::{AllocError, Global};
+use std::marker::Model;
 
 /// The number of a plain expression, or none where nothing matches.
 pub type Part = Option<usize>;
@@ -11,31 +15,87 @@ pub struct Plain {
     arena: Arena,
 }
 
+impl Model for Plain {
+    ghost use Rattle.std.specs.Prelude.{List, All};
+    ghost use Rattle.std.specs.Coded.{coded_list};
+    ghost use Rattle.ly_ere.specs.Expression.{Expression};
+    ghost use Rattle.ly_ere.specs.ExpressionCode.{expression_code};
+
+    ghost Value = { List Expression };
+
+    ghost coded = { coded_list expression_code };
+
+    ghost use Rattle.ly_position.specs.Program.{IsPlain};
+
+    ghost view = { λ p. p.arena };
+
+    ghost invariant = { λ p. All IsPlain p.arena };
+}
+
 impl Plain {
+    ghost use Rattle.ly_base.specs.ByteSet.{members};
+    ghost use Rattle.ly_ere.specs.Expression.{Joined, Within};
+    ghost use Rattle.ly_ere.specs.Arena.{expression_of, part_of, FitsAt};
+    ghost use Rattle.ly_position.specs.Program.{IsPlain};
+    ghost use Rattle.ly_position.specs.Plain.{IsPart, IsPlainNode, InTurn, Makes, PartMatches};
+
     /// No expressions.
-    pub fn new(alloc: Global) -> Self {
+    pub fn new(alloc: Global) -> Self
+        ensures { result ≡ [] }
+    {
         Plain {
             arena: Arena::new(alloc),
         }
     }
 
     /// How many expressions there are.
-    pub fn len(&self) -> usize {
+    pub fn len(&self) -> usize
+        ensures { result ≡ length self.now }
+    {
         self.arena.len()
     }
 
     /// The outermost operator of an expression, over earlier expressions.
-    pub fn node(&self, number: usize) -> Node {
+    pub fn node(&self, number: usize) -> Node
+        requires { number < length self.now }
+        ensures is { expression_of self.now result ≡ part_of self.now number }
+        ensures fits { FitsAt number result }
+        ensures plain { IsPlain (part_of self.now number) }
+    {
         self.arena.nodes()[number]
     }
 
     /// Adds the expression of a node.
-    pub fn push(&mut self, node: Node) -> Result<Part, AllocError> {
+    fn push(&mut self, node: Node) -> Result<Part, AllocError>
+        requires fits { FitsAt (length self.old) node }
+        requires plain { IsPlainNode node }
+        ensures ok { OnOk result (self.new ≡ self.old ++ expression_of self.old node ∷ []) }
+        ensures number { IfOk result (λ p. p ≡ Some (length self.old)) }
+    {
         Ok(Some(self.arena.push(node)?))
     }
 
+    /// One byte of a set that has one.
+    pub fn set(&mut self, bytes: ByteSet) -> Result<Part, AllocError>
+        requires { members bytes ≢ [] }
+        ensures { IfOk result (λ p. Makes self.old self.new p (λ w. (b : ℕ) × Contains (members bytes) b × (w ≡ b ∷ []))) }
+    {
+        self.push(Node::Set(bytes))
+    }
+
+    /// The empty string.
+    pub fn empty(&mut self) -> Result<Part, AllocError>
+        ensures { IfOk result (λ p. Makes self.old self.new p (λ w. w ≡ [])) }
+    {
+        self.push(Node::Empty)
+    }
+
     /// The first part, then the second.
-    pub fn concat(&mut self, first: Part, second: Part) -> Result<Part, AllocError> {
+    pub fn concat(&mut self, first: Part, second: Part) -> Result<Part, AllocError>
+        requires first { IsPart (length self.old) first }
+        requires second { IsPart (length self.old) second }
+        ensures { IfOk result (λ p. Makes self.old self.new p (InTurn (PartMatches self.old first) (PartMatches self.old second))) }
+    {
         let (Some(a), Some(b)) = (first, second) else {
             return Ok(None);
         };
@@ -49,7 +109,11 @@ impl Plain {
     }
 
     /// One of the two parts.
-    pub fn either(&mut self, first: Part, second: Part) -> Result<Part, AllocError> {
+    pub fn either(&mut self, first: Part, second: Part) -> Result<Part, AllocError>
+        requires first { IsPart (length self.old) first }
+        requires second { IsPart (length self.old) second }
+        ensures { IfOk result (λ p. Makes self.old self.new p (λ w. PartMatches self.old first w ⊎ PartMatches self.old second w)) }
+    {
         match (first, second) {
             (None, _) => Ok(second),
             (_, None) => Ok(first),
@@ -58,7 +122,10 @@ impl Plain {
     }
 
     /// The part any number of times.
-    pub fn star(&mut self, part: Part) -> Result<Part, AllocError> {
+    pub fn star(&mut self, part: Part) -> Result<Part, AllocError>
+        requires { IsPart (length self.old) part }
+        ensures { IfOk result (λ p. Makes self.old self.new p (λ w. (k : ℕ) × Joined (PartMatches self.old part) k w)) }
+    {
         let Some(a) = part else {
             return self.push(Node::Empty);
         };
@@ -70,7 +137,10 @@ impl Plain {
     }
 
     /// The part once or more.
-    pub fn plus(&mut self, part: Part) -> Result<Part, AllocError> {
+    pub fn plus(&mut self, part: Part) -> Result<Part, AllocError>
+        requires { IsPart (length self.old) part }
+        ensures { IfOk result (λ p. Makes self.old self.new p (λ w. (k : ℕ) × (1 ≤ k) × Joined (PartMatches self.old part) k w)) }
+    {
         let Some(a) = part else {
             return Ok(None);
         };
@@ -82,7 +152,10 @@ impl Plain {
     }
 
     /// The part or nothing.
-    pub fn optional(&mut self, part: Part) -> Result<Part, AllocError> {
+    pub fn optional(&mut self, part: Part) -> Result<Part, AllocError>
+        requires { IsPart (length self.old) part }
+        ensures { IfOk result (λ p. Makes self.old self.new p (λ w. (w ≡ []) ⊎ PartMatches self.old part w)) }
+    {
         let Some(a) = part else {
             return self.push(Node::Empty);
         };
@@ -95,7 +168,10 @@ impl Plain {
 
     /// The part `least` times or more, and `most` times at most if there is a bound: that many copies,
     /// of which those above the least may be left out together with all after them.
-    pub fn repeat(&mut self, part: Part, least: u8, most: Option<u8>) -> Result<Part, AllocError> {
+    pub fn repeat(&mut self, part: Part, least: u8, most: Option<u8>) -> Result<Part, AllocError>
+        requires { IsPart (length self.old) part }
+        ensures { IfOk result (λ p. Makes self.old self.new p (λ w. (k : ℕ) × (least ≤ k) × Within k most × Joined (PartMatches self.old part) k w)) }
+    {
         match most {
             Some(most) if most < least => Ok(None),
             Some(most) => {
@@ -110,7 +186,10 @@ impl Plain {
         }
     }
 
-    fn at_most(&mut self, part: Part, count: u8) -> Result<Part, AllocError> {
+    fn at_most(&mut self, part: Part, count: u8) -> Result<Part, AllocError>
+        requires { IsPart (length self.old) part }
+        ensures { IfOk result (λ p. Makes self.old self.new p (λ w. (k : ℕ) × (k ≤ count) × Joined (PartMatches self.old part) k w)) }
+    {
         let mut rest = self.push(Node::Empty)?;
         for _ in 0..count {
             let more = self.concat(part, rest)?;
@@ -119,7 +198,11 @@ impl Plain {
         Ok(rest)
     }
 
-    fn copies(&mut self, part: Part, count: u8, last: Part) -> Result<Part, AllocError> {
+    fn copies(&mut self, part: Part, count: u8, last: Part) -> Result<Part, AllocError>
+        requires part { IsPart (length self.old) part }
+        requires last { IsPart (length self.old) last }
+        ensures { IfOk result (λ p. Makes self.old self.new p (InTurn (Joined (PartMatches self.old part) count) (PartMatches self.old last))) }
+    {
         let mut all = last;
         for _ in 0..count {
             all = self.concat(part, all)?;

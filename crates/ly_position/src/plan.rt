@@ -1,3 +1,9 @@
+ghost use Rattle.std.specs.Prelude.{◌≡◌, ℕ, ◌<◌, List, length, slice_index_or, All, IfOk, None};
+ghost use Rattle.ly_ere.specs.Expression.{MatchesUnder, NamedUpTo};
+ghost use Rattle.ly_ere.specs.Arena.{FitsAt};
+ghost use Rattle.ly_position.specs.Plain.{IsPart, Makes, Same};
+ghost use Rattle.ly_position.specs.Plan.{IsPlan, ListedMatches, NodeMatches, SpelledUnder};
+
 use crate::plain::{Part, Plain};
 use ly_ere::{Names, Node, Re, Rule};
 use std::alloc::{AllocError, Global};
@@ -12,7 +18,9 @@ pub struct Plan {
 }
 
 /// Writes out the names and repetitions of rules.
-pub fn write_out(alloc: Global, rules: &[Rule], names: &Names) -> Result<Plan, AllocError> {
+pub fn write_out(alloc: Global, rules: &[Rule], names: &Names) -> Result<Plan, AllocError>
+    ensures { IfOk result (λ plan. IsPlan names.now rules.now plan.plain plan.parts.items) }
+{
     let mut plain = Plain::new(alloc);
     let definitions = add_names(alloc, &mut plain, names)?;
     let mut parts = Vec::new(alloc);
@@ -23,7 +31,11 @@ pub fn write_out(alloc: Global, rules: &[Rule], names: &Names) -> Result<Plan, A
     Ok(Plan { plain, parts })
 }
 
-fn add_names(alloc: Global, plain: &mut Plain, names: &Names) -> Result<Vec<Part>, AllocError> {
+/// The parts of the definitions.
+fn add_names(alloc: Global, plain: &mut Plain, names: &Names) -> Result<Vec<Part>, AllocError>
+    ensures within { IfOk result (λ ds. All (IsPart (length plain.new)) ds.items) }
+    ensures spells { IfOk result (λ ds. (x : ℕ) → Same (ListedMatches plain.new ds.items x) (NamedUpTo names.now (length names.now) x)) }
+{
     let mut definitions: Vec<Part> = Vec::new(alloc);
     for definition in names.definitions() {
         let part = add(alloc, plain, &definitions, definition)?;
@@ -32,7 +44,16 @@ fn add_names(alloc: Global, plain: &mut Plain, names: &Names) -> Result<Vec<Part
     Ok(definitions)
 }
 
-fn add_rule(alloc: Global, plain: &mut Plain, names: &[Part], rule: &Rule) -> Result<Part, AllocError> {
+/// The part of a pattern's head and tail together.
+fn add_rule(
+    alloc: Global,
+    plain: &mut Plain,
+    names: &[Part],
+    rule: &Rule,
+) -> Result<Part, AllocError>
+    requires { All (IsPart (length plain.old)) names.now }
+    ensures { IfOk result (λ p. Makes plain.old plain.new p (SpelledUnder (ListedMatches plain.old names.now) rule.now.pattern)) }
+{
     let head = add(alloc, plain, names, &rule.pattern.head)?;
     match &rule.pattern.tail {
         None => Ok(head),
@@ -43,7 +64,16 @@ fn add_rule(alloc: Global, plain: &mut Plain, names: &[Part], rule: &Rule) -> Re
     }
 }
 
-fn add(alloc: Global, plain: &mut Plain, names: &[Part], re: &Re) -> Result<Part, AllocError> {
+/// The part of an expression.
+fn add(
+    alloc: Global,
+    plain: &mut Plain,
+    names: &[Part],
+    re: &Re,
+) -> Result<Part, AllocError>
+    requires { All (IsPart (length plain.old)) names.now }
+    ensures { IfOk result (λ p. Makes plain.old plain.new p (MatchesUnder (ListedMatches plain.old names.now) re.now)) }
+{
     let (nodes, root) = re.nodes();
     let mut parts: Vec<Part> = Vec::new(alloc);
     for node in nodes {
@@ -53,15 +83,34 @@ fn add(alloc: Global, plain: &mut Plain, names: &[Part], re: &Re) -> Result<Part
     Ok(parts[root])
 }
 
-fn add_node(plain: &mut Plain, names: &[Part], parts: &[Part], node: Node) -> Result<Part, AllocError> {
+/// The part of a node whose parts are known.
+fn add_node(
+    plain: &mut Plain,
+    names: &[Part],
+    parts: &[Part],
+    node: Node,
+) -> Result<Part, AllocError>
+    requires names { All (IsPart (length plain.old)) names.now }
+    requires parts { All (IsPart (length plain.old)) parts.now }
+    requires fits { FitsAt (length parts.now) node }
+    ensures { IfOk result (λ p. Makes plain.old plain.new p (NodeMatches (ListedMatches plain.old names.now) (ListedMatches plain.old parts.now) node)) }
+{
     match node {
-        Node::Set(_) | Node::Empty => plain.push(node),
+        Node::Set(bytes) => plain.set(bytes),
+        Node::Empty => plain.empty(),
         Node::Concat(a, b) => plain.concat(parts[a], parts[b]),
         Node::Either(a, b) => plain.either(parts[a], parts[b]),
         Node::Star(a) => plain.star(parts[a]),
         Node::Plus(a) => plain.plus(parts[a]),
         Node::Optional(a) => plain.optional(parts[a]),
         Node::Repeat { least, most, part } => plain.repeat(parts[part], least, most),
-        Node::Name(number) => Ok(names.get(number).copied().flatten()),
+        Node::Name(number) => Ok(named(names, number)),
     }
+}
+
+/// The part of a name; none if it has no definition.
+fn named(names: &[Part], number: usize) -> Part
+    ensures { result ≡ slice_index_or names.now number None }
+{
+    if number < names.len() { names[number] } else { None }
 }

@@ -1,3 +1,7 @@
+ghost use Rattle.std.specs.Prelude.{◌≡◌, ℕ, ◌<◌, ◌≤◌, ◌↔◌, length, map, All, Contains, OnOk};
+ghost use Rattle.ly_position.specs.Program.{step_of};
+ghost use Rattle.ly_position.specs.Reach.{IsClosed, Reached, Visits};
+
 use crate::program::Instruction;
 use crate::sparse_set::SparseSet;
 use std::alloc::{AllocError, Global};
@@ -39,22 +43,50 @@ impl Reach {
     }
 }
 
+/// Finds all instructions that are reached from the roots by forks alone.
 fn walk(
     code: &[Instruction],
     roots: &[usize],
     seen: &mut SparseSet,
     stack: &mut Vec<usize>,
-) -> Result<(), AllocError> {
+) -> Result<(), AllocError>
+    requires closed { IsClosed (map step_of code.now) }
+    requires within { All (λ p. p < length code.now) roots.now }
+    requires below { seen.old.below ≡ length code.now }
+    ensures below { seen.new.below ≡ seen.old.below }
+    ensures ok { OnOk result ((p : ℕ) → Contains seen.new.members p ↔ Reached (map step_of code.now) roots.now p) }
+{
     seen.clear();
     stack.clear();
     stack.extend_from_slice(roots)?;
     while let Some(place) = stack.pop() {
-        if seen.insert(place)? {
-            if let Instruction::Fork(first, second) = code[place] {
-                stack.push(second)?;
-                stack.push(first)?;
-            }
-        }
+        visit(code, place, seen, stack)?;
     }
     Ok(())
+}
+
+/// Takes an instruction in, and notes those that it leads to.
+fn visit(
+    code: &[Instruction],
+    place: usize,
+    seen: &mut SparseSet,
+    stack: &mut Vec<usize>,
+) -> Result<(), AllocError>
+    requires place { place < length code.now }
+    requires below { seen.old.below ≡ length code.now }
+    ensures below { seen.new.below ≡ seen.old.below }
+    ensures room { length seen.new.members ≤ seen.old.below }
+    ensures ok { OnOk result (Visits (map step_of code.now) place seen.old.members seen.new.members stack.old.items stack.new.items) }
+{
+    if !seen.insert(place)? {
+        return Ok(());
+    }
+    match code[place] {
+        Instruction::Fork(first, second) => {
+            stack.push(second)?;
+            stack.push(first)?;
+            Ok(())
+        }
+        Instruction::Read(_, _) | Instruction::End(_) => Ok(()),
+    }
 }

@@ -1,4 +1,4 @@
-ghost use Rattle.std.specs.Prelude.{◌≡◌, ◌≢◌, ◌<◌, ◌≤◌, ◌↔◌, [], ◌∷◌, ◌++◌, length, All, AllPairs, Contains, IsTrue, IfOk, OnErr, MatchBool};
+ghost use Rattle.std.specs.Prelude.{◌≡◌, ◌≢◌, ◌<◌, ◌≤◌, ◌↔◌, [], ◌∷◌, ◌++◌, length, All, AllPairs, Contains, IsTrue, IfOk, OnErr, MatchBool, if◌then◌else◌};
 
 use std::alloc::{AllocError, Global};
 use std::marker::Model;
@@ -65,8 +65,8 @@ impl SparseSet {
         requires { number < self.old.below }
         ensures below { self.new.below ≡ self.old.below }
         ensures room { length self.new.members ≤ self.old.below }
-        ensures ok { IfOk result (λ b. MatchBool b (self.new.members ≡ self.old.members ++ number ∷ []) (self.new.members ≡ self.old.members)) }
-        ensures already { IfOk result (λ b. IsTrue b ↔ ¬ Contains self.old.members number) }
+        ensures new { IfOk result (λ b. MatchBool b (¬ Contains self.old.members number) (Contains self.old.members number)) }
+        ensures ok { IfOk result (λ b. self.new.members ≡ (if b then self.old.members ++ number ∷ [] else self.old.members)) }
         ensures err { OnErr result (self.new.members ≡ self.old.members) }
     {
         if self.contains(number) {
