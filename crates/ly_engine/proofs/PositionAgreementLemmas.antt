@@ -1,5 +1,5 @@
 -- The walk over positions agrees with the rules that they spell.
-use Rattle.std.proofs.Common.{ℕ, List, Bool, Some, ap, Contains, ◌↔◌, ◌∙◌}
+use Rattle.std.proofs.Common.{◌≡◌, ℕ, List, Bool, Some, ap, Contains, ◌↔◌, ◌∙◌}
 use Rattle.std.specs.Prelude.{unwrap_or, option_map}
 use Rattle.ly_base.specs.declared.cut.Cut.TheVariants.{Whole}
 use Rattle.ly_ere.specs.Expression.{Expression}
@@ -38,3 +38,8 @@ positions_agree names rules nfa spelled cuts bytes = record {
 
     end : (condition : ℕ) (line : Bool) (w : List ℕ) (j : ℕ) → IsString names rules condition line j w → (q : ℕ) × Contains (after condition line w) q × IsEnd nfa q j
     end condition line w j s = let p = (spelled j condition line w).1 s in end_from_run nfa j (starts_of nfa condition line) w p.0 p.1 p.2
+
+-- the walk that was made of positions and rules agrees with these rules
+pub walk_agrees : (names : List Expression) (rules given : List Rule) (nfa here : Nfa) → here ≡ nfa → given ≡ rules → RunsSpell names rules nfa → AreCut names rules → HaveBytes names rules
+    → Agrees names rules (position_walk here) (cut_in given)
+walk_agrees names rules given nfa here same_nfa same_rules spelled cuts bytes = rw (same_nfa, same_rules) (positions_agree names rules nfa spelled cuts bytes)
