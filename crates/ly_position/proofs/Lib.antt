@@ -5,5 +5,6 @@ pub mod JoinedLemmas
 pub mod ListsLemmas
 pub mod Pigeonhole
 pub mod PlainLemmas
+pub mod PlanLemmas
 pub mod SparseSetLemmas
 pub mod WalkLemmas
