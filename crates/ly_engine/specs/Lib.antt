@@ -3,3 +3,4 @@ pub mod Answering
 pub mod PositionSet
 pub mod PositionWalk
 pub mod Printed
+pub mod TokensFault

@@ -1,3 +1,8 @@
+ghost use Rattle.std.specs.Prelude.{◌≡◌, ℕ, List, length, take, Err, IfErr, IsErrOf, OnOk};
+ghost use Rattle.std.specs.Io.KnownBytes.{Appends};
+ghost use Rattle.ly_base.specs.Device.{next_count};
+ghost use Rattle.ly_engine.specs.TokensFault.{IsBeforeWriting};
+
 use crate::answer::token_lines;
 use crate::fault::TokensFault;
 use crate::outcome::TokenEnd;
@@ -15,7 +20,15 @@ pub fn tokens<R: Source, W: Sink>(
     lex: &[u8],
     reader: &mut R,
     writer: &mut W,
-) -> Result<TokenEnd, TokensFault> {
+) -> Result<TokenEnd, TokensFault>
+    ensures reader_held { OnOk result (R.failures reader.new ≡ R.failures reader.old) }
+    ensures writer_held { OnOk result (W.failures writer.new ≡ W.failures writer.old) }
+    ensures read { IsErrOf result TokensFault.Read → R.failures reader.new ≡ next_count (R.failures reader.old) }
+    ensures write { (written : ℕ) → result ≡ Err (TokensFault.Write written) → W.failures writer.new ≡ next_count (W.failures writer.old) }
+    ensures beginning { (written : ℕ) → result ≡ Err (TokensFault.Write written)
+        → (answer : List ℕ) × (Appends (W.contents writer.old) (W.contents writer.new) (take written answer)) }
+    ensures untouched { IfErr result (λ e. IsBeforeWriting e → writer.new ≡ writer.old) }
+{
     let file = read_lex(alloc, lex, &Limits::V1)?;
     let (end, lines) = answer(alloc, &file, reader)?;
     write_whole(writer, &lines)?;
@@ -27,7 +40,11 @@ fn answer<R: Source>(
     alloc: Global,
     file: &LexFile,
     reader: &mut R,
-) -> Result<(TokenEnd, Vec<u8>), TokensFault> {
+) -> Result<(TokenEnd, Vec<u8>), TokensFault>
+    ensures held { OnOk result (R.failures reader.new ≡ R.failures reader.old) }
+    ensures read { IsErrOf result TokensFault.Read → R.failures reader.new ≡ next_count (R.failures reader.old) }
+    ensures before { IfErr result IsBeforeWriting }
+{
     let nfa = positions(
         alloc,
         &file.rules,

@@ -1,5 +1,6 @@
 ghost use Rattle.std.specs.Prelude.{◌≡◌};
-ghost use Rattle.ly_engine.specs.declared.fault.TokensFault.TheVariants.{OutOfMemory};
+ghost use Rattle.ly_engine.specs.TokensFault.{fault_of_lex, fault_of_positions, fault_of_read};
+ghost use Rattle.ly_engine.specs.declared.fault.TokensFault.TheVariants.{OutOfMemory, Write};
 
 use ly_base::{ReadFault, WriteFault};
 use ly_lexread::LexFault;
@@ -39,6 +40,8 @@ impl From<AllocError> for TokensFault {
 }
 
 impl From<LexFault> for TokensFault {
+    ghost from_gives = { λ fault e. e ≡ fault_of_lex fault };
+
     fn from(fault: LexFault) -> TokensFault {
         match fault {
             LexFault::OutOfMemory => TokensFault::OutOfMemory,
@@ -48,6 +51,8 @@ impl From<LexFault> for TokensFault {
 }
 
 impl From<PosFault> for TokensFault {
+    ghost from_gives = { λ fault e. e ≡ fault_of_positions fault };
+
     fn from(fault: PosFault) -> TokensFault {
         match fault {
             PosFault::OutOfMemory => TokensFault::OutOfMemory,
@@ -57,6 +62,8 @@ impl From<PosFault> for TokensFault {
 }
 
 impl From<ReadFault> for TokensFault {
+    ghost from_gives = { λ fault e. e ≡ fault_of_read fault };
+
     fn from(fault: ReadFault) -> TokensFault {
         match fault {
             ReadFault::Read => TokensFault::Read,
@@ -66,6 +73,8 @@ impl From<ReadFault> for TokensFault {
 }
 
 impl From<WriteFault> for TokensFault {
+    ghost from_gives = { λ fault e. e ≡ Write fault.written };
+
     fn from(fault: WriteFault) -> TokensFault {
         TokensFault::Write {
             written: fault.written,

@@ -1,0 +1,30 @@
+-- The faults of the parts as faults of the whole.
+use Rattle.ly_base.specs.declared.whole.ReadFault.{ReadFault}
+use Rattle.ly_base.specs.declared.whole.ReadFault.TheVariants as read
+use Rattle.ly_lexread.specs.declared.fault.LexFault.{LexFault}
+use Rattle.ly_lexread.specs.declared.fault.LexFault.TheVariants as lex
+use Rattle.ly_position.specs.declared.fault.PosFault.{PosFault}
+use Rattle.ly_position.specs.declared.fault.PosFault.TheVariants as position
+use Rattle.ly_engine.specs.declared.fault.TokensFault.{TokensFault}
+use Rattle.ly_engine.specs.declared.fault.TokensFault.TheVariants.{Lex, Positions, Read, Write, OutOfMemory}
+
+abbrev pub fault_of_lex : LexFault → TokensFault
+fault_of_lex lex.OutOfMemory = OutOfMemory
+fault_of_lex (lex.NoRulesMark line) = Lex (lex.NoRulesMark line)
+fault_of_lex (lex.BadDefinition line) = Lex (lex.BadDefinition line)
+fault_of_lex (lex.UnknownCondition line) = Lex (lex.UnknownCondition line)
+fault_of_lex (lex.BadAction line) = Lex (lex.BadAction line)
+fault_of_lex (lex.Pattern line inner) = Lex (lex.Pattern line inner)
+
+abbrev pub fault_of_positions : PosFault → TokensFault
+fault_of_positions position.OutOfMemory = OutOfMemory
+fault_of_positions position.TooManyPositions = Positions position.TooManyPositions
+
+abbrev pub fault_of_read : ReadFault → TokensFault
+fault_of_read read.Read = Read
+fault_of_read read.OutOfMemory = OutOfMemory
+
+-- Nothing was written: any fault but a failed write.
+abbrev pub IsBeforeWriting : TokensFault → Type 0
+IsBeforeWriting (Write written) = ⊥
+IsBeforeWriting _ = Unit {0}
