@@ -8,7 +8,8 @@ use Rattle.std.proofs.lemmas.List.Elements.{All-from_get_or, All-get_or, All-pus
 use Rattle.std.proofs.lemmas.List.Folds.{Any-from_list_any, list_any_at}
 use Rattle.std.proofs.lemmas.Map.Keys.{IsDistinct-from_apart, IsDistinct-push}
 use Rattle.std.proofs.lemmas.Map.Steps.{length-le_from_distinct_below}
-use Rattle.ly_engine.specs.PositionSet.{IsPlaced, with_member}
+use Rattle.ly_engine.specs.declared.position_set.PositionSet.TheInside.{Inside}
+use Rattle.ly_engine.specs.PositionSet.{Chosen, chosen, IsPlaced, with_member}
 
 -- what a list has, it has at a place
 pub place_of_any : (xs : List ℕ) (n : ℕ) → list_any (nat_eq n) xs ≡ true → (k : ℕ) × (k < length xs) × (get_or xs k 0 ≡ n)
@@ -107,3 +108,9 @@ placed_more slots places size n placed less new room = record {
 pub members_more : (slots members : List ℕ) (size n : ℕ) → take size slots ≡ members → size < length slots → list_any (nat_eq n) members ≡ false
     → take (size + 1) (set slots size n) ≡ with_member members n
 members_more slots members size n view room new = rw new (take_more_set slots size n room ∙ ap (λ xs. xs ++ n ∷ []) view)
+
+-- a set whose fields are open has room for a number that is not a member
+pub room_of : (s : Inside) (now : Chosen) (n : ℕ) → IsPlaced s.slots.items s.places.items s.size → chosen s ≡ now → n < now.below → list_any (nat_eq n) now.members ≡ false
+    → s.size < length s.slots.items
+room_of s now n placed view less new =
+    room_left s.slots.items s.places.items now.members s.size n placed (ap (λ (t : Chosen). t.members) view) (omega (arith, ap (λ (t : Chosen). t.below) view)) new

@@ -8,8 +8,11 @@ use std::marker::Model;
 /// and Torczon 1993).
 #[derive(Drop)]
 pub(crate) struct PositionSet {
+    /// Room for the members; they stand in the first `size` slots.
     slots: Vec<u32>,
+    /// The slot in which each number stood last.
     places: Vec<usize>,
+    /// How many members there are.
     size: usize,
 }
 
@@ -28,7 +31,7 @@ impl Model for PositionSet {
 impl PositionSet {
     ghost use Rattle.ly_engine.specs.PositionSet.{with_member, with_members};
 
-    /// The empty set of numbers below a bound.
+    /// The empty set of numbers below a bound, or that its room is refused.
     pub(crate) fn new(alloc: Global, bound: usize) -> Result<Self, AllocError>
         ensures { IfOk result (λ s. s ≡ record { below = bound; members = [] }) }
     {

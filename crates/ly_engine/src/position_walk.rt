@@ -11,20 +11,23 @@ use ly_scan::Steps;
 use std::alloc::{AllocError, Global};
 use std::mem;
 
-/// The walk over the sets of positions that a string leads to (Thompson 1968). It keeps one set, in
-/// room that is made with it.
+/// The walk over the sets of positions that a string leads to (Thompson 1968). Its room is made with it.
 #[derive(Drop)]
 pub(crate) struct PositionWalk<'a> {
+    /// The positions.
     nfa: &'a PosNfa,
+    /// The rules that they spell.
     rules: &'a [Rule],
+    /// The positions where the walk stands.
     current: PositionSet,
+    /// Room for those that come next.
     next: PositionSet,
     ghost current_bound: { current.below ≡ length nfa.now.positions },
     ghost next_bound: { next.below ≡ length nfa.now.positions },
 }
 
 impl<'a> PositionWalk<'a> {
-    /// A walk over the positions of these rules.
+    /// A walk over the positions of these rules, or that its room is refused.
     pub(crate) fn new(alloc: Global, nfa: &'a PosNfa, rules: &'a [Rule]) -> Result<Self, AllocError>
         ensures nfa { IfOk result (λ w. w.nfa.now ≡ nfa.now) }
         ensures rules { IfOk result (λ w. w.rules.now ≡ rules.now) }
