@@ -1,5 +1,6 @@
 pub mod CodeLaws
 pub mod CodePlaces
+pub mod CompileLemmas
 pub mod ExpressionLemmas
 pub mod JoinedLemmas
 pub mod ListsLemmas

@@ -1,3 +1,4 @@
+pub mod Compile
 pub mod FaultNumber
 pub mod Lists
 pub mod Nfa

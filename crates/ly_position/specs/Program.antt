@@ -1,7 +1,9 @@
 -- Programs that read strings (Thompson 1968): what they are, how they run, and the code of an expression.
-use Rattle.std.specs.Prelude.{◌≡◌, ◌≢◌, ℕ, zero, suc, ◌+◌, ◌-◌, ◌≤◌, List, [], ◌∷◌, ◌++◌, slice_get, Contains, Some}
+use Rattle.std.specs.Prelude.{◌≡◌, ◌≢◌, ℕ, zero, suc, ◌+◌, ◌-◌, ◌≤◌, List, [], ◌∷◌, ◌++◌, slice_get, slice_index, Contains, Some}
 use Rattle.ly_base.specs.ByteSet.{members}
 use Rattle.ly_ere.specs.Expression.{Expression, set, empty, concat, either, star, plus, optional, repeat, name}
+use Rattle.ly_ere.specs.declared.node.Node.{Node}
+use Rattle.ly_ere.specs.declared.node.Node.TheVariants.{Set, Empty, Concat, Either, Star, Plus, Optional, Repeat, Name}
 use Rattle.ly_position.specs.declared.program.Instruction.{Instruction}
 use Rattle.ly_position.specs.declared.program.Instruction.TheVariants.{Read, Fork, End}
 
@@ -63,3 +65,15 @@ IsPlain (plus r) = IsPlain r
 IsPlain (optional r) = IsPlain r
 IsPlain (repeat m n r) = ⊥
 IsPlain (name x) = ⊥
+
+-- how many steps the code of a node has, by those of the nodes before it
+abbrev pub node_size : List ℕ → Node → ℕ
+node_size sizes (Set s) = 1
+node_size sizes Empty = 0
+node_size sizes (Concat a b) = slice_index sizes a + slice_index sizes b
+node_size sizes (Either a b) = slice_index sizes a + slice_index sizes b + 1
+node_size sizes (Star a) = slice_index sizes a + 1
+node_size sizes (Plus a) = slice_index sizes a + 1
+node_size sizes (Optional a) = slice_index sizes a + 1
+node_size sizes (Repeat m n a) = 0
+node_size sizes (Name x) = 0

@@ -1,3 +1,9 @@
+ghost use Rattle.std.specs.Prelude.{◌≡◌, ℕ, ◌+◌, ◌^◌, ◌<◌, ◌≤◌, List, ◌∷◌, ◌++◌, length, map, reverse, sum_by, All, IfOk, IfSome, OnOk};
+ghost use Rattle.ly_ere.specs.Arena.{part_of, FitsAt};
+ghost use Rattle.ly_position.specs.Plain.{IsPart};
+ghost use Rattle.ly_position.specs.Program.{code, ends, entry, node_size, size, step_of};
+ghost use Rattle.ly_position.specs.Compile.{IsProgram, TaskFits, planned, task_work, work};
+
 use crate::fault::PosFault;
 use crate::plain::Plain;
 use crate::plan::Plan;
@@ -27,7 +33,7 @@ pub struct Program {
 
 /// What is still to be appended to a program.
 #[derive(Clone, Copy)]
-enum Task {
+pub enum Task {
     /// The code of an expression, which goes on at an instruction.
     Code(usize, usize),
     /// A fork.
@@ -35,14 +41,16 @@ enum Task {
 }
 
 /// Compiles a plan: for each rule its end, and before it, in the direction of reading, its code.
-pub fn compile(alloc: Global, plan: &Plan) -> Result<Program, PosFault> {
+pub fn compile(alloc: Global, plan: &Plan) -> Result<Program, PosFault>
+    requires { All (IsPart (length plan.now.plain)) plan.now.parts.items }
+    ensures { IfOk result (λ p. IsProgram plan.now.plain plan.now.parts.items (map step_of p.instructions.items) p.entries.items) }
+{
     let sizes = sizes(alloc, &plan.plain)?;
     let mut program = Program {
         instructions: Vec::new(alloc),
         entries: Vec::new(alloc),
     };
     for (number, part) in plan.parts.iter().enumerate() {
-        let rule = RuleNo(u32::try_from(number).map_err(|_| PosFault::OutOfMemory)?);
         let entry = match part {
             None => None,
             Some(part) => Some(append_rule(
@@ -50,7 +58,7 @@ pub fn compile(alloc: Global, plan: &Plan) -> Result<Program, PosFault> {
                 &plan.plain,
                 &sizes,
                 &mut program.instructions,
-                rule,
+                number,
                 *part,
             )?),
         };
@@ -59,19 +67,27 @@ pub fn compile(alloc: Global, plan: &Plan) -> Result<Program, PosFault> {
     Ok(program)
 }
 
+/// Appends the end of a rule and its code, and answers where it begins.
 fn append_rule(
     alloc: Global,
     plain: &Plain,
     sizes: &[usize],
-    code: &mut Vec<Instruction>,
-    rule: RuleNo,
+    instructions: &mut Vec<Instruction>,
+    rule: usize,
     part: usize,
-) -> Result<usize, PosFault> {
-    let end = code.len();
-    let entry = end.checked_add(sizes[part]).ok_or(PosFault::OutOfMemory)?;
-    code.push(Instruction::End(rule))?;
-    append(alloc, plain, sizes, code, part, end)?;
-    Ok(entry)
+) -> Result<usize, PosFault>
+    requires part { part < length plain.now }
+    requires sizes { sizes.now ≡ map size plain.now }
+    ensures entry { IfOk result (λ e. e ≡ entry (length instructions.old.items + 1) (size (part_of plain.now part)) (length instructions.old.items)) }
+    ensures steps { OnOk result (map step_of instructions.new.items ≡ map step_of instructions.old.items ++ ends rule ∷ code (part_of plain.now part) (length instructions.old.items + 1) (length instructions.old.items)) }
+{
+    let end = instructions.len();
+    let number = u32::try_from(rule).map_err(|_| PosFault::OutOfMemory)?;
+    let size = sizes[part].checked_add(1).ok_or(PosFault::OutOfMemory)?;
+    let after = end.checked_add(size).ok_or(PosFault::OutOfMemory)?;
+    instructions.push(Instruction::End(RuleNo(number)))?;
+    append(alloc, plain, sizes, instructions, part, end)?;
+    Ok(after - 1)
 }
 
 /// Appends the code of an expression that goes on at `next`.
@@ -79,78 +95,99 @@ fn append(
     alloc: Global,
     plain: &Plain,
     sizes: &[usize],
-    code: &mut Vec<Instruction>,
+    instructions: &mut Vec<Instruction>,
     part: usize,
     next: usize,
-) -> Result<(), AllocError> {
+) -> Result<(), AllocError>
+    requires part { part < length plain.now }
+    requires sizes { sizes.now ≡ map size plain.now }
+    requires room { length instructions.old.items + size (part_of plain.now part) < 2 ^ 64 }
+    ensures { OnOk result (map step_of instructions.new.items ≡ map step_of instructions.old.items ++ code (part_of plain.now part) (length instructions.old.items) next) }
+{
     let mut tasks = Vec::new(alloc);
     tasks.push(Task::Code(part, next))?;
     while let Some(task) = tasks.pop() {
         match task {
-            Task::Fork(first, second) => code.push(Instruction::Fork(first, second))?,
-            Task::Code(part, next) => append_node(plain, sizes, code, &mut tasks, part, next)?,
+            Task::Fork(first, second) => instructions.push(Instruction::Fork(first, second))?,
+            Task::Code(part, next) => {
+                append_node(plain, sizes, instructions, &mut tasks, part, next)?;
+            }
         }
     }
     Ok(())
 }
 
+/// Appends the first of an expression's code, and notes the rest.
 fn append_node(
     plain: &Plain,
     sizes: &[usize],
-    code: &mut Vec<Instruction>,
+    instructions: &mut Vec<Instruction>,
     tasks: &mut Vec<Task>,
     part: usize,
     next: usize,
-) -> Result<(), AllocError> {
-    let base = code.len();
+) -> Result<(), AllocError>
+    requires part { part < length plain.now }
+    requires sizes { sizes.now ≡ map size plain.now }
+    requires room { length instructions.old.items + size (part_of plain.now part) < 2 ^ 64 }
+    requires tasks { All (TaskFits (length plain.now)) tasks.old.items }
+    ensures fits { OnOk result (All (TaskFits (length plain.now)) tasks.new.items) }
+    ensures less { OnOk result (sum_by (task_work plain.now) tasks.new.items < sum_by (task_work plain.now) tasks.old.items + work (part_of plain.now part)) }
+    ensures steps { OnOk result (map step_of instructions.new.items ++ planned plain.now (reverse tasks.new.items) (length instructions.new.items) ≡ map step_of instructions.old.items ++ (code (part_of plain.now part) (length instructions.old.items) next ++ planned plain.now (reverse tasks.old.items) (length instructions.old.items + size (part_of plain.now part)))) }
+{
+    let base = instructions.len();
     match plain.node(part) {
-        Node::Set(bytes) => code.push(Instruction::Read(bytes, next))?,
+        Node::Set(bytes) => Ok(instructions.push(Instruction::Read(bytes, next))?),
         Node::Concat(a, b) => {
-            tasks.push(Task::Code(a, entry(base, sizes[b], next)))?;
-            tasks.push(Task::Code(b, next))?;
+            let middle = entry_at(base, sizes[b], next);
+            tasks.extend_from_slice(&[Task::Code(a, middle), Task::Code(b, next)])
         }
         Node::Either(a, b) => {
-            let middle = base + sizes[a];
-            let first = entry(base, sizes[a], next);
-            let second = entry(middle, sizes[b], next);
-            tasks.push(Task::Fork(first, second))?;
-            tasks.push(Task::Code(b, next))?;
-            tasks.push(Task::Code(a, next))?;
+            let first = entry_at(base, sizes[a], next);
+            let second = entry_at(base + sizes[a], sizes[b], next);
+            tasks.extend_from_slice(&[Task::Fork(first, second), Task::Code(b, next), Task::Code(a, next)])
         }
         Node::Star(a) => {
             let fork = base + sizes[a];
-            tasks.push(Task::Fork(entry(base, sizes[a], fork), next))?;
-            tasks.push(Task::Code(a, fork))?;
+            let first = entry_at(base, sizes[a], fork);
+            tasks.extend_from_slice(&[Task::Fork(first, next), Task::Code(a, fork)])
         }
         Node::Plus(a) => {
-            code.push(Instruction::Fork(entry(base + 1, sizes[a], base), next))?;
-            tasks.push(Task::Code(a, base))?;
+            let first = entry_at(base + 1, sizes[a], base);
+            instructions.push(Instruction::Fork(first, next))?;
+            tasks.extend_from_slice(&[Task::Code(a, base)])
         }
         Node::Optional(a) => {
-            tasks.push(Task::Fork(entry(base, sizes[a], next), next))?;
-            tasks.push(Task::Code(a, next))?;
+            let first = entry_at(base, sizes[a], next);
+            tasks.extend_from_slice(&[Task::Fork(first, next), Task::Code(a, next)])
         }
-        Node::Empty | Node::Repeat { .. } | Node::Name(_) => {}
+        Node::Empty | Node::Repeat { .. } | Node::Name(_) => Ok(()),
     }
-    Ok(())
 }
 
 /// Where code of this size begins, if it stands at `base` and goes on at `next`.
-fn entry(base: usize, size: usize, next: usize) -> usize {
+fn entry_at(base: usize, size: usize, next: usize) -> usize
+    requires { base + size < 2 ^ 64 }
+    ensures { result ≡ entry base size next }
+{
     if size == 0 { next } else { base + size - 1 }
 }
 
 /// How many instructions the code of each expression has.
-fn sizes(alloc: Global, plain: &Plain) -> Result<Vec<usize>, PosFault> {
+fn sizes(alloc: Global, plain: &Plain) -> Result<Vec<usize>, PosFault>
+    ensures { IfOk result (λ ss. ss.items ≡ map size plain.now) }
+{
     let mut sizes = Vec::new(alloc);
     for number in 0..plain.len() {
-        let size = size(plain.node(number), &sizes).ok_or(PosFault::OutOfMemory)?;
+        let size = size_of_node(plain.node(number), &sizes).ok_or(PosFault::OutOfMemory)?;
         sizes.push(size)?;
     }
     Ok(sizes)
 }
 
-fn size(node: Node, sizes: &[usize]) -> Option<usize> {
+fn size_of_node(node: Node, sizes: &[usize]) -> Option<usize>
+    requires { FitsAt (length sizes.now) node }
+    ensures { IfSome result (λ n. n ≡ node_size sizes.now node) }
+{
     match node {
         Node::Set(_) => Some(1),
         Node::Concat(a, b) => sizes[a].checked_add(sizes[b]),
