@@ -1,0 +1,24 @@
+-- Rows of sets that grow along a graph.
+use Rattle.std.specs.Prelude.{ℕ, List}
+use Rattle.ly_sets.specs.NumberSet.{NumberSet, Member}
+use Rattle.ly_sets.specs.SetMatrix.{row}
+use Rattle.ly_digraph.specs.Digraph.{Digraph, IsEdge, Reaches}
+
+-- each row of the second holds that row of the first
+pub record Holds (old new : List NumberSet) : Type 0 where
+  pub holds : (i n : ℕ) → Member (row old i) n → Member (row new i) n
+
+-- where an edge i -> j is there, row i holds row j
+pub record GrowsAlong (g : Digraph) (sets : List NumberSet) : Type 0 where
+  pub grows : (i j n : ℕ) → IsEdge g i j → Member (row sets j) n → Member (row sets i) n
+
+-- the least rows that hold the given ones and grow along the graph
+pub record IsLeast (g : Digraph) (given sets : List NumberSet) : Type 0 where
+  pub holds : Holds given sets
+  pub grows : GrowsAlong g sets
+  pub least : (other : List NumberSet) → Holds given other → GrowsAlong g other → Holds sets other
+
+-- a step towards them: nothing is lost, and what came to a row was in a row that it reaches
+pub record IsBetween (g : Digraph) (old new : List NumberSet) : Type 0 where
+  pub kept : Holds old new
+  pub reached : (i n : ℕ) → Member (row new i) n → (j : ℕ) × Reaches g i j × Member (row old j) n

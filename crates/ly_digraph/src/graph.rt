@@ -1,0 +1,123 @@
+ghost use Rattle.std.specs.Prelude.{◌≡◌, ◌<◌, ℕ, [], ◌∷◌, ◌++◌, length, All, IfOk, OnOk, OnErr};
+
+use ly_base::OutOfMemory;
+use std::alloc::Global;
+use std::marker::Model;
+
+/// A directed graph: nodes are the numbers below a bound, and edges are kept in the order in which
+/// they came, the same one twice if it came twice.
+#[derive(Drop)]
+pub struct Graph {
+    edges: Vec<Edge>,
+    /// For each node, how many edges from the front hold all of its own: the last of them is one.
+    ends: Vec<usize>,
+}
+
+/// An edge.
+#[derive(Clone, Copy)]
+pub struct Edge {
+    from: usize,
+    to: usize,
+    /// How many edges from the front hold all of the same node's edges before this one.
+    before: usize,
+}
+
+impl Model for Graph {
+    ghost use Rattle.std.specs.Prelude.{◌≡◌, vec_len};
+    ghost use Rattle.ly_digraph.specs.Digraph.{Digraph, digraph_code};
+
+    ghost Value = { Digraph };
+
+    ghost coded = { digraph_code };
+
+    ghost use Rattle.ly_digraph.specs.Graph.{ends_of, IsLinked};
+
+    ghost view = { λ g. record { nodes = vec_len g.ends; edges = ends_of g.edges.items } };
+
+    ghost invariant = { λ g. IsLinked g.ends.items g.edges.items };
+}
+
+impl Graph {
+    ghost use Rattle.ly_digraph.specs.Digraph.{source, target, IsInside, IsEndBefore};
+
+    /// The graph of so many nodes without edges.
+    pub fn new(alloc: Global, nodes: usize) -> Result<Graph, OutOfMemory>
+        ensures { IfOk result (λ g. g ≡ record { nodes = nodes; edges = [] }) }
+    {
+        Ok(Graph {
+            edges: Vec::new(alloc),
+            ends: vec![in alloc; 0; nodes]?,
+        })
+    }
+
+    /// The graph of so many nodes with the listed edges.
+    pub fn from_edges(
+        alloc: Global,
+        nodes: usize,
+        edges: &[(usize, usize)],
+    ) -> Result<Graph, OutOfMemory>
+        requires { All (IsInside nodes) edges.now }
+        ensures { IfOk result (λ g. g ≡ record { nodes = nodes; edges = edges.now }) }
+    {
+        let mut graph = Graph::new(alloc, nodes)?;
+        for &(from, to) in edges {
+            graph.add(from, to)?;
+        }
+        Ok(graph)
+    }
+
+    /// Adds the edge `from -> to` behind the others. After the fault the graph is as it was.
+    pub fn add(&mut self, from: usize, to: usize) -> Result<(), OutOfMemory>
+        requires { IsInside self.old.nodes (from, to) }
+        ensures ok { OnOk result (self.new ≡ record self.old { edges = self.old.edges ++ (from, to) ∷ [] }) }
+        ensures err { OnErr result (self.new ≡ self.old) }
+    {
+        self.edges.push(Edge {
+            from,
+            to,
+            before: self.ends[from],
+        })?;
+        self.ends[from] = self.edges.len();
+        Ok(())
+    }
+
+    /// How many nodes there are. Every edge joins two of them.
+    pub fn nodes(&self) -> usize
+        ensures count { result ≡ self.now.nodes }
+        ensures inside { All (IsInside result) self.now.edges }
+    {
+        self.ends.len()
+    }
+
+    /// How many edges there are.
+    pub fn edges(&self) -> usize
+        ensures { result ≡ length self.now.edges }
+    {
+        self.edges.len()
+    }
+
+    /// How many edges from the front hold all edges of a node.
+    pub(crate) fn end(&self, node: usize) -> usize
+        requires { node < self.now.nodes }
+        ensures { IsEndBefore self.now node (length self.now.edges) result }
+    {
+        self.ends[node]
+    }
+
+    /// How many edges from the front hold all edges of the same node before an edge.
+    pub(crate) fn end_before(&self, edge: usize) -> usize
+        requires { edge < length self.now.edges }
+        ensures { IsEndBefore self.now (source self.now edge) edge result }
+    {
+        self.edges[edge].before
+    }
+
+    /// Where an edge leads.
+    pub(crate) fn target(&self, edge: usize) -> usize
+        requires { edge < length self.now.edges }
+        ensures value { result ≡ target self.now edge }
+        ensures inside { result < self.now.nodes }
+    {
+        self.edges[edge].to
+    }
+}

@@ -1,0 +1,245 @@
+//! A depth-first walk that closes components, with a stack of its own in place of recursion.
+//!
+//! The nodes that were seen and aren't done stand in a row, the pending ones, in the order in which
+//! they were entered. The frames of the path cut it into parts: a part begins at its frame's node and
+//! holds what was entered from there and left, but couldn't be closed. `low` is a position that a
+//! part is known to reach (Tarjan's low link, kept a frame and not a node). A part whose low
+//! position is its own start is a component.
+ghost use Rattle.std.specs.Prelude.{◌≡◌, ◌≢◌, ◌<◌, ◌≤◌, ◌+◌, ◌-◌, ◌↔◌, ℕ, List, [], ◌∷◌, ◌++◌, length, min, take, vec_len, slice_set, slice_index, IsTrue, false, true, IfOk, OnOk, OnErr};
+
+use crate::graph::Graph;
+use ly_base::OutOfMemory;
+use ly_sets::SetMatrix;
+use std::alloc::Global;
+
+/// Where a node stands.
+#[derive(Clone, Copy)]
+pub enum Place {
+    /// Not seen yet.
+    New,
+    /// Pending, at this position.
+    Open(usize),
+    /// In a component that is closed: its row is final.
+    Done,
+}
+
+/// A node on the way from the root of the walk to where it is.
+#[derive(Clone, Copy)]
+pub struct Frame {
+    pub node: usize,
+    /// The position of the node among the pending ones: its part begins there.
+    pub start: usize,
+    /// The least position that the part is known to reach.
+    pub low: usize,
+}
+
+/// A depth-first walk over a graph.
+#[derive(Drop)]
+pub struct Walk {
+    /// For each node, how many edges from the front hold all of its edges that are to be looked at.
+    cursors: Vec<usize>,
+    places: Vec<Place>,
+    /// The nodes that were seen and aren't done, in the order in which they were entered.
+    pending: Vec<usize>,
+    /// The nodes from the root to where the walk is.
+    path: Vec<Frame>,
+}
+
+impl Walk {
+    ghost use Rattle.ly_sets.specs.NumberSet.{NumberSet};
+    ghost use Rattle.ly_sets.specs.SetMatrix.{Matrix};
+    ghost use Rattle.ly_digraph.specs.Digraph.{Digraph, source, target, IsEndBefore};
+    ghost use Rattle.ly_digraph.specs.Walk.{IsWalk, place, frame, entered, lowered};
+    ghost use Rattle.ly_digraph.specs.Search.{IsAt, IsAtFrame, IsListed, IsClosed, IsWaiting, IsAdvanced, Continues, top, next_target, steps_left, unions_left};
+    ghost use Rattle.ly_digraph.specs.declared.walk.Frame.{Frame};
+    ghost use Rattle.ly_digraph.specs.declared.walk.Place.TheVariants.{New, Open, Done};
+
+    /// A walk that has seen nothing.
+    pub fn new(alloc: Global, graph: &Graph) -> Result<Walk, OutOfMemory>
+        ensures at { IfOk result (λ w. (sets : List NumberSet) → graph.now.nodes ≤ length sets → IsAt graph.now sets w) }
+        ensures left { IfOk result (λ w. unions_left graph.now w ≤ length graph.now.edges + graph.now.nodes) }
+        ensures over { IfOk result (λ w. vec_len w.path ≡ 0) }
+    {
+        let nodes = graph.nodes();
+        let mut cursors = Vec::with_capacity(alloc, nodes)?;
+        for node in 0..nodes {
+            cursors.push(graph.end(node))?;
+        }
+        Ok(Walk {
+            cursors,
+            places: vec![in alloc; Place::New; nodes]?,
+            pending: Vec::with_capacity(alloc, nodes)?,
+            path: Vec::with_capacity(alloc, nodes)?,
+        })
+    }
+
+    /// Walks over what a node reaches, as far as it wasn't seen.
+    pub fn visit(
+        &mut self,
+        root: usize,
+        graph: &Graph,
+        sets: &mut SetMatrix,
+    ) -> Result<(), OutOfMemory>
+        requires at { IsAt graph.now sets.old.sets self.old }
+        requires inside { root < graph.now.nodes }
+        requires over { vec_len self.old.path ≡ 0 }
+        ensures on { OnOk result (Continues graph.now sets.old self.old sets.new self.new) }
+        ensures over { OnOk result (vec_len self.new.path ≡ 0) }
+        ensures seen { OnOk result (place self.new.places.items root ≢ New) }
+    {
+        if self.is_seen(root) {
+            return Ok(());
+        }
+        self.enter(root)?;
+        while self.step(graph, sets)? {}
+        Ok(())
+    }
+
+    /// Whether a node was seen.
+    fn is_seen(&self, node: usize) -> bool
+        requires { node < vec_len self.now.places }
+        ensures { (result ≡ false) ↔ (place self.now.places.items node ≡ New) }
+    {
+        !matches!(self.places[node], Place::New)
+    }
+
+    /// Goes on to a node that wasn't seen.
+    fn enter(&mut self, node: usize) -> Result<(), OutOfMemory>
+        requires { node < vec_len self.old.places }
+        ensures places { OnOk result (self.new.places.items ≡ slice_set self.old.places.items node (Open (vec_len self.old.pending))) }
+        ensures pending { OnOk result (self.new.pending.items ≡ self.old.pending.items ++ node ∷ []) }
+        ensures path { OnOk result (self.new.path.items ≡ self.old.path.items ++ entered node (vec_len self.old.pending) ∷ []) }
+        ensures cursors { self.new.cursors ≡ self.old.cursors }
+    {
+        let start = self.pending.len();
+        self.places[node] = Place::Open(start);
+        self.pending.push(node)?;
+        self.path.push(Frame {
+            node,
+            start,
+            low: start,
+        })?;
+        Ok(())
+    }
+
+    /// Makes one step; false if the walk is over.
+    fn step(&mut self, graph: &Graph, sets: &mut SetMatrix) -> Result<bool, OutOfMemory>
+        requires { IsAt graph.now sets.old.sets self.old }
+        ensures on { OnOk result (Continues graph.now sets.old self.old sets.new self.new) }
+        ensures fewer { result ≡ Ok true → steps_left graph.now self.new < steps_left graph.now self.old }
+        ensures over { result ≡ Ok false → vec_len self.new.path ≡ 0 }
+    {
+        if self.path.is_empty() {
+            return Ok(false);
+        }
+        let frame = self.path[self.path.len() - 1];
+        let cursor = self.cursors[frame.node];
+        if cursor == 0 {
+            self.leave(graph, sets);
+            return Ok(true);
+        }
+        let target = graph.target(cursor - 1);
+        match self.places[target] {
+            Place::New => self.enter(target)?,
+            Place::Open(position) => self.meet(graph, position),
+            Place::Done => self.absorb(graph, target, sets),
+        }
+        Ok(true)
+    }
+
+    /// Looks at an edge to a pending node: the last part reaches its position.
+    fn meet(&mut self, graph: &Graph, position: usize)
+        requires waits { IsWaiting graph.now self.old }
+        requires pends { place self.old.places.items (next_target graph.now self.old) ≡ Open position }
+        ensures on { (m : Matrix) → IsAt graph.now m.sets self.old → Continues graph.now m self.old m self.new }
+        ensures fewer { (m : Matrix) → IsAt graph.now m.sets self.old → steps_left graph.now self.new < steps_left graph.now self.old }
+    {
+        self.lower(position);
+        self.advance(graph);
+    }
+
+    /// Looks at an edge to a node that is done: its row is final.
+    fn absorb(&mut self, graph: &Graph, target: usize, sets: &mut SetMatrix)
+        requires at { IsAt graph.now sets.old.sets self.old }
+        requires waits { IsWaiting graph.now self.old }
+        requires next { target ≡ next_target graph.now self.old }
+        requires done { place self.old.places.items target ≡ Done }
+        ensures on { Continues graph.now sets.old self.old sets.new self.new }
+        ensures fewer { steps_left graph.now self.new < steps_left graph.now self.old }
+    {
+        let node = self.path[self.path.len() - 1].node;
+        sets.union_row(node, target);
+        self.advance(graph);
+    }
+
+    /// Leaves a node whose edges were all looked at.
+    fn leave(&mut self, graph: &Graph, sets: &mut SetMatrix)
+        requires at { IsAt graph.now sets.old.sets self.old }
+        requires some { 0 < vec_len self.old.path }
+        requires spent { slice_index self.old.cursors.items (top self.old).node ≡ 0 }
+        ensures on { Continues graph.now sets.old self.old sets.new self.new }
+        ensures fewer { steps_left graph.now self.new < steps_left graph.now self.old }
+    {
+        if let Some(frame) = self.path.pop() {
+            if frame.low == frame.start {
+                self.close(frame, sets);
+            } else {
+                self.merge(frame, graph, sets);
+            }
+        }
+    }
+
+    /// Ends a component: all of its nodes get the row of its root.
+    fn close(&mut self, root: Frame, sets: &mut SetMatrix)
+        requires listed { IsListed self.old.places.items self.old.pending.items }
+        requires rows { length self.old.places.items ≤ length sets.old.sets }
+        requires root { (root.start < length self.old.pending.items) × (slice_index self.old.pending.items root.start ≡ root.node) }
+        ensures closed { IsClosed sets.old sets.new self.old.places.items self.new.places.items root.start (vec_len self.old.pending) root.node }
+        ensures pending { self.new.pending.items ≡ take root.start self.old.pending.items }
+        ensures cursors { self.new.cursors ≡ self.old.cursors }
+        ensures path { self.new.path ≡ self.old.path }
+    {
+        self.places[root.node] = Place::Done;
+        for position in root.start + 1..self.pending.len() {
+            let member = self.pending[position];
+            self.places[member] = Place::Done;
+            sets.union_row(member, root.node);
+        }
+        self.pending.truncate(root.start);
+    }
+
+    /// Hands a part that reaches further down to the part before it.
+    fn merge(&mut self, frame: Frame, graph: &Graph, sets: &mut SetMatrix)
+        requires at { IsAtFrame graph.now sets.old.sets self.old frame }
+        requires spent { slice_index self.old.cursors.items frame.node ≡ 0 }
+        requires turns { frame.low ≢ frame.start }
+        ensures on { Continues graph.now sets.old self.old sets.new self.new }
+        ensures fewer { steps_left graph.now self.new ≤ steps_left graph.now self.old }
+    {
+        let parent = self.path[self.path.len() - 1].node;
+        sets.union_row(parent, frame.node);
+        self.lower(frame.low);
+        self.advance(graph);
+    }
+
+    /// Notes that the last part reaches a position.
+    fn lower(&mut self, position: usize)
+        requires { 0 < vec_len self.old.path }
+        ensures path { (fs : List Frame) (f : Frame) → self.old.path.items ≡ fs ++ f ∷ [] → self.new.path.items ≡ fs ++ lowered f (min f.low position) ∷ [] }
+        ensures others { self.new ≡ record self.old { path = self.new.path } }
+    {
+        let last = self.path.len() - 1;
+        let frame = &mut self.path[last];
+        frame.low = frame.low.min(position);
+    }
+
+    /// Goes on to the next edge of the last frame's node.
+    fn advance(&mut self, graph: &Graph)
+        requires { IsWaiting graph.now self.old }
+        ensures cursors { IsAdvanced graph.now (top self.old).node self.old.cursors.items self.new.cursors.items }
+        ensures others { self.new ≡ record self.old { cursors = self.new.cursors } }
+    {
+        let node = self.path[self.path.len() - 1].node;
+        self.cursors[node] = graph.end_before(self.cursors[node] - 1);
+    }
+}
