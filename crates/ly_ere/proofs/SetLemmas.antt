@@ -1,5 +1,5 @@
 -- Sets that have a member.
-use Rattle.std.proofs.Common.{◌≡◌, ℕ, ◌<◌, List, [], ◌∷◌, ◌∙◌, sym, subst, ap, Bool, true, false, IsTrue, refl, arith, rules}
+use Rattle.std.proofs.Common.{◌≡◌, ℕ, ◌<◌, List, [], ◌∷◌, subst, ap, Bool, true, false, refl, arith, rules}
 use Rattle.std.specs.Prelude.{not, Contains}
 use Rattle.ly_base.specs.declared.byte_set.ByteSet.{ByteSet}
 use Rattle.ly_base.specs.ByteSet.{has, members}

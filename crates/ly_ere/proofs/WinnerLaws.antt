@@ -3,7 +3,7 @@ use Rattle.std.proofs.Common.{◌≡◌, ℕ, ◌-◌, ◌≤◌, List, length, 
 use Rattle.ly_base.specs.declared.cut.Cut.{Cut}
 use Rattle.ly_base.specs.declared.cut.Cut.TheVariants.{Whole, Head, Tail}
 use Rattle.ly_ere.specs.Expression.{Expression, Matches}
-use Rattle.ly_ere.specs.Winner.{Candidate, CutHolds, InTail, Fits}
+use Rattle.ly_ere.specs.Winner.{Candidate, CutHolds, InTail}
 use Rattle.ly_ere.specs.Laws.{WinnerIsOne, SplitIsOne}
 
 -- the winner's length and rule

@@ -6,4 +6,5 @@ pub mod Laws
 pub mod Levels
 pub mod Names
 pub mod Symbols
+pub mod Weight
 pub mod Winner

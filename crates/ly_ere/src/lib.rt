@@ -14,6 +14,7 @@ mod quoted;
 mod re;
 mod read;
 mod symbol;
+mod weight;
 
 pub use arena::Arena;
 pub use extent::pattern_length;
@@ -24,3 +25,4 @@ pub use node::Node;
 pub use pattern::{Pattern, Rule};
 pub use re::Re;
 pub use read::read_pattern;
+pub use weight::weigh;

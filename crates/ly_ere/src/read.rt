@@ -11,6 +11,7 @@ use crate::pattern::Pattern;
 use crate::quoted::quoted_byte;
 use crate::re::Re;
 use crate::symbol::{Symbol, next_symbol};
+use crate::weight::weigh;
 use ly_base::{ByteSet, Cut, Limits};
 use std::alloc::{AllocError, Global};
 
@@ -22,6 +23,9 @@ pub fn read_pattern(
     limits: &Limits,
 ) -> Result<Pattern, EreFault> {
     let head = read_expression(alloc, text)?;
+    if weigh(alloc, &head, names, limits.pattern_weight())?.is_none() {
+        return Err(EreFault::TooHeavy);
+    }
     Ok(Pattern {
         line_start: false,
         head,

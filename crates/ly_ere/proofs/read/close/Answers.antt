@@ -1,4 +1,4 @@
-use Rattle.std.proofs.Common.{◌≡◌, ◌∷◌, [], ◌++◌, subst, arith, length}
+use Rattle.std.proofs.Common.{subst, arith, length}
 use Rattle.ly_ere.specs.Levels.{AreWithin}
 use Rattle.ly_ere.proofs.LevelLemmas.{all_within_front, all_within_more, within_last, within_more}
 use Rattle.ly_ere.proofs.read.close.Goals as goal

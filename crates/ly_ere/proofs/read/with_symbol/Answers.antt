@@ -1,7 +1,6 @@
 use Rattle.std.proofs.Common.{ap, length, length-append, arith, Result, Ok, Err}
 use Rattle.std.specs.Result.{OnOk}
 use Rattle.ly_ere.specs.Expression.{Expression}
-use Rattle.ly_ere.specs.Levels.{AreWithin}
 use Rattle.ly_ere.proofs.LevelLemmas.{all_within_more, all_within_push}
 use Rattle.ly_ere.proofs.read.with_symbol.Goals as goal
 
