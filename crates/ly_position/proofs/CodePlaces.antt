@@ -107,13 +107,19 @@ HasCode-of (optional r) pre post g base next l e = (
 HasCode-of (repeat m n r) pre post g base next l e = tt
 HasCode-of (name x) pre post g base next l e = tt
 
--- a step that is there and leads to steps below n
+-- the step is no end
+abbrev pub IsMove : Step → Type 0
+IsMove (reads bytes q) = Unit {0}
+IsMove (fork a b) = Unit {0}
+IsMove (ends i) = ⊥
+
+-- a step that is there, is no end and leads to steps below n
 abbrev pub Stands : List Step → ℕ → ℕ → Type 0
-Stands g n p = (s : Step) × (slice_get g p ≡ Some s) × LeadsBelow n s
+Stands g n p = (s : Step) × (slice_get g p ≡ Some s) × LeadsBelow n s × IsMove s
 
 -- each step of code is there and leads to steps below n
 pub stands : (g : List Step) (e : Expression) (base next n p : ℕ) → HasCode g e base next → base + size e ≤ n → next < n → base ≤ p → p < base + size e → Stands g n p
-stands g (set bytes) base next n p h le less l m = let same : p ≡ base = omega arith in rw same (reads bytes next, h, less)
+stands g (set bytes) base next n p h le less l m = let same : p ≡ base = omega arith in rw same (reads bytes next, h, less, tt)
 stands g empty base next n p h le less l m = absurd (omega arith)
 stands g (concat r s) base next n p h le less l m = elim (cases_lt p (base + size s)) [
   | inl a ↦ stands g s base next n p h.0 (omega arith) less l a
@@ -124,22 +130,22 @@ stands g (either r s) base next n p h le less l m = elim (cases_lt p (base + siz
   | inr b ↦ elim (cases_lt p (base + size r + size s)) [
     | inl c ↦ stands g s (base + size r) next n p h.1 (omega arith) less b c
     | inr d ↦ let same : p ≡ base + size r + size s = omega arith in
-        rw same (fork (entry base (size r) next) (entry (base + size r) (size s) next), h.2, (entry_below base (size r) next n (omega arith) less, entry_below (base + size r) (size s) next n (omega arith) less))
+        rw same (fork (entry base (size r) next) (entry (base + size r) (size s) next), h.2, (entry_below base (size r) next n (omega arith) less, entry_below (base + size r) (size s) next n (omega arith) less), tt)
   ]
 ]
 stands g (star r) base next n p h le less l m = elim (cases_lt p (base + size r)) [
   | inl a ↦ stands g r base (base + size r) n p h.0 (omega arith) (omega arith) l a
   | inr b ↦ let same : p ≡ base + size r = omega arith in
-      rw same (fork (entry base (size r) (base + size r)) next, h.1, (entry_below base (size r) (base + size r) n (omega arith) (omega arith), less))
+      rw same (fork (entry base (size r) (base + size r)) next, h.1, (entry_below base (size r) (base + size r) n (omega arith) (omega arith), less), tt)
 ]
 stands g (plus r) base next n p h le less l m = elim (cases_eq p base) [
-  | inl same ↦ rw same (fork (entry (base + 1) (size r) base) next, h.0, (entry_below (base + 1) (size r) base n (omega arith) (omega arith), less))
+  | inl same ↦ rw same (fork (entry (base + 1) (size r) base) next, h.0, (entry_below (base + 1) (size r) base n (omega arith) (omega arith), less), tt)
   | inr other ↦ stands g r (base + 1) base n p h.1 (omega arith) (omega arith) (omega arith) (omega arith)
 ]
 stands g (optional r) base next n p h le less l m = elim (cases_lt p (base + size r)) [
   | inl a ↦ stands g r base next n p h.0 (omega arith) less l a
   | inr b ↦ let same : p ≡ base + size r = omega arith in
-      rw same (fork (entry base (size r) next) next, h.1, (entry_below base (size r) next n (omega arith) less, less))
+      rw same (fork (entry base (size r) next) next, h.1, (entry_below base (size r) next n (omega arith) less, less), tt)
 ]
 stands g (repeat a b r) base next n p h le less l m = absurd (omega arith)
 stands g (name x) base next n p h le less l m = absurd (omega arith)

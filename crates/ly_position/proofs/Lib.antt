@@ -7,5 +7,6 @@ pub mod ListsLemmas
 pub mod Pigeonhole
 pub mod PlainLemmas
 pub mod PlanLemmas
+pub mod ProgramLemmas
 pub mod SparseSetLemmas
 pub mod WalkLemmas

@@ -1,4 +1,4 @@
-ghost use Rattle.std.specs.Prelude.{◌≡◌, ◌≢◌, ℕ, ◌<◌, ◌≤◌, [], ◌∷◌, ◌++◌, ◌⊎◌, length, Contains, Some, IfOk, OnOk};
+ghost use Rattle.std.specs.Prelude.{◌≡◌, ◌≢◌, ℕ, ◌<◌, ◌≤◌, [], ◌∷◌, ◌++◌, ◌⊎◌, length, All, Contains, Some, IfOk, OnOk};
 
 use ly_base::ByteSet;
 use ly_ere::{Arena, Node};
@@ -50,7 +50,8 @@ impl Plain {
 
     /// How many expressions there are.
     pub fn len(&self) -> usize
-        ensures { result ≡ length self.now }
+        ensures count { result ≡ length self.now }
+        ensures plain { All IsPlain self.now }
     {
         self.arena.len()
     }

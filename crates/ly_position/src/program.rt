@@ -1,7 +1,7 @@
 ghost use Rattle.std.specs.Prelude.{◌≡◌, ℕ, ◌+◌, ◌^◌, ◌<◌, ◌≤◌, List, ◌∷◌, ◌++◌, length, map, reverse, sum_by, All, IfOk, IfSome, OnOk};
 ghost use Rattle.ly_ere.specs.Arena.{part_of, FitsAt};
 ghost use Rattle.ly_position.specs.Plain.{IsPart};
-ghost use Rattle.ly_position.specs.Program.{code, ends, entry, node_size, size, step_of};
+ghost use Rattle.ly_position.specs.Program.{code, ends, entry, node_size, IsPlain, size, step_of};
 ghost use Rattle.ly_position.specs.Compile.{IsProgram, TaskFits, planned, task_work, work};
 
 use crate::fault::PosFault;
@@ -174,7 +174,8 @@ fn entry_at(base: usize, size: usize, next: usize) -> usize
 
 /// How many instructions the code of each expression has.
 fn sizes(alloc: Global, plain: &Plain) -> Result<Vec<usize>, PosFault>
-    ensures { IfOk result (λ ss. ss.items ≡ map size plain.now) }
+    ensures sizes { IfOk result (λ ss. ss.items ≡ map size plain.now) }
+    ensures plain { OnOk result (All IsPlain plain.now) }
 {
     let mut sizes = Vec::new(alloc);
     for number in 0..plain.len() {
