@@ -1,4 +1,5 @@
 pub mod ByteSetLemmas
 pub mod DeviceLemmas
+pub mod EscapeLemmas
 mod WordLemmas
 mod TextLemmas

@@ -1,4 +1,5 @@
-ghost use Rattle.std.specs.Prelude.{◌≡◌, ◌<◌, ◌≤◌, ◌+◌, length, IfOk, IfSome};
+ghost use Rattle.std.specs.Prelude.{◌≡◌, ℕ, ◌<◌, ◌≤◌, ◌+◌, List, drop, length, min, IfOk, IfErr, IfSome};
+ghost use Rattle.ly_base.specs.Escapes.{Escape, base_of, counts, digits, meaning, number, test_of};
 
 use thiserror::Error;
 
@@ -20,11 +21,15 @@ pub enum EscapeFault {
 pub fn escape(text: &[u8]) -> Result<(u8, usize), EscapeFault>
     ensures first { IfOk result (λ found. 2 ≤ found.1) }
     ensures within { IfOk result (λ found. found.1 ≤ length text.now) }
+    ensures escape { IfOk result (λ found. Escape (drop 1 text.now) found.0 (drop found.1 text.now)) }
+    ensures refused { IfErr result (λ _. (byte : ℕ) (rest : List ℕ) → Escape (drop 1 text.now) byte rest → ⊥) }
 {
-    let letter = match text.get(1).copied() {
-        None | Some(b'\n') => return Err(EscapeFault::Unfinished),
-        Some(letter) => letter,
+    let Some(&letter) = text.get(1) else {
+        return Err(EscapeFault::Unfinished);
     };
+    if letter == b'\n' {
+        return Err(EscapeFault::Unfinished);
+    }
     let octal = Digits::leading(&text[1..], Radix::Octal, 3);
     if octal.count > 0 {
         return Ok((octal.byte()?, 1 + octal.count));
@@ -40,7 +45,9 @@ pub fn escape(text: &[u8]) -> Result<(u8, usize), EscapeFault>
 }
 
 /// What a backslash before a byte that begins no number stands for.
-fn meaning_of(letter: u8) -> u8 {
+fn meaning_of(letter: u8) -> u8
+    ensures { result ≡ meaning letter }
+{
     match letter {
         b'a' => 7,
         b'b' => 8,
@@ -62,7 +69,8 @@ enum Radix {
 impl Radix {
     /// The value of a digit.
     fn digit(self, byte: u8) -> Option<u16>
-        ensures { IfSome result (λ digit. digit < 16) }
+        ensures below { IfSome result (λ digit. digit < 16) }
+        ensures value { result ≡ counts (test_of self byte) byte }
     {
         match (self, byte) {
             (_, b'0'..=b'7') => Some(u16::from(byte - b'0')),
@@ -74,7 +82,8 @@ impl Radix {
     }
 
     fn base(self) -> u16
-        ensures { result ≤ 16 }
+        ensures below { result ≤ 16 }
+        ensures base { result ≡ base_of self }
     {
         match self {
             Radix::Octal => 8,
@@ -97,6 +106,8 @@ impl Digits {
     /// The digits at the front of a text, at most `most`.
     fn leading(text: &[u8], radix: Radix, most: usize) -> Self
         ensures within { result.count ≤ length text.now }
+        ensures count { result.count ≡ length (digits (test_of radix) most text.now) }
+        ensures value { result.value ≡ min (number (base_of radix) (digits (test_of radix) most text.now)) 256 }
     {
         let mut value = 0u16;
         for (count, byte) in text.iter().enumerate() {
@@ -112,7 +123,12 @@ impl Digits {
         }
     }
 
-    fn byte(self) -> Result<u8, EscapeFault> {
+    /// The value as a byte.
+    fn byte(self) -> Result<u8, EscapeFault>
+        ensures ok { IfOk result (λ byte. byte ≡ self.value) }
+        ensures small { IfOk result (λ byte. byte < 256) }
+        ensures refused { IfErr result (λ _. 256 ≤ self.value) }
+    {
         u8::try_from(self.value).map_err(|_| EscapeFault::TooLarge)
     }
 }

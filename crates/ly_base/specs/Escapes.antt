@@ -1,0 +1,101 @@
+-- Escapes: what stands behind a backslash, and the byte that it stands for (POSIX, lex, "Escape Sequences in lex").
+use Rattle.std.specs.Prelude.{◌≡◌, ◌≢◌, ℕ, zero, suc, ◌+◌, ◌-◌, ◌*◌, ◌<◌, ◌≤◌, List, [], ◌∷◌, ◌++◌, length, drop, Option, Some, None, Bool, true, false, ◌||◌, ◌&&◌, nat_eq, nat_le, nat_lt, IsTrue, if◌then◌else◌}
+use Rattle.ly_base.specs.declared.escapes.Radix.{Radix}
+use Rattle.ly_base.specs.declared.escapes.Radix.TheVariants.{Octal, Hexadecimal}
+
+-- `0` to `7`
+abbrev pub is_octal : ℕ → Bool
+is_octal b = nat_le 48 b && nat_le b 55
+
+-- `0` to `9`, `A` to `F`, `a` to `f`
+abbrev pub is_hexadecimal : ℕ → Bool
+is_hexadecimal b = (nat_le 48 b && nat_le b 57) || (nat_le 65 b && nat_le b 70) || (nat_le 97 b && nat_le b 102)
+
+-- what a digit counts
+abbrev pub digit : ℕ → ℕ
+digit b = if nat_le b 57 then b - 48 else (if nat_le b 70 then b - 55 else b - 87)
+
+-- the number of digits that follow a number
+abbrev pub number_from : ℕ → ℕ → List ℕ → ℕ
+number_from base n [] = n
+number_from base n (d ∷ ds) = number_from base (n * base + digit d) ds
+
+-- the number that digits spell
+abbrev pub number : ℕ → List ℕ → ℕ
+number base ds = number_from base 0 ds
+
+-- all bytes pass the test
+abbrev pub AllPass : (ℕ → Bool) → List ℕ → Type 0
+AllPass test [] = Unit {0}
+AllPass test (b ∷ bs) = IsTrue (test b) × AllPass test bs
+
+-- no byte that passes the test comes first
+abbrev pub Stops : (ℕ → Bool) → List ℕ → Type 0
+Stops test [] = Unit {0}
+Stops test (b ∷ bs) = test b ≡ false
+
+-- what a letter behind a backslash stands for
+abbrev pub meaning : ℕ → ℕ
+meaning b = if nat_eq b 97 then 7 else
+    (if nat_eq b 98 then 8 else
+    (if nat_eq b 102 then 12 else
+    (if nat_eq b 110 then 10 else
+    (if nat_eq b 114 then 13 else
+    (if nat_eq b 116 then 9 else
+    (if nat_eq b 118 then 11 else b))))))
+
+-- The text, behind a backslash, begins with what stands for the byte b, and then comes the rest: one to three
+-- octal digits, as many as there are; `x` with all the hexadecimal digits that follow; or one byte.
+pub data Escape : List ℕ → ℕ → List ℕ → Type 0 where
+  octal : (ds rest : List ℕ) → AllPass is_octal ds → 1 ≤ length ds → length ds ≤ 3 → (length ds < 3 → Stops is_octal rest) → number 8 ds < 256 → Escape (ds ++ rest) (number 8 ds) rest
+  hexadecimal : (ds rest : List ℕ) → AllPass is_hexadecimal ds → 1 ≤ length ds → Stops is_hexadecimal rest → number 16 ds < 256 → Escape (120 ∷ (ds ++ rest)) (number 16 ds) rest
+  bare_x : (rest : List ℕ) → Stops is_hexadecimal rest → Escape (120 ∷ rest) 120 rest
+  letter : (b : ℕ) (rest : List ℕ) → is_octal b ≡ false → b ≢ 120 → b ≢ 10 → Escape (b ∷ rest) (meaning b) rest
+
+-- the first n bytes of a text that pass a test one after another
+abbrev pub digits : (ℕ → Bool) → ℕ → List ℕ → List ℕ
+digits test zero t = []
+digits test (suc n) [] = []
+digits test (suc n) (b ∷ t) = if test b then b ∷ digits test n t else []
+
+abbrev pub byte_when : Bool → ℕ → List ℕ → Option (ℕ × List ℕ)
+byte_when true n rest = Some (n, rest)
+byte_when false n rest = None
+
+abbrev pub byte_or_none : ℕ → List ℕ → Option (ℕ × List ℕ)
+byte_or_none n rest = byte_when (nat_lt n 256) n rest
+
+abbrev pub by_hexadecimal : List ℕ → List ℕ → Option (ℕ × List ℕ)
+by_hexadecimal [] t = Some (120, t)
+by_hexadecimal (d ∷ ds) t = byte_or_none (number 16 (d ∷ ds)) (drop (length (d ∷ ds)) t)
+
+abbrev pub letter_when : Bool → Bool → ℕ → List ℕ → Option (ℕ × List ℕ)
+letter_when true _ b t = None
+letter_when false true b t = by_hexadecimal (digits is_hexadecimal (length t) t) t
+letter_when false false b t = Some (meaning b, t)
+
+abbrev pub by_letter : List ℕ → Option (ℕ × List ℕ)
+by_letter [] = None
+by_letter (b ∷ t) = letter_when (nat_eq b 10) (nat_eq b 120) b t
+
+abbrev pub by_octal : List ℕ → List ℕ → Option (ℕ × List ℕ)
+by_octal [] t = by_letter t
+by_octal (d ∷ ds) t = byte_or_none (number 8 (d ∷ ds)) (drop (length (d ∷ ds)) t)
+
+-- the byte that stands behind a backslash, and the rest, as a reader finds it
+abbrev pub escape_of : List ℕ → Option (ℕ × List ℕ)
+escape_of t = by_octal (digits is_octal 3 t) t
+
+-- which bytes are digits
+abbrev pub test_of : Radix → ℕ → Bool
+test_of Octal b = is_octal b
+test_of Hexadecimal b = is_hexadecimal b
+
+abbrev pub base_of : Radix → ℕ
+base_of Octal = 8
+base_of Hexadecimal = 16
+
+-- what a byte counts, if it is a digit
+abbrev pub counts : Bool → ℕ → Option ℕ
+counts true b = Some (digit b)
+counts false b = None
