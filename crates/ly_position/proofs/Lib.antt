@@ -2,8 +2,10 @@ pub mod CodeLaws
 pub mod CodePlaces
 pub mod CompileLemmas
 pub mod ExpressionLemmas
+pub mod FollowLemmas
 pub mod JoinedLemmas
 pub mod ListsLemmas
+pub mod NumberLemmas
 pub mod Pigeonhole
 pub mod PlainLemmas
 pub mod PlanLemmas

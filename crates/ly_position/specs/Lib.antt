@@ -1,5 +1,6 @@
 pub mod Compile
 pub mod FaultNumber
+pub mod Follow
 pub mod Lists
 pub mod Nfa
 pub mod Plain

@@ -1,5 +1,5 @@
 use crate::fault::PosFault;
-use crate::follow::{numbers, slots};
+use crate::follow::{Slots, numbers, make_slots};
 use crate::nfa::PosNfa;
 use crate::plan::write_out;
 use crate::program::compile;
@@ -21,7 +21,7 @@ pub fn positions(
     let program = compile(alloc, &plan)?;
     let numbers = numbers(alloc, &program.instructions)?;
     let mut reach = Reach::new(alloc, program.instructions.len())?;
-    let (slots, follow) = slots(alloc, &program.instructions, &numbers, &mut reach)?;
+    let Slots { slots, follow } = make_slots(alloc, &program.instructions, &numbers, &mut reach)?;
     let starts = starts(alloc, rules, conditions, &program, &numbers, &mut reach)?;
     Ok(PosNfa::of(slots, follow, starts))
 }

@@ -1,5 +1,7 @@
-ghost use Rattle.std.specs.Prelude.{◌≡◌, ℕ, ◌<◌, ◌≤◌, ◌↔◌, length, map, All, Contains, OnOk};
+ghost use Rattle.std.specs.Prelude.{◌≡◌, ℕ, ◌<◌, ◌≤◌, ◌↔◌, length, map, slice_index_or, All, Contains, IfOk, None, OnOk};
+ghost use Rattle.std.specs.List.{filter_map};
 ghost use Rattle.ly_position.specs.Program.{step_of};
+ghost use Rattle.ly_position.specs.Follow.{IsReachList, numbers_of};
 ghost use Rattle.ly_position.specs.Reach.{IsClosed, Reached, Visits};
 
 use crate::program::Instruction;
@@ -16,7 +18,9 @@ pub struct Reach {
 
 impl Reach {
     /// Room for a program of this many instructions.
-    pub fn new(alloc: Global, bound: usize) -> Result<Self, AllocError> {
+    pub fn new(alloc: Global, bound: usize) -> Result<Self, AllocError>
+        ensures { IfOk result (λ r. r.seen.below ≡ bound) }
+    {
         Ok(Reach {
             seen: SparseSet::new(alloc, bound)?,
             stack: Vec::new(alloc),
@@ -24,23 +28,48 @@ impl Reach {
         })
     }
 
-    /// The numbers of the instructions that are reached from some by forks alone, these included, where
-    /// they have a number.
-    pub fn numbers_from(
+    /// Finds the positions that are reached from some instructions by forks alone.
+    pub fn find(
         &mut self,
         code: &[Instruction],
         numbers: &[Option<u32>],
         roots: &[usize],
-    ) -> Result<&[u32], AllocError> {
+    ) -> Result<(), AllocError>
+        requires closed { IsClosed (map step_of code.now) }
+        requires numbers { numbers.now ≡ numbers_of (map step_of code.now) }
+        requires within { All (λ p. p < length code.now) roots.now }
+        requires below { self.old.seen.below ≡ length code.now }
+        ensures below { self.new.seen.below ≡ self.old.seen.below }
+        ensures ok { OnOk result (IsReachList (map step_of code.now) roots.now self.new.found.items) }
+    {
         walk(code, roots, &mut self.seen, &mut self.stack)?;
-        self.found.clear();
-        for place in self.seen.members() {
-            if let Some(number) = numbers[*place] {
-                self.found.push(number)?;
-            }
-        }
-        Ok(&self.found)
+        number(self.seen.members(), numbers, &mut self.found)
     }
+
+    /// The positions that were found last, each once.
+    pub fn found(&self) -> &[u32]
+        ensures { result.now ≡ self.now.found.items }
+    {
+        &self.found
+    }
+}
+
+/// Puts down the numbers of the members that have one.
+fn number(
+    members: &[usize],
+    numbers: &[Option<u32>],
+    found: &mut Vec<u32>,
+) -> Result<(), AllocError>
+    requires { All (λ p. p < length numbers.now) members.now }
+    ensures { OnOk result (found.new.items ≡ filter_map (λ p. slice_index_or numbers.now p None) members.now) }
+{
+    found.clear();
+    for member in members {
+        if let Some(number) = numbers[*member] {
+            found.push(number)?;
+        }
+    }
+    Ok(())
 }
 
 /// Finds all instructions that are reached from the roots by forks alone.

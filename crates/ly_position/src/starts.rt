@@ -13,9 +13,11 @@ pub fn starts(
     numbers: &[Option<u32>],
     reach: &mut Reach,
 ) -> Result<Lists, AllocError> {
+    let roots = roots(alloc, rules, conditions, &program.entries)?;
     let mut starts = Lists::new(alloc);
-    for roots in &roots(alloc, rules, conditions, &program.entries)? {
-        starts.push(reach.numbers_from(&program.instructions, numbers, roots)?)?;
+    for list in &roots {
+        reach.find(&program.instructions, numbers, list)?;
+        starts.push(reach.found())?;
     }
     Ok(starts)
 }
