@@ -1,16 +1,16 @@
 -- A component that is closed.
-use Rattle.std.proofs.Common.{◌≡◌, ◌≢◌, ◌∙◌, ◌<◌, ◌≤◌, ◌+◌, ◌-◌, ◌*◌, ◌++◌, ◌∷◌, [], ℕ, Bool, true, false, ◌&&◌, nat_lt, nat_le, if◌then◌else◌, List, length, get_or, set, take, sym, ap, ap₂, subst, refl, arith, inl, inr, ◌⊎◌, min, sum_by, vec_len}
+use Rattle.std.proofs.Common.{◌≡◌, ◌≢◌, ◌∙◌, ◌<◌, ◌≤◌, ◌+◌, ◌++◌, ◌∷◌, [], ℕ, List, length, get_or, set, take, sym, ap, ap₂, subst, refl, arith, inl, inr, ◌⊎◌, sum_by, vec_len}
 use Rattle.std.specs.FinSet as sets
 use Rattle.std.proofs.lemmas.Bool.{cases_lt, cases_eq}
 use Rattle.std.proofs.Math.ListN.{length-set}
 use Rattle.std.proofs.lemmas.List.{get_or_default}
 use Rattle.ly_sets.specs.NumberSet.{NumberSet, Member}
-use Rattle.ly_sets.specs.SetMatrix.{Matrix, row, with_row}
+use Rattle.ly_sets.specs.SetMatrix.{Matrix, row}
 use Rattle.ly_digraph.specs.Digraph.{Digraph, Reaches}
 use Rattle.ly_digraph.specs.Digraph.Reaches.{here}
 use Rattle.ly_digraph.specs.Least.{IsBetween}
 use Rattle.ly_digraph.specs.Walk.{place, IsPart, IsWalk}
-use Rattle.ly_digraph.specs.Search.{IsAt, IsAtFrame, IsListed, IsClosed, closed_place, closed_row, Continues, waiting_from, steps_left, unions_left, unseen_one, undone_one}
+use Rattle.ly_digraph.specs.Search.{IsAt, IsAtFrame, IsListed, IsClosed, closed_place, closed_row, Continues, waiting_from, steps_left, unseen_one, undone_one}
 use Rattle.ly_digraph.specs.declared.walk.Place.{Place}
 use Rattle.ly_digraph.specs.declared.walk.Place.TheVariants.{New, Open, Done}
 use Rattle.ly_digraph.specs.declared.walk.Frame.{Frame}

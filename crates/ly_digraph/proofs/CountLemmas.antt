@@ -1,13 +1,13 @@
 -- How much of the walk is left.
-use Rattle.std.proofs.Common.{◌≡◌, ◌≢◌, ◌∙◌, ◌<◌, ◌≤◌, ◌+◌, ◌-◌, ℕ, zero, suc, Bool, true, false, List, [], ◌∷◌, length, get_or, set, sym, ap, subst, refl, arith, inl, inr, ◌⊎◌, nat_lt, if◌then◌else◌, sum_by}
-use Rattle.std.proofs.lemmas.Bool.{cases_eq, cases_lt}
+use Rattle.std.proofs.Common.{◌≡◌, ◌∙◌, ◌<◌, ◌≤◌, ◌+◌, ◌-◌, ℕ, zero, suc, List, [], ◌∷◌, length, get_or, set, ap, arith, inl, inr, nat_lt, if◌then◌else◌, sum_by}
+use Rattle.std.proofs.lemmas.Bool.{cases_eq}
 use Rattle.std.proofs.lemmas.List.{get_or-set_same, get_or-set_other}
 use Rattle.std.proofs.lemmas.List.Sums.{sum_by-set}
 use Rattle.ly_digraph.specs.Digraph.{Digraph, source}
 use Rattle.ly_digraph.specs.Walk.{place}
-use Rattle.ly_digraph.specs.Search.{waiting_from, unseen_one, undone_one}
+use Rattle.ly_digraph.specs.Search.{waiting_from}
 use Rattle.ly_digraph.specs.declared.walk.Place.{Place}
-use Rattle.ly_digraph.specs.declared.walk.Place.TheVariants.{New, Open, Done}
+use Rattle.ly_digraph.specs.declared.walk.Place.TheVariants.{New}
 
 one_at_most : (a b : ℕ) → (if nat_lt a b then 1 else 0) ≤ 1
 one_at_most a b = grind arith

@@ -1,18 +1,17 @@
 -- A graph that gets one more edge, and a walk that begins.
-use Rattle.std.proofs.Common.{◌≡◌, ◌≢◌, ◌∙◌, ◌<◌, ◌≤◌, ◌+◌, ◌-◌, ◌*◌, ◌++◌, ◌∷◌, [], ℕ, List, length, map, get_or, set, take, replicate, sym, ap, ap₂, subst, refl, arith, inl, inr, ◌⊎◌, sum_by, All}
+use Rattle.std.proofs.Common.{◌≡◌, ◌∙◌, ◌<◌, ◌≤◌, ◌+◌, ◌-◌, ◌++◌, ◌∷◌, [], ℕ, List, length, get_or, set, replicate, sym, ap, subst, refl, arith, inl, inr, sum_by, All}
 use Rattle.std.proofs.lemmas.Bool.{cases_lt, cases_eq}
-use Rattle.std.proofs.lemmas.List.{length-map, map-append, length_push, get_or_push, get_or_append_left, get_or-set_same, get_or-set_other, get_or_default, get_or_past}
-use Rattle.std.proofs.lemmas.List.Elements.{All-get_or, All-from_get_or}
+use Rattle.std.proofs.lemmas.List.{length-map, map-append, length_push, get_or_push, get_or_append_left, get_or-set_same, get_or-set_other, get_or_past}
+use Rattle.std.proofs.lemmas.List.Elements.{All-get_or}
 use Rattle.std.proofs.lemmas.List.Folds.{sum_by-replicate}
 use Rattle.std.proofs.lemmas.Simd.{length-replicate, get_or-replicate}
 use Rattle.std.proofs.Math.ListN.{length-set}
 use Rattle.ly_sets.specs.NumberSet.{NumberSet}
-use Rattle.ly_digraph.specs.Digraph.{Digraph, source, target, IsInside, IsEndBefore}
+use Rattle.ly_digraph.specs.Digraph.{Digraph, source, IsInside, IsEndBefore}
 use Rattle.ly_digraph.specs.Graph.{ends_of, IsLinked}
 use Rattle.ly_digraph.specs.Walk.{place, IsWalk}
 use Rattle.ly_digraph.specs.Search.{undone_one}
 use Rattle.ly_digraph.specs.declared.graph.Edge.{Edge}
-use Rattle.ly_digraph.specs.declared.walk.Place.{Place}
 use Rattle.ly_digraph.specs.declared.walk.Place.TheVariants.{New, Open, Done}
 
 abbrev graph_of : List ℕ → List Edge → Digraph

@@ -1,13 +1,13 @@
 -- A walk that is over has found the least sets.
-use Rattle.std.proofs.Common.{◌≡◌, ◌≢◌, ◌∙◌, ◌<◌, ◌≤◌, ◌+◌, ◌-◌, ℕ, List, length, get_or, sym, ap, subst, refl, arith, All}
+use Rattle.std.proofs.Common.{◌≡◌, ◌≢◌, ◌∙◌, ◌<◌, ℕ, List, length, get_or, sym, ap, subst, refl, arith, All}
 use Rattle.std.proofs.lemmas.List.{get_or_default}
 use Rattle.std.proofs.lemmas.List.Elements.{All-get_or}
 use Rattle.ly_sets.specs.NumberSet.{NumberSet, Member}
 use Rattle.ly_sets.specs.SetMatrix.{row}
-use Rattle.ly_digraph.specs.Digraph.{Digraph, IsEdge, Reaches, source, target, IsInside}
+use Rattle.ly_digraph.specs.Digraph.{Digraph, Reaches, source, target, IsInside}
 use Rattle.ly_digraph.specs.Digraph.Reaches.{here, along}
-use Rattle.ly_digraph.specs.Least.{Holds, GrowsAlong, IsLeast, IsBetween}
-use Rattle.ly_digraph.specs.Walk.{place, Within, IsWalk}
+use Rattle.ly_digraph.specs.Least.{GrowsAlong, IsLeast, IsBetween}
+use Rattle.ly_digraph.specs.Walk.{place, IsWalk}
 use Rattle.ly_digraph.specs.declared.walk.Place.{Place}
 use Rattle.ly_digraph.specs.declared.walk.Place.TheVariants.{New, Open, Done}
 use Rattle.ly_digraph.specs.declared.walk.Frame.{Frame}

@@ -1,18 +1,18 @@
 -- The steps of the code are steps of the walk.
-use Rattle.std.proofs.Common.{◌≡◌, ◌≢◌, ◌∙◌, ◌<◌, ◌≤◌, ◌+◌, ◌-◌, ◌*◌, ◌++◌, ◌∷◌, [], ℕ, List, length, get_or, set, take, sym, ap, ap₂, subst, refl, arith, inl, inr, ◌⊎◌, min, sum_by, vec_len}
+use Rattle.std.proofs.Common.{◌≡◌, ◌≢◌, ◌∙◌, ◌<◌, ◌≤◌, ◌+◌, ◌-◌, ◌++◌, ◌∷◌, [], ℕ, List, length, get_or, set, take, sym, ap, ap₂, subst, refl, arith, inl, inr, ◌⊎◌, min, sum_by, vec_len}
 use Rattle.std.proofs.lemmas.List.{take_more, take_all, length_push, get_or_push, get_or_default, set-append_right}
 use Rattle.std.proofs.lemmas.Bool.{cases_lt, cases_eq}
-use Rattle.ly_sets.specs.NumberSet.{NumberSet, Member}
-use Rattle.ly_sets.specs.SetMatrix.{Matrix, row, with_row}
+use Rattle.ly_sets.specs.NumberSet.{NumberSet}
+use Rattle.ly_sets.specs.SetMatrix.{Matrix}
 use Rattle.ly_digraph.specs.Digraph.{Digraph, Reaches, source, target, IsEndBefore}
 use Rattle.ly_digraph.specs.Least.{IsBetween}
 use Rattle.ly_digraph.specs.Walk.{place, frame, begin, lowered, entered, Within, IsSeen, IsPart, IsNext, IsWalk}
-use Rattle.ly_digraph.specs.Search.{IsAt, IsAtFrame, top, IsWaiting, IsAdvanced, next_target, Continues, waiting_from, steps_left, unions_left, unseen_one, undone_one}
+use Rattle.ly_digraph.specs.Search.{IsAt, IsAtFrame, top, IsWaiting, IsAdvanced, IsTurned, IsLowered, IsEntered, next_target, Continues, waiting_from, steps_left, unseen_one, undone_one}
 use Rattle.ly_digraph.specs.declared.walk.Place.{Place}
 use Rattle.ly_digraph.specs.declared.walk.Place.TheVariants.{New, Open, Done}
 use Rattle.ly_digraph.specs.declared.walk.Frame.{Frame}
 use Rattle.ly_digraph.specs.declared.walk.Walk.{Walk}
-use Rattle.ly_digraph.proofs.WalkLemmas.{GrowsAt, grows_nowhere, path_last, path_below, path_link, frame-push_last, begin-past, next_edge, reaches_on, advance_walk, merge_walk, enter_walk, LinksTo, place-set_same, place-set_other}
+use Rattle.ly_digraph.proofs.WalkLemmas.{GrowsAt, grows_nowhere, path_last, path_below, path_link, frame-push_last, begin-past, next_edge, advance_walk, merge_walk, enter_walk, LinksTo, place-set_same, place-set_other}
 use Rattle.ly_digraph.proofs.UnionLemmas.{united, united_grows, united_joined, united_within, united_between, between_none}
 use Rattle.ly_digraph.proofs.CountLemmas.{waiting-advanced, sum_places-set}
 
@@ -153,16 +153,6 @@ pub lowered_is : (f h : Frame) (low low' : ℕ) → h ≡ f → low ≡ low' →
 lowered_is f h low low' same e = ap₂ (λ g n. lowered g n) same e
 
 -- ---- the same, for the calls that the code makes
-
--- after `lower`
-pub record IsLowered (w w' : Walk) (position : ℕ) : Type 0 where
-  pub path : (fs : List Frame) (f : Frame) → w.path.items ≡ fs ++ f ∷ [] → w'.path.items ≡ fs ++ lowered f (min f.low position) ∷ []
-  pub others : w' ≡ record w { path = w'.path }
-
--- after `advance`
-pub record IsTurned (g : Digraph) (w w' : Walk) : Type 0 where
-  pub cursors : IsAdvanced g (top w).node w.cursors.items w'.cursors.items
-  pub others : w' ≡ record w { cursors = w'.cursors }
 
 advanced_from : (g : Digraph) (w v w' : Walk) → (top v).node ≡ (top w).node → v.cursors ≡ w.cursors → IsAdvanced g (top v).node v.cursors.items w'.cursors.items → IsAdvanced g (top w).node w.cursors.items w'.cursors.items
 advanced_from g w v w' node cursors a =
@@ -313,12 +303,6 @@ module _ (g : Digraph) (m : Matrix) (w : Walk) (p : Frame) (at : IsAtFrame g m.s
         omega (arith, going_fewer going, same, waiting, unseen, v.path.ok.0, w.path.ok.0)
 
 -- ---- a node is entered
-
-pub record IsEntered (w w' : Walk) (x : ℕ) : Type 0 where
-  pub places : w'.places.items ≡ set w.places.items x (Open (vec_len w.pending))
-  pub pending : w'.pending.items ≡ w.pending.items ++ x ∷ []
-  pub path : w'.path.items ≡ w.path.items ++ entered x (vec_len w.pending) ∷ []
-  pub cursors : w'.cursors ≡ w.cursors
 
 module _ {g : Digraph} (m : Matrix) {w w' : Walk} (x : ℕ) (at : IsAt g m.sets w) (inside : x < g.nodes) (is_new : place w.places.items x ≡ New) (linked : LinksTo g w.cursors.items w.path.items x) (e : IsEntered w w' x) where
   entered_inside : x < length w.places.items

@@ -1,5 +1,5 @@
 -- What a union of two rows does to a matrix, and how steps follow one another.
-use Rattle.std.proofs.Common.{◌≡◌, ◌≢◌, ◌∙◌, ◌<◌, ◌≤◌, ◌+◌, ◌-◌, ◌^◌, ◌||◌, ℕ, Bool, true, false, List, length, get_or, set as set_at, slice_set, sym, ap, subst, refl, arith, inl, inr, ◌⊎◌, ⊎_elim, min, sum_by}
+use Rattle.std.proofs.Common.{◌≡◌, ◌≢◌, ◌∙◌, ◌<◌, ◌||◌, ℕ, Bool, true, false, List, length, sym, ap, subst, refl, arith, inl, inr, ◌⊎◌}
 use Rattle.std.specs.FinSet as set
 use Rattle.std.specs.FinSet.{contains-union}
 use Rattle.std.specs.Cmp.{nat_cmp_total}
@@ -10,11 +10,10 @@ use Rattle.ly_sets.specs.NumberSet.{NumberSet, Member}
 use Rattle.ly_sets.specs.SetMatrix.{Matrix, row, with_row}
 use Rattle.ly_digraph.specs.Digraph.{Digraph, Reaches}
 use Rattle.ly_digraph.specs.Digraph.Reaches.{here}
-use Rattle.ly_digraph.specs.Least.{Holds, IsBetween}
-use Rattle.ly_digraph.specs.Walk.{place, Within}
+use Rattle.ly_digraph.specs.Least.{IsBetween}
+use Rattle.ly_digraph.specs.Walk.{Within}
 use Rattle.ly_digraph.specs.Search.{Continues, IsAt}
 use Rattle.ly_digraph.specs.declared.walk.Walk.{Walk}
-use Rattle.ly_digraph.specs.declared.walk.Place.TheVariants.{New}
 use Rattle.ly_digraph.proofs.WalkLemmas.{GrowsAt, reaches_on}
 
 -- ---- members of a union

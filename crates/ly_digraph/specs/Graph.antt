@@ -1,6 +1,6 @@
 -- How a `Graph` keeps its edges.
-use Rattle.std.specs.Prelude.{◌≡◌, ◌<◌, ℕ, List, length, map, slice_index, slice_index_or}
-use Rattle.ly_digraph.specs.Digraph.{Digraph, source, target, IsEndBefore}
+use Rattle.std.specs.Prelude.{◌<◌, ℕ, List, length, map, slice_index, slice_index_or}
+use Rattle.ly_digraph.specs.Digraph.{source, target, IsEndBefore}
 use Rattle.ly_digraph.specs.declared.graph.Edge.{Edge}
 
 abbrev pub ends_of : List Edge → List (ℕ × ℕ)

@@ -1,11 +1,11 @@
 -- What one step of the walk does.
-use Rattle.std.specs.Prelude.{◌≡◌, ◌≢◌, ◌<◌, ◌≤◌, ◌+◌, ◌*◌, ℕ, List, [], ◌∷◌, ◌++◌, ◌-◌, length, slice_index, slice_set, if◌then◌else◌, nat_lt, nat_le, ◌&&◌, sum_by, vec_len}
+use Rattle.std.specs.Prelude.{◌≡◌, ◌≢◌, ◌<◌, ◌≤◌, ◌+◌, ◌*◌, ℕ, List, [], ◌∷◌, ◌++◌, ◌-◌, length, slice_index, slice_set, min, if◌then◌else◌, nat_lt, nat_le, ◌&&◌, sum_by, vec_len}
 use Rattle.std.specs.FinSet as set
 use Rattle.ly_sets.specs.NumberSet.{NumberSet}
 use Rattle.ly_sets.specs.SetMatrix.{Matrix, row}
 use Rattle.ly_digraph.specs.Digraph.{Digraph, source, target, IsEndBefore}
 use Rattle.ly_digraph.specs.Least.{IsBetween}
-use Rattle.ly_digraph.specs.Walk.{IsWalk, place, frame}
+use Rattle.ly_digraph.specs.Walk.{IsWalk, place, frame, entered, lowered}
 use Rattle.ly_digraph.specs.declared.walk.Place.{Place}
 use Rattle.ly_digraph.specs.declared.walk.Place.TheVariants.{New, Open, Done}
 use Rattle.ly_digraph.specs.declared.walk.Frame.{Frame}
@@ -39,6 +39,23 @@ pub record IsAdvanced (g : Digraph) (x : ℕ) (cursors cursors' : List ℕ) : Ty
   pub to : ℕ
   pub changed : cursors' ≡ slice_set cursors x to
   pub next : IsEndBefore g (source g (slice_index cursors x - 1)) (slice_index cursors x - 1) to
+
+-- the walk after `advance`: the last frame's node went on to its next edge
+pub record IsTurned (g : Digraph) (w w' : Walk) : Type 0 where
+  pub cursors : IsAdvanced g (top w).node w.cursors.items w'.cursors.items
+  pub others : w' ≡ record w { cursors = w'.cursors }
+
+-- the walk after `lower`: the last frame is known to reach a position
+pub record IsLowered (w w' : Walk) (position : ℕ) : Type 0 where
+  pub path : (fs : List Frame) (f : Frame) → w.path.items ≡ fs ++ f ∷ [] → w'.path.items ≡ fs ++ lowered f (min f.low position) ∷ []
+  pub others : w' ≡ record w { path = w'.path }
+
+-- the walk after `enter`
+pub record IsEntered (w w' : Walk) (x : ℕ) : Type 0 where
+  pub places : w'.places.items ≡ slice_set w.places.items x (Open (vec_len w.pending))
+  pub pending : w'.pending.items ≡ w.pending.items ++ x ∷ []
+  pub path : w'.path.items ≡ w.path.items ++ entered x (vec_len w.pending) ∷ []
+  pub cursors : w'.cursors ≡ w.cursors
 
 -- how many of the edges, from number e on, are still to be looked at
 abbrev pub waiting_from : ℕ → List (ℕ × ℕ) → List ℕ → ℕ

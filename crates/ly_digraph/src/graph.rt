@@ -69,7 +69,8 @@ impl Graph {
     /// Adds the edge `from -> to` behind the others. After the fault the graph is as it was.
     pub fn add(&mut self, from: usize, to: usize) -> Result<(), OutOfMemory>
         requires { IsInside self.old.nodes (from, to) }
-        ensures ok { OnOk result (self.new ≡ record self.old { edges = self.old.edges ++ (from, to) ∷ [] }) }
+        ensures ok { OnOk result (self.new ≡
+            record self.old { edges = self.old.edges ++ (from, to) ∷ [] }) }
         ensures err { OnErr result (self.new ≡ self.old) }
     {
         self.edges.push(Edge {

@@ -1,13 +1,14 @@
 //! The least solution in one depth-first pass: `digraph` of DeRemer and Pennello, "Efficient
-//! Computation of LALR(1) Look-Ahead Sets", TOPLAS 1982, over the components of Tarjan, "Depth-first
-//! search and linear graph algorithms", SIAM J. Comput. 1972.
+//! Computation of LALR(1) Look-Ahead Sets", TOPLAS 1982, over the components of Tarjan,
+//! "Depth-first search and linear graph algorithms", SIAM J. Comput. 1972.
 //!
 //! One pass is enough. Nodes that reach one another have one set, so a component is solved at once.
-//! The walk closes a component only when all that it leads to is closed, so what comes in from there
-//! is final. Inside it each node hands its row to the node from which it was entered, when it is
-//! left. So the root, which is left last, holds all that any member was given or took in; then the
-//! members get the root's row. That is one union at most for each edge and one for each node.
-//! A graph's edges may repeat. What the paper does by recursion is done with a stack of frames.
+//! The walk closes a component only when all that it leads to is closed, so what comes in from
+//! there is final. Inside it each node hands its row to the node from which it was entered, when it
+//! is left. So the root, which is left last, holds all that any member was given or took in; then
+//! the members get the root's row. That is one union at most for each edge and one for each node.
+//! Left out: the paper's recursion, for which there is a stack of frames, and its graphs of
+//! transitions. The nodes here are numbers.
 ghost use Rattle.std.specs.Prelude.{◌≡◌, ◌≤◌, ◌+◌, length, OnOk};
 ghost use Rattle.ly_digraph.specs.Least.{IsLeast};
 
@@ -26,7 +27,8 @@ use std::alloc::Global;
 pub fn least(alloc: Global, graph: &Graph, sets: &mut SetMatrix) -> Result<(), OutOfMemory>
     requires { graph.now.nodes ≤ length sets.old.sets }
     ensures least { OnOk result (IsLeast graph.now sets.old.sets sets.new.sets) }
-    ensures changes { OnOk result (sets.new.changes ≤ sets.old.changes + (length graph.now.edges + graph.now.nodes)) }
+    ensures changes { OnOk result (sets.new.changes ≤
+        sets.old.changes + (length graph.now.edges + graph.now.nodes)) }
     ensures rows { OnOk result (length sets.new.sets ≡ length sets.old.sets) }
     ensures width { OnOk result (sets.new.width ≡ sets.old.width) }
 {

@@ -1,9 +1,9 @@
 //! A depth-first walk that closes components, with a stack of its own in place of recursion.
 //!
 //! The nodes that were seen and aren't done stand in a row, the pending ones, in the order in which
-//! they were entered. The frames of the path cut it into parts: a part begins at its frame's node and
-//! holds what was entered from there and left, but couldn't be closed. `low` is a position that a
-//! part is known to reach (Tarjan's low link, kept a frame and not a node). A part whose low
+//! they were entered. The frames of the path cut it into parts: a part begins at its frame's node
+//! and holds what was entered from there and left, but couldn't be closed. `low` is a position that
+//! a part is known to reach (Tarjan's low link, kept a frame and not a node). A part whose low
 //! position is its own start is a component.
 ghost use Rattle.std.specs.Prelude.{◌≡◌, ◌≢◌, ◌<◌, ◌≤◌, ◌+◌, ◌-◌, ◌↔◌, ℕ, List, [], ◌∷◌, ◌++◌, length, min, take, vec_len, slice_set, slice_index, IsTrue, false, true, IfOk, OnOk, OnErr};
 
@@ -26,6 +26,7 @@ pub enum Place {
 /// A node on the way from the root of the walk to where it is.
 #[derive(Clone, Copy)]
 pub struct Frame {
+    /// The node.
     pub node: usize,
     /// The position of the node among the pending ones: its part begins there.
     pub start: usize,
@@ -50,14 +51,16 @@ impl Walk {
     ghost use Rattle.ly_sets.specs.SetMatrix.{Matrix};
     ghost use Rattle.ly_digraph.specs.Digraph.{Digraph, source, target, IsEndBefore};
     ghost use Rattle.ly_digraph.specs.Walk.{IsWalk, place, frame, entered, lowered};
-    ghost use Rattle.ly_digraph.specs.Search.{IsAt, IsAtFrame, IsListed, IsClosed, IsWaiting, IsAdvanced, Continues, top, next_target, steps_left, unions_left};
+    ghost use Rattle.ly_digraph.specs.Search.{IsAt, IsAtFrame, IsListed, IsClosed, IsWaiting, IsTurned, IsLowered, IsEntered, Continues, top, next_target, steps_left, unions_left};
     ghost use Rattle.ly_digraph.specs.declared.walk.Frame.{Frame};
     ghost use Rattle.ly_digraph.specs.declared.walk.Place.TheVariants.{New, Open, Done};
 
     /// A walk that has seen nothing.
     pub fn new(alloc: Global, graph: &Graph) -> Result<Walk, OutOfMemory>
-        ensures at { IfOk result (λ w. (sets : List NumberSet) → graph.now.nodes ≤ length sets → IsAt graph.now sets w) }
-        ensures left { IfOk result (λ w. unions_left graph.now w ≤ length graph.now.edges + graph.now.nodes) }
+        ensures at { IfOk result (λ w. (sets : List NumberSet) → graph.now.nodes ≤ length sets →
+            IsAt graph.now sets w) }
+        ensures left { IfOk result (λ w. unions_left graph.now w ≤
+            length graph.now.edges + graph.now.nodes) }
         ensures over { IfOk result (λ w. vec_len w.path ≡ 0) }
     {
         let nodes = graph.nodes();
@@ -106,10 +109,7 @@ impl Walk {
     /// Goes on to a node that wasn't seen.
     fn enter(&mut self, node: usize) -> Result<(), OutOfMemory>
         requires { node < vec_len self.old.places }
-        ensures places { OnOk result (self.new.places.items ≡ slice_set self.old.places.items node (Open (vec_len self.old.pending))) }
-        ensures pending { OnOk result (self.new.pending.items ≡ self.old.pending.items ++ node ∷ []) }
-        ensures path { OnOk result (self.new.path.items ≡ self.old.path.items ++ entered node (vec_len self.old.pending) ∷ []) }
-        ensures cursors { self.new.cursors ≡ self.old.cursors }
+        ensures { OnOk result (IsEntered self.old self.new node) }
     {
         let start = self.pending.len();
         self.places[node] = Place::Open(start);
@@ -126,7 +126,8 @@ impl Walk {
     fn step(&mut self, graph: &Graph, sets: &mut SetMatrix) -> Result<bool, OutOfMemory>
         requires { IsAt graph.now sets.old.sets self.old }
         ensures on { OnOk result (Continues graph.now sets.old self.old sets.new self.new) }
-        ensures fewer { result ≡ Ok true → steps_left graph.now self.new < steps_left graph.now self.old }
+        ensures fewer { result ≡ Ok true →
+            steps_left graph.now self.new < steps_left graph.now self.old }
         ensures over { result ≡ Ok false → vec_len self.new.path ≡ 0 }
     {
         if self.path.is_empty() {
@@ -150,9 +151,12 @@ impl Walk {
     /// Looks at an edge to a pending node: the last part reaches its position.
     fn meet(&mut self, graph: &Graph, position: usize)
         requires waits { IsWaiting graph.now self.old }
-        requires pends { place self.old.places.items (next_target graph.now self.old) ≡ Open position }
-        ensures on { (m : Matrix) → IsAt graph.now m.sets self.old → Continues graph.now m self.old m self.new }
-        ensures fewer { (m : Matrix) → IsAt graph.now m.sets self.old → steps_left graph.now self.new < steps_left graph.now self.old }
+        requires pends { place self.old.places.items (next_target graph.now self.old) ≡
+            Open position }
+        ensures on { (m : Matrix) → IsAt graph.now m.sets self.old →
+            Continues graph.now m self.old m self.new }
+        ensures fewer { (m : Matrix) → IsAt graph.now m.sets self.old →
+            steps_left graph.now self.new < steps_left graph.now self.old }
     {
         self.lower(position);
         self.advance(graph);
@@ -193,8 +197,10 @@ impl Walk {
     fn close(&mut self, root: Frame, sets: &mut SetMatrix)
         requires listed { IsListed self.old.places.items self.old.pending.items }
         requires rows { length self.old.places.items ≤ length sets.old.sets }
-        requires root { (root.start < length self.old.pending.items) × (slice_index self.old.pending.items root.start ≡ root.node) }
-        ensures closed { IsClosed sets.old sets.new self.old.places.items self.new.places.items root.start (vec_len self.old.pending) root.node }
+        requires root { (root.start < length self.old.pending.items) ×
+            (slice_index self.old.pending.items root.start ≡ root.node) }
+        ensures closed { IsClosed sets.old sets.new self.old.places.items self.new.places.items
+            root.start (vec_len self.old.pending) root.node }
         ensures pending { self.new.pending.items ≡ take root.start self.old.pending.items }
         ensures cursors { self.new.cursors ≡ self.old.cursors }
         ensures path { self.new.path ≡ self.old.path }
@@ -225,8 +231,7 @@ impl Walk {
     /// Notes that the last part reaches a position.
     fn lower(&mut self, position: usize)
         requires { 0 < vec_len self.old.path }
-        ensures path { (fs : List Frame) (f : Frame) → self.old.path.items ≡ fs ++ f ∷ [] → self.new.path.items ≡ fs ++ lowered f (min f.low position) ∷ [] }
-        ensures others { self.new ≡ record self.old { path = self.new.path } }
+        ensures { IsLowered self.old self.new position }
     {
         let last = self.path.len() - 1;
         let frame = &mut self.path[last];
@@ -236,8 +241,7 @@ impl Walk {
     /// Goes on to the next edge of the last frame's node.
     fn advance(&mut self, graph: &Graph)
         requires { IsWaiting graph.now self.old }
-        ensures cursors { IsAdvanced graph.now (top self.old).node self.old.cursors.items self.new.cursors.items }
-        ensures others { self.new ≡ record self.old { cursors = self.new.cursors } }
+        ensures { IsTurned graph.now self.old self.new }
     {
         let node = self.path[self.path.len() - 1].node;
         self.cursors[node] = graph.end_before(self.cursors[node] - 1);

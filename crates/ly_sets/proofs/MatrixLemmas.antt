@@ -1,5 +1,5 @@
 -- The rows of a matrix within its words.
-use Rattle.std.proofs.Common.{◌≡◌, ◌≢◌, ◌∙◌, ◌<◌, ◌≤◌, ◌+◌, ◌-◌, ◌*◌, ◌/◌, ◌%◌, ◌==◌, ◌||◌, ◌++◌, ℕ, zero, suc, Bool, true, false, List, [], ◌∷◌, length, get_or, set, take, drop, sym, ap, subst, refl, arith, inl, inr, ◌⊎◌, ⊎_elim, length-append, length-take, nat_eq, replicate, min, ◌^◌}
+use Rattle.std.proofs.Common.{◌≡◌, ◌≢◌, ◌∙◌, ◌<◌, ◌≤◌, ◌+◌, ◌-◌, ◌*◌, ◌/◌, ◌%◌, ◌==◌, ◌||◌, ◌++◌, ℕ, zero, suc, Bool, true, false, List, length, get_or, set, take, drop, sym, ap, subst, refl, arith, inl, inr, ◌⊎◌, replicate, min, ◌^◌}
 use Rattle.std.specs.FinSet as set
 use Rattle.std.specs.FinSet.{contains-empty}
 use Rattle.std.specs.Ordering.{nat_cmp}
@@ -10,8 +10,7 @@ use Rattle.std.proofs.lemmas.Bool.{cases_lt, cases_eq}
 use Rattle.std.proofs.lemmas.List.{drop-drop, same_lists, get_or_default, get_or-set_same, get_or-set_other, get_or_past, take-append-le, take_all, drop-replicate, take-replicate}
 use Rattle.std.proofs.lemmas.Nat.Bits.{bit_at-zero}
 use Rattle.std.proofs.lemmas.Simd.{length-replicate, get_or-replicate}
-use lib.Lanes.{chunk}
-use Rattle.ly_sets.specs.NumberSet.{NumberSet, Member, AllBelow, set_of, row_set}
+use Rattle.ly_sets.specs.NumberSet.{NumberSet, AllBelow, set_of, row_set}
 use Rattle.ly_sets.specs.SetMatrix.{Matrix, row, with_row, sets_of, IsLaidOut}
 use Rattle.ly_sets.proofs.NumberSetLemmas.{contains-insert_nat, contains-union_nat, same_members, contains-set_of}
 use Rattle.ly_sets.proofs.RowLemmas.{row_set_same}

@@ -1,5 +1,5 @@
 -- A row of words as a set of numbers: its members, and how many they are.
-use Rattle.std.proofs.Common.{◌≡◌, ◌≢◌, ◌∙◌, ◌<◌, ◌≤◌, ◌+◌, ◌-◌, ◌*◌, ◌/◌, ◌%◌, ◌^◌, ◌==◌, ◌||◌, ◌&&◌, ℕ, zero, suc, Bool, true, false, List, length, get_or, sym, ap, ap₂, subst, refl, arith, inl, inr, ◌⊎◌, nat_lt, nat_eq, cond, if◌then◌else◌}
+use Rattle.std.proofs.Common.{◌≡◌, ◌∙◌, ◌<◌, ◌≤◌, ◌+◌, ◌*◌, ◌/◌, ◌%◌, ◌^◌, ◌==◌, ◌||◌, ◌&&◌, ℕ, zero, suc, Bool, true, false, List, length, get_or, sym, ap, ap₂, refl, arith, inl, inr, nat_lt, nat_eq, cond, if◌then◌else◌}
 use Rattle.std.specs.Int.RustNames.{count_ones}
 use Rattle.std.specs.Ordering.{nat_cmp}
 use Rattle.std.specs.Cmp.{nat_cmp_total, unsigned_tied}
@@ -11,7 +11,7 @@ use Rattle.std.proofs.lemmas.List.{get_or_past}
 use Rattle.std.proofs.Math.Nat.{mod-eq_of_lt}
 use Rattle.std.proofs.lemmas.Nat.{mod-pow-add, pow_pos, ones_cat}
 use Rattle.std.proofs.lemmas.Nat.Bits.{bit_at-lt, bit_at-zero}
-use Rattle.ly_sets.specs.NumberSet.{NumberSet, Member, AllBelow, has_bit, passing_below, set_of}
+use Rattle.ly_sets.specs.NumberSet.{NumberSet, has_bit, passing_below, set_of}
 
 -- two sets with the same members are one
 pub same_members : (s t : NumberSet) → ((q : ℕ) → set.contains s q ≡ set.contains t q) → s ≡ t

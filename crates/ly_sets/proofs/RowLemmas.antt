@@ -1,14 +1,13 @@
 -- Rows of words within a longer list of words.
-use Rattle.std.proofs.Common.{◌≡◌, ◌≢◌, ◌∙◌, ◌<◌, ◌≤◌, ◌+◌, ◌-◌, ◌*◌, ◌/◌, ◌%◌, ◌^◌, ◌==◌, ◌||◌, ◌&&◌, ℕ, zero, suc, Bool, true, false, List, [], ◌∷◌, length, get_or, set, take, drop, sym, ap, ap₂, subst, refl, arith, inl, inr, ◌⊎◌, ⊎_elim, nat_lt, nat_eq, max, bit_or, cond, if◌then◌else◌, length-take}
+use Rattle.std.proofs.Common.{◌≡◌, ◌≢◌, ◌∙◌, ◌<◌, ◌≤◌, ◌+◌, ◌*◌, ◌/◌, ◌%◌, ◌^◌, ◌==◌, ◌||◌, ℕ, Bool, false, List, length, get_or, set, drop, sym, ap, ap₂, arith, inl, inr, nat_eq, max, bit_or, length-take}
 use Rattle.std.specs.FinSet as set
 use Rattle.std.specs.Int.{bit_at, w64}
 use Rattle.std.proofs.lemmas.Bool.{cases_lt, cases_eq}
-use Rattle.std.proofs.lemmas.List.{get_or_past, get_or_default, get_or-set_same, get_or-set_other, same_lists}
-use Rattle.std.proofs.lemmas.Nat.{div-mul-add, mod-mul-add}
+use Rattle.std.proofs.lemmas.List.{get_or-set_same, get_or-set_other}
 use Rattle.std.proofs.lemmas.Nat.Bits.{bit_at-lt, bit_at_or, bit_at_set_same, bit_at_set_other, same_from_bits_below}
 use Rattle.std.proofs.lemmas.Simd.{get_or-chunk}
 use lib.Lanes.{chunk}
-use Rattle.ly_sets.specs.NumberSet.{NumberSet, Member, AllBelow, has_bit, passing_below, set_of, row_set}
+use Rattle.ly_sets.specs.NumberSet.{NumberSet, row_set}
 use Rattle.ly_sets.proofs.NumberSetLemmas.{same_members, contains-insert_nat, contains-union_nat, contains-set_of, has_bit-past}
 
 -- whether a number is in a row

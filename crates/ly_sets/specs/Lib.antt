@@ -1,3 +1,4 @@
 pub mod NumberSet
 pub mod TermSet
 pub mod SetMatrix
+pub mod Union

@@ -2,10 +2,11 @@
 //!
 //! A row is whole blocks of four words, so a union has no tail: the words past the width are words
 //! like the others, in which no bit is ever set.
-ghost use Rattle.std.specs.Prelude.{◌≡◌, ◌+◌, ◌*◌, ◌-◌, ◌/◌, ◌<◌, ◌≤◌, ◌↔◌, ◌⊎◌, ℕ, length, true, false, slice_index, bit_or};
+ghost use Rattle.std.specs.Prelude.{◌≡◌, ◌+◌, ◌*◌, ◌-◌, ◌/◌, ◌<◌, ◌≤◌, ◌↔◌, ◌⊎◌, ℕ, length, true, false, slice_index};
 ghost use Rattle.std.specs.FinSet as set;
 ghost use Rattle.ly_sets.specs.NumberSet.{row_set, AllBelow};
-ghost use lib.Lanes.{chunk, put_chunk, zip2};
+ghost use Rattle.ly_sets.specs.Union.{IsUnited, united_block};
+ghost use lib.Lanes.{chunk, put_chunk};
 
 use std::simd::u64x4;
 
@@ -73,10 +74,7 @@ fn union_words(words: &mut [u64], to: usize, from: usize, len: usize) -> bool
     requires from_inside { from + len ≤ length words.old }
     requires apart { (to + len ≤ from) ⊎ ((from + len ≤ to) ⊎ (to ≡ from)) }
     requires blocks { (len / 4) * 4 ≡ len }
-    ensures united { (k : ℕ) → k < len → slice_index words.new (to + k) ≡ bit_or (slice_index words.old (to + k)) (slice_index words.old (from + k)) }
-    ensures others { (k : ℕ) → (k < to) ⊎ (to + len ≤ k) → slice_index words.new k ≡ slice_index words.old k }
-    ensures stayed { result ≡ false → (k : ℕ) → slice_index words.new k ≡ slice_index words.old k }
-    ensures grew { result ≡ true → ((k : ℕ) → k < to + len → slice_index words.new k ≡ slice_index words.old k) → ⊥ }
+    ensures { IsUnited words.old words.new to from len result }
 {
     let mut grew = false;
     for block in 0..len / LANES {
@@ -92,10 +90,7 @@ fn union_words(words: &mut [u64], to: usize, from: usize, len: usize) -> bool
 fn union_block(words: &mut [u64], to: usize, from: usize) -> bool
     requires to_inside { to + 4 ≤ length words.old }
     requires from_inside { from + 4 ≤ length words.old }
-    ensures united { (k : ℕ) → k < 4 → slice_index words.new (to + k) ≡ bit_or (slice_index words.old (to + k)) (slice_index words.old (from + k)) }
-    ensures others { (k : ℕ) → (k < to) ⊎ (to + 4 ≤ k) → slice_index words.new k ≡ slice_index words.old k }
-    ensures stayed { result ≡ false → (k : ℕ) → slice_index words.new k ≡ slice_index words.old k }
-    ensures grew { result ≡ true → ((k : ℕ) → k < to + 4 → slice_index words.new k ≡ slice_index words.old k) → ⊥ }
+    ensures { IsUnited words.old words.new to from 4 result }
 {
     union_lanes(words, to, from)
 }
@@ -104,9 +99,9 @@ fn union_block(words: &mut [u64], to: usize, from: usize) -> bool
 fn union_lanes(words: &mut [u64], to: usize, from: usize) -> bool
     requires to_inside { to + 4 ≤ length words.old }
     requires from_inside { from + 4 ≤ length words.old }
-    ensures united { words.new ≡ put_chunk to words.old (zip2 bit_or (chunk to 4 words.old) (chunk from 4 words.old)) }
-    ensures grew { result ≡ true → zip2 bit_or (chunk to 4 words.old) (chunk from 4 words.old) ≡ chunk to 4 words.old → ⊥ }
-    ensures stayed { result ≡ false → zip2 bit_or (chunk to 4 words.old) (chunk from 4 words.old) ≡ chunk to 4 words.old }
+    ensures united { words.new ≡ put_chunk to words.old (united_block words.old to from) }
+    ensures grew { result ≡ true → united_block words.old to from ≡ chunk to 4 words.old → ⊥ }
+    ensures stayed { result ≡ false → united_block words.old to from ≡ chunk to 4 words.old }
 {
     let old = u64x4::from_slice(&words[to..]);
     let new = old | u64x4::from_slice(&words[from..]);

@@ -80,12 +80,8 @@ impl SetMatrix {
         ensures { self.new ≡ with_row self.old i (set.insert (row self.old.sets i) symbol.0) }
     {
         self.changes = self.changes.saturating_add(1);
-        insert_bit(
-            &mut self.words,
-            i * self.stride,
-            self.stride,
-            symbol.0 as usize,
-        );
+        let start = i * self.stride;
+        insert_bit(&mut self.words, start, self.stride, symbol.0 as usize);
     }
 
     /// Whether a symbol is in row `i`.
@@ -113,11 +109,8 @@ impl SetMatrix {
         ensures grew { (result ≡ false) ↔ (row self.new.sets i ≡ row self.old.sets i) }
     {
         self.changes = self.changes.saturating_add(1);
-        union_rows(
-            &mut self.words,
-            i * self.stride,
-            j * self.stride,
-            self.stride,
-        )
+        let to = i * self.stride;
+        let from = j * self.stride;
+        union_rows(&mut self.words, to, from, self.stride)
     }
 }

@@ -1,4 +1,4 @@
-use Rattle.std.proofs.Common.{◌≡◌, ◌≢◌, ◌∙◌, ◌<◌, ◌≤◌, ◌+◌, ℕ, ap, sym, subst, arith, length, All, inl, inr}
+use Rattle.std.proofs.Common.{◌≡◌, ◌≢◌, subst, arith, length, All, inl, inr}
 use Rattle.std.proofs.lemmas.Bool.{cases_lt}
 use Rattle.ly_digraph.specs.Digraph.{IsInside}
 use Rattle.ly_digraph.specs.Walk.{place}

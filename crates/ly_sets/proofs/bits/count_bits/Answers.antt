@@ -1,10 +1,10 @@
-use Rattle.std.proofs.Common.{◌≡◌, ◌∙◌, ◌<◌, ◌≤◌, ◌+◌, ◌-◌, ◌*◌, ◌^◌, ℕ, List, length, get_or, take, drop, sym, ap, subst, arith, true, Fits, w64}
+use Rattle.std.proofs.Common.{◌≡◌, ◌∙◌, ◌<◌, ◌≤◌, ◌+◌, ◌-◌, ◌*◌, ◌^◌, ℕ, List, length, get_or, take, drop, sym, ap, subst, arith, Fits, w64}
 use Rattle.std.specs.FinSet as set
 use Rattle.std.specs.Int.RustNames.{count_ones}
 use Rattle.std.proofs.lemmas.Simd.{get_or-chunk}
 use Rattle.std.proofs.lemmas.List.{length-take}
 use lib.Lanes.{chunk}
-use Rattle.ly_sets.specs.NumberSet.{Member, AllBelow, row_set, passing_below, has_bit, set_of}
+use Rattle.ly_sets.specs.NumberSet.{AllBelow, passing_below, has_bit, set_of}
 use Rattle.ly_sets.proofs.NumberSetLemmas.{contains-set_of, len-passing_below-le, len-passing_below-zero, len-word, len-set_of}
 use Rattle.ly_sets.proofs.bits.count_bits.Goals as goal
 

@@ -1,4 +1,4 @@
-use Rattle.std.proofs.Common.{◌≡◌, ◌+◌, ◌≤◌, ◌<◌, ◌^◌, ◌-◌, ◌⊎◌, ℕ, Bool, true, false, subst, sym, ap, arith, ◌∙◌, refl, inl, inr, get_or}
+use Rattle.std.proofs.Common.{◌≡◌, ◌+◌, ◌≤◌, ◌<◌, ◌^◌, ◌-◌, ◌⊎◌, ℕ, Bool, true, false, subst, arith, refl, inl, inr, get_or}
 use Rattle.std.proofs.lemmas.Nat.{le_or_l}
 use Rattle.std.proofs.lemmas.Bool.{cases_lt}
 use Rattle.ly_sets.proofs.RowLemmas.{row_set-union, row_set_same, row_words_same}

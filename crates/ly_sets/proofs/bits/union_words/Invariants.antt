@@ -1,5 +1,5 @@
 use Rattle.std.proofs.Common.{◌*◌}
-use Rattle.ly_sets.proofs.LaneLemmas.{IsUnited}
+use Rattle.ly_sets.specs.Union.{IsUnited}
 use Rattle.ly_sets.proofs.bits.union_words.Given as goal
 
 -- the blocks before this one are united, the other words are as they were

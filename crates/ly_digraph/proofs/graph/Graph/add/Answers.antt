@@ -1,4 +1,4 @@
-use Rattle.std.proofs.Common.{◌≡◌, ◌∙◌, ◌+◌, ◌<◌, ◌++◌, ◌∷◌, [], ℕ, ap, ap₂, sym, subst, arith, length, set, get_or}
+use Rattle.std.proofs.Common.{◌≡◌, ◌∙◌, ◌+◌, ◌<◌, ◌++◌, ◌∷◌, [], ap, sym, subst, arith, length, set, get_or}
 use Rattle.std.proofs.lemmas.List.{length_push}
 use Rattle.ly_digraph.specs.Graph.{IsLinked}
 use Rattle.ly_digraph.specs.declared.graph.Edge.{Edge}

@@ -1,4 +1,4 @@
-use Rattle.std.proofs.Common.{◌≡◌, ◌∙◌, ◌++◌, ◌∷◌, [], ap, sym, subst, arith, length, take, get_or}
+use Rattle.std.proofs.Common.{◌∙◌, ◌++◌, ◌∷◌, [], ap, sym, subst, get_or}
 use Rattle.std.proofs.lemmas.List.{take_more, take_all}
 use Rattle.ly_digraph.specs.Digraph.{IsInside}
 use Rattle.ly_digraph.proofs.graph.Graph.from_edges.Goals as goal

@@ -1,6 +1,5 @@
-use Rattle.std.proofs.Common.{◌≡◌, ◌∙◌, ◌≤◌, ◌+◌, ap, ap₂, sym, subst, arith, refl}
-use Rattle.ly_sets.specs.SetMatrix.{Matrix}
-use Rattle.ly_digraph.specs.Search.{IsAt, Continues, top, next_target, steps_left}
+use Rattle.std.proofs.Common.{◌≡◌, ◌∙◌, ap, ap₂, sym, subst, arith, refl}
+use Rattle.ly_digraph.specs.Search.{Continues, top, next_target}
 use Rattle.ly_digraph.specs.Walk.{place}
 use Rattle.ly_digraph.specs.declared.walk.Place.TheVariants.{Done}
 use Rattle.ly_digraph.proofs.StepLemmas.{IsGoingOn, absorbs_by, going_on, going_fewer, next_reached, top_row, top_read}
@@ -11,7 +10,7 @@ is_done : (c : goal.After-advance) → place c.args.self.now.places.items (next_
 is_done c = ap (place c.args.self.now.places.items) (sym c.requires.next) ∙ c.requires.done
 
 goes_on : (c : goal.After-advance) → IsGoingOn c.args.graph.now c.args.sets.now (united c.args.sets.now (top c.args.self.now).node (next_target c.args.graph.now c.args.self.now)) c.args.self.now c.advance.new.self
-goes_on c = absorbs_by c.args.graph.now c.args.sets.now c.args.self.now c.advance.new.self c.requires.at c.requires.waits (is_done c) (record { cursors = c.advance.ensures.cursors; others = c.advance.ensures.others })
+goes_on c = absorbs_by c.args.graph.now c.args.sets.now c.args.self.now c.advance.new.self c.requires.at c.requires.waits (is_done c) c.advance.ensures
 
 new_sets : (c : goal.After-advance) → c.union_row.new.self ≡ united c.args.sets.now (top c.args.self.now).node (next_target c.args.graph.now c.args.self.now)
 new_sets c =

@@ -1,10 +1,7 @@
-use Rattle.std.proofs.Common.{◌≡◌, ◌∙◌, ◌<◌, ◌≤◌, ◌+◌, ◌-◌, ℕ, length, get_or, set, take, sym, ap, subst, refl, arith, vec_len}
-use Rattle.std.proofs.lemmas.List.{get_or_default}
-use Rattle.ly_sets.specs.SetMatrix.{Matrix}
+use Rattle.std.proofs.Common.{◌≡◌, ◌∙◌, ◌<◌, ◌+◌, length, get_or, set, take, sym, ap, subst, refl, arith, vec_len}
 use Rattle.ly_digraph.specs.Search.{IsClosed}
 use Rattle.ly_digraph.specs.declared.walk.Place.TheVariants.{Done}
 use Rattle.ly_digraph.proofs.CloseLemmas.{close_first, close_more, pending_read}
-use Rattle.ly_digraph.proofs.UnionLemmas.{united}
 use Rattle.ly_digraph.proofs.walk.Walk.close.Goals as goal
 
 pub loop-position-init : goal.loop-position-init

@@ -1,4 +1,4 @@
-use Rattle.std.proofs.Common.{◌≡◌, length}
+use Rattle.std.proofs.Common.{◌≡◌}
 use Rattle.ly_digraph.specs.Search.{IsClosed}
 use Rattle.ly_digraph.proofs.walk.Walk.close.Given as goal
 

@@ -1,5 +1,5 @@
-use Rattle.std.proofs.Common.{◌≡◌, ◌∙◌, ◌++◌, ◌∷◌, [], ap, sym, subst, refl, length, vec_len, get_or}
-use Rattle.ly_digraph.specs.Search.{IsAt, IsAtFrame, IsClosed, Continues, top}
+use Rattle.std.proofs.Common.{◌≡◌, ◌∙◌, ◌++◌, ◌∷◌, [], ap, sym, subst, refl, length, get_or}
+use Rattle.ly_digraph.specs.Search.{IsAtFrame, IsClosed}
 use Rattle.ly_digraph.specs.declared.walk.Walk.{Walk}
 use Rattle.ly_digraph.proofs.StepLemmas.{top_is}
 use Rattle.ly_digraph.proofs.CloseLemmas.{closed_on, at_popped, continues_popped}

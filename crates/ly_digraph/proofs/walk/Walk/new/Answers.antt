@@ -1,7 +1,7 @@
-use Rattle.std.proofs.Common.{◌≡◌, ◌∙◌, ◌+◌, ◌≤◌, ap, sym, subst, arith, length, replicate, sum_by, All, []}
+use Rattle.std.proofs.Common.{◌≡◌, ◌∙◌, ◌+◌, ap, sym, subst, arith, replicate, sum_by, All, []}
 use Rattle.ly_digraph.specs.Walk.{IsWalk}
 use Rattle.ly_digraph.specs.Digraph.{IsInside}
-use Rattle.ly_digraph.specs.Search.{undone_one, waiting_from}
+use Rattle.ly_digraph.specs.Search.{undone_one}
 use Rattle.ly_digraph.specs.declared.walk.Place.TheVariants.{New}
 use Rattle.ly_digraph.proofs.GraphLemmas.{AreEnds, ends_none, ends_more, begins, all_undone}
 use Rattle.ly_digraph.proofs.CountLemmas.{waiting_from-le}

@@ -1,4 +1,4 @@
-use Rattle.std.proofs.Common.{◌≡◌, ◌∙◌, ◌<◌, ◌-◌, ap, sym, subst, refl, arith, length, get_or}
+use Rattle.std.proofs.Common.{◌≡◌, ◌∙◌, ◌<◌, ◌-◌, ap, sym, arith, length, get_or}
 use Rattle.ly_digraph.specs.Digraph.{target}
 use Rattle.ly_digraph.specs.Search.{top, next_target}
 use Rattle.ly_digraph.specs.Walk.{place}
@@ -25,4 +25,4 @@ returns-in_ok-enter-in-New-clause-on c =
     read_is w.places.items c.target-target.result c.index.result.now New (let l = c.requires.marked.places_len in let i = c.target-target.ensures.inside in omega arith) c.index.ensures ∙ c.in-New.is in
     enters_on c.args.sets.now c.target-target.result c.requires c.target-target.ensures.inside is_new
     (links_next c.args.graph.now w c.target-target.result (let e = c.if-cursor-eq0.false in omega arith) target_is)
-    (let e = c.in_ok-enter-in-New.ensures in record { places = e.places; pending = e.pending; path = e.path; cursors = e.cursors })
+    c.in_ok-enter-in-New.ensures

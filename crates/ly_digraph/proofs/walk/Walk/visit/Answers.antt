@@ -7,16 +7,14 @@ returns-then-is_seen-clause-on c = continues_none c.requires.at
 
 pub loop-init : goal.loop-init
 loop-init c =
-    let e = c.in_ok-enter.ensures in
     continues_none (roots_on c.args.sets.now c.args.self.now c.enter.new.self c.args.root c.requires.at c.requires.inside c.requires.over (c.is_seen.ensures.0 c.if-is_seen.false)
-    (record { places = e.places; pending = e.pending; path = e.path; cursors = e.cursors })).at
+    c.in_ok-enter.ensures).at
 
 pub loop-preserved : goal.loop-preserved
 loop-preserved c = continues_on c.loop.invariant c.in_ok-step.ensures.on
 
 pub returns-clause-on : goal.returns-clause-on
 returns-clause-on c =
-    let e = c.in_ok-enter.ensures in
     continues_on (roots_on c.args.sets.now c.args.self.now c.enter.new.self c.args.root c.requires.at c.requires.inside c.requires.over (c.is_seen.ensures.0 c.if-is_seen.false)
-    (record { places = e.places; pending = e.pending; path = e.path; cursors = e.cursors }))
+    c.in_ok-enter.ensures)
     (continues_on c.loop.invariant c.in_ok-step.ensures.on)

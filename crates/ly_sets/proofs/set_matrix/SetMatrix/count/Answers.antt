@@ -1,7 +1,7 @@
-use Rattle.std.proofs.Common.{◌≡◌, ◌∙◌, ◌<◌, ◌+◌, ◌*◌, ◌≤◌, ◌⊎◌, ℕ, List, false, ap, sym, subst, arith, length, slice_set}
+use Rattle.std.proofs.Common.{◌∙◌, ◌*◌, ap, sym, subst, arith, length}
 use Rattle.std.specs.FinSet as set
-use Rattle.ly_sets.specs.NumberSet.{NumberSet, row_set, AllBelow}
-use Rattle.ly_sets.specs.SetMatrix.{row, with_row, sets_of}
+use Rattle.ly_sets.specs.NumberSet.{row_set, AllBelow}
+use Rattle.ly_sets.specs.SetMatrix.{row}
 use Rattle.ly_sets.proofs.MatrixLemmas.{row_shown, row-sets_of}
 use Rattle.ly_sets.proofs.set_matrix.SetMatrix.count.Goals as goal
 

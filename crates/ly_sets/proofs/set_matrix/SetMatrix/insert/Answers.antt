@@ -1,14 +1,14 @@
-use Rattle.std.proofs.Common.{◌≡◌, ◌∙◌, ◌<◌, ◌+◌, ◌*◌, ◌≤◌, ◌⊎◌, ◌++◌, ℕ, List, false, ap, ap₂, sym, subst, arith, length, get_or, take, drop, slice_set, replicate, min}
+use Rattle.std.proofs.Common.{◌≡◌, ◌∙◌, ◌<◌, ◌*◌, ap, ap₂, sym, subst, arith, length, get_or}
 use Rattle.std.specs.FinSet as set
-use Rattle.ly_sets.specs.NumberSet.{NumberSet, row_set, AllBelow}
-use Rattle.ly_sets.specs.SetMatrix.{row, with_row, sets_of, IsLaidOut}
+use Rattle.ly_sets.specs.NumberSet.{row_set, AllBelow}
+use Rattle.ly_sets.specs.SetMatrix.{row, sets_of, IsLaidOut}
 use Rattle.ly_sets.proofs.MatrixLemmas.{row_shown, shown_row, shown_changed, laid_out-changed, written, AllBelow-insert}
 use Rattle.ly_sets.proofs.set_matrix.SetMatrix.insert.Goals as goal
 
-pub overflow_mul-i : goal.overflow_mul-i
-overflow_mul-i c =
+pub overflow_mul-start : goal.overflow_mul-start
+overflow_mul-start c =
     let room = (row_shown c.args.i c.self.invariant (ap (λ m. m.sets) c.self.view_is) c.requires.row).1 in
-    record { fits = omega (arith, ap length c.deref_mut.ensures.value) }
+    record { fits = omega (arith, c.self.inside.words.ok.0, c.self.inside.words.ok.1, c.self.inside.words.small) }
 
 pub insert_bit-requires-clause-inside : goal.insert_bit-requires-clause-inside
 insert_bit-requires-clause-inside c =

@@ -1,7 +1,6 @@
-use Rattle.std.proofs.Common.{◌≡◌, ◌∙◌, ◌<◌, ◌+◌, ◌*◌, ◌≤◌, ◌⊎◌, ◌++◌, ℕ, List, false, ap, ap₂, sym, subst, arith, length, get_or, take, drop, slice_set, replicate, min}
-use Rattle.std.specs.FinSet as set
-use Rattle.ly_sets.specs.NumberSet.{NumberSet, row_set, AllBelow}
-use Rattle.ly_sets.specs.SetMatrix.{row, with_row, sets_of, IsLaidOut}
+use Rattle.std.proofs.Common.{◌≡◌, ◌∙◌, ◌*◌, ap, sym, subst, arith, replicate}
+use Rattle.ly_sets.specs.NumberSet.{AllBelow}
+use Rattle.ly_sets.specs.SetMatrix.{row, sets_of}
 use Rattle.ly_sets.proofs.MatrixLemmas.{sets_of-zeros, AllBelow-empty, row-empty}
 use Rattle.ly_sets.proofs.set_matrix.SetMatrix.new.Goals as goal
 

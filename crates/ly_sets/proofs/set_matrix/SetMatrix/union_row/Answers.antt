@@ -1,19 +1,19 @@
-use Rattle.std.proofs.Common.{◌≡◌, ◌∙◌, ◌<◌, ◌+◌, ◌*◌, ◌≤◌, ◌⊎◌, ◌++◌, ℕ, List, false, ap, ap₂, sym, subst, arith, length, get_or, take, drop, slice_set, replicate, min}
+use Rattle.std.proofs.Common.{◌≡◌, ◌∙◌, ◌*◌, ℕ, ap, ap₂, sym, subst, arith, length, get_or}
 use Rattle.std.specs.FinSet as set
-use Rattle.ly_sets.specs.NumberSet.{NumberSet, row_set, AllBelow}
-use Rattle.ly_sets.specs.SetMatrix.{row, with_row, sets_of, IsLaidOut}
-use Rattle.ly_sets.proofs.MatrixLemmas.{row_shown, shown_row, shown_changed, laid_out-changed, written, rows_apart, AllBelow-union, row-sets_of, sets_of-changed}
+use Rattle.ly_sets.specs.NumberSet.{row_set, AllBelow}
+use Rattle.ly_sets.specs.SetMatrix.{row, sets_of, IsLaidOut}
+use Rattle.ly_sets.proofs.MatrixLemmas.{row_shown, shown_row, shown_changed, laid_out-changed, written, rows_apart, AllBelow-union, row-sets_of}
 use Rattle.ly_sets.proofs.set_matrix.SetMatrix.union_row.Goals as goal
 
-pub overflow_mul-i : goal.overflow_mul-i
-overflow_mul-i c =
+pub overflow_mul-to : goal.overflow_mul-to
+overflow_mul-to c =
     let room = (row_shown c.args.i c.self.invariant (ap (λ m. m.sets) c.self.view_is) c.requires.to).1 in
-    record { fits = omega (arith, ap length c.deref_mut.ensures.value) }
+    record { fits = omega (arith, c.self.inside.words.ok.0, c.self.inside.words.ok.1, c.self.inside.words.small) }
 
-pub overflow_mul-j : goal.overflow_mul-j
-overflow_mul-j c =
+pub overflow_mul-from : goal.overflow_mul-from
+overflow_mul-from c =
     let room = (row_shown c.args.j c.self.invariant (ap (λ m. m.sets) c.self.view_is) c.requires.from).1 in
-    record { fits = omega (arith, ap length c.deref_mut.ensures.value) }
+    record { fits = omega (arith, c.self.inside.words.ok.0, c.self.inside.words.ok.1, c.self.inside.words.small) }
 
 pub union_rows-requires-clause-to_inside : goal.union_rows-requires-clause-to_inside
 union_rows-requires-clause-to_inside c =

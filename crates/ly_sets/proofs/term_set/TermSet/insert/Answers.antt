@@ -1,6 +1,6 @@
-use Rattle.std.proofs.Common.{◌≡◌, ◌∙◌, ◌<◌, List, ℕ, ap, subst, sym, arith, length}
+use Rattle.std.proofs.Common.{◌≡◌, ◌∙◌, ◌<◌, ap, subst, sym, arith, length}
 use Rattle.std.specs.FinSet as set
-use Rattle.ly_sets.specs.NumberSet.{set_of, row_set, AllBelow}
+use Rattle.ly_sets.specs.NumberSet.{set_of, AllBelow}
 use Rattle.ly_sets.proofs.MatrixLemmas.{AllBelow-insert, written, row_set-whole}
 use Rattle.ly_sets.proofs.term_set.TermSet.insert.Goals as goal
 
