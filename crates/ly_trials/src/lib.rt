@@ -6,6 +6,10 @@ mod answers;
 #[cfg(test)]
 mod examples;
 #[cfg(test)]
+mod graphs;
+#[cfg(test)]
 mod refusals;
 #[cfg(test)]
 mod script;
+#[cfg(test)]
+mod sets;

@@ -1,0 +1,371 @@
+//! Least sets along graphs: the one pass against a program that goes round until nothing grows.
+
+use crate::sets::{Plain, holds, insert};
+use ly_base::Sym;
+use ly_digraph::{Graph, least};
+use ly_sets::SetMatrix;
+use std::alloc::Global;
+use std::process::Abort;
+use std::test::Fail;
+
+/// A graph, and which numbers below `WIDTH` its nodes are given.
+struct Example {
+    name: &'static str,
+    nodes: usize,
+    edges: &'static [(usize, usize)],
+    given: &'static [(usize, u32)],
+}
+
+const WIDTH: usize = 9;
+
+/// The last ones are drawn at random.
+const EXAMPLES: [Example; 20] = [
+    Example {
+        name: "no nodes",
+        nodes: 0,
+        edges: &[],
+        given: &[],
+    },
+    Example {
+        name: "no edges",
+        nodes: 3,
+        edges: &[],
+        given: &[(0, 1), (2, 8)],
+    },
+    Example {
+        name: "self loops",
+        nodes: 3,
+        edges: &[(0, 0), (1, 1), (1, 2), (2, 2)],
+        given: &[(0, 3), (2, 4)],
+    },
+    Example {
+        name: "an edge twice",
+        nodes: 2,
+        edges: &[(0, 1), (0, 1)],
+        given: &[(1, 5)],
+    },
+    Example {
+        name: "two rings joined",
+        nodes: 7,
+        edges: &[
+            (0, 1),
+            (1, 2),
+            (2, 0),
+            (2, 3),
+            (3, 4),
+            (4, 5),
+            (5, 6),
+            (6, 3),
+        ],
+        given: &[(0, 0), (1, 1), (2, 2), (3, 3), (4, 4), (5, 5), (6, 6)],
+    },
+    Example {
+        name: "two rings joined the other way, entered in the middle",
+        nodes: 7,
+        edges: &[
+            (4, 5),
+            (5, 6),
+            (6, 3),
+            (3, 4),
+            (5, 1),
+            (1, 2),
+            (2, 0),
+            (0, 1),
+        ],
+        given: &[(0, 0), (1, 1), (2, 2), (3, 3), (4, 4), (5, 5), (6, 6)],
+    },
+    Example {
+        name: "a ring in a ring",
+        nodes: 6,
+        edges: &[
+            (0, 1),
+            (1, 2),
+            (2, 1),
+            (2, 3),
+            (3, 4),
+            (4, 3),
+            (4, 5),
+            (5, 0),
+        ],
+        given: &[(0, 0), (1, 1), (2, 2), (3, 3), (4, 4), (5, 5)],
+    },
+    Example {
+        name: "an edge to a part that is closed",
+        nodes: 5,
+        edges: &[(0, 1), (1, 2), (2, 1), (0, 3), (3, 4), (4, 1), (4, 3)],
+        given: &[(2, 7), (3, 8)],
+    },
+    Example {
+        name: "random 0",
+        nodes: 5,
+        edges: &[
+            (0, 0),
+            (2, 4),
+            (3, 3),
+            (3, 2),
+            (0, 1),
+            (0, 0),
+            (1, 0),
+            (0, 0),
+            (2, 3),
+            (0, 4),
+        ],
+        given: &[(0, 1), (3, 3), (0, 1)],
+    },
+    Example {
+        name: "random 1",
+        nodes: 3,
+        edges: &[(2, 1), (0, 0), (2, 0)],
+        given: &[(1, 1), (2, 1)],
+    },
+    Example {
+        name: "random 2",
+        nodes: 5,
+        edges: &[(2, 2), (4, 2), (2, 4), (1, 2), (1, 1)],
+        given: &[(2, 5), (4, 3), (1, 7)],
+    },
+    Example {
+        name: "random 3",
+        nodes: 9,
+        edges: &[(7, 0), (6, 1), (0, 8), (3, 0)],
+        given: &[(6, 8), (8, 5), (1, 2), (7, 3), (6, 5)],
+    },
+    Example {
+        name: "random 4",
+        nodes: 12,
+        edges: &[(8, 0), (2, 0), (1, 3), (4, 1), (5, 3), (0, 5)],
+        given: &[(11, 6), (5, 2), (0, 7), (3, 4), (9, 4), (7, 8), (0, 6)],
+    },
+    Example {
+        name: "random 5",
+        nodes: 3,
+        edges: &[(2, 1), (0, 1), (2, 2)],
+        given: &[(2, 1), (2, 8)],
+    },
+    Example {
+        name: "random 6",
+        nodes: 9,
+        edges: &[
+            (4, 2),
+            (6, 0),
+            (6, 6),
+            (0, 6),
+            (3, 4),
+            (0, 6),
+            (6, 3),
+            (6, 8),
+            (7, 5),
+        ],
+        given: &[(6, 4), (4, 3), (5, 5), (4, 8), (3, 8)],
+    },
+    Example {
+        name: "random 7",
+        nodes: 12,
+        edges: &[(10, 6), (1, 7), (6, 0), (5, 3), (4, 6), (2, 10)],
+        given: &[(5, 7), (1, 2), (3, 7), (7, 7), (8, 5), (6, 5), (5, 6)],
+    },
+    Example {
+        name: "random 8",
+        nodes: 5,
+        edges: &[
+            (2, 1),
+            (1, 1),
+            (3, 3),
+            (1, 1),
+            (4, 3),
+            (0, 3),
+            (0, 4),
+            (1, 4),
+            (3, 0),
+            (1, 4),
+        ],
+        given: &[(1, 3), (0, 7), (1, 3)],
+    },
+    Example {
+        name: "random 9",
+        nodes: 5,
+        edges: &[
+            (0, 4),
+            (1, 0),
+            (4, 2),
+            (1, 1),
+            (4, 0),
+            (1, 4),
+            (1, 0),
+            (1, 2),
+            (1, 4),
+            (3, 1),
+        ],
+        given: &[(1, 2), (0, 0), (2, 3)],
+    },
+    Example {
+        name: "random 10",
+        nodes: 7,
+        edges: &[(0, 1), (2, 6), (5, 4)],
+        given: &[(4, 3), (0, 3), (1, 7), (2, 0)],
+    },
+    Example {
+        name: "random 11",
+        nodes: 12,
+        edges: &[
+            (0, 3),
+            (2, 10),
+            (5, 10),
+            (1, 6),
+            (10, 6),
+            (8, 8),
+            (4, 9),
+            (6, 5),
+            (4, 4),
+            (9, 4),
+            (10, 11),
+            (6, 4),
+        ],
+        given: &[(5, 8), (2, 3), (3, 6), (1, 7), (0, 3), (7, 3), (9, 1)],
+    },
+];
+
+/// Adds an edge of a table.
+fn add(graph: &mut Graph, from: usize, to: usize) -> Result<(), Fail> {
+    if from >= graph.nodes() || to >= graph.nodes() {
+        return Err(Fail::from("no such node"));
+    }
+    graph.add(from, to)?;
+    Ok(())
+}
+
+/// The one pass.
+fn solve(alloc: Global, graph: &Graph, sets: &mut SetMatrix) -> Result<(), Fail> {
+    if sets.rows() < graph.nodes() {
+        return Err(Fail::from("too few rows"));
+    }
+    least(alloc, graph, sets)?;
+    Ok(())
+}
+
+/// The same by going round until nothing grows, from the last edge to the first.
+fn go_round(rows: &mut Plain, edges: &[(usize, usize)], rounds: usize) {
+    for _ in 0..rounds {
+        let mut grew = false;
+        for &(from, to) in edges.iter().rev() {
+            if rows.union_row(from, to) {
+                grew = true;
+            }
+        }
+        if !grew {
+            return;
+        }
+    }
+}
+
+/// Compares the two on a graph, and says how much `changes` rose.
+fn compare(
+    rt: &impl Abort,
+    alloc: Global,
+    name: &str,
+    nodes: usize,
+    width: usize,
+    edges: &[(usize, usize)],
+    given: &[(usize, u32)],
+) -> Result<u64, Fail> {
+    let mut graph = Graph::new(alloc, nodes)?;
+    for &(from, to) in edges {
+        add(&mut graph, from, to)?;
+    }
+    let mut sets = SetMatrix::new(alloc, nodes, width)?;
+    let mut rows = Plain::new(alloc, nodes, width)?;
+    for &(node, number) in given {
+        insert(&mut sets, node, Sym(number))?;
+        rows.insert(node, number as usize);
+    }
+    let before = sets.changes();
+    solve(alloc, &graph, &mut sets)?;
+    go_round(&mut rows, edges, usize::MAX);
+    for node in 0..nodes {
+        for number in 0..width {
+            let there = holds(&sets, node, number)?;
+            assert_eq!(rt;
+                there,
+                rows.contains(node, number),
+                "{name}: node {node}, number {number}"
+            );
+        }
+    }
+    Ok(sets.changes().saturating_sub(before))
+}
+
+#[test]
+fn graphs_of_the_table(rt: HostRuntime) -> Result<(), Fail> {
+    for example in &EXAMPLES {
+        let rise = compare(
+            &rt,
+            rt.alloc(),
+            example.name,
+            example.nodes,
+            WIDTH,
+            example.edges,
+            example.given,
+        )?;
+        let most = example.nodes.saturating_add(example.edges.len()) as u64;
+        assert!(rt; rise <= most, "{}: {rise} changes", example.name);
+    }
+    Ok(())
+}
+
+#[test]
+fn a_chain_of_a_hundred_thousand(rt: HostRuntime) -> Result<(), Fail> {
+    let nodes = 100_000;
+    let mut edges = Vec::new(rt.alloc());
+    for node in 1..nodes {
+        edges.push((node - 1, node))?;
+    }
+    let rise = compare(
+        &rt,
+        rt.alloc(),
+        "chain",
+        nodes,
+        1,
+        &edges,
+        &[(nodes - 1, 0)],
+    )?;
+    assert!(rt; rise <= 200_000, "{rise} changes");
+    let mut graph = Graph::new(rt.alloc(), nodes)?;
+    for &(from, to) in &edges {
+        add(&mut graph, from, to)?;
+    }
+    let mut sets = SetMatrix::new(rt.alloc(), nodes, 1)?;
+    insert(&mut sets, nodes - 1, Sym(0))?;
+    solve(rt.alloc(), &graph, &mut sets)?;
+    for node in 0..nodes {
+        assert!(rt; holds(&sets, node, 0)?, "row {node}");
+    }
+    Ok(())
+}
+
+#[test]
+fn a_ring_of_a_thousand(rt: HostRuntime) -> Result<(), Fail> {
+    let nodes = 1_000;
+    let mut edges = Vec::new(rt.alloc());
+    let mut given = Vec::new(rt.alloc());
+    for node in 0..nodes {
+        edges.push((node, if node + 1 < nodes { node + 1 } else { 0 }))?;
+        given.push((node, node as u32))?;
+    }
+    let rise = compare(&rt, rt.alloc(), "ring", nodes, nodes, &edges, &given)?;
+    assert!(rt; rise <= 2_000, "{rise} changes");
+    let mut sets = SetMatrix::new(rt.alloc(), nodes, nodes)?;
+    for &(node, number) in &given {
+        insert(&mut sets, node, Sym(number))?;
+    }
+    let mut graph = Graph::new(rt.alloc(), nodes)?;
+    for &(from, to) in &edges {
+        add(&mut graph, from, to)?;
+    }
+    solve(rt.alloc(), &graph, &mut sets)?;
+    for node in 0..nodes {
+        if node < sets.rows() {
+            assert_eq!(rt; sets.count(node), 1_000, "row {node}");
+        }
+    }
+    Ok(())
+}

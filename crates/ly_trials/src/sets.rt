@@ -1,0 +1,155 @@
+//! Sets by lanes against plain ones, at widths round the ends of words and blocks.
+
+use ly_base::Sym;
+use ly_sets::{SetMatrix, TermSet};
+use std::alloc::{AllocError, Global};
+use std::test::Fail;
+
+const WIDTHS: [usize; 8] = [0, 1, 63, 64, 65, 255, 257, 4_095];
+
+/// Rows of sets, a `bool` for each number.
+#[derive(Drop)]
+pub(crate) struct Plain {
+    rows: Vec<Vec<bool>>,
+    width: usize,
+}
+
+impl Plain {
+    pub(crate) fn new(alloc: Global, rows: usize, width: usize) -> Result<Plain, AllocError> {
+        let mut all = Vec::new(alloc);
+        for _ in 0..rows {
+            all.push(vec![in alloc; false; width]?)?;
+        }
+        Ok(Plain { rows: all, width })
+    }
+
+    pub(crate) fn insert(&mut self, row: usize, number: usize) {
+        if let Some(row) = self.rows.get_mut(row)
+            && let Some(there) = row.get_mut(number)
+        {
+            *there = true;
+        }
+    }
+
+    pub(crate) fn contains(&self, row: usize, number: usize) -> bool {
+        match self.rows.get(row) {
+            Some(row) => row.get(number) == Some(&true),
+            None => false,
+        }
+    }
+
+    pub(crate) fn count(&self, row: usize) -> usize {
+        (0..self.width)
+            .filter(|&number| self.contains(row, number))
+            .count()
+    }
+
+    pub(crate) fn union_row(&mut self, to: usize, from: usize) -> bool {
+        let mut grew = false;
+        for number in 0..self.width {
+            if self.contains(from, number) && !self.contains(to, number) {
+                self.insert(to, number);
+                grew = true;
+            }
+        }
+        grew
+    }
+}
+
+/// Adds a symbol of a table.
+pub(crate) fn insert(sets: &mut SetMatrix, row: usize, symbol: Sym) -> Result<(), Fail> {
+    if row >= sets.rows() || symbol.0 as usize >= sets.width() {
+        return Err(Fail::from("no such row or number"));
+    }
+    sets.insert(row, symbol);
+    Ok(())
+}
+
+/// Whether a number is in a row.
+pub(crate) fn holds(sets: &SetMatrix, row: usize, number: usize) -> Result<bool, Fail> {
+    let symbol = Sym(u32::try_from(number)?);
+    if row >= sets.rows() || symbol.0 as usize >= sets.width() {
+        return Err(Fail::from("no such row or number"));
+    }
+    Ok(sets.contains(row, symbol))
+}
+
+/// Whether a row is the plain one.
+fn same_row(sets: &SetMatrix, row: usize, plain: &Plain) -> Result<bool, Fail> {
+    for number in 0..plain.width {
+        if holds(sets, row, number)? != plain.contains(row, number) {
+            return Ok(false);
+        }
+    }
+    Ok(row < sets.rows() && sets.count(row) == plain.count(row))
+}
+
+#[test]
+fn sets_of_each_width(rt: HostRuntime) -> Result<(), Fail> {
+    for width in WIDTHS {
+        let mut set = TermSet::new(rt.alloc(), width)?;
+        let mut plain = Plain::new(rt.alloc(), 1, width)?;
+        assert_eq!(rt; set.width(), width);
+        for number in 0..width {
+            let symbol = Sym(u32::try_from(number)?);
+            if number % 7 == 0 || number % 64 == 63 {
+                assert!(rt; (symbol.0 as usize) < set.width());
+                set.insert(symbol);
+                plain.insert(0, number);
+            }
+        }
+        for number in 0..width {
+            let symbol = Sym(u32::try_from(number)?);
+            assert!(rt; (symbol.0 as usize) < set.width());
+            assert_eq!(rt;
+                set.contains(symbol),
+                plain.contains(0, number),
+                "{number} of {width}"
+            );
+        }
+        assert_eq!(rt; set.count(), plain.count(0), "width {width}");
+    }
+    Ok(())
+}
+
+#[test]
+fn unions_of_each_width(rt: HostRuntime) -> Result<(), Fail> {
+    for width in WIDTHS {
+        let mut sets = SetMatrix::new(rt.alloc(), 3, width)?;
+        let mut plain = Plain::new(rt.alloc(), 3, width)?;
+        for number in 0..width {
+            for (row, step) in [(0, 3), (1, 5)] {
+                if number % step == step - 1 {
+                    insert(&mut sets, row, Sym(u32::try_from(number)?))?;
+                    plain.insert(row, number);
+                }
+            }
+        }
+        let inserted = sets.changes();
+        let unions = [
+            (0, 0),
+            (2, 2),
+            (1, 0),
+            (1, 0),
+            (2, 1),
+            (0, 1),
+            (0, 2),
+            (1, 2),
+        ];
+        for (to, from) in unions {
+            assert!(rt; to < sets.rows());
+            assert!(rt; from < sets.rows());
+            let grew = sets.union_row(to, from);
+            assert_eq!(rt;
+                grew,
+                plain.union_row(to, from),
+                "row {to} by row {from} at width {width}"
+            );
+            for row in 0..3 {
+                assert!(rt; same_row(&sets, row, &plain)?, "row {row} at width {width}");
+            }
+        }
+        assert_eq!(rt; sets.changes().checked_sub(inserted), Some(8));
+    }
+    Ok(())
+}
