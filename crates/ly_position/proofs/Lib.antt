@@ -11,4 +11,5 @@ pub mod PlainLemmas
 pub mod PlanLemmas
 pub mod ProgramLemmas
 pub mod SparseSetLemmas
+pub mod StartLemmas
 pub mod WalkLemmas

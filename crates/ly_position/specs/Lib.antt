@@ -9,3 +9,4 @@ pub mod Position
 pub mod Program
 pub mod Reach
 pub mod SparseSet
+pub mod Starts

@@ -1,3 +1,10 @@
+ghost use Rattle.std.specs.Prelude.{◌≡◌, ℕ, ◌+◌, ◌*◌, ◌<◌, [], length, map, slice_index_or, All, IfOk, OnOk};
+ghost use Rattle.ly_position.specs.Plain.{IsPart};
+ghost use Rattle.ly_position.specs.Program.{step_of};
+ghost use Rattle.ly_position.specs.Reach.{IsClosed};
+ghost use Rattle.ly_position.specs.Follow.{IsReachList, numbers_of};
+ghost use Rattle.ly_position.specs.Starts.{AddsIn, AddsInEach, AreRoots, PutsIn, StartsAt, StaysWithin};
+
 use crate::lists::Lists;
 use crate::program::Program;
 use crate::reach::Reach;
@@ -12,8 +19,15 @@ pub fn starts(
     program: &Program,
     numbers: &[Option<u32>],
     reach: &mut Reach,
-) -> Result<Lists, AllocError> {
-    let roots = roots(alloc, rules, conditions, &program.entries)?;
+) -> Result<Lists, AllocError>
+    requires closed { IsClosed (map step_of program.now.instructions.items) }
+    requires numbers { numbers.now ≡ numbers_of (map step_of program.now.instructions.items) }
+    requires within { All (IsPart (length program.now.instructions.items)) program.now.entries.items }
+    requires count { length program.now.entries.items ≡ length rules.now }
+    requires below { reach.old.seen.below ≡ length program.now.instructions.items }
+    ensures { IfOk result (StartsAt (map step_of program.now.instructions.items) rules.now program.now.entries.items conditions) }
+{
+    let roots = roots(alloc, rules, conditions, program)?;
     let mut starts = Lists::new(alloc);
     for list in &roots {
         reach.find(&program.instructions, numbers, list)?;
@@ -27,30 +41,74 @@ fn roots(
     alloc: Global,
     rules: &[Rule],
     conditions: u32,
-    entries: &[Option<usize>],
-) -> Result<Vec<Vec<usize>>, AllocError> {
-    let mut roots = Vec::new(alloc);
-    for _ in 0..2 * u64::from(conditions) {
-        roots.push(Vec::new(alloc))?;
-    }
+    program: &Program,
+) -> Result<Vec<Vec<usize>>, AllocError>
+    requires within { All (IsPart (length program.now.instructions.items)) program.now.entries.items }
+    requires count { length program.now.entries.items ≡ length rules.now }
+    ensures { IfOk result (λ rs. AreRoots rules.now program.now.entries.items (length rules.now) conditions (length program.now.instructions.items) (map (λ v. v.items) rs.items)) }
+{
+    let mut roots = no_roots(alloc, conditions)?;
     for (number, rule) in rules.iter().enumerate() {
-        if let Some(entry) = entries[number] {
-            add_roots(&mut roots, rule, entry)?;
+        if let Some(entry) = program.entries[number] {
+            add_rule(&mut roots, rule, conditions, entry)?;
         }
     }
     Ok(roots)
 }
 
+/// Two empty lists for each condition.
+fn no_roots(alloc: Global, conditions: u32) -> Result<Vec<Vec<usize>>, AllocError>
+    ensures count { IfOk result (λ rs. length rs.items ≡ 2 * conditions) }
+    ensures empty { IfOk result (λ rs. (k : ℕ) → slice_index_or (map (λ v. v.items) rs.items) k [] ≡ []) }
+{
+    let mut roots = Vec::new(alloc);
+    for _ in 0..2 * u64::from(conditions) {
+        roots.push(Vec::new(alloc))?;
+    }
+    Ok(roots)
+}
+
 /// Adds where a rule begins to the lists of its conditions.
-fn add_roots(roots: &mut [Vec<usize>], rule: &Rule, entry: usize) -> Result<(), AllocError> {
+fn add_rule(
+    roots: &mut [Vec<usize>],
+    rule: &Rule,
+    conditions: u32,
+    entry: usize,
+) -> Result<(), AllocError>
+    requires { length roots.old ≡ 2 * conditions }
+    ensures within { OnOk result (StaysWithin (map (λ v. v.items) roots.old) (map (λ v. v.items) roots.new) entry) }
+    ensures added { OnOk result (AddsInEach (map (λ v. v.items) roots.old) (map (λ v. v.items) roots.new) conditions rule.now.active.items rule.now.pattern.line_start entry) }
+{
     for condition in &rule.active {
-        let inside = 2 * *condition as usize;
-        if inside < roots.len() {
-            if !rule.pattern.line_start {
-                roots[inside].push(entry)?;
-            }
-            roots[inside + 1].push(entry)?;
+        if *condition < conditions {
+            add_root(roots, *condition as usize, rule.pattern.line_start, entry)?;
         }
     }
+    Ok(())
+}
+
+/// Adds where a rule begins to the lists of a condition.
+fn add_root(
+    roots: &mut [Vec<usize>],
+    condition: usize,
+    line_start: bool,
+    entry: usize,
+) -> Result<(), AllocError>
+    requires { 2 * condition + 1 < length roots.old }
+    ensures within { OnOk result (StaysWithin (map (λ v. v.items) roots.old) (map (λ v. v.items) roots.new) entry) }
+    ensures added { OnOk result (AddsIn (map (λ v. v.items) roots.old) (map (λ v. v.items) roots.new) condition line_start entry) }
+{
+    if line_start {
+        return put(roots, 2 * condition + 1, entry);
+    }
+    put(roots, 2 * condition, entry)?;
+    put(roots, 2 * condition + 1, entry)
+}
+
+fn put(lists: &mut [Vec<usize>], number: usize, entry: usize) -> Result<(), AllocError>
+    requires { number < length lists.old }
+    ensures { OnOk result (PutsIn (map (λ v. v.items) lists.old) (map (λ v. v.items) lists.new) number entry) }
+{
+    lists[number].push(entry)?;
     Ok(())
 }
