@@ -1,0 +1,188 @@
+//! `tokens` beside the definitions: patterns over all short strings of three bytes.
+
+use crate::answers::answer;
+use crate::belongs::belongs_to;
+use ly_base::Limits;
+use ly_engine::TokenEnd;
+use ly_ere::{Names, Re, read_pattern};
+use std::alloc::{AllocError, Global};
+use std::test::Fail;
+
+/// The patterns of a lex file's rules. The first rule returns `A`, and the second `B`.
+const FILES: [&[&[u8]]; 60] = [
+    &[b"a"],
+    &[b"ab"],
+    &[b"a|b"],
+    &[b"a*"],
+    &[b"a+"],
+    &[b"a?"],
+    &[b"(((a)))"],
+    &[b"(ab)*"],
+    &[b"(a|b)*c"],
+    &[b"a*b*"],
+    &[b"a+b?c*"],
+    &[b"(a*)*"],
+    &[b"(a+)*"],
+    &[b"(a?)*"],
+    &[b"(a*)+"],
+    &[b"(a+)+"],
+    &[b"(a?)+"],
+    &[b"(a*)?"],
+    &[b"(a+)?"],
+    &[b"(a?)?"],
+    &[b"a*|b"],
+    &[b"(ab|a)(bc|c)"],
+    &[b"(a|ab)(c|bca)*"],
+    &[b"(a|b)*abb"],
+    &[b"((a|bc)+|b?c)*"],
+    &[b"(a(b(c)?)?)?"],
+    &[b"(a*b)+c?"],
+    &[b"a+?b"],
+    &[b"[ab]"],
+    &[b"[^a]"],
+    &[b"[a-b]c"],
+    &[b"[^b-c]*"],
+    &[b"[[:lower:]]"],
+    &[b"."],
+    &[b".b"],
+    &[b".*c"],
+    &[b"\"ab\""],
+    &[b"\"a\"*"],
+    &[b"a\"bc\"?"],
+    &[b"\"a|b\""],
+    &[b"\"\""],
+    &[b"\"\"|a"],
+    &[b"(\"\"|a)b"],
+    &[b"(\"\"|a)*b"],
+    &[b"a(\"\"|b)c"],
+    &[b"a\\*"],
+    &[b"\\141\\x62?"],
+    &[b"[\\141-\\142]+"],
+    &[b"a", b"a"],
+    &[b"ab", b"a*b"],
+    &[b"a*b", b"ab"],
+    &[b"a|b", b"[a-c]"],
+    &[b"a+", b"(a|b)+"],
+    &[b"(a|b)+", b"a+"],
+    &[b"a", b".*c"],
+    &[b"abc", b"a|b"],
+    &[b"c*", b"a*c"],
+    &[b"(ab)*", b"a|b"],
+    &[b"..", b"a.."],
+    &[b"b?", b"a?c?"],
+];
+
+/// How many strings of at most five bytes there are.
+const STRINGS: u32 = 364;
+
+#[test]
+fn tokens_are_the_longest_strings_that_belong(rt: HostRuntime) -> Result<(), Fail> {
+    for patterns in &FILES {
+        let lex = lex_file(rt.alloc(), patterns)?;
+        let expressions = expressions(rt.alloc(), patterns)?;
+        for number in 0..STRINGS {
+            let text = string(rt.alloc(), number)?;
+            let (end, lines) = answer(rt.alloc(), &lex, &text)?;
+            let (wanted_end, wanted) = by_definition(rt.alloc(), &expressions, &text)?;
+            assert_eq!(rt;
+                lines.as_slice(),
+                wanted.as_slice(),
+                "file {lex:?}, text {text:?}"
+            );
+            assert_eq!(rt; end, wanted_end, "file {lex:?}, text {text:?}");
+        }
+    }
+    Ok(())
+}
+
+/// The lex file of patterns.
+fn lex_file(alloc: Global, patterns: &[&[u8]]) -> Result<Vec<u8>, AllocError> {
+    let mut lex = Vec::new(alloc);
+    lex.extend_from_slice(b"%%\n")?;
+    for (rule, pattern) in patterns.iter().enumerate() {
+        lex.extend_from_slice(pattern)?;
+        lex.extend_from_slice(b" return ")?;
+        lex.push(name(rule))?;
+        lex.extend_from_slice(b";\n")?;
+    }
+    Ok(lex)
+}
+
+/// What a rule returns.
+fn name(rule: usize) -> u8 {
+    if rule == 0 { b'A' } else { b'B' }
+}
+
+/// What the patterns mean.
+fn expressions(alloc: Global, patterns: &[&[u8]]) -> Result<Vec<Re>, Fail> {
+    let names = Names::new(alloc);
+    let mut expressions = Vec::new(alloc);
+    for pattern in patterns {
+        expressions.push(read_pattern(alloc, pattern, &names, &Limits::V1)?.head)?;
+    }
+    Ok(expressions)
+}
+
+/// The string of a number: the digits `a`, `b` and `c` stand for 1, 2 and 3.
+fn string(alloc: Global, number: u32) -> Result<Vec<u8>, AllocError> {
+    let mut string = Vec::new(alloc);
+    let mut left = number;
+    for _ in 0..5 {
+        if left > 0 {
+            left -= 1;
+            string.push(b"abc"[(left % 3) as usize])?;
+            left /= 3;
+        }
+    }
+    Ok(string)
+}
+
+/// What the definitions say is printed: the longest match of one or more bytes again and again, of rules
+/// that match the same bytes the first, until the end or until no rule matches.
+fn by_definition(
+    alloc: Global,
+    expressions: &[Re],
+    text: &[u8],
+) -> Result<(TokenEnd, Vec<u8>), Fail> {
+    let mut lines = Vec::new(alloc);
+    let mut rest = text;
+    for _ in 0..text.len() {
+        if let Some((rule, token)) = winner(expressions, rest) {
+            lines.push(name(rule))?;
+            lines.push(b'"')?;
+            lines.extend_from_slice(token)?;
+            lines.extend_from_slice(b"\"\n")?;
+            rest = rest.get(token.len()..).unwrap_or(b"");
+        }
+    }
+    if rest.is_empty() {
+        return Ok((TokenEnd::Clean, lines));
+    }
+    let byte = text.len().saturating_sub(rest.len());
+    let last = format!(in alloc; "no rule matches at byte {byte}\n")?;
+    lines.extend_from_slice(last.as_bytes())?;
+    Ok((TokenEnd::Stuck { byte: byte as u64 }, lines))
+}
+
+/// The rule of the longest match at the front of a text, and what it matches.
+fn winner<'t>(expressions: &[Re], text: &'t [u8]) -> Option<(usize, &'t [u8])> {
+    let mut best: Option<(usize, &'t [u8])> = None;
+    for (rule, expression) in expressions.iter().enumerate() {
+        let found = longest(expression, text);
+        let longer = best.is_none_or(|(_, least)| least.len() < found.len());
+        if longer && !found.is_empty() {
+            best = Some((rule, found));
+        }
+    }
+    best
+}
+
+/// The longest beginning that belongs to an expression, or none of the bytes.
+fn longest<'t>(expression: &Re, text: &'t [u8]) -> &'t [u8] {
+    for length in (1..=text.len()).rev() {
+        if belongs_to(expression, &text[..length]) {
+            return &text[..length];
+        }
+    }
+    &[]
+}

@@ -1,0 +1,87 @@
+//! The smallest walk that a scanner can have: dense rows, made by hand.
+
+ghost use Rattle.ly_trials.specs.Dense.{dense_ahead, dense_cut, dense_ends, dense_walk, start_entry};
+ghost use Rattle.std.specs.Prelude.{◌≡◌};
+
+use ly_base::{Cut, RuleNo};
+use ly_scan::Steps;
+
+/// A state of dense rows.
+#[derive(Clone, Copy)]
+pub struct Row {
+    /// For each byte one more than the state that it leads to, or 0.
+    pub next: [u16; 256],
+    /// The rule that ends here, if there is one.
+    pub rule: Option<RuleNo>,
+}
+
+/// A walk over dense rows.
+#[derive(Clone, Copy)]
+pub struct Dense<'a> {
+    /// The states.
+    pub rows: &'a [Row],
+    /// Of each condition one more than the state where it starts, off and on a line start, or 0.
+    pub starts: &'a [[u16; 2]],
+    /// What each rule's matches are cut down to; of a rule without an entry nothing.
+    pub cuts: &'a [Cut],
+    /// Where the walk stands.
+    pub state: u16,
+}
+
+impl Steps for Dense<'_> {
+    ghost walk = { λ d. dense_walk d.rows.now d.starts.now };
+
+    ghost ahead = { λ d. dense_ahead d.rows.now d.state };
+
+    ghost cut_of = { λ d. dense_cut d.cuts.now };
+
+    fn start(&mut self, condition: u32, at_line_start: bool) -> bool {
+        let entry = start_entry(self.starts, condition, at_line_start);
+        if entry == 0 {
+            return false;
+        }
+        self.state = entry - 1;
+        true
+    }
+
+    fn step(&mut self, byte: u8) -> bool {
+        match self.rows.get(usize::from(self.state)) {
+            Some(row) => {
+                let entry = row.next[usize::from(byte)];
+                if entry == 0 {
+                    return false;
+                }
+                self.state = entry - 1;
+                true
+            }
+            None => false,
+        }
+    }
+
+    fn accept(&self) -> Option<RuleNo> {
+        match self.rows.get(usize::from(self.state)) {
+            Some(row) => row.rule,
+            None => None,
+        }
+    }
+
+    fn cut(&self, rule: RuleNo) -> Cut {
+        match self.cuts.get(rule.0 as usize) {
+            Some(cut) => *cut,
+            None => Cut::Whole,
+        }
+    }
+
+    ghost stays_ended = { λ d condition line text more h. dense_ends d.rows.now d.starts.now condition line text more h };
+}
+
+/// The entry of a start, or 0.
+fn start_entry(starts: &[[u16; 2]], condition: u32, at_line_start: bool) -> u16
+    ensures { result ≡ start_entry starts.now condition at_line_start }
+{
+    match starts.get(condition as usize) {
+        Some(pair) if at_line_start => pair[1],
+        Some(pair) => pair[0],
+        None => 0,
+    }
+}

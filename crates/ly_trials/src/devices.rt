@@ -1,0 +1,29 @@
+//! Reading all of a source and writing all of an answer, with devices that fail and that don't.
+
+use ly_base::{MemSink, MemSource, ReadFault, WriteFault, read_whole, write_whole};
+use std::test::Fail;
+
+const BYTES: &[u8] = b"1+2*3";
+
+/// Each device fails after a number of bytes below five, or has no failure before its end.
+#[test]
+fn devices_to_their_end_or_their_failure(rt: HostRuntime) -> Result<(), Fail> {
+    let read = read_whole(rt.alloc(), &mut MemSource::new(BYTES))?;
+    assert_eq!(rt; read.as_slice(), BYTES);
+    let mut sink = MemSink::new(rt.alloc());
+    assert_eq!(rt; write_whole(&mut sink, BYTES), Ok(()));
+    assert_eq!(rt; sink.bytes(), BYTES);
+    for count in 0..5usize {
+        match read_whole(rt.alloc(), &mut MemSource::failing_after(BYTES, count)) {
+            Ok(_) => return Err(Fail::from("a failed read was taken as the end")),
+            Err(fault) => assert_eq!(rt; fault, ReadFault::Read),
+        }
+        let mut sink = MemSink::failing_after(rt.alloc(), count);
+        assert_eq!(rt;
+            write_whole(&mut sink, BYTES),
+            Err(WriteFault { written: count })
+        );
+        assert_eq!(rt; sink.bytes(), &BYTES[..count]);
+    }
+    Ok(())
+}

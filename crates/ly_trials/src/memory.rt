@@ -1,0 +1,80 @@
+//! Want of memory: `tokens` answers rightly, or that memory ran out, and nothing else.
+
+use ly_base::{Counted, MemSource};
+use ly_engine::{TokenEnd, TokensFault, tokens};
+use std::test::Fail;
+
+const LEX: &[u8] = b"%%\nif return IF;\n[a-z]+ return ID;\n\" \" ;\n";
+
+const TEXT: &[u8] = b"if ifx";
+
+const LINES: &[u8] = b"IF\"if\"\nID\"ifx\"\n";
+
+/// Takes all the room that there is, the smallest blocks last.
+fn hog(rt: &HostRuntime) -> Vec<Vec<u8>> {
+    let mut held = Vec::new(rt.alloc());
+    let _ = held.reserve(60_000);
+    let mut size = 1usize << 46;
+    for _ in 0..60_000u32 {
+        match Vec::with_capacity(rt.alloc(), size) {
+            Ok(block) => {
+                if held.push(block).is_err() {
+                    return held;
+                }
+            }
+            Err(_) => {
+                size /= 2;
+                if size < 32 {
+                    return held;
+                }
+            }
+        }
+    }
+    held
+}
+
+/// With no room at first, and some more at each try, until there is all of it. (Only where a process has a
+/// limit of memory can all room be taken.) That memory never runs out where it is ample the worked
+/// examples show.
+#[test]
+fn want_of_memory_is_told(rt: HostRuntime) -> Result<(), Fail> {
+    let mut held = hog(&rt);
+    let mut refused = 0u32;
+    let mut answered = 0u32;
+    for _ in 0..600u32 {
+        let mut room = [0u8; LINES.len() + 1];
+        let mut writer = Counted::new(&mut room[..]);
+        let result = tokens(rt.alloc(), LEX, &mut MemSource::new(TEXT), &mut writer);
+        let (written, left) = room.split_at(LINES.len());
+        assert_eq!(rt; left, [0].as_slice());
+        match result {
+            Ok(end) => {
+                answered = answered.wrapping_add(1);
+                assert_eq!(rt; end, TokenEnd::Clean);
+                assert_eq!(rt; written, LINES);
+            }
+            Err(fault) => {
+                refused = refused.wrapping_add(1);
+                assert_eq!(rt; fault, TokensFault::OutOfMemory);
+                assert!(rt;
+                    written.iter().all(|byte| *byte == 0),
+                    "something was written"
+                );
+            }
+        }
+        for _ in 0..=held.len() / 64 {
+            let _ = held.pop();
+        }
+    }
+    let blocks = held.len();
+    drop(held);
+    assert!(rt;
+        refused > 0,
+        "{refused} refused, {answered} answered, {blocks} blocks"
+    );
+    assert!(rt;
+        answered > 0,
+        "{refused} refused, {answered} answered, {blocks} blocks"
+    );
+    Ok(())
+}

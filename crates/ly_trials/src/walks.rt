@@ -1,0 +1,147 @@
+//! The longest match over rows that were made by hand.
+
+use crate::dense::{Dense, Row};
+use ly_base::{Cut, RuleNo};
+use ly_scan::{Match, next_match};
+use std::test::Fail;
+
+/// The bytes that lead on from each state, one more than the states that they lead to, and the rule that
+/// ends there: rule 0 is `ab`, and rule 1 is `abc+d`.
+const STATES: [(&[(u8, u16)], Option<u32>); 5] = [
+    (&[(b'a', 2)], None),
+    (&[(b'b', 3)], None),
+    (&[(b'c', 4)], Some(0)),
+    (&[(b'c', 4), (b'd', 5)], None),
+    (&[], Some(1)),
+];
+
+/// A text, whether a line starts there, the cut of rule 1, and the match.
+const MATCHES: [(&[u8], bool, Cut, Match); 16] = [
+    (
+        b"ab",
+        false,
+        Cut::Whole,
+        Match::Win {
+            rule: RuleNo(0),
+            token_len: 2,
+        },
+    ),
+    (
+        b"abab",
+        false,
+        Cut::Whole,
+        Match::Win {
+            rule: RuleNo(0),
+            token_len: 2,
+        },
+    ),
+    (
+        b"abcc",
+        false,
+        Cut::Whole,
+        Match::Win {
+            rule: RuleNo(0),
+            token_len: 2,
+        },
+    ),
+    (
+        b"abccx",
+        false,
+        Cut::Whole,
+        Match::Win {
+            rule: RuleNo(0),
+            token_len: 2,
+        },
+    ),
+    (
+        b"abcd",
+        false,
+        Cut::Whole,
+        Match::Win {
+            rule: RuleNo(1),
+            token_len: 4,
+        },
+    ),
+    (
+        b"abcccdd",
+        false,
+        Cut::Whole,
+        Match::Win {
+            rule: RuleNo(1),
+            token_len: 6,
+        },
+    ),
+    (
+        b"abcccdd",
+        false,
+        Cut::Head(2),
+        Match::Win {
+            rule: RuleNo(1),
+            token_len: 2,
+        },
+    ),
+    (
+        b"abcccdd",
+        false,
+        Cut::Head(6),
+        Match::Win {
+            rule: RuleNo(1),
+            token_len: 6,
+        },
+    ),
+    (b"abcccdd", false, Cut::Head(7), Match::BadCut),
+    (b"abcccdd", false, Cut::Head(0), Match::BadCut),
+    (
+        b"abcccdd",
+        false,
+        Cut::Tail(1),
+        Match::Win {
+            rule: RuleNo(1),
+            token_len: 5,
+        },
+    ),
+    (b"abcccdd", false, Cut::Tail(6), Match::BadCut),
+    (b"a", false, Cut::Whole, Match::Stuck),
+    (b"", false, Cut::Whole, Match::Stuck),
+    (b"bab", false, Cut::Whole, Match::Stuck),
+    (b"ab", true, Cut::Whole, Match::Stuck),
+];
+
+/// A state by the bytes that lead on from it.
+fn row(edges: &[(u8, u16)], rule: Option<u32>) -> Row {
+    let mut next = [0; 256];
+    for (byte, entry) in edges {
+        next[usize::from(*byte)] = *entry;
+    }
+    Row {
+        next,
+        rule: rule.map(RuleNo),
+    }
+}
+
+#[test]
+fn longest_matches_and_their_cuts(rt: HostRuntime) -> Result<(), Fail> {
+    let mut rows = Vec::new(rt.alloc());
+    for (edges, rule) in &STATES {
+        rows.push(row(edges, *rule))?;
+    }
+    for (text, line, cut, wanted) in &MATCHES {
+        let mut dense = Dense {
+            rows: &rows,
+            starts: &[[1, 0]],
+            cuts: &[Cut::Whole, *cut],
+            state: 0,
+        };
+        assert_eq!(rt;
+            next_match(&mut dense, 0, *line, text),
+            *wanted,
+            "{text:?} {cut:?}"
+        );
+        assert_eq!(rt;
+            next_match(&mut dense, 1, *line, text),
+            Match::Stuck,
+            "{text:?}"
+        );
+    }
+    Ok(())
+}
