@@ -10,6 +10,7 @@ pub mod Pigeonhole
 pub mod PlainLemmas
 pub mod PlanLemmas
 pub mod ProgramLemmas
+pub mod RunLemmas
 pub mod SparseSetLemmas
 pub mod StartLemmas
 pub mod WalkLemmas

@@ -1,8 +1,10 @@
+pub mod Assembled
 pub mod Compile
 pub mod FaultNumber
 pub mod Follow
 pub mod Lists
 pub mod Nfa
+pub mod Patterns
 pub mod Plain
 pub mod Plan
 pub mod Position
