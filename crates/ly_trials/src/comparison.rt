@@ -9,67 +9,67 @@ use std::alloc::{AllocError, Global};
 use std::test::Fail;
 
 /// The patterns of a lex file's rules. The first rule returns `A`, and the second `B`.
-const FILES: [&[&[u8]]; 60] = [
-    &[b"a"],
-    &[b"ab"],
-    &[b"a|b"],
-    &[b"a*"],
-    &[b"a+"],
-    &[b"a?"],
-    &[b"(((a)))"],
-    &[b"(ab)*"],
-    &[b"(a|b)*c"],
-    &[b"a*b*"],
-    &[b"a+b?c*"],
-    &[b"(a*)*"],
-    &[b"(a+)*"],
-    &[b"(a?)*"],
-    &[b"(a*)+"],
-    &[b"(a+)+"],
-    &[b"(a?)+"],
-    &[b"(a*)?"],
-    &[b"(a+)?"],
-    &[b"(a?)?"],
-    &[b"a*|b"],
-    &[b"(ab|a)(bc|c)"],
-    &[b"(a|ab)(c|bca)*"],
-    &[b"(a|b)*abb"],
-    &[b"((a|bc)+|b?c)*"],
-    &[b"(a(b(c)?)?)?"],
-    &[b"(a*b)+c?"],
-    &[b"a+?b"],
-    &[b"[ab]"],
-    &[b"[^a]"],
-    &[b"[a-b]c"],
-    &[b"[^b-c]*"],
-    &[b"[[:lower:]]"],
-    &[b"."],
-    &[b".b"],
-    &[b".*c"],
-    &[b"\"ab\""],
-    &[b"\"a\"*"],
-    &[b"a\"bc\"?"],
-    &[b"\"a|b\""],
-    &[b"\"\""],
-    &[b"\"\"|a"],
-    &[b"(\"\"|a)b"],
-    &[b"(\"\"|a)*b"],
-    &[b"a(\"\"|b)c"],
-    &[b"a\\*"],
-    &[b"\\141\\x62?"],
-    &[b"[\\141-\\142]+"],
-    &[b"a", b"a"],
-    &[b"ab", b"a*b"],
-    &[b"a*b", b"ab"],
-    &[b"a|b", b"[a-c]"],
-    &[b"a+", b"(a|b)+"],
-    &[b"(a|b)+", b"a+"],
-    &[b"a", b".*c"],
-    &[b"abc", b"a|b"],
-    &[b"c*", b"a*c"],
-    &[b"(ab)*", b"a|b"],
-    &[b"..", b"a.."],
-    &[b"b?", b"a?c?"],
+const FILES: [&[&str]; 60] = [
+    &["a"],
+    &["ab"],
+    &["a|b"],
+    &["a*"],
+    &["a+"],
+    &["a?"],
+    &["(((a)))"],
+    &["(ab)*"],
+    &["(a|b)*c"],
+    &["a*b*"],
+    &["a+b?c*"],
+    &["(a*)*"],
+    &["(a+)*"],
+    &["(a?)*"],
+    &["(a*)+"],
+    &["(a+)+"],
+    &["(a?)+"],
+    &["(a*)?"],
+    &["(a+)?"],
+    &["(a?)?"],
+    &["a*|b"],
+    &["(ab|a)(bc|c)"],
+    &["(a|ab)(c|bca)*"],
+    &["(a|b)*abb"],
+    &["((a|bc)+|b?c)*"],
+    &["(a(b(c)?)?)?"],
+    &["(a*b)+c?"],
+    &["a+?b"],
+    &["[ab]"],
+    &["[^a]"],
+    &["[a-b]c"],
+    &["[^b-c]*"],
+    &["[[:lower:]]"],
+    &["."],
+    &[".b"],
+    &[".*c"],
+    &["\"ab\""],
+    &["\"a\"*"],
+    &["a\"bc\"?"],
+    &["\"a|b\""],
+    &["\"\""],
+    &["\"\"|a"],
+    &["(\"\"|a)b"],
+    &["(\"\"|a)*b"],
+    &["a(\"\"|b)c"],
+    &["a\\*"],
+    &["\\141\\x62?"],
+    &["[\\141-\\142]+"],
+    &["a", "a"],
+    &["ab", "a*b"],
+    &["a*b", "ab"],
+    &["a|b", "[a-c]"],
+    &["a+", "(a|b)+"],
+    &["(a|b)+", "a+"],
+    &["a", ".*c"],
+    &["abc", "a|b"],
+    &["c*", "a*c"],
+    &["(ab)*", "a|b"],
+    &["..", "a.."],
+    &["b?", "a?c?"],
 ];
 
 /// How many strings of at most five bytes there are.
@@ -87,20 +87,20 @@ fn tokens_are_the_longest_strings_that_belong(rt: HostRuntime) -> Result<(), Fai
             assert_eq!(rt;
                 lines.as_slice(),
                 wanted.as_slice(),
-                "file {lex:?}, text {text:?}"
+                "patterns {patterns:?}, text {text:?}"
             );
-            assert_eq!(rt; end, wanted_end, "file {lex:?}, text {text:?}");
+            assert_eq!(rt; end, wanted_end, "patterns {patterns:?}, text {text:?}");
         }
     }
     Ok(())
 }
 
 /// The lex file of patterns.
-fn lex_file(alloc: Global, patterns: &[&[u8]]) -> Result<Vec<u8>, AllocError> {
+fn lex_file(alloc: Global, patterns: &[&str]) -> Result<Vec<u8>, AllocError> {
     let mut lex = Vec::new(alloc);
     lex.extend_from_slice(b"%%\n")?;
     for (rule, pattern) in patterns.iter().enumerate() {
-        lex.extend_from_slice(pattern)?;
+        lex.extend_from_slice(pattern.as_bytes())?;
         lex.extend_from_slice(b" return ")?;
         lex.push(name(rule))?;
         lex.extend_from_slice(b";\n")?;
@@ -114,11 +114,11 @@ fn name(rule: usize) -> u8 {
 }
 
 /// What the patterns mean.
-fn expressions(alloc: Global, patterns: &[&[u8]]) -> Result<Vec<Re>, Fail> {
+fn expressions(alloc: Global, patterns: &[&str]) -> Result<Vec<Re>, Fail> {
     let names = Names::new(alloc);
     let mut expressions = Vec::new(alloc);
     for pattern in patterns {
-        expressions.push(read_pattern(alloc, pattern, &names, &Limits::V1)?.head)?;
+        expressions.push(read_pattern(alloc, pattern.as_bytes(), &names, &Limits::V1)?.head)?;
     }
     Ok(expressions)
 }
