@@ -19,6 +19,14 @@ IsAt g sets w = IsWalk g sets w.cursors.items w.places.items w.pending.items w.p
 abbrev pub IsAtFrame : Digraph → List NumberSet → Walk → Frame → Type 0
 IsAtFrame g sets w f = IsWalk g sets w.cursors.items w.places.items w.pending.items (w.path.items ++ f ∷ [])
 
+-- the walk is not under way
+abbrev pub IsOver : Walk → Type 0
+IsOver w = vec_len w.path ≡ 0
+
+-- the node was seen
+abbrev pub WasSeen : Walk → ℕ → Type 0
+WasSeen w x = place w.places.items x ≢ New
+
 -- the last frame
 abbrev pub top : Walk → Frame
 top w = frame w.path.items (length w.path.items - 1)

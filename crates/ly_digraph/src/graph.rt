@@ -1,4 +1,4 @@
-ghost use Rattle.std.specs.Prelude.{◌≡◌, ◌<◌, ℕ, [], ◌∷◌, ◌++◌, length, All, IfOk, OnOk, OnErr};
+ghost use Rattle.std.specs.Prelude.{◌≡◌, ◌<◌, [], ◌∷◌, ◌++◌, length, All, IfOk, OnOk, OnErr};
 
 use ly_base::OutOfMemory;
 use std::alloc::Global;
@@ -15,8 +15,10 @@ pub struct Graph {
 
 /// An edge.
 #[derive(Clone, Copy)]
-pub struct Edge {
+struct Edge {
+    /// Where it begins.
     from: usize,
+    /// Where it leads.
     to: usize,
     /// How many edges from the front hold all of the same node's edges before this one.
     before: usize,

@@ -5,7 +5,7 @@
 //! and holds what was entered from there and left, but couldn't be closed. `low` is a position that
 //! a part is known to reach (Tarjan's low link, kept a frame and not a node). A part whose low
 //! position is its own start is a component.
-ghost use Rattle.std.specs.Prelude.{◌≡◌, ◌≢◌, ◌<◌, ◌≤◌, ◌+◌, ◌-◌, ◌↔◌, ℕ, List, [], ◌∷◌, ◌++◌, length, min, take, vec_len, slice_set, slice_index, IsTrue, false, true, IfOk, OnOk, OnErr};
+ghost use Rattle.std.specs.Prelude.{◌≡◌, ◌≢◌, ◌<◌, ◌≤◌, ◌+◌, ◌-◌, ◌↔◌, List, length, take, vec_len, slice_index, false, true, IfOk, OnOk};
 
 use crate::graph::Graph;
 use ly_base::OutOfMemory;
@@ -14,7 +14,7 @@ use std::alloc::Global;
 
 /// Where a node stands.
 #[derive(Clone, Copy)]
-pub enum Place {
+pub(crate) enum Place {
     /// Not seen yet.
     New,
     /// Pending, at this position.
@@ -25,18 +25,18 @@ pub enum Place {
 
 /// A node on the way from the root of the walk to where it is.
 #[derive(Clone, Copy)]
-pub struct Frame {
+pub(crate) struct Frame {
     /// The node.
-    pub node: usize,
+    node: usize,
     /// The position of the node among the pending ones: its part begins there.
-    pub start: usize,
+    start: usize,
     /// The least position that the part is known to reach.
-    pub low: usize,
+    low: usize,
 }
 
 /// A depth-first walk over a graph.
 #[derive(Drop)]
-pub struct Walk {
+pub(crate) struct Walk {
     /// For each node, how many edges from the front hold all of its edges that are to be looked at.
     cursors: Vec<usize>,
     places: Vec<Place>,
@@ -49,19 +49,19 @@ pub struct Walk {
 impl Walk {
     ghost use Rattle.ly_sets.specs.NumberSet.{NumberSet};
     ghost use Rattle.ly_sets.specs.SetMatrix.{Matrix};
-    ghost use Rattle.ly_digraph.specs.Digraph.{Digraph, source, target, IsEndBefore};
-    ghost use Rattle.ly_digraph.specs.Walk.{IsWalk, place, frame, entered, lowered};
-    ghost use Rattle.ly_digraph.specs.Search.{IsAt, IsAtFrame, IsListed, IsClosed, IsWaiting, IsTurned, IsLowered, IsEntered, Continues, top, next_target, steps_left, unions_left};
+    ghost use Rattle.ly_digraph.specs.Digraph.{target};
+    ghost use Rattle.ly_digraph.specs.Walk.{place, frame, entered};
+    ghost use Rattle.ly_digraph.specs.Search.{IsAt, IsAtFrame, IsOver, WasSeen, IsListed, IsClosed, IsWaiting, IsTurned, IsLowered, IsEntered, Continues, top, next_target, steps_left, unions_left};
     ghost use Rattle.ly_digraph.specs.declared.walk.Frame.{Frame};
     ghost use Rattle.ly_digraph.specs.declared.walk.Place.TheVariants.{New, Open, Done};
 
     /// A walk that has seen nothing.
-    pub fn new(alloc: Global, graph: &Graph) -> Result<Walk, OutOfMemory>
+    pub(crate) fn new(alloc: Global, graph: &Graph) -> Result<Walk, OutOfMemory>
         ensures at { IfOk result (λ w. (sets : List NumberSet) → graph.now.nodes ≤ length sets →
             IsAt graph.now sets w) }
         ensures left { IfOk result (λ w. unions_left graph.now w ≤
             length graph.now.edges + graph.now.nodes) }
-        ensures over { IfOk result (λ w. vec_len w.path ≡ 0) }
+        ensures over { IfOk result IsOver }
     {
         let nodes = graph.nodes();
         let mut cursors = Vec::with_capacity(alloc, nodes)?;
@@ -77,7 +77,7 @@ impl Walk {
     }
 
     /// Walks over what a node reaches, as far as it wasn't seen.
-    pub fn visit(
+    pub(crate) fn visit(
         &mut self,
         root: usize,
         graph: &Graph,
@@ -85,10 +85,10 @@ impl Walk {
     ) -> Result<(), OutOfMemory>
         requires at { IsAt graph.now sets.old.sets self.old }
         requires inside { root < graph.now.nodes }
-        requires over { vec_len self.old.path ≡ 0 }
+        requires over { IsOver self.old }
         ensures on { OnOk result (Continues graph.now sets.old self.old sets.new self.new) }
-        ensures over { OnOk result (vec_len self.new.path ≡ 0) }
-        ensures seen { OnOk result (place self.new.places.items root ≢ New) }
+        ensures over { OnOk result (IsOver self.new) }
+        ensures seen { OnOk result (WasSeen self.new root) }
     {
         if self.is_seen(root) {
             return Ok(());

@@ -16,7 +16,7 @@ const LANES: usize = 4;
 const WORD_BITS: usize = 64;
 
 /// How many words hold the numbers below `width`, in whole blocks.
-pub fn words_for(width: usize) -> usize
+pub(crate) fn words_for(width: usize) -> usize
     ensures room { width ≤ 64 * result }
     ensures blocks { (result / 4) * 4 ≡ result }
 {
@@ -24,7 +24,7 @@ pub fn words_for(width: usize) -> usize
 }
 
 /// Whether a number is in the row of `len` words from `start` on.
-pub fn contains_bit(words: &[u64], start: usize, len: usize, number: usize) -> bool
+pub(crate) fn contains_bit(words: &[u64], start: usize, len: usize, number: usize) -> bool
     requires inside { start + len ≤ length words.now }
     requires below { number < 64 * len }
     ensures { result ≡ set.contains (row_set start len words.now) number }
@@ -33,7 +33,7 @@ pub fn contains_bit(words: &[u64], start: usize, len: usize, number: usize) -> b
 }
 
 /// Adds a number to the row of `len` words from `start` on.
-pub fn insert_bit(words: &mut [u64], start: usize, len: usize, number: usize)
+pub(crate) fn insert_bit(words: &mut [u64], start: usize, len: usize, number: usize)
     requires inside { start + len ≤ length words.old }
     requires below { number < 64 * len }
     ensures added { row_set start len words.new ≡ set.insert (row_set start len words.old) number }
@@ -43,7 +43,7 @@ pub fn insert_bit(words: &mut [u64], start: usize, len: usize, number: usize)
 }
 
 /// How many numbers are in the row of `len` words from `start` on.
-pub fn count_bits(words: &[u64], start: usize, len: usize, width: usize) -> usize
+pub(crate) fn count_bits(words: &[u64], start: usize, len: usize, width: usize) -> usize
     requires inside { start + len ≤ length words.now }
     requires below { AllBelow width (row_set start len words.now) }
     ensures { result ≡ set.len (row_set start len words.now) }
@@ -56,7 +56,7 @@ pub fn count_bits(words: &[u64], start: usize, len: usize, width: usize) -> usiz
 }
 
 /// Puts the row from `from` on into the one from `to` on, and tells whether that one grew.
-pub fn union_rows(words: &mut [u64], to: usize, from: usize, len: usize) -> bool
+pub(crate) fn union_rows(words: &mut [u64], to: usize, from: usize, len: usize) -> bool
     requires to_inside { to + len ≤ length words.old }
     requires from_inside { from + len ≤ length words.old }
     requires apart { (to + len ≤ from) ⊎ ((from + len ≤ to) ⊎ (to ≡ from)) }

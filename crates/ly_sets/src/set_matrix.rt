@@ -14,13 +14,16 @@ pub struct SetMatrix {
     words: Vec<u64>,
     /// How many words a row has: whole blocks.
     stride: usize,
+    /// How many rows there are.
     rows: usize,
+    /// Every member is below it.
     width: usize,
+    /// How many changes were asked for.
     changes: u64,
 }
 
 impl Model for SetMatrix {
-    ghost use Rattle.std.specs.Prelude.{◌≡◌, ◌*◌, ◌/◌, ◌≤◌, ℕ, vec_len};
+    ghost use Rattle.std.specs.Prelude.{◌≡◌, ◌*◌, ◌/◌, ℕ};
     ghost use Rattle.ly_sets.specs.SetMatrix.{Matrix, matrix_code, sets_of, IsLaidOut};
 
     ghost Value = { Matrix };

@@ -11,6 +11,7 @@ use std::marker::Model;
 pub struct TermSet {
     /// The bits of the members, in whole blocks.
     words: Vec<u64>,
+    /// Every member is below it.
     width: usize,
 }
 
