@@ -1,1 +1,5 @@
+pub mod DefinitionLemmas
+pub mod FrontLemmas
+pub mod GapLemmas
 pub mod LexingLaws
+pub mod LineLemmas

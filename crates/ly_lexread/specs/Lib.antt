@@ -1,3 +1,7 @@
+pub mod Definitions
 pub mod FaultNumber
+pub mod Gap
 pub mod Laws
 pub mod Lexing
+pub mod Lines
+pub mod Words

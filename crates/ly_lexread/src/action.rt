@@ -1,6 +1,4 @@
-ghost use Rattle.std.specs.Prelude.{◌≤◌, length, IfSome, IfOk};
-
-use ly_base::literal;
+use crate::words::{NextWord, next_word};
 use std::alloc::{AllocError, Global};
 
 /// What a rule's action does.
@@ -29,108 +27,77 @@ pub enum Returned {
 /// `return 'c' ;`, with blanks and comments between the words (POSIX, lex, "Actions in lex"). `None` where
 /// it is something else.
 pub(crate) fn read_action(alloc: Global, text: &[u8]) -> Result<Option<Action>, AllocError> {
-    let Some(rest) = after_gap(text) else {
+    let Some(value) = said(text) else {
         return Ok(None);
     };
-    let (returns, rest) = match rest {
-        [] | [b';', ..] => (Returned::Nothing, rest),
-        _ => match return_value(rest) {
-            Some((value, rest)) => (value.returned(alloc)?, rest),
-            None => return Ok(None),
-        },
-    };
-    if !is_end(rest) {
-        return Ok(None);
-    }
+    let returns = value.returned(alloc)?;
     Ok(Some(Action {
         begin: None,
         returns,
     }))
 }
 
-/// The word after `return`.
+/// What an action returns.
 #[derive(Clone, Copy)]
 enum Value<'t> {
+    Nothing,
     Name(&'t [u8]),
-    Literal(u8),
+    Byte(u8),
 }
 
 impl Value<'_> {
     fn returned(self, alloc: Global) -> Result<Returned, AllocError> {
         match self {
+            Value::Nothing => Ok(Returned::Nothing),
             Value::Name(name) => Ok(Returned::Token(Vec::from_slice(alloc, name)?)),
-            Value::Literal(byte) => Ok(Returned::Literal(byte)),
+            Value::Byte(byte) => Ok(Returned::Literal(byte)),
         }
     }
 }
 
-/// The value that is returned, and what stands behind it; at least a `;` does.
-fn return_value(text: &[u8]) -> Option<(Value<'_>, &[u8])> {
-    let after = text.strip_prefix(b"return")?;
-    if name_length(text) != 6 {
-        return None;
-    }
-    let word = after_gap(after)?;
-    let (value, length) = match literal(word) {
-        Some((byte, length)) => (Value::Literal(byte), length),
-        None => {
-            let length = name_length(word);
-            if length == 0 {
-                return None;
+/// What the text says; `None` where it is none of the forms.
+fn said(text: &[u8]) -> Option<Value<'_>> {
+    let (first, rest) = next_word(text);
+    match first {
+        NextWord::End => Some(Value::Nothing),
+        NextWord::Semicolon => is_end(rest).then_some(Value::Nothing),
+        NextWord::Name(name) => {
+            if is_return(name) {
+                behind_return(rest)
+            } else {
+                None
             }
-            (Value::Name(&word[..length]), length)
         }
-    };
-    let rest = after_gap(&word[length..])?;
-    if rest.is_empty() {
-        return None;
+        NextWord::Byte(_) | NextWord::Other => None,
     }
-    Some((value, rest))
 }
 
-/// Whether nothing is left, or a `;` and after it nothing but blanks and comments.
-fn is_end(text: &[u8]) -> bool {
-    match text {
-        [] => true,
-        [b';', rest @ ..] => matches!(after_gap(rest), Some([])),
+/// Whether the name is `return`.
+fn is_return(name: &[u8]) -> bool {
+    name == b"return".as_slice()
+}
+
+/// What is returned, by the text behind `return`: a value and a `;`.
+fn behind_return(text: &[u8]) -> Option<Value<'_>> {
+    let (word, rest) = next_word(text);
+    match word {
+        NextWord::Name(name) => is_semicolon(rest).then_some(Value::Name(name)),
+        NextWord::Byte(byte) => is_semicolon(rest).then_some(Value::Byte(byte)),
+        _ => None,
+    }
+}
+
+/// Whether a `;` is left, and nothing else but blanks and comments.
+fn is_semicolon(text: &[u8]) -> bool {
+    let (word, rest) = next_word(text);
+    match word {
+        NextWord::Semicolon => is_end(rest),
         _ => false,
     }
 }
 
-/// How many bytes the name at the front takes: a letter or `_`, then letters, digits and `_`.
-pub(crate) fn name_length(text: &[u8]) -> usize
-    ensures { result ≤ length text.now }
-{
-    for (at, byte) in text.iter().enumerate() {
-        let continues = match *byte {
-            b'a'..=b'z' | b'A'..=b'Z' | b'_' => true,
-            b'0'..=b'9' => at > 0,
-            _ => false,
-        };
-        if !continues {
-            return at;
-        }
-    }
-    text.len()
-}
-
-/// What stands behind the blanks and comments at the front; `None` where a comment isn't closed.
-fn after_gap(text: &[u8]) -> Option<&[u8]> {
-    let mut rest = text;
-    while !rest.is_empty() {
-        match rest {
-            [b' ' | b'\t', after @ ..] => rest = after,
-            [b'/', b'*', inside @ ..] => rest = after_comment(inside)?,
-            _ => return Some(rest),
-        }
-    }
-    Some(rest)
-}
-
-/// What stands behind the first `*/`.
-fn after_comment(inside: &[u8]) -> Option<&[u8]>
-    ensures { IfSome result (λ rest. length rest.now ≤ length inside.entry.now) }
-{
-    let end = inside.windows(2).position(|pair| pair == b"*/".as_slice())?;
-    inside.get(end + 2..)
+/// Whether nothing but blanks and comments is left.
+fn is_end(text: &[u8]) -> bool {
+    let (word, _rest) = next_word(text);
+    matches!(word, NextWord::End)
 }

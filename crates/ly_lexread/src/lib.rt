@@ -4,9 +4,11 @@
 mod action;
 mod fault;
 mod file;
+mod gap;
 mod laws;
 mod lines;
 mod read;
+mod words;
 
 pub use action::{Action, Returned};
 pub use fault::LexFault;

@@ -1,4 +1,9 @@
-ghost use Rattle.std.specs.Prelude.{◌≡◌, ◌<◌, ◌≤◌, length, MatchOption, IfSome, OnSome};
+ghost use Rattle.std.specs.Prelude.{◌≡◌, ◌∷◌, [], ◌<◌, ◌≤◌, length, nat_eq, MatchBool, MatchOption, OnSome};
+ghost use Rattle.std.specs.List.{position_or_len};
+ghost use Rattle.ly_lexread.specs.Definitions.{BeginsWith, IsMark, IsUnused};
+ghost use Rattle.ly_lexread.specs.Lines.{lines_left, lines_of};
+
+use crate::gap::is_blank;
 
 /// A line of a file, without its newline.
 #[derive(Clone, Copy)]
@@ -11,13 +16,27 @@ pub(crate) struct Line<'t> {
 
 impl Line<'_> {
     /// Whether it begins with these bytes.
-    pub(crate) fn begins_with(&self, bytes: &[u8]) -> bool {
-        self.bytes.starts_with(bytes)
+    pub(crate) fn begins_with(&self, front: &[u8]) -> bool
+        ensures { MatchBool result (BeginsWith self.now.bytes.now front.now) (BeginsWith self.now.bytes.now front.now → ⊥) }
+    {
+        self.bytes.starts_with(front)
+    }
+
+    /// Whether it ends the definitions or the rules: it begins with `%%`.
+    pub(crate) fn is_mark(&self) -> bool
+        ensures { MatchBool result (IsMark self.now.bytes.now) (IsMark self.now.bytes.now → ⊥) }
+    {
+        self.begins_with(b"%%")
     }
 
     /// Whether it is empty or begins with a blank.
-    pub(crate) fn is_blank(&self) -> bool {
-        matches!(self.bytes, [] | [b' ' | b'\t', ..])
+    pub(crate) fn is_unused(&self) -> bool
+        ensures { MatchBool result (IsUnused self.now.bytes.now) (IsUnused self.now.bytes.now → ⊥) }
+    {
+        match self.bytes.first() {
+            None => true,
+            Some(first) => is_blank(*first),
+        }
     }
 }
 
@@ -30,7 +49,9 @@ pub(crate) struct Lines<'t> {
 
 impl<'t> Lines<'t> {
     /// All lines of a file.
-    pub(crate) fn of(bytes: &'t [u8]) -> Self {
+    pub(crate) fn of(bytes: &'t [u8]) -> Self
+        ensures { lines_left result ≡ lines_of bytes.now }
+    {
         Lines {
             rest: bytes,
             number: 0,
@@ -44,23 +65,16 @@ impl<'t> Lines<'t> {
 
     /// Takes the next line.
     pub(crate) fn take(&mut self) -> Option<Line<'t>>
-        ensures { OnSome result (length self.new.rest.now < length self.old.rest.now) }
+        ensures shorter { OnSome result (length self.new.rest.now < length self.old.rest.now) }
+        ensures these { MatchOption result (lines_left self.old ≡ []) (λ line. lines_left self.old ≡ line.bytes.now ∷ lines_left self.new) }
     {
         if self.rest.is_empty() {
             return None;
         }
-        let end = self.rest.iter().position(|byte| *byte == b'\n');
-        let bytes = match end {
-            Some(end) => {
-                let bytes = &self.rest[..end];
-                self.rest = &self.rest[end + 1..];
-                bytes
-            }
-            None => {
-                let bytes = self.rest;
-                self.rest = &[];
-                bytes
-            }
+        let (bytes, newline_and_rest) = self.rest.split_at(line_length(self.rest));
+        self.rest = match newline_and_rest.split_first() {
+            Some((_newline, rest)) => rest,
+            None => newline_and_rest,
         };
         self.number = self.number.saturating_add(1);
         Some(Line {
@@ -68,4 +82,15 @@ impl<'t> Lines<'t> {
             number: self.number,
         })
     }
+}
+
+/// How many bytes stand before the first newline.
+fn line_length(bytes: &[u8]) -> usize
+    ensures within { result ≤ length bytes.now }
+    ensures value { result ≡ position_or_len (λ byte. nat_eq byte 10) bytes.now }
+{
+    bytes
+        .iter()
+        .position(|byte| *byte == b'\n')
+        .unwrap_or(bytes.len())
 }

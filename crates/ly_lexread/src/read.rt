@@ -1,3 +1,7 @@
+ghost use Rattle.std.specs.Prelude.{ℕ, List, OnErr, OnOk};
+ghost use Rattle.ly_lexread.specs.Definitions.{Definitions};
+ghost use Rattle.ly_lexread.specs.Lines.{lines_left};
+
 use crate::action::{Action, read_action};
 use crate::fault::LexFault;
 use crate::file::LexFile;
@@ -17,19 +21,7 @@ pub fn read_lex(alloc: Global, bytes: &[u8], limits: &Limits) -> Result<LexFile,
     let mut lines = Lines::of(bytes);
     skip_definitions(&mut lines)?;
     let names = Names::new(alloc);
-    let mut rules = Vec::new(alloc);
-    let mut actions = Vec::new(alloc);
-    while let Some(line) = lines.take() {
-        if line.begins_with(b"%%") {
-            break;
-        }
-        if line.is_blank() {
-            continue;
-        }
-        let (rule, action) = read_rule(alloc, line, &names, limits)?;
-        rules.push(rule)?;
-        actions.push(action)?;
-    }
+    let (rules, actions) = read_rules(alloc, lines, &names, limits)?;
     Ok(LexFile {
         names,
         rules,
@@ -39,18 +31,44 @@ pub fn read_lex(alloc: Global, bytes: &[u8], limits: &Limits) -> Result<LexFile,
 }
 
 /// Takes the lines of the definitions, and the one that begins the rules.
-fn skip_definitions(lines: &mut Lines<'_>) -> Result<(), LexFault> {
+fn skip_definitions(lines: &mut Lines<'_>) -> Result<(), LexFault>
+    ensures ok { OnOk result (Definitions (lines_left lines.old) (lines_left lines.new)) }
+    ensures refused { OnErr result ((behind : List (List ℕ)) → Definitions (lines_left lines.old) behind → ⊥) }
+{
     while let Some(line) = lines.take() {
-        if line.begins_with(b"%%") {
+        if line.is_mark() {
             return Ok(());
         }
-        if !line.is_blank() {
+        if !line.is_unused() {
             return Err(LexFault::BadDefinition { line: line.number });
         }
     }
     Err(LexFault::NoRulesMark {
         line: lines.last_number(),
     })
+}
+
+/// Reads the rules and their actions.
+fn read_rules(
+    alloc: Global,
+    mut lines: Lines<'_>,
+    names: &Names,
+    limits: &Limits,
+) -> Result<(Vec<Rule>, Vec<Action>), LexFault> {
+    let mut rules = Vec::new(alloc);
+    let mut actions = Vec::new(alloc);
+    while let Some(line) = lines.take() {
+        if line.is_mark() {
+            break;
+        }
+        if line.is_unused() {
+            continue;
+        }
+        let (rule, action) = read_rule(alloc, line, names, limits)?;
+        rules.push(rule)?;
+        actions.push(action)?;
+    }
+    Ok((rules, actions))
 }
 
 /// Reads the line of a rule: its pattern, blanks, and its action.
@@ -67,15 +85,13 @@ fn read_rule(
         return Err(LexFault::UnknownCondition { line: line.number });
     }
     let (text, behind) = line.bytes.split_at(pattern_length(line.bytes));
-    let rule = match read_pattern(alloc, text, names, limits) {
-        Ok(pattern) => Rule {
-            pattern,
-            active: vec![in alloc; 0]?,
-        },
+    let pattern = match read_pattern(alloc, text, names, limits) {
+        Ok(pattern) => pattern,
         Err(fault) => return Err(pattern_fault(line.number, fault)),
     };
+    let active = vec![in alloc; 0]?;
     match read_action(alloc, behind)? {
-        Some(action) => Ok((rule, action)),
+        Some(action) => Ok((Rule { pattern, active }, action)),
         None => Err(LexFault::BadAction { line: line.number }),
     }
 }
