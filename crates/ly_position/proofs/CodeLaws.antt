@@ -1,9 +1,8 @@
 -- The code of a plain expression reads exactly its strings.
-use Rattle.std.proofs.Common.{◌≡◌, inl, inr, ◌⊎◌, ℕ, zero, suc, ◌+◌, ◌-◌, ◌<◌, ◌≤◌, List, [], ◌∷◌, ◌++◌, length, refl, sym, ap, subst, ◌∙◌, arith, Some, append_assoc, add-zero, zero-add, add-one, length-append}
+use Rattle.std.proofs.Common.{◌≡◌, inl, inr, ◌⊎◌, ℕ, zero, suc, ◌+◌, ◌-◌, ◌<◌, ◌≤◌, List, [], ◌∷◌, ◌++◌, refl, sym, ap, subst, ◌∙◌, arith, Some, append_assoc, add-zero, zero-add}
 use Rattle.std.specs.Prelude.{slice_get, Contains}
-use Rattle.std.proofs.lemmas.Bool.{cases_eq, cases_lt}
 use Rattle.ly_ere.specs.Expression.{Expression, set, empty, concat, either, star, plus, optional, repeat, name, MatchesUnder, Joined}
-use Rattle.ly_position.specs.Program.{Step, reads, fork, ends, Runs, at_end, by_read, by_first, by_second, size, entry, code, IsPlain}
+use Rattle.ly_position.specs.Program.{Step, reads, fork, ends, Runs, at_end, by_read, by_first, by_second, size, entry, IsPlain}
 
 -- the program has the code of the expression at base
 abbrev pub HasCode : List Step → Expression → ℕ → ℕ → Type 0
@@ -105,9 +104,9 @@ module _ (g : List Step) (i : ℕ) where
   around L p a next h inner zero n w less r = let s = at_fork n p a next w h r in absurd (omega (arith, s.1))
   around L p a next h inner (suc f) n w less r = next_move (λ m v l q. around L p a next h inner f m v l q) (at_fork n p a next w h r)
     where
-    next_move : ((m : ℕ) (v : List ℕ) → m ≤ f → Runs g i m p v → Repeats L next m v) → (m : ℕ) × (n ≡ suc m) × (Runs g i m a w ⊎ Runs g i m next w) → Repeats L next n w
-    next_move again (m, e, inl q) = let s : Split L p m w = inner m w q in once_more L p next m n w (omega arith) s (again s.moves s.back (omega (arith, s.fewer)) s.goes)
-    next_move again (m, e, inr q) = record { times = zero; split = none (Joined L zero) next m n w refl (omega arith) q }
+      next_move : ((m : ℕ) (v : List ℕ) → m ≤ f → Runs g i m p v → Repeats L next m v) → (m : ℕ) × (n ≡ suc m) × (Runs g i m a w ⊎ Runs g i m next w) → Repeats L next n w
+      next_move again (m, e, inl q) = let s : Split L p m w = inner m w q in once_more L p next m n w (omega arith) s (again s.moves s.back (omega (arith, s.fewer)) s.goes)
+      next_move again (m, e, inr q) = record { times = zero; split = none (Joined L zero) next m n w refl (omega arith) q }
 
   module _ (N : ℕ → List ℕ → Type 0) where
     -- the code reads only strings of the expression
@@ -121,27 +120,27 @@ module _ (g : List Step) (i : ℕ) where
         both (MatchesUnder N r) (MatchesUnder N s) (entry base (size s) next) next n w first (sound s base next first.moves first.back plain.1 h.0 first.goes)
     sound (either r s) base next n w plain h run =
         side (λ m q. sound r base next m w plain.0 h.0 q) (λ m q. sound s (base + size r) next m w plain.1 h.1 q)
-          (at_fork n (base + size r + size s) (entry base (size r) next) (entry (base + size r) (size s) next) w h.2 (subst (λ q. Runs g i n q w) (entry_last base (size r + size s) next ∙ omega arith) run))
+        (at_fork n (base + size r + size s) (entry base (size r) next) (entry (base + size r) (size s) next) w h.2 (subst (λ q. Runs g i n q w) (entry_last base (size r + size s) next ∙ omega arith) run))
       where
-      side : ((m : ℕ) → Runs g i m (entry base (size r) next) w → Split (MatchesUnder N r) next m w) → ((m : ℕ) → Runs g i m (entry (base + size r) (size s) next) w → Split (MatchesUnder N s) next m w) → (m : ℕ) × (n ≡ suc m) × (Runs g i m (entry base (size r) next) w ⊎ Runs g i m (entry (base + size r) (size s) next) w) → Split (MatchesUnder N (either r s)) next n w
-      side f k (m, e, inl q) = weaker (MatchesUnder N r) (MatchesUnder N (either r s)) next m n w (λ u h. inl h) (omega arith) (f m q)
-      side f k (m, e, inr q) = weaker (MatchesUnder N s) (MatchesUnder N (either r s)) next m n w (λ u h. inr h) (omega arith) (k m q)
+        side : ((m : ℕ) → Runs g i m (entry base (size r) next) w → Split (MatchesUnder N r) next m w) → ((m : ℕ) → Runs g i m (entry (base + size r) (size s) next) w → Split (MatchesUnder N s) next m w) → (m : ℕ) × (n ≡ suc m) × (Runs g i m (entry base (size r) next) w ⊎ Runs g i m (entry (base + size r) (size s) next) w) → Split (MatchesUnder N (either r s)) next n w
+        side f k (m, e, inl q) = weaker (MatchesUnder N r) (MatchesUnder N (either r s)) next m n w (λ u h. inl h) (omega arith) (f m q)
+        side f k (m, e, inr q) = weaker (MatchesUnder N s) (MatchesUnder N (either r s)) next m n w (λ u h. inr h) (omega arith) (k m q)
     sound (star r) base next n w plain h run =
         let x : Repeats (MatchesUnder N r) next n w = around (MatchesUnder N r) (base + size r) (entry base (size r) (base + size r)) next h.1
-          (λ m v q. sound r base (base + size r) m v plain h.0 q) n n w (omega arith) (subst (λ q. Runs g i n q w) (entry_last base (size r) next) run) in
+        (λ m v q. sound r base (base + size r) m v plain h.0 q) n n w (omega arith) (subst (λ q. Runs g i n q w) (entry_last base (size r) next) run) in
         weaker (Joined (MatchesUnder N r) x.times) (MatchesUnder N (star r)) next n n w (λ u h. (x.times, h)) (omega arith) x.split
     sound (plus r) base next n w plain h run =
         let first : Split (MatchesUnder N r) base n w = sound r (base + 1) base n w plain h.1 (subst (λ q. Runs g i n q w) (entry_last base (size r) next ∙ sym (entry_plus base (size r))) run) in
         let more : Repeats (MatchesUnder N r) next first.moves first.back = around (MatchesUnder N r) base (entry (base + 1) (size r) base) next h.0 (λ m v q. sound r (base + 1) base m v plain h.1 q) first.moves first.moves first.back (omega arith) first.goes in
         let all : Repeats (MatchesUnder N r) next n w = once_more (MatchesUnder N r) base next n n w (omega arith) first more in
         weaker (Then (MatchesUnder N r) (Joined (MatchesUnder N r) more.times)) (MatchesUnder N (plus r)) next n n w (λ u h. (suc more.times, omega arith, h)) (omega arith)
-          (both (MatchesUnder N r) (Joined (MatchesUnder N r) more.times) base next n w first more.split)
+        (both (MatchesUnder N r) (Joined (MatchesUnder N r) more.times) base next n w first more.split)
     sound (optional r) base next n w plain h run =
         side (λ m q. sound r base next m w plain h.0 q) (at_fork n (base + size r) (entry base (size r) next) next w h.1 (subst (λ q. Runs g i n q w) (entry_last base (size r) next) run))
       where
-      side : ((m : ℕ) → Runs g i m (entry base (size r) next) w → Split (MatchesUnder N r) next m w) → (m : ℕ) × (n ≡ suc m) × (Runs g i m (entry base (size r) next) w ⊎ Runs g i m next w) → Split (MatchesUnder N (optional r)) next n w
-      side f (m, e, inl q) = weaker (MatchesUnder N r) (MatchesUnder N (optional r)) next m n w (λ u h. inr h) (omega arith) (f m q)
-      side f (m, e, inr q) = none (MatchesUnder N (optional r)) next m n w (inl refl) (omega arith) q
+        side : ((m : ℕ) → Runs g i m (entry base (size r) next) w → Split (MatchesUnder N r) next m w) → (m : ℕ) × (n ≡ suc m) × (Runs g i m (entry base (size r) next) w ⊎ Runs g i m next w) → Split (MatchesUnder N (optional r)) next n w
+        side f (m, e, inl q) = weaker (MatchesUnder N r) (MatchesUnder N (optional r)) next m n w (λ u h. inr h) (omega arith) (f m q)
+        side f (m, e, inr q) = none (MatchesUnder N (optional r)) next m n w (inl refl) (omega arith) q
     sound (repeat a b r) base next n w plain h run = absurd plain
     sound (name x) base next n w plain h run = absurd plain
 
@@ -171,28 +170,28 @@ module _ (g : List Step) (i : ℕ) where
     complete empty base next u v plain h m r = subst (λ z. CanRun next z) (ap (λ z. z ++ v) (sym m)) r
     complete (concat r s) base next u v plain h m run =
         subst (λ p. CanRun p (u ++ v)) (sym (entry_both base (size r) (size s) next))
-          (regroup (entry (base + size s) (size r) (entry base (size s) next)) u m.0 m.1 v m.2
-            (complete r (base + size s) (entry base (size s) next) m.0 (m.1 ++ v) plain.0 h.1 m.3 (complete s base next m.1 v plain.1 h.0 m.4 run)))
+        (regroup (entry (base + size s) (size r) (entry base (size s) next)) u m.0 m.1 v m.2
+        (complete r (base + size s) (entry base (size s) next) m.0 (m.1 ++ v) plain.0 h.1 m.3 (complete s base next m.1 v plain.1 h.0 m.4 run)))
     complete (either r s) base next u v plain h (inl m) run =
         subst (λ p. CanRun p (u ++ v)) (sym (entry_last base (size r + size s) next ∙ omega arith))
-          (first_side (base + size r + size s) (entry base (size r) next) (entry (base + size r) (size s) next) (u ++ v) h.2 (complete r base next u v plain.0 h.0 m run))
+        (first_side (base + size r + size s) (entry base (size r) next) (entry (base + size r) (size s) next) (u ++ v) h.2 (complete r base next u v plain.0 h.0 m run))
     complete (either r s) base next u v plain h (inr m) run =
         subst (λ p. CanRun p (u ++ v)) (sym (entry_last base (size r + size s) next ∙ omega arith))
-          (second_side (base + size r + size s) (entry base (size r) next) (entry (base + size r) (size s) next) (u ++ v) h.2 (complete s (base + size r) next u v plain.1 h.1 m run))
+        (second_side (base + size r + size s) (entry base (size r) next) (entry (base + size r) (size s) next) (u ++ v) h.2 (complete s (base + size r) next u v plain.1 h.1 m run))
     complete (star r) base next u v plain h m run =
         subst (λ p. CanRun p (u ++ v)) (sym (entry_last base (size r) next))
-          (round (MatchesUnder N r) (base + size r) (entry base (size r) (base + size r)) next h.1 (λ x y l q. complete r base (base + size r) x y plain h.0 l q) m.0 u v m.1 run)
+        (round (MatchesUnder N r) (base + size r) (entry base (size r) (base + size r)) next h.1 (λ x y l q. complete r base (base + size r) x y plain h.0 l q) m.0 u v m.1 run)
     complete (plus r) base next u v plain h (zero, le, m) run = absurd (omega (arith, le))
     complete (plus r) base next u v plain h (suc k, le, m) run =
         subst (λ p. CanRun p (u ++ v)) (entry_plus base (size r) ∙ sym (entry_last base (size r) next))
-          (regroup (entry (base + 1) (size r) base) u m.0 m.1 v m.2
-            (complete r (base + 1) base m.0 (m.1 ++ v) plain h.1 m.3
-              (round (MatchesUnder N r) base (entry (base + 1) (size r) base) next h.0 (λ x y l q. complete r (base + 1) base x y plain h.1 l q) k m.1 v m.4 run)))
+        (regroup (entry (base + 1) (size r) base) u m.0 m.1 v m.2
+        (complete r (base + 1) base m.0 (m.1 ++ v) plain h.1 m.3
+        (round (MatchesUnder N r) base (entry (base + 1) (size r) base) next h.0 (λ x y l q. complete r (base + 1) base x y plain h.1 l q) k m.1 v m.4 run)))
     complete (optional r) base next u v plain h (inl m) run =
         subst (λ p. CanRun p (u ++ v)) (sym (entry_last base (size r) next))
-          (second_side (base + size r) (entry base (size r) next) next (u ++ v) h.1 (subst (λ z. CanRun next z) (ap (λ z. z ++ v) (sym m)) run))
+        (second_side (base + size r) (entry base (size r) next) next (u ++ v) h.1 (subst (λ z. CanRun next z) (ap (λ z. z ++ v) (sym m)) run))
     complete (optional r) base next u v plain h (inr m) run =
         subst (λ p. CanRun p (u ++ v)) (sym (entry_last base (size r) next))
-          (first_side (base + size r) (entry base (size r) next) next (u ++ v) h.1 (complete r base next u v plain h.0 m run))
+        (first_side (base + size r) (entry base (size r) next) next (u ++ v) h.1 (complete r base next u v plain h.0 m run))
     complete (repeat a b r) base next u v plain h m run = absurd plain
     complete (name x) base next u v plain h m run = absurd plain

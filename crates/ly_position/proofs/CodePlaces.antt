@@ -1,5 +1,5 @@
 -- Where code stands: each of its steps is there, leads on, and stays as the program grows.
-use Rattle.std.proofs.Common.{◌≡◌, ◌≢◌, inl, inr, ◌⊎◌, ℕ, zero, suc, ◌+◌, ◌-◌, ◌<◌, ◌≤◌, List, [], ◌∷◌, ◌++◌, length, refl, sym, ap, subst, ◌∙◌, arith, Some, append_assoc, add-zero, zero-add, add-one, length-append}
+use Rattle.std.proofs.Common.{◌≡◌, ◌≢◌, inl, inr, ℕ, zero, suc, ◌+◌, ◌<◌, ◌≤◌, List, [], ◌∷◌, ◌++◌, length, refl, sym, ap, subst, ◌∙◌, arith, Some, append_assoc, length-append}
 use Rattle.std.specs.Prelude.{slice_get, Contains}
 use Rattle.std.proofs.lemmas.Bool.{cases_eq, cases_lt}
 use Rattle.ly_ere.specs.Expression.{Expression, set, empty, concat, either, star, plus, optional, repeat, name}
@@ -60,50 +60,62 @@ HasCode-of (set bytes) pre post g base next l e = rw e (get-at_length pre post b
 HasCode-of empty pre post g base next l e = tt
 HasCode-of (concat r s) pre post g base next l e = (
   HasCode-of s pre (right ++ post) g base next l (e ∙ ap (λ z. pre ++ z) (append_assoc left right post)),
-  HasCode-of r (pre ++ left) post g (base + size s) middle (omega (arith, length-append pre left, length-code s base next)) (e ∙ (ap (λ z. pre ++ z) (append_assoc left right post) ∙ sym (append_assoc pre left (right ++ post)))))
+  HasCode-of r (pre ++ left) post g (base + size s) middle (omega (arith, length-append pre left, length-code s base next)) (e ∙ (ap (λ z. pre ++ z) (append_assoc left right post) ∙ sym (append_assoc pre left (right ++ post)))),
+)
   where
-  middle : ℕ
-  middle = entry base (size s) next
-  left : List Step
-  left = code s base next
-  right : List Step
-  right = code r (base + size s) (entry base (size s) next)
+    middle : ℕ
+    middle = entry base (size s) next
+
+    left : List Step
+    left = code s base next
+
+    right : List Step
+    right = code r (base + size s) (entry base (size s) next)
 HasCode-of (either r s) pre post g base next l e = (
   HasCode-of r pre ((right ++ f ∷ []) ++ post) g base next l (e ∙ ap (λ z. pre ++ z) (append_assoc left (right ++ f ∷ []) post)),
   HasCode-of s (pre ++ left) (f ∷ post) g (base + size r) next (omega (arith, length-append pre left, length-code r base next)) split,
   rw (split ∙ sym (append_assoc (pre ++ left) right (f ∷ post)))
-    (get-at_length ((pre ++ left) ++ right) post (base + size r + size s) f (omega (arith, length-append (pre ++ left) right, length-append pre left, length-code r base next, length-code s (base + size r) next))))
+      (get-at_length ((pre ++ left) ++ right) post (base + size r + size s) f (omega (arith, length-append (pre ++ left) right, length-append pre left, length-code r base next, length-code s (base + size r) next))),
+)
   where
-  f : Step
-  f = fork (entry base (size r) next) (entry (base + size r) (size s) next)
-  left : List Step
-  left = code r base next
-  right : List Step
-  right = code s (base + size r) next
-  split : g ≡ (pre ++ left) ++ (right ++ (f ∷ post))
-  split = e ∙ (ap (λ z. pre ++ z) (append_assoc left (right ++ f ∷ []) post ∙ ap (λ z. left ++ z) (append_assoc right (f ∷ []) post)) ∙ sym (append_assoc pre left (right ++ (f ∷ post))))
+    f : Step
+    f = fork (entry base (size r) next) (entry (base + size r) (size s) next)
+
+    left : List Step
+    left = code r base next
+
+    right : List Step
+    right = code s (base + size r) next
+
+    split : g ≡ (pre ++ left) ++ (right ++ (f ∷ post))
+    split = e ∙ (ap (λ z. pre ++ z) (append_assoc left (right ++ f ∷ []) post ∙ ap (λ z. left ++ z) (append_assoc right (f ∷ []) post)) ∙ sym (append_assoc pre left (right ++ (f ∷ post))))
 HasCode-of (star r) pre post g base next l e = (
   HasCode-of r pre (f ∷ post) g base (base + size r) l (e ∙ ap (λ z. pre ++ z) (append_assoc left (f ∷ []) post)),
-  rw (e ∙ (ap (λ z. pre ++ z) (append_assoc left (f ∷ []) post) ∙ sym (append_assoc pre left (f ∷ post)))) (get-at_length (pre ++ left) post (base + size r) f (omega (arith, length-append pre left, length-code r base (base + size r)))))
+  rw (e ∙ (ap (λ z. pre ++ z) (append_assoc left (f ∷ []) post) ∙ sym (append_assoc pre left (f ∷ post)))) (get-at_length (pre ++ left) post (base + size r) f (omega (arith, length-append pre left, length-code r base (base + size r)))),
+)
   where
-  f : Step
-  f = fork (entry base (size r) (base + size r)) next
-  left : List Step
-  left = code r base (base + size r)
+    f : Step
+    f = fork (entry base (size r) (base + size r)) next
+
+    left : List Step
+    left = code r base (base + size r)
 HasCode-of (plus r) pre post g base next l e = (
   rw e (get-at_length pre (code r (base + 1) base ++ post) base f l),
-  HasCode-of r (pre ++ f ∷ []) post g (base + 1) base (omega (arith, length-append pre (f ∷ []))) (e ∙ sym (append_assoc pre (f ∷ []) (code r (base + 1) base ++ post))))
+  HasCode-of r (pre ++ f ∷ []) post g (base + 1) base (omega (arith, length-append pre (f ∷ []))) (e ∙ sym (append_assoc pre (f ∷ []) (code r (base + 1) base ++ post))),
+)
   where
-  f : Step
-  f = fork (entry (base + 1) (size r) base) next
+    f : Step
+    f = fork (entry (base + 1) (size r) base) next
 HasCode-of (optional r) pre post g base next l e = (
   HasCode-of r pre (f ∷ post) g base next l (e ∙ ap (λ z. pre ++ z) (append_assoc left (f ∷ []) post)),
-  rw (e ∙ (ap (λ z. pre ++ z) (append_assoc left (f ∷ []) post) ∙ sym (append_assoc pre left (f ∷ post)))) (get-at_length (pre ++ left) post (base + size r) f (omega (arith, length-append pre left, length-code r base next))))
+  rw (e ∙ (ap (λ z. pre ++ z) (append_assoc left (f ∷ []) post) ∙ sym (append_assoc pre left (f ∷ post)))) (get-at_length (pre ++ left) post (base + size r) f (omega (arith, length-append pre left, length-code r base next))),
+)
   where
-  f : Step
-  f = fork (entry base (size r) next) next
-  left : List Step
-  left = code r base next
+    f : Step
+    f = fork (entry base (size r) next) next
+
+    left : List Step
+    left = code r base next
 HasCode-of (repeat m n r) pre post g base next l e = tt
 HasCode-of (name x) pre post g base next l e = tt
 
@@ -188,7 +200,7 @@ module _ (g : List Step) (i : ℕ) where
       | inl c ↦ leads s (base + size r) next p plain.1 h.1 b c
       | inr d ↦ let same : base + size r + size s ≡ p = omega arith in
           then p (entry base (size r) next) next (subst (λ q. Leads q (entry base (size r) next)) same (by_fork_first (base + size r + size s) (entry base (size r) next) (entry (base + size r) (size s) next) h.2))
-            (from_entry base (size r) next (λ q x y. leads r base next q plain.0 h.0 x y))
+          (from_entry base (size r) next (λ q x y. leads r base next q plain.0 h.0 x y))
     ]
   ]
   leads (star r) base next p plain h l m = elim (cases_lt p (base + size r)) [

@@ -1,13 +1,13 @@
 -- Sizes of code, and the steps that are left to append.
-use Rattle.std.proofs.Common.{◌≡◌, inl, inr, ◌⊎◌, ℕ, zero, suc, ◌+◌, ◌-◌, ◌<◌, ◌≤◌, List, [], ◌∷◌, ◌++◌, length, map, get_or, take, Option, Some, None, refl, sym, ap, subst, ◌∙◌, arith, append_assoc, append-nil, length-append, length-take}
-use Rattle.std.specs.Prelude.{All, slice_get, slice_index, reverse}
-use Rattle.std.proofs.lemmas.List.{get_or-map, get_or-take, get_or_append_left, map_more, length-map, reverse-append}
-use Rattle.ly_ere.specs.Expression.{Expression, set, empty, concat, either, star, plus, optional, repeat, name}
+use Rattle.std.proofs.Common.{◌≡◌, ℕ, ◌+◌, ◌<◌, ◌≤◌, List, [], ◌∷◌, ◌++◌, length, map, get_or, take, refl, sym, ap, subst, ◌∙◌, arith, length-append, length-take}
+use Rattle.std.specs.Prelude.{All, slice_index, reverse}
+use Rattle.std.proofs.lemmas.List.{get_or-map, get_or-take, get_or_append_left, map_more, reverse-append}
+use Rattle.ly_ere.specs.Expression.{Expression, empty}
 use Rattle.ly_ere.specs.Arena.{part_of, expression_of, FitsAt}
 use Rattle.ly_ere.specs.declared.node.Node.{Node}
 use Rattle.ly_ere.specs.declared.node.Node.TheVariants.{Set, Empty, Concat, Either, Star, Plus, Optional, Repeat, Name}
-use Rattle.ly_position.specs.Program.{Step, size, code, node_size}
-use Rattle.ly_position.specs.Compile.{TaskFits, planned, task_size, task_steps}
+use Rattle.ly_position.specs.Program.{size, code, node_size}
+use Rattle.ly_position.specs.Compile.{TaskFits, planned}
 use Rattle.ly_position.specs.declared.program.Task.{Task}
 use Rattle.ly_position.specs.declared.program.Task.TheVariants as task
 use Rattle.ly_position.proofs.CodePlaces.{length-code}

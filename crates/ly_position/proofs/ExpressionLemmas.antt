@@ -1,7 +1,7 @@
 -- The expression of a node in a list of nodes.
-use Rattle.std.proofs.Common.{◌≡◌, ℕ, zero, suc, ◌+◌, ◌-◌, ◌<◌, ◌≤◌, List, [], ◌∷◌, ◌++◌, length, get_or, take, drop, refl, sym, ap, subst, ◌∙◌, arith, append_assoc, length-append, length-take, append-nil}
+use Rattle.std.proofs.Common.{◌≡◌, ℕ, ◌+◌, ◌<◌, ◌≤◌, List, [], ◌∷◌, ◌++◌, length, get_or, take, drop, refl, sym, ap, subst, ◌∙◌, arith, append_assoc, length-take, append-nil}
 use Rattle.std.proofs.lemmas.List.{get_or_append_left, get_or_at, drop_more, take-append-drop}
-use Rattle.ly_ere.specs.Expression.{Expression, set, empty, concat, either, star, plus, optional, repeat, name}
+use Rattle.ly_ere.specs.Expression.{Expression, empty}
 use Rattle.ly_ere.specs.declared.node.Node.{Node}
 use Rattle.ly_ere.specs.declared.node.Node.TheVariants.{Set, Empty, Concat, Either, Star, Plus, Optional, Repeat, Name}
 use Rattle.ly_ere.specs.Arena.{part_of, expression_of, expressions_from, expressions, FitsAt, IsOrdered}
@@ -37,18 +37,24 @@ expression_front (Name x) done more k h m = refl
 pub expression_at : (ns : List Node) (k : ℕ) (n : Node) → IsOrdered ns → k < length ns → n ≡ get_or ns k n → expression_of (expressions ns) n ≡ part_of (expressions ns) k
 expression_at ns k n ordered less is = at
   where
-  before : List Expression
-  before = expressions (take k ns)
-  count : length before ≡ k
-  count = length-expressions (take k ns) ∙ omega (arith, length-take k ns)
-  split : ns ≡ take k ns ++ (n ∷ drop (k + 1) ns)
-  split = sym (take-append-drop k ns) ∙ ap (λ z. take k ns ++ z) (drop_more ns k n less ∙ ap (λ x. x ∷ drop (k + 1) ns) (sym is))
-  tail : (rest : List Expression) × (expressions_from (before ++ expression_of before n ∷ []) (drop (k + 1) ns) ≡ (before ++ expression_of before n ∷ []) ++ rest)
-  tail = from_front (before ++ expression_of before n ∷ []) (drop (k + 1) ns)
-  all : expressions ns ≡ before ++ (expression_of before n ∷ tail.0)
-  all = ap expressions split ∙ (from-append [] (take k ns) (n ∷ drop (k + 1) ns) ∙ (tail.1 ∙ append_assoc before (expression_of before n ∷ []) tail.0))
-  fits : FitsAt k n
-  fits = subst (λ x. FitsAt k x) (sym is) (ordered k n less)
-  at : expression_of (expressions ns) n ≡ part_of (expressions ns) k
-  at = ap (λ es. expression_of es n) all ∙ (expression_front n before (expression_of before n ∷ tail.0) k fits (omega (arith, count))
-      ∙ sym (ap (λ es. part_of es k) all ∙ get_or_at before (expression_of before n) tail.0 empty k count))
+    before : List Expression
+    before = expressions (take k ns)
+
+    count : length before ≡ k
+    count = length-expressions (take k ns) ∙ omega (arith, length-take k ns)
+
+    split : ns ≡ take k ns ++ (n ∷ drop (k + 1) ns)
+    split = sym (take-append-drop k ns) ∙ ap (λ z. take k ns ++ z) (drop_more ns k n less ∙ ap (λ x. x ∷ drop (k + 1) ns) (sym is))
+
+    tail : (rest : List Expression) × (expressions_from (before ++ expression_of before n ∷ []) (drop (k + 1) ns) ≡ (before ++ expression_of before n ∷ []) ++ rest)
+    tail = from_front (before ++ expression_of before n ∷ []) (drop (k + 1) ns)
+
+    all : expressions ns ≡ before ++ (expression_of before n ∷ tail.0)
+    all = ap expressions split ∙ (from-append [] (take k ns) (n ∷ drop (k + 1) ns) ∙ (tail.1 ∙ append_assoc before (expression_of before n ∷ []) tail.0))
+
+    fits : FitsAt k n
+    fits = subst (λ x. FitsAt k x) (sym is) (ordered k n less)
+
+    at : expression_of (expressions ns) n ≡ part_of (expressions ns) k
+    at = ap (λ es. expression_of es n) all ∙ (expression_front n before (expression_of before n ∷ tail.0) k fits (omega (arith, count))
+        ∙ sym (ap (λ es. part_of es k) all ∙ get_or_at before (expression_of before n) tail.0 empty k count))

@@ -1,18 +1,18 @@
 -- Follow lists that are known, and slots.
-use Rattle.std.proofs.Common.{◌≡◌, ◌≢◌, inl, inr, ◌⊎◌, ℕ, zero, suc, ◌+◌, ◌-◌, ◌<◌, ◌≤◌, List, [], ◌∷◌, ◌++◌, length, map, filter, true, get_or, set, Option, Some, None, refl, sym, ap, subst, ◌∙◌, arith, append_assoc, append-nil, length-append, length-set, get_or-set_same, get_or-set_other}
-use Rattle.std.specs.Prelude.{All, slice_get}
+use Rattle.std.proofs.Common.{◌≡◌, inl, inr, ℕ, zero, suc, ◌<◌, List, [], ◌∷◌, ◌++◌, length, map, filter, true, get_or, set, Option, Some, None, refl, sym, ap, subst, ◌∙◌, arith, length-append, length-set, get_or-set_same, get_or-set_other}
+use Rattle.std.specs.Prelude.{slice_get}
 use Rattle.std.specs.List.{AllZip}
 use Rattle.std.proofs.lemmas.Bool.{cases_eq, cases_lt}
-use Rattle.std.proofs.lemmas.List.{get_or_push, get_or_append_left, get_or_past, length-map}
+use Rattle.std.proofs.lemmas.List.{get_or_push, get_or_append_left, length-map}
 use Rattle.ly_base.specs.ByteSet.{members}
 use Rattle.ly_base.specs.declared.byte_set.ByteSet.{ByteSet}
 use Rattle.ly_position.specs.Program.{Step, reads, fork, ends, step_of}
 use Rattle.ly_position.specs.Reach.{IsClosed}
 use Rattle.ly_position.specs.declared.program.Instruction.{Instruction}
-use Rattle.ly_position.specs.declared.program.Instruction.TheVariants.{Read, Fork, End}
+use Rattle.ly_position.specs.declared.program.Instruction.TheVariants.{Read}
 use Rattle.ly_position.proofs.NumberLemmas.{places_push_fork, places_push_place}
 use Rattle.ly_position.proofs.WalkLemmas.{get-map_at}
-use Rattle.ly_position.specs.Follow.{is_place, IsReachList, Knows, AfterStep, FollowOf, Grows, SlotFits}
+use Rattle.ly_position.specs.Follow.{is_place, IsReachList, Knows, AfterStep, SlotFits}
 use Rattle.ly_position.specs.declared.nfa.Slot.{Slot}
 use Rattle.ly_position.specs.declared.nfa.Slot.TheVariants as slot
 
@@ -33,20 +33,20 @@ after_last g lists list t h = (omega (arith, length-append lists (list ∷ [])),
 
 -- one more list
 module _ (g : List Step) (lists lists' : List (List ℕ)) (known : List (Option ℕ)) (list : List ℕ) (t n : ℕ)
-  (knows : Knows g lists known) (less : t < length g) (found : IsReachList g (t ∷ []) list) (count : n ≡ length lists) (is : lists' ≡ lists ++ list ∷ []) where
+    (knows : Knows g lists known) (less : t < length g) (found : IsReachList g (t ∷ []) list) (count : n ≡ length lists) (is : lists' ≡ lists ++ list ∷ []) where
   pub after_more : AfterStep g lists' t n
   after_more = rw (is, count) (after_last g lists list t found)
 
   each_more : (s l : ℕ) → get_or (set known t (Some n)) s None ≡ Some l → AfterStep g lists' s l
   each_more s l e = elim (cases_eq s t) [
     | inl same ↦
-      let one : get_or (set known t (Some n)) t None ≡ Some n = get_or-set_same known t (Some n) None (omega (arith, knows.count)) in
-      let at : get_or (set known t (Some n)) t None ≡ Some l = ap (λ x. get_or (set known t (Some n)) x None) (sym same) ∙ e in
-      let k : n ≡ l = cc in
-      subst (λ x. AfterStep g lists' x l) (sym same) (subst (λ x. AfterStep g lists' t x) k after_more)
+        let one : get_or (set known t (Some n)) t None ≡ Some n = get_or-set_same known t (Some n) None (omega (arith, knows.count)) in
+        let at : get_or (set known t (Some n)) t None ≡ Some l = ap (λ x. get_or (set known t (Some n)) x None) (sym same) ∙ e in
+        let k : n ≡ l = cc in
+        subst (λ x. AfterStep g lists' x l) (sym same) (subst (λ x. AfterStep g lists' t x) k after_more)
     | inr other ↦
-      let old : get_or known s None ≡ Some l = sym (get_or-set_other known t s (Some n) None other) ∙ e in
-      rw is (after_grown g lists (list ∷ []) s l (knows.each s l old))
+        let old : get_or known s None ≡ Some l = sym (get_or-set_other known t s (Some n) None other) ∙ e in
+        rw is (after_grown g lists (list ∷ []) s l (knows.each s l old))
   ]
 
   all_more : (l : ℕ) → l < length lists' → (s : ℕ) × IsReachList g (s ∷ []) (get_or lists' l [])
@@ -97,7 +97,7 @@ slots_fork g h h' lists xs a b e k = rw (e, places_push_fork h a b) k
 
 -- one more that is
 pub slots_place : (g h h' : List Step) (lists lists' more : List (List ℕ)) (xs xs' : List Slot) (s : Step) (x : Slot) → is_place s ≡ true → h' ≡ h ++ s ∷ [] → lists' ≡ lists ++ more → xs' ≡ xs ++ x ∷ [] → SlotFits g lists' s x
-  → AllZip (SlotFits g lists) (filter is_place h) xs → AllZip (SlotFits g lists') (filter is_place h') xs'
+    → AllZip (SlotFits g lists) (filter is_place h) xs → AllZip (SlotFits g lists') (filter is_place h') xs'
 slots_place g h h' lists lists' more xs xs' s x place e grown is fits k =
     let old : AllZip (SlotFits g lists') (filter is_place h) xs = rw grown (slots_grown g lists more (filter is_place h) xs k) in
     rw (e, places_push_place h s place, is) (zip_push (SlotFits g lists') (filter is_place h) xs s x old fits)

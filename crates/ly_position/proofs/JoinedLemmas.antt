@@ -1,7 +1,7 @@
 -- Strings one after another, any number of times.
-use Rattle.std.proofs.Common.{◌≡◌, inl, inr, ◌⊎◌, ℕ, zero, suc, ◌+◌, ◌-◌, ◌<◌, ◌≤◌, List, [], ◌∷◌, ◌++◌, Option, Some, None, refl, sym, ap, subst, ◌∙◌, arith, append_assoc, append-nil, add-one}
+use Rattle.std.proofs.Common.{◌≡◌, inl, inr, ◌⊎◌, ℕ, zero, suc, ◌+◌, ◌-◌, ◌<◌, ◌≤◌, List, [], ◌++◌, refl, sym, ap, subst, ◌∙◌, arith, append_assoc, append-nil, add-one}
 use Rattle.std.specs.Prelude.{◌↔◌}
-use Rattle.ly_ere.specs.Expression.{Joined, Within}
+use Rattle.ly_ere.specs.Expression.{Joined}
 use Rattle.ly_position.specs.Plain.{InTurn, Same}
 
 module _ (L M : List ℕ → Type 0) where
@@ -30,8 +30,8 @@ module _ (L : List ℕ → Type 0) where
   joined_split (suc j) k w h =
       more (let e : suc j + k ≡ suc (j + k) = omega arith in subst (λ n. Joined L n w) e h) (λ v g. joined_split j k v g)
     where
-    more : Joined L (suc (j + k)) w → ((v : List ℕ) → Joined L (j + k) v → InTurn (Joined L j) (Joined L k) v) → InTurn (Joined L (suc j)) (Joined L k) w
-    more g f = let s = f g.1 g.4 in (g.0 ++ s.0, s.1, g.2 ∙ (ap (λ z. g.0 ++ z) s.2 ∙ sym (append_assoc g.0 s.0 s.1)), (g.0, s.0, refl, g.3, s.3), s.4)
+      more : Joined L (suc (j + k)) w → ((v : List ℕ) → Joined L (j + k) v → InTurn (Joined L j) (Joined L k) v) → InTurn (Joined L (suc j)) (Joined L k) w
+      more g f = let s = f g.1 g.4 in (g.0 ++ s.0, s.1, g.2 ∙ (ap (λ z. g.0 ++ z) s.2 ∙ sym (append_assoc g.0 s.0 s.1)), (g.0, s.0, refl, g.3, s.3), s.4)
 
   -- where nothing is in L
   pub joined_none : ((w : List ℕ) → L w → ⊥) → (k : ℕ) (w : List ℕ) → Joined L k w → (k ≡ 0) × (w ≡ [])
@@ -96,39 +96,40 @@ module _ (L : List ℕ → Type 0) (w : List ℕ) where
   pub plus_plus : Plus L w ↔ Plus (Plus L) w
   plus_plus = (λ h. (1, omega arith, joined_one (Plus L) w h), back)
     where
-    back : Plus (Plus L) w → Plus L w
-    back h = let m = joined_flat_some (Plus L) L (λ v k. k) h.0 w h.2 in (m.0, omega (arith, m.1, h.1), m.2)
+      back : Plus (Plus L) w → Plus L w
+      back h = let m = joined_flat_some (Plus L) L (λ v k. k) h.0 w h.2 in (m.0, omega (arith, m.1, h.1), m.2)
 
   pub plus_optional : Star L w ↔ Plus (Optional L) w
   plus_optional = (there, λ h. joined_flat (Optional L) L parts h.0 w h.2)
     where
-    there : Star L w → Plus (Optional L) w
-    there (zero, j) = (1, omega arith, joined_one (Optional L) w (inl j))
-    there (suc k, j) = (suc k, omega arith, joined_map L (Optional L) (λ v h. inr h) (suc k) w j)
+      there : Star L w → Plus (Optional L) w
+      there (zero, j) = (1, omega arith, joined_one (Optional L) w (inl j))
+      there (suc k, j) = (suc k, omega arith, joined_map L (Optional L) (λ v h. inr h) (suc k) w j)
 
   pub optional_star : Star L w ↔ Optional (Star L) w
   optional_star = (λ h. inr h, back)
     where
-    back : Optional (Star L) w → Star L w
-    back (inl e) = (0, e)
-    back (inr h) = h
+      back : Optional (Star L) w → Star L w
+      back (inl e) = (0, e)
+      back (inr h) = h
 
   pub optional_plus : Star L w ↔ Optional (Plus L) w
   optional_plus = (there, back)
     where
-    there : Star L w → Optional (Plus L) w
-    there (zero, j) = inl j
-    there (suc k, j) = inr (suc k, omega arith, j)
-    back : Optional (Plus L) w → Star L w
-    back (inl e) = (0, e)
-    back (inr h) = (h.0, h.2)
+      there : Star L w → Optional (Plus L) w
+      there (zero, j) = inl j
+      there (suc k, j) = inr (suc k, omega arith, j)
+
+      back : Optional (Plus L) w → Star L w
+      back (inl e) = (0, e)
+      back (inr h) = (h.0, h.2)
 
   pub optional_optional : Optional L w ↔ Optional (Optional L) w
   optional_optional = (λ h. inr h, back)
     where
-    back : Optional (Optional L) w → Optional L w
-    back (inl e) = inl e
-    back (inr h) = h
+      back : Optional (Optional L) w → Optional L w
+      back (inl e) = inl e
+      back (inr h) = h
 
 module _ (w : List ℕ) where
   pub star_null : Null w ↔ Star Null w
@@ -140,9 +141,9 @@ module _ (w : List ℕ) where
   pub optional_null : Null w ↔ Optional Null w
   optional_null = (λ e. inr e, back)
     where
-    back : Optional Null w → Null w
-    back (inl e) = e
-    back (inr e) = e
+      back : Optional Null w → Null w
+      back (inl e) = e
+      back (inr e) = e
 
   pub star_void : Null w ↔ Star Void w
   star_void = (λ e. (0, e), λ h. (joined_none Void (λ v k. k) h.0 w h.1).1)
@@ -153,9 +154,9 @@ module _ (w : List ℕ) where
   pub optional_void : Null w ↔ Optional Void w
   optional_void = (λ e. inl e, back)
     where
-    back : Optional Void w → Null w
-    back (inl e) = e
-    back (inr h) = absurd h
+      back : Optional Void w → Null w
+      back (inl e) = e
+      back (inr h) = absurd h
 
 module _ (L : List ℕ → Type 0) (w : List ℕ) where
   pub null_then : L w ↔ InTurn Null L w
@@ -173,16 +174,16 @@ module _ (L : List ℕ → Type 0) (w : List ℕ) where
   pub void_or : L w ↔ (Void w ⊎ L w)
   void_or = (λ h. inr h, back)
     where
-    back : Void w ⊎ L w → L w
-    back (inl h) = absurd h
-    back (inr h) = h
+      back : Void w ⊎ L w → L w
+      back (inl h) = absurd h
+      back (inr h) = h
 
   pub or_void : L w ↔ (L w ⊎ Void w)
   or_void = (λ h. inl h, back)
     where
-    back : L w ⊎ Void w → L w
-    back (inl h) = h
-    back (inr h) = absurd h
+      back : L w ⊎ Void w → L w
+      back (inl h) = h
+      back (inr h) = absurd h
 
 pub in_turn_same : (L M P Q : List ℕ → Type 0) → Same L M → Same P Q → Same (InTurn L P) (InTurn M Q)
 in_turn_same L M P Q f g w = (λ h. (h.0, h.1, h.2, (f h.0).0 h.3, (g h.1).0 h.4), λ h. (h.0, h.1, h.2, (f h.0).1 h.3, (g h.1).1 h.4))
@@ -190,12 +191,13 @@ in_turn_same L M P Q f g w = (λ h. (h.0, h.1, h.2, (f h.0).0 h.3, (g h.1).0 h.4
 pub or_same : (L M P Q : List ℕ → Type 0) → Same L M → Same P Q → Same (λ w. L w ⊎ P w) (λ w. M w ⊎ Q w)
 or_same L M P Q f g w = (there, back)
   where
-  there : L w ⊎ P w → M w ⊎ Q w
-  there (inl h) = inl ((f w).0 h)
-  there (inr h) = inr ((g w).0 h)
-  back : M w ⊎ Q w → L w ⊎ P w
-  back (inl h) = inl ((f w).1 h)
-  back (inr h) = inr ((g w).1 h)
+    there : L w ⊎ P w → M w ⊎ Q w
+    there (inl h) = inl ((f w).0 h)
+    there (inr h) = inr ((g w).0 h)
+
+    back : M w ⊎ Q w → L w ⊎ P w
+    back (inl h) = inl ((f w).1 h)
+    back (inr h) = inr ((g w).1 h)
 
 pub joined_same : (L M : List ℕ → Type 0) → Same L M → (k : ℕ) → Same (Joined L k) (Joined M k)
 joined_same L M f k w = (joined_map L M (λ v. (f v).0) k w, joined_map M L (λ v. (f v).1) k w)
@@ -212,47 +214,51 @@ module _ (L M : List ℕ → Type 0) where
   pub joined_more : (i : ℕ) → Same (InTurn L (InTurn (Joined L i) M)) (InTurn (Joined L (i + 1)) M)
   joined_more i w = rw add-one (there, back)
     where
-    there : InTurn L (InTurn (Joined L i) M) w → InTurn (Joined L (suc i)) M w
-    there h = (h.0 ++ h.4.0, h.4.1, h.2 ∙ (ap (λ z. h.0 ++ z) h.4.2 ∙ sym (append_assoc h.0 h.4.0 h.4.1)), (h.0, h.4.0, refl, h.3, h.4.3), h.4.4)
-    back : InTurn (Joined L (suc i)) M w → InTurn L (InTurn (Joined L i) M) w
-    back h = (h.3.0, h.3.1 ++ h.1, h.2 ∙ (ap (λ z. z ++ h.1) h.3.2 ∙ append_assoc h.3.0 h.3.1 h.1), h.3.3, (h.3.1, h.1, refl, h.3.4, h.4))
+      there : InTurn L (InTurn (Joined L i) M) w → InTurn (Joined L (suc i)) M w
+      there h = (h.0 ++ h.4.0, h.4.1, h.2 ∙ (ap (λ z. h.0 ++ z) h.4.2 ∙ sym (append_assoc h.0 h.4.0 h.4.1)), (h.0, h.4.0, refl, h.3, h.4.3), h.4.4)
+
+      back : InTurn (Joined L (suc i)) M w → InTurn L (InTurn (Joined L i) M) w
+      back h = (h.3.0, h.3.1 ++ h.1, h.2 ∙ (ap (λ z. z ++ h.1) h.3.2 ∙ append_assoc h.3.0 h.3.1 h.1), h.3.3, (h.3.1, h.1, refl, h.3.4, h.4))
 
 module _ (L : List ℕ → Type 0) where
   pub at_most_none : Same Null (AtMost L 0)
   at_most_none w = (λ e. (0, omega arith, e), back)
     where
-    back : AtMost L 0 w → Null w
-    back (zero, l, j) = j
-    back (suc k, l, j) = absurd (omega (arith, l))
+      back : AtMost L 0 w → Null w
+      back (zero, l, j) = j
+      back (suc k, l, j) = absurd (omega (arith, l))
 
   pub at_most_more : (i : ℕ) → Same (Optional (InTurn L (AtMost L i))) (AtMost L (i + 1))
   at_most_more i w = (there, back)
     where
-    there : Optional (InTurn L (AtMost L i)) w → AtMost L (i + 1) w
-    there (inl e) = (0, omega arith, e)
-    there (inr h) = (suc h.4.0, omega (arith, h.4.1), (h.0, h.1, h.2, h.3, h.4.2))
-    back : AtMost L (i + 1) w → Optional (InTurn L (AtMost L i)) w
-    back (zero, l, j) = inl j
-    back (suc k, l, j) = inr (j.0, j.1, j.2, j.3, (k, omega (arith, l), j.4))
+      there : Optional (InTurn L (AtMost L i)) w → AtMost L (i + 1) w
+      there (inl e) = (0, omega arith, e)
+      there (inr h) = (suc h.4.0, omega (arith, h.4.1), (h.0, h.1, h.2, h.3, h.4.2))
+
+      back : AtMost L (i + 1) w → Optional (InTurn L (AtMost L i)) w
+      back (zero, l, j) = inl j
+      back (suc k, l, j) = inr (j.0, j.1, j.2, j.3, (k, omega (arith, l), j.4))
 
   -- from m to n strings: m, and then at most n - m
   pub between : (m n : ℕ) → m ≤ n → Same (InTurn (Joined L m) (AtMost L (n - m))) (λ w. (k : ℕ) × (m ≤ k) × (k ≤ n) × Joined L k w)
   between m n le w = (there, back)
     where
-    there : InTurn (Joined L m) (AtMost L (n - m)) w → (k : ℕ) × (m ≤ k) × (k ≤ n) × Joined L k w
-    there h = (m + h.4.0, omega arith, omega (arith, h.4.1), subst (λ z. Joined L (m + h.4.0) z) (sym h.2) (joined_append L m h.4.0 h.0 h.1 h.3 h.4.2))
-    back : (k : ℕ) × (m ≤ k) × (k ≤ n) × Joined L k w → InTurn (Joined L m) (AtMost L (n - m)) w
-    back h =
-        let s = joined_split L m (h.0 - m) w (let e : h.0 ≡ m + (h.0 - m) = omega (arith, h.1) in subst (λ k. Joined L k w) e h.3) in
-        (s.0, s.1, s.2, s.3, (h.0 - m, omega (arith, h.2), s.4))
+      there : InTurn (Joined L m) (AtMost L (n - m)) w → (k : ℕ) × (m ≤ k) × (k ≤ n) × Joined L k w
+      there h = (m + h.4.0, omega arith, omega (arith, h.4.1), subst (λ z. Joined L (m + h.4.0) z) (sym h.2) (joined_append L m h.4.0 h.0 h.1 h.3 h.4.2))
+
+      back : (k : ℕ) × (m ≤ k) × (k ≤ n) × Joined L k w → InTurn (Joined L m) (AtMost L (n - m)) w
+      back h =
+          let s = joined_split L m (h.0 - m) w (let e : h.0 ≡ m + (h.0 - m) = omega (arith, h.1) in subst (λ k. Joined L k w) e h.3) in
+          (s.0, s.1, s.2, s.3, (h.0 - m, omega (arith, h.2), s.4))
 
   -- m strings or more: m - 1, and then one or more
   pub or_more : (m : ℕ) → 0 < m → Same (InTurn (Joined L (m - 1)) (Plus L)) (λ w. (k : ℕ) × (m ≤ k) × Unit {0} × Joined L k w)
   or_more m pos w = (there, back)
     where
-    there : InTurn (Joined L (m - 1)) (Plus L) w → (k : ℕ) × (m ≤ k) × Unit {0} × Joined L k w
-    there h = ((m - 1) + h.4.0, omega (arith, h.4.1), tt, subst (λ z. Joined L ((m - 1) + h.4.0) z) (sym h.2) (joined_append L (m - 1) h.4.0 h.0 h.1 h.3 h.4.2))
-    back : (k : ℕ) × (m ≤ k) × Unit {0} × Joined L k w → InTurn (Joined L (m - 1)) (Plus L) w
-    back h =
-        let s = joined_split L (m - 1) (h.0 - (m - 1)) w (let e : h.0 ≡ (m - 1) + (h.0 - (m - 1)) = omega (arith, h.1) in subst (λ k. Joined L k w) e h.3) in
-        (s.0, s.1, s.2, s.3, (h.0 - (m - 1), omega (arith, h.1), s.4))
+      there : InTurn (Joined L (m - 1)) (Plus L) w → (k : ℕ) × (m ≤ k) × Unit {0} × Joined L k w
+      there h = ((m - 1) + h.4.0, omega (arith, h.4.1), tt, subst (λ z. Joined L ((m - 1) + h.4.0) z) (sym h.2) (joined_append L (m - 1) h.4.0 h.0 h.1 h.3 h.4.2))
+
+      back : (k : ℕ) × (m ≤ k) × Unit {0} × Joined L k w → InTurn (Joined L (m - 1)) (Plus L) w
+      back h =
+          let s = joined_split L (m - 1) (h.0 - (m - 1)) w (let e : h.0 ≡ (m - 1) + (h.0 - (m - 1)) = omega (arith, h.1) in subst (λ k. Joined L k w) e h.3) in
+          (s.0, s.1, s.2, s.3, (h.0 - (m - 1), omega (arith, h.1), s.4))

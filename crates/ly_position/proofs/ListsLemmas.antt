@@ -1,5 +1,5 @@
 -- Lists that lie one after another in one list.
-use Rattle.std.proofs.Common.{◌≡◌, ℕ, zero, suc, ◌+◌, ◌-◌, ◌<◌, ◌≤◌, List, [], ◌∷◌, ◌++◌, length, get_or, take, drop, refl, sym, ap, ◌∙◌, subst, arith, length-append, length-drop, length-take}
+use Rattle.std.proofs.Common.{◌≡◌, ℕ, zero, suc, ◌+◌, ◌-◌, ◌<◌, ◌≤◌, List, [], ◌∷◌, ◌++◌, length, get_or, take, drop, refl, sym, ap, ◌∙◌, subst, arith, length-append, length-drop}
 use Rattle.std.proofs.lemmas.List.{nil_from_length, take-append-le, drop-append-le, take_all, drop-drop, get_or_read}
 use Rattle.ly_position.specs.Lists.{lists_from, EndsFit, start_after}
 
@@ -27,7 +27,7 @@ lists_from-push s (e ∷ es) ms xs h =
     let same : e + length (drop (e - s) ms) ≡ s + length ms = omega (arith, length-drop (e - s) ms, h.0) in
     let more : s + length (ms ++ xs) ≡ e + length (drop (e - s) ms ++ xs) = omega (arith, length-append ms xs, length-append (drop (e - s) ms) xs) in
     rw (more, take-append-le (e - s) ms xs fits, drop-append-le (e - s) ms xs fits)
-      (ap (λ l. take (e - s) ms ∷ l) (lists_from-push e es (drop (e - s) ms) xs (subst (λ n. EndsFit e es n) (sym same) h.1)))
+    (ap (λ l. take (e - s) ms ∷ l) (lists_from-push e es (drop (e - s) ms) xs (subst (λ n. EndsFit e es n) (sym same) h.1)))
 
 -- a list, by where it begins and ends
 pub get_or-lists_from : (s : ℕ) (es ms : List ℕ) (n k : ℕ) → EndsFit s es n → k < length es → get_or (lists_from s es ms) k [] ≡ take (get_or es k 0 - start_after s es k) (drop (start_after s es k - s) ms)
@@ -42,10 +42,10 @@ get_or-lists_from s (e ∷ es) ms n (suc (suc k)) h l =
     let sum : (e - s) + (get_or es k 0 - e) ≡ get_or es k 0 - s = omega (arith, h.0) in
     get_or-lists_from e es (drop (e - s) ms) n (suc k) h.1 (omega arith) ∙ rw (drop-drop (get_or es k 0 - e) (e - s) ms, sum) refl
   where
-  ends_after : (e : ℕ) (es : List ℕ) (n k : ℕ) → EndsFit e es n → k < length es → e ≤ get_or es k 0
-  ends_after e [] n k f l = absurd (omega arith)
-  ends_after e (x ∷ es) n zero f l = f.0
-  ends_after e (x ∷ es) n (suc k) f l = omega (arith, f.0, ends_after x es n k f.1 (omega arith))
+    ends_after : (e : ℕ) (es : List ℕ) (n k : ℕ) → EndsFit e es n → k < length es → e ≤ get_or es k 0
+    ends_after e [] n k f l = absurd (omega arith)
+    ends_after e (x ∷ es) n zero f l = f.0
+    ends_after e (x ∷ es) n (suc k) f l = omega (arith, f.0, ends_after x es n k f.1 (omega arith))
 
 -- a list's place lies within the members
 pub list_within : (s : ℕ) (es : List ℕ) (n k : ℕ) → EndsFit s es n → k < length es → (start_after s es k ≤ get_or es k 0) × (get_or es k 0 ≤ n)
@@ -72,11 +72,14 @@ number_within es ms ls k e h = omega (arith, ap length e, length-lists_from 0 es
 pub list_at : (es ms : List ℕ) (ls : List (List ℕ)) (k start end : ℕ) → EndsFit 0 es (length ms) → lists_from 0 es ms ≡ ls → k < length ls → start ≡ start_after 0 es k → end ≡ get_or es k end → (start ≤ end) × (end ≤ length ms) × (take (end - start) (drop start ms) ≡ get_or ls k [])
 list_at es ms ls k start end fit view h is_start is_end = (let w = within.0 in let r = read in omega arith, let w = within.1 in let r = read in omega arith, same)
   where
-  less : k < length es
-  less = number_within es ms ls k view h
-  read : end ≡ get_or es k 0
-  read = get_or_read es k end less is_end 0
-  within : (start_after 0 es k ≤ get_or es k 0) × (get_or es k 0 ≤ length ms)
-  within = list_within 0 es (length ms) k fit less
-  same : take (end - start) (drop start ms) ≡ get_or ls k []
-  same = rw (read, is_start, ← view) (let none : start_after 0 es k - 0 ≡ start_after 0 es k = omega arith in sym (get_or-lists_from 0 es ms (length ms) k fit less ∙ rw none refl))
+    less : k < length es
+    less = number_within es ms ls k view h
+
+    read : end ≡ get_or es k 0
+    read = get_or_read es k end less is_end 0
+
+    within : (start_after 0 es k ≤ get_or es k 0) × (get_or es k 0 ≤ length ms)
+    within = list_within 0 es (length ms) k fit less
+
+    same : take (end - start) (drop start ms) ≡ get_or ls k []
+    same = rw (read, is_start, ← view) (let none : start_after 0 es k - 0 ≡ start_after 0 es k = omega arith in sym (get_or-lists_from 0 es ms (length ms) k fit less ∙ rw none refl))

@@ -1,9 +1,8 @@
 -- The numbers of the positions of a program, and lists of them.
-use Rattle.std.proofs.Common.{◌≡◌, ◌≢◌, inl, inr, ◌⊎◌, ℕ, zero, suc, ◌+◌, ◌-◌, ◌<◌, ◌≤◌, List, [], ◌∷◌, ◌++◌, Bool, true, false, filter, length, get_or, take, map, Option, Some, None, refl, sym, ap, subst, ◌∙◌, arith, append_assoc, append-nil, length-append, add-one, Result, Ok, Err}
-use Rattle.std.specs.Prelude.{All, AllPairs, ◌↔◌, slice_get, Contains, OnOk}
+use Rattle.std.proofs.Common.{◌≡◌, ◌≢◌, inl, inr, ◌⊎◌, ℕ, zero, suc, ◌+◌, ◌<◌, ◌≤◌, List, [], ◌∷◌, ◌++◌, true, filter, length, get_or, take, map, Option, Some, None, refl, sym, ap, ◌∙◌, arith, append-nil, length-append, Result, Ok, Err}
+use Rattle.std.specs.Prelude.{AllPairs, ◌↔◌, slice_get, Contains, OnOk}
 use Rattle.std.specs.List.{cons_option, filter_map}
-use Rattle.std.proofs.lemmas.Bool.{cases_eq, cases_lt}
-use Rattle.std.proofs.lemmas.List.{map_more, take_more, get_or_default}
+use Rattle.std.proofs.lemmas.List.{map_more, take_more}
 use Rattle.std.proofs.lemmas.List.Elements.{filter-append, filter_map-append, Contains-get_or, All-contains}
 use Rattle.std.proofs.lemmas.List.Kept.{AllPairs-cons}
 use Rattle.std.specs.Option.{option_to_list}
@@ -58,13 +57,14 @@ module _ {X Y : Type 0} (h : X → Option Y) where
   filter_map_once one [] once = λ i j d l m. absurd (omega (arith, m))
   filter_map_once one (x ∷ xs) once = add (h x) refl (filter_map_once one xs (λ i j d l m. once (suc i) (suc j) d (omega (arith, l)) (omega (arith, m))))
     where
-    apart : (z : X) → Contains xs z → x ≢ z
-    apart z k = All-contains (λ a. x ≢ a) xs z (λ i d l. once 0 (suc i) d (omega arith) (omega (arith, l))) k
-    add : (z : Option Y) → h x ≡ z → AllPairs (λ a b. a ≢ b) (filter_map h xs) → AllPairs (λ a b. a ≢ b) (cons_option z (filter_map h xs))
-    add None e rest = rest
-    add (Some y) e rest = AllPairs-cons (λ a b. a ≢ b) y (filter_map h xs)
-      (λ k d l same. let s = filter_map_from xs (get_or (filter_map h xs) k d) (Contains-get_or (filter_map h xs) k d l) in
-        apart s.0 s.1 (one x s.0 y e (s.2 ∙ ap (λ w. Some w) (sym same)))) rest
+      apart : (z : X) → Contains xs z → x ≢ z
+      apart z k = All-contains (λ a. x ≢ a) xs z (λ i d l. once 0 (suc i) d (omega arith) (omega (arith, l))) k
+
+      add : (z : Option Y) → h x ≡ z → AllPairs (λ a b. a ≢ b) (filter_map h xs) → AllPairs (λ a b. a ≢ b) (cons_option z (filter_map h xs))
+      add None e rest = rest
+      add (Some y) e rest = AllPairs-cons (λ a b. a ≢ b) y (filter_map h xs)
+          (λ k d l same. let s = filter_map_from xs (get_or (filter_map h xs) k d) (Contains-get_or (filter_map h xs) k d l) in
+          apart s.0 s.1 (one x s.0 y e (s.2 ∙ ap (λ w. Some w) (sym same)))) rest
 
 -- the numbers
 pub length-numbers : (k : ℕ) (g : List Step) → length (numbers_from k g) ≡ length g
@@ -156,7 +156,8 @@ pub reach_list : (g : List Step) (roots ms found : List ℕ) → ((p : ℕ) → 
 reach_list g roots ms found reached once is = rw is (record {
   members = λ q. (
     λ k. let s = filter_map_from (λ p. get_or (numbers_of g) p None) ms q k in (s.0, (reached s.0).0 s.1, s.2),
-    λ k. filter_map_to (λ p. get_or (numbers_of g) p None) ms k.0 q ((reached k.0).1 k.1) k.2);
+    λ k. filter_map_to (λ p. get_or (numbers_of g) p None) ms k.0 q ((reached k.0).1 k.1) k.2,
+  );
   once = filter_map_once (λ p. get_or (numbers_of g) p None) (λ a b q e f. numbers_one g 0 a b q e f) ms once;
 })
 
@@ -188,9 +189,11 @@ steps_more code i d n l e = map_more step_of code i d l ∙ ap (λ x. map step_o
 pub numbers_step_fork : (g g' : List Step) (ns ns' : List (Option ℕ)) (n n' a b : ℕ) → ns ≡ numbers_of g → n ≡ length (filter is_place g) → g' ≡ g ++ fork a b ∷ [] → ns' ≡ ns ++ None ∷ [] → n' ≡ n → (ns' ≡ numbers_of g') × (n' ≡ length (filter is_place g'))
 numbers_step_fork g g' ns ns' n n' a b e f is more same = (
   more ∙ (ap (λ x. x ++ None ∷ []) e ∙ (sym (numbers_push_fork g 0 a b) ∙ ap numbers_of (sym is))),
-  same ∙ (f ∙ (ap length (sym (places_push_fork g a b)) ∙ ap (λ x. length (filter is_place x)) (sym is))))
+  same ∙ (f ∙ (ap length (sym (places_push_fork g a b)) ∙ ap (λ x. length (filter is_place x)) (sym is))),
+)
 
 pub numbers_step_place : (g g' : List Step) (ns ns' : List (Option ℕ)) (n n' : ℕ) (s : Step) → is_place s ≡ true → ns ≡ numbers_of g → n ≡ length (filter is_place g) → g' ≡ g ++ s ∷ [] → ns' ≡ ns ++ Some n ∷ [] → n' ≡ n + 1 → (ns' ≡ numbers_of g') × (n' ≡ length (filter is_place g'))
 numbers_step_place g g' ns ns' n n' s place e f is more same = (
   more ∙ (ap (λ x. x ++ Some n ∷ []) e ∙ (ap (λ x. numbers_of g ++ Some x ∷ []) f ∙ (sym (numbers_push_place g s place) ∙ ap numbers_of (sym is)))),
-  (let count : length (filter is_place g') ≡ length (filter is_place g) + 1 = ap (λ x. length (filter is_place x)) is ∙ (ap length (places_push_place g s place) ∙ (length-append (filter is_place g) (s ∷ []) ∙ omega arith)) in omega arith))
+  (let count : length (filter is_place g') ≡ length (filter is_place g) + 1 = ap (λ x. length (filter is_place x)) is ∙ (ap length (places_push_place g s place) ∙ (length-append (filter is_place g) (s ∷ []) ∙ omega arith)) in omega arith),
+)

@@ -1,8 +1,8 @@
 -- What the plain expression of an operator is, idle operators left out.
-use Rattle.std.proofs.Common.{◌≡◌, inl, inr, ◌⊎◌, ℕ, zero, suc, ◌+◌, ◌-◌, ◌<◌, ◌≤◌, List, [], ◌∷◌, ◌++◌, length, Option, Some, None, Result, Ok, Err, refl, sym, ap, subst, ◌∙◌, arith, append_assoc, append-nil, length-append}
+use Rattle.std.proofs.Common.{◌≡◌, ℕ, List, [], ◌∷◌, ◌++◌, length, Option, Some, None, Result, Ok, Err, refl, sym, ap, subst, ◌∙◌, arith, append_assoc, append-nil, length-append}
 use Rattle.std.specs.Prelude.{All, ◌↔◌, OnOk, IfOk}
 use Rattle.std.proofs.lemmas.List.{get_or_push, get_or_append_left}
-use Rattle.ly_ere.specs.Expression.{Expression, set, empty, concat, either, star, plus, optional, repeat, name, Joined, Within}
+use Rattle.ly_ere.specs.Expression.{Expression, empty, Joined}
 use Rattle.ly_ere.specs.Arena.{part_of, expression_of, FitsAt}
 use Rattle.ly_ere.specs.declared.node.Node.{Node}
 use Rattle.ly_ere.specs.declared.node.Node.TheVariants.{Set, Empty, Concat, Either, Star, Plus, Optional, Repeat, Name}
@@ -52,7 +52,7 @@ same K w = (λ h. h, λ h. h)
 pub kept : (Op : (List ℕ → Type 0) → List ℕ → Type 0) (es : List Expression) (p : Option ℕ) (a : ℕ) (e : Expression) → IsPart (length es) p → p ≡ Some a → e ≡ part_of es a → ((w : List ℕ) → PlainMatches e w ↔ Op (PlainMatches e) w) → Makes es es (Some a) (Op (PartMatches es p))
 kept Op es p a e h is at f =
     makes_same es (Some a) (Op (PartMatches es p)) (rw is at h)
-      (as_part Op (PlainMatches (part_of es a)) es p a e is at (subst (λ (x : Expression). (w : List ℕ) → PlainMatches x w ↔ Op (PlainMatches e) w) at f))
+    (as_part Op (PlainMatches (part_of es a)) es p a e is at (subst (λ (x : Expression). (w : List ℕ) → PlainMatches x w ↔ Op (PlainMatches e) w) at f))
 
 -- an operator over its part, or what it comes to
 pub added : {E : Type 0} (Op : (List ℕ → Type 0) → List ℕ → Type 0) (r : Result (Option ℕ) E) (es fs : List Expression) (p : Option ℕ) (a : ℕ) (e f : Expression) → OnOk r (fs ≡ es ++ f ∷ []) → IfOk r (λ q. q ≡ Some (length es)) → p ≡ Some a → e ≡ part_of es a → ((w : List ℕ) → PlainMatches f w ↔ Op (PlainMatches e) w) → IfOk r (λ q. Makes es fs q (Op (PartMatches es p)))
@@ -108,6 +108,6 @@ same_sym L M f w = ((f w).1, (f w).0)
 pub then_copies : {E : Type 0} (r : Result (Option ℕ) E) (es fs gs : List Expression) (p q : Option ℕ) (n : ℕ) (L M : List ℕ → Type 0) → IsPart (length es) p → Makes es fs q L → IfOk r (λ x. Makes fs gs x (InTurn (Joined (PartMatches fs p) n) (PartMatches fs q))) → Same (InTurn (Joined (PartMatches es p) n) L) M → IfOk r (λ x. Makes es gs x M)
 then_copies (Ok x) es fs gs p q n L M h a b f =
     makes_trans es fs gs q x M L (InTurn (Joined (PartMatches fs p) n) (PartMatches fs q)) a b
-      (same_trans (InTurn (Joined (PartMatches fs p) n) (PartMatches fs q)) (InTurn (Joined (PartMatches es p) n) L) M
-        (in_turn_same (Joined (PartMatches fs p) n) (Joined (PartMatches es p) n) (PartMatches fs q) L (joined_same (PartMatches fs p) (PartMatches es p) (part_grown es fs a.rest p a.grown h) n) a.spells) f)
+    (same_trans (InTurn (Joined (PartMatches fs p) n) (PartMatches fs q)) (InTurn (Joined (PartMatches es p) n) L) M
+    (in_turn_same (Joined (PartMatches fs p) n) (Joined (PartMatches es p) n) (PartMatches fs q) L (joined_same (PartMatches fs p) (PartMatches es p) (part_grown es fs a.rest p a.grown h) n) a.spells) f)
 then_copies (Err x) es fs gs p q n L M h a b f = tt

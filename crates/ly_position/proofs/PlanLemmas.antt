@@ -1,6 +1,6 @@
 -- The parts of nodes, one after another.
-use Rattle.std.proofs.Common.{◌≡◌, inl, inr, ◌⊎◌, ℕ, zero, suc, ◌+◌, ◌-◌, ◌<◌, ◌≤◌, List, [], ◌∷◌, ◌++◌, length, get_or, Option, Some, None, refl, sym, ap, subst, ◌∙◌, arith, append_assoc, append-nil, length-append, add-one, Result, Ok, Err}
-use Rattle.std.specs.Prelude.{All, ◌↔◌, slice_get, IfOk}
+use Rattle.std.proofs.Common.{◌≡◌, inl, inr, ◌⊎◌, ℕ, zero, suc, ◌+◌, ◌<◌, ◌≤◌, List, [], ◌∷◌, ◌++◌, length, get_or, Option, Some, None, refl, sym, ap, subst, ◌∙◌, arith, append_assoc, length-append, add-one, Result, Ok, Err}
+use Rattle.std.specs.Prelude.{All, slice_get, IfOk}
 use Rattle.std.proofs.lemmas.Bool.{cases_eq, cases_lt}
 use Rattle.std.proofs.lemmas.List.{get_or_push, get_or_append_left, get_or_past}
 use Rattle.std.proofs.lemmas.List.Elements.{All-push, All-weaker}
@@ -68,11 +68,10 @@ listed_push_new es ps p w = rw (get_or_push ps p None (length ps) refl) (λ k. k
 
 -- one more node
 module _ (es₀ es es' rest : List Expression) (names parts : List (Option ℕ)) (nodes : List Node) (i : ℕ) (n : Node) (p : Option ℕ)
-  (grown : es ≡ es₀ ++ rest) (all_names : All (IsPart (length es₀)) names) (count : length parts ≡ i) (within : All (IsPart (length es)) parts)
-  (spells : (a : ℕ) → a < i → Same (ListedMatches es parts a) (MatchesUnder (ListedMatches es₀ names) (part_of (expressions nodes) a)))
-  (ordered : IsOrdered nodes) (less : i < length nodes) (is : n ≡ get_or nodes i n)
-  (made : Makes es es' p (NodeMatches (ListedMatches es names) (ListedMatches es parts) n)) where
-
+    (grown : es ≡ es₀ ++ rest) (all_names : All (IsPart (length es₀)) names) (count : length parts ≡ i) (within : All (IsPart (length es)) parts)
+    (spells : (a : ℕ) → a < i → Same (ListedMatches es parts a) (MatchesUnder (ListedMatches es₀ names) (part_of (expressions nodes) a)))
+    (ordered : IsOrdered nodes) (less : i < length nodes) (is : n ≡ get_or nodes i n)
+    (made : Makes es es' p (NodeMatches (ListedMatches es names) (ListedMatches es parts) n)) where
   pub more_grown : es' ≡ es₀ ++ (rest ++ made.rest)
   more_grown = made.grown ∙ (ap (λ z. z ++ made.rest) grown ∙ append_assoc es₀ rest made.rest)
 
@@ -81,19 +80,19 @@ module _ (es₀ es es' rest : List Expression) (names parts : List (Option ℕ))
 
   old_spells : (a : ℕ) → a < i → Same (ListedMatches es' (parts ++ p ∷ []) a) (MatchesUnder (ListedMatches es₀ names) (part_of (expressions nodes) a))
   old_spells a l = same_trans (ListedMatches es' (parts ++ p ∷ []) a) (ListedMatches es' parts a) (MatchesUnder (ListedMatches es₀ names) (part_of (expressions nodes) a))
-    (listed_push_old es' parts p a (omega arith))
-    (same_trans (ListedMatches es' parts a) (ListedMatches es parts a) (MatchesUnder (ListedMatches es₀ names) (part_of (expressions nodes) a))
+      (listed_push_old es' parts p a (omega arith))
+      (same_trans (ListedMatches es' parts a) (ListedMatches es parts a) (MatchesUnder (ListedMatches es₀ names) (part_of (expressions nodes) a))
       (listed_grown es es' made.rest parts made.grown within a) (spells a l))
 
   new_spells : Same (ListedMatches es' (parts ++ p ∷ []) i) (MatchesUnder (ListedMatches es₀ names) (part_of (expressions nodes) i))
   new_spells = same_trans (ListedMatches es' (parts ++ p ∷ []) i) (PartMatches es' p) (MatchesUnder (ListedMatches es₀ names) (part_of (expressions nodes) i))
-    (let P : ℕ → Type 0 = λ k. Same (ListedMatches es' (parts ++ p ∷ []) k) (PartMatches es' p) in subst P count (listed_push_new es' parts p))
-    (same_trans (PartMatches es' p) (NodeMatches (ListedMatches es names) (ListedMatches es parts) n) (MatchesUnder (ListedMatches es₀ names) (part_of (expressions nodes) i))
+      (let P : ℕ → Type 0 = λ k. Same (ListedMatches es' (parts ++ p ∷ []) k) (PartMatches es' p) in subst P count (listed_push_new es' parts p))
+      (same_trans (PartMatches es' p) (NodeMatches (ListedMatches es names) (ListedMatches es parts) n) (MatchesUnder (ListedMatches es₀ names) (part_of (expressions nodes) i))
       made.spells
       (let Q : Expression → Type 0 = λ e. Same (NodeMatches (ListedMatches es names) (ListedMatches es parts) n) (MatchesUnder (ListedMatches es₀ names) e) in
-        subst Q (expression_at nodes i n ordered less is)
-          (node_same (ListedMatches es names) (ListedMatches es₀ names) (ListedMatches es parts) (expressions nodes) i n (listed_grown es₀ es rest names grown all_names) spells
-            (let F : Node → Type 0 = λ m. FitsAt i m in subst F (sym is) (ordered i n less)))))
+      subst Q (expression_at nodes i n ordered less is)
+      (node_same (ListedMatches es names) (ListedMatches es₀ names) (ListedMatches es parts) (expressions nodes) i n (listed_grown es₀ es rest names grown all_names) spells
+      (let F : Node → Type 0 = λ m. FitsAt i m in subst F (sym is) (ordered i n less)))))
 
   pub more_spells : (a : ℕ) → a < i + 1 → Same (ListedMatches es' (parts ++ p ∷ []) a) (MatchesUnder (ListedMatches es₀ names) (part_of (expressions nodes) a))
   more_spells a l = elim (cases_lt a i) [
@@ -106,26 +105,26 @@ module _ (names : List Expression) (i : ℕ) (d : Expression) (is : slice_get na
   named_old : (x : ℕ) → x < i → Same (NamedUpTo names i x) (NamedUpTo names (suc i) x)
   named_old x l w = (λ h. inr (l, h), back)
     where
-    back : NamedUpTo names (suc i) x w → NamedUpTo names i x w
-    back (inl h) = absurd (omega (arith, h.0))
-    back (inr h) = h.1
+      back : NamedUpTo names (suc i) x w → NamedUpTo names i x w
+      back (inl h) = absurd (omega (arith, h.0))
+      back (inr h) = h.1
 
   named_new : Same (MatchesUnder (NamedUpTo names i) d) (NamedUpTo names (suc i) i)
   named_new w = (λ h. inl (refl, d, is, h), back)
     where
-    back : NamedUpTo names (suc i) i w → MatchesUnder (NamedUpTo names i) d w
-    back (inl h) = let e : h.1 ≡ d = let k = h.2 in cc in subst (λ (x : Expression). MatchesUnder (NamedUpTo names i) x w) e h.3
-    back (inr h) = absurd (omega (arith, h.0))
+      back : NamedUpTo names (suc i) i w → MatchesUnder (NamedUpTo names i) d w
+      back (inl h) = let e : h.1 ≡ d = let k = h.2 in cc in subst (λ (x : Expression). MatchesUnder (NamedUpTo names i) x w) e h.3
+      back (inr h) = absurd (omega (arith, h.0))
 
   named_past : (x : ℕ) → i < x → Same (λ w. ⊥) (NamedUpTo names (suc i) x)
   named_past x l w = (λ h. absurd h, back)
     where
-    back : NamedUpTo names (suc i) x w → ⊥
-    back (inl h) = absurd (omega (arith, h.0))
-    back (inr h) = absurd (omega (arith, h.0))
+      back : NamedUpTo names (suc i) x w → ⊥
+      back (inl h) = absurd (omega (arith, h.0))
+      back (inr h) = absurd (omega (arith, h.0))
 
   module _ (es es' : List Expression) (ps : List (Option ℕ)) (p : Option ℕ) (within : All (IsPart (length es)) ps) (count : length ps ≡ i)
-    (spells : (x : ℕ) → Same (ListedMatches es ps x) (NamedUpTo names i x)) (made : Makes es es' p (MatchesUnder (ListedMatches es ps) d)) where
+      (spells : (x : ℕ) → Same (ListedMatches es ps x) (NamedUpTo names i x)) (made : Makes es es' p (MatchesUnder (ListedMatches es ps) d)) where
     pub names_more_within : All (IsPart (length es')) (ps ++ p ∷ [])
     names_more_within = All-push (IsPart (length es')) ps p (all_grown es es' made.rest ps made.grown within) made.within
 
@@ -133,31 +132,31 @@ module _ (names : List Expression) (i : ℕ) (d : Expression) (is : slice_get na
     names_more x = rw (add-one i) (elim (cases_lt x i) [
       | inl l ↦ same_trans (ListedMatches es' (ps ++ p ∷ []) x) (ListedMatches es' ps x) (NamedUpTo names (suc i) x) (listed_push_old es' ps p x (omega arith))
           (same_trans (ListedMatches es' ps x) (ListedMatches es ps x) (NamedUpTo names (suc i) x) (listed_grown es es' made.rest ps made.grown within x)
-            (same_trans (ListedMatches es ps x) (NamedUpTo names i x) (NamedUpTo names (suc i) x) (spells x) (named_old x l)))
+          (same_trans (ListedMatches es ps x) (NamedUpTo names i x) (NamedUpTo names (suc i) x) (spells x) (named_old x l)))
       | inr m ↦ elim (cases_eq i x) [
         | inl e ↦ subst (λ k. Same (ListedMatches es' (ps ++ p ∷ []) k) (NamedUpTo names (suc i) k)) e
             (same_trans (ListedMatches es' (ps ++ p ∷ []) i) (PartMatches es' p) (NamedUpTo names (suc i) i)
-              (subst (λ k. Same (ListedMatches es' (ps ++ p ∷ []) k) (PartMatches es' p)) count (listed_push_new es' ps p))
-              (same_trans (PartMatches es' p) (MatchesUnder (ListedMatches es ps) d) (NamedUpTo names (suc i) i) made.spells
-                (same_trans (MatchesUnder (ListedMatches es ps) d) (MatchesUnder (NamedUpTo names i) d) (NamedUpTo names (suc i) i)
-                  (matches_same (ListedMatches es ps) (NamedUpTo names i) spells d) named_new)))
+            (subst (λ k. Same (ListedMatches es' (ps ++ p ∷ []) k) (PartMatches es' p)) count (listed_push_new es' ps p))
+            (same_trans (PartMatches es' p) (MatchesUnder (ListedMatches es ps) d) (NamedUpTo names (suc i) i) made.spells
+            (same_trans (MatchesUnder (ListedMatches es ps) d) (MatchesUnder (NamedUpTo names i) d) (NamedUpTo names (suc i) i)
+            (matches_same (ListedMatches es ps) (NamedUpTo names i) spells d) named_new)))
         | inr ne ↦ let none : get_or (ps ++ p ∷ []) x None ≡ None = get_or_past (ps ++ p ∷ []) x None (omega (arith, length-append ps (p ∷ []))) in
             same_trans (ListedMatches es' (ps ++ p ∷ []) x) (λ w. ⊥) (NamedUpTo names (suc i) x)
-              (λ w. rw none (λ k. k, λ k. k)) (named_past x (omega arith))
+            (λ w. rw none (λ k. k, λ k. k)) (named_past x (omega arith))
       ]
     ])
 
 -- a head and a tail
 pub then_tail : {E : Type 0} (r : Result (Option ℕ) E) (e₀ e₁ e₂ e₃ : List Expression) (names : List (Option ℕ)) (p q : Option ℕ) (head tail : Expression) → All (IsPart (length e₀)) names
-  → Makes e₀ e₁ p (MatchesUnder (ListedMatches e₀ names) head) → Makes e₁ e₂ q (MatchesUnder (ListedMatches e₁ names) tail)
-  → IfOk r (λ x. Makes e₂ e₃ x (InTurn (PartMatches e₂ p) (PartMatches e₂ q)))
-  → IfOk r (λ x. Makes e₀ e₃ x (InTurn (MatchesUnder (ListedMatches e₀ names) head) (MatchesUnder (ListedMatches e₀ names) tail)))
+    → Makes e₀ e₁ p (MatchesUnder (ListedMatches e₀ names) head) → Makes e₁ e₂ q (MatchesUnder (ListedMatches e₁ names) tail)
+    → IfOk r (λ x. Makes e₂ e₃ x (InTurn (PartMatches e₂ p) (PartMatches e₂ q)))
+    → IfOk r (λ x. Makes e₀ e₃ x (InTurn (MatchesUnder (ListedMatches e₀ names) head) (MatchesUnder (ListedMatches e₀ names) tail)))
 then_tail (Ok x) e₀ e₁ e₂ e₃ names p q head tail all a b c =
     let H = MatchesUnder (ListedMatches e₀ names) head in
     let T = MatchesUnder (ListedMatches e₀ names) tail in
     let ab = makes_trans e₀ e₁ e₂ p q T H (MatchesUnder (ListedMatches e₁ names) tail) a b (matches_same (ListedMatches e₁ names) (ListedMatches e₀ names) (listed_grown e₀ e₁ a.rest names a.grown all) tail) in
     makes_trans e₀ e₂ e₃ q x (InTurn H T) T (InTurn (PartMatches e₂ p) (PartMatches e₂ q)) ab c
-      (in_turn_same (PartMatches e₂ p) H (PartMatches e₂ q) T (same_trans (PartMatches e₂ p) (PartMatches e₁ p) H (part_grown e₁ e₂ b.rest p b.grown a.within) a.spells) ab.spells)
+    (in_turn_same (PartMatches e₂ p) H (PartMatches e₂ q) T (same_trans (PartMatches e₂ p) (PartMatches e₁ p) H (part_grown e₁ e₂ b.rest p b.grown a.within) a.spells) ab.spells)
 then_tail (Err x) e₀ e₁ e₂ e₃ names p q head tail all a b c = tt
 
 pub get_within : {A : Type 0} (xs : List A) (i : ℕ) (x : A) → slice_get xs i ≡ Some x → i < length xs
@@ -176,11 +175,10 @@ tail_same N names (Some t) f = matches_same N (NamedUpTo names (length names)) f
 
 -- one more rule
 module _ (names : List Expression) (rules : List Rule) (es es' : List Expression) (ds ps : List (Option ℕ)) (i : ℕ) (r : Rule) (p : Option ℕ)
-  (within_names : All (IsPart (length es)) ds) (named : (x : ℕ) → Same (ListedMatches es ds x) (NamedUpTo names (length names) x))
-  (count : length ps ≡ i) (within : All (IsPart (length es)) ps)
-  (spells : (j : ℕ) (q : Rule) → j < i → slice_get rules j ≡ Some q → Same (ListedMatches es ps j) (Spelled names q.pattern))
-  (is : slice_get rules i ≡ Some r) (made : Makes es es' p (SpelledUnder (ListedMatches es ds) r.pattern)) where
-
+    (within_names : All (IsPart (length es)) ds) (named : (x : ℕ) → Same (ListedMatches es ds x) (NamedUpTo names (length names) x))
+    (count : length ps ≡ i) (within : All (IsPart (length es)) ps)
+    (spells : (j : ℕ) (q : Rule) → j < i → slice_get rules j ≡ Some q → Same (ListedMatches es ps j) (Spelled names q.pattern))
+    (is : slice_get rules i ≡ Some r) (made : Makes es es' p (SpelledUnder (ListedMatches es ds) r.pattern)) where
   pub rules_names_within : All (IsPart (length es')) ds
   rules_names_within = all_grown es es' made.rest ds made.grown within_names
 
@@ -192,14 +190,14 @@ module _ (names : List Expression) (rules : List Rule) (es es' : List Expression
 
   rule_old : (j : ℕ) (q : Rule) → j < i → slice_get rules j ≡ Some q → Same (ListedMatches es' (ps ++ p ∷ []) j) (Spelled names q.pattern)
   rule_old j q l e = same_trans (ListedMatches es' (ps ++ p ∷ []) j) (ListedMatches es' ps j) (Spelled names q.pattern) (listed_push_old es' ps p j (omega arith))
-    (same_trans (ListedMatches es' ps j) (ListedMatches es ps j) (Spelled names q.pattern) (listed_grown es es' made.rest ps made.grown within j) (spells j q l e))
+      (same_trans (ListedMatches es' ps j) (ListedMatches es ps j) (Spelled names q.pattern) (listed_grown es es' made.rest ps made.grown within j) (spells j q l e))
 
   rule_new : Same (ListedMatches es' (ps ++ p ∷ []) i) (Spelled names r.pattern)
   rule_new = same_trans (ListedMatches es' (ps ++ p ∷ []) i) (PartMatches es' p) (Spelled names r.pattern)
-    (subst (λ k. Same (ListedMatches es' (ps ++ p ∷ []) k) (PartMatches es' p)) count (listed_push_new es' ps p))
-    (same_trans (PartMatches es' p) (SpelledUnder (ListedMatches es ds) r.pattern) (Spelled names r.pattern) made.spells
+      (subst (λ k. Same (ListedMatches es' (ps ++ p ∷ []) k) (PartMatches es' p)) count (listed_push_new es' ps p))
+      (same_trans (PartMatches es' p) (SpelledUnder (ListedMatches es ds) r.pattern) (Spelled names r.pattern) made.spells
       (in_turn_same (MatchesUnder (ListedMatches es ds) r.pattern.head) (Matches names r.pattern.head) (InTailUnder (ListedMatches es ds) r.pattern.tail) (InTail names r.pattern.tail)
-        (matches_same (ListedMatches es ds) (NamedUpTo names (length names)) named r.pattern.head) (tail_same (ListedMatches es ds) names r.pattern.tail named)))
+      (matches_same (ListedMatches es ds) (NamedUpTo names (length names)) named r.pattern.head) (tail_same (ListedMatches es ds) names r.pattern.tail named)))
 
   pub rules_more : (j : ℕ) (q : Rule) → j < i + 1 → slice_get rules j ≡ Some q → Same (ListedMatches es' (ps ++ p ∷ []) j) (Spelled names q.pattern)
   rules_more j q l e = elim (cases_lt j i) [

@@ -1,14 +1,13 @@
 -- The program of rules, one rule after another.
-use Rattle.std.proofs.Common.{◌≡◌, inl, inr, ◌⊎◌, ℕ, zero, suc, ◌+◌, ◌-◌, ◌<◌, ◌≤◌, List, [], ◌∷◌, ◌++◌, length, get_or, Option, Some, None, refl, sym, ap, subst, ◌∙◌, arith, append_assoc, append-nil, length-append}
+use Rattle.std.proofs.Common.{◌≡◌, inl, inr, ℕ, zero, suc, ◌+◌, ◌<◌, ◌≤◌, List, [], ◌∷◌, ◌++◌, length, get_or, Option, Some, None, refl, sym, ap, subst, ◌∙◌, arith, append_assoc, append-nil, length-append}
 use Rattle.std.specs.Prelude.{All, ◌↔◌, slice_get}
 use Rattle.std.proofs.lemmas.Bool.{cases_eq, cases_lt}
 use Rattle.std.proofs.lemmas.List.{get_or_push, get_or_append_left, get_or_past}
 use Rattle.std.proofs.lemmas.List.Elements.{All-push, All-weaker}
-use Rattle.ly_ere.specs.Expression.{Expression, empty, MatchesUnder}
+use Rattle.ly_ere.specs.Expression.{Expression, empty}
 use Rattle.ly_ere.specs.Arena.{part_of}
 use Rattle.ly_position.specs.Plain.{PartMatches, IsPart, PlainMatches}
-use Rattle.ly_position.specs.Plan.{ListedMatches}
-use Rattle.ly_position.specs.Program.{Step, reads, fork, ends, Runs, at_end, size, entry, code, IsPlain}
+use Rattle.ly_position.specs.Program.{Step, reads, fork, ends, at_end, size, entry, code, IsPlain}
 use Rattle.ly_position.specs.Reach.{LeadsBelow, IsClosed}
 use Rattle.ly_position.specs.Compile.{EntryRuns, IsProgram}
 use Rattle.ly_position.proofs.CodeLaws.{HasCode, CanRun, at_stop, sound, complete, entry_below}
@@ -46,8 +45,8 @@ rule_stays g more es (Some a) e k h = (h.0, get-append g more h.0 (ends k) h.1, 
 
 -- the entries so far and one more
 standing_more : (es : List Expression) (parts entries : List (Option ℕ)) (g more : List Step) (n : ℕ) (e : Option ℕ) → length entries ≡ n
-  → ((k : ℕ) → k < n → RuleStands g es (get_or parts k None) (get_or entries k None) k) → RuleStands (g ++ more) es (get_or parts n None) e n
-  → (k : ℕ) → k < n + 1 → RuleStands (g ++ more) es (get_or parts k None) (get_or (entries ++ e ∷ []) k None) k
+    → ((k : ℕ) → k < n → RuleStands g es (get_or parts k None) (get_or entries k None) k) → RuleStands (g ++ more) es (get_or parts n None) e n
+    → (k : ℕ) → k < n + 1 → RuleStands (g ++ more) es (get_or parts k None) (get_or (entries ++ e ∷ []) k None) k
 standing_more es parts entries g more n e count old new k l = elim (cases_lt k n) [
   | inl m ↦ rw (get_or_append_left entries (e ∷ []) None k (omega arith)) (rule_stays g more es (get_or parts k None) (get_or entries k None) k (old k m))
   | inr m ↦ let same : n ≡ k = omega arith in
@@ -61,7 +60,7 @@ compiled_skip es parts g entries n h e = record {
   within = All-push (IsPart (length g)) entries None h.within tt;
   count = omega (arith, h.count, length-append entries (None ∷ []));
   standing = subst (λ (x : List Step). (k : ℕ) → k < n + 1 → RuleStands x es (get_or parts k None) (get_or (entries ++ None ∷ []) k None) k) (append-nil g)
-    (standing_more es parts entries g [] n None h.count h.standing (rw e refl));
+      (standing_more es parts entries g [] n None h.count h.standing (rw e refl));
   alive = h.alive;
   known = λ p i k. omega (arith, h.known p i k);
 }
@@ -82,7 +81,7 @@ get_front (y ∷ xs) ys (suc p) x l e = get_front xs ys p x (omega arith) e
 
 -- one more rule
 module _ (es : List Expression) (parts : List (Option ℕ)) (g : List Step) (entries : List (Option ℕ)) (n a : ℕ)
-  (h : Compiled es parts g entries n) (is : get_or parts n None ≡ Some a) (plain : IsPlain (part_of es a)) where
+    (h : Compiled es parts g entries n) (is : get_or parts n None ≡ Some a) (plain : IsPlain (part_of es a)) where
   abbrev more : List Step
   more = ends n ∷ code (part_of es a) (length g + 1) (length g)
 
@@ -97,11 +96,11 @@ module _ (es : List Expression) (parts : List (Option ℕ)) (g : List Step) (ent
 
   has_code : HasCode (g ++ more) (part_of es a) (length g + 1) (length g)
   has_code = HasCode-of (part_of es a) (g ++ ends n ∷ []) [] (g ++ more) (length g + 1) (length g) (omega (arith, length-append g (ends n ∷ [])))
-    (sym (append_assoc g (ends n ∷ []) (code (part_of es a) (length g + 1) (length g))) ∙ ap (λ z. (g ++ ends n ∷ []) ++ z) (sym (append-nil (code (part_of es a) (length g + 1) (length g)))))
+      (sym (append_assoc g (ends n ∷ []) (code (part_of es a) (length g + 1) (length g))) ∙ ap (λ z. (g ++ ends n ∷ []) ++ z) (sym (append-nil (code (part_of es a) (length g + 1) (length g)))))
 
   -- a step that is there is an old one, the end, or one of the code
   each : (P : Step → Type 0) (p : ℕ) (s : Step) → slice_get (g ++ more) p ≡ Some s
-    → (slice_get g p ≡ Some s → P s) → P (ends n) → ((x : Step) → LeadsBelow (length (g ++ more)) x → IsMove x → P x) → P s
+      → (slice_get g p ≡ Some s → P s) → P (ends n) → ((x : Step) → LeadsBelow (length (g ++ more)) x → IsMove x → P x) → P s
   each P p s e old end new = elim (cases_lt p (length g)) [
     | inl l ↦ old (get_front g more p s l e)
     | inr l ↦ elim (cases_eq (length g) p) [
@@ -134,7 +133,7 @@ module _ (es : List Expression) (parts : List (Option ℕ)) (g : List Step) (ent
   compiled_rule fs is_fs = rw is_fs (record {
     closed = λ p s e. each (LeadsBelow (length (g ++ more))) p s e (λ k. leads_further (length g) (length (g ++ more)) s (omega (arith, count_more)) (h.closed p s k)) tt (λ x l m. l);
     within = All-push (IsPart (length (g ++ more))) entries first (All-weaker (IsPart (length g)) (IsPart (length (g ++ more))) (λ q k. part_further (length g) (length (g ++ more)) q (omega (arith, count_more)) k) entries h.within)
-      (entry_below (length g + 1) (size (part_of es a)) (length g) (length (g ++ more)) (omega (arith, count_more)) (omega (arith, count_more)));
+        (entry_below (length g + 1) (size (part_of es a)) (length g) (length (g ++ more)) (omega (arith, count_more)) (omega (arith, count_more)));
     count = omega (arith, h.count, length-append entries (first ∷ []));
     standing = standing_more es parts entries g more n first h.count h.standing (rw is (length g, at_base, has_code, refl));
     alive = alive_more;
@@ -147,18 +146,20 @@ module _ (es : List Expression) (g : List Step) (j : ℕ) where
   rule_runs None e k w plain h = rw h (λ r. absurd r, λ r. r.1)
   rule_runs (Some a) e k w plain h = rw h.3 (there, back)
     where
-    base : ℕ
-    base = h.0
-    there : EntryRuns g j (Some (entry (h.0 + 1) (size (part_of es a)) h.0)) w → (j ≡ k) × PlainMatches (part_of es a) w
-    there r =
-        let x = sound g j (λ x v. ⊥) (part_of es a) (h.0 + 1) h.0 r.0 w (plain a refl) h.2 r.1 in
-        let end : (j ≡ k) × (x.back ≡ []) = at_stop g j x.moves h.0 k x.back h.1 x.goes in
-        let whole : x.front ≡ w = sym (x.is ∙ (ap (λ z. x.front ++ z) end.1 ∙ append-nil x.front)) in
-        (end.0, subst (λ z. PlainMatches (part_of es a) z) whole x.fits)
-    back : (j ≡ k) × PlainMatches (part_of es a) w → EntryRuns g j (Some (entry (h.0 + 1) (size (part_of es a)) h.0)) w
-    back m =
-        let end : CanRun g j h.0 [] = (0, at_end (let P : ℕ → Type 0 = λ i. slice_get g h.0 ≡ Some (ends i) in subst P (sym m.0) h.1)) in
-        subst (λ z. CanRun g j (entry (h.0 + 1) (size (part_of es a)) h.0) z) (append-nil w) (complete g j (λ x v. ⊥) (part_of es a) (h.0 + 1) h.0 w [] (plain a refl) h.2 m.1 end)
+      base : ℕ
+      base = h.0
+
+      there : EntryRuns g j (Some (entry (h.0 + 1) (size (part_of es a)) h.0)) w → (j ≡ k) × PlainMatches (part_of es a) w
+      there r =
+          let x = sound g j (λ x v. ⊥) (part_of es a) (h.0 + 1) h.0 r.0 w (plain a refl) h.2 r.1 in
+          let end : (j ≡ k) × (x.back ≡ []) = at_stop g j x.moves h.0 k x.back h.1 x.goes in
+          let whole : x.front ≡ w = sym (x.is ∙ (ap (λ z. x.front ++ z) end.1 ∙ append-nil x.front)) in
+          (end.0, subst (λ z. PlainMatches (part_of es a) z) whole x.fits)
+
+      back : (j ≡ k) × PlainMatches (part_of es a) w → EntryRuns g j (Some (entry (h.0 + 1) (size (part_of es a)) h.0)) w
+      back m =
+          let end : CanRun g j h.0 [] = (0, at_end (let P : ℕ → Type 0 = λ i. slice_get g h.0 ≡ Some (ends i) in subst P (sym m.0) h.1)) in
+          subst (λ z. CanRun g j (entry (h.0 + 1) (size (part_of es a)) h.0) z) (append-nil w) (complete g j (λ x v. ⊥) (part_of es a) (h.0 + 1) h.0 w [] (plain a refl) h.2 m.1 end)
 
 -- past the last rule
 pub compiled_all : (es : List Expression) (parts : List (Option ℕ)) (g : List Step) (entries : List (Option ℕ)) (n : ℕ) → Compiled es parts g entries n → n ≡ length parts → All IsPlain es → All (IsPart (length es)) parts → IsProgram es parts g entries
@@ -176,9 +177,9 @@ compiled_all es parts g entries n h all plain within = record {
 
 -- one more rule, as it was appended
 pub compiled_step : (es : List Expression) (parts : List (Option ℕ)) (g g' : List Step) (entries fs : List (Option ℕ)) (n a base e : ℕ) → Compiled es parts g entries n → get_or parts n None ≡ Some a → IsPlain (part_of es a)
-  → base ≡ length g → e ≡ entry (base + 1) (size (part_of es a)) base → g' ≡ g ++ ends n ∷ code (part_of es a) (base + 1) base → fs ≡ entries ++ Some e ∷ [] → Compiled es parts g' fs (n + 1)
+    → base ≡ length g → e ≡ entry (base + 1) (size (part_of es a)) base → g' ≡ g ++ ends n ∷ code (part_of es a) (base + 1) base → fs ≡ entries ++ Some e ∷ [] → Compiled es parts g' fs (n + 1)
 compiled_step es parts g g' entries fs n a base e h is plain at first grown is_fs =
     let same : g' ≡ g ++ ends n ∷ code (part_of es a) (length g + 1) (length g) = grown ∙ ap (λ b. g ++ ends n ∷ code (part_of es a) (b + 1) b) at in
     let start : e ≡ entry (length g + 1) (size (part_of es a)) (length g) = first ∙ ap (λ b. entry (b + 1) (size (part_of es a)) b) at in
     subst (λ (x : List Step). Compiled es parts x fs (n + 1)) (sym same)
-      (compiled_rule es parts g entries n a h is plain fs (is_fs ∙ ap (λ x. entries ++ Some x ∷ []) start))
+    (compiled_rule es parts g entries n a h is plain fs (is_fs ∙ ap (λ x. entries ++ Some x ∷ []) start))

@@ -1,19 +1,18 @@
 -- Runs over positions are runs of the program.
-use Rattle.std.proofs.Common.{◌≡◌, ◌≢◌, inl, inr, ◌⊎◌, ℕ, zero, suc, ◌+◌, ◌-◌, ◌*◌, ◌<◌, ◌≤◌, List, [], ◌∷◌, ◌++◌, Bool, true, false, length, get_or, map, filter, Option, Some, None, Result, Ok, Err, refl, sym, ap, subst, ◌∙◌, arith}
-use Rattle.std.specs.Prelude.{All, AllPairs, ◌↔◌, slice_get, Contains, IfOk, IsTrue, if◌then◌else◌}
+use Rattle.std.proofs.Common.{◌≡◌, ◌≢◌, inl, inr, ℕ, zero, suc, ◌+◌, ◌*◌, ◌<◌, ◌≤◌, List, [], ◌∷◌, Bool, true, length, get_or, map, filter, Option, Some, None, refl, sym, ap, subst, ◌∙◌, arith}
+use Rattle.std.specs.Prelude.{All, AllPairs, slice_get, Contains, if◌then◌else◌}
 use Rattle.std.specs.List.{AllZip}
-use Rattle.std.proofs.lemmas.Bool.{cases_eq, cases_lt}
+use Rattle.std.proofs.lemmas.Bool.{cases_lt}
 use Rattle.std.proofs.lemmas.List.{get_or_past, get_or_default, length-map}
 use Rattle.std.proofs.lemmas.List.Elements.{All-contains, Contains-get_or}
-use Rattle.ly_base.specs.ByteSet.{members}
 use Rattle.ly_ere.specs.Expression.{Expression}
 use Rattle.ly_ere.specs.declared.pattern.Rule.{Rule}
 use Rattle.ly_position.specs.Program.{Step, reads, fork, ends, Runs, at_end, by_read, by_first, by_second}
 use Rattle.ly_position.specs.Reach.{Reached, at_root, to_first, to_second}
-use Rattle.ly_position.specs.Follow.{is_place, numbers_from, numbers_of, IsReachList, SlotFits, FollowOf}
-use Rattle.ly_position.specs.Starts.{StartsAt, BeginsBefore}
+use Rattle.ly_position.specs.Follow.{is_place, numbers_of, IsReachList, SlotFits, FollowOf}
+use Rattle.ly_position.specs.Starts.{StartsAt}
 use Rattle.ly_position.specs.Compile.{IsProgram, EntryRuns}
-use Rattle.ly_position.specs.Plan.{IsPlan, ListedMatches, Spelled}
+use Rattle.ly_position.specs.Plan.{IsPlan, Spelled}
 use Rattle.ly_position.specs.Nfa.{Nfa, Place, reading, ending, bytes_of, follow_of, place_of, IsEnd, Reads, Follows, RunsTo, starts_of}
 use Rattle.ly_position.specs.Position.{place_in, nfa_of, HasList, Fits}
 use Rattle.ly_position.specs.Assembled.{Assembled}
@@ -23,7 +22,7 @@ use Rattle.ly_position.specs.declared.nfa.Slot.TheVariants as slot
 use Rattle.ly_position.proofs.CodeLaws.{CanRun}
 use Rattle.ly_position.proofs.NumberLemmas.{numbers_place, numbers_back, numbers_each, contains_cons, contains_head}
 use Rattle.ly_position.proofs.FollowLemmas.{zip_length, zip_get}
-use Rattle.ly_position.proofs.PlanLemmas.{get_within, get_read}
+use Rattle.ly_position.proofs.PlanLemmas.{get_within}
 
 -- a position shows its step
 abbrev pub Shows : List Step → Step → Place → Type 0
@@ -134,7 +133,7 @@ module _ (g : List Step) (slots : List Slot) (follow starts : List (List ℕ)) (
   end_forward i p (ends j) (ending k) e h same = let one : k ≡ i = cc in let two : ends j ≡ ends i = ap ends (h ∙ one) in (0, at_end (e ∙ ap (λ x. Some x) two))
 
   read_forward : (i p b q : ℕ) (w : List ℕ) (s : Step) (pl : Place) → slice_get g p ≡ Some s → Shows g s pl → Contains (bytes_of pl) b → Contains (follow_of pl) q
-    → ((r : ℕ) → get_or (numbers_of g) r None ≡ Some q → CanRun g i r w) → CanRun g i p (b ∷ w)
+      → ((r : ℕ) → get_or (numbers_of g) r None ≡ Some q → CanRun g i r w) → CanRun g i p (b ∷ w)
   read_forward i p b q w (reads bytes next) (reading bs f) e h reads_b follows_q rest =
       let r = (h.1.members q).0 follows_q in
       let x = from_root g i (next ∷ []) r.0 w r.1 (rest r.0 r.2) in
@@ -151,7 +150,7 @@ module _ (g : List Step) (slots : List Slot) (follow starts : List (List ℕ)) (
       let s = shown p q e in
       let here : place_of nfa q ≡ s.shape = get_or_some (map (place_in follow) slots) q (reading [] []) s.shape s.at in
       read_forward i p b run.0 w s.step s.shape s.is s.shows (subst (λ x. Contains (bytes_of x) b) here run.1) (subst (λ x. Contains (follow_of x) run.0) here run.2)
-        (λ r k. forward w i r run.0 k run.3)
+      (λ r k. forward w i r run.0 k run.3)
 
   -- and back
   end_back : (i p q : ℕ) (s : Step) (pl : Place) → slice_get g p ≡ Some (ends i) → slice_get g p ≡ Some s → slice_get (map (place_in follow) slots) q ≡ Some pl → Shows g s pl → IsEnd nfa q i
@@ -161,13 +160,14 @@ module _ (g : List Step) (slots : List Slot) (follow starts : List (List ℕ)) (
   end_back i p q (ends j) (ending k) a e at h = let one : i ≡ j = cc in at ∙ ap (λ x. Some (ending x)) (sym h ∙ sym one)
 
   read_back : (p q b r next : ℕ) (bytes : List ℕ) (s : Step) (pl : Place) → slice_get g p ≡ Some (reads bytes next) → slice_get g p ≡ Some s → slice_get (map (place_in follow) slots) q ≡ Some pl → Shows g s pl
-    → Contains bytes b → ((x : ℕ) × Reached g (next ∷ []) x × (get_or (numbers_of g) x None ≡ Some r)) → Reads nfa q b × Follows nfa q r
+      → Contains bytes b → ((x : ℕ) × Reached g (next ∷ []) x × (get_or (numbers_of g) x None ≡ Some r)) → Reads nfa q b × Follows nfa q r
   read_back p q b r next bytes (reads bs n) (reading cs f) a e at h c k =
       let one : bytes ≡ bs = cc in
       let two : next ≡ n = cc in
-      let here : place_of nfa q ≡ reading cs f = get_or_some (map (place_in follow) slots) q (reading [] []) (reading cs f) at in
-      (subst (λ x. Contains (bytes_of x) b) (sym here) (let P : List ℕ → Type 0 = λ l. Contains l b in subst P (one ∙ h.0) c),
-       subst (λ x. Contains (follow_of x) r) (sym here) ((h.1.members r).1 (k.0, (let P : ℕ → Type 0 = λ z. Reached g (z ∷ []) k.0 in subst P two k.1), k.2)))
+      let here : place_of nfa q ≡ reading cs f = get_or_some (map (place_in follow) slots) q (reading [] []) (reading cs f) at in (
+        subst (λ x. Contains (bytes_of x) b) (sym here) (let P : List ℕ → Type 0 = λ l. Contains l b in subst P (one ∙ h.0) c),
+        subst (λ x. Contains (follow_of x) r) (sym here) ((h.1.members r).1 (k.0, (let P : ℕ → Type 0 = λ z. Reached g (z ∷ []) k.0 in subst P two k.1), k.2)),
+      )
   read_back p q b r next bytes (reads bs n) (ending j) a e at h c k = absurd h
   read_back p q b r next bytes (fork x y) pl a e at h c k = absurd h
   read_back p q b r next bytes (ends j) pl a e at h c k = cc
@@ -223,10 +223,10 @@ has_list g follow (ends i) (slot.Ends r) h = tt
 pub all_fit : (g : List Step) (rules : List Rule) (entries : List (Option ℕ)) (conditions : ℕ) (slots : List Slot) (follow starts : List (List ℕ)) → AllZip (SlotFits g follow) (filter is_place g) slots → FollowOf g follow → StartsAt g rules entries conditions starts → Fits slots follow starts
 all_fit g rules entries conditions slots follow starts fits lists begins = record {
   lists = λ k d l.
-    let c = zip_length (SlotFits g follow) (filter is_place g) slots fits in
-    let s = get_here (filter is_place g) k (omega arith) in
-    let z = zip_get (SlotFits g follow) (filter is_place g) slots k s.0 fits s.1 in
-    subst (λ x. HasList (length follow) x) (sym (get_or_some slots k d z.0 z.1)) (has_list g follow s.0 z.0 z.2);
+      let c = zip_length (SlotFits g follow) (filter is_place g) slots fits in
+      let s = get_here (filter is_place g) k (omega arith) in
+      let z = zip_get (SlotFits g follow) (filter is_place g) slots k s.0 fits s.1 in
+      subst (λ x. HasList (length follow) x) (sym (get_or_some slots k d z.0 z.1)) (has_list g follow s.0 z.0 z.2);
   follow_within = λ k d l. let r = lists k l in subst (λ xs. All (λ q. q < length slots) xs) (get_or_default follow k [] d l) (reach_below g slots follow starts fits (r.0 ∷ []) (get_or follow k []) r.1);
   starts_within = λ k d l. let r = begins.each k l in subst (λ xs. All (λ q. q < length slots) xs) (get_or_default starts k [] d l) (reach_below g slots follow starts fits r.0 (get_or starts k []) r.1);
 }
@@ -242,8 +242,7 @@ nothing_once : AllPairs (λ (a : ℕ) (b : ℕ). a ≢ b) []
 nothing_once i j d l m = absurd (omega (arith, m))
 
 module _ (names : List Expression) (rules : List Rule) (es : List Expression) (parts : List (Option ℕ)) (g : List Step) (entries : List (Option ℕ)) (conditions : ℕ) (slots : List Slot) (follow starts : List (List ℕ))
-  (plan : IsPlan names rules es parts) (program : IsProgram es parts g entries) (fits : AllZip (SlotFits g follow) (filter is_place g) slots) (lists : FollowOf g follow) (begins : StartsAt g rules entries conditions starts) where
-
+    (plan : IsPlan names rules es parts) (program : IsProgram es parts g entries) (fits : AllZip (SlotFits g follow) (filter is_place g) slots) (lists : FollowOf g follow) (begins : StartsAt g rules entries conditions starts) where
   abbrev made : Nfa
   made = nfa_of slots follow starts
 
@@ -300,10 +299,10 @@ module _ (names : List Expression) (rules : List Rule) (es : List Expression) (p
   each_place : (P : Place → Type 0) → ((x : Slot) → HasList (length follow) x → P (place_in follow x)) → P (reading [] []) → (q : ℕ) → P (place_of made q)
   each_place P f none q = elim (cases_lt q (length slots)) [
     | inl l ↦
-      let x = get_here slots q l in
-      let d = x.0 in
-      let has = subst (HasList (length follow)) (get_or_some slots q d d x.1) (fit.lists q d l) in
-      subst P (sym (get_or_some made.positions q (reading [] []) (place_in follow d) (get-map_some (place_in follow) slots q d x.1))) (f d has)
+        let x = get_here slots q l in
+        let d = x.0 in
+        let has = subst (HasList (length follow)) (get_or_some slots q d d x.1) (fit.lists q d l) in
+        subst P (sym (get_or_some made.positions q (reading [] []) (place_in follow d) (get-map_some (place_in follow) slots q d x.1))) (f d has)
     | inr l ↦ subst P (sym (get_or_past made.positions q (reading [] []) (omega (arith, length-map slots (place_in follow))))) none
   ]
 
@@ -319,16 +318,12 @@ module _ (names : List Expression) (rules : List Rule) (es : List Expression) (p
     live = live_from;
     known = known_end;
     follow_within = λ p q h.
-      let all = each_place (λ pl. All (λ x. x < length slots) (follow_of pl)) (λ x k. (slot_follow x k).1) (λ k d l. absurd (omega (arith, l))) p in
-      omega (arith, All-contains (λ x. x < length slots) (follow_of (place_of made p)) q all h, length-map slots (place_in follow));
+        let all = each_place (λ pl. All (λ x. x < length slots) (follow_of pl)) (λ x k. (slot_follow x k).1) (λ k d l. absurd (omega (arith, l))) p in
+        omega (arith, All-contains (λ x. x < length slots) (follow_of (place_of made p)) q all h, length-map slots (place_in follow));
     follow_once = λ p. each_place (λ pl. AllPairs (λ a b. a ≢ b) (follow_of pl)) (λ x k. (slot_follow x k).0) nothing_once p;
     starts_within = λ c line q h. omega (arith, All-contains (λ x. x < length slots) (starts_of made c line) q (starts_each c line).1 h, length-map slots (place_in follow));
     starts_once = λ c line. (starts_each c line).0;
   }
-
-pub if_ok : {A E : Type 0} {P Q : A → Type 0} (r : Result A E) → IfOk r P → ((x : A) → P x → Q x) → IfOk r Q
-if_ok (Ok x) h f = f x h
-if_ok (Err e) h f = tt
 
 -- what was put together from the program of a plan
 pub assembled : (names : List Expression) (rules : List Rule) (es : List Expression) (parts : List (Option ℕ)) (g : List Step) (entries : List (Option ℕ)) (conditions : ℕ) (nfa : Nfa) → IsPlan names rules es parts → IsProgram es parts g entries → Assembled g rules entries conditions nfa → ArePositions names rules conditions nfa

@@ -1,13 +1,10 @@
 -- What a walk over forks has found, and what it still has to look at.
-use Rattle.std.proofs.Common.{◌≡◌, ◌⊎◌, inl, inr, ℕ, zero, suc, ◌+◌, ◌-◌, ◌*◌, ◌<◌, ◌≤◌, List, [], ◌∷◌, ◌++◌, Option, Some, None, length, get_or, map, refl, sym, ap, ◌∙◌, subst, arith, length-append, append_assoc, true, false, append-nil}
+use Rattle.std.proofs.Common.{◌≡◌, ◌⊎◌, inl, inr, ℕ, zero, suc, ◌+◌, ◌-◌, ◌*◌, ◌<◌, ◌≤◌, List, [], ◌∷◌, ◌++◌, Option, Some, None, length, get_or, map, refl, sym, ap, ◌∙◌, subst, arith, length-append}
 use Rattle.std.specs.Prelude.{Contains, slice_get, All, ◌↔◌}
-use Rattle.std.proofs.lemmas.Bool.{cases_eq}
 use Rattle.std.proofs.lemmas.List.{get_or_append_left}
-use Rattle.std.proofs.lemmas.List.Elements.{Contains-append_left, Contains-append_right, Contains-push, Contains-push_cases, Contains-append_cases, All-contains, All-append, All-push}
-use Rattle.ly_position.specs.Program.{Step, reads, fork, ends, step_of}
-use Rattle.ly_position.specs.Reach.{LeadsBelow, IsClosed, Reached, at_root, to_first, to_second, sides_of, Visits}
-use Rattle.ly_position.specs.declared.program.Instruction.{Instruction}
-use Rattle.ly_position.specs.declared.program.Instruction.TheVariants.{Read, Fork, End}
+use Rattle.std.proofs.lemmas.List.Elements.{Contains-append_left, Contains-append_right, Contains-push, Contains-push_cases, Contains-append_cases, All-append}
+use Rattle.ly_position.specs.Program.{Step, reads, fork, ends}
+use Rattle.ly_position.specs.Reach.{IsClosed, Reached, at_root, to_first, to_second, sides_of, Visits}
 
 -- what stands at a place
 pub get-map : {A B : Type 0} (f : A → B) (xs : List A) (i : ℕ) (x : A) → i < length xs → x ≡ get_or xs i x → slice_get (map f xs) i ≡ Some (f x)
@@ -54,13 +51,14 @@ searches_none g rs h = record {
 pub searches_all : (g : List Step) (rs ms : List ℕ) → Searches g rs ms [] → (p : ℕ) → Contains ms p ↔ Reached g rs p
 searches_all g rs ms h p = (h.found p, back p)
   where
-  only : (q : ℕ) → Contains ms q ⊎ Contains [] q → Contains ms q
-  only q (inl k) = k
-  only q (inr k) = absurd (not_in_nil q k)
-  back : (q : ℕ) → Reached g rs q → Contains ms q
-  back q (at_root k) = only q (h.begun q k)
-  back q (to_first {p} {a} {b} r e) = only q (h.first p q b (back p r) e)
-  back q (to_second {p} {a} {b} r e) = only q (h.second p a q (back p r) e)
+    only : (q : ℕ) → Contains ms q ⊎ Contains [] q → Contains ms q
+    only q (inl k) = k
+    only q (inr k) = absurd (not_in_nil q k)
+
+    back : (q : ℕ) → Reached g rs q → Contains ms q
+    back q (at_root k) = only q (h.begun q k)
+    back q (to_first {p} {a} {b} r e) = only q (h.first p q b (back p r) e)
+    back q (to_second {p} {a} {b} r e) = only q (h.second p a q (back p r) e)
 
 -- where a step leads without reading is reached with it, and within the program
 module _ (g : List Step) (rs : List ℕ) (p : ℕ) where
@@ -100,9 +98,9 @@ searches_more g rs ms ms' st st' p closed h (inl v) = rw (v.1, v.2) (record {
   second = λ q a b k e. known b (h.second q a b k e);
 })
   where
-  known : (q : ℕ) → Contains ms q ⊎ Contains (st ++ p ∷ []) q → Contains ms q ⊎ Contains st q
-  known q (inl k) = inl k
-  known q (inr k) = elim (Contains-push_cases st p q k) [ inl a ↦ inr a | inr e ↦ inl (subst (λ x. Contains ms x) e v.0) ]
+    known : (q : ℕ) → Contains ms q ⊎ Contains (st ++ p ∷ []) q → Contains ms q ⊎ Contains st q
+    known q (inl k) = inl k
+    known q (inr k) = elim (Contains-push_cases st p q k) [ inl a ↦ inr a | inr e ↦ inl (subst (λ x. Contains ms x) e v.0) ]
 searches_more g rs ms ms' st st' p closed h (inr v) = rw (v.0, v.1) (record {
   below = All-append (λ q. q < length g) st sides (All_front (λ q. q < length g) st (p ∷ []) h.below) (side_below g rs p closed (slice_get g p) refl);
   found = λ q k. taken q (Contains-push_cases ms p q k);
@@ -118,16 +116,19 @@ searches_more g rs ms ms' st st' p closed h (inr v) = rw (v.0, v.1) (record {
   ];
 })
   where
-  sides : List ℕ
-  sides = sides_of (slice_get g p)
-  reached : Reached g rs p
-  reached = h.noted p (Contains-push st p)
-  taken : (q : ℕ) → Contains ms q ⊎ (p ≡ q) → Reached g rs q
-  taken q (inl k) = h.found q k
-  taken q (inr e) = subst (λ x. Reached g rs x) e reached
-  known : (q : ℕ) → Contains ms q ⊎ Contains (st ++ p ∷ []) q → Contains (ms ++ p ∷ []) q ⊎ Contains (st ++ sides) q
-  known q (inl k) = inl (Contains-append_left ms (p ∷ []) q k)
-  known q (inr k) = elim (Contains-push_cases st p q k) [ inl a ↦ inr (Contains-append_left st sides q a) | inr e ↦ inl (subst (λ x. Contains (ms ++ p ∷ []) x) e (Contains-push ms p)) ]
+    sides : List ℕ
+    sides = sides_of (slice_get g p)
+
+    reached : Reached g rs p
+    reached = h.noted p (Contains-push st p)
+
+    taken : (q : ℕ) → Contains ms q ⊎ (p ≡ q) → Reached g rs q
+    taken q (inl k) = h.found q k
+    taken q (inr e) = subst (λ x. Reached g rs x) e reached
+
+    known : (q : ℕ) → Contains ms q ⊎ Contains (st ++ p ∷ []) q → Contains (ms ++ p ∷ []) q ⊎ Contains (st ++ sides) q
+    known q (inl k) = inl (Contains-append_left ms (p ∷ []) q k)
+    known q (inr k) = elim (Contains-push_cases st p q k) [ inl a ↦ inr (Contains-append_left st sides q a) | inr e ↦ inl (subst (λ x. Contains (ms ++ p ∷ []) x) e (Contains-push ms p)) ]
 
 sides_few : (o : Option Step) → length (sides_of o) ≤ 2
 sides_few None = omega arith

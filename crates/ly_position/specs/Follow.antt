@@ -1,5 +1,5 @@
 -- Positions of a program: its reads and ends, numbered in their order, and the lists of those that come next.
-use Rattle.std.specs.Prelude.{◌≡◌, ◌≢◌, ◌↔◌, ℕ, ◌+◌, ◌<◌, List, [], ◌∷◌, ◌++◌, length, slice_index_or, All, AllPairs, Bool, true, false, Contains, Option, Some, None}
+use Rattle.std.specs.Prelude.{◌≡◌, ◌≢◌, ◌↔◌, ℕ, ◌+◌, ◌<◌, List, [], ◌∷◌, ◌++◌, length, slice_index_or, AllPairs, Bool, true, false, Contains, Option, Some, None}
 use Rattle.ly_base.specs.ByteSet.{members}
 use Rattle.ly_position.specs.Program.{Step, reads, fork, ends}
 use Rattle.ly_position.specs.Reach.{Reached}

@@ -12,3 +12,4 @@ pub mod Program
 pub mod Reach
 pub mod SparseSet
 pub mod Starts
+pub mod TotalWeight

@@ -1,5 +1,5 @@
 -- The plain expressions of nodes and rules.
-use Rattle.std.specs.Prelude.{◌≡◌, ℕ, ◌<◌, ◌≤◌, List, [], ◌∷◌, length, slice_get, slice_index_or, All, Contains, Option, Some, None, ◌⊎◌}
+use Rattle.std.specs.Prelude.{◌≡◌, ℕ, ◌≤◌, List, [], ◌∷◌, length, slice_get, slice_index_or, All, Contains, Option, Some, None, ◌⊎◌}
 use Rattle.ly_base.specs.ByteSet.{members}
 use Rattle.ly_ere.specs.Expression.{Expression, Joined, Within, Matches, MatchesUnder}
 use Rattle.ly_ere.specs.Winner.{InTail}

@@ -1,5 +1,5 @@
 -- What a program reaches by forks alone.
-use Rattle.std.specs.Prelude.{◌≡◌, ℕ, ◌<◌, List, [], ◌∷◌, ◌++◌, length, slice_get, Contains, Option, Some, None, ◌⊎◌}
+use Rattle.std.specs.Prelude.{◌≡◌, ℕ, ◌<◌, List, [], ◌∷◌, ◌++◌, length, slice_get, Contains, Option, Some, ◌⊎◌}
 use Rattle.ly_position.specs.Program.{Step, reads, fork, ends}
 
 -- a step leads to steps below n only

@@ -1,9 +1,11 @@
-ghost use Rattle.std.specs.Prelude.{◌≡◌, length, map, All, IfOk};
+ghost use Rattle.std.specs.Prelude.{◌≡◌, ◌<◌, ◌≤◌, length, map, All, IfOk, IsErrOf, OnOk};
+ghost use Rattle.ly_base.specs.Limits.{total_weight_of};
 ghost use Rattle.ly_position.specs.Plain.{IsPart};
 ghost use Rattle.ly_position.specs.Program.{step_of};
 ghost use Rattle.ly_position.specs.Reach.{IsClosed};
 ghost use Rattle.ly_position.specs.Patterns.{ArePositions};
 ghost use Rattle.ly_position.specs.Assembled.{Assembled};
+ghost use Rattle.ly_position.specs.TotalWeight.{total_weight};
 
 use crate::fault::PosFault;
 use crate::follow::{Slots, make_slots, numbers};
@@ -12,11 +14,14 @@ use crate::plan::write_out;
 use crate::program::{Program, compile};
 use crate::reach::Reach;
 use crate::starts::starts;
+use crate::weight::weigh_all;
 use ly_base::Limits;
 use ly_ere::{Names, Rule};
 use std::alloc::{AllocError, Global};
 
 /// The positions of the rules, for as many conditions.
+///
+/// `TooManyPositions` comes where the weight of all patterns together is above the limit.
 pub fn positions(
     alloc: Global,
     rules: &[Rule],
@@ -25,10 +30,15 @@ pub fn positions(
     limits: &Limits,
 ) -> Result<PosNfa, PosFault>
     ensures positions { IfOk result (ArePositions names.now rules.now conditions) }
+    ensures light { OnOk result (total_weight names.now rules.now ≤ total_weight_of limits.now) }
+    ensures heavy { IsErrOf result PosFault.TooManyPositions → total_weight_of limits.now < total_weight names.now rules.now }
 {
+    if weigh_all(alloc, rules, names, limits.total_weight())?.is_none() {
+        return Err(PosFault::TooManyPositions);
+    }
     let plan = write_out(alloc, rules, names)?;
     let program = compile(alloc, &plan)?;
-    assemble(alloc, rules, conditions, &program)
+    Ok(assemble(alloc, rules, conditions, &program)?)
 }
 
 /// The positions of a program: its reads and ends, and what each leads to by forks alone.
@@ -37,7 +47,7 @@ fn assemble(
     rules: &[Rule],
     conditions: u32,
     program: &Program,
-) -> Result<PosNfa, PosFault>
+) -> Result<PosNfa, AllocError>
     requires closed { IsClosed (map step_of program.now.instructions.items) }
     requires within { All (IsPart (length program.now.instructions.items)) program.now.entries.items }
     requires count { length program.now.entries.items ≡ length rules.now }

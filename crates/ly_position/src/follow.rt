@@ -4,7 +4,6 @@ ghost use Rattle.ly_position.specs.Program.{step_of};
 ghost use Rattle.ly_position.specs.Reach.{IsClosed};
 ghost use Rattle.ly_position.specs.Follow.{AfterStep, FollowOf, Grows, Knows, SlotFits, is_place, numbers_of};
 
-use crate::fault::PosFault;
 use crate::lists::Lists;
 use crate::nfa::Slot;
 use crate::program::Instruction;
@@ -28,7 +27,7 @@ pub struct Slots {
 }
 
 /// The number of each instruction that is a position: reads and ends, counted from 0.
-pub fn numbers(alloc: Global, code: &[Instruction]) -> Result<Vec<Option<u32>>, PosFault>
+pub fn numbers(alloc: Global, code: &[Instruction]) -> Result<Vec<Option<u32>>, AllocError>
     ensures { IfOk result (λ ns. ns.items ≡ numbers_of (map step_of code.now)) }
 {
     let mut numbers = Vec::new(alloc);
@@ -38,7 +37,7 @@ pub fn numbers(alloc: Global, code: &[Instruction]) -> Result<Vec<Option<u32>>, 
             numbers.push(None)?;
         } else {
             numbers.push(Some(count))?;
-            count = count.checked_add(1).ok_or(PosFault::OutOfMemory)?;
+            count = count.checked_add(1).ok_or(AllocError)?;
         }
     }
     Ok(numbers)
@@ -66,11 +65,17 @@ pub fn make_slots(
             Instruction::End(rule) => slots.push(Slot::Ends(rule))?,
             Instruction::Read(bytes, next) => {
                 let number = follow.after(code, numbers, reach, next)?;
-                slots.push(Slot::Reads { bytes, follow: number })?;
+                slots.push(Slot::Reads {
+                    bytes,
+                    follow: number,
+                })?;
             }
         }
     }
-    Ok(Slots { slots, follow: follow.lists })
+    Ok(Slots {
+        slots,
+        follow: follow.lists,
+    })
 }
 
 impl Follow {

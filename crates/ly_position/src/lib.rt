@@ -12,6 +12,7 @@ mod program;
 mod reach;
 mod sparse_set;
 mod starts;
+mod weight;
 
 pub use build::positions;
 pub use fault::PosFault;

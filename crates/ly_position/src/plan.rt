@@ -65,12 +65,7 @@ fn add_rule(
 }
 
 /// The part of an expression.
-fn add(
-    alloc: Global,
-    plain: &mut Plain,
-    names: &[Part],
-    re: &Re,
-) -> Result<Part, AllocError>
+fn add(alloc: Global, plain: &mut Plain, names: &[Part], re: &Re) -> Result<Part, AllocError>
     requires { All (IsPart (length plain.old)) names.now }
     ensures { IfOk result (λ p. Makes plain.old plain.new p (MatchesUnder (ListedMatches plain.old names.now) re.now)) }
 {
@@ -112,5 +107,9 @@ fn add_node(
 fn named(names: &[Part], number: usize) -> Part
     ensures { result ≡ slice_index_or names.now number None }
 {
-    if number < names.len() { names[number] } else { None }
+    if number < names.len() {
+        names[number]
+    } else {
+        None
+    }
 }

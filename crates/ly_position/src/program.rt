@@ -4,7 +4,6 @@ ghost use Rattle.ly_position.specs.Plain.{IsPart};
 ghost use Rattle.ly_position.specs.Program.{code, ends, entry, node_size, IsPlain, size, step_of};
 ghost use Rattle.ly_position.specs.Compile.{IsProgram, TaskFits, planned, task_work, work};
 
-use crate::fault::PosFault;
 use crate::plain::Plain;
 use crate::plan::Plan;
 use ly_base::{ByteSet, RuleNo};
@@ -41,7 +40,7 @@ pub enum Task {
 }
 
 /// Compiles a plan: for each rule its end, and before it, in the direction of reading, its code.
-pub fn compile(alloc: Global, plan: &Plan) -> Result<Program, PosFault>
+pub fn compile(alloc: Global, plan: &Plan) -> Result<Program, AllocError>
     requires { All (IsPart (length plan.now.plain)) plan.now.parts.items }
     ensures { IfOk result (λ p. IsProgram plan.now.plain plan.now.parts.items (map step_of p.instructions.items) p.entries.items) }
 {
@@ -75,16 +74,16 @@ fn append_rule(
     instructions: &mut Vec<Instruction>,
     rule: usize,
     part: usize,
-) -> Result<usize, PosFault>
+) -> Result<usize, AllocError>
     requires part { part < length plain.now }
     requires sizes { sizes.now ≡ map size plain.now }
     ensures entry { IfOk result (λ e. e ≡ entry (length instructions.old.items + 1) (size (part_of plain.now part)) (length instructions.old.items)) }
     ensures steps { OnOk result (map step_of instructions.new.items ≡ map step_of instructions.old.items ++ ends rule ∷ code (part_of plain.now part) (length instructions.old.items + 1) (length instructions.old.items)) }
 {
     let end = instructions.len();
-    let number = u32::try_from(rule).map_err(|_| PosFault::OutOfMemory)?;
-    let size = sizes[part].checked_add(1).ok_or(PosFault::OutOfMemory)?;
-    let after = end.checked_add(size).ok_or(PosFault::OutOfMemory)?;
+    let number = u32::try_from(rule).map_err(|_| AllocError)?;
+    let size = sizes[part].checked_add(1).ok_or(AllocError)?;
+    let after = end.checked_add(size).ok_or(AllocError)?;
     instructions.push(Instruction::End(RuleNo(number)))?;
     append(alloc, plain, sizes, instructions, part, end)?;
     Ok(after - 1)
@@ -144,7 +143,11 @@ fn append_node(
         Node::Either(a, b) => {
             let first = entry_at(base, sizes[a], next);
             let second = entry_at(base + sizes[a], sizes[b], next);
-            tasks.extend_from_slice(&[Task::Fork(first, second), Task::Code(b, next), Task::Code(a, next)])
+            tasks.extend_from_slice(&[
+                Task::Fork(first, second),
+                Task::Code(b, next),
+                Task::Code(a, next),
+            ])
         }
         Node::Star(a) => {
             let fork = base + sizes[a];
@@ -173,13 +176,13 @@ fn entry_at(base: usize, size: usize, next: usize) -> usize
 }
 
 /// How many instructions the code of each expression has.
-fn sizes(alloc: Global, plain: &Plain) -> Result<Vec<usize>, PosFault>
+fn sizes(alloc: Global, plain: &Plain) -> Result<Vec<usize>, AllocError>
     ensures sizes { IfOk result (λ ss. ss.items ≡ map size plain.now) }
     ensures plain { OnOk result (All IsPlain plain.now) }
 {
     let mut sizes = Vec::new(alloc);
     for number in 0..plain.len() {
-        let size = size_of_node(plain.node(number), &sizes).ok_or(PosFault::OutOfMemory)?;
+        let size = size_of_node(plain.node(number), &sizes).ok_or(AllocError)?;
         sizes.push(size)?;
     }
     Ok(sizes)

@@ -1,4 +1,4 @@
-use Rattle.std.proofs.Common.{◌≡◌, ◌++◌, ◌∷◌, [], ◌<◌, ◌+◌, ℕ, List, Option, length, get_or, length-append, ap, arith, subst}
+use Rattle.std.proofs.Common.{◌++◌, ◌∷◌, [], ℕ, List, Option, get_or, length-append, arith, subst}
 use Rattle.std.proofs.lemmas.List.{get_or_default}
 use Rattle.ly_ere.specs.declared.node.Node.TheVariants.{Set}
 use Rattle.ly_position.specs.Plain.{Makes}

@@ -1,4 +1,4 @@
-use Rattle.std.proofs.Common.{◌≡◌, ◌++◌, ◌∷◌, [], ◌<◌, ◌≤◌, ◌+◌, ℕ, List, Option, Some, length, get_or, length-append, ap, ◌∙◌, arith, subst, le_antisymm}
+use Rattle.std.proofs.Common.{◌≡◌, ◌∷◌, [], ℕ, List, Option, Some, length, length-append, ◌∙◌, arith, subst, le_antisymm}
 use Rattle.std.specs.Prelude.{slice_get}
 use Rattle.ly_position.specs.Plain.{Makes}
 use Rattle.ly_position.specs.Plan.{ListedMatches, SpelledUnder}

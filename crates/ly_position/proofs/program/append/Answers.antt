@@ -1,9 +1,9 @@
-use Rattle.std.proofs.Common.{◌≡◌, ◌≤◌, ◌<◌, ◌+◌, ◌++◌, ◌∷◌, [], ℕ, length, map, ap, subst, ◌∙◌, arith, length-append}
-use Rattle.std.specs.Prelude.{All, reverse}
+use Rattle.std.proofs.Common.{◌≡◌, ◌≤◌, ◌++◌, ◌∷◌, [], length, map, ap, ◌∙◌, arith, length-append}
+use Rattle.std.specs.Prelude.{reverse}
 use Rattle.std.proofs.lemmas.List.{length-map}
 use Rattle.ly_ere.specs.Arena.{part_of}
 use Rattle.ly_position.specs.Program.{code, size, step_of}
-use Rattle.ly_position.specs.Compile.{TaskFits, planned}
+use Rattle.ly_position.specs.Compile.{planned}
 use Rattle.ly_position.specs.declared.program.Task.TheVariants as task
 use Rattle.ly_position.proofs.CompileLemmas.{planned_room, front_fits}
 use Rattle.ly_position.proofs.CodePlaces.{length-code}

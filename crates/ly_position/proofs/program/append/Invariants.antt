@@ -1,7 +1,7 @@
-use Rattle.std.proofs.Common.{◌≡◌, ◌++◌, ◌+◌, ◌<◌, ◌^◌, length, map}
+use Rattle.std.proofs.Common.{◌≡◌, ◌++◌, length, map}
 use Rattle.std.specs.Prelude.{All, reverse, sum_by}
 use Rattle.ly_ere.specs.Arena.{part_of}
-use Rattle.ly_position.specs.Program.{code, size, step_of}
+use Rattle.ly_position.specs.Program.{code, step_of}
 use Rattle.ly_position.specs.Compile.{TaskFits, planned, task_work}
 use Rattle.ly_position.proofs.program.append.Given as goal
 
@@ -10,7 +10,7 @@ abbrev pub invariant-loop-task : goal.invariant-loop-task
 invariant-loop-task l = record {
   fits : All (TaskFits (length l.plain)) l.tasks.items;
   steps : map step_of l.instructions.items ++ planned l.plain (reverse l.tasks.items) (length l.instructions.items)
-    ≡ map step_of l.fn.instructions.items ++ code (part_of l.plain l.fn.part) (length l.fn.instructions.items) l.fn.next;
+      ≡ map step_of l.fn.instructions.items ++ code (part_of l.plain l.fn.part) (length l.fn.instructions.items) l.fn.next;
 }
 
 abbrev pub decreases-loop-task : goal.decreases-loop-task

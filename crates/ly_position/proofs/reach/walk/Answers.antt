@@ -1,10 +1,9 @@
-use Rattle.std.proofs.Common.{◌≡◌, ◌≤◌, ◌<◌, ℕ, List, [], ◌∷◌, ◌++◌, length, map, ap, sym, subst, ◌∙◌, arith, length-append}
-use Rattle.std.specs.Prelude.{All, Contains}
+use Rattle.std.proofs.Common.{◌≡◌, ◌<◌, [], ◌++◌, length, map, ap, ◌∙◌, arith}
+use Rattle.std.specs.Prelude.{Contains}
 use Rattle.std.proofs.lemmas.List.{nil_from_length, length-map}
 use Rattle.std.proofs.lemmas.List.Elements.{All-contains, Contains-push}
-use Rattle.ly_position.specs.Program.{Step, step_of}
-use Rattle.ly_position.specs.Reach.{Visits}
-use Rattle.ly_position.proofs.WalkLemmas.{Searches, searches_none, searches_more, searches_all, visits_less}
+use Rattle.ly_position.specs.Program.{step_of}
+use Rattle.ly_position.proofs.WalkLemmas.{searches_none, searches_more, searches_all, visits_less}
 use Rattle.ly_position.proofs.reach.walk.Goals as goal
 
 pub loop-place-init : goal.loop-place-init
@@ -21,7 +20,7 @@ loop-place-preserved c = record {
   below = c.in_ok-visit.ensures.below ∙ c.loop-place.invariant.below;
   room = let r = c.in_ok-visit.ensures.room in let b = c.loop-place.invariant.below in omega arith;
   walk = searches_more (map step_of c.args.code.now) c.args.roots.now c.loop-place.seen.members c.visit.new.seen.members c.pop.new.self.items c.visit.new.stack.items c.in-Some.place
-    c.requires.closed (rw c.in-Some.ensures.items at c.loop-place.invariant.walk) c.in_ok-visit.ensures.ok;
+      c.requires.closed (rw c.in-Some.ensures.items at c.loop-place.invariant.walk) c.in_ok-visit.ensures.ok;
 }
 
 pub loop-place-smaller : goal.loop-place-smaller
@@ -29,7 +28,7 @@ loop-place-smaller c =
     let b = c.loop-place.invariant.below in
     let r = c.in_ok-visit.ensures.room in
     let less = visits_less (map step_of c.args.code.now) c.loop-place.seen.members c.visit.new.seen.members c.pop.new.self.items c.visit.new.stack.items c.in-Some.place (length c.args.code.now)
-      c.in_ok-visit.ensures.ok (omega arith) in
+    c.in_ok-visit.ensures.ok (omega arith) in
     rw c.in-Some.ensures.items less
 
 pub visit-requires : goal.visit-requires

@@ -1,4 +1,4 @@
-use Rattle.std.proofs.Common.{◌≡◌, ◌≤◌, ◌<◌, ◌+◌, ◌++◌, ◌∷◌, [], ℕ, List, Vec, Global, length, map, take, get_or, ap, ◌∙◌, sym, subst, arith}
+use Rattle.std.proofs.Common.{◌≡◌, ◌+◌, ◌++◌, ◌∷◌, [], ℕ, List, Vec, Global, length, map, take, get_or, ap, subst, arith}
 use Rattle.std.proofs.lemmas.List.{take_more, take_all}
 use Rattle.ly_position.specs.Starts.{AddsInEach}
 use Rattle.ly_position.proofs.StartLemmas.{each_more, each_skip, within_trans}
@@ -17,15 +17,15 @@ loop-condition-preserved c =
     let start = c.args.rule.now.pattern.line_start in
     let more : take (i + 1) active ≡ take i active ++ d ∷ [] = subst (λ (xs : List ℕ). take (i + 1) xs ≡ take i xs ++ d ∷ []) c.deref-condition-items.ensures.value (take_more c.deref-condition-items.result.now i 0 c.loop-condition-test.true) in
     elim c.if-condition-conditions.branch [
-    | then-condition-conditions+in_ok-add_root w ↦ rw w.roots-is (record {
+      | then-condition-conditions+in_ok-add_root w ↦ rw w.roots-is (record {
         within = within_trans L M (map items w.add_root.new.roots) c.args.entry c.loop-condition.invariant.within w.in_ok-add_root.ensures.within;
         added = each_more L M (map items w.add_root.new.roots) n (take i active) (take (i + 1) active) d start c.args.entry c.loop-condition.invariant.added w.in_ok-add_root.ensures.added more;
       })
-    | else-condition-conditions w ↦ rw w.roots-is (record {
+      | else-condition-conditions w ↦ rw w.roots-is (record {
         within = c.loop-condition.invariant.within;
         added = each_skip L M n (take i active) (take (i + 1) active) d start c.args.entry c.loop-condition.invariant.added w.if-condition-conditions.false more;
       })
-  ]
+    ]
 
 pub returns-clause-added : goal.returns-clause-added
 returns-clause-added c =

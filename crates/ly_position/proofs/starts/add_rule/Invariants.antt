@@ -1,4 +1,4 @@
-use Rattle.std.proofs.Common.{◌≡◌, ℕ, Vec, Global, length, map, take}
+use Rattle.std.proofs.Common.{ℕ, Vec, Global, map, take}
 use Rattle.ly_position.specs.Starts.{AddsInEach, StaysWithin}
 use Rattle.ly_position.proofs.starts.add_rule.Given as goal
 

@@ -1,4 +1,4 @@
-use Rattle.std.proofs.Common.{◌≡◌, ◌≤◌, ◌<◌, ◌+◌, ◌++◌, ◌∷◌, [], ℕ, List, Vec, Global, length, map, get_or, ap, ◌∙◌, sym, subst, arith, le_antisymm, length-append}
+use Rattle.std.proofs.Common.{◌≡◌, ◌<◌, ◌∷◌, [], ℕ, List, Vec, Global, length, map, get_or, ap, ◌∙◌, sym, subst, arith, le_antisymm, length-append}
 use Rattle.std.specs.Prelude.{All}
 use Rattle.std.proofs.lemmas.List.{length-map, get_or-map}
 use Rattle.ly_position.specs.Program.{step_of}
@@ -33,7 +33,7 @@ loop-list-preserved c =
     let at = listed vs i c.list-item.result c.deref-in-loop-list.result.now c.loop-list-test.true c.list-item.is c.deref-in-loop-list.ensures.value in
     let found = subst (λ (is : List Instruction). IsReachList (map step_of is) c.deref-in-loop-list.result.now c.find.new.self.found.items) c.deref.ensures.value c.in_ok-find.ensures.ok in
     let list : IsReachList g (get_or (map items vs) i []) c.found.result.now =
-      subst (λ (xs : List ℕ). IsReachList g xs c.found.result.now) (sym at) (subst (λ (xs : List ℕ). IsReachList g c.deref-in-loop-list.result.now xs) (sym c.found.ensures) found) in
+    subst (λ (xs : List ℕ). IsReachList g xs c.found.result.now) (sym at) (subst (λ (xs : List ℕ). IsReachList g c.deref-in-loop-list.result.now xs) (sym c.found.ensures) found) in
     let before = c.loop-list.invariant in
     record {
       below = c.in_ok-find.ensures.below ∙ before.below;
@@ -52,4 +52,4 @@ returns c =
     let count = length-map vs items in
     let before = c.loop-list.invariant in
     starts_all g c.args.rules.now c.args.program.now.entries.items c.args.conditions (length c.args.program.now.instructions.items) (map items vs) c.loop-list.starts roots
-      (before.count ∙ (all ∙ sym count)) (λ k l. before.each k (omega arith))
+    (before.count ∙ (all ∙ sym count)) (λ k l. before.each k (omega arith))

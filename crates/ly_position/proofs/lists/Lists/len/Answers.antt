@@ -1,4 +1,4 @@
-use Rattle.std.proofs.Common.{◌≡◌, length, ap, sym, ◌∙◌, arith}
+use Rattle.std.proofs.Common.{length, ap, arith}
 use Rattle.ly_position.proofs.ListsLemmas.{length-lists_from}
 use Rattle.ly_position.proofs.lists.Lists.len.Goals as goal
 

@@ -2,8 +2,8 @@ use Rattle.std.proofs.Common.{inl, inr, refl, ap, sym, ◌∙◌}
 use Rattle.ly_ere.specs.Expression.{empty, star, plus, optional}
 use Rattle.ly_ere.specs.Arena.{expression_of, part_of}
 use Rattle.ly_position.specs.Plain.{PlainMatches}
-use Rattle.ly_position.proofs.JoinedLemmas.{Star, Plus, Optional, star_void, star_null, star_star, star_plus, star_optional, plus_void, plus_null, plus_star, plus_plus, plus_optional, optional_void, optional_null, optional_star, optional_plus, optional_optional}
-use Rattle.ly_position.proofs.PlainLemmas.{makes_same, no_part, kept, added, added_none, same}
+use Rattle.ly_position.proofs.JoinedLemmas.{Optional, optional_void, optional_null, optional_star, optional_plus, optional_optional}
+use Rattle.ly_position.proofs.PlainLemmas.{kept, added, added_none, same}
 use Rattle.ly_position.proofs.plain.Plain.optional.Goals as goal
 
 pub returns-in_default : goal.returns-in_default

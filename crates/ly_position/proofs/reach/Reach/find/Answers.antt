@@ -1,10 +1,9 @@
-use Rattle.std.proofs.Common.{◌≡◌, ◌<◌, ◌≢◌, ◌⊎◌, inl, inr, ℕ, List, Option, Result, Ok, Err, None, Some, length, get_or, map, ap, ◌∙◌, sym, subst, arith}
-use Rattle.std.specs.Prelude.{All, OnOk, Contains, ◌↔◌}
+use Rattle.std.proofs.Common.{◌≡◌, ℕ, List, Option, None, length, get_or, map, ap, ◌∙◌, sym, subst, arith}
+use Rattle.std.specs.Prelude.{Contains, ◌↔◌}
 use Rattle.std.specs.List.{filter_map}
 use Rattle.std.proofs.lemmas.List.{length-map}
 use Rattle.ly_position.specs.Program.{step_of}
 use Rattle.ly_position.specs.Reach.{Reached}
-use Rattle.ly_position.specs.Follow.{IsReachList, numbers_of}
 use Rattle.ly_position.proofs.NumberLemmas.{length-numbers, on_ok, reach_list}
 use Rattle.ly_position.proofs.reach.Reach.find.Goals as goal
 
@@ -17,6 +16,6 @@ pub returns-clause-ok : goal.returns-clause-ok
 returns-clause-ok c =
     let g = map step_of c.args.code.now in
     on_ok c.number.result c.number.ensures
-      (λ is. reach_list g c.args.roots.now c.members.result.now c.number.new.found.items
-        (λ p. subst (λ (ms : List ℕ). Contains ms p ↔ Reached g c.args.roots.now p) (sym c.members.ensures.these) (c.in_ok-walk.ensures.ok p)) c.members.ensures.once
-        (subst (λ (ns : List (Option ℕ)). c.number.new.found.items ≡ filter_map (λ p. get_or ns p None) c.members.result.now) c.requires.numbers is))
+    (λ is. reach_list g c.args.roots.now c.members.result.now c.number.new.found.items
+    (λ p. subst (λ (ms : List ℕ). Contains ms p ↔ Reached g c.args.roots.now p) (sym c.members.ensures.these) (c.in_ok-walk.ensures.ok p)) c.members.ensures.once
+    (subst (λ (ns : List (Option ℕ)). c.number.new.found.items ≡ filter_map (λ p. get_or ns p None) c.members.result.now) c.requires.numbers is))
