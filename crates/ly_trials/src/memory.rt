@@ -2,6 +2,7 @@
 
 use ly_base::{Counted, MemSource};
 use ly_engine::{TokenEnd, TokensFault, tokens};
+use std::alloc::AllocError;
 use std::test::Fail;
 
 const LEX: &[u8] = b"%%\nif return IF;\n[a-z]+ return ID;\n\" \" ;\n";
@@ -9,6 +10,18 @@ const LEX: &[u8] = b"%%\nif return IF;\n[a-z]+ return ID;\n\" \" ;\n";
 const TEXT: &[u8] = b"if ifx";
 
 const LINES: &[u8] = b"IF\"if\"\nID\"ifx\"\n";
+
+/// How often it is tried.
+const TRIES: u32 = 1_000;
+
+/// Small blocks, one behind the other.
+fn small_blocks(rt: &HostRuntime) -> Result<Vec<Vec<u8>>, AllocError> {
+    let mut blocks = Vec::new(rt.alloc());
+    for _ in 0..TRIES {
+        blocks.push(Vec::with_capacity(rt.alloc(), 256)?)?;
+    }
+    Ok(blocks)
+}
 
 /// Takes all the room that there is, the smallest blocks last.
 fn hog(rt: &HostRuntime) -> Vec<Vec<u8>> {
@@ -33,15 +46,16 @@ fn hog(rt: &HostRuntime) -> Vec<Vec<u8>> {
     held
 }
 
-/// With no room at first, and some more at each try, until there is all of it. (Only where a process has a
-/// limit of memory can all room be taken.) That memory never runs out where it is ample the worked
-/// examples show.
+/// With no room at first, and a small block more at each try. (All room can be taken where a process has a
+/// limit of it, or its addresses end.) That memory never runs out where it is ample the worked examples
+/// show.
 #[test]
 fn want_of_memory_is_told(rt: HostRuntime) -> Result<(), Fail> {
-    let mut held = hog(&rt);
+    let mut blocks = small_blocks(&rt)?;
+    let held = hog(&rt);
     let mut refused = 0u32;
     let mut answered = 0u32;
-    for _ in 0..600u32 {
+    for _ in 0..TRIES {
         let mut room = [0u8; LINES.len() + 1];
         let mut writer = Counted::new(&mut room[..]);
         let result = tokens(rt.alloc(), LEX, &mut MemSource::new(TEXT), &mut writer);
@@ -62,19 +76,10 @@ fn want_of_memory_is_told(rt: HostRuntime) -> Result<(), Fail> {
                 );
             }
         }
-        for _ in 0..=held.len() / 64 {
-            let _ = held.pop();
-        }
+        let _ = blocks.pop();
     }
-    let blocks = held.len();
     drop(held);
-    assert!(rt;
-        refused > 0,
-        "{refused} refused, {answered} answered, {blocks} blocks"
-    );
-    assert!(rt;
-        answered > 0,
-        "{refused} refused, {answered} answered, {blocks} blocks"
-    );
+    assert!(rt; refused > 0, "{refused} refused, {answered} answered");
+    assert!(rt; answered > 0, "{refused} refused, {answered} answered");
     Ok(())
 }
