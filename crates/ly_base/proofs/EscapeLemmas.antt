@@ -248,14 +248,14 @@ hexadecimal_when w (d ∷ ds) n v e f l = by (nat_lt v 256) refl
         is_false : (k : ℕ) → 256 ≤ k → nat_lt k 256 ≡ false
         is_false k h = false_from_ne_true (nat_lt k 256) (λ t. absurd (omega (arith, ltb-true k 256 t)))
 
-whole_slice : (n : ℕ) (t : List ℕ) → take (length t - n) (drop n t) ≡ drop n t
+pub whole_slice : (n : ℕ) (t : List ℕ) → take (length t - n) (drop n t) ≡ drop n t
 whole_slice n t = take_all (length t - n) (drop n t) (omega (arith, length-drop n t))
 
 drop_nil : (n : ℕ) → drop {A = ℕ} n [] ≡ []
 drop_nil zero = refl
 drop_nil (suc n) = refl
 
-drop_more : (n m : ℕ) (t : List ℕ) → drop n (drop m t) ≡ drop (m + n) t
+pub drop_more : (n m : ℕ) (t : List ℕ) → drop n (drop m t) ≡ drop (m + n) t
 drop_more n zero t = let e : zero + n ≡ n = omega arith in rw e refl
 drop_more n (suc m) [] = rw (drop_nil n) (sym (drop_nil (suc m + n)))
 drop_more n (suc m) (b ∷ t) = let e : suc m + n ≡ suc (m + n) = omega arith in rw e (drop_more n m t)

@@ -1,6 +1,13 @@
 pub mod ArenaLemmas
+pub mod FrontLemmas
+pub mod GroupLemmas
 pub mod LevelLemmas
 pub mod NameLaws
+pub mod QuotedLemmas
+pub mod ReadLemmas
+pub mod ScanLemmas
 pub mod SetLemmas
+pub mod SpellLemmas
+pub mod StringLemmas
 pub mod WeightLemmas
 pub mod WinnerLaws

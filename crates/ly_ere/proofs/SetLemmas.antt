@@ -8,7 +8,6 @@ use Rattle.ly_base.proofs.ByteSetLemmas.{members_contain, none_from_empty}
 not_first : (b : ℕ) → Contains {X = ℕ} (b ∷ []) 0 → b ≡ 0
 not_first b h = search rules
 
-
 no_newline : (b : ℕ) → b ≡ 0 → 0 < b → ⊥
 no_newline b e h = absurd (omega arith)
 

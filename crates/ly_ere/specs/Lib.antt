@@ -2,9 +2,14 @@ pub mod Arena
 pub mod Expression
 pub mod ExpressionCode
 pub mod FaultNumber
+pub mod Front
+pub mod Grammar
+pub mod Groups
 pub mod Laws
 pub mod Levels
 pub mod Names
+pub mod Patterns
 pub mod Symbols
 pub mod Weight
 pub mod Winner
+pub mod Words

@@ -1,7 +1,10 @@
-ghost use Rattle.std.specs.Prelude.{◌<◌, ◌≤◌, ◌+◌, ◌≢◌, [], length, IfOk, IfSome};
-ghost use Rattle.ly_base.specs.ByteSet.{members};
+ghost use Rattle.std.specs.Prelude.{◌≡◌, ℕ, List, ◌<◌, ◌≤◌, ◌+◌, ◌≢◌, [], drop, length, true, Some, None, IfErr, IfOk, IfSome};
+ghost use Rattle.ly_base.specs.ByteSet.{has, members};
+ghost use Rattle.ly_ere.specs.Front.{begins};
+ghost use Rattle.ly_ere.specs.Words.{IsClass, names, AreItems, IsAdded, IsListed, Item, Items, Point, Points, begins_range};
 
 use crate::fault::EreFault;
+use crate::front::{begins, stands_at};
 use ly_base::{ByteSet, escape};
 
 /// How many bytes the bracket expression at the front of a text takes, whose first byte is `[`; `None`
@@ -10,7 +13,7 @@ pub(crate) fn bracket_length(text: &[u8]) -> Option<usize>
     ensures { IfSome result (λ end. (2 ≤ end) × (end ≤ length text.now)) }
 {
     let mut at = 1;
-    if text.get(at) == Some(&b'^') {
+    if stands_at(text, 1, b'^') {
         at += 1;
     }
     let first = at;
@@ -58,105 +61,136 @@ fn named(text: &[u8], mark: u8) -> Option<&[u8]>
     None
 }
 
-/// Reads a bracket expression, brackets included: its bytes, of which there is at least one (POSIX,
-/// XBD 9.3.5, in the POSIX locale).
-pub(crate) fn bracket(text: &[u8]) -> Result<ByteSet, EreFault>
-    requires { 2 ≤ length text.now }
-    ensures { IfOk result (λ set. members set ≢ []) }
+/// Reads the bracket expression at the front of a text, whose first byte is `[`: its bytes, of which there is at
+/// least one, and how many bytes of the text it takes (POSIX, XBD 9.3.5, in the POSIX locale).
+pub(crate) fn bracket(text: &[u8]) -> Result<(ByteSet, usize), EreFault>
+    requires { 0 < length text.now }
+    ensures set { IfOk result (λ found. members found.0 ≢ []) }
+    ensures first { IfOk result (λ found. 1 ≤ found.1) }
+    ensures within { IfOk result (λ found. found.1 ≤ length text.now) }
 {
-    let inside = &text[1..text.len() - 1];
-    let (excluded, items) = match inside {
-        [b'^', items @ ..] => (true, items),
-        items => (false, items),
-    };
-    let mut set = items_of(items)?;
-    if excluded {
-        set = set.complement();
+    let behind = &text[1..];
+    if stands_at(behind, 0, b'^') {
+        let (set, length) = items(&behind[1..])?;
+        return Ok((some_byte(set.complement())?, length + 2));
     }
+    let (set, length) = items(behind)?;
+    Ok((some_byte(set)?, length + 1))
+}
+
+/// A set that has a byte.
+fn some_byte(set: ByteSet) -> Result<ByteSet, EreFault>
+    ensures same { IfOk result (λ same. same ≡ set) }
+    ensures some { IfOk result (λ same. members same ≢ []) }
+    ensures none { IfErr result (λ _. members set ≡ []) }
+{
     if set.is_empty() {
         return Err(EreFault::EmptySet);
     }
     Ok(set)
 }
 
-/// The bytes of the items between the brackets.
-fn items_of(items: &[u8]) -> Result<ByteSet, EreFault> {
+/// Reads items up to the `]` that ends them, of which there is at least one: their bytes, and how many bytes they
+/// take with the `]`.
+fn items(text: &[u8]) -> Result<(ByteSet, usize), EreFault>
+    ensures within { IfOk result (λ found. found.1 ≤ length text.now) }
+{
     let mut set = ByteSet::new();
-    let mut at = 0;
-    while at < items.len() {
-        at += add_item(&mut set, &items[at..], at == 0)?;
+    let mut at = add_item(&mut set, text, true)?;
+    while !stands_at(text, at, b']') {
+        at += add_item(&mut set, &text[at..], false)?;
     }
-    Ok(set)
+    Ok((set, at + 1))
 }
 
-/// Adds the item at the front of `items` to the set, and answers how many bytes it takes. A `-` stands
-/// for itself as the first item, the last one, or the end of a range.
-fn add_item(set: &mut ByteSet, items: &[u8], is_first: bool) -> Result<usize, EreFault>
-    requires { 0 < length items.now }
-    ensures first { IfOk result (λ length. 1 ≤ length) }
-    ensures within { IfOk result (λ taken. taken ≤ length items.now) }
+/// Adds the item at the front of a text to the set, and answers how many bytes it takes. A `-` stands for
+/// itself as the first item, the last one, or the end of a range.
+fn add_item(set: &mut ByteSet, text: &[u8], is_first: bool) -> Result<usize, EreFault>
+    ensures first { IfOk result (λ taken. 1 ≤ taken) }
+    ensures within { IfOk result (λ taken. taken ≤ length text.now) }
 {
-    match items {
-        [b'[', b':', ..] => {
-            let name = named(items, b':').ok_or(EreFault::UnclosedBracket)?;
-            for (low, high) in class(name)? {
-                set.insert_range(*low, *high);
-            }
-            Ok(name.len() + 4)
-        }
-        [b'[', b'=', ..] => {
-            let (byte, length) = named_byte(items, b'=')?;
-            set.insert(byte);
-            Ok(length)
-        }
-        [b'-', _, ..] if !is_first => Err(EreFault::BadRange),
-        _ => add_range(set, items),
+    if begins(text, b':') {
+        return add_class(set, text);
     }
+    if begins(text, b'=') {
+        let (byte, length) = named_byte(text, b'=')?;
+        set.insert(byte);
+        return Ok(length);
+    }
+    if !is_first && begins_range(text) {
+        return Err(EreFault::BadRange);
+    }
+    add_range(set, text)
 }
 
-/// Adds the byte or the range at the front of `items`, and answers how many bytes it takes.
-fn add_range(set: &mut ByteSet, items: &[u8]) -> Result<usize, EreFault>
-    requires { 0 < length items.now }
-    ensures first { IfOk result (λ length. 1 ≤ length) }
-    ensures within { IfOk result (λ taken. taken ≤ length items.now) }
+/// Adds the class at the front of a text, and answers how many bytes it takes.
+fn add_class(set: &mut ByteSet, text: &[u8]) -> Result<usize, EreFault>
+    ensures first { IfOk result (λ taken. 1 ≤ taken) }
+    ensures within { IfOk result (λ taken. taken ≤ length text.now) }
 {
-    let (low, low_length) = point(items)?;
-    match &items[low_length..] {
-        [b'-', b'[', b':' | b'=', ..] => Err(EreFault::BadRange),
-        [b'-', end @ ..] if !end.is_empty() => {
-            let (high, high_length) = point(end)?;
-            if high < low {
-                return Err(EreFault::BadRange);
-            }
-            set.insert_range(low, high);
-            Ok(low_length + 1 + high_length)
-        }
-        _ => {
-            set.insert(low);
-            Ok(low_length)
-        }
+    let name = named(text, b':').ok_or(EreFault::UnclosedBracket)?;
+    for (low, high) in class(name)? {
+        set.insert_range(*low, *high);
     }
+    Ok(name.len() + 4)
+}
+
+/// Whether a `-` stands at the front that isn't the last item.
+fn begins_range(text: &[u8]) -> bool
+    ensures { result ≡ begins_range text.now }
+{
+    stands_at(text, 0, b'-') && !stands_at(text, 1, b']')
+}
+
+/// Adds the byte or the range at the front of a text, and answers how many bytes it takes.
+fn add_range(set: &mut ByteSet, text: &[u8]) -> Result<usize, EreFault>
+    ensures first { IfOk result (λ taken. 1 ≤ taken) }
+    ensures within { IfOk result (λ taken. taken ≤ length text.now) }
+{
+    let (low, low_length) = point(text)?;
+    let behind = &text[low_length..];
+    if !begins_range(behind) {
+        set.insert(low);
+        return Ok(low_length);
+    }
+    let end = &behind[1..];
+    let (high, high_length) = point(end)?;
+    if high < low {
+        return Err(EreFault::BadRange);
+    }
+    set.insert_range(low, high);
+    Ok(low_length + 1 + high_length)
 }
 
 /// The byte, escape or `[. .]` at the front: its byte, and how many bytes it takes.
-fn point(items: &[u8]) -> Result<(u8, usize), EreFault>
-    requires { 0 < length items.now }
+fn point(text: &[u8]) -> Result<(u8, usize), EreFault>
     ensures first { IfOk result (λ found. 1 ≤ found.1) }
-    ensures within { IfOk result (λ found. found.1 ≤ length items.now) }
+    ensures within { IfOk result (λ found. found.1 ≤ length text.now) }
 {
-    match items {
-        [b'\\', ..] => Ok(escape(items)?),
-        [b'[', b'.', ..] => named_byte(items, b'.'),
-        _ => Ok((items[0], 1)),
+    let Some(&byte) = text.first() else {
+        return Err(EreFault::UnclosedBracket);
+    };
+    if byte == b'\n' {
+        return Err(EreFault::UnclosedBracket);
     }
+    if byte == b'\\' {
+        return Ok(escape(text)?);
+    }
+    if begins(text, b'.') {
+        return named_byte(text, b'.');
+    }
+    if begins(text, b':') || begins(text, b'=') {
+        return Err(EreFault::BadRange);
+    }
+    Ok((byte, 1))
 }
 
 /// The one byte that `[. .]` or `[= =]` at the front names, and how many bytes the form takes.
-fn named_byte(items: &[u8], mark: u8) -> Result<(u8, usize), EreFault>
+fn named_byte(text: &[u8], mark: u8) -> Result<(u8, usize), EreFault>
     ensures first { IfOk result (λ found. 1 ≤ found.1) }
-    ensures within { IfOk result (λ found. found.1 ≤ length items.now) }
+    ensures within { IfOk result (λ found. found.1 ≤ length text.now) }
 {
-    match named(items, mark) {
+    match named(text, mark) {
         None => Err(EreFault::UnclosedBracket),
         Some([byte]) => Ok((*byte, 5)),
         Some(_) => Err(EreFault::UnknownClass),

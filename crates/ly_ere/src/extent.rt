@@ -41,5 +41,7 @@ fn part_length(rest: &[u8]) -> Option<usize>
 fn rest_of_line(rest: &[u8]) -> usize
     ensures { result ≤ length rest.now }
 {
-    rest.iter().position(|byte| *byte == b'\n').unwrap_or(rest.len())
+    rest.iter()
+        .position(|byte| *byte == b'\n')
+        .unwrap_or(rest.len())
 }

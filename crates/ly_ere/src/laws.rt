@@ -4,17 +4,14 @@ ghost use Rattle.ly_ere.specs.Laws.{WinnerIsOne, SplitIsOne};
 /// The rule and the length of a winner are determined.
 pub fn winner_is_one()
     ensures { WinnerIsOne }
-{
-}
+{}
 
 /// Where the cut tells the truth, the length of a match decides that of its token.
 pub fn split_is_one()
     ensures { SplitIsOne }
-{
-}
+{}
 
 /// A name stands for its definition.
 pub fn name_is_definition()
     ensures { NameIsDefinition }
-{
-}
+{}

@@ -1,5 +1,9 @@
-ghost use Rattle.std.specs.Prelude.{ℕ, ◌<◌, ◌≤◌, length, IfOk};
+ghost use Rattle.std.specs.Prelude.{◌≡◌, ◌≢◌, ℕ, ◌<◌, ◌≤◌, length, Some, None, IfOk, IfErr};
 ghost use Rattle.std.specs.Option.{ForSome};
+ghost use Rattle.ly_ere.specs.Arena.{part_of};
+ghost use Rattle.ly_ere.specs.Groups.{new_group, open_branch, with_atom, with_postfix, with_bar, whole};
+ghost use Rattle.ly_ere.specs.Levels.{IsWithin, Grows, seen, group_of, operated};
+ghost use Rattle.ly_ere.specs.declared.fault.EreFault.TheVariants.{OutOfMemory};
 
 use crate::arena::Arena;
 use crate::fault::EreFault;
@@ -17,11 +21,10 @@ pub(crate) struct Level {
 }
 
 impl Level {
-    ghost use Rattle.ly_ere.specs.Levels.{IsWithin};
-
     /// A group of which nothing is read.
     pub(crate) fn new() -> Self
-        ensures { (n : ℕ) → IsWithin n result }
+        ensures parts { (n : ℕ) → IsWithin n result }
+        ensures empty { (arena : _) → group_of arena result ≡ new_group }
     {
         Level {
             either: None,
@@ -35,7 +38,8 @@ impl Level {
         requires parts { IsWithin (length arena.old) self }
         requires within { atom < length arena.old }
         ensures parts { IfOk result (IsWithin (length arena.new)) }
-        ensures grown { length arena.old ≤ length arena.new }
+        ensures atom { IfOk result (λ l. group_of arena.new l ≡ with_atom (group_of arena.old self) (part_of arena.old atom)) }
+        ensures grown { Grows arena.old arena.new }
     {
         let branch = self.open_branch(arena)?;
         Ok(Level {
@@ -46,14 +50,12 @@ impl Level {
     }
 
     /// The group with an operator over its last piece.
-    pub(crate) fn with_postfix(
-        self,
-        arena: &mut Arena,
-        postfix: Postfix,
-    ) -> Result<Level, EreFault>
+    pub(crate) fn with_postfix(self, arena: &mut Arena, postfix: Postfix) -> Result<Level, EreFault>
         requires parts { IsWithin (length arena.old) self }
         ensures parts { IfOk result (IsWithin (length arena.new)) }
-        ensures grown { length arena.old ≤ length arena.new }
+        ensures operator { IfOk result (λ l. with_postfix (group_of arena.old self) (operated postfix) ≡ Some (group_of arena.new l)) }
+        ensures refused { IfErr result (λ e. e ≢ OutOfMemory → with_postfix (group_of arena.old self) (operated postfix) ≡ None) }
+        ensures grown { Grows arena.old arena.new }
     {
         let piece = self.piece.ok_or(EreFault::StrayOperator)?;
         let over = arena.push(postfix.over(piece))?;
@@ -68,7 +70,9 @@ impl Level {
     pub(crate) fn with_bar(self, arena: &mut Arena) -> Result<Level, EreFault>
         requires parts { IsWithin (length arena.old) self }
         ensures parts { IfOk result (IsWithin (length arena.new)) }
-        ensures grown { length arena.old ≤ length arena.new }
+        ensures bar { IfOk result (λ l. with_bar (group_of arena.old self) ≡ Some (group_of arena.new l)) }
+        ensures refused { IfErr result (λ e. e ≢ OutOfMemory → with_bar (group_of arena.old self) ≡ None) }
+        ensures grown { Grows arena.old arena.new }
     {
         let whole = self.whole(arena)?;
         Ok(Level {
@@ -82,7 +86,9 @@ impl Level {
     pub(crate) fn whole(self, arena: &mut Arena) -> Result<usize, EreFault>
         requires parts { IsWithin (length arena.old) self }
         ensures within { IfOk result (λ n. n < length arena.new) }
-        ensures grown { length arena.old ≤ length arena.new }
+        ensures whole { IfOk result (λ n. whole (group_of arena.old self) ≡ Some (part_of arena.new n)) }
+        ensures refused { IfErr result (λ e. e ≢ OutOfMemory → whole (group_of arena.old self) ≡ None) }
+        ensures grown { Grows arena.old arena.new }
     {
         let branch = self.open_branch(arena)?.ok_or(EreFault::Empty)?;
         match self.either {
@@ -95,7 +101,8 @@ impl Level {
     fn open_branch(self, arena: &mut Arena) -> Result<Option<usize>, AllocError>
         requires parts { IsWithin (length arena.old) self }
         ensures within { IfOk result (λ branch. ForSome branch (λ n. n < length arena.new)) }
-        ensures grown { length arena.old ≤ length arena.new }
+        ensures branch { IfOk result (λ branch. seen arena.new branch ≡ open_branch (group_of arena.old self)) }
+        ensures grown { Grows arena.old arena.new }
     {
         match (self.branch, self.piece) {
             (Some(branch), Some(piece)) => {

@@ -5,6 +5,7 @@ mod arena;
 mod bracket;
 mod extent;
 mod fault;
+mod front;
 mod laws;
 mod level;
 mod names;

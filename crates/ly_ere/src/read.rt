@@ -1,6 +1,16 @@
-ghost use Rattle.std.specs.Prelude.{◌<◌, ◌≤◌, length, IfOk, OnOk};
-ghost use Rattle.ly_ere.specs.Levels.{AreWithin, IsWithin};
-ghost use Rattle.ly_ere.specs.Symbols.{IsWellFormed};
+ghost use Rattle.std.specs.Prelude.{[], ◌∷◌, ◌≡◌, ◌≢◌, ℕ, List, ◌<◌, ◌≤◌, Some, None, length, IfOk, IfErr, OnOk};
+ghost use Rattle.ly_base.specs.Limits.{pattern_weight_of};
+ghost use Rattle.ly_ere.specs.Arena.{part_of};
+ghost use Rattle.ly_ere.specs.Expression.{Expression, set};
+ghost use Rattle.ly_ere.specs.Grammar.{in_order};
+ghost use Rattle.ly_ere.specs.Groups.{closed, step, whole};
+ghost use Rattle.ly_ere.specs.Levels.{AreWithin, Grows, IsWithin, group_of, groups_of, reading_of};
+ghost use Rattle.ly_ere.specs.Patterns.{HasNoBracket, IsExpression, IsPattern};
+ghost use Rattle.ly_ere.specs.Symbols.{IsWellFormed, IsWord};
+ghost use Rattle.ly_ere.specs.Weight.{weight_of};
+ghost use Rattle.ly_ere.specs.Words.{Quoted, Word};
+ghost use Rattle.ly_ere.specs.declared.fault.EreFault.TheVariants.{OutOfMemory};
+ghost use Rattle.ly_ere.specs.declared.pattern.Pattern.{Pattern};
 
 use crate::arena::Arena;
 use crate::fault::EreFault;
@@ -21,11 +31,16 @@ pub fn read_pattern(
     text: &[u8],
     names: &Names,
     limits: &Limits,
-) -> Result<Pattern, EreFault> {
+) -> Result<Pattern, EreFault>
+    ensures plain { IfOk result (λ p. HasNoBracket text.now → IsPattern names.now text.now p) }
+    ensures light { IfOk result (λ p. weight_of names.now p.head ≤ pattern_weight_of limits.now) }
+    ensures plain_refused { IfErr result (λ e. e ≢ OutOfMemory → HasNoBracket text.now
+        → (p : Pattern) → IsPattern names.now text.now p → weight_of names.now p.head ≤ pattern_weight_of limits.now → ⊥) }
+{
     let head = read_expression(alloc, text)?;
-    if weigh(alloc, &head, names, limits.pattern_weight())?.is_none() {
+    let Some(_) = weigh(alloc, &head, names, limits.pattern_weight())? else {
         return Err(EreFault::TooHeavy);
-    }
+    };
     Ok(Pattern {
         line_start: false,
         head,
@@ -35,7 +50,11 @@ pub fn read_pattern(
 }
 
 /// Reads an expression, whose text is all of `text`. Open groups stand on a stack of the reader's own.
-fn read_expression(alloc: Global, text: &[u8]) -> Result<Re, EreFault> {
+fn read_expression(alloc: Global, text: &[u8]) -> Result<Re, EreFault>
+    ensures plain { IfOk result (λ re. HasNoBracket text.now → IsExpression text.now re) }
+    ensures only { IfOk result (λ re. HasNoBracket text.now → (other : Expression) → IsExpression text.now other → other ≡ re) }
+    ensures plain_refused { IfErr result (λ e. e ≢ OutOfMemory → HasNoBracket text.now → (re : Expression) → IsExpression text.now re → ⊥) }
+{
     let mut arena = Arena::new(alloc);
     let mut outer = Vec::new(alloc);
     let mut level = Level::new();
@@ -64,6 +83,8 @@ fn with_symbol(
     requires formed { IsWellFormed symbol }
     ensures parts { IfOk result (IsWithin (length arena.new)) }
     ensures outer_parts { OnOk result (AreWithin (length arena.new) outer.new.items) }
+    ensures step { IfOk result (λ l. (w : Word) × IsWord symbol.entry w × (step w (reading_of arena.old outer.old.items level) ≡ Some (reading_of arena.new outer.new.items l))) }
+    ensures refused { IfErr result (λ e. e ≢ OutOfMemory → (w : Word) → IsWord symbol.entry w → step w (reading_of arena.old outer.old.items level) ≡ None) }
 {
     match symbol {
         Symbol::Set(set) => {
@@ -90,6 +111,8 @@ fn close(arena: &mut Arena, outer: &mut Vec<Level>, level: Level) -> Result<Leve
     requires outer_parts { AreWithin (length arena.old) outer.old.items }
     ensures parts { IfOk result (IsWithin (length arena.new)) }
     ensures outer_parts { OnOk result (AreWithin (length arena.new) outer.new.items) }
+    ensures closed { IfOk result (λ l. closed (groups_of arena.old outer.old.items) (whole (group_of arena.old level)) ≡ Some (reading_of arena.new outer.new.items l)) }
+    ensures refused { IfErr result (λ e. e ≢ OutOfMemory → closed (groups_of arena.old outer.old.items) (whole (group_of arena.old level)) ≡ None) }
 {
     let Some(around) = outer.pop() else {
         return Err(EreFault::StrayOperator);
@@ -98,32 +121,30 @@ fn close(arena: &mut Arena, outer: &mut Vec<Level>, level: Level) -> Result<Leve
     Ok(around.with_atom(arena, atom)?)
 }
 
-/// Adds a string's bytes, one after another; `inside` is what stands between its quotes.
-fn push_string(arena: &mut Arena, inside: &[u8]) -> Result<usize, EreFault>
+/// Adds a string's bytes, one after another; `behind` is what stands behind its opening quote.
+fn push_string(arena: &mut Arena, behind: &[u8]) -> Result<usize, EreFault>
     ensures within { IfOk result (λ n. n < length arena.new) }
-    ensures grown { length arena.old ≤ length arena.new }
+    ensures grown { Grows arena.old arena.new }
+    ensures string { IfOk result (λ n. (bs : List ℕ) × (rest : List ℕ) × Quoted behind.now bs rest × (part_of arena.new n ≡ in_order bs)) }
+    ensures refused { IfErr result (λ e. e ≢ OutOfMemory → (bs rest : List ℕ) → Quoted behind.now bs rest → ⊥) }
 {
-    if inside.is_empty() {
+    let Some((byte, mut at)) = quoted_byte(behind)? else {
         return Ok(arena.push(Node::Empty)?);
-    }
-    let (mut string, mut at) = push_quoted(arena, inside)?;
-    while at < inside.len() {
-        let (next, length) = push_quoted(arena, &inside[at..])?;
+    };
+    let mut string = push_byte(arena, byte)?;
+    while let Some((byte, length)) = quoted_byte(&behind[at..])? {
+        let next = push_byte(arena, byte)?;
         string = arena.push(Node::Concat(string, next))?;
         at += length;
     }
     Ok(string)
 }
 
-/// Adds the byte at the front of `inside`: the number of its set, and how many bytes of `inside` it takes.
-fn push_quoted(arena: &mut Arena, inside: &[u8]) -> Result<(usize, usize), EreFault>
-    requires { 0 < length inside.now }
-    ensures first { IfOk result (λ found. 1 ≤ found.1) }
-    ensures taken { IfOk result (λ found. found.1 ≤ length inside.now) }
-    ensures within { IfOk result (λ found. found.0 < length arena.new) }
-    ensures grown { length arena.old ≤ length arena.new }
+/// Adds a byte of a string.
+fn push_byte(arena: &mut Arena, byte: u8) -> Result<usize, AllocError>
+    ensures within { IfOk result (λ n. n < length arena.new) }
+    ensures grown { Grows arena.old arena.new }
+    ensures byte { IfOk result (λ n. part_of arena.new n ≡ set (byte ∷ [])) }
 {
-    let (byte, length) = quoted_byte(inside)?;
-    let set = arena.push(Node::Set(ByteSet::of(byte)))?;
-    Ok((set, length))
+    arena.push(Node::Set(ByteSet::of(byte)))
 }

@@ -1,6 +1,7 @@
-ghost use Rattle.std.specs.Prelude.{ℕ, ◌<◌, ◌≤◌, ◌≢◌, [], length, IfOk};
-ghost use Rattle.ly_ere.specs.Symbols.{IsWellFormed};
-ghost use Rattle.ly_base.specs.ByteSet.{members};
+ghost use Rattle.std.specs.Prelude.{◌≡◌, ◌↔◌, ℕ, List, drop, IfErr, ◌<◌, ◌≤◌, ◌≢◌, [], length, slice_index, not, nat_eq, IfOk};
+ghost use Rattle.ly_ere.specs.Symbols.{IsWellFormed, IsWord, word_of};
+ghost use Rattle.ly_ere.specs.Words.{Spells, Word};
+ghost use Rattle.ly_base.specs.ByteSet.{bytes_where, members};
 
 use crate::bracket::{bracket, bracket_length};
 use crate::fault::EreFault;
@@ -13,7 +14,7 @@ use ly_base::{ByteSet, escape};
 pub(crate) enum Symbol<'t> {
     /// One byte of the set: a byte, an escape, `.` or a bracket expression.
     Set(ByteSet),
-    /// A string: what stands between the quotes, escapes not yet read.
+    /// A string: what stands behind its opening quote, not yet read.
     Text(&'t [u8]),
     /// `(`
     Open,
@@ -37,11 +38,13 @@ pub(crate) enum Postfix {
 }
 
 impl Postfix {
-    ghost use Rattle.ly_ere.specs.Arena.{FitsAt};
+    ghost use Rattle.ly_ere.specs.Arena.{FitsAt, expression_of, part_of};
+    ghost use Rattle.ly_ere.specs.Levels.{operated};
 
     /// The operator over a part.
     pub(crate) fn over(self, part: usize) -> Node
-        ensures { (n : ℕ) → part < n → FitsAt n result }
+        ensures fits { (n : ℕ) → part < n → FitsAt n result }
+        ensures operator { (done : _) → expression_of done result ≡ operated self (part_of done part) }
     {
         match self {
             Postfix::Star => Node::Star(part),
@@ -57,6 +60,8 @@ pub(crate) fn next_symbol(text: &[u8]) -> Result<(Symbol<'_>, usize), EreFault>
     ensures first { IfOk result (λ found. 1 ≤ found.1) }
     ensures within { IfOk result (λ found. found.1 ≤ length text.entry.now) }
     ensures formed { IfOk result (λ found. IsWellFormed found.0) }
+    ensures word { IfOk result (λ found. slice_index text.entry.now 0 ≢ 91 → (w : Word) (rest : List ℕ) → Spells text.entry.now w rest ↔ (IsWord found.0 w × (rest ≡ drop found.1 text.entry.now))) }
+    ensures refused { IfErr result (λ _. slice_index text.entry.now 0 ≢ 91 → (w : Word) (rest : List ℕ) → Spells text.entry.now w rest → ⊥) }
 {
     match text[0] {
         b'(' => Ok((Symbol::Open, 1)),
@@ -66,48 +71,65 @@ pub(crate) fn next_symbol(text: &[u8]) -> Result<(Symbol<'_>, usize), EreFault>
         b'+' => Ok((Symbol::Postfix(Postfix::Plus), 1)),
         b'?' => Ok((Symbol::Postfix(Postfix::Optional), 1)),
         b'"' => string(text),
-        b'^' | b'$' => Err(EreFault::AnchorInside),
-        b'/' | b' ' | b'\t' | b'\n' => Err(EreFault::StrayOperator),
+        b'[' => list(text),
+        b'\\' => escaped(text),
+        b'.' => Ok((Symbol::Set(all_but_newline()), 1)),
+        b'^' => Err(EreFault::AnchorInside),
+        b'$' => Err(EreFault::AnchorInside),
+        b'/' => Err(EreFault::StrayOperator),
+        b' ' => Err(EreFault::StrayOperator),
+        b'\t' => Err(EreFault::StrayOperator),
+        b'\n' => Err(EreFault::StrayOperator),
         b'{' => Err(brace_fault(text.get(1).copied())),
-        _ => set(text),
+        byte => Ok((Symbol::Set(ByteSet::of(byte)), 1)),
     }
 }
 
-/// The string at the front.
+/// The string at the front, whose first byte is the opening quote.
 fn string(text: &[u8]) -> Result<(Symbol<'_>, usize), EreFault>
+    requires some { 0 < length text.now }
+    requires quote { slice_index text.now 0 ≡ 34 }
     ensures first { IfOk result (λ found. 1 ≤ found.1) }
     ensures within { IfOk result (λ found. found.1 ≤ length text.entry.now) }
     ensures formed { IfOk result (λ found. IsWellFormed found.0) }
+    ensures word { IfOk result (λ found. (w : Word) (rest : List ℕ) → Spells text.entry.now w rest ↔ (IsWord found.0 w × (rest ≡ drop found.1 text.entry.now))) }
+    ensures refused { IfErr result (λ _. (w : Word) (rest : List ℕ) → Spells text.entry.now w rest → ⊥) }
 {
     let length = quoted_length(text).ok_or(EreFault::UnclosedQuote)?;
-    Ok((Symbol::Text(&text[1..length - 1]), length))
+    Ok((Symbol::Text(&text[1..]), length))
 }
 
-/// The byte, escape, `.` or bracket expression at the front.
-fn set(text: &[u8]) -> Result<(Symbol<'_>, usize), EreFault>
-    requires { 0 < length text.now }
+/// The bracket expression at the front, whose first byte is `[`.
+fn list(text: &[u8]) -> Result<(Symbol<'_>, usize), EreFault>
+    requires some { 0 < length text.now }
+    requires opening { slice_index text.now 0 ≡ 91 }
     ensures first { IfOk result (λ found. 1 ≤ found.1) }
     ensures within { IfOk result (λ found. found.1 ≤ length text.entry.now) }
     ensures formed { IfOk result (λ found. IsWellFormed found.0) }
 {
-    let (set, length) = match text[0] {
-        b'.' => (all_but_newline(), 1),
-        b'[' => {
-            let length = bracket_length(text).ok_or(EreFault::UnclosedBracket)?;
-            (bracket(&text[..length])?, length)
-        }
-        b'\\' => {
-            let (byte, length) = escape(text)?;
-            (ByteSet::of(byte), length)
-        }
-        byte => (ByteSet::of(byte), 1),
-    };
+    bracket_length(text).ok_or(EreFault::UnclosedBracket)?;
+    let (set, length) = bracket(text)?;
     Ok((Symbol::Set(set), length))
+}
+
+/// The escape at the front, whose first byte is the backslash.
+fn escaped(text: &[u8]) -> Result<(Symbol<'_>, usize), EreFault>
+    requires some { 0 < length text.now }
+    requires backslash { slice_index text.now 0 ≡ 92 }
+    ensures first { IfOk result (λ found. 1 ≤ found.1) }
+    ensures within { IfOk result (λ found. found.1 ≤ length text.entry.now) }
+    ensures formed { IfOk result (λ found. IsWellFormed found.0) }
+    ensures word { IfOk result (λ found. (w : Word) (rest : List ℕ) → Spells text.entry.now w rest ↔ (IsWord found.0 w × (rest ≡ drop found.1 text.entry.now))) }
+    ensures refused { IfErr result (λ _. (w : Word) (rest : List ℕ) → Spells text.entry.now w rest → ⊥) }
+{
+    let (byte, length) = escape(text)?;
+    Ok((Symbol::Set(ByteSet::of(byte)), length))
 }
 
 /// What `.` stands for.
 fn all_but_newline() -> ByteSet
-    ensures { members result ≢ [] }
+    ensures some { members result ≢ [] }
+    ensures bytes { members result ≡ bytes_where (λ b. not (nat_eq b 10)) }
 {
     ByteSet::of(b'\n').complement()
 }

@@ -1,12 +1,16 @@
 use Rattle.std.proofs.Common.{◌≤◌, ◌<◌, ◌-◌, length}
+use Rattle.ly_ere.specs.Arena.{part_of}
+use Rattle.ly_ere.specs.Levels.{Grows}
+use Rattle.ly_ere.proofs.StringLemmas.{IsSoFar}
 use Rattle.ly_ere.proofs.read.push_string.Given as goal
 
-abbrev pub invariant-loop-at : goal.invariant-loop-at
-invariant-loop-at l = record {
-  within : l.at ≤ length l.inside;
-  string : l.string < length l.arena;
-  grown : length l.fn.arena ≤ length l.arena;
+abbrev pub invariant-loop-byte : goal.invariant-loop-byte
+invariant-loop-byte l = record {
+  within : l.at ≤ length l.behind;
+  there : l.string < length l.arena;
+  grown : Grows l.fn.arena l.arena;
+  string : IsSoFar l.behind l.at (part_of l.arena l.string);
 }
 
-abbrev pub decreases-loop-at : goal.decreases-loop-at
-decreases-loop-at l = length l.inside - l.at
+abbrev pub decreases-loop-byte : goal.decreases-loop-byte
+decreases-loop-byte l = length l.behind - l.at

@@ -1,0 +1,20 @@
+-- What a test of the front of a text says.
+use Rattle.std.proofs.Common.{◌≡◌, ℕ, zero, suc, ◌<◌, ◌≤◌, List, [], ◌∷◌, length, get_or, refl, arith, true, false, nat_eq}
+use Rattle.std.proofs.lemmas.Bool.{eqb-true}
+use Rattle.ly_ere.specs.Front.{stands_at}
+
+pub at_is : (t : List ℕ) (n b : ℕ) → n < length t → stands_at t n b ≡ nat_eq (get_or t n 0) b
+at_is [] n b l = absurd (omega arith)
+at_is (c ∷ t) zero b l = refl
+at_is (c ∷ t) (suc n) b l = at_is t n b (omega arith)
+
+pub at_none : (t : List ℕ) (n b : ℕ) → length t ≤ n → stands_at t n b ≡ false
+at_none [] n b l = refl
+at_none (c ∷ t) zero b l = absurd (omega arith)
+at_none (c ∷ t) (suc n) b l = at_none t n b (omega arith)
+
+-- the byte is there
+pub stands : (t : List ℕ) (n b : ℕ) → stands_at t n b ≡ true → (n < length t) × (get_or t n 0 ≡ b)
+stands [] n b e = absurd (cc)
+stands (c ∷ t) zero b e = (omega arith, eqb-true c b e)
+stands (c ∷ t) (suc n) b e = let k = stands t n b e in (omega (arith, k.0), k.1)
