@@ -1,5 +1,5 @@
 -- Programs that read strings (Thompson 1968): what they are, how they run, and the code of an expression.
-use Rattle.std.specs.Prelude.{◌≡◌, ◌≢◌, ℕ, zero, suc, ◌+◌, List, [], ◌∷◌, ◌++◌, slice_get, slice_index, Contains, Some}
+use Rattle.std.specs.Prelude.{◌≡◌, ◌≢◌, ℕ, zero, suc, ◌+◌, List, [], ◌∷◌, ◌++◌, map, slice_get, slice_index, Contains, Some}
 use Rattle.ly_base.specs.ByteSet.{members}
 use Rattle.ly_ere.specs.Expression.{Expression, set, empty, concat, either, star, plus, optional, repeat, name}
 use Rattle.ly_ere.specs.declared.node.Node.{Node}
@@ -17,6 +17,9 @@ abbrev pub step_of : Instruction → Step
 step_of (Read bytes next) = reads (members bytes) next
 step_of (Fork a b) = fork a b
 step_of (End rule) = ends rule.0
+
+abbrev pub steps_of : List Instruction → List Step
+steps_of code = map step_of code
 
 -- from step p the program reads w to an end of rule i, in n moves
 pub data Runs (program : List Step) (i : ℕ) : ℕ → ℕ → List ℕ → Type 0 where

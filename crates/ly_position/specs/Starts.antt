@@ -1,8 +1,14 @@
 -- Where the patterns of rules begin, condition by condition.
-use Rattle.std.specs.Prelude.{◌≡◌, ◌↔◌, ◌⊎◌, ℕ, ◌+◌, ◌*◌, ◌<◌, List, [], ◌∷◌, ◌++◌, length, slice_set, slice_get, slice_index_or, All, Bool, if◌then◌else◌, IsTrue, Contains, Option, Some, None}
+use Rattle.std.specs.Prelude.{◌≡◌, ◌↔◌, ◌⊎◌, ℕ, ◌+◌, ◌*◌, ◌<◌, List, [], ◌∷◌, ◌++◌, length, map, slice_set, slice_get, slice_index_or, All, Bool, if◌then◌else◌, IsTrue, Contains, Option, Some, None}
+use Rattle.std.specs.declared.alloc.Global.{Global}
+use Rattle.std.specs.declared.vec.Vec.{Vec}
 use Rattle.ly_ere.specs.declared.pattern.Rule.{Rule}
 use Rattle.ly_position.specs.Program.{Step}
 use Rattle.ly_position.specs.Follow.{IsReachList}
+
+-- lists in memory as lists
+abbrev pub rows_of : List (Vec ℕ Global) → List (List ℕ)
+rows_of rows = map (λ (v : Vec ℕ Global). v.items) rows
 
 -- the number of the list of a condition, where a line begins or elsewhere
 abbrev pub key : ℕ → Bool → ℕ

@@ -1,6 +1,6 @@
 ghost use Rattle.std.specs.Prelude.{◌≡◌, ℕ, ◌<◌, List, ◌++◌, [], length, map, filter, slice_index_or, None, IfOk, OnOk};
 ghost use Rattle.std.specs.List.{AllZip};
-ghost use Rattle.ly_position.specs.Program.{step_of};
+ghost use Rattle.ly_position.specs.Program.{steps_of};
 ghost use Rattle.ly_position.specs.Reach.{IsClosed};
 ghost use Rattle.ly_position.specs.Follow.{AfterStep, FollowOf, Grows, Knows, SlotFits, is_place, numbers_of};
 
@@ -28,7 +28,7 @@ pub struct Slots {
 
 /// The number of each instruction that is a position: reads and ends, counted from 0.
 pub fn numbers(alloc: Global, code: &[Instruction]) -> Result<Vec<Option<u32>>, AllocError>
-    ensures { IfOk result (λ ns. ns.items ≡ numbers_of (map step_of code.now)) }
+    ensures { IfOk result (λ ns. ns.items ≡ numbers_of (steps_of code.now)) }
 {
     let mut numbers = Vec::new(alloc);
     let mut count = 0u32;
@@ -37,6 +37,7 @@ pub fn numbers(alloc: Global, code: &[Instruction]) -> Result<Vec<Option<u32>>, 
             numbers.push(None)?;
         } else {
             numbers.push(Some(count))?;
+            // No memory holds more positions than a u32 counts.
             count = count.checked_add(1).ok_or(AllocError)?;
         }
     }
@@ -50,12 +51,13 @@ pub fn make_slots(
     numbers: &[Option<u32>],
     reach: &mut Reach,
 ) -> Result<Slots, AllocError>
-    requires closed { IsClosed (map step_of code.now) }
-    requires numbers { numbers.now ≡ numbers_of (map step_of code.now) }
+    requires closed { IsClosed (steps_of code.now) }
+    requires numbers { numbers.now ≡ numbers_of (steps_of code.now) }
     requires below { reach.old.seen.below ≡ length code.now }
     ensures below { reach.new.seen.below ≡ reach.old.seen.below }
-    ensures slots { IfOk result (λ s. AllZip (SlotFits (map step_of code.now) s.follow) (filter is_place (map step_of code.now)) s.slots.items) }
-    ensures follow { IfOk result (λ s. FollowOf (map step_of code.now) s.follow) }
+    ensures slots { IfOk result (λ s. AllZip (SlotFits (steps_of code.now) s.follow)
+        (filter is_place (steps_of code.now)) s.slots.items) }
+    ensures follow { IfOk result (λ s. FollowOf (steps_of code.now) s.follow) }
 {
     let mut follow = Follow::new(alloc, code.len())?;
     let mut slots = Vec::new(alloc);
@@ -98,15 +100,15 @@ impl Follow {
         reach: &mut Reach,
         place: usize,
     ) -> Result<usize, AllocError>
-        requires closed { IsClosed (map step_of code.now) }
-        requires numbers { numbers.now ≡ numbers_of (map step_of code.now) }
+        requires closed { IsClosed (steps_of code.now) }
+        requires numbers { numbers.now ≡ numbers_of (steps_of code.now) }
         requires below { reach.old.seen.below ≡ length code.now }
         requires place { place < length code.now }
-        requires known { Knows (map step_of code.now) self.old.lists self.old.known.items }
+        requires known { Knows (steps_of code.now) self.old.lists self.old.known.items }
         ensures below { reach.new.seen.below ≡ reach.old.seen.below }
-        ensures known { OnOk result (Knows (map step_of code.now) self.new.lists self.new.known.items) }
+        ensures known { OnOk result (Knows (steps_of code.now) self.new.lists self.new.known.items) }
         ensures grown { OnOk result (Grows self.old.lists self.new.lists) }
-        ensures list { IfOk result (AfterStep (map step_of code.now) self.new.lists place) }
+        ensures list { IfOk result (AfterStep (steps_of code.now) self.new.lists place) }
     {
         if let Some(number) = self.known[place] {
             return Ok(number);

@@ -84,7 +84,8 @@ impl PosNfa {
     /// The position of a number.
     pub fn position(&self, number: u32) -> Position
         requires { number < length self.now.positions }
-        ensures { slice_get self.now.positions number ≡ Some (place_from result (follow_of (place_of self.now number))) }
+        ensures { slice_get self.now.positions number ≡ Some (place_from result
+            (follow_of (place_of self.now number))) }
     {
         match self.slots[number as usize] {
             Slot::Reads { bytes, .. } => Position::Reads { bytes },
@@ -104,8 +105,8 @@ impl PosNfa {
         }
     }
 
-    /// The positions that may come first in a condition, where a line begins or elsewhere, each once.
-    /// None where there is no such condition.
+    /// The positions that may come first in a condition, where a line begins or elsewhere, each
+    /// once. None where there is no such condition.
     pub fn start(&self, condition: u32, at_line_start: bool) -> &[u32]
         ensures these { result.now ≡ starts_of self.now condition at_line_start }
         ensures within { All (λ q. q < length self.now.positions) result.now }

@@ -8,8 +8,8 @@ use std::marker::Model;
 /// The number of a plain expression, or none where nothing matches.
 pub type Part = Option<usize>;
 
-/// Expressions of sets, the empty string, concatenation, alternation, `*`, `+` and `?` alone, in which
-/// no operator stands over another that makes it idle: `(a*)*` is `a*`.
+/// Expressions of sets, the empty string, concatenation, alternation, `*`, `+` and `?` alone, in
+/// which no operator stands over another that makes it idle: `(a*)*` is `a*`.
 #[derive(Drop)]
 pub struct Plain {
     arena: Arena,
@@ -79,7 +79,8 @@ impl Plain {
     /// One byte of a set that has one.
     pub fn set(&mut self, bytes: ByteSet) -> Result<Part, AllocError>
         requires { members bytes ≢ [] }
-        ensures { IfOk result (λ p. Makes self.old self.new p (λ w. (b : ℕ) × Contains (members bytes) b × (w ≡ b ∷ []))) }
+        ensures { IfOk result (λ p. Makes self.old self.new p (λ w. (b : ℕ)
+            × Contains (members bytes) b × (w ≡ b ∷ []))) }
     {
         self.push(Node::Set(bytes))
     }
@@ -95,7 +96,8 @@ impl Plain {
     pub fn concat(&mut self, first: Part, second: Part) -> Result<Part, AllocError>
         requires first { IsPart (length self.old) first }
         requires second { IsPart (length self.old) second }
-        ensures { IfOk result (λ p. Makes self.old self.new p (InTurn (PartMatches self.old first) (PartMatches self.old second))) }
+        ensures { IfOk result (λ p. Makes self.old self.new p
+            (InTurn (PartMatches self.old first) (PartMatches self.old second))) }
     {
         let (Some(a), Some(b)) = (first, second) else {
             return Ok(None);
@@ -113,7 +115,8 @@ impl Plain {
     pub fn either(&mut self, first: Part, second: Part) -> Result<Part, AllocError>
         requires first { IsPart (length self.old) first }
         requires second { IsPart (length self.old) second }
-        ensures { IfOk result (λ p. Makes self.old self.new p (λ w. PartMatches self.old first w ⊎ PartMatches self.old second w)) }
+        ensures { IfOk result (λ p. Makes self.old self.new p
+            (λ w. PartMatches self.old first w ⊎ PartMatches self.old second w)) }
     {
         match (first, second) {
             (None, _) => Ok(second),
@@ -125,7 +128,8 @@ impl Plain {
     /// The part any number of times.
     pub fn star(&mut self, part: Part) -> Result<Part, AllocError>
         requires { IsPart (length self.old) part }
-        ensures { IfOk result (λ p. Makes self.old self.new p (λ w. (k : ℕ) × Joined (PartMatches self.old part) k w)) }
+        ensures { IfOk result (λ p. Makes self.old self.new p (λ w. (k : ℕ)
+            × Joined (PartMatches self.old part) k w)) }
     {
         let Some(a) = part else {
             return self.push(Node::Empty);
@@ -140,7 +144,8 @@ impl Plain {
     /// The part once or more.
     pub fn plus(&mut self, part: Part) -> Result<Part, AllocError>
         requires { IsPart (length self.old) part }
-        ensures { IfOk result (λ p. Makes self.old self.new p (λ w. (k : ℕ) × (1 ≤ k) × Joined (PartMatches self.old part) k w)) }
+        ensures { IfOk result (λ p. Makes self.old self.new p (λ w. (k : ℕ) × (1 ≤ k)
+            × Joined (PartMatches self.old part) k w)) }
     {
         let Some(a) = part else {
             return Ok(None);
@@ -155,7 +160,8 @@ impl Plain {
     /// The part or nothing.
     pub fn optional(&mut self, part: Part) -> Result<Part, AllocError>
         requires { IsPart (length self.old) part }
-        ensures { IfOk result (λ p. Makes self.old self.new p (λ w. (w ≡ []) ⊎ PartMatches self.old part w)) }
+        ensures { IfOk result (λ p. Makes self.old self.new p (λ w. (w
+            ≡ []) ⊎ PartMatches self.old part w)) }
     {
         let Some(a) = part else {
             return self.push(Node::Empty);
@@ -167,11 +173,12 @@ impl Plain {
         }
     }
 
-    /// The part `least` times or more, and `most` times at most if there is a bound: that many copies,
-    /// of which those above the least may be left out together with all after them.
+    /// The part `least` times or more, and `most` times at most if there is a bound: that many
+    /// copies, of which those above the least may be left out together with all after them.
     pub fn repeat(&mut self, part: Part, least: u8, most: Option<u8>) -> Result<Part, AllocError>
         requires { IsPart (length self.old) part }
-        ensures { IfOk result (λ p. Makes self.old self.new p (λ w. (k : ℕ) × (least ≤ k) × Within k most × Joined (PartMatches self.old part) k w)) }
+        ensures { IfOk result (λ p. Makes self.old self.new p (λ w. (k : ℕ) × (least ≤ k)
+            × Within k most × Joined (PartMatches self.old part) k w)) }
     {
         match most {
             Some(most) if most < least => Ok(None),
@@ -189,7 +196,8 @@ impl Plain {
 
     fn at_most(&mut self, part: Part, count: u8) -> Result<Part, AllocError>
         requires { IsPart (length self.old) part }
-        ensures { IfOk result (λ p. Makes self.old self.new p (λ w. (k : ℕ) × (k ≤ count) × Joined (PartMatches self.old part) k w)) }
+        ensures { IfOk result (λ p. Makes self.old self.new p (λ w. (k : ℕ) × (k ≤ count)
+            × Joined (PartMatches self.old part) k w)) }
     {
         let mut rest = self.push(Node::Empty)?;
         for _ in 0..count {
@@ -202,7 +210,8 @@ impl Plain {
     fn copies(&mut self, part: Part, count: u8, last: Part) -> Result<Part, AllocError>
         requires part { IsPart (length self.old) part }
         requires last { IsPart (length self.old) last }
-        ensures { IfOk result (λ p. Makes self.old self.new p (InTurn (Joined (PartMatches self.old part) count) (PartMatches self.old last))) }
+        ensures { IfOk result (λ p. Makes self.old self.new p
+            (InTurn (Joined (PartMatches self.old part) count) (PartMatches self.old last))) }
     {
         let mut all = last;
         for _ in 0..count {

@@ -34,7 +34,8 @@ pub fn write_out(alloc: Global, rules: &[Rule], names: &Names) -> Result<Plan, A
 /// The parts of the definitions.
 fn add_names(alloc: Global, plain: &mut Plain, names: &Names) -> Result<Vec<Part>, AllocError>
     ensures within { IfOk result (λ ds. All (IsPart (length plain.new)) ds.items) }
-    ensures spells { IfOk result (λ ds. (x : ℕ) → Same (ListedMatches plain.new ds.items x) (NamedUpTo names.now (length names.now) x)) }
+    ensures spells { IfOk result (λ ds. (x : ℕ) → Same (ListedMatches plain.new ds.items x)
+        (NamedUpTo names.now (length names.now) x)) }
 {
     let mut definitions: Vec<Part> = Vec::new(alloc);
     for definition in names.definitions() {
@@ -52,7 +53,8 @@ fn add_rule(
     rule: &Rule,
 ) -> Result<Part, AllocError>
     requires { All (IsPart (length plain.old)) names.now }
-    ensures { IfOk result (λ p. Makes plain.old plain.new p (SpelledUnder (ListedMatches plain.old names.now) rule.now.pattern)) }
+    ensures { IfOk result (λ p. Makes plain.old plain.new p (SpelledUnder
+        (ListedMatches plain.old names.now) rule.now.pattern)) }
 {
     let head = add(alloc, plain, names, &rule.pattern.head)?;
     match &rule.pattern.tail {
@@ -67,7 +69,8 @@ fn add_rule(
 /// The part of an expression.
 fn add(alloc: Global, plain: &mut Plain, names: &[Part], re: &Re) -> Result<Part, AllocError>
     requires { All (IsPart (length plain.old)) names.now }
-    ensures { IfOk result (λ p. Makes plain.old plain.new p (MatchesUnder (ListedMatches plain.old names.now) re.now)) }
+    ensures { IfOk result (λ p. Makes plain.old plain.new p (MatchesUnder
+        (ListedMatches plain.old names.now) re.now)) }
 {
     let (nodes, root) = re.nodes();
     let mut parts: Vec<Part> = Vec::new(alloc);
@@ -88,7 +91,8 @@ fn add_node(
     requires names { All (IsPart (length plain.old)) names.now }
     requires parts { All (IsPart (length plain.old)) parts.now }
     requires fits { FitsAt (length parts.now) node }
-    ensures { IfOk result (λ p. Makes plain.old plain.new p (NodeMatches (ListedMatches plain.old names.now) (ListedMatches plain.old parts.now) node)) }
+    ensures { IfOk result (λ p. Makes plain.old plain.new p (NodeMatches
+        (ListedMatches plain.old names.now) (ListedMatches plain.old parts.now) node)) }
 {
     match node {
         Node::Set(bytes) => plain.set(bytes),

@@ -1,7 +1,7 @@
 ghost use Rattle.std.specs.Prelude.{◌≡◌, ℕ, ◌+◌, ◌^◌, ◌<◌, ◌≤◌, List, ◌∷◌, ◌++◌, length, map, reverse, sum_by, All, IfOk, IfSome, OnOk};
 ghost use Rattle.ly_ere.specs.Arena.{part_of, FitsAt};
 ghost use Rattle.ly_position.specs.Plain.{IsPart};
-ghost use Rattle.ly_position.specs.Program.{code, ends, entry, node_size, IsPlain, size, step_of};
+ghost use Rattle.ly_position.specs.Program.{code, ends, entry, node_size, IsPlain, size, steps_of};
 ghost use Rattle.ly_position.specs.Compile.{IsProgram, TaskFits, planned, task_work, work};
 
 use crate::plain::Plain;
@@ -10,7 +10,8 @@ use ly_base::{ByteSet, RuleNo};
 use ly_ere::Node;
 use std::alloc::{AllocError, Global};
 
-/// An instruction of a program that reads a string (Thompson 1968). Others are meant by their numbers.
+/// An instruction of a program that reads a string (Thompson 1968). It means others by their
+/// numbers.
 #[derive(Clone, Copy)]
 pub enum Instruction {
     /// Reads a byte of the set, and goes on at the instruction.
@@ -42,7 +43,8 @@ pub enum Task {
 /// Compiles a plan: for each rule its end, and before it, in the direction of reading, its code.
 pub fn compile(alloc: Global, plan: &Plan) -> Result<Program, AllocError>
     requires { All (IsPart (length plan.now.plain)) plan.now.parts.items }
-    ensures { IfOk result (λ p. IsProgram plan.now.plain plan.now.parts.items (map step_of p.instructions.items) p.entries.items) }
+    ensures { IfOk result (λ p. IsProgram plan.now.plain plan.now.parts.items
+        (steps_of p.instructions.items) p.entries.items) }
 {
     let sizes = sizes(alloc, &plan.plain)?;
     let mut program = Program {
@@ -77,10 +79,16 @@ fn append_rule(
 ) -> Result<usize, AllocError>
     requires part { part < length plain.now }
     requires sizes { sizes.now ≡ map size plain.now }
-    ensures entry { IfOk result (λ e. e ≡ entry (length instructions.old.items + 1) (size (part_of plain.now part)) (length instructions.old.items)) }
-    ensures steps { OnOk result (map step_of instructions.new.items ≡ map step_of instructions.old.items ++ ends rule ∷ code (part_of plain.now part) (length instructions.old.items + 1) (length instructions.old.items)) }
+    ensures entry { IfOk result (λ e.
+        e ≡ entry (length instructions.old.items + 1) (size (part_of plain.now part))
+        (length instructions.old.items)) }
+    ensures steps { OnOk result (steps_of instructions.new.items
+        ≡ steps_of instructions.old.items
+        ++ ends rule ∷ code (part_of plain.now part)
+        (length instructions.old.items + 1) (length instructions.old.items)) }
 {
     let end = instructions.len();
+    // No memory holds so many rules or steps that one of these numbers doesn't fit.
     let number = u32::try_from(rule).map_err(|_| AllocError)?;
     let size = sizes[part].checked_add(1).ok_or(AllocError)?;
     let after = end.checked_add(size).ok_or(AllocError)?;
@@ -101,7 +109,8 @@ fn append(
     requires part { part < length plain.now }
     requires sizes { sizes.now ≡ map size plain.now }
     requires room { length instructions.old.items + size (part_of plain.now part) < 2 ^ 64 }
-    ensures { OnOk result (map step_of instructions.new.items ≡ map step_of instructions.old.items ++ code (part_of plain.now part) (length instructions.old.items) next) }
+    ensures { OnOk result (steps_of instructions.new.items ≡ steps_of instructions.old.items ++
+        code (part_of plain.now part) (length instructions.old.items) next) }
 {
     let mut tasks = Vec::new(alloc);
     tasks.push(Task::Code(part, next))?;
@@ -130,8 +139,15 @@ fn append_node(
     requires room { length instructions.old.items + size (part_of plain.now part) < 2 ^ 64 }
     requires tasks { All (TaskFits (length plain.now)) tasks.old.items }
     ensures fits { OnOk result (All (TaskFits (length plain.now)) tasks.new.items) }
-    ensures less { OnOk result (sum_by (task_work plain.now) tasks.new.items < sum_by (task_work plain.now) tasks.old.items + work (part_of plain.now part)) }
-    ensures steps { OnOk result (map step_of instructions.new.items ++ planned plain.now (reverse tasks.new.items) (length instructions.new.items) ≡ map step_of instructions.old.items ++ (code (part_of plain.now part) (length instructions.old.items) next ++ planned plain.now (reverse tasks.old.items) (length instructions.old.items + size (part_of plain.now part)))) }
+    ensures less { OnOk result (sum_by (task_work plain.now) tasks.new.items
+        < sum_by (task_work plain.now) tasks.old.items + work (part_of plain.now part)) }
+    ensures steps { OnOk result (
+        steps_of instructions.new.items
+        ++ planned plain.now (reverse tasks.new.items) (length instructions.new.items)
+        ≡ steps_of instructions.old.items
+        ++ (code (part_of plain.now part) (length instructions.old.items) next
+        ++ planned plain.now (reverse tasks.old.items)
+        (length instructions.old.items + size (part_of plain.now part)))) }
 {
     let base = instructions.len();
     match plain.node(part) {

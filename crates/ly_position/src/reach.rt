@@ -1,6 +1,6 @@
 ghost use Rattle.std.specs.Prelude.{◌≡◌, ℕ, ◌<◌, ◌≤◌, ◌↔◌, length, map, slice_index_or, All, Contains, IfOk, None, OnOk};
 ghost use Rattle.std.specs.List.{filter_map};
-ghost use Rattle.ly_position.specs.Program.{step_of};
+ghost use Rattle.ly_position.specs.Program.{steps_of};
 ghost use Rattle.ly_position.specs.Follow.{IsReachList, numbers_of};
 ghost use Rattle.ly_position.specs.Reach.{IsClosed, Reached, Visits};
 
@@ -35,12 +35,12 @@ impl Reach {
         numbers: &[Option<u32>],
         roots: &[usize],
     ) -> Result<(), AllocError>
-        requires closed { IsClosed (map step_of code.now) }
-        requires numbers { numbers.now ≡ numbers_of (map step_of code.now) }
+        requires closed { IsClosed (steps_of code.now) }
+        requires numbers { numbers.now ≡ numbers_of (steps_of code.now) }
         requires within { All (λ p. p < length code.now) roots.now }
         requires below { self.old.seen.below ≡ length code.now }
         ensures below { self.new.seen.below ≡ self.old.seen.below }
-        ensures ok { OnOk result (IsReachList (map step_of code.now) roots.now self.new.found.items) }
+        ensures ok { OnOk result (IsReachList (steps_of code.now) roots.now self.new.found.items) }
     {
         walk(code, roots, &mut self.seen, &mut self.stack)?;
         number(self.seen.members(), numbers, &mut self.found)
@@ -61,7 +61,8 @@ fn number(
     found: &mut Vec<u32>,
 ) -> Result<(), AllocError>
     requires { All (λ p. p < length numbers.now) members.now }
-    ensures { OnOk result (found.new.items ≡ filter_map (λ p. slice_index_or numbers.now p None) members.now) }
+    ensures { OnOk result (found.new.items ≡ filter_map (λ p. slice_index_or numbers.now p None)
+        members.now) }
 {
     found.clear();
     for member in members {
@@ -79,11 +80,12 @@ fn walk(
     seen: &mut SparseSet,
     stack: &mut Vec<usize>,
 ) -> Result<(), AllocError>
-    requires closed { IsClosed (map step_of code.now) }
+    requires closed { IsClosed (steps_of code.now) }
     requires within { All (λ p. p < length code.now) roots.now }
     requires below { seen.old.below ≡ length code.now }
     ensures below { seen.new.below ≡ seen.old.below }
-    ensures ok { OnOk result ((p : ℕ) → Contains seen.new.members p ↔ Reached (map step_of code.now) roots.now p) }
+    ensures ok { OnOk result ((p : ℕ) → Contains seen.new.members p
+        ↔ Reached (steps_of code.now) roots.now p) }
 {
     seen.clear();
     stack.clear();
@@ -105,7 +107,8 @@ fn visit(
     requires below { seen.old.below ≡ length code.now }
     ensures below { seen.new.below ≡ seen.old.below }
     ensures room { length seen.new.members ≤ seen.old.below }
-    ensures ok { OnOk result (Visits (map step_of code.now) place seen.old.members seen.new.members stack.old.items stack.new.items) }
+    ensures ok { OnOk result (Visits (steps_of code.now) place seen.old.members seen.new.members
+        stack.old.items stack.new.items) }
 {
     if !seen.insert(place)? {
         return Ok(());

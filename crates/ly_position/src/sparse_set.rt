@@ -65,8 +65,10 @@ impl SparseSet {
         requires { number < self.old.below }
         ensures below { self.new.below ≡ self.old.below }
         ensures room { length self.new.members ≤ self.old.below }
-        ensures new { IfOk result (λ b. MatchBool b (¬ Contains self.old.members number) (Contains self.old.members number)) }
-        ensures ok { IfOk result (λ b. self.new.members ≡ (if b then self.old.members ++ number ∷ [] else self.old.members)) }
+        ensures new { IfOk result (λ b. MatchBool b (¬ Contains self.old.members number)
+            (Contains self.old.members number)) }
+        ensures ok { IfOk result (λ b. self.new.members ≡ (if b then self.old.members ++ number ∷
+            [] else self.old.members)) }
         ensures err { OnErr result (self.new.members ≡ self.old.members) }
     {
         if self.contains(number) {

@@ -1,9 +1,9 @@
 ghost use Rattle.std.specs.Prelude.{◌≡◌, ℕ, ◌+◌, ◌*◌, ◌<◌, [], length, map, slice_index_or, All, IfOk, OnOk};
 ghost use Rattle.ly_position.specs.Plain.{IsPart};
-ghost use Rattle.ly_position.specs.Program.{step_of};
+ghost use Rattle.ly_position.specs.Program.{steps_of};
 ghost use Rattle.ly_position.specs.Reach.{IsClosed};
 ghost use Rattle.ly_position.specs.Follow.{IsReachList, numbers_of};
-ghost use Rattle.ly_position.specs.Starts.{AddsIn, AddsInEach, AreRoots, PutsIn, StartsAt, StaysWithin};
+ghost use Rattle.ly_position.specs.Starts.{rows_of, AddsIn, AddsInEach, AreRoots, PutsIn, StartsAt, StaysWithin};
 
 use crate::lists::Lists;
 use crate::program::Program;
@@ -20,12 +20,14 @@ pub fn starts(
     numbers: &[Option<u32>],
     reach: &mut Reach,
 ) -> Result<Lists, AllocError>
-    requires closed { IsClosed (map step_of program.now.instructions.items) }
-    requires numbers { numbers.now ≡ numbers_of (map step_of program.now.instructions.items) }
-    requires within { All (IsPart (length program.now.instructions.items)) program.now.entries.items }
+    requires closed { IsClosed (steps_of program.now.instructions.items) }
+    requires numbers { numbers.now ≡ numbers_of (steps_of program.now.instructions.items) }
+    requires within { All (IsPart (length program.now.instructions.items))
+        program.now.entries.items }
     requires count { length program.now.entries.items ≡ length rules.now }
     requires below { reach.old.seen.below ≡ length program.now.instructions.items }
-    ensures { IfOk result (StartsAt (map step_of program.now.instructions.items) rules.now program.now.entries.items conditions) }
+    ensures { IfOk result (StartsAt (steps_of program.now.instructions.items) rules.now
+        program.now.entries.items conditions) }
 {
     let roots = roots(alloc, rules, conditions, program)?;
     let mut starts = Lists::new(alloc);
@@ -43,9 +45,11 @@ fn roots(
     conditions: u32,
     program: &Program,
 ) -> Result<Vec<Vec<usize>>, AllocError>
-    requires within { All (IsPart (length program.now.instructions.items)) program.now.entries.items }
+    requires within { All (IsPart (length program.now.instructions.items))
+        program.now.entries.items }
     requires count { length program.now.entries.items ≡ length rules.now }
-    ensures { IfOk result (λ rs. AreRoots rules.now program.now.entries.items (length rules.now) conditions (length program.now.instructions.items) (map (λ v. v.items) rs.items)) }
+    ensures { IfOk result (λ rs. AreRoots rules.now program.now.entries.items
+        (length rules.now) conditions (length program.now.instructions.items) (rows_of rs.items)) }
 {
     let mut roots = no_roots(alloc, conditions)?;
     for (number, rule) in rules.iter().enumerate() {
@@ -59,7 +63,7 @@ fn roots(
 /// Two empty lists for each condition.
 fn no_roots(alloc: Global, conditions: u32) -> Result<Vec<Vec<usize>>, AllocError>
     ensures count { IfOk result (λ rs. length rs.items ≡ 2 * conditions) }
-    ensures empty { IfOk result (λ rs. (k : ℕ) → slice_index_or (map (λ v. v.items) rs.items) k [] ≡ []) }
+    ensures empty { IfOk result (λ rs. (k : ℕ) → slice_index_or (rows_of rs.items) k [] ≡ []) }
 {
     let mut roots = Vec::new(alloc);
     for _ in 0..2 * u64::from(conditions) {
@@ -76,8 +80,9 @@ fn add_rule(
     entry: usize,
 ) -> Result<(), AllocError>
     requires { length roots.old ≡ 2 * conditions }
-    ensures within { OnOk result (StaysWithin (map (λ v. v.items) roots.old) (map (λ v. v.items) roots.new) entry) }
-    ensures added { OnOk result (AddsInEach (map (λ v. v.items) roots.old) (map (λ v. v.items) roots.new) conditions rule.now.active.items rule.now.pattern.line_start entry) }
+    ensures within { OnOk result (StaysWithin (rows_of roots.old) (rows_of roots.new) entry) }
+    ensures added { OnOk result (AddsInEach (rows_of roots.old)
+        (rows_of roots.new) conditions rule.now.active.items rule.now.pattern.line_start entry) }
 {
     for condition in &rule.active {
         if *condition < conditions {
@@ -95,8 +100,9 @@ fn add_root(
     entry: usize,
 ) -> Result<(), AllocError>
     requires { 2 * condition + 1 < length roots.old }
-    ensures within { OnOk result (StaysWithin (map (λ v. v.items) roots.old) (map (λ v. v.items) roots.new) entry) }
-    ensures added { OnOk result (AddsIn (map (λ v. v.items) roots.old) (map (λ v. v.items) roots.new) condition line_start entry) }
+    ensures within { OnOk result (StaysWithin (rows_of roots.old) (rows_of roots.new) entry) }
+    ensures added { OnOk result (AddsIn (rows_of roots.old) (rows_of roots.new) condition
+        line_start entry) }
 {
     if line_start {
         return put(roots, 2 * condition + 1, entry);
@@ -107,7 +113,7 @@ fn add_root(
 
 fn put(lists: &mut [Vec<usize>], number: usize, entry: usize) -> Result<(), AllocError>
     requires { number < length lists.old }
-    ensures { OnOk result (PutsIn (map (λ v. v.items) lists.old) (map (λ v. v.items) lists.new) number entry) }
+    ensures { OnOk result (PutsIn (rows_of lists.old) (rows_of lists.new) number entry) }
 {
     lists[number].push(entry)?;
     Ok(())

@@ -32,8 +32,10 @@ fn weigh_rule(
     names: &Names,
     most: u32,
 ) -> Result<Option<u32>, AllocError>
-    ensures { IfOk result (λ weight. MatchOption weight (most < weight_of_both names.now rule.now.pattern.head rule.now.pattern.tail)
-        (λ w. (w ≡ weight_of_both names.now rule.now.pattern.head rule.now.pattern.tail) × (w ≤ most))) }
+    ensures { IfOk result (λ weight. MatchOption weight (most < weight_of_both names.now
+        rule.now.pattern.head rule.now.pattern.tail)
+        (λ w. (w ≡ weight_of_both names.now rule.now.pattern.head rule.now.pattern.tail)
+        × (w ≤ most))) }
 {
     let Some(head) = weigh(alloc, &rule.pattern.head, names, most)? else {
         return Ok(None);
