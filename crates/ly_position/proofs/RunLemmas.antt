@@ -323,6 +323,7 @@ module _ (names : List Expression) (rules : List Rule) (es : List Expression) (p
     follow_once = λ p. each_place (λ pl. AllPairs (λ a b. a ≢ b) (follow_of pl)) (λ x k. (slot_follow x k).0) nothing_once p;
     starts_within = λ c line q h. omega (arith, All-contains (λ x. x < length slots) (starts_of made c line) q (starts_each c line).1 h, length-map slots (place_in follow));
     starts_once = λ c line. (starts_each c line).0;
+    starts_past = λ c line le. get_or_past starts (2 * c + (if line then 1 else 0)) [] (omega (arith, begins.count));
   }
 
 -- what was put together from the program of a plan

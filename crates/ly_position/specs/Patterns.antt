@@ -1,5 +1,5 @@
 -- Positions with follow lists that read the patterns of rules.
-use Rattle.std.specs.Prelude.{◌≡◌, ◌≢◌, ◌↔◌, ℕ, ◌<◌, List, length, slice_get, AllPairs, Bool, Contains, Some}
+use Rattle.std.specs.Prelude.{◌≡◌, ◌≢◌, ◌↔◌, ℕ, ◌<◌, ◌≤◌, List, [], length, slice_get, AllPairs, Bool, Contains, Some}
 use Rattle.ly_ere.specs.Expression.{Expression}
 use Rattle.ly_ere.specs.declared.pattern.Rule.{Rule}
 use Rattle.ly_position.specs.Nfa.{Nfa, IsEnd, Follows, RunsTo, follow_of, place_of, starts_of}
@@ -26,3 +26,4 @@ pub record ArePositions (names : List Expression) (rules : List Rule) (condition
   pub follow_once : (p : ℕ) → AllPairs (λ a b. a ≢ b) (follow_of (place_of nfa p))
   pub starts_within : (c : ℕ) (line : Bool) (q : ℕ) → Contains (starts_of nfa c line) q → q < length nfa.positions
   pub starts_once : (c : ℕ) (line : Bool) → AllPairs (λ a b. a ≢ b) (starts_of nfa c line)
+  pub starts_past : (c : ℕ) (line : Bool) → conditions ≤ c → starts_of nfa c line ≡ []
