@@ -3,15 +3,18 @@ use crate::line::command;
 use ly_base::{Counted, ReadFault, read_whole};
 use ly_engine::{TokenEnd, TokensFault, tokens};
 use std::alloc::Global;
-use std::fs;
-use std::io;
 use std::io::{Read, Write};
 use std::rt::Files;
+use std::{fs, io};
 
 const CLEAN: u8 = 0;
+
 const TEXT_REFUSED: u8 = 1;
+
 const FILE_REFUSED: u8 = 2;
+
 const DEVICE_OR_MEMORY: u8 = 3;
+
 const BAD_WORDS: u8 = 4;
 
 /// How standard input and output are named.

@@ -1,10 +1,9 @@
 //! Statuses and lines of the program, over devices that fail.
 
 use crate::program::perform;
-use std::fs;
-use std::io;
 use std::io::{ErrorKind, Read, Write};
 use std::test::Fail;
+use std::{fs, io};
 
 /// Gives its bytes, one a read, and then fails if it is to.
 #[derive(Drop)]
@@ -175,7 +174,11 @@ const RUNS: [Run; 12] = [
 
 /// Writes the files that the runs name.
 fn write_files(rt: &HostRuntime) -> Result<(), Fail> {
-    fs::write(rt, "good.l", "%%\nif return IF;\n[a-z]+ return ID;\n\" \" ;\n")?;
+    fs::write(
+        rt,
+        "good.l",
+        "%%\nif return IF;\n[a-z]+ return ID;\n\" \" ;\n",
+    )?;
     fs::write(rt, "bad.l", "%%\n(a ;\n")?;
     fs::write(rt, "text", "if#")?;
     let mut heavy = String::from_str(rt.alloc(), "%%\n")?;
