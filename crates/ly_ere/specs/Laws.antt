@@ -1,6 +1,8 @@
--- What holds of winners, as statements.
+-- What holds of winners and of phrases, as statements.
 use Rattle.std.specs.Prelude.{◌≡◌, ℕ, List, Bool}
 use Rattle.ly_ere.specs.Expression.{Expression}
+use Rattle.ly_ere.specs.Grammar.{Alternation}
+use Rattle.ly_ere.specs.Words.{Word}
 use Rattle.ly_ere.specs.declared.pattern.Pattern.{Pattern}
 use Rattle.ly_ere.specs.declared.pattern.Rule.{Rule}
 use Rattle.ly_ere.specs.Winner.{Winner, IsCut, Fits}
@@ -12,3 +14,7 @@ WinnerIsOne = (names : List Expression) (rules : List Rule) (condition : ℕ) (l
 -- under a true cut the length of a match decides that of its token
 abbrev pub SplitIsOne : Type 0
 SplitIsOne = (names : List Expression) (p : Pattern) (rest : List ℕ) (n m l : ℕ) → IsCut names p → Fits names p rest n m → Fits names p rest n l → m ≡ l
+
+-- words have at most one reading as an expression
+abbrev pub PhraseIsOne : Type 0
+PhraseIsOne = (ws : List Word) (e f : Expression) → Alternation ws e → Alternation ws f → e ≡ f

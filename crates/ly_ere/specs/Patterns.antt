@@ -17,10 +17,6 @@ pub record IsPattern (names : List Expression) (text : List ℕ) (p : Pattern) :
   pub no_tail : p.tail ≡ None
   pub no_cut : p.cut ≡ Whole
 
--- a text has at most one reading
-abbrev pub PatternIsOne : Type 0
-PatternIsOne = (names : List Expression) (text : List ℕ) (p q : Pattern) → IsPattern names text p → IsPattern names text q → p ≡ q
-
 -- no bracket expression begins in the text
 abbrev pub HasNoBracket : List ℕ → Type 0
 HasNoBracket text = (k : ℕ) → k < length text → slice_index text k ≢ 91

@@ -50,11 +50,11 @@ fn named(text: &[u8], mark: u8) -> Option<&[u8]>
     ensures { IfSome result (λ name. length name.now + 4 ≤ length text.entry.now) }
 {
     let skipped = if mark == b':' { 2 } else { 3 };
-    for at in skipped..text.len() {
+    for at in 2..text.len() {
         if text[at] == b'\n' {
             return None;
         }
-        if text[at] == mark && text.get(at + 1) == Some(&b']') {
+        if at >= skipped && text[at] == mark && text.get(at + 1) == Some(&b']') {
             return Some(&text[2..at]);
         }
     }

@@ -1,5 +1,5 @@
 ghost use Rattle.ly_ere.specs.Names.{NameIsDefinition};
-ghost use Rattle.ly_ere.specs.Laws.{WinnerIsOne, SplitIsOne};
+ghost use Rattle.ly_ere.specs.Laws.{PhraseIsOne, WinnerIsOne, SplitIsOne};
 
 /// The rule and the length of a winner are determined.
 pub fn winner_is_one()
@@ -14,4 +14,9 @@ pub fn split_is_one()
 /// A name stands for its definition.
 pub fn name_is_definition()
     ensures { NameIsDefinition }
+{}
+
+/// Words are at most one expression.
+pub fn phrase_is_one()
+    ensures { PhraseIsOne }
 {}
