@@ -1,3 +1,9 @@
+ghost use Rattle.std.specs.Prelude.{◌≡◌, ◌≢◌, ◌∷◌, [], codes, IfOk, MatchBool, MatchOption};
+ghost use Rattle.ly_lexread.specs.Action.{meaning_of, value_meaning, IsAction, Meaning, Returns, Says};
+ghost use Rattle.ly_lexread.specs.Gap.{Gap};
+ghost use Rattle.ly_lexread.specs.Words.{semicolon, Wording};
+ghost use Rattle.ly_lexread.specs.declared.action.Action.{Action};
+
 use crate::words::{NextWord, next_word};
 use std::alloc::{AllocError, Global};
 
@@ -26,7 +32,9 @@ pub enum Returned {
 /// Reads the action that stands on a line behind its pattern: nothing, `;`, `return NAME ;` or
 /// `return 'c' ;`, with blanks and comments between the words (POSIX, lex, "Actions in lex"). `None` where
 /// it is something else.
-pub(crate) fn read_action(alloc: Global, text: &[u8]) -> Result<Option<Action>, AllocError> {
+pub(crate) fn read_action(alloc: Global, text: &[u8]) -> Result<Option<Action>, AllocError>
+    ensures { IfOk result (λ read. MatchOption read ((a : Action) → IsAction text.now a → ⊥) (IsAction text.now)) }
+{
     let Some(value) = said(text) else {
         return Ok(None);
     };
@@ -46,7 +54,9 @@ enum Value<'t> {
 }
 
 impl Value<'_> {
-    fn returned(self, alloc: Global) -> Result<Returned, AllocError> {
+    fn returned(self, alloc: Global) -> Result<Returned, AllocError>
+        ensures { IfOk result (λ returned. meaning_of returned ≡ value_meaning self.entry) }
+    {
         match self {
             Value::Nothing => Ok(Returned::Nothing),
             Value::Name(name) => Ok(Returned::Token(Vec::from_slice(alloc, name)?)),
@@ -56,7 +66,9 @@ impl Value<'_> {
 }
 
 /// What the text says; `None` where it is none of the forms.
-fn said(text: &[u8]) -> Option<Value<'_>> {
+fn said(text: &[u8]) -> Option<Value<'_>>
+    ensures { MatchOption result ((m : Meaning) → Says text.now m → ⊥) (λ value. Says text.now (value_meaning value)) }
+{
     let (first, rest) = next_word(text);
     match first {
         NextWord::End => Some(Value::Nothing),
@@ -73,12 +85,16 @@ fn said(text: &[u8]) -> Option<Value<'_>> {
 }
 
 /// Whether the name is `return`.
-fn is_return(name: &[u8]) -> bool {
+fn is_return(name: &[u8]) -> bool
+    ensures { MatchBool result (name.now ≡ codes "return") (name.now ≢ codes "return") }
+{
     name == b"return".as_slice()
 }
 
 /// What is returned, by the text behind `return`: a value and a `;`.
-fn behind_return(text: &[u8]) -> Option<Value<'_>> {
+fn behind_return(text: &[u8]) -> Option<Value<'_>>
+    ensures { MatchOption result ((m : Meaning) → Returns text.now m → ⊥) (λ value. Returns text.now (value_meaning value)) }
+{
     let (word, rest) = next_word(text);
     match word {
         NextWord::Name(name) => is_semicolon(rest).then_some(Value::Name(name)),
@@ -88,7 +104,9 @@ fn behind_return(text: &[u8]) -> Option<Value<'_>> {
 }
 
 /// Whether a `;` is left, and nothing else but blanks and comments.
-fn is_semicolon(text: &[u8]) -> bool {
+fn is_semicolon(text: &[u8]) -> bool
+    ensures { MatchBool result (Wording text.now (semicolon ∷ [])) (Wording text.now (semicolon ∷ []) → ⊥) }
+{
     let (word, rest) = next_word(text);
     match word {
         NextWord::Semicolon => is_end(rest),
@@ -97,7 +115,9 @@ fn is_semicolon(text: &[u8]) -> bool {
 }
 
 /// Whether nothing but blanks and comments is left.
-fn is_end(text: &[u8]) -> bool {
+fn is_end(text: &[u8]) -> bool
+    ensures { MatchBool result (Gap text.now) (Gap text.now → ⊥) }
+{
     let (word, _rest) = next_word(text);
     matches!(word, NextWord::End)
 }

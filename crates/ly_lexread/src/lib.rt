@@ -7,6 +7,7 @@ mod file;
 mod gap;
 mod laws;
 mod lines;
+mod literal;
 mod read;
 mod words;
 

@@ -1,9 +1,9 @@
 ghost use Rattle.std.specs.Prelude.{◌≡◌, ◌≤◌, length};
 ghost use Rattle.std.specs.List.{prefix_len};
-ghost use Rattle.ly_lexread.specs.Words.{continues_name, name_length, starts_name};
+ghost use Rattle.ly_lexread.specs.Words.{continues_name, name_length, starts_name, IsFront};
 
 use crate::gap::after_gap;
-use ly_base::literal;
+use crate::literal::literal;
 
 /// What stands at the front of an action.
 #[derive(Clone, Copy)]
@@ -21,7 +21,9 @@ pub(crate) enum NextWord<'t> {
 }
 
 /// The word behind the blanks and comments at the front, and what stands behind it.
-pub(crate) fn next_word(text: &[u8]) -> (NextWord<'_>, &[u8]) {
+pub(crate) fn next_word(text: &[u8]) -> (NextWord<'_>, &[u8])
+    ensures { IsFront text.now result.0 result.1.now }
+{
     let text = after_gap(text);
     if let Some((byte, length)) = literal(text) {
         return (NextWord::Byte(byte), &text[length..]);

@@ -1,0 +1,50 @@
+-- What the text behind a pattern says (POSIX, XCU lex, "Actions in lex").
+use Rattle.std.specs.Prelude.{◌≡◌, ℕ, List, [], ◌∷◌, codes, None}
+use Rattle.ly_lexread.specs.Words.{Word, semicolon, name, literal, Wording}
+use Rattle.ly_lexread.specs.declared.action.Action.{Action}
+use Rattle.ly_lexread.specs.declared.action.Returned.{Returned}
+use Rattle.ly_lexread.specs.declared.action.Returned.TheVariants.{Nothing, Token, Literal, FirstByte}
+use Rattle.ly_lexread.specs.declared.action.Value.{Value}
+use Rattle.ly_lexread.specs.declared.action.Value.TheVariants as value
+
+-- the token that an action returns
+pub data Meaning : Type 0 where
+  nothing : Meaning
+  token : List ℕ → Meaning
+  literal_of : ℕ → Meaning
+  first_byte : Meaning
+
+abbrev pub meaning_of : Returned → Meaning
+meaning_of Nothing = nothing
+meaning_of (Token n) = token n.items
+meaning_of (Literal b) = literal_of b
+meaning_of FirstByte = first_byte
+
+abbrev pub value_meaning : Value → Meaning
+value_meaning value.Nothing = nothing
+value_meaning (value.Name n) = token n.now
+value_meaning (value.Byte b) = literal_of b
+
+-- the token that a word stands for
+abbrev pub StandsFor : Word → Meaning → Type 0
+StandsFor semicolon m = ⊥
+StandsFor (name n) m = m ≡ token n
+StandsFor (literal b) m = m ≡ literal_of b
+
+-- what words say: nothing, `;`, `return NAME ;` or `return 'c' ;`
+abbrev pub Say : List Word → Meaning → Type 0
+Say [] m = m ≡ nothing
+Say (semicolon ∷ []) m = m ≡ nothing
+Say (name r ∷ x ∷ semicolon ∷ []) m = (r ≡ codes "return") × StandsFor x m
+Say _ m = ⊥
+
+-- the words of the text say this
+abbrev pub Says : List ℕ → Meaning → Type 0
+Says text m = (words : List Word) × Wording text words × Say words m
+
+-- the words of the text say this behind `return`
+abbrev pub Returns : List ℕ → Meaning → Type 0
+Returns text m = (words : List Word) × Wording text words × Say (name (codes "return") ∷ words) m
+
+abbrev pub IsAction : List ℕ → Action → Type 0
+IsAction text a = (a.begin ≡ None) × Says text (meaning_of a.returns)
