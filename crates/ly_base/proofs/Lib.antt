@@ -1,5 +1,6 @@
 pub mod ByteSetLemmas
 pub mod DeviceLemmas
 pub mod EscapeLemmas
+pub mod LiteralLemmas
 mod WordLemmas
 mod TextLemmas

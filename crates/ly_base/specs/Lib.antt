@@ -3,6 +3,7 @@ pub mod Counted
 pub mod Device
 pub mod Escapes
 pub mod Limits
+pub mod Literals
 pub mod MemSink
 pub mod MemSource
 pub mod Text

@@ -1,0 +1,18 @@
+use Rattle.std.proofs.Common.{◌≢◌, Result, Ok, Err, IfOk, IfSome, arith}
+use Rattle.std.specs.Result.{result_ok}
+use Rattle.ly_base.proofs.LiteralLemmas.{bare_inside, escape_inside}
+use Rattle.ly_base.proofs.literals.literal_byte.Goals as goal
+
+onto : {T E : Type 0} (P Q : T → Type 0) (r : Result T E) → ((x : T) → P x → Q x) → IfOk r P → IfSome (result_ok r) Q
+onto P Q (Ok x) f p = f x p
+onto P Q (Err e) f p = tt
+
+pub returns-in-92-clause-inside : goal.returns-in-92-clause-inside
+returns-in-92-clause-inside c = rw c.ok.ensures.value (onto _ _ c.escape.result
+    (λ found h. escape_inside c.args.inside.now c.in_ok-byte.ensures.item.3.0 found.0 found.1 (omega (arith, c.in_ok-byte.ensures.item.3.1 0, c.in-92.is)) h) c.escape.ensures.escape)
+
+pub returns-in_default-clause-inside : goal.returns-in_default-clause-inside
+returns-in_default-clause-inside c =
+    let backslash : c.in_ok-byte.field-0.now ≢ 92 = omega arith in
+    let quote : c.in_ok-byte.field-0.now ≢ 39 = omega arith in
+    bare_inside c.args.inside.now c.in_ok-byte.ensures.item.3.0 c.in_ok-byte.field-0.now (omega (arith, c.in_ok-byte.ensures.item.3.1 0)) backslash quote

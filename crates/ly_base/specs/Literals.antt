@@ -1,0 +1,12 @@
+-- Literals: one byte or one escape between single quotes (POSIX, yacc, "Declarations Section").
+use Rattle.std.specs.Prelude.{◌≡◌, ◌≢◌, ℕ, List, ◌∷◌}
+use Rattle.ly_base.specs.Escapes.{Escape}
+
+-- The text begins with a byte that stands for itself, or with an escape, and then comes the rest.
+pub data Inside : List ℕ → ℕ → List ℕ → Type 0 where
+  bare : (b : ℕ) (rest : List ℕ) → b ≢ 92 → b ≢ 39 → Inside (b ∷ rest) b rest
+  escaped : (t rest : List ℕ) (b : ℕ) → Escape t b rest → Inside (92 ∷ t) b rest
+
+-- The text begins with the literal of the byte b, which isn't 0, and then comes the rest.
+abbrev pub Literal : List ℕ → ℕ → List ℕ → Type 0
+Literal t b rest = (behind : List ℕ) × (t ≡ 39 ∷ behind) × Inside behind b (39 ∷ rest) × (b ≢ 0)
