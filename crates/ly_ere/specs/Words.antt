@@ -1,8 +1,7 @@
 -- The words of an expression: how each is spelled (POSIX, XBD 9.4 and 9.3.5, as lex changes them).
 use Rattle.std.specs.Prelude.{◌≡◌, ◌≢◌, ℕ, ◌≤◌, List, [], ◌∷◌, ◌++◌, Bool, true, false, not, ◌||◌, ◌&&◌, nat_eq, nat_le, codes, Option, Some, None, if◌then◌else◌}
 use Rattle.ly_ere.specs.Front.{begins, stands_at}
-use Rattle.ly_base.specs.ByteSet.{bytes_where, has}
-use Rattle.ly_base.specs.declared.byte_set.ByteSet.{ByteSet}
+use Rattle.ly_base.specs.ByteSet.{bytes_where}
 use Rattle.ly_base.specs.Escapes.{Escape}
 
 -- A word: one byte of a set, a string, or a sign. A set and a string are lists of bytes.
@@ -107,14 +106,6 @@ pub data Items : Bool → List ℕ → List (ℕ × ℕ) → List ℕ → Type 0
 pub data IsListed : List ℕ → List ℕ → List ℕ → Type 0 where
   listed : (t rest : List ℕ) (rs : List (ℕ × ℕ)) → stands_at t 0 94 ≡ false → Items true t rs rest → bytes_where (in_ranges rs) ≢ [] → IsListed t (bytes_where (in_ranges rs)) rest
   excluded : (t rest : List ℕ) (rs : List (ℕ × ℕ)) → Items true t rs rest → bytes_where (λ b. not (in_ranges rs b)) ≢ [] → IsListed (94 ∷ t) (bytes_where (λ b. not (in_ranges rs b))) rest
-
--- the set has the bytes of the ranges besides those that it had
-abbrev pub IsAdded : ByteSet → ByteSet → List (ℕ × ℕ) → Type 0
-IsAdded old new rs = (b : ℕ) → has new b ≡ (in_ranges rs b || has old b)
-
--- the text begins with items, and the test is that of their ranges
-abbrev pub AreItems : List ℕ → (ℕ → Bool) → List ℕ → Type 0
-AreItems t test rest = (rs : List (ℕ × ℕ)) × Items true t rs rest × ((b : ℕ) → test b ≡ in_ranges rs b)
 
 -- the signs, each a byte
 abbrev pub sign_of : ℕ → Option Word

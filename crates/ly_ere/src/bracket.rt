@@ -1,7 +1,6 @@
-ghost use Rattle.std.specs.Prelude.{◌≡◌, ℕ, List, ◌<◌, ◌≤◌, ◌+◌, ◌≢◌, [], drop, length, true, Some, None, IfErr, IfOk, IfSome};
-ghost use Rattle.ly_base.specs.ByteSet.{has, members};
-ghost use Rattle.ly_ere.specs.Front.{begins};
-ghost use Rattle.ly_ere.specs.Words.{IsClass, names, AreItems, IsAdded, IsListed, Item, Items, Point, Points, begins_range};
+ghost use Rattle.std.specs.Prelude.{◌≡◌, ◌≤◌, ◌+◌, ◌≢◌, [], length, IfErr, IfOk, IfSome, ◌<◌};
+ghost use Rattle.ly_base.specs.ByteSet.{members};
+ghost use Rattle.ly_ere.specs.Words.{begins_range};
 
 use crate::fault::EreFault;
 use crate::front::{begins, stands_at};
