@@ -4,7 +4,7 @@ use Rattle.std.proofs.lemmas.Bool.{false≢true}
 use Rattle.std.proofs.Common.{◌≡◌, ◌≢◌, ℕ, zero, suc, ◌+◌, ◌<◌, List, [], ◌∷◌, ◌++◌, Bool, true, false, eqb, get_or, cond, IsTrue, take, drop, take-append-drop, refl, sym, ap, ap₂, ◌∙◌, subst, arith, length}
 use Rattle.std.proofs.lemmas.Bool.Decides.{nat_tests}
 use Rattle.std.proofs.lemmas.List.{append-nil}
-use Rattle.ly_lexread.specs.Literals.{Literal}
+use Rattle.ly_base.specs.Literals.{Literal}
 use Rattle.ly_lexread.proofs.LiteralLemmas.{literal_one}
 use Rattle.ly_lexread.specs.Gap.{is_blank, Gap, none, GapBefore, Stops}
 use Rattle.ly_lexread.specs.Words.{Word, semicolon, name, literal, starts_name, continues_name, name_length, AreContinuing, IsName, NameEnds, Begins, Front, Wording}
@@ -64,7 +64,7 @@ begins_at : (text : List ℕ) (x : Word) (rest : List ℕ) → Begins text x res
 begins_at text semicolon rest h = (59, rest, h, refl)
 begins_at text (name []) rest h = absurd h.0
 begins_at text (name (b ∷ n)) rest h = (b, n ++ rest, h.2, h.0.0)
-begins_at text (literal c) rest h = (39, h.inside, h.opened, refl)
+begins_at text (literal c) rest h = (39, h.0, h.1, refl)
 
 blank_starts_none : (b : ℕ) → IsTrue (is_blank b) → IsTrue (starts_name b) → ⊥
 blank_starts_none b h s = grind (arith, nat_tests)

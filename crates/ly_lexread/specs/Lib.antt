@@ -5,5 +5,4 @@ pub mod Gap
 pub mod Laws
 pub mod Lexing
 pub mod Lines
-pub mod Literals
 pub mod Words

@@ -1,7 +1,7 @@
 -- The words of an action.
 use Rattle.std.specs.Prelude.{◌≡◌, ◌≢◌, ◌&&◌, ◌||◌, ℕ, List, [], ◌∷◌, ◌++◌, Bool, IsTrue, nat_eq, nat_le, if◌then◌else◌}
 use Rattle.std.specs.List.{prefix_len}
-use Rattle.ly_lexread.specs.Literals.{Literal}
+use Rattle.ly_base.specs.Literals.{Literal}
 use Rattle.ly_lexread.specs.Gap.{Gap, GapBefore}
 use Rattle.ly_lexread.specs.declared.words.NextWord.{NextWord}
 use Rattle.ly_lexread.specs.declared.words.NextWord.TheVariants.{End, Semicolon, Name, Byte, Other}

@@ -7,7 +7,6 @@ mod file;
 mod gap;
 mod laws;
 mod lines;
-mod literal;
 mod read;
 mod words;
 

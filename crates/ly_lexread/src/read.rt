@@ -1,6 +1,6 @@
-ghost use Rattle.std.specs.Prelude.{ℕ, List, OnErr, OnOk};
+ghost use Rattle.std.specs.Prelude.{◌≡◌, [], ℕ, List, IfOk, OnErr, OnOk};
 ghost use Rattle.ly_lexread.specs.Definitions.{Definitions};
-ghost use Rattle.ly_lexread.specs.Lines.{lines_left};
+ghost use Rattle.ly_lexread.specs.Lines.{lines_left, lines_of};
 
 use crate::action::{Action, read_action};
 use crate::fault::LexFault;
@@ -17,7 +17,11 @@ use std::alloc::Global;
 /// The faults come for the least line: `NoRulesMark` where no line begins with `%%`; `BadDefinition` for
 /// another line of the definitions and for a `%{` line; `UnknownCondition` for a rule that begins with
 /// `<`; `Pattern` and `BadAction` for the parts of a rule; `OutOfMemory` where a growth was refused.
-pub fn read_lex(alloc: Global, bytes: &[u8], limits: &Limits) -> Result<LexFile, LexFault> {
+pub fn read_lex(alloc: Global, bytes: &[u8], limits: &Limits) -> Result<LexFile, LexFault>
+    ensures defined { OnOk result ((behind : List (List ℕ)) × Definitions (lines_of bytes.now) behind) }
+    ensures no_names { IfOk result (λ file. file.names ≡ []) }
+    ensures one_condition { IfOk result (λ file. file.conditions ≡ 1) }
+{
     let mut lines = Lines::of(bytes);
     skip_definitions(&mut lines)?;
     let names = Names::new(alloc);

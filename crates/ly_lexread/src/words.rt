@@ -3,7 +3,7 @@ ghost use Rattle.std.specs.List.{prefix_len};
 ghost use Rattle.ly_lexread.specs.Words.{continues_name, name_length, starts_name, IsFront};
 
 use crate::gap::after_gap;
-use crate::literal::literal;
+use ly_base::literal;
 
 /// What stands at the front of an action.
 #[derive(Clone, Copy)]
