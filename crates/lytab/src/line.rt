@@ -1,6 +1,7 @@
-ghost use Rattle.std.specs.Prelude.{◌≡◌, IfErr, IfOk, IsSome, OnOk, Some, [], map, option_and_then, option_map, string_bytes, true};
+ghost use Rattle.std.specs.Prelude.{◌≡◌, IfErr, IfOk, IsSome, OnOk, Some, [], map, option_and_then, option_map, string_bytes, false, true};
 ghost use Rattle.clap.specs.Words.{app_of, kind_of, subcommand_rows_of};
-ghost use Rattle.lytab.specs.Line.{line_app, line_faults, line_takes, subcommand_in, tokens_by, tokens_of};
+ghost use Rattle.clap.specs.declared.builder.command.Command.TheViews.{out-Command};
+ghost use Rattle.lytab.specs.Line.{line_app, line_faults, line_takes, subcommand_in, tokens_app, tokens_by, tokens_of};
 ghost use Rattle.lytab.specs.Said.{said};
 
 use crate::asked::{Command, CommandFault};
@@ -56,18 +57,25 @@ fn tokens_in<'a>(matches: &ArgMatches<'a>) -> Option<Command<'a>>
 fn line<'a>(alloc: Global) -> Result<clap::Command<'a>, AllocError>
     ensures { IfOk result (λ c. app_of c ≡ line_app) }
 {
+    let top = clap::Command::new(alloc, "lytab")
+        .about("Lexical analysis by POSIX lex files, proved correct")
+        .subcommand_required(true);
+    top.subcommand(tokens_line(alloc)?)
+}
+
+/// The subcommand `tokens`.
+fn tokens_line<'a>(alloc: Global) -> Result<clap::Command<'a>, AllocError>
+    ensures app { IfOk result (λ c. app_of c ≡ tokens_app) }
+    ensures local { IfOk result (λ c. (out-Command c).has_globals ≡ false) }
+{
     let lex = Arg::new(alloc, "LEX")
         .required(true)
         .help("The lex file: definitions, %%, rules");
     let text = Arg::new(alloc, "TEXT").help("The text; standard input if it is left out");
-    let tokens = clap::Command::new(alloc, "tokens")
+    clap::Command::new(alloc, "tokens")
         .about("Writes the tokens of a text, one a line")
         .arg(lex)?
-        .arg(text)?;
-    let top = clap::Command::new(alloc, "lytab")
-        .about("Lexical analysis by POSIX lex files, proved correct")
-        .subcommand_required(true);
-    top.subcommand(tokens)
+        .arg(text)
 }
 
 /// The fault that stands for `clap`'s error.

@@ -1,4 +1,4 @@
-use Rattle.std.proofs.Common.{◌≡◌, ◌∙◌, true, sym}
+use Rattle.std.proofs.Common.{◌∙◌, sym}
 use Rattle.lytab.proofs.LineLemmas.{faults_in, found_in, line_is_free, line_is_simple, taken_in}
 use Rattle.lytab.proofs.line.matched.Goals as goal
 

@@ -1,4 +1,4 @@
-use Rattle.std.proofs.Common.{◌≡◌, ◌∙◌}
+use Rattle.std.proofs.Common.{◌∙◌}
 use Rattle.clap.specs.Words.{found_of}
 use Rattle.lytab.proofs.LineLemmas.{name_part, said_none, said_tokens}
 use Rattle.lytab.proofs.line.tokens_in.Goals as goal
