@@ -1,4 +1,5 @@
-ghost use Rattle.std.specs.Prelude.{[], ◌∷◌, ◌≡◌, ◌≢◌, ℕ, List, ◌<◌, ◌≤◌, Some, None, length, IfOk, IfErr, OnOk};
+ghost use Rattle.ly_base.specs.declared.cut.Cut.TheVariants.{Whole};
+ghost use Rattle.std.specs.Prelude.{false, [], ◌∷◌, ◌≡◌, ◌≢◌, ℕ, List, ◌<◌, ◌≤◌, Some, None, length, IfOk, IfErr, OnOk};
 ghost use Rattle.ly_base.specs.Limits.{pattern_weight_of};
 ghost use Rattle.ly_ere.specs.Arena.{part_of};
 ghost use Rattle.ly_ere.specs.Expression.{Expression, set};
@@ -33,6 +34,7 @@ pub fn read_pattern(
     limits: &Limits,
 ) -> Result<Pattern, EreFault>
     ensures plain { IfOk result (λ p. HasNoBracket text.now → IsPattern names.now text.now p) }
+    ensures shape { IfOk result (λ p. (p.line_start ≡ false) × (p.tail ≡ None) × (p.cut ≡ Whole)) }
     ensures light { IfOk result (λ p. weight_of names.now p.head ≤ pattern_weight_of limits.now) }
     ensures plain_refused { IfErr result (λ e. e ≢ OutOfMemory → HasNoBracket text.now
         → (p : Pattern) → IsPattern names.now text.now p → weight_of names.now p.head ≤ pattern_weight_of limits.now → ⊥) }

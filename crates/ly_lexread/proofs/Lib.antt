@@ -6,3 +6,4 @@ pub mod LexingLaws
 pub mod LineLemmas
 pub mod LiteralLemmas
 pub mod WordLemmas
+pub mod PlainLemmas

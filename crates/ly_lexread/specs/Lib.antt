@@ -6,3 +6,4 @@ pub mod Laws
 pub mod Lexing
 pub mod Lines
 pub mod Words
+pub mod Plain

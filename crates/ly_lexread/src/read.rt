@@ -1,5 +1,6 @@
 ghost use Rattle.std.specs.Prelude.{◌≡◌, [], ℕ, List, IfOk, OnErr, OnOk};
 ghost use Rattle.ly_lexread.specs.Definitions.{Definitions};
+ghost use Rattle.ly_lexread.specs.Plain.{ArePlain, IsPlain};
 ghost use Rattle.ly_lexread.specs.Lines.{lines_left, lines_of};
 
 use crate::action::{Action, read_action};
@@ -20,6 +21,7 @@ use std::alloc::Global;
 pub fn read_lex(alloc: Global, bytes: &[u8], limits: &Limits) -> Result<LexFile, LexFault>
     ensures defined { OnOk result ((behind : List (List ℕ)) × Definitions (lines_of bytes.now) behind) }
     ensures no_names { IfOk result (λ file. file.names ≡ []) }
+    ensures plain { IfOk result (λ file. ArePlain file.rules.items) }
     ensures one_condition { IfOk result (λ file. file.conditions ≡ 1) }
 {
     let mut lines = Lines::of(bytes);
@@ -58,7 +60,9 @@ fn read_rules(
     mut lines: Lines<'_>,
     names: &Names,
     limits: &Limits,
-) -> Result<(Vec<Rule>, Vec<Action>), LexFault> {
+) -> Result<(Vec<Rule>, Vec<Action>), LexFault>
+    ensures { IfOk result (λ both. ArePlain both.0.items) }
+{
     let mut rules = Vec::new(alloc);
     let mut actions = Vec::new(alloc);
     while let Some(line) = lines.take() {
@@ -81,7 +85,9 @@ fn read_rule(
     line: Line<'_>,
     names: &Names,
     limits: &Limits,
-) -> Result<(Rule, Action), LexFault> {
+) -> Result<(Rule, Action), LexFault>
+    ensures { IfOk result (λ both. IsPlain both.0) }
+{
     if line.begins_with(b"%{") {
         return Err(LexFault::BadDefinition { line: line.number });
     }
