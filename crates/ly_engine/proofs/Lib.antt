@@ -1,4 +1,5 @@
 pub mod AnswerLemmas
+pub mod FileAgreementLemmas
 pub mod LoopLemmas
 pub mod MatchLemmas
 pub mod PositionAgreementLemmas

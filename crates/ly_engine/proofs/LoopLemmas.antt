@@ -1,6 +1,6 @@
 -- A step and the end of the loop over a text.
-use Rattle.std.proofs.Common.{⊎_elim, ◌⊎◌, ◌≡◌, ◌∙◌, ℕ, ◌+◌, ◌-◌, ◌≤◌, ◌<◌, List, [], ◌∷◌, ◌++◌, length, take, drop, Bool, Some, refl, sym, ap, subst, arith, append_assoc, append-nil}
-use Rattle.std.specs.Prelude.{unwrap_or, ◌≢◌}
+use Rattle.std.proofs.Common.{⊎_elim, ◌⊎◌, ◌≡◌, ◌∙◌, ℕ, ◌+◌, ◌-◌, ◌≤◌, ◌<◌, List, [], ◌∷◌, ◌++◌, length, take, drop, Bool, refl, sym, ap, subst, arith, append-nil}
+use Rattle.std.specs.Prelude.{unwrap_or}
 use Rattle.std.proofs.lemmas.Grind.{common_steps}
 use Rattle.std.proofs.lemmas.List.{drop-drop}
 use Rattle.ly_base.proofs.DeviceLemmas.{take-rest}
@@ -11,7 +11,7 @@ use Rattle.ly_ere.specs.declared.pattern.Rule.{Rule}
 use Rattle.ly_ere.specs.Winner.{HasNoWinner, Winner}
 use Rattle.ly_lexread.proofs.LexingLaws.{lexing_on}
 use Rattle.ly_lexread.specs.declared.action.Action.{Action}
-use Rattle.ly_lexread.specs.Lexing.{Place, Match, End, clean, stuck, Leads, Lexing, after_line, place_after}
+use Rattle.ly_lexread.specs.Lexing.{Place, Match, clean, stuck, Leads, Lexing, after_line, place_after}
 use Rattle.ly_scan.specs.Walk.{Walk}
 use Rattle.ly_scan.specs.Matching.{Matches}
 use Rattle.ly_scan.specs.declared.matching.Match as matching
@@ -52,10 +52,11 @@ one_more names rules actions walk here cut cut_here text line after condition ne
     let p : Place = place_at text line condition at in
     let length_is : (at + len) - at ≡ len = omega arith in
     let place_is : place_after (condition_set actions) p t ≡ place_at text after next (at + len) = places (at + len) (after_line line (take len (drop at text))) after (unwrap_or (condition_set actions rule.0) condition) next (drop len (drop at text)) (drop (at + len) text)
-        (sym (s ∙ ap (λ k. after_line line (take k (drop at text))) length_is)) (sym n) (drop-drop len at text) in
-    (f.0 ++ t ∷ [],
-     subst (λ q. Leads names rules (condition_set actions) (start_of text) (f.0 ++ t ∷ []) q) place_is (leads_more names rules (condition_set actions) (start_of text) p f.0 t f.1 winner),
-     e ∙ ap (λ k. lines ++ token_line actions rule.0 (take k (drop at text))) length_is ∙ ap (λ z. z ++ token_line actions rule.0 (take len (drop at text))) f.2 ∙ sym (printed_more names rules (condition_set actions) actions (start_of text) p f.0 t f.1))
+    (sym (s ∙ ap (λ k. after_line line (take k (drop at text))) length_is)) (sym n) (drop-drop len at text) in (
+      f.0 ++ t ∷ [],
+      subst (λ q. Leads names rules (condition_set actions) (start_of text) (f.0 ++ t ∷ []) q) place_is (leads_more names rules (condition_set actions) (start_of text) p f.0 t f.1 winner),
+      e ∙ ap (λ k. lines ++ token_line actions rule.0 (take k (drop at text))) length_is ∙ ap (λ z. z ++ token_line actions rule.0 (take len (drop at text))) f.2 ∙ sym (printed_more names rules (condition_set actions) actions (start_of text) p f.0 t f.1),
+    )
 
 -- where the walk finds nothing, the text is stuck
 pub stuck_here : (names : List Expression) (rules : List Rule) (actions : List Action) (walk here : ℕ → Bool → Walk) (cut cut_here : ℕ → Cut)
@@ -67,9 +68,11 @@ pub stuck_here : (names : List Expression) (rules : List Rule) (actions : List A
 stuck_here names rules actions walk here cut cut_here text line condition at m lines a sw sc less found is f =
     let there : Agrees names rules here cut_here = let P : (ℕ → Bool → Walk) → Type 0 = λ w. Agrees names rules w cut_here in subst P (sym sw) (let Q : (ℕ → Cut) → Type 0 = λ k. Agrees names rules walk k in subst Q (sym sc) a) in
     let none : HasNoWinner names rules condition line (drop at text) = ⊎_elim (λ e. bad there (at_match BadCut e)) (λ e. no_winner names rules here cut_here condition line (drop at text) there (at_match Stuck e)) is in
-    let ended : Lexing names rules (condition_set actions) (place_at text line condition at) [] (stuck at) = (λ e. absurd (omega (arith, ap length e, length_left)), refl, none) in
-    (f.0 ++ [], lexing_on names rules (condition_set actions) (start_of text) (place_at text line condition at) f.0 [] (stuck at) f.1 ended,
-     ap (λ z. z ++ end_line (stuck at)) (f.2 ∙ ap (printed actions text) (sym (append-nil f.0))))
+    let ended : Lexing names rules (condition_set actions) (place_at text line condition at) [] (stuck at) = (λ e. absurd (omega (arith, ap length e, length_left)), refl, none) in (
+      f.0 ++ [],
+      lexing_on names rules (condition_set actions) (start_of text) (place_at text line condition at) f.0 [] (stuck at) f.1 ended,
+      ap (λ z. z ++ end_line (stuck at)) (f.2 ∙ ap (printed actions text) (sym (append-nil f.0))),
+    )
   where
     length_left : length (drop at text) ≡ length text - at
     length_left = grind (arith, common_steps)
@@ -84,6 +87,8 @@ stuck_here names rules actions walk here cut cut_here text line condition at m l
 pub clean_here : (names : List Expression) (rules : List Rule) (actions : List Action) (text : List ℕ) (line : Bool) (condition at : ℕ) (lines : List ℕ)
     → length text ≤ at → SoFar names rules actions text (place_at text line condition at) lines → IsAnswer names rules actions text clean lines
 clean_here names rules actions text line condition at lines le f =
-    let ended : Lexing names rules (condition_set actions) (place_at text line condition at) [] clean = grind (arith, common_steps) in
-    (f.0 ++ [], lexing_on names rules (condition_set actions) (start_of text) (place_at text line condition at) f.0 [] clean f.1 ended,
-     f.2 ∙ ap (printed actions text) (sym (append-nil f.0)) ∙ sym (append-nil (printed actions text (f.0 ++ []))))
+    let ended : Lexing names rules (condition_set actions) (place_at text line condition at) [] clean = grind (arith, common_steps) in (
+      f.0 ++ [],
+      lexing_on names rules (condition_set actions) (start_of text) (place_at text line condition at) f.0 [] clean f.1 ended,
+      f.2 ∙ ap (printed actions text) (sym (append-nil f.0)) ∙ sym (append-nil (printed actions text (f.0 ++ []))),
+    )

@@ -1,20 +1,17 @@
 -- A match over a walk that agrees with the rules is the winner.
 use Rattle.std.proofs.lemmas.Bool.{cases_lt}
-use Rattle.std.proofs.Common.{inl, inr, ◌≡◌, ◌∙◌, ℕ, ◌+◌, ◌-◌, ◌<◌, ◌≤◌, List, [], ◌∷◌, ◌++◌, length, take, drop, Bool, true, false, Option, Some, None, refl, sym, ap, subst, arith, rules, length-append, length-take, slice_get}
+use Rattle.std.proofs.Common.{inl, inr, ◌≡◌, ◌∙◌, ℕ, ◌+◌, ◌-◌, ◌<◌, ◌≤◌, List, [], ◌∷◌, ◌++◌, length, take, drop, Bool, Option, Some, None, refl, sym, ap, subst, arith, rules, length-append, length-take}
 use Rattle.std.specs.Prelude.{nat_lt, nat_le, ◌&&◌, if◌then◌else◌, IsSome}
 use Rattle.std.proofs.Math.Seq.{take-add}
 use Rattle.std.proofs.lemmas.Bool.Decides.{nat_tests}
-use Rattle.std.proofs.lemmas.Grind.{common_steps}
 use Rattle.ly_base.specs.declared.cut.Cut.{Cut}
 use Rattle.ly_base.specs.declared.cut.Cut.TheVariants.{Whole, Head, Tail}
-use Rattle.ly_base.specs.declared.numbers.RuleNo.{RuleNo}
 use Rattle.ly_ere.specs.Expression.{Expression, Matches}
-use Rattle.ly_ere.specs.declared.pattern.Pattern.{Pattern}
 use Rattle.ly_ere.specs.declared.pattern.Rule.{Rule}
 use Rattle.ly_ere.specs.Winner.{InTail, CutHolds, Fits, Candidate, Winner, HasNoWinner}
 use Rattle.ly_scan.specs.Cuts.{token_len}
 use Rattle.ly_scan.specs.Walk.{Walk, IsLongest, HasNone}
-use Rattle.ly_engine.specs.Agreement.{Spells, IsString, Agrees}
+use Rattle.ly_engine.specs.Agreement.{IsString, Agrees}
 
 -- a head's length within the match is what its cut leaves
 head_cut : (k n : ℕ) → 1 ≤ k → k ≤ n → (if nat_lt 0 k && nat_le k n then Some k else None) ≡ Some k

@@ -1,5 +1,5 @@
 -- A walk over bytes that says which rule of a lex file a string belongs to.
-use Rattle.std.specs.Prelude.{◌≡◌, ℕ, ◌≤◌, List, [], ◌++◌, slice_get, Bool, IsTrue, Contains, Option, Some, IsSome}
+use Rattle.std.specs.Prelude.{◌≡◌, ℕ, ◌≤◌, List, [], ◌++◌, slice_get, Bool, IsTrue, Contains, Some, IsSome}
 use Rattle.ly_base.specs.declared.cut.Cut.{Cut}
 use Rattle.ly_ere.specs.Expression.{Expression, Matches}
 use Rattle.ly_ere.specs.declared.pattern.Pattern.{Pattern}

@@ -1,10 +1,17 @@
-ghost use Rattle.std.specs.Prelude.{◌≡◌, ℕ, List, length, take, Err, IfErr, IsErrOf, OnOk};
+ghost use Rattle.std.specs.Prelude.{◌≡◌, ℕ, ◌<◌, List, length, take, Err, IfSome, IfOk, IfErr, IsErrOf, OnOk};
 ghost use Rattle.std.specs.Io.KnownBytes.{Appends};
 ghost use Rattle.ly_base.specs.Device.{next_count};
+ghost use Rattle.ly_lexread.specs.Lexing.{End};
+ghost use Rattle.ly_lexread.specs.declared.fault.LexFault.{LexFault};
+ghost use Rattle.ly_engine.specs.Answering.{IsAnswer};
+ghost use Rattle.ly_position.specs.TotalWeight.{total_weight};
+ghost use Rattle.ly_position.specs.declared.fault.PosFault.{PosFault};
+ghost use Rattle.ly_engine.specs.Answers.{Answers, IsPlainFile, most_weight};
+ghost use Rattle.ly_engine.specs.Printed.{end_of};
 ghost use Rattle.ly_engine.specs.TokensFault.{IsBeforeWriting};
 
-use crate::answer::token_lines;
 use crate::fault::TokensFault;
+use crate::lines::token_lines;
 use crate::outcome::TokenEnd;
 use crate::position_walk::PositionWalk;
 use ly_base::{Limits, Sink, Source, read_whole, write_whole};
@@ -26,7 +33,10 @@ pub fn tokens<R: Source, W: Sink>(
     ensures read { IsErrOf result TokensFault.Read → R.failures reader.new ≡ next_count (R.failures reader.old) }
     ensures write { (written : ℕ) → result ≡ Err (TokensFault.Write written) → W.failures writer.new ≡ next_count (W.failures writer.old) }
     ensures beginning { (written : ℕ) → result ≡ Err (TokensFault.Write written)
-        → (answer : List ℕ) × (Appends (W.contents writer.old) (W.contents writer.new) (take written answer)) }
+        → (e : End) × ((answer : List ℕ) × Answers (R.remaining reader.old) e answer × (written < length answer)
+        × Appends (W.contents writer.old) (W.contents writer.new) (take written answer)) }
+    ensures answered { IfOk result (λ end. (answer : List ℕ) × Answers (R.remaining reader.old) (end_of end) answer
+        × Appends (W.contents writer.old) (W.contents writer.new) answer) }
     ensures untouched { IfErr result (λ e. IsBeforeWriting e → writer.new ≡ writer.old) }
 {
     let file = read_lex(alloc, lex, &Limits::V1)?;
@@ -35,12 +45,19 @@ pub fn tokens<R: Source, W: Sink>(
     Ok(end)
 }
 
-/// Reads the text, and makes the answer to it.
-fn answer<R: Source>(
+/// The answer to the text that a reader gives, under a lex file: how its tokens end, and the bytes to be
+/// written.
+pub fn answer<R: Source>(
     alloc: Global,
     file: &LexFile,
     reader: &mut R,
 ) -> Result<(TokenEnd, Vec<u8>), TokensFault>
+    requires plain { IsPlainFile file.now }
+    ensures made { IfOk result (λ a. (text : List ℕ) × IfSome (R.remaining reader.old) (λ bytes. text ≡ bytes)
+        × IsAnswer file.now.names file.now.rules.items file.now.actions.items text (end_of a.0) a.1.items) }
+    ensures refused { (fault : LexFault) → result ≡ Err (TokensFault.Lex fault) → ⊥ }
+    ensures heavy { (fault : PosFault) → result ≡ Err (TokensFault.Positions fault)
+        → most_weight < total_weight file.now.names file.now.rules.items }
     ensures held { OnOk result (R.failures reader.new ≡ R.failures reader.old) }
     ensures read { IsErrOf result TokensFault.Read → R.failures reader.new ≡ next_count (R.failures reader.old) }
     ensures before { IfErr result IsBeforeWriting }

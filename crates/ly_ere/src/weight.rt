@@ -10,12 +10,7 @@ use std::alloc::{AllocError, Global};
 
 /// The weight of an expression, if it is at most `most`: how many sets of bytes and empty strings it has,
 /// where repetitions and definitions are written out.
-pub fn weigh(
-    alloc: Global,
-    re: &Re,
-    names: &Names,
-    most: u32,
-) -> Result<Option<u32>, AllocError>
+pub fn weigh(alloc: Global, re: &Re, names: &Names, most: u32) -> Result<Option<u32>, AllocError>
     ensures { IfOk result (λ weight. MatchOption weight (most < weight_of names.now re.now)
         (λ w. (w ≡ weight_of names.now re.now) × (w ≤ most))) }
 {
@@ -40,12 +35,7 @@ fn at_most(weight: u64, most: u32) -> Option<u32>
 }
 
 /// The weight of an expression by the capped weights of the definitions, or the cap if it is less.
-fn capped_weight(
-    alloc: Global,
-    re: &Re,
-    named: &[u64],
-    cap: u64,
-) -> Result<u64, AllocError>
+fn capped_weight(alloc: Global, re: &Re, named: &[u64], cap: u64) -> Result<u64, AllocError>
     requires cap { cap ≤ 2 ^ 32 }
     requires some { 0 < cap }
     requires named { (x : ℕ) → slice_index_or named.now x 0 ≤ cap }

@@ -9,5 +9,5 @@ invariant-loop-node l = record {
   counted : length l.weights.items ≡ l.node-index;
   capped : (k : ℕ) → get_or l.weights.items k 0 ≤ l.cap;
   so_far : (weight : ℕ → ℕ) → ((x : ℕ) → get_or l.named x 0 ≡ min (weight x) l.cap)
-    → l.weights.items ≡ map (λ e. min (weight_under weight e) l.cap) (expressions (take l.node-index l.nodes));
+      → l.weights.items ≡ map (λ e. min (weight_under weight e) l.cap) (expressions (take l.node-index l.nodes));
 }

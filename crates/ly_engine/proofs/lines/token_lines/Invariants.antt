@@ -5,7 +5,7 @@ use Rattle.ly_lexread.specs.Lexing.{Match, Leads}
 use Rattle.ly_engine.specs.Agreement.{Agrees}
 use Rattle.ly_engine.specs.Answering.{start_of}
 use Rattle.ly_engine.specs.Printed.{condition_set, printed}
-use Rattle.ly_engine.proofs.answer.token_lines.Given as goal
+use Rattle.ly_engine.proofs.lines.token_lines.Given as goal
 
 -- the matches so far lead to where the loop stands, and their lines are written
 abbrev pub invariant-loop-at : goal.invariant-loop-at
@@ -14,8 +14,8 @@ invariant-loop-at g l = let steps = g.S.Steps in record {
   same_walk : steps.walk l.steps ≡ steps.walk l.fn.steps;
   same_cuts : steps.cut_of l.steps ≡ steps.cut_of l.fn.steps;
   so_far : (names : List Expression) (rules : List Rule) → Agrees names rules (steps.walk l.fn.steps) (steps.cut_of l.fn.steps)
-    → (ms : List Match) × Leads names rules (condition_set l.actions) (start_of l.text) ms (record { line = l.at_line_start; condition = l.condition; at = l.at; rest = drop l.at l.text })
-    × (l.lines.items ≡ printed l.actions l.text ms);
+      → (ms : List Match) × Leads names rules (condition_set l.actions) (start_of l.text) ms (record { line = l.at_line_start; condition = l.condition; at = l.at; rest = drop l.at l.text })
+      × (l.lines.items ≡ printed l.actions l.text ms);
 }
 
 abbrev pub decreases-loop-at : goal.decreases-loop-at

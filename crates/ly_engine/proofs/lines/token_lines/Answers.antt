@@ -1,11 +1,8 @@
-use Rattle.std.proofs.Common.{◌≡◌, ◌≤◌, ◌+◌, ◌-◌, length, drop, take, arith, ap, sym, ◌∙◌}
-use Rattle.ly_base.proofs.DeviceLemmas.{take-rest}
+use Rattle.std.proofs.Common.{◌≤◌, ◌-◌, length, drop, take, arith, ◌∙◌}
 use Rattle.std.proofs.lemmas.Grind.{common_steps}
 use Rattle.ly_engine.proofs.LoopLemmas.{one_more, stuck_here, clean_here}
 use Rattle.ly_engine.proofs.MatchLemmas.{token_len-le}
-use Rattle.ly_engine.specs.Answering.{IsAnswer}
-use Rattle.ly_lexread.specs.Lexing.{stuck}
-use Rattle.ly_engine.proofs.answer.token_lines.Goals as goal
+use Rattle.ly_engine.proofs.lines.token_lines.Goals as goal
 
 pub loop-at-preserved : goal.loop-at-preserved
 loop-at-preserved g c = record {
@@ -24,7 +21,7 @@ loop-at-preserved g c = record {
 pub returns-in-BadCut : goal.returns-in-BadCut
 returns-in-BadCut g c = λ names rules a.
     let answer = stuck_here names rules c.args.actions.now _ _ _ _ c.args.text.now c.loop-at.at_line_start c.loop-at.condition c.loop-at.at _ c.loop-at.lines.items
-        a c.loop-at.invariant.same_walk c.loop-at.invariant.same_cuts c.loop-at-test.true c.next_match.ensures.found c.in-BadCut.is (c.loop-at.invariant.so_far names rules a) in
+    a c.loop-at.invariant.same_walk c.loop-at.invariant.same_cuts c.loop-at-test.true c.next_match.ensures.found c.in-BadCut.is (c.loop-at.invariant.so_far names rules a) in
     (answer.0, answer.1, c.in_ok-push_no_rule_line-in-BadCut.ensures ∙ answer.2)
 
 pub returns : goal.returns
