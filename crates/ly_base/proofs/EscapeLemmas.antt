@@ -3,7 +3,7 @@ use Rattle.std.proofs.Common.{◌≡◌, ◌≢◌, ℕ, zero, suc, ◌+◌, ◌
 use Rattle.std.specs.Prelude.{if◌then◌else◌}
 use Rattle.std.proofs.lemmas.Bool.{eq-eqb, ne_eqb, eqb-true, eqb-false, lt-ltb, ltb-true, false_from_ne_true}
 use Rattle.std.proofs.lemmas.Bool.Decides.{nat_tests}
-use Rattle.std.proofs.lemmas.List.{take_all, length-drop}
+use Rattle.std.proofs.lemmas.List.{drop-drop, take_all, length-drop}
 use Rattle.std.proofs.Common.{get_or, add-one, length-take, min}
 use Rattle.std.proofs.Math.Seq.{take-suc}
 use Rattle.std.proofs.Math.ListN.{take-append-drop}
@@ -251,15 +251,6 @@ hexadecimal_when w (d ∷ ds) n v e f l = by (nat_lt v 256) refl
 pub whole_slice : (n : ℕ) (t : List ℕ) → take (length t - n) (drop n t) ≡ drop n t
 whole_slice n t = take_all (length t - n) (drop n t) (omega (arith, length-drop n t))
 
-drop_nil : (n : ℕ) → drop {A = ℕ} n [] ≡ []
-drop_nil zero = refl
-drop_nil (suc n) = refl
-
-pub drop_more : (n m : ℕ) (t : List ℕ) → drop n (drop m t) ≡ drop (m + n) t
-drop_more n zero t = let e : zero + n ≡ n = omega arith in rw e refl
-drop_more n (suc m) [] = rw (drop_nil n) (sym (drop_nil (suc m + n)))
-drop_more n (suc m) (b ∷ t) = let e : suc m + n ≡ suc (m + n) = omega arith in rw e (drop_more n m t)
-
 escape_none : (t : List ℕ) → escape_of t ≡ None → (b : ℕ) (r : List ℕ) → Escape t b r → ⊥
 escape_none t e b r h = let k = escape_complete h in cc
 
@@ -271,7 +262,7 @@ behind (a ∷ c ∷ t) b l e = ap (λ x. x ∷ t) (sym e)
 
 module _ (t : List ℕ) (n v : ℕ) (count : n ≡ length (digits is_octal 3 (take (length t - 1) (drop 1 t)))) (value : v ≡ min (number 8 (digits is_octal 3 (take (length t - 1) (drop 1 t)))) 256) where
   pub octal_found : 0 < n → v < 256 → Escape (drop 1 t) v (drop (1 + n) t)
-  octal_found l m = escape_sound (drop 1 t) v (drop (1 + n) t) (rw (← drop_more n 1 t) (octal_ok (drop 1 t) n v v (rw whole_slice at count) (rw whole_slice at value) l m))
+  octal_found l m = escape_sound (drop 1 t) v (drop (1 + n) t) (rw (← drop-drop n 1 t) (octal_ok (drop 1 t) n v v (rw whole_slice at count) (rw whole_slice at value) l m))
 
   pub octal_large : 0 < n → 256 ≤ v → (b : ℕ) (r : List ℕ) → Escape (drop 1 t) b r → ⊥
   octal_large l m = escape_none (drop 1 t) (octal_no (drop 1 t) n v (rw whole_slice at count) (rw whole_slice at value) l m)
@@ -297,7 +288,7 @@ module _ (t : List ℕ) (letter : ℕ) (within : 1 < length t) (is : letter ≡ 
 
     module _ (x : letter ≡ 120) (m v : ℕ) (digits_count : m ≡ length (digits is_hexadecimal (length (take (length t - 2) (drop 2 t))) (take (length t - 2) (drop 2 t)))) (value : v ≡ min (number 16 (digits is_hexadecimal (length (take (length t - 2) (drop 2 t))) (take (length t - 2) (drop 2 t)))) 256) where
       pub hexadecimal_found : 0 < m → v < 256 → Escape (drop 1 t) v (drop (2 + m) t)
-      hexadecimal_found l s = rw (first_letter, ← drop_more m 2 t) (escape_sound (letter ∷ drop 2 t) v (drop m (drop 2 t))
+      hexadecimal_found l s = rw (first_letter, ← drop-drop m 2 t) (escape_sound (letter ∷ drop 2 t) v (drop m (drop 2 t))
           (by_letters (drop 2 t) refl ∙ rw (eq-eqb letter 120 x) (hexadecimal_when (drop 2 t) (digits is_hexadecimal (length (drop 2 t)) (drop 2 t)) m v (rw whole_slice at digits_count) (rw whole_slice at value) l ∙ small_byte v (drop m (drop 2 t)) s)))
 
       pub hexadecimal_large : 0 < m → 256 ≤ v → (b : ℕ) (r : List ℕ) → Escape (drop 1 t) b r → ⊥

@@ -1,9 +1,9 @@
 -- A literal is determined by its text.
-use Rattle.std.proofs.Common.{◌≡◌, ◌≢◌, ◌↔◌, ℕ, suc, ◌+◌, ◌<◌, ◌≤◌, List, [], ◌∷◌, length, drop, get_or, refl, sym, ap, subst, ◌∙◌, arith}
+use Rattle.std.proofs.Common.{drop-drop, ◌≡◌, ◌≢◌, ◌↔◌, ℕ, suc, ◌+◌, ◌<◌, ◌≤◌, List, [], ◌∷◌, length, drop, get_or, refl, sym, ap, subst, ◌∙◌, arith}
 use Rattle.std.proofs.Common.{add-one, drop-cons}
 use Rattle.ly_base.specs.Escapes.{Escape}
 use Rattle.ly_base.specs.Literals.{Inside, bare, escaped, Literal}
-use Rattle.ly_base.proofs.EscapeLemmas.{drop_more, escape_one}
+use Rattle.ly_base.proofs.EscapeLemmas.{escape_one}
 
 heads : (a b : ℕ) (t u : List ℕ) → a ∷ t ≡ b ∷ u → a ≡ b
 heads a b t u e = cc
@@ -59,4 +59,4 @@ at_quote n u l e = drop-cons u n 0 l ∙ (ap (λ x. x ∷ drop (suc n) u) e ∙ 
 -- a byte, and a quote behind it
 module _ (t : List ℕ) (b n : ℕ) (some : 0 < length t) (quote : 39 ≡ get_or t 0 0) (inside : (c : ℕ) (rest : List ℕ) → Inside (drop 1 t) c rest ↔ ((c ≡ b) × (rest ≡ drop n (drop 1 t)))) where
   pub literal_ok : n < length (drop 1 t) → get_or (drop 1 t) n 0 ≡ 39 → b ≢ 0 → Literal t b (drop (n + 2) t)
-  literal_ok l e ne = (drop 1 t, front t some ∙ ap (λ x. x ∷ drop 1 t) (sym quote), (inside b (39 ∷ drop (n + 2) t)).1 (refl, sym (at_quote n (drop 1 t) l e ∙ ap (λ u. 39 ∷ u) (drop_more (n + 1) 1 t ∙ ap (λ k. drop k t) (two n)))), ne)
+  literal_ok l e ne = (drop 1 t, front t some ∙ ap (λ x. x ∷ drop 1 t) (sym quote), (inside b (39 ∷ drop (n + 2) t)).1 (refl, sym (at_quote n (drop 1 t) l e ∙ ap (λ u. 39 ∷ u) (drop-drop (n + 1) 1 t ∙ ap (λ k. drop k t) (two n)))), ne)

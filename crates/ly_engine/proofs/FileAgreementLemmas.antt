@@ -1,12 +1,12 @@
 -- The walk over the positions of a lex file agrees with its rules.
-use Rattle.std.proofs.Common.{◌≡◌, ◌∙◌, inl, inr, ℕ, ◌<◌, ◌≤◌, List, [], Option, None, sym, ap, subst, arith, rules, length}
+use Rattle.std.proofs.Common.{◌≡◌, ◌∙◌, inl, inr, ℕ, ◌<◌, ◌≤◌, List, [], Option, None, ap, subst, arith, rules, length}
 use Rattle.std.specs.Prelude.{slice_index_or, Contains, IsSome, ◌⊎◌}
 use Rattle.std.proofs.lemmas.Bool.{cases_lt}
 use Rattle.ly_ere.specs.Expression.{Expression}
 use Rattle.ly_ere.specs.declared.pattern.Rule.{Rule}
+use Rattle.ly_lexread.specs.LexText.{LexText}
 use Rattle.ly_lexread.specs.declared.file.LexFile.{LexFile}
-use Rattle.ly_lexread.specs.Plain.{IsPlain, ArePlain}
-use Rattle.ly_ere.specs.Winner.{AreCut, CutHolds}
+use Rattle.ly_lexread.proofs.FileLemmas.{IsPlain, rules_plain, rules_cut}
 use Rattle.ly_position.specs.Nfa.{Nfa, RunsTo, starts_of}
 use Rattle.ly_position.specs.Patterns.{ArePositions}
 use Rattle.ly_engine.specs.Agreement.{IsString, HaveBytes, Agrees}
@@ -23,32 +23,26 @@ only_first r c p h = at h.0 h.1 h.2
         omega (arith, e, zero_is)
 
 -- runs over the positions of a lex file spell its rules' strings
-runs_spell : (file : LexFile) (conditions : ℕ) (nfa : Nfa) → ArePlain file.rules.items → conditions ≡ 1 → ArePositions file.names file.rules.items conditions nfa
+runs_spell : (bytes : List ℕ) (file : LexFile) (conditions : ℕ) (nfa : Nfa) → LexText bytes file → conditions ≡ 1 → ArePositions file.names file.rules.items conditions nfa
     → RunsSpell file.names file.rules.items nfa
-runs_spell file conditions nfa text one are i c line w = (there (cases_lt c conditions), back)
+runs_spell bytes file conditions nfa text one are i c line w = (there (cases_lt c conditions), back)
   where
     there : (c < conditions) ⊎ (conditions ≤ c) → (p : ℕ) × Contains (starts_of nfa c line) p × RunsTo nfa i p w → IsString file.names file.rules.items c line i w
     there (inl less) h = let s = (are.spells c line i w less).0 h in record { rule = s.0; is_rule = s.1; is_active = s.2; at_line = s.3; spelled = s.4 }
     there (inr more) h = let P : List ℕ → Type 0 = λ ps. Contains ps h.0 in let none : Contains {X = ℕ} [] h.0 = subst P (are.starts_past c line more) h.1 in absurd (omega (arith, none.1))
 
     back : IsString file.names file.rules.items c line i w → (p : ℕ) × Contains (starts_of nfa c line) p × RunsTo nfa i p w
-    back s = let first = only_first s.rule c (text i s.rule s.is_rule) s.is_active in
+    back s = let first = only_first s.rule c (rules_plain bytes file text i s.rule s.is_rule) s.is_active in
         (are.spells c line i w (omega arith)).1 (s.rule, s.is_rule, s.is_active, s.at_line, s.spelled)
 
 -- no rule has a tail
-have_bytes : (file : LexFile) → ArePlain file.rules.items → HaveBytes file.names file.rules.items
-have_bytes file text i r e some h = let p = text i r e in let P : Option Expression → Type 0 = λ t. IsSome t in none_is (subst P p.no_tail some)
+have_bytes : (bytes : List ℕ) (file : LexFile) → LexText bytes file → HaveBytes file.names file.rules.items
+have_bytes bytes file text i r e some h = let p = rules_plain bytes file text i r e in let P : Option Expression → Type 0 = λ t. IsSome t in none_is (subst P p.no_tail some)
   where
     none_is : IsSome {T = Expression} None → ⊥
     none_is k = absurd (search rules)
 
--- each cut tells the truth
-are_cut : (file : LexFile) → ArePlain file.rules.items → AreCut file.names file.rules.items
-are_cut file text i r e =
-    let plain = text i r e in
-    subst (λ t. CutHolds file.names r.pattern.head t r.pattern.cut) (sym plain.no_tail) (subst (λ k. CutHolds file.names r.pattern.head None k) (sym plain.no_cut) tt)
-
-pub file_agrees : (file : LexFile) (conditions : ℕ) (given : List Rule) (nfa here : Nfa) → ArePlain file.rules.items → conditions ≡ 1 → ArePositions file.names file.rules.items conditions nfa
+pub file_agrees : (bytes : List ℕ) (file : LexFile) (conditions : ℕ) (given : List Rule) (nfa here : Nfa) → LexText bytes file → conditions ≡ 1 → ArePositions file.names file.rules.items conditions nfa
     → here ≡ nfa → given ≡ file.rules.items → Agrees file.names file.rules.items (position_walk here) (cut_in given)
-file_agrees file conditions given nfa here text one are same_nfa same_rules =
-    walk_agrees file.names file.rules.items given nfa here same_nfa same_rules (runs_spell file conditions nfa text one are) (are_cut file text) (have_bytes file text)
+file_agrees bytes file conditions given nfa here text one are same_nfa same_rules =
+    walk_agrees file.names file.rules.items given nfa here same_nfa same_rules (runs_spell bytes file conditions nfa text one are) (rules_cut bytes file text) (have_bytes bytes file text)

@@ -1,12 +1,15 @@
-ghost use Rattle.std.specs.Prelude.{◌≡◌, ℕ, ◌<◌, List, length, take, Err, IfSome, IfOk, IfErr, IsErrOf, OnOk};
+ghost use Rattle.std.specs.Prelude.{◌≡◌, ℕ, ◌<◌, ◌≤◌, List, length, take, Err, IfSome, IfOk, IfErr, IsErrOf, OnOk};
 ghost use Rattle.std.specs.Io.KnownBytes.{Appends};
 ghost use Rattle.ly_base.specs.Device.{next_count};
+ghost use Rattle.ly_ere.specs.declared.fault.EreFault.TheVariants.{TooHeavy};
+ghost use Rattle.ly_lexread.specs.LexText.{IsHeavyText, LexText};
 ghost use Rattle.ly_lexread.specs.Lexing.{End};
 ghost use Rattle.ly_lexread.specs.declared.fault.LexFault.{LexFault};
+ghost use Rattle.ly_lexread.specs.declared.file.LexFile.{LexFile};
 ghost use Rattle.ly_engine.specs.Answering.{IsAnswer};
 ghost use Rattle.ly_position.specs.TotalWeight.{total_weight};
 ghost use Rattle.ly_position.specs.declared.fault.PosFault.{PosFault};
-ghost use Rattle.ly_engine.specs.Answers.{Answers, IsPlainFile, most_weight};
+ghost use Rattle.ly_engine.specs.Answers.{Answers, IsLight, IsTooHeavy, most_weight};
 ghost use Rattle.ly_engine.specs.Printed.{end_of};
 ghost use Rattle.ly_engine.specs.TokensFault.{IsBeforeWriting};
 
@@ -33,10 +36,13 @@ pub fn tokens<R: Source, W: Sink>(
     ensures read { IsErrOf result TokensFault.Read → R.failures reader.new ≡ next_count (R.failures reader.old) }
     ensures write { (written : ℕ) → result ≡ Err (TokensFault.Write written) → W.failures writer.new ≡ next_count (W.failures writer.old) }
     ensures beginning { (written : ℕ) → result ≡ Err (TokensFault.Write written)
-        → (e : End) × ((answer : List ℕ) × Answers (R.remaining reader.old) e answer × (written < length answer)
+        → (e : End) × ((answer : List ℕ) × Answers lex.now (R.remaining reader.old) e answer × (written < length answer)
         × Appends (W.contents writer.old) (W.contents writer.new) (take written answer)) }
-    ensures answered { IfOk result (λ end. (answer : List ℕ) × Answers (R.remaining reader.old) (end_of end) answer
+    ensures answered { IfOk result (λ end. (answer : List ℕ) × Answers lex.now (R.remaining reader.old) (end_of end) answer
         × Appends (W.contents writer.old) (W.contents writer.new) answer) }
+    ensures refused { (fault : LexFault) → result ≡ Err (TokensFault.Lex fault) → (file : LexFile) → LexText lex.now file → IsLight file → ⊥ }
+    ensures heavy_pattern { (line : ℕ) → result ≡ Err (TokensFault.Lex (LexFault.Pattern line TooHeavy)) → IsHeavyText most_weight lex.now }
+    ensures heavy { (fault : PosFault) → result ≡ Err (TokensFault.Positions fault) → IsTooHeavy lex.now }
     ensures untouched { IfErr result (λ e. IsBeforeWriting e → writer.new ≡ writer.old) }
 {
     let file = read_lex(alloc, lex, &Limits::V1)?;
@@ -52,10 +58,11 @@ pub fn answer<R: Source>(
     file: &LexFile,
     reader: &mut R,
 ) -> Result<(TokenEnd, Vec<u8>), TokensFault>
-    requires plain { IsPlainFile file.now }
+    requires spelled { (bytes : List ℕ) × LexText bytes file.now }
     ensures made { IfOk result (λ a. (text : List ℕ) × IfSome (R.remaining reader.old) (λ bytes. text ≡ bytes)
         × IsAnswer file.now.names file.now.rules.items file.now.actions.items text (end_of a.0) a.1.items) }
     ensures refused { (fault : LexFault) → result ≡ Err (TokensFault.Lex fault) → ⊥ }
+    ensures within { OnOk result (total_weight file.now.names file.now.rules.items ≤ most_weight) }
     ensures heavy { (fault : PosFault) → result ≡ Err (TokensFault.Positions fault)
         → most_weight < total_weight file.now.names file.now.rules.items }
     ensures held { OnOk result (R.failures reader.new ≡ R.failures reader.old) }

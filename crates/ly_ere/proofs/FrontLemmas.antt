@@ -1,5 +1,5 @@
 -- What a test of the front of a text says.
-use Rattle.std.proofs.Common.{◌≡◌, ℕ, zero, suc, ◌<◌, ◌≤◌, List, [], ◌∷◌, length, get_or, refl, arith, true, false, nat_eq}
+use Rattle.std.proofs.Common.{◌≡◌, ℕ, zero, suc, ◌<◌, ◌≤◌, List, [], ◌∷◌, length, drop, get_or, refl, ap, arith, true, false, nat_eq}
 use Rattle.std.proofs.lemmas.Bool.{eqb-true}
 use Rattle.ly_ere.specs.Front.{stands_at}
 
@@ -18,3 +18,15 @@ pub stands : (t : List ℕ) (n b : ℕ) → stands_at t n b ≡ true → (n < le
 stands [] n b e = absurd (cc)
 stands (c ∷ t) zero b e = (omega arith, eqb-true c b e)
 stands (c ∷ t) (suc n) b e = let k = stands t n b e in (omega (arith, k.0), k.1)
+
+-- a text that begins with the byte
+pub first_is : (t : List ℕ) (b : ℕ) → stands_at t 0 b ≡ true → t ≡ b ∷ drop 1 t
+first_is [] b e = absurd (cc)
+first_is (c ∷ t) b e = ap (λ x. x ∷ t) (eqb-true c b e)
+
+-- what stands behind the front
+pub stands_drop : (t : List ℕ) (n b : ℕ) → stands_at t n b ≡ stands_at (drop n t) 0 b
+stands_drop [] zero b = refl
+stands_drop [] (suc n) b = refl
+stands_drop (c ∷ t) zero b = refl
+stands_drop (c ∷ t) (suc n) b = stands_drop t n b

@@ -1,9 +1,19 @@
+pub mod AppendLemmas
 pub mod ArenaLemmas
+pub mod ClassLemmas
+pub mod ExpressionLemmas
+pub mod ExtentLemmas
 pub mod FrontLemmas
 pub mod GroupLemmas
+pub mod ItemLemmas
 pub mod LevelLemmas
+pub mod ListedLemmas
 pub mod NameLaws
+pub mod NamedLemmas
+pub mod PointLemmas
 pub mod QuotedLemmas
+pub mod RangeLemmas
+pub mod ReadItemLemmas
 pub mod ReadLemmas
 pub mod ScanLemmas
 pub mod SetLemmas
@@ -11,3 +21,4 @@ pub mod SpellLemmas
 pub mod StringLemmas
 pub mod WeightLemmas
 pub mod WinnerLaws
+pub mod WordLemmas

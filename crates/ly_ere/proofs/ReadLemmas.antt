@@ -1,13 +1,12 @@
 -- Words that are read one after another are those of the whole text.
-use Rattle.std.proofs.Common.{◌≡◌, ℕ, ◌<◌, List, [], ◌∷◌, ◌++◌, length, drop, Some, None, refl, sym, ap, subst, ◌∙◌, append_assoc, arith, ◌↔◌}
+use Rattle.std.proofs.Common.{◌≡◌, ℕ, ◌<◌, List, [], ◌∷◌, ◌++◌, length, length-append, nat_eq, true, false, Some, None, refl, sym, ap, subst, ◌∙◌, append_assoc, arith, ◌↔◌}
+use Rattle.std.proofs.lemmas.Bool.{eqb-true, eq-eqb}
 use Rattle.std.proofs.lemmas.List.{append-nil}
 use Rattle.ly_ere.specs.Expression.{Expression}
 use Rattle.ly_ere.specs.Groups.{Group, Reading, and_then, new_group, run, start, step, whole}
-use Rattle.std.proofs.Common.{◌+◌, length-drop, length-append, get_or-drop, nat_eq, true, false}
-use Rattle.std.proofs.lemmas.Bool.{eqb-true, eq-eqb}
 use Rattle.ly_ere.specs.declared.level.Level.{Level}
 use Rattle.ly_ere.specs.Levels.{group_of, groups_of, reading_of}
-use Rattle.ly_ere.specs.Patterns.{HasNoBracket, IsExpression}
+use Rattle.ly_ere.specs.Patterns.{IsExpression}
 use Rattle.ly_ere.specs.Symbols.{IsWord}
 use Rattle.ly_ere.specs.Words.{Word, string, Spells, Worded, end, word}
 use Rattle.ly_ere.specs.declared.symbol.Symbol.{Symbol}
@@ -110,17 +109,6 @@ module _ (t left : List ℕ) (r : Reading) (i : IsRead t left r) where
       refuted : (g : Group) → whole r.group ≡ None → whole r.group ≡ whole g → whole g ≡ Some e → ⊥
       refuted g p q s = cc
 
--- what was read, where no bracket expression begins
-pub record IsPlainRead (t left : List ℕ) (r : Reading) : Type 0 where
-  pub read : IsRead t left r
-  pub no_bracket : HasNoBracket left
-
-pub plain_start : (t : List ℕ) → HasNoBracket t → IsPlainRead t t start
-plain_start t h = record { read = read_start t; no_bracket = h }
-
-pub no_bracket_drop : (n : ℕ) (t : List ℕ) → HasNoBracket t → HasNoBracket (drop n t)
-no_bracket_drop n t h k l e = h (n + k) (omega (arith, length-drop n t)) (sym (get_or-drop n t k 0) ∙ e)
-
 pub some_left : (t : List ℕ) → nat_eq (length t) 0 ≡ false → 0 < length t
 some_left [] e = absurd (cc)
 some_left (b ∷ t) e = omega arith
@@ -149,13 +137,3 @@ no_open t left a items l i none some = by (groups_of a items) refl
     by : (gs : List Group) → groups_of a items ≡ gs → (e : Expression) → IsExpression t e → ⊥
     by [] q = let n : length items ≡ 0 = omega (arith, groups_length a items, ap length q) in let k : nat_eq (length items) 0 ≡ true = eq-eqb (length items) 0 n in absurd (cc)
     by (g ∷ gs) q = no_end t left (reading_of a items l) i g gs none q
-
--- what is read to the end is the one expression that the text is
-pub read_only : (t left : List ℕ) (r : Reading) → IsRead t left r → length left ≡ 0 → (e : Expression) → whole r.group ≡ Some e → (other : Expression) → IsExpression t other → other ≡ e
-read_only t left r i l e p other x =
-    let k = left_ends t left r i other l x in
-    let q : whole r.group ≡ whole k.0 = ap (λ (s : Reading). whole s.group) k.1 in
-    same k.0 q k.2
-  where
-    same : (g : Group) → whole r.group ≡ whole g → whole g ≡ Some other → other ≡ e
-    same g q s = cc

@@ -1,8 +1,8 @@
 -- Where a string ends, found byte by byte: the digits of an escape are bytes like others.
-use Rattle.std.proofs.Common.{◌≡◌, ◌≢◌, ℕ, zero, suc, ◌+◌, ◌<◌, ◌≤◌, List, [], ◌∷◌, ◌++◌, length, drop, get_or, refl, sym, ap, subst, ◌∙◌, arith, Bool, true, false}
+use Rattle.std.proofs.lemmas.List.{drop_all}
+use Rattle.std.proofs.Common.{drop-drop, ◌≡◌, ◌≢◌, ℕ, zero, suc, ◌+◌, ◌<◌, ◌≤◌, List, [], ◌∷◌, ◌++◌, length, drop, get_or, refl, sym, ap, subst, ◌∙◌, arith, Bool, true, false}
 use Rattle.std.proofs.lemmas.Bool.Decides.{nat_tests}
 use Rattle.ly_base.specs.Escapes.{AllPass, Escape, octal, hexadecimal, bare_x, letter, is_octal, is_hexadecimal}
-use Rattle.ly_base.proofs.EscapeLemmas.{drop_more}
 use Rattle.ly_ere.specs.Words.{Quoted, closed, byte, escape}
 use Rattle.ly_ere.proofs.QuotedLemmas.{heads, tails, plain_more, quote_ends}
 
@@ -52,12 +52,6 @@ front (b ∷ t) (suc k) l = let e : suc k + 1 ≡ suc (k + 1) = omega arith in r
 two : (n : ℕ) → n + 1 + 1 ≡ n + 2
 two n = omega arith
 
-drop_all : (n : ℕ) (t : List ℕ) → length t ≤ n → drop n t ≡ []
-drop_all zero [] l = refl
-drop_all (suc n) [] l = refl
-drop_all zero (b ∷ t) l = absurd (omega arith)
-drop_all (suc n) (b ∷ t) l = drop_all n t (omega arith)
-
 backslash_ends : {u bs rest : List ℕ} → Quoted u bs rest → (t : List ℕ) → u ≡ 92 ∷ t → (c : ℕ) × (v : List ℕ) × (t ≡ c ∷ v) × (c ≢ 10) × Ends v rest
 backslash_ends (closed rest) t e = absurd (omega (arith, heads 34 92 rest t e))
 backslash_ends (byte b v bs rest q s n k) t e = absurd (s (heads b 92 v t e))
@@ -82,7 +76,7 @@ module _ (t : List ℕ) (at : ℕ) (g : GoesOn t at) where
     from_here = λ bs rest k.
         let e = g.from_here bs rest k in
         let m = backslash_ends e.1 (drop (at + 1) t) (front t at l ∙ ap (λ b. b ∷ drop (at + 1) t) p) in
-        subst (λ u. Ends u rest) (ap (drop 1) (sym m.2) ∙ (drop_more 1 (at + 1) t ∙ ap (λ n. drop n t) (two at))) m.4;
+        subst (λ u. Ends u rest) (ap (drop 1) (sym m.2) ∙ (drop-drop 1 (at + 1) t ∙ ap (λ n. drop n t) (two at))) m.4;
   }
 
   pub goes_end : at < length t → get_or t at 0 ≡ 34 → (bs rest : List ℕ) → Quoted (drop 1 t) bs rest → rest ≡ drop (at + 1) t

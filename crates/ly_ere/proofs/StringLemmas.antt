@@ -1,8 +1,7 @@
 -- A string's bytes, one after another, as they are read.
-use Rattle.std.proofs.Common.{◌≡◌, ℕ, ◌+◌, ◌≤◌, List, [], ◌∷◌, ◌++◌, length, drop, refl, append_assoc, length-append, arith, ◌↔◌, Some}
+use Rattle.std.proofs.Common.{drop-drop, ◌≡◌, ℕ, ◌+◌, ◌≤◌, List, [], ◌∷◌, ◌++◌, length, drop, refl, append_assoc, length-append, arith, ◌↔◌, Some}
 use Rattle.std.specs.Prelude.{slice_get}
 use Rattle.std.proofs.lemmas.List.{append-nil}
-use Rattle.ly_base.proofs.EscapeLemmas.{drop_more}
 use Rattle.ly_ere.specs.Expression.{Expression, set, empty, concat}
 use Rattle.ly_ere.specs.Grammar.{in_order, with_bytes}
 use Rattle.ly_ere.specs.Words.{Quoted, closed, IsMore}
@@ -37,8 +36,8 @@ next_string t at b n e f s is h = record {
   so_far = s.so_far ++ b ∷ [];
   some = omega (arith, length-append s.so_far (b ∷ []));
   is = rw (is, order_push s.so_far b s.some, ← s.is) refl;
-  forth = λ bs rest q. let k : Quoted (drop n (drop at t)) bs rest = rw (drop_more n at t) q in rw append_assoc (s.forth (b ∷ bs) rest ((h (b ∷ bs) rest).1 (bs, refl, k)));
-  back = λ bs rest q. let m = s.back bs rest q in let k = (h m.0 rest).0 m.1 in (k.0, rw (drop_more n at t) at k.2);
+  forth = λ bs rest q. let k : Quoted (drop n (drop at t)) bs rest = rw (drop-drop n at t) q in rw append_assoc (s.forth (b ∷ bs) rest ((h (b ∷ bs) rest).1 (bs, refl, k)));
+  back = λ bs rest q. let m = s.back bs rest q in let k = (h m.0 rest).0 m.1 in (k.0, rw (drop-drop n at t) at k.2);
 }
 
 quote_here : (t : List ℕ) → slice_get t 0 ≡ Some 34 → Quoted t [] (drop 1 t)

@@ -1,7 +1,8 @@
--- What holds of winners and of phrases, as statements.
+-- What holds of winners, of phrases and of patterns, as statements.
 use Rattle.std.specs.Prelude.{◌≡◌, ℕ, List, Bool}
 use Rattle.ly_ere.specs.Expression.{Expression}
 use Rattle.ly_ere.specs.Grammar.{Alternation}
+use Rattle.ly_ere.specs.Patterns.{IsPattern}
 use Rattle.ly_ere.specs.Words.{Word}
 use Rattle.ly_ere.specs.declared.pattern.Pattern.{Pattern}
 use Rattle.ly_ere.specs.declared.pattern.Rule.{Rule}
@@ -18,3 +19,7 @@ SplitIsOne = (names : List Expression) (p : Pattern) (rest : List ℕ) (n m l : 
 -- words have at most one reading as an expression
 abbrev pub PhraseIsOne : Type 0
 PhraseIsOne = (ws : List Word) (e f : Expression) → Alternation ws e → Alternation ws f → e ≡ f
+
+-- a text is at most one pattern
+abbrev pub PatternIsOne : Type 0
+PatternIsOne = (names : List Expression) (text : List ℕ) (p q : Pattern) → IsPattern names text p → IsPattern names text q → p ≡ q

@@ -1,6 +1,8 @@
 pub mod Arena
+pub mod Brackets
 pub mod Expression
 pub mod ExpressionCode
+pub mod Extent
 pub mod FaultNumber
 pub mod Front
 pub mod Grammar

@@ -1,5 +1,5 @@
 -- What the text of a pattern stands for.
-use Rattle.std.specs.Prelude.{◌≡◌, ◌≢◌, ◌<◌, ℕ, List, length, slice_index, None, false}
+use Rattle.std.specs.Prelude.{◌≡◌, ℕ, List, None, false}
 use Rattle.ly_base.specs.declared.cut.Cut.TheVariants.{Whole}
 use Rattle.ly_ere.specs.Expression.{Expression}
 use Rattle.ly_ere.specs.Grammar.{Alternation}
@@ -16,7 +16,3 @@ pub record IsPattern (names : List Expression) (text : List ℕ) (p : Pattern) :
   pub anywhere : p.line_start ≡ false
   pub no_tail : p.tail ≡ None
   pub no_cut : p.cut ≡ Whole
-
--- no bracket expression begins in the text
-abbrev pub HasNoBracket : List ℕ → Type 0
-HasNoBracket text = (k : ℕ) → k < length text → slice_index text k ≢ 91

@@ -82,11 +82,6 @@ pub data Points : List ℕ → List (ℕ × ℕ) → List ℕ → Type 0 where
   single : (t rest : List ℕ) (b : ℕ) → Point t b rest → begins_range rest ≡ false → Points t ((b, b) ∷ []) rest
   range : (t behind rest : List ℕ) (low high : ℕ) → Point t low (45 ∷ behind) → begins_range (45 ∷ behind) ≡ true → Point behind high rest → low ≤ high → Points t ((low, high) ∷ []) rest
 
--- the byte that `[. .]` or `[= =]` with this mark names at the front
-abbrev pub names : List ℕ → ℕ → Option ℕ
-names (a ∷ m ∷ b ∷ n ∷ e ∷ rest) mark = if nat_eq n mark && nat_eq e 93 && not (nat_eq b 10) then Some b else None
-names _ mark = None
-
 -- a class at the front, and the ranges that it adds
 abbrev pub IsClass : List ℕ → List (ℕ × ℕ) → List ℕ → Type 0
 IsClass t rs rest = (name : List ℕ) × (class_of name ≡ Some rs) × (t ≡ 91 ∷ 58 ∷ (name ++ 58 ∷ 93 ∷ rest))

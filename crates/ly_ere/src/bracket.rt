@@ -1,72 +1,24 @@
-ghost use Rattle.std.specs.Prelude.{◌≡◌, ◌≤◌, ◌+◌, ◌≢◌, [], length, IfErr, IfOk, IfSome, ◌<◌};
-ghost use Rattle.ly_base.specs.ByteSet.{members};
-ghost use Rattle.ly_ere.specs.Words.{begins_range};
+ghost use Rattle.std.specs.Option.{IfNone};
+ghost use Rattle.std.specs.Prelude.{◌≡◌, ◌≢◌, ℕ, ◌+◌, ◌<◌, ◌≤◌, List, [], ◌∷◌, drop, length, true, Some, None, IfErr, IfOk, IfSome, IsErrOf};
+ghost use Rattle.ly_base.specs.ByteSet.{has, members};
+ghost use Rattle.ly_ere.specs.Brackets.{AreItems, IsAdded, IsNamed, as_classes, names};
+ghost use Rattle.ly_ere.specs.Front.{begins};
+ghost use Rattle.ly_ere.specs.Words.{IsClass, IsListed, Item, Items, Point, Points, begins_range, class_of, found_in};
 
 use crate::fault::EreFault;
 use crate::front::{begins, stands_at};
 use ly_base::{ByteSet, escape};
 
-/// How many bytes the bracket expression at the front of a text takes, whose first byte is `[`; `None`
-/// where the line ends first (POSIX, XBD 9.3.5).
-pub(crate) fn bracket_length(text: &[u8]) -> Option<usize>
-    ensures { IfSome result (λ end. (2 ≤ end) × (end ≤ length text.now)) }
-{
-    let mut at = 1;
-    if stands_at(text, 1, b'^') {
-        at += 1;
-    }
-    let first = at;
-    for _ in 0..text.len() {
-        let byte = *text.get(at)?;
-        if byte == b'\n' {
-            return None;
-        }
-        if byte == b']' && at > first {
-            return Some(at + 1);
-        }
-        at += item_length(&text[at..])?;
-    }
-    None
-}
-
-/// How many bytes the byte, the escape or the form `[: :]`, `[. .]`, `[= =]` at the front of a text
-/// takes; `None` where the line ends first.
-fn item_length(text: &[u8]) -> Option<usize>
-    ensures { IfSome result (λ end. (1 ≤ end) × (end ≤ length text.now)) }
-{
-    match text {
-        [b'\\', b'\n', ..] | [b'\\'] => None,
-        [b'\\', ..] => Some(2),
-        [b'[', mark @ (b':' | b'.' | b'='), ..] => Some(named(text, *mark)?.len() + 4),
-        [_, ..] => Some(1),
-        [] => None,
-    }
-}
-
-/// What stands between `[` with a mark and the same mark with `]`, at the front of a text; `None` where
-/// the line ends first. What the marks `.` and `=` name has at least one byte, whichever it is.
-fn named(text: &[u8], mark: u8) -> Option<&[u8]>
-    ensures { IfSome result (λ name. length name.now + 4 ≤ length text.entry.now) }
-{
-    let skipped = if mark == b':' { 2 } else { 3 };
-    for at in 2..text.len() {
-        if text[at] == b'\n' {
-            return None;
-        }
-        if at >= skipped && text[at] == mark && text.get(at + 1) == Some(&b']') {
-            return Some(&text[2..at]);
-        }
-    }
-    None
-}
-
 /// Reads the bracket expression at the front of a text, whose first byte is `[`: its bytes, of which there is at
 /// least one, and how many bytes of the text it takes (POSIX, XBD 9.3.5, in the POSIX locale).
 pub(crate) fn bracket(text: &[u8]) -> Result<(ByteSet, usize), EreFault>
-    requires { 0 < length text.now }
+    requires some { 0 < length text.now }
     ensures set { IfOk result (λ found. members found.0 ≢ []) }
     ensures first { IfOk result (λ found. 1 ≤ found.1) }
     ensures within { IfOk result (λ found. found.1 ≤ length text.now) }
+    ensures listed { IfOk result (λ found. IsListed (drop 1 text.now) (members found.0) (drop found.1 text.now)) }
+    ensures refused { IfErr result (λ _. (bytes rest : List ℕ) → IsListed (drop 1 text.now) bytes rest → ⊥) }
+    ensures not_heavy { IsErrOf result EreFault.TooHeavy → ⊥ }
 {
     let behind = &text[1..];
     if stands_at(behind, 0, b'^') {
@@ -82,6 +34,7 @@ fn some_byte(set: ByteSet) -> Result<ByteSet, EreFault>
     ensures same { IfOk result (λ same. same ≡ set) }
     ensures some { IfOk result (λ same. members same ≢ []) }
     ensures none { IfErr result (λ _. members set ≡ []) }
+    ensures not_heavy { IsErrOf result EreFault.TooHeavy → ⊥ }
 {
     if set.is_empty() {
         return Err(EreFault::EmptySet);
@@ -93,6 +46,9 @@ fn some_byte(set: ByteSet) -> Result<ByteSet, EreFault>
 /// take with the `]`.
 fn items(text: &[u8]) -> Result<(ByteSet, usize), EreFault>
     ensures within { IfOk result (λ found. found.1 ≤ length text.now) }
+    ensures items { IfOk result (λ found. AreItems text.now (has found.0) (drop found.1 text.now)) }
+    ensures refused { IfErr result (λ _. (rs : List (ℕ × ℕ)) (rest : List ℕ) → Items true text.now rs rest → ⊥) }
+    ensures not_heavy { IsErrOf result EreFault.TooHeavy → ⊥ }
 {
     let mut set = ByteSet::new();
     let mut at = add_item(&mut set, text, true)?;
@@ -107,6 +63,9 @@ fn items(text: &[u8]) -> Result<(ByteSet, usize), EreFault>
 fn add_item(set: &mut ByteSet, text: &[u8], is_first: bool) -> Result<usize, EreFault>
     ensures first { IfOk result (λ taken. 1 ≤ taken) }
     ensures within { IfOk result (λ taken. taken ≤ length text.now) }
+    ensures item { IfOk result (λ taken. (rs : List (ℕ × ℕ)) × Item is_first text.now rs (drop taken text.now) × IsAdded set.old set.new rs) }
+    ensures refused { IfErr result (λ _. (rs : List (ℕ × ℕ)) (rest : List ℕ) → Item is_first text.now rs rest → ⊥) }
+    ensures not_heavy { IsErrOf result EreFault.TooHeavy → ⊥ }
 {
     if begins(text, b':') {
         return add_class(set, text);
@@ -124,14 +83,19 @@ fn add_item(set: &mut ByteSet, text: &[u8], is_first: bool) -> Result<usize, Ere
 
 /// Adds the class at the front of a text, and answers how many bytes it takes.
 fn add_class(set: &mut ByteSet, text: &[u8]) -> Result<usize, EreFault>
+    requires { begins text.now 58 ≡ true }
     ensures first { IfOk result (λ taken. 1 ≤ taken) }
     ensures within { IfOk result (λ taken. taken ≤ length text.now) }
+    ensures item { IfOk result (λ taken. (rs : List (ℕ × ℕ)) × IsClass text.now rs (drop taken text.now) × IsAdded set.old set.new rs) }
+    ensures refused { IfErr result (λ _. (rs : List (ℕ × ℕ)) (rest : List ℕ) → IsClass text.now rs rest → ⊥) }
+    ensures not_heavy { IsErrOf result EreFault.TooHeavy → ⊥ }
 {
-    let name = named(text, b':').ok_or(EreFault::UnclosedBracket)?;
-    for (low, high) in class(name)? {
+    let end = named_end(text, b':', 2).ok_or(EreFault::UnclosedBracket)?;
+    let ranges = class(&text[2..end])?;
+    for (low, high) in ranges {
         set.insert_range(*low, *high);
     }
-    Ok(name.len() + 4)
+    Ok(end + 2)
 }
 
 /// Whether a `-` stands at the front that isn't the last item.
@@ -145,6 +109,9 @@ fn begins_range(text: &[u8]) -> bool
 fn add_range(set: &mut ByteSet, text: &[u8]) -> Result<usize, EreFault>
     ensures first { IfOk result (λ taken. 1 ≤ taken) }
     ensures within { IfOk result (λ taken. taken ≤ length text.now) }
+    ensures points { IfOk result (λ taken. (rs : List (ℕ × ℕ)) × Points text.now rs (drop taken text.now) × IsAdded set.old set.new rs) }
+    ensures refused { IfErr result (λ _. (rs : List (ℕ × ℕ)) (rest : List ℕ) → Points text.now rs rest → ⊥) }
+    ensures not_heavy { IsErrOf result EreFault.TooHeavy → ⊥ }
 {
     let (low, low_length) = point(text)?;
     let behind = &text[low_length..];
@@ -165,6 +132,9 @@ fn add_range(set: &mut ByteSet, text: &[u8]) -> Result<usize, EreFault>
 fn point(text: &[u8]) -> Result<(u8, usize), EreFault>
     ensures first { IfOk result (λ found. 1 ≤ found.1) }
     ensures within { IfOk result (λ found. found.1 ≤ length text.now) }
+    ensures point { IfOk result (λ found. Point text.now found.0 (drop found.1 text.now)) }
+    ensures refused { IfErr result (λ _. (b : ℕ) (rest : List ℕ) → Point text.now b rest → ⊥) }
+    ensures not_heavy { IsErrOf result EreFault.TooHeavy → ⊥ }
 {
     let Some(&byte) = text.first() else {
         return Err(EreFault::UnclosedBracket);
@@ -186,31 +156,76 @@ fn point(text: &[u8]) -> Result<(u8, usize), EreFault>
 
 /// The one byte that `[. .]` or `[= =]` at the front names, and how many bytes the form takes.
 fn named_byte(text: &[u8], mark: u8) -> Result<(u8, usize), EreFault>
-    ensures first { IfOk result (λ found. 1 ≤ found.1) }
-    ensures within { IfOk result (λ found. found.1 ≤ length text.now) }
+    ensures length { IfOk result (λ found. (found.1 ≡ 5) × (5 ≤ length text.now)) }
+    ensures named { IfOk result (λ found. names text.now mark ≡ Some found.0) }
+    ensures refused { IfErr result (λ _. names text.now mark ≡ None) }
+    ensures not_heavy { IsErrOf result EreFault.TooHeavy → ⊥ }
 {
-    match named(text, mark) {
-        None => Err(EreFault::UnclosedBracket),
-        Some([byte]) => Ok((*byte, 5)),
-        Some(_) => Err(EreFault::UnknownClass),
+    if stands_at(text, 2, b'\n') {
+        return Err(EreFault::UnclosedBracket);
     }
+    if stands_at(text, 3, mark) && stands_at(text, 4, b']') {
+        return Ok((text[2], 5));
+    }
+    Err(match named_end(text, mark, 3) {
+        None => EreFault::UnclosedBracket,
+        Some(_) => EreFault::UnknownClass,
+    })
 }
 
-/// The ranges of a character class in the POSIX locale.
-fn class(name: &[u8]) -> Result<&'static [(u8, u8)], EreFault> {
-    match name {
-        b"upper" => Ok(&[(b'A', b'Z')]),
-        b"lower" => Ok(&[(b'a', b'z')]),
-        b"alpha" => Ok(&[(b'A', b'Z'), (b'a', b'z')]),
-        b"digit" => Ok(&[(b'0', b'9')]),
-        b"alnum" => Ok(&[(b'0', b'9'), (b'A', b'Z'), (b'a', b'z')]),
-        b"xdigit" => Ok(&[(b'0', b'9'), (b'A', b'F'), (b'a', b'f')]),
-        b"blank" => Ok(&[(b'\t', b'\t'), (b' ', b' ')]),
-        b"space" => Ok(&[(9, 13), (b' ', b' ')]),
-        b"cntrl" => Ok(&[(0, 31), (127, 127)]),
-        b"graph" => Ok(&[(33, 126)]),
-        b"print" => Ok(&[(32, 126)]),
-        b"punct" => Ok(&[(33, 47), (58, 64), (91, 96), (123, 126)]),
-        _ => Err(EreFault::UnknownClass),
+/// Where the mark stands that ends a named form together with `]`, from an index on; `None` where the line
+/// ends first.
+fn named_end(text: &[u8], mark: u8, from: usize) -> Option<usize>
+    ensures within { IfSome result (λ end. (from ≤ end) × (end + 2 ≤ length text.now)) }
+    ensures ends { IfSome result (λ end. drop end text.now ≡ mark ∷ 93 ∷ drop (end + 2) text.now) }
+    ensures first { IfSome result (λ end. (name rest : List ℕ) → IsNamed mark (drop from text.now) name rest → end ≡ from + length name) }
+    ensures none { IfNone result ((name rest : List ℕ) → IsNamed mark (drop from text.now) name rest → ⊥) }
+{
+    for at in from..text.len() {
+        if text[at] == b'\n' {
+            return None;
+        }
+        if text[at] == mark && stands_at(text, at + 1, b']') {
+            return Some(at);
+        }
     }
+    None
+}
+
+/// The character classes of the POSIX locale, by name, and the ranges of each.
+static CLASSES: [(&[u8], &[(u8, u8)]); 12] = [
+    (b"upper", &[(b'A', b'Z')]),
+    (b"lower", &[(b'a', b'z')]),
+    (b"alpha", &[(b'A', b'Z'), (b'a', b'z')]),
+    (b"digit", &[(b'0', b'9')]),
+    (b"alnum", &[(b'0', b'9'), (b'A', b'Z'), (b'a', b'z')]),
+    (b"xdigit", &[(b'0', b'9'), (b'A', b'F'), (b'a', b'f')]),
+    (b"blank", &[(b'\t', b'\t'), (b' ', b' ')]),
+    (b"space", &[(9, 13), (b' ', b' ')]),
+    (b"cntrl", &[(0, 31), (127, 127)]),
+    (b"graph", &[(33, 126)]),
+    (b"print", &[(32, 126)]),
+    (b"punct", &[(33, 47), (58, 64), (91, 96), (123, 126)]),
+];
+
+/// The ranges of a character class.
+fn class(name: &[u8]) -> Result<&'static [(u8, u8)], EreFault>
+    ensures ok { IfOk result (λ ranges. class_of name.now ≡ Some ranges.now) }
+    ensures refused { IfErr result (λ _. class_of name.now ≡ None) }
+    ensures not_heavy { IsErrOf result EreFault.TooHeavy → ⊥ }
+{
+    ranges_in(&CLASSES, name).ok_or(EreFault::UnknownClass)
+}
+
+/// The ranges beside a name in a table.
+fn ranges_in<'a>(table: &[(&[u8], &'a [(u8, u8)])], name: &[u8]) -> Option<&'a [(u8, u8)]>
+    ensures some { IfSome result (λ ranges. found_in (as_classes table.now) name.now ≡ Some ranges.now) }
+    ensures none { IfNone result (found_in (as_classes table.now) name.now ≡ None) }
+{
+    for (known, ranges) in table {
+        if *known == name {
+            return Some(ranges);
+        }
+    }
+    None
 }

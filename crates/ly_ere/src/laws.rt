@@ -1,5 +1,5 @@
 ghost use Rattle.ly_ere.specs.Names.{NameIsDefinition};
-ghost use Rattle.ly_ere.specs.Laws.{PhraseIsOne, WinnerIsOne, SplitIsOne};
+ghost use Rattle.ly_ere.specs.Laws.{PatternIsOne, PhraseIsOne, WinnerIsOne, SplitIsOne};
 
 /// The rule and the length of a winner are determined.
 pub fn winner_is_one()
@@ -19,4 +19,9 @@ pub fn name_is_definition()
 /// Words are at most one expression.
 pub fn phrase_is_one()
     ensures { PhraseIsOne }
+{}
+
+/// A text is at most one pattern.
+pub fn pattern_is_one()
+    ensures { PatternIsOne }
 {}

@@ -1,4 +1,4 @@
-ghost use Rattle.std.specs.Prelude.{◌≡◌, ◌≢◌, ℕ, ◌<◌, ◌≤◌, length, Some, None, IfOk, IfErr};
+ghost use Rattle.std.specs.Prelude.{◌≡◌, ◌≢◌, ℕ, ◌<◌, ◌≤◌, length, Some, None, IfOk, IfErr, IsErrOf};
 ghost use Rattle.std.specs.Option.{ForSome};
 ghost use Rattle.ly_ere.specs.Arena.{part_of};
 ghost use Rattle.ly_ere.specs.Groups.{new_group, open_branch, with_atom, with_postfix, with_bar, whole};
@@ -56,6 +56,7 @@ impl Level {
         ensures operator { IfOk result (λ l. with_postfix (group_of arena.old self) (operated postfix) ≡ Some (group_of arena.new l)) }
         ensures refused { IfErr result (λ e. e ≢ OutOfMemory → with_postfix (group_of arena.old self) (operated postfix) ≡ None) }
         ensures grown { Grows arena.old arena.new }
+        ensures not_heavy { IsErrOf result EreFault.TooHeavy → ⊥ }
     {
         let piece = self.piece.ok_or(EreFault::StrayOperator)?;
         let over = arena.push(postfix.over(piece))?;
@@ -73,6 +74,7 @@ impl Level {
         ensures bar { IfOk result (λ l. with_bar (group_of arena.old self) ≡ Some (group_of arena.new l)) }
         ensures refused { IfErr result (λ e. e ≢ OutOfMemory → with_bar (group_of arena.old self) ≡ None) }
         ensures grown { Grows arena.old arena.new }
+        ensures not_heavy { IsErrOf result EreFault.TooHeavy → ⊥ }
     {
         let whole = self.whole(arena)?;
         Ok(Level {
@@ -89,6 +91,7 @@ impl Level {
         ensures whole { IfOk result (λ n. whole (group_of arena.old self) ≡ Some (part_of arena.new n)) }
         ensures refused { IfErr result (λ e. e ≢ OutOfMemory → whole (group_of arena.old self) ≡ None) }
         ensures grown { Grows arena.old arena.new }
+        ensures not_heavy { IsErrOf result EreFault.TooHeavy → ⊥ }
     {
         let branch = self.open_branch(arena)?.ok_or(EreFault::Empty)?;
         match self.either {

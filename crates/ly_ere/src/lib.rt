@@ -20,7 +20,7 @@ mod weight;
 pub use arena::Arena;
 pub use extent::pattern_length;
 pub use fault::EreFault;
-pub use laws::{name_is_definition, phrase_is_one, split_is_one, winner_is_one};
+pub use laws::{name_is_definition, pattern_is_one, phrase_is_one, split_is_one, winner_is_one};
 pub use names::Names;
 pub use node::Node;
 pub use pattern::{Pattern, Rule};

@@ -1,4 +1,4 @@
-ghost use Rattle.std.specs.Prelude.{◌≡◌, ◌↔◌, ℕ, List, ◌<◌, ◌≤◌, drop, length, slice_get, Some, IfErr, IfOk, IfSome};
+ghost use Rattle.std.specs.Prelude.{◌≡◌, ◌↔◌, ℕ, List, ◌<◌, ◌≤◌, drop, length, slice_get, Some, IfErr, IfOk, IfSome, IsErrOf};
 ghost use Rattle.std.specs.Option.{IfNone};
 ghost use Rattle.ly_ere.specs.Words.{IsMore, Quoted};
 
@@ -34,6 +34,7 @@ pub(crate) fn quoted_byte(text: &[u8]) -> Result<Option<(u8, usize)>, EreFault>
     ensures within { IfOk result (λ found. IfSome found (λ part. part.1 ≤ length text.now)) }
     ensures byte { IfOk result (λ found. IfSome found (λ part. (bs rest : List ℕ) → Quoted text.now bs rest ↔ IsMore part.0 (drop part.1 text.now) bs rest)) }
     ensures refused { IfErr result (λ _. (bs rest : List ℕ) → Quoted text.now bs rest → ⊥) }
+    ensures not_heavy { IsErrOf result EreFault.TooHeavy → ⊥ }
 {
     let Some(&byte) = text.first() else {
         return Err(EreFault::UnclosedQuote);

@@ -1,14 +1,13 @@
-ghost use Rattle.ly_base.specs.declared.cut.Cut.TheVariants.{Whole};
-ghost use Rattle.std.specs.Prelude.{false, [], ◌∷◌, ◌≡◌, ◌≢◌, ℕ, List, ◌<◌, ◌≤◌, Some, None, length, IfOk, IfErr, OnOk};
+ghost use Rattle.std.specs.Prelude.{[], ◌∷◌, ◌≡◌, ◌≢◌, ℕ, List, ◌<◌, ◌≤◌, Some, None, length, IfOk, IfErr, OnOk, IsErrOf};
 ghost use Rattle.ly_base.specs.Limits.{pattern_weight_of};
 ghost use Rattle.ly_ere.specs.Arena.{part_of};
 ghost use Rattle.ly_ere.specs.Expression.{Expression, set};
 ghost use Rattle.ly_ere.specs.Grammar.{in_order};
 ghost use Rattle.ly_ere.specs.Groups.{closed, step, whole};
 ghost use Rattle.ly_ere.specs.Levels.{AreWithin, Grows, IsWithin, group_of, groups_of, reading_of};
-ghost use Rattle.ly_ere.specs.Patterns.{HasNoBracket, IsExpression, IsPattern};
+ghost use Rattle.ly_ere.specs.Patterns.{IsExpression, IsPattern};
 ghost use Rattle.ly_ere.specs.Symbols.{IsWellFormed, IsWord};
-ghost use Rattle.ly_ere.specs.Weight.{weight_of};
+ghost use Rattle.ly_ere.specs.Weight.{weight_of_both};
 ghost use Rattle.ly_ere.specs.Words.{Quoted, Word};
 ghost use Rattle.ly_ere.specs.declared.fault.EreFault.TheVariants.{OutOfMemory};
 ghost use Rattle.ly_ere.specs.declared.pattern.Pattern.{Pattern};
@@ -33,11 +32,11 @@ pub fn read_pattern(
     names: &Names,
     limits: &Limits,
 ) -> Result<Pattern, EreFault>
-    ensures plain { IfOk result (λ p. HasNoBracket text.now → IsPattern names.now text.now p) }
-    ensures shape { IfOk result (λ p. (p.line_start ≡ false) × (p.tail ≡ None) × (p.cut ≡ Whole)) }
-    ensures light { IfOk result (λ p. weight_of names.now p.head ≤ pattern_weight_of limits.now) }
-    ensures plain_refused { IfErr result (λ e. e ≢ OutOfMemory → HasNoBracket text.now
-        → (p : Pattern) → IsPattern names.now text.now p → weight_of names.now p.head ≤ pattern_weight_of limits.now → ⊥) }
+    ensures ok { IfOk result (λ p. IsPattern names.now text.now p) }
+    ensures light { IfOk result (λ p. weight_of_both names.now p.head p.tail ≤ pattern_weight_of limits.now) }
+    ensures heavy { IsErrOf result EreFault.TooHeavy → (p : Pattern) × IsPattern names.now text.now p
+        × (pattern_weight_of limits.now < weight_of_both names.now p.head p.tail) }
+    ensures refused { IfErr result (λ e. e ≢ OutOfMemory → (p : Pattern) → IsPattern names.now text.now p → weight_of_both names.now p.head p.tail ≤ pattern_weight_of limits.now → ⊥) }
 {
     let head = read_expression(alloc, text)?;
     let Some(_) = weigh(alloc, &head, names, limits.pattern_weight())? else {
@@ -53,9 +52,9 @@ pub fn read_pattern(
 
 /// Reads an expression, whose text is all of `text`. Open groups stand on a stack of the reader's own.
 fn read_expression(alloc: Global, text: &[u8]) -> Result<Re, EreFault>
-    ensures plain { IfOk result (λ re. HasNoBracket text.now → IsExpression text.now re) }
-    ensures only { IfOk result (λ re. HasNoBracket text.now → (other : Expression) → IsExpression text.now other → other ≡ re) }
-    ensures plain_refused { IfErr result (λ e. e ≢ OutOfMemory → HasNoBracket text.now → (re : Expression) → IsExpression text.now re → ⊥) }
+    ensures ok { IfOk result (λ re. IsExpression text.now re) }
+    ensures refused { IfErr result (λ e. e ≢ OutOfMemory → (re : Expression) → IsExpression text.now re → ⊥) }
+    ensures not_heavy { IsErrOf result EreFault.TooHeavy → ⊥ }
 {
     let mut arena = Arena::new(alloc);
     let mut outer = Vec::new(alloc);
@@ -87,6 +86,7 @@ fn with_symbol(
     ensures outer_parts { OnOk result (AreWithin (length arena.new) outer.new.items) }
     ensures step { IfOk result (λ l. (w : Word) × IsWord symbol.entry w × (step w (reading_of arena.old outer.old.items level) ≡ Some (reading_of arena.new outer.new.items l))) }
     ensures refused { IfErr result (λ e. e ≢ OutOfMemory → (w : Word) → IsWord symbol.entry w → step w (reading_of arena.old outer.old.items level) ≡ None) }
+    ensures not_heavy { IsErrOf result EreFault.TooHeavy → ⊥ }
 {
     match symbol {
         Symbol::Set(set) => {
@@ -115,6 +115,7 @@ fn close(arena: &mut Arena, outer: &mut Vec<Level>, level: Level) -> Result<Leve
     ensures outer_parts { OnOk result (AreWithin (length arena.new) outer.new.items) }
     ensures closed { IfOk result (λ l. closed (groups_of arena.old outer.old.items) (whole (group_of arena.old level)) ≡ Some (reading_of arena.new outer.new.items l)) }
     ensures refused { IfErr result (λ e. e ≢ OutOfMemory → closed (groups_of arena.old outer.old.items) (whole (group_of arena.old level)) ≡ None) }
+    ensures not_heavy { IsErrOf result EreFault.TooHeavy → ⊥ }
 {
     let Some(around) = outer.pop() else {
         return Err(EreFault::StrayOperator);
@@ -129,6 +130,7 @@ fn push_string(arena: &mut Arena, behind: &[u8]) -> Result<usize, EreFault>
     ensures grown { Grows arena.old arena.new }
     ensures string { IfOk result (λ n. (bs : List ℕ) × (rest : List ℕ) × Quoted behind.now bs rest × (part_of arena.new n ≡ in_order bs)) }
     ensures refused { IfErr result (λ e. e ≢ OutOfMemory → (bs rest : List ℕ) → Quoted behind.now bs rest → ⊥) }
+    ensures not_heavy { IsErrOf result EreFault.TooHeavy → ⊥ }
 {
     let Some((byte, mut at)) = quoted_byte(behind)? else {
         return Ok(arena.push(Node::Empty)?);

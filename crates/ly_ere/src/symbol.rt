@@ -1,9 +1,9 @@
-ghost use Rattle.std.specs.Prelude.{◌≡◌, ◌↔◌, ℕ, List, drop, IfErr, ◌<◌, ◌≤◌, ◌≢◌, [], length, slice_index, not, nat_eq, IfOk};
-ghost use Rattle.ly_ere.specs.Symbols.{IsWellFormed, IsWord, word_of};
+ghost use Rattle.std.specs.Prelude.{◌≡◌, ◌↔◌, ℕ, List, drop, IfErr, ◌<◌, ◌≤◌, ◌≢◌, [], length, slice_index, not, nat_eq, IfOk, IsErrOf};
+ghost use Rattle.ly_ere.specs.Symbols.{IsWellFormed, IsWord};
 ghost use Rattle.ly_ere.specs.Words.{Spells, Word};
 ghost use Rattle.ly_base.specs.ByteSet.{bytes_where, members};
 
-use crate::bracket::{bracket, bracket_length};
+use crate::bracket::bracket;
 use crate::fault::EreFault;
 use crate::node::Node;
 use crate::quoted::quoted_length;
@@ -60,8 +60,9 @@ pub(crate) fn next_symbol(text: &[u8]) -> Result<(Symbol<'_>, usize), EreFault>
     ensures first { IfOk result (λ found. 1 ≤ found.1) }
     ensures within { IfOk result (λ found. found.1 ≤ length text.entry.now) }
     ensures formed { IfOk result (λ found. IsWellFormed found.0) }
-    ensures word { IfOk result (λ found. slice_index text.entry.now 0 ≢ 91 → (w : Word) (rest : List ℕ) → Spells text.entry.now w rest ↔ (IsWord found.0 w × (rest ≡ drop found.1 text.entry.now))) }
-    ensures refused { IfErr result (λ _. slice_index text.entry.now 0 ≢ 91 → (w : Word) (rest : List ℕ) → Spells text.entry.now w rest → ⊥) }
+    ensures word { IfOk result (λ found. (w : Word) (rest : List ℕ) → Spells text.entry.now w rest ↔ (IsWord found.0 w × (rest ≡ drop found.1 text.entry.now))) }
+    ensures refused { IfErr result (λ _. (w : Word) (rest : List ℕ) → Spells text.entry.now w rest → ⊥) }
+    ensures not_heavy { IsErrOf result EreFault.TooHeavy → ⊥ }
 {
     match text[0] {
         b'(' => Ok((Symbol::Open, 1)),
@@ -94,6 +95,7 @@ fn string(text: &[u8]) -> Result<(Symbol<'_>, usize), EreFault>
     ensures formed { IfOk result (λ found. IsWellFormed found.0) }
     ensures word { IfOk result (λ found. (w : Word) (rest : List ℕ) → Spells text.entry.now w rest ↔ (IsWord found.0 w × (rest ≡ drop found.1 text.entry.now))) }
     ensures refused { IfErr result (λ _. (w : Word) (rest : List ℕ) → Spells text.entry.now w rest → ⊥) }
+    ensures not_heavy { IsErrOf result EreFault.TooHeavy → ⊥ }
 {
     let length = quoted_length(text).ok_or(EreFault::UnclosedQuote)?;
     Ok((Symbol::Text(&text[1..]), length))
@@ -106,8 +108,10 @@ fn list(text: &[u8]) -> Result<(Symbol<'_>, usize), EreFault>
     ensures first { IfOk result (λ found. 1 ≤ found.1) }
     ensures within { IfOk result (λ found. found.1 ≤ length text.entry.now) }
     ensures formed { IfOk result (λ found. IsWellFormed found.0) }
+    ensures word { IfOk result (λ found. (w : Word) (rest : List ℕ) → Spells text.entry.now w rest ↔ (IsWord found.0 w × (rest ≡ drop found.1 text.entry.now))) }
+    ensures refused { IfErr result (λ _. (w : Word) (rest : List ℕ) → Spells text.entry.now w rest → ⊥) }
+    ensures not_heavy { IsErrOf result EreFault.TooHeavy → ⊥ }
 {
-    bracket_length(text).ok_or(EreFault::UnclosedBracket)?;
     let (set, length) = bracket(text)?;
     Ok((Symbol::Set(set), length))
 }
@@ -121,6 +125,7 @@ fn escaped(text: &[u8]) -> Result<(Symbol<'_>, usize), EreFault>
     ensures formed { IfOk result (λ found. IsWellFormed found.0) }
     ensures word { IfOk result (λ found. (w : Word) (rest : List ℕ) → Spells text.entry.now w rest ↔ (IsWord found.0 w × (rest ≡ drop found.1 text.entry.now))) }
     ensures refused { IfErr result (λ _. (w : Word) (rest : List ℕ) → Spells text.entry.now w rest → ⊥) }
+    ensures not_heavy { IsErrOf result EreFault.TooHeavy → ⊥ }
 {
     let (byte, length) = escape(text)?;
     Ok((Symbol::Set(ByteSet::of(byte)), length))
@@ -135,7 +140,9 @@ fn all_but_newline() -> ByteSet
 }
 
 /// What `{` is refused for, by the byte after it: a name that isn't defined, or no interval.
-fn brace_fault(next: Option<u8>) -> EreFault {
+fn brace_fault(next: Option<u8>) -> EreFault
+    ensures { result ≢ EreFault.TooHeavy }
+{
     match next {
         Some(b'a'..=b'z' | b'A'..=b'Z' | b'_') => EreFault::UnknownName,
         _ => EreFault::BadInterval,

@@ -1,9 +1,10 @@
 pub mod ActionLemmas
 pub mod DefinitionLemmas
+pub mod FileLemmas
 pub mod FrontLemmas
 pub mod GapLemmas
 pub mod LexingLaws
 pub mod LineLemmas
 pub mod LiteralLemmas
+pub mod RuleLemmas
 pub mod WordLemmas
-pub mod PlainLemmas

@@ -3,7 +3,8 @@ pub mod Definitions
 pub mod FaultNumber
 pub mod Gap
 pub mod Laws
+pub mod LexText
 pub mod Lexing
 pub mod Lines
+pub mod Rules
 pub mod Words
-pub mod Plain

@@ -1,7 +1,14 @@
-ghost use Rattle.std.specs.Prelude.{◌≡◌, [], ℕ, List, IfOk, OnErr, OnOk};
-ghost use Rattle.ly_lexread.specs.Definitions.{Definitions};
-ghost use Rattle.ly_lexread.specs.Plain.{ArePlain, IsPlain};
-ghost use Rattle.ly_lexread.specs.Lines.{lines_left, lines_of};
+ghost use Rattle.std.specs.Prelude.{Err, ◌≡◌, ◌≢◌, ◌∷◌, [], ℕ, List, IfErr, IfOk, OnErr, OnOk};
+ghost use Rattle.ly_base.specs.Limits.{pattern_weight_of};
+ghost use Rattle.ly_ere.specs.declared.fault.EreFault.TheVariants as ere;
+ghost use Rattle.ly_ere.specs.declared.pattern.Rule.{Rule};
+ghost use Rattle.ly_lexread.specs.Definitions.{Definitions, IsMark, IsUnused};
+ghost use Rattle.ly_lexread.specs.LexText.{IsHeavyText, LexText};
+ghost use Rattle.ly_lexread.specs.Rules.{AreLight, HasHeavyLine, IsHeavyLine, IsRuleLine, Rules};
+ghost use Rattle.ly_lexread.specs.Lines.{lines_left};
+ghost use Rattle.ly_lexread.specs.declared.action.Action.{Action};
+ghost use Rattle.ly_lexread.specs.declared.fault.LexFault.TheVariants.{OutOfMemory};
+ghost use Rattle.ly_lexread.specs.declared.file.LexFile.{LexFile};
 
 use crate::action::{Action, read_action};
 use crate::fault::LexFault;
@@ -19,10 +26,10 @@ use std::alloc::Global;
 /// another line of the definitions and for a `%{` line; `UnknownCondition` for a rule that begins with
 /// `<`; `Pattern` and `BadAction` for the parts of a rule; `OutOfMemory` where a growth was refused.
 pub fn read_lex(alloc: Global, bytes: &[u8], limits: &Limits) -> Result<LexFile, LexFault>
-    ensures defined { OnOk result ((behind : List (List ℕ)) × Definitions (lines_of bytes.now) behind) }
-    ensures no_names { IfOk result (λ file. file.names ≡ []) }
-    ensures plain { IfOk result (λ file. ArePlain file.rules.items) }
-    ensures one_condition { IfOk result (λ file. file.conditions ≡ 1) }
+    ensures ok { IfOk result (λ file. LexText bytes.now file) }
+    ensures light { IfOk result (λ file. AreLight (pattern_weight_of limits.now) [] file.rules.items) }
+    ensures heavy { (line : ℕ) → result ≡ Err (LexFault.Pattern line ere.TooHeavy) → IsHeavyText (pattern_weight_of limits.now) bytes.now }
+    ensures refused { IfErr result (λ fault. fault ≢ OutOfMemory → (file : LexFile) → LexText bytes.now file → AreLight (pattern_weight_of limits.now) [] file.rules.items → ⊥) }
 {
     let mut lines = Lines::of(bytes);
     skip_definitions(&mut lines)?;
@@ -39,6 +46,7 @@ pub fn read_lex(alloc: Global, bytes: &[u8], limits: &Limits) -> Result<LexFile,
 /// Takes the lines of the definitions, and the one that begins the rules.
 fn skip_definitions(lines: &mut Lines<'_>) -> Result<(), LexFault>
     ensures ok { OnOk result (Definitions (lines_left lines.old) (lines_left lines.new)) }
+    ensures no_pattern { (line : ℕ) → result ≡ Err (LexFault.Pattern line ere.TooHeavy) → ⊥ }
     ensures refused { OnErr result ((behind : List (List ℕ)) → Definitions (lines_left lines.old) behind → ⊥) }
 {
     while let Some(line) = lines.take() {
@@ -61,7 +69,10 @@ fn read_rules(
     names: &Names,
     limits: &Limits,
 ) -> Result<(Vec<Rule>, Vec<Action>), LexFault>
-    ensures { IfOk result (λ both. ArePlain both.0.items) }
+    ensures ok { IfOk result (λ read. Rules names.now (lines_left lines.entry) read.0.items read.1.items) }
+    ensures light { IfOk result (λ read. AreLight (pattern_weight_of limits.now) names.now read.0.items) }
+    ensures heavy { (line : ℕ) → result ≡ Err (LexFault.Pattern line ere.TooHeavy) → HasHeavyLine (pattern_weight_of limits.now) names.now (lines_left lines.entry) }
+    ensures refused { IfErr result (λ fault. fault ≢ OutOfMemory → (rules : List Rule) (actions : List Action) → Rules names.now (lines_left lines.entry) rules actions → AreLight (pattern_weight_of limits.now) names.now rules → ⊥) }
 {
     let mut rules = Vec::new(alloc);
     let mut actions = Vec::new(alloc);
@@ -86,7 +97,12 @@ fn read_rule(
     names: &Names,
     limits: &Limits,
 ) -> Result<(Rule, Action), LexFault>
-    ensures { IfOk result (λ both. IsPlain both.0) }
+    requires no_mark { IsMark line.bytes.now → ⊥ }
+    requires is_used { IsUnused line.bytes.now → ⊥ }
+    ensures ok { IfOk result (λ read. IsRuleLine names.now line.entry.bytes.now read.0 read.1) }
+    ensures light { IfOk result (λ read. AreLight (pattern_weight_of limits.now) names.now (read.0 ∷ [])) }
+    ensures heavy { (number : ℕ) → result ≡ Err (LexFault.Pattern number ere.TooHeavy) → IsHeavyLine (pattern_weight_of limits.now) names.now line.entry.bytes.now }
+    ensures refused { IfErr result (λ fault. fault ≢ OutOfMemory → (rule : Rule) (action : Action) → IsRuleLine names.now line.entry.bytes.now rule action → AreLight (pattern_weight_of limits.now) names.now (rule ∷ []) → ⊥) }
 {
     if line.begins_with(b"%{") {
         return Err(LexFault::BadDefinition { line: line.number });
@@ -107,7 +123,10 @@ fn read_rule(
 }
 
 /// The fault of a file whose pattern on this line is refused.
-fn pattern_fault(line: u64, inner: EreFault) -> LexFault {
+fn pattern_fault(line: u64, inner: EreFault) -> LexFault
+    ensures memory { inner ≡ ere.OutOfMemory → result ≡ OutOfMemory }
+    ensures heavy { (number : ℕ) → result ≡ LexFault.Pattern number ere.TooHeavy → inner ≡ ere.TooHeavy }
+{
     match inner {
         EreFault::OutOfMemory => LexFault::OutOfMemory,
         inner => LexFault::Pattern { line, inner },

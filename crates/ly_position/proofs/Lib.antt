@@ -1,7 +1,6 @@
 pub mod CodeLaws
 pub mod CodePlaces
 pub mod CompileLemmas
-pub mod ExpressionLemmas
 pub mod FollowLemmas
 pub mod JoinedLemmas
 pub mod ListsLemmas

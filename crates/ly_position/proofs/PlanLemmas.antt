@@ -12,7 +12,7 @@ use Rattle.ly_ere.specs.Winner.{InTail}
 use Rattle.ly_ere.specs.declared.pattern.Rule.{Rule}
 use Rattle.ly_position.specs.Plain.{PartMatches, IsPart, InTurn, Same, Makes}
 use Rattle.ly_position.specs.Plan.{ListedMatches, NodeMatches, InTailUnder, Spelled, SpelledUnder}
-use Rattle.ly_position.proofs.ExpressionLemmas.{expression_at}
+use Rattle.ly_ere.proofs.ExpressionLemmas.{expression_at}
 use Rattle.ly_position.proofs.JoinedLemmas.{in_turn_same, or_same, joined_same}
 use Rattle.ly_position.proofs.PlainLemmas.{makes_trans, part_grown, within_grown, same, same_trans}
 

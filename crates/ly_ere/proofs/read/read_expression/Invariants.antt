@@ -1,7 +1,6 @@
 use Rattle.std.proofs.Common.{length}
 use Rattle.ly_ere.specs.Levels.{AreWithin, IsWithin, reading_of}
-use Rattle.ly_ere.specs.Patterns.{HasNoBracket}
-use Rattle.ly_ere.proofs.ReadLemmas.{IsPlainRead}
+use Rattle.ly_ere.proofs.ReadLemmas.{IsRead}
 use Rattle.ly_ere.proofs.read.read_expression.Given as goal
 
 -- the words so far make what is held
@@ -9,7 +8,7 @@ abbrev pub invariant-loop-rest : goal.invariant-loop-rest
 invariant-loop-rest l = record {
   parts : IsWithin (length l.arena) l.level;
   outer_parts : AreWithin (length l.arena) l.outer.items;
-  read : HasNoBracket l.text → IsPlainRead l.text l.rest (reading_of l.arena l.outer.items l.level);
+  read : IsRead l.text l.rest (reading_of l.arena l.outer.items l.level);
 }
 
 abbrev pub decreases-loop-rest : goal.decreases-loop-rest

@@ -1,7 +1,7 @@
 use Rattle.std.proofs.Common.{[], get_or}
 use Rattle.std.proofs.lemmas.List.{get_or_default}
 use Rattle.ly_ere.specs.declared.node.Node.TheVariants.{Set}
-use Rattle.ly_position.proofs.ExpressionLemmas.{expression_at}
+use Rattle.ly_ere.proofs.ExpressionLemmas.{expression_at}
 use Rattle.ly_trials.proofs.belongs.node_at.Goals as goal
 
 pub returns-clause-is : goal.returns-clause-is

@@ -2,7 +2,7 @@ use Rattle.std.proofs.Common.{◌≡◌, ◌<◌, [], length, get_or, subst, ap,
 use Rattle.std.proofs.lemmas.List.{get_or_default}
 use Rattle.ly_ere.specs.Arena.{expression_of, part_of}
 use Rattle.ly_ere.specs.declared.node.Node.TheVariants.{Set}
-use Rattle.ly_position.proofs.ExpressionLemmas.{expression_at}
+use Rattle.ly_ere.proofs.ExpressionLemmas.{expression_at}
 use Rattle.ly_position.proofs.plain.Plain.node.Goals as goal
 
 pub returns-clause-is : goal.returns-clause-is

@@ -1,0 +1,5 @@
+use Rattle.ly_ere.proofs.WordLemmas.{pattern_one}
+use Rattle.ly_ere.proofs.laws.pattern_is_one.Goals as goal
+
+pub returns : goal.returns
+returns c = pattern_one

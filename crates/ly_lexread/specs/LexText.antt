@@ -1,0 +1,42 @@
+-- What a lex file says (POSIX, XCU lex).
+use Rattle.std.specs.Prelude.{◌≡◌, ℕ, List, [], ◌∷◌}
+use Rattle.ly_ere.specs.declared.pattern.Rule.{Rule}
+use Rattle.ly_lexread.specs.declared.action.Action.{Action}
+use Rattle.ly_lexread.specs.declared.file.LexFile.{LexFile}
+use Rattle.ly_lexread.specs.Action.{meaning_of}
+use Rattle.ly_lexread.specs.Definitions.{Definitions}
+use Rattle.ly_lexread.specs.Lines.{lines_of}
+use Rattle.ly_lexread.specs.Rules.{HasHeavyLine, Rules}
+
+-- the bytes of a lex file say this
+pub record LexText (bytes : List ℕ) (file : LexFile) : Type 0 where
+  pub behind : List (List ℕ)
+  pub definitions : Definitions (lines_of bytes) behind
+  pub rules : Rules [] behind file.rules.items file.actions.items
+  pub no_names : file.names ≡ []
+  pub one_condition : file.conditions ≡ 1
+
+-- of a file whose definitions have their form, a rule's pattern weighs more than this
+abbrev pub IsHeavyText : ℕ → List ℕ → Type 0
+IsHeavyText most bytes = (behind : List (List ℕ)) × Definitions (lines_of bytes) behind × HasHeavyLine most [] behind
+
+-- rules and actions that say the same, whatever room their lists have
+abbrev pub AreSameRules : List Rule → List Rule → Type 0
+AreSameRules [] [] = Unit {0}
+AreSameRules (r ∷ rs) (s ∷ ss) = (r.pattern ≡ s.pattern) × (r.active.items ≡ s.active.items) × AreSameRules rs ss
+AreSameRules _ _ = ⊥
+
+abbrev pub AreSameActions : List Action → List Action → Type 0
+AreSameActions [] [] = Unit {0}
+AreSameActions (a ∷ as') (b ∷ bs) = (a.begin ≡ b.begin) × (meaning_of a.returns ≡ meaning_of b.returns) × AreSameActions as' bs
+AreSameActions _ _ = ⊥
+
+pub record AreSame (f g : LexFile) : Type 0 where
+  pub names : f.names ≡ g.names
+  pub rules : AreSameRules f.rules.items g.rules.items
+  pub actions : AreSameActions f.actions.items g.actions.items
+  pub conditions : f.conditions ≡ g.conditions
+
+-- a text says one thing
+abbrev pub LexTextIsOne : Type 0
+LexTextIsOne = (bytes : List ℕ) (f g : LexFile) → LexText bytes f → LexText bytes g → AreSame f g

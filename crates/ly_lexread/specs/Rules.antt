@@ -1,0 +1,53 @@
+-- The rules of a lex file.
+use Rattle.std.specs.Prelude.{◌≡◌, ◌<◌, ◌≤◌, ◌⊎◌, ℕ, List, [], ◌∷◌, ◌++◌, codes}
+use Rattle.ly_ere.specs.Expression.{Expression}
+use Rattle.ly_ere.specs.Extent.{IsBehind}
+use Rattle.ly_ere.specs.Patterns.{IsPattern}
+use Rattle.ly_ere.specs.Weight.{weight_of_both}
+use Rattle.ly_ere.specs.declared.pattern.Pattern.{Pattern}
+use Rattle.ly_ere.specs.declared.pattern.Rule.{Rule}
+use Rattle.ly_lexread.specs.declared.action.Action.{Action}
+use Rattle.ly_lexread.specs.Action.{IsAction}
+use Rattle.ly_lexread.specs.Definitions.{BeginsWith, IsMark, IsUnused}
+
+-- A line of the rules: a pattern, which is active in condition 0 alone, and behind it nothing, or a blank and
+-- an action.
+pub record IsRuleLine (names : List Expression) (line : List ℕ) (rule : Rule) (action : Action) : Type 0 where
+  pub no_mark : IsMark line → ⊥
+  pub no_block : BeginsWith line (codes "%{") → ⊥
+  pub no_conditions : BeginsWith line (codes "<") → ⊥
+  pub is_used : IsUnused line → ⊥
+  pub text : List ℕ
+  pub behind : List ℕ
+  pub together : line ≡ text ++ behind
+  pub parted : IsBehind behind
+  pub is_pattern : IsPattern names text rule.pattern
+  pub is_active : rule.active.items ≡ 0 ∷ []
+  pub is_action : IsAction behind action
+
+-- the rules and their actions, up to a mark or the end
+pub data Rules (names : List Expression) : List (List ℕ) → List Rule → List Action → Type 0 where
+  end : Rules names [] [] []
+  mark : (line : List ℕ) (lines : List (List ℕ)) → IsMark line → Rules names (line ∷ lines) [] []
+  unused : (line : List ℕ) (lines : List (List ℕ)) (rules : List Rule) (actions : List Action) → IsUnused line → Rules names lines rules actions → Rules names (line ∷ lines) rules actions
+  rule : (line : List ℕ) (lines : List (List ℕ)) (r : Rule) (a : Action) (rules : List Rule) (actions : List Action) → IsRuleLine names line r a → Rules names lines rules actions → Rules names (line ∷ lines) (r ∷ rules) (a ∷ actions)
+
+-- each pattern weighs at most this
+abbrev pub AreLight : ℕ → List Expression → List Rule → Type 0
+AreLight most names [] = Unit {0}
+AreLight most names (r ∷ rules) = (weight_of_both names r.pattern.head r.pattern.tail ≤ most) × AreLight most names rules
+
+-- A line begins with a pattern that weighs more than this.
+pub record IsHeavyLine (most : ℕ) (names : List Expression) (line : List ℕ) : Type 0 where
+  pub text : List ℕ
+  pub behind : List ℕ
+  pub together : line ≡ text ++ behind
+  pub parted : IsBehind behind
+  pub pattern : Pattern
+  pub is_pattern : IsPattern names text pattern
+  pub is_heavy : most < weight_of_both names pattern.head pattern.tail
+
+-- one of the lines does
+abbrev pub HasHeavyLine : ℕ → List Expression → List (List ℕ) → Type 0
+HasHeavyLine most names [] = ⊥
+HasHeavyLine most names (line ∷ lines) = IsHeavyLine most names line ⊎ HasHeavyLine most names lines
