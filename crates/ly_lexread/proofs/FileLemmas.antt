@@ -32,7 +32,7 @@ rules_marked : (names : List Expression) (left rest : List (List ℕ)) (rs : Lis
 rules_marked names left rest rs xs line e m end = (refl, refl)
 rules_marked names left rest rs xs line e m (mark l ls k) = (refl, refl)
 rules_marked names left rest rs xs line e m (unused l ls ps qs u d) = absurd (mark_used line m (subst IsUnused (cc e) u))
-rules_marked names left rest rs xs line e m (rule l ls r a ps qs v d) = absurd (v.no_mark (subst IsMark (sym (cc e)) m))
+rules_marked names left rest rs xs line e m (rule l ls r a ps qs v d) = absurd (v.parts.no_mark (subst IsMark (sym (cc e)) m))
 
 -- what a line says is determined
 record AreEqual (r s : Rule) (a b : Action) : Type 0 where
@@ -43,8 +43,8 @@ record AreEqual (r s : Rule) (a b : Action) : Type 0 where
 
 line_one : (names : List Expression) (line : List ℕ) (r s : Rule) (a b : Action) → IsRuleLine names line r a → IsRuleLine names line s b → AreEqual r s a b
 line_one names line r s a b v w =
-    let whole : v.text ++ v.behind ≡ w.text ++ w.behind = sym v.together ∙ w.together in
-    let text : v.text ≡ w.text = extent_one v.text v.behind w.text w.behind v.is_pattern.head.0 w.is_pattern.head.0 v.is_pattern.head.1 w.is_pattern.head.1 v.parted w.parted whole in
+    let whole : v.text ++ v.behind ≡ w.text ++ w.behind = sym v.parts.together ∙ w.parts.together in
+    let text : v.text ≡ w.text = extent_one v.text v.behind w.text w.behind v.is_pattern.head.0 w.is_pattern.head.0 v.is_pattern.head.1 w.is_pattern.head.1 v.parts.follows w.parts.follows whole in
     let behind : v.behind ≡ w.behind = append_cancel_left v.text v.behind w.behind (whole ∙ ap (λ t. t ++ w.behind) (sym text)) in
     let action : IsAction v.behind b = subst (λ t. IsAction t b) (sym behind) w.is_action in
     record {
@@ -59,7 +59,7 @@ rules_one names left rs ss xs ys end d = let e = rules_none names [] ss ys refl 
 rules_one names left rs ss xs ys (mark l ls m) d = let e = rules_marked names (l ∷ ls) ls ss ys l refl m d in (subst (AreSameRules []) (sym e.0) tt, subst (AreSameActions []) (sym e.1) tt)
 rules_one names left rs ss xs ys (unused l ls ps qs u c) d = rules_one names ls rs ss xs ys c (rules_behind names (l ∷ ls) ls ss ys l refl u d)
 rules_one names left rs ss xs ys (rule l ls r a ps qs v c) d =
-    let f = in_front names (l ∷ ls) ls ss ys l refl v.no_mark v.is_used d in
+    let f = in_front names (l ∷ ls) ls ss ys l refl v.parts.no_mark v.parts.is_used d in
     let same = line_one names l r f.one a f.action v f.reads in
     let rest = rules_one names ls ps f.more qs f.actions c f.behind in
     (subst (AreSameRules (r ∷ ps)) (sym f.these) (same.pattern, same.active, rest.0), subst (AreSameActions (a ∷ qs)) (sym f.those) (same.begin, same.returns, rest.1))

@@ -23,7 +23,7 @@ pub rules_behind : (names : List Expression) (left rest : List (List ℕ)) (rs :
 rules_behind names left rest rs xs line e u end = cc e
 rules_behind names left rest rs xs line e u (mark l ls m) = absurd (mark_used l m (subst IsUnused (cc e) u))
 rules_behind names left rest rs xs line e u (unused l ls ps qs v d) = let same : ls ≡ rest = cc e in subst (λ x. Rules names x rs xs) same d
-rules_behind names left rest rs xs line e u (rule l ls r a ps qs v d) = absurd (v.is_used (subst IsUnused (cc e) u))
+rules_behind names left rest rs xs line e u (rule l ls r a ps qs v d) = absurd (v.parts.is_used (subst IsUnused (cc e) u))
 
 -- a rule in front
 pub record InFront (names : List Expression) (line : List ℕ) (rest : List (List ℕ)) (rs : List Rule) (xs : List Action) : Type 0 where
@@ -80,9 +80,9 @@ pub record IsSplit (text behind : List ℕ) (names : List Expression) (r : Rule)
 pub split_at_end : (names : List Expression) (line text behind : List ℕ) (n : ℕ) (r : Rule) (a : Action) → ((front more : List ℕ) (words : List Word) → line ≡ front ++ more → IsBehind more → Worded front words → n ≡ length front) → text ≡ take n line → behind ≡ drop n line → IsRuleLine names line r a → IsSplit text behind names r a
 split_at_end names line text behind n r a exact e f v =
     let words = v.is_pattern.head in
-    let here : n ≡ length v.text = exact v.text v.behind words.0 v.together v.parted words.1 in
-    let these : take n line ≡ v.text = ap (take n) v.together ∙ take_at v.text v.behind n (sym here) in
-    let those : drop n line ≡ v.behind = ap (drop n) v.together ∙ drop_at v.text v.behind n (sym here) in
+    let here : n ≡ length v.text = exact v.text v.behind words.0 v.parts.together v.parts.follows words.1 in
+    let these : take n line ≡ v.text = ap (take n) v.parts.together ∙ take_at v.text v.behind n (sym here) in
+    let those : drop n line ≡ v.behind = ap (drop n) v.parts.together ∙ drop_at v.text v.behind n (sym here) in
     record {
       is_pattern = subst (λ t. IsPattern names t r.pattern) (sym (e ∙ these)) v.is_pattern;
       is_action = subst (λ t. IsAction t a) (sym (f ∙ those)) v.is_action;
@@ -100,8 +100,8 @@ light_push most names [] r h k = k
 light_push most names (s ∷ rules) r h k = (h.0, light_push most names rules r h.1 k)
 
 -- a heavy pattern behind the first line, or on it
-pub heavy_behind : (most : ℕ) (names : List Expression) (left rest : List (List ℕ)) (line : List ℕ) → left ≡ line ∷ rest → HasHeavyLine most names rest → HasHeavyLine most names left
-heavy_behind most names left rest line e h = subst (HasHeavyLine most names) (sym e) (inr h)
+pub heavy_behind : (most : ℕ) (names : List Expression) (left rest : List (List ℕ)) (line : List ℕ) → left ≡ line ∷ rest → (IsMark line → ⊥) → HasHeavyLine most names rest → HasHeavyLine most names left
+heavy_behind most names left rest line e m h = subst (HasHeavyLine most names) (sym e) (m, inr h)
 
 pub heavy_here : (most : ℕ) (names : List Expression) (left rest : List (List ℕ)) (line : List ℕ) → left ≡ line ∷ rest → IsHeavyLine most names line → HasHeavyLine most names left
-heavy_here most names left rest line e h = subst (HasHeavyLine most names) (sym e) (inl h)
+heavy_here most names left rest line e h = subst (HasHeavyLine most names) (sym e) (h.parts.no_mark, inl h)

@@ -10,17 +10,20 @@ use Rattle.ly_lexread.specs.declared.action.Action.{Action}
 use Rattle.ly_lexread.specs.Action.{IsAction}
 use Rattle.ly_lexread.specs.Definitions.{BeginsWith, IsMark, IsUnused}
 
--- A line of the rules: a pattern, which is active in condition 0 alone, and behind it nothing, or a blank and
--- an action.
-pub record IsRuleLine (names : List Expression) (line : List ℕ) (rule : Rule) (action : Action) : Type 0 where
+-- A line of the rules in two parts: the text of a pattern, and behind it nothing, or a blank in front.
+pub record IsParted (line text behind : List ℕ) : Type 0 where
   pub no_mark : IsMark line → ⊥
   pub no_block : BeginsWith line (codes "%{") → ⊥
   pub no_conditions : BeginsWith line (codes "<") → ⊥
   pub is_used : IsUnused line → ⊥
+  pub together : line ≡ text ++ behind
+  pub follows : IsBehind behind
+
+-- A line says a rule and its action: the rule is active in condition 0 alone.
+pub record IsRuleLine (names : List Expression) (line : List ℕ) (rule : Rule) (action : Action) : Type 0 where
   pub text : List ℕ
   pub behind : List ℕ
-  pub together : line ≡ text ++ behind
-  pub parted : IsBehind behind
+  pub parts : IsParted line text behind
   pub is_pattern : IsPattern names text rule.pattern
   pub is_active : rule.active.items ≡ 0 ∷ []
   pub is_action : IsAction behind action
@@ -37,17 +40,16 @@ abbrev pub AreLight : ℕ → List Expression → List Rule → Type 0
 AreLight most names [] = Unit {0}
 AreLight most names (r ∷ rules) = (weight_of_both names r.pattern.head r.pattern.tail ≤ most) × AreLight most names rules
 
--- A line begins with a pattern that weighs more than this.
+-- A line's pattern weighs more than this.
 pub record IsHeavyLine (most : ℕ) (names : List Expression) (line : List ℕ) : Type 0 where
   pub text : List ℕ
   pub behind : List ℕ
-  pub together : line ≡ text ++ behind
-  pub parted : IsBehind behind
+  pub parts : IsParted line text behind
   pub pattern : Pattern
   pub is_pattern : IsPattern names text pattern
   pub is_heavy : most < weight_of_both names pattern.head pattern.tail
 
--- one of the lines does
+-- that of one of the lines does, up to a mark
 abbrev pub HasHeavyLine : ℕ → List Expression → List (List ℕ) → Type 0
 HasHeavyLine most names [] = ⊥
-HasHeavyLine most names (line ∷ lines) = IsHeavyLine most names line ⊎ HasHeavyLine most names lines
+HasHeavyLine most names (line ∷ lines) = (IsMark line → ⊥) × (IsHeavyLine most names line ⊎ HasHeavyLine most names lines)

@@ -21,14 +21,16 @@ returns-in-Some-clause-ok c =
     let n = c.pattern_length.result in
     let action : IsAction behind c.in-Some.action = read_some behind c.in_ok-action.field-0 c.in-Some.action c.in-Some.is c.in_ok-action.ensures in
     record {
-      no_mark = c.requires.no_mark;
-      no_block = c.if-begins_with.ensures;
-      no_conditions = c.if-begins_with-2.ensures;
-      is_used = c.requires.is_used;
       text = c.split_at.result.0.now;
       behind = behind;
-      together = sym (take-append-drop n line) ∙ ap₂ ◌++◌ (sym c.split_at.ensures.front) (sym c.split_at.ensures.back);
-      parted = subst IsBehind (sym c.split_at.ensures.back) c.pattern_length.ensures.ends;
+      parts = record {
+        no_mark = c.requires.no_mark;
+        no_block = c.if-begins_with.ensures;
+        no_conditions = c.if-begins_with-2.ensures;
+        is_used = c.requires.is_used;
+        together = sym (take-append-drop n line) ∙ ap₂ ◌++◌ (sym c.split_at.ensures.front) (sym c.split_at.ensures.back);
+        follows = subst IsBehind (sym c.split_at.ensures.back) c.pattern_length.ensures.ends;
+      };
       is_pattern = c.in-Ok.ensures.ok;
       is_active = c.in_ok-active.ensures.items;
       is_action = action;

@@ -19,7 +19,7 @@ loop-line-preserved-then-is_unused c =
     record {
       sound = λ rs xs d. c.loop-line.invariant.sound rs xs (rules_on names left rest rs xs line c.in-Some.ensures.these c.if-is_unused.ensures d);
       complete = λ rs xs d w. let i = c.loop-line.invariant.complete rs xs d w in (i.0, i.1, rules_behind names left rest i.0 i.1 line c.in-Some.ensures.these c.if-is_unused.ensures i.2, i.3);
-      heavy = λ h. c.loop-line.invariant.heavy (heavy_behind (pattern_weight_of c.args.limits.now) names left rest line c.in-Some.ensures.these h);
+      heavy = λ h. c.loop-line.invariant.heavy (heavy_behind (pattern_weight_of c.args.limits.now) names left rest line c.in-Some.ensures.these c.if-is_mark.ensures h);
       light = c.loop-line.invariant.light;
     }
 
@@ -37,7 +37,7 @@ loop-line-preserved c =
           let i = c.loop-line.invariant.complete rs xs d w in
           let f = in_front names left rest i.0 i.1 line c.in-Some.ensures.these c.if-is_mark.ensures c.if-is_unused.ensures i.2 in
           (f.more, f.actions, f.behind, (subst (AreLight (pattern_weight_of c.args.limits.now) names) f.these i.3).1);
-      heavy = λ h. c.loop-line.invariant.heavy (heavy_behind (pattern_weight_of c.args.limits.now) names left rest line c.in-Some.ensures.these h);
+      heavy = λ h. c.loop-line.invariant.heavy (heavy_behind (pattern_weight_of c.args.limits.now) names left rest line c.in-Some.ensures.these c.if-is_mark.ensures h);
       light = subst (AreLight (pattern_weight_of c.args.limits.now) names) (sym c.in_ok-push.ensures.items) (light_push (pattern_weight_of c.args.limits.now) names c.loop-line.rules.items r c.loop-line.invariant.light c.in_ok-rule.ensures.light);
     }
 
