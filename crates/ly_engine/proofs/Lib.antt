@@ -1,3 +1,4 @@
+pub mod AnswerLaws
 pub mod AnswerLemmas
 pub mod FileAgreementLemmas
 pub mod LoopLemmas

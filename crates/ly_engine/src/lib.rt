@@ -3,6 +3,7 @@
 
 mod driver;
 mod fault;
+mod laws;
 mod lines;
 mod outcome;
 mod position_set;
@@ -10,5 +11,6 @@ mod position_walk;
 
 pub use driver::{answer, tokens};
 pub use fault::TokensFault;
+pub use laws::answer_is_one;
 pub use lines::token_lines;
 pub use outcome::TokenEnd;

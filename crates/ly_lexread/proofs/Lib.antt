@@ -7,4 +7,5 @@ pub mod LexingLaws
 pub mod LineLemmas
 pub mod LiteralLemmas
 pub mod RuleLemmas
+pub mod SameLemmas
 pub mod WordLemmas

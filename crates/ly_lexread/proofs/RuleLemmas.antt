@@ -1,8 +1,6 @@
 -- The rules, a line after another.
-use Rattle.std.proofs.lemmas.Bool.{false≢true, eqb-true}
-use Rattle.std.proofs.lemmas.List.{append-nil, drop_all, take_at, drop_at}
-use Rattle.std.proofs.Common.{◌≡◌, ◌⊎◌, inl, inr, ◌≤◌, ℕ, zero, suc, Option, Some, None, eqb, append_assoc, length-append, List, [], ◌∷◌, ◌++◌, Bool, true, false, ◌||◌, length, take, drop, refl, sym, ap, ◌∙◌, subst, arith}
-use Rattle.std.specs.List.{slice_get}
+use Rattle.std.proofs.lemmas.List.{append-nil, take_at, drop_at}
+use Rattle.std.proofs.Common.{◌≡◌, inl, inr, ℕ, Option, Some, None, append_assoc, List, [], ◌∷◌, ◌++◌, length, take, drop, refl, sym, ap, ◌∙◌, subst}
 use Rattle.std.specs.Option.{MatchOption}
 use Rattle.ly_ere.specs.Expression.{Expression}
 use Rattle.ly_ere.specs.Extent.{IsBehind}
@@ -10,10 +8,7 @@ use Rattle.ly_ere.specs.Patterns.{IsPattern}
 use Rattle.ly_ere.specs.Words.{Word, Worded}
 use Rattle.ly_ere.specs.declared.pattern.Rule.{Rule}
 use Rattle.ly_lexread.specs.declared.action.Action.{Action}
-use Rattle.ly_lexread.specs.Action.{Meaning, Says, IsAction}
-use Rattle.ly_lexread.specs.Words.{Wording}
-use Rattle.ly_lexread.specs.Gap.{is_blank}
-use Rattle.ly_lexread.proofs.WordLemmas.{newline_stops}
+use Rattle.ly_lexread.specs.Action.{IsAction}
 use Rattle.ly_lexread.specs.Definitions.{IsMark, IsUnused}
 use Rattle.ly_lexread.specs.Rules.{AreLight, HasHeavyLine, IsHeavyLine, IsRuleLine, Rules, end, mark, unused, rule}
 use Rattle.ly_lexread.proofs.DefinitionLemmas.{mark_used}
