@@ -1,4 +1,4 @@
-ghost use Rattle.std.specs.Prelude.{◌≡◌, ℕ, ◌<◌, ◌≤◌, ◌+◌, List, drop, length, min, IfOk, IfErr, IfSome};
+ghost use Rattle.std.specs.Prelude.{◌≡◌, ◌≢◌, ◌⊎◌, ℕ, ◌<◌, ◌≤◌, ◌+◌, List, drop, length, min, slice_index, IfOk, IfErr, IfSome, IsErrOf};
 ghost use Rattle.ly_base.specs.Escapes.{Escape, base_of, counts, digits, meaning, number, test_of};
 
 use thiserror::Error;
@@ -23,6 +23,8 @@ pub fn escape(text: &[u8]) -> Result<(u8, usize), EscapeFault>
     ensures within { IfOk result (λ found. found.1 ≤ length text.now) }
     ensures escape { IfOk result (λ found. Escape (drop 1 text.now) found.0 (drop found.1 text.now)) }
     ensures refused { IfErr result (λ _. (byte : ℕ) (rest : List ℕ) → Escape (drop 1 text.now) byte rest → ⊥) }
+    ensures unfinished { IsErrOf result EscapeFault.Unfinished → (length text.now ≤ 1) ⊎ (slice_index text.now 1 ≡ 10) }
+    ensures large { IsErrOf result EscapeFault.TooLarge → (1 < length text.now) × (slice_index text.now 1 ≢ 10) }
 {
     let Some(&letter) = text.get(1) else {
         return Err(EscapeFault::Unfinished);
@@ -128,6 +130,7 @@ impl Digits {
         ensures ok { IfOk result (λ byte. byte ≡ self.value) }
         ensures small { IfOk result (λ byte. byte < 256) }
         ensures refused { IfErr result (λ _. 256 ≤ self.value) }
+        ensures large { IsErrOf result EscapeFault.Unfinished → ⊥ }
     {
         u8::try_from(self.value).map_err(|_| EscapeFault::TooLarge)
     }

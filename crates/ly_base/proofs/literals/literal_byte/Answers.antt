@@ -1,11 +1,21 @@
-use Rattle.std.proofs.Common.{◌≢◌, Result, Ok, Err, IfOk, IfSome, arith}
+use Rattle.std.proofs.Common.{◌≢◌, Result, Ok, Err, IfErr, IfOk, IfSome, arith}
 use Rattle.std.specs.Result.{result_ok}
-use Rattle.ly_base.proofs.LiteralLemmas.{bare_inside, escape_inside}
+use Rattle.std.specs.Option.{IfNone}
+use Rattle.std.proofs.lemmas.Result.{IfErr-weaker}
+use Rattle.ly_base.proofs.LiteralLemmas.{bare_inside, escape_inside, no_escape_inside}
 use Rattle.ly_base.proofs.literals.literal_byte.Goals as goal
 
 onto : {T E : Type 0} (P Q : T → Type 0) (r : Result T E) → ((x : T) → P x → Q x) → IfOk r P → IfSome (result_ok r) Q
 onto P Q (Ok x) f p = f x p
 onto P Q (Err e) f p = tt
+
+missing : {T E : Type 0} (P : Type 0) (r : Result T E) → IfErr r (λ _. P) → IfNone (result_ok r) P
+missing P (Ok x) p = tt
+missing P (Err e) p = p
+
+pub returns-in-92-clause-none : goal.returns-in-92-clause-none
+returns-in-92-clause-none c = rw c.ok.ensures.value (missing _ c.escape.result
+    (IfErr-weaker c.escape.result _ _ (λ fault none. no_escape_inside c.args.inside.now c.in_ok-byte.ensures.item.3.0 (omega (arith, c.in_ok-byte.ensures.item.3.1 0, c.in-92.is)) none) c.escape.ensures.refused))
 
 pub returns-in-92-clause-inside : goal.returns-in-92-clause-inside
 returns-in-92-clause-inside c = rw c.ok.ensures.value (onto _ _ c.escape.result
