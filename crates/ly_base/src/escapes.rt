@@ -14,8 +14,8 @@ pub enum EscapeFault {
     TooLarge,
 }
 
-/// Reads the escape at the front of a text, which begins with a backslash: its byte, and how many
-/// bytes of the text it takes (POSIX, lex, "Escape Sequences in lex"). One to three octal digits, or `x`
+/// Reads the escape at the front of a text, whose first byte is a backslash and isn't looked at: its byte, and
+/// how many bytes of the text it takes (POSIX, lex, "Escape Sequences in lex"). One to three octal digits, or `x`
 /// with the longest run of hexadecimal digits, give a byte by its value; `\x` without digits is `x`, and
 /// before any other byte the backslash takes away that byte's meaning.
 pub fn escape(text: &[u8]) -> Result<(u8, usize), EscapeFault>

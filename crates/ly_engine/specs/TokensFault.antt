@@ -28,3 +28,9 @@ fault_of_read read.OutOfMemory = OutOfMemory
 abbrev pub IsBeforeWriting : TokensFault → Type 0
 IsBeforeWriting (Write written) = ⊥
 IsBeforeWriting _ = Unit {0}
+
+-- Nothing was read: the lex file is refused, or too heavy.
+abbrev pub IsBeforeReading : TokensFault → Type 0
+IsBeforeReading (Lex fault) = Unit {0}
+IsBeforeReading (Positions fault) = Unit {0}
+IsBeforeReading _ = ⊥

@@ -2,6 +2,7 @@ ghost use Rattle.std.specs.Prelude.{◌≡◌, ℕ, ◌<◌, ◌≤◌, List, le
 ghost use Rattle.std.specs.Io.KnownBytes.{Appends};
 ghost use Rattle.ly_base.specs.Device.{next_count};
 ghost use Rattle.ly_ere.specs.declared.fault.EreFault.TheVariants.{TooHeavy};
+ghost use Rattle.ly_lexread.specs.FaultNumber.{IsOfText};
 ghost use Rattle.ly_lexread.specs.LexText.{IsHeavyText, LexText};
 ghost use Rattle.ly_lexread.specs.Lexing.{End};
 ghost use Rattle.ly_lexread.specs.declared.fault.LexFault.{LexFault};
@@ -9,9 +10,10 @@ ghost use Rattle.ly_lexread.specs.declared.file.LexFile.{LexFile};
 ghost use Rattle.ly_engine.specs.Answering.{IsAnswer};
 ghost use Rattle.ly_position.specs.TotalWeight.{total_weight};
 ghost use Rattle.ly_position.specs.declared.fault.PosFault.{PosFault};
+ghost use Rattle.ly_position.specs.declared.fault.PosFault.TheVariants.{TooManyPositions};
 ghost use Rattle.ly_engine.specs.Answers.{Answers, IsLight, IsTooHeavy, most_weight};
 ghost use Rattle.ly_engine.specs.Printed.{end_of};
-ghost use Rattle.ly_engine.specs.TokensFault.{IsBeforeWriting};
+ghost use Rattle.ly_engine.specs.TokensFault.{IsBeforeReading, IsBeforeWriting};
 
 use crate::fault::TokensFault;
 use crate::lines::token_lines;
@@ -42,18 +44,20 @@ pub fn tokens<R: Source, W: Sink>(
         × Appends (W.contents writer.old) (W.contents writer.new) answer) }
     ensures refused { (fault : LexFault) → result ≡ Err (TokensFault.Lex fault) → (file : LexFile) → LexText lex.now file → IsLight file → ⊥ }
     ensures heavy_pattern { (line : ℕ) → result ≡ Err (TokensFault.Lex (LexFault.Pattern line TooHeavy)) → IsHeavyText most_weight lex.now }
-    ensures heavy { (fault : PosFault) → result ≡ Err (TokensFault.Positions fault) → IsTooHeavy lex.now }
+    ensures of_text { (fault : LexFault) → result ≡ Err (TokensFault.Lex fault) → IsOfText fault }
+    ensures heavy { (fault : PosFault) → result ≡ Err (TokensFault.Positions fault) → (fault ≡ TooManyPositions) × IsTooHeavy lex.now }
+    ensures unread { IfErr result (λ e. IsBeforeReading e → reader.new ≡ reader.old) }
     ensures untouched { IfErr result (λ e. IsBeforeWriting e → writer.new ≡ writer.old) }
 {
     let file = read_lex(alloc, lex, &Limits::V1)?;
-    let (end, lines) = answer(alloc, &file, reader)?;
+    let (end, lines) = answer_to_text(alloc, &file, reader)?;
     write_whole(writer, &lines)?;
     Ok(end)
 }
 
 /// The answer to the text that a reader gives, under a lex file: how its tokens end, and the bytes to be
 /// written.
-pub fn answer<R: Source>(
+fn answer_to_text<R: Source>(
     alloc: Global,
     file: &LexFile,
     reader: &mut R,
@@ -64,7 +68,8 @@ pub fn answer<R: Source>(
     ensures refused { (fault : LexFault) → result ≡ Err (TokensFault.Lex fault) → ⊥ }
     ensures within { OnOk result (total_weight file.now.names file.now.rules.items ≤ most_weight) }
     ensures heavy { (fault : PosFault) → result ≡ Err (TokensFault.Positions fault)
-        → most_weight < total_weight file.now.names file.now.rules.items }
+        → (fault ≡ TooManyPositions) × (most_weight < total_weight file.now.names file.now.rules.items) }
+    ensures unread { IfErr result (λ e. IsBeforeReading e → reader.new ≡ reader.old) }
     ensures held { OnOk result (R.failures reader.new ≡ R.failures reader.old) }
     ensures read { IsErrOf result TokensFault.Read → R.failures reader.new ≡ next_count (R.failures reader.old) }
     ensures before { IfErr result IsBeforeWriting }

@@ -9,8 +9,7 @@ mod outcome;
 mod position_set;
 mod position_walk;
 
-pub use driver::{answer, tokens};
+pub use driver::tokens;
 pub use fault::TokensFault;
 pub use laws::answer_is_one;
-pub use lines::token_lines;
 pub use outcome::TokenEnd;

@@ -15,7 +15,7 @@ use std::alloc::{AllocError, Global};
 
 /// The answer to a text: a line for each of its tokens, and a last one where no rule matches. A text
 /// is taken apart by the longest match, and of those the first rule's (POSIX, XCU lex).
-pub fn token_lines<S: Steps>(
+pub(crate) fn token_lines<S: Steps>(
     alloc: Global,
     steps: &mut S,
     actions: &[Action],

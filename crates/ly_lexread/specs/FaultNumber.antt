@@ -1,5 +1,6 @@
 -- The numbers of the faults of a lex file.
-use Rattle.std.specs.Prelude.{ℕ, Option, Some, None}
+use Rattle.std.specs.Prelude.{◌≢◌, ℕ, Option, Some, None}
+use Rattle.ly_ere.specs.declared.fault.EreFault.TheVariants as ere
 use Rattle.ly_lexread.specs.declared.fault.LexFault.{LexFault}
 use Rattle.ly_lexread.specs.declared.fault.LexFault.TheVariants.{NoRulesMark, BadDefinition, UnknownCondition, BadAction, Pattern, OutOfMemory}
 
@@ -20,3 +21,9 @@ line_of (UnknownCondition line) = Some line
 line_of (BadAction line) = Some line
 line_of (Pattern line inner) = Some line
 line_of OutOfMemory = None
+
+-- the bytes are at fault, and not the room for what they say
+abbrev pub IsOfText : LexFault → Type 0
+IsOfText OutOfMemory = ⊥
+IsOfText (Pattern line inner) = inner ≢ ere.OutOfMemory
+IsOfText _ = Unit {0}

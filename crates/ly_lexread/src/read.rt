@@ -3,6 +3,7 @@ ghost use Rattle.ly_base.specs.Limits.{pattern_weight_of};
 ghost use Rattle.ly_ere.specs.declared.fault.EreFault.TheVariants as ere;
 ghost use Rattle.ly_ere.specs.declared.pattern.Rule.{Rule};
 ghost use Rattle.ly_lexread.specs.Definitions.{Definitions, IsMark, IsUnused};
+ghost use Rattle.ly_lexread.specs.FaultNumber.{IsOfText};
 ghost use Rattle.ly_lexread.specs.LexText.{IsHeavyText, LexText};
 ghost use Rattle.ly_lexread.specs.Rules.{AreLight, HasHeavyLine, IsHeavyLine, IsRuleLine, Rules};
 ghost use Rattle.ly_lexread.specs.Lines.{lines_left};
@@ -28,6 +29,7 @@ use std::alloc::Global;
 pub fn read_lex(alloc: Global, bytes: &[u8], limits: &Limits) -> Result<LexFile, LexFault>
     ensures ok { IfOk result (λ file. LexText bytes.now file) }
     ensures light { IfOk result (λ file. AreLight (pattern_weight_of limits.now) [] file.rules.items) }
+    ensures of_text { IfErr result (λ fault. fault ≢ OutOfMemory → IsOfText fault) }
     ensures heavy { (line : ℕ) → result ≡ Err (LexFault.Pattern line ere.TooHeavy) → IsHeavyText (pattern_weight_of limits.now) bytes.now }
     ensures refused { IfErr result (λ fault. fault ≢ OutOfMemory → (file : LexFile) → LexText bytes.now file → AreLight (pattern_weight_of limits.now) [] file.rules.items → ⊥) }
 {
@@ -46,6 +48,7 @@ pub fn read_lex(alloc: Global, bytes: &[u8], limits: &Limits) -> Result<LexFile,
 /// Takes the lines of the definitions, and the one that begins the rules.
 fn skip_definitions(lines: &mut Lines<'_>) -> Result<(), LexFault>
     ensures ok { OnOk result (Definitions (lines_left lines.old) (lines_left lines.new)) }
+    ensures of_text { IfErr result IsOfText }
     ensures no_pattern { (line : ℕ) → result ≡ Err (LexFault.Pattern line ere.TooHeavy) → ⊥ }
     ensures refused { OnErr result ((behind : List (List ℕ)) → Definitions (lines_left lines.old) behind → ⊥) }
 {
@@ -71,6 +74,7 @@ fn read_rules(
 ) -> Result<(Vec<Rule>, Vec<Action>), LexFault>
     ensures ok { IfOk result (λ read. Rules names.now (lines_left lines.entry) read.0.items read.1.items) }
     ensures light { IfOk result (λ read. AreLight (pattern_weight_of limits.now) names.now read.0.items) }
+    ensures of_text { IfErr result (λ fault. fault ≢ OutOfMemory → IsOfText fault) }
     ensures heavy { (line : ℕ) → result ≡ Err (LexFault.Pattern line ere.TooHeavy) → HasHeavyLine (pattern_weight_of limits.now) names.now (lines_left lines.entry) }
     ensures refused { IfErr result (λ fault. fault ≢ OutOfMemory → (rules : List Rule) (actions : List Action) → Rules names.now (lines_left lines.entry) rules actions → AreLight (pattern_weight_of limits.now) names.now rules → ⊥) }
 {
@@ -101,6 +105,7 @@ fn read_rule(
     requires is_used { IsUnused line.bytes.now → ⊥ }
     ensures ok { IfOk result (λ read. IsRuleLine names.now line.entry.bytes.now read.0 read.1) }
     ensures light { IfOk result (λ read. AreLight (pattern_weight_of limits.now) names.now (read.0 ∷ [])) }
+    ensures of_text { IfErr result (λ fault. fault ≢ OutOfMemory → IsOfText fault) }
     ensures heavy { (number : ℕ) → result ≡ Err (LexFault.Pattern number ere.TooHeavy) → IsHeavyLine (pattern_weight_of limits.now) names.now line.entry.bytes.now }
     ensures refused { IfErr result (λ fault. fault ≢ OutOfMemory → (rule : Rule) (action : Action) → IsRuleLine names.now line.entry.bytes.now rule action → AreLight (pattern_weight_of limits.now) names.now (rule ∷ []) → ⊥) }
 {
@@ -125,6 +130,7 @@ fn read_rule(
 /// The fault of a file whose pattern on this line is refused.
 fn pattern_fault(line: u64, inner: EreFault) -> LexFault
     ensures memory { inner ≡ ere.OutOfMemory → result ≡ OutOfMemory }
+    ensures of_text { result ≢ OutOfMemory → IsOfText result }
     ensures heavy { (number : ℕ) → result ≡ LexFault.Pattern number ere.TooHeavy → inner ≡ ere.TooHeavy }
 {
     match inner {

@@ -26,7 +26,8 @@ pub returns-in_err-end-clause-heavy : goal.returns-in_err-end-clause-heavy
 returns-in_err-end-clause-heavy g c = λ fault is.
     let p = err_from_is_err_and c.from_residual-in_err-end.result c.from_residual-in_err-end.ensures.1 in
     let gave : Positions fault ≡ c.in_err-end.field-0.0 = same_fault c.from_residual-in_err-end.result (Positions fault) p.0 is p.1 ∙ p.2 in
-    (c.in_ok-file.file, c.in_ok-file.ensures.ok, c.in_ok-file.ensures.light, c.in_err-end.ensures.heavy fault (ap Err (sym gave)))
+    let heavy = c.in_err-end.ensures.heavy fault (ap Err (sym gave)) in
+    (heavy.0, (c.in_ok-file.file, c.in_ok-file.ensures.ok, c.in_ok-file.ensures.light, heavy.1))
 
 pub returns-in_err-write_whole-clause-beginning : goal.returns-in_err-write_whole-clause-beginning
 returns-in_err-write_whole-clause-beginning g c = λ written is.

@@ -5,7 +5,7 @@ use Rattle.ly_position.specs.Patterns.{ArePositions}
 use Rattle.ly_engine.specs.Answering.{IsAnswer}
 use Rattle.ly_engine.specs.Printed.{end_of}
 use Rattle.ly_engine.proofs.FileAgreementLemmas.{file_agrees}
-use Rattle.ly_engine.proofs.driver.answer.Goals as goal
+use Rattle.ly_engine.proofs.driver.answer_to_text.Goals as goal
 
 pub returns-clause-made : goal.returns-clause-made
 returns-clause-made g c =
