@@ -3,7 +3,7 @@ use Rattle.std.proofs.Common.{◌≡◌, ◌≢◌, ℕ, zero, suc, ◌+◌, ◌
 use Rattle.std.specs.Prelude.{if◌then◌else◌}
 use Rattle.std.proofs.lemmas.Bool.{eq-eqb, ne_eqb, eqb-true, eqb-false, lt-ltb, ltb-true, false_from_ne_true}
 use Rattle.std.proofs.lemmas.Bool.Decides.{nat_tests}
-use Rattle.std.proofs.lemmas.List.{drop-drop, take_all, length-drop}
+use Rattle.std.proofs.lemmas.List.{drop-drop, drop_more, take_all, length-drop}
 use Rattle.std.proofs.Common.{get_or, add-one, length-take, min}
 use Rattle.std.proofs.Math.Seq.{take-suc}
 use Rattle.std.proofs.Math.ListN.{take-append-drop}
@@ -251,14 +251,12 @@ hexadecimal_when w (d ∷ ds) n v e f l = by (nat_lt v 256) refl
 pub whole_slice : (n : ℕ) (t : List ℕ) → take (length t - n) (drop n t) ≡ drop n t
 whole_slice n t = take_all (length t - n) (drop n t) (omega (arith, length-drop n t))
 
+-- a byte, and what is behind it
+pub byte_at : (t : List ℕ) (n b : ℕ) → n < length t → get_or t n 0 ≡ b → drop n t ≡ b ∷ drop (n + 1) t
+byte_at t n b l e = drop_more t n 0 l ∙ ap (λ x. x ∷ drop (n + 1) t) e
+
 escape_none : (t : List ℕ) → escape_of t ≡ None → (b : ℕ) (r : List ℕ) → Escape t b r → ⊥
 escape_none t e b r h = let k = escape_complete h in cc
-
--- the letter behind the backslash
-behind : (t : List ℕ) (b : ℕ) → 1 < length t → b ≡ get_or t 1 0 → drop 1 t ≡ b ∷ drop 2 t
-behind [] b l e = absurd (omega arith)
-behind (a ∷ []) b l e = absurd (omega arith)
-behind (a ∷ c ∷ t) b l e = ap (λ x. x ∷ t) (sym e)
 
 module _ (t : List ℕ) (n v : ℕ) (count : n ≡ length (digits is_octal 3 (take (length t - 1) (drop 1 t)))) (value : v ≡ min (number 8 (digits is_octal 3 (take (length t - 1) (drop 1 t)))) 256) where
   pub octal_found : 0 < n → v < 256 → Escape (drop 1 t) v (drop (1 + n) t)
@@ -273,8 +271,9 @@ no_letter (a ∷ []) l = escape_none [] refl
 no_letter (a ∷ c ∷ t) l = absurd (omega arith)
 
 module _ (t : List ℕ) (letter : ℕ) (within : 1 < length t) (is : letter ≡ get_or t 1 0) where
+  -- the letter behind the backslash
   first_letter : drop 1 t ≡ letter ∷ drop 2 t
-  first_letter = behind t letter within is
+  first_letter = byte_at t 1 letter within (sym is)
 
   pub newline_letter : letter ≡ 10 → (b : ℕ) (r : List ℕ) → Escape (drop 1 t) b r → ⊥
   newline_letter e = rw (first_letter, e) (escape_none (10 ∷ drop 2 t) refl)

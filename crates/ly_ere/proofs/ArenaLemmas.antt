@@ -1,17 +1,18 @@
 -- A node at the end adds its expression at the end.
-use Rattle.std.proofs.Common.{◌⊎◌, inl, inr, ◌≡◌, ℕ, ◌+◌, ◌<◌, List, [], ◌∷◌, ◌++◌, length, get_or, take, refl, sym, ap, ◌∙◌, arith, length-append, add-one, add-zero}
+use Rattle.std.proofs.Common.{◌≡◌, ℕ, ◌+◌, ◌<◌, List, [], ◌∷◌, ◌++◌, length, get_or, take, refl, sym, ap, ◌∙◌, arith, length-append, add-one, add-zero}
+use borrow.Author.Count.{below_more}
 use Rattle.std.proofs.Math.Seq.{get_or-append_seam, take-suc}
 use Rattle.std.proofs.Math.ListN.{get_or-append}
 use Rattle.ly_ere.specs.Expression.{Expression}
 use Rattle.ly_ere.specs.declared.node.Node.{Node}
 use Rattle.ly_ere.specs.Arena.{expression_of, expressions_from, expressions, FitsAt, IsOrdered}
 
-pub expressions_from-push : (done : List Expression) (ns : List Node) (n : Node) → expressions_from done (ns ++ n ∷ []) ≡ expressions_from done ns ++ expression_of (expressions_from done ns) n ∷ []
-expressions_from-push done [] n = refl
-expressions_from-push done (m ∷ ns) n = expressions_from-push (done ++ expression_of done m ∷ []) ns n
+pub expressions_from-append : (done : List Expression) (ms ns : List Node) → expressions_from done (ms ++ ns) ≡ expressions_from (expressions_from done ms) ns
+expressions_from-append done [] ns = refl
+expressions_from-append done (m ∷ ms) ns = expressions_from-append (done ++ expression_of done m ∷ []) ms ns
 
 pub expressions-push : (ns : List Node) (n : Node) → expressions (ns ++ n ∷ []) ≡ expressions ns ++ expression_of (expressions ns) n ∷ []
-expressions-push ns n = expressions_from-push [] ns n
+expressions-push ns n = expressions_from-append [] ns (n ∷ [])
 
 length_from : (done : List Expression) (ns : List Node) → length (expressions_from done ns) ≡ length done + length ns
 length_from done [] = sym (add-zero (length done))
@@ -21,14 +22,8 @@ pub length-expressions : (ns : List Node) → length (expressions ns) ≡ length
 length-expressions ns = omega (arith, length_from [] ns)
 
 pub IsOrdered-push : (ns : List Node) (n : Node) → IsOrdered ns → FitsAt (length ns) n → IsOrdered (ns ++ n ∷ [])
-IsOrdered-push ns n h below k d less = at k (split k (length ns) (omega (arith, length-append ns (n ∷ []))))
-  where
-    split : (i l : ℕ) → i < l + 1 → (i < l) ⊎ (i ≡ l)
-    split i l h = grind arith
-
-    at : (k : ℕ) → (k < length ns) ⊎ (k ≡ length ns) → FitsAt k (get_or (ns ++ n ∷ []) k d)
-    at k (inl a) = rw (get_or-append ns (n ∷ []) d k a) (h k d a)
-    at k (inr e) = rw (e, get_or-append_seam ns n [] d) below
+IsOrdered-push ns n h below k d less =
+    below_more (λ i. (d : Node) → FitsAt i (get_or (ns ++ n ∷ []) i d)) (length ns) (λ i l d. rw (get_or-append ns (n ∷ []) d i l) (h i d l)) (λ d. rw (get_or-append_seam ns n [] d) below) k (omega (arith, length-append ns (n ∷ []))) d
 
 -- one more node
 pub expressions-take : (ns : List Node) (k : ℕ) (d : Node) → k < length ns → expressions (take (k + 1) ns) ≡ expressions (take k ns) ++ expression_of (expressions (take k ns)) (get_or ns k d) ∷ []

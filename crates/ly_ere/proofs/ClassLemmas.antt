@@ -4,10 +4,12 @@ use Rattle.std.specs.Prelude.{◌&&◌, if◌then◌else◌}
 use Rattle.std.specs.Cmp.Lexicographic.{bytes_decides, pointwise}
 use Rattle.std.specs.List.{list_any}
 use Rattle.std.proofs.Math.Seq.{take-append_seam}
-use Rattle.std.proofs.lemmas.Bool.{and_parts, eqb-true, or_parts}
+use Rattle.std.proofs.lemmas.Bool.{and_parts, or_parts}
 use Rattle.ly_ere.specs.Brackets.{IsNamed}
-use Rattle.ly_ere.specs.Front.{begins, stands_at}
+use Rattle.ly_ere.specs.Front.{BeginsNo, begins}
 use Rattle.ly_ere.specs.Words.{IsClass, class_of, classes, found_in, is_among, same_text}
+use Rattle.ly_base.proofs.EscapeLemmas.{byte_at}
+use Rattle.ly_ere.proofs.FrontLemmas.{stands}
 use Rattle.ly_ere.proofs.NamedLemmas.{named_one}
 
 texts_agree : (s t : List ℕ) → pointwise nat_eq s t ≡ same_text s t
@@ -35,8 +37,8 @@ class_named t rs rest k = (
 )
 
 -- a text has one class at its front
-pub class_one : (t : List ℕ) (rs ss : List (ℕ × ℕ)) (rest left : List ℕ) → IsClass t rs rest → IsClass t ss left → (rs ≡ ss) × (rest ≡ left)
-class_one t rs ss rest left h k =
+pub class_one : {t rest left : List ℕ} {rs ss : List (ℕ × ℕ)} → IsClass t rs rest → IsClass t ss left → (rs ≡ ss) × (rest ≡ left)
+class_one {t} {rest} {left} {rs} {ss} h k =
     let m = class_named t rs rest h in
     let n = class_named t ss left k in
     let one = named_one 58 (drop 2 t) m.0 rest n.0 left m.1 n.1 in
@@ -44,11 +46,13 @@ class_one t rs ss rest left h k =
     (cc, one.1)
 
 begun : (t : List ℕ) (m : ℕ) → begins t m ≡ true → t ≡ 91 ∷ m ∷ drop 2 t
-begun [] m e = absurd (cc)
-begun (a ∷ []) m e = absurd (let k = and_parts (stands_at (a ∷ []) 0 91) (stands_at (a ∷ []) 1 m) e in cc)
-begun (a ∷ b ∷ t) m e = let k = and_parts (nat_eq a 91) (nat_eq b m) e in rw (eqb-true a 91 k.0, eqb-true b m k.1) refl
+begun t m e =
+    let k = and_parts _ _ e in
+    let a = stands t 0 91 k.0 in
+    let b = stands t 1 m k.1 in
+    byte_at t 0 91 a.0 a.1 ∙ ap (λ r. 91 ∷ r) (byte_at t 1 m b.0 b.1)
 
-pub class_unnamed : (t : List ℕ) → ((name rest : List ℕ) → IsNamed 58 (drop 2 t) name rest → ⊥) → (rs : List (ℕ × ℕ)) (rest : List ℕ) → IsClass t rs rest → ⊥
+pub class_unnamed : (t : List ℕ) → BeginsNo (IsNamed 58) (drop 2 t) → BeginsNo IsClass t
 class_unnamed t none rs rest k = let n = class_named t rs rest k in none n.0 rest n.1
 
 module _ (t : List ℕ) (end : ℕ) (two : 2 ≤ end) where
@@ -58,7 +62,7 @@ module _ (t : List ℕ) (end : ℕ) (two : 2 ≤ end) where
       let parts : drop 2 t ≡ take (end - 2) (drop 2 t) ++ 58 ∷ 93 ∷ drop (end + 2) t = sym (take-append-drop (end - 2) (drop 2 t)) ∙ ap (λ r. take (end - 2) (drop 2 t) ++ r) behind in
       (take (end - 2) (drop 2 t), c, begun t 58 b ∙ ap (λ r. 91 ∷ 58 ∷ r) parts)
 
-  pub class_nowhere : ((name rest : List ℕ) → IsNamed 58 (drop 2 t) name rest → end ≡ 2 + length name) → class_of (take (end - 2) (drop 2 t)) ≡ None → (rs : List (ℕ × ℕ)) (rest : List ℕ) → IsClass t rs rest → ⊥
+  pub class_nowhere : ((name rest : List ℕ) → IsNamed 58 (drop 2 t) name rest → end ≡ 2 + length name) → class_of (take (end - 2) (drop 2 t)) ≡ None → BeginsNo IsClass t
   class_nowhere first none rs rest k =
       let n = class_named t rs rest k in
       let long : end - 2 ≡ length n.0 = omega (arith, first n.0 rest n.1) in

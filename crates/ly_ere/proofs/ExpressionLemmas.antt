@@ -5,11 +5,7 @@ use Rattle.ly_ere.specs.Expression.{Expression, empty}
 use Rattle.ly_ere.specs.declared.node.Node.{Node}
 use Rattle.ly_ere.specs.declared.node.Node.TheVariants.{Set, Empty, Concat, Either, Star, Plus, Optional, Repeat, Name}
 use Rattle.ly_ere.specs.Arena.{part_of, expression_of, expressions_from, expressions, FitsAt, IsOrdered}
-use Rattle.ly_ere.proofs.ArenaLemmas.{length-expressions}
-
-from-append : (done : List Expression) (ms ns : List Node) → expressions_from done (ms ++ ns) ≡ expressions_from (expressions_from done ms) ns
-from-append done [] ns = refl
-from-append done (m ∷ ms) ns = from-append (done ++ expression_of done m ∷ []) ms ns
+use Rattle.ly_ere.proofs.ArenaLemmas.{expressions_from-append, length-expressions}
 
 -- the expressions that were there stay in front
 from_front : (done : List Expression) (ns : List Node) → (rest : List Expression) × (expressions_from done ns ≡ done ++ rest)
@@ -50,7 +46,7 @@ expression_at ns k n ordered less is = at
     tail = from_front (before ++ expression_of before n ∷ []) (drop (k + 1) ns)
 
     all : expressions ns ≡ before ++ (expression_of before n ∷ tail.0)
-    all = ap expressions split ∙ (from-append [] (take k ns) (n ∷ drop (k + 1) ns) ∙ (tail.1 ∙ append_assoc before (expression_of before n ∷ []) tail.0))
+    all = ap expressions split ∙ (expressions_from-append [] (take k ns) (n ∷ drop (k + 1) ns) ∙ (tail.1 ∙ append_assoc before (expression_of before n ∷ []) tail.0))
 
     fits : FitsAt k n
     fits = subst (λ x. FitsAt k x) (sym is) (ordered k n less)

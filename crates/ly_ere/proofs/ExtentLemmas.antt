@@ -1,12 +1,12 @@
 -- Where the words at the front of a line end is decided by what stands behind them.
-use Rattle.std.proofs.lemmas.List.{drop_all}
-use Rattle.std.proofs.Common.{drop-drop, ◌≡◌, ◌≢◌, ℕ, ◌+◌, ◌<◌, ◌≤◌, ◌⊎◌, List, ◌++◌, length, length-append, length-drop, drop, get_or, refl, sym, ap, subst, ◌∙◌, arith}
+use Rattle.std.proofs.lemmas.List.{drop_all, drop_more}
+use Rattle.std.proofs.Common.{drop-drop, ◌≡◌, ◌≢◌, ℕ, ◌+◌, ◌<◌, ◌≤◌, ◌⊎◌, List, ◌++◌, length, length-append, length-drop, drop, get_or, refl, sym, ap, subst, ◌∙◌, arith, inl, inr}
 use Rattle.std.proofs.lemmas.List.{append_cancel_right}
+use Rattle.ly_ere.specs.Front.{BeginsNo}
 use Rattle.ly_ere.specs.Extent.{IsBehind}
 use Rattle.ly_ere.specs.Words.{Word, Spells, Worded, end, word}
 use Rattle.ly_ere.proofs.AppendLemmas.{behind_follows, spells_append}
-use Rattle.ly_ere.proofs.ScanLemmas.{front}
-use Rattle.ly_ere.proofs.WordLemmas.{differs_from_blank, spells_one, word_is_ahead}
+use Rattle.ly_ere.proofs.SpellLemmas.{spells_one, word_is_ahead}
 
 -- whatever words stand at the front, up to what may stand behind them, this is what stands behind them
 abbrev pub Leaves : List ℕ → List ℕ → Type 0
@@ -14,7 +14,7 @@ Leaves t left = (text behind : List ℕ) (words : List Word) → t ≡ text ++ b
 
 leaves_all : (t : List ℕ) → IsBehind t → Leaves t t
 leaves_all t b text behind words e c end = sym e
-leaves_all t b text behind words e c (word u rest w ws s k) = absurd (word_is_ahead s behind (subst IsBehind e b))
+leaves_all t b text behind words e c (word u rest w ws s k) = absurd (word_is_ahead u s behind (subst IsBehind e b))
 
 leaves_step : (t left : List ℕ) → (IsBehind t → ⊥) → ((w : Word) (r : List ℕ) → Spells t w r → Leaves r left) → Leaves t left
 leaves_step t left ahead next text behind words e b end = absurd (ahead (subst IsBehind (sym e) b))
@@ -24,7 +24,7 @@ words_leave : {t : List ℕ} {ws : List Word} → Worded t ws → (behind : List
 words_leave end behind b = leaves_all behind b
 words_leave (word t rest w ws s k) behind b =
     let more = spells_append s behind (behind_follows rest behind b) in
-    leaves_step (t ++ behind) behind (word_is_ahead s behind) (λ v r g. subst (λ x. Leaves x behind) (spells_one more v r g).1 (words_leave k behind b))
+    leaves_step (t ++ behind) behind (word_is_ahead t s behind) (λ v r g. subst (λ x. Leaves x behind) (spells_one more g).1 (words_leave k behind b))
 
 -- at the front of a line stands at most one text of words up to its end or a blank
 pub extent_one : (text behind other rest : List ℕ) (ws vs : List Word) → Worded text ws → Worded other vs → IsBehind behind → IsBehind rest → text ++ behind ≡ other ++ rest → text ≡ other
@@ -36,10 +36,10 @@ pub end_behind : (line : List ℕ) (at : ℕ) → length line ≤ at → IsBehin
 end_behind line at l = rw (drop_all at line l) tt
 
 pub blank_behind : (line : List ℕ) (at : ℕ) → at < length line → (get_or line at 0 ≡ 32) ⊎ (get_or line at 0 ≡ 9) → IsBehind (drop at line)
-blank_behind line at l b = rw (front line at l) b
+blank_behind line at l b = rw (drop_more line at 0 l) b
 
 pub word_behind : (line : List ℕ) (at : ℕ) → at < length line → get_or line at 0 ≢ 32 → get_or line at 0 ≢ 9 → IsBehind (drop at line) → ⊥
-word_behind line at l p q b = differs_from_blank (get_or line at 0) (drop (at + 1) line) p q (rw (front line at l) at b)
+word_behind line at l p q b = elim (rw (drop_more line at 0 l) at b) [ inl e ↦ p e | inr e ↦ q e ]
 
 -- the words so far stand at the front of the line, whatever comes behind them
 abbrev pub GoesOn : List ℕ → ℕ → Type 0
@@ -56,7 +56,7 @@ extent_found line at within goes_on here text behind words e b k =
     omega (arith, ap length same, length-drop at line, ap length e, length-append text behind)
 
 -- a reader that finds no word takes the whole line
-pub extent_whole : (line : List ℕ) (at : ℕ) → GoesOn line at → (IsBehind (drop at line) → ⊥) → ((w : Word) (r : List ℕ) → Spells (drop at line) w r → ⊥) → IsExtent line (length line)
+pub extent_whole : (line : List ℕ) (at : ℕ) → GoesOn line at → (IsBehind (drop at line) → ⊥) → BeginsNo Spells (drop at line) → IsExtent line (length line)
 extent_whole line at goes_on ahead none = extent_found line (length line) (omega arith) (λ left l. goes_on left (leaves_step (drop at line) left ahead (λ w r s. absurd (none w r s)))) (end_behind line (length line) (omega arith))
 
 -- one more word

@@ -1,6 +1,7 @@
 -- What a test of the front of a text says.
-use Rattle.std.proofs.Common.{◌≡◌, ℕ, zero, suc, ◌<◌, ◌≤◌, List, [], ◌∷◌, length, drop, get_or, refl, ap, arith, true, false, nat_eq}
+use Rattle.std.proofs.Common.{◌≡◌, ℕ, zero, suc, ◌<◌, ◌≤◌, List, [], ◌∷◌, length, drop, get_or, refl, arith, true, false, nat_eq}
 use Rattle.std.proofs.lemmas.Bool.{eqb-true}
+use Rattle.ly_base.proofs.EscapeLemmas.{byte_at}
 use Rattle.ly_ere.specs.Front.{stands_at}
 
 pub at_is : (t : List ℕ) (n b : ℕ) → n < length t → stands_at t n b ≡ nat_eq (get_or t n 0) b
@@ -21,8 +22,7 @@ stands (c ∷ t) (suc n) b e = let k = stands t n b e in (omega (arith, k.0), k.
 
 -- a text that begins with the byte
 pub first_is : (t : List ℕ) (b : ℕ) → stands_at t 0 b ≡ true → t ≡ b ∷ drop 1 t
-first_is [] b e = absurd (cc)
-first_is (c ∷ t) b e = ap (λ x. x ∷ t) (eqb-true c b e)
+first_is t b e = let k = stands t 0 b e in byte_at t 0 b k.0 k.1
 
 -- what stands behind the front
 pub stands_drop : (t : List ℕ) (n b : ℕ) → stands_at t n b ≡ stands_at (drop n t) 0 b

@@ -31,35 +31,32 @@ item_points (equivalent first b rest n) e f = absurd (cc)
 item_points (points first t rest rs n h) e f = (n, h)
 
 -- an item is determined
-pub item_one : {first : Bool} {t rest : List ℕ} {rs : List (ℕ × ℕ)} → Item first t rs rest → (ss : List (ℕ × ℕ)) (left : List ℕ) → Item first t ss left → (rs ≡ ss) × (rest ≡ left)
-item_one (class first t rest rs h) ss left k = class_one t rs ss rest left h (item_class k (class_begins t rest rs h))
-item_one (equivalent first b rest n) ss left k =
+pub item_one : {first : Bool} {t rest left : List ℕ} {rs ss : List (ℕ × ℕ)} → Item first t rs rest → Item first t ss left → (rs ≡ ss) × (rest ≡ left)
+item_one (class first t rest rs h) k = class_one h (item_class k (class_begins t rest rs h))
+item_one (equivalent first b rest n) k =
     let h = item_equivalent k refl in
     let e = names_byte 61 b rest n in
     (cc, sym h.3)
-item_one (points first t rest rs n h) ss left k = let b = points_begin h in points_one h ss left (item_points k b.0 b.1).1
+item_one (points first t rest rs n h) k = let b = points_begin h in points_one h (item_points k b.0 b.1).1
 
 -- the items behind the first of them
 pub items_more : {first : Bool} {t rest : List ℕ} {rs : List (ℕ × ℕ)} → Items first t rs rest → (qs : List (ℕ × ℕ)) (behind : List ℕ) → (first ≡ false → stands_at t 0 93 ≡ false) → Item first t qs behind → (ss : List (ℕ × ℕ)) × Items false behind ss rest × (rs ≡ qs ++ ss)
 items_more (no_more rest) qs behind n h = let e = n refl in absurd (cc)
 items_more (more first t left rest rs ss m k others) qs behind n h =
-    let e = item_one k qs behind h in
+    let e = item_one k h in
     (ss, subst (λ x. Items false x ss rest) e.1 others, ap (λ x. x ++ ss) e.0)
-
-items_end : {first : Bool} {t rest : List ℕ} {rs : List (ℕ × ℕ)} → Items first t rs rest → first ≡ false → stands_at t 0 93 ≡ true → (rs ≡ []) × (rest ≡ drop 1 t)
-items_end (no_more rest) f e = (refl, refl)
-items_end (more first t behind rest rs ss m k others) f e = let n = m f in absurd (cc)
 
 pub items_some : {first : Bool} {t rest : List ℕ} {rs : List (ℕ × ℕ)} → Items first t rs rest → (first ≡ false → stands_at t 0 93 ≡ false) → (qs : List (ℕ × ℕ)) × (behind : List ℕ) × Item first t qs behind
 items_some (no_more rest) n = let e = n refl in absurd (cc)
 items_some (more first t behind rest rs ss m k others) n = (rs, behind, k)
 
 -- items are determined
-pub items_one : {first : Bool} {t rest : List ℕ} {rs : List (ℕ × ℕ)} → Items first t rs rest → (ss : List (ℕ × ℕ)) (left : List ℕ) → Items first t ss left → (rs ≡ ss) × (rest ≡ left)
-items_one (no_more rest) ss left k = let e = items_end k refl refl in (sym e.0, sym e.1)
-items_one (more first t behind rest rs ss m h others) us left k =
+pub items_one : {first : Bool} {t rest left : List ℕ} {rs ss : List (ℕ × ℕ)} → Items first t rs rest → Items first t ss left → (rs ≡ ss) × (rest ≡ left)
+items_one (no_more rest) (no_more left) = (refl, refl)
+items_one (no_more rest) (more first t behind left rs ss m k others) = let n = m refl in absurd (cc)
+items_one (more first t behind rest rs ss m h others) k =
     let e = items_more k rs behind m h in
-    let f = items_one others e.0 left e.1 in
+    let f = items_one others e.1 in
     (ap (λ x. rs ++ x) f.0 ∙ sym e.2, f.1)
 
 pub listed_items : {t bytes rest : List ℕ} → IsListed t bytes rest → stands_at t 0 94 ≡ false → (rs : List (ℕ × ℕ)) × Items true t rs rest × (bytes ≡ bytes_where (in_ranges rs)) × (bytes ≢ [])
@@ -71,14 +68,14 @@ excluded_items (listed t rest rs n h some) e = absurd (cc)
 excluded_items (excluded t rest rs h some) e = (rs, h, refl, some)
 
 -- what is listed is determined
-pub listed_one : {t bytes rest : List ℕ} → IsListed t bytes rest → (cs left : List ℕ) → IsListed t cs left → (bytes ≡ cs) × (rest ≡ left)
-listed_one (listed t rest rs n h some) cs left k =
+pub listed_one : {t bytes cs rest left : List ℕ} → IsListed t bytes rest → IsListed t cs left → (bytes ≡ cs) × (rest ≡ left)
+listed_one (listed t rest rs n h some) k =
     let e = listed_items k n in
-    let f = items_one h e.0 left e.1 in
+    let f = items_one h e.1 in
     (ap (λ x. bytes_where (in_ranges x)) f.0 ∙ sym e.2, f.1)
-listed_one (excluded t rest rs h some) cs left k =
+listed_one (excluded t rest rs h some) k =
     let e = excluded_items k refl in
-    let f = items_one h e.0 left e.1 in
+    let f = items_one h e.1 in
     (ap (λ x. bytes_where (λ b. not (in_ranges x b))) f.0 ∙ sym e.2, f.1)
 
 -- `[= =]`

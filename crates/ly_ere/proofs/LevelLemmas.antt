@@ -1,49 +1,26 @@
 -- The parts of open groups stay what they are while nodes are added.
-use Rattle.std.proofs.Common.{suc, ◌⊎◌, inl, inr, ◌≡◌, ℕ, ◌+◌, ◌<◌, ◌≤◌, List, [], ◌∷◌, ◌++◌, length, get_or, Option, Some, None, arith, length-append, append_assoc, refl, ap, ◌∙◌, sym}
-use Rattle.std.proofs.lemmas.List.{append-nil}
+use Rattle.std.proofs.Common.{◌≡◌, ℕ, ◌<◌, ◌≤◌, List, [], ◌∷◌, ◌++◌, length, Option, Some, None, arith, length-append, append_assoc, refl, ap, ◌∙◌, sym}
 use Rattle.std.specs.Option.{ForSome}
+use Rattle.std.specs.Prelude.{All}
+use Rattle.std.proofs.lemmas.List.Elements.{All-tail, All-weaker}
 use Rattle.std.proofs.Math.Seq.{get_or-append_seam}
 use Rattle.std.proofs.Math.ListN.{get_or-append}
 use Rattle.ly_ere.specs.Arena.{part_of}
 use Rattle.ly_ere.specs.Expression.{Expression, empty}
 use Rattle.ly_ere.specs.Groups.{Group, Reading, new_group, whole, with_atom, closed, inside}
 use Rattle.ly_ere.specs.declared.level.Level.{Level}
-use Rattle.ly_ere.specs.Levels.{IsWithin, AreWithin, Grows, seen, group_of, groups_of, reading_of}
+use Rattle.ly_ere.specs.Levels.{IsWithin, Grows, seen, group_of, groups_of, reading_of}
 
 part_more : (n m : ℕ) (o : Option ℕ) → n ≤ m → ForSome o (λ k. k < n) → ForSome o (λ k. k < m)
 part_more n m o le h = λ k e. let less : k < n = h k e in omega arith
 
 -- the parts are below a greater number too
-pub within_more : (n m : ℕ) (l : Level) → n ≤ m → IsWithin n l → IsWithin m l
+within_more : (n m : ℕ) (l : Level) → n ≤ m → IsWithin n l → IsWithin m l
 within_more n m l le h = record {
   either = part_more n m l.either le h.either;
   branch = part_more n m l.branch le h.branch;
   piece = part_more n m l.piece le h.piece;
 }
-
-pub all_within_more : (n m : ℕ) (levels : List Level) → n ≤ m → AreWithin n levels → AreWithin m levels
-all_within_more n m levels le h k d less = within_more n m (get_or levels k d) le (h k d less)
-
--- one more group
-pub all_within_push : (n : ℕ) (levels : List Level) (l : Level) → AreWithin n levels → IsWithin n l → AreWithin n (levels ++ l ∷ [])
-all_within_push n levels l h last k d less = at k (split k (length levels) (omega (arith, length-append levels (l ∷ []))))
-  where
-    split : (i m : ℕ) → i < m + 1 → (i < m) ⊎ (i ≡ m)
-    split i m h = grind arith
-
-    at : (k : ℕ) → (k < length levels) ⊎ (k ≡ length levels) → IsWithin n (get_or (levels ++ l ∷ []) k d)
-    at k (inl a) = rw (get_or-append levels (l ∷ []) d k a) (h k d a)
-    at k (inr e) = rw (e, get_or-append_seam levels l [] d) last
-
--- the groups round the last one, and the last one
-pub all_within_front : (n : ℕ) (levels : List Level) (l : Level) → AreWithin n (levels ++ l ∷ []) → AreWithin n levels
-all_within_front n levels l h k d less = rw get_or-append at (h k d (omega (arith, length-append levels (l ∷ []))))
-
-pub within_last : (n : ℕ) (levels : List Level) (l : Level) → AreWithin n (levels ++ l ∷ []) → IsWithin n l
-within_last n levels l h = rw (get_or-append_seam levels l [] l) at (h (length levels) l (omega (arith, length-append levels (l ∷ []))))
-
-pub grows_refl : (a : List Expression) → Grows a a
-grows_refl a = ([], rw append-nil refl)
 
 pub grows_trans : (a b c : List Expression) → Grows a b → Grows b c → Grows a c
 grows_trans a b c g h = (g.0 ++ h.0, rw (h.1, g.1, append_assoc) refl)
@@ -53,6 +30,10 @@ grows_push a b e q = (e ∷ [], q)
 
 pub grows_length : (a b : List Expression) → Grows a b → length a ≤ length b
 grows_length a b g = omega (arith, ap length g.1, length-append a g.0)
+
+-- the parts are there still
+pub within_grown : (a b : List Expression) (levels : List Level) → Grows a b → All (IsWithin (length a)) levels → All (IsWithin (length b)) levels
+within_grown a b levels g = All-weaker (IsWithin (length a)) (IsWithin (length b)) (λ l. within_more (length a) (length b) l (grows_length a b g)) levels
 
 -- a part stays what it is
 pub part_same : (a b : List Expression) (k : ℕ) → Grows a b → k < length a → part_of b k ≡ part_of a k
@@ -73,17 +54,14 @@ pub groups_push : (a : List Expression) (ls : List Level) (l : Level) → groups
 groups_push a [] l = refl
 groups_push a (m ∷ ls) l = ap (λ gs. gs ++ group_of a m ∷ []) (groups_push a ls l)
 
-pub all_within_tail : (n : ℕ) (l : Level) (ls : List Level) → AreWithin n (l ∷ ls) → AreWithin n ls
-all_within_tail n l ls h k d less = let e : k + 1 ≡ suc k = omega arith in rw e at (h (k + 1) d (omega arith))
-
-pub groups_same : (a b : List Expression) (ls : List Level) → Grows a b → AreWithin (length a) ls → groups_of b ls ≡ groups_of a ls
+pub groups_same : (a b : List Expression) (ls : List Level) → Grows a b → All (IsWithin (length a)) ls → groups_of b ls ≡ groups_of a ls
 groups_same a b [] g h = refl
-groups_same a b (l ∷ ls) g h = rw (groups_same a b ls g (all_within_tail (length a) l ls h), group_same a b l g (h 0 l (omega arith))) refl
+groups_same a b (l ∷ ls) g h = rw (groups_same a b ls g (All-tail (IsWithin (length a)) l ls h), group_same a b l g (h 0 l (omega arith))) refl
 
 same_reading : (o p : List Group) (g h : Group) → o ≡ p → g ≡ h → ◌≡◌ {A = Option Reading} (Some (record { outer = o; group = g })) (Some (record { outer = p; group = h }))
 same_reading o p g h a b = cc
 
-module _ (old mid new : List Expression) (items : List Level) (level : Level) (one : Grows old mid) (two : Grows mid new) (outer_parts : AreWithin (length old) items) where
+module _ (old mid new : List Expression) (items : List Level) (level : Level) (one : Grows old mid) (two : Grows mid new) (outer_parts : All (IsWithin (length old)) items) where
   -- an atom was added to a group
   pub atom_step : (l : Level) (atom : ℕ) (e : Expression) → IsWithin (length old) level → part_of mid atom ≡ e → group_of new l ≡ with_atom (group_of mid level) (part_of mid atom)
       → Some (record { outer = groups_of old items; group = with_atom (group_of old level) e }) ≡ Some (reading_of new items l)
@@ -101,5 +79,5 @@ pub open_step : (old : List Expression) (items : List Level) (level l : Level) �
 open_step old items level l e = rw groups_push (same_reading _ _ _ _ refl (sym e))
 
 -- the innermost group was changed
-pub inside_step : (old new : List Expression) (items : List Level) (l : Level) (o : Option Group) → Grows old new → AreWithin (length old) items → o ≡ Some (group_of new l) → inside (groups_of old items) o ≡ Some (reading_of new items l)
+pub inside_step : (old new : List Expression) (items : List Level) (l : Level) (o : Option Group) → Grows old new → All (IsWithin (length old)) items → o ≡ Some (group_of new l) → inside (groups_of old items) o ≡ Some (reading_of new items l)
 inside_step old new items l o g parts e = rw e (same_reading _ _ _ _ (sym (groups_same old new items g parts)) refl)

@@ -16,9 +16,9 @@ pub mod RangeLemmas
 pub mod ReadItemLemmas
 pub mod ReadLemmas
 pub mod ScanLemmas
-pub mod SetLemmas
 pub mod SpellLemmas
 pub mod StringLemmas
+pub mod SymbolLemmas
 pub mod WeightLemmas
 pub mod WinnerLaws
 pub mod WordLemmas

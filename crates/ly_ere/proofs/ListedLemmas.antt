@@ -6,7 +6,7 @@ use Rattle.ly_base.proofs.ByteSetLemmas.{bytes_agree}
 use Rattle.ly_base.specs.declared.byte_set.ByteSet.{ByteSet}
 use Rattle.ly_base.specs.ByteSet.{bytes_where, has, members}
 use Rattle.ly_ere.specs.Brackets.{AreItems}
-use Rattle.ly_ere.specs.Front.{stands_at}
+use Rattle.ly_ere.specs.Front.{BeginsNo, stands_at}
 use Rattle.ly_ere.specs.Words.{IsListed, listed, excluded, in_ranges}
 use Rattle.ly_ere.proofs.FrontLemmas.{first_is}
 use Rattle.ly_ere.proofs.ItemLemmas.{excluded_items, items_one, listed_items}
@@ -19,10 +19,10 @@ module _ (t : List ℕ) (set : ByteSet) (rest : List ℕ) where
     pub listed_ok : members set ≢ [] → IsListed t (members set) rest
     listed_ok some = rw bytes (listed t rest found.0 here found.1 (rw bytes at some))
 
-    pub listed_no : members set ≡ [] → (ms left : List ℕ) → IsListed t ms left → ⊥
+    pub listed_no : members set ≡ [] → BeginsNo IsListed t
     listed_no none ms left h =
         let k = listed_items h here in
-        let same = ap (λ x. bytes_where (in_ranges x)) (items_one k.1 found.0 rest found.1).0 in
+        let same = ap (λ x. bytes_where (in_ranges x)) (items_one k.1 found.1).0 in
         k.3 (k.2 ∙ same ∙ sym bytes ∙ none)
 
   module _ (old : ByteSet) (here : stands_at t 0 94 ≡ true) (found : AreItems (drop 1 t) (has old) rest) (other : (b : ℕ) → b < 256 → has set b ≡ not (has old b)) where
@@ -32,10 +32,10 @@ module _ (t : List ℕ) (set : ByteSet) (rest : List ℕ) where
     pub excluded_ok : members set ≢ [] → IsListed t (members set) rest
     excluded_ok some = rw (first_is t 94 here, other_bytes) (excluded (drop 1 t) rest found.0 found.1 (rw other_bytes at some))
 
-    pub excluded_no : members set ≡ [] → (ms left : List ℕ) → IsListed t ms left → ⊥
+    pub excluded_no : members set ≡ [] → BeginsNo IsListed t
     excluded_no none ms left h =
         let k = excluded_items h here in
-        let same = ap (λ x. bytes_where (λ b. not (in_ranges x b))) (items_one k.1 found.0 rest found.1).0 in
+        let same = ap (λ x. bytes_where (λ b. not (in_ranges x b))) (items_one k.1 found.1).0 in
         k.3 (k.2 ∙ same ∙ sym other_bytes ∙ none)
 
 -- behind one byte, and behind two

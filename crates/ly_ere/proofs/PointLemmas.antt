@@ -4,12 +4,11 @@ use Rattle.std.specs.Prelude.{not, ◌&&◌, if◌then◌else◌}
 use Rattle.std.proofs.lemmas.Bool.{and_parts, eq-eqb, eqb-false, eqb-true, ne_eqb, not-true, or_from, or_parts}
 use Rattle.std.proofs.lemmas.List.{drop-drop}
 use Rattle.ly_base.specs.Escapes.{Escape}
-use Rattle.ly_base.proofs.EscapeLemmas.{escape_one}
+use Rattle.ly_base.proofs.EscapeLemmas.{byte_at, escape_one}
 use Rattle.ly_ere.specs.Brackets.{names}
-use Rattle.ly_ere.specs.Front.{begins, stands_at}
+use Rattle.ly_ere.specs.Front.{begins}
 use Rattle.ly_ere.specs.Words.{Point, bare, escaped, named, Points, single, range, begins_named, begins_range}
 use Rattle.ly_ere.proofs.FrontLemmas.{first_is}
-use Rattle.ly_ere.proofs.SpellLemmas.{at_front}
 
 named_parts : (t : List ℕ) → begins_named t ≡ false → (begins t 58 ≡ false) × (begins t 46 ≡ false) × (begins t 61 ≡ false)
 named_parts t e =
@@ -23,54 +22,34 @@ point_begins (bare b rest p q n) = let h = named_parts (b ∷ rest) n in (h.0, h
 point_begins (escaped t rest b h) = (refl, refl)
 point_begins (named b rest p) = (refl, refl)
 
-point_escaped : {t rest : List ℕ} {b : ℕ} → Point t b rest → stands_at t 0 92 ≡ true → Escape (drop 1 t) b rest
-point_escaped (bare b rest p q n) e = let h = ne_eqb b 92 q in absurd (cc)
-point_escaped (escaped t rest b h) e = h
-point_escaped (named b rest p) e = absurd (cc)
-
 -- the byte that is named
 pub names_byte : (m b : ℕ) (rest : List ℕ) → b ≢ 10 → names (91 ∷ m ∷ b ∷ m ∷ 93 ∷ rest) m ≡ Some b
 names_byte m b rest p = rw (eq-eqb m m refl, ne_eqb b 10 p) refl
 
-point_named : {t rest : List ℕ} {b : ℕ} → Point t b rest → begins t 46 ≡ true → (names t 46 ≡ Some b) × (rest ≡ drop 5 t)
-point_named (bare b rest p q n) e = let h = named_parts (b ∷ rest) n in absurd (cc)
-point_named (escaped t rest b h) e = absurd (cc)
-point_named (named b rest p) e = (names_byte 46 b rest p, refl)
-
-point_bare : {t rest : List ℕ} {b : ℕ} → Point t b rest → stands_at t 0 92 ≡ false → begins t 46 ≡ false → (t ≡ b ∷ rest) × (b ≢ 10)
-point_bare (bare b rest p q n) e f = (refl, p)
-point_bare (escaped t rest b h) e f = absurd (cc)
-point_bare (named b rest p) e f = absurd (cc)
-
 -- a point is determined
-pub point_one : {t rest : List ℕ} {b : ℕ} → Point t b rest → (c : ℕ) (left : List ℕ) → Point t c left → (b ≡ c) × (rest ≡ left)
-point_one (bare b rest p q n) c left k =
-    let h = point_bare k (ne_eqb b 92 q) (named_parts (b ∷ rest) n).1 in
-    (cc, cc)
-point_one (escaped t rest b h) c left k = escape_one t b c rest left h (point_escaped k refl)
-point_one (named b rest p) c left k =
-    let h = point_named k refl in
-    let e = names_byte 46 b rest p in
-    (cc, sym h.1)
-
--- a byte that no range begins with
-points_single : {t rest : List ℕ} {rs : List (ℕ × ℕ)} → Points t rs rest → (b : ℕ) (left : List ℕ) → Point t b left → begins_range left ≡ false → (rs ≡ (b, b) ∷ []) × (rest ≡ left)
-points_single (single t rest a h n) b left k m = let e = point_one h b left k in (ap (λ x. (x, x) ∷ []) e.0, e.1)
-points_single (range t behind rest low high h n q l) b left k m = let e = ap begins_range (point_one h b left k).1 in absurd (cc)
+pub point_one : {t rest left : List ℕ} {b c : ℕ} → Point t b rest → Point t c left → (b ≡ c) × (rest ≡ left)
+point_one (bare b rest p q n) (bare c left r s m) = (refl, refl)
+point_one (bare b rest p q n) (escaped t left c h) = absurd (q refl)
+point_one (bare b rest p q n) (named c left r) = absurd (cc)
+point_one (escaped t rest b h) (bare c left r s m) = absurd (s refl)
+point_one (escaped t rest b h) (escaped u left c k) = escape_one t b c rest left h k
+point_one (named b rest p) (bare c left r s m) = absurd (cc)
+point_one (named b rest p) (named c left r) = (refl, refl)
 
 -- the byte that a range begins with, and its end
 pub points_range : {t rest : List ℕ} {rs : List (ℕ × ℕ)} → Points t rs rest → (low : ℕ) (left : List ℕ) → Point t low left → begins_range left ≡ true → (high : ℕ) × Point (drop 1 left) high rest × (low ≤ high) × (rs ≡ (low, high) ∷ [])
-points_range (single t rest b h n) low left k m = let e = ap begins_range (point_one h low left k).1 in absurd (cc)
+points_range (single t rest b h n) low left k m = let e = ap begins_range (point_one h k).1 in absurd (cc)
 points_range (range t behind rest a high h n q l) low left k m =
-    let e = point_one h low left k in
+    let e = point_one h k in
     (high, subst (λ x. Point (drop 1 x) high rest) e.1 q, omega (arith, e.0), ap (λ x. (x, high) ∷ []) e.0)
 
 -- a byte or a range is determined
-pub points_one : {t rest : List ℕ} {rs : List (ℕ × ℕ)} → Points t rs rest → (ss : List (ℕ × ℕ)) (left : List ℕ) → Points t ss left → (rs ≡ ss) × (rest ≡ left)
-points_one (single t rest b h n) ss left k = let e = points_single k b rest h n in (sym e.0, sym e.1)
-points_one (range t behind rest low high h n q l) ss left k =
+pub points_one : {t rest left : List ℕ} {rs ss : List (ℕ × ℕ)} → Points t rs rest → Points t ss left → (rs ≡ ss) × (rest ≡ left)
+points_one (single t rest b h n) (single u left c k m) = let e = point_one h k in (ap (λ x. (x, x) ∷ []) e.0, e.1)
+points_one (single t rest b h n) (range u behind left low high k m q l) = let e = ap begins_range (point_one h k).1 in absurd (cc)
+points_one (range t behind rest low high h n q l) k =
     let e = points_range k low (45 ∷ behind) h n in
-    let f = point_one q e.0 left e.1 in
+    let f = point_one q e.1 in
     (ap (λ x. (low, x) ∷ []) f.0 ∙ sym e.3, f.1)
 
 pub points_begin : {t rest : List ℕ} {rs : List (ℕ × ℕ)} → Points t rs rest → (begins t 58 ≡ false) × (begins t 61 ≡ false)
@@ -105,7 +84,7 @@ named_point t (Err e) h l q = tt
 pub escaped_point : (t : List ℕ) (b n : ℕ) → 0 < length t → get_or t 0 0 ≡ 92 → Escape (drop 1 t) b (drop n t) → Point t b (drop n t)
 escaped_point t b n some e h =
     let P : List ℕ → Type 0 = λ x. Point x b (drop n t) in
-    subst P (sym (at_front t 92 some e)) (escaped (drop 1 t) (drop n t) b h)
+    subst P (sym (byte_at t 0 92 some e)) (escaped (drop 1 t) (drop n t) b h)
 
 pub bare_point : (t : List ℕ) (b : ℕ) → 0 < length t → get_or t 0 0 ≡ b → b ≢ 10 → b ≢ 92 → begins t 58 ≡ false → begins t 46 ≡ false → begins t 61 ≡ false → Point t b (drop 1 t)
 bare_point [] b some e p q x y z = absurd (omega arith)

@@ -1,10 +1,12 @@
 -- Where a string ends, found byte by byte: the digits of an escape are bytes like others.
 use Rattle.std.proofs.lemmas.List.{drop_all}
-use Rattle.std.proofs.Common.{drop-drop, ◌≡◌, ◌≢◌, ℕ, zero, suc, ◌+◌, ◌<◌, ◌≤◌, List, [], ◌∷◌, ◌++◌, length, drop, get_or, refl, sym, ap, subst, ◌∙◌, arith, Bool, true, false}
+use Rattle.std.proofs.Common.{add-zero, get_or-drop, drop-drop, ◌≡◌, ◌≢◌, ℕ, ◌+◌, ◌<◌, ◌≤◌, List, [], ◌∷◌, ◌++◌, length, drop, get_or, refl, ap, arith, Bool, true, false}
 use Rattle.std.proofs.lemmas.Bool.Decides.{nat_tests}
 use Rattle.ly_base.specs.Escapes.{AllPass, Escape, octal, hexadecimal, bare_x, letter, is_octal, is_hexadecimal}
-use Rattle.ly_ere.specs.Words.{Quoted, closed, byte, escape}
-use Rattle.ly_ere.proofs.QuotedLemmas.{heads, tails, plain_more, quote_ends}
+use Rattle.ly_ere.specs.Front.{BeginsNo}
+use Rattle.ly_ere.specs.Words.{Quoted, byte, escape}
+use Rattle.ly_base.proofs.EscapeLemmas.{byte_at}
+use Rattle.ly_ere.proofs.QuotedLemmas.{plain_more, quote_ends}
 
 -- what is quoted up to this rest
 abbrev pub Ends : List ℕ → List ℕ → Type 0
@@ -30,66 +32,47 @@ run_ends p plain (d ∷ ds) more rest a e =
     (d ∷ k.0, byte d (ds ++ more) k.0 rest f.0 f.1 f.2 k.1)
 
 -- behind a backslash stands a byte that isn't a newline, and from the next byte on the string goes on
-pub escape_ends : {t more : List ℕ} {b : ℕ} → Escape t b more → (rest : List ℕ) → Ends more rest → (c : ℕ) × (u : List ℕ) × (t ≡ c ∷ u) × (c ≢ 10) × Ends u rest
+escape_ends : {t more : List ℕ} {b : ℕ} → Escape t b more → (rest : List ℕ) → Ends more rest → (get_or t 0 0 ≢ 10) × Ends (drop 1 t) rest
 escape_ends (octal [] more a l m s n) rest e = absurd (omega arith)
-escape_ends (octal (d ∷ ds) more a l m s n) rest e = (d, ds ++ more, refl, (octal_plain d a.0).2, run_ends is_octal octal_plain ds more rest a.1 e)
-escape_ends (hexadecimal ds more a l s n) rest e = (120, ds ++ more, refl, (λ h. absurd (omega arith)), run_ends is_hexadecimal hexadecimal_plain ds more rest a e)
-escape_ends (bare_x more s) rest e = (120, more, refl, (λ h. absurd (omega arith)), e)
-escape_ends (letter b more o x n) rest e = (b, more, refl, n, e)
+escape_ends (octal (d ∷ ds) more a l m s n) rest e = ((octal_plain d a.0).2, run_ends is_octal octal_plain ds more rest a.1 e)
+escape_ends (hexadecimal ds more a l s n) rest e = ((λ h. absurd (omega arith)), run_ends is_hexadecimal hexadecimal_plain ds more rest a e)
+escape_ends (bare_x more s) rest e = ((λ h. absurd (omega arith)), e)
+escape_ends (letter b more o x n) rest e = (n, e)
+
+backslash_ends : {t bs rest : List ℕ} → Quoted (92 ∷ t) bs rest → (get_or t 0 0 ≢ 10) × Ends (drop 1 t) rest
+backslash_ends (byte b t bs rest q s n k) = absurd (s refl)
+backslash_ends (escape t more b bs rest h k) = escape_ends h rest (bs, k)
+
+line_ends : {t bs rest : List ℕ} → Quoted (10 ∷ t) bs rest → ⊥
+line_ends (byte b t bs rest q s n k) = n refl
+
+nothing_ends : {bs rest : List ℕ} → Quoted [] bs rest → ⊥
+nothing_ends q = elim q [ ]
 
 -- The string goes on from this byte to its end.
 pub record GoesOn (t : List ℕ) (at : ℕ) : Type 0 where
   pub from_here : (bs rest : List ℕ) → Quoted (drop 1 t) bs rest → Ends (drop at t) rest
 
-pub goes_start : (t : List ℕ) → GoesOn t 1
-goes_start t = record { from_here = λ bs rest q. (bs, q) }
+module _ {t : List ℕ} {at : ℕ} (g : GoesOn t at) where
+  module _ (l : at < length t) where
+    -- what is quoted from here on, by the byte here
+    here : (b : ℕ) → get_or t at 0 ≡ b → (bs rest : List ℕ) → Quoted (drop 1 t) bs rest → Ends (b ∷ drop (at + 1) t) rest
+    here b e bs rest k = rw (byte_at t at b l e) at (g.from_here bs rest k)
 
-pub front : (t : List ℕ) (at : ℕ) → at < length t → drop at t ≡ get_or t at 0 ∷ drop (at + 1) t
-front [] at l = absurd (omega arith)
-front (b ∷ t) zero l = refl
-front (b ∷ t) (suc k) l = let e : suc k + 1 ≡ suc (k + 1) = omega arith in rw e (front t k (omega arith))
+    pub goes_plain : get_or t at 0 ≢ 34 → get_or t at 0 ≢ 92 → GoesOn t (at + 1)
+    goes_plain p q = record { from_here = λ bs rest k. let m = plain_more (here (get_or t at 0) refl bs rest k).1 p q in (m.0, m.2) }
 
-two : (n : ℕ) → n + 1 + 1 ≡ n + 2
-two n = omega arith
+    pub goes_escape : get_or t at 0 ≡ 92 → GoesOn t (at + 2)
+    goes_escape e = record { from_here = λ bs rest k. let two : at + 1 + 1 ≡ at + 2 = omega arith in rw (drop-drop, two) at (backslash_ends (here 92 e bs rest k).1).1 }
 
-backslash_ends : {u bs rest : List ℕ} → Quoted u bs rest → (t : List ℕ) → u ≡ 92 ∷ t → (c : ℕ) × (v : List ℕ) × (t ≡ c ∷ v) × (c ≢ 10) × Ends v rest
-backslash_ends (closed rest) t e = absurd (omega (arith, heads 34 92 rest t e))
-backslash_ends (byte b v bs rest q s n k) t e = absurd (s (heads b 92 v t e))
-backslash_ends (escape v more b bs rest h k) t e = let m = escape_ends h rest (bs, k) in (m.0, m.1, sym (tails 92 92 v t e) ∙ m.2, m.3, m.4)
+    pub goes_end : get_or t at 0 ≡ 34 → (bs rest : List ℕ) → Quoted (drop 1 t) bs rest → rest ≡ drop (at + 1) t
+    goes_end e bs rest k = (quote_ends (here 34 e bs rest k).1).1
 
-line_ends : {u bs rest : List ℕ} → Quoted u bs rest → (t : List ℕ) → u ≡ 10 ∷ t → ⊥
-line_ends (closed rest) t e = absurd (omega (arith, heads 34 10 rest t e))
-line_ends (byte b v bs rest q s n k) t e = n (heads b 10 v t e)
-line_ends (escape v more b bs rest h k) t e = absurd (omega (arith, heads 92 10 v t e))
+    pub goes_line : get_or t at 0 ≡ 10 → BeginsNo Quoted (drop 1 t)
+    goes_line e bs rest k = line_ends (here 10 e bs rest k).1
 
-nothing_ends : {u bs rest : List ℕ} → Quoted u bs rest → u ≡ [] → ⊥
-nothing_ends (closed rest) e = absurd (cc)
-nothing_ends (byte b v bs rest q s n k) e = absurd (cc)
-nothing_ends (escape v more b bs rest h k) e = absurd (cc)
+    pub goes_escaped_line : get_or t at 0 ≡ 92 → get_or t (at + 1) 0 ≡ 10 → BeginsNo Quoted (drop 1 t)
+    goes_escaped_line e f bs rest k = (backslash_ends (here 92 e bs rest k).1).0 (rw (get_or-drop, add-zero) f)
 
-module _ (t : List ℕ) (at : ℕ) (g : GoesOn t at) where
-  pub goes_plain : at < length t → get_or t at 0 ≢ 34 → get_or t at 0 ≢ 92 → GoesOn t (at + 1)
-  goes_plain l p q = record { from_here = λ bs rest k. let e = g.from_here bs rest k in let m = plain_more e.1 (drop (at + 1) t) (get_or t at 0) (front t at l) p q in (m.0, m.2) }
-
-  pub goes_escape : at < length t → get_or t at 0 ≡ 92 → GoesOn t (at + 2)
-  goes_escape l p = record {
-    from_here = λ bs rest k.
-        let e = g.from_here bs rest k in
-        let m = backslash_ends e.1 (drop (at + 1) t) (front t at l ∙ ap (λ b. b ∷ drop (at + 1) t) p) in
-        subst (λ u. Ends u rest) (ap (drop 1) (sym m.2) ∙ (drop-drop 1 (at + 1) t ∙ ap (λ n. drop n t) (two at))) m.4;
-  }
-
-  pub goes_end : at < length t → get_or t at 0 ≡ 34 → (bs rest : List ℕ) → Quoted (drop 1 t) bs rest → rest ≡ drop (at + 1) t
-  goes_end l p bs rest k = let e = g.from_here bs rest k in (quote_ends e.1 (drop (at + 1) t) (front t at l ∙ ap (λ b. b ∷ drop (at + 1) t) p)).1
-
-  pub goes_line : at < length t → get_or t at 0 ≡ 10 → (bs rest : List ℕ) → Quoted (drop 1 t) bs rest → ⊥
-  goes_line l p bs rest k = let e = g.from_here bs rest k in line_ends e.1 (drop (at + 1) t) (front t at l ∙ ap (λ b. b ∷ drop (at + 1) t) p)
-
-  pub goes_escaped_line : at + 1 < length t → get_or t at 0 ≡ 92 → get_or t (at + 1) 0 ≡ 10 → (bs rest : List ℕ) → Quoted (drop 1 t) bs rest → ⊥
-  goes_escaped_line l p q bs rest k =
-      let e = g.from_here bs rest k in
-      let m = backslash_ends e.1 (drop (at + 1) t) (front t at (omega arith) ∙ ap (λ b. b ∷ drop (at + 1) t) p) in
-      m.3 (heads m.0 10 m.1 (drop (at + 1 + 1) t) (sym m.2 ∙ (front t (at + 1) l ∙ ap (λ b. b ∷ drop (at + 1 + 1) t) q)))
-
-  pub goes_nowhere : length t ≤ at → (bs rest : List ℕ) → Quoted (drop 1 t) bs rest → ⊥
-  goes_nowhere l bs rest k = let e = g.from_here bs rest k in nothing_ends e.1 (drop_all at t l)
+  pub goes_nowhere : length t ≤ at → BeginsNo Quoted (drop 1 t)
+  goes_nowhere l bs rest k = nothing_ends (rw (drop_all at t l) at (g.from_here bs rest k).1)

@@ -1,10 +1,11 @@
 -- A string's bytes, one after another, as they are read.
-use Rattle.std.proofs.Common.{drop-drop, ◌≡◌, ℕ, ◌+◌, ◌≤◌, List, [], ◌∷◌, ◌++◌, length, drop, refl, append_assoc, length-append, arith, ◌↔◌, Some}
+use Rattle.std.proofs.Common.{drop-drop, ◌≡◌, ℕ, ◌+◌, ◌≤◌, List, [], ◌∷◌, ◌++◌, length, drop, refl, append_assoc, length-append, arith, Some}
 use Rattle.std.specs.Prelude.{slice_get}
 use Rattle.std.proofs.lemmas.List.{append-nil}
+use Rattle.ly_ere.specs.Front.{BeginsNo}
 use Rattle.ly_ere.specs.Expression.{Expression, set, empty, concat}
 use Rattle.ly_ere.specs.Grammar.{in_order, with_bytes}
-use Rattle.ly_ere.specs.Words.{Quoted, closed, IsMore}
+use Rattle.ly_ere.specs.Words.{Quoted, closed, IsPart}
 
 -- Some bytes were read, which are the expression: what is quoted from here on follows them.
 pub record IsSoFar (t : List ℕ) (at : ℕ) (e : Expression) : Type 0 where
@@ -22,7 +23,7 @@ order_push : (bs : List ℕ) (b : ℕ) → 1 ≤ length bs → in_order (bs ++ b
 order_push [] b l = absurd (omega arith)
 order_push (c ∷ bs) b l = with_push (set (c ∷ [])) bs b
 
-pub start_string : (t : List ℕ) (b n : ℕ) (e : Expression) → e ≡ set (b ∷ []) → ((bs rest : List ℕ) → Quoted t bs rest ↔ IsMore b (drop n t) bs rest) → IsSoFar t n e
+pub start_string : (t : List ℕ) (b n : ℕ) (e : Expression) → e ≡ set (b ∷ []) → IsPart t b n → IsSoFar t n e
 start_string t b n e is h = record {
   so_far = b ∷ [];
   some = omega arith;
@@ -31,8 +32,8 @@ start_string t b n e is h = record {
   back = λ bs rest q. let m = (h bs rest).0 q in (m.0, m.2);
 }
 
-pub next_string : (t : List ℕ) (at b n : ℕ) (e f : Expression) → IsSoFar t at e → f ≡ concat e (set (b ∷ [])) → ((bs rest : List ℕ) → Quoted (drop at t) bs rest ↔ IsMore b (drop n (drop at t)) bs rest) → IsSoFar t (at + n) f
-next_string t at b n e f s is h = record {
+pub next_string : {t : List ℕ} {at : ℕ} {e : Expression} → IsSoFar t at e → (b n : ℕ) (f : Expression) → f ≡ concat e (set (b ∷ [])) → IsPart (drop at t) b n → IsSoFar t (at + n) f
+next_string {t} {at} s b n f is h = record {
   so_far = s.so_far ++ b ∷ [];
   some = omega (arith, length-append s.so_far (b ∷ []));
   is = rw (is, order_push s.so_far b s.some, ← s.is) refl;
@@ -44,11 +45,11 @@ quote_here : (t : List ℕ) → slice_get t 0 ≡ Some 34 → Quoted t [] (drop 
 quote_here [] e = absurd (cc)
 quote_here (b ∷ t) e = let same : b ≡ 34 = cc in rw same (closed t)
 
-pub end_string : (t : List ℕ) (at : ℕ) (e : Expression) → IsSoFar t at e → slice_get (drop at t) 0 ≡ Some 34 → (bs : List ℕ) × (rest : List ℕ) × Quoted t bs rest × (e ≡ in_order bs)
-end_string t at e s q = (s.so_far, drop 1 (drop at t), rw append-nil at (s.forth [] (drop 1 (drop at t)) (quote_here (drop at t) q)), s.is)
+pub end_string : {t : List ℕ} {at : ℕ} {e : Expression} → IsSoFar t at e → slice_get (drop at t) 0 ≡ Some 34 → (bs : List ℕ) × (rest : List ℕ) × Quoted t bs rest × (e ≡ in_order bs)
+end_string {t} {at} s q = (s.so_far, drop 1 (drop at t), rw append-nil at (s.forth [] (drop 1 (drop at t)) (quote_here (drop at t) q)), s.is)
 
-pub no_string : (t : List ℕ) (at : ℕ) (e : Expression) → IsSoFar t at e → ((bs rest : List ℕ) → Quoted (drop at t) bs rest → ⊥) → (bs rest : List ℕ) → Quoted t bs rest → ⊥
-no_string t at e s none bs rest q = let m = s.back bs rest q in none m.0 rest m.1
+pub no_string : {t : List ℕ} {at : ℕ} {e : Expression} → IsSoFar t at e → BeginsNo Quoted (drop at t) → BeginsNo Quoted t
+no_string s none bs rest q = let m = s.back bs rest q in none m.0 rest m.1
 
 pub empty_string : (t : List ℕ) → slice_get t 0 ≡ Some 34 → (bs : List ℕ) × (rest : List ℕ) × Quoted t bs rest × (empty ≡ in_order bs)
 empty_string t q = ([], drop 1 t, quote_here t q, refl)

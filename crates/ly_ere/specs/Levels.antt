@@ -1,5 +1,5 @@
 -- A group that is being read.
-use Rattle.std.specs.Prelude.{◌≡◌, ℕ, ◌<◌, List, [], ◌∷◌, ◌++◌, length, slice_index_or, Option, Some, None}
+use Rattle.std.specs.Prelude.{◌≡◌, ℕ, ◌<◌, List, [], ◌∷◌, ◌++◌, Option, Some, None}
 use Rattle.std.specs.Option.{ForSome}
 use Rattle.ly_ere.specs.Arena.{part_of}
 use Rattle.ly_ere.specs.Expression.{Expression, star, plus, optional}
@@ -13,10 +13,6 @@ pub record IsWithin (n : ℕ) (l : Level) : Type 0 where
   pub either : ForSome l.either (λ k. k < n)
   pub branch : ForSome l.branch (λ k. k < n)
   pub piece : ForSome l.piece (λ k. k < n)
-
--- the parts of the groups are below n
-abbrev pub AreWithin : ℕ → List Level → Type 0
-AreWithin n levels = (k : ℕ) (d : Level) → k < length levels → IsWithin n (slice_index_or levels k d)
 
 -- expressions were added behind those that were there
 abbrev pub Grows : List Expression → List Expression → Type 0

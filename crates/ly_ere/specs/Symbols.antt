@@ -1,7 +1,8 @@
 -- Words of an expression, as a reader holds them.
-use Rattle.std.specs.Prelude.{◌≡◌, ◌≢◌, ℕ, List, []}
+use Rattle.std.specs.Prelude.{◌≡◌, ◌≢◌, ◌↔◌, ℕ, List, [], drop}
 use Rattle.ly_base.specs.ByteSet.{members}
-use Rattle.ly_ere.specs.Words.{Word, one_of, string, opening, closing, bar, asterisk, plus_sign, question_mark, Quoted}
+use Rattle.ly_ere.specs.Front.{IsFront}
+use Rattle.ly_ere.specs.Words.{Word, one_of, string, opening, closing, bar, asterisk, plus_sign, question_mark, Quoted, Spells}
 use Rattle.ly_ere.specs.declared.symbol.Postfix.{Postfix}
 use Rattle.ly_ere.specs.declared.symbol.Postfix.TheVariants.{Star, Plus, Optional}
 use Rattle.ly_ere.specs.declared.symbol.Symbol.{Symbol}
@@ -26,3 +27,9 @@ IsWord Open w = w ≡ opening
 IsWord Close w = w ≡ closing
 IsWord Bar w = w ≡ bar
 IsWord (Operator p) w = w ≡ word_of p
+
+-- A text begins with the words that the symbol stands for and with no others, and each takes n bytes.
+pub record IsNext (text : List ℕ) (s : Symbol) (n : ℕ) : Type 0 where
+  pub front : IsFront text n
+  pub formed : IsWellFormed s
+  pub word : (w : Word) (rest : List ℕ) → Spells text w rest ↔ (IsWord s w × (rest ≡ drop n text))

@@ -1,5 +1,5 @@
 -- The words of an expression: how each is spelled (POSIX, XBD 9.4 and 9.3.5, as lex changes them).
-use Rattle.std.specs.Prelude.{◌≡◌, ◌≢◌, ℕ, ◌≤◌, List, [], ◌∷◌, ◌++◌, Bool, true, false, not, ◌||◌, ◌&&◌, nat_eq, nat_le, codes, Option, Some, None, if◌then◌else◌}
+use Rattle.std.specs.Prelude.{◌≡◌, ◌≢◌, ◌↔◌, ℕ, ◌≤◌, drop, List, [], ◌∷◌, ◌++◌, Bool, true, false, not, ◌||◌, ◌&&◌, nat_eq, nat_le, codes, Option, Some, None, if◌then◌else◌}
 use Rattle.ly_ere.specs.Front.{begins, stands_at}
 use Rattle.ly_base.specs.ByteSet.{bytes_where}
 use Rattle.ly_base.specs.Escapes.{Escape}
@@ -24,6 +24,10 @@ pub data Quoted : List ℕ → List ℕ → List ℕ → Type 0 where
 -- the byte b, and then what is quoted behind it
 abbrev pub IsMore : ℕ → List ℕ → List ℕ → List ℕ → Type 0
 IsMore b more bs rest = (cs : List ℕ) × (bs ≡ b ∷ cs) × Quoted more cs rest
+
+-- what is quoted begins with the byte b, which takes n bytes of the text
+abbrev pub IsPart : List ℕ → ℕ → ℕ → Type 0
+IsPart text b n = (bs rest : List ℕ) → Quoted text bs rest ↔ IsMore b (drop n text) bs rest
 
 -- the byte is in one of the ranges
 abbrev pub in_ranges : List (ℕ × ℕ) → ℕ → Bool

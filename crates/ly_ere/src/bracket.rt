@@ -2,7 +2,7 @@ ghost use Rattle.std.specs.Option.{IfNone};
 ghost use Rattle.std.specs.Prelude.{◌≡◌, ◌≢◌, ℕ, ◌+◌, ◌<◌, ◌≤◌, List, [], ◌∷◌, drop, length, true, Some, None, IfErr, IfOk, IfSome, IsErrOf};
 ghost use Rattle.ly_base.specs.ByteSet.{has, members};
 ghost use Rattle.ly_ere.specs.Brackets.{AreItems, IsAdded, IsNamed, as_classes, names};
-ghost use Rattle.ly_ere.specs.Front.{begins};
+ghost use Rattle.ly_ere.specs.Front.{BeginsNo, IsFront, begins};
 ghost use Rattle.ly_ere.specs.Words.{IsClass, IsListed, Item, Items, Point, Points, begins_range, class_of, found_in};
 
 use crate::fault::EreFault;
@@ -14,10 +14,9 @@ use ly_base::{ByteSet, escape};
 pub(crate) fn bracket(text: &[u8]) -> Result<(ByteSet, usize), EreFault>
     requires some { 0 < length text.now }
     ensures set { IfOk result (λ found. members found.0 ≢ []) }
-    ensures first { IfOk result (λ found. 1 ≤ found.1) }
-    ensures within { IfOk result (λ found. found.1 ≤ length text.now) }
+    ensures front { IfOk result (λ found. IsFront text.now found.1) }
     ensures listed { IfOk result (λ found. IsListed (drop 1 text.now) (members found.0) (drop found.1 text.now)) }
-    ensures refused { IfErr result (λ _. (bytes rest : List ℕ) → IsListed (drop 1 text.now) bytes rest → ⊥) }
+    ensures refused { IfErr result (λ _. BeginsNo IsListed (drop 1 text.now)) }
     ensures not_heavy { IsErrOf result EreFault.TooHeavy → ⊥ }
 {
     let behind = &text[1..];
@@ -47,7 +46,7 @@ fn some_byte(set: ByteSet) -> Result<ByteSet, EreFault>
 fn items(text: &[u8]) -> Result<(ByteSet, usize), EreFault>
     ensures within { IfOk result (λ found. found.1 ≤ length text.now) }
     ensures items { IfOk result (λ found. AreItems text.now (has found.0) (drop found.1 text.now)) }
-    ensures refused { IfErr result (λ _. (rs : List (ℕ × ℕ)) (rest : List ℕ) → Items true text.now rs rest → ⊥) }
+    ensures refused { IfErr result (λ _. BeginsNo (Items true) text.now) }
     ensures not_heavy { IsErrOf result EreFault.TooHeavy → ⊥ }
 {
     let mut set = ByteSet::new();
@@ -61,10 +60,9 @@ fn items(text: &[u8]) -> Result<(ByteSet, usize), EreFault>
 /// Adds the item at the front of a text to the set, and answers how many bytes it takes. A `-` stands for
 /// itself as the first item, the last one, or the end of a range.
 fn add_item(set: &mut ByteSet, text: &[u8], is_first: bool) -> Result<usize, EreFault>
-    ensures first { IfOk result (λ taken. 1 ≤ taken) }
-    ensures within { IfOk result (λ taken. taken ≤ length text.now) }
+    ensures front { IfOk result (IsFront text.now) }
     ensures item { IfOk result (λ taken. (rs : List (ℕ × ℕ)) × Item is_first text.now rs (drop taken text.now) × IsAdded set.old set.new rs) }
-    ensures refused { IfErr result (λ _. (rs : List (ℕ × ℕ)) (rest : List ℕ) → Item is_first text.now rs rest → ⊥) }
+    ensures refused { IfErr result (λ _. BeginsNo (Item is_first) text.now) }
     ensures not_heavy { IsErrOf result EreFault.TooHeavy → ⊥ }
 {
     if begins(text, b':') {
@@ -84,10 +82,9 @@ fn add_item(set: &mut ByteSet, text: &[u8], is_first: bool) -> Result<usize, Ere
 /// Adds the class at the front of a text, and answers how many bytes it takes.
 fn add_class(set: &mut ByteSet, text: &[u8]) -> Result<usize, EreFault>
     requires { begins text.now 58 ≡ true }
-    ensures first { IfOk result (λ taken. 1 ≤ taken) }
-    ensures within { IfOk result (λ taken. taken ≤ length text.now) }
+    ensures front { IfOk result (IsFront text.now) }
     ensures item { IfOk result (λ taken. (rs : List (ℕ × ℕ)) × IsClass text.now rs (drop taken text.now) × IsAdded set.old set.new rs) }
-    ensures refused { IfErr result (λ _. (rs : List (ℕ × ℕ)) (rest : List ℕ) → IsClass text.now rs rest → ⊥) }
+    ensures refused { IfErr result (λ _. BeginsNo IsClass text.now) }
     ensures not_heavy { IsErrOf result EreFault.TooHeavy → ⊥ }
 {
     let end = named_end(text, b':', 2).ok_or(EreFault::UnclosedBracket)?;
@@ -107,10 +104,9 @@ fn begins_range(text: &[u8]) -> bool
 
 /// Adds the byte or the range at the front of a text, and answers how many bytes it takes.
 fn add_range(set: &mut ByteSet, text: &[u8]) -> Result<usize, EreFault>
-    ensures first { IfOk result (λ taken. 1 ≤ taken) }
-    ensures within { IfOk result (λ taken. taken ≤ length text.now) }
+    ensures front { IfOk result (IsFront text.now) }
     ensures points { IfOk result (λ taken. (rs : List (ℕ × ℕ)) × Points text.now rs (drop taken text.now) × IsAdded set.old set.new rs) }
-    ensures refused { IfErr result (λ _. (rs : List (ℕ × ℕ)) (rest : List ℕ) → Points text.now rs rest → ⊥) }
+    ensures refused { IfErr result (λ _. BeginsNo Points text.now) }
     ensures not_heavy { IsErrOf result EreFault.TooHeavy → ⊥ }
 {
     let (low, low_length) = point(text)?;
@@ -130,10 +126,9 @@ fn add_range(set: &mut ByteSet, text: &[u8]) -> Result<usize, EreFault>
 
 /// The byte, escape or `[. .]` at the front: its byte, and how many bytes it takes.
 fn point(text: &[u8]) -> Result<(u8, usize), EreFault>
-    ensures first { IfOk result (λ found. 1 ≤ found.1) }
-    ensures within { IfOk result (λ found. found.1 ≤ length text.now) }
+    ensures front { IfOk result (λ found. IsFront text.now found.1) }
     ensures point { IfOk result (λ found. Point text.now found.0 (drop found.1 text.now)) }
-    ensures refused { IfErr result (λ _. (b : ℕ) (rest : List ℕ) → Point text.now b rest → ⊥) }
+    ensures refused { IfErr result (λ _. BeginsNo Point text.now) }
     ensures not_heavy { IsErrOf result EreFault.TooHeavy → ⊥ }
 {
     let Some(&byte) = text.first() else {
@@ -179,7 +174,7 @@ fn named_end(text: &[u8], mark: u8, from: usize) -> Option<usize>
     ensures within { IfSome result (λ end. (from ≤ end) × (end + 2 ≤ length text.now)) }
     ensures ends { IfSome result (λ end. drop end text.now ≡ mark ∷ 93 ∷ drop (end + 2) text.now) }
     ensures first { IfSome result (λ end. (name rest : List ℕ) → IsNamed mark (drop from text.now) name rest → end ≡ from + length name) }
-    ensures none { IfNone result ((name rest : List ℕ) → IsNamed mark (drop from text.now) name rest → ⊥) }
+    ensures none { IfNone result (BeginsNo (IsNamed mark) (drop from text.now)) }
 {
     for at in from..text.len() {
         if text[at] == b'\n' {

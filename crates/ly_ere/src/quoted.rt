@@ -1,6 +1,7 @@
 ghost use Rattle.std.specs.Prelude.{◌≡◌, ◌↔◌, ℕ, List, ◌<◌, ◌≤◌, drop, length, slice_get, Some, IfErr, IfOk, IfSome, IsErrOf};
 ghost use Rattle.std.specs.Option.{IfNone};
-ghost use Rattle.ly_ere.specs.Words.{IsMore, Quoted};
+ghost use Rattle.ly_ere.specs.Front.{BeginsNo, IsFront};
+ghost use Rattle.ly_ere.specs.Words.{IsPart, Quoted};
 
 use crate::fault::EreFault;
 use crate::front::stands_at;
@@ -11,7 +12,7 @@ use ly_base::escape;
 pub(crate) fn quoted_length(text: &[u8]) -> Option<usize>
     ensures within { IfSome result (λ end. (2 ≤ end) × (end ≤ length text.now)) }
     ensures end { IfSome result (λ end. (bs rest : List ℕ) → Quoted (drop 1 text.now) bs rest → rest ≡ drop end text.now) }
-    ensures none { IfNone result ((bs rest : List ℕ) → Quoted (drop 1 text.now) bs rest → ⊥) }
+    ensures none { IfNone result (BeginsNo Quoted (drop 1 text.now)) }
 {
     let mut at = 1;
     while at < text.len() {
@@ -30,10 +31,9 @@ pub(crate) fn quoted_length(text: &[u8]) -> Option<usize>
 /// bytes it takes; `None` where the string ends.
 pub(crate) fn quoted_byte(text: &[u8]) -> Result<Option<(u8, usize)>, EreFault>
     ensures end { IfOk result (λ found. IfNone found (slice_get text.now 0 ≡ Some 34)) }
-    ensures first { IfOk result (λ found. IfSome found (λ part. 1 ≤ part.1)) }
-    ensures within { IfOk result (λ found. IfSome found (λ part. part.1 ≤ length text.now)) }
-    ensures byte { IfOk result (λ found. IfSome found (λ part. (bs rest : List ℕ) → Quoted text.now bs rest ↔ IsMore part.0 (drop part.1 text.now) bs rest)) }
-    ensures refused { IfErr result (λ _. (bs rest : List ℕ) → Quoted text.now bs rest → ⊥) }
+    ensures front { IfOk result (λ found. IfSome found (λ part. IsFront text.now part.1)) }
+    ensures byte { IfOk result (λ found. IfSome found (λ part. IsPart text.now part.0 part.1)) }
+    ensures refused { IfErr result (λ _. BeginsNo Quoted text.now) }
     ensures not_heavy { IsErrOf result EreFault.TooHeavy → ⊥ }
 {
     let Some(&byte) = text.first() else {

@@ -1,10 +1,11 @@
-ghost use Rattle.std.specs.Prelude.{[], ◌∷◌, ◌≡◌, ◌≢◌, ℕ, List, ◌<◌, ◌≤◌, Some, None, length, IfOk, IfErr, OnOk, IsErrOf};
+ghost use Rattle.std.specs.Prelude.{All, [], ◌∷◌, ◌≡◌, ◌≢◌, ℕ, List, ◌<◌, ◌≤◌, Some, None, length, IfOk, IfErr, OnOk, IsErrOf};
 ghost use Rattle.ly_base.specs.Limits.{pattern_weight_of};
 ghost use Rattle.ly_ere.specs.Arena.{part_of};
 ghost use Rattle.ly_ere.specs.Expression.{Expression, set};
+ghost use Rattle.ly_ere.specs.Front.{BeginsNo};
 ghost use Rattle.ly_ere.specs.Grammar.{in_order};
 ghost use Rattle.ly_ere.specs.Groups.{closed, step, whole};
-ghost use Rattle.ly_ere.specs.Levels.{AreWithin, Grows, IsWithin, group_of, groups_of, reading_of};
+ghost use Rattle.ly_ere.specs.Levels.{Grows, IsWithin, group_of, groups_of, reading_of};
 ghost use Rattle.ly_ere.specs.Patterns.{IsExpression, IsPattern};
 ghost use Rattle.ly_ere.specs.Symbols.{IsWellFormed, IsWord};
 ghost use Rattle.ly_ere.specs.Weight.{weight_of_both};
@@ -80,10 +81,10 @@ fn with_symbol(
     symbol: Symbol<'_>,
 ) -> Result<Level, EreFault>
     requires parts { IsWithin (length arena.old) level }
-    requires outer_parts { AreWithin (length arena.old) outer.old.items }
+    requires outer_parts { All (IsWithin (length arena.old)) outer.old.items }
     requires formed { IsWellFormed symbol }
     ensures parts { IfOk result (IsWithin (length arena.new)) }
-    ensures outer_parts { OnOk result (AreWithin (length arena.new) outer.new.items) }
+    ensures outer_parts { OnOk result (All (IsWithin (length arena.new)) outer.new.items) }
     ensures step { IfOk result (λ l. (w : Word) × IsWord symbol.entry w × (step w (reading_of arena.old outer.old.items level) ≡ Some (reading_of arena.new outer.new.items l))) }
     ensures refused { IfErr result (λ e. e ≢ OutOfMemory → (w : Word) → IsWord symbol.entry w → step w (reading_of arena.old outer.old.items level) ≡ None) }
     ensures not_heavy { IsErrOf result EreFault.TooHeavy → ⊥ }
@@ -110,9 +111,9 @@ fn with_symbol(
 /// The group round a group that ends, with that group as its next atom.
 fn close(arena: &mut Arena, outer: &mut Vec<Level>, level: Level) -> Result<Level, EreFault>
     requires parts { IsWithin (length arena.old) level }
-    requires outer_parts { AreWithin (length arena.old) outer.old.items }
+    requires outer_parts { All (IsWithin (length arena.old)) outer.old.items }
     ensures parts { IfOk result (IsWithin (length arena.new)) }
-    ensures outer_parts { OnOk result (AreWithin (length arena.new) outer.new.items) }
+    ensures outer_parts { OnOk result (All (IsWithin (length arena.new)) outer.new.items) }
     ensures closed { IfOk result (λ l. closed (groups_of arena.old outer.old.items) (whole (group_of arena.old level)) ≡ Some (reading_of arena.new outer.new.items l)) }
     ensures refused { IfErr result (λ e. e ≢ OutOfMemory → closed (groups_of arena.old outer.old.items) (whole (group_of arena.old level)) ≡ None) }
     ensures not_heavy { IsErrOf result EreFault.TooHeavy → ⊥ }
@@ -129,7 +130,7 @@ fn push_string(arena: &mut Arena, behind: &[u8]) -> Result<usize, EreFault>
     ensures within { IfOk result (λ n. n < length arena.new) }
     ensures grown { Grows arena.old arena.new }
     ensures string { IfOk result (λ n. (bs : List ℕ) × (rest : List ℕ) × Quoted behind.now bs rest × (part_of arena.new n ≡ in_order bs)) }
-    ensures refused { IfErr result (λ e. e ≢ OutOfMemory → (bs rest : List ℕ) → Quoted behind.now bs rest → ⊥) }
+    ensures refused { IfErr result (λ e. e ≢ OutOfMemory → BeginsNo Quoted behind.now) }
     ensures not_heavy { IsErrOf result EreFault.TooHeavy → ⊥ }
 {
     let Some((byte, mut at)) = quoted_byte(behind)? else {

@@ -1,6 +1,7 @@
-ghost use Rattle.std.specs.Prelude.{◌≡◌, ◌↔◌, ℕ, List, drop, IfErr, ◌<◌, ◌≤◌, ◌≢◌, [], length, slice_index, not, nat_eq, IfOk, IsErrOf};
-ghost use Rattle.ly_ere.specs.Symbols.{IsWellFormed, IsWord};
-ghost use Rattle.ly_ere.specs.Words.{Spells, Word};
+ghost use Rattle.std.specs.Prelude.{◌≡◌, ℕ, IfErr, ◌<◌, ◌≢◌, length, slice_index, not, nat_eq, IfOk, IsErrOf};
+ghost use Rattle.ly_ere.specs.Front.{BeginsNo};
+ghost use Rattle.ly_ere.specs.Symbols.{IsNext};
+ghost use Rattle.ly_ere.specs.Words.{Spells};
 ghost use Rattle.ly_base.specs.ByteSet.{bytes_where, members};
 
 use crate::bracket::bracket;
@@ -57,11 +58,8 @@ impl Postfix {
 /// Reads the symbol at the front of a text, and answers how many bytes it takes.
 pub(crate) fn next_symbol(text: &[u8]) -> Result<(Symbol<'_>, usize), EreFault>
     requires { 0 < length text.now }
-    ensures first { IfOk result (λ found. 1 ≤ found.1) }
-    ensures within { IfOk result (λ found. found.1 ≤ length text.entry.now) }
-    ensures formed { IfOk result (λ found. IsWellFormed found.0) }
-    ensures word { IfOk result (λ found. (w : Word) (rest : List ℕ) → Spells text.entry.now w rest ↔ (IsWord found.0 w × (rest ≡ drop found.1 text.entry.now))) }
-    ensures refused { IfErr result (λ _. (w : Word) (rest : List ℕ) → Spells text.entry.now w rest → ⊥) }
+    ensures next { IfOk result (λ found. IsNext text.entry.now found.0 found.1) }
+    ensures refused { IfErr result (λ _. BeginsNo Spells text.entry.now) }
     ensures not_heavy { IsErrOf result EreFault.TooHeavy → ⊥ }
 {
     match text[0] {
@@ -90,11 +88,8 @@ pub(crate) fn next_symbol(text: &[u8]) -> Result<(Symbol<'_>, usize), EreFault>
 fn string(text: &[u8]) -> Result<(Symbol<'_>, usize), EreFault>
     requires some { 0 < length text.now }
     requires quote { slice_index text.now 0 ≡ 34 }
-    ensures first { IfOk result (λ found. 1 ≤ found.1) }
-    ensures within { IfOk result (λ found. found.1 ≤ length text.entry.now) }
-    ensures formed { IfOk result (λ found. IsWellFormed found.0) }
-    ensures word { IfOk result (λ found. (w : Word) (rest : List ℕ) → Spells text.entry.now w rest ↔ (IsWord found.0 w × (rest ≡ drop found.1 text.entry.now))) }
-    ensures refused { IfErr result (λ _. (w : Word) (rest : List ℕ) → Spells text.entry.now w rest → ⊥) }
+    ensures next { IfOk result (λ found. IsNext text.entry.now found.0 found.1) }
+    ensures refused { IfErr result (λ _. BeginsNo Spells text.entry.now) }
     ensures not_heavy { IsErrOf result EreFault.TooHeavy → ⊥ }
 {
     let length = quoted_length(text).ok_or(EreFault::UnclosedQuote)?;
@@ -105,11 +100,8 @@ fn string(text: &[u8]) -> Result<(Symbol<'_>, usize), EreFault>
 fn list(text: &[u8]) -> Result<(Symbol<'_>, usize), EreFault>
     requires some { 0 < length text.now }
     requires opening { slice_index text.now 0 ≡ 91 }
-    ensures first { IfOk result (λ found. 1 ≤ found.1) }
-    ensures within { IfOk result (λ found. found.1 ≤ length text.entry.now) }
-    ensures formed { IfOk result (λ found. IsWellFormed found.0) }
-    ensures word { IfOk result (λ found. (w : Word) (rest : List ℕ) → Spells text.entry.now w rest ↔ (IsWord found.0 w × (rest ≡ drop found.1 text.entry.now))) }
-    ensures refused { IfErr result (λ _. (w : Word) (rest : List ℕ) → Spells text.entry.now w rest → ⊥) }
+    ensures next { IfOk result (λ found. IsNext text.entry.now found.0 found.1) }
+    ensures refused { IfErr result (λ _. BeginsNo Spells text.entry.now) }
     ensures not_heavy { IsErrOf result EreFault.TooHeavy → ⊥ }
 {
     let (set, length) = bracket(text)?;
@@ -120,11 +112,8 @@ fn list(text: &[u8]) -> Result<(Symbol<'_>, usize), EreFault>
 fn escaped(text: &[u8]) -> Result<(Symbol<'_>, usize), EreFault>
     requires some { 0 < length text.now }
     requires backslash { slice_index text.now 0 ≡ 92 }
-    ensures first { IfOk result (λ found. 1 ≤ found.1) }
-    ensures within { IfOk result (λ found. found.1 ≤ length text.entry.now) }
-    ensures formed { IfOk result (λ found. IsWellFormed found.0) }
-    ensures word { IfOk result (λ found. (w : Word) (rest : List ℕ) → Spells text.entry.now w rest ↔ (IsWord found.0 w × (rest ≡ drop found.1 text.entry.now))) }
-    ensures refused { IfErr result (λ _. (w : Word) (rest : List ℕ) → Spells text.entry.now w rest → ⊥) }
+    ensures next { IfOk result (λ found. IsNext text.entry.now found.0 found.1) }
+    ensures refused { IfErr result (λ _. BeginsNo Spells text.entry.now) }
     ensures not_heavy { IsErrOf result EreFault.TooHeavy → ⊥ }
 {
     let (byte, length) = escape(text)?;
@@ -133,8 +122,7 @@ fn escaped(text: &[u8]) -> Result<(Symbol<'_>, usize), EreFault>
 
 /// What `.` stands for.
 fn all_but_newline() -> ByteSet
-    ensures some { members result ≢ [] }
-    ensures bytes { members result ≡ bytes_where (λ b. not (nat_eq b 10)) }
+    ensures { members result ≡ bytes_where (λ b. not (nat_eq b 10)) }
 {
     ByteSet::of(b'\n').complement()
 }

@@ -26,7 +26,7 @@ returns-then-high-low-clause-refused c = λ rs rest h.
     let more = rw whole_slice at (sym c.begins_range.ensures ∙ c.if-not-begins_range.false) in
     let k = points_range h c.in_ok-low.low (drop c.in_ok-low.low_length c.args.text.now) c.in_ok-low.ensures.point more in
     let high = simp whole_slice at c.in_ok-high.ensures.point in
-    absurd (omega (arith, k.2, (point_one k.1 c.in_ok-high.high _ high).0))
+    absurd (omega (arith, k.2, (point_one k.1 high).0))
 
 pub returns-clause-points : goal.returns-clause-points
 returns-clause-points c =

@@ -11,8 +11,8 @@ loop-at-preserved c =
     let at = c.loop-at.at in
     let ahead : IsBehind (drop at line) → ⊥ = elim c.match-matches.branch [ in-32 w ↦ absurd (cc) | in_default w ↦ word_behind line at c.loop-at-test.true (grind arith) (grind arith) ] in
     record {
-      within = omega (arith, ap length (whole_slice at line), length-drop at line, c.in-Ok.ensures.within);
-      goes_on = extent_more line at c.in-Ok.length c.loop-at.invariant.goes_on ahead (λ w r s. ((rw whole_slice at (c.in-Ok.ensures.word w r)).0 s).1);
+      within = omega (arith, ap length (whole_slice at line), length-drop at line, c.in-Ok.ensures.next.front.1);
+      goes_on = extent_more line at c.in-Ok.length c.loop-at.invariant.goes_on ahead (λ w r s. ((rw whole_slice at (c.in-Ok.ensures.next.word w r)).0 s).1);
     }
 
 pub returns-in-Err-clause-exact : goal.returns-in-Err-clause-exact

@@ -1,5 +1,6 @@
 use Rattle.std.proofs.Common.{length}
-use Rattle.ly_ere.specs.Levels.{AreWithin, IsWithin, reading_of}
+use Rattle.std.specs.Prelude.{All}
+use Rattle.ly_ere.specs.Levels.{IsWithin, reading_of}
 use Rattle.ly_ere.proofs.ReadLemmas.{IsRead}
 use Rattle.ly_ere.proofs.read.read_expression.Given as goal
 
@@ -7,7 +8,7 @@ use Rattle.ly_ere.proofs.read.read_expression.Given as goal
 abbrev pub invariant-loop-rest : goal.invariant-loop-rest
 invariant-loop-rest l = record {
   parts : IsWithin (length l.arena) l.level;
-  outer_parts : AreWithin (length l.arena) l.outer.items;
+  outer_parts : All (IsWithin (length l.arena)) l.outer.items;
   read : IsRead l.text l.rest (reading_of l.arena l.outer.items l.level);
 }
 

@@ -1,25 +1,16 @@
-use Rattle.std.proofs.Common.{◌≡◌, ◌≢◌, ◌≤◌, Result, Ok, Err, IfErr, None, false, refl, ap, arith, subst, sym}
-use Rattle.std.specs.Result.{IsErrAnd}
-use Rattle.ly_base.specs.Limits.{pattern_weight_of}
+use Rattle.std.proofs.Common.{None, false, refl, ap, arith}
+use Rattle.std.proofs.lemmas.Result.{err_from_is_err_and}
 use Rattle.ly_base.specs.declared.cut.Cut.TheVariants.{Whole}
 use Rattle.ly_ere.specs.Expression.{Expression}
-use Rattle.ly_ere.specs.Patterns.{IsPattern}
-use Rattle.ly_ere.specs.Weight.{weight_of, weight_of_both}
-use Rattle.ly_ere.specs.declared.fault.EreFault.{EreFault}
-use Rattle.ly_ere.specs.declared.fault.EreFault.TheVariants.{OutOfMemory}
+use Rattle.ly_ere.specs.Weight.{weight_of}
 use Rattle.ly_ere.specs.declared.pattern.Pattern.{Pattern}
 use Rattle.ly_ere.proofs.WordLemmas.{expression_one}
 use Rattle.ly_ere.proofs.read.read_pattern.Goals as goal
 
--- the fault that is passed on
-passed : {T E : Type 0} (P : E → Type 0) (r : Result T E) (fault : E) → IsErrAnd r (λ e. e ≡ fault) → P fault → IfErr r P
-passed P (Ok x) fault i p = tt
-passed P (Err e) fault i p = subst P (sym i) p
-
 pub returns-in_err-head-clause-refused : goal.returns-in_err-head-clause-refused
 returns-in_err-head-clause-refused c =
-    passed (λ (e : EreFault). e ≢ OutOfMemory → (p : Pattern) → IsPattern c.args.names.now c.args.text.now p → weight_of_both c.args.names.now p.head p.tail ≤ pattern_weight_of c.args.limits.now → ⊥) c.from_residual.result c.in_err-head.field-0.0 c.from_residual.ensures.1
-    (λ ne p is light. c.in_err-head.ensures.refused ne p.head is.head)
+    let fault = err_from_is_err_and c.from_residual.result c.from_residual.ensures.1 in
+    rw (fault.1, fault.2) (λ other p is _. c.in_err-head.ensures.refused other p.head is.head)
 
 -- the pattern that is read, were it not too heavy
 abbrev plain : Expression → Pattern

@@ -1,5 +1,8 @@
-use Rattle.std.proofs.Common.{◌≡◌, length, refl, Result, Ok, Err, IfOk, OnOk}
+use Rattle.std.proofs.Common.{◌≡◌, length, refl}
 use Rattle.std.proofs.Common.{List, Some, ◌∙◌}
+use Rattle.std.specs.Prelude.{All}
+use Rattle.std.proofs.lemmas.List.Elements.{All-push}
+use Rattle.std.proofs.lemmas.Result.{IfOk-weaker}
 use Rattle.ly_base.specs.ByteSet.{members}
 use Rattle.ly_ere.specs.declared.level.Level.{Level}
 use Rattle.ly_ere.specs.declared.symbol.Postfix.{Postfix}
@@ -7,32 +10,23 @@ use Rattle.ly_ere.specs.declared.symbol.Postfix.TheVariants.{Star, Plus, Optiona
 use Rattle.ly_ere.specs.Expression.{Expression, set}
 use Rattle.ly_ere.specs.Grammar.{in_order}
 use Rattle.ly_ere.specs.Groups.{Reading, inside, step, with_bar, with_postfix}
-use Rattle.ly_ere.specs.Levels.{AreWithin, Grows, group_of, operated, reading_of}
+use Rattle.ly_ere.specs.Levels.{Grows, IsWithin, group_of, operated, reading_of}
 use Rattle.ly_ere.specs.Symbols.{word_of}
 use Rattle.ly_ere.specs.Words.{one_of, string, opening, closing, bar}
-use Rattle.ly_ere.proofs.LevelLemmas.{all_within_more, all_within_push, atom_step, grows_length, grows_push, grows_trans, inside_step, open_step, part_last}
+use Rattle.ly_ere.proofs.LevelLemmas.{atom_step, grows_push, grows_trans, inside_step, open_step, part_last, within_grown}
 use Rattle.ly_ere.proofs.read.with_symbol.Goals as goal
-
-always : {T E : Type 0} (P : Type 0) (r : Result T E) → P → OnOk r P
-always P (Ok x) p = p
-always P (Err e) p = tt
-
-onto : {T E : Type 0} (P Q : T → Type 0) (r : Result T E) → ((x : T) → P x → Q x) → IfOk r P → IfOk r Q
-onto P Q (Ok x) f p = f x p
-onto P Q (Err e) f p = tt
 
 step_postfix : (p : Postfix) (r : Reading) → step (word_of p) r ≡ inside r.outer (with_postfix r.group (operated p))
 step_postfix Star r = refl
 step_postfix Plus r = refl
 step_postfix Optional r = refl
 
-operator_step : (p : Postfix) (old new : List Expression) (items : List Level) (level l : Level) → Grows old new → AreWithin (length old) items → with_postfix (group_of old level) (operated p) ≡ Some (group_of new l)
+operator_step : (p : Postfix) (old new : List Expression) (items : List Level) (level l : Level) → Grows old new → All (IsWithin (length old)) items → with_postfix (group_of old level) (operated p) ≡ Some (group_of new l)
     → step (word_of p) (reading_of old items level) ≡ Some (reading_of new items l)
 operator_step p old new items level l g parts e = step_postfix p (reading_of old items level) ∙ inside_step old new items l (with_postfix (group_of old level) (operated p)) g parts e
 
 pub returns-in_ok-with_atom-in-Set-clause-outer_parts : goal.returns-in_ok-with_atom-in-Set-clause-outer_parts
-returns-in_ok-with_atom-in-Set-clause-outer_parts c = all_within_more (length c.args.arena.now) _ _
-    (grows_length _ _ (grows_trans c.args.arena.now _ _ (grows_push _ _ _ c.in_ok-atom-in-Set.ensures.ok) c.in_ok-with_atom-in-Set.ensures.grown)) c.requires.outer_parts
+returns-in_ok-with_atom-in-Set-clause-outer_parts c = within_grown c.args.arena.now _ _ (grows_trans c.args.arena.now _ _ (grows_push _ _ _ c.in_ok-atom-in-Set.ensures.ok) c.in_ok-with_atom-in-Set.ensures.grown) c.requires.outer_parts
 
 pub returns-in_ok-with_atom-in-Set-clause-step : goal.returns-in_ok-with_atom-in-Set-clause-step
 returns-in_ok-with_atom-in-Set-clause-step c = rw c.in-Set.is (
@@ -43,8 +37,7 @@ returns-in_ok-with_atom-in-Set-clause-step c = rw c.in-Set.is (
 )
 
 pub returns-in_ok-with_atom-in-Text-clause-outer_parts : goal.returns-in_ok-with_atom-in-Text-clause-outer_parts
-returns-in_ok-with_atom-in-Text-clause-outer_parts c = all_within_more (length c.args.arena.now) _ _
-    (grows_length _ _ (grows_trans c.args.arena.now _ _ c.in_ok-atom-in-Text.ensures.grown c.in_ok-with_atom-in-Text.ensures.grown)) c.requires.outer_parts
+returns-in_ok-with_atom-in-Text-clause-outer_parts c = within_grown c.args.arena.now _ _ (grows_trans c.args.arena.now _ _ c.in_ok-atom-in-Text.ensures.grown c.in_ok-with_atom-in-Text.ensures.grown) c.requires.outer_parts
 
 pub returns-in_ok-with_atom-in-Text-clause-step : goal.returns-in_ok-with_atom-in-Text-clause-step
 returns-in_ok-with_atom-in-Text-clause-step c = let found = c.in_ok-atom-in-Text.ensures.string in rw c.in-Text.is (
@@ -58,7 +51,7 @@ pub returns-in_ok-push-in-Open-clause-parts : goal.returns-in_ok-push-in-Open-cl
 returns-in_ok-push-in-Open-clause-parts c = c.new.ensures.parts _
 
 pub returns-in_ok-push-in-Open-clause-outer_parts : goal.returns-in_ok-push-in-Open-clause-outer_parts
-returns-in_ok-push-in-Open-clause-outer_parts c = rw c.in_ok-push-in-Open.ensures.items (all_within_push _ c.args.outer.now.items c.args.level c.requires.outer_parts c.requires.parts)
+returns-in_ok-push-in-Open-clause-outer_parts c = rw c.in_ok-push-in-Open.ensures.items (All-push (IsWithin (length c.args.arena.now)) c.args.outer.now.items c.args.level c.requires.outer_parts c.requires.parts)
 
 pub returns-in_ok-push-in-Open-clause-step : goal.returns-in_ok-push-in-Open-clause-step
 returns-in_ok-push-in-Open-clause-step c = rw (c.in-Open.is, c.in_ok-push-in-Open.ensures.items) (
@@ -68,16 +61,16 @@ returns-in_ok-push-in-Open-clause-step c = rw (c.in-Open.is, c.in_ok-push-in-Ope
 )
 
 pub returns-in-Close-clause-step : goal.returns-in-Close-clause-step
-returns-in-Close-clause-step c = rw c.in-Close.is (onto _ _ c.close.result (λ l e. (closing, refl, e)) c.close.ensures.closed)
+returns-in-Close-clause-step c = rw c.in-Close.is (IfOk-weaker c.close.result _ _ (λ l e. (closing, refl, e)) c.close.ensures.closed)
 
 pub returns-in-Bar-clause-outer_parts : goal.returns-in-Bar-clause-outer_parts
-returns-in-Bar-clause-outer_parts c = always _ _ (all_within_more (length c.args.arena.now) _ _ (grows_length _ _ c.with_bar.ensures.grown) c.requires.outer_parts)
+returns-in-Bar-clause-outer_parts c = IfOk-weaker c.with_bar.result _ _ (λ _ _. within_grown c.args.arena.now _ _ c.with_bar.ensures.grown c.requires.outer_parts) c.with_bar.ensures.parts
 
 pub returns-in-Bar-clause-step : goal.returns-in-Bar-clause-step
-returns-in-Bar-clause-step c = rw c.in-Bar.is (onto _ _ c.with_bar.result (λ l e. (bar, refl, inside_step c.args.arena.now c.with_bar.new.arena c.args.outer.now.items l (with_bar (group_of c.args.arena.now c.args.level)) c.with_bar.ensures.grown c.requires.outer_parts e)) c.with_bar.ensures.bar)
+returns-in-Bar-clause-step c = rw c.in-Bar.is (IfOk-weaker c.with_bar.result _ _ (λ l e. (bar, refl, inside_step c.args.arena.now c.with_bar.new.arena c.args.outer.now.items l (with_bar (group_of c.args.arena.now c.args.level)) c.with_bar.ensures.grown c.requires.outer_parts e)) c.with_bar.ensures.bar)
 
 pub returns-in-Postfix-clause-outer_parts : goal.returns-in-Postfix-clause-outer_parts
-returns-in-Postfix-clause-outer_parts c = always _ _ (all_within_more (length c.args.arena.now) _ _ (grows_length _ _ c.with_postfix.ensures.grown) c.requires.outer_parts)
+returns-in-Postfix-clause-outer_parts c = IfOk-weaker c.with_postfix.result _ _ (λ _ _. within_grown c.args.arena.now _ _ c.with_postfix.ensures.grown c.requires.outer_parts) c.with_postfix.ensures.parts
 
 pub returns-in-Postfix-clause-step : goal.returns-in-Postfix-clause-step
-returns-in-Postfix-clause-step c = rw c.in-Postfix.is (onto _ _ c.with_postfix.result (λ l e. (word_of c.in-Postfix.postfix, refl, operator_step c.in-Postfix.postfix c.args.arena.now c.with_postfix.new.arena c.args.outer.now.items c.args.level l c.with_postfix.ensures.grown c.requires.outer_parts e)) c.with_postfix.ensures.operator)
+returns-in-Postfix-clause-step c = rw c.in-Postfix.is (IfOk-weaker c.with_postfix.result _ _ (λ l e. (word_of c.in-Postfix.postfix, refl, operator_step c.in-Postfix.postfix c.args.arena.now c.with_postfix.new.arena c.args.outer.now.items c.args.level l c.with_postfix.ensures.grown c.requires.outer_parts e)) c.with_postfix.ensures.operator)

@@ -1,0 +1,74 @@
+-- The symbol at the front of a text.
+use Rattle.std.proofs.Common.{◌≡◌, ◌≢◌, ℕ, ◌<◌, List, [], ◌∷◌, length, drop, get_or, refl, sym, ap, subst, ◌∙◌, ◌↔◌, arith, Some, false, nat_eq}
+use Rattle.std.specs.Prelude.{not}
+use Rattle.ly_base.specs.declared.byte_set.ByteSet.{ByteSet}
+use Rattle.ly_base.specs.ByteSet.{all_bytes, bytes_where, members}
+use Rattle.ly_base.specs.Escapes.{Escape}
+use Rattle.ly_base.proofs.EscapeLemmas.{byte_at}
+use Rattle.ly_ere.specs.Front.{IsFront}
+use Rattle.ly_ere.specs.Symbols.{IsNext, IsWellFormed, IsWord}
+use Rattle.ly_ere.specs.declared.symbol.Symbol.{Symbol}
+use Rattle.ly_ere.specs.declared.symbol.Symbol.TheVariants.{Set, Text, Open, Close, Bar, Postfix as Operator}
+use Rattle.ly_ere.specs.Words.{Word, one_of, string, Quoted, IsListed, Spells, plain, dot, backslash, bracket, quoted, sign, sign_of, is_among, own_meaning}
+use Rattle.ly_ere.proofs.QuotedLemmas.{quoted_one}
+use Rattle.ly_ere.proofs.SpellLemmas.{spelled_quoted, spells_one}
+
+-- a symbol stands for one word at most
+pub word_one : (s : Symbol) (v w : Word) → IsWord s v → IsWord s w → v ≡ w
+word_one (Set s) v w h k = h ∙ sym k
+word_one (Text t) v w h k = h.3 ∙ (ap string (quoted_one h.2 k.2).0 ∙ sym k.3)
+word_one Open v w h k = h ∙ sym k
+word_one Close v w h k = h ∙ sym k
+word_one Bar v w h k = h ∙ sym k
+word_one (Operator p) v w h k = h ∙ sym k
+
+some_but_newline : bytes_where (λ b. not (nat_eq b 10)) ≢ []
+unfolding all_bytes
+some_but_newline none = let many : length (bytes_where (λ b. not (nat_eq b 10))) ≡ 255 = refl in absurd (omega (arith, many, ap length none))
+
+-- a word that the symbol stands for is at the front, and so no other
+next_is : (t : List ℕ) (n : ℕ) (s : Symbol) (w : Word) → IsFront t n → IsWellFormed s → IsWord s w → Spells t w (drop n t) → IsNext t s n
+next_is t n s w front formed is spelled = record {
+  front = front;
+  formed = formed;
+  word = λ v rest. (
+    λ k. let one = spells_one spelled k in (subst (IsWord s) one.0 is, sym one.1),
+    λ k. rw (word_one s v w k.0 is, k.1) spelled,
+  );
+}
+
+module _ (t : List ℕ) (some : 0 < length t) where
+  one : IsFront t 1
+  one = (omega arith, omega arith)
+
+  -- behind a first byte
+  first_spells : (c : ℕ) (w : Word) (rest : List ℕ) → get_or t 0 0 ≡ c → Spells (c ∷ drop 1 t) w rest → Spells t w rest
+  first_spells c w rest e s = subst (λ u. Spells u w rest) (sym (byte_at t 0 c some e)) s
+
+  -- a sign
+  pub sign_next : (c : ℕ) (s : Symbol) (w : Word) → get_or t 0 0 ≡ c → sign_of c ≡ Some w → IsWellFormed s → IsWord s w → IsNext t s 1
+  sign_next c s w e m formed is = next_is t 1 s w one formed is (first_spells c w (drop 1 t) e (sign c w (drop 1 t) m))
+
+  -- a byte that stands for itself
+  pub plain_next : (c : ℕ) (set : ByteSet) → get_or t 0 0 ≡ c → members set ≡ c ∷ [] → is_among own_meaning c ≡ false → IsNext t (Set set) 1
+  plain_next c set e is m = next_is t 1 (Set set) (one_of (c ∷ [])) one (λ n. absurd (cc)) (rw is refl) (first_spells c _ (drop 1 t) e (plain c (drop 1 t) m))
+
+  -- `.`
+  pub dot_next : (set : ByteSet) → get_or t 0 0 ≡ 46 → members set ≡ bytes_where (λ b. not (nat_eq b 10)) → IsNext t (Set set) 1
+  dot_next set e is = next_is t 1 (Set set) (one_of (members set)) one (rw is some_but_newline) refl (first_spells 46 _ (drop 1 t) e (rw is (dot (drop 1 t))))
+
+  -- an escape
+  pub escape_next : (b n : ℕ) (set : ByteSet) → IsFront t n → get_or t 0 0 ≡ 92 → members set ≡ b ∷ [] → Escape (drop 1 t) b (drop n t) → IsNext t (Set set) n
+  escape_next b n set front e is h = next_is t n (Set set) (one_of (b ∷ [])) front (λ n. absurd (cc)) (rw is refl) (first_spells 92 _ (drop n t) e (backslash (drop 1 t) (drop n t) b h))
+
+  -- a bracket expression
+  pub bracket_next : (n : ℕ) (set : ByteSet) → IsFront t n → get_or t 0 0 ≡ 91 → members set ≢ [] → IsListed (drop 1 t) (members set) (drop n t) → IsNext t (Set set) n
+  bracket_next n set front e formed h = next_is t n (Set set) (one_of (members set)) front formed refl (first_spells 91 _ (drop n t) e (bracket (drop 1 t) (members set) (drop n t) h))
+
+  -- a string
+  pub string_ok : (n : ℕ) → get_or t 0 0 ≡ 34 → ((bs rest : List ℕ) → Quoted (drop 1 t) bs rest → rest ≡ drop n t) → (w : Word) (rest : List ℕ)
+      → Spells t w rest ↔ (((bs : List ℕ) × (left : List ℕ) × Quoted (drop 1 t) bs left × (w ≡ string bs)) × (rest ≡ drop n t))
+  string_ok n e ends w rest = let f : t ≡ 34 ∷ drop 1 t = byte_at t 0 34 some e in (
+    λ s. let k = spelled_quoted (rw f at s) in ((k.0, rest, k.1, k.2), ends k.0 rest k.1),
+    λ k. let same : k.0.1 ≡ rest = ends k.0.0 k.0.1 k.0.2 ∙ sym k.1 in rw (f, k.0.3) (quoted (drop 1 t) k.0.0 rest (subst (λ x. Quoted (drop 1 t) k.0.0 x) same k.0.2)),
+  )
