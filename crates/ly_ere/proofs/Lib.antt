@@ -15,7 +15,6 @@ pub mod QuotedLemmas
 pub mod RangeLemmas
 pub mod ReadItemLemmas
 pub mod ReadLemmas
-pub mod ScanLemmas
 pub mod SpellLemmas
 pub mod StringLemmas
 pub mod SymbolLemmas

@@ -1,7 +1,8 @@
 -- A name stands for its definition.
-use Rattle.std.proofs.Common.{◌≡◌, inl, inr, ℕ, zero, suc, ◌+◌, ◌-◌, ◌<◌, ◌≤◌, List, length, refl, subst, arith}
+use Rattle.std.proofs.lemmas.Option.{slice_get_within}
+use Rattle.std.proofs.Common.{slice_get, Some, ◌↔◌, ◌<◌, length, ◌≡◌, inl, inr, ℕ, zero, suc, ◌+◌, ◌-◌, ◌<◌, ◌≤◌, List, length, refl, subst, arith}
 use Rattle.ly_ere.specs.Expression.{Expression, set, empty, concat, either, star, plus, optional, repeat, name, MatchesUnder, Joined, NamedUpTo, Matches}
-use Rattle.ly_ere.specs.Names.{UsesBelow, NameIsDefinition}
+use Rattle.ly_ere.specs.Names.{AreOrdered, UsesBelow, NameIsDefinition}
 
 joined_map : (L M : List ℕ → Type 0) → ((w : List ℕ) → L w → M w) → (k : ℕ) (w : List ℕ) → Joined L k w → Joined M k w
 joined_map L M f zero w j = j
@@ -39,8 +40,8 @@ up_to ds n m x w less le h = let e : (m - n) + n ≡ m = omega arith in subst (�
 down_to : (ds : List Expression) (n m x : ℕ) (w : List ℕ) → x < n → n ≤ m → NamedUpTo ds m x w → NamedUpTo ds n x w
 down_to ds n m x w less le h = let e : m ≡ (m - n) + n = omega arith in down ds n (m - n) x w less (subst (λ k. NamedUpTo ds k x w) e h)
 
-pub name_is_definition : NameIsDefinition
-name_is_definition ds x d w ordered is within = (
+within_is_definition : (ds : List Expression) (x : ℕ) (d : Expression) (w : List ℕ) → AreOrdered ds → slice_get ds x ≡ Some d → x < length ds → Matches ds (name x) w ↔ Matches ds d w
+within_is_definition ds x d w ordered is within = (
   λ h. there (down_to ds (suc x) (length ds) x w (omega arith) (omega arith) h),
   λ h. up_to ds (suc x) (length ds) x w (omega arith) (omega arith) (inl (refl, d, is, change (NamedUpTo ds (length ds)) (NamedUpTo ds x) x (λ y v less k. down_to ds x (length ds) y v less (omega arith) k) d w (ordered x d is) h)),
 )
@@ -50,3 +51,6 @@ name_is_definition ds x d w ordered is within = (
         let same : p.1 ≡ d = let a = p.2 in cc in
         change (NamedUpTo ds x) (NamedUpTo ds (length ds)) x (λ y v less k. up_to ds x (length ds) y v less (omega arith) k) d w (ordered x d is) (subst (λ e. MatchesUnder (NamedUpTo ds x) e w) same p.3)
     there (inr p) = absurd (omega (arith, p.0))
+
+pub name_is_definition : NameIsDefinition
+name_is_definition ds x d w ordered is = within_is_definition ds x d w ordered is (slice_get_within ds x d is)

@@ -1,5 +1,5 @@
 -- The symbol at the front of a text.
-use Rattle.std.proofs.Common.{◌≡◌, ◌≢◌, ℕ, ◌<◌, List, [], ◌∷◌, length, drop, get_or, refl, sym, ap, subst, ◌∙◌, ◌↔◌, arith, Some, false, nat_eq}
+use Rattle.std.proofs.Common.{◌≡◌, ◌≢◌, ℕ, ◌<◌, List, [], ◌∷◌, length, drop, get_or, refl, sym, ap, subst, ◌∙◌, arith, Some, Bor, false, nat_eq}
 use Rattle.std.specs.Prelude.{not}
 use Rattle.ly_base.specs.declared.byte_set.ByteSet.{ByteSet}
 use Rattle.ly_base.specs.ByteSet.{all_bytes, bytes_where, members}
@@ -11,7 +11,7 @@ use Rattle.ly_ere.specs.declared.symbol.Symbol.{Symbol}
 use Rattle.ly_ere.specs.declared.symbol.Symbol.TheVariants.{Set, Text, Open, Close, Bar, Postfix as Operator}
 use Rattle.ly_ere.specs.Words.{Word, one_of, string, Quoted, IsListed, Spells, plain, dot, backslash, bracket, quoted, sign, sign_of, is_among, own_meaning}
 use Rattle.ly_ere.proofs.QuotedLemmas.{quoted_one}
-use Rattle.ly_ere.proofs.SpellLemmas.{spelled_quoted, spells_one}
+use Rattle.ly_ere.proofs.SpellLemmas.{spells_one}
 
 -- a symbol stands for one word at most
 pub word_one : (s : Symbol) (v w : Word) → IsWord s v → IsWord s w → v ≡ w
@@ -66,9 +66,5 @@ module _ (t : List ℕ) (some : 0 < length t) where
   bracket_next n set front e formed h = next_is t n (Set set) (one_of (members set)) front formed refl (first_spells 91 _ (drop n t) e (bracket (drop 1 t) (members set) (drop n t) h))
 
   -- a string
-  pub string_ok : (n : ℕ) → get_or t 0 0 ≡ 34 → ((bs rest : List ℕ) → Quoted (drop 1 t) bs rest → rest ≡ drop n t) → (w : Word) (rest : List ℕ)
-      → Spells t w rest ↔ (((bs : List ℕ) × (left : List ℕ) × Quoted (drop 1 t) bs left × (w ≡ string bs)) × (rest ≡ drop n t))
-  string_ok n e ends w rest = let f : t ≡ 34 ∷ drop 1 t = byte_at t 0 34 some e in (
-    λ s. let k = spelled_quoted (rw f at s) in ((k.0, rest, k.1, k.2), ends k.0 rest k.1),
-    λ k. let same : k.0.1 ≡ rest = ends k.0.0 k.0.1 k.0.2 ∙ sym k.1 in rw (f, k.0.3) (quoted (drop 1 t) k.0.0 rest (subst (λ x. Quoted (drop 1 t) k.0.0 x) same k.0.2)),
-  )
+  pub string_next : (bs : List ℕ) (n : ℕ) (behind : Bor (List ℕ)) → IsFront t n → get_or t 0 0 ≡ 34 → behind.now ≡ drop 1 t → Quoted (drop 1 t) bs (drop n t) → IsNext t (Text behind) n
+  string_next bs n behind front e is q = next_is t n (Text behind) (string bs) front tt (bs, drop n t, rw is q, refl) (first_spells 34 _ (drop n t) e (quoted (drop 1 t) bs (drop n t) q))

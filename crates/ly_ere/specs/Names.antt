@@ -1,5 +1,5 @@
 -- Definitions in an order in which each uses earlier ones only.
-use Rattle.std.specs.Prelude.{◌≡◌, ◌↔◌, ℕ, ◌<◌, List, length, slice_get, Some}
+use Rattle.std.specs.Prelude.{◌≡◌, ◌↔◌, ℕ, ◌<◌, List, slice_get, Some}
 use Rattle.ly_ere.specs.Expression.{Expression, set, empty, concat, either, star, plus, optional, repeat, name, Matches}
 
 -- each name in the expression is below n
@@ -20,4 +20,4 @@ AreOrdered names = (n : ℕ) (d : Expression) → slice_get names n ≡ Some d �
 
 -- a name stands for its definition
 abbrev pub NameIsDefinition : Type 0
-NameIsDefinition = (names : List Expression) (x : ℕ) (d : Expression) (w : List ℕ) → AreOrdered names → slice_get names x ≡ Some d → x < length names → Matches names (name x) w ↔ Matches names d w
+NameIsDefinition = (names : List Expression) (x : ℕ) (d : Expression) (w : List ℕ) → AreOrdered names → slice_get names x ≡ Some d → Matches names (name x) w ↔ Matches names d w

@@ -87,7 +87,7 @@ fn add_class(set: &mut ByteSet, text: &[u8]) -> Result<usize, EreFault>
     ensures refused { IfErr result (λ _. BeginsNo IsClass text.now) }
     ensures not_heavy { IsErrOf result EreFault.TooHeavy → ⊥ }
 {
-    let end = named_end(text, b':', 2).ok_or(EreFault::UnclosedBracket)?;
+    let end = named_end(text, b':').ok_or(EreFault::UnclosedBracket)?;
     let ranges = class(&text[2..end])?;
     for (low, high) in ranges {
         set.insert_range(*low, *high);
@@ -162,21 +162,21 @@ fn named_byte(text: &[u8], mark: u8) -> Result<(u8, usize), EreFault>
     if stands_at(text, 3, mark) && stands_at(text, 4, b']') {
         return Ok((text[2], 5));
     }
-    Err(match named_end(text, mark, 3) {
+    Err(match named_end(text, mark) {
         None => EreFault::UnclosedBracket,
         Some(_) => EreFault::UnknownClass,
     })
 }
 
-/// Where the mark stands that ends a named form together with `]`, from an index on; `None` where the line
-/// ends first.
-fn named_end(text: &[u8], mark: u8, from: usize) -> Option<usize>
-    ensures within { IfSome result (λ end. (from ≤ end) × (end + 2 ≤ length text.now)) }
+/// Where the mark stands that ends the named form at the front of a text together with `]`; `None` where the
+/// line ends first.
+fn named_end(text: &[u8], mark: u8) -> Option<usize>
+    ensures within { IfSome result (λ end. (2 ≤ end) × (end + 2 ≤ length text.now)) }
     ensures ends { IfSome result (λ end. drop end text.now ≡ mark ∷ 93 ∷ drop (end + 2) text.now) }
-    ensures first { IfSome result (λ end. (name rest : List ℕ) → IsNamed mark (drop from text.now) name rest → end ≡ from + length name) }
-    ensures none { IfNone result (BeginsNo (IsNamed mark) (drop from text.now)) }
+    ensures first { IfSome result (λ end. (name rest : List ℕ) → IsNamed mark (drop 2 text.now) name rest → end ≡ 2 + length name) }
+    ensures none { IfNone result (BeginsNo (IsNamed mark) (drop 2 text.now)) }
 {
-    for at in from..text.len() {
+    for at in 2..text.len() {
         if text[at] == b'\n' {
             return None;
         }

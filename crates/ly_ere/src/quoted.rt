@@ -1,30 +1,24 @@
-ghost use Rattle.std.specs.Prelude.{◌≡◌, ◌↔◌, ℕ, List, ◌<◌, ◌≤◌, drop, length, slice_get, Some, IfErr, IfOk, IfSome, IsErrOf};
+ghost use Rattle.std.specs.Prelude.{◌≡◌, ℕ, List, drop, slice_get, Some, IfErr, IfOk, IfSome, IsErrOf};
 ghost use Rattle.std.specs.Option.{IfNone};
 ghost use Rattle.ly_ere.specs.Front.{BeginsNo, IsFront};
 ghost use Rattle.ly_ere.specs.Words.{IsPart, Quoted};
 
 use crate::fault::EreFault;
-use crate::front::stands_at;
 use ly_base::escape;
 
-/// How many bytes the string at the front of a text takes, quotes included; its first byte is the opening
-/// quote. `None` where the line ends first.
-pub(crate) fn quoted_length(text: &[u8]) -> Option<usize>
-    ensures within { IfSome result (λ end. (2 ≤ end) × (end ≤ length text.now)) }
-    ensures end { IfSome result (λ end. (bs rest : List ℕ) → Quoted (drop 1 text.now) bs rest → rest ≡ drop end text.now) }
-    ensures none { IfNone result (BeginsNo Quoted (drop 1 text.now)) }
+/// How many bytes a string takes, of which this is what stands behind its opening quote: up to the closing quote,
+/// with it.
+pub(crate) fn quoted_length(behind: &[u8]) -> Result<usize, EreFault>
+    ensures front { IfOk result (IsFront behind.now) }
+    ensures quoted { IfOk result (λ end. (bs : List ℕ) × Quoted behind.now bs (drop end behind.now)) }
+    ensures refused { IfErr result (λ _. BeginsNo Quoted behind.now) }
+    ensures not_heavy { IsErrOf result EreFault.TooHeavy → ⊥ }
 {
-    let mut at = 1;
-    while at < text.len() {
-        match text[at] {
-            b'"' => return Some(at + 1),
-            b'\n' => return None,
-            b'\\' if stands_at(text, at + 1, b'\n') => return None,
-            b'\\' => at += 2,
-            _ => at += 1,
-        }
+    let mut at = 0;
+    while let Some((_, length)) = quoted_byte(&behind[at..])? {
+        at += length;
     }
-    None
+    Ok(at + 1)
 }
 
 /// Reads the byte or escape at the front of what stands behind a string's opening quote: its byte, and how many

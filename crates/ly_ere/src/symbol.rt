@@ -73,12 +73,8 @@ pub(crate) fn next_symbol(text: &[u8]) -> Result<(Symbol<'_>, usize), EreFault>
         b'[' => list(text),
         b'\\' => escaped(text),
         b'.' => Ok((Symbol::Set(all_but_newline()), 1)),
-        b'^' => Err(EreFault::AnchorInside),
-        b'$' => Err(EreFault::AnchorInside),
-        b'/' => Err(EreFault::StrayOperator),
-        b' ' => Err(EreFault::StrayOperator),
-        b'\t' => Err(EreFault::StrayOperator),
-        b'\n' => Err(EreFault::StrayOperator),
+        b'^' | b'$' => Err(EreFault::AnchorInside),
+        b'/' | b' ' | b'\t' | b'\n' => Err(EreFault::StrayOperator),
         b'{' => Err(brace_fault(text.get(1).copied())),
         byte => Ok((Symbol::Set(ByteSet::of(byte)), 1)),
     }
@@ -92,8 +88,8 @@ fn string(text: &[u8]) -> Result<(Symbol<'_>, usize), EreFault>
     ensures refused { IfErr result (λ _. BeginsNo Spells text.entry.now) }
     ensures not_heavy { IsErrOf result EreFault.TooHeavy → ⊥ }
 {
-    let length = quoted_length(text).ok_or(EreFault::UnclosedQuote)?;
-    Ok((Symbol::Text(&text[1..]), length))
+    let behind = &text[1..];
+    Ok((Symbol::Text(behind), 1 + quoted_length(behind)?))
 }
 
 /// The bracket expression at the front, whose first byte is `[`.

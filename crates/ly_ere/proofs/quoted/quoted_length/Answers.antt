@@ -1,25 +1,17 @@
-use Rattle.std.proofs.Common.{◌+◌, ◌∙◌, sym, ◌≢◌, arith, get_or}
-use Rattle.ly_ere.proofs.FrontLemmas.{stands}
-use Rattle.ly_ere.proofs.ScanLemmas.{goes_plain, goes_escape, goes_end, goes_line, goes_escaped_line, goes_nowhere}
+use Rattle.std.proofs.Common.{[], ◌∷◌, ◌++◌, length, length-drop, ap, arith}
+use Rattle.ly_base.proofs.EscapeLemmas.{whole_slice}
+use Rattle.ly_ere.proofs.StringLemmas.{one_more, quoted_so_far}
 use Rattle.ly_ere.proofs.quoted.quoted_length.Goals as goal
 
-pub returns-in-34-clause-end : goal.returns-in-34-clause-end
-returns-in-34-clause-end c = goes_end c.loop-at.invariant.goes_on c.loop-at-test.true c.in-34.is
+pub loop-length-preserved : goal.loop-length-preserved
+loop-length-preserved c =
+    let now = c.loop-length in
+    let taken = rw c.in-Some.is at c.in_ok-length.ensures.front in
+    let part = rw (c.in-Some.is, whole_slice) at c.in_ok-length.ensures.byte in
+    record {
+      within = omega (arith, taken.1, ap length (whole_slice now.at c.args.behind.now), length-drop now.at c.args.behind.now, now.invariant.within);
+      read = (now.invariant.read.0 ++ c.in-Some.field-0-0 ∷ [], one_more now.invariant.read.1 c.in-Some.field-0-0 c.in-Some.length part);
+    }
 
-pub returns-in-10-clause-none : goal.returns-in-10-clause-none
-returns-in-10-clause-none c = goes_line c.loop-at.invariant.goes_on c.loop-at-test.true c.in-10.is
-
-pub returns-in-92-clause-none : goal.returns-in-92-clause-none
-returns-in-92-clause-none c = let k = stands c.args.text.now (c.loop-at.at + 1) 10 (sym c.stands_at.ensures ∙ c.if-stands_at.true) in goes_escaped_line c.loop-at.invariant.goes_on c.loop-at-test.true c.in-92.is k.1
-
-pub returns-clause-none : goal.returns-clause-none
-returns-clause-none c = goes_nowhere c.loop-at.invariant.goes_on c.loop-at-test.false
-
-pub loop-at-preserved : goal.loop-at-preserved
-loop-at-preserved c =
-    let quote : get_or c.args.text.now c.loop-at.at 0 ≢ 34 = omega arith in
-    let backslash : get_or c.args.text.now c.loop-at.at 0 ≢ 92 = omega arith in
-    record { begun = omega arith; within = omega arith; goes_on = goes_plain c.loop-at.invariant.goes_on c.loop-at-test.true quote backslash }
-
-pub loop-at-preserved-in-92-2 : goal.loop-at-preserved-in-92-2
-loop-at-preserved-in-92-2 c = record { begun = omega arith; within = omega arith; goes_on = goes_escape c.loop-at.invariant.goes_on c.loop-at-test.true c.in-92.is }
+pub returns-clause-quoted : goal.returns-clause-quoted
+returns-clause-quoted c = let now = c.loop-length in (now.invariant.read.0, quoted_so_far now.invariant.read.1 (rw (c.in_default.is, whole_slice) at c.in_ok-length.ensures.end))

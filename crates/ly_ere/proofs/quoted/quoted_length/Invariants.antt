@@ -1,13 +1,13 @@
-use Rattle.std.proofs.Common.{◌≤◌, ◌+◌, ◌-◌, length}
-use Rattle.ly_ere.proofs.ScanLemmas.{GoesOn}
+use Rattle.std.proofs.Common.{ℕ, ◌≤◌, ◌-◌, List, length}
+use Rattle.ly_ere.proofs.StringLemmas.{IsSoFar}
 use Rattle.ly_ere.proofs.quoted.quoted_length.Given as goal
 
-abbrev pub invariant-loop-at : goal.invariant-loop-at
-invariant-loop-at l = record {
-  begun : 1 ≤ l.at;
-  within : l.at ≤ length l.text + 1;
-  goes_on : GoesOn l.text l.at;
+-- some bytes were read
+abbrev pub invariant-loop-length : goal.invariant-loop-length
+invariant-loop-length l = record {
+  within : l.at ≤ length l.behind;
+  read : (so_far : List ℕ) × IsSoFar l.behind l.at so_far;
 }
 
-abbrev pub decreases-loop-at : goal.decreases-loop-at
-decreases-loop-at l = length l.text + 1 - l.at
+abbrev pub decreases-loop-length : goal.decreases-loop-length
+decreases-loop-length l = length l.behind - l.at

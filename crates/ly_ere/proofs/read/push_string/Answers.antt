@@ -4,7 +4,7 @@ use Rattle.ly_base.proofs.EscapeLemmas.{whole_slice}
 use Rattle.ly_ere.specs.Arena.{part_of}
 use Rattle.ly_ere.specs.Expression.{Expression, concat}
 use Rattle.ly_ere.proofs.LevelLemmas.{grows_push, grows_trans, part_last, part_same}
-use Rattle.ly_ere.proofs.StringLemmas.{empty_string, end_string, next_string, no_string, start_string}
+use Rattle.ly_ere.proofs.StringLemmas.{empty_string, end_string, next_string, none_quoted, start_string}
 use Rattle.ly_ere.proofs.read.push_string.Goals as goal
 
 concat_by : {a b c d : Expression} → a ≡ b → c ≡ d → concat a c ≡ concat b d
@@ -22,7 +22,7 @@ loop-byte-init c = record {
 }
 
 pub returns-in_err-byte-2-clause-refused : goal.returns-in_err-byte-2-clause-refused
-returns-in_err-byte-2-clause-refused c = let now = c.loop-byte in MatchResult-from_err c.from_residual-in_err-byte-2.result _ _ c.from_residual-in_err-byte-2.ensures.0 (λ _ _. no_string now.invariant.string (rw whole_slice at c.in_err-byte-2.ensures.refused))
+returns-in_err-byte-2-clause-refused c = let now = c.loop-byte in MatchResult-from_err c.from_residual-in_err-byte-2.result _ _ c.from_residual-in_err-byte-2.ensures.0 (λ _ _. none_quoted now.invariant.string.read (rw whole_slice at c.in_err-byte-2.ensures.refused))
 
 pub loop-byte-preserved : goal.loop-byte-preserved
 loop-byte-preserved c =

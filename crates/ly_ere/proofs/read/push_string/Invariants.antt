@@ -1,7 +1,7 @@
 use Rattle.std.proofs.Common.{◌≤◌, ◌<◌, ◌-◌, length}
 use Rattle.ly_ere.specs.Arena.{part_of}
 use Rattle.ly_ere.specs.Levels.{Grows}
-use Rattle.ly_ere.proofs.StringLemmas.{IsSoFar}
+use Rattle.ly_ere.proofs.StringLemmas.{IsString}
 use Rattle.ly_ere.proofs.read.push_string.Given as goal
 
 abbrev pub invariant-loop-byte : goal.invariant-loop-byte
@@ -9,7 +9,7 @@ invariant-loop-byte l = record {
   within : l.at ≤ length l.behind;
   there : l.string < length l.arena;
   grown : Grows l.fn.arena l.arena;
-  string : IsSoFar l.behind l.at (part_of l.arena l.string);
+  string : IsString l.behind l.at (part_of l.arena l.string);
 }
 
 abbrev pub decreases-loop-byte : goal.decreases-loop-byte
