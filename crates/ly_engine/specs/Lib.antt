@@ -1,7 +1,6 @@
 pub mod Agreement
 pub mod Answering
 pub mod Answers
-pub mod PositionSet
 pub mod PositionWalk
 pub mod Printed
 pub mod TokensFault

@@ -5,7 +5,6 @@ mod driver;
 mod fault;
 mod lines;
 mod outcome;
-mod position_set;
 mod position_walk;
 
 pub use driver::{answer, tokens};
