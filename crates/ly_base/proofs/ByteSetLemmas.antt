@@ -2,9 +2,10 @@
 use Rattle.std.proofs.Common.{◌≡◌, ◌<◌, ◌≤◌, ◌+◌, ℕ, List, [], ◌∷◌, Bool, true, false, filter, zero, suc, nat_eq, IsTrue, ◌↔◌, refl, ap, sym, ◌∙◌, arith, inl, inr, subst}
 use Rattle.std.specs.List.{All, Contains, range_with_len}
 use Rattle.std.proofs.lemmas.Bool.{cases_Bool, cases_eq, eq-eqb, false_from_ne_true, ne_eqb}
-use Rattle.std.proofs.lemmas.List.Elements.{All-contains, All-cons, All-filter, All-nil, Contains-append_left, Contains-append_right, Contains-push, Contains-push_cases, filter_passes}
+use Rattle.std.proofs.lemmas.List.Elements.{All-contains, All-cons, All-filter, All-nil, Contains-append_left, Contains-append_right, Contains-push, filter_passes}
 use Rattle.ly_base.specs.declared.byte_set.ByteSet.{ByteSet}
 use Rattle.ly_base.specs.ByteSet.{all_bytes, bytes_where, has, members}
+use Rattle.ly_base.proofs.MemberLemmas.{Contains-none, Contains-one}
 
 -- two tests that agree in a range keep the same numbers of it
 range_agree : (p q : ℕ → Bool) (a n : ℕ) → ((b : ℕ) → a ≤ b → b < a + n → p b ≡ q b)
@@ -78,22 +79,16 @@ members_contain s b = bytes_contain (has s) b
 -- a set that has no members has no byte
 pub none_from_empty : (s : ByteSet) → members s ≡ [] → (b : ℕ) → b < 256 → has s b ≡ false
 none_from_empty s e b l = elim (cases_Bool (has s b)) [
-  | inl held ↦ absurd (not_in_nil b (let P : List ℕ → Type 0 = λ xs. Contains xs b in subst P e ((members_contain s b).1 (l, held))))
+  | inl held ↦ Contains-none b (let P : List ℕ → Type 0 = λ xs. Contains xs b in subst P e ((members_contain s b).1 (l, held)))
   | inr none ↦ none
 ]
-  where
-    not_in_nil : (x : ℕ) → Contains [] x → ⊥
-    not_in_nil x h = absurd (omega (arith, h.1))
 
 -- the bytes of a set of one
 pub one_has : (s : ByteSet) (b : ℕ) → members s ≡ b ∷ [] → (c : ℕ) → c < 256 → has s c ≡ nat_eq c b
 one_has s b e c l = elim (cases_eq c b) [
   | inl same ↦ ((members_contain s c).0 (contained (sym e) (rw same (Contains-push [] b)))).1 ∙ sym (eq-eqb c b same)
-  | inr other ↦ false_from_ne_true (has s c) (λ held. other (only (contained e ((members_contain s c).1 (l, held))))) ∙ sym (ne_eqb c b other)
+  | inr other ↦ false_from_ne_true (has s c) (λ held. other (sym (Contains-one b c (contained e ((members_contain s c).1 (l, held)))))) ∙ sym (ne_eqb c b other)
 ]
   where
     contained : {xs ys : List ℕ} → xs ≡ ys → Contains xs c → Contains ys c
     contained same h = let P : List ℕ → Type 0 = λ xs. Contains xs c in subst P same h
-
-    only : Contains (b ∷ []) c → c ≡ b
-    only h = elim (Contains-push_cases [] b c h) [ inl none ↦ absurd (omega (arith, none.1)) | inr same ↦ sym same ]

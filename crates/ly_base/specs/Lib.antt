@@ -6,4 +6,5 @@ pub mod Limits
 pub mod Literals
 pub mod MemSink
 pub mod MemSource
+pub mod SparseSet
 pub mod Text

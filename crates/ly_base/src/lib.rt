@@ -1,5 +1,5 @@
-//! What all of lytab shares: sets of bytes, cuts, the numbers of rules and symbols, limits, readers
-//! and writers that count their failures, and bytes as text.
+//! What all of lytab shares: sets of bytes and of numbers, cuts, the numbers of rules and symbols,
+//! limits, readers and writers that count their failures, and bytes as text.
 #![tactic(auto)]
 
 mod byte_set;
@@ -12,6 +12,7 @@ mod literals;
 mod memory;
 mod memory_fault;
 mod numbers;
+mod sparse_set;
 mod text;
 mod whole;
 
@@ -25,5 +26,6 @@ pub use literals::literal;
 pub use memory::{MemSink, MemSource};
 pub use memory_fault::OutOfMemory;
 pub use numbers::{RuleNo, Sym};
+pub use sparse_set::SparseSet;
 pub use text::{Terminal, push_escaped, push_leaf, push_no_rule_line};
 pub use whole::{ReadFault, WriteFault, read_whole, write_whole};

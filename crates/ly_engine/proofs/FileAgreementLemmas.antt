@@ -1,7 +1,8 @@
 -- The walk over the positions of a lex file agrees with its rules.
-use Rattle.std.proofs.Common.{◌≡◌, ◌∙◌, inl, inr, ℕ, ◌<◌, ◌≤◌, List, [], Option, None, ap, subst, arith, rules, length}
-use Rattle.std.specs.Prelude.{slice_index_or, Contains, IsSome, ◌⊎◌}
+use Rattle.std.proofs.Common.{◌≡◌, inl, inr, ℕ, ◌<◌, ◌≤◌, List, Option, None, subst, arith, rules}
+use Rattle.std.specs.Prelude.{Contains, IsSome, ◌⊎◌}
 use Rattle.std.proofs.lemmas.Bool.{cases_lt}
+use Rattle.ly_base.proofs.MemberLemmas.{Contains-none, Contains-one}
 use Rattle.ly_ere.specs.Expression.{Expression}
 use Rattle.ly_ere.specs.declared.pattern.Rule.{Rule}
 use Rattle.ly_lexread.specs.LexText.{LexText}
@@ -15,12 +16,7 @@ use Rattle.ly_engine.proofs.PositionAgreementLemmas.{RunsSpell, walk_agrees}
 
 -- a plain rule is active in the initial condition alone
 only_first : (r : Rule) (c : ℕ) → IsPlain r → Contains r.active.items c → c < 1
-only_first r c p h = at h.0 h.1 h.2
-  where
-    at : (k : ℕ) → k < length r.active.items → slice_index_or r.active.items k c ≡ c → c < 1
-    at k less e = let long : length r.active.items ≡ 1 = ap length p.active in let first : k ≡ 0 = omega arith in
-        let zero_is : slice_index_or r.active.items k c ≡ 0 = ap (λ j. slice_index_or r.active.items j c) first ∙ ap (λ xs. slice_index_or xs 0 c) p.active in
-        omega (arith, e, zero_is)
+only_first r c p h = let P : List ℕ → Type 0 = λ cs. Contains cs c in let zero_is : 0 ≡ c = Contains-one 0 c (subst P p.active h) in omega arith
 
 -- runs over the positions of a lex file spell its rules' strings
 runs_spell : (bytes : List ℕ) (file : LexFile) (conditions : ℕ) (nfa : Nfa) → LexText bytes file → conditions ≡ 1 → ArePositions file.names file.rules.items conditions nfa
@@ -29,7 +25,7 @@ runs_spell bytes file conditions nfa text one are i c line w = (there (cases_lt 
   where
     there : (c < conditions) ⊎ (conditions ≤ c) → (p : ℕ) × Contains (starts_of nfa c line) p × RunsTo nfa i p w → IsString file.names file.rules.items c line i w
     there (inl less) h = let s = (are.spells c line i w less).0 h in record { rule = s.0; is_rule = s.1; is_active = s.2; at_line = s.3; spelled = s.4 }
-    there (inr more) h = let P : List ℕ → Type 0 = λ ps. Contains ps h.0 in let none : Contains {X = ℕ} [] h.0 = subst P (are.starts_past c line more) h.1 in absurd (omega (arith, none.1))
+    there (inr more) h = let P : List ℕ → Type 0 = λ ps. Contains ps h.0 in Contains-none h.0 (subst P (are.starts_past c line more) h.1)
 
     back : IsString file.names file.rules.items c line i w → (p : ℕ) × Contains (starts_of nfa c line) p × RunsTo nfa i p w
     back s = let first = only_first s.rule c (rules_plain bytes file text i s.rule s.is_rule) s.is_active in

@@ -4,6 +4,4 @@ pub mod FileAgreementLemmas
 pub mod LoopLemmas
 pub mod MatchLemmas
 pub mod PositionAgreementLemmas
-pub mod PositionMemberLemmas
-pub mod PositionSetLemmas
 pub mod PositionWalkLemmas

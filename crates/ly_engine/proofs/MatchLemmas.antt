@@ -2,7 +2,8 @@
 use Rattle.std.proofs.lemmas.Bool.{cases_lt}
 use Rattle.std.proofs.Common.{inl, inr, ◌≡◌, ◌∙◌, ℕ, ◌+◌, ◌-◌, ◌<◌, ◌≤◌, List, [], ◌∷◌, ◌++◌, length, take, drop, Bool, Option, Some, None, refl, sym, ap, subst, arith, rules, length-append, length-take}
 use Rattle.std.specs.Prelude.{nat_lt, nat_le, ◌&&◌, if◌then◌else◌, IsSome}
-use Rattle.std.proofs.Math.Seq.{take-add}
+use Rattle.std.proofs.Math.Seq.{take-add, take-append_seam}
+use Rattle.std.proofs.lemmas.List.{append_cancel_left, take-take}
 use Rattle.std.proofs.lemmas.Bool.Decides.{nat_tests}
 use Rattle.ly_base.specs.declared.cut.Cut.{Cut}
 use Rattle.ly_base.specs.declared.cut.Cut.TheVariants.{Whole, Head, Tail}
@@ -57,18 +58,11 @@ string_cut names rules walk cut condition line i w a s one =
 parts_of : (rest u v : List ℕ) (n : ℕ) → n ≤ length rest → take n rest ≡ u ++ v → (take (length u) rest ≡ u) × (take (n - length u) (drop (length u) rest) ≡ v)
 parts_of rest u v n within e =
     let long : length u + length v ≡ n = omega (arith, ap length e, length-append u v, length-take n rest) in
-    let both : take (length u) rest ++ take (n - length u) (drop (length u) rest) ≡ u ++ v = sym (take-add (length u) (n - length u) rest) ∙ ap (λ k. take k rest) (omega arith) ∙ e in
-    append_parts (take (length u) rest) (take (n - length u) (drop (length u) rest)) u v (omega (arith, length-take (length u) rest)) both
-  where
-    append_parts : (a b u v : List ℕ) → length a ≡ length u → a ++ b ≡ u ++ v → (a ≡ u) × (b ≡ v)
-    append_parts [] b [] v h e = (refl, e)
-    append_parts [] b (y ∷ u) v h e = absurd (search (rules, arith))
-    append_parts (x ∷ a) b [] v h e = absurd (search (rules, arith))
-    append_parts (x ∷ a) b (y ∷ u) v h e =
-        let heads : x ≡ y = cc in
-        let tails : a ++ b ≡ u ++ v = cc in
-        let deeper = append_parts a b u v (omega arith) tails in
-        (cc (deeper.0), deeper.1)
+    let first : take (length u) rest ≡ u = sym (take-take (length u) n rest (omega arith)) ∙ ap (take (length u)) e ∙ take-append_seam u v in (
+      first,
+      append_cancel_left u (take (n - length u) (drop (length u) rest)) v
+          (ap (λ s. s ++ take (n - length u) (drop (length u) rest)) (sym first) ∙ sym (take-add (length u) (n - length u) rest) ∙ ap (λ k. take k rest) (omega arith) ∙ e),
+    )
 
 -- a candidate's match is a string of its rule
 string_of : (names : List Expression) (rules : List Rule) (condition : ℕ) (line : Bool) (rest : List ℕ) (i n m : ℕ)

@@ -1,27 +1,30 @@
 -- The walk over sets of positions: what a set's members read and end, and that their order says nothing.
-use Rattle.std.proofs.Common.{◌≡◌, ◌<◌, ◌≤◌, ℕ, List, [], ◌∷◌, ◌++◌, Bool, false, not, Option, Some, None, min, nat_eq, sym, refl, ap, ◌∙◌, arith, inl, inr, ◌⊎◌, Contains, slice_get, slice_index_or, is_some, length, le_antisymm, zero, suc, take, get_or, ap₂, ◌+◌}
+use Rattle.std.proofs.Common.{◌≡◌, ◌<◌, ◌≤◌, ℕ, List, [], ◌∷◌, ◌++◌, Bool, false, not, Option, Some, None, min, nat_eq, eqb-true, sym, refl, ap, ◌∙◌, arith, inl, inr, ◌⊎◌, Contains, slice_get, slice_index_or, is_some, length, le_antisymm, zero, suc, take, get_or, ap₂, ◌+◌}
 use Rattle.std.specs.Bool.{OnTrue}
+use Rattle.std.specs.Cmp.{nat_eq_equiv}
 use Rattle.std.specs.List.{list_any}
 use Rattle.std.proofs.lemmas.Bool.{OnTrue_from, both_ways, cases_Bool, cases_lt, false_from_ne_true, ne_eqb}
 use Rattle.std.proofs.lemmas.List.{take_more}
+use Rattle.std.proofs.lemmas.Map.Views.{Contains-from_any, list_any-from_Contains}
 use Rattle.std.proofs.lemmas.Option.{get_or_from_slice_get}
 use Rattle.ly_base.specs.declared.byte_set.ByteSet.{ByteSet}
 use Rattle.ly_base.specs.ByteSet.{has, members}
+use Rattle.ly_base.specs.SparseSet.{with_members}
 use Rattle.ly_base.proofs.ByteSetLemmas.{members_contain}
+use Rattle.ly_base.proofs.MemberLemmas.{SameMembers, Contains-cons_cases, Contains-first, Contains-flat_map, Contains-later, Contains-none, flat_map-Contains, flat_map-same}
+use Rattle.ly_base.proofs.SparseSetLemmas.{with_members-same}
 use Rattle.ly_position.specs.Nfa.{Nfa, Place, reading, ending, bytes_of, place_of, Reads, Follows, IsEnd, RunsTo}
 use Rattle.ly_engine.specs.PositionWalk.{reads, rule_of, next_of, next_set, set_after, lesser, least_end, says, positions_ahead}
-use Rattle.ly_engine.proofs.PositionMemberLemmas.{SameMembers, Contains-cons_cases, Contains-first, Contains-flat_map, Contains-from_any, Contains-later, Contains-none, any_from_Contains, flat_map-Contains, flat_map-same, with_members-same}
-use Rattle.ly_engine.specs.PositionSet.{with_members}
 
 -- what comes after a position that reads a byte
 pub next_of-Contains : (nfa : Nfa) (byte p q : ℕ) → Contains (next_of nfa byte p) q → Reads nfa p byte × Follows nfa p q
 next_of-Contains nfa byte p q h = elim (cases_Bool (reads (place_of nfa p) byte)) [
-  | inl reads ↦ (Contains-from_any (bytes_of (place_of nfa p)) byte reads, rw reads at h)
+  | inl reads ↦ (Contains-from_any eqb-true byte (bytes_of (place_of nfa p)) reads, rw reads at h)
   | inr not ↦ Contains-none q (rw not at h)
 ]
 
 pub Contains-next_of : (nfa : Nfa) (byte p q : ℕ) → Reads nfa p byte → Follows nfa p q → Contains (next_of nfa byte p) q
-Contains-next_of nfa byte p q r f = rw (any_from_Contains (bytes_of (place_of nfa p)) byte r) f
+Contains-next_of nfa byte p q r f = rw (list_any-from_Contains nat_eq_equiv byte (bytes_of (place_of nfa p)) r) f
 
 -- the end mark of a rule, as it is looked up
 pub IsEnd-from_rule : (nfa : Nfa) (p i : ℕ) → rule_of (place_of nfa p) ≡ Some i → IsEnd nfa p i
@@ -163,8 +166,8 @@ least_end-said nfa (p ∷ ps) o e = cc
 pub reads_set : (nfa : Nfa) (p b : ℕ) (bytes : ByteSet) (follow : List ℕ) → slice_get nfa.positions p ≡ Some (reading (members bytes) follow) → b < 256
     → has bytes b ≡ reads (place_of nfa p) b
 reads_set nfa p b bytes follow e low = rw (get_or_from_slice_get nfa.positions p (reading (members bytes) follow) (reading [] []) e) (elim (cases_Bool (has bytes b)) [
-  | inl held ↦ held ∙ sym (any_from_Contains (members bytes) b ((members_contain bytes b).1 (low, held)))
-  | inr none ↦ none ∙ sym (false_from_ne_true (list_any (nat_eq b) (members bytes)) (λ h. both_ways (has bytes b) none ((members_contain bytes b).0 (Contains-from_any (members bytes) b h)).1))
+  | inl held ↦ held ∙ sym (list_any-from_Contains nat_eq_equiv b (members bytes) ((members_contain bytes b).1 (low, held)))
+  | inr none ↦ none ∙ sym (false_from_ne_true (list_any (nat_eq b) (members bytes)) (λ h. both_ways (has bytes b) none ((members_contain bytes b).0 (Contains-from_any eqb-true b (members bytes) h)).1))
 ])
 
 pub reads_end : (nfa : Nfa) (p b i : ℕ) → slice_get nfa.positions p ≡ Some (ending i) → false ≡ reads (place_of nfa p) b

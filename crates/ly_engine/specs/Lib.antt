@@ -2,7 +2,6 @@ pub mod Agreement
 pub mod Answering
 pub mod Answers
 pub mod Laws
-pub mod PositionSet
 pub mod PositionWalk
 pub mod Printed
 pub mod TokensFault

@@ -6,7 +6,6 @@ mod fault;
 mod laws;
 mod lines;
 mod outcome;
-mod position_set;
 mod position_walk;
 
 pub use driver::tokens;

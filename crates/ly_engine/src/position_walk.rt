@@ -1,10 +1,9 @@
 ghost use Rattle.std.specs.Prelude.{◌≡◌, ◌<◌, [], length, All, IfOk, option_map};
-ghost use Rattle.ly_engine.specs.PositionSet.{with_members};
+ghost use Rattle.ly_base.specs.SparseSet.{with_members};
 ghost use Rattle.ly_engine.specs.PositionWalk.{cut_in, least_end, lesser, next_set, position_walk, positions_ahead, positions_ahead-ended, reads, rule_of};
 ghost use Rattle.ly_position.specs.Nfa.{place_of, starts_of};
 
-use crate::position_set::PositionSet;
-use ly_base::{Cut, RuleNo};
+use ly_base::{Cut, RuleNo, SparseSet};
 use ly_ere::Rule;
 use ly_position::{PosNfa, Position};
 use ly_scan::Steps;
@@ -19,9 +18,9 @@ pub(crate) struct PositionWalk<'a> {
     /// The rules that they spell.
     rules: &'a [Rule],
     /// The positions where the walk stands.
-    current: PositionSet,
+    current: SparseSet,
     /// Room for those that come next.
-    next: PositionSet,
+    next: SparseSet,
     ghost current_bound: { current.below ≡ length nfa.now.positions },
     ghost next_bound: { next.below ≡ length nfa.now.positions },
 }
@@ -35,8 +34,8 @@ impl<'a> PositionWalk<'a> {
         Ok(PositionWalk {
             nfa,
             rules,
-            current: PositionSet::new(alloc, nfa.len())?,
-            next: PositionSet::new(alloc, nfa.len())?,
+            current: SparseSet::new(alloc, nfa.len())?,
+            next: SparseSet::new(alloc, nfa.len())?,
         })
     }
 }
@@ -76,7 +75,7 @@ impl Steps for PositionWalk<'_> {
 }
 
 /// Makes a set that of the positions that may come after some, once a byte is read.
-fn find_next(nfa: &PosNfa, from: &PositionSet, byte: u8, to: &mut PositionSet)
+fn find_next(nfa: &PosNfa, from: &SparseSet, byte: u8, to: &mut SparseSet)
     requires from { from.now.below ≡ length nfa.now.positions }
     requires to { to.old.below ≡ length nfa.now.positions }
     ensures { to.new ≡ record to.old { members = with_members [] (next_set nfa.now from.now.members byte) } }

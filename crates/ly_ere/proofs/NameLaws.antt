@@ -4,7 +4,8 @@ use Rattle.std.proofs.Common.{slice_get, Some, ◌↔◌, ◌<◌, length, ◌�
 use Rattle.ly_ere.specs.Expression.{Expression, set, empty, concat, either, star, plus, optional, repeat, name, MatchesUnder, Joined, NamedUpTo, Matches}
 use Rattle.ly_ere.specs.Names.{AreOrdered, UsesBelow, NameIsDefinition}
 
-joined_map : (L M : List ℕ → Type 0) → ((w : List ℕ) → L w → M w) → (k : ℕ) (w : List ℕ) → Joined L k w → Joined M k w
+-- each string of one set is of the other
+pub joined_map : (L M : List ℕ → Type 0) → ((w : List ℕ) → L w → M w) → (k : ℕ) (w : List ℕ) → Joined L k w → Joined M k w
 joined_map L M f zero w j = j
 joined_map L M f (suc k) w j = (j.0, j.1, j.2, f j.0 j.3, joined_map L M f k j.1 j.4)
 

@@ -2,6 +2,7 @@
 use Rattle.std.proofs.Common.{◌≡◌, ◌≢◌, inl, inr, ℕ, zero, suc, ◌+◌, ◌<◌, ◌≤◌, List, [], ◌∷◌, ◌++◌, length, refl, sym, ap, subst, ◌∙◌, arith, Some, append_assoc, length-append}
 use Rattle.std.specs.Prelude.{slice_get, Contains}
 use Rattle.std.proofs.lemmas.Bool.{cases_eq, cases_lt}
+use Rattle.ly_base.proofs.MemberLemmas.{Contains-first}
 use Rattle.ly_ere.specs.Expression.{Expression, set, empty, concat, either, star, plus, optional, repeat, name}
 use Rattle.ly_position.specs.Program.{Step, reads, fork, ends, Runs, at_end, by_read, by_first, by_second, size, entry, code, IsPlain}
 use Rattle.ly_position.specs.Reach.{LeadsBelow}
@@ -20,7 +21,7 @@ get-at_length (y ∷ xs) ys (suc p) x e = get-at_length xs ys p x (omega arith)
 
 some_member : (xs : List ℕ) → xs ≢ [] → (x : ℕ) × Contains xs x
 some_member [] h = absurd (h refl)
-some_member (x ∷ xs) h = (x, (0, omega arith, refl))
+some_member (x ∷ xs) h = (x, Contains-first x xs)
 
 -- code stays as the program grows
 pub HasCode-append : (g more : List Step) (e : Expression) (base next : ℕ) → HasCode g e base next → HasCode (g ++ more) e base next

@@ -1,13 +1,13 @@
 -- Sizes of code, and the steps that are left to append.
-use Rattle.std.proofs.Common.{◌≡◌, ℕ, ◌+◌, ◌<◌, ◌≤◌, List, [], ◌∷◌, ◌++◌, length, map, get_or, take, refl, sym, ap, subst, ◌∙◌, arith, length-append, length-take}
-use Rattle.std.specs.Prelude.{All, slice_index, reverse}
-use Rattle.std.proofs.lemmas.List.{get_or-map, get_or-take, get_or_append_left, map_more, reverse-append}
+use Rattle.std.proofs.Common.{◌≡◌, ℕ, ◌+◌, ◌<◌, ◌≤◌, List, [], ◌∷◌, ◌++◌, length, map, take, refl, sym, ap, ◌∙◌, arith, length-append, length-take}
+use Rattle.std.specs.Prelude.{slice_index, reverse}
+use Rattle.std.proofs.lemmas.List.{get_or-map, get_or-take, map_more, reverse-append}
 use Rattle.ly_ere.specs.Expression.{Expression, empty}
 use Rattle.ly_ere.specs.Arena.{part_of, expression_of, FitsAt}
 use Rattle.ly_ere.specs.declared.node.Node.{Node}
 use Rattle.ly_ere.specs.declared.node.Node.TheVariants.{Set, Empty, Concat, Either, Star, Plus, Optional, Repeat, Name}
 use Rattle.ly_position.specs.Program.{size, code, node_size}
-use Rattle.ly_position.specs.Compile.{TaskFits, planned}
+use Rattle.ly_position.specs.Compile.{planned}
 use Rattle.ly_position.specs.declared.program.Task.{Task}
 use Rattle.ly_position.specs.declared.program.Task.TheVariants as task
 use Rattle.ly_position.proofs.CodePlaces.{length-code}
@@ -37,6 +37,3 @@ sizes_more es ss ts i k n e l h is same grown =
 -- the first task fits
 pub planned_room : (es : List Expression) (ts : List Task) (p next base : ℕ) → size (part_of es p) ≤ length (planned es (reverse (ts ++ task.Code p next ∷ [])) base)
 planned_room es ts p next base = rw (reverse-append ts (task.Code p next ∷ [])) (omega (arith, length-append (code (part_of es p) base next) (planned es (reverse ts) (base + size (part_of es p))), length-code (part_of es p) base next))
-
-pub front_fits : (n : ℕ) (ts ss : List Task) → All (TaskFits n) (ts ++ ss) → All (TaskFits n) ts
-front_fits n ts ss h k d l = let e : get_or (ts ++ ss) k d ≡ get_or ts k d = get_or_append_left ts ss d k l in subst (TaskFits n) e (h k d (omega (arith, length-append ts ss)))

@@ -16,14 +16,6 @@ use Rattle.ly_position.specs.Follow.{is_place, IsReachList, Knows, AfterStep, Sl
 use Rattle.ly_position.specs.declared.nfa.Slot.{Slot}
 use Rattle.ly_position.specs.declared.nfa.Slot.TheVariants as slot
 
--- nothing is known at first
-pub knows_none : (g : List Step) (known : List (Option ℕ)) → length known ≡ length g → ((t : ℕ) → get_or known t None ≡ None) → Knows g [] known
-knows_none g known count none = record {
-  count = count;
-  each = λ t l e. let n = none t in cc;
-  all = λ l h. absurd (omega (arith, h));
-}
-
 -- a list is the same as the lists grow
 pub after_grown : (g : List Step) (lists more : List (List ℕ)) (t l : ℕ) → AfterStep g lists t l → AfterStep g (lists ++ more) t l
 after_grown g lists more t l h = (omega (arith, h.0, length-append lists more), rw (get_or_append_left lists more [] l h.0) h.1)
@@ -78,12 +70,6 @@ module _ {A B : Type 0} (R : A → B → Type 0) where
   zip_push [] (b ∷ ys) x y h r = absurd h
   zip_push (a ∷ xs) [] x y h r = absurd h
   zip_push (a ∷ xs) (b ∷ ys) x y h r = (h.0, zip_push xs ys x y h.1 r)
-
-  pub zip_length : (xs : List A) (ys : List B) → AllZip R xs ys → length xs ≡ length ys
-  zip_length [] [] h = refl
-  zip_length [] (b ∷ ys) h = absurd h
-  zip_length (a ∷ xs) [] h = absurd h
-  zip_length (a ∷ xs) (b ∷ ys) h = ap suc (zip_length xs ys h.1)
 
   pub zip_get : (xs : List A) (ys : List B) (i : ℕ) (x : A) → AllZip R xs ys → slice_get xs i ≡ Some x → (y : B) × (slice_get ys i ≡ Some y) × R x y
   zip_get [] ys i x h e = cc

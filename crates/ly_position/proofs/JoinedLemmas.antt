@@ -2,20 +2,12 @@
 use Rattle.std.proofs.Common.{◌≡◌, inl, inr, ◌⊎◌, ℕ, zero, suc, ◌+◌, ◌-◌, ◌<◌, ◌≤◌, List, [], ◌++◌, refl, sym, ap, subst, ◌∙◌, arith, append_assoc, append-nil, add-one}
 use Rattle.std.specs.Prelude.{◌↔◌}
 use Rattle.ly_ere.specs.Expression.{Joined}
+use Rattle.ly_ere.proofs.NameLaws.{joined_map}
 use Rattle.ly_position.specs.Plain.{InTurn, Same}
-
-module _ (L M : List ℕ → Type 0) where
-  -- each string of one set is of the other
-  pub joined_map : ((w : List ℕ) → L w → M w) → (k : ℕ) (w : List ℕ) → Joined L k w → Joined M k w
-  joined_map f zero w j = j
-  joined_map f (suc k) w j = (j.0, j.1, j.2, f j.0 j.3, joined_map f k j.1 j.4)
 
 module _ (L : List ℕ → Type 0) where
   pub joined_one : (w : List ℕ) → L w → Joined L 1 w
   joined_one w h = (w, [], sym (append-nil w), h, refl)
-
-  pub one_joined : (w : List ℕ) → Joined L 1 w → L w
-  one_joined w j = subst L (sym (j.2 ∙ (ap (λ v. j.0 ++ v) j.4 ∙ append-nil j.0))) j.3
 
   pub joined_append : (j k : ℕ) (u v : List ℕ) → Joined L j u → Joined L k v → Joined L (j + k) (u ++ v)
   joined_append zero k u v a b =
@@ -158,32 +150,8 @@ module _ (w : List ℕ) where
       back (inl e) = e
       back (inr h) = absurd h
 
-module _ (L : List ℕ → Type 0) (w : List ℕ) where
-  pub null_then : L w ↔ InTurn Null L w
-  null_then = (λ h. ([], w, refl, refl, h), λ h. subst L (sym (h.2 ∙ ap (λ z. z ++ h.1) h.3)) h.4)
-
-  pub then_null : L w ↔ InTurn L Null w
-  then_null = (λ h. (w, [], sym (append-nil w), h, refl), λ h. subst L (sym (h.2 ∙ (ap (λ z. h.0 ++ z) h.4 ∙ append-nil h.0))) h.3)
-
-  pub void_then : Void w ↔ InTurn Void L w
-  void_then = (λ h. absurd h, λ h. h.3)
-
-  pub then_void : Void w ↔ InTurn L Void w
-  then_void = (λ h. absurd h, λ h. h.4)
-
-  pub void_or : L w ↔ (Void w ⊎ L w)
-  void_or = (λ h. inr h, back)
-    where
-      back : Void w ⊎ L w → L w
-      back (inl h) = absurd h
-      back (inr h) = h
-
-  pub or_void : L w ↔ (L w ⊎ Void w)
-  or_void = (λ h. inl h, back)
-    where
-      back : L w ⊎ Void w → L w
-      back (inl h) = h
-      back (inr h) = absurd h
+pub then_null : (L : List ℕ → Type 0) (w : List ℕ) → L w ↔ InTurn L Null w
+then_null L w = (λ h. (w, [], sym (append-nil w), h, refl), λ h. subst L (sym (h.2 ∙ (ap (λ z. h.0 ++ z) h.4 ∙ append-nil h.0))) h.3)
 
 pub in_turn_same : (L M P Q : List ℕ → Type 0) → Same L M → Same P Q → Same (InTurn L P) (InTurn M Q)
 in_turn_same L M P Q f g w = (λ h. (h.0, h.1, h.2, (f h.0).0 h.3, (g h.1).0 h.4), λ h. (h.0, h.1, h.2, (f h.0).1 h.3, (g h.1).1 h.4))
@@ -207,9 +175,6 @@ abbrev pub AtMost : (List ℕ → Type 0) → ℕ → List ℕ → Type 0
 AtMost L n w = (k : ℕ) × (k ≤ n) × Joined L k w
 
 module _ (L M : List ℕ → Type 0) where
-  pub joined_zero : Same M (InTurn (Joined L 0) M)
-  joined_zero = null_then M
-
   -- one more in front
   pub joined_more : (i : ℕ) → Same (InTurn L (InTurn (Joined L i) M)) (InTurn (Joined L (i + 1)) M)
   joined_more i w = rw add-one (there, back)
@@ -221,13 +186,6 @@ module _ (L M : List ℕ → Type 0) where
       back h = (h.3.0, h.3.1 ++ h.1, h.2 ∙ (ap (λ z. z ++ h.1) h.3.2 ∙ append_assoc h.3.0 h.3.1 h.1), h.3.3, (h.3.1, h.1, refl, h.3.4, h.4))
 
 module _ (L : List ℕ → Type 0) where
-  pub at_most_none : Same Null (AtMost L 0)
-  at_most_none w = (λ e. (0, omega arith, e), back)
-    where
-      back : AtMost L 0 w → Null w
-      back (zero, l, j) = j
-      back (suc k, l, j) = absurd (omega (arith, l))
-
   pub at_most_more : (i : ℕ) → Same (Optional (InTurn L (AtMost L i))) (AtMost L (i + 1))
   at_most_more i w = (there, back)
     where

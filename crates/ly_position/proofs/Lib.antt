@@ -5,11 +5,9 @@ pub mod FollowLemmas
 pub mod JoinedLemmas
 pub mod ListsLemmas
 pub mod NumberLemmas
-pub mod Pigeonhole
 pub mod PlainLemmas
 pub mod PlanLemmas
 pub mod ProgramLemmas
 pub mod RunLemmas
-pub mod SparseSetLemmas
 pub mod StartLemmas
 pub mod WalkLemmas

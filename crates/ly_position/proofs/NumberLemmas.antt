@@ -1,11 +1,12 @@
 -- The numbers of the positions of a program, and lists of them.
-use Rattle.std.proofs.Common.{◌≡◌, ◌≢◌, inl, inr, ◌⊎◌, ℕ, zero, suc, ◌+◌, ◌<◌, ◌≤◌, List, [], ◌∷◌, ◌++◌, true, filter, length, get_or, take, map, Option, Some, None, refl, sym, ap, ◌∙◌, arith, append-nil, length-append, Result, Ok, Err}
-use Rattle.std.specs.Prelude.{AllPairs, ◌↔◌, slice_get, Contains, OnOk}
+use Rattle.std.proofs.Common.{◌≡◌, ◌≢◌, inl, inr, ◌⊎◌, ℕ, zero, suc, ◌+◌, ◌<◌, ◌≤◌, List, [], ◌∷◌, ◌++◌, true, filter, length, get_or, take, map, Option, Some, None, refl, sym, ap, ◌∙◌, arith, append-nil, length-append}
+use Rattle.std.specs.Prelude.{AllPairs, ◌↔◌, slice_get, Contains}
 use Rattle.std.specs.List.{cons_option, filter_map}
 use Rattle.std.proofs.lemmas.List.{map_more, take_more}
 use Rattle.std.proofs.lemmas.List.Elements.{filter-append, filter_map-append, Contains-get_or, All-contains}
 use Rattle.std.proofs.lemmas.List.Kept.{AllPairs-cons}
 use Rattle.std.specs.Option.{option_to_list}
+use Rattle.ly_base.proofs.MemberLemmas.{Contains-cons_cases, Contains-first, Contains-later, Contains-none}
 use Rattle.ly_position.specs.Program.{Step, reads, fork, ends, step_of}
 use Rattle.ly_position.specs.declared.program.Instruction.{Instruction}
 use Rattle.ly_position.specs.declared.program.Instruction.TheVariants.{Read, Fork, End}
@@ -19,37 +20,26 @@ last_one ys (Some z) = refl
 pub filter_map_more : {X Y : Type 0} (h : X → Option Y) (xs : List X) (i : ℕ) (d : X) (y : Option Y) → i < length xs → h (get_or xs i d) ≡ y → filter_map h (take (i + 1) xs) ≡ filter_map h (take i xs) ++ option_to_list y
 filter_map_more h xs i d y l e = rw (take_more xs i d l, filter_map-append h (take i xs) (get_or xs i d ∷ []), e) (last_one (filter_map h (take i xs)) y)
 
--- a member of the front, or of the rest
-pub contains_cons : {X : Type 0} (x : X) (xs : List X) (y : X) → Contains (x ∷ xs) y → (x ≡ y) ⊎ Contains xs y
-contains_cons x xs y (zero, l, e) = inl e
-contains_cons x xs y (suc k, l, e) = inr (k, omega (arith, l), e)
-
-pub contains_head : {X : Type 0} (x : X) (xs : List X) → Contains (x ∷ xs) x
-contains_head x xs = (0, omega arith, refl)
-
-pub contains_tail : {X : Type 0} (x : X) (xs : List X) (y : X) → Contains xs y → Contains (x ∷ xs) y
-contains_tail x xs y h = (suc h.0, omega (arith, h.1), h.2)
-
 module _ {X Y : Type 0} (h : X → Option Y) where
   from_cons : (z : Option Y) (ys : List Y) (y : Y) → Contains (cons_option z ys) y → (z ≡ Some y) ⊎ Contains ys y
   from_cons None ys y k = inr k
-  from_cons (Some z) ys y k = elim (contains_cons z ys y k) [ inl e ↦ inl (ap (λ x. Some x) e) | inr r ↦ inr r ]
+  from_cons (Some z) ys y k = elim (Contains-cons_cases z ys y k) [ inl e ↦ inl (ap (λ x. Some x) e) | inr r ↦ inr r ]
 
   pub filter_map_from : (xs : List X) (y : Y) → Contains (filter_map h xs) y → (x : X) × Contains xs x × (h x ≡ Some y)
-  filter_map_from [] y k = absurd (omega (arith, k.1))
+  filter_map_from [] y k = Contains-none _ k
   filter_map_from (x ∷ xs) y k = elim (from_cons (h x) (filter_map h xs) y k) [
-    | inl e ↦ (x, contains_head x xs, e)
-    | inr r ↦ let s = filter_map_from xs y r in (s.0, contains_tail x xs s.0 s.1, s.2)
+    | inl e ↦ (x, Contains-first x xs, e)
+    | inr r ↦ let s = filter_map_from xs y r in (s.0, Contains-later x xs s.0 s.1, s.2)
   ]
 
   onto_cons : (z : Option Y) (ys : List Y) (y : Y) → Contains ys y → Contains (cons_option z ys) y
   onto_cons None ys y k = k
-  onto_cons (Some z) ys y k = contains_tail z ys y k
+  onto_cons (Some z) ys y k = Contains-later z ys y k
 
   pub filter_map_to : (xs : List X) (x : X) (y : Y) → Contains xs x → h x ≡ Some y → Contains (filter_map h xs) y
-  filter_map_to [] x y k e = absurd (omega (arith, k.1))
-  filter_map_to (z ∷ xs) x y k e = elim (contains_cons z xs x k) [
-    | inl same ↦ rw (same, e) (contains_head y (filter_map h xs))
+  filter_map_to [] x y k e = Contains-none _ k
+  filter_map_to (z ∷ xs) x y k e = elim (Contains-cons_cases z xs x k) [
+    | inl same ↦ rw (same, e) (Contains-first y (filter_map h xs))
     | inr r ↦ onto_cons (h z) (filter_map h xs) y (filter_map_to xs x y r e)
   ]
 
@@ -160,10 +150,6 @@ reach_list g roots ms found reached once is = rw is (record {
   );
   once = filter_map_once (λ p. get_or (numbers_of g) p None) (λ a b q e f. numbers_one g 0 a b q e f) ms once;
 })
-
-pub on_ok : {A E : Type 0} {P Q : Type 0} (r : Result A E) → OnOk r P → (P → Q) → OnOk r Q
-on_ok (Ok x) h f = f h
-on_ok (Err x) h f = tt
 
 -- one more instruction
 pub numbers_push_place : (g : List Step) (s : Step) → is_place s ≡ true → numbers_of (g ++ s ∷ []) ≡ numbers_of g ++ Some (length (filter is_place g)) ∷ []

@@ -1,14 +1,11 @@
 -- What the plain expression of an operator is, idle operators left out.
 use Rattle.std.proofs.Common.{◌≡◌, ℕ, List, [], ◌∷◌, ◌++◌, length, Option, Some, None, Result, Ok, Err, refl, sym, ap, subst, ◌∙◌, arith, append_assoc, append-nil, length-append}
-use Rattle.std.specs.Prelude.{All, ◌↔◌, OnOk, IfOk}
+use Rattle.std.specs.Prelude.{◌↔◌, OnOk, IfOk}
 use Rattle.std.proofs.lemmas.List.{get_or_push, get_or_append_left}
 use Rattle.ly_ere.specs.Expression.{Expression, empty, Joined}
-use Rattle.ly_ere.specs.Arena.{part_of, expression_of, FitsAt}
-use Rattle.ly_ere.specs.declared.node.Node.{Node}
-use Rattle.ly_ere.specs.declared.node.Node.TheVariants.{Set, Empty, Concat, Either, Star, Plus, Optional, Repeat, Name}
-use Rattle.ly_position.specs.Program.{IsPlain}
+use Rattle.ly_ere.specs.Arena.{part_of}
 use Rattle.ly_position.proofs.JoinedLemmas.{in_turn_same, joined_same}
-use Rattle.ly_position.specs.Plain.{IsPlainNode, PlainMatches, PartMatches, IsPart, InTurn, Makes, Same}
+use Rattle.ly_position.specs.Plain.{PlainMatches, PartMatches, IsPart, InTurn, Makes, Same}
 
 -- both ways, one after the other
 pub both_ways : (A B C : Type 0) → A ↔ B → B ↔ C → A ↔ C
@@ -40,11 +37,6 @@ as_parts Op K es p q a b is_p is_q f = subst (λ (x : Option ℕ). (w : List ℕ
 pub no_part : (Op : (List ℕ → Type 0) → List ℕ → Type 0) (K : List ℕ → Type 0) (es : List Expression) (p : Option ℕ) → p ≡ None → ((w : List ℕ) → K w ↔ Op (λ v. ⊥) w) → (w : List ℕ) → K w ↔ Op (PartMatches es p) w
 no_part Op K es p is f = subst (λ (q : Option ℕ). (w : List ℕ) → K w ↔ Op (PartMatches es q) w) (sym is) f
 
--- it is not some, so it is none
-pub none_from : (p : Option ℕ) → ((a : ℕ) → p ≡ Some a → ⊥) → p ≡ None
-none_from None f = refl
-none_from (Some a) f = absurd (f a refl)
-
 pub same : (K : List ℕ → Type 0) (w : List ℕ) → K w ↔ K w
 same K w = (λ h. h, λ h. h)
 
@@ -61,18 +53,6 @@ added Op r es fs p a e f grown number is at k = makes_push r es fs f (Op (PartMa
 -- an operator over no part
 pub added_none : {E : Type 0} (Op : (List ℕ → Type 0) → List ℕ → Type 0) (r : Result (Option ℕ) E) (es fs : List Expression) (p : Option ℕ) (f : Expression) → OnOk r (fs ≡ es ++ f ∷ []) → IfOk r (λ q. q ≡ Some (length es)) → p ≡ None → ((w : List ℕ) → PlainMatches f w ↔ Op (λ v. ⊥) w) → IfOk r (λ q. Makes es fs q (Op (PartMatches es p)))
 added_none Op r es fs p f grown number is k = makes_push r es fs f (Op (PartMatches es p)) grown number (no_part Op (PlainMatches f) es p is k)
-
--- a node over plain expressions is plain
-pub IsPlain-node : (es : List Expression) (n : Node) → All IsPlain es → FitsAt (length es) n → IsPlainNode n → IsPlain (expression_of es n)
-IsPlain-node es (Set s) all h p = h
-IsPlain-node es Empty all h p = tt
-IsPlain-node es (Concat a b) all h p = (all a empty h.0, all b empty h.1)
-IsPlain-node es (Either a b) all h p = (all a empty h.0, all b empty h.1)
-IsPlain-node es (Star a) all h p = all a empty h
-IsPlain-node es (Plus a) all h p = all a empty h
-IsPlain-node es (Optional a) all h p = all a empty h
-IsPlain-node es (Repeat x y a) all h p = absurd p
-IsPlain-node es (Name x) all h p = absurd p
 
 -- a part has the same strings as the expressions grow
 pub part_stays : (es rest : List Expression) (p : Option ℕ) → IsPart (length es) p → Same (PartMatches (es ++ rest) p) (PartMatches es p)
@@ -95,14 +75,8 @@ makes_trans es fs gs p q K L M a b f = record {
   spells = λ w. both_ways (PartMatches gs q w) (M w) (K w) (b.spells w) (f w);
 }
 
-pub makes_as : (es fs : List Expression) (p : Option ℕ) (L M : List ℕ → Type 0) → Makes es fs p L → Same L M → Makes es fs p M
-makes_as es fs p L M a f = record { rest = a.rest; grown = a.grown; within = a.within; spells = λ w. both_ways (PartMatches fs p w) (L w) (M w) (a.spells w) (f w) }
-
 pub same_trans : (L M K : List ℕ → Type 0) → Same L M → Same M K → Same L K
 same_trans L M K f g w = both_ways (L w) (M w) (K w) (f w) (g w)
-
-pub same_sym : (L M : List ℕ → Type 0) → Same L M → Same M L
-same_sym L M f w = ((f w).1, (f w).0)
 
 -- copies of a part in front of what was made of it
 pub then_copies : {E : Type 0} (r : Result (Option ℕ) E) (es fs gs : List Expression) (p q : Option ℕ) (n : ℕ) (L M : List ℕ → Type 0) → IsPart (length es) p → Makes es fs q L → IfOk r (λ x. Makes fs gs x (InTurn (Joined (PartMatches fs p) n) (PartMatches fs q))) → Same (InTurn (Joined (PartMatches es p) n) L) M → IfOk r (λ x. Makes es gs x M)

@@ -1,5 +1,5 @@
 -- The parts of nodes, one after another.
-use Rattle.std.proofs.Common.{◌≡◌, inl, inr, ◌⊎◌, ℕ, zero, suc, ◌+◌, ◌<◌, ◌≤◌, List, [], ◌∷◌, ◌++◌, length, get_or, Option, Some, None, refl, sym, ap, subst, ◌∙◌, arith, append_assoc, length-append, add-one, Result, Ok, Err}
+use Rattle.std.proofs.Common.{◌≡◌, inl, inr, ◌⊎◌, ℕ, suc, ◌+◌, ◌<◌, ◌≤◌, List, [], ◌∷◌, ◌++◌, length, get_or, Option, Some, None, refl, sym, ap, subst, ◌∙◌, arith, append_assoc, length-append, add-one, Result, Ok, Err}
 use Rattle.std.specs.Prelude.{All, slice_get, IfOk}
 use Rattle.std.proofs.lemmas.Bool.{cases_eq, cases_lt}
 use Rattle.std.proofs.lemmas.List.{get_or_push, get_or_append_left, get_or_past}
@@ -158,16 +158,6 @@ then_tail (Ok x) e₀ e₁ e₂ e₃ names p q head tail all a b c =
     makes_trans e₀ e₂ e₃ q x (InTurn H T) T (InTurn (PartMatches e₂ p) (PartMatches e₂ q)) ab c
     (in_turn_same (PartMatches e₂ p) H (PartMatches e₂ q) T (same_trans (PartMatches e₂ p) (PartMatches e₁ p) H (part_grown e₁ e₂ b.rest p b.grown a.within) a.spells) ab.spells)
 then_tail (Err x) e₀ e₁ e₂ e₃ names p q head tail all a b c = tt
-
-pub get_within : {A : Type 0} (xs : List A) (i : ℕ) (x : A) → slice_get xs i ≡ Some x → i < length xs
-get_within [] i x e = cc
-get_within (y ∷ xs) zero x e = omega arith
-get_within (y ∷ xs) (suc i) x e = omega (arith, get_within xs i x e)
-
-pub get_read : {A : Type 0} (xs : List A) (i : ℕ) (x : A) → i < length xs → x ≡ get_or xs i x → slice_get xs i ≡ Some x
-get_read [] i x l e = absurd (omega arith)
-get_read (y ∷ xs) zero x l e = ap (λ z. Some z) (sym e)
-get_read (y ∷ xs) (suc i) x l e = get_read xs i x (omega arith) e
 
 tail_same : (N : ℕ → List ℕ → Type 0) (names : List Expression) (t : Option Expression) → ((x : ℕ) → Same (N x) (NamedUpTo names (length names) x)) → Same (InTailUnder N t) (InTail names t)
 tail_same N names None f = same (λ w. w ≡ [])

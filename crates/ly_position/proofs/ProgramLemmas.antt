@@ -1,9 +1,10 @@
 -- The program of rules, one rule after another.
-use Rattle.std.proofs.Common.{◌≡◌, inl, inr, ℕ, zero, suc, ◌+◌, ◌<◌, ◌≤◌, List, [], ◌∷◌, ◌++◌, length, get_or, Option, Some, None, refl, sym, ap, subst, ◌∙◌, arith, append_assoc, append-nil, length-append}
+use Rattle.std.proofs.Common.{◌≡◌, inl, inr, ℕ, ◌+◌, ◌<◌, ◌≤◌, List, [], ◌∷◌, ◌++◌, length, get_or, Option, Some, None, refl, sym, ap, subst, ◌∙◌, arith, append_assoc, append-nil, length-append}
 use Rattle.std.specs.Prelude.{All, ◌↔◌, slice_get}
 use Rattle.std.proofs.lemmas.Bool.{cases_eq, cases_lt}
 use Rattle.std.proofs.lemmas.List.{get_or_push, get_or_append_left, get_or_past}
 use Rattle.std.proofs.lemmas.List.Elements.{All-push, All-weaker}
+use Rattle.std.proofs.lemmas.Option.{get_or_from_slice_get, slice_get-get_or, slice_get_within}
 use Rattle.ly_ere.specs.Expression.{Expression, empty}
 use Rattle.ly_ere.specs.Arena.{part_of}
 use Rattle.ly_position.specs.Plain.{PartMatches, IsPart, PlainMatches}
@@ -12,7 +13,6 @@ use Rattle.ly_position.specs.Reach.{LeadsBelow, IsClosed}
 use Rattle.ly_position.specs.Compile.{EntryRuns, IsProgram}
 use Rattle.ly_position.proofs.CodeLaws.{HasCode, CanRun, at_stop, sound, complete, entry_below}
 use Rattle.ly_position.proofs.CodePlaces.{IsMove, get-append, get-at_length, HasCode-append, Runs-append, HasCode-of, length-code, stands, leads}
-use Rattle.ly_position.proofs.PlanLemmas.{get_within}
 
 -- the end of rule k and the code of its part stand in the program
 abbrev pub RuleStands : List Step → List Expression → Option ℕ → Option ℕ → ℕ → Type 0
@@ -27,16 +27,6 @@ pub record Compiled (es : List Expression) (parts : List (Option ℕ)) (g : List
   pub standing : (k : ℕ) → k < n → RuleStands g es (get_or parts k None) (get_or entries k None) k
   pub alive : (p : ℕ) → p < length g → (i : ℕ) × (w : List ℕ) × EntryRuns g i (Some p) w
   pub known : (p i : ℕ) → slice_get g p ≡ Some (ends i) → i < n
-
-pub compiled_none : (es : List Expression) (parts : List (Option ℕ)) → Compiled es parts [] [] 0
-compiled_none es parts = record {
-  closed = λ p s e. cc;
-  within = λ k d l. absurd (omega (arith, l));
-  count = refl;
-  standing = λ k l. absurd (omega (arith, l));
-  alive = λ p l. absurd (omega (arith, l));
-  known = λ p i e. cc;
-}
 
 -- a rule stays as the program grows
 rule_stays : (g more : List Step) (es : List Expression) (part e : Option ℕ) (k : ℕ) → RuleStands g es part e k → RuleStands (g ++ more) es part e k
@@ -75,9 +65,7 @@ part_further n m None l h = h
 part_further n m (Some a) l h = omega (arith, h)
 
 get_front : {A : Type 0} (xs ys : List A) (p : ℕ) (x : A) → p < length xs → slice_get (xs ++ ys) p ≡ Some x → slice_get xs p ≡ Some x
-get_front [] ys p x l e = absurd (omega arith)
-get_front (y ∷ xs) ys zero x l e = e
-get_front (y ∷ xs) ys (suc p) x l e = get_front xs ys p x (omega arith) e
+get_front xs ys p x l e = slice_get-get_or xs p x l ∙ ap (λ y. Some y) (sym (get_or_append_left xs ys x p l) ∙ get_or_from_slice_get (xs ++ ys) p x x e)
 
 -- one more rule
 module _ (es : List Expression) (parts : List (Option ℕ)) (g : List Step) (entries : List (Option ℕ)) (n a : ℕ)
@@ -106,7 +94,7 @@ module _ (es : List Expression) (parts : List (Option ℕ)) (g : List Step) (ent
     | inr l ↦ elim (cases_eq (length g) p) [
       | inl same ↦ let one : ends n ≡ s = let b = at_base in let c : slice_get (g ++ more) (length g) ≡ Some s = ap (λ x. slice_get (g ++ more) x) same ∙ e in cc in subst P one end
       | inr other ↦
-          let within : p < length (g ++ more) = get_within (g ++ more) p s e in
+          let within : p < length (g ++ more) = slice_get_within (g ++ more) p s e in
           let x = stands (g ++ more) (part_of es a) (length g + 1) (length g) (length (g ++ more)) p has_code (omega (arith, count_more)) (omega (arith, count_more)) (omega arith) (omega (arith, count_more)) in
           let one : x.0 ≡ s = let b = x.1 in let c = e in cc in
           subst P one (new x.0 x.2 x.3)

@@ -1,10 +1,13 @@
 -- Runs over positions are runs of the program.
 use Rattle.std.proofs.Common.{◌≡◌, ◌≢◌, inl, inr, ℕ, zero, suc, ◌+◌, ◌*◌, ◌<◌, ◌≤◌, List, [], ◌∷◌, Bool, true, length, get_or, map, filter, Option, Some, None, refl, sym, ap, subst, ◌∙◌, arith}
-use Rattle.std.specs.Prelude.{All, AllPairs, slice_get, Contains, if◌then◌else◌}
+use Rattle.std.specs.Prelude.{All, AllPairs, slice_get, Contains, if◌then◌else◌, option_map}
 use Rattle.std.specs.List.{AllZip}
 use Rattle.std.proofs.lemmas.Bool.{cases_lt}
 use Rattle.std.proofs.lemmas.List.{get_or_past, get_or_default, length-map}
 use Rattle.std.proofs.lemmas.List.Elements.{All-contains, Contains-get_or}
+use Rattle.std.proofs.lemmas.Option.{get_or_from_slice_get, slice_get-map, slice_get_cases, slice_get_within}
+use Rattle.std.proofs.lemmas.Slice.Zip.{AllZip-long}
+use Rattle.ly_base.proofs.MemberLemmas.{Contains-first, Contains-one}
 use Rattle.ly_ere.specs.Expression.{Expression}
 use Rattle.ly_ere.specs.declared.pattern.Rule.{Rule}
 use Rattle.ly_position.specs.Program.{Step, reads, fork, ends, Runs, at_end, by_read, by_first, by_second}
@@ -20,9 +23,8 @@ use Rattle.ly_position.specs.Patterns.{RunsFrom, HasString, ArePositions}
 use Rattle.ly_position.specs.declared.nfa.Slot.{Slot}
 use Rattle.ly_position.specs.declared.nfa.Slot.TheVariants as slot
 use Rattle.ly_position.proofs.CodeLaws.{CanRun}
-use Rattle.ly_position.proofs.NumberLemmas.{numbers_place, numbers_back, numbers_each, contains_cons, contains_head}
-use Rattle.ly_position.proofs.FollowLemmas.{zip_length, zip_get}
-use Rattle.ly_position.proofs.PlanLemmas.{get_within}
+use Rattle.ly_position.proofs.NumberLemmas.{numbers_place, numbers_back, numbers_each}
+use Rattle.ly_position.proofs.FollowLemmas.{zip_get}
 
 -- a position shows its step
 abbrev pub Shows : List Step → Step → Place → Type 0
@@ -39,20 +41,8 @@ slot_shows g lists (fork a b) x h = absurd h
 slot_shows g lists (ends i) (slot.Reads b f) h = h
 slot_shows g lists (ends i) (slot.Ends r) h = h
 
-get-map_some : {A B : Type 0} (f : A → B) (xs : List A) (i : ℕ) (x : A) → slice_get xs i ≡ Some x → slice_get (map f xs) i ≡ Some (f x)
-get-map_some f [] i x e = cc
-get-map_some f (y ∷ xs) zero x e = let one : y ≡ x = cc in ap (λ z. Some (f z)) one
-get-map_some f (y ∷ xs) (suc i) x e = get-map_some f xs i x e
-
-get_or_some : {A : Type 0} (xs : List A) (i : ℕ) (d x : A) → slice_get xs i ≡ Some x → get_or xs i d ≡ x
-get_or_some [] i d x e = cc
-get_or_some (y ∷ xs) zero d x e = cc
-get_or_some (y ∷ xs) (suc i) d x e = get_or_some xs i d x e
-
 get_here : {A : Type 0} (xs : List A) (i : ℕ) → i < length xs → (x : A) × (slice_get xs i ≡ Some x)
-get_here [] i l = absurd (omega arith)
-get_here (y ∷ xs) zero l = (y, refl)
-get_here (y ∷ xs) (suc i) l = get_here xs i (omega arith)
+get_here xs i l = elim (slice_get_cases xs i).1 [ inl h ↦ (h.0, h.2) | inr past ↦ absurd (omega (arith, past.0)) ]
 
 -- runs at a step that is reached are runs at a root
 module _ (g : List Step) (i : ℕ) where
@@ -73,19 +63,19 @@ module _ (g : List Step) (i : ℕ) where
     pub goes : Runs g i moves place w
 
   reached_first : (e a b p : ℕ) → slice_get g e ≡ Some (fork a b) → Reached g (a ∷ []) p → Reached g (e ∷ []) p
-  reached_first e a b p h (at_root k) = elim (contains_cons a [] p k) [ inl same ↦ subst (λ x. Reached g (e ∷ []) x) same (to_first (at_root (contains_head e [])) h) | inr none ↦ absurd (omega (arith, none.1)) ]
+  reached_first e a b p h (at_root k) = subst (λ x. Reached g (e ∷ []) x) (Contains-one a p k) (to_first (at_root (Contains-first e [])) h)
   reached_first e a b p h (to_first r k) = to_first (reached_first e a b _ h r) k
   reached_first e a b p h (to_second r k) = to_second (reached_first e a b _ h r) k
 
   reached_second : (e a b p : ℕ) → slice_get g e ≡ Some (fork a b) → Reached g (b ∷ []) p → Reached g (e ∷ []) p
-  reached_second e a b p h (at_root k) = elim (contains_cons b [] p k) [ inl same ↦ subst (λ x. Reached g (e ∷ []) x) same (to_second (at_root (contains_head e [])) h) | inr none ↦ absurd (omega (arith, none.1)) ]
+  reached_second e a b p h (at_root k) = subst (λ x. Reached g (e ∷ []) x) (Contains-one b p k) (to_second (at_root (Contains-first e [])) h)
   reached_second e a b p h (to_first r k) = to_first (reached_second e a b _ h r) k
   reached_second e a b p h (to_second r k) = to_second (reached_second e a b _ h r) k
 
   pub settles : (n e : ℕ) (w : List ℕ) → Runs g i n e w → Settles e n w
-  settles n e w (at_end k) = record { place = e; step = ends i; moves = 0; reached = at_root (contains_head e []); is = k; position = refl; fewer = omega arith; goes = at_end k }
+  settles n e w (at_end k) = record { place = e; step = ends i; moves = 0; reached = at_root (Contains-first e []); is = k; position = refl; fewer = omega arith; goes = at_end k }
   settles n e w (by_read {n = m} {b = b} {q = q} {bytes = bytes} {w = v} k c r) =
-      record { place = e; step = reads bytes q; moves = suc m; reached = at_root (contains_head e []); is = k; position = refl; fewer = omega arith; goes = by_read k c r }
+      record { place = e; step = reads bytes q; moves = suc m; reached = at_root (Contains-first e []); is = k; position = refl; fewer = omega arith; goes = by_read k c r }
   settles n e w (by_first {n = m} {a = a} {b = b} k r) =
       let s : Settles a m w = settles m a w r in
       record { place = s.place; step = s.step; moves = s.moves; reached = reached_first e a b s.place k s.reached; is = s.is; position = s.position; fewer = omega (arith, s.fewer); goes = s.goes }
@@ -95,7 +85,7 @@ module _ (g : List Step) (i : ℕ) where
 
 -- a wider list of roots reaches more
 reached_wider : (g : List Step) (e : ℕ) (roots : List ℕ) (p : ℕ) → Contains roots e → Reached g (e ∷ []) p → Reached g roots p
-reached_wider g e roots p h (at_root k) = elim (contains_cons e [] p k) [ inl same ↦ at_root (subst (λ x. Contains roots x) same h) | inr none ↦ absurd (omega (arith, none.1)) ]
+reached_wider g e roots p h (at_root k) = at_root (subst (λ x. Contains roots x) (Contains-one e p k) h)
 reached_wider g e roots p h (to_first r k) = to_first (reached_wider g e roots _ h r) k
 reached_wider g e roots p h (to_second r k) = to_second (reached_wider g e roots _ h r) k
 
@@ -120,7 +110,7 @@ module _ (g : List Step) (slots : List Slot) (follow starts : List (List ℕ)) (
         step = h.0;
         shape = place_in follow z.0;
         is = h.1;
-        at = subst (λ n. slice_get (map (place_in follow) slots) n ≡ Some (place_in follow z.0)) same (get-map_some (place_in follow) slots h.3 z.0 z.1);
+        at = subst (λ n. slice_get (map (place_in follow) slots) n ≡ Some (place_in follow z.0)) same (slice_get-map (place_in follow) slots h.3 ∙ ap (option_map (place_in follow)) z.1);
         shows = slot_shows g follow h.0 z.0 z.2;
       }
 
@@ -137,7 +127,7 @@ module _ (g : List Step) (slots : List Slot) (follow starts : List (List ℕ)) (
   read_forward i p b q w (reads bytes next) (reading bs f) e h reads_b follows_q rest =
       let r = (h.1.members q).0 follows_q in
       let x = from_root g i (next ∷ []) r.0 w r.1 (rest r.0 r.2) in
-      let at_next : CanRun g i next w = elim (contains_cons next [] x.0 x.1) [ inl same ↦ subst (λ y. CanRun g i y w) (sym same) x.2 | inr none ↦ absurd (omega (arith, none.1)) ] in
+      let at_next : CanRun g i next w = subst (λ y. CanRun g i y w) (sym (Contains-one next x.0 x.1)) x.2 in
       (suc at_next.0, by_read e (let P : List ℕ → Type 0 = λ l. Contains l b in subst P (sym h.0) reads_b) at_next.1)
   read_forward i p b q w (reads bytes next) (ending j) e h reads_b follows_q rest = absurd h
   read_forward i p b q w (fork a c) pl e h reads_b follows_q rest = absurd h
@@ -148,7 +138,7 @@ module _ (g : List Step) (slots : List Slot) (follow starts : List (List ℕ)) (
   forward [] i p q e run = let s = shown p q e in end_forward i p s.step s.shape s.is s.shows (let a = s.at in let b : slice_get (map (place_in follow) slots) q ≡ Some (ending i) = run in cc)
   forward (b ∷ w) i p q e run =
       let s = shown p q e in
-      let here : place_of nfa q ≡ s.shape = get_or_some (map (place_in follow) slots) q (reading [] []) s.shape s.at in
+      let here : place_of nfa q ≡ s.shape = get_or_from_slice_get (map (place_in follow) slots) q s.shape (reading [] []) s.at in
       read_forward i p b run.0 w s.step s.shape s.is s.shows (subst (λ x. Contains (bytes_of x) b) here run.1) (subst (λ x. Contains (follow_of x) run.0) here run.2)
       (λ r k. forward w i r run.0 k run.3)
 
@@ -164,7 +154,7 @@ module _ (g : List Step) (slots : List Slot) (follow starts : List (List ℕ)) (
   read_back p q b r next bytes (reads bs n) (reading cs f) a e at h c k =
       let one : bytes ≡ bs = cc in
       let two : next ≡ n = cc in
-      let here : place_of nfa q ≡ reading cs f = get_or_some (map (place_in follow) slots) q (reading [] []) (reading cs f) at in (
+      let here : place_of nfa q ≡ reading cs f = get_or_from_slice_get (map (place_in follow) slots) q (reading cs f) (reading [] []) at in (
         subst (λ x. Contains (bytes_of x) b) (sym here) (let P : List ℕ → Type 0 = λ l. Contains l b in subst P (one ∙ h.0) c),
         subst (λ x. Contains (follow_of x) r) (sym here) ((h.1.members r).1 (k.0, (let P : ℕ → Type 0 = λ z. Reached g (z ∷ []) k.0 in subst P two k.1), k.2)),
       )
@@ -199,13 +189,13 @@ module _ (g : List Step) (slots : List Slot) (follow starts : List (List ℕ)) (
       (number.0, (t.place, t.reached, here), back t.moves i t.moves t.place number.0 w (omega arith) here t.goes)
 
   count : length (map (place_in follow) slots) ≡ length (filter is_place g)
-  count = length-map slots (place_in follow) ∙ sym (zip_length (SlotFits g follow) (filter is_place g) slots fits)
+  count = length-map slots (place_in follow) ∙ AllZip-long (SlotFits g follow) (filter is_place g) slots fits
 
   number_below : (p q : ℕ) → get_or (numbers_of g) p None ≡ Some q → q < length slots
   number_below p q e =
       let h = numbers_back g 0 p q e in
-      let l = get_within (filter is_place g) h.3 h.0 h.5 in
-      let c = zip_length (SlotFits g follow) (filter is_place g) slots fits in
+      let l = slice_get_within (filter is_place g) h.3 h.0 h.5 in
+      let c = AllZip-long (SlotFits g follow) (filter is_place g) slots fits in
       omega (arith, h.4)
 
   reach_below : (roots list : List ℕ) → IsReachList g roots list → All (λ q. q < length slots) list
@@ -223,10 +213,10 @@ has_list g follow (ends i) (slot.Ends r) h = tt
 pub all_fit : (g : List Step) (rules : List Rule) (entries : List (Option ℕ)) (conditions : ℕ) (slots : List Slot) (follow starts : List (List ℕ)) → AllZip (SlotFits g follow) (filter is_place g) slots → FollowOf g follow → StartsAt g rules entries conditions starts → Fits slots follow starts
 all_fit g rules entries conditions slots follow starts fits lists begins = record {
   lists = λ k d l.
-      let c = zip_length (SlotFits g follow) (filter is_place g) slots fits in
+      let c = AllZip-long (SlotFits g follow) (filter is_place g) slots fits in
       let s = get_here (filter is_place g) k (omega arith) in
       let z = zip_get (SlotFits g follow) (filter is_place g) slots k s.0 fits s.1 in
-      subst (λ x. HasList (length follow) x) (sym (get_or_some slots k d z.0 z.1)) (has_list g follow s.0 z.0 z.2);
+      subst (λ x. HasList (length follow) x) (sym (get_or_from_slice_get slots k z.0 d z.1)) (has_list g follow s.0 z.0 z.2);
   follow_within = λ k d l. let r = lists k l in subst (λ xs. All (λ q. q < length slots) xs) (get_or_default follow k [] d l) (reach_below g slots follow starts fits (r.0 ∷ []) (get_or follow k []) r.1);
   starts_within = λ k d l. let r = begins.each k l in subst (λ xs. All (λ q. q < length slots) xs) (get_or_default starts k [] d l) (reach_below g slots follow starts fits r.0 (get_or starts k []) r.1);
 }
@@ -267,7 +257,7 @@ module _ (names : List Expression) (rules : List Rule) (es : List Expression) (p
       let start = begins.begin c line l in
       let listed = (plan.spells i h.0 h.1 w).1 h.4 in
       let x = entry_there i w (get_or entries i None) refl ((program.spells i i w).1 (refl, listed)) in
-      let root = (start.2 x.0).1 (i, h.0, get_within rules i h.0 h.1, h.1, h.2, h.3, x.1) in
+      let root = (start.2 x.0).1 (i, h.0, slice_get_within rules i h.0 h.1, h.1, h.2, h.3, x.1) in
       let s = from_step g slots follow starts fits i x.0 x.2.0 w x.2.1 in
       (s.0, (start.1.members s.0).1 (s.1.0, reached_wider g x.0 start.0 s.1.0 root s.1.1, s.1.2), s.2)
 
@@ -276,12 +266,12 @@ module _ (names : List Expression) (rules : List Rule) (es : List Expression) (p
       let s = get_here (filter is_place g) q (omega (arith, count g slots follow starts fits)) in
       let p = numbers_each g 0 q s.0 s.1 in
       let here : get_or (numbers_of g) p.0 None ≡ Some q = p.2 ∙ ap (λ x. Some x) (omega arith) in
-      let a = program.alive p.0 (get_within g p.0 s.0 p.1) in
+      let a = program.alive p.0 (slice_get_within g p.0 s.0 p.1) in
       (a.0, a.1, back g slots follow starts fits a.2.0 a.0 a.2.0 p.0 q a.1 (omega arith) here a.2.1)
 
   known_end : (q i : ℕ) → IsEnd made q i → i < length rules
   known_end q i e =
-      let l = get_within made.positions q (ending i) e in
+      let l = slice_get_within made.positions q (ending i) e in
       let s = get_here (filter is_place g) q (omega (arith, count g slots follow starts fits)) in
       let p = numbers_each g 0 q s.0 s.1 in
       let here : get_or (numbers_of g) p.0 None ≡ Some q = p.2 ∙ ap (λ x. Some x) (omega arith) in
@@ -301,8 +291,8 @@ module _ (names : List Expression) (rules : List Rule) (es : List Expression) (p
     | inl l ↦
         let x = get_here slots q l in
         let d = x.0 in
-        let has = subst (HasList (length follow)) (get_or_some slots q d d x.1) (fit.lists q d l) in
-        subst P (sym (get_or_some made.positions q (reading [] []) (place_in follow d) (get-map_some (place_in follow) slots q d x.1))) (f d has)
+        let has = subst (HasList (length follow)) (get_or_from_slice_get slots q d d x.1) (fit.lists q d l) in
+        subst P (sym (get_or_from_slice_get made.positions q (place_in follow d) (reading [] []) (slice_get-map (place_in follow) slots q ∙ ap (option_map (place_in follow)) x.1))) (f d has)
     | inr l ↦ subst P (sym (get_or_past made.positions q (reading [] []) (omega (arith, length-map slots (place_in follow))))) none
   ]
 

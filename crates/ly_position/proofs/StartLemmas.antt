@@ -4,6 +4,7 @@ use Rattle.std.specs.Prelude.{All, ◌↔◌, slice_get, Contains, IsTrue}
 use Rattle.std.proofs.lemmas.Bool.{cases_eq, cases_lt}
 use Rattle.std.proofs.lemmas.List.{get_or_push, get_or_append_left, get_or_default}
 use Rattle.std.proofs.lemmas.List.Elements.{All-push, All-set, All-nil, Contains-append_left, Contains-push, Contains-push_cases}
+use Rattle.ly_base.proofs.MemberLemmas.{Contains-none}
 use Rattle.ly_ere.specs.declared.pattern.Rule.{Rule}
 use Rattle.ly_position.specs.Program.{Step}
 use Rattle.ly_position.specs.Follow.{IsReachList}
@@ -96,13 +97,6 @@ pub within_trans : (L M N : List (List ℕ)) (x : ℕ) → StaysWithin L M x →
 within_trans L M N x f g n l all = g n l (f n l all)
 
 -- one more condition
-pub each_none : (L : List (List ℕ)) (n : ℕ) (b : Bool) (x : ℕ) → AddsInEach L L n [] b x
-each_none L n b x c line e l = (λ h. inl h, back)
-  where
-    back : Contains (root_list L c line) e ⊎ (Contains [] c × MayBegin b line × (e ≡ x)) → Contains (root_list L c line) e
-    back (inl h) = h
-    back (inr h) = let k = h.0 in absurd (omega (arith, k.1))
-
 pub each_more : (L M N : List (List ℕ)) (n : ℕ) (done done' : List ℕ) (d : ℕ) (b : Bool) (x : ℕ) → AddsInEach L M n done b x → AddsIn M N d b x → done' ≡ done ++ d ∷ [] → AddsInEach L N n done' b x
 each_more L M N n done done' d b x f g is c line e l = rw is (λ h. there ((g c line e).0 h), λ h. (g c line e).1 (back h))
   where
@@ -137,7 +131,7 @@ pub roots_none : (rules : List Rule) (entries : List (Option ℕ)) (conditions b
 roots_none rules entries conditions bound L count none = record {
   count = count;
   within = empty_within L bound none;
-  each = λ c line e l. (λ h. let at = none (key c line) in let k = subst (λ (xs : List ℕ). Contains xs e) at h in absurd (omega (arith, k.1)), λ h. absurd (omega (arith, h.2)));
+  each = λ c line e l. (λ h. let at = none (key c line) in Contains-none e (subst (λ (xs : List ℕ). Contains xs e) at h), λ h. absurd (omega (arith, h.2)));
 }
 
 later : (rules : List Rule) (entries : List (Option ℕ)) (n c : ℕ) (line : Bool) (e : ℕ) → BeginsBefore rules entries n c line e → BeginsBefore rules entries (n + 1) c line e

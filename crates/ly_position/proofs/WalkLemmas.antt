@@ -1,27 +1,15 @@
 -- What a walk over forks has found, and what it still has to look at.
 use Rattle.std.proofs.Common.{◌≡◌, ◌⊎◌, inl, inr, ℕ, zero, suc, ◌+◌, ◌-◌, ◌*◌, ◌<◌, ◌≤◌, List, [], ◌∷◌, ◌++◌, Option, Some, None, length, get_or, map, refl, sym, ap, ◌∙◌, subst, arith, length-append}
-use Rattle.std.specs.Prelude.{Contains, slice_get, All, ◌↔◌}
-use Rattle.std.proofs.lemmas.List.{get_or_append_left}
-use Rattle.std.proofs.lemmas.List.Elements.{Contains-append_left, Contains-append_right, Contains-push, Contains-push_cases, Contains-append_cases, All-append}
+use Rattle.std.specs.Prelude.{Contains, slice_get, All, ◌↔◌, option_map}
+use Rattle.std.proofs.lemmas.List.Elements.{Contains-append_left, Contains-append_right, Contains-push, Contains-push_cases, Contains-append_cases, All-append, All-pop}
+use Rattle.std.proofs.lemmas.Option.{slice_get-get_or, slice_get-map}
+use Rattle.ly_base.proofs.MemberLemmas.{Contains-none}
 use Rattle.ly_position.specs.Program.{Step, reads, fork, ends}
 use Rattle.ly_position.specs.Reach.{IsClosed, Reached, at_root, to_first, to_second, sides_of, Visits}
 
 -- what stands at a place
-pub get-map : {A B : Type 0} (f : A → B) (xs : List A) (i : ℕ) (x : A) → i < length xs → x ≡ get_or xs i x → slice_get (map f xs) i ≡ Some (f x)
-get-map f [] i x l e = absurd (omega arith)
-get-map f (y ∷ xs) zero x l e = ap (λ z. Some (f z)) (sym e)
-get-map f (y ∷ xs) (suc i) x l e = get-map f xs i x (omega arith) e
-
--- the same by any default
 pub get-map_at : {A B : Type 0} (f : A → B) (xs : List A) (i : ℕ) (d x : A) → i < length xs → get_or xs i d ≡ x → slice_get (map f xs) i ≡ Some (f x)
-get-map_at f [] i d x l e = absurd (omega arith)
-get-map_at f (y ∷ xs) zero d x l e = ap (λ z. Some (f z)) e
-get-map_at f (y ∷ xs) (suc i) d x l e = get-map_at f xs i d x (omega arith) e
-
-pub get_within : {A : Type 0} (xs : List A) (i : ℕ) (x : A) → slice_get xs i ≡ Some x → i < length xs
-get_within [] i x e = cc
-get_within (y ∷ xs) zero x e = omega arith
-get_within (y ∷ xs) (suc i) x e = omega (arith, get_within xs i x e)
+get-map_at f xs i d x l e = slice_get-map f xs i ∙ ap (option_map f) (slice_get-get_or xs i d l ∙ ap (λ y. Some y) e)
 
 -- the walk: what is found is reached, and what is reached from there is found or still on the stack
 pub record Searches (program : List Step) (roots members stack : List ℕ) : Type 0 where
@@ -32,19 +20,15 @@ pub record Searches (program : List Step) (roots members stack : List ℕ) : Typ
   pub first : (p a b : ℕ) → Contains members p → slice_get program p ≡ Some (fork a b) → Contains members a ⊎ Contains stack a
   pub second : (p a b : ℕ) → Contains members p → slice_get program p ≡ Some (fork a b) → Contains members b ⊎ Contains stack b
 
--- no element
-not_in_nil : (x : ℕ) → Contains [] x → ⊥
-not_in_nil x h = absurd (omega (arith, h.1))
-
 -- the walk begins with the roots
 pub searches_none : (g : List Step) (rs : List ℕ) → All (λ p. p < length g) rs → Searches g rs [] rs
 searches_none g rs h = record {
   below = h;
-  found = λ p k. absurd (not_in_nil p k);
+  found = λ p k. Contains-none p k;
   noted = λ p k. at_root k;
   begun = λ p k. inr k;
-  first = λ p a b k e. absurd (not_in_nil p k);
-  second = λ p a b k e. absurd (not_in_nil p k);
+  first = λ p a b k e. Contains-none p k;
+  second = λ p a b k e. Contains-none p k;
 }
 
 -- with an empty stack all is found
@@ -53,7 +37,7 @@ searches_all g rs ms h p = (h.found p, back p)
   where
     only : (q : ℕ) → Contains ms q ⊎ Contains [] q → Contains ms q
     only q (inl k) = k
-    only q (inr k) = absurd (not_in_nil q k)
+    only q (inr k) = Contains-none q k
 
     back : (q : ℕ) → Reached g rs q → Contains ms q
     back q (at_root k) = only q (h.begun q k)
@@ -63,9 +47,9 @@ searches_all g rs ms h p = (h.found p, back p)
 -- where a step leads without reading is reached with it, and within the program
 module _ (g : List Step) (rs : List ℕ) (p : ℕ) where
   side_reached : (o : Option Step) (x : ℕ) → slice_get g p ≡ o → Reached g rs p → Contains (sides_of o) x → Reached g rs x
-  side_reached None x e r k = absurd (not_in_nil x k)
-  side_reached (Some (reads bytes q)) x e r k = absurd (not_in_nil x k)
-  side_reached (Some (ends i)) x e r k = absurd (not_in_nil x k)
+  side_reached None x e r k = Contains-none x k
+  side_reached (Some (reads bytes q)) x e r k = Contains-none x k
+  side_reached (Some (ends i)) x e r k = Contains-none x k
   side_reached (Some (fork a b)) x e r (zero, l, k) = subst (λ y. Reached g rs y) k (to_second r e)
   side_reached (Some (fork a b)) x e r (suc zero, l, k) = subst (λ y. Reached g rs y) k (to_first r e)
   side_reached (Some (fork a b)) x e r (suc (suc n), l, k) = absurd (omega (arith, l))
@@ -84,13 +68,14 @@ sides_first o a b e = rw e (1, omega arith, refl)
 sides_second : (o : Option Step) (a b : ℕ) → o ≡ Some (fork a b) → Contains (sides_of o) b
 sides_second o a b e = rw e (0, omega arith, refl)
 
-All_front : {A : Type 0} (P : A → Type 0) (xs ys : List A) → All P (xs ++ ys) → All P xs
-All_front P xs ys h k d l = let e : get_or (xs ++ ys) k d ≡ get_or xs k d = get_or_append_left xs ys d k l in subst P e (h k d (omega (arith, length-append xs ys)))
+-- a step that is a new member
+pub visits_new : (g : List Step) (p : ℕ) (ms ms' st st' : List ℕ) (s : Step) → ms' ≡ ms ++ p ∷ [] → slice_get g p ≡ Some s → st' ≡ st ++ sides_of (Some s) → Visits g p ms ms' st st'
+visits_new g p ms ms' st st' s more at pushed = inr (more, pushed ∙ ap (λ o. st ++ sides_of o) (sym at))
 
 -- one step of the walk
 pub searches_more : (g : List Step) (rs ms ms' st st' : List ℕ) (p : ℕ) → IsClosed g → Searches g rs ms (st ++ p ∷ []) → Visits g p ms ms' st st' → Searches g rs ms' st'
 searches_more g rs ms ms' st st' p closed h (inl v) = rw (v.1, v.2) (record {
-  below = All_front (λ q. q < length g) st (p ∷ []) h.below;
+  below = (All-pop (λ q. q < length g) (st ++ p ∷ []) st (Some p) refl h.below).0;
   found = h.found;
   noted = λ q k. h.noted q (Contains-append_left st (p ∷ []) q k);
   begun = λ q k. known q (h.begun q k);
@@ -102,7 +87,7 @@ searches_more g rs ms ms' st st' p closed h (inl v) = rw (v.1, v.2) (record {
     known q (inl k) = inl k
     known q (inr k) = elim (Contains-push_cases st p q k) [ inl a ↦ inr a | inr e ↦ inl (subst (λ x. Contains ms x) e v.0) ]
 searches_more g rs ms ms' st st' p closed h (inr v) = rw (v.0, v.1) (record {
-  below = All-append (λ q. q < length g) st sides (All_front (λ q. q < length g) st (p ∷ []) h.below) (side_below g rs p closed (slice_get g p) refl);
+  below = All-append (λ q. q < length g) st sides (All-pop (λ q. q < length g) (st ++ p ∷ []) st (Some p) refl h.below).0 (side_below g rs p closed (slice_get g p) refl);
   found = λ q k. taken q (Contains-push_cases ms p q k);
   noted = λ q k. elim (Contains-append_cases st sides q k) [ inl a ↦ h.noted q (Contains-append_left st (p ∷ []) q a) | inr b ↦ side_reached g rs p (slice_get g p) q refl reached b ];
   begun = λ q k. known q (h.begun q k);

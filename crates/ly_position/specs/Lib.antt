@@ -10,6 +10,5 @@ pub mod Plan
 pub mod Position
 pub mod Program
 pub mod Reach
-pub mod SparseSet
 pub mod Starts
 pub mod TotalWeight

@@ -10,7 +10,6 @@ mod plain;
 mod plan;
 mod program;
 mod reach;
-mod sparse_set;
 mod starts;
 mod weight;
 

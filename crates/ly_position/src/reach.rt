@@ -5,7 +5,7 @@ ghost use Rattle.ly_position.specs.Follow.{IsReachList, numbers_of};
 ghost use Rattle.ly_position.specs.Reach.{IsClosed, Reached, Visits};
 
 use crate::program::Instruction;
-use crate::sparse_set::SparseSet;
+use ly_base::SparseSet;
 use std::alloc::{AllocError, Global};
 
 /// Room for finding which positions come next.
@@ -55,18 +55,14 @@ impl Reach {
 }
 
 /// Puts down the numbers of the members that have one.
-fn number(
-    members: &[usize],
-    numbers: &[Option<u32>],
-    found: &mut Vec<u32>,
-) -> Result<(), AllocError>
+fn number(members: &[u32], numbers: &[Option<u32>], found: &mut Vec<u32>) -> Result<(), AllocError>
     requires { All (λ p. p < length numbers.now) members.now }
     ensures { OnOk result (found.new.items ≡ filter_map (λ p. slice_index_or numbers.now p None)
         members.now) }
 {
     found.clear();
     for member in members {
-        if let Some(number) = numbers[*member] {
+        if let Some(number) = numbers[*member as usize] {
             found.push(number)?;
         }
     }
@@ -106,11 +102,13 @@ fn visit(
     requires place { place < length code.now }
     requires below { seen.old.below ≡ length code.now }
     ensures below { seen.new.below ≡ seen.old.below }
-    ensures room { length seen.new.members ≤ seen.old.below }
+    ensures room { OnOk result (length seen.new.members ≤ seen.old.below) }
     ensures ok { OnOk result (Visits (steps_of code.now) place seen.old.members seen.new.members
         stack.old.items stack.new.items) }
 {
-    if !seen.insert(place)? {
+    // No memory holds more instructions than a u32 counts.
+    let number = u32::try_from(place).map_err(|_| AllocError)?;
+    if !seen.insert(number) {
         return Ok(());
     }
     match code[place] {

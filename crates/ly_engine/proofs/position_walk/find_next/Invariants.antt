@@ -1,5 +1,5 @@
 use Rattle.std.proofs.Common.{◌≡◌, take, []}
-use Rattle.ly_engine.specs.PositionSet.{with_members}
+use Rattle.ly_base.specs.SparseSet.{with_members}
 use Rattle.ly_engine.specs.PositionWalk.{next_set}
 use Rattle.ly_engine.proofs.position_walk.find_next.Given as goal
 

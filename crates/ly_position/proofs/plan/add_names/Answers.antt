@@ -1,9 +1,10 @@
-use Rattle.std.proofs.Common.{◌≡◌, ◌∷◌, [], ℕ, List, Option, Some, length-append, arith, subst}
+use Rattle.std.proofs.Common.{◌≡◌, ◌∷◌, [], ℕ, List, Option, Some, length-append, arith, subst, length, refl}
 use Rattle.std.specs.Prelude.{slice_get}
+use Rattle.std.proofs.lemmas.Option.{slice_get_read}
 use Rattle.ly_ere.specs.Expression.{Expression, MatchesUnder}
 use Rattle.ly_position.specs.Plain.{Makes}
 use Rattle.ly_position.specs.Plan.{ListedMatches}
-use Rattle.ly_position.proofs.PlanLemmas.{get_read, names_more, names_more_within}
+use Rattle.ly_position.proofs.PlanLemmas.{names_more, names_more_within}
 use Rattle.ly_position.proofs.plan.add_names.Goals as goal
 
 pub loop-definition-preserved : goal.loop-definition-preserved
@@ -14,7 +15,7 @@ loop-definition-preserved c =
     let d = c.definition-item.result in
     let p = c.in_ok-part.part in
     let is : slice_get c.args.names.now i ≡ Some d =
-    subst (λ (ns : List Expression). slice_get ns i ≡ Some d) c.definitions-definition-items.ensures.these (get_read c.definitions-definition-items.result.now i d c.loop-definition-test.true c.definition-item.is) in
+    subst (λ (ns : List Expression). slice_get ns i ≡ Some d) c.definitions-definition-items.ensures.these (slice_get_read c.definitions-definition-items.result.now (length c.definitions-definition-items.result.now) i d refl c.loop-definition-test.true c.definition-item.is) in
     let made = subst (λ (ps : List (Option ℕ)). Makes c.loop-definition.plain c.add.new.plain p (MatchesUnder (ListedMatches c.loop-definition.plain ps) d)) c.deref.ensures.value c.in_ok-part.ensures in
     rw c.in_ok-push.ensures.items (record {
       count = omega (arith, length-append ds (p ∷ []), before.count);

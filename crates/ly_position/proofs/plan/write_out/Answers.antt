@@ -1,8 +1,9 @@
-use Rattle.std.proofs.Common.{◌≡◌, ◌∷◌, [], ℕ, List, Option, Some, length, length-append, ◌∙◌, arith, subst, le_antisymm}
+use Rattle.std.proofs.Common.{◌≡◌, ◌∷◌, [], ℕ, List, Option, Some, length, length-append, ◌∙◌, arith, subst, le_antisymm, refl}
 use Rattle.std.specs.Prelude.{slice_get}
+use Rattle.std.proofs.lemmas.Option.{slice_get_read, slice_get_within}
 use Rattle.ly_position.specs.Plain.{Makes}
 use Rattle.ly_position.specs.Plan.{ListedMatches, SpelledUnder}
-use Rattle.ly_position.proofs.PlanLemmas.{get_read, get_within, rules_names_within, rules_named, rules_within, rules_more}
+use Rattle.ly_position.proofs.PlanLemmas.{rules_names_within, rules_named, rules_within, rules_more}
 use Rattle.ly_position.proofs.plan.write_out.Goals as goal
 
 pub loop-rule-preserved : goal.loop-rule-preserved
@@ -15,7 +16,7 @@ loop-rule-preserved c =
     let ps = c.loop-rule.parts.items in
     let r = c.rule-item.result in
     let p = c.in_ok-part.part in
-    let is : slice_get rules i ≡ Some r = get_read rules i r c.loop-rule-test.true c.rule-item.is in
+    let is : slice_get rules i ≡ Some r = slice_get_read rules (length rules) i r refl c.loop-rule-test.true c.rule-item.is in
     let made = subst (λ (xs : List (Option ℕ)). Makes c.loop-rule.plain c.add_rule.new.plain p (SpelledUnder (ListedMatches c.loop-rule.plain xs) r.pattern)) c.deref.ensures.value c.in_ok-part.ensures in
     rw c.in_ok-push.ensures.items (record {
       names_within = rules_names_within names rules c.loop-rule.plain c.add_rule.new.plain ds ps i r p before.names_within before.named before.count before.within before.spells is made;
@@ -32,5 +33,5 @@ returns c =
     record {
       count = before.count ∙ all;
       within = before.within;
-      spells = λ i r e. before.spells i r (omega (arith, get_within c.args.rules.now i r e)) e;
+      spells = λ i r e. before.spells i r (omega (arith, slice_get_within c.args.rules.now i r e)) e;
     }

@@ -1,11 +1,12 @@
-use Rattle.std.proofs.Common.{◌≡◌, ◌≤◌, ◌++◌, ◌∷◌, [], length, map, ap, ◌∙◌, arith, length-append}
+use Rattle.std.proofs.Common.{◌≡◌, ◌≤◌, ◌++◌, ◌∷◌, [], length, map, ap, ◌∙◌, arith, length-append, Some}
 use Rattle.std.specs.Prelude.{reverse}
 use Rattle.std.proofs.lemmas.List.{length-map}
+use Rattle.std.proofs.lemmas.List.Elements.{All-pop}
 use Rattle.ly_ere.specs.Arena.{part_of}
 use Rattle.ly_position.specs.Program.{code, size, step_of}
-use Rattle.ly_position.specs.Compile.{planned}
+use Rattle.ly_position.specs.Compile.{TaskFits, planned}
 use Rattle.ly_position.specs.declared.program.Task.TheVariants as task
-use Rattle.ly_position.proofs.CompileLemmas.{planned_room, front_fits}
+use Rattle.ly_position.proofs.CompileLemmas.{planned_room}
 use Rattle.ly_position.proofs.CodePlaces.{length-code}
 use Rattle.ly_position.proofs.program.append.Goals as goal
 
@@ -25,4 +26,4 @@ append_node-requires-clause-room c =
     omega arith
 
 pub append_node-requires-clause-tasks : goal.append_node-requires-clause-tasks
-append_node-requires-clause-tasks c = front_fits (length c.args.plain.now) c.pop.new.self.items (c.in-Some.task ∷ []) (rw c.in-Some.ensures.items at c.loop-task.invariant.fits)
+append_node-requires-clause-tasks c = (All-pop (TaskFits (length c.args.plain.now)) c.loop-task.tasks.items c.pop.new.self.items (Some c.in-Some.task) c.in-Some.ensures.items c.loop-task.invariant.fits).0

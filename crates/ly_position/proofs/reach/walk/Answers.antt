@@ -2,6 +2,7 @@ use Rattle.std.proofs.Common.{◌≡◌, ◌<◌, [], ◌++◌, length, map, ap,
 use Rattle.std.specs.Prelude.{Contains}
 use Rattle.std.proofs.lemmas.List.{nil_from_length, length-map}
 use Rattle.std.proofs.lemmas.List.Elements.{All-contains, Contains-push}
+use Rattle.ly_base.specs.SparseSet.{Chosen}
 use Rattle.ly_position.specs.Program.{step_of}
 use Rattle.ly_position.proofs.WalkLemmas.{searches_none, searches_more, searches_all, visits_less}
 use Rattle.ly_position.proofs.reach.walk.Goals as goal
@@ -9,10 +10,11 @@ use Rattle.ly_position.proofs.reach.walk.Goals as goal
 pub loop-place-init : goal.loop-place-init
 loop-place-init c =
     let items : c.extend_from_slice.new.self.items ≡ c.args.roots.now = c.in_ok-extend_from_slice.ensures.items ∙ ap (λ xs. xs ++ c.args.roots.now) c.clear-2.ensures.items in
+    let none : c.clear.new.self.members ≡ [] = ap (λ (s : Chosen). s.members) c.clear.ensures in
     record {
-      below = c.clear.ensures.below ∙ c.requires.below;
-      room = rw c.clear.ensures.empty (omega arith);
-      walk = rw (c.clear.ensures.empty, items) (searches_none (map step_of c.args.code.now) c.args.roots.now (rw (length-map c.args.code.now step_of) c.requires.within));
+      below = ap (λ (s : Chosen). s.below) c.clear.ensures ∙ c.requires.below;
+      room = rw none (omega arith);
+      walk = rw (none, items) (searches_none (map step_of c.args.code.now) c.args.roots.now (rw (length-map c.args.code.now step_of) c.requires.within));
     }
 
 pub loop-place-preserved : goal.loop-place-preserved

@@ -1,6 +1,6 @@
 use Rattle.std.proofs.Common.{◌≡◌, ◌∙◌, [], ap, not}
 use Rattle.ly_position.specs.Nfa.{starts_of}
-use Rattle.ly_engine.specs.PositionSet.{Chosen, with_members}
+use Rattle.ly_base.specs.SparseSet.{Chosen, with_members}
 use Rattle.ly_engine.proofs.PositionWalkLemmas.{alive_of, there_of}
 use Rattle.ly_engine.proofs.position_walk.PositionWalkSteps.start.Goals as goal
 

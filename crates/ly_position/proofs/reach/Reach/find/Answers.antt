@@ -2,9 +2,10 @@ use Rattle.std.proofs.Common.{◌≡◌, ℕ, List, Option, None, length, get_or
 use Rattle.std.specs.Prelude.{Contains, ◌↔◌}
 use Rattle.std.specs.List.{filter_map}
 use Rattle.std.proofs.lemmas.List.{length-map}
+use Rattle.std.proofs.lemmas.Result.{on_ok_weaker}
 use Rattle.ly_position.specs.Program.{step_of}
 use Rattle.ly_position.specs.Reach.{Reached}
-use Rattle.ly_position.proofs.NumberLemmas.{length-numbers, on_ok, reach_list}
+use Rattle.ly_position.proofs.NumberLemmas.{length-numbers, reach_list}
 use Rattle.ly_position.proofs.reach.Reach.find.Goals as goal
 
 pub number-requires : goal.number-requires
@@ -15,7 +16,7 @@ number-requires c =
 pub returns-clause-ok : goal.returns-clause-ok
 returns-clause-ok c =
     let g = map step_of c.args.code.now in
-    on_ok c.number.result c.number.ensures
+    on_ok_weaker c.number.result
     (λ is. reach_list g c.args.roots.now c.members.result.now c.number.new.found.items
     (λ p. subst (λ (ms : List ℕ). Contains ms p ↔ Reached g c.args.roots.now p) (sym c.members.ensures.these) (c.in_ok-walk.ensures.ok p)) c.members.ensures.once
-    (subst (λ (ns : List (Option ℕ)). c.number.new.found.items ≡ filter_map (λ p. get_or ns p None) c.members.result.now) c.requires.numbers is))
+    (subst (λ (ns : List (Option ℕ)). c.number.new.found.items ≡ filter_map (λ p. get_or ns p None) c.members.result.now) c.requires.numbers is)) c.number.ensures

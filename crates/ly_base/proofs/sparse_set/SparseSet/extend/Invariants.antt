@@ -1,6 +1,6 @@
 use Rattle.std.proofs.Common.{◌≡◌, take}
-use Rattle.ly_engine.specs.PositionSet.{with_members}
-use Rattle.ly_engine.proofs.position_set.PositionSet.extend.Given as goal
+use Rattle.ly_base.specs.SparseSet.{with_members}
+use Rattle.ly_base.proofs.sparse_set.SparseSet.extend.Given as goal
 
 -- the numbers so far are added
 abbrev pub invariant-loop-number : goal.invariant-loop-number

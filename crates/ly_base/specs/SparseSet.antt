@@ -1,7 +1,7 @@
 -- Sets of numbers below a bound, by the order in which their members came (Briggs and Torczon 1993).
 use Rattle.std.specs.Prelude.{◌≡◌, ℕ, ◌<◌, ◌≤◌, ◌++◌, List, [], ◌∷◌, length, take, fold, slice_index, nat_eq, if◌then◌else◌}
 use Rattle.std.specs.List.{list_any}
-use Rattle.ly_engine.specs.declared.position_set.PositionSet.TheInside.{Inside}
+use Rattle.ly_base.specs.declared.sparse_set.SparseSet.TheInside.{Inside}
 
 -- the bound, and the members in the order in which they came
 pub record Chosen : Type 0 where

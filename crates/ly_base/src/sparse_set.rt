@@ -1,4 +1,4 @@
-ghost use Rattle.std.specs.Prelude.{◌≡◌, ◌<◌, [], All, IfOk, nat_eq};
+ghost use Rattle.std.specs.Prelude.{◌≡◌, ◌≢◌, ◌<◌, ◌≤◌, [], length, not, All, AllPairs, IfOk, nat_eq};
 ghost use Rattle.std.specs.List.{list_any};
 
 use std::alloc::{AllocError, Global};
@@ -7,7 +7,7 @@ use std::marker::Model;
 /// A set of numbers below a bound. All its room is made with it, and it is cleared in one step (Briggs
 /// and Torczon 1993).
 #[derive(Drop)]
-pub(crate) struct PositionSet {
+pub struct SparseSet {
     /// Room for the members; they stand in the first `size` slots.
     slots: Vec<u32>,
     /// The slot in which each number stood last.
@@ -16,42 +16,43 @@ pub(crate) struct PositionSet {
     size: usize,
 }
 
-impl Model for PositionSet {
-    ghost use Rattle.ly_engine.specs.PositionSet.{Chosen};
+impl Model for SparseSet {
+    ghost use Rattle.ly_base.specs.SparseSet.{Chosen};
 
     ghost Value = { Chosen };
 
-    ghost use Rattle.ly_engine.specs.PositionSet.{chosen, IsPlaced};
+    ghost use Rattle.ly_base.specs.SparseSet.{chosen, IsPlaced};
 
     ghost view = { chosen };
 
     ghost invariant = { λ s. IsPlaced s.slots.items s.places.items s.size };
 }
 
-impl PositionSet {
-    ghost use Rattle.ly_engine.specs.PositionSet.{with_member, with_members};
+impl SparseSet {
+    ghost use Rattle.ly_base.specs.SparseSet.{with_member, with_members};
 
     /// The empty set of numbers below a bound, or that its room is refused.
-    pub(crate) fn new(alloc: Global, bound: usize) -> Result<Self, AllocError>
+    pub fn new(alloc: Global, bound: usize) -> Result<Self, AllocError>
         ensures { IfOk result (λ s. s ≡ record { below = bound; members = [] }) }
     {
-        Ok(PositionSet {
+        Ok(SparseSet {
             slots: vec![in alloc; 0; bound]?,
             places: vec![in alloc; 0; bound]?,
             size: 0,
         })
     }
 
-    /// The members, in the order in which they came.
-    pub(crate) fn members(&self) -> &[u32]
+    /// The members, each once, in the order in which they came.
+    pub fn members(&self) -> &[u32]
         ensures these { result.now ≡ self.now.members }
         ensures within { All (λ m. m < self.now.below) result.now }
+        ensures once { AllPairs (λ m n. m ≢ n) result.now }
     {
         &self.slots[..self.size]
     }
 
     /// Whether a number is a member.
-    pub(crate) fn contains(&self, number: u32) -> bool
+    pub fn contains(&self, number: u32) -> bool
         requires { number < self.now.below }
         ensures { result ≡ list_any (nat_eq number) self.now.members }
     {
@@ -60,26 +61,30 @@ impl PositionSet {
     }
 
     /// Takes out all members.
-    pub(crate) fn clear(&mut self)
+    pub fn clear(&mut self)
         ensures { self.new ≡ record self.old { members = [] } }
     {
         self.size = 0;
     }
 
-    /// Adds a number.
-    pub(crate) fn insert(&mut self, number: u32)
+    /// Adds a number, and answers whether it is a new one.
+    pub fn insert(&mut self, number: u32) -> bool
         requires { number < self.old.below }
-        ensures { self.new ≡ record self.old { members = with_member self.old.members number } }
+        ensures added { self.new ≡ record self.old { members = with_member self.old.members number } }
+        ensures new { result ≡ not (list_any (nat_eq number) self.old.members) }
+        ensures room { length self.new.members ≤ self.new.below }
     {
-        if !self.contains(number) {
-            self.slots[self.size] = number;
-            self.places[number as usize] = self.size;
-            self.size += 1;
+        if self.contains(number) {
+            return false;
         }
+        self.slots[self.size] = number;
+        self.places[number as usize] = self.size;
+        self.size += 1;
+        true
     }
 
     /// Adds some numbers.
-    pub(crate) fn extend(&mut self, numbers: &[u32])
+    pub fn extend(&mut self, numbers: &[u32])
         requires { All (λ n. n < self.old.below) numbers.now }
         ensures { self.new ≡ record self.old { members = with_members self.old.members numbers.now } }
     {

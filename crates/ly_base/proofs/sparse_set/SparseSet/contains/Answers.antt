@@ -1,7 +1,7 @@
 use Rattle.std.proofs.Common.{ap, arith, sym, ◌∙◌, le-ltb}
-use Rattle.ly_engine.specs.PositionSet.{Chosen}
-use Rattle.ly_engine.proofs.PositionSetLemmas.{is_member, is_no_member}
-use Rattle.ly_engine.proofs.position_set.PositionSet.contains.Goals as goal
+use Rattle.ly_base.specs.SparseSet.{Chosen}
+use Rattle.ly_base.proofs.SparseSetLemmas.{is_member, is_no_member}
+use Rattle.ly_base.proofs.sparse_set.SparseSet.contains.Goals as goal
 
 pub returns-then-place-self : goal.returns-then-place-self
 returns-then-place-self c = is_member c.self.inside.slots.items c.self.inside.places.items c.args.self.now.members c.self.inside.size c.args.number c.index-place.result.now c.index.result.now
