@@ -106,7 +106,7 @@ fn visit(
     ensures ok { OnOk result (Visits (steps_of code.now) place seen.old.members seen.new.members
         stack.old.items stack.new.items) }
 {
-    // No memory holds more instructions than a u32 counts.
+    // The limit of weight keeps the code far shorter than a u32 counts.
     let number = u32::try_from(place).map_err(|_| AllocError)?;
     if !seen.insert(number) {
         return Ok(());
