@@ -6,7 +6,7 @@ use ly_lexread::LexFault;
 use std::test::Fail;
 
 /// A lex file with the number and the line of its fault; of a pattern the number of its own fault.
-const REFUSED: [(&[u8], u8, u64); 58] = [
+const REFUSED: [(&[u8], u8, u64); 60] = [
     (b"", 20, 1),
     (b" \n", 20, 1),
     (b"\n\n", 20, 2),
@@ -58,10 +58,12 @@ const REFUSED: [(&[u8], u8, u64); 58] = [
     (b"%%\n[^\\x00-\\xff] ;\n", 7, 2),
     (b"%%\n[[:word:]] ;\n", 8, 2),
     (b"%%\n[[.ab.]] ;\n", 8, 2),
+    (b"%%\n[[..]] ;\n", 8, 2),
     (b"%%\na{2} ;\n", 9, 2),
     (b"%%\na{,2} ;\n", 9, 2),
     (b"%%\n\\400 ;\n", 10, 2),
     (b"%%\n[\\x100] ;\n", 10, 2),
+    (b"%%\n\"\\400 ;\n", 10, 2),
     (b"%%\n{D} ;\n", 11, 2),
     (b"%%\n^a ;\n", 13, 2),
     (b"%%\n\na$ ;\n", 13, 3),
