@@ -258,6 +258,10 @@ byte_at t n b l e = drop_more t n 0 l ∙ ap (λ x. x ∷ drop (n + 1) t) e
 escape_none : (t : List ℕ) → escape_of t ≡ None → (b : ℕ) (r : List ℕ) → Escape t b r → ⊥
 escape_none t e b r h = let k = escape_complete h in cc
 
+-- a newline is no escape
+pub newline_none : (t : List ℕ) (b : ℕ) (r : List ℕ) → Escape (10 ∷ t) b r → ⊥
+newline_none t = escape_none (10 ∷ t) refl
+
 module _ (t : List ℕ) (n v : ℕ) (count : n ≡ length (digits is_octal 3 (take (length t - 1) (drop 1 t)))) (value : v ≡ min (number 8 (digits is_octal 3 (take (length t - 1) (drop 1 t)))) 256) where
   pub octal_found : 0 < n → v < 256 → Escape (drop 1 t) v (drop (1 + n) t)
   octal_found l m = escape_sound (drop 1 t) v (drop (1 + n) t) (rw (← drop-drop n 1 t) (octal_ok (drop 1 t) n v v (rw whole_slice at count) (rw whole_slice at value) l m))
@@ -276,7 +280,7 @@ module _ (t : List ℕ) (letter : ℕ) (within : 1 < length t) (is : letter ≡ 
   first_letter = byte_at t 1 letter within (sym is)
 
   pub newline_letter : letter ≡ 10 → (b : ℕ) (r : List ℕ) → Escape (drop 1 t) b r → ⊥
-  newline_letter e = rw (first_letter, e) (escape_none (10 ∷ drop 2 t) refl)
+  newline_letter e = rw (first_letter, e) (newline_none (drop 2 t))
 
   module _ (n : ℕ) (count : n ≡ length (digits is_octal 3 (take (length t - 1) (drop 1 t)))) (none : n ≤ 0) (line : letter ≢ 10) where
     by_letters : (w : List ℕ) → drop 2 t ≡ w → escape_of (letter ∷ w) ≡ letter_when false (nat_eq letter 120) letter w

@@ -1,26 +1,36 @@
 -- A literal is determined by its text.
-use Rattle.std.proofs.Common.{drop-drop, ◌≡◌, ◌≢◌, ◌↔◌, ℕ, ◌+◌, ◌<◌, List, ◌∷◌, length, drop, get_or, refl, sym, ap, ◌∙◌, arith}
+use Rattle.std.proofs.Common.{drop-drop, ◌≡◌, ◌≢◌, ◌↔◌, ℕ, ◌+◌, ◌<◌, List, ◌∷◌, length, drop, get_or, refl, sym, ap, ◌∙◌, subst, arith}
 use Rattle.ly_base.specs.Escapes.{Escape}
-use Rattle.ly_base.specs.Literals.{Inside, bare, escaped, Literal}
-use Rattle.ly_base.proofs.EscapeLemmas.{byte_at, escape_one}
+use Rattle.ly_base.specs.Literals.{Inside, bare, escaped, line, Literal}
+use Rattle.ly_base.proofs.EscapeLemmas.{byte_at, escape_one, newline_none}
 
 inside_bare : {t rest : List ℕ} {b c : ℕ} → Inside (b ∷ t) c rest → b ≢ 92 → (c ≡ b) × (rest ≡ t)
 inside_bare (bare b rest p q) n = (refl, refl)
 inside_bare (escaped t rest c h) n = absurd (n refl)
+inside_bare (line rest) n = absurd (n refl)
 
-inside_escape : {t rest : List ℕ} {c : ℕ} → Inside (92 ∷ t) c rest → Escape t c rest
-inside_escape (bare b rest p q) = absurd (p refl)
-inside_escape (escaped t rest c h) = h
+inside_escape : {t rest : List ℕ} {c : ℕ} → Inside (92 ∷ t) c rest → ((s : List ℕ) → t ≢ 10 ∷ s) → Escape t c rest
+inside_escape (bare b rest p q) n = absurd (p refl)
+inside_escape (escaped t rest c h) n = h
+inside_escape (line rest) n = absurd (n rest refl)
+
+inside_line : {t rest : List ℕ} {c : ℕ} → Inside (92 ∷ 10 ∷ t) c rest → (c ≡ 10) × (rest ≡ t)
+inside_line (bare b rest p q) = absurd (p refl)
+inside_line (escaped t rest c h) = absurd (newline_none _ _ _ h)
+inside_line (line rest) = (refl, refl)
+
+pub line_inside : (t u : List ℕ) → t ≡ 92 ∷ 10 ∷ u → (c : ℕ) (rest : List ℕ) → Inside t c rest ↔ ((c ≡ 10) × (rest ≡ u))
+line_inside t u f c rest = (λ i. inside_line (rw f at i), λ k. rw (f, k.0, k.1) (line u))
 
 module _ (t : List ℕ) (some : 0 < length t) where
   pub escape_inside : (b n : ℕ) → get_or t 0 0 ≡ 92 → Escape (drop 1 t) b (drop n t) → (c : ℕ) (rest : List ℕ) → Inside t c rest ↔ ((c ≡ b) × (rest ≡ drop n t))
   escape_inside b n e h c rest = let f : t ≡ 92 ∷ drop 1 t = byte_at t 0 92 some e in (
-    λ i. escape_one (drop 1 t) c b rest (drop n t) (inside_escape (rw f at i)) h,
+    λ i. escape_one (drop 1 t) c b rest (drop n t) (inside_escape (rw f at i) (λ s l. newline_none s b (drop n t) (subst (λ u. Escape u b (drop n t)) l h))) h,
     λ k. rw (f, k.0, k.1) (escaped (drop 1 t) (drop n t) b h),
   )
 
-  pub no_escape_inside : get_or t 0 0 ≡ 92 → ((b : ℕ) (rest : List ℕ) → Escape (drop 1 t) b rest → ⊥) → (c : ℕ) (rest : List ℕ) → Inside t c rest → ⊥
-  no_escape_inside e none c rest i = let f : t ≡ 92 ∷ drop 1 t = byte_at t 0 92 some e in none c rest (inside_escape (rw f at i))
+  pub no_escape_inside : get_or t 0 0 ≡ 92 → ((s : List ℕ) → t ≢ 92 ∷ 10 ∷ s) → ((b : ℕ) (rest : List ℕ) → Escape (drop 1 t) b rest → ⊥) → (c : ℕ) (rest : List ℕ) → Inside t c rest → ⊥
+  no_escape_inside e other none c rest i = let f : t ≡ 92 ∷ drop 1 t = byte_at t 0 92 some e in none c rest (inside_escape (rw f at i) (λ s l. other s (f ∙ ap (λ u. 92 ∷ u) l)))
 
   pub bare_inside : (b : ℕ) → get_or t 0 0 ≡ b → b ≢ 92 → b ≢ 39 → (c : ℕ) (rest : List ℕ) → Inside t c rest ↔ ((c ≡ b) × (rest ≡ drop 1 t))
   bare_inside b e p q c rest = let f : t ≡ b ∷ drop 1 t = byte_at t 0 b some e in (

@@ -5,8 +5,8 @@ ghost use Rattle.ly_base.specs.Literals.{Inside, Literal};
 use crate::escapes::escape;
 
 /// Reads the literal at the front of a text: one byte or one escape between single quotes (POSIX, yacc,
-/// "Declarations Section"). It answers the byte, which isn't 0, and how many bytes the literal takes;
-/// `None` where there is none.
+/// "Declarations Section"), where a backslash before a newline stands for the newline. It answers the byte,
+/// which isn't 0, and how many bytes the literal takes; `None` where there is none.
 pub fn literal(text: &[u8]) -> Option<(u8, usize)>
     ensures byte { IfSome result (λ found. 0 < found.0) }
     ensures within { IfSome result (λ found. found.1 ≤ length text.now) }
@@ -32,6 +32,9 @@ fn literal_byte(inside: &[u8]) -> Option<(u8, usize)>
         ↔ ((byte ≡ found.0) × (rest ≡ drop found.1 inside.now))) }
     ensures none { IfNone result ((byte : ℕ) (rest : List ℕ) → Inside inside.now byte rest → ⊥) }
 {
+    if inside.starts_with(b"\\\n") {
+        return Some((b'\n', 2));
+    }
     match *inside.first()? {
         b'\\' => escape(inside).ok(),
         b'\'' => None,
