@@ -19,10 +19,6 @@ pub bytes_agree : (p q : ℕ → Bool) → ((b : ℕ) → b < 256 → p b ≡ q 
 unfolding all_bytes
 bytes_agree p q h = range_agree p q 0 256 (λ b l m. h b (omega arith))
 
--- two sets with the same bytes have the same members
-pub members_agree : (s t : ByteSet) → ((b : ℕ) → b < 256 → has s b ≡ has t b) → members s ≡ members t
-members_agree s t h = bytes_agree (has s) (has t) h
-
 range_none : (p : ℕ → Bool) (a n : ℕ) → ((b : ℕ) → a ≤ b → b < a + n → p b ≡ false) → filter p (range_with_len a n) ≡ []
 range_none p a zero h = refl
 range_none p a (suc n) h = rw (h a (omega arith) (omega arith), range_none p (a + 1) n (λ b l m. h b (omega arith) (omega arith)))

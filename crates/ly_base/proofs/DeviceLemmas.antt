@@ -1,7 +1,7 @@
 -- Lemmas on devices.
-use Rattle.std.proofs.Common.{◌≡◌, ◌+◌, ◌-◌, ◌<◌, ℕ, List, ◌++◌, length, take, drop, Some, None, Option, append_assoc, ap, ◌∙◌, sym, arith, nat_eq, nat_lt, false, rules, IfSome, append-nil}
+use Rattle.std.proofs.Common.{◌≡◌, ◌+◌, ◌-◌, ◌<◌, ℕ, List, ◌++◌, length, take, drop, Some, None, Option, append_assoc, ap, ◌∙◌, arith, nat_eq, nat_lt, false, rules}
 use Rattle.std.specs.Prelude.{◌&&◌}
-use Rattle.std.specs.Io.KnownBytes.{Appends, Consumes, IsAtEnd}
+use Rattle.std.specs.Io.KnownBytes.{Appends}
 use Rattle.std.proofs.Math.Seq.{take-add}
 use Rattle.std.proofs.lemmas.Grind.{common_steps}
 use Rattle.ly_base.specs.Device.{CountsFailure}
@@ -26,16 +26,3 @@ appends_next a b c w n s h k =
 -- a write that took something is no failure
 pub not_counted : (n : ℕ) (l a b : ℕ) → 0 < n → CountsFailure (nat_eq n 0 && nat_lt 0 l) a b → b ≡ a
 not_counted n l a b h k = let e : nat_eq n 0 ≡ false = search (rules, arith) in rw e at k
-
--- what is consumed in two steps
-pub consumes_twice : (a b c : Option (List ℕ)) (xs ys : List ℕ) → Consumes a b xs → Consumes b c ys → Consumes a c (xs ++ ys)
-consumes_twice None b c xs ys h k = tt
-consumes_twice (Some p) None c xs ys h k = elim h [ ]
-consumes_twice (Some p) (Some q) None xs ys h k = elim k [ ]
-consumes_twice (Some p) (Some q) (Some r) xs ys h k = h ∙ ap (λ z. xs ++ z) k ∙ sym (append_assoc xs ys r)
-
--- what was consumed up to the end is all there was
-pub consumed_all : (a b : Option (List ℕ)) (xs : List ℕ) → Consumes a b xs → IsAtEnd b → IfSome a (λ bs. xs ≡ bs)
-consumed_all None b xs h k = tt
-consumed_all (Some p) None xs h k = elim h [ ]
-consumed_all (Some p) (Some q) xs h k = sym (h ∙ ap (λ z. xs ++ z) k ∙ append-nil xs)

@@ -279,9 +279,6 @@ module _ (t : List ℕ) (letter : ℕ) (within : 1 < length t) (is : letter ≡ 
   first_letter : drop 1 t ≡ letter ∷ drop 2 t
   first_letter = byte_at t 1 letter within (sym is)
 
-  pub newline_letter : letter ≡ 10 → (b : ℕ) (r : List ℕ) → Escape (drop 1 t) b r → ⊥
-  newline_letter e = rw (first_letter, e) (newline_none (drop 2 t))
-
   module _ (n : ℕ) (count : n ≡ length (digits is_octal 3 (take (length t - 1) (drop 1 t)))) (none : n ≤ 0) (line : letter ≢ 10) where
     by_letters : (w : List ℕ) → drop 2 t ≡ w → escape_of (letter ∷ w) ≡ letter_when false (nat_eq letter 120) letter w
     by_letters w e = no_octal (letter ∷ w) n (rw (whole_slice, first_letter, e) at count) none ∙ rw (ne_eqb letter 10 line) refl

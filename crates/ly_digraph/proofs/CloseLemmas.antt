@@ -1,5 +1,5 @@
 -- A component that is closed.
-use Rattle.std.proofs.Common.{◌≡◌, ◌≢◌, ◌∙◌, ◌<◌, ◌≤◌, ◌+◌, ◌++◌, ◌∷◌, [], ℕ, List, length, get_or, set, take, sym, ap, ap₂, subst, refl, arith, inl, inr, ◌⊎◌, sum_by, vec_len}
+use Rattle.std.proofs.Common.{◌≡◌, ◌≢◌, ◌∙◌, ◌<◌, ◌≤◌, ◌+◌, ◌++◌, ◌∷◌, [], ℕ, List, length, get_or, set, take, sym, ap, ap₂, subst, refl, arith, inl, inr, ◌⊎◌, sum_by}
 use Rattle.std.specs.FinSet as sets
 use Rattle.std.proofs.lemmas.Bool.{cases_lt, cases_eq}
 use Rattle.std.proofs.Math.ListN.{length-set}
@@ -10,7 +10,7 @@ use Rattle.ly_digraph.specs.Digraph.{Digraph, Reaches}
 use Rattle.ly_digraph.specs.Digraph.Reaches.{here}
 use Rattle.ly_digraph.specs.Least.{IsBetween}
 use Rattle.ly_digraph.specs.Walk.{place, IsPart, IsWalk}
-use Rattle.ly_digraph.specs.Search.{IsAt, IsAtFrame, IsListed, IsClosed, closed_place, closed_row, Continues, waiting_from, steps_left, unseen_one, undone_one}
+use Rattle.ly_digraph.specs.Search.{IsAt, IsAtFrame, IsListed, IsClosed, closed_place, closed_row, Continues, waiting_from, unseen_one, undone_one}
 use Rattle.ly_digraph.specs.declared.walk.Place.{Place}
 use Rattle.ly_digraph.specs.declared.walk.Place.TheVariants.{New, Open, Done}
 use Rattle.ly_digraph.specs.declared.walk.Frame.{Frame}
@@ -114,12 +114,6 @@ pub pending_read : (ns ns' : List ℕ) (k x : ℕ) → ns' ≡ ns → k < length
 pending_read ns ns' k x same lt read = get_or_default ns k 0 x lt ∙ sym (ap (λ v. get_or v k x) same) ∙ sym read
 
 -- ---- a whole part
-
-pub listed_of : {g : Digraph} {ss : List NumberSet} (w : Walk) {fs : List Frame} → IsWalk g ss w.cursors.items w.places.items w.pending.items fs → IsListed w.places.items w.pending.items
-listed_of {g} w at = record {
-  pending = λ k lt. (let p = at.marked.pending k lt in ((let a : get_or w.pending.items k 0 < g.nodes = p.0 in let b : length w.places.items ≡ g.nodes = at.marked.places_len in omega arith), p.1));
-  opened = at.marked.opened;
-}
 
 module _ (g : Digraph) (m m' : Matrix) (w w' : Walk) (f : Frame) (at : IsAtFrame g m.sets w f) (spent : get_or w.cursors.items f.node 0 ≡ 0) (alone : f.low ≡ f.start)
     (c : IsClosed m m' w.places.items w'.places.items f.start (length w.pending.items) f.node)
@@ -237,12 +231,6 @@ module _ (g : Digraph) (m m' : Matrix) (w w' : Walk) (f : Frame) (at : IsAtFrame
         ]
       ]
       was_old Done e old = cc
-
-  pub closed_steps : steps_left g w' ≡ steps_left g w
-  closed_steps =
-      let waiting : waiting_from 0 g.edges w'.cursors.items ≡ waiting_from 0 g.edges w.cursors.items = ap (λ v. waiting_from 0 g.edges v.items) cursors in
-      let long : vec_len w'.path ≡ vec_len w.path = ap vec_len path in
-      let unseen = c.unseen in omega arith
 
 -- ---- a walk whose last frame was taken off
 

@@ -12,7 +12,7 @@ use Rattle.ly_digraph.specs.declared.walk.Place.{Place}
 use Rattle.ly_digraph.specs.declared.walk.Place.TheVariants.{New, Open, Done}
 use Rattle.ly_digraph.specs.declared.walk.Frame.{Frame}
 use Rattle.ly_digraph.specs.declared.walk.Walk.{Walk}
-use Rattle.ly_digraph.proofs.WalkLemmas.{GrowsAt, grows_nowhere, path_last, path_below, path_link, frame-push_last, begin-past, next_edge, advance_walk, merge_walk, enter_walk, LinksTo, place-set_same, place-set_other}
+use Rattle.ly_digraph.proofs.WalkLemmas.{GrowsAt, grows_nowhere, path_last, path_below, path_link, frame-push_last, begin-past, next_edge, advance_walk, merge_walk, enter_walk, LinksTo, place-set_other}
 use Rattle.ly_digraph.proofs.UnionLemmas.{united, united_grows, united_joined, united_within, united_between, between_none}
 use Rattle.ly_digraph.proofs.CountLemmas.{waiting-advanced, sum_places-set}
 
@@ -337,15 +337,6 @@ module _ {g : Digraph} (m : Matrix) {w w' : Walk} (x : ℕ) (at : IsAt g m.sets 
       | inr ne ↦ old (sym (place-set_other w.places.items x (Open (length w.pending.items)) y ne) ∙ ap (λ ps. place ps y) (sym entered_places) ∙ n)
     ];
   }
-
-  pub entered_seen : place w'.places.items x ≢ New
-  entered_seen n = (let o : place w'.places.items x ≡ Open (length w.pending.items) = ap (λ ps. place ps x) entered_places ∙ place-set_same w.places.items x _ entered_inside in let z : Open (length w.pending.items) ≡ New = sym o ∙ n in cc)
-
-  pub enters_fewer : steps_left g w' < steps_left g w
-  enters_fewer =
-      let unseen : sum_by unseen_one w'.places.items + 1 ≡ sum_by unseen_one w.places.items + 0 = entered_sum unseen_one in
-      let long : length w'.path.items ≡ length w.path.items + 1 = ap length e.path ∙ length_push w.path.items _ in
-      omega (arith, entered_waiting, w'.path.ok.0, w.path.ok.0)
 
 -- an element that is read
 pub read_is : {X : Type 0} (xs : List X) (i : ℕ) (x d : X) → i < length xs → x ≡ get_or xs i x → get_or xs i d ≡ x

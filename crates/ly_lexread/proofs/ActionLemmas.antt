@@ -128,10 +128,6 @@ says_other text rest w m e f s = at (subst (λ v. IsFront text v rest) e f) s
     at f ([], w, s) = f.0 w
     at f (x ∷ xs, w, s) = f.1 x w.0 w.1
 
--- an action without words
-pub says_end : (text : List ℕ) → Gap text → Says text nothing
-says_end text g = ([], g, refl)
-
 say_one : (ws : List Word) (m n : Meaning) → Say ws m → Say ws n → m ≡ n
 say_one [] m n a b = a ∙ sym b
 say_one (semicolon ∷ []) m n a b = a ∙ sym b

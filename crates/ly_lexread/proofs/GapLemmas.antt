@@ -2,7 +2,7 @@
 use Rattle.std.proofs.lemmas.Bool.{false≢true}
 use Rattle.std.specs.Option.{MatchOption}
 use denote.Ref.{Bor}
-use Rattle.std.proofs.Common.{Option, Some, None, ◌≡◌, ◌≢◌, ℕ, ◌≤◌, List, [], ◌∷◌, ◌++◌, IsTrue, take, drop, take-append-drop, length-take, refl, sym, ap, ◌∙◌, subst, length, arith, append_assoc, length-append}
+use Rattle.std.proofs.Common.{Option, Some, None, ◌≡◌, ℕ, ◌≤◌, List, [], ◌∷◌, ◌++◌, IsTrue, take, drop, take-append-drop, length-take, refl, sym, ap, ◌∙◌, subst, length, arith, append_assoc, length-append}
 use Rattle.ly_lexread.specs.Gap.{is_blank, HasNoEnd, Gap, none, blank, comment, Stops, GapBefore, CommentBefore}
 
 pub Gap-append : (g h : List ℕ) → Gap g → Gap h → Gap (g ++ h)
@@ -62,10 +62,6 @@ opened text inside (Some rest) e (i, no_end, f) = (47 ∷ 42 ∷ (i ++ 42 ∷ 47
 
 pub blank_before : (text : List ℕ) (b : ℕ) (rest : List ℕ) → text ≡ b ∷ rest → IsTrue (is_blank b) → GapBefore text rest
 blank_before text b rest e h = (b ∷ [], blank b [] h none, e)
-
--- neither a blank nor `/*` stands in front
-pub nothing_before : (text : List ℕ) → ((b : ℕ) (s : List ℕ) → IsTrue (is_blank b) → text ≢ b ∷ s) → ((s : List ℕ) → text ≢ 47 ∷ 42 ∷ s) → Stops text
-nothing_before text h k = record { no_blank = h; no_comment = λ i s. k (i ++ 42 ∷ 47 ∷ s) }
 
 -- where the first `*/` stands, a comment ends
 pub first_end : (text rest : List ℕ) (n : ℕ) → n ≤ length text → ((a b : List ℕ) → text ≡ a ++ 42 ∷ 47 ∷ b → n ≤ length a) → drop n text ≡ 42 ∷ 47 ∷ rest → CommentBefore text rest

@@ -1,12 +1,12 @@
 -- The words of an action are determined.
 use Rattle.std.specs.List.{prefix_len}
 use Rattle.std.proofs.lemmas.Bool.{false≢true}
-use Rattle.std.proofs.Common.{◌≡◌, ◌≢◌, ℕ, zero, suc, ◌+◌, ◌<◌, List, [], ◌∷◌, ◌++◌, Bool, true, false, eqb, get_or, cond, IsTrue, take, drop, take-append-drop, refl, sym, ap, ap₂, ◌∙◌, subst, arith, length}
+use Rattle.std.proofs.Common.{◌≡◌, ◌≢◌, ℕ, zero, suc, ◌+◌, ◌<◌, List, [], ◌∷◌, ◌++◌, Bool, true, false, cond, IsTrue, take, drop, take-append-drop, refl, sym, ap, ap₂, ◌∙◌, subst, arith, length}
 use Rattle.std.proofs.lemmas.Bool.Decides.{nat_tests}
 use Rattle.std.proofs.lemmas.List.{append-nil}
 use Rattle.ly_base.specs.Literals.{Literal}
 use Rattle.ly_lexread.proofs.LiteralLemmas.{literal_one}
-use Rattle.ly_lexread.specs.Gap.{is_blank, Gap, none, GapBefore, Stops}
+use Rattle.ly_lexread.specs.Gap.{is_blank, Gap, GapBefore, Stops}
 use Rattle.ly_lexread.specs.Words.{Word, semicolon, name, literal, starts_name, continues_name, name_length, AreContinuing, IsName, NameEnds, Begins, Front, Wording}
 use Rattle.ly_lexread.proofs.GapLemmas.{gap_one}
 
@@ -164,28 +164,3 @@ wording_one text (x ∷ xs) [] a b = absurd (front_none text x a.0 b a.1)
 wording_one text (x ∷ xs) (y ∷ ys) a b =
     let e = front_one text x y a.0 b.0 a.1 b.1 in
     ap₂ ◌∷◌ e.0 (wording_one b.0 xs ys (subst (λ r. Wording r xs) e.1 a.2) b.2)
-
--- no action goes on at a newline
-pub newline_stops : (s : List ℕ) (xs : List Word) → Wording (10 ∷ s) xs → ⊥
-newline_stops s xs w = at xs w
-  where
-    stops : Stops (10 ∷ s)
-    stops = record {
-      no_blank = λ b t h e. let same : b ≡ 10 = cc in false≢true (ap is_blank (sym same) ∙ h);
-      no_comment = λ i t e. false≢true (ap (λ u. eqb (get_or u 0 0) 47) e);
-    }
-
-    starts : (x : Word) → Starts x 10 → ⊥
-    starts semicolon e = omega (arith, e)
-    starts (name n) e = false≢true e
-    starts (literal c) e = omega (arith, e)
-
-    word : (x : Word) → (b : ℕ) × (t : List ℕ) × (10 ∷ s ≡ b ∷ t) × Starts x b → ⊥
-    word x (b, t, e, h) = let same : b ≡ 10 = cc in starts x (subst (Starts x) same h)
-
-    nil : 10 ∷ s ≡ [] → ⊥
-    nil e = cc
-
-    at : (xs : List Word) → Wording (10 ∷ s) xs → ⊥
-    at [] g = nil (gap_one [] (10 ∷ s) (10 ∷ s) [] none g stops nothing_stops (sym (append-nil (10 ∷ s))))
-    at (x ∷ xs) f = word x (begins_at (10 ∷ s) x f.0 (front_at (10 ∷ s) (10 ∷ s) x f.0 ([], none, refl) stops f.1))

@@ -25,9 +25,6 @@ module _ (L M : List ℕ → Type 0) where
   abbrev pub InTurn : List ℕ → Type 0
   InTurn w = (u : List ℕ) × (v : List ℕ) × (w ≡ u ++ v) × L u × M v
 
-  pub split_here : (w : List ℕ) (k : ℕ) → L (take k w) → M (drop k w) → InTurn w
-  split_here w k a b = (take k w, drop k w, sym (take-append-drop k w), a, b)
-
   pub at_split : (w u v : List ℕ) → w ≡ u ++ v → L u → M v → (k : ℕ) × (k ≡ length u) × (k ≤ length w) × L (take k w) × M (drop k w)
   at_split w u v e a b = (
     length u,
@@ -52,10 +49,6 @@ module _ (L : List ℕ → Type 0) where
   within_less : (k : ℕ) (most : Option ℕ) → Within (suc k) most → Within k most
   within_less k None h = tt
   within_less k (Some n) h = omega arith
-
-  -- no string is enough
-  pub times_none : (most : Option ℕ) (w : List ℕ) → w ≡ [] → Times zero most w
-  times_none most w e = (zero, omega arith, within_zero most, e)
 
   -- a first string, and then the rest
   pub times_more : (least : ℕ) (most rest : Option ℕ) (w : List ℕ) → ((k : ℕ) → Within k rest ↔ Within (suc k) most)
