@@ -1,3 +1,6 @@
+ghost use Rattle.std.specs.Prelude.{◌≡◌, ◌≤◌, IsSome, map, string_bytes, true};
+ghost use Rattle.lytab.specs.Line.{line_takes, tokens_of};
+
 use crate::asked::{Command, CommandFault};
 use crate::line::command;
 use ly_base::{Counted, ReadFault, read_whole};
@@ -43,7 +46,10 @@ pub fn perform<F: Files, I: Read, O: Write, E: Write>(
     input: &mut I,
     output: &mut O,
     faults: &mut E,
-) -> u8 {
+) -> u8
+    ensures status { result ≤ 4 }
+    ensures words { line_takes (map string_bytes words.now) ≡ true → IsSome (tokens_of (map string_bytes words.now)) → result ≤ 3 }
+{
     match command(alloc, words) {
         Ok(Command::Tokens { lex, text }) => {
             match tokens_of(files, alloc, lex, text, input, output) {
@@ -123,7 +129,9 @@ fn read_file<'a, F: Files>(
 }
 
 /// Writes the line of a failure, and answers the exit status.
-fn told<E: Write>(failure: Failure<'_>, faults: &mut E) -> u8 {
+fn told<E: Write>(failure: Failure<'_>, faults: &mut E) -> u8
+    ensures { (2 ≤ result) × (result ≤ 3) }
+{
     let _ = faults.write_all(b"lytab: ");
     let _ = write_failure(failure, faults);
     match failure {
