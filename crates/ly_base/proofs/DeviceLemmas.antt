@@ -1,5 +1,6 @@
 -- Lemmas on devices.
-use Rattle.std.proofs.Common.{◌≡◌, ◌+◌, ◌-◌, ◌<◌, ℕ, List, ◌++◌, length, take, drop, Some, None, Option, append_assoc, ap, ◌∙◌, arith, nat_eq, nat_lt, false, rules}
+use Rattle.std.proofs.Common.{◌≡◌, ◌+◌, ◌-◌, ◌<◌, ℕ, List, ◌++◌, length, take, drop, Some, None, Option, append_assoc}
+use Rattle.std.proofs.Common.{ap, ◌∙◌, arith, nat_eq, nat_lt, false, rules}
 use Rattle.std.specs.Prelude.{◌&&◌}
 use Rattle.std.specs.Io.KnownBytes.{Appends}
 use Rattle.std.proofs.Math.Seq.{take-add}
@@ -7,7 +8,8 @@ use Rattle.std.proofs.lemmas.Grind.{common_steps}
 use Rattle.ly_base.specs.Device.{CountsFailure}
 
 -- what is appended in two steps
-pub appends_twice : (a b c : Option (List ℕ)) (xs ys : List ℕ) → Appends a b xs → Appends b c ys → Appends a c (xs ++ ys)
+pub appends_twice : (a b c : Option (List ℕ)) (xs ys : List ℕ) → Appends a b xs → Appends b c ys
+    → Appends a c (xs ++ ys)
 appends_twice None b c xs ys h k = tt
 appends_twice (Some p) None c xs ys h k = elim h [ ]
 appends_twice (Some p) (Some q) None xs ys h k = elim k [ ]

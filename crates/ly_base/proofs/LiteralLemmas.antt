@@ -1,5 +1,6 @@
 -- A literal is determined by its text.
-use Rattle.std.proofs.Common.{drop-drop, ◌≡◌, ◌≢◌, ◌↔◌, ℕ, ◌+◌, ◌<◌, List, ◌∷◌, length, drop, get_or, refl, sym, ap, ◌∙◌, subst, arith}
+use Rattle.std.proofs.Common.{drop-drop, ◌≡◌, ◌≢◌, ◌↔◌, ℕ, ◌+◌, ◌<◌, List, ◌∷◌, length, drop, get_or, refl, sym, ap}
+use Rattle.std.proofs.Common.{◌∙◌, subst, arith}
 use Rattle.ly_base.specs.Escapes.{Escape}
 use Rattle.ly_base.specs.Literals.{Inside, bare, escaped, line, Literal}
 use Rattle.ly_base.proofs.EscapeLemmas.{byte_at, escape_one, newline_none}
@@ -23,16 +24,21 @@ pub line_inside : (t u : List ℕ) → t ≡ 92 ∷ 10 ∷ u → (c : ℕ) (rest
 line_inside t u f c rest = (λ i. inside_line (rw f at i), λ k. rw (f, k.0, k.1) (line u))
 
 module _ (t : List ℕ) (some : 0 < length t) where
-  pub escape_inside : (b n : ℕ) → get_or t 0 0 ≡ 92 → Escape (drop 1 t) b (drop n t) → (c : ℕ) (rest : List ℕ) → Inside t c rest ↔ ((c ≡ b) × (rest ≡ drop n t))
+  pub escape_inside : (b n : ℕ) → get_or t 0 0 ≡ 92 → Escape (drop 1 t) b (drop n t) → (c : ℕ) (rest : List ℕ)
+      → Inside t c rest ↔ ((c ≡ b) × (rest ≡ drop n t))
   escape_inside b n e h c rest = let f : t ≡ 92 ∷ drop 1 t = byte_at t 0 92 some e in (
-    λ i. escape_one (drop 1 t) c b rest (drop n t) (inside_escape (rw f at i) (λ s l. newline_none s b (drop n t) (subst (λ u. Escape u b (drop n t)) l h))) h,
+    λ i. escape_one (drop 1 t) c b rest (drop n t)
+        (inside_escape (rw f at i) (λ s l. newline_none s b (drop n t) (subst (λ u. Escape u b (drop n t)) l h))) h,
     λ k. rw (f, k.0, k.1) (escaped (drop 1 t) (drop n t) b h),
   )
 
-  pub no_escape_inside : get_or t 0 0 ≡ 92 → ((s : List ℕ) → t ≢ 92 ∷ 10 ∷ s) → ((b : ℕ) (rest : List ℕ) → Escape (drop 1 t) b rest → ⊥) → (c : ℕ) (rest : List ℕ) → Inside t c rest → ⊥
-  no_escape_inside e other none c rest i = let f : t ≡ 92 ∷ drop 1 t = byte_at t 0 92 some e in none c rest (inside_escape (rw f at i) (λ s l. other s (f ∙ ap (λ u. 92 ∷ u) l)))
+  pub no_escape_inside : get_or t 0 0 ≡ 92 → ((s : List ℕ) → t ≢ 92 ∷ 10 ∷ s)
+      → ((b : ℕ) (rest : List ℕ) → Escape (drop 1 t) b rest → ⊥) → (c : ℕ) (rest : List ℕ) → Inside t c rest → ⊥
+  no_escape_inside e other none c rest i = let f : t ≡ 92 ∷ drop 1 t = byte_at t 0 92 some e
+      in none c rest (inside_escape (rw f at i) (λ s l. other s (f ∙ ap (λ u. 92 ∷ u) l)))
 
-  pub bare_inside : (b : ℕ) → get_or t 0 0 ≡ b → b ≢ 92 → b ≢ 39 → (c : ℕ) (rest : List ℕ) → Inside t c rest ↔ ((c ≡ b) × (rest ≡ drop 1 t))
+  pub bare_inside : (b : ℕ) → get_or t 0 0 ≡ b → b ≢ 92 → b ≢ 39 → (c : ℕ) (rest : List ℕ) → Inside t c rest
+      ↔ ((c ≡ b) × (rest ≡ drop 1 t))
   bare_inside b e p q c rest = let f : t ≡ b ∷ drop 1 t = byte_at t 0 b some e in (
     λ i. inside_bare (rw f at i) p,
     λ k. rw (f, k.0, k.1) (bare b (drop 1 t) p q),
@@ -42,6 +48,17 @@ two : (n : ℕ) → 1 + (n + 1) ≡ n + 2
 two n = omega arith
 
 -- a byte, and a quote behind it
-module _ (t : List ℕ) (b n : ℕ) (some : 0 < length t) (quote : 39 ≡ get_or t 0 0) (inside : (c : ℕ) (rest : List ℕ) → Inside (drop 1 t) c rest ↔ ((c ≡ b) × (rest ≡ drop n (drop 1 t)))) where
+module _ (t : List ℕ) (b n : ℕ) (some : 0 < length t) (quote : 39 ≡ get_or t 0 0) (inside : (c : ℕ) (rest : List ℕ)
+    → Inside (drop 1 t) c rest ↔ ((c ≡ b) × (rest ≡ drop n (drop 1 t)))) where
   pub literal_ok : n < length (drop 1 t) → get_or (drop 1 t) n 0 ≡ 39 → b ≢ 0 → Literal t b (drop (n + 2) t)
-  literal_ok l e ne = (drop 1 t, byte_at t 0 39 some (sym quote), (inside b (39 ∷ drop (n + 2) t)).1 (refl, sym (byte_at (drop 1 t) n 39 l e ∙ ap (λ u. 39 ∷ u) (drop-drop (n + 1) 1 t ∙ ap (λ k. drop k t) (two n)))), ne)
+  literal_ok l e ne
+      = (
+        drop 1 t,
+        byte_at t 0 39 some (sym quote),
+        (inside b (39 ∷ drop (n + 2) t)).1 (
+          refl,
+          sym (byte_at (drop 1 t) n 39 l e
+              ∙ ap (λ u. 39 ∷ u) (drop-drop (n + 1) 1 t ∙ ap (λ k. drop k t) (two n))),
+        ),
+        ne,
+      )

@@ -27,14 +27,16 @@ pub record SameMembers {X : Type 0} (xs ys : List X) : Type 0 where
   pub back : (x : X) → Contains ys x → Contains xs x
 
 -- what a function's lists have together
-pub Contains-flat_map : {X Y : Type 0} (f : X → List Y) (xs : List X) (x : X) (y : Y) → Contains xs x → Contains (f x) y → Contains (flat_map f xs) y
+pub Contains-flat_map : {X Y : Type 0} (f : X → List Y) (xs : List X) (x : X) (y : Y) → Contains xs x → Contains (f x) y
+    → Contains (flat_map f xs) y
 Contains-flat_map f [] x y h k = Contains-none x h
 Contains-flat_map {Y = Y} f (z ∷ xs) x y h k = elim (Contains-cons_cases z xs x h) [
   | inl same ↦ Contains-append_left (f z) (flat_map f xs) y (subst (λ w. Contains (f w) y) (sym same) k)
   | inr later ↦ Contains-append_right (f z) (flat_map f xs) y (Contains-flat_map f xs x y later k)
 ]
 
-pub flat_map-Contains : {X Y : Type 0} (f : X → List Y) (xs : List X) (y : Y) → Contains (flat_map f xs) y → (x : X) × Contains xs x × Contains (f x) y
+pub flat_map-Contains : {X Y : Type 0} (f : X → List Y) (xs : List X) (y : Y) → Contains (flat_map f xs) y
+    → (x : X) × Contains xs x × Contains (f x) y
 flat_map-Contains f [] y h = Contains-none y h
 flat_map-Contains f (z ∷ xs) y h = elim (Contains-append_cases (f z) (flat_map f xs) y h) [
   | inl here ↦ (z, Contains-first z xs, here)
@@ -42,7 +44,8 @@ flat_map-Contains f (z ∷ xs) y h = elim (Contains-append_cases (f z) (flat_map
 ]
 
 -- lists of the same members give the same together
-pub flat_map-same : {X Y : Type 0} (f : X → List Y) (xs ys : List X) → SameMembers xs ys → SameMembers (flat_map f xs) (flat_map f ys)
+pub flat_map-same : {X Y : Type 0} (f : X → List Y) (xs ys : List X) → SameMembers xs ys
+    → SameMembers (flat_map f xs) (flat_map f ys)
 flat_map-same f xs ys s = record {
   to = λ y h. let x = flat_map-Contains f xs y h in Contains-flat_map f ys x.0 y (s.to x.0 x.1) x.2;
   back = λ y h. let x = flat_map-Contains f ys y h in Contains-flat_map f xs x.0 y (s.back x.0 x.1) x.2;

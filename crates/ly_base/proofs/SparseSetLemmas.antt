@@ -1,12 +1,16 @@
 -- Lemmas on sets whose members stand in the order in which they came.
-use Rattle.std.proofs.Common.{◌≡◌, ◌≢◌, ℕ, ◌+◌, ◌<◌, ◌≤◌, ◌++◌, List, [], ◌∷◌, length, take, get_or, set, nat_eq, eqb, eqb-true, Bool, not, true, false, ap, sym, subst, ◌∙◌, arith, inl, inr, ◌⊎◌, length-set, length-take-le, length-append, get_or-take, get_or-set_same, get_or-set_other, All, Contains}
+use Rattle.std.proofs.Common.{◌≡◌, ◌≢◌, ℕ, ◌+◌, ◌<◌, ◌≤◌, ◌++◌, List, [], ◌∷◌, length, take, get_or, set, nat_eq, eqb}
+use Rattle.std.proofs.Common.{eqb-true, Bool, not, true, false, ap, sym, subst, ◌∙◌, arith, inl, inr, ◌⊎◌, length-set}
+use Rattle.std.proofs.Common.{length-take-le, length-append, get_or-take, get_or-set_same, get_or-set_other, All}
+use Rattle.std.proofs.Common.{Contains}
 use Rattle.std.specs.Prelude.{AllPairs}
 use Rattle.std.specs.List.{list_any, IsDistinct}
 use Rattle.std.specs.Cmp.{nat_eq_equiv}
 use Rattle.std.proofs.lemmas.Bool.{cases_Bool, cases_eq, eq-eqb, false_from_ne_true, ne_eqb, not-false, not-true}
 use Rattle.std.proofs.lemmas.Bool.Decides.{Decides-eqb}
 use Rattle.std.proofs.lemmas.List.{get_or_default, get_or_read, take_more_set}
-use Rattle.std.proofs.lemmas.List.Elements.{All-contains, All-from_get_or, All-push, Contains-append_left, Contains-push, Contains-push_cases}
+use Rattle.std.proofs.lemmas.List.Elements.{All-contains, All-from_get_or, All-push, Contains-append_left}
+use Rattle.std.proofs.lemmas.List.Elements.{Contains-push, Contains-push_cases}
 use Rattle.std.proofs.lemmas.List.Folds.{list_any_at}
 use Rattle.std.proofs.lemmas.Map.Keys.{IsDistinct-push}
 use Rattle.std.proofs.lemmas.Map.Made.{IsDistinct-from_AllPairs}
@@ -22,16 +26,23 @@ found : (slots places : List ℕ) (size n : ℕ) → IsPlaced slots places size 
 found slots places size n placed h =
     let p = Contains-from_any eqb-true n (take size slots) h in
     let within : p.0 < size = let room = placed.room in omega (arith, length-take-le size slots room, p.1) in
-    let there : get_or slots p.0 0 ≡ n = sym (get_or-take size slots p.0 0 within) ∙ get_or_default (take size slots) p.0 0 n p.1 ∙ p.2 in
+    let there : get_or slots p.0 0 ≡ n = sym (get_or-take size slots p.0 0 within)
+    ∙ get_or_default (take size slots) p.0 0 n p.1 ∙ p.2 in
     let known : get_or places n 0 ≡ p.0 = ap (λ m. get_or places m 0) (sym there) ∙ placed.placed p.0 within in
     (omega (arith, known, within), ap (λ k. get_or slots k 0) known ∙ there)
 
 -- a number whose place is in use is a member if it stands there
-pub is_member : (slots places members : List ℕ) (size n place at : ℕ) → IsPlaced slots places size → take size slots ≡ members → n < length places
-    → place ≡ get_or places n place → place < size → at ≡ get_or slots place at → nat_eq at n ≡ list_any (nat_eq n) members
+pub is_member : (slots places members : List ℕ) (size n place at : ℕ) → IsPlaced slots places size
+    → take size slots ≡ members → n < length places
+    → place ≡ get_or places n place → place < size → at ≡ get_or slots place at
+    → nat_eq at n ≡ list_any (nat_eq n) members
 is_member slots places members size n place at placed view less read used stands = rw (← view) (elim (cases_eq at n) [
-  | inl same ↦ eq-eqb at n same ∙ sym (list_any_at (nat_eq n) (take size slots) place 0 within (eq-eqb n (get_or (take size slots) place 0) (sym (get_or-take size slots place 0 used ∙ sym there ∙ same))))
-  | inr other ↦ ne_eqb at n other ∙ sym (false_from_ne_true (list_any (nat_eq n) (take size slots)) (λ h. other (there ∙ ap (λ k. get_or slots k 0) known ∙ (found slots places size n placed h).1)))
+  | inl same ↦ eq-eqb at n same
+      ∙ sym (list_any_at (nat_eq n) (take size slots) place 0 within
+      (eq-eqb n (get_or (take size slots) place 0) (sym (get_or-take size slots place 0 used ∙ sym there ∙ same))))
+  | inr other ↦ ne_eqb at n other
+      ∙ sym (false_from_ne_true (list_any (nat_eq n) (take size slots))
+      (λ h. other (there ∙ ap (λ k. get_or slots k 0) known ∙ (found slots places size n placed h).1)))
 ])
   where
     room : size ≤ length slots
@@ -47,15 +58,20 @@ is_member slots places members size n place at placed view less read used stands
     there = get_or_read slots place at (omega (arith, room)) stands 0
 
 -- a number whose place is not in use is no member
-pub is_no_member : (slots places members : List ℕ) (size n place : ℕ) → IsPlaced slots places size → take size slots ≡ members → n < length places
+pub is_no_member : (slots places members : List ℕ) (size n place : ℕ) → IsPlaced slots places size
+    → take size slots ≡ members → n < length places
     → place ≡ get_or places n place → size ≤ place → list_any (nat_eq n) members ≡ false
-is_no_member slots places members size n place placed view less read unused = rw (← view) (false_from_ne_true (list_any (nat_eq n) (take size slots))
+is_no_member slots places members size n place placed view less read unused
+    = rw (← view) (false_from_ne_true (list_any (nat_eq n) (take size slots))
     (λ h. absurd (omega (arith, get_or_read places n place less read 0, (found slots places size n placed h).0))))
 
 -- each member stands in one slot only
-members_once : (slots places : List ℕ) (size : ℕ) → IsPlaced slots places size → AllPairs (λ m n. m ≢ n) (take size slots)
+members_once : (slots places : List ℕ) (size : ℕ) → IsPlaced slots places size
+    → AllPairs (λ m n. m ≢ n) (take size slots)
 members_once slots places size placed i j d before within same =
-    let one : i ≡ j = sym (placed.placed i (omega (arith, long))) ∙ ap (λ m. get_or places m 0) (sym (at i (omega (arith, long))) ∙ same ∙ at j (omega (arith, long))) ∙ placed.placed j (omega (arith, long)) in
+    let one : i ≡ j = sym (placed.placed i (omega (arith, long)))
+    ∙ ap (λ m. get_or places m 0) (sym (at i (omega (arith, long))) ∙ same ∙ at j (omega (arith, long)))
+    ∙ placed.placed j (omega (arith, long)) in
     absurd (omega (arith, one, before))
   where
     long : length (take size slots) ≡ size
@@ -65,12 +81,16 @@ members_once slots places size placed i j d before within same =
     at k used = get_or_default (take size slots) k d 0 (omega (arith, long)) ∙ get_or-take size slots k 0 used
 
 -- a set has room for a number that is not a member
-room_left : (slots places members : List ℕ) (size n : ℕ) → IsPlaced slots places size → take size slots ≡ members → n < length places
+room_left : (slots places members : List ℕ) (size n : ℕ) → IsPlaced slots places size → take size slots ≡ members
+    → n < length places
     → list_any (nat_eq n) members ≡ false → size < length slots
 room_left slots places members size n placed view less new =
-    let distinct : IsDistinct eqb more = IsDistinct-push nat_eq_equiv (take size slots) n (IsDistinct-from_AllPairs Decides-eqb (take size slots) (members_once slots places size placed)) (rw view new) in
+    let distinct : IsDistinct eqb more
+    = IsDistinct-push nat_eq_equiv (take size slots) n (IsDistinct-from_AllPairs Decides-eqb (take size slots)
+    (members_once slots places size placed)) (rw view new) in
     let count : length more ≤ length places = length-le_from_distinct_below more (length places) distinct
-    (λ q h. All-contains (λ m. m < length places) more q (All-push (λ m. m < length places) (take size slots) n each less) (Contains-from_any eqb-true q more h)) in
+    (λ q h. All-contains (λ m. m < length places) more q
+    (All-push (λ m. m < length places) (take size slots) n each less) (Contains-from_any eqb-true q more h)) in
     omega (arith, placed.same_bound, length-append (take size slots) (n ∷ []), long)
   where
     more : List ℕ
@@ -80,10 +100,12 @@ room_left slots places members size n placed view less new =
     long = length-take-le size slots placed.room
 
     each : All (λ m. m < length places) (take size slots)
-    each = All-from_get_or (λ m. m < length places) (take size slots) 0 (λ i within. rw (get_or-take size slots i 0 (omega (arith, long))) (placed.within i (omega (arith, long))))
+    each = All-from_get_or (λ m. m < length places) (take size slots) 0
+        (λ i within. rw (get_or-take size slots i 0 (omega (arith, long))) (placed.within i (omega (arith, long))))
 
 -- one more member in the next slot, with its place
-pub placed_more : (slots places : List ℕ) (size n : ℕ) → IsPlaced slots places size → n < length places → list_any (nat_eq n) (take size slots) ≡ false → size < length slots
+pub placed_more : (slots places : List ℕ) (size n : ℕ) → IsPlaced slots places size → n < length places
+    → list_any (nat_eq n) (take size slots) ≡ false → size < length slots
     → IsPlaced (set slots size n) (set places n size) (size + 1)
 placed_more slots places size n placed less new room = record {
   same_bound = length-set slots size n ∙ placed.same_bound ∙ sym (length-set places n size);
@@ -94,26 +116,36 @@ placed_more slots places size n placed less new room = record {
   ]);
   placed = λ k used. elim (cases_eq k size) [
     | inl last ↦ rw (last, get_or-set_same slots size n 0 room) (get_or-set_same places n size 0 less)
-    | inr other ↦ rw (get_or-set_other slots size k n 0 other, get_or-set_other places n (get_or slots k 0) size 0 (differs k (omega (arith, other)))) (placed.placed k (omega (arith, other)))
+    | inr other ↦
+        rw (
+          get_or-set_other slots size k n 0 other,
+          get_or-set_other places n (get_or slots k 0) size 0
+              (differs k (omega (arith, other))),
+        ) (placed.placed k (omega (arith, other)))
   ];
 }
   where
     differs : (k : ℕ) → k < size → get_or slots k 0 ≡ n → ⊥
     differs k used same =
         let within : k < length (take size slots) = omega (arith, length-take-le size slots placed.room) in
-        let h : list_any (nat_eq n) (take size slots) ≡ true = list_any_at (nat_eq n) (take size slots) k 0 within (eq-eqb n (get_or (take size slots) k 0) (sym (get_or-take size slots k 0 used ∙ same))) in
+        let h : list_any (nat_eq n) (take size slots) ≡ true = list_any_at (nat_eq n) (take size slots) k 0 within
+        (eq-eqb n (get_or (take size slots) k 0) (sym (get_or-take size slots k 0 used ∙ same))) in
         cc
 
 -- the members with one more in the next slot
-pub members_more : (slots members : List ℕ) (size n : ℕ) → take size slots ≡ members → size < length slots → list_any (nat_eq n) members ≡ false
+pub members_more : (slots members : List ℕ) (size n : ℕ) → take size slots ≡ members → size < length slots
+    → list_any (nat_eq n) members ≡ false
     → take (size + 1) (set slots size n) ≡ with_member members n
-members_more slots members size n view room new = rw new (take_more_set slots size n room ∙ ap (λ xs. xs ++ n ∷ []) view)
+members_more slots members size n view room new
+    = rw new (take_more_set slots size n room ∙ ap (λ xs. xs ++ n ∷ []) view)
 
 -- a set whose fields are open has room for a number that is not a member
-pub room_of : (s : Inside) (now : Chosen) (n : ℕ) → IsPlaced s.slots.items s.places.items s.size → chosen s ≡ now → n < now.below → list_any (nat_eq n) now.members ≡ false
+pub room_of : (s : Inside) (now : Chosen) (n : ℕ) → IsPlaced s.slots.items s.places.items s.size → chosen s ≡ now
+    → n < now.below → list_any (nat_eq n) now.members ≡ false
     → s.size < length s.slots.items
 room_of s now n placed view less new =
-    room_left s.slots.items s.places.items now.members s.size n placed (ap (λ (t : Chosen). t.members) view) (omega (arith, ap (λ (t : Chosen). t.below) view)) new
+    room_left s.slots.items s.places.items now.members s.size n placed (ap (λ (t : Chosen). t.members) view)
+    (omega (arith, ap (λ (t : Chosen). t.below) view)) new
 
 -- a number that is added, and those before it
 with_member-old : (ms : List ℕ) (n q : ℕ) → Contains ms q → Contains (with_member ms n) q
@@ -142,7 +174,8 @@ with_members-old ms (n ∷ ns) q h = with_members-old (with_member ms n) ns q (w
 with_members-new : (ms ns : List ℕ) (q : ℕ) → Contains ns q → Contains (with_members ms ns) q
 with_members-new ms [] q h = Contains-none q h
 with_members-new ms (n ∷ ns) q h = elim (Contains-cons_cases n ns q h) [
-  | inl same ↦ with_members-old (with_member ms n) ns q (let P : ℕ → Type 0 = λ x. Contains (with_member ms n) x in subst P same (with_member-new ms n))
+  | inl same ↦ with_members-old (with_member ms n) ns q (let P : ℕ → Type 0 = λ x. Contains (with_member ms n) x
+      in subst P same (with_member-new ms n))
   | inr later ↦ with_members-new (with_member ms n) ns q later
 ]
 
@@ -164,14 +197,18 @@ with_members-same ns = record {
 }
 
 -- what an insert leaves, by its answer
-pub inserted_old : (old new : Chosen) (n : ℕ) (is_new : Bool) → new ≡ record old { members = with_member old.members n } → is_new ≡ not (list_any (nat_eq n) old.members) → is_new ≡ false
+pub inserted_old : (old new : Chosen) (n : ℕ) (is_new : Bool) → new ≡ record old { members = with_member old.members n }
+    → is_new ≡ not (list_any (nat_eq n) old.members) → is_new ≡ false
     → Contains old.members n × (new.members ≡ old.members)
 inserted_old old new n is_new added answered old_one =
-    let has : list_any (nat_eq n) old.members ≡ true = not-false (list_any (nat_eq n) old.members) (sym answered ∙ old_one) in
+    let has : list_any (nat_eq n) old.members ≡ true
+    = not-false (list_any (nat_eq n) old.members) (sym answered ∙ old_one) in
     (Contains-from_any eqb-true n old.members has, rw has at (ap (λ (s : Chosen). s.members) added))
 
-pub inserted_new : (old new : Chosen) (n : ℕ) (is_new : Bool) → new ≡ record old { members = with_member old.members n } → is_new ≡ not (list_any (nat_eq n) old.members) → is_new ≡ true
+pub inserted_new : (old new : Chosen) (n : ℕ) (is_new : Bool) → new ≡ record old { members = with_member old.members n }
+    → is_new ≡ not (list_any (nat_eq n) old.members) → is_new ≡ true
     → new.members ≡ old.members ++ n ∷ []
 inserted_new old new n is_new added answered new_one =
-    let none : list_any (nat_eq n) old.members ≡ false = not-true (list_any (nat_eq n) old.members) (sym answered ∙ new_one) in
+    let none : list_any (nat_eq n) old.members ≡ false
+    = not-true (list_any (nat_eq n) old.members) (sym answered ∙ new_one) in
     rw none at (ap (λ (s : Chosen). s.members) added)

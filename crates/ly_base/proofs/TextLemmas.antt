@@ -1,5 +1,6 @@
 -- Lemmas on bytes between quotes.
-use Rattle.std.proofs.Common.{◌≡◌, ◌∙◌, ◌<◌, ◌≤◌, ◌+◌, ◌-◌, ◌++◌, ◌∷◌, [], ℕ, List, true, false, length, take, drop, get_or, sym, ap, arith, append-nil, append_assoc, get_or-drop, length-drop}
+use Rattle.std.proofs.Common.{◌≡◌, ◌∙◌, ◌<◌, ◌≤◌, ◌+◌, ◌-◌, ◌++◌, ◌∷◌, [], ℕ, List, true, false, length, take, drop}
+use Rattle.std.proofs.Common.{get_or, sym, ap, arith, append-nil, append_assoc, get_or-drop, length-drop}
 use Rattle.std.proofs.lemmas.Bool.{cond-false, cond-true}
 use Rattle.std.proofs.lemmas.List.{flat_map_more, take_more}
 use Rattle.ly_base.specs.Text.{escape_of, escaped, escaped_byte, is_plain}
@@ -9,13 +10,16 @@ run_more : (bytes : List ℕ) (start at : ℕ) → start ≤ at → at < length 
     → take (at + 1 - start) (drop start bytes) ≡ take (at - start) (drop start bytes) ++ get_or bytes at 0 ∷ []
 run_more bytes start at behind within =
     let more : at + 1 - start ≡ (at - start) + 1 = omega arith in
-    let byte : get_or (drop start bytes) (at - start) 0 ≡ get_or bytes at 0 = get_or-drop start bytes (at - start) 0 ∙ ap (λ n. get_or bytes n 0) (omega arith) in
-    ap (λ n. take n (drop start bytes)) more ∙ take_more (drop start bytes) (at - start) 0 (omega (arith, length-drop start bytes))
+    let byte : get_or (drop start bytes) (at - start) 0 ≡ get_or bytes at 0 = get_or-drop start bytes (at - start) 0
+    ∙ ap (λ n. get_or bytes n 0) (omega arith) in
+    ap (λ n. take n (drop start bytes)) more ∙ take_more (drop start bytes) (at - start) 0
+    (omega (arith, length-drop start bytes))
     ∙ ap (λ b. take (at - start) (drop start bytes) ++ b ∷ []) byte
 
 -- one more byte between quotes
 escaped_more : (quote : ℕ) (bytes before : List ℕ) (at : ℕ) → at < length bytes
-    → before ++ escaped quote (take (at + 1) bytes) ≡ (before ++ escaped quote (take at bytes)) ++ escaped_byte quote (get_or bytes at 0)
+    → before ++ escaped quote (take (at + 1) bytes) ≡ (before ++ escaped quote (take at bytes)) ++ escaped_byte quote
+    (get_or bytes at 0)
 escaped_more quote bytes before at within = ap (λ t. before ++ escaped quote t) (take_more bytes at 0 within)
     ∙ sym (flat_map_more (escaped_byte quote) before (take at bytes) (get_or bytes at 0))
 
@@ -24,14 +28,16 @@ module _ (quote : ℕ) (bytes before out : List ℕ) (start at : ℕ) (behind : 
   -- a byte that stands for itself goes on with the run
   pub plain_step : is_plain quote (get_or bytes at 0) ≡ true
       → out ++ take (at + 1 - start) (drop start bytes) ≡ before ++ escaped quote (take (at + 1) bytes)
-  plain_step plain = ap (λ t. out ++ t) (run_more bytes start at behind within) ∙ sym (append_assoc out (take (at - start) (drop start bytes)) (get_or bytes at 0 ∷ []))
+  plain_step plain = ap (λ t. out ++ t) (run_more bytes start at behind within)
+      ∙ sym (append_assoc out (take (at - start) (drop start bytes)) (get_or bytes at 0 ∷ []))
       ∙ ap (λ t. t ++ get_or bytes at 0 ∷ []) so_far
       ∙ ap (λ t. (before ++ escaped quote (take at bytes)) ++ t) (sym (cond-true _ _ _ plain))
       ∙ sym (escaped_more quote bytes before at within)
 
   -- any other byte ends the run
   pub escape_step : is_plain quote (get_or bytes at 0) ≡ false
-      → ((out ++ take (at - start) (drop start bytes)) ++ escape_of (get_or bytes at 0)) ++ take (at + 1 - (at + 1)) (drop (at + 1) bytes)
+      → ((out ++ take (at - start) (drop start bytes)) ++ escape_of (get_or bytes at 0)) ++ take (at + 1 - (at + 1))
+      (drop (at + 1) bytes)
       ≡ before ++ escaped quote (take (at + 1) bytes)
   escape_step other = let none : at + 1 - (at + 1) ≡ 0 = omega arith in
       rw none (append-nil ((out ++ take (at - start) (drop start bytes)) ++ escape_of (get_or bytes at 0))

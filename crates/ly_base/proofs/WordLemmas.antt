@@ -1,10 +1,13 @@
 -- Lemmas on the bits of four words, which are those of a set of bytes.
-use Rattle.std.proofs.Common.{◌≡◌, ◌≢◌, ◌<◌, ◌+◌, ◌*◌, ◌-◌, ◌^◌, ◌/◌, ◌%◌, ℕ, List, [], ◌∷◌, Bool, false, not, length, zero, suc, nat_eq, bit_or, w64, refl, ap, sym, ◌∙◌, arith, inl, inr, get_or, set, get_or-set_other, get_or-set_same}
+use Rattle.std.proofs.Common.{◌≡◌, ◌≢◌, ◌<◌, ◌+◌, ◌*◌, ◌-◌, ◌^◌, ◌/◌, ◌%◌, ℕ, List, [], ◌∷◌, Bool, false, not, length}
+use Rattle.std.proofs.Common.{zero, suc, nat_eq, bit_or, w64, refl, ap, sym, ◌∙◌, arith, inl, inr, get_or, set}
+use Rattle.std.proofs.Common.{get_or-set_other, get_or-set_same}
 use Rattle.std.specs.Prelude.{slice_index, ◌||◌}
 use Rattle.std.specs.Int.{bit_at}
 use Rattle.std.proofs.lemmas.Bool.{cases_eq, eq-eqb, eqb-false, ne_eqb}
 use Rattle.std.proofs.lemmas.Nat.{le_or_l, le_or_r}
-use Rattle.std.proofs.lemmas.Nat.Bits.{bit_at-zero, bit_at-lt, bit_at_set_same, bit_at_set_other, bit_at_not, same_from_bits_below}
+use Rattle.std.proofs.lemmas.Nat.Bits.{bit_at-zero, bit_at-lt, bit_at_set_same, bit_at_set_other, bit_at_not}
+use Rattle.std.proofs.lemmas.Nat.Bits.{same_from_bits_below}
 
 -- whether the number is in the words
 abbrev pub word_has : List ℕ → ℕ → Bool
@@ -36,10 +39,14 @@ set_other ws i k j m h l ne = elim (cases_eq i j) [
 
 -- the words with one more number
 pub word_has_set : (ws : List ℕ) (b c : ℕ) → b < 256 → length ws ≡ 4
-    → word_has (set ws (b / 64) (bit_or (get_or ws (b / 64) 0) (1 * 2 ^ (b % 64) % 2 ^ 64))) c ≡ (nat_eq c b || word_has ws c)
+    → word_has (set ws (b / 64) (bit_or (get_or ws (b / 64) 0) (1 * 2 ^ (b % 64) % 2 ^ 64))) c
+    ≡ (nat_eq c b || word_has ws c)
 word_has_set ws b c h l = elim (cases_eq c b) [
-  | inl same ↦ rw (same, eq-eqb b b refl) (ap (λ n. nat_eq n 1) (set_same ws (b / 64) (b % 64) (omega arith) (omega arith)))
-  | inr other ↦ rw (ne_eqb c b other) (ap (λ n. nat_eq n 1) (set_other ws (b / 64) (b % 64) (c / 64) (c % 64) (omega arith) (omega arith)
+  | inl same ↦
+      rw (same, eq-eqb b b refl) (ap (λ n. nat_eq n 1) (set_same ws (b / 64) (b % 64) (omega arith) (omega arith)))
+  | inr other ↦
+      rw (ne_eqb c b other)
+      (ap (λ n. nat_eq n 1) (set_other ws (b / 64) (b % 64) (c / 64) (c % 64) (omega arith) (omega arith)
       (λ p q. other (omega arith))))
 ]
 
@@ -55,12 +62,15 @@ not_bit n k h l = rw (bit_at_not w64 n k h l) (flip (bit_at n k) (bit_at-lt n k)
 -- the words with every bit turned
 pub word_has_not : (ws : List ℕ) (b : ℕ) → b < 256
     → get_or ws 0 0 < 2 ^ 64 → get_or ws 1 0 < 2 ^ 64 → get_or ws 2 0 < 2 ^ 64 → get_or ws 3 0 < 2 ^ 64
-    → word_has ((2 ^ 64 - 1 - get_or ws 0 0) ∷ (2 ^ 64 - 1 - get_or ws 1 0) ∷ (2 ^ 64 - 1 - get_or ws 2 0) ∷ (2 ^ 64 - 1 - get_or ws 3 0) ∷ []) b
+    → word_has ((2 ^ 64 - 1 - get_or ws 0 0) ∷ (2 ^ 64 - 1 - get_or ws 1 0) ∷ (2 ^ 64 - 1 - get_or ws 2 0) ∷
+    (2 ^ 64 - 1 - get_or ws 3 0) ∷ []) b
     ≡ not (word_has ws b)
 word_has_not ws b h f0 f1 f2 f3 = turned (b / 64) (b % 64) (omega arith) (omega arith)
   where
     turned : (i k : ℕ) → i < 4 → k < 64
-        → nat_eq (bit_at (slice_index ((2 ^ 64 - 1 - get_or ws 0 0) ∷ (2 ^ 64 - 1 - get_or ws 1 0) ∷ (2 ^ 64 - 1 - get_or ws 2 0) ∷ (2 ^ 64 - 1 - get_or ws 3 0) ∷ []) i) k) 1
+        → nat_eq (bit_at
+        (slice_index ((2 ^ 64 - 1 - get_or ws 0 0) ∷ (2 ^ 64 - 1 - get_or ws 1 0) ∷ (2 ^ 64 - 1 - get_or ws 2 0) ∷
+        (2 ^ 64 - 1 - get_or ws 3 0) ∷ []) i) k) 1
         ≡ not (nat_eq (bit_at (slice_index ws i) k) 1)
     turned zero k l m = not_bit (get_or ws 0 0) k f0 m
     turned (suc zero) k l m = not_bit (get_or ws 1 0) k f1 m
@@ -69,7 +79,8 @@ word_has_not ws b h f0 f1 f2 f3 = turned (b / 64) (b % 64) (omega arith) (omega 
     turned (suc (suc (suc (suc i)))) k l m = absurd (omega arith)
 
 -- a word that has no number is 0
-word_zero : (ws : List ℕ) (i : ℕ) → i < 4 → get_or ws i 0 < 2 ^ 64 → ((b : ℕ) → b < 256 → word_has ws b ≡ false) → get_or ws i 0 ≡ 0
+word_zero : (ws : List ℕ) (i : ℕ) → i < 4 → get_or ws i 0 < 2 ^ 64 → ((b : ℕ) → b < 256 → word_has ws b ≡ false)
+    → get_or ws i 0 ≡ 0
 word_zero ws i l h none = same_from_bits_below 64 (get_or ws i 0) 0 h (omega arith)
     (λ k m. let at : (i * 64 + k) / 64 ≡ i = omega arith in
     let bit : (i * 64 + k) % 64 ≡ k = omega arith in
@@ -101,11 +112,13 @@ none_from_no_bit ws e b l =
     let second : get_or ws 1 0 ≡ 0 = omega (arith, e, le_or_r (get_or ws 0 0) (get_or ws 1 0), inner, outer) in
     let third : get_or ws 2 0 ≡ 0 = omega (arith, e, le_or_r a (get_or ws 2 0), outer) in
     let fourth : get_or ws 3 0 ≡ 0 = omega (arith, e, le_or_r c (get_or ws 3 0)) in
-    let at : get_or ws (b / 64) 0 ≡ 0 = below_four (λ i. get_or ws i 0 ≡ 0) first second third fourth (b / 64) (omega arith) in
+    let at : get_or ws (b / 64) 0 ≡ 0 = below_four (λ i. get_or ws i 0 ≡ 0) first second third fourth (b / 64)
+    (omega arith) in
     rw (at, bit_at-zero (b % 64))
 
 -- words that have no number have no bit
-pub no_bit_from_none : (ws : List ℕ) → get_or ws 0 0 < 2 ^ 64 → get_or ws 1 0 < 2 ^ 64 → get_or ws 2 0 < 2 ^ 64 → get_or ws 3 0 < 2 ^ 64
+pub no_bit_from_none : (ws : List ℕ) → get_or ws 0 0 < 2 ^ 64 → get_or ws 1 0 < 2 ^ 64 → get_or ws 2 0 < 2 ^ 64
+    → get_or ws 3 0 < 2 ^ 64
     → ((b : ℕ) → b < 256 → word_has ws b ≡ false) → any_bit ws ≡ 0
 no_bit_from_none ws f0 f1 f2 f3 none = rw (
   word_zero ws 0 (omega arith) f0 none,

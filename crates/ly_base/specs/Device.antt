@@ -1,5 +1,6 @@
 -- How a count of failures goes on, and which calls are failures.
-use Rattle.std.specs.Prelude.{◌≡◌, ℕ, ◌+◌, ◌%◌, ◌^◌, Bool, true, false, Result, Ok, Err, nat_eq, nat_lt, ◌&&◌, if◌then◌else◌, Option, None, Some, min, ◌-◌}
+use Rattle.std.specs.Prelude.{◌≡◌, ℕ, ◌+◌, ◌%◌, ◌^◌, Bool, true, false, Result, Ok, Err, nat_eq, nat_lt, ◌&&◌}
+use Rattle.std.specs.Prelude.{if◌then◌else◌, Option, None, Some, min, ◌-◌}
 
 -- the count after one more failure; it goes round at 2^64, so it is never the count before
 abbrev pub next_count : ℕ → ℕ

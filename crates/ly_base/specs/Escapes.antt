@@ -1,5 +1,7 @@
 -- Escapes: what stands behind a backslash, and the byte that it stands for (POSIX, lex, "Escape Sequences in lex").
-use Rattle.std.specs.Prelude.{◌≡◌, ◌≢◌, ℕ, zero, suc, ◌+◌, ◌-◌, ◌*◌, ◌<◌, ◌≤◌, List, [], ◌∷◌, ◌++◌, length, drop, Option, Some, None, Bool, true, false, ◌||◌, ◌&&◌, nat_eq, nat_le, nat_lt, IsTrue, if◌then◌else◌}
+use Rattle.std.specs.Prelude.{◌≡◌, ◌≢◌, ℕ, zero, suc, ◌+◌, ◌-◌, ◌*◌, ◌<◌, ◌≤◌, List, [], ◌∷◌, ◌++◌, length, drop}
+use Rattle.std.specs.Prelude.{Option, Some, None, Bool, true, false, ◌||◌, ◌&&◌, nat_eq, nat_le, nat_lt, IsTrue}
+use Rattle.std.specs.Prelude.{if◌then◌else◌}
 use Rattle.ly_base.specs.declared.escapes.Radix.{Radix}
 use Rattle.ly_base.specs.declared.escapes.Radix.TheVariants.{Octal, Hexadecimal}
 
@@ -47,8 +49,10 @@ meaning b = if nat_eq b 97 then 7 else
 -- The text, behind a backslash, begins with what stands for the byte b, and then comes the rest: one to three
 -- octal digits, as many as there are; `x` with all the hexadecimal digits that follow; or one byte.
 pub data Escape : List ℕ → ℕ → List ℕ → Type 0 where
-  octal : (ds rest : List ℕ) → AllPass is_octal ds → 1 ≤ length ds → length ds ≤ 3 → (length ds < 3 → Stops is_octal rest) → number 8 ds < 256 → Escape (ds ++ rest) (number 8 ds) rest
-  hexadecimal : (ds rest : List ℕ) → AllPass is_hexadecimal ds → 1 ≤ length ds → Stops is_hexadecimal rest → number 16 ds < 256 → Escape (120 ∷ (ds ++ rest)) (number 16 ds) rest
+  octal : (ds rest : List ℕ) → AllPass is_octal ds → 1 ≤ length ds → length ds ≤ 3
+      → (length ds < 3 → Stops is_octal rest) → number 8 ds < 256 → Escape (ds ++ rest) (number 8 ds) rest
+  hexadecimal : (ds rest : List ℕ) → AllPass is_hexadecimal ds → 1 ≤ length ds → Stops is_hexadecimal rest
+      → number 16 ds < 256 → Escape (120 ∷ (ds ++ rest)) (number 16 ds) rest
   bare_x : (rest : List ℕ) → Stops is_hexadecimal rest → Escape (120 ∷ rest) 120 rest
   letter : (b : ℕ) (rest : List ℕ) → is_octal b ≡ false → b ≢ 120 → b ≢ 10 → Escape (b ∷ rest) (meaning b) rest
 

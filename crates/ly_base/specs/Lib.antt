@@ -2,6 +2,7 @@ pub mod ByteSet
 pub mod Counted
 pub mod Device
 pub mod Escapes
+pub mod Lexed
 pub mod Limits
 pub mod Literals
 pub mod MemSink

@@ -2,8 +2,10 @@
 use Rattle.std.specs.Prelude.{◌≡◌, ◌≢◌, ℕ, List, ◌∷◌}
 use Rattle.ly_base.specs.Escapes.{Escape}
 
--- The text begins with a byte that stands for itself, with an escape, or with a backslash and a newline, which stand for
--- the newline, and then comes the rest. `Escape` has no newline, since a line of a lex file ends there; a literal needn't.
+-- The text begins with a byte that stands for itself, with an escape, or with a backslash and a newline, which stand
+-- for
+-- the newline, and then comes the rest. `Escape` has no newline, since a line of a lex file ends there; a literal
+-- needn't.
 pub data Inside : List ℕ → ℕ → List ℕ → Type 0 where
   bare : (b : ℕ) (rest : List ℕ) → b ≢ 92 → b ≢ 39 → Inside (b ∷ rest) b rest
   escaped : (t rest : List ℕ) (b : ℕ) → Escape t b rest → Inside (92 ∷ t) b rest

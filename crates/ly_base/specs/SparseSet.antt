@@ -1,5 +1,6 @@
 -- Sets of numbers below a bound, by the order in which their members came (Briggs and Torczon 1993).
-use Rattle.std.specs.Prelude.{◌≡◌, ℕ, ◌<◌, ◌≤◌, ◌++◌, List, [], ◌∷◌, length, take, fold, slice_index, nat_eq, if◌then◌else◌}
+use Rattle.std.specs.Prelude.{◌≡◌, ℕ, ◌<◌, ◌≤◌, ◌++◌, List, [], ◌∷◌, length, take, fold, slice_index, nat_eq}
+use Rattle.std.specs.Prelude.{if◌then◌else◌}
 use Rattle.std.specs.List.{list_any}
 use Rattle.ly_base.specs.declared.sparse_set.SparseSet.TheInside.{Inside}
 

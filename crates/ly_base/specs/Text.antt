@@ -1,5 +1,6 @@
 -- Bytes, tokens and answers as printed text.
-use Rattle.std.specs.Prelude.{ℕ, ◌/◌, ◌%◌, List, [], ◌∷◌, ◌++◌, Bool, not, false, ◌&&◌, nat_eq, nat_le, codes, if◌then◌else◌}
+use Rattle.std.specs.Prelude.{ℕ, ◌/◌, ◌%◌, List, [], ◌∷◌, ◌++◌, Bool, not, false, ◌&&◌, nat_eq, nat_le, codes}
+use Rattle.std.specs.Prelude.{if◌then◌else◌}
 use Rattle.std.specs.Fmt.{decimal, digit_glyph}
 use Rattle.std.specs.List.{flat_map}
 use Rattle.ly_base.specs.declared.text.Terminal.{Terminal}
@@ -13,7 +14,8 @@ is_plain quote b = nat_le 32 b && nat_le b 126 && not (nat_eq b 92) && not (nat_
 abbrev pub escape_of : ℕ → List ℕ
 escape_of b = if nat_eq b 10 then codes "\\n" else
     (if nat_eq b 9 then codes "\\t" else
-    (if nat_le 32 b && nat_le b 126 then 92 ∷ b ∷ [] else codes "\\x" ++ digit_glyph false (b / 16) ∷ digit_glyph false (b % 16) ∷ []))
+    (if nat_le 32 b && nat_le b 126 then 92 ∷ b ∷ [] else codes "\\x" ++ digit_glyph false (b / 16) ∷ digit_glyph false
+    (b % 16) ∷ []))
 
 -- a byte between quotes
 abbrev pub escaped_byte : ℕ → ℕ → List ℕ

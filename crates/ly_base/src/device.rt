@@ -36,5 +36,6 @@ pub trait Sink {
     fn push(&mut self, buf: &[u8]) -> Result<usize, DeviceFailed>
         ensures bound { WritesAtMost result buf.now }
         ensures bytes { WriteAppends (contents self.old) (contents self.new) result buf.now }
-        ensures counted { CountsFailure (write_failed result (length buf.now)) (failures self.old) (failures self.new) };
+        ensures counted { CountsFailure (write_failed result (length buf.now)) (failures self.old)
+            (failures self.new) };
 }

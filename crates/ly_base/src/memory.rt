@@ -58,7 +58,8 @@ impl Source for MemSource<'_> {
 
         // As many bytes as there are and as fit, and it fails once no more is left before the failure.
         ensures fails { IsErr result ↔ (gives_at_most self.old ≡ Some 0) }
-        ensures count { IfOk result (λ n. n ≡ allowed (gives_at_most self.old) (min (length buf.old) (length (unread self.old)))) }
+        ensures count { IfOk result
+            (λ n. n ≡ allowed (gives_at_most self.old) (min (length buf.old) (length (unread self.old)))) }
         ensures left { IfOk result (λ n. gives_at_most self.new ≡ left_after (gives_at_most self.old) n) }
         ensures goes_on_failing { OnErr result (gives_at_most self.new ≡ gives_at_most self.old) }
     {
@@ -131,7 +132,8 @@ impl Sink for MemSink {
     fn push(&mut self, buf: &[u8]) -> Result<usize, DeviceFailed>
         ensures bound { WritesAtMost result buf.now }
         ensures bytes { WriteAppends (Some (written self.old)) (Some (written self.new)) result buf.now }
-        ensures counted { CountsFailure (write_failed result (length buf.now)) (write_failures self.old) (write_failures self.new) }
+        ensures counted { CountsFailure (write_failed result (length buf.now)) (write_failures self.old)
+            (write_failures self.new) }
 
         // As many bytes as there are and as are left before the failure.
         ensures fails { takes_at_most self.old ≡ Some 0 → 0 < length buf.now → IsErr result }

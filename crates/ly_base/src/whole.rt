@@ -19,7 +19,8 @@ pub struct WriteFault {
 pub fn write_whole<W: Sink>(writer: &mut W, bytes: &[u8]) -> Result<(), WriteFault>
     ensures ok { OnOk result (Appends (W.contents writer.old) (W.contents writer.new) bytes.now) }
     ensures no_failure { OnOk result (W.failures writer.new ≡ W.failures writer.old) }
-    ensures partial { IfErr result (λ fault. Appends (W.contents writer.old) (W.contents writer.new) (take fault.written bytes.now)) }
+    ensures partial { IfErr result (λ fault. Appends (W.contents writer.old) (W.contents writer.new)
+        (take fault.written bytes.now)) }
     ensures within { IfErr result (λ fault. fault.written < length bytes.now) }
     ensures failed { OnErr result (W.failures writer.new ≡ next_count (W.failures writer.old)) }
 {

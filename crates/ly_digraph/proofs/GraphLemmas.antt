@@ -1,7 +1,9 @@
 -- A graph that gets one more edge, and a walk that begins.
-use Rattle.std.proofs.Common.{◌≡◌, ◌∙◌, ◌<◌, ◌≤◌, ◌+◌, ◌-◌, ◌++◌, ◌∷◌, [], ℕ, List, length, get_or, set, replicate, sym, ap, subst, refl, arith, inl, inr, sum_by, All}
+use Rattle.std.proofs.Common.{◌≡◌, ◌∙◌, ◌<◌, ◌≤◌, ◌+◌, ◌-◌, ◌++◌, ◌∷◌, [], ℕ, List, length, get_or, set, replicate, sym}
+use Rattle.std.proofs.Common.{ap, subst, refl, arith, inl, inr, sum_by, All}
 use Rattle.std.proofs.lemmas.Bool.{cases_lt, cases_eq}
-use Rattle.std.proofs.lemmas.List.{length-map, map-append, length_push, get_or_push, get_or_append_left, get_or-set_same, get_or-set_other, get_or_past}
+use Rattle.std.proofs.lemmas.List.{length-map, map-append, length_push, get_or_push, get_or_append_left}
+use Rattle.std.proofs.lemmas.List.{get_or-set_same, get_or-set_other, get_or_past}
 use Rattle.std.proofs.lemmas.List.Elements.{All-get_or}
 use Rattle.std.proofs.lemmas.List.Folds.{sum_by-replicate}
 use Rattle.std.proofs.lemmas.Simd.{length-replicate, get_or-replicate}
@@ -24,14 +26,16 @@ pub length-ends_of : (edges : List Edge) → length (ends_of edges) ≡ length e
 length-ends_of edges = length-map {B = ℕ × ℕ} edges (λ e. (e.from, e.to))
 
 -- the same edges end alike
-end_same : {g g' : Digraph} {x bound end : ℕ} → ((e : ℕ) → e < bound → source g' e ≡ source g e) → IsEndBefore g x bound end → IsEndBefore g' x bound end
+end_same : {g g' : Digraph} {x bound end : ℕ} → ((e : ℕ) → e < bound → source g' e ≡ source g e)
+    → IsEndBefore g x bound end → IsEndBefore g' x bound end
 end_same same h = record {
   end_le = h.end_le;
   last = λ some. same _ (let le = h.end_le in omega arith) ∙ h.last some;
   none = λ e lo hi is. h.none e lo hi (sym (same e hi) ∙ is);
 }
 
-module _ {ends : List ℕ} {edges : List Edge} (linked : IsLinked ends edges) (from to : ℕ) (from_in : from < length ends) (to_in : to < length ends) where
+module _ {ends : List ℕ} {edges : List Edge} (linked : IsLinked ends edges) (from to : ℕ) (from_in : from < length ends)
+    (to_in : to < length ends) where
   abbrev new_edge : Edge
   new_edge = record { from = from; to = to; before = get_or ends from 0 }
 
@@ -41,13 +45,17 @@ module _ {ends : List ℕ} {edges : List Edge} (linked : IsLinked ends edges) (f
   edges_is : ends_of (edges ++ new_edge ∷ []) ≡ ends_of edges ++ (from, to) ∷ []
   edges_is = map-append {B = ℕ × ℕ} (λ e. (e.from, e.to)) edges (new_edge ∷ [])
 
-  pair_old : (e : ℕ) → e < length edges → get_or (ends_of (edges ++ new_edge ∷ [])) e (0, 0) ≡ get_or (ends_of edges) e (0, 0)
-  pair_old e lt = ap (λ xs. get_or xs e (0, 0)) edges_is ∙ get_or_append_left (ends_of edges) ((from, to) ∷ []) (0, 0) e (omega (arith, length-ends_of edges))
+  pair_old : (e : ℕ) → e < length edges → get_or (ends_of (edges ++ new_edge ∷ [])) e (0, 0)
+      ≡ get_or (ends_of edges) e (0, 0)
+  pair_old e lt = ap (λ xs. get_or xs e (0, 0)) edges_is ∙ get_or_append_left (ends_of edges) ((from, to) ∷ []) (0, 0) e
+      (omega (arith, length-ends_of edges))
 
   pair_new : get_or (ends_of (edges ++ new_edge ∷ [])) (length edges) (0, 0) ≡ (from, to)
-  pair_new = ap (λ xs. get_or xs (length edges) (0, 0)) edges_is ∙ get_or_push (ends_of edges) (from, to) (0, 0) (length edges) (length-ends_of edges)
+  pair_new = ap (λ xs. get_or xs (length edges) (0, 0)) edges_is ∙ get_or_push (ends_of edges) (from, to) (0, 0)
+      (length edges) (length-ends_of edges)
 
-  source_old : (e : ℕ) → e < length edges → source (graph_of new_ends (edges ++ new_edge ∷ [])) e ≡ source (graph_of ends edges) e
+  source_old : (e : ℕ) → e < length edges → source (graph_of new_ends (edges ++ new_edge ∷ [])) e
+      ≡ source (graph_of ends edges) e
   source_old e lt = ap (λ p. p.0) (pair_old e lt)
 
   source_new : source (graph_of new_ends (edges ++ new_edge ∷ [])) (length edges) ≡ from
@@ -63,41 +71,60 @@ module _ {ends : List ℕ} {edges : List Edge} (linked : IsLinked ends edges) (f
   linked_push = record {
     lasts = λ x lt. elim (cases_eq x from) [
       | inl same ↦
-          let at : get_or new_ends x 0 ≡ length edges + 1 = ap (λ y. get_or new_ends y 0) same ∙ get_or-set_same ends from (length edges + 1) 0 from_in in record {
+          let at : get_or new_ends x 0 ≡ length edges + 1 = ap (λ y. get_or new_ends y 0) same
+          ∙ get_or-set_same ends from (length edges + 1) 0 from_in in record {
             end_le = omega (arith, long, at);
-            last = λ some. ap (source (graph_of new_ends (edges ++ new_edge ∷ []))) (let e : get_or new_ends x 0 - 1 ≡ length edges = omega arith in e) ∙ source_new ∙ sym same;
+            last = λ some. ap (source (graph_of new_ends (edges ++ new_edge ∷ []))) (let e : get_or new_ends x 0 - 1
+                ≡ length edges = omega arith in e) ∙ source_new ∙ sym same;
             none = λ e lo hi. absurd (omega (arith, long, at));
           }
       | inr ne ↦
           let at : get_or new_ends x 0 ≡ get_or ends x 0 = get_or-set_other ends from x (length edges + 1) 0 ne in
-          let was : IsEndBefore (graph_of new_ends (edges ++ new_edge ∷ [])) x (length edges) (get_or ends x 0) = end_same source_old (linked.lasts x (omega (arith, nodes_same))) in record {
+          let was : IsEndBefore (graph_of new_ends (edges ++ new_edge ∷ [])) x (length edges) (get_or ends x 0)
+          = end_same source_old (linked.lasts x (omega (arith, nodes_same))) in record {
             end_le = (let le = was.end_le in omega (arith, long, at));
-            last = λ some. ap (λ k. source (graph_of new_ends (edges ++ new_edge ∷ [])) (k - 1)) at ∙ was.last (omega arith);
+            last = λ some. ap (λ k. source (graph_of new_ends (edges ++ new_edge ∷ [])) (k - 1)) at
+                ∙ was.last (omega arith);
             none = λ e lo hi. elim (cases_lt e (length edges)) [
               | inl below ↦ was.none e (omega arith) below
-              | inr above ↦ λ is. ne (sym is ∙ ap (source (graph_of new_ends (edges ++ new_edge ∷ []))) (let k : e ≡ length edges = omega (arith, long) in k) ∙ source_new)
+              | inr above ↦
+                  λ is. ne (sym is ∙ ap (source (graph_of new_ends (edges ++ new_edge ∷ []))) (let k : e ≡ length edges
+                  = omega (arith, long) in k) ∙ source_new)
             ];
           }
     ];
     before = λ e lt. elim (cases_lt e (length edges)) [
       | inl below ↦
-          let edge : get_or (edges ++ new_edge ∷ []) e no_edge ≡ get_or edges e no_edge = get_or_append_left edges (new_edge ∷ []) no_edge e below in
-          subst (λ b. IsEndBefore (graph_of new_ends (edges ++ new_edge ∷ [])) (source (graph_of new_ends (edges ++ new_edge ∷ [])) e) e b) (sym (ap (λ (k : Edge). k.before) edge))
-          (subst (λ x. IsEndBefore (graph_of new_ends (edges ++ new_edge ∷ [])) x e (get_or edges e no_edge).before) (sym (source_old e below))
+          let edge : get_or (edges ++ new_edge ∷ []) e no_edge ≡ get_or edges e no_edge
+          = get_or_append_left edges (new_edge ∷ []) no_edge e below in
+          subst (λ b. IsEndBefore (graph_of new_ends (edges ++ new_edge ∷ []))
+          (source (graph_of new_ends (edges ++ new_edge ∷ [])) e) e b) (sym (ap (λ (k : Edge). k.before) edge))
+          (subst (λ x. IsEndBefore (graph_of new_ends (edges ++ new_edge ∷ [])) x e (get_or edges e no_edge).before)
+          (sym (source_old e below))
           (end_same (λ k h. source_old k (omega arith)) (linked.before e below)))
       | inr above ↦
           let at : length edges ≡ e = omega (arith, long) in
-          subst (λ k. IsEndBefore (graph_of new_ends (edges ++ new_edge ∷ [])) (source (graph_of new_ends (edges ++ new_edge ∷ [])) k) k (get_or (edges ++ new_edge ∷ []) k no_edge).before) at
-          (subst (λ b. IsEndBefore (graph_of new_ends (edges ++ new_edge ∷ [])) (source (graph_of new_ends (edges ++ new_edge ∷ [])) (length edges)) (length edges) b) (sym (ap (λ (k : Edge). k.before) (get_or_push edges new_edge no_edge (length edges) refl)))
-          (subst (λ x. IsEndBefore (graph_of new_ends (edges ++ new_edge ∷ [])) x (length edges) (get_or ends from 0)) (sym source_new)
+          subst (λ k. IsEndBefore (graph_of new_ends (edges ++ new_edge ∷ []))
+          (source (graph_of new_ends (edges ++ new_edge ∷ [])) k) k
+          (get_or (edges ++ new_edge ∷ []) k no_edge).before) at
+          (subst (λ b. IsEndBefore (graph_of new_ends (edges ++ new_edge ∷ []))
+          (source (graph_of new_ends (edges ++ new_edge ∷ [])) (length edges)) (length edges) b)
+          (sym (ap (λ (k : Edge). k.before) (get_or_push edges new_edge no_edge (length edges) refl)))
+          (subst (λ x. IsEndBefore (graph_of new_ends (edges ++ new_edge ∷ [])) x (length edges) (get_or ends from 0))
+          (sym source_new)
           (end_same source_old (linked.lasts from from_in))))
     ];
     inside = λ e lt. elim (cases_lt e (length edges)) [
-      | inl below ↦ (let was = linked.inside e below in subst (λ (p : ℕ × ℕ). (p.0 < length new_ends) × (p.1 < length new_ends)) (sym (pair_old e below)) (omega (arith, nodes_same), omega (arith, nodes_same)))
+      | inl below ↦
+          (let was = linked.inside e below in subst (λ (p : ℕ × ℕ). (p.0 < length new_ends) × (p.1 < length new_ends))
+          (sym (pair_old e below)) (omega (arith, nodes_same), omega (arith, nodes_same)))
       | inr above ↦
           let at : length edges ≡ e = omega (arith, long) in
           subst (λ k. IsInside (length new_ends) (get_or (ends_of (edges ++ new_edge ∷ [])) k (0, 0))) at
-          (subst (λ (p : ℕ × ℕ). IsInside (length new_ends) p) (sym pair_new) (omega (arith, nodes_same), omega (arith, nodes_same)))
+          (subst (λ (p : ℕ × ℕ). IsInside (length new_ends) p) (sym pair_new) (
+            omega (arith, nodes_same),
+            omega (arith, nodes_same),
+          ))
     ];
   }
 
@@ -111,14 +138,18 @@ pub record AreEnds (g : Digraph) (cs : List ℕ) (n : ℕ) : Type 0 where
 pub ends_none : (g : Digraph) → AreEnds g [] 0
 ends_none g = record { long = refl; ends = λ x lt. absurd (omega arith) }
 
-pub ends_more : (g : Digraph) (cs : List ℕ) (n end : ℕ) → AreEnds g cs n → IsEndBefore g n (length g.edges) end → AreEnds g (cs ++ end ∷ []) (n + 1)
+pub ends_more : (g : Digraph) (cs : List ℕ) (n end : ℕ) → AreEnds g cs n → IsEndBefore g n (length g.edges) end
+    → AreEnds g (cs ++ end ∷ []) (n + 1)
 ends_more g cs n end a e = record {
   long = (let l = a.long in omega (arith, length_push cs end));
   ends = λ x lt. elim (cases_lt x n) [
-    | inl below ↦ subst (λ k. IsEndBefore g x (length g.edges) k) (sym (get_or_append_left cs (end ∷ []) 0 x (let l = a.long in omega arith))) (a.ends x below)
+    | inl below ↦
+        subst (λ k. IsEndBefore g x (length g.edges) k)
+        (sym (get_or_append_left cs (end ∷ []) 0 x (let l = a.long in omega arith))) (a.ends x below)
     | inr above ↦
         let at : n ≡ x = omega arith in
-        subst (λ y. IsEndBefore g y (length g.edges) (get_or (cs ++ end ∷ []) y 0)) at (subst (λ k. IsEndBefore g n (length g.edges) k) (sym (get_or_push cs end 0 n a.long)) e)
+        subst (λ y. IsEndBefore g y (length g.edges) (get_or (cs ++ end ∷ []) y 0)) at
+        (subst (λ k. IsEndBefore g n (length g.edges) k) (sym (get_or_push cs end 0 n a.long)) e)
   ];
 }
 
@@ -128,7 +159,8 @@ all_new n x = elim (cases_lt x n) [
   | inr ge ↦ get_or_past (replicate n New) x New (omega (arith, length-replicate n New))
 ]
 
-pub begins : (g : Digraph) (sets : List NumberSet) (cs : List ℕ) → AreEnds g cs g.nodes → All (IsInside g.nodes) g.edges → g.nodes ≤ length sets → IsWalk g sets cs (replicate g.nodes New) [] []
+pub begins : (g : Digraph) (sets : List NumberSet) (cs : List ℕ) → AreEnds g cs g.nodes → All (IsInside g.nodes) g.edges
+    → g.nodes ≤ length sets → IsWalk g sets cs (replicate g.nodes New) [] []
 begins g sets cs a all rows = record {
   marked = record {
     cursors_len = a.long;
@@ -142,7 +174,8 @@ begins g sets cs a all rows = record {
     opened = λ x k o. absurd (let z : New ≡ Open k = sym (all_new g.nodes x) ∙ o in cc);
     fresh = λ e lt n. elim (cases_lt e (get_or cs (source g e) 0)) [
       | inl h ↦ h
-      | inr ge ↦ absurd ((a.ends (source g e) (All-get_or (IsInside g.nodes) g.edges e (0, 0) lt all).0).none e ge lt refl)
+      | inr ge ↦
+          absurd ((a.ends (source g e) (All-get_or (IsInside g.nodes) g.edges e (0, 0) lt all).0).none e ge lt refl)
     ];
     done = λ e lt d. absurd (let z : New ≡ Done = sym (all_new g.nodes (source g e)) ∙ d in cc);
   };

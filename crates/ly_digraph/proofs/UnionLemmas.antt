@@ -1,5 +1,6 @@
 -- What a union of two rows does to a matrix, and how steps follow one another.
-use Rattle.std.proofs.Common.{◌≡◌, ◌≢◌, ◌∙◌, ◌<◌, ◌||◌, ℕ, Bool, true, false, List, length, sym, ap, subst, refl, arith, inl, inr, ◌⊎◌}
+use Rattle.std.proofs.Common.{◌≡◌, ◌≢◌, ◌∙◌, ◌<◌, ◌||◌, ℕ, Bool, true, false, List, length, sym, ap, subst, refl, arith}
+use Rattle.std.proofs.Common.{inl, inr, ◌⊎◌}
 use Rattle.std.specs.FinSet as set
 use Rattle.std.specs.FinSet.{contains-union}
 use Rattle.std.specs.Cmp.{nat_cmp_total}
@@ -22,7 +23,8 @@ pub Member-union_left : (s t : NumberSet) (n : ℕ) → Member s n → Member (s
 Member-union_left s t n m = contains-union nat_cmp_total s t n ∙ ap (λ b. b || set.contains t n) m
 
 pub Member-union_right : (s t : NumberSet) (n : ℕ) → Member t n → Member (set.union s t) n
-Member-union_right s t n m = contains-union nat_cmp_total s t n ∙ ap (λ b. set.contains s n || b) m ∙ or_true (set.contains s n)
+Member-union_right s t n m = contains-union nat_cmp_total s t n ∙ ap (λ b. set.contains s n || b) m
+    ∙ or_true (set.contains s n)
   where
     or_true : (b : Bool) → (b || true) ≡ true
     or_true true = refl
@@ -52,7 +54,9 @@ module _ (m : Matrix) (p q : ℕ) (inside : p < length m.sets) where
     long = length-set m.sets p _;
     rest = row-united_other;
     grown = λ x n h. elim (cases_eq x p) [
-      | inl same ↦ subst (λ y. Member (row (united m p q).sets y) n) (sym same) (subst (λ s. Member s n) (sym row-united_same) (Member-union_left _ _ n (subst (λ y. Member (row m.sets y) n) same h)))
+      | inl same ↦ subst (λ y. Member (row (united m p q).sets y) n) (sym same)
+          (subst (λ s. Member s n) (sym row-united_same)
+          (Member-union_left _ _ n (subst (λ y. Member (row m.sets y) n) same h)))
       | inr ne ↦ subst (λ s. Member s n) (sym (row-united_other x ne)) h
     ];
   }
@@ -73,10 +77,12 @@ module _ (m : Matrix) (p q : ℕ) (inside : p < length m.sets) where
   united_between g way = record {
     kept = record { holds = united_grows.grown };
     reached = λ i n h. elim (cases_eq i p) [
-      | inl same ↦ elim (Member-union_cases (row m.sets p) (row m.sets q) n (subst (λ s. Member s n) (ap (row (united m p q).sets) same ∙ row-united_same) h)) [
-        | inl own ↦ (i, here i, subst (λ y. Member (row m.sets y) n) (sym same) own)
-        | inr other ↦ (q, subst (λ y. Reaches g y q) (sym same) way, other)
-      ]
+      | inl same ↦
+          elim (Member-union_cases (row m.sets p) (row m.sets q) n
+          (subst (λ s. Member s n) (ap (row (united m p q).sets) same ∙ row-united_same) h)) [
+            | inl own ↦ (i, here i, subst (λ y. Member (row m.sets y) n) (sym same) own)
+            | inr other ↦ (q, subst (λ y. Reaches g y q) (sym same) way, other)
+          ]
       | inr ne ↦ (i, here i, subst (λ s. Member s n) (row-united_other i ne) h)
     ];
   }
@@ -93,9 +99,17 @@ between_on {g} {a} {b} {c} p q = record {
 }
 
 pub continues_none : {g : Digraph} {m : Matrix} {w : Walk} → IsAt g m.sets w → Continues g m w m w
-continues_none {g} {m} {w} at = record { at = at; between = between_none g m.sets; long = refl; width = refl; paid = omega arith; seen = λ x old. old }
+continues_none {g} {m} {w} at = record {
+  at = at;
+  between = between_none g m.sets;
+  long = refl;
+  width = refl;
+  paid = omega arith;
+  seen = λ x old. old;
+}
 
-pub continues_on : {g : Digraph} {m m' m'' : Matrix} {w w' w'' : Walk} → Continues g m w m' w' → Continues g m' w' m'' w'' → Continues g m w m'' w''
+pub continues_on : {g : Digraph} {m m' m'' : Matrix} {w w' w'' : Walk} → Continues g m w m' w'
+    → Continues g m' w' m'' w'' → Continues g m w m'' w''
 continues_on p q = record {
   at = q.at;
   between = between_on p.between q.between;

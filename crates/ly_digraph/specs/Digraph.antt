@@ -8,7 +8,8 @@ pub record Digraph : Type 0 where
   pub edges : List (ℕ × ℕ)
 
 abbrev pub digraph_code : Coded Digraph
-digraph_code = code_by (ℕ × List (ℕ × ℕ)) (coded× coded_ℕ (coded_list (coded× coded_ℕ coded_ℕ))) (λ g. (g.nodes, g.edges)) (λ p. record { nodes = p.0; edges = p.1 }) (λ _. refl)
+digraph_code = code_by (ℕ × List (ℕ × ℕ)) (coded× coded_ℕ (coded_list (coded× coded_ℕ coded_ℕ)))
+    (λ g. (g.nodes, g.edges)) (λ p. record { nodes = p.0; edges = p.1 }) (λ _. refl)
 
 -- there is an edge i -> j
 abbrev pub IsEdge : Digraph → ℕ → ℕ → Type 0

@@ -1,5 +1,6 @@
 -- What one step of the walk does.
-use Rattle.std.specs.Prelude.{◌≡◌, ◌≢◌, ◌<◌, ◌≤◌, ◌+◌, ◌*◌, ℕ, List, [], ◌∷◌, ◌++◌, ◌-◌, length, slice_index, slice_set, min, if◌then◌else◌, nat_lt, nat_le, ◌&&◌, sum_by, vec_len}
+use Rattle.std.specs.Prelude.{◌≡◌, ◌≢◌, ◌<◌, ◌≤◌, ◌+◌, ◌*◌, ℕ, List, [], ◌∷◌, ◌++◌, ◌-◌, length, slice_index, slice_set}
+use Rattle.std.specs.Prelude.{min, if◌then◌else◌, nat_lt, nat_le, ◌&&◌, sum_by, vec_len}
 use Rattle.std.specs.FinSet as set
 use Rattle.ly_sets.specs.NumberSet.{NumberSet}
 use Rattle.ly_sets.specs.SetMatrix.{Matrix, row}
@@ -55,7 +56,8 @@ pub record IsTurned (g : Digraph) (w w' : Walk) : Type 0 where
 
 -- the walk after `lower`: the last frame is known to reach a position
 pub record IsLowered (w w' : Walk) (position : ℕ) : Type 0 where
-  pub path : (fs : List Frame) (f : Frame) → w.path.items ≡ fs ++ f ∷ [] → w'.path.items ≡ fs ++ lowered f (min f.low position) ∷ []
+  pub path : (fs : List Frame) (f : Frame) → w.path.items ≡ fs ++ f ∷ []
+      → w'.path.items ≡ fs ++ lowered f (min f.low position) ∷ []
   pub others : w' ≡ record w { path = w'.path }
 
 -- the walk after `enter`
@@ -68,7 +70,8 @@ pub record IsEntered (w w' : Walk) (x : ℕ) : Type 0 where
 -- how many of the edges, from number e on, are still to be looked at
 abbrev pub waiting_from : ℕ → List (ℕ × ℕ) → List ℕ → ℕ
 waiting_from e [] cursors = 0
-waiting_from e (x ∷ edges) cursors = (if nat_lt e (slice_index cursors x.0) then 1 else 0) + waiting_from (e + 1) edges cursors
+waiting_from e (x ∷ edges) cursors = (if nat_lt e (slice_index cursors x.0) then 1 else 0) + waiting_from
+    (e + 1) edges cursors
 
 abbrev pub unseen_one : Place → ℕ
 unseen_one New = 1

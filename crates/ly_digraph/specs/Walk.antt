@@ -28,7 +28,8 @@ IsSeen g sets ps f end e =
     ⊎ ((j : ℕ) × (place ps (target g e) ≡ Open j) × (f.low ≤ j) × (j < end))
 
 -- the pending nodes from a frame's start to its part's end
-pub record IsPart (g : Digraph) (sets : List NumberSet) (cs : List ℕ) (ps : List Place) (ns : List ℕ) (f : Frame) (end : ℕ) : Type 0 where
+pub record IsPart (g : Digraph) (sets : List NumberSet) (cs : List ℕ) (ps : List Place) (ns : List ℕ) (f : Frame)
+    (end : ℕ) : Type 0 where
   pub start_lt : f.start < end
   pub end_le : end ≤ length ns
   pub node : slice_index ns f.start ≡ f.node
@@ -37,14 +38,17 @@ pub record IsPart (g : Digraph) (sets : List NumberSet) (cs : List ℕ) (ps : Li
   pub low_reach : Reaches g f.node (slice_index ns f.low)
   pub held : (k : ℕ) → f.start ≤ k → k < end → Within sets (slice_index ns k) f.node
   pub spent : (k : ℕ) → f.start < k → k < end → slice_index cs (slice_index ns k) ≡ 0
-  pub seen : (e k : ℕ) → e < length g.edges → f.start ≤ k → k < end → source g e ≡ slice_index ns k → slice_index cs (slice_index ns k) ≤ e → IsSeen g sets ps f end e
+  pub seen : (e k : ℕ) → e < length g.edges → f.start ≤ k → k < end → source g e ≡ slice_index ns k
+      → slice_index cs (slice_index ns k) ≤ e → IsSeen g sets ps f end e
 
 -- the edge of frame f that is being looked at leads to a node
 abbrev pub IsNext : Digraph → List ℕ → Frame → ℕ → Type 0
 IsNext g cs f x = (0 < slice_index cs f.node) × (target g (slice_index cs f.node - 1) ≡ x)
 
--- the frames' parts follow one another, from position 0 to the end, and each frame's node is looked at by the one before
-pub record IsPath (g : Digraph) (sets : List NumberSet) (cs : List ℕ) (ps : List Place) (ns : List ℕ) (fs : List Frame) (end : ℕ) : Type 0 where
+-- the frames' parts follow one another, from position 0 to the end, and each frame's node is looked at by the one
+-- before
+pub record IsPath (g : Digraph) (sets : List NumberSet) (cs : List ℕ) (ps : List Place) (ns : List ℕ) (fs : List Frame)
+    (end : ℕ) : Type 0 where
   pub first : begin fs end 0 ≡ 0
   pub parts : (t : ℕ) → t < length fs → IsPart g sets cs ps ns (frame fs t) (begin fs end (t + 1))
   pub links : (t : ℕ) → t + 1 < length fs → IsNext g cs (frame fs t) (frame fs (t + 1)).node
@@ -54,13 +58,16 @@ pub record IsMarked (g : Digraph) (sets : List NumberSet) (cs : List ℕ) (ps : 
   pub cursors_len : length cs ≡ g.nodes
   pub places_len : length ps ≡ g.nodes
   pub rows_len : g.nodes ≤ length sets
-  pub cursor : (x : ℕ) → 0 < slice_index cs x → (slice_index cs x ≤ length g.edges) × (source g (slice_index cs x - 1) ≡ x)
+  pub cursor : (x : ℕ) → 0 < slice_index cs x → (slice_index cs x ≤ length g.edges)
+      × (source g (slice_index cs x - 1) ≡ x)
   pub pending : (k : ℕ) → k < length ns → (slice_index ns k < g.nodes) × (place ps (slice_index ns k) ≡ Open k)
   pub opened : (x k : ℕ) → place ps x ≡ Open k → (k < length ns) × (slice_index ns k ≡ x)
   pub fresh : (e : ℕ) → e < length g.edges → place ps (source g e) ≡ New → e < slice_index cs (source g e)
-  pub done : (e : ℕ) → e < length g.edges → place ps (source g e) ≡ Done → (place ps (target g e) ≡ Done) × Within sets (target g e) (source g e)
+  pub done : (e : ℕ) → e < length g.edges → place ps (source g e) ≡ Done → (place ps (target g e) ≡ Done)
+      × Within sets (target g e) (source g e)
 
-pub record IsWalk (g : Digraph) (sets : List NumberSet) (cs : List ℕ) (ps : List Place) (ns : List ℕ) (fs : List Frame) : Type 0 where
+pub record IsWalk (g : Digraph) (sets : List NumberSet) (cs : List ℕ) (ps : List Place) (ns : List ℕ)
+    (fs : List Frame) : Type 0 where
   pub marked : IsMarked g sets cs ps ns
   pub path : IsPath g sets cs ps ns fs (length ns)
 

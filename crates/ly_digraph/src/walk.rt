@@ -5,7 +5,8 @@
 //! and holds what was entered from there and left, but couldn't be closed. `low` is a position that
 //! a part is known to reach (Tarjan's low link, kept a frame and not a node). A part whose low
 //! position is its own start is a component.
-ghost use Rattle.std.specs.Prelude.{◌≡◌, ◌≢◌, ◌<◌, ◌≤◌, ◌+◌, ◌-◌, ◌↔◌, List, length, take, vec_len, slice_index, false, true, IfOk, OnOk};
+ghost use Rattle.std.specs.Prelude.{◌≡◌, ◌≢◌, ◌<◌, ◌≤◌, ◌+◌, ◌-◌, ◌↔◌, List, length, take, vec_len, slice_index, false};
+ghost use Rattle.std.specs.Prelude.{true, IfOk, OnOk};
 
 use crate::graph::Graph;
 use ly_base::OutOfMemory;
@@ -51,7 +52,9 @@ impl Walk {
     ghost use Rattle.ly_sets.specs.SetMatrix.{Matrix};
     ghost use Rattle.ly_digraph.specs.Digraph.{target};
     ghost use Rattle.ly_digraph.specs.Walk.{place, frame, entered};
-    ghost use Rattle.ly_digraph.specs.Search.{IsAt, IsAtFrame, IsOver, WasSeen, IsListed, IsClosed, IsWaiting, IsTurned, IsLowered, IsEntered, Continues, top, next_target, steps_left, unions_left};
+    ghost use Rattle.ly_digraph.specs.Search.{IsAt, IsAtFrame, IsOver, WasSeen, IsListed, IsClosed, IsWaiting};
+    ghost use Rattle.ly_digraph.specs.Search.{IsTurned, IsLowered, IsEntered, Continues, top, next_target, steps_left};
+    ghost use Rattle.ly_digraph.specs.Search.{unions_left};
     ghost use Rattle.ly_digraph.specs.declared.walk.Frame.{Frame};
     ghost use Rattle.ly_digraph.specs.declared.walk.Place.TheVariants.{New, Open, Done};
 

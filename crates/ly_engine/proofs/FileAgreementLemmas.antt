@@ -16,29 +16,38 @@ use Rattle.ly_engine.proofs.PositionAgreementLemmas.{RunsSpell, walk_agrees}
 
 -- a plain rule is active in the initial condition alone
 only_first : (r : Rule) (c : ℕ) → IsPlain r → Contains r.active.items c → c < 1
-only_first r c p h = let P : List ℕ → Type 0 = λ cs. Contains cs c in let zero_is : 0 ≡ c = Contains-one 0 c (subst P p.active h) in omega arith
+only_first r c p h = let P : List ℕ → Type 0 = λ cs. Contains cs c in let zero_is : 0 ≡ c
+    = Contains-one 0 c (subst P p.active h) in omega arith
 
 -- runs over the positions of a lex file spell its rules' strings
-runs_spell : (bytes : List ℕ) (file : LexFile) (conditions : ℕ) (nfa : Nfa) → LexText bytes file → conditions ≡ 1 → ArePositions file.names file.rules.items conditions nfa
+runs_spell : (bytes : List ℕ) (file : LexFile) (conditions : ℕ) (nfa : Nfa) → LexText bytes file → conditions ≡ 1
+    → ArePositions file.names file.rules.items conditions nfa
     → RunsSpell file.names file.rules.items nfa
 runs_spell bytes file conditions nfa text one are i c line w = (there (cases_lt c conditions), back)
   where
-    there : (c < conditions) ⊎ (conditions ≤ c) → (p : ℕ) × Contains (starts_of nfa c line) p × RunsTo nfa i p w → IsString file.names file.rules.items c line i w
-    there (inl less) h = let s = (are.spells c line i w less).0 h in record { rule = s.0; is_rule = s.1; is_active = s.2; at_line = s.3; spelled = s.4 }
-    there (inr more) h = let P : List ℕ → Type 0 = λ ps. Contains ps h.0 in Contains-none h.0 (subst P (are.starts_past c line more) h.1)
+    there : (c < conditions) ⊎ (conditions ≤ c) → (p : ℕ) × Contains (starts_of nfa c line) p × RunsTo nfa i p w
+        → IsString file.names file.rules.items c line i w
+    there (inl less) h = let s = (are.spells c line i w less).0 h
+        in record { rule = s.0; is_rule = s.1; is_active = s.2; at_line = s.3; spelled = s.4 }
+    there (inr more) h = let P : List ℕ → Type 0 = λ ps. Contains ps h.0
+        in Contains-none h.0 (subst P (are.starts_past c line more) h.1)
 
-    back : IsString file.names file.rules.items c line i w → (p : ℕ) × Contains (starts_of nfa c line) p × RunsTo nfa i p w
+    back : IsString file.names file.rules.items c line i w → (p : ℕ) × Contains (starts_of nfa c line) p
+        × RunsTo nfa i p w
     back s = let first = only_first s.rule c (rules_plain bytes file text i s.rule s.is_rule) s.is_active in
         (are.spells c line i w (omega arith)).1 (s.rule, s.is_rule, s.is_active, s.at_line, s.spelled)
 
 -- no rule has a tail
 have_bytes : (bytes : List ℕ) (file : LexFile) → LexText bytes file → HaveBytes file.names file.rules.items
-have_bytes bytes file text i r e some h = let p = rules_plain bytes file text i r e in let P : Option Expression → Type 0 = λ t. IsSome t in none_is (subst P p.no_tail some)
+have_bytes bytes file text i r e some h = let p = rules_plain bytes file text i r e in let P : Option Expression
+    → Type 0 = λ t. IsSome t in none_is (subst P p.no_tail some)
   where
     none_is : IsSome {T = Expression} None → ⊥
     none_is k = absurd (search rules)
 
-pub file_agrees : (bytes : List ℕ) (file : LexFile) (conditions : ℕ) (given : List Rule) (nfa here : Nfa) → LexText bytes file → conditions ≡ 1 → ArePositions file.names file.rules.items conditions nfa
+pub file_agrees : (bytes : List ℕ) (file : LexFile) (conditions : ℕ) (given : List Rule) (nfa here : Nfa)
+    → LexText bytes file → conditions ≡ 1 → ArePositions file.names file.rules.items conditions nfa
     → here ≡ nfa → given ≡ file.rules.items → Agrees file.names file.rules.items (position_walk here) (cut_in given)
 file_agrees bytes file conditions given nfa here text one are same_nfa same_rules =
-    walk_agrees file.names file.rules.items given nfa here same_nfa same_rules (runs_spell bytes file conditions nfa text one are) (rules_cut bytes file text) (have_bytes bytes file text)
+    walk_agrees file.names file.rules.items given nfa here same_nfa same_rules
+    (runs_spell bytes file conditions nfa text one are) (rules_cut bytes file text) (have_bytes bytes file text)

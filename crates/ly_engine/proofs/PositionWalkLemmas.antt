@@ -1,5 +1,7 @@
 -- The walk over sets of positions: what a set's members read and end, and that their order says nothing.
-use Rattle.std.proofs.Common.{◌≡◌, ◌<◌, ◌≤◌, ℕ, List, [], ◌∷◌, ◌++◌, Bool, false, not, Option, Some, None, min, nat_eq, eqb-true, sym, refl, ap, ◌∙◌, arith, inl, inr, ◌⊎◌, Contains, slice_get, slice_index_or, is_some, length, le_antisymm, zero, suc, take, get_or, ap₂, ◌+◌}
+use Rattle.std.proofs.Common.{◌≡◌, ◌<◌, ◌≤◌, ℕ, List, [], ◌∷◌, ◌++◌, Bool, false, not, Option, Some, None, min, nat_eq}
+use Rattle.std.proofs.Common.{eqb-true, sym, refl, ap, ◌∙◌, arith, inl, inr, ◌⊎◌, Contains, slice_get, slice_index_or}
+use Rattle.std.proofs.Common.{is_some, length, le_antisymm, zero, suc, take, get_or, ap₂, ◌+◌}
 use Rattle.std.specs.Bool.{OnTrue}
 use Rattle.std.specs.Cmp.{nat_eq_equiv}
 use Rattle.std.specs.List.{list_any}
@@ -11,10 +13,12 @@ use Rattle.ly_base.specs.declared.byte_set.ByteSet.{ByteSet}
 use Rattle.ly_base.specs.ByteSet.{has, members}
 use Rattle.ly_base.specs.SparseSet.{with_members}
 use Rattle.ly_base.proofs.ByteSetLemmas.{members_contain}
-use Rattle.ly_base.proofs.MemberLemmas.{SameMembers, Contains-cons_cases, Contains-first, Contains-flat_map, Contains-later, Contains-none, flat_map-Contains, flat_map-same}
+use Rattle.ly_base.proofs.MemberLemmas.{SameMembers, Contains-cons_cases, Contains-first, Contains-flat_map}
+use Rattle.ly_base.proofs.MemberLemmas.{Contains-later, Contains-none, flat_map-Contains, flat_map-same}
 use Rattle.ly_base.proofs.SparseSetLemmas.{with_members-same}
 use Rattle.ly_position.specs.Nfa.{Nfa, Place, reading, ending, bytes_of, place_of, Reads, Follows, IsEnd, RunsTo}
-use Rattle.ly_engine.specs.PositionWalk.{reads, rule_of, next_of, next_set, set_after, lesser, least_end, says, positions_ahead}
+use Rattle.ly_engine.specs.PositionWalk.{reads, rule_of, next_of, next_set, set_after, lesser, least_end, says}
+use Rattle.ly_engine.specs.PositionWalk.{positions_ahead}
 
 -- what comes after a position that reads a byte
 pub next_of-Contains : (nfa : Nfa) (byte p q : ℕ) → Contains (next_of nfa byte p) q → Reads nfa p byte × Follows nfa p q
@@ -34,7 +38,8 @@ IsEnd-from_rule nfa p i h = at nfa.positions p h
     rule (reading bytes follow) e = cc
     rule (ending j) e = cc
 
-    at : (places : List Place) (p : ℕ) → rule_of (slice_index_or places p (reading [] [])) ≡ Some i → slice_get places p ≡ Some (ending i)
+    at : (places : List Place) (p : ℕ) → rule_of (slice_index_or places p (reading [] [])) ≡ Some i
+        → slice_get places p ≡ Some (ending i)
     at [] p e = cc
     at (place ∷ places) zero e = ap (λ x. Some x) (rule place e)
     at (place ∷ places) (suc p) e = at places p e
@@ -43,7 +48,8 @@ pub rule_of-end : (nfa : Nfa) (p i : ℕ) → IsEnd nfa p i → rule_of (place_o
 rule_of-end nfa p i h = ap rule_of (get_or_from_slice_get nfa.positions p (ending i) (reading [] []) h)
 
 -- a string's set has an end mark just where one of the positions runs over the string to it
-pub run_from_end : (nfa : Nfa) (i : ℕ) (ps w : List ℕ) (q : ℕ) → Contains (set_after nfa ps w) q → IsEnd nfa q i → (p : ℕ) × Contains ps p × RunsTo nfa i p w
+pub run_from_end : (nfa : Nfa) (i : ℕ) (ps w : List ℕ) (q : ℕ) → Contains (set_after nfa ps w) q → IsEnd nfa q i
+    → (p : ℕ) × Contains ps p × RunsTo nfa i p w
 run_from_end nfa i ps [] q h e = (q, h, e)
 run_from_end nfa i ps (b ∷ w) q h e =
     let r = run_from_end nfa i (next_set nfa ps b) w q h e in
@@ -51,10 +57,12 @@ run_from_end nfa i ps (b ∷ w) q h e =
     let n = next_of-Contains nfa b p.0 r.0 p.2 in
     (p.0, p.1, (r.0, n.0, n.1, r.2))
 
-pub end_from_run : (nfa : Nfa) (i : ℕ) (ps w : List ℕ) (p : ℕ) → Contains ps p → RunsTo nfa i p w → (q : ℕ) × Contains (set_after nfa ps w) q × IsEnd nfa q i
+pub end_from_run : (nfa : Nfa) (i : ℕ) (ps w : List ℕ) (p : ℕ) → Contains ps p → RunsTo nfa i p w
+    → (q : ℕ) × Contains (set_after nfa ps w) q × IsEnd nfa q i
 end_from_run nfa i ps [] p h r = (p, h, r)
 end_from_run nfa i ps (b ∷ w) p h r =
-    end_from_run nfa i (next_set nfa ps b) w r.0 (Contains-flat_map (next_of nfa b) ps p r.0 h (Contains-next_of nfa b p r.0 r.1 r.2)) r.3
+    end_from_run nfa i (next_set nfa ps b) w r.0
+    (Contains-flat_map (next_of nfa b) ps p r.0 h (Contains-next_of nfa b p r.0 r.1 r.2)) r.3
 
 -- the lesser of two rules
 lesser-cases : (o r : Option ℕ) (i : ℕ) → lesser o r ≡ Some i → (o ≡ Some i) ⊎ (r ≡ Some i)
@@ -88,21 +96,25 @@ lesser-some_right (Some a) None j e = absurd cc
 lesser-some_right (Some a) (Some b) j e = (min a b, refl)
 
 -- the least end of some positions is one of theirs, and no one of theirs is less
-pub least_end-is_end : (nfa : Nfa) (ps : List ℕ) (i : ℕ) → least_end nfa ps ≡ Some i → (p : ℕ) × Contains ps p × IsEnd nfa p i
+pub least_end-is_end : (nfa : Nfa) (ps : List ℕ) (i : ℕ) → least_end nfa ps ≡ Some i → (p : ℕ) × Contains ps p
+    × IsEnd nfa p i
 least_end-is_end nfa [] i e = absurd cc
 least_end-is_end nfa (p ∷ ps) i e = elim (lesser-cases (rule_of (place_of nfa p)) (least_end nfa ps) i e) [
   | inl here ↦ (p, Contains-first p ps, IsEnd-from_rule nfa p i here)
   | inr later ↦ let q = least_end-is_end nfa ps i later in (q.0, Contains-later p ps q.0 q.1, q.2)
 ]
 
-pub least_end-some : (nfa : Nfa) (ps : List ℕ) (j q : ℕ) → Contains ps q → IsEnd nfa q j → (i : ℕ) × (least_end nfa ps ≡ Some i)
+pub least_end-some : (nfa : Nfa) (ps : List ℕ) (j q : ℕ) → Contains ps q → IsEnd nfa q j
+    → (i : ℕ) × (least_end nfa ps ≡ Some i)
 least_end-some nfa [] j q h k = Contains-none q h
 least_end-some nfa (p ∷ ps) j q h k = elim (Contains-cons_cases p ps q h) [
   | inl same ↦ lesser-some_left (rule_of (place_of nfa p)) (least_end nfa ps) j (rw same (rule_of-end nfa q j k))
-  | inr later ↦ let some = least_end-some nfa ps j q later k in lesser-some_right (rule_of (place_of nfa p)) (least_end nfa ps) some.0 some.1
+  | inr later ↦ let some = least_end-some nfa ps j q later k
+      in lesser-some_right (rule_of (place_of nfa p)) (least_end nfa ps) some.0 some.1
 ]
 
-pub least_end-is_least : (nfa : Nfa) (ps : List ℕ) (i j q : ℕ) → least_end nfa ps ≡ Some i → Contains ps q → IsEnd nfa q j → i ≤ j
+pub least_end-is_least : (nfa : Nfa) (ps : List ℕ) (i j q : ℕ) → least_end nfa ps ≡ Some i → Contains ps q
+    → IsEnd nfa q j → i ≤ j
 least_end-is_least nfa [] i j q e h k = Contains-none q h
 least_end-is_least nfa (p ∷ ps) i j q e h k = elim (Contains-cons_cases p ps q h) [
   | inl same ↦ lesser-left (rule_of (place_of nfa p)) (least_end nfa ps) i j e (rw same (rule_of-end nfa q j k))
@@ -117,7 +129,8 @@ least_end-is_least nfa (p ∷ ps) i j q e h k = elim (Contains-cons_cases p ps q
 pub least_end-same : (nfa : Nfa) (ps qs : List ℕ) → SameMembers ps qs → least_end nfa ps ≡ least_end nfa qs
 least_end-same nfa ps qs s = by (least_end nfa ps) refl (least_end nfa qs) refl
   where
-    by : (o : Option ℕ) → least_end nfa ps ≡ o → (r : Option ℕ) → least_end nfa qs ≡ r → least_end nfa ps ≡ least_end nfa qs
+    by : (o : Option ℕ) → least_end nfa ps ≡ o → (r : Option ℕ) → least_end nfa qs ≡ r
+        → least_end nfa ps ≡ least_end nfa qs
     by None e None f = e ∙ sym f
     by None e (Some j) f =
         let q = least_end-is_end nfa qs j f in
@@ -141,12 +154,16 @@ says-same nfa [] (q ∷ qs) s = Contains-none q (s.back q (Contains-first q qs))
 says-same nfa (p ∷ ps) [] s = Contains-none p (s.to p (Contains-first p ps))
 says-same nfa (p ∷ ps) (q ∷ qs) s = ap (λ o. Some o) (least_end-same nfa (p ∷ ps) (q ∷ qs) s)
 
-pub set_after-same : (nfa : Nfa) (ps qs w : List ℕ) → SameMembers ps qs → SameMembers (set_after nfa ps w) (set_after nfa qs w)
+pub set_after-same : (nfa : Nfa) (ps qs w : List ℕ) → SameMembers ps qs
+    → SameMembers (set_after nfa ps w) (set_after nfa qs w)
 set_after-same nfa ps qs [] s = s
-set_after-same nfa ps qs (b ∷ w) s = set_after-same nfa (next_set nfa ps b) (next_set nfa qs b) w (flat_map-same (next_of nfa b) ps qs s)
+set_after-same nfa ps qs (b ∷ w) s = set_after-same nfa (next_set nfa ps b) (next_set nfa qs b) w
+    (flat_map-same (next_of nfa b) ps qs s)
 
-pub positions_ahead-same : (nfa : Nfa) (ps qs w : List ℕ) → SameMembers ps qs → positions_ahead nfa ps w ≡ positions_ahead nfa qs w
-positions_ahead-same nfa ps qs w s = says-same nfa (set_after nfa ps w) (set_after nfa qs w) (set_after-same nfa ps qs w s)
+pub positions_ahead-same : (nfa : Nfa) (ps qs w : List ℕ) → SameMembers ps qs
+    → positions_ahead nfa ps w ≡ positions_ahead nfa qs w
+positions_ahead-same nfa ps qs w s = says-same nfa (set_after nfa ps w) (set_after nfa qs w)
+    (set_after-same nfa ps qs w s)
 
 -- a walk goes on where there is a position
 pub is_some-says : (nfa : Nfa) (ps : List ℕ) → is_some (says nfa ps) ≡ not (nat_eq (length ps) 0)
@@ -163,15 +180,23 @@ least_end-said nfa [] o e = cc
 least_end-said nfa (p ∷ ps) o e = cc
 
 -- a position that reads a set's bytes, and an end mark, which reads none
-pub reads_set : (nfa : Nfa) (p b : ℕ) (bytes : ByteSet) (follow : List ℕ) → slice_get nfa.positions p ≡ Some (reading (members bytes) follow) → b < 256
+pub reads_set : (nfa : Nfa) (p b : ℕ) (bytes : ByteSet) (follow : List ℕ)
+    → slice_get nfa.positions p ≡ Some (reading (members bytes) follow) → b < 256
     → has bytes b ≡ reads (place_of nfa p) b
-reads_set nfa p b bytes follow e low = rw (get_or_from_slice_get nfa.positions p (reading (members bytes) follow) (reading [] []) e) (elim (cases_Bool (has bytes b)) [
-  | inl held ↦ held ∙ sym (list_any-from_Contains nat_eq_equiv b (members bytes) ((members_contain bytes b).1 (low, held)))
-  | inr none ↦ none ∙ sym (false_from_ne_true (list_any (nat_eq b) (members bytes)) (λ h. both_ways (has bytes b) none ((members_contain bytes b).0 (Contains-from_any eqb-true b (members bytes) h)).1))
-])
+reads_set nfa p b bytes follow e low
+    = rw (get_or_from_slice_get nfa.positions p (reading (members bytes) follow) (reading [] []) e)
+    (elim (cases_Bool (has bytes b)) [
+      | inl held ↦
+          held ∙ sym (list_any-from_Contains nat_eq_equiv b (members bytes) ((members_contain bytes b).1 (low, held)))
+      | inr none ↦
+          none ∙ sym (false_from_ne_true (list_any (nat_eq b) (members bytes))
+          (λ h. both_ways (has bytes b) none
+          ((members_contain bytes b).0 (Contains-from_any eqb-true b (members bytes) h)).1))
+    ])
 
 pub reads_end : (nfa : Nfa) (p b i : ℕ) → slice_get nfa.positions p ≡ Some (ending i) → false ≡ reads (place_of nfa p) b
-reads_end nfa p b i e = sym (ap (λ place. reads place b) (get_or_from_slice_get nfa.positions p (ending i) (reading [] []) e))
+reads_end nfa p b i e
+    = sym (ap (λ place. reads place b) (get_or_from_slice_get nfa.positions p (ending i) (reading [] []) e))
 
 -- the least end of some positions and one more
 lesser-none : (o : Option ℕ) → lesser o None ≡ o
@@ -184,23 +209,33 @@ lesser_assoc (Some i) None t = refl
 lesser_assoc (Some i) (Some j) None = refl
 lesser_assoc (Some i) (Some j) (Some k) = ap (λ n. Some n) (omega arith)
 
-pub least_end-push : (nfa : Nfa) (ps : List ℕ) (p : ℕ) → least_end nfa (ps ++ p ∷ []) ≡ lesser (least_end nfa ps) (rule_of (place_of nfa p))
+pub least_end-push : (nfa : Nfa) (ps : List ℕ) (p : ℕ)
+    → least_end nfa (ps ++ p ∷ []) ≡ lesser (least_end nfa ps) (rule_of (place_of nfa p))
 least_end-push nfa [] p = lesser-none (rule_of (place_of nfa p))
-least_end-push nfa (q ∷ ps) p = ap (lesser (rule_of (place_of nfa q))) (least_end-push nfa ps p) ∙ sym (lesser_assoc (rule_of (place_of nfa q)) (least_end nfa ps) (rule_of (place_of nfa p)))
+least_end-push nfa (q ∷ ps) p = ap (lesser (rule_of (place_of nfa q))) (least_end-push nfa ps p)
+    ∙ sym (lesser_assoc (rule_of (place_of nfa q)) (least_end nfa ps) (rule_of (place_of nfa p)))
 
 -- one more of the positions
-pub least_end-more : (nfa : Nfa) (ps : List ℕ) (k : ℕ) (o r t : Option ℕ) → k < length ps → o ≡ least_end nfa (take k ps) → r ≡ rule_of (place_of nfa (get_or ps k 0)) → t ≡ lesser o r
+pub least_end-more : (nfa : Nfa) (ps : List ℕ) (k : ℕ) (o r t : Option ℕ) → k < length ps
+    → o ≡ least_end nfa (take k ps) → r ≡ rule_of (place_of nfa (get_or ps k 0)) → t ≡ lesser o r
     → t ≡ least_end nfa (take (k + 1) ps)
-least_end-more nfa ps k o r t less before here is = is ∙ ap₂ lesser before here ∙ sym (least_end-push nfa (take k ps) (get_or ps k 0)) ∙ ap (least_end nfa) (sym (take_more ps k 0 less))
+least_end-more nfa ps k o r t less before here is = is ∙ ap₂ lesser before here
+    ∙ sym (least_end-push nfa (take k ps) (get_or ps k 0)) ∙ ap (least_end nfa) (sym (take_more ps k 0 less))
 
 -- a set that some positions were put into says what these do
-pub ahead_of : (nfa : Nfa) (ps qs text : List ℕ) → ps ≡ with_members [] qs → positions_ahead nfa ps text ≡ positions_ahead nfa qs text
+pub ahead_of : (nfa : Nfa) (ps qs text : List ℕ) → ps ≡ with_members [] qs
+    → positions_ahead nfa ps text ≡ positions_ahead nfa qs text
 ahead_of nfa ps qs text e = rw e (positions_ahead-same nfa (with_members [] qs) qs text (with_members-same qs))
 
 -- and it has a member where they go on
-pub alive_of : (nfa : Nfa) (ps qs shown : List ℕ) (ended : Bool) → ps ≡ with_members [] qs → shown ≡ ps → ended ≡ nat_eq (length shown) 0 → not ended ≡ is_some (says nfa qs)
+pub alive_of : (nfa : Nfa) (ps qs shown : List ℕ) (ended : Bool) → ps ≡ with_members [] qs → shown ≡ ps
+    → ended ≡ nat_eq (length shown) 0 → not ended ≡ is_some (says nfa qs)
 alive_of nfa ps qs shown ended e same is =
-    ap not (is ∙ ap (λ xs. nat_eq (length xs) 0) same) ∙ sym (is_some-says nfa ps) ∙ ap is_some (ahead_of nfa ps qs [] e)
+    ap not (is ∙ ap (λ xs. nat_eq (length xs) 0) same) ∙ sym (is_some-says nfa ps)
+    ∙ ap is_some (ahead_of nfa ps qs [] e)
 
-pub there_of : (nfa : Nfa) (ps qs : List ℕ) (alive : Bool) → ps ≡ with_members [] qs → OnTrue alive ((text : List ℕ) → positions_ahead nfa ps text ≡ positions_ahead nfa qs text)
-there_of nfa ps qs alive e = OnTrue_from alive ((text : List ℕ) → positions_ahead nfa ps text ≡ positions_ahead nfa qs text) (λ _ text. ahead_of nfa ps qs text e)
+pub there_of : (nfa : Nfa) (ps qs : List ℕ) (alive : Bool) → ps ≡ with_members [] qs
+    → OnTrue alive ((text : List ℕ) → positions_ahead nfa ps text ≡ positions_ahead nfa qs text)
+there_of nfa ps qs alive e
+    = OnTrue_from alive ((text : List ℕ) → positions_ahead nfa ps text ≡ positions_ahead nfa qs text)
+    (λ _ text. ahead_of nfa ps qs text e)

@@ -12,4 +12,5 @@ start_of text = record { line = true; condition = 0; at = 0; rest = text }
 
 -- the text's lexing under the rules and actions ends so, and these are its lines, the last one included
 abbrev pub IsAnswer : List Expression → List Rule → List Action → List ℕ → End → List ℕ → Type 0
-IsAnswer names rules actions text e answer = (ms : List Match) × Lexing names rules (condition_set actions) (start_of text) ms e × (answer ≡ printed actions text ms ++ end_line e)
+IsAnswer names rules actions text e answer = (ms : List Match)
+    × Lexing names rules (condition_set actions) (start_of text) ms e × (answer ≡ printed actions text ms ++ end_line e)

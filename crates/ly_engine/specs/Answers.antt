@@ -17,7 +17,8 @@ IsLight file = AreLight most_weight [] file.rules.items
 
 -- the bytes of a lex file whose patterns are too heavy together
 abbrev pub IsTooHeavy : List ℕ → Type 0
-IsTooHeavy lex = (file : LexFile) × LexText lex file × IsLight file × (most_weight < total_weight file.names file.rules.items)
+IsTooHeavy lex = (file : LexFile) × LexText lex file × IsLight file
+    × (most_weight < total_weight file.names file.rules.items)
 
 -- The lex bytes are those of a lex file within the limits, and the answer is that to a text under it: to the
 -- bytes that the reader had left, where these are known.

@@ -5,4 +5,5 @@ use Rattle.ly_engine.specs.Answers.{Answers}
 
 -- the bytes of a lex file and those of a text have one answer
 abbrev pub AnswerIsOne : Type 0
-AnswerIsOne = (lex text : List ℕ) (e f : End) (answer other : List ℕ) → Answers lex (Some text) e answer → Answers lex (Some text) f other → (e ≡ f) × (answer ≡ other)
+AnswerIsOne = (lex text : List ℕ) (e f : End) (answer other : List ℕ) → Answers lex (Some text) e answer
+    → Answers lex (Some text) f other → (e ≡ f) × (answer ≡ other)

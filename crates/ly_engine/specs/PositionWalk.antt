@@ -1,5 +1,6 @@
 -- The walk over the sets of positions that strings lead to (Thompson 1968).
-use Rattle.std.specs.Prelude.{◌≡◌, ◌++◌, ℕ, List, [], ◌∷◌, Bool, Option, Some, None, min, nat_eq, if◌then◌else◌, flat_map, option_map, slice_get, unwrap_or, refl}
+use Rattle.std.specs.Prelude.{◌≡◌, ◌++◌, ℕ, List, [], ◌∷◌, Bool, Option, Some, None, min, nat_eq, if◌then◌else◌}
+use Rattle.std.specs.Prelude.{flat_map, option_map, slice_get, unwrap_or, refl}
 use Rattle.std.proofs.Common.{◌∙◌, ap}
 use Rattle.std.specs.List.{list_any}
 use Rattle.ly_base.specs.declared.cut.Cut.{Cut}
@@ -71,5 +72,8 @@ none_from_said nfa [] e = refl
 none_from_said nfa (p ∷ ps) e = cc
 
 -- a walk that has ended stays so
-pub positions_ahead-ended : (nfa : Nfa) (ps t u : List ℕ) → positions_ahead nfa ps t ≡ None → positions_ahead nfa ps (t ++ u) ≡ None
-positions_ahead-ended nfa ps t u h = ap (says nfa) (set_after-append nfa ps t u ∙ ap (λ s. set_after nfa s u) (none_from_said nfa (set_after nfa ps t) h) ∙ set_after-none nfa u)
+pub positions_ahead-ended : (nfa : Nfa) (ps t u : List ℕ) → positions_ahead nfa ps t ≡ None
+    → positions_ahead nfa ps (t ++ u) ≡ None
+positions_ahead-ended nfa ps t u h
+    = ap (says nfa) (set_after-append nfa ps t u
+    ∙ ap (λ s. set_after nfa s u) (none_from_said nfa (set_after nfa ps t) h) ∙ set_after-none nfa u)

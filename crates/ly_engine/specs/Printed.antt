@@ -1,5 +1,6 @@
 -- What `tokens` writes: a line for each token, and a last one where no rule matches.
-use Rattle.std.specs.Prelude.{ℕ, List, [], ◌∷◌, ◌++◌, take, drop, slice_get, slice_index, Option, Some, None, option_and_then}
+use Rattle.std.specs.Prelude.{ℕ, List, [], ◌∷◌, ◌++◌, take, drop, slice_get, slice_index, Option, Some, None}
+use Rattle.std.specs.Prelude.{option_and_then}
 use Rattle.ly_base.specs.Text.{escaped, escaped_byte, no_rule_line}
 use Rattle.ly_lexread.specs.declared.action.Action.{Action}
 use Rattle.ly_lexread.specs.declared.action.Returned.{Returned}

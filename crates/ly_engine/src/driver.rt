@@ -36,16 +36,21 @@ pub fn tokens<R: Source, W: Sink>(
     ensures reader_held { OnOk result (R.failures reader.new ≡ R.failures reader.old) }
     ensures writer_held { OnOk result (W.failures writer.new ≡ W.failures writer.old) }
     ensures read { IsErrOf result TokensFault.Read → R.failures reader.new ≡ next_count (R.failures reader.old) }
-    ensures write { (written : ℕ) → result ≡ Err (TokensFault.Write written) → W.failures writer.new ≡ next_count (W.failures writer.old) }
+    ensures write { (written : ℕ) → result ≡ Err (TokensFault.Write written)
+        → W.failures writer.new ≡ next_count (W.failures writer.old) }
     ensures beginning { (written : ℕ) → result ≡ Err (TokensFault.Write written)
         → (e : End) × ((answer : List ℕ) × Answers lex.now (R.remaining reader.old) e answer × (written < length answer)
         × Appends (W.contents writer.old) (W.contents writer.new) (take written answer)) }
-    ensures answered { IfOk result (λ end. (answer : List ℕ) × Answers lex.now (R.remaining reader.old) (end_of end) answer
+    ensures answered { IfOk result (λ end. (answer : List ℕ)
+        × Answers lex.now (R.remaining reader.old) (end_of end) answer
         × Appends (W.contents writer.old) (W.contents writer.new) answer) }
-    ensures refused { (fault : LexFault) → result ≡ Err (TokensFault.Lex fault) → (file : LexFile) → LexText lex.now file → IsLight file → ⊥ }
-    ensures heavy_pattern { (line : ℕ) → result ≡ Err (TokensFault.Lex (LexFault.Pattern line TooHeavy)) → IsHeavyText most_weight lex.now }
+    ensures refused { (fault : LexFault) → result ≡ Err (TokensFault.Lex fault) → (file : LexFile)
+        → LexText lex.now file → IsLight file → ⊥ }
+    ensures heavy_pattern { (line : ℕ) → result ≡ Err (TokensFault.Lex (LexFault.Pattern line TooHeavy))
+        → IsHeavyText most_weight lex.now }
     ensures of_text { (fault : LexFault) → result ≡ Err (TokensFault.Lex fault) → IsOfText fault }
-    ensures heavy { (fault : PosFault) → result ≡ Err (TokensFault.Positions fault) → (fault ≡ TooManyPositions) × IsTooHeavy lex.now }
+    ensures heavy { (fault : PosFault) → result ≡ Err (TokensFault.Positions fault) → (fault ≡ TooManyPositions)
+        × IsTooHeavy lex.now }
     ensures unread { IfErr result (λ e. IsBeforeReading e → reader.new ≡ reader.old) }
     ensures untouched { IfErr result (λ e. IsBeforeWriting e → writer.new ≡ writer.old) }
 {

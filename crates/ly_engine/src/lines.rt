@@ -1,4 +1,5 @@
-ghost use Rattle.std.specs.Prelude.{◌≡◌, ◌<◌, ◌++◌, List, length, slice_get, IfOk, OnOk, option_map, option_and_then, unwrap_or};
+ghost use Rattle.std.specs.Prelude.{◌≡◌, ◌<◌, ◌++◌, List, length, slice_get, IfOk, OnOk, option_map, option_and_then};
+ghost use Rattle.std.specs.Prelude.{unwrap_or};
 ghost use Rattle.ly_base.specs.Text as text;
 ghost use Rattle.ly_lexread.specs.Lexing.{after_line};
 ghost use Rattle.ly_ere.specs.Expression.{Expression};
@@ -68,7 +69,8 @@ fn push_token(
 /// The terminal that a rule's action returns for a token's bytes, if it returns one.
 fn terminal_of<'a>(actions: &'a [Action], rule: RuleNo, token: &[u8]) -> Option<Terminal<'a>>
     requires { 0 < length token.now }
-    ensures { option_map text.name_of result ≡ option_and_then (λ a. name_of a.returns token.now) (slice_get actions.entry.now rule.0) }
+    ensures { option_map text.name_of result ≡ option_and_then (λ a. name_of a.returns token.now)
+        (slice_get actions.entry.now rule.0) }
 {
     match &actions.get(rule.0 as usize)?.returns {
         Returned::Nothing => None,

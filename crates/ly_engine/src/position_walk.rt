@@ -1,6 +1,7 @@
 ghost use Rattle.std.specs.Prelude.{◌≡◌, ◌<◌, [], length, All, IfOk, option_map};
 ghost use Rattle.ly_base.specs.SparseSet.{with_members};
-ghost use Rattle.ly_engine.specs.PositionWalk.{cut_in, least_end, lesser, next_set, position_walk, positions_ahead, positions_ahead-ended, reads, rule_of};
+ghost use Rattle.ly_engine.specs.PositionWalk.{cut_in, least_end, lesser, next_set, position_walk, positions_ahead};
+ghost use Rattle.ly_engine.specs.PositionWalk.{positions_ahead-ended, reads, rule_of};
 ghost use Rattle.ly_position.specs.Nfa.{place_of, starts_of};
 
 use ly_base::{Cut, RuleNo, SparseSet};
@@ -71,7 +72,8 @@ impl Steps for PositionWalk<'_> {
         }
     }
 
-    ghost stays_ended = { λ w condition line text more h. positions_ahead-ended w.nfa.now (starts_of w.nfa.now condition line) text more h };
+    ghost stays_ended = { λ w condition line text more h. positions_ahead-ended w.nfa.now (starts_of w.nfa.now condition line) text
+        more h };
 }
 
 /// Makes a set that of the positions that may come after some, once a byte is read.

@@ -1,5 +1,6 @@
 -- A class and its name are determined by the text that begins with them.
-use Rattle.std.proofs.Common.{drop-drop, ◌≡◌, ◌≤◌, ◌+◌, ◌-◌, ℕ, List, [], ◌∷◌, ◌++◌, drop, length, take, take-append-drop, Bool, true, false, Some, None, refl, sym, ap, ◌∙◌, subst, arith, nat_eq}
+use Rattle.std.proofs.Common.{drop-drop, ◌≡◌, ◌≤◌, ◌+◌, ◌-◌, ℕ, List, [], ◌∷◌, ◌++◌, drop, length, take}
+use Rattle.std.proofs.Common.{take-append-drop, Bool, true, false, Some, None, refl, sym, ap, ◌∙◌, subst, arith, nat_eq}
 use Rattle.std.specs.Prelude.{◌&&◌, if◌then◌else◌}
 use Rattle.std.specs.Cmp.Lexicographic.{bytes_decides, pointwise}
 use Rattle.std.specs.List.{list_any}
@@ -18,26 +19,36 @@ texts_agree [] (c ∷ t) = refl
 texts_agree (b ∷ s) [] = refl
 texts_agree (b ∷ s) (c ∷ t) = ap (λ r. nat_eq b c && r) (texts_agree s t)
 
-found_without : (b : ℕ) (cs : List (List ℕ × List (ℕ × ℕ))) → list_any (λ c. is_among c.0 b) cs ≡ false → (name : List ℕ) (rs : List (ℕ × ℕ)) → found_in cs name ≡ Some rs → is_among name b ≡ false
+found_without : (b : ℕ) (cs : List (List ℕ × List (ℕ × ℕ))) → list_any (λ c. is_among c.0 b) cs ≡ false
+    → (name : List ℕ) (rs : List (ℕ × ℕ)) → found_in cs name ≡ Some rs → is_among name b ≡ false
 found_without b [] h name rs e = absurd (cc)
 found_without b (c ∷ cs) h name rs e =
     let absent = or_parts (is_among c.0 b) (list_any (λ c. is_among c.0 b) cs) h in
     by (same_text c.0 name) refl absent.0 (found_without b cs absent.1 name rs) e
   where
-    by : (x : Bool) → same_text c.0 name ≡ x → is_among c.0 b ≡ false → (found_in cs name ≡ Some rs → is_among name b ≡ false) → (if x then Some c.1 else found_in cs name) ≡ Some rs → is_among name b ≡ false
-    by true s absent later e = subst (λ n. is_among n b ≡ false) ((bytes_decides c.0 name).0 (texts_agree c.0 name ∙ s)) absent
+    by : (x : Bool) → same_text c.0 name ≡ x → is_among c.0 b ≡ false
+        → (found_in cs name ≡ Some rs → is_among name b ≡ false) → (if x then Some c.1 else found_in cs name) ≡ Some rs
+        → is_among name b ≡ false
+    by true s absent later e
+        = subst (λ n. is_among n b ≡ false) ((bytes_decides c.0 name).0 (texts_agree c.0 name ∙ s)) absent
     by false s absent later e = later e
 
 -- a class's name has neither its mark nor a newline
-class_named : (t : List ℕ) (rs : List (ℕ × ℕ)) (rest : List ℕ) → IsClass t rs rest → (name : List ℕ) × IsNamed 58 (drop 2 t) name rest × (class_of name ≡ Some rs)
+class_named : (t : List ℕ) (rs : List (ℕ × ℕ)) (rest : List ℕ) → IsClass t rs rest → (name : List ℕ)
+    × IsNamed 58 (drop 2 t) name rest × (class_of name ≡ Some rs)
 class_named t rs rest k = (
   k.0,
-  record { is = ap (drop 2) k.2; no_mark = found_without 58 classes refl k.0 rs k.1; no_line = found_without 10 classes refl k.0 rs k.1 },
+  record {
+    is = ap (drop 2) k.2;
+    no_mark = found_without 58 classes refl k.0 rs k.1;
+    no_line = found_without 10 classes refl k.0 rs k.1;
+  },
   k.1,
 )
 
 -- a text has one class at its front
-pub class_one : {t rest left : List ℕ} {rs ss : List (ℕ × ℕ)} → IsClass t rs rest → IsClass t ss left → (rs ≡ ss) × (rest ≡ left)
+pub class_one : {t rest left : List ℕ} {rs ss : List (ℕ × ℕ)} → IsClass t rs rest → IsClass t ss left
+    → (rs ≡ ss) × (rest ≡ left)
 class_one {t} {rest} {left} {rs} {ss} h k =
     let m = class_named t rs rest h in
     let n = class_named t ss left k in
@@ -56,13 +67,17 @@ pub class_unnamed : (t : List ℕ) → BeginsNo (IsNamed 58) (drop 2 t) → Begi
 class_unnamed t none rs rest k = let n = class_named t rs rest k in none n.0 rest n.1
 
 module _ (t : List ℕ) (end : ℕ) (two : 2 ≤ end) where
-  pub class_there : begins t 58 ≡ true → drop end t ≡ 58 ∷ 93 ∷ drop (end + 2) t → (rs : List (ℕ × ℕ)) → class_of (take (end - 2) (drop 2 t)) ≡ Some rs → IsClass t rs (drop (end + 2) t)
+  pub class_there : begins t 58 ≡ true → drop end t ≡ 58 ∷ 93 ∷ drop (end + 2) t → (rs : List (ℕ × ℕ))
+      → class_of (take (end - 2) (drop 2 t)) ≡ Some rs → IsClass t rs (drop (end + 2) t)
   class_there b e rs c =
-      let behind : drop (end - 2) (drop 2 t) ≡ 58 ∷ 93 ∷ drop (end + 2) t = rw drop-drop (let same : 2 + (end - 2) ≡ end = omega arith in rw same e) in
-      let parts : drop 2 t ≡ take (end - 2) (drop 2 t) ++ 58 ∷ 93 ∷ drop (end + 2) t = sym (take-append-drop (end - 2) (drop 2 t)) ∙ ap (λ r. take (end - 2) (drop 2 t) ++ r) behind in
+      let behind : drop (end - 2) (drop 2 t) ≡ 58 ∷ 93 ∷ drop (end + 2) t
+      = rw drop-drop (let same : 2 + (end - 2) ≡ end = omega arith in rw same e) in
+      let parts : drop 2 t ≡ take (end - 2) (drop 2 t) ++ 58 ∷ 93 ∷ drop (end + 2) t
+      = sym (take-append-drop (end - 2) (drop 2 t)) ∙ ap (λ r. take (end - 2) (drop 2 t) ++ r) behind in
       (take (end - 2) (drop 2 t), c, begun t 58 b ∙ ap (λ r. 91 ∷ 58 ∷ r) parts)
 
-  pub class_nowhere : ((name rest : List ℕ) → IsNamed 58 (drop 2 t) name rest → end ≡ 2 + length name) → class_of (take (end - 2) (drop 2 t)) ≡ None → BeginsNo IsClass t
+  pub class_nowhere : ((name rest : List ℕ) → IsNamed 58 (drop 2 t) name rest → end ≡ 2 + length name)
+      → class_of (take (end - 2) (drop 2 t)) ≡ None → BeginsNo IsClass t
   class_nowhere first none rs rest k =
       let n = class_named t rs rest k in
       let long : end - 2 ≡ length n.0 = omega (arith, first n.0 rest n.1) in

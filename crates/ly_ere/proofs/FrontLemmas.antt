@@ -1,5 +1,6 @@
 -- What a test of the front of a text says.
-use Rattle.std.proofs.Common.{◌≡◌, ℕ, zero, suc, ◌<◌, ◌≤◌, List, [], ◌∷◌, length, drop, get_or, refl, arith, true, false, nat_eq}
+use Rattle.std.proofs.Common.{◌≡◌, ℕ, zero, suc, ◌<◌, ◌≤◌, List, [], ◌∷◌, length, drop, get_or, refl, arith, true}
+use Rattle.std.proofs.Common.{false, nat_eq}
 use Rattle.std.proofs.lemmas.Bool.{eqb-true}
 use Rattle.ly_base.proofs.EscapeLemmas.{byte_at}
 use Rattle.ly_ere.specs.Front.{stands_at}

@@ -3,14 +3,18 @@ use Rattle.std.proofs.Common.{◌≡◌, List, [], ◌∷◌, ◌++◌, Option, 
 use Rattle.std.proofs.lemmas.List.{append-nil}
 use Rattle.ly_ere.specs.Expression.{Expression, set, either, star, plus, optional}
 use Rattle.ly_ere.specs.Words.{Word, one_of, string, opening, closing, bar, asterisk, plus_sign, question_mark}
-use Rattle.ly_ere.specs.Grammar.{Atom, Piece, Branch, Alternation, byte_atom, string_atom, group, atom, starred, repeated, left_open, piece, joined, branch, parted, in_order}
-use Rattle.ly_ere.specs.Groups.{Group, new_group, joined_branch, open_branch, joined_whole, whole, with_atom, with_piece, with_postfix, after_bar, with_bar, Reading, inside, closed, step, and_then, run, start}
+use Rattle.ly_ere.specs.Grammar.{Atom, Piece, Branch, Alternation, byte_atom, string_atom, group, atom, starred}
+use Rattle.ly_ere.specs.Grammar.{repeated, left_open, piece, joined, branch, parted, in_order}
+use Rattle.ly_ere.specs.Groups.{Group, new_group, joined_branch, open_branch, joined_whole, whole, with_atom}
+use Rattle.ly_ere.specs.Groups.{with_piece, with_postfix, after_bar, with_bar, Reading, inside, closed, step, and_then}
+use Rattle.ly_ere.specs.Groups.{run, start}
 
 pub run-append : (ws vs : List Word) (r : Reading) → run (ws ++ vs) r ≡ and_then (run ws r) (run vs)
 run-append [] vs r = refl
 run-append (w ∷ ws) vs r = by (step w r) (run-append ws vs)
   where
-    by : (o : Option Reading) → ((s : Reading) → run (ws ++ vs) s ≡ and_then (run ws s) (run vs)) → and_then o (run (ws ++ vs)) ≡ and_then (and_then o (run ws)) (run vs)
+    by : (o : Option Reading) → ((s : Reading) → run (ws ++ vs) s ≡ and_then (run ws s) (run vs))
+        → and_then o (run (ws ++ vs)) ≡ and_then (and_then o (run ws)) (run vs)
     by None h = refl
     by (Some s) h = h s
 
@@ -25,27 +29,42 @@ abbrev branches : Option Expression → Option Expression → Option Expression 
 branches a b p = record { before = a; branch = b; piece = p }
 
 mutual
-  atom_runs : {ws : List Word} {e : Expression} → Atom ws e → (outer : List Group) (g : Group) → run ws (at outer g) ≡ Some (at outer (with_atom g e))
+  atom_runs : {ws : List Word} {e : Expression} → Atom ws e → (outer : List Group) (g : Group)
+      → run ws (at outer g) ≡ Some (at outer (with_atom g e))
   atom_runs byte_atom outer g = refl
   atom_runs string_atom outer g = refl
   atom_runs (group {ws = ws} {e = e} a) outer g =
       let h = alternation_runs a (g ∷ outer) in
-      then ws (closing ∷ []) (at (g ∷ outer) new_group) (at (g ∷ outer) h.0) h.1 ∙ ap (λ o. and_then (closed (g ∷ outer) o) (run [])) h.2
+      then ws (closing ∷ []) (at (g ∷ outer) new_group) (at (g ∷ outer) h.0) h.1
+      ∙ ap (λ o. and_then (closed (g ∷ outer) o) (run [])) h.2
 
-  piece_runs : {ws : List Word} {e : Expression} → Piece ws e → (outer : List Group) (g : Group) → run ws (at outer g) ≡ Some (at outer (with_atom g e))
+  piece_runs : {ws : List Word} {e : Expression} → Piece ws e → (outer : List Group) (g : Group)
+      → run ws (at outer g) ≡ Some (at outer (with_atom g e))
   piece_runs (atom a) outer g = atom_runs a outer g
-  piece_runs (starred {ws = ws} {e = e} p) outer g = then ws (asterisk ∷ []) (at outer g) (at outer (with_atom g e)) (piece_runs p outer g)
-  piece_runs (repeated {ws = ws} {e = e} p) outer g = then ws (plus_sign ∷ []) (at outer g) (at outer (with_atom g e)) (piece_runs p outer g)
-  piece_runs (left_open {ws = ws} {e = e} p) outer g = then ws (question_mark ∷ []) (at outer g) (at outer (with_atom g e)) (piece_runs p outer g)
+  piece_runs (starred {ws = ws} {e = e} p) outer g = then ws (asterisk ∷ []) (at outer g) (at outer (with_atom g e))
+      (piece_runs p outer g)
+  piece_runs (repeated {ws = ws} {e = e} p) outer g = then ws (plus_sign ∷ []) (at outer g) (at outer (with_atom g e))
+      (piece_runs p outer g)
+  piece_runs (left_open {ws = ws} {e = e} p) outer g =
+      then ws (question_mark ∷ []) (at outer g) (at outer (with_atom g e)) (piece_runs p outer g)
 
-  branch_runs : {ws : List Word} {e : Expression} → Branch ws e → (outer : List Group) (a : Option Expression) → (b : Option Expression) × (p : Expression) × (run ws (at outer (branches a None None)) ≡ Some (at outer (branches a b (Some p)))) × (joined_branch b (Some p) ≡ Some e)
+  branch_runs : {ws : List Word} {e : Expression} → Branch ws e → (outer : List Group) (a : Option Expression)
+      → (b : Option Expression) × (p : Expression)
+      × (run ws (at outer (branches a None None)) ≡ Some (at outer (branches a b (Some p))))
+      × (joined_branch b (Some p) ≡ Some e)
   branch_runs (piece {e = e} p) outer a = (None, e, piece_runs p outer (branches a None None), refl)
   branch_runs (joined {ws = ws} {vs = vs} {e = e} {f = f} b p) outer a =
       let h = branch_runs b outer a in
-      let g : Group = branches a h.0 (Some h.1) in
-      (Some e, f, then ws vs (at outer (branches a None None)) (at outer g) h.2 ∙ (piece_runs p outer g ∙ ap (λ o. Some (at outer (branches a o (Some f)))) h.3), refl)
+      let g : Group = branches a h.0 (Some h.1) in (
+        Some e,
+        f,
+        then ws vs (at outer (branches a None None)) (at outer g) h.2
+            ∙ (piece_runs p outer g ∙ ap (λ o. Some (at outer (branches a o (Some f)))) h.3),
+        refl,
+      )
 
-  alternation_runs : {ws : List Word} {e : Expression} → Alternation ws e → (outer : List Group) → (g : Group) × (run ws (at outer new_group) ≡ Some (at outer g)) × (whole g ≡ Some e)
+  alternation_runs : {ws : List Word} {e : Expression} → Alternation ws e → (outer : List Group) → (g : Group)
+      × (run ws (at outer new_group) ≡ Some (at outer g)) × (whole g ≡ Some e)
   alternation_runs (branch b) outer =
       let h = branch_runs b outer None in
       (branches None h.0 (Some h.1), h.2, ap (joined_whole None) h.3)
@@ -53,12 +72,14 @@ mutual
       let h = alternation_runs a outer in
       let k = branch_runs b outer (Some e) in (
         branches (Some e) k.0 (Some k.1),
-        then ws (bar ∷ vs) (at outer new_group) (at outer h.0) h.1 ∙ (ap (λ o. and_then (inside outer (after_bar o)) (run vs)) h.2 ∙ k.2),
+        then ws (bar ∷ vs) (at outer new_group) (at outer h.0) h.1
+            ∙ (ap (λ o. and_then (inside outer (after_bar o)) (run vs)) h.2 ∙ k.2),
         ap (joined_whole (Some e)) k.3,
       )
 
 -- the words of a whole expression are read to its end
-pub whole_runs : (ws : List Word) (e : Expression) → Alternation ws e → (g : Group) × (run ws start ≡ Some (at [] g)) × (whole g ≡ Some e)
+pub whole_runs : (ws : List Word) (e : Expression) → Alternation ws e → (g : Group) × (run ws start ≡ Some (at [] g))
+    × (whole g ≡ Some e)
 whole_runs ws e a = alternation_runs a []
 
 -- words have at most one reading
@@ -72,7 +93,8 @@ phrase_one ws e f a b =
     group_of None = new_group
     group_of (Some r) = r.group
 
-    same : (g h : Group) → run ws start ≡ Some (at [] g) → run ws start ≡ Some (at [] h) → whole g ≡ Some e → whole h ≡ Some f → e ≡ f
+    same : (g h : Group) → run ws start ≡ Some (at [] g) → run ws start ≡ Some (at [] h) → whole g ≡ Some e
+        → whole h ≡ Some f → e ≡ f
     same g h p q r s = let i : g ≡ h = ap group_of (sym p ∙ q) in let j : whole g ≡ whole h = ap whole i in cc
 
 -- which words a group has read
@@ -99,7 +121,8 @@ record GroupRead (g : Group) (ws : List Word) : Type 0 where
 
 StackRead : List Group → List Word → Type 0
 StackRead [] ws = ws ≡ []
-StackRead (g ∷ gs) ws = (us : List Word) × (vs : List Word) × StackRead gs us × GroupRead g vs × (ws ≡ us ++ (vs ++ opening ∷ []))
+StackRead (g ∷ gs) ws = (us : List Word) × (vs : List Word) × StackRead gs us × GroupRead g vs
+    × (ws ≡ us ++ (vs ++ opening ∷ []))
 
 record IsRead (r : Reading) (ws : List Word) : Type 0 where
   us : List Word
@@ -108,7 +131,8 @@ record IsRead (r : Reading) (ws : List Word) : Type 0 where
   group : GroupRead r.group vs
   all : ws ≡ us ++ vs
 
-branch_read : (b p : Option Expression) (bs ps : List Word) → BranchRead b bs → PieceRead p ps → BranchRead (joined_branch b p) (bs ++ ps)
+branch_read : (b p : Option Expression) (bs ps : List Word) → BranchRead b bs → PieceRead p ps
+    → BranchRead (joined_branch b p) (bs ++ ps)
 unfolding BranchRead PieceRead
 branch_read None None bs ps h k = rw (h, k) refl
 branch_read None (Some p) bs ps h k = rw h (piece k)
@@ -119,7 +143,8 @@ open_read : (g : Group) (ws : List Word) (r : GroupRead g ws) → BranchRead (op
 open_read g ws r = branch_read g.branch g.piece r.bs r.ps r.front r.last
 
 -- one more atom
-atom_read : (g : Group) (ws us : List Word) (e : Expression) → GroupRead g ws → Atom us e → GroupRead (with_atom g e) (ws ++ us)
+atom_read : (g : Group) (ws us : List Word) (e : Expression) → GroupRead g ws → Atom us e
+    → GroupRead (with_atom g e) (ws ++ us)
 unfolding PieceRead
 atom_read g ws us e r a = record {
   es = r.es;
@@ -132,15 +157,18 @@ atom_read g ws us e r a = record {
 }
 
 -- the words of a whole group are an alternation
-alternation_read : (a o : Option Expression) (e : Expression) (es os : List Word) → EitherRead a es → BranchRead o os → joined_whole a o ≡ Some e → Alternation (es ++ os) e
+alternation_read : (a o : Option Expression) (e : Expression) (es os : List Word) → EitherRead a es → BranchRead o os
+    → joined_whole a o ≡ Some e → Alternation (es ++ os) e
 unfolding EitherRead BranchRead
 alternation_read None None e es os h k q = absurd (cc)
 alternation_read (Some a) None e es os h k q = absurd (cc)
 alternation_read None (Some b) e es os h k q = let same : b ≡ e = cc in rw (h, ← same) (branch k)
-alternation_read (Some a) (Some b) e es os h k q = let same : either a b ≡ e = cc in rw (h.2, append_assoc, ← same) (parted h.1 k)
+alternation_read (Some a) (Some b) e es os h k q = let same : either a b ≡ e = cc
+    in rw (h.2, append_assoc, ← same) (parted h.1 k)
 
 whole_read : (g : Group) (ws : List Word) (e : Expression) → GroupRead g ws → whole g ≡ Some e → Alternation ws e
-whole_read g ws e r q = rw r.all (alternation_read g.before (open_branch g) e r.es (r.bs ++ r.ps) r.finished (open_read g ws r) q)
+whole_read g ws e r q
+    = rw r.all (alternation_read g.before (open_branch g) e r.es (r.bs ++ r.ps) r.finished (open_read g ws r) q)
 
 bar_read : (g h : Group) (ws : List Word) → GroupRead g ws → with_bar g ≡ Some h → GroupRead h (ws ++ bar ∷ [])
 unfolding EitherRead BranchRead PieceRead
@@ -158,7 +186,9 @@ bar_read g h ws r q = by (whole g) refl q
       all = rw append-nil refl;
     })
 
-postfix_read : (g h : Group) (ws us : List Word) (f : Expression → Expression) → ((vs : List Word) (e : Expression) → Piece vs e → Piece (vs ++ us) (f e)) → GroupRead g ws → with_postfix g f ≡ Some h → GroupRead h (ws ++ us)
+postfix_read : (g h : Group) (ws us : List Word) (f : Expression → Expression)
+    → ((vs : List Word) (e : Expression) → Piece vs e → Piece (vs ++ us) (f e)) → GroupRead g ws
+    → with_postfix g f ≡ Some h → GroupRead h (ws ++ us)
 unfolding PieceRead
 postfix_read g h ws us f over r q = by g.piece r.last q
   where
@@ -178,11 +208,15 @@ new_read : GroupRead new_group []
 unfolding EitherRead BranchRead PieceRead
 new_read = record { es = []; bs = []; ps = []; finished = refl; front = refl; last = refl; all = refl }
 
-inside_read : (outer : List Group) (o : Option Group) (us vs : List Word) (s : Reading) → StackRead outer us → ((h : Group) → o ≡ Some h → GroupRead h vs) → inside outer o ≡ Some s → IsRead s (us ++ vs)
+inside_read : (outer : List Group) (o : Option Group) (us vs : List Word) (s : Reading) → StackRead outer us
+    → ((h : Group) → o ≡ Some h → GroupRead h vs) → inside outer o ≡ Some s → IsRead s (us ++ vs)
 inside_read outer None us vs s k f q = absurd (cc)
-inside_read outer (Some g) us vs s k f q = let same : at outer g ≡ s = cc in rw (← same) (record { us = us; vs = vs; outer = k; group = f g refl; all = refl })
+inside_read outer (Some g) us vs s k f q = let same : at outer g ≡ s = cc
+    in rw (← same) (record { us = us; vs = vs; outer = k; group = f g refl; all = refl })
 
-closed_read : (outer : List Group) (o : Option Expression) (us vs : List Word) (s : Reading) → StackRead outer us → ((e : Expression) → o ≡ Some e → Alternation vs e) → closed outer o ≡ Some s → IsRead s (us ++ (vs ++ closing ∷ []))
+closed_read : (outer : List Group) (o : Option Expression) (us vs : List Word) (s : Reading) → StackRead outer us
+    → ((e : Expression) → o ≡ Some e → Alternation vs e) → closed outer o ≡ Some s
+    → IsRead s (us ++ (vs ++ closing ∷ []))
 unfolding StackRead
 closed_read [] o us vs s k f q = absurd (cc)
 closed_read (g ∷ gs) None us vs s k f q = absurd (cc)
@@ -196,26 +230,62 @@ closed_read (g ∷ gs) (Some e) us vs s k f q = let same : at gs (with_atom g e)
 
 step_read : (w : Word) (r s : Reading) (ws : List Word) → IsRead r ws → step w r ≡ Some s → IsRead s (ws ++ w ∷ [])
 unfolding StackRead
-step_read (one_of bytes) r s ws i q = let same : at r.outer (with_atom r.group (set bytes)) ≡ s = cc in rw (← same, i.all, append_assoc) (record { us = i.us; vs = i.vs ++ one_of bytes ∷ []; outer = i.outer; group = atom_read r.group i.vs (one_of bytes ∷ []) (set bytes) i.group byte_atom; all = refl })
-step_read (string bytes) r s ws i q = let same : at r.outer (with_atom r.group (in_order bytes)) ≡ s = cc in rw (← same, i.all, append_assoc) (record { us = i.us; vs = i.vs ++ string bytes ∷ []; outer = i.outer; group = atom_read r.group i.vs (string bytes ∷ []) (in_order bytes) i.group string_atom; all = refl })
-step_read opening r s ws i q = let same : at (r.group ∷ r.outer) new_group ≡ s = cc in rw (← same) (record { us = ws ++ opening ∷ []; vs = []; outer = (i.us, i.vs, i.outer, i.group, rw (i.all, append_assoc) refl); group = new_read; all = rw append-nil refl })
-step_read closing r s ws i q = rw (i.all, append_assoc) (closed_read r.outer (whole r.group) i.us i.vs s i.outer (λ e p. whole_read r.group i.vs e i.group p) q)
-step_read bar r s ws i q = rw (i.all, append_assoc) (inside_read r.outer (with_bar r.group) i.us (i.vs ++ bar ∷ []) s i.outer (λ h p. bar_read r.group h i.vs i.group p) q)
-step_read asterisk r s ws i q = rw (i.all, append_assoc) (inside_read r.outer (with_postfix r.group star) i.us (i.vs ++ asterisk ∷ []) s i.outer (λ h p. postfix_read r.group h i.vs (asterisk ∷ []) star (λ vs e k. starred k) i.group p) q)
-step_read plus_sign r s ws i q = rw (i.all, append_assoc) (inside_read r.outer (with_postfix r.group plus) i.us (i.vs ++ plus_sign ∷ []) s i.outer (λ h p. postfix_read r.group h i.vs (plus_sign ∷ []) plus (λ vs e k. repeated k) i.group p) q)
-step_read question_mark r s ws i q = rw (i.all, append_assoc) (inside_read r.outer (with_postfix r.group optional) i.us (i.vs ++ question_mark ∷ []) s i.outer (λ h p. postfix_read r.group h i.vs (question_mark ∷ []) optional (λ vs e k. left_open k) i.group p) q)
+step_read (one_of bytes) r s ws i q = let same : at r.outer (with_atom r.group (set bytes)) ≡ s = cc
+    in rw (← same, i.all, append_assoc) (record {
+      us = i.us;
+      vs = i.vs ++ one_of bytes ∷ [];
+      outer = i.outer;
+      group = atom_read r.group i.vs (one_of bytes ∷ []) (set bytes) i.group byte_atom;
+      all = refl;
+    })
+step_read (string bytes) r s ws i q = let same : at r.outer (with_atom r.group (in_order bytes)) ≡ s = cc
+    in rw (← same, i.all, append_assoc) (record {
+      us = i.us;
+      vs = i.vs ++ string bytes ∷ [];
+      outer = i.outer;
+      group = atom_read r.group i.vs (string bytes ∷ []) (in_order bytes) i.group string_atom;
+      all = refl;
+    })
+step_read opening r s ws i q = let same : at (r.group ∷ r.outer) new_group ≡ s = cc
+    in rw (← same) (record {
+      us = ws ++ opening ∷ [];
+      vs = [];
+      outer = (i.us, i.vs, i.outer, i.group, rw (i.all, append_assoc) refl);
+      group = new_read;
+      all = rw append-nil refl;
+    })
+step_read closing r s ws i q
+    = rw (i.all, append_assoc) (closed_read r.outer (whole r.group) i.us i.vs s i.outer
+    (λ e p. whole_read r.group i.vs e i.group p) q)
+step_read bar r s ws i q
+    = rw (i.all, append_assoc) (inside_read r.outer (with_bar r.group) i.us (i.vs ++ bar ∷ []) s i.outer
+    (λ h p. bar_read r.group h i.vs i.group p) q)
+step_read asterisk r s ws i q
+    = rw (i.all, append_assoc) (inside_read r.outer (with_postfix r.group star) i.us (i.vs ++ asterisk ∷ []) s i.outer
+    (λ h p. postfix_read r.group h i.vs (asterisk ∷ []) star (λ vs e k. starred k) i.group p) q)
+step_read plus_sign r s ws i q
+    = rw (i.all, append_assoc) (inside_read r.outer (with_postfix r.group plus) i.us (i.vs ++ plus_sign ∷ []) s i.outer
+    (λ h p. postfix_read r.group h i.vs (plus_sign ∷ []) plus (λ vs e k. repeated k) i.group p) q)
+step_read question_mark r s ws i q
+    = rw (i.all, append_assoc) (inside_read r.outer (with_postfix r.group optional) i.us
+    (i.vs ++ question_mark ∷ []) s i.outer (λ h p. postfix_read r.group h i.vs (question_mark ∷ []) optional
+    (λ vs e k. left_open k) i.group p) q)
 
 run_read : (ws us : List Word) (r s : Reading) → IsRead r us → run ws r ≡ Some s → IsRead s (us ++ ws)
 run_read [] us r s i q = let same : r ≡ s = cc in rw (append-nil, ← same) i
 run_read (w ∷ ws) us r s i q = by (step w r) refl q (run_read ws (us ++ w ∷ []))
   where
-    by : (o : Option Reading) → step w r ≡ o → and_then o (run ws) ≡ Some s → ((r s : Reading) → IsRead r (us ++ w ∷ []) → run ws r ≡ Some s → IsRead s ((us ++ w ∷ []) ++ ws)) → IsRead s (us ++ (w ∷ ws))
+    by : (o : Option Reading) → step w r ≡ o → and_then o (run ws) ≡ Some s
+        → ((r s : Reading) → IsRead r (us ++ w ∷ []) → run ws r ≡ Some s → IsRead s ((us ++ w ∷ []) ++ ws))
+        → IsRead s (us ++ (w ∷ ws))
     by None p q f = absurd (cc)
     by (Some t) p q f = rw append_assoc at (f t s (step_read w r t us i p) q)
 
 -- what is read to its end is a phrase
-pub read_is_phrase : (ws : List Word) (g : Group) (e : Expression) → run ws start ≡ Some (at [] g) → whole g ≡ Some e → Alternation ws e
+pub read_is_phrase : (ws : List Word) (g : Group) (e : Expression) → run ws start ≡ Some (at [] g) → whole g ≡ Some e
+    → Alternation ws e
 unfolding StackRead
 read_is_phrase ws g e q p =
-    let i = run_read ws [] start (at [] g) (record { us = []; vs = []; outer = refl; group = new_read; all = refl }) q in
+    let i = run_read ws [] start (at [] g) (record { us = []; vs = []; outer = refl; group = new_read; all = refl }) q
+    in
     rw (i.all, i.outer) (whole_read g i.vs e i.group p)

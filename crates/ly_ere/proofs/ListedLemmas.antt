@@ -25,12 +25,14 @@ module _ (t : List ℕ) (set : ByteSet) (rest : List ℕ) where
         let same = ap (λ x. bytes_where (in_ranges x)) (items_one k.1 found.1).0 in
         k.3 (k.2 ∙ same ∙ sym bytes ∙ none)
 
-  module _ (old : ByteSet) (here : stands_at t 0 94 ≡ true) (found : AreItems (drop 1 t) (has old) rest) (other : (b : ℕ) → b < 256 → has set b ≡ not (has old b)) where
+  module _ (old : ByteSet) (here : stands_at t 0 94 ≡ true) (found : AreItems (drop 1 t) (has old) rest)
+      (other : (b : ℕ) → b < 256 → has set b ≡ not (has old b)) where
     other_bytes : members set ≡ bytes_where (λ b. not (in_ranges found.0 b))
     other_bytes = bytes_agree (has set) (λ b. not (in_ranges found.0 b)) (λ b l. other b l ∙ ap not (found.2 b))
 
     pub excluded_ok : members set ≢ [] → IsListed t (members set) rest
-    excluded_ok some = rw (first_is t 94 here, other_bytes) (excluded (drop 1 t) rest found.0 found.1 (rw other_bytes at some))
+    excluded_ok some
+        = rw (first_is t 94 here, other_bytes) (excluded (drop 1 t) rest found.0 found.1 (rw other_bytes at some))
 
     pub excluded_no : members set ≡ [] → BeginsNo IsListed t
     excluded_no none ms left h =

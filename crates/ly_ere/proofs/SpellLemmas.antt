@@ -3,7 +3,8 @@ use Rattle.std.proofs.Common.{◌≡◌, ℕ, List, [], ◌∷◌, refl, ap, ◌
 use Rattle.std.proofs.lemmas.Bool.Decides.{nat_tests}
 use Rattle.ly_base.proofs.EscapeLemmas.{escape_one}
 use Rattle.ly_ere.specs.Extent.{IsBehind}
-use Rattle.ly_ere.specs.Words.{Word, one_of, string, Quoted, Spells, plain, dot, backslash, bracket, quoted, sign, sign_of, is_among, own_meaning}
+use Rattle.ly_ere.specs.Words.{Word, one_of, string, Quoted, Spells, plain, dot, backslash, bracket, quoted, sign}
+use Rattle.ly_ere.specs.Words.{sign_of, is_among, own_meaning}
 use Rattle.ly_ere.proofs.ItemLemmas.{listed_one}
 use Rattle.ly_ere.proofs.QuotedLemmas.{quoted_one}
 
@@ -12,7 +13,8 @@ plain_is_no_sign : (b : ℕ) (w : Word) → is_among own_meaning b ≡ false →
 plain_is_no_sign b w p q = grind (arith, nat_tests)
 
 -- a string, by its opening quote
-pub spelled_quoted : {t rest : List ℕ} {w : Word} → Spells (34 ∷ t) w rest → (bs : List ℕ) × Quoted t bs rest × (w ≡ string bs)
+pub spelled_quoted : {t rest : List ℕ} {w : Word} → Spells (34 ∷ t) w rest → (bs : List ℕ) × Quoted t bs rest
+    × (w ≡ string bs)
 spelled_quoted (plain b rest p) = absurd (cc)
 spelled_quoted (quoted t bs rest h) = (bs, h, refl)
 spelled_quoted (sign b w rest p) = absurd (cc)
@@ -29,7 +31,8 @@ spells_one (dot rest) (plain c left q) = absurd (cc)
 spells_one (dot rest) (dot left) = (refl, refl)
 spells_one (dot rest) (sign c v left q) = absurd (cc)
 spells_one (backslash t rest b h) (plain c left q) = absurd (cc)
-spells_one (backslash t rest b h) (backslash u left c k) = let one = escape_one t b c rest left h k in (ap (λ x. one_of (x ∷ [])) one.0, one.1)
+spells_one (backslash t rest b h) (backslash u left c k) = let one = escape_one t b c rest left h k
+    in (ap (λ x. one_of (x ∷ [])) one.0, one.1)
 spells_one (backslash t rest b h) (sign c v left q) = absurd (cc)
 spells_one (bracket t bytes rest h) (plain c left q) = absurd (cc)
 spells_one (bracket t bytes rest h) (bracket u others left k) = let one = listed_one h k in (ap one_of one.0, one.1)
@@ -53,7 +56,8 @@ spells_no_tab : {t rest : List ℕ} {w : Word} → Spells (9 ∷ t) w rest → �
 spells_no_tab (plain b rest p) = absurd (cc)
 spells_no_tab (sign b w rest p) = absurd (cc)
 
-pub word_is_ahead : (t : List ℕ) {rest : List ℕ} {w : Word} → Spells t w rest → (more : List ℕ) → IsBehind (t ++ more) → ⊥
+pub word_is_ahead : (t : List ℕ) {rest : List ℕ} {w : Word} → Spells t w rest → (more : List ℕ) → IsBehind (t ++ more)
+    → ⊥
 word_is_ahead [] s more h = elim s [ ]
 word_is_ahead (b ∷ t) s more (inl e) = spells_no_space (rw e at s)
 word_is_ahead (b ∷ t) s more (inr e) = spells_no_tab (rw e at s)

@@ -1,5 +1,6 @@
 -- The symbol at the front of a text.
-use Rattle.std.proofs.Common.{◌≡◌, ◌≢◌, ℕ, ◌<◌, List, [], ◌∷◌, length, drop, get_or, refl, sym, ap, subst, ◌∙◌, arith, Some, Bor, false, nat_eq}
+use Rattle.std.proofs.Common.{◌≡◌, ◌≢◌, ℕ, ◌<◌, List, [], ◌∷◌, length, drop, get_or, refl, sym, ap, subst, ◌∙◌, arith}
+use Rattle.std.proofs.Common.{Some, Bor, false, nat_eq}
 use Rattle.std.specs.Prelude.{not}
 use Rattle.ly_base.specs.declared.byte_set.ByteSet.{ByteSet}
 use Rattle.ly_base.specs.ByteSet.{all_bytes, bytes_where, members}
@@ -9,7 +10,8 @@ use Rattle.ly_ere.specs.Front.{IsFront}
 use Rattle.ly_ere.specs.Symbols.{IsNext, IsWellFormed, IsWord}
 use Rattle.ly_ere.specs.declared.symbol.Symbol.{Symbol}
 use Rattle.ly_ere.specs.declared.symbol.Symbol.TheVariants.{Set, Text, Open, Close, Bar, Postfix as Operator}
-use Rattle.ly_ere.specs.Words.{Word, one_of, string, Quoted, IsListed, Spells, plain, dot, backslash, bracket, quoted, sign, sign_of, is_among, own_meaning}
+use Rattle.ly_ere.specs.Words.{Word, one_of, string, Quoted, IsListed, Spells, plain, dot, backslash, bracket, quoted}
+use Rattle.ly_ere.specs.Words.{sign, sign_of, is_among, own_meaning}
 use Rattle.ly_ere.proofs.QuotedLemmas.{quoted_one}
 use Rattle.ly_ere.proofs.SpellLemmas.{spells_one}
 
@@ -24,10 +26,12 @@ word_one (Operator p) v w h k = h ∙ sym k
 
 some_but_newline : bytes_where (λ b. not (nat_eq b 10)) ≢ []
 unfolding all_bytes
-some_but_newline none = let many : length (bytes_where (λ b. not (nat_eq b 10))) ≡ 255 = refl in absurd (omega (arith, many, ap length none))
+some_but_newline none = let many : length (bytes_where (λ b. not (nat_eq b 10))) ≡ 255 = refl
+    in absurd (omega (arith, many, ap length none))
 
 -- a word that the symbol stands for is at the front, and so no other
-next_is : (t : List ℕ) (n : ℕ) (s : Symbol) (w : Word) → IsFront t n → IsWellFormed s → IsWord s w → Spells t w (drop n t) → IsNext t s n
+next_is : (t : List ℕ) (n : ℕ) (s : Symbol) (w : Word) → IsFront t n → IsWellFormed s → IsWord s w
+    → Spells t w (drop n t) → IsNext t s n
 next_is t n s w front formed is spelled = record {
   front = front;
   formed = formed;
@@ -46,25 +50,36 @@ module _ (t : List ℕ) (some : 0 < length t) where
   first_spells c w rest e s = subst (λ u. Spells u w rest) (sym (byte_at t 0 c some e)) s
 
   -- a sign
-  pub sign_next : (c : ℕ) (s : Symbol) (w : Word) → get_or t 0 0 ≡ c → sign_of c ≡ Some w → IsWellFormed s → IsWord s w → IsNext t s 1
+  pub sign_next : (c : ℕ) (s : Symbol) (w : Word) → get_or t 0 0 ≡ c → sign_of c ≡ Some w → IsWellFormed s → IsWord s w
+      → IsNext t s 1
   sign_next c s w e m formed is = next_is t 1 s w one formed is (first_spells c w (drop 1 t) e (sign c w (drop 1 t) m))
 
   -- a byte that stands for itself
-  pub plain_next : (c : ℕ) (set : ByteSet) → get_or t 0 0 ≡ c → members set ≡ c ∷ [] → is_among own_meaning c ≡ false → IsNext t (Set set) 1
-  plain_next c set e is m = next_is t 1 (Set set) (one_of (c ∷ [])) one (λ n. absurd (cc)) (rw is refl) (first_spells c _ (drop 1 t) e (plain c (drop 1 t) m))
+  pub plain_next : (c : ℕ) (set : ByteSet) → get_or t 0 0 ≡ c → members set ≡ c ∷ [] → is_among own_meaning c ≡ false
+      → IsNext t (Set set) 1
+  plain_next c set e is m = next_is t 1 (Set set) (one_of (c ∷ [])) one (λ n. absurd (cc)) (rw is refl)
+      (first_spells c _ (drop 1 t) e (plain c (drop 1 t) m))
 
   -- `.`
-  pub dot_next : (set : ByteSet) → get_or t 0 0 ≡ 46 → members set ≡ bytes_where (λ b. not (nat_eq b 10)) → IsNext t (Set set) 1
-  dot_next set e is = next_is t 1 (Set set) (one_of (members set)) one (rw is some_but_newline) refl (first_spells 46 _ (drop 1 t) e (rw is (dot (drop 1 t))))
+  pub dot_next : (set : ByteSet) → get_or t 0 0 ≡ 46 → members set ≡ bytes_where (λ b. not (nat_eq b 10))
+      → IsNext t (Set set) 1
+  dot_next set e is = next_is t 1 (Set set) (one_of (members set)) one (rw is some_but_newline) refl
+      (first_spells 46 _ (drop 1 t) e (rw is (dot (drop 1 t))))
 
   -- an escape
-  pub escape_next : (b n : ℕ) (set : ByteSet) → IsFront t n → get_or t 0 0 ≡ 92 → members set ≡ b ∷ [] → Escape (drop 1 t) b (drop n t) → IsNext t (Set set) n
-  escape_next b n set front e is h = next_is t n (Set set) (one_of (b ∷ [])) front (λ n. absurd (cc)) (rw is refl) (first_spells 92 _ (drop n t) e (backslash (drop 1 t) (drop n t) b h))
+  pub escape_next : (b n : ℕ) (set : ByteSet) → IsFront t n → get_or t 0 0 ≡ 92 → members set ≡ b ∷ []
+      → Escape (drop 1 t) b (drop n t) → IsNext t (Set set) n
+  escape_next b n set front e is h = next_is t n (Set set) (one_of (b ∷ [])) front (λ n. absurd (cc)) (rw is refl)
+      (first_spells 92 _ (drop n t) e (backslash (drop 1 t) (drop n t) b h))
 
   -- a bracket expression
-  pub bracket_next : (n : ℕ) (set : ByteSet) → IsFront t n → get_or t 0 0 ≡ 91 → members set ≢ [] → IsListed (drop 1 t) (members set) (drop n t) → IsNext t (Set set) n
-  bracket_next n set front e formed h = next_is t n (Set set) (one_of (members set)) front formed refl (first_spells 91 _ (drop n t) e (bracket (drop 1 t) (members set) (drop n t) h))
+  pub bracket_next : (n : ℕ) (set : ByteSet) → IsFront t n → get_or t 0 0 ≡ 91 → members set ≢ []
+      → IsListed (drop 1 t) (members set) (drop n t) → IsNext t (Set set) n
+  bracket_next n set front e formed h = next_is t n (Set set) (one_of (members set)) front formed refl
+      (first_spells 91 _ (drop n t) e (bracket (drop 1 t) (members set) (drop n t) h))
 
   -- a string
-  pub string_next : (bs : List ℕ) (n : ℕ) (behind : Bor (List ℕ)) → IsFront t n → get_or t 0 0 ≡ 34 → behind.now ≡ drop 1 t → Quoted (drop 1 t) bs (drop n t) → IsNext t (Text behind) n
-  string_next bs n behind front e is q = next_is t n (Text behind) (string bs) front tt (bs, drop n t, rw is q, refl) (first_spells 34 _ (drop n t) e (quoted (drop 1 t) bs (drop n t) q))
+  pub string_next : (bs : List ℕ) (n : ℕ) (behind : Bor (List ℕ)) → IsFront t n → get_or t 0 0 ≡ 34
+      → behind.now ≡ drop 1 t → Quoted (drop 1 t) bs (drop n t) → IsNext t (Text behind) n
+  string_next bs n behind front e is q = next_is t n (Text behind) (string bs) front tt (bs, drop n t, rw is q, refl)
+      (first_spells 34 _ (drop n t) e (quoted (drop 1 t) bs (drop n t) q))

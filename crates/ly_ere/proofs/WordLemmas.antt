@@ -23,8 +23,10 @@ pub expression_one : (text : List ℕ) (e f : Expression) → IsExpression text 
 expression_one text e f x y = phrase_one x.0 e f x.2 (rw (words_one x.1 y.1) y.2)
 
 pub pattern_one : PatternIsOne
-pattern_one names text p q x y = by (x.anywhere ∙ sym y.anywhere) (expression_one text p.head q.head x.head y.head) (x.no_tail ∙ sym y.no_tail) (x.no_cut ∙ sym y.no_cut)
+pattern_one names text p q x y = by (x.anywhere ∙ sym y.anywhere) (expression_one text p.head q.head x.head y.head)
+    (x.no_tail ∙ sym y.no_tail) (x.no_cut ∙ sym y.no_cut)
   where
     by : p.line_start ≡ q.line_start → p.head ≡ q.head → p.tail ≡ q.tail → p.cut ≡ q.cut → p ≡ q
     by line head tail cut =
-        ap (λ b. record p { line_start = b }) line ∙ (ap (λ e. record p { line_start = q.line_start; head = e }) head ∙ (ap (λ t. record q { tail = t; cut = p.cut }) tail ∙ ap (λ c. record q { cut = c }) cut))
+        ap (λ b. record p { line_start = b }) line ∙ (ap (λ e. record p { line_start = q.line_start; head = e }) head
+        ∙ (ap (λ t. record q { tail = t; cut = p.cut }) tail ∙ ap (λ c. record q { cut = c }) cut))

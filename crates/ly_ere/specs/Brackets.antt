@@ -1,5 +1,6 @@
 -- What a reader of bracket expressions finds.
-use Rattle.std.specs.Prelude.{◌≡◌, ℕ, List, ◌∷◌, ◌++◌, Bool, true, false, not, ◌||◌, ◌&&◌, nat_eq, map, Option, Some, None, if◌then◌else◌}
+use Rattle.std.specs.Prelude.{◌≡◌, ℕ, List, ◌∷◌, ◌++◌, Bool, true, false, not, ◌||◌, ◌&&◌, nat_eq, map, Option, Some}
+use Rattle.std.specs.Prelude.{None, if◌then◌else◌}
 use Rattle.std.specs.Borrow.{Bor}
 use Rattle.ly_base.specs.ByteSet.{has}
 use Rattle.ly_base.specs.declared.byte_set.ByteSet.{ByteSet}

@@ -1,5 +1,6 @@
 -- Regular expressions over bytes, and the strings that belong to them (POSIX, XBD 9.4 as lex changes it).
-use Rattle.std.specs.Prelude.{◌≡◌, ℕ, zero, suc, ◌≤◌, ◌<◌, List, [], ◌∷◌, ◌++◌, length, slice_get, Contains, Option, Some, None, ◌⊎◌}
+use Rattle.std.specs.Prelude.{◌≡◌, ℕ, zero, suc, ◌≤◌, ◌<◌, List, [], ◌∷◌, ◌++◌, length, slice_get, Contains, Option}
+use Rattle.std.specs.Prelude.{Some, None, ◌⊎◌}
 
 -- An expression. A set is the list of its bytes; a name is a number into a list of definitions.
 pub data Expression : Type 0 where
@@ -38,7 +39,8 @@ MatchesUnder N (name x) w = N x w
 -- The strings of name x, by the first n definitions: each uses earlier ones only.
 abbrev pub NamedUpTo : List Expression → ℕ → ℕ → List ℕ → Type 0
 NamedUpTo names zero x w = ⊥
-NamedUpTo names (suc n) x w = ((x ≡ n) × (d : Expression) × (slice_get names n ≡ Some d) × MatchesUnder (NamedUpTo names n) d w) ⊎ ((x < n) × NamedUpTo names n x w)
+NamedUpTo names (suc n) x w = ((x ≡ n) × (d : Expression) × (slice_get names n ≡ Some d)
+    × MatchesUnder (NamedUpTo names n) d w) ⊎ ((x < n) × NamedUpTo names n x w)
 
 -- The byte string w belongs to the expression, where a name stands for its definition.
 abbrev pub Matches : List Expression → Expression → List ℕ → Type 0

@@ -53,19 +53,25 @@ topmost (r ∷ st) = r
 abbrev pub from_parts : List Part → Expression
 from_parts ps = topmost (take_parts ps [])
 
-take_parts-append : (ps qs : List Part) (st : List Expression) → take_parts (ps ++ qs) st ≡ take_parts qs (take_parts ps st)
+take_parts-append : (ps qs : List Part) (st : List Expression)
+    → take_parts (ps ++ qs) st ≡ take_parts qs (take_parts ps st)
 take_parts-append [] qs st = refl
 take_parts-append (p ∷ ps) qs st = take_parts-append ps qs (take_part p st)
 
 reads : (r : Expression) (st : List Expression) → take_parts (to_parts r) st ≡ r ∷ st
 reads (set bytes) st = refl
 reads empty st = refl
-reads (concat r s) st = take_parts-append (to_parts r) (to_parts s ++ operator 1 ∷ []) st ∙ (take_parts-append (to_parts s) (operator 1 ∷ []) (take_parts (to_parts r) st) ∙ (ap (λ x. operate 1 (take_parts (to_parts s) x)) (reads r st) ∙ ap (operate 1) (reads s (r ∷ st))))
-reads (either r s) st = take_parts-append (to_parts r) (to_parts s ++ operator 2 ∷ []) st ∙ (take_parts-append (to_parts s) (operator 2 ∷ []) (take_parts (to_parts r) st) ∙ (ap (λ x. operate 2 (take_parts (to_parts s) x)) (reads r st) ∙ ap (operate 2) (reads s (r ∷ st))))
+reads (concat r s) st = take_parts-append (to_parts r) (to_parts s ++ operator 1 ∷ []) st
+    ∙ (take_parts-append (to_parts s) (operator 1 ∷ []) (take_parts (to_parts r) st)
+    ∙ (ap (λ x. operate 1 (take_parts (to_parts s) x)) (reads r st) ∙ ap (operate 1) (reads s (r ∷ st))))
+reads (either r s) st = take_parts-append (to_parts r) (to_parts s ++ operator 2 ∷ []) st
+    ∙ (take_parts-append (to_parts s) (operator 2 ∷ []) (take_parts (to_parts r) st)
+    ∙ (ap (λ x. operate 2 (take_parts (to_parts s) x)) (reads r st) ∙ ap (operate 2) (reads s (r ∷ st))))
 reads (star r) st = take_parts-append (to_parts r) (operator 3 ∷ []) st ∙ ap (operate 3) (reads r st)
 reads (plus r) st = take_parts-append (to_parts r) (operator 4 ∷ []) st ∙ ap (operate 4) (reads r st)
 reads (optional r) st = take_parts-append (to_parts r) (operator 5 ∷ []) st ∙ ap (operate 5) (reads r st)
-reads (repeat m n r) st = take_parts-append (to_parts r) (inr (inr (inl (m, n))) ∷ []) st ∙ ap (repeated m n) (reads r st)
+reads (repeat m n r) st = take_parts-append (to_parts r) (inr (inr (inl (m, n))) ∷ []) st
+    ∙ ap (repeated m n) (reads r st)
 reads (name x) st = refl
 
 pub from_parts-to_parts : (r : Expression) → from_parts (to_parts r) ≡ r
@@ -73,4 +79,7 @@ from_parts-to_parts r = ap topmost (reads r [])
 
 abbrev pub expression_code : Coded Expression
 expression_code =
-    code_by (List Part) (coded_list (coded⊎ (coded_list coded_ℕ) (coded⊎ coded_ℕ (coded⊎ (coded× coded_ℕ (coded_option coded_ℕ)) coded_ℕ)))) to_parts from_parts from_parts-to_parts
+    code_by (List Part)
+    (coded_list
+    (coded⊎ (coded_list coded_ℕ) (coded⊎ coded_ℕ (coded⊎ (coded× coded_ℕ (coded_option coded_ℕ)) coded_ℕ))))
+    to_parts from_parts from_parts-to_parts

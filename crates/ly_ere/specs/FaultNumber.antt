@@ -3,7 +3,10 @@ use Rattle.std.specs.Prelude.{ℕ, Option, Some, None}
 use Rattle.ly_base.specs.declared.escapes.EscapeFault.{EscapeFault}
 use Rattle.ly_base.specs.declared.escapes.EscapeFault.TheVariants.{Unfinished, TooLarge}
 use Rattle.ly_ere.specs.declared.fault.EreFault.{EreFault}
-use Rattle.ly_ere.specs.declared.fault.EreFault.TheVariants.{Empty, UnclosedQuote, UnclosedBracket, UnclosedGroup, StrayOperator, BadRange, EmptySet, UnknownClass, BadInterval, EscapeTooLarge, UnknownName, AnchorInside, TooHeavy, OutOfMemory}
+use Rattle.ly_ere.specs.declared.fault.EreFault.TheVariants.{Empty, UnclosedQuote, UnclosedBracket, UnclosedGroup}
+use Rattle.ly_ere.specs.declared.fault.EreFault.TheVariants.{StrayOperator, BadRange, EmptySet, UnknownClass}
+use Rattle.ly_ere.specs.declared.fault.EreFault.TheVariants.{BadInterval, EscapeTooLarge, UnknownName, AnchorInside}
+use Rattle.ly_ere.specs.declared.fault.EreFault.TheVariants.{TooHeavy, OutOfMemory}
 
 -- a fault's number; want of memory has none
 abbrev pub number_of : EreFault → Option ℕ

@@ -35,4 +35,5 @@ mutual
   -- branches with bars between them
   pub data Alternation : List Word → Expression → Type 0 where
     branch : {ws : List Word} {e : Expression} → Branch ws e → Alternation ws e
-    parted : {ws vs : List Word} {e f : Expression} → Alternation ws e → Branch vs f → Alternation (ws ++ bar ∷ vs) (either e f)
+    parted : {ws vs : List Word} {e f : Expression} → Alternation ws e → Branch vs f
+        → Alternation (ws ++ bar ∷ vs) (either e f)

@@ -10,11 +10,14 @@ use Rattle.ly_ere.specs.Winner.{Winner, IsCut, Fits}
 
 -- two winners of one place are one rule and one length
 abbrev pub WinnerIsOne : Type 0
-WinnerIsOne = (names : List Expression) (rules : List Rule) (condition : ℕ) (line : Bool) (rest : List ℕ) (i n m j k l : ℕ) → Winner names rules condition line rest i n m → Winner names rules condition line rest j k l → (i ≡ j) × (n ≡ k)
+WinnerIsOne = (names : List Expression) (rules : List Rule) (condition : ℕ) (line : Bool) (rest : List ℕ)
+    (i n m j k l : ℕ) → Winner names rules condition line rest i n m → Winner names rules condition line rest j k l
+    → (i ≡ j) × (n ≡ k)
 
 -- under a true cut the length of a match decides that of its token
 abbrev pub SplitIsOne : Type 0
-SplitIsOne = (names : List Expression) (p : Pattern) (rest : List ℕ) (n m l : ℕ) → IsCut names p → Fits names p rest n m → Fits names p rest n l → m ≡ l
+SplitIsOne = (names : List Expression) (p : Pattern) (rest : List ℕ) (n m l : ℕ) → IsCut names p → Fits names p rest n m
+    → Fits names p rest n l → m ≡ l
 
 -- words have at most one reading as an expression
 abbrev pub PhraseIsOne : Type 0
@@ -22,4 +25,5 @@ PhraseIsOne = (ws : List Word) (e f : Expression) → Alternation ws e → Alter
 
 -- a text is at most one pattern
 abbrev pub PatternIsOne : Type 0
-PatternIsOne = (names : List Expression) (text : List ℕ) (p q : Pattern) → IsPattern names text p → IsPattern names text q → p ≡ q
+PatternIsOne = (names : List Expression) (text : List ℕ) (p q : Pattern) → IsPattern names text p
+    → IsPattern names text q → p ≡ q

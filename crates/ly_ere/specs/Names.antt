@@ -20,4 +20,5 @@ AreOrdered names = (n : ℕ) (d : Expression) → slice_get names n ≡ Some d �
 
 -- a name stands for its definition
 abbrev pub NameIsDefinition : Type 0
-NameIsDefinition = (names : List Expression) (x : ℕ) (d : Expression) (w : List ℕ) → AreOrdered names → slice_get names x ≡ Some d → Matches names (name x) w ↔ Matches names d w
+NameIsDefinition = (names : List Expression) (x : ℕ) (d : Expression) (w : List ℕ) → AreOrdered names
+    → slice_get names x ≡ Some d → Matches names (name x) w ↔ Matches names d w

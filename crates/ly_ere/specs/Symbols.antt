@@ -2,7 +2,8 @@
 use Rattle.std.specs.Prelude.{◌≡◌, ◌≢◌, ◌↔◌, ℕ, List, [], drop}
 use Rattle.ly_base.specs.ByteSet.{members}
 use Rattle.ly_ere.specs.Front.{IsFront}
-use Rattle.ly_ere.specs.Words.{Word, one_of, string, opening, closing, bar, asterisk, plus_sign, question_mark, Quoted, Spells}
+use Rattle.ly_ere.specs.Words.{Word, one_of, string, opening, closing, bar, asterisk, plus_sign, question_mark, Quoted}
+use Rattle.ly_ere.specs.Words.{Spells}
 use Rattle.ly_ere.specs.declared.symbol.Postfix.{Postfix}
 use Rattle.ly_ere.specs.declared.symbol.Postfix.TheVariants.{Star, Plus, Optional}
 use Rattle.ly_ere.specs.declared.symbol.Symbol.{Symbol}

@@ -1,5 +1,6 @@
 -- How heavy an expression is: how many sets of bytes and empty strings it has, written out.
-use Rattle.std.specs.Prelude.{ℕ, zero, suc, ◌+◌, ◌*◌, max, List, length, slice_index_or, Option, Some, None, nat_eq, if◌then◌else◌}
+use Rattle.std.specs.Prelude.{ℕ, zero, suc, ◌+◌, ◌*◌, max, List, length, slice_index_or, Option, Some, None, nat_eq}
+use Rattle.std.specs.Prelude.{if◌then◌else◌}
 use Rattle.ly_ere.specs.Expression.{Expression, set, empty, concat, either, star, plus, optional, repeat, name}
 
 -- how often the part of a repetition stands in it, written out; one that is left out altogether weighs 1
@@ -23,7 +24,8 @@ weight_under named (name x) = named x
 -- the weight of definition x, of the first n
 abbrev pub named_weight : List Expression → ℕ → ℕ → ℕ
 named_weight names zero x = 0
-named_weight names (suc n) x = if nat_eq x n then weight_under (named_weight names n) (slice_index_or names n empty) else named_weight names n x
+named_weight names (suc n) x = if nat_eq x n then weight_under (named_weight names n) (slice_index_or names n empty)
+    else named_weight names n x
 
 abbrev pub weight_of : List Expression → Expression → ℕ
 weight_of names e = weight_under (named_weight names (length names)) e

@@ -1,5 +1,7 @@
 -- Candidates and winners: which rule matches at a place of a text (POSIX, lex, "Regular Expressions in lex").
-use Rattle.std.specs.Prelude.{◌≡◌, ℕ, ◌-◌, ◌≤◌, List, [], length, take, drop, slice_get, Bool, IsTrue, Contains, Option, Some, None}
+use Rattle.std.specs.Prelude.{◌≡◌, ℕ, ◌-◌, ◌≤◌, List, [], ◌++◌, length, take, drop, slice_get, Bool, IsTrue, Contains}
+use Rattle.std.specs.Prelude.{Option}
+use Rattle.std.specs.Prelude.{Some, None}
 use Rattle.ly_base.specs.declared.cut.Cut.{Cut}
 use Rattle.ly_base.specs.declared.cut.Cut.TheVariants.{Whole, Head, Tail}
 use Rattle.ly_ere.specs.Expression.{Expression, Matches}
@@ -39,8 +41,26 @@ pub record Fits (names : List Expression) (p : Pattern) (rest : List ℕ) (n m :
   pub in_head : Matches names p.head (take m rest)
   pub in_tail : InTail names p.tail (take (n - m) (drop m rest))
 
+-- w is a string of the pattern's head and then one of its tail
+abbrev pub PatternMatches : List Expression → Pattern → List ℕ → Type 0
+PatternMatches names p w = (u : List ℕ) × (v : List ℕ) × (w ≡ u ++ v) × Matches names p.head u × InTail names p.tail v
+
+-- Rule i is this one, it is active in the condition, and where it asks for the start of a line, one is there.
+pub record IsActive (rules : List Rule) (condition : ℕ) (line : Bool) (i : ℕ) (rule : Rule) : Type 0 where
+  pub is_rule : slice_get rules i ≡ Some rule
+  pub in_condition : Contains rule.active.items condition
+  pub at_line : IsTrue rule.pattern.line_start → IsTrue line
+
+-- w is a string of rule i, active here
+pub record IsString (names : List Expression) (rules : List Rule) (condition : ℕ) (line : Bool) (i : ℕ) (w : List ℕ)
+    : Type 0 where
+  pub rule : Rule
+  pub is_active : IsActive rules condition line i rule
+  pub spelled : PatternMatches names rule.pattern w
+
 -- Rule i matches n bytes, m of them its token.
-pub record Candidate (names : List Expression) (rules : List Rule) (condition : ℕ) (line : Bool) (rest : List ℕ) (i n m : ℕ) : Type 0 where
+pub record Candidate (names : List Expression) (rules : List Rule) (condition : ℕ) (line : Bool) (rest : List ℕ)
+    (i n m : ℕ) : Type 0 where
   pub rule : Rule
   pub is_rule : slice_get rules i ≡ Some rule
   pub is_active : Contains rule.active.items condition
@@ -48,7 +68,8 @@ pub record Candidate (names : List Expression) (rules : List Rule) (condition : 
   pub fits : Fits names rule.pattern rest n m
 
 -- The longest match, and of those the first rule's.
-pub record Winner (names : List Expression) (rules : List Rule) (condition : ℕ) (line : Bool) (rest : List ℕ) (i n m : ℕ) : Type 0 where
+pub record Winner (names : List Expression) (rules : List Rule) (condition : ℕ) (line : Bool) (rest : List ℕ)
+    (i n m : ℕ) : Type 0 where
   pub is_candidate : Candidate names rules condition line rest i n m
   pub longest : (j k l : ℕ) → Candidate names rules condition line rest j k l → k ≤ n
   pub first : (j l : ℕ) → Candidate names rules condition line rest j n l → i ≤ j

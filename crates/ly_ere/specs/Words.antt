@@ -1,5 +1,6 @@
 -- The words of an expression: how each is spelled (POSIX, XBD 9.4 and 9.3.5, as lex changes them).
-use Rattle.std.specs.Prelude.{◌≡◌, ◌≢◌, ◌↔◌, ℕ, ◌≤◌, drop, List, [], ◌∷◌, ◌++◌, Bool, true, false, not, ◌||◌, ◌&&◌, nat_eq, nat_le, codes, Option, Some, None, if◌then◌else◌}
+use Rattle.std.specs.Prelude.{◌≡◌, ◌≢◌, ◌↔◌, ℕ, ◌≤◌, drop, List, [], ◌∷◌, ◌++◌, Bool, true, false, not, ◌||◌, ◌&&◌}
+use Rattle.std.specs.Prelude.{nat_eq, nat_le, codes, Option, Some, None, if◌then◌else◌}
 use Rattle.ly_ere.specs.Front.{begins, stands_at}
 use Rattle.ly_base.specs.ByteSet.{bytes_where}
 use Rattle.ly_base.specs.Escapes.{Escape}
@@ -19,7 +20,8 @@ pub data Word : Type 0 where
 pub data Quoted : List ℕ → List ℕ → List ℕ → Type 0 where
   closed : (rest : List ℕ) → Quoted (34 ∷ rest) [] rest
   byte : (b : ℕ) (t bs rest : List ℕ) → b ≢ 34 → b ≢ 92 → b ≢ 10 → Quoted t bs rest → Quoted (b ∷ t) (b ∷ bs) rest
-  escape : (t more : List ℕ) (b : ℕ) (bs rest : List ℕ) → Escape t b more → Quoted more bs rest → Quoted (92 ∷ t) (b ∷ bs) rest
+  escape : (t more : List ℕ) (b : ℕ) (bs rest : List ℕ) → Escape t b more → Quoted more bs rest
+      → Quoted (92 ∷ t) (b ∷ bs) rest
 
 -- the byte b, and then what is quoted behind it
 abbrev pub IsMore : ℕ → List ℕ → List ℕ → List ℕ → Type 0
@@ -84,7 +86,8 @@ begins_range t = stands_at t 0 45 && not (stands_at t 1 93)
 -- A byte, or a range from one to another, as ranges.
 pub data Points : List ℕ → List (ℕ × ℕ) → List ℕ → Type 0 where
   single : (t rest : List ℕ) (b : ℕ) → Point t b rest → begins_range rest ≡ false → Points t ((b, b) ∷ []) rest
-  range : (t behind rest : List ℕ) (low high : ℕ) → Point t low (45 ∷ behind) → begins_range (45 ∷ behind) ≡ true → Point behind high rest → low ≤ high → Points t ((low, high) ∷ []) rest
+  range : (t behind rest : List ℕ) (low high : ℕ) → Point t low (45 ∷ behind) → begins_range (45 ∷ behind) ≡ true
+      → Point behind high rest → low ≤ high → Points t ((low, high) ∷ []) rest
 
 -- a class at the front, and the ranges that it adds
 abbrev pub IsClass : List ℕ → List (ℕ × ℕ) → List ℕ → Type 0
@@ -93,18 +96,23 @@ IsClass t rs rest = (name : List ℕ) × (class_of name ≡ Some rs) × (t ≡ 9
 -- An item and the ranges that it adds. A `-` at its front is the first item, or the last.
 pub data Item : Bool → List ℕ → List (ℕ × ℕ) → List ℕ → Type 0 where
   class : (first : Bool) (t rest : List ℕ) (rs : List (ℕ × ℕ)) → IsClass t rs rest → Item first t rs rest
-  equivalent : (first : Bool) (b : ℕ) (rest : List ℕ) → b ≢ 10 → Item first (91 ∷ 61 ∷ b ∷ 61 ∷ 93 ∷ rest) ((b, b) ∷ []) rest
-  points : (first : Bool) (t rest : List ℕ) (rs : List (ℕ × ℕ)) → (first ≡ false → begins_range t ≡ false) → Points t rs rest → Item first t rs rest
+  equivalent : (first : Bool) (b : ℕ) (rest : List ℕ) → b ≢ 10
+      → Item first (91 ∷ 61 ∷ b ∷ 61 ∷ 93 ∷ rest) ((b, b) ∷ []) rest
+  points : (first : Bool) (t rest : List ℕ) (rs : List (ℕ × ℕ)) → (first ≡ false → begins_range t ≡ false)
+      → Points t rs rest → Item first t rs rest
 
 -- Items up to the `]` that ends them, and all their ranges. There is at least one, and `]` is itself only as the first.
 pub data Items : Bool → List ℕ → List (ℕ × ℕ) → List ℕ → Type 0 where
   no_more : (rest : List ℕ) → Items false (93 ∷ rest) [] rest
-  more : (first : Bool) (t behind rest : List ℕ) (rs ss : List (ℕ × ℕ)) → (first ≡ false → stands_at t 0 93 ≡ false) → Item first t rs behind → Items false behind ss rest → Items first t (rs ++ ss) rest
+  more : (first : Bool) (t behind rest : List ℕ) (rs ss : List (ℕ × ℕ)) → (first ≡ false → stands_at t 0 93 ≡ false)
+      → Item first t rs behind → Items false behind ss rest → Items first t (rs ++ ss) rest
 
 -- What stands behind the `[` of a bracket expression: its bytes, of which there is one or more.
 pub data IsListed : List ℕ → List ℕ → List ℕ → Type 0 where
-  listed : (t rest : List ℕ) (rs : List (ℕ × ℕ)) → stands_at t 0 94 ≡ false → Items true t rs rest → bytes_where (in_ranges rs) ≢ [] → IsListed t (bytes_where (in_ranges rs)) rest
-  excluded : (t rest : List ℕ) (rs : List (ℕ × ℕ)) → Items true t rs rest → bytes_where (λ b. not (in_ranges rs b)) ≢ [] → IsListed (94 ∷ t) (bytes_where (λ b. not (in_ranges rs b))) rest
+  listed : (t rest : List ℕ) (rs : List (ℕ × ℕ)) → stands_at t 0 94 ≡ false → Items true t rs rest
+      → bytes_where (in_ranges rs) ≢ [] → IsListed t (bytes_where (in_ranges rs)) rest
+  excluded : (t rest : List ℕ) (rs : List (ℕ × ℕ)) → Items true t rs rest → bytes_where (λ b. not (in_ranges rs b)) ≢ []
+      → IsListed (94 ∷ t) (bytes_where (λ b. not (in_ranges rs b))) rest
 
 -- the signs, each a byte
 abbrev pub sign_of : ℕ → Option Word

@@ -1,5 +1,6 @@
 ghost use Rattle.std.specs.Option.{IfNone};
-ghost use Rattle.std.specs.Prelude.{◌≡◌, ◌≢◌, ℕ, ◌+◌, ◌<◌, ◌≤◌, List, [], ◌∷◌, drop, length, true, Some, None, IfErr, IfOk, IfSome, IsErrOf};
+ghost use Rattle.std.specs.Prelude.{◌≡◌, ◌≢◌, ℕ, ◌+◌, ◌<◌, ◌≤◌, List, [], ◌∷◌, drop, length, true, Some, None, IfErr};
+ghost use Rattle.std.specs.Prelude.{IfOk, IfSome, IsErrOf};
 ghost use Rattle.ly_base.specs.ByteSet.{has, members};
 ghost use Rattle.ly_ere.specs.Brackets.{AreItems, IsAdded, IsNamed, as_classes, names};
 ghost use Rattle.ly_ere.specs.Front.{BeginsNo, IsFront, begins};
@@ -61,7 +62,8 @@ fn items(text: &[u8]) -> Result<(ByteSet, usize), EreFault>
 /// itself as the first item, the last one, or the end of a range.
 fn add_item(set: &mut ByteSet, text: &[u8], is_first: bool) -> Result<usize, EreFault>
     ensures front { IfOk result (IsFront text.now) }
-    ensures item { IfOk result (λ taken. (rs : List (ℕ × ℕ)) × Item is_first text.now rs (drop taken text.now) × IsAdded set.old set.new rs) }
+    ensures item { IfOk result (λ taken. (rs : List (ℕ × ℕ)) × Item is_first text.now rs (drop taken text.now)
+        × IsAdded set.old set.new rs) }
     ensures refused { IfErr result (λ _. BeginsNo (Item is_first) text.now) }
     ensures not_heavy { IsErrOf result EreFault.TooHeavy → ⊥ }
 {
@@ -83,7 +85,8 @@ fn add_item(set: &mut ByteSet, text: &[u8], is_first: bool) -> Result<usize, Ere
 fn add_class(set: &mut ByteSet, text: &[u8]) -> Result<usize, EreFault>
     requires { begins text.now 58 ≡ true }
     ensures front { IfOk result (IsFront text.now) }
-    ensures item { IfOk result (λ taken. (rs : List (ℕ × ℕ)) × IsClass text.now rs (drop taken text.now) × IsAdded set.old set.new rs) }
+    ensures item { IfOk result (λ taken. (rs : List (ℕ × ℕ)) × IsClass text.now rs (drop taken text.now)
+        × IsAdded set.old set.new rs) }
     ensures refused { IfErr result (λ _. BeginsNo IsClass text.now) }
     ensures not_heavy { IsErrOf result EreFault.TooHeavy → ⊥ }
 {
@@ -105,7 +108,8 @@ fn begins_range(text: &[u8]) -> bool
 /// Adds the byte or the range at the front of a text, and answers how many bytes it takes.
 fn add_range(set: &mut ByteSet, text: &[u8]) -> Result<usize, EreFault>
     ensures front { IfOk result (IsFront text.now) }
-    ensures points { IfOk result (λ taken. (rs : List (ℕ × ℕ)) × Points text.now rs (drop taken text.now) × IsAdded set.old set.new rs) }
+    ensures points { IfOk result (λ taken. (rs : List (ℕ × ℕ)) × Points text.now rs (drop taken text.now)
+        × IsAdded set.old set.new rs) }
     ensures refused { IfErr result (λ _. BeginsNo Points text.now) }
     ensures not_heavy { IsErrOf result EreFault.TooHeavy → ⊥ }
 {
@@ -173,7 +177,8 @@ fn named_byte(text: &[u8], mark: u8) -> Result<(u8, usize), EreFault>
 fn named_end(text: &[u8], mark: u8) -> Option<usize>
     ensures within { IfSome result (λ end. (2 ≤ end) × (end + 2 ≤ length text.now)) }
     ensures ends { IfSome result (λ end. drop end text.now ≡ mark ∷ 93 ∷ drop (end + 2) text.now) }
-    ensures first { IfSome result (λ end. (name rest : List ℕ) → IsNamed mark (drop 2 text.now) name rest → end ≡ 2 + length name) }
+    ensures first { IfSome result (λ end. (name rest : List ℕ) → IsNamed mark (drop 2 text.now) name rest
+        → end ≡ 2 + length name) }
     ensures none { IfNone result (BeginsNo (IsNamed mark) (drop 2 text.now)) }
 {
     for at in 2..text.len() {

@@ -9,7 +9,8 @@ use crate::symbol::next_symbol;
 pub fn pattern_length(line: &[u8]) -> usize
     ensures within { result ≤ length line.now }
     ensures ends { IsBehind (drop result line.now) }
-    ensures exact { (text behind : List ℕ) (words : List Word) → line.now ≡ text ++ behind → IsBehind behind → Worded text words → result ≡ length text }
+    ensures exact { (text behind : List ℕ) (words : List Word) → line.now ≡ text ++ behind → IsBehind behind
+        → Worded text words → result ≡ length text }
 {
     let mut at = 0;
     while at < line.len() && !matches!(line[at], b' ' | b'\t') {

@@ -38,7 +38,8 @@ impl Level {
         requires parts { IsWithin (length arena.old) self }
         requires within { atom < length arena.old }
         ensures parts { IfOk result (IsWithin (length arena.new)) }
-        ensures atom { IfOk result (λ l. group_of arena.new l ≡ with_atom (group_of arena.old self) (part_of arena.old atom)) }
+        ensures atom { IfOk result (λ l. group_of arena.new l ≡ with_atom (group_of arena.old self)
+            (part_of arena.old atom)) }
         ensures grown { Grows arena.old arena.new }
     {
         let branch = self.open_branch(arena)?;
@@ -53,8 +54,10 @@ impl Level {
     pub(crate) fn with_postfix(self, arena: &mut Arena, postfix: Postfix) -> Result<Level, EreFault>
         requires parts { IsWithin (length arena.old) self }
         ensures parts { IfOk result (IsWithin (length arena.new)) }
-        ensures operator { IfOk result (λ l. with_postfix (group_of arena.old self) (operated postfix) ≡ Some (group_of arena.new l)) }
-        ensures refused { IfErr result (λ e. e ≢ OutOfMemory → with_postfix (group_of arena.old self) (operated postfix) ≡ None) }
+        ensures operator { IfOk result (λ l. with_postfix (group_of arena.old self) (operated postfix)
+            ≡ Some (group_of arena.new l)) }
+        ensures refused { IfErr result (λ e. e ≢ OutOfMemory → with_postfix (group_of arena.old self) (operated postfix)
+            ≡ None) }
         ensures grown { Grows arena.old arena.new }
         ensures not_heavy { IsErrOf result EreFault.TooHeavy → ⊥ }
     {

@@ -1,4 +1,5 @@
-ghost use Rattle.std.specs.Prelude.{All, [], ◌∷◌, ◌≡◌, ◌≢◌, ℕ, List, ◌<◌, ◌≤◌, Some, None, length, IfOk, IfErr, OnOk, IsErrOf};
+ghost use Rattle.std.specs.Prelude.{All, [], ◌∷◌, ◌≡◌, ◌≢◌, ℕ, List, ◌<◌, ◌≤◌, Some, None, length, IfOk, IfErr, OnOk};
+ghost use Rattle.std.specs.Prelude.{IsErrOf};
 ghost use Rattle.ly_base.specs.Limits.{pattern_weight_of};
 ghost use Rattle.ly_ere.specs.Arena.{part_of};
 ghost use Rattle.ly_ere.specs.Expression.{Expression, set};
@@ -37,7 +38,8 @@ pub fn read_pattern(
     ensures light { IfOk result (λ p. weight_of_both names.now p.head p.tail ≤ pattern_weight_of limits.now) }
     ensures heavy { IsErrOf result EreFault.TooHeavy → (p : Pattern) × IsPattern names.now text.now p
         × (pattern_weight_of limits.now < weight_of_both names.now p.head p.tail) }
-    ensures refused { IfErr result (λ e. e ≢ OutOfMemory → (p : Pattern) → IsPattern names.now text.now p → weight_of_both names.now p.head p.tail ≤ pattern_weight_of limits.now → ⊥) }
+    ensures refused { IfErr result (λ e. e ≢ OutOfMemory → (p : Pattern) → IsPattern names.now text.now p
+        → weight_of_both names.now p.head p.tail ≤ pattern_weight_of limits.now → ⊥) }
 {
     let head = read_expression(alloc, text)?;
     let Some(_) = weigh(alloc, &head, names, limits.pattern_weight())? else {
@@ -85,8 +87,10 @@ fn with_symbol(
     requires formed { IsWellFormed symbol }
     ensures parts { IfOk result (IsWithin (length arena.new)) }
     ensures outer_parts { OnOk result (All (IsWithin (length arena.new)) outer.new.items) }
-    ensures step { IfOk result (λ l. (w : Word) × IsWord symbol.entry w × (step w (reading_of arena.old outer.old.items level) ≡ Some (reading_of arena.new outer.new.items l))) }
-    ensures refused { IfErr result (λ e. e ≢ OutOfMemory → (w : Word) → IsWord symbol.entry w → step w (reading_of arena.old outer.old.items level) ≡ None) }
+    ensures step { IfOk result (λ l. (w : Word) × IsWord symbol.entry w
+        × (step w (reading_of arena.old outer.old.items level) ≡ Some (reading_of arena.new outer.new.items l))) }
+    ensures refused { IfErr result (λ e. e ≢ OutOfMemory → (w : Word) → IsWord symbol.entry w
+        → step w (reading_of arena.old outer.old.items level) ≡ None) }
     ensures not_heavy { IsErrOf result EreFault.TooHeavy → ⊥ }
 {
     match symbol {
@@ -114,8 +118,10 @@ fn close(arena: &mut Arena, outer: &mut Vec<Level>, level: Level) -> Result<Leve
     requires outer_parts { All (IsWithin (length arena.old)) outer.old.items }
     ensures parts { IfOk result (IsWithin (length arena.new)) }
     ensures outer_parts { OnOk result (All (IsWithin (length arena.new)) outer.new.items) }
-    ensures closed { IfOk result (λ l. closed (groups_of arena.old outer.old.items) (whole (group_of arena.old level)) ≡ Some (reading_of arena.new outer.new.items l)) }
-    ensures refused { IfErr result (λ e. e ≢ OutOfMemory → closed (groups_of arena.old outer.old.items) (whole (group_of arena.old level)) ≡ None) }
+    ensures closed { IfOk result (λ l. closed (groups_of arena.old outer.old.items) (whole (group_of arena.old level))
+        ≡ Some (reading_of arena.new outer.new.items l)) }
+    ensures refused { IfErr result (λ e. e ≢ OutOfMemory
+        → closed (groups_of arena.old outer.old.items) (whole (group_of arena.old level)) ≡ None) }
     ensures not_heavy { IsErrOf result EreFault.TooHeavy → ⊥ }
 {
     let Some(around) = outer.pop() else {
@@ -129,7 +135,8 @@ fn close(arena: &mut Arena, outer: &mut Vec<Level>, level: Level) -> Result<Leve
 fn push_string(arena: &mut Arena, behind: &[u8]) -> Result<usize, EreFault>
     ensures within { IfOk result (λ n. n < length arena.new) }
     ensures grown { Grows arena.old arena.new }
-    ensures string { IfOk result (λ n. (bs : List ℕ) × (rest : List ℕ) × Quoted behind.now bs rest × (part_of arena.new n ≡ in_order bs)) }
+    ensures string { IfOk result (λ n. (bs : List ℕ) × (rest : List ℕ) × Quoted behind.now bs rest
+        × (part_of arena.new n ≡ in_order bs)) }
     ensures refused { IfErr result (λ e. e ≢ OutOfMemory → BeginsNo Quoted behind.now) }
     ensures not_heavy { IsErrOf result EreFault.TooHeavy → ⊥ }
 {

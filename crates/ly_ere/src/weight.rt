@@ -1,4 +1,5 @@
-ghost use Rattle.std.specs.Prelude.{◌≡◌, ℕ, ◌<◌, ◌≤◌, ◌+◌, ◌^◌, List, length, map, min, slice_index_or, IfOk, MatchOption};
+ghost use Rattle.std.specs.Prelude.{◌≡◌, ℕ, ◌<◌, ◌≤◌, ◌+◌, ◌^◌, List, length, map, min, slice_index_or, IfOk};
+ghost use Rattle.std.specs.Prelude.{MatchOption};
 ghost use Rattle.ly_ere.specs.Arena.{expression_of, expressions, FitsAt, IsOrdered};
 ghost use Rattle.ly_ere.specs.Expression.{Expression, empty};
 ghost use Rattle.ly_ere.specs.Weight.{named_weight, repeated_weight, weight_of, weight_under};
@@ -61,7 +62,8 @@ fn capped_weights(
     requires named { (x : ℕ) → slice_index_or named.now x 0 ≤ cap }
     ensures counted { IfOk result (λ weights. length weights.items ≡ length nodes.now) }
     ensures capped { IfOk result (λ weights. (k : ℕ) → slice_index_or weights.items k 0 ≤ cap) }
-    ensures weights { IfOk result (λ weights. (weight : ℕ → ℕ) → ((x : ℕ) → slice_index_or named.now x 0 ≡ min (weight x) cap)
+    ensures weights { IfOk result (λ weights. (weight : ℕ → ℕ)
+        → ((x : ℕ) → slice_index_or named.now x 0 ≡ min (weight x) cap)
         → weights.items ≡ map (λ e. min (weight_under weight e) cap) (expressions nodes.now)) }
 {
     let mut weights = Vec::new(alloc);
@@ -80,7 +82,8 @@ fn node_weight(node: Node, weights: &[u64], named: &[u64], cap: u64) -> u64
     requires weights { (k : ℕ) → slice_index_or weights.now k 0 ≤ cap }
     requires named { (x : ℕ) → slice_index_or named.now x 0 ≤ cap }
     ensures capped { result ≤ cap }
-    ensures weight { (done : List Expression) (weight : ℕ → ℕ) → weights.now ≡ map (λ e. min (weight_under weight e) cap) done
+    ensures weight { (done : List Expression) (weight : ℕ → ℕ)
+        → weights.now ≡ map (λ e. min (weight_under weight e) cap) done
         → ((x : ℕ) → slice_index_or named.now x 0 ≡ min (weight x) cap)
         → result ≡ min (weight_under weight (expression_of done node)) cap }
 {

@@ -1,6 +1,7 @@
 -- What an action says is determined by its words.
 use Rattle.std.specs.Bool.{MatchBool}
-use Rattle.std.proofs.Common.{◌≡◌, ◌≢◌, ℕ, Option, Some, None, List, [], ◌∷◌, Bool, true, false, refl, sym, ap, ◌∙◌, subst}
+use Rattle.std.proofs.Common.{◌≡◌, ◌≢◌, ℕ, Option, Some, None, List, [], ◌∷◌, Bool, true, false, refl, sym, ap, ◌∙◌}
+use Rattle.std.proofs.Common.{subst}
 use Rattle.std.specs.Option.{MatchOption}
 use denote.Ref.{Bor}
 use lib.Chars.{codes}
@@ -13,9 +14,11 @@ use Rattle.ly_lexread.specs.Action.{value_meaning, Meaning, nothing, StandsFor, 
 use Rattle.ly_lexread.proofs.WordLemmas.{front_one, front_none, wording_one}
 
 -- a text with a word in front has that word first
-pub behind_front : (text rest : List ℕ) (x : Word) (ws : List Word) → Front text x rest → Wording text ws → (xs : List Word) × (ws ≡ x ∷ xs) × Wording rest xs
+pub behind_front : (text rest : List ℕ) (x : Word) (ws : List Word) → Front text x rest → Wording text ws
+    → (xs : List Word) × (ws ≡ x ∷ xs) × Wording rest xs
 behind_front text rest x [] f w = absurd (front_none text x rest w f)
-behind_front text rest x (y ∷ ys) f w = let e = front_one text y x w.0 rest w.1 f in (ys, ap (λ z. z ∷ ys) e.0, subst (λ r. Wording r ys) e.1 w.2)
+behind_front text rest x (y ∷ ys) f w = let e = front_one text y x w.0 rest w.1 f
+    in (ys, ap (λ z. z ∷ ys) e.0, subst (λ r. Wording r ys) e.1 w.2)
 
 -- something else than the end stands in front
 pub not_end : (text rest : List ℕ) (w : NextWord) → IsFront text w rest → (w ≡ End → ⊥) → Gap text → ⊥
@@ -26,12 +29,15 @@ not_end text rest (Byte b) f h g = front_none text (literal b) rest g f
 not_end text rest Other f h g = f.0 g
 
 -- a `;` and then a gap, or not
-pub ended_semicolon : (text rest : List ℕ) (t : Bool) → Front text semicolon rest → MatchBool t (Gap rest) (Gap rest → ⊥) → MatchBool t (Wording text (semicolon ∷ [])) (Wording text (semicolon ∷ []) → ⊥)
+pub ended_semicolon : (text rest : List ℕ) (t : Bool) → Front text semicolon rest
+    → MatchBool t (Gap rest) (Gap rest → ⊥) → MatchBool t (Wording text (semicolon ∷ [])) (Wording text (semicolon ∷ [])
+    → ⊥)
 ended_semicolon text rest true f h = (rest, f, h)
 ended_semicolon text rest false f h = λ w. h (subst Gap (front_one text semicolon semicolon w.0 rest w.1 f).1 w.2)
 
 -- something else than `;` stands in front
-pub not_semicolon : (text rest : List ℕ) (w : NextWord) (xs : List Word) → IsFront text w rest → (w ≡ Semicolon → ⊥) → Wording text (semicolon ∷ xs) → ⊥
+pub not_semicolon : (text rest : List ℕ) (w : NextWord) (xs : List Word) → IsFront text w rest → (w ≡ Semicolon → ⊥)
+    → Wording text (semicolon ∷ xs) → ⊥
 not_semicolon text rest End xs f h w = front_none text semicolon w.0 f w.1
 not_semicolon text rest Semicolon xs f h w = h refl
 not_semicolon text rest (Name n) xs f h w = cc (front_one text (name n.now) semicolon rest w.0 f w.1).0
@@ -55,17 +61,21 @@ parts text m (x ∷ name n ∷ ys, w, s) = absurd s
 parts text m (x ∷ literal b ∷ ys, w, s) = absurd s
 
 -- a value in front is returned where a `;` ends the text
-pub returns_value : (text rest : List ℕ) (x : Word) (m : Meaning) (t : Bool) → Front text x rest → StandsFor x m → MatchBool t (Wording rest (semicolon ∷ [])) (Wording rest (semicolon ∷ []) → ⊥) → MatchBool t (Returns text m) ((m : Meaning) → Returns text m → ⊥)
+pub returns_value : (text rest : List ℕ) (x : Word) (m : Meaning) (t : Bool) → Front text x rest → StandsFor x m
+    → MatchBool t (Wording rest (semicolon ∷ [])) (Wording rest (semicolon ∷ []) → ⊥)
+    → MatchBool t (Returns text m) ((m : Meaning) → Returns text m → ⊥)
 returns_value text rest x m true f s h = (x ∷ semicolon ∷ [], (rest, f, h), (refl, s))
 returns_value text rest x m false f s h = λ n r.
     let p = parts text n r in
     h (subst (λ u. Wording u (semicolon ∷ [])) (front_one text p.word x p.rest rest p.front f).1 p.closed)
 
 -- no value stands in front
-pub returns_none : (text rest : List ℕ) (w : NextWord) (m : Meaning) → IsFront text w rest → ((n : Bor (List ℕ)) → w ≡ Name n → ⊥) → ((b : ℕ) → w ≡ Byte b → ⊥) → Returns text m → ⊥
+pub returns_none : (text rest : List ℕ) (w : NextWord) (m : Meaning) → IsFront text w rest
+    → ((n : Bor (List ℕ)) → w ≡ Name n → ⊥) → ((b : ℕ) → w ≡ Byte b → ⊥) → Returns text m → ⊥
 returns_none text rest w m f h k r = at w f h k (parts text m r)
   where
-    at : (w : NextWord) → IsFront text w rest → ((n : Bor (List ℕ)) → w ≡ Name n → ⊥) → ((b : ℕ) → w ≡ Byte b → ⊥) → Parts text m → ⊥
+    at : (w : NextWord) → IsFront text w rest → ((n : Bor (List ℕ)) → w ≡ Name n → ⊥) → ((b : ℕ) → w ≡ Byte b → ⊥)
+        → Parts text m → ⊥
     at End f h k p = front_none text p.word p.rest f p.front
     at Semicolon f h k p = subst (λ x. StandsFor x m) (front_one text p.word semicolon p.rest rest p.front f).0 p.stands
     at (Name n) f h k p = h n refl
@@ -73,7 +83,8 @@ returns_none text rest w m f h k r = at w f h k (parts text m r)
     at Other f h k p = f.1 p.word p.rest p.front
 
 -- `;` in front says nothing, where it ends the text
-pub says_nothing : (text rest : List ℕ) (t : Bool) → Front text semicolon rest → MatchBool t (Gap rest) (Gap rest → ⊥) → MatchBool t (Says text nothing) ((m : Meaning) → Says text m → ⊥)
+pub says_nothing : (text rest : List ℕ) (t : Bool) → Front text semicolon rest → MatchBool t (Gap rest) (Gap rest → ⊥)
+    → MatchBool t (Says text nothing) ((m : Meaning) → Says text m → ⊥)
 says_nothing text rest true f h = (semicolon ∷ [], (rest, f, h), refl)
 says_nothing text rest false f h = λ m s. at m s.0 s.2 (behind_front text rest semicolon s.0 f s.1)
   where
@@ -85,12 +96,15 @@ says_nothing text rest false f h = λ m s. at m s.0 s.2 (behind_front text rest 
         none m x xs s = s
 
 -- what stands behind `return` decides
-pub says_returned : (text r rest : List ℕ) (o : Option Value) → Front text (name r) rest → r ≡ codes "return" → MatchOption o ((m : Meaning) → Returns rest m → ⊥) (λ v. Returns rest (value_meaning v)) → MatchOption o ((m : Meaning) → Says text m → ⊥) (λ v. Says text (value_meaning v))
+pub says_returned : (text r rest : List ℕ) (o : Option Value) → Front text (name r) rest → r ≡ codes "return"
+    → MatchOption o ((m : Meaning) → Returns rest m → ⊥) (λ v. Returns rest (value_meaning v))
+    → MatchOption o ((m : Meaning) → Says text m → ⊥) (λ v. Says text (value_meaning v))
 says_returned text r rest None f e h = λ m s. at m s.0 s.2 (behind_front text rest (name r) s.0 f s.1)
   where
     at : (m : Meaning) (ws : List Word) → Say ws m → (xs : List Word) × (ws ≡ name r ∷ xs) × Wording rest xs → ⊥
     at m ws s (xs, g, w) = h m (xs, w, subst (λ u. Say u m) (g ∙ ap (λ n. name n ∷ xs) e) s)
-says_returned text r rest (Some v) f e (ws, w, s) = (name (codes "return") ∷ ws, (rest, subst (λ n. Front text (name n) rest) e f, w), s)
+says_returned text r rest (Some v) f e (ws, w, s)
+    = (name (codes "return") ∷ ws, (rest, subst (λ n. Front text (name n) rest) e f, w), s)
 
 say_name : (r : List ℕ) (xs : List Word) (m : Meaning) → Say (name r ∷ xs) m → r ≡ codes "return"
 say_name r [] m s = absurd s
@@ -144,8 +158,10 @@ says_one text m n a b = say_one b.0 m n (subst (λ ws. Say ws m) (wording_one te
 pub at_semicolon : (text rest : List ℕ) (w : NextWord) → w ≡ Semicolon → IsFront text w rest → Front text semicolon rest
 at_semicolon text rest w e f = subst (λ v. IsFront text v rest) e f
 
-pub at_name : (text rest : List ℕ) (w : NextWord) (n : Bor (List ℕ)) → w ≡ Name n → IsFront text w rest → Front text (name n.now) rest
+pub at_name : (text rest : List ℕ) (w : NextWord) (n : Bor (List ℕ)) → w ≡ Name n → IsFront text w rest
+    → Front text (name n.now) rest
 at_name text rest w n e f = subst (λ v. IsFront text v rest) e f
 
-pub at_byte : (text rest : List ℕ) (w : NextWord) (b : ℕ) → w ≡ Byte b → IsFront text w rest → Front text (literal b) rest
+pub at_byte : (text rest : List ℕ) (w : NextWord) (b : ℕ) → w ≡ Byte b → IsFront text w rest
+    → Front text (literal b) rest
 at_byte text rest w b e f = subst (λ v. IsFront text v rest) e f

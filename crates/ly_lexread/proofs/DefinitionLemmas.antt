@@ -6,7 +6,9 @@ use Rattle.ly_lexread.specs.Gap.{is_blank}
 use Rattle.ly_lexread.specs.Definitions.{BeginsWith, IsMark, IsUnused, Definitions, mark, unused}
 
 -- what `starts_with` answers
-pub begun : (line front : List ℕ) (t : Bool) → (t ≡ true → line ≡ front ++ drop (length front) line) × ((rest : List ℕ) → line ≡ front ++ rest → t ≡ true) → MatchBool t (BeginsWith line front) (BeginsWith line front → ⊥)
+pub begun : (line front : List ℕ) (t : Bool) → (t ≡ true → line ≡ front ++ drop (length front) line)
+    × ((rest : List ℕ) → line ≡ front ++ rest → t ≡ true) → MatchBool t (BeginsWith line front) (BeginsWith line front
+    → ⊥)
 begun line front true h = (drop (length front) line, h.0 refl)
 begun line front false h = λ w. false≢true (h.1 w.0 w.1)
 
@@ -15,17 +17,22 @@ mark_used [] m u = cc m.1
 mark_used (b ∷ line) m u = let same : b ≡ 37 = cc m.1 in false≢true (sym (ap is_blank same) ∙ u)
 
 -- a line that isn't used is left out
-pub definitions_behind : (left rest behind : List (List ℕ)) (line : List ℕ) → left ≡ line ∷ rest → IsUnused line → Definitions left behind → Definitions rest behind
+pub definitions_behind : (left rest behind : List (List ℕ)) (line : List ℕ) → left ≡ line ∷ rest → IsUnused line
+    → Definitions left behind → Definitions rest behind
 definitions_behind left rest behind line e u (mark l ls m) = absurd (mark_used l m (subst IsUnused (cc e) u))
-definitions_behind left rest behind line e u (unused l ls r v d) = let same : ls ≡ rest = cc e in subst (λ x. Definitions x behind) same d
+definitions_behind left rest behind line e u (unused l ls r v d) = let same : ls ≡ rest = cc e
+    in subst (λ x. Definitions x behind) same d
 
-pub definitions_on : (left rest behind : List (List ℕ)) (line : List ℕ) → left ≡ line ∷ rest → IsUnused line → Definitions rest behind → Definitions left behind
+pub definitions_on : (left rest behind : List (List ℕ)) (line : List ℕ) → left ≡ line ∷ rest → IsUnused line
+    → Definitions rest behind → Definitions left behind
 definitions_on left rest behind line e u d = subst (λ x. Definitions x behind) (sym e) (unused line rest behind u d)
 
-pub definitions_end : (left rest : List (List ℕ)) (line : List ℕ) → left ≡ line ∷ rest → IsMark line → Definitions left rest
+pub definitions_end : (left rest : List (List ℕ)) (line : List ℕ) → left ≡ line ∷ rest → IsMark line
+    → Definitions left rest
 definitions_end left rest line e m = subst (λ x. Definitions x rest) (sym e) (mark line rest m)
 
-pub no_definition : (left rest behind : List (List ℕ)) (line : List ℕ) → left ≡ line ∷ rest → (IsMark line → ⊥) → (IsUnused line → ⊥) → Definitions left behind → ⊥
+pub no_definition : (left rest behind : List (List ℕ)) (line : List ℕ) → left ≡ line ∷ rest → (IsMark line → ⊥)
+    → (IsUnused line → ⊥) → Definitions left behind → ⊥
 no_definition left rest behind line e h k (mark l ls m) = h (subst IsMark (cc e) m)
 no_definition left rest behind line e h k (unused l ls r v d) = k (subst IsUnused (cc e) v)
 

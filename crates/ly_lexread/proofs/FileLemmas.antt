@@ -21,18 +21,22 @@ use Rattle.ly_lexread.proofs.DefinitionLemmas.{definitions_one, mark_used}
 use Rattle.ly_lexread.proofs.RuleLemmas.{in_front, rules_behind}
 
 -- no lines and no rules
-rules_none : (names : List Expression) (left : List (List ℕ)) (rs : List Rule) (xs : List Action) → left ≡ [] → Rules names left rs xs → (rs ≡ []) × (xs ≡ [])
+rules_none : (names : List Expression) (left : List (List ℕ)) (rs : List Rule) (xs : List Action) → left ≡ []
+    → Rules names left rs xs → (rs ≡ []) × (xs ≡ [])
 rules_none names left rs xs e end = (refl, refl)
 rules_none names left rs xs e (mark l ls m) = (refl, refl)
 rules_none names left rs xs e (unused l ls ps qs u d) = cc e
 rules_none names left rs xs e (rule l ls r a ps qs v d) = cc e
 
 -- no rules stand behind a mark
-rules_marked : (names : List Expression) (left rest : List (List ℕ)) (rs : List Rule) (xs : List Action) (line : List ℕ) → left ≡ line ∷ rest → IsMark line → Rules names left rs xs → (rs ≡ []) × (xs ≡ [])
+rules_marked : (names : List Expression) (left rest : List (List ℕ)) (rs : List Rule) (xs : List Action) (line : List ℕ)
+    → left ≡ line ∷ rest → IsMark line → Rules names left rs xs → (rs ≡ []) × (xs ≡ [])
 rules_marked names left rest rs xs line e m end = (refl, refl)
 rules_marked names left rest rs xs line e m (mark l ls k) = (refl, refl)
-rules_marked names left rest rs xs line e m (unused l ls ps qs u d) = absurd (mark_used line m (subst IsUnused (cc e) u))
-rules_marked names left rest rs xs line e m (rule l ls r a ps qs v d) = absurd (v.parts.no_mark (subst IsMark (sym (cc e)) m))
+rules_marked names left rest rs xs line e m (unused l ls ps qs u d)
+    = absurd (mark_used line m (subst IsUnused (cc e) u))
+rules_marked names left rest rs xs line e m (rule l ls r a ps qs v d)
+    = absurd (v.parts.no_mark (subst IsMark (sym (cc e)) m))
 
 -- what a line says is determined
 record AreEqual (r s : Rule) (a b : Action) : Type 0 where
@@ -41,33 +45,46 @@ record AreEqual (r s : Rule) (a b : Action) : Type 0 where
   begin : a.begin ≡ b.begin
   returns : meaning_of a.returns ≡ meaning_of b.returns
 
-line_one : (names : List Expression) (line : List ℕ) (r s : Rule) (a b : Action) → IsRuleLine names line r a → IsRuleLine names line s b → AreEqual r s a b
+line_one : (names : List Expression) (line : List ℕ) (r s : Rule) (a b : Action) → IsRuleLine names line r a
+    → IsRuleLine names line s b → AreEqual r s a b
 line_one names line r s a b v w =
     let whole : v.text ++ v.behind ≡ w.text ++ w.behind = sym v.parts.together ∙ w.parts.together in
-    let text : v.text ≡ w.text = extent_one v.text v.behind w.text w.behind v.is_pattern.head.0 w.is_pattern.head.0 v.is_pattern.head.1 w.is_pattern.head.1 v.parts.follows w.parts.follows whole in
-    let behind : v.behind ≡ w.behind = append_cancel_left v.text v.behind w.behind (whole ∙ ap (λ t. t ++ w.behind) (sym text)) in
+    let text : v.text ≡ w.text
+    = extent_one v.text v.behind w.text w.behind v.is_pattern.head.0 w.is_pattern.head.0 v.is_pattern.head.1
+    w.is_pattern.head.1 v.parts.follows w.parts.follows whole in
+    let behind : v.behind ≡ w.behind
+    = append_cancel_left v.text v.behind w.behind (whole ∙ ap (λ t. t ++ w.behind) (sym text)) in
     let action : IsAction v.behind b = subst (λ t. IsAction t b) (sym behind) w.is_action in
     record {
-      pattern = pattern_one names v.text r.pattern s.pattern v.is_pattern (subst (λ t. IsPattern names t s.pattern) (sym text) w.is_pattern);
+      pattern = pattern_one names v.text r.pattern s.pattern v.is_pattern
+          (subst (λ t. IsPattern names t s.pattern) (sym text) w.is_pattern);
       active = v.is_active ∙ sym w.is_active;
       begin = v.is_action.0 ∙ sym action.0;
       returns = says_one v.behind (meaning_of a.returns) (meaning_of b.returns) v.is_action.1 action.1;
     }
 
-rules_one : (names : List Expression) (left : List (List ℕ)) (rs ss : List Rule) (xs ys : List Action) → Rules names left rs xs → Rules names left ss ys → AreSameRules rs ss × AreSameActions xs ys
-rules_one names left rs ss xs ys end d = let e = rules_none names [] ss ys refl d in (subst (AreSameRules []) (sym e.0) tt, subst (AreSameActions []) (sym e.1) tt)
-rules_one names left rs ss xs ys (mark l ls m) d = let e = rules_marked names (l ∷ ls) ls ss ys l refl m d in (subst (AreSameRules []) (sym e.0) tt, subst (AreSameActions []) (sym e.1) tt)
-rules_one names left rs ss xs ys (unused l ls ps qs u c) d = rules_one names ls rs ss xs ys c (rules_behind names (l ∷ ls) ls ss ys l refl u d)
+rules_one : (names : List Expression) (left : List (List ℕ)) (rs ss : List Rule) (xs ys : List Action)
+    → Rules names left rs xs → Rules names left ss ys → AreSameRules rs ss × AreSameActions xs ys
+rules_one names left rs ss xs ys end d = let e = rules_none names [] ss ys refl d
+    in (subst (AreSameRules []) (sym e.0) tt, subst (AreSameActions []) (sym e.1) tt)
+rules_one names left rs ss xs ys (mark l ls m) d = let e = rules_marked names (l ∷ ls) ls ss ys l refl m d
+    in (subst (AreSameRules []) (sym e.0) tt, subst (AreSameActions []) (sym e.1) tt)
+rules_one names left rs ss xs ys (unused l ls ps qs u c) d
+    = rules_one names ls rs ss xs ys c (rules_behind names (l ∷ ls) ls ss ys l refl u d)
 rules_one names left rs ss xs ys (rule l ls r a ps qs v c) d =
     let f = in_front names (l ∷ ls) ls ss ys l refl v.parts.no_mark v.parts.is_used d in
     let same = line_one names l r f.one a f.action v f.reads in
-    let rest = rules_one names ls ps f.more qs f.actions c f.behind in
-    (subst (AreSameRules (r ∷ ps)) (sym f.these) (same.pattern, same.active, rest.0), subst (AreSameActions (a ∷ qs)) (sym f.those) (same.begin, same.returns, rest.1))
+    let rest = rules_one names ls ps f.more qs f.actions c f.behind in (
+      subst (AreSameRules (r ∷ ps)) (sym f.these) (same.pattern, same.active, rest.0),
+      subst (AreSameActions (a ∷ qs))
+          (sym f.those) (same.begin, same.returns, rest.1),
+    )
 
 pub lex_text_one : LexTextIsOne
 lex_text_one bytes f g a b =
     let behind = definitions_one (lines_of bytes) a.behind b.behind a.definitions b.definitions in
-    let rules = rules_one [] b.behind f.rules.items g.rules.items f.actions.items g.actions.items (subst (λ i. Rules [] i f.rules.items f.actions.items) behind a.rules) b.rules in
+    let rules = rules_one [] b.behind f.rules.items g.rules.items f.actions.items g.actions.items
+    (subst (λ i. Rules [] i f.rules.items f.actions.items) behind a.rules) b.rules in
     record {
       names = a.no_names ∙ sym b.no_names;
       rules = rules.0;
@@ -82,24 +99,28 @@ pub record IsPlain (r : Rule) : Type 0 where
   pub no_cut : r.pattern.cut ≡ Whole
   pub active : r.active.items ≡ 0 ∷ []
 
-rule_plain : (names : List Expression) (lines : List (List ℕ)) (rs : List Rule) (xs : List Action) (i : ℕ) (r : Rule) → Rules names lines rs xs → slice_get rs i ≡ Some r → IsPlain r
+rule_plain : (names : List Expression) (lines : List (List ℕ)) (rs : List Rule) (xs : List Action) (i : ℕ) (r : Rule)
+    → Rules names lines rs xs → slice_get rs i ≡ Some r → IsPlain r
 rule_plain names lines rs xs i r end e = cc e
 rule_plain names lines rs xs i r (mark l ls m) e = cc e
 rule_plain names lines rs xs i r (unused l ls ps qs u d) e = rule_plain names ls ps qs i r d e
-rule_plain names lines rs xs zero r (rule l ls s a ps qs v d) e = let same : s ≡ r = cc e in subst IsPlain same (record {
-  anywhere = v.is_pattern.anywhere;
-  no_tail = v.is_pattern.no_tail;
-  no_cut = v.is_pattern.no_cut;
-  active = v.is_active;
-})
+rule_plain names lines rs xs zero r (rule l ls s a ps qs v d) e = let same : s ≡ r = cc e
+    in subst IsPlain same (record {
+      anywhere = v.is_pattern.anywhere;
+      no_tail = v.is_pattern.no_tail;
+      no_cut = v.is_pattern.no_cut;
+      active = v.is_active;
+    })
 rule_plain names lines rs xs (suc i) r (rule l ls s a ps qs v d) e = rule_plain names ls ps qs i r d e
 
 -- each rule of a lex file is plain
-pub rules_plain : (bytes : List ℕ) (file : LexFile) → LexText bytes file → (i : ℕ) (r : Rule) → slice_get file.rules.items i ≡ Some r → IsPlain r
+pub rules_plain : (bytes : List ℕ) (file : LexFile) → LexText bytes file → (i : ℕ) (r : Rule)
+    → slice_get file.rules.items i ≡ Some r → IsPlain r
 rules_plain bytes file text i r e = rule_plain [] text.behind file.rules.items file.actions.items i r text.rules e
 
 -- each cut tells the truth
 pub rules_cut : (bytes : List ℕ) (file : LexFile) → LexText bytes file → AreCut file.names file.rules.items
 rules_cut bytes file text i r e =
     let plain = rules_plain bytes file text i r e in
-    subst (λ t. CutHolds file.names r.pattern.head t r.pattern.cut) (sym plain.no_tail) (subst (λ k. CutHolds file.names r.pattern.head None k) (sym plain.no_cut) tt)
+    subst (λ t. CutHolds file.names r.pattern.head t r.pattern.cut) (sym plain.no_tail)
+    (subst (λ k. CutHolds file.names r.pattern.head None k) (sym plain.no_cut) tt)

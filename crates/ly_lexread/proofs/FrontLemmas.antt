@@ -1,5 +1,6 @@
 -- How long the front of a list is that passes a test.
-use Rattle.std.proofs.Common.{◌≡◌, ◌≤◌, ℕ, suc, ◌+◌, List, [], ◌∷◌, Bool, true, false, cond, not, ltb, refl, ◌∙◌, length, arith, Some, None, Option}
+use Rattle.std.proofs.Common.{◌≡◌, ◌≤◌, ℕ, suc, ◌+◌, List, [], ◌∷◌, Bool, true, false, cond, not, ltb, refl, ◌∙◌}
+use Rattle.std.proofs.Common.{length, arith, Some, None, Option}
 use Rattle.std.specs.Bool.{MatchBool, then_some}
 use Rattle.std.specs.Option.{unwrap_or, MatchOption}
 use Rattle.std.specs.List.{position, position_or_len, prefix_len}
@@ -26,15 +27,18 @@ prefix_len-not_not : (p : ℕ → Bool) (xs : List ℕ) → prefix_len (λ x. no
 prefix_len-not_not p [] = refl
 prefix_len-not_not p (x ∷ xs) = rw (not_not (p x), prefix_len-not_not p xs) refl
 
-pub unwrap_or-position_not : (p : ℕ → Bool) (xs : List ℕ) → unwrap_or (position (λ x. not (p x)) xs) (length xs) ≡ prefix_len p xs
+pub unwrap_or-position_not : (p : ℕ → Bool) (xs : List ℕ) → unwrap_or (position (λ x. not (p x)) xs) (length xs)
+    ≡ prefix_len p xs
 unwrap_or-position_not p xs = unwrap_or-position (λ x. not (p x)) xs ∙ prefix_len-not_not p xs
 
 -- what holds of nothing, where nothing was found
-pub at_none : {T : Type 0} (o : Option T) (P : Type 0) (Q : T → Type 0) → ((x : T) → o ≡ Some x → ⊥) → MatchOption o P Q → P
+pub at_none : {T : Type 0} (o : Option T) (P : Type 0) (Q : T → Type 0) → ((x : T) → o ≡ Some x → ⊥) → MatchOption o P Q
+    → P
 at_none None P Q h m = m
 at_none (Some x) P Q h m = absurd (h x refl)
 
 -- what holds of a value that is there where a test passes
-pub by_test : {T : Type 0} (t : Bool) (x : T) (o : Option T) (P : Type 0) (Q : T → Type 0) → o ≡ then_some t x → MatchBool t (Q x) P → MatchOption o P Q
+pub by_test : {T : Type 0} (t : Bool) (x : T) (o : Option T) (P : Type 0) (Q : T → Type 0) → o ≡ then_some t x
+    → MatchBool t (Q x) P → MatchOption o P Q
 by_test true x o P Q e h = rw e h
 by_test false x o P Q e h = rw e h

@@ -2,17 +2,26 @@
 use Rattle.std.proofs.lemmas.Bool.{false≢true}
 use Rattle.std.specs.Option.{MatchOption}
 use denote.Ref.{Bor}
-use Rattle.std.proofs.Common.{Option, Some, None, ◌≡◌, ℕ, ◌≤◌, List, [], ◌∷◌, ◌++◌, IsTrue, take, drop, take-append-drop, length-take, refl, sym, ap, ◌∙◌, subst, length, arith, append_assoc, length-append}
+use Rattle.std.proofs.Common.{Option, Some, None, ◌≡◌, ℕ, ◌≤◌, List, [], ◌∷◌, ◌++◌, IsTrue, take, drop}
+use Rattle.std.proofs.Common.{take-append-drop, length-take, refl, sym, ap, ◌∙◌, subst, length, arith, append_assoc}
+use Rattle.std.proofs.Common.{length-append}
 use Rattle.ly_lexread.specs.Gap.{is_blank, HasNoEnd, Gap, none, blank, comment, Stops, GapBefore, CommentBefore}
 
 pub Gap-append : (g h : List ℕ) → Gap g → Gap h → Gap (g ++ h)
 Gap-append g h none b = b
 Gap-append g h (blank x s x_blank s_gap) b = blank x (s ++ h) x_blank (Gap-append s h s_gap b)
-Gap-append g h (comment inside s no_end s_gap) b = subst (λ u. Gap (47 ∷ 42 ∷ u)) (sym (append_assoc inside (42 ∷ 47 ∷ s) h)) (comment inside (s ++ h) no_end (Gap-append s h s_gap b))
+Gap-append g h (comment inside s no_end s_gap) b
+    = subst (λ u. Gap (47 ∷ 42 ∷ u)) (sym (append_assoc inside (42 ∷ 47 ∷ s) h))
+    (comment inside (s ++ h) no_end (Gap-append s h s_gap b))
 
 -- a gap goes on
 pub GapBefore-trans : (s t u : List ℕ) → GapBefore s t → GapBefore t u → GapBefore s u
-GapBefore-trans s t u a b = (a.0 ++ b.0, Gap-append a.0 b.0 a.1 b.1, a.2 ∙ ap (λ x. a.0 ++ x) b.2 ∙ sym (append_assoc a.0 b.0 u))
+GapBefore-trans s t u a b = (
+  a.0 ++ b.0,
+  Gap-append a.0 b.0 a.1 b.1,
+  a.2 ∙ ap (λ x. a.0 ++ x) b.2
+      ∙ sym (append_assoc a.0 b.0 u),
+)
 
 tail_no_end : (b : ℕ) (s : List ℕ) → HasNoEnd (b ∷ s) → HasNoEnd s
 tail_no_end b s h x y e = h (b ∷ x) y (ap (λ u. b ∷ u) e)
@@ -42,34 +51,47 @@ no_slash b h f = false≢true (subst IsBlankByte f h)
 pub gap_one : (g h r s : List ℕ) → Gap g → Gap h → Stops r → Stops s → g ++ r ≡ h ++ s → r ≡ s
 gap_one g h r s none none a b e = e
 gap_one g h r s none (blank x u x_blank u_gap) a b e = absurd (a.no_blank x (u ++ s) x_blank e)
-gap_one g h r s none (comment inside u no_end u_gap) a b e = absurd (a.no_comment inside (u ++ s) (e ∙ ap (λ t. 47 ∷ 42 ∷ t) (append_assoc inside (42 ∷ 47 ∷ u) s)))
+gap_one g h r s none (comment inside u no_end u_gap) a b e
+    = absurd (a.no_comment inside (u ++ s) (e ∙ ap (λ t. 47 ∷ 42 ∷ t) (append_assoc inside (42 ∷ 47 ∷ u) s)))
 gap_one g h r s (blank x u x_blank u_gap) none a b e = absurd (b.no_blank x (u ++ r) x_blank (sym e))
 gap_one g h r s (blank x u x_blank u_gap) (blank y v y_blank v_gap) a b e = gap_one u v r s u_gap v_gap a b (cc)
 gap_one g h r s (blank x u x_blank u_gap) (comment inside v no_end v_gap) a b e = absurd (no_slash x x_blank (cc))
-gap_one g h r s (comment inside u no_end u_gap) none a b e = absurd (b.no_comment inside (u ++ r) (sym e ∙ ap (λ t. 47 ∷ 42 ∷ t) (append_assoc inside (42 ∷ 47 ∷ u) r)))
+gap_one g h r s (comment inside u no_end u_gap) none a b e
+    = absurd (b.no_comment inside (u ++ r) (sym e ∙ ap (λ t. 47 ∷ 42 ∷ t) (append_assoc inside (42 ∷ 47 ∷ u) r)))
 gap_one g h r s (comment inside u no_end u_gap) (blank y v y_blank v_gap) a b e = absurd (no_slash y y_blank (cc))
 gap_one g h r s (comment inside u no_end u_gap) (comment inside' v no_end' v_gap) a b e =
     let f : (inside ++ 42 ∷ 47 ∷ u) ++ r ≡ (inside' ++ 42 ∷ 47 ∷ v) ++ s = cc in
-    gap_one u v r s u_gap v_gap a b (comment_one inside inside' (u ++ r) (v ++ s) no_end no_end' (sym (append_assoc inside (42 ∷ 47 ∷ u) r) ∙ f ∙ append_assoc inside' (42 ∷ 47 ∷ v) s))
+    gap_one u v r s u_gap v_gap a b (comment_one inside inside' (u ++ r) (v ++ s) no_end no_end'
+    (sym (append_assoc inside (42 ∷ 47 ∷ u) r) ∙ f ∙ append_assoc inside' (42 ∷ 47 ∷ v) s))
 
 -- behind `/*` the comment decides
-pub opened : (text inside : List ℕ) (r : Option (Bor (List ℕ))) → text ≡ 47 ∷ 42 ∷ inside → MatchOption r (HasNoEnd inside) (λ rest. CommentBefore inside rest.now) → MatchOption r (Stops text) (λ rest. GapBefore text rest.now)
+pub opened : (text inside : List ℕ) (r : Option (Bor (List ℕ))) → text ≡ 47 ∷ 42 ∷ inside
+    → MatchOption r (HasNoEnd inside) (λ rest. CommentBefore inside rest.now)
+    → MatchOption r (Stops text) (λ rest. GapBefore text rest.now)
 opened text inside None e h = record {
   no_blank = λ b s x_blank f. no_slash b x_blank (cc);
   no_comment = λ i s f. h i s (cc);
 }
-opened text inside (Some rest) e (i, no_end, f) = (47 ∷ 42 ∷ (i ++ 42 ∷ 47 ∷ []), comment i [] no_end none, e ∙ ap (λ t. 47 ∷ 42 ∷ t) (f ∙ sym (append_assoc i (42 ∷ 47 ∷ []) rest.now)))
+opened text inside (Some rest) e (i, no_end, f)
+    = (
+      47 ∷ 42 ∷ (i ++ 42 ∷ 47 ∷ []),
+      comment i [] no_end none,
+      e
+          ∙ ap (λ t. 47 ∷ 42 ∷ t) (f ∙ sym (append_assoc i (42 ∷ 47 ∷ []) rest.now)),
+    )
 
 pub blank_before : (text : List ℕ) (b : ℕ) (rest : List ℕ) → text ≡ b ∷ rest → IsTrue (is_blank b) → GapBefore text rest
 blank_before text b rest e h = (b ∷ [], blank b [] h none, e)
 
 -- where the first `*/` stands, a comment ends
-pub first_end : (text rest : List ℕ) (n : ℕ) → n ≤ length text → ((a b : List ℕ) → text ≡ a ++ 42 ∷ 47 ∷ b → n ≤ length a) → drop n text ≡ 42 ∷ 47 ∷ rest → CommentBefore text rest
+pub first_end : (text rest : List ℕ) (n : ℕ) → n ≤ length text
+    → ((a b : List ℕ) → text ≡ a ++ 42 ∷ 47 ∷ b → n ≤ length a) → drop n text ≡ 42 ∷ 47 ∷ rest → CommentBefore text rest
 first_end text rest n h before e =
     let whole : text ≡ take n text ++ 42 ∷ 47 ∷ rest = sym (take-append-drop n text) ∙ ap (λ t. take n text ++ t) e in
     (take n text, λ a b f. clash whole a b f, whole)
   where
     clash : text ≡ take n text ++ 42 ∷ 47 ∷ rest → (a b : List ℕ) → take n text ≡ a ++ 42 ∷ 47 ∷ b → ⊥
     clash whole a b f =
-        let g : text ≡ a ++ 42 ∷ 47 ∷ (b ++ 42 ∷ 47 ∷ rest) = whole ∙ ap (λ t. t ++ 42 ∷ 47 ∷ rest) f ∙ append_assoc a (42 ∷ 47 ∷ b) (42 ∷ 47 ∷ rest) in
+        let g : text ≡ a ++ 42 ∷ 47 ∷ (b ++ 42 ∷ 47 ∷ rest) = whole ∙ ap (λ t. t ++ 42 ∷ 47 ∷ rest) f
+        ∙ append_assoc a (42 ∷ 47 ∷ b) (42 ∷ 47 ∷ rest) in
         omega (arith, before a (b ++ 42 ∷ 47 ∷ rest) g, ap length f, length-append a (42 ∷ 47 ∷ b), length-take n text)

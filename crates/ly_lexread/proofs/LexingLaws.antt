@@ -12,22 +12,37 @@ match_of : (t u : Match) → t.rule ≡ u.rule → t.matched ≡ u.matched → t
 match_of t u a b c = λ x. record { rule = a x; matched = b x; taken = c x }
 
 -- one rule and one length make one token
-taken_one : (ds : List Expression) (rules : List Rule) (condition : ℕ) (line : Bool) (rest : List ℕ) (i n m l : ℕ) → AreCut ds rules → Candidate ds rules condition line rest i n m → Candidate ds rules condition line rest i n l → m ≡ l
+taken_one : (ds : List Expression) (rules : List Rule) (condition : ℕ) (line : Bool) (rest : List ℕ) (i n m l : ℕ)
+    → AreCut ds rules → Candidate ds rules condition line rest i n m → Candidate ds rules condition line rest i n l
+    → m ≡ l
 taken_one ds rules condition line rest i n m l cuts a b =
     let e : a.rule ≡ b.rule = cc (a.is_rule, b.is_rule) in
-    split_one ds b.rule.pattern rest n m l (cuts i b.rule b.is_rule) (subst (λ r. Fits ds r.pattern rest n m) e a.fits) b.fits
+    split_one ds b.rule.pattern rest n m l (cuts i b.rule b.is_rule) (subst (λ r. Fits ds r.pattern rest n m) e a.fits)
+    b.fits
 
 -- the whole match
-match_one : (ds : List Expression) (rules : List Rule) (p : Place) (t u : Match) → AreCut ds rules → IsWinnerAt ds rules p t → IsWinnerAt ds rules p u → t ≡ u
+match_one : (ds : List Expression) (rules : List Rule) (p : Place) (t u : Match) → AreCut ds rules
+    → IsWinnerAt ds rules p t → IsWinnerAt ds rules p u → t ≡ u
 match_one ds rules p t u cuts a b =
     let e = winner_one ds rules p.condition p.line p.rest t.rule t.matched t.taken u.rule u.matched u.taken a b in
-    let one : Candidate ds rules p.condition p.line p.rest u.rule t.matched t.taken = subst (λ x. Candidate ds rules p.condition p.line p.rest x t.matched t.taken) e.0 a.is_candidate in
-    let two : Candidate ds rules p.condition p.line p.rest u.rule u.matched t.taken = subst (λ x. Candidate ds rules p.condition p.line p.rest u.rule x t.taken) e.1 one in
-    match_of t u e.0 e.1 (taken_one ds rules p.condition p.line p.rest u.rule u.matched t.taken u.taken cuts two b.is_candidate)
+    let one : Candidate ds rules p.condition p.line p.rest u.rule t.matched t.taken
+    = subst (λ x. Candidate ds rules p.condition p.line p.rest x t.matched t.taken) e.0 a.is_candidate in
+    let two : Candidate ds rules p.condition p.line p.rest u.rule u.matched t.taken
+    = subst (λ x. Candidate ds rules p.condition p.line p.rest u.rule x t.taken) e.1 one in
+    match_of t u e.0 e.1
+    (taken_one ds rules p.condition p.line p.rest u.rule u.matched t.taken u.taken cuts two b.is_candidate)
 
 -- nothing matches at the end
-none_at_end : (ds : List Expression) (rules : List Rule) (p : Place) (t : Match) → p.rest ≡ [] → IsWinnerAt ds rules p t → ⊥
-none_at_end ds rules p t e a = omega (arith, ap length e, a.is_candidate.fits.some_byte, a.is_candidate.fits.token_within, a.is_candidate.fits.within)
+none_at_end : (ds : List Expression) (rules : List Rule) (p : Place) (t : Match) → p.rest ≡ [] → IsWinnerAt ds rules p t
+    → ⊥
+none_at_end ds rules p t e a
+    = omega (
+      arith,
+      ap length e,
+      a.is_candidate.fits.some_byte,
+      a.is_candidate.fits.token_within,
+      a.is_candidate.fits.within,
+    )
 
 pub lexing_one : LexingIsOne
 lexing_one ds rules next p [] [] clean clean cuts a b = (refl, refl)
@@ -40,7 +55,8 @@ lexing_one ds rules next p (t ∷ ts) [] e clean cuts a b = absurd (none_at_end 
 lexing_one ds rules next p (t ∷ ts) [] e (stuck y) cuts a b = absurd (b.2 t.rule t.matched t.taken a.0.is_candidate)
 lexing_one ds rules next p (t ∷ ts) (u ∷ us) e f cuts a b =
     let same = match_one ds rules p t u cuts a.0 b.0 in
-    let a' : Lexing ds rules next (place_after next p u) ts e = subst (λ x. Lexing ds rules next (place_after next p x) ts e) same a.1 in
+    let a' : Lexing ds rules next (place_after next p u) ts e
+    = subst (λ x. Lexing ds rules next (place_after next p x) ts e) same a.1 in
     let rest = lexing_one ds rules next (place_after next p u) ts us e f cuts a' b.1 in
     (ap₂ ◌∷◌ same rest.0, rest.1)
 

@@ -9,10 +9,13 @@ inside_at t u b c r s e (bare x rest h k) (bare y more i j) = (cc, cc)
 inside_at t u b c r s e (bare x rest h k) (escaped v more y f) = absurd (h (cc))
 inside_at t u b c r s e (bare x rest h k) (line more) = absurd (h (cc))
 inside_at t u b c r s e (escaped v rest x f) (bare y more i j) = absurd (i (cc))
-inside_at t u b c r s e (escaped v rest x f) (escaped w more y g) = let same : w ≡ v = cc in escape_one v x y rest more f (subst (λ i. Escape i y more) same g)
-inside_at t u b c r s e (escaped v rest x f) (line more) = let newline : v ≡ 10 ∷ more = cc in absurd (newline_none more x rest (subst (λ i. Escape i x rest) newline f))
+inside_at t u b c r s e (escaped v rest x f) (escaped w more y g) = let same : w ≡ v = cc
+    in escape_one v x y rest more f (subst (λ i. Escape i y more) same g)
+inside_at t u b c r s e (escaped v rest x f) (line more) = let newline : v ≡ 10 ∷ more = cc
+    in absurd (newline_none more x rest (subst (λ i. Escape i x rest) newline f))
 inside_at t u b c r s e (line rest) (bare y more i j) = absurd (i (cc))
-inside_at t u b c r s e (line rest) (escaped w more y g) = let newline : w ≡ 10 ∷ rest = cc in absurd (newline_none rest y more (subst (λ i. Escape i y more) newline g))
+inside_at t u b c r s e (line rest) (escaped w more y g) = let newline : w ≡ 10 ∷ rest = cc
+    in absurd (newline_none rest y more (subst (λ i. Escape i y more) newline g))
 inside_at t u b c r s e (line rest) (line more) = (refl, cc)
 
 pub literal_one : (t : List ℕ) (b c : ℕ) (r s : List ℕ) → Literal t b r → Literal t c s → (b ≡ c) × (r ≡ s)

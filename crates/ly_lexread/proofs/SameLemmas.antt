@@ -14,14 +14,18 @@ same_back (r ∷ rs) [] h = absurd h
 same_back (r ∷ rs) (s ∷ ss) h = (sym h.0, sym h.1, same_back rs ss h.2)
 
 -- the rule of a number, and the one that says the same
-same_rule : (rs ss : List Rule) (i : ℕ) (r : Rule) → AreSameRules rs ss → slice_get rs i ≡ Some r → (s : Rule) × (slice_get ss i ≡ Some s) × (r.pattern ≡ s.pattern) × (r.active.items ≡ s.active.items)
+same_rule : (rs ss : List Rule) (i : ℕ) (r : Rule) → AreSameRules rs ss → slice_get rs i ≡ Some r
+    → (s : Rule) × (slice_get ss i ≡ Some s) × (r.pattern ≡ s.pattern) × (r.active.items ≡ s.active.items)
 same_rule [] ss i r h e = cc e
 same_rule (q ∷ rs) [] i r h e = absurd h
-same_rule (q ∷ rs) (s ∷ ss) zero r h e = let same : q ≡ r = cc e in (s, cc, subst (λ x. x.pattern ≡ s.pattern) same h.0, subst (λ x. x.active.items ≡ s.active.items) same h.1)
+same_rule (q ∷ rs) (s ∷ ss) zero r h e = let same : q ≡ r = cc e
+    in (s, cc, subst (λ x. x.pattern ≡ s.pattern) same h.0, subst (λ x. x.active.items ≡ s.active.items) same h.1)
 same_rule (q ∷ rs) (s ∷ ss) (suc i) r h e = same_rule rs ss i r h.2 e
 
-module _ (names : List Expression) (rs ss : List Rule) (same : AreSameRules rs ss) (condition : ℕ) (line : Bool) (rest : List ℕ) where
-  candidate_under : (i n m : ℕ) → Candidate names rs condition line rest i n m → Candidate names ss condition line rest i n m
+module _ (names : List Expression) (rs ss : List Rule) (same : AreSameRules rs ss) (condition : ℕ) (line : Bool)
+    (rest : List ℕ) where
+  candidate_under : (i n m : ℕ) → Candidate names rs condition line rest i n m
+      → Candidate names ss condition line rest i n m
   candidate_under i n m c = let s = same_rule rs ss i c.rule same c.is_rule in record {
     rule = s.0;
     is_rule = s.1;
@@ -31,7 +35,8 @@ module _ (names : List Expression) (rs ss : List Rule) (same : AreSameRules rs s
   }
 
 module _ (names : List Expression) (rs ss : List Rule) (same : AreSameRules rs ss) where
-  winner_under : (condition : ℕ) (line : Bool) (rest : List ℕ) (i n m : ℕ) → Winner names rs condition line rest i n m → Winner names ss condition line rest i n m
+  winner_under : (condition : ℕ) (line : Bool) (rest : List ℕ) (i n m : ℕ) → Winner names rs condition line rest i n m
+      → Winner names ss condition line rest i n m
   winner_under condition line rest i n m w = let back = same_back rs ss same in record {
     is_candidate = candidate_under names rs ss same condition line rest i n m w.is_candidate;
     longest = λ j k l c. w.longest j k l (candidate_under names ss rs back condition line rest j k l c);
@@ -40,10 +45,16 @@ module _ (names : List Expression) (rs ss : List Rule) (same : AreSameRules rs s
 
   ends_under : (p : Place) (e : End) → EndsAt names rs p e → EndsAt names ss p e
   ends_under p clean h = h
-  ends_under p (stuck b) h = (h.0, h.1, λ i n m c. h.2 i n m (candidate_under names ss rs (same_back rs ss same) p.condition p.line p.rest i n m c))
+  ends_under p (stuck b) h
+      = (
+        h.0,
+        h.1,
+        λ i n m c. h.2 i n m (candidate_under names ss rs (same_back rs ss same) p.condition p.line p.rest i n m c),
+      )
 
   -- where the actions set the same conditions too
-  pub lexing_under : (next then : ℕ → Option ℕ) → ((i : ℕ) → next i ≡ then i) → (p : Place) (ts : List Match) (e : End) → Lexing names rs next p ts e → Lexing names ss then p ts e
+  pub lexing_under : (next then : ℕ → Option ℕ) → ((i : ℕ) → next i ≡ then i) → (p : Place) (ts : List Match) (e : End)
+      → Lexing names rs next p ts e → Lexing names ss then p ts e
   lexing_under next then sets p [] e h = ends_under p e h
   lexing_under next then sets p (t ∷ ts) e h = (
     winner_under p.condition p.line p.rest t.rule t.matched t.taken h.0,

@@ -1,13 +1,15 @@
 -- The words of an action are determined.
 use Rattle.std.specs.List.{prefix_len}
 use Rattle.std.proofs.lemmas.Bool.{false≢true}
-use Rattle.std.proofs.Common.{◌≡◌, ◌≢◌, ℕ, zero, suc, ◌+◌, ◌<◌, List, [], ◌∷◌, ◌++◌, Bool, true, false, cond, IsTrue, take, drop, take-append-drop, refl, sym, ap, ap₂, ◌∙◌, subst, arith, length}
+use Rattle.std.proofs.Common.{◌≡◌, ◌≢◌, ℕ, zero, suc, ◌+◌, ◌<◌, List, [], ◌∷◌, ◌++◌, Bool, true, false, cond, IsTrue}
+use Rattle.std.proofs.Common.{take, drop, take-append-drop, refl, sym, ap, ap₂, ◌∙◌, subst, arith, length}
 use Rattle.std.proofs.lemmas.Bool.Decides.{nat_tests}
 use Rattle.std.proofs.lemmas.List.{append-nil}
 use Rattle.ly_base.specs.Literals.{Literal}
 use Rattle.ly_lexread.proofs.LiteralLemmas.{literal_one}
 use Rattle.ly_lexread.specs.Gap.{is_blank, Gap, GapBefore, Stops}
-use Rattle.ly_lexread.specs.Words.{Word, semicolon, name, literal, starts_name, continues_name, name_length, AreContinuing, IsName, NameEnds, Begins, Front, Wording}
+use Rattle.ly_lexread.specs.Words.{Word, semicolon, name, literal, starts_name, continues_name, name_length}
+use Rattle.ly_lexread.specs.Words.{AreContinuing, IsName, NameEnds, Begins, Front, Wording}
 use Rattle.ly_lexread.proofs.GapLemmas.{gap_one}
 
 starts_continues : (b : ℕ) → IsTrue (starts_name b) → IsTrue (continues_name b)
@@ -33,7 +35,8 @@ run (b ∷ text) = at (continues_name b) (prefix_len continues_name text) refl (
         same x s f = cc
 
 -- what name_length counts is a name
-pub name_begins : (text n rest : List ℕ) (k : ℕ) → k ≡ name_length text → 0 < k → n ≡ take k text → rest ≡ drop k text → Begins text (name n) rest
+pub name_begins : (text n rest : List ℕ) (k : ℕ) → k ≡ name_length text → 0 < k → n ≡ take k text → rest ≡ drop k text
+    → Begins text (name n) rest
 name_begins [] n rest k e h f g = absurd (omega arith)
 name_begins (b ∷ text) n rest k e h f g = at (starts_name b) refl e
   where
@@ -41,14 +44,16 @@ name_begins (b ∷ text) n rest k e h f g = at (starts_name b) refl e
     long zero h s a = absurd (omega arith)
     long (suc k) h s a = (s, a.1)
 
-    at : (t : Bool) → starts_name b ≡ t → k ≡ cond t (prefix_len continues_name (b ∷ text)) 0 → Begins (b ∷ text) (name n) rest
+    at : (t : Bool) → starts_name b ≡ t → k ≡ cond t (prefix_len continues_name (b ∷ text)) 0
+        → Begins (b ∷ text) (name n) rest
     at true s e =
         let r : Run k (b ∷ text) = subst (λ m. Run m (b ∷ text)) (sym e) (run (b ∷ text)) in
         rw (f, g) (long k h s r.these, r.ends, sym (take-append-drop k (b ∷ text)))
     at false s e = absurd (omega (arith, e, h))
 
 -- behind a name no byte belongs to it
-names_one : (n m r s : List ℕ) → AreContinuing n → AreContinuing m → NameEnds r → NameEnds s → n ++ r ≡ m ++ s → (n ≡ m) × (r ≡ s)
+names_one : (n m r s : List ℕ) → AreContinuing n → AreContinuing m → NameEnds r → NameEnds s → n ++ r ≡ m ++ s
+    → (n ≡ m) × (r ≡ s)
 names_one [] [] r s a b x y e = (refl, e)
 names_one [] (c ∷ m) r s a b x y e = absurd (x c (m ++ s) b.0 e)
 names_one (c ∷ n) [] r s a b x y e = absurd (y c (n ++ r) a.0 (sym e))
@@ -60,7 +65,8 @@ Starts semicolon b = b ≡ 59
 Starts (name n) b = IsTrue (starts_name b)
 Starts (literal c) b = b ≡ 39
 
-begins_at : (text : List ℕ) (x : Word) (rest : List ℕ) → Begins text x rest → (b : ℕ) × (s : List ℕ) × (text ≡ b ∷ s) × Starts x b
+begins_at : (text : List ℕ) (x : Word) (rest : List ℕ) → Begins text x rest → (b : ℕ) × (s : List ℕ) × (text ≡ b ∷ s)
+    × Starts x b
 begins_at text semicolon rest h = (59, rest, h, refl)
 begins_at text (name []) rest h = absurd h.0
 begins_at text (name (b ∷ n)) rest h = (b, n ++ rest, h.2, h.0.0)
@@ -84,15 +90,21 @@ begins_stops text x rest h = at (begins_at text x rest h)
   where
     at : (b : ℕ) × (s : List ℕ) × (text ≡ b ∷ s) × Starts x b → Stops text
     at (b, s, e, starts) = record {
-      no_blank = λ c t c_blank f. let same : c ≡ b = cc in starts_no_blank x b starts (subst (λ i. is_blank i ≡ true) same c_blank);
+      no_blank = λ c t c_blank f. let same : c ≡ b = cc
+          in starts_no_blank x b starts (subst (λ i. is_blank i ≡ true) same c_blank);
       no_comment = λ i t f. starts_no_slash x b starts (cc);
     }
 
 -- the word that stands behind a gap
-pub front_at : (text word : List ℕ) (x : Word) (rest : List ℕ) → GapBefore text word → Stops word → Front text x rest → Begins word x rest
-front_at text word x rest before stops (u, other, begins) = subst (λ w. Begins w x rest) (gap_one other.0 before.0 u word other.1 before.1 (begins_stops u x rest begins) stops (sym other.2 ∙ before.2)) begins
+pub front_at : (text word : List ℕ) (x : Word) (rest : List ℕ) → GapBefore text word → Stops word → Front text x rest
+    → Begins word x rest
+front_at text word x rest before stops (u, other, begins)
+    = subst (λ w. Begins w x rest)
+    (gap_one other.0 before.0 u word other.1 before.1 (begins_stops u x rest begins) stops (sym other.2 ∙ before.2))
+    begins
 
-apart : (u : List ℕ) (x y : Word) (r s : List ℕ) → ((b : ℕ) → Starts x b → Starts y b → ⊥) → Begins u x r → Begins u y s → ⊥
+apart : (u : List ℕ) (x y : Word) (r s : List ℕ) → ((b : ℕ) → Starts x b → Starts y b → ⊥) → Begins u x r → Begins u y s
+    → ⊥
 apart u x y r s h a b = at (begins_at u x r a) (begins_at u y s b)
   where
     at : (b : ℕ) × (t : List ℕ) × (u ≡ b ∷ t) × Starts x b → (b : ℕ) × (t : List ℕ) × (u ≡ b ∷ t) × Starts y b → ⊥
@@ -108,12 +120,17 @@ name_continues (b ∷ n) h = (starts_continues b h.0, h.1)
 begins_one : (u : List ℕ) (x y : Word) (r s : List ℕ) → Begins u x r → Begins u y s → (x ≡ y) × (r ≡ s)
 begins_one u semicolon semicolon r s a b = (refl, cc)
 begins_one u semicolon (name m) r s a b = absurd (apart u semicolon (name m) r s (λ i e f. no_letter 59 i refl e f) a b)
-begins_one u semicolon (literal d) r s a b = absurd (apart u semicolon (literal d) r s (λ i e f. omega (arith, e, f)) a b)
+begins_one u semicolon (literal d) r s a b
+    = absurd (apart u semicolon (literal d) r s (λ i e f. omega (arith, e, f)) a b)
 begins_one u (name n) semicolon r s a b = absurd (apart u (name n) semicolon r s (λ i e f. no_letter 59 i refl f e) a b)
-begins_one u (name n) (name m) r s a b = let e = names_one n m r s (name_continues n a.0) (name_continues m b.0) a.1 b.1 (sym a.2 ∙ b.2) in (ap name e.0, e.1)
-begins_one u (name n) (literal d) r s a b = absurd (apart u (name n) (literal d) r s (λ i e f. no_letter 39 i refl f e) a b)
-begins_one u (literal c) semicolon r s a b = absurd (apart u (literal c) semicolon r s (λ i e f. omega (arith, e, f)) a b)
-begins_one u (literal c) (name m) r s a b = absurd (apart u (literal c) (name m) r s (λ i e f. no_letter 39 i refl e f) a b)
+begins_one u (name n) (name m) r s a b = let e = names_one n m r s (name_continues n a.0) (name_continues m b.0) a.1 b.1
+    (sym a.2 ∙ b.2) in (ap name e.0, e.1)
+begins_one u (name n) (literal d) r s a b
+    = absurd (apart u (name n) (literal d) r s (λ i e f. no_letter 39 i refl f e) a b)
+begins_one u (literal c) semicolon r s a b
+    = absurd (apart u (literal c) semicolon r s (λ i e f. omega (arith, e, f)) a b)
+begins_one u (literal c) (name m) r s a b
+    = absurd (apart u (literal c) (name m) r s (λ i e f. no_letter 39 i refl e f) a b)
 begins_one u (literal c) (literal d) r s a b = let e = literal_one u c d r s a b in (ap literal e.0, e.1)
 
 -- the word at the front is determined, and so is the rest
@@ -134,7 +151,9 @@ pub some_not_none : (xs : List ℕ) → 0 < length xs → xs ≢ []
 some_not_none xs h e = omega (arith, ap length e, h)
 
 -- no word and no end stands behind the gap
-pub other_front : (text word : List ℕ) → GapBefore text word → Stops word → ((b : ℕ) (s : List ℕ) → Literal word b s → ⊥) → name_length word ≡ 0 → ((s : List ℕ) → word ≢ 59 ∷ s) → word ≢ [] → (Gap text → ⊥) × ((x : Word) (s : List ℕ) → Front text x s → ⊥)
+pub other_front : (text word : List ℕ) → GapBefore text word → Stops word
+    → ((b : ℕ) (s : List ℕ) → Literal word b s → ⊥) → name_length word ≡ 0 → ((s : List ℕ) → word ≢ 59 ∷ s) → word ≢ []
+    → (Gap text → ⊥) × ((x : Word) (s : List ℕ) → Front text x s → ⊥)
 other_front text word before stops a b c d = (no_gap, λ x s f. none_at x s (front_at text word x s before stops f))
   where
     no_gap : Gap text → ⊥

@@ -18,4 +18,5 @@ IsUnused (b ∷ line) = IsTrue (is_blank b)
 -- the definitions, up to the mark that begins the rules, and the lines behind it
 pub data Definitions : List (List ℕ) → List (List ℕ) → Type 0 where
   mark : (line : List ℕ) (lines : List (List ℕ)) → IsMark line → Definitions (line ∷ lines) lines
-  unused : (line : List ℕ) (lines rest : List (List ℕ)) → IsUnused line → Definitions lines rest → Definitions (line ∷ lines) rest
+  unused : (line : List ℕ) (lines rest : List (List ℕ)) → IsUnused line → Definitions lines rest
+      → Definitions (line ∷ lines) rest

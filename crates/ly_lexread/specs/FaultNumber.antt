@@ -2,7 +2,8 @@
 use Rattle.std.specs.Prelude.{◌≢◌, ℕ, Option, Some, None}
 use Rattle.ly_ere.specs.declared.fault.EreFault.TheVariants as ere
 use Rattle.ly_lexread.specs.declared.fault.LexFault.{LexFault}
-use Rattle.ly_lexread.specs.declared.fault.LexFault.TheVariants.{NoRulesMark, BadDefinition, UnknownCondition, BadAction, Pattern, OutOfMemory}
+use Rattle.ly_lexread.specs.declared.fault.LexFault.TheVariants.{NoRulesMark, BadDefinition, UnknownCondition}
+use Rattle.ly_lexread.specs.declared.fault.LexFault.TheVariants.{BadAction, Pattern, OutOfMemory}
 
 -- a fault's number; want of memory has none
 abbrev pub number_of : LexFault → Option ℕ

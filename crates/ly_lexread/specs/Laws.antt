@@ -7,8 +7,11 @@ use Rattle.ly_lexread.specs.Lexing.{Place, Match, End, Lexing, Leads}
 
 -- a text has one lexing, where each cut tells the truth
 abbrev pub LexingIsOne : Type 0
-LexingIsOne = (names : List Expression) (rules : List Rule) (next : ℕ → Option ℕ) (p : Place) (ts us : List Match) (e f : End) → AreCut names rules → Lexing names rules next p ts e → Lexing names rules next p us f → (ts ≡ us) × (e ≡ f)
+LexingIsOne = (names : List Expression) (rules : List Rule) (next : ℕ → Option ℕ) (p : Place) (ts us : List Match)
+    (e f : End) → AreCut names rules → Lexing names rules next p ts e → Lexing names rules next p us f
+    → (ts ≡ us) × (e ≡ f)
 
 -- a run goes on from where it stands
 abbrev pub LexingGoesOn : Type 0
-LexingGoesOn = (names : List Expression) (rules : List Rule) (next : ℕ → Option ℕ) (p q : Place) (ts us : List Match) (e : End) → Leads names rules next p ts q → Lexing names rules next q us e → Lexing names rules next p (ts ++ us) e
+LexingGoesOn = (names : List Expression) (rules : List Rule) (next : ℕ → Option ℕ) (p q : Place) (ts us : List Match)
+    (e : End) → Leads names rules next p ts q → Lexing names rules next q us e → Lexing names rules next p (ts ++ us) e

@@ -28,7 +28,8 @@ AreSameRules _ _ = ⊥
 
 abbrev pub AreSameActions : List Action → List Action → Type 0
 AreSameActions [] [] = Unit {0}
-AreSameActions (a ∷ as') (b ∷ bs) = (a.begin ≡ b.begin) × (meaning_of a.returns ≡ meaning_of b.returns) × AreSameActions as' bs
+AreSameActions (a ∷ as') (b ∷ bs) = (a.begin ≡ b.begin) × (meaning_of a.returns ≡ meaning_of b.returns)
+    × AreSameActions as' bs
 AreSameActions _ _ = ⊥
 
 pub record AreSame (f g : LexFile) : Type 0 where

@@ -32,13 +32,17 @@ pub record IsRuleLine (names : List Expression) (line : List ℕ) (rule : Rule) 
 pub data Rules (names : List Expression) : List (List ℕ) → List Rule → List Action → Type 0 where
   end : Rules names [] [] []
   mark : (line : List ℕ) (lines : List (List ℕ)) → IsMark line → Rules names (line ∷ lines) [] []
-  unused : (line : List ℕ) (lines : List (List ℕ)) (rules : List Rule) (actions : List Action) → IsUnused line → Rules names lines rules actions → Rules names (line ∷ lines) rules actions
-  rule : (line : List ℕ) (lines : List (List ℕ)) (r : Rule) (a : Action) (rules : List Rule) (actions : List Action) → IsRuleLine names line r a → Rules names lines rules actions → Rules names (line ∷ lines) (r ∷ rules) (a ∷ actions)
+  unused : (line : List ℕ) (lines : List (List ℕ)) (rules : List Rule) (actions : List Action) → IsUnused line
+      → Rules names lines rules actions → Rules names (line ∷ lines) rules actions
+  rule : (line : List ℕ) (lines : List (List ℕ)) (r : Rule) (a : Action) (rules : List Rule) (actions : List Action)
+      → IsRuleLine names line r a → Rules names lines rules actions
+      → Rules names (line ∷ lines) (r ∷ rules) (a ∷ actions)
 
 -- each pattern weighs at most this
 abbrev pub AreLight : ℕ → List Expression → List Rule → Type 0
 AreLight most names [] = Unit {0}
-AreLight most names (r ∷ rules) = (weight_of_both names r.pattern.head r.pattern.tail ≤ most) × AreLight most names rules
+AreLight most names (r ∷ rules) = (weight_of_both names r.pattern.head r.pattern.tail ≤ most)
+    × AreLight most names rules
 
 -- A line's pattern weighs more than this.
 pub record IsHeavyLine (most : ℕ) (names : List Expression) (line : List ℕ) : Type 0 where
@@ -52,4 +56,5 @@ pub record IsHeavyLine (most : ℕ) (names : List Expression) (line : List ℕ) 
 -- that of one of the lines does, up to a mark
 abbrev pub HasHeavyLine : ℕ → List Expression → List (List ℕ) → Type 0
 HasHeavyLine most names [] = ⊥
-HasHeavyLine most names (line ∷ lines) = (IsMark line → ⊥) × (IsHeavyLine most names line ⊎ HasHeavyLine most names lines)
+HasHeavyLine most names (line ∷ lines) = (IsMark line → ⊥)
+    × (IsHeavyLine most names line ⊎ HasHeavyLine most names lines)

@@ -93,7 +93,8 @@ fn is_return(name: &[u8]) -> bool
 
 /// What is returned, by the text behind `return`: a value and a `;`.
 fn behind_return(text: &[u8]) -> Option<Value<'_>>
-    ensures { MatchOption result ((m : Meaning) → Returns text.now m → ⊥) (λ value. Returns text.now (value_meaning value)) }
+    ensures { MatchOption result ((m : Meaning) → Returns text.now m
+        → ⊥) (λ value. Returns text.now (value_meaning value)) }
 {
     let (word, rest) = next_word(text);
     match word {

@@ -17,7 +17,8 @@ pub(crate) struct Line<'t> {
 impl Line<'_> {
     /// Whether it begins with these bytes.
     pub(crate) fn begins_with(&self, front: &[u8]) -> bool
-        ensures { MatchBool result (BeginsWith self.now.bytes.now front.now) (BeginsWith self.now.bytes.now front.now → ⊥) }
+        ensures { MatchBool result (BeginsWith self.now.bytes.now front.now) (BeginsWith self.now.bytes.now front.now
+            → ⊥) }
     {
         self.bytes.starts_with(front)
     }
@@ -66,7 +67,8 @@ impl<'t> Lines<'t> {
     /// Takes the next line.
     pub(crate) fn take(&mut self) -> Option<Line<'t>>
         ensures shorter { OnSome result (length self.new.rest.now < length self.old.rest.now) }
-        ensures these { MatchOption result (lines_left self.old ≡ []) (λ line. lines_left self.old ≡ line.bytes.now ∷ lines_left self.new) }
+        ensures these { MatchOption result (lines_left self.old ≡ []) (λ line. lines_left self.old
+            ≡ line.bytes.now ∷ lines_left self.new) }
     {
         if self.rest.is_empty() {
             return None;

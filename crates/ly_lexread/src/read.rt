@@ -30,8 +30,10 @@ pub fn read_lex(alloc: Global, bytes: &[u8], limits: &Limits) -> Result<LexFile,
     ensures ok { IfOk result (λ file. LexText bytes.now file) }
     ensures light { IfOk result (λ file. AreLight (pattern_weight_of limits.now) [] file.rules.items) }
     ensures of_text { IfErr result (λ fault. fault ≢ OutOfMemory → IsOfText fault) }
-    ensures heavy { (line : ℕ) → result ≡ Err (LexFault.Pattern line ere.TooHeavy) → IsHeavyText (pattern_weight_of limits.now) bytes.now }
-    ensures refused { IfErr result (λ fault. fault ≢ OutOfMemory → (file : LexFile) → LexText bytes.now file → AreLight (pattern_weight_of limits.now) [] file.rules.items → ⊥) }
+    ensures heavy { (line : ℕ) → result ≡ Err (LexFault.Pattern line ere.TooHeavy)
+        → IsHeavyText (pattern_weight_of limits.now) bytes.now }
+    ensures refused { IfErr result (λ fault. fault ≢ OutOfMemory → (file : LexFile) → LexText bytes.now file
+        → AreLight (pattern_weight_of limits.now) [] file.rules.items → ⊥) }
 {
     let mut lines = Lines::of(bytes);
     skip_definitions(&mut lines)?;
@@ -75,8 +77,11 @@ fn read_rules(
     ensures ok { IfOk result (λ read. Rules names.now (lines_left lines.entry) read.0.items read.1.items) }
     ensures light { IfOk result (λ read. AreLight (pattern_weight_of limits.now) names.now read.0.items) }
     ensures of_text { IfErr result (λ fault. fault ≢ OutOfMemory → IsOfText fault) }
-    ensures heavy { (line : ℕ) → result ≡ Err (LexFault.Pattern line ere.TooHeavy) → HasHeavyLine (pattern_weight_of limits.now) names.now (lines_left lines.entry) }
-    ensures refused { IfErr result (λ fault. fault ≢ OutOfMemory → (rules : List Rule) (actions : List Action) → Rules names.now (lines_left lines.entry) rules actions → AreLight (pattern_weight_of limits.now) names.now rules → ⊥) }
+    ensures heavy { (line : ℕ) → result ≡ Err (LexFault.Pattern line ere.TooHeavy)
+        → HasHeavyLine (pattern_weight_of limits.now) names.now (lines_left lines.entry) }
+    ensures refused { IfErr result (λ fault. fault ≢ OutOfMemory → (rules : List Rule) (actions : List Action)
+        → Rules names.now (lines_left lines.entry) rules actions
+        → AreLight (pattern_weight_of limits.now) names.now rules → ⊥) }
 {
     let mut rules = Vec::new(alloc);
     let mut actions = Vec::new(alloc);
@@ -106,8 +111,11 @@ fn read_rule(
     ensures ok { IfOk result (λ read. IsRuleLine names.now line.entry.bytes.now read.0 read.1) }
     ensures light { IfOk result (λ read. AreLight (pattern_weight_of limits.now) names.now (read.0 ∷ [])) }
     ensures of_text { IfErr result (λ fault. fault ≢ OutOfMemory → IsOfText fault) }
-    ensures heavy { (number : ℕ) → result ≡ Err (LexFault.Pattern number ere.TooHeavy) → IsHeavyLine (pattern_weight_of limits.now) names.now line.entry.bytes.now }
-    ensures refused { IfErr result (λ fault. fault ≢ OutOfMemory → (rule : Rule) (action : Action) → IsRuleLine names.now line.entry.bytes.now rule action → AreLight (pattern_weight_of limits.now) names.now (rule ∷ []) → ⊥) }
+    ensures heavy { (number : ℕ) → result ≡ Err (LexFault.Pattern number ere.TooHeavy)
+        → IsHeavyLine (pattern_weight_of limits.now) names.now line.entry.bytes.now }
+    ensures refused { IfErr result (λ fault. fault ≢ OutOfMemory → (rule : Rule) (action : Action)
+        → IsRuleLine names.now line.entry.bytes.now rule action
+        → AreLight (pattern_weight_of limits.now) names.now (rule ∷ []) → ⊥) }
 {
     if line.begins_with(b"%{") {
         return Err(LexFault::BadDefinition { line: line.number });

@@ -1,14 +1,17 @@
 -- Where code stands: each of its steps is there, leads on, and stays as the program grows.
-use Rattle.std.proofs.Common.{◌≡◌, ◌≢◌, inl, inr, ℕ, zero, suc, ◌+◌, ◌<◌, ◌≤◌, List, [], ◌∷◌, ◌++◌, length, refl, sym, ap, subst, ◌∙◌, arith, Some, append_assoc, length-append}
+use Rattle.std.proofs.Common.{◌≡◌, ◌≢◌, inl, inr, ℕ, zero, suc, ◌+◌, ◌<◌, ◌≤◌, List, [], ◌∷◌, ◌++◌, length, refl, sym}
+use Rattle.std.proofs.Common.{ap, subst, ◌∙◌, arith, Some, append_assoc, length-append}
 use Rattle.std.specs.Prelude.{slice_get, Contains}
 use Rattle.std.proofs.lemmas.Bool.{cases_eq, cases_lt}
 use Rattle.ly_base.proofs.MemberLemmas.{Contains-first}
 use Rattle.ly_ere.specs.Expression.{Expression, set, empty, concat, either, star, plus, optional, repeat, name}
-use Rattle.ly_position.specs.Program.{Step, reads, fork, ends, Runs, at_end, by_read, by_first, by_second, size, entry, code, IsPlain}
+use Rattle.ly_position.specs.Program.{Step, reads, fork, ends, Runs, at_end, by_read, by_first, by_second, size, entry}
+use Rattle.ly_position.specs.Program.{code, IsPlain}
 use Rattle.ly_position.specs.Reach.{LeadsBelow}
 use Rattle.ly_position.proofs.CodeLaws.{HasCode, CanRun, entry_below, first_side, second_side}
 
-pub get-append : {A : Type 0} (xs ys : List A) (p : ℕ) (x : A) → slice_get xs p ≡ Some x → slice_get (xs ++ ys) p ≡ Some x
+pub get-append : {A : Type 0} (xs ys : List A) (p : ℕ) (x : A) → slice_get xs p ≡ Some x
+    → slice_get (xs ++ ys) p ≡ Some x
 get-append [] ys p x e = cc
 get-append (y ∷ xs) ys zero x e = e
 get-append (y ∷ xs) ys (suc p) x e = get-append xs ys p x e
@@ -24,44 +27,94 @@ some_member [] h = absurd (h refl)
 some_member (x ∷ xs) h = (x, Contains-first x xs)
 
 -- code stays as the program grows
-pub HasCode-append : (g more : List Step) (e : Expression) (base next : ℕ) → HasCode g e base next → HasCode (g ++ more) e base next
+pub HasCode-append : (g more : List Step) (e : Expression) (base next : ℕ) → HasCode g e base next
+    → HasCode (g ++ more) e base next
 HasCode-append g more (set bytes) base next h = get-append g more base (reads bytes next) h
 HasCode-append g more empty base next h = h
-HasCode-append g more (concat r s) base next h = (HasCode-append g more s base next h.0, HasCode-append g more r (base + size s) (entry base (size s) next) h.1)
-HasCode-append g more (either r s) base next h = (HasCode-append g more r base next h.0, HasCode-append g more s (base + size r) next h.1, get-append g more (base + size r + size s) (fork (entry base (size r) next) (entry (base + size r) (size s) next)) h.2)
-HasCode-append g more (star r) base next h = (HasCode-append g more r base (base + size r) h.0, get-append g more (base + size r) (fork (entry base (size r) (base + size r)) next) h.1)
-HasCode-append g more (plus r) base next h = (get-append g more base (fork (entry (base + 1) (size r) base) next) h.0, HasCode-append g more r (base + 1) base h.1)
-HasCode-append g more (optional r) base next h = (HasCode-append g more r base next h.0, get-append g more (base + size r) (fork (entry base (size r) next) next) h.1)
+HasCode-append g more (concat r s) base next h
+    = (HasCode-append g more s base next h.0, HasCode-append g more r (base + size s) (entry base (size s) next) h.1)
+HasCode-append g more (either r s) base next h
+    = (
+      HasCode-append g more r base next h.0,
+      HasCode-append g more s (base + size r) next h.1,
+      get-append g more (base + size r + size s) (fork (entry base (size r) next) (entry (base + size r) (size s) next))
+          h.2,
+    )
+HasCode-append g more (star r) base next h
+    = (
+      HasCode-append g more r base (base + size r) h.0,
+      get-append g more (base + size r)
+          (fork (entry base (size r) (base + size r)) next) h.1,
+    )
+HasCode-append g more (plus r) base next h
+    = (
+      get-append g more base (fork (entry (base + 1) (size r) base) next) h.0,
+      HasCode-append g more r (base + 1) base h.1,
+    )
+HasCode-append g more (optional r) base next h
+    = (
+      HasCode-append g more r base next h.0,
+      get-append g more (base + size r)
+          (fork (entry base (size r) next) next) h.1,
+    )
 HasCode-append g more (repeat m n r) base next h = h
 HasCode-append g more (name x) base next h = h
 
 -- runs stay as the program grows
 pub Runs-append : (g more : List Step) (i n p : ℕ) (w : List ℕ) → Runs g i n p w → Runs (g ++ more) i n p w
 Runs-append g more i n p w (at_end k) = at_end (get-append g more p (ends i) k)
-Runs-append g more i n p w (by_read {n = m} {b = b} {q = q} {bytes = bytes} {w = v} k c r) = by_read (get-append g more p (reads bytes q) k) c (Runs-append g more i m q v r)
-Runs-append g more i n p w (by_first {n = m} {a = a} {b = b} k r) = by_first (get-append g more p (fork a b) k) (Runs-append g more i m a w r)
-Runs-append g more i n p w (by_second {n = m} {a = a} {b = b} k r) = by_second (get-append g more p (fork a b) k) (Runs-append g more i m b w r)
+Runs-append g more i n p w (by_read {n = m} {b = b} {q = q} {bytes = bytes} {w = v} k c r)
+    = by_read (get-append g more p (reads bytes q) k) c (Runs-append g more i m q v r)
+Runs-append g more i n p w (by_first {n = m} {a = a} {b = b} k r)
+    = by_first (get-append g more p (fork a b) k) (Runs-append g more i m a w r)
+Runs-append g more i n p w (by_second {n = m} {a = a} {b = b} k r)
+    = by_second (get-append g more p (fork a b) k) (Runs-append g more i m b w r)
 
 pub length-code : (e : Expression) (base next : ℕ) → length (code e base next) ≡ size e
 length-code (set bytes) base next = refl
 length-code empty base next = refl
-length-code (concat r s) base next = omega (arith, length-append (code s base next) (code r (base + size s) (entry base (size s) next)), length-code s base next, length-code r (base + size s) (entry base (size s) next))
+length-code (concat r s) base next
+    = omega (
+      arith,
+      length-append (code s base next) (code r (base + size s) (entry base (size s) next)),
+      length-code s base next,
+      length-code r (base + size s) (entry base (size s) next),
+    )
 length-code (either r s) base next =
     let f : Step = fork (entry base (size r) next) (entry (base + size r) (size s) next) in
-    omega (arith, length-append (code r base next) (code s (base + size r) next ++ f ∷ []), length-append (code s (base + size r) next) (f ∷ []), length-code r base next, length-code s (base + size r) next)
-length-code (star r) base next = omega (arith, length-append (code r base (base + size r)) (fork (entry base (size r) (base + size r)) next ∷ []), length-code r base (base + size r))
+    omega (
+      arith,
+      length-append (code r base next) (code s (base + size r) next ++ f ∷ []),
+      length-append (code s (base + size r) next) (f ∷ []),
+      length-code r base next,
+      length-code s (base + size r) next,
+    )
+length-code (star r) base next
+    = omega (
+      arith,
+      length-append (code r base (base + size r)) (fork (entry base (size r) (base + size r)) next ∷ []),
+      length-code r base (base + size r),
+    )
 length-code (plus r) base next = omega (arith, length-code r (base + 1) base)
-length-code (optional r) base next = omega (arith, length-append (code r base next) (fork (entry base (size r) next) next ∷ []), length-code r base next)
+length-code (optional r) base next
+    = omega (
+      arith,
+      length-append (code r base next) (fork (entry base (size r) next) next ∷ []),
+      length-code r base next,
+    )
 length-code (repeat m n r) base next = refl
 length-code (name x) base next = refl
 
 -- code that stands in a program
-pub HasCode-of : (e : Expression) (pre post g : List Step) (base next : ℕ) → length pre ≡ base → g ≡ pre ++ (code e base next ++ post) → HasCode g e base next
+pub HasCode-of : (e : Expression) (pre post g : List Step) (base next : ℕ) → length pre ≡ base
+    → g ≡ pre ++ (code e base next ++ post) → HasCode g e base next
 HasCode-of (set bytes) pre post g base next l e = rw e (get-at_length pre post base (reads bytes next) l)
 HasCode-of empty pre post g base next l e = tt
 HasCode-of (concat r s) pre post g base next l e = (
   HasCode-of s pre (right ++ post) g base next l (e ∙ ap (λ z. pre ++ z) (append_assoc left right post)),
-  HasCode-of r (pre ++ left) post g (base + size s) middle (omega (arith, length-append pre left, length-code s base next)) (e ∙ (ap (λ z. pre ++ z) (append_assoc left right post) ∙ sym (append_assoc pre left (right ++ post)))),
+  HasCode-of r (pre ++ left) post g (base + size s) middle
+      (omega (arith, length-append pre left, length-code s base next))
+      (e ∙ (ap (λ z. pre ++ z) (append_assoc left right post) ∙ sym (append_assoc pre left (right ++ post)))),
 )
   where
     middle : ℕ
@@ -73,10 +126,19 @@ HasCode-of (concat r s) pre post g base next l e = (
     right : List Step
     right = code r (base + size s) (entry base (size s) next)
 HasCode-of (either r s) pre post g base next l e = (
-  HasCode-of r pre ((right ++ f ∷ []) ++ post) g base next l (e ∙ ap (λ z. pre ++ z) (append_assoc left (right ++ f ∷ []) post)),
-  HasCode-of s (pre ++ left) (f ∷ post) g (base + size r) next (omega (arith, length-append pre left, length-code r base next)) split,
+  HasCode-of r pre ((right ++ f ∷ []) ++ post) g base next l
+      (e ∙ ap (λ z. pre ++ z) (append_assoc left (right ++ f ∷ []) post)),
+  HasCode-of s (pre ++ left) (f ∷ post) g (base + size r) next
+      (omega (arith, length-append pre left, length-code r base next)) split,
   rw (split ∙ sym (append_assoc (pre ++ left) right (f ∷ post)))
-      (get-at_length ((pre ++ left) ++ right) post (base + size r + size s) f (omega (arith, length-append (pre ++ left) right, length-append pre left, length-code r base next, length-code s (base + size r) next))),
+      (get-at_length ((pre ++ left) ++ right) post (base + size r + size s) f
+      (omega (
+        arith,
+        length-append (pre ++ left) right,
+        length-append pre left,
+        length-code r base next,
+        length-code s (base + size r) next,
+      ))),
 )
   where
     f : Step
@@ -89,10 +151,14 @@ HasCode-of (either r s) pre post g base next l e = (
     right = code s (base + size r) next
 
     split : g ≡ (pre ++ left) ++ (right ++ (f ∷ post))
-    split = e ∙ (ap (λ z. pre ++ z) (append_assoc left (right ++ f ∷ []) post ∙ ap (λ z. left ++ z) (append_assoc right (f ∷ []) post)) ∙ sym (append_assoc pre left (right ++ (f ∷ post))))
+    split = e
+        ∙ (ap (λ z. pre ++ z) (append_assoc left (right ++ f ∷ []) post
+        ∙ ap (λ z. left ++ z) (append_assoc right (f ∷ []) post)) ∙ sym (append_assoc pre left (right ++ (f ∷ post))))
 HasCode-of (star r) pre post g base next l e = (
   HasCode-of r pre (f ∷ post) g base (base + size r) l (e ∙ ap (λ z. pre ++ z) (append_assoc left (f ∷ []) post)),
-  rw (e ∙ (ap (λ z. pre ++ z) (append_assoc left (f ∷ []) post) ∙ sym (append_assoc pre left (f ∷ post)))) (get-at_length (pre ++ left) post (base + size r) f (omega (arith, length-append pre left, length-code r base (base + size r)))),
+  rw (e ∙ (ap (λ z. pre ++ z) (append_assoc left (f ∷ []) post) ∙ sym (append_assoc pre left (f ∷ post))))
+      (get-at_length (pre ++ left) post (base + size r) f
+      (omega (arith, length-append pre left, length-code r base (base + size r)))),
 )
   where
     f : Step
@@ -102,14 +168,17 @@ HasCode-of (star r) pre post g base next l e = (
     left = code r base (base + size r)
 HasCode-of (plus r) pre post g base next l e = (
   rw e (get-at_length pre (code r (base + 1) base ++ post) base f l),
-  HasCode-of r (pre ++ f ∷ []) post g (base + 1) base (omega (arith, length-append pre (f ∷ []))) (e ∙ sym (append_assoc pre (f ∷ []) (code r (base + 1) base ++ post))),
+  HasCode-of r (pre ++ f ∷ []) post g (base + 1) base (omega (arith, length-append pre (f ∷ [])))
+      (e ∙ sym (append_assoc pre (f ∷ []) (code r (base + 1) base ++ post))),
 )
   where
     f : Step
     f = fork (entry (base + 1) (size r) base) next
 HasCode-of (optional r) pre post g base next l e = (
   HasCode-of r pre (f ∷ post) g base next l (e ∙ ap (λ z. pre ++ z) (append_assoc left (f ∷ []) post)),
-  rw (e ∙ (ap (λ z. pre ++ z) (append_assoc left (f ∷ []) post) ∙ sym (append_assoc pre left (f ∷ post)))) (get-at_length (pre ++ left) post (base + size r) f (omega (arith, length-append pre left, length-code r base next))),
+  rw (e ∙ (ap (λ z. pre ++ z) (append_assoc left (f ∷ []) post) ∙ sym (append_assoc pre left (f ∷ post))))
+      (get-at_length (pre ++ left) post (base + size r) f
+      (omega (arith, length-append pre left, length-code r base next))),
 )
   where
     f : Step
@@ -131,34 +200,62 @@ abbrev pub Stands : List Step → ℕ → ℕ → Type 0
 Stands g n p = (s : Step) × (slice_get g p ≡ Some s) × LeadsBelow n s × IsMove s
 
 -- each step of code is there and leads to steps below n
-pub stands : (g : List Step) (e : Expression) (base next n p : ℕ) → HasCode g e base next → base + size e ≤ n → next < n → base ≤ p → p < base + size e → Stands g n p
-stands g (set bytes) base next n p h le less l m = let same : p ≡ base = omega arith in rw same (reads bytes next, h, less, tt)
+pub stands : (g : List Step) (e : Expression) (base next n p : ℕ) → HasCode g e base next → base + size e ≤ n → next < n
+    → base ≤ p → p < base + size e → Stands g n p
+stands g (set bytes) base next n p h le less l m = let same : p ≡ base = omega arith
+    in rw same (reads bytes next, h, less, tt)
 stands g empty base next n p h le less l m = absurd (omega arith)
 stands g (concat r s) base next n p h le less l m = elim (cases_lt p (base + size s)) [
   | inl a ↦ stands g s base next n p h.0 (omega arith) less l a
-  | inr b ↦ stands g r (base + size s) (entry base (size s) next) n p h.1 (omega arith) (entry_below base (size s) next n (omega arith) less) b (omega arith)
+  | inr b ↦ stands g r (base + size s) (entry base (size s) next) n p h.1 (omega arith)
+      (entry_below base (size s) next n (omega arith) less) b (omega arith)
 ]
 stands g (either r s) base next n p h le less l m = elim (cases_lt p (base + size r)) [
   | inl a ↦ stands g r base next n p h.0 (omega arith) less l a
   | inr b ↦ elim (cases_lt p (base + size r + size s)) [
     | inl c ↦ stands g s (base + size r) next n p h.1 (omega arith) less b c
     | inr d ↦ let same : p ≡ base + size r + size s = omega arith in
-        rw same (fork (entry base (size r) next) (entry (base + size r) (size s) next), h.2, (entry_below base (size r) next n (omega arith) less, entry_below (base + size r) (size s) next n (omega arith) less), tt)
+        rw same (
+          fork (entry base (size r) next) (entry (base + size r) (size s) next),
+          h.2,
+          (
+            entry_below base (size r) next n (omega arith) less,
+            entry_below (base + size r) (size s) next n
+                (omega arith) less,
+          ),
+          tt,
+        )
   ]
 ]
 stands g (star r) base next n p h le less l m = elim (cases_lt p (base + size r)) [
   | inl a ↦ stands g r base (base + size r) n p h.0 (omega arith) (omega arith) l a
   | inr b ↦ let same : p ≡ base + size r = omega arith in
-      rw same (fork (entry base (size r) (base + size r)) next, h.1, (entry_below base (size r) (base + size r) n (omega arith) (omega arith), less), tt)
+      rw same (
+        fork (entry base (size r) (base + size r)) next,
+        h.1,
+        (entry_below base (size r) (base + size r) n (omega arith) (omega arith), less),
+        tt,
+      )
 ]
 stands g (plus r) base next n p h le less l m = elim (cases_eq p base) [
-  | inl same ↦ rw same (fork (entry (base + 1) (size r) base) next, h.0, (entry_below (base + 1) (size r) base n (omega arith) (omega arith), less), tt)
+  | inl same ↦
+      rw same (
+        fork (entry (base + 1) (size r) base) next,
+        h.0,
+        (entry_below (base + 1) (size r) base n (omega arith) (omega arith), less),
+        tt,
+      )
   | inr other ↦ stands g r (base + 1) base n p h.1 (omega arith) (omega arith) (omega arith) (omega arith)
 ]
 stands g (optional r) base next n p h le less l m = elim (cases_lt p (base + size r)) [
   | inl a ↦ stands g r base next n p h.0 (omega arith) less l a
   | inr b ↦ let same : p ≡ base + size r = omega arith in
-      rw same (fork (entry base (size r) next) next, h.1, (entry_below base (size r) next n (omega arith) less, less), tt)
+      rw same (
+        fork (entry base (size r) next) next,
+        h.1,
+        (entry_below base (size r) next n (omega arith) less, less),
+        tt,
+      )
 ]
 stands g (repeat a b r) base next n p h le less l m = absurd (omega arith)
 stands g (name x) base next n p h le less l m = absurd (omega arith)
@@ -172,7 +269,8 @@ module _ (g : List Step) (i : ℕ) where
   there p = ([], λ v r. r)
 
   then : (p q r : ℕ) → Leads p q → Leads q r → Leads p r
-  then p q r a b = (a.0 ++ b.0, λ v k. subst (λ z. CanRun g i p z) (sym (append_assoc a.0 b.0 v)) (a.1 (b.0 ++ v) (b.1 v k)))
+  then p q r a b
+      = (a.0 ++ b.0, λ v k. subst (λ z. CanRun g i p z) (sym (append_assoc a.0 b.0 v)) (a.1 (b.0 ++ v) (b.1 v k)))
 
   by_fork_first : (p a b : ℕ) → slice_get g p ≡ Some (fork a b) → Leads p a
   by_fork_first p a b h = ([], λ v r. first_side g i p a b v h r)
@@ -185,7 +283,8 @@ module _ (g : List Step) (i : ℕ) where
   from_entry base (suc n) next f = f (base + n) (omega arith) (omega arith)
 
   -- each step of code leads to what comes after the code
-  pub leads : (e : Expression) (base next p : ℕ) → IsPlain e → HasCode g e base next → base ≤ p → p < base + size e → Leads p next
+  pub leads : (e : Expression) (base next p : ℕ) → IsPlain e → HasCode g e base next → base ≤ p → p < base + size e
+      → Leads p next
   leads (set bytes) base next p plain h l m =
       let same : p ≡ base = omega arith in
       let b : (x : ℕ) × Contains bytes x = some_member bytes plain in
@@ -193,28 +292,38 @@ module _ (g : List Step) (i : ℕ) where
   leads empty base next p plain h l m = absurd (omega arith)
   leads (concat r s) base next p plain h l m = elim (cases_lt p (base + size s)) [
     | inl a ↦ leads s base next p plain.1 h.0 l a
-    | inr b ↦ then p (entry base (size s) next) next (leads r (base + size s) (entry base (size s) next) p plain.0 h.1 b (omega arith)) (from_entry base (size s) next (λ q x y. leads s base next q plain.1 h.0 x y))
+    | inr b ↦
+        then p (entry base (size s) next) next (leads r (base + size s) (entry base (size s) next) p plain.0 h.1 b
+        (omega arith)) (from_entry base (size s) next (λ q x y. leads s base next q plain.1 h.0 x y))
   ]
   leads (either r s) base next p plain h l m = elim (cases_lt p (base + size r)) [
     | inl a ↦ leads r base next p plain.0 h.0 l a
     | inr b ↦ elim (cases_lt p (base + size r + size s)) [
       | inl c ↦ leads s (base + size r) next p plain.1 h.1 b c
       | inr d ↦ let same : base + size r + size s ≡ p = omega arith in
-          then p (entry base (size r) next) next (subst (λ q. Leads q (entry base (size r) next)) same (by_fork_first (base + size r + size s) (entry base (size r) next) (entry (base + size r) (size s) next) h.2))
+          then p (entry base (size r) next) next
+          (subst (λ q. Leads q (entry base (size r) next)) same
+          (by_fork_first (base + size r + size s) (entry base (size r) next)
+          (entry (base + size r) (size s) next) h.2))
           (from_entry base (size r) next (λ q x y. leads r base next q plain.0 h.0 x y))
     ]
   ]
   leads (star r) base next p plain h l m = elim (cases_lt p (base + size r)) [
-    | inl a ↦ then p (base + size r) next (leads r base (base + size r) p plain h.0 l a) (by_fork_second (base + size r) (entry base (size r) (base + size r)) next h.1)
-    | inr b ↦ let same : base + size r ≡ p = omega arith in subst (λ q. Leads q next) same (by_fork_second (base + size r) (entry base (size r) (base + size r)) next h.1)
+    | inl a ↦ then p (base + size r) next (leads r base (base + size r) p plain h.0 l a)
+        (by_fork_second (base + size r) (entry base (size r) (base + size r)) next h.1)
+    | inr b ↦ let same : base + size r ≡ p = omega arith
+        in subst (λ q. Leads q next) same
+        (by_fork_second (base + size r) (entry base (size r) (base + size r)) next h.1)
   ]
   leads (plus r) base next p plain h l m = elim (cases_eq base p) [
     | inl same ↦ subst (λ q. Leads q next) same (by_fork_second base (entry (base + 1) (size r) base) next h.0)
-    | inr other ↦ then p base next (leads r (base + 1) base p plain h.1 (omega arith) (omega arith)) (by_fork_second base (entry (base + 1) (size r) base) next h.0)
+    | inr other ↦ then p base next (leads r (base + 1) base p plain h.1 (omega arith) (omega arith))
+        (by_fork_second base (entry (base + 1) (size r) base) next h.0)
   ]
   leads (optional r) base next p plain h l m = elim (cases_lt p (base + size r)) [
     | inl a ↦ leads r base next p plain h.0 l a
-    | inr b ↦ let same : base + size r ≡ p = omega arith in subst (λ q. Leads q next) same (by_fork_second (base + size r) (entry base (size r) next) next h.1)
+    | inr b ↦ let same : base + size r ≡ p = omega arith
+        in subst (λ q. Leads q next) same (by_fork_second (base + size r) (entry base (size r) next) next h.1)
   ]
   leads (repeat a b r) base next p plain h l m = absurd plain
   leads (name x) base next p plain h l m = absurd plain

@@ -1,5 +1,6 @@
 -- Strings one after another, any number of times.
-use Rattle.std.proofs.Common.{◌≡◌, inl, inr, ◌⊎◌, ℕ, zero, suc, ◌+◌, ◌-◌, ◌<◌, ◌≤◌, List, [], ◌++◌, refl, sym, ap, subst, ◌∙◌, arith, append_assoc, append-nil, add-one}
+use Rattle.std.proofs.Common.{◌≡◌, inl, inr, ◌⊎◌, ℕ, zero, suc, ◌+◌, ◌-◌, ◌<◌, ◌≤◌, List, [], ◌++◌, refl, sym, ap}
+use Rattle.std.proofs.Common.{subst, ◌∙◌, arith, append_assoc, append-nil, add-one}
 use Rattle.std.specs.Prelude.{◌↔◌}
 use Rattle.ly_ere.specs.Expression.{Joined}
 use Rattle.ly_ere.proofs.NameLaws.{joined_map}
@@ -15,15 +16,30 @@ module _ (L : List ℕ → Type 0) where
       subst (λ n. Joined L n (u ++ v)) e (subst (λ z. Joined L k (z ++ v)) (sym a) b)
   joined_append (suc j) k u v a b =
       let e : suc (j + k) ≡ suc j + k = omega arith in
-      subst (λ n. Joined L n (u ++ v)) e (a.0, a.1 ++ v, ap (λ z. z ++ v) a.2 ∙ append_assoc a.0 a.1 v, a.3, joined_append j k a.1 v a.4 b)
+      subst (λ n. Joined L n (u ++ v)) e (
+        a.0,
+        a.1 ++ v,
+        ap (λ z. z ++ v) a.2 ∙ append_assoc a.0 a.1 v,
+        a.3,
+        joined_append j k a.1 v a.4 b,
+      )
 
   pub joined_split : (j k : ℕ) (w : List ℕ) → Joined L (j + k) w → InTurn (Joined L j) (Joined L k) w
   joined_split zero k w h = let e : zero + k ≡ k = omega arith in ([], w, refl, refl, subst (λ n. Joined L n w) e h)
   joined_split (suc j) k w h =
-      more (let e : suc j + k ≡ suc (j + k) = omega arith in subst (λ n. Joined L n w) e h) (λ v g. joined_split j k v g)
+      more (let e : suc j + k ≡ suc (j + k) = omega arith in subst (λ n. Joined L n w) e h)
+      (λ v g. joined_split j k v g)
     where
-      more : Joined L (suc (j + k)) w → ((v : List ℕ) → Joined L (j + k) v → InTurn (Joined L j) (Joined L k) v) → InTurn (Joined L (suc j)) (Joined L k) w
-      more g f = let s = f g.1 g.4 in (g.0 ++ s.0, s.1, g.2 ∙ (ap (λ z. g.0 ++ z) s.2 ∙ sym (append_assoc g.0 s.0 s.1)), (g.0, s.0, refl, g.3, s.3), s.4)
+      more : Joined L (suc (j + k)) w → ((v : List ℕ) → Joined L (j + k) v → InTurn (Joined L j) (Joined L k) v)
+          → InTurn (Joined L (suc j)) (Joined L k) w
+      more g f = let s = f g.1 g.4
+          in (
+            g.0 ++ s.0,
+            s.1,
+            g.2 ∙ (ap (λ z. g.0 ++ z) s.2 ∙ sym (append_assoc g.0 s.0 s.1)),
+            (g.0, s.0, refl, g.3, s.3),
+            s.4,
+          )
 
   -- where nothing is in L
   pub joined_none : ((w : List ℕ) → L w → ⊥) → (k : ℕ) (w : List ℕ) → Joined L k w → (k ≡ 0) × (w ≡ [])
@@ -37,7 +53,8 @@ module _ (L : List ℕ → Type 0) where
 
 module _ (L M : List ℕ → Type 0) where
   -- where each string of L is made of strings of M
-  pub joined_flat : ((w : List ℕ) → L w → (j : ℕ) × Joined M j w) → (k : ℕ) (w : List ℕ) → Joined L k w → (m : ℕ) × Joined M m w
+  pub joined_flat : ((w : List ℕ) → L w → (j : ℕ) × Joined M j w) → (k : ℕ) (w : List ℕ) → Joined L k w
+      → (m : ℕ) × Joined M m w
   joined_flat f zero w j = (zero, j)
   joined_flat f (suc k) w j =
       let a = f j.0 j.3 in
@@ -45,12 +62,17 @@ module _ (L M : List ℕ → Type 0) where
       (a.0 + b.0, subst (λ z. Joined M (a.0 + b.0) z) (sym j.2) (joined_append M a.0 b.0 j.0 j.1 a.1 b.1))
 
   -- the same where each is made of one or more
-  pub joined_flat_some : ((w : List ℕ) → L w → (j : ℕ) × (1 ≤ j) × Joined M j w) → (k : ℕ) (w : List ℕ) → Joined L k w → (m : ℕ) × (k ≤ m) × Joined M m w
+  pub joined_flat_some : ((w : List ℕ) → L w → (j : ℕ) × (1 ≤ j) × Joined M j w) → (k : ℕ) (w : List ℕ) → Joined L k w
+      → (m : ℕ) × (k ≤ m) × Joined M m w
   joined_flat_some f zero w j = (zero, omega arith, j)
   joined_flat_some f (suc k) w j =
       let a = f j.0 j.3 in
-      let b : (m : ℕ) × (k ≤ m) × Joined M m j.1 = joined_flat_some f k j.1 j.4 in
-      (a.0 + b.0, omega (arith, a.1, b.1), subst (λ z. Joined M (a.0 + b.0) z) (sym j.2) (joined_append M a.0 b.0 j.0 j.1 a.2 b.2))
+      let b : (m : ℕ) × (k ≤ m) × Joined M m j.1 = joined_flat_some f k j.1 j.4 in (
+        a.0 + b.0,
+        omega (arith, a.1, b.1),
+        subst (λ z. Joined M (a.0 + b.0) z) (sym j.2)
+            (joined_append M a.0 b.0 j.0 j.1 a.2 b.2),
+      )
 
 -- the sets of `*`, `+` and `?`
 abbrev pub Star : (List ℕ → Type 0) → List ℕ → Type 0
@@ -73,14 +95,21 @@ module _ (L : List ℕ → Type 0) (w : List ℕ) where
   star_star = (λ h. (1, joined_one (Star L) w h), λ h. joined_flat (Star L) L (λ v k. k) h.0 w h.1)
 
   pub star_plus : Star L w ↔ Star (Plus L) w
-  star_plus = (λ h. (h.0, joined_map L (Plus L) (λ v k. (1, omega arith, joined_one L v k)) h.0 w h.1), λ h. joined_flat (Plus L) L (λ v k. (k.0, k.2)) h.0 w h.1)
+  star_plus = (
+    λ h. (h.0, joined_map L (Plus L) (λ v k. (1, omega arith, joined_one L v k)) h.0 w h.1),
+    λ h. joined_flat (Plus L) L (λ v k. (k.0, k.2)) h.0 w h.1,
+  )
 
   parts : (v : List ℕ) → Optional L v → Star L v
   parts v (inl e) = (0, e)
   parts v (inr h) = (1, joined_one L v h)
 
   pub star_optional : Star L w ↔ Star (Optional L) w
-  star_optional = (λ h. (h.0, joined_map L (Optional L) (λ v k. inr k) h.0 w h.1), λ h. joined_flat (Optional L) L parts h.0 w h.1)
+  star_optional
+      = (
+        λ h. (h.0, joined_map L (Optional L) (λ v k. inr k) h.0 w h.1),
+        λ h. joined_flat (Optional L) L parts h.0 w h.1,
+      )
 
   pub plus_star : Star L w ↔ Plus (Star L) w
   plus_star = (λ h. (1, omega arith, joined_one (Star L) w h), λ h. joined_flat (Star L) L (λ v k. k) h.0 w h.2)
@@ -151,10 +180,16 @@ module _ (w : List ℕ) where
       back (inr h) = absurd h
 
 pub then_null : (L : List ℕ → Type 0) (w : List ℕ) → L w ↔ InTurn L Null w
-then_null L w = (λ h. (w, [], sym (append-nil w), h, refl), λ h. subst L (sym (h.2 ∙ (ap (λ z. h.0 ++ z) h.4 ∙ append-nil h.0))) h.3)
+then_null L w
+    = (
+      λ h. (w, [], sym (append-nil w), h, refl),
+      λ h. subst L (sym (h.2 ∙ (ap (λ z. h.0 ++ z) h.4 ∙ append-nil h.0)))
+          h.3,
+    )
 
 pub in_turn_same : (L M P Q : List ℕ → Type 0) → Same L M → Same P Q → Same (InTurn L P) (InTurn M Q)
-in_turn_same L M P Q f g w = (λ h. (h.0, h.1, h.2, (f h.0).0 h.3, (g h.1).0 h.4), λ h. (h.0, h.1, h.2, (f h.0).1 h.3, (g h.1).1 h.4))
+in_turn_same L M P Q f g w
+    = (λ h. (h.0, h.1, h.2, (f h.0).0 h.3, (g h.1).0 h.4), λ h. (h.0, h.1, h.2, (f h.0).1 h.3, (g h.1).1 h.4))
 
 pub or_same : (L M P Q : List ℕ → Type 0) → Same L M → Same P Q → Same (λ w. L w ⊎ P w) (λ w. M w ⊎ Q w)
 or_same L M P Q f g w = (there, back)
@@ -180,10 +215,22 @@ module _ (L M : List ℕ → Type 0) where
   joined_more i w = rw add-one (there, back)
     where
       there : InTurn L (InTurn (Joined L i) M) w → InTurn (Joined L (suc i)) M w
-      there h = (h.0 ++ h.4.0, h.4.1, h.2 ∙ (ap (λ z. h.0 ++ z) h.4.2 ∙ sym (append_assoc h.0 h.4.0 h.4.1)), (h.0, h.4.0, refl, h.3, h.4.3), h.4.4)
+      there h = (
+        h.0 ++ h.4.0,
+        h.4.1,
+        h.2 ∙ (ap (λ z. h.0 ++ z) h.4.2 ∙ sym (append_assoc h.0 h.4.0 h.4.1)),
+        (h.0, h.4.0, refl, h.3, h.4.3),
+        h.4.4,
+      )
 
       back : InTurn (Joined L (suc i)) M w → InTurn L (InTurn (Joined L i) M) w
-      back h = (h.3.0, h.3.1 ++ h.1, h.2 ∙ (ap (λ z. z ++ h.1) h.3.2 ∙ append_assoc h.3.0 h.3.1 h.1), h.3.3, (h.3.1, h.1, refl, h.3.4, h.4))
+      back h = (
+        h.3.0,
+        h.3.1 ++ h.1,
+        h.2 ∙ (ap (λ z. z ++ h.1) h.3.2 ∙ append_assoc h.3.0 h.3.1 h.1),
+        h.3.3,
+        (h.3.1, h.1, refl, h.3.4, h.4),
+      )
 
 module _ (L : List ℕ → Type 0) where
   pub at_most_more : (i : ℕ) → Same (Optional (InTurn L (AtMost L i))) (AtMost L (i + 1))
@@ -198,25 +245,41 @@ module _ (L : List ℕ → Type 0) where
       back (suc k, l, j) = inr (j.0, j.1, j.2, j.3, (k, omega (arith, l), j.4))
 
   -- from m to n strings: m, and then at most n - m
-  pub between : (m n : ℕ) → m ≤ n → Same (InTurn (Joined L m) (AtMost L (n - m))) (λ w. (k : ℕ) × (m ≤ k) × (k ≤ n) × Joined L k w)
+  pub between : (m n : ℕ) → m ≤ n → Same (InTurn (Joined L m) (AtMost L (n - m))) (λ w. (k : ℕ) × (m ≤ k) × (k ≤ n)
+      × Joined L k w)
   between m n le w = (there, back)
     where
       there : InTurn (Joined L m) (AtMost L (n - m)) w → (k : ℕ) × (m ≤ k) × (k ≤ n) × Joined L k w
-      there h = (m + h.4.0, omega arith, omega (arith, h.4.1), subst (λ z. Joined L (m + h.4.0) z) (sym h.2) (joined_append L m h.4.0 h.0 h.1 h.3 h.4.2))
+      there h = (
+        m + h.4.0,
+        omega arith,
+        omega (arith, h.4.1),
+        subst (λ z. Joined L (m + h.4.0) z) (sym h.2)
+            (joined_append L m h.4.0 h.0 h.1 h.3 h.4.2),
+      )
 
       back : (k : ℕ) × (m ≤ k) × (k ≤ n) × Joined L k w → InTurn (Joined L m) (AtMost L (n - m)) w
       back h =
-          let s = joined_split L m (h.0 - m) w (let e : h.0 ≡ m + (h.0 - m) = omega (arith, h.1) in subst (λ k. Joined L k w) e h.3) in
+          let s = joined_split L m (h.0 - m) w (let e : h.0 ≡ m + (h.0 - m) = omega (arith, h.1)
+          in subst (λ k. Joined L k w) e h.3) in
           (s.0, s.1, s.2, s.3, (h.0 - m, omega (arith, h.2), s.4))
 
   -- m strings or more: m - 1, and then one or more
-  pub or_more : (m : ℕ) → 0 < m → Same (InTurn (Joined L (m - 1)) (Plus L)) (λ w. (k : ℕ) × (m ≤ k) × Unit {0} × Joined L k w)
+  pub or_more : (m : ℕ) → 0 < m → Same (InTurn (Joined L (m - 1)) (Plus L)) (λ w. (k : ℕ) × (m ≤ k) × Unit {0}
+      × Joined L k w)
   or_more m pos w = (there, back)
     where
       there : InTurn (Joined L (m - 1)) (Plus L) w → (k : ℕ) × (m ≤ k) × Unit {0} × Joined L k w
-      there h = ((m - 1) + h.4.0, omega (arith, h.4.1), tt, subst (λ z. Joined L ((m - 1) + h.4.0) z) (sym h.2) (joined_append L (m - 1) h.4.0 h.0 h.1 h.3 h.4.2))
+      there h = (
+        (m - 1) + h.4.0,
+        omega (arith, h.4.1),
+        tt,
+        subst (λ z. Joined L ((m - 1) + h.4.0) z) (sym h.2)
+            (joined_append L (m - 1) h.4.0 h.0 h.1 h.3 h.4.2),
+      )
 
       back : (k : ℕ) × (m ≤ k) × Unit {0} × Joined L k w → InTurn (Joined L (m - 1)) (Plus L) w
       back h =
-          let s = joined_split L (m - 1) (h.0 - (m - 1)) w (let e : h.0 ≡ (m - 1) + (h.0 - (m - 1)) = omega (arith, h.1) in subst (λ k. Joined L k w) e h.3) in
+          let s = joined_split L (m - 1) (h.0 - (m - 1)) w (let e : h.0 ≡ (m - 1) + (h.0 - (m - 1)) = omega (arith, h.1)
+          in subst (λ k. Joined L k w) e h.3) in
           (s.0, s.1, s.2, s.3, (h.0 - (m - 1), omega (arith, h.1), s.4))

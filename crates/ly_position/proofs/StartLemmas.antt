@@ -1,20 +1,27 @@
 -- Lists of entries, condition by condition.
-use Rattle.std.proofs.Common.{◌≡◌, ◌≢◌, inl, inr, ◌⊎◌, ℕ, ◌+◌, ◌*◌, ◌<◌, ◌≤◌, List, [], ◌∷◌, ◌++◌, Bool, true, false, length, get_or, set, Option, Some, None, refl, sym, ap, subst, ◌∙◌, arith, length-set, get_or-set_same, get_or-set_other}
+use Rattle.std.proofs.Common.{◌≡◌, ◌≢◌, inl, inr, ◌⊎◌, ℕ, ◌+◌, ◌*◌, ◌<◌, ◌≤◌, List, [], ◌∷◌, ◌++◌, Bool, true, false}
+use Rattle.std.proofs.Common.{length, get_or, set, Option, Some, None, refl, sym, ap, subst, ◌∙◌, arith, length-set}
+use Rattle.std.proofs.Common.{get_or-set_same, get_or-set_other}
 use Rattle.std.specs.Prelude.{All, ◌↔◌, slice_get, Contains, IsTrue}
 use Rattle.std.proofs.lemmas.Bool.{cases_eq, cases_lt}
 use Rattle.std.proofs.lemmas.List.{get_or_push, get_or_append_left, get_or_default}
-use Rattle.std.proofs.lemmas.List.Elements.{All-push, All-set, All-nil, Contains-append_left, Contains-push, Contains-push_cases}
+use Rattle.std.proofs.lemmas.List.Elements.{All-push, All-set, All-nil, Contains-append_left, Contains-push}
+use Rattle.std.proofs.lemmas.List.Elements.{Contains-push_cases}
 use Rattle.ly_base.proofs.MemberLemmas.{Contains-none}
 use Rattle.ly_ere.specs.declared.pattern.Rule.{Rule}
 use Rattle.ly_position.specs.Program.{Step}
 use Rattle.ly_position.specs.Follow.{IsReachList}
-use Rattle.ly_position.specs.Starts.{key, root_list, MayBegin, PutsIn, AddsIn, AddsInEach, StaysWithin, BeginsBefore, AreRoots, StartsAt}
+use Rattle.ly_position.specs.Starts.{key, root_list, MayBegin, PutsIn, AddsIn, AddsInEach, StaysWithin, BeginsBefore}
+use Rattle.ly_position.specs.Starts.{AreRoots, StartsAt}
 
 -- an entry in one list
 pub put_within : (L L' : List (List ℕ)) (k x : ℕ) → k < length L → PutsIn L L' k x → StaysWithin L L' x
-put_within L L' k x less is n l all = rw is (All-set (All (λ p. p < n)) L k (get_or L k [] ++ x ∷ []) (All-push (λ p. p < n) (get_or L k []) x (all k [] less) l) all)
+put_within L L' k x less is n l all
+    = rw is (All-set (All (λ p. p < n)) L k (get_or L k [] ++ x ∷ [])
+    (All-push (λ p. p < n) (get_or L k []) x (all k [] less) l) all)
 
-put_same : (L : List (List ℕ)) (k x e : ℕ) → k < length L → Contains (get_or (set L k (get_or L k [] ++ x ∷ [])) k []) e ↔ (Contains (get_or L k []) e ⊎ (e ≡ x))
+put_same : (L : List (List ℕ)) (k x e : ℕ) → k < length L → Contains (get_or (set L k (get_or L k [] ++ x ∷ [])) k []) e
+    ↔ (Contains (get_or L k []) e ⊎ (e ≡ x))
 put_same L k x e less = rw (get_or-set_same L k (get_or L k [] ++ x ∷ []) [] less) (there, back)
   where
     there : Contains (get_or L k [] ++ x ∷ []) e → Contains (get_or L k []) e ⊎ (e ≡ x)
@@ -24,7 +31,8 @@ put_same L k x e less = rw (get_or-set_same L k (get_or L k [] ++ x ∷ []) [] l
     back (inl a) = Contains-append_left (get_or L k []) (x ∷ []) e a
     back (inr b) = subst (λ z. Contains (get_or L k [] ++ x ∷ []) z) (sym b) (Contains-push (get_or L k []) x)
 
-pub put_each : (L L' : List (List ℕ)) (k x : ℕ) → k < length L → PutsIn L L' k x → (j e : ℕ) → Contains (get_or L' j []) e ↔ (Contains (get_or L j []) e ⊎ ((j ≡ k) × (e ≡ x)))
+pub put_each : (L L' : List (List ℕ)) (k x : ℕ) → k < length L → PutsIn L L' k x → (j e : ℕ)
+    → Contains (get_or L' j []) e ↔ (Contains (get_or L j []) e ⊎ ((j ≡ k) × (e ≡ x)))
 put_each L L' k x less is j e = rw is (elim (cases_eq j k) [
   | inl same ↦ rw same (let h = put_same L k x e less in (λ a. right (h.0 a), λ a. h.1 (left a)))
   | inr other ↦ rw (get_or-set_other L k j (get_or L k [] ++ x ∷ []) [] other) (λ a. inl a, λ a. only other a)
@@ -51,21 +59,25 @@ key_even : (c d : ℕ) (line : Bool) → (key c line ≡ 2 * d) ↔ ((c ≡ d) �
 key_even c d true = (λ e. absurd (omega arith), λ h. let k = h.1 in cc)
 key_even c d false = (λ e. (omega arith, refl), λ h. omega (arith, h.0))
 
-pub added_at_line : (L L' : List (List ℕ)) (d x : ℕ) → 2 * d + 1 < length L → PutsIn L L' (2 * d + 1) x → AddsIn L L' d true x
+pub added_at_line : (L L' : List (List ℕ)) (d x : ℕ) → 2 * d + 1 < length L → PutsIn L L' (2 * d + 1) x
+    → AddsIn L L' d true x
 added_at_line L L' d x less is c line e = (λ h. there (p.0 h), λ h. p.1 (back h))
   where
     p : Contains (root_list L' c line) e ↔ (Contains (root_list L c line) e ⊎ ((key c line ≡ 2 * d + 1) × (e ≡ x)))
     p = put_each L L' (2 * d + 1) x less is (key c line) e
 
-    there : Contains (root_list L c line) e ⊎ ((key c line ≡ 2 * d + 1) × (e ≡ x)) → Contains (root_list L c line) e ⊎ ((c ≡ d) × MayBegin true line × (e ≡ x))
+    there : Contains (root_list L c line) e ⊎ ((key c line ≡ 2 * d + 1) × (e ≡ x)) → Contains (root_list L c line) e
+        ⊎ ((c ≡ d) × MayBegin true line × (e ≡ x))
     there (inl a) = inl a
     there (inr b) = let k = (key_odd c d line).0 b.0 in inr (k.0, (λ t. k.1), b.1)
 
-    back : Contains (root_list L c line) e ⊎ ((c ≡ d) × MayBegin true line × (e ≡ x)) → Contains (root_list L c line) e ⊎ ((key c line ≡ 2 * d + 1) × (e ≡ x))
+    back : Contains (root_list L c line) e ⊎ ((c ≡ d) × MayBegin true line × (e ≡ x)) → Contains (root_list L c line) e
+        ⊎ ((key c line ≡ 2 * d + 1) × (e ≡ x))
     back (inl a) = inl a
     back (inr b) = inr ((key_odd c d line).1 (b.0, b.1 refl), b.2)
 
-pub added_anywhere : (L M L' : List (List ℕ)) (d x : ℕ) → 2 * d + 1 < length L → 2 * d + 1 < length M → PutsIn L M (2 * d) x → PutsIn M L' (2 * d + 1) x → AddsIn L L' d false x
+pub added_anywhere : (L M L' : List (List ℕ)) (d x : ℕ) → 2 * d + 1 < length L → 2 * d + 1 < length M
+    → PutsIn L M (2 * d) x → PutsIn M L' (2 * d + 1) x → AddsIn L L' d false x
 added_anywhere L M L' d x less less' is is' c line e = (λ h. there (q.0 h), λ h. q.1 (back h))
   where
     p : Contains (root_list M c line) e ↔ (Contains (root_list L c line) e ⊎ ((key c line ≡ 2 * d) × (e ≡ x)))
@@ -74,19 +86,23 @@ added_anywhere L M L' d x less less' is is' c line e = (λ h. there (q.0 h), λ 
     q : Contains (root_list L' c line) e ↔ (Contains (root_list M c line) e ⊎ ((key c line ≡ 2 * d + 1) × (e ≡ x)))
     q = put_each M L' (2 * d + 1) x less' is' (key c line) e
 
-    from : Contains (root_list L c line) e ⊎ ((key c line ≡ 2 * d) × (e ≡ x)) → Contains (root_list L c line) e ⊎ ((c ≡ d) × MayBegin false line × (e ≡ x))
+    from : Contains (root_list L c line) e ⊎ ((key c line ≡ 2 * d) × (e ≡ x)) → Contains (root_list L c line) e
+        ⊎ ((c ≡ d) × MayBegin false line × (e ≡ x))
     from (inl a) = inl a
     from (inr b) = let k = (key_even c d line).0 b.0 in inr (k.0, (λ t. cc), b.1)
 
-    there : Contains (root_list M c line) e ⊎ ((key c line ≡ 2 * d + 1) × (e ≡ x)) → Contains (root_list L c line) e ⊎ ((c ≡ d) × MayBegin false line × (e ≡ x))
+    there : Contains (root_list M c line) e ⊎ ((key c line ≡ 2 * d + 1) × (e ≡ x)) → Contains (root_list L c line) e
+        ⊎ ((c ≡ d) × MayBegin false line × (e ≡ x))
     there (inl a) = from (p.0 a)
     there (inr b) = let k = (key_odd c d line).0 b.0 in inr (k.0, (λ t. cc), b.1)
 
-    either_key : (b : Bool) → line ≡ b → (c ≡ d) → (e ≡ x) → Contains (root_list M c line) e ⊎ ((key c line ≡ 2 * d + 1) × (e ≡ x))
+    either_key : (b : Bool) → line ≡ b → (c ≡ d) → (e ≡ x) → Contains (root_list M c line) e
+        ⊎ ((key c line ≡ 2 * d + 1) × (e ≡ x))
     either_key true t k s = inr ((key_odd c d line).1 (k, t), s)
     either_key false t k s = inl (p.1 (inr ((key_even c d line).1 (k, t), s)))
 
-    back : Contains (root_list L c line) e ⊎ ((c ≡ d) × MayBegin false line × (e ≡ x)) → Contains (root_list M c line) e ⊎ ((key c line ≡ 2 * d + 1) × (e ≡ x))
+    back : Contains (root_list L c line) e ⊎ ((c ≡ d) × MayBegin false line × (e ≡ x)) → Contains (root_list M c line) e
+        ⊎ ((key c line ≡ 2 * d + 1) × (e ≡ x))
     back (inl a) = inl (p.1 (inl a))
     back (inr b) = either_key line refl b.0 b.2
 
@@ -97,95 +113,148 @@ pub within_trans : (L M N : List (List ℕ)) (x : ℕ) → StaysWithin L M x →
 within_trans L M N x f g n l all = g n l (f n l all)
 
 -- one more condition
-pub each_more : (L M N : List (List ℕ)) (n : ℕ) (done done' : List ℕ) (d : ℕ) (b : Bool) (x : ℕ) → AddsInEach L M n done b x → AddsIn M N d b x → done' ≡ done ++ d ∷ [] → AddsInEach L N n done' b x
-each_more L M N n done done' d b x f g is c line e l = rw is (λ h. there ((g c line e).0 h), λ h. (g c line e).1 (back h))
+pub each_more : (L M N : List (List ℕ)) (n : ℕ) (done done' : List ℕ) (d : ℕ) (b : Bool) (x : ℕ)
+    → AddsInEach L M n done b x → AddsIn M N d b x → done' ≡ done ++ d ∷ [] → AddsInEach L N n done' b x
+each_more L M N n done done' d b x f g is c line e l
+    = rw is (λ h. there ((g c line e).0 h), λ h. (g c line e).1 (back h))
   where
-    so_far : Contains (root_list L c line) e ⊎ (Contains done c × MayBegin b line × (e ≡ x)) → Contains (root_list L c line) e ⊎ (Contains (done ++ d ∷ []) c × MayBegin b line × (e ≡ x))
+    so_far : Contains (root_list L c line) e ⊎ (Contains done c × MayBegin b line × (e ≡ x))
+        → Contains (root_list L c line) e ⊎ (Contains (done ++ d ∷ []) c × MayBegin b line × (e ≡ x))
     so_far (inl h) = inl h
     so_far (inr h) = inr (Contains-append_left done (d ∷ []) c h.0, h.1, h.2)
 
-    there : Contains (root_list M c line) e ⊎ ((c ≡ d) × MayBegin b line × (e ≡ x)) → Contains (root_list L c line) e ⊎ (Contains (done ++ d ∷ []) c × MayBegin b line × (e ≡ x))
+    there : Contains (root_list M c line) e ⊎ ((c ≡ d) × MayBegin b line × (e ≡ x)) → Contains (root_list L c line) e
+        ⊎ (Contains (done ++ d ∷ []) c × MayBegin b line × (e ≡ x))
     there (inl h) = so_far ((f c line e l).0 h)
     there (inr h) = inr (subst (λ k. Contains (done ++ d ∷ []) k) (sym h.0) (Contains-push done d), h.1, h.2)
 
-    back : Contains (root_list L c line) e ⊎ (Contains (done ++ d ∷ []) c × MayBegin b line × (e ≡ x)) → Contains (root_list M c line) e ⊎ ((c ≡ d) × MayBegin b line × (e ≡ x))
+    back : Contains (root_list L c line) e ⊎ (Contains (done ++ d ∷ []) c × MayBegin b line × (e ≡ x))
+        → Contains (root_list M c line) e ⊎ ((c ≡ d) × MayBegin b line × (e ≡ x))
     back (inl h) = inl ((f c line e l).1 (inl h))
-    back (inr h) = elim (Contains-push_cases done d c h.0) [ inl a ↦ inl ((f c line e l).1 (inr (a, h.1, h.2))) | inr same ↦ inr (sym same, h.1, h.2) ]
+    back (inr h)
+        = elim (Contains-push_cases done d c h.0) [
+          | inl a ↦ inl ((f c line e l).1 (inr (a, h.1, h.2)))
+          | inr same ↦
+              inr (sym same, h.1, h.2)
+        ]
 
-pub each_skip : (L M : List (List ℕ)) (n : ℕ) (done done' : List ℕ) (d : ℕ) (b : Bool) (x : ℕ) → AddsInEach L M n done b x → n ≤ d → done' ≡ done ++ d ∷ [] → AddsInEach L M n done' b x
-each_skip L M n done done' d b x f le is c line e l = rw is (λ h. so_far ((f c line e l).0 h), λ h. (f c line e l).1 (back h))
+pub each_skip : (L M : List (List ℕ)) (n : ℕ) (done done' : List ℕ) (d : ℕ) (b : Bool) (x : ℕ)
+    → AddsInEach L M n done b x → n ≤ d → done' ≡ done ++ d ∷ [] → AddsInEach L M n done' b x
+each_skip L M n done done' d b x f le is c line e l
+    = rw is (λ h. so_far ((f c line e l).0 h), λ h. (f c line e l).1 (back h))
   where
-    so_far : Contains (root_list L c line) e ⊎ (Contains done c × MayBegin b line × (e ≡ x)) → Contains (root_list L c line) e ⊎ (Contains (done ++ d ∷ []) c × MayBegin b line × (e ≡ x))
+    so_far : Contains (root_list L c line) e ⊎ (Contains done c × MayBegin b line × (e ≡ x))
+        → Contains (root_list L c line) e ⊎ (Contains (done ++ d ∷ []) c × MayBegin b line × (e ≡ x))
     so_far (inl h) = inl h
     so_far (inr h) = inr (Contains-append_left done (d ∷ []) c h.0, h.1, h.2)
 
-    back : Contains (root_list L c line) e ⊎ (Contains (done ++ d ∷ []) c × MayBegin b line × (e ≡ x)) → Contains (root_list L c line) e ⊎ (Contains done c × MayBegin b line × (e ≡ x))
+    back : Contains (root_list L c line) e ⊎ (Contains (done ++ d ∷ []) c × MayBegin b line × (e ≡ x))
+        → Contains (root_list L c line) e ⊎ (Contains done c × MayBegin b line × (e ≡ x))
     back (inl h) = inl h
-    back (inr h) = elim (Contains-push_cases done d c h.0) [ inl a ↦ inr (a, h.1, h.2) | inr same ↦ absurd (omega arith) ]
+    back (inr h) = elim (Contains-push_cases done d c h.0) [
+      | inl a ↦ inr (a, h.1, h.2)
+      | inr same ↦
+          absurd (omega arith)
+    ]
 
 -- one more rule
 empty_within : (L : List (List ℕ)) (n : ℕ) → ((k : ℕ) → get_or L k [] ≡ []) → All (All (λ p. p < n)) L
-empty_within L n none k d l = let e : get_or L k d ≡ [] = get_or_default L k d [] l ∙ none k in rw e (All-nil (λ p. p < n))
+empty_within L n none k d l = let e : get_or L k d ≡ [] = get_or_default L k d [] l ∙ none k
+    in rw e (All-nil (λ p. p < n))
 
-pub roots_none : (rules : List Rule) (entries : List (Option ℕ)) (conditions bound : ℕ) (L : List (List ℕ)) → length L ≡ 2 * conditions → ((k : ℕ) → get_or L k [] ≡ []) → AreRoots rules entries 0 conditions bound L
+pub roots_none : (rules : List Rule) (entries : List (Option ℕ)) (conditions bound : ℕ) (L : List (List ℕ))
+    → length L ≡ 2 * conditions → ((k : ℕ) → get_or L k [] ≡ []) → AreRoots rules entries 0 conditions bound L
 roots_none rules entries conditions bound L count none = record {
   count = count;
   within = empty_within L bound none;
-  each = λ c line e l. (λ h. let at = none (key c line) in Contains-none e (subst (λ (xs : List ℕ). Contains xs e) at h), λ h. absurd (omega (arith, h.2)));
+  each = λ c line e l. (
+    λ h. let at = none (key c line)
+        in Contains-none e (subst (λ (xs : List ℕ). Contains xs e) at h),
+    λ h. absurd (omega (arith, h.2)),
+  );
 }
 
-later : (rules : List Rule) (entries : List (Option ℕ)) (n c : ℕ) (line : Bool) (e : ℕ) → BeginsBefore rules entries n c line e → BeginsBefore rules entries (n + 1) c line e
+later : (rules : List Rule) (entries : List (Option ℕ)) (n c : ℕ) (line : Bool) (e : ℕ)
+    → BeginsBefore rules entries n c line e → BeginsBefore rules entries (n + 1) c line e
 later rules entries n c line e h = (h.0, h.1, omega (arith, h.2), h.3, h.4, h.5, h.6)
 
-pub roots_skip : (rules : List Rule) (entries : List (Option ℕ)) (n conditions bound : ℕ) (L : List (List ℕ)) → AreRoots rules entries n conditions bound L → get_or entries n None ≡ None → AreRoots rules entries (n + 1) conditions bound L
+pub roots_skip : (rules : List Rule) (entries : List (Option ℕ)) (n conditions bound : ℕ) (L : List (List ℕ))
+    → AreRoots rules entries n conditions bound L → get_or entries n None ≡ None
+    → AreRoots rules entries (n + 1) conditions bound L
 roots_skip rules entries n conditions bound L h none = record {
   count = h.count;
   within = h.within;
-  each = λ c line e l. (λ k. later rules entries n c line e ((h.each c line e l).0 k), λ k. (h.each c line e l).1 (earlier c line e k));
+  each = λ c line e l. (
+    λ k. later rules entries n c line e ((h.each c line e l).0 k),
+    λ k. (h.each c line e l).1 (earlier c line e k),
+  );
 }
   where
-    earlier : (c : ℕ) (line : Bool) (e : ℕ) → BeginsBefore rules entries (n + 1) c line e → BeginsBefore rules entries n c line e
+    earlier : (c : ℕ) (line : Bool) (e : ℕ) → BeginsBefore rules entries (n + 1) c line e
+        → BeginsBefore rules entries n c line e
     earlier c line e k = elim (cases_eq k.0 n) [
       | inl same ↦ let at : get_or entries n None ≡ Some e = ap (λ i. get_or entries i None) (sym same) ∙ k.6 in cc
       | inr other ↦ (k.0, k.1, omega (arith, k.2), k.3, k.4, k.5, k.6)
     ]
 
-pub roots_more : (rules : List Rule) (entries : List (Option ℕ)) (n conditions bound : ℕ) (L M : List (List ℕ)) (r : Rule) (x : ℕ) → AreRoots rules entries n conditions bound L → slice_get rules n ≡ Some r → get_or entries n None ≡ Some x → x < bound
-    → length M ≡ length L → StaysWithin L M x → AddsInEach L M conditions r.active.items r.pattern.line_start x → AreRoots rules entries (n + 1) conditions bound M
+pub roots_more : (rules : List Rule) (entries : List (Option ℕ)) (n conditions bound : ℕ) (L M : List (List ℕ))
+    (r : Rule) (x : ℕ) → AreRoots rules entries n conditions bound L → slice_get rules n ≡ Some r
+    → get_or entries n None ≡ Some x → x < bound
+    → length M ≡ length L → StaysWithin L M x → AddsInEach L M conditions r.active.items r.pattern.line_start x
+    → AreRoots rules entries (n + 1) conditions bound M
 roots_more rules entries n conditions bound L M r x h is at less count stays added = record {
   count = count ∙ h.count;
   within = stays bound less h.within;
   each = λ c line e l. (λ k. there c line e ((added c line e l).0 k) l, λ k. (added c line e l).1 (back c line e l k));
 }
   where
-    there : (c : ℕ) (line : Bool) (e : ℕ) → Contains (root_list L c line) e ⊎ (Contains r.active.items c × MayBegin r.pattern.line_start line × (e ≡ x)) → c < conditions → BeginsBefore rules entries (n + 1) c line e
+    there : (c : ℕ) (line : Bool) (e : ℕ) → Contains (root_list L c line) e
+        ⊎ (Contains r.active.items c × MayBegin r.pattern.line_start line × (e ≡ x)) → c < conditions
+        → BeginsBefore rules entries (n + 1) c line e
     there c line e (inl k) l = later rules entries n c line e ((h.each c line e l).0 k)
     there c line e (inr k) l = (n, r, omega arith, is, k.0, k.1, at ∙ ap (λ z. Some z) (sym k.2))
 
-    back : (c : ℕ) (line : Bool) (e : ℕ) → c < conditions → BeginsBefore rules entries (n + 1) c line e → Contains (root_list L c line) e ⊎ (Contains r.active.items c × MayBegin r.pattern.line_start line × (e ≡ x))
+    back : (c : ℕ) (line : Bool) (e : ℕ) → c < conditions → BeginsBefore rules entries (n + 1) c line e
+        → Contains (root_list L c line) e ⊎ (Contains r.active.items c × MayBegin r.pattern.line_start line × (e ≡ x))
     back c line e l k = elim (cases_eq k.0 n) [
       | inl same ↦
-          let one : k.1 ≡ r = let a : slice_get rules n ≡ Some k.1 = ap (λ i. slice_get rules i) (sym same) ∙ k.3 in cc in
-          let two : e ≡ x = let a : get_or entries n None ≡ Some e = ap (λ i. get_or entries i None) (sym same) ∙ k.6 in cc in
-          inr (subst (λ (q : Rule). Contains q.active.items c) one k.4, subst (λ (q : Rule). MayBegin q.pattern.line_start line) one k.5, two)
+          let one : k.1 ≡ r = let a : slice_get rules n ≡ Some k.1 = ap (λ i. slice_get rules i) (sym same) ∙ k.3 in cc
+          in
+          let two : e ≡ x = let a : get_or entries n None ≡ Some e = ap (λ i. get_or entries i None) (sym same) ∙ k.6
+          in cc in
+          inr (
+            subst (λ (q : Rule). Contains q.active.items c) one k.4,
+            subst (λ (q : Rule). MayBegin q.pattern.line_start line) one k.5,
+            two,
+          )
       | inr other ↦ inl ((h.each c line e l).1 (k.0, k.1, omega (arith, k.2), k.3, k.4, k.5, k.6))
     ]
 
 -- one more list of positions
-pub lists_more : (g : List Step) (L S S' : List (List ℕ)) (n : ℕ) (list : List ℕ) → length S ≡ n → ((k : ℕ) → k < n → IsReachList g (get_or L k []) (get_or S k [])) → IsReachList g (get_or L n []) list → S' ≡ S ++ list ∷ []
+pub lists_more : (g : List Step) (L S S' : List (List ℕ)) (n : ℕ) (list : List ℕ) → length S ≡ n
+    → ((k : ℕ) → k < n → IsReachList g (get_or L k []) (get_or S k [])) → IsReachList g (get_or L n []) list
+    → S' ≡ S ++ list ∷ []
     → (k : ℕ) → k < n + 1 → IsReachList g (get_or L k []) (get_or S' k [])
 lists_more g L S S' n list count old new is k l = rw is (elim (cases_lt k n) [
   | inl m ↦ rw (get_or_append_left S (list ∷ []) [] k (omega arith)) (old k m)
-  | inr m ↦ let same : n ≡ k = omega arith in subst (λ i. IsReachList g (get_or L i []) (get_or (S ++ list ∷ []) i [])) same (rw (get_or_push S list [] n count) new)
+  | inr m ↦ let same : n ≡ k = omega arith
+      in subst (λ i. IsReachList g (get_or L i []) (get_or (S ++ list ∷ []) i [])) same
+      (rw (get_or_push S list [] n count) new)
 ])
 
 key_below : (c n : ℕ) (line : Bool) → c < n → key c line < 2 * n
 key_below c n true l = omega arith
 key_below c n false l = omega arith
 
-pub starts_all : (g : List Step) (rules : List Rule) (entries : List (Option ℕ)) (conditions bound : ℕ) (L S : List (List ℕ)) → AreRoots rules entries (length rules) conditions bound L → length S ≡ length L → ((k : ℕ) → k < length L → IsReachList g (get_or L k []) (get_or S k [])) → StartsAt g rules entries conditions S
+pub starts_all : (g : List Step) (rules : List Rule) (entries : List (Option ℕ)) (conditions bound : ℕ)
+    (L S : List (List ℕ)) → AreRoots rules entries (length rules) conditions bound L → length S ≡ length L
+    → ((k : ℕ) → k < length L → IsReachList g (get_or L k []) (get_or S k [])) → StartsAt g rules entries conditions S
 starts_all g rules entries conditions bound L S roots count each = record {
   count = count ∙ roots.count;
   each = λ k l. (get_or L k [], each k (omega arith));
-  begin = λ c line l. (root_list L c line, each (key c line) (omega (arith, key_below c conditions line l, roots.count)), λ e. roots.each c line e l);
+  begin = λ c line l. (
+    root_list L c line,
+    each (key c line) (omega (arith, key_below c conditions line l, roots.count)),
+    λ e. roots.each c line e l,
+  );
 }

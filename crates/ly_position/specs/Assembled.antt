@@ -10,7 +10,8 @@ use Rattle.ly_position.specs.Position.{nfa_of}
 use Rattle.ly_position.specs.declared.nfa.Slot.{Slot}
 
 -- its positions are those of the program, its follow lists those of steps, its start lists those of rules
-pub record Assembled (g : List Step) (rules : List Rule) (entries : List (Option ℕ)) (conditions : ℕ) (nfa : Nfa) : Type 0 where
+pub record Assembled (g : List Step) (rules : List Rule) (entries : List (Option ℕ)) (conditions : ℕ)
+    (nfa : Nfa) : Type 0 where
   pub slots : List Slot
   pub follow : List (List ℕ)
   pub starts : List (List ℕ)

@@ -1,5 +1,6 @@
 -- The program of rules, and what is left to do while it is made.
-use Rattle.std.specs.Prelude.{◌≡◌, ◌↔◌, ℕ, ◌+◌, ◌<◌, List, [], ◌∷◌, ◌++◌, length, slice_get, slice_index_or, All, Option, Some, None}
+use Rattle.std.specs.Prelude.{◌≡◌, ◌↔◌, ℕ, ◌+◌, ◌<◌, List, [], ◌∷◌, ◌++◌, length, slice_get, slice_index_or, All}
+use Rattle.std.specs.Prelude.{Option, Some, None}
 use Rattle.ly_ere.specs.Expression.{Expression, set, empty, concat, either, star, plus, optional, repeat, name}
 use Rattle.ly_ere.specs.Arena.{part_of}
 use Rattle.ly_position.specs.Plain.{IsPart}
@@ -51,10 +52,12 @@ EntryRuns program i (Some p) w = (n : ℕ) × Runs program i n p w
 
 -- The program of parts: from the entry of each it reads the strings of that part, to the end of that
 -- part; and from each step it comes to an end.
-pub record IsProgram (es : List Expression) (parts : List (Option ℕ)) (program : List Step) (entries : List (Option ℕ)) : Type 0 where
+pub record IsProgram (es : List Expression) (parts : List (Option ℕ)) (program : List Step)
+    (entries : List (Option ℕ)) : Type 0 where
   pub closed : IsClosed program
   pub within : All (IsPart (length program)) entries
   pub count : length entries ≡ length parts
-  pub spells : (i j : ℕ) (w : List ℕ) → EntryRuns program j (slice_index_or entries i None) w ↔ ((j ≡ i) × ListedMatches es parts i w)
+  pub spells : (i j : ℕ) (w : List ℕ) → EntryRuns program j (slice_index_or entries i None) w
+      ↔ ((j ≡ i) × ListedMatches es parts i w)
   pub alive : (p : ℕ) → p < length program → (i : ℕ) × (w : List ℕ) × EntryRuns program i (Some p) w
   pub known : (p i : ℕ) → slice_get program p ≡ Some (ends i) → i < length parts

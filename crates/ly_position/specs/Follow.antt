@@ -1,5 +1,6 @@
 -- Positions of a program: its reads and ends, numbered in their order, and the lists of those that come next.
-use Rattle.std.specs.Prelude.{◌≡◌, ◌≢◌, ◌↔◌, ℕ, ◌+◌, ◌<◌, List, [], ◌∷◌, ◌++◌, length, slice_index_or, AllPairs, Bool, true, false, Contains, Option, Some, None}
+use Rattle.std.specs.Prelude.{◌≡◌, ◌≢◌, ◌↔◌, ℕ, ◌+◌, ◌<◌, List, [], ◌∷◌, ◌++◌, length, slice_index_or, AllPairs, Bool}
+use Rattle.std.specs.Prelude.{true, false, Contains, Option, Some, None}
 use Rattle.ly_base.specs.ByteSet.{members}
 use Rattle.ly_position.specs.Program.{Step, reads, fork, ends}
 use Rattle.ly_position.specs.Reach.{Reached}
@@ -34,12 +35,14 @@ pub record IsReachList (g : List Step) (roots list : List ℕ) : Type 0 where
 -- each list is one of a step, and the lists that are known are those of their steps
 pub record Knows (g : List Step) (lists : List (List ℕ)) (known : List (Option ℕ)) : Type 0 where
   pub count : length known ≡ length g
-  pub each : (t l : ℕ) → slice_index_or known t None ≡ Some l → (l < length lists) × IsReachList g (t ∷ []) (slice_index_or lists l [])
+  pub each : (t l : ℕ) → slice_index_or known t None ≡ Some l → (l < length lists)
+      × IsReachList g (t ∷ []) (slice_index_or lists l [])
   pub all : (l : ℕ) → l < length lists → (t : ℕ) × IsReachList g (t ∷ []) (slice_index_or lists l [])
 
 -- a slot is the position of a step
 abbrev pub SlotFits : List Step → List (List ℕ) → Step → Slot → Type 0
-SlotFits g lists (reads bytes next) (slot.Reads b follow) = (bytes ≡ members b) × (follow < length lists) × IsReachList g (next ∷ []) (slice_index_or lists follow [])
+SlotFits g lists (reads bytes next) (slot.Reads b follow) = (bytes ≡ members b) × (follow < length lists)
+    × IsReachList g (next ∷ []) (slice_index_or lists follow [])
 SlotFits g lists (reads bytes next) (slot.Ends r) = ⊥
 SlotFits g lists (fork a b) s = ⊥
 SlotFits g lists (ends i) (slot.Reads b follow) = ⊥

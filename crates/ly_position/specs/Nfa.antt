@@ -1,5 +1,6 @@
 -- Positions with their follow lists and start lists, and runs over them (McNaughton and Yamada 1960).
-use Rattle.std.specs.Prelude.{◌≡◌, ℕ, ◌+◌, ◌*◌, List, [], ◌∷◌, slice_get, slice_index_or, Bool, if◌then◌else◌, Contains, Some}
+use Rattle.std.specs.Prelude.{◌≡◌, ℕ, ◌+◌, ◌*◌, List, [], ◌∷◌, slice_get, slice_index_or, Bool, if◌then◌else◌, Contains}
+use Rattle.std.specs.Prelude.{Some}
 
 -- A position: it reads one of some bytes, and some positions may come next; or the pattern of a rule ends there.
 pub data Place : Type 0 where

@@ -14,12 +14,14 @@ RunsFrom nfa condition line i w = (p : ℕ) × Contains (starts_of nfa condition
 -- and then one of its tail.
 abbrev pub HasString : List Expression → List Rule → ℕ → Bool → ℕ → List ℕ → Type 0
 HasString names rules condition line i w =
-    (r : Rule) × (slice_get rules i ≡ Some r) × Contains r.active.items condition × MayBegin r.pattern.line_start line × Spelled names r.pattern w
+    (r : Rule) × (slice_get rules i ≡ Some r) × Contains r.active.items condition × MayBegin r.pattern.line_start line
+    × Spelled names r.pattern w
 
 -- The positions of rules: runs read the strings of the patterns, every position leads to an end mark,
 -- and lists have each member once.
 pub record ArePositions (names : List Expression) (rules : List Rule) (conditions : ℕ) (nfa : Nfa) : Type 0 where
-  pub spells : (c : ℕ) (line : Bool) (i : ℕ) (w : List ℕ) → c < conditions → RunsFrom nfa c line i w ↔ HasString names rules c line i w
+  pub spells : (c : ℕ) (line : Bool) (i : ℕ) (w : List ℕ) → c < conditions → RunsFrom nfa c line i w
+      ↔ HasString names rules c line i w
   pub live : (p : ℕ) → p < length nfa.positions → (i : ℕ) × (w : List ℕ) × RunsTo nfa i p w
   pub known : (p i : ℕ) → IsEnd nfa p i → i < length rules
   pub follow_within : (p q : ℕ) → Follows nfa p q → q < length nfa.positions

@@ -1,5 +1,6 @@
 -- The plain expressions of nodes and rules.
-use Rattle.std.specs.Prelude.{◌≡◌, ℕ, ◌≤◌, List, [], ◌∷◌, length, slice_get, slice_index_or, All, Contains, Option, Some, None, ◌⊎◌}
+use Rattle.std.specs.Prelude.{◌≡◌, ℕ, ◌≤◌, List, [], ◌∷◌, length, slice_get, slice_index_or, All, Contains, Option}
+use Rattle.std.specs.Prelude.{Some, None, ◌⊎◌}
 use Rattle.ly_base.specs.ByteSet.{members}
 use Rattle.ly_ere.specs.Expression.{Expression, Joined, Within, Matches, MatchesUnder}
 use Rattle.ly_ere.specs.Winner.{InTail}
@@ -38,7 +39,9 @@ abbrev pub SpelledUnder : (ℕ → List ℕ → Type 0) → Pattern → List ℕ
 SpelledUnder N p w = InTurn (MatchesUnder N p.head) (InTailUnder N p.tail) w
 
 -- for each rule the part that has its pattern's strings
-pub record IsPlan (names : List Expression) (rules : List Rule) (es : List Expression) (parts : List (Option ℕ)) : Type 0 where
+pub record IsPlan (names : List Expression) (rules : List Rule) (es : List Expression)
+    (parts : List (Option ℕ)) : Type 0 where
   pub count : length parts ≡ length rules
   pub within : All (IsPart (length es)) parts
-  pub spells : (i : ℕ) (r : Rule) → slice_get rules i ≡ Some r → Same (ListedMatches es parts i) (Spelled names r.pattern)
+  pub spells : (i : ℕ) (r : Rule) → slice_get rules i ≡ Some r
+      → Same (ListedMatches es parts i) (Spelled names r.pattern)

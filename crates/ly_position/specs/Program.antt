@@ -1,5 +1,6 @@
 -- Programs that read strings (Thompson 1968): what they are, how they run, and the code of an expression.
-use Rattle.std.specs.Prelude.{◌≡◌, ◌≢◌, ℕ, zero, suc, ◌+◌, List, [], ◌∷◌, ◌++◌, map, slice_get, slice_index, Contains, Some}
+use Rattle.std.specs.Prelude.{◌≡◌, ◌≢◌, ℕ, zero, suc, ◌+◌, List, [], ◌∷◌, ◌++◌, map, slice_get, slice_index, Contains}
+use Rattle.std.specs.Prelude.{Some}
 use Rattle.ly_base.specs.ByteSet.{members}
 use Rattle.ly_ere.specs.Expression.{Expression, set, empty, concat, either, star, plus, optional, repeat, name}
 use Rattle.ly_ere.specs.declared.node.Node.{Node}
@@ -24,9 +25,12 @@ steps_of code = map step_of code
 -- from step p the program reads w to an end of rule i, in n moves
 pub data Runs (program : List Step) (i : ℕ) : ℕ → ℕ → List ℕ → Type 0 where
   at_end : {p : ℕ} → slice_get program p ≡ Some (ends i) → Runs program i zero p []
-  by_read : {n p b q : ℕ} {bytes w : List ℕ} → slice_get program p ≡ Some (reads bytes q) → Contains bytes b → Runs program i n q w → Runs program i (suc n) p (b ∷ w)
-  by_first : {n p a b : ℕ} {w : List ℕ} → slice_get program p ≡ Some (fork a b) → Runs program i n a w → Runs program i (suc n) p w
-  by_second : {n p a b : ℕ} {w : List ℕ} → slice_get program p ≡ Some (fork a b) → Runs program i n b w → Runs program i (suc n) p w
+  by_read : {n p b q : ℕ} {bytes w : List ℕ} → slice_get program p ≡ Some (reads bytes q) → Contains bytes b
+      → Runs program i n q w → Runs program i (suc n) p (b ∷ w)
+  by_first : {n p a b : ℕ} {w : List ℕ} → slice_get program p ≡ Some (fork a b) → Runs program i n a w
+      → Runs program i (suc n) p w
+  by_second : {n p a b : ℕ} {w : List ℕ} → slice_get program p ≡ Some (fork a b) → Runs program i n b w
+      → Runs program i (suc n) p w
 
 -- how many steps the code of an expression has
 abbrev pub size : Expression → ℕ
@@ -50,7 +54,9 @@ abbrev pub code : Expression → ℕ → ℕ → List Step
 code (set bytes) base next = reads bytes next ∷ []
 code empty base next = []
 code (concat r s) base next = code s base next ++ code r (base + size s) (entry base (size s) next)
-code (either r s) base next = code r base next ++ (code s (base + size r) next ++ fork (entry base (size r) next) (entry (base + size r) (size s) next) ∷ [])
+code (either r s) base next
+    = code r base next
+    ++ (code s (base + size r) next ++ fork (entry base (size r) next) (entry (base + size r) (size s) next) ∷ [])
 code (star r) base next = code r base (base + size r) ++ fork (entry base (size r) (base + size r)) next ∷ []
 code (plus r) base next = fork (entry (base + 1) (size r) base) next ∷ code r (base + 1) base
 code (optional r) base next = code r base next ++ fork (entry base (size r) next) next ∷ []

@@ -1,5 +1,6 @@
 -- Where the patterns of rules begin, condition by condition.
-use Rattle.std.specs.Prelude.{◌≡◌, ◌↔◌, ◌⊎◌, ℕ, ◌+◌, ◌*◌, ◌<◌, List, [], ◌∷◌, ◌++◌, length, map, slice_set, slice_get, slice_index_or, All, Bool, if◌then◌else◌, IsTrue, Contains, Option, Some, None}
+use Rattle.std.specs.Prelude.{◌≡◌, ◌↔◌, ◌⊎◌, ℕ, ◌+◌, ◌*◌, ◌<◌, List, [], ◌∷◌, ◌++◌, length, map, slice_set, slice_get}
+use Rattle.std.specs.Prelude.{slice_index_or, All, Bool, if◌then◌else◌, IsTrue, Contains, Option, Some, None}
 use Rattle.std.specs.declared.alloc.Global.{Global}
 use Rattle.std.specs.declared.vec.Vec.{Vec}
 use Rattle.ly_ere.specs.declared.pattern.Rule.{Rule}
@@ -28,12 +29,14 @@ PutsIn old new k entry = new ≡ slice_set old k (slice_index_or old k [] ++ ent
 -- the lists gain an entry in a condition
 abbrev pub AddsIn : List (List ℕ) → List (List ℕ) → ℕ → Bool → ℕ → Type 0
 AddsIn old new condition line_start entry =
-    (c : ℕ) (line : Bool) (e : ℕ) → Contains (root_list new c line) e ↔ (Contains (root_list old c line) e ⊎ ((c ≡ condition) × MayBegin line_start line × (e ≡ entry)))
+    (c : ℕ) (line : Bool) (e : ℕ) → Contains (root_list new c line) e
+    ↔ (Contains (root_list old c line) e ⊎ ((c ≡ condition) × MayBegin line_start line × (e ≡ entry)))
 
 -- the lists gain an entry in each of some conditions
 abbrev pub AddsInEach : List (List ℕ) → List (List ℕ) → ℕ → List ℕ → Bool → ℕ → Type 0
 AddsInEach old new conditions active line_start entry =
-    (c : ℕ) (line : Bool) (e : ℕ) → c < conditions → Contains (root_list new c line) e ↔ (Contains (root_list old c line) e ⊎ (Contains active c × MayBegin line_start line × (e ≡ entry)))
+    (c : ℕ) (line : Bool) (e : ℕ) → c < conditions → Contains (root_list new c line) e
+    ↔ (Contains (root_list old c line) e ⊎ (Contains active c × MayBegin line_start line × (e ≡ entry)))
 
 -- no member above the bound comes in
 abbrev pub StaysWithin : List (List ℕ) → List (List ℕ) → ℕ → Type 0
@@ -42,16 +45,21 @@ StaysWithin old new entry = (n : ℕ) → entry < n → All (All (λ p. p < n)) 
 -- one of the first n rules is active in the condition and may begin there, at this entry
 abbrev pub BeginsBefore : List Rule → List (Option ℕ) → ℕ → ℕ → Bool → ℕ → Type 0
 BeginsBefore rules entries n c line e =
-    (i : ℕ) × (r : Rule) × (i < n) × (slice_get rules i ≡ Some r) × Contains r.active.items c × MayBegin r.pattern.line_start line × (slice_index_or entries i None ≡ Some e)
+    (i : ℕ) × (r : Rule) × (i < n) × (slice_get rules i ≡ Some r) × Contains r.active.items c
+    × MayBegin r.pattern.line_start line × (slice_index_or entries i None ≡ Some e)
 
 -- for each condition the entries of the first n rules that may begin there
-pub record AreRoots (rules : List Rule) (entries : List (Option ℕ)) (n conditions bound : ℕ) (lists : List (List ℕ)) : Type 0 where
+pub record AreRoots (rules : List Rule) (entries : List (Option ℕ)) (n conditions bound : ℕ)
+    (lists : List (List ℕ)) : Type 0 where
   pub count : length lists ≡ 2 * conditions
   pub within : All (All (λ p. p < bound)) lists
-  pub each : (c : ℕ) (line : Bool) (e : ℕ) → c < conditions → Contains (root_list lists c line) e ↔ BeginsBefore rules entries n c line e
+  pub each : (c : ℕ) (line : Bool) (e : ℕ) → c < conditions → Contains (root_list lists c line) e
+      ↔ BeginsBefore rules entries n c line e
 
 -- for each condition the positions at which its rules may begin
-pub record StartsAt (g : List Step) (rules : List Rule) (entries : List (Option ℕ)) (conditions : ℕ) (starts : List (List ℕ)) : Type 0 where
+pub record StartsAt (g : List Step) (rules : List Rule) (entries : List (Option ℕ)) (conditions : ℕ)
+    (starts : List (List ℕ)) : Type 0 where
   pub count : length starts ≡ 2 * conditions
   pub each : (k : ℕ) → k < length starts → (roots : List ℕ) × IsReachList g roots (slice_index_or starts k [])
-  pub begin : (c : ℕ) (line : Bool) → c < conditions → (roots : List ℕ) × IsReachList g roots (root_list starts c line) × ((e : ℕ) → Contains roots e ↔ BeginsBefore rules entries (length rules) c line e)
+  pub begin : (c : ℕ) (line : Bool) → c < conditions → (roots : List ℕ) × IsReachList g roots (root_list starts c line)
+      × ((e : ℕ) → Contains roots e ↔ BeginsBefore rules entries (length rules) c line e)

@@ -1,4 +1,5 @@
-ghost use Rattle.std.specs.Prelude.{◌≡◌, ℕ, ◌<◌, ◌≤◌, ◌↔◌, length, map, slice_index_or, All, Contains, IfOk, None, OnOk};
+ghost use Rattle.std.specs.Prelude.{◌≡◌, ℕ, ◌<◌, ◌≤◌, ◌↔◌, length, map, slice_index_or, All, Contains, IfOk, None};
+ghost use Rattle.std.specs.Prelude.{OnOk};
 ghost use Rattle.std.specs.List.{filter_map};
 ghost use Rattle.ly_position.specs.Program.{steps_of};
 ghost use Rattle.ly_position.specs.Follow.{IsReachList, numbers_of};

@@ -1,5 +1,7 @@
 -- Lemmas on walks.
-use Rattle.std.proofs.Common.{◌≡◌, ◌∙◌, ◌<◌, ◌≤◌, ◌+◌, ◌-◌, ◌++◌, ◌∷◌, [], ℕ, List, Option, Some, None, true, false, take, drop, length, refl, sym, ap, subst, arith, rules, is_some, get_or, inl, inr, IfSome, append_assoc}
+use Rattle.std.proofs.Common.{◌≡◌, ◌∙◌, ◌<◌, ◌≤◌, ◌+◌, ◌-◌, ◌++◌, ◌∷◌, [], ℕ, List, Option, Some, None, true, false}
+use Rattle.std.proofs.Common.{take, drop, length, refl, sym, ap, subst, arith, rules, is_some, get_or, inl, inr, IfSome}
+use Rattle.std.proofs.Common.{append_assoc}
 use Rattle.std.specs.Prelude.{option_map}
 use Rattle.ly_base.specs.declared.numbers.RuleNo.{RuleNo}
 use Rattle.std.proofs.lemmas.Bool.{cases_lt}
@@ -17,7 +19,8 @@ two_rules o s h k = search rules
 
 -- where each longer beginning has no rule, the best stays
 pub best_stays : (walk : Walk) (text : List ℕ) (i n : ℕ) (best : Option (ℕ × RuleNo)) → i ≤ n
-    → ((m s : ℕ) → i < m → m ≤ n → walk (take m text) ≡ Some (Some s) → ⊥) → IsBest walk text i best → IsBest walk text n best
+    → ((m s : ℕ) → i < m → m ≤ n → walk (take m text) ≡ Some (Some s) → ⊥) → IsBest walk text i best
+    → IsBest walk text n best
 best_stays walk text i n None le none h = λ m s one within rule. elim (cases_lt i m) [
   | inr a ↦ h m s one a rule
   | inl b ↦ none m s b within rule
@@ -33,7 +36,8 @@ best_stays walk text i n (Some p) le none h = record {
 }
 
 -- one more byte with no rule
-pub best_same : (walk : Walk) (text : List ℕ) (i : ℕ) (best : Option (ℕ × RuleNo)) → walk (take (i + 1) text) ≡ Some None
+pub best_same : (walk : Walk) (text : List ℕ) (i : ℕ) (best : Option (ℕ × RuleNo))
+    → walk (take (i + 1) text) ≡ Some None
     → IsBest walk text i best → IsBest walk text (i + 1) best
 best_same walk text i best none h = best_stays walk text i (i + 1) best (omega arith)
     (λ m s more within rule. let same : m ≡ i + 1 = omega arith in
@@ -59,17 +63,20 @@ best_ended walk text i best le stays none h = best_stays walk text i (length tex
     clash _ _ (ap walk further ∙ stays _ _ none) rule) h
 
 -- one more byte
-pub best_next : (walk : Walk) (text : List ℕ) (i : ℕ) (rule : Option RuleNo) (best : Option (ℕ × RuleNo)) → walk (take (i + 1) text) ≡ Some (option_map (λ r. r.0) rule)
+pub best_next : (walk : Walk) (text : List ℕ) (i : ℕ) (rule : Option RuleNo) (best : Option (ℕ × RuleNo))
+    → walk (take (i + 1) text) ≡ Some (option_map (λ r. r.0) rule)
     → IsBest walk text i best → IsBest walk text (i + 1) (better_of best (i + 1) rule)
 best_next walk text i None best e h = best_same walk text i best e h
 best_next walk text i (Some r) best e h = best_more walk text i r.0 e
 
 -- after one more byte the walk stands behind it
 pub stands_next : (walk here there : Walk) (text : List ℕ) (i : ℕ) → i < length text
-    → ((more : List ℕ) → here more ≡ walk (take i text ++ more)) → ((more : List ℕ) → there more ≡ here (get_or text i 0 ∷ more))
+    → ((more : List ℕ) → here more ≡ walk (take i text ++ more))
+    → ((more : List ℕ) → there more ≡ here (get_or text i 0 ∷ more))
     → (more : List ℕ) → there more ≡ walk (take (i + 1) text ++ more)
 stands_next walk here there text i lt h k more = k more ∙ h (get_or text i 0 ∷ more)
-    ∙ ap walk (sym (append_assoc (take i text) (get_or text i 0 ∷ []) more) ∙ ap (λ t. t ++ more) (sym (take_more text i 0 lt)))
+    ∙ ap walk (sym (append_assoc (take i text) (get_or text i 0 ∷ []) more)
+    ∙ ap (λ t. t ++ more) (sym (take_more text i 0 lt)))
 
 -- what is there but not missing
 pub some_or_none : (o : Option (Option ℕ)) → false ≡ is_some o → o ≡ None

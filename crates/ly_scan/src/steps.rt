@@ -20,7 +20,8 @@ pub trait Steps {
     /// Begins a new walk. False where there is none, not even over no byte.
     fn start(&mut self, condition: u32, at_line_start: bool) -> bool
         ensures alive { result ≡ is_some (walk self.old condition at_line_start []) }
-        ensures there { OnTrue result ((text : List ℕ) → ahead self.new text ≡ walk self.old condition at_line_start text) }
+        ensures there { OnTrue result ((text : List ℕ)
+            → ahead self.new text ≡ walk self.old condition at_line_start text) }
         ensures same_walk { walk self.new ≡ walk self.old }
         ensures same_cuts { cut_of self.new ≡ cut_of self.old };
 

@@ -1,5 +1,6 @@
 -- What a `SetMatrix` shows.
-use Rattle.std.specs.Prelude.{ℕ, zero, suc, ◌+◌, ◌^◌, ◌-◌, ◌*◌, ◌/◌, ◌≤◌, ◌≡◌, length, min, List, [], ◌∷◌, take, drop, slice_index_or, slice_set, refl}
+use Rattle.std.specs.Prelude.{ℕ, zero, suc, ◌+◌, ◌^◌, ◌-◌, ◌*◌, ◌/◌, ◌≤◌, ◌≡◌, length, min, List, [], ◌∷◌, take, drop}
+use Rattle.std.specs.Prelude.{slice_index_or, slice_set, refl}
 use Rattle.std.specs.Coded.{Coded, code_by, coded×, coded_ℕ, coded_list}
 use Rattle.std.specs.FinSet as set
 use Rattle.ly_sets.specs.NumberSet.{NumberSet, set_of, AllBelow}
@@ -11,7 +12,8 @@ pub record Matrix : Type 0 where
   pub changes : ℕ
 
 abbrev pub matrix_code : Coded Matrix
-matrix_code = code_by (ℕ × (List NumberSet × ℕ)) (coded× coded_ℕ (coded× (coded_list (set.code coded_ℕ)) coded_ℕ)) (λ m. (m.width, (m.sets, m.changes))) (λ p. record { width = p.0; sets = p.1.0; changes = p.1.1 }) (λ _. refl)
+matrix_code = code_by (ℕ × (List NumberSet × ℕ)) (coded× coded_ℕ (coded× (coded_list (set.code coded_ℕ)) coded_ℕ))
+    (λ m. (m.width, (m.sets, m.changes))) (λ p. record { width = p.0; sets = p.1.0; changes = p.1.1 }) (λ _. refl)
 
 -- the set of a row
 abbrev pub row : List NumberSet → ℕ → NumberSet

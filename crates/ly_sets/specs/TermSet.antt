@@ -10,4 +10,5 @@ pub record Terms : Type 0 where
   pub members : NumberSet
 
 abbrev pub terms_code : Coded Terms
-terms_code = code_by (ℕ × NumberSet) (coded× coded_ℕ (set.code coded_ℕ)) (λ t. (t.width, t.members)) (λ p. record { width = p.0; members = p.1 }) (λ _. refl)
+terms_code = code_by (ℕ × NumberSet) (coded× coded_ℕ (set.code coded_ℕ)) (λ t. (t.width, t.members))
+    (λ p. record { width = p.0; members = p.1 }) (λ _. refl)

@@ -2,9 +2,11 @@
 use Rattle.std.specs.Prelude.{◌≡◌, ◌<◌, ◌≤◌, ◌+◌, ◌⊎◌, ℕ, Bool, true, false, List, slice_index, bit_or}
 use lib.Lanes.{chunk, zip2}
 
--- The `len` words from `to` on were united with those from `from` on, the others are as they were, and the answer says whether a word grew.
+-- The `len` words from `to` on were united with those from `from` on, the others are as they were, and the answer says
+-- whether a word grew.
 pub record IsUnited (old new : List ℕ) (to from len : ℕ) (result : Bool) : Type 0 where
-  pub united : (k : ℕ) → k < len → slice_index new (to + k) ≡ bit_or (slice_index old (to + k)) (slice_index old (from + k))
+  pub united : (k : ℕ) → k < len
+      → slice_index new (to + k) ≡ bit_or (slice_index old (to + k)) (slice_index old (from + k))
   pub others : (k : ℕ) → (k < to) ⊎ (to + len ≤ k) → slice_index new k ≡ slice_index old k
   pub stayed : result ≡ false → (k : ℕ) → slice_index new k ≡ slice_index old k
   pub grew : result ≡ true → ((k : ℕ) → k < to + len → slice_index new k ≡ slice_index old k) → ⊥

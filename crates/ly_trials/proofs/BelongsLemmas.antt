@@ -1,5 +1,7 @@
 -- Splits of a string, and strings one after another.
-use Rattle.std.proofs.Common.{◌≡◌, inl, inr, ◌⊎◌, ℕ, zero, suc, ◌+◌, ◌-◌, ◌*◌, ◌<◌, ◌≤◌, List, [], ◌∷◌, ◌++◌, length, take, drop, Option, Some, None, Bool, true, false, IsTrue, ◌==◌, refl, sym, ap, subst, ◌∙◌, arith, length-append}
+use Rattle.std.proofs.Common.{◌≡◌, inl, inr, ◌⊎◌, ℕ, zero, suc, ◌+◌, ◌-◌, ◌*◌, ◌<◌, ◌≤◌, List, [], ◌∷◌, ◌++◌, length}
+use Rattle.std.proofs.Common.{take, drop, Option, Some, None, Bool, true, false, IsTrue, ◌==◌, refl, sym, ap, subst}
+use Rattle.std.proofs.Common.{◌∙◌, arith, length-append}
 use Rattle.std.specs.Prelude.{◌↔◌}
 use Rattle.std.proofs.lemmas.List.{take-append-drop}
 use Rattle.std.proofs.Math.Seq.{drop-append_seam, take-append_seam}
@@ -18,14 +20,16 @@ room_same m n s t h k = mul-le m (s + 600) n (t + 600) h (omega arith)
 
 pub room_falls : (m n s t : ℕ) → m < n → s ≤ t → room m s + s + 600 ≤ room n t
 unfolding room
-room_falls m n s t h k = let a : (m + 1) * (s + 600) ≤ n * (t + 600) = mul-le (m + 1) (s + 600) n (t + 600) (omega arith) (omega arith) in omega arith
+room_falls m n s t h k = let a : (m + 1) * (s + 600) ≤ n * (t + 600)
+    = mul-le (m + 1) (s + 600) n (t + 600) (omega arith) (omega arith) in omega arith
 
 module _ (L M : List ℕ → Type 0) where
   -- a string of L and then one of M
   abbrev pub InTurn : List ℕ → Type 0
   InTurn w = (u : List ℕ) × (v : List ℕ) × (w ≡ u ++ v) × L u × M v
 
-  pub at_split : (w u v : List ℕ) → w ≡ u ++ v → L u → M v → (k : ℕ) × (k ≡ length u) × (k ≤ length w) × L (take k w) × M (drop k w)
+  pub at_split : (w u v : List ℕ) → w ≡ u ++ v → L u → M v → (k : ℕ) × (k ≡ length u) × (k ≤ length w) × L (take k w)
+      × M (drop k w)
   at_split w u v e a b = (
     length u,
     refl,
@@ -62,14 +66,17 @@ module _ (L : List ℕ → Type 0) where
 
   -- a first string, not empty where it is not needed, and then the rest
   abbrev pub First : ℕ → Option ℕ → List ℕ → Type 0
-  First least rest w = (n : ℕ) × (least ≡ zero → 1 ≤ n) × (n ≤ length w) × L (take n w) × Times (least - 1) rest (drop n w)
+  First least rest w = (n : ℕ) × (least ≡ zero → 1 ≤ n) × (n ≤ length w) × L (take n w)
+      × Times (least - 1) rest (drop n w)
 
-  found : (least : ℕ) (rest : Option ℕ) (w u v : List ℕ) → w ≡ u ++ v → (least ≡ zero → 1 ≤ length u) → L u → Times (least - 1) rest v → First least rest w
+  found : (least : ℕ) (rest : Option ℕ) (w u v : List ℕ) → w ≡ u ++ v → (least ≡ zero → 1 ≤ length u) → L u
+      → Times (least - 1) rest v → First least rest w
   found least rest w u v e some a t =
       let s = at_split L (Times (least - 1) rest) w u v e a t in
       (s.0, λ z. omega (arith, s.1, some z), s.2, s.3, s.4)
 
-  by_first : (least : ℕ) (rest : Option ℕ) (w u v : List ℕ) → w ≡ u ++ v → L u → Times (least - 1) rest v → (least ≡ zero → w ≡ v → First least rest w) → First least rest w
+  by_first : (least : ℕ) (rest : Option ℕ) (w u v : List ℕ) → w ≡ u ++ v → L u → Times (least - 1) rest v
+      → (least ≡ zero → w ≡ v → First least rest w) → First least rest w
   by_first zero rest w [] v e a t again = again refl e
   by_first (suc least) rest w [] v e a t again = found (suc least) rest w [] v e (λ z. absurd (omega arith)) a t
   by_first least rest w (b ∷ u) v e a t again = found least rest w (b ∷ u) v e (λ z. omega arith) a t
@@ -79,7 +86,8 @@ module _ (L : List ℕ → Type 0) where
   first_of zero least most rest w fewer some enough within e = absurd (some (omega arith) e)
   first_of (suc k) least most rest w fewer some enough within j =
       by_first least rest w j.0 j.1 j.2 j.3 (k, omega arith, (fewer k).1 within, j.4)
-      (λ z same. first_of k least most rest w fewer some (omega arith) (within_less k most within) (subst (Joined L k) (sym same) j.4))
+      (λ z same. first_of k least most rest w fewer some (omega arith) (within_less k most within)
+      (subst (Joined L k) (sym same) j.4))
 
   -- where none is too few, some first string is there
   pub times_first : (least : ℕ) (most rest : Option ℕ) (w : List ℕ) → ((k : ℕ) → Within k rest ↔ Within (suc k) most)
@@ -87,7 +95,8 @@ module _ (L : List ℕ → Type 0) where
   times_first least most rest w fewer some h = first_of h.0 least most rest w fewer some h.1 h.2 h.3
 
   -- where none is too few, and none is allowed
-  pub times_never : (least : ℕ) (most : Option ℕ) (w : List ℕ) → ((k : ℕ) → Within (suc k) most → ⊥) → (least ≡ zero → w ≡ [] → ⊥) → Times least most w → ⊥
+  pub times_never : (least : ℕ) (most : Option ℕ) (w : List ℕ) → ((k : ℕ) → Within (suc k) most → ⊥)
+      → (least ≡ zero → w ≡ [] → ⊥) → Times least most w → ⊥
   times_never least most w none some (zero, enough, within, e) = some (omega arith) e
   times_never least most w none some (suc k, enough, within, j) = none k within
 
@@ -106,10 +115,12 @@ module _ (A B : Type 0) where
       back (inl a) = let t : r ≡ true = f.1 a in cc
       back (inr b) = g.1 b
 
-pub star_of : (r : Bool) (e : Expression) (w : List ℕ) → IsTrue r ↔ Matches [] (repeat 0 None e) w → IsTrue r ↔ Matches [] (star e) w
+pub star_of : (r : Bool) (e : Expression) (w : List ℕ) → IsTrue r ↔ Matches [] (repeat 0 None e) w → IsTrue r
+    ↔ Matches [] (star e) w
 star_of r e w f = (λ t. let h = f.0 t in (h.0, h.3), λ h. f.1 (h.0, omega arith, tt, h.1))
 
-pub plus_of : (r : Bool) (e : Expression) (w : List ℕ) → IsTrue r ↔ Matches [] (repeat 1 None e) w → IsTrue r ↔ Matches [] (plus e) w
+pub plus_of : (r : Bool) (e : Expression) (w : List ℕ) → IsTrue r ↔ Matches [] (repeat 1 None e) w → IsTrue r
+    ↔ Matches [] (plus e) w
 plus_of r e w f = (λ t. let h = f.0 t in (h.0, h.1, h.3), λ h. f.1 (h.0, h.1, tt, h.2))
 
 pub name_of : (x : ℕ) (w : List ℕ) → IsTrue false ↔ Matches [] (name x) w
@@ -121,7 +132,8 @@ no_byte (b ∷ w) e = absurd (omega arith)
 
 pub is_empty_of : (r : Bool) (w : List ℕ) → r ≡ (length w == 0) → IsTrue r ↔ (w ≡ [])
 is_empty_of r [] e = (λ t. refl, λ h. e)
-is_empty_of r (b ∷ w) e = let f = ne_eqb (length (b ∷ w)) 0 (λ z. absurd (omega arith)) in (λ t. absurd (cc), λ h. absurd (let g = ap length h in omega arith))
+is_empty_of r (b ∷ w) e = let f = ne_eqb (length (b ∷ w)) 0 (λ z. absurd (omega arith))
+    in (λ t. absurd (cc), λ h. absurd (let g = ap length h in omega arith))
 
 -- a string with a byte is not empty
 pub some_byte : (r : Bool) (w : List ℕ) → r ≡ (length w == 0) → r ≡ false → w ≡ [] → ⊥
@@ -137,14 +149,16 @@ always P p = (λ h. p, λ h. refl)
 pub refuses : (P : List ℕ → Type 0) (r : Bool) (u v : List ℕ) → r ≡ false → IsTrue r ↔ P u → u ≡ v → P v → ⊥
 refuses P r u v e f same p = let t : r ≡ true = f.1 (subst P (sym same) p) in cc
 
-pub refuses_from : (P : ℕ → List ℕ → Type 0) (r : Bool) (m n : ℕ) (u v : List ℕ) → r ≡ false → IsTrue r ↔ P m u → m ≡ n → u ≡ v → P n v → ⊥
+pub refuses_from : (P : ℕ → List ℕ → Type 0) (r : Bool) (m n : ℕ) (u v : List ℕ) → r ≡ false → IsTrue r ↔ P m u → m ≡ n
+    → u ≡ v → P n v → ⊥
 refuses_from P r m n u v e f count same p = refuses (P m) r u v e f same (subst (λ k. P k v) (sym count) p)
 
 -- a test that holds at a string holds at the same one
 pub holds : (P : List ℕ → Type 0) (r : Bool) (u v : List ℕ) → r ≡ true → IsTrue r ↔ P u → u ≡ v → P v
 holds P r u v e f same = subst P same (f.0 e)
 
-pub holds_from : (P : ℕ → List ℕ → Type 0) (r : Bool) (m n : ℕ) (u v : List ℕ) → r ≡ true → IsTrue r ↔ P m u → m ≡ n → u ≡ v → P n v
+pub holds_from : (P : ℕ → List ℕ → Type 0) (r : Bool) (m n : ℕ) (u v : List ℕ) → r ≡ true → IsTrue r ↔ P m u → m ≡ n
+    → u ≡ v → P n v
 holds_from P r m n u v e f count same = subst (λ k. P k v) count (holds (P m) r u v e f same)
 
 -- the first place is 1 where no string is needed

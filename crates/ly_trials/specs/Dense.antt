@@ -1,5 +1,6 @@
 -- Walks over dense rows.
-use Rattle.std.specs.Prelude.{◌≡◌, ◌-◌, ◌++◌, ◌∷◌, [], ℕ, List, Bool, Option, Some, None, if◌then◌else◌, nat_eq, slice_get, slice_index, refl, option_map, option_and_then, unwrap_or}
+use Rattle.std.specs.Prelude.{◌≡◌, ◌-◌, ◌++◌, ◌∷◌, [], ℕ, List, Bool, Option, Some, None, if◌then◌else◌, nat_eq}
+use Rattle.std.specs.Prelude.{slice_get, slice_index, refl, option_map, option_and_then, unwrap_or}
 use Rattle.std.proofs.Common.{◌∙◌, ap, rules}
 use Rattle.ly_base.specs.declared.cut.Cut.{Cut}
 use Rattle.ly_base.specs.declared.cut.Cut.TheVariants.{Whole}
@@ -29,7 +30,8 @@ dense_ahead rows state text = option_map (rule_of rows) (run rows (Some state) t
 
 -- the entry of a start, or 0
 abbrev pub start_entry : List (List ℕ) → ℕ → Bool → ℕ
-start_entry starts condition line = unwrap_or (option_map (λ pair. slice_index pair (if line then 1 else 0)) (slice_get starts condition)) 0
+start_entry starts condition line
+    = unwrap_or (option_map (λ pair. slice_index pair (if line then 1 else 0)) (slice_get starts condition)) 0
 
 -- where a condition starts
 abbrev pub start_of : List (List ℕ) → ℕ → Bool → Option ℕ
@@ -57,4 +59,5 @@ no_map f (Some a) h = search rules
 pub dense_ends : (rows : List Row) (starts : List (List ℕ)) (c : ℕ) (l : Bool) (t u : List ℕ)
     → dense_walk rows starts c l t ≡ None → dense_walk rows starts c l (t ++ u) ≡ None
 dense_ends rows starts c l t u h =
-    ap (option_map (rule_of rows)) (run-append rows (start_of starts c l) t u ∙ ap (λ o. run rows o u) (no_map (rule_of rows) _ h))
+    ap (option_map (rule_of rows)) (run-append rows (start_of starts c l) t u
+    ∙ ap (λ o. run rows o u) (no_map (rule_of rows) _ h))

@@ -65,7 +65,8 @@ fn in_turn(nodes: &[Node], first: usize, second: usize, word: &[u8]) -> bool
     requires first { first < length nodes.now }
     requires second { second < length nodes.now }
     requires ordered { IsOrdered nodes.now }
-    ensures { IsTrue result ↔ ((u : List ℕ) × (v : List ℕ) × (word.now ≡ u ++ v) × Belongs nodes.now first u × Belongs nodes.now second v) }
+    ensures { IsTrue result ↔ ((u : List ℕ) × (v : List ℕ) × (word.now ≡ u ++ v) × Belongs nodes.now first u
+        × Belongs nodes.now second v) }
 {
     for end in 0..=word.len() {
         let (front, back) = word.split_at(end);

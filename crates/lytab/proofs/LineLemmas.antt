@@ -2,7 +2,8 @@
 use Rattle.std.proofs.Common.{◌≡◌, ◌∙◌, List, Option, Some, None, Bool, true, false, refl, sym, ap, codes, rules}
 use Rattle.std.specs.Prelude.{option_map, option_and_then, not}
 use Rattle.std.specs.Str.{bytes_eq}
-use Rattle.clap.specs.Words.{App, Row, Text, first_of, fault_of, is_simple, is_simple_and_free, subcommand_of, takes, first_value, rows_of, subcommand_name_of, subcommand_rows_of}
+use Rattle.clap.specs.Words.{App, Row, Text, first_of, fault_of, is_simple, is_simple_and_free, subcommand_of, takes}
+use Rattle.clap.specs.Words.{first_value, rows_of, subcommand_name_of, subcommand_rows_of}
 use Rattle.clap.proofs.WalkLemmas.{first_value-rows}
 use Rattle.clap.specs.declared.parser.matches.Found.{Found}
 use Rattle.clap.specs.declared.parser.matches.ArgMatches.{ArgMatches}
@@ -32,12 +33,14 @@ unfolding line_takes
 taken_in a words e = ap (λ x. takes x words) e
 
 -- the subcommand by its two parts
-pub both_parts : (o : Option (Text × List Row)) (t : Text) (rows : List Row) → Some t ≡ option_map (λ p. p.0) o → Some rows ≡ option_map (λ p. p.1) o → o ≡ Some (t, rows)
+pub both_parts : (o : Option (Text × List Row)) (t : Text) (rows : List Row) → Some t ≡ option_map (λ p. p.0) o
+    → Some rows ≡ option_map (λ p. p.1) o → o ≡ Some (t, rows)
 both_parts None t rows h k = search rules
 both_parts (Some p) t rows h k = search rules
 
 -- a map after a map
-map_twice : {A B C : Type 0} (f : A → B) (g : B → C) (o : Option A) → option_map g (option_map f o) ≡ option_map (λ x. g (f x)) o
+map_twice : {A B C : Type 0} (f : A → B) (g : B → C) (o : Option A)
+    → option_map g (option_map f o) ≡ option_map (λ x. g (f x)) o
 map_twice f g None = refl
 map_twice f g (Some x) = refl
 
@@ -46,8 +49,10 @@ pub name_part : (m : ArgMatches) → subcommand_name_of m ≡ option_map (λ p. 
 name_part m = sym (map_twice _ _ _)
 
 -- a subcommand `tokens` asks for what its values say
-tokens_row : (o : Option (Text × List Row)) (t : Text) (rows : List Row) → o ≡ Some (t, rows) → bytes_eq t (codes "tokens") ≡ true
-    → option_and_then tokens_by o ≡ option_map (λ lex. (lex, first_of (codes "TEXT") rows)) (first_of (codes "LEX") rows)
+tokens_row : (o : Option (Text × List Row)) (t : Text) (rows : List Row) → o ≡ Some (t, rows)
+    → bytes_eq t (codes "tokens") ≡ true
+    → option_and_then tokens_by o ≡ option_map (λ lex. (lex, first_of (codes "TEXT") rows))
+    (first_of (codes "LEX") rows)
 tokens_row o t rows e h = rw e (rw h refl)
 
 is_equal : (b : Bool) → false ≡ not b → b ≡ true
@@ -56,7 +61,8 @@ is_equal false h = h
 
 -- with both values
 pub said_tokens : (o : Option (Text × List Row)) (t : Text) (f : Found) (lex : Text) (text : Option Text)
-    → Some t ≡ option_map (λ p. p.0) o → Some (rows_of f) ≡ option_map (λ p. p.1) o → false ≡ not (bytes_eq t (codes "tokens"))
+    → Some t ≡ option_map (λ p. p.0) o → Some (rows_of f) ≡ option_map (λ p. p.1) o
+    → false ≡ not (bytes_eq t (codes "tokens"))
     → Some lex ≡ first_value f (codes "LEX") → text ≡ first_value f (codes "TEXT")
     → Some (lex, text) ≡ option_and_then tokens_by o
 said_tokens o t f lex text h k e l x =
@@ -67,7 +73,8 @@ said_tokens o t f lex text h k e l x =
 
 -- with no first value
 pub said_none : (o : Option (Text × List Row)) (t : Text) (f : Found)
-    → Some t ≡ option_map (λ p. p.0) o → Some (rows_of f) ≡ option_map (λ p. p.1) o → false ≡ not (bytes_eq t (codes "tokens"))
+    → Some t ≡ option_map (λ p. p.0) o → Some (rows_of f) ≡ option_map (λ p. p.1) o
+    → false ≡ not (bytes_eq t (codes "tokens"))
     → None ≡ first_value f (codes "LEX") → None ≡ option_and_then tokens_by o
 said_none o t f h k e l =
     let lex_is : first_of (codes "LEX") (rows_of f) ≡ None = sym (l ∙ first_value-rows f (codes "LEX")) in

@@ -1,4 +1,5 @@
-ghost use Rattle.std.specs.Prelude.{◌≡◌, IfErr, IfOk, IsSome, OnOk, Some, [], map, option_and_then, option_map, string_bytes, false, true};
+ghost use Rattle.std.specs.Prelude.{◌≡◌, IfErr, IfOk, IsSome, OnOk, Some, [], map, option_and_then, option_map};
+ghost use Rattle.std.specs.Prelude.{string_bytes, false, true};
 ghost use Rattle.clap.specs.Words.{app_of, kind_of, subcommand_rows_of};
 ghost use Rattle.clap.specs.declared.builder.command.Command.TheViews.{out-Command};
 ghost use Rattle.lytab.specs.Line.{line_app, line_faults, line_takes, subcommand_in, tokens_app, tokens_by, tokens_of};
@@ -30,7 +31,8 @@ pub fn command<'a>(alloc: Global, words: &'a [String]) -> Result<Command<'a>, Co
 fn matched<'a>(alloc: Global, words: &'a [String]) -> Result<ArgMatches<'a>, CommandFault>
     ensures found { IfOk result (λ m. subcommand_rows_of m ≡ subcommand_in (map string_bytes words.entry.now)) }
     ensures faultless { OnOk result (line_faults (map string_bytes words.entry.now) ≡ []) }
-    ensures taken { IfErr result (λ e. line_takes (map string_bytes words.entry.now) ≡ true → e ≡ CommandFault.OutOfMemory) }
+    ensures taken { IfErr result (λ e. line_takes (map string_bytes words.entry.now) ≡ true
+        → e ≡ CommandFault.OutOfMemory) }
 {
     match line(alloc)?.try_get_matches_from(words) {
         Ok(matches) => Ok(matches),

@@ -48,7 +48,8 @@ pub fn perform<F: Files, I: Read, O: Write, E: Write>(
     faults: &mut E,
 ) -> u8
     ensures status { result ≤ 4 }
-    ensures words { line_takes (map string_bytes words.now) ≡ true → IsSome (tokens_of (map string_bytes words.now)) → result ≤ 3 }
+    ensures words { line_takes (map string_bytes words.now) ≡ true → IsSome (tokens_of (map string_bytes words.now))
+        → result ≤ 3 }
 {
     match command(alloc, words) {
         Ok(Command::Tokens { lex, text }) => {

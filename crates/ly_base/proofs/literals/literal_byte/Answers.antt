@@ -25,14 +25,18 @@ pub returns-in-92-clause-none : goal.returns-in-92-clause-none
 returns-in-92-clause-none c =
     let newline = starts_is Decides-eqb _ (92 ∷ 10 ∷ []) _ c.starts_with.ensures.value in
     rw c.ok.ensures.value (missing _ c.escape.result
-    (IfErr-weaker c.escape.result _ _ (λ fault none. no_escape_inside c.args.inside.now c.in_ok-byte.ensures.item.3.0 (omega (arith, c.in_ok-byte.ensures.item.3.1 0, c.in-92.is)) (λ s e. false≢true (sym c.if-starts_with.false ∙ newline.1 s e)) none) c.escape.ensures.refused))
+    (IfErr-weaker c.escape.result _ _ (λ fault none. no_escape_inside c.args.inside.now c.in_ok-byte.ensures.item.3.0
+    (omega (arith, c.in_ok-byte.ensures.item.3.1 0, c.in-92.is))
+    (λ s e. false≢true (sym c.if-starts_with.false ∙ newline.1 s e)) none) c.escape.ensures.refused))
 
 pub returns-in-92-clause-inside : goal.returns-in-92-clause-inside
 returns-in-92-clause-inside c = rw c.ok.ensures.value (onto _ _ c.escape.result
-    (λ found h. escape_inside c.args.inside.now c.in_ok-byte.ensures.item.3.0 found.0 found.1 (omega (arith, c.in_ok-byte.ensures.item.3.1 0, c.in-92.is)) h) c.escape.ensures.escape)
+    (λ found h. escape_inside c.args.inside.now c.in_ok-byte.ensures.item.3.0 found.0 found.1
+    (omega (arith, c.in_ok-byte.ensures.item.3.1 0, c.in-92.is)) h) c.escape.ensures.escape)
 
 pub returns-in_default-clause-inside : goal.returns-in_default-clause-inside
 returns-in_default-clause-inside c =
     let backslash : c.in_ok-byte.field-0.now ≢ 92 = omega arith in
     let quote : c.in_ok-byte.field-0.now ≢ 39 = omega arith in
-    bare_inside c.args.inside.now c.in_ok-byte.ensures.item.3.0 c.in_ok-byte.field-0.now (omega (arith, c.in_ok-byte.ensures.item.3.1 0)) backslash quote
+    bare_inside c.args.inside.now c.in_ok-byte.ensures.item.3.0 c.in_ok-byte.field-0.now
+    (omega (arith, c.in_ok-byte.ensures.item.3.1 0)) backslash quote

@@ -6,5 +6,6 @@ use Rattle.ly_base.proofs.text.push_escaped.Given as goal
 abbrev pub invariant-loop-at : goal.invariant-loop-at
 invariant-loop-at l = record {
   behind : l.start ≤ l.at;
-  so_far : l.out.items ++ take (l.at - l.start) (drop l.start l.bytes) ≡ l.initial.out.items ++ escaped l.quote (take l.at l.bytes);
+  so_far : l.out.items ++ take (l.at - l.start) (drop l.start l.bytes) ≡ l.initial.out.items ++ escaped l.quote
+      (take l.at l.bytes);
 }

@@ -6,6 +6,7 @@ use Rattle.ly_base.proofs.whole.write_whole.Goals as goal
 pub loop-written-preserved : goal.loop-written-preserved
 loop-written-preserved g c = record {
   within = grind (arith, common_steps);
-  gone = appends_next _ _ _ c.loop-written.written c.in-Ok.n c.args.bytes.now c.loop-written.invariant.gone c.in-Ok.ensures.bytes;
+  gone = appends_next _ _ _ c.loop-written.written c.in-Ok.n c.args.bytes.now c.loop-written.invariant.gone
+      c.in-Ok.ensures.bytes;
   counted = not_counted c.in-Ok.n _ _ _ c.if-n-gt0.true c.in-Ok.ensures.counted ∙ c.loop-written.invariant.counted;
 }

@@ -21,13 +21,16 @@ loop-root-preserved c =
       over = c.in_ok-visit.ensures.over;
       seen = λ x lt. elim (cases_lt x c.loop-root.root) [
         | inl below ↦ on.seen x (c.loop-root.invariant.seen x below)
-        | inr here ↦ subst (λ y. place c.visit.new.self.places.items y ≢ New) (let e : c.loop-root.root ≡ x = omega arith in e) c.in_ok-visit.ensures.seen
+        | inr here ↦ subst (λ y. place c.visit.new.self.places.items y ≢ New) (let e : c.loop-root.root ≡ x
+            = omega arith in e) c.in_ok-visit.ensures.seen
       ];
     }
 
 pub returns-clause-least : goal.returns-clause-least
 returns-clause-least c =
     let nodes = c.nodes-root-end.ensures.count in
-    let over : length c.loop-root.walk.path.items ≡ 0 = (let e = c.loop-root.invariant.over in let ok = c.loop-root.walk.path.ok.0 in omega arith) in
-    least_of c.loop-root.invariant.on.at over (λ x lt. c.loop-root.invariant.seen x (omega arith)) (subst (λ n. All (IsInside n) c.args.graph.now.edges) nodes c.nodes-root-end.ensures.inside)
+    let over : length c.loop-root.walk.path.items ≡ 0
+    = (let e = c.loop-root.invariant.over in let ok = c.loop-root.walk.path.ok.0 in omega arith) in
+    least_of c.loop-root.invariant.on.at over (λ x lt. c.loop-root.invariant.seen x (omega arith))
+    (subst (λ n. All (IsInside n) c.args.graph.now.edges) nodes c.nodes-root-end.ensures.inside)
     c.args.sets.now.sets c.loop-root.invariant.on.between

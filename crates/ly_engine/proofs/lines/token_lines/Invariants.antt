@@ -13,8 +13,10 @@ invariant-loop-at g l = let steps = g.S.Steps in record {
   within : l.at ≤ length l.text;
   same_walk : steps.walk l.steps ≡ steps.walk l.fn.steps;
   same_cuts : steps.cut_of l.steps ≡ steps.cut_of l.fn.steps;
-  so_far : (names : List Expression) (rules : List Rule) → Agrees names rules (steps.walk l.fn.steps) (steps.cut_of l.fn.steps)
-      → (ms : List Match) × Leads names rules (condition_set l.actions) (start_of l.text) ms (record { line = l.at_line_start; condition = l.condition; at = l.at; rest = drop l.at l.text })
+  so_far : (names : List Expression) (rules : List Rule)
+      → Agrees names rules (steps.walk l.fn.steps) (steps.cut_of l.fn.steps)
+      → (ms : List Match) × Leads names rules (condition_set l.actions) (start_of l.text) ms
+      (record { line = l.at_line_start; condition = l.condition; at = l.at; rest = drop l.at l.text })
       × (l.lines.items ≡ printed l.actions l.text ms);
 }
 

@@ -4,4 +4,5 @@ use Rattle.ly_ere.specs.Words.{found_in}
 use Rattle.ly_ere.proofs.bracket.ranges_in.Given as goal
 
 abbrev pub invariant-loop-known : goal.invariant-loop-known
-invariant-loop-known l = found_in (as_classes l.table) l.name ≡ found_in (as_classes (drop l.known-index l.table)) l.name
+invariant-loop-known l = found_in (as_classes l.table) l.name
+    ≡ found_in (as_classes (drop l.known-index l.table)) l.name

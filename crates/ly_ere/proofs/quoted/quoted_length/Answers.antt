@@ -9,9 +9,23 @@ loop-length-preserved c =
     let taken = rw c.in-Some.is at c.in_ok-length.ensures.front in
     let part = rw (c.in-Some.is, whole_slice) at c.in_ok-length.ensures.byte in
     record {
-      within = omega (arith, taken.1, ap length (whole_slice now.at c.args.behind.now), length-drop now.at c.args.behind.now, now.invariant.within);
-      read = (now.invariant.read.0 ++ c.in-Some.field-0-0 ∷ [], one_more now.invariant.read.1 c.in-Some.field-0-0 c.in-Some.length part);
+      within = omega (
+        arith,
+        taken.1,
+        ap length (whole_slice now.at c.args.behind.now),
+        length-drop now.at c.args.behind.now,
+        now.invariant.within,
+      );
+      read = (
+        now.invariant.read.0 ++ c.in-Some.field-0-0 ∷ [],
+        one_more now.invariant.read.1 c.in-Some.field-0-0 c.in-Some.length part,
+      );
     }
 
 pub returns-clause-quoted : goal.returns-clause-quoted
-returns-clause-quoted c = let now = c.loop-length in (now.invariant.read.0, quoted_so_far now.invariant.read.1 (rw (c.in_default.is, whole_slice) at c.in_ok-length.ensures.end))
+returns-clause-quoted c = let now = c.loop-length
+    in (
+      now.invariant.read.0,
+      quoted_so_far now.invariant.read.1
+          (rw (c.in_default.is, whole_slice) at c.in_ok-length.ensures.end),
+    )

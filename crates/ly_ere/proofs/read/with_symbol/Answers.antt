@@ -13,7 +13,8 @@ use Rattle.ly_ere.specs.Groups.{Reading, inside, step, with_bar, with_postfix}
 use Rattle.ly_ere.specs.Levels.{Grows, IsWithin, group_of, operated, reading_of}
 use Rattle.ly_ere.specs.Symbols.{word_of}
 use Rattle.ly_ere.specs.Words.{one_of, string, opening, closing, bar}
-use Rattle.ly_ere.proofs.LevelLemmas.{atom_step, grows_push, grows_trans, inside_step, open_step, part_last, within_grown}
+use Rattle.ly_ere.proofs.LevelLemmas.{atom_step, grows_push, grows_trans, inside_step, open_step, part_last}
+use Rattle.ly_ere.proofs.LevelLemmas.{within_grown}
 use Rattle.ly_ere.proofs.read.with_symbol.Goals as goal
 
 step_postfix : (p : Postfix) (r : Reading) → step (word_of p) r ≡ inside r.outer (with_postfix r.group (operated p))
@@ -21,37 +22,53 @@ step_postfix Star r = refl
 step_postfix Plus r = refl
 step_postfix Optional r = refl
 
-operator_step : (p : Postfix) (old new : List Expression) (items : List Level) (level l : Level) → Grows old new → All (IsWithin (length old)) items → with_postfix (group_of old level) (operated p) ≡ Some (group_of new l)
+operator_step : (p : Postfix) (old new : List Expression) (items : List Level) (level l : Level) → Grows old new
+    → All (IsWithin (length old)) items → with_postfix (group_of old level) (operated p) ≡ Some (group_of new l)
     → step (word_of p) (reading_of old items level) ≡ Some (reading_of new items l)
-operator_step p old new items level l g parts e = step_postfix p (reading_of old items level) ∙ inside_step old new items l (with_postfix (group_of old level) (operated p)) g parts e
+operator_step p old new items level l g parts e = step_postfix p (reading_of old items level)
+    ∙ inside_step old new items l (with_postfix (group_of old level) (operated p)) g parts e
 
 pub returns-in_ok-with_atom-in-Set-clause-outer_parts : goal.returns-in_ok-with_atom-in-Set-clause-outer_parts
-returns-in_ok-with_atom-in-Set-clause-outer_parts c = within_grown c.args.arena.now _ _ (grows_trans c.args.arena.now _ _ (grows_push _ _ _ c.in_ok-atom-in-Set.ensures.ok) c.in_ok-with_atom-in-Set.ensures.grown) c.requires.outer_parts
+returns-in_ok-with_atom-in-Set-clause-outer_parts c
+    = within_grown c.args.arena.now _ _
+    (grows_trans c.args.arena.now _ _ (grows_push _ _ _ c.in_ok-atom-in-Set.ensures.ok)
+    c.in_ok-with_atom-in-Set.ensures.grown) c.requires.outer_parts
 
 pub returns-in_ok-with_atom-in-Set-clause-step : goal.returns-in_ok-with_atom-in-Set-clause-step
 returns-in_ok-with_atom-in-Set-clause-step c = rw c.in-Set.is (
   one_of (members c.in-Set.set),
   refl,
-  atom_step c.args.arena.now c.push.new.self c.with_atom.new.arena c.args.outer.now.items c.args.level (grows_push _ _ _ c.in_ok-atom-in-Set.ensures.ok) c.in_ok-with_atom-in-Set.ensures.grown c.requires.outer_parts
-      c.in_ok-with_atom-in-Set.field-0 c.in_ok-atom-in-Set.atom (set (members c.in-Set.set)) c.requires.parts (part_last c.args.arena.now c.push.new.self _ c.in_ok-atom-in-Set.atom c.in_ok-atom-in-Set.ensures.ok c.in_ok-atom-in-Set.ensures.number) c.in_ok-with_atom-in-Set.ensures.atom,
+  atom_step c.args.arena.now c.push.new.self c.with_atom.new.arena c.args.outer.now.items c.args.level
+      (grows_push _ _ _ c.in_ok-atom-in-Set.ensures.ok) c.in_ok-with_atom-in-Set.ensures.grown c.requires.outer_parts
+      c.in_ok-with_atom-in-Set.field-0 c.in_ok-atom-in-Set.atom (set (members c.in-Set.set)) c.requires.parts
+      (part_last c.args.arena.now c.push.new.self _ c.in_ok-atom-in-Set.atom c.in_ok-atom-in-Set.ensures.ok
+      c.in_ok-atom-in-Set.ensures.number) c.in_ok-with_atom-in-Set.ensures.atom,
 )
 
 pub returns-in_ok-with_atom-in-Text-clause-outer_parts : goal.returns-in_ok-with_atom-in-Text-clause-outer_parts
-returns-in_ok-with_atom-in-Text-clause-outer_parts c = within_grown c.args.arena.now _ _ (grows_trans c.args.arena.now _ _ c.in_ok-atom-in-Text.ensures.grown c.in_ok-with_atom-in-Text.ensures.grown) c.requires.outer_parts
+returns-in_ok-with_atom-in-Text-clause-outer_parts c
+    = within_grown c.args.arena.now _ _
+    (grows_trans c.args.arena.now _ _ c.in_ok-atom-in-Text.ensures.grown c.in_ok-with_atom-in-Text.ensures.grown)
+    c.requires.outer_parts
 
 pub returns-in_ok-with_atom-in-Text-clause-step : goal.returns-in_ok-with_atom-in-Text-clause-step
 returns-in_ok-with_atom-in-Text-clause-step c = let found = c.in_ok-atom-in-Text.ensures.string in rw c.in-Text.is (
   string found.0,
   (found.0, found.1, found.2, refl),
-  atom_step c.args.arena.now c.push_string.new.arena c.with_atom-in-Text.new.arena c.args.outer.now.items c.args.level c.in_ok-atom-in-Text.ensures.grown c.in_ok-with_atom-in-Text.ensures.grown c.requires.outer_parts
-      c.in_ok-with_atom-in-Text.field-0 c.in_ok-atom-in-Text.atom (in_order found.0) c.requires.parts found.3 c.in_ok-with_atom-in-Text.ensures.atom,
+  atom_step c.args.arena.now c.push_string.new.arena c.with_atom-in-Text.new.arena c.args.outer.now.items c.args.level
+      c.in_ok-atom-in-Text.ensures.grown c.in_ok-with_atom-in-Text.ensures.grown c.requires.outer_parts
+      c.in_ok-with_atom-in-Text.field-0 c.in_ok-atom-in-Text.atom (in_order found.0) c.requires.parts found.3
+      c.in_ok-with_atom-in-Text.ensures.atom,
 )
 
 pub returns-in_ok-push-in-Open-clause-parts : goal.returns-in_ok-push-in-Open-clause-parts
 returns-in_ok-push-in-Open-clause-parts c = c.new.ensures.parts _
 
 pub returns-in_ok-push-in-Open-clause-outer_parts : goal.returns-in_ok-push-in-Open-clause-outer_parts
-returns-in_ok-push-in-Open-clause-outer_parts c = rw c.in_ok-push-in-Open.ensures.items (All-push (IsWithin (length c.args.arena.now)) c.args.outer.now.items c.args.level c.requires.outer_parts c.requires.parts)
+returns-in_ok-push-in-Open-clause-outer_parts c
+    = rw c.in_ok-push-in-Open.ensures.items
+    (All-push (IsWithin (length c.args.arena.now)) c.args.outer.now.items c.args.level c.requires.outer_parts
+    c.requires.parts)
 
 pub returns-in_ok-push-in-Open-clause-step : goal.returns-in_ok-push-in-Open-clause-step
 returns-in_ok-push-in-Open-clause-step c = rw (c.in-Open.is, c.in_ok-push-in-Open.ensures.items) (
@@ -61,16 +78,39 @@ returns-in_ok-push-in-Open-clause-step c = rw (c.in-Open.is, c.in_ok-push-in-Ope
 )
 
 pub returns-in-Close-clause-step : goal.returns-in-Close-clause-step
-returns-in-Close-clause-step c = rw c.in-Close.is (IfOk-weaker c.close.result _ _ (λ l e. (closing, refl, e)) c.close.ensures.closed)
+returns-in-Close-clause-step c
+    = rw c.in-Close.is (IfOk-weaker c.close.result _ _ (λ l e. (closing, refl, e)) c.close.ensures.closed)
 
 pub returns-in-Bar-clause-outer_parts : goal.returns-in-Bar-clause-outer_parts
-returns-in-Bar-clause-outer_parts c = IfOk-weaker c.with_bar.result _ _ (λ _ _. within_grown c.args.arena.now _ _ c.with_bar.ensures.grown c.requires.outer_parts) c.with_bar.ensures.parts
+returns-in-Bar-clause-outer_parts c
+    = IfOk-weaker c.with_bar.result _ _
+    (λ _ _. within_grown c.args.arena.now _ _ c.with_bar.ensures.grown c.requires.outer_parts) c.with_bar.ensures.parts
 
 pub returns-in-Bar-clause-step : goal.returns-in-Bar-clause-step
-returns-in-Bar-clause-step c = rw c.in-Bar.is (IfOk-weaker c.with_bar.result _ _ (λ l e. (bar, refl, inside_step c.args.arena.now c.with_bar.new.arena c.args.outer.now.items l (with_bar (group_of c.args.arena.now c.args.level)) c.with_bar.ensures.grown c.requires.outer_parts e)) c.with_bar.ensures.bar)
+returns-in-Bar-clause-step c
+    = rw c.in-Bar.is
+    (IfOk-weaker c.with_bar.result _ _
+    (λ l e. (
+      bar,
+      refl,
+      inside_step c.args.arena.now c.with_bar.new.arena c.args.outer.now.items l
+          (with_bar (group_of c.args.arena.now c.args.level)) c.with_bar.ensures.grown c.requires.outer_parts e,
+    ))
+    c.with_bar.ensures.bar)
 
 pub returns-in-Postfix-clause-outer_parts : goal.returns-in-Postfix-clause-outer_parts
-returns-in-Postfix-clause-outer_parts c = IfOk-weaker c.with_postfix.result _ _ (λ _ _. within_grown c.args.arena.now _ _ c.with_postfix.ensures.grown c.requires.outer_parts) c.with_postfix.ensures.parts
+returns-in-Postfix-clause-outer_parts c
+    = IfOk-weaker c.with_postfix.result _ _
+    (λ _ _. within_grown c.args.arena.now _ _ c.with_postfix.ensures.grown c.requires.outer_parts)
+    c.with_postfix.ensures.parts
 
 pub returns-in-Postfix-clause-step : goal.returns-in-Postfix-clause-step
-returns-in-Postfix-clause-step c = rw c.in-Postfix.is (IfOk-weaker c.with_postfix.result _ _ (λ l e. (word_of c.in-Postfix.postfix, refl, operator_step c.in-Postfix.postfix c.args.arena.now c.with_postfix.new.arena c.args.outer.now.items c.args.level l c.with_postfix.ensures.grown c.requires.outer_parts e)) c.with_postfix.ensures.operator)
+returns-in-Postfix-clause-step c
+    = rw c.in-Postfix.is
+    (IfOk-weaker c.with_postfix.result _ _
+    (λ l e. (
+      word_of c.in-Postfix.postfix,
+      refl,
+      operator_step c.in-Postfix.postfix c.args.arena.now c.with_postfix.new.arena c.args.outer.now.items c.args.level l
+          c.with_postfix.ensures.grown c.requires.outer_parts e,
+    )) c.with_postfix.ensures.operator)

@@ -23,7 +23,10 @@ pub returns-in-63-clause-next : goal.returns-in-63-clause-next
 returns-in-63-clause-next c = sign_next c.args.text.now c.requires 63 _ question_mark c.in-63.is refl tt refl
 
 pub returns-in-46-clause-next : goal.returns-in-46-clause-next
-returns-in-46-clause-next c = dot_next c.args.text.now c.requires c.all_but_newline.result c.in-46.is c.all_but_newline.ensures
+returns-in-46-clause-next c
+    = dot_next c.args.text.now c.requires c.all_but_newline.result c.in-46.is c.all_but_newline.ensures
 
 pub returns-in_default-clause-next : goal.returns-in_default-clause-next
-returns-in_default-clause-next c = plain_next c.args.text.now c.requires (get_or c.args.text.now 0 0) c.of.result refl c.of.ensures (grind (arith, nat_tests))
+returns-in_default-clause-next c
+    = plain_next c.args.text.now c.requires (get_or c.args.text.now 0 0) c.of.result refl c.of.ensures
+    (grind (arith, nat_tests))

@@ -9,4 +9,6 @@ returns-clause-next c =
     let n = c.in_ok-quoted_length.field-0 in
     let found = rw (whole_slice, drop-drop) at c.in_ok-quoted_length.ensures.quoted in
     let front = c.in_ok-quoted_length.ensures.front in
-    string_next text c.requires.some found.0 (1 + n) _ (omega arith, omega (arith, front.1, ap length (whole_slice 1 text), length-drop 1 text)) c.requires.quote (whole_slice 1 text) found.1
+    string_next text c.requires.some found.0 (1 + n) _
+    (omega arith, omega (arith, front.1, ap length (whole_slice 1 text), length-drop 1 text)) c.requires.quote
+    (whole_slice 1 text) found.1

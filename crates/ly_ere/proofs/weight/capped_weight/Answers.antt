@@ -9,6 +9,9 @@ use Rattle.ly_ere.proofs.weight.capped_weight.Goals as goal
 
 pub returns-clause-weight : goal.returns-clause-weight
 returns-clause-weight c = λ weight named.
-    c.index.ensures ∙ ap (λ ws. get_or ws c.nodes-root.result.1 c.index.result.now) (c.in_ok-weights.ensures.weights weight named)
-    ∙ get_or-map (λ e. min (weight_under weight e) c.args.cap) (expressions c.nodes-root.result.0.now) c.nodes-root.result.1 empty c.index.result.now (omega (arith, c.nodes-root.ensures.within, length-expressions c.nodes-root.result.0.now))
+    c.index.ensures ∙ ap (λ ws. get_or ws c.nodes-root.result.1 c.index.result.now)
+    (c.in_ok-weights.ensures.weights weight named)
+    ∙ get_or-map (λ e. min (weight_under weight e) c.args.cap)
+    (expressions c.nodes-root.result.0.now) c.nodes-root.result.1 empty c.index.result.now
+    (omega (arith, c.nodes-root.ensures.within, length-expressions c.nodes-root.result.0.now))
     ∙ ap (λ e. min (weight_under weight e) c.args.cap) c.nodes-root.ensures.spelled

@@ -10,14 +10,20 @@ returns-in-Name c =
     let text = c.args.text.now in
     let rest = c.next_word.result.1.now in
     let n = c.in-Name.name in
-    by_test c.is_semicolon.result _ c.then_some.result _ _ c.then_some.ensures (returns_value text rest (name n.now) (token n.now) c.is_semicolon.result (at_name text rest c.next_word.result.0 n c.in-Name.is c.next_word.ensures) refl c.is_semicolon.ensures)
+    by_test c.is_semicolon.result _ c.then_some.result _ _ c.then_some.ensures
+    (returns_value text rest (name n.now) (token n.now) c.is_semicolon.result
+    (at_name text rest c.next_word.result.0 n c.in-Name.is c.next_word.ensures) refl c.is_semicolon.ensures)
 
 pub returns-in-Byte : goal.returns-in-Byte
 returns-in-Byte c =
     let text = c.args.text.now in
     let rest = c.next_word.result.1.now in
     let b = c.in-Byte.byte in
-    by_test c.is_semicolon-in-Byte.result _ c.then_some-in-Byte.result _ _ c.then_some-in-Byte.ensures (returns_value text rest (literal b) (literal_of b) c.is_semicolon-in-Byte.result (at_byte text rest c.next_word.result.0 b c.in-Byte.is c.next_word.ensures) refl c.is_semicolon-in-Byte.ensures)
+    by_test c.is_semicolon-in-Byte.result _ c.then_some-in-Byte.result _ _ c.then_some-in-Byte.ensures
+    (returns_value text rest (literal b) (literal_of b) c.is_semicolon-in-Byte.result
+    (at_byte text rest c.next_word.result.0 b c.in-Byte.is c.next_word.ensures) refl c.is_semicolon-in-Byte.ensures)
 
 pub returns-in_default : goal.returns-in_default
-returns-in_default c = λ m. returns_none c.args.text.now c.next_word.result.1.now c.next_word.result.0 m c.next_word.ensures c.in_default.not-Name c.in_default.not-Byte
+returns-in_default c
+    = λ m. returns_none c.args.text.now c.next_word.result.1.now c.next_word.result.0 m c.next_word.ensures
+    c.in_default.not-Name c.in_default.not-Byte

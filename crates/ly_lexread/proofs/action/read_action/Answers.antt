@@ -3,4 +3,5 @@ use Rattle.ly_lexread.proofs.FrontLemmas.{at_none}
 use Rattle.ly_lexread.proofs.action.read_action.Goals as goal
 
 pub returns-in_default : goal.returns-in_default
-returns-in_default c = λ a is. at_none c.said.result _ _ c.in_default.not-Some c.said.ensures (meaning_of a.returns) is.1
+returns-in_default c = λ a is. at_none c.said.result _ _ c.in_default.not-Some c.said.ensures
+    (meaning_of a.returns) is.1

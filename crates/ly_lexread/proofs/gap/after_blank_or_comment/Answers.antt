@@ -5,7 +5,11 @@ use Rattle.ly_lexread.proofs.GapLemmas.{opened, blank_before}
 use Rattle.ly_lexread.proofs.gap.after_blank_or_comment.Goals as goal
 
 pub returns-in-Some-clause-these : goal.returns-in-Some-clause-these
-returns-in-Some-clause-these c = opened c.args.text.now c.in-Some.inside.now c.after_comment.result (strip_prefix_is Decides-eqb c.args.text.now (47 ∷ 42 ∷ []) (Some c.in-Some.inside) c.in-Some.ensures.cases) c.after_comment.ensures
+returns-in-Some-clause-these c = opened c.args.text.now c.in-Some.inside.now c.after_comment.result
+    (strip_prefix_is Decides-eqb c.args.text.now (47 ∷ 42 ∷ []) (Some c.in-Some.inside) c.in-Some.ensures.cases)
+    c.after_comment.ensures
 
 pub returns-in-Some-split_first-clause-these : goal.returns-in-Some-split_first-clause-these
-returns-in-Some-split_first-clause-these c = blank_before c.args.text.now c.in-Some-split_first.first.now c.in-Some-split_first.rest.now c.in-Some-split_first.ensures.cases.0 (sym c.is_blank.ensures ∙ c.if-is_blank.true)
+returns-in-Some-split_first-clause-these c
+    = blank_before c.args.text.now c.in-Some-split_first.first.now c.in-Some-split_first.rest.now
+    c.in-Some-split_first.ensures.cases.0 (sym c.is_blank.ensures ∙ c.if-is_blank.true)

@@ -9,4 +9,6 @@ pub returns-in-Some : goal.returns-in-Some
 returns-in-Some c =
     let inside = c.args.inside.now in
     let n = c.loop-at.at in
-    first_end inside c.in-Some.rest.now n (omega arith) c.loop-at.invariant (sym (take_rest inside n) ∙ strip_prefix_is Decides-eqb (take (length inside - n) (drop n inside)) (42 ∷ 47 ∷ []) (Some c.in-Some.rest) c.in-Some.ensures.cases)
+    first_end inside c.in-Some.rest.now n (omega arith) c.loop-at.invariant (sym (take_rest inside n)
+    ∙ strip_prefix_is Decides-eqb (take (length inside - n) (drop n inside)) (42 ∷ 47 ∷ [])
+    (Some c.in-Some.rest) c.in-Some.ensures.cases)

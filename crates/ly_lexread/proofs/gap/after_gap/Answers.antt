@@ -7,4 +7,6 @@ pub loop-after-init : goal.loop-after-init
 loop-after-init c = ([], none, refl)
 
 pub loop-after-preserved : goal.loop-after-preserved
-loop-after-preserved c = GapBefore-trans c.args.text.now c.loop-after.rest.now c.in-Some.after.now c.loop-after.invariant c.in-Some.ensures.these
+loop-after-preserved c
+    = GapBefore-trans c.args.text.now c.loop-after.rest.now c.in-Some.after.now c.loop-after.invariant
+    c.in-Some.ensures.these

@@ -9,9 +9,13 @@ use Rattle.ly_lexread.proofs.read.read_rules.Given as goal
 -- the rules so far and those of the lines that are left are all rules
 abbrev pub invariant-loop-line : goal.invariant-loop-line
 invariant-loop-line l = record {
-  sound : (rules : List Rule) (actions : List Action) → Rules l.names (lines_left l.lines) rules actions → Rules l.names (lines_left l.initial.lines) (l.rules.items ++ rules) (l.actions.items ++ actions);
-  complete : (rules : List Rule) (actions : List Action) → Rules l.names (lines_left l.initial.lines) rules actions → AreLight (pattern_weight_of l.limits) l.names rules → (rs : List Rule) × (xs : List Action) × Rules l.names (lines_left l.lines) rs xs × AreLight (pattern_weight_of l.limits) l.names rs;
-  heavy : HasHeavyLine (pattern_weight_of l.limits) l.names (lines_left l.lines) → HasHeavyLine (pattern_weight_of l.limits) l.names (lines_left l.initial.lines);
+  sound : (rules : List Rule) (actions : List Action) → Rules l.names (lines_left l.lines) rules actions
+      → Rules l.names (lines_left l.initial.lines) (l.rules.items ++ rules) (l.actions.items ++ actions);
+  complete : (rules : List Rule) (actions : List Action) → Rules l.names (lines_left l.initial.lines) rules actions
+      → AreLight (pattern_weight_of l.limits) l.names rules → (rs : List Rule) × (xs : List Action)
+      × Rules l.names (lines_left l.lines) rs xs × AreLight (pattern_weight_of l.limits) l.names rs;
+  heavy : HasHeavyLine (pattern_weight_of l.limits) l.names (lines_left l.lines)
+      → HasHeavyLine (pattern_weight_of l.limits) l.names (lines_left l.initial.lines);
   light : AreLight (pattern_weight_of l.limits) l.names l.rules.items;
 }
 

@@ -10,6 +10,8 @@ use Rattle.ly_lexread.proofs.words.continued_length.Goals as goal
 pub returns : goal.returns
 returns c =
     let text = c.args.text.now in
-    let p : c.position.result ≡ position (λ byte. not (continues_name byte)) text = position_from_yields_List (λ byte. not (continues_name byte)) _ _ c.position.result c.position.ensures.ran (YieldsList-from_slice text cc) (λ x b q k. search (rules, tests)) in
+    let p : c.position.result ≡ position (λ byte. not (continues_name byte)) text
+    = position_from_yields_List (λ byte. not (continues_name byte)) _ _ c.position.result c.position.ensures.ran
+    (YieldsList-from_slice text cc) (λ x b q k. search (rules, tests)) in
     let e : c.unwrap_or.result ≡ unwrap_or c.position.result (length text) = grind arith in
     e ∙ ap (λ o. unwrap_or o (length text)) p ∙ unwrap_or-position_not continues_name text

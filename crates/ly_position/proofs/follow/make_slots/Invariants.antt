@@ -8,5 +8,6 @@ abbrev pub invariant-loop-instruction : goal.invariant-loop-instruction
 invariant-loop-instruction l = record {
   below : l.reach.seen.below ≡ length l.code;
   knows : Knows (map step_of l.code) l.follow.lists l.follow.known.items;
-  slots : AllZip (SlotFits (map step_of l.code) l.follow.lists) (filter is_place (map step_of (take l.instruction-index l.code))) l.slots.items;
+  slots : AllZip (SlotFits (map step_of l.code) l.follow.lists)
+      (filter is_place (map step_of (take l.instruction-index l.code))) l.slots.items;
 }

@@ -14,8 +14,11 @@ loop-instruction-preserved c =
     let d = Read (record { words = [] }) 0 in
     elim c.match-instruction.branch [
       | in-Fork+in_ok-push w ↦
-          let more = steps_more code i d (Fork w.in-Fork.field-0 w.in-Fork.field-1) c.loop-instruction-test.true w.in-Fork.is in
-          let step = numbers_step_fork g (map step_of (take (i + 1) code)) c.loop-instruction.numbers.items c.match-instruction.numbers.items c.loop-instruction.count c.match-instruction.count w.in-Fork.field-0 w.in-Fork.field-1
+          let more = steps_more code i d (Fork w.in-Fork.field-0 w.in-Fork.field-1) c.loop-instruction-test.true
+          w.in-Fork.is in
+          let step = numbers_step_fork g (map step_of (take (i + 1) code)) c.loop-instruction.numbers.items
+          c.match-instruction.numbers.items c.loop-instruction.count c.match-instruction.count w.in-Fork.field-0
+          w.in-Fork.field-1
           before.numbers before.count more (ap (λ v. v.items) w.numbers-is ∙ w.in_ok-push.ensures.items) w.count-is in
           record { numbers = step.0; count = step.1 }
       | in_default+in_ok-push-2+in_ok-count w ↦
@@ -23,7 +26,9 @@ loop-instruction-preserved c =
           let place = not_fork n w.in_default.not-Fork in
           let more = steps_more code i d n c.loop-instruction-test.true refl in
           let next = rw w.in_ok-count.ensures.ok_part at w.checked_add.ensures in
-          let step = numbers_step_place g (map step_of (take (i + 1) code)) c.loop-instruction.numbers.items c.match-instruction.numbers.items c.loop-instruction.count c.match-instruction.count (step_of n) place
-          before.numbers before.count more (ap (λ v. v.items) w.numbers-is ∙ w.in_ok-push-2.ensures.items) (w.count-is ∙ next.1) in
+          let step = numbers_step_place g (map step_of (take (i + 1) code)) c.loop-instruction.numbers.items
+          c.match-instruction.numbers.items c.loop-instruction.count c.match-instruction.count (step_of n) place
+          before.numbers before.count more (ap (λ v. v.items) w.numbers-is ∙ w.in_ok-push-2.ensures.items)
+          (w.count-is ∙ next.1) in
           record { numbers = step.0; count = step.1 }
     ]

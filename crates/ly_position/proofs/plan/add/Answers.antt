@@ -16,11 +16,20 @@ loop-node-preserved c =
     let p = c.in_ok-part.part in
     let n = get_or nodes i (Set (record { words = [] })) in
     let is = get_or_default nodes i (Set (record { words = [] })) n c.loop-node-test.true in
-    let made = subst (λ (ps : List (Option ℕ)). Makes c.loop-node.plain c.add_node.new.plain p (NodeMatches (ListedMatches c.loop-node.plain names) (ListedMatches c.loop-node.plain ps) n)) c.deref.ensures.value c.in_ok-part.ensures in
+    let made =
+    subst (λ (ps : List (Option ℕ)). Makes c.loop-node.plain c.add_node.new.plain p
+    (NodeMatches (ListedMatches c.loop-node.plain names) (ListedMatches c.loop-node.plain ps) n))
+    c.deref.ensures.value c.in_ok-part.ensures in
     rw c.in_ok-push.ensures.items (record {
       rest = before.rest ++ made.rest;
-      grown = more_grown c.args.plain.now c.loop-node.plain c.add_node.new.plain before.rest names parts nodes i n p before.grown c.requires before.count before.within before.spells c.nodes-root.ensures.ordered c.loop-node-test.true is made;
+      grown = more_grown c.args.plain.now c.loop-node.plain c.add_node.new.plain before.rest names parts nodes i n p
+          before.grown c.requires before.count before.within before.spells c.nodes-root.ensures.ordered
+          c.loop-node-test.true is made;
       count = omega (arith, length-append parts (p ∷ []), before.count);
-      within = more_within c.args.plain.now c.loop-node.plain c.add_node.new.plain before.rest names parts nodes i n p before.grown c.requires before.count before.within before.spells c.nodes-root.ensures.ordered c.loop-node-test.true is made;
-      spells = more_spells c.args.plain.now c.loop-node.plain c.add_node.new.plain before.rest names parts nodes i n p before.grown c.requires before.count before.within before.spells c.nodes-root.ensures.ordered c.loop-node-test.true is made;
+      within = more_within c.args.plain.now c.loop-node.plain c.add_node.new.plain before.rest names parts nodes i n p
+          before.grown c.requires before.count before.within before.spells c.nodes-root.ensures.ordered
+          c.loop-node-test.true is made;
+      spells = more_spells c.args.plain.now c.loop-node.plain c.add_node.new.plain before.rest names parts nodes i n p
+          before.grown c.requires before.count before.within before.spells c.nodes-root.ensures.ordered
+          c.loop-node-test.true is made;
     })

@@ -13,5 +13,7 @@ invariant-loop-node l = record {
   grown : l.plain ≡ l.fn.plain ++ rest;
   count : length l.parts.items ≡ l.node-index;
   within : All (IsPart (length l.plain)) l.parts.items;
-  spells : (a : ℕ) → a < l.node-index → Same (ListedMatches l.plain l.parts.items a) (MatchesUnder (ListedMatches l.fn.plain l.names) (part_of (expressions l.nodes) a));
+  spells : (a : ℕ) → a < l.node-index
+      → Same (ListedMatches l.plain l.parts.items a)
+      (MatchesUnder (ListedMatches l.fn.plain l.names) (part_of (expressions l.nodes) a));
 }

@@ -15,10 +15,16 @@ loop-definition-preserved c =
     let d = c.definition-item.result in
     let p = c.in_ok-part.part in
     let is : slice_get c.args.names.now i ≡ Some d =
-    subst (λ (ns : List Expression). slice_get ns i ≡ Some d) c.definitions-definition-items.ensures.these (slice_get_read c.definitions-definition-items.result.now (length c.definitions-definition-items.result.now) i d refl c.loop-definition-test.true c.definition-item.is) in
-    let made = subst (λ (ps : List (Option ℕ)). Makes c.loop-definition.plain c.add.new.plain p (MatchesUnder (ListedMatches c.loop-definition.plain ps) d)) c.deref.ensures.value c.in_ok-part.ensures in
+    subst (λ (ns : List Expression). slice_get ns i ≡ Some d) c.definitions-definition-items.ensures.these
+    (slice_get_read c.definitions-definition-items.result.now (length c.definitions-definition-items.result.now) i d
+    refl c.loop-definition-test.true c.definition-item.is) in
+    let made =
+    subst (λ (ps : List (Option ℕ)). Makes c.loop-definition.plain c.add.new.plain p
+    (MatchesUnder (ListedMatches c.loop-definition.plain ps) d)) c.deref.ensures.value c.in_ok-part.ensures in
     rw c.in_ok-push.ensures.items (record {
       count = omega (arith, length-append ds (p ∷ []), before.count);
-      within = names_more_within c.args.names.now i d is c.loop-definition.plain c.add.new.plain ds p before.within before.count before.spells made;
-      spells = names_more c.args.names.now i d is c.loop-definition.plain c.add.new.plain ds p before.within before.count before.spells made;
+      within = names_more_within c.args.names.now i d is c.loop-definition.plain c.add.new.plain ds p before.within
+          before.count before.spells made;
+      spells = names_more c.args.names.now i d is c.loop-definition.plain c.add.new.plain ds p before.within
+          before.count before.spells made;
     })

@@ -10,6 +10,8 @@ pub returns-in_ok-tail-in-Some : goal.returns-in_ok-tail-in-Some
 returns-in_ok-tail-in-Some c =
     let N = ListedMatches c.args.plain.now c.args.names.now in
     let H = MatchesUnder N c.args.rule.now.pattern.head in
-    subst (λ (t : Option Expression). IfOk c.concat.result (λ p. Makes c.args.plain.now c.concat.new.self p (InTurn H (InTailUnder N t)))) (sym c.in-Some.is)
-    (then_tail c.concat.result c.args.plain.now c.add.new.plain c.add-in-Some.new.plain c.concat.new.self c.args.names.now c.in_ok-head.head c.in_ok-tail-in-Some.tail c.args.rule.now.pattern.head c.in-Some.tail
+    subst (λ (t : Option Expression). IfOk c.concat.result
+    (λ p. Makes c.args.plain.now c.concat.new.self p (InTurn H (InTailUnder N t)))) (sym c.in-Some.is)
+    (then_tail c.concat.result c.args.plain.now c.add.new.plain c.add-in-Some.new.plain c.concat.new.self
+    c.args.names.now c.in_ok-head.head c.in_ok-tail-in-Some.tail c.args.rule.now.pattern.head c.in-Some.tail
     c.requires c.in_ok-head.ensures c.in_ok-tail-in-Some.ensures c.concat.ensures)

@@ -1,4 +1,5 @@
-use Rattle.std.proofs.Common.{◌≡◌, ◌∷◌, [], ℕ, List, Option, Some, length, length-append, ◌∙◌, arith, subst, le_antisymm, refl}
+use Rattle.std.proofs.Common.{◌≡◌, ◌∷◌, [], ℕ, List, Option, Some, length, length-append, ◌∙◌, arith, subst}
+use Rattle.std.proofs.Common.{le_antisymm, refl}
 use Rattle.std.specs.Prelude.{slice_get}
 use Rattle.std.proofs.lemmas.Option.{slice_get_read, slice_get_within}
 use Rattle.ly_position.specs.Plain.{Makes}
@@ -16,20 +17,29 @@ loop-rule-preserved c =
     let ps = c.loop-rule.parts.items in
     let r = c.rule-item.result in
     let p = c.in_ok-part.part in
-    let is : slice_get rules i ≡ Some r = slice_get_read rules (length rules) i r refl c.loop-rule-test.true c.rule-item.is in
-    let made = subst (λ (xs : List (Option ℕ)). Makes c.loop-rule.plain c.add_rule.new.plain p (SpelledUnder (ListedMatches c.loop-rule.plain xs) r.pattern)) c.deref.ensures.value c.in_ok-part.ensures in
+    let is : slice_get rules i ≡ Some r
+    = slice_get_read rules (length rules) i r refl c.loop-rule-test.true c.rule-item.is in
+    let made =
+    subst (λ (xs : List (Option ℕ)). Makes c.loop-rule.plain c.add_rule.new.plain p
+    (SpelledUnder (ListedMatches c.loop-rule.plain xs) r.pattern)) c.deref.ensures.value c.in_ok-part.ensures in
     rw c.in_ok-push.ensures.items (record {
-      names_within = rules_names_within names rules c.loop-rule.plain c.add_rule.new.plain ds ps i r p before.names_within before.named before.count before.within before.spells is made;
-      named = rules_named names rules c.loop-rule.plain c.add_rule.new.plain ds ps i r p before.names_within before.named before.count before.within before.spells is made;
+      names_within
+          = rules_names_within names rules c.loop-rule.plain c.add_rule.new.plain ds ps i r p before.names_within
+          before.named before.count before.within before.spells is made;
+      named = rules_named names rules c.loop-rule.plain c.add_rule.new.plain ds ps i r p before.names_within
+          before.named before.count before.within before.spells is made;
       count = omega (arith, length-append ps (p ∷ []), before.count);
-      within = rules_within names rules c.loop-rule.plain c.add_rule.new.plain ds ps i r p before.names_within before.named before.count before.within before.spells is made;
-      spells = rules_more names rules c.loop-rule.plain c.add_rule.new.plain ds ps i r p before.names_within before.named before.count before.within before.spells is made;
+      within = rules_within names rules c.loop-rule.plain c.add_rule.new.plain ds ps i r p before.names_within
+          before.named before.count before.within before.spells is made;
+      spells = rules_more names rules c.loop-rule.plain c.add_rule.new.plain ds ps i r p before.names_within
+          before.named before.count before.within before.spells is made;
     })
 
 pub returns : goal.returns
 returns c =
     let before = c.loop-rule.invariant in
-    let all : c.loop-rule.rule-index ≡ length c.args.rules.now = le_antisymm c.loop-rule.auto.rule-index-end c.loop-rule-test.false in
+    let all : c.loop-rule.rule-index ≡ length c.args.rules.now
+    = le_antisymm c.loop-rule.auto.rule-index-end c.loop-rule-test.false in
     record {
       count = before.count ∙ all;
       within = before.within;

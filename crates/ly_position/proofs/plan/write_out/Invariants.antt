@@ -13,5 +13,6 @@ invariant-loop-rule l = record {
   named : (x : ℕ) → Same (ListedMatches l.plain l.definitions.items x) (NamedUpTo l.names (length l.names) x);
   count : length l.parts.items ≡ l.rule-index;
   within : All (IsPart (length l.plain)) l.parts.items;
-  spells : (j : ℕ) (q : Rule) → j < l.rule-index → slice_get l.rules j ≡ Some q → Same (ListedMatches l.plain l.parts.items j) (Spelled l.names q.pattern);
+  spells : (j : ℕ) (q : Rule) → j < l.rule-index → slice_get l.rules j ≡ Some q
+      → Same (ListedMatches l.plain l.parts.items j) (Spelled l.names q.pattern);
 }

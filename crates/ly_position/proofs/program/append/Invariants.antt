@@ -10,7 +10,8 @@ abbrev pub invariant-loop-task : goal.invariant-loop-task
 invariant-loop-task l = record {
   fits : All (TaskFits (length l.plain)) l.tasks.items;
   steps : map step_of l.instructions.items ++ planned l.plain (reverse l.tasks.items) (length l.instructions.items)
-      ≡ map step_of l.fn.instructions.items ++ code (part_of l.plain l.fn.part) (length l.fn.instructions.items) l.fn.next;
+      ≡ map step_of l.fn.instructions.items ++ code (part_of l.plain l.fn.part)
+      (length l.fn.instructions.items) l.fn.next;
 }
 
 abbrev pub decreases-loop-task : goal.decreases-loop-task

@@ -4,4 +4,6 @@ use Rattle.ly_position.proofs.ProgramLemmas.{Compiled}
 use Rattle.ly_position.proofs.program.compile.Given as goal
 
 abbrev pub invariant-loop-number : goal.invariant-loop-number
-invariant-loop-number l = Compiled l.plan.plain l.plan.parts.items (map step_of l.program.instructions.items) l.program.entries.items l.number
+invariant-loop-number l
+    = Compiled l.plan.plain l.plan.parts.items (map step_of l.program.instructions.items) l.program.entries.items
+    l.number

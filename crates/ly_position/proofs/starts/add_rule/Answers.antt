@@ -1,9 +1,11 @@
-use Rattle.std.proofs.Common.{◌≡◌, ◌+◌, ◌++◌, ◌∷◌, [], ℕ, List, Vec, Global, length, map, take, get_or, ap, subst, arith}
+use Rattle.std.proofs.Common.{◌≡◌, ◌+◌, ◌++◌, ◌∷◌, [], ℕ, List, Vec, Global, length, map, take, get_or, ap, subst}
+use Rattle.std.proofs.Common.{arith}
 use Rattle.std.proofs.lemmas.List.{take_more, take_all}
 use Rattle.ly_position.specs.Starts.{AddsInEach}
 use Rattle.ly_position.proofs.StartLemmas.{each_more, each_skip, within_trans}
 use Rattle.ly_position.proofs.starts.add_rule.Goals as goal
-use Rattle.ly_position.proofs.starts.add_rule.Goals.{then-condition-conditions+in_ok-add_root, else-condition-conditions}
+use Rattle.ly_position.proofs.starts.add_rule.Goals.{then-condition-conditions+in_ok-add_root}
+use Rattle.ly_position.proofs.starts.add_rule.Goals.{else-condition-conditions}
 
 pub loop-condition-preserved : goal.loop-condition-preserved
 loop-condition-preserved c =
@@ -15,15 +17,21 @@ loop-condition-preserved c =
     let active = c.args.rule.now.active.items in
     let d = get_or c.deref-condition-items.result.now i 0 in
     let start = c.args.rule.now.pattern.line_start in
-    let more : take (i + 1) active ≡ take i active ++ d ∷ [] = subst (λ (xs : List ℕ). take (i + 1) xs ≡ take i xs ++ d ∷ []) c.deref-condition-items.ensures.value (take_more c.deref-condition-items.result.now i 0 c.loop-condition-test.true) in
+    let more : take (i + 1) active ≡ take i active ++ d ∷ []
+    = subst (λ (xs : List ℕ). take (i + 1) xs ≡ take i xs ++ d ∷ []) c.deref-condition-items.ensures.value
+    (take_more c.deref-condition-items.result.now i 0 c.loop-condition-test.true) in
     elim c.if-condition-conditions.branch [
       | then-condition-conditions+in_ok-add_root w ↦ rw w.roots-is (record {
-        within = within_trans L M (map items w.add_root.new.roots) c.args.entry c.loop-condition.invariant.within w.in_ok-add_root.ensures.within;
-        added = each_more L M (map items w.add_root.new.roots) n (take i active) (take (i + 1) active) d start c.args.entry c.loop-condition.invariant.added w.in_ok-add_root.ensures.added more;
+        within = within_trans L M (map items w.add_root.new.roots) c.args.entry c.loop-condition.invariant.within
+            w.in_ok-add_root.ensures.within;
+        added = each_more L M (map items w.add_root.new.roots) n (take i active)
+            (take (i + 1) active) d start c.args.entry c.loop-condition.invariant.added w.in_ok-add_root.ensures.added
+            more;
       })
       | else-condition-conditions w ↦ rw w.roots-is (record {
         within = c.loop-condition.invariant.within;
-        added = each_skip L M n (take i active) (take (i + 1) active) d start c.args.entry c.loop-condition.invariant.added w.if-condition-conditions.false more;
+        added = each_skip L M n (take i active) (take (i + 1) active) d start c.args.entry
+            c.loop-condition.invariant.added w.if-condition-conditions.false more;
       })
     ]
 
@@ -31,5 +39,7 @@ pub returns-clause-added : goal.returns-clause-added
 returns-clause-added c =
     let items = λ (v : Vec ℕ Global). v.items in
     let active = c.args.rule.now.active.items in
-    let all = take_all c.loop-condition.condition-index active (let t = c.loop-condition-test.false in let v = ap length c.deref-condition-items.ensures.value in omega arith) in
-    subst (λ (xs : List ℕ). AddsInEach (map items c.args.roots.now) (map items c.loop-condition.roots) c.args.conditions xs c.args.rule.now.pattern.line_start c.args.entry) all c.loop-condition.invariant.added
+    let all = take_all c.loop-condition.condition-index active (let t = c.loop-condition-test.false
+    in let v = ap length c.deref-condition-items.ensures.value in omega arith) in
+    subst (λ (xs : List ℕ). AddsInEach (map items c.args.roots.now) (map items c.loop-condition.roots) c.args.conditions
+    xs c.args.rule.now.pattern.line_start c.args.entry) all c.loop-condition.invariant.added

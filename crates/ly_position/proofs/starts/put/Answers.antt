@@ -8,4 +8,5 @@ returns c =
     let lists = c.args.lists.now in
     let k = c.args.number in
     map-set items lists k c.push.new.self
-    ∙ ap (λ xs. set (map items lists) k xs) (c.in_ok-push.ensures.items ∙ ap (λ xs. xs ++ c.args.entry ∷ []) (sym (get_or-map items lists k c.index-lists-number.result [] c.requires)))
+    ∙ ap (λ xs. set (map items lists) k xs) (c.in_ok-push.ensures.items
+    ∙ ap (λ xs. xs ++ c.args.entry ∷ []) (sym (get_or-map items lists k c.index-lists-number.result [] c.requires)))

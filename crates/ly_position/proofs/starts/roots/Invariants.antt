@@ -3,4 +3,5 @@ use Rattle.ly_position.specs.Starts.{AreRoots}
 use Rattle.ly_position.proofs.starts.roots.Given as goal
 
 abbrev pub invariant-loop-number : goal.invariant-loop-number
-invariant-loop-number l = AreRoots l.rules l.program.entries.items l.number l.conditions (length l.program.instructions.items) (map (λ (v : Vec ℕ Global). v.items) l.roots.items)
+invariant-loop-number l = AreRoots l.rules l.program.entries.items l.number l.conditions
+    (length l.program.instructions.items) (map (λ (v : Vec ℕ Global). v.items) l.roots.items)

@@ -7,5 +7,7 @@ abbrev pub invariant-loop-list : goal.invariant-loop-list
 invariant-loop-list l = record {
   below : l.reach.seen.below ≡ length l.program.instructions.items;
   count : length l.starts ≡ l.list-index;
-  each : (k : ℕ) → k < l.list-index → IsReachList (map step_of l.program.instructions.items) (get_or (map (λ (v : Vec ℕ Global). v.items) l.list-items) k []) (get_or l.starts k []);
+  each : (k : ℕ) → k < l.list-index
+      → IsReachList (map step_of l.program.instructions.items)
+      (get_or (map (λ (v : Vec ℕ Global). v.items) l.list-items) k []) (get_or l.starts k []);
 }

@@ -15,11 +15,14 @@ loop-block-preserved c =
     ] in
     let next : c.loop-block.block * 4 + 4 ≡ (c.loop-block.block + 1) * 4 = omega arith in
     subst (λ n. IsUnited c.args.words.now c.union_block.new.words c.args.to c.args.from n c.if-union_block.grew) next
-    (subst (λ b. IsUnited c.args.words.now c.union_block.new.words c.args.to c.args.from (c.loop-block.block * 4 + 4) b) (sym grown)
-    (united_more c.args.words.now c.loop-block.words c.union_block.new.words c.args.to c.args.from c.args.len (c.loop-block.block * 4) c.loop-block.grew c.union_block.result c.requires.apart (omega arith)
+    (subst (λ b. IsUnited c.args.words.now c.union_block.new.words c.args.to c.args.from (c.loop-block.block * 4 + 4) b)
+    (sym grown)
+    (united_more c.args.words.now c.loop-block.words c.union_block.new.words c.args.to c.args.from c.args.len
+    (c.loop-block.block * 4) c.loop-block.grew c.union_block.result c.requires.apart (omega arith)
     c.loop-block.invariant c.union_block.ensures))
 
 pub returns : goal.returns
 returns c =
     let whole : c.loop-block.block * 4 ≡ c.args.len = omega arith in
-    subst (λ n. IsUnited c.args.words.now c.loop-block.words c.args.to c.args.from n c.loop-block.grew) whole c.loop-block.invariant
+    subst (λ n. IsUnited c.args.words.now c.loop-block.words c.args.to c.args.from n c.loop-block.grew) whole
+    c.loop-block.invariant

@@ -13,7 +13,9 @@ abbrev pub decreases-repeated : goal.decreases-repeated
 decreases-repeated l = room l.part (length l.word.now) + (l.least + length l.word.now + 1)
 
 abbrev pub invariant-in_turn-loop-end : goal.invariant-in_turn-loop-end
-invariant-in_turn-loop-end l = (k : ℕ) → k < l.end → Belongs l.nodes l.first (take k l.word) → Belongs l.nodes l.second (drop k l.word) → ⊥
+invariant-in_turn-loop-end l = (k : ℕ) → k < l.end → Belongs l.nodes l.first (take k l.word)
+    → Belongs l.nodes l.second (drop k l.word) → ⊥
 
 abbrev pub invariant-repeated-loop-end : goal.invariant-repeated-loop-end
-invariant-repeated-loop-end l = (k : ℕ) → (l.least ≡ 0 → 1 ≤ k) → k < l.end → Belongs l.nodes l.part (take k l.word) → Repeated l.nodes l.part (l.least - 1) l.rest (drop k l.word) → ⊥
+invariant-repeated-loop-end l = (k : ℕ) → (l.least ≡ 0 → 1 ≤ k) → k < l.end → Belongs l.nodes l.part (take k l.word)
+    → Repeated l.nodes l.part (l.least - 1) l.rest (drop k l.word) → ⊥

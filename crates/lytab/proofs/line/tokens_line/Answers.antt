@@ -10,5 +10,6 @@ returns-clause-app c =
     let lex_is : rule_of c.help-lex.result ≡ lex_rule = search rules in
     let text_is : rule_of c.help-text.result ≡ text_rule = search rules in
     let about : app_of c.about.result ≡ app_of c.new-3.result = ap app_of_fields c.about.ensures in
-    IfOk-weaker c.arg-2.result _ _ (λ m h. h.shape (search rules) ∙ ap₂ with_rule (c.in_ok-arg.ensures.shape (search rules)
+    IfOk-weaker c.arg-2.result _ _ (λ m h. h.shape (search rules)
+    ∙ ap₂ with_rule (c.in_ok-arg.ensures.shape (search rules)
     ∙ ap₂ with_rule (about ∙ c.new-3.ensures.app) lex_is) text_is) c.arg-2.ensures

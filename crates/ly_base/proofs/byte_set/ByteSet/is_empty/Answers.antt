@@ -9,5 +9,6 @@ pub returns : goal.returns
 unfolding has
 returns c = let set = c.args.self.now in (
   λ h. bytes_none (has set) (none_from_no_bit set.words (eqb-true _ _ h)),
-  λ h. eq-eqb _ _ (no_bit_from_none set.words (omega arith) (omega arith) (omega arith) (omega arith) (none_from_empty set h)),
+  λ h. eq-eqb _ _ (no_bit_from_none set.words (omega arith) (omega arith) (omega arith) (omega arith)
+      (none_from_empty set h)),
 )

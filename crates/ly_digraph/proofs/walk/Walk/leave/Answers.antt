@@ -10,9 +10,15 @@ returns-then-frame-clause-on c =
     let w : Walk = c.args.self.now in
     let popped : Walk = record w { path = c.pop.new.self } in
     let items : w.path.items ≡ c.pop.new.self.items ++ c.in-Some.frame ∷ [] = c.in-Some.ensures.items in
-    let at : IsAtFrame c.args.graph.now c.args.sets.now.sets popped c.in-Some.frame = at_popped w c.pop.new.self.items c.in-Some.frame items c.requires.at in
-    let spent : get_or popped.cursors.items c.in-Some.frame.node 0 ≡ 0 = ap (λ f. get_or w.cursors.items f.node 0) (sym (top_is w c.pop.new.self.items c.in-Some.frame items)) ∙ c.requires.spent in
-    let closed : IsClosed c.args.sets.now c.close.new.sets popped.places.items c.close.new.self.places.items c.in-Some.frame.start (length popped.pending.items) c.in-Some.frame.node =
-    subst (λ n. IsClosed c.args.sets.now c.close.new.sets popped.places.items c.close.new.self.places.items c.in-Some.frame.start n c.in-Some.frame.node) w.pending.ok.0 c.close.ensures.closed in
+    let at : IsAtFrame c.args.graph.now c.args.sets.now.sets popped c.in-Some.frame
+    = at_popped w c.pop.new.self.items c.in-Some.frame items c.requires.at in
+    let spent : get_or popped.cursors.items c.in-Some.frame.node 0 ≡ 0
+    = ap (λ f. get_or w.cursors.items f.node 0) (sym (top_is w c.pop.new.self.items c.in-Some.frame items))
+    ∙ c.requires.spent in
+    let closed : IsClosed c.args.sets.now c.close.new.sets popped.places.items c.close.new.self.places.items
+    c.in-Some.frame.start (length popped.pending.items) c.in-Some.frame.node =
+    subst (λ n. IsClosed c.args.sets.now c.close.new.sets popped.places.items c.close.new.self.places.items
+    c.in-Some.frame.start n c.in-Some.frame.node) w.pending.ok.0 c.close.ensures.closed in
     continues_popped w popped refl refl
-    (closed_on c.args.graph.now c.args.sets.now c.close.new.sets popped c.close.new.self c.in-Some.frame at spent c.if-frame.true closed c.close.ensures.pending c.close.ensures.cursors c.close.ensures.path)
+    (closed_on c.args.graph.now c.args.sets.now c.close.new.sets popped c.close.new.self c.in-Some.frame at spent
+    c.if-frame.true closed c.close.ensures.pending c.close.ensures.cursors c.close.ensures.path)

@@ -7,4 +7,5 @@ pub returns : goal.returns
 returns c =
     let line = c.args.self.now.bytes.now in
     let front = c.args.front.now in
-    begun line front c.starts_with.result (starts_is Decides-eqb line front c.starts_with.result c.starts_with.ensures.value)
+    begun line front c.starts_with.result
+    (starts_is Decides-eqb line front c.starts_with.result c.starts_with.ensures.value)

@@ -12,8 +12,13 @@ returns-clause-these c =
     let behind = c.split_at.result.1.now in
     let n = c.line_length.result in
     elim c.match-split_first.branch [
-      | in-Some w ↦ more_lines bytes line n w.in-Some._newline.now w.in-Some.rest.now c.line_length.ensures.value c.split_at.ensures.front (sym c.split_at.ensures.back ∙ w.in-Some.ensures.cases.0) ∙ ap (λ r. line ∷ lines_of r.now) (sym w.self-is)
+      | in-Some w ↦
+          more_lines bytes line n w.in-Some._newline.now w.in-Some.rest.now c.line_length.ensures.value
+          c.split_at.ensures.front (sym c.split_at.ensures.back ∙ w.in-Some.ensures.cases.0)
+          ∙ ap (λ r. line ∷ lines_of r.now) (sym w.self-is)
       | in-None w ↦
           let nothing : behind ≡ [] = nil_from_length behind w.in-None.ensures.cases in
-          last_line bytes line n (some_byte c.is_empty.result bytes c.is_empty.ensures c.if-is_empty.false) c.line_length.ensures.value c.split_at.ensures.front (sym c.split_at.ensures.back ∙ nothing) ∙ ap (λ r. line ∷ lines_of r) (sym nothing) ∙ ap (λ r. line ∷ lines_of r.now) (sym w.self-is)
+          last_line bytes line n (some_byte c.is_empty.result bytes c.is_empty.ensures c.if-is_empty.false)
+          c.line_length.ensures.value c.split_at.ensures.front (sym c.split_at.ensures.back ∙ nothing)
+          ∙ ap (λ r. line ∷ lines_of r) (sym nothing) ∙ ap (λ r. line ∷ lines_of r.now) (sym w.self-is)
     ]

@@ -11,9 +11,12 @@ loop-preserved c =
     let so_far = AtMost P c.loop.counter in
     let both = InTurn (PartMatches c.loop.self c.args.part) (PartMatches c.loop.self c.loop.rest) in
     let now = Optional (PartMatches c.concat.new.self c.in_ok-more.more) in
-    let more = makes_trans c.args.self.now c.loop.self c.concat.new.self c.loop.rest c.in_ok-more.more (InTurn P so_far) so_far both before c.in_ok-more.ensures
-    (in_turn_same (PartMatches c.loop.self c.args.part) P (PartMatches c.loop.self c.loop.rest) so_far (part_grown c.args.self.now c.loop.self before.rest c.args.part before.grown c.requires) before.spells) in
-    makes_trans c.args.self.now c.concat.new.self c.optional.new.self c.in_ok-more.more c.in_ok-rest-2.rest (AtMost P (c.loop.counter + 1)) (InTurn P so_far) now more c.in_ok-rest-2.ensures
+    let more = makes_trans c.args.self.now c.loop.self c.concat.new.self c.loop.rest c.in_ok-more.more
+    (InTurn P so_far) so_far both before c.in_ok-more.ensures
+    (in_turn_same (PartMatches c.loop.self c.args.part) P (PartMatches c.loop.self c.loop.rest) so_far
+    (part_grown c.args.self.now c.loop.self before.rest c.args.part before.grown c.requires) before.spells) in
+    makes_trans c.args.self.now c.concat.new.self c.optional.new.self c.in_ok-more.more c.in_ok-rest-2.rest
+    (AtMost P (c.loop.counter + 1)) (InTurn P so_far) now more c.in_ok-rest-2.ensures
     (same_trans now (Optional (InTurn P so_far)) (AtMost P (c.loop.counter + 1))
     (or_same Null Null (PartMatches c.concat.new.self c.in_ok-more.more) (InTurn P so_far) (same Null) more.spells)
     (at_most_more P c.loop.counter))

@@ -7,19 +7,33 @@ use Rattle.ly_position.proofs.PlainLemmas.{kept, added, added_none, same}
 use Rattle.ly_position.proofs.plain.Plain.star.Goals as goal
 
 pub returns-in_default : goal.returns-in_default
-returns-in_default c = added_none Star c.push.result c.args.self.now c.push.new.self c.args.part empty c.push.ensures.ok c.push.ensures.number c.in_default.is star_void
+returns-in_default c = added_none Star c.push.result c.args.self.now c.push.new.self c.args.part empty c.push.ensures.ok
+    c.push.ensures.number c.in_default.is star_void
 
 pub returns-in-Empty : goal.returns-in-Empty
 returns-in-Empty c = elim c.in-Empty.is [
-  | inl e ↦ kept Star c.args.self.now c.args.part c.in-Some.a empty c.requires c.in-Some.is (ap (expression_of c.args.self.now) (sym e) ∙ c.node.ensures.is) star_null
-  | inr e ↦ kept Star c.args.self.now c.args.part c.in-Some.a (star (part_of c.args.self.now e.0)) c.requires c.in-Some.is (ap (expression_of c.args.self.now) (sym e.1) ∙ c.node.ensures.is) (star_star (PlainMatches (part_of c.args.self.now e.0)))
+  | inl e ↦ kept Star c.args.self.now c.args.part c.in-Some.a empty c.requires c.in-Some.is
+      (ap (expression_of c.args.self.now) (sym e) ∙ c.node.ensures.is) star_null
+  | inr e ↦ kept Star c.args.self.now c.args.part c.in-Some.a (star (part_of c.args.self.now e.0)) c.requires
+      c.in-Some.is (ap (expression_of c.args.self.now) (sym e.1) ∙ c.node.ensures.is)
+      (star_star (PlainMatches (part_of c.args.self.now e.0)))
 ]
 
 pub returns-in-Plus : goal.returns-in-Plus
 returns-in-Plus c = elim c.in-Plus.is [
-  | inl e ↦ added Star c.push-in-Plus.result c.args.self.now c.push-in-Plus.new.self c.args.part c.in-Some.a (plus (part_of c.args.self.now c.in-Plus.b)) (star (part_of c.args.self.now c.in-Plus.b)) c.push-in-Plus.ensures.ok c.push-in-Plus.ensures.number c.in-Some.is (ap (expression_of c.args.self.now) (sym e) ∙ c.node.ensures.is) (star_plus (PlainMatches (part_of c.args.self.now c.in-Plus.b)))
-  | inr e ↦ added Star c.push-in-Plus.result c.args.self.now c.push-in-Plus.new.self c.args.part c.in-Some.a (optional (part_of c.args.self.now c.in-Plus.b)) (star (part_of c.args.self.now c.in-Plus.b)) c.push-in-Plus.ensures.ok c.push-in-Plus.ensures.number c.in-Some.is (ap (expression_of c.args.self.now) (sym e) ∙ c.node.ensures.is) (star_optional (PlainMatches (part_of c.args.self.now c.in-Plus.b)))
+  | inl e ↦ added Star c.push-in-Plus.result c.args.self.now c.push-in-Plus.new.self c.args.part c.in-Some.a
+      (plus (part_of c.args.self.now c.in-Plus.b)) (star (part_of c.args.self.now c.in-Plus.b))
+      c.push-in-Plus.ensures.ok c.push-in-Plus.ensures.number c.in-Some.is (ap (expression_of c.args.self.now) (sym e)
+      ∙ c.node.ensures.is) (star_plus (PlainMatches (part_of c.args.self.now c.in-Plus.b)))
+  | inr e ↦ added Star c.push-in-Plus.result c.args.self.now c.push-in-Plus.new.self c.args.part c.in-Some.a
+      (optional (part_of c.args.self.now c.in-Plus.b)) (star (part_of c.args.self.now c.in-Plus.b))
+      c.push-in-Plus.ensures.ok c.push-in-Plus.ensures.number c.in-Some.is (ap (expression_of c.args.self.now) (sym e)
+      ∙ c.node.ensures.is) (star_optional (PlainMatches (part_of c.args.self.now c.in-Plus.b)))
 ]
 
 pub returns-in_default-node : goal.returns-in_default-node
-returns-in_default-node c = added Star c.push-in_default-node.result c.args.self.now c.push-in_default-node.new.self c.args.part c.in-Some.a (part_of c.args.self.now c.in-Some.a) (star (part_of c.args.self.now c.in-Some.a)) c.push-in_default-node.ensures.ok c.push-in_default-node.ensures.number c.in-Some.is refl (same (PlainMatches (star (part_of c.args.self.now c.in-Some.a))))
+returns-in_default-node c
+    = added Star c.push-in_default-node.result c.args.self.now c.push-in_default-node.new.self c.args.part c.in-Some.a
+    (part_of c.args.self.now c.in-Some.a) (star (part_of c.args.self.now c.in-Some.a)) c.push-in_default-node.ensures.ok
+    c.push-in_default-node.ensures.number c.in-Some.is refl
+    (same (PlainMatches (star (part_of c.args.self.now c.in-Some.a))))

@@ -20,5 +20,7 @@ returns c =
     let shown = ap (λ m. m.sets) c.self.view_is in
     let lt = (row_shown c.args.i c.self.invariant shown c.requires.row).0 in
     c.contains_bit.ensures
-    ∙ ap (λ s. set.contains s c.args.symbol.0) (ap (row_set (c.args.i * c.self.inside.stride) c.self.inside.stride) c.deref.ensures.value
-    ∙ sym (row-sets_of c.self.inside.stride c.self.inside.rows c.self.inside.words.items c.args.i lt) ∙ ap (λ ss. row ss c.args.i) shown)
+    ∙ ap (λ s. set.contains s c.args.symbol.0)
+    (ap (row_set (c.args.i * c.self.inside.stride) c.self.inside.stride) c.deref.ensures.value
+    ∙ sym (row-sets_of c.self.inside.stride c.self.inside.rows c.self.inside.words.items c.args.i lt)
+    ∙ ap (λ ss. row ss c.args.i) shown)

@@ -18,8 +18,10 @@ count_bits-requires-clause-inside c =
 pub count_bits-requires-clause-below : goal.count_bits-requires-clause-below
 count_bits-requires-clause-below c =
     let lt = (row_shown c.args.i c.self.invariant (ap (λ m. m.sets) c.self.view_is) c.requires).0 in
-    subst (λ s. AllBelow c.self.inside.width s) (row-sets_of c.self.inside.stride c.self.inside.rows c.self.inside.words.items c.args.i lt
-    ∙ sym (ap (row_set (c.args.i * c.self.inside.stride) c.self.inside.stride) c.deref.ensures.value)) (c.self.invariant.bounds c.args.i)
+    subst (λ s. AllBelow c.self.inside.width s)
+    (row-sets_of c.self.inside.stride c.self.inside.rows c.self.inside.words.items c.args.i lt
+    ∙ sym (ap (row_set (c.args.i * c.self.inside.stride) c.self.inside.stride) c.deref.ensures.value))
+    (c.self.invariant.bounds c.args.i)
 
 pub returns : goal.returns
 returns c =
@@ -27,4 +29,5 @@ returns c =
     let lt = (row_shown c.args.i c.self.invariant shown c.requires).0 in
     c.count_bits.ensures
     ∙ ap set.len (ap (row_set (c.args.i * c.self.inside.stride) c.self.inside.stride) c.deref.ensures.value
-    ∙ sym (row-sets_of c.self.inside.stride c.self.inside.rows c.self.inside.words.items c.args.i lt) ∙ ap (λ ss. row ss c.args.i) shown)
+    ∙ sym (row-sets_of c.self.inside.stride c.self.inside.rows c.self.inside.words.items c.args.i lt)
+    ∙ ap (λ ss. row ss c.args.i) shown)
