@@ -1,3 +1,4 @@
+pub mod Blank
 pub mod ByteSet
 pub mod Counted
 pub mod Device

@@ -101,7 +101,9 @@ const TOO_LARGE: u16 = 256;
 /// A run of digits: how many there are, and their value, or `TOO_LARGE`.
 #[derive(Clone, Copy)]
 struct Digits {
+    /// Their value, or `TOO_LARGE` if that is less.
     value: u16,
+    /// How many there are.
     count: usize,
 }
 

@@ -2,6 +2,7 @@
 //! limits, readers and writers that count their failures, and bytes as text.
 #![tactic(auto)]
 
+mod blank;
 mod byte_set;
 mod counted;
 mod cut;
@@ -16,6 +17,7 @@ mod sparse_set;
 mod text;
 mod whole;
 
+pub use blank::is_blank;
 pub use byte_set::ByteSet;
 pub use counted::Counted;
 pub use cut::Cut;
