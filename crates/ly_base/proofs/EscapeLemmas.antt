@@ -11,9 +11,11 @@ use Rattle.std.proofs.Math.Seq.{take-suc}
 use Rattle.std.proofs.Math.ListN.{take-append-drop}
 use Rattle.ly_base.specs.declared.escapes.Radix.{Radix}
 use Rattle.ly_base.specs.declared.escapes.Radix.TheVariants.{Octal, Hexadecimal}
-use Rattle.ly_base.specs.Escapes.{base_of, counts, is_octal, is_hexadecimal, digit, number_from, number, AllPass, Stops}
-use Rattle.ly_base.specs.Escapes.{meaning, Escape, octal, hexadecimal, bare_x, letter, digits, escape_of, by_octal}
-use Rattle.ly_base.specs.Escapes.{by_letter, by_hexadecimal, byte_or_none, byte_when, letter_when}
+use Rattle.ly_base.specs.Private.Escapes.{base_of, counts}
+use Rattle.ly_base.specs.Escapes.{is_octal, is_hexadecimal, digit, number_from, number, AllPass, Stops}
+use Rattle.ly_base.specs.Private.Escapes.{digits, escape_of, by_octal}
+use Rattle.ly_base.specs.Escapes.{meaning, Escape, octal, hexadecimal, bare_x, letter}
+use Rattle.ly_base.specs.Private.Escapes.{by_letter, by_hexadecimal, byte_or_none, byte_when, letter_when}
 
 pub digits_pass : (p : ℕ → Bool) (n : ℕ) (t : List ℕ) → AllPass p (digits p n t)
 digits_pass p zero t = tt

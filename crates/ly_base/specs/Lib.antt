@@ -8,5 +8,6 @@ pub mod Limits
 pub mod Literals
 pub mod MemSink
 pub mod MemSource
+pub mod Private
 pub mod SparseSet
 pub mod Text

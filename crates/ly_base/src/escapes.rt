@@ -1,6 +1,7 @@
 ghost use Rattle.std.specs.Prelude.{◌≡◌, ◌≢◌, ◌⊎◌, ℕ, ◌<◌, ◌≤◌, ◌+◌, List, drop, length, min, slice_index, IfOk, IfErr};
 ghost use Rattle.std.specs.Prelude.{IfSome, IsErrOf};
-ghost use Rattle.ly_base.specs.Escapes.{Escape, base_of, counts, digits, meaning, number, test_of};
+ghost use Rattle.ly_base.specs.Private.Escapes.{base_of, counts, digits, test_of};
+ghost use Rattle.ly_base.specs.Escapes.{Escape, meaning, number};
 
 use thiserror::Error;
 
