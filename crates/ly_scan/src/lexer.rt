@@ -1,4 +1,4 @@
-ghost use Rattle.std.specs.Prelude.{◌≡◌, ◌≤◌, length, IfErr, IfOk, OnErr, OnOk, None};
+ghost use Rattle.std.specs.Prelude.{◌≡◌, ◌<◌, ◌≤◌, length, IfErr, IfOk, OnErr, OnOk, None};
 ghost use Rattle.ly_base.specs.Lexed.{moved, start_of};
 ghost use Rattle.ly_scan.specs.Lexer.{EndsAt, IsLexemeAt, Scanner};
 
@@ -32,6 +32,7 @@ impl<'t, S: Steps + Drop> Lexer<'t, S> {
     pub fn next_lexeme(&mut self) -> Result<Lexeme, End>
         ensures lexeme { IfOk result (IsLexemeAt (record { walk = S.walk self.old.steps; cut = S.cut_of self.old.steps })
             self.old.place) }
+        ensures within { IfOk result (λ t. (0 < t.taken) × (t.taken ≤ length self.old.place.rest)) }
         ensures end { IfErr result (EndsAt (record { walk = S.walk self.old.steps; cut = S.cut_of self.old.steps })
             self.old.place) }
         ensures place { self.new.place ≡ self.old.place }
