@@ -5,9 +5,9 @@ use Rattle.ly_lexread.specs.declared.fault.LexFault.{LexFault}
 use Rattle.ly_lexread.specs.declared.fault.LexFault.TheVariants as lex
 use Rattle.ly_engine.specs.declared.fault.TokensFault.{TokensFault}
 use Rattle.ly_engine.specs.declared.fault.TokensFault.TheVariants.{Lex, Positions, Write, OutOfMemory}
-use Rattle.ly_engine.specs.Printed.{end_of}
+use Rattle.ly_engine.specs.Printing.{end_of}
 use Rattle.ly_engine.specs.TokensFault.{fault_of_lex}
-use Rattle.ly_engine.proofs.driver.tokens.Goals as goal
+use Rattle.ly_engine.proofs.write_tokens.tokens.Goals as goal
 
 -- the fault of a lex file isn't want of memory
 not_memory : (f fault : LexFault) → Lex fault ≡ fault_of_lex f → f ≡ lex.OutOfMemory → ⊥
