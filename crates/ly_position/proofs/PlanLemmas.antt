@@ -11,10 +11,10 @@ use Rattle.ly_ere.specs.Expression.{Within, MatchesUnder, NamedUpTo, Matches}
 use Rattle.ly_ere.specs.Arena.{part_of, expression_of, expressions, FitsAt, IsOrdered}
 use Rattle.ly_ere.specs.declared.node.Node.{Node}
 use Rattle.ly_ere.specs.declared.node.Node.TheVariants.{Set, Empty, Concat, Either, Star, Plus, Optional, Repeat, Name}
-use Rattle.ly_ere.specs.Winner.{InTail}
+use Rattle.ly_ere.specs.Winner.{InTail, PatternMatches}
 use Rattle.ly_ere.specs.declared.pattern.Rule.{Rule}
 use Rattle.ly_position.specs.Plain.{PartMatches, IsPart, InTurn, Same, Makes}
-use Rattle.ly_position.specs.Plan.{ListedMatches, NodeMatches, InTailUnder, Spelled, SpelledUnder}
+use Rattle.ly_position.specs.Plan.{ListedMatches, NodeMatches, InTailUnder, SpelledUnder}
 use Rattle.ly_ere.proofs.ExpressionLemmas.{expression_at}
 use Rattle.ly_position.proofs.JoinedLemmas.{in_turn_same, or_same, joined_same}
 use Rattle.ly_position.proofs.PlainLemmas.{makes_trans, part_grown, within_grown, same, same_trans}
@@ -229,7 +229,7 @@ module _ (names : List Expression) (rules : List Rule) (es es' : List Expression
     → Same (ListedMatches es ds x) (NamedUpTo names (length names) x))
     (count : length ps ≡ i) (within : All (IsPart (length es)) ps)
     (spells : (j : ℕ) (q : Rule) → j < i → slice_get rules j ≡ Some q
-    → Same (ListedMatches es ps j) (Spelled names q.pattern))
+    → Same (ListedMatches es ps j) (PatternMatches names q.pattern))
     (is : slice_get rules i ≡ Some r) (made : Makes es es' p (SpelledUnder (ListedMatches es ds) r.pattern)) where
   pub rules_names_within : All (IsPart (length es')) ds
   rules_names_within = all_grown es es' made.rest ds made.grown within_names
@@ -242,28 +242,28 @@ module _ (names : List Expression) (rules : List Rule) (es es' : List Expression
   rules_within = All-push (IsPart (length es')) ps p (all_grown es es' made.rest ps made.grown within) made.within
 
   rule_old : (j : ℕ) (q : Rule) → j < i → slice_get rules j ≡ Some q
-      → Same (ListedMatches es' (ps ++ p ∷ []) j) (Spelled names q.pattern)
-  rule_old j q l e = same_trans (ListedMatches es' (ps ++ p ∷ []) j) (ListedMatches es' ps j) (Spelled names q.pattern)
+      → Same (ListedMatches es' (ps ++ p ∷ []) j) (PatternMatches names q.pattern)
+  rule_old j q l e = same_trans (ListedMatches es' (ps ++ p ∷ []) j) (ListedMatches es' ps j) (PatternMatches names q.pattern)
       (listed_push_old es' ps p j (omega arith))
-      (same_trans (ListedMatches es' ps j) (ListedMatches es ps j) (Spelled names q.pattern)
+      (same_trans (ListedMatches es' ps j) (ListedMatches es ps j) (PatternMatches names q.pattern)
       (listed_grown es es' made.rest ps made.grown within j) (spells j q l e))
 
-  rule_new : Same (ListedMatches es' (ps ++ p ∷ []) i) (Spelled names r.pattern)
-  rule_new = same_trans (ListedMatches es' (ps ++ p ∷ []) i) (PartMatches es' p) (Spelled names r.pattern)
+  rule_new : Same (ListedMatches es' (ps ++ p ∷ []) i) (PatternMatches names r.pattern)
+  rule_new = same_trans (ListedMatches es' (ps ++ p ∷ []) i) (PartMatches es' p) (PatternMatches names r.pattern)
       (subst (λ k. Same (ListedMatches es' (ps ++ p ∷ []) k) (PartMatches es' p)) count (listed_push_new es' ps p))
       (same_trans (PartMatches es' p) (SpelledUnder (ListedMatches es ds) r.pattern)
-      (Spelled names r.pattern) made.spells
+      (PatternMatches names r.pattern) made.spells
       (in_turn_same (MatchesUnder (ListedMatches es ds) r.pattern.head) (Matches names r.pattern.head)
       (InTailUnder (ListedMatches es ds) r.pattern.tail) (InTail names r.pattern.tail)
       (matches_same (ListedMatches es ds) (NamedUpTo names (length names)) named r.pattern.head)
       (tail_same (ListedMatches es ds) names r.pattern.tail named)))
 
   pub rules_more : (j : ℕ) (q : Rule) → j < i + 1 → slice_get rules j ≡ Some q
-      → Same (ListedMatches es' (ps ++ p ∷ []) j) (Spelled names q.pattern)
+      → Same (ListedMatches es' (ps ++ p ∷ []) j) (PatternMatches names q.pattern)
   rules_more j q l e = elim (cases_lt j i) [
     | inl m ↦ rule_old j q m e
     | inr m ↦ let k : i ≡ j = omega arith in
         let one : r ≡ q = let a = is in let b : slice_get rules i ≡ Some q = ap (λ x. slice_get rules x) k ∙ e in cc in
-        subst (λ x. Same (ListedMatches es' (ps ++ p ∷ []) x) (Spelled names q.pattern)) k
-        (subst (λ (x : Rule). Same (ListedMatches es' (ps ++ p ∷ []) i) (Spelled names x.pattern)) one rule_new)
+        subst (λ x. Same (ListedMatches es' (ps ++ p ∷ []) x) (PatternMatches names q.pattern)) k
+        (subst (λ (x : Rule). Same (ListedMatches es' (ps ++ p ∷ []) i) (PatternMatches names x.pattern)) one rule_new)
   ]

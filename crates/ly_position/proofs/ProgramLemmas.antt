@@ -10,7 +10,7 @@ use Rattle.ly_ere.specs.Expression.{Expression, empty}
 use Rattle.ly_ere.specs.Arena.{part_of}
 use Rattle.ly_position.specs.Plain.{PartMatches, IsPart, PlainMatches}
 use Rattle.ly_position.specs.Program.{Step, reads, fork, ends, at_end, size, entry, code, IsPlain}
-use Rattle.ly_position.specs.Reach.{LeadsBelow, IsClosed}
+use Rattle.ly_position.specs.Reach.{LeadsBelow, StaysInside}
 use Rattle.ly_position.specs.Compile.{EntryRuns, IsProgram}
 use Rattle.ly_position.proofs.CodeLaws.{HasCode, CanRun, at_stop, sound, complete, entry_below}
 use Rattle.ly_position.proofs.CodePlaces.{IsMove, get-append, get-at_length, HasCode-append, Runs-append, HasCode-of}
@@ -25,7 +25,7 @@ RuleStands g es (Some a) e k = (base : ℕ) × (slice_get g base ≡ Some (ends 
 -- the program of the first n rules
 pub record Compiled (es : List Expression) (parts : List (Option ℕ)) (g : List Step) (entries : List (Option ℕ))
     (n : ℕ) : Type 0 where
-  pub closed : IsClosed g
+  pub closed : StaysInside g
   pub within : All (IsPart (length g)) entries
   pub count : length entries ≡ n
   pub standing : (k : ℕ) → k < n → RuleStands g es (get_or parts k None) (get_or entries k None) k

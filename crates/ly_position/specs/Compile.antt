@@ -6,7 +6,7 @@ use Rattle.ly_ere.specs.Arena.{part_of}
 use Rattle.ly_position.specs.Plain.{IsPart}
 use Rattle.ly_position.specs.Plan.{ListedMatches}
 use Rattle.ly_position.specs.Program.{Step, ends, fork, Runs, size, code}
-use Rattle.ly_position.specs.Reach.{IsClosed}
+use Rattle.ly_position.specs.Reach.{StaysInside}
 use Rattle.ly_position.specs.declared.program.Task.{Task}
 use Rattle.ly_position.specs.declared.program.Task.TheVariants as task
 
@@ -54,7 +54,7 @@ EntryRuns program i (Some p) w = (n : ℕ) × Runs program i n p w
 -- part; and from each step it comes to an end.
 pub record IsProgram (es : List Expression) (parts : List (Option ℕ)) (program : List Step)
     (entries : List (Option ℕ)) : Type 0 where
-  pub closed : IsClosed program
+  pub closed : StaysInside program
   pub within : All (IsPart (length program)) entries
   pub count : length entries ≡ length parts
   pub spells : (i j : ℕ) (w : List ℕ) → EntryRuns program j (slice_index_or entries i None) w

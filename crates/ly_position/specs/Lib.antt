@@ -1,7 +1,7 @@
 pub mod Assembled
 pub mod Compile
-pub mod FaultNumber
-pub mod Follow
+pub mod FaultNames
+pub mod Link
 pub mod Lists
 pub mod Nfa
 pub mod Patterns
@@ -11,4 +11,5 @@ pub mod Position
 pub mod Program
 pub mod Reach
 pub mod Starts
+pub mod Target
 pub mod TotalWeight

@@ -2,8 +2,8 @@
 use Rattle.std.specs.Prelude.{◌≡◌, ℕ, ◌≤◌, List, [], ◌∷◌, length, slice_get, slice_index_or, All, Contains, Option}
 use Rattle.std.specs.Prelude.{Some, None, ◌⊎◌}
 use Rattle.ly_base.specs.ByteSet.{members}
-use Rattle.ly_ere.specs.Expression.{Expression, Joined, Within, Matches, MatchesUnder}
-use Rattle.ly_ere.specs.Winner.{InTail}
+use Rattle.ly_ere.specs.Expression.{Expression, Joined, Within, MatchesUnder}
+use Rattle.ly_ere.specs.Winner.{PatternMatches}
 use Rattle.ly_ere.specs.declared.node.Node.{Node}
 use Rattle.ly_ere.specs.declared.node.Node.TheVariants.{Set, Empty, Concat, Either, Star, Plus, Optional, Repeat, Name}
 use Rattle.ly_ere.specs.declared.pattern.Pattern.{Pattern}
@@ -26,15 +26,12 @@ NodeMatches N P (Optional a) w = (w ≡ []) ⊎ P a w
 NodeMatches N P (Repeat m n a) w = (k : ℕ) × (m ≤ k) × Within k n × Joined (P a) k w
 NodeMatches N P (Name x) w = N x w
 
--- w is a string of the pattern's head and then one of its tail
-abbrev pub Spelled : List Expression → Pattern → List ℕ → Type 0
-Spelled names p w = InTurn (Matches names p.head) (InTail names p.tail) w
-
--- the same, where N says which strings belong to a name
+-- w belongs to a pattern's tail, where N says which strings belong to a name
 abbrev pub InTailUnder : (ℕ → List ℕ → Type 0) → Option Expression → List ℕ → Type 0
 InTailUnder N None w = w ≡ []
 InTailUnder N (Some t) w = MatchesUnder N t w
 
+-- w is a string of the pattern's head and then one of its tail
 abbrev pub SpelledUnder : (ℕ → List ℕ → Type 0) → Pattern → List ℕ → Type 0
 SpelledUnder N p w = InTurn (MatchesUnder N p.head) (InTailUnder N p.tail) w
 
@@ -44,4 +41,4 @@ pub record IsPlan (names : List Expression) (rules : List Rule) (es : List Expre
   pub count : length parts ≡ length rules
   pub within : All (IsPart (length es)) parts
   pub spells : (i : ℕ) (r : Rule) → slice_get rules i ≡ Some r
-      → Same (ListedMatches es parts i) (Spelled names r.pattern)
+      → Same (ListedMatches es parts i) (PatternMatches names r.pattern)

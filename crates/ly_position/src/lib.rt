@@ -3,16 +3,17 @@
 
 mod build;
 mod fault;
-mod follow;
+mod link;
 mod lists;
 mod nfa;
 mod plain;
 mod plan;
 mod program;
-mod reach;
+mod set;
 mod starts;
 mod weight;
 
 pub use build::positions;
 pub use fault::PosFault;
 pub use nfa::{PosNfa, Position};
+pub use set::PositionSet;

@@ -3,7 +3,8 @@ use Rattle.std.specs.Prelude.{All, slice_get}
 use Rattle.ly_ere.specs.Expression.{NamedUpTo}
 use Rattle.ly_ere.specs.declared.pattern.Rule.{Rule}
 use Rattle.ly_position.specs.Plain.{IsPart, Same}
-use Rattle.ly_position.specs.Plan.{ListedMatches, Spelled}
+use Rattle.ly_ere.specs.Winner.{PatternMatches}
+use Rattle.ly_position.specs.Plan.{ListedMatches}
 use Rattle.ly_position.proofs.plan.write_out.Given as goal
 
 -- the parts so far have the strings of the first rules
@@ -14,5 +15,5 @@ invariant-loop-rule l = record {
   count : length l.parts.items ≡ l.rule-index;
   within : All (IsPart (length l.plain)) l.parts.items;
   spells : (j : ℕ) (q : Rule) → j < l.rule-index → slice_get l.rules j ≡ Some q
-      → Same (ListedMatches l.plain l.parts.items j) (Spelled l.names q.pattern);
+      → Same (ListedMatches l.plain l.parts.items j) (PatternMatches l.names q.pattern);
 }
