@@ -8,6 +8,7 @@ pub mod Limits
 pub mod Literals
 pub mod MemSink
 pub mod MemSource
+pub mod Place
 pub mod Private
 pub mod SparseSet
 pub mod Text

@@ -2,8 +2,10 @@
 //! its rule's cut.
 #![tactic(auto)]
 
+mod lexer;
 mod matching;
 mod steps;
 
+pub use lexer::Lexer;
 pub use matching::{Match, next_match};
 pub use steps::Steps;

@@ -36,8 +36,8 @@ by_octal [] t = by_letter t
 by_octal (d ∷ ds) t = byte_or_none (number 8 (d ∷ ds)) (drop (length (d ∷ ds)) t)
 
 -- the byte that stands behind a backslash, and the rest, as a reader finds it
-abbrev pub escape_of : List ℕ → Option (ℕ × List ℕ)
-escape_of t = by_octal (digits is_octal 3 t) t
+abbrev pub found_escape : List ℕ → Option (ℕ × List ℕ)
+found_escape t = by_octal (digits is_octal 3 t) t
 
 -- which bytes are digits
 abbrev pub test_of : Radix → ℕ → Bool
