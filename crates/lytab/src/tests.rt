@@ -1,6 +1,6 @@
 //! Statuses and lines of the program, over devices that fail.
 
-use crate::program::perform;
+use crate::perform::perform;
 use std::io::{ErrorKind, Read, Write};
 use std::test::Fail;
 use std::{fs, io};

@@ -2,8 +2,8 @@ use Rattle.std.proofs.Common.{◌≡◌, ◌∙◌, ap, ap₂, rules}
 use Rattle.std.proofs.lemmas.Result.{IfOk-weaker}
 use Rattle.clap.specs.Simple.{app_of_fields}
 use Rattle.clap.specs.Words.{app_of, rule_of, with_rule}
-use Rattle.lytab.specs.Line.{lex_rule, text_rule}
-use Rattle.lytab.proofs.line.tokens_line.Goals as goal
+use Rattle.lytab.specs.CommandLine.{lex_rule, text_rule}
+use Rattle.lytab.proofs.command_line.tokens_line.Goals as goal
 
 pub returns-clause-app : goal.returns-clause-app
 returns-clause-app c =

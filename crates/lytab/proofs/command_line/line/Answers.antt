@@ -2,7 +2,7 @@ use Rattle.std.proofs.Common.{◌≡◌, ◌∙◌, ap, ap₂, rules, true}
 use Rattle.std.proofs.lemmas.Result.{IfOk-weaker}
 use Rattle.clap.specs.Simple.{app_of_fields}
 use Rattle.clap.specs.Words.{App, app_of, with_subcommand}
-use Rattle.lytab.proofs.line.line.Goals as goal
+use Rattle.lytab.proofs.command_line.line.Goals as goal
 
 pub returns : goal.returns
 returns c =

@@ -1,11 +1,13 @@
 ghost use Rattle.std.specs.Prelude.{◌≡◌, IfErr, IfOk, IsSome, OnOk, Some, [], map, option_and_then, option_map};
-ghost use Rattle.std.specs.Prelude.{string_bytes, false, true};
-ghost use Rattle.clap.specs.Words.{app_of, kind_of, subcommand_rows_of};
+ghost use Rattle.std.specs.Prelude.{MatchResult, Option, string_bytes, false, true};
+ghost use Rattle.clap.specs.Words.{Text, app_of, kind_of, subcommand_rows_of};
 ghost use Rattle.clap.specs.declared.builder.command.Command.TheViews.{out-Command};
-ghost use Rattle.lytab.specs.Line.{line_app, line_faults, line_takes, subcommand_in, tokens_app, tokens_by, tokens_of};
-ghost use Rattle.lytab.specs.Said.{said};
+ghost use Rattle.lytab.specs.CommandLine.{line_app, line_faults, line_takes, subcommand_in, tokens_app, tokens_by};
+ghost use Rattle.lytab.specs.CommandLine.{tokens_of};
+ghost use Rattle.lytab.specs.Command.{said};
+ghost use Rattle.lytab.specs.Paths.{AskForTokens};
 
-use crate::asked::{Command, CommandFault};
+use crate::command::{Command, CommandFault};
 use clap::error::ErrorKind;
 use clap::{Arg, ArgMatches};
 use std::alloc::{AllocError, Global};
@@ -19,6 +21,8 @@ pub fn command<'a>(alloc: Global, words: &'a [String]) -> Result<Command<'a>, Co
     ensures faultless { OnOk result (line_faults (map string_bytes words.entry.now) ≡ []) }
     ensures refused { IfErr result (λ e. line_takes (map string_bytes words.entry.now) ≡ true
         → IsSome (tokens_of (map string_bytes words.entry.now)) → e ≡ CommandFault.OutOfMemory) }
+    ensures taken { (lex : Text) → (text : Option Text) → AskForTokens (map string_bytes words.entry.now) lex text
+        → MatchResult result (λ c. said c ≡ (lex, text)) (λ e. e ≡ CommandFault.OutOfMemory) }
 {
     let matches = matched(alloc, words)?;
     match tokens_in(&matches) {

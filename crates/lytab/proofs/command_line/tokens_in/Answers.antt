@@ -1,7 +1,7 @@
 use Rattle.std.proofs.Common.{◌∙◌}
 use Rattle.clap.specs.Words.{found_of}
-use Rattle.lytab.proofs.LineLemmas.{name_part, said_none, said_tokens}
-use Rattle.lytab.proofs.line.tokens_in.Goals as goal
+use Rattle.lytab.proofs.CommandLineLemmas.{name_part, said_none, said_tokens}
+use Rattle.lytab.proofs.command_line.tokens_in.Goals as goal
 
 pub returns-in_err-lex : goal.returns-in_err-lex
 returns-in_err-lex c

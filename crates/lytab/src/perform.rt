@@ -1,8 +1,8 @@
 ghost use Rattle.std.specs.Prelude.{◌≡◌, ◌≤◌, IsSome, map, string_bytes, true};
-ghost use Rattle.lytab.specs.Line.{line_takes, tokens_of};
+ghost use Rattle.lytab.specs.CommandLine.{line_takes, tokens_of};
 
-use crate::asked::{Command, CommandFault};
-use crate::line::command;
+use crate::command::{Command, CommandFault};
+use crate::command_line::command;
 use ly_base::{Counted, ReadFault, read_whole};
 use ly_engine::{TokenEnd, TokensFault, tokens};
 use std::alloc::Global;

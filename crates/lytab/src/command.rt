@@ -1,4 +1,4 @@
-ghost use Rattle.lytab.specs.declared.asked.CommandFault.TheVariants.{OutOfMemory};
+ghost use Rattle.lytab.specs.declared.command.CommandFault.TheVariants.{OutOfMemory};
 ghost use Rattle.std.specs.Prelude.{◌≡◌};
 
 use std::alloc::AllocError;

@@ -8,7 +8,7 @@ use Rattle.clap.proofs.WalkLemmas.{first_value-rows}
 use Rattle.clap.specs.declared.parser.matches.Found.{Found}
 use Rattle.clap.specs.declared.parser.matches.ArgMatches.{ArgMatches}
 use Rattle.clap.proofs.OnLiterals.{clap_on_literals}
-use Rattle.lytab.specs.Line.{line_app, line_faults, line_takes, subcommand_in, tokens_by}
+use Rattle.lytab.specs.CommandLine.{line_app, line_faults, line_takes, subcommand_in, tokens_by}
 
 -- the line is one of which the words give the matches
 pub line_is_simple : (a : App) → a ≡ line_app → is_simple a ≡ true
