@@ -39,6 +39,9 @@ enum Failure<'a> {
 /// Does what the words ask for, and answers the exit status: 0 for clean tokens or a help text, 1 where no
 /// rule matches, 2 where the lex file is refused, 3 where a device fails or memory runs out, 4 where the
 /// words are wrong. The answer goes to `output`, and a line that says what failed to `faults`.
+///
+/// Tests alone show which status below 4 comes, what is written, and that the engine gets the bytes of the files
+/// that the words name.
 pub fn perform<F: Files, I: Read, O: Write, E: Write>(
     files: &F,
     alloc: Global,
