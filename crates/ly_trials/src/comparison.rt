@@ -1,4 +1,5 @@
-//! `tokens` beside the definitions: patterns over all short strings of three bytes.
+//! `tokens` beside the definitions: patterns over all short strings of three bytes. cases/short-strings has more
+//! patterns, beside a program written apart.
 
 use crate::answers::answer;
 use crate::belongs::belongs_to;
@@ -9,66 +10,18 @@ use std::alloc::{AllocError, Global};
 use std::test::Fail;
 
 /// The patterns of a lex file's rules. The first rule returns `A`, and the second `B`.
-const FILES: [&[&str]; 60] = [
-    &["a"],
-    &["ab"],
-    &["a|b"],
-    &["a*"],
-    &["a+"],
-    &["a?"],
-    &["(((a)))"],
-    &["(ab)*"],
-    &["(a|b)*c"],
-    &["a*b*"],
-    &["a+b?c*"],
-    &["(a*)*"],
-    &["(a+)*"],
-    &["(a?)*"],
-    &["(a*)+"],
-    &["(a+)+"],
-    &["(a?)+"],
-    &["(a*)?"],
-    &["(a+)?"],
-    &["(a?)?"],
-    &["a*|b"],
+const FILES: [&[&str]; 12] = [
     &["(ab|a)(bc|c)"],
-    &["(a|ab)(c|bca)*"],
-    &["(a|b)*abb"],
     &["((a|bc)+|b?c)*"],
     &["(a(b(c)?)?)?"],
     &["(a*b)+c?"],
-    &["a+?b"],
-    &["[ab]"],
-    &["[^a]"],
-    &["[a-b]c"],
     &["[^b-c]*"],
-    &["[[:lower:]]"],
-    &["."],
-    &[".b"],
     &[".*c"],
-    &["\"ab\""],
-    &["\"a\"*"],
-    &["a\"bc\"?"],
-    &["\"a|b\""],
-    &["\"\""],
-    &["\"\"|a"],
-    &["(\"\"|a)b"],
     &["(\"\"|a)*b"],
-    &["a(\"\"|b)c"],
-    &["a\\*"],
-    &["\\141\\x62?"],
-    &["[\\141-\\142]+"],
+    &["a\"bc\"?"],
     &["a", "a"],
     &["ab", "a*b"],
-    &["a*b", "ab"],
-    &["a|b", "[a-c]"],
     &["a+", "(a|b)+"],
-    &["(a|b)+", "a+"],
-    &["a", ".*c"],
-    &["abc", "a|b"],
-    &["c*", "a*c"],
-    &["(ab)*", "a|b"],
-    &["..", "a.."],
     &["b?", "a?c?"],
 ];
 

@@ -20,10 +20,6 @@ mod graphs;
 #[cfg(test)]
 mod memory;
 #[cfg(test)]
-mod refusals;
-#[cfg(test)]
-mod script;
-#[cfg(test)]
 mod sets;
 #[cfg(test)]
 mod walks;

@@ -1,6 +1,6 @@
 //! Sets by lanes against plain ones, at widths round the ends of words and blocks.
 
-use ly_base::Sym;
+use ly_base::{SparseSet, Sym};
 use ly_sets::{SetMatrix, TermSet};
 use std::alloc::{AllocError, Global};
 use std::test::Fail;
@@ -75,7 +75,7 @@ pub(crate) fn holds(sets: &SetMatrix, row: usize, number: usize) -> Result<bool,
 }
 
 /// Whether a row is the plain one.
-fn same_row(sets: &SetMatrix, row: usize, plain: &Plain) -> Result<bool, Fail> {
+pub(crate) fn same_row(sets: &SetMatrix, row: usize, plain: &Plain) -> Result<bool, Fail> {
     for number in 0..plain.width {
         if holds(sets, row, number)? != plain.contains(row, number) {
             return Ok(false);
@@ -109,6 +109,19 @@ fn sets_of_each_width(rt: HostRuntime) -> Result<(), Fail> {
         }
         assert_eq!(rt; set.count(), plain.count(0), "width {width}");
     }
+    Ok(())
+}
+
+#[test]
+fn a_sparse_set_of_seventy_thousand(rt: HostRuntime) -> Result<(), Fail> {
+    let mut set = SparseSet::new(rt.alloc(), 70_000)?;
+    for number in 0..70_000u32 {
+        assert!(rt; set.insert(number), "{number}");
+    }
+    let members = set.members();
+    assert_eq!(rt; members.len(), 70_000);
+    assert_eq!(rt; members.first(), Some(&0));
+    assert_eq!(rt; members.last(), Some(&69_999));
     Ok(())
 }
 
