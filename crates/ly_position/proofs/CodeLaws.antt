@@ -4,8 +4,9 @@ use Rattle.std.proofs.Common.{subst, ◌∙◌, arith, Some, append_assoc, add-z
 use Rattle.std.specs.Prelude.{slice_get, Contains}
 use Rattle.ly_ere.specs.Expression.{Expression, set, empty, concat, either, star, plus, optional, repeat, name}
 use Rattle.ly_ere.specs.Expression.{MatchesUnder, Joined}
-use Rattle.ly_position.specs.Program.{Step, reads, fork, ends, Runs, at_end, by_read, by_first, by_second, size, entry}
-use Rattle.ly_position.specs.Program.{IsPlain}
+use Rattle.ly_position.specs.Private.Program.{Step, reads, fork, ends, Runs, at_end, by_read, by_first, by_second, size}
+use Rattle.ly_position.specs.Private.Program.{entry}
+use Rattle.ly_position.specs.Private.Program.{IsPlain}
 
 -- the program has the code of the expression at base
 abbrev pub HasCode : List Step → Expression → ℕ → ℕ → Type 0

@@ -1,10 +1,10 @@
 -- The positions and the forks of a program, each numbered in the order of the program.
-use Rattle.std.specs.Prelude.{◌≡◌, ◌≢◌, ◌↔◌, ℕ, ◌<◌, List, ◌∷◌, [], length, take, filter, slice_get, AllPairs, Bool}
-use Rattle.std.specs.Prelude.{true, false, Contains, Option, Some, None}
+use Rattle.std.specs.Prelude.{◌≡◌, ◌≢◌, ◌↔◌, ℕ, ◌<◌, List, length, take, filter, slice_get, AllPairs, Bool}
+use Rattle.std.specs.Prelude.{true, false, Contains, Option, Some}
 use Rattle.std.specs.List.{AllZip}
 use Rattle.ly_base.specs.ByteSet.{members}
-use Rattle.ly_position.specs.Program.{Step, reads, fork, ends}
-use Rattle.ly_position.specs.Reach.{Reached}
+use Rattle.ly_position.specs.Private.Program.{Step, reads, fork, ends}
+use Rattle.ly_position.specs.Private.Reach.{Reached}
 use Rattle.ly_position.specs.declared.nfa.Fork.{Fork}
 use Rattle.ly_position.specs.declared.nfa.Slot.{Slot}
 use Rattle.ly_position.specs.declared.nfa.Slot.TheVariants as slot
@@ -54,7 +54,7 @@ IsForkOf g (fork a b) f = (f.first ≡ target_of g a) × (f.second ≡ target_of
 IsForkOf g (ends i) f = ⊥
 
 -- the program by what its steps are, its positions and its forks
-pub record IsLinked (g : List Step) (targets : List Target) (slots : List Slot) (forks : List Fork) : Type 0 where
+pub record IsLinkOf (g : List Step) (targets : List Target) (slots : List Slot) (forks : List Fork) : Type 0 where
   pub targets_are : AreTargets g targets
   pub slots_are : AllZip (IsSlotOf g) (filter is_position g) slots
   pub forks_are : AllZip (IsForkOf g) (filter is_fork g) forks

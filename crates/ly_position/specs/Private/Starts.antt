@@ -5,8 +5,8 @@ use Rattle.std.specs.declared.alloc.Global.{Global}
 use Rattle.std.specs.declared.vec.Vec.{Vec}
 use Rattle.ly_ere.specs.declared.pattern.Rule.{Rule}
 use Rattle.ly_ere.specs.Winner.{IsActive}
-use Rattle.ly_position.specs.Program.{Step}
-use Rattle.ly_position.specs.Link.{IsReachList}
+use Rattle.ly_position.specs.Private.Program.{Step}
+use Rattle.ly_position.specs.Private.Link.{IsReachList}
 
 -- lists in memory as lists
 abbrev pub rows_of : List (Vec ℕ Global) → List (List ℕ)
