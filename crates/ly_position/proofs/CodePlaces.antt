@@ -7,7 +7,7 @@ use Rattle.ly_base.proofs.MemberLemmas.{Contains-first}
 use Rattle.ly_ere.specs.Expression.{Expression, set, empty, concat, either, star, plus, optional, repeat, name}
 use Rattle.ly_position.specs.Private.Program.{Step, reads, fork, ends, Runs, at_end, by_read, by_first, by_second, size}
 use Rattle.ly_position.specs.Private.Program.{entry}
-use Rattle.ly_position.specs.Private.Program.{code, IsPlain}
+use Rattle.ly_position.specs.Private.Program.{code, IsPlainExpression}
 use Rattle.ly_position.specs.Private.Reach.{LeadsBelow}
 use Rattle.ly_position.proofs.CodeLaws.{HasCode, CanRun, entry_below, first_side, second_side}
 
@@ -285,7 +285,7 @@ module _ (g : List Step) (i : ℕ) where
   from_entry base (suc n) next f = f (base + n) (omega arith) (omega arith)
 
   -- each step of code leads to what comes after the code
-  pub leads : (e : Expression) (base next p : ℕ) → IsPlain e → HasCode g e base next → base ≤ p → p < base + size e
+  pub leads : (e : Expression) (base next p : ℕ) → IsPlainExpression e → HasCode g e base next → base ≤ p → p < base + size e
       → StepsTo p next
   leads (set bytes) base next p plain h l m =
       let same : p ≡ base = omega arith in

@@ -9,7 +9,7 @@ use Rattle.std.proofs.lemmas.Option.{get_or_from_slice_get, slice_get-get_or, sl
 use Rattle.ly_ere.specs.Expression.{Expression, empty}
 use Rattle.ly_ere.specs.Arena.{part_of}
 use Rattle.ly_position.specs.Private.Plain.{PartMatches, IsPlainPart, PlainMatches}
-use Rattle.ly_position.specs.Private.Program.{Step, reads, fork, ends, at_end, size, entry, code, IsPlain}
+use Rattle.ly_position.specs.Private.Program.{Step, reads, fork, ends, at_end, size, entry, code, IsPlainExpression}
 use Rattle.ly_position.specs.Private.Reach.{LeadsBelow, StaysInside}
 use Rattle.ly_position.specs.Private.Compile.{EntryRuns, IsProgram}
 use Rattle.ly_position.proofs.CodeLaws.{HasCode, CanRun, at_stop, sound, complete, entry_below}
@@ -83,7 +83,7 @@ get_front xs ys p x l e = slice_get-get_or xs p x l ∙ ap (λ y. Some y) (sym (
 
 -- one more rule
 module _ (es : List Expression) (parts : List (Option ℕ)) (g : List Step) (entries : List (Option ℕ)) (n a : ℕ)
-    (h : Compiled es parts g entries n) (is : get_or parts n None ≡ Some a) (plain : IsPlain (part_of es a)) where
+    (h : Compiled es parts g entries n) (is : get_or parts n None ≡ Some a) (plain : IsPlainExpression (part_of es a)) where
   abbrev more : List Step
   more = ends n ∷ code (part_of es a) (length g + 1) (length g)
 
@@ -158,7 +158,7 @@ module _ (es : List Expression) (parts : List (Option ℕ)) (g : List Step) (ent
 
 -- what runs from an entry is what the part has
 module _ (es : List Expression) (g : List Step) (j : ℕ) where
-  rule_runs : (part e : Option ℕ) (k : ℕ) (w : List ℕ) → ((a : ℕ) → part ≡ Some a → IsPlain (part_of es a))
+  rule_runs : (part e : Option ℕ) (k : ℕ) (w : List ℕ) → ((a : ℕ) → part ≡ Some a → IsPlainExpression (part_of es a))
       → RuleStands g es part e k → EntryRuns g j e w ↔ ((j ≡ k) × PartMatches es part w)
   rule_runs None e k w plain h = rw h (λ r. absurd r, λ r. r.1)
   rule_runs (Some a) e k w plain h = rw h.3 (there, back)
@@ -184,7 +184,7 @@ module _ (es : List Expression) (g : List Step) (j : ℕ) where
 
 -- past the last rule
 pub compiled_all : (es : List Expression) (parts : List (Option ℕ)) (g : List Step) (entries : List (Option ℕ)) (n : ℕ)
-    → Compiled es parts g entries n → n ≡ length parts → All IsPlain es → All (IsPlainPart (length es)) parts
+    → Compiled es parts g entries n → n ≡ length parts → All IsPlainExpression es → All (IsPlainPart (length es)) parts
     → IsProgram es parts g entries
 compiled_all es parts g entries n h all plain within = record {
   closed = h.closed;
@@ -203,7 +203,7 @@ compiled_all es parts g entries n h all plain within = record {
 
 -- one more rule, as it was appended
 pub compiled_step : (es : List Expression) (parts : List (Option ℕ)) (g g' : List Step) (entries fs : List (Option ℕ))
-    (n a base e : ℕ) → Compiled es parts g entries n → get_or parts n None ≡ Some a → IsPlain (part_of es a)
+    (n a base e : ℕ) → Compiled es parts g entries n → get_or parts n None ≡ Some a → IsPlainExpression (part_of es a)
     → base ≡ length g → e ≡ entry (base + 1) (size (part_of es a)) base
     → g' ≡ g ++ ends n ∷ code (part_of es a) (base + 1) base → fs ≡ entries ++ Some e ∷ []
     → Compiled es parts g' fs (n + 1)

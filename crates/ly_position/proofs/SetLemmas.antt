@@ -131,10 +131,10 @@ module _ (forks : List Fork) (old now mid new : PositionSet) (done k : ℕ) (f :
   queue_more =
       let a = queue_after now f.first in
       let b = queue_after mid f.second in
-      let same : mid.forks.members ≡ now.forks.members ++ a.0 = ap (λ (s : PositionSet). s.forks.members) first ∙ a.1 in (
+      let queue : PositionSet → List ℕ = λ s. s.forks.members in
+      let same : mid.forks.members ≡ now.forks.members ++ a.0 = ap queue first ∙ a.1 in (
         a.0 ++ b.0,
-        ap (λ (s : PositionSet). s.forks.members) second ∙ b.1 ∙ ap (λ ms. ms ++ b.0) same
-            ∙ append_assoc now.forks.members a.0 b.0,
+        ap queue second ∙ b.1 ∙ ap (λ ms. ms ++ b.0) same ∙ append_assoc now.forks.members a.0 b.0,
       )
 
   taken : take (done + 1) new.forks.members ≡ take done now.forks.members ++ k ∷ []

@@ -11,8 +11,8 @@ use Rattle.ly_base.proofs.ByteSetLemmas.{members_contain}
 use Rattle.ly_base.proofs.MemberLemmas.{Contains-none}
 use Rattle.ly_position.specs.Nfa.{Nfa, Stepped, bytes_of, follow_of, position_of, reading}
 use Rattle.ly_position.specs.Position.{nfa_of, position_in}
-use Rattle.ly_position.specs.Private.Targets.{GoesOn, IsSide, StepsTo, ForksTo, here, next_target, onward}
-use Rattle.ly_position.specs.Target.{AreWithin, TargetWithin}
+use Rattle.ly_position.specs.Private.Targets.{GoesOn, IsSide, StepsTo, ForksTo, here, target_after, onward}
+use Rattle.ly_position.specs.Target.{GoOnWithin, TargetWithin}
 use Rattle.ly_position.specs.declared.nfa.Fork.{Fork}
 use Rattle.ly_position.specs.declared.nfa.Slot.{Slot}
 use Rattle.ly_position.specs.declared.nfa.Slot.TheVariants as slot
@@ -21,10 +21,10 @@ use Rattle.ly_position.specs.declared.nfa.Target.TheVariants as target
 use Rattle.ly_position.proofs.ReachLemmas.{reached_from-members}
 
 module _ (slots : List Slot) (byte p : ℕ) (d : Slot) (o : Option Target) (less : p < length slots)
-    (is : o ≡ next_target byte (get_or slots p d)) where
-  same_next : (s : Slot) → slice_get slots p ≡ Some s → next_target byte s ≡ o
+    (is : o ≡ target_after byte (get_or slots p d)) where
+  same_next : (s : Slot) → slice_get slots p ≡ Some s → target_after byte s ≡ o
   same_next s e = let at = slice_get-get_or slots p d less in let same : s ≡ get_or slots p d = cc in
-      ap (next_target byte) same ∙ sym is
+      ap (target_after byte) same ∙ sym is
 
   pub goes_on : (t : Target) → o ≡ Some t → GoesOn slots byte p t
   goes_on t e = (get_or slots p d, slice_get-get_or slots p d less, sym is ∙ e)
@@ -60,14 +60,14 @@ module _ (slots : List Slot) (forks : List Fork) (starts : List (List ℕ)) wher
   position_past p l = get_or_past nfa.positions p (reading [] [])
       (omega (arith, length-map slots (position_in (length slots) forks)))
 
-  module _ (within : AreWithin slots forks) (ps : List ℕ) (byte : ℕ) (low : byte < 256) (q : ℕ) where
+  module _ (within : GoOnWithin slots forks) (ps : List ℕ) (byte : ℕ) (low : byte < 256) (q : ℕ) where
     fork_within : (k : ℕ) (f : Fork) → slice_get forks k ≡ Some f
         → TargetWithin (length slots) (length forks) f.first × TargetWithin (length slots) (length forks) f.second
     fork_within k f e =
         let same = get_or_from_slice_get forks k f f e in
         rw same at (within.forks_within k f (slice_get_within forks k f e))
 
-    there_at : (p : ℕ) (s : Slot) (t : Target) → slice_get slots p ≡ Some s → next_target byte s ≡ Some t
+    there_at : (p : ℕ) (s : Slot) (t : Target) → slice_get slots p ≡ Some s → target_after byte s ≡ Some t
         → ForksTo forks t (target.Position q) → Contains (bytes_of (position_in (length slots) forks s)) byte
         × Contains (follow_of (position_in (length slots) forks s)) q
     there_at p (slot.Ends r) t e n x = cc
@@ -112,6 +112,6 @@ module _ (slots : List Slot) (forks : List Fork) (starts : List (List ℕ)) wher
       | inr h ↦ Contains-none byte (subst (λ z. Contains (bytes_of z) byte) (position_past p h.0) r)
     ]
 
-  pub stepped : AreWithin slots forks → (ps : List ℕ) (byte : ℕ) → byte < 256 → (q : ℕ)
+  pub stepped : GoOnWithin slots forks → (ps : List ℕ) (byte : ℕ) → byte < 256 → (q : ℕ)
       → StepsTo slots forks ps byte q ↔ Stepped nfa ps byte q
   stepped within ps byte low q = (there within ps byte low q, back within ps byte low q)

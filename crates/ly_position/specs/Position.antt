@@ -18,6 +18,7 @@ abbrev pub position_from : Position → List ℕ → nfa.Position
 position_from (Reads bytes) follow = nfa.reading (members bytes) follow
 position_from (Ends rule) follow = nfa.ending rule.0
 
+-- the targets are one
 abbrev pub same_target : Target → Target → Bool
 same_target (target.Position p) (target.Position q) = nat_eq p q
 same_target (target.Position p) (target.Fork k) = false
@@ -29,9 +30,8 @@ abbrev pub either_side : (Target → Bool) → Option Fork → Bool
 either_side test None = false
 either_side test (Some f) = test f.first || test f.second
 
--- A run comes from one target to another by the first k forks alone: by the first k - 1, or by these to the last, and
--- on
--- from a side of it (Warshall 1962).
+-- A run comes from one target to another by the first k forks alone: by the first k - 1, or by these to the last one,
+-- and on from a side of it (Warshall 1962).
 abbrev pub forks_to : List Fork → ℕ → Target → Target → Bool
 forks_to forks zero from to = same_target from to
 forks_to forks (suc k) from to = forks_to forks k from to

@@ -21,11 +21,11 @@ SlotWithin n m (slot.Reads bytes next) = TargetWithin n m next
 SlotWithin n m (slot.Ends rule) = Unit {0}
 
 -- all positions and forks go on at positions and forks that there are
-pub record AreWithin (slots : List Slot) (forks : List Fork) : Type 0 where
+pub record GoOnWithin (slots : List Slot) (forks : List Fork) : Type 0 where
   pub reads : All (SlotWithin (length slots) (length forks)) slots
   pub forks_within : All (ForkWithin (length slots) (length forks)) forks
 
 -- and so do start lists
 pub record TargetsExist (slots : List Slot) (forks : List Fork) (starts : List (List ℕ)) : Type 0 where
-  pub within : AreWithin slots forks
+  pub within : GoOnWithin slots forks
   pub starts_within : All (All (λ q. q < length slots)) starts

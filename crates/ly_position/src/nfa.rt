@@ -1,6 +1,6 @@
 ghost use Rattle.std.specs.Prelude.{◌≡◌, ℕ, ◌<◌, ◌↔◌, [], length, slice_get, Some, All, Contains, IfOk, IsTrue};
-ghost use Rattle.ly_position.specs.Private.Targets.{StepsTo, SameRoom, next_target};
-ghost use Rattle.ly_position.specs.Target.{AreWithin};
+ghost use Rattle.ly_position.specs.Private.Targets.{StepsTo, SameRoom, target_after};
+ghost use Rattle.ly_position.specs.Target.{GoOnWithin};
 
 use crate::lists::Lists;
 use crate::set::PositionSet;
@@ -157,7 +157,7 @@ impl PosNfa {
 
 /// Makes a set that of the positions that some lead to, once the byte is read.
 fn step(slots: &[Slot], forks: &[Fork], from: &PositionSet, byte: u8, into: &mut PositionSet)
-    requires within { AreWithin slots.now forks.now }
+    requires within { GoOnWithin slots.now forks.now }
     requires from { from.now.positions.below ≡ length slots.now }
     requires into { (into.old.positions.below ≡ length slots.now) × (into.old.forks.below ≡ length forks.now) }
     ensures room { SameRoom into.old into.new }
@@ -166,7 +166,7 @@ fn step(slots: &[Slot], forks: &[Fork], from: &PositionSet, byte: u8, into: &mut
 {
     into.clear();
     for number in from.members() {
-        if let Some(next) = next_target(&slots[*number as usize], byte) {
+        if let Some(next) = target_after(&slots[*number as usize], byte) {
             into.put(next);
         }
     }
@@ -174,8 +174,8 @@ fn step(slots: &[Slot], forks: &[Fork], from: &PositionSet, byte: u8, into: &mut
 }
 
 /// Where a position goes on once it reads the byte, if it does.
-fn next_target(slot: &Slot, byte: u8) -> Option<Target>
-    ensures { result ≡ next_target byte slot.now }
+fn target_after(slot: &Slot, byte: u8) -> Option<Target>
+    ensures { result ≡ target_after byte slot.now }
 {
     match slot {
         Slot::Reads { bytes, next } if bytes.contains(byte) => Some(*next),

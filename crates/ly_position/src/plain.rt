@@ -12,6 +12,7 @@ pub type PlainPart = Option<usize>;
 /// which no operator stands over another that makes it idle: `(a*)*` is `a*`.
 #[derive(Drop)]
 pub struct Plain {
+    /// The expressions.
     arena: Arena,
 }
 
@@ -25,18 +26,18 @@ impl Model for Plain {
 
     ghost coded = { coded_list expression_code };
 
-    ghost use Rattle.ly_position.specs.Private.Program.{IsPlain};
+    ghost use Rattle.ly_position.specs.Private.Program.{IsPlainExpression};
 
     ghost view = { λ p. p.arena };
 
-    ghost invariant = { λ p. All IsPlain p.arena };
+    ghost invariant = { λ p. All IsPlainExpression p.arena };
 }
 
 impl Plain {
     ghost use Rattle.ly_base.specs.ByteSet.{members};
     ghost use Rattle.ly_ere.specs.Expression.{Joined, IsAtMost};
     ghost use Rattle.ly_ere.specs.Arena.{expression_of, part_of, FitsAt};
-    ghost use Rattle.ly_position.specs.Private.Program.{IsPlain};
+    ghost use Rattle.ly_position.specs.Private.Program.{IsPlainExpression};
     ghost use Rattle.ly_position.specs.Private.Plain.{IsPlainPart, IsPlainNode, InTurn, Makes, PartMatches};
 
     /// No expressions.
@@ -51,7 +52,7 @@ impl Plain {
     /// How many expressions there are.
     pub fn len(&self) -> usize
         ensures count { result ≡ length self.now }
-        ensures plain { All IsPlain self.now }
+        ensures plain { All IsPlainExpression self.now }
     {
         self.arena.len()
     }
@@ -61,7 +62,7 @@ impl Plain {
         requires { number < length self.now }
         ensures is { expression_of self.now result ≡ part_of self.now number }
         ensures fits { FitsAt number result }
-        ensures plain { IsPlain (part_of self.now number) }
+        ensures plain { IsPlainExpression (part_of self.now number) }
     {
         self.arena.nodes()[number]
     }

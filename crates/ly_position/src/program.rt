@@ -2,7 +2,7 @@ ghost use Rattle.std.specs.Prelude.{◌≡◌, ℕ, ◌+◌, ◌^◌, ◌<◌, �
 ghost use Rattle.std.specs.Prelude.{IfOk, IfSome, OnOk};
 ghost use Rattle.ly_ere.specs.Arena.{part_of, FitsAt};
 ghost use Rattle.ly_position.specs.Private.Plain.{IsPlainPart};
-ghost use Rattle.ly_position.specs.Private.Program.{code, ends, entry, node_size, IsPlain, size, steps_of};
+ghost use Rattle.ly_position.specs.Private.Program.{code, ends, entry, node_size, IsPlainExpression, size, steps_of};
 ghost use Rattle.ly_position.specs.Private.Compile.{IsProgram, TaskFits, planned, task_work, work};
 
 use crate::plain::Plain;
@@ -195,7 +195,7 @@ fn entry_at(base: usize, size: usize, next: usize) -> usize
 /// How many instructions the code of each expression has.
 fn sizes(alloc: Global, plain: &Plain) -> Result<Vec<usize>, AllocError>
     ensures sizes { IfOk result (λ ss. ss.items ≡ map size plain.now) }
-    ensures plain { OnOk result (All IsPlain plain.now) }
+    ensures plain { OnOk result (All IsPlainExpression plain.now) }
 {
     let mut sizes = Vec::new(alloc);
     for number in 0..plain.len() {

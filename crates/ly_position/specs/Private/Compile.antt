@@ -15,6 +15,7 @@ abbrev pub task_steps : List Expression → Task → ℕ → List Step
 task_steps es (task.Code p next) base = code (part_of es p) base next
 task_steps es (task.Fork a b) base = fork a b ∷ []
 
+-- how many steps a task makes
 abbrev pub task_size : List Expression → Task → ℕ
 task_size es (task.Code p next) = size (part_of es p)
 task_size es (task.Fork a b) = 1
@@ -41,6 +42,7 @@ work (optional r) = 2 + work r
 work (repeat m n r) = 1
 work (name x) = 1
 
+-- the same for a task
 abbrev pub task_work : List Expression → Task → ℕ
 task_work es (task.Code p next) = work (part_of es p)
 task_work es (task.Fork a b) = 1

@@ -17,6 +17,7 @@ is_position (reads bytes q) = true
 is_position (fork a b) = false
 is_position (ends i) = true
 
+-- a step is a fork
 abbrev pub is_fork : Step → Bool
 is_fork (reads bytes q) = false
 is_fork (fork a b) = true
@@ -26,11 +27,12 @@ is_fork (ends i) = false
 abbrev pub rank : (Step → Bool) → List Step → ℕ → ℕ
 rank test g p = length (filter test (take p g))
 
--- what a step at p is
+-- what a step is that stands at p
 abbrev pub target_at : List Step → ℕ → Option Step → Target
 target_at g p (Some (fork a b)) = target.Fork (rank is_fork g p)
 target_at g p _ = target.Position (rank is_position g p)
 
+-- what step p is
 abbrev pub target_of : List Step → ℕ → Target
 target_of g p = target_at g p (slice_get g p)
 

@@ -16,6 +16,7 @@ rows_of rows = map (λ (v : Vec ℕ Global). v.items) rows
 abbrev pub key : ℕ → Bool → ℕ
 key condition line = 2 * condition + (if line then 1 else 0)
 
+-- the list of a condition, where a line begins or elsewhere
 abbrev pub root_list : List (List ℕ) → ℕ → Bool → List ℕ
 root_list lists condition line = slice_index_or lists (key condition line) []
 

@@ -20,13 +20,13 @@ pub data ForksTo (forks : List Fork) (from : Target) : Target → Type 0 where
       → IsSide f t → ForksTo forks from t
 
 -- where a position goes on once it reads the byte, if it does
-abbrev pub next_target : ℕ → Slot → Option Target
-next_target byte (slot.Reads bytes next) = if has bytes byte then Some next else None
-next_target byte (slot.Ends rule) = None
+abbrev pub target_after : ℕ → Slot → Option Target
+target_after byte (slot.Reads bytes next) = if has bytes byte then Some next else None
+target_after byte (slot.Ends rule) = None
 
 -- position p goes on at the target once it reads the byte
 abbrev pub GoesOn : List Slot → ℕ → ℕ → Target → Type 0
-GoesOn slots byte p t = (s : Slot) × (slice_get slots p ≡ Some s) × (next_target byte s ≡ Some t)
+GoesOn slots byte p t = (s : Slot) × (slice_get slots p ≡ Some s) × (target_after byte s ≡ Some t)
 
 -- position q is reached by forks alone from where one of some positions goes on once it reads the byte
 abbrev pub StepsTo : List Slot → List Fork → List ℕ → ℕ → ℕ → Type 0
