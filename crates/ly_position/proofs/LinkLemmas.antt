@@ -1,17 +1,19 @@
 -- What a program reaches by forks alone is what its positions and forks reach.
-use Rattle.std.proofs.Common.{◌≡◌, ◌⊎◌, inl, inr, true, ℕ, ◌<◌, List, [], ◌∷◌, Option, Some, None, length, filter, refl, sym, ap}
+use Rattle.std.proofs.Common.{◌≡◌, ◌⊎◌, inl, inr, true, ℕ, ◌<◌, List, [], ◌∷◌, Some, length, filter, refl, sym, ap}
 use Rattle.std.proofs.Common.{subst, ◌∙◌, arith}
 use Rattle.std.specs.Prelude.{All, Contains, slice_get, ◌↔◌}
 use Rattle.std.proofs.lemmas.List.Elements.{All-contains}
 use Rattle.std.proofs.lemmas.Option.{get_or_from_slice_get, slice_get_cases, slice_get_within}
 use Rattle.std.proofs.lemmas.Slice.Zip.{AllZip-long}
 use Rattle.ly_base.proofs.MemberLemmas.{Contains-first, Contains-one}
-use Rattle.ly_position.specs.Link.{IsForkOf, IsLinked, IsNumber, IsReachedNumber, IsReachList, IsSlotOf, is_fork}
-use Rattle.ly_position.specs.Link.{is_position, rank, target_of}
+use Rattle.ly_position.specs.Private.Link.{IsForkOf, IsLinkOf, IsNumber, IsReachedNumber, IsReachList, IsSlotOf}
+use Rattle.ly_position.specs.Private.Link.{is_fork}
+use Rattle.ly_position.specs.Private.Link.{is_position, rank, target_of}
 use Rattle.ly_position.specs.Position.{reached_from}
-use Rattle.ly_position.specs.Program.{Step, reads, fork, ends}
-use Rattle.ly_position.specs.Reach.{LeadsBelow, Reached, StaysInside, at_root, to_first, to_second}
-use Rattle.ly_position.specs.Target.{ForkWithin, IsSide, LeadsFrom, Reaches, SlotWithin, TargetWithin, here, onward}
+use Rattle.ly_position.specs.Private.Program.{Step, reads, fork, ends}
+use Rattle.ly_position.specs.Private.Reach.{LeadsBelow, Reached, StaysInside, at_root, to_first, to_second}
+use Rattle.ly_position.specs.Private.Targets.{IsSide, EntersTo, ForksTo, here, onward}
+use Rattle.ly_position.specs.Target.{ForkWithin, SlotWithin, TargetWithin}
 use Rattle.ly_position.specs.declared.nfa.Fork.{Fork}
 use Rattle.ly_position.specs.declared.nfa.Slot.{Slot}
 use Rattle.ly_position.specs.declared.nfa.Slot.TheVariants as slot
@@ -62,7 +64,7 @@ pub number_target : (g : List Step) (p q : ℕ) → IsNumber g p q → target_of
 number_target g p q n = position_target g p n.step n.is_step n.reads_or_ends ∙ ap target.Position n.is_rank
 
 module _ (g : List Step) (targets : List Target) (slots : List Slot) (forks : List Fork) (inside : StaysInside g)
-    (linked : IsLinked g targets slots forks) where
+    (linked : IsLinkOf g targets slots forks) where
   -- the sides of a fork
   record Sides (p a b : ℕ) : Type 0 where
     it : Fork
@@ -76,14 +78,14 @@ module _ (g : List Step) (targets : List Target) (slots : List Slot) (forks : Li
       (rank_get is_fork g p (fork a b) e refl) in
       record { it = z.0; is = z.1; first = z.2.0; second = z.2.1 }
 
-  to_target : (e p : ℕ) → Reached g (e ∷ []) p → Reaches forks (target_of g e) (target_of g p)
-  to_target e p (at_root k) = subst (λ x. Reaches forks (target_of g e) (target_of g x)) (Contains-one e p k) here
+  to_target : (e p : ℕ) → Reached g (e ∷ []) p → ForksTo forks (target_of g e) (target_of g p)
+  to_target e p (at_root k) = subst (λ x. ForksTo forks (target_of g e) (target_of g x)) (Contains-one e p k) here
   to_target e p (to_first {p = q} {a = a} {b = b} r k) =
       let f = sides q a b k in
-      onward (subst (Reaches forks (target_of g e)) (fork_target g q a b k) (to_target e q r)) f.is (inl f.first)
+      onward (subst (ForksTo forks (target_of g e)) (fork_target g q a b k) (to_target e q r)) f.is (inl f.first)
   to_target e p (to_second {p = q} {a = a} {b = b} r k) =
       let f = sides q a b k in
-      onward (subst (Reaches forks (target_of g e)) (fork_target g q a b k) (to_target e q r)) f.is (inr f.second)
+      onward (subst (ForksTo forks (target_of g e)) (fork_target g q a b k) (to_target e q r)) f.is (inr f.second)
 
   -- a step that is reached, and what it is
   record Behind (e : ℕ) (u : Target) : Type 0 where
@@ -103,20 +105,20 @@ module _ (g : List Step) (targets : List Target) (slots : List Slot) (forks : Li
       let same : x.it ≡ f = cc in
       elim side [
         | inl i ↦ record {
-            place = t.0;
-            below = both.0;
-            reached = to_first h.reached t.2;
-            is = sym x.first ∙ ap (λ (y : Fork). y.first) same ∙ i;
-          }
+          place = t.0;
+          below = both.0;
+          reached = to_first h.reached t.2;
+          is = sym x.first ∙ ap (λ (y : Fork). y.first) same ∙ i;
+        }
         | inr i ↦ record {
-            place = t.1;
-            below = both.1;
-            reached = to_second h.reached t.2;
-            is = sym x.second ∙ ap (λ (y : Fork). y.second) same ∙ i;
-          }
+          place = t.1;
+          below = both.1;
+          reached = to_second h.reached t.2;
+          is = sym x.second ∙ ap (λ (y : Fork). y.second) same ∙ i;
+        }
       ]
 
-  from_target : (e : ℕ) (u : Target) → e < length g → Reaches forks (target_of g e) u → Behind e u
+  from_target : (e : ℕ) (u : Target) → e < length g → ForksTo forks (target_of g e) u → Behind e u
   from_target e u less here = record {
     place = e;
     below = less;
@@ -127,7 +129,7 @@ module _ (g : List Step) (targets : List Target) (slots : List Slot) (forks : Li
       from_side e k f u (from_target e (target.Fork k) less r) at side
 
   -- the positions that are reached from an instruction
-  from_position : (e q : ℕ) → e < length g → Reaches forks (target_of g e) (target.Position q)
+  from_position : (e q : ℕ) → e < length g → ForksTo forks (target_of g e) (target.Position q)
       → (p : ℕ) × Reached g (e ∷ []) p × IsNumber g p q
   from_position e q less r =
       let h = from_target e (target.Position q) less r in
@@ -135,8 +137,8 @@ module _ (g : List Step) (targets : List Target) (slots : List Slot) (forks : Li
       (h.place, h.reached, target_number g h.place q s.0 s.1 h.is)
 
   to_position : (e p q : ℕ) → Reached g (e ∷ []) p → IsNumber g p q
-      → Reaches forks (target_of g e) (target.Position q)
-  to_position e p q r n = subst (Reaches forks (target_of g e)) (number_target g p q n) (to_target e p r)
+      → ForksTo forks (target_of g e) (target.Position q)
+  to_position e p q r n = subst (ForksTo forks (target_of g e)) (number_target g p q n) (to_target e p r)
 
   pub number_below : (p q : ℕ) → IsNumber g p q → q < length slots
   number_below p q n =
@@ -146,19 +148,19 @@ module _ (g : List Step) (targets : List Target) (slots : List Slot) (forks : Li
 
   -- what the forks lead to from some instructions is what the program reaches from them
   pub leads_members : (roots ms : List ℕ) → All (λ r. r < length g) roots
-      → ((q : ℕ) → Contains ms q ↔ LeadsFrom targets forks roots q) → (q : ℕ) → Contains ms q
+      → ((q : ℕ) → Contains ms q ↔ EntersTo targets forks roots q) → (q : ℕ) → Contains ms q
       ↔ IsReachedNumber g roots q
   leads_members roots ms below h q = (λ k. there ((h q).0 k), λ k. (h q).1 (back k))
     where
-      there : LeadsFrom targets forks roots q → IsReachedNumber g roots q
+      there : EntersTo targets forks roots q → IsReachedNumber g roots q
       there (r, t, c, at, x) =
           let less = All-contains (λ y. y < length g) roots r below c in
           let is = linked.targets_are.each r less in
           let same : t ≡ target_of g r = cc in
-          let p = from_position r q less (subst (λ y. Reaches forks y (target.Position q)) same x) in
+          let p = from_position r q less (subst (λ y. ForksTo forks y (target.Position q)) same x) in
           (p.0, reached_wider g r roots p.0 c p.1, p.2)
 
-      back : IsReachedNumber g roots q → LeadsFrom targets forks roots q
+      back : IsReachedNumber g roots q → EntersTo targets forks roots q
       back (p, r, n) =
           let e = reached_from_one g roots p r in
           let less = All-contains (λ y. y < length g) roots e.0 below e.1 in
@@ -178,7 +180,7 @@ module _ (g : List Step) (targets : List Target) (slots : List Slot) (forks : Li
 
 -- all targets of a linked program are there
 target_within : (g : List Step) (targets : List Target) (slots : List Slot) (forks : List Fork)
-    → IsLinked g targets slots forks → (p : ℕ) (s : Step) → slice_get g p ≡ Some s
+    → IsLinkOf g targets slots forks → (p : ℕ) (s : Step) → slice_get g p ≡ Some s
     → TargetWithin (length slots) (length forks) (target_of g p)
 target_within g targets slots forks linked p s e = of s e (is_one s)
   where
@@ -189,17 +191,21 @@ target_within g targets slots forks linked p s e = of s e (is_one s)
 
     of : (s : Step) → slice_get g p ≡ Some s → (is_position s ≡ true) ⊎ (is_fork s ≡ true)
         → TargetWithin (length slots) (length forks) (target_of g p)
-    of s e (inl passes) = rw (position_target g p s e passes) (omega (arith,
-        slice_get_within (filter is_position g) (rank is_position g p) s (rank_get is_position g p s e passes),
-        AllZip-long (IsSlotOf g) (filter is_position g) slots linked.slots_are))
+    of s e (inl passes) = rw (position_target g p s e passes) (omega (
+      arith,
+      slice_get_within (filter is_position g) (rank is_position g p) s (rank_get is_position g p s e passes),
+      AllZip-long (IsSlotOf g) (filter is_position g) slots linked.slots_are,
+    ))
     of (reads bytes q) e (inr passes) = cc
-    of (fork a b) e (inr passes) = rw (fork_target g p a b e) (omega (arith,
-        slice_get_within (filter is_fork g) (rank is_fork g p) (fork a b) (rank_get is_fork g p (fork a b) e passes),
-        AllZip-long (IsForkOf g) (filter is_fork g) forks linked.forks_are))
+    of (fork a b) e (inr passes) = rw (fork_target g p a b e) (omega (
+      arith,
+      slice_get_within (filter is_fork g) (rank is_fork g p) (fork a b) (rank_get is_fork g p (fork a b) e passes),
+      AllZip-long (IsForkOf g) (filter is_fork g) forks linked.forks_are,
+    ))
     of (ends i) e (inr passes) = cc
 
 module _ (g : List Step) (targets : List Target) (slots : List Slot) (forks : List Fork) (inside : StaysInside g)
-    (linked : IsLinked g targets slots forks) where
+    (linked : IsLinkOf g targets slots forks) where
   below_within : (p : ℕ) → p < length g → TargetWithin (length slots) (length forks) (target_of g p)
   below_within p less = let s = get_here g p less in target_within g targets slots forks linked p s.0 s.1
 

@@ -1,5 +1,5 @@
 -- The numbers of the positions and of the forks of a program.
-use Rattle.std.proofs.Common.{◌≡◌, inl, inr, ℕ, zero, suc, ◌+◌, ◌<◌, List, [], ◌∷◌, ◌++◌, Bool, true, false, Option, Some, None}
+use Rattle.std.proofs.Common.{◌≡◌, inl, inr, ℕ, zero, suc, ◌+◌, ◌<◌, List, [], ◌∷◌, ◌++◌, Bool, true, false, Some}
 use Rattle.std.proofs.Common.{filter, length, get_or, take, map, refl, sym, ap, subst, ◌∙◌, arith, append-nil}
 use Rattle.std.proofs.Common.{length-append}
 use Rattle.std.specs.Prelude.{if◌then◌else◌, option_map, slice_get}
@@ -10,13 +10,13 @@ use Rattle.std.proofs.lemmas.List.Elements.{filter-append}
 use Rattle.std.proofs.lemmas.List.Filters.{length-filter_more}
 use Rattle.std.proofs.lemmas.Option.{get_or_from_slice_get, slice_get-get_or, slice_get-map, slice_get_within}
 use Rattle.ly_base.specs.declared.byte_set.ByteSet.{ByteSet}
-use Rattle.ly_position.specs.Link.{AreTargets, IsForkOf, IsNumber, IsSlotOf, is_fork, is_position, rank, target_of}
-use Rattle.ly_position.specs.Program.{Step, reads, fork, ends, step_of}
+use Rattle.ly_position.specs.Private.Link.{AreTargets, IsForkOf, IsSlotOf, is_fork, is_position, rank, target_of}
+use Rattle.ly_position.specs.Private.Program.{Step, reads, fork, ends, step_of}
 use Rattle.ly_position.specs.declared.nfa.Fork as nfa
 use Rattle.ly_position.specs.declared.nfa.Slot.{Slot}
 use Rattle.ly_position.specs.declared.nfa.Target.{Target}
 use Rattle.ly_position.specs.declared.nfa.Target.TheVariants as target
-use Rattle.ly_position.specs.Reach.{StaysInside}
+use Rattle.ly_position.specs.Private.Reach.{StaysInside}
 use Rattle.ly_position.specs.declared.program.Instruction.{Instruction}
 use Rattle.ly_position.specs.declared.program.Instruction.TheVariants.{Read, Fork, End}
 
@@ -121,7 +121,8 @@ module _ (g : List Step) (n : ℕ) (ts : List Target) (ps fs : ℕ) (h : Numbere
     count = length-append ts (target.Position ps ∷ []) ∙ omega (arith, h.count);
     each = each_more (target.Position ps)
         (sym (position_target g n s e passes ∙ ap target.Position (sym h.position_count)));
-    position_count = more ∙ (let k = rank_more is_position g n s e ∙ ap (λ b. rank is_position g n + (if b then 1 else 0))
+    position_count
+        = more ∙ (let k = rank_more is_position g n s e ∙ ap (λ b. rank is_position g n + (if b then 1 else 0))
         passes in omega (arith, h.position_count));
     fork_count = h.fork_count ∙ (let k = rank_more is_fork g n s e ∙ ap (λ b. rank is_fork g n + (if b then 1 else 0))
         (no_fork s passes) in omega arith);

@@ -11,18 +11,17 @@ use Rattle.ly_base.proofs.MemberLemmas.{Contains-first, Contains-one}
 use Rattle.ly_ere.specs.Expression.{Expression}
 use Rattle.ly_ere.specs.Winner.{IsString, PatternMatches}
 use Rattle.ly_ere.specs.declared.pattern.Rule.{Rule}
-use Rattle.ly_position.specs.Program.{Step, reads, fork, ends, Runs, at_end, by_read, by_first, by_second}
-use Rattle.ly_position.specs.Reach.{LeadsBelow, Reached, StaysInside, at_root, to_first, to_second}
-use Rattle.ly_position.specs.Link.{IsLinked, IsNumber, IsReachedNumber, IsReachList, IsSlotOf, is_position, rank}
-use Rattle.ly_position.specs.Link.{target_of}
-use Rattle.ly_position.specs.Starts.{StartsAt}
-use Rattle.ly_position.specs.Compile.{IsProgram, EntryRuns}
-use Rattle.ly_position.specs.Plan.{IsPlan}
+use Rattle.ly_position.specs.Private.Program.{Step, reads, fork, ends, Runs, at_end, by_read, by_first, by_second}
+use Rattle.ly_position.specs.Private.Reach.{LeadsBelow, Reached, StaysInside, at_root, to_first, to_second}
+use Rattle.ly_position.specs.Private.Link.{IsLinkOf, IsNumber, IsReachList, IsSlotOf, is_position, rank}
+use Rattle.ly_position.specs.Private.Starts.{StartsAt}
+use Rattle.ly_position.specs.Private.Compile.{IsProgram, EntryRuns}
+use Rattle.ly_position.specs.Private.Plan.{IsPlan}
 use Rattle.ly_position.specs.Nfa.{Nfa, Position, reading, ending, bytes_of, follow_of, position_of, IsEnd, Reads}
 use Rattle.ly_position.specs.Nfa.{Follows, RunsTo, starts_of}
 use Rattle.ly_position.specs.Position.{position_in, nfa_of, reached_from}
 use Rattle.ly_position.specs.Target.{TargetsExist}
-use Rattle.ly_position.specs.Assembled.{Assembled}
+use Rattle.ly_position.specs.Private.Assembled.{Assembled}
 use Rattle.ly_position.specs.Patterns.{RunsFrom, ArePositions}
 use Rattle.ly_position.specs.declared.nfa.Fork.{Fork}
 use Rattle.ly_position.specs.declared.nfa.Slot.{Slot}
@@ -122,7 +121,7 @@ module _ (g : List Step) (i : ℕ) where
       }
 
 module _ (g : List Step) (targets : List Target) (slots : List Slot) (forks : List Fork) (starts : List (List ℕ))
-    (inside : StaysInside g) (linked : IsLinked g targets slots forks) where
+    (inside : StaysInside g) (linked : IsLinkOf g targets slots forks) where
   abbrev nfa : Nfa
   nfa = nfa_of slots forks starts
 
@@ -188,7 +187,8 @@ module _ (g : List Step) (targets : List Target) (slots : List Slot) (forks : Li
       in let b : slice_get (map (position_in (length slots) forks) slots) q ≡ Some (ending i) = run in cc)
   forward (b ∷ w) i p q e run =
       let s = shown p q e in
-      let here : position_of nfa q ≡ s.shape = get_or_from_slice_get (map (position_in (length slots) forks) slots) q s.shape
+      let here : position_of nfa q ≡ s.shape
+      = get_or_from_slice_get (map (position_in (length slots) forks) slots) q s.shape
       (reading [] []) s.at in
       read_forward i p b run.0 w s.step s.shape s.is s.shows (subst (λ x. Contains (bytes_of x) b) here run.1)
       (subst (λ x. Contains (follow_of x) run.0) here run.2)
@@ -209,7 +209,8 @@ module _ (g : List Step) (targets : List Target) (slots : List Slot) (forks : Li
   read_back p q b r next bytes (reads bs n) (reading cs f) a e at h c k =
       let one : bytes ≡ bs = cc in
       let two : next ≡ n = cc in
-      let here : position_of nfa q ≡ reading cs f = get_or_from_slice_get (map (position_in (length slots) forks) slots) q (reading cs f)
+      let here : position_of nfa q ≡ reading cs f
+      = get_or_from_slice_get (map (position_in (length slots) forks) slots) q (reading cs f)
       (reading [] []) at in (
         subst (λ x. Contains (bytes_of x) b) (sym here) (let P : List ℕ → Type 0 = λ l. Contains l b
             in subst P (one ∙ h.0) c),
@@ -289,7 +290,7 @@ nothing_once i j d l m = absurd (omega (arith, m))
 module _ (names : List Expression) (rules : List Rule) (es : List Expression) (parts : List (Option ℕ)) (g : List Step)
     (entries : List (Option ℕ)) (conditions : ℕ) (targets : List Target) (slots : List Slot) (forks : List Fork)
     (starts : List (List ℕ)) (plan : IsPlan names rules es parts) (program : IsProgram es parts g entries)
-    (linked : IsLinked g targets slots forks) (begins : StartsAt g rules entries conditions starts) where
+    (linked : IsLinkOf g targets slots forks) (begins : StartsAt g rules entries conditions starts) where
   abbrev made : Nfa
   made = nfa_of slots forks starts
 
@@ -299,7 +300,8 @@ module _ (names : List Expression) (rules : List Rule) (es : List Expression) (p
   there c line i w l run =
       let start = begins.begin c line l in
       let r = (start.1.members run.0).0 run.1 in
-      let x = from_root g i start.0 r.0 w r.1 (forward g targets slots forks starts program.closed linked w i r.0 run.0 r.2 run.2) in
+      let x = from_root g i start.0 r.0 w r.1
+      (forward g targets slots forks starts program.closed linked w i r.0 run.0 r.2 run.2) in
       let b = (start.2 x.0).0 x.1 in
       let entry_runs : EntryRuns g i (get_or entries b.0 None) w
       = subst (λ (e : Option ℕ). EntryRuns g i e w) (sym b.4) x.2 in
@@ -333,17 +335,23 @@ module _ (names : List Expression) (rules : List Rule) (es : List Expression) (p
 
   live_from : (q : ℕ) → q < length made.positions → (i : ℕ) × (w : List ℕ) × RunsTo made i q w
   live_from q l =
-      let s = get_here (filter is_position g) q (omega (arith, count g targets slots forks starts program.closed linked))
+      let s = get_here (filter is_position g) q
+      (omega (arith, count g targets slots forks starts program.closed linked))
       in
       let p = rank_each is_position g q s.0 s.1 in
       let here : IsNumber g p.0 q = record { step = s.0; is_step = p.1; reads_or_ends = p.2; is_rank = p.3 } in
-      let a = program.alive p.0 (slice_get_within g p.0 s.0 p.1) in
-      (a.0, a.1, back g targets slots forks starts program.closed linked a.2.0 a.0 a.2.0 p.0 q a.1 (omega arith) here a.2.1)
+      let a = program.alive p.0 (slice_get_within g p.0 s.0 p.1) in (
+        a.0,
+        a.1,
+        back g targets slots forks starts program.closed linked a.2.0 a.0 a.2.0 p.0 q a.1
+            (omega arith) here a.2.1,
+      )
 
   known_end : (q i : ℕ) → IsEnd made q i → i < length rules
   known_end q i e =
       let l = slice_get_within made.positions q (ending i) e in
-      let s = get_here (filter is_position g) q (omega (arith, count g targets slots forks starts program.closed linked))
+      let s = get_here (filter is_position g) q
+      (omega (arith, count g targets slots forks starts program.closed linked))
       in
       let p = rank_each is_position g q s.0 s.1 in
       let here : IsNumber g p.0 q = record { step = s.0; is_step = p.1; reads_or_ends = p.2; is_rank = p.3 } in

@@ -10,7 +10,7 @@ use Rattle.std.proofs.lemmas.Map.Views.{Contains-from_any}
 use Rattle.std.proofs.lemmas.Option.{slice_get-get_or}
 use Rattle.ly_base.proofs.MemberLemmas.{Contains-none}
 use Rattle.ly_base.specs.SparseSet.{with_member}
-use Rattle.ly_position.specs.Target.{Closes, Has, IsSide, Reaches, SameRoom, here, onward, with_target}
+use Rattle.ly_position.specs.Private.Targets.{Closes, Has, IsSide, ForksTo, SameRoom, here, onward, with_target}
 use Rattle.ly_position.specs.declared.nfa.Fork.{Fork}
 use Rattle.ly_position.specs.declared.nfa.Target.{Target}
 use Rattle.ly_position.specs.declared.nfa.Target.TheVariants as target
@@ -82,7 +82,7 @@ pub record Closing (forks : List Fork) (old now : PositionSet) (done : ℕ) : Ty
   pub room : SameRoom old now
   pub few : length now.forks.members ≤ now.forks.below
   pub kept : (t : Target) → Has old t → Has now t
-  pub found : (u : Target) → Has now u → (t : Target) × Has old t × Reaches forks t u
+  pub found : (u : Target) → Has now u → (t : Target) × Has old t × ForksTo forks t u
   pub closed : (k : ℕ) (f : Fork) (s : Target) → Contains (take done now.forks.members) k → slice_get forks k ≡ Some f
       → IsSide f s → Has now s
 
@@ -98,7 +98,8 @@ closing_none forks s few = record {
 
 -- one more fork
 module _ (forks : List Fork) (old now mid new : PositionSet) (done k : ℕ) (f : Fork) (h : Closing forks old now done)
-    (less : done < length now.forks.members) (at : get_or now.forks.members done 0 ≡ k) (is : slice_get forks k ≡ Some f)
+    (less : done < length now.forks.members) (at : get_or now.forks.members done 0 ≡ k)
+    (is : slice_get forks k ≡ Some f)
     (first : mid ≡ with_target now f.first) (second : new ≡ with_target mid f.second)
     (few : length new.forks.members ≤ new.forks.below) where
   onto : (u : Target) → Has now u → Has new u
@@ -113,10 +114,10 @@ module _ (forks : List Fork) (old now mid new : PositionSet) (done k : ℕ) (f :
   queued : Contains now.forks.members k
   queued = subst (λ x. Contains now.forks.members x) at (Contains-get_or now.forks.members done 0 less)
 
-  from_fork : (s : Target) → IsSide f s → (t : Target) × Has old t × Reaches forks t s
+  from_fork : (s : Target) → IsSide f s → (t : Target) × Has old t × ForksTo forks t s
   from_fork s i = let r = h.found (target.Fork k) queued in (r.0, r.1, onward r.2 is i)
 
-  found_more : (u : Target) → Has new u → (t : Target) × Has old t × Reaches forks t u
+  found_more : (u : Target) → Has new u → (t : Target) × Has old t × ForksTo forks t u
   found_more u x = elim (has_cases mid f.second u (subst (λ s. Has s u) second x)) [
     | inl m ↦
         elim (has_cases now f.first u (subst (λ s. Has s u) first m)) [
@@ -130,21 +131,29 @@ module _ (forks : List Fork) (old now mid new : PositionSet) (done k : ℕ) (f :
   queue_more =
       let a = queue_after now f.first in
       let b = queue_after mid f.second in
-      let same : mid.forks.members ≡ now.forks.members ++ a.0 = ap (λ (s : PositionSet). s.forks.members) first ∙ a.1 in
-      (a.0 ++ b.0, ap (λ (s : PositionSet). s.forks.members) second ∙ b.1 ∙ ap (λ ms. ms ++ b.0) same
-      ∙ append_assoc now.forks.members a.0 b.0)
+      let queue : PositionSet → List ℕ = λ s. s.forks.members in
+      let same : mid.forks.members ≡ now.forks.members ++ a.0 = ap queue first ∙ a.1 in (
+        a.0 ++ b.0,
+        ap queue second ∙ b.1 ∙ ap (λ ms. ms ++ b.0) same ∙ append_assoc now.forks.members a.0 b.0,
+      )
 
   taken : take (done + 1) new.forks.members ≡ take done now.forks.members ++ k ∷ []
   taken =
       let q = queue_more in
-      rw (q.1, take-append-le (done + 1) now.forks.members q.0 (omega arith), take_more now.forks.members done 0 less, at)
+      rw (
+        q.1,
+        take-append-le (done + 1) now.forks.members q.0 (omega arith),
+        take_more now.forks.members done 0 less,
+        at,
+      )
 
   closed_more : (j : ℕ) (g : Fork) (s : Target) → Contains (take (done + 1) new.forks.members) j
       → slice_get forks j ≡ Some g → IsSide g s → Has new s
   closed_more j g s c e i = elim (Contains-push_cases (take done now.forks.members) k j (rw taken at c)) [
     | inl m ↦ onto s (h.closed j g s m e i)
     | inr same ↦
-        let one : f ≡ g = let here : slice_get forks j ≡ Some f = subst (λ x. slice_get forks x ≡ Some f) same is in cc in
+        let one : f ≡ g = let here : slice_get forks j ≡ Some f = subst (λ x. slice_get forks x ≡ Some f) same is in cc
+        in
         side (subst (λ x. IsSide x s) (sym one) i)
   ]
     where
@@ -182,7 +191,7 @@ pub closing_all : (forks : List Fork) (old now : PositionSet) (done : ℕ) → C
     → length now.forks.members ≤ done → Closes forks old now
 closing_all forks old now done h all u = (h.found u, λ (t, x, r). reached t u x r)
   where
-    reached : (t u : Target) → Has old t → Reaches forks t u → Has now u
+    reached : (t u : Target) → Has old t → ForksTo forks t u → Has now u
     reached t u x here = h.kept t x
     reached t u x (onward {k = k} {f = f} {t = s} r e i) = h.closed k f s
         (subst (λ ms. Contains ms k) (sym (take_all done now.forks.members all)) (reached t (target.Fork k) x r)) e i
@@ -195,9 +204,9 @@ pub record Puts (G : ℕ → Target → Type 0) (old now : PositionSet) (items :
 
 module _ (G : ℕ → Target → Type 0) (old now : PositionSet) where
   pub puts_none : now ≡ record {
-      positions = record old.positions { members = [] };
-      forks = record old.forks { members = [] };
-    } → Puts G old now []
+    positions = record old.positions { members = [] };
+    forks = record old.forks { members = [] };
+  } → Puts G old now []
   puts_none e = rw e (record {
     room = record { positions = refl; forks = refl };
     few = omega arith;
@@ -205,9 +214,9 @@ module _ (G : ℕ → Target → Type 0) (old now : PositionSet) where
   })
     where
       none : {A : Type 0} (u : Target) → Has (record {
-          positions = record old.positions { members = [] };
-          forks = record old.forks { members = [] };
-        }) u → A
+        positions = record old.positions { members = [] };
+        forks = record old.forks { members = [] };
+      }) u → A
       none (target.Position p) h = Contains-none p h
       none (target.Fork k) h = Contains-none k h
 
@@ -260,7 +269,7 @@ module _ (G : ℕ → Target → Type 0) (old now : PositionSet) where
   -- what the forks lead to from all of them
   pub puts_all : (forks : List Fork) (new : PositionSet) (xs : List ℕ) → Puts G old now xs → Closes forks now new
       → (q : ℕ) → Contains new.positions.members q
-      ↔ ((x : ℕ) × (t : Target) × Contains xs x × G x t × Reaches forks t (target.Position q))
+      ↔ ((x : ℕ) × (t : Target) × Contains xs x × G x t × ForksTo forks t (target.Position q))
   puts_all forks new xs h closes q = (
     λ k. let r = (closes (target.Position q)).0 k in let x = (h.puts r.0).0 r.1 in (x.0, r.0, x.1, x.2, r.2),
     λ (x, t, c, g, r). (closes (target.Position q)).1 (t, (h.puts t).1 (x, c, g), r),

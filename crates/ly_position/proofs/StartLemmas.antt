@@ -9,10 +9,10 @@ use Rattle.std.proofs.lemmas.List.Elements.{All-push, All-set, All-nil, Contains
 use Rattle.std.proofs.lemmas.List.Elements.{Contains-push_cases}
 use Rattle.ly_base.proofs.MemberLemmas.{Contains-none}
 use Rattle.ly_ere.specs.declared.pattern.Rule.{Rule}
-use Rattle.ly_position.specs.Program.{Step}
-use Rattle.ly_position.specs.Link.{IsReachList}
-use Rattle.ly_position.specs.Starts.{key, root_list, PutsIn, AddsIn, AddsInEach, StaysWithin, BeginsBefore}
-use Rattle.ly_position.specs.Starts.{AreRoots, StartsAt}
+use Rattle.ly_position.specs.Private.Program.{Step}
+use Rattle.ly_position.specs.Private.Link.{IsReachList}
+use Rattle.ly_position.specs.Private.Starts.{key, root_list, PutsIn, AddsIn, AddsInEach, StaysWithin, BeginsBefore}
+use Rattle.ly_position.specs.Private.Starts.{AreRoots, StartsAt}
 
 -- an entry in one list
 pub put_within : (L L' : List (List ℕ)) (k x : ℕ) → k < length L → PutsIn L L' k x → StaysWithin L L' x
@@ -71,7 +71,8 @@ added_at_line L L' d x less is c line e = (λ h. there (p.0 h), λ h. p.1 (back 
     there (inl a) = inl a
     there (inr b) = let k = (key_odd c d line).0 b.0 in inr (k.0, (λ t. k.1), b.1)
 
-    back : Contains (root_list L c line) e ⊎ ((c ≡ d) × (IsTrue true → IsTrue line) × (e ≡ x)) → Contains (root_list L c line) e
+    back : Contains (root_list L c line) e ⊎ ((c ≡ d) × (IsTrue true → IsTrue line) × (e ≡ x))
+        → Contains (root_list L c line) e
         ⊎ ((key c line ≡ 2 * d + 1) × (e ≡ x))
     back (inl a) = inl a
     back (inr b) = inr ((key_odd c d line).1 (b.0, b.1 refl), b.2)
@@ -101,7 +102,8 @@ added_anywhere L M L' d x less less' is is' c line e = (λ h. there (q.0 h), λ 
     either_key true t k s = inr ((key_odd c d line).1 (k, t), s)
     either_key false t k s = inl (p.1 (inr ((key_even c d line).1 (k, t), s)))
 
-    back : Contains (root_list L c line) e ⊎ ((c ≡ d) × (IsTrue false → IsTrue line) × (e ≡ x)) → Contains (root_list M c line) e
+    back : Contains (root_list L c line) e ⊎ ((c ≡ d) × (IsTrue false → IsTrue line) × (e ≡ x))
+        → Contains (root_list M c line) e
         ⊎ ((key c line ≡ 2 * d + 1) × (e ≡ x))
     back (inl a) = inl (p.1 (inl a))
     back (inr b) = either_key line refl b.0 b.2
@@ -123,7 +125,8 @@ each_more L M N n done done' d b x f g is c line e l
     so_far (inl h) = inl h
     so_far (inr h) = inr (Contains-append_left done (d ∷ []) c h.0, h.1, h.2)
 
-    there : Contains (root_list M c line) e ⊎ ((c ≡ d) × (IsTrue b → IsTrue line) × (e ≡ x)) → Contains (root_list L c line) e
+    there : Contains (root_list M c line) e ⊎ ((c ≡ d) × (IsTrue b → IsTrue line) × (e ≡ x))
+        → Contains (root_list L c line) e
         ⊎ (Contains (done ++ d ∷ []) c × (IsTrue b → IsTrue line) × (e ≡ x))
     there (inl h) = so_far ((f c line e l).0 h)
     there (inr h) = inr (subst (λ k. Contains (done ++ d ∷ []) k) (sym h.0) (Contains-push done d), h.1, h.2)
@@ -212,14 +215,21 @@ roots_more rules entries n conditions bound L M r x h is at less count stays add
         ⊎ (Contains r.active.items c × (IsTrue r.pattern.line_start → IsTrue line) × (e ≡ x)) → c < conditions
         → BeginsBefore rules entries (n + 1) c line e
     there c line e (inl k) l = later rules entries n c line e ((h.each c line e l).0 k)
-    there c line e (inr k) l = (n, r, omega arith,
-        record { is_rule = is; in_condition = k.0; at_line = k.1 }, at ∙ ap (λ z. Some z) (sym k.2))
+    there c line e (inr k) l = (
+      n,
+      r,
+      omega arith,
+      record { is_rule = is; in_condition = k.0; at_line = k.1 },
+      at ∙ ap (λ z. Some z) (sym k.2),
+    )
 
     back : (c : ℕ) (line : Bool) (e : ℕ) → c < conditions → BeginsBefore rules entries (n + 1) c line e
-        → Contains (root_list L c line) e ⊎ (Contains r.active.items c × (IsTrue r.pattern.line_start → IsTrue line) × (e ≡ x))
+        → Contains (root_list L c line) e ⊎ (Contains r.active.items c × (IsTrue r.pattern.line_start → IsTrue line)
+        × (e ≡ x))
     back c line e l k = elim (cases_eq k.0 n) [
       | inl same ↦
-          let one : k.1 ≡ r = let a : slice_get rules n ≡ Some k.1 = ap (λ i. slice_get rules i) (sym same) ∙ k.3.is_rule in cc
+          let one : k.1 ≡ r = let a : slice_get rules n ≡ Some k.1 = ap (λ i. slice_get rules i) (sym same)
+          ∙ k.3.is_rule in cc
           in
           let two : e ≡ x = let a : get_or entries n None ≡ Some e = ap (λ i. get_or entries i None) (sym same) ∙ k.4
           in cc in

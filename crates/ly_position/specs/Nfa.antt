@@ -15,10 +15,12 @@ pub record Nfa : Type 0 where
   pub forks : ℕ
   pub starts : List (List ℕ)
 
+-- the bytes that a position reads
 abbrev pub bytes_of : Position → List ℕ
 bytes_of (reading bytes follow) = bytes
 bytes_of (ending i) = []
 
+-- the positions that may come after it
 abbrev pub follow_of : Position → List ℕ
 follow_of (reading bytes follow) = follow
 follow_of (ending i) = []

@@ -18,6 +18,7 @@ abbrev pub position_from : Position → List ℕ → nfa.Position
 position_from (Reads bytes) follow = nfa.reading (members bytes) follow
 position_from (Ends rule) follow = nfa.ending rule.0
 
+-- the targets are one
 abbrev pub same_target : Target → Target → Bool
 same_target (target.Position p) (target.Position q) = nat_eq p q
 same_target (target.Position p) (target.Fork k) = false
@@ -29,17 +30,17 @@ abbrev pub either_side : (Target → Bool) → Option Fork → Bool
 either_side test None = false
 either_side test (Some f) = test f.first || test f.second
 
--- A run comes from one target to another by the first k forks alone: by the first k - 1, or by these to the last, and on
--- from a side of it (Warshall 1962).
-abbrev pub reaches : List Fork → ℕ → Target → Target → Bool
-reaches forks zero from to = same_target from to
-reaches forks (suc k) from to = reaches forks k from to
-    || (reaches forks k from (target.Fork k) && either_side (λ side. reaches forks k side to) (slice_get forks k))
+-- A run comes from one target to another by the first k forks alone: by the first k - 1, or by these to the last one,
+-- and on from a side of it (Warshall 1962).
+abbrev pub forks_to : List Fork → ℕ → Target → Target → Bool
+forks_to forks zero from to = same_target from to
+forks_to forks (suc k) from to = forks_to forks k from to
+    || (forks_to forks k from (target.Fork k) && either_side (λ side. forks_to forks k side to) (slice_get forks k))
 
 -- the positions, n in all, that a run comes to by forks alone
 abbrev pub reached_from : ℕ → List Fork → Target → List ℕ
 reached_from n forks next
-    = filter (λ q. reaches forks (length forks) next (target.Position q)) (range_with_len 0 n)
+    = filter (λ q. forks_to forks (length forks) next (target.Position q)) (range_with_len 0 n)
 
 -- a slot's position, by the forks, where there are n positions
 abbrev pub position_in : ℕ → List Fork → Slot → nfa.Position

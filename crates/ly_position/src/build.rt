@@ -8,12 +8,11 @@
 // the patterns that are written out. Start lists alone are made. Nothing recurses, so depth costs
 // memory alone.
 ghost use Rattle.std.specs.Prelude.{◌≡◌, ◌<◌, ◌≤◌, length, All, IfOk, IsErrOf, OnOk};
-ghost use Rattle.ly_base.specs.Limits.{total_weight_of};
-ghost use Rattle.ly_position.specs.Plain.{IsPart};
-ghost use Rattle.ly_position.specs.Program.{steps_of};
-ghost use Rattle.ly_position.specs.Reach.{StaysInside};
+ghost use Rattle.ly_position.specs.Private.Plain.{IsPlainPart};
+ghost use Rattle.ly_position.specs.Private.Program.{steps_of};
+ghost use Rattle.ly_position.specs.Private.Reach.{StaysInside};
 ghost use Rattle.ly_position.specs.Patterns.{ArePositions};
-ghost use Rattle.ly_position.specs.Assembled.{Assembled};
+ghost use Rattle.ly_position.specs.Private.Assembled.{Assembled};
 ghost use Rattle.ly_position.specs.TotalWeight.{total_weight};
 
 use crate::fault::PosFault;
@@ -38,8 +37,8 @@ pub fn positions(
     limits: &Limits,
 ) -> Result<PosNfa, PosFault>
     ensures positions { IfOk result (ArePositions names.now rules.now conditions) }
-    ensures light { OnOk result (total_weight names.now rules.now ≤ total_weight_of limits.now) }
-    ensures heavy { IsErrOf result PosFault.TooManyPositions → total_weight_of limits.now <
+    ensures light { OnOk result (total_weight names.now rules.now ≤ limits.now.total_weight) }
+    ensures heavy { IsErrOf result PosFault.TooManyPositions → limits.now.total_weight <
         total_weight names.now rules.now }
 {
     if weigh_all(alloc, rules, names, limits.total_weight())?.is_none() {
@@ -58,7 +57,7 @@ fn assemble(
     program: &Program,
 ) -> Result<PosNfa, AllocError>
     requires closed { StaysInside (steps_of program.now.instructions.items) }
-    requires within { All (IsPart (length program.now.instructions.items))
+    requires within { All (IsPlainPart (length program.now.instructions.items))
         program.now.entries.items }
     requires count { length program.now.entries.items ≡ length rules.now }
     ensures { IfOk result (Assembled (steps_of program.now.instructions.items) rules.now

@@ -1,7 +1,7 @@
 ghost use Rattle.std.specs.Prelude.{◌≡◌, length, IfOk};
-ghost use Rattle.ly_position.specs.Link.{AreTargets, IsLinked};
-ghost use Rattle.ly_position.specs.Program.{steps_of};
-ghost use Rattle.ly_position.specs.Reach.{StaysInside};
+ghost use Rattle.ly_position.specs.Private.Link.{AreTargets, IsLinkOf};
+ghost use Rattle.ly_position.specs.Private.Program.{steps_of};
+ghost use Rattle.ly_position.specs.Private.Reach.{StaysInside};
 
 use crate::nfa::{Fork, Slot, Target};
 use crate::program::Instruction;
@@ -21,7 +21,7 @@ pub struct Linked {
 /// Numbers the positions and the forks of a program, and resolves where each goes on.
 pub fn link(alloc: Global, code: &[Instruction]) -> Result<Linked, AllocError>
     requires { StaysInside (steps_of code.now) }
-    ensures { IfOk result (λ l. IsLinked (steps_of code.now) l.targets.items l.slots.items l.forks.items) }
+    ensures { IfOk result (λ l. IsLinkOf (steps_of code.now) l.targets.items l.slots.items l.forks.items) }
 {
     let targets = targets(alloc, code)?;
     let mut slots = Vec::new(alloc);

@@ -1,5 +1,6 @@
-ghost use Rattle.std.specs.Prelude.{◌≡◌, ℕ, ◌<◌, ◌↔◌, length, slice_get, Some, All, Contains, IfOk, IsTrue};
-ghost use Rattle.ly_position.specs.Target.{AreWithin, Leads, SameRoom, next_of};
+ghost use Rattle.std.specs.Prelude.{◌≡◌, ℕ, ◌<◌, ◌↔◌, [], length, slice_get, Some, All, Contains, IfOk, IsTrue};
+ghost use Rattle.ly_position.specs.Private.Targets.{StepsTo, SameRoom, target_after};
+ghost use Rattle.ly_position.specs.Target.{GoOnWithin};
 
 use crate::lists::Lists;
 use crate::set::PositionSet;
@@ -7,7 +8,7 @@ use ly_base::{ByteSet, RuleNo};
 use std::alloc::{AllocError, Global};
 use std::marker::Model;
 
-/// A place of a pattern that is written out.
+/// A position of a pattern that is written out.
 #[derive(Clone, Copy, Debug, PartialEq, Eq)]
 pub enum Position {
     /// One byte of the set is read here.
@@ -135,7 +136,8 @@ impl PosNfa {
 
     /// The empty set of positions, or that its room is refused.
     pub fn set(&self, alloc: Global) -> Result<PositionSet, AllocError>
-        ensures { IfOk result (IsRoomFor self.now) }
+        ensures room { IfOk result (IsRoomFor self.now) }
+        ensures none { IfOk result (λ s. s.positions.members ≡ []) }
     {
         PositionSet::new(alloc, self.slots.len(), self.forks.len())
     }
@@ -155,16 +157,16 @@ impl PosNfa {
 
 /// Makes a set that of the positions that some lead to, once the byte is read.
 fn step(slots: &[Slot], forks: &[Fork], from: &PositionSet, byte: u8, into: &mut PositionSet)
-    requires within { AreWithin slots.now forks.now }
+    requires within { GoOnWithin slots.now forks.now }
     requires from { from.now.positions.below ≡ length slots.now }
     requires into { (into.old.positions.below ≡ length slots.now) × (into.old.forks.below ≡ length forks.now) }
     ensures room { SameRoom into.old into.new }
     ensures members { (q : ℕ) → Contains into.new.positions.members q
-        ↔ Leads slots.now forks.now from.now.positions.members byte q }
+        ↔ StepsTo slots.now forks.now from.now.positions.members byte q }
 {
     into.clear();
     for number in from.members() {
-        if let Some(next) = next_of(&slots[*number as usize], byte) {
+        if let Some(next) = target_after(&slots[*number as usize], byte) {
             into.put(next);
         }
     }
@@ -172,8 +174,8 @@ fn step(slots: &[Slot], forks: &[Fork], from: &PositionSet, byte: u8, into: &mut
 }
 
 /// Where a position goes on once it reads the byte, if it does.
-fn next_of(slot: &Slot, byte: u8) -> Option<Target>
-    ensures { result ≡ next_of byte slot.now }
+fn target_after(slot: &Slot, byte: u8) -> Option<Target>
+    ensures { result ≡ target_after byte slot.now }
 {
     match slot {
         Slot::Reads { bytes, next } if bytes.contains(byte) => Some(*next),

@@ -1,6 +1,7 @@
 ghost use Rattle.std.specs.Prelude.{◌≡◌, ◌≢◌, ◌<◌, ◌≤◌, [], length, All, AllPairs, IfOk};
 ghost use Rattle.ly_base.specs.SparseSet.{with_members};
-ghost use Rattle.ly_position.specs.Target.{Closes, ForkWithin, SameRoom, TargetWithin, with_target};
+ghost use Rattle.ly_position.specs.Private.Targets.{Closes, SameRoom, with_target};
+ghost use Rattle.ly_position.specs.Target.{ForkWithin, TargetWithin};
 
 use crate::nfa::{Fork, Target};
 use ly_base::SparseSet;
@@ -40,7 +41,7 @@ impl PositionSet {
     pub fn fill(&mut self, positions: &[u32])
         requires { All (λ p. p < self.old.positions.below) positions.now }
         ensures { self.new ≡ record self.old {
-            positions = record self.old.positions { members = with_members [] positions.now };
+          positions = record self.old.positions { members = with_members [] positions.now };
         } }
     {
         self.positions.clear();
@@ -50,8 +51,8 @@ impl PositionSet {
     /// Takes out all members and forks.
     pub(crate) fn clear(&mut self)
         ensures { self.new ≡ record {
-            positions = record self.old.positions { members = [] };
-            forks = record self.old.forks { members = [] };
+          positions = record self.old.positions { members = [] };
+          forks = record self.old.forks { members = [] };
         } }
     {
         self.positions.clear();

@@ -1,10 +1,12 @@
 ghost use Rattle.std.specs.Prelude.{◌≡◌, ℕ, ◌+◌, ◌*◌, ◌<◌, ◌↔◌, [], length, slice_index_or, All, Contains, IfOk, OnOk};
-ghost use Rattle.ly_position.specs.Plain.{IsPart};
-ghost use Rattle.ly_position.specs.Program.{steps_of};
-ghost use Rattle.ly_position.specs.Reach.{StaysInside};
-ghost use Rattle.ly_position.specs.Link.{IsLinked};
-ghost use Rattle.ly_position.specs.Target.{ForkWithin, LeadsFrom, SameRoom, TargetWithin};
-ghost use Rattle.ly_position.specs.Starts.{rows_of, AddsIn, AddsInEach, AreRoots, PutsIn, StartsAt, StaysWithin};
+ghost use Rattle.ly_position.specs.Private.Plain.{IsPlainPart};
+ghost use Rattle.ly_position.specs.Private.Program.{steps_of};
+ghost use Rattle.ly_position.specs.Private.Reach.{StaysInside};
+ghost use Rattle.ly_position.specs.Private.Link.{IsLinkOf};
+ghost use Rattle.ly_position.specs.Private.Targets.{EntersTo, SameRoom};
+ghost use Rattle.ly_position.specs.Target.{ForkWithin, TargetWithin};
+ghost use Rattle.ly_position.specs.Private.Starts.{rows_of, AddsIn, AddsInEach, AreRoots, PutsIn, StartsAt};
+ghost use Rattle.ly_position.specs.Private.Starts.{StaysWithin};
 
 use crate::link::Linked;
 use crate::lists::Lists;
@@ -23,9 +25,9 @@ pub fn starts(
     linked: &Linked,
 ) -> Result<Lists, AllocError>
     requires closed { StaysInside (steps_of program.now.instructions.items) }
-    requires linked { IsLinked (steps_of program.now.instructions.items) linked.now.targets.items
+    requires linked { IsLinkOf (steps_of program.now.instructions.items) linked.now.targets.items
         linked.now.slots.items linked.now.forks.items }
-    requires within { All (IsPart (length program.now.instructions.items))
+    requires within { All (IsPlainPart (length program.now.instructions.items))
         program.now.entries.items }
     requires count { length program.now.entries.items ≡ length rules.now }
     ensures { IfOk result (StartsAt (steps_of program.now.instructions.items) rules.now
@@ -49,7 +51,7 @@ fn fill_from(set: &mut PositionSet, roots: &[usize], targets: &[Target], forks: 
     requires room { set.old.forks.below ≡ length forks.now }
     ensures room { SameRoom set.old set.new }
     ensures members { (q : ℕ) → Contains set.new.positions.members q
-        ↔ LeadsFrom targets.now forks.now roots.now q }
+        ↔ EntersTo targets.now forks.now roots.now q }
 {
     set.clear();
     for root in roots {
@@ -65,7 +67,7 @@ fn roots(
     conditions: u32,
     program: &Program,
 ) -> Result<Vec<Vec<usize>>, AllocError>
-    requires within { All (IsPart (length program.now.instructions.items))
+    requires within { All (IsPlainPart (length program.now.instructions.items))
         program.now.entries.items }
     requires count { length program.now.entries.items ≡ length rules.now }
     ensures { IfOk result (λ rs. AreRoots rules.now program.now.entries.items

@@ -1,9 +1,7 @@
-use Rattle.std.proofs.Common.{◌+◌, [], ap, arith, get_or, length, map, refl, sym, take, ◌∙◌}
+use Rattle.std.proofs.Common.{◌+◌, [], arith, map, refl, take, ◌∙◌}
 use Rattle.ly_base.specs.ByteSet.{members}
-use Rattle.ly_position.specs.Link.{target_of}
-use Rattle.ly_position.specs.Program.{ends, fork, reads, step_of}
+use Rattle.ly_position.specs.Private.Program.{ends, fork, reads, step_of}
 use Rattle.ly_position.specs.declared.nfa.Slot.TheVariants as slot
-use Rattle.ly_position.specs.declared.nfa.Target.TheVariants as target
 use Rattle.ly_position.specs.declared.program.Instruction.TheVariants.{End, Fork, Read}
 use Rattle.ly_position.proofs.NumberLemmas.{fork_inside, linked_fork, linked_position, read_inside, steps_more}
 use Rattle.ly_position.proofs.NumberLemmas.{target_there}
@@ -52,7 +50,8 @@ loop-instruction-preserved c =
           (slot.Reads w.in-Read.bytes w.index.result.now) refl refl w.in_ok-push-in-Read.ensures.items refl (refl, at))
       | in-Fork+in_ok-push-in-Fork w ↦
           let inside = fork_inside code i d c.requires less w.in-Fork.first w.in-Fork.second w.in-Fork.is in
-          let first = w.index-in-Fork.ensures ∙ target_there g ts w.in-Fork.first w.index-in-Fork.result.now are inside.0
+          let first = w.index-in-Fork.ensures
+          ∙ target_there g ts w.in-Fork.first w.index-in-Fork.result.now are inside.0
           in
           let second = w.index-in-Fork-2.ensures
           ∙ target_there g ts w.in-Fork.second w.index-in-Fork-2.result.now are inside.1 in

@@ -1,5 +1,5 @@
 use Rattle.std.proofs.Common.{map, take}
-use Rattle.ly_position.specs.Program.{step_of}
+use Rattle.ly_position.specs.Private.Program.{step_of}
 use Rattle.ly_position.proofs.NumberLemmas.{LinkedBefore}
 use Rattle.ly_position.proofs.link.link.Given as goal
 

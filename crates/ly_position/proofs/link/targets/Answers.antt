@@ -1,5 +1,5 @@
 use Rattle.std.proofs.Common.{[], ap, get_or, map, refl, ◌∙◌}
-use Rattle.ly_position.specs.Program.{step_of}
+use Rattle.ly_position.specs.Private.Program.{step_of}
 use Rattle.ly_position.specs.declared.program.Instruction.TheVariants.{Fork, Read}
 use Rattle.ly_position.proofs.NumberLemmas.{get-map_at, not_fork, numbered_fork, numbered_position}
 use Rattle.ly_position.proofs.link.targets.Goals as goal

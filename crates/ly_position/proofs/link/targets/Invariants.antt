@@ -1,5 +1,5 @@
 use Rattle.std.proofs.Common.{map}
-use Rattle.ly_position.specs.Program.{step_of}
+use Rattle.ly_position.specs.Private.Program.{step_of}
 use Rattle.ly_position.proofs.NumberLemmas.{Numbered}
 use Rattle.ly_position.proofs.link.targets.Given as goal
 

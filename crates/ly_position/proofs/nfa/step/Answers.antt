@@ -1,6 +1,6 @@
-use Rattle.std.proofs.Common.{◌≡◌, ◌<◌, [], ap, arith, get_or, le_antisymm, length, sym, take, ◌∙◌}
+use Rattle.std.proofs.Common.{◌≡◌, ◌<◌, [], arith, get_or, length, take, ◌∙◌}
 use Rattle.std.proofs.lemmas.List.{take_all}
-use Rattle.ly_position.specs.Target.{GoesOn}
+use Rattle.ly_position.specs.Private.Targets.{GoesOn}
 use Rattle.ly_position.specs.declared.nfa.Slot.TheVariants.{Reads}
 use Rattle.ly_position.specs.declared.nfa.Target.TheVariants.{Position}
 use Rattle.ly_position.proofs.SetLemmas.{puts_all, puts_one, puts_skip}
@@ -18,19 +18,19 @@ loop-number-preserved c =
     let d = Reads (record { words = [] }) (Position 0) in
     let less : p < length slots = let w = c.members-number-items.ensures.within i 0 c.loop-number-test.true in
     omega (arith, c.requires.from) in
-    elim c.match-next_of.branch [
+    elim c.match-target_after.branch [
       | in-Some w ↦
           rw w.into-is
           (puts_one (GoesOn slots byte) c.args.into.now c.loop-number.into items i c.loop-number-test.true
           c.loop-number.invariant w.put.new.self w.in-Some.next
-          (goes_on slots byte p d c.next_of.result less c.next_of.ensures w.in-Some.next w.in-Some.is)
-          (goes_on_once slots byte p d c.next_of.result less c.next_of.ensures w.in-Some.next w.in-Some.is)
+          (goes_on slots byte p d c.target_after.result less c.target_after.ensures w.in-Some.next w.in-Some.is)
+          (goes_on_once slots byte p d c.target_after.result less c.target_after.ensures w.in-Some.next w.in-Some.is)
           w.put.ensures.added w.put.ensures.room)
       | in_default w ↦
           rw w.into-is
           (puts_skip (GoesOn slots byte) c.args.into.now c.loop-number.into items i c.loop-number-test.true
           c.loop-number.invariant
-          (goes_nowhere slots byte p d c.next_of.result less c.next_of.ensures w.in_default.is))
+          (goes_nowhere slots byte p d c.target_after.result less c.target_after.ensures w.in_default.is))
     ]
 
 pub returns-clause-members : goal.returns-clause-members

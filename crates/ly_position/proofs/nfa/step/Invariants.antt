@@ -1,5 +1,5 @@
 use Rattle.std.proofs.Common.{take}
-use Rattle.ly_position.specs.Target.{GoesOn}
+use Rattle.ly_position.specs.Private.Targets.{GoesOn}
 use Rattle.ly_position.proofs.SetLemmas.{Puts}
 use Rattle.ly_position.proofs.nfa.step.Given as goal
 

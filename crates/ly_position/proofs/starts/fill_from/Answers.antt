@@ -1,10 +1,10 @@
-use Rattle.std.proofs.Common.{◌≡◌, ℕ, Some, ap, get_or, sym, take, ◌∙◌}
+use Rattle.std.proofs.Common.{◌≡◌, Some, get_or, take}
 use Rattle.std.specs.Prelude.{slice_get}
 use Rattle.std.proofs.lemmas.List.{take_all}
 use Rattle.std.proofs.lemmas.Option.{slice_get-get_or}
 use Rattle.ly_position.specs.declared.nfa.Target.{Target}
 use Rattle.ly_position.specs.declared.nfa.Target.TheVariants.{Position}
-use Rattle.ly_position.proofs.SetLemmas.{puts_all, puts_none, puts_one}
+use Rattle.ly_position.proofs.SetLemmas.{puts_all, puts_one}
 use Rattle.ly_position.proofs.starts.fill_from.Goals as goal
 
 pub loop-root-preserved : goal.loop-root-preserved

@@ -2,10 +2,10 @@ use Rattle.std.proofs.Common.{◌≡◌, ◌<◌, ◌∷◌, [], ℕ, List, Vec,
 use Rattle.std.proofs.Common.{le_antisymm, length-append}
 use Rattle.std.specs.Prelude.{All, Contains, ◌↔◌}
 use Rattle.std.proofs.lemmas.List.{length-map, get_or-map}
-use Rattle.ly_position.specs.Program.{step_of}
-use Rattle.ly_position.specs.Link.{IsReachList}
-use Rattle.ly_position.specs.Starts.{AreRoots}
-use Rattle.ly_position.specs.Target.{LeadsFrom}
+use Rattle.ly_position.specs.Private.Program.{step_of}
+use Rattle.ly_position.specs.Private.Link.{IsReachList}
+use Rattle.ly_position.specs.Private.Starts.{AreRoots}
+use Rattle.ly_position.specs.Private.Targets.{EntersTo}
 use Rattle.ly_position.proofs.LinkLemmas.{forks_within, leads_members, targets_within}
 use Rattle.ly_position.proofs.StartLemmas.{lists_more, starts_all}
 use Rattle.ly_position.proofs.starts.starts.Goals as goal
@@ -70,7 +70,7 @@ loop-list-preserved c =
     let found = rw (c.deref-in-loop-list.ensures.value, c.deref-in-loop-list-2.ensures.value) at
     c.fill_from.ensures.members in
     let shown : (q : ℕ) → Contains c.members.result.now q
-    ↔ LeadsFrom linked.targets.items linked.forks.items roots q =
+    ↔ EntersTo linked.targets.items linked.forks.items roots q =
     rw c.members.ensures.these found in
     let list : IsReachList g roots c.members.result.now = record {
       members = leads_members g linked.targets.items linked.slots.items linked.forks.items c.requires.closed

@@ -1,6 +1,6 @@
 use Rattle.std.proofs.Common.{◌≡◌, ◌<◌, [], ℕ, Vec, Global, length, map, get_or}
-use Rattle.ly_position.specs.Program.{step_of}
-use Rattle.ly_position.specs.Link.{IsReachList}
+use Rattle.ly_position.specs.Private.Program.{step_of}
+use Rattle.ly_position.specs.Private.Link.{IsReachList}
 use Rattle.ly_position.proofs.starts.starts.Given as goal
 
 abbrev pub invariant-loop-list : goal.invariant-loop-list

@@ -1,7 +1,6 @@
-use Rattle.std.proofs.Common.{ℕ, List, arith, subst, sym}
+use Rattle.std.proofs.Common.{arith, subst}
 use Rattle.std.specs.Prelude.{Contains, ◌↔◌}
 use Rattle.ly_position.specs.Nfa.{Nfa, Stepped}
-use Rattle.ly_position.specs.Target.{Leads}
 use Rattle.ly_position.proofs.StepLemmas.{stepped}
 use Rattle.ly_position.proofs.nfa.PosNfa.step.Goals as goal
 

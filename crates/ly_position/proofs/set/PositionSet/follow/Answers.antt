@@ -14,7 +14,7 @@ loop-done-preserved c =
     let again = shown.ensures.these in
     closing_next c.args.forks.now c.args.self.now c.loop-done.self c.put.new.self c.put-in-loop-done.new.self
     shown.result.now c.loop-done.done (record { first = Position 0; second = Position 0 }) c.loop-done.invariant again
-    (omega (arith, ap length same, ap length again)) 
+    (omega (arith, ap length same, ap length again))
     (let in_bound = shown.ensures.within c.loop-done.done 0 (omega (arith, ap length same, ap length again)) in
     let room = c.loop-done.invariant.room.forks in
     omega (arith, c.requires.room))

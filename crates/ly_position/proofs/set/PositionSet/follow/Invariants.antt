@@ -1,4 +1,4 @@
-use Rattle.std.proofs.Common.{ℕ, ◌-◌, length}
+use Rattle.std.proofs.Common.{◌-◌, length}
 use Rattle.ly_position.proofs.SetLemmas.{Closing}
 use Rattle.ly_position.proofs.set.PositionSet.follow.Given as goal
 

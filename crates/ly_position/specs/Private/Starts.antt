@@ -5,8 +5,8 @@ use Rattle.std.specs.declared.alloc.Global.{Global}
 use Rattle.std.specs.declared.vec.Vec.{Vec}
 use Rattle.ly_ere.specs.declared.pattern.Rule.{Rule}
 use Rattle.ly_ere.specs.Winner.{IsActive}
-use Rattle.ly_position.specs.Program.{Step}
-use Rattle.ly_position.specs.Link.{IsReachList}
+use Rattle.ly_position.specs.Private.Program.{Step}
+use Rattle.ly_position.specs.Private.Link.{IsReachList}
 
 -- lists in memory as lists
 abbrev pub rows_of : List (Vec ℕ Global) → List (List ℕ)
@@ -16,6 +16,7 @@ rows_of rows = map (λ (v : Vec ℕ Global). v.items) rows
 abbrev pub key : ℕ → Bool → ℕ
 key condition line = 2 * condition + (if line then 1 else 0)
 
+-- the list of a condition, where a line begins or elsewhere
 abbrev pub root_list : List (List ℕ) → ℕ → Bool → List ℕ
 root_list lists condition line = slice_index_or lists (key condition line) []
 

@@ -15,9 +15,9 @@ PartMatches es None w = ⊥
 PartMatches es (Some a) w = PlainMatches (part_of es a) w
 
 -- the part is one of the first n expressions, or none
-abbrev pub IsPart : ℕ → Option ℕ → Type 0
-IsPart n None = Unit {0}
-IsPart n (Some a) = a < n
+abbrev pub IsPlainPart : ℕ → Option ℕ → Type 0
+IsPlainPart n None = Unit {0}
+IsPlainPart n (Some a) = a < n
 
 -- a string of L and then one of M
 abbrev pub InTurn : (List ℕ → Type 0) → (List ℕ → Type 0) → List ℕ → Type 0
@@ -31,7 +31,7 @@ Same L M = (w : List ℕ) → L w ↔ M w
 pub record Makes (old new : List Expression) (part : Option ℕ) (L : List ℕ → Type 0) : Type 0 where
   pub rest : List Expression
   pub grown : new ≡ old ++ rest
-  pub within : IsPart (length new) part
+  pub within : IsPlainPart (length new) part
   pub spells : Same (PartMatches new part) L
 
 -- the node is no name and no interval

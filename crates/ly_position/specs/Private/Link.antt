@@ -1,10 +1,10 @@
 -- The positions and the forks of a program, each numbered in the order of the program.
-use Rattle.std.specs.Prelude.{◌≡◌, ◌≢◌, ◌↔◌, ℕ, ◌<◌, List, ◌∷◌, [], length, take, filter, slice_get, AllPairs, Bool}
-use Rattle.std.specs.Prelude.{true, false, Contains, Option, Some, None}
+use Rattle.std.specs.Prelude.{◌≡◌, ◌≢◌, ◌↔◌, ℕ, ◌<◌, List, length, take, filter, slice_get, AllPairs, Bool}
+use Rattle.std.specs.Prelude.{true, false, Contains, Option, Some}
 use Rattle.std.specs.List.{AllZip}
 use Rattle.ly_base.specs.ByteSet.{members}
-use Rattle.ly_position.specs.Program.{Step, reads, fork, ends}
-use Rattle.ly_position.specs.Reach.{Reached}
+use Rattle.ly_position.specs.Private.Program.{Step, reads, fork, ends}
+use Rattle.ly_position.specs.Private.Reach.{Reached}
 use Rattle.ly_position.specs.declared.nfa.Fork.{Fork}
 use Rattle.ly_position.specs.declared.nfa.Slot.{Slot}
 use Rattle.ly_position.specs.declared.nfa.Slot.TheVariants as slot
@@ -17,6 +17,7 @@ is_position (reads bytes q) = true
 is_position (fork a b) = false
 is_position (ends i) = true
 
+-- a step is a fork
 abbrev pub is_fork : Step → Bool
 is_fork (reads bytes q) = false
 is_fork (fork a b) = true
@@ -26,11 +27,12 @@ is_fork (ends i) = false
 abbrev pub rank : (Step → Bool) → List Step → ℕ → ℕ
 rank test g p = length (filter test (take p g))
 
--- what a step at p is
+-- what a step is that stands at p
 abbrev pub target_at : List Step → ℕ → Option Step → Target
 target_at g p (Some (fork a b)) = target.Fork (rank is_fork g p)
 target_at g p _ = target.Position (rank is_position g p)
 
+-- what step p is
 abbrev pub target_of : List Step → ℕ → Target
 target_of g p = target_at g p (slice_get g p)
 
@@ -54,7 +56,7 @@ IsForkOf g (fork a b) f = (f.first ≡ target_of g a) × (f.second ≡ target_of
 IsForkOf g (ends i) f = ⊥
 
 -- the program by what its steps are, its positions and its forks
-pub record IsLinked (g : List Step) (targets : List Target) (slots : List Slot) (forks : List Fork) : Type 0 where
+pub record IsLinkOf (g : List Step) (targets : List Target) (slots : List Slot) (forks : List Fork) : Type 0 where
   pub targets_are : AreTargets g targets
   pub slots_are : AllZip (IsSlotOf g) (filter is_position g) slots
   pub forks_are : AllZip (IsForkOf g) (filter is_fork g) forks

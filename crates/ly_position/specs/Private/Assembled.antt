@@ -1,9 +1,9 @@
 -- An automaton that was put together from a program.
 use Rattle.std.specs.Prelude.{◌≡◌, ℕ, List, Option}
 use Rattle.ly_ere.specs.declared.pattern.Rule.{Rule}
-use Rattle.ly_position.specs.Program.{Step}
-use Rattle.ly_position.specs.Link.{IsLinked}
-use Rattle.ly_position.specs.Starts.{StartsAt}
+use Rattle.ly_position.specs.Private.Program.{Step}
+use Rattle.ly_position.specs.Private.Link.{IsLinkOf}
+use Rattle.ly_position.specs.Private.Starts.{StartsAt}
 use Rattle.ly_position.specs.Nfa.{Nfa}
 use Rattle.ly_position.specs.Position.{nfa_of}
 use Rattle.ly_position.specs.declared.nfa.Fork.{Fork}
@@ -18,5 +18,5 @@ pub record Assembled (g : List Step) (rules : List Rule) (entries : List (Option
   pub forks : List Fork
   pub starts : List (List ℕ)
   pub is : nfa ≡ nfa_of slots forks starts
-  pub linked : IsLinked g targets slots forks
+  pub linked : IsLinkOf g targets slots forks
   pub begins : StartsAt g rules entries conditions starts

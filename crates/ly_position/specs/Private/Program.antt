@@ -14,11 +14,13 @@ pub data Step : Type 0 where
   fork : ℕ → ℕ → Step
   ends : ℕ → Step
 
+-- the step of an instruction
 abbrev pub step_of : Instruction → Step
 step_of (Read bytes next) = reads (members bytes) next
 step_of (Fork a b) = fork a b
 step_of (End rule) = ends rule.0
 
+-- the steps of a program in memory
 abbrev pub steps_of : List Instruction → List Step
 steps_of code = map step_of code
 
@@ -64,16 +66,16 @@ code (repeat m n r) base next = []
 code (name x) base next = []
 
 -- no name, no interval, and every set has a member
-abbrev pub IsPlain : Expression → Type 0
-IsPlain (set bytes) = bytes ≢ []
-IsPlain empty = Unit {0}
-IsPlain (concat r s) = IsPlain r × IsPlain s
-IsPlain (either r s) = IsPlain r × IsPlain s
-IsPlain (star r) = IsPlain r
-IsPlain (plus r) = IsPlain r
-IsPlain (optional r) = IsPlain r
-IsPlain (repeat m n r) = ⊥
-IsPlain (name x) = ⊥
+abbrev pub IsPlainExpression : Expression → Type 0
+IsPlainExpression (set bytes) = bytes ≢ []
+IsPlainExpression empty = Unit {0}
+IsPlainExpression (concat r s) = IsPlainExpression r × IsPlainExpression s
+IsPlainExpression (either r s) = IsPlainExpression r × IsPlainExpression s
+IsPlainExpression (star r) = IsPlainExpression r
+IsPlainExpression (plus r) = IsPlainExpression r
+IsPlainExpression (optional r) = IsPlainExpression r
+IsPlainExpression (repeat m n r) = ⊥
+IsPlainExpression (name x) = ⊥
 
 -- how many steps the code of a node has, by those of the nodes before it
 abbrev pub node_size : List ℕ → Node → ℕ

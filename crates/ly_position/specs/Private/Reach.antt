@@ -1,6 +1,6 @@
 -- What a program reaches by forks alone.
 use Rattle.std.specs.Prelude.{◌≡◌, ℕ, ◌<◌, List, length, slice_get, Contains, Some}
-use Rattle.ly_position.specs.Program.{Step, reads, fork, ends}
+use Rattle.ly_position.specs.Private.Program.{Step, reads, fork, ends}
 
 -- a step leads to steps below n only
 abbrev pub LeadsBelow : ℕ → Step → Type 0

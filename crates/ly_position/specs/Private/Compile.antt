@@ -3,10 +3,10 @@ use Rattle.std.specs.Prelude.{◌≡◌, ◌↔◌, ℕ, ◌+◌, ◌<◌, List,
 use Rattle.std.specs.Prelude.{Option, Some, None}
 use Rattle.ly_ere.specs.Expression.{Expression, set, empty, concat, either, star, plus, optional, repeat, name}
 use Rattle.ly_ere.specs.Arena.{part_of}
-use Rattle.ly_position.specs.Plain.{IsPart}
-use Rattle.ly_position.specs.Plan.{ListedMatches}
-use Rattle.ly_position.specs.Program.{Step, ends, fork, Runs, size, code}
-use Rattle.ly_position.specs.Reach.{StaysInside}
+use Rattle.ly_position.specs.Private.Plain.{IsPlainPart}
+use Rattle.ly_position.specs.Private.Plan.{ListedMatches}
+use Rattle.ly_position.specs.Private.Program.{Step, ends, fork, Runs, size, code}
+use Rattle.ly_position.specs.Private.Reach.{StaysInside}
 use Rattle.ly_position.specs.declared.program.Task.{Task}
 use Rattle.ly_position.specs.declared.program.Task.TheVariants as task
 
@@ -15,6 +15,7 @@ abbrev pub task_steps : List Expression → Task → ℕ → List Step
 task_steps es (task.Code p next) base = code (part_of es p) base next
 task_steps es (task.Fork a b) base = fork a b ∷ []
 
+-- how many steps a task makes
 abbrev pub task_size : List Expression → Task → ℕ
 task_size es (task.Code p next) = size (part_of es p)
 task_size es (task.Fork a b) = 1
@@ -41,6 +42,7 @@ work (optional r) = 2 + work r
 work (repeat m n r) = 1
 work (name x) = 1
 
+-- the same for a task
 abbrev pub task_work : List Expression → Task → ℕ
 task_work es (task.Code p next) = work (part_of es p)
 task_work es (task.Fork a b) = 1
@@ -55,7 +57,7 @@ EntryRuns program i (Some p) w = (n : ℕ) × Runs program i n p w
 pub record IsProgram (es : List Expression) (parts : List (Option ℕ)) (program : List Step)
     (entries : List (Option ℕ)) : Type 0 where
   pub closed : StaysInside program
-  pub within : All (IsPart (length program)) entries
+  pub within : All (IsPlainPart (length program)) entries
   pub count : length entries ≡ length parts
   pub spells : (i j : ℕ) (w : List ℕ) → EntryRuns program j (slice_index_or entries i None) w
       ↔ ((j ≡ i) × ListedMatches es parts i w)
