@@ -37,12 +37,11 @@ fn tokens_are_the_longest_strings_that_belong(rt: HostRuntime) -> Result<(), Fai
             let text = string(rt.alloc(), number)?;
             let (end, lines) = answer(rt.alloc(), &lex, &text)?;
             let (wanted_end, wanted) = by_definition(rt.alloc(), &expressions, &text)?;
-            assert_eq!(rt;
-                lines.as_slice(),
-                wanted.as_slice(),
+            assert!(rt;
+                lines.as_slice() == wanted.as_slice(),
                 "patterns {patterns:?}, text {text:?}"
             );
-            assert_eq!(rt; end, wanted_end, "patterns {patterns:?}, text {text:?}");
+            assert!(rt; end == wanted_end, "patterns {patterns:?}, text {text:?}");
         }
     }
     Ok(())

@@ -335,7 +335,7 @@ fn a_ring_of_a_thousand(rt: HostRuntime) -> Result<(), Fail> {
     assert!(rt; rise <= 2_000, "{rise} changes");
     for node in 0..nodes {
         assert!(rt; node < sets.rows());
-        assert_eq!(rt; sets.count(node), 1_000, "row {node}");
+        assert!(rt; sets.count(node) == 1_000, "row {node}");
     }
     Ok(())
 }
