@@ -10,7 +10,7 @@ use Rattle.ly_base.specs.declared.cut.Cut.{Cut}
 use Rattle.ly_base.specs.declared.cut.Cut.TheVariants.{Whole, Head, Tail}
 use Rattle.ly_ere.specs.Expression.{Expression, Matches}
 use Rattle.ly_ere.specs.declared.pattern.Rule.{Rule}
-use Rattle.ly_ere.specs.Winner.{InTail, IsString, CutHolds, Fits, Candidate, Winner, HasNoWinner}
+use Rattle.ly_ere.specs.Winner.{InTail, IsString, CutHolds, FitsPattern, Candidate, Winner, HasNoWinner}
 use Rattle.ly_scan.specs.Cuts.{token_len}
 use Rattle.ly_scan.specs.Lexer.{Scanner, IsLexemeAt, IsLongestAt, ScanEndsAt}
 use Rattle.ly_scan.specs.Walk.{HasNone}
@@ -84,7 +84,7 @@ module _ (names : List Expression) (rules : List Rule) (s : Scanner) (a : Agrees
       → IsString names rules p.condition p.line i (take n p.rest)
   string_of i n m c = record {
     rule = c.rule;
-    is_active = record { is_rule = c.is_rule; in_condition = c.is_active; at_line = c.at_line };
+    is_active = c.is_active;
     spelled = (
       take m p.rest,
       take (n - m) (drop m p.rest),
@@ -116,7 +116,7 @@ module _ (names : List Expression) (rules : List Rule) (s : Scanner) (a : Agrees
       let long : length (take n p.rest) ≡ n = let h = l.within in omega (arith, length-take n p.rest) in
       let total : length f.spelled.0 + length f.spelled.1 ≡ n
       = omega (arith, ap length f.spelled.2, length-append f.spelled.0 f.spelled.1) in
-      let fits : Fits names f.rule.pattern p.rest n (length f.spelled.0) = record {
+      let fits : FitsPattern names f.rule.pattern p.rest n (length f.spelled.0) = record {
         some_byte = w.2;
         token_within = omega arith;
         within = l.within;
@@ -126,10 +126,8 @@ module _ (names : List Expression) (rules : List Rule) (s : Scanner) (a : Agrees
       record {
         is_candidate = record {
           rule = f.rule;
-          is_rule = f.is_active.is_rule;
-          is_active = f.is_active.in_condition;
-          at_line = f.is_active.at_line;
-          fits = subst (λ k. Fits names f.rule.pattern p.rest n k) (sym same) fits;
+          is_active = f.is_active;
+          fits = subst (λ k. FitsPattern names f.rule.pattern p.rest n k) (sym same) fits;
         };
         longest = λ j k m h. let g = a.found p.condition p.line (take k p.rest) j (string_of j k m h)
             in no_longer k g.0 h.fits.within g.1;

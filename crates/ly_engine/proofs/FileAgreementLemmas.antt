@@ -28,15 +28,14 @@ runs_spell bytes file conditions nfa text one are i c line w = (there (cases_lt 
   where
     there : (c < conditions) ⊎ (conditions ≤ c) → (p : ℕ) × Contains (starts_of nfa c line) p × RunsTo nfa i p w
         → IsString file.names file.rules.items c line i w
-    there (inl less) h = let s = (are.spells c line i w less).0 h
-        in record { rule = s.0; is_active = record { is_rule = s.1; in_condition = s.2; at_line = s.3 }; spelled = s.4 }
+    there (inl less) h = (are.spells c line i w less).0 h
     there (inr more) h = let P : List ℕ → Type 0 = λ ps. Contains ps h.0
         in Contains-none h.0 (subst P (are.starts_past c line more) h.1)
 
     back : IsString file.names file.rules.items c line i w → (p : ℕ) × Contains (starts_of nfa c line) p
         × RunsTo nfa i p w
     back s = let first = only_first s.rule c (rules_plain bytes file text i s.rule s.is_active.is_rule) s.is_active.in_condition in
-        (are.spells c line i w (omega arith)).1 (s.rule, s.is_active.is_rule, s.is_active.in_condition, s.is_active.at_line, s.spelled)
+        (are.spells c line i w (omega arith)).1 s
 
 -- no rule has a tail
 have_bytes : (bytes : List ℕ) (file : LexFile) → LexText bytes file → HaveBytes file.names file.rules.items

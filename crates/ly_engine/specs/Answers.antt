@@ -2,20 +2,15 @@
 use Rattle.std.specs.Prelude.{◌≡◌, ◌<◌, ◌≤◌, ℕ, List, Option, IfSome}
 use Rattle.ly_base.specs.Limits.{Sizes}
 use Rattle.ly_base.specs.declared.lexeme.End.{End}
-use Rattle.ly_lexread.specs.LexText.{LexText}
-use Rattle.ly_lexread.specs.Rules.{AreLight}
+use Rattle.ly_lexread.specs.LexText.{IsLight, LexText}
 use Rattle.ly_lexread.specs.declared.file.LexFile.{LexFile}
 use Rattle.ly_position.specs.TotalWeight.{total_weight}
 use Rattle.ly_engine.specs.Answering.{IsAnswer}
 
--- no pattern is too heavy by itself
-abbrev pub IsLight : Sizes → LexFile → Type 0
-IsLight limits file = AreLight limits.pattern_weight file.names file.rules.items
-
 -- the bytes of a lex file whose patterns are too heavy together
-abbrev pub IsTooHeavy : Sizes → List ℕ → Type 0
-IsTooHeavy limits lex =
-    (file : LexFile) × LexText lex file × IsLight limits file
+abbrev pub AreTooHeavy : Sizes → List ℕ → Type 0
+AreTooHeavy limits lex =
+    (file : LexFile) × LexText lex file × IsLight limits.pattern_weight file
     × (limits.total_weight < total_weight file.names file.rules.items)
 
 -- The lex bytes are those of a lex file within the limits, and the answer is that to a text under it: to the
@@ -23,7 +18,7 @@ IsTooHeavy limits lex =
 pub record Answers (limits : Sizes) (lex : List ℕ) (left : Option (List ℕ)) (e : End) (answer : List ℕ) : Type 0 where
   pub file : LexFile
   pub spelled : LexText lex file
-  pub light : IsLight limits file
+  pub light : IsLight limits.pattern_weight file
   pub within : total_weight file.names file.rules.items ≤ limits.total_weight
   pub text : List ℕ
   pub is_text : IfSome left (λ bytes. text ≡ bytes)

@@ -48,8 +48,7 @@ impl Steps for PositionWalk<'_> {
     ghost cut_of = { λ w. cut_in w.rules.now };
 
     fn start(&mut self, condition: u32, at_line_start: bool) -> bool {
-        self.current
-            .fill(self.nfa.start(condition, at_line_start));
+        self.current.fill(self.nfa.start(condition, at_line_start));
         !self.current.members().is_empty()
     }
 

@@ -3,9 +3,8 @@ ghost use Rattle.std.specs.Io.KnownBytes.{Appends, IsAtEnd};
 ghost use Rattle.ly_base.specs.Device.{next_count};
 ghost use Rattle.ly_base.specs.Limits.{version_1};
 ghost use Rattle.ly_base.specs.declared.lexeme.End.{End};
-ghost use Rattle.ly_ere.specs.declared.fault.EreFault.TheVariants.{TooHeavy};
-ghost use Rattle.ly_lexread.specs.FaultNumber.{IsOfText};
-ghost use Rattle.ly_lexread.specs.LexText.{IsHeavyText, LexText};
+ghost use Rattle.ly_lexread.specs.Faults.{IsOfText, IsTooHeavy};
+ghost use Rattle.ly_lexread.specs.LexText.{IsHeavyText, IsLight, LexText};
 ghost use Rattle.ly_lexread.specs.declared.fault.LexFault.{LexFault};
 ghost use Rattle.ly_lexread.specs.declared.file.LexFile.{LexFile};
 ghost use Rattle.ly_position.specs.TotalWeight.{total_weight};
@@ -13,7 +12,7 @@ ghost use Rattle.ly_position.specs.declared.fault.PosFault.{PosFault};
 ghost use Rattle.ly_position.specs.declared.fault.PosFault.TheVariants.{TooManyPositions};
 ghost use Rattle.ly_engine.specs.Agreement.{Agrees};
 ghost use Rattle.ly_engine.specs.Answering.{IsAnswer};
-ghost use Rattle.ly_engine.specs.Answers.{Answers, IsLight, IsTooHeavy};
+ghost use Rattle.ly_engine.specs.Answers.{Answers, AreTooHeavy};
 ghost use Rattle.ly_engine.specs.PositionWalk.{cut_in, position_walk};
 ghost use Rattle.ly_engine.specs.Printing.{end_of, LeavesTokens};
 ghost use Rattle.ly_engine.specs.TokensFault.{IsBeforeReading, IsBeforeWriting, IsWrite};
@@ -43,13 +42,15 @@ pub fn tokens<R: Source, W: Sink>(
     ensures beginning { (written : ℕ) → result ≡ Err (TokensFault.Write written) → (e : End) × ((answer : List ℕ)
         × Answers version_1 lex.now (R.remaining reader.old) e answer × (written < length answer)
         × Appends (W.contents writer.old) (W.contents writer.new) (take written answer)) }
-    ensures refused { (fault : LexFault) → result ≡ Err (TokensFault.Lex fault) → (file : LexFile)
-        → LexText lex.now file → IsLight version_1 file → ⊥ }
-    ensures heavy_pattern { (line : ℕ) → result ≡ Err (TokensFault.Lex (LexFault.Pattern line TooHeavy))
+    ensures refused { (fault : LexFault) → result ≡ Err (TokensFault.Lex fault) → (IsTooHeavy fault → ⊥)
+        → (file : LexFile) → LexText lex.now file → ⊥ }
+    ensures heavy_pattern { (fault : LexFault) → result ≡ Err (TokensFault.Lex fault) → IsTooHeavy fault
         → IsHeavyText version_1.pattern_weight lex.now }
+    ensures none_light { (fault : LexFault) → result ≡ Err (TokensFault.Lex fault) → IsTooHeavy fault
+        → (file : LexFile) → LexText lex.now file → IsLight version_1.pattern_weight file → ⊥ }
     ensures of_text { (fault : LexFault) → result ≡ Err (TokensFault.Lex fault) → IsOfText fault }
     ensures heavy { (fault : PosFault) → result ≡ Err (TokensFault.Positions fault)
-        → (fault ≡ TooManyPositions) × IsTooHeavy version_1 lex.now }
+        → (fault ≡ TooManyPositions) × AreTooHeavy version_1 lex.now }
     ensures ended { OnOk result (IsAtEnd (R.remaining reader.new)) }
     ensures read { IsErrOf result TokensFault.Read → R.failures reader.new ≡ next_count (R.failures reader.old) }
     ensures reader_held { (IsErrOf result TokensFault.Read → ⊥) → R.failures reader.new ≡ R.failures reader.old }

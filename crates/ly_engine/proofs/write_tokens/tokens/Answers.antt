@@ -1,6 +1,9 @@
 use Rattle.std.proofs.Common.{◌≡◌, ◌∙◌, ℕ, List, Err, Result, sym, ap, subst, ◌<◌, length, take}
 use Rattle.std.specs.Io.KnownBytes.{Appends}
+use Rattle.std.specs.Result.{IsErrAnd}
 use Rattle.std.proofs.lemmas.Result.{err_from_is_err_and}
+use Rattle.ly_lexread.specs.Faults.{IsTooHeavy}
+use Rattle.ly_engine.specs.declared.outcome.TokenEnd.{TokenEnd}
 use Rattle.ly_lexread.specs.declared.fault.LexFault.{LexFault}
 use Rattle.ly_lexread.specs.declared.fault.LexFault.TheVariants as lex
 use Rattle.ly_engine.specs.declared.fault.TokensFault.{TokensFault}
@@ -9,19 +12,35 @@ use Rattle.ly_engine.specs.Printing.{end_of}
 use Rattle.ly_engine.specs.TokensFault.{fault_of_lex}
 use Rattle.ly_engine.proofs.write_tokens.tokens.Goals as goal
 
--- the fault of a lex file isn't want of memory
+-- a fault of the lex file is the one that its reader gave
+same_lex : (f fault : LexFault) → Lex fault ≡ fault_of_lex f → fault ≡ f
+same_lex lex.OutOfMemory fault e = absurd cc
+same_lex (lex.NoRulesMark line) fault e = cc
+same_lex (lex.BadDefinition line) fault e = cc
+same_lex (lex.UnknownCondition line) fault e = cc
+same_lex (lex.BadAction line) fault e = cc
+same_lex (lex.Pattern line inner) fault e = cc
+
 not_memory : (f fault : LexFault) → Lex fault ≡ fault_of_lex f → f ≡ lex.OutOfMemory → ⊥
 not_memory f fault e is = let memory : fault_of_lex f ≡ OutOfMemory = ap fault_of_lex is in cc
 
 same_fault : {T : Type 0} (r : Result T TokensFault) (x y : TokensFault) → r ≡ Err x → r ≡ Err y → x ≡ y
 same_fault r x y a b = cc
 
+gave : (r : Result TokenEnd TokensFault) (f fault : LexFault) → IsErrAnd r (λ e. e ≡ fault_of_lex f)
+    → r ≡ Err (Lex fault) → Lex fault ≡ fault_of_lex f
+gave r f fault h is = let p = err_from_is_err_and r h in same_fault r (Lex fault) p.0 is p.1 ∙ p.2
+
 pub returns-in_err-file-clause-refused : goal.returns-in_err-file-clause-refused
-returns-in_err-file-clause-refused g c = λ fault is file text light.
-    let p = err_from_is_err_and c.from_residual.result c.from_residual.ensures.1 in
-    let gave : Lex fault ≡ fault_of_lex c.in_err-file.field-0.0
-    = same_fault c.from_residual.result (Lex fault) p.0 is p.1 ∙ p.2 in
-    c.in_err-file.ensures.refused (not_memory c.in_err-file.field-0.0 fault gave) file text light
+returns-in_err-file-clause-refused g c = λ fault is light file text.
+    let e = gave c.from_residual.result c.in_err-file.field-0.0 fault c.from_residual.ensures.1 is in
+    c.in_err-file.ensures.refused (not_memory c.in_err-file.field-0.0 fault e)
+    (λ heavy. light (subst IsTooHeavy (sym (same_lex c.in_err-file.field-0.0 fault e)) heavy)) file text
+
+pub returns-in_err-file-clause-none_light : goal.returns-in_err-file-clause-none_light
+returns-in_err-file-clause-none_light g c = λ fault is heavy file text.
+    let e = gave c.from_residual.result c.in_err-file.field-0.0 fault c.from_residual.ensures.1 is in
+    c.in_err-file.ensures.none_light (subst IsTooHeavy (same_lex c.in_err-file.field-0.0 fault e) heavy) file text
 
 pub returns-in_err-end-clause-heavy : goal.returns-in_err-end-clause-heavy
 returns-in_err-end-clause-heavy g c = λ fault is.
