@@ -38,9 +38,9 @@ pub record IsNextElement (text : List ℕ) (s : ReadElement) (n : ℕ) : Type 0 
   pub spelled : (w : Element) (rest : List ℕ) → IsElement text w rest ↔ (Denotes s w × (rest ≡ drop n text))
 
 -- an element that this stands for leads from one reading to the other
-abbrev pub Steps : ReadElement → Reading → Reading → Type 0
-Steps x r s = (w : Element) × Denotes x w × (step w r ≡ Some s)
+abbrev pub LeadsOn : ReadElement → Reading → Reading → Type 0
+LeadsOn x r s = (w : Element) × Denotes x w × (step w r ≡ Some s)
 
 -- no element that this stands for leads from the reading to another
-abbrev pub StepsNowhere : ReadElement → Reading → Type 0
-StepsNowhere x r = (w : Element) → Denotes x w → step w r ≡ None
+abbrev pub LeadsNowhere : ReadElement → Reading → Type 0
+LeadsNowhere x r = (w : Element) → Denotes x w → step w r ≡ None
