@@ -8,7 +8,7 @@ use Rattle.ly_ere.specs.declared.pattern.Rule.{Rule}
 use Rattle.ly_lexread.specs.declared.action.Action.{Action}
 use Rattle.ly_lexread.specs.declared.fault.LexFault.{LexFault}
 use Rattle.ly_lexread.specs.declared.fault.LexFault.TheVariants.{Pattern, OutOfMemory}
-use Rattle.ly_lexread.specs.Faults.{IsOfText, IsOfWeight}
+use Rattle.ly_lexread.specs.Faults.{IsOfText, IsTooHeavy}
 use Rattle.ly_lexread.specs.LexText.{IsReadAs}
 use Rattle.ly_lexread.specs.Rules.{AreLight, IsHeavyLine, IsRuleLine, MayBeRule}
 
@@ -29,7 +29,7 @@ module _ {T : Type 0} (Is Light : T → Type 0) (Heavy : Type 0) where
   })
 
   -- the text has no value
-  pub answer_fault : (fault : LexFault) → IsOfText fault → (IsOfWeight fault → ⊥) → ((x : T) → Is x → ⊥)
+  pub answer_fault : (fault : LexFault) → IsOfText fault → (IsTooHeavy fault → ⊥) → ((x : T) → Is x → ⊥)
       → IsReadAs Is Light Heavy (Err fault)
   answer_fault fault of_text light none = record {
     ok = tt;
@@ -58,9 +58,9 @@ module _ (most : ℕ) (names : List Expression) (line : List ℕ) (number : ℕ)
     (may_be : MayBeRule line) (memory : inner ≡ ere.OutOfMemory → fault ≡ OutOfMemory)
     (other : inner ≢ ere.OutOfMemory → fault ≡ Pattern number inner)
     (refusal : IsRefused most names (λ p. (n : ℕ) × IsFrontPattern names line p n) inner) where
-  too_heavy : IsOfWeight fault → inner ≡ ere.TooHeavy
-  too_heavy h = let given : inner ≢ ere.OutOfMemory = λ e. subst IsOfWeight (memory e) h
-      in subst IsOfWeight (other given) h
+  too_heavy : IsTooHeavy fault → inner ≡ ere.TooHeavy
+  too_heavy h = let given : inner ≢ ere.OutOfMemory = λ e. subst IsTooHeavy (memory e) h
+      in subst IsTooHeavy (other given) h
 
   pub answer_pattern : IsReadAs (λ (read : Rule × Action). IsRuleLine names line read.0 read.1)
       (λ read. AreLight most names (read.0 ∷ [])) (IsHeavyLine most names line) (Err fault)
@@ -71,7 +71,7 @@ module _ (most : ℕ) (names : List Expression) (line : List ℕ) (number : ℕ)
         in subst IsOfText (sym (other given)) given;
     refused = λ ne light x v.
         let given : inner ≢ ere.OutOfMemory = λ e. ne (memory e) in
-        refusal.refused given (λ e. light (subst IsOfWeight (sym (other given)) e)) x.0.pattern (v.taken, v.is_pattern);
+        refusal.refused given (λ e. light (subst IsTooHeavy (sym (other given)) e)) x.0.pattern (v.taken, v.is_pattern);
     heavy = λ h. let found = refusal.heavy (too_heavy h) in record {
       may_be = may_be;
       pattern = found.0;

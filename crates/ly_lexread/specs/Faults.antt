@@ -40,6 +40,6 @@ IsOfText (Pattern line inner) = inner ≢ ere.OutOfMemory
 IsOfText _ = Unit {0}
 
 -- a pattern is too heavy
-abbrev pub IsOfWeight : LexFault → Type 0
-IsOfWeight (Pattern line inner) = inner ≡ ere.TooHeavy
-IsOfWeight _ = ⊥
+abbrev pub IsTooHeavy : LexFault → Type 0
+IsTooHeavy (Pattern line inner) = inner ≡ ere.TooHeavy
+IsTooHeavy _ = ⊥

@@ -7,7 +7,7 @@ use Rattle.ly_lexread.specs.declared.fault.LexFault.{LexFault}
 use Rattle.ly_lexread.specs.declared.fault.LexFault.TheVariants.{OutOfMemory}
 use Rattle.ly_lexread.specs.Action.{meaning_of}
 use Rattle.ly_lexread.specs.Definitions.{Definitions}
-use Rattle.ly_lexread.specs.Faults.{IsOfText, IsOfWeight}
+use Rattle.ly_lexread.specs.Faults.{IsOfText, IsTooHeavy}
 use Rattle.ly_lexread.specs.Lines.{lines_of}
 use Rattle.ly_lexread.specs.Rules.{AreLight, HasHeavyLine, Rules}
 
@@ -33,9 +33,9 @@ pub record IsReadAs {T : Type 0} (Is Light : T → Type 0) (Heavy : Type 0) (res
   pub ok : IfOk result Is
   pub light : IfOk result Light
   pub of_text : IfErr result (λ fault. fault ≢ OutOfMemory → IsOfText fault)
-  pub refused : IfErr result (λ fault. fault ≢ OutOfMemory → (IsOfWeight fault → ⊥) → (x : T) → Is x → ⊥)
-  pub heavy : IfErr result (λ fault. IsOfWeight fault → Heavy)
-  pub none_light : IfErr result (λ fault. IsOfWeight fault → (x : T) → Is x → Light x → ⊥)
+  pub refused : IfErr result (λ fault. fault ≢ OutOfMemory → (IsTooHeavy fault → ⊥) → (x : T) → Is x → ⊥)
+  pub heavy : IfErr result (λ fault. IsTooHeavy fault → Heavy)
+  pub none_light : IfErr result (λ fault. IsTooHeavy fault → (x : T) → Is x → Light x → ⊥)
 
 -- what the reader of a lex file answers under a limit of a pattern's weight
 abbrev pub IsRead : ℕ → List ℕ → Result LexFile LexFault → Type 0

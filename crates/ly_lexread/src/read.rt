@@ -1,7 +1,7 @@
 ghost use Rattle.std.specs.Prelude.{Err, ◌≡◌, ◌≢◌, ◌∷◌, [], ℕ, List, IfErr, OnErr, OnOk};
 ghost use Rattle.ly_ere.specs.declared.fault.EreFault.TheVariants as ere;
 ghost use Rattle.ly_lexread.specs.Definitions.{Definitions, IsMark, IsUnused};
-ghost use Rattle.ly_lexread.specs.Faults.{IsOfText, IsOfWeight};
+ghost use Rattle.ly_lexread.specs.Faults.{IsOfText, IsTooHeavy};
 ghost use Rattle.ly_lexread.specs.LexText.{IsReadAs, IsRead};
 ghost use Rattle.ly_lexread.specs.Private.Lines.{lines_left};
 ghost use Rattle.ly_lexread.specs.Rules.{AreLight, HasHeavyLine, IsHeavyLine, IsRuleLine, Rules};
@@ -41,7 +41,7 @@ pub fn read_lex(alloc: Global, bytes: &[u8], limits: &Limits) -> Result<LexFile,
 fn skip_definitions(lines: &mut Lines<'_>) -> Result<(), LexFault>
     ensures ok { OnOk result (Definitions (lines_left lines.old) (lines_left lines.new)) }
     ensures of_text { IfErr result IsOfText }
-    ensures no_pattern { IfErr result (λ fault. IsOfWeight fault → ⊥) }
+    ensures no_pattern { IfErr result (λ fault. IsTooHeavy fault → ⊥) }
     ensures refused { OnErr result ((behind : List (List ℕ)) → Definitions (lines_left lines.old) behind → ⊥) }
 {
     while let Some(line) = lines.take() {
