@@ -21,10 +21,12 @@ expression_of done (Optional a) = optional (part_of done a)
 expression_of done (Repeat m n a) = repeat m n (part_of done a)
 expression_of done (Name x) = name x
 
+-- the expressions so far, and then those of these nodes
 abbrev pub expressions_from : List Expression → List Node → List Expression
 expressions_from done [] = done
 expressions_from done (n ∷ ns) = expressions_from (done ++ expression_of done n ∷ []) ns
 
+-- the expressions of nodes
 abbrev pub expressions : List Node → List Expression
 expressions ns = expressions_from [] ns
 

@@ -9,9 +9,11 @@ use Rattle.ly_ere.specs.Expression.{Expression, set, empty, concat, either, star
 abbrev pub PostfixItem : Type 0
 PostfixItem = List ℕ ⊎ (ℕ ⊎ ((ℕ × Option ℕ) ⊎ ℕ))
 
+-- the operator of a number
 abbrev pub operator : ℕ → PostfixItem
 operator k = inr (inr (inr k))
 
+-- an expression in postfix order
 abbrev pub to_items : Expression → List PostfixItem
 to_items (set bytes) = inl bytes ∷ []
 to_items empty = operator 0 ∷ []
@@ -23,6 +25,7 @@ to_items (optional r) = to_items r ++ operator 5 ∷ []
 to_items (repeat m n r) = to_items r ++ inr (inr (inl (m, n))) ∷ []
 to_items (name x) = inr (inl x) ∷ []
 
+-- the stack after an operator
 abbrev pub operate : ℕ → List Expression → List Expression
 operate zero st = empty ∷ st
 operate (suc zero) (s ∷ r ∷ st) = concat r s ∷ st
@@ -32,24 +35,29 @@ operate (suc (suc (suc (suc zero)))) (r ∷ st) = plus r ∷ st
 operate (suc (suc (suc (suc (suc k))))) (r ∷ st) = optional r ∷ st
 operate _ st = st
 
+-- the stack after a repetition
 abbrev pub repeated : ℕ → Option ℕ → List Expression → List Expression
 repeated m n [] = []
 repeated m n (r ∷ st) = repeat m n r ∷ st
 
+-- the stack after an item
 abbrev pub take_item : PostfixItem → List Expression → List Expression
 take_item (inl bytes) st = set bytes ∷ st
 take_item (inr (inl x)) st = name x ∷ st
 take_item (inr (inr (inl p))) st = repeated p.0 p.1 st
 take_item (inr (inr (inr k))) st = operate k st
 
+-- the stack after items
 abbrev pub take_items : List PostfixItem → List Expression → List Expression
 take_items [] st = st
 take_items (p ∷ ps) st = take_items ps (take_item p st)
 
+-- what is on top of the stack
 abbrev pub topmost : List Expression → Expression
 topmost [] = empty
 topmost (r ∷ st) = r
 
+-- the expression of items in postfix order
 abbrev pub from_items : List PostfixItem → Expression
 from_items ps = topmost (take_items ps [])
 
@@ -77,6 +85,7 @@ reads (name x) st = refl
 pub from_items-to_items : (r : Expression) → from_items (to_items r) ≡ r
 from_items-to_items r = ap topmost (reads r [])
 
+-- an expression is stored as its items in postfix order
 abbrev pub expression_code : Coded Expression
 expression_code =
     code_by (List PostfixItem)

@@ -27,6 +27,7 @@ named_weight names zero x = 0
 named_weight names (suc n) x = if nat_eq x n then weight_under (named_weight names n) (slice_index_or names n empty)
     else named_weight names n x
 
+-- the weight of an expression under definitions
 abbrev pub weight_of : List Expression → Expression → ℕ
 weight_of names e = weight_under (named_weight names (length names)) e
 

@@ -25,6 +25,7 @@ CutHolds names h (Some t) Whole = ⊥
 CutHolds names h (Some t) (Head n) = HasLength names h n
 CutHolds names h (Some t) (Tail n) = HasLength names t n
 
+-- the cut of a pattern tells the truth
 abbrev pub IsCut : List Expression → Pattern → Type 0
 IsCut names p = CutHolds names p.head p.tail p.cut
 
@@ -71,5 +72,6 @@ pub record Winner (names : List Expression) (rules : List Rule) (condition : ℕ
   pub longest : (j k l : ℕ) → Candidate names rules condition line rest j k l → k ≤ n
   pub first : (j l : ℕ) → Candidate names rules condition line rest j n l → i ≤ j
 
+-- no rule matches at the place
 abbrev pub HasNoWinner : List Expression → List Rule → ℕ → Bool → List ℕ → Type 0
 HasNoWinner names rules condition line rest = (i n m : ℕ) → Candidate names rules condition line rest i n m → ⊥

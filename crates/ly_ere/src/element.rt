@@ -1,7 +1,5 @@
 ghost use Rattle.std.specs.Prelude.{◌≡◌, ℕ, IfErr, ◌<◌, ◌≢◌, length, slice_index, not, nat_eq, IfOk};
-ghost use Rattle.ly_ere.specs.Private.Front.{BeginsNo};
-ghost use Rattle.ly_ere.specs.Private.Elements.{IsNextElement};
-ghost use Rattle.ly_ere.specs.Elements.{IsElement};
+ghost use Rattle.ly_ere.specs.Private.Elements.{ReadsElement};
 ghost use Rattle.ly_base.specs.ByteSet.{bytes_where, members};
 
 use crate::bracket::bracket;
@@ -58,8 +56,7 @@ impl Postfix {
 /// Reads the element at the front of a text, and answers how many bytes it takes.
 pub(crate) fn next_element(text: &[u8]) -> Result<(Element<'_>, usize), SyntaxFault>
     requires { 0 < length text.now }
-    ensures next { IfOk result (λ found. IsNextElement text.entry.now found.0 found.1) }
-    ensures refused { IfErr result (λ _. BeginsNo IsElement text.entry.now) }
+    ensures { ReadsElement text.entry.now result }
 {
     match text[0] {
         b'(' => Ok((Element::Opening, 1)),
@@ -83,8 +80,7 @@ pub(crate) fn next_element(text: &[u8]) -> Result<(Element<'_>, usize), SyntaxFa
 fn string(text: &[u8]) -> Result<(Element<'_>, usize), SyntaxFault>
     requires some { 0 < length text.now }
     requires quote { slice_index text.now 0 ≡ 34 }
-    ensures next { IfOk result (λ found. IsNextElement text.entry.now found.0 found.1) }
-    ensures refused { IfErr result (λ _. BeginsNo IsElement text.entry.now) }
+    ensures { ReadsElement text.entry.now result }
 {
     let behind = &text[1..];
     Ok((Element::String(behind), 1 + quoted_length(behind)?))
@@ -94,8 +90,7 @@ fn string(text: &[u8]) -> Result<(Element<'_>, usize), SyntaxFault>
 fn list(text: &[u8]) -> Result<(Element<'_>, usize), SyntaxFault>
     requires some { 0 < length text.now }
     requires opening { slice_index text.now 0 ≡ 91 }
-    ensures next { IfOk result (λ found. IsNextElement text.entry.now found.0 found.1) }
-    ensures refused { IfErr result (λ _. BeginsNo IsElement text.entry.now) }
+    ensures { ReadsElement text.entry.now result }
 {
     let (set, length) = bracket(text)?;
     Ok((Element::OneOf(set), length))
@@ -105,8 +100,7 @@ fn list(text: &[u8]) -> Result<(Element<'_>, usize), SyntaxFault>
 fn escaped(text: &[u8]) -> Result<(Element<'_>, usize), SyntaxFault>
     requires some { 0 < length text.now }
     requires backslash { slice_index text.now 0 ≡ 92 }
-    ensures next { IfOk result (λ found. IsNextElement text.entry.now found.0 found.1) }
-    ensures refused { IfErr result (λ _. BeginsNo IsElement text.entry.now) }
+    ensures { ReadsElement text.entry.now result }
 {
     let (byte, length) = escape(text)?;
     Ok((Element::OneOf(ByteSet::of(byte)), length))

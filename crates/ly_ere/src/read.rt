@@ -5,7 +5,7 @@ ghost use Rattle.ly_ere.specs.Elements.{Quoted};
 ghost use Rattle.ly_ere.specs.Expression.{Expression, set};
 ghost use Rattle.ly_ere.specs.Grammar.{in_order};
 ghost use Rattle.ly_ere.specs.Patterns.{IsBehind, IsFrontPattern, IsPattern, IsRefused, pattern_weight};
-ghost use Rattle.ly_ere.specs.Private.Elements.{IsWellFormed, Steps, StepsNowhere};
+ghost use Rattle.ly_ere.specs.Private.Elements.{IsWellFormed, LeadsOn, LeadsNowhere};
 ghost use Rattle.ly_ere.specs.Private.Front.{BeginsNo, IsFrontExpression, IsPatternOf};
 ghost use Rattle.ly_ere.specs.Private.Groups.{closed, whole};
 ghost use Rattle.ly_ere.specs.Private.Levels.{IsExtended, IsWithin, group_of, groups_of, reading_of};
@@ -127,10 +127,10 @@ fn with_element(
     requires formed { IsWellFormed element }
     ensures parts { IfOk result (IsWithin (length arena.new)) }
     ensures outer_parts { OnOk result (All (IsWithin (length arena.new)) outer.new.items) }
-    ensures step { IfOk result (λ l. Steps element.entry (reading_of arena.old outer.old.items level)
+    ensures step { IfOk result (λ l. LeadsOn element.entry (reading_of arena.old outer.old.items level)
         (reading_of arena.new outer.new.items l)) }
     ensures refused { IfErr result (λ e. e ≢ OutOfMemory
-        → StepsNowhere element.entry (reading_of arena.old outer.old.items level)) }
+        → LeadsNowhere element.entry (reading_of arena.old outer.old.items level)) }
 {
     match element {
         Element::OneOf(set) => {

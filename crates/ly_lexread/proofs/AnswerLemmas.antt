@@ -9,16 +9,16 @@ use Rattle.ly_lexread.specs.declared.action.Action.{Action}
 use Rattle.ly_lexread.specs.declared.fault.LexFault.{LexFault}
 use Rattle.ly_lexread.specs.declared.fault.LexFault.TheVariants.{Pattern, OutOfMemory}
 use Rattle.ly_lexread.specs.Faults.{IsOfText, IsTooHeavy}
-use Rattle.ly_lexread.specs.LexText.{IsAnswer}
+use Rattle.ly_lexread.specs.LexText.{IsReadAs}
 use Rattle.ly_lexread.specs.Rules.{AreLight, IsHeavyLine, IsRuleLine, MayBeRule}
 
 module _ {T : Type 0} (Is Light : T → Type 0) (Heavy : Type 0) where
-  pub answer_ok : (x : T) → Is x → Light x → IsAnswer Is Light Heavy (Ok x)
+  pub answer_ok : (x : T) → Is x → Light x → IsReadAs Is Light Heavy (Ok x)
   answer_ok x is light
       = record { ok = is; light = light; of_text = tt; refused = tt; heavy = tt; none_light = tt }
 
   -- a growth was refused
-  pub answer_memory : (fault : LexFault) → fault ≡ OutOfMemory → IsAnswer Is Light Heavy (Err fault)
+  pub answer_memory : (fault : LexFault) → fault ≡ OutOfMemory → IsReadAs Is Light Heavy (Err fault)
   answer_memory fault e = rw e (record {
     ok = tt;
     light = tt;
@@ -30,7 +30,7 @@ module _ {T : Type 0} (Is Light : T → Type 0) (Heavy : Type 0) where
 
   -- the text has no value
   pub answer_fault : (fault : LexFault) → IsOfText fault → (IsTooHeavy fault → ⊥) → ((x : T) → Is x → ⊥)
-      → IsAnswer Is Light Heavy (Err fault)
+      → IsReadAs Is Light Heavy (Err fault)
   answer_fault fault of_text light none = record {
     ok = tt;
     light = tt;
@@ -42,8 +42,8 @@ module _ {T : Type 0} (Is Light : T → Type 0) (Heavy : Type 0) where
 
   -- a part of the text is refused
   pub answer_up : {U : Type 0} {IsPart LightPart : U → Type 0} {HeavyPart : Type 0} (fault : LexFault)
-      → IsAnswer IsPart LightPart HeavyPart (Err fault) → (HeavyPart → Heavy)
-      → ((x : T) → Is x → (y : U) × IsPart y × (Light x → LightPart y)) → IsAnswer Is Light Heavy (Err fault)
+      → IsReadAs IsPart LightPart HeavyPart (Err fault) → (HeavyPart → Heavy)
+      → ((x : T) → Is x → (y : U) × IsPart y × (Light x → LightPart y)) → IsReadAs Is Light Heavy (Err fault)
   answer_up fault answer up part = record {
     ok = tt;
     light = tt;
@@ -62,7 +62,7 @@ module _ (most : ℕ) (names : List Expression) (line : List ℕ) (number : ℕ)
   too_heavy h = let given : inner ≢ ere.OutOfMemory = λ e. subst IsTooHeavy (memory e) h
       in subst IsTooHeavy (other given) h
 
-  pub answer_pattern : IsAnswer (λ (read : Rule × Action). IsRuleLine names line read.0 read.1)
+  pub answer_pattern : IsReadAs (λ (read : Rule × Action). IsRuleLine names line read.0 read.1)
       (λ read. AreLight most names (read.0 ∷ [])) (IsHeavyLine most names line) (Err fault)
   answer_pattern = record {
     ok = tt;

@@ -8,11 +8,12 @@ use Rattle.std.proofs.lemmas.List.{append-nil}
 use Rattle.ly_base.specs.Literals.{Literal}
 use Rattle.ly_lexread.proofs.LiteralLemmas.{literal_one}
 use Rattle.ly_base.specs.Blank.{is_blank}
+use Rattle.ly_base.specs.Escapes.{AllPass, Stops}
 use Rattle.ly_lexread.specs.Gap.{Gap, GapBefore}
 use Rattle.ly_lexread.specs.Private.Gap.{GapEnds}
 use Rattle.ly_lexread.specs.Private.Words.{name_length}
 use Rattle.ly_lexread.specs.Words.{Word, semicolon, name, literal, starts_name, continues_name}
-use Rattle.ly_lexread.specs.Words.{AreContinuing, IsName, NameEnds, Begins, Front, Wording}
+use Rattle.ly_lexread.specs.Words.{IsName, Begins, Front, Wording}
 use Rattle.ly_lexread.proofs.GapLemmas.{gap_one}
 
 starts_continues : (b : ℕ) → IsTrue (starts_name b) → IsTrue (continues_name b)
@@ -20,11 +21,11 @@ starts_continues b h = rw h refl
 
 -- the name bytes at the front, and what stands behind them
 record Run (n : ℕ) (text : List ℕ) : Type 0 where
-  these : AreContinuing (take n text)
-  ends : NameEnds (drop n text)
+  these : AllPass continues_name (take n text)
+  ends : Stops continues_name (drop n text)
 
 run : (text : List ℕ) → Run (prefix_len continues_name text) text
-run [] = record { these = tt; ends = λ b s h e. cc }
+run [] = record { these = tt; ends = tt }
 run (b ∷ text) = at (continues_name b) (prefix_len continues_name text) refl (run text)
   where
     at : (t : Bool) (n : ℕ) → continues_name b ≡ t → Run n text → Run (cond t (1 + n) 0) (b ∷ text)
@@ -32,10 +33,7 @@ run (b ∷ text) = at (continues_name b) (prefix_len continues_name text) refl (
       where
         one_add : (n : ℕ) → suc n ≡ 1 + n
         one_add n = omega arith
-    at false n e r = record { these = tt; ends = λ x s h f. false≢true (sym e ∙ ap continues_name (same x s f) ∙ h) }
-      where
-        same : (x : ℕ) (s : List ℕ) → b ∷ text ≡ x ∷ s → b ≡ x
-        same x s f = cc
+    at false n e r = record { these = tt; ends = e }
 
 -- what name_length counts is a name
 pub name_begins : (text n rest : List ℕ) (k : ℕ) → k ≡ name_length text → 0 < k → n ≡ take k text → rest ≡ drop k text
@@ -43,7 +41,8 @@ pub name_begins : (text n rest : List ℕ) (k : ℕ) → k ≡ name_length text 
 name_begins [] n rest k e h f g = absurd (omega arith)
 name_begins (b ∷ text) n rest k e h f g = at (starts_name b) refl e
   where
-    long : (k : ℕ) → 0 < k → IsTrue (starts_name b) → AreContinuing (take k (b ∷ text)) → IsName (take k (b ∷ text))
+    long : (k : ℕ) → 0 < k → IsTrue (starts_name b) → AllPass continues_name (take k (b ∷ text))
+        → IsName (take k (b ∷ text))
     long zero h s a = absurd (omega arith)
     long (suc k) h s a = (s, a.1)
 
@@ -55,11 +54,12 @@ name_begins (b ∷ text) n rest k e h f g = at (starts_name b) refl e
     at false s e = absurd (omega (arith, e, h))
 
 -- behind a name no byte belongs to it
-names_one : (n m r s : List ℕ) → AreContinuing n → AreContinuing m → NameEnds r → NameEnds s → n ++ r ≡ m ++ s
+names_one : (n m r s : List ℕ) → AllPass continues_name n → AllPass continues_name m → Stops continues_name r
+    → Stops continues_name s → n ++ r ≡ m ++ s
     → (n ≡ m) × (r ≡ s)
 names_one [] [] r s a b x y e = (refl, e)
-names_one [] (c ∷ m) r s a b x y e = absurd (x c (m ++ s) b.0 e)
-names_one (c ∷ n) [] r s a b x y e = absurd (y c (n ++ r) a.0 (sym e))
+names_one [] (c ∷ m) r s a b x y e = absurd (false≢true (sym (subst (Stops continues_name) e x) ∙ b.0))
+names_one (c ∷ n) [] r s a b x y e = absurd (false≢true (sym (subst (Stops continues_name) (sym e) y) ∙ a.0))
 names_one (c ∷ n) (d ∷ m) r s a b x y e = let f = names_one n m r s a.1 b.1 x y (cc) in (cc f.0, f.1)
 
 -- the byte that a word begins with
@@ -116,7 +116,7 @@ apart u x y r s h a b = at (begins_at u x r a) (begins_at u y s b)
 no_letter : (n b : ℕ) → starts_name n ≡ false → b ≡ n → IsTrue (starts_name b) → ⊥
 no_letter n b h e s = false≢true (sym h ∙ ap starts_name (sym e) ∙ s)
 
-name_continues : (n : List ℕ) → IsName n → AreContinuing n
+name_continues : (n : List ℕ) → IsName n → AllPass continues_name n
 name_continues [] h = tt
 name_continues (b ∷ n) h = (starts_continues b h.0, h.1)
 

@@ -29,7 +29,7 @@ IsLight most file = AreLight most file.names file.rules.items
 
 -- What a reader answers: Is says which values the text has, Light which of them are light enough, and Heavy that a
 -- pattern of the text isn't. A text that is refused for anything but a heavy pattern has no value, whatever it weighs.
-pub record IsAnswer {T : Type 0} (Is Light : T → Type 0) (Heavy : Type 0) (result : Result T LexFault) : Type 0 where
+pub record IsReadAs {T : Type 0} (Is Light : T → Type 0) (Heavy : Type 0) (result : Result T LexFault) : Type 0 where
   pub ok : IfOk result Is
   pub light : IfOk result Light
   pub of_text : IfErr result (λ fault. fault ≢ OutOfMemory → IsOfText fault)
@@ -39,7 +39,7 @@ pub record IsAnswer {T : Type 0} (Is Light : T → Type 0) (Heavy : Type 0) (res
 
 -- what the reader of a lex file answers under a limit of a pattern's weight
 abbrev pub IsRead : ℕ → List ℕ → Result LexFile LexFault → Type 0
-IsRead most bytes result = IsAnswer (LexText bytes) (IsLight most) (IsHeavyText most bytes) result
+IsRead most bytes result = IsReadAs (LexText bytes) (IsLight most) (IsHeavyText most bytes) result
 
 -- rules that say the same, whatever room their lists have
 abbrev pub AreSameRules : List Rule → List Rule → Type 0

@@ -2,7 +2,7 @@ ghost use Rattle.std.specs.Prelude.{Err, ◌≡◌, ◌≢◌, ◌∷◌, [], �
 ghost use Rattle.ly_ere.specs.declared.fault.EreFault.TheVariants as ere;
 ghost use Rattle.ly_lexread.specs.Definitions.{Definitions, IsMark, IsUnused};
 ghost use Rattle.ly_lexread.specs.Faults.{IsOfText, IsTooHeavy};
-ghost use Rattle.ly_lexread.specs.LexText.{IsAnswer, IsRead};
+ghost use Rattle.ly_lexread.specs.LexText.{IsReadAs, IsRead};
 ghost use Rattle.ly_lexread.specs.Private.Lines.{lines_left};
 ghost use Rattle.ly_lexread.specs.Rules.{AreLight, HasHeavyLine, IsHeavyLine, IsRuleLine, Rules};
 ghost use Rattle.ly_lexread.specs.declared.fault.LexFault.TheVariants.{OutOfMemory};
@@ -64,7 +64,7 @@ fn read_rules(
     names: &Names,
     limits: &Limits,
 ) -> Result<(Vec<Rule>, Vec<Action>), LexFault>
-    ensures { IsAnswer (λ read. Rules names.now (lines_left lines.entry) read.0.items read.1.items)
+    ensures { IsReadAs (λ read. Rules names.now (lines_left lines.entry) read.0.items read.1.items)
         (λ read. AreLight limits.now.pattern_weight names.now read.0.items)
         (HasHeavyLine limits.now.pattern_weight names.now (lines_left lines.entry)) result }
 {
@@ -93,7 +93,7 @@ fn read_rule(
 ) -> Result<(Rule, Action), LexFault>
     requires no_mark { IsMark line.bytes.now → ⊥ }
     requires is_used { IsUnused line.bytes.now → ⊥ }
-    ensures { IsAnswer (λ read. IsRuleLine names.now line.entry.bytes.now read.0 read.1)
+    ensures { IsReadAs (λ read. IsRuleLine names.now line.entry.bytes.now read.0 read.1)
         (λ read. AreLight limits.now.pattern_weight names.now (read.0 ∷ []))
         (IsHeavyLine limits.now.pattern_weight names.now line.entry.bytes.now) result }
 {

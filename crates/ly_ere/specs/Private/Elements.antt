@@ -1,11 +1,12 @@
 -- Elements of an expression, as a reader holds them.
-use Rattle.std.specs.Prelude.{◌≡◌, ◌≢◌, ◌↔◌, ℕ, List, [], drop, Some, None}
+use Rattle.std.specs.Prelude.{◌≡◌, ◌≢◌, ◌↔◌, ℕ, List, [], drop, Some, None, Result, MatchResult}
 use Rattle.ly_base.specs.ByteSet.{members}
-use Rattle.ly_ere.specs.Private.Front.{IsTaken}
+use Rattle.ly_ere.specs.Private.Front.{BeginsNo, IsTaken}
 use Rattle.ly_ere.specs.Elements.{Element, one_of, string, opening, closing, bar, asterisk, plus_sign, question_mark}
 use Rattle.ly_ere.specs.Elements.{Quoted}
 use Rattle.ly_ere.specs.Elements.{IsElement}
 use Rattle.ly_ere.specs.Private.Groups.{Reading, step}
+use Rattle.ly_ere.specs.declared.fault.SyntaxFault.{SyntaxFault}
 use Rattle.ly_ere.specs.declared.element.Postfix.{Postfix}
 use Rattle.ly_ere.specs.declared.element.Postfix.TheVariants.{Asterisk, PlusSign, QuestionMark}
 use Rattle.ly_ere.specs.declared.element.Element.{Element as ReadElement}
@@ -37,10 +38,15 @@ pub record IsNextElement (text : List ℕ) (s : ReadElement) (n : ℕ) : Type 0 
   pub formed : IsWellFormed s
   pub spelled : (w : Element) (rest : List ℕ) → IsElement text w rest ↔ (Denotes s w × (rest ≡ drop n text))
 
+-- what the reader of one element answers: the element at the front of the text, unless there is none
+abbrev pub ReadsElement : List ℕ → Result (ReadElement × ℕ) SyntaxFault → Type 0
+ReadsElement text result
+    = MatchResult result (λ found. IsNextElement text found.0 found.1) (λ _. BeginsNo IsElement text)
+
 -- an element that this stands for leads from one reading to the other
-abbrev pub Steps : ReadElement → Reading → Reading → Type 0
-Steps x r s = (w : Element) × Denotes x w × (step w r ≡ Some s)
+abbrev pub LeadsOn : ReadElement → Reading → Reading → Type 0
+LeadsOn x r s = (w : Element) × Denotes x w × (step w r ≡ Some s)
 
 -- no element that this stands for leads from the reading to another
-abbrev pub StepsNowhere : ReadElement → Reading → Type 0
-StepsNowhere x r = (w : Element) → Denotes x w → step w r ≡ None
+abbrev pub LeadsNowhere : ReadElement → Reading → Type 0
+LeadsNowhere x r = (w : Element) → Denotes x w → step w r ≡ None

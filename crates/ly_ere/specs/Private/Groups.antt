@@ -20,6 +20,7 @@ joined_branch None p = p
 joined_branch (Some b) None = Some b
 joined_branch (Some b) (Some p) = Some (concat b p)
 
+-- the open branch with its last piece
 abbrev pub open_branch : Group → Option Expression
 open_branch g = joined_branch g.branch g.piece
 
@@ -37,6 +38,7 @@ whole g = joined_whole g.before (open_branch g)
 abbrev pub with_atom : Group → Expression → Group
 with_atom g e = record { before = g.before; branch = open_branch g; piece = Some e }
 
+-- an operator over a piece, if there is one
 abbrev pub with_piece : Group → (Expression → Expression) → Option Expression → Option Group
 with_piece g f None = None
 with_piece g f (Some p) = Some (record { before = g.before; branch = g.branch; piece = Some (f p) })
@@ -59,6 +61,7 @@ pub record Reading : Type 0 where
   pub outer : List Group
   pub group : Group
 
+-- the groups round one, and that one
 abbrev pub inside : List Group → Option Group → Option Reading
 inside outer None = None
 inside outer (Some g) = Some (record { outer = outer; group = g })
@@ -80,6 +83,7 @@ step asterisk r = inside r.outer (with_postfix r.group star)
 step plus_sign r = inside r.outer (with_postfix r.group plus)
 step question_mark r = inside r.outer (with_postfix r.group optional)
 
+-- a reading after another, if there is one
 abbrev pub and_then : Option Reading → (Reading → Option Reading) → Option Reading
 and_then None f = None
 and_then (Some r) f = f r
@@ -89,5 +93,6 @@ abbrev pub after_all : List Element → Reading → Option Reading
 after_all [] r = Some r
 after_all (w ∷ ws) r = and_then (step w r) (after_all ws)
 
+-- nothing is read
 abbrev pub start : Reading
 start = record { outer = []; group = new_group }

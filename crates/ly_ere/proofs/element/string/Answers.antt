@@ -3,8 +3,8 @@ use Rattle.ly_base.proofs.EscapeLemmas.{whole_slice}
 use Rattle.ly_ere.proofs.NextElementLemmas.{string_next}
 use Rattle.ly_ere.proofs.element.string.Goals as goal
 
-pub returns-clause-next : goal.returns-clause-next
-returns-clause-next c =
+pub returns : goal.returns
+returns c =
     let text = c.args.text.now in
     let n = c.in_ok-quoted_length.field-0 in
     let found = rw (whole_slice, drop-drop) at c.in_ok-quoted_length.ensures.quoted in

@@ -24,7 +24,7 @@ returns-in_err-element-clause-refused c =
     let fault = err_from_is_err_and c.from_residual.result c.from_residual.ensures.1 in
     let goes_on : IsBehind (drop c.loop-arena.at c.args.line.now) → ⊥ = rw whole_slice at c.loop-arena-test.ensures in
     rw (fault.1, fault.2) (λ _. no_element c.loop-arena.invariant.read goes_on
-    (rw whole_slice at c.in_err-element.ensures.refused))
+    (rw whole_slice at c.in_err-element.ensures))
 
 pub returns-in_err-level-clause-refused : goal.returns-in_err-level-clause-refused
 returns-in_err-level-clause-refused c =
@@ -32,14 +32,14 @@ returns-in_err-level-clause-refused c =
     let goes_on : IsBehind (drop c.loop-arena.at c.args.line.now) → ⊥ = rw whole_slice at c.loop-arena-test.ensures in
     rw (fault.1, fault.2)
     (λ other. no_step c.loop-arena.invariant.read goes_on c.in_ok-element.element c.in_ok-element.length
-    (rw whole_slice at c.in_ok-element.ensures.next) (c.in_err-level.ensures.refused other))
+    (rw whole_slice at c.in_ok-element.ensures) (c.in_err-level.ensures.refused other))
 
 pub loop-arena-preserved : goal.loop-arena-preserved
 loop-arena-preserved c =
     let line = c.args.line.now in
     let at = c.loop-arena.at in
     let goes_on : IsBehind (drop at line) → ⊥ = rw whole_slice at c.loop-arena-test.ensures in
-    let here = rw whole_slice at c.in_ok-element.ensures.next in
+    let here = rw whole_slice at c.in_ok-element.ensures in
     let found = c.in_ok-level.ensures.step in
     let next = reading_of c.with_element.new.arena c.with_element.new.outer.items c.in_ok-level.level in
     record {
