@@ -31,7 +31,7 @@ version_1 = record {
 }
 
 -- none is above version 1's
-pub record AreWithin (sizes : Sizes) : Type 0 where
+pub record AreBounded (sizes : Sizes) : Type 0 where
   pub symbols : sizes.symbols ≤ version_1.symbols
   pub yacc_rules : sizes.yacc_rules ≤ version_1.yacc_rules
   pub lex_rules : sizes.lex_rules ≤ version_1.lex_rules

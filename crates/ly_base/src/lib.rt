@@ -1,5 +1,10 @@
-//! What all of lytab shares: sets of bytes and of numbers, cuts, the numbers of rules and symbols,
-//! limits, readers and writers that count their failures, and bytes as text.
+//! What all of lytab shares: from bytes to sets, escapes and literals, and from a text to its places.
+//!
+//! `write_whole` and `read_whole` carry bytes to and from devices that count their failures: at Ok all of them, at a
+//! fault a stated beginning, and a device is named only where it failed. `Place` says where a run over a text stands,
+//! `push_leaf` and its like print what stands there, `Limits` holds the sizes that are accepted.
+//!
+//! Left out: what a real file or terminal does. That is the word of its reads and writes.
 #![tactic(auto)]
 
 mod blank;

@@ -33,13 +33,13 @@ impl Model for Limits {
 
     ghost Value = { Sizes };
 
-    ghost use Rattle.ly_base.specs.Limits.{inside_of, sizes_of, AreWithin};
+    ghost use Rattle.ly_base.specs.Limits.{inside_of, sizes_of, AreBounded};
 
     ghost view = { sizes_of };
 
     ghost inverse = { inside_of };
 
-    ghost invariant = { λ l. AreWithin (sizes_of l) };
+    ghost invariant = { λ l. AreBounded (sizes_of l) };
 }
 
 impl Limits {

@@ -12,15 +12,14 @@ use Rattle.ly_ere.specs.Expression.{Expression, Matches}
 use Rattle.ly_ere.specs.declared.pattern.Rule.{Rule}
 use Rattle.ly_ere.specs.Winner.{InTail, IsString, CutHolds, Fits, Candidate, Winner, HasNoWinner}
 use Rattle.ly_scan.specs.Cuts.{token_len}
-use Rattle.ly_scan.specs.Lexer.{Scanner, IsLexemeAt, IsLongestAt, EndsAt}
+use Rattle.ly_scan.specs.Lexer.{Scanner, IsLexemeAt, IsLongestAt, ScanEndsAt}
 use Rattle.ly_scan.specs.Walk.{HasNone}
 use Rattle.ly_base.specs.Lexed.{Place, Lexed}
 use Rattle.ly_base.specs.declared.lexeme.End.{End}
 use Rattle.ly_base.specs.declared.lexeme.End.TheVariants.{Clean, Stuck, BadCut}
 use Rattle.ly_base.specs.declared.lexeme.Lexeme.{Lexeme}
 use Rattle.ly_base.proofs.LexedLemmas.{lexed_as}
-use Rattle.ly_lexread.specs.Lexing as text
-use Rattle.ly_lexread.specs.Lexing.{IsWinnerAt, Lexing}
+use Rattle.ly_lexread.specs.Lexing.{EndsAt, IsWinnerAt, Lexing}
 use Rattle.ly_engine.specs.Agreement.{Agrees}
 
 -- a head's length within the match is what its cut leaves
@@ -160,7 +159,7 @@ taken_wins names rules s a p t h = winner_of names rules s a p t.matched t.rule.
 
 -- and where it ends the lexing ends
 ends_end : (names : List Expression) (rules : List Rule) (s : Scanner) → Agrees names rules s → (p : Place) (e : End)
-    → EndsAt s p e → text.EndsAt names rules p e
+    → ScanEndsAt s p e → EndsAt names rules p e
 ends_end names rules s a p Clean h = h
 ends_end names rules s a p (Stuck b) h = (h.0, h.1, no_winner names rules s a p h.2)
 ends_end names rules s a p (BadCut b) h = no_bad_cut names rules s a p h.1.0 h.1.1.0 h.1.1.1 h.1.1.2
@@ -168,7 +167,7 @@ ends_end names rules s a p (BadCut b) h = no_bad_cut names rules s a p h.1.0 h.1
 -- a run of the scanner is the lexing of the rules
 pub lexing_of : (names : List Expression) (rules : List Rule) (s : Scanner) → Agrees names rules s
     → (next : ℕ → Option ℕ) (p : Place) (ts : List Lexeme) (e : End)
-    → Lexed (IsLexemeAt s) (EndsAt s) next p ts e → Lexing names rules next p ts e
+    → Lexed (IsLexemeAt s) (ScanEndsAt s) next p ts e → Lexing names rules next p ts e
 lexing_of names rules s a next p ts e h
-    = lexed_as (IsLexemeAt s) (IsWinnerAt names rules) (EndsAt s) (text.EndsAt names rules) next
+    = lexed_as (IsLexemeAt s) (IsWinnerAt names rules) (ScanEndsAt s) (EndsAt names rules) next
     (taken_wins names rules s a) (ends_end names rules s a) p ts e h

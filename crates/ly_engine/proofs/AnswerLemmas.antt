@@ -8,7 +8,7 @@ use Rattle.ly_ere.specs.Expression.{Expression}
 use Rattle.ly_ere.specs.declared.pattern.Rule.{Rule}
 use Rattle.ly_lexread.specs.declared.action.Action.{Action}
 use Rattle.ly_lexread.specs.Lexing.{Lexing}
-use Rattle.ly_scan.specs.Lexer.{Scanner, IsLexemeAt, EndsAt}
+use Rattle.ly_scan.specs.Lexer.{Scanner, IsLexemeAt, ScanEndsAt}
 use Rattle.ly_engine.specs.Agreement.{Agrees}
 use Rattle.ly_engine.specs.Answering.{IsAnswer}
 use Rattle.ly_engine.specs.Printing.{condition_set, end_line, naming, printed, LeavesTokens}
@@ -17,14 +17,14 @@ use Rattle.ly_engine.proofs.AgreementLemmas.{lexing_of}
 -- the lines that a scanner's run gives are the answer
 pub answer_of : (names : List Expression) (rules : List Rule) (actions given : List Action) (s here : Scanner)
     (p : Place) (text : List ℕ) (e : End) (lines : List ℕ) → Agrees names rules s → here ≡ s → p ≡ start_of text
-    → given ≡ actions → ((ts : List Lexeme) × Lexed (IsLexemeAt here) (EndsAt here) (condition_set given) p ts e
+    → given ≡ actions → ((ts : List Lexeme) × Lexed (IsLexemeAt here) (ScanEndsAt here) (condition_set given) p ts e
     × (lines ≡ printed (tokens_from (naming given) p.at p.rest ts) ++ end_line e))
     → IsAnswer names rules actions text e lines
 answer_of names rules actions given s here p text e lines agrees same at by h =
-    let run : Lexed (IsLexemeAt s) (EndsAt s) (condition_set actions) (start_of text) h.0 e =
-    subst (λ (xs : List Action). Lexed (IsLexemeAt s) (EndsAt s) (condition_set xs) (start_of text) h.0 e) by
-    (subst (λ (x : Place). Lexed (IsLexemeAt s) (EndsAt s) (condition_set given) x h.0 e) at
-    (subst (λ (x : Scanner). Lexed (IsLexemeAt x) (EndsAt x) (condition_set given) p h.0 e) same h.1)) in (
+    let run : Lexed (IsLexemeAt s) (ScanEndsAt s) (condition_set actions) (start_of text) h.0 e =
+    subst (λ (xs : List Action). Lexed (IsLexemeAt s) (ScanEndsAt s) (condition_set xs) (start_of text) h.0 e) by
+    (subst (λ (x : Place). Lexed (IsLexemeAt s) (ScanEndsAt s) (condition_set given) x h.0 e) at
+    (subst (λ (x : Scanner). Lexed (IsLexemeAt x) (ScanEndsAt x) (condition_set given) p h.0 e) same h.1)) in (
       h.0,
       lexing_of names rules s agrees (condition_set actions) (start_of text) h.0 e run,
       subst (λ (xs : List Action). lines ≡ printed (tokens_from (naming xs) 0 text h.0) ++ end_line e) by

@@ -8,7 +8,7 @@ use Rattle.ly_base.specs.declared.lexeme.End.{End}
 use Rattle.ly_base.specs.declared.lexeme.Lexeme.{Lexeme}
 use Rattle.ly_base.proofs.LexedLemmas.{leads_more, leads_on, tokens_more}
 use Rattle.ly_lexread.specs.declared.action.Action.{Action}
-use Rattle.ly_scan.specs.Lexer.{EndsAt, IsLexemeAt, Scanner}
+use Rattle.ly_scan.specs.Lexer.{ScanEndsAt, IsLexemeAt, Scanner}
 use Rattle.ly_scan.specs.Walk.{Walk}
 use Rattle.ly_engine.specs.Printing.{condition_set, end_line, line_if, naming, printed}
 
@@ -64,13 +64,13 @@ one_more actions s here p q r t begin token lines more same taken b e k n f =
 
 -- the end
 pub all_told : (actions : List Action) (s here : Scanner) (p q : Place) (e : End) (lines more : List ℕ) → here ≡ s
-    → EndsAt here q e → more ≡ lines ++ end_line e → SoFar actions s p q lines
-    → (ts : List Lexeme) × Lexed (IsLexemeAt s) (EndsAt s) (condition_set actions) p ts e
+    → ScanEndsAt here q e → more ≡ lines ++ end_line e → SoFar actions s p q lines
+    → (ts : List Lexeme) × Lexed (IsLexemeAt s) (ScanEndsAt s) (condition_set actions) p ts e
     × (more ≡ printed (tokens_from (naming actions) p.at p.rest ts) ++ end_line e)
 all_told actions s here p q e lines more same ends n f = (
   f.0 ++ [],
-  leads_on (IsLexemeAt s) (EndsAt s) (condition_set actions) p q f.0 [] e f.1
-      (subst (λ (x : Scanner). EndsAt x q e) same ends),
+  leads_on (IsLexemeAt s) (ScanEndsAt s) (condition_set actions) p q f.0 [] e f.1
+      (subst (λ (x : Scanner). ScanEndsAt x q e) same ends),
   n ∙ ap (λ z. z ++ end_line e) (f.2
       ∙ ap (λ ts. printed (tokens_from (naming actions) p.at p.rest ts)) (sym (append-nil f.0))),
 )

@@ -2,7 +2,7 @@ ghost use Rattle.std.specs.Prelude.{◌≡◌, ◌<◌, ◌++◌, List, length, 
 ghost use Rattle.ly_base.specs.Lexed.{Lexed, tokens_from};
 ghost use Rattle.ly_base.specs.Text.{named};
 ghost use Rattle.ly_base.specs.declared.lexeme.Lexeme.{Lexeme};
-ghost use Rattle.ly_scan.specs.Lexer.{EndsAt, IsLexemeAt, Scanner};
+ghost use Rattle.ly_scan.specs.Lexer.{ScanEndsAt, IsLexemeAt, Scanner};
 ghost use Rattle.ly_engine.specs.Printing.{condition_set, end_line, line_if, naming, printed};
 
 use ly_base::{End, RuleNo, Terminal, push_leaf_line, push_no_rule_line};
@@ -19,7 +19,7 @@ pub(crate) fn token_lines<S: Steps + Drop>(
 ) -> Result<(End, Vec<u8>), AllocError>
     ensures { let scanner : Scanner = record { walk = S.walk lexer.old.steps; cut = S.cut_of lexer.old.steps } in
         IfOk result (λ found. (ts : List Lexeme)
-        × Lexed (IsLexemeAt scanner) (EndsAt scanner) (condition_set actions.now) lexer.old.place ts found.0
+        × Lexed (IsLexemeAt scanner) (ScanEndsAt scanner) (condition_set actions.now) lexer.old.place ts found.0
         × (found.1.items ≡ printed (tokens_from (naming actions.now) lexer.old.place.at lexer.old.place.rest ts)
         ++ end_line found.0)) }
 {

@@ -6,7 +6,7 @@ use Rattle.ly_base.specs.declared.cut.Cut.TheVariants.{Whole}
 use Rattle.ly_ere.specs.Expression.{Expression}
 use Rattle.ly_ere.specs.Patterns.{IsFrontPattern, IsPattern, IsRefused, pattern_weight}
 use Rattle.ly_ere.specs.Private.Faults.{fault_of_reading, fault_of_syntax}
-use Rattle.ly_ere.specs.Private.Front.{IsFrontExpression, IsPlain}
+use Rattle.ly_ere.specs.Private.Front.{IsFrontExpression, IsPatternOf}
 use Rattle.ly_ere.specs.Weight.{weight_of}
 use Rattle.ly_ere.specs.declared.fault.EreFault.{EreFault}
 use Rattle.ly_ere.specs.declared.fault.EreFault.TheVariants as ere
@@ -24,18 +24,18 @@ err_by_both (Ok x) P Q R f p q = tt
 err_by_both (Err e) P Q R f p q = f e p q
 
 -- the pattern that is an expression
-abbrev pub plain : Expression → Pattern
-plain e = record { line_start = false; head = e; tail = None; cut = Whole }
+abbrev pub pattern_of : Expression → Pattern
+pattern_of e = record { line_start = false; head = e; tail = None; cut = Whole }
 
-plain_is : (e : Expression) → IsPlain e (plain e)
-plain_is e = record { head = refl; anywhere = refl; no_tail = refl; no_cut = refl }
+pattern_of_is : (e : Expression) → IsPatternOf e (pattern_of e)
+pattern_of_is e = record { head = refl; anywhere = refl; no_tail = refl; no_cut = refl }
 
-plain_weight : (names : List Expression) (e : Expression) (p : Pattern) → IsPlain e p
+plain_weight : (names : List Expression) (e : Expression) (p : Pattern) → IsPatternOf e p
     → pattern_weight names p ≡ weight_of names e
 plain_weight names e p x = rw (x.no_tail, x.head) refl
 
 module _ (names : List Expression) (line : List ℕ) where
-  pub plain_front : (e : Expression) (p : Pattern) (n : ℕ) → IsFrontExpression line e n → IsPlain e p
+  pub plain_front : (e : Expression) (p : Pattern) (n : ℕ) → IsFrontExpression line e n → IsPatternOf e p
       → IsFrontPattern names line p n
   plain_front e p n x plain = record {
     within = x.within;
@@ -52,7 +52,8 @@ module _ (names : List Expression) (line : List ℕ) where
   front_head p n x = record { within = x.within; is_expression = x.is_pattern.head; follows = x.follows }
 
   -- the front is the whole text
-  pub plain_whole : (e : Expression) (p : Pattern) (n : ℕ) → IsFrontExpression line e n → IsPlain e p → length line ≤ n
+  pub plain_whole : (e : Expression) (p : Pattern) (n : ℕ) → IsFrontExpression line e n → IsPatternOf e p
+      → length line ≤ n
       → IsPattern names line p
   plain_whole e p n x plain whole = record {
     head = rw plain.head (rw (take_all n line whole) at x.is_expression);
@@ -99,11 +100,11 @@ module _ (most : ℕ) (names : List Expression) (Is : Pattern → Type 0) where
 
   -- what is read weighs too much, or a growth was refused
   pub refused_weight : (fault : EreFault) (e : Expression) → (fault ≢ ere.OutOfMemory → fault ≡ ere.TooHeavy)
-      → (fault ≡ ere.TooHeavy → most < weight_of names e) → Is (plain e)
-      → ((p : Pattern) → Is p → IsPlain e p) → IsRefused most names Is fault
+      → (fault ≡ ere.TooHeavy → most < weight_of names e) → Is (pattern_of e)
+      → ((p : Pattern) → Is p → IsPatternOf e p) → IsRefused most names Is fault
   refused_weight fault e only heavy is one = record {
     refused = λ other light. absurd (light (only other));
-    heavy = λ same. (plain e, is, heavy same);
+    heavy = λ same. (pattern_of e, is, heavy same);
     none_light = λ same p found light.
         let weight = plain_weight names e p (one p found) in
         let more = heavy same in
@@ -136,7 +137,8 @@ module _ (most : ℕ) (names : List Expression) (line : List ℕ) where
         (heavy : fault ≡ ere.TooHeavy → most < weight_of names e) where
       pub heavy_front : IsRefused most names (λ p. (m : ℕ) × IsFrontPattern names line p m) fault
       heavy_front
-          = refused_weight most names _ fault e only heavy (n, plain_front names line e (plain e) n x (plain_is e))
+          = refused_weight most names _ fault e only heavy
+          (n, plain_front names line e (pattern_of e) n x (pattern_of_is e))
           (λ p found. record {
             head = sym (front_expression_one line e p.head n found.0 x (front_head names line p found.0 found.1));
             anywhere = found.1.is_pattern.anywhere;
@@ -146,7 +148,7 @@ module _ (most : ℕ) (names : List Expression) (line : List ℕ) where
 
       pub heavy_text : length line ≤ n → IsRefused most names (IsPattern names line) fault
       heavy_text whole =
-          let here = plain_whole names line e (plain e) n x (plain_is e) whole in
+          let here = plain_whole names line e (pattern_of e) n x (pattern_of_is e) whole in
           refused_weight most names _ fault e only heavy here
           (λ p found. record {
             head = expression_one line p.head e found.head here.head;

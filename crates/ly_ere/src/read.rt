@@ -6,7 +6,7 @@ ghost use Rattle.ly_ere.specs.Expression.{Expression, set};
 ghost use Rattle.ly_ere.specs.Grammar.{in_order};
 ghost use Rattle.ly_ere.specs.Patterns.{IsBehind, IsFrontPattern, IsPattern, IsRefused, pattern_weight};
 ghost use Rattle.ly_ere.specs.Private.Elements.{IsWellFormed, Steps, StepsNowhere};
-ghost use Rattle.ly_ere.specs.Private.Front.{BeginsNo, IsFrontExpression, IsPlain};
+ghost use Rattle.ly_ere.specs.Private.Front.{BeginsNo, IsFrontExpression, IsPatternOf};
 ghost use Rattle.ly_ere.specs.Private.Groups.{closed, whole};
 ghost use Rattle.ly_ere.specs.Private.Levels.{IsExtended, IsWithin, group_of, groups_of, reading_of};
 ghost use Rattle.ly_ere.specs.Weight.{weight_of};
@@ -65,7 +65,7 @@ pub fn read_pattern(
 
 /// The pattern that is an expression, if it isn't too heavy.
 fn weighed(alloc: Global, head: Re, names: &Names, limits: &Limits) -> Result<Pattern, EreFault>
-    ensures ok { IfOk result (IsPlain head) }
+    ensures ok { IfOk result (IsPatternOf head) }
     ensures light { IfOk result (λ p. pattern_weight names.now p ≤ limits.now.pattern_weight) }
     ensures only { IfErr result (λ fault. fault ≢ ere.OutOfMemory → fault ≡ ere.TooHeavy) }
     ensures heavy { IfErr result (λ fault. fault ≡ ere.TooHeavy

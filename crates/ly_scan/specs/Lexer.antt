@@ -23,8 +23,8 @@ abbrev pub IsLexemeAt : Scanner → Place → Lexeme → Type 0
 IsLexemeAt s p t = IsLongestAt s p t.matched t.rule.0 × (token_len (s.cut t.rule.0) t.matched ≡ Some t.taken)
 
 -- a run ends there so
-abbrev pub EndsAt : Scanner → Place → End → Type 0
-EndsAt s p Clean = p.rest ≡ []
-EndsAt s p (Stuck b) = (p.rest ≢ []) × (b ≡ p.at) × HasNone (s.walk p.condition p.line) p.rest (length p.rest)
-EndsAt s p (BadCut b) =
+abbrev pub ScanEndsAt : Scanner → Place → End → Type 0
+ScanEndsAt s p Clean = p.rest ≡ []
+ScanEndsAt s p (Stuck b) = (p.rest ≢ []) × (b ≡ p.at) × HasNone (s.walk p.condition p.line) p.rest (length p.rest)
+ScanEndsAt s p (BadCut b) =
     (b ≡ p.at) × ((n : ℕ) × ((r : ℕ) × IsLongestAt s p n r × (token_len (s.cut r) n ≡ None)))

@@ -1,6 +1,6 @@
 ghost use Rattle.std.specs.Prelude.{◌≡◌, ◌<◌, ◌≤◌, length, IfErr, IfOk, OnErr, OnOk, None};
 ghost use Rattle.ly_base.specs.Lexed.{moved, start_of};
-ghost use Rattle.ly_scan.specs.Lexer.{EndsAt, IsLexemeAt, Scanner};
+ghost use Rattle.ly_scan.specs.Lexer.{ScanEndsAt, IsLexemeAt, Scanner};
 
 use crate::matching::{cut_down, longest};
 use crate::steps::Steps;
@@ -33,7 +33,7 @@ impl<'t, S: Steps + Drop> Lexer<'t, S> {
         ensures lexeme { IfOk result (IsLexemeAt (record { walk = S.walk self.old.steps; cut = S.cut_of self.old.steps })
             self.old.place) }
         ensures within { IfOk result (λ t. (0 < t.taken) × (t.taken ≤ length self.old.place.rest)) }
-        ensures end { IfErr result (EndsAt (record { walk = S.walk self.old.steps; cut = S.cut_of self.old.steps })
+        ensures end { IfErr result (ScanEndsAt (record { walk = S.walk self.old.steps; cut = S.cut_of self.old.steps })
             self.old.place) }
         ensures place { self.new.place ≡ self.old.place }
         ensures same_walk { S.walk self.new.steps ≡ S.walk self.old.steps }

@@ -1,4 +1,5 @@
-//! `tokens` beside the definitions: patterns over all short strings of three bytes.
+//! `tokens` beside the definitions: patterns over all short strings of three bytes. cases/short-strings has more
+//! patterns, beside a program written apart.
 
 use crate::answers::answer;
 use crate::belongs::belongs_to;
@@ -9,66 +10,18 @@ use std::alloc::{AllocError, Global};
 use std::test::Fail;
 
 /// The patterns of a lex file's rules. The first rule returns `A`, and the second `B`.
-const FILES: [&[&str]; 60] = [
-    &["a"],
-    &["ab"],
-    &["a|b"],
-    &["a*"],
-    &["a+"],
-    &["a?"],
-    &["(((a)))"],
-    &["(ab)*"],
-    &["(a|b)*c"],
-    &["a*b*"],
-    &["a+b?c*"],
-    &["(a*)*"],
-    &["(a+)*"],
-    &["(a?)*"],
-    &["(a*)+"],
-    &["(a+)+"],
-    &["(a?)+"],
-    &["(a*)?"],
-    &["(a+)?"],
-    &["(a?)?"],
-    &["a*|b"],
+const FILES: [&[&str]; 12] = [
     &["(ab|a)(bc|c)"],
-    &["(a|ab)(c|bca)*"],
-    &["(a|b)*abb"],
     &["((a|bc)+|b?c)*"],
     &["(a(b(c)?)?)?"],
     &["(a*b)+c?"],
-    &["a+?b"],
-    &["[ab]"],
-    &["[^a]"],
-    &["[a-b]c"],
     &["[^b-c]*"],
-    &["[[:lower:]]"],
-    &["."],
-    &[".b"],
     &[".*c"],
-    &["\"ab\""],
-    &["\"a\"*"],
-    &["a\"bc\"?"],
-    &["\"a|b\""],
-    &["\"\""],
-    &["\"\"|a"],
-    &["(\"\"|a)b"],
     &["(\"\"|a)*b"],
-    &["a(\"\"|b)c"],
-    &["a\\*"],
-    &["\\141\\x62?"],
-    &["[\\141-\\142]+"],
+    &["a\"bc\"?"],
     &["a", "a"],
     &["ab", "a*b"],
-    &["a*b", "ab"],
-    &["a|b", "[a-c]"],
     &["a+", "(a|b)+"],
-    &["(a|b)+", "a+"],
-    &["a", ".*c"],
-    &["abc", "a|b"],
-    &["c*", "a*c"],
-    &["(ab)*", "a|b"],
-    &["..", "a.."],
     &["b?", "a?c?"],
 ];
 
@@ -84,12 +37,11 @@ fn tokens_are_the_longest_strings_that_belong(rt: HostRuntime) -> Result<(), Fai
             let text = string(rt.alloc(), number)?;
             let (end, lines) = answer(rt.alloc(), &lex, &text)?;
             let (wanted_end, wanted) = by_definition(rt.alloc(), &expressions, &text)?;
-            assert_eq!(rt;
-                lines.as_slice(),
-                wanted.as_slice(),
+            assert!(rt;
+                lines.as_slice() == wanted.as_slice(),
                 "patterns {patterns:?}, text {text:?}"
             );
-            assert_eq!(rt; end, wanted_end, "patterns {patterns:?}, text {text:?}");
+            assert!(rt; end == wanted_end, "patterns {patterns:?}, text {text:?}");
         }
     }
     Ok(())

@@ -1,11 +1,10 @@
 //! Least sets along graphs: the one pass against a program that goes round until nothing grows.
 
-use crate::sets::{Plain, holds, insert};
+use crate::sets::{Plain, holds, insert, same_row};
 use ly_base::Sym;
 use ly_digraph::{Graph, least};
 use ly_sets::SetMatrix;
 use std::alloc::Global;
-use std::process::Abort;
 use std::test::Fail;
 
 /// A graph, and which numbers below `WIDTH` its nodes are given.
@@ -258,49 +257,33 @@ fn go_round(rows: &mut Plain, edges: &[(usize, usize)], rounds: usize) {
     }
 }
 
-/// Compares the two on a graph, and says how much `changes` rose.
-fn compare(
-    rt: &impl Abort,
+/// The least sets of a graph, and how much `changes` rose.
+fn solved(
     alloc: Global,
-    name: &str,
     nodes: usize,
     width: usize,
     edges: &[(usize, usize)],
     given: &[(usize, u32)],
-) -> Result<u64, Fail> {
+) -> Result<(SetMatrix, u64), Fail> {
     let mut graph = Graph::new(alloc, nodes)?;
     for &(from, to) in edges {
         add(&mut graph, from, to)?;
     }
     let mut sets = SetMatrix::new(alloc, nodes, width)?;
-    let mut rows = Plain::new(alloc, nodes, width)?;
     for &(node, number) in given {
         insert(&mut sets, node, Sym(number))?;
-        rows.insert(node, number as usize);
     }
     let before = sets.changes();
     solve(alloc, &graph, &mut sets)?;
-    go_round(&mut rows, edges, usize::MAX);
-    for node in 0..nodes {
-        for number in 0..width {
-            let there = holds(&sets, node, number)?;
-            assert_eq!(rt;
-                there,
-                rows.contains(node, number),
-                "{name}: node {node}, number {number}"
-            );
-        }
-    }
-    Ok(sets.changes().saturating_sub(before))
+    let rise = sets.changes().saturating_sub(before);
+    Ok((sets, rise))
 }
 
 #[test]
 fn graphs_of_the_table(rt: HostRuntime) -> Result<(), Fail> {
     for example in &EXAMPLES {
-        let rise = compare(
-            &rt,
+        let (sets, rise) = solved(
             rt.alloc(),
-            example.name,
             example.nodes,
             WIDTH,
             example.edges,
@@ -308,34 +291,31 @@ fn graphs_of_the_table(rt: HostRuntime) -> Result<(), Fail> {
         )?;
         let most = example.nodes.saturating_add(example.edges.len()) as u64;
         assert!(rt; rise <= most, "{}: {rise} changes", example.name);
+        let mut rows = Plain::new(rt.alloc(), example.nodes, WIDTH)?;
+        for &(node, number) in example.given {
+            rows.insert(node, number as usize);
+        }
+        go_round(&mut rows, example.edges, usize::MAX);
+        for node in 0..example.nodes {
+            assert!(rt;
+                same_row(&sets, node, &rows)?,
+                "{}: node {node}",
+                example.name
+            );
+        }
     }
     Ok(())
 }
 
 #[test]
-fn a_chain_of_a_hundred_thousand(rt: HostRuntime) -> Result<(), Fail> {
-    let nodes = 100_000;
+fn a_chain_of_two_hundred_thousand(rt: HostRuntime) -> Result<(), Fail> {
+    let nodes = 200_000;
     let mut edges = Vec::new(rt.alloc());
     for node in 1..nodes {
         edges.push((node - 1, node))?;
     }
-    let rise = compare(
-        &rt,
-        rt.alloc(),
-        "chain",
-        nodes,
-        1,
-        &edges,
-        &[(nodes - 1, 0)],
-    )?;
-    assert!(rt; rise <= 200_000, "{rise} changes");
-    let mut graph = Graph::new(rt.alloc(), nodes)?;
-    for &(from, to) in &edges {
-        add(&mut graph, from, to)?;
-    }
-    let mut sets = SetMatrix::new(rt.alloc(), nodes, 1)?;
-    insert(&mut sets, nodes - 1, Sym(0))?;
-    solve(rt.alloc(), &graph, &mut sets)?;
+    let (sets, rise) = solved(rt.alloc(), nodes, 1, &edges, &[(nodes - 1, 0)])?;
+    assert!(rt; rise <= 400_000, "{rise} changes");
     for node in 0..nodes {
         assert!(rt; holds(&sets, node, 0)?, "row {node}");
     }
@@ -351,21 +331,11 @@ fn a_ring_of_a_thousand(rt: HostRuntime) -> Result<(), Fail> {
         edges.push((node, if node + 1 < nodes { node + 1 } else { 0 }))?;
         given.push((node, node as u32))?;
     }
-    let rise = compare(&rt, rt.alloc(), "ring", nodes, nodes, &edges, &given)?;
+    let (sets, rise) = solved(rt.alloc(), nodes, nodes, &edges, &given)?;
     assert!(rt; rise <= 2_000, "{rise} changes");
-    let mut sets = SetMatrix::new(rt.alloc(), nodes, nodes)?;
-    for &(node, number) in &given {
-        insert(&mut sets, node, Sym(number))?;
-    }
-    let mut graph = Graph::new(rt.alloc(), nodes)?;
-    for &(from, to) in &edges {
-        add(&mut graph, from, to)?;
-    }
-    solve(rt.alloc(), &graph, &mut sets)?;
     for node in 0..nodes {
-        if node < sets.rows() {
-            assert_eq!(rt; sets.count(node), 1_000, "row {node}");
-        }
+        assert!(rt; node < sets.rows());
+        assert!(rt; sets.count(node) == 1_000, "row {node}");
     }
     Ok(())
 }

@@ -60,16 +60,16 @@ fn want_of_memory_is_told(rt: HostRuntime) -> Result<(), Fail> {
         let mut writer = Counted::new(&mut room[..]);
         let result = tokens(rt.alloc(), LEX, &mut MemSource::new(TEXT), &mut writer);
         let (written, left) = room.split_at(LINES.len());
-        assert_eq!(rt; left, [0].as_slice());
+        assert!(rt; left == [0].as_slice());
         match result {
             Ok(end) => {
                 answered = answered.wrapping_add(1);
-                assert_eq!(rt; end, TokenEnd::Clean);
-                assert_eq!(rt; written, LINES);
+                assert!(rt; end == TokenEnd::Clean);
+                assert!(rt; written == LINES);
             }
             Err(fault) => {
                 refused = refused.wrapping_add(1);
-                assert_eq!(rt; fault, TokensFault::OutOfMemory);
+                assert!(rt; fault == TokensFault::OutOfMemory);
                 assert!(rt;
                     written.iter().all(|byte| *byte == 0),
                     "something was written"

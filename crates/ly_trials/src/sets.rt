@@ -1,41 +1,57 @@
 //! Sets by lanes against plain ones, at widths round the ends of words and blocks.
 
-use ly_base::Sym;
+use ly_base::{SparseSet, Sym};
 use ly_sets::{SetMatrix, TermSet};
 use std::alloc::{AllocError, Global};
 use std::test::Fail;
 
 const WIDTHS: [usize; 8] = [0, 1, 63, 64, 65, 255, 257, 4_095];
 
-/// Rows of sets, a `bool` for each number.
+/// Rows, and of which numbers each gets one: one in three, one in five.
+const STEPS: [(usize, usize); 2] = [(0, 3), (1, 5)];
+
+/// A row that grows, and the row by which.
+const UNIONS: [(usize, usize); 8] = [
+    (0, 0),
+    (2, 2),
+    (1, 0),
+    (1, 0),
+    (2, 1),
+    (0, 1),
+    (0, 2),
+    (1, 2),
+];
+
+/// Rows of sets, a `bool` for each number of each row, one row after the other.
 #[derive(Drop)]
 pub(crate) struct Plain {
-    rows: Vec<Vec<bool>>,
+    cells: Vec<bool>,
     width: usize,
 }
 
 impl Plain {
     pub(crate) fn new(alloc: Global, rows: usize, width: usize) -> Result<Plain, AllocError> {
-        let mut all = Vec::new(alloc);
-        for _ in 0..rows {
-            all.push(vec![in alloc; false; width]?)?;
+        let mut cells = Vec::new(alloc);
+        for _ in 0..rows.saturating_mul(width) {
+            cells.push(false)?;
         }
-        Ok(Plain { rows: all, width })
+        Ok(Plain { cells, width })
+    }
+
+    /// The place of a number of a row.
+    fn place(&self, row: usize, number: usize) -> usize {
+        row.saturating_mul(self.width).saturating_add(number)
     }
 
     pub(crate) fn insert(&mut self, row: usize, number: usize) {
-        if let Some(row) = self.rows.get_mut(row)
-            && let Some(there) = row.get_mut(number)
-        {
+        let place = self.place(row, number);
+        if let Some(there) = self.cells.get_mut(place) {
             *there = true;
         }
     }
 
     pub(crate) fn contains(&self, row: usize, number: usize) -> bool {
-        match self.rows.get(row) {
-            Some(row) => row.get(number) == Some(&true),
-            None => false,
-        }
+        self.cells.get(self.place(row, number)) == Some(&true)
     }
 
     pub(crate) fn count(&self, row: usize) -> usize {
@@ -56,6 +72,11 @@ impl Plain {
     }
 }
 
+/// The symbol of a number.
+fn symbol(number: usize) -> Result<Sym, Fail> {
+    Ok(Sym(u32::try_from(number)?))
+}
+
 /// Adds a symbol of a table.
 pub(crate) fn insert(sets: &mut SetMatrix, row: usize, symbol: Sym) -> Result<(), Fail> {
     if row >= sets.rows() || symbol.0 as usize >= sets.width() {
@@ -67,7 +88,7 @@ pub(crate) fn insert(sets: &mut SetMatrix, row: usize, symbol: Sym) -> Result<()
 
 /// Whether a number is in a row.
 pub(crate) fn holds(sets: &SetMatrix, row: usize, number: usize) -> Result<bool, Fail> {
-    let symbol = Sym(u32::try_from(number)?);
+    let symbol = symbol(number)?;
     if row >= sets.rows() || symbol.0 as usize >= sets.width() {
         return Err(Fail::from("no such row or number"));
     }
@@ -75,7 +96,7 @@ pub(crate) fn holds(sets: &SetMatrix, row: usize, number: usize) -> Result<bool,
 }
 
 /// Whether a row is the plain one.
-fn same_row(sets: &SetMatrix, row: usize, plain: &Plain) -> Result<bool, Fail> {
+pub(crate) fn same_row(sets: &SetMatrix, row: usize, plain: &Plain) -> Result<bool, Fail> {
     for number in 0..plain.width {
         if holds(sets, row, number)? != plain.contains(row, number) {
             return Ok(false);
@@ -86,12 +107,12 @@ fn same_row(sets: &SetMatrix, row: usize, plain: &Plain) -> Result<bool, Fail> {
 
 #[test]
 fn sets_of_each_width(rt: HostRuntime) -> Result<(), Fail> {
-    for width in WIDTHS {
+    for &width in &WIDTHS {
         let mut set = TermSet::new(rt.alloc(), width)?;
         let mut plain = Plain::new(rt.alloc(), 1, width)?;
-        assert_eq!(rt; set.width(), width);
+        assert!(rt; set.width() == width);
         for number in 0..width {
-            let symbol = Sym(u32::try_from(number)?);
+            let symbol = symbol(number)?;
             if number % 7 == 0 || number % 64 == 63 {
                 assert!(rt; (symbol.0 as usize) < set.width());
                 set.insert(symbol);
@@ -99,57 +120,58 @@ fn sets_of_each_width(rt: HostRuntime) -> Result<(), Fail> {
             }
         }
         for number in 0..width {
-            let symbol = Sym(u32::try_from(number)?);
+            let symbol = symbol(number)?;
             assert!(rt; (symbol.0 as usize) < set.width());
-            assert_eq!(rt;
-                set.contains(symbol),
-                plain.contains(0, number),
+            assert!(rt;
+                set.contains(symbol) == plain.contains(0, number),
                 "{number} of {width}"
             );
         }
-        assert_eq!(rt; set.count(), plain.count(0), "width {width}");
+        assert!(rt; set.count() == plain.count(0), "width {width}");
     }
     Ok(())
 }
 
 #[test]
+fn a_sparse_set_of_seventy_thousand(rt: HostRuntime) -> Result<(), Fail> {
+    let mut set = SparseSet::new(rt.alloc(), 70_000)?;
+    for number in 0..70_000u32 {
+        assert!(rt; set.insert(number), "{number}");
+    }
+    let members = set.members();
+    assert!(rt; members.len() == 70_000);
+    assert!(rt; members.first() == Some(&0));
+    assert!(rt; members.last() == Some(&69_999));
+    Ok(())
+}
+
+#[test]
 fn unions_of_each_width(rt: HostRuntime) -> Result<(), Fail> {
-    for width in WIDTHS {
+    for &width in &WIDTHS {
         let mut sets = SetMatrix::new(rt.alloc(), 3, width)?;
         let mut plain = Plain::new(rt.alloc(), 3, width)?;
         for number in 0..width {
-            for (row, step) in [(0, 3), (1, 5)] {
+            for &(row, step) in &STEPS {
                 if number % step == step - 1 {
-                    insert(&mut sets, row, Sym(u32::try_from(number)?))?;
+                    insert(&mut sets, row, symbol(number)?)?;
                     plain.insert(row, number);
                 }
             }
         }
         let inserted = sets.changes();
-        let unions = [
-            (0, 0),
-            (2, 2),
-            (1, 0),
-            (1, 0),
-            (2, 1),
-            (0, 1),
-            (0, 2),
-            (1, 2),
-        ];
-        for (to, from) in unions {
+        for &(to, from) in &UNIONS {
             assert!(rt; to < sets.rows());
             assert!(rt; from < sets.rows());
             let grew = sets.union_row(to, from);
-            assert_eq!(rt;
-                grew,
-                plain.union_row(to, from),
+            assert!(rt;
+                grew == plain.union_row(to, from),
                 "row {to} by row {from} at width {width}"
             );
             for row in 0..3 {
                 assert!(rt; same_row(&sets, row, &plain)?, "row {row} at width {width}");
             }
         }
-        assert_eq!(rt; sets.changes().checked_sub(inserted), Some(8));
+        assert!(rt; sets.changes().checked_sub(inserted) == Some(8));
     }
     Ok(())
 }

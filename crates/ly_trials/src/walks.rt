@@ -132,14 +132,12 @@ fn longest_matches_and_their_cuts(rt: HostRuntime) -> Result<(), Fail> {
             cuts: &[Cut::Whole, *cut],
             state: 0,
         };
-        assert_eq!(rt;
-            next_match(&mut dense, 0, *line, text),
-            *wanted,
+        assert!(rt;
+            next_match(&mut dense, 0, *line, text) == *wanted,
             "{text:?} {cut:?}"
         );
-        assert_eq!(rt;
-            next_match(&mut dense, 1, *line, text),
-            Match::Stuck,
+        assert!(rt;
+            next_match(&mut dense, 1, *line, text) == Match::Stuck,
             "{text:?}"
         );
     }

@@ -1,13 +1,12 @@
 //! The program: reads its words, and writes what they ask for.
 #![tactic(auto)]
 
-mod asked;
-mod line;
-mod program;
+mod command;
+mod command_line;
+mod perform;
 #[cfg(test)]
 mod tests;
 
-use crate::program::perform;
 use std::env;
 use std::process::ExitCode;
 
@@ -17,7 +16,7 @@ fn main(rt: HostRuntime) -> ExitCode {
         Ok(words) => words,
         Err(_) => return ExitCode::from(3),
     };
-    let status = perform(
+    let status = perform::perform(
         &rt,
         alloc,
         words.as_slice(),

@@ -1,6 +1,6 @@
 //! Statuses and lines of the program, over devices that fail.
 
-use crate::program::perform;
+use crate::perform::perform;
 use std::io::{ErrorKind, Read, Write};
 use std::test::Fail;
 use std::{fs, io};
@@ -49,127 +49,146 @@ impl Write for Full {
     }
 }
 
-/// Words, a text on standard input and whether it fails at its end, the room of standard output; the
-/// status, what stands on standard output, and what on standard error.
-struct Run {
-    words: &'static [&'static str],
+/// The bytes on standard input and whether it fails at their end, and the room of standard output.
+#[derive(Clone, Copy)]
+struct Devices {
     input: &'static [u8],
     fails: bool,
     room: usize,
+}
+
+const QUIET: Devices = Devices {
+    input: b"",
+    fails: false,
+    room: 99,
+};
+
+/// A run: its words and devices, the exit status, and what stands on standard output and standard error.
+struct Run {
+    words: &'static [&'static str],
+    devices: Devices,
     status: u8,
     output: &'static [u8],
     faults: &'static [u8],
 }
 
-const RUNS: [Run; 12] = [
+const RUNS: [Run; 7] = [
     Run {
         words: &["tokens", "good.l"],
-        input: b"if ifx",
-        fails: false,
-        room: 99,
+        devices: Devices {
+            input: b"if ifx",
+            ..QUIET
+        },
         status: 0,
         output: b"IF\"if\"\nID\"ifx\"\n",
         faults: b"",
     },
     Run {
+        words: &["tokens", "good.l", "-"],
+        devices: Devices {
+            input: b"if",
+            ..QUIET
+        },
+        status: 0,
+        output: b"ID\"minus\"\n",
+        faults: b"",
+    },
+    Run {
         words: &["tokens", "good.l", "text"],
-        input: b"",
-        fails: false,
-        room: 99,
+        devices: QUIET,
         status: 1,
         output: b"IF\"if\"\nno rule matches at byte 2\n",
         faults: b"",
     },
     Run {
-        words: &["tokens", "bad.l", "text"],
-        input: b"",
-        fails: false,
-        room: 99,
-        status: 2,
-        output: b"",
-        faults: b"lytab: lex:2: fault 4 UnclosedGroup\n",
-    },
-    Run {
-        words: &["tokens", "text"],
-        input: b"",
-        fails: false,
-        room: 99,
-        status: 2,
-        output: b"",
-        faults: b"lytab: lex:1: fault 21 BadDefinition\n",
-    },
-    Run {
-        words: &["tokens", "absent.l", "text"],
-        input: b"",
-        fails: false,
-        room: 99,
-        status: 3,
-        output: b"",
-        faults: b"lytab: cannot read absent.l\n",
-    },
-    Run {
-        words: &["tokens", "bad.l", "absent"],
-        input: b"",
-        fails: false,
-        room: 99,
-        status: 3,
-        output: b"",
-        faults: b"lytab: cannot read absent\n",
-    },
-    Run {
         words: &["tokens", "good.l"],
-        input: b"if i",
-        fails: true,
-        room: 99,
+        devices: Devices {
+            input: b"if i",
+            fails: true,
+            room: 99,
+        },
         status: 3,
         output: b"",
         faults: b"lytab: cannot read -\n",
     },
     Run {
         words: &["tokens", "good.l"],
-        input: b"if ifx",
-        fails: false,
-        room: 9,
+        devices: Devices {
+            input: b"if ifx",
+            fails: false,
+            room: 9,
+        },
         status: 3,
         output: b"IF\"if\"\nID",
         faults: b"lytab: cannot write -\n",
     },
     Run {
         words: &["tokens", "good.l"],
-        input: b"if#",
-        fails: false,
-        room: 0,
+        devices: Devices {
+            input: b"if#",
+            fails: false,
+            room: 0,
+        },
         status: 3,
         output: b"",
         faults: b"lytab: cannot write -\n",
     },
     Run {
         words: &["tokens", "good.l"],
-        input: b"",
-        fails: false,
-        room: 0,
+        devices: Devices { room: 0, ..QUIET },
         status: 0,
         output: b"",
         faults: b"",
     },
-    Run {
-        words: &["tokens", "heavy.l"],
-        input: b"",
-        fails: false,
-        room: 99,
-        status: 2,
-        output: b"",
-        faults: b"lytab: fault 51 TooManyPositions\n",
-    },
-    Run {
-        words: &["tokens", "heaviest.l"],
-        input: b"",
-        fails: false,
-        room: 99,
-        status: 2,
-        output: b"",
-        faults: b"lytab: lex:2: fault 17 TooHeavy\n",
-    },
+];
+
+/// Words of runs that are refused with nothing on standard output: the exit status, and what stands on standard error.
+const REFUSED: [(&[&str], u8, &[u8]); 9] = [
+    (
+        &["tokens", "bad.l", "text"],
+        2,
+        b"lytab: lex:2: fault 4 UnclosedGroup\n",
+    ),
+    (
+        &["tokens", "text"],
+        2,
+        b"lytab: lex:1: fault 21 BadDefinition\n",
+    ),
+    (
+        &["tokens", "-"],
+        2,
+        b"lytab: lex:1: fault 21 BadDefinition\n",
+    ),
+    // LEX is opened first
+    (
+        &["tokens", "absent.l", "absent"],
+        3,
+        b"lytab: cannot read absent.l\n",
+    ),
+    // LEX is read whole before TEXT is opened
+    (
+        &["tokens", "folder", "absent"],
+        3,
+        b"lytab: cannot read folder\n",
+    ),
+    // TEXT is opened before anything is judged
+    (
+        &["tokens", "bad.l", "absent"],
+        3,
+        b"lytab: cannot read absent\n",
+    ),
+    // LEX is judged before TEXT is read
+    (
+        &["tokens", "bad.l", "folder"],
+        2,
+        b"lytab: lex:2: fault 4 UnclosedGroup\n",
+    ),
+    (
+        &["tokens", "good.l", "folder"],
+        3,
+        b"lytab: cannot read folder\n",
+    ),
+    (&["tokens", "good.l", ""], 3, b"lytab: cannot read \n"),
 ];
 
 /// Writes the files that the runs name.
@@ -181,76 +200,118 @@ fn write_files(rt: &HostRuntime) -> Result<(), Fail> {
     )?;
     fs::write(rt, "bad.l", "%%\n(a ;\n")?;
     fs::write(rt, "text", "if#")?;
-    let mut heavy = String::from_str(rt.alloc(), "%%\n")?;
-    for _ in 0..65_535u32 {
-        heavy.push('a')?;
-    }
-    fs::write(rt, "heavy.l", format!(in rt.alloc(); "{heavy} ;\nb ;\n")?)?;
-    fs::write(rt, "heaviest.l", format!(in rt.alloc(); "{heavy}b ;\n")?)?;
+    fs::write(rt, "-", "minus")?;
+    fs::create_dir(rt, "folder")?;
     Ok(())
 }
 
-/// The words of a line, the program's name first.
+/// The words of a line.
 fn line_of(rt: &HostRuntime, words: &[&str]) -> Result<Vec<String>, Fail> {
-    let mut line = vec![in rt.alloc(); String::from_str(rt.alloc(), "lytab")?]?;
+    let mut line = Vec::new(rt.alloc());
     for word in words {
         line.push(String::from_str(rt.alloc(), *word)?)?;
     }
     Ok(line)
 }
 
+/// The words of a line, the program's name first.
+fn named(rt: &HostRuntime, words: &[&str]) -> Result<Vec<String>, Fail> {
+    let mut line = line_of(rt, words)?;
+    line.insert(0, String::from_str(rt.alloc(), "lytab")?)?;
+    Ok(line)
+}
+
+/// The exit status of a line over devices, what stands on standard output, and what on standard error, which has a room
+/// too.
+fn performed(
+    rt: &HostRuntime,
+    line: &[String],
+    devices: &Devices,
+    room: usize,
+) -> (u8, Vec<u8>, Vec<u8>) {
+    let mut input = Slow {
+        rest: devices.input,
+        fails: devices.fails,
+    };
+    let mut output = Full {
+        taken: Vec::new(rt.alloc()),
+        room: devices.room,
+    };
+    let mut faults = Full {
+        taken: Vec::new(rt.alloc()),
+        room,
+    };
+    let status = perform(rt, rt.alloc(), line, &mut input, &mut output, &mut faults);
+    (status, output.taken, faults.taken)
+}
+
 #[test]
 fn statuses_and_lines(rt: HostRuntime) -> Result<(), Fail> {
     write_files(&rt)?;
     for run in &RUNS {
-        let words = line_of(&rt, run.words)?;
-        let mut input = Slow {
-            rest: run.input,
-            fails: run.fails,
-        };
-        let mut output = Full {
-            taken: Vec::new(rt.alloc()),
-            room: run.room,
-        };
-        let mut faults = Vec::new(rt.alloc());
-        let status = perform(
-            &rt,
-            rt.alloc(),
-            &words,
-            &mut input,
-            &mut output,
-            &mut faults,
-        );
+        let line = named(&rt, run.words)?;
+        let (status, output, faults) = performed(&rt, &line, &run.devices, 99);
         assert_eq!(rt; status, run.status, "{:?}", run.words);
-        assert_eq!(rt; output.taken.as_slice(), run.output, "{:?}", run.words);
+        assert_eq!(rt; output.as_slice(), run.output, "{:?}", run.words);
         assert_eq!(rt; faults.as_slice(), run.faults, "{:?}", run.words);
     }
     Ok(())
 }
 
 #[test]
+fn refused_runs(rt: HostRuntime) -> Result<(), Fail> {
+    write_files(&rt)?;
+    for (words, wanted, fault) in &REFUSED {
+        let line = named(&rt, words)?;
+        let (status, output, faults) = performed(&rt, &line, &QUIET, 99);
+        assert_eq!(rt; status, *wanted, "{words:?}");
+        assert!(rt; output.is_empty(), "{words:?}");
+        assert_eq!(rt; faults.as_slice(), *fault, "{words:?}");
+    }
+    Ok(())
+}
+
+/// Words, the program's name included, and the status: 0 with a help text on standard output, or 4 with what is wrong
+/// on
+/// standard error.
+const TOLD: [(&[&str], u8); 11] = [
+    (&[], 4),
+    (&["lytab"], 4),
+    (&["lytab", "--help"], 0),
+    (&["lytab", "-h"], 0),
+    (&["lytab", "tokens", "--help"], 0),
+    (&["lytab", "help", "tokens"], 0),
+    (&["lytab", "tokens"], 4),
+    (&["lytab", "token", "good.l"], 4),
+    (&["lytab", "tokens", "a", "b", "c"], 4),
+    (&["lytab", "tokens", "-a"], 4),
+    (&["lytab", "tokens", "a", "--b"], 4),
+];
+
+#[test]
 fn words_and_help(rt: HostRuntime) -> Result<(), Fail> {
-    for (words, status) in [
-        (["--help", "--help"].as_slice(), 0u8),
-        (["tokens", "--help"].as_slice(), 0),
-        (["tokens"].as_slice(), 4),
-        (["token", "good.l"].as_slice(), 4),
-        (["tokens", "a", "b", "c"].as_slice(), 4),
-    ] {
+    for (words, wanted) in &TOLD {
         let line = line_of(&rt, words)?;
-        let mut output = Vec::new(rt.alloc());
-        let mut faults = Vec::new(rt.alloc());
-        let given = perform(
-            &rt,
-            rt.alloc(),
-            &line,
-            &mut b"".as_slice(),
-            &mut output,
-            &mut faults,
-        );
-        assert_eq!(rt; given, status, "{words:?}");
+        let ample = Devices {
+            room: 9_999,
+            ..QUIET
+        };
+        let (status, output, faults) = performed(&rt, &line, &ample, 9_999);
+        assert_eq!(rt; status, *wanted, "{words:?}");
         assert_eq!(rt; output.is_empty(), status == 4, "{words:?}");
         assert_eq!(rt; faults.is_empty(), status == 0, "{words:?}");
+        // a help text that can't be written is a failed device, and wrong words stay wrong with nothing told
+        let none = Devices { room: 0, ..QUIET };
+        let (status, output, faults) = performed(&rt, &line, &none, 22);
+        assert_eq!(rt; status, if *wanted == 0 { 3 } else { 4 }, "{words:?}");
+        assert!(rt; output.is_empty(), "{words:?}");
+        if status == 3 {
+            assert_eq!(rt;
+                faults.as_slice(),
+                b"lytab: cannot write -\n".as_slice(),
+                "{words:?}"
+            );
+        }
     }
     Ok(())
 }

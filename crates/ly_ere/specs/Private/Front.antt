@@ -29,7 +29,7 @@ pub record IsFrontExpression (line : List ℕ) (e : Expression) (n : ℕ) : Type
   pub follows : IsBehind (drop n line)
 
 -- The pattern is the expression, whatever is before and behind it.
-pub record IsPlain (e : Expression) (p : Pattern) : Type 0 where
+pub record IsPatternOf (e : Expression) (p : Pattern) : Type 0 where
   pub head : p.head ≡ e
   pub anywhere : p.line_start ≡ false
   pub no_tail : p.tail ≡ None
