@@ -69,8 +69,8 @@ impl Steps for PositionWalk<'_> {
         }
     }
 
-    ghost stays_ended = { λ w condition line text more h. positions_ahead-ended w.nfa.now (starts_of w.nfa.now condition line) text
-        more h };
+    ghost stays_ended = { λ w condition line text more h. positions_ahead-ended w.nfa.now
+        (starts_of w.nfa.now condition line) text more h };
 }
 
 /// The least rule whose pattern ends at one of some positions.

@@ -41,6 +41,16 @@ pub enum Task {
     Fork(usize, usize),
 }
 
+/// Plain expressions, and how many instructions the code of each has.
+#[derive(Drop)]
+struct Measured<'a> {
+    /// The expressions.
+    plain: &'a Plain,
+    /// The sizes of their code.
+    sizes: &'a [usize],
+    ghost measured: { sizes.now ≡ map size plain.now },
+}
+
 /// Compiles a plan: for each rule its end, and before it, in the direction of reading, its code.
 pub fn compile(alloc: Global, plan: &Plan) -> Result<Program, AllocError>
     requires { All (IsPlainPart (length plan.now.plain)) plan.now.parts.items }
@@ -48,6 +58,10 @@ pub fn compile(alloc: Global, plan: &Plan) -> Result<Program, AllocError>
         (steps_of p.instructions.items) p.entries.items) }
 {
     let sizes = sizes(alloc, &plan.plain)?;
+    let source = Measured {
+        plain: &plan.plain,
+        sizes: &sizes,
+    };
     let mut program = Program {
         instructions: Vec::new(alloc),
         entries: Vec::new(alloc),
@@ -57,8 +71,7 @@ pub fn compile(alloc: Global, plan: &Plan) -> Result<Program, AllocError>
             None => None,
             Some(part) => Some(append_rule(
                 alloc,
-                &plan.plain,
-                &sizes,
+                &source,
                 &mut program.instructions,
                 number,
                 *part,
@@ -72,46 +85,42 @@ pub fn compile(alloc: Global, plan: &Plan) -> Result<Program, AllocError>
 /// Appends the end of a rule and its code, and answers where it begins.
 fn append_rule(
     alloc: Global,
-    plain: &Plain,
-    sizes: &[usize],
+    source: &Measured,
     instructions: &mut Vec<Instruction>,
     rule: usize,
     part: usize,
 ) -> Result<usize, AllocError>
-    requires part { part < length plain.now }
-    requires sizes { sizes.now ≡ map size plain.now }
+    requires part { part < length source.now.plain.now }
     ensures entry { IfOk result (λ e.
-        e ≡ entry (length instructions.old.items + 1) (size (part_of plain.now part))
+        e ≡ entry (length instructions.old.items + 1) (size (part_of source.now.plain.now part))
         (length instructions.old.items)) }
     ensures steps { OnOk result (steps_of instructions.new.items
         ≡ steps_of instructions.old.items
-        ++ ends rule ∷ code (part_of plain.now part)
+        ++ ends rule ∷ code (part_of source.now.plain.now part)
         (length instructions.old.items + 1) (length instructions.old.items)) }
 {
     let end = instructions.len();
     // No memory holds so many rules or steps that one of these numbers doesn't fit.
     let number = u32::try_from(rule).map_err(|_| AllocError)?;
-    let size = sizes[part].checked_add(1).ok_or(AllocError)?;
+    let size = source.sizes[part].checked_add(1).ok_or(AllocError)?;
     let after = end.checked_add(size).ok_or(AllocError)?;
     instructions.push(Instruction::End(RuleNo(number)))?;
-    append(alloc, plain, sizes, instructions, part, end)?;
+    append(alloc, source, instructions, part, end)?;
     Ok(after - 1)
 }
 
 /// Appends the code of an expression that goes on at `next`.
 fn append(
     alloc: Global,
-    plain: &Plain,
-    sizes: &[usize],
+    source: &Measured,
     instructions: &mut Vec<Instruction>,
     part: usize,
     next: usize,
 ) -> Result<(), AllocError>
-    requires part { part < length plain.now }
-    requires sizes { sizes.now ≡ map size plain.now }
-    requires room { length instructions.old.items + size (part_of plain.now part) < 2 ^ 64 }
+    requires part { part < length source.now.plain.now }
+    requires room { length instructions.old.items + size (part_of source.now.plain.now part) < 2 ^ 64 }
     ensures { OnOk result (steps_of instructions.new.items ≡ steps_of instructions.old.items ++
-        code (part_of plain.now part) (length instructions.old.items) next) }
+        code (part_of source.now.plain.now part) (length instructions.old.items) next) }
 {
     let mut tasks = Vec::new(alloc);
     tasks.push(Task::Code(part, next))?;
@@ -119,7 +128,7 @@ fn append(
         match task {
             Task::Fork(first, second) => instructions.push(Instruction::Fork(first, second))?,
             Task::Code(part, next) => {
-                append_node(plain, sizes, instructions, &mut tasks, part, next)?;
+                append_node(source, instructions, &mut tasks, part, next)?;
             }
         }
     }
@@ -128,38 +137,36 @@ fn append(
 
 /// Appends the first of an expression's code, and notes the rest.
 fn append_node(
-    plain: &Plain,
-    sizes: &[usize],
+    source: &Measured,
     instructions: &mut Vec<Instruction>,
     tasks: &mut Vec<Task>,
     part: usize,
     next: usize,
 ) -> Result<(), AllocError>
-    requires part { part < length plain.now }
-    requires sizes { sizes.now ≡ map size plain.now }
-    requires room { length instructions.old.items + size (part_of plain.now part) < 2 ^ 64 }
-    requires tasks { All (TaskFits (length plain.now)) tasks.old.items }
-    ensures fits { OnOk result (All (TaskFits (length plain.now)) tasks.new.items) }
-    ensures less { OnOk result (sum_by (task_work plain.now) tasks.new.items
-        < sum_by (task_work plain.now) tasks.old.items + work (part_of plain.now part)) }
+    requires part { part < length source.now.plain.now }
+    requires room { length instructions.old.items + size (part_of source.now.plain.now part) < 2 ^ 64 }
+    requires tasks { All (TaskFits (length source.now.plain.now)) tasks.old.items }
+    ensures fits { OnOk result (All (TaskFits (length source.now.plain.now)) tasks.new.items) }
+    ensures less { OnOk result (sum_by (task_work source.now.plain.now) tasks.new.items
+        < sum_by (task_work source.now.plain.now) tasks.old.items + work (part_of source.now.plain.now part)) }
     ensures steps { OnOk result (
         steps_of instructions.new.items
-        ++ planned plain.now (reverse tasks.new.items) (length instructions.new.items)
+        ++ planned source.now.plain.now (reverse tasks.new.items) (length instructions.new.items)
         ≡ steps_of instructions.old.items
-        ++ (code (part_of plain.now part) (length instructions.old.items) next
-        ++ planned plain.now (reverse tasks.old.items)
-        (length instructions.old.items + size (part_of plain.now part)))) }
+        ++ (code (part_of source.now.plain.now part) (length instructions.old.items) next
+        ++ planned source.now.plain.now (reverse tasks.old.items)
+        (length instructions.old.items + size (part_of source.now.plain.now part)))) }
 {
     let base = instructions.len();
-    match plain.node(part) {
+    match source.plain.node(part) {
         Node::Set(bytes) => Ok(instructions.push(Instruction::Read(bytes, next))?),
         Node::Concat(a, b) => {
-            let middle = entry_at(base, sizes[b], next);
+            let middle = entry_at(base, source.sizes[b], next);
             tasks.extend_from_slice(&[Task::Code(a, middle), Task::Code(b, next)])
         }
         Node::Either(a, b) => {
-            let first = entry_at(base, sizes[a], next);
-            let second = entry_at(base + sizes[a], sizes[b], next);
+            let first = entry_at(base, source.sizes[a], next);
+            let second = entry_at(base + source.sizes[a], source.sizes[b], next);
             tasks.extend_from_slice(&[
                 Task::Fork(first, second),
                 Task::Code(b, next),
@@ -167,17 +174,17 @@ fn append_node(
             ])
         }
         Node::Star(a) => {
-            let fork = base + sizes[a];
-            let first = entry_at(base, sizes[a], fork);
+            let fork = base + source.sizes[a];
+            let first = entry_at(base, source.sizes[a], fork);
             tasks.extend_from_slice(&[Task::Fork(first, next), Task::Code(a, fork)])
         }
         Node::Plus(a) => {
-            let first = entry_at(base + 1, sizes[a], base);
+            let first = entry_at(base + 1, source.sizes[a], base);
             instructions.push(Instruction::Fork(first, next))?;
             tasks.extend_from_slice(&[Task::Code(a, base)])
         }
         Node::Optional(a) => {
-            let first = entry_at(base, sizes[a], next);
+            let first = entry_at(base, source.sizes[a], next);
             tasks.extend_from_slice(&[Task::Fork(first, next), Task::Code(a, next)])
         }
         Node::Empty | Node::Repeat { .. } | Node::Name(_) => Ok(()),

@@ -12,7 +12,7 @@ use Rattle.ly_position.proofs.program.append.Goals as goal
 
 pub append_node-requires-clause-room : goal.append_node-requires-clause-room
 append_node-requires-clause-room c =
-    let es = c.args.plain.now in
+    let es = c.args.source.now.plain.now in
     let items : c.loop-task.tasks.items ≡ c.pop.new.self.items ++ task.Code c.in-Code.part c.in-Code.next ∷ []
     = c.in-Some.ensures.items ∙ ap (λ t. c.pop.new.self.items ++ t ∷ []) c.in-Code.is in
     let base = length c.loop-task.instructions.items in
@@ -31,5 +31,5 @@ append_node-requires-clause-room c =
 
 pub append_node-requires-clause-tasks : goal.append_node-requires-clause-tasks
 append_node-requires-clause-tasks c
-    = (All-pop (TaskFits (length c.args.plain.now)) c.loop-task.tasks.items c.pop.new.self.items
+    = (All-pop (TaskFits (length c.args.source.now.plain.now)) c.loop-task.tasks.items c.pop.new.self.items
     (Some c.in-Some.task) c.in-Some.ensures.items c.loop-task.invariant.fits).0

@@ -8,11 +8,11 @@ use Rattle.ly_position.proofs.program.append.Given as goal
 -- what is there and what is planned make the code
 abbrev pub invariant-loop-task : goal.invariant-loop-task
 invariant-loop-task l = record {
-  fits : All (TaskFits (length l.plain)) l.tasks.items;
-  steps : map step_of l.instructions.items ++ planned l.plain (reverse l.tasks.items) (length l.instructions.items)
-      ≡ map step_of l.fn.instructions.items ++ code (part_of l.plain l.fn.part)
+  fits : All (TaskFits (length l.source.plain.now)) l.tasks.items;
+  steps : map step_of l.instructions.items ++ planned l.source.plain.now (reverse l.tasks.items) (length l.instructions.items)
+      ≡ map step_of l.fn.instructions.items ++ code (part_of l.source.plain.now l.fn.part)
       (length l.fn.instructions.items) l.fn.next;
 }
 
 abbrev pub decreases-loop-task : goal.decreases-loop-task
-decreases-loop-task l = sum_by (task_work l.plain) l.tasks.items
+decreases-loop-task l = sum_by (task_work l.source.plain.now) l.tasks.items
