@@ -11,9 +11,11 @@ use Rattle.std.proofs.Math.Seq.{take-suc}
 use Rattle.std.proofs.Math.ListN.{take-append-drop}
 use Rattle.ly_base.specs.declared.escapes.Radix.{Radix}
 use Rattle.ly_base.specs.declared.escapes.Radix.TheVariants.{Octal, Hexadecimal}
-use Rattle.ly_base.specs.Escapes.{base_of, counts, is_octal, is_hexadecimal, digit, number_from, number, AllPass, Stops}
-use Rattle.ly_base.specs.Escapes.{meaning, Escape, octal, hexadecimal, bare_x, letter, digits, escape_of, by_octal}
-use Rattle.ly_base.specs.Escapes.{by_letter, by_hexadecimal, byte_or_none, byte_when, letter_when}
+use Rattle.ly_base.specs.Private.Escapes.{base_of, counts}
+use Rattle.ly_base.specs.Escapes.{is_octal, is_hexadecimal, digit, number_from, number, AllPass, Stops}
+use Rattle.ly_base.specs.Private.Escapes.{digits, found_escape, by_octal}
+use Rattle.ly_base.specs.Escapes.{meaning, Escape, octal, hexadecimal, bare_x, letter}
+use Rattle.ly_base.specs.Private.Escapes.{by_letter, by_hexadecimal, byte_or_none, byte_when, letter_when}
 
 pub digits_pass : (p : ℕ → Bool) (n : ℕ) (t : List ℕ) → AllPass p (digits p n t)
 digits_pass p zero t = tt
@@ -130,7 +132,7 @@ letter_sound (c ∷ t) b r s q = by (nat_eq c 10) refl q
     by false e q = hex (nat_eq c 120) refl (eqb-false c 10 e) q
 
 -- what a reader finds is an escape
-pub escape_sound : (t : List ℕ) (b : ℕ) (r : List ℕ) → escape_of t ≡ Some (b, r) → Escape t b r
+pub escape_sound : (t : List ℕ) (b : ℕ) (r : List ℕ) → found_escape t ≡ Some (b, r) → Escape t b r
 escape_sound t b r q = by (digits is_octal 3 t) refl q
   where
     by : (ds : List ℕ) → digits is_octal 3 t ≡ ds → by_octal ds t ≡ Some (b, r) → Escape t b r
@@ -166,7 +168,7 @@ none_all p [] s = refl
 none_all p (b ∷ t) s = rw s refl
 
 -- an escape is what a reader finds
-pub escape_complete : {t : List ℕ} {b : ℕ} {r : List ℕ} → Escape t b r → escape_of t ≡ Some (b, r)
+pub escape_complete : {t : List ℕ} {b : ℕ} {r : List ℕ} → Escape t b r → found_escape t ≡ Some (b, r)
 escape_complete (octal ds r a l m s n) = ap (λ us. by_octal us (ds ++ r)) (digits_are is_octal 3 ds r a m s)
     ∙ by_octal_some ds r l n
 escape_complete (hexadecimal ds r a l s n)
@@ -230,7 +232,7 @@ uncounted false b e = refl
 
 -- digits behind a backslash
 octal_ok : (u : List ℕ) (n v b : ℕ) → n ≡ length (digits is_octal 3 u) → v ≡ min (number 8 (digits is_octal 3 u)) 256
-    → 0 < n → v < 256 → escape_of u ≡ Some (v, drop n u)
+    → 0 < n → v < 256 → found_escape u ≡ Some (v, drop n u)
 octal_ok u n v b e f l m = by (digits is_octal 3 u) e f
   where
     by : (ds : List ℕ) → n ≡ length ds → v ≡ min (number 8 ds) 256 → by_octal ds u ≡ Some (v, drop n u)
@@ -247,7 +249,7 @@ run_ends p base most k v t a few within stop e =
     rw d (omega (arith, length-take k t), e)
 
 octal_no : (u : List ℕ) (n v : ℕ) → n ≡ length (digits is_octal 3 u) → v ≡ min (number 8 (digits is_octal 3 u)) 256
-    → 0 < n → 256 ≤ v → escape_of u ≡ None
+    → 0 < n → 256 ≤ v → found_escape u ≡ None
 octal_no u n v e f l m = by (digits is_octal 3 u) e f
   where
     large : (k : ℕ) (rest : List ℕ) → 256 ≤ k → byte_or_none k rest ≡ None
@@ -258,7 +260,7 @@ octal_no u n v e f l m = by (digits is_octal 3 u) e f
     by (d ∷ ds) e f = large (number 8 (d ∷ ds)) (drop (length (d ∷ ds)) u) (omega arith)
 
 -- no octal digits
-no_octal : (u : List ℕ) (n : ℕ) → n ≡ length (digits is_octal 3 u) → n ≤ 0 → escape_of u ≡ by_letter u
+no_octal : (u : List ℕ) (n : ℕ) → n ≡ length (digits is_octal 3 u) → n ≤ 0 → found_escape u ≡ by_letter u
 no_octal u n e l = by (digits is_octal 3 u) e
   where
     by : (ds : List ℕ) → n ≡ length ds → by_octal ds u ≡ by_letter u
@@ -289,7 +291,7 @@ whole_slice n t = take_all (length t - n) (drop n t) (omega (arith, length-drop 
 pub byte_at : (t : List ℕ) (n b : ℕ) → n < length t → get_or t n 0 ≡ b → drop n t ≡ b ∷ drop (n + 1) t
 byte_at t n b l e = drop_more t n 0 l ∙ ap (λ x. x ∷ drop (n + 1) t) e
 
-escape_none : (t : List ℕ) → escape_of t ≡ None → (b : ℕ) (r : List ℕ) → Escape t b r → ⊥
+escape_none : (t : List ℕ) → found_escape t ≡ None → (b : ℕ) (r : List ℕ) → Escape t b r → ⊥
 escape_none t e b r h = let k = escape_complete h in cc
 
 -- a newline is no escape
@@ -319,7 +321,7 @@ module _ (t : List ℕ) (letter : ℕ) (within : 1 < length t) (is : letter ≡ 
 
   module _ (n : ℕ) (count : n ≡ length (digits is_octal 3 (take (length t - 1) (drop 1 t)))) (none : n ≤ 0)
       (line : letter ≢ 10) where
-    by_letters : (w : List ℕ) → drop 2 t ≡ w → escape_of (letter ∷ w) ≡ letter_when false (nat_eq letter 120) letter w
+    by_letters : (w : List ℕ) → drop 2 t ≡ w → found_escape (letter ∷ w) ≡ letter_when false (nat_eq letter 120) letter w
     by_letters w e = no_octal (letter ∷ w) n (rw (whole_slice, first_letter, e) at count) none
         ∙ rw (ne_eqb letter 10 line) refl
 

@@ -3,7 +3,7 @@ use Rattle.std.proofs.Common.{◌≡◌, ◌∙◌, ◌<◌, ◌≤◌, ◌+◌,
 use Rattle.std.proofs.Common.{get_or, sym, ap, arith, append-nil, append_assoc, get_or-drop, length-drop}
 use Rattle.std.proofs.lemmas.Bool.{cond-false, cond-true}
 use Rattle.std.proofs.lemmas.List.{flat_map_more, take_more}
-use Rattle.ly_base.specs.Text.{escape_of, escaped, escaped_byte, is_plain}
+use Rattle.ly_base.specs.Text.{escape_for, escaped, escaped_byte, is_plain}
 
 -- a run with one more byte
 run_more : (bytes : List ℕ) (start at : ℕ) → start ≤ at → at < length bytes
@@ -36,11 +36,11 @@ module _ (quote : ℕ) (bytes before out : List ℕ) (start at : ℕ) (behind : 
 
   -- any other byte ends the run
   pub escape_step : is_plain quote (get_or bytes at 0) ≡ false
-      → ((out ++ take (at - start) (drop start bytes)) ++ escape_of (get_or bytes at 0)) ++ take (at + 1 - (at + 1))
+      → ((out ++ take (at - start) (drop start bytes)) ++ escape_for (get_or bytes at 0)) ++ take (at + 1 - (at + 1))
       (drop (at + 1) bytes)
       ≡ before ++ escaped quote (take (at + 1) bytes)
   escape_step other = let none : at + 1 - (at + 1) ≡ 0 = omega arith in
-      rw none (append-nil ((out ++ take (at - start) (drop start bytes)) ++ escape_of (get_or bytes at 0))
-      ∙ ap (λ t. t ++ escape_of (get_or bytes at 0)) so_far
+      rw none (append-nil ((out ++ take (at - start) (drop start bytes)) ++ escape_for (get_or bytes at 0))
+      ∙ ap (λ t. t ++ escape_for (get_or bytes at 0)) so_far
       ∙ ap (λ t. (before ++ escaped quote (take at bytes)) ++ t) (sym (cond-false _ _ _ other))
       ∙ sym (escaped_more quote bytes before at within))

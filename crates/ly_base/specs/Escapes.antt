@@ -1,9 +1,6 @@
 -- Escapes: what stands behind a backslash, and the byte that it stands for (POSIX, lex, "Escape Sequences in lex").
-use Rattle.std.specs.Prelude.{◌≡◌, ◌≢◌, ℕ, zero, suc, ◌+◌, ◌-◌, ◌*◌, ◌<◌, ◌≤◌, List, [], ◌∷◌, ◌++◌, length, drop}
-use Rattle.std.specs.Prelude.{Option, Some, None, Bool, true, false, ◌||◌, ◌&&◌, nat_eq, nat_le, nat_lt, IsTrue}
-use Rattle.std.specs.Prelude.{if◌then◌else◌}
-use Rattle.ly_base.specs.declared.escapes.Radix.{Radix}
-use Rattle.ly_base.specs.declared.escapes.Radix.TheVariants.{Octal, Hexadecimal}
+use Rattle.std.specs.Prelude.{◌≡◌, ◌≢◌, ℕ, ◌+◌, ◌-◌, ◌*◌, ◌<◌, ◌≤◌, List, [], ◌∷◌, ◌++◌, length}
+use Rattle.std.specs.Prelude.{Bool, true, false, ◌||◌, ◌&&◌, nat_eq, nat_le, IsTrue, if◌then◌else◌}
 
 -- `0` to `7`
 abbrev pub is_octal : ℕ → Bool
@@ -55,51 +52,3 @@ pub data Escape : List ℕ → ℕ → List ℕ → Type 0 where
       → number 16 ds < 256 → Escape (120 ∷ (ds ++ rest)) (number 16 ds) rest
   bare_x : (rest : List ℕ) → Stops is_hexadecimal rest → Escape (120 ∷ rest) 120 rest
   letter : (b : ℕ) (rest : List ℕ) → is_octal b ≡ false → b ≢ 120 → b ≢ 10 → Escape (b ∷ rest) (meaning b) rest
-
--- the first n bytes of a text that pass a test one after another
-abbrev pub digits : (ℕ → Bool) → ℕ → List ℕ → List ℕ
-digits test zero t = []
-digits test (suc n) [] = []
-digits test (suc n) (b ∷ t) = if test b then b ∷ digits test n t else []
-
-abbrev pub byte_when : Bool → ℕ → List ℕ → Option (ℕ × List ℕ)
-byte_when true n rest = Some (n, rest)
-byte_when false n rest = None
-
-abbrev pub byte_or_none : ℕ → List ℕ → Option (ℕ × List ℕ)
-byte_or_none n rest = byte_when (nat_lt n 256) n rest
-
-abbrev pub by_hexadecimal : List ℕ → List ℕ → Option (ℕ × List ℕ)
-by_hexadecimal [] t = Some (120, t)
-by_hexadecimal (d ∷ ds) t = byte_or_none (number 16 (d ∷ ds)) (drop (length (d ∷ ds)) t)
-
-abbrev pub letter_when : Bool → Bool → ℕ → List ℕ → Option (ℕ × List ℕ)
-letter_when true _ b t = None
-letter_when false true b t = by_hexadecimal (digits is_hexadecimal (length t) t) t
-letter_when false false b t = Some (meaning b, t)
-
-abbrev pub by_letter : List ℕ → Option (ℕ × List ℕ)
-by_letter [] = None
-by_letter (b ∷ t) = letter_when (nat_eq b 10) (nat_eq b 120) b t
-
-abbrev pub by_octal : List ℕ → List ℕ → Option (ℕ × List ℕ)
-by_octal [] t = by_letter t
-by_octal (d ∷ ds) t = byte_or_none (number 8 (d ∷ ds)) (drop (length (d ∷ ds)) t)
-
--- the byte that stands behind a backslash, and the rest, as a reader finds it
-abbrev pub escape_of : List ℕ → Option (ℕ × List ℕ)
-escape_of t = by_octal (digits is_octal 3 t) t
-
--- which bytes are digits
-abbrev pub test_of : Radix → ℕ → Bool
-test_of Octal b = is_octal b
-test_of Hexadecimal b = is_hexadecimal b
-
-abbrev pub base_of : Radix → ℕ
-base_of Octal = 8
-base_of Hexadecimal = 16
-
--- what a byte counts, if it is a digit
-abbrev pub counts : Bool → ℕ → Option ℕ
-counts true b = Some (digit b)
-counts false b = None

@@ -1,5 +1,8 @@
 -- A text taken apart from its front on, lexeme after lexeme (POSIX, XCU lex).
-use Rattle.std.specs.Prelude.{◌≡◌, ℕ, ◌+◌, List, [], ◌∷◌, take, drop, Bool, true, eqb, Option, unwrap_or}
+use Rattle.std.specs.Prelude.{◌≡◌, ℕ, ◌+◌, List, [], ◌∷◌, ◌++◌, take, drop, Bool, true, eqb, Option, Some, None}
+use Rattle.std.specs.Prelude.{unwrap_or}
+use Rattle.ly_base.specs.declared.lexeme.End.{End}
+use Rattle.ly_base.specs.declared.lexeme.Lexeme.{Lexeme}
 
 -- Where a run over a text stands: whether a line begins there, the condition, how many bytes lie behind it, and
 -- the bytes that are left.
@@ -8,19 +11,6 @@ pub record Place : Type 0 where
   pub condition : ℕ
   pub at : ℕ
   pub rest : List ℕ
-
--- What is taken at a place: rule i matched so many bytes, of which the first, so many, are its token.
-pub record Lexeme : Type 0 where
-  pub rule : ℕ
-  pub matched : ℕ
-  pub taken : ℕ
-
--- How a run ends: at the end of the text, at a byte where no rule matches, or at one where a rule matches and its
--- cut leaves no token.
-pub data End : Type 0 where
-  clean : End
-  stuck : ℕ → End
-  bad_cut : ℕ → End
 
 -- the start of a text: a line begins there, in the initial condition
 abbrev pub start_of : List ℕ → Place
@@ -31,14 +21,18 @@ abbrev pub after_line : Bool → List ℕ → Bool
 after_line before [] = before
 after_line before (b ∷ bs) = after_line (eqb b 10) bs
 
--- where the run stands behind a lexeme; next says which condition a rule's action sets
-abbrev pub place_after : (ℕ → Option ℕ) → Place → Lexeme → Place
-place_after next p t = record {
-  line = after_line p.line (take t.taken p.rest);
-  condition = unwrap_or (next t.rule) p.condition;
-  at = p.at + t.taken;
-  rest = drop t.taken p.rest;
+-- where the run stands n bytes on, in the condition that was set last
+abbrev pub moved : Place → ℕ → Option ℕ → Place
+moved p n begin = record {
+  line = after_line p.line (take n p.rest);
+  condition = unwrap_or begin p.condition;
+  at = p.at + n;
+  rest = drop n p.rest;
 }
+
+-- where it stands behind a lexeme; next says which condition a rule's action sets
+abbrev pub place_after : (ℕ → Option ℕ) → Place → Lexeme → Place
+place_after next p t = moved p t.taken (next t.rule.0)
 
 -- From p the text is these lexemes, and then this end, where Is says what is taken at a place, and Ends where a run
 -- ends and how.
@@ -51,3 +45,22 @@ Lexed Is Ends next p (t ∷ ts) e = Is p t × Lexed Is Ends next (place_after ne
 abbrev pub Leads : (Place → Lexeme → Type 0) → (ℕ → Option ℕ) → Place → List Lexeme → Place → Type 0
 Leads Is next p [] q = q ≡ p
 Leads Is next p (t ∷ ts) q = Is p t × Leads Is next (place_after next p t) ts q
+
+-- A token: its terminal, where it stands in the text, and its bytes.
+pub record Token (T : Type 0) : Type 0 where
+  pub terminal : T
+  pub at : ℕ
+  pub bytes : List ℕ
+
+-- the token of these bytes, if they have a terminal
+abbrev pub token_if : {T : Type 0} → Option T → ℕ → List ℕ → List (Token T)
+token_if None at bytes = []
+token_if (Some terminal) at bytes = record { terminal = terminal; at = at; bytes = bytes } ∷ []
+
+-- The tokens of lexemes that begin at a byte of a text, where naming says which terminal a rule's action returns
+-- for some bytes, if it returns one.
+abbrev pub tokens_from : {T : Type 0} → (ℕ → List ℕ → Option T) → ℕ → List ℕ → List Lexeme → List (Token T)
+tokens_from naming at rest [] = []
+tokens_from naming at rest (t ∷ ts) =
+    token_if (naming t.rule.0 (take t.taken rest)) at (take t.taken rest)
+    ++ tokens_from naming (at + t.taken) (drop t.taken rest) ts

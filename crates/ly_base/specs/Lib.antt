@@ -1,3 +1,4 @@
+pub mod Blank
 pub mod ByteSet
 pub mod Counted
 pub mod Device
@@ -7,5 +8,7 @@ pub mod Limits
 pub mod Literals
 pub mod MemSink
 pub mod MemSource
+pub mod Place
+pub mod Private
 pub mod SparseSet
 pub mod Text

@@ -1,5 +1,5 @@
 -- What a MemSink holds.
-use Rattle.std.specs.Prelude.{ℕ, List, Option}
+use Rattle.std.specs.Prelude.{ℕ, List, Option, vec_capacity}
 use Rattle.ly_base.specs.declared.memory.MemSink.{MemSink}
 
 -- the bytes that were written
@@ -13,3 +13,7 @@ takes_at_most s = s.left
 -- how many calls failed
 abbrev pub write_failures : MemSink → ℕ
 write_failures s = s.failures
+
+-- how many bytes it can hold without more memory
+abbrev pub room : MemSink → ℕ
+room s = vec_capacity s.bytes

@@ -11,28 +11,41 @@ abbrev pub is_plain : ℕ → ℕ → Bool
 is_plain quote b = nat_le 32 b && nat_le b 126 && not (nat_eq b 92) && not (nat_eq b quote)
 
 -- a byte that doesn't stand for itself: `\n`, `\t`, a backslash before it, or `\x` and two hexadecimal digits
-abbrev pub escape_of : ℕ → List ℕ
-escape_of b = if nat_eq b 10 then codes "\\n" else
+abbrev pub escape_for : ℕ → List ℕ
+escape_for b = if nat_eq b 10 then codes "\\n" else
     (if nat_eq b 9 then codes "\\t" else
     (if nat_le 32 b && nat_le b 126 then 92 ∷ b ∷ [] else codes "\\x" ++ digit_glyph false (b / 16) ∷ digit_glyph false
     (b % 16) ∷ []))
 
 -- a byte between quotes
 abbrev pub escaped_byte : ℕ → ℕ → List ℕ
-escaped_byte quote b = if is_plain quote b then b ∷ [] else escape_of b
+escaped_byte quote b = if is_plain quote b then b ∷ [] else escape_for b
 
 -- bytes between quotes
 abbrev pub escaped : ℕ → List ℕ → List ℕ
 escaped quote bytes = flat_map (escaped_byte quote) bytes
 
+-- a terminal as it is printed: a token by its name, or a literal by its byte
+pub data Named : Type 0 where
+  token : List ℕ → Named
+  literal : ℕ → Named
+
+abbrev pub named : Terminal → Named
+named (Token name) = token name.now
+named (Literal b) = literal b
+
 -- a terminal's printed name: a token's as it is, a literal's byte in single quotes
-abbrev pub name_of : Terminal → List ℕ
-name_of (Token name) = name.now
-name_of (Literal b) = 39 ∷ (escaped_byte 39 b ++ 39 ∷ [])
+abbrev pub name_of : Named → List ℕ
+name_of (token name) = name
+name_of (literal b) = 39 ∷ (escaped_byte 39 b ++ 39 ∷ [])
 
 -- a leaf: the terminal's name, then the text in double quotes
-abbrev pub leaf_of : Terminal → List ℕ → List ℕ
+abbrev pub leaf_of : Named → List ℕ → List ℕ
 leaf_of terminal text = name_of terminal ++ 34 ∷ (escaped 34 text ++ 34 ∷ [])
+
+-- a line of a leaf alone
+abbrev pub leaf_line : Named → List ℕ → List ℕ
+leaf_line terminal text = leaf_of terminal text ++ 10 ∷ []
 
 -- the line that says where no rule matches
 abbrev pub no_rule_line : ℕ → List ℕ

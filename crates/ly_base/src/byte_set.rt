@@ -3,6 +3,7 @@ ghost use Rattle.std.specs.Prelude.{◌≡◌, ℕ, ◌<◌, ◌≤◌, ◌↔�
 /// A set of byte values, a bit for each.
 #[derive(Clone, Copy, Debug, PartialEq, Eq)]
 pub struct ByteSet {
+    /// Byte b is bit b mod 64 of word b / 64.
     words: [u64; 4],
 }
 

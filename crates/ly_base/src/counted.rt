@@ -7,7 +7,9 @@ use std::io::{Read, Write};
 /// A reader or a writer with a count of its failures.
 #[derive(Drop)]
 pub struct Counted<T> {
+    /// The reader or the writer.
     inner: T,
+    /// How many calls failed.
     failures: u64,
 }
 

@@ -1,6 +1,7 @@
 ghost use Rattle.std.specs.Prelude.{◌≡◌, ◌≢◌, ◌⊎◌, ℕ, ◌<◌, ◌≤◌, ◌+◌, List, drop, length, min, slice_index, IfOk, IfErr};
 ghost use Rattle.std.specs.Prelude.{IfSome, IsErrOf};
-ghost use Rattle.ly_base.specs.Escapes.{Escape, base_of, counts, digits, meaning, number, test_of};
+ghost use Rattle.ly_base.specs.Private.Escapes.{base_of, counts, digits, test_of};
+ghost use Rattle.ly_base.specs.Escapes.{Escape, meaning, number};
 
 use thiserror::Error;
 
@@ -101,7 +102,9 @@ const TOO_LARGE: u16 = 256;
 /// A run of digits: how many there are, and their value, or `TOO_LARGE`.
 #[derive(Clone, Copy)]
 struct Digits {
+    /// Their value, or `TOO_LARGE` if that is less.
     value: u16,
+    /// How many there are.
     count: usize,
 }
 

@@ -1,31 +1,42 @@
-//! What all of lytab shares: sets of bytes and of numbers, cuts, the numbers of rules and symbols,
-//! limits, readers and writers that count their failures, and bytes as text.
+//! What all of lytab shares: from bytes to sets, escapes and literals, and from a text to its places.
+//!
+//! `write_whole` and `read_whole` carry bytes to and from devices that count their failures: at Ok all of them, at a
+//! fault a stated beginning, and a device is named only where it failed. `Place` says where a run over a text stands,
+//! `push_leaf` and its like print what stands there, `Limits` holds the sizes that are accepted.
+//!
+//! Left out: what a real file or terminal does. That is the word of its reads and writes.
 #![tactic(auto)]
 
+mod blank;
 mod byte_set;
 mod counted;
 mod cut;
 mod device;
 mod escapes;
+mod lexeme;
 mod limits;
 mod literals;
 mod memory;
 mod memory_fault;
 mod numbers;
+mod place;
 mod sparse_set;
 mod text;
 mod whole;
 
+pub use blank::is_blank;
 pub use byte_set::ByteSet;
 pub use counted::Counted;
 pub use cut::Cut;
 pub use device::{DeviceFailed, Sink, Source};
 pub use escapes::{EscapeFault, escape};
+pub use lexeme::{End, Lexeme};
 pub use limits::Limits;
 pub use literals::literal;
 pub use memory::{MemSink, MemSource};
 pub use memory_fault::OutOfMemory;
 pub use numbers::{RuleNo, Sym};
+pub use place::Place;
 pub use sparse_set::SparseSet;
-pub use text::{Terminal, push_escaped, push_leaf, push_no_rule_line};
+pub use text::{Terminal, push_escaped, push_leaf, push_leaf_line, push_no_rule_line};
 pub use whole::{ReadFault, WriteFault, read_whole, write_whole};

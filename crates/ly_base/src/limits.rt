@@ -1,57 +1,228 @@
-ghost use Rattle.std.specs.Prelude.{◌≡◌, ◌≤◌, min};
+ghost use Rattle.std.specs.Prelude.{◌≡◌, min};
 
-/// The sizes that lytab refuses to pass. A greater limit than this version's counts as this
-/// version's, so a `Limits` never holds one.
+use std::marker::Model;
+
+/// The sizes that lytab refuses to pass. A greater limit than this version's counts as this version's, so a `Limits`
+/// never holds one.
 #[derive(Clone, Copy, Debug, PartialEq, Eq)]
 pub struct Limits {
+    /// How many symbols a grammar may have, `$end`, `$undef` and `$accept` among them.
+    symbols: u32,
+    /// How many rules a yacc file may have, the one that lytab adds not counted.
+    yacc_rules: u32,
+    /// How many rules a lex file may have.
+    lex_rules: u32,
+    /// How many symbols the body of a rule may have.
+    body_length: u32,
+    /// How many start conditions there may be, the initial one among them.
+    conditions: u32,
+    /// How many bytes the name of a symbol or a constructor may have.
+    name_length: u32,
+    /// How many states the parser may have.
+    parser_states: u32,
+    /// How many states the scanner may have before it is made smallest.
+    scanner_states: u32,
+    /// The greatest weight of one pattern or definition.
     pattern_weight: u32,
+    /// The greatest weight of all patterns together.
     total_weight: u32,
-    ghost pattern_in_range: { pattern_weight ≤ 65535 },
-    ghost total_in_range: { total_weight ≤ 65535 },
+}
+
+impl Model for Limits {
+    ghost use Rattle.ly_base.specs.Limits.{Sizes};
+
+    ghost Value = { Sizes };
+
+    ghost use Rattle.ly_base.specs.Limits.{inside_of, sizes_of, AreBounded};
+
+    ghost view = { sizes_of };
+
+    ghost inverse = { inside_of };
+
+    ghost invariant = { λ l. AreBounded (sizes_of l) };
 }
 
 impl Limits {
-    ghost use Rattle.ly_base.specs.Limits.{pattern_weight_of, total_weight_of};
+    ghost use Rattle.ly_base.specs.Limits.{version_1};
 
     /// The limits of version 1.
     pub const V1: Limits = Limits {
+        symbols: 4095,
+        yacc_rules: 8191,
+        lex_rules: 8191,
+        body_length: 255,
+        conditions: 255,
+        name_length: 255,
+        parser_states: 16_383,
+        scanner_states: 16_383,
         pattern_weight: 65_535,
         total_weight: 65_535,
     };
 
+    /// The limits of version 1, as a value that contracts see.
+    pub fn version_1() -> Self
+        ensures { result ≡ version_1 }
+    {
+        Limits::V1
+    }
+
+    /// How many symbols a grammar may have, `$end`, `$undef` and `$accept` among them.
+    pub fn symbols(&self) -> u32
+        ensures { result ≡ self.now.symbols }
+    {
+        self.symbols
+    }
+
+    /// The same limits with another one for the symbols of a grammar, or version 1's if that is less.
+    pub fn with_symbols(self, most: u32) -> Self
+        ensures { result ≡ record self { symbols = min most version_1.symbols } }
+    {
+        let mut limits = self;
+        limits.symbols = most.min(Limits::V1.symbols);
+        limits
+    }
+
+    /// How many rules a yacc file may have, the one that lytab adds not counted.
+    pub fn yacc_rules(&self) -> u32
+        ensures { result ≡ self.now.yacc_rules }
+    {
+        self.yacc_rules
+    }
+
+    /// The same limits with another one for the rules of a yacc file, or version 1's if that is less.
+    pub fn with_yacc_rules(self, most: u32) -> Self
+        ensures { result ≡ record self { yacc_rules = min most version_1.yacc_rules } }
+    {
+        let mut limits = self;
+        limits.yacc_rules = most.min(Limits::V1.yacc_rules);
+        limits
+    }
+
+    /// How many rules a lex file may have.
+    pub fn lex_rules(&self) -> u32
+        ensures { result ≡ self.now.lex_rules }
+    {
+        self.lex_rules
+    }
+
+    /// The same limits with another one for the rules of a lex file, or version 1's if that is less.
+    pub fn with_lex_rules(self, most: u32) -> Self
+        ensures { result ≡ record self { lex_rules = min most version_1.lex_rules } }
+    {
+        let mut limits = self;
+        limits.lex_rules = most.min(Limits::V1.lex_rules);
+        limits
+    }
+
+    /// How many symbols the body of a rule may have.
+    pub fn body_length(&self) -> u32
+        ensures { result ≡ self.now.body_length }
+    {
+        self.body_length
+    }
+
+    /// The same limits with another one for the symbols in the body of a rule, or version 1's if that is less.
+    pub fn with_body_length(self, most: u32) -> Self
+        ensures { result ≡ record self { body_length = min most version_1.body_length } }
+    {
+        let mut limits = self;
+        limits.body_length = most.min(Limits::V1.body_length);
+        limits
+    }
+
+    /// How many start conditions there may be, the initial one among them.
+    pub fn conditions(&self) -> u32
+        ensures { result ≡ self.now.conditions }
+    {
+        self.conditions
+    }
+
+    /// The same limits with another one for the start conditions, or version 1's if that is less.
+    pub fn with_conditions(self, most: u32) -> Self
+        ensures { result ≡ record self { conditions = min most version_1.conditions } }
+    {
+        let mut limits = self;
+        limits.conditions = most.min(Limits::V1.conditions);
+        limits
+    }
+
+    /// How many bytes the name of a symbol or a constructor may have.
+    pub fn name_length(&self) -> u32
+        ensures { result ≡ self.now.name_length }
+    {
+        self.name_length
+    }
+
+    /// The same limits with another one for the bytes of a name, or version 1's if that is less.
+    pub fn with_name_length(self, most: u32) -> Self
+        ensures { result ≡ record self { name_length = min most version_1.name_length } }
+    {
+        let mut limits = self;
+        limits.name_length = most.min(Limits::V1.name_length);
+        limits
+    }
+
+    /// How many states the parser may have.
+    pub fn parser_states(&self) -> u32
+        ensures { result ≡ self.now.parser_states }
+    {
+        self.parser_states
+    }
+
+    /// The same limits with another one for the states of the parser, or version 1's if that is less.
+    pub fn with_parser_states(self, most: u32) -> Self
+        ensures { result ≡ record self { parser_states = min most version_1.parser_states } }
+    {
+        let mut limits = self;
+        limits.parser_states = most.min(Limits::V1.parser_states);
+        limits
+    }
+
+    /// How many states the scanner may have before it is made smallest.
+    pub fn scanner_states(&self) -> u32
+        ensures { result ≡ self.now.scanner_states }
+    {
+        self.scanner_states
+    }
+
+    /// The same limits with another one for the states of the scanner, or version 1's if that is less.
+    pub fn with_scanner_states(self, most: u32) -> Self
+        ensures { result ≡ record self { scanner_states = min most version_1.scanner_states } }
+    {
+        let mut limits = self;
+        limits.scanner_states = most.min(Limits::V1.scanner_states);
+        limits
+    }
+
     /// The greatest weight of one pattern or definition.
     pub fn pattern_weight(&self) -> u32
-        ensures { result ≡ pattern_weight_of self.now }
+        ensures { result ≡ self.now.pattern_weight }
     {
         self.pattern_weight
     }
 
+    /// The same limits with another one for the weight of one pattern or definition, or version 1's if that is less.
+    pub fn with_pattern_weight(self, most: u32) -> Self
+        ensures { result ≡ record self { pattern_weight = min most version_1.pattern_weight } }
+    {
+        let mut limits = self;
+        limits.pattern_weight = most.min(Limits::V1.pattern_weight);
+        limits
+    }
+
     /// The greatest weight of all patterns together.
     pub fn total_weight(&self) -> u32
-        ensures { result ≡ total_weight_of self.now }
+        ensures { result ≡ self.now.total_weight }
     {
         self.total_weight
     }
 
-    /// The same limits with another weight of one pattern, or version 1's if that is less.
-    pub fn with_pattern_weight(self, weight: u32) -> Limits
-        ensures this { pattern_weight_of result ≡ min weight 65535 }
-        ensures other { total_weight_of result ≡ total_weight_of self }
+    /// The same limits with another one for the weight of all patterns, or version 1's if that is less.
+    pub fn with_total_weight(self, most: u32) -> Self
+        ensures { result ≡ record self { total_weight = min most version_1.total_weight } }
     {
-        Limits {
-            pattern_weight: weight.min(Limits::V1.pattern_weight),
-            total_weight: self.total_weight,
-        }
-    }
-
-    /// The same limits with another weight of all patterns, or version 1's if that is less.
-    pub fn with_total_weight(self, weight: u32) -> Limits
-        ensures this { total_weight_of result ≡ min weight 65535 }
-        ensures other { pattern_weight_of result ≡ pattern_weight_of self }
-    {
-        Limits {
-            pattern_weight: self.pattern_weight,
-            total_weight: weight.min(Limits::V1.total_weight),
-        }
+        let mut limits = self;
+        limits.total_weight = most.min(Limits::V1.total_weight);
+        limits
     }
 }

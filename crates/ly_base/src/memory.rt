@@ -1,16 +1,19 @@
-ghost use Rattle.std.specs.Prelude.{◌≡◌, ◌<◌, ◌↔◌, [], Some, None, min, length, IsErr, IfOk, OnErr};
+ghost use Rattle.std.specs.Prelude.{◌≡◌, ◌+◌, ◌<◌, ◌≤◌, ◌⊎◌, ◌↔◌, [], Some, None, min, length, IsErr, IfOk, OnErr};
 ghost use Rattle.std.specs.Io.{ReadsAtMost, WritesAtMost};
 ghost use Rattle.std.specs.Io.KnownBytes.{ReadConsumes, WriteAppends};
 ghost use Rattle.ly_base.specs.Device.{CountsFailure, allowed, left_after, read_failed, write_failed};
 
 use crate::device::{DeviceFailed, Sink, Source};
-use std::alloc::Global;
+use std::alloc::{AllocError, Global};
 
 /// A source over bytes in memory, which can fail after a number of them.
 #[derive(Drop)]
 pub struct MemSource<'a> {
+    /// The bytes that are not read yet.
     rest: &'a [u8],
+    /// How many bytes it gives before it fails, if it will.
     left: Option<usize>,
+    /// How many calls failed.
     failures: u64,
 }
 
@@ -79,13 +82,16 @@ impl Source for MemSource<'_> {
 /// A sink into a vector, which can fail after a number of bytes, and fails when memory runs out.
 #[derive(Drop)]
 pub struct MemSink {
+    /// The bytes that were written.
     bytes: Vec<u8>,
+    /// How many bytes it takes before it fails, if it will.
     left: Option<usize>,
+    /// How many calls failed.
     failures: u64,
 }
 
 impl MemSink {
-    ghost use Rattle.ly_base.specs.MemSink.{takes_at_most, write_failures, written};
+    ghost use Rattle.ly_base.specs.MemSink.{room, takes_at_most, write_failures, written};
 
     /// Takes all bytes, while there is memory.
     pub fn new(alloc: Global) -> Self
@@ -113,6 +119,20 @@ impl MemSink {
         }
     }
 
+    /// Takes all bytes, while there is memory; for the first `count` the room is made here, or refused.
+    pub fn with_room(alloc: Global, count: usize) -> Result<Self, AllocError>
+        ensures empty { IfOk result (λ s. written s ≡ []) }
+        ensures never_fails { IfOk result (λ s. takes_at_most s ≡ None) }
+        ensures none_yet { IfOk result (λ s. write_failures s ≡ 0) }
+        ensures room { IfOk result (λ s. count ≤ room s) }
+    {
+        Ok(MemSink {
+            bytes: Vec::with_capacity(alloc, count)?,
+            left: None,
+            failures: 0,
+        })
+    }
+
     /// The bytes that were written.
     pub fn bytes(&self) -> &[u8]
         ensures { result.now ≡ written self.now }
@@ -122,13 +142,14 @@ impl MemSink {
 }
 
 impl Sink for MemSink {
-    ghost use Rattle.ly_base.specs.MemSink.{takes_at_most, write_failures, written};
+    ghost use Rattle.ly_base.specs.MemSink.{room, takes_at_most, write_failures, written};
 
     ghost contents = { λ s. Some (written s) };
 
     ghost failures = { write_failures };
 
-    /// It fails where no byte is left before the failure, and where memory runs out.
+    /// It fails where no byte is left before the failure, and where memory runs out: only where the room that it has
+    /// is too short.
     fn push(&mut self, buf: &[u8]) -> Result<usize, DeviceFailed>
         ensures bound { WritesAtMost result buf.now }
         ensures bytes { WriteAppends (Some (written self.old)) (Some (written self.new)) result buf.now }
@@ -137,6 +158,9 @@ impl Sink for MemSink {
 
         // As many bytes as there are and as are left before the failure.
         ensures fails { takes_at_most self.old ≡ Some 0 → 0 < length buf.now → IsErr result }
+        ensures only { OnErr result (((takes_at_most self.old ≡ Some 0) × (0 < length buf.now))
+            ⊎ (room self.old < length (written self.old) + allowed (takes_at_most self.old) (length buf.now))) }
+        ensures room { room self.old ≤ room self.new }
         ensures count { IfOk result (λ n. n ≡ allowed (takes_at_most self.old) (length buf.now)) }
         ensures left { IfOk result (λ n. takes_at_most self.new ≡ left_after (takes_at_most self.old) n) }
         ensures goes_on_failing { OnErr result (takes_at_most self.new ≡ takes_at_most self.old) }

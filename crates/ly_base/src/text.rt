@@ -1,6 +1,6 @@
 ghost use Rattle.std.specs.Prelude.{◌≡◌, ◌<◌, ◌++◌, false, OnOk};
 ghost use Rattle.std.specs.Fmt.{digit_glyph};
-ghost use Rattle.ly_base.specs.Text.{escape_of, escaped, is_plain, leaf_of, name_of, no_rule_line};
+ghost use Rattle.ly_base.specs.Text.{escape_for, escaped, is_plain, leaf_line, leaf_of, name_of, named, no_rule_line};
 
 use std::alloc::AllocError;
 use std::io::Write;
@@ -19,7 +19,7 @@ pub enum Terminal<'a> {
 ///
 /// It fails where memory runs out. How much was appended by then is left open.
 pub fn push_leaf(out: &mut Vec<u8>, terminal: Terminal<'_>, text: &[u8]) -> Result<(), AllocError>
-    ensures { OnOk result (out.new.items ≡ out.old.items ++ leaf_of terminal.entry text.now) }
+    ensures { OnOk result (out.new.items ≡ out.old.items ++ leaf_of (named terminal.entry) text.now) }
 {
     push_name(out, terminal)?;
     out.push(b'"')?;
@@ -28,9 +28,24 @@ pub fn push_leaf(out: &mut Vec<u8>, terminal: Terminal<'_>, text: &[u8]) -> Resu
     Ok(())
 }
 
+/// Appends a line that is a leaf.
+///
+/// It fails where memory runs out. How much was appended by then is left open.
+pub fn push_leaf_line(
+    out: &mut Vec<u8>,
+    terminal: Terminal<'_>,
+    text: &[u8],
+) -> Result<(), AllocError>
+    ensures { OnOk result (out.new.items ≡ out.old.items ++ leaf_line (named terminal.entry) text.now) }
+{
+    push_leaf(out, terminal, text)?;
+    out.push(b'\n')?;
+    Ok(())
+}
+
 /// Appends a terminal's name.
 fn push_name(out: &mut Vec<u8>, terminal: Terminal<'_>) -> Result<(), AllocError>
-    ensures { OnOk result (out.new.items ≡ out.old.items ++ name_of terminal.entry) }
+    ensures { OnOk result (out.new.items ≡ out.old.items ++ name_of (named terminal.entry)) }
 {
     match terminal {
         Terminal::Token(name) => out.extend_from_slice(name),
@@ -72,7 +87,7 @@ fn is_plain(quote: u8, byte: u8) -> bool
 
 /// Appends a byte that doesn't stand for itself.
 fn push_escape(out: &mut Vec<u8>, byte: u8) -> Result<(), AllocError>
-    ensures { OnOk result (out.new.items ≡ out.old.items ++ escape_of byte) }
+    ensures { OnOk result (out.new.items ≡ out.old.items ++ escape_for byte) }
 {
     match byte {
         b'\n' => out.extend_from_slice(b"\\n"),

@@ -10,7 +10,7 @@ use Rattle.ly_sets.specs.SetMatrix.{Matrix, row}
 use Rattle.ly_digraph.specs.Digraph.{Digraph, Reaches}
 use Rattle.ly_digraph.specs.Digraph.Reaches.{here}
 use Rattle.ly_digraph.specs.Least.{IsBetween}
-use Rattle.ly_digraph.specs.Walk.{place, IsPart, IsWalk}
+use Rattle.ly_digraph.specs.Walk.{place, IsOpenPart, IsWalk}
 use Rattle.ly_digraph.specs.Search.{IsAt, IsAtFrame, IsListed, IsClosed, closed_place, closed_row, Continues}
 use Rattle.ly_digraph.specs.Search.{waiting_from, unseen_one, undone_one}
 use Rattle.ly_digraph.specs.declared.walk.Place.{Place}
@@ -149,7 +149,7 @@ module _ (g : Digraph) (m m' : Matrix) (w w' : Walk) (f : Frame) (at : IsAtFrame
     (c : IsClosed m m' w.places.items w'.places.items f.start (length w.pending.items) f.node)
     (pending : w'.pending.items ≡ take f.start w.pending.items) (cursors : w'.cursors ≡ w.cursors)
     (path : w'.path ≡ w.path) where
-  part : IsPart g m.sets w.cursors.items w.places.items w.pending.items f (length w.pending.items)
+  part : IsOpenPart g m.sets w.cursors.items w.places.items w.pending.items f (length w.pending.items)
   part = path_last w.path.items f at.path
 
   part_start : f.start < length w.pending.items

@@ -10,7 +10,7 @@ use Rattle.std.proofs.lemmas.Simd.{length-replicate, get_or-replicate}
 use Rattle.std.proofs.Math.ListN.{length-set}
 use Rattle.ly_sets.specs.NumberSet.{NumberSet}
 use Rattle.ly_digraph.specs.Digraph.{Digraph, source, IsInside, IsEndBefore}
-use Rattle.ly_digraph.specs.Graph.{ends_of, IsLinked}
+use Rattle.ly_digraph.specs.Graph.{ends_of, IsEdgeList}
 use Rattle.ly_digraph.specs.Walk.{place, IsWalk}
 use Rattle.ly_digraph.specs.Search.{undone_one}
 use Rattle.ly_digraph.specs.declared.graph.Edge.{Edge}
@@ -34,7 +34,7 @@ end_same same h = record {
   none = λ e lo hi is. h.none e lo hi (sym (same e hi) ∙ is);
 }
 
-module _ {ends : List ℕ} {edges : List Edge} (linked : IsLinked ends edges) (from to : ℕ) (from_in : from < length ends)
+module _ {ends : List ℕ} {edges : List Edge} (linked : IsEdgeList ends edges) (from to : ℕ) (from_in : from < length ends)
     (to_in : to < length ends) where
   abbrev new_edge : Edge
   new_edge = record { from = from; to = to; before = get_or ends from 0 }
@@ -67,7 +67,7 @@ module _ {ends : List ℕ} {edges : List Edge} (linked : IsLinked ends edges) (f
   nodes_same : length new_ends ≡ length ends
   nodes_same = length-set ends from (length edges + 1)
 
-  pub linked_push : IsLinked new_ends (edges ++ new_edge ∷ [])
+  pub linked_push : IsEdgeList new_ends (edges ++ new_edge ∷ [])
   linked_push = record {
     lasts = λ x lt. elim (cases_eq x from) [
       | inl same ↦

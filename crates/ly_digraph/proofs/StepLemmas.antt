@@ -7,7 +7,7 @@ use Rattle.ly_sets.specs.NumberSet.{NumberSet}
 use Rattle.ly_sets.specs.SetMatrix.{Matrix}
 use Rattle.ly_digraph.specs.Digraph.{Digraph, Reaches, source, target, IsEndBefore}
 use Rattle.ly_digraph.specs.Least.{IsBetween}
-use Rattle.ly_digraph.specs.Walk.{place, frame, begin, lowered, entered, Within, IsSeen, IsPart, IsNext, IsWalk}
+use Rattle.ly_digraph.specs.Walk.{place, frame, begin, lowered, entered, Within, IsSeen, IsOpenPart, IsNext, IsWalk}
 use Rattle.ly_digraph.specs.Search.{IsAt, IsAtFrame, top, IsWaiting, IsAdvanced, IsTurned, IsLowered, IsEntered}
 use Rattle.ly_digraph.specs.Search.{next_target, Continues, waiting_from, steps_left, unseen_one, undone_one}
 use Rattle.ly_digraph.specs.declared.walk.Place.{Place}
@@ -114,7 +114,7 @@ next_reached g w at waits = next_edge (top w) (next_target g w) at.marked (waits
 
 -- the last frame's part
 pub top_part : {g : Digraph} {sets : List NumberSet} (w : Walk) → IsAt g sets w → 0 < length w.path.items
-    → IsPart g sets w.cursors.items w.places.items w.pending.items (top w) (length w.pending.items)
+    → IsOpenPart g sets w.cursors.items w.places.items w.pending.items (top w) (length w.pending.items)
 top_part w at some = path_last (front w) (top w) (at_front w some at).path
 
 -- the node of the last frame is pending, and its row is there
@@ -254,7 +254,7 @@ module _ (g : Digraph) (m : Matrix) (w : Walk) (p : Frame) (at : IsAtFrame g m.s
   merge_at = subst (λ fs. IsWalk g m.sets w.cursors.items w.places.items w.pending.items (fs ++ p ∷ []))
       (path_split w.path.items merge_some) at
 
-  merge_before : IsPart g m.sets w.cursors.items w.places.items w.pending.items (top w) p.start
+  merge_before : IsOpenPart g m.sets w.cursors.items w.places.items w.pending.items (top w) p.start
   merge_before = path_last (front w) (top w) (path_below (front w ++ top w ∷ []) p merge_at.path)
 
   merge_start : p.start < length w.pending.items

@@ -13,7 +13,7 @@ use Rattle.ly_digraph.specs.Digraph.Reaches.{here, along}
 use Rattle.ly_digraph.specs.declared.walk.Place.{Place}
 use Rattle.ly_digraph.specs.declared.walk.Place.TheVariants.{New, Open, Done}
 use Rattle.ly_digraph.specs.declared.walk.Frame.{Frame}
-use Rattle.ly_digraph.specs.Walk.{place, frame, begin, Within, IsSeen, IsPart, IsNext, IsPath, IsMarked, IsWalk}
+use Rattle.ly_digraph.specs.Walk.{place, frame, begin, Within, IsSeen, IsOpenPart, IsNext, IsPath, IsMarked, IsWalk}
 use Rattle.ly_digraph.specs.Walk.{entered, lowered}
 
 -- ---- ways
@@ -90,7 +90,7 @@ within_same ey ex w
 
 keep_part : {g : Digraph} {sets sets' : List NumberSet} {cs cs' : List ℕ} {ps ps' : List Place} {ns ns' : List ℕ}
     {f : Frame} {end : ℕ}
-    → IsAlike sets sets' cs cs' ps ps' ns ns' end → IsPart g sets cs ps ns f end → IsPart g sets' cs' ps' ns' f end
+    → IsAlike sets sets' cs cs' ps ps' ns ns' end → IsOpenPart g sets cs ps ns f end → IsOpenPart g sets' cs' ps' ns' f end
 keep_part {g} {sets} {sets'} {cs} {cs'} {ps} {ps'} {ns} {ns'} {f} {end} a p =
     let lt : f.start < end = p.start_lt in
     let le : f.low ≤ f.start = p.low_le in
@@ -148,19 +148,19 @@ module _ {g : Digraph} {sets : List NumberSet} {cs : List ℕ} {ps : List Place}
   path_below p =
       let long = length_push fs f in record {
         first = sym (begin-push fs f end 0 (omega arith)) ∙ p.first;
-        parts = λ t lt. subst (λ h. IsPart g sets cs ps ns h (begin fs f.start (t + 1))) (frame-push fs f t lt)
-            (subst (λ b. IsPart g sets cs ps ns (frame (fs ++ f ∷ []) t) b) (begin-push fs f end (t + 1) (omega arith))
+        parts = λ t lt. subst (λ h. IsOpenPart g sets cs ps ns h (begin fs f.start (t + 1))) (frame-push fs f t lt)
+            (subst (λ b. IsOpenPart g sets cs ps ns (frame (fs ++ f ∷ []) t) b) (begin-push fs f end (t + 1) (omega arith))
             (p.parts t (omega arith)));
         links = λ t lt. subst (λ h. IsNext g cs (frame fs t) h.node) (frame-push fs f (t + 1) lt)
             (subst (λ h. IsNext g cs h (frame (fs ++ f ∷ []) (t + 1)).node) (frame-push fs f t (omega arith))
             (p.links t (omega arith)));
       }
 
-  pub path_last : IsPath g sets cs ps ns (fs ++ f ∷ []) end → IsPart g sets cs ps ns f end
+  pub path_last : IsPath g sets cs ps ns (fs ++ f ∷ []) end → IsOpenPart g sets cs ps ns f end
   path_last p =
       let long = length_push fs f in
-      subst (λ h. IsPart g sets cs ps ns h end) (frame-push_last fs f (length fs) refl)
-      (subst (λ b. IsPart g sets cs ps ns (frame (fs ++ f ∷ []) (length fs)) b)
+      subst (λ h. IsOpenPart g sets cs ps ns h end) (frame-push_last fs f (length fs) refl)
+      (subst (λ b. IsOpenPart g sets cs ps ns (frame (fs ++ f ∷ []) (length fs)) b)
       (begin-push_last fs f end (length fs + 1) (omega arith)) (p.parts (length fs) (omega arith)))
 
   pub path_link : IsPath g sets cs ps ns (fs ++ f ∷ []) end → LinksTo g cs fs f.node
@@ -170,18 +170,18 @@ module _ {g : Digraph} {sets : List NumberSet} {cs : List ℕ} {ps : List Place}
       (subst (λ h. IsNext g cs h (frame (fs ++ f ∷ []) (t + 1)).node) (frame-push fs f t (omega arith))
       (p.links t (omega arith)))
 
-  path_push : IsPath g sets cs ps ns fs f.start → IsPart g sets cs ps ns f end → LinksTo g cs fs f.node
+  path_push : IsPath g sets cs ps ns fs f.start → IsOpenPart g sets cs ps ns f end → LinksTo g cs fs f.node
       → IsPath g sets cs ps ns (fs ++ f ∷ []) end
   path_push p part link =
       let long = length_push fs f in record {
         first = begin-push fs f end 0 (omega arith) ∙ p.first;
         parts = λ t lt. elim (cases_lt t (length fs)) [
-          | inl h ↦ subst (λ h. IsPart g sets cs ps ns h (begin (fs ++ f ∷ []) end (t + 1))) (sym (frame-push fs f t h))
-              (subst (λ b. IsPart g sets cs ps ns (frame fs t) b) (sym (begin-push fs f end (t + 1) (omega arith)))
+          | inl h ↦ subst (λ h. IsOpenPart g sets cs ps ns h (begin (fs ++ f ∷ []) end (t + 1))) (sym (frame-push fs f t h))
+              (subst (λ b. IsOpenPart g sets cs ps ns (frame fs t) b) (sym (begin-push fs f end (t + 1) (omega arith)))
               (p.parts t h))
-          | inr h ↦ subst (λ h. IsPart g sets cs ps ns h (begin (fs ++ f ∷ []) end (t + 1)))
+          | inr h ↦ subst (λ h. IsOpenPart g sets cs ps ns h (begin (fs ++ f ∷ []) end (t + 1)))
               (sym (frame-push_last fs f t (omega arith)))
-              (subst (λ b. IsPart g sets cs ps ns f b) (sym (begin-push_last fs f end (t + 1) (omega arith))) part)
+              (subst (λ b. IsOpenPart g sets cs ps ns f b) (sym (begin-push_last fs f end (t + 1) (omega arith))) part)
         ];
         links = λ t lt. subst (λ h. IsNext g cs h (frame (fs ++ f ∷ []) (t + 1)).node)
             (sym (frame-push fs f t (omega arith)))
@@ -247,7 +247,7 @@ module _ {g : Digraph} {sets : List NumberSet} {cs : List ℕ} {ps : List Place}
           let at : k < begin fs (length ns) (m + 1) = omega (arith, begin-past fs (length ns) (m + 1) (omega arith)) in
           reaches_on (part.reach k at) (next_edge (frame fs m) x w.marked (linked m (omega arith)))
 
-  enter_part : IsPart g sets cs (set ps x (Open (length ns))) (ns ++ x ∷ []) (entered x (length ns))
+  enter_part : IsOpenPart g sets cs (set ps x (Open (length ns))) (ns ++ x ∷ []) (entered x (length ns))
       (length (ns ++ x ∷ []))
   enter_part =
       let long : length (ns ++ x ∷ []) ≡ length ns + 1 = length_push ns x in
@@ -368,7 +368,7 @@ module _ {g : Digraph} {sets sets' : List NumberSet} {cs : List ℕ} {ps : List 
     (next : IsEndBefore g f.node (get_or cs f.node 0 - 1) to)
     (low : ℕ) (low_le : low ≤ f.low) (low_reach : Reaches g f.node (get_or ns low 0))
     (now : IsSeen g sets' ps (lowered f low) (length ns) (get_or cs f.node 0 - 1)) where
-  advance_part : IsPart g sets cs ps ns f (length ns)
+  advance_part : IsOpenPart g sets cs ps ns f (length ns)
   advance_part = path_last fs f w.path
 
   advance_start : f.start < length ns
@@ -407,7 +407,7 @@ module _ {g : Digraph} {sets sets' : List NumberSet} {cs : List ℕ} {ps : List 
     rows_done = λ x d. c.rest x (λ same. advance_not_done (sym (ap (place ps) same) ∙ d));
   }
 
-  advance_new_part : IsPart g sets' (set cs f.node to) ps ns (lowered f low) (length ns)
+  advance_new_part : IsOpenPart g sets' (set cs f.node to) ps ns (lowered f low) (length ns)
   advance_new_part =
       let p = advance_part in
       let start : f.start < length ns = advance_start in
@@ -502,10 +502,10 @@ module _ {g : Digraph} {sets sets' : List NumberSet} {cs : List ℕ} {ps : List 
     (c : GrowsAt sets sets' q.node) (joined : (n : ℕ) → Member (row sets p.node) n → Member (row sets' q.node) n)
     (spent : get_or cs p.node 0 ≡ 0) (turns : p.low < p.start)
     (low : ℕ) (low_is : (low ≤ q.low) × (low ≤ p.low) × ((low ≡ q.low) ⊎ (low ≡ p.low))) where
-  merge_last : IsPart g sets cs ps ns p (length ns)
+  merge_last : IsOpenPart g sets cs ps ns p (length ns)
   merge_last = path_last (fs ++ q ∷ []) p w.path
 
-  merge_before : IsPart g sets cs ps ns q p.start
+  merge_before : IsOpenPart g sets cs ps ns q p.start
   merge_before = path_last fs q (path_below (fs ++ q ∷ []) p w.path)
 
   merge_p : p.start < length ns
@@ -546,7 +546,7 @@ module _ {g : Digraph} {sets sets' : List NumberSet} {cs : List ℕ} {ps : List 
       let link = path_link (fs ++ q ∷ []) p w.path (length fs) (sym long) in
       next_edge q p.node w.marked (subst (λ h. IsNext g cs h p.node) (frame-push_last fs q (length fs) refl) link)
 
-  merge_part : IsPart g sets' cs ps ns (lowered q low) (length ns)
+  merge_part : IsOpenPart g sets' cs ps ns (lowered q low) (length ns)
   merge_part =
       let before = merge_before in
       let last = merge_last in
@@ -653,7 +653,7 @@ pub record IsCompleted (sets sets' : List NumberSet) (ps ps' : List Place) (star
 module _ {g : Digraph} {sets sets' : List NumberSet} {cs : List ℕ} {ps ps' : List Place} {ns : List ℕ} (fs : List Frame)
     (f : Frame) (w : IsWalk g sets cs ps ns (fs ++ f ∷ []))
     (spent : get_or cs f.node 0 ≡ 0) (alone : f.low ≡ f.start) (c : IsCompleted sets sets' ps ps' f.start f.node) where
-  close_part : IsPart g sets cs ps ns f (length ns)
+  close_part : IsOpenPart g sets cs ps ns f (length ns)
   close_part = path_last fs f w.path
 
   close_start : f.start < length ns

@@ -7,7 +7,7 @@ abbrev pub ends_of : List Edge → List (ℕ × ℕ)
 ends_of edges = map (λ e. (e.from, e.to)) edges
 
 -- each node knows the end of its edges, and each edge that of the node's edges before it
-pub record IsLinked (ends : List ℕ) (edges : List Edge) : Type 0 where
+pub record IsEdgeList (ends : List ℕ) (edges : List Edge) : Type 0 where
   pub lasts : (x : ℕ) → x < length ends → IsEndBefore (record { nodes = length ends; edges = ends_of edges }) x
       (length edges) (slice_index ends x)
   pub before : (e : ℕ) → e < length edges → IsEndBefore (record { nodes = length ends; edges = ends_of edges })

@@ -28,7 +28,7 @@ IsSeen g sets ps f end e =
     ⊎ ((j : ℕ) × (place ps (target g e) ≡ Open j) × (f.low ≤ j) × (j < end))
 
 -- the pending nodes from a frame's start to its part's end
-pub record IsPart (g : Digraph) (sets : List NumberSet) (cs : List ℕ) (ps : List Place) (ns : List ℕ) (f : Frame)
+pub record IsOpenPart (g : Digraph) (sets : List NumberSet) (cs : List ℕ) (ps : List Place) (ns : List ℕ) (f : Frame)
     (end : ℕ) : Type 0 where
   pub start_lt : f.start < end
   pub end_le : end ≤ length ns
@@ -50,7 +50,7 @@ IsNext g cs f x = (0 < slice_index cs f.node) × (target g (slice_index cs f.nod
 pub record IsPath (g : Digraph) (sets : List NumberSet) (cs : List ℕ) (ps : List Place) (ns : List ℕ) (fs : List Frame)
     (end : ℕ) : Type 0 where
   pub first : begin fs end 0 ≡ 0
-  pub parts : (t : ℕ) → t < length fs → IsPart g sets cs ps ns (frame fs t) (begin fs end (t + 1))
+  pub parts : (t : ℕ) → t < length fs → IsOpenPart g sets cs ps ns (frame fs t) (begin fs end (t + 1))
   pub links : (t : ℕ) → t + 1 < length fs → IsNext g cs (frame fs t) (frame fs (t + 1)).node
 
 -- what the cursors and places say of the nodes

@@ -32,11 +32,11 @@ impl Model for Graph {
 
     ghost coded = { digraph_code };
 
-    ghost use Rattle.ly_digraph.specs.Graph.{ends_of, IsLinked};
+    ghost use Rattle.ly_digraph.specs.Graph.{ends_of, IsEdgeList};
 
     ghost view = { λ g. record { nodes = vec_len g.ends; edges = ends_of g.edges.items } };
 
-    ghost invariant = { λ g. IsLinked g.ends.items g.edges.items };
+    ghost invariant = { λ g. IsEdgeList g.ends.items g.edges.items };
 }
 
 impl Graph {

@@ -1,40 +1,41 @@
--- The lines of a text, match by match.
-use Rattle.std.proofs.Common.{◌≡◌, ◌∙◌, ℕ, ◌+◌, ◌-◌, List, [], ◌∷◌, ◌++◌, length, take, drop, Bool, Option, Some, sym}
-use Rattle.std.proofs.Common.{ap, subst, arith, rules, append_assoc, append-nil, slice_get, eqb}
+-- The answer by a scanner that agrees with the rules.
+use Rattle.std.proofs.Common.{◌≡◌, ℕ, List, [], ◌∷◌, ◌++◌, Option, subst, sym}
+use Rattle.ly_base.specs.Lexed.{Place, Lexed, start_of, place_after, tokens_from}
+use Rattle.ly_base.specs.declared.lexeme.End.{End}
+use Rattle.ly_base.specs.declared.lexeme.End.TheVariants.{Clean, Stuck, BadCut}
+use Rattle.ly_base.specs.declared.lexeme.Lexeme.{Lexeme}
 use Rattle.ly_ere.specs.Expression.{Expression}
 use Rattle.ly_ere.specs.declared.pattern.Rule.{Rule}
 use Rattle.ly_lexread.specs.declared.action.Action.{Action}
-use Rattle.ly_lexread.specs.Lexing.{Place, Match, Leads, IsWinnerAt, after_line, place_after}
-use Rattle.ly_engine.specs.Printed.{printed, token_line}
+use Rattle.ly_lexread.specs.Lexing.{Lexing}
+use Rattle.ly_scan.specs.Lexer.{Scanner, IsLexemeAt, ScanEndsAt}
+use Rattle.ly_engine.specs.Agreement.{Agrees}
+use Rattle.ly_engine.specs.Answering.{IsAnswer}
+use Rattle.ly_engine.specs.Printing.{condition_set, end_line, naming, printed, LeavesTokens}
+use Rattle.ly_engine.proofs.AgreementLemmas.{lexing_of}
 
--- the last byte decides whether a line begins
-pub after_last : (before : Bool) (token : List ℕ) (b : ℕ) → Some b ≡ slice_get token (length token - 1)
-    → eqb b 10 ≡ after_line before token
-after_last before [] b e = absurd (search rules)
-after_last before (x ∷ []) b e = let same : b ≡ x = search rules in ap (λ y. eqb y 10) same
-after_last before (x ∷ y ∷ ys) b e =
-    let n : length (x ∷ y ∷ ys) - 1 ≡ length (y ∷ ys) - 1 + 1 = omega arith in
-    let deeper : Some b ≡ slice_get (y ∷ ys) (length (y ∷ ys) - 1) = search rules in
-    after_last (eqb x 10) (y ∷ ys) b deeper
+-- the lines that a scanner's run gives are the answer
+pub answer_of : (names : List Expression) (rules : List Rule) (actions given : List Action) (s here : Scanner)
+    (p : Place) (text : List ℕ) (e : End) (lines : List ℕ) → Agrees names rules s → here ≡ s → p ≡ start_of text
+    → given ≡ actions → ((ts : List Lexeme) × Lexed (IsLexemeAt here) (ScanEndsAt here) (condition_set given) p ts e
+    × (lines ≡ printed (tokens_from (naming given) p.at p.rest ts) ++ end_line e))
+    → IsAnswer names rules actions text e lines
+answer_of names rules actions given s here p text e lines agrees same at by h =
+    let run : Lexed (IsLexemeAt s) (ScanEndsAt s) (condition_set actions) (start_of text) h.0 e =
+    subst (λ (xs : List Action). Lexed (IsLexemeAt s) (ScanEndsAt s) (condition_set xs) (start_of text) h.0 e) by
+    (subst (λ (x : Place). Lexed (IsLexemeAt s) (ScanEndsAt s) (condition_set given) x h.0 e) at
+    (subst (λ (x : Scanner). Lexed (IsLexemeAt x) (ScanEndsAt x) (condition_set given) p h.0 e) same h.1)) in (
+      h.0,
+      lexing_of names rules s agrees (condition_set actions) (start_of text) h.0 e run,
+      subst (λ (xs : List Action). lines ≡ printed (tokens_from (naming xs) 0 text h.0) ++ end_line e) by
+          (subst (λ (x : Place). lines ≡ printed (tokens_from (naming given) x.at x.rest h.0) ++ end_line e) at h.2),
+    )
 
--- one more match
-pub leads_more : (names : List Expression) (rules : List Rule) (next : ℕ → Option ℕ) (p q : Place) (ms : List Match)
-    (t : Match)
-    → Leads names rules next p ms q → IsWinnerAt names rules q t
-    → Leads names rules next p (ms ++ t ∷ []) (place_after next q t)
-leads_more names rules next p q [] t h w
-    = (subst (λ x. IsWinnerAt names rules x t) h w, ap (λ x. place_after next x t) h)
-leads_more names rules next p q (m ∷ ms) t h w = (h.0, leads_more names rules next (place_after next p m) q ms t h.1 w)
-
--- and its line
-pub printed_more : (names : List Expression) (rules : List Rule) (next : ℕ → Option ℕ) (actions : List Action)
-    (p q : Place) (ms : List Match) (t : Match)
-    → Leads names rules next p ms q → printed actions p.rest (ms ++ t ∷ []) ≡ printed actions p.rest ms
-    ++ token_line actions t.rule (take t.taken q.rest)
-printed_more names rules next actions p q [] t h = append-nil (token_line actions t.rule (take t.taken p.rest))
-    ∙ ap (λ (x : Place). token_line actions t.rule (take t.taken x.rest)) (sym h)
-printed_more names rules next actions p q (m ∷ ms) t h =
-    ap (λ z. token_line actions m.rule (take m.taken p.rest) ++ z)
-    (printed_more names rules next actions (place_after next p m) q ms t h.1)
-    ∙ sym (append_assoc (token_line actions m.rule (take m.taken p.rest)) (printed actions (drop m.taken p.rest) ms)
-    (token_line actions t.rule (take t.taken q.rest)))
+-- each cut of a lexing leaves a token
+pub leaves_tokens : (names : List Expression) (rules : List Rule) (next : ℕ → Option ℕ) (p : Place) (ts : List Lexeme)
+    (e : End) → Lexing names rules next p ts e → LeavesTokens e
+leaves_tokens names rules next p ts Clean h = tt
+leaves_tokens names rules next p ts (Stuck b) h = tt
+leaves_tokens names rules next p [] (BadCut b) h = h
+leaves_tokens names rules next p (t ∷ ts) (BadCut b) h
+    = leaves_tokens names rules next (place_after next p t) ts (BadCut b) h.1

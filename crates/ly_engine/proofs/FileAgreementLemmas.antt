@@ -10,7 +10,8 @@ use Rattle.ly_lexread.specs.declared.file.LexFile.{LexFile}
 use Rattle.ly_lexread.proofs.FileLemmas.{IsPlain, rules_plain, rules_cut}
 use Rattle.ly_position.specs.Nfa.{Nfa, RunsTo, starts_of}
 use Rattle.ly_position.specs.Patterns.{ArePositions}
-use Rattle.ly_engine.specs.Agreement.{IsString, HaveBytes, Agrees}
+use Rattle.ly_ere.specs.Winner.{IsString}
+use Rattle.ly_engine.specs.Agreement.{HaveBytes, Agrees}
 use Rattle.ly_engine.specs.PositionWalk.{position_walk, cut_in}
 use Rattle.ly_engine.proofs.PositionAgreementLemmas.{RunsSpell, walk_agrees}
 
@@ -28,14 +29,14 @@ runs_spell bytes file conditions nfa text one are i c line w = (there (cases_lt 
     there : (c < conditions) ⊎ (conditions ≤ c) → (p : ℕ) × Contains (starts_of nfa c line) p × RunsTo nfa i p w
         → IsString file.names file.rules.items c line i w
     there (inl less) h = let s = (are.spells c line i w less).0 h
-        in record { rule = s.0; is_rule = s.1; is_active = s.2; at_line = s.3; spelled = s.4 }
+        in record { rule = s.0; is_active = record { is_rule = s.1; in_condition = s.2; at_line = s.3 }; spelled = s.4 }
     there (inr more) h = let P : List ℕ → Type 0 = λ ps. Contains ps h.0
         in Contains-none h.0 (subst P (are.starts_past c line more) h.1)
 
     back : IsString file.names file.rules.items c line i w → (p : ℕ) × Contains (starts_of nfa c line) p
         × RunsTo nfa i p w
-    back s = let first = only_first s.rule c (rules_plain bytes file text i s.rule s.is_rule) s.is_active in
-        (are.spells c line i w (omega arith)).1 (s.rule, s.is_rule, s.is_active, s.at_line, s.spelled)
+    back s = let first = only_first s.rule c (rules_plain bytes file text i s.rule s.is_active.is_rule) s.is_active.in_condition in
+        (are.spells c line i w (omega arith)).1 (s.rule, s.is_active.is_rule, s.is_active.in_condition, s.is_active.at_line, s.spelled)
 
 -- no rule has a tail
 have_bytes : (bytes : List ℕ) (file : LexFile) → LexText bytes file → HaveBytes file.names file.rules.items
@@ -47,7 +48,7 @@ have_bytes bytes file text i r e some h = let p = rules_plain bytes file text i 
 
 pub file_agrees : (bytes : List ℕ) (file : LexFile) (conditions : ℕ) (given : List Rule) (nfa here : Nfa)
     → LexText bytes file → conditions ≡ 1 → ArePositions file.names file.rules.items conditions nfa
-    → here ≡ nfa → given ≡ file.rules.items → Agrees file.names file.rules.items (position_walk here) (cut_in given)
+    → here ≡ nfa → given ≡ file.rules.items → Agrees file.names file.rules.items (record { walk = position_walk here; cut = cut_in given })
 file_agrees bytes file conditions given nfa here text one are same_nfa same_rules =
     walk_agrees file.names file.rules.items given nfa here same_nfa same_rules
     (runs_spell bytes file conditions nfa text one are) (rules_cut bytes file text) (have_bytes bytes file text)

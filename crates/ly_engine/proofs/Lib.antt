@@ -1,7 +1,7 @@
+pub mod AgreementLemmas
 pub mod AnswerLaws
 pub mod AnswerLemmas
 pub mod FileAgreementLemmas
-pub mod LoopLemmas
-pub mod MatchLemmas
 pub mod PositionAgreementLemmas
 pub mod PositionWalkLemmas
+pub mod PrintingLemmas

@@ -6,7 +6,8 @@ use Rattle.ly_ere.specs.Expression.{Expression}
 use Rattle.ly_ere.specs.declared.pattern.Rule.{Rule}
 use Rattle.ly_ere.specs.Winner.{AreCut}
 use Rattle.ly_position.specs.Nfa.{Nfa, starts_of, IsEnd, RunsTo}
-use Rattle.ly_engine.specs.Agreement.{Agrees, HaveBytes, IsString}
+use Rattle.ly_ere.specs.Winner.{IsString}
+use Rattle.ly_engine.specs.Agreement.{Agrees, HaveBytes}
 use Rattle.ly_engine.specs.PositionWalk.{cut_in, position_walk, set_after}
 use Rattle.ly_engine.proofs.PositionWalkLemmas.{end_from_run, least_end-is_end, least_end-is_least, least_end-said}
 use Rattle.ly_engine.proofs.PositionWalkLemmas.{least_end-some, run_from_end, says-some}
@@ -19,7 +20,7 @@ RunsSpell names rules nfa = (i condition : ℕ) (line : Bool) (w : List ℕ)
 -- positions whose runs spell the rules' strings make a walk that agrees with the rules
 pub positions_agree : (names : List Expression) (rules : List Rule) (nfa : Nfa) → RunsSpell names rules nfa
     → AreCut names rules → HaveBytes names rules
-    → Agrees names rules (position_walk nfa) (cut_in rules)
+    → Agrees names rules (record { walk = position_walk nfa; cut = cut_in rules })
 positions_agree names rules nfa spelled cuts bytes = record {
   belongs = λ condition line w i e.
       let q = least_end-is_end nfa (after condition line w) i (least_end-said nfa (after condition line w) (Some i) e)
@@ -49,6 +50,6 @@ positions_agree names rules nfa spelled cuts bytes = record {
 -- the walk that was made of positions and rules agrees with these rules
 pub walk_agrees : (names : List Expression) (rules given : List Rule) (nfa here : Nfa) → here ≡ nfa → given ≡ rules
     → RunsSpell names rules nfa → AreCut names rules → HaveBytes names rules
-    → Agrees names rules (position_walk here) (cut_in given)
+    → Agrees names rules (record { walk = position_walk here; cut = cut_in given })
 walk_agrees names rules given nfa here same_nfa same_rules spelled cuts bytes
     = rw (same_nfa, same_rules) (positions_agree names rules nfa spelled cuts bytes)

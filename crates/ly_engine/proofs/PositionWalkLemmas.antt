@@ -1,6 +1,7 @@
 -- The walk over sets of positions: what a set's members read and end, and that their order says nothing.
 use Rattle.std.proofs.Common.{◌≡◌, ◌<◌, ◌≤◌, ℕ, List, [], ◌∷◌, ◌++◌, Bool, false, not, Option, Some, None, min, nat_eq}
 use Rattle.std.proofs.Common.{eqb-true, sym, refl, ap, ◌∙◌, arith, inl, inr, ◌⊎◌, Contains, slice_get, slice_index_or}
+use Rattle.std.specs.Prelude.{◌↔◌}
 use Rattle.std.proofs.Common.{is_some, length, le_antisymm, zero, suc, take, get_or, ap₂, ◌+◌}
 use Rattle.std.specs.Bool.{OnTrue}
 use Rattle.std.specs.Cmp.{nat_eq_equiv}
@@ -16,35 +17,36 @@ use Rattle.ly_base.proofs.ByteSetLemmas.{members_contain}
 use Rattle.ly_base.proofs.MemberLemmas.{SameMembers, Contains-cons_cases, Contains-first, Contains-flat_map}
 use Rattle.ly_base.proofs.MemberLemmas.{Contains-later, Contains-none, flat_map-Contains, flat_map-same}
 use Rattle.ly_base.proofs.SparseSetLemmas.{with_members-same}
-use Rattle.ly_position.specs.Nfa.{Nfa, Place, reading, ending, bytes_of, place_of, Reads, Follows, IsEnd, RunsTo}
+use Rattle.ly_position.specs.Nfa.{Nfa, Position, reading, ending, bytes_of, position_of, Reads, Follows, IsEnd, RunsTo}
+use Rattle.ly_position.specs.Nfa.{Stepped}
 use Rattle.ly_engine.specs.PositionWalk.{reads, rule_of, next_of, next_set, set_after, lesser, least_end, says}
 use Rattle.ly_engine.specs.PositionWalk.{positions_ahead}
 
 -- what comes after a position that reads a byte
 pub next_of-Contains : (nfa : Nfa) (byte p q : ℕ) → Contains (next_of nfa byte p) q → Reads nfa p byte × Follows nfa p q
-next_of-Contains nfa byte p q h = elim (cases_Bool (reads (place_of nfa p) byte)) [
-  | inl reads ↦ (Contains-from_any eqb-true byte (bytes_of (place_of nfa p)) reads, rw reads at h)
+next_of-Contains nfa byte p q h = elim (cases_Bool (reads (position_of nfa p) byte)) [
+  | inl reads ↦ (Contains-from_any eqb-true byte (bytes_of (position_of nfa p)) reads, rw reads at h)
   | inr not ↦ Contains-none q (rw not at h)
 ]
 
 pub Contains-next_of : (nfa : Nfa) (byte p q : ℕ) → Reads nfa p byte → Follows nfa p q → Contains (next_of nfa byte p) q
-Contains-next_of nfa byte p q r f = rw (list_any-from_Contains nat_eq_equiv byte (bytes_of (place_of nfa p)) r) f
+Contains-next_of nfa byte p q r f = rw (list_any-from_Contains nat_eq_equiv byte (bytes_of (position_of nfa p)) r) f
 
 -- the end mark of a rule, as it is looked up
-pub IsEnd-from_rule : (nfa : Nfa) (p i : ℕ) → rule_of (place_of nfa p) ≡ Some i → IsEnd nfa p i
+pub IsEnd-from_rule : (nfa : Nfa) (p i : ℕ) → rule_of (position_of nfa p) ≡ Some i → IsEnd nfa p i
 IsEnd-from_rule nfa p i h = at nfa.positions p h
   where
-    rule : (place : Place) → rule_of place ≡ Some i → place ≡ ending i
+    rule : (place : Position) → rule_of place ≡ Some i → place ≡ ending i
     rule (reading bytes follow) e = cc
     rule (ending j) e = cc
 
-    at : (places : List Place) (p : ℕ) → rule_of (slice_index_or places p (reading [] [])) ≡ Some i
+    at : (places : List Position) (p : ℕ) → rule_of (slice_index_or places p (reading [] [])) ≡ Some i
         → slice_get places p ≡ Some (ending i)
     at [] p e = cc
     at (place ∷ places) zero e = ap (λ x. Some x) (rule place e)
     at (place ∷ places) (suc p) e = at places p e
 
-pub rule_of-end : (nfa : Nfa) (p i : ℕ) → IsEnd nfa p i → rule_of (place_of nfa p) ≡ Some i
+pub rule_of-end : (nfa : Nfa) (p i : ℕ) → IsEnd nfa p i → rule_of (position_of nfa p) ≡ Some i
 rule_of-end nfa p i h = ap rule_of (get_or_from_slice_get nfa.positions p (ending i) (reading [] []) h)
 
 -- a string's set has an end mark just where one of the positions runs over the string to it
@@ -99,7 +101,7 @@ lesser-some_right (Some a) (Some b) j e = (min a b, refl)
 pub least_end-is_end : (nfa : Nfa) (ps : List ℕ) (i : ℕ) → least_end nfa ps ≡ Some i → (p : ℕ) × Contains ps p
     × IsEnd nfa p i
 least_end-is_end nfa [] i e = absurd cc
-least_end-is_end nfa (p ∷ ps) i e = elim (lesser-cases (rule_of (place_of nfa p)) (least_end nfa ps) i e) [
+least_end-is_end nfa (p ∷ ps) i e = elim (lesser-cases (rule_of (position_of nfa p)) (least_end nfa ps) i e) [
   | inl here ↦ (p, Contains-first p ps, IsEnd-from_rule nfa p i here)
   | inr later ↦ let q = least_end-is_end nfa ps i later in (q.0, Contains-later p ps q.0 q.1, q.2)
 ]
@@ -108,19 +110,19 @@ pub least_end-some : (nfa : Nfa) (ps : List ℕ) (j q : ℕ) → Contains ps q �
     → (i : ℕ) × (least_end nfa ps ≡ Some i)
 least_end-some nfa [] j q h k = Contains-none q h
 least_end-some nfa (p ∷ ps) j q h k = elim (Contains-cons_cases p ps q h) [
-  | inl same ↦ lesser-some_left (rule_of (place_of nfa p)) (least_end nfa ps) j (rw same (rule_of-end nfa q j k))
+  | inl same ↦ lesser-some_left (rule_of (position_of nfa p)) (least_end nfa ps) j (rw same (rule_of-end nfa q j k))
   | inr later ↦ let some = least_end-some nfa ps j q later k
-      in lesser-some_right (rule_of (place_of nfa p)) (least_end nfa ps) some.0 some.1
+      in lesser-some_right (rule_of (position_of nfa p)) (least_end nfa ps) some.0 some.1
 ]
 
 pub least_end-is_least : (nfa : Nfa) (ps : List ℕ) (i j q : ℕ) → least_end nfa ps ≡ Some i → Contains ps q
     → IsEnd nfa q j → i ≤ j
 least_end-is_least nfa [] i j q e h k = Contains-none q h
 least_end-is_least nfa (p ∷ ps) i j q e h k = elim (Contains-cons_cases p ps q h) [
-  | inl same ↦ lesser-left (rule_of (place_of nfa p)) (least_end nfa ps) i j e (rw same (rule_of-end nfa q j k))
+  | inl same ↦ lesser-left (rule_of (position_of nfa p)) (least_end nfa ps) i j e (rw same (rule_of-end nfa q j k))
   | inr later ↦
       let some = least_end-some nfa ps j q later k in
-      let first = lesser-right (rule_of (place_of nfa p)) (least_end nfa ps) i some.0 e some.1 in
+      let first = lesser-right (rule_of (position_of nfa p)) (least_end nfa ps) i some.0 e some.1 in
       let rest = least_end-is_least nfa ps some.0 j q some.1 later k in
       omega (arith, first, rest)
 ]
@@ -179,25 +181,6 @@ pub least_end-said : (nfa : Nfa) (ps : List ℕ) (o : Option ℕ) → says nfa p
 least_end-said nfa [] o e = cc
 least_end-said nfa (p ∷ ps) o e = cc
 
--- a position that reads a set's bytes, and an end mark, which reads none
-pub reads_set : (nfa : Nfa) (p b : ℕ) (bytes : ByteSet) (follow : List ℕ)
-    → slice_get nfa.positions p ≡ Some (reading (members bytes) follow) → b < 256
-    → has bytes b ≡ reads (place_of nfa p) b
-reads_set nfa p b bytes follow e low
-    = rw (get_or_from_slice_get nfa.positions p (reading (members bytes) follow) (reading [] []) e)
-    (elim (cases_Bool (has bytes b)) [
-      | inl held ↦
-          held ∙ sym (list_any-from_Contains nat_eq_equiv b (members bytes) ((members_contain bytes b).1 (low, held)))
-      | inr none ↦
-          none ∙ sym (false_from_ne_true (list_any (nat_eq b) (members bytes))
-          (λ h. both_ways (has bytes b) none
-          ((members_contain bytes b).0 (Contains-from_any eqb-true b (members bytes) h)).1))
-    ])
-
-pub reads_end : (nfa : Nfa) (p b i : ℕ) → slice_get nfa.positions p ≡ Some (ending i) → false ≡ reads (place_of nfa p) b
-reads_end nfa p b i e
-    = sym (ap (λ place. reads place b) (get_or_from_slice_get nfa.positions p (ending i) (reading [] []) e))
-
 -- the least end of some positions and one more
 lesser-none : (o : Option ℕ) → lesser o None ≡ o
 lesser-none None = refl
@@ -210,32 +193,37 @@ lesser_assoc (Some i) (Some j) None = refl
 lesser_assoc (Some i) (Some j) (Some k) = ap (λ n. Some n) (omega arith)
 
 pub least_end-push : (nfa : Nfa) (ps : List ℕ) (p : ℕ)
-    → least_end nfa (ps ++ p ∷ []) ≡ lesser (least_end nfa ps) (rule_of (place_of nfa p))
-least_end-push nfa [] p = lesser-none (rule_of (place_of nfa p))
-least_end-push nfa (q ∷ ps) p = ap (lesser (rule_of (place_of nfa q))) (least_end-push nfa ps p)
-    ∙ sym (lesser_assoc (rule_of (place_of nfa q)) (least_end nfa ps) (rule_of (place_of nfa p)))
+    → least_end nfa (ps ++ p ∷ []) ≡ lesser (least_end nfa ps) (rule_of (position_of nfa p))
+least_end-push nfa [] p = lesser-none (rule_of (position_of nfa p))
+least_end-push nfa (q ∷ ps) p = ap (lesser (rule_of (position_of nfa q))) (least_end-push nfa ps p)
+    ∙ sym (lesser_assoc (rule_of (position_of nfa q)) (least_end nfa ps) (rule_of (position_of nfa p)))
 
 -- one more of the positions
 pub least_end-more : (nfa : Nfa) (ps : List ℕ) (k : ℕ) (o r t : Option ℕ) → k < length ps
-    → o ≡ least_end nfa (take k ps) → r ≡ rule_of (place_of nfa (get_or ps k 0)) → t ≡ lesser o r
+    → o ≡ least_end nfa (take k ps) → r ≡ rule_of (position_of nfa (get_or ps k 0)) → t ≡ lesser o r
     → t ≡ least_end nfa (take (k + 1) ps)
 least_end-more nfa ps k o r t less before here is = is ∙ ap₂ lesser before here
     ∙ sym (least_end-push nfa (take k ps) (get_or ps k 0)) ∙ ap (least_end nfa) (sym (take_more ps k 0 less))
 
--- a set that some positions were put into says what these do
-pub ahead_of : (nfa : Nfa) (ps qs text : List ℕ) → ps ≡ with_members [] qs
-    → positions_ahead nfa ps text ≡ positions_ahead nfa qs text
-ahead_of nfa ps qs text e = rw e (positions_ahead-same nfa (with_members [] qs) qs text (with_members-same qs))
+-- the positions that a step comes to
+pub stepped-same : (nfa : Nfa) (ps new : List ℕ) (byte : ℕ)
+    → ((q : ℕ) → Contains new q ↔ Stepped nfa ps byte q) → SameMembers new (next_set nfa ps byte)
+stepped-same nfa ps new byte h = record {
+  to = λ q k. let s = (h q).0 k in
+      Contains-flat_map (next_of nfa byte) ps s.0 q s.1 (Contains-next_of nfa byte s.0 q s.2 s.3);
+  back = λ q k. let p = flat_map-Contains (next_of nfa byte) ps q k in
+      let n = next_of-Contains nfa byte p.0 q p.2 in (h q).1 (p.0, p.1, n.0, n.1);
+}
 
--- and it has a member where they go on
-pub alive_of : (nfa : Nfa) (ps qs shown : List ℕ) (ended : Bool) → ps ≡ with_members [] qs → shown ≡ ps
+-- a set with the members of a list says what the list does
+pub alive_of : (nfa : Nfa) (ps qs shown : List ℕ) (ended : Bool) → SameMembers ps qs → shown ≡ ps
     → ended ≡ nat_eq (length shown) 0 → not ended ≡ is_some (says nfa qs)
-alive_of nfa ps qs shown ended e same is =
+alive_of nfa ps qs shown ended members same is =
     ap not (is ∙ ap (λ xs. nat_eq (length xs) 0) same) ∙ sym (is_some-says nfa ps)
-    ∙ ap is_some (ahead_of nfa ps qs [] e)
+    ∙ ap is_some (positions_ahead-same nfa ps qs [] members)
 
-pub there_of : (nfa : Nfa) (ps qs : List ℕ) (alive : Bool) → ps ≡ with_members [] qs
+pub there_of : (nfa : Nfa) (ps qs : List ℕ) (alive : Bool) → SameMembers ps qs
     → OnTrue alive ((text : List ℕ) → positions_ahead nfa ps text ≡ positions_ahead nfa qs text)
-there_of nfa ps qs alive e
+there_of nfa ps qs alive members
     = OnTrue_from alive ((text : List ℕ) → positions_ahead nfa ps text ≡ positions_ahead nfa qs text)
-    (λ _ text. ahead_of nfa ps qs text e)
+    (λ _ text. positions_ahead-same nfa ps qs text members)

@@ -1,32 +1,30 @@
 -- What the bytes of a lex file and of a text are answered with.
-use Rattle.std.specs.Prelude.{◌≡◌, ◌<◌, ◌≤◌, ℕ, List, [], Option, IfSome}
+use Rattle.std.specs.Prelude.{◌≡◌, ◌<◌, ◌≤◌, ℕ, List, Option, IfSome}
+use Rattle.ly_base.specs.Limits.{Sizes}
+use Rattle.ly_base.specs.declared.lexeme.End.{End}
 use Rattle.ly_lexread.specs.LexText.{LexText}
-use Rattle.ly_lexread.specs.Lexing.{End}
 use Rattle.ly_lexread.specs.Rules.{AreLight}
 use Rattle.ly_lexread.specs.declared.file.LexFile.{LexFile}
 use Rattle.ly_position.specs.TotalWeight.{total_weight}
 use Rattle.ly_engine.specs.Answering.{IsAnswer}
 
--- the greatest weight of one pattern, and of all patterns together, in version 1
-abbrev pub most_weight : ℕ
-most_weight = 65535
-
 -- no pattern is too heavy by itself
-abbrev pub IsLight : LexFile → Type 0
-IsLight file = AreLight most_weight [] file.rules.items
+abbrev pub IsLight : Sizes → LexFile → Type 0
+IsLight limits file = AreLight limits.pattern_weight file.names file.rules.items
 
 -- the bytes of a lex file whose patterns are too heavy together
-abbrev pub IsTooHeavy : List ℕ → Type 0
-IsTooHeavy lex = (file : LexFile) × LexText lex file × IsLight file
-    × (most_weight < total_weight file.names file.rules.items)
+abbrev pub IsTooHeavy : Sizes → List ℕ → Type 0
+IsTooHeavy limits lex =
+    (file : LexFile) × LexText lex file × IsLight limits file
+    × (limits.total_weight < total_weight file.names file.rules.items)
 
 -- The lex bytes are those of a lex file within the limits, and the answer is that to a text under it: to the
 -- bytes that the reader had left, where these are known.
-pub record Answers (lex : List ℕ) (left : Option (List ℕ)) (e : End) (answer : List ℕ) : Type 0 where
+pub record Answers (limits : Sizes) (lex : List ℕ) (left : Option (List ℕ)) (e : End) (answer : List ℕ) : Type 0 where
   pub file : LexFile
   pub spelled : LexText lex file
-  pub light : IsLight file
-  pub within : total_weight file.names file.rules.items ≤ most_weight
+  pub light : IsLight limits file
+  pub within : total_weight file.names file.rules.items ≤ limits.total_weight
   pub text : List ℕ
   pub is_text : IfSome left (λ bytes. text ≡ bytes)
   pub is_answer : IsAnswer file.names file.rules.items file.actions.items text e answer

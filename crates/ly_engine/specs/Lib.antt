@@ -3,5 +3,5 @@ pub mod Answering
 pub mod Answers
 pub mod Laws
 pub mod PositionWalk
-pub mod Printed
+pub mod Printing
 pub mod TokensFault

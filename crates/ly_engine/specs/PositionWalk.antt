@@ -6,21 +6,21 @@ use Rattle.std.specs.List.{list_any}
 use Rattle.ly_base.specs.declared.cut.Cut.{Cut}
 use Rattle.ly_base.specs.declared.cut.Cut.TheVariants.{Whole}
 use Rattle.ly_ere.specs.declared.pattern.Rule.{Rule}
-use Rattle.ly_position.specs.Nfa.{Nfa, Place, reading, ending, bytes_of, follow_of, place_of, starts_of}
+use Rattle.ly_position.specs.Nfa.{Nfa, Position, reading, ending, bytes_of, follow_of, position_of, starts_of}
 use Rattle.ly_scan.specs.Walk.{Walk}
 
 -- whether a position may read a byte
-abbrev pub reads : Place → ℕ → Bool
-reads place byte = list_any (nat_eq byte) (bytes_of place)
+abbrev pub reads : Position → ℕ → Bool
+reads position byte = list_any (nat_eq byte) (bytes_of position)
 
 -- the rule whose pattern ends at a position
-abbrev pub rule_of : Place → Option ℕ
+abbrev pub rule_of : Position → Option ℕ
 rule_of (reading bytes follow) = None
 rule_of (ending i) = Some i
 
 -- the positions that may come after one if it reads a byte
 abbrev pub next_of : Nfa → ℕ → ℕ → List ℕ
-next_of nfa byte p = if reads (place_of nfa p) byte then follow_of (place_of nfa p) else []
+next_of nfa byte p = if reads (position_of nfa p) byte then follow_of (position_of nfa p) else []
 
 -- the positions that may come after some, once a byte is read
 abbrev pub next_set : Nfa → List ℕ → ℕ → List ℕ
@@ -40,7 +40,7 @@ lesser (Some i) (Some j) = Some (min i j)
 -- the least rule whose pattern ends at one of some positions
 abbrev pub least_end : Nfa → List ℕ → Option ℕ
 least_end nfa [] = None
-least_end nfa (p ∷ ps) = lesser (rule_of (place_of nfa p)) (least_end nfa ps)
+least_end nfa (p ∷ ps) = lesser (rule_of (position_of nfa p)) (least_end nfa ps)
 
 -- what a walk that came to some positions says: it has ended where there is none
 abbrev pub says : Nfa → List ℕ → Option (Option ℕ)

@@ -34,3 +34,8 @@ abbrev pub IsBeforeReading : TokensFault → Type 0
 IsBeforeReading (Lex fault) = Unit {0}
 IsBeforeReading (Positions fault) = Unit {0}
 IsBeforeReading _ = ⊥
+
+-- a write failed
+abbrev pub IsWrite : TokensFault → Type 0
+IsWrite (Write written) = Unit {0}
+IsWrite _ = ⊥

@@ -1,12 +1,11 @@
-ghost use Rattle.std.specs.Prelude.{◌≡◌, ◌<◌, [], length, All, IfOk, option_map};
-ghost use Rattle.ly_base.specs.SparseSet.{with_members};
-ghost use Rattle.ly_engine.specs.PositionWalk.{cut_in, least_end, lesser, next_set, position_walk, positions_ahead};
-ghost use Rattle.ly_engine.specs.PositionWalk.{positions_ahead-ended, reads, rule_of};
-ghost use Rattle.ly_position.specs.Nfa.{place_of, starts_of};
+ghost use Rattle.std.specs.Prelude.{◌≡◌, ◌<◌, length, All, IfOk, option_map};
+ghost use Rattle.ly_engine.specs.PositionWalk.{cut_in, least_end, lesser, position_walk, positions_ahead};
+ghost use Rattle.ly_engine.specs.PositionWalk.{positions_ahead-ended, rule_of};
+ghost use Rattle.ly_position.specs.Nfa.{IsRoomFor, position_of, starts_of};
 
-use ly_base::{Cut, RuleNo, SparseSet};
+use ly_base::{Cut, RuleNo};
 use ly_ere::Rule;
-use ly_position::{PosNfa, Position};
+use ly_position::{PosNfa, Position, PositionSet};
 use ly_scan::Steps;
 use std::alloc::{AllocError, Global};
 use std::mem;
@@ -19,11 +18,11 @@ pub(crate) struct PositionWalk<'a> {
     /// The rules that they spell.
     rules: &'a [Rule],
     /// The positions where the walk stands.
-    current: SparseSet,
+    current: PositionSet,
     /// Room for those that come next.
-    next: SparseSet,
-    ghost current_bound: { current.below ≡ length nfa.now.positions },
-    ghost next_bound: { next.below ≡ length nfa.now.positions },
+    next: PositionSet,
+    ghost current_room: { IsRoomFor nfa.now current },
+    ghost next_room: { IsRoomFor nfa.now next },
 }
 
 impl<'a> PositionWalk<'a> {
@@ -35,8 +34,8 @@ impl<'a> PositionWalk<'a> {
         Ok(PositionWalk {
             nfa,
             rules,
-            current: SparseSet::new(alloc, nfa.len())?,
-            next: SparseSet::new(alloc, nfa.len())?,
+            current: nfa.set(alloc)?,
+            next: nfa.set(alloc)?,
         })
     }
 }
@@ -44,19 +43,18 @@ impl<'a> PositionWalk<'a> {
 impl Steps for PositionWalk<'_> {
     ghost walk = { λ w. position_walk w.nfa.now };
 
-    ghost ahead = { λ w. positions_ahead w.nfa.now w.current.members };
+    ghost ahead = { λ w. positions_ahead w.nfa.now w.current.positions.members };
 
     ghost cut_of = { λ w. cut_in w.rules.now };
 
     fn start(&mut self, condition: u32, at_line_start: bool) -> bool {
-        self.current.clear();
         self.current
-            .extend(self.nfa.start(condition, at_line_start));
+            .fill(self.nfa.start(condition, at_line_start));
         !self.current.members().is_empty()
     }
 
     fn step(&mut self, byte: u8) -> bool {
-        find_next(self.nfa, &self.current, byte, &mut self.next);
+        self.nfa.step(&self.current, byte, &mut self.next);
         mem::swap(&mut self.current, &mut self.next);
         !self.current.members().is_empty()
     }
@@ -76,31 +74,6 @@ impl Steps for PositionWalk<'_> {
         more h };
 }
 
-/// Makes a set that of the positions that may come after some, once a byte is read.
-fn find_next(nfa: &PosNfa, from: &SparseSet, byte: u8, to: &mut SparseSet)
-    requires from { from.now.below ≡ length nfa.now.positions }
-    requires to { to.old.below ≡ length nfa.now.positions }
-    ensures { to.new ≡ record to.old { members = with_members [] (next_set nfa.now from.now.members byte) } }
-{
-    to.clear();
-    for position in from.members() {
-        if reads(nfa, *position, byte) {
-            to.extend(nfa.follow(*position));
-        }
-    }
-}
-
-/// Whether a position reads a byte.
-fn reads(nfa: &PosNfa, position: u32, byte: u8) -> bool
-    requires { position < length nfa.now.positions }
-    ensures { result ≡ reads (place_of nfa.now position) byte }
-{
-    match nfa.position(position) {
-        Position::Reads { bytes } => bytes.contains(byte),
-        Position::Ends(_) => false,
-    }
-}
-
 /// The least rule whose pattern ends at one of some positions.
 fn least_end(nfa: &PosNfa, positions: &[u32]) -> Option<RuleNo>
     requires { All (λ p. p < length nfa.now.positions) positions.now }
@@ -116,7 +89,7 @@ fn least_end(nfa: &PosNfa, positions: &[u32]) -> Option<RuleNo>
 /// The rule whose pattern ends at a position.
 fn rule_of(nfa: &PosNfa, position: u32) -> Option<RuleNo>
     requires { position < length nfa.now.positions }
-    ensures { option_map (λ r. r.0) result ≡ rule_of (place_of nfa.now position) }
+    ensures { option_map (λ r. r.0) result ≡ rule_of (position_of nfa.now position) }
 {
     match nfa.position(position) {
         Position::Reads { .. } => None,

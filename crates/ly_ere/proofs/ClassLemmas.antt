@@ -6,9 +6,10 @@ use Rattle.std.specs.Cmp.Lexicographic.{bytes_decides, pointwise}
 use Rattle.std.specs.List.{list_any}
 use Rattle.std.proofs.Math.Seq.{take-append_seam}
 use Rattle.std.proofs.lemmas.Bool.{and_parts, or_parts}
-use Rattle.ly_ere.specs.Brackets.{IsNamed}
-use Rattle.ly_ere.specs.Front.{BeginsNo, begins}
-use Rattle.ly_ere.specs.Words.{IsClass, class_of, classes, found_in, is_among, same_text}
+use Rattle.ly_ere.specs.Private.Brackets.{IsNamed}
+use Rattle.ly_ere.specs.Private.Front.{BeginsNo}
+use Rattle.ly_ere.specs.Elements.{begins}
+use Rattle.ly_ere.specs.Elements.{IsClass, class_of, classes, found_in, is_among, same_text}
 use Rattle.ly_base.proofs.EscapeLemmas.{byte_at}
 use Rattle.ly_ere.proofs.FrontLemmas.{stands}
 use Rattle.ly_ere.proofs.NamedLemmas.{named_one}

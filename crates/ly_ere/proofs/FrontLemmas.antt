@@ -3,7 +3,7 @@ use Rattle.std.proofs.Common.{◌≡◌, ℕ, zero, suc, ◌<◌, ◌≤◌, Lis
 use Rattle.std.proofs.Common.{false, nat_eq}
 use Rattle.std.proofs.lemmas.Bool.{eqb-true}
 use Rattle.ly_base.proofs.EscapeLemmas.{byte_at}
-use Rattle.ly_ere.specs.Front.{stands_at}
+use Rattle.ly_ere.specs.Elements.{stands_at}
 
 pub at_is : (t : List ℕ) (n b : ℕ) → n < length t → stands_at t n b ≡ nat_eq (get_or t n 0) b
 at_is [] n b l = absurd (omega arith)

@@ -1,26 +1,28 @@
--- What is read is what the words are.
+-- What is read is what the elements are.
 use Rattle.std.proofs.Common.{◌≡◌, List, [], ◌∷◌, ◌++◌, Option, Some, None, refl, sym, ap, ◌∙◌, append_assoc}
 use Rattle.std.proofs.lemmas.List.{append-nil}
 use Rattle.ly_ere.specs.Expression.{Expression, set, either, star, plus, optional}
-use Rattle.ly_ere.specs.Words.{Word, one_of, string, opening, closing, bar, asterisk, plus_sign, question_mark}
+use Rattle.ly_ere.specs.Elements.{Element, one_of, string, opening, closing, bar, asterisk, plus_sign, question_mark}
 use Rattle.ly_ere.specs.Grammar.{Atom, Piece, Branch, Alternation, byte_atom, string_atom, group, atom, starred}
 use Rattle.ly_ere.specs.Grammar.{repeated, left_open, piece, joined, branch, parted, in_order}
-use Rattle.ly_ere.specs.Groups.{Group, new_group, joined_branch, open_branch, joined_whole, whole, with_atom}
-use Rattle.ly_ere.specs.Groups.{with_piece, with_postfix, after_bar, with_bar, Reading, inside, closed, step, and_then}
-use Rattle.ly_ere.specs.Groups.{run, start}
+use Rattle.ly_ere.specs.Private.Groups.{Group, new_group, joined_branch, open_branch, joined_whole, whole, with_atom}
+use Rattle.ly_ere.specs.Private.Groups.{with_piece, with_postfix, after_bar, with_bar, Reading, inside, closed, step}
+use Rattle.ly_ere.specs.Private.Groups.{and_then}
+use Rattle.ly_ere.specs.Private.Groups.{after_all, start}
 
-pub run-append : (ws vs : List Word) (r : Reading) → run (ws ++ vs) r ≡ and_then (run ws r) (run vs)
-run-append [] vs r = refl
-run-append (w ∷ ws) vs r = by (step w r) (run-append ws vs)
+pub after_all-append : (ws vs : List Element) (r : Reading)
+    → after_all (ws ++ vs) r ≡ and_then (after_all ws r) (after_all vs)
+after_all-append [] vs r = refl
+after_all-append (w ∷ ws) vs r = by (step w r) (after_all-append ws vs)
   where
-    by : (o : Option Reading) → ((s : Reading) → run (ws ++ vs) s ≡ and_then (run ws s) (run vs))
-        → and_then o (run (ws ++ vs)) ≡ and_then (and_then o (run ws)) (run vs)
+    by : (o : Option Reading) → ((s : Reading) → after_all (ws ++ vs) s ≡ and_then (after_all ws s) (after_all vs))
+        → and_then o (after_all (ws ++ vs)) ≡ and_then (and_then o (after_all ws)) (after_all vs)
     by None h = refl
     by (Some s) h = h s
 
--- words that are read, and then more
-then : (ws vs : List Word) (r s : Reading) → run ws r ≡ Some s → run (ws ++ vs) r ≡ run vs s
-then ws vs r s e = run-append ws vs r ∙ ap (λ o. and_then o (run vs)) e
+-- elements that are read, and then more
+then : (ws vs : List Element) (r s : Reading) → after_all ws r ≡ Some s → after_all (ws ++ vs) r ≡ after_all vs s
+then ws vs r s e = after_all-append ws vs r ∙ ap (λ o. and_then o (after_all vs)) e
 
 abbrev at : List Group → Group → Reading
 at outer g = record { outer = outer; group = g }
@@ -29,17 +31,17 @@ abbrev branches : Option Expression → Option Expression → Option Expression 
 branches a b p = record { before = a; branch = b; piece = p }
 
 mutual
-  atom_runs : {ws : List Word} {e : Expression} → Atom ws e → (outer : List Group) (g : Group)
-      → run ws (at outer g) ≡ Some (at outer (with_atom g e))
+  atom_runs : {ws : List Element} {e : Expression} → Atom ws e → (outer : List Group) (g : Group)
+      → after_all ws (at outer g) ≡ Some (at outer (with_atom g e))
   atom_runs byte_atom outer g = refl
   atom_runs string_atom outer g = refl
   atom_runs (group {ws = ws} {e = e} a) outer g =
       let h = alternation_runs a (g ∷ outer) in
       then ws (closing ∷ []) (at (g ∷ outer) new_group) (at (g ∷ outer) h.0) h.1
-      ∙ ap (λ o. and_then (closed (g ∷ outer) o) (run [])) h.2
+      ∙ ap (λ o. and_then (closed (g ∷ outer) o) (after_all [])) h.2
 
-  piece_runs : {ws : List Word} {e : Expression} → Piece ws e → (outer : List Group) (g : Group)
-      → run ws (at outer g) ≡ Some (at outer (with_atom g e))
+  piece_runs : {ws : List Element} {e : Expression} → Piece ws e → (outer : List Group) (g : Group)
+      → after_all ws (at outer g) ≡ Some (at outer (with_atom g e))
   piece_runs (atom a) outer g = atom_runs a outer g
   piece_runs (starred {ws = ws} {e = e} p) outer g = then ws (asterisk ∷ []) (at outer g) (at outer (with_atom g e))
       (piece_runs p outer g)
@@ -48,9 +50,9 @@ mutual
   piece_runs (left_open {ws = ws} {e = e} p) outer g =
       then ws (question_mark ∷ []) (at outer g) (at outer (with_atom g e)) (piece_runs p outer g)
 
-  branch_runs : {ws : List Word} {e : Expression} → Branch ws e → (outer : List Group) (a : Option Expression)
+  branch_runs : {ws : List Element} {e : Expression} → Branch ws e → (outer : List Group) (a : Option Expression)
       → (b : Option Expression) × (p : Expression)
-      × (run ws (at outer (branches a None None)) ≡ Some (at outer (branches a b (Some p))))
+      × (after_all ws (at outer (branches a None None)) ≡ Some (at outer (branches a b (Some p))))
       × (joined_branch b (Some p) ≡ Some e)
   branch_runs (piece {e = e} p) outer a = (None, e, piece_runs p outer (branches a None None), refl)
   branch_runs (joined {ws = ws} {vs = vs} {e = e} {f = f} b p) outer a =
@@ -63,8 +65,8 @@ mutual
         refl,
       )
 
-  alternation_runs : {ws : List Word} {e : Expression} → Alternation ws e → (outer : List Group) → (g : Group)
-      × (run ws (at outer new_group) ≡ Some (at outer g)) × (whole g ≡ Some e)
+  alternation_runs : {ws : List Element} {e : Expression} → Alternation ws e → (outer : List Group) → (g : Group)
+      × (after_all ws (at outer new_group) ≡ Some (at outer g)) × (whole g ≡ Some e)
   alternation_runs (branch b) outer =
       let h = branch_runs b outer None in
       (branches None h.0 (Some h.1), h.2, ap (joined_whole None) h.3)
@@ -73,17 +75,18 @@ mutual
       let k = branch_runs b outer (Some e) in (
         branches (Some e) k.0 (Some k.1),
         then ws (bar ∷ vs) (at outer new_group) (at outer h.0) h.1
-            ∙ (ap (λ o. and_then (inside outer (after_bar o)) (run vs)) h.2 ∙ k.2),
+            ∙ (ap (λ o. and_then (inside outer (after_bar o)) (after_all vs)) h.2 ∙ k.2),
         ap (joined_whole (Some e)) k.3,
       )
 
--- the words of a whole expression are read to its end
-pub whole_runs : (ws : List Word) (e : Expression) → Alternation ws e → (g : Group) × (run ws start ≡ Some (at [] g))
+-- the elements of a whole expression are read to its end
+pub whole_runs : (ws : List Element) (e : Expression) → Alternation ws e → (g : Group)
+    × (after_all ws start ≡ Some (at [] g))
     × (whole g ≡ Some e)
 whole_runs ws e a = alternation_runs a []
 
--- words have at most one reading
-pub phrase_one : (ws : List Word) (e f : Expression) → Alternation ws e → Alternation ws f → e ≡ f
+-- elements have at most one reading
+pub phrase_one : (ws : List Element) (e f : Expression) → Alternation ws e → Alternation ws f → e ≡ f
 phrase_one ws e f a b =
     let h = whole_runs ws e a in
     let k = whole_runs ws f b in
@@ -93,45 +96,45 @@ phrase_one ws e f a b =
     group_of None = new_group
     group_of (Some r) = r.group
 
-    same : (g h : Group) → run ws start ≡ Some (at [] g) → run ws start ≡ Some (at [] h) → whole g ≡ Some e
+    same : (g h : Group) → after_all ws start ≡ Some (at [] g) → after_all ws start ≡ Some (at [] h) → whole g ≡ Some e
         → whole h ≡ Some f → e ≡ f
     same g h p q r s = let i : g ≡ h = ap group_of (sym p ∙ q) in let j : whole g ≡ whole h = ap whole i in cc
 
--- which words a group has read
-EitherRead : Option Expression → List Word → Type 0
+-- which elements a group has read
+EitherRead : Option Expression → List Element → Type 0
 EitherRead None ws = ws ≡ []
-EitherRead (Some e) ws = (vs : List Word) × Alternation vs e × (ws ≡ vs ++ bar ∷ [])
+EitherRead (Some e) ws = (vs : List Element) × Alternation vs e × (ws ≡ vs ++ bar ∷ [])
 
-BranchRead : Option Expression → List Word → Type 0
+BranchRead : Option Expression → List Element → Type 0
 BranchRead None ws = ws ≡ []
 BranchRead (Some e) ws = Branch ws e
 
-PieceRead : Option Expression → List Word → Type 0
+PieceRead : Option Expression → List Element → Type 0
 PieceRead None ws = ws ≡ []
 PieceRead (Some e) ws = Piece ws e
 
-record GroupRead (g : Group) (ws : List Word) : Type 0 where
-  es : List Word
-  bs : List Word
-  ps : List Word
+record GroupRead (g : Group) (ws : List Element) : Type 0 where
+  es : List Element
+  bs : List Element
+  ps : List Element
   finished : EitherRead g.before es
   front : BranchRead g.branch bs
   last : PieceRead g.piece ps
   all : ws ≡ es ++ (bs ++ ps)
 
-StackRead : List Group → List Word → Type 0
+StackRead : List Group → List Element → Type 0
 StackRead [] ws = ws ≡ []
-StackRead (g ∷ gs) ws = (us : List Word) × (vs : List Word) × StackRead gs us × GroupRead g vs
+StackRead (g ∷ gs) ws = (us : List Element) × (vs : List Element) × StackRead gs us × GroupRead g vs
     × (ws ≡ us ++ (vs ++ opening ∷ []))
 
-record IsRead (r : Reading) (ws : List Word) : Type 0 where
-  us : List Word
-  vs : List Word
+record IsRead (r : Reading) (ws : List Element) : Type 0 where
+  us : List Element
+  vs : List Element
   outer : StackRead r.outer us
   group : GroupRead r.group vs
   all : ws ≡ us ++ vs
 
-branch_read : (b p : Option Expression) (bs ps : List Word) → BranchRead b bs → PieceRead p ps
+branch_read : (b p : Option Expression) (bs ps : List Element) → BranchRead b bs → PieceRead p ps
     → BranchRead (joined_branch b p) (bs ++ ps)
 unfolding BranchRead PieceRead
 branch_read None None bs ps h k = rw (h, k) refl
@@ -139,11 +142,11 @@ branch_read None (Some p) bs ps h k = rw h (piece k)
 branch_read (Some b) None bs ps h k = rw (k, append-nil) h
 branch_read (Some b) (Some p) bs ps h k = joined h k
 
-open_read : (g : Group) (ws : List Word) (r : GroupRead g ws) → BranchRead (open_branch g) (r.bs ++ r.ps)
+open_read : (g : Group) (ws : List Element) (r : GroupRead g ws) → BranchRead (open_branch g) (r.bs ++ r.ps)
 open_read g ws r = branch_read g.branch g.piece r.bs r.ps r.front r.last
 
 -- one more atom
-atom_read : (g : Group) (ws us : List Word) (e : Expression) → GroupRead g ws → Atom us e
+atom_read : (g : Group) (ws us : List Element) (e : Expression) → GroupRead g ws → Atom us e
     → GroupRead (with_atom g e) (ws ++ us)
 unfolding PieceRead
 atom_read g ws us e r a = record {
@@ -156,8 +159,8 @@ atom_read g ws us e r a = record {
   all = rw (r.all, append_assoc) refl;
 }
 
--- the words of a whole group are an alternation
-alternation_read : (a o : Option Expression) (e : Expression) (es os : List Word) → EitherRead a es → BranchRead o os
+-- the elements of a whole group are an alternation
+alternation_read : (a o : Option Expression) (e : Expression) (es os : List Element) → EitherRead a es → BranchRead o os
     → joined_whole a o ≡ Some e → Alternation (es ++ os) e
 unfolding EitherRead BranchRead
 alternation_read None None e es os h k q = absurd (cc)
@@ -166,11 +169,11 @@ alternation_read None (Some b) e es os h k q = let same : b ≡ e = cc in rw (h,
 alternation_read (Some a) (Some b) e es os h k q = let same : either a b ≡ e = cc
     in rw (h.2, append_assoc, ← same) (parted h.1 k)
 
-whole_read : (g : Group) (ws : List Word) (e : Expression) → GroupRead g ws → whole g ≡ Some e → Alternation ws e
+whole_read : (g : Group) (ws : List Element) (e : Expression) → GroupRead g ws → whole g ≡ Some e → Alternation ws e
 whole_read g ws e r q
     = rw r.all (alternation_read g.before (open_branch g) e r.es (r.bs ++ r.ps) r.finished (open_read g ws r) q)
 
-bar_read : (g h : Group) (ws : List Word) → GroupRead g ws → with_bar g ≡ Some h → GroupRead h (ws ++ bar ∷ [])
+bar_read : (g h : Group) (ws : List Element) → GroupRead g ws → with_bar g ≡ Some h → GroupRead h (ws ++ bar ∷ [])
 unfolding EitherRead BranchRead PieceRead
 bar_read g h ws r q = by (whole g) refl q
   where
@@ -186,8 +189,8 @@ bar_read g h ws r q = by (whole g) refl q
       all = rw append-nil refl;
     })
 
-postfix_read : (g h : Group) (ws us : List Word) (f : Expression → Expression)
-    → ((vs : List Word) (e : Expression) → Piece vs e → Piece (vs ++ us) (f e)) → GroupRead g ws
+postfix_read : (g h : Group) (ws us : List Element) (f : Expression → Expression)
+    → ((vs : List Element) (e : Expression) → Piece vs e → Piece (vs ++ us) (f e)) → GroupRead g ws
     → with_postfix g f ≡ Some h → GroupRead h (ws ++ us)
 unfolding PieceRead
 postfix_read g h ws us f over r q = by g.piece r.last q
@@ -208,13 +211,13 @@ new_read : GroupRead new_group []
 unfolding EitherRead BranchRead PieceRead
 new_read = record { es = []; bs = []; ps = []; finished = refl; front = refl; last = refl; all = refl }
 
-inside_read : (outer : List Group) (o : Option Group) (us vs : List Word) (s : Reading) → StackRead outer us
+inside_read : (outer : List Group) (o : Option Group) (us vs : List Element) (s : Reading) → StackRead outer us
     → ((h : Group) → o ≡ Some h → GroupRead h vs) → inside outer o ≡ Some s → IsRead s (us ++ vs)
 inside_read outer None us vs s k f q = absurd (cc)
 inside_read outer (Some g) us vs s k f q = let same : at outer g ≡ s = cc
     in rw (← same) (record { us = us; vs = vs; outer = k; group = f g refl; all = refl })
 
-closed_read : (outer : List Group) (o : Option Expression) (us vs : List Word) (s : Reading) → StackRead outer us
+closed_read : (outer : List Group) (o : Option Expression) (us vs : List Element) (s : Reading) → StackRead outer us
     → ((e : Expression) → o ≡ Some e → Alternation vs e) → closed outer o ≡ Some s
     → IsRead s (us ++ (vs ++ closing ∷ []))
 unfolding StackRead
@@ -228,7 +231,8 @@ closed_read (g ∷ gs) (Some e) us vs s k f q = let same : at gs (with_atom g e)
   all = rw k.4 (simp append_assoc);
 })
 
-step_read : (w : Word) (r s : Reading) (ws : List Word) → IsRead r ws → step w r ≡ Some s → IsRead s (ws ++ w ∷ [])
+step_read : (w : Element) (r s : Reading) (ws : List Element) → IsRead r ws → step w r ≡ Some s
+    → IsRead s (ws ++ w ∷ [])
 unfolding StackRead
 step_read (one_of bytes) r s ws i q = let same : at r.outer (with_atom r.group (set bytes)) ≡ s = cc
     in rw (← same, i.all, append_assoc) (record {
@@ -271,18 +275,19 @@ step_read question_mark r s ws i q
     (i.vs ++ question_mark ∷ []) s i.outer (λ h p. postfix_read r.group h i.vs (question_mark ∷ []) optional
     (λ vs e k. left_open k) i.group p) q)
 
-run_read : (ws us : List Word) (r s : Reading) → IsRead r us → run ws r ≡ Some s → IsRead s (us ++ ws)
+run_read : (ws us : List Element) (r s : Reading) → IsRead r us → after_all ws r ≡ Some s → IsRead s (us ++ ws)
 run_read [] us r s i q = let same : r ≡ s = cc in rw (append-nil, ← same) i
 run_read (w ∷ ws) us r s i q = by (step w r) refl q (run_read ws (us ++ w ∷ []))
   where
-    by : (o : Option Reading) → step w r ≡ o → and_then o (run ws) ≡ Some s
-        → ((r s : Reading) → IsRead r (us ++ w ∷ []) → run ws r ≡ Some s → IsRead s ((us ++ w ∷ []) ++ ws))
+    by : (o : Option Reading) → step w r ≡ o → and_then o (after_all ws) ≡ Some s
+        → ((r s : Reading) → IsRead r (us ++ w ∷ []) → after_all ws r ≡ Some s → IsRead s ((us ++ w ∷ []) ++ ws))
         → IsRead s (us ++ (w ∷ ws))
     by None p q f = absurd (cc)
     by (Some t) p q f = rw append_assoc at (f t s (step_read w r t us i p) q)
 
 -- what is read to its end is a phrase
-pub read_is_phrase : (ws : List Word) (g : Group) (e : Expression) → run ws start ≡ Some (at [] g) → whole g ≡ Some e
+pub read_is_phrase : (ws : List Element) (g : Group) (e : Expression) → after_all ws start ≡ Some (at [] g)
+    → whole g ≡ Some e
     → Alternation ws e
 unfolding StackRead
 read_is_phrase ws g e q p =

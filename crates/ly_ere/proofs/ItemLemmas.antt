@@ -3,10 +3,10 @@ use Rattle.std.proofs.Common.{◌≡◌, ◌≢◌, ℕ, List, [], ◌∷◌, �
 use Rattle.std.proofs.Common.{◌∙◌}
 use Rattle.std.specs.Prelude.{not}
 use Rattle.ly_base.specs.ByteSet.{bytes_where}
-use Rattle.ly_ere.specs.Brackets.{names}
-use Rattle.ly_ere.specs.Front.{begins, stands_at}
-use Rattle.ly_ere.specs.Words.{IsClass, Item, class, equivalent, points, Items, no_more, more, IsListed, listed}
-use Rattle.ly_ere.specs.Words.{excluded, Points, begins_range, in_ranges}
+use Rattle.ly_ere.specs.Private.Brackets.{names}
+use Rattle.ly_ere.specs.Elements.{begins, stands_at}
+use Rattle.ly_ere.specs.Elements.{IsClass, Item, class, equivalent, points, Items, no_more, more, Bracketed, listed}
+use Rattle.ly_ere.specs.Elements.{excluded, Points, begins_range, in_ranges}
 use Rattle.ly_ere.proofs.ClassLemmas.{class_one}
 use Rattle.ly_ere.proofs.PointLemmas.{name_at, names_byte, points_begin, points_one}
 
@@ -69,18 +69,18 @@ items_one (more first t behind rest rs ss m h others) k =
     let f = items_one others e.1 in
     (ap (λ x. rs ++ x) f.0 ∙ sym e.2, f.1)
 
-pub listed_items : {t bytes rest : List ℕ} → IsListed t bytes rest → stands_at t 0 94 ≡ false → (rs : List (ℕ × ℕ))
+pub listed_items : {t bytes rest : List ℕ} → Bracketed t bytes rest → stands_at t 0 94 ≡ false → (rs : List (ℕ × ℕ))
     × Items true t rs rest × (bytes ≡ bytes_where (in_ranges rs)) × (bytes ≢ [])
 listed_items (listed t rest rs n h some) e = (rs, h, refl, some)
 listed_items (excluded t rest rs h some) e = absurd (cc)
 
-pub excluded_items : {t bytes rest : List ℕ} → IsListed t bytes rest → stands_at t 0 94 ≡ true → (rs : List (ℕ × ℕ))
+pub excluded_items : {t bytes rest : List ℕ} → Bracketed t bytes rest → stands_at t 0 94 ≡ true → (rs : List (ℕ × ℕ))
     × Items true (drop 1 t) rs rest × (bytes ≡ bytes_where (λ b. not (in_ranges rs b))) × (bytes ≢ [])
 excluded_items (listed t rest rs n h some) e = absurd (cc)
 excluded_items (excluded t rest rs h some) e = (rs, h, refl, some)
 
 -- what is listed is determined
-pub listed_one : {t bytes cs rest left : List ℕ} → IsListed t bytes rest → IsListed t cs left → (bytes ≡ cs)
+pub listed_one : {t bytes cs rest left : List ℕ} → Bracketed t bytes rest → Bracketed t cs left → (bytes ≡ cs)
     × (rest ≡ left)
 listed_one (listed t rest rs n h some) k =
     let e = listed_items k n in

@@ -4,9 +4,10 @@ use Rattle.std.proofs.Common.{sym, ◌∙◌, arith}
 use Rattle.std.specs.Prelude.{nat_eq}
 use Rattle.std.proofs.lemmas.Bool.{eqb-false, or_parts}
 use Rattle.std.proofs.lemmas.List.{drop_all, drop_more}
-use Rattle.ly_ere.specs.Brackets.{IsNamed}
-use Rattle.ly_ere.specs.Front.{BeginsNo, stands_at}
-use Rattle.ly_ere.specs.Words.{is_among}
+use Rattle.ly_ere.specs.Private.Brackets.{IsNamed}
+use Rattle.ly_ere.specs.Private.Front.{BeginsNo}
+use Rattle.ly_ere.specs.Elements.{stands_at}
+use Rattle.ly_ere.specs.Elements.{is_among}
 use Rattle.ly_ere.proofs.FrontLemmas.{stands, stands_drop}
 use Rattle.ly_base.proofs.EscapeLemmas.{byte_at}
 

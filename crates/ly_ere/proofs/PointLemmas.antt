@@ -6,9 +6,9 @@ use Rattle.std.proofs.lemmas.Bool.{and_parts, eq-eqb, eqb-false, eqb-true, ne_eq
 use Rattle.std.proofs.lemmas.List.{drop-drop}
 use Rattle.ly_base.specs.Escapes.{Escape}
 use Rattle.ly_base.proofs.EscapeLemmas.{byte_at, escape_one}
-use Rattle.ly_ere.specs.Brackets.{names}
-use Rattle.ly_ere.specs.Front.{begins}
-use Rattle.ly_ere.specs.Words.{Point, bare, escaped, named, Points, single, range, begins_named, begins_range}
+use Rattle.ly_ere.specs.Private.Brackets.{names}
+use Rattle.ly_ere.specs.Elements.{begins}
+use Rattle.ly_ere.specs.Elements.{Point, bare, escaped, named, Points, single, range, begins_named, begins_range}
 use Rattle.ly_ere.proofs.FrontLemmas.{first_is}
 
 named_parts : (t : List ℕ) → begins_named t ≡ false → (begins t 58 ≡ false) × (begins t 46 ≡ false)

@@ -2,7 +2,8 @@
 use Rattle.std.proofs.Common.{◌≡◌, ◌≢◌, ℕ, ◌<◌, List, [], ◌∷◌, length, drop, get_or, refl, sym, ap, ◌∙◌}
 use Rattle.ly_base.specs.Escapes.{Escape}
 use Rattle.ly_base.proofs.EscapeLemmas.{byte_at, escape_one}
-use Rattle.ly_ere.specs.Words.{Quoted, closed, byte, escape, IsMore, IsPart}
+use Rattle.ly_ere.specs.Elements.{Quoted, closed, byte, escape}
+use Rattle.ly_ere.specs.Private.Front.{IsMore, IsQuotedByte}
 
 -- what is behind a quote that ends a string
 pub quote_ends : {t bs rest : List ℕ} → Quoted (34 ∷ t) bs rest → (bs ≡ []) × (rest ≡ t)
@@ -22,14 +23,15 @@ plain_more (escape t left c bs rest g k) p q = absurd (q refl)
 
 -- an escape, and what is quoted behind it
 pub quoted_escape : (t : List ℕ) (b n : ℕ) → 0 < length t → get_or t 0 0 ≡ 92 → Escape (drop 1 t) b (drop n t)
-    → IsPart t b n
+    → IsQuotedByte t b n
 quoted_escape t b n l e h bs rest = let f : t ≡ 92 ∷ drop 1 t = byte_at t 0 92 l e in (
   λ q. escape_more (rw f at q) b (drop n t) h,
   λ m. rw (f, m.1) (escape (drop 1 t) (drop n t) b m.0 rest h m.2),
 )
 
 -- a byte, and what is quoted behind it
-pub quoted_plain : (t : List ℕ) (b : ℕ) → 0 < length t → b ≡ get_or t 0 0 → b ≢ 34 → b ≢ 92 → b ≢ 10 → IsPart t b 1
+pub quoted_plain : (t : List ℕ) (b : ℕ) → 0 < length t → b ≡ get_or t 0 0 → b ≢ 34 → b ≢ 92 → b ≢ 10
+    → IsQuotedByte t b 1
 quoted_plain t b l e p q r bs rest = let f : t ≡ b ∷ drop 1 t = byte_at t 0 b l (sym e) in (
   λ k. plain_more (rw f at k) p q,
   λ m. rw (f, m.1) (byte b (drop 1 t) m.0 rest p q r m.2),

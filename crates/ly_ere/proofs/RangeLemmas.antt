@@ -5,8 +5,8 @@ use Rattle.std.proofs.Math.Bool.{or-false, or_assoc, or_comm}
 use Rattle.std.proofs.lemmas.Bool.Decides.{nat_tests}
 use Rattle.ly_base.specs.declared.byte_set.ByteSet.{ByteSet}
 use Rattle.ly_base.specs.ByteSet.{has}
-use Rattle.ly_ere.specs.Brackets.{IsAdded}
-use Rattle.ly_ere.specs.Words.{in_ranges}
+use Rattle.ly_ere.specs.Private.Brackets.{IsAdded}
+use Rattle.ly_ere.specs.Elements.{in_ranges}
 
 -- the bytes of two lists of ranges
 pub ranges_append : (rs ss : List (ℕ × ℕ)) (b : ℕ) → in_ranges (rs ++ ss) b ≡ (in_ranges rs b || in_ranges ss b)

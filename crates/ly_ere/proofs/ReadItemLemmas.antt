@@ -3,9 +3,10 @@ use Rattle.std.proofs.Common.{◌≡◌, ℕ, ◌+◌, List, [], ◌++◌, drop,
 use Rattle.std.proofs.lemmas.List.{append-nil, drop-drop}
 use Rattle.ly_base.specs.declared.byte_set.ByteSet.{ByteSet}
 use Rattle.ly_base.specs.ByteSet.{has}
-use Rattle.ly_ere.specs.Brackets.{AreItems, IsAdded}
-use Rattle.ly_ere.specs.Front.{BeginsNo, stands_at}
-use Rattle.ly_ere.specs.Words.{Item, Items, no_more, more, in_ranges}
+use Rattle.ly_ere.specs.Private.Brackets.{AreItems, IsAdded}
+use Rattle.ly_ere.specs.Private.Front.{BeginsNo}
+use Rattle.ly_ere.specs.Elements.{stands_at}
+use Rattle.ly_ere.specs.Elements.{Item, Items, no_more, more, in_ranges}
 use Rattle.ly_ere.proofs.FrontLemmas.{first_is, stands_drop}
 use Rattle.ly_ere.proofs.ItemLemmas.{items_more, items_some}
 use Rattle.ly_ere.proofs.RangeLemmas.{added_more}

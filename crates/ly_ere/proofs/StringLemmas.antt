@@ -3,10 +3,11 @@ use Rattle.std.proofs.Common.{drop-drop, ◌≡◌, ℕ, ◌+◌, ◌≤◌, Lis
 use Rattle.std.proofs.Common.{length-append, arith, Some}
 use Rattle.std.specs.Prelude.{slice_get}
 use Rattle.std.proofs.lemmas.List.{append-nil}
-use Rattle.ly_ere.specs.Front.{BeginsNo}
+use Rattle.ly_ere.specs.Private.Front.{BeginsNo}
 use Rattle.ly_ere.specs.Expression.{Expression, set, empty, concat}
 use Rattle.ly_ere.specs.Grammar.{in_order, with_bytes}
-use Rattle.ly_ere.specs.Words.{Quoted, closed, IsPart}
+use Rattle.ly_ere.specs.Elements.{Quoted, closed}
+use Rattle.ly_ere.specs.Private.Front.{IsQuotedByte}
 
 -- Some bytes were read: what is quoted from here on follows them.
 pub record IsSoFar (t : List ℕ) (at : ℕ) (so_far : List ℕ) : Type 0 where
@@ -17,7 +18,7 @@ pub none_yet : (t : List ℕ) → IsSoFar t 0 []
 none_yet t = record { forth = λ bs rest q. q; back = λ bs rest q. (bs, q) }
 
 -- one more byte
-pub one_more : {t : List ℕ} {at : ℕ} {so_far : List ℕ} → IsSoFar t at so_far → (b n : ℕ) → IsPart (drop at t) b n
+pub one_more : {t : List ℕ} {at : ℕ} {so_far : List ℕ} → IsSoFar t at so_far → (b n : ℕ) → IsQuotedByte (drop at t) b n
     → IsSoFar t (at + n) (so_far ++ b ∷ [])
 one_more {t} {at} s b n h = record {
   forth = λ bs rest q. let k : Quoted (drop n (drop at t)) bs rest = rw (drop-drop n at t) q
@@ -56,12 +57,12 @@ order_push : (bs : List ℕ) (b : ℕ) → 1 ≤ length bs → in_order (bs ++ b
 order_push [] b l = absurd (omega arith)
 order_push (c ∷ bs) b l = with_push (set (c ∷ [])) bs b
 
-pub start_string : (t : List ℕ) (b n : ℕ) (e : Expression) → e ≡ set (b ∷ []) → IsPart t b n → IsString t n e
+pub start_string : (t : List ℕ) (b n : ℕ) (e : Expression) → e ≡ set (b ∷ []) → IsQuotedByte t b n → IsString t n e
 start_string t b n e is h = let first : 0 + n ≡ n = omega arith
     in record { so_far = b ∷ []; some = omega arith; is = is; read = rw first at (one_more (none_yet t) b n h) }
 
 pub next_string : {t : List ℕ} {at : ℕ} {e : Expression} → IsString t at e → (b n : ℕ) (f : Expression)
-    → f ≡ concat e (set (b ∷ [])) → IsPart (drop at t) b n → IsString t (at + n) f
+    → f ≡ concat e (set (b ∷ [])) → IsQuotedByte (drop at t) b n → IsString t (at + n) f
 next_string s b n f is h = record {
   so_far = s.so_far ++ b ∷ [];
   some = omega (arith, length-append s.so_far (b ∷ []));

@@ -1,14 +1,13 @@
--- Weights under a cap.
-use Rattle.std.proofs.Common.{◌≡◌, ℕ, zero, suc, ◌+◌, ◌≤◌, ◌<◌, List, Option, Some, None, refl, ap, arith, ◌∙◌, length}
-use Rattle.std.proofs.Common.{get_or, []}
-use Rattle.std.specs.Prelude.{min}
-use Rattle.std.proofs.Common.{◌≢◌, ◌++◌, ◌∷◌}
+-- Weights under a cap, and the weights of definitions.
+use Rattle.std.proofs.Common.{◌≡◌, ◌≢◌, ℕ, zero, suc, ◌+◌, ◌≤◌, ◌<◌, List, [], ◌∷◌, ◌++◌, Option, Some, None, refl, ap}
+use Rattle.std.proofs.Common.{sym, ◌∙◌, arith, length, length-append, get_or, Bool, true, false, rules, nat_eq}
+use Rattle.std.specs.Prelude.{min, if◌then◌else◌, MatchOption}
+use Rattle.std.proofs.Math.ListN.{get_or-append}
 use Rattle.std.proofs.Math.Seq.{get_or-append_seam}
-use Rattle.std.proofs.Common.{Bool, true, false, rules, add-one, nat_eq}
-use Rattle.std.specs.Prelude.{if◌then◌else◌, MatchOption}
 use Rattle.std.proofs.lemmas.Bool.Decides.{nat_tests}
 use Rattle.ly_ere.specs.Expression.{Expression, empty}
-use Rattle.ly_ere.specs.Weight.{named_weight, weight_under}
+use Rattle.ly_ere.specs.Private.Weights.{AreWeights, weight_at}
+use Rattle.ly_ere.specs.Weight.{named_weight, weight_of, weight_under}
 
 -- one more capped weight
 pub push_capped : (ws : List ℕ) (w c k : ℕ) → ((j : ℕ) → get_or ws j 0 ≤ c) → w ≤ c → get_or (ws ++ w ∷ []) k 0 ≤ c
@@ -23,21 +22,53 @@ push_other [] w (suc k) n = refl
 push_other (v ∷ ws) w zero n = refl
 push_other (v ∷ ws) w (suc k) n = push_other ws w k (λ e. n (ap suc e))
 
--- the capped weights of one more definition
-pub push_named : (names : List Expression) (ns : List ℕ) (w c i : ℕ) → length ns ≡ i
-    → ((x : ℕ) → get_or ns x 0 ≡ min (named_weight names i x) c)
-    → w ≡ min (weight_under (named_weight names i) (get_or names i empty)) c → (x : ℕ)
-    → get_or (ns ++ w ∷ []) x 0 ≡ min (named_weight names (i + 1) x) c
-push_named names ns w c i long h e x = rw add-one (at (nat_eq x i) refl)
-  where
-    at : (b : Bool) → nat_eq x i ≡ b
-        → get_or (ns ++ w ∷ []) x 0 ≡ min (if nat_eq x i then weight_under (named_weight names i) (get_or names i empty)
-        else named_weight names i x) c
-    at true t =
-        let same : x ≡ i = search (rules, nat_tests) in
-        let there : x ≡ length ns = omega arith in
-        rw t (ap (λ k. get_or (ns ++ w ∷ []) k 0) there ∙ get_or-append_seam ns w [] 0 ∙ e)
-    at false f = let other : x ≢ i = search (rules, nat_tests) in rw f (push_other ns w x (omega arith) ∙ h x)
+-- the weights as those of names
+pub weights_named : (names : List Expression) (ws : List ℕ) → AreWeights names ws
+    → weight_at ws ≡ named_weight names (length names)
+weights_named names ws a = λ i x. a.weighed x i
+
+-- later definitions change nothing
+named_same : (names more : List Expression) (n x : ℕ) → n ≤ length names
+    → named_weight (names ++ more) n x ≡ named_weight names n x
+named_same names more zero x l = refl
+named_same names more (suc n) x l =
+    let earlier : named_weight (names ++ more) n ≡ named_weight names n
+    = λ i y. named_same names more n y (omega arith) i in
+    ap (λ (f : ℕ → ℕ). if nat_eq x n then weight_under f (get_or (names ++ more) n empty) else f x) earlier
+    ∙ ap (λ e. if nat_eq x n then weight_under (named_weight names n) e else named_weight names n x)
+    (get_or-append names more empty n (omega arith))
+
+module _ (names : List Expression) (e : Expression) where
+  last_length : length (names ++ e ∷ []) ≡ suc (length names)
+  last_length = omega (arith, length-append names (e ∷ []))
+
+  last_weight : weight_under (named_weight (names ++ e ∷ []) (length names))
+      (get_or (names ++ e ∷ []) (length names) empty)
+      ≡ weight_of names e
+  last_weight =
+      let earlier : named_weight (names ++ e ∷ []) (length names) ≡ named_weight names (length names)
+      = λ i y. named_same names (e ∷ []) (length names) y (omega arith) i in
+      ap (weight_under (named_weight (names ++ e ∷ []) (length names))) (get_or-append_seam names e [] empty)
+      ∙ ap (λ (f : ℕ → ℕ). weight_under f e) earlier
+
+  module _ (ws : List ℕ) (w : ℕ) (a : AreWeights names ws) (is : w ≡ weight_of names e) where
+    push_weighed : (x : ℕ) (b : Bool) → nat_eq x (length names) ≡ b
+        → get_or (ws ++ w ∷ []) x 0 ≡ named_weight (names ++ e ∷ []) (suc (length names)) x
+    push_weighed x true t =
+        let same : x ≡ length names = search (rules, nat_tests) in
+        let there : x ≡ length ws = omega (arith, a.counted) in
+        rw t (ap (λ k. get_or (ws ++ w ∷ []) k 0) there ∙ get_or-append_seam ws w [] 0 ∙ is ∙ sym last_weight)
+    push_weighed x false f =
+        let other : x ≢ length names = search (rules, nat_tests) in
+        rw f (push_other ws w x (λ same. other (same ∙ a.counted)) ∙ a.weighed x
+        ∙ sym (named_same names (e ∷ []) (length names) x (omega arith)))
+
+    -- one more definition
+    pub weights_push : AreWeights (names ++ e ∷ []) (ws ++ w ∷ [])
+    weights_push = record {
+      counted = omega (arith, length-append ws (w ∷ []), last_length, a.counted);
+      weighed = λ x. rw last_length (push_weighed x (nat_eq x (length names)) refl);
+    }
 
 -- a weight that is capped just above a number, against that number
 pub within_cap : (o : Option ℕ) (capped weight most : ℕ) → capped ≡ min weight (most + 1)

@@ -20,9 +20,9 @@ Joined L zero w = w ≡ []
 Joined L (suc k) w = (u : List ℕ) × (v : List ℕ) × (w ≡ u ++ v) × L u × Joined L k v
 
 -- k is at most the bound, if there is one
-abbrev pub Within : ℕ → Option ℕ → Type 0
-Within k None = Unit {0}
-Within k (Some n) = k ≤ n
+abbrev pub IsAtMost : ℕ → Option ℕ → Type 0
+IsAtMost k None = Unit {0}
+IsAtMost k (Some n) = k ≤ n
 
 -- w belongs to the expression, where N says which strings belong to the name of a number
 abbrev pub MatchesUnder : (ℕ → List ℕ → Type 0) → Expression → List ℕ → Type 0
@@ -33,7 +33,7 @@ MatchesUnder N (either r s) w = MatchesUnder N r w ⊎ MatchesUnder N s w
 MatchesUnder N (star r) w = (k : ℕ) × Joined (MatchesUnder N r) k w
 MatchesUnder N (plus r) w = (k : ℕ) × (1 ≤ k) × Joined (MatchesUnder N r) k w
 MatchesUnder N (optional r) w = (w ≡ []) ⊎ MatchesUnder N r w
-MatchesUnder N (repeat m n r) w = (k : ℕ) × (m ≤ k) × Within k n × Joined (MatchesUnder N r) k w
+MatchesUnder N (repeat m n r) w = (k : ℕ) × (m ≤ k) × IsAtMost k n × Joined (MatchesUnder N r) k w
 MatchesUnder N (name x) w = N x w
 
 -- The strings of name x, by the first n definitions: each uses earlier ones only.

@@ -5,23 +5,23 @@ use mathlib.Core.Path.{ap, ◌∙◌}
 use Rattle.std.specs.Coded.{Coded, code_by, coded×, coded⊎, coded_ℕ, coded_list, coded_option}
 use Rattle.ly_ere.specs.Expression.{Expression, set, empty, concat, either, star, plus, optional, repeat, name}
 
--- a set, a name, a repetition, or the operator of a number
-abbrev pub Part : Type 0
-Part = List ℕ ⊎ (ℕ ⊎ ((ℕ × Option ℕ) ⊎ ℕ))
+-- an item in postfix order: a set, a name, a repetition, or the operator of a number
+abbrev pub PostfixItem : Type 0
+PostfixItem = List ℕ ⊎ (ℕ ⊎ ((ℕ × Option ℕ) ⊎ ℕ))
 
-abbrev pub operator : ℕ → Part
+abbrev pub operator : ℕ → PostfixItem
 operator k = inr (inr (inr k))
 
-abbrev pub to_parts : Expression → List Part
-to_parts (set bytes) = inl bytes ∷ []
-to_parts empty = operator 0 ∷ []
-to_parts (concat r s) = to_parts r ++ (to_parts s ++ operator 1 ∷ [])
-to_parts (either r s) = to_parts r ++ (to_parts s ++ operator 2 ∷ [])
-to_parts (star r) = to_parts r ++ operator 3 ∷ []
-to_parts (plus r) = to_parts r ++ operator 4 ∷ []
-to_parts (optional r) = to_parts r ++ operator 5 ∷ []
-to_parts (repeat m n r) = to_parts r ++ inr (inr (inl (m, n))) ∷ []
-to_parts (name x) = inr (inl x) ∷ []
+abbrev pub to_items : Expression → List PostfixItem
+to_items (set bytes) = inl bytes ∷ []
+to_items empty = operator 0 ∷ []
+to_items (concat r s) = to_items r ++ (to_items s ++ operator 1 ∷ [])
+to_items (either r s) = to_items r ++ (to_items s ++ operator 2 ∷ [])
+to_items (star r) = to_items r ++ operator 3 ∷ []
+to_items (plus r) = to_items r ++ operator 4 ∷ []
+to_items (optional r) = to_items r ++ operator 5 ∷ []
+to_items (repeat m n r) = to_items r ++ inr (inr (inl (m, n))) ∷ []
+to_items (name x) = inr (inl x) ∷ []
 
 abbrev pub operate : ℕ → List Expression → List Expression
 operate zero st = empty ∷ st
@@ -36,50 +36,50 @@ abbrev pub repeated : ℕ → Option ℕ → List Expression → List Expression
 repeated m n [] = []
 repeated m n (r ∷ st) = repeat m n r ∷ st
 
-abbrev pub take_part : Part → List Expression → List Expression
-take_part (inl bytes) st = set bytes ∷ st
-take_part (inr (inl x)) st = name x ∷ st
-take_part (inr (inr (inl p))) st = repeated p.0 p.1 st
-take_part (inr (inr (inr k))) st = operate k st
+abbrev pub take_item : PostfixItem → List Expression → List Expression
+take_item (inl bytes) st = set bytes ∷ st
+take_item (inr (inl x)) st = name x ∷ st
+take_item (inr (inr (inl p))) st = repeated p.0 p.1 st
+take_item (inr (inr (inr k))) st = operate k st
 
-abbrev pub take_parts : List Part → List Expression → List Expression
-take_parts [] st = st
-take_parts (p ∷ ps) st = take_parts ps (take_part p st)
+abbrev pub take_items : List PostfixItem → List Expression → List Expression
+take_items [] st = st
+take_items (p ∷ ps) st = take_items ps (take_item p st)
 
 abbrev pub topmost : List Expression → Expression
 topmost [] = empty
 topmost (r ∷ st) = r
 
-abbrev pub from_parts : List Part → Expression
-from_parts ps = topmost (take_parts ps [])
+abbrev pub from_items : List PostfixItem → Expression
+from_items ps = topmost (take_items ps [])
 
-take_parts-append : (ps qs : List Part) (st : List Expression)
-    → take_parts (ps ++ qs) st ≡ take_parts qs (take_parts ps st)
-take_parts-append [] qs st = refl
-take_parts-append (p ∷ ps) qs st = take_parts-append ps qs (take_part p st)
+take_items-append : (ps qs : List PostfixItem) (st : List Expression)
+    → take_items (ps ++ qs) st ≡ take_items qs (take_items ps st)
+take_items-append [] qs st = refl
+take_items-append (p ∷ ps) qs st = take_items-append ps qs (take_item p st)
 
-reads : (r : Expression) (st : List Expression) → take_parts (to_parts r) st ≡ r ∷ st
+reads : (r : Expression) (st : List Expression) → take_items (to_items r) st ≡ r ∷ st
 reads (set bytes) st = refl
 reads empty st = refl
-reads (concat r s) st = take_parts-append (to_parts r) (to_parts s ++ operator 1 ∷ []) st
-    ∙ (take_parts-append (to_parts s) (operator 1 ∷ []) (take_parts (to_parts r) st)
-    ∙ (ap (λ x. operate 1 (take_parts (to_parts s) x)) (reads r st) ∙ ap (operate 1) (reads s (r ∷ st))))
-reads (either r s) st = take_parts-append (to_parts r) (to_parts s ++ operator 2 ∷ []) st
-    ∙ (take_parts-append (to_parts s) (operator 2 ∷ []) (take_parts (to_parts r) st)
-    ∙ (ap (λ x. operate 2 (take_parts (to_parts s) x)) (reads r st) ∙ ap (operate 2) (reads s (r ∷ st))))
-reads (star r) st = take_parts-append (to_parts r) (operator 3 ∷ []) st ∙ ap (operate 3) (reads r st)
-reads (plus r) st = take_parts-append (to_parts r) (operator 4 ∷ []) st ∙ ap (operate 4) (reads r st)
-reads (optional r) st = take_parts-append (to_parts r) (operator 5 ∷ []) st ∙ ap (operate 5) (reads r st)
-reads (repeat m n r) st = take_parts-append (to_parts r) (inr (inr (inl (m, n))) ∷ []) st
+reads (concat r s) st = take_items-append (to_items r) (to_items s ++ operator 1 ∷ []) st
+    ∙ (take_items-append (to_items s) (operator 1 ∷ []) (take_items (to_items r) st)
+    ∙ (ap (λ x. operate 1 (take_items (to_items s) x)) (reads r st) ∙ ap (operate 1) (reads s (r ∷ st))))
+reads (either r s) st = take_items-append (to_items r) (to_items s ++ operator 2 ∷ []) st
+    ∙ (take_items-append (to_items s) (operator 2 ∷ []) (take_items (to_items r) st)
+    ∙ (ap (λ x. operate 2 (take_items (to_items s) x)) (reads r st) ∙ ap (operate 2) (reads s (r ∷ st))))
+reads (star r) st = take_items-append (to_items r) (operator 3 ∷ []) st ∙ ap (operate 3) (reads r st)
+reads (plus r) st = take_items-append (to_items r) (operator 4 ∷ []) st ∙ ap (operate 4) (reads r st)
+reads (optional r) st = take_items-append (to_items r) (operator 5 ∷ []) st ∙ ap (operate 5) (reads r st)
+reads (repeat m n r) st = take_items-append (to_items r) (inr (inr (inl (m, n))) ∷ []) st
     ∙ ap (repeated m n) (reads r st)
 reads (name x) st = refl
 
-pub from_parts-to_parts : (r : Expression) → from_parts (to_parts r) ≡ r
-from_parts-to_parts r = ap topmost (reads r [])
+pub from_items-to_items : (r : Expression) → from_items (to_items r) ≡ r
+from_items-to_items r = ap topmost (reads r [])
 
 abbrev pub expression_code : Coded Expression
 expression_code =
-    code_by (List Part)
+    code_by (List PostfixItem)
     (coded_list
     (coded⊎ (coded_list coded_ℕ) (coded⊎ coded_ℕ (coded⊎ (coded× coded_ℕ (coded_option coded_ℕ)) coded_ℕ))))
-    to_parts from_parts from_parts-to_parts
+    to_items from_items from_items-to_items

@@ -2,11 +2,11 @@
 use Rattle.std.specs.Prelude.{◌≡◌, ℕ, List, Bool}
 use Rattle.ly_ere.specs.Expression.{Expression}
 use Rattle.ly_ere.specs.Grammar.{Alternation}
-use Rattle.ly_ere.specs.Patterns.{IsPattern}
-use Rattle.ly_ere.specs.Words.{Word}
+use Rattle.ly_ere.specs.Patterns.{IsFrontPattern, IsPattern}
+use Rattle.ly_ere.specs.Elements.{Element}
 use Rattle.ly_ere.specs.declared.pattern.Pattern.{Pattern}
 use Rattle.ly_ere.specs.declared.pattern.Rule.{Rule}
-use Rattle.ly_ere.specs.Winner.{Winner, IsCut, Fits}
+use Rattle.ly_ere.specs.Winner.{Winner, IsCut, FitsPattern}
 
 -- two winners of one place are one rule and one length
 abbrev pub WinnerIsOne : Type 0
@@ -16,14 +16,19 @@ WinnerIsOne = (names : List Expression) (rules : List Rule) (condition : ℕ) (l
 
 -- under a true cut the length of a match decides that of its token
 abbrev pub SplitIsOne : Type 0
-SplitIsOne = (names : List Expression) (p : Pattern) (rest : List ℕ) (n m l : ℕ) → IsCut names p → Fits names p rest n m
-    → Fits names p rest n l → m ≡ l
+SplitIsOne = (names : List Expression) (p : Pattern) (rest : List ℕ) (n m l : ℕ) → IsCut names p
+    → FitsPattern names p rest n m → FitsPattern names p rest n l → m ≡ l
 
--- words have at most one reading as an expression
+-- elements have at most one reading as an expression
 abbrev pub PhraseIsOne : Type 0
-PhraseIsOne = (ws : List Word) (e f : Expression) → Alternation ws e → Alternation ws f → e ≡ f
+PhraseIsOne = (ws : List Element) (e f : Expression) → Alternation ws e → Alternation ws f → e ≡ f
 
 -- a text is at most one pattern
 abbrev pub PatternIsOne : Type 0
 PatternIsOne = (names : List Expression) (text : List ℕ) (p q : Pattern) → IsPattern names text p
     → IsPattern names text q → p ≡ q
+
+-- a line has at most one pattern at its front
+abbrev pub FrontPatternIsOne : Type 0
+FrontPatternIsOne = (names : List Expression) (line : List ℕ) (p q : Pattern) (n m : ℕ)
+    → IsFrontPattern names line p n → IsFrontPattern names line q m → (p ≡ q) × (n ≡ m)

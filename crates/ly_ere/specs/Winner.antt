@@ -1,7 +1,6 @@
 -- Candidates and winners: which rule matches at a place of a text (POSIX, lex, "Regular Expressions in lex").
 use Rattle.std.specs.Prelude.{◌≡◌, ℕ, ◌-◌, ◌≤◌, List, [], ◌++◌, length, take, drop, slice_get, Bool, IsTrue, Contains}
-use Rattle.std.specs.Prelude.{Option}
-use Rattle.std.specs.Prelude.{Some, None}
+use Rattle.std.specs.Prelude.{Option, Some, None}
 use Rattle.ly_base.specs.declared.cut.Cut.{Cut}
 use Rattle.ly_base.specs.declared.cut.Cut.TheVariants.{Whole, Head, Tail}
 use Rattle.ly_ere.specs.Expression.{Expression, Matches}
@@ -34,7 +33,7 @@ abbrev pub AreCut : List Expression → List Rule → Type 0
 AreCut names rules = (i : ℕ) (r : Rule) → slice_get rules i ≡ Some r → IsCut names r.pattern
 
 -- The first n bytes of rest are m bytes of the pattern's head, at least one, and then bytes of its tail.
-pub record Fits (names : List Expression) (p : Pattern) (rest : List ℕ) (n m : ℕ) : Type 0 where
+pub record FitsPattern (names : List Expression) (p : Pattern) (rest : List ℕ) (n m : ℕ) : Type 0 where
   pub some_byte : 1 ≤ m
   pub token_within : m ≤ n
   pub within : n ≤ length rest
@@ -62,10 +61,8 @@ pub record IsString (names : List Expression) (rules : List Rule) (condition : �
 pub record Candidate (names : List Expression) (rules : List Rule) (condition : ℕ) (line : Bool) (rest : List ℕ)
     (i n m : ℕ) : Type 0 where
   pub rule : Rule
-  pub is_rule : slice_get rules i ≡ Some rule
-  pub is_active : Contains rule.active.items condition
-  pub at_line : IsTrue rule.pattern.line_start → IsTrue line
-  pub fits : Fits names rule.pattern rest n m
+  pub is_active : IsActive rules condition line i rule
+  pub fits : FitsPattern names rule.pattern rest n m
 
 -- The longest match, and of those the first rule's.
 pub record Winner (names : List Expression) (rules : List Rule) (condition : ℕ) (line : Bool) (rest : List ℕ)

@@ -7,6 +7,7 @@ use std::marker::Model;
 /// Expressions under construction: a list of nodes, seen as the list of their expressions.
 #[derive(Drop)]
 pub struct Arena {
+    /// The nodes, whose parts have smaller numbers.
     nodes: Vec<Node>,
 }
 

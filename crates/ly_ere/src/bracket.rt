@@ -1,24 +1,25 @@
 ghost use Rattle.std.specs.Option.{IfNone};
 ghost use Rattle.std.specs.Prelude.{◌≡◌, ◌≢◌, ℕ, ◌+◌, ◌<◌, ◌≤◌, List, [], ◌∷◌, drop, length, true, Some, None, IfErr};
-ghost use Rattle.std.specs.Prelude.{IfOk, IfSome, IsErrOf};
+ghost use Rattle.std.specs.Prelude.{IfOk, IfSome};
 ghost use Rattle.ly_base.specs.ByteSet.{has, members};
-ghost use Rattle.ly_ere.specs.Brackets.{AreItems, IsAdded, IsNamed, as_classes, names};
-ghost use Rattle.ly_ere.specs.Front.{BeginsNo, IsFront, begins};
-ghost use Rattle.ly_ere.specs.Words.{IsClass, IsListed, Item, Items, Point, Points, begins_range, class_of, found_in};
+ghost use Rattle.ly_ere.specs.Private.Brackets.{AreItems, IsAdded, IsNamed, as_classes, names};
+ghost use Rattle.ly_ere.specs.Private.Front.{BeginsNo, IsTaken};
+ghost use Rattle.ly_ere.specs.Elements.{begins};
+ghost use Rattle.ly_ere.specs.Elements.{IsClass, Bracketed, Item, Items, Point, Points, begins_range, class_of};
+ghost use Rattle.ly_ere.specs.Elements.{found_in};
 
-use crate::fault::EreFault;
+use crate::fault::SyntaxFault;
 use crate::front::{begins, stands_at};
 use ly_base::{ByteSet, escape};
 
 /// Reads the bracket expression at the front of a text, whose first byte is `[`: its bytes, of which there is at
 /// least one, and how many bytes of the text it takes (POSIX, XBD 9.3.5, in the POSIX locale).
-pub(crate) fn bracket(text: &[u8]) -> Result<(ByteSet, usize), EreFault>
+pub(crate) fn bracket(text: &[u8]) -> Result<(ByteSet, usize), SyntaxFault>
     requires some { 0 < length text.now }
     ensures set { IfOk result (λ found. members found.0 ≢ []) }
-    ensures front { IfOk result (λ found. IsFront text.now found.1) }
-    ensures listed { IfOk result (λ found. IsListed (drop 1 text.now) (members found.0) (drop found.1 text.now)) }
-    ensures refused { IfErr result (λ _. BeginsNo IsListed (drop 1 text.now)) }
-    ensures not_heavy { IsErrOf result EreFault.TooHeavy → ⊥ }
+    ensures front { IfOk result (λ found. IsTaken text.now found.1) }
+    ensures listed { IfOk result (λ found. Bracketed (drop 1 text.now) (members found.0) (drop found.1 text.now)) }
+    ensures refused { IfErr result (λ _. BeginsNo Bracketed (drop 1 text.now)) }
 {
     let behind = &text[1..];
     if stands_at(behind, 0, b'^') {
@@ -30,25 +31,23 @@ pub(crate) fn bracket(text: &[u8]) -> Result<(ByteSet, usize), EreFault>
 }
 
 /// A set that has a byte.
-fn some_byte(set: ByteSet) -> Result<ByteSet, EreFault>
+fn some_byte(set: ByteSet) -> Result<ByteSet, SyntaxFault>
     ensures same { IfOk result (λ same. same ≡ set) }
     ensures some { IfOk result (λ same. members same ≢ []) }
     ensures none { IfErr result (λ _. members set ≡ []) }
-    ensures not_heavy { IsErrOf result EreFault.TooHeavy → ⊥ }
 {
     if set.is_empty() {
-        return Err(EreFault::EmptySet);
+        return Err(SyntaxFault::EmptySet);
     }
     Ok(set)
 }
 
 /// Reads items up to the `]` that ends them, of which there is at least one: their bytes, and how many bytes they
 /// take with the `]`.
-fn items(text: &[u8]) -> Result<(ByteSet, usize), EreFault>
+fn items(text: &[u8]) -> Result<(ByteSet, usize), SyntaxFault>
     ensures within { IfOk result (λ found. found.1 ≤ length text.now) }
     ensures items { IfOk result (λ found. AreItems text.now (has found.0) (drop found.1 text.now)) }
     ensures refused { IfErr result (λ _. BeginsNo (Items true) text.now) }
-    ensures not_heavy { IsErrOf result EreFault.TooHeavy → ⊥ }
 {
     let mut set = ByteSet::new();
     let mut at = add_item(&mut set, text, true)?;
@@ -60,12 +59,11 @@ fn items(text: &[u8]) -> Result<(ByteSet, usize), EreFault>
 
 /// Adds the item at the front of a text to the set, and answers how many bytes it takes. A `-` stands for
 /// itself as the first item, the last one, or the end of a range.
-fn add_item(set: &mut ByteSet, text: &[u8], is_first: bool) -> Result<usize, EreFault>
-    ensures front { IfOk result (IsFront text.now) }
+fn add_item(set: &mut ByteSet, text: &[u8], is_first: bool) -> Result<usize, SyntaxFault>
+    ensures front { IfOk result (IsTaken text.now) }
     ensures item { IfOk result (λ taken. (rs : List (ℕ × ℕ)) × Item is_first text.now rs (drop taken text.now)
         × IsAdded set.old set.new rs) }
     ensures refused { IfErr result (λ _. BeginsNo (Item is_first) text.now) }
-    ensures not_heavy { IsErrOf result EreFault.TooHeavy → ⊥ }
 {
     if begins(text, b':') {
         return add_class(set, text);
@@ -76,21 +74,20 @@ fn add_item(set: &mut ByteSet, text: &[u8], is_first: bool) -> Result<usize, Ere
         return Ok(length);
     }
     if !is_first && begins_range(text) {
-        return Err(EreFault::BadRange);
+        return Err(SyntaxFault::BadRange);
     }
     add_range(set, text)
 }
 
 /// Adds the class at the front of a text, and answers how many bytes it takes.
-fn add_class(set: &mut ByteSet, text: &[u8]) -> Result<usize, EreFault>
+fn add_class(set: &mut ByteSet, text: &[u8]) -> Result<usize, SyntaxFault>
     requires { begins text.now 58 ≡ true }
-    ensures front { IfOk result (IsFront text.now) }
+    ensures front { IfOk result (IsTaken text.now) }
     ensures item { IfOk result (λ taken. (rs : List (ℕ × ℕ)) × IsClass text.now rs (drop taken text.now)
         × IsAdded set.old set.new rs) }
     ensures refused { IfErr result (λ _. BeginsNo IsClass text.now) }
-    ensures not_heavy { IsErrOf result EreFault.TooHeavy → ⊥ }
 {
-    let end = named_end(text, b':').ok_or(EreFault::UnclosedBracket)?;
+    let end = named_end(text, b':').ok_or(SyntaxFault::UnclosedBracket)?;
     let ranges = class(&text[2..end])?;
     for (low, high) in ranges {
         set.insert_range(*low, *high);
@@ -106,12 +103,11 @@ fn begins_range(text: &[u8]) -> bool
 }
 
 /// Adds the byte or the range at the front of a text, and answers how many bytes it takes.
-fn add_range(set: &mut ByteSet, text: &[u8]) -> Result<usize, EreFault>
-    ensures front { IfOk result (IsFront text.now) }
+fn add_range(set: &mut ByteSet, text: &[u8]) -> Result<usize, SyntaxFault>
+    ensures front { IfOk result (IsTaken text.now) }
     ensures points { IfOk result (λ taken. (rs : List (ℕ × ℕ)) × Points text.now rs (drop taken text.now)
         × IsAdded set.old set.new rs) }
     ensures refused { IfErr result (λ _. BeginsNo Points text.now) }
-    ensures not_heavy { IsErrOf result EreFault.TooHeavy → ⊥ }
 {
     let (low, low_length) = point(text)?;
     let behind = &text[low_length..];
@@ -122,24 +118,23 @@ fn add_range(set: &mut ByteSet, text: &[u8]) -> Result<usize, EreFault>
     let end = &behind[1..];
     let (high, high_length) = point(end)?;
     if high < low {
-        return Err(EreFault::BadRange);
+        return Err(SyntaxFault::BadRange);
     }
     set.insert_range(low, high);
     Ok(low_length + 1 + high_length)
 }
 
 /// The byte, escape or `[. .]` at the front: its byte, and how many bytes it takes.
-fn point(text: &[u8]) -> Result<(u8, usize), EreFault>
-    ensures front { IfOk result (λ found. IsFront text.now found.1) }
+fn point(text: &[u8]) -> Result<(u8, usize), SyntaxFault>
+    ensures front { IfOk result (λ found. IsTaken text.now found.1) }
     ensures point { IfOk result (λ found. Point text.now found.0 (drop found.1 text.now)) }
     ensures refused { IfErr result (λ _. BeginsNo Point text.now) }
-    ensures not_heavy { IsErrOf result EreFault.TooHeavy → ⊥ }
 {
     let Some(&byte) = text.first() else {
-        return Err(EreFault::UnclosedBracket);
+        return Err(SyntaxFault::UnclosedBracket);
     };
     if byte == b'\n' {
-        return Err(EreFault::UnclosedBracket);
+        return Err(SyntaxFault::UnclosedBracket);
     }
     if byte == b'\\' {
         return Ok(escape(text)?);
@@ -148,27 +143,26 @@ fn point(text: &[u8]) -> Result<(u8, usize), EreFault>
         return named_byte(text, b'.');
     }
     if begins(text, b':') || begins(text, b'=') {
-        return Err(EreFault::BadRange);
+        return Err(SyntaxFault::BadRange);
     }
     Ok((byte, 1))
 }
 
 /// The one byte that `[. .]` or `[= =]` at the front names, and how many bytes the form takes.
-fn named_byte(text: &[u8], mark: u8) -> Result<(u8, usize), EreFault>
+fn named_byte(text: &[u8], mark: u8) -> Result<(u8, usize), SyntaxFault>
     ensures length { IfOk result (λ found. (found.1 ≡ 5) × (5 ≤ length text.now)) }
     ensures named { IfOk result (λ found. names text.now mark ≡ Some found.0) }
     ensures refused { IfErr result (λ _. names text.now mark ≡ None) }
-    ensures not_heavy { IsErrOf result EreFault.TooHeavy → ⊥ }
 {
     if stands_at(text, 2, b'\n') {
-        return Err(EreFault::UnclosedBracket);
+        return Err(SyntaxFault::UnclosedBracket);
     }
     if stands_at(text, 3, mark) && stands_at(text, 4, b']') {
         return Ok((text[2], 5));
     }
     Err(match named_end(text, mark) {
-        None => EreFault::UnclosedBracket,
-        Some(_) => EreFault::UnknownClass,
+        None => SyntaxFault::UnclosedBracket,
+        Some(_) => SyntaxFault::UnknownClass,
     })
 }
 
@@ -209,12 +203,11 @@ static CLASSES: [(&[u8], &[(u8, u8)]); 12] = [
 ];
 
 /// The ranges of a character class.
-fn class(name: &[u8]) -> Result<&'static [(u8, u8)], EreFault>
+fn class(name: &[u8]) -> Result<&'static [(u8, u8)], SyntaxFault>
     ensures ok { IfOk result (λ ranges. class_of name.now ≡ Some ranges.now) }
     ensures refused { IfErr result (λ _. class_of name.now ≡ None) }
-    ensures not_heavy { IsErrOf result EreFault.TooHeavy → ⊥ }
 {
-    ranges_in(&CLASSES, name).ok_or(EreFault::UnknownClass)
+    ranges_in(&CLASSES, name).ok_or(SyntaxFault::UnknownClass)
 }
 
 /// The ranges beside a name in a table.

@@ -1,5 +1,5 @@
 ghost use Rattle.std.specs.Prelude.{◌≡◌};
-ghost use Rattle.ly_ere.specs.Front.{begins, stands_at};
+ghost use Rattle.ly_ere.specs.Elements.{begins, stands_at};
 
 /// Whether this byte stands at an index of a text.
 pub(crate) fn stands_at(text: &[u8], at: usize, byte: u8) -> bool

@@ -1,5 +1,5 @@
 ghost use Rattle.ly_ere.specs.Names.{NameIsDefinition};
-ghost use Rattle.ly_ere.specs.Laws.{PatternIsOne, PhraseIsOne, WinnerIsOne, SplitIsOne};
+ghost use Rattle.ly_ere.specs.Laws.{FrontPatternIsOne, PatternIsOne, PhraseIsOne, WinnerIsOne, SplitIsOne};
 
 /// The rule and the length of a winner are determined.
 pub fn winner_is_one()
@@ -16,7 +16,7 @@ pub fn name_is_definition()
     ensures { NameIsDefinition }
 {}
 
-/// Words are at most one expression.
+/// Elements are at most one expression.
 pub fn phrase_is_one()
     ensures { PhraseIsOne }
 {}
@@ -24,4 +24,9 @@ pub fn phrase_is_one()
 /// A text is at most one pattern.
 pub fn pattern_is_one()
     ensures { PatternIsOne }
+{}
+
+/// A line has at most one pattern at its front.
+pub fn front_pattern_is_one()
+    ensures { FrontPatternIsOne }
 {}

@@ -1,22 +1,25 @@
-ghost use Rattle.std.specs.Prelude.{◌≡◌, ◌≢◌, ℕ, ◌<◌, ◌≤◌, length, Some, None, IfOk, IfErr, IsErrOf};
+ghost use Rattle.std.specs.Prelude.{◌≡◌, ◌≢◌, ℕ, ◌<◌, ◌≤◌, length, Some, None, IfOk, IfErr};
 ghost use Rattle.std.specs.Option.{ForSome};
 ghost use Rattle.ly_ere.specs.Arena.{part_of};
-ghost use Rattle.ly_ere.specs.Groups.{new_group, open_branch, with_atom, with_postfix, with_bar, whole};
-ghost use Rattle.ly_ere.specs.Levels.{IsWithin, Grows, seen, group_of, operated};
-ghost use Rattle.ly_ere.specs.declared.fault.EreFault.TheVariants.{OutOfMemory};
+ghost use Rattle.ly_ere.specs.Private.Groups.{new_group, open_branch, with_atom, with_postfix, with_bar, whole};
+ghost use Rattle.ly_ere.specs.Private.Levels.{IsWithin, IsExtended, seen, group_of, operated};
+ghost use Rattle.ly_ere.specs.declared.fault.ReadFault.TheVariants.{OutOfMemory};
 
 use crate::arena::Arena;
-use crate::fault::EreFault;
+use crate::element::Postfix;
+use crate::fault::{ReadFault, SyntaxFault};
 use crate::node::Node;
-use crate::symbol::Postfix;
 use std::alloc::AllocError;
 
 /// A group that is being read, or the whole expression: its finished branches, and of the open branch
 /// the last piece, which an operator may follow, and all before it. Each is the number of a node.
 #[derive(Clone, Copy)]
 pub(crate) struct Level {
+    /// The finished branches.
     either: Option<usize>,
+    /// The open branch before its last piece.
     branch: Option<usize>,
+    /// The last piece of the open branch.
     piece: Option<usize>,
 }
 
@@ -40,7 +43,7 @@ impl Level {
         ensures parts { IfOk result (IsWithin (length arena.new)) }
         ensures atom { IfOk result (λ l. group_of arena.new l ≡ with_atom (group_of arena.old self)
             (part_of arena.old atom)) }
-        ensures grown { Grows arena.old arena.new }
+        ensures grown { IsExtended arena.old arena.new }
     {
         let branch = self.open_branch(arena)?;
         Ok(Level {
@@ -51,17 +54,20 @@ impl Level {
     }
 
     /// The group with an operator over its last piece.
-    pub(crate) fn with_postfix(self, arena: &mut Arena, postfix: Postfix) -> Result<Level, EreFault>
+    pub(crate) fn with_postfix(
+        self,
+        arena: &mut Arena,
+        postfix: Postfix,
+    ) -> Result<Level, ReadFault>
         requires parts { IsWithin (length arena.old) self }
         ensures parts { IfOk result (IsWithin (length arena.new)) }
         ensures operator { IfOk result (λ l. with_postfix (group_of arena.old self) (operated postfix)
             ≡ Some (group_of arena.new l)) }
         ensures refused { IfErr result (λ e. e ≢ OutOfMemory → with_postfix (group_of arena.old self) (operated postfix)
             ≡ None) }
-        ensures grown { Grows arena.old arena.new }
-        ensures not_heavy { IsErrOf result EreFault.TooHeavy → ⊥ }
+        ensures grown { IsExtended arena.old arena.new }
     {
-        let piece = self.piece.ok_or(EreFault::StrayOperator)?;
+        let piece = self.piece.ok_or(SyntaxFault::StrayOperator)?;
         let over = arena.push(postfix.over(piece))?;
         Ok(Level {
             either: self.either,
@@ -71,13 +77,12 @@ impl Level {
     }
 
     /// The group with its open branch finished, and a new one begun.
-    pub(crate) fn with_bar(self, arena: &mut Arena) -> Result<Level, EreFault>
+    pub(crate) fn with_bar(self, arena: &mut Arena) -> Result<Level, ReadFault>
         requires parts { IsWithin (length arena.old) self }
         ensures parts { IfOk result (IsWithin (length arena.new)) }
         ensures bar { IfOk result (λ l. with_bar (group_of arena.old self) ≡ Some (group_of arena.new l)) }
         ensures refused { IfErr result (λ e. e ≢ OutOfMemory → with_bar (group_of arena.old self) ≡ None) }
-        ensures grown { Grows arena.old arena.new }
-        ensures not_heavy { IsErrOf result EreFault.TooHeavy → ⊥ }
+        ensures grown { IsExtended arena.old arena.new }
     {
         let whole = self.whole(arena)?;
         Ok(Level {
@@ -88,15 +93,14 @@ impl Level {
     }
 
     /// The expression of the whole group.
-    pub(crate) fn whole(self, arena: &mut Arena) -> Result<usize, EreFault>
+    pub(crate) fn whole(self, arena: &mut Arena) -> Result<usize, ReadFault>
         requires parts { IsWithin (length arena.old) self }
         ensures within { IfOk result (λ n. n < length arena.new) }
         ensures whole { IfOk result (λ n. whole (group_of arena.old self) ≡ Some (part_of arena.new n)) }
         ensures refused { IfErr result (λ e. e ≢ OutOfMemory → whole (group_of arena.old self) ≡ None) }
-        ensures grown { Grows arena.old arena.new }
-        ensures not_heavy { IsErrOf result EreFault.TooHeavy → ⊥ }
+        ensures grown { IsExtended arena.old arena.new }
     {
-        let branch = self.open_branch(arena)?.ok_or(EreFault::Empty)?;
+        let branch = self.open_branch(arena)?.ok_or(SyntaxFault::Empty)?;
         match self.either {
             Some(either) => Ok(arena.push(Node::Either(either, branch))?),
             None => Ok(branch),
@@ -108,7 +112,7 @@ impl Level {
         requires parts { IsWithin (length arena.old) self }
         ensures within { IfOk result (λ branch. ForSome branch (λ n. n < length arena.new)) }
         ensures branch { IfOk result (λ branch. seen arena.new branch ≡ open_branch (group_of arena.old self)) }
-        ensures grown { Grows arena.old arena.new }
+        ensures grown { IsExtended arena.old arena.new }
     {
         match (self.branch, self.piece) {
             (Some(branch), Some(piece)) => {

@@ -1,9 +1,16 @@
-//! Extended regular expressions of a lex file: what they mean, and reading them.
+//! From the text of an extended regular expression of a lex file to what it means.
+//!
+//! `read_front` reads the pattern at the front of a line, `read_pattern` the text of a whole pattern. Each answers
+//! exactly the pattern that the grammar gives its text (`pattern_is_one`, `front_pattern_is_one`), and refuses only
+//! what is no pattern or is too heavy. What a pattern matches, and which rule wins at a place of a text, is defined
+//! here too, and determined (`winner_is_one`, `split_is_one`).
+//!
+//! Left out so far: intervals, names in patterns, anchors, trailing context and lists of conditions are refused.
 #![tactic(auto)]
 
 mod arena;
 mod bracket;
-mod extent;
+mod element;
 mod fault;
 mod front;
 mod laws;
@@ -14,16 +21,17 @@ mod pattern;
 mod quoted;
 mod re;
 mod read;
-mod symbol;
 mod weight;
 
 pub use arena::Arena;
-pub use extent::pattern_length;
 pub use fault::EreFault;
-pub use laws::{name_is_definition, pattern_is_one, phrase_is_one, split_is_one, winner_is_one};
+pub use laws::{
+    front_pattern_is_one, name_is_definition, pattern_is_one, phrase_is_one, split_is_one,
+    winner_is_one,
+};
 pub use names::Names;
 pub use node::Node;
 pub use pattern::{Pattern, Rule};
 pub use re::Re;
-pub use read::read_pattern;
+pub use read::{read_front, read_pattern};
 pub use weight::weigh;

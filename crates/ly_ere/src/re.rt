@@ -9,7 +9,9 @@ use std::marker::Model;
 /// expression that its root stands for.
 #[derive(Drop)]
 pub struct Re {
+    /// The nodes.
     arena: Arena,
+    /// The number of the whole expression's node.
     root: usize,
 }
 

@@ -1,31 +1,49 @@
 ghost use Rattle.std.specs.Prelude.{All, [], ◌∷◌, ◌≡◌, ◌≢◌, ℕ, List, ◌<◌, ◌≤◌, Some, None, length, IfOk, IfErr, OnOk};
-ghost use Rattle.std.specs.Prelude.{IsErrOf};
-ghost use Rattle.ly_base.specs.Limits.{pattern_weight_of};
+ghost use Rattle.std.specs.Prelude.{MatchBool};
 ghost use Rattle.ly_ere.specs.Arena.{part_of};
+ghost use Rattle.ly_ere.specs.Elements.{Quoted};
 ghost use Rattle.ly_ere.specs.Expression.{Expression, set};
-ghost use Rattle.ly_ere.specs.Front.{BeginsNo};
 ghost use Rattle.ly_ere.specs.Grammar.{in_order};
-ghost use Rattle.ly_ere.specs.Groups.{closed, step, whole};
-ghost use Rattle.ly_ere.specs.Levels.{Grows, IsWithin, group_of, groups_of, reading_of};
-ghost use Rattle.ly_ere.specs.Patterns.{IsExpression, IsPattern};
-ghost use Rattle.ly_ere.specs.Symbols.{IsWellFormed, IsWord};
-ghost use Rattle.ly_ere.specs.Weight.{weight_of_both};
-ghost use Rattle.ly_ere.specs.Words.{Quoted, Word};
-ghost use Rattle.ly_ere.specs.declared.fault.EreFault.TheVariants.{OutOfMemory};
+ghost use Rattle.ly_ere.specs.Patterns.{IsBehind, IsFrontPattern, IsPattern, IsRefused, pattern_weight};
+ghost use Rattle.ly_ere.specs.Private.Elements.{IsWellFormed, Steps, StepsNowhere};
+ghost use Rattle.ly_ere.specs.Private.Front.{BeginsNo, IsFrontExpression, IsPatternOf};
+ghost use Rattle.ly_ere.specs.Private.Groups.{closed, whole};
+ghost use Rattle.ly_ere.specs.Private.Levels.{IsExtended, IsWithin, group_of, groups_of, reading_of};
+ghost use Rattle.ly_ere.specs.Weight.{weight_of};
+ghost use Rattle.ly_ere.specs.declared.fault.EreFault.TheVariants as ere;
+ghost use Rattle.ly_ere.specs.declared.fault.ReadFault.TheVariants.{OutOfMemory};
 ghost use Rattle.ly_ere.specs.declared.pattern.Pattern.{Pattern};
 
 use crate::arena::Arena;
-use crate::fault::EreFault;
+use crate::element::{Element, next_element};
+use crate::fault::{EreFault, ReadFault, SyntaxFault};
 use crate::level::Level;
 use crate::names::Names;
 use crate::node::Node;
 use crate::pattern::Pattern;
 use crate::quoted::quoted_byte;
 use crate::re::Re;
-use crate::symbol::{Symbol, next_symbol};
 use crate::weight::weigh;
-use ly_base::{ByteSet, Cut, Limits};
+use ly_base::{ByteSet, Cut, Limits, is_blank};
 use std::alloc::{AllocError, Global};
+
+/// Reads the pattern at the front of a line, up to the line's end or the first blank outside strings, bracket
+/// expressions and escapes, and answers how many bytes it takes. One whose weight is above the limit is refused.
+pub fn read_front(
+    alloc: Global,
+    line: &[u8],
+    names: &Names,
+    limits: &Limits,
+) -> Result<(Pattern, usize), EreFault>
+    ensures ok { IfOk result (λ found. IsFrontPattern names.now line.now found.0 found.1) }
+    ensures light { IfOk result (λ found. pattern_weight names.now found.0 ≤ limits.now.pattern_weight) }
+    ensures refused { IfErr result (IsRefused limits.now.pattern_weight names.now
+        (λ p. (n : ℕ) × IsFrontPattern names.now line.now p n)) }
+{
+    let (head, length) = read_expression(alloc, line)?;
+    let pattern = weighed(alloc, head, names, limits)?;
+    Ok((pattern, length))
+}
 
 /// Reads the text of a pattern, and refuses one whose weight is above the limit.
 pub fn read_pattern(
@@ -35,13 +53,24 @@ pub fn read_pattern(
     limits: &Limits,
 ) -> Result<Pattern, EreFault>
     ensures ok { IfOk result (λ p. IsPattern names.now text.now p) }
-    ensures light { IfOk result (λ p. weight_of_both names.now p.head p.tail ≤ pattern_weight_of limits.now) }
-    ensures heavy { IsErrOf result EreFault.TooHeavy → (p : Pattern) × IsPattern names.now text.now p
-        × (pattern_weight_of limits.now < weight_of_both names.now p.head p.tail) }
-    ensures refused { IfErr result (λ e. e ≢ OutOfMemory → (p : Pattern) → IsPattern names.now text.now p
-        → weight_of_both names.now p.head p.tail ≤ pattern_weight_of limits.now → ⊥) }
+    ensures light { IfOk result (λ p. pattern_weight names.now p ≤ limits.now.pattern_weight) }
+    ensures refused { IfErr result (IsRefused limits.now.pattern_weight names.now (IsPattern names.now text.now)) }
 {
-    let head = read_expression(alloc, text)?;
+    let (head, length) = read_expression(alloc, text)?;
+    if length < text.len() {
+        return Err(EreFault::StrayOperator);
+    }
+    weighed(alloc, head, names, limits)
+}
+
+/// The pattern that is an expression, if it isn't too heavy.
+fn weighed(alloc: Global, head: Re, names: &Names, limits: &Limits) -> Result<Pattern, EreFault>
+    ensures ok { IfOk result (IsPatternOf head) }
+    ensures light { IfOk result (λ p. pattern_weight names.now p ≤ limits.now.pattern_weight) }
+    ensures only { IfErr result (λ fault. fault ≢ ere.OutOfMemory → fault ≡ ere.TooHeavy) }
+    ensures heavy { IfErr result (λ fault. fault ≡ ere.TooHeavy
+        → limits.now.pattern_weight < weight_of names.now head) }
+{
     let Some(_) = weigh(alloc, &head, names, limits.pattern_weight())? else {
         return Err(EreFault::TooHeavy);
     };
@@ -53,67 +82,77 @@ pub fn read_pattern(
     })
 }
 
-/// Reads an expression, whose text is all of `text`. Open groups stand on a stack of the reader's own.
-fn read_expression(alloc: Global, text: &[u8]) -> Result<Re, EreFault>
-    ensures ok { IfOk result (λ re. IsExpression text.now re) }
-    ensures refused { IfErr result (λ e. e ≢ OutOfMemory → (re : Expression) → IsExpression text.now re → ⊥) }
-    ensures not_heavy { IsErrOf result EreFault.TooHeavy → ⊥ }
+/// Reads the expression at the front of a line, and answers how many bytes it takes. Open groups stand on a stack
+/// of the reader's own.
+fn read_expression(alloc: Global, line: &[u8]) -> Result<(Re, usize), ReadFault>
+    ensures ok { IfOk result (λ found. IsFrontExpression line.now found.0 found.1) }
+    ensures refused { IfErr result (λ e. e ≢ OutOfMemory → (re : Expression) (n : ℕ) → IsFrontExpression line.now re n
+        → ⊥) }
 {
     let mut arena = Arena::new(alloc);
     let mut outer = Vec::new(alloc);
     let mut level = Level::new();
-    let mut rest = text;
-    while !rest.is_empty() {
-        let (symbol, length) = next_symbol(rest)?;
-        level = with_symbol(&mut arena, &mut outer, level, symbol)?;
-        rest = &rest[length..];
+    let mut at = 0;
+    while !is_behind(&line[at..]) {
+        let (element, length) = next_element(&line[at..])?;
+        level = with_element(&mut arena, &mut outer, level, element)?;
+        at += length;
     }
     if !outer.is_empty() {
-        return Err(EreFault::UnclosedGroup);
+        return Err(ReadFault::Syntax(SyntaxFault::UnclosedGroup));
     }
     let root = level.whole(&mut arena)?;
-    Ok(Re::of(arena, root))
+    Ok((Re::of(arena, root), at))
 }
 
-/// The innermost group after one more symbol; `outer` holds the groups round it.
-fn with_symbol(
+/// Whether this is what may stand behind a pattern on its line.
+fn is_behind(rest: &[u8]) -> bool
+    ensures { MatchBool result (IsBehind rest.now) (IsBehind rest.now → ⊥) }
+{
+    match rest.first() {
+        None => true,
+        Some(first) => is_blank(*first),
+    }
+}
+
+/// The innermost group after one more element; `outer` holds the groups round it.
+fn with_element(
     arena: &mut Arena,
     outer: &mut Vec<Level>,
     level: Level,
-    symbol: Symbol<'_>,
-) -> Result<Level, EreFault>
+    element: Element<'_>,
+) -> Result<Level, ReadFault>
     requires parts { IsWithin (length arena.old) level }
     requires outer_parts { All (IsWithin (length arena.old)) outer.old.items }
-    requires formed { IsWellFormed symbol }
+    requires formed { IsWellFormed element }
     ensures parts { IfOk result (IsWithin (length arena.new)) }
     ensures outer_parts { OnOk result (All (IsWithin (length arena.new)) outer.new.items) }
-    ensures step { IfOk result (λ l. (w : Word) × IsWord symbol.entry w
-        × (step w (reading_of arena.old outer.old.items level) ≡ Some (reading_of arena.new outer.new.items l))) }
-    ensures refused { IfErr result (λ e. e ≢ OutOfMemory → (w : Word) → IsWord symbol.entry w
-        → step w (reading_of arena.old outer.old.items level) ≡ None) }
-    ensures not_heavy { IsErrOf result EreFault.TooHeavy → ⊥ }
+    ensures step { IfOk result (λ l. Steps element.entry (reading_of arena.old outer.old.items level)
+        (reading_of arena.new outer.new.items l)) }
+    ensures refused { IfErr result (λ e. e ≢ OutOfMemory
+        → StepsNowhere element.entry (reading_of arena.old outer.old.items level)) }
 {
-    match symbol {
-        Symbol::Set(set) => {
+    match element {
+        Element::OneOf(set) => {
             let atom = arena.push(Node::Set(set))?;
             Ok(level.with_atom(arena, atom)?)
         }
-        Symbol::Text(inside) => {
+        Element::String(inside) => {
             let atom = push_string(arena, inside)?;
             Ok(level.with_atom(arena, atom)?)
         }
-        Symbol::Open => {
+        Element::Opening => {
             outer.push(level)?;
             Ok(Level::new())
         }
-        Symbol::Close => close(arena, outer, level),
-        Symbol::Bar => level.with_bar(arena),
-        Symbol::Postfix(postfix) => level.with_postfix(arena, postfix),
+        Element::Closing => close(arena, outer, level),
+        Element::Bar => level.with_bar(arena),
+        Element::Postfix(postfix) => level.with_postfix(arena, postfix),
     }
 }
 
 /// The group round a group that ends, with that group as its next atom.
-fn close(arena: &mut Arena, outer: &mut Vec<Level>, level: Level) -> Result<Level, EreFault>
+fn close(arena: &mut Arena, outer: &mut Vec<Level>, level: Level) -> Result<Level, ReadFault>
     requires parts { IsWithin (length arena.old) level }
     requires outer_parts { All (IsWithin (length arena.old)) outer.old.items }
     ensures parts { IfOk result (IsWithin (length arena.new)) }
@@ -122,23 +161,21 @@ fn close(arena: &mut Arena, outer: &mut Vec<Level>, level: Level) -> Result<Leve
         ≡ Some (reading_of arena.new outer.new.items l)) }
     ensures refused { IfErr result (λ e. e ≢ OutOfMemory
         → closed (groups_of arena.old outer.old.items) (whole (group_of arena.old level)) ≡ None) }
-    ensures not_heavy { IsErrOf result EreFault.TooHeavy → ⊥ }
 {
     let Some(around) = outer.pop() else {
-        return Err(EreFault::StrayOperator);
+        return Err(ReadFault::Syntax(SyntaxFault::StrayOperator));
     };
     let atom = level.whole(arena)?;
     Ok(around.with_atom(arena, atom)?)
 }
 
 /// Adds a string's bytes, one after another; `behind` is what stands behind its opening quote.
-fn push_string(arena: &mut Arena, behind: &[u8]) -> Result<usize, EreFault>
+fn push_string(arena: &mut Arena, behind: &[u8]) -> Result<usize, ReadFault>
     ensures within { IfOk result (λ n. n < length arena.new) }
-    ensures grown { Grows arena.old arena.new }
+    ensures grown { IsExtended arena.old arena.new }
     ensures string { IfOk result (λ n. (bs : List ℕ) × (rest : List ℕ) × Quoted behind.now bs rest
         × (part_of arena.new n ≡ in_order bs)) }
     ensures refused { IfErr result (λ e. e ≢ OutOfMemory → BeginsNo Quoted behind.now) }
-    ensures not_heavy { IsErrOf result EreFault.TooHeavy → ⊥ }
 {
     let Some((byte, mut at)) = quoted_byte(behind)? else {
         return Ok(arena.push(Node::Empty)?);
@@ -155,7 +192,7 @@ fn push_string(arena: &mut Arena, behind: &[u8]) -> Result<usize, EreFault>
 /// Adds a byte of a string.
 fn push_byte(arena: &mut Arena, byte: u8) -> Result<usize, AllocError>
     ensures within { IfOk result (λ n. n < length arena.new) }
-    ensures grown { Grows arena.old arena.new }
+    ensures grown { IsExtended arena.old arena.new }
     ensures byte { IfOk result (λ n. part_of arena.new n ≡ set (byte ∷ [])) }
 {
     arena.push(Node::Set(ByteSet::of(byte)))

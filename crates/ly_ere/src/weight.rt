@@ -2,7 +2,8 @@ ghost use Rattle.std.specs.Prelude.{◌≡◌, ℕ, ◌<◌, ◌≤◌, ◌+◌,
 ghost use Rattle.std.specs.Prelude.{MatchOption};
 ghost use Rattle.ly_ere.specs.Arena.{expression_of, expressions, FitsAt, IsOrdered};
 ghost use Rattle.ly_ere.specs.Expression.{Expression, empty};
-ghost use Rattle.ly_ere.specs.Weight.{named_weight, repeated_weight, weight_of, weight_under};
+ghost use Rattle.ly_ere.specs.Private.Weights.{weight_at};
+ghost use Rattle.ly_ere.specs.Weight.{repeated_weight, weight_of, weight_under};
 
 use crate::names::Names;
 use crate::node::Node;
@@ -15,13 +16,7 @@ pub fn weigh(alloc: Global, re: &Re, names: &Names, most: u32) -> Result<Option<
     ensures { IfOk result (λ weight. MatchOption weight (most < weight_of names.now re.now)
         (λ w. (w ≡ weight_of names.now re.now) × (w ≤ most))) }
 {
-    let over = u64::from(most) + 1;
-    let mut named = Vec::new(alloc);
-    for definition in names.definitions() {
-        let weight = capped_weight(alloc, definition, &named, over)?;
-        named.push(weight)?;
-    }
-    let weight = capped_weight(alloc, re, &named, over)?;
+    let weight = capped_weight(alloc, re, names.weights(), u64::from(most) + 1)?;
     Ok(at_most(weight, most))
 }
 
@@ -35,14 +30,11 @@ fn at_most(weight: u64, most: u32) -> Option<u32>
     }
 }
 
-/// The weight of an expression by the capped weights of the definitions, or the cap if it is less.
-fn capped_weight(alloc: Global, re: &Re, named: &[u64], cap: u64) -> Result<u64, AllocError>
+/// The weight of an expression by the weights of the definitions, or the cap if it is less.
+fn capped_weight(alloc: Global, re: &Re, named: &[u32], cap: u64) -> Result<u64, AllocError>
     requires cap { cap ≤ 2 ^ 32 }
     requires some { 0 < cap }
-    requires named { (x : ℕ) → slice_index_or named.now x 0 ≤ cap }
-    ensures capped { IfOk result (λ w. w ≤ cap) }
-    ensures weight { IfOk result (λ w. (weight : ℕ → ℕ) → ((x : ℕ) → slice_index_or named.now x 0 ≡ min (weight x) cap)
-        → w ≡ min (weight_under weight re.now) cap) }
+    ensures { IfOk result (λ w. w ≡ min (weight_under (weight_at named.now) re.now) cap) }
 {
     let (nodes, root) = re.nodes();
     let weights = capped_weights(alloc, nodes, named, cap)?;
@@ -53,18 +45,15 @@ fn capped_weight(alloc: Global, re: &Re, named: &[u64], cap: u64) -> Result<u64,
 fn capped_weights(
     alloc: Global,
     nodes: &[Node],
-    named: &[u64],
+    named: &[u32],
     cap: u64,
 ) -> Result<Vec<u64>, AllocError>
     requires ordered { IsOrdered nodes.now }
     requires cap { cap ≤ 2 ^ 32 }
     requires some { 0 < cap }
-    requires named { (x : ℕ) → slice_index_or named.now x 0 ≤ cap }
     ensures counted { IfOk result (λ weights. length weights.items ≡ length nodes.now) }
-    ensures capped { IfOk result (λ weights. (k : ℕ) → slice_index_or weights.items k 0 ≤ cap) }
-    ensures weights { IfOk result (λ weights. (weight : ℕ → ℕ)
-        → ((x : ℕ) → slice_index_or named.now x 0 ≡ min (weight x) cap)
-        → weights.items ≡ map (λ e. min (weight_under weight e) cap) (expressions nodes.now)) }
+    ensures weights { IfOk result (λ weights. weights.items
+        ≡ map (λ e. min (weight_under (weight_at named.now) e) cap) (expressions nodes.now)) }
 {
     let mut weights = Vec::new(alloc);
     for node in nodes {
@@ -75,24 +64,22 @@ fn capped_weights(
 }
 
 /// The capped weight of a node's expression, by those of the nodes before it.
-fn node_weight(node: Node, weights: &[u64], named: &[u64], cap: u64) -> u64
+fn node_weight(node: Node, weights: &[u64], named: &[u32], cap: u64) -> u64
     requires fits { FitsAt (length weights.now) node }
     requires cap { cap ≤ 2 ^ 32 }
     requires some { 0 < cap }
     requires weights { (k : ℕ) → slice_index_or weights.now k 0 ≤ cap }
-    requires named { (x : ℕ) → slice_index_or named.now x 0 ≤ cap }
     ensures capped { result ≤ cap }
-    ensures weight { (done : List Expression) (weight : ℕ → ℕ)
-        → weights.now ≡ map (λ e. min (weight_under weight e) cap) done
-        → ((x : ℕ) → slice_index_or named.now x 0 ≡ min (weight x) cap)
-        → result ≡ min (weight_under weight (expression_of done node)) cap }
+    ensures weight { (done : List Expression)
+        → weights.now ≡ map (λ e. min (weight_under (weight_at named.now) e) cap) done
+        → result ≡ min (weight_under (weight_at named.now) (expression_of done node)) cap }
 {
     match node {
         Node::Set(_) | Node::Empty => 1,
         Node::Concat(a, b) | Node::Either(a, b) => (weights[a] + weights[b]).min(cap),
         Node::Star(a) | Node::Plus(a) | Node::Optional(a) => weights[a],
         Node::Repeat { least, most, part } => repeated(least, most, weights[part]).min(cap),
-        Node::Name(x) => named.get(x).copied().unwrap_or(0),
+        Node::Name(x) => u64::from(named.get(x).copied().unwrap_or(0)).min(cap),
     }
 }
 

@@ -6,11 +6,13 @@ use Rattle.std.specs.Option.{MatchOption}
 use denote.Ref.{Bor}
 use lib.Chars.{codes}
 use Rattle.ly_lexread.specs.Gap.{Gap}
-use Rattle.ly_lexread.specs.Words.{Word, semicolon, name, literal, Front, IsFront, Wording}
+use Rattle.ly_lexread.specs.Words.{Word, semicolon, name, literal, Front, Wording}
 use Rattle.ly_lexread.specs.declared.words.NextWord.{NextWord}
 use Rattle.ly_lexread.specs.declared.words.NextWord.TheVariants.{End, Semicolon, Name, Byte, Other}
 use Rattle.ly_lexread.specs.declared.action.Value.{Value}
-use Rattle.ly_lexread.specs.Action.{value_meaning, Meaning, nothing, StandsFor, Say, Says, Returns}
+use Rattle.ly_lexread.specs.Action.{Meaning, nothing, StandsFor, Say, Says}
+use Rattle.ly_lexread.specs.Private.Action.{Returns, value_meaning}
+use Rattle.ly_lexread.specs.Private.Words.{IsFront}
 use Rattle.ly_lexread.proofs.WordLemmas.{front_one, front_none, wording_one}
 
 -- a text with a word in front has that word first

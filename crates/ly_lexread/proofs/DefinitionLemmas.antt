@@ -2,7 +2,7 @@
 use Rattle.std.specs.Bool.{MatchBool}
 use Rattle.std.proofs.lemmas.Bool.{false≢true}
 use Rattle.std.proofs.Common.{◌≡◌, ℕ, List, [], ◌∷◌, ◌++◌, Bool, true, false, length, drop, refl, sym, ap, ◌∙◌, subst}
-use Rattle.ly_lexread.specs.Gap.{is_blank}
+use Rattle.ly_base.specs.Blank.{is_blank}
 use Rattle.ly_lexread.specs.Definitions.{BeginsWith, IsMark, IsUnused, Definitions, mark, unused}
 
 -- what `starts_with` answers

@@ -1,14 +1,11 @@
 -- What a lex file says is determined.
-use Rattle.std.proofs.Common.{◌≡◌, ℕ, zero, suc, Some, None, List, [], ◌∷◌, ◌++◌, false, refl, sym, ap, ◌∙◌, subst}
-use Rattle.std.proofs.lemmas.List.{append_cancel_left}
+use Rattle.std.proofs.Common.{◌≡◌, ℕ, zero, suc, Some, None, List, [], ◌∷◌, drop, false, refl, sym, ◌∙◌, subst}
 use Rattle.std.specs.List.{slice_get}
 use Rattle.ly_base.specs.declared.cut.Cut.TheVariants.{Whole}
 use Rattle.ly_ere.specs.Expression.{Expression}
 use Rattle.ly_ere.specs.Winner.{AreCut, CutHolds}
 use Rattle.ly_ere.specs.declared.pattern.Rule.{Rule}
-use Rattle.ly_ere.specs.Patterns.{IsPattern}
-use Rattle.ly_ere.proofs.ExtentLemmas.{extent_one}
-use Rattle.ly_ere.proofs.WordLemmas.{pattern_one}
+use Rattle.ly_ere.proofs.PatternLaws.{front_pattern_one}
 use Rattle.ly_lexread.specs.declared.action.Action.{Action}
 use Rattle.ly_lexread.specs.declared.file.LexFile.{LexFile}
 use Rattle.ly_lexread.specs.Action.{meaning_of, IsAction}
@@ -36,7 +33,7 @@ rules_marked names left rest rs xs line e m (mark l ls k) = (refl, refl)
 rules_marked names left rest rs xs line e m (unused l ls ps qs u d)
     = absurd (mark_used line m (subst IsUnused (cc e) u))
 rules_marked names left rest rs xs line e m (rule l ls r a ps qs v d)
-    = absurd (v.parts.no_mark (subst IsMark (sym (cc e)) m))
+    = absurd (v.may_be.no_mark (subst IsMark (sym (cc e)) m))
 
 -- what a line says is determined
 record AreEqual (r s : Rule) (a b : Action) : Type 0 where
@@ -48,19 +45,13 @@ record AreEqual (r s : Rule) (a b : Action) : Type 0 where
 line_one : (names : List Expression) (line : List ℕ) (r s : Rule) (a b : Action) → IsRuleLine names line r a
     → IsRuleLine names line s b → AreEqual r s a b
 line_one names line r s a b v w =
-    let whole : v.text ++ v.behind ≡ w.text ++ w.behind = sym v.parts.together ∙ w.parts.together in
-    let text : v.text ≡ w.text
-    = extent_one v.text v.behind w.text w.behind v.is_pattern.head.0 w.is_pattern.head.0 v.is_pattern.head.1
-    w.is_pattern.head.1 v.parts.follows w.parts.follows whole in
-    let behind : v.behind ≡ w.behind
-    = append_cancel_left v.text v.behind w.behind (whole ∙ ap (λ t. t ++ w.behind) (sym text)) in
-    let action : IsAction v.behind b = subst (λ t. IsAction t b) (sym behind) w.is_action in
+    let same = front_pattern_one names line r.pattern s.pattern v.taken w.taken v.is_pattern w.is_pattern in
+    let action : IsAction (drop v.taken line) b = rw same.1 w.is_action in
     record {
-      pattern = pattern_one names v.text r.pattern s.pattern v.is_pattern
-          (subst (λ t. IsPattern names t s.pattern) (sym text) w.is_pattern);
+      pattern = same.0;
       active = v.is_active ∙ sym w.is_active;
       begin = v.is_action.0 ∙ sym action.0;
-      returns = says_one v.behind (meaning_of a.returns) (meaning_of b.returns) v.is_action.1 action.1;
+      returns = says_one (drop v.taken line) (meaning_of a.returns) (meaning_of b.returns) v.is_action.1 action.1;
     }
 
 rules_one : (names : List Expression) (left : List (List ℕ)) (rs ss : List Rule) (xs ys : List Action)
@@ -72,7 +63,7 @@ rules_one names left rs ss xs ys (mark l ls m) d = let e = rules_marked names (l
 rules_one names left rs ss xs ys (unused l ls ps qs u c) d
     = rules_one names ls rs ss xs ys c (rules_behind names (l ∷ ls) ls ss ys l refl u d)
 rules_one names left rs ss xs ys (rule l ls r a ps qs v c) d =
-    let f = in_front names (l ∷ ls) ls ss ys l refl v.parts.no_mark v.parts.is_used d in
+    let f = in_front names (l ∷ ls) ls ss ys l refl v.may_be.no_mark v.may_be.is_used d in
     let same = line_one names l r f.one a f.action v f.reads in
     let rest = rules_one names ls ps f.more qs f.actions c f.behind in (
       subst (AreSameRules (r ∷ ps)) (sym f.these) (same.pattern, same.active, rest.0),
@@ -106,9 +97,9 @@ rule_plain names lines rs xs i r (mark l ls m) e = cc e
 rule_plain names lines rs xs i r (unused l ls ps qs u d) e = rule_plain names ls ps qs i r d e
 rule_plain names lines rs xs zero r (rule l ls s a ps qs v d) e = let same : s ≡ r = cc e
     in subst IsPlain same (record {
-      anywhere = v.is_pattern.anywhere;
-      no_tail = v.is_pattern.no_tail;
-      no_cut = v.is_pattern.no_cut;
+      anywhere = v.is_pattern.is_pattern.anywhere;
+      no_tail = v.is_pattern.is_pattern.no_tail;
+      no_cut = v.is_pattern.is_pattern.no_cut;
       active = v.is_active;
     })
 rule_plain names lines rs xs (suc i) r (rule l ls s a ps qs v d) e = rule_plain names ls ps qs i r d e

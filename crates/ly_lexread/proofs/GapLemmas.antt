@@ -5,7 +5,9 @@ use denote.Ref.{Bor}
 use Rattle.std.proofs.Common.{Option, Some, None, ◌≡◌, ℕ, ◌≤◌, List, [], ◌∷◌, ◌++◌, IsTrue, take, drop}
 use Rattle.std.proofs.Common.{take-append-drop, length-take, refl, sym, ap, ◌∙◌, subst, length, arith, append_assoc}
 use Rattle.std.proofs.Common.{length-append}
-use Rattle.ly_lexread.specs.Gap.{is_blank, HasNoEnd, Gap, none, blank, comment, Stops, GapBefore, CommentBefore}
+use Rattle.ly_base.specs.Blank.{is_blank}
+use Rattle.ly_lexread.specs.Gap.{HasNoEnd, Gap, none, blank, comment, GapBefore}
+use Rattle.ly_lexread.specs.Private.Gap.{CommentBefore, GapEnds}
 
 pub Gap-append : (g h : List ℕ) → Gap g → Gap h → Gap (g ++ h)
 Gap-append g h none b = b
@@ -48,7 +50,7 @@ no_slash : (b : ℕ) → IsTrue (is_blank b) → b ≡ 47 → ⊥
 no_slash b h f = false≢true (subst IsBlankByte f h)
 
 -- what stands behind a gap is determined
-pub gap_one : (g h r s : List ℕ) → Gap g → Gap h → Stops r → Stops s → g ++ r ≡ h ++ s → r ≡ s
+pub gap_one : (g h r s : List ℕ) → Gap g → Gap h → GapEnds r → GapEnds s → g ++ r ≡ h ++ s → r ≡ s
 gap_one g h r s none none a b e = e
 gap_one g h r s none (blank x u x_blank u_gap) a b e = absurd (a.no_blank x (u ++ s) x_blank e)
 gap_one g h r s none (comment inside u no_end u_gap) a b e
@@ -67,7 +69,7 @@ gap_one g h r s (comment inside u no_end u_gap) (comment inside' v no_end' v_gap
 -- behind `/*` the comment decides
 pub opened : (text inside : List ℕ) (r : Option (Bor (List ℕ))) → text ≡ 47 ∷ 42 ∷ inside
     → MatchOption r (HasNoEnd inside) (λ rest. CommentBefore inside rest.now)
-    → MatchOption r (Stops text) (λ rest. GapBefore text rest.now)
+    → MatchOption r (GapEnds text) (λ rest. GapBefore text rest.now)
 opened text inside None e h = record {
   no_blank = λ b s x_blank f. no_slash b x_blank (cc);
   no_comment = λ i s f. h i s (cc);

@@ -1,4 +1,5 @@
 pub mod ActionLemmas
+pub mod AnswerLemmas
 pub mod DefinitionLemmas
 pub mod FileLemmas
 pub mod FrontLemmas

@@ -1,12 +1,9 @@
 -- The rules, a line after another.
-use Rattle.std.proofs.lemmas.List.{append-nil, take_at, drop_at}
-use Rattle.std.proofs.Common.{◌≡◌, inl, inr, ℕ, Option, Some, None, append_assoc, List, [], ◌∷◌, ◌++◌, length, take}
-use Rattle.std.proofs.Common.{drop, refl, sym, ap, ◌∙◌, subst}
+use Rattle.std.proofs.lemmas.List.{append-nil}
+use Rattle.std.proofs.Common.{◌≡◌, inl, inr, ℕ, Option, Some, None, append_assoc, List, [], ◌∷◌, ◌++◌}
+use Rattle.std.proofs.Common.{refl, sym, ap, ◌∙◌, subst}
 use Rattle.std.specs.Option.{MatchOption}
 use Rattle.ly_ere.specs.Expression.{Expression}
-use Rattle.ly_ere.specs.Extent.{IsBehind}
-use Rattle.ly_ere.specs.Patterns.{IsPattern}
-use Rattle.ly_ere.specs.Words.{Word, Worded}
 use Rattle.ly_ere.specs.declared.pattern.Rule.{Rule}
 use Rattle.ly_lexread.specs.declared.action.Action.{Action}
 use Rattle.ly_lexread.specs.Action.{IsAction}
@@ -22,7 +19,7 @@ rules_behind names left rest rs xs line e u (mark l ls m) = absurd (mark_used l 
 rules_behind names left rest rs xs line e u (unused l ls ps qs v d) = let same : ls ≡ rest = cc e
     in subst (λ x. Rules names x rs xs) same d
 rules_behind names left rest rs xs line e u (rule l ls r a ps qs v d)
-    = absurd (v.parts.is_used (subst IsUnused (cc e) u))
+    = absurd (v.may_be.is_used (subst IsUnused (cc e) u))
 
 -- a rule in front
 pub record InFront (names : List Expression) (line : List ℕ) (rest : List (List ℕ)) (rs : List Rule)
@@ -83,25 +80,7 @@ pub rules_whole : (names : List Expression) (lines : List (List ℕ)) (rules : L
 rules_whole names lines rules actions d = subst (λ i. Rules names lines i actions) (append-nil rules)
     (subst (λ i. Rules names lines (rules ++ []) i) (append-nil actions) d)
 
--- where the pattern ends, if it is a rule's line
-pub record IsSplit (text behind : List ℕ) (names : List Expression) (r : Rule) (a : Action) : Type 0 where
-  pub is_pattern : IsPattern names text r.pattern
-  pub is_action : IsAction behind a
-
-pub split_at_end : (names : List Expression) (line text behind : List ℕ) (n : ℕ) (r : Rule) (a : Action)
-    → ((front more : List ℕ) (words : List Word) → line ≡ front ++ more → IsBehind more → Worded front words
-    → n ≡ length front) → text ≡ take n line → behind ≡ drop n line → IsRuleLine names line r a
-    → IsSplit text behind names r a
-split_at_end names line text behind n r a exact e f v =
-    let words = v.is_pattern.head in
-    let here : n ≡ length v.text = exact v.text v.behind words.0 v.parts.together v.parts.follows words.1 in
-    let these : take n line ≡ v.text = ap (take n) v.parts.together ∙ take_at v.text v.behind n (sym here) in
-    let those : drop n line ≡ v.behind = ap (drop n) v.parts.together ∙ drop_at v.text v.behind n (sym here) in
-    record {
-      is_pattern = subst (λ t. IsPattern names t r.pattern) (sym (e ∙ these)) v.is_pattern;
-      is_action = subst (λ t. IsAction t a) (sym (f ∙ those)) v.is_action;
-    }
-
+-- what an action that was read says
 pub read_some : (text : List ℕ) (o : Option Action) (a : Action) → o ≡ Some a
     → MatchOption o ((b : Action) → IsAction text b → ⊥) (IsAction text) → IsAction text a
 read_some text o a e h = subst (λ i. MatchOption i ((b : Action) → IsAction text b → ⊥) (IsAction text)) e h
@@ -123,4 +102,4 @@ heavy_behind most names left rest line e m h = subst (HasHeavyLine most names) (
 
 pub heavy_here : (most : ℕ) (names : List Expression) (left rest : List (List ℕ)) (line : List ℕ) → left ≡ line ∷ rest
     → IsHeavyLine most names line → HasHeavyLine most names left
-heavy_here most names left rest line e h = subst (HasHeavyLine most names) (sym e) (h.parts.no_mark, inl h)
+heavy_here most names left rest line e h = subst (HasHeavyLine most names) (sym e) (h.may_be.no_mark, inl h)

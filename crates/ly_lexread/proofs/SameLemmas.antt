@@ -2,10 +2,14 @@
 use Rattle.std.proofs.Common.{◌≡◌, ℕ, zero, suc, List, [], ◌∷◌, Some, Bool, Option, sym, subst}
 use Rattle.std.specs.Prelude.{Contains, IsTrue, slice_get}
 use Rattle.ly_ere.specs.Expression.{Expression}
-use Rattle.ly_ere.specs.Winner.{Candidate, Fits, Winner}
+use Rattle.ly_ere.specs.Winner.{Candidate, FitsPattern, Winner}
 use Rattle.ly_ere.specs.declared.pattern.Rule.{Rule}
 use Rattle.ly_lexread.specs.LexText.{AreSameRules}
-use Rattle.ly_lexread.specs.Lexing.{Place, Match, End, clean, stuck, Lexing, EndsAt, place_after}
+use Rattle.ly_base.specs.Lexed.{Place, place_after}
+use Rattle.ly_base.specs.declared.lexeme.End.{End}
+use Rattle.ly_base.specs.declared.lexeme.End.TheVariants.{Clean, Stuck, BadCut}
+use Rattle.ly_base.specs.declared.lexeme.Lexeme.{Lexeme}
+use Rattle.ly_lexread.specs.Lexing.{Lexing, EndsAt}
 
 pub same_back : (rs ss : List Rule) → AreSameRules rs ss → AreSameRules ss rs
 same_back [] [] h = tt
@@ -26,12 +30,14 @@ module _ (names : List Expression) (rs ss : List Rule) (same : AreSameRules rs s
     (rest : List ℕ) where
   candidate_under : (i n m : ℕ) → Candidate names rs condition line rest i n m
       → Candidate names ss condition line rest i n m
-  candidate_under i n m c = let s = same_rule rs ss i c.rule same c.is_rule in record {
+  candidate_under i n m c = let s = same_rule rs ss i c.rule same c.is_active.is_rule in record {
     rule = s.0;
-    is_rule = s.1;
-    is_active = subst (λ (items : List ℕ). Contains items condition) s.3 c.is_active;
-    at_line = subst (λ p. IsTrue p.line_start → IsTrue line) s.2 c.at_line;
-    fits = subst (λ p. Fits names p rest n m) s.2 c.fits;
+    is_active = record {
+      is_rule = s.1;
+      in_condition = subst (λ (items : List ℕ). Contains items condition) s.3 c.is_active.in_condition;
+      at_line = subst (λ p. IsTrue p.line_start → IsTrue line) s.2 c.is_active.at_line;
+    };
+    fits = subst (λ p. FitsPattern names p rest n m) s.2 c.fits;
   }
 
 module _ (names : List Expression) (rs ss : List Rule) (same : AreSameRules rs ss) where
@@ -44,8 +50,9 @@ module _ (names : List Expression) (rs ss : List Rule) (same : AreSameRules rs s
   }
 
   ends_under : (p : Place) (e : End) → EndsAt names rs p e → EndsAt names ss p e
-  ends_under p clean h = h
-  ends_under p (stuck b) h
+  ends_under p Clean h = h
+  ends_under p (BadCut b) h = h
+  ends_under p (Stuck b) h
       = (
         h.0,
         h.1,
@@ -53,10 +60,10 @@ module _ (names : List Expression) (rs ss : List Rule) (same : AreSameRules rs s
       )
 
   -- where the actions set the same conditions too
-  pub lexing_under : (next then : ℕ → Option ℕ) → ((i : ℕ) → next i ≡ then i) → (p : Place) (ts : List Match) (e : End)
+  pub lexing_under : (next then : ℕ → Option ℕ) → ((i : ℕ) → next i ≡ then i) → (p : Place) (ts : List Lexeme) (e : End)
       → Lexing names rs next p ts e → Lexing names ss then p ts e
   lexing_under next then sets p [] e h = ends_under p e h
   lexing_under next then sets p (t ∷ ts) e h = (
-    winner_under p.condition p.line p.rest t.rule t.matched t.taken h.0,
-    lexing_under next then sets (place_after then p t) ts e (rw (sets t.rule) at h.1),
+    winner_under p.condition p.line p.rest t.rule.0 t.matched t.taken h.0,
+    lexing_under next then sets (place_after then p t) ts e (rw (sets t.rule.0) at h.1),
   )

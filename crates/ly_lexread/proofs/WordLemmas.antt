@@ -7,8 +7,11 @@ use Rattle.std.proofs.lemmas.Bool.Decides.{nat_tests}
 use Rattle.std.proofs.lemmas.List.{append-nil}
 use Rattle.ly_base.specs.Literals.{Literal}
 use Rattle.ly_lexread.proofs.LiteralLemmas.{literal_one}
-use Rattle.ly_lexread.specs.Gap.{is_blank, Gap, GapBefore, Stops}
-use Rattle.ly_lexread.specs.Words.{Word, semicolon, name, literal, starts_name, continues_name, name_length}
+use Rattle.ly_base.specs.Blank.{is_blank}
+use Rattle.ly_lexread.specs.Gap.{Gap, GapBefore}
+use Rattle.ly_lexread.specs.Private.Gap.{GapEnds}
+use Rattle.ly_lexread.specs.Private.Words.{name_length}
+use Rattle.ly_lexread.specs.Words.{Word, semicolon, name, literal, starts_name, continues_name}
 use Rattle.ly_lexread.specs.Words.{AreContinuing, IsName, NameEnds, Begins, Front, Wording}
 use Rattle.ly_lexread.proofs.GapLemmas.{gap_one}
 
@@ -85,10 +88,10 @@ starts_no_slash semicolon b e h = omega (arith, e, h)
 starts_no_slash (name n) b e h = false≢true (ap starts_name (sym h) ∙ e)
 starts_no_slash (literal c) b e h = omega (arith, e, h)
 
-begins_stops : (text : List ℕ) (x : Word) (rest : List ℕ) → Begins text x rest → Stops text
+begins_stops : (text : List ℕ) (x : Word) (rest : List ℕ) → Begins text x rest → GapEnds text
 begins_stops text x rest h = at (begins_at text x rest h)
   where
-    at : (b : ℕ) × (s : List ℕ) × (text ≡ b ∷ s) × Starts x b → Stops text
+    at : (b : ℕ) × (s : List ℕ) × (text ≡ b ∷ s) × Starts x b → GapEnds text
     at (b, s, e, starts) = record {
       no_blank = λ c t c_blank f. let same : c ≡ b = cc
           in starts_no_blank x b starts (subst (λ i. is_blank i ≡ true) same c_blank);
@@ -96,7 +99,7 @@ begins_stops text x rest h = at (begins_at text x rest h)
     }
 
 -- the word that stands behind a gap
-pub front_at : (text word : List ℕ) (x : Word) (rest : List ℕ) → GapBefore text word → Stops word → Front text x rest
+pub front_at : (text word : List ℕ) (x : Word) (rest : List ℕ) → GapBefore text word → GapEnds word → Front text x rest
     → Begins word x rest
 front_at text word x rest before stops (u, other, begins)
     = subst (λ w. Begins w x rest)
@@ -137,7 +140,7 @@ begins_one u (literal c) (literal d) r s a b = let e = literal_one u c d r s a b
 pub front_one : (text : List ℕ) (x y : Word) (r s : List ℕ) → Front text x r → Front text y s → (x ≡ y) × (r ≡ s)
 front_one text x y r s (u, before, a) f = begins_one u x y r s a (front_at text u y s before (begins_stops u x r a) f)
 
-nothing_stops : Stops []
+nothing_stops : GapEnds []
 nothing_stops = record { no_blank = λ b s h e. cc; no_comment = λ i s e. cc }
 
 -- a gap has no word
@@ -151,7 +154,7 @@ pub some_not_none : (xs : List ℕ) → 0 < length xs → xs ≢ []
 some_not_none xs h e = omega (arith, ap length e, h)
 
 -- no word and no end stands behind the gap
-pub other_front : (text word : List ℕ) → GapBefore text word → Stops word
+pub other_front : (text word : List ℕ) → GapBefore text word → GapEnds word
     → ((b : ℕ) (s : List ℕ) → Literal word b s → ⊥) → name_length word ≡ 0 → ((s : List ℕ) → word ≢ 59 ∷ s) → word ≢ []
     → (Gap text → ⊥) × ((x : Word) (s : List ℕ) → Front text x s → ⊥)
 other_front text word before stops a b c d = (no_gap, λ x s f. none_at x s (front_at text word x s before stops f))

@@ -4,8 +4,6 @@ use Rattle.ly_lexread.specs.Words.{Word, semicolon, name, literal, Wording}
 use Rattle.ly_lexread.specs.declared.action.Action.{Action}
 use Rattle.ly_lexread.specs.declared.action.Returned.{Returned}
 use Rattle.ly_lexread.specs.declared.action.Returned.TheVariants.{Nothing, Token, Literal, FirstByte}
-use Rattle.ly_lexread.specs.declared.action.Value.{Value}
-use Rattle.ly_lexread.specs.declared.action.Value.TheVariants as value
 
 -- the token that an action returns
 pub data Meaning : Type 0 where
@@ -14,16 +12,12 @@ pub data Meaning : Type 0 where
   literal_of : ℕ → Meaning
   first_byte : Meaning
 
+-- what is returned, whatever room its name has
 abbrev pub meaning_of : Returned → Meaning
 meaning_of Nothing = nothing
 meaning_of (Token n) = token n.items
 meaning_of (Literal b) = literal_of b
 meaning_of FirstByte = first_byte
-
-abbrev pub value_meaning : Value → Meaning
-value_meaning value.Nothing = nothing
-value_meaning (value.Name n) = token n.now
-value_meaning (value.Byte b) = literal_of b
 
 -- the token that a word stands for
 abbrev pub StandsFor : Word → Meaning → Type 0
@@ -42,9 +36,6 @@ Say _ m = ⊥
 abbrev pub Says : List ℕ → Meaning → Type 0
 Says text m = (words : List Word) × Wording text words × Say words m
 
--- the words of the text say this behind `return`
-abbrev pub Returns : List ℕ → Meaning → Type 0
-Returns text m = (words : List Word) × Wording text words × Say (name (codes "return") ∷ words) m
-
+-- the text says what the action does
 abbrev pub IsAction : List ℕ → Action → Type 0
 IsAction text a = (a.begin ≡ None) × Says text (meaning_of a.returns)

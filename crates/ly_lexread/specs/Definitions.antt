@@ -1,6 +1,6 @@
 -- The definitions of a lex file.
 use Rattle.std.specs.Prelude.{◌≡◌, ℕ, List, [], ◌∷◌, ◌++◌, IsTrue, codes}
-use Rattle.ly_lexread.specs.Gap.{is_blank}
+use Rattle.ly_base.specs.Blank.{is_blank}
 
 -- the front and then more
 abbrev pub BeginsWith : List ℕ → List ℕ → Type 0

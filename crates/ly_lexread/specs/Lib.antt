@@ -1,10 +1,11 @@
 pub mod Action
 pub mod Definitions
-pub mod FaultNumber
+pub mod Faults
 pub mod Gap
 pub mod Laws
 pub mod LexText
 pub mod Lexing
 pub mod Lines
+pub mod Private
 pub mod Rules
 pub mod Words

@@ -1,6 +1,5 @@
 -- The lines of a file.
 use Rattle.std.specs.Prelude.{ℕ, List, [], ◌∷◌, nat_eq, if◌then◌else◌}
-use Rattle.ly_lexread.specs.declared.lines.Lines.{Lines}
 
 -- a byte in front of the first line
 abbrev pub with_first : ℕ → List (List ℕ) → List (List ℕ)
@@ -11,7 +10,3 @@ with_first b (line ∷ lines) = (b ∷ line) ∷ lines
 abbrev pub lines_of : List ℕ → List (List ℕ)
 lines_of [] = []
 lines_of (b ∷ bs) = if nat_eq b 10 then [] ∷ lines_of bs else with_first b (lines_of bs)
-
--- the lines that are left
-abbrev pub lines_left : Lines → List (List ℕ)
-lines_left l = lines_of l.rest.now

@@ -1,32 +1,27 @@
 -- The rules of a lex file.
-use Rattle.std.specs.Prelude.{◌≡◌, ◌<◌, ◌≤◌, ◌⊎◌, ℕ, List, [], ◌∷◌, ◌++◌, codes}
+use Rattle.std.specs.Prelude.{◌≡◌, ◌<◌, ◌≤◌, ◌⊎◌, ℕ, List, [], ◌∷◌, drop, codes}
 use Rattle.ly_ere.specs.Expression.{Expression}
-use Rattle.ly_ere.specs.Extent.{IsBehind}
-use Rattle.ly_ere.specs.Patterns.{IsPattern}
-use Rattle.ly_ere.specs.Weight.{weight_of_both}
+use Rattle.ly_ere.specs.Patterns.{IsFrontPattern, pattern_weight}
 use Rattle.ly_ere.specs.declared.pattern.Pattern.{Pattern}
 use Rattle.ly_ere.specs.declared.pattern.Rule.{Rule}
 use Rattle.ly_lexread.specs.declared.action.Action.{Action}
 use Rattle.ly_lexread.specs.Action.{IsAction}
 use Rattle.ly_lexread.specs.Definitions.{BeginsWith, IsMark, IsUnused}
 
--- A line of the rules in two parts: the text of a pattern, and behind it nothing, or a blank in front.
-pub record IsParted (line text behind : List ℕ) : Type 0 where
+-- A line may be that of a rule: it is no mark, it is used, and no block and no conditions begin it.
+pub record MayBeRule (line : List ℕ) : Type 0 where
   pub no_mark : IsMark line → ⊥
   pub no_block : BeginsWith line (codes "%{") → ⊥
   pub no_conditions : BeginsWith line (codes "<") → ⊥
   pub is_used : IsUnused line → ⊥
-  pub together : line ≡ text ++ behind
-  pub follows : IsBehind behind
 
 -- A line says a rule and its action: the rule is active in condition 0 alone.
 pub record IsRuleLine (names : List Expression) (line : List ℕ) (rule : Rule) (action : Action) : Type 0 where
-  pub text : List ℕ
-  pub behind : List ℕ
-  pub parts : IsParted line text behind
-  pub is_pattern : IsPattern names text rule.pattern
+  pub may_be : MayBeRule line
+  pub taken : ℕ
+  pub is_pattern : IsFrontPattern names line rule.pattern taken
   pub is_active : rule.active.items ≡ 0 ∷ []
-  pub is_action : IsAction behind action
+  pub is_action : IsAction (drop taken line) action
 
 -- the rules and their actions, up to a mark or the end
 pub data Rules (names : List Expression) : List (List ℕ) → List Rule → List Action → Type 0 where
@@ -41,17 +36,15 @@ pub data Rules (names : List Expression) : List (List ℕ) → List Rule → Lis
 -- each pattern weighs at most this
 abbrev pub AreLight : ℕ → List Expression → List Rule → Type 0
 AreLight most names [] = Unit {0}
-AreLight most names (r ∷ rules) = (weight_of_both names r.pattern.head r.pattern.tail ≤ most)
-    × AreLight most names rules
+AreLight most names (r ∷ rules) = (pattern_weight names r.pattern ≤ most) × AreLight most names rules
 
 -- A line's pattern weighs more than this.
 pub record IsHeavyLine (most : ℕ) (names : List Expression) (line : List ℕ) : Type 0 where
-  pub text : List ℕ
-  pub behind : List ℕ
-  pub parts : IsParted line text behind
+  pub may_be : MayBeRule line
   pub pattern : Pattern
-  pub is_pattern : IsPattern names text pattern
-  pub is_heavy : most < weight_of_both names pattern.head pattern.tail
+  pub taken : ℕ
+  pub is_pattern : IsFrontPattern names line pattern taken
+  pub is_heavy : most < pattern_weight names pattern
 
 -- that of one of the lines does, up to a mark
 abbrev pub HasHeavyLine : ℕ → List Expression → List (List ℕ) → Type 0

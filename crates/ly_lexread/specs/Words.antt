@@ -1,11 +1,9 @@
 -- The words of an action.
-use Rattle.std.specs.Prelude.{◌≡◌, ◌≢◌, ◌&&◌, ◌||◌, ℕ, List, [], ◌∷◌, ◌++◌, Bool, IsTrue, nat_eq, nat_le, if◌then◌else◌}
-use Rattle.std.specs.List.{prefix_len}
+use Rattle.std.specs.Prelude.{◌≡◌, ◌≢◌, ◌&&◌, ◌||◌, ℕ, List, [], ◌∷◌, ◌++◌, Bool, IsTrue, nat_eq, nat_le, codes}
 use Rattle.ly_base.specs.Literals.{Literal}
 use Rattle.ly_lexread.specs.Gap.{Gap, GapBefore}
-use Rattle.ly_lexread.specs.declared.words.NextWord.{NextWord}
-use Rattle.ly_lexread.specs.declared.words.NextWord.TheVariants.{End, Semicolon, Name, Byte, Other}
 
+-- A word of an action: `;`, a name, or a literal of a byte.
 pub data Word : Type 0 where
   semicolon : Word
   name : List ℕ → Word
@@ -35,7 +33,7 @@ NameEnds rest = (b : ℕ) (s : List ℕ) → IsTrue (continues_name b) → rest 
 
 -- The text is a word and then the rest. A name takes all bytes that can belong to it.
 abbrev pub Begins : List ℕ → Word → List ℕ → Type 0
-Begins text semicolon rest = text ≡ 59 ∷ rest
+Begins text semicolon rest = text ≡ codes ";" ++ rest
 Begins text (name n) rest = IsName n × NameEnds rest × (text ≡ n ++ rest)
 Begins text (literal b) rest = Literal text b rest
 
@@ -47,16 +45,3 @@ Front text x rest = (word : List ℕ) × GapBefore text word × Begins word x re
 abbrev pub Wording : List ℕ → List Word → Type 0
 Wording text [] = Gap text
 Wording text (x ∷ xs) = (rest : List ℕ) × Front text x rest × Wording rest xs
-
--- how many bytes the name at the front takes, 0 where there is none
-abbrev pub name_length : List ℕ → ℕ
-name_length [] = 0
-name_length (b ∷ bs) = if starts_name b then prefix_len continues_name (b ∷ bs) else 0
-
--- what stands at the front of a text, and the rest behind it
-abbrev pub IsFront : List ℕ → NextWord → List ℕ → Type 0
-IsFront text End rest = Gap text
-IsFront text Semicolon rest = Front text semicolon rest
-IsFront text (Name n) rest = Front text (name n.now) rest
-IsFront text (Byte b) rest = Front text (literal b) rest
-IsFront text Other rest = (Gap text → ⊥) × ((x : Word) (s : List ℕ) → Front text x s → ⊥)

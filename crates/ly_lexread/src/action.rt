@@ -1,6 +1,7 @@
 ghost use Rattle.std.specs.Prelude.{◌≡◌, ◌≢◌, ◌∷◌, [], codes, IfOk, MatchBool, MatchOption};
-ghost use Rattle.ly_lexread.specs.Action.{meaning_of, value_meaning, IsAction, Meaning, Returns, Says};
+ghost use Rattle.ly_lexread.specs.Action.{meaning_of, IsAction, Meaning, Says};
 ghost use Rattle.ly_lexread.specs.Gap.{Gap};
+ghost use Rattle.ly_lexread.specs.Private.Action.{value_meaning, Returns};
 ghost use Rattle.ly_lexread.specs.Words.{semicolon, Wording};
 ghost use Rattle.ly_lexread.specs.declared.action.Action.{Action};
 
@@ -48,12 +49,16 @@ pub(crate) fn read_action(alloc: Global, text: &[u8]) -> Result<Option<Action>, 
 /// What an action returns.
 #[derive(Clone, Copy)]
 enum Value<'t> {
+    /// Nothing.
     Nothing,
+    /// The token of this name.
     Name(&'t [u8]),
+    /// The literal of this byte.
     Byte(u8),
 }
 
 impl Value<'_> {
+    /// The token with room of its own.
     fn returned(self, alloc: Global) -> Result<Returned, AllocError>
         ensures { IfOk result (λ returned. meaning_of returned ≡ value_meaning self.entry) }
     {

@@ -1,41 +1,41 @@
 ghost use Rattle.std.specs.Prelude.{◌≡◌};
-ghost use Rattle.ly_lexread.specs.FaultNumber.{line_of, number_of};
+ghost use Rattle.ly_lexread.specs.Faults.{lex_line, lex_name, lex_number};
 ghost use Rattle.ly_lexread.specs.declared.fault.LexFault.TheVariants.{OutOfMemory};
 
 use ly_ere::EreFault;
 use std::alloc::{AllocError, AllocFailed};
 use thiserror::Error;
 
-/// Why a lex file is refused, with the line, counted from 1. Nothing is handed out then. It is printed
-/// as its number and name; a refused pattern as the number and name of its own fault.
+/// Why a lex file is refused, with the line, counted from 1. Nothing is handed out then. It is printed as its number
+/// and its name.
 #[derive(Clone, Copy, Debug, PartialEq, Eq, Error)]
 pub enum LexFault {
     /// No line begins with `%%`: the last line.
-    #[error("20 NoRulesMark")]
+    #[error("no line begins with %%")]
     NoRulesMark {
         /// The last line of the file, 1 if it is empty.
         line: u64,
     },
     /// A line of the definitions, or one that begins with `%{`, has none of the forms that are read.
-    #[error("21 BadDefinition")]
+    #[error("not a definition")]
     BadDefinition {
         /// The line.
         line: u64,
     },
     /// A rule names a condition that isn't declared.
-    #[error("22 UnknownCondition")]
+    #[error("a condition that isn't declared")]
     UnknownCondition {
         /// The rule's line.
         line: u64,
     },
     /// An action that is none of the forms that are read.
-    #[error("24 BadAction")]
+    #[error("not an action")]
     BadAction {
         /// The action's line.
         line: u64,
     },
-    /// A pattern that is refused.
-    #[error("{inner}")]
+    /// A pattern that is refused: fault 26, which is printed as the fault of the pattern.
+    #[error("not a pattern: {inner}")]
     Pattern {
         /// The pattern's line.
         line: u64,
@@ -48,25 +48,37 @@ pub enum LexFault {
 }
 
 impl LexFault {
-    /// The fault's number; want of memory has none.
+    /// The number that the fault is printed with, that of a refused pattern its own; want of memory has none.
     pub fn number(&self) -> Option<u8>
-        ensures { result ≡ number_of self.now }
+        ensures { result ≡ lex_number self.now }
     {
         match self {
             LexFault::NoRulesMark { .. } => Some(20),
             LexFault::BadDefinition { .. } => Some(21),
             LexFault::UnknownCondition { .. } => Some(22),
             LexFault::BadAction { .. } => Some(24),
-            LexFault::Pattern { .. } => Some(26),
+            LexFault::Pattern { inner, .. } => inner.number(),
             LexFault::OutOfMemory => None,
         }
     }
-}
 
-impl LexFault {
+    /// The name that the fault is printed with, that of a refused pattern its own.
+    pub fn name(&self) -> &'static str
+        ensures { result.now ≡ lex_name self.now }
+    {
+        match self {
+            LexFault::NoRulesMark { .. } => "NoRulesMark",
+            LexFault::BadDefinition { .. } => "BadDefinition",
+            LexFault::UnknownCondition { .. } => "UnknownCondition",
+            LexFault::BadAction { .. } => "BadAction",
+            LexFault::Pattern { inner, .. } => inner.name(),
+            LexFault::OutOfMemory => "OutOfMemory",
+        }
+    }
+
     /// The line at fault; want of memory has none.
     pub fn line(&self) -> Option<u64>
-        ensures { result ≡ line_of self.now }
+        ensures { result ≡ lex_line self.now }
     {
         match self {
             LexFault::NoRulesMark { line }

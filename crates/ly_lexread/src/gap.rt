@@ -1,10 +1,13 @@
-ghost use Rattle.std.specs.Prelude.{◌≡◌, ◌<◌, length, IfSome, MatchOption};
-ghost use Rattle.ly_lexread.specs.Gap.{is_blank, CommentBefore, GapBefore, HasNoEnd, Stops};
+ghost use Rattle.std.specs.Prelude.{◌<◌, length, IfSome, MatchOption};
+ghost use Rattle.ly_lexread.specs.Gap.{GapBefore, HasNoEnd};
+ghost use Rattle.ly_lexread.specs.Private.Gap.{CommentBefore, GapEnds};
+
+use ly_base::is_blank;
 
 /// What stands behind the blanks and comments at the front. A comment that isn't closed stays.
 pub(crate) fn after_gap(text: &[u8]) -> &[u8]
     ensures before { GapBefore text.now result.now }
-    ensures stops { Stops result.now }
+    ensures stops { GapEnds result.now }
 {
     let mut rest = text;
     while let Some(after) = after_blank_or_comment(rest) {
@@ -15,7 +18,7 @@ pub(crate) fn after_gap(text: &[u8]) -> &[u8]
 
 /// What stands behind the blank or the comment at the front, where there is one.
 fn after_blank_or_comment(text: &[u8]) -> Option<&[u8]>
-    ensures these { MatchOption result (Stops text.now) (λ rest. GapBefore text.now rest.now) }
+    ensures these { MatchOption result (GapEnds text.now) (λ rest. GapBefore text.now rest.now) }
     ensures shorter { IfSome result (λ rest. length rest.now < length text.now) }
 {
     if let Some(inside) = text.strip_prefix(b"/*") {
@@ -25,13 +28,6 @@ fn after_blank_or_comment(text: &[u8]) -> Option<&[u8]>
         Some((first, rest)) if is_blank(*first) => Some(rest),
         _ => None,
     }
-}
-
-/// Whether the byte is a blank.
-pub(crate) fn is_blank(byte: u8) -> bool
-    ensures { result ≡ is_blank byte }
-{
-    byte == b' ' || byte == b'\t'
 }
 
 /// What stands behind the first `*/`.

@@ -1,4 +1,11 @@
-//! The lex file: what its bytes say, and what the tokens of a text are under it.
+//! From the bytes of a lex file to its rules, and from its rules to the lexemes of a text.
+//!
+//! `read_lex` reads a file. Its answer is the one thing that the bytes say (`lex_text_is_one`), and it refuses only a
+//! text that says nothing or has a pattern that is too heavy. What the lexemes of a text are under the rules is defined
+//! here too, and determined (`lexing_is_one`).
+//!
+//! Left out so far: definitions of names and conditions, lists of conditions, blocks, actions in braces, `BEGIN`, `|`,
+//! `yytext[0]`.
 #![tactic(auto)]
 
 mod action;
@@ -13,5 +20,5 @@ mod words;
 pub use action::{Action, Returned};
 pub use fault::LexFault;
 pub use file::LexFile;
-pub use laws::{lex_text_is_one, lexing_goes_on, lexing_is_one};
+pub use laws::{lex_text_is_one, lexing_is_one};
 pub use read::read_lex;

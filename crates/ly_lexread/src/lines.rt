@@ -1,9 +1,10 @@
 ghost use Rattle.std.specs.Prelude.{◌≡◌, ◌∷◌, [], ◌<◌, ◌≤◌, length, nat_eq, MatchBool, MatchOption, OnSome};
 ghost use Rattle.std.specs.List.{position_or_len};
 ghost use Rattle.ly_lexread.specs.Definitions.{BeginsWith, IsMark, IsUnused};
-ghost use Rattle.ly_lexread.specs.Lines.{lines_left, lines_of};
+ghost use Rattle.ly_lexread.specs.Lines.{lines_of};
+ghost use Rattle.ly_lexread.specs.Private.Lines.{lines_left};
 
-use crate::gap::is_blank;
+use ly_base::is_blank;
 
 /// A line of a file, without its newline.
 #[derive(Clone, Copy)]
@@ -44,7 +45,9 @@ impl Line<'_> {
 /// The lines of a file that are left; the last may lack its newline.
 #[derive(Drop)]
 pub(crate) struct Lines<'t> {
+    /// The bytes that are left.
     rest: &'t [u8],
+    /// How many lines were taken.
     number: u64,
 }
 

@@ -1,6 +1,7 @@
 ghost use Rattle.std.specs.Prelude.{◌≡◌, ◌≤◌, length};
 ghost use Rattle.std.specs.List.{prefix_len};
-ghost use Rattle.ly_lexread.specs.Words.{continues_name, name_length, starts_name, IsFront};
+ghost use Rattle.ly_lexread.specs.Private.Words.{IsFront, name_length};
+ghost use Rattle.ly_lexread.specs.Words.{continues_name, starts_name};
 
 use crate::gap::after_gap;
 use ly_base::literal;

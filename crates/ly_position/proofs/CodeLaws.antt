@@ -4,8 +4,9 @@ use Rattle.std.proofs.Common.{subst, ◌∙◌, arith, Some, append_assoc, add-z
 use Rattle.std.specs.Prelude.{slice_get, Contains}
 use Rattle.ly_ere.specs.Expression.{Expression, set, empty, concat, either, star, plus, optional, repeat, name}
 use Rattle.ly_ere.specs.Expression.{MatchesUnder, Joined}
-use Rattle.ly_position.specs.Program.{Step, reads, fork, ends, Runs, at_end, by_read, by_first, by_second, size, entry}
-use Rattle.ly_position.specs.Program.{IsPlain}
+use Rattle.ly_position.specs.Private.Program.{Step, reads, fork, ends, Runs, at_end, by_read, by_first, by_second, size}
+use Rattle.ly_position.specs.Private.Program.{entry}
+use Rattle.ly_position.specs.Private.Program.{IsPlainExpression}
 
 -- the program has the code of the expression at base
 abbrev pub HasCode : List Step → Expression → ℕ → ℕ → Type 0
@@ -145,7 +146,7 @@ module _ (g : List Step) (i : ℕ) where
 
   module _ (N : ℕ → List ℕ → Type 0) where
     -- the code reads only strings of the expression
-    pub sound : (e : Expression) (base next n : ℕ) (w : List ℕ) → IsPlain e → HasCode g e base next
+    pub sound : (e : Expression) (base next n : ℕ) (w : List ℕ) → IsPlainExpression e → HasCode g e base next
         → Runs g i n (entry base (size e) next) w → Split (MatchesUnder N e) next n w
     sound (set bytes) base next n w plain h r =
         let s = at_read n base next bytes w h (subst (λ q. Runs g i n q w) (add-zero base) r) in
@@ -237,7 +238,7 @@ module _ (g : List Step) (i : ℕ) where
 
   module _ (N : ℕ → List ℕ → Type 0) where
     -- the code reads every string of the expression
-    pub complete : (e : Expression) (base next : ℕ) (u v : List ℕ) → IsPlain e → HasCode g e base next
+    pub complete : (e : Expression) (base next : ℕ) (u v : List ℕ) → IsPlainExpression e → HasCode g e base next
         → MatchesUnder N e u → CanRun next v → CanRun (entry base (size e) next) (u ++ v)
     complete (set bytes) base next u v plain h m r =
         subst (λ p. CanRun p (u ++ v)) (sym (add-zero base)) (subst (λ z. CanRun base z) (ap (λ z. z ++ v) (sym m.2))

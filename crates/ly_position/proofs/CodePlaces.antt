@@ -5,9 +5,10 @@ use Rattle.std.specs.Prelude.{slice_get, Contains}
 use Rattle.std.proofs.lemmas.Bool.{cases_eq, cases_lt}
 use Rattle.ly_base.proofs.MemberLemmas.{Contains-first}
 use Rattle.ly_ere.specs.Expression.{Expression, set, empty, concat, either, star, plus, optional, repeat, name}
-use Rattle.ly_position.specs.Program.{Step, reads, fork, ends, Runs, at_end, by_read, by_first, by_second, size, entry}
-use Rattle.ly_position.specs.Program.{code, IsPlain}
-use Rattle.ly_position.specs.Reach.{LeadsBelow}
+use Rattle.ly_position.specs.Private.Program.{Step, reads, fork, ends, Runs, at_end, by_read, by_first, by_second, size}
+use Rattle.ly_position.specs.Private.Program.{entry}
+use Rattle.ly_position.specs.Private.Program.{code, IsPlainExpression}
+use Rattle.ly_position.specs.Private.Reach.{LeadsBelow}
 use Rattle.ly_position.proofs.CodeLaws.{HasCode, CanRun, entry_below, first_side, second_side}
 
 pub get-append : {A : Type 0} (xs ys : List A) (p : ℕ) (x : A) → slice_get xs p ≡ Some x
@@ -262,29 +263,30 @@ stands g (name x) base next n p h le less l m = absurd (omega arith)
 
 module _ (g : List Step) (i : ℕ) where
   -- whatever runs from q, a string before it runs from p
-  abbrev pub Leads : ℕ → ℕ → Type 0
-  Leads p q = (u : List ℕ) × ((v : List ℕ) → CanRun g i q v → CanRun g i p (u ++ v))
+  abbrev pub StepsTo : ℕ → ℕ → Type 0
+  StepsTo p q = (u : List ℕ) × ((v : List ℕ) → CanRun g i q v → CanRun g i p (u ++ v))
 
-  there : (p : ℕ) → Leads p p
+  there : (p : ℕ) → StepsTo p p
   there p = ([], λ v r. r)
 
-  then : (p q r : ℕ) → Leads p q → Leads q r → Leads p r
+  then : (p q r : ℕ) → StepsTo p q → StepsTo q r → StepsTo p r
   then p q r a b
       = (a.0 ++ b.0, λ v k. subst (λ z. CanRun g i p z) (sym (append_assoc a.0 b.0 v)) (a.1 (b.0 ++ v) (b.1 v k)))
 
-  by_fork_first : (p a b : ℕ) → slice_get g p ≡ Some (fork a b) → Leads p a
+  by_fork_first : (p a b : ℕ) → slice_get g p ≡ Some (fork a b) → StepsTo p a
   by_fork_first p a b h = ([], λ v r. first_side g i p a b v h r)
 
-  by_fork_second : (p a b : ℕ) → slice_get g p ≡ Some (fork a b) → Leads p b
+  by_fork_second : (p a b : ℕ) → slice_get g p ≡ Some (fork a b) → StepsTo p b
   by_fork_second p a b h = ([], λ v r. second_side g i p a b v h r)
 
-  from_entry : (base n next : ℕ) → ((p : ℕ) → base ≤ p → p < base + n → Leads p next) → Leads (entry base n next) next
+  from_entry : (base n next : ℕ) → ((p : ℕ) → base ≤ p → p < base + n → StepsTo p next)
+      → StepsTo (entry base n next) next
   from_entry base zero next f = there next
   from_entry base (suc n) next f = f (base + n) (omega arith) (omega arith)
 
   -- each step of code leads to what comes after the code
-  pub leads : (e : Expression) (base next p : ℕ) → IsPlain e → HasCode g e base next → base ≤ p → p < base + size e
-      → Leads p next
+  pub leads : (e : Expression) (base next p : ℕ) → IsPlainExpression e → HasCode g e base next → base ≤ p → p < base + size e
+      → StepsTo p next
   leads (set bytes) base next p plain h l m =
       let same : p ≡ base = omega arith in
       let b : (x : ℕ) × Contains bytes x = some_member bytes plain in
@@ -302,7 +304,7 @@ module _ (g : List Step) (i : ℕ) where
       | inl c ↦ leads s (base + size r) next p plain.1 h.1 b c
       | inr d ↦ let same : base + size r + size s ≡ p = omega arith in
           then p (entry base (size r) next) next
-          (subst (λ q. Leads q (entry base (size r) next)) same
+          (subst (λ q. StepsTo q (entry base (size r) next)) same
           (by_fork_first (base + size r + size s) (entry base (size r) next)
           (entry (base + size r) (size s) next) h.2))
           (from_entry base (size r) next (λ q x y. leads r base next q plain.0 h.0 x y))
@@ -312,18 +314,18 @@ module _ (g : List Step) (i : ℕ) where
     | inl a ↦ then p (base + size r) next (leads r base (base + size r) p plain h.0 l a)
         (by_fork_second (base + size r) (entry base (size r) (base + size r)) next h.1)
     | inr b ↦ let same : base + size r ≡ p = omega arith
-        in subst (λ q. Leads q next) same
+        in subst (λ q. StepsTo q next) same
         (by_fork_second (base + size r) (entry base (size r) (base + size r)) next h.1)
   ]
   leads (plus r) base next p plain h l m = elim (cases_eq base p) [
-    | inl same ↦ subst (λ q. Leads q next) same (by_fork_second base (entry (base + 1) (size r) base) next h.0)
+    | inl same ↦ subst (λ q. StepsTo q next) same (by_fork_second base (entry (base + 1) (size r) base) next h.0)
     | inr other ↦ then p base next (leads r (base + 1) base p plain h.1 (omega arith) (omega arith))
         (by_fork_second base (entry (base + 1) (size r) base) next h.0)
   ]
   leads (optional r) base next p plain h l m = elim (cases_lt p (base + size r)) [
     | inl a ↦ leads r base next p plain h.0 l a
     | inr b ↦ let same : base + size r ≡ p = omega arith
-        in subst (λ q. Leads q next) same (by_fork_second (base + size r) (entry base (size r) next) next h.1)
+        in subst (λ q. StepsTo q next) same (by_fork_second (base + size r) (entry base (size r) next) next h.1)
   ]
   leads (repeat a b r) base next p plain h l m = absurd plain
   leads (name x) base next p plain h l m = absurd plain

@@ -7,8 +7,8 @@ use Rattle.ly_ere.specs.Expression.{Expression, empty}
 use Rattle.ly_ere.specs.Arena.{part_of, expression_of, FitsAt}
 use Rattle.ly_ere.specs.declared.node.Node.{Node}
 use Rattle.ly_ere.specs.declared.node.Node.TheVariants.{Set, Empty, Concat, Either, Star, Plus, Optional, Repeat, Name}
-use Rattle.ly_position.specs.Program.{size, code, node_size}
-use Rattle.ly_position.specs.Compile.{planned}
+use Rattle.ly_position.specs.Private.Program.{size, code, node_size}
+use Rattle.ly_position.specs.Private.Compile.{planned}
 use Rattle.ly_position.specs.declared.program.Task.{Task}
 use Rattle.ly_position.specs.declared.program.Task.TheVariants as task
 use Rattle.ly_position.proofs.CodePlaces.{length-code}

@@ -4,7 +4,7 @@ use Rattle.std.proofs.Common.{subst, ◌∙◌, arith, append_assoc, append-nil,
 use Rattle.std.specs.Prelude.{◌↔◌}
 use Rattle.ly_ere.specs.Expression.{Joined}
 use Rattle.ly_ere.proofs.NameLaws.{joined_map}
-use Rattle.ly_position.specs.Plain.{InTurn, Same}
+use Rattle.ly_position.specs.Private.Plain.{InTurn, Same}
 
 module _ (L : List ℕ → Type 0) where
   pub joined_one : (w : List ℕ) → L w → Joined L 1 w

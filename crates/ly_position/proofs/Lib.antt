@@ -1,13 +1,15 @@
 pub mod CodeLaws
 pub mod CodePlaces
 pub mod CompileLemmas
-pub mod FollowLemmas
 pub mod JoinedLemmas
+pub mod LinkLemmas
 pub mod ListsLemmas
 pub mod NumberLemmas
 pub mod PlainLemmas
 pub mod PlanLemmas
 pub mod ProgramLemmas
+pub mod ReachLemmas
 pub mod RunLemmas
+pub mod SetLemmas
 pub mod StartLemmas
-pub mod WalkLemmas
+pub mod StepLemmas

@@ -1,235 +1,193 @@
--- The numbers of the positions of a program, and lists of them.
-use Rattle.std.proofs.Common.{◌≡◌, ◌≢◌, inl, inr, ◌⊎◌, ℕ, zero, suc, ◌+◌, ◌<◌, ◌≤◌, List, [], ◌∷◌, ◌++◌, true, filter}
-use Rattle.std.proofs.Common.{length, get_or, take, map, Option, Some, None, refl, sym, ap, ◌∙◌, arith, append-nil}
+-- The numbers of the positions and of the forks of a program.
+use Rattle.std.proofs.Common.{◌≡◌, inl, inr, ℕ, zero, suc, ◌+◌, ◌<◌, List, [], ◌∷◌, ◌++◌, Bool, true, false, Some}
+use Rattle.std.proofs.Common.{filter, length, get_or, take, map, refl, sym, ap, subst, ◌∙◌, arith, append-nil}
 use Rattle.std.proofs.Common.{length-append}
-use Rattle.std.specs.Prelude.{AllPairs, ◌↔◌, slice_get, Contains}
-use Rattle.std.specs.List.{cons_option, filter_map}
-use Rattle.std.proofs.lemmas.List.{map_more, take_more}
-use Rattle.std.proofs.lemmas.List.Elements.{filter-append, filter_map-append, Contains-get_or, All-contains}
-use Rattle.std.proofs.lemmas.List.Kept.{AllPairs-cons}
-use Rattle.std.specs.Option.{option_to_list}
-use Rattle.ly_base.proofs.MemberLemmas.{Contains-cons_cases, Contains-first, Contains-later, Contains-none}
-use Rattle.ly_position.specs.Program.{Step, reads, fork, ends, step_of}
+use Rattle.std.specs.Prelude.{if◌then◌else◌, option_map, slice_get}
+use Rattle.std.specs.List.{AllZip}
+use Rattle.std.proofs.lemmas.Bool.{cases_Bool, cases_lt}
+use Rattle.std.proofs.lemmas.List.{get_or_append_left, get_or_push, map_more}
+use Rattle.std.proofs.lemmas.List.Elements.{filter-append}
+use Rattle.std.proofs.lemmas.List.Filters.{length-filter_more}
+use Rattle.std.proofs.lemmas.Option.{get_or_from_slice_get, slice_get-get_or, slice_get-map, slice_get_within}
+use Rattle.ly_base.specs.declared.byte_set.ByteSet.{ByteSet}
+use Rattle.ly_position.specs.Private.Link.{AreTargets, IsForkOf, IsSlotOf, is_fork, is_position, rank, target_of}
+use Rattle.ly_position.specs.Private.Program.{Step, reads, fork, ends, step_of}
+use Rattle.ly_position.specs.declared.nfa.Fork as nfa
+use Rattle.ly_position.specs.declared.nfa.Slot.{Slot}
+use Rattle.ly_position.specs.declared.nfa.Target.{Target}
+use Rattle.ly_position.specs.declared.nfa.Target.TheVariants as target
+use Rattle.ly_position.specs.Private.Reach.{StaysInside}
 use Rattle.ly_position.specs.declared.program.Instruction.{Instruction}
 use Rattle.ly_position.specs.declared.program.Instruction.TheVariants.{Read, Fork, End}
-use Rattle.ly_position.specs.Reach.{Reached}
-use Rattle.ly_position.specs.Follow.{IsReachList, is_place, numbers_from, numbers_of}
 
-last_one : {Y : Type 0} (ys : List Y) (z : Option Y) → ys ++ cons_option z [] ≡ ys ++ option_to_list z
-last_one ys None = refl
-last_one ys (Some z) = refl
+-- what stands at a place
+pub get-map_at : {A B : Type 0} (f : A → B) (xs : List A) (i : ℕ) (d x : A) → i < length xs → get_or xs i d ≡ x
+    → slice_get (map f xs) i ≡ Some (f x)
+get-map_at f xs i d x l e = slice_get-map f xs i ∙ ap (option_map f) (slice_get-get_or xs i d l ∙ ap (λ y. Some y) e)
 
-pub filter_map_more : {X Y : Type 0} (h : X → Option Y) (xs : List X) (i : ℕ) (d : X) (y : Option Y) → i < length xs
-    → h (get_or xs i d) ≡ y → filter_map h (take (i + 1) xs) ≡ filter_map h (take i xs) ++ option_to_list y
-filter_map_more h xs i d y l e = rw (take_more xs i d l, filter_map-append h (take i xs) (get_or xs i d ∷ []), e)
-    (last_one (filter_map h (take i xs)) y)
-
-module _ {X Y : Type 0} (h : X → Option Y) where
-  from_cons : (z : Option Y) (ys : List Y) (y : Y) → Contains (cons_option z ys) y → (z ≡ Some y) ⊎ Contains ys y
-  from_cons None ys y k = inr k
-  from_cons (Some z) ys y k = elim (Contains-cons_cases z ys y k) [ inl e ↦ inl (ap (λ x. Some x) e) | inr r ↦ inr r ]
-
-  pub filter_map_from : (xs : List X) (y : Y) → Contains (filter_map h xs) y → (x : X) × Contains xs x × (h x ≡ Some y)
-  filter_map_from [] y k = Contains-none _ k
-  filter_map_from (x ∷ xs) y k = elim (from_cons (h x) (filter_map h xs) y k) [
-    | inl e ↦ (x, Contains-first x xs, e)
-    | inr r ↦ let s = filter_map_from xs y r in (s.0, Contains-later x xs s.0 s.1, s.2)
+module _ (test : Step → Bool) where
+  -- a step that passes stands at its rank among those that do
+  pub rank_get : (g : List Step) (p : ℕ) (s : Step) → slice_get g p ≡ Some s → test s ≡ true
+      → slice_get (filter test g) (rank test g p) ≡ Some s
+  rank_get [] p s e passes = cc
+  rank_get (x ∷ g) zero s e passes =
+      let same : x ≡ s = cc in
+      let here : test x ≡ true = ap test same ∙ passes in
+      rw here (ap (λ y. Some y) same)
+  rank_get (x ∷ g) (suc p) s e passes = elim (cases_Bool (test x)) [
+    | inl here ↦ rw here (rank_get g p s e passes)
+    | inr not ↦ rw not (rank_get g p s e passes)
   ]
 
-  onto_cons : (z : Option Y) (ys : List Y) (y : Y) → Contains ys y → Contains (cons_option z ys) y
-  onto_cons None ys y k = k
-  onto_cons (Some z) ys y k = Contains-later z ys y k
-
-  pub filter_map_to : (xs : List X) (x : X) (y : Y) → Contains xs x → h x ≡ Some y → Contains (filter_map h xs) y
-  filter_map_to [] x y k e = Contains-none _ k
-  filter_map_to (z ∷ xs) x y k e = elim (Contains-cons_cases z xs x k) [
-    | inl same ↦ rw (same, e) (Contains-first y (filter_map h xs))
-    | inr r ↦ onto_cons (h z) (filter_map h xs) y (filter_map_to xs x y r e)
+  -- and what stands among these is a step of that rank
+  pub rank_each : (g : List Step) (n : ℕ) (s : Step) → slice_get (filter test g) n ≡ Some s
+      → (p : ℕ) × (slice_get g p ≡ Some s) × (test s ≡ true) × (rank test g p ≡ n)
+  rank_each [] n s e = cc
+  rank_each (x ∷ g) zero s e = elim (cases_Bool (test x)) [
+    | inl here ↦
+        let at : Some x ≡ Some s = rw here at e in
+        (0, at, (let same : x ≡ s = cc in ap test (sym same) ∙ here), refl)
+    | inr not ↦ let r = rank_each g zero s (rw not at e) in (suc r.0, r.1, r.2, rw not r.3)
+  ]
+  rank_each (x ∷ g) (suc n) s e = elim (cases_Bool (test x)) [
+    | inl here ↦ let r = rank_each g n s (rw here at e) in (suc r.0, r.1, r.2, rw here (ap suc r.3))
+    | inr not ↦ let r = rank_each g (suc n) s (rw not at e) in (suc r.0, r.1, r.2, rw not r.3)
   ]
 
-  pub filter_map_once : ((a b : X) (y : Y) → h a ≡ Some y → h b ≡ Some y → a ≡ b) → (xs : List X)
-      → AllPairs (λ a b. a ≢ b) xs → AllPairs (λ a b. a ≢ b) (filter_map h xs)
-  filter_map_once one [] once = λ i j d l m. absurd (omega (arith, m))
-  filter_map_once one (x ∷ xs) once
-      = add (h x) refl
-      (filter_map_once one xs (λ i j d l m. once (suc i) (suc j) d (omega (arith, l)) (omega (arith, m))))
-    where
-      apart : (z : X) → Contains xs z → x ≢ z
-      apart z k = All-contains (λ a. x ≢ a) xs z (λ i d l. once 0 (suc i) d (omega arith) (omega (arith, l))) k
+  pub rank_more : (g : List Step) (p : ℕ) (s : Step) → slice_get g p ≡ Some s
+      → rank test g (p + 1) ≡ rank test g p + (if test s then 1 else 0)
+  rank_more g p s e = length-filter_more test g p s (slice_get_within g p s e)
+      ∙ ap (λ x. rank test g p + (if test x then 1 else 0)) (get_or_from_slice_get g p s s e)
 
-      add : (z : Option Y) → h x ≡ z → AllPairs (λ a b. a ≢ b) (filter_map h xs)
-          → AllPairs (λ a b. a ≢ b) (cons_option z (filter_map h xs))
-      add None e rest = rest
-      add (Some y) e rest = AllPairs-cons (λ a b. a ≢ b) y (filter_map h xs)
-          (λ k d l same. let s
-          = filter_map_from xs (get_or (filter_map h xs) k d) (Contains-get_or (filter_map h xs) k d l) in
-          apart s.0 s.1 (one x s.0 y e (s.2 ∙ ap (λ w. Some w) (sym same)))) rest
+  pub kept_push : (g h : List Step) (s : Step) → h ≡ g ++ s ∷ [] → test s ≡ true
+      → filter test h ≡ filter test g ++ s ∷ []
+  kept_push g h s is passes = rw (is, filter-append test g (s ∷ []), passes) refl
 
--- the numbers
-pub length-numbers : (k : ℕ) (g : List Step) → length (numbers_from k g) ≡ length g
-length-numbers k [] = refl
-length-numbers k (reads bytes q ∷ g) = ap suc (length-numbers (k + 1) g)
-length-numbers k (fork a b ∷ g) = ap suc (length-numbers k g)
-length-numbers k (ends i ∷ g) = ap suc (length-numbers (k + 1) g)
+  pub kept_skip : (g h : List Step) (s : Step) → h ≡ g ++ s ∷ [] → test s ≡ false → filter test h ≡ filter test g
+  kept_skip g h s is fails = rw (is, filter-append test g (s ∷ []), fails) (append-nil (filter test g))
 
--- the number of a place, and the place of a number
-abbrev pub Numbered : ℕ → List Step → ℕ → Step → Type 0
-Numbered k g p s = (q : ℕ) × (get_or (numbers_from k g) p None ≡ Some (k + q))
-    × (slice_get (filter is_place g) q ≡ Some s)
+no_fork : (s : Step) → is_position s ≡ true → is_fork s ≡ false
+no_fork (reads bytes q) e = refl
+no_fork (fork a b) e = cc
+no_fork (ends i) e = refl
 
-next_number : (k p : ℕ) (g : List Step) (s t : Step) → is_place t ≡ true → Numbered (k + 1) g p s
-    → (q : ℕ) × (get_or (numbers_from (k + 1) g) p None ≡ Some (k + q)) × (slice_get (t ∷ filter is_place g) q ≡ Some s)
-next_number k p g s t e h = (suc h.0, h.1 ∙ ap (λ x. Some x) (omega arith), h.2)
+-- a step that is a position, as a target
+pub position_target : (g : List Step) (p : ℕ) (s : Step) → slice_get g p ≡ Some s → is_position s ≡ true
+    → target_of g p ≡ target.Position (rank is_position g p)
+position_target g p (reads bytes q) e passes = rw e refl
+position_target g p (fork a b) e passes = cc
+position_target g p (ends i) e passes = rw e refl
 
-pub numbers_place : (g : List Step) (k p : ℕ) (s : Step) → slice_get g p ≡ Some s → is_place s ≡ true → Numbered k g p s
-numbers_place [] k p s e t = cc
-numbers_place (reads bytes q ∷ g) k zero s e t = (0, ap (λ x. Some x) (omega arith), e)
-numbers_place (fork a b ∷ g) k zero s e t = let one : fork a b ≡ s = cc in let f : is_place (fork a b) ≡ true
-    = ap is_place one ∙ t in cc
-numbers_place (ends i ∷ g) k zero s e t = (0, ap (λ x. Some x) (omega arith), e)
-numbers_place (reads bytes q ∷ g) k (suc p) s e t
-    = next_number k p g s (reads bytes q) refl (numbers_place g (k + 1) p s e t)
-numbers_place (fork a b ∷ g) k (suc p) s e t = numbers_place g k p s e t
-numbers_place (ends i ∷ g) k (suc p) s e t = next_number k p g s (ends i) refl (numbers_place g (k + 1) p s e t)
-
--- what has a number is a place
-abbrev pub PlaceOf : ℕ → List Step → ℕ → ℕ → Type 0
-PlaceOf k g p q = (s : Step) × (slice_get g p ≡ Some s) × (is_place s ≡ true) × (n : ℕ) × (q ≡ k + n)
-    × (slice_get (filter is_place g) n ≡ Some s)
-
-next_place : (k p q : ℕ) (g : List Step) (t : Step) → PlaceOf (k + 1) g p q → (s : Step) × (slice_get g p ≡ Some s)
-    × (is_place s ≡ true) × (n : ℕ) × (q ≡ k + n) × (slice_get (t ∷ filter is_place g) n ≡ Some s)
-next_place k p q g t h = (h.0, h.1, h.2, suc h.3, h.4 ∙ omega arith, h.5)
-
-pub numbers_back : (g : List Step) (k p q : ℕ) → get_or (numbers_from k g) p None ≡ Some q → PlaceOf k g p q
-numbers_back [] k p q e = cc
-numbers_back (reads bytes x ∷ g) k zero q e
-    = (reads bytes x, refl, refl, 0, (let one : k ≡ q = cc in omega arith), refl)
-numbers_back (fork a b ∷ g) k zero q e = cc
-numbers_back (ends i ∷ g) k zero q e = (ends i, refl, refl, 0, (let one : k ≡ q = cc in omega arith), refl)
-numbers_back (reads bytes x ∷ g) k (suc p) q e = next_place k p q g (reads bytes x) (numbers_back g (k + 1) p q e)
-numbers_back (fork a b ∷ g) k (suc p) q e = numbers_back g k p q e
-numbers_back (ends i ∷ g) k (suc p) q e = next_place k p q g (ends i) (numbers_back g (k + 1) p q e)
-
--- each place in order has its number
-pub numbers_each : (g : List Step) (k n : ℕ) (s : Step) → slice_get (filter is_place g) n ≡ Some s
-    → (p : ℕ) × (slice_get g p ≡ Some s) × (get_or (numbers_from k g) p None ≡ Some (k + n))
-numbers_each [] k n s e = cc
-numbers_each (reads bytes x ∷ g) k zero s e = (0, e, ap (λ x. Some x) (omega arith))
-numbers_each (reads bytes x ∷ g) k (suc n) s e = let r : (p : ℕ) × (slice_get g p ≡ Some s)
-    × (get_or (numbers_from (k + 1) g) p None ≡ Some (k + 1 + n)) = numbers_each g (k + 1) n s e
-    in (suc r.0, r.1, r.2 ∙ ap (λ x. Some x) (omega arith))
-numbers_each (fork a b ∷ g) k n s e = let r : (p : ℕ) × (slice_get g p ≡ Some s)
-    × (get_or (numbers_from k g) p None ≡ Some (k + n)) = numbers_each g k n s e in (suc r.0, r.1, r.2)
-numbers_each (ends i ∷ g) k zero s e = (0, e, ap (λ x. Some x) (omega arith))
-numbers_each (ends i ∷ g) k (suc n) s e = let r : (p : ℕ) × (slice_get g p ≡ Some s)
-    × (get_or (numbers_from (k + 1) g) p None ≡ Some (k + 1 + n)) = numbers_each g (k + 1) n s e
-    in (suc r.0, r.1, r.2 ∙ ap (λ x. Some x) (omega arith))
-
-numbers_above : (g : List Step) (k p q : ℕ) → get_or (numbers_from k g) p None ≡ Some q → k ≤ q
-numbers_above g k p q e = let h = numbers_back g k p q e in omega (arith, h.4)
-
--- no two places have one number
-pub numbers_one : (g : List Step) (k p r q : ℕ) → get_or (numbers_from k g) p None ≡ Some q
-    → get_or (numbers_from k g) r None ≡ Some q → p ≡ r
-numbers_one [] k p r q e f = cc
-numbers_one (reads bytes x ∷ g) k zero zero q e f = refl
-numbers_one (reads bytes x ∷ g) k zero (suc r) q e f = let one : k ≡ q = cc
-    in absurd (omega (arith, numbers_above g (k + 1) r q f))
-numbers_one (reads bytes x ∷ g) k (suc p) zero q e f = let one : k ≡ q = cc
-    in absurd (omega (arith, numbers_above g (k + 1) p q e))
-numbers_one (reads bytes x ∷ g) k (suc p) (suc r) q e f = ap suc (numbers_one g (k + 1) p r q e f)
-numbers_one (fork a b ∷ g) k zero r q e f = cc
-numbers_one (fork a b ∷ g) k (suc p) zero q e f = cc
-numbers_one (fork a b ∷ g) k (suc p) (suc r) q e f = ap suc (numbers_one g k p r q e f)
-numbers_one (ends i ∷ g) k zero zero q e f = refl
-numbers_one (ends i ∷ g) k zero (suc r) q e f = let one : k ≡ q = cc
-    in absurd (omega (arith, numbers_above g (k + 1) r q f))
-numbers_one (ends i ∷ g) k (suc p) zero q e f = let one : k ≡ q = cc
-    in absurd (omega (arith, numbers_above g (k + 1) p q e))
-numbers_one (ends i ∷ g) k (suc p) (suc r) q e f = ap suc (numbers_one g (k + 1) p r q e f)
-
--- one more step at the end
-pub numbers_push_read : (g : List Step) (k : ℕ) (bytes : List ℕ) (x : ℕ) → numbers_from k (g ++ reads bytes x ∷ [])
-    ≡ numbers_from k g ++ Some (k + length (filter is_place g)) ∷ []
-numbers_push_read [] k bytes x = ap (λ n. Some n ∷ []) (omega arith)
-numbers_push_read (reads bs y ∷ g) k bytes x
-    = ap (λ ns. Some k ∷ ns) (numbers_push_read g (k + 1) bytes x ∙ ap (λ n. numbers_from (k + 1) g ++ Some n ∷ [])
-    (omega arith))
-numbers_push_read (fork a b ∷ g) k bytes x = ap (λ ns. None ∷ ns) (numbers_push_read g k bytes x)
-numbers_push_read (ends i ∷ g) k bytes x
-    = ap (λ ns. Some k ∷ ns) (numbers_push_read g (k + 1) bytes x ∙ ap (λ n. numbers_from (k + 1) g ++ Some n ∷ [])
-    (omega arith))
-
-pub numbers_push_end : (g : List Step) (k j : ℕ) → numbers_from k (g ++ ends j ∷ []) ≡ numbers_from k g
-    ++ Some (k + length (filter is_place g)) ∷ []
-numbers_push_end [] k j = ap (λ n. Some n ∷ []) (omega arith)
-numbers_push_end (reads bs y ∷ g) k j
-    = ap (λ ns. Some k ∷ ns) (numbers_push_end g (k + 1) j ∙ ap (λ n. numbers_from (k + 1) g ++ Some n ∷ [])
-    (omega arith))
-numbers_push_end (fork a b ∷ g) k j = ap (λ ns. None ∷ ns) (numbers_push_end g k j)
-numbers_push_end (ends i ∷ g) k j
-    = ap (λ ns. Some k ∷ ns) (numbers_push_end g (k + 1) j ∙ ap (λ n. numbers_from (k + 1) g ++ Some n ∷ [])
-    (omega arith))
-
-pub numbers_push_fork : (g : List Step) (k a b : ℕ) → numbers_from k (g ++ fork a b ∷ []) ≡ numbers_from k g
-    ++ None ∷ []
-numbers_push_fork [] k a b = refl
-numbers_push_fork (reads bs y ∷ g) k a b = ap (λ ns. Some k ∷ ns) (numbers_push_fork g (k + 1) a b)
-numbers_push_fork (fork c d ∷ g) k a b = ap (λ ns. None ∷ ns) (numbers_push_fork g k a b)
-numbers_push_fork (ends i ∷ g) k a b = ap (λ ns. Some k ∷ ns) (numbers_push_fork g (k + 1) a b)
-
--- the numbers of what is reached
-pub reach_list : (g : List Step) (roots ms found : List ℕ) → ((p : ℕ) → Contains ms p ↔ Reached g roots p)
-    → AllPairs (λ a b. a ≢ b) ms → found ≡ filter_map (λ p. get_or (numbers_of g) p None) ms → IsReachList g roots found
-reach_list g roots ms found reached once is = rw is (record {
-  members = λ q. (
-    λ k. let s = filter_map_from (λ p. get_or (numbers_of g) p None) ms q k in (s.0, (reached s.0).0 s.1, s.2),
-    λ k. filter_map_to (λ p. get_or (numbers_of g) p None) ms k.0 q ((reached k.0).1 k.1) k.2,
-  );
-  once = filter_map_once (λ p. get_or (numbers_of g) p None) (λ a b q e f. numbers_one g 0 a b q e f) ms once;
-})
-
--- one more instruction
-pub numbers_push_place : (g : List Step) (s : Step) → is_place s ≡ true
-    → numbers_of (g ++ s ∷ []) ≡ numbers_of g ++ Some (length (filter is_place g)) ∷ []
-numbers_push_place g (reads bytes x) e = numbers_push_read g 0 bytes x
-    ∙ ap (λ n. numbers_of g ++ Some n ∷ []) (omega arith)
-numbers_push_place g (fork a b) e = cc
-numbers_push_place g (ends j) e = numbers_push_end g 0 j ∙ ap (λ n. numbers_of g ++ Some n ∷ []) (omega arith)
-
-pub places_push_place : (g : List Step) (s : Step) → is_place s ≡ true
-    → filter is_place (g ++ s ∷ []) ≡ filter is_place g ++ s ∷ []
-places_push_place g s e = rw (filter-append is_place g (s ∷ []), e) refl
-
-pub places_push_fork : (g : List Step) (a b : ℕ) → filter is_place (g ++ fork a b ∷ []) ≡ filter is_place g
-places_push_fork g a b = filter-append is_place g (fork a b ∷ []) ∙ append-nil (filter is_place g)
-
-pub not_fork : (n : Instruction) → ((a b : ℕ) → n ≡ Fork a b → ⊥) → is_place (step_of n) ≡ true
+pub not_fork : (n : Instruction) → ((a b : ℕ) → n ≡ Fork a b → ⊥) → is_position (step_of n) ≡ true
 not_fork (Read bytes q) h = refl
 not_fork (Fork a b) h = absurd (h a b refl)
 not_fork (End r) h = refl
+
+-- what the first steps are, and how many of them are positions and forks
+pub record Numbered (g : List Step) (n : ℕ) (targets : List Target) (positions forks : ℕ) : Type 0 where
+  pub count : length targets ≡ n
+  pub each : (p : ℕ) → p < n → slice_get targets p ≡ Some (target_of g p)
+  pub position_count : positions ≡ rank is_position g n
+  pub fork_count : forks ≡ rank is_fork g n
+
+module _ (g : List Step) (n : ℕ) (ts : List Target) (ps fs : ℕ) (h : Numbered g n ts ps fs) where
+  each_more : (t : Target) → t ≡ target_of g n → (p : ℕ) → p < n + 1 → slice_get (ts ++ t ∷ []) p ≡ Some (target_of g p)
+  each_more t is p less = elim (cases_lt p n) [
+    | inl below ↦
+        there p less (get_or_append_left ts (t ∷ []) t p (omega (arith, h.count))
+        ∙ get_or_from_slice_get ts p (target_of g p) t (h.each p below))
+    | inr past ↦
+        let same : p ≡ n = omega arith in
+        there p less (get_or_push ts t t p (h.count ∙ sym same) ∙ is ∙ ap (target_of g) (sym same))
+  ]
+    where
+      there : (p : ℕ) → p < n + 1 → get_or (ts ++ t ∷ []) p t ≡ target_of g p
+          → slice_get (ts ++ t ∷ []) p ≡ Some (target_of g p)
+      there p less e = slice_get-get_or (ts ++ t ∷ []) p t (omega (arith, h.count, length-append ts (t ∷ [])))
+          ∙ ap (λ x. Some x) e
+
+  pub numbered_fork : (ts' : List Target) (fs' a b : ℕ) → slice_get g n ≡ Some (fork a b)
+      → ts' ≡ ts ++ target.Fork fs ∷ [] → fs' ≡ fs + 1 → Numbered g (n + 1) ts' ps fs'
+  numbered_fork ts' fs' a b e is more = rw is (record {
+    count = length-append ts (target.Fork fs ∷ []) ∙ omega (arith, h.count);
+    each = each_more (target.Fork fs) (rw e (ap target.Fork h.fork_count));
+    position_count = h.position_count ∙ (let k = rank_more is_position g n (fork a b) e in omega arith);
+    fork_count = more ∙ (let k = rank_more is_fork g n (fork a b) e in omega (arith, h.fork_count));
+  })
+
+  pub numbered_position : (ts' : List Target) (ps' : ℕ) (s : Step) → slice_get g n ≡ Some s → is_position s ≡ true
+      → ts' ≡ ts ++ target.Position ps ∷ [] → ps' ≡ ps + 1 → Numbered g (n + 1) ts' ps' fs
+  numbered_position ts' ps' s e passes is more = rw is (record {
+    count = length-append ts (target.Position ps ∷ []) ∙ omega (arith, h.count);
+    each = each_more (target.Position ps)
+        (sym (position_target g n s e passes ∙ ap target.Position (sym h.position_count)));
+    position_count
+        = more ∙ (let k = rank_more is_position g n s e ∙ ap (λ b. rank is_position g n + (if b then 1 else 0))
+        passes in omega (arith, h.position_count));
+    fork_count = h.fork_count ∙ (let k = rank_more is_fork g n s e ∙ ap (λ b. rank is_fork g n + (if b then 1 else 0))
+        (no_fork s passes) in omega arith);
+  })
+
+pub numbered_all : (g : List Step) (n : ℕ) (ts : List Target) (ps fs : ℕ) → Numbered g n ts ps fs → n ≡ length g
+    → AreTargets g ts
+numbered_all g n ts ps fs h all = record {
+  count = h.count ∙ all;
+  each = λ p less. h.each p (omega arith);
+}
 
 pub steps_more : (code : List Instruction) (i : ℕ) (d n : Instruction) → i < length code → get_or code i d ≡ n
     → map step_of (take (i + 1) code) ≡ map step_of (take i code) ++ step_of n ∷ []
 steps_more code i d n l e = map_more step_of code i d l ∙ ap (λ x. map step_of (take i code) ++ step_of x ∷ []) e
 
--- the numbers so far and how many there are, one step on
-pub numbers_step_fork : (g g' : List Step) (ns ns' : List (Option ℕ)) (n n' a b : ℕ) → ns ≡ numbers_of g
-    → n ≡ length (filter is_place g) → g' ≡ g ++ fork a b ∷ [] → ns' ≡ ns ++ None ∷ [] → n' ≡ n → (ns' ≡ numbers_of g')
-    × (n' ≡ length (filter is_place g'))
-numbers_step_fork g g' ns ns' n n' a b e f is more same = (
-  more ∙ (ap (λ x. x ++ None ∷ []) e ∙ (sym (numbers_push_fork g 0 a b) ∙ ap numbers_of (sym is))),
-  same ∙ (f ∙ (ap length (sym (places_push_fork g a b)) ∙ ap (λ x. length (filter is_place x)) (sym is))),
-)
+module _ {A B : Type 0} (R : A → B → Type 0) where
+  pub zip_push : (xs : List A) (ys : List B) (x : A) (y : B) → AllZip R xs ys → R x y
+      → AllZip R (xs ++ x ∷ []) (ys ++ y ∷ [])
+  zip_push [] [] x y h r = (r, tt)
+  zip_push [] (b ∷ ys) x y h r = absurd h
+  zip_push (a ∷ xs) [] x y h r = absurd h
+  zip_push (a ∷ xs) (b ∷ ys) x y h r = (h.0, zip_push xs ys x y h.1 r)
 
-pub numbers_step_place : (g g' : List Step) (ns ns' : List (Option ℕ)) (n n' : ℕ) (s : Step) → is_place s ≡ true
-    → ns ≡ numbers_of g → n ≡ length (filter is_place g) → g' ≡ g ++ s ∷ [] → ns' ≡ ns ++ Some n ∷ [] → n' ≡ n + 1
-    → (ns' ≡ numbers_of g') × (n' ≡ length (filter is_place g'))
-numbers_step_place g g' ns ns' n n' s place e f is more same = (
-  more ∙ (ap (λ x. x ++ Some n ∷ []) e
-      ∙ (ap (λ x. numbers_of g ++ Some x ∷ []) f ∙ (sym (numbers_push_place g s place) ∙ ap numbers_of (sym is)))),
-  (let count : length (filter is_place g') ≡ length (filter is_place g) + 1 = ap (λ x. length (filter is_place x)) is
-      ∙ (ap length (places_push_place g s place) ∙ (length-append (filter is_place g) (s ∷ []) ∙ omega arith))
-      in omega arith),
-)
+  pub zip_get : (xs : List A) (ys : List B) (i : ℕ) (x : A) → AllZip R xs ys → slice_get xs i ≡ Some x
+      → (y : B) × (slice_get ys i ≡ Some y) × R x y
+  zip_get [] ys i x h e = cc
+  zip_get (a ∷ xs) [] i x h e = absurd h
+  zip_get (a ∷ xs) (b ∷ ys) zero x h e = let one : a ≡ x = cc in (b, refl, subst (λ z. R z b) one h.0)
+  zip_get (a ∷ xs) (b ∷ ys) (suc i) x h e = zip_get xs ys i x h.1 e
+
+-- the slots and the forks of the first steps
+pub record LinkedBefore (g h : List Step) (slots : List Slot) (forks : List nfa.Fork) : Type 0 where
+  pub slots_are : AllZip (IsSlotOf g) (filter is_position h) slots
+  pub forks_are : AllZip (IsForkOf g) (filter is_fork h) forks
+
+module _ (g h h' : List Step) (slots slots' : List Slot) (forks forks' : List nfa.Fork) (s : Step)
+    (before : LinkedBefore g h slots forks) (more : h' ≡ h ++ s ∷ []) where
+  pub linked_position : (x : Slot) → is_position s ≡ true → is_fork s ≡ false → slots' ≡ slots ++ x ∷ []
+      → forks' ≡ forks → IsSlotOf g s x → LinkedBefore g h' slots' forks'
+  linked_position x passes fails is same fits = rw (is, same) (record {
+    slots_are = rw (kept_push is_position h h' s more passes)
+        (zip_push (IsSlotOf g) (filter is_position h) slots s x before.slots_are fits);
+    forks_are = rw (kept_skip is_fork h h' s more fails) before.forks_are;
+  })
+
+  pub linked_fork : (f : nfa.Fork) → is_position s ≡ false → is_fork s ≡ true → slots' ≡ slots
+      → forks' ≡ forks ++ f ∷ [] → IsForkOf g s f → LinkedBefore g h' slots' forks'
+  linked_fork f fails passes same is fits = rw (is, same) (record {
+    slots_are = rw (kept_skip is_position h h' s more fails) before.slots_are;
+    forks_are = rw (kept_push is_fork h h' s more passes)
+        (zip_push (IsForkOf g) (filter is_fork h) forks s f before.forks_are fits);
+  })
+
+-- what a step is, as it is looked up
+pub target_there : (g : List Step) (ts : List Target) (p : ℕ) (d : Target) → AreTargets g ts → p < length g
+    → get_or ts p d ≡ target_of g p
+target_there g ts p d h less = get_or_from_slice_get ts p (target_of g p) d (h.each p less)
+
+-- a program that stays inside leads to what is there
+module _ (code : List Instruction) (i : ℕ) (d : Instruction) (inside : StaysInside (map step_of code))
+    (less : i < length code) where
+  pub read_inside : (bytes : ByteSet) (q : ℕ) → get_or code i d ≡ Read bytes q → q < length (map step_of code)
+  read_inside bytes q e = inside i (step_of (Read bytes q)) (get-map_at step_of code i d (Read bytes q) less e)
+
+  pub fork_inside : (a b : ℕ) → get_or code i d ≡ Fork a b
+      → (a < length (map step_of code)) × (b < length (map step_of code))
+  fork_inside a b e = inside i (step_of (Fork a b)) (get-map_at step_of code i d (Fork a b) less e)

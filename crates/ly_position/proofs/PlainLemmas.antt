@@ -6,14 +6,14 @@ use Rattle.std.proofs.lemmas.List.{get_or_push, get_or_append_left}
 use Rattle.ly_ere.specs.Expression.{Expression, empty, Joined}
 use Rattle.ly_ere.specs.Arena.{part_of}
 use Rattle.ly_position.proofs.JoinedLemmas.{in_turn_same, joined_same}
-use Rattle.ly_position.specs.Plain.{PlainMatches, PartMatches, IsPart, InTurn, Makes, Same}
+use Rattle.ly_position.specs.Private.Plain.{PlainMatches, PartMatches, IsPlainPart, InTurn, Makes, Same}
 
 -- both ways, one after the other
 pub both_ways : (A B C : Type 0) → A ↔ B → B ↔ C → A ↔ C
 both_ways A B C f g = (λ a. g.0 (f.0 a), λ c. f.1 (g.1 c))
 
 -- nothing is added
-pub makes_same : (es : List Expression) (p : Option ℕ) (L : List ℕ → Type 0) → IsPart (length es) p
+pub makes_same : (es : List Expression) (p : Option ℕ) (L : List ℕ → Type 0) → IsPlainPart (length es) p
     → ((w : List ℕ) → PartMatches es p w ↔ L w) → Makes es es p L
 makes_same es p L h f = record { rest = []; grown = sym (append-nil es); within = h; spells = f }
 
@@ -55,7 +55,8 @@ same K w = (λ h. h, λ h. h)
 
 -- an operator that adds nothing over its part
 pub kept : (Op : (List ℕ → Type 0) → List ℕ → Type 0) (es : List Expression) (p : Option ℕ) (a : ℕ) (e : Expression)
-    → IsPart (length es) p → p ≡ Some a → e ≡ part_of es a → ((w : List ℕ) → PlainMatches e w ↔ Op (PlainMatches e) w)
+    → IsPlainPart (length es) p → p ≡ Some a → e ≡ part_of es a
+    → ((w : List ℕ) → PlainMatches e w ↔ Op (PlainMatches e) w)
     → Makes es es (Some a) (Op (PartMatches es p))
 kept Op es p a e h is at f =
     makes_same es (Some a) (Op (PartMatches es p)) (rw is at h)
@@ -79,19 +80,19 @@ added_none Op r es fs p f grown number is k = makes_push r es fs f (Op (PartMatc
     (no_part Op (PlainMatches f) es p is k)
 
 -- a part has the same strings as the expressions grow
-pub part_stays : (es rest : List Expression) (p : Option ℕ) → IsPart (length es) p
+pub part_stays : (es rest : List Expression) (p : Option ℕ) → IsPlainPart (length es) p
     → Same (PartMatches (es ++ rest) p) (PartMatches es p)
 part_stays es rest None h w = (λ k. k, λ k. k)
 part_stays es rest (Some a) h w = let e : part_of (es ++ rest) a ≡ part_of es a = get_or_append_left es rest empty a h
     in rw e (λ k. k, λ k. k)
 
-pub part_grown : (es fs rest : List Expression) (p : Option ℕ) → fs ≡ es ++ rest → IsPart (length es) p
+pub part_grown : (es fs rest : List Expression) (p : Option ℕ) → fs ≡ es ++ rest → IsPlainPart (length es) p
     → Same (PartMatches fs p) (PartMatches es p)
 part_grown es fs rest p e h = subst (λ (gs : List Expression). Same (PartMatches gs p) (PartMatches es p)) (sym e)
     (part_stays es rest p h)
 
-pub within_grown : (es fs rest : List Expression) (p : Option ℕ) → fs ≡ es ++ rest → IsPart (length es) p
-    → IsPart (length fs) p
+pub within_grown : (es fs rest : List Expression) (p : Option ℕ) → fs ≡ es ++ rest → IsPlainPart (length es) p
+    → IsPlainPart (length fs) p
 within_grown es fs rest None e h = tt
 within_grown es fs rest (Some a) e h = omega (arith, ap length e, length-append es rest)
 
@@ -110,7 +111,7 @@ same_trans L M K f g w = both_ways (L w) (M w) (K w) (f w) (g w)
 
 -- copies of a part in front of what was made of it
 pub then_copies : {E : Type 0} (r : Result (Option ℕ) E) (es fs gs : List Expression) (p q : Option ℕ) (n : ℕ)
-    (L M : List ℕ → Type 0) → IsPart (length es) p → Makes es fs q L
+    (L M : List ℕ → Type 0) → IsPlainPart (length es) p → Makes es fs q L
     → IfOk r (λ x. Makes fs gs x (InTurn (Joined (PartMatches fs p) n) (PartMatches fs q)))
     → Same (InTurn (Joined (PartMatches es p) n) L) M → IfOk r (λ x. Makes es gs x M)
 then_copies (Ok x) es fs gs p q n L M h a b f =

@@ -7,14 +7,14 @@ use Rattle.std.proofs.lemmas.Bool.{cases_eq, cases_lt}
 use Rattle.std.proofs.lemmas.List.{get_or_push, get_or_append_left, get_or_past}
 use Rattle.std.proofs.lemmas.List.Elements.{All-push, All-weaker}
 use Rattle.ly_ere.specs.Expression.{Expression, set, empty, concat, either, star, plus, optional, repeat, name, Joined}
-use Rattle.ly_ere.specs.Expression.{Within, MatchesUnder, NamedUpTo, Matches}
+use Rattle.ly_ere.specs.Expression.{IsAtMost, MatchesUnder, NamedUpTo, Matches}
 use Rattle.ly_ere.specs.Arena.{part_of, expression_of, expressions, FitsAt, IsOrdered}
 use Rattle.ly_ere.specs.declared.node.Node.{Node}
 use Rattle.ly_ere.specs.declared.node.Node.TheVariants.{Set, Empty, Concat, Either, Star, Plus, Optional, Repeat, Name}
-use Rattle.ly_ere.specs.Winner.{InTail}
+use Rattle.ly_ere.specs.Winner.{InTail, PatternMatches}
 use Rattle.ly_ere.specs.declared.pattern.Rule.{Rule}
-use Rattle.ly_position.specs.Plain.{PartMatches, IsPart, InTurn, Same, Makes}
-use Rattle.ly_position.specs.Plan.{ListedMatches, NodeMatches, InTailUnder, Spelled, SpelledUnder}
+use Rattle.ly_position.specs.Private.Plain.{PartMatches, IsPlainPart, InTurn, Same, Makes}
+use Rattle.ly_position.specs.Private.Plan.{ListedMatches, NodeMatches, InTailUnder, SpelledUnder}
 use Rattle.ly_ere.proofs.ExpressionLemmas.{expression_at}
 use Rattle.ly_position.proofs.JoinedLemmas.{in_turn_same, or_same, joined_same}
 use Rattle.ly_position.proofs.PlainLemmas.{makes_trans, part_grown, within_grown, same, same_trans}
@@ -27,7 +27,7 @@ plus_same : (L M : List ℕ → Type 0) → Same L M → Same (λ w. (k : ℕ) �
 plus_same L M f w = (λ h. (h.0, h.1, (joined_same L M f h.0 w).0 h.2), λ h. (h.0, h.1, (joined_same L M f h.0 w).1 h.2))
 
 repeat_same : (L M : List ℕ → Type 0) (m : ℕ) (n : Option ℕ) → Same L M
-    → Same (λ w. (k : ℕ) × (m ≤ k) × Within k n × Joined L k w) (λ w. (k : ℕ) × (m ≤ k) × Within k n × Joined M k w)
+    → Same (λ w. (k : ℕ) × (m ≤ k) × IsAtMost k n × Joined L k w) (λ w. (k : ℕ) × (m ≤ k) × IsAtMost k n × Joined M k w)
 repeat_same L M m n f w
     = (λ h. (h.0, h.1, h.2, (joined_same L M f h.0 w).0 h.3), λ h. (h.0, h.1, h.2, (joined_same L M f h.0 w).1 h.3))
 
@@ -66,7 +66,8 @@ matches_same N N' f (repeat m n r) = repeat_same (MatchesUnder N r) (MatchesUnde
 matches_same N N' f (name x) = f x
 
 -- listed parts have the same strings as the expressions grow
-pub listed_grown : (es fs rest : List Expression) (ps : List (Option ℕ)) → fs ≡ es ++ rest → All (IsPart (length es)) ps
+pub listed_grown : (es fs rest : List Expression) (ps : List (Option ℕ)) → fs ≡ es ++ rest
+    → All (IsPlainPart (length es)) ps
     → (x : ℕ) → Same (ListedMatches fs ps x) (ListedMatches es ps x)
 listed_grown es fs rest ps e all x
     = part_grown es fs rest (get_or ps x None) e (elim (cases_lt x (length ps)) [
@@ -75,9 +76,10 @@ listed_grown es fs rest ps e all x
           rw (get_or_past ps x None b) tt
     ])
 
-pub all_grown : (es fs rest : List Expression) (ps : List (Option ℕ)) → fs ≡ es ++ rest → All (IsPart (length es)) ps
-    → All (IsPart (length fs)) ps
-all_grown es fs rest ps e all = All-weaker (IsPart (length es)) (IsPart (length fs))
+pub all_grown : (es fs rest : List Expression) (ps : List (Option ℕ)) → fs ≡ es ++ rest
+    → All (IsPlainPart (length es)) ps
+    → All (IsPlainPart (length fs)) ps
+all_grown es fs rest ps e all = All-weaker (IsPlainPart (length es)) (IsPlainPart (length fs))
     (λ p h. within_grown es fs rest p e h) ps all
 
 -- one more part at the end of a list
@@ -92,8 +94,8 @@ listed_push_new es ps p w = rw (get_or_push ps p None (length ps) refl) (λ k. k
 -- one more node
 module _ (es₀ es es' rest : List Expression) (names parts : List (Option ℕ)) (nodes : List Node) (i : ℕ) (n : Node)
     (p : Option ℕ)
-    (grown : es ≡ es₀ ++ rest) (all_names : All (IsPart (length es₀)) names) (count : length parts ≡ i)
-    (within : All (IsPart (length es)) parts)
+    (grown : es ≡ es₀ ++ rest) (all_names : All (IsPlainPart (length es₀)) names) (count : length parts ≡ i)
+    (within : All (IsPlainPart (length es)) parts)
     (spells : (a : ℕ) → a < i
     → Same (ListedMatches es parts a) (MatchesUnder (ListedMatches es₀ names) (part_of (expressions nodes) a)))
     (ordered : IsOrdered nodes) (less : i < length nodes) (is : n ≡ get_or nodes i n)
@@ -101,8 +103,9 @@ module _ (es₀ es es' rest : List Expression) (names parts : List (Option ℕ))
   pub more_grown : es' ≡ es₀ ++ (rest ++ made.rest)
   more_grown = made.grown ∙ (ap (λ z. z ++ made.rest) grown ∙ append_assoc es₀ rest made.rest)
 
-  pub more_within : All (IsPart (length es')) (parts ++ p ∷ [])
-  more_within = All-push (IsPart (length es')) parts p (all_grown es es' made.rest parts made.grown within) made.within
+  pub more_within : All (IsPlainPart (length es')) (parts ++ p ∷ [])
+  more_within = All-push (IsPlainPart (length es')) parts p (all_grown es es' made.rest parts made.grown within)
+      made.within
 
   old_spells : (a : ℕ) → a < i
       → Same (ListedMatches es' (parts ++ p ∷ []) a)
@@ -164,13 +167,13 @@ module _ (names : List Expression) (i : ℕ) (d : Expression) (is : slice_get na
       back (inl h) = absurd (omega (arith, h.0))
       back (inr h) = absurd (omega (arith, h.0))
 
-  module _ (es es' : List Expression) (ps : List (Option ℕ)) (p : Option ℕ) (within : All (IsPart (length es)) ps)
+  module _ (es es' : List Expression) (ps : List (Option ℕ)) (p : Option ℕ) (within : All (IsPlainPart (length es)) ps)
       (count : length ps ≡ i)
       (spells : (x : ℕ) → Same (ListedMatches es ps x) (NamedUpTo names i x))
       (made : Makes es es' p (MatchesUnder (ListedMatches es ps) d)) where
-    pub names_more_within : All (IsPart (length es')) (ps ++ p ∷ [])
+    pub names_more_within : All (IsPlainPart (length es')) (ps ++ p ∷ [])
     names_more_within
-        = All-push (IsPart (length es')) ps p (all_grown es es' made.rest ps made.grown within) made.within
+        = All-push (IsPlainPart (length es')) ps p (all_grown es es' made.rest ps made.grown within) made.within
 
     pub names_more : (x : ℕ) → Same (ListedMatches es' (ps ++ p ∷ []) x) (NamedUpTo names (i + 1) x)
     names_more x = rw (add-one i) (elim (cases_lt x i) [
@@ -199,7 +202,7 @@ module _ (names : List Expression) (i : ℕ) (d : Expression) (is : slice_get na
 
 -- a head and a tail
 pub then_tail : {E : Type 0} (r : Result (Option ℕ) E) (e₀ e₁ e₂ e₃ : List Expression) (names : List (Option ℕ))
-    (p q : Option ℕ) (head tail : Expression) → All (IsPart (length e₀)) names
+    (p q : Option ℕ) (head tail : Expression) → All (IsPlainPart (length e₀)) names
     → Makes e₀ e₁ p (MatchesUnder (ListedMatches e₀ names) head)
     → Makes e₁ e₂ q (MatchesUnder (ListedMatches e₁ names) tail)
     → IfOk r (λ x. Makes e₂ e₃ x (InTurn (PartMatches e₂ p) (PartMatches e₂ q)))
@@ -225,45 +228,46 @@ tail_same N names (Some t) f = matches_same N (NamedUpTo names (length names)) f
 -- one more rule
 module _ (names : List Expression) (rules : List Rule) (es es' : List Expression) (ds ps : List (Option ℕ)) (i : ℕ)
     (r : Rule) (p : Option ℕ)
-    (within_names : All (IsPart (length es)) ds) (named : (x : ℕ)
+    (within_names : All (IsPlainPart (length es)) ds) (named : (x : ℕ)
     → Same (ListedMatches es ds x) (NamedUpTo names (length names) x))
-    (count : length ps ≡ i) (within : All (IsPart (length es)) ps)
+    (count : length ps ≡ i) (within : All (IsPlainPart (length es)) ps)
     (spells : (j : ℕ) (q : Rule) → j < i → slice_get rules j ≡ Some q
-    → Same (ListedMatches es ps j) (Spelled names q.pattern))
+    → Same (ListedMatches es ps j) (PatternMatches names q.pattern))
     (is : slice_get rules i ≡ Some r) (made : Makes es es' p (SpelledUnder (ListedMatches es ds) r.pattern)) where
-  pub rules_names_within : All (IsPart (length es')) ds
+  pub rules_names_within : All (IsPlainPart (length es')) ds
   rules_names_within = all_grown es es' made.rest ds made.grown within_names
 
   pub rules_named : (x : ℕ) → Same (ListedMatches es' ds x) (NamedUpTo names (length names) x)
   rules_named x = same_trans (ListedMatches es' ds x) (ListedMatches es ds x) (NamedUpTo names (length names) x)
       (listed_grown es es' made.rest ds made.grown within_names x) (named x)
 
-  pub rules_within : All (IsPart (length es')) (ps ++ p ∷ [])
-  rules_within = All-push (IsPart (length es')) ps p (all_grown es es' made.rest ps made.grown within) made.within
+  pub rules_within : All (IsPlainPart (length es')) (ps ++ p ∷ [])
+  rules_within = All-push (IsPlainPart (length es')) ps p (all_grown es es' made.rest ps made.grown within) made.within
 
   rule_old : (j : ℕ) (q : Rule) → j < i → slice_get rules j ≡ Some q
-      → Same (ListedMatches es' (ps ++ p ∷ []) j) (Spelled names q.pattern)
-  rule_old j q l e = same_trans (ListedMatches es' (ps ++ p ∷ []) j) (ListedMatches es' ps j) (Spelled names q.pattern)
+      → Same (ListedMatches es' (ps ++ p ∷ []) j) (PatternMatches names q.pattern)
+  rule_old j q l e = same_trans (ListedMatches es' (ps ++ p ∷ []) j) (ListedMatches es' ps j)
+      (PatternMatches names q.pattern)
       (listed_push_old es' ps p j (omega arith))
-      (same_trans (ListedMatches es' ps j) (ListedMatches es ps j) (Spelled names q.pattern)
+      (same_trans (ListedMatches es' ps j) (ListedMatches es ps j) (PatternMatches names q.pattern)
       (listed_grown es es' made.rest ps made.grown within j) (spells j q l e))
 
-  rule_new : Same (ListedMatches es' (ps ++ p ∷ []) i) (Spelled names r.pattern)
-  rule_new = same_trans (ListedMatches es' (ps ++ p ∷ []) i) (PartMatches es' p) (Spelled names r.pattern)
+  rule_new : Same (ListedMatches es' (ps ++ p ∷ []) i) (PatternMatches names r.pattern)
+  rule_new = same_trans (ListedMatches es' (ps ++ p ∷ []) i) (PartMatches es' p) (PatternMatches names r.pattern)
       (subst (λ k. Same (ListedMatches es' (ps ++ p ∷ []) k) (PartMatches es' p)) count (listed_push_new es' ps p))
       (same_trans (PartMatches es' p) (SpelledUnder (ListedMatches es ds) r.pattern)
-      (Spelled names r.pattern) made.spells
+      (PatternMatches names r.pattern) made.spells
       (in_turn_same (MatchesUnder (ListedMatches es ds) r.pattern.head) (Matches names r.pattern.head)
       (InTailUnder (ListedMatches es ds) r.pattern.tail) (InTail names r.pattern.tail)
       (matches_same (ListedMatches es ds) (NamedUpTo names (length names)) named r.pattern.head)
       (tail_same (ListedMatches es ds) names r.pattern.tail named)))
 
   pub rules_more : (j : ℕ) (q : Rule) → j < i + 1 → slice_get rules j ≡ Some q
-      → Same (ListedMatches es' (ps ++ p ∷ []) j) (Spelled names q.pattern)
+      → Same (ListedMatches es' (ps ++ p ∷ []) j) (PatternMatches names q.pattern)
   rules_more j q l e = elim (cases_lt j i) [
     | inl m ↦ rule_old j q m e
     | inr m ↦ let k : i ≡ j = omega arith in
         let one : r ≡ q = let a = is in let b : slice_get rules i ≡ Some q = ap (λ x. slice_get rules x) k ∙ e in cc in
-        subst (λ x. Same (ListedMatches es' (ps ++ p ∷ []) x) (Spelled names q.pattern)) k
-        (subst (λ (x : Rule). Same (ListedMatches es' (ps ++ p ∷ []) i) (Spelled names x.pattern)) one rule_new)
+        subst (λ x. Same (ListedMatches es' (ps ++ p ∷ []) x) (PatternMatches names q.pattern)) k
+        (subst (λ (x : Rule). Same (ListedMatches es' (ps ++ p ∷ []) i) (PatternMatches names x.pattern)) one rule_new)
   ]

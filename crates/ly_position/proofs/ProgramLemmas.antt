@@ -8,10 +8,10 @@ use Rattle.std.proofs.lemmas.List.Elements.{All-push, All-weaker}
 use Rattle.std.proofs.lemmas.Option.{get_or_from_slice_get, slice_get-get_or, slice_get_within}
 use Rattle.ly_ere.specs.Expression.{Expression, empty}
 use Rattle.ly_ere.specs.Arena.{part_of}
-use Rattle.ly_position.specs.Plain.{PartMatches, IsPart, PlainMatches}
-use Rattle.ly_position.specs.Program.{Step, reads, fork, ends, at_end, size, entry, code, IsPlain}
-use Rattle.ly_position.specs.Reach.{LeadsBelow, IsClosed}
-use Rattle.ly_position.specs.Compile.{EntryRuns, IsProgram}
+use Rattle.ly_position.specs.Private.Plain.{PartMatches, IsPlainPart, PlainMatches}
+use Rattle.ly_position.specs.Private.Program.{Step, reads, fork, ends, at_end, size, entry, code, IsPlainExpression}
+use Rattle.ly_position.specs.Private.Reach.{LeadsBelow, StaysInside}
+use Rattle.ly_position.specs.Private.Compile.{EntryRuns, IsProgram}
 use Rattle.ly_position.proofs.CodeLaws.{HasCode, CanRun, at_stop, sound, complete, entry_below}
 use Rattle.ly_position.proofs.CodePlaces.{IsMove, get-append, get-at_length, HasCode-append, Runs-append, HasCode-of}
 use Rattle.ly_position.proofs.CodePlaces.{length-code, stands, leads}
@@ -25,8 +25,8 @@ RuleStands g es (Some a) e k = (base : ℕ) × (slice_get g base ≡ Some (ends 
 -- the program of the first n rules
 pub record Compiled (es : List Expression) (parts : List (Option ℕ)) (g : List Step) (entries : List (Option ℕ))
     (n : ℕ) : Type 0 where
-  pub closed : IsClosed g
-  pub within : All (IsPart (length g)) entries
+  pub closed : StaysInside g
+  pub within : All (IsPlainPart (length g)) entries
   pub count : length entries ≡ n
   pub standing : (k : ℕ) → k < n → RuleStands g es (get_or parts k None) (get_or entries k None) k
   pub alive : (p : ℕ) → p < length g → (i : ℕ) × (w : List ℕ) × EntryRuns g i (Some p) w
@@ -58,7 +58,7 @@ pub compiled_skip : (es : List Expression) (parts : List (Option ℕ)) (g : List
     → Compiled es parts g entries n → get_or parts n None ≡ None → Compiled es parts g (entries ++ None ∷ []) (n + 1)
 compiled_skip es parts g entries n h e = record {
   closed = h.closed;
-  within = All-push (IsPart (length g)) entries None h.within tt;
+  within = All-push (IsPlainPart (length g)) entries None h.within tt;
   count = omega (arith, h.count, length-append entries (None ∷ []));
   standing = subst (λ (x : List Step). (k : ℕ) → k < n + 1
       → RuleStands x es (get_or parts k None) (get_or (entries ++ None ∷ []) k None) k) (append-nil g)
@@ -72,7 +72,7 @@ leads_further n m (reads bytes q) l h = omega (arith, h)
 leads_further n m (fork a b) l h = (omega (arith, h.0), omega (arith, h.1))
 leads_further n m (ends i) l h = h
 
-part_further : (n m : ℕ) (p : Option ℕ) → n ≤ m → IsPart n p → IsPart m p
+part_further : (n m : ℕ) (p : Option ℕ) → n ≤ m → IsPlainPart n p → IsPlainPart m p
 part_further n m None l h = h
 part_further n m (Some a) l h = omega (arith, h)
 
@@ -83,7 +83,7 @@ get_front xs ys p x l e = slice_get-get_or xs p x l ∙ ap (λ y. Some y) (sym (
 
 -- one more rule
 module _ (es : List Expression) (parts : List (Option ℕ)) (g : List Step) (entries : List (Option ℕ)) (n a : ℕ)
-    (h : Compiled es parts g entries n) (is : get_or parts n None ≡ Some a) (plain : IsPlain (part_of es a)) where
+    (h : Compiled es parts g entries n) (is : get_or parts n None ≡ Some a) (plain : IsPlainExpression (part_of es a)) where
   abbrev more : List Step
   more = ends n ∷ code (part_of es a) (length g + 1) (length g)
 
@@ -143,8 +143,8 @@ module _ (es : List Expression) (parts : List (Option ℕ)) (g : List Step) (ent
     closed = λ p s e. each (LeadsBelow (length (g ++ more))) p s e
         (λ k. leads_further (length g) (length (g ++ more)) s (omega (arith, count_more)) (h.closed p s k)) tt
         (λ x l m. l);
-    within = All-push (IsPart (length (g ++ more))) entries first
-        (All-weaker (IsPart (length g)) (IsPart (length (g ++ more)))
+    within = All-push (IsPlainPart (length (g ++ more))) entries first
+        (All-weaker (IsPlainPart (length g)) (IsPlainPart (length (g ++ more)))
         (λ q k. part_further (length g) (length (g ++ more)) q (omega (arith, count_more)) k) entries h.within)
         (entry_below (length g + 1) (size (part_of es a)) (length g) (length (g ++ more)) (omega (arith, count_more))
         (omega (arith, count_more)));
@@ -158,7 +158,7 @@ module _ (es : List Expression) (parts : List (Option ℕ)) (g : List Step) (ent
 
 -- what runs from an entry is what the part has
 module _ (es : List Expression) (g : List Step) (j : ℕ) where
-  rule_runs : (part e : Option ℕ) (k : ℕ) (w : List ℕ) → ((a : ℕ) → part ≡ Some a → IsPlain (part_of es a))
+  rule_runs : (part e : Option ℕ) (k : ℕ) (w : List ℕ) → ((a : ℕ) → part ≡ Some a → IsPlainExpression (part_of es a))
       → RuleStands g es part e k → EntryRuns g j e w ↔ ((j ≡ k) × PartMatches es part w)
   rule_runs None e k w plain h = rw h (λ r. absurd r, λ r. r.1)
   rule_runs (Some a) e k w plain h = rw h.3 (there, back)
@@ -184,7 +184,7 @@ module _ (es : List Expression) (g : List Step) (j : ℕ) where
 
 -- past the last rule
 pub compiled_all : (es : List Expression) (parts : List (Option ℕ)) (g : List Step) (entries : List (Option ℕ)) (n : ℕ)
-    → Compiled es parts g entries n → n ≡ length parts → All IsPlain es → All (IsPart (length es)) parts
+    → Compiled es parts g entries n → n ≡ length parts → All IsPlainExpression es → All (IsPlainPart (length es)) parts
     → IsProgram es parts g entries
 compiled_all es parts g entries n h all plain within = record {
   closed = h.closed;
@@ -192,7 +192,7 @@ compiled_all es parts g entries n h all plain within = record {
   count = h.count ∙ all;
   spells = λ i j w. elim (cases_lt i n) [
     | inl l ↦ rule_runs es g j (get_or parts i None) (get_or entries i None) i w
-        (λ a e. plain a empty (let P : Option ℕ → Type 0 = IsPart (length es)
+        (λ a e. plain a empty (let P : Option ℕ → Type 0 = IsPlainPart (length es)
         in subst P e (within i None (omega arith)))) (h.standing i l)
     | inr l ↦ rw (get_or_past parts i None (omega arith), get_or_past entries i None (omega (arith, h.count)))
         (λ r. absurd r, λ r. r.1)
@@ -203,7 +203,7 @@ compiled_all es parts g entries n h all plain within = record {
 
 -- one more rule, as it was appended
 pub compiled_step : (es : List Expression) (parts : List (Option ℕ)) (g g' : List Step) (entries fs : List (Option ℕ))
-    (n a base e : ℕ) → Compiled es parts g entries n → get_or parts n None ≡ Some a → IsPlain (part_of es a)
+    (n a base e : ℕ) → Compiled es parts g entries n → get_or parts n None ≡ Some a → IsPlainExpression (part_of es a)
     → base ≡ length g → e ≡ entry (base + 1) (size (part_of es a)) base
     → g' ≡ g ++ ends n ∷ code (part_of es a) (base + 1) base → fs ≡ entries ++ Some e ∷ []
     → Compiled es parts g' fs (n + 1)

@@ -9,10 +9,10 @@ use Rattle.std.proofs.lemmas.List.Elements.{All-push, All-set, All-nil, Contains
 use Rattle.std.proofs.lemmas.List.Elements.{Contains-push_cases}
 use Rattle.ly_base.proofs.MemberLemmas.{Contains-none}
 use Rattle.ly_ere.specs.declared.pattern.Rule.{Rule}
-use Rattle.ly_position.specs.Program.{Step}
-use Rattle.ly_position.specs.Follow.{IsReachList}
-use Rattle.ly_position.specs.Starts.{key, root_list, MayBegin, PutsIn, AddsIn, AddsInEach, StaysWithin, BeginsBefore}
-use Rattle.ly_position.specs.Starts.{AreRoots, StartsAt}
+use Rattle.ly_position.specs.Private.Program.{Step}
+use Rattle.ly_position.specs.Private.Link.{IsReachList}
+use Rattle.ly_position.specs.Private.Starts.{key, root_list, PutsIn, AddsIn, AddsInEach, StaysWithin, BeginsBefore}
+use Rattle.ly_position.specs.Private.Starts.{AreRoots, StartsAt}
 
 -- an entry in one list
 pub put_within : (L L' : List (List ℕ)) (k x : ℕ) → k < length L → PutsIn L L' k x → StaysWithin L L' x
@@ -67,11 +67,12 @@ added_at_line L L' d x less is c line e = (λ h. there (p.0 h), λ h. p.1 (back 
     p = put_each L L' (2 * d + 1) x less is (key c line) e
 
     there : Contains (root_list L c line) e ⊎ ((key c line ≡ 2 * d + 1) × (e ≡ x)) → Contains (root_list L c line) e
-        ⊎ ((c ≡ d) × MayBegin true line × (e ≡ x))
+        ⊎ ((c ≡ d) × (IsTrue true → IsTrue line) × (e ≡ x))
     there (inl a) = inl a
     there (inr b) = let k = (key_odd c d line).0 b.0 in inr (k.0, (λ t. k.1), b.1)
 
-    back : Contains (root_list L c line) e ⊎ ((c ≡ d) × MayBegin true line × (e ≡ x)) → Contains (root_list L c line) e
+    back : Contains (root_list L c line) e ⊎ ((c ≡ d) × (IsTrue true → IsTrue line) × (e ≡ x))
+        → Contains (root_list L c line) e
         ⊎ ((key c line ≡ 2 * d + 1) × (e ≡ x))
     back (inl a) = inl a
     back (inr b) = inr ((key_odd c d line).1 (b.0, b.1 refl), b.2)
@@ -87,12 +88,12 @@ added_anywhere L M L' d x less less' is is' c line e = (λ h. there (q.0 h), λ 
     q = put_each M L' (2 * d + 1) x less' is' (key c line) e
 
     from : Contains (root_list L c line) e ⊎ ((key c line ≡ 2 * d) × (e ≡ x)) → Contains (root_list L c line) e
-        ⊎ ((c ≡ d) × MayBegin false line × (e ≡ x))
+        ⊎ ((c ≡ d) × (IsTrue false → IsTrue line) × (e ≡ x))
     from (inl a) = inl a
     from (inr b) = let k = (key_even c d line).0 b.0 in inr (k.0, (λ t. cc), b.1)
 
     there : Contains (root_list M c line) e ⊎ ((key c line ≡ 2 * d + 1) × (e ≡ x)) → Contains (root_list L c line) e
-        ⊎ ((c ≡ d) × MayBegin false line × (e ≡ x))
+        ⊎ ((c ≡ d) × (IsTrue false → IsTrue line) × (e ≡ x))
     there (inl a) = from (p.0 a)
     there (inr b) = let k = (key_odd c d line).0 b.0 in inr (k.0, (λ t. cc), b.1)
 
@@ -101,7 +102,8 @@ added_anywhere L M L' d x less less' is is' c line e = (λ h. there (q.0 h), λ 
     either_key true t k s = inr ((key_odd c d line).1 (k, t), s)
     either_key false t k s = inl (p.1 (inr ((key_even c d line).1 (k, t), s)))
 
-    back : Contains (root_list L c line) e ⊎ ((c ≡ d) × MayBegin false line × (e ≡ x)) → Contains (root_list M c line) e
+    back : Contains (root_list L c line) e ⊎ ((c ≡ d) × (IsTrue false → IsTrue line) × (e ≡ x))
+        → Contains (root_list M c line) e
         ⊎ ((key c line ≡ 2 * d + 1) × (e ≡ x))
     back (inl a) = inl (p.1 (inl a))
     back (inr b) = either_key line refl b.0 b.2
@@ -118,18 +120,19 @@ pub each_more : (L M N : List (List ℕ)) (n : ℕ) (done done' : List ℕ) (d :
 each_more L M N n done done' d b x f g is c line e l
     = rw is (λ h. there ((g c line e).0 h), λ h. (g c line e).1 (back h))
   where
-    so_far : Contains (root_list L c line) e ⊎ (Contains done c × MayBegin b line × (e ≡ x))
-        → Contains (root_list L c line) e ⊎ (Contains (done ++ d ∷ []) c × MayBegin b line × (e ≡ x))
+    so_far : Contains (root_list L c line) e ⊎ (Contains done c × (IsTrue b → IsTrue line) × (e ≡ x))
+        → Contains (root_list L c line) e ⊎ (Contains (done ++ d ∷ []) c × (IsTrue b → IsTrue line) × (e ≡ x))
     so_far (inl h) = inl h
     so_far (inr h) = inr (Contains-append_left done (d ∷ []) c h.0, h.1, h.2)
 
-    there : Contains (root_list M c line) e ⊎ ((c ≡ d) × MayBegin b line × (e ≡ x)) → Contains (root_list L c line) e
-        ⊎ (Contains (done ++ d ∷ []) c × MayBegin b line × (e ≡ x))
+    there : Contains (root_list M c line) e ⊎ ((c ≡ d) × (IsTrue b → IsTrue line) × (e ≡ x))
+        → Contains (root_list L c line) e
+        ⊎ (Contains (done ++ d ∷ []) c × (IsTrue b → IsTrue line) × (e ≡ x))
     there (inl h) = so_far ((f c line e l).0 h)
     there (inr h) = inr (subst (λ k. Contains (done ++ d ∷ []) k) (sym h.0) (Contains-push done d), h.1, h.2)
 
-    back : Contains (root_list L c line) e ⊎ (Contains (done ++ d ∷ []) c × MayBegin b line × (e ≡ x))
-        → Contains (root_list M c line) e ⊎ ((c ≡ d) × MayBegin b line × (e ≡ x))
+    back : Contains (root_list L c line) e ⊎ (Contains (done ++ d ∷ []) c × (IsTrue b → IsTrue line) × (e ≡ x))
+        → Contains (root_list M c line) e ⊎ ((c ≡ d) × (IsTrue b → IsTrue line) × (e ≡ x))
     back (inl h) = inl ((f c line e l).1 (inl h))
     back (inr h)
         = elim (Contains-push_cases done d c h.0) [
@@ -143,13 +146,13 @@ pub each_skip : (L M : List (List ℕ)) (n : ℕ) (done done' : List ℕ) (d : �
 each_skip L M n done done' d b x f le is c line e l
     = rw is (λ h. so_far ((f c line e l).0 h), λ h. (f c line e l).1 (back h))
   where
-    so_far : Contains (root_list L c line) e ⊎ (Contains done c × MayBegin b line × (e ≡ x))
-        → Contains (root_list L c line) e ⊎ (Contains (done ++ d ∷ []) c × MayBegin b line × (e ≡ x))
+    so_far : Contains (root_list L c line) e ⊎ (Contains done c × (IsTrue b → IsTrue line) × (e ≡ x))
+        → Contains (root_list L c line) e ⊎ (Contains (done ++ d ∷ []) c × (IsTrue b → IsTrue line) × (e ≡ x))
     so_far (inl h) = inl h
     so_far (inr h) = inr (Contains-append_left done (d ∷ []) c h.0, h.1, h.2)
 
-    back : Contains (root_list L c line) e ⊎ (Contains (done ++ d ∷ []) c × MayBegin b line × (e ≡ x))
-        → Contains (root_list L c line) e ⊎ (Contains done c × MayBegin b line × (e ≡ x))
+    back : Contains (root_list L c line) e ⊎ (Contains (done ++ d ∷ []) c × (IsTrue b → IsTrue line) × (e ≡ x))
+        → Contains (root_list L c line) e ⊎ (Contains done c × (IsTrue b → IsTrue line) × (e ≡ x))
     back (inl h) = inl h
     back (inr h) = elim (Contains-push_cases done d c h.0) [
       | inl a ↦ inr (a, h.1, h.2)
@@ -176,7 +179,7 @@ roots_none rules entries conditions bound L count none = record {
 
 later : (rules : List Rule) (entries : List (Option ℕ)) (n c : ℕ) (line : Bool) (e : ℕ)
     → BeginsBefore rules entries n c line e → BeginsBefore rules entries (n + 1) c line e
-later rules entries n c line e h = (h.0, h.1, omega (arith, h.2), h.3, h.4, h.5, h.6)
+later rules entries n c line e h = (h.0, h.1, omega (arith, h.2), h.3, h.4)
 
 pub roots_skip : (rules : List Rule) (entries : List (Option ℕ)) (n conditions bound : ℕ) (L : List (List ℕ))
     → AreRoots rules entries n conditions bound L → get_or entries n None ≡ None
@@ -193,8 +196,8 @@ roots_skip rules entries n conditions bound L h none = record {
     earlier : (c : ℕ) (line : Bool) (e : ℕ) → BeginsBefore rules entries (n + 1) c line e
         → BeginsBefore rules entries n c line e
     earlier c line e k = elim (cases_eq k.0 n) [
-      | inl same ↦ let at : get_or entries n None ≡ Some e = ap (λ i. get_or entries i None) (sym same) ∙ k.6 in cc
-      | inr other ↦ (k.0, k.1, omega (arith, k.2), k.3, k.4, k.5, k.6)
+      | inl same ↦ let at : get_or entries n None ≡ Some e = ap (λ i. get_or entries i None) (sym same) ∙ k.4 in cc
+      | inr other ↦ (k.0, k.1, omega (arith, k.2), k.3, k.4)
     ]
 
 pub roots_more : (rules : List Rule) (entries : List (Option ℕ)) (n conditions bound : ℕ) (L M : List (List ℕ))
@@ -209,25 +212,33 @@ roots_more rules entries n conditions bound L M r x h is at less count stays add
 }
   where
     there : (c : ℕ) (line : Bool) (e : ℕ) → Contains (root_list L c line) e
-        ⊎ (Contains r.active.items c × MayBegin r.pattern.line_start line × (e ≡ x)) → c < conditions
+        ⊎ (Contains r.active.items c × (IsTrue r.pattern.line_start → IsTrue line) × (e ≡ x)) → c < conditions
         → BeginsBefore rules entries (n + 1) c line e
     there c line e (inl k) l = later rules entries n c line e ((h.each c line e l).0 k)
-    there c line e (inr k) l = (n, r, omega arith, is, k.0, k.1, at ∙ ap (λ z. Some z) (sym k.2))
+    there c line e (inr k) l = (
+      n,
+      r,
+      omega arith,
+      record { is_rule = is; in_condition = k.0; at_line = k.1 },
+      at ∙ ap (λ z. Some z) (sym k.2),
+    )
 
     back : (c : ℕ) (line : Bool) (e : ℕ) → c < conditions → BeginsBefore rules entries (n + 1) c line e
-        → Contains (root_list L c line) e ⊎ (Contains r.active.items c × MayBegin r.pattern.line_start line × (e ≡ x))
+        → Contains (root_list L c line) e ⊎ (Contains r.active.items c × (IsTrue r.pattern.line_start → IsTrue line)
+        × (e ≡ x))
     back c line e l k = elim (cases_eq k.0 n) [
       | inl same ↦
-          let one : k.1 ≡ r = let a : slice_get rules n ≡ Some k.1 = ap (λ i. slice_get rules i) (sym same) ∙ k.3 in cc
+          let one : k.1 ≡ r = let a : slice_get rules n ≡ Some k.1 = ap (λ i. slice_get rules i) (sym same)
+          ∙ k.3.is_rule in cc
           in
-          let two : e ≡ x = let a : get_or entries n None ≡ Some e = ap (λ i. get_or entries i None) (sym same) ∙ k.6
+          let two : e ≡ x = let a : get_or entries n None ≡ Some e = ap (λ i. get_or entries i None) (sym same) ∙ k.4
           in cc in
           inr (
-            subst (λ (q : Rule). Contains q.active.items c) one k.4,
-            subst (λ (q : Rule). MayBegin q.pattern.line_start line) one k.5,
+            subst (λ (q : Rule). Contains q.active.items c) one k.3.in_condition,
+            subst (λ (q : Rule). (IsTrue q.pattern.line_start → IsTrue line)) one k.3.at_line,
             two,
           )
-      | inr other ↦ inl ((h.each c line e l).1 (k.0, k.1, omega (arith, k.2), k.3, k.4, k.5, k.6))
+      | inr other ↦ inl ((h.each c line e l).1 (k.0, k.1, omega (arith, k.2), k.3, k.4))
     ]
 
 -- one more list of positions

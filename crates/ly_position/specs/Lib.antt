@@ -1,14 +1,8 @@
-pub mod Assembled
-pub mod Compile
-pub mod FaultNumber
-pub mod Follow
+pub mod FaultNames
 pub mod Lists
 pub mod Nfa
 pub mod Patterns
-pub mod Plain
-pub mod Plan
 pub mod Position
-pub mod Program
-pub mod Reach
-pub mod Starts
+pub mod Private
+pub mod Target
 pub mod TotalWeight

@@ -1,36 +1,50 @@
 -- Positions with their follow lists and start lists, and runs over them (McNaughton and Yamada 1960).
-use Rattle.std.specs.Prelude.{◌≡◌, ℕ, ◌+◌, ◌*◌, List, [], ◌∷◌, slice_get, slice_index_or, Bool, if◌then◌else◌, Contains}
-use Rattle.std.specs.Prelude.{Some}
+use Rattle.std.specs.Prelude.{◌≡◌, ℕ, ◌+◌, ◌*◌, List, [], ◌∷◌, length, slice_get, slice_index_or, Bool, if◌then◌else◌}
+use Rattle.std.specs.Prelude.{Contains, Some}
+use Rattle.ly_position.specs.declared.set.PositionSet.{PositionSet}
 
 -- A position: it reads one of some bytes, and some positions may come next; or the pattern of a rule ends there.
-pub data Place : Type 0 where
-  reading : List ℕ → List ℕ → Place
-  ending : ℕ → Place
+pub data Position : Type 0 where
+  reading : List ℕ → List ℕ → Position
+  ending : ℕ → Position
 
--- The positions, and two start lists for each condition: in the middle of a line, and where a line begins.
+-- The positions, how many forks their follow lists share in memory, and two start lists for each condition: in the
+-- middle of a line, and where a line begins.
 pub record Nfa : Type 0 where
-  pub positions : List Place
+  pub positions : List Position
+  pub forks : ℕ
   pub starts : List (List ℕ)
 
-abbrev pub bytes_of : Place → List ℕ
+-- the bytes that a position reads
+abbrev pub bytes_of : Position → List ℕ
 bytes_of (reading bytes follow) = bytes
 bytes_of (ending i) = []
 
-abbrev pub follow_of : Place → List ℕ
+-- the positions that may come after it
+abbrev pub follow_of : Position → List ℕ
 follow_of (reading bytes follow) = follow
 follow_of (ending i) = []
 
 -- position p; one that reads nothing past the last
-abbrev pub place_of : Nfa → ℕ → Place
-place_of nfa p = slice_index_or nfa.positions p (reading [] [])
+abbrev pub position_of : Nfa → ℕ → Position
+position_of nfa p = slice_index_or nfa.positions p (reading [] [])
 
 -- position p may read b
 abbrev pub Reads : Nfa → ℕ → ℕ → Type 0
-Reads nfa p b = Contains (bytes_of (place_of nfa p)) b
+Reads nfa p b = Contains (bytes_of (position_of nfa p)) b
 
 -- position q may come after p
 abbrev pub Follows : Nfa → ℕ → ℕ → Type 0
-Follows nfa p q = Contains (follow_of (place_of nfa p)) q
+Follows nfa p q = Contains (follow_of (position_of nfa p)) q
+
+-- position q may come after one of the positions that reads b
+abbrev pub Stepped : Nfa → List ℕ → ℕ → ℕ → Type 0
+Stepped nfa ps b q = (p : ℕ) × Contains ps p × Reads nfa p b × Follows nfa p q
+
+-- the set has room for the positions of the automaton, and for its forks
+pub record IsRoomFor (nfa : Nfa) (set : PositionSet) : Type 0 where
+  pub positions : set.positions.below ≡ length nfa.positions
+  pub forks : set.forks.below ≡ nfa.forks
 
 -- the pattern of rule i ends at position p
 abbrev pub IsEnd : Nfa → ℕ → ℕ → Type 0

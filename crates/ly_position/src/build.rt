@@ -3,25 +3,23 @@
 // becomes a program of reads, forks and ends (Thompson 1968), made from the end of each pattern to
 // its front, so that an instruction is final when it is appended. Its reads and ends are the
 // positions (McNaughton and Yamada 1960). What may follow one is what is reached from where it goes
-// on by forks alone; instructions that go on at one place share their list. Nothing recurses, so
-// depth costs memory alone. A run of parts that may each be left out has follow lists as long as
-// what is left of the run, so their lengths add up to a square.
-
-ghost use Rattle.std.specs.Prelude.{◌≡◌, ◌<◌, ◌≤◌, length, map, All, IfOk, IsErrOf, OnOk};
-ghost use Rattle.ly_base.specs.Limits.{total_weight_of};
-ghost use Rattle.ly_position.specs.Plain.{IsPart};
-ghost use Rattle.ly_position.specs.Program.{steps_of};
-ghost use Rattle.ly_position.specs.Reach.{IsClosed};
+// on by forks alone. These lists aren't made: where parts may each be left out, their lengths add up
+// to a square. The forks are kept instead and followed at each step, each once, so room is linear in
+// the patterns that are written out. Start lists alone are made. Nothing recurses, so depth costs
+// memory alone.
+ghost use Rattle.std.specs.Prelude.{◌≡◌, ◌<◌, ◌≤◌, length, All, IfOk, IsErrOf, OnOk};
+ghost use Rattle.ly_position.specs.Private.Plain.{IsPlainPart};
+ghost use Rattle.ly_position.specs.Private.Program.{steps_of};
+ghost use Rattle.ly_position.specs.Private.Reach.{StaysInside};
 ghost use Rattle.ly_position.specs.Patterns.{ArePositions};
-ghost use Rattle.ly_position.specs.Assembled.{Assembled};
+ghost use Rattle.ly_position.specs.Private.Assembled.{Assembled};
 ghost use Rattle.ly_position.specs.TotalWeight.{total_weight};
 
 use crate::fault::PosFault;
-use crate::follow::{Slots, make_slots, numbers};
+use crate::link::link;
 use crate::nfa::PosNfa;
 use crate::plan::write_out;
 use crate::program::{Program, compile};
-use crate::reach::Reach;
 use crate::starts::starts;
 use crate::weight::weigh_all;
 use ly_base::Limits;
@@ -39,8 +37,8 @@ pub fn positions(
     limits: &Limits,
 ) -> Result<PosNfa, PosFault>
     ensures positions { IfOk result (ArePositions names.now rules.now conditions) }
-    ensures light { OnOk result (total_weight names.now rules.now ≤ total_weight_of limits.now) }
-    ensures heavy { IsErrOf result PosFault.TooManyPositions → total_weight_of limits.now <
+    ensures light { OnOk result (total_weight names.now rules.now ≤ limits.now.total_weight) }
+    ensures heavy { IsErrOf result PosFault.TooManyPositions → limits.now.total_weight <
         total_weight names.now rules.now }
 {
     if weigh_all(alloc, rules, names, limits.total_weight())?.is_none() {
@@ -58,17 +56,14 @@ fn assemble(
     conditions: u32,
     program: &Program,
 ) -> Result<PosNfa, AllocError>
-    requires closed { IsClosed (steps_of program.now.instructions.items) }
-    requires within { All (IsPart (length program.now.instructions.items))
+    requires closed { StaysInside (steps_of program.now.instructions.items) }
+    requires within { All (IsPlainPart (length program.now.instructions.items))
         program.now.entries.items }
     requires count { length program.now.entries.items ≡ length rules.now }
     ensures { IfOk result (Assembled (steps_of program.now.instructions.items) rules.now
         program.now.entries.items conditions) }
 {
-    let code = program.instructions.as_slice();
-    let numbers = numbers(alloc, code)?;
-    let mut reach = Reach::new(alloc, code.len())?;
-    let Slots { slots, follow } = make_slots(alloc, code, &numbers, &mut reach)?;
-    let starts = starts(alloc, rules, conditions, program, &numbers, &mut reach)?;
-    Ok(PosNfa::of(slots, follow, starts))
+    let linked = link(alloc, &program.instructions)?;
+    let starts = starts(alloc, rules, conditions, program, &linked)?;
+    Ok(PosNfa::of(linked.slots, linked.forks, starts))
 }

@@ -8,7 +8,7 @@ use thiserror::Error;
 #[derive(Clone, Copy, Debug, PartialEq, Eq, Error)]
 pub enum PosFault {
     /// The weight of all patterns together is above the limit.
-    #[error("51 TooManyPositions")]
+    #[error("the patterns are too heavy together")]
     TooManyPositions,
     /// A growth was refused.
     #[error("out of memory")]
@@ -16,15 +16,25 @@ pub enum PosFault {
 }
 
 impl PosFault {
-    ghost use Rattle.ly_position.specs.FaultNumber.{number_of};
+    ghost use Rattle.ly_position.specs.FaultNames.{position_name, position_number};
 
     /// The fault's number; want of memory has none.
     pub fn number(&self) -> Option<u8>
-        ensures { result ≡ number_of self.now }
+        ensures { result ≡ position_number self.now }
     {
         match self {
             PosFault::TooManyPositions => Some(51),
             PosFault::OutOfMemory => None,
+        }
+    }
+
+    /// The fault's name.
+    pub fn name(&self) -> &'static str
+        ensures { result.now ≡ position_name self.now }
+    {
+        match self {
+            PosFault::TooManyPositions => "TooManyPositions",
+            PosFault::OutOfMemory => "OutOfMemory",
         }
     }
 }

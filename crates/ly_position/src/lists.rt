@@ -7,7 +7,9 @@ use std::marker::Model;
 /// A list of lists of numbers, one after another in one block.
 #[derive(Drop)]
 pub struct Lists {
+    /// The members of all lists.
     members: Vec<u32>,
+    /// Where each list ends among them.
     ends: Vec<usize>,
 }
 

@@ -1,10 +1,14 @@
-ghost use Rattle.std.specs.Prelude.{◌≡◌, ◌<◌, ◌↔◌, length, slice_get, Some, All, IsTrue};
+ghost use Rattle.std.specs.Prelude.{◌≡◌, ℕ, ◌<◌, ◌↔◌, [], length, slice_get, Some, All, Contains, IfOk, IsTrue};
+ghost use Rattle.ly_position.specs.Private.Targets.{StepsTo, SameRoom, target_after};
+ghost use Rattle.ly_position.specs.Target.{GoOnWithin};
 
 use crate::lists::Lists;
+use crate::set::PositionSet;
 use ly_base::{ByteSet, RuleNo};
+use std::alloc::{AllocError, Global};
 use std::marker::Model;
 
-/// A place of a pattern that is written out.
+/// A position of a pattern that is written out.
 #[derive(Clone, Copy, Debug, PartialEq, Eq)]
 pub enum Position {
     /// One byte of the set is read here.
@@ -16,26 +20,47 @@ pub enum Position {
     Ends(RuleNo),
 }
 
+/// Where a run goes on.
+#[derive(Clone, Copy)]
+pub enum Target {
+    /// At the position of this number.
+    Position(u32),
+    /// At either side of the fork of this number.
+    Fork(u32),
+}
+
+/// A run goes on at either side.
+#[derive(Clone, Copy)]
+pub struct Fork {
+    /// The one side.
+    pub first: Target,
+    /// The other side.
+    pub second: Target,
+}
+
 /// A position in memory.
 #[derive(Clone, Copy)]
 pub enum Slot {
-    /// One byte of the set is read here, and a position of the list of this number comes next.
+    /// One byte of the set is read here, and then the run goes on.
     Reads {
         /// The bytes.
         bytes: ByteSet,
-        /// The number of the follow list.
-        follow: usize,
+        /// Where it goes on.
+        next: Target,
     },
     /// The pattern of the rule ends here.
     Ends(RuleNo),
 }
 
-/// The positions of all rules, with those that may come first and after each (McNaughton and Yamada
-/// 1960).
+/// The positions of all rules, with those that may come first and after each (McNaughton and Yamada 1960). Positions
+/// share the forks that lead to those after them, so the room is linear in the patterns that are written out.
 #[derive(Drop)]
 pub struct PosNfa {
+    /// The positions.
     slots: Vec<Slot>,
-    follow: Lists,
+    /// The forks.
+    forks: Vec<Fork>,
+    /// For each condition the positions that may come first in the middle of a line, then those at its beginning.
     starts: Lists,
 }
 
@@ -44,25 +69,27 @@ impl Model for PosNfa {
 
     ghost Value = { Nfa };
 
-    ghost use Rattle.ly_position.specs.Position.{nfa_of, Fits};
+    ghost use Rattle.ly_position.specs.Position.{nfa_of};
+    ghost use Rattle.ly_position.specs.Target.{TargetsExist};
 
-    ghost view = { λ n. nfa_of n.slots.items n.follow n.starts };
+    ghost view = { λ n. nfa_of n.slots.items n.forks.items n.starts };
 
-    ghost invariant = { λ n. Fits n.slots.items n.follow n.starts };
+    ghost invariant = { λ n. TargetsExist n.slots.items n.forks.items n.starts };
 }
 
 impl PosNfa {
-    ghost use Rattle.ly_position.specs.Nfa.{IsEnd, Reads, follow_of, place_of, starts_of};
-    ghost use Rattle.ly_position.specs.Position.{nfa_of, place_from, Fits};
+    ghost use Rattle.ly_position.specs.Nfa.{Stepped, IsRoomFor, follow_of, position_of, starts_of};
+    ghost use Rattle.ly_position.specs.Position.{nfa_of, position_from};
+    ghost use Rattle.ly_position.specs.Target.{TargetsExist};
 
-    /// The automaton of some positions, follow lists, and start lists.
-    pub(crate) fn of(slots: Vec<Slot>, follow: Lists, starts: Lists) -> Self
-        requires { Fits slots.items follow starts }
-        ensures { result ≡ nfa_of slots.items follow starts }
+    /// The automaton of some positions, forks, and start lists.
+    pub(crate) fn of(slots: Vec<Slot>, forks: Vec<Fork>, starts: Lists) -> Self
+        requires { TargetsExist slots.items forks.items starts }
+        ensures { result ≡ nfa_of slots.items forks.items starts }
     {
         PosNfa {
             slots,
-            follow,
+            forks,
             starts,
         }
     }
@@ -84,24 +111,12 @@ impl PosNfa {
     /// The position of a number.
     pub fn position(&self, number: u32) -> Position
         requires { number < length self.now.positions }
-        ensures { slice_get self.now.positions number ≡ Some (place_from result
-            (follow_of (place_of self.now number))) }
+        ensures { slice_get self.now.positions number ≡ Some (position_from result
+            (follow_of (position_of self.now number))) }
     {
         match self.slots[number as usize] {
             Slot::Reads { bytes, .. } => Position::Reads { bytes },
             Slot::Ends(rule) => Position::Ends(rule),
-        }
-    }
-
-    /// The positions that may come after one, each once.
-    pub fn follow(&self, number: u32) -> &[u32]
-        requires { number < length self.now.positions }
-        ensures these { result.now ≡ follow_of (place_of self.now number) }
-        ensures within { All (λ q. q < length self.now.positions) result.now }
-    {
-        match self.slots[number as usize] {
-            Slot::Reads { follow, .. } => self.follow.list(follow),
-            Slot::Ends(_) => &[],
         }
     }
 
@@ -117,5 +132,53 @@ impl PosNfa {
         } else {
             &[]
         }
+    }
+
+    /// The empty set of positions, or that its room is refused.
+    pub fn set(&self, alloc: Global) -> Result<PositionSet, AllocError>
+        ensures room { IfOk result (IsRoomFor self.now) }
+        ensures none { IfOk result (λ s. s.positions.members ≡ []) }
+    {
+        PositionSet::new(alloc, self.slots.len(), self.forks.len())
+    }
+
+    /// Makes a set that of the positions that may come after some, once the byte is read. Needs no memory, and comes
+    /// through each fork once.
+    pub fn step(&self, from: &PositionSet, byte: u8, into: &mut PositionSet)
+        requires from { IsRoomFor self.now from.now }
+        requires into { IsRoomFor self.now into.old }
+        ensures members { (q : ℕ) → Contains into.new.positions.members q
+            ↔ Stepped self.now from.now.positions.members byte q }
+        ensures into { IsRoomFor self.now into.new }
+    {
+        step(&self.slots, &self.forks, from, byte, into);
+    }
+}
+
+/// Makes a set that of the positions that some lead to, once the byte is read.
+fn step(slots: &[Slot], forks: &[Fork], from: &PositionSet, byte: u8, into: &mut PositionSet)
+    requires within { GoOnWithin slots.now forks.now }
+    requires from { from.now.positions.below ≡ length slots.now }
+    requires into { (into.old.positions.below ≡ length slots.now) × (into.old.forks.below ≡ length forks.now) }
+    ensures room { SameRoom into.old into.new }
+    ensures members { (q : ℕ) → Contains into.new.positions.members q
+        ↔ StepsTo slots.now forks.now from.now.positions.members byte q }
+{
+    into.clear();
+    for number in from.members() {
+        if let Some(next) = target_after(&slots[*number as usize], byte) {
+            into.put(next);
+        }
+    }
+    into.follow(forks);
+}
+
+/// Where a position goes on once it reads the byte, if it does.
+fn target_after(slot: &Slot, byte: u8) -> Option<Target>
+    ensures { result ≡ target_after byte slot.now }
+{
+    match slot {
+        Slot::Reads { bytes, next } if bytes.contains(byte) => Some(*next),
+        _ => None,
     }
 }

@@ -6,12 +6,13 @@ use std::alloc::{AllocError, Global};
 use std::marker::Model;
 
 /// The number of a plain expression, or none where nothing matches.
-pub type Part = Option<usize>;
+pub type PlainPart = Option<usize>;
 
 /// Expressions of sets, the empty string, concatenation, alternation, `*`, `+` and `?` alone, in
 /// which no operator stands over another that makes it idle: `(a*)*` is `a*`.
 #[derive(Drop)]
 pub struct Plain {
+    /// The expressions.
     arena: Arena,
 }
 
@@ -25,19 +26,19 @@ impl Model for Plain {
 
     ghost coded = { coded_list expression_code };
 
-    ghost use Rattle.ly_position.specs.Program.{IsPlain};
+    ghost use Rattle.ly_position.specs.Private.Program.{IsPlainExpression};
 
     ghost view = { λ p. p.arena };
 
-    ghost invariant = { λ p. All IsPlain p.arena };
+    ghost invariant = { λ p. All IsPlainExpression p.arena };
 }
 
 impl Plain {
     ghost use Rattle.ly_base.specs.ByteSet.{members};
-    ghost use Rattle.ly_ere.specs.Expression.{Joined, Within};
+    ghost use Rattle.ly_ere.specs.Expression.{Joined, IsAtMost};
     ghost use Rattle.ly_ere.specs.Arena.{expression_of, part_of, FitsAt};
-    ghost use Rattle.ly_position.specs.Program.{IsPlain};
-    ghost use Rattle.ly_position.specs.Plain.{IsPart, IsPlainNode, InTurn, Makes, PartMatches};
+    ghost use Rattle.ly_position.specs.Private.Program.{IsPlainExpression};
+    ghost use Rattle.ly_position.specs.Private.Plain.{IsPlainPart, IsPlainNode, InTurn, Makes, PartMatches};
 
     /// No expressions.
     pub fn new(alloc: Global) -> Self
@@ -51,7 +52,7 @@ impl Plain {
     /// How many expressions there are.
     pub fn len(&self) -> usize
         ensures count { result ≡ length self.now }
-        ensures plain { All IsPlain self.now }
+        ensures plain { All IsPlainExpression self.now }
     {
         self.arena.len()
     }
@@ -61,13 +62,13 @@ impl Plain {
         requires { number < length self.now }
         ensures is { expression_of self.now result ≡ part_of self.now number }
         ensures fits { FitsAt number result }
-        ensures plain { IsPlain (part_of self.now number) }
+        ensures plain { IsPlainExpression (part_of self.now number) }
     {
         self.arena.nodes()[number]
     }
 
     /// Adds the expression of a node.
-    fn push(&mut self, node: Node) -> Result<Part, AllocError>
+    fn push(&mut self, node: Node) -> Result<PlainPart, AllocError>
         requires fits { FitsAt (length self.old) node }
         requires plain { IsPlainNode node }
         ensures ok { OnOk result (self.new ≡ self.old ++ expression_of self.old node ∷ []) }
@@ -77,7 +78,7 @@ impl Plain {
     }
 
     /// One byte of a set that has one.
-    pub fn set(&mut self, bytes: ByteSet) -> Result<Part, AllocError>
+    pub fn set(&mut self, bytes: ByteSet) -> Result<PlainPart, AllocError>
         requires { members bytes ≢ [] }
         ensures { IfOk result (λ p. Makes self.old self.new p (λ w. (b : ℕ)
             × Contains (members bytes) b × (w ≡ b ∷ []))) }
@@ -86,16 +87,16 @@ impl Plain {
     }
 
     /// The empty string.
-    pub fn empty(&mut self) -> Result<Part, AllocError>
+    pub fn empty(&mut self) -> Result<PlainPart, AllocError>
         ensures { IfOk result (λ p. Makes self.old self.new p (λ w. w ≡ [])) }
     {
         self.push(Node::Empty)
     }
 
     /// The first part, then the second.
-    pub fn concat(&mut self, first: Part, second: Part) -> Result<Part, AllocError>
-        requires first { IsPart (length self.old) first }
-        requires second { IsPart (length self.old) second }
+    pub fn concat(&mut self, first: PlainPart, second: PlainPart) -> Result<PlainPart, AllocError>
+        requires first { IsPlainPart (length self.old) first }
+        requires second { IsPlainPart (length self.old) second }
         ensures { IfOk result (λ p. Makes self.old self.new p
             (InTurn (PartMatches self.old first) (PartMatches self.old second))) }
     {
@@ -112,9 +113,9 @@ impl Plain {
     }
 
     /// One of the two parts.
-    pub fn either(&mut self, first: Part, second: Part) -> Result<Part, AllocError>
-        requires first { IsPart (length self.old) first }
-        requires second { IsPart (length self.old) second }
+    pub fn either(&mut self, first: PlainPart, second: PlainPart) -> Result<PlainPart, AllocError>
+        requires first { IsPlainPart (length self.old) first }
+        requires second { IsPlainPart (length self.old) second }
         ensures { IfOk result (λ p. Makes self.old self.new p
             (λ w. PartMatches self.old first w ⊎ PartMatches self.old second w)) }
     {
@@ -126,8 +127,8 @@ impl Plain {
     }
 
     /// The part any number of times.
-    pub fn star(&mut self, part: Part) -> Result<Part, AllocError>
-        requires { IsPart (length self.old) part }
+    pub fn star(&mut self, part: PlainPart) -> Result<PlainPart, AllocError>
+        requires { IsPlainPart (length self.old) part }
         ensures { IfOk result (λ p. Makes self.old self.new p (λ w. (k : ℕ)
             × Joined (PartMatches self.old part) k w)) }
     {
@@ -142,8 +143,8 @@ impl Plain {
     }
 
     /// The part once or more.
-    pub fn plus(&mut self, part: Part) -> Result<Part, AllocError>
-        requires { IsPart (length self.old) part }
+    pub fn plus(&mut self, part: PlainPart) -> Result<PlainPart, AllocError>
+        requires { IsPlainPart (length self.old) part }
         ensures { IfOk result (λ p. Makes self.old self.new p (λ w. (k : ℕ) × (1 ≤ k)
             × Joined (PartMatches self.old part) k w)) }
     {
@@ -158,8 +159,8 @@ impl Plain {
     }
 
     /// The part or nothing.
-    pub fn optional(&mut self, part: Part) -> Result<Part, AllocError>
-        requires { IsPart (length self.old) part }
+    pub fn optional(&mut self, part: PlainPart) -> Result<PlainPart, AllocError>
+        requires { IsPlainPart (length self.old) part }
         ensures { IfOk result (λ p. Makes self.old self.new p (λ w. (w
             ≡ []) ⊎ PartMatches self.old part w)) }
     {
@@ -175,10 +176,15 @@ impl Plain {
 
     /// The part `least` times or more, and `most` times at most if there is a bound: that many
     /// copies, of which those above the least may be left out together with all after them.
-    pub fn repeat(&mut self, part: Part, least: u8, most: Option<u8>) -> Result<Part, AllocError>
-        requires { IsPart (length self.old) part }
+    pub fn repeat(
+        &mut self,
+        part: PlainPart,
+        least: u8,
+        most: Option<u8>,
+    ) -> Result<PlainPart, AllocError>
+        requires { IsPlainPart (length self.old) part }
         ensures { IfOk result (λ p. Makes self.old self.new p (λ w. (k : ℕ) × (least ≤ k)
-            × Within k most × Joined (PartMatches self.old part) k w)) }
+            × IsAtMost k most × Joined (PartMatches self.old part) k w)) }
     {
         match most {
             Some(most) if most < least => Ok(None),
@@ -194,8 +200,8 @@ impl Plain {
         }
     }
 
-    fn at_most(&mut self, part: Part, count: u8) -> Result<Part, AllocError>
-        requires { IsPart (length self.old) part }
+    fn at_most(&mut self, part: PlainPart, count: u8) -> Result<PlainPart, AllocError>
+        requires { IsPlainPart (length self.old) part }
         ensures { IfOk result (λ p. Makes self.old self.new p (λ w. (k : ℕ) × (k ≤ count)
             × Joined (PartMatches self.old part) k w)) }
     {
@@ -207,9 +213,14 @@ impl Plain {
         Ok(rest)
     }
 
-    fn copies(&mut self, part: Part, count: u8, last: Part) -> Result<Part, AllocError>
-        requires part { IsPart (length self.old) part }
-        requires last { IsPart (length self.old) last }
+    fn copies(
+        &mut self,
+        part: PlainPart,
+        count: u8,
+        last: PlainPart,
+    ) -> Result<PlainPart, AllocError>
+        requires part { IsPlainPart (length self.old) part }
+        requires last { IsPlainPart (length self.old) last }
         ensures { IfOk result (λ p. Makes self.old self.new p
             (InTurn (Joined (PartMatches self.old part) count) (PartMatches self.old last))) }
     {

@@ -1,10 +1,10 @@
 ghost use Rattle.std.specs.Prelude.{◌≡◌, ℕ, ◌<◌, List, length, slice_index_or, All, IfOk, None};
 ghost use Rattle.ly_ere.specs.Expression.{MatchesUnder, NamedUpTo};
 ghost use Rattle.ly_ere.specs.Arena.{FitsAt};
-ghost use Rattle.ly_position.specs.Plain.{IsPart, Makes, Same};
-ghost use Rattle.ly_position.specs.Plan.{IsPlan, ListedMatches, NodeMatches, SpelledUnder};
+ghost use Rattle.ly_position.specs.Private.Plain.{IsPlainPart, Makes, Same};
+ghost use Rattle.ly_position.specs.Private.Plan.{IsPlan, ListedMatches, NodeMatches, SpelledUnder};
 
-use crate::plain::{Part, Plain};
+use crate::plain::{Plain, PlainPart};
 use ly_ere::{Names, Node, Re, Rule};
 use std::alloc::{AllocError, Global};
 
@@ -14,7 +14,7 @@ pub struct Plan {
     /// The expressions.
     pub plain: Plain,
     /// For each rule the part that its head and its tail make together.
-    pub parts: Vec<Part>,
+    pub parts: Vec<PlainPart>,
 }
 
 /// Writes out the names and repetitions of rules.
@@ -32,12 +32,12 @@ pub fn write_out(alloc: Global, rules: &[Rule], names: &Names) -> Result<Plan, A
 }
 
 /// The parts of the definitions.
-fn add_names(alloc: Global, plain: &mut Plain, names: &Names) -> Result<Vec<Part>, AllocError>
-    ensures within { IfOk result (λ ds. All (IsPart (length plain.new)) ds.items) }
+fn add_names(alloc: Global, plain: &mut Plain, names: &Names) -> Result<Vec<PlainPart>, AllocError>
+    ensures within { IfOk result (λ ds. All (IsPlainPart (length plain.new)) ds.items) }
     ensures spells { IfOk result (λ ds. (x : ℕ) → Same (ListedMatches plain.new ds.items x)
         (NamedUpTo names.now (length names.now) x)) }
 {
-    let mut definitions: Vec<Part> = Vec::new(alloc);
+    let mut definitions: Vec<PlainPart> = Vec::new(alloc);
     for definition in names.definitions() {
         let part = add(alloc, plain, &definitions, definition)?;
         definitions.push(part)?;
@@ -49,10 +49,10 @@ fn add_names(alloc: Global, plain: &mut Plain, names: &Names) -> Result<Vec<Part
 fn add_rule(
     alloc: Global,
     plain: &mut Plain,
-    names: &[Part],
+    names: &[PlainPart],
     rule: &Rule,
-) -> Result<Part, AllocError>
-    requires { All (IsPart (length plain.old)) names.now }
+) -> Result<PlainPart, AllocError>
+    requires { All (IsPlainPart (length plain.old)) names.now }
     ensures { IfOk result (λ p. Makes plain.old plain.new p (SpelledUnder
         (ListedMatches plain.old names.now) rule.now.pattern)) }
 {
@@ -67,13 +67,18 @@ fn add_rule(
 }
 
 /// The part of an expression.
-fn add(alloc: Global, plain: &mut Plain, names: &[Part], re: &Re) -> Result<Part, AllocError>
-    requires { All (IsPart (length plain.old)) names.now }
+fn add(
+    alloc: Global,
+    plain: &mut Plain,
+    names: &[PlainPart],
+    re: &Re,
+) -> Result<PlainPart, AllocError>
+    requires { All (IsPlainPart (length plain.old)) names.now }
     ensures { IfOk result (λ p. Makes plain.old plain.new p (MatchesUnder
         (ListedMatches plain.old names.now) re.now)) }
 {
     let (nodes, root) = re.nodes();
-    let mut parts: Vec<Part> = Vec::new(alloc);
+    let mut parts: Vec<PlainPart> = Vec::new(alloc);
     for node in nodes {
         let part = add_node(plain, names, &parts, *node)?;
         parts.push(part)?;
@@ -84,12 +89,12 @@ fn add(alloc: Global, plain: &mut Plain, names: &[Part], re: &Re) -> Result<Part
 /// The part of a node whose parts are known.
 fn add_node(
     plain: &mut Plain,
-    names: &[Part],
-    parts: &[Part],
+    names: &[PlainPart],
+    parts: &[PlainPart],
     node: Node,
-) -> Result<Part, AllocError>
-    requires names { All (IsPart (length plain.old)) names.now }
-    requires parts { All (IsPart (length plain.old)) parts.now }
+) -> Result<PlainPart, AllocError>
+    requires names { All (IsPlainPart (length plain.old)) names.now }
+    requires parts { All (IsPlainPart (length plain.old)) parts.now }
     requires fits { FitsAt (length parts.now) node }
     ensures { IfOk result (λ p. Makes plain.old plain.new p (NodeMatches
         (ListedMatches plain.old names.now) (ListedMatches plain.old parts.now) node)) }
@@ -108,7 +113,7 @@ fn add_node(
 }
 
 /// The part of a name; none if it has no definition.
-fn named(names: &[Part], number: usize) -> Part
+fn named(names: &[PlainPart], number: usize) -> PlainPart
     ensures { result ≡ slice_index_or names.now number None }
 {
     if number < names.len() {

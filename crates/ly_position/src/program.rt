@@ -1,9 +1,9 @@
 ghost use Rattle.std.specs.Prelude.{◌≡◌, ℕ, ◌+◌, ◌^◌, ◌<◌, ◌≤◌, List, ◌∷◌, ◌++◌, length, map, reverse, sum_by, All};
 ghost use Rattle.std.specs.Prelude.{IfOk, IfSome, OnOk};
 ghost use Rattle.ly_ere.specs.Arena.{part_of, FitsAt};
-ghost use Rattle.ly_position.specs.Plain.{IsPart};
-ghost use Rattle.ly_position.specs.Program.{code, ends, entry, node_size, IsPlain, size, steps_of};
-ghost use Rattle.ly_position.specs.Compile.{IsProgram, TaskFits, planned, task_work, work};
+ghost use Rattle.ly_position.specs.Private.Plain.{IsPlainPart};
+ghost use Rattle.ly_position.specs.Private.Program.{code, ends, entry, node_size, IsPlainExpression, size, steps_of};
+ghost use Rattle.ly_position.specs.Private.Compile.{IsProgram, TaskFits, planned, task_work, work};
 
 use crate::plain::Plain;
 use crate::plan::Plan;
@@ -43,7 +43,7 @@ pub enum Task {
 
 /// Compiles a plan: for each rule its end, and before it, in the direction of reading, its code.
 pub fn compile(alloc: Global, plan: &Plan) -> Result<Program, AllocError>
-    requires { All (IsPart (length plan.now.plain)) plan.now.parts.items }
+    requires { All (IsPlainPart (length plan.now.plain)) plan.now.parts.items }
     ensures { IfOk result (λ p. IsProgram plan.now.plain plan.now.parts.items
         (steps_of p.instructions.items) p.entries.items) }
 {
@@ -195,7 +195,7 @@ fn entry_at(base: usize, size: usize, next: usize) -> usize
 /// How many instructions the code of each expression has.
 fn sizes(alloc: Global, plain: &Plain) -> Result<Vec<usize>, AllocError>
     ensures sizes { IfOk result (λ ss. ss.items ≡ map size plain.now) }
-    ensures plain { OnOk result (All IsPlain plain.now) }
+    ensures plain { OnOk result (All IsPlainExpression plain.now) }
 {
     let mut sizes = Vec::new(alloc);
     for number in 0..plain.len() {

@@ -1,13 +1,18 @@
-ghost use Rattle.std.specs.Prelude.{◌≡◌, ℕ, ◌+◌, ◌*◌, ◌<◌, [], length, map, slice_index_or, All, IfOk, OnOk};
-ghost use Rattle.ly_position.specs.Plain.{IsPart};
-ghost use Rattle.ly_position.specs.Program.{steps_of};
-ghost use Rattle.ly_position.specs.Reach.{IsClosed};
-ghost use Rattle.ly_position.specs.Follow.{IsReachList, numbers_of};
-ghost use Rattle.ly_position.specs.Starts.{rows_of, AddsIn, AddsInEach, AreRoots, PutsIn, StartsAt, StaysWithin};
+ghost use Rattle.std.specs.Prelude.{◌≡◌, ℕ, ◌+◌, ◌*◌, ◌<◌, ◌↔◌, [], length, slice_index_or, All, Contains, IfOk, OnOk};
+ghost use Rattle.ly_position.specs.Private.Plain.{IsPlainPart};
+ghost use Rattle.ly_position.specs.Private.Program.{steps_of};
+ghost use Rattle.ly_position.specs.Private.Reach.{StaysInside};
+ghost use Rattle.ly_position.specs.Private.Link.{IsLinkOf};
+ghost use Rattle.ly_position.specs.Private.Targets.{EntersTo, SameRoom};
+ghost use Rattle.ly_position.specs.Target.{ForkWithin, TargetWithin};
+ghost use Rattle.ly_position.specs.Private.Starts.{rows_of, AddsIn, AddsInEach, AreRoots, PutsIn, StartsAt};
+ghost use Rattle.ly_position.specs.Private.Starts.{StaysWithin};
 
+use crate::link::Linked;
 use crate::lists::Lists;
+use crate::nfa::{Fork, Target};
 use crate::program::Program;
-use crate::reach::Reach;
+use crate::set::PositionSet;
 use ly_ere::Rule;
 use std::alloc::{AllocError, Global};
 
@@ -17,25 +22,42 @@ pub fn starts(
     rules: &[Rule],
     conditions: u32,
     program: &Program,
-    numbers: &[Option<u32>],
-    reach: &mut Reach,
+    linked: &Linked,
 ) -> Result<Lists, AllocError>
-    requires closed { IsClosed (steps_of program.now.instructions.items) }
-    requires numbers { numbers.now ≡ numbers_of (steps_of program.now.instructions.items) }
-    requires within { All (IsPart (length program.now.instructions.items))
+    requires closed { StaysInside (steps_of program.now.instructions.items) }
+    requires linked { IsLinkOf (steps_of program.now.instructions.items) linked.now.targets.items
+        linked.now.slots.items linked.now.forks.items }
+    requires within { All (IsPlainPart (length program.now.instructions.items))
         program.now.entries.items }
     requires count { length program.now.entries.items ≡ length rules.now }
-    requires below { reach.old.seen.below ≡ length program.now.instructions.items }
     ensures { IfOk result (StartsAt (steps_of program.now.instructions.items) rules.now
         program.now.entries.items conditions) }
 {
     let roots = roots(alloc, rules, conditions, program)?;
+    let mut set = PositionSet::new(alloc, linked.slots.len(), linked.forks.len())?;
     let mut starts = Lists::new(alloc);
     for list in &roots {
-        reach.find(&program.instructions, numbers, list)?;
-        starts.push(reach.found())?;
+        fill_from(&mut set, list, &linked.targets, &linked.forks);
+        starts.push(set.members())?;
     }
     Ok(starts)
+}
+
+/// Makes a set that of the positions that some instructions lead to by forks alone.
+fn fill_from(set: &mut PositionSet, roots: &[usize], targets: &[Target], forks: &[Fork])
+    requires forks { All (ForkWithin set.old.positions.below set.old.forks.below) forks.now }
+    requires targets { All (TargetWithin set.old.positions.below set.old.forks.below) targets.now }
+    requires roots { All (λ p. p < length targets.now) roots.now }
+    requires room { set.old.forks.below ≡ length forks.now }
+    ensures room { SameRoom set.old set.new }
+    ensures members { (q : ℕ) → Contains set.new.positions.members q
+        ↔ EntersTo targets.now forks.now roots.now q }
+{
+    set.clear();
+    for root in roots {
+        set.put(targets[*root]);
+    }
+    set.follow(forks);
 }
 
 /// For each start list the instructions at which its rules begin.
@@ -45,7 +67,7 @@ fn roots(
     conditions: u32,
     program: &Program,
 ) -> Result<Vec<Vec<usize>>, AllocError>
-    requires within { All (IsPart (length program.now.instructions.items))
+    requires within { All (IsPlainPart (length program.now.instructions.items))
         program.now.entries.items }
     requires count { length program.now.entries.items ≡ length rules.now }
     ensures { IfOk result (λ rs. AreRoots rules.now program.now.entries.items

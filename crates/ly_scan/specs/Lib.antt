@@ -1,3 +1,4 @@
 pub mod Cuts
+pub mod Lexer
 pub mod Matching
 pub mod Walk

@@ -7,9 +7,9 @@ use Rattle.ly_scan.specs.Cuts.{token_len}
 use Rattle.ly_scan.specs.Walk.{Walk, IsLongest, HasNone}
 
 -- the match is the longest walk that has a rule, with the rule's cut
-abbrev pub Matches : Walk → (ℕ → Cut) → List ℕ → Match → Type 0
-Matches walk cut text (Win rule len) = (n : ℕ) × IsLongest walk text (length text) n rule.0
+abbrev pub IsMatch : Walk → (ℕ → Cut) → List ℕ → Match → Type 0
+IsMatch walk cut text (Win rule len) = (n : ℕ) × IsLongest walk text (length text) n rule.0
     × (token_len (cut rule.0) n ≡ Some len)
-Matches walk cut text BadCut = (n : ℕ)
+IsMatch walk cut text BadCut = (n : ℕ)
     × ((r : ℕ) × IsLongest walk text (length text) n r × (token_len (cut r) n ≡ None))
-Matches walk cut text Stuck = HasNone walk text (length text)
+IsMatch walk cut text Stuck = HasNone walk text (length text)

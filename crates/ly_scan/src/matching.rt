@@ -1,6 +1,6 @@
 ghost use Rattle.std.specs.Prelude.{◌≡◌, length};
 ghost use Rattle.ly_scan.specs.Cuts.{token_len};
-ghost use Rattle.ly_scan.specs.Matching.{Matches};
+ghost use Rattle.ly_scan.specs.Matching.{IsMatch};
 ghost use Rattle.ly_scan.specs.Walk.{IsBest, better_of};
 
 use crate::steps::Steps;
@@ -31,7 +31,7 @@ pub fn next_match<S: Steps>(
     at_line_start: bool,
     rest: &[u8],
 ) -> Match
-    ensures found { Matches (S.walk steps.old condition at_line_start) (S.cut_of steps.old) rest.now result }
+    ensures found { IsMatch (S.walk steps.old condition at_line_start) (S.cut_of steps.old) rest.now result }
     ensures same_walk { S.walk steps.new ≡ S.walk steps.old }
     ensures same_cuts { S.cut_of steps.new ≡ S.cut_of steps.old }
 {
@@ -45,7 +45,7 @@ pub fn next_match<S: Steps>(
 }
 
 /// The length of the longest walk that has a rule, and the rule.
-fn longest<S: Steps>(
+pub(crate) fn longest<S: Steps>(
     steps: &mut S,
     condition: u32,
     at_line_start: bool,
@@ -83,7 +83,7 @@ fn better(
 }
 
 /// The length of the token of a match.
-fn cut_down(cut: Cut, length: usize) -> Option<usize>
+pub(crate) fn cut_down(cut: Cut, length: usize) -> Option<usize>
     ensures { result ≡ token_len cut length }
 {
     match cut {

@@ -1,5 +1,5 @@
 use Rattle.std.proofs.Common.{take}
-use Rattle.ly_ere.specs.Brackets.{IsAdded}
+use Rattle.ly_ere.specs.Private.Brackets.{IsAdded}
 use Rattle.ly_ere.proofs.bracket.add_class.Given as goal
 
 abbrev pub invariant-loop-low : goal.invariant-loop-low

@@ -1,6 +1,6 @@
 use Rattle.std.proofs.Common.{◌≡◌, ◌∙◌, [], ◌∷◌, drop, false, sym}
 use Rattle.std.proofs.lemmas.Result.{IfErr-weaker, IfOk-weaker, MatchResult-from_err}
-use Rattle.ly_ere.specs.Words.{begins_range, class, points}
+use Rattle.ly_ere.specs.Elements.{begins_range, class, points}
 use Rattle.ly_ere.proofs.ItemLemmas.{item_class, item_equivalent, named_item}
 use Rattle.ly_ere.proofs.RangeLemmas.{added_byte}
 use Rattle.ly_ere.proofs.bracket.add_item.Goals as goal

@@ -1,7 +1,7 @@
 use Rattle.std.proofs.Common.{◌∙◌, [], ◌∷◌, drop, sym, arith}
 use Rattle.std.proofs.lemmas.Result.{MatchResult-from_err}
 use Rattle.ly_base.proofs.EscapeLemmas.{whole_slice}
-use Rattle.ly_ere.specs.Words.{single}
+use Rattle.ly_ere.specs.Elements.{single}
 use Rattle.ly_ere.proofs.PointLemmas.{point_one, points_range, ranged}
 use Rattle.ly_ere.proofs.RangeLemmas.{added_byte, added_range}
 use Rattle.ly_ere.proofs.bracket.add_range.Goals as goal

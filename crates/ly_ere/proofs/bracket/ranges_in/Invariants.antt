@@ -1,6 +1,6 @@
 use Rattle.std.proofs.Common.{◌≡◌, drop}
-use Rattle.ly_ere.specs.Brackets.{as_classes}
-use Rattle.ly_ere.specs.Words.{found_in}
+use Rattle.ly_ere.specs.Private.Brackets.{as_classes}
+use Rattle.ly_ere.specs.Elements.{found_in}
 use Rattle.ly_ere.proofs.bracket.ranges_in.Given as goal
 
 abbrev pub invariant-loop-known : goal.invariant-loop-known

@@ -1,7 +1,7 @@
 use Rattle.std.proofs.Common.{Some, length}
 use Rattle.std.specs.Prelude.{All}
 use Rattle.std.proofs.lemmas.List.Elements.{All-pop}
-use Rattle.ly_ere.specs.Levels.{IsWithin}
+use Rattle.ly_ere.specs.Private.Levels.{IsWithin}
 use Rattle.ly_ere.proofs.LevelLemmas.{close_step, grows_trans, within_grown}
 use Rattle.ly_ere.proofs.read.close.Goals as goal
 

@@ -1,16 +1,17 @@
-use Rattle.std.proofs.Common.{length}
+use Rattle.std.proofs.Common.{◌≤◌, ◌-◌, drop, length}
 use Rattle.std.specs.Prelude.{All}
-use Rattle.ly_ere.specs.Levels.{IsWithin, reading_of}
+use Rattle.ly_ere.specs.Private.Levels.{IsWithin, reading_of}
 use Rattle.ly_ere.proofs.ReadLemmas.{IsRead}
 use Rattle.ly_ere.proofs.read.read_expression.Given as goal
 
--- the words so far make what is held
-abbrev pub invariant-loop-rest : goal.invariant-loop-rest
-invariant-loop-rest l = record {
+-- the elements so far make what is held
+abbrev pub invariant-loop-arena : goal.invariant-loop-arena
+invariant-loop-arena l = record {
+  within : l.at ≤ length l.line;
   parts : IsWithin (length l.arena) l.level;
   outer_parts : All (IsWithin (length l.arena)) l.outer.items;
-  read : IsRead l.text l.rest (reading_of l.arena l.outer.items l.level);
+  read : IsRead l.line (drop l.at l.line) (reading_of l.arena l.outer.items l.level);
 }
 
-abbrev pub decreases-loop-rest : goal.decreases-loop-rest
-decreases-loop-rest l = length l.rest
+abbrev pub decreases-loop-arena : goal.decreases-loop-arena
+decreases-loop-arena l = length l.line - l.at

@@ -1,41 +1,31 @@
-use Rattle.std.proofs.Common.{subst, ◌++◌, ◌∙◌, sym, ap₂, take-append-drop}
-use Rattle.ly_ere.specs.Extent.{IsBehind}
+use Rattle.std.proofs.Common.{drop}
+use Rattle.ly_base.proofs.EscapeLemmas.{whole_slice}
+use Rattle.ly_ere.proofs.PatternLaws.{front_pattern_one}
 use Rattle.ly_lexread.specs.Action.{IsAction}
-use Rattle.ly_lexread.proofs.RuleLemmas.{read_none, read_some, split_at_end}
+use Rattle.ly_lexread.specs.Rules.{MayBeRule}
+use Rattle.ly_lexread.proofs.AnswerLemmas.{answer_fault, answer_pattern}
+use Rattle.ly_lexread.proofs.RuleLemmas.{read_none}
 use Rattle.ly_lexread.proofs.read.read_rule.Goals as goal
 
-pub returns-in-Err-clause-refused : goal.returns-in-Err-clause-refused
-returns-in-Err-clause-refused c = λ other r a v light.
-    let split = split_at_end c.args.names.now c.args.line.bytes.now c.split_at.result.0.now c.split_at.result.1.now
-    c.pattern_length.result r a c.pattern_length.ensures.exact c.split_at.ensures.front c.split_at.ensures.back v in
-    c.in-Err.ensures.refused (λ e. other (c.pattern_fault.ensures.memory e)) r.pattern split.is_pattern light.0
+pub returns-in-Err : goal.returns-in-Err
+returns-in-Err c =
+    let may_be : MayBeRule c.args.line.bytes.now = record {
+      no_mark = c.requires.no_mark;
+      no_block = c.if-begins_with.ensures;
+      no_conditions = c.if-begins_with-2.ensures;
+      is_used = c.requires.is_used;
+    } in
+    answer_pattern c.args.limits.now.pattern_weight c.args.names.now c.args.line.bytes.now c.args.line.number
+    c.in-Err.fault c.pattern_fault.result may_be c.pattern_fault.ensures.memory c.pattern_fault.ensures.other
+    c.in-Err.ensures.refused
 
-pub returns-in-None-clause-refused : goal.returns-in-None-clause-refused
-returns-in-None-clause-refused c = λ other r a v light.
-    let split = split_at_end c.args.names.now c.args.line.bytes.now c.split_at.result.0.now c.split_at.result.1.now
-    c.pattern_length.result r a c.pattern_length.ensures.exact c.split_at.ensures.front c.split_at.ensures.back v in
-    read_none c.split_at.result.1.now c.in_ok-action.field-0 a c.in-None.is c.in_ok-action.ensures split.is_action
-
-pub returns-in-Some-clause-ok : goal.returns-in-Some-clause-ok
-returns-in-Some-clause-ok c =
+pub returns-in-None : goal.returns-in-None
+returns-in-None c =
     let line = c.args.line.bytes.now in
-    let behind = c.split_at.result.1.now in
-    let n = c.pattern_length.result in
-    let action : IsAction behind c.in-Some.action
-    = read_some behind c.in_ok-action.field-0 c.in-Some.action c.in-Some.is c.in_ok-action.ensures in
-    record {
-      text = c.split_at.result.0.now;
-      behind = behind;
-      parts = record {
-        no_mark = c.requires.no_mark;
-        no_block = c.if-begins_with.ensures;
-        no_conditions = c.if-begins_with-2.ensures;
-        is_used = c.requires.is_used;
-        together = sym (take-append-drop n line) ∙ ap₂ ◌++◌ (sym c.split_at.ensures.front)
-            (sym c.split_at.ensures.back);
-        follows = subst IsBehind (sym c.split_at.ensures.back) c.pattern_length.ensures.ends;
-      };
-      is_pattern = c.in-Ok.ensures.ok;
-      is_active = c.in_ok-active.ensures.items;
-      is_action = action;
-    }
+    let n = c.in-Ok.front.1 in
+    answer_fault _ _ _ _ tt (λ h. h) (λ x v.
+    let same = front_pattern_one c.args.names.now line c.in-Ok.front.0 x.0.pattern n v.taken c.in-Ok.ensures.ok
+    v.is_pattern
+    in
+    let action : IsAction (drop n line) x.1 = rw same.1 v.is_action in
+    read_none (drop n line) c.in_ok-action.field-0 x.1 c.in-None.is (rw whole_slice at c.in_ok-action.ensures) action)

@@ -1,4 +1,4 @@
-use Rattle.ly_lexread.specs.Lines.{lines_left}
+use Rattle.ly_lexread.specs.Private.Lines.{lines_left}
 use Rattle.ly_lexread.proofs.DefinitionLemmas.{definitions_behind, definitions_end, definitions_on}
 use Rattle.ly_lexread.proofs.read.skip_definitions.Goals as goal
 

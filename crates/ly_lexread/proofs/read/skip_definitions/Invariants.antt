@@ -1,6 +1,6 @@
 use Rattle.std.proofs.Common.{List, ℕ, length}
 use Rattle.ly_lexread.specs.Definitions.{Definitions}
-use Rattle.ly_lexread.specs.Lines.{lines_left}
+use Rattle.ly_lexread.specs.Private.Lines.{lines_left}
 use Rattle.ly_lexread.proofs.read.skip_definitions.Given as goal
 
 -- the definitions go on in the lines that are left

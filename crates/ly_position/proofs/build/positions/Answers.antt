@@ -1,5 +1,5 @@
 use Rattle.std.proofs.Common.{map}
-use Rattle.ly_position.specs.Program.{step_of}
+use Rattle.ly_position.specs.Private.Program.{step_of}
 use Rattle.ly_position.proofs.RunLemmas.{assembled}
 use Rattle.ly_position.proofs.build.positions.Goals as goal
 

@@ -1,8 +1,8 @@
 use Rattle.std.proofs.Common.{◌++◌, ◌∷◌, [], ℕ, List, Option, get_or, length-append, arith, subst}
 use Rattle.std.proofs.lemmas.List.{get_or_default}
 use Rattle.ly_ere.specs.declared.node.Node.TheVariants.{Set}
-use Rattle.ly_position.specs.Plain.{Makes}
-use Rattle.ly_position.specs.Plan.{ListedMatches, NodeMatches}
+use Rattle.ly_position.specs.Private.Plain.{Makes}
+use Rattle.ly_position.specs.Private.Plan.{ListedMatches, NodeMatches}
 use Rattle.ly_position.proofs.PlanLemmas.{more_grown, more_within, more_spells}
 use Rattle.ly_position.proofs.plan.add.Goals as goal
 

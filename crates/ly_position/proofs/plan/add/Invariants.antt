@@ -2,8 +2,8 @@ use Rattle.std.proofs.Common.{◌≡◌, ◌++◌, ◌<◌, ℕ, List, length}
 use Rattle.std.specs.Prelude.{All}
 use Rattle.ly_ere.specs.Expression.{Expression, MatchesUnder}
 use Rattle.ly_ere.specs.Arena.{expressions, part_of}
-use Rattle.ly_position.specs.Plain.{IsPart, Same}
-use Rattle.ly_position.specs.Plan.{ListedMatches}
+use Rattle.ly_position.specs.Private.Plain.{IsPlainPart, Same}
+use Rattle.ly_position.specs.Private.Plan.{ListedMatches}
 use Rattle.ly_position.proofs.plan.add.Given as goal
 
 -- the parts so far have the strings of the first expressions
@@ -12,7 +12,7 @@ invariant-loop-node l = record {
   rest : List Expression;
   grown : l.plain ≡ l.fn.plain ++ rest;
   count : length l.parts.items ≡ l.node-index;
-  within : All (IsPart (length l.plain)) l.parts.items;
+  within : All (IsPlainPart (length l.plain)) l.parts.items;
   spells : (a : ℕ) → a < l.node-index
       → Same (ListedMatches l.plain l.parts.items a)
       (MatchesUnder (ListedMatches l.fn.plain l.names) (part_of (expressions l.nodes) a));

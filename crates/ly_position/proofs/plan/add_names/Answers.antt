@@ -2,8 +2,8 @@ use Rattle.std.proofs.Common.{◌≡◌, ◌∷◌, [], ℕ, List, Option, Some,
 use Rattle.std.specs.Prelude.{slice_get}
 use Rattle.std.proofs.lemmas.Option.{slice_get_read}
 use Rattle.ly_ere.specs.Expression.{Expression, MatchesUnder}
-use Rattle.ly_position.specs.Plain.{Makes}
-use Rattle.ly_position.specs.Plan.{ListedMatches}
+use Rattle.ly_position.specs.Private.Plain.{Makes}
+use Rattle.ly_position.specs.Private.Plan.{ListedMatches}
 use Rattle.ly_position.proofs.PlanLemmas.{names_more, names_more_within}
 use Rattle.ly_position.proofs.plan.add_names.Goals as goal
 

@@ -1,8 +1,8 @@
 use Rattle.std.proofs.Common.{Option, sym, subst}
 use Rattle.std.specs.Prelude.{IfOk}
 use Rattle.ly_ere.specs.Expression.{Expression, MatchesUnder}
-use Rattle.ly_position.specs.Plain.{InTurn, Makes}
-use Rattle.ly_position.specs.Plan.{ListedMatches, InTailUnder}
+use Rattle.ly_position.specs.Private.Plain.{InTurn, Makes}
+use Rattle.ly_position.specs.Private.Plan.{ListedMatches, InTailUnder}
 use Rattle.ly_position.proofs.PlanLemmas.{then_tail}
 use Rattle.ly_position.proofs.plan.add_rule.Goals as goal
 

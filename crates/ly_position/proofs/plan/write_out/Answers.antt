@@ -2,8 +2,8 @@ use Rattle.std.proofs.Common.{◌≡◌, ◌∷◌, [], ℕ, List, Option, Some,
 use Rattle.std.proofs.Common.{le_antisymm, refl}
 use Rattle.std.specs.Prelude.{slice_get}
 use Rattle.std.proofs.lemmas.Option.{slice_get_read, slice_get_within}
-use Rattle.ly_position.specs.Plain.{Makes}
-use Rattle.ly_position.specs.Plan.{ListedMatches, SpelledUnder}
+use Rattle.ly_position.specs.Private.Plain.{Makes}
+use Rattle.ly_position.specs.Private.Plan.{ListedMatches, SpelledUnder}
 use Rattle.ly_position.proofs.PlanLemmas.{rules_names_within, rules_named, rules_within, rules_more}
 use Rattle.ly_position.proofs.plan.write_out.Goals as goal
 

@@ -3,8 +3,8 @@ use Rattle.std.specs.Prelude.{reverse}
 use Rattle.std.proofs.lemmas.List.{length-map}
 use Rattle.std.proofs.lemmas.List.Elements.{All-pop}
 use Rattle.ly_ere.specs.Arena.{part_of}
-use Rattle.ly_position.specs.Program.{code, size, step_of}
-use Rattle.ly_position.specs.Compile.{TaskFits, planned}
+use Rattle.ly_position.specs.Private.Program.{code, size, step_of}
+use Rattle.ly_position.specs.Private.Compile.{TaskFits, planned}
 use Rattle.ly_position.specs.declared.program.Task.TheVariants as task
 use Rattle.ly_position.proofs.CompileLemmas.{planned_room}
 use Rattle.ly_position.proofs.CodePlaces.{length-code}

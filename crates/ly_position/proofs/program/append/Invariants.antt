@@ -1,8 +1,8 @@
 use Rattle.std.proofs.Common.{◌≡◌, ◌++◌, length, map}
 use Rattle.std.specs.Prelude.{All, reverse, sum_by}
 use Rattle.ly_ere.specs.Arena.{part_of}
-use Rattle.ly_position.specs.Program.{code, step_of}
-use Rattle.ly_position.specs.Compile.{TaskFits, planned, task_work}
+use Rattle.ly_position.specs.Private.Program.{code, step_of}
+use Rattle.ly_position.specs.Private.Compile.{TaskFits, planned, task_work}
 use Rattle.ly_position.proofs.program.append.Given as goal
 
 -- what is there and what is planned make the code

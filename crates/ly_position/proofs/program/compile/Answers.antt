@@ -2,8 +2,8 @@ use Rattle.std.proofs.Common.{◌≡◌, ◌<◌, ◌++◌, ◌∷◌, [], ℕ, 
 use Rattle.std.proofs.Common.{sym, arith}
 use Rattle.std.proofs.lemmas.List.{length-map}
 use Rattle.ly_ere.specs.Expression.{empty}
-use Rattle.ly_position.specs.Program.{step_of}
-use Rattle.ly_position.specs.Plain.{IsPart}
+use Rattle.ly_position.specs.Private.Program.{step_of}
+use Rattle.ly_position.specs.Private.Plain.{IsPlainPart}
 use Rattle.ly_position.proofs.ProgramLemmas.{compiled_skip, compiled_step, compiled_all}
 use Rattle.ly_position.proofs.program.compile.Goals as goal
 use Rattle.ly_position.proofs.program.compile.Goals.{in-None, in-Some+in_ok-append_rule-in-Some}
@@ -36,7 +36,7 @@ loop-number-preserved c =
           ∙ ap (λ (x : Option ℕ). entries ++ x ∷ []) w.entry-is) in
           let here : n < length parts = let t = c.loop-number-test.true in let d = c.deref-part-items.ensures.len
           in omega arith in
-          let less : a < length es = let P : Option ℕ → Type 0 = IsPart (length es)
+          let less : a < length es = let P : Option ℕ → Type 0 = IsPlainPart (length es)
           in subst P some (c.requires n None here) in
           rw w.program-is
           (compiled_step es parts g (map step_of w.append_rule.new.instructions.items) entries c.push.new.self.items

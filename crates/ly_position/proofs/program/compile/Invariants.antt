@@ -1,5 +1,5 @@
 use Rattle.std.proofs.Common.{map}
-use Rattle.ly_position.specs.Program.{step_of}
+use Rattle.ly_position.specs.Private.Program.{step_of}
 use Rattle.ly_position.proofs.ProgramLemmas.{Compiled}
 use Rattle.ly_position.proofs.program.compile.Given as goal
 

@@ -1,5 +1,5 @@
 use Rattle.std.proofs.Common.{◌≡◌, ◌<◌, ℕ, List, length, ◌∙◌, ap, arith}
-use Rattle.ly_position.specs.Program.{node_size}
+use Rattle.ly_position.specs.Private.Program.{node_size}
 use Rattle.ly_position.proofs.CompileLemmas.{sizes_more}
 use Rattle.ly_position.proofs.program.sizes.Goals as goal
 

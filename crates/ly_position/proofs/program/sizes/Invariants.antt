@@ -1,5 +1,5 @@
 use Rattle.std.proofs.Common.{◌≡◌, map, take}
-use Rattle.ly_position.specs.Program.{size}
+use Rattle.ly_position.specs.Private.Program.{size}
 use Rattle.ly_position.proofs.program.sizes.Given as goal
 
 abbrev pub invariant-loop-number : goal.invariant-loop-number

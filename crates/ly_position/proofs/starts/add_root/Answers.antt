@@ -1,7 +1,7 @@
 use Rattle.std.proofs.Common.{◌<◌, ◌+◌, ◌*◌, ℕ, Vec, Global, length, map, sym, arith, subst}
 use Rattle.std.proofs.lemmas.List.{length-map}
 use Rattle.std.proofs.lemmas.Result.{on_ok_weaker}
-use Rattle.ly_position.specs.Starts.{AddsIn}
+use Rattle.ly_position.specs.Private.Starts.{AddsIn}
 use Rattle.ly_position.proofs.StartLemmas.{put_within, put_length, within_trans, added_at_line, added_anywhere}
 use Rattle.ly_position.proofs.starts.add_root.Goals as goal
 

@@ -1,7 +1,7 @@
 use Rattle.std.proofs.Common.{◌≡◌, ◌+◌, ◌++◌, ◌∷◌, [], ℕ, List, Vec, Global, length, map, take, get_or, ap, subst}
 use Rattle.std.proofs.Common.{arith}
 use Rattle.std.proofs.lemmas.List.{take_more, take_all}
-use Rattle.ly_position.specs.Starts.{AddsInEach}
+use Rattle.ly_position.specs.Private.Starts.{AddsInEach}
 use Rattle.ly_position.proofs.StartLemmas.{each_more, each_skip, within_trans}
 use Rattle.ly_position.proofs.starts.add_rule.Goals as goal
 use Rattle.ly_position.proofs.starts.add_rule.Goals.{then-condition-conditions+in_ok-add_root}

@@ -1,5 +1,5 @@
 use Rattle.std.proofs.Common.{ℕ, Vec, Global, map, take}
-use Rattle.ly_position.specs.Starts.{AddsInEach, StaysWithin}
+use Rattle.ly_position.specs.Private.Starts.{AddsInEach, StaysWithin}
 use Rattle.ly_position.proofs.starts.add_rule.Given as goal
 
 -- the entry is in for the first of the conditions

@@ -3,8 +3,8 @@ use Rattle.std.proofs.Common.{subst, arith, le_antisymm, refl}
 use Rattle.std.proofs.lemmas.List.{length-map, get_or_read, with_items_is}
 use Rattle.std.specs.Prelude.{slice_get}
 use Rattle.std.proofs.lemmas.Option.{slice_get_read}
-use Rattle.ly_position.specs.Plain.{IsPart}
-use Rattle.ly_position.specs.Starts.{AddsInEach, AreRoots, StaysWithin}
+use Rattle.ly_position.specs.Private.Plain.{IsPlainPart}
+use Rattle.ly_position.specs.Private.Starts.{AddsInEach, AreRoots, StaysWithin}
 use Rattle.ly_position.proofs.StartLemmas.{roots_none, roots_skip, roots_more}
 use Rattle.ly_position.proofs.starts.roots.Goals as goal
 use Rattle.ly_position.proofs.starts.roots.Goals.{in-Some+in_ok-add_rule, in_default}
@@ -35,7 +35,7 @@ loop-number-preserved c =
           = slice_get_read rules (length rules) n r refl c.loop-number-test.true c.index-rules-number.is in
           let some : get_or entries n None ≡ Some x = sym at ∙ w.in-Some.is in
           let bound : x < length c.args.program.now.instructions.items = let P : Option ℕ
-          → Type 0 = IsPart (length c.args.program.now.instructions.items)
+          → Type 0 = IsPlainPart (length c.args.program.now.instructions.items)
           in subst P some (c.requires.within n None here) in
           let stays : StaysWithin L M x
           = subst (λ (vs : List (Vec ℕ Global)). StaysWithin (map items vs) M x) w.deref_mut.ensures.value

@@ -1,5 +1,5 @@
 use Rattle.std.proofs.Common.{ℕ, Vec, Global, length, map}
-use Rattle.ly_position.specs.Starts.{AreRoots}
+use Rattle.ly_position.specs.Private.Starts.{AreRoots}
 use Rattle.ly_position.proofs.starts.roots.Given as goal
 
 abbrev pub invariant-loop-number : goal.invariant-loop-number

@@ -1,5 +1,6 @@
 use Rattle.std.proofs.Common.{take, ◌∙◌, sym, arith}
-use Rattle.ly_base.specs.Escapes.{base_of, number, test_of}
+use Rattle.ly_base.specs.Private.Escapes.{base_of, test_of}
+use Rattle.ly_base.specs.Escapes.{number}
 use Rattle.ly_base.proofs.EscapeLemmas.{counted, uncounted, number_more, pass_more, run_ends, value_more}
 use Rattle.ly_base.proofs.escapes.Digits.leading.Goals as goal
 

@@ -1,5 +1,6 @@
 use Rattle.std.proofs.Common.{◌≡◌, ◌≤◌, take, min}
-use Rattle.ly_base.specs.Escapes.{AllPass, base_of, number, test_of}
+use Rattle.ly_base.specs.Private.Escapes.{base_of, test_of}
+use Rattle.ly_base.specs.Escapes.{AllPass, number}
 use Rattle.ly_base.proofs.escapes.Digits.leading.Given as goal
 
 abbrev pub invariant-loop-count : goal.invariant-loop-count

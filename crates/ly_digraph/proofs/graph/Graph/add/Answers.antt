@@ -1,6 +1,6 @@
 use Rattle.std.proofs.Common.{◌≡◌, ◌∙◌, ◌+◌, ◌<◌, ◌++◌, ◌∷◌, [], ap, sym, subst, arith, length, set, get_or}
 use Rattle.std.proofs.lemmas.List.{length_push}
-use Rattle.ly_digraph.specs.Graph.{IsLinked}
+use Rattle.ly_digraph.specs.Graph.{IsEdgeList}
 use Rattle.ly_digraph.specs.declared.graph.Edge.{Edge}
 use Rattle.ly_digraph.proofs.GraphLemmas.{linked_push}
 use Rattle.ly_digraph.proofs.StepLemmas.{read_is}
@@ -18,9 +18,9 @@ invariant_of-self-2 c =
     let items : c.push.new.self.items ≡ c.self.inside.edges.items ++ edge ∷ [] = c.in_ok-push.ensures.items in
     let len : c.len.result ≡ length c.self.inside.edges.items + 1 = c.len.ensures ∙ c.push.new.self.ok.0
     ∙ ap length items ∙ length_push c.self.inside.edges.items edge in
-    subst (λ es. IsLinked (set c.self.inside.ends.items c.args.from c.len.result) es) (sym items)
-    (subst (λ n. IsLinked (set c.self.inside.ends.items c.args.from n) (c.self.inside.edges.items ++ edge ∷ []))
+    subst (λ es. IsEdgeList (set c.self.inside.ends.items c.args.from c.len.result) es) (sym items)
+    (subst (λ n. IsEdgeList (set c.self.inside.ends.items c.args.from n) (c.self.inside.edges.items ++ edge ∷ []))
     (sym len)
-    (subst (λ b. IsLinked (set c.self.inside.ends.items c.args.from (length c.self.inside.edges.items + 1))
+    (subst (λ b. IsEdgeList (set c.self.inside.ends.items c.args.from (length c.self.inside.edges.items + 1))
     (c.self.inside.edges.items ++ record { from = c.args.from; to = c.args.to; before = b } ∷ [])) before
     (linked_push c.self.invariant c.args.from c.args.to from_in to_in)))

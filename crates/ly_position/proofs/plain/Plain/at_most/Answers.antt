@@ -1,5 +1,5 @@
 use Rattle.std.proofs.Common.{◌+◌}
-use Rattle.ly_position.specs.Plain.{InTurn, PartMatches}
+use Rattle.ly_position.specs.Private.Plain.{InTurn, PartMatches}
 use Rattle.ly_position.proofs.JoinedLemmas.{AtMost, Optional, Null, in_turn_same, or_same, at_most_more}
 use Rattle.ly_position.proofs.PlainLemmas.{makes_trans, part_grown, same, same_trans}
 use Rattle.ly_position.proofs.plain.Plain.at_most.Goals as goal

@@ -1,4 +1,4 @@
-use Rattle.ly_position.specs.Plain.{Makes, PartMatches}
+use Rattle.ly_position.specs.Private.Plain.{Makes, PartMatches}
 use Rattle.ly_position.proofs.JoinedLemmas.{AtMost}
 use Rattle.ly_position.proofs.plain.Plain.at_most.Given as goal
 

@@ -1,7 +1,7 @@
 use Rattle.std.proofs.Common.{ℕ, List}
 use Rattle.ly_ere.specs.Expression.{empty, concat}
 use Rattle.ly_ere.specs.Arena.{part_of}
-use Rattle.ly_position.specs.Plain.{PlainMatches, PartMatches, InTurn}
+use Rattle.ly_position.specs.Private.Plain.{PlainMatches, PartMatches, InTurn}
 use Rattle.ly_position.proofs.JoinedLemmas.{then_null}
 use Rattle.ly_position.proofs.PlainLemmas.{makes_same, makes_push, as_part, as_parts, same}
 use Rattle.ly_position.proofs.plain.Plain.concat.Goals as goal

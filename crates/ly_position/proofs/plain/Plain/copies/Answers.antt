@@ -1,6 +1,6 @@
 use Rattle.std.proofs.Common.{◌+◌}
 use Rattle.ly_ere.specs.Expression.{Joined}
-use Rattle.ly_position.specs.Plain.{InTurn, PartMatches}
+use Rattle.ly_position.specs.Private.Plain.{InTurn, PartMatches}
 use Rattle.ly_position.proofs.JoinedLemmas.{in_turn_same, joined_more}
 use Rattle.ly_position.proofs.PlainLemmas.{makes_trans, part_grown, same_trans}
 use Rattle.ly_position.proofs.plain.Plain.copies.Goals as goal

@@ -1,5 +1,5 @@
 use Rattle.ly_ere.specs.Expression.{Joined}
-use Rattle.ly_position.specs.Plain.{InTurn, Makes, PartMatches}
+use Rattle.ly_position.specs.Private.Plain.{InTurn, Makes, PartMatches}
 use Rattle.ly_position.proofs.plain.Plain.copies.Given as goal
 
 abbrev pub invariant-loop : goal.invariant-loop

@@ -1,7 +1,7 @@
 use Rattle.std.proofs.Common.{inl, inr, refl, ap, sym, ◌∙◌}
 use Rattle.ly_ere.specs.Expression.{empty, star, plus, optional}
 use Rattle.ly_ere.specs.Arena.{expression_of, part_of}
-use Rattle.ly_position.specs.Plain.{PlainMatches}
+use Rattle.ly_position.specs.Private.Plain.{PlainMatches}
 use Rattle.ly_position.proofs.JoinedLemmas.{Optional, optional_void, optional_null, optional_star, optional_plus}
 use Rattle.ly_position.proofs.JoinedLemmas.{optional_optional}
 use Rattle.ly_position.proofs.PlainLemmas.{kept, added, added_none, same}

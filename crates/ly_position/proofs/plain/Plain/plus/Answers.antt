@@ -1,7 +1,7 @@
 use Rattle.std.proofs.Common.{inl, inr, None, refl, ap, sym, ◌∙◌}
 use Rattle.ly_ere.specs.Expression.{empty, star, plus, optional}
 use Rattle.ly_ere.specs.Arena.{expression_of, part_of}
-use Rattle.ly_position.specs.Plain.{PlainMatches, PartMatches}
+use Rattle.ly_position.specs.Private.Plain.{PlainMatches, PartMatches}
 use Rattle.ly_position.proofs.JoinedLemmas.{Plus, plus_void, plus_null, plus_star, plus_plus, plus_optional}
 use Rattle.ly_position.proofs.PlainLemmas.{makes_same, no_part, kept, added, same}
 use Rattle.ly_position.proofs.plain.Plain.plus.Goals as goal

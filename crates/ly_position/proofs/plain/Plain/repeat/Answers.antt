@@ -1,6 +1,6 @@
 use Rattle.std.proofs.Common.{◌≡◌, ◌≤◌, ◌<◌, ◌-◌, ℕ, arith}
 use Rattle.ly_ere.specs.Expression.{Joined}
-use Rattle.ly_position.specs.Plain.{PartMatches}
+use Rattle.ly_position.specs.Private.Plain.{PartMatches}
 use Rattle.ly_position.proofs.JoinedLemmas.{AtMost, Plus, between, or_more}
 use Rattle.ly_position.proofs.PlainLemmas.{then_copies}
 use Rattle.ly_position.proofs.plain.Plain.repeat.Goals as goal

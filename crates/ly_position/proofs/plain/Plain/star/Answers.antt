@@ -1,7 +1,7 @@
 use Rattle.std.proofs.Common.{inl, inr, refl, ap, sym, ◌∙◌}
 use Rattle.ly_ere.specs.Expression.{empty, star, plus, optional}
 use Rattle.ly_ere.specs.Arena.{expression_of, part_of}
-use Rattle.ly_position.specs.Plain.{PlainMatches}
+use Rattle.ly_position.specs.Private.Plain.{PlainMatches}
 use Rattle.ly_position.proofs.JoinedLemmas.{Star, star_void, star_null, star_star, star_plus, star_optional}
 use Rattle.ly_position.proofs.PlainLemmas.{kept, added, added_none, same}
 use Rattle.ly_position.proofs.plain.Plain.star.Goals as goal

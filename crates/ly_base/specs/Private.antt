@@ -1,0 +1,2 @@
+-- What contracts of private functions cite: what a reader finds on its way. No public contract rests on it.
+pub mod Escapes

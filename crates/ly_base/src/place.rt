@@ -1,0 +1,95 @@
+ghost use Rattle.std.specs.Prelude.{◌≡◌, ◌≤◌, length};
+ghost use Rattle.ly_base.specs.Lexed.{after_line};
+
+use std::marker::Model;
+
+/// Where a run over a text stands: at a byte, in a start condition, at the start of a line or not.
+#[derive(Drop)]
+pub struct Place<'t> {
+    /// The whole text.
+    text: &'t [u8],
+    /// How many of its bytes lie behind the run.
+    at: usize,
+    /// The number of the start condition.
+    condition: u32,
+    /// Whether a line begins here.
+    at_line_start: bool,
+}
+
+impl<'t> Model for Place<'t> {
+    ghost use Rattle.std.specs.Prelude.{◌≤◌, length};
+    ghost use Rattle.ly_base.specs.Lexed.{Place as Spot};
+
+    ghost Value = { Spot };
+
+    ghost use Rattle.ly_base.specs.Place.{spot_of};
+
+    ghost view = { spot_of };
+
+    ghost invariant = { λ p. p.at ≤ length p.text.now };
+}
+
+impl<'t> Place<'t> {
+    ghost use Rattle.ly_base.specs.Lexed.{moved, start_of};
+
+    /// The start of a text: a line begins there, in the initial condition.
+    pub fn start(text: &'t [u8]) -> Self
+        ensures { result ≡ start_of text.now }
+    {
+        Place {
+            text,
+            at: 0,
+            condition: 0,
+            at_line_start: true,
+        }
+    }
+
+    /// How many bytes of the text lie behind the run.
+    pub fn at(&self) -> usize
+        ensures { result ≡ self.now.at }
+    {
+        self.at
+    }
+
+    /// The number of the start condition.
+    pub fn condition(&self) -> u32
+        ensures { result ≡ self.now.condition }
+    {
+        self.condition
+    }
+
+    /// Whether a line begins here.
+    pub fn at_line_start(&self) -> bool
+        ensures { result ≡ self.now.line }
+    {
+        self.at_line_start
+    }
+
+    /// The bytes that are left.
+    pub fn rest(&self) -> &'t [u8]
+        ensures { result.now ≡ self.now.rest }
+    {
+        &self.text[self.at..]
+    }
+
+    /// Goes on by some bytes, and sets the condition if there is one to set.
+    pub fn advance(&mut self, count: usize, begin: Option<u32>)
+        requires { count ≤ length self.old.rest }
+        ensures { self.new ≡ moved self.old count begin }
+    {
+        let end = self.at + count;
+        self.at_line_start = line_start_after(self.at_line_start, &self.text[self.at..end]);
+        self.condition = begin.unwrap_or(self.condition);
+        self.at = end;
+    }
+}
+
+/// Whether a line begins behind some bytes, if one began before them or not.
+fn line_start_after(before: bool, passed: &[u8]) -> bool
+    ensures { result ≡ after_line before passed.now }
+{
+    match passed.last() {
+        Some(byte) => *byte == b'\n',
+        None => before,
+    }
+}

@@ -1,0 +1,128 @@
+ghost use Rattle.std.specs.Prelude.{◌≡◌, ℕ, ◌<◌, ◌≤◌, List, length, take, Err, IfSome, IfOk, IfErr, IsErrOf, OnOk};
+ghost use Rattle.std.specs.Io.KnownBytes.{Appends, IsAtEnd};
+ghost use Rattle.ly_base.specs.Device.{next_count};
+ghost use Rattle.ly_base.specs.Limits.{version_1};
+ghost use Rattle.ly_base.specs.declared.lexeme.End.{End};
+ghost use Rattle.ly_ere.specs.declared.fault.EreFault.TheVariants.{TooHeavy};
+ghost use Rattle.ly_lexread.specs.FaultNumber.{IsOfText};
+ghost use Rattle.ly_lexread.specs.LexText.{IsHeavyText, LexText};
+ghost use Rattle.ly_lexread.specs.declared.fault.LexFault.{LexFault};
+ghost use Rattle.ly_lexread.specs.declared.file.LexFile.{LexFile};
+ghost use Rattle.ly_position.specs.TotalWeight.{total_weight};
+ghost use Rattle.ly_position.specs.declared.fault.PosFault.{PosFault};
+ghost use Rattle.ly_position.specs.declared.fault.PosFault.TheVariants.{TooManyPositions};
+ghost use Rattle.ly_engine.specs.Agreement.{Agrees};
+ghost use Rattle.ly_engine.specs.Answering.{IsAnswer};
+ghost use Rattle.ly_engine.specs.Answers.{Answers, IsLight, IsTooHeavy};
+ghost use Rattle.ly_engine.specs.PositionWalk.{cut_in, position_walk};
+ghost use Rattle.ly_engine.specs.Printing.{end_of, LeavesTokens};
+ghost use Rattle.ly_engine.specs.TokensFault.{IsBeforeReading, IsBeforeWriting, IsWrite};
+
+use crate::fault::TokensFault;
+use crate::outcome::TokenEnd;
+use crate::position_walk::PositionWalk;
+use crate::token_lines::token_lines;
+use ly_base::{End, Limits, Sink, Source, read_whole, write_whole};
+use ly_lexread::{LexFile, read_lex};
+use ly_position::{PosNfa, positions};
+use ly_scan::Lexer;
+use std::alloc::{AllocError, Global};
+
+/// Writes the tokens of a text under a lex file (POSIX, XCU lex), a line for each, and a last line if no
+/// rule matches somewhere. The text is all that the reader gives. Nothing is written before the whole
+/// answer is known.
+pub fn tokens<R: Source, W: Sink>(
+    alloc: Global,
+    lex: &[u8],
+    reader: &mut R,
+    writer: &mut W,
+) -> Result<TokenEnd, TokensFault>
+    ensures answered { IfOk result (λ end. (answer : List ℕ)
+        × Answers version_1 lex.now (R.remaining reader.old) (end_of end) answer
+        × Appends (W.contents writer.old) (W.contents writer.new) answer) }
+    ensures beginning { (written : ℕ) → result ≡ Err (TokensFault.Write written) → (e : End) × ((answer : List ℕ)
+        × Answers version_1 lex.now (R.remaining reader.old) e answer × (written < length answer)
+        × Appends (W.contents writer.old) (W.contents writer.new) (take written answer)) }
+    ensures refused { (fault : LexFault) → result ≡ Err (TokensFault.Lex fault) → (file : LexFile)
+        → LexText lex.now file → IsLight version_1 file → ⊥ }
+    ensures heavy_pattern { (line : ℕ) → result ≡ Err (TokensFault.Lex (LexFault.Pattern line TooHeavy))
+        → IsHeavyText version_1.pattern_weight lex.now }
+    ensures of_text { (fault : LexFault) → result ≡ Err (TokensFault.Lex fault) → IsOfText fault }
+    ensures heavy { (fault : PosFault) → result ≡ Err (TokensFault.Positions fault)
+        → (fault ≡ TooManyPositions) × IsTooHeavy version_1 lex.now }
+    ensures ended { OnOk result (IsAtEnd (R.remaining reader.new)) }
+    ensures read { IsErrOf result TokensFault.Read → R.failures reader.new ≡ next_count (R.failures reader.old) }
+    ensures reader_held { (IsErrOf result TokensFault.Read → ⊥) → R.failures reader.new ≡ R.failures reader.old }
+    ensures write { IfErr result (λ e. IsWrite e → W.failures writer.new ≡ next_count (W.failures writer.old)) }
+    ensures writer_held { OnOk result (W.failures writer.new ≡ W.failures writer.old) }
+    ensures unread { IfErr result (λ e. IsBeforeReading e → reader.new ≡ reader.old) }
+    ensures untouched { IfErr result (λ e. IsBeforeWriting e → writer.new ≡ writer.old) }
+{
+    let file = read_lex(alloc, lex, &Limits::V1)?;
+    let (end, lines) = answer_to_text(alloc, &file, reader)?;
+    write_whole(writer, &lines)?;
+    Ok(end)
+}
+
+/// The answer to the text that a reader gives, under a lex file: how its tokens end, and the bytes to be
+/// written.
+fn answer_to_text<R: Source>(
+    alloc: Global,
+    file: &LexFile,
+    reader: &mut R,
+) -> Result<(TokenEnd, Vec<u8>), TokensFault>
+    requires spelled { (bytes : List ℕ) × LexText bytes file.now }
+    ensures made { IfOk result (λ a. (text : List ℕ) × IfSome (R.remaining reader.old) (λ bytes. text ≡ bytes)
+        × IsAnswer file.now.names file.now.rules.items file.now.actions.items text (end_of a.0) a.1.items) }
+    ensures refused { (fault : LexFault) → result ≡ Err (TokensFault.Lex fault) → ⊥ }
+    ensures within { OnOk result (total_weight file.now.names file.now.rules.items ≤ version_1.total_weight) }
+    ensures heavy { (fault : PosFault) → result ≡ Err (TokensFault.Positions fault) → (fault ≡ TooManyPositions)
+        × (version_1.total_weight < total_weight file.now.names file.now.rules.items) }
+    ensures ended { OnOk result (IsAtEnd (R.remaining reader.new)) }
+    ensures unread { IfErr result (λ e. IsBeforeReading e → reader.new ≡ reader.old) }
+    ensures read { IsErrOf result TokensFault.Read → R.failures reader.new ≡ next_count (R.failures reader.old) }
+    ensures held { (IsErrOf result TokensFault.Read → ⊥) → R.failures reader.new ≡ R.failures reader.old }
+    ensures before { IfErr result IsBeforeWriting }
+{
+    let nfa = positions(
+        alloc,
+        &file.rules,
+        &file.names,
+        file.conditions,
+        &Limits::V1,
+    )?;
+    let text = read_whole(alloc, reader)?;
+    Ok(answer_by(alloc, file, &nfa, &text)?)
+}
+
+/// The answer to a text under a lex file, by the positions of its rules.
+fn answer_by(
+    alloc: Global,
+    file: &LexFile,
+    nfa: &PosNfa,
+    text: &[u8],
+) -> Result<(TokenEnd, Vec<u8>), AllocError>
+    requires { Agrees file.now.names file.now.rules.items (record {
+      walk = position_walk nfa.now;
+      cut = cut_in file.now.rules.items;
+    }) }
+    ensures { IfOk result (λ a. IsAnswer file.now.names file.now.rules.items file.now.actions.items text.now (end_of a.0)
+        a.1.items) }
+{
+    let walk = PositionWalk::new(alloc, nfa, &file.rules)?;
+    let mut lexer = Lexer::new(walk, text);
+    let (end, lines) = token_lines(alloc, &mut lexer, &file.actions)?;
+    Ok((token_end(end), lines))
+}
+
+/// The end of a run in which each cut leaves a token.
+fn token_end(end: End) -> TokenEnd
+    requires { LeavesTokens end }
+    ensures { end_of result ≡ end }
+{
+    match end {
+        End::Clean => TokenEnd::Clean,
+        End::Stuck { byte } => TokenEnd::Stuck { byte: byte as u64 },
+        End::BadCut { .. } => unreachable!(),
+    }
+}

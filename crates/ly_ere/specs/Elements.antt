@@ -1,0 +1,155 @@
+-- The elements of an expression, its lexical units: how each is spelled (POSIX, XBD 9.4 and 9.3.5, as lex changes
+-- them).
+use Rattle.std.specs.Prelude.{◌≡◌, ◌≢◌, ℕ, zero, suc, ◌≤◌, List, [], ◌∷◌, ◌++◌, Bool, true, false, not, ◌||◌}
+use Rattle.std.specs.Prelude.{◌&&◌, nat_eq, nat_le, codes, Option, Some, None, if◌then◌else◌}
+use Rattle.ly_base.specs.ByteSet.{bytes_where}
+use Rattle.ly_base.specs.Escapes.{Escape}
+
+-- An element: one byte of a set, a string, or a sign. A set and a string are lists of bytes.
+pub data Element : Type 0 where
+  one_of : List ℕ → Element
+  string : List ℕ → Element
+  opening : Element
+  closing : Element
+  bar : Element
+  asterisk : Element
+  plus_sign : Element
+  question_mark : Element
+
+-- What stands behind a quote, up to the next, is these bytes, and then comes the rest.
+pub data Quoted : List ℕ → List ℕ → List ℕ → Type 0 where
+  closed : (rest : List ℕ) → Quoted (34 ∷ rest) [] rest
+  byte : (b : ℕ) (t bs rest : List ℕ) → b ≢ 34 → b ≢ 92 → b ≢ 10 → Quoted t bs rest → Quoted (b ∷ t) (b ∷ bs) rest
+  escape : (t more : List ℕ) (b : ℕ) (bs rest : List ℕ) → Escape t b more → Quoted more bs rest
+      → Quoted (92 ∷ t) (b ∷ bs) rest
+
+-- the byte is in one of the ranges
+abbrev pub in_ranges : List (ℕ × ℕ) → ℕ → Bool
+in_ranges [] b = false
+in_ranges (r ∷ rs) b = (nat_le r.0 b && nat_le b r.1) || in_ranges rs b
+
+-- the texts are equal
+abbrev pub same_text : List ℕ → List ℕ → Bool
+same_text [] [] = true
+same_text [] (c ∷ cs) = false
+same_text (b ∷ bs) [] = false
+same_text (b ∷ bs) (c ∷ cs) = nat_eq b c && same_text bs cs
+
+-- the byte stands at the index
+abbrev pub stands_at : List ℕ → ℕ → ℕ → Bool
+stands_at [] n b = false
+stands_at (c ∷ t) zero b = nat_eq c b
+stands_at (c ∷ t) (suc n) b = stands_at t n b
+
+-- `[` with this mark stands at the front
+abbrev pub begins : List ℕ → ℕ → Bool
+begins t mark = stands_at t 0 91 && stands_at t 1 mark
+
+-- the classes of the POSIX locale, by name, and the ranges of each
+abbrev pub classes : List (List ℕ × List (ℕ × ℕ))
+classes =
+    (codes "upper", (65, 90) ∷ [])
+    ∷ (codes "lower", (97, 122) ∷ [])
+    ∷ (codes "alpha", (65, 90) ∷ (97, 122) ∷ [])
+    ∷ (codes "digit", (48, 57) ∷ [])
+    ∷ (codes "alnum", (48, 57) ∷ (65, 90) ∷ (97, 122) ∷ [])
+    ∷ (codes "xdigit", (48, 57) ∷ (65, 70) ∷ (97, 102) ∷ [])
+    ∷ (codes "blank", (9, 9) ∷ (32, 32) ∷ [])
+    ∷ (codes "space", (9, 13) ∷ (32, 32) ∷ [])
+    ∷ (codes "cntrl", (0, 31) ∷ (127, 127) ∷ [])
+    ∷ (codes "graph", (33, 126) ∷ [])
+    ∷ (codes "print", (32, 126) ∷ [])
+    ∷ (codes "punct", (33, 47) ∷ (58, 64) ∷ (91, 96) ∷ (123, 126) ∷ [])
+    ∷ []
+
+-- what stands beside a name in a list
+abbrev pub found_in : List (List ℕ × List (ℕ × ℕ)) → List ℕ → Option (List (ℕ × ℕ))
+found_in [] name = None
+found_in (c ∷ cs) name = if same_text c.0 name then Some c.1 else found_in cs name
+
+-- the ranges of the class of a name
+abbrev pub class_of : List ℕ → Option (List (ℕ × ℕ))
+class_of name = found_in classes name
+
+-- `[:`, `[.` or `[=` stands at the front
+abbrev pub begins_named : List ℕ → Bool
+begins_named t = begins t 58 || begins t 46 || begins t 61
+
+-- What a byte of a bracket expression is spelled by: itself, an escape, or `[. .]`.
+pub data Point : List ℕ → ℕ → List ℕ → Type 0 where
+  bare : (b : ℕ) (rest : List ℕ) → b ≢ 10 → b ≢ 92 → begins_named (b ∷ rest) ≡ false → Point (b ∷ rest) b rest
+  escaped : (t rest : List ℕ) (b : ℕ) → Escape t b rest → Point (92 ∷ t) b rest
+  named : (b : ℕ) (rest : List ℕ) → b ≢ 10 → Point (91 ∷ 46 ∷ b ∷ 46 ∷ 93 ∷ rest) b rest
+
+-- a `-` that isn't the last item
+abbrev pub begins_range : List ℕ → Bool
+begins_range t = stands_at t 0 45 && not (stands_at t 1 93)
+
+-- A byte, or a range from one to another, as ranges.
+pub data Points : List ℕ → List (ℕ × ℕ) → List ℕ → Type 0 where
+  single : (t rest : List ℕ) (b : ℕ) → Point t b rest → begins_range rest ≡ false → Points t ((b, b) ∷ []) rest
+  range : (t behind rest : List ℕ) (low high : ℕ) → Point t low (45 ∷ behind) → begins_range (45 ∷ behind) ≡ true
+      → Point behind high rest → low ≤ high → Points t ((low, high) ∷ []) rest
+
+-- a class at the front, and the ranges that it adds
+abbrev pub IsClass : List ℕ → List (ℕ × ℕ) → List ℕ → Type 0
+IsClass t rs rest = (name : List ℕ) × (class_of name ≡ Some rs) × (t ≡ 91 ∷ 58 ∷ (name ++ 58 ∷ 93 ∷ rest))
+
+-- An item and the ranges that it adds. A `-` at its front is the first item, or the last.
+pub data Item : Bool → List ℕ → List (ℕ × ℕ) → List ℕ → Type 0 where
+  class : (first : Bool) (t rest : List ℕ) (rs : List (ℕ × ℕ)) → IsClass t rs rest → Item first t rs rest
+  equivalent : (first : Bool) (b : ℕ) (rest : List ℕ) → b ≢ 10
+      → Item first (91 ∷ 61 ∷ b ∷ 61 ∷ 93 ∷ rest) ((b, b) ∷ []) rest
+  points : (first : Bool) (t rest : List ℕ) (rs : List (ℕ × ℕ)) → (first ≡ false → begins_range t ≡ false)
+      → Points t rs rest → Item first t rs rest
+
+-- Items up to the `]` that ends them, and all their ranges. There is at least one, and `]` is itself only as the first.
+pub data Items : Bool → List ℕ → List (ℕ × ℕ) → List ℕ → Type 0 where
+  no_more : (rest : List ℕ) → Items false (93 ∷ rest) [] rest
+  more : (first : Bool) (t behind rest : List ℕ) (rs ss : List (ℕ × ℕ)) → (first ≡ false → stands_at t 0 93 ≡ false)
+      → Item first t rs behind → Items false behind ss rest → Items first t (rs ++ ss) rest
+
+-- What stands behind the `[` of a bracket expression: its bytes, of which there is one or more.
+pub data Bracketed : List ℕ → List ℕ → List ℕ → Type 0 where
+  listed : (t rest : List ℕ) (rs : List (ℕ × ℕ)) → stands_at t 0 94 ≡ false → Items true t rs rest
+      → bytes_where (in_ranges rs) ≢ [] → Bracketed t (bytes_where (in_ranges rs)) rest
+  excluded : (t rest : List ℕ) (rs : List (ℕ × ℕ)) → Items true t rs rest → bytes_where (λ b. not (in_ranges rs b)) ≢ []
+      → Bracketed (94 ∷ t) (bytes_where (λ b. not (in_ranges rs b))) rest
+
+-- the byte of a text of one byte
+abbrev pub byte_of : List ℕ → ℕ
+byte_of [] = 0
+byte_of (b ∷ bs) = b
+
+-- the signs, each a byte
+abbrev pub sign_of : ℕ → Option Element
+sign_of b = if nat_eq b (byte_of (codes "(")) then Some opening else
+    (if nat_eq b (byte_of (codes ")")) then Some closing else
+    (if nat_eq b (byte_of (codes "|")) then Some bar else
+    (if nat_eq b (byte_of (codes "*")) then Some asterisk else
+    (if nat_eq b (byte_of (codes "+")) then Some plus_sign else
+    (if nat_eq b (byte_of (codes "?")) then Some question_mark else None)))))
+
+-- the bytes with a meaning of their own: newline, tab, space and operators
+abbrev pub own_meaning : List ℕ
+own_meaning = codes "\n\t \"\\[(){*+?|/^$."
+
+-- the list has the byte
+abbrev pub is_among : List ℕ → ℕ → Bool
+is_among [] b = false
+is_among (c ∷ cs) b = nat_eq b c || is_among cs b
+
+-- A text that begins with an element, and what is behind it. A set is of one byte or more.
+pub data IsElement : List ℕ → Element → List ℕ → Type 0 where
+  plain : (b : ℕ) (rest : List ℕ) → is_among own_meaning b ≡ false → IsElement (b ∷ rest) (one_of (b ∷ [])) rest
+  dot : (rest : List ℕ) → IsElement (46 ∷ rest) (one_of (bytes_where (λ b. not (nat_eq b 10)))) rest
+  backslash : (t rest : List ℕ) (b : ℕ) → Escape t b rest → IsElement (92 ∷ t) (one_of (b ∷ [])) rest
+  bracket : (t bytes rest : List ℕ) → Bracketed t bytes rest → IsElement (91 ∷ t) (one_of bytes) rest
+  quoted : (t bs rest : List ℕ) → Quoted t bs rest → IsElement (34 ∷ t) (string bs) rest
+  sign : (b : ℕ) (w : Element) (rest : List ℕ) → sign_of b ≡ Some w → IsElement (b ∷ rest) w rest
+
+-- The text is these elements, one after another.
+pub data AreElements : List ℕ → List Element → Type 0 where
+  end : AreElements [] []
+  element : (t rest : List ℕ) (w : Element) (ws : List Element) → IsElement t w rest → AreElements rest ws
+      → AreElements t (w ∷ ws)

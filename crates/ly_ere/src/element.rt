@@ -1,0 +1,128 @@
+ghost use Rattle.std.specs.Prelude.{◌≡◌, ℕ, IfErr, ◌<◌, ◌≢◌, length, slice_index, not, nat_eq, IfOk};
+ghost use Rattle.ly_ere.specs.Private.Front.{BeginsNo};
+ghost use Rattle.ly_ere.specs.Private.Elements.{IsNextElement};
+ghost use Rattle.ly_ere.specs.Elements.{IsElement};
+ghost use Rattle.ly_base.specs.ByteSet.{bytes_where, members};
+
+use crate::bracket::bracket;
+use crate::fault::SyntaxFault;
+use crate::node::Node;
+use crate::quoted::quoted_length;
+use ly_base::{ByteSet, escape};
+
+/// An element of an expression.
+#[derive(Clone, Copy)]
+pub(crate) enum Element<'t> {
+    /// One byte of the set: a byte, an escape, `.` or a bracket expression.
+    OneOf(ByteSet),
+    /// A string: what stands behind its opening quote, not yet read.
+    String(&'t [u8]),
+    /// `(`
+    Opening,
+    /// `)`
+    Closing,
+    /// `|`
+    Bar,
+    /// An operator after its operand.
+    Postfix(Postfix),
+}
+
+/// An operator after its operand.
+#[derive(Clone, Copy)]
+pub(crate) enum Postfix {
+    /// `*`
+    Asterisk,
+    /// `+`
+    PlusSign,
+    /// `?`
+    QuestionMark,
+}
+
+impl Postfix {
+    ghost use Rattle.ly_ere.specs.Arena.{FitsAt, expression_of, part_of};
+    ghost use Rattle.ly_ere.specs.Private.Levels.{operated};
+
+    /// The operator over a part.
+    pub(crate) fn over(self, part: usize) -> Node
+        ensures fits { (n : ℕ) → part < n → FitsAt n result }
+        ensures operator { (done : _) → expression_of done result ≡ operated self (part_of done part) }
+    {
+        match self {
+            Postfix::Asterisk => Node::Star(part),
+            Postfix::PlusSign => Node::Plus(part),
+            Postfix::QuestionMark => Node::Optional(part),
+        }
+    }
+}
+
+/// Reads the element at the front of a text, and answers how many bytes it takes.
+pub(crate) fn next_element(text: &[u8]) -> Result<(Element<'_>, usize), SyntaxFault>
+    requires { 0 < length text.now }
+    ensures next { IfOk result (λ found. IsNextElement text.entry.now found.0 found.1) }
+    ensures refused { IfErr result (λ _. BeginsNo IsElement text.entry.now) }
+{
+    match text[0] {
+        b'(' => Ok((Element::Opening, 1)),
+        b')' => Ok((Element::Closing, 1)),
+        b'|' => Ok((Element::Bar, 1)),
+        b'*' => Ok((Element::Postfix(Postfix::Asterisk), 1)),
+        b'+' => Ok((Element::Postfix(Postfix::PlusSign), 1)),
+        b'?' => Ok((Element::Postfix(Postfix::QuestionMark), 1)),
+        b'"' => string(text),
+        b'[' => list(text),
+        b'\\' => escaped(text),
+        b'.' => Ok((Element::OneOf(all_but_newline()), 1)),
+        b'^' | b'$' => Err(SyntaxFault::AnchorInside),
+        b'/' | b' ' | b'\t' | b'\n' => Err(SyntaxFault::StrayOperator),
+        b'{' => Err(brace_fault(text.get(1).copied())),
+        byte => Ok((Element::OneOf(ByteSet::of(byte)), 1)),
+    }
+}
+
+/// The string at the front, whose first byte is the opening quote.
+fn string(text: &[u8]) -> Result<(Element<'_>, usize), SyntaxFault>
+    requires some { 0 < length text.now }
+    requires quote { slice_index text.now 0 ≡ 34 }
+    ensures next { IfOk result (λ found. IsNextElement text.entry.now found.0 found.1) }
+    ensures refused { IfErr result (λ _. BeginsNo IsElement text.entry.now) }
+{
+    let behind = &text[1..];
+    Ok((Element::String(behind), 1 + quoted_length(behind)?))
+}
+
+/// The bracket expression at the front, whose first byte is `[`.
+fn list(text: &[u8]) -> Result<(Element<'_>, usize), SyntaxFault>
+    requires some { 0 < length text.now }
+    requires opening { slice_index text.now 0 ≡ 91 }
+    ensures next { IfOk result (λ found. IsNextElement text.entry.now found.0 found.1) }
+    ensures refused { IfErr result (λ _. BeginsNo IsElement text.entry.now) }
+{
+    let (set, length) = bracket(text)?;
+    Ok((Element::OneOf(set), length))
+}
+
+/// The escape at the front, whose first byte is the backslash.
+fn escaped(text: &[u8]) -> Result<(Element<'_>, usize), SyntaxFault>
+    requires some { 0 < length text.now }
+    requires backslash { slice_index text.now 0 ≡ 92 }
+    ensures next { IfOk result (λ found. IsNextElement text.entry.now found.0 found.1) }
+    ensures refused { IfErr result (λ _. BeginsNo IsElement text.entry.now) }
+{
+    let (byte, length) = escape(text)?;
+    Ok((Element::OneOf(ByteSet::of(byte)), length))
+}
+
+/// What `.` stands for.
+fn all_but_newline() -> ByteSet
+    ensures { members result ≡ bytes_where (λ b. not (nat_eq b 10)) }
+{
+    ByteSet::of(b'\n').complement()
+}
+
+/// What `{` is refused for, by the byte after it: a name that isn't defined, or no interval.
+fn brace_fault(next: Option<u8>) -> SyntaxFault {
+    match next {
+        Some(b'a'..=b'z' | b'A'..=b'Z' | b'_') => SyntaxFault::UnknownName,
+        _ => SyntaxFault::BadInterval,
+    }
+}

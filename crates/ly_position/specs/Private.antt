@@ -1,0 +1,10 @@
+-- What contracts of private functions cite: the plan, the program and its links. No public contract rests on it.
+pub mod Assembled
+pub mod Compile
+pub mod Link
+pub mod Plain
+pub mod Plan
+pub mod Program
+pub mod Reach
+pub mod Starts
+pub mod Targets

@@ -1,0 +1,19 @@
+-- What a program reaches by forks alone.
+use Rattle.std.specs.Prelude.{◌≡◌, ℕ, ◌<◌, List, length, slice_get, Contains, Some}
+use Rattle.ly_position.specs.Private.Program.{Step, reads, fork, ends}
+
+-- a step leads to steps below n only
+abbrev pub LeadsBelow : ℕ → Step → Type 0
+LeadsBelow n (reads bytes q) = q < n
+LeadsBelow n (fork a b) = (a < n) × (b < n)
+LeadsBelow n (ends i) = Unit {0}
+
+-- each step leads to steps of the program
+abbrev pub StaysInside : List Step → Type 0
+StaysInside program = (p : ℕ) (s : Step) → slice_get program p ≡ Some s → LeadsBelow (length program) s
+
+-- step p is reached from the roots by forks alone
+pub data Reached (program : List Step) (roots : List ℕ) : ℕ → Type 0 where
+  at_root : {p : ℕ} → Contains roots p → Reached program roots p
+  to_first : {p a b : ℕ} → Reached program roots p → slice_get program p ≡ Some (fork a b) → Reached program roots a
+  to_second : {p a b : ℕ} → Reached program roots p → slice_get program p ≡ Some (fork a b) → Reached program roots b

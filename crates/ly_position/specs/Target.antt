@@ -1,0 +1,31 @@
+-- Where runs go on: at positions, or at either side of forks.
+use Rattle.std.specs.Prelude.{ℕ, ◌<◌, List, length, All}
+use Rattle.ly_position.specs.declared.nfa.Fork.{Fork}
+use Rattle.ly_position.specs.declared.nfa.Slot.{Slot}
+use Rattle.ly_position.specs.declared.nfa.Slot.TheVariants as slot
+use Rattle.ly_position.specs.declared.nfa.Target.{Target}
+use Rattle.ly_position.specs.declared.nfa.Target.TheVariants as target
+
+-- one of the first n positions, or of the first m forks
+abbrev pub TargetWithin : ℕ → ℕ → Target → Type 0
+TargetWithin n m (target.Position p) = p < n
+TargetWithin n m (target.Fork k) = k < m
+
+-- both sides are
+abbrev pub ForkWithin : ℕ → ℕ → Fork → Type 0
+ForkWithin n m f = TargetWithin n m f.first × TargetWithin n m f.second
+
+-- where the position goes on is
+abbrev pub SlotWithin : ℕ → ℕ → Slot → Type 0
+SlotWithin n m (slot.Reads bytes next) = TargetWithin n m next
+SlotWithin n m (slot.Ends rule) = Unit {0}
+
+-- all positions and forks go on at positions and forks that there are
+pub record GoOnWithin (slots : List Slot) (forks : List Fork) : Type 0 where
+  pub reads : All (SlotWithin (length slots) (length forks)) slots
+  pub forks_within : All (ForkWithin (length slots) (length forks)) forks
+
+-- and so do start lists
+pub record TargetsExist (slots : List Slot) (forks : List Fork) (starts : List (List ℕ)) : Type 0 where
+  pub within : GoOnWithin slots forks
+  pub starts_within : All (All (λ q. q < length slots)) starts
