@@ -321,7 +321,8 @@ module _ (t : List ℕ) (letter : ℕ) (within : 1 < length t) (is : letter ≡ 
 
   module _ (n : ℕ) (count : n ≡ length (digits is_octal 3 (take (length t - 1) (drop 1 t)))) (none : n ≤ 0)
       (line : letter ≢ 10) where
-    by_letters : (w : List ℕ) → drop 2 t ≡ w → found_escape (letter ∷ w) ≡ letter_when false (nat_eq letter 120) letter w
+    by_letters : (w : List ℕ) → drop 2 t ≡ w
+        → found_escape (letter ∷ w) ≡ letter_when false (nat_eq letter 120) letter w
     by_letters w e = no_octal (letter ∷ w) n (rw (whole_slice, first_letter, e) at count) none
         ∙ rw (ne_eqb letter 10 line) refl
 

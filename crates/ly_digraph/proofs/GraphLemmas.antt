@@ -34,7 +34,8 @@ end_same same h = record {
   none = λ e lo hi is. h.none e lo hi (sym (same e hi) ∙ is);
 }
 
-module _ {ends : List ℕ} {edges : List Edge} (linked : IsEdgeList ends edges) (from to : ℕ) (from_in : from < length ends)
+module _ {ends : List ℕ} {edges : List Edge} (linked : IsEdgeList ends edges) (from to : ℕ)
+    (from_in : from < length ends)
     (to_in : to < length ends) where
   abbrev new_edge : Edge
   new_edge = record { from = from; to = to; before = get_or ends from 0 }

@@ -13,7 +13,7 @@ use Rattle.ly_position.specs.Patterns.{ArePositions}
 use Rattle.ly_ere.specs.Winner.{IsString}
 use Rattle.ly_engine.specs.Agreement.{HaveBytes, Agrees}
 use Rattle.ly_engine.specs.PositionWalk.{position_walk, cut_in}
-use Rattle.ly_engine.proofs.PositionAgreementLemmas.{RunsSpell, walk_agrees}
+use Rattle.ly_engine.proofs.PositionAgreementLemmas.{RunsSpell, positions_agree}
 
 -- a plain rule is active in the initial condition alone
 only_first : (r : Rule) (c : ℕ) → IsPlain r → Contains r.active.items c → c < 1
@@ -34,7 +34,8 @@ runs_spell bytes file conditions nfa text one are i c line w = (there (cases_lt 
 
     back : IsString file.names file.rules.items c line i w → (p : ℕ) × Contains (starts_of nfa c line) p
         × RunsTo nfa i p w
-    back s = let first = only_first s.rule c (rules_plain bytes file text i s.rule s.is_active.is_rule) s.is_active.in_condition in
+    back s = let first
+        = only_first s.rule c (rules_plain bytes file text i s.rule s.is_active.is_rule) s.is_active.in_condition in
         (are.spells c line i w (omega arith)).1 s
 
 -- no rule has a tail
@@ -45,9 +46,10 @@ have_bytes bytes file text i r e some h = let p = rules_plain bytes file text i 
     none_is : IsSome {T = Expression} None → ⊥
     none_is k = absurd (search rules)
 
-pub file_agrees : (bytes : List ℕ) (file : LexFile) (conditions : ℕ) (given : List Rule) (nfa here : Nfa)
-    → LexText bytes file → conditions ≡ 1 → ArePositions file.names file.rules.items conditions nfa
-    → here ≡ nfa → given ≡ file.rules.items → Agrees file.names file.rules.items (record { walk = position_walk here; cut = cut_in given })
-file_agrees bytes file conditions given nfa here text one are same_nfa same_rules =
-    walk_agrees file.names file.rules.items given nfa here same_nfa same_rules
-    (runs_spell bytes file conditions nfa text one are) (rules_cut bytes file text) (have_bytes bytes file text)
+-- the walk over a lex file's positions agrees with its rules
+pub file_agrees : (bytes : List ℕ) (file : LexFile) (conditions : ℕ) (nfa : Nfa) → LexText bytes file
+    → conditions ≡ 1 → ArePositions file.names file.rules.items conditions nfa
+    → Agrees file.names file.rules.items (record { walk = position_walk nfa; cut = cut_in file.rules.items })
+file_agrees bytes file conditions nfa text one are =
+    positions_agree file.names file.rules.items nfa (runs_spell bytes file conditions nfa text one are)
+    (rules_cut bytes file text) (have_bytes bytes file text)

@@ -46,10 +46,3 @@ positions_agree names rules nfa spelled cuts bytes = record {
         → (q : ℕ) × Contains (after condition line w) q × IsEnd nfa q j
     end condition line w j s = let p = (spelled j condition line w).1 s
         in end_from_run nfa j (starts_of nfa condition line) w p.0 p.1 p.2
-
--- the walk that was made of positions and rules agrees with these rules
-pub walk_agrees : (names : List Expression) (rules given : List Rule) (nfa here : Nfa) → here ≡ nfa → given ≡ rules
-    → RunsSpell names rules nfa → AreCut names rules → HaveBytes names rules
-    → Agrees names rules (record { walk = position_walk here; cut = cut_in given })
-walk_agrees names rules given nfa here same_nfa same_rules spelled cuts bytes
-    = rw (same_nfa, same_rules) (positions_agree names rules nfa spelled cuts bytes)

@@ -48,7 +48,8 @@ fn push_token(
     token: &[u8],
 ) -> Result<(), AllocError>
     requires { 0 < length token.now }
-    ensures { OnOk result (lines.new.items ≡ lines.old.items ++ line_if (naming actions.now rule.0 token.now) token.now) }
+    ensures { OnOk result
+        (lines.new.items ≡ lines.old.items ++ line_if (naming actions.now rule.0 token.now) token.now) }
 {
     match terminal_for(actions, rule, token) {
         Some(terminal) => push_leaf_line(lines, terminal, token),

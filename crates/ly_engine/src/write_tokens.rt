@@ -107,7 +107,8 @@ fn answer_by(
       walk = position_walk nfa.now;
       cut = cut_in file.now.rules.items;
     }) }
-    ensures { IfOk result (λ a. IsAnswer file.now.names file.now.rules.items file.now.actions.items text.now (end_of a.0)
+    ensures { IfOk result (λ a. IsAnswer file.now.names file.now.rules.items file.now.actions.items text.now
+        (end_of a.0)
         a.1.items) }
 {
     let walk = PositionWalk::new(alloc, nfa, &file.rules)?;

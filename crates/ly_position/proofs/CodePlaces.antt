@@ -285,7 +285,8 @@ module _ (g : List Step) (i : ℕ) where
   from_entry base (suc n) next f = f (base + n) (omega arith) (omega arith)
 
   -- each step of code leads to what comes after the code
-  pub leads : (e : Expression) (base next p : ℕ) → IsPlainExpression e → HasCode g e base next → base ≤ p → p < base + size e
+  pub leads : (e : Expression) (base next p : ℕ) → IsPlainExpression e → HasCode g e base next → base ≤ p
+      → p < base + size e
       → StepsTo p next
   leads (set bytes) base next p plain h l m =
       let same : p ≡ base = omega arith in

@@ -83,7 +83,8 @@ get_front xs ys p x l e = slice_get-get_or xs p x l ∙ ap (λ y. Some y) (sym (
 
 -- one more rule
 module _ (es : List Expression) (parts : List (Option ℕ)) (g : List Step) (entries : List (Option ℕ)) (n a : ℕ)
-    (h : Compiled es parts g entries n) (is : get_or parts n None ≡ Some a) (plain : IsPlainExpression (part_of es a)) where
+    (h : Compiled es parts g entries n) (is : get_or parts n None ≡ Some a) (plain : IsPlainExpression (part_of es a))
+        where
   abbrev more : List Step
   more = ends n ∷ code (part_of es a) (length g + 1) (length g)
 

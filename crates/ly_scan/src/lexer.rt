@@ -30,7 +30,8 @@ impl<'t, S: Steps + Drop> Lexer<'t, S> {
 
     /// What is taken here, or how the run ends here. The run stays where it is.
     pub fn next_lexeme(&mut self) -> Result<Lexeme, End>
-        ensures lexeme { IfOk result (IsLexemeAt (record { walk = S.walk self.old.steps; cut = S.cut_of self.old.steps })
+        ensures lexeme { IfOk result
+            (IsLexemeAt (record { walk = S.walk self.old.steps; cut = S.cut_of self.old.steps })
             self.old.place) }
         ensures within { IfOk result (λ t. (0 < t.taken) × (t.taken ≤ length self.old.place.rest)) }
         ensures end { IfErr result (ScanEndsAt (record { walk = S.walk self.old.steps; cut = S.cut_of self.old.steps })

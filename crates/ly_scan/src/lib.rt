@@ -1,11 +1,11 @@
 //! From a text to its lexemes, over any deterministic walk.
 //!
-//! A walk is a type with `Steps`. `Lexer::next_lexeme` takes the longest match of one or more bytes that has a rule, and
-//! what the rule's cut leaves of it (`IsLexemeAt`), or says how the run ends there (`ScanEndsAt`); `next_match` does so at
-//! the front of any text.
+//! A walk is a type with `Steps`. `Lexer::next_lexeme` takes the longest match of one or more bytes that has a rule,
+//! and what the rule's cut leaves of it (`IsLexemeAt`), or says how the run ends there (`ScanEndsAt`); `next_match`
+//! does so at the front of any text.
 //!
-//! Left out: what the rules mean, which a walk knows, and memory of walks that failed (a text on which a longer
-//! match fails again and again takes time by its square).
+//! Left out: what the rules mean, which a walk knows, and memory of walks that failed (a text on which a longer match
+//! fails again and again takes time by its square).
 #![tactic(auto)]
 
 mod lexer;

@@ -21,12 +21,12 @@ run rows (Some state) [] = Some state
 run rows (Some state) (byte ∷ text) = run rows (next_state rows state byte) text
 
 -- the rule that ends at a state
-abbrev pub rule_of : List Row → ℕ → Option ℕ
-rule_of rows state = option_map (λ r. r.0) (option_and_then (λ row. row.rule) (slice_get rows state))
+abbrev pub rule_in : List Row → ℕ → Option ℕ
+rule_in rows state = option_map (λ r. r.0) (option_and_then (λ row. row.rule) (slice_get rows state))
 
 -- what the rows say of bytes, from a state
 abbrev pub dense_ahead : List Row → ℕ → List ℕ → Option (Option ℕ)
-dense_ahead rows state text = option_map (rule_of rows) (run rows (Some state) text)
+dense_ahead rows state text = option_map (rule_in rows) (run rows (Some state) text)
 
 -- the entry of a start, or 0
 abbrev pub start_entry : List (List ℕ) → ℕ → Bool → ℕ
@@ -34,12 +34,12 @@ start_entry starts condition line
     = unwrap_or (option_map (λ pair. slice_index pair (if line then 1 else 0)) (slice_get starts condition)) 0
 
 -- where a condition starts
-abbrev pub start_of : List (List ℕ) → ℕ → Bool → Option ℕ
-start_of starts condition line = led (start_entry starts condition line)
+abbrev pub first_state : List (List ℕ) → ℕ → Bool → Option ℕ
+first_state starts condition line = led (start_entry starts condition line)
 
 -- what the rows say of bytes, from the start of a condition
 abbrev pub dense_walk : List Row → List (List ℕ) → ℕ → Bool → List ℕ → Option (Option ℕ)
-dense_walk rows starts condition line text = option_map (rule_of rows) (run rows (start_of starts condition line) text)
+dense_walk rows starts condition line text = option_map (rule_in rows) (run rows (first_state starts condition line) text)
 
 -- the cut of a rule
 abbrev pub dense_cut : List Cut → ℕ → Cut
@@ -59,5 +59,5 @@ no_map f (Some a) h = search rules
 pub dense_ends : (rows : List Row) (starts : List (List ℕ)) (c : ℕ) (l : Bool) (t u : List ℕ)
     → dense_walk rows starts c l t ≡ None → dense_walk rows starts c l (t ++ u) ≡ None
 dense_ends rows starts c l t u h =
-    ap (option_map (rule_of rows)) (run-append rows (start_of starts c l) t u
-    ∙ ap (λ o. run rows o u) (no_map (rule_of rows) _ h))
+    ap (option_map (rule_in rows)) (run-append rows (first_state starts c l) t u
+    ∙ ap (λ o. run rows o u) (no_map (rule_in rows) _ h))

@@ -1,7 +1,7 @@
 //! Tests over all crates: what no run of the program shows, and slow programs straight from the definitions.
 //!
-//! `belongs_to` is membership by its definition, proved equal to it; `Dense` is the smallest walk that a scanner can have.
-//! `docs/testing.md` says what is tested where.
+//! `belongs_to` is membership by its definition, proved equal to it; `Dense` is the smallest walk that a scanner can
+//! have. `docs/testing.md` says what is tested where.
 #![tactic(auto)]
 
 mod belongs;

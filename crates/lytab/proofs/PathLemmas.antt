@@ -12,7 +12,7 @@ use Rattle.clap.specs.Takes.{default_passes, is_valid, level_passes, settle_pass
 use Rattle.clap.specs.Takes.{turn_passes, word_passes}
 use Rattle.std.specs.List.{list_all}
 use Rattle.std.specs.Prelude.{◌||◌, is_some}
-use Rattle.lytab.specs.Paths.{IsPath}
+use Rattle.lytab.specs.Paths.{IsPathWord}
 
 -- `clap` sees no flag in the word
 pub record IsNoFlag (word : Text) : Type 0 where
@@ -26,14 +26,14 @@ no_flag_after first rest true e other = absurd (other rest (ap (λ b. b ∷ rest
 no_flag_after first rest false e other =
     record { no_long = rw e refl; no_short = rw e refl; no_dashes = rw e refl }
 
-pub path_is_no_flag : (word : Text) → IsPath word → IsNoFlag word
+pub path_is_no_flag : (word : Text) → IsPathWord word → IsNoFlag word
 path_is_no_flag word (inl e) = record { no_long = rw e refl; no_short = rw e refl; no_dashes = rw e refl }
 path_is_no_flag [] (inr other) = record { no_long = refl; no_short = refl; no_dashes = refl }
 path_is_no_flag (first ∷ rest) (inr other) = no_flag_after first rest (first == 45) refl other
 
 abbrev pub ArePaths : List Text → Type 0
 ArePaths [] = Unit {0}
-ArePaths (word ∷ words) = IsPath word × ArePaths words
+ArePaths (word ∷ words) = IsPathWord word × ArePaths words
 
 -- no option waits for the next word
 abbrev pub IsFree : Waiting → Type 0
@@ -63,7 +63,7 @@ path_passes s false idle word h n free = rw n.no_dashes (rw n.no_long (rw n.no_s
 path_passes s false positional word h n free = rw n.no_dashes (rw n.no_long (rw n.no_short refl))
 path_passes s false (option id) word h n free = absurd free
 
-walked_path : (rules : List Rule) (w : Walk) (word : Text) → IsPath word → IsReading w
+walked_path : (rules : List Rule) (w : Walk) (word : Text) → IsPathWord word → IsReading w
     → walked rules [] w word ≡ given rules w word
 unfolding walked
 walked_path rules w word p r =
@@ -71,7 +71,7 @@ walked_path rules w word p r =
     ∙ ap (λ (m : Held × Step). after_step rules word w m.0 m.1)
     (path_met rules w.is_trailing w.waiting w.position word w.held (path_is_no_flag word p) r.free)
 
-turn_path : (s : Shape) (w : Walk) (word : Text) → IsPath word → IsReading w
+turn_path : (s : Shape) (w : Walk) (word : Text) → IsPathWord word → IsReading w
     → turn_passes s [] w word ≡ step_passes s w.position w.held value
 turn_path s w word p r =
     let n = path_is_no_flag word p in

@@ -7,7 +7,7 @@ use Rattle.clap.specs.Walk.{Text, answers_to, finished, nothing_held, walk_from}
 use Rattle.clap.specs.Simple.{Shape, built, help_shape, label_of}
 use Rattle.clap.proofs.OnLiterals.{clap_on_literals}
 use Rattle.lytab.specs.CommandLine.{line_app, line_takes, subcommand_in, tokens_by, tokens_of}
-use Rattle.lytab.specs.Paths.{AskForTokens, IsPath, tokens_words}
+use Rattle.lytab.specs.Paths.{AskForTokens, IsPathWord, tokens_words}
 use Rattle.lytab.proofs.PathLemmas.{ArePaths, all_pass, given_all, level_of_paths, rest_passes, rows_of_paths}
 use Rattle.lytab.proofs.SubcommandLemmas.{Enters, line_passes, subcommand_rows_are}
 
@@ -39,7 +39,7 @@ asks name words paths p each rest found = (
       ∙ ap (λ r. Some r) (rows_of_paths tokens_shape words p)) ∙ found,
 )
 
-both_asked : (name lex : Text) (text : Option Text) → IsPath lex → IfSome text IsPath
+both_asked : (name lex : Text) (text : Option Text) → IsPathWord lex → IfSome text IsPathWord
     → (line_takes (tokens_words name lex text) ≡ true)
     × (tokens_of (tokens_words name lex text) ≡ Some (lex, text))
 both_asked name lex None p q = asks name (lex ∷ []) (lex, None) (p, tt) refl refl refl

@@ -3,8 +3,8 @@ use Rattle.std.specs.Prelude.{◌≡◌, ◌⊎◌, ◌++◌, ◌∷◌, [], Lis
 use Rattle.clap.specs.Words.{Text}
 
 -- a word that is no option: a minus sign alone, or one that doesn't begin with it
-abbrev pub IsPath : Text → Type 0
-IsPath word = (word ≡ codes "-") ⊎ ((rest : Text) → ¬ (word ≡ codes "-" ++ rest))
+abbrev pub IsPathWord : Text → Type 0
+IsPathWord word = (word ≡ codes "-") ⊎ ((rest : Text) → ¬ (word ≡ codes "-" ++ rest))
 
 -- `tokens LEX [TEXT]`, the program's name first
 abbrev pub tokens_words : Text → Text → Option Text → List Text
@@ -15,5 +15,5 @@ tokens_words name lex (Some text) = name ∷ codes "tokens" ∷ lex ∷ text ∷
 pub record AskForTokens (words : List Text) (lex : Text) (text : Option Text) : Type 0 where
   pub name : Text
   pub words_are : words ≡ tokens_words name lex text
-  pub lex_path : IsPath lex
-  pub text_path : IfSome text IsPath
+  pub lex_path : IsPathWord lex
+  pub text_path : IfSome text IsPathWord

@@ -147,11 +147,15 @@ fn told<E: Write>(failure: Failure<'_>, faults: &mut E) -> u8
 /// Writes what failed.
 fn write_failure<E: Write>(failure: Failure<'_>, faults: &mut E) -> io::Result<()> {
     match failure {
-        Failure::Tokens(TokensFault::Lex(fault), _) => match fault.line() {
-            Some(line) => writeln!(faults, "lex:{line}: fault {fault}"),
-            None => writeln!(faults, "out of memory"),
-        },
-        Failure::Tokens(TokensFault::Positions(fault), _) => writeln!(faults, "fault {fault}"),
+        Failure::Tokens(TokensFault::Lex(fault), _) => {
+            if let Some(line) = fault.line() {
+                write!(faults, "lex:{line}: ")?;
+            }
+            write_fault(fault.number(), fault.name(), faults)
+        }
+        Failure::Tokens(TokensFault::Positions(fault), _) => {
+            write_fault(fault.number(), fault.name(), faults)
+        }
         Failure::CannotRead(path) | Failure::Tokens(TokensFault::Read, path) => {
             writeln!(faults, "cannot read {path}")
         }
@@ -161,5 +165,13 @@ fn write_failure<E: Write>(failure: Failure<'_>, faults: &mut E) -> io::Result<(
         Failure::OutOfMemory | Failure::Tokens(TokensFault::OutOfMemory, _) => {
             writeln!(faults, "out of memory")
         }
+    }
+}
+
+/// Writes a fault by its number and its name. Want of memory has no number.
+fn write_fault<E: Write>(number: Option<u8>, name: &str, faults: &mut E) -> io::Result<()> {
+    match number {
+        Some(number) => writeln!(faults, "fault {number} {name}"),
+        None => writeln!(faults, "out of memory"),
     }
 }

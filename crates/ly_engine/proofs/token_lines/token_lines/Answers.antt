@@ -7,7 +7,8 @@ pub loop-lexeme-preserved : goal.loop-lexeme-preserved
 loop-lexeme-preserved g c = record {
   same_walk = c.in-Ok.ensures.same_walk ∙ c.loop-lexeme.invariant.same_walk;
   same_cuts = c.in-Ok.ensures.same_cuts ∙ c.loop-lexeme.invariant.same_cuts;
-  so_far = one_more c.args.actions.now _ _ c.args.lexer.now.place c.loop-lexeme.lexer.place c.advance.new.self c.in-Ok.lexeme
+  so_far = one_more c.args.actions.now _ _ c.args.lexer.now.place c.loop-lexeme.lexer.place c.advance.new.self
+      c.in-Ok.lexeme
       c.condition_set-begin.result _ c.loop-lexeme.lines.items c.push_token.new.lines.items
       (scanner_of _ _ _ _ c.loop-lexeme.invariant.same_walk c.loop-lexeme.invariant.same_cuts) c.in-Ok.ensures.lexeme
       c.condition_set-begin.ensures (c.advance.ensures

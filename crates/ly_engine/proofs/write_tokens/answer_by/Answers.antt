@@ -16,7 +16,8 @@ token_end-requires c =
     let answer = answer_of file.names file.rules.items file.actions.items c.deref-2.result.now
     (record { walk = position_walk c.args.nfa.now; cut = cut_in file.rules.items }) _ c.new-lexer.result.place
     c.args.text.now c.in_ok-end.end c.in_ok-end.lines.items c.requires
-    (scanner_of (position_walk c.args.nfa.now) (position_walk c.new-lexer.result.steps.nfa.now) (cut_in file.rules.items)
+    (scanner_of (position_walk c.args.nfa.now) (position_walk c.new-lexer.result.steps.nfa.now)
+    (cut_in file.rules.items)
     (cut_in c.new-lexer.result.steps.rules.now)
     (ap (λ (n : Nfa). position_walk n) (ap (λ (w : PositionWalk). w.nfa.now) c.new-lexer.ensures.steps
     ∙ c.in_ok-walk.ensures.nfa))
@@ -31,12 +32,14 @@ returns c =
     let answer = answer_of file.names file.rules.items file.actions.items c.deref-2.result.now
     (record { walk = position_walk c.args.nfa.now; cut = cut_in file.rules.items }) _ c.new-lexer.result.place
     c.args.text.now c.in_ok-end.end c.in_ok-end.lines.items c.requires
-    (scanner_of (position_walk c.args.nfa.now) (position_walk c.new-lexer.result.steps.nfa.now) (cut_in file.rules.items)
+    (scanner_of (position_walk c.args.nfa.now) (position_walk c.new-lexer.result.steps.nfa.now)
+    (cut_in file.rules.items)
     (cut_in c.new-lexer.result.steps.rules.now)
     (ap (λ (n : Nfa). position_walk n) (ap (λ (w : PositionWalk). w.nfa.now) c.new-lexer.ensures.steps
     ∙ c.in_ok-walk.ensures.nfa))
     (ap (λ (rs : List Rule). cut_in rs) (ap (λ (w : PositionWalk). w.rules.now) c.new-lexer.ensures.steps
     ∙ c.in_ok-walk.ensures.rules ∙ c.deref.ensures.value)))
     c.new-lexer.ensures.place c.deref-2.ensures.value c.in_ok-end.ensures in
-    subst (λ (e : End). IsAnswer file.names file.rules.items file.actions.items c.args.text.now e c.in_ok-end.lines.items)
+    subst (λ (e : End). IsAnswer file.names file.rules.items file.actions.items c.args.text.now e
+    c.in_ok-end.lines.items)
     (sym c.token_end.ensures) answer

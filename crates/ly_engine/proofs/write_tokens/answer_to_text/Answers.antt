@@ -1,4 +1,4 @@
-use Rattle.std.proofs.Common.{List, refl, subst}
+use Rattle.std.proofs.Common.{List, subst}
 use Rattle.ly_ere.specs.declared.pattern.Rule.{Rule}
 use Rattle.ly_position.specs.Patterns.{ArePositions}
 use Rattle.ly_engine.proofs.FileAgreementLemmas.{file_agrees}
@@ -11,5 +11,4 @@ answer_by-requires g c =
     let positions : ArePositions file.names file.rules.items file.conditions c.in_ok-nfa.nfa =
     subst (λ (rs : List Rule). ArePositions file.names rs file.conditions c.in_ok-nfa.nfa) c.deref.ensures.value
     c.in_ok-nfa.ensures.positions in
-    file_agrees c.requires.spelled.0 file file.conditions file.rules.items c.in_ok-nfa.nfa c.in_ok-nfa.nfa spelled
-    spelled.one_condition positions refl refl
+    file_agrees c.requires.spelled.0 file file.conditions c.in_ok-nfa.nfa spelled spelled.one_condition positions

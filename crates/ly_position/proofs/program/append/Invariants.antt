@@ -9,7 +9,8 @@ use Rattle.ly_position.proofs.program.append.Given as goal
 abbrev pub invariant-loop-task : goal.invariant-loop-task
 invariant-loop-task l = record {
   fits : All (TaskFits (length l.source.plain.now)) l.tasks.items;
-  steps : map step_of l.instructions.items ++ planned l.source.plain.now (reverse l.tasks.items) (length l.instructions.items)
+  steps : map step_of l.instructions.items ++ planned l.source.plain.now (reverse l.tasks.items)
+      (length l.instructions.items)
       ≡ map step_of l.fn.instructions.items ++ code (part_of l.source.plain.now l.fn.part)
       (length l.fn.instructions.items) l.fn.next;
 }
