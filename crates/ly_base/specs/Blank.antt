@@ -1,6 +1,7 @@
 -- Blanks of both input languages.
 use Rattle.std.specs.Prelude.{ℕ, Bool, ◌||◌, nat_eq}
+use Rattle.ly_base.specs.Bytes.{space, tab}
 
 -- a space or a tab
 abbrev pub is_blank : ℕ → Bool
-is_blank b = nat_eq b 32 || nat_eq b 9
+is_blank b = nat_eq b space || nat_eq b tab

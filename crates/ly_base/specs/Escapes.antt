@@ -1,6 +1,7 @@
 -- Escapes: what stands behind a backslash, and the byte that it stands for (POSIX, lex, "Escape Sequences in lex").
 use Rattle.std.specs.Prelude.{◌≡◌, ◌≢◌, ℕ, ◌+◌, ◌-◌, ◌*◌, ◌<◌, ◌≤◌, List, [], ◌∷◌, ◌++◌, length}
 use Rattle.std.specs.Prelude.{Bool, true, false, ◌||◌, ◌&&◌, nat_eq, nat_le, IsTrue, if◌then◌else◌}
+use Rattle.ly_base.specs.Bytes.{letter_x, newline}
 
 -- `0` to `7`
 abbrev pub is_octal : ℕ → Bool
@@ -33,7 +34,8 @@ abbrev pub Stops : (ℕ → Bool) → List ℕ → Type 0
 Stops test [] = Unit {0}
 Stops test (b ∷ bs) = test b ≡ false
 
--- what a letter behind a backslash stands for
+-- what a letter behind a backslash stands for: `a`, `b`, `f`, `n`, `r`, `t` and `v` are bytes 7, 8, 12, 10, 13, 9 and
+-- 11
 abbrev pub meaning : ℕ → ℕ
 meaning b = if nat_eq b 97 then 7 else
     (if nat_eq b 98 then 8 else
@@ -49,6 +51,7 @@ pub data Escape : List ℕ → ℕ → List ℕ → Type 0 where
   octal : (ds rest : List ℕ) → AllPass is_octal ds → 1 ≤ length ds → length ds ≤ 3
       → (length ds < 3 → Stops is_octal rest) → number 8 ds < 256 → Escape (ds ++ rest) (number 8 ds) rest
   hexadecimal : (ds rest : List ℕ) → AllPass is_hexadecimal ds → 1 ≤ length ds → Stops is_hexadecimal rest
-      → number 16 ds < 256 → Escape (120 ∷ (ds ++ rest)) (number 16 ds) rest
-  bare_x : (rest : List ℕ) → Stops is_hexadecimal rest → Escape (120 ∷ rest) 120 rest
-  letter : (b : ℕ) (rest : List ℕ) → is_octal b ≡ false → b ≢ 120 → b ≢ 10 → Escape (b ∷ rest) (meaning b) rest
+      → number 16 ds < 256 → Escape (letter_x ∷ (ds ++ rest)) (number 16 ds) rest
+  bare_x : (rest : List ℕ) → Stops is_hexadecimal rest → Escape (letter_x ∷ rest) letter_x rest
+  letter : (b : ℕ) (rest : List ℕ) → is_octal b ≡ false → b ≢ letter_x → b ≢ newline
+      → Escape (b ∷ rest) (meaning b) rest

@@ -1,6 +1,7 @@
 -- A text taken apart from its front on, lexeme after lexeme (POSIX, XCU lex).
 use Rattle.std.specs.Prelude.{◌≡◌, ℕ, ◌+◌, List, [], ◌∷◌, ◌++◌, take, drop, Bool, true, eqb, Option, Some, None}
 use Rattle.std.specs.Prelude.{unwrap_or}
+use Rattle.ly_base.specs.Bytes.{newline}
 use Rattle.ly_base.specs.declared.lexeme.End.{End}
 use Rattle.ly_base.specs.declared.lexeme.Lexeme.{Lexeme}
 
@@ -19,7 +20,7 @@ start_of text = record { line = true; condition = 0; at = 0; rest = text }
 -- whether a line begins behind some bytes, by whether one began before them
 abbrev pub after_line : Bool → List ℕ → Bool
 after_line before [] = before
-after_line before (b ∷ bs) = after_line (eqb b 10) bs
+after_line before (b ∷ bs) = after_line (eqb b newline) bs
 
 -- where the run stands n bytes on, in the condition that was set last
 abbrev pub moved : Place → ℕ → Option ℕ → Place

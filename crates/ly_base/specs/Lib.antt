@@ -1,5 +1,6 @@
 pub mod Blank
 pub mod ByteSet
+pub mod Bytes
 pub mod Counted
 pub mod Device
 pub mod Escapes

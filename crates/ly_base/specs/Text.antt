@@ -3,18 +3,20 @@ use Rattle.std.specs.Prelude.{ℕ, ◌/◌, ◌%◌, List, [], ◌∷◌, ◌++�
 use Rattle.std.specs.Prelude.{if◌then◌else◌}
 use Rattle.std.specs.Fmt.{decimal, digit_glyph}
 use Rattle.std.specs.List.{flat_map}
+use Rattle.ly_base.specs.Bytes.{backslash, double_quote, newline, single_quote, tab}
 use Rattle.ly_base.specs.declared.text.Terminal.{Terminal}
 use Rattle.ly_base.specs.declared.text.Terminal.TheVariants.{Token, Literal}
 
 -- bytes 32 to 126 stand for themselves, but not `\` and the quote in use
 abbrev pub is_plain : ℕ → ℕ → Bool
-is_plain quote b = nat_le 32 b && nat_le b 126 && not (nat_eq b 92) && not (nat_eq b quote)
+is_plain quote b = nat_le 32 b && nat_le b 126 && not (nat_eq b backslash) && not (nat_eq b quote)
 
 -- a byte that doesn't stand for itself: `\n`, `\t`, a backslash before it, or `\x` and two hexadecimal digits
 abbrev pub escape_for : ℕ → List ℕ
-escape_for b = if nat_eq b 10 then codes "\\n" else
-    (if nat_eq b 9 then codes "\\t" else
-    (if nat_le 32 b && nat_le b 126 then 92 ∷ b ∷ [] else codes "\\x" ++ digit_glyph false (b / 16) ∷ digit_glyph false
+escape_for b = if nat_eq b newline then codes "\\n" else
+    (if nat_eq b tab then codes "\\t" else
+    (if nat_le 32 b && nat_le b 126 then backslash ∷ b ∷ []
+    else codes "\\x" ++ digit_glyph false (b / 16) ∷ digit_glyph false
     (b % 16) ∷ []))
 
 -- a byte between quotes
@@ -37,16 +39,16 @@ named (Literal b) = literal b
 -- a terminal's printed name: a token's as it is, a literal's byte in single quotes
 abbrev pub name_of : Named → List ℕ
 name_of (token name) = name
-name_of (literal b) = 39 ∷ (escaped_byte 39 b ++ 39 ∷ [])
+name_of (literal b) = single_quote ∷ (escaped_byte single_quote b ++ single_quote ∷ [])
 
 -- a leaf: the terminal's name, then the text in double quotes
 abbrev pub leaf_of : Named → List ℕ → List ℕ
-leaf_of terminal text = name_of terminal ++ 34 ∷ (escaped 34 text ++ 34 ∷ [])
+leaf_of terminal text = name_of terminal ++ double_quote ∷ (escaped double_quote text ++ double_quote ∷ [])
 
 -- a line of a leaf alone
 abbrev pub leaf_line : Named → List ℕ → List ℕ
-leaf_line terminal text = leaf_of terminal text ++ 10 ∷ []
+leaf_line terminal text = leaf_of terminal text ++ newline ∷ []
 
 -- the line that says where no rule matches
 abbrev pub no_rule_line : ℕ → List ℕ
-no_rule_line byte = codes "no rule matches at byte " ++ decimal byte ++ 10 ∷ []
+no_rule_line byte = codes "no rule matches at byte " ++ decimal byte ++ newline ∷ []

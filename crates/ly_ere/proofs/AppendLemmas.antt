@@ -147,8 +147,8 @@ pub element_append : {t rest : List ℕ} {w : elements.Element} → IsElement t 
     → IsElement (t ++ more) w (rest ++ more)
 element_append (elements.plain b rest p) more f = elements.plain b (rest ++ more) p
 element_append (elements.dot rest) more f = elements.dot (rest ++ more)
-element_append (elements.backslash t rest b h) more f
-    = elements.backslash (t ++ more) (rest ++ more) b (escape_append h more f)
+element_append (elements.escaped_element t rest b h) more f
+    = elements.escaped_element (t ++ more) (rest ++ more) b (escape_append h more f)
 element_append (elements.bracket t bytes rest h) more f
     = elements.bracket (t ++ more) bytes (rest ++ more) (bracketed_append h more)
 element_append (elements.quoted t bs rest h) more f

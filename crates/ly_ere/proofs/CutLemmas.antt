@@ -166,8 +166,8 @@ pub element_cut : {u r : List ℕ} {w : Element} → IsElement u w r → (rest m
     → HasFront (λ t. IsElement t w rest) u more
 element_cut (elements.plain b r p) rest more e = (b ∷ rest, ap (λ x. b ∷ x) e, elements.plain b rest p)
 element_cut (elements.dot r) rest more e = (46 ∷ rest, ap (λ x. 46 ∷ x) e, elements.dot rest)
-element_cut (elements.backslash u r b h) rest more e = let d = escape_cut h rest more e
-    in (92 ∷ d.0, ap (λ x. 92 ∷ x) d.1, elements.backslash d.0 rest b d.2)
+element_cut (elements.escaped_element u r b h) rest more e = let d = escape_cut h rest more e
+    in (92 ∷ d.0, ap (λ x. 92 ∷ x) d.1, elements.escaped_element d.0 rest b d.2)
 element_cut (elements.bracket u bytes r h) rest more e = let d = bracketed_cut h rest more e
     in (91 ∷ d.0, ap (λ x. 91 ∷ x) d.1, elements.bracket d.0 bytes rest d.2)
 element_cut (elements.quoted u bs r h) rest more e = let d = quoted_cut h rest more e

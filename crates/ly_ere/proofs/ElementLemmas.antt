@@ -3,7 +3,8 @@ use Rattle.std.proofs.Common.{◌≡◌, ℕ, List, [], ◌∷◌, refl, ap, ◌
 use Rattle.std.proofs.lemmas.Bool.Decides.{nat_tests}
 use Rattle.ly_base.proofs.EscapeLemmas.{escape_one}
 use Rattle.ly_ere.specs.Patterns.{IsBehind}
-use Rattle.ly_ere.specs.Elements.{Element, one_of, string, Quoted, IsElement, plain, dot, backslash, bracket, quoted}
+use Rattle.ly_ere.specs.Elements.{Element, one_of, string, Quoted, IsElement, plain, dot, escaped_element, bracket}
+use Rattle.ly_ere.specs.Elements.{quoted}
 use Rattle.ly_ere.specs.Elements.{sign}
 use Rattle.ly_ere.specs.Elements.{sign_of, is_among, own_meaning}
 use Rattle.ly_ere.proofs.AppendLemmas.{blank_cases}
@@ -26,17 +27,17 @@ pub front_one : {t rest left : List ℕ} {w v : Element} → IsElement t w rest 
     → (w ≡ v) × (rest ≡ left)
 front_one (plain b rest p) (plain c left q) = (refl, refl)
 front_one (plain b rest p) (dot left) = absurd (cc)
-front_one (plain b rest p) (backslash t left c h) = absurd (cc)
+front_one (plain b rest p) (escaped_element t left c h) = absurd (cc)
 front_one (plain b rest p) (bracket t bytes left h) = absurd (cc)
 front_one (plain b rest p) (quoted t bs left h) = absurd (cc)
 front_one (plain b rest p) (sign c v left q) = absurd (plain_is_no_sign b v p q)
 front_one (dot rest) (plain c left q) = absurd (cc)
 front_one (dot rest) (dot left) = (refl, refl)
 front_one (dot rest) (sign c v left q) = absurd (cc)
-front_one (backslash t rest b h) (plain c left q) = absurd (cc)
-front_one (backslash t rest b h) (backslash u left c k) = let one = escape_one t b c rest left h k
+front_one (escaped_element t rest b h) (plain c left q) = absurd (cc)
+front_one (escaped_element t rest b h) (escaped_element u left c k) = let one = escape_one t b c rest left h k
     in (ap (λ x. one_of (x ∷ [])) one.0, one.1)
-front_one (backslash t rest b h) (sign c v left q) = absurd (cc)
+front_one (escaped_element t rest b h) (sign c v left q) = absurd (cc)
 front_one (bracket t bytes rest h) (plain c left q) = absurd (cc)
 front_one (bracket t bytes rest h) (bracket u others left k) = let one = listed_one h k in (ap one_of one.0, one.1)
 front_one (bracket t bytes rest h) (sign c v left q) = absurd (cc)
@@ -45,7 +46,7 @@ front_one (quoted t bs rest h) (quoted u cs left k) = let one = quoted_one h k i
 front_one (quoted t bs rest h) (sign c v left q) = absurd (cc)
 front_one (sign b w rest p) (plain c left q) = absurd (plain_is_no_sign b w q p)
 front_one (sign b w rest p) (dot left) = absurd (cc)
-front_one (sign b w rest p) (backslash t left c h) = absurd (cc)
+front_one (sign b w rest p) (escaped_element t left c h) = absurd (cc)
 front_one (sign b w rest p) (bracket t bytes left h) = absurd (cc)
 front_one (sign b w rest p) (quoted t bs left h) = absurd (cc)
 front_one (sign b w rest p) (sign c v left q) = (cc, refl)

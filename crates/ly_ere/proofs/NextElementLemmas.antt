@@ -10,7 +10,8 @@ use Rattle.ly_ere.specs.Private.Front.{IsTaken}
 use Rattle.ly_ere.specs.Private.Elements.{IsNextElement, IsWellFormed, Denotes}
 use Rattle.ly_ere.specs.declared.element.Element.{Element as ReadElement}
 use Rattle.ly_ere.specs.declared.element.Element.TheVariants.{OneOf, String, Opening, Closing, Bar, Postfix as Operator}
-use Rattle.ly_ere.specs.Elements.{Element, one_of, string, Quoted, Bracketed, IsElement, plain, dot, backslash, bracket}
+use Rattle.ly_ere.specs.Elements.{Element, one_of, string, Quoted, Bracketed, IsElement, plain, dot, escaped_element}
+use Rattle.ly_ere.specs.Elements.{bracket}
 use Rattle.ly_ere.specs.Elements.{quoted}
 use Rattle.ly_ere.specs.Elements.{sign, sign_of, is_among, own_meaning}
 use Rattle.ly_ere.proofs.QuotedLemmas.{quoted_one}
@@ -73,7 +74,7 @@ module _ (t : List ℕ) (some : 0 < length t) where
   pub escape_next : (b n : ℕ) (set : ByteSet) → IsTaken t n → get_or t 0 0 ≡ 92 → members set ≡ b ∷ []
       → Escape (drop 1 t) b (drop n t) → IsNextElement t (OneOf set) n
   escape_next b n set front e is h = next_is t n (OneOf set) (one_of (b ∷ [])) front (λ n. absurd (cc)) (rw is refl)
-      (first_spells 92 _ (drop n t) e (backslash (drop 1 t) (drop n t) b h))
+      (first_spells 92 _ (drop n t) e (escaped_element (drop 1 t) (drop n t) b h))
 
   -- a bracket expression
   pub bracket_next : (n : ℕ) (set : ByteSet) → IsTaken t n → get_or t 0 0 ≡ 91 → members set ≢ []

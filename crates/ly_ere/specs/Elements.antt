@@ -2,6 +2,8 @@
 -- them).
 use Rattle.std.specs.Prelude.{◌≡◌, ◌≢◌, ℕ, zero, suc, ◌≤◌, List, [], ◌∷◌, ◌++◌, Bool, true, false, not, ◌||◌}
 use Rattle.std.specs.Prelude.{◌&&◌, nat_eq, nat_le, codes, Option, Some, None, if◌then◌else◌}
+use Rattle.ly_base.specs.Bytes.{backslash, circumflex, colon, double_quote, equals_sign, full_stop, hyphen}
+use Rattle.ly_base.specs.Bytes.{left_bracket, newline, right_bracket}
 use Rattle.ly_base.specs.ByteSet.{bytes_where}
 use Rattle.ly_base.specs.Escapes.{Escape}
 
@@ -18,10 +20,11 @@ pub data Element : Type 0 where
 
 -- What stands behind a quote, up to the next, is these bytes, and then comes the rest.
 pub data Quoted : List ℕ → List ℕ → List ℕ → Type 0 where
-  closed : (rest : List ℕ) → Quoted (34 ∷ rest) [] rest
-  byte : (b : ℕ) (t bs rest : List ℕ) → b ≢ 34 → b ≢ 92 → b ≢ 10 → Quoted t bs rest → Quoted (b ∷ t) (b ∷ bs) rest
+  closed : (rest : List ℕ) → Quoted (double_quote ∷ rest) [] rest
+  byte : (b : ℕ) (t bs rest : List ℕ) → b ≢ double_quote → b ≢ backslash → b ≢ newline → Quoted t bs rest
+      → Quoted (b ∷ t) (b ∷ bs) rest
   escape : (t more : List ℕ) (b : ℕ) (bs rest : List ℕ) → Escape t b more → Quoted more bs rest
-      → Quoted (92 ∷ t) (b ∷ bs) rest
+      → Quoted (backslash ∷ t) (b ∷ bs) rest
 
 -- the byte is in one of the ranges
 abbrev pub in_ranges : List (ℕ × ℕ) → ℕ → Bool
@@ -43,7 +46,7 @@ stands_at (c ∷ t) (suc n) b = stands_at t n b
 
 -- `[` with this mark stands at the front
 abbrev pub begins : List ℕ → ℕ → Bool
-begins t mark = stands_at t 0 91 && stands_at t 1 mark
+begins t mark = stands_at t 0 left_bracket && stands_at t 1 mark
 
 -- the classes of the POSIX locale, by name, and the ranges of each
 abbrev pub classes : List (List ℕ × List (ℕ × ℕ))
@@ -73,48 +76,53 @@ class_of name = found_in classes name
 
 -- `[:`, `[.` or `[=` stands at the front
 abbrev pub begins_named : List ℕ → Bool
-begins_named t = begins t 58 || begins t 46 || begins t 61
+begins_named t = begins t colon || begins t full_stop || begins t equals_sign
 
 -- What a byte of a bracket expression is spelled by: itself, an escape, or `[. .]`.
 pub data Point : List ℕ → ℕ → List ℕ → Type 0 where
-  bare : (b : ℕ) (rest : List ℕ) → b ≢ 10 → b ≢ 92 → begins_named (b ∷ rest) ≡ false → Point (b ∷ rest) b rest
-  escaped : (t rest : List ℕ) (b : ℕ) → Escape t b rest → Point (92 ∷ t) b rest
-  named : (b : ℕ) (rest : List ℕ) → b ≢ 10 → Point (91 ∷ 46 ∷ b ∷ 46 ∷ 93 ∷ rest) b rest
+  bare : (b : ℕ) (rest : List ℕ) → b ≢ newline → b ≢ backslash → begins_named (b ∷ rest) ≡ false
+      → Point (b ∷ rest) b rest
+  escaped : (t rest : List ℕ) (b : ℕ) → Escape t b rest → Point (backslash ∷ t) b rest
+  named : (b : ℕ) (rest : List ℕ) → b ≢ newline
+      → Point (left_bracket ∷ full_stop ∷ b ∷ full_stop ∷ right_bracket ∷ rest) b rest
 
 -- a `-` that isn't the last item
 abbrev pub begins_range : List ℕ → Bool
-begins_range t = stands_at t 0 45 && not (stands_at t 1 93)
+begins_range t = stands_at t 0 hyphen && not (stands_at t 1 right_bracket)
 
 -- A byte, or a range from one to another, as ranges.
 pub data Points : List ℕ → List (ℕ × ℕ) → List ℕ → Type 0 where
   single : (t rest : List ℕ) (b : ℕ) → Point t b rest → begins_range rest ≡ false → Points t ((b, b) ∷ []) rest
-  range : (t behind rest : List ℕ) (low high : ℕ) → Point t low (45 ∷ behind) → begins_range (45 ∷ behind) ≡ true
+  range : (t behind rest : List ℕ) (low high : ℕ) → Point t low (hyphen ∷ behind)
+      → begins_range (hyphen ∷ behind) ≡ true
       → Point behind high rest → low ≤ high → Points t ((low, high) ∷ []) rest
 
 -- a class at the front, and the ranges that it adds
 abbrev pub IsClass : List ℕ → List (ℕ × ℕ) → List ℕ → Type 0
-IsClass t rs rest = (name : List ℕ) × (class_of name ≡ Some rs) × (t ≡ 91 ∷ 58 ∷ (name ++ 58 ∷ 93 ∷ rest))
+IsClass t rs rest = (name : List ℕ) × (class_of name ≡ Some rs)
+    × (t ≡ left_bracket ∷ colon ∷ (name ++ colon ∷ right_bracket ∷ rest))
 
 -- An item and the ranges that it adds. A `-` at its front is the first item, or the last.
 pub data Item : Bool → List ℕ → List (ℕ × ℕ) → List ℕ → Type 0 where
   class : (first : Bool) (t rest : List ℕ) (rs : List (ℕ × ℕ)) → IsClass t rs rest → Item first t rs rest
-  equivalent : (first : Bool) (b : ℕ) (rest : List ℕ) → b ≢ 10
-      → Item first (91 ∷ 61 ∷ b ∷ 61 ∷ 93 ∷ rest) ((b, b) ∷ []) rest
+  equivalent : (first : Bool) (b : ℕ) (rest : List ℕ) → b ≢ newline
+      → Item first (left_bracket ∷ equals_sign ∷ b ∷ equals_sign ∷ right_bracket ∷ rest) ((b, b) ∷ []) rest
   points : (first : Bool) (t rest : List ℕ) (rs : List (ℕ × ℕ)) → (first ≡ false → begins_range t ≡ false)
       → Points t rs rest → Item first t rs rest
 
 -- Items up to the `]` that ends them, and all their ranges. There is at least one, and `]` is itself only as the first.
 pub data Items : Bool → List ℕ → List (ℕ × ℕ) → List ℕ → Type 0 where
-  no_more : (rest : List ℕ) → Items false (93 ∷ rest) [] rest
-  more : (first : Bool) (t behind rest : List ℕ) (rs ss : List (ℕ × ℕ)) → (first ≡ false → stands_at t 0 93 ≡ false)
+  no_more : (rest : List ℕ) → Items false (right_bracket ∷ rest) [] rest
+  more : (first : Bool) (t behind rest : List ℕ) (rs ss : List (ℕ × ℕ))
+      → (first ≡ false → stands_at t 0 right_bracket ≡ false)
       → Item first t rs behind → Items false behind ss rest → Items first t (rs ++ ss) rest
 
 -- What stands behind the `[` of a bracket expression: its bytes, of which there is one or more.
 pub data Bracketed : List ℕ → List ℕ → List ℕ → Type 0 where
-  listed : (t rest : List ℕ) (rs : List (ℕ × ℕ)) → stands_at t 0 94 ≡ false → Items true t rs rest
+  listed : (t rest : List ℕ) (rs : List (ℕ × ℕ)) → stands_at t 0 circumflex ≡ false → Items true t rs rest
       → bytes_where (in_ranges rs) ≢ [] → Bracketed t (bytes_where (in_ranges rs)) rest
   excluded : (t rest : List ℕ) (rs : List (ℕ × ℕ)) → Items true t rs rest → bytes_where (λ b. not (in_ranges rs b)) ≢ []
-      → Bracketed (94 ∷ t) (bytes_where (λ b. not (in_ranges rs b))) rest
+      → Bracketed (circumflex ∷ t) (bytes_where (λ b. not (in_ranges rs b))) rest
 
 -- the byte of a text of one byte
 abbrev pub byte_of : List ℕ → ℕ
@@ -142,10 +150,10 @@ is_among (c ∷ cs) b = nat_eq b c || is_among cs b
 -- A text that begins with an element, and what is behind it. A set is of one byte or more.
 pub data IsElement : List ℕ → Element → List ℕ → Type 0 where
   plain : (b : ℕ) (rest : List ℕ) → is_among own_meaning b ≡ false → IsElement (b ∷ rest) (one_of (b ∷ [])) rest
-  dot : (rest : List ℕ) → IsElement (46 ∷ rest) (one_of (bytes_where (λ b. not (nat_eq b 10)))) rest
-  backslash : (t rest : List ℕ) (b : ℕ) → Escape t b rest → IsElement (92 ∷ t) (one_of (b ∷ [])) rest
-  bracket : (t bytes rest : List ℕ) → Bracketed t bytes rest → IsElement (91 ∷ t) (one_of bytes) rest
-  quoted : (t bs rest : List ℕ) → Quoted t bs rest → IsElement (34 ∷ t) (string bs) rest
+  dot : (rest : List ℕ) → IsElement (full_stop ∷ rest) (one_of (bytes_where (λ b. not (nat_eq b newline)))) rest
+  escaped_element : (t rest : List ℕ) (b : ℕ) → Escape t b rest → IsElement (backslash ∷ t) (one_of (b ∷ [])) rest
+  bracket : (t bytes rest : List ℕ) → Bracketed t bytes rest → IsElement (left_bracket ∷ t) (one_of bytes) rest
+  quoted : (t bs rest : List ℕ) → Quoted t bs rest → IsElement (double_quote ∷ t) (string bs) rest
   sign : (b : ℕ) (w : Element) (rest : List ℕ) → sign_of b ≡ Some w → IsElement (b ∷ rest) w rest
 
 -- The text is these elements, one after another.
