@@ -91,7 +91,7 @@ within_same ey ex w
 keep_part : {g : Digraph} {sets sets' : List NumberSet} {cs cs' : List ℕ} {ps ps' : List Place} {ns ns' : List ℕ}
     {f : Frame} {end : ℕ}
     → IsAlike sets sets' cs cs' ps ps' ns ns' end → IsOpenPart g sets cs ps ns f end
-        → IsOpenPart g sets' cs' ps' ns' f end
+    → IsOpenPart g sets' cs' ps' ns' f end
 keep_part {g} {sets} {sets'} {cs} {cs'} {ps} {ps'} {ns} {ns'} {f} {end} a p =
     let lt : f.start < end = p.start_lt in
     let le : f.low ≤ f.start = p.low_le in
@@ -151,7 +151,7 @@ module _ {g : Digraph} {sets : List NumberSet} {cs : List ℕ} {ps : List Place}
         first = sym (begin-push fs f end 0 (omega arith)) ∙ p.first;
         parts = λ t lt. subst (λ h. IsOpenPart g sets cs ps ns h (begin fs f.start (t + 1))) (frame-push fs f t lt)
             (subst (λ b. IsOpenPart g sets cs ps ns (frame (fs ++ f ∷ []) t) b)
-                (begin-push fs f end (t + 1) (omega arith))
+            (begin-push fs f end (t + 1) (omega arith))
             (p.parts t (omega arith)));
         links = λ t lt. subst (λ h. IsNext g cs (frame fs t) h.node) (frame-push fs f (t + 1) lt)
             (subst (λ h. IsNext g cs h (frame (fs ++ f ∷ []) (t + 1)).node) (frame-push fs f t (omega arith))

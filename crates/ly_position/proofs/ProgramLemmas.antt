@@ -84,78 +84,78 @@ get_front xs ys p x l e = slice_get-get_or xs p x l ∙ ap (λ y. Some y) (sym (
 -- one more rule
 module _ (es : List Expression) (parts : List (Option ℕ)) (g : List Step) (entries : List (Option ℕ)) (n a : ℕ)
     (h : Compiled es parts g entries n) (is : get_or parts n None ≡ Some a) (plain : IsPlainExpression (part_of es a))
-        where
-  abbrev more : List Step
-  more = ends n ∷ code (part_of es a) (length g + 1) (length g)
+  where
+    abbrev more : List Step
+    more = ends n ∷ code (part_of es a) (length g + 1) (length g)
 
-  abbrev first : Option ℕ
-  first = Some (entry (length g + 1) (size (part_of es a)) (length g))
+    abbrev first : Option ℕ
+    first = Some (entry (length g + 1) (size (part_of es a)) (length g))
 
-  count_more : length (g ++ more) ≡ length g + 1 + size (part_of es a)
-  count_more = omega (arith, length-append g more, length-code (part_of es a) (length g + 1) (length g))
+    count_more : length (g ++ more) ≡ length g + 1 + size (part_of es a)
+    count_more = omega (arith, length-append g more, length-code (part_of es a) (length g + 1) (length g))
 
-  at_base : slice_get (g ++ more) (length g) ≡ Some (ends n)
-  at_base = get-at_length g (code (part_of es a) (length g + 1) (length g)) (length g) (ends n) refl
+    at_base : slice_get (g ++ more) (length g) ≡ Some (ends n)
+    at_base = get-at_length g (code (part_of es a) (length g + 1) (length g)) (length g) (ends n) refl
 
-  has_code : HasCode (g ++ more) (part_of es a) (length g + 1) (length g)
-  has_code = HasCode-of (part_of es a) (g ++ ends n ∷ []) [] (g ++ more) (length g + 1) (length g)
-      (omega (arith, length-append g (ends n ∷ [])))
-      (sym (append_assoc g (ends n ∷ []) (code (part_of es a) (length g + 1) (length g)))
-      ∙ ap (λ z. (g ++ ends n ∷ []) ++ z) (sym (append-nil (code (part_of es a) (length g + 1) (length g)))))
+    has_code : HasCode (g ++ more) (part_of es a) (length g + 1) (length g)
+    has_code = HasCode-of (part_of es a) (g ++ ends n ∷ []) [] (g ++ more) (length g + 1) (length g)
+        (omega (arith, length-append g (ends n ∷ [])))
+        (sym (append_assoc g (ends n ∷ []) (code (part_of es a) (length g + 1) (length g)))
+        ∙ ap (λ z. (g ++ ends n ∷ []) ++ z) (sym (append-nil (code (part_of es a) (length g + 1) (length g)))))
 
-  -- a step that is there is an old one, the end, or one of the code
-  each : (P : Step → Type 0) (p : ℕ) (s : Step) → slice_get (g ++ more) p ≡ Some s
-      → (slice_get g p ≡ Some s → P s) → P (ends n) → ((x : Step) → LeadsBelow (length (g ++ more)) x → IsMove x → P x)
-      → P s
-  each P p s e old end new = elim (cases_lt p (length g)) [
-    | inl l ↦ old (get_front g more p s l e)
-    | inr l ↦ elim (cases_eq (length g) p) [
-      | inl same ↦ let one : ends n ≡ s = let b = at_base in let c : slice_get (g ++ more) (length g) ≡ Some s
-          = ap (λ x. slice_get (g ++ more) x) same ∙ e in cc in subst P one end
-      | inr other ↦
-          let within : p < length (g ++ more) = slice_get_within (g ++ more) p s e in
-          let x = stands (g ++ more) (part_of es a) (length g + 1) (length g) (length (g ++ more)) p has_code
-          (omega (arith, count_more)) (omega (arith, count_more)) (omega arith) (omega (arith, count_more)) in
-          let one : x.0 ≡ s = let b = x.1 in let c = e in cc in
-          subst P one (new x.0 x.2 x.3)
+    -- a step that is there is an old one, the end, or one of the code
+    each : (P : Step → Type 0) (p : ℕ) (s : Step) → slice_get (g ++ more) p ≡ Some s
+        → (slice_get g p ≡ Some s → P s) → P (ends n) → ((x : Step) → LeadsBelow (length (g ++ more)) x → IsMove x → P x)
+        → P s
+    each P p s e old end new = elim (cases_lt p (length g)) [
+      | inl l ↦ old (get_front g more p s l e)
+      | inr l ↦ elim (cases_eq (length g) p) [
+        | inl same ↦ let one : ends n ≡ s = let b = at_base in let c : slice_get (g ++ more) (length g) ≡ Some s
+            = ap (λ x. slice_get (g ++ more) x) same ∙ e in cc in subst P one end
+        | inr other ↦
+            let within : p < length (g ++ more) = slice_get_within (g ++ more) p s e in
+            let x = stands (g ++ more) (part_of es a) (length g + 1) (length g) (length (g ++ more)) p has_code
+            (omega (arith, count_more)) (omega (arith, count_more)) (omega arith) (omega (arith, count_more)) in
+            let one : x.0 ≡ s = let b = x.1 in let c = e in cc in
+            subst P one (new x.0 x.2 x.3)
+      ]
     ]
-  ]
 
-  move_no_end : (x : Step) (i : ℕ) → IsMove x → x ≡ ends i → i < n + 1
-  move_no_end (reads bytes q) i m e = cc
-  move_no_end (fork c d) i m e = cc
-  move_no_end (ends j) i m e = absurd m
+    move_no_end : (x : Step) (i : ℕ) → IsMove x → x ≡ ends i → i < n + 1
+    move_no_end (reads bytes q) i m e = cc
+    move_no_end (fork c d) i m e = cc
+    move_no_end (ends j) i m e = absurd m
 
-  alive_more : (p : ℕ) → p < length (g ++ more) → (i : ℕ) × (w : List ℕ) × EntryRuns (g ++ more) i (Some p) w
-  alive_more p l = elim (cases_lt p (length g)) [
-    | inl m ↦ let x = h.alive p m in (x.0, x.1, (x.2.0, Runs-append g more x.0 x.2.0 p x.1 x.2.1))
-    | inr m ↦ elim (cases_eq (length g) p) [
-      | inl same ↦ subst (λ q. (i : ℕ) × (w : List ℕ) × EntryRuns (g ++ more) i (Some q) w) same
-          (n, [], (0, at_end at_base))
-      | inr other ↦
-          let x = leads (g ++ more) n (part_of es a) (length g + 1) (length g) p plain has_code (omega arith)
-          (omega (arith, count_more)) in
-          (n, x.0 ++ [], x.1 [] (0, at_end at_base))
+    alive_more : (p : ℕ) → p < length (g ++ more) → (i : ℕ) × (w : List ℕ) × EntryRuns (g ++ more) i (Some p) w
+    alive_more p l = elim (cases_lt p (length g)) [
+      | inl m ↦ let x = h.alive p m in (x.0, x.1, (x.2.0, Runs-append g more x.0 x.2.0 p x.1 x.2.1))
+      | inr m ↦ elim (cases_eq (length g) p) [
+        | inl same ↦ subst (λ q. (i : ℕ) × (w : List ℕ) × EntryRuns (g ++ more) i (Some q) w) same
+            (n, [], (0, at_end at_base))
+        | inr other ↦
+            let x = leads (g ++ more) n (part_of es a) (length g + 1) (length g) p plain has_code (omega arith)
+            (omega (arith, count_more)) in
+            (n, x.0 ++ [], x.1 [] (0, at_end at_base))
+      ]
     ]
-  ]
 
-  pub compiled_rule : (fs : List (Option ℕ)) → fs ≡ entries ++ first ∷ [] → Compiled es parts (g ++ more) fs (n + 1)
-  compiled_rule fs is_fs = rw is_fs (record {
-    closed = λ p s e. each (LeadsBelow (length (g ++ more))) p s e
-        (λ k. leads_further (length g) (length (g ++ more)) s (omega (arith, count_more)) (h.closed p s k)) tt
-        (λ x l m. l);
-    within = All-push (IsPlainPart (length (g ++ more))) entries first
-        (All-weaker (IsPlainPart (length g)) (IsPlainPart (length (g ++ more)))
-        (λ q k. part_further (length g) (length (g ++ more)) q (omega (arith, count_more)) k) entries h.within)
-        (entry_below (length g + 1) (size (part_of es a)) (length g) (length (g ++ more)) (omega (arith, count_more))
-        (omega (arith, count_more)));
-    count = omega (arith, h.count, length-append entries (first ∷ []));
-    standing = standing_more es parts entries g more n first h.count h.standing
-        (rw is (length g, at_base, has_code, refl));
-    alive = alive_more;
-    known = λ p i e. each (λ s. s ≡ ends i → i < n + 1) p (ends i) e (λ k same. omega (arith, h.known p i k))
-        (λ same. let one : n ≡ i = cc in omega arith) (λ x l m same. move_no_end x i m same) refl;
-  })
+    pub compiled_rule : (fs : List (Option ℕ)) → fs ≡ entries ++ first ∷ [] → Compiled es parts (g ++ more) fs (n + 1)
+    compiled_rule fs is_fs = rw is_fs (record {
+      closed = λ p s e. each (LeadsBelow (length (g ++ more))) p s e
+          (λ k. leads_further (length g) (length (g ++ more)) s (omega (arith, count_more)) (h.closed p s k)) tt
+          (λ x l m. l);
+      within = All-push (IsPlainPart (length (g ++ more))) entries first
+          (All-weaker (IsPlainPart (length g)) (IsPlainPart (length (g ++ more)))
+          (λ q k. part_further (length g) (length (g ++ more)) q (omega (arith, count_more)) k) entries h.within)
+          (entry_below (length g + 1) (size (part_of es a)) (length g) (length (g ++ more)) (omega (arith, count_more))
+          (omega (arith, count_more)));
+      count = omega (arith, h.count, length-append entries (first ∷ []));
+      standing = standing_more es parts entries g more n first h.count h.standing
+          (rw is (length g, at_base, has_code, refl));
+      alive = alive_more;
+      known = λ p i e. each (λ s. s ≡ ends i → i < n + 1) p (ends i) e (λ k same. omega (arith, h.known p i k))
+          (λ same. let one : n ≡ i = cc in omega arith) (λ x l m same. move_no_end x i m same) refl;
+    })
 
 -- what runs from an entry is what the part has
 module _ (es : List Expression) (g : List Step) (j : ℕ) where
