@@ -105,8 +105,8 @@ module _ (es : List Expression) (parts : List (Option ℕ)) (g : List Step) (ent
 
     -- a step that is there is an old one, the end, or one of the code
     each : (P : Step → Type 0) (p : ℕ) (s : Step) → slice_get (g ++ more) p ≡ Some s
-        → (slice_get g p ≡ Some s → P s) → P (ends n) → ((x : Step) → LeadsBelow (length (g ++ more)) x → IsMove x → P x)
-        → P s
+        → (slice_get g p ≡ Some s → P s) → P (ends n)
+        → ((x : Step) → LeadsBelow (length (g ++ more)) x → IsMove x → P x) → P s
     each P p s e old end new = elim (cases_lt p (length g)) [
       | inl l ↦ old (get_front g more p s l e)
       | inr l ↦ elim (cases_eq (length g) p) [

@@ -39,7 +39,8 @@ first_state starts condition line = led (start_entry starts condition line)
 
 -- what the rows say of bytes, from the start of a condition
 abbrev pub dense_walk : List Row → List (List ℕ) → ℕ → Bool → List ℕ → Option (Option ℕ)
-dense_walk rows starts condition line text = option_map (rule_in rows) (run rows (first_state starts condition line) text)
+dense_walk rows starts condition line text
+    = option_map (rule_in rows) (run rows (first_state starts condition line) text)
 
 -- the cut of a rule
 abbrev pub dense_cut : List Cut → ℕ → Cut

@@ -72,7 +72,8 @@ impl Steps for Dense<'_> {
         }
     }
 
-    ghost stays_ended = { λ d condition line text more h. dense_ends d.rows.now d.starts.now condition line text more h };
+    ghost stays_ended = { λ d condition line text more h. dense_ends d.rows.now d.starts.now condition line text
+        more h };
 }
 
 /// The entry of a start, or 0.
