@@ -13,7 +13,6 @@ ghost use Rattle.ly_position.specs.declared.fault.PosFault.TheVariants.{TooManyP
 ghost use Rattle.ly_engine.specs.Agreement.{Agrees};
 ghost use Rattle.ly_engine.specs.Answering.{IsAnswer};
 ghost use Rattle.ly_engine.specs.Answers.{Answers, AreTooHeavy};
-ghost use Rattle.ly_engine.specs.PositionWalk.{cut_in, position_walk};
 ghost use Rattle.ly_engine.specs.Printing.{end_of, LeavesTokens};
 ghost use Rattle.ly_engine.specs.TokensFault.{IsBeforeReading, IsBeforeWriting, IsWrite};
 
@@ -23,8 +22,8 @@ use crate::position_walk::PositionWalk;
 use crate::token_lines::token_lines;
 use ly_base::{End, Limits, Sink, Source, read_whole, write_whole};
 use ly_lexread::{LexFile, read_lex};
-use ly_position::{PosNfa, positions};
-use ly_scan::Lexer;
+use ly_position::positions;
+use ly_scan::{Lexer, Steps};
 use std::alloc::{AllocError, Global};
 
 /// Writes the tokens of a text under a lex file (POSIX, XCU lex), a line for each, and a last line if no
@@ -93,26 +92,22 @@ fn answer_to_text<R: Source>(
         &Limits::V1,
     )?;
     let text = read_whole(alloc, reader)?;
-    Ok(answer_by(alloc, file, &nfa, &text)?)
+    let walk = PositionWalk::new(alloc, &nfa, &file.rules)?;
+    Ok(answer_by(alloc, file, walk, &text)?)
 }
 
-/// The answer to a text under a lex file, by the positions of its rules.
-fn answer_by(
+/// The answer to a text under a lex file, by any scanner that agrees with its rules.
+fn answer_by<S: Steps + Drop>(
     alloc: Global,
     file: &LexFile,
-    nfa: &PosNfa,
+    steps: S,
     text: &[u8],
 ) -> Result<(TokenEnd, Vec<u8>), AllocError>
-    requires { Agrees file.now.names file.now.rules.items (record {
-      walk = position_walk nfa.now;
-      cut = cut_in file.now.rules.items;
-    }) }
+    requires { Agrees file.now.names file.now.rules.items (record { walk = S.walk steps; cut = S.cut_of steps }) }
     ensures { IfOk result (λ a. IsAnswer file.now.names file.now.rules.items file.now.actions.items text.now
-        (end_of a.0)
-        a.1.items) }
+        (end_of a.0) a.1.items) }
 {
-    let walk = PositionWalk::new(alloc, nfa, &file.rules)?;
-    let mut lexer = Lexer::new(walk, text);
+    let mut lexer = Lexer::new(steps, text);
     let (end, lines) = token_lines(alloc, &mut lexer, &file.actions)?;
     Ok((token_end(end), lines))
 }

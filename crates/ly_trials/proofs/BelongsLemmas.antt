@@ -8,7 +8,7 @@ use Rattle.std.proofs.Math.Seq.{drop-append_seam, take-append_seam}
 use Rattle.std.proofs.lemmas.Bool.{cases_eq, cases_lt, eq-eqb, ne_eqb}
 use Rattle.std.proofs.lemmas.Nat.{mul-le}
 use mir.Val.{bool_byte}
-use Rattle.ly_ere.specs.Expression.{Expression, star, plus, repeat, name, Joined, Within, Matches}
+use Rattle.ly_ere.specs.Expression.{Expression, star, plus, repeat, name, Joined, IsAtMost, Matches}
 
 -- the room of a measure: more for a later node, and then for a longer string
 pub room : ℕ → ℕ → ℕ
@@ -44,18 +44,18 @@ module _ (L M : List ℕ → Type 0) where
 module _ (L : List ℕ → Type 0) where
   -- from least to most strings of L
   abbrev pub Times : ℕ → Option ℕ → List ℕ → Type 0
-  Times least most w = (k : ℕ) × (least ≤ k) × Within k most × Joined L k w
+  Times least most w = (k : ℕ) × (least ≤ k) × IsAtMost k most × Joined L k w
 
-  within_zero : (most : Option ℕ) → Within zero most
+  within_zero : (most : Option ℕ) → IsAtMost zero most
   within_zero None = tt
   within_zero (Some n) = omega arith
 
-  within_less : (k : ℕ) (most : Option ℕ) → Within (suc k) most → Within k most
+  within_less : (k : ℕ) (most : Option ℕ) → IsAtMost (suc k) most → IsAtMost k most
   within_less k None h = tt
   within_less k (Some n) h = omega arith
 
   -- a first string, and then the rest
-  pub times_more : (least : ℕ) (most rest : Option ℕ) (w : List ℕ) → ((k : ℕ) → Within k rest ↔ Within (suc k) most)
+  pub times_more : (least : ℕ) (most rest : Option ℕ) (w : List ℕ) → ((k : ℕ) → IsAtMost k rest ↔ IsAtMost (suc k) most)
       → (n : ℕ) → L (take n w) → Times (least - 1) rest (drop n w) → Times least most w
   times_more least most rest w fewer n a h = (
     suc h.0,
@@ -81,8 +81,8 @@ module _ (L : List ℕ → Type 0) where
   by_first (suc least) rest w [] v e a t again = found (suc least) rest w [] v e (λ z. absurd (omega arith)) a t
   by_first least rest w (b ∷ u) v e a t again = found least rest w (b ∷ u) v e (λ z. omega arith) a t
 
-  first_of : (k least : ℕ) (most rest : Option ℕ) (w : List ℕ) → ((i : ℕ) → Within i rest ↔ Within (suc i) most)
-      → (least ≡ zero → w ≡ [] → ⊥) → least ≤ k → Within k most → Joined L k w → First least rest w
+  first_of : (k least : ℕ) (most rest : Option ℕ) (w : List ℕ) → ((i : ℕ) → IsAtMost i rest ↔ IsAtMost (suc i) most)
+      → (least ≡ zero → w ≡ [] → ⊥) → least ≤ k → IsAtMost k most → Joined L k w → First least rest w
   first_of zero least most rest w fewer some enough within e = absurd (some (omega arith) e)
   first_of (suc k) least most rest w fewer some enough within j =
       by_first least rest w j.0 j.1 j.2 j.3 (k, omega arith, (fewer k).1 within, j.4)
@@ -90,12 +90,13 @@ module _ (L : List ℕ → Type 0) where
       (subst (Joined L k) (sym same) j.4))
 
   -- where none is too few, some first string is there
-  pub times_first : (least : ℕ) (most rest : Option ℕ) (w : List ℕ) → ((k : ℕ) → Within k rest ↔ Within (suc k) most)
+  pub times_first : (least : ℕ) (most rest : Option ℕ) (w : List ℕ)
+      → ((k : ℕ) → IsAtMost k rest ↔ IsAtMost (suc k) most)
       → (least ≡ zero → w ≡ [] → ⊥) → Times least most w → First least rest w
   times_first least most rest w fewer some h = first_of h.0 least most rest w fewer some h.1 h.2 h.3
 
   -- where none is too few, and none is allowed
-  pub times_never : (least : ℕ) (most : Option ℕ) (w : List ℕ) → ((k : ℕ) → Within (suc k) most → ⊥)
+  pub times_never : (least : ℕ) (most : Option ℕ) (w : List ℕ) → ((k : ℕ) → IsAtMost (suc k) most → ⊥)
       → (least ≡ zero → w ≡ [] → ⊥) → Times least most w → ⊥
   times_never least most w none some (zero, enough, within, e) = some (omega arith) e
   times_never least most w none some (suc k, enough, within, j) = none k within

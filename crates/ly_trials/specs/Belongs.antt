@@ -1,6 +1,6 @@
 -- The strings of a node's expression.
 use Rattle.std.specs.Prelude.{◌↔◌, ℕ, suc, List, [], Option}
-use Rattle.ly_ere.specs.Expression.{repeat, Matches, Within}
+use Rattle.ly_ere.specs.Expression.{repeat, Matches, IsAtMost}
 use Rattle.ly_ere.specs.Arena.{part_of, expressions}
 use Rattle.ly_ere.specs.declared.node.Node.{Node}
 
@@ -14,8 +14,8 @@ Repeated nodes k least most w = Matches [] (repeat least most (part_of (expressi
 
 -- a bound allows one string more than the rest of it
 abbrev pub IsOneFewer : Option ℕ → Option ℕ → Type 0
-IsOneFewer most rest = (k : ℕ) → Within k rest ↔ Within (suc k) most
+IsOneFewer most rest = (k : ℕ) → IsAtMost k rest ↔ IsAtMost (suc k) most
 
 -- a bound allows no string
 abbrev pub AllowsNone : Option ℕ → Type 0
-AllowsNone most = (k : ℕ) → Within (suc k) most → ⊥
+AllowsNone most = (k : ℕ) → IsAtMost (suc k) most → ⊥

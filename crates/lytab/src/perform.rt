@@ -1,5 +1,7 @@
-ghost use Rattle.std.specs.Prelude.{◌≡◌, ◌≤◌, IsSome, map, string_bytes, true};
+ghost use Rattle.std.specs.Prelude.{◌≡◌, ◌≤◌, IsSome, map, string_bytes, true, Option};
+ghost use Rattle.clap.specs.Words.{Text};
 ghost use Rattle.lytab.specs.CommandLine.{line_takes, tokens_of};
+ghost use Rattle.lytab.specs.Paths.{AskForTokens};
 
 use crate::command::{Command, CommandFault};
 use crate::command_line::command;
@@ -53,6 +55,7 @@ pub fn perform<F: Files, I: Read, O: Write, E: Write>(
     ensures status { result ≤ 4 }
     ensures words { line_takes (map string_bytes words.now) ≡ true → IsSome (tokens_of (map string_bytes words.now))
         → result ≤ 3 }
+    ensures taken { (lex : Text) (text : Option Text) → AskForTokens (map string_bytes words.now) lex text → result ≤ 3 }
 {
     match command(alloc, words) {
         Ok(Command::Tokens { lex, text }) => {
