@@ -1,0 +1,3 @@
+pub mod Faults
+pub mod Private
+pub mod Words
