@@ -1,7 +1,7 @@
 -- A literal is determined by its text.
 use Rattle.std.proofs.Common.{drop-drop, ◌≡◌, ◌≢◌, ◌↔◌, ℕ, ◌+◌, ◌<◌, List, ◌∷◌, length, drop, get_or, refl, sym, ap}
-use Rattle.std.proofs.Common.{◌∙◌, subst, arith}
-use Rattle.ly_base.specs.Escapes.{Escape}
+use Rattle.std.proofs.Common.{◌∙◌, subst, arith, length-append}
+use Rattle.ly_base.specs.Escapes.{Escape, octal, hexadecimal, bare_x, letter}
 use Rattle.ly_base.specs.Literals.{Inside, bare, escaped, line, Literal}
 use Rattle.ly_base.proofs.EscapeLemmas.{byte_at, escape_one, newline_none}
 
@@ -83,3 +83,18 @@ literal_one t b c r s l m =
     let behind : 39 ∷ l.0 ≡ 39 ∷ m.0 = sym l.1 ∙ m.1 in
     let e = inside_at l.0 m.0 b c (39 ∷ r) (39 ∷ s) (cc) l.2 m.2 in
     (e.0, cc e.1)
+
+escape_shorter : (t rest : List ℕ) (b : ℕ) → Escape t b rest → length rest < length t
+escape_shorter t rest b (octal ds r a some few stops small) = omega (arith, length-append ds r)
+escape_shorter t rest b (hexadecimal ds r a some stops small) = omega (arith, length-append ds r)
+escape_shorter t rest b (bare_x r stops) = omega arith
+escape_shorter t rest b (letter c r x y z) = omega arith
+
+inside_shorter : (t rest : List ℕ) (b : ℕ) → Inside t b rest → length rest < length t
+inside_shorter t rest b (bare c r x y) = omega arith
+inside_shorter t rest b (escaped u r c h) = omega (arith, escape_shorter u r c h)
+inside_shorter t rest b (line r) = omega arith
+
+-- a literal has bytes
+pub literal_shorter : (t rest : List ℕ) (b : ℕ) → Literal t b rest → length rest < length t
+literal_shorter t rest b h = omega (arith, ap length h.1, inside_shorter h.0 (39 ∷ rest) b h.2)

@@ -1,5 +1,5 @@
-use Rattle.std.proofs.Common.{◌≡◌, ◌∷◌, ◌++◌, ◌≤◌, List, ℕ, length}
-use Rattle.ly_base.proofs.gap.after_comment.Given as goal
+use Rattle.std.proofs.Common.{◌≡◌, ◌++◌, ◌≤◌, List, ℕ, length}
+use Rattle.ly_base.proofs.gap.after_end.Given as goal
 
 abbrev pub invariant-loop-at : goal.invariant-loop-at
-invariant-loop-at l = (a b : List ℕ) → l.inside ≡ a ++ 42 ∷ 47 ∷ b → l.at ≤ length a
+invariant-loop-at l = (a b : List ℕ) → l.inside ≡ a ++ (l.end ++ b) → l.at ≤ length a
