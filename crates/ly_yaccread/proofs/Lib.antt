@@ -1,1 +1,3 @@
+pub mod SymbolLemmas
+pub mod TagLemmas
 pub mod WordLemmas

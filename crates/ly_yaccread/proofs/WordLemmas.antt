@@ -1,18 +1,18 @@
 -- The word at the front of a text is determined.
 use Rattle.std.specs.Option.{MatchOption}
-use Rattle.std.specs.Prelude.{◌&&◌, if◌then◌else◌}
+use Rattle.std.specs.Prelude.{if◌then◌else◌}
 use Rattle.std.proofs.lemmas.Bool.{false≢true}
 use Rattle.std.proofs.lemmas.Bool.Decides.{nat_tests}
 use Rattle.std.proofs.lemmas.List.{append-nil}
 use Rattle.std.proofs.Common.{◌≡◌, ◌≢◌, ℕ, List, [], ◌∷◌, ◌++◌, Bool, true, false, IsTrue, Option, Some, None}
-use Rattle.std.proofs.Common.{refl, sym, ap, ap₂, ◌∙◌, subst, arith, nat_eq, eqb, length, cond}
+use Rattle.std.proofs.Common.{refl, sym, ap, ap₂, ◌∙◌, subst, arith, nat_eq, eqb, length, length-append, ◌<◌}
 use Rattle.ly_base.specs.Gap.{Gap, GapBefore, GapEnds}
 use Rattle.ly_base.specs.Language.{is_space, is_decimal, starts_name, NameBefore}
 use Rattle.ly_base.specs.declared.language.Language.TheVariants.{Yacc}
 use Rattle.ly_base.specs.Escapes.{Stops}
 use Rattle.ly_base.proofs.GapLemmas.{gap_one}
 use Rattle.ly_base.proofs.NameLemmas.{name_one, digits_one}
-use Rattle.ly_base.proofs.LiteralLemmas.{literal_one}
+use Rattle.ly_base.proofs.LiteralLemmas.{literal_one, literal_shorter}
 use Rattle.ly_yaccread.specs.Private.Words.{IsAt, IsFront}
 use Rattle.ly_yaccread.specs.Words.{Word, mark, directive, name, number, literal, spelling, MarkBefore, Begins, Front}
 use Rattle.ly_yaccread.specs.Words.{Wording}
@@ -261,3 +261,18 @@ wording_one text (x ∷ xs) (y ∷ ys) r s e a b =
     let f = front_one text x y a.0 b.0 a.1 b.1 in
     let g = wording_one b.0 xs ys r s (omega (arith, e)) (subst (λ t. Wording t xs r) f.1 a.2) b.2 in
     (ap₂ ◌∷◌ f.0 g.0, g.1)
+
+-- a word has bytes
+begins_shorter : (text : List ℕ) (x : Word) (rest : List ℕ) → Begins text x rest → length rest < length text
+begins_shorter text (mark m) rest h = let p = spelled m in
+    omega (arith, ap length h.0, length-append (spelling m) rest, ap length p.2)
+begins_shorter text (directive n) rest h = omega (arith, ap length h.1, ap length h.2.2, length-append n rest)
+begins_shorter text (name []) rest h = absurd h.0
+begins_shorter text (name (b ∷ n)) rest h = omega (arith, ap length h.2, length-append n rest)
+begins_shorter text (number []) rest h = absurd (h.1 refl)
+begins_shorter text (number (b ∷ ds)) rest h = omega (arith, ap length h.3, length-append ds rest)
+begins_shorter text (literal c) rest h = literal_shorter text rest c h
+
+pub front_shorter : (text : List ℕ) (x : Word) (rest : List ℕ) → Front text x rest → length rest < length text
+front_shorter text x rest (word, before, h)
+    = omega (arith, begins_shorter word x rest h, ap length before.2, length-append before.0 word)

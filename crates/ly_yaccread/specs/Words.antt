@@ -1,7 +1,7 @@
 -- The words of a yacc file (POSIX, XCU yacc).
-use Rattle.std.specs.Prelude.{◌≡◌, ◌≢◌, ℕ, List, [], ◌∷◌, ◌++◌, nat_eq, codes}
+use Rattle.std.specs.Prelude.{◌≡◌, ℕ, List, [], ◌∷◌, ◌++◌, nat_eq, codes}
 use Rattle.ly_base.specs.Escapes.{Stops}
-use Rattle.ly_base.specs.Gap.{Gap, GapBefore}
+use Rattle.ly_base.specs.Gap.{GapBefore}
 use Rattle.ly_base.specs.Language.{DigitsBefore, NameBefore}
 use Rattle.ly_base.specs.Literals.{Literal}
 use Rattle.ly_base.specs.declared.language.Language.TheVariants.{Yacc}
