@@ -2,12 +2,14 @@
 use Rattle.std.specs.Option.{MatchOption}
 use denote.Ref.{Bor}
 use denote.Enum.Bare.{sameb}
-use Rattle.std.proofs.lemmas.Bool.{false≢true}
+use Rattle.std.proofs.lemmas.Bool.{false≢true, eqb-true}
 use Rattle.ly_yaccread.specs.contracts.words.Mark.{the_type}
-use Rattle.std.proofs.Common.{◌≡◌, ◌≢◌, ℕ, List, Option, Some, None, ap, ◌∙◌, subst, refl, inl, inr, true, false}
+use Rattle.std.proofs.Common.{◌≡◌, ◌≢◌, ℕ, List, Option, Some, None, sym, ap, ◌∙◌, subst, refl, inl, inr, true, false}
+use Rattle.std.proofs.Common.{[], ◌∷◌, Bool, eqb, length, arith, ◌<◌}
+use Rattle.ly_yaccread.specs.declared.file.Symbol.{Symbol}
 use Rattle.ly_yaccread.specs.Private.Words.{IsFront}
-use Rattle.ly_yaccread.specs.Symbols.{SymbolBefore}
-use Rattle.ly_yaccread.specs.Tags.{TagPassed}
+use Rattle.ly_yaccread.specs.Symbols.{SymbolBefore, Symbols, end, more, words_of}
+use Rattle.ly_yaccread.specs.Tags.{TagPassed, TokenList}
 use Rattle.ly_yaccread.specs.Words.{Word, mark, directive, name, number, literal, Front}
 use Rattle.ly_yaccread.specs.declared.words.Mark.{Mark}
 use Rattle.ly_yaccread.specs.declared.words.Mark.TheVariants.{Section, Block, Whole, Part, Colon, Bar, Semicolon}
@@ -38,7 +40,8 @@ same_mark Comma = refl
 pub marks_apart : (m k : Mark) → false ≡ sameb the_type m k → k ≢ m
 marks_apart m k h e = false≢true (h ∙ ap (sameb the_type m) e ∙ same_mark m)
 
-pub other_mark : (text r : List ℕ) (m k : Mark) → Front text (mark m) r → k ≢ m → (s : List ℕ) → Front text (mark k) s → ⊥
+pub other_mark : (text r : List ℕ) (m k : Mark) → Front text (mark m) r → k ≢ m → (s : List ℕ) → Front text (mark k) s
+    → ⊥
 other_mark text r m k f h s g = h (same k m (front_one text (mark k) (mark m) s r g f).0)
   where
     same : (i j : Mark) → mark i ≡ mark j → i ≡ j
@@ -102,3 +105,48 @@ tag_end text inside n behind (Some s) f g h = inl (record {
   is_name = g;
   closes = h;
 })
+
+-- what stands behind a tag is determined
+pub tag_one : (text a b : List ℕ) → TagPassed text a → TagPassed text b → a ≡ b
+tag_one text a b (inr (s, e)) (inr (t, f)) = e ∙ sym f
+tag_one text a b (inr (s, e)) (inl t) = absurd (s t.inside t.opens)
+tag_one text a b (inl t) (inr (s, e)) = absurd (s t.inside t.opens)
+tag_one text a b (inl t) (inl u) =
+    let e = front_one text (mark OpenTag) (mark OpenTag) t.inside u.inside t.opens u.opens in
+    let i = front_one u.inside (name t.tag) (name u.tag) t.behind u.behind
+    (subst (λ j. SymbolBefore j (name t.tag) t.behind) e.1 t.is_name).0 u.is_name.0 in
+    (front_one u.behind (mark CloseTag) (mark CloseTag) a b
+    (subst (λ j. Front j (mark CloseTag) a) i.1 t.closes) u.closes).1
+
+nothing_first : (text rest : List ℕ) (xs : List Word) → xs ≡ [] → Symbols text xs rest → (x : Word) (s : List ℕ)
+    → SymbolBefore text x s → ⊥
+nothing_first text rest xs e (end t stops) = stops
+nothing_first text rest xs e (more t behind left r x ys f g h) = absurd (cc e)
+
+something_first : (text rest : List ℕ) (xs : List Word) → ((x : Word) (s : List ℕ) → SymbolBefore text x s → ⊥)
+    → xs ≢ [] → Symbols text xs rest → ⊥
+something_first text rest xs h some (end t stops) = some refl
+something_first text rest xs h some (more t behind left r x ys f g i) = h x behind f
+
+-- no symbol stands behind the tag
+pub no_list : (text behind left : List ℕ) (symbols : List Symbol) → TagPassed text behind
+    → Symbols behind (words_of symbols) left → symbols ≡ [] → (xs : List Word) (rest : List ℕ) → TokenList text xs rest
+    → ⊥
+no_list text behind left symbols tag read e xs rest l
+    = something_first behind rest xs (nothing_first behind left (words_of symbols) (ap words_of e) read) l.some
+    (subst (λ t. Symbols t xs rest) (tag_one text l.behind behind l.tag tag) l.symbols)
+
+pub no_words : (symbols : List Symbol) → symbols ≢ [] → words_of symbols ≢ []
+no_words [] h e = h refl
+no_words (s ∷ symbols) h e = cc e
+
+positive : (n : ℕ) → eqb n 0 ≡ true → 0 < n → ⊥
+positive n h p = omega (arith, eqb-true n 0 h, p)
+
+pub empty_vec : (t : Bool) (n : ℕ) (xs : List Symbol) → n ≡ length xs → t ≡ eqb n 0 → t ≡ true → xs ≡ []
+empty_vec t n [] g e f = refl
+empty_vec t n (x ∷ xs) g e f = absurd (positive n (sym e ∙ f) (omega (arith, g)))
+
+pub some_vec : (t : Bool) (n : ℕ) (xs : List Symbol) → n ≡ length xs → t ≡ eqb n 0 → t ≡ false → xs ≢ []
+some_vec t n [] g e f m = false≢true (sym f ∙ e ∙ ap (λ i. eqb i 0) g)
+some_vec t n (x ∷ xs) g e f m = cc m

@@ -9,7 +9,8 @@ pub returns-then-is_error-clause-these : goal.returns-then-is_error-clause-these
 returns-then-is_error-clause-these c =
     let text = c.args.text.now in
     let rest = c.next_word.result.1.now in
-    error_symbol text c.in-Name.name.now rest (subst (λ w. IsFront text w rest) c.in-Name.is c.next_word.ensures) c.if-is_error.ensures
+    error_symbol text c.in-Name.name.now rest (subst (λ w. IsFront text w rest) c.in-Name.is c.next_word.ensures)
+    c.if-is_error.ensures
 
 pub returns-in-Literal-clause-shorter : goal.returns-in-Literal-clause-shorter
 returns-in-Literal-clause-shorter c =

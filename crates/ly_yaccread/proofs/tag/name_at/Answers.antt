@@ -7,7 +7,8 @@ use Rattle.ly_yaccread.proofs.WordLemmas.{at_none}
 use Rattle.ly_yaccread.proofs.tag.name_at.Goals as goal
 
 pub returns-in_default : goal.returns-in_default
-returns-in_default c = λ n rest. at_none c.symbol_at.result _ _ c.in_default.not-Some c.symbol_at.ensures.these (name n) rest
+returns-in_default c = λ n rest. at_none c.symbol_at.result _ _ c.in_default.not-Some c.symbol_at.ensures.these
+    (name n) rest
 
 pub returns-in-Literal : goal.returns-in-Literal
 returns-in-Literal c =
