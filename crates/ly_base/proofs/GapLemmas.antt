@@ -11,7 +11,8 @@ use Rattle.std.proofs.Common.{◌⊎◌, inl, inr, Bool, true, false, ltb}
 use Rattle.std.proofs.Math.Seq.{drop-append_seam}
 use Rattle.ly_base.proofs.EscapeLemmas.{byte_at}
 use Rattle.ly_base.specs.Language.{is_space}
-use Rattle.ly_base.specs.Gap.{HasNo, EndBefore, Closes, last, close, opening, other, Gap, none, space, comment, GapBefore, GapEnds}
+use Rattle.ly_base.specs.Gap.{HasNo, EndBefore, Closes, last, close, opening, other, Gap, none, space, comment}
+use Rattle.ly_base.specs.Gap.{GapBefore, GapEnds}
 use Rattle.ly_base.specs.declared.language.Language.{Language}
 use Rattle.ly_base.specs.declared.language.Language.TheVariants.{Lex, Yacc}
 
@@ -44,7 +45,8 @@ ends_here (b ∷ []) x y h e = let f : b ∷ 42 ∷ 47 ∷ y ≡ 42 ∷ 47 ∷ x
 ends_here (b ∷ c ∷ s) x y h e = absurd (h [] s (cc))
 
 -- a comment ends at its first `*/`
-pub comment_one : (s t x y : List ℕ) → HasNo (42 ∷ 47 ∷ []) s → HasNo (42 ∷ 47 ∷ []) t → s ++ 42 ∷ 47 ∷ x ≡ t ++ 42 ∷ 47 ∷ y → x ≡ y
+pub comment_one : (s t x y : List ℕ) → HasNo (42 ∷ 47 ∷ []) s → HasNo (42 ∷ 47 ∷ []) t
+    → s ++ 42 ∷ 47 ∷ x ≡ t ++ 42 ∷ 47 ∷ y → x ≡ y
 comment_one [] t x y a b e = ends_here t x y b e
 comment_one (c ∷ s) [] x y a b e = sym (ends_here (c ∷ s) y x a (sym e))
 comment_one (c ∷ s) (d ∷ t) x y a b e = comment_one s t x y (tail_no_end c s a) (tail_no_end d t b) (cc)
@@ -112,7 +114,9 @@ end_behind end text n nowhere before a b e = at (le_or n (length a) (before a b 
 
     at : (n + 1 ≤ length a) ⊎ (length a ≡ n) → n + 1 ≤ length a
     at (inl h) = h
-    at (inr h) = absurd (nowhere b (ap (drop n) e ∙ ap (λ i. drop i (a ++ (end ++ b))) (sym h) ∙ drop-append_seam a (end ++ b)))
+    at (inr h)
+        = absurd (nowhere b (ap (drop n) e ∙ ap (λ i. drop i (a ++ (end ++ b))) (sym h)
+        ∙ drop-append_seam a (end ++ b)))
 
 -- where the first end stands
 pub first_end : (end text rest : List ℕ) (n : ℕ) → 0 < length end → n ≤ length text
@@ -157,7 +161,8 @@ behind_opening n t u rest e (other m c v r x y h) = absurd (x (heads c 123 v t e
 behind_close : (k n : ℕ) (t u rest : List ℕ) → k ≡ suc n → u ≡ 125 ∷ t → Closes k u rest → Closes n t rest
 behind_close k n t u rest f e (last r) = absurd (omega (arith, f))
 behind_close k n t u rest f e (close m v r h)
-    = let same : m ≡ n = omega (arith, f) in subst (λ i. Closes i t r) same (subst (λ w. Closes m w r) (tails 125 125 v t e) h)
+    = let same : m ≡ n = omega (arith, f)
+    in subst (λ i. Closes i t r) same (subst (λ w. Closes m w r) (tails 125 125 v t e) h)
 behind_close k n t u rest f e (opening m v r h) = absurd (omega (arith, heads 123 125 v t e))
 behind_close k n t u rest f e (other m c v r x y h) = absurd (y (heads c 125 v t e))
 
@@ -168,15 +173,18 @@ never_closes n u rest e (opening m v r h) = cc e
 never_closes n u rest e (other m c v r x y h) = cc e
 
 module _ (text : List ℕ) (n m at : ℕ) (within : at < length text) (rest : List ℕ) where
-  pub step_opening : get_or text at 0 ≡ 123 → m ≡ n + 1 → Closes n (drop at text) rest ↔ Closes m (drop (at + 1) text) rest
+  pub step_opening : get_or text at 0 ≡ 123 → m ≡ n + 1 → Closes n (drop at text) rest
+      ↔ Closes m (drop (at + 1) text) rest
   step_opening is e =
       let f : drop at text ≡ 123 ∷ drop (at + 1) text = byte_at text at 123 within is in
       let g : suc n ≡ m = omega (arith, e) in (
-        λ h. subst (λ i. Closes i (drop (at + 1) text) rest) g (behind_opening n (drop (at + 1) text) (drop at text) rest f h),
+        λ h. subst (λ i. Closes i (drop (at + 1) text) rest) g
+            (behind_opening n (drop (at + 1) text) (drop at text) rest f h),
         λ h. rw f (opening n (drop (at + 1) text) rest (subst (λ i. Closes i (drop (at + 1) text) rest) (sym g) h)),
       )
 
-  pub step_close : get_or text at 0 ≡ 125 → n ≡ m + 1 → Closes n (drop at text) rest ↔ Closes m (drop (at + 1) text) rest
+  pub step_close : get_or text at 0 ≡ 125 → n ≡ m + 1 → Closes n (drop at text) rest
+      ↔ Closes m (drop (at + 1) text) rest
   step_close is e =
       let f : drop at text ≡ 125 ∷ drop (at + 1) text = byte_at text at 125 within is in
       let g : n ≡ suc m = omega (arith, e) in (
@@ -198,4 +206,5 @@ pub last_step : (text : List ℕ) (at : ℕ) → at < length text → get_or tex
 last_step text at within is = rw (byte_at text at 125 within is) (last (drop (at + 1) text))
 
 pub closes_nowhere : (text : List ℕ) (n at : ℕ) (rest : List ℕ) → length text ≤ at → Closes n (drop at text) rest → ⊥
-closes_nowhere text n at rest h c = never_closes n (drop at text) rest (nil_from_length (drop at text) (omega (arith, length-drop at text))) c
+closes_nowhere text n at rest h c
+    = never_closes n (drop at text) rest (nil_from_length (drop at text) (omega (arith, length-drop at text))) c

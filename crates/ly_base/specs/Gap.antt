@@ -22,7 +22,8 @@ pub data Closes : ℕ → List ℕ → List ℕ → Type 0 where
 pub data Gap (l : Language) : List ℕ → Type 0 where
   none : Gap l []
   space : (b : ℕ) (g : List ℕ) → IsTrue (is_space l b) → Gap l g → Gap l (b ∷ g)
-  comment : (inside g : List ℕ) → HasNo (codes "*/") inside → Gap l g → Gap l (codes "/*" ++ (inside ++ (codes "*/" ++ g)))
+  comment : (inside g : List ℕ) → HasNo (codes "*/") inside → Gap l g
+      → Gap l (codes "/*" ++ (inside ++ (codes "*/" ++ g)))
 
 -- the text is a gap and then the rest
 abbrev pub GapBefore : Language → List ℕ → List ℕ → Type 0
