@@ -1,7 +1,7 @@
 -- A literal is determined by its text.
 use Rattle.std.proofs.Common.{drop-drop, ◌≡◌, ◌≢◌, ◌↔◌, ℕ, ◌+◌, ◌<◌, List, ◌∷◌, length, drop, get_or, refl, sym, ap}
-use Rattle.std.proofs.Common.{◌∙◌, subst, arith}
-use Rattle.ly_base.specs.Escapes.{Escape}
+use Rattle.std.proofs.Common.{◌∙◌, subst, arith, length-append}
+use Rattle.ly_base.specs.Escapes.{Escape, octal, hexadecimal, bare_x, letter}
 use Rattle.ly_base.specs.Literals.{Inside, bare, escaped, line, Literal}
 use Rattle.ly_base.proofs.EscapeLemmas.{byte_at, escape_one, newline_none}
 
@@ -62,3 +62,39 @@ module _ (t : List ℕ) (b n : ℕ) (some : 0 < length t) (quote : 39 ≡ get_or
         ),
         ne,
       )
+
+inside_at : (t u : List ℕ) (b c : ℕ) (r s : List ℕ) → t ≡ u → Inside t b r → Inside u c s → (b ≡ c) × (r ≡ s)
+inside_at t u b c r s e (bare x rest h k) (bare y more i j) = (cc, cc)
+inside_at t u b c r s e (bare x rest h k) (escaped v more y f) = absurd (h (cc))
+inside_at t u b c r s e (bare x rest h k) (line more) = absurd (h (cc))
+inside_at t u b c r s e (escaped v rest x f) (bare y more i j) = absurd (i (cc))
+inside_at t u b c r s e (escaped v rest x f) (escaped w more y g) = let same : w ≡ v = cc
+    in escape_one v x y rest more f (subst (λ i. Escape i y more) same g)
+inside_at t u b c r s e (escaped v rest x f) (line more) = let newline : v ≡ 10 ∷ more = cc
+    in absurd (newline_none more x rest (subst (λ i. Escape i x rest) newline f))
+inside_at t u b c r s e (line rest) (bare y more i j) = absurd (i (cc))
+inside_at t u b c r s e (line rest) (escaped w more y g) = let newline : w ≡ 10 ∷ rest = cc
+    in absurd (newline_none rest y more (subst (λ i. Escape i y more) newline g))
+inside_at t u b c r s e (line rest) (line more) = (refl, cc)
+
+-- a literal is determined, and so is the rest
+pub literal_one : (t : List ℕ) (b c : ℕ) (r s : List ℕ) → Literal t b r → Literal t c s → (b ≡ c) × (r ≡ s)
+literal_one t b c r s l m =
+    let behind : 39 ∷ l.0 ≡ 39 ∷ m.0 = sym l.1 ∙ m.1 in
+    let e = inside_at l.0 m.0 b c (39 ∷ r) (39 ∷ s) (cc) l.2 m.2 in
+    (e.0, cc e.1)
+
+escape_shorter : (t rest : List ℕ) (b : ℕ) → Escape t b rest → length rest < length t
+escape_shorter t rest b (octal ds r a some few stops small) = omega (arith, length-append ds r)
+escape_shorter t rest b (hexadecimal ds r a some stops small) = omega (arith, length-append ds r)
+escape_shorter t rest b (bare_x r stops) = omega arith
+escape_shorter t rest b (letter c r x y z) = omega arith
+
+inside_shorter : (t rest : List ℕ) (b : ℕ) → Inside t b rest → length rest < length t
+inside_shorter t rest b (bare c r x y) = omega arith
+inside_shorter t rest b (escaped u r c h) = omega (arith, escape_shorter u r c h)
+inside_shorter t rest b (line r) = omega arith
+
+-- a literal has bytes
+pub literal_shorter : (t rest : List ℕ) (b : ℕ) → Literal t b rest → length rest < length t
+literal_shorter t rest b h = omega (arith, ap length h.1, inside_shorter h.0 (39 ∷ rest) b h.2)

@@ -4,6 +4,8 @@ pub mod Bytes
 pub mod Counted
 pub mod Device
 pub mod Escapes
+pub mod Gap
+pub mod Language
 pub mod Lexed
 pub mod Limits
 pub mod Literals

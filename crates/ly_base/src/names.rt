@@ -1,0 +1,67 @@
+ghost use Rattle.std.specs.Prelude.{◌≡◌, ◌≤◌, ℕ, List, length, MatchOption};
+ghost use Rattle.std.specs.List.{prefix_len};
+ghost use Rattle.ly_base.specs.Language.{continues_name, DigitsBefore, is_decimal, NameBefore};
+ghost use Rattle.ly_base.specs.Private.Names.{name_length};
+
+use crate::language::Language;
+
+/// The name at the front and what stands behind it, where there is one.
+pub fn leading_name(text: &[u8], language: Language) -> Option<(&[u8], &[u8])>
+    ensures { MatchOption result ((name rest : List ℕ) → NameBefore language text.now name rest → ⊥)
+        (λ found. NameBefore language text.now found.0.now found.1.now) }
+{
+    let length = name_length(text, language);
+    if length == 0 {
+        return None;
+    }
+    Some(text.split_at(length))
+}
+
+/// The decimal digits at the front and what stands behind them, where there are some.
+pub fn leading_digits(text: &[u8]) -> Option<(&[u8], &[u8])>
+    ensures { MatchOption result ((digits rest : List ℕ) → DigitsBefore text.now digits rest → ⊥)
+        (λ found. DigitsBefore text.now found.0.now found.1.now) }
+{
+    let length = digits_length(text);
+    if length == 0 {
+        return None;
+    }
+    Some(text.split_at(length))
+}
+
+/// How many bytes the name at the front takes, 0 where there is none.
+fn name_length(text: &[u8], language: Language) -> usize
+    ensures within { result ≤ length text.now }
+    ensures value { result ≡ name_length language text.now }
+{
+    match text.first() {
+        Some(first) if language.starts_name(*first) => continued_length(text, language),
+        _ => 0,
+    }
+}
+
+/// How many bytes at the front may stand in a name.
+fn continued_length(text: &[u8], language: Language) -> usize
+    ensures { result ≡ prefix_len (continues_name language) text.now }
+{
+    text.iter()
+        .position(|byte| !language.continues_name(*byte))
+        .unwrap_or(text.len())
+}
+
+/// How many digits there are at the front.
+fn digits_length(text: &[u8]) -> usize
+    ensures within { result ≤ length text.now }
+    ensures value { result ≡ prefix_len is_decimal text.now }
+{
+    text.iter()
+        .position(|byte| !is_digit(*byte))
+        .unwrap_or(text.len())
+}
+
+/// Whether the byte is a decimal digit.
+fn is_digit(byte: u8) -> bool
+    ensures { result ≡ is_decimal byte }
+{
+    byte.is_ascii_digit()
+}

@@ -1,0 +1,3 @@
+pub mod SymbolLemmas
+pub mod TagLemmas
+pub mod WordLemmas

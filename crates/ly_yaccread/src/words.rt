@@ -1,0 +1,138 @@
+ghost use Rattle.std.specs.Prelude.{◌≡◌, ◌≢◌, ◌++◌, ◌∷◌, [], ℕ, List, MatchOption};
+ghost use Rattle.ly_yaccread.specs.Private.Words.{IsAt, IsFront};
+ghost use Rattle.ly_yaccread.specs.Words.{DirectiveBefore, MarkBefore, spelling};
+
+use ly_base::{Language, after_gap, leading_digits, leading_name, literal};
+
+/// A word that always has the same bytes.
+#[derive(Clone, Copy, Debug, PartialEq, Eq)]
+pub enum Mark {
+    /// `%%`, which begins the rules, and what follows them.
+    Section,
+    /// `%{`, which begins a block that isn't used.
+    Block,
+    /// `$$`, the value of a rule.
+    Whole,
+    /// `$`, which begins the value of a part of a rule's body.
+    Part,
+    /// `:`, between a left side and its bodies.
+    Colon,
+    /// `|`, before a further body.
+    Bar,
+    /// `;`, behind a rule or a statement.
+    Semicolon,
+    /// `{`.
+    OpenBrace,
+    /// `}`.
+    CloseBrace,
+    /// `(`.
+    OpenParenthesis,
+    /// `)`.
+    CloseParenthesis,
+    /// `<`, before a tag.
+    OpenTag,
+    /// `>`, behind a tag.
+    CloseTag,
+    /// `=`.
+    Equals,
+    /// `,`.
+    Comma,
+}
+
+/// What stands at the front of a yacc file.
+#[derive(Clone, Copy)]
+pub(crate) enum NextWord<'t> {
+    /// Nothing.
+    End,
+    /// A mark.
+    Mark(Mark),
+    /// A directive: a `%` and this name.
+    Directive(&'t [u8]),
+    /// A name.
+    Name(&'t [u8]),
+    /// A number of these digits.
+    Number(&'t [u8]),
+    /// A literal of this byte.
+    Literal(u8),
+    /// No word.
+    Other,
+}
+
+/// The word behind the gap at the front, and what stands behind it.
+pub(crate) fn next_word(text: &[u8]) -> (NextWord<'_>, &[u8])
+    ensures { IsFront text.now result.0 result.1.now }
+{
+    word_at(after_gap(text, Language::Yacc))
+}
+
+/// The word at the front, and what stands behind it.
+fn word_at(text: &[u8]) -> (NextWord<'_>, &[u8])
+    ensures { IsAt text.now result.0 result.1.now }
+{
+    if text.is_empty() {
+        return (NextWord::End, text);
+    }
+    if let Some((mark, rest)) = leading_mark(text) {
+        return (NextWord::Mark(mark), rest);
+    }
+    if let Some((name, rest)) = leading_directive(text) {
+        return (NextWord::Directive(name), rest);
+    }
+    if let Some((name, rest)) = leading_name(text, Language::Yacc) {
+        return (NextWord::Name(name), rest);
+    }
+    if let Some((digits, rest)) = leading_digits(text) {
+        return (NextWord::Number(digits), rest);
+    }
+    match literal(text) {
+        Some((byte, length)) => (NextWord::Literal(byte), &text[length..]),
+        None => (NextWord::Other, text),
+    }
+}
+
+/// The name behind a `%` at the front, and what stands behind it.
+fn leading_directive(text: &[u8]) -> Option<(&[u8], &[u8])>
+    ensures { MatchOption result ((name rest : List ℕ) → DirectiveBefore text.now name rest → ⊥)
+        (λ found. DirectiveBefore text.now found.0.now found.1.now) }
+{
+    leading_name(text.strip_prefix(b"%")?, Language::Yacc)
+}
+
+/// The mark at the front, and what stands behind it.
+fn leading_mark(text: &[u8]) -> Option<(Mark, &[u8])>
+    ensures { MatchOption result ((mark : Mark) (rest : List ℕ) → MarkBefore text.now mark rest → ⊥)
+        (λ found. MarkBefore text.now found.0 found.1.now) }
+{
+    if let Some(rest) = text.strip_prefix(b"%%") {
+        return Some((Mark::Section, rest));
+    }
+    if let Some(rest) = text.strip_prefix(b"%{") {
+        return Some((Mark::Block, rest));
+    }
+    if let Some(rest) = text.strip_prefix(b"$$") {
+        return Some((Mark::Whole, rest));
+    }
+    let (first, rest) = text.split_first()?;
+    Some((mark_of(*first)?, rest))
+}
+
+/// The mark of this byte alone.
+fn mark_of(byte: u8) -> Option<Mark>
+    ensures { MatchOption result ((mark : Mark) → spelling mark ≢ byte ∷ []) (λ mark. spelling mark ≡ byte ∷ []) }
+{
+    match byte {
+        b'$' => Some(Mark::Part),
+        b':' => Some(Mark::Colon),
+        b'|' => Some(Mark::Bar),
+        b';' => Some(Mark::Semicolon),
+        b'{' => Some(Mark::OpenBrace),
+        b'}' => Some(Mark::CloseBrace),
+        b'(' => Some(Mark::OpenParenthesis),
+        b')' => Some(Mark::CloseParenthesis),
+        b'<' => Some(Mark::OpenTag),
+        b'>' => Some(Mark::CloseTag),
+        b'=' => Some(Mark::Equals),
+        b',' => Some(Mark::Comma),
+        _ => None,
+    }
+}
