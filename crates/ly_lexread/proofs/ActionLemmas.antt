@@ -5,7 +5,8 @@ use Rattle.std.proofs.Common.{subst}
 use Rattle.std.specs.Option.{MatchOption}
 use denote.Ref.{Bor}
 use lib.Chars.{codes}
-use Rattle.ly_lexread.specs.Gap.{Gap}
+use Rattle.ly_base.specs.Gap.{Gap}
+use Rattle.ly_base.specs.declared.language.Language.TheVariants.{Lex}
 use Rattle.ly_lexread.specs.Words.{Word, semicolon, name, literal, Front, Wording}
 use Rattle.ly_lexread.specs.declared.words.NextWord.{NextWord}
 use Rattle.ly_lexread.specs.declared.words.NextWord.TheVariants.{End, Semicolon, Name, Byte, Other}
@@ -23,7 +24,7 @@ behind_front text rest x (y ∷ ys) f w = let e = front_one text y x w.0 rest w.
     in (ys, ap (λ z. z ∷ ys) e.0, subst (λ r. Wording r ys) e.1 w.2)
 
 -- something else than the end stands in front
-pub not_end : (text rest : List ℕ) (w : NextWord) → IsFront text w rest → (w ≡ End → ⊥) → Gap text → ⊥
+pub not_end : (text rest : List ℕ) (w : NextWord) → IsFront text w rest → (w ≡ End → ⊥) → Gap Lex text → ⊥
 not_end text rest End f h g = h refl
 not_end text rest Semicolon f h g = front_none text semicolon rest g f
 not_end text rest (Name n) f h g = front_none text (name n.now) rest g f
@@ -32,10 +33,11 @@ not_end text rest Other f h g = f.0 g
 
 -- a `;` and then a gap, or not
 pub ended_semicolon : (text rest : List ℕ) (t : Bool) → Front text semicolon rest
-    → MatchBool t (Gap rest) (Gap rest → ⊥) → MatchBool t (Wording text (semicolon ∷ [])) (Wording text (semicolon ∷ [])
+    → MatchBool t (Gap Lex rest) (Gap Lex rest → ⊥)
+    → MatchBool t (Wording text (semicolon ∷ [])) (Wording text (semicolon ∷ [])
     → ⊥)
 ended_semicolon text rest true f h = (rest, f, h)
-ended_semicolon text rest false f h = λ w. h (subst Gap (front_one text semicolon semicolon w.0 rest w.1 f).1 w.2)
+ended_semicolon text rest false f h = λ w. h (subst (Gap Lex) (front_one text semicolon semicolon w.0 rest w.1 f).1 w.2)
 
 -- something else than `;` stands in front
 pub not_semicolon : (text rest : List ℕ) (w : NextWord) (xs : List Word) → IsFront text w rest → (w ≡ Semicolon → ⊥)
@@ -85,7 +87,8 @@ returns_none text rest w m f h k r = at w f h k (parts text m r)
     at Other f h k p = f.1 p.word p.rest p.front
 
 -- `;` in front says nothing, where it ends the text
-pub says_nothing : (text rest : List ℕ) (t : Bool) → Front text semicolon rest → MatchBool t (Gap rest) (Gap rest → ⊥)
+pub says_nothing : (text rest : List ℕ) (t : Bool) → Front text semicolon rest
+    → MatchBool t (Gap Lex rest) (Gap Lex rest → ⊥)
     → MatchBool t (Says text nothing) ((m : Meaning) → Says text m → ⊥)
 says_nothing text rest true f h = (semicolon ∷ [], (rest, f, h), refl)
 says_nothing text rest false f h = λ m s. at m s.0 s.2 (behind_front text rest semicolon s.0 f s.1)

@@ -3,10 +3,8 @@ pub mod AnswerLemmas
 pub mod DefinitionLemmas
 pub mod FileLemmas
 pub mod FrontLemmas
-pub mod GapLemmas
 pub mod LexingLaws
 pub mod LineLemmas
-pub mod LiteralLemmas
 pub mod RuleLemmas
 pub mod SameLemmas
 pub mod WordLemmas

@@ -1,7 +1,6 @@
 pub mod Action
 pub mod Definitions
 pub mod Faults
-pub mod Gap
 pub mod Laws
 pub mod LexText
 pub mod Lexing

@@ -1,6 +1,7 @@
 ghost use Rattle.std.specs.Prelude.{◌≡◌, ◌≢◌, ◌∷◌, [], codes, IfOk, MatchBool, MatchOption};
 ghost use Rattle.ly_lexread.specs.Action.{meaning_of, IsAction, Meaning, Says};
-ghost use Rattle.ly_lexread.specs.Gap.{Gap};
+ghost use Rattle.ly_base.specs.Gap.{Gap};
+ghost use Rattle.ly_base.specs.declared.language.Language.TheVariants.{Lex};
 ghost use Rattle.ly_lexread.specs.Private.Action.{value_meaning, Returns};
 ghost use Rattle.ly_lexread.specs.Words.{semicolon, Wording};
 ghost use Rattle.ly_lexread.specs.declared.action.Action.{Action};
@@ -122,7 +123,7 @@ fn is_semicolon(text: &[u8]) -> bool
 
 /// Whether nothing but blanks and comments is left.
 fn is_end(text: &[u8]) -> bool
-    ensures { MatchBool result (Gap text.now) (Gap text.now → ⊥) }
+    ensures { MatchBool result (Gap Lex text.now) (Gap Lex text.now → ⊥) }
 {
     let (word, _rest) = next_word(text);
     matches!(word, NextWord::End)

@@ -11,7 +11,6 @@
 mod action;
 mod fault;
 mod file;
-mod gap;
 mod laws;
 mod lines;
 mod read;

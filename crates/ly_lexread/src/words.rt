@@ -1,10 +1,6 @@
-ghost use Rattle.std.specs.Prelude.{◌≡◌, ◌≤◌, length};
-ghost use Rattle.std.specs.List.{prefix_len};
-ghost use Rattle.ly_lexread.specs.Private.Words.{IsFront, name_length};
-ghost use Rattle.ly_lexread.specs.Words.{continues_name, starts_name};
+ghost use Rattle.ly_lexread.specs.Private.Words.{IsFront};
 
-use crate::gap::after_gap;
-use ly_base::literal;
+use ly_base::{Language, after_gap, leading_name, literal};
 
 /// What stands at the front of an action.
 #[derive(Clone, Copy)]
@@ -25,13 +21,11 @@ pub(crate) enum NextWord<'t> {
 pub(crate) fn next_word(text: &[u8]) -> (NextWord<'_>, &[u8])
     ensures { IsFront text.now result.0 result.1.now }
 {
-    let text = after_gap(text);
+    let text = after_gap(text, Language::Lex);
     if let Some((byte, length)) = literal(text) {
         return (NextWord::Byte(byte), &text[length..]);
     }
-    let length = name_length(text);
-    if length > 0 {
-        let (name, rest) = text.split_at(length);
+    if let Some((name, rest)) = leading_name(text, Language::Lex) {
         return (NextWord::Name(name), rest);
     }
     match text.strip_prefix(b";") {
@@ -39,38 +33,4 @@ pub(crate) fn next_word(text: &[u8]) -> (NextWord<'_>, &[u8])
         None if text.is_empty() => (NextWord::End, text),
         None => (NextWord::Other, text),
     }
-}
-
-/// How many bytes the name at the front takes: a letter or `_`, then letters, digits and `_`.
-fn name_length(text: &[u8]) -> usize
-    ensures within { result ≤ length text.now }
-    ensures value { result ≡ name_length text.now }
-{
-    match text.first() {
-        Some(first) if starts_name(*first) => continued_length(text),
-        _ => 0,
-    }
-}
-
-/// How many letters, digits and `_` there are at the front.
-fn continued_length(text: &[u8]) -> usize
-    ensures { result ≡ prefix_len continues_name text.now }
-{
-    text.iter()
-        .position(|byte| !continues_name(*byte))
-        .unwrap_or(text.len())
-}
-
-/// Whether the byte is a letter or `_`.
-fn starts_name(byte: u8) -> bool
-    ensures { result ≡ starts_name byte }
-{
-    matches!(byte, b'a'..=b'z' | b'A'..=b'Z' | b'_')
-}
-
-/// Whether the byte is a letter, a digit or `_`.
-fn continues_name(byte: u8) -> bool
-    ensures { result ≡ continues_name byte }
-{
-    starts_name(byte) || byte.is_ascii_digit()
 }

@@ -1,9 +1,8 @@
 //! From the bytes of a yacc file to its words, and from the words of a declaration to its symbols.
 //!
 //! `next_word` (private) reads the word behind the gap at the front of a text, and says that there is none exactly
-//! where
-//! there is none; which word it is, is determined. Over it stand the readers of one mark, one name, one symbol, a tag
-//! and the list of a token declaration, each exact in both directions. `YaccFault` says why a file is refused.
+//! where there is none; which word it is, is determined. Over it stand the readers of one mark, one name, one symbol,
+//! a tag and the list of a token declaration, each exact in both directions. `YaccFault` says why a file is refused.
 //!
 //! Left out so far: `read_yacc` itself, that is whole declarations, rules, bodies and actions.
 #![tactic(auto)]

@@ -1,5 +1,5 @@
 use Rattle.ly_lexread.specs.Action.{meaning_of}
-use Rattle.ly_lexread.proofs.FrontLemmas.{at_none}
+use Rattle.ly_base.proofs.GapLemmas.{at_none}
 use Rattle.ly_lexread.proofs.action.read_action.Goals as goal
 
 pub returns-in_default : goal.returns-in_default

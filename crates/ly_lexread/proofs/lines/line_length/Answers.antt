@@ -3,7 +3,7 @@ use Rattle.std.specs.Option.{unwrap_or}
 use Rattle.std.specs.List.{position}
 use Rattle.std.proofs.lemmas.Iterator.{YieldsList-from_slice}
 use Rattle.std.proofs.lemmas.Iterator.Search.{position_from_yields_List}
-use Rattle.ly_lexread.proofs.FrontLemmas.{unwrap_or-position}
+use Rattle.ly_base.proofs.NameLemmas.{unwrap_or-position}
 use Rattle.ly_lexread.proofs.lines.line_length.Goals as goal
 
 pub returns-clause-value : goal.returns-clause-value

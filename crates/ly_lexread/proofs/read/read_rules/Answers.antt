@@ -3,7 +3,7 @@ use Rattle.std.proofs.lemmas.Result.{err_from_is_err_and}
 use Rattle.ly_lexread.specs.Rules.{AreLight}
 use Rattle.ly_lexread.specs.Private.Lines.{lines_left}
 use Rattle.ly_lexread.proofs.AnswerLemmas.{answer_ok, answer_up}
-use Rattle.ly_lexread.proofs.FrontLemmas.{at_none}
+use Rattle.ly_base.proofs.GapLemmas.{at_none}
 use Rattle.ly_lexread.proofs.RuleLemmas.{heavy_behind, heavy_here, in_front, light_push, rule_on, rules_behind}
 use Rattle.ly_lexread.proofs.RuleLemmas.{rules_end, rules_on, rules_over, rules_push, rules_whole}
 use Rattle.ly_lexread.proofs.read.read_rules.Goals as goal

@@ -1,5 +1,0 @@
-use Rattle.std.proofs.Common.{◌≡◌, ◌∷◌, ◌++◌, ◌≤◌, List, ℕ, length}
-use Rattle.ly_lexread.proofs.gap.after_comment.Given as goal
-
-abbrev pub invariant-loop-at : goal.invariant-loop-at
-invariant-loop-at l = (a b : List ℕ) → l.inside ≡ a ++ 42 ∷ 47 ∷ b → l.at ≤ length a
