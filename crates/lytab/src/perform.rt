@@ -55,7 +55,8 @@ pub fn perform<F: Files, I: Read, O: Write, E: Write>(
     ensures status { result ≤ 4 }
     ensures words { line_takes (map string_bytes words.now) ≡ true → IsSome (tokens_of (map string_bytes words.now))
         → result ≤ 3 }
-    ensures taken { (lex : Text) (text : Option Text) → AskForTokens (map string_bytes words.now) lex text → result ≤ 3 }
+    ensures taken { (lex : Text) (text : Option Text) → AskForTokens (map string_bytes words.now) lex text
+        → result ≤ 3 }
 {
     match command(alloc, words) {
         Ok(Command::Tokens { lex, text }) => {
