@@ -4,8 +4,6 @@
 mod command;
 mod command_line;
 mod perform;
-#[cfg(test)]
-mod tests;
 
 use std::env;
 use std::process::ExitCode;
