@@ -15,3 +15,4 @@ pub mod Place
 pub mod Private
 pub mod SparseSet
 pub mod Text
+pub mod Trees

@@ -1,0 +1,57 @@
+-- Grammars over numbered symbols, with a rule for the whole text (Knuth 1965).
+use Rattle.std.specs.Prelude.{◌≡◌, ◌≢◌, ℕ, ◌<◌, ◌≤◌, List, [], ◌∷◌, map, All, Option, Some, slice_get}
+use Rattle.ly_join.specs.declared.symbol.Symbol as code
+use Rattle.ly_join.specs.declared.symbol.Symbol.TheVariants.{Terminal, Nonterminal}
+
+-- A terminal or a nonterminal, by its number. Terminal 0 is the end of the text.
+pub data Symbol : Type 0 where
+  terminal : ℕ → Symbol
+  nonterminal : ℕ → Symbol
+
+-- A rule: the nonterminal on its left side may be replaced by its body.
+pub record Rule : Type 0 where
+  pub left : ℕ
+  pub body : List Symbol
+
+-- Rules by number, where a removed rule keeps its number; how many terminals there are; the nonterminal of the whole
+-- text, whose number is greater than any other's; and that of the sentences.
+pub record Grammar : Type 0 where
+  pub terminals : ℕ
+  pub accept : ℕ
+  pub start : ℕ
+  pub rules : List (Option Rule)
+
+-- rule p of the grammar is r
+abbrev pub IsRule : Grammar → ℕ → Rule → Type 0
+IsRule G p r = slice_get G.rules p ≡ Some (Some r)
+
+-- the rule of the whole text: the start symbol, and the end
+abbrev pub accept_rule : ℕ → ℕ → Rule
+accept_rule accept start = record { left = accept; body = nonterminal start ∷ terminal 0 ∷ [] }
+
+-- a symbol that rules may name: not the end, and not the whole text
+abbrev pub SymbolWithin : ℕ → ℕ → Symbol → Type 0
+SymbolWithin terminals accept (terminal t) = (0 < t) × (t < terminals)
+SymbolWithin terminals accept (nonterminal A) = A < accept
+
+-- all symbols of a rule are such
+pub record RuleWithin (terminals accept : ℕ) (r : Rule) : Type 0 where
+  pub left : r.left < accept
+  pub body : All (SymbolWithin terminals accept) r.body
+
+-- Rule 0 is that of the whole text, and no other rule has the whole text or the end in it.
+pub record IsGrammar (G : Grammar) : Type 0 where
+  pub end_within : 0 < G.terminals
+  pub start_within : G.start < G.accept
+  pub rule_0 : IsRule G 0 (accept_rule G.accept G.start)
+  pub within : (p : ℕ) (r : Rule) → IsRule G p r → 1 ≤ p → RuleWithin G.terminals G.accept r
+
+-- a symbol as it is kept
+abbrev pub symbol_of : code.Symbol → Symbol
+symbol_of (Terminal t) = terminal t.0
+symbol_of (Nonterminal A) = nonterminal A.0
+
+-- the grammar of rules none of which is removed
+abbrev pub grammar_from : ℕ → ℕ → ℕ → List Rule → Grammar
+grammar_from terminals accept start rules
+    = record { terminals = terminals; accept = accept; start = start; rules = map Some rules }
