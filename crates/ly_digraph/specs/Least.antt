@@ -18,7 +18,7 @@ pub record IsLeast (g : Digraph) (given sets : List NumberSet) : Type 0 where
   pub grows : GrowsAlong g sets
   pub least : (other : List NumberSet) → Holds given other → GrowsAlong g other → Holds sets other
 
--- a step towards them: nothing is lost, and what came to a row was in a row that it reaches
+-- nothing is lost, and what came to a row was in a row that it reaches
 pub record IsBetween (g : Digraph) (old new : List NumberSet) : Type 0 where
   pub kept : Holds old new
   pub reached : (i n : ℕ) → Member (row new i) n → (j : ℕ) × Reaches g i j × Member (row old j) n

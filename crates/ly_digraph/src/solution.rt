@@ -10,7 +10,7 @@
 //! Left out: the paper's recursion, for which there is a stack of frames, and its graphs of
 //! transitions. The nodes here are numbers.
 ghost use Rattle.std.specs.Prelude.{◌≡◌, ◌≤◌, ◌+◌, length, OnOk};
-ghost use Rattle.ly_digraph.specs.Least.{IsLeast};
+ghost use Rattle.ly_digraph.specs.Least.{IsBetween, IsLeast};
 
 use crate::graph::Graph;
 use crate::walk::Walk;
@@ -19,14 +19,15 @@ use ly_sets::SetMatrix;
 use std::alloc::Global;
 
 /// Makes the rows the least sets that hold the given ones and grow along the graph: where there is
-/// an edge `i -> j`, row `i` holds row `j`. Rows past the nodes stay. `changes` of the matrix rises
-/// by at most the number of edges and nodes.
+/// an edge `i -> j`, row `i` holds row `j`. What comes to a row was in a row that it reaches. Rows past
+/// the nodes stay. `changes` of the matrix rises by at most the number of edges and nodes.
 ///
 /// `OutOfMemory` comes where the room for the walk was refused. After it nothing is known of the
 /// matrix, which may be dropped.
 pub fn least(alloc: Global, graph: &Graph, sets: &mut SetMatrix) -> Result<(), OutOfMemory>
     requires { graph.now.nodes ≤ length sets.old.sets }
     ensures least { OnOk result (IsLeast graph.now sets.old.sets sets.new.sets) }
+    ensures reached { OnOk result (IsBetween graph.now sets.old.sets sets.new.sets) }
     ensures changes { OnOk result (sets.new.changes ≤
         sets.old.changes + (length graph.now.edges + graph.now.nodes)) }
     ensures rows { OnOk result (length sets.new.sets ≡ length sets.old.sets) }

@@ -34,3 +34,6 @@ returns-clause-least c =
     least_of c.loop-root.invariant.on.at over (λ x lt. c.loop-root.invariant.seen x (omega arith))
     (subst (λ n. All (IsInside n) c.args.graph.now.edges) nodes c.nodes-root-end.ensures.inside)
     c.args.sets.now.sets c.loop-root.invariant.on.between
+
+pub returns-clause-reached : goal.returns-clause-reached
+returns-clause-reached c = c.loop-root.invariant.on.between
