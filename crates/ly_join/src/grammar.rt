@@ -1,5 +1,5 @@
 ghost use Rattle.std.specs.Prelude.{◌≡◌, ◌<◌, ◌+◌, ◌^◌, ◌≤◌, [], ◌∷◌, length, map, All, IfOk, Some};
-ghost use Rattle.ly_join.specs.Grammar.{accept_rule, grammar_from, symbol_of, IsGrammar, RuleWithin};
+ghost use Rattle.ly_join.specs.Grammar.{accept_rule, grammar_from, symbol_of, IsGrammar, IsRule, RuleWithin};
 
 use crate::symbol::Symbol;
 use ly_base::{OutOfMemory, Sym};
@@ -119,6 +119,14 @@ impl Grammar {
         ensures { result.0 ≡ self.now.start }
     {
         self.start
+    }
+
+    /// The rule of a number.
+    pub fn rule(&self, number: usize) -> &GrammarRule
+        requires { number < length self.now.rules }
+        ensures { IsRule self.now number result.now }
+    {
+        &self.rules[number]
     }
 
     /// The rules by number, rule 0 among them. All symbols are those of the grammar.

@@ -1,0 +1,3 @@
+pub mod Derivations
+pub mod Private
+pub mod Reduction

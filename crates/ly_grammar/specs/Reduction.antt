@@ -1,0 +1,40 @@
+-- A grammar with its useless rules removed, and what its nonterminals derive.
+use Rattle.std.specs.Prelude.{◌≡◌, ◌↔◌, ℕ, ◌<◌, ◌≤◌, List, [], ◌∷◌, ◌⊎◌, Bool, true, false, Option, None, slice_index_or}
+use Rattle.std.specs.Prelude.{length, IsTrue}
+use Rattle.ly_sets.specs.NumberSet.{NumberSet, Member}
+use Rattle.ly_sets.specs.SetMatrix.{row}
+use Rattle.ly_join.specs.Grammar.{Grammar, Rule, IsRule, Symbol, nonterminal}
+use Rattle.ly_grammar.specs.Derivations.{Begins, IsNullable, IsReduced, IsUseful}
+
+-- the rules whose number is marked; the others are removed
+abbrev pub marked : List Bool → List (Option Rule) → List (Option Rule)
+marked [] rules = []
+marked (k ∷ kept) [] = []
+marked (true ∷ kept) (r ∷ rules) = r ∷ marked kept rules
+marked (false ∷ kept) (r ∷ rules) = None ∷ marked kept rules
+
+-- the grammar of the rules that are marked
+abbrev pub restricted : List Bool → Grammar → Grammar
+restricted kept G = record G { rules = marked kept G.rules }
+
+-- A reduced grammar, for each nonterminal whether it is nullable, and which terminals may begin what it derives.
+pub record Reduction : Type 0 where
+  pub grammar : Grammar
+  pub nullable : List Bool
+  pub first : List NumberSet
+
+-- the second grammar has the useful rules of the first under their numbers, and rule 0, and no other
+pub record KeepsUseful (G R : Grammar) : Type 0 where
+  pub terminals : R.terminals ≡ G.terminals
+  pub accept : R.accept ≡ G.accept
+  pub start : R.start ≡ G.start
+  pub numbers : length R.rules ≡ length G.rules
+  pub rules : (p : ℕ) (r : Rule) → IsRule R p r ↔ (IsRule G p r × ((p ≡ 0) ⊎ IsUseful G p))
+
+-- The grammar is reduced, and its nonterminals derive what the reduction says.
+pub record IsReduction (G : Grammar) (r : Reduction) : Type 0 where
+  pub keeps : KeepsUseful G r.grammar
+  pub reduced : IsReduced r.grammar
+  pub nullable : (A : ℕ) → A ≤ G.accept → IsTrue (slice_index_or r.nullable A false)
+      ↔ IsNullable r.grammar (nonterminal A ∷ [])
+  pub first : (A t : ℕ) → A ≤ G.accept → Member (row r.first A) t ↔ Begins r.grammar (nonterminal A ∷ []) t

@@ -1,0 +1,174 @@
+//! The search for the nonterminals that have trees, with or without tokens, in time linear in the grammar: each rule is
+//! looked at once, and once more whenever the nonterminal that it waits for is found (Dowling and Gallier 1984).
+ghost use Rattle.std.specs.Prelude.{◌≡◌, ◌≢◌, ◌<◌, ◌≤◌, ◌+◌, ◌↔◌, ◌++◌, ℕ, [], ◌∷◌, length, take, false, true, replicate};
+ghost use Rattle.std.specs.Prelude.{slice_index_or, slice_get, map, All, IfOk, OnOk, Some, option_map};
+ghost use Rattle.ly_join.specs.Grammar.{IsRule, nonterminal, symbol_of};
+ghost use Rattle.ly_join.specs.Grammar as join;
+ghost use Rattle.ly_grammar.specs.Reduction.{restricted};
+ghost use Rattle.ly_grammar.specs.Private.Search.{passes, waits_for, with_found, with_passed, with_waiting};
+ghost use Rattle.ly_grammar.specs.Private.Search.{Advances, AllPass, HasPassed, HasPlaces, HasTree, IsNumbered};
+ghost use Rattle.ly_grammar.specs.Private.Search.{IsNext, IsSearch};
+
+use crate::waiting::Waiting;
+use ly_join::{Grammar, GrammarRule, Symbol};
+use std::alloc::{AllocError, Global};
+use std::marker::Model;
+
+/// A search under way.
+#[derive(Drop)]
+struct Search {
+    /// Whether terminals may stand in trees.
+    terminals: bool,
+    /// For each nonterminal whether it was found to have a tree.
+    found: Vec<bool>,
+    /// For each rule how many symbols from the front of its body pass.
+    passed: Vec<usize>,
+    /// The rules that wait for the symbol behind those.
+    waiting: Waiting,
+    /// The nonterminals that were found and whose waiting rules are still to be looked at.
+    queue: Vec<usize>,
+}
+
+impl Model for Search {
+    ghost use Rattle.ly_grammar.specs.Private.Search.{Progress};
+
+    ghost Value = { Progress };
+
+    ghost view = { λ s. record {
+      terminals = s.terminals;
+      found = s.found.items;
+      passed = s.passed.items;
+      waiting = s.waiting;
+      queue = s.queue.items;
+    } };
+}
+
+/// For each nonterminal whether it has a tree by the rules that are kept: any tree, or, where terminals aren't allowed,
+/// one without tokens.
+pub(crate) fn with_trees(
+    alloc: Global,
+    grammar: &Grammar,
+    kept: &[bool],
+    terminals: bool,
+) -> Result<Vec<bool>, AllocError>
+    requires { length kept.now ≡ length grammar.now.rules }
+    ensures long { IfOk result (λ found. length found.items ≡ grammar.now.accept + 1) }
+    ensures exact { IfOk result (λ found. (A : ℕ) → (slice_index_or found.items A false ≡ true)
+        ↔ HasTree (restricted kept.now grammar.now) terminals (nonterminal A)) }
+{
+    let mut search = Search::new(alloc, grammar, terminals)?;
+    for number in 0..grammar.rules().len() {
+        if kept[number] {
+            search.advance(grammar.rule(number), number)?;
+        }
+    }
+    while let Some(waiting) = search.next(alloc) {
+        for &number in &waiting {
+            search.advance(grammar.rule(number), number)?;
+        }
+    }
+    Ok(search.found)
+}
+
+impl Search {
+    /// A search that has found nothing.
+    fn new(alloc: Global, grammar: &Grammar, terminals: bool) -> Result<Search, AllocError>
+        ensures { IfOk result (λ s. s ≡ record {
+          terminals = terminals;
+          found = replicate (grammar.now.accept + 1) false;
+          passed = replicate (length grammar.now.rules) 0;
+          waiting = replicate (grammar.now.accept + 1) [];
+          queue = [];
+        }) }
+    {
+        let nonterminals = grammar.accept().0 as usize + 1;
+        Ok(Search {
+            terminals,
+            found: vec![in alloc; false; nonterminals]?,
+            passed: vec![in alloc; 0; grammar.rules().len()]?,
+            waiting: Waiting::new(alloc, nonterminals)?,
+            queue: Vec::new(alloc),
+        })
+    }
+
+    /// Takes a nonterminal that was found, whose rules are then to be looked at, and those rules.
+    fn next(&mut self, alloc: Global) -> Option<Vec<usize>>
+        requires { All (λ A. A < length self.old.waiting) self.old.queue }
+        ensures { IsNext self.old self.new (option_map (λ rules. rules.items) result) }
+    {
+        let nonterminal = self.queue.pop()?;
+        Some(self.waiting.take(alloc, nonterminal))
+    }
+
+    /// Passes what can be passed of a rule's body. At its end the left side is found, or else the rule waits.
+    fn advance(&mut self, rule: &GrammarRule, number: usize) -> Result<(), AllocError>
+        requires { HasPlaces self.old number rule.now }
+        ensures { OnOk result ((G : join.Grammar) → IsSearch G self.old → IsRule G number rule.now
+            → Advances G self.old self.new number rule.now) }
+    {
+        match self.pass(rule, number) {
+            None => self.find(rule.left().0 as usize),
+            Some(Symbol::Nonterminal(symbol)) => self.wait(symbol.0 as usize, number),
+            Some(Symbol::Terminal(_)) => Ok(()),
+        }
+    }
+
+    /// Passes what can be passed of a rule's body, and answers the symbol that stands in the way, if one does.
+    fn pass(&mut self, rule: &GrammarRule, number: usize) -> Option<Symbol>
+        requires { HasPlaces self.old number rule.now }
+        ensures { HasPassed self.old self.new number rule.now result }
+    {
+        let body = rule.body();
+        let at = passing_until(body, self.passed[number], &self.found, self.terminals);
+        self.passed[number] = at;
+        body.get(at).copied()
+    }
+
+    /// Puts a nonterminal among those that were found.
+    fn find(&mut self, nonterminal: usize) -> Result<(), AllocError>
+        requires { nonterminal < length self.old.found }
+        ensures { OnOk result (self.new ≡ with_found self.old nonterminal) }
+    {
+        if !self.found[nonterminal] {
+            self.queue.push(nonterminal)?;
+            self.found[nonterminal] = true;
+        }
+        Ok(())
+    }
+
+    /// Has a rule wait for a nonterminal.
+    fn wait(&mut self, nonterminal: usize, number: usize) -> Result<(), AllocError>
+        requires { nonterminal < length self.old.waiting }
+        ensures { OnOk result (self.new ≡ with_waiting self.old nonterminal number) }
+    {
+        self.waiting.add(nonterminal, number)
+    }
+}
+
+/// How many symbols from the front of a body pass, where it is known of some.
+fn passing_until(body: &[Symbol], from: usize, found: &[bool], terminals: bool) -> usize
+    requires from { from ≤ length body.now }
+    requires numbered { All (IsNumbered (length found.now)) (map symbol_of body.now) }
+    ensures within { result ≤ length body.now }
+    ensures passing { AllPass found.now terminals (take from (map symbol_of body.now))
+        → AllPass found.now terminals (take result (map symbol_of body.now)) }
+    ensures stops { (X : join.Symbol) → slice_get (map symbol_of body.now) result ≡ Some X
+        → passes found.now terminals X ≡ false }
+{
+    let mut at = from;
+    while at < body.len() && symbol_passes(body[at], found, terminals) {
+        at += 1;
+    }
+    at
+}
+
+/// Whether a symbol passes: a terminal where they are allowed, a nonterminal that was found.
+fn symbol_passes(symbol: Symbol, found: &[bool], terminals: bool) -> bool
+    requires { IsNumbered (length found.now) (symbol_of symbol) }
+    ensures { result ≡ passes found.now terminals (symbol_of symbol) }
+{
+    match symbol {
+        Symbol::Terminal(_) => terminals,
+        Symbol::Nonterminal(symbol) => found[symbol.0 as usize],
+    }
+}
