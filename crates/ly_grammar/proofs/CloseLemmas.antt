@@ -9,10 +9,10 @@ use Rattle.ly_base.specs.Lexed.{Token}
 use Rattle.ly_base.specs.Trees.{Tree, Trees, leaf, node, none, more, yield_of, yields_of}
 use Rattle.ly_join.specs.Grammar.{Grammar, Rule, IsRule, Symbol, terminal, nonterminal}
 use Rattle.ly_grammar.specs.Derivations.{IsTree, AreTrees}
-use Rattle.ly_grammar.specs.Private.Search.{Progress, IsSearch, Advances, AllPass, Settled, IsNext}
+use Rattle.ly_grammar.specs.Private.Search.{Progress, HasTree, HaveTrees, IsSearch, Advances, AllPass, Settled, IsNext}
 use Rattle.ly_grammar.specs.Private.Search.{found, stopped, waiting, to_come}
 use Rattle.ly_grammar.specs.Private.Search.{passes, was_found, waits_for, left_to_do}
-use Rattle.ly_grammar.proofs.SearchLemmas.{rule_is_one, same_or_not}
+use Rattle.ly_grammar.proofs.SearchLemmas.{member_tree, nothing_together, rule_is_one, same_or_not}
 
 -- what the rules that are settled come to where nothing is left to be done: a rule whose body passes has a found left
 pub closed : (s : Progress) (p : ℕ) (r : Rule) → s.queue ≡ [] → Settled s [] p r
@@ -26,11 +26,6 @@ closed s p r empty is all = elim is [
   ]
   | to_come m ↦ Contains-none p m
 ]
-
--- lists that are nothing together are nothing
-pub nothing_together : {X : Type 0} (xs ys : List X) → xs ++ ys ≡ [] → (xs ≡ []) × (ys ≡ [])
-nothing_together [] ys e = (refl, e)
-nothing_together (x ∷ xs) ys e = absurd (cc)
 
 module _ (G : Grammar) (s : Progress)
     (close : (p : ℕ) (r : Rule) → IsRule G p r → AllPass s.found s.terminals r.body → was_found s r.left ≡ true) where
@@ -164,3 +159,11 @@ settled_past G s n is never = record {
     | inr above ↦ let same : p ≡ n = omega (arith, lt, above) in absurd (never r (subst (λ k. IsRule G k r) same rule))
   ];
 }
+
+-- symbols that have trees pass, where what has one was found
+pub found_passes : (G : Grammar) (marks : List Bool) (w : List Symbol)
+    → ((A : ℕ) → HasTree G true (nonterminal A) → slice_index_or marks A false ≡ true) → HaveTrees G true w
+    → AllPass marks true w
+found_passes G marks w complete trees (terminal t) member = refl
+found_passes G marks w complete trees (nonterminal A) member
+    = complete A (member_tree G true w (nonterminal A) trees member)

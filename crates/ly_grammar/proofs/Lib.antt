@@ -1,6 +1,9 @@
-pub mod PassLemmas
-pub mod SearchLemmas
 pub mod AdvanceLemmas
-pub mod MarkedLemmas
 pub mod CloseLemmas
+pub mod MarkedLemmas
+pub mod MarksLemmas
+pub mod PassLemmas
+pub mod ReachLemmas
+pub mod SearchLemmas
 pub mod StartLemmas
+pub mod UsefulLemmas

@@ -1,6 +1,6 @@
 -- Rules that are marked.
 use Rattle.std.proofs.Common.{◌≡◌, ◌<◌, ◌≤◌, ◌+◌, ◌∙◌, ℕ, zero, suc, List, [], ◌∷◌, Bool, true, false, sym, ap, subst, arith}
-use Rattle.std.proofs.Common.{length, map, All, slice_get, slice_index_or, Some, None, Option, option_map, refl}
+use Rattle.std.proofs.Common.{length, map, All, slice_get, slice_index_or, Some, None, Option, option_map, replicate, refl}
 use Rattle.std.proofs.lemmas.Option.{slice_get-map, slice_get-get_or}
 use Rattle.std.proofs.lemmas.List.Elements.{All-cons, All-nil, All-weaker}
 use Rattle.ly_join.specs.Grammar.{Grammar, Rule, IsRule, IsGrammar, Symbol, SymbolWithin, terminal, nonterminal}
@@ -65,3 +65,20 @@ rule_numbered G zero r is rule = subst (RuleNumbered (G.accept + 1))
 rule_numbered G (suc p) r is rule =
     let within = is.within (suc p) r rule (omega arith) in
     record { left = (let lt = within.left in omega (arith, lt)); body = numbered G r.body within.body }
+
+-- where all are marked nothing is removed
+pub marked_all : (rules : List (Option Rule)) → marked (replicate (length rules) true) rules ≡ rules
+marked_all [] = refl
+marked_all (r ∷ rules) = ap (λ rs. r ∷ rs) (marked_all rules)
+
+-- one that is not marked is removed
+pub at_dropped : (kept : List Bool) (rules : List (Option Rule)) (p : ℕ) → p < length rules
+    → length kept ≡ length rules → slice_index_or kept p false ≡ false → slice_get (marked kept rules) p ≡ Some None
+at_dropped kept [] p lt long off = absurd (omega (arith, lt))
+at_dropped [] (x ∷ rules) p lt long off = absurd (omega (arith, long))
+at_dropped (true ∷ kept) (x ∷ rules) zero lt long off = absurd (cc)
+at_dropped (false ∷ kept) (x ∷ rules) zero lt long off = refl
+at_dropped (true ∷ kept) (x ∷ rules) (suc p) lt long off
+    = at_dropped kept rules p (omega (arith, lt)) (omega (arith, long)) off
+at_dropped (false ∷ kept) (x ∷ rules) (suc p) lt long off
+    = at_dropped kept rules p (omega (arith, lt)) (omega (arith, long)) off

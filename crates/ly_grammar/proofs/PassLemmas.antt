@@ -1,16 +1,17 @@
 -- Symbols that pass.
 use Rattle.std.proofs.Common.{◌≡◌, ◌<◌, ◌≤◌, ◌+◌, ◌∙◌, ◌⊎◌, ℕ, zero, suc, List, [], ◌∷◌, ◌++◌, Bool, true, false, sym, ap}
 use Rattle.std.proofs.Common.{subst, arith, inl, inr, refl, take, length, map, All, Contains, slice_index_or, slice_get}
-use Rattle.std.proofs.Common.{slice_set, Some, add-one}
+use Rattle.std.proofs.Common.{slice_set, Some, add-one, ◌↔◌}
 use Rattle.std.proofs.Math.Seq.{take-suc}
 use Rattle.std.proofs.Math.ListN.{get_or-map}
 use Rattle.std.proofs.lemmas.Bool.{cases_lt}
-use Rattle.std.proofs.lemmas.List.{get_or-set_same, get_or-set_other}
-use Rattle.std.proofs.lemmas.List.Elements.{Contains-append_cases}
-use Rattle.std.proofs.lemmas.Option.{get_or_from_slice_get}
+use Rattle.std.proofs.lemmas.List.{get_or-set_same, get_or-set_other, length-map, take_all}
+use Rattle.std.proofs.lemmas.List.Elements.{Contains-append_cases, Contains-get_or}
+use Rattle.std.proofs.lemmas.Option.{slice_get-get_or}
 use Rattle.ly_base.proofs.MemberLemmas.{Contains-one}
-use Rattle.ly_join.specs.Grammar.{Symbol, terminal, nonterminal}
-use Rattle.ly_grammar.specs.Private.Search.{AllPass, passes}
+use Rattle.ly_join.specs.Grammar.{Symbol, symbol_of, terminal, nonterminal}
+use Rattle.ly_join.specs.declared.symbol.Symbol as code
+use Rattle.ly_grammar.specs.Private.Search.{AllPass, IsNumbered, passes}
 
 -- one symbol more passes
 pub pass_more : (found : List Bool) (allowed : Bool) (w : List Symbol) (at : ℕ) (d : Symbol) → at < length w
@@ -50,3 +51,28 @@ stay_found found A lt B e = elim (cases_lt A B) [
         subst (λ C. slice_index_or (slice_set found A true) C false ≡ true) same (found_now found A lt)
   ]
 ]
+
+-- all of a string passes exactly where what passes of it ends with it
+pub passes_to_end : (found : List Bool) (allowed : Bool) (w : List Symbol) (at : ℕ) → at ≤ length w
+    → AllPass found allowed (take at w)
+    → ((X : Symbol) → slice_get w at ≡ Some X → passes found allowed X ≡ false)
+    → (at ≡ length w) ↔ AllPass found allowed w
+passes_to_end found allowed w at le passing stops = (to, back) where
+  to : at ≡ length w → AllPass found allowed w
+  to e = subst (λ v. AllPass found allowed v) (take_all at w (omega (arith, e))) passing
+
+  back : AllPass found allowed w → at ≡ length w
+  back all = elim (cases_lt at (length w)) [
+    | inl below ↦
+        let X : Symbol = slice_index_or w at (terminal 0) in
+        let no : false ≡ true = sym (stops X (slice_get-get_or w at (terminal 0) below))
+            ∙ all X (Contains-get_or w at (terminal 0) below) in
+        absurd (cc)
+    | inr past ↦ omega (arith, le, past)
+  ]
+
+-- a symbol at a place has its own
+pub place_numbered : (n : ℕ) (xs : List code.Symbol) (at : ℕ) (d : code.Symbol) → at < length xs
+    → All (IsNumbered n) (map symbol_of xs) → IsNumbered n (symbol_of (slice_index_or xs at d))
+place_numbered n xs at d lt all = subst (IsNumbered n) (get_or-map symbol_of xs at d)
+    (all at (symbol_of d) (subst (λ k. at < k) (sym (length-map xs symbol_of)) lt))

@@ -6,7 +6,7 @@ use Rattle.std.proofs.lemmas.Bool.{cases_lt}
 use Rattle.std.proofs.lemmas.List.{get_or-set_same, get_or-set_other, length-set, length-append}
 use Rattle.std.proofs.lemmas.List.Elements.{Contains-append_cases, Contains-append_left, Contains-append_right}
 use Rattle.std.proofs.lemmas.Option.{slice_get_within, get_or_from_slice_get}
-use Rattle.ly_base.proofs.MemberLemmas.{Contains-none, Contains-first, Contains-later, Contains-one}
+use Rattle.ly_base.proofs.MemberLemmas.{Contains-none, Contains-first, Contains-later, Contains-one, Contains-cons_cases}
 use Rattle.ly_base.specs.Trees.{leaf, node, none, more, yield_of, yields_of}
 use Rattle.ly_join.specs.Grammar.{Grammar, Rule, IsRule, Symbol, terminal, nonterminal}
 use Rattle.ly_grammar.specs.Derivations.{IsTree, AreTrees}
@@ -22,23 +22,40 @@ same_or_not i j = elim (cases_lt i j) [
   | inr above ↦ elim (cases_lt j i) [ inl less ↦ inr (λ e. omega (arith, e, less)) | inr equal ↦ inl (omega arith) ]
 ]
 
+-- lists that are nothing together are nothing
+pub nothing_together : {X : Type 0} (xs ys : List X) → xs ++ ys ≡ [] → (xs ≡ []) × (ys ≡ [])
+nothing_together [] ys e = (refl, e)
+nothing_together (x ∷ xs) ys e = absurd (cc)
+
 -- a number has one rule
 pub rule_is_one : (G : Grammar) (p : ℕ) (r q : Rule) → IsRule G p r → IsRule G p q → r ≡ q
 rule_is_one G p r q a b = let e : Some (Some r) ≡ Some (Some q) = sym a ∙ b in cc
 
--- symbols that pass have trees
-pub body_trees : (G : Grammar) (s : Progress) (w : List Symbol) → IsSearch G s → AllPass s.found s.terminals w
-    → HaveTrees G s.terminals w
-body_trees G s [] is all = (none, tt, λ _. refl)
-body_trees G s (terminal t ∷ w) is all =
-    let rest = body_trees G s w is (λ X m. all X (Contains-later (terminal t) w X m)) in
-    let allowed = all (terminal t) (Contains-first (terminal t) w) in
+-- symbols that pass have trees, where what was found has
+pub body_trees : (G : Grammar) (marks : List Bool) (allowed : Bool) (w : List Symbol)
+    → ((A : ℕ) → slice_index_or marks A false ≡ true → HasTree G allowed (nonterminal A)) → AllPass marks allowed w
+    → HaveTrees G allowed w
+body_trees G marks allowed [] sound all = (none, tt, λ _. refl)
+body_trees G marks allowed (terminal t ∷ w) sound all =
+    let rest = body_trees G marks allowed w sound (λ X m. all X (Contains-later (terminal t) w X m)) in
+    let is = all (terminal t) (Contains-first (terminal t) w) in
     (more (leaf (record { terminal = t; at = 0; bytes = [] })) rest.0, (refl, rest.1), λ e. cc)
-body_trees G s (nonterminal A ∷ w) is all =
-    let rest = body_trees G s w is (λ X m. all X (Contains-later (nonterminal A) w X m)) in
-    let first = is.sound A (all (nonterminal A) (Contains-first (nonterminal A) w)) in
+body_trees G marks allowed (nonterminal A ∷ w) sound all =
+    let rest = body_trees G marks allowed w sound (λ X m. all X (Contains-later (nonterminal A) w X m)) in
+    let first = sound A (all (nonterminal A) (Contains-first (nonterminal A) w)) in
     (more first.0 rest.0, (first.1, rest.1),
         λ e. ap (λ ys. ys ++ yields_of rest.0) (first.2 e) ∙ rest.2 e)
+
+-- and each symbol of a string that has trees has one
+pub member_tree : (G : Grammar) (allowed : Bool) (w : List Symbol) (X : Symbol) → HaveTrees G allowed w → Contains w X
+    → HasTree G allowed X
+member_tree G allowed [] X trees member = Contains-none X member
+member_tree G allowed (Y ∷ w) X (none, are, empty) member = absurd are
+member_tree G allowed (Y ∷ w) X (more t ts, are, empty) member = elim (Contains-cons_cases Y w X member) [
+  | inl same ↦ subst (HasTree G allowed) same (t, are.0, λ e. (nothing_together (yield_of t) (yields_of ts) (empty e)).0)
+  | inr later ↦ member_tree G allowed w X
+      (ts, are.1, λ e. (nothing_together (yield_of t) (yields_of ts) (empty e)).1) later
+]
 
 -- and so has the left side of a rule whose body has
 pub rule_tree : (G : Grammar) (allowed : Bool) (p : ℕ) (r : Rule) → IsRule G p r → HaveTrees G allowed r.body

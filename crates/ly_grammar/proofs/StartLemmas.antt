@@ -11,7 +11,7 @@ use Rattle.ly_grammar.specs.Private.Search.{Progress, IsSearch, HasPlaces, RuleN
 use Rattle.ly_grammar.proofs.MarkedLemmas.{at_marked, marked_at, rule_numbered}
 
 -- a list of one value has it everywhere
-default_everywhere : {X : Type 0} (n i : ℕ) (d : X) → slice_index_or (replicate n d) i d ≡ d
+pub default_everywhere : {X : Type 0} (n i : ℕ) (d : X) → slice_index_or (replicate n d) i d ≡ d
 default_everywhere n i d = elim (cases_lt i n) [
   | inl below ↦ get_or-replicate n i d d below
   | inr past ↦ get_or_past (replicate n d) i d (let e = length-replicate n d in omega (arith, past, e))

@@ -1,3 +1,4 @@
 pub mod Derivations
+pub mod FaultNames
 pub mod Private
 pub mod Reduction

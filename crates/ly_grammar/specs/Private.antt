@@ -1,1 +1,2 @@
+pub mod Reach
 pub mod Search

@@ -8,5 +8,9 @@
 //! Left out: what rules and symbols are called, and precedence.
 #![tactic(auto)]
 
+mod fault;
 mod search;
+mod useful;
 mod waiting;
+
+pub use fault::GrammarFault;

@@ -146,7 +146,7 @@ impl Search {
 }
 
 /// How many symbols from the front of a body pass, where it is known of some.
-fn passing_until(body: &[Symbol], from: usize, found: &[bool], terminals: bool) -> usize
+pub(crate) fn passing_until(body: &[Symbol], from: usize, found: &[bool], terminals: bool) -> usize
     requires from { from ≤ length body.now }
     requires numbered { All (IsNumbered (length found.now)) (map symbol_of body.now) }
     ensures within { result ≤ length body.now }

@@ -116,7 +116,8 @@ impl Grammar {
 
     /// The nonterminal whose strings are the sentences.
     pub fn start(&self) -> Sym
-        ensures { result.0 ≡ self.now.start }
+        ensures value { result.0 ≡ self.now.start }
+        ensures within { result.0 < self.now.accept }
     {
         self.start
     }
@@ -124,7 +125,8 @@ impl Grammar {
     /// The rule of a number.
     pub fn rule(&self, number: usize) -> &GrammarRule
         requires { number < length self.now.rules }
-        ensures { IsRule self.now number result.now }
+        ensures there { IsRule self.now number result.now }
+        ensures lawful { IsGrammar self.now }
     {
         &self.rules[number]
     }

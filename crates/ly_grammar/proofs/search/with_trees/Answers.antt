@@ -43,7 +43,7 @@ advance-requires c =
     let p = c.loop-number.number in
     let r : Rule = c.rule.result.now in
     places_of G kept c.loop-number.search p r c.rules-number-end.ensures.lawful c.loop-number.invariant.search
-    (at_marked kept G.rules p r c.rule.ensures c.if-kept-number.true)
+    (at_marked kept G.rules p r c.rule.ensures.there c.if-kept-number.true)
 
 pub loop-number-preserved : goal.loop-number-preserved
 loop-number-preserved c =
@@ -58,7 +58,7 @@ loop-number-preserved c =
     elim c.if-kept-number.branch [
       | then-kept-number+in_ok-advance w ↦
           let r : Rule = w.rule.result.now in
-          let rule : IsRule R n r = at_marked kept G.rules n r w.rule.ensures w.if-kept-number.true in
+          let rule : IsRule R n r = at_marked kept G.rules n r w.rule.ensures.there w.if-kept-number.true in
           let next : Advances R s w.advance.new.self n r = w.in_ok-advance.ensures R known.search rule in
           let now = settled_to R s w.advance.new.self n r below rule next in
           let both = subst After (sym w.search-is) (now, next.on.terminals ∙ known.terminals) in
@@ -144,7 +144,7 @@ advance-requires-in-loop-number-2 c =
     let p = slice_index_or items at 0 in
     let r : Rule = c.rule-in-loop-number-2.result.now in
     places_of G kept c.loop-number-2.search p r c.rules-number-end.ensures.lawful c.loop-number-2.invariant.search
-    (kept_rule G kept p r c.rule-in-loop-number-2.ensures known)
+    (kept_rule G kept p r c.rule-in-loop-number-2.ensures.there known)
 
 pub loop-number-2-preserved : goal.loop-number-2-preserved
 loop-number-2-preserved c =
@@ -162,7 +162,7 @@ loop-number-2-preserved c =
     let next : Progress = c.advance-in-loop-number-2.new.self in
     let was = c.loop-number-2.invariant in
     let r : Rule = c.rule-in-loop-number-2.result.now in
-    let rule : IsRule R p r = kept_rule G kept p r c.rule-in-loop-number-2.ensures known in
+    let rule : IsRule R p r = kept_rule G kept p r c.rule-in-loop-number-2.ensures.there known in
     let step : Advances R s next p r = c.in_ok-advance-2.ensures R was.search rule in
     let rest = drop (at + 1) items in
     record {
