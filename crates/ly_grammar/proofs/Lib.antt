@@ -1,5 +1,6 @@
 pub mod AdvanceLemmas
 pub mod CloseLemmas
+pub mod FirstLemmas
 pub mod MarkedLemmas
 pub mod MarksLemmas
 pub mod PassLemmas

@@ -9,6 +9,7 @@
 #![tactic(auto)]
 
 mod fault;
+mod first;
 mod search;
 mod useful;
 mod waiting;
