@@ -1,10 +1,12 @@
 pub mod AdvanceLemmas
+pub mod BeginLemmas
 pub mod CloseLemmas
 pub mod FirstLemmas
 pub mod MarkedLemmas
 pub mod MarksLemmas
 pub mod PassLemmas
 pub mod ReachLemmas
+pub mod ReduceLemmas
 pub mod SearchLemmas
 pub mod StartLemmas
 pub mod UsefulLemmas

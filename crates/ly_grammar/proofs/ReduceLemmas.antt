@@ -1,0 +1,125 @@
+-- The grammar of the useful rules.
+use Rattle.std.proofs.Common.{◌≡◌, ◌≤◌, ◌∙◌, ◌⊎◌, ◌↔◌, ◌∷◌, ℕ, zero, suc, List, [], Bool, true, false, sym, ap, subst, arith}
+use Rattle.std.proofs.Common.{inl, inr, refl, length, Contains, slice_index_or}
+use Rattle.std.proofs.lemmas.List.{append-nil}
+use Rattle.ly_base.specs.Trees.{Tree, Trees, leaf, node, none, more, yield_of, yields_of, Occurs, OccursAmong}
+use Rattle.ly_join.specs.Grammar.{Grammar, Rule, IsRule, IsGrammar, Symbol, accept_rule, terminal, nonterminal}
+use Rattle.ly_grammar.specs.Derivations.{IsTree, AreTrees, IsNullable, IsReduced, IsUseful}
+use Rattle.ly_grammar.specs.Reduction.{restricted, KeepsUseful}
+use Rattle.ly_grammar.specs.Private.Search.{HasTree, HaveTrees}
+use Rattle.ly_grammar.proofs.MarkedLemmas.{at_marked, marked_at, length-marked}
+use Rattle.ly_grammar.proofs.SearchLemmas.{rule_is_one}
+use Rattle.ly_grammar.proofs.UsefulLemmas.{whole_trees}
+
+module _ (G : Grammar) (marks : List Bool) where
+  mutual
+    -- a tree all of whose rules are marked is one of the grammar of these
+    pub tree_kept : (X : Symbol) (d : Tree) → IsTree G X d
+        → ((p : ℕ) → Occurs p d → slice_index_or marks p false ≡ true) → IsTree (restricted marks G) X d
+    tree_kept (terminal k) (leaf t) is all = is
+    tree_kept (nonterminal A) (leaf t) is all = absurd is
+    tree_kept (terminal k) (node p ts) is all = absurd is
+    tree_kept (nonterminal A) (node p ts) (r, rule, left, are) all
+        = (r, at_marked marks G.rules p r rule (all p (inl refl)), left, trees_kept r.body ts are (λ q m. all q (inr m)))
+
+    pub trees_kept : (w : List Symbol) (ts : Trees) → AreTrees G w ts
+        → ((p : ℕ) → OccursAmong p ts → slice_index_or marks p false ≡ true) → AreTrees (restricted marks G) w ts
+    trees_kept [] none are all = tt
+    trees_kept (X ∷ w) none are all = absurd are
+    trees_kept [] (more t ts) are all = absurd are
+    trees_kept (X ∷ w) (more t ts) are all
+        = (tree_kept X t are.0 (λ p m. all p (inl m)), trees_kept w ts are.1 (λ p m. all p (inr m)))
+
+  mutual
+    -- and the trees of that grammar are trees
+    pub tree_back : (X : Symbol) (d : Tree) → IsTree (restricted marks G) X d → IsTree G X d
+    tree_back (terminal k) (leaf t) is = is
+    tree_back (nonterminal A) (leaf t) is = absurd is
+    tree_back (terminal k) (node p ts) is = absurd is
+    tree_back (nonterminal A) (node p ts) (r, rule, left, are)
+        = (r, (marked_at marks G.rules p r rule).0, left, trees_back r.body ts are)
+
+    pub trees_back : (w : List Symbol) (ts : Trees) → AreTrees (restricted marks G) w ts → AreTrees G w ts
+    trees_back [] none are = tt
+    trees_back (X ∷ w) none are = absurd are
+    trees_back [] (more t ts) are = absurd are
+    trees_back (X ∷ w) (more t ts) are = (tree_back X t are.0, trees_back w ts are.1)
+
+-- The trees of a rule's body, where it occurs.
+pub record HasBody (G : Grammar) (p : ℕ) : Type 0 where
+  pub rule : Rule
+  pub is : IsRule G p rule
+  pub trees : Trees
+  pub are : AreTrees G rule.body trees
+
+mutual
+  pub occurs_body : (G : Grammar) (X : Symbol) (d : Tree) (p : ℕ) → IsTree G X d → Occurs p d → HasBody G p
+  occurs_body G X (leaf t) p is here = absurd here
+  occurs_body G (terminal k) (node q ts) p is here = absurd is
+  occurs_body G (nonterminal A) (node q ts) p (r, rule, left, are) (inl same)
+      = subst (HasBody G) (sym same) (record { rule = r; is = rule; trees = ts; are = are })
+  occurs_body G (nonterminal A) (node q ts) p (r, rule, left, are) (inr among) = among_body G r.body ts p are among
+
+  pub among_body : (G : Grammar) (w : List Symbol) (ts : Trees) (p : ℕ) → AreTrees G w ts → OccursAmong p ts → HasBody G p
+  among_body G w none p are here = absurd here
+  among_body G [] (more t ts) p are here = absurd are
+  among_body G (X ∷ w) (more t ts) p are (inl here) = occurs_body G X t p are.0 here
+  among_body G (X ∷ w) (more t ts) p are (inr later) = among_body G w ts p are.1 later
+
+-- the marks are those of rule 0 and of the useful rules
+abbrev pub MarkUseful : Grammar → List Bool → Type 0
+MarkUseful G marks = (p : ℕ) (r : Rule) → IsRule G p r
+    → (slice_index_or marks p false ≡ true) ↔ ((p ≡ 0) ⊎ IsUseful G p)
+
+module _ (G : Grammar) (marks : List Bool) (lawful : IsGrammar G) (long : length marks ≡ length G.rules)
+    (useful : MarkUseful G marks) where
+  -- the rules of a tree of the start symbol are marked
+  pub start_kept : (d : Tree) → IsTree G (nonterminal G.start) d → IsTree (restricted marks G) (nonterminal G.start) d
+  start_kept d is = tree_kept G marks (nonterminal G.start) d is (λ p here.
+      let body = occurs_body G (nonterminal G.start) d p is here in (useful p body.rule body.is).1 (inr (d, is, here)))
+
+  pub keeps_useful : KeepsUseful G (restricted marks G)
+  keeps_useful = record {
+    terminals = refl;
+    accept = refl;
+    start = refl;
+    numbers = length-marked marks G.rules long;
+    rules = λ p r. (λ rule. let there = marked_at marks G.rules p r rule in (there.0, (useful p r there.0).0 there.1),
+        λ is. at_marked marks G.rules p r is.0 ((useful p r is.0).1 is.1));
+  }
+
+  pub is_reduced : (d : Tree) × IsTree G (nonterminal G.start) d → IsReduced (restricted marks G)
+  is_reduced tree = record {
+    start_tree = (tree.0, start_kept tree.0 tree.1);
+    useful = λ p r rule le.
+        let there = marked_at marks G.rules p r rule in
+        elim ((useful p r there.0).0 there.1) [
+          | inl zeroth ↦ absurd (omega (arith, le, zeroth))
+          | inr (d, is, occurs) ↦ (d, start_kept d is, occurs)
+        ];
+  }
+
+  -- all bodies of its rules have trees
+  pub bodies_have_trees : (d : Tree) × IsTree G (nonterminal G.start) d → (p : ℕ) (r : Rule)
+      → IsRule (restricted marks G) p r → HaveTrees (restricted marks G) true r.body
+  bodies_have_trees tree zero r rule =
+      let there = marked_at marks G.rules zero r rule in
+      subst (λ x. HaveTrees (restricted marks G) true x.body)
+      (rule_is_one G zero (accept_rule G.accept G.start) r lawful.rule_0 there.0)
+      (whole_trees (restricted marks G) tree.0 (start_kept tree.0 tree.1))
+  bodies_have_trees tree (suc p) r rule =
+      let is = (is_reduced tree).useful (suc p) r rule (omega arith) in
+      let body = occurs_body (restricted marks G) (nonterminal G.start) is.0 (suc p) is.1 is.2 in
+      subst (λ x. HaveTrees (restricted marks G) true x.body)
+      (rule_is_one (restricted marks G) (suc p) body.rule r body.is rule) (body.trees, body.are, λ e. absurd (cc))
+
+-- a nonterminal with an empty tree is nullable
+pub empty_nullable : (G : Grammar) (A : ℕ) → HasTree G false (nonterminal A) ↔ IsNullable G (nonterminal A ∷ [])
+empty_nullable G A = (to, back) where
+  to : HasTree G false (nonterminal A) → IsNullable G (nonterminal A ∷ [])
+  to (d, is, empty) = (more d none, (is, tt), append-nil (yield_of d) ∙ empty refl)
+
+  back : IsNullable G (nonterminal A ∷ []) → HasTree G false (nonterminal A)
+  back (none, are, empty) = absurd are
+  back (more d (more e es), are, empty) = absurd are.1
+  back (more d none, are, empty) = (d, are.0, λ _. sym (append-nil (yield_of d)) ∙ empty)
