@@ -5,7 +5,11 @@ use Rattle.std.proofs.lemmas.List.{append-nil}
 use Rattle.ly_base.specs.Trees.{Tree, Trees, leaf, node, none, more, yield_of, yields_of, Occurs, OccursAmong}
 use Rattle.ly_join.specs.Grammar.{Grammar, Rule, IsRule, IsGrammar, Symbol, accept_rule, terminal, nonterminal}
 use Rattle.ly_grammar.specs.Derivations.{IsTree, AreTrees, IsNullable, IsReduced, IsUseful}
-use Rattle.ly_grammar.specs.Reduction.{restricted, KeepsUseful}
+use Rattle.ly_sets.specs.NumberSet.{Member}
+use Rattle.ly_sets.specs.SetMatrix.{Matrix, row}
+use Rattle.ly_grammar.specs.Reduction.{restricted, reduction_of, IsReduction, KeepsUseful}
+use Rattle.ly_grammar.specs.Private.First.{Starts}
+use Rattle.ly_grammar.proofs.BeginLemmas.{starts_are_begun}
 use Rattle.ly_grammar.specs.Private.Search.{HasTree, HaveTrees}
 use Rattle.ly_grammar.proofs.MarkedLemmas.{at_marked, marked_at, length-marked}
 use Rattle.ly_grammar.proofs.SearchLemmas.{rule_is_one}
@@ -123,3 +127,20 @@ empty_nullable G A = (to, back) where
   back (none, are, empty) = absurd are
   back (more d (more e es), are, empty) = absurd are.1
   back (more d none, are, empty) = (d, are.0, λ _. sym (append-nil (yield_of d)) ∙ empty)
+
+-- a grammar with its useful rules marked, what is nullable by these, and what starts by these, are a reduction
+pub is_reduction : (G : Grammar) (marks nullable : List Bool) (first : Matrix) → IsGrammar G
+    → length marks ≡ length G.rules → MarkUseful G marks → (d : Tree) × IsTree G (nonterminal G.start) d
+    → ((A : ℕ) → (slice_index_or nullable A false ≡ true) ↔ HasTree (restricted marks G) false (nonterminal A))
+    → ((A t : ℕ) → Member (row first.sets A) t ↔ Starts (restricted marks G) nullable A t)
+    → IsReduction G (reduction_of G marks nullable first)
+is_reduction G marks nullable first lawful long useful tree empties starts = record {
+  keeps = keeps_useful G marks lawful long useful;
+  reduced = is_reduced G marks lawful long useful tree;
+  nullable = λ A le. let e = empties A in let n = empty_nullable (restricted marks G) A in
+      (λ on. n.0 (e.0 on), λ is. e.1 (n.1 is));
+  first = λ A t le.
+      let s = starts A t in
+      let b = starts_are_begun (restricted marks G) nullable empties (bodies_have_trees G marks lawful long useful tree) A t in
+      (λ member. b.0 (s.0 member), λ is. s.1 (b.1 is));
+}

@@ -1,8 +1,12 @@
 -- A grammar with its useless rules removed, and what its nonterminals derive.
 use Rattle.std.specs.Prelude.{◌≡◌, ◌↔◌, ℕ, ◌<◌, ◌≤◌, List, [], ◌∷◌, ◌⊎◌, Bool, true, false, Option, None, slice_index_or}
 use Rattle.std.specs.Prelude.{length, IsTrue}
+use Rattle.std.specs.Prelude.{refl}
+use Rattle.std.specs.Coded.{Coded, code_by, coded×, coded_bool, coded_ℕ, coded_list}
+use Rattle.std.specs.FinSet as set
+use Rattle.ly_join.specs.GrammarCode.{grammar_code}
 use Rattle.ly_sets.specs.NumberSet.{NumberSet, Member}
-use Rattle.ly_sets.specs.SetMatrix.{row}
+use Rattle.ly_sets.specs.SetMatrix.{Matrix, row}
 use Rattle.ly_join.specs.Grammar.{Grammar, Rule, IsRule, Symbol, nonterminal}
 use Rattle.ly_grammar.specs.Derivations.{Begins, IsNullable, IsReduced, IsUseful}
 
@@ -38,3 +42,13 @@ pub record IsReduction (G : Grammar) (r : Reduction) : Type 0 where
   pub nullable : (A : ℕ) → A ≤ G.accept → IsTrue (slice_index_or r.nullable A false)
       ↔ IsNullable r.grammar (nonterminal A ∷ [])
   pub first : (A t : ℕ) → A ≤ G.accept → Member (row r.first A) t ↔ Begins r.grammar (nonterminal A ∷ []) t
+
+-- the reduction to the marked rules of a grammar
+abbrev pub reduction_of : Grammar → List Bool → List Bool → Matrix → Reduction
+reduction_of G kept nullable first
+    = record { grammar = restricted kept G; nullable = nullable; first = first.sets }
+
+abbrev pub reduction_code : Coded Reduction
+reduction_code = code_by (Grammar × (List Bool × List NumberSet))
+    (coded× grammar_code (coded× (coded_list coded_bool) (coded_list (set.code coded_ℕ))))
+    (λ r. (r.grammar, (r.nullable, r.first))) (λ p. record { grammar = p.0; nullable = p.1.0; first = p.1.1 }) (λ _. refl)

@@ -10,8 +10,10 @@
 
 mod fault;
 mod first;
+mod reduced;
 mod search;
 mod useful;
 mod waiting;
 
 pub use fault::GrammarFault;
+pub use reduced::{Reduced, reduce};

@@ -27,6 +27,7 @@ pub(crate) fn useful_rules(alloc: Global, grammar: &Grammar) -> Result<Vec<bool>
     ensures productive { OnOk result ((d : Tree) × IsTree grammar.now (nonterminal grammar.now.start) d) }
     ensures unproductive { result ≡ Err GrammarFault.StartUnproductive
         → (d : Tree) → IsTree grammar.now (nonterminal grammar.now.start) d → ⊥ }
+    ensures lawful { OnOk result (IsGrammar grammar.now) }
 {
     let productive = productive_rules(alloc, grammar)?;
     if !productive[0] {

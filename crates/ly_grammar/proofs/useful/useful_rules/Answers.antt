@@ -112,3 +112,6 @@ returns-clause-productive c =
     = first_mark G c.in_ok-productive.productive.items c.index.result.now known.long known.lawful c.index.ensures
         ∙ c.if-not-index.false in
     start_tree G ((known.exact 0 (accept_rule G.accept G.start) rule).0 on)
+
+pub returns-clause-lawful : goal.returns-clause-lawful
+returns-clause-lawful c = c.in_ok-productive.ensures.lawful

@@ -1,0 +1,65 @@
+ghost use Rattle.std.specs.Prelude.{◌≡◌, ◌<◌, ◌≤◌, ◌↔◌, ℕ, length, IsTrue, IfOk, Err};
+ghost use Rattle.ly_base.specs.Trees.{Tree};
+ghost use Rattle.ly_sets.specs.NumberSet.{Member};
+ghost use Rattle.ly_sets.specs.SetMatrix.{row};
+ghost use Rattle.ly_join.specs.Grammar.{nonterminal, IsRule, Rule};
+ghost use Rattle.ly_grammar.specs.Derivations.{Begins, IsNullable, IsReduced, IsTree};
+ghost use Rattle.ly_grammar.specs.Reduction.{reduction_of, IsReduction, KeepsUseful};
+
+use crate::fault::GrammarFault;
+use crate::first::first_sets;
+use crate::search::with_trees;
+use crate::useful::useful_rules;
+use ly_base::Sym;
+use ly_join::Grammar;
+use ly_sets::SetMatrix;
+use std::alloc::Global;
+use std::marker::Model;
+
+/// A grammar without its useless rules, and what its nonterminals derive.
+#[derive(Drop)]
+pub struct Reduced<'a> {
+    /// The grammar with all rules.
+    grammar: &'a Grammar,
+    /// For each rule whether it is rule 0 or useful.
+    kept: Vec<bool>,
+    /// For each nonterminal whether it derives the empty string.
+    nullable: Vec<bool>,
+    /// For each nonterminal the terminals that may begin what it derives.
+    first: SetMatrix,
+}
+
+impl<'a> Model for Reduced<'a> {
+    ghost use Rattle.ly_grammar.specs.Reduction.{Reduction, reduction_code};
+
+    ghost Value = { Reduction };
+
+    ghost coded = { reduction_code };
+
+    ghost use Rattle.ly_grammar.specs.Reduction.{reduction_of, IsReduction};
+
+    ghost view = { λ r. reduction_of r.grammar.now r.kept.items r.nullable.items r.first };
+
+    ghost invariant = { λ r. IsReduction r.grammar.now (reduction_of r.grammar.now r.kept.items r.nullable.items r.first) };
+}
+
+/// Removes the rules that occur in no tree of the start symbol, and finds which nonterminals are nullable and which
+/// terminals may begin what they derive. Removed rules keep their numbers. It takes time linear in the grammar, but
+/// for the sets of terminals.
+///
+/// `StartUnproductive` comes where the start symbol has no tree.
+pub fn reduce<'a>(alloc: Global, grammar: &'a Grammar) -> Result<Reduced<'a>, GrammarFault>
+    ensures ok { IfOk result (IsReduction grammar.now) }
+    ensures unproductive { result ≡ Err GrammarFault.StartUnproductive
+        → (d : Tree) → IsTree grammar.now (nonterminal grammar.now.start) d → ⊥ }
+{
+    let kept = useful_rules(alloc, grammar)?;
+    let nullable = with_trees(alloc, grammar, &kept, false)?;
+    let first = first_sets(alloc, grammar, &kept, &nullable)?;
+    Ok(Reduced {
+        grammar,
+        kept,
+        nullable,
+        first,
+    })
+}
