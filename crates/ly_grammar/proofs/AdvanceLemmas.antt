@@ -1,5 +1,5 @@
 -- A rule is looked at.
-use Rattle.std.proofs.Common.{◌≡◌, ◌<◌, ◌≤◌, ◌∙◌, ℕ, List, Bool, map, true, false, sym, ap, subst, arith, inl, inr, refl, take, length, Contains}
+use Rattle.std.proofs.Common.{◌≡◌, ◌<◌, ◌≤◌, ◌∙◌, ℕ, List, Bool, map, true, false, sym, ap, subst, inl, inr, refl, take, length, Contains}
 use Rattle.std.proofs.Common.{slice_get, slice_index_or, option_map, Option, Some, None, All}
 use Rattle.std.proofs.lemmas.List.{get_or_default, length-map, take_all}
 use Rattle.std.specs.Option.{is_some, option_copied, IfSome}
@@ -8,10 +8,10 @@ use Rattle.std.proofs.Math.Dec.{ltb}
 use denote.Ref.{Bor}
 use Rattle.std.proofs.lemmas.Option.{slice_get_past, slice_get-get_or, slice_get_cases, slice_get_within, slice_get-map, get_or_from_slice_get}
 use Rattle.std.proofs.lemmas.List.Elements.{All-contains, Contains-get_or}
-use Rattle.ly_join.specs.Grammar.{Grammar, Rule, IsRule, Symbol, symbol_of, terminal, nonterminal}
+use Rattle.ly_join.specs.Grammar.{Grammar, Rule, IsRule, Symbol, symbol_of, nonterminal}
 use Rattle.ly_join.specs.declared.symbol.Symbol as code
 use Rattle.ly_grammar.specs.Private.Search.{Progress, IsSearch, HasPlaces, AllPass, IsNumbered, Advances, GoesOn, StopsAt, HasPassed}
-use Rattle.ly_grammar.specs.Private.Search.{found, stopped}
+use Rattle.ly_grammar.specs.Private.Search.{found}
 use Rattle.ly_grammar.specs.Private.Search.{waiting, passes, was_found, with_found, with_passed, with_waiting}
 use Rattle.ly_grammar.proofs.SearchLemmas.{HavePassed, on_passed, on_found, on_waiting, body_trees, rule_tree, is_found}
 use Rattle.ly_grammar.proofs.SearchLemmas.{waits_now, through}
@@ -36,11 +36,11 @@ passed_now G s p r symbols marks before at is places search rule =
     = subst (λ n. at ≤ n) (sym (length-map symbols symbol_of) ∙ ap length is.body) is.within in
     let known : AllPass s.found s.terminals (take before r.body)
     = subst (λ n. AllPass s.found s.terminals (take n r.body))
-        (sym (is.first ∙ get_or_default s.passed p before 0 places.rule)) (search.passed p r rule) in
+    (sym (is.first ∙ get_or_default s.passed p before 0 places.rule)) (search.passed p r rule) in
     let step : AllPass s.found s.terminals (take before r.body) → AllPass s.found s.terminals (take at r.body)
     = subst (λ w. AllPass s.found s.terminals (take before w) → AllPass s.found s.terminals (take at w)) is.body
-        (subst (λ bs. AllPass bs s.terminals (take before (map symbol_of symbols))
-            → AllPass bs s.terminals (take at (map symbol_of symbols))) is.found is.passing) in
+    (subst (λ bs. AllPass bs s.terminals (take before (map symbol_of symbols))
+    → AllPass bs s.terminals (take at (map symbol_of symbols))) is.found is.passing) in
     (le, step known)
 
 -- a symbol of a body at a place is in it

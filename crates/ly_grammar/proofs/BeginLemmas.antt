@@ -1,7 +1,7 @@
 -- What nonterminals start with by rules is what begins the strings of their trees.
-use Rattle.std.proofs.Common.{◌≡◌, ◌∙◌, ◌⊎◌, ◌↔◌, ◌∷◌, ◌++◌, ℕ, List, [], Bool, true, false, sym, ap, subst, inl, inr, refl}
+use Rattle.std.proofs.Common.{◌≡◌, ◌∙◌, ◌↔◌, ◌∷◌, ◌++◌, ℕ, List, [], Bool, true, false, sym, ap, subst, inl, inr, refl}
 use Rattle.std.proofs.Common.{Contains, if◌then◌else◌, slice_index_or}
-use Rattle.std.proofs.lemmas.List.{append-nil, append_assoc}
+use Rattle.std.proofs.lemmas.List.{append-nil}
 use Rattle.ly_base.proofs.MemberLemmas.{Contains-none, Contains-first, Contains-later, Contains-cons_cases}
 use Rattle.ly_base.specs.Lexed.{Token}
 use Rattle.ly_base.specs.Trees.{Tree, Trees, leaf, node, none, more, yield_of, yields_of}
@@ -52,21 +52,27 @@ module _ (G : Grammar) (marks : List Bool)
   opening_begins (Y ∷ w) (more d ts) X t are member (more e (more f fs), x_are, x, rest, yields, kind) = absurd x_are.1
   opening_begins (Y ∷ w) (more d ts) X t are member (more e none, x_are, x, rest, yields, kind) =
       elim (Contains-cons_cases Y (if passes marks false Y then opening marks w else []) X member) [
-        | inl same ↦ (more e ts, (subst (λ Z. IsTree G Z e) (sym same) x_are.0, are.1), x, rest ++ yields_of ts,
-            ap (λ ys. ys ++ yields_of ts) (sym (append-nil (yield_of e)) ∙ yields), kind)
+        | inl same ↦ (
+          more e ts,
+          (subst (λ Z. IsTree G Z e) (sym same) x_are.0, are.1),
+          x,
+          rest ++ yields_of ts,
+          ap (λ ys. ys ++ yields_of ts) (sym (append-nil (yield_of e)) ∙ yields),
+          kind,
+        )
         | inr later ↦ behind (passes marks false Y) refl later
             (λ there. opening_begins w ts X t are.1 there (more e none, x_are, x, rest, yields, kind))
       ] where
-    empty_before : (Z : Symbol) → passes marks false Z ≡ true → Begins G w t → Begins G (Z ∷ w) t
-    empty_before (terminal k) pass b = absurd (cc)
-    empty_before (nonterminal B) pass (us, us_are, y, ys, e2, k2) =
-        let gone = (nullable B).0 pass in
-        (more gone.0 us, (gone.1, us_are), y, ys, ap (λ zs. zs ++ yields_of us) (gone.2 refl) ∙ e2, k2)
+        empty_before : (Z : Symbol) → passes marks false Z ≡ true → Begins G w t → Begins G (Z ∷ w) t
+        empty_before (terminal k) pass b = absurd (cc)
+        empty_before (nonterminal B) pass (us, us_are, y, ys, e2, k2) =
+            let gone = (nullable B).0 pass in
+            (more gone.0 us, (gone.1, us_are), y, ys, ap (λ zs. zs ++ yields_of us) (gone.2 refl) ∙ e2, k2)
 
-    behind : (b : Bool) → passes marks false Y ≡ b → Contains (if b then opening marks w else []) X
-        → (Contains (opening marks w) X → Begins G w t) → Begins G (Y ∷ w) t
-    behind true pass there recur = empty_before Y pass (recur there)
-    behind false pass there recur = Contains-none X there
+        behind : (b : Bool) → passes marks false Y ≡ b → Contains (if b then opening marks w else []) X
+            → (Contains (opening marks w) X → Begins G w t) → Begins G (Y ∷ w) t
+        behind true pass there recur = empty_before Y pass (recur there)
+        behind false pass there recur = Contains-none X there
 
   -- one that starts with a terminal by rules has a tree whose string begins with it, where all bodies have trees
   pub starts_begins : ((p : ℕ) (r : Rule) → IsRule G p r → HaveTrees G true r.body) → (A t : ℕ) → Starts G marks A t
@@ -76,7 +82,7 @@ module _ (G : Grammar) (marks : List Bool)
       (more (node p b.0) none, ((r, rule, refl, b.1), tt), b.2, b.3, append-nil (yields_of b.0) ∙ b.4, b.5)
   starts_begins trees A t (by_part p r B u rule member starts) =
       let b = opening_begins r.body (trees p r rule).0 (nonterminal B) u (trees p r rule).1 member
-          (starts_begins trees B u starts) in
+      (starts_begins trees B u starts) in
       (more (node p b.0) none, ((r, rule, refl, b.1), tt), b.2, b.3, append-nil (yields_of b.0) ∙ b.4, b.5)
 
   -- the rule of a tree starts with what its body does

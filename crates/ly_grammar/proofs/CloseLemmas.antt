@@ -1,11 +1,10 @@
 -- A search that is over has found every nonterminal with a tree.
-use Rattle.std.proofs.Common.{◌≡◌, ◌<◌, ◌≤◌, ◌+◌, ◌∙◌, ◌⊎◌, ℕ, List, [], ◌∷◌, ◌++◌, Bool, true, false, sym, ap, subst, arith}
-use Rattle.std.proofs.Common.{inl, inr, refl, length, Contains, slice_index_or, slice_set, Some, None, Option}
+use Rattle.std.proofs.Common.{◌≡◌, ◌<◌, ◌+◌, ◌∙◌, ℕ, List, [], ◌∷◌, Bool, true, false, sym, ap, subst, arith}
+use Rattle.std.proofs.Common.{inl, inr, refl, length, Contains, slice_index_or, slice_set, Some}
 use Rattle.std.proofs.lemmas.List.{get_or-set_same, get_or-set_other, get_or_past, length-set, length-append}
-use Rattle.std.proofs.lemmas.List.Elements.{Contains-append_cases, Contains-append_left, Contains-append_right}
+use Rattle.std.proofs.lemmas.List.Elements.{Contains-append_cases, Contains-append_left}
 use Rattle.std.proofs.lemmas.Bool.{cases_lt}
-use Rattle.ly_base.proofs.MemberLemmas.{Contains-none, Contains-first, Contains-later, Contains-one, Contains-cons_cases}
-use Rattle.ly_base.specs.Lexed.{Token}
+use Rattle.ly_base.proofs.MemberLemmas.{Contains-none, Contains-one, Contains-cons_cases}
 use Rattle.ly_base.specs.Trees.{Tree, Trees, leaf, node, none, more, yield_of, yields_of}
 use Rattle.ly_join.specs.Grammar.{Grammar, Rule, IsRule, Symbol, terminal, nonterminal}
 use Rattle.ly_grammar.specs.Derivations.{IsTree, AreTrees}
@@ -71,7 +70,7 @@ still_waiting s A B p member = elim (same_or_not B A) [
         (ap (λ C. slice_index_or (slice_set s.waiting A []) C []) same ∙ get_or-set_same s.waiting A [] [] lt) member)
     | inr past ↦ Contains-none p (subst (λ ps. Contains ps p)
         (ap (λ C. slice_index_or (slice_set s.waiting A []) C []) same
-            ∙ get_or_past (slice_set s.waiting A []) A [] (let e = length-set s.waiting A [] in omega (arith, past, e))) member)
+        ∙ get_or_past (slice_set s.waiting A []) A [] (let e = length-set s.waiting A [] in omega (arith, past, e))) member)
   ]
   | inr other ↦ subst (λ ps. Contains ps p) (get_or-set_other s.waiting A B [] [] other) member
 ]

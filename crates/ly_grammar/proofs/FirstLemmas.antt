@@ -1,7 +1,7 @@
 -- Openings of bodies, and the rows and edges that come of them.
-use Rattle.std.proofs.Common.{◌≡◌, ◌≢◌, ◌<◌, ◌≤◌, ◌+◌, ◌∙◌, ◌⊎◌, ◌↔◌, ◌∷◌, ◌++◌, ℕ, zero, suc, List, [], Bool, true, false, sym, ap}
-use Rattle.std.proofs.Common.{subst, arith, inl, inr, refl, length, map, take, All, Contains, slice_index_or, slice_get}
-use Rattle.std.proofs.Common.{slice_set, Option, Some, None, add-one, if◌then◌else◌, nat_eq, replicate, ◌||◌}
+use Rattle.std.proofs.Common.{◌≡◌, ◌<◌, ◌≤◌, ◌+◌, ◌∙◌, ◌⊎◌, ◌↔◌, ◌∷◌, ◌++◌, ℕ, zero, suc, List, [], Bool, true, false, sym, ap}
+use Rattle.std.proofs.Common.{subst, arith, inl, inr, refl, length, map, take, Contains, slice_index_or, slice_get}
+use Rattle.std.proofs.Common.{slice_set, Some, None, add-one, if◌then◌else◌, nat_eq, replicate, ◌||◌}
 use Rattle.std.proofs.lemmas.Bool.{cases_lt, eq-eqb, eqb-true}
 use Rattle.std.specs.FinSet as set
 use Rattle.std.proofs.Math.Seq.{take-suc}
@@ -64,19 +64,22 @@ pub added_more : (old mid new : Matrix) (left : ℕ) (v w : List Symbol) → Are
 added_more old mid new left v w one two = record {
   width = two.width ∙ one.width;
   rows = two.rows ∙ one.rows;
-  exact = λ j t. (λ member. elim ((two.exact j t).0 member) [
-    | inl before ↦ elim ((one.exact j t).0 before) [
-      | inl first ↦ inl first
-      | inr new ↦ inr (new.0, Contains-append_left v w (terminal t) new.1)
-    ]
-    | inr new ↦ inr (new.0, Contains-append_right v w (terminal t) new.1)
-  ], λ is. (two.exact j t).1 (elim is [
-    | inl first ↦ inl ((one.exact j t).1 (inl first))
-    | inr new ↦ elim (Contains-append_cases v w (terminal t) new.1) [
-      | inl early ↦ inl ((one.exact j t).1 (inr (new.0, early)))
-      | inr later ↦ inr (new.0, later)
-    ]
-  ]));
+  exact = λ j t. (
+    λ member. elim ((two.exact j t).0 member) [
+      | inl before ↦ elim ((one.exact j t).0 before) [
+        | inl first ↦ inl first
+        | inr new ↦ inr (new.0, Contains-append_left v w (terminal t) new.1)
+      ]
+      | inr new ↦ inr (new.0, Contains-append_right v w (terminal t) new.1)
+    ],
+    λ is. (two.exact j t).1 (elim is [
+      | inl first ↦ inl ((one.exact j t).1 (inl first))
+      | inr new ↦ elim (Contains-append_cases v w (terminal t) new.1) [
+        | inl early ↦ inl ((one.exact j t).1 (inr (new.0, early)))
+        | inr later ↦ inr (new.0, later)
+      ]
+    ]),
+  );
 }
 
 -- nothing was added
@@ -142,9 +145,9 @@ pub start_rows : (G : Grammar) (marks : List Bool) (graph : Digraph) (old : Matr
 start_rows G marks graph old new n firsts past least between A t = (to, back A) where
   all : graph ≡ part_graph G marks
   all = firsts.graph ∙ ap (λ rs. let g : Digraph = record {
-      nodes = G.accept + 1;
-      edges = of_rules (λ r. parts r.left (opening marks r.body)) rs;
-    } in g) (take_all n G.rules past)
+    nodes = G.accept + 1;
+    edges = of_rules (λ r. parts r.left (opening marks r.body)) rs;
+  } in g) (take_all n G.rules past)
 
   to : Member (row new A) t → Starts G marks A t
   to member =
@@ -161,8 +164,8 @@ start_rows G marks graph old new n firsts past least between A t = (to, back A) 
       ((firsts.exact r.left u).1 (p, r, below p r rule, rule, refl, member))
   back B (by_part p r C u rule member starts) = way_grows graph old.sets new r.left C u least
       (along r.left C C (subst (λ g. Contains g.edges (r.left, C)) (sym all)
-          (by_rule (λ r. parts r.left (opening marks r.body)) G.rules p r (r.left, C) rule
-              (is_part r.left (opening marks r.body) C member))) (here C))
+      (by_rule (λ r. parts r.left (opening marks r.body)) G.rules p r (r.left, C) rule
+      (is_part r.left (opening marks r.body) C member))) (here C))
       (back C starts)
 
 -- one symbol more of a list as it is shown
@@ -187,14 +190,16 @@ or_second false b e = e
 -- a number is a member after another was put in where it is that, or was one before
 pub member_inserted : (s : NumberSet) (k q : ℕ) → Member (set.insert s k) q ↔ ((q ≡ k) ⊎ Member s q)
 member_inserted s k q =
-    let c = contains-insert_nat s k q in
-    (λ member. elim (or_cases (nat_eq q k) (set.contains s q) (sym c ∙ member)) [
-      | inl same ↦ inl (eqb-true q k same)
-      | inr before ↦ inr before
-    ], λ is. c ∙ elim is [
-      | inl same ↦ ap (λ b. b || set.contains s q) (eq-eqb q k same)
-      | inr before ↦ or_second (nat_eq q k) (set.contains s q) before
-    ])
+    let c = contains-insert_nat s k q in (
+      λ member. elim (or_cases (nat_eq q k) (set.contains s q) (sym c ∙ member)) [
+        | inl same ↦ inl (eqb-true q k same)
+        | inr before ↦ inr before
+      ],
+      λ is. c ∙ elim is [
+        | inl same ↦ ap (λ b. b || set.contains s q) (eq-eqb q k same)
+        | inr before ↦ or_second (nat_eq q k) (set.contains s q) before
+      ],
+    )
 
 -- a terminal that is put into a row
 pub inserted : (m : Matrix) (left t : ℕ) → left < length m.sets
@@ -203,21 +208,29 @@ inserted m left t lt = record {
   width = refl;
   rows = length-set m.sets left (set.insert (row m.sets left) t);
   exact = λ j u. elim (same_or_not j left) [
-    | inl same ↦ (λ member. elim ((member_inserted (row m.sets left) t u).0 (subst (λ s. Member s u) (here_now j same) member)) [
-        | inl new ↦ inr (same, subst (λ k. Contains (terminal t ∷ []) (terminal k)) (sym new)
-            (Contains-first (terminal t) []))
+    | inl same ↦ (
+      λ member. elim ((member_inserted (row m.sets left) t u).0 (subst (λ s. Member s u) (here_now j same) member)) [
+        | inl new ↦ inr (
+          same,
+          subst (λ k. Contains (terminal t ∷ []) (terminal k)) (sym new)
+              (Contains-first (terminal t) []),
+        )
         | inr before ↦ inl (subst (λ k. Member (row m.sets k) u) (sym same) before)
-      ], λ is. subst (λ s. Member s u) (sym (here_now j same)) ((member_inserted (row m.sets left) t u).1 (elim is [
+      ],
+      λ is. subst (λ s. Member s u) (sym (here_now j same)) ((member_inserted (row m.sets left) t u).1 (elim is [
         | inl before ↦ inr (subst (λ k. Member (row m.sets k) u) same before)
         | inr new ↦ let f : terminal t ≡ terminal u = Contains-one (terminal t) (terminal u) new.1 in
             let g : u ≡ t = cc in inl g
-      ])))
+      ])),
+    )
     | inr other ↦
-        let e = get_or-set_other m.sets left j (set.insert (row m.sets left) t) set.empty other in
-        (λ member. inl (subst (λ s. Member s u) e member), λ is. elim is [
-          | inl before ↦ subst (λ s. Member s u) (sym e) before
-          | inr new ↦ absurd (other new.0)
-        ])
+        let e = get_or-set_other m.sets left j (set.insert (row m.sets left) t) set.empty other in (
+          λ member. inl (subst (λ s. Member s u) e member),
+          λ is. elim is [
+            | inl before ↦ subst (λ s. Member s u) (sym e) before
+            | inr new ↦ absurd (other new.0)
+          ],
+        )
   ];
 } where
   here_now : (j : ℕ) → j ≡ left → row (slice_set m.sets left (set.insert (row m.sets left) t)) j
@@ -236,9 +249,12 @@ firsts_none G marks g sets graph width empty = record {
   graph = graph;
   width = width;
   rows = ap length empty ∙ length-replicate (G.accept + 1) set.empty;
-  exact = λ j t. (λ member. let no : false ≡ true = sym (contains-empty nat_cmp t)
-      ∙ ap (λ s. set.contains s t) (sym (ap (λ rows. row rows j) empty ∙ default_everywhere (G.accept + 1) j set.empty))
-      ∙ member in absurd (cc), λ is. let lt = is.2 in absurd (omega (arith, lt)));
+  exact = λ j t. (
+    λ member. let no : false ≡ true = sym (contains-empty nat_cmp t)
+        ∙ ap (λ s. set.contains s t) (sym (ap (λ rows. row rows j) empty ∙ default_everywhere (G.accept + 1) j set.empty))
+        ∙ member in absurd (cc),
+    λ is. let lt = is.2 in absurd (omega (arith, lt)),
+  );
 }
 
 -- one rule more was
@@ -249,21 +265,24 @@ firsts_more G marks g now sets new n r are rule graph added = record {
   graph = graph
       ∙ ap (λ h. let it : Digraph = record h { edges = h.edges ++ opening_edges marks r } in it) are.graph
       ∙ ap (λ es. let it : Digraph = record { nodes = G.accept + 1; edges = es } in it)
-          (ap (λ xs. of_rules (opening_edges marks) (take n G.rules) ++ xs) (sym (append-nil (opening_edges marks r)))
-              ∙ sym (of_rules_more (opening_edges marks) G.rules n (Some r) rule));
+      (ap (λ xs. of_rules (opening_edges marks) (take n G.rules) ++ xs) (sym (append-nil (opening_edges marks r)))
+      ∙ sym (of_rules_more (opening_edges marks) G.rules n (Some r) rule));
   width = added.width ∙ are.width;
   rows = added.rows ∙ are.rows;
-  exact = λ j t. (λ member. elim ((added.exact j t).0 member) [
-    | inl before ↦ let it = (are.exact j t).0 before in
-        (it.0, it.1, (let lt = it.2 in omega (arith, lt)), it.3, it.4, it.5)
-    | inr fresh ↦ (n, r, omega arith, rule, sym fresh.0, fresh.1)
-  ], λ (p, q, lt, there, left, opens). (added.exact j t).1 (elim (cases_lt p n) [
-    | inl below ↦ inl ((are.exact j t).1 (p, q, below, there, left, opens))
-    | inr above ↦
-        let same : p ≡ n = omega (arith, lt, above) in
-        let e : q ≡ r = rule_is_one G n q r (subst (λ k. IsRule G k q) same there) rule in
-        inr (sym (sym (ap (λ x. x.left) e) ∙ left), subst (λ x. Contains (opening marks x.body) (terminal t)) e opens)
-  ]));
+  exact = λ j t. (
+    λ member. elim ((added.exact j t).0 member) [
+      | inl before ↦ let it = (are.exact j t).0 before in
+          (it.0, it.1, (let lt = it.2 in omega (arith, lt)), it.3, it.4, it.5)
+      | inr fresh ↦ (n, r, omega arith, rule, sym fresh.0, fresh.1)
+    ],
+    λ (p, q, lt, there, left, opens). (added.exact j t).1 (elim (cases_lt p n) [
+      | inl below ↦ inl ((are.exact j t).1 (p, q, below, there, left, opens))
+      | inr above ↦
+          let same : p ≡ n = omega (arith, lt, above) in
+          let e : q ≡ r = rule_is_one G n q r (subst (λ k. IsRule G k q) same there) rule in
+          inr (sym (sym (ap (λ x. x.left) e) ∙ left), subst (λ x. Contains (opening marks x.body) (terminal t)) e opens)
+    ]),
+  );
 }
 
 -- a number without a rule was
@@ -272,15 +291,24 @@ pub firsts_past : (G : Grammar) (marks : List Bool) (g : Digraph) (sets : Matrix
 firsts_past G marks g sets n are none = record {
   graph = are.graph ∙ ap (λ es. let it : Digraph = record { nodes = G.accept + 1; edges = es } in it)
       (sym (of_rules_more (opening_edges marks) G.rules n None none
-          ∙ append-nil (of_rules (opening_edges marks) (take n G.rules))));
+      ∙ append-nil (of_rules (opening_edges marks) (take n G.rules))));
   width = are.width;
   rows = are.rows;
-  exact = λ j t. (λ member. let it = (are.exact j t).0 member in
-    (it.0, it.1, (let lt = it.2 in omega (arith, lt)), it.3, it.4, it.5),
-    λ (p, q, lt, there, left, opens). (are.exact j t).1 (p, q, elim (cases_lt p n) [
-      | inl below ↦ below
-      | inr above ↦
-          let same : p ≡ n = omega (arith, lt, above) in
-          let no : Some None ≡ Some (Some q) = sym none ∙ subst (λ k. IsRule G k q) same there in absurd (cc)
-    ], there, left, opens));
+  exact = λ j t. (
+    λ member. let it = (are.exact j t).0 member in
+        (it.0, it.1, (let lt = it.2 in omega (arith, lt)), it.3, it.4, it.5),
+    λ (p, q, lt, there, left, opens). (are.exact j t).1 (
+      p,
+      q,
+      elim (cases_lt p n) [
+        | inl below ↦ below
+        | inr above ↦
+            let same : p ≡ n = omega (arith, lt, above) in
+            let no : Some None ≡ Some (Some q) = sym none ∙ subst (λ k. IsRule G k q) same there in absurd (cc)
+      ],
+      there,
+      left,
+      opens,
+    ),
+  );
 }

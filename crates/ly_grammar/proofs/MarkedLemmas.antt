@@ -1,12 +1,12 @@
 -- Rules that are marked.
-use Rattle.std.proofs.Common.{◌≡◌, ◌<◌, ◌≤◌, ◌+◌, ◌∙◌, ℕ, zero, suc, List, [], ◌∷◌, Bool, true, false, sym, ap, subst, arith}
+use Rattle.std.proofs.Common.{◌≡◌, ◌<◌, ◌+◌, ◌∙◌, ℕ, zero, suc, List, [], ◌∷◌, Bool, true, false, ap, subst, arith}
 use Rattle.std.proofs.Common.{length, map, All, slice_get, slice_index_or, Some, None, Option, option_map, replicate, refl}
 use Rattle.std.proofs.lemmas.Option.{slice_get-map, slice_get-get_or}
 use Rattle.std.proofs.lemmas.List.Elements.{All-cons, All-nil, All-weaker}
 use Rattle.ly_join.specs.Grammar.{Grammar, Rule, IsRule, IsGrammar, Symbol, SymbolWithin, terminal, nonterminal}
 use Rattle.ly_join.specs.Grammar.{accept_rule}
 use Rattle.ly_grammar.specs.Private.Search.{IsNumbered, RuleNumbered}
-use Rattle.ly_grammar.specs.Reduction.{marked, restricted}
+use Rattle.ly_grammar.specs.Reduction.{marked}
 use Rattle.ly_grammar.proofs.SearchLemmas.{rule_is_one}
 
 -- a rule that is left is one, and marked

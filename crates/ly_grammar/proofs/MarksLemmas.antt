@@ -1,11 +1,10 @@
 -- Marks of rules, one after another.
-use Rattle.std.proofs.Common.{◌≡◌, ◌<◌, ◌≤◌, ◌+◌, ◌∙◌, ◌↔◌, ℕ, List, [], ◌∷◌, ◌++◌, Bool, sym, ap, subst, arith, length, inl, inr}
+use Rattle.std.proofs.Common.{◌≡◌, ◌<◌, ◌+◌, ◌∙◌, ◌↔◌, ℕ, List, [], ◌∷◌, ◌++◌, Bool, sym, ap, subst, arith, length, inl, inr}
 use Rattle.std.proofs.Common.{true, false, slice_index_or, ◌-◌}
 use Rattle.std.proofs.lemmas.Bool.{cases_lt}
 use Rattle.std.proofs.lemmas.List.{length-append, get_or_append_left}
 use Rattle.std.proofs.Math.Seq.{get_or-append_right}
 use Rattle.ly_join.specs.Grammar.{Grammar, Rule, IsRule}
-use Rattle.ly_grammar.proofs.SearchLemmas.{rule_is_one}
 
 -- The marks of the first n numbers say of their rules what P says.
 pub record AreMarks (G : Grammar) (P : ℕ → Rule → Type 0) (marks : List Bool) (n : ℕ) : Type 0 where
@@ -25,7 +24,7 @@ marked_more G P marks n b are here = record {
         let same : n ≡ p = omega (arith, lt, above) in
         let last : slice_index_or (marks ++ b ∷ []) n false ≡ b
         = get_or-append_right marks (b ∷ []) n false (let l = are.long in omega (arith, l))
-            ∙ ap (λ k. slice_index_or (b ∷ []) k false) (let e : n - length marks ≡ 0 = (let l = are.long in omega (arith, l)) in e) in
+        ∙ ap (λ k. slice_index_or (b ∷ []) k false) (let e : n - length marks ≡ 0 = (let l = are.long in omega (arith, l)) in e) in
         subst (λ k. (slice_index_or (marks ++ b ∷ []) k false ≡ true) ↔ P k r) same
         (subst (λ x. (x ≡ true) ↔ P n r) (sym last) (here r (subst (λ k. IsRule G k r) (sym same) rule)))
   ];

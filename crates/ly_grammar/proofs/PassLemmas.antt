@@ -1,6 +1,6 @@
 -- Symbols that pass.
-use Rattle.std.proofs.Common.{◌≡◌, ◌<◌, ◌≤◌, ◌+◌, ◌∙◌, ◌⊎◌, ℕ, zero, suc, List, [], ◌∷◌, ◌++◌, Bool, true, false, sym, ap}
-use Rattle.std.proofs.Common.{subst, arith, inl, inr, refl, take, length, map, All, Contains, slice_index_or, slice_get}
+use Rattle.std.proofs.Common.{◌≡◌, ◌<◌, ◌≤◌, ◌+◌, ◌∙◌, ℕ, List, [], ◌∷◌, ◌++◌, Bool, true, false, sym, ap}
+use Rattle.std.proofs.Common.{subst, arith, inl, inr, take, length, map, All, Contains, slice_index_or, slice_get}
 use Rattle.std.proofs.Common.{slice_set, Some, add-one, ◌↔◌}
 use Rattle.std.proofs.Math.Seq.{take-suc}
 use Rattle.std.proofs.Math.ListN.{get_or-map}
@@ -21,7 +21,7 @@ pass_more found allowed w at d lt before here X member =
     let cut : take (at + 1) w ≡ take at w ++ slice_index_or w at d ∷ []
     = ap (λ n. take n w) (add-one at) ∙ take-suc w at d lt in
     elim (Contains-append_cases (take at w) (slice_index_or w at d ∷ []) X
-        (subst (λ xs. Contains xs X) cut member)) [
+    (subst (λ xs. Contains xs X) cut member)) [
       | inl earlier ↦ before X earlier
       | inr last ↦ subst (λ Y. passes found allowed Y ≡ true) (Contains-one (slice_index_or w at d) X last) here
     ]
@@ -66,7 +66,7 @@ passes_to_end found allowed w at le passing stops = (to, back) where
     | inl below ↦
         let X : Symbol = slice_index_or w at (terminal 0) in
         let no : false ≡ true = sym (stops X (slice_get-get_or w at (terminal 0) below))
-            ∙ all X (Contains-get_or w at (terminal 0) below) in
+        ∙ all X (Contains-get_or w at (terminal 0) below) in
         absurd (cc)
     | inr past ↦ omega (arith, le, past)
   ]

@@ -1,6 +1,6 @@
 -- Edges between nonterminals, and what they lead to.
-use Rattle.std.proofs.Common.{◌≡◌, ◌≢◌, ◌<◌, ◌≤◌, ◌+◌, ◌∙◌, ◌⊎◌, ◌↔◌, ◌∷◌, ◌++◌, ℕ, zero, suc, List, [], Bool, true, false, sym, ap}
-use Rattle.std.proofs.Common.{subst, arith, inl, inr, refl, length, map, take, Contains, slice_index_or, slice_get, slice_set}
+use Rattle.std.proofs.Common.{◌≡◌, ◌<◌, ◌+◌, ◌∙◌, ◌↔◌, ◌∷◌, ◌++◌, ℕ, zero, suc, List, [], Bool, true, false, sym, ap}
+use Rattle.std.proofs.Common.{subst, inl, inr, refl, length, map, take, Contains, slice_index_or, slice_get, slice_set}
 use Rattle.std.proofs.Common.{replicate, Option, Some, None, add-one}
 use Rattle.std.proofs.Math.Seq.{take-suc}
 use Rattle.std.specs.FinSet as set
@@ -10,7 +10,7 @@ use Rattle.std.proofs.lemmas.List.{append_assoc, append-nil, map-append, length-
 use Rattle.std.proofs.lemmas.Option.{slice_get_within, get_or_from_slice_get}
 use Rattle.std.proofs.lemmas.List.Elements.{Contains-append_cases, Contains-append_left, Contains-append_right}
 use Rattle.ly_base.proofs.MemberLemmas.{Contains-none, Contains-first, Contains-later, Contains-cons_cases}
-use Rattle.ly_digraph.specs.Digraph.{Digraph, IsEdge, Reaches, here, along}
+use Rattle.ly_digraph.specs.Digraph.{Digraph, Reaches, here, along}
 use Rattle.ly_digraph.specs.Least.{IsLeast, IsBetween}
 use Rattle.ly_join.specs.Grammar.{Grammar, Rule, IsRule, Symbol, symbol_of, terminal, nonterminal}
 use Rattle.ly_join.specs.declared.symbol.Symbol as code
@@ -32,7 +32,7 @@ uses_append left (nonterminal A ∷ v) w = ap (λ es. (A, left) ∷ es) (uses_ap
 -- those of one symbol more
 pub uses_more : (left : ℕ) (xs : List code.Symbol) (n : ℕ) (d : code.Symbol) → n < length xs
     → uses left (map symbol_of (take (n + 1) xs))
-        ≡ uses left (map symbol_of (take n xs)) ++ uses left (symbol_of (slice_index_or xs n d) ∷ [])
+    ≡ uses left (map symbol_of (take n xs)) ++ uses left (symbol_of (slice_index_or xs n d) ∷ [])
 uses_more left xs n d lt =
     ap (λ k. uses left (map symbol_of (take k xs))) (add-one n)
     ∙ ap (λ ys. uses left (map symbol_of ys)) (take-suc xs n d lt)
@@ -46,8 +46,11 @@ use_of left [] A B member = Contains-none (A, B) member
 use_of left (terminal t ∷ w) A B member =
     let rest = use_of left w A B member in (rest.0, Contains-later (terminal t) w (nonterminal A) rest.1)
 use_of left (nonterminal C ∷ w) A B member = elim (Contains-cons_cases (C, left) (uses left w) (A, B) member) [
-  | inl same ↦ (sym (ap (λ e. e.1) same), subst (λ D. Contains (nonterminal C ∷ w) (nonterminal D)) (ap (λ e. e.0) same)
-      (Contains-first (nonterminal C) w))
+  | inl same ↦ (
+    sym (ap (λ e. e.1) same),
+    subst (λ D. Contains (nonterminal C ∷ w) (nonterminal D)) (ap (λ e. e.0) same)
+        (Contains-first (nonterminal C) w),
+  )
   | inr later ↦
       let rest = use_of left w A B later in (rest.0, Contains-later (nonterminal C) w (nonterminal A) rest.1)
 ]
@@ -78,7 +81,7 @@ pub of_rules_more : {X : Type 0} (f : Rule → List X) (rules : List (Option Rul
 of_rules_more f rules n o there =
     ap (λ k. of_rules f (take k rules)) (add-one n)
     ∙ ap (of_rules f) (take-suc rules n o (slice_get_within rules n o there)
-        ∙ ap (λ x. take n rules ++ x ∷ []) (get_or_from_slice_get rules n o o there))
+    ∙ ap (λ x. take n rules ++ x ∷ []) (get_or_from_slice_get rules n o o there))
     ∙ of_rules_append f (take n rules) (o ∷ [])
 
 -- what comes of some rule
@@ -129,7 +132,7 @@ way_grows g given sets i j n least (along a b c edge way) member
 -- what the rules of a grammar are made to is known of them up to a number, and one rule more is kept or not
 pub kept_more : {X : Type 0} (f : Rule → List X) (G : Grammar) (kept : List Bool) (n : ℕ) (r : Rule) → IsRule G n r
     → slice_index_or kept n false ≡ true → of_rules f (take (n + 1) (marked kept G.rules))
-        ≡ of_rules f (take n (marked kept G.rules)) ++ f r
+    ≡ of_rules f (take n (marked kept G.rules)) ++ f r
 kept_more f G kept n r rule on = of_rules_more f (marked kept G.rules) n (Some r) (at_marked kept G.rules n r rule on)
     ∙ ap (λ xs. of_rules f (take n (marked kept G.rules)) ++ xs) (append-nil (f r))
 
@@ -150,7 +153,7 @@ only_there rows i j lt member = elim (same_or_not j i) [
   | inr other ↦
       let e : row (one_member rows i) j ≡ set.empty
       = get_or-set_other (replicate rows set.empty) i j (set.insert (row (replicate rows set.empty) i) 0) set.empty other
-          ∙ default_everywhere rows j set.empty in
+      ∙ default_everywhere rows j set.empty in
       let no : false ≡ true = sym (contains-empty nat_cmp 0) ∙ ap (λ s. set.contains s 0) (sym e) ∙ member in
       absurd (cc)
 ]
@@ -158,7 +161,7 @@ only_there rows i j lt member = elim (same_or_not j i) [
 pub is_there : (rows i : ℕ) → i < rows → Member (row (one_member rows i) i) 0
 is_there rows i lt =
     ap (λ s. set.contains s 0) (get_or-set_same (replicate rows set.empty) i
-        (set.insert (row (replicate rows set.empty) i) 0) set.empty (subst (λ n. i < n) (sym (length-replicate rows set.empty)) lt))
+    (set.insert (row (replicate rows set.empty) i) 0) set.empty (subst (λ n. i < n) (sym (length-replicate rows set.empty)) lt))
     ∙ contains-insert_nat (row (replicate rows set.empty) i) 0 0
 
 -- the rows that come of one member in the start symbol's row have it exactly where the start symbol leads to them

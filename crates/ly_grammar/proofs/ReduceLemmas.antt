@@ -1,8 +1,8 @@
 -- The grammar of the useful rules.
-use Rattle.std.proofs.Common.{◌≡◌, ◌≤◌, ◌∙◌, ◌⊎◌, ◌↔◌, ◌∷◌, ℕ, zero, suc, List, [], Bool, true, false, sym, ap, subst, arith}
-use Rattle.std.proofs.Common.{inl, inr, refl, length, Contains, slice_index_or}
+use Rattle.std.proofs.Common.{◌≡◌, ◌∙◌, ◌⊎◌, ◌↔◌, ◌∷◌, ℕ, zero, suc, List, [], Bool, true, false, sym, subst, arith}
+use Rattle.std.proofs.Common.{inl, inr, refl, length, slice_index_or}
 use Rattle.std.proofs.lemmas.List.{append-nil}
-use Rattle.ly_base.specs.Trees.{Tree, Trees, leaf, node, none, more, yield_of, yields_of, Occurs, OccursAmong}
+use Rattle.ly_base.specs.Trees.{Tree, Trees, leaf, node, none, more, yield_of, Occurs, OccursAmong}
 use Rattle.ly_join.specs.Grammar.{Grammar, Rule, IsRule, IsGrammar, Symbol, accept_rule, terminal, nonterminal}
 use Rattle.ly_grammar.specs.Derivations.{IsTree, AreTrees, IsNullable, IsReduced, IsUseful}
 use Rattle.ly_sets.specs.NumberSet.{Member}
@@ -88,8 +88,10 @@ module _ (G : Grammar) (marks : List Bool) (lawful : IsGrammar G) (long : length
     accept = refl;
     start = refl;
     numbers = length-marked marks G.rules long;
-    rules = λ p r. (λ rule. let there = marked_at marks G.rules p r rule in (there.0, (useful p r there.0).0 there.1),
-        λ is. at_marked marks G.rules p r is.0 ((useful p r is.0).1 is.1));
+    rules = λ p r. (
+      λ rule. let there = marked_at marks G.rules p r rule in (there.0, (useful p r there.0).0 there.1),
+      λ is. at_marked marks G.rules p r is.0 ((useful p r is.0).1 is.1),
+    );
   }
 
   pub is_reduced : (d : Tree) × IsTree G (nonterminal G.start) d → IsReduced (restricted marks G)

@@ -1,19 +1,17 @@
 -- Steps of the search: what is known stays known.
-use Rattle.std.proofs.Common.{◌≡◌, ◌≢◌, ◌<◌, ◌≤◌, ◌+◌, ◌*◌, ◌∙◌, ◌⊎◌, ℕ, zero, suc, List, [], ◌∷◌, ◌++◌, Bool, true, false, sym, ap}
-use Rattle.std.proofs.Common.{subst, arith, inl, inr, refl, take, length, Contains, slice_index_or, slice_get, slice_set}
+use Rattle.std.proofs.Common.{◌≡◌, ◌≢◌, ◌<◌, ◌≤◌, ◌+◌, ◌∙◌, ◌⊎◌, ℕ, zero, suc, List, [], ◌∷◌, ◌++◌, Bool, true, false, sym, ap}
+use Rattle.std.proofs.Common.{subst, arith, inl, inr, refl, take, length, Contains, slice_index_or, slice_set}
 use Rattle.std.proofs.Common.{Some, if◌then◌else◌}
 use Rattle.std.proofs.lemmas.Bool.{cases_lt}
 use Rattle.std.proofs.lemmas.List.{get_or-set_same, get_or-set_other, length-set, length-append}
 use Rattle.std.proofs.lemmas.List.Elements.{Contains-append_cases, Contains-append_left, Contains-append_right}
-use Rattle.std.proofs.lemmas.Option.{slice_get_within, get_or_from_slice_get}
 use Rattle.ly_base.proofs.MemberLemmas.{Contains-none, Contains-first, Contains-later, Contains-one, Contains-cons_cases}
 use Rattle.ly_base.specs.Trees.{leaf, node, none, more, yield_of, yields_of}
 use Rattle.ly_join.specs.Grammar.{Grammar, Rule, IsRule, Symbol, terminal, nonterminal}
-use Rattle.ly_grammar.specs.Derivations.{IsTree, AreTrees}
-use Rattle.ly_grammar.specs.Private.Search.{Progress, IsSearch, HasPlaces, HasTree, HaveTrees, AllPass, GoesOn, Advances}
-use Rattle.ly_grammar.specs.Private.Search.{Settled, found, stopped, waiting, to_come, passes, was_found, waits_for}
-use Rattle.ly_grammar.specs.Private.Search.{with_found, with_passed, with_waiting, unfound, left_to_do}
-use Rattle.ly_grammar.proofs.PassLemmas.{StayFound, still_passes, found_now, stay_found}
+use Rattle.ly_grammar.specs.Private.Search.{Progress, IsSearch, HasTree, HaveTrees, AllPass, GoesOn}
+use Rattle.ly_grammar.specs.Private.Search.{Settled, found, stopped, waiting, to_come, was_found, waits_for}
+use Rattle.ly_grammar.specs.Private.Search.{with_found, with_passed, with_waiting, unfound}
+use Rattle.ly_grammar.proofs.PassLemmas.{still_passes, found_now, stay_found}
 
 -- numbers are one, or not
 pub same_or_not : (i j : ℕ) → (i ≡ j) ⊎ (i ≢ j)
@@ -42,9 +40,11 @@ body_trees G marks allowed (terminal t ∷ w) sound all =
     (more (leaf (record { terminal = t; at = 0; bytes = [] })) rest.0, (refl, rest.1), λ e. cc)
 body_trees G marks allowed (nonterminal A ∷ w) sound all =
     let rest = body_trees G marks allowed w sound (λ X m. all X (Contains-later (nonterminal A) w X m)) in
-    let first = sound A (all (nonterminal A) (Contains-first (nonterminal A) w)) in
-    (more first.0 rest.0, (first.1, rest.1),
-        λ e. ap (λ ys. ys ++ yields_of rest.0) (first.2 e) ∙ rest.2 e)
+    let first = sound A (all (nonterminal A) (Contains-first (nonterminal A) w)) in (
+      more first.0 rest.0,
+      (first.1, rest.1),
+      λ e. ap (λ ys. ys ++ yields_of rest.0) (first.2 e) ∙ rest.2 e,
+    )
 
 -- and each symbol of a string that has trees has one
 pub member_tree : (G : Grammar) (allowed : Bool) (w : List Symbol) (X : Symbol) → HaveTrees G allowed w → Contains w X
@@ -212,11 +212,11 @@ waiting_rule : (G : Grammar) (s : Progress) (A p : ℕ) (r : Rule) → IsSearch 
     → (B q : ℕ) → Contains (waits_for (with_waiting s A p) B) q → (r2 : Rule) × IsRule G q r2
 waiting_rule G s A p r is rule lt B q w = elim (same_or_not B A) [
   | inl same ↦ elim (Contains-append_cases (waits_for s A) (p ∷ []) q
-        (subst (λ ps. Contains ps q) (ap (λ C. waits_for (with_waiting s A p) C) same
-            ∙ get_or-set_same s.waiting A (waits_for s A ++ p ∷ []) [] lt) w)) [
-    | inl before ↦ is.rules_wait A q before
-    | inr last ↦ (r, subst (λ k. IsRule G k r) (Contains-one p q last) rule)
-  ]
+      (subst (λ ps. Contains ps q) (ap (λ C. waits_for (with_waiting s A p) C) same
+      ∙ get_or-set_same s.waiting A (waits_for s A ++ p ∷ []) [] lt) w)) [
+        | inl before ↦ is.rules_wait A q before
+        | inr last ↦ (r, subst (λ k. IsRule G k r) (Contains-one p q last) rule)
+      ]
   | inr other ↦ is.rules_wait B q
       (subst (λ ps. Contains ps q) (get_or-set_other s.waiting A B (waits_for s A ++ p ∷ []) [] other) w)
 ]

@@ -1,5 +1,5 @@
 -- A search that begins, and the places of its rules.
-use Rattle.std.proofs.Common.{◌≡◌, ◌<◌, ◌≤◌, ◌+◌, ◌∙◌, ℕ, List, [], Bool, true, false, sym, ap, subst, arith, refl, inl, inr, length}
+use Rattle.std.proofs.Common.{◌≡◌, ◌<◌, ◌+◌, ◌∙◌, ℕ, List, [], Bool, true, false, sym, subst, arith, inl, inr, length}
 use Rattle.std.proofs.Common.{replicate, take, Contains, slice_index_or, Some}
 use Rattle.std.proofs.lemmas.List.{length-replicate, get_or-replicate, get_or_past}
 use Rattle.std.proofs.lemmas.Bool.{cases_lt}
@@ -7,7 +7,7 @@ use Rattle.std.proofs.lemmas.Option.{slice_get_within}
 use Rattle.ly_base.proofs.MemberLemmas.{Contains-none}
 use Rattle.ly_join.specs.Grammar.{Grammar, Rule, IsRule, IsGrammar}
 use Rattle.ly_grammar.specs.Reduction.{marked, restricted}
-use Rattle.ly_grammar.specs.Private.Search.{Progress, IsSearch, HasPlaces, RuleNumbered, was_found, waits_for}
+use Rattle.ly_grammar.specs.Private.Search.{Progress, IsSearch, HasPlaces, RuleNumbered}
 use Rattle.ly_grammar.proofs.MarkedLemmas.{at_marked, marked_at, rule_numbered}
 
 -- a list of one value has it everywhere

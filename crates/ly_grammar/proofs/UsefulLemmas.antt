@@ -1,5 +1,5 @@
 -- Useful rules: those whose bodies have trees, and whose left sides the start symbol leads to by such rules.
-use Rattle.std.proofs.Common.{◌≡◌, ◌∙◌, ◌⊎◌, ◌↔◌, ℕ, List, [], ◌∷◌, Bool, true, false, sym, ap, subst, inl, inr, refl, Contains}
+use Rattle.std.proofs.Common.{◌≡◌, ◌↔◌, ℕ, List, [], ◌∷◌, Bool, true, false, sym, subst, inl, inr, refl, Contains}
 use Rattle.std.proofs.Common.{slice_index_or}
 use Rattle.ly_base.proofs.MemberLemmas.{Contains-none, Contains-first, Contains-later, Contains-cons_cases}
 use Rattle.ly_base.specs.Trees.{Tree, Trees, leaf, node, none, more, Occurs, OccursAmong}
@@ -86,7 +86,7 @@ module _ (G : Grammar) (marks : List Bool) (productive : AreProductive G marks) 
         }
     occurs_led A (node q ts) p led (r, rule, left, are) (inr among) =
         among_led r.body ts p (λ B member. through q r B (mark q r ts rule are)
-            (subst (λ C. Reached (restricted marks G) C) (sym left) led) member) are among
+        (subst (λ C. Reached (restricted marks G) C) (sym left) led) member) are among
 
     -- and so are those that occur among trees of such
     pub among_led : (w : List Symbol) (ts : Trees) (p : ℕ)

@@ -1,3 +1,4 @@
 pub mod First
 pub mod Reach
 pub mod Search
+pub mod Sizes

@@ -1,5 +1,5 @@
 -- A grammar with its useless rules removed, and what its nonterminals derive.
-use Rattle.std.specs.Prelude.{◌≡◌, ◌↔◌, ℕ, ◌<◌, ◌≤◌, List, [], ◌∷◌, ◌⊎◌, Bool, true, false, Option, None, slice_index_or}
+use Rattle.std.specs.Prelude.{◌≡◌, ◌↔◌, ℕ, ◌≤◌, List, [], ◌∷◌, ◌⊎◌, Bool, true, false, Option, None, slice_index_or}
 use Rattle.std.specs.Prelude.{length, IsTrue}
 use Rattle.std.specs.Prelude.{refl}
 use Rattle.std.specs.Coded.{Coded, code_by, coded×, coded_bool, coded_ℕ, coded_list}
@@ -7,7 +7,7 @@ use Rattle.std.specs.FinSet as set
 use Rattle.ly_join.specs.GrammarCode.{grammar_code}
 use Rattle.ly_sets.specs.NumberSet.{NumberSet, Member}
 use Rattle.ly_sets.specs.SetMatrix.{Matrix, row}
-use Rattle.ly_join.specs.Grammar.{Grammar, Rule, IsRule, Symbol, nonterminal}
+use Rattle.ly_join.specs.Grammar.{Grammar, Rule, IsRule, nonterminal}
 use Rattle.ly_grammar.specs.Derivations.{Begins, IsNullable, IsReduced, IsUseful}
 
 -- the rules whose number is marked; the others are removed

@@ -1,4 +1,4 @@
-ghost use Rattle.std.specs.Prelude.{◌≡◌, ◌<◌, ◌≤◌, ◌↔◌, ℕ, length, IsTrue, IfOk, Err};
+ghost use Rattle.std.specs.Prelude.{◌≡◌, ◌<◌, ◌≤◌, ◌↔◌, ℕ, length, IsTrue, IfOk, Err, [], ◌∷◌};
 ghost use Rattle.ly_base.specs.Trees.{Tree};
 ghost use Rattle.ly_sets.specs.NumberSet.{Member};
 ghost use Rattle.ly_sets.specs.SetMatrix.{row};
@@ -37,10 +37,12 @@ impl<'a> Model for Reduced<'a> {
     ghost coded = { reduction_code };
 
     ghost use Rattle.ly_grammar.specs.Reduction.{reduction_of, IsReduction};
+    ghost use Rattle.ly_grammar.specs.Private.Sizes.{HasSizes};
 
     ghost view = { λ r. reduction_of r.grammar.now r.kept.items r.nullable.items r.first };
 
-    ghost invariant = { λ r. IsReduction r.grammar.now (reduction_of r.grammar.now r.kept.items r.nullable.items r.first) };
+    ghost invariant = { λ r. IsReduction r.grammar.now (reduction_of r.grammar.now r.kept.items r.nullable.items r.first)
+        × HasSizes r.grammar.now r.kept.items r.nullable.items r.first };
 }
 
 /// Removes the rules that occur in no tree of the start symbol, and finds which nonterminals are nullable and which
@@ -62,4 +64,38 @@ pub fn reduce<'a>(alloc: Global, grammar: &'a Grammar) -> Result<Reduced<'a>, Gr
         nullable,
         first,
     })
+}
+
+impl<'a> Reduced<'a> {
+    /// The grammar with all rules.
+    pub fn grammar(&self) -> &'a Grammar
+        ensures { IsReduction result.now self.now }
+    {
+        self.grammar
+    }
+
+    /// Whether the rule of a number is left: rule 0, or a useful rule.
+    pub fn is_kept(&self, number: usize) -> bool
+        requires { number < length self.now.grammar.rules }
+        ensures { IsTrue result ↔ ((r : Rule) × IsRule self.now.grammar number r) }
+    {
+        self.kept[number]
+    }
+
+    /// Whether a nonterminal derives the empty string.
+    pub fn is_nullable(&self, symbol: Sym) -> bool
+        requires { symbol.0 ≤ self.now.grammar.accept }
+        ensures { IsTrue result ↔ IsNullable self.now.grammar (nonterminal symbol.0 ∷ []) }
+    {
+        self.nullable[symbol.0 as usize]
+    }
+
+    /// Whether a terminal may begin what a nonterminal derives.
+    pub fn begins(&self, symbol: Sym, terminal: Sym) -> bool
+        requires symbol { symbol.0 ≤ self.now.grammar.accept }
+        requires terminal { terminal.0 < self.now.grammar.terminals }
+        ensures { IsTrue result ↔ Begins self.now.grammar (nonterminal symbol.0 ∷ []) terminal.0 }
+    {
+        self.first.contains(symbol.0 as usize, terminal)
+    }
 }

@@ -69,11 +69,7 @@ fn body_passes(rule: &GrammarRule, found: &[bool]) -> bool
 }
 
 /// The nonterminals that the start symbol leads to by productive rules: 0 is in the rows of these.
-fn reached(
-    alloc: Global,
-    grammar: &Grammar,
-    productive: &[bool],
-) -> Result<SetMatrix, OutOfMemory>
+fn reached(alloc: Global, grammar: &Grammar, productive: &[bool]) -> Result<SetMatrix, OutOfMemory>
     requires { length productive.now ≡ length grammar.now.rules }
     ensures width { IfOk result (λ m. m.width ≡ 1) }
     ensures rows { IfOk result (λ m. length m.sets ≡ grammar.now.accept + 1) }

@@ -1,8 +1,8 @@
 -- The numbered rules of a grammar.
-use Rattle.std.proofs.Common.{◌≡◌, ◌<◌, ◌≤◌, ℕ, zero, suc, List, [], ◌∷◌, All, slice_get, map, Some, Option, refl, subst}
+use Rattle.std.proofs.Common.{◌≡◌, ◌<◌, ◌≤◌, ℕ, zero, suc, List, [], ◌∷◌, All, slice_get, map, Some, refl, subst, length}
 use Rattle.std.proofs.Common.{arith}
 use Rattle.std.proofs.lemmas.List.Elements.{All-tail}
-use Rattle.ly_join.specs.Grammar.{Rule, Grammar, IsRule, IsGrammar, RuleWithin, accept_rule, grammar_from}
+use Rattle.ly_join.specs.Grammar.{Rule, IsRule, IsGrammar, RuleWithin, accept_rule, grammar_from}
 
 -- a rule that stands among some meets what all of these meet
 pub all_at : (P : Rule → Type 0) (rules : List Rule) (k : ℕ) (r : Rule) → All P rules
@@ -16,11 +16,17 @@ pub grammar_of : (terminals accept start : ℕ) (rules : List Rule) → start < 
     → All (RuleWithin terminals accept) rules
     → IsGrammar (grammar_from terminals accept start (accept_rule accept start ∷ rules))
 grammar_of terminals accept start rules within some all = record {
+  whole = there (accept_rule accept start ∷ rules);
   end_within = some;
   start_within = within;
   rule_0 = refl;
   within = within_at;
 } where
+  there : (rs : List Rule) (p : ℕ) → p < length (map Some rs) → (r : Rule) × (slice_get (map Some rs) p ≡ Some (Some r))
+  there [] p lt = absurd (omega (arith, lt))
+  there (r ∷ rs) zero lt = (r, refl)
+  there (r ∷ rs) (suc p) lt = there rs p (omega (arith, lt))
+
   within_at : (p : ℕ) (r : Rule) → IsRule (grammar_from terminals accept start (accept_rule accept start ∷ rules)) p r
       → 1 ≤ p → RuleWithin terminals accept r
   within_at zero r here le = absurd (omega arith)

@@ -1,5 +1,5 @@
 -- Grammars over numbered symbols, with a rule for the whole text (Knuth 1965).
-use Rattle.std.specs.Prelude.{◌≡◌, ◌≢◌, ℕ, ◌<◌, ◌≤◌, List, [], ◌∷◌, map, All, Option, Some, slice_get}
+use Rattle.std.specs.Prelude.{◌≡◌, ℕ, ◌<◌, ◌≤◌, List, [], ◌∷◌, map, All, Option, Some, slice_get, length}
 use Rattle.ly_join.specs.declared.symbol.Symbol as code
 use Rattle.ly_join.specs.declared.symbol.Symbol.TheVariants.{Terminal, Nonterminal}
 
@@ -39,8 +39,9 @@ pub record RuleWithin (terminals accept : ℕ) (r : Rule) : Type 0 where
   pub left : r.left < accept
   pub body : All (SymbolWithin terminals accept) r.body
 
--- Rule 0 is that of the whole text, and no other rule has the whole text or the end in it.
+-- Rule 0 is that of the whole text, no other rule has the whole text or the end in it, and none is removed.
 pub record IsGrammar (G : Grammar) : Type 0 where
+  pub whole : (p : ℕ) → p < length G.rules → (r : Rule) × IsRule G p r
   pub end_within : 0 < G.terminals
   pub start_within : G.start < G.accept
   pub rule_0 : IsRule G 0 (accept_rule G.accept G.start)

@@ -1,5 +1,5 @@
 -- Which rules have trees for their bodies, and which nonterminals the start symbol leads to.
-use Rattle.std.specs.Prelude.{◌≡◌, ℕ, List, [], ◌∷◌, ◌++◌, Option, Some, None, Contains}
+use Rattle.std.specs.Prelude.{ℕ, List, [], ◌∷◌, ◌++◌, Option, Some, None, Contains}
 use Rattle.ly_join.specs.Grammar.{Grammar, Rule, IsRule, Symbol, terminal, nonterminal}
 
 -- the start symbol leads to the nonterminal: it is that itself, or stands in the body of a rule whose left side is led to

@@ -1,4 +1,4 @@
-use Rattle.std.proofs.Common.{◌≡◌, ◌<◌, sym, ap, subst, length, [], ◌∷◌}
+use Rattle.std.proofs.Common.{◌<◌, sym, subst, length, [], ◌∷◌}
 use Rattle.ly_join.specs.Grammar.{symbol_of}
 use Rattle.ly_join.specs.declared.symbol.Symbol.TheVariants.{Terminal}
 use Rattle.ly_grammar.specs.Private.First.{AreAdded}
@@ -11,4 +11,4 @@ returns-in-Terminal-clause-sets c =
     let lt : c.args.left < length m.sets = subst (λ n. c.args.left < n) (sym c.requires.rows) c.requires.left in
     subst (λ s. AreAdded m c.insert.new.self c.args.left (symbol_of s ∷ [])) (sym c.in-Terminal.is)
     (subst (λ n. AreAdded m n c.args.left (symbol_of (Terminal c.in-Terminal.terminal) ∷ [])) (sym c.insert.ensures)
-        (inserted m c.args.left c.in-Terminal.terminal.0 lt))
+    (inserted m c.args.left c.in-Terminal.terminal.0 lt))

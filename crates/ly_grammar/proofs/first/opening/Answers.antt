@@ -1,10 +1,9 @@
-use Rattle.std.proofs.Common.{◌≡◌, ◌<◌, ◌≤◌, ◌∙◌, suc, sym, ap, subst, map, take, length, slice_get, slice_index_or, Some, List}
+use Rattle.std.proofs.Common.{◌≡◌, ◌<◌, ◌≤◌, ◌∙◌, sym, ap, subst, map, take, length, slice_get, slice_index_or, Some, List}
 use Rattle.std.proofs.Common.{false, add-one, ◌+◌}
 use Rattle.std.proofs.lemmas.List.{length-map, take-map, take_all}
 use Rattle.std.proofs.lemmas.Option.{slice_get-get_or}
 use Rattle.ly_base.proofs.MemberLemmas.{Contains-none}
 use Rattle.ly_join.specs.Grammar.{Symbol, symbol_of, terminal}
-use Rattle.ly_grammar.specs.Private.First.{opening}
 use Rattle.ly_grammar.specs.Private.Search.{AllPass}
 use Rattle.ly_grammar.proofs.FirstLemmas.{opening_all, opening_to}
 use Rattle.ly_grammar.proofs.first.opening.Goals as goal

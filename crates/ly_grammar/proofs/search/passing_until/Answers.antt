@@ -1,8 +1,7 @@
-use Rattle.std.proofs.Common.{◌≡◌, ◌<◌, subst, sym, ◌∙◌, arith, length, map, slice_index_or, true, false, List, Bool}
+use Rattle.std.proofs.Common.{◌≡◌, ◌<◌, subst, sym, ◌∙◌, arith, length, map, slice_index_or, true, false, List}
 use Rattle.std.proofs.Math.ListN.{get_or-map}
 use Rattle.std.proofs.lemmas.List.{length-map}
 use Rattle.std.proofs.lemmas.Option.{get_or_from_slice_get, slice_get_within}
-use Rattle.ly_join.specs.Grammar as join
 use Rattle.ly_join.specs.Grammar.{symbol_of}
 use Rattle.ly_join.specs.declared.symbol.Symbol.{Symbol}
 use Rattle.ly_join.specs.declared.symbol.Symbol.TheVariants.{Terminal}
@@ -30,9 +29,9 @@ loop-at-preserved c =
     let at = c.loop-at.at in
     let lt = c.loop-at-test.true in
     let here : passes c.args.found.now c.args.terminals (slice_index_or (map symbol_of body) at (symbol_of nowhere))
-        ≡ true
+    ≡ true
     = subst (λ X. passes c.args.found.now c.args.terminals X ≡ true) (sym (get_or-map symbol_of body at nowhere))
-        (sym c.symbol_passes.ensures ∙ c.if-symbol_passes.true) in
+    (sym c.symbol_passes.ensures ∙ c.if-symbol_passes.true) in
     record {
       within = omega (arith, lt);
       passing = λ before. pass_more c.args.found.now c.args.terminals (map symbol_of body) at (symbol_of nowhere)
@@ -45,7 +44,7 @@ returns-else-symbol_passes-clause-stops c X here =
     let at = c.loop-at.at in
     let same : X ≡ symbol_of (slice_index_or body at nowhere)
     = sym (get_or_from_slice_get (map symbol_of body) at X (symbol_of nowhere) here)
-        ∙ get_or-map symbol_of body at nowhere in
+    ∙ get_or-map symbol_of body at nowhere in
     subst (λ Y. passes c.args.found.now c.args.terminals Y ≡ false) (sym same)
     (sym c.symbol_passes.ensures ∙ c.if-symbol_passes.false)
 

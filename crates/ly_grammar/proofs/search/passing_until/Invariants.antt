@@ -1,4 +1,4 @@
-use Rattle.std.proofs.Common.{◌≡◌, ◌≤◌, ◌-◌, map, length, take}
+use Rattle.std.proofs.Common.{◌≤◌, ◌-◌, map, length, take}
 use Rattle.ly_join.specs.Grammar.{symbol_of}
 use Rattle.ly_grammar.specs.Private.Search.{AllPass}
 use Rattle.ly_grammar.proofs.search.passing_until.Given as goal

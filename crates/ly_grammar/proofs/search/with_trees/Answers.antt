@@ -1,16 +1,14 @@
-use Rattle.std.proofs.Common.{◌≡◌, ◌<◌, ◌≤◌, ◌+◌, ◌∙◌, ℕ, List, Bool, [], ◌∷◌, sym, ap, subst, arith, length, inl, inr, Contains}
+use Rattle.std.proofs.Common.{◌≡◌, ◌<◌, ◌+◌, ◌∙◌, ℕ, List, [], sym, ap, subst, arith, length, Contains}
 use Rattle.std.proofs.Common.{slice_index_or, true, false, drop, map, Some, ◌↔◌}
-use Rattle.std.proofs.lemmas.Bool.{cases_lt}
 use Rattle.std.proofs.lemmas.List.{drop_more, drop_all, length-map}
 use Rattle.std.proofs.lemmas.Option.{slice_get_within}
 use Rattle.std.proofs.lemmas.List.Elements.{Contains-get_or}
-use Rattle.ly_join.specs.Grammar.{Grammar, Rule, IsRule, IsGrammar, nonterminal}
-use Rattle.ly_grammar.specs.Reduction.{marked, restricted}
-use Rattle.ly_grammar.specs.Private.Search.{Progress, IsSearch, HasPlaces, HasTree, Advances, AllPass, Settled, was_found}
+use Rattle.ly_join.specs.Grammar.{Grammar, Rule, IsRule, nonterminal}
+use Rattle.ly_grammar.specs.Reduction.{restricted}
+use Rattle.ly_grammar.specs.Private.Search.{Progress, IsSearch, HasTree, Advances, AllPass, Settled, was_found}
 use Rattle.ly_grammar.proofs.MarkedLemmas.{at_marked, marked_at, length-marked}
 use Rattle.ly_grammar.proofs.StartLemmas.{begun, is_begun, kept_rule, places_of}
 use Rattle.ly_grammar.proofs.CloseLemmas.{AreSettledBelow, IsTaken, closed, tree_passes, taken, one_less, settled_to, settled_past}
-use Rattle.ly_grammar.proofs.SearchLemmas.{rule_is_one}
 use Rattle.ly_grammar.proofs.search.with_trees.Goals as goal
 use Rattle.ly_grammar.proofs.search.with_trees.Goals.{then-kept-number+in_ok-advance, else-kept-number}
 
@@ -66,8 +64,8 @@ loop-number-preserved c =
       | else-kept-number w ↦
           let off = w.if-kept-number.false in
           let now = settled_past R s n below (λ r rule.
-              let on : slice_index_or kept n false ≡ true = (marked_at kept G.rules n r rule).1 in
-              let no : true ≡ false = sym on ∙ off in absurd (cc)) in
+          let on : slice_index_or kept n false ≡ true = (marked_at kept G.rules n r rule).1 in
+          let no : true ≡ false = sym on ∙ off in absurd (cc)) in
           let both = subst After (sym w.search-is) (now, known.terminals) in
           record { search = both.0.search; terminals = both.1; settled = both.0.settled }
     ]
@@ -83,7 +81,7 @@ loop-waiting-init c =
           let there = marked_at c.args.kept.now c.args.grammar.now.rules p r rule in
           let within = slice_get_within c.args.grammar.now.rules p (Some r) there.0 in
           let long = sym (length-map c.rules-number-end.result.now Some)
-              ∙ ap length c.rules-number-end.ensures.these in
+          ∙ ap length c.rules-number-end.ensures.these in
           let past = c.loop-number-test.false in
           omega (arith, within, long, past));
     }
@@ -115,7 +113,7 @@ here : (G : Grammar) (s next : Progress) (rules items : List ℕ) (at : ℕ) →
     → at < length items → (r : Rule) × IsRule G (slice_index_or items at 0) r
 here G s next rules items at is same lt
     = is.known (slice_index_or items at 0) (subst (λ ps. Contains ps (slice_index_or items at 0)) same
-        (Contains-get_or items at 0 lt))
+    (Contains-get_or items at 0 lt))
 
 pub rule-requires-in-loop-number-2 : goal.rule-requires-in-loop-number-2
 rule-requires-in-loop-number-2 c =
@@ -126,7 +124,7 @@ rule-requires-in-loop-number-2 c =
     let at = c.loop-number-2.number-index in
     let t = taken R c.loop-waiting.search c.next.new.self rules c.loop-waiting.invariant.search c.in-Some.ensures in
     let known = here R c.loop-waiting.search c.next.new.self rules items at t c.deref-number-items.ensures.value
-        c.loop-number-2-test.true in
+    c.loop-number-2-test.true in
     slice_get_within G.rules (slice_index_or items at 0) (Some known.0)
     (marked_at c.args.kept.now G.rules (slice_index_or items at 0) known.0 known.1).0
 
@@ -140,7 +138,7 @@ advance-requires-in-loop-number-2 c =
     let at = c.loop-number-2.number-index in
     let t = taken R c.loop-waiting.search c.next.new.self rules c.loop-waiting.invariant.search c.in-Some.ensures in
     let known = here R c.loop-waiting.search c.next.new.self rules items at t c.deref-number-items.ensures.value
-        c.loop-number-2-test.true in
+    c.loop-number-2-test.true in
     let p = slice_index_or items at 0 in
     let r : Rule = c.rule-in-loop-number-2.result.now in
     places_of G kept c.loop-number-2.search p r c.rules-number-end.ensures.lawful c.loop-number-2.invariant.search
@@ -156,7 +154,7 @@ loop-number-2-preserved c =
     let at = c.loop-number-2.number-index in
     let t = taken R c.loop-waiting.search c.next.new.self rules c.loop-waiting.invariant.search c.in-Some.ensures in
     let known = here R c.loop-waiting.search c.next.new.self rules items at t c.deref-number-items.ensures.value
-        c.loop-number-2-test.true in
+    c.loop-number-2-test.true in
     let p = slice_index_or items at 0 in
     let s : Progress = c.loop-number-2.search in
     let next : Progress = c.advance-in-loop-number-2.new.self in
@@ -170,7 +168,7 @@ loop-number-2-preserved c =
       terminals = step.on.terminals ∙ was.terminals;
       settled = λ q r2 rule2. one_less R next p rest r rule (step.settled rest) q r2 rule2
           (subst (λ ps. Settled next ps q r2) (drop_more items at 0 c.loop-number-2-test.true)
-              (step.on.others (drop at items) q r2 (was.settled q r2 rule2)));
+          (step.on.others (drop at items) q r2 (was.settled q r2 rule2)));
       work = (let one = step.on.work in let two = was.work in omega (arith, one, two));
     }
 
@@ -194,7 +192,7 @@ returns-clause-exact c =
     let over = c.in_default.ensures in
     let same : c.search-2.inside.found.items ≡ s.found = ap (λ n. n.found) (c.search-2.view_is ∙ over.1) in
     let close : (p : ℕ) (r : Rule) → IsRule R p r → AllPass s.found s.terminals r.body
-        → was_found s r.left ≡ true
+    → was_found s r.left ≡ true
     = λ p r rule. closed s p r over.0 (known.settled p r rule) in
     let exact : (A : ℕ) → (was_found s A ≡ true) ↔ HasTree R s.terminals (nonterminal A)
     = λ A. (known.search.sound A, λ t. tree_passes R s close (nonterminal A) t.0 t.1 t.2) in

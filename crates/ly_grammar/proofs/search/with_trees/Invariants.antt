@@ -1,5 +1,5 @@
-use Rattle.std.proofs.Common.{◌≡◌, ◌<◌, ◌≤◌, ℕ, List, [], drop, Contains}
-use Rattle.ly_join.specs.Grammar.{Grammar, Rule, IsRule}
+use Rattle.std.proofs.Common.{◌≡◌, ◌<◌, ◌≤◌, ℕ, [], drop}
+use Rattle.ly_join.specs.Grammar.{Rule, IsRule}
 use Rattle.ly_grammar.specs.Reduction.{restricted}
 use Rattle.ly_grammar.specs.Private.Search.{IsSearch, Settled, left_to_do}
 use Rattle.ly_grammar.proofs.search.with_trees.Given as goal

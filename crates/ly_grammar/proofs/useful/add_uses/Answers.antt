@@ -21,7 +21,7 @@ add_use-requires-clause-numbered c =
     let nodes : c.loop-symbol.graph.nodes ≡ c.args.graph.now.nodes = ap (λ g. g.nodes) c.loop-symbol.invariant in
     subst (λ n. IsNumbered n (symbol_of (slice_index_or symbols at nowhere))) (sym nodes)
     (place_numbered c.args.graph.now.nodes symbols at nowhere c.loop-symbol-test.true
-        (subst (All (IsNumbered c.args.graph.now.nodes)) (sym c.body-symbol-items.ensures) c.requires.body))
+    (subst (All (IsNumbered c.args.graph.now.nodes)) (sym c.body-symbol-items.ensures) c.requires.body))
 
 pub add_use-requires-clause-left : goal.add_use-requires-clause-left
 add_use-requires-clause-left c =
@@ -38,7 +38,7 @@ loop-symbol-preserved c =
     let graph : List (ℕ × ℕ) → Digraph = λ es. record { nodes = c.args.graph.now.nodes; edges = es } in
     c.in_ok-add_use.ensures
     ∙ ap (λ g. let it : Digraph = record g {
-          edges = g.edges ++ uses left (symbol_of (slice_index_or symbols at nowhere) ∷ []);
-        } in it) c.loop-symbol.invariant
+      edges = g.edges ++ uses left (symbol_of (slice_index_or symbols at nowhere) ∷ []);
+    } in it) c.loop-symbol.invariant
     ∙ ap graph (append_assoc edges before (uses left (symbol_of (slice_index_or symbols at nowhere) ∷ []))
-        ∙ ap (λ es. edges ++ es) (sym (uses_more left symbols at nowhere c.loop-symbol-test.true)))
+    ∙ ap (λ es. edges ++ es) (sym (uses_more left symbols at nowhere c.loop-symbol-test.true)))

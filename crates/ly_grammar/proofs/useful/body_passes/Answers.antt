@@ -1,4 +1,4 @@
-use Rattle.std.proofs.Common.{◌≡◌, ◌≤◌, ◌∙◌, sym, ap, subst, map, take, length, true, eq-eqb, List}
+use Rattle.std.proofs.Common.{◌≡◌, ◌≤◌, ◌∙◌, sym, subst, map, length, true, eq-eqb, List}
 use Rattle.std.proofs.lemmas.Bool.{eqb-true}
 use Rattle.std.proofs.lemmas.List.{length-map}
 use Rattle.ly_base.proofs.MemberLemmas.{Contains-none}
@@ -15,6 +15,7 @@ returns c =
     let at = c.passing_until.result in
     let long : length w ≡ length symbols = length-map symbols symbol_of in
     let ends = passes_to_end found true w at (subst (λ n. at ≤ n) (sym long) c.passing_until.ensures.within)
-        (c.passing_until.ensures.passing (λ X member. Contains-none X member)) c.passing_until.ensures.stops in
-    (λ e. subst (AllPass found true) c.body-body.ensures (ends.0 (eqb-true at (length symbols) e ∙ sym long)),
-        λ all. eq-eqb at (length symbols) (ends.1 (subst (AllPass found true) (sym c.body-body.ensures) all) ∙ long))
+    (c.passing_until.ensures.passing (λ X member. Contains-none X member)) c.passing_until.ensures.stops in (
+      λ e. subst (AllPass found true) c.body-body.ensures (ends.0 (eqb-true at (length symbols) e ∙ sym long)),
+      λ all. eq-eqb at (length symbols) (ends.1 (subst (AllPass found true) (sym c.body-body.ensures) all) ∙ long),
+    )

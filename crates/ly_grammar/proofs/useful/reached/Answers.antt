@@ -1,13 +1,12 @@
-use Rattle.std.proofs.Common.{◌≡◌, ◌<◌, ◌≤◌, ◌+◌, ◌++◌, ◌∙◌, ◌↔◌, ℕ, List, [], sym, ap, subst, arith, length, take, replicate, slice_set}
+use Rattle.std.proofs.Common.{◌≡◌, ◌<◌, ◌+◌, ◌++◌, ◌∙◌, ℕ, List, sym, ap, subst, arith, length, take, slice_set}
 use Rattle.std.specs.FinSet as set
 use Rattle.std.proofs.lemmas.List.{length-replicate, take_all}
 use Rattle.ly_digraph.specs.Digraph.{Digraph}
 use Rattle.ly_digraph.specs.Least.{IsLeast, IsBetween}
 use Rattle.ly_join.specs.Grammar.{Grammar, Rule}
-use Rattle.ly_sets.specs.NumberSet.{NumberSet, Member}
 use Rattle.ly_sets.specs.SetMatrix.{row}
-use Rattle.ly_grammar.specs.Reduction.{marked, restricted}
-use Rattle.ly_grammar.specs.Private.Reach.{Reached, uses, use_edges}
+use Rattle.ly_grammar.specs.Reduction.{restricted}
+use Rattle.ly_grammar.specs.Private.Reach.{uses, use_edges}
 use Rattle.ly_grammar.specs.Private.Search.{RuleNumbered}
 use Rattle.ly_grammar.proofs.MarkedLemmas.{rule_numbered, length-marked}
 use Rattle.ly_grammar.proofs.ReachLemmas.{kept_more, dropped_more, led_rows, one_member, used_graph}
@@ -34,11 +33,11 @@ loop-number-preserved c =
           w.graph-is ∙ w.in_ok-add_uses.ensures
           ∙ ap (λ g. let it : Digraph = record g { edges = g.edges ++ uses r.left r.body } in it) c.loop-number.invariant
           ∙ ap (graph_of G) (sym (kept_more (λ r. uses r.left r.body) G kept n r w.rule.ensures.there
-              w.if-productive-number.true))
+          w.if-productive-number.true))
       | else-productive-number w ↦
           w.graph-is ∙ c.loop-number.invariant
           ∙ ap (graph_of G) (sym (dropped_more (λ r. uses r.left r.body) G kept n lt c.requires
-              w.if-productive-number.false))
+          w.if-productive-number.false))
     ]
 
 pub insert-requires-clause-row : goal.insert-requires-clause-row
@@ -57,16 +56,16 @@ returns-clause-exact c =
     let at = c.start.result.0 in
     let given : c.insert.new.self.sets ≡ one_member (G.accept + 1) G.start
     = ap (λ m. m.sets) c.insert.ensures
-        ∙ ap (λ m. slice_set m.sets at (set.insert (row m.sets at) 0)) c.in_ok-sets.ensures
-        ∙ ap (λ k. one_member (k + 1) at) c.accept.ensures ∙ ap (one_member (G.accept + 1)) c.start.ensures.value in
+    ∙ ap (λ m. slice_set m.sets at (set.insert (row m.sets at) 0)) c.in_ok-sets.ensures
+    ∙ ap (λ k. one_member (k + 1) at) c.accept.ensures ∙ ap (one_member (G.accept + 1)) c.start.ensures.value in
     let all : take c.loop-number.number R.rules ≡ R.rules = take_all c.loop-number.number R.rules
-        (let e = length-marked kept G.rules c.requires in let l = c.requires in let past = c.loop-number-test.false in
-            omega (arith, e, l, past)) in
+    (let e = length-marked kept G.rules c.requires in let l = c.requires in let past = c.loop-number-test.false in
+    omega (arith, e, l, past)) in
     let graph : c.loop-number.graph ≡ used_graph R
     = c.loop-number.invariant ∙ ap (λ rs. graph_of G (use_edges rs)) all in
     let new = c.least.new.sets.sets in
     led_rows R new (let lt = c.start.ensures.within in let s = c.start.ensures.value in omega (arith, lt, s))
     (subst (λ g. IsLeast g (one_member (G.accept + 1) G.start) new) graph
-        (subst (λ old. IsLeast c.loop-number.graph old new) given c.in_ok-least.ensures.least))
+    (subst (λ old. IsLeast c.loop-number.graph old new) given c.in_ok-least.ensures.least))
     (subst (λ g. IsBetween g (one_member (G.accept + 1) G.start) new) graph
-        (subst (λ old. IsBetween c.loop-number.graph old new) given c.in_ok-least.ensures.reached))
+    (subst (λ old. IsBetween c.loop-number.graph old new) given c.in_ok-least.ensures.reached))

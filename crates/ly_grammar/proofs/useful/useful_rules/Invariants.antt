@@ -8,4 +8,4 @@ use Rattle.ly_grammar.proofs.useful.useful_rules.Given as goal
 abbrev pub invariant-loop-number : goal.invariant-loop-number
 invariant-loop-number l = AreMarks l.grammar
     (λ p r. (p ≡ 0) ⊎ ((slice_index_or l.productive.items p false ≡ true)
-        × Reached (restricted l.productive.items l.grammar) r.left)) l.useful.items l.number
+    × Reached (restricted l.productive.items l.grammar) r.left)) l.useful.items l.number

@@ -1,4 +1,4 @@
-use Rattle.std.proofs.Common.{◌≡◌, ◌∙◌, sym, subst, List, ℕ}
+use Rattle.std.proofs.Common.{◌∙◌, sym, subst}
 use Rattle.ly_join.specs.Grammar.{Rule}
 use Rattle.ly_grammar.specs.Private.Search.{Progress, HasPlaces, HasPassed, with_passed}
 use Rattle.ly_grammar.proofs.AdvanceLemmas.{IsRead, copied_get, has_passed}
@@ -27,5 +27,5 @@ returns c =
     } in
     subst (λ n. HasPassed n (with_passed s p at) p r c.copied.result) c.self.view_is
     (has_passed s p r symbols c.deref.result.now c.index.result.now at c.copied.result read
-        (subst (λ n. HasPlaces n p r) (sym c.self.view_is) c.requires)
-        (c.copied.ensures ∙ copied_get c.get.result symbols at c.get.ensures.lookup.0 c.get.ensures.lookup.1))
+    (subst (λ n. HasPlaces n p r) (sym c.self.view_is) c.requires)
+    (c.copied.ensures ∙ copied_get c.get.result symbols at c.get.ensures.lookup.0 c.get.ensures.lookup.1))

@@ -12,7 +12,7 @@ returns c =
     let lt : n < length lists = subst (λ k. n < k) (sym (ap length view) ∙ length-map lists rules) c.requires in
     let there : c.index_mut.result.now.items ≡ slice_index_or c.args.self.now n []
     = ap rules c.index_mut.ensures.value ∙ sym (get_or-map rules lists n _ [] lt)
-        ∙ ap (λ xs. slice_index_or xs n []) view in
+    ∙ ap (λ xs. slice_index_or xs n []) view in
     map-set rules lists n c.push.new.self ∙ ap (λ xs. slice_set xs n c.push.new.self.items) view
     ∙ ap (λ ys. slice_set c.args.self.now n ys)
-        (c.in_ok-push.ensures.items ∙ ap (λ ys. ys ++ c.args.rule ∷ []) there)
+    (c.in_ok-push.ensures.items ∙ ap (λ ys. ys ++ c.args.rule ∷ []) there)

@@ -1,4 +1,4 @@
-use Rattle.std.proofs.Common.{◌≡◌, ◌∙◌, ap, List, ℕ, slice_set, Vec}
+use Rattle.std.proofs.Common.{◌∙◌, ap, List, ℕ, slice_set, Vec}
 use Rattle.std.proofs.lemmas.List.{map-set}
 use Rattle.std.specs.declared.alloc.Global.{Global}
 use Rattle.ly_grammar.proofs.waiting.Waiting.take.Goals as goal

@@ -12,10 +12,10 @@ invariant_of-result c =
     let pushed : List Symbol → Symbol → List Symbol = λ xs x. xs ++ x ∷ [] in
     let end : Symbol = Terminal (record { 0 = 0 }) in
     let body : c.push-2.new.self.items ≡ Nonterminal start ∷ end ∷ [] = c.in_ok-push-2.ensures.items
-        ∙ ap (λ xs. pushed xs end) (c.in_ok-push.ensures.items
-            ∙ ap (λ xs. pushed xs (Nonterminal start)) c.new-body.ensures.items) in
+    ∙ ap (λ xs. pushed xs end) (c.in_ok-push.ensures.items
+    ∙ ap (λ xs. pushed xs (Nonterminal start)) c.new-body.ensures.items) in
     let rule : c.new.result ≡ accept_rule accept start.0 = c.new.ensures
-        ∙ ap (λ xs. let r : Rule = record { left = accept; body = map symbol_of xs } in r) body in
+    ∙ ap (λ xs. let r : Rule = record { left = accept; body = map symbol_of xs } in r) body in
     let rules = c.in_ok-insert.ensures.items ∙ ap (λ r. r ∷ c.args.rules.items) rule in
     subst (λ rs. IsGrammar (grammar_from c.args.terminals accept start.0 rs)) (sym rules)
     (grammar_of c.args.terminals accept start.0 c.args.rules.items c.requires.start c.requires.some c.requires.within)
