@@ -1,16 +1,19 @@
 -- A rule is looked at.
-use Rattle.std.proofs.Common.{◌≡◌, ◌<◌, ◌≤◌, ◌∙◌, ℕ, List, Bool, map, true, false, sym, ap, subst, inl, inr, refl, take, length, Contains}
+use Rattle.std.proofs.Common.{◌≡◌, ◌<◌, ◌≤◌, ◌∙◌, ℕ, List, Bool, map, true, false, sym, ap, subst, inl, inr, refl}
+use Rattle.std.proofs.Common.{take, length, Contains}
 use Rattle.std.proofs.Common.{slice_get, slice_index_or, option_map, Option, Some, None, All}
 use Rattle.std.proofs.lemmas.List.{get_or_default, length-map, take_all}
 use Rattle.std.specs.Option.{is_some, option_copied, IfSome}
 use Rattle.std.proofs.lemmas.Bool.{cases_lt, lt-ltb, le-ltb}
 use Rattle.std.proofs.Math.Dec.{ltb}
 use denote.Ref.{Bor}
-use Rattle.std.proofs.lemmas.Option.{slice_get_past, slice_get-get_or, slice_get_cases, slice_get_within, slice_get-map, get_or_from_slice_get}
+use Rattle.std.proofs.lemmas.Option.{slice_get_past, slice_get-get_or, slice_get_cases, slice_get_within}
+use Rattle.std.proofs.lemmas.Option.{slice_get-map, get_or_from_slice_get}
 use Rattle.std.proofs.lemmas.List.Elements.{All-contains, Contains-get_or}
 use Rattle.ly_join.specs.Grammar.{Grammar, Rule, IsRule, Symbol, symbol_of, nonterminal}
 use Rattle.ly_join.specs.declared.symbol.Symbol as code
-use Rattle.ly_grammar.specs.Private.Search.{Progress, IsSearch, HasPlaces, AllPass, IsNumbered, Advances, GoesOn, StopsAt, HasPassed}
+use Rattle.ly_grammar.specs.Private.Search.{Progress, IsSearch, HasPlaces, AllPass, IsNumbered, Advances, GoesOn}
+use Rattle.ly_grammar.specs.Private.Search.{StopsAt, HasPassed}
 use Rattle.ly_grammar.specs.Private.Search.{found}
 use Rattle.ly_grammar.specs.Private.Search.{waiting, passes, was_found, with_found, with_passed, with_waiting}
 use Rattle.ly_grammar.proofs.SearchLemmas.{HavePassed, on_passed, on_found, on_waiting, body_trees, rule_tree, is_found}

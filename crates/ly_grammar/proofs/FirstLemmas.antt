@@ -1,5 +1,6 @@
 -- Openings of bodies, and the rows and edges that come of them.
-use Rattle.std.proofs.Common.{◌≡◌, ◌<◌, ◌≤◌, ◌+◌, ◌∙◌, ◌⊎◌, ◌↔◌, ◌∷◌, ◌++◌, ℕ, zero, suc, List, [], Bool, true, false, sym, ap}
+use Rattle.std.proofs.Common.{◌≡◌, ◌<◌, ◌≤◌, ◌+◌, ◌∙◌, ◌⊎◌, ◌↔◌, ◌∷◌, ◌++◌, ℕ, zero, suc, List, [], Bool, true, false}
+use Rattle.std.proofs.Common.{sym, ap}
 use Rattle.std.proofs.Common.{subst, arith, inl, inr, refl, length, map, take, Contains, slice_index_or, slice_get}
 use Rattle.std.proofs.Common.{slice_set, Some, None, add-one, if◌then◌else◌, nat_eq, replicate, ◌||◌}
 use Rattle.std.proofs.lemmas.Bool.{cases_lt, eq-eqb, eqb-true}
@@ -11,7 +12,8 @@ use Rattle.std.specs.FinSet.{contains-empty}
 use Rattle.std.specs.Ordering.{nat_cmp}
 use Rattle.std.proofs.lemmas.Option.{slice_get_within}
 use Rattle.std.proofs.lemmas.List.Elements.{Contains-append_cases, Contains-append_left, Contains-append_right}
-use Rattle.ly_base.proofs.MemberLemmas.{Contains-none, Contains-first, Contains-later, Contains-cons_cases, Contains-one}
+use Rattle.ly_base.proofs.MemberLemmas.{Contains-none, Contains-first, Contains-later, Contains-cons_cases}
+use Rattle.ly_base.proofs.MemberLemmas.{Contains-one}
 use Rattle.ly_digraph.specs.Digraph.{Digraph, Reaches, here, along}
 use Rattle.ly_digraph.specs.Least.{IsLeast, IsBetween}
 use Rattle.ly_join.specs.Grammar.{Grammar, Rule, IsRule, Symbol, symbol_of, terminal, nonterminal}

@@ -1,6 +1,7 @@
 -- Rules that are marked.
 use Rattle.std.proofs.Common.{◌≡◌, ◌<◌, ◌+◌, ◌∙◌, ℕ, zero, suc, List, [], ◌∷◌, Bool, true, false, ap, subst, arith}
-use Rattle.std.proofs.Common.{length, map, All, slice_get, slice_index_or, Some, None, Option, option_map, replicate, refl}
+use Rattle.std.proofs.Common.{length, map, All, slice_get, slice_index_or, Some, None, Option, option_map, replicate}
+use Rattle.std.proofs.Common.{refl}
 use Rattle.std.proofs.lemmas.Option.{slice_get-map, slice_get-get_or}
 use Rattle.std.proofs.lemmas.List.Elements.{All-cons, All-nil, All-weaker}
 use Rattle.ly_join.specs.Grammar.{Grammar, Rule, IsRule, IsGrammar, Symbol, SymbolWithin, terminal, nonterminal}

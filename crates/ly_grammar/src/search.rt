@@ -1,6 +1,7 @@
 //! The search for the nonterminals that have trees, with or without tokens, in time linear in the grammar: each rule is
 //! looked at once, and once more whenever the nonterminal that it waits for is found (Dowling and Gallier 1984).
-ghost use Rattle.std.specs.Prelude.{◌≡◌, ◌≢◌, ◌<◌, ◌≤◌, ◌+◌, ◌↔◌, ◌++◌, ℕ, [], ◌∷◌, length, take, false, true, replicate};
+ghost use Rattle.std.specs.Prelude.{◌≡◌, ◌≢◌, ◌<◌, ◌≤◌, ◌+◌, ◌↔◌, ◌++◌, ℕ, [], ◌∷◌, length, take, false, true};
+ghost use Rattle.std.specs.Prelude.{replicate};
 ghost use Rattle.std.specs.Prelude.{slice_index_or, slice_get, map, All, IfOk, OnOk, Some, option_map};
 ghost use Rattle.ly_join.specs.Grammar.{IsRule, nonterminal, symbol_of};
 ghost use Rattle.ly_join.specs.Grammar as join;

@@ -1,6 +1,7 @@
 //! Which rules are useful: those whose bodies have trees, and whose left sides the start symbol leads to by such rules
 //! (Hopcroft and Ullman 1979, 4.4).
-ghost use Rattle.std.specs.Prelude.{◌≡◌, ◌<◌, ◌+◌, ◌++◌, ◌∷◌, [], ◌↔◌, ◌⊎◌, ℕ, length, map, true, false, All, IfOk, OnOk, IsTrue};
+ghost use Rattle.std.specs.Prelude.{◌≡◌, ◌<◌, ◌+◌, ◌++◌, ◌∷◌, [], ◌↔◌, ◌⊎◌, ℕ, length, map, true, false, All, IfOk};
+ghost use Rattle.std.specs.Prelude.{OnOk, IsTrue};
 ghost use Rattle.std.specs.Prelude.{slice_index_or, Err};
 ghost use Rattle.ly_base.specs.Trees.{Tree};
 ghost use Rattle.ly_sets.specs.NumberSet.{Member};

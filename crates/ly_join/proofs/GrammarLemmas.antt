@@ -1,5 +1,6 @@
 -- The numbered rules of a grammar.
-use Rattle.std.proofs.Common.{◌≡◌, ◌<◌, ◌≤◌, ℕ, zero, suc, List, [], ◌∷◌, All, slice_get, map, Some, refl, subst, length}
+use Rattle.std.proofs.Common.{◌≡◌, ◌<◌, ◌≤◌, ℕ, zero, suc, List, [], ◌∷◌, All, slice_get, map, Some, refl, subst}
+use Rattle.std.proofs.Common.{length}
 use Rattle.std.proofs.Common.{arith}
 use Rattle.std.proofs.lemmas.List.Elements.{All-tail}
 use Rattle.ly_join.specs.Grammar.{Rule, IsRule, IsGrammar, RuleWithin, accept_rule, grammar_from}

@@ -1,5 +1,6 @@
 -- What begins the strings of nonterminals, by rules.
-use Rattle.std.specs.Prelude.{◌≡◌, ◌↔◌, ◌⊎◌, ◌<◌, ℕ, List, [], ◌∷◌, Bool, if◌then◌else◌, false, Contains, length, map, All}
+use Rattle.std.specs.Prelude.{◌≡◌, ◌↔◌, ◌⊎◌, ◌<◌, ℕ, List, [], ◌∷◌, Bool, if◌then◌else◌, false, Contains, length, map}
+use Rattle.std.specs.Prelude.{All}
 use Rattle.ly_join.specs.Grammar.{Grammar, Rule, IsRule, Symbol, terminal, nonterminal}
 use Rattle.ly_sets.specs.NumberSet.{Member}
 use Rattle.ly_sets.specs.SetMatrix.{Matrix, row}

@@ -1,4 +1,5 @@
-use Rattle.std.proofs.Common.{◌≡◌, ◌<◌, ◌≤◌, ◌∙◌, sym, ap, subst, map, take, length, slice_get, slice_index_or, Some, List}
+use Rattle.std.proofs.Common.{◌≡◌, ◌<◌, ◌≤◌, ◌∙◌, sym, ap, subst, map, take, length, slice_get, slice_index_or, Some}
+use Rattle.std.proofs.Common.{List}
 use Rattle.std.proofs.Common.{false, add-one, ◌+◌}
 use Rattle.std.proofs.lemmas.List.{length-map, take-map, take_all}
 use Rattle.std.proofs.lemmas.Option.{slice_get-get_or}

@@ -8,7 +8,8 @@ use Rattle.ly_grammar.specs.Reduction.{restricted}
 use Rattle.ly_grammar.specs.Private.Search.{Progress, IsSearch, HasTree, Advances, AllPass, Settled, was_found}
 use Rattle.ly_grammar.proofs.MarkedLemmas.{at_marked, marked_at, length-marked}
 use Rattle.ly_grammar.proofs.StartLemmas.{begun, is_begun, kept_rule, places_of}
-use Rattle.ly_grammar.proofs.CloseLemmas.{AreSettledBelow, IsTaken, closed, tree_passes, taken, one_less, settled_to, settled_past}
+use Rattle.ly_grammar.proofs.CloseLemmas.{AreSettledBelow, IsTaken, closed, tree_passes, taken, one_less, settled_to}
+use Rattle.ly_grammar.proofs.CloseLemmas.{settled_past}
 use Rattle.ly_grammar.proofs.search.with_trees.Goals as goal
 use Rattle.ly_grammar.proofs.search.with_trees.Goals.{then-kept-number+in_ok-advance, else-kept-number}
 

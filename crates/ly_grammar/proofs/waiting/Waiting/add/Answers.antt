@@ -1,4 +1,5 @@
-use Rattle.std.proofs.Common.{◌≡◌, ◌<◌, ◌∙◌, sym, ap, subst, length, List, ℕ, [], ◌∷◌, ◌++◌, slice_set, slice_index_or, Vec}
+use Rattle.std.proofs.Common.{◌≡◌, ◌<◌, ◌∙◌, sym, ap, subst, length, List, ℕ, [], ◌∷◌, ◌++◌, slice_set}
+use Rattle.std.proofs.Common.{slice_index_or, Vec}
 use Rattle.std.proofs.lemmas.List.{get_or-map, map-set, length-map}
 use Rattle.std.specs.declared.alloc.Global.{Global}
 use Rattle.ly_grammar.proofs.waiting.Waiting.add.Goals as goal
