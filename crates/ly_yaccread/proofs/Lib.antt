@@ -1,3 +1,3 @@
-pub mod SymbolLemmas
-pub mod TagLemmas
+pub mod PartLemmas
 pub mod WordLemmas
+pub mod WordingLemmas

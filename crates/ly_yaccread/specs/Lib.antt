@@ -1,5 +1,3 @@
 pub mod Faults
 pub mod Private
-pub mod Symbols
-pub mod Tags
 pub mod Words

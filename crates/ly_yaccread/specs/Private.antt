@@ -1,4 +1,3 @@
 -- What contracts of private functions cite: what the reader of yacc files finds on its way. No public contract rests on
 -- it.
 pub mod Words
-pub mod Symbols

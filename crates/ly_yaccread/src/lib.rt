@@ -9,11 +9,10 @@
 
 mod fault;
 mod file;
-mod symbols;
-mod tag;
-mod tokens;
+mod part;
+mod wording;
 mod words;
 
 pub use fault::YaccFault;
-pub use file::Symbol;
+pub use file::{Action, Declaration, DeclarationKind, Production, Symbol, YaccFile};
 pub use words::Mark;
