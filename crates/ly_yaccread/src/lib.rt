@@ -7,9 +7,15 @@
 //! Left out so far: `read_yacc` itself, that is whole declarations, rules, bodies and actions.
 #![tactic(auto)]
 
+mod cursor;
+mod declaration;
+mod declarations;
+mod expected;
 mod fault;
 mod file;
+mod listing;
 mod part;
+mod symbols;
 mod wording;
 mod words;
 

@@ -1,0 +1,50 @@
+-- The symbols of a declaration and of a body, and tags (POSIX, XCU yacc).
+use Rattle.std.specs.Prelude.{◌≡◌, ◌≢◌, ◌⊎◌, ℕ, List, [], ◌∷◌, codes}
+use Rattle.ly_yaccread.specs.Words.{Word, mark, name, number, literal}
+use Rattle.ly_yaccread.specs.declared.listing.Listing.{Listing}
+use Rattle.ly_yaccread.specs.declared.listing.Listing.TheVariants.{Plain, Numbered}
+use Rattle.ly_yaccread.specs.declared.words.Mark.{Mark}
+use Rattle.ly_yaccread.specs.declared.words.Mark.TheVariants.{Colon, OpenTag, CloseTag}
+
+-- no such mark comes first
+abbrev pub NoMark : Mark → List Word → Type 0
+NoMark m ws = (rest : List Word) → ws ≢ mark m ∷ rest
+
+-- a name comes first; `error` isn't one that may be used
+abbrev pub NameFirst : List Word → List ℕ → List Word → Type 0
+NameFirst ws n rest = (ws ≡ name n ∷ rest) × (n ≢ codes "error")
+
+-- a symbol comes first: a literal, or a name behind which no `:` stands
+abbrev pub SymbolFirst : List Word → Word → List Word → Type 0
+SymbolFirst ws (name n) rest = NameFirst ws n rest × NoMark Colon rest
+SymbolFirst ws (literal b) rest = ws ≡ literal b ∷ rest
+SymbolFirst ws _ rest = ⊥
+
+-- no symbol comes first
+abbrev pub NoSymbol : List Word → Type 0
+NoSymbol ws = (x : Word) (rest : List Word) → SymbolFirst ws x rest → ⊥
+
+-- where symbols may have numbers: what stands behind the number that comes first, or all where none does
+abbrev pub NumberPassed : Listing → List Word → List Word → Type 0
+NumberPassed Plain ws rest = ws ≡ rest
+NumberPassed Numbered ws rest = ((ds : List ℕ) × (ws ≡ number ds ∷ rest))
+    ⊎ (((ds : List ℕ) (s : List Word) → ws ≢ number ds ∷ s) × (ws ≡ rest))
+
+-- symbols, as many as there are, and the rest
+pub data Symbols (l : Listing) : List Word → List Word → List Word → Type 0 where
+  end : (ws : List Word) → NoSymbol ws → Symbols l ws [] ws
+  more : (ws behind left rest : List Word) (x : Word) (xs : List Word) → SymbolFirst ws x behind
+      → NumberPassed l behind left → Symbols l left xs rest → Symbols l ws (x ∷ xs) rest
+
+-- what stands behind the tag `<name>` that comes first, or all where no `<` does
+abbrev pub TagPassed : List Word → List Word → Type 0
+TagPassed ws rest
+    = ((n : List ℕ) × (ws ≡ mark OpenTag ∷ name n ∷ mark CloseTag ∷ rest) × (n ≢ codes "error"))
+    ⊎ (NoMark OpenTag ws × (ws ≡ rest))
+
+-- Perhaps a tag, then symbols, one or more, and the rest.
+pub record SymbolList (l : Listing) (ws xs rest : List Word) : Type 0 where
+  pub behind : List Word
+  pub tag : TagPassed ws behind
+  pub symbols : Symbols l behind xs rest
+  pub some : xs ≢ []
