@@ -4,8 +4,7 @@ use Rattle.std.proofs.Common.{length, ◌<◌, ◌≤◌, ◌+◌, ◌*◌, arit
 use Rattle.std.specs.Prelude.{if◌then◌else◌}
 use Rattle.ly_yaccread.specs.Declarations.{Declarations, Declares, Follows, Head, Saying, tokens, start, nothing, end, more}
 use Rattle.ly_yaccread.specs.Declarations.{directive_name, with_saying}
-use Rattle.ly_yaccread.specs.Symbols.{NoMark, NumberPassed, SymbolFirst, SymbolList, Symbols, TagPassed}
-use Rattle.ly_yaccread.specs.Symbols as symbols
+use Rattle.ly_yaccread.specs.Symbols.{NoMark, SymbolList, TagPassed}
 use Rattle.ly_yaccread.specs.Words.{Word, mark, directive, name, block, braces}
 use Rattle.ly_yaccread.specs.declared.declaration.Directive.{Directive}
 use Rattle.ly_yaccread.specs.declared.declaration.Directive.TheVariants.{Tokens, Types, Start, Union}
@@ -14,7 +13,7 @@ use Rattle.ly_yaccread.specs.declared.file.DeclarationKind.TheVariants.{Token, L
 use Rattle.ly_yaccread.specs.declared.listing.Listing.{Listing}
 use Rattle.ly_yaccread.specs.declared.listing.Listing.TheVariants.{Plain, Numbered}
 use Rattle.ly_yaccread.specs.declared.words.Mark.TheVariants.{Section}
-use Rattle.ly_yaccread.proofs.SymbolLemmas.{list_one, symbols_shorter}
+use Rattle.ly_yaccread.proofs.SymbolLemmas.{heads, list_one, symbols_within}
 
 -- the directive by the first two letters of its name
 abbrev by_letters : ℕ → ℕ → Directive
@@ -46,9 +45,6 @@ follows_one Types ws s t r q (xs, a, e) (ys, b, f)
 follows_one Start ws s t r q (n, a, h, e) (m, b, k, f) = (cc, cc)
 follows_one Union ws s t r q (a, e) (b, f) = (e ∙ sym f, cc)
 
-heads : (x y : Word) (r s : List Word) → x ∷ r ≡ y ∷ s → (x ≡ y) × (r ≡ s)
-heads x y r s e = (cc, cc)
-
 same_directive : (n m : List ℕ) → directive n ≡ directive m → n ≡ m
 same_directive n m e = cc
 
@@ -72,11 +68,6 @@ declares_one ws s t r q (inl (f, g)) (inl (h, i)) = (g ∙ sym i, (heads block b
 declares_one ws s t r q (inl (f, g)) (inr (d, behind, h, i)) = absurd (cc (heads _ _ _ _ (sym f ∙ h)).0)
 declares_one ws s t r q (inr (d, behind, f, g)) b
     = follows_one d behind s t r q g (behind_directive d ws behind t q f b)
-
-symbols_within : (l : Listing) (ws xs rest : List Word) → Symbols l ws xs rest → length rest ≤ length ws
-symbols_within l ws xs rest (symbols.end u none) = omega arith
-symbols_within l ws xs rest (symbols.more u behind left q x ys f g h)
-    = omega (arith, symbols_shorter l u behind left x f g, symbols_within l left ys q h)
 
 tag_within : (ws rest : List Word) → TagPassed ws rest → length rest ≤ length ws
 tag_within ws rest (inl (n, e, h)) = omega (arith, ap length e)

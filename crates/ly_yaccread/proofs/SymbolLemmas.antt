@@ -21,7 +21,7 @@ symbol_is ws block rest h = absurd h
 symbol_is ws braces rest h = absurd h
 symbol_is ws other rest h = absurd h
 
-heads : (x y : Word) (r s : List Word) → x ∷ r ≡ y ∷ s → (x ≡ y) × (r ≡ s)
+pub heads : (x y : Word) (r s : List Word) → x ∷ r ≡ y ∷ s → (x ≡ y) × (r ≡ s)
 heads x y r s e = (cc, cc)
 
 pub symbol_one : (ws : List Word) (x y : Word) (r s : List Word) → SymbolFirst ws x r → SymbolFirst ws y s
@@ -64,6 +64,11 @@ symbols_shorter Numbered ws behind left x f (inl (ds, e))
     = omega (arith, ap length (symbol_is ws x behind f), ap length e)
 symbols_shorter Numbered ws behind left x f (inr (none, e))
     = omega (arith, ap length (symbol_is ws x behind f), ap length e)
+
+pub symbols_within : (l : Listing) (ws xs rest : List Word) → Symbols l ws xs rest → length rest ≤ length ws
+symbols_within l ws xs rest (end u none) = omega arith
+symbols_within l ws xs rest (more u behind left q x ys f g h)
+    = omega (arith, symbols_shorter l u behind left x f g, symbols_within l left ys q h)
 
 -- the symbols so far and those that are left are all symbols
 abbrev pub SymbolsGoOn : Listing → List Word → List Symbol → List Word → Type 0
@@ -111,6 +116,6 @@ no_list l ws behind rest symbols tag read e xs s list =
     (subst (λ i. Symbols l i xs s) same list.symbols) read in
     list.some (one.0 ∙ ap symbol_words e)
 
-pub empty_vec : (t : Bool) (n : ℕ) (xs : List Symbol) → n ≡ length xs → t ≡ eqb n 0 → t ≡ true → xs ≡ []
-empty_vec t n [] g e f = refl
-empty_vec t n (x ∷ xs) g e f = absurd (omega (arith, eqb-true n 0 (sym e ∙ f), g))
+pub empty_list : {A : Type 0} (t : Bool) (xs : List A) → t ≡ eqb (length xs) 0 → t ≡ true → xs ≡ []
+empty_list t [] e f = refl
+empty_list t (x ∷ xs) e f = absurd (omega (arith, eqb-true (length (x ∷ xs)) 0 (sym e ∙ f)))

@@ -46,10 +46,13 @@ abbrev pub BodyFollows : Option (List ℕ) → List Word → List ℕ → List W
 BodyFollows last ws n behind = ((ws ≡ name n ∷ mark Colon ∷ behind) × (n ≢ codes "error"))
     ⊎ ((last ≡ Some n) × (ws ≡ mark Bar ∷ behind))
 
--- The rules go on from the last left side: to the end or the second `%%`, by a rule, or by a `;` behind rules.
+-- the words are over, or the second `%%` comes first
+abbrev pub IsOver : List Word → Type 0
+IsOver ws = (ws ≡ []) ⊎ ((rest : List Word) × (ws ≡ mark Section ∷ rest))
+
+-- The rules go on from the last left side: they are over, or a rule comes, or a `;` behind rules.
 pub data Rules : Option (List ℕ) → List Word → List Ruling → Type 0 where
-  end : (last : Option (List ℕ)) → Rules last [] []
-  programs : (last : Option (List ℕ)) (ws : List Word) → Rules last (mark Section ∷ ws) []
+  end : (last : Option (List ℕ)) (ws : List Word) → IsOver ws → Rules last ws []
   rule : (last : Option (List ℕ)) (n : List ℕ) (ws behind rest : List Word) (r : Ruling) (rs : List Ruling)
       → BodyFollows last ws n behind → Body n behind r rest → Rules (Some n) rest rs → Rules last ws (r ∷ rs)
   semicolon : (n : List ℕ) (ws : List Word) (rs : List Ruling) → Rules (Some n) ws rs

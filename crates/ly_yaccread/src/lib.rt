@@ -7,18 +7,26 @@
 //! Left out so far: `read_yacc` itself, that is whole declarations, rules, bodies and actions.
 #![tactic(auto)]
 
+mod action;
 mod cursor;
 mod declaration;
 mod declarations;
 mod expected;
 mod fault;
 mod file;
+mod laws;
 mod listing;
 mod part;
+mod place;
+mod read;
+mod rule;
+mod rules;
 mod symbols;
 mod wording;
 mod words;
 
 pub use fault::YaccFault;
 pub use file::{Action, Declaration, DeclarationKind, Production, Symbol, YaccFile};
+pub use laws::yacc_text_is_one;
+pub use read::read_yacc;
 pub use words::Mark;

@@ -1,5 +1,6 @@
 -- What a reader of words answers.
-use Rattle.std.specs.Prelude.{◌≢◌, List, Result, Ok, Err, map}
+use Rattle.std.specs.Prelude.{◌≢◌, ℕ, List, Option, Result, Ok, Err, map}
+use Rattle.std.specs.Borrow.{Bor}
 use Rattle.std.specs.Option.{option_map}
 use Rattle.ly_yaccread.specs.Declarations.{Head, Saying, tokens, start, nothing}
 use Rattle.ly_yaccread.specs.File.{declared_of, symbol_words}
@@ -32,6 +33,10 @@ saying_of Nothing = nothing
 -- what declarations say together
 abbrev pub head_of : Declared → Head
 head_of h = record { declarations = map declared_of h.declarations.items; start = option_map (λ n. n.items) h.start }
+
+-- the last left side, where there is one
+abbrev pub last_of : Option (Bor (List ℕ)) → Option (List ℕ)
+last_of last = option_map (λ n. n.now) last
 
 -- Is says which values and rests the words have: an answer is one of them, and a fault says that there is none.
 abbrev pub IsRead : {T X : Type 0} → (X → List Word → Type 0) → (T → X) → (T → List Word) → Result T YaccFault → Type 0
