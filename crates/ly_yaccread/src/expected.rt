@@ -2,6 +2,7 @@ ghost use Rattle.std.specs.Prelude.{◌≤◌, length};
 
 use crate::cursor::{Cursor, is_error};
 use crate::fault::YaccFault;
+use crate::wording::place_behind;
 use crate::words::{Mark, NextWord};
 
 /// What was to stand where a file is refused.
@@ -47,8 +48,10 @@ impl Cursor<'_> {
     fn at(self) -> usize
         ensures { result ≤ length self.entry.text.now }
     {
-        let left = self.left.first().map_or(1, |word| word.left);
-        self.text.len().saturating_sub(left)
+        if self.left.is_empty() {
+            return self.text.len().saturating_sub(1);
+        }
+        place_behind(self.text, self.count.saturating_sub(self.left.len()))
     }
 
     /// The fault at bytes that are no word.

@@ -26,10 +26,11 @@ pub fn read_yacc(alloc: Global, bytes: &[u8]) -> Result<YaccFile, YaccFault>
     ensures refused { IfErr result
         (λ fault. fault ≢ OutOfMemory → (w : Written) → YaccText bytes.now w → ⊥) }
 {
-    let placed = words(alloc, bytes)?;
+    let words = words(alloc, bytes)?;
     let all = Cursor {
         text: bytes,
-        left: placed.as_slice(),
+        count: words.len(),
+        left: words.as_slice(),
     };
     let (declared, behind) = read_declarations(alloc, all)?;
     let rules = read_rules(alloc, behind)?;

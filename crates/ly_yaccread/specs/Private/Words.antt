@@ -1,12 +1,11 @@
 -- What stands at the front of a yacc file, as it is read.
-use Rattle.std.specs.Prelude.{◌≡◌, ◌≢◌, ℕ, List, [], ◌∷◌}
+use Rattle.std.specs.Prelude.{◌≡◌, ◌≢◌, ℕ, List, [], map}
 use Rattle.ly_base.specs.Gap.{Gap}
 use Rattle.ly_base.specs.declared.language.Language.TheVariants.{Yacc}
 use Rattle.ly_yaccread.specs.Words.{Word, mark, directive, name, number, literal, block, braces, other, Begins, Front}
 use Rattle.ly_yaccread.specs.Words.{Takes}
 use Rattle.ly_yaccread.specs.declared.part.Part.{Part}
 use Rattle.ly_yaccread.specs.declared.part.Part.TheVariants.{Declarations}
-use Rattle.ly_yaccread.specs.declared.wording.PlacedWord.{PlacedWord}
 use Rattle.ly_yaccread.specs.declared.words.NextWord.{NextWord}
 use Rattle.ly_yaccread.specs.declared.words.NextWord.TheVariants.{End, Mark, Directive, Name, Number, Literal, Other}
 use Rattle.ly_yaccread.specs.declared.words.NextWord.TheVariants.{Block, Braces}
@@ -40,7 +39,6 @@ IsTaken p text End rest = Gap Yacc text
 IsTaken p text Other rest = (Gap Yacc text → ⊥) × ((x : Word) (s : List ℕ) → Takes p text x s → ⊥)
 IsTaken p text w rest = Takes p text (word_of w) rest
 
--- the words that stand at their places
-abbrev pub words_of : List PlacedWord → List Word
-words_of [] = []
-words_of (p ∷ placed) = word_of p.word ∷ words_of placed
+-- the words, which borrow nothing
+abbrev pub words_of : List NextWord → List Word
+words_of ws = map word_of ws

@@ -5,7 +5,7 @@ use Rattle.ly_yaccread.proofs.wording.words.Given as goal
 
 -- the words so far and those of the rest are all words
 abbrev pub invariant-loop-rest : goal.invariant-loop-rest
-invariant-loop-rest l = (ws : List Word) → Wording l.part l.rest ws → Words l.text (words_of l.placed.items ++ ws)
+invariant-loop-rest l = (ws : List Word) → Wording l.part l.rest ws → Words l.text (words_of l.words.items ++ ws)
 
 abbrev pub decreases-loop-rest : goal.decreases-loop-rest
 decreases-loop-rest l = length l.rest
