@@ -1,5 +1,5 @@
 -- What an action says is determined.
-use Rattle.std.proofs.Common.{◌≡◌, ◌≢◌, ℕ, ◌<◌, ◌≤◌, ◌+◌, List, [], ◌∷◌, ◌++◌, Bool, true, false, refl, sym, ap, ◌∙◌, subst}
+use Rattle.std.proofs.Common.{◌≡◌, ◌≢◌, ℕ, ◌≤◌, List, [], ◌∷◌, ◌++◌, Bool, true, false, refl, sym, ap, ◌∙◌, subst}
 use Rattle.std.proofs.Common.{length, arith, inl, inr, nat_eq, not}
 use Rattle.std.specs.List.{list_any}
 use Rattle.std.specs.Prelude.{if◌then◌else◌}
@@ -7,11 +7,10 @@ use Rattle.ly_base.specs.Language.{IsName}
 use Rattle.ly_base.specs.SparseSet.{with_member}
 use Rattle.ly_base.specs.declared.language.Language.TheVariants.{Lex}
 use Rattle.ly_yaccread.specs.Actions.{ActionFirst, ActionPassed, Making, MorePlaces, PlaceFirst, Places, Value}
-use Rattle.ly_yaccread.specs.Actions.{default, pass, build, last, more, none, some, passes, builds}
+use Rattle.ly_yaccread.specs.Actions.{pass, build, last, more, none, some, passes, builds}
 use Rattle.ly_yaccread.specs.Symbols.{NameFirst, NoMark}
-use Rattle.ly_yaccread.specs.Words.{Word, mark, name, number}
-use Rattle.ly_yaccread.specs.declared.words.Mark.{Mark}
-use Rattle.ly_yaccread.specs.declared.words.Mark.TheVariants.{Whole, Dollar, Semicolon, OpenBrace, CloseBrace}
+use Rattle.ly_yaccread.specs.Words.{Word, mark, name}
+use Rattle.ly_yaccread.specs.declared.words.Mark.TheVariants.{Whole, Semicolon, OpenBrace, CloseBrace}
 use Rattle.ly_yaccread.specs.declared.words.Mark.TheVariants.{OpenParenthesis, CloseParenthesis, Equals, Comma}
 use Rattle.ly_yaccread.proofs.PlaceLemmas.{place_one, place_shorter}
 use Rattle.ly_yaccread.proofs.SymbolLemmas.{heads}
@@ -30,7 +29,8 @@ behind_comma k ps all p ws inside behind rest e f (last qs q) = absurd (cc (head
 behind_comma k ps all p ws inside behind rest e f (more qs os q vs back r g h i) =
     let one = place_one k inside q p back behind (subst (λ u. PlaceFirst k u q back) (heads _ _ _ _ e).1 g) f in (
       subst (λ j. list_any (nat_eq j) qs ≡ false) one.0 h,
-      subst (λ j. MorePlaces k (qs ++ j ∷ []) behind os r) one.0 (subst (λ u. MorePlaces k (qs ++ q ∷ []) u os r) one.1 i),
+      subst (λ j. MorePlaces k (qs ++ j ∷ []) behind os r) one.0
+          (subst (λ u. MorePlaces k (qs ++ q ∷ []) u os r) one.1 i),
     )
 
 pub no_more : (k : ℕ) (ps : List ℕ) (ws : List Word) → NoMark CloseParenthesis ws → NoMark Comma ws → (all : List ℕ)
@@ -192,7 +192,6 @@ passed_one k ws m o r s (inl a) (inl b) = action_one k ws m o r s a b
 passed_one k ws m o r s (inl a) (inr (n, f, g)) = absurd (n _ a.opens)
 passed_one k ws m o r s (inr (n, f, g)) (inl b) = absurd (n _ b.opens)
 passed_one k ws m o r s (inr (n, f, g)) (inr (q, h, i)) = (f ∙ sym h, sym g ∙ i)
-
 
 pub places_none : (k : ℕ) (ws rest : List Word) (ps : List ℕ) → ws ≡ mark CloseParenthesis ∷ rest → ps ≡ []
     → Places k ws ps rest

@@ -1,14 +1,13 @@
 -- What a declaration says is determined.
-use Rattle.std.proofs.Common.{◌≡◌, ◌≢◌, ℕ, List, [], ◌∷◌, Option, Some, None, refl, sym, ap, ap₂, ◌∙◌, subst, inl, inr}
-use Rattle.std.proofs.Common.{length, ◌<◌, ◌≤◌, ◌+◌, ◌*◌, arith, get_or, nat_eq}
+use Rattle.std.proofs.Common.{◌≡◌, ◌≢◌, ℕ, List, ◌∷◌, Some, None, refl, sym, ap, ◌∙◌, subst, inl, inr}
+use Rattle.std.proofs.Common.{length, ◌<◌, ◌≤◌, arith, get_or, nat_eq}
 use Rattle.std.specs.Prelude.{if◌then◌else◌}
-use Rattle.ly_yaccread.specs.Declarations.{Declarations, Declares, Follows, Head, Saying, tokens, start, nothing, end, more}
+use Rattle.ly_yaccread.specs.Declarations.{Declarations, Declares, Follows, Head, Saying, tokens, end, more}
 use Rattle.ly_yaccread.specs.Declarations.{directive_name, with_saying}
 use Rattle.ly_yaccread.specs.Symbols.{NoMark, SymbolList, TagPassed}
-use Rattle.ly_yaccread.specs.Words.{Word, mark, directive, name, block, braces}
+use Rattle.ly_yaccread.specs.Words.{Word, mark, directive, block}
 use Rattle.ly_yaccread.specs.declared.declaration.Directive.{Directive}
 use Rattle.ly_yaccread.specs.declared.declaration.Directive.TheVariants.{Tokens, Types, Start, Union}
-use Rattle.ly_yaccread.specs.declared.file.DeclarationKind.{DeclarationKind}
 use Rattle.ly_yaccread.specs.declared.file.DeclarationKind.TheVariants.{Token, Left, Right, Nonassociative}
 use Rattle.ly_yaccread.specs.declared.listing.Listing.{Listing}
 use Rattle.ly_yaccread.specs.declared.listing.Listing.TheVariants.{Plain, Numbered}
@@ -118,7 +117,8 @@ same_some : (h i : Head) → Some h ≡ Some i → h ≡ i
 same_some h i e = cc
 
 -- a declaration more
-pub one_more : (h g i : Head) (ws at behind : List Word) (s : Saying) → DeclarationsGoOn h ws g at → Declares at s behind
+pub one_more : (h g i : Head) (ws at behind : List Word) (s : Saying) → DeclarationsGoOn h ws g at
+    → Declares at s behind
     → with_saying g s ≡ Some i → DeclarationsGoOn h ws i behind
 one_more h g i ws at behind s so_far f e = record {
   sound = λ all rest d. so_far.sound all rest (more g i all at behind rest s f e d);

@@ -1,5 +1,5 @@
 -- The word at the front of a text in a part of a file is determined.
-use Rattle.std.proofs.Common.{◌≡◌, ◌≢◌, ℕ, List, ◌∷◌, codes, refl, sym, ap, ◌∙◌, subst, length, length-append, ◌<◌, ◌≤◌}
+use Rattle.std.proofs.Common.{◌≡◌, ◌≢◌, ℕ, List, ◌∷◌, codes, refl, sym, ap, ◌∙◌, subst, length, length-append, ◌<◌}
 use Rattle.std.proofs.Common.{arith}
 use Rattle.ly_base.specs.Gap.{Closes, EndBefore, Gap, HasNo, last, close, opening, other as plain_byte}
 use Rattle.ly_base.specs.declared.language.Language.TheVariants.{Yacc}
@@ -67,67 +67,73 @@ not_brace p m e f h = (subst (λ i. IsPlain i m) e h).1 f
 same_mark : (m k : Mark) → mark m ≡ mark k → m ≡ k
 same_mark m k e = cc
 
-mark_one : (p : Part) (text : List ℕ) (m : Mark) (y : Word) (r s : List ℕ) → Front text (mark m) r → IsPlain p m
-    → Takes p text y s → (mark m ≡ y) × (r ≡ s)
-mark_one p text m (mark k) r s a h b = front_one text (mark m) (mark k) r s a b.0
-mark_one p text m (directive n) r s a h b = front_one text (mark m) (directive n) r s a b
-mark_one p text m (name n) r s a h b = front_one text (mark m) (name n) r s a b
-mark_one p text m (number n) r s a h b = front_one text (mark m) (number n) r s a b
-mark_one p text m (literal c) r s a h b = front_one text (mark m) (literal c) r s a b
-mark_one p text m block r s a h b
-    = absurd (not_block p m b.0 (same_mark m Block (front_one text (mark m) (mark Block) r b.1 a b.2).0) h)
-mark_one p text m braces r s a h b
-    = absurd (not_brace p m b.0 (same_mark m OpenBrace (front_one text (mark m) (mark OpenBrace) r b.1 a b.2).0) h)
-mark_one p text m other r s a h b = front_one text (mark m) other r s a b
+-- what is taken where a mark comes first, behind which the text goes on
+data TakesMark (p : Part) (m : Mark) (inside : List ℕ) : Word → List ℕ → Type 0 where
+  itself : IsPlain p m → TakesMark p m inside (mark m) inside
+  a_block : (s : List ℕ) → p ≡ Declarations → m ≡ Block → EndBefore (codes "%}") inside s → TakesMark p m inside block s
+  a_brace : (s : List ℕ) → p ≡ Declarations → m ≡ OpenBrace → Closes 0 inside s → TakesMark p m inside braces s
 
-block_takes : (p : Part) (text inside : List ℕ) (y : Word) (r s : List ℕ) → p ≡ Declarations
-    → Front text (mark Block) inside → EndBefore (codes "%}") inside r → Takes p text y s → (block ≡ y) × (r ≡ s)
-block_takes p text inside (mark k) r s d a e b = absurd (not_block p k d
-    (same_mark k Block (front_one text (mark k) (mark Block) s inside b.0 a).0) b.1)
-block_takes p text inside (directive n) r s d a e b
-    = absurd (cc (front_one text (mark Block) (directive n) inside s a b).0)
-block_takes p text inside (name n) r s d a e b = absurd (cc (front_one text (mark Block) (name n) inside s a b).0)
-block_takes p text inside (number n) r s d a e b = absurd (cc (front_one text (mark Block) (number n) inside s a b).0)
-block_takes p text inside (literal c) r s d a e b
-    = absurd (cc (front_one text (mark Block) (literal c) inside s a b).0)
-block_takes p text inside block r s d a e b
-    = let f = front_one text (mark Block) (mark Block) b.1 inside b.2 a in
-    (refl, block_one inside r s e (subst (λ i. EndBefore (codes "%}") i s) f.1 b.3))
-block_takes p text inside braces r s d a e b
-    = absurd (cc (front_one text (mark Block) (mark OpenBrace) inside b.1 a b.2).0)
-block_takes p text inside other r s d a e b = absurd (cc (front_one text (mark Block) other inside s a b).0)
+at_mark : (p : Part) (text : List ℕ) (m : Mark) (inside : List ℕ) (y : Word) (s : List ℕ) → Front text (mark m) inside
+    → Takes p text y s → TakesMark p m inside y s
+at_mark p text m inside (mark k) s f t =
+    let e = front_one text (mark m) (mark k) inside s f t.0 in
+    let same = same_mark m k e.0 in
+    subst (λ i. TakesMark p m inside (mark i) s) same
+    (subst (λ i. TakesMark p m inside (mark m) i) e.1 (itself (subst (IsPlain p) (sym same) t.1)))
+at_mark p text m inside (directive n) s f t = absurd (cc (front_one text (mark m) (directive n) inside s f t).0)
+at_mark p text m inside (name n) s f t = absurd (cc (front_one text (mark m) (name n) inside s f t).0)
+at_mark p text m inside (number n) s f t = absurd (cc (front_one text (mark m) (number n) inside s f t).0)
+at_mark p text m inside (literal c) s f t = absurd (cc (front_one text (mark m) (literal c) inside s f t).0)
+at_mark p text m inside block s f (d, u, g, b) =
+    let e = front_one text (mark m) (mark Block) inside u f g in
+    a_block s d (same_mark m Block e.0) (subst (λ i. EndBefore (codes "%}") i s) (sym e.1) b)
+at_mark p text m inside braces s f (d, u, g, b) =
+    let e = front_one text (mark m) (mark OpenBrace) inside u f g in
+    a_brace s d (same_mark m OpenBrace e.0) (subst (λ i. Closes 0 i s) (sym e.1) b)
+at_mark p text m inside other s f t = absurd (cc (front_one text (mark m) other inside s f t).0)
 
-braces_takes : (p : Part) (text inside : List ℕ) (y : Word) (r s : List ℕ) → p ≡ Declarations
-    → Front text (mark OpenBrace) inside → Closes 0 inside r → Takes p text y s → (braces ≡ y) × (r ≡ s)
-braces_takes p text inside (mark k) r s d a e b = absurd (not_brace p k d
-    (same_mark k OpenBrace (front_one text (mark k) (mark OpenBrace) s inside b.0 a).0) b.1)
-braces_takes p text inside (directive n) r s d a e b
-    = absurd (cc (front_one text (mark OpenBrace) (directive n) inside s a b).0)
-braces_takes p text inside (name n) r s d a e b
-    = absurd (cc (front_one text (mark OpenBrace) (name n) inside s a b).0)
-braces_takes p text inside (number n) r s d a e b
-    = absurd (cc (front_one text (mark OpenBrace) (number n) inside s a b).0)
-braces_takes p text inside (literal c) r s d a e b
-    = absurd (cc (front_one text (mark OpenBrace) (literal c) inside s a b).0)
-braces_takes p text inside block r s d a e b
-    = absurd (cc (front_one text (mark OpenBrace) (mark Block) inside b.1 a b.2).0)
-braces_takes p text inside braces r s d a e b
-    = let f = front_one text (mark OpenBrace) (mark OpenBrace) b.1 inside b.2 a in
-    (refl, closes_one 0 inside r s e (subst (λ i. Closes 0 i s) f.1 b.3))
-braces_takes p text inside other r s d a e b
-    = absurd (cc (front_one text (mark OpenBrace) other inside s a b).0)
+block_no_brace : (m : Mark) → m ≡ Block → m ≡ OpenBrace → ⊥
+block_no_brace m e f = cc
+
+mark_one : (p : Part) (m : Mark) (inside : List ℕ) (y : Word) (s : List ℕ) → IsPlain p m → TakesMark p m inside y s
+    → (mark m ≡ y) × (inside ≡ s)
+mark_one p m inside y s h (itself g) = (refl, refl)
+mark_one p m inside y s h (a_block r d e b) = absurd (not_block p m d e h)
+mark_one p m inside y s h (a_brace r d e b) = absurd (not_brace p m d e h)
+
+one_block : (p : Part) (m : Mark) (inside : List ℕ) (y : Word) (r s : List ℕ) → p ≡ Declarations → m ≡ Block
+    → EndBefore (codes "%}") inside r → TakesMark p m inside y s → (block ≡ y) × (r ≡ s)
+one_block p m inside y r s d e b (itself g) = absurd (not_block p m d e g)
+one_block p m inside y r s d e b (a_block q f g c) = (refl, block_one inside r q b c)
+one_block p m inside y r s d e b (a_brace q f g c) = absurd (block_no_brace m e g)
+
+one_brace : (p : Part) (m : Mark) (inside : List ℕ) (y : Word) (r s : List ℕ) → p ≡ Declarations → m ≡ OpenBrace
+    → Closes 0 inside r → TakesMark p m inside y s → (braces ≡ y) × (r ≡ s)
+one_brace p m inside y r s d e b (itself g) = absurd (not_brace p m d e g)
+one_brace p m inside y r s d e b (a_block q f g c) = absurd (block_no_brace m g e)
+one_brace p m inside y r s d e b (a_brace q f g c) = (refl, closes_one 0 inside r q b c)
 
 -- the word at the front is determined, and so is the rest
 pub takes_one : (p : Part) (text : List ℕ) (x y : Word) (r s : List ℕ) → Takes p text x r → Takes p text y s
     → (x ≡ y) × (r ≡ s)
-takes_one p text (mark m) y r s a b = mark_one p text m y r s a.0 a.1 b
+takes_one p text (mark m) y r s a b = mark_one p m r y s a.1 (at_mark p text m r y s a.0 b)
 takes_one p text (directive n) y r s a b = plain_one p text (directive n) y r s (λ m e. cc e) a b
 takes_one p text (name n) y r s a b = plain_one p text (name n) y r s (λ m e. cc e) a b
 takes_one p text (number n) y r s a b = plain_one p text (number n) y r s (λ m e. cc e) a b
 takes_one p text (literal c) y r s a b = plain_one p text (literal c) y r s (λ m e. cc e) a b
-takes_one p text block y r s a b = block_takes p text a.1 y r s a.0 a.2 a.3 b
-takes_one p text braces y r s a b = braces_takes p text a.1 y r s a.0 a.2 a.3 b
+takes_one p text block y r s (d, u, f, e) b
+    = one_block p Block u y r s d refl e (at_mark p text Block u y s f b)
+takes_one p text braces y r s (d, u, f, e) b
+    = one_brace p OpenBrace u y r s d refl e (at_mark p text OpenBrace u y s f b)
 takes_one p text other y r s a b = plain_one p text other y r s (λ m e. cc e) a b
+
+-- a mark behind which nothing closes
+open_mark : (p : Part) (m : Mark) (inside : List ℕ) (y : Word) (s : List ℕ) → (IsPlain p m → ⊥)
+    → (m ≡ Block → HasNo (codes "%}") inside) → (m ≡ OpenBrace → (rest : List ℕ) → Closes 0 inside rest → ⊥)
+    → TakesMark p m inside y s → ⊥
+open_mark p m inside y s a b c (itself g) = a g
+open_mark p m inside y s a b c (a_block q d e h) = b e h.0 q h.2
+open_mark p m inside y s a b c (a_brace q d e h) = c e q h
 
 abbrev Nothing : Part → List ℕ → Type 0
 Nothing p text = (Gap Yacc text → ⊥) × ((x : Word) (s : List ℕ) → Takes p text x s → ⊥)
@@ -135,34 +141,20 @@ Nothing p text = (Gap Yacc text → ⊥) × ((x : Word) (s : List ℕ) → Takes
 -- a block that isn't closed
 pub open_block : (p : Part) (text inside : List ℕ) → Front text (mark Block) inside → p ≡ Declarations
     → HasNo (codes "%}") inside → Nothing p text
-open_block p text inside f d h = (λ g. front_none text (mark Block) inside g f, at)
-  where
-    at : (x : Word) (s : List ℕ) → Takes p text x s → ⊥
-    at (mark m) s t = not_block p m d (same_mark m Block (front_one text (mark m) (mark Block) s inside t.0 f).0) t.1
-    at (directive n) s t = absurd (cc (front_one text (mark Block) (directive n) inside s f t).0)
-    at (name n) s t = absurd (cc (front_one text (mark Block) (name n) inside s f t).0)
-    at (number n) s t = absurd (cc (front_one text (mark Block) (number n) inside s f t).0)
-    at (literal c) s t = absurd (cc (front_one text (mark Block) (literal c) inside s f t).0)
-    at block s t = let e = front_one text (mark Block) (mark Block) t.1 inside t.2 f in h t.3.0 s (sym e.1 ∙ t.3.2)
-    at braces s t = absurd (cc (front_one text (mark Block) (mark OpenBrace) inside t.1 f t.2).0)
-    at other s t = absurd (cc (front_one text (mark Block) other inside s f t).0)
+open_block p text inside f d h = (
+  λ g. front_none text (mark Block) inside g f,
+  λ x s t. open_mark p Block inside x s (not_block p Block d refl) (λ e. h) (λ e. absurd (block_no_brace Block refl e))
+      (at_mark p text Block inside x s f t),
+)
 
 -- a brace that isn't closed
 pub open_brace : (p : Part) (text inside : List ℕ) → Front text (mark OpenBrace) inside → p ≡ Declarations
     → ((rest : List ℕ) → Closes 0 inside rest → ⊥) → Nothing p text
-open_brace p text inside f d h = (λ g. front_none text (mark OpenBrace) inside g f, at)
-  where
-    at : (x : Word) (s : List ℕ) → Takes p text x s → ⊥
-    at (mark m) s t
-        = not_brace p m d (same_mark m OpenBrace (front_one text (mark m) (mark OpenBrace) s inside t.0 f).0) t.1
-    at (directive n) s t = absurd (cc (front_one text (mark OpenBrace) (directive n) inside s f t).0)
-    at (name n) s t = absurd (cc (front_one text (mark OpenBrace) (name n) inside s f t).0)
-    at (number n) s t = absurd (cc (front_one text (mark OpenBrace) (number n) inside s f t).0)
-    at (literal c) s t = absurd (cc (front_one text (mark OpenBrace) (literal c) inside s f t).0)
-    at block s t = absurd (cc (front_one text (mark OpenBrace) (mark Block) inside t.1 f t.2).0)
-    at braces s t = let e = front_one text (mark OpenBrace) (mark OpenBrace) t.1 inside t.2 f in
-        h s (subst (λ i. Closes 0 i s) e.1 t.3)
-    at other s t = absurd (cc (front_one text (mark OpenBrace) other inside s f t).0)
+open_brace p text inside f d h = (
+  λ g. front_none text (mark OpenBrace) inside g f,
+  λ x s t. open_mark p OpenBrace inside x s (not_brace p OpenBrace d refl)
+      (λ e. absurd (block_no_brace OpenBrace e refl)) (λ e. h) (at_mark p text OpenBrace inside x s f t),
+)
 
 -- each mark of another part does
 pub other_part : (p : Part) (m : Mark) → p ≢ Declarations → IsPlain p m

@@ -1,7 +1,7 @@
 -- What a place is.
-use Rattle.std.proofs.Common.{◌≡◌, ◌≢◌, ℕ, ◌+◌, ◌*◌, ◌-◌, ◌<◌, ◌≤◌, List, [], ◌∷◌, ◌++◌, Bool, true, false, IsTrue, refl, sym}
-use Rattle.std.proofs.Common.{ap, ◌∙◌, subst, drop, length, get_or, eqb, nat_le, arith, cond, add-one}
-use Rattle.std.specs.Prelude.{MatchBool, if◌then◌else◌, ◌&&◌}
+use Rattle.std.proofs.Common.{◌≡◌, ℕ, ◌+◌, ◌*◌, ◌-◌, ◌<◌, ◌≤◌, List, [], ◌∷◌, ◌++◌, Bool, true, false, IsTrue, refl}
+use Rattle.std.proofs.Common.{sym, ap, ◌∙◌, subst, drop, length, get_or, eqb, arith, add-one}
+use Rattle.std.specs.Prelude.{MatchBool}
 use Rattle.std.proofs.lemmas.Bool.Decides.{nat_tests}
 use Rattle.std.proofs.lemmas.List.{append-nil}
 use Rattle.std.proofs.Math.Seq.{drop-cons}
@@ -19,7 +19,8 @@ use Rattle.ly_yaccread.specs.declared.words.Mark.TheVariants.{Dollar}
 -- the name of a constructor is all there is
 pub whole_name : (n f r : List ℕ) (t : Bool) → NameBefore Lex n f r → t ≡ eqb (length r) 0
     → MatchBool t (IsName Lex n) (IsName Lex n → ⊥)
-whole_name n f r true h e = subst (IsName Lex) (sym (h.2 ∙ ap (λ u. f ++ u) (empty_list true r e refl) ∙ append-nil f)) h.0
+whole_name n f r true h e
+    = subst (IsName Lex) (sym (h.2 ∙ ap (λ u. f ++ u) (empty_list true r e refl) ∙ append-nil f)) h.0
 whole_name n f r false h e
     = λ is. not_empty false r e refl (name_one Lex n f n r [] h (is, tt, sym (append-nil n))).1
 
@@ -71,7 +72,8 @@ digits_so_far ds value at h = omega (arith, number_grows value (drop at ds), h.s
 -- with a digit more the number is no less
 more_so_far : (ds : List ℕ) (value at d : ℕ) → DigitsGoOn ds value at → at < length ds → d ≡ get_or ds at 0
     → IsTrue (is_decimal d) → value * 10 + (d - 48) ≤ number 10 ds
-more_so_far ds value at d h i e is = digits_so_far ds (value * 10 + (d - 48)) (at + 1) (one_digit ds value at d h i e is)
+more_so_far ds value at d h i e is
+    = digits_so_far ds (value * 10 + (d - 48)) (at + 1) (one_digit ds value at d h i e is)
 
 pub next_so_far : (ds : List ℕ) (value at : ℕ) → DigitsGoOn ds value at → at < length ds → AllPass is_decimal ds
     → value * 10 + (get_or ds at 0 - 48) ≤ number 10 ds

@@ -1,5 +1,5 @@
 -- What a reader answers where a part of it is refused.
-use Rattle.std.proofs.Common.{◌≡◌, ◌≢◌, List, Result, Ok, Err, sym, ◌∙◌}
+use Rattle.std.proofs.Common.{◌≡◌, ◌≢◌, List, Result, Err}
 use Rattle.ly_yaccread.specs.Private.Read.{IsRead}
 use Rattle.ly_yaccread.specs.Words.{Word}
 use Rattle.ly_yaccread.specs.declared.fault.YaccFault.{YaccFault}

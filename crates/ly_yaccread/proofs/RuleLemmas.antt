@@ -1,16 +1,16 @@
 -- What a rule says is determined.
-use Rattle.std.proofs.Common.{◌≡◌, ◌≢◌, ℕ, ◌<◌, ◌≤◌, List, [], ◌∷◌, ◌++◌, Option, Some, None, refl, sym, ap, ap₂, ◌∙◌, subst}
-use Rattle.std.proofs.Common.{length, arith, inl, inr, codes, map}
+use Rattle.std.proofs.Common.{◌≡◌, ◌≢◌, ℕ, ◌<◌, ◌≤◌, List, [], ◌∷◌, ◌++◌, Option, Some, None, refl, sym}
+use Rattle.std.proofs.Common.{ap, ap₂, ◌∙◌, subst, length, arith, inl, inr, codes, map}
 use Rattle.std.proofs.lemmas.List.{append-nil, append_assoc, map-append}
-use Rattle.ly_yaccread.specs.Actions.{ActionFirst, ActionPassed, Making, default, pass, build}
+use Rattle.ly_yaccread.specs.Actions.{ActionPassed, Making, default, pass, build}
 use Rattle.ly_yaccread.specs.File.{ruling_of}
 use Rattle.ly_yaccread.specs.Rules.{Body, BodyEnd, BodyFollows, IsOver, LateAction, PrecedencePassed, Rules, Ruling}
 use Rattle.ly_yaccread.specs.Rules.{end, rule, semicolon}
-use Rattle.ly_yaccread.specs.Symbols.{NameFirst, NoMark, NoSymbol, SymbolFirst, Symbols}
-use Rattle.ly_yaccread.specs.Words.{Word, mark, directive, name}
+use Rattle.ly_yaccread.specs.Symbols.{SymbolFirst, Symbols}
+use Rattle.ly_yaccread.specs.Words.{Word, mark, directive}
 use Rattle.ly_yaccread.specs.declared.file.Production.{Production}
 use Rattle.ly_yaccread.specs.declared.listing.Listing.TheVariants.{Plain}
-use Rattle.ly_yaccread.specs.declared.words.Mark.TheVariants.{Section, Colon, Bar, Semicolon}
+use Rattle.ly_yaccread.specs.declared.words.Mark.TheVariants.{Semicolon}
 use Rattle.ly_yaccread.proofs.ActionLemmas.{passed_one, passed_within}
 use Rattle.ly_yaccread.proofs.SymbolLemmas.{heads, symbol_is, symbol_one, symbols_one, symbols_within}
 
@@ -107,7 +107,8 @@ same_ruling r s a b c d = ap (λ l. made l r.body r.precedence r.making) a
     ∙ ap (λ l. made s.left l r.precedence r.making) b ∙ ap (λ p. made s.left s.body p r.making) c
     ∙ ap (made s.left s.body s.precedence) d
 
-pub body_one : (n : List ℕ) (ws : List Word) (r q : Ruling) (rest left : List Word) → Body n ws r rest → Body n ws q left
+pub body_one : (n : List ℕ) (ws : List Word) (r q : Ruling) (rest left : List Word) → Body n ws r rest
+    → Body n ws q left
     → (r ≡ q) × (rest ≡ left)
 body_one n ws r q rest left a b =
     let d = body_behind n ws r.body a.behind q left a.symbols b in
@@ -166,9 +167,14 @@ body_rules : (last : Option (List ℕ)) (ws : List Word) (n : List ℕ) (behind 
     × (rs ≡ r ∷ qs)
 body_rules last ws n behind rs f (end l vs o) = absurd (follows_not_over l vs n behind f o)
 body_rules last ws n behind rs f (rule l m vs back rest r qs g b h) =
-    let one = follows_one l vs m n back behind g f in
-    (r, rest, qs, subst (λ u. Body u behind r rest) one.0 (subst (λ u. Body m u r rest) one.1 b),
-    subst (λ u. Rules (Some u) rest qs) one.0 h, refl)
+    let one = follows_one l vs m n back behind g f in (
+      r,
+      rest,
+      qs,
+      subst (λ u. Body u behind r rest) one.0 (subst (λ u. Body m u r rest) one.1 b),
+      subst (λ u. Rules (Some u) rest qs) one.0 h,
+      refl,
+    )
 body_rules last ws n behind rs f (semicolon m vs qs h)
     = absurd (follows_no_semicolon (Some m) (mark Semicolon ∷ vs) n behind vs f refl)
 
@@ -203,7 +209,8 @@ module _ (ws : List Word) (rules : List Production) (last : Option (List ℕ)) (
       → BodyFollows last at n inside → Body n inside (ruling_of p) behind → longer ≡ rules ++ p ∷ []
       → RulesGoOn ws longer (Some n) behind
   one_rule n inside behind p longer f b e = record {
-    sound = λ rs h. subst (λ u. Rules None ws (u ++ rs)) (sym (ap (map ruling_of) e ∙ map-append ruling_of rules (p ∷ [])))
+    sound = λ rs h. subst (λ u. Rules None ws (u ++ rs))
+        (sym (ap (map ruling_of) e ∙ map-append ruling_of rules (p ∷ [])))
         (subst (Rules None ws) (sym (append_assoc (map ruling_of rules) (ruling_of p ∷ []) rs))
         (so_far.sound (ruling_of p ∷ rs) (rule last n at inside behind (ruling_of p) rs f b h)));
     complete = λ all h.

@@ -1,9 +1,9 @@
 -- What symbols and tags the words begin with is determined.
-use Rattle.std.proofs.Common.{◌≡◌, ◌≢◌, ℕ, List, [], ◌∷◌, ◌++◌, refl, sym, ap, ap₂, ◌∙◌, subst, inl, inr, length, ◌<◌}
-use Rattle.std.proofs.Common.{◌≤◌, arith, map, Bool, true, eqb, eqb-true}
-use Rattle.std.proofs.lemmas.List.{append-nil, append_assoc, map-append}
+use Rattle.std.proofs.Common.{◌≡◌, List, [], ◌∷◌, ◌++◌, refl, sym, ap, ap₂, ◌∙◌, subst, inl, inr, length, ◌<◌}
+use Rattle.std.proofs.Common.{◌≤◌, arith, Bool, true, eqb, eqb-true}
+use Rattle.std.proofs.lemmas.List.{append-nil}
 use Rattle.ly_yaccread.specs.File.{symbol_word, symbol_words}
-use Rattle.ly_yaccread.specs.Symbols.{NameFirst, NoMark, NoSymbol, NumberPassed, SymbolFirst, SymbolList, Symbols}
+use Rattle.ly_yaccread.specs.Symbols.{NoSymbol, NumberPassed, SymbolFirst, SymbolList, Symbols}
 use Rattle.ly_yaccread.specs.Symbols.{TagPassed, end, more}
 use Rattle.ly_yaccread.specs.Words.{Word, mark, directive, name, number, literal, block, braces, other}
 use Rattle.ly_yaccread.specs.declared.file.Symbol.{Symbol}
@@ -72,7 +72,8 @@ symbols_within l ws xs rest (more u behind left q x ys f g h)
 
 -- the symbols so far and those that are left are all symbols
 abbrev pub SymbolsGoOn : Listing → List Word → List Symbol → List Word → Type 0
-SymbolsGoOn l ws symbols at = (xs rest : List Word) → Symbols l at xs rest → Symbols l ws (symbol_words symbols ++ xs) rest
+SymbolsGoOn l ws symbols at = (xs rest : List Word) → Symbols l at xs rest
+    → Symbols l ws (symbol_words symbols ++ xs) rest
 
 words_snoc : (symbols : List Symbol) (s : Symbol) (xs : List Word)
     → symbol_words (symbols ++ s ∷ []) ++ xs ≡ symbol_words symbols ++ symbol_word s ∷ xs

@@ -1,5 +1,5 @@
 -- What a yacc file says is determined.
-use Rattle.std.proofs.Common.{◌≡◌, ℕ, List, None, ap₂, subst, sym, ◌∙◌, ap}
+use Rattle.std.proofs.Common.{◌≡◌, ℕ, List, None, ap₂, subst, sym}
 use Rattle.ly_yaccread.specs.Declarations.{Declarations, Head, no_head}
 use Rattle.ly_yaccread.specs.File.{Written}
 use Rattle.ly_yaccread.specs.Rules.{Rules, Ruling}

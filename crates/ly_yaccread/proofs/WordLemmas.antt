@@ -5,7 +5,7 @@ use Rattle.std.proofs.lemmas.Bool.{false≢true}
 use Rattle.std.proofs.lemmas.Bool.Decides.{nat_tests}
 use Rattle.std.proofs.lemmas.List.{append-nil}
 use Rattle.std.proofs.Common.{◌≡◌, ◌≢◌, ℕ, List, [], ◌∷◌, ◌++◌, Bool, true, false, IsTrue, Option, Some, None}
-use Rattle.std.proofs.Common.{refl, sym, ap, ap₂, ◌∙◌, subst, arith, nat_eq, eqb, length, length-append, ◌<◌}
+use Rattle.std.proofs.Common.{refl, sym, ap, ◌∙◌, subst, arith, nat_eq, eqb, length, length-append, ◌<◌}
 use Rattle.ly_base.specs.Gap.{Gap, GapBefore, GapEnds}
 use Rattle.ly_base.specs.Language.{is_space, is_decimal, starts_name, NameBefore}
 use Rattle.ly_base.specs.declared.language.Language.TheVariants.{Yacc}

@@ -1,5 +1,5 @@
 -- The actions of a yacc file, which say what the tree of a rule is.
-use Rattle.std.specs.Prelude.{◌≡◌, ◌≢◌, ◌⊎◌, ◌<◌, ◌≤◌, ◌^◌, ℕ, List, [], ◌∷◌, ◌++◌, Bool, false, nat_eq, codes}
+use Rattle.std.specs.Prelude.{◌≡◌, ◌≢◌, ◌⊎◌, ◌<◌, ◌≤◌, ◌^◌, ℕ, List, [], ◌∷◌, ◌++◌, false, nat_eq, codes}
 use Rattle.std.specs.List.{list_any}
 use Rattle.ly_base.specs.Escapes.{AllPass, number as number_of}
 use Rattle.ly_base.specs.Language.{IsName, is_decimal}

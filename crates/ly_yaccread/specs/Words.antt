@@ -73,8 +73,8 @@ abbrev pub IsPlain : Part → Mark → Type 0
 IsPlain Declarations m = (m ≢ Block) × (m ≢ OpenBrace)
 IsPlain p m = Unit {0}
 
--- The text is a gap, a word of this part of a file, and the rest. A block goes to its first `%}`, and the braces between
--- braces are counted as plain bytes.
+-- The text is a gap, a word of this part of a file, and the rest. A block goes to its first `%}`; braces are counted as
+-- plain bytes.
 abbrev pub Takes : Part → List ℕ → Word → List ℕ → Type 0
 Takes p text (mark m) rest = Front text (mark m) rest × IsPlain p m
 Takes p text block rest = (p ≡ Declarations) × (inside : List ℕ) × Front text (mark Block) inside
@@ -89,8 +89,8 @@ part_behind Declarations (mark Section) = Rules
 part_behind Rules (mark Section) = Programs
 part_behind p x = p
 
--- The words of a text that stands in this part of a file. In the programs everything is free. Where no word can be read,
--- one that is anything else ends the list.
+-- The words of a text that stands in this part of a file. In the programs everything is free. Where no word can be
+-- read, one that is anything else ends the list.
 pub data Wording : Part → List ℕ → List Word → Type 0 where
   free : (text : List ℕ) → Wording Programs text []
   end : (p : Part) (text : List ℕ) → Gap Yacc text → Wording p text []

@@ -11,10 +11,7 @@ use crate::fault::YaccFault;
 use crate::words::Mark;
 
 /// Reads a `$` and a place of a body of so many symbols, and answers the place and what is left behind it.
-pub(crate) fn read_place(
-    words: Cursor<'_>,
-    symbols: usize,
-) -> Result<(u32, Cursor<'_>), YaccFault>
+pub(crate) fn read_place(words: Cursor<'_>, symbols: usize) -> Result<(u32, Cursor<'_>), YaccFault>
     ensures { MatchResult result (λ found. PlaceFirst symbols (words_left words.entry) found.0 (words_left found.1))
         (λ _. (p : ℕ) (rest : List Word) → PlaceFirst symbols (words_left words.entry) p rest → ⊥) }
 {

@@ -71,10 +71,7 @@ fn after_semicolon<'t>(words: Cursor<'t>, last: Option<&[u8]>) -> Option<Cursor<
 }
 
 /// The left side of the body that follows, and what is left where the body begins.
-fn body_follows<'t>(
-    words: Cursor<'t>,
-    last: Option<&'t [u8]>,
-) -> Option<(&'t [u8], Cursor<'t>)>
+fn body_follows<'t>(words: Cursor<'t>, last: Option<&'t [u8]>) -> Option<(&'t [u8], Cursor<'t>)>
     ensures { MatchOption result ((n : List ℕ) (rest : List Word)
         → BodyFollows (last_of last.entry) (words_left words.entry) n rest → ⊥)
         (λ found. BodyFollows (last_of last.entry) (words_left words.entry) found.0.now (words_left found.1)) }

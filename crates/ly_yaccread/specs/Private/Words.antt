@@ -5,7 +5,6 @@ use Rattle.ly_base.specs.declared.language.Language.TheVariants.{Yacc}
 use Rattle.ly_yaccread.specs.Words.{Word, mark, directive, name, number, literal, block, braces, other, Begins, Front}
 use Rattle.ly_yaccread.specs.Words.{Takes}
 use Rattle.ly_yaccread.specs.declared.part.Part.{Part}
-use Rattle.ly_yaccread.specs.declared.part.Part.TheVariants.{Declarations}
 use Rattle.ly_yaccread.specs.declared.words.NextWord.{NextWord}
 use Rattle.ly_yaccread.specs.declared.words.NextWord.TheVariants.{End, Mark, Directive, Name, Number, Literal, Other}
 use Rattle.ly_yaccread.specs.declared.words.NextWord.TheVariants.{Block, Braces}

@@ -1,7 +1,7 @@
-use Rattle.std.proofs.Common.{[], ◌∷◌, ◌∙◌, ap, sym, subst}
+use Rattle.std.proofs.Common.{◌∙◌, ap}
 use Rattle.std.proofs.lemmas.Result.{err_from_is_err_and}
-use Rattle.ly_base.specs.SparseSet.{Chosen, with_member}
-use Rattle.ly_yaccread.specs.Actions.{MorePlaces, Places}
+use Rattle.ly_base.specs.SparseSet.{with_member}
+use Rattle.ly_yaccread.specs.Actions.{Places}
 use Rattle.ly_yaccread.specs.Private.Read.{left}
 use Rattle.ly_yaccread.proofs.ActionLemmas.{no_places, places_none, places_some}
 use Rattle.ly_yaccread.proofs.ReadLemmas.{refused}

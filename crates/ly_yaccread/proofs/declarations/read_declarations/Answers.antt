@@ -1,4 +1,4 @@
-use Rattle.std.proofs.Common.{◌≡◌, ◌∙◌, Some, None, refl, sym, subst, false}
+use Rattle.std.proofs.Common.{◌≡◌, Some, None, subst}
 use Rattle.std.specs.Prelude.{MatchBool}
 use Rattle.std.proofs.lemmas.Result.{err_from_is_err_and}
 use Rattle.ly_yaccread.specs.Declarations.{Declarations, no_head, with_saying}
@@ -22,7 +22,8 @@ returns-in_err-said c =
     (c.in_err-said.ensures n) all rest (c.loop-rules.invariant.complete all rest d))
 
 pub loop-rules-smaller : goal.loop-rules-smaller
-loop-rules-smaller c = declares_shorter (left c.loop-rules.rest) (saying_of c.in_ok-said.said) (left c.in_ok-said.behind)
+loop-rules-smaller c
+    = declares_shorter (left c.loop-rules.rest) (saying_of c.in_ok-said.said) (left c.in_ok-said.behind)
     c.in_ok-said.ensures
 
 pub loop-rules-preserved : goal.loop-rules-preserved

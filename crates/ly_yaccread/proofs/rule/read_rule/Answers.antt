@@ -1,4 +1,4 @@
-use Rattle.std.proofs.Common.{arith, length, map, subst, ◌≡◌}
+use Rattle.std.proofs.Common.{arith, length, subst, ◌≡◌}
 use Rattle.std.proofs.lemmas.List.{length-map}
 use Rattle.std.proofs.lemmas.Result.{err_from_is_err_and}
 use Rattle.ly_yaccread.specs.File.{symbol_word, symbol_words}
@@ -14,7 +14,8 @@ returns-in_err-end c =
     let behind = left c.in_ok-body.behind in
     let body = c.in_ok-body.body.items in
     let p = err_from_is_err_and c.from_residual-in_err-end.result c.from_residual-in_err-end.ensures.1 in
-    let count : length (symbol_words body) ≡ c.len.result = omega (arith, length-map body symbol_word, c.in_ok-body.body.ok)
+    let count : length (symbol_words body) ≡ c.len.result
+    = omega (arith, length-map body symbol_word, c.in_ok-body.body.ok)
     in
     refused (Body c.args.left.now ws) _ _ _ _ _ p.1 p.2
     (λ n r rest b.

@@ -2,7 +2,8 @@ use Rattle.std.proofs.Common.{ℕ, List}
 use Rattle.ly_base.specs.Language.{NameBefore, DigitsBefore}
 use Rattle.ly_base.specs.Literals.{Literal}
 use Rattle.ly_base.specs.declared.language.Language.TheVariants.{Yacc}
-use Rattle.ly_yaccread.specs.Words.{DirectiveBefore, MarkBefore, Word, mark, directive, name, number, literal, block, braces}
+use Rattle.ly_yaccread.specs.Words.{DirectiveBefore, MarkBefore, Word, mark}
+use Rattle.ly_yaccread.specs.Words.{directive, name, number, literal, block, braces}
 use Rattle.ly_yaccread.specs.Words.{other, Begins}
 use Rattle.ly_yaccread.specs.declared.words.Mark.{Mark}
 use Rattle.ly_yaccread.proofs.WordLemmas.{at_none, not_empty}

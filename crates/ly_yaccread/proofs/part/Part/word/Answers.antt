@@ -1,7 +1,7 @@
 use Rattle.std.proofs.Common.{subst}
-use Rattle.ly_yaccread.specs.Private.Words.{IsFront, IsTaken}
+use Rattle.ly_yaccread.specs.Private.Words.{IsFront}
 use Rattle.ly_yaccread.specs.declared.words.NextWord.TheVariants as next
-use Rattle.ly_yaccread.proofs.PartLemmas.{no_mark, open_block, open_brace, other_part, plain_mark}
+use Rattle.ly_yaccread.proofs.PartLemmas.{no_mark, open_block, open_brace}
 use Rattle.ly_yaccread.proofs.part.Part.word.Goals as goal
 
 pub returns-in_default : goal.returns-in_default
