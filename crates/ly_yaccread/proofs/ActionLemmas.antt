@@ -6,7 +6,7 @@ use Rattle.std.specs.Prelude.{if◌then◌else◌}
 use Rattle.ly_base.specs.Language.{IsName}
 use Rattle.ly_base.specs.SparseSet.{with_member}
 use Rattle.ly_base.specs.declared.language.Language.TheVariants.{Lex}
-use Rattle.ly_yaccread.specs.Actions.{ActionFirst, ActionPassed, Making, MorePlaces, PlaceFirst, Places, Value}
+use Rattle.ly_yaccread.specs.Actions.{ActionFirst, ActionPassed, Making, MorePlaces, PlaceFirst, Places, ValueFirst}
 use Rattle.ly_yaccread.specs.Actions.{pass, build, last, more, none, some, passes, builds}
 use Rattle.ly_yaccread.specs.Symbols.{NameFirst, NoMark}
 use Rattle.ly_yaccread.specs.Words.{Word, mark, name}
@@ -134,7 +134,7 @@ same_name n m r s e = (cc, cc)
 
 -- what a value says that begins with a name
 pub name_value : (k : ℕ) (ws : List Word) (n : List ℕ) (behind : List Word) (m : Making) (rest : List Word)
-    → ws ≡ name n ∷ behind → Value k ws m rest
+    → ws ≡ name n ∷ behind → ValueFirst k ws m rest
     → (ps : List ℕ) × (inside : List Word) × (behind ≡ mark OpenParenthesis ∷ inside) × Places k inside ps rest
     × (m ≡ build n ps)
 name_value k ws n behind m rest e (passes p vs q f)
@@ -145,16 +145,16 @@ name_value k ws n behind m rest e (builds c ps vs q f g h) =
 
 -- no name comes first, and no place
 pub no_value : (k : ℕ) (ws : List Word) → ((n : List ℕ) (r : List Word) → NameFirst ws n r → ⊥)
-    → ((p : ℕ) (r : List Word) → PlaceFirst k ws p r → ⊥) → (m : Making) (rest : List Word) → Value k ws m rest → ⊥
+    → ((p : ℕ) (r : List Word) → PlaceFirst k ws p r → ⊥) → (m : Making) (rest : List Word) → ValueFirst k ws m rest → ⊥
 no_value k ws a b m rest (passes p vs q f) = b p q f
 no_value k ws a b m rest (builds c ps vs q f g h) = a c (mark OpenParenthesis ∷ vs) (refl, g)
 
-value_one : (k : ℕ) (ws : List Word) (m o : Making) (r s : List Word) → Value k ws m r → Value k ws o s
+value_one : (k : ℕ) (ws : List Word) (m o : Making) (r s : List Word) → ValueFirst k ws m r → ValueFirst k ws o s
     → (m ≡ o) × (r ≡ s)
 value_one k ws m o r s (passes p vs q f) b = at k vs p q o s f b
   where
     at : (k : ℕ) (vs : List Word) (p : ℕ) (q : List Word) (o : Making) (s : List Word) → PlaceFirst k vs p q
-        → Value k vs o s → (pass p ≡ o) × (q ≡ s)
+        → ValueFirst k vs o s → (pass p ≡ o) × (q ≡ s)
     at k vs p q o s f (passes t us u g) = let one = place_one k us p t q u f g in (ap pass one.0, one.1)
     at k vs p q o s f (builds c ps us u g h i) = absurd (place_no_name k c (mark OpenParenthesis ∷ us) p q f)
 value_one k ws m o r s (builds c ps vs q f g h) b =
@@ -172,9 +172,9 @@ behind_both r s e = cc
 -- what stands behind `{ $$ =` is a value
 pub value_behind : (k : ℕ) (ws behind : List Word) (m : Making) (rest : List Word)
     → ws ≡ mark OpenBrace ∷ mark Whole ∷ mark Equals ∷ behind → ActionPassed k ws m rest
-    → Value k behind m (mark Semicolon ∷ mark CloseBrace ∷ rest)
+    → ValueFirst k behind m (mark Semicolon ∷ mark CloseBrace ∷ rest)
 value_behind k ws behind m rest e (inl a)
-    = subst (λ u. Value k u m (mark Semicolon ∷ mark CloseBrace ∷ rest))
+    = subst (λ u. ValueFirst k u m (mark Semicolon ∷ mark CloseBrace ∷ rest))
     (behind_equals a.behind behind (sym a.opens ∙ e)) a.value
 value_behind k ws behind m rest e (inr (n, f, g)) = absurd (n _ e)
 
@@ -205,15 +205,16 @@ places_some k ws behind rest p begun all ps f e h g
 -- a node
 pub value_built : (k : ℕ) (ws behind inside rest : List Word) (n items ps : List ℕ) → NameFirst ws n behind
     → IsName Lex n → behind ≡ mark OpenParenthesis ∷ inside → Places k inside ps rest → items ≡ n
-    → Value k ws (build items ps) rest
+    → ValueFirst k ws (build items ps) rest
 value_built k ws behind inside rest n items ps f is e h g
-    = subst (λ u. Value k u (build items ps) rest) (sym (f.0 ∙ ap (λ u. name n ∷ u) e))
-    (subst (λ u. Value k (name n ∷ mark OpenParenthesis ∷ inside) (build u ps) rest) (sym g) (builds n ps inside rest is
+    = subst (λ u. ValueFirst k u (build items ps) rest) (sym (f.0 ∙ ap (λ u. name n ∷ u) e))
+    (subst (λ u. ValueFirst k (name n ∷ mark OpenParenthesis ∷ inside) (build u ps) rest) (sym g)
+    (builds n ps inside rest is
     f.1 h))
 
 -- an action that has its value, but doesn't end behind it
 pub no_end : (k : ℕ) (ws inside value behind : List Word) (m : Making) → ws ≡ mark OpenBrace ∷ inside
-    → inside ≡ mark Whole ∷ mark Equals ∷ value → Value k value m behind
+    → inside ≡ mark Whole ∷ mark Equals ∷ value → ValueFirst k value m behind
     → ((rest : List Word) → behind ≢ mark Semicolon ∷ mark CloseBrace ∷ rest) → (o : Making) (rest : List Word)
     → ActionPassed k ws o rest → ⊥
 no_end k ws inside value behind m e f v n o rest a =
@@ -231,7 +232,8 @@ places_within k ws ps rest (none q) = omega arith
 places_within k ws ps rest (some qs p vs behind q f g)
     = omega (arith, place_shorter k vs p behind f, more_within k (p ∷ []) qs behind q g)
 
-value_within : (k : ℕ) (ws : List Word) (m : Making) (rest : List Word) → Value k ws m rest → length rest ≤ length ws
+value_within : (k : ℕ) (ws : List Word) (m : Making) (rest : List Word) → ValueFirst k ws m rest
+    → length rest ≤ length ws
 value_within k ws m rest (passes p vs q f) = omega (arith, place_shorter k vs p q f)
 value_within k ws m rest (builds c ps vs q f g h) = omega (arith, places_within k vs ps q h)
 

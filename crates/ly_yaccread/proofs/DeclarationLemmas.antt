@@ -2,8 +2,8 @@
 use Rattle.std.proofs.Common.{◌≡◌, ◌≢◌, ℕ, List, ◌∷◌, Some, None, refl, sym, ap, ◌∙◌, subst, inl, inr}
 use Rattle.std.proofs.Common.{length, ◌<◌, ◌≤◌, arith, get_or, nat_eq}
 use Rattle.std.specs.Prelude.{if◌then◌else◌}
-use Rattle.ly_yaccread.specs.Declarations.{Declarations, Declares, Follows, Head, Saying, tokens, end, more}
-use Rattle.ly_yaccread.specs.Declarations.{directive_name, with_saying}
+use Rattle.ly_yaccread.specs.Declarations.{Declarations, Declares, FollowsDirective, Preamble, Saying, tokens}
+use Rattle.ly_yaccread.specs.Declarations.{end, more, directive_name, with_saying}
 use Rattle.ly_yaccread.specs.Symbols.{NoMark, SymbolList, TagPassed}
 use Rattle.ly_yaccread.specs.Words.{Word, mark, directive, block}
 use Rattle.ly_yaccread.specs.declared.declaration.Directive.{Directive}
@@ -35,8 +35,8 @@ named_back Union = refl
 pub directive_one : (d e : Directive) → directive_name d ≡ directive_name e → d ≡ e
 directive_one d e h = sym (named_back d) ∙ ap named h ∙ named_back e
 
-pub follows_one : (d : Directive) (ws : List Word) (s t : Saying) (r q : List Word) → Follows d ws s r
-    → Follows d ws t q → (s ≡ t) × (r ≡ q)
+pub follows_one : (d : Directive) (ws : List Word) (s t : Saying) (r q : List Word) → FollowsDirective d ws s r
+    → FollowsDirective d ws t q → (s ≡ t) × (r ≡ q)
 follows_one (Tokens k) ws s t r q (xs, a, e) (ys, b, f)
     = let one = list_one Numbered ws xs ys r q a b in (e ∙ ap (tokens k) one.0 ∙ sym f, one.1)
 follows_one Types ws s t r q (xs, a, e) (ys, b, f)
@@ -49,12 +49,12 @@ same_directive n m e = cc
 
 -- what stands behind a directive that comes first
 pub behind_directive : (d : Directive) (ws behind : List Word) (s : Saying) (r : List Word)
-    → ws ≡ directive (directive_name d) ∷ behind → Declares ws s r → Follows d behind s r
+    → ws ≡ directive (directive_name d) ∷ behind → Declares ws s r → FollowsDirective d behind s r
 behind_directive d ws behind s r e (inl (f, g)) = absurd (cc (heads _ _ _ _ (sym e ∙ f)).0)
 behind_directive d ws behind s r e (inr (c, back, f, g)) =
     let same = heads (directive (directive_name c)) (directive (directive_name d)) back behind (sym f ∙ e) in
     let one = directive_one c d (same_directive (directive_name c) (directive_name d) same.0) in
-    subst (λ i. Follows i behind s r) one (subst (λ b. Follows c b s r) same.1 g)
+    subst (λ i. FollowsDirective i behind s r) one (subst (λ b. FollowsDirective c b s r) same.1 g)
 
 pub no_declaration : (ws : List Word) (s : Saying) (r : List Word) → ((rest : List Word) → ws ≢ block ∷ rest)
     → ((d : Directive) (rest : List Word) → ws ≢ directive (directive_name d) ∷ rest) → Declares ws s r → ⊥
@@ -76,7 +76,7 @@ list_within : (l : Listing) (ws xs rest : List Word) → SymbolList l ws xs rest
 list_within l ws xs rest h
     = omega (arith, tag_within ws h.behind h.tag, symbols_within l h.behind xs rest h.symbols)
 
-follows_within : (d : Directive) (ws : List Word) (s : Saying) (rest : List Word) → Follows d ws s rest
+follows_within : (d : Directive) (ws : List Word) (s : Saying) (rest : List Word) → FollowsDirective d ws s rest
     → length rest ≤ length ws
 follows_within (Tokens k) ws s rest (xs, a, e) = list_within Numbered ws xs rest a
 follows_within Types ws s rest (xs, a, e) = list_within Plain ws xs rest a
@@ -94,30 +94,30 @@ no_section ws rest s r e (inl (f, g)) = absurd (cc (heads _ _ _ _ (sym e ∙ f))
 no_section ws rest s r e (inr (d, behind, f, g)) = absurd (cc (heads _ _ _ _ (sym e ∙ f)).0)
 
 -- the declarations go on from here as from the beginning
-pub record DeclarationsGoOn (h : Head) (ws : List Word) (i : Head) (at : List Word) : Type 0 where
-  pub sound : (all : Head) (rest : List Word) → Declarations i at all rest → Declarations h ws all rest
-  pub complete : (all : Head) (rest : List Word) → Declarations h ws all rest → Declarations i at all rest
+pub record DeclarationsGoOn (h : Preamble) (ws : List Word) (i : Preamble) (at : List Word) : Type 0 where
+  pub sound : (all : Preamble) (rest : List Word) → Declarations i at all rest → Declarations h ws all rest
+  pub complete : (all : Preamble) (rest : List Word) → Declarations h ws all rest → Declarations i at all rest
 
-pub start_here : (h : Head) (ws : List Word) → DeclarationsGoOn h ws h ws
+pub start_here : (h : Preamble) (ws : List Word) → DeclarationsGoOn h ws h ws
 start_here h ws = record { sound = λ all rest d. d; complete = λ all rest d. d }
 
 -- no declaration more
-pub declarations_end : (h : Head) (ws rest : List Word) → ws ≡ mark Section ∷ rest → Declarations h ws h rest
+pub declarations_end : (h : Preamble) (ws rest : List Word) → ws ≡ mark Section ∷ rest → Declarations h ws h rest
 declarations_end h ws rest e = subst (λ i. Declarations h i h rest) (sym e) (end h rest)
 
 -- what goes on behind a declaration
-behind_one : (h all : Head) (ws at behind rest : List Word) (s : Saying) → ws ≡ at → Declares at s behind
-    → Declarations h ws all rest → (i : Head) × (with_saying h s ≡ Some i) × Declarations i behind all rest
+behind_one : (h all : Preamble) (ws at behind rest : List Word) (s : Saying) → ws ≡ at → Declares at s behind
+    → Declarations h ws all rest → (i : Preamble) × (with_saying h s ≡ Some i) × Declarations i behind all rest
 behind_one h all ws at behind rest s e f (end g r) = absurd (no_section at r s behind (sym e) f)
 behind_one h all ws at behind rest s e f (more g i whole v back r t a b d) =
     let one = declares_one at t s back behind (subst (λ u. Declares u t back) e a) f in
     (i, subst (λ u. with_saying g u ≡ Some i) one.0 b, subst (λ u. Declarations i u whole r) one.1 d)
 
-same_some : (h i : Head) → Some h ≡ Some i → h ≡ i
+same_some : (h i : Preamble) → Some h ≡ Some i → h ≡ i
 same_some h i e = cc
 
 -- a declaration more
-pub one_more : (h g i : Head) (ws at behind : List Word) (s : Saying) → DeclarationsGoOn h ws g at
+pub one_more : (h g i : Preamble) (ws at behind : List Word) (s : Saying) → DeclarationsGoOn h ws g at
     → Declares at s behind
     → with_saying g s ≡ Some i → DeclarationsGoOn h ws i behind
 one_more h g i ws at behind s so_far f e = record {
@@ -128,24 +128,24 @@ one_more h g i ws at behind s so_far f e = record {
 }
 
 -- a declaration that may not be there
-pub not_more : (g : Head) (at behind : List Word) (s : Saying) → Declares at s behind → with_saying g s ≡ None
-    → (all : Head) (rest : List Word) → Declarations g at all rest → ⊥
+pub not_more : (g : Preamble) (at behind : List Word) (s : Saying) → Declares at s behind → with_saying g s ≡ None
+    → (all : Preamble) (rest : List Word) → Declarations g at all rest → ⊥
 not_more g at behind s f e all rest d =
     let b = behind_one g all at at behind rest s refl f d in absurd (cc (sym e ∙ b.1))
 
 -- no declaration is there
-pub none_more : (g : Head) (at : List Word) → NoMark Section at
-    → ((s : Saying) (r : List Word) → Declares at s r → ⊥) → (all : Head) (rest : List Word)
+pub none_more : (g : Preamble) (at : List Word) → NoMark Section at
+    → ((s : Saying) (r : List Word) → Declares at s r → ⊥) → (all : Preamble) (rest : List Word)
     → Declarations g at all rest → ⊥
 none_more g at none not all rest (end h r) = none r refl
 none_more g at none not all rest (more h i whole ws behind r s a b d) = not s behind a
 
 -- what declarations say is determined
-pub declarations_one : (h a b : Head) (ws r s : List Word) → Declarations h ws a r → Declarations h ws b s
+pub declarations_one : (h a b : Preamble) (ws r s : List Word) → Declarations h ws a r → Declarations h ws b s
     → (a ≡ b) × (r ≡ s)
 declarations_one h a b ws r s (end g q) d = at_end g b (mark Section ∷ q) q s refl d
   where
-    at_end : (g b : Head) (ws q s : List Word) → ws ≡ mark Section ∷ q → Declarations g ws b s → (g ≡ b) × (q ≡ s)
+    at_end : (g b : Preamble) (ws q s : List Word) → ws ≡ mark Section ∷ q → Declarations g ws b s → (g ≡ b) × (q ≡ s)
     at_end g b ws q s e (end h r) = (refl, (heads _ _ _ _ (sym e)).1)
     at_end g b ws q s e (more h i all v back r t x y d) = absurd (no_section v q t back e x)
 declarations_one h a b ws r s (more g i all v back q t x y c) d =

@@ -4,7 +4,7 @@ use Rattle.std.proofs.Common.{arith}
 use Rattle.ly_base.specs.Gap.{Closes, EndBefore, Gap, HasNo, last, close, opening, other as plain_byte}
 use Rattle.ly_base.specs.declared.language.Language.TheVariants.{Yacc}
 use Rattle.ly_base.proofs.GapLemmas.{block_one, closes_one}
-use Rattle.ly_yaccread.specs.Private.Words.{IsFront, IsTaken, word_of}
+use Rattle.ly_yaccread.specs.Private.Words.{IsFront, IsPartWord, word_of}
 use Rattle.ly_yaccread.specs.Words.{Word, mark, directive, name, number, literal, block, braces, other, Front, Takes}
 use Rattle.ly_yaccread.specs.Words.{IsPlain}
 use Rattle.ly_yaccread.specs.declared.part.Part.{Part}
@@ -29,7 +29,7 @@ takes_front p text other s h = (other, s, h)
 
 -- a word that is no mark
 pub no_mark : (p : Part) (text rest : List ℕ) (w : NextWord) → IsFront text w rest → ((m : Mark) → w ≡ next.Mark m → ⊥)
-    → IsTaken p text w rest
+    → IsPartWord p text w rest
 no_mark p text rest next.End f n = f
 no_mark p text rest (next.Mark m) f n = absurd (n m refl)
 no_mark p text rest (next.Directive d) f n = f
@@ -190,7 +190,7 @@ takes_shorter p text braces rest h =
 takes_shorter p text other rest h = front_shorter text other rest h
 
 -- what is found is a word
-pub taken : (p : Part) (text rest : List ℕ) (w : NextWord) → w ≢ next.End → w ≢ next.Other → IsTaken p text w rest
+pub taken : (p : Part) (text rest : List ℕ) (w : NextWord) → w ≢ next.End → w ≢ next.Other → IsPartWord p text w rest
     → Takes p text (word_of w) rest
 taken p text rest next.End e o h = absurd (e refl)
 taken p text rest (next.Mark m) e o h = h

@@ -4,8 +4,8 @@ use Rattle.std.proofs.Common.{ap, ap₂, ◌∙◌, subst, length, arith, inl, i
 use Rattle.std.proofs.lemmas.List.{append-nil, append_assoc, map-append}
 use Rattle.ly_yaccread.specs.Actions.{ActionPassed, Making, default, pass, build}
 use Rattle.ly_yaccread.specs.File.{ruling_of}
-use Rattle.ly_yaccread.specs.Rules.{Body, BodyEnd, BodyFollows, IsOver, LateAction, PrecedencePassed, Rules, Ruling}
-use Rattle.ly_yaccread.specs.Rules.{end, rule, semicolon}
+use Rattle.ly_yaccread.specs.Rules.{AreRulesOver, Body, BodyEnd, BodyFollows, LateAction, PrecedencePassed, Ruling}
+use Rattle.ly_yaccread.specs.Rules.{YaccRules, end, rule, semicolon}
 use Rattle.ly_yaccread.specs.Symbols.{SymbolFirst, Symbols}
 use Rattle.ly_yaccread.specs.Words.{Word, mark, directive}
 use Rattle.ly_yaccread.specs.declared.file.Production.{Production}
@@ -129,7 +129,7 @@ follows_one last ws n m r s (inr (e, f)) (inl (g, h)) = absurd (cc (heads _ _ _ 
 follows_one last ws n m r s (inr (e, f)) (inr (g, h)) = (cc, cc)
 
 follows_not_over : (last : Option (List ℕ)) (ws : List Word) (n : List ℕ) (r : List Word) → BodyFollows last ws n r
-    → IsOver ws → ⊥
+    → AreRulesOver ws → ⊥
 follows_not_over last ws n r (inl (e, f)) (inl g) = cc (sym e ∙ g)
 follows_not_over last ws n r (inl (e, f)) (inr (s, g)) = cc (heads _ _ _ _ (sym e ∙ g)).0
 follows_not_over last ws n r (inr (e, f)) (inl g) = cc (sym f ∙ g)
@@ -140,30 +140,31 @@ follows_no_semicolon : (last : Option (List ℕ)) (ws : List Word) (n : List ℕ
 follows_no_semicolon last ws n r q (inl (e, f)) g = cc (heads _ _ _ _ (sym e ∙ g)).0
 follows_no_semicolon last ws n r q (inr (e, f)) g = cc (heads _ _ _ _ (sym f ∙ g)).0
 
-semicolon_not_over : (ws : List Word) → IsOver (mark Semicolon ∷ ws) → ⊥
+semicolon_not_over : (ws : List Word) → AreRulesOver (mark Semicolon ∷ ws) → ⊥
 semicolon_not_over ws (inl e) = cc e
 semicolon_not_over ws (inr (s, e)) = cc (heads _ _ _ _ e).0
 
 -- what rules there are that are over
-over_rules : (last : Option (List ℕ)) (ws : List Word) (rs : List Ruling) → IsOver ws → Rules last ws rs → [] ≡ rs
+over_rules : (last : Option (List ℕ)) (ws : List Word) (rs : List Ruling) → AreRulesOver ws
+    → YaccRules last ws rs → [] ≡ rs
 over_rules last ws rs o (end l vs p) = refl
 over_rules last ws rs o (rule l n vs behind rest r qs f g h) = absurd (follows_not_over l vs n behind f o)
 over_rules last ws rs o (semicolon n vs qs h) = absurd (semicolon_not_over vs o)
 
 -- behind a `;`
 semicolon_rules : (last : Option (List ℕ)) (ws behind : List Word) (rs : List Ruling) → ws ≡ mark Semicolon ∷ behind
-    → Rules last ws rs → Rules last behind rs
+    → YaccRules last ws rs → YaccRules last behind rs
 semicolon_rules last ws behind rs e (end l vs o)
-    = absurd (semicolon_not_over behind (subst IsOver e o))
+    = absurd (semicolon_not_over behind (subst AreRulesOver e o))
 semicolon_rules last ws behind rs e (rule l n vs back rest r qs f g h)
     = absurd (follows_no_semicolon l vs n back behind f e)
 semicolon_rules last ws behind rs e (semicolon n vs qs h)
-    = subst (λ u. Rules (Some n) u qs) (heads _ _ _ _ e).1 h
+    = subst (λ u. YaccRules (Some n) u qs) (heads _ _ _ _ e).1 h
 
 -- where a body follows, its rule comes, and then the others
 body_rules : (last : Option (List ℕ)) (ws : List Word) (n : List ℕ) (behind : List Word) (rs : List Ruling)
-    → BodyFollows last ws n behind → Rules last ws rs
-    → (r : Ruling) × (rest : List Word) × (qs : List Ruling) × Body n behind r rest × Rules (Some n) rest qs
+    → BodyFollows last ws n behind → YaccRules last ws rs
+    → (r : Ruling) × (rest : List Word) × (qs : List Ruling) × Body n behind r rest × YaccRules (Some n) rest qs
     × (rs ≡ r ∷ qs)
 body_rules last ws n behind rs f (end l vs o) = absurd (follows_not_over l vs n behind f o)
 body_rules last ws n behind rs f (rule l m vs back rest r qs g b h) =
@@ -172,7 +173,7 @@ body_rules last ws n behind rs f (rule l m vs back rest r qs g b h) =
       rest,
       qs,
       subst (λ u. Body u behind r rest) one.0 (subst (λ u. Body m u r rest) one.1 b),
-      subst (λ u. Rules (Some u) rest qs) one.0 h,
+      subst (λ u. YaccRules (Some u) rest qs) one.0 h,
       refl,
     )
 body_rules last ws n behind rs f (semicolon m vs qs h)
@@ -180,8 +181,8 @@ body_rules last ws n behind rs f (semicolon m vs qs h)
 
 -- the rules so far and those that are left are all rules
 pub record RulesGoOn (ws : List Word) (rules : List Production) (last : Option (List ℕ)) (at : List Word) : Type 0 where
-  pub sound : (rs : List Ruling) → Rules last at rs → Rules None ws (map ruling_of rules ++ rs)
-  pub complete : (all : List Ruling) → Rules None ws all → (rs : List Ruling) × Rules last at rs
+  pub sound : (rs : List Ruling) → YaccRules last at rs → YaccRules None ws (map ruling_of rules ++ rs)
+  pub complete : (all : List Ruling) → YaccRules None ws all → (rs : List Ruling) × YaccRules last at rs
 
 pub rules_start : (ws : List Word) → RulesGoOn ws [] None ws
 rules_start ws = record { sound = λ rs h. h; complete = λ all h. (all, h) }
@@ -189,18 +190,18 @@ rules_start ws = record { sound = λ rs h. h; complete = λ all h. (all, h) }
 module _ (ws : List Word) (rules : List Production) (last : Option (List ℕ)) (at : List Word)
     (so_far : RulesGoOn ws rules last at) where
   -- no rule more
-  pub rules_end : IsOver at → Rules None ws (map ruling_of rules)
-  rules_end o = subst (Rules None ws) (append-nil (map ruling_of rules)) (so_far.sound [] (end last at o))
+  pub rules_end : AreRulesOver at → YaccRules None ws (map ruling_of rules)
+  rules_end o = subst (YaccRules None ws) (append-nil (map ruling_of rules)) (so_far.sound [] (end last at o))
 
   -- a `;`
   pub one_semicolon : (behind : List Word) → last ≢ None → at ≡ mark Semicolon ∷ behind → RulesGoOn ws rules last behind
   one_semicolon behind f e = record {
-    sound = λ rs h. so_far.sound rs (subst (λ u. Rules last u rs) (sym e) (behind_some last f rs h));
+    sound = λ rs h. so_far.sound rs (subst (λ u. YaccRules last u rs) (sym e) (behind_some last f rs h));
     complete = λ all h. let q = so_far.complete all h in (q.0, semicolon_rules last at behind q.0 e q.1);
   }
     where
-      behind_some : (l : Option (List ℕ)) → l ≢ None → (rs : List Ruling) → Rules l behind rs
-          → Rules l (mark Semicolon ∷ behind) rs
+      behind_some : (l : Option (List ℕ)) → l ≢ None → (rs : List Ruling) → YaccRules l behind rs
+          → YaccRules l (mark Semicolon ∷ behind) rs
       behind_some None g rs h = absurd (g refl)
       behind_some (Some n) g rs h = semicolon n behind rs h
 
@@ -209,37 +210,39 @@ module _ (ws : List Word) (rules : List Production) (last : Option (List ℕ)) (
       → BodyFollows last at n inside → Body n inside (ruling_of p) behind → longer ≡ rules ++ p ∷ []
       → RulesGoOn ws longer (Some n) behind
   one_rule n inside behind p longer f b e = record {
-    sound = λ rs h. subst (λ u. Rules None ws (u ++ rs))
+    sound = λ rs h. subst (λ u. YaccRules None ws (u ++ rs))
         (sym (ap (map ruling_of) e ∙ map-append ruling_of rules (p ∷ [])))
-        (subst (Rules None ws) (sym (append_assoc (map ruling_of rules) (ruling_of p ∷ []) rs))
+        (subst (YaccRules None ws) (sym (append_assoc (map ruling_of rules) (ruling_of p ∷ []) rs))
         (so_far.sound (ruling_of p ∷ rs) (rule last n at inside behind (ruling_of p) rs f b h)));
     complete = λ all h.
         let q = so_far.complete all h in
         let d = body_rules last at n inside q.0 f q.1 in
         let one = body_one n inside d.0 (ruling_of p) d.1 behind d.3 b in
-        (d.2, subst (λ u. Rules (Some n) u d.2) one.1 d.4);
+        (d.2, subst (λ u. YaccRules (Some n) u d.2) one.1 d.4);
   }
 
   -- no rule, where none follows and the words aren't over
-  pub no_rule : (IsOver at → ⊥) → ((n : List ℕ) (rest : List Word) → last ≡ Some n → at ≢ mark Semicolon ∷ rest)
-      → ((n : List ℕ) (rest : List Word) → BodyFollows last at n rest → ⊥) → (all : List Ruling) → Rules None ws all → ⊥
+  pub no_rule : (AreRulesOver at → ⊥) → ((n : List ℕ) (rest : List Word) → last ≡ Some n → at ≢ mark Semicolon ∷ rest)
+      → ((n : List ℕ) (rest : List Word) → BodyFollows last at n rest → ⊥)
+      → (all : List Ruling) → YaccRules None ws all → ⊥
   no_rule a b c all h = let q = so_far.complete all h in at_rules last at q.0 a b c q.1
     where
-      at_rules : (l : Option (List ℕ)) (vs : List Word) (rs : List Ruling) → (IsOver vs → ⊥)
+      at_rules : (l : Option (List ℕ)) (vs : List Word) (rs : List Ruling) → (AreRulesOver vs → ⊥)
           → ((n : List ℕ) (rest : List Word) → l ≡ Some n → vs ≢ mark Semicolon ∷ rest)
-          → ((n : List ℕ) (rest : List Word) → BodyFollows l vs n rest → ⊥) → Rules l vs rs → ⊥
+          → ((n : List ℕ) (rest : List Word) → BodyFollows l vs n rest → ⊥) → YaccRules l vs rs → ⊥
       at_rules l vs rs a b c (end k us o) = a o
       at_rules l vs rs a b c (rule k n us behind rest r qs f g i) = c n behind f
       at_rules l vs rs a b c (semicolon n us qs i) = b n us refl refl
 
   -- a body follows that makes no rule
   pub bad_body : (n : List ℕ) (inside : List Word) → BodyFollows last at n inside
-      → ((r : Ruling) (rest : List Word) → Body n inside r rest → ⊥) → (all : List Ruling) → Rules None ws all → ⊥
+      → ((r : Ruling) (rest : List Word) → Body n inside r rest → ⊥) → (all : List Ruling) → YaccRules None ws all → ⊥
   bad_body n inside f g all h =
       let q = so_far.complete all h in let d = body_rules last at n inside q.0 f q.1 in g d.0 d.1 d.3
 
 -- what rules say is determined
-pub rules_one : (last : Option (List ℕ)) (ws : List Word) (rs qs : List Ruling) → Rules last ws rs → Rules last ws qs
+pub rules_one : (last : Option (List ℕ)) (ws : List Word) (rs qs : List Ruling) → YaccRules last ws rs
+    → YaccRules last ws qs
     → rs ≡ qs
 rules_one last ws rs qs (end l vs o) b = over_rules l vs qs o b
 rules_one last ws rs qs (semicolon n vs os h) b
@@ -247,7 +250,7 @@ rules_one last ws rs qs (semicolon n vs os h) b
 rules_one last ws rs qs (rule l n vs behind rest r os f g h) b =
     let d = body_rules l vs n behind qs f b in
     let one = body_one n behind r d.0 rest d.1 g d.3 in
-    ap₂ ◌∷◌ one.0 (rules_one (Some n) rest os d.2 h (subst (λ u. Rules (Some n) u d.2) (sym one.1) d.4)) ∙ sym d.5
+    ap₂ ◌∷◌ one.0 (rules_one (Some n) rest os d.2 h (subst (λ u. YaccRules (Some n) u d.2) (sym one.1) d.4)) ∙ sym d.5
 
 precedence_within : (ws : List Word) (o : Option Word) (rest : List Word) → PrecedencePassed ws o rest
     → length rest ≤ length ws

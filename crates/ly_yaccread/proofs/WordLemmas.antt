@@ -13,7 +13,7 @@ use Rattle.ly_base.specs.Escapes.{Stops}
 use Rattle.ly_base.proofs.GapLemmas.{gap_one}
 use Rattle.ly_base.proofs.NameLemmas.{name_one, digits_one}
 use Rattle.ly_base.proofs.LiteralLemmas.{literal_one, literal_shorter}
-use Rattle.ly_yaccread.specs.Private.Words.{IsAt, IsFront}
+use Rattle.ly_yaccread.specs.Private.Words.{IsWordAt, IsFront}
 use Rattle.ly_yaccread.specs.Words.{Word, mark, directive, name, number, literal, block, braces, other, spelling}
 use Rattle.ly_yaccread.specs.Words.{MarkBefore, Begins, Front}
 use Rattle.ly_yaccread.specs.declared.words.Mark.{Mark}
@@ -110,7 +110,7 @@ front_none text x r g f = at (begins_at [] x r (front_at text [] x r (text, g, s
 
 -- what stands behind the gap stands at the front
 pub behind_gap : (text word rest : List ℕ) (x : NextWord) → GapBefore Yacc text word → GapEnds Yacc word
-    → IsAt word x rest → IsFront text x rest
+    → IsWordAt word x rest → IsFront text x rest
 behind_gap text word rest next.End before stops h
     = subst (Gap Yacc) (sym (before.2 ∙ ap (λ u. before.0 ++ u) h ∙ append-nil before.0)) before.1
 behind_gap text word rest (next.Mark m) before stops h = (word, before, h)

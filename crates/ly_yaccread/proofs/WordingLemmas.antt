@@ -3,7 +3,7 @@ use Rattle.std.proofs.Common.{◌≡◌, ◌≢◌, ℕ, List, [], ◌∷◌, �
 use Rattle.std.proofs.lemmas.List.{append-nil}
 use Rattle.ly_base.specs.Gap.{Gap}
 use Rattle.ly_base.specs.declared.language.Language.TheVariants.{Yacc}
-use Rattle.ly_yaccread.specs.Private.Words.{IsTaken, word_of, words_of}
+use Rattle.ly_yaccread.specs.Private.Words.{IsPartWord, word_of, words_of}
 use Rattle.ly_yaccread.specs.Words.{Word, other, Takes, Wording, Words, free, end, stuck, more}
 use Rattle.ly_yaccread.specs.Words.{part_behind}
 use Rattle.ly_yaccread.specs.declared.part.Part.{Part}
@@ -24,7 +24,7 @@ GoesOn text before p rest = (ws : List Word) → Wording p rest ws → Words tex
 
 module _ (text rest behind : List ℕ) (before longer : List NextWord) (p : Part) (w : NextWord)
     (so_far : GoesOn text before p rest) (goes : p ≢ Programs) (pushed : longer ≡ before ++ w ∷ [])
-    (found : IsTaken p rest w behind) where
+    (found : IsPartWord p rest w behind) where
   -- a word more
   pub one_more : w ≢ next.End → w ≢ next.Other → GoesOn text longer (part_behind p (word_of w)) behind
   one_more a b ws h = subst (λ l. Words text (words_of l ++ ws)) (sym pushed)
@@ -35,7 +35,7 @@ module _ (text rest behind : List ℕ) (before longer : List NextWord) (p : Part
   -- no word stands there
   pub one_last : w ≡ next.Other → Words text (words_of longer)
   one_last e =
-      let none = subst (λ x. IsTaken p rest x behind) e found in
+      let none = subst (λ x. IsPartWord p rest x behind) e found in
       let all = so_far (other ∷ []) (stuck p rest goes none.0 none.1) in
       subst (λ l. Words text (words_of l)) (sym pushed)
       (subst (λ xs. Words text xs) (append-nil (words_of (before ++ w ∷ [])))

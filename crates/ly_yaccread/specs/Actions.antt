@@ -43,16 +43,16 @@ pub data Places (symbols : ℕ) : List Word → List ℕ → List Word → Type 
       → MorePlaces symbols (p ∷ []) behind ps rest → Places symbols ws ps rest
 
 -- a value, and the rest
-pub data Value (symbols : ℕ) : List Word → Making → List Word → Type 0 where
-  passes : (p : ℕ) (ws rest : List Word) → PlaceFirst symbols ws p rest → Value symbols ws (pass p) rest
+pub data ValueFirst (symbols : ℕ) : List Word → Making → List Word → Type 0 where
+  passes : (p : ℕ) (ws rest : List Word) → PlaceFirst symbols ws p rest → ValueFirst symbols ws (pass p) rest
   builds : (n ps : List ℕ) (ws rest : List Word) → IsName Lex n → n ≢ codes "error" → Places symbols ws ps rest
-      → Value symbols (name n ∷ mark OpenParenthesis ∷ ws) (build n ps) rest
+      → ValueFirst symbols (name n ∷ mark OpenParenthesis ∷ ws) (build n ps) rest
 
 -- The action `{ $$ = value ; }`, and the rest.
 pub record ActionFirst (symbols : ℕ) (ws : List Word) (m : Making) (rest : List Word) : Type 0 where
   pub behind : List Word
   pub opens : ws ≡ mark OpenBrace ∷ mark Whole ∷ mark Equals ∷ behind
-  pub value : Value symbols behind m (mark Semicolon ∷ mark CloseBrace ∷ rest)
+  pub value : ValueFirst symbols behind m (mark Semicolon ∷ mark CloseBrace ∷ rest)
 
 -- what stands behind the action that comes first, or all where no `{` does
 abbrev pub ActionPassed : ℕ → List Word → Making → List Word → Type 0

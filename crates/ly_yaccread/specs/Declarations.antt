@@ -26,16 +26,17 @@ pub data Saying : Type 0 where
   nothing : Saying
 
 -- what stands behind a directive, what the declaration says, and the rest
-abbrev pub Follows : Directive → List Word → Saying → List Word → Type 0
-Follows (Tokens k) ws s rest = (xs : List Word) × SymbolList Numbered ws xs rest × (s ≡ tokens k xs)
-Follows Types ws s rest = (xs : List Word) × SymbolList Plain ws xs rest × (s ≡ nothing)
-Follows Start ws s rest = (n : List ℕ) × (ws ≡ name n ∷ rest) × (n ≢ codes "error") × (s ≡ start n)
-Follows Union ws s rest = (ws ≡ braces ∷ rest) × (s ≡ nothing)
+abbrev pub FollowsDirective : Directive → List Word → Saying → List Word → Type 0
+FollowsDirective (Tokens k) ws s rest = (xs : List Word) × SymbolList Numbered ws xs rest × (s ≡ tokens k xs)
+FollowsDirective Types ws s rest = (xs : List Word) × SymbolList Plain ws xs rest × (s ≡ nothing)
+FollowsDirective Start ws s rest = (n : List ℕ) × (ws ≡ name n ∷ rest) × (n ≢ codes "error") × (s ≡ start n)
+FollowsDirective Union ws s rest = (ws ≡ braces ∷ rest) × (s ≡ nothing)
 
 -- a declaration, what it says, and the rest: a block, or a directive and what follows it
 abbrev pub Declares : List Word → Saying → List Word → Type 0
 Declares ws s rest = ((ws ≡ block ∷ rest) × (s ≡ nothing))
-    ⊎ ((d : Directive) × (behind : List Word) × (ws ≡ directive (directive_name d) ∷ behind) × Follows d behind s rest)
+    ⊎ ((d : Directive) × (behind : List Word) × (ws ≡ directive (directive_name d) ∷ behind)
+    × FollowsDirective d behind s rest)
 
 -- Tokens that are declared together.
 pub record Declared : Type 0 where
@@ -43,21 +44,21 @@ pub record Declared : Type 0 where
   pub symbols : List Word
 
 -- What declarations say together.
-pub record Head : Type 0 where
+pub record Preamble : Type 0 where
   pub declarations : List Declared
   pub start : Option (List ℕ)
 
 -- before any declaration
-abbrev pub no_head : Head
-no_head = record { declarations = []; start = None }
+abbrev pub no_preamble : Preamble
+no_preamble = record { declarations = []; start = None }
 
 -- where the grammar starts is said once
-abbrev pub with_start : List Declared → Option (List ℕ) → List ℕ → Option Head
+abbrev pub with_start : List Declared → Option (List ℕ) → List ℕ → Option Preamble
 with_start ds None n = Some (record { declarations = ds; start = Some n })
 with_start ds (Some m) n = None
 
 -- what is said with one declaration more
-abbrev pub with_saying : Head → Saying → Option Head
+abbrev pub with_saying : Preamble → Saying → Option Preamble
 with_saying h (tokens k xs)
     = Some (record { declarations = h.declarations ++ record { kind = k; symbols = xs } ∷ []; start = h.start })
 with_saying h (start n) = with_start h.declarations h.start n
@@ -65,7 +66,7 @@ with_saying h nothing = Some h
 
 -- the declarations up to the first `%%`, which go on from what was said before them, what is said in the end, and
 -- the rest
-pub data Declarations : Head → List Word → Head → List Word → Type 0 where
-  end : (h : Head) (rest : List Word) → Declarations h (mark Section ∷ rest) h rest
-  more : (h i all : Head) (ws behind rest : List Word) (s : Saying) → Declares ws s behind
+pub data Declarations : Preamble → List Word → Preamble → List Word → Type 0 where
+  end : (h : Preamble) (rest : List Word) → Declarations h (mark Section ∷ rest) h rest
+  more : (h i all : Preamble) (ws behind rest : List Word) (s : Saying) → Declares ws s behind
       → with_saying h s ≡ Some i → Declarations i behind all rest → Declarations h ws all rest

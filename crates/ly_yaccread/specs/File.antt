@@ -2,7 +2,7 @@
 use Rattle.std.specs.Prelude.{List, map}
 use Rattle.std.specs.Option.{option_map}
 use Rattle.ly_yaccread.specs.Actions.{Making, default, pass, build}
-use Rattle.ly_yaccread.specs.Declarations.{Declared, Head}
+use Rattle.ly_yaccread.specs.Declarations.{Declared, Preamble}
 use Rattle.ly_yaccread.specs.Rules.{Ruling}
 use Rattle.ly_yaccread.specs.Words.{Word, name, literal}
 use Rattle.ly_yaccread.specs.declared.file.Action.{Action}
@@ -40,14 +40,14 @@ ruling_of p = record {
 abbrev pub declared_of : Declaration → Declared
 declared_of d = record { kind = d.kind; symbols = symbol_words d.symbols.items }
 
--- What a yacc file says: its declarations and its rules.
+-- What a yacc file says: its declarations and start, and its rules.
 pub record Written : Type 0 where
-  pub head : Head
+  pub preamble : Preamble
   pub rules : List Ruling
 
 -- what a value of a yacc file says
-abbrev pub written : YaccFile → Written
-written f = record {
-  head = record { declarations = map declared_of f.declarations.items; start = option_map (λ n. n.items) f.start };
+abbrev pub written_of : YaccFile → Written
+written_of f = record {
+  preamble = record { declarations = map declared_of f.declarations.items; start = option_map (λ n. n.items) f.start };
   rules = map ruling_of f.rules.items;
 }

@@ -47,13 +47,13 @@ BodyFollows last ws n behind = ((ws ≡ name n ∷ mark Colon ∷ behind) × (n 
     ⊎ ((last ≡ Some n) × (ws ≡ mark Bar ∷ behind))
 
 -- the words are over, or the second `%%` comes first
-abbrev pub IsOver : List Word → Type 0
-IsOver ws = (ws ≡ []) ⊎ ((rest : List Word) × (ws ≡ mark Section ∷ rest))
+abbrev pub AreRulesOver : List Word → Type 0
+AreRulesOver ws = (ws ≡ []) ⊎ ((rest : List Word) × (ws ≡ mark Section ∷ rest))
 
 -- The rules go on from the last left side: they are over, or a rule comes, or a `;` behind rules.
-pub data Rules : Option (List ℕ) → List Word → List Ruling → Type 0 where
-  end : (last : Option (List ℕ)) (ws : List Word) → IsOver ws → Rules last ws []
+pub data YaccRules : Option (List ℕ) → List Word → List Ruling → Type 0 where
+  end : (last : Option (List ℕ)) (ws : List Word) → AreRulesOver ws → YaccRules last ws []
   rule : (last : Option (List ℕ)) (n : List ℕ) (ws behind rest : List Word) (r : Ruling) (rs : List Ruling)
-      → BodyFollows last ws n behind → Body n behind r rest → Rules (Some n) rest rs → Rules last ws (r ∷ rs)
-  semicolon : (n : List ℕ) (ws : List Word) (rs : List Ruling) → Rules (Some n) ws rs
-      → Rules (Some n) (mark Semicolon ∷ ws) rs
+      → BodyFollows last ws n behind → Body n behind r rest → YaccRules (Some n) rest rs → YaccRules last ws (r ∷ rs)
+  semicolon : (n : List ℕ) (ws : List Word) (rs : List Ruling) → YaccRules (Some n) ws rs
+      → YaccRules (Some n) (mark Semicolon ∷ ws) rs

@@ -1,8 +1,8 @@
 -- What a yacc file says (POSIX, XCU yacc).
 use Rattle.std.specs.Prelude.{◌≡◌, ℕ, List, None}
-use Rattle.ly_yaccread.specs.Declarations.{Declarations, no_head}
+use Rattle.ly_yaccread.specs.Declarations.{Declarations, no_preamble}
 use Rattle.ly_yaccread.specs.File.{Written}
-use Rattle.ly_yaccread.specs.Rules.{Rules}
+use Rattle.ly_yaccread.specs.Rules.{YaccRules}
 use Rattle.ly_yaccread.specs.Words.{Word, Words}
 
 -- The bytes of a yacc file say this: they are words, which are declarations, a `%%`, and rules.
@@ -10,8 +10,8 @@ pub record YaccText (bytes : List ℕ) (w : Written) : Type 0 where
   pub words : List Word
   pub spelled : Words bytes words
   pub behind : List Word
-  pub declarations : Declarations no_head words w.head behind
-  pub rules : Rules None behind w.rules
+  pub declarations : Declarations no_preamble words w.preamble behind
+  pub rules : YaccRules None behind w.rules
 
 -- a text says one thing
 abbrev pub YaccTextIsOne : Type 0

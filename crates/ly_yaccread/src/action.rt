@@ -1,9 +1,9 @@
 ghost use Rattle.std.specs.Prelude.{◌≡◌, ◌≢◌, ◌∷◌, ◌<◌, ◌≤◌, ◌⊎◌, ◌^◌, ℕ, List, MatchBool, MatchResult};
 ghost use Rattle.ly_base.specs.Language.{IsName};
 ghost use Rattle.ly_base.specs.declared.language.Language.TheVariants.{Lex};
-ghost use Rattle.ly_yaccread.specs.Actions.{ActionPassed, MorePlaces, Places, Value};
+ghost use Rattle.ly_yaccread.specs.Actions.{ActionPassed, MorePlaces, Places, ValueFirst};
 ghost use Rattle.ly_yaccread.specs.File.{making_of};
-ghost use Rattle.ly_yaccread.specs.Private.Read.{IsRead, left as words_left};
+ghost use Rattle.ly_yaccread.specs.Private.Read.{IsFound, left as words_left};
 ghost use Rattle.ly_yaccread.specs.Words.{Word, mark as mark_word};
 
 use crate::cursor::Cursor;
@@ -22,7 +22,7 @@ pub(crate) fn read_action(
     words: Cursor<'_>,
     symbols: usize,
 ) -> Result<(Action, Cursor<'_>), YaccFault>
-    ensures { IsRead (ActionPassed symbols (words_left words.entry)) (λ found. making_of found.0)
+    ensures { IsFound (ActionPassed symbols (words_left words.entry)) (λ found. making_of found.0)
         (λ found. words_left found.1) result }
 {
     let Some(inside) = words.after(Mark::OpenBrace) else {
@@ -55,7 +55,7 @@ fn read_value(
     words: Cursor<'_>,
     symbols: usize,
 ) -> Result<(Action, Cursor<'_>), YaccFault>
-    ensures { IsRead (Value symbols (words_left words.entry)) (λ found. making_of found.0)
+    ensures { IsFound (ValueFirst symbols (words_left words.entry)) (λ found. making_of found.0)
         (λ found. words_left found.1) result }
 {
     let Some((name, behind)) = words.name() else {
@@ -89,7 +89,7 @@ fn read_places(
     words: Cursor<'_>,
     symbols: usize,
 ) -> Result<(Vec<u32>, Cursor<'_>), YaccFault>
-    ensures { IsRead (Places symbols (words_left words.entry)) (λ found. found.0.items) (λ found. words_left found.1)
+    ensures { IsFound (Places symbols (words_left words.entry)) (λ found. found.0.items) (λ found. words_left found.1)
         result }
 {
     if let Some(rest) = words.after(Mark::CloseParenthesis) {

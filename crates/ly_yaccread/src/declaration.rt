@@ -1,6 +1,6 @@
 ghost use Rattle.std.specs.Prelude.{◌≡◌, ◌≢◌, ◌∷◌, List, MatchBool, MatchOption};
 ghost use Rattle.ly_yaccread.specs.Declarations.{Declares, directive_name};
-ghost use Rattle.ly_yaccread.specs.Private.Read.{IsRead, left as words_left, saying_of};
+ghost use Rattle.ly_yaccread.specs.Private.Read.{IsFound, left as words_left, saying_of};
 ghost use Rattle.ly_yaccread.specs.Words.{Word, directive as directive_word};
 
 use crate::cursor::Cursor;
@@ -40,7 +40,7 @@ pub(crate) fn read_declaration(
     alloc: Global,
     words: Cursor<'_>,
 ) -> Result<(Said, Cursor<'_>), YaccFault>
-    ensures { IsRead (Declares (words_left words.entry)) (λ found. saying_of found.0) (λ found. words_left found.1)
+    ensures { IsFound (Declares (words_left words.entry)) (λ found. saying_of found.0) (λ found. words_left found.1)
         result }
 {
     if let Some(rest) = words.block() {

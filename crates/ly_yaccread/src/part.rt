@@ -1,5 +1,5 @@
 ghost use Rattle.std.specs.Prelude.{◌≡◌, ◌≢◌, MatchBool};
-ghost use Rattle.ly_yaccread.specs.Private.Words.{IsTaken, word_of};
+ghost use Rattle.ly_yaccread.specs.Private.Words.{IsPartWord, word_of};
 ghost use Rattle.ly_yaccread.specs.Words.{part_behind};
 ghost use Rattle.ly_yaccread.specs.declared.part.Part.TheVariants.{Declarations, Programs};
 
@@ -45,7 +45,7 @@ impl Part {
 
     /// The word behind the gap at the front of a text in this part, and what stands behind it.
     pub(crate) fn word(self, text: &[u8]) -> (NextWord<'_>, &[u8])
-        ensures { IsTaken self text.now result.0 result.1.now }
+        ensures { IsPartWord self text.now result.0 result.1.now }
     {
         let (word, rest) = next_word(text);
         let NextWord::Mark(mark) = word else {

@@ -1,10 +1,10 @@
 ghost use Rattle.std.specs.Prelude.{◌≢◌, IfErr, IfOk};
-ghost use Rattle.ly_yaccread.specs.File.{Written, written};
+ghost use Rattle.ly_yaccread.specs.File.{Written, written_of};
 ghost use Rattle.ly_yaccread.specs.YaccText.{YaccText};
 ghost use Rattle.ly_yaccread.specs.declared.fault.YaccFault.TheVariants.{OutOfMemory};
 
 use crate::cursor::Cursor;
-use crate::declarations::{Declared, read_declarations};
+use crate::declarations::{Preamble, read_declarations};
 use crate::fault::YaccFault;
 use crate::file::YaccFile;
 use crate::rules::read_rules;
@@ -22,7 +22,7 @@ use std::alloc::Global;
 /// symbol or an action behind an action; `BadRule` for anything else in the rules; `OutOfMemory` where a growth was
 /// refused.
 pub fn read_yacc(alloc: Global, bytes: &[u8]) -> Result<YaccFile, YaccFault>
-    ensures ok { IfOk result (λ file. YaccText bytes.now (written file)) }
+    ensures ok { IfOk result (λ file. YaccText bytes.now (written_of file)) }
     ensures refused { IfErr result
         (λ fault. fault ≢ OutOfMemory → (w : Written) → YaccText bytes.now w → ⊥) }
 {
@@ -32,12 +32,12 @@ pub fn read_yacc(alloc: Global, bytes: &[u8]) -> Result<YaccFile, YaccFault>
         count: words.len(),
         left: words.as_slice(),
     };
-    let (declared, behind) = read_declarations(alloc, all)?;
+    let (preamble, behind) = read_declarations(alloc, all)?;
     let rules = read_rules(alloc, behind)?;
-    let Declared {
+    let Preamble {
         declarations,
         start,
-    } = declared;
+    } = preamble;
     Ok(YaccFile {
         declarations,
         start,

@@ -2,7 +2,7 @@ ghost use Rattle.std.specs.Prelude.{◌≡◌, ◌≢◌, ◌∷◌, List, Optio
 ghost use Rattle.std.specs.Option.{option_map};
 ghost use Rattle.ly_yaccread.specs.Actions.{default, Making};
 ghost use Rattle.ly_yaccread.specs.File.{making_of, ruling_of, symbol_word};
-ghost use Rattle.ly_yaccread.specs.Private.Read.{IsRead, left as words_left};
+ghost use Rattle.ly_yaccread.specs.Private.Read.{IsFound, left as words_left};
 ghost use Rattle.ly_yaccread.specs.Rules.{Body, BodyEnd as EndsBody, PrecedencePassed};
 ghost use Rattle.ly_yaccread.specs.Words.{Word, directive as directive_word};
 
@@ -30,8 +30,8 @@ pub(crate) fn read_rule<'t>(
     left: &[u8],
     words: Cursor<'t>,
 ) -> Result<(Production, Cursor<'t>), YaccFault>
-    ensures { IsRead (Body left.now (words_left words.entry)) (λ found. ruling_of found.0) (λ found. words_left found.1)
-        result }
+    ensures { IsFound (Body left.now (words_left words.entry)) (λ found. ruling_of found.0)
+        (λ found. words_left found.1) result }
 {
     let (body, behind) = read_symbols(alloc, words, Listing::Plain)?;
     let (end, rest) = read_body_end(alloc, behind, body.len())?;
@@ -55,7 +55,7 @@ fn read_body_end(
     words: Cursor<'_>,
     symbols: usize,
 ) -> Result<(BodyEnd, Cursor<'_>), YaccFault>
-    ensures { IsRead (λ (x : Option Word × Making). EndsBody symbols (words_left words.entry) x.0 x.1)
+    ensures { IsFound (λ (x : Option Word × Making). EndsBody symbols (words_left words.entry) x.0 x.1)
         (λ found. (option_map symbol_word found.0.precedence, making_of found.0.action)) (λ found. words_left found.1)
         result }
 {
@@ -81,7 +81,7 @@ fn read_precedence(
     alloc: Global,
     words: Cursor<'_>,
 ) -> Result<(Option<Symbol>, Cursor<'_>), YaccFault>
-    ensures { IsRead (PrecedencePassed (words_left words.entry)) (λ found. option_map symbol_word found.0)
+    ensures { IsFound (PrecedencePassed (words_left words.entry)) (λ found. option_map symbol_word found.0)
         (λ found. words_left found.1) result }
 {
     let Some(behind) = after_prec(words) else {

@@ -2,7 +2,7 @@ ghost use Rattle.std.specs.Prelude.{◌≡◌, ◌≢◌, ◌∷◌, ℕ, List, 
 ghost use Rattle.std.specs.Prelude.{MatchResult};
 ghost use Rattle.ly_yaccread.specs.File.{ruling_of};
 ghost use Rattle.ly_yaccread.specs.Private.Read.{last_of, left as words_left};
-ghost use Rattle.ly_yaccread.specs.Rules.{BodyFollows, IsOver, Rules, Ruling};
+ghost use Rattle.ly_yaccread.specs.Rules.{AreRulesOver, BodyFollows, Ruling, YaccRules};
 ghost use Rattle.ly_yaccread.specs.Words.{Word, mark as mark_word};
 ghost use Rattle.ly_yaccread.specs.declared.fault.YaccFault.TheVariants.{OutOfMemory};
 ghost use Rattle.ly_yaccread.specs.declared.words.Mark.TheVariants.{Semicolon};
@@ -17,8 +17,8 @@ use std::alloc::Global;
 
 /// Reads the rules.
 pub(crate) fn read_rules(alloc: Global, words: Cursor<'_>) -> Result<Vec<Production>, YaccFault>
-    ensures { MatchResult result (λ rules. Rules None (words_left words.entry) (map ruling_of rules.items))
-        (λ fault. fault ≢ OutOfMemory → (rs : List Ruling) → Rules None (words_left words.entry) rs → ⊥) }
+    ensures { MatchResult result (λ rules. YaccRules None (words_left words.entry) (map ruling_of rules.items))
+        (λ fault. fault ≢ OutOfMemory → (rs : List Ruling) → YaccRules None (words_left words.entry) rs → ⊥) }
 {
     let mut rules = Vec::new(alloc);
     let mut last = None;
@@ -55,7 +55,7 @@ impl Expected {
 
 /// Whether no word is left, or the second `%%` comes first.
 fn is_over(words: Cursor<'_>) -> bool
-    ensures { MatchBool result (IsOver (words_left words.entry)) (IsOver (words_left words.entry) → ⊥) }
+    ensures { MatchBool result (AreRulesOver (words_left words.entry)) (AreRulesOver (words_left words.entry) → ⊥) }
 {
     words.next().is_none() || words.after(Mark::Section).is_some()
 }

@@ -1,6 +1,6 @@
 ghost use Rattle.std.specs.Prelude.{◌≡◌, List, IfOk, MatchOption, MatchResult};
 ghost use Rattle.ly_yaccread.specs.File.{symbol_word, symbol_words};
-ghost use Rattle.ly_yaccread.specs.Private.Read.{IsRead, left as words_left, next_symbol};
+ghost use Rattle.ly_yaccread.specs.Private.Read.{IsFound, left as words_left, next_symbol};
 ghost use Rattle.ly_yaccread.specs.Symbols.{NoSymbol, NumberPassed, SymbolFirst, SymbolList, Symbols, TagPassed};
 ghost use Rattle.ly_yaccread.specs.Words.{Word};
 
@@ -57,7 +57,7 @@ pub(crate) fn read_symbol_list(
     words: Cursor<'_>,
     listing: Listing,
 ) -> Result<(Vec<Symbol>, Cursor<'_>), YaccFault>
-    ensures { IsRead (SymbolList listing (words_left words.entry)) (λ found. symbol_words found.0.items)
+    ensures { IsFound (SymbolList listing (words_left words.entry)) (λ found. symbol_words found.0.items)
         (λ found. words_left found.1) result }
 {
     let behind = after_tag(words)?;

@@ -1,5 +1,5 @@
 ghost use Rattle.std.specs.Prelude.{◌≡◌, ◌≢◌, ◌++◌, ◌∷◌, [], ℕ, List, MatchBool, MatchOption};
-ghost use Rattle.ly_yaccread.specs.Private.Words.{IsAt, IsFront};
+ghost use Rattle.ly_yaccread.specs.Private.Words.{IsWordAt, IsFront};
 ghost use Rattle.ly_yaccread.specs.Words.{DirectiveBefore, MarkBefore, spelling};
 ghost use Rattle.ly_yaccread.specs.declared.words.NextWord.TheVariants.{End, Other};
 
@@ -88,7 +88,7 @@ pub(crate) fn next_word(text: &[u8]) -> (NextWord<'_>, &[u8])
 
 /// The word at the front, and what stands behind it.
 fn word_at(text: &[u8]) -> (NextWord<'_>, &[u8])
-    ensures { IsAt text.now result.0 result.1.now }
+    ensures { IsWordAt text.now result.0 result.1.now }
 {
     if text.is_empty() {
         return (NextWord::End, text);

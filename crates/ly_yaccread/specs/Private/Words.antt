@@ -21,10 +21,10 @@ word_of Braces = braces
 word_of _ = other
 
 -- what stands at the front of a text that begins with no gap
-abbrev pub IsAt : List ℕ → NextWord → List ℕ → Type 0
-IsAt text End rest = text ≡ []
-IsAt text Other rest = (text ≢ []) × ((x : Word) (s : List ℕ) → Begins text x s → ⊥)
-IsAt text w rest = Begins text (word_of w) rest
+abbrev pub IsWordAt : List ℕ → NextWord → List ℕ → Type 0
+IsWordAt text End rest = text ≡ []
+IsWordAt text Other rest = (text ≢ []) × ((x : Word) (s : List ℕ) → Begins text x s → ⊥)
+IsWordAt text w rest = Begins text (word_of w) rest
 
 -- what stands at the front of a text
 abbrev pub IsFront : List ℕ → NextWord → List ℕ → Type 0
@@ -33,10 +33,10 @@ IsFront text Other rest = (Gap Yacc text → ⊥) × ((x : Word) (s : List ℕ) 
 IsFront text w rest = Front text (word_of w) rest
 
 -- what stands at the front of a text in this part of a file
-abbrev pub IsTaken : Part → List ℕ → NextWord → List ℕ → Type 0
-IsTaken p text End rest = Gap Yacc text
-IsTaken p text Other rest = (Gap Yacc text → ⊥) × ((x : Word) (s : List ℕ) → Takes p text x s → ⊥)
-IsTaken p text w rest = Takes p text (word_of w) rest
+abbrev pub IsPartWord : Part → List ℕ → NextWord → List ℕ → Type 0
+IsPartWord p text End rest = Gap Yacc text
+IsPartWord p text Other rest = (Gap Yacc text → ⊥) × ((x : Word) (s : List ℕ) → Takes p text x s → ⊥)
+IsPartWord p text w rest = Takes p text (word_of w) rest
 
 -- the words, which borrow nothing
 abbrev pub words_of : List NextWord → List Word

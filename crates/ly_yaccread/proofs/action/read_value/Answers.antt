@@ -1,5 +1,5 @@
 use Rattle.std.proofs.lemmas.Result.{err_from_is_err_and}
-use Rattle.ly_yaccread.specs.Actions.{Value, passes}
+use Rattle.ly_yaccread.specs.Actions.{ValueFirst, passes}
 use Rattle.ly_yaccread.specs.Private.Read.{left}
 use Rattle.ly_yaccread.proofs.ActionLemmas.{no_value, value_built}
 use Rattle.ly_yaccread.proofs.ReadLemmas.{refused}
@@ -9,7 +9,7 @@ pub returns-in_err-place : goal.returns-in_err-place
 returns-in_err-place c =
     let ws = left c.args.words in
     let p = err_from_is_err_and c.from_residual.result c.from_residual.ensures.1 in
-    refused (Value c.args.symbols ws) _ _ _ _ _ p.1 p.2
+    refused (ValueFirst c.args.symbols ws) _ _ _ _ _ p.1 p.2
     (λ n m rest h. no_value c.args.symbols ws c.in_default.ensures c.in_err-place.ensures m rest h)
 
 pub returns-in_default : goal.returns-in_default

@@ -1,5 +1,5 @@
 use Rattle.std.proofs.Common.{sym, subst}
-use Rattle.ly_yaccread.specs.Private.Words.{IsTaken, word_of}
+use Rattle.ly_yaccread.specs.Private.Words.{IsPartWord, word_of}
 use Rattle.ly_yaccread.proofs.PartLemmas.{taken, takes_shorter}
 use Rattle.ly_yaccread.proofs.WordingLemmas.{at_end, at_programs, one_last, one_more, GoesOn}
 use Rattle.ly_yaccread.proofs.wording.words.Goals as goal
@@ -7,7 +7,7 @@ use Rattle.ly_yaccread.proofs.wording.words.Goals as goal
 pub returns-then-is_end : goal.returns-then-is_end
 returns-then-is_end c = at_end c.args.text.now c.loop-rest.rest.now c.loop-rest.words.items c.loop-rest.part
     c.loop-rest.invariant
-    (subst (λ w. IsTaken c.loop-rest.part c.loop-rest.rest.now w c.word.result.1.now) c.if-is_end.ensures
+    (subst (λ w. IsPartWord c.loop-rest.part c.loop-rest.rest.now w c.word.result.1.now) c.if-is_end.ensures
     c.word.ensures)
 
 pub returns-then-is_other : goal.returns-then-is_other
