@@ -33,11 +33,6 @@ behind_comma k ps all p ws inside behind rest e f (more qs os q vs back r g h i)
           (subst (λ u. MorePlaces k (qs ++ q ∷ []) u os r) one.1 i),
     )
 
-pub no_more : (k : ℕ) (ps : List ℕ) (ws : List Word) → NoMark CloseParenthesis ws → NoMark Comma ws → (all : List ℕ)
-    (rest : List Word) → MorePlaces k ps ws all rest → ⊥
-no_more k ps ws a b all rest (last qs q) = a q refl
-no_more k ps ws a b all rest (more qs os p vs behind q f g h) = b vs refl
-
 pub no_place : (k : ℕ) (ps : List ℕ) (ws inside : List Word) → ws ≡ mark Comma ∷ inside
     → ((p : ℕ) (r : List Word) → PlaceFirst k inside p r → ⊥) → (all : List ℕ) (rest : List Word)
     → MorePlaces k ps ws all rest → ⊥
@@ -49,9 +44,6 @@ no_place k ps ws inside e h all rest (more qs os p vs behind q f g i)
 pub record PlacesGoOn (k : ℕ) (ps : List ℕ) (ws : List Word) (qs : List ℕ) (at : List Word) : Type 0 where
   pub sound : (all : List ℕ) (rest : List Word) → MorePlaces k qs at all rest → MorePlaces k ps ws all rest
   pub complete : (all : List ℕ) (rest : List Word) → MorePlaces k ps ws all rest → MorePlaces k qs at all rest
-
-pub places_start : (k : ℕ) (ps : List ℕ) (ws : List Word) → PlacesGoOn k ps ws ps ws
-places_start k ps ws = record { sound = λ all rest h. h; complete = λ all rest h. h }
 
 pub places_end : (k : ℕ) (ps qs : List ℕ) (ws at rest : List Word) → PlacesGoOn k ps ws qs at
     → at ≡ mark CloseParenthesis ∷ rest → MorePlaces k ps ws qs rest
@@ -66,10 +58,6 @@ not_false : (t : Bool) → true ≡ not t → t ≡ false
 not_false true e = cc e
 not_false false e = refl
 
-not_true : (t : Bool) → false ≡ not t → t ≡ false → ⊥
-not_true true e f = cc f
-not_true false e f = cc e
-
 -- a place more
 pub one_place : (k : ℕ) (ps qs longer : List ℕ) (p : ℕ) (ws at inside behind : List Word) → PlacesGoOn k ps ws qs at
     → at ≡ mark Comma ∷ inside → PlaceFirst k inside p behind → true ≡ not (list_any (nat_eq p) qs)
@@ -83,13 +71,6 @@ one_place k ps qs longer p ws at inside behind so_far e f new g =
       complete = λ all rest h. subst (λ l. MorePlaces k l behind all rest) (sym grown)
           (behind_comma k qs all p at inside behind rest e f (so_far.complete all rest h)).1;
     }
-
--- a place for the second time
-pub place_again : (k : ℕ) (qs : List ℕ) (p : ℕ) (at inside behind : List Word) → at ≡ mark Comma ∷ inside
-    → PlaceFirst k inside p behind → false ≡ not (list_any (nat_eq p) qs) → (all : List ℕ) (rest : List Word)
-    → MorePlaces k qs at all rest → ⊥
-place_again k qs p at inside behind e f old all rest h
-    = not_true (list_any (nat_eq p) qs) old (behind_comma k qs all p at inside behind rest e f h).0
 
 more_one : (k : ℕ) (ps all every : List ℕ) (ws r s : List Word) → MorePlaces k ps ws all r → MorePlaces k ps ws every s
     → (all ≡ every) × (r ≡ s)

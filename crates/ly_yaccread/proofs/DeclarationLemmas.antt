@@ -56,11 +56,6 @@ behind_directive d ws behind s r e (inr (c, back, f, g)) =
     let one = directive_one c d (same_directive (directive_name c) (directive_name d) same.0) in
     subst (λ i. FollowsDirective i behind s r) one (subst (λ b. FollowsDirective c b s r) same.1 g)
 
-pub no_declaration : (ws : List Word) (s : Saying) (r : List Word) → ((rest : List Word) → ws ≢ block ∷ rest)
-    → ((d : Directive) (rest : List Word) → ws ≢ directive (directive_name d) ∷ rest) → Declares ws s r → ⊥
-no_declaration ws s r a b (inl (f, g)) = a r f
-no_declaration ws s r a b (inr (d, behind, f, g)) = b d behind f
-
 pub declares_one : (ws : List Word) (s t : Saying) (r q : List Word) → Declares ws s r → Declares ws t q
     → (s ≡ t) × (r ≡ q)
 declares_one ws s t r q (inl (f, g)) (inl (h, i)) = (g ∙ sym i, (heads block block r q (sym f ∙ h)).1)
@@ -98,9 +93,6 @@ pub record DeclarationsGoOn (h : Preamble) (ws : List Word) (i : Preamble) (at :
   pub sound : (all : Preamble) (rest : List Word) → Declarations i at all rest → Declarations h ws all rest
   pub complete : (all : Preamble) (rest : List Word) → Declarations h ws all rest → Declarations i at all rest
 
-pub start_here : (h : Preamble) (ws : List Word) → DeclarationsGoOn h ws h ws
-start_here h ws = record { sound = λ all rest d. d; complete = λ all rest d. d }
-
 -- no declaration more
 pub declarations_end : (h : Preamble) (ws rest : List Word) → ws ≡ mark Section ∷ rest → Declarations h ws h rest
 declarations_end h ws rest e = subst (λ i. Declarations h i h rest) (sym e) (end h rest)
@@ -126,12 +118,6 @@ one_more h g i ws at behind s so_far f e = record {
       let b = behind_one g all at at behind rest s refl f (so_far.complete all rest d) in
       subst (λ j. Declarations j behind all rest) (same_some b.0 i (sym b.1 ∙ e)) b.2;
 }
-
--- a declaration that may not be there
-pub not_more : (g : Preamble) (at behind : List Word) (s : Saying) → Declares at s behind → with_saying g s ≡ None
-    → (all : Preamble) (rest : List Word) → Declarations g at all rest → ⊥
-not_more g at behind s f e all rest d =
-    let b = behind_one g all at at behind rest s refl f d in absurd (cc (sym e ∙ b.1))
 
 -- no declaration is there
 pub none_more : (g : Preamble) (at : List Word) → NoMark Section at

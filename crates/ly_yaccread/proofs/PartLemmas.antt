@@ -156,18 +156,6 @@ open_brace p text inside f d h = (
       (λ e. absurd (block_no_brace OpenBrace e refl)) (λ e. h) (at_mark p text OpenBrace inside x s f t),
 )
 
--- each mark of another part does
-pub other_part : (p : Part) (m : Mark) → p ≢ Declarations → IsPlain p m
-other_part Declarations m h = absurd (h refl)
-other_part Rules m h = tt
-other_part Programs m h = tt
-
--- a mark that stands for itself
-pub plain_mark : (p : Part) (m : Mark) → m ≢ Block → m ≢ OpenBrace → IsPlain p m
-plain_mark Declarations m a b = (a, b)
-plain_mark Rules m a b = tt
-plain_mark Programs m a b = tt
-
 closes_shorter : (n : ℕ) (t r : List ℕ) → Closes n t r → length r < length t
 closes_shorter n t r (last q) = omega arith
 closes_shorter n t r (close m u q h) = omega (arith, closes_shorter m u q h)

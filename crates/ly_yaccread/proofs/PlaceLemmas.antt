@@ -33,9 +33,6 @@ pub record DigitsGoOn (ds : List ℕ) (value at : ℕ) : Type 0 where
   pub sound : AllPass is_decimal (drop at ds) → AllPass is_decimal ds
   pub complete : AllPass is_decimal ds → AllPass is_decimal (drop at ds)
 
-pub digits_start : (ds : List ℕ) → DigitsGoOn ds 0 0
-digits_start ds = record { same = refl; sound = λ h. h; complete = λ h. h }
-
 digit_value : (d : ℕ) → IsTrue (is_decimal d) → digit d ≡ d - 48
 digit_value d h = grind (arith, nat_tests)
 
@@ -53,13 +50,6 @@ one_digit ds value at d h i e is =
       sound = λ k. h.sound (subst (AllPass is_decimal) (sym f) (is, k));
       complete = λ k. (subst (AllPass is_decimal) f (h.complete k)).1;
     }
-
--- a byte that is no digit
-pub not_digit : (ds : List ℕ) (value at d : ℕ) → DigitsGoOn ds value at → at < length ds → d ≡ get_or ds at 0
-    → is_decimal d ≡ false → AllPass is_decimal ds → ⊥
-not_digit ds value at d h i e is k =
-    let f : drop at ds ≡ d ∷ drop (at + 1) ds = at_index ds at i ∙ ap (λ x. x ∷ drop (at + 1) ds) (sym e) in
-    cc (sym is ∙ (subst (AllPass is_decimal) f (h.complete k)).0)
 
 -- digits don't make a number less
 number_grows : (value : ℕ) (ds : List ℕ) → value ≤ number_from 10 value ds

@@ -32,35 +32,6 @@ late_one k (pass p) None ws m n r s a b = (a.0 ∙ sym b.0, sym a.1 ∙ b.1)
 late_one k (build c ps) (Some x) ws m n r s a b = (a.0 ∙ sym b.0, sym a.1 ∙ b.1)
 late_one k (build c ps) None ws m n r s a b = (a.0 ∙ sym b.0, sym a.1 ∙ b.1)
 
--- no action may come any more
-pub no_late : (k : ℕ) (early : Making) (o : Option Word) (ws : List Word) → (early ≡ default → o ≡ None)
-    → LateAction k early o ws early ws
-no_late k default (Some x) ws h = absurd (cc (h refl))
-no_late k default None ws h = (refl, refl)
-no_late k (pass p) (Some x) ws h = (refl, refl)
-no_late k (pass p) None ws h = (refl, refl)
-no_late k (build c ps) (Some x) ws h = (refl, refl)
-no_late k (build c ps) None ws h = (refl, refl)
-
--- an action may come
-pub is_late : (k : ℕ) (early : Making) (o : Option Word) (ws : List Word) (m : Making) (r : List Word)
-    → early ≡ default → o ≢ None → ActionPassed k ws m r → LateAction k early o ws m r
-is_late k default (Some x) ws m r e f h = h
-is_late k default None ws m r e f h = absurd (f refl)
-is_late k (pass p) (Some x) ws m r e f h = cc e
-is_late k (pass p) None ws m r e f h = cc e
-is_late k (build c ps) (Some x) ws m r e f h = cc e
-is_late k (build c ps) None ws m r e f h = cc e
-
-pub was_late : (k : ℕ) (early : Making) (o : Option Word) (ws : List Word) (m : Making) (r : List Word)
-    → early ≡ default → o ≢ None → LateAction k early o ws m r → ActionPassed k ws m r
-was_late k default (Some x) ws m r e f h = h
-was_late k default None ws m r e f h = absurd (f refl)
-was_late k (pass p) (Some x) ws m r e f h = cc e
-was_late k (pass p) None ws m r e f h = cc e
-was_late k (build c ps) (Some x) ws m r e f h = cc e
-was_late k (build c ps) None ws m r e f h = cc e
-
 -- behind the first action
 pub end_behind : (k : ℕ) (ws behind : List Word) (early : Making) (o : Option Word) (m : Making) (rest : List Word)
     → ActionPassed k ws early behind → BodyEnd k ws o m rest
@@ -114,11 +85,6 @@ body_one n ws r q rest left a b =
     let d = body_behind n ws r.body a.behind q left a.symbols b in
     let one = end_one (length r.body) a.behind r.precedence q.precedence r.making q.making rest left a.body_end d.1 in
     (same_ruling r q (a.same_left ∙ sym b.same_left) (sym d.0) one.0 one.1, one.2)
-
--- a body makes a rule
-pub body_made : (n : List ℕ) (ws behind rest : List Word) (r : Ruling) → r.left ≡ n
-    → Symbols Plain ws r.body behind → BodyEnd (length r.body) behind r.precedence r.making rest → Body n ws r rest
-body_made n ws behind rest r e h f = record { same_left = e; behind = behind; symbols = h; body_end = f }
 
 -- which body follows is determined
 pub follows_one : (last : Option (List ℕ)) (ws : List Word) (n m : List ℕ) (r s : List Word) → BodyFollows last ws n r
@@ -183,9 +149,6 @@ body_rules last ws n behind rs f (semicolon m vs qs h)
 pub record RulesGoOn (ws : List Word) (rules : List Production) (last : Option (List ℕ)) (at : List Word) : Type 0 where
   pub sound : (rs : List Ruling) → YaccRules last at rs → YaccRules None ws (map ruling_of rules ++ rs)
   pub complete : (all : List Ruling) → YaccRules None ws all → (rs : List Ruling) × YaccRules last at rs
-
-pub rules_start : (ws : List Word) → RulesGoOn ws [] None ws
-rules_start ws = record { sound = λ rs h. h; complete = λ all h. (all, h) }
 
 module _ (ws : List Word) (rules : List Production) (last : Option (List ℕ)) (at : List Word)
     (so_far : RulesGoOn ws rules last at) where

@@ -1,4 +1,4 @@
-ghost use Rattle.std.specs.Prelude.{◌≡◌, ◌≢◌, ◌∷◌, [], ℕ, List, codes, MatchBool, MatchOption};
+ghost use Rattle.std.specs.Prelude.{◌≡◌, ◌≢◌, ◌∷◌, [], ℕ, List, MatchBool, MatchOption};
 ghost use Rattle.ly_yaccread.specs.Private.Read.{left as words_left};
 ghost use Rattle.ly_yaccread.specs.Private.Words.{word_of};
 ghost use Rattle.ly_yaccread.specs.Symbols.{NameFirst, NoMark};
@@ -48,7 +48,7 @@ impl<'t> Cursor<'t> {
         let (word, rest) = self.next()?;
         match word {
             NextWord::Name(name) => {
-                if is_error(name) {
+                if is(name, b"error") {
                     None
                 } else {
                     Some((name, rest))
@@ -120,9 +120,9 @@ impl<'t> Cursor<'t> {
     }
 }
 
-/// Whether the name is `error`.
-pub(crate) fn is_error(name: &[u8]) -> bool
-    ensures { MatchBool result (name.now ≡ codes "error") (name.now ≢ codes "error") }
+/// Whether the name is this one.
+pub(crate) fn is(name: &[u8], other: &[u8]) -> bool
+    ensures { MatchBool result (name.now ≡ other.now) (name.now ≢ other.now) }
 {
-    name == b"error".as_slice()
+    name == other
 }

@@ -1,9 +1,9 @@
-ghost use Rattle.std.specs.Prelude.{◌≡◌, ◌≢◌, ◌∷◌, List, MatchBool, MatchOption};
+ghost use Rattle.std.specs.Prelude.{◌≡◌, ◌≢◌, ◌∷◌, List, MatchOption};
 ghost use Rattle.ly_yaccread.specs.Declarations.{Declares, directive_name};
 ghost use Rattle.ly_yaccread.specs.Private.Read.{IsFound, left as words_left, saying_of};
 ghost use Rattle.ly_yaccread.specs.Words.{Word, directive as directive_word};
 
-use crate::cursor::Cursor;
+use crate::cursor::{Cursor, is};
 use crate::expected::Expected;
 use crate::fault::YaccFault;
 use crate::file::{Declaration, DeclarationKind};
@@ -102,11 +102,4 @@ fn directive_named(name: &[u8]) -> Option<Directive>
         return Some(Directive::Start);
     }
     is(name, b"union").then_some(Directive::Union)
-}
-
-/// Whether the name is this one.
-fn is(name: &[u8], other: &[u8]) -> bool
-    ensures { MatchBool result (name.now ≡ other.now) (name.now ≢ other.now) }
-{
-    name == other
 }

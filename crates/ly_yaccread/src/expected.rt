@@ -1,6 +1,6 @@
 ghost use Rattle.std.specs.Prelude.{◌≤◌, length};
 
-use crate::cursor::{Cursor, is_error};
+use crate::cursor::{Cursor, is};
 use crate::fault::YaccFault;
 use crate::wording::place_behind;
 use crate::words::{Mark, NextWord};
@@ -27,7 +27,7 @@ impl Cursor<'_> {
         let line = self.line();
         match self.next() {
             None => at_end(expected, line),
-            Some((NextWord::Name(name), _)) if is_error(name) => YaccFault::ErrorToken { line },
+            Some((NextWord::Name(name), _)) if is(name, b"error") => YaccFault::ErrorToken { line },
             Some((NextWord::Other, _)) => self.unread(expected, line),
             Some((word, _)) => at_word(expected, word, line),
         }

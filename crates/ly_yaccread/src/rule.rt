@@ -7,7 +7,7 @@ ghost use Rattle.ly_yaccread.specs.Rules.{Body, BodyEnd as EndsBody, PrecedenceP
 ghost use Rattle.ly_yaccread.specs.Words.{Word, directive as directive_word};
 
 use crate::action::read_action;
-use crate::cursor::Cursor;
+use crate::cursor::{Cursor, is};
 use crate::expected::Expected;
 use crate::fault::YaccFault;
 use crate::file::{Action, Production, Symbol};
@@ -99,12 +99,5 @@ fn after_prec(words: Cursor<'_>) -> Option<Cursor<'_>>
         (λ rest. words_left words.entry ≡ directive_word (codes "prec") ∷ words_left rest) }
 {
     let (name, rest) = words.directive()?;
-    is_prec(name).then_some(rest)
-}
-
-/// Whether the name is `prec`.
-fn is_prec(name: &[u8]) -> bool
-    ensures { MatchBool result (name.now ≡ codes "prec") (name.now ≢ codes "prec") }
-{
-    name == b"prec".as_slice()
+    is(name, b"prec").then_some(rest)
 }
