@@ -32,24 +32,30 @@ GapBefore-trans l s t u a b = (
       ∙ sym (append_assoc a.0 b.0 u),
 )
 
-tail_no_end : (b : ℕ) (s : List ℕ) → HasNo (42 ∷ 47 ∷ []) (b ∷ s) → HasNo (42 ∷ 47 ∷ []) s
-tail_no_end b s h x y e = h (b ∷ x) y (ap (λ u. b ∷ u) e)
+-- an end of two bytes that differ
+module _ (m n : ℕ) (differ : m ≢ n) where
+  tail_no_end : (b : ℕ) (s : List ℕ) → HasNo (m ∷ n ∷ []) (b ∷ s) → HasNo (m ∷ n ∷ []) s
+  tail_no_end b s h x y e = h (b ∷ x) y (ap (λ u. b ∷ u) e)
 
--- a comment that ends at once ends there
-ends_here : (s x y : List ℕ) → HasNo (42 ∷ 47 ∷ []) s → 42 ∷ 47 ∷ x ≡ s ++ 42 ∷ 47 ∷ y → x ≡ y
-ends_here [] x y h e = cc
-ends_here (b ∷ []) x y h e = let f : b ∷ 42 ∷ 47 ∷ y ≡ 42 ∷ 47 ∷ x = sym e in absurd (apart 42 47 (cc) refl refl)
-  where
-    apart : (n m : ℕ) → n ≡ m → n ≡ 42 → m ≡ 47 → ⊥
-    apart n m e a b = omega (arith, a, b, e)
-ends_here (b ∷ c ∷ s) x y h e = absurd (h [] s (cc))
+  ends_here : (s x y : List ℕ) → HasNo (m ∷ n ∷ []) s → m ∷ n ∷ x ≡ s ++ m ∷ n ∷ y → x ≡ y
+  ends_here [] x y h e = cc
+  ends_here (b ∷ []) x y h e = let f : n ≡ m = cc in absurd (differ (sym f))
+  ends_here (b ∷ c ∷ s) x y h e = absurd (h [] s (cc))
+
+  first_one : (s t x y : List ℕ) → HasNo (m ∷ n ∷ []) s → HasNo (m ∷ n ∷ []) t → s ++ m ∷ n ∷ x ≡ t ++ m ∷ n ∷ y
+      → x ≡ y
+  first_one [] t x y a b e = ends_here t x y b e
+  first_one (c ∷ s) [] x y a b e = sym (ends_here (c ∷ s) y x a (sym e))
+  first_one (c ∷ s) (d ∷ t) x y a b e = first_one s t x y (tail_no_end c s a) (tail_no_end d t b) (cc)
 
 -- a comment ends at its first `*/`
 pub comment_one : (s t x y : List ℕ) → HasNo (42 ∷ 47 ∷ []) s → HasNo (42 ∷ 47 ∷ []) t
     → s ++ 42 ∷ 47 ∷ x ≡ t ++ 42 ∷ 47 ∷ y → x ≡ y
-comment_one [] t x y a b e = ends_here t x y b e
-comment_one (c ∷ s) [] x y a b e = sym (ends_here (c ∷ s) y x a (sym e))
-comment_one (c ∷ s) (d ∷ t) x y a b e = comment_one s t x y (tail_no_end c s a) (tail_no_end d t b) (cc)
+comment_one = first_one 42 47 (λ e. omega (arith, e))
+
+-- and a block at its first `%}`
+pub block_one : (text r s : List ℕ) → EndBefore (37 ∷ 125 ∷ []) text r → EndBefore (37 ∷ 125 ∷ []) text s → r ≡ s
+block_one text r s (x, a, e) (y, b, f) = first_one 37 125 (λ g. omega (arith, g)) x y r s a b (sym e ∙ f)
 
 no_slash : (l : Language) (b : ℕ) → IsTrue (is_space l b) → b ≡ 47 → ⊥
 no_slash Lex b h f = false≢true (sym (ap (is_space Lex) f) ∙ h)
@@ -165,6 +171,19 @@ behind_close k n t u rest f e (close m v r h)
     in subst (λ i. Closes i t r) same (subst (λ w. Closes m w r) (tails 125 125 v t e) h)
 behind_close k n t u rest f e (opening m v r h) = absurd (omega (arith, heads 123 125 v t e))
 behind_close k n t u rest f e (other m c v r x y h) = absurd (y (heads c 125 v t e))
+
+behind_last : (k : ℕ) (t u rest : List ℕ) → k ≡ 0 → u ≡ 125 ∷ t → Closes k u rest → rest ≡ t
+behind_last k t u rest f e (last r) = tails 125 125 r t e
+behind_last k t u rest f e (close m v r h) = absurd (omega (arith, f))
+behind_last k t u rest f e (opening m v r h) = absurd (omega (arith, heads 123 125 v t e))
+behind_last k t u rest f e (other m c v r x y h) = absurd (y (heads c 125 v t e))
+
+-- which brace closes is determined
+pub closes_one : (n : ℕ) (t r s : List ℕ) → Closes n t r → Closes n t s → r ≡ s
+closes_one n t r s (last q) h = sym (behind_last 0 q (125 ∷ q) s refl refl h)
+closes_one n t r s (close m u q g) h = closes_one m u q s g (behind_close (suc m) m u (125 ∷ u) s refl refl h)
+closes_one n t r s (opening m u q g) h = closes_one (suc m) u q s g (behind_opening m u (123 ∷ u) s refl h)
+closes_one n t r s (other m b u q x y g) h = closes_one m u q s g (behind_other m b u (b ∷ u) s refl x y h)
 
 never_closes : (n : ℕ) (u rest : List ℕ) → u ≡ [] → Closes n u rest → ⊥
 never_closes n u rest e (last r) = cc e

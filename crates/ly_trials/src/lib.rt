@@ -26,3 +26,5 @@ mod memory;
 mod sets;
 #[cfg(test)]
 mod walks;
+#[cfg(test)]
+mod yacc_files;

@@ -1,3 +1,10 @@
+pub mod DeclarationLemmas
+pub mod ActionLemmas
+pub mod PartLemmas
+pub mod PlaceLemmas
+pub mod ReadLemmas
+pub mod RuleLemmas
 pub mod SymbolLemmas
-pub mod TagLemmas
+pub mod TextLemmas
 pub mod WordLemmas
+pub mod WordingLemmas

@@ -5,7 +5,7 @@ use Rattle.std.proofs.lemmas.Bool.{false≢true}
 use Rattle.std.proofs.lemmas.Bool.Decides.{nat_tests}
 use Rattle.std.proofs.lemmas.List.{append-nil}
 use Rattle.std.proofs.Common.{◌≡◌, ◌≢◌, ℕ, List, [], ◌∷◌, ◌++◌, Bool, true, false, IsTrue, Option, Some, None}
-use Rattle.std.proofs.Common.{refl, sym, ap, ap₂, ◌∙◌, subst, arith, nat_eq, eqb, length, length-append, ◌<◌}
+use Rattle.std.proofs.Common.{refl, sym, ap, ◌∙◌, subst, arith, nat_eq, eqb, length, length-append, ◌<◌}
 use Rattle.ly_base.specs.Gap.{Gap, GapBefore, GapEnds}
 use Rattle.ly_base.specs.Language.{is_space, is_decimal, starts_name, NameBefore}
 use Rattle.ly_base.specs.declared.language.Language.TheVariants.{Yacc}
@@ -13,11 +13,11 @@ use Rattle.ly_base.specs.Escapes.{Stops}
 use Rattle.ly_base.proofs.GapLemmas.{gap_one}
 use Rattle.ly_base.proofs.NameLemmas.{name_one, digits_one}
 use Rattle.ly_base.proofs.LiteralLemmas.{literal_one, literal_shorter}
-use Rattle.ly_yaccread.specs.Private.Words.{IsAt, IsFront}
-use Rattle.ly_yaccread.specs.Words.{Word, mark, directive, name, number, literal, spelling, MarkBefore, Begins, Front}
-use Rattle.ly_yaccread.specs.Words.{Wording}
+use Rattle.ly_yaccread.specs.Private.Words.{IsWordAt, IsFront}
+use Rattle.ly_yaccread.specs.Words.{Word, mark, directive, name, number, literal, block, braces, other, spelling}
+use Rattle.ly_yaccread.specs.Words.{MarkBefore, Begins, Front}
 use Rattle.ly_yaccread.specs.declared.words.Mark.{Mark}
-use Rattle.ly_yaccread.specs.declared.words.Mark.TheVariants.{Section, Block, Whole, Part, Colon, Bar, Semicolon}
+use Rattle.ly_yaccread.specs.declared.words.Mark.TheVariants.{Section, Block, Whole, Dollar, Colon, Bar, Semicolon}
 use Rattle.ly_yaccread.specs.declared.words.Mark.TheVariants.{OpenBrace, CloseBrace, OpenParenthesis}
 use Rattle.ly_yaccread.specs.declared.words.Mark.TheVariants.{CloseParenthesis, OpenTag, CloseTag, Equals, Comma}
 use Rattle.ly_yaccread.specs.declared.words.NextWord.{NextWord}
@@ -42,7 +42,7 @@ spelled : (m : Mark) → (b : ℕ) × (s : List ℕ) × (spelling m ≡ b ∷ s)
 spelled Section = (37, 37 ∷ [], refl, record { no_space = refl; no_slash = λ e. omega (arith, e) })
 spelled Block = (37, 123 ∷ [], refl, record { no_space = refl; no_slash = λ e. omega (arith, e) })
 spelled Whole = (36, 36 ∷ [], refl, record { no_space = refl; no_slash = λ e. omega (arith, e) })
-spelled Part = (36, [], refl, record { no_space = refl; no_slash = λ e. omega (arith, e) })
+spelled Dollar = (36, [], refl, record { no_space = refl; no_slash = λ e. omega (arith, e) })
 spelled Colon = (58, [], refl, record { no_space = refl; no_slash = λ e. omega (arith, e) })
 spelled Bar = (124, [], refl, record { no_space = refl; no_slash = λ e. omega (arith, e) })
 spelled Semicolon = (59, [], refl, record { no_space = refl; no_slash = λ e. omega (arith, e) })
@@ -74,6 +74,9 @@ begins_at text (name (b ∷ n)) rest h = (b, n ++ rest, h.2, name_solid b h.0.0)
 begins_at text (number []) rest h = absurd (h.1 refl)
 begins_at text (number (b ∷ ds)) rest h = (b, ds ++ rest, h.3, digit_solid b h.0.0)
 begins_at text (literal c) rest h = (39, h.0, h.1, record { no_space = refl; no_slash = λ e. omega (arith, e) })
+begins_at text block rest h = absurd h
+begins_at text braces rest h = absurd h
+begins_at text other rest h = absurd h
 
 -- a word is no gap
 pub begins_stops : (text : List ℕ) (x : Word) (rest : List ℕ) → Begins text x rest → GapEnds Yacc text
@@ -89,10 +92,10 @@ begins_stops text x rest h = at (begins_at text x rest h)
 -- the word that stands behind a gap
 pub front_at : (text word : List ℕ) (x : Word) (rest : List ℕ) → GapBefore Yacc text word → GapEnds Yacc word
     → Front text x rest → Begins word x rest
-front_at text word x rest before stops (u, other, begins)
+front_at text word x rest before stops (u, found, begins)
     = subst (λ w. Begins w x rest)
-    (gap_one Yacc other.0 before.0 u word other.1 before.1 (begins_stops u x rest begins) stops
-    (sym other.2 ∙ before.2))
+    (gap_one Yacc found.0 before.0 u word found.1 before.1 (begins_stops u x rest begins) stops
+    (sym found.2 ∙ before.2))
     begins
 
 nothing_stops : GapEnds Yacc []
@@ -107,7 +110,7 @@ front_none text x r g f = at (begins_at [] x r (front_at text [] x r (text, g, s
 
 -- what stands behind the gap stands at the front
 pub behind_gap : (text word rest : List ℕ) (x : NextWord) → GapBefore Yacc text word → GapEnds Yacc word
-    → IsAt word x rest → IsFront text x rest
+    → IsWordAt word x rest → IsFront text x rest
 behind_gap text word rest next.End before stops h
     = subst (Gap Yacc) (sym (before.2 ∙ ap (λ u. before.0 ++ u) h ∙ append-nil before.0)) before.1
 behind_gap text word rest (next.Mark m) before stops h = (word, before, h)
@@ -115,6 +118,8 @@ behind_gap text word rest (next.Directive n) before stops h = (word, before, h)
 behind_gap text word rest (next.Name n) before stops h = (word, before, h)
 behind_gap text word rest (next.Number n) before stops h = (word, before, h)
 behind_gap text word rest (next.Literal b) before stops h = (word, before, h)
+behind_gap text word rest next.Block before stops h = absurd h
+behind_gap text word rest next.Braces before stops h = absurd h
 behind_gap text word rest next.Other before stops h = (
   λ g. h.0 (gap_one Yacc before.0 text word [] before.1 g stops nothing_stops (sym before.2 ∙ sym (append-nil text))),
   λ x s f. h.1 x s (front_at text word x s before stops f),
@@ -135,24 +140,24 @@ percent [] = None
 percent (b ∷ t) = if nat_eq b 37 then Some Section else (if nat_eq b 123 then Some Block else None)
 
 abbrev dollar : List ℕ → Option Mark
-dollar [] = Some Part
-dollar (b ∷ t) = if nat_eq 36 b then Some Whole else Some Part
+dollar [] = Some Dollar
+dollar (b ∷ t) = if nat_eq 36 b then Some Whole else Some Dollar
 
 -- the mark that a text begins with
 abbrev found_mark : List ℕ → Option Mark
 found_mark [] = None
 found_mark (b ∷ t) = if nat_eq b 37 then percent t else (if nat_eq b 36 then dollar t else single b)
 
-part_found : (rest : List ℕ) → Stops (nat_eq 36) rest → dollar rest ≡ Some Part
-part_found [] h = refl
-part_found (b ∷ rest) h = rw h refl
+dollar_found : (rest : List ℕ) → Stops (nat_eq 36) rest → dollar rest ≡ Some Dollar
+dollar_found [] h = refl
+dollar_found (b ∷ rest) h = rw h refl
 
 mark_found : (m : Mark) (rest : List ℕ) → MarkBefore (spelling m ++ rest) m rest
     → found_mark (spelling m ++ rest) ≡ Some m
 mark_found Section rest h = refl
 mark_found Block rest h = refl
 mark_found Whole rest h = refl
-mark_found Part rest h = part_found rest h.1
+mark_found Dollar rest h = dollar_found rest h.1
 mark_found Colon rest h = refl
 mark_found Bar rest h = refl
 mark_found Semicolon rest h = refl
@@ -196,12 +201,13 @@ sort_of (directive n) = 1
 sort_of (name n) = 2
 sort_of (number ds) = 3
 sort_of (literal b) = 4
+sort_of _ = 5
 
 mark_sort : (m : Mark) (rest : List ℕ) → sort_at (spelling m ++ rest) ≡ 0
 mark_sort Section rest = refl
 mark_sort Block rest = refl
 mark_sort Whole rest = refl
-mark_sort Part rest = refl
+mark_sort Dollar rest = refl
 mark_sort Colon rest = refl
 mark_sort Bar rest = refl
 mark_sort Semicolon rest = refl
@@ -232,6 +238,9 @@ sort_is text (name (b ∷ n)) rest h = ap sort_at h.2 ∙ rw (h.0.0) refl
 sort_is text (number []) rest h = absurd (h.1 refl)
 sort_is text (number (b ∷ ds)) rest h = ap sort_at h.3 ∙ rw (digit_no_name b h.0.0, h.0.0) refl
 sort_is text (literal b) rest h = ap sort_at h.1
+sort_is text block rest h = absurd h
+sort_is text braces rest h = absurd h
+sort_is text other rest h = absurd h
 
 sorted : (text : List ℕ) (x y : Word) (r s : List ℕ) → sort_of x ≡ sort_of y → Begins text x r → Begins text y s
     → (x ≡ y) × (r ≡ s)
@@ -242,6 +251,12 @@ sorted text (directive n) (directive m) r s e a b =
 sorted text (name n) (name m) r s e a b = let f = name_one Yacc text n m r s a b in (ap name f.0, f.1)
 sorted text (number n) (number m) r s e a b = let f = digits_one text n m r s a b in (ap number f.0, f.1)
 sorted text (literal c) (literal d) r s e a b = let f = literal_one text c d r s a b in (ap literal f.0, f.1)
+sorted text block _ r s e a b = absurd a
+sorted text braces _ r s e a b = absurd a
+sorted text other _ r s e a b = absurd a
+sorted text _ block r s e a b = absurd b
+sorted text _ braces r s e a b = absurd b
+sorted text _ other r s e a b = absurd b
 sorted text _ _ r s e a b = absurd (omega (arith, e))
 
 begins_one : (text : List ℕ) (x y : Word) (r s : List ℕ) → Begins text x r → Begins text y s → (x ≡ y) × (r ≡ s)
@@ -250,17 +265,6 @@ begins_one text x y r s a b = sorted text x y r s (sym (sort_is text x r a) ∙ 
 -- the word at the front is determined, and so is the rest
 pub front_one : (text : List ℕ) (x y : Word) (r s : List ℕ) → Front text x r → Front text y s → (x ≡ y) × (r ≡ s)
 front_one text x y r s (u, before, a) f = begins_one u x y r s a (front_at text u y s before (begins_stops u x r a) f)
-
--- as many words are determined
-pub wording_one : (text : List ℕ) (xs ys : List Word) (r s : List ℕ) → length xs ≡ length ys → Wording text xs r
-    → Wording text ys s → (xs ≡ ys) × (r ≡ s)
-wording_one text [] [] r s e a b = (refl, sym a ∙ b)
-wording_one text [] (y ∷ ys) r s e a b = absurd (omega (arith, e))
-wording_one text (x ∷ xs) [] r s e a b = absurd (omega (arith, e))
-wording_one text (x ∷ xs) (y ∷ ys) r s e a b =
-    let f = front_one text x y a.0 b.0 a.1 b.1 in
-    let g = wording_one b.0 xs ys r s (omega (arith, e)) (subst (λ t. Wording t xs r) f.1 a.2) b.2 in
-    (ap₂ ◌∷◌ f.0 g.0, g.1)
 
 -- a word has bytes
 begins_shorter : (text : List ℕ) (x : Word) (rest : List ℕ) → Begins text x rest → length rest < length text
@@ -272,6 +276,9 @@ begins_shorter text (name (b ∷ n)) rest h = omega (arith, ap length h.2, lengt
 begins_shorter text (number []) rest h = absurd (h.1 refl)
 begins_shorter text (number (b ∷ ds)) rest h = omega (arith, ap length h.3, length-append ds rest)
 begins_shorter text (literal c) rest h = literal_shorter text rest c h
+begins_shorter text block rest h = absurd h
+begins_shorter text braces rest h = absurd h
+begins_shorter text other rest h = absurd h
 
 pub front_shorter : (text : List ℕ) (x : Word) (rest : List ℕ) → Front text x rest → length rest < length text
 front_shorter text x rest (word, before, h)

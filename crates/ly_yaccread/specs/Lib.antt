@@ -1,5 +1,9 @@
+pub mod Actions
+pub mod Declarations
 pub mod Faults
+pub mod File
 pub mod Private
+pub mod Rules
 pub mod Symbols
-pub mod Tags
 pub mod Words
+pub mod YaccText

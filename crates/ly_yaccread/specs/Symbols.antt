@@ -1,37 +1,50 @@
--- The symbols of a declaration.
+-- The symbols of a declaration and of a body, and tags (POSIX, XCU yacc).
 use Rattle.std.specs.Prelude.{◌≡◌, ◌≢◌, ◌⊎◌, ℕ, List, [], ◌∷◌, codes}
-use Rattle.ly_yaccread.specs.Words.{Word, mark, directive, name, number, literal, Front}
-use Rattle.ly_yaccread.specs.declared.file.Symbol.{Symbol}
-use Rattle.ly_yaccread.specs.declared.file.Symbol.TheVariants.{Name, Literal}
+use Rattle.ly_yaccread.specs.Words.{Word, mark, name, number, literal}
+use Rattle.ly_yaccread.specs.declared.listing.Listing.{Listing}
+use Rattle.ly_yaccread.specs.declared.listing.Listing.TheVariants.{Plain, Numbered}
+use Rattle.ly_yaccread.specs.declared.words.Mark.{Mark}
+use Rattle.ly_yaccread.specs.declared.words.Mark.TheVariants.{Colon, OpenTag, CloseTag}
 
--- the word of a symbol
-abbrev pub symbol_word : Symbol → Word
-symbol_word (Name n) = name n.items
-symbol_word (Literal b) = literal b
+-- no such mark comes first
+abbrev pub NoMark : Mark → List Word → Type 0
+NoMark m ws = (rest : List Word) → ws ≢ mark m ∷ rest
 
-abbrev pub words_of : List Symbol → List Word
-words_of [] = []
-words_of (s ∷ symbols) = symbol_word s ∷ words_of symbols
+-- a name comes first; `error` isn't one that may be used
+abbrev pub NameFirst : List Word → List ℕ → List Word → Type 0
+NameFirst ws n rest = (ws ≡ name n ∷ rest) × (n ≢ codes "error")
 
--- a word that is a symbol: a literal or a name, but not the name `error`
-abbrev pub IsSymbol : Word → Type 0
-IsSymbol (mark m) = ⊥
-IsSymbol (directive n) = ⊥
-IsSymbol (name n) = n ≢ codes "error"
-IsSymbol (number ds) = ⊥
-IsSymbol (literal b) = Unit {0}
+-- a symbol comes first: a literal, or a name behind which no `:` stands
+abbrev pub SymbolFirst : List Word → Word → List Word → Type 0
+SymbolFirst ws (name n) rest = NameFirst ws n rest × NoMark Colon rest
+SymbolFirst ws (literal b) rest = ws ≡ literal b ∷ rest
+SymbolFirst ws _ rest = ⊥
 
--- the text is a gap, a symbol and the rest
-abbrev pub SymbolBefore : List ℕ → Word → List ℕ → Type 0
-SymbolBefore text x rest = Front text x rest × IsSymbol x
+-- no symbol comes first
+abbrev pub NoSymbol : List Word → Type 0
+NoSymbol ws = (x : Word) (rest : List Word) → SymbolFirst ws x rest → ⊥
 
--- the text is a number and the rest, or the rest, which begins with no number
-abbrev pub NumberPassed : List ℕ → List ℕ → Type 0
-NumberPassed text rest = ((ds : List ℕ) × Front text (number ds) rest)
-    ⊎ (((ds s : List ℕ) → Front text (number ds) s → ⊥) × (rest ≡ text))
+-- where symbols may have numbers: what stands behind the number that comes first, or all where none does
+abbrev pub NumberPassed : Listing → List Word → List Word → Type 0
+NumberPassed Plain ws rest = ws ≡ rest
+NumberPassed Numbered ws rest = ((ds : List ℕ) × (ws ≡ number ds ∷ rest))
+    ⊎ (((ds : List ℕ) (s : List Word) → ws ≢ number ds ∷ s) × (ws ≡ rest))
 
--- the text is these symbols, each perhaps with a number, and the rest, which begins with no symbol
-pub data Symbols : List ℕ → List Word → List ℕ → Type 0 where
-  end : (text : List ℕ) → ((x : Word) (s : List ℕ) → SymbolBefore text x s → ⊥) → Symbols text [] text
-  more : (text behind left rest : List ℕ) (x : Word) (xs : List Word) → SymbolBefore text x behind
-      → NumberPassed behind left → Symbols left xs rest → Symbols text (x ∷ xs) rest
+-- symbols, as many as there are, and the rest
+pub data Symbols (l : Listing) : List Word → List Word → List Word → Type 0 where
+  end : (ws : List Word) → NoSymbol ws → Symbols l ws [] ws
+  more : (ws behind left rest : List Word) (x : Word) (xs : List Word) → SymbolFirst ws x behind
+      → NumberPassed l behind left → Symbols l left xs rest → Symbols l ws (x ∷ xs) rest
+
+-- what stands behind the tag `<name>` that comes first, or all where no `<` does
+abbrev pub TagPassed : List Word → List Word → Type 0
+TagPassed ws rest
+    = ((n : List ℕ) × (ws ≡ mark OpenTag ∷ name n ∷ mark CloseTag ∷ rest) × (n ≢ codes "error"))
+    ⊎ (NoMark OpenTag ws × (ws ≡ rest))
+
+-- Perhaps a tag, then symbols, one or more, and the rest.
+pub record SymbolList (l : Listing) (ws xs rest : List Word) : Type 0 where
+  pub behind : List Word
+  pub tag : TagPassed ws behind
+  pub symbols : Symbols l behind xs rest
+  pub some : xs ≢ []

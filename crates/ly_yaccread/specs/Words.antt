@@ -1,29 +1,35 @@
 -- The words of a yacc file (POSIX, XCU yacc).
-use Rattle.std.specs.Prelude.{◌≡◌, ℕ, List, [], ◌∷◌, ◌++◌, nat_eq, codes}
+use Rattle.std.specs.Prelude.{◌≡◌, ◌≢◌, ℕ, List, [], ◌∷◌, ◌++◌, nat_eq, codes}
 use Rattle.ly_base.specs.Escapes.{Stops}
-use Rattle.ly_base.specs.Gap.{GapBefore}
+use Rattle.ly_base.specs.Gap.{Closes, EndBefore, Gap, GapBefore}
 use Rattle.ly_base.specs.Language.{DigitsBefore, NameBefore}
 use Rattle.ly_base.specs.Literals.{Literal}
 use Rattle.ly_base.specs.declared.language.Language.TheVariants.{Yacc}
+use Rattle.ly_yaccread.specs.declared.part.Part.{Part}
+use Rattle.ly_yaccread.specs.declared.part.Part.TheVariants.{Declarations, Rules, Programs}
 use Rattle.ly_yaccread.specs.declared.words.Mark.{Mark}
-use Rattle.ly_yaccread.specs.declared.words.Mark.TheVariants.{Section, Block, Whole, Part, Colon, Bar, Semicolon}
+use Rattle.ly_yaccread.specs.declared.words.Mark.TheVariants.{Section, Block, Whole, Dollar, Colon, Bar, Semicolon}
 use Rattle.ly_yaccread.specs.declared.words.Mark.TheVariants.{OpenBrace, CloseBrace, OpenParenthesis}
 use Rattle.ly_yaccread.specs.declared.words.Mark.TheVariants.{CloseParenthesis, OpenTag, CloseTag, Equals, Comma}
 
--- A word of a yacc file: a mark, a `%` and a name, a name, the digits of a number, or a literal of a byte.
+-- A word of a yacc file: a mark, a `%` and a name, a name, the digits of a number, a literal of a byte, a block
+-- `%{ .. %}`, what stands between braces, or anything else, behind which no word is read.
 pub data Word : Type 0 where
   mark : Mark → Word
   directive : List ℕ → Word
   name : List ℕ → Word
   number : List ℕ → Word
   literal : ℕ → Word
+  block : Word
+  braces : Word
+  other : Word
 
 -- the bytes of a mark
 abbrev pub spelling : Mark → List ℕ
 spelling Section = codes "%%"
 spelling Block = codes "%{"
 spelling Whole = codes "$$"
-spelling Part = codes "$"
+spelling Dollar = codes "$"
 spelling Colon = codes ":"
 spelling Bar = codes "|"
 spelling Semicolon = codes ";"
@@ -38,7 +44,7 @@ spelling Comma = codes ","
 
 -- what a mark may not have behind it: `$` isn't read where `$$` stands
 abbrev pub MayFollow : Mark → List ℕ → Type 0
-MayFollow Part rest = Stops (nat_eq 36) rest
+MayFollow Dollar rest = Stops (nat_eq 36) rest
 MayFollow m rest = Unit {0}
 
 -- the text is a mark and then the rest
@@ -49,19 +55,50 @@ MarkBefore text m rest = (text ≡ spelling m ++ rest) × MayFollow m rest
 abbrev pub DirectiveBefore : List ℕ → List ℕ → List ℕ → Type 0
 DirectiveBefore text n rest = (behind : List ℕ) × (text ≡ codes "%" ++ behind) × NameBefore Yacc behind n rest
 
--- the text is a word and then the rest
+-- the text is a word of one piece and then the rest
 abbrev pub Begins : List ℕ → Word → List ℕ → Type 0
 Begins text (mark m) rest = MarkBefore text m rest
 Begins text (directive n) rest = DirectiveBefore text n rest
 Begins text (name n) rest = NameBefore Yacc text n rest
 Begins text (number ds) rest = DigitsBefore text ds rest
 Begins text (literal b) rest = Literal text b rest
+Begins text _ rest = ⊥
 
 -- the text is a gap, a word and the rest
 abbrev pub Front : List ℕ → Word → List ℕ → Type 0
 Front text x rest = (word : List ℕ) × GapBefore Yacc text word × Begins word x rest
 
--- the text is a gap, these words with gaps between them, and the rest
-abbrev pub Wording : List ℕ → List Word → List ℕ → Type 0
-Wording text [] rest = text ≡ rest
-Wording text (x ∷ xs) rest = (behind : List ℕ) × Front text x behind × Wording behind xs rest
+-- A mark that stands for itself: in the declarations `%{` begins a block, and `{` what stands between braces.
+abbrev pub IsPlain : Part → Mark → Type 0
+IsPlain Declarations m = (m ≢ Block) × (m ≢ OpenBrace)
+IsPlain p m = Unit {0}
+
+-- The text is a gap, a word of this part of a file, and the rest. A block goes to its first `%}`; braces are counted as
+-- plain bytes.
+abbrev pub Takes : Part → List ℕ → Word → List ℕ → Type 0
+Takes p text (mark m) rest = Front text (mark m) rest × IsPlain p m
+Takes p text block rest = (p ≡ Declarations) × (inside : List ℕ) × Front text (mark Block) inside
+    × EndBefore (codes "%}") inside rest
+Takes p text braces rest = (p ≡ Declarations) × (inside : List ℕ) × Front text (mark OpenBrace) inside
+    × Closes 0 inside rest
+Takes p text x rest = Front text x rest
+
+-- the part of a file that a word leads to: each `%%` ends one
+abbrev pub part_behind : Part → Word → Part
+part_behind Declarations (mark Section) = Rules
+part_behind Rules (mark Section) = Programs
+part_behind p x = p
+
+-- The words of a text that stands in this part of a file. In the programs everything is free. Where no word can be
+-- read, one that is anything else ends the list.
+pub data Wording : Part → List ℕ → List Word → Type 0 where
+  free : (text : List ℕ) → Wording Programs text []
+  end : (p : Part) (text : List ℕ) → Gap Yacc text → Wording p text []
+  stuck : (p : Part) (text : List ℕ) → p ≢ Programs → (Gap Yacc text → ⊥)
+      → ((x : Word) (s : List ℕ) → Takes p text x s → ⊥) → Wording p text (other ∷ [])
+  more : (p : Part) (text rest : List ℕ) (x : Word) (xs : List Word) → p ≢ Programs → Takes p text x rest
+      → Wording (part_behind p x) rest xs → Wording p text (x ∷ xs)
+
+-- the words of a whole file
+abbrev pub Words : List ℕ → List Word → Type 0
+Words bytes ws = Wording Declarations bytes ws

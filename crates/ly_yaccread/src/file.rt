@@ -1,8 +1,70 @@
-/// A symbol of a yacc file.
+/// What a yacc file says. Tags, numbers, `%type`, `%union` and blocks leave nothing behind.
+#[derive(Drop)]
+pub struct YaccFile {
+    /// The declarations that name tokens, in the order of the text.
+    pub declarations: Vec<Declaration>,
+    /// The name behind `%start`, where it stands.
+    pub start: Option<Vec<u8>>,
+    /// The rules, in the order of the text: one for each body.
+    pub rules: Vec<Production>,
+}
+
+/// A declaration of tokens.
+#[derive(Drop)]
+pub struct Declaration {
+    /// What it says of them.
+    pub kind: DeclarationKind,
+    /// The symbols that it names, in the order of the text.
+    pub symbols: Vec<Symbol>,
+}
+
+/// What a declaration says of its tokens.
+#[derive(Clone, Copy, Debug, PartialEq, Eq)]
+pub enum DeclarationKind {
+    /// `%token`: that they are tokens.
+    Token,
+    /// `%left`: also that they bind to the left, more tightly than those of earlier declarations.
+    Left,
+    /// `%right`: also that they bind to the right.
+    Right,
+    /// `%nonassoc`: also that they don't stand beside one another.
+    Nonassociative,
+}
+
+/// A symbol, as a yacc file names it.
 #[derive(Drop)]
 pub enum Symbol {
     /// A name.
     Name(Vec<u8>),
     /// A literal of this byte.
     Literal(u8),
+}
+
+/// A rule of the grammar: a left side and one body.
+#[derive(Drop)]
+pub struct Production {
+    /// The name on the left.
+    pub left: Vec<u8>,
+    /// The symbols of the body.
+    pub body: Vec<Symbol>,
+    /// The symbol behind `%prec`, where it stands.
+    pub precedence: Option<Symbol>,
+    /// What the rule's tree is.
+    pub action: Action,
+}
+
+/// What the tree of a rule is. Places count the symbols of its body from 1.
+#[derive(Drop)]
+pub enum Action {
+    /// No action stands.
+    Default,
+    /// The tree at this place.
+    Pass(u32),
+    /// A node.
+    Build {
+        /// Its constructor.
+        name: Vec<u8>,
+        /// The places of its children, no two the same.
+        places: Vec<u32>,
+    },
 }

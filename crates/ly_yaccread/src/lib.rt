@@ -1,19 +1,31 @@
-//! From the bytes of a yacc file to its words, and from the words of a declaration to its symbols.
+//! From the bytes of a yacc file to its declarations and its rules.
 //!
-//! `next_word` (private) reads the word behind the gap at the front of a text, and says that there is none exactly
-//! where there is none; which word it is, is determined. Over it stand the readers of one mark, one name, one symbol,
-//! a tag and the list of a token declaration, each exact in both directions. `YaccFault` says why a file is refused.
+//! `read_yacc` reads a file. Its answer is the one thing that the bytes say (`yacc_text_is_one`), and it refuses only a
+//! text that says nothing. A file is taken apart into words first, and the grammar speaks of these.
 //!
-//! Left out so far: `read_yacc` itself, that is whole declarations, rules, bodies and actions.
+//! Left out: what the names mean, which takes the lex file too.
 #![tactic(auto)]
 
+mod action;
+mod cursor;
+mod declaration;
+mod declarations;
+mod expected;
 mod fault;
 mod file;
+mod laws;
+mod listing;
+mod part;
+mod place;
+mod read;
+mod rule;
+mod rules;
 mod symbols;
-mod tag;
-mod tokens;
+mod wording;
 mod words;
 
 pub use fault::YaccFault;
-pub use file::Symbol;
+pub use file::{Action, Declaration, DeclarationKind, Production, Symbol, YaccFile};
+pub use laws::yacc_text_is_one;
+pub use read::read_yacc;
 pub use words::Mark;

@@ -1,10 +1,15 @@
-ghost use Rattle.std.specs.Prelude.{◌≡◌, ◌≢◌, ◌<◌, ◌≤◌, ℕ, List, codes, length, IfOk, IfSome, MatchBool, MatchOption};
-ghost use Rattle.ly_yaccread.specs.Private.Symbols.{word_of};
-ghost use Rattle.ly_yaccread.specs.Symbols.{NumberPassed, symbol_word, SymbolBefore, Symbols, words_of};
+ghost use Rattle.std.specs.Prelude.{◌≡◌, List, IfOk, MatchOption, MatchResult};
+ghost use Rattle.ly_yaccread.specs.File.{symbol_word, symbol_words};
+ghost use Rattle.ly_yaccread.specs.Private.Read.{IsFound, left as words_left, next_symbol};
+ghost use Rattle.ly_yaccread.specs.Symbols.{NoSymbol, NumberPassed, SymbolFirst, SymbolList, Symbols, TagPassed};
 ghost use Rattle.ly_yaccread.specs.Words.{Word};
 
+use crate::cursor::Cursor;
+use crate::expected::Expected;
+use crate::fault::YaccFault;
 use crate::file::Symbol;
-use crate::words::{NextWord, next_word};
+use crate::listing::Listing;
+use crate::words::Mark;
 use std::alloc::{AllocError, Global};
 
 /// A symbol where it stands in the text.
@@ -18,8 +23,8 @@ pub(crate) enum NextSymbol<'t> {
 
 impl NextSymbol<'_> {
     /// The symbol with room of its own.
-    fn owned(self, alloc: Global) -> Result<Symbol, AllocError>
-        ensures { IfOk result (λ symbol. symbol_word symbol ≡ word_of self.entry) }
+    pub(crate) fn owned(self, alloc: Global) -> Result<Symbol, AllocError>
+        ensures { IfOk result (λ symbol. symbol_word symbol ≡ next_symbol self.entry) }
     {
         match self {
             NextSymbol::Name(name) => Ok(Symbol::Name(Vec::from_slice(alloc, name)?)),
@@ -28,55 +33,79 @@ impl NextSymbol<'_> {
     }
 }
 
-/// Reads the symbols of a declaration, as many as there are, each perhaps with a number, and answers what
-/// stands behind them.
-pub(crate) fn read_symbols(alloc: Global, text: &[u8]) -> Result<(Vec<Symbol>, &[u8]), AllocError>
-    ensures { IfOk result (λ found. Symbols text.now (words_of found.0.items) found.1.now) }
+/// Reads symbols, as many as there are, and answers what is left behind them.
+pub(crate) fn read_symbols(
+    alloc: Global,
+    words: Cursor<'_>,
+    listing: Listing,
+) -> Result<(Vec<Symbol>, Cursor<'_>), AllocError>
+    ensures { IfOk result
+        (λ found. Symbols listing (words_left words.entry) (symbol_words found.0.items) (words_left found.1)) }
 {
     let mut symbols = Vec::new(alloc);
-    let mut rest = text;
-    while let Some((symbol, behind)) = symbol_at(rest) {
+    let mut rest = words;
+    while let Some((symbol, behind)) = symbol_first(rest) {
         symbols.push(symbol.owned(alloc)?)?;
-        rest = after_number(behind);
+        rest = after_number(behind, listing);
     }
     Ok((symbols, rest))
 }
 
-/// The symbol at the front, and what stands behind it. The name `error` is none.
-pub(crate) fn symbol_at(text: &[u8]) -> Option<(NextSymbol<'_>, &[u8])>
-    ensures these { MatchOption result ((x : Word) (rest : List ℕ) → SymbolBefore text.now x rest → ⊥)
-        (λ found. SymbolBefore text.now (word_of found.0) found.1.now) }
-    ensures shorter { IfSome result (λ found. length found.1.now < length text.now) }
+/// Reads perhaps a tag, and then symbols, one or more; where they don't stand, nothing can be declared.
+pub(crate) fn read_symbol_list(
+    alloc: Global,
+    words: Cursor<'_>,
+    listing: Listing,
+) -> Result<(Vec<Symbol>, Cursor<'_>), YaccFault>
+    ensures { IsFound (SymbolList listing (words_left words.entry)) (λ found. symbol_words found.0.items)
+        (λ found. words_left found.1) result }
 {
-    let (word, rest) = next_word(text);
-    match word {
-        NextWord::Name(name) => {
-            if is_error(name) {
-                None
-            } else {
-                Some((NextSymbol::Name(name), rest))
-            }
-        }
-        NextWord::Literal(byte) => Some((NextSymbol::Literal(byte), rest)),
-        _ => None,
+    let behind = after_tag(words)?;
+    let (symbols, rest) = read_symbols(alloc, behind, listing)?;
+    if symbols.is_empty() {
+        return Err(rest.fault(Expected::Declaration));
+    }
+    Ok((symbols, rest))
+}
+
+/// What is left behind the tag that comes first, or all where no `<` does.
+fn after_tag(words: Cursor<'_>) -> Result<Cursor<'_>, YaccFault>
+    ensures { MatchResult result (λ rest. TagPassed (words_left words.entry) (words_left rest))
+        (λ _. (rest : List Word) → TagPassed (words_left words.entry) rest → ⊥) }
+{
+    let Some(inside) = words.after(Mark::OpenTag) else {
+        return Ok(words);
+    };
+    let Some((_name, behind)) = inside.name() else {
+        return Err(inside.fault(Expected::Declaration));
+    };
+    match behind.after(Mark::CloseTag) {
+        Some(rest) => Ok(rest),
+        None => Err(behind.fault(Expected::Declaration)),
     }
 }
 
-/// Whether the name is `error`.
-fn is_error(name: &[u8]) -> bool
-    ensures { MatchBool result (name.now ≡ codes "error") (name.now ≢ codes "error") }
+/// The symbol that comes first, and what is left behind it. A name before a `:` is none.
+pub(crate) fn symbol_first(words: Cursor<'_>) -> Option<(NextSymbol<'_>, Cursor<'_>)>
+    ensures { MatchOption result (NoSymbol (words_left words.entry))
+        (λ found. SymbolFirst (words_left words.entry) (next_symbol found.0) (words_left found.1)) }
 {
-    name == b"error".as_slice()
+    if let Some((byte, rest)) = words.literal() {
+        return Some((NextSymbol::Literal(byte), rest));
+    }
+    let (name, rest) = words.name()?;
+    match rest.after(Mark::Colon) {
+        None => Some((NextSymbol::Name(name), rest)),
+        Some(_) => None,
+    }
 }
 
-/// What stands behind the number at the front, or the text where there is none.
-fn after_number(text: &[u8]) -> &[u8]
-    ensures passed { NumberPassed text.now result.now }
-    ensures within { length result.now ≤ length text.now }
+/// What is left behind the number that comes first, or all where none does or may.
+fn after_number(words: Cursor<'_>, listing: Listing) -> Cursor<'_>
+    ensures { NumberPassed listing (words_left words.entry) (words_left result) }
 {
-    let (word, rest) = next_word(text);
-    match word {
-        NextWord::Number(_) => rest,
-        _ => text,
+    match (listing, words.number()) {
+        (Listing::Numbered, Some((_digits, rest))) => rest,
+        _ => words,
     }
 }

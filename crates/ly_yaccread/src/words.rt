@@ -1,6 +1,7 @@
-ghost use Rattle.std.specs.Prelude.{◌≡◌, ◌≢◌, ◌++◌, ◌∷◌, [], ℕ, List, MatchOption};
-ghost use Rattle.ly_yaccread.specs.Private.Words.{IsAt, IsFront};
+ghost use Rattle.std.specs.Prelude.{◌≡◌, ◌≢◌, ◌++◌, ◌∷◌, [], ℕ, List, MatchBool, MatchOption};
+ghost use Rattle.ly_yaccread.specs.Private.Words.{IsWordAt, IsFront};
 ghost use Rattle.ly_yaccread.specs.Words.{DirectiveBefore, MarkBefore, spelling};
+ghost use Rattle.ly_yaccread.specs.declared.words.NextWord.TheVariants.{End, Other};
 
 use ly_base::{Language, after_gap, leading_digits, leading_name, literal};
 
@@ -13,8 +14,8 @@ pub enum Mark {
     Block,
     /// `$$`, the value of a rule.
     Whole,
-    /// `$`, which begins the value of a part of a rule's body.
-    Part,
+    /// `$`, before the place of a symbol in a rule's body.
+    Dollar,
     /// `:`, between a left side and its bodies.
     Colon,
     /// `|`, before a further body.
@@ -54,8 +55,28 @@ pub(crate) enum NextWord<'t> {
     Number(&'t [u8]),
     /// A literal of this byte.
     Literal(u8),
+    /// A block from `%{` to `%}`.
+    Block,
+    /// What stands between braces, with them.
+    Braces,
     /// No word.
     Other,
+}
+
+impl NextWord<'_> {
+    /// Whether nothing stands there.
+    pub(crate) fn is_end(&self) -> bool
+        ensures { MatchBool result (self.now ≡ End) (self.now ≢ End) }
+    {
+        matches!(self, NextWord::End)
+    }
+
+    /// Whether no word stands there.
+    pub(crate) fn is_other(&self) -> bool
+        ensures { MatchBool result (self.now ≡ Other) (self.now ≢ Other) }
+    {
+        matches!(self, NextWord::Other)
+    }
 }
 
 /// The word behind the gap at the front, and what stands behind it.
@@ -67,7 +88,7 @@ pub(crate) fn next_word(text: &[u8]) -> (NextWord<'_>, &[u8])
 
 /// The word at the front, and what stands behind it.
 fn word_at(text: &[u8]) -> (NextWord<'_>, &[u8])
-    ensures { IsAt text.now result.0 result.1.now }
+    ensures { IsWordAt text.now result.0 result.1.now }
 {
     if text.is_empty() {
         return (NextWord::End, text);
@@ -121,7 +142,7 @@ fn mark_of(byte: u8) -> Option<Mark>
     ensures { MatchOption result ((mark : Mark) → spelling mark ≢ byte ∷ []) (λ mark. spelling mark ≡ byte ∷ []) }
 {
     match byte {
-        b'$' => Some(Mark::Part),
+        b'$' => Some(Mark::Dollar),
         b':' => Some(Mark::Colon),
         b'|' => Some(Mark::Bar),
         b';' => Some(Mark::Semicolon),

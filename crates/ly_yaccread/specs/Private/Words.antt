@@ -1,27 +1,43 @@
 -- What stands at the front of a yacc file, as it is read.
-use Rattle.std.specs.Prelude.{◌≡◌, ◌≢◌, ℕ, List, []}
+use Rattle.std.specs.Prelude.{◌≡◌, ◌≢◌, ℕ, List, [], map}
 use Rattle.ly_base.specs.Gap.{Gap}
 use Rattle.ly_base.specs.declared.language.Language.TheVariants.{Yacc}
-use Rattle.ly_yaccread.specs.Words.{Word, mark, directive, name, number, literal, Begins, Front}
+use Rattle.ly_yaccread.specs.Words.{Word, mark, directive, name, number, literal, block, braces, other, Begins, Front}
+use Rattle.ly_yaccread.specs.Words.{Takes}
+use Rattle.ly_yaccread.specs.declared.part.Part.{Part}
 use Rattle.ly_yaccread.specs.declared.words.NextWord.{NextWord}
 use Rattle.ly_yaccread.specs.declared.words.NextWord.TheVariants.{End, Mark, Directive, Name, Number, Literal, Other}
+use Rattle.ly_yaccread.specs.declared.words.NextWord.TheVariants.{Block, Braces}
+
+-- the word, which borrows nothing
+abbrev pub word_of : NextWord → Word
+word_of (Mark m) = mark m
+word_of (Directive n) = directive n.now
+word_of (Name n) = name n.now
+word_of (Number ds) = number ds.now
+word_of (Literal b) = literal b
+word_of Block = block
+word_of Braces = braces
+word_of _ = other
 
 -- what stands at the front of a text that begins with no gap
-abbrev pub IsAt : List ℕ → NextWord → List ℕ → Type 0
-IsAt text End rest = text ≡ []
-IsAt text (Mark m) rest = Begins text (mark m) rest
-IsAt text (Directive n) rest = Begins text (directive n.now) rest
-IsAt text (Name n) rest = Begins text (name n.now) rest
-IsAt text (Number ds) rest = Begins text (number ds.now) rest
-IsAt text (Literal b) rest = Begins text (literal b) rest
-IsAt text Other rest = (text ≢ []) × ((x : Word) (s : List ℕ) → Begins text x s → ⊥)
+abbrev pub IsWordAt : List ℕ → NextWord → List ℕ → Type 0
+IsWordAt text End rest = text ≡ []
+IsWordAt text Other rest = (text ≢ []) × ((x : Word) (s : List ℕ) → Begins text x s → ⊥)
+IsWordAt text w rest = Begins text (word_of w) rest
 
 -- what stands at the front of a text
 abbrev pub IsFront : List ℕ → NextWord → List ℕ → Type 0
 IsFront text End rest = Gap Yacc text
-IsFront text (Mark m) rest = Front text (mark m) rest
-IsFront text (Directive n) rest = Front text (directive n.now) rest
-IsFront text (Name n) rest = Front text (name n.now) rest
-IsFront text (Number ds) rest = Front text (number ds.now) rest
-IsFront text (Literal b) rest = Front text (literal b) rest
 IsFront text Other rest = (Gap Yacc text → ⊥) × ((x : Word) (s : List ℕ) → Front text x s → ⊥)
+IsFront text w rest = Front text (word_of w) rest
+
+-- what stands at the front of a text in this part of a file
+abbrev pub IsPartWord : Part → List ℕ → NextWord → List ℕ → Type 0
+IsPartWord p text End rest = Gap Yacc text
+IsPartWord p text Other rest = (Gap Yacc text → ⊥) × ((x : Word) (s : List ℕ) → Takes p text x s → ⊥)
+IsPartWord p text w rest = Takes p text (word_of w) rest
+
+-- the words, which borrow nothing
+abbrev pub words_of : List NextWord → List Word
+words_of ws = map word_of ws

@@ -1,11 +1,10 @@
-use Rattle.std.proofs.Common.{◌++◌, List, ℕ, length}
-use Rattle.ly_yaccread.specs.Symbols.{Symbols, words_of}
-use Rattle.ly_yaccread.specs.Words.{Word}
+use Rattle.std.proofs.Common.{length}
+use Rattle.ly_yaccread.proofs.SymbolLemmas.{SymbolsGoOn}
+use Rattle.ly_yaccread.specs.Private.Words.{words_of}
 use Rattle.ly_yaccread.proofs.symbols.read_symbols.Given as goal
 
 abbrev pub invariant-loop-symbol : goal.invariant-loop-symbol
-invariant-loop-symbol l = (xs : List Word) (rest : List ℕ) → Symbols l.rest xs rest
-    → Symbols l.text (words_of l.symbols.items ++ xs) rest
+invariant-loop-symbol l = SymbolsGoOn l.listing (words_of l.words.left.now) l.symbols.items (words_of l.rest.left.now)
 
 abbrev pub decreases-loop-symbol : goal.decreases-loop-symbol
-decreases-loop-symbol l = length l.rest
+decreases-loop-symbol l = length (words_of l.rest.left.now)

@@ -2,7 +2,9 @@ use Rattle.std.proofs.Common.{ℕ, List}
 use Rattle.ly_base.specs.Language.{NameBefore, DigitsBefore}
 use Rattle.ly_base.specs.Literals.{Literal}
 use Rattle.ly_base.specs.declared.language.Language.TheVariants.{Yacc}
-use Rattle.ly_yaccread.specs.Words.{DirectiveBefore, MarkBefore, Word, mark, directive, name, number, literal, Begins}
+use Rattle.ly_yaccread.specs.Words.{DirectiveBefore, MarkBefore, Word, mark}
+use Rattle.ly_yaccread.specs.Words.{directive, name, number, literal, block, braces}
+use Rattle.ly_yaccread.specs.Words.{other, Begins}
 use Rattle.ly_yaccread.specs.declared.words.Mark.{Mark}
 use Rattle.ly_yaccread.proofs.WordLemmas.{at_none, not_empty}
 use Rattle.ly_yaccread.proofs.words.word_at.Goals as goal
@@ -16,6 +18,9 @@ none_at text a b c d e (directive n) s h = b n s h
 none_at text a b c d e (name n) s h = c n s h
 none_at text a b c d e (number n) s h = d n s h
 none_at text a b c d e (literal v) s h = e v s h
+none_at text a b c d e block s h = absurd h
+none_at text a b c d e braces s h = absurd h
+none_at text a b c d e other s h = absurd h
 
 pub returns-in-None : goal.returns-in-None
 returns-in-None c = (

@@ -1,0 +1,36 @@
+use Rattle.std.proofs.lemmas.Result.{err_from_is_err_and}
+use Rattle.ly_yaccread.specs.File.{ruling_of}
+use Rattle.ly_yaccread.specs.Private.Read.{last_of, left}
+use Rattle.ly_yaccread.proofs.RuleLemmas.{bad_body, no_rule, one_rule, one_semicolon, rule_shorter, rules_end}
+use Rattle.ly_yaccread.proofs.rules.read_rules.Goals as goal
+
+pub loop-last-preserved-in-Some : goal.loop-last-preserved-in-Some
+loop-last-preserved-in-Some c = one_semicolon (left c.args.words) c.loop-last.rules.items (last_of c.loop-last.last)
+    (left c.loop-last.rest) c.loop-last.invariant (left c.in-Some.behind) c.in-Some.ensures.0 c.in-Some.ensures.1
+
+pub returns-in_default-body_follows : goal.returns-in_default-body_follows
+returns-in_default-body_follows c = λ n all h.
+    no_rule (left c.args.words) c.loop-last.rules.items (last_of c.loop-last.last) (left c.loop-last.rest)
+    c.loop-last.invariant c.loop-last-test.ensures c.in_default.ensures c.in_default-body_follows.ensures all h
+
+pub returns-in_err-rule : goal.returns-in_err-rule
+returns-in_err-rule c =
+    let p = err_from_is_err_and c.from_residual.result c.from_residual.ensures.1 in
+    rw (p.1, p.2) (λ n all h. bad_body (left c.args.words) c.loop-last.rules.items (last_of c.loop-last.last)
+    (left c.loop-last.rest) c.loop-last.invariant c.in-Some-body_follows.left.now (left c.in-Some-body_follows.inside)
+    c.in-Some-body_follows.ensures (c.in_err-rule.ensures n) all h)
+
+pub loop-last-smaller : goal.loop-last-smaller
+loop-last-smaller c = rule_shorter (last_of c.loop-last.last) (left c.loop-last.rest) c.in-Some-body_follows.left.now
+    (left c.in-Some-body_follows.inside) (ruling_of c.in_ok-rule.rule) (left c.in_ok-rule.behind)
+    c.in-Some-body_follows.ensures c.in_ok-rule.ensures
+
+pub loop-last-preserved : goal.loop-last-preserved
+loop-last-preserved c = one_rule (left c.args.words) c.loop-last.rules.items (last_of c.loop-last.last)
+    (left c.loop-last.rest) c.loop-last.invariant c.in-Some-body_follows.left.now (left c.in-Some-body_follows.inside)
+    (left c.in_ok-rule.behind) c.in_ok-rule.rule c.push.new.self.items c.in-Some-body_follows.ensures
+    c.in_ok-rule.ensures c.in_ok-push.ensures.items
+
+pub returns : goal.returns
+returns c = rules_end (left c.args.words) c.loop-last.rules.items (last_of c.loop-last.last) (left c.loop-last.rest)
+    c.loop-last.invariant c.loop-last-test.ensures

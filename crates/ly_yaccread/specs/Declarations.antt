@@ -1,0 +1,72 @@
+-- The declarations of a yacc file (POSIX, XCU yacc, "Declarations Section").
+use Rattle.std.specs.Prelude.{◌≡◌, ◌≢◌, ◌⊎◌, ℕ, List, [], ◌∷◌, ◌++◌, Option, Some, None, codes}
+use Rattle.ly_yaccread.specs.Symbols.{SymbolList}
+use Rattle.ly_yaccread.specs.Words.{Word, mark, directive, name, block, braces}
+use Rattle.ly_yaccread.specs.declared.declaration.Directive.{Directive}
+use Rattle.ly_yaccread.specs.declared.declaration.Directive.TheVariants.{Tokens, Types, Start, Union}
+use Rattle.ly_yaccread.specs.declared.file.DeclarationKind.{DeclarationKind}
+use Rattle.ly_yaccread.specs.declared.file.DeclarationKind.TheVariants.{Token, Left, Right, Nonassociative}
+use Rattle.ly_yaccread.specs.declared.listing.Listing.TheVariants.{Plain, Numbered}
+use Rattle.ly_yaccread.specs.declared.words.Mark.TheVariants.{Section}
+
+-- what stands behind the `%` of a directive
+abbrev pub directive_name : Directive → List ℕ
+directive_name (Tokens Token) = codes "token"
+directive_name (Tokens Left) = codes "left"
+directive_name (Tokens Right) = codes "right"
+directive_name (Tokens Nonassociative) = codes "nonassoc"
+directive_name Types = codes "type"
+directive_name Start = codes "start"
+directive_name Union = codes "union"
+
+-- What a declaration says: what these tokens are, where the grammar starts, or nothing that is used.
+pub data Saying : Type 0 where
+  tokens : DeclarationKind → List Word → Saying
+  start : List ℕ → Saying
+  nothing : Saying
+
+-- what stands behind a directive, what the declaration says, and the rest
+abbrev pub FollowsDirective : Directive → List Word → Saying → List Word → Type 0
+FollowsDirective (Tokens k) ws s rest = (xs : List Word) × SymbolList Numbered ws xs rest × (s ≡ tokens k xs)
+FollowsDirective Types ws s rest = (xs : List Word) × SymbolList Plain ws xs rest × (s ≡ nothing)
+FollowsDirective Start ws s rest = (n : List ℕ) × (ws ≡ name n ∷ rest) × (n ≢ codes "error") × (s ≡ start n)
+FollowsDirective Union ws s rest = (ws ≡ braces ∷ rest) × (s ≡ nothing)
+
+-- a declaration, what it says, and the rest: a block, or a directive and what follows it
+abbrev pub Declares : List Word → Saying → List Word → Type 0
+Declares ws s rest = ((ws ≡ block ∷ rest) × (s ≡ nothing))
+    ⊎ ((d : Directive) × (behind : List Word) × (ws ≡ directive (directive_name d) ∷ behind)
+    × FollowsDirective d behind s rest)
+
+-- Tokens that are declared together.
+pub record Declared : Type 0 where
+  pub kind : DeclarationKind
+  pub symbols : List Word
+
+-- What declarations say together.
+pub record Preamble : Type 0 where
+  pub declarations : List Declared
+  pub start : Option (List ℕ)
+
+-- before any declaration
+abbrev pub no_preamble : Preamble
+no_preamble = record { declarations = []; start = None }
+
+-- where the grammar starts is said once
+abbrev pub with_start : List Declared → Option (List ℕ) → List ℕ → Option Preamble
+with_start ds None n = Some (record { declarations = ds; start = Some n })
+with_start ds (Some m) n = None
+
+-- what is said with one declaration more
+abbrev pub with_saying : Preamble → Saying → Option Preamble
+with_saying h (tokens k xs)
+    = Some (record { declarations = h.declarations ++ record { kind = k; symbols = xs } ∷ []; start = h.start })
+with_saying h (start n) = with_start h.declarations h.start n
+with_saying h nothing = Some h
+
+-- the declarations up to the first `%%`, which go on from what was said before them, what is said in the end, and
+-- the rest
+pub data Declarations : Preamble → List Word → Preamble → List Word → Type 0 where
+  end : (h : Preamble) (rest : List Word) → Declarations h (mark Section ∷ rest) h rest
+  more : (h i all : Preamble) (ws behind rest : List Word) (s : Saying) → Declares ws s behind
+      → with_saying h s ≡ Some i → Declarations i behind all rest → Declarations h ws all rest

@@ -1,0 +1,53 @@
+-- What a yacc file says, whatever room its lists have.
+use Rattle.std.specs.Prelude.{List, map}
+use Rattle.std.specs.Option.{option_map}
+use Rattle.ly_yaccread.specs.Actions.{Making, default, pass, build}
+use Rattle.ly_yaccread.specs.Declarations.{Declared, Preamble}
+use Rattle.ly_yaccread.specs.Rules.{Ruling}
+use Rattle.ly_yaccread.specs.Words.{Word, name, literal}
+use Rattle.ly_yaccread.specs.declared.file.Action.{Action}
+use Rattle.ly_yaccread.specs.declared.file.Action.TheVariants.{Default, Pass, Build}
+use Rattle.ly_yaccread.specs.declared.file.Declaration.{Declaration}
+use Rattle.ly_yaccread.specs.declared.file.Production.{Production}
+use Rattle.ly_yaccread.specs.declared.file.Symbol.{Symbol}
+use Rattle.ly_yaccread.specs.declared.file.Symbol.TheVariants.{Name, Literal}
+use Rattle.ly_yaccread.specs.declared.file.YaccFile.{YaccFile}
+
+-- the word that names a symbol
+abbrev pub symbol_word : Symbol → Word
+symbol_word (Name n) = name n.items
+symbol_word (Literal b) = literal b
+
+abbrev pub symbol_words : List Symbol → List Word
+symbol_words symbols = map symbol_word symbols
+
+-- what an action makes
+abbrev pub making_of : Action → Making
+making_of Default = default
+making_of (Pass p) = pass p
+making_of (Build n ps) = build n.items ps.items
+
+-- a rule
+abbrev pub ruling_of : Production → Ruling
+ruling_of p = record {
+  left = p.left.items;
+  body = symbol_words p.body.items;
+  precedence = option_map symbol_word p.precedence;
+  making = making_of p.action;
+}
+
+-- tokens that are declared together
+abbrev pub declared_of : Declaration → Declared
+declared_of d = record { kind = d.kind; symbols = symbol_words d.symbols.items }
+
+-- What a yacc file says: its declarations and start, and its rules.
+pub record Written : Type 0 where
+  pub preamble : Preamble
+  pub rules : List Ruling
+
+-- what a value of a yacc file says
+abbrev pub written_of : YaccFile → Written
+written_of f = record {
+  preamble = record { declarations = map declared_of f.declarations.items; start = option_map (λ n. n.items) f.start };
+  rules = map ruling_of f.rules.items;
+}

@@ -1,0 +1,59 @@
+-- The rules of a yacc file (POSIX, XCU yacc, "Grammar Rules in yacc").
+use Rattle.std.specs.Prelude.{◌≡◌, ◌≢◌, ◌⊎◌, ℕ, List, [], ◌∷◌, Option, Some, None, codes, length}
+use Rattle.ly_yaccread.specs.Actions.{Making, default, ActionPassed}
+use Rattle.ly_yaccread.specs.Symbols.{SymbolFirst, Symbols}
+use Rattle.ly_yaccread.specs.Words.{Word, mark, directive, name}
+use Rattle.ly_yaccread.specs.declared.listing.Listing.TheVariants.{Plain}
+use Rattle.ly_yaccread.specs.declared.words.Mark.TheVariants.{Section, Colon, Bar, Semicolon}
+
+-- The symbol behind the `%prec` that comes first, and the rest; none, and all, where no `%prec` does.
+abbrev pub PrecedencePassed : List Word → Option Word → List Word → Type 0
+PrecedencePassed ws (Some x) rest = (behind : List Word) × (ws ≡ directive (codes "prec") ∷ behind)
+    × SymbolFirst behind x rest
+PrecedencePassed ws None rest = ((s : List Word) → ws ≢ directive (codes "prec") ∷ s) × (ws ≡ rest)
+
+-- an action may stand behind a `%prec` where none stood before it
+abbrev pub LateAction : ℕ → Making → Option Word → List Word → Making → List Word → Type 0
+LateAction symbols default (Some x) ws m rest = ActionPassed symbols ws m rest
+LateAction symbols early _ ws m rest = (m ≡ early) × (ws ≡ rest)
+
+-- Behind the symbols of a body: perhaps an action, and perhaps a `%prec`.
+pub record BodyEnd (symbols : ℕ) (ws : List Word) (precedence : Option Word) (making : Making) (rest : List Word)
+    : Type 0 where
+  pub early : Making
+  pub behind : List Word
+  pub action : ActionPassed symbols ws early behind
+  pub left : List Word
+  pub has_precedence : PrecedencePassed behind precedence left
+  pub late : LateAction symbols early precedence left making rest
+
+-- A rule: its left side, the symbols of its body, the symbol behind `%prec`, and what its tree is.
+pub record Ruling : Type 0 where
+  pub left : List ℕ
+  pub body : List Word
+  pub precedence : Option Word
+  pub making : Making
+
+-- A body, the rule of this left side that it makes, and the rest.
+pub record Body (n : List ℕ) (ws : List Word) (r : Ruling) (rest : List Word) : Type 0 where
+  pub same_left : r.left ≡ n
+  pub behind : List Word
+  pub symbols : Symbols Plain ws r.body behind
+  pub body_end : BodyEnd (length r.body) behind r.precedence r.making rest
+
+-- A body of this left side follows: behind the name and a `:`, or behind a `|` where it was the last left side.
+abbrev pub BodyFollows : Option (List ℕ) → List Word → List ℕ → List Word → Type 0
+BodyFollows last ws n behind = ((ws ≡ name n ∷ mark Colon ∷ behind) × (n ≢ codes "error"))
+    ⊎ ((last ≡ Some n) × (ws ≡ mark Bar ∷ behind))
+
+-- the words are over, or the second `%%` comes first
+abbrev pub AreRulesOver : List Word → Type 0
+AreRulesOver ws = (ws ≡ []) ⊎ ((rest : List Word) × (ws ≡ mark Section ∷ rest))
+
+-- The rules go on from the last left side: they are over, or a rule comes, or a `;` behind rules.
+pub data YaccRules : Option (List ℕ) → List Word → List Ruling → Type 0 where
+  end : (last : Option (List ℕ)) (ws : List Word) → AreRulesOver ws → YaccRules last ws []
+  rule : (last : Option (List ℕ)) (n : List ℕ) (ws behind rest : List Word) (r : Ruling) (rs : List Ruling)
+      → BodyFollows last ws n behind → Body n behind r rest → YaccRules (Some n) rest rs → YaccRules last ws (r ∷ rs)
+  semicolon : (n : List ℕ) (ws : List Word) (rs : List Ruling) → YaccRules (Some n) ws rs
+      → YaccRules (Some n) (mark Semicolon ∷ ws) rs

@@ -1,0 +1,105 @@
+ghost use Rattle.std.specs.Prelude.{◌≡◌, ◌≢◌, ◌∷◌, List, MatchOption};
+ghost use Rattle.ly_yaccread.specs.Declarations.{Declares, directive_name};
+ghost use Rattle.ly_yaccread.specs.Private.Read.{IsFound, left as words_left, saying_of};
+ghost use Rattle.ly_yaccread.specs.Words.{Word, directive as directive_word};
+
+use crate::cursor::{Cursor, is};
+use crate::expected::Expected;
+use crate::fault::YaccFault;
+use crate::file::{Declaration, DeclarationKind};
+use crate::listing::Listing;
+use crate::symbols::read_symbol_list;
+use std::alloc::Global;
+
+/// What stands behind the `%` of a declaration.
+#[derive(Clone, Copy)]
+pub(crate) enum Directive {
+    /// A kind of tokens.
+    Tokens(DeclarationKind),
+    /// `type`.
+    Types,
+    /// `start`.
+    Start,
+    /// `union`.
+    Union,
+}
+
+/// What a declaration says.
+#[derive(Drop)]
+pub(crate) enum Said {
+    /// What these tokens are.
+    Tokens(Declaration),
+    /// The name of the nonterminal where the grammar starts.
+    Start(Vec<u8>),
+    /// Nothing that is used.
+    Nothing,
+}
+
+/// Reads a declaration, and answers what it says and what is left behind it.
+pub(crate) fn read_declaration(
+    alloc: Global,
+    words: Cursor<'_>,
+) -> Result<(Said, Cursor<'_>), YaccFault>
+    ensures { IsFound (Declares (words_left words.entry)) (λ found. saying_of found.0) (λ found. words_left found.1)
+        result }
+{
+    if let Some(rest) = words.block() {
+        return Ok((Said::Nothing, rest));
+    }
+    let Some((directive, behind)) = directive_first(words) else {
+        return Err(words.fault(Expected::Declaration));
+    };
+    match directive {
+        Directive::Tokens(kind) => {
+            let (symbols, rest) = read_symbol_list(alloc, behind, Listing::Numbered)?;
+            Ok((Said::Tokens(Declaration { kind, symbols }), rest))
+        }
+        Directive::Types => {
+            let (_symbols, rest) = read_symbol_list(alloc, behind, Listing::Plain)?;
+            Ok((Said::Nothing, rest))
+        }
+        Directive::Start => match behind.name() {
+            Some((name, rest)) => Ok((Said::Start(Vec::from_slice(alloc, name)?), rest)),
+            None => Err(behind.fault(Expected::Declaration)),
+        },
+        Directive::Union => match behind.braces() {
+            Some(rest) => Ok((Said::Nothing, rest)),
+            None => Err(behind.fault(Expected::Braces)),
+        },
+    }
+}
+
+/// The directive that comes first, and what is left behind it.
+fn directive_first(words: Cursor<'_>) -> Option<(Directive, Cursor<'_>)>
+    ensures { MatchOption result ((d : Directive) (rest : List Word)
+        → words_left words.entry ≢ directive_word (directive_name d) ∷ rest)
+        (λ found. words_left words.entry ≡ directive_word (directive_name found.0) ∷ words_left found.1) }
+{
+    let (name, rest) = words.directive()?;
+    Some((directive_named(name)?, rest))
+}
+
+/// The directive of this name.
+fn directive_named(name: &[u8]) -> Option<Directive>
+    ensures { MatchOption result ((d : Directive) → name.now ≢ directive_name d) (λ d. name.now ≡ directive_name d) }
+{
+    if is(name, b"token") {
+        return Some(Directive::Tokens(DeclarationKind::Token));
+    }
+    if is(name, b"left") {
+        return Some(Directive::Tokens(DeclarationKind::Left));
+    }
+    if is(name, b"right") {
+        return Some(Directive::Tokens(DeclarationKind::Right));
+    }
+    if is(name, b"nonassoc") {
+        return Some(Directive::Tokens(DeclarationKind::Nonassociative));
+    }
+    if is(name, b"type") {
+        return Some(Directive::Types);
+    }
+    if is(name, b"start") {
+        return Some(Directive::Start);
+    }
+    is(name, b"union").then_some(Directive::Union)
+}

@@ -1,0 +1,69 @@
+ghost use Rattle.std.specs.Prelude.{◌≡◌, ◌≢◌, MatchBool};
+ghost use Rattle.ly_yaccread.specs.Private.Words.{IsPartWord, word_of};
+ghost use Rattle.ly_yaccread.specs.Words.{part_behind};
+ghost use Rattle.ly_yaccread.specs.declared.part.Part.TheVariants.{Declarations, Programs};
+
+use crate::words::{Mark, NextWord, next_word};
+use ly_base::{after_block, after_braces};
+
+/// A part of a yacc file: each but the last ends with a `%%`.
+#[derive(Clone, Copy)]
+pub(crate) enum Part {
+    /// What the symbols are.
+    Declarations,
+    /// The rules of the grammar.
+    Rules,
+    /// What follows the rules, which isn't used.
+    Programs,
+}
+
+impl Part {
+    /// Whether blocks and what stands between braces are words here.
+    fn has_blocks(self) -> bool
+        ensures { MatchBool result (self ≡ Declarations) (self ≢ Declarations) }
+    {
+        matches!(self, Part::Declarations)
+    }
+
+    /// Whether everything is free here.
+    pub(crate) fn is_free(self) -> bool
+        ensures { MatchBool result (self ≡ Programs) (self ≢ Programs) }
+    {
+        matches!(self, Part::Programs)
+    }
+
+    /// The part that stands behind a word.
+    pub(crate) fn behind(self, word: NextWord<'_>) -> Part
+        ensures { result ≡ part_behind self (word_of word.entry) }
+    {
+        match (self, word) {
+            (Part::Declarations, NextWord::Mark(Mark::Section)) => Part::Rules,
+            (Part::Rules, NextWord::Mark(Mark::Section)) => Part::Programs,
+            _ => self,
+        }
+    }
+
+    /// The word behind the gap at the front of a text in this part, and what stands behind it.
+    pub(crate) fn word(self, text: &[u8]) -> (NextWord<'_>, &[u8])
+        ensures { IsPartWord self text.now result.0 result.1.now }
+    {
+        let (word, rest) = next_word(text);
+        let NextWord::Mark(mark) = word else {
+            return (word, rest);
+        };
+        if !self.has_blocks() {
+            return (word, rest);
+        }
+        match mark {
+            Mark::Block => match after_block(rest) {
+                Some(behind) => (NextWord::Block, behind),
+                None => (NextWord::Other, rest),
+            },
+            Mark::OpenBrace => match after_braces(rest) {
+                Some(behind) => (NextWord::Braces, behind),
+                None => (NextWord::Other, rest),
+            },
+            _ => (word, rest),
+        }
+    }
+}

@@ -1,0 +1,103 @@
+ghost use Rattle.std.specs.Prelude.{◌≡◌, ◌≢◌, ◌∷◌, List, Option, codes, MatchBool, MatchOption};
+ghost use Rattle.std.specs.Option.{option_map};
+ghost use Rattle.ly_yaccread.specs.Actions.{default, Making};
+ghost use Rattle.ly_yaccread.specs.File.{making_of, ruling_of, symbol_word};
+ghost use Rattle.ly_yaccread.specs.Private.Read.{IsFound, left as words_left};
+ghost use Rattle.ly_yaccread.specs.Rules.{Body, BodyEnd as EndsBody, PrecedencePassed};
+ghost use Rattle.ly_yaccread.specs.Words.{Word, directive as directive_word};
+
+use crate::action::read_action;
+use crate::cursor::{Cursor, is};
+use crate::expected::Expected;
+use crate::fault::YaccFault;
+use crate::file::{Action, Production, Symbol};
+use crate::listing::Listing;
+use crate::symbols::{read_symbols, symbol_first};
+use std::alloc::Global;
+
+/// What stands behind the symbols of a body.
+#[derive(Drop)]
+pub(crate) struct BodyEnd {
+    /// The symbol behind `%prec`, where it stands.
+    precedence: Option<Symbol>,
+    /// The action.
+    action: Action,
+}
+
+/// Reads a body, and answers the rule of this left side that it makes, and what is left behind it.
+pub(crate) fn read_rule<'t>(
+    alloc: Global,
+    left: &[u8],
+    words: Cursor<'t>,
+) -> Result<(Production, Cursor<'t>), YaccFault>
+    ensures { IsFound (Body left.now (words_left words.entry)) (λ found. ruling_of found.0)
+        (λ found. words_left found.1) result }
+{
+    let (body, behind) = read_symbols(alloc, words, Listing::Plain)?;
+    let (end, rest) = read_body_end(alloc, behind, body.len())?;
+    let left = Vec::from_slice(alloc, left)?;
+    let BodyEnd { precedence, action } = end;
+    Ok((
+        Production {
+            left,
+            body,
+            precedence,
+            action,
+        },
+        rest,
+    ))
+}
+
+/// Reads what stands behind the symbols of a body, of which there are so many: perhaps an action, perhaps a
+/// `%prec`, and behind that an action where none stood before it.
+fn read_body_end(
+    alloc: Global,
+    words: Cursor<'_>,
+    symbols: usize,
+) -> Result<(BodyEnd, Cursor<'_>), YaccFault>
+    ensures { IsFound (λ (x : Option Word × Making). EndsBody symbols (words_left words.entry) x.0 x.1)
+        (λ found. (option_map symbol_word found.0.precedence, making_of found.0.action)) (λ found. words_left found.1)
+        result }
+{
+    let (early, behind) = read_action(alloc, words, symbols)?;
+    let (precedence, left) = read_precedence(alloc, behind)?;
+    if precedence.is_none() || !is_default(&early) {
+        let action = early;
+        return Ok((BodyEnd { precedence, action }, left));
+    }
+    let (action, rest) = read_action(alloc, left, symbols)?;
+    Ok((BodyEnd { precedence, action }, rest))
+}
+
+/// Whether no action stood.
+pub(crate) fn is_default(action: &Action) -> bool
+    ensures { MatchBool result (making_of action.now ≡ default) (making_of action.now ≢ default) }
+{
+    matches!(action, Action::Default)
+}
+
+/// Reads the `%prec` that comes first and its symbol; none, and all is left, where no `%prec` does.
+fn read_precedence(
+    alloc: Global,
+    words: Cursor<'_>,
+) -> Result<(Option<Symbol>, Cursor<'_>), YaccFault>
+    ensures { IsFound (PrecedencePassed (words_left words.entry)) (λ found. option_map symbol_word found.0)
+        (λ found. words_left found.1) result }
+{
+    let Some(behind) = after_prec(words) else {
+        return Ok((None, words));
+    };
+    match symbol_first(behind) {
+        Some((symbol, rest)) => Ok((Some(symbol.owned(alloc)?), rest)),
+        None => Err(behind.fault(Expected::Rule)),
+    }
+}
+
+/// What is left behind the `%prec` that comes first.
+fn after_prec(words: Cursor<'_>) -> Option<Cursor<'_>>
+    ensures { MatchOption result ((rest : List Word) → words_left words.entry ≢ directive_word (codes "prec") ∷ rest)
+        (λ rest. words_left words.entry ≡ directive_word (codes "prec") ∷ words_left rest) }
+{
+    let (name, rest) = words.directive()?;
+    is(name, b"prec").then_some(rest)
+}

@@ -1,0 +1,83 @@
+ghost use Rattle.std.specs.Prelude.{◌≡◌, ◌≢◌, ◌∷◌, ℕ, List, Some, None, map, MatchBool, MatchOption};
+ghost use Rattle.std.specs.Prelude.{MatchResult};
+ghost use Rattle.ly_yaccread.specs.File.{ruling_of};
+ghost use Rattle.ly_yaccread.specs.Private.Read.{last_of, left as words_left};
+ghost use Rattle.ly_yaccread.specs.Rules.{AreRulesOver, BodyFollows, Ruling, YaccRules};
+ghost use Rattle.ly_yaccread.specs.Words.{Word, mark as mark_word};
+ghost use Rattle.ly_yaccread.specs.declared.fault.YaccFault.TheVariants.{OutOfMemory};
+ghost use Rattle.ly_yaccread.specs.declared.words.Mark.TheVariants.{Semicolon};
+
+use crate::cursor::Cursor;
+use crate::expected::Expected;
+use crate::fault::YaccFault;
+use crate::file::Production;
+use crate::rule::{is_default, read_rule};
+use crate::words::Mark;
+use std::alloc::Global;
+
+/// Reads the rules.
+pub(crate) fn read_rules(alloc: Global, words: Cursor<'_>) -> Result<Vec<Production>, YaccFault>
+    ensures { MatchResult result (λ rules. YaccRules None (words_left words.entry) (map ruling_of rules.items))
+        (λ fault. fault ≢ OutOfMemory → (rs : List Ruling) → YaccRules None (words_left words.entry) rs → ⊥) }
+{
+    let mut rules = Vec::new(alloc);
+    let mut last = None;
+    let mut expected = Expected::Rule;
+    let mut rest = words;
+    while !is_over(rest) {
+        if let Some(behind) = after_semicolon(rest, last) {
+            expected = Expected::Rule;
+            rest = behind;
+            continue;
+        }
+        let Some((left, inside)) = body_follows(rest, last) else {
+            return Err(rest.fault(expected));
+        };
+        let (rule, behind) = read_rule(alloc, left, inside)?;
+        expected = Expected::behind(&rule);
+        rules.push(rule)?;
+        last = Some(left);
+        rest = behind;
+    }
+    Ok(rules)
+}
+
+impl Expected {
+    /// What is to stand behind a rule.
+    fn behind(rule: &Production) -> Expected {
+        if is_default(&rule.action) {
+            Expected::Rule
+        } else {
+            Expected::RuleEnd
+        }
+    }
+}
+
+/// Whether no word is left, or the second `%%` comes first.
+fn is_over(words: Cursor<'_>) -> bool
+    ensures { MatchBool result (AreRulesOver (words_left words.entry)) (AreRulesOver (words_left words.entry) → ⊥) }
+{
+    words.next().is_none() || words.after(Mark::Section).is_some()
+}
+
+/// What is left behind the `;` that comes first, where a rule stood before it.
+fn after_semicolon<'t>(words: Cursor<'t>, last: Option<&[u8]>) -> Option<Cursor<'t>>
+    ensures { MatchOption result ((n : List ℕ) (rest : List Word) → last_of last.entry ≡ Some n
+        → words_left words.entry ≢ mark_word Semicolon ∷ rest)
+        (λ rest. (last_of last.entry ≢ None) × (words_left words.entry ≡ mark_word Semicolon ∷ words_left rest)) }
+{
+    let _name = last?;
+    words.after(Mark::Semicolon)
+}
+
+/// The left side of the body that follows, and what is left where the body begins.
+fn body_follows<'t>(words: Cursor<'t>, last: Option<&'t [u8]>) -> Option<(&'t [u8], Cursor<'t>)>
+    ensures { MatchOption result ((n : List ℕ) (rest : List Word)
+        → BodyFollows (last_of last.entry) (words_left words.entry) n rest → ⊥)
+        (λ found. BodyFollows (last_of last.entry) (words_left words.entry) found.0.now (words_left found.1)) }
+{
+    if let Some((name, behind)) = words.name() {
+        return Some((name, behind.after(Mark::Colon)?));
+    }
+    Some((last?, words.after(Mark::Bar)?))
+}
