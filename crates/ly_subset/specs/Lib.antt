@@ -1,0 +1,5 @@
+pub mod Automaton
+pub mod Classes
+pub mod Entry
+pub mod FaultNames
+pub mod Subsets
