@@ -1,1 +1,1 @@
-pub mod DfaLemmas
+pub mod ClassLemmas

@@ -8,9 +8,11 @@
 //! Left out: states that no string tells apart are still two.
 #![tactic(auto)]
 
+mod classes;
 mod dfa;
 mod entry;
 mod fault;
+mod keys;
 
 pub use dfa::Dfa;
 pub use fault::SubsetFault;

@@ -1,1 +1,0 @@
--- Lemmas on automata in memory.
