@@ -86,15 +86,15 @@ module _ (key : ℕ → ℕ) (n : ℕ) (class_of : List ℕ) (names : List (Opti
   pub named_known : (c : ℕ) → entry_at names (key n) ≡ Some c → AreNamed key (n + 1) (set class_of n c) names count
   named_known c e = record {
     named = below_more (λ k. entry_at names (key k) ≡ Some (class_at (set class_of n c) k)) n
-      (λ k l. so.named k l ∙ ap (λ x. Some x) (sym (earlier c k l))) (e ∙ ap (λ x. Some x) (sym (here c)));
+        (λ k l. so.named k l ∙ ap (λ x. Some x) (sym (earlier c k l))) (e ∙ ap (λ x. Some x) (sym (here c)));
     comes = λ j d f. let h = so.comes j d f in (h.0, omega (arith, h.1), h.2);
     one = so.one;
     below = so.below;
     each = λ d l. each_more c d (so.each d l);
     in_order = order_more c (λ t f. let at = so.comes (key n) c e in
-      let same : class_at class_of at.0 ≡ c = same_Some _ _ (sym (so.named at.0 at.1) ∙ ap (entry_at names) at.2 ∙ e) in
-      let h = so.in_order at.0 t at.1 (same ∙ f) in
-      (h.0, omega (arith, h.1, at.1), h.2));
+        let same : class_at class_of at.0 ≡ c = same_Some _ _ (sym (so.named at.0 at.1) ∙ ap (entry_at names) at.2 ∙ e) in
+        let h = so.in_order at.0 t at.1 (same ∙ f) in
+        (h.0, omega (arith, h.1, at.1), h.2));
     few = let few = so.few in omega (arith, few);
   }
 
@@ -127,10 +127,10 @@ module _ (key : ℕ → ℕ) (n : ℕ) (class_of : List ℕ) (names : List (Opti
     pub named_new : AreNamed key (n + 1) (set class_of n count) (set names (key n) (Some count)) (count + 1)
     named_new = record {
       named = below_more (λ k. entry_at (set names (key n) (Some count)) (key k)
-        ≡ Some (class_at (set class_of n count) k)) n
-        (λ k l. other (key k) (apart (key k) _ (so.named k l)) ∙ so.named k l
-        ∙ ap (λ x. Some x) (sym (earlier count k l)))
-        (given ∙ ap (λ x. Some x) (sym (here count)));
+          ≡ Some (class_at (set class_of n count) k)) n
+          (λ k l. other (key k) (apart (key k) _ (so.named k l)) ∙ so.named k l
+          ∙ ap (λ x. Some x) (sym (earlier count k l)))
+          (given ∙ ap (λ x. Some x) (sym (here count)));
       comes = λ j c e. elim (was j c e) [
         | inl before ↦ let h = so.comes j c before in (h.0, omega (arith, h.1), h.2)
         | inr now ↦ (n, omega arith, sym now.0)
@@ -153,12 +153,14 @@ pub split_named : (old : List ℕ) (test : ℕ → Bool) (new : List ℕ) (names
     → length new ≡ 256 → AreNamed (key_by old test) 256 new names count → IsSplit old test new
 split_named old test new names count bytes so = record {
   bytes = bytes;
-  same = λ a b l m. (λ e. key_parts (class_at old a) (class_at old b) (test a) (test b)
-      (so.one (key_by old test a) (key_by old test b) (class_at new b)
-      (so.named a l ∙ ap (λ x. Some x) e) (so.named b m)),
+  same = λ a b l m. (
+    λ e. key_parts (class_at old a) (class_at old b) (test a) (test b)
+        (so.one (key_by old test a) (key_by old test b) (class_at new b)
+        (so.named a l ∙ ap (λ x. Some x) e) (so.named b m)),
     λ e. same_Some (class_at new a) (class_at new b) (sym (so.named a l)
-      ∙ ap (entry_at names) (let same : key_by old test a ≡ key_by old test b = keys a b e.0 e.1 in same)
-      ∙ so.named b m));
+        ∙ ap (entry_at names) (let same : key_by old test a ≡ key_by old test b = keys a b e.0 e.1 in same)
+        ∙ so.named b m),
+  );
   in_order = λ before k t l. so.in_order k t (omega (arith, l, bytes));
 }
   where
@@ -194,6 +196,16 @@ same_tests true t h = sym (h.0 refl)
 same_tests false true h = h.1 refl
 same_tests false false h = refl
 
+-- a position reads bytes
+reads_byte : (n : Nfa) (p : ℕ) (place : Position) (b : ℕ)
+    → slice_get n.positions p ≡ Some (position_from place (follow_of (position_of n p))) → Reads n p b → b < 256
+reads_byte n p place b e h = by place (subst (λ (x : nfa.Position). Contains (bytes_of x) b)
+    (get_or_from_slice_get n.positions p (position_from place (follow_of (position_of n p))) (nfa.reading [] []) e) h)
+  where
+    by : (place : Position) → Contains (bytes_of (position_from place (follow_of (position_of n p)))) b → b < 256
+    by (position.Reads bytes) h = ((members_contain bytes b).0 h).0
+    by (position.Ends rule) h = Contains-none b h
+
 -- all bytes are of one class before any position splits them
 pub split_by_none : (n : Nfa) (class_of : List ℕ) → length class_of ≡ 256 → ((b : ℕ) → b < 256 → class_at class_of b ≡ 0)
     → IsSplitBy n 0 class_of
@@ -201,6 +213,7 @@ split_by_none n class_of bytes zeros = record {
   bytes = bytes;
   same = λ a b l m. (λ e p less. absurd (omega (arith, less)), λ h. zeros a l ∙ sym (zeros b m));
   in_order = λ k t l e. absurd (omega (arith, e, zeros k (omega (arith, l, bytes))));
+  read = λ p b l. absurd (omega (arith, l));
 }
 
 -- one position more splits them
@@ -209,14 +222,20 @@ pub split_by_more : (n : Nfa) (p : ℕ) (old new : List ℕ) (place : Position)
     → IsSplit old (reads_in place) new → IsSplitBy n (p + 1) new
 split_by_more n p old new place there before split = record {
   bytes = split.bytes;
-  same = λ a b l m. (λ e. let both = (split.same a b l m).0 e in
-      below_more (λ q. Reads n q a ↔ Reads n q b) p ((before.same a b l m).0 both.0)
-      (let ra = reads_as n p place a l there in let rb = reads_as n p place b m there in
-      (λ h. rb.1 (sym both.1 ∙ ra.0 h), λ h. ra.1 (both.1 ∙ rb.0 h))),
+  same = λ a b l m. (
+    λ e. let both = (split.same a b l m).0 e in
+        below_more (λ q. Reads n q a ↔ Reads n q b) p ((before.same a b l m).0 both.0)
+        (let ra = reads_as n p place a l there in let rb = reads_as n p place b m there in
+        (λ h. rb.1 (sym both.1 ∙ ra.0 h), λ h. ra.1 (both.1 ∙ rb.0 h))),
     λ h. let ra = reads_as n p place a l there in let rb = reads_as n p place b m there in
-      (split.same a b l m).1 ((before.same a b l m).1 (λ q less. h q (omega (arith, less))),
-      same_tests _ _ (λ e. rb.0 ((h p (omega arith)).0 (ra.1 e)), λ e. ra.0 ((h p (omega arith)).1 (rb.1 e)))));
+        (split.same a b l m).1 (
+          (before.same a b l m).1 (λ q less. h q (omega (arith, less))),
+          same_tests _ _ (λ e. rb.0 ((h p (omega arith)).0 (ra.1 e)), λ e. ra.0 ((h p (omega arith)).1 (rb.1 e))),
+        ),
+  );
   in_order = split.in_order before.in_order;
+  read = λ q b l. below_more (λ r. Reads n r b → b < 256) p (λ r less. before.read r b less) (reads_byte n p place b there)
+      q l;
 }
 
 -- no position past the last reads a byte
@@ -241,14 +260,20 @@ pub classes_of : (n : Nfa) (class_of least : List ℕ) → IsSplitBy n (length n
     → AreLeast class_of least → AreClasses n class_of (length least)
 classes_of n class_of least split are_least = record {
   bytes = split.bytes;
-  alike = λ a b l m. (λ e p. elim (cases_lt p (length n.positions)) [
+  alike = λ a b l m. (
+    λ e p. elim (cases_lt p (length n.positions)) [
       | inl less ↦ (split.same a b l m).0 e p less
       | inr past ↦ (λ h. reads_none n p a past h, λ h. reads_none n p b past h)
     ],
-    λ h. (split.same a b l m).1 (λ p less. h p));
+    λ h. (split.same a b l m).1 (λ p less. h p),
+  );
   within = are_least.within;
   used = λ c l. (get_or least c 0, are_least.byte c l, are_least.in_class c l);
   in_order = appear class_of split.in_order;
+  read = λ p b h. elim (cases_lt p (length n.positions)) [
+    | inl less ↦ split.read p b less h
+    | inr past ↦ reads_none n p b past h
+  ];
 }
 
 -- The classes of the first n bytes have their least bytes.
@@ -262,7 +287,7 @@ pub least_new : (class_of : List ℕ) (n : ℕ) (least : List ℕ) → IsLeastOf
     → class_at class_of n ≡ length least → IsLeastOf class_of (n + 1) (least ++ n ∷ [])
 least_new class_of n least so e = record {
   within = below_more (λ b. class_at class_of b < length (least ++ n ∷ [])) n
-    (λ b l. rw (length_push least n) (omega (arith, so.within b l))) (rw (length_push least n) (omega (arith, e)));
+      (λ b l. rw (length_push least n) (omega (arith, so.within b l))) (rw (length_push least n) (omega (arith, e)));
   byte = λ c l. elim (cases_lt c (length least)) [
     | inl less ↦ rw (get_or_append_left least (n ∷ []) 0 c less) (omega (arith, so.byte c less))
     | inr past ↦ rw (get_or_push least n 0 c (last c l past)) (omega arith)

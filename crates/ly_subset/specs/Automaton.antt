@@ -30,7 +30,7 @@ start_place condition line = 2 * condition + (if line then 1 else 0)
 -- the start state of a condition, if it has one
 abbrev pub start_of : Automaton → ℕ → Bool → Option ℕ
 start_of A condition line = if nat_lt (start_place condition line) A.starts
-  then entry_at A.entries (start_place condition line) else None
+    then entry_at A.entries (start_place condition line) else None
 
 -- where a class leads from a state
 abbrev pub next_by_class : Automaton → ℕ → ℕ → Option ℕ

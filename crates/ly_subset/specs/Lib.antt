@@ -2,5 +2,6 @@ pub mod Automaton
 pub mod Classes
 pub mod Entry
 pub mod FaultNames
+pub mod Laws
 pub mod Private
 pub mod Subsets

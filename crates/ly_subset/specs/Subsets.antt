@@ -24,12 +24,12 @@ IsLeastRule P (Some i) = P i × ((j : ℕ) → P j → i ≤ j)
 abbrev pub HasEnd : Nfa → List ℕ → ℕ → Type 0
 HasEnd nfa set i = (p : ℕ) × Contains set p × IsEnd nfa p i
 
--- Sets with members, no two of which have the same.
-pub record AreSets (nfa : Nfa) (sets : List (List ℕ)) : Type 0 where
+-- Sets of numbers below a bound, each with a member and no two with the same.
+pub record AreSets (below : ℕ) (sets : List (List ℕ)) : Type 0 where
   pub some : (s : ℕ) → s < length sets → (q : ℕ) × Contains (set_at sets s) q
   pub apart : (s t : ℕ) → s < length sets → t < length sets
       → ((q : ℕ) → Contains (set_at sets s) q ↔ Contains (set_at sets t) q) → s ≡ t
-  pub within : (s q : ℕ) → Contains (set_at sets s) q → q < length nfa.positions
+  pub within : (s q : ℕ) → Contains (set_at sets s) q → q < below
 
 -- The states are the sets of positions that can come next after some string: starts lead to the start lists, the
 -- entry of a state at a byte to the positions that may come next once it is read. The rule of a state is the least that
@@ -37,11 +37,11 @@ pub record AreSets (nfa : Nfa) (sets : List (List ℕ)) : Type 0 where
 pub record AreSubsets (nfa : Nfa) (conditions : ℕ) (A : Automaton) : Type 0 where
   pub classes : AreClasses nfa A.class_of A.classes
   pub sets : List (List ℕ)
-  pub are_sets : AreSets nfa sets
+  pub are_sets : AreSets (length nfa.positions) sets
   pub count : length sets ≡ length A.rules
   pub two_starts : A.starts ≡ 2 * conditions
   pub starts : (c : ℕ) (line : Bool) → c < conditions → IsStateOf sets (start_of A c line) (Contains (starts_of nfa c line))
-  pub nexts : (s b : ℕ) → s < length sets → b < 256
+  pub nexts : (s b : ℕ) → s < length sets
       → IsStateOf sets (next_of A (Some s) b) (Stepped nfa (set_at sets s) b)
   pub rules : (s : ℕ) → s < length sets → IsLeastRule (HasEnd nfa (set_at sets s)) (rule_of A (Some s))
   pub breadth_first : IsBreadthFirst A

@@ -9,10 +9,16 @@
 #![tactic(auto)]
 
 mod classes;
+mod construct;
 mod dfa;
 mod entry;
 mod fault;
+mod found;
 mod keys;
+mod laws;
+mod rules;
 
+pub use construct::subsets;
 pub use dfa::Dfa;
 pub use fault::SubsetFault;
+pub use laws::{numbered_are_reached, subsets_are_trim, walks_agree};

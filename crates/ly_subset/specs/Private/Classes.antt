@@ -35,6 +35,7 @@ pub record IsSplitBy (nfa : Nfa) (n : ℕ) (class_of : List ℕ) : Type 0 where
   pub same : (a b : ℕ) → a < 256 → b < 256
       → (class_at class_of a ≡ class_at class_of b) ↔ ((p : ℕ) → p < n → Reads nfa p a ↔ Reads nfa p b)
   pub in_order : AreOrdered class_of
+  pub read : (p b : ℕ) → p < n → Reads nfa p b → b < 256
 
 -- what a byte is renamed by: its class, and whether it passes the test
 abbrev pub key_by : List ℕ → (ℕ → Bool) → ℕ → ℕ

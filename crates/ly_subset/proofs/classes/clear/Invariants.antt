@@ -6,5 +6,5 @@ use Rattle.ly_subset.proofs.classes.clear.Given as goal
 abbrev pub invariant-loop-key : goal.invariant-loop-key
 invariant-loop-key l = record {
   none : (k : ℕ) → k < l.key → entry_at l.names.items k ≡ None;
-  same : length l.names.items ≡ length l.initial.names.items
+  same : length l.names.items ≡ length l.initial.names.items;
 }

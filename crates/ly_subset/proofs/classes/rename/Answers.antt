@@ -46,7 +46,7 @@ loop-byte-preserved c =
         | in-None w ↦ ap (λ v. length v.items) w.names-is ∙ length-set names _ _ ∙ was.room
       ];
       rest = λ k l. get_or-set_other class_of n k c.match-index.class 0 (λ e. absurd (omega (arith, l, e)))
-        ∙ was.rest k (omega (arith, l));
+          ∙ was.rest k (omega (arith, l));
       named = elim c.match-index.branch [
         | in-Some w ↦ rw (ap (λ v. v.items) w.names-is, w.count-is, w.class-is)
             (named_known by n class_of names c.loop-byte.count fits was.named w.in-Some.class (sym read ∙ w.in-Some.is))

@@ -10,5 +10,5 @@ invariant-loop-byte l = record {
   bytes : length l.class_of.items ≡ 256;
   room : length l.names.items ≡ 512;
   rest : (k : ℕ) → l.byte ≤ k → class_at l.class_of.items k ≡ class_at l.initial.class_of.items k;
-  named : AreNamed (key_by l.initial.class_of.items (has l.bytes)) l.byte l.class_of.items l.names.items l.count
+  named : AreNamed (key_by l.initial.class_of.items (has l.bytes)) l.byte l.class_of.items l.names.items l.count;
 }

@@ -11,14 +11,14 @@ loop-number-init c =
     = c.in_ok-class_of.ensures.items_if_clones_equal (λ y h. h) in
     record {
       split = split_by_none c.args.nfa.now c.in_ok-class_of.class_of.items (sym c.in_ok-class_of.class_of.ok.0 ∙ c.in_ok-class_of.ensures.len)
-        (λ b l. ap (λ cs. class_at cs b) zeros ∙ get_or-replicate 256 b 0 0 l);
+          (λ b l. ap (λ cs. class_at cs b) zeros ∙ get_or-replicate 256 b 0 0 l);
       room = sym c.in_ok-names.names.ok.0 ∙ c.in_ok-names.ensures.len;
     }
 
 pub loop-number-preserved : goal.loop-number-preserved
 loop-number-preserved c = record {
   split = split_by_more c.args.nfa.now c.loop-number.number c.loop-number.class_of.items c.split.new.class_of.items
-    c.position.result c.position.ensures c.loop-number.invariant.split c.split.ensures.split;
+      c.position.result c.position.ensures c.loop-number.invariant.split c.split.ensures.split;
   room = c.split.ensures.names;
 }
 

@@ -6,5 +6,5 @@ use Rattle.ly_subset.proofs.classes.split_by_all.Given as goal
 abbrev pub invariant-loop-number : goal.invariant-loop-number
 invariant-loop-number l = record {
   split : IsSplitBy l.nfa l.number l.class_of.items;
-  room : length l.names.items ≡ 512
+  room : length l.names.items ≡ 512;
 }
