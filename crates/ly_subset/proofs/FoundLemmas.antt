@@ -15,12 +15,14 @@ use Rattle.ly_position.specs.Nfa.{Nfa, IsRoomFor, Stepped}
 use Rattle.ly_position.specs.declared.set.PositionSet.{PositionSet}
 use Rattle.ly_subset.specs.Entry.{target_of}
 use Rattle.ly_subset.specs.declared.found.Found.{Found}
-use Rattle.ly_subset.specs.Automaton.{AppearInOrder, entry_at}
+use Rattle.ly_subset.specs.Automaton.{entry_at}
 use Rattle.ly_subset.specs.Subsets.{AreSets, IsStateOf, set_at}
 use Rattle.ly_subset.specs.Private.Found.{AreFound, AreKept, IsEntered, IsFound, IsFull, IsNumbered, IsPast}
 use Rattle.ly_subset.specs.Private.Found.{targets_of}
-use Rattle.ly_subset.specs.Private.Keys.{IsAbsent, IsKeyOf}
+use Rattle.ly_subset.specs.Keys.{IsAbsent}
+use Rattle.ly_subset.specs.Private.Keys.{IsKeyOf}
 use Rattle.ly_subset.proofs.KeyLemmas.{rising_one}
+use Rattle.ly_subset.proofs.OrderLemmas.{each_entry, order_more, order_none}
 
 -- a list that isn't empty has a member
 pub some_member : (xs : List ℕ) (empty : Bool) → empty ≡ (length xs == 0) → empty ≡ false → (q : ℕ) × Contains xs q
@@ -109,13 +111,6 @@ numbered_none sets members e empty same = record {
   fresh = λ s less past. absurd (omega (arith, less, past));
 }
 
--- an entry that leads to a state is there
-pub entry_within : (entries : List (Option ℕ)) (k s : ℕ) → entry_at entries k ≡ Some s → k < length entries
-entry_within entries k s e = elim (cases_lt k (length entries)) [
-  | inl less ↦ less
-  | inr past ↦ absurd (let off : None ≡ Some s = sym (get_or_past entries k None past) ∙ e in cc)
-]
-
 pub state_within : (sets : List (List ℕ)) (P : ℕ → Type 0) (o : Option ℕ) (s : ℕ) → IsStateOf sets o P → o ≡ Some s
     → s < length sets
 state_within sets P None s h e = absurd (cc)
@@ -143,32 +138,6 @@ module _ (nfa : Nfa) (starts : ℕ) (least : List ℕ) (limit : ℕ) (sets new :
     subst (λ set. (q : ℕ) → Contains set q ↔ P q) (sym (kept_set s h.0)) h.1,
   )
 
-  old_entry : (k : ℕ) → k < length entries → entry_at (entries ++ e ∷ []) k ≡ entry_at entries k
-  old_entry k l = get_or_append_left entries (e ∷ []) None k l
-
-  last_entry : entry_at (entries ++ e ∷ []) (length entries) ≡ e
-  last_entry = get_or_push entries e None (length entries) refl
-
-  -- what holds of the earlier entries and of the last
-  each_entry : (P : ℕ → Option ℕ → Type 0) → ((k : ℕ) → k < length entries → P k (entry_at entries k))
-      → P (length entries) e → (k : ℕ) → k < length (entries ++ e ∷ []) → P k (entry_at (entries ++ e ∷ []) k)
-  each_entry P all one k l = elim (cases_lt k (length entries)) [
-    | inl less ↦ subst (P k) (sym (old_entry k less)) (all k less)
-    | inr past ↦ let last : length entries ≡ k = omega (arith, length_push entries e, l, past) in
-        subst (λ j. P j (entry_at (entries ++ e ∷ []) j)) last (subst (P (length entries)) (sym last_entry) one)
-  ]
-
-  -- a number that was there, or the one that was added, has appeared
-  appeared : (t : ℕ) → e ≡ Some (suc t) → (j : ℕ) × (j < length entries) × (entry_at entries j ≡ Some t)
-  appeared t h =
-      let less : t < length sets = elim (cases_lt (suc t) (length sets)) [
-        | inl less ↦ omega (arith, less)
-        | inr past ↦ let f = numbered.fresh (suc t) (state_within new (Contains members) e (suc t) numbered.state h) past in
-            omega (arith, f.0)
-      ] in
-      let row = so.before_row t less in
-      (row.0, entry_within entries row.0 t row.2, row.2)
-
   pub entered : AreKept (length nfa.positions) limit new → ((s : ℕ) → length sets ≡ s → length entries < starts + s * length least)
       → (length entries < starts → (q : ℕ) → Contains members q ↔ Contains (slice_index_or nfa.starts (length entries) []) q)
       → ((s c : ℕ) → c < length least → starts + (s * length least + c) ≡ length entries → (s < length sets)
@@ -176,14 +145,13 @@ module _ (nfa : Nfa) (starts : ℕ) (least : List ℕ) (limit : ℕ) (sets new :
       → AreFound nfa starts least limit new (entries ++ e ∷ [])
   entered kept room start row = record {
     kept = kept;
-    within = λ k s h. each_entry (λ j o. o ≡ Some s → s < length new)
-        (λ j l g. let long = longer in omega (arith, so.within j s g))
-        (λ g. state_within new (Contains members) e s numbered.state g) k (entry_within (entries ++ e ∷ []) k s h) h;
-    at_start = each_entry (λ k o. k < starts → IsStateOf new o (Contains (slice_index_or nfa.starts k [])))
+    order = order_more starts (length least) (length sets) (length new) entries e so.order longer
+        (λ s g. state_within new (Contains members) e s numbered.state g) numbered.fresh room;
+    at_start = each_entry entries e (λ k o. k < starts → IsStateOf new o (Contains (slice_index_or nfa.starts k [])))
         (λ k l m. more_state (entry_at entries k) (Contains (slice_index_or nfa.starts k [])) (so.at_start k l m))
         (λ m. state_same new (Contains members) (Contains (slice_index_or nfa.starts (length entries) [])) e (start m)
         numbered.state);
-    at_row = λ s c l m. each_entry (λ k o. starts + (s * length least + c) ≡ k → (s < length new)
+    at_row = λ s c l m. each_entry entries e (λ k o. starts + (s * length least + c) ≡ k → (s < length new)
         × IsStateOf new o (Stepped nfa (set_at new s) (slice_index_or least c 0)))
         (λ k below same. let was = so.at_row s c l (omega (arith, below, same)) in (
           let long = longer in omega (arith, was.0),
@@ -200,16 +168,6 @@ module _ (nfa : Nfa) (starts : ℕ) (least : List ℕ) (limit : ℕ) (sets new :
               numbered.state),
         ))
         (starts + (s * length least + c)) m refl;
-    in_order = λ k t h. each_entry
-        (λ i o. o ≡ Some (suc t) → (j : ℕ) × (j < i) × (entry_at (entries ++ e ∷ []) j ≡ Some t))
-        (λ i l g. let was = so.in_order i t g in (was.0, was.1, old_entry was.0 (omega (arith, was.1, l)) ∙ was.2))
-        (λ g. let was = appeared t g in (was.0, was.1, old_entry was.0 was.1 ∙ was.2))
-        k (entry_within (entries ++ e ∷ []) k (suc t) h) h;
-    before_row = λ s l. elim (cases_lt s (length sets)) [
-      | inl less ↦ let was = so.before_row s less in
-          (was.0, was.1, old_entry was.0 (entry_within entries was.0 s was.2) ∙ was.2)
-      | inr past ↦ let now = numbered.fresh s l past in (length entries, room s (sym now.0), last_entry ∙ now.1)
-    ];
   }
 
   -- one start more
@@ -247,11 +205,9 @@ found_none nfa starts least limit = record {
     rising = λ s l. absurd (omega (arith, l));
     few = omega arith;
   };
-  within = λ k s e. cc;
+  order = order_none starts (length least);
   at_start = λ k l. absurd (omega (arith, l));
   at_row = λ s c l m. absurd (omega (arith, m));
-  in_order = λ k t e. cc;
-  before_row = λ s l. absurd (omega (arith, l));
 }
 
 -- the entries' states are as many as the entries

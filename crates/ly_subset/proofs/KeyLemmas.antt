@@ -10,7 +10,8 @@ use Rattle.std.proofs.lemmas.Grind.{common_steps}
 use Rattle.std.proofs.lemmas.List.{get_or-map, length-map, map_push}
 use Rattle.std.proofs.lemmas.List.Quantifiers.{position-Some}
 use Rattle.ly_base.proofs.MemberLemmas.{Contains-none, Contains-cons_cases, Contains-first, Contains-later}
-use Rattle.ly_subset.specs.Private.Keys.{IsAbsent, IsKeyOf}
+use Rattle.ly_subset.specs.Keys.{IsAbsent}
+use Rattle.ly_subset.specs.Private.Keys.{IsKeyOf}
 
 -- texts that pass the test are one
 same_bytes : (s t : List ℕ) → bytes_eq s t ≡ true → s ≡ t

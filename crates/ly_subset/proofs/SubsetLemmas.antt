@@ -10,14 +10,15 @@ use Rattle.std.proofs.lemmas.Nat.{div-add-mod', div_below, mul-add-lt}
 use Rattle.std.proofs.lemmas.Option.{slice_get-get_or, slice_get_past, slice_get_within, get_or_from_slice_get}
 use Rattle.std.proofs.Math.Nat.{mul_comm}
 use Rattle.ly_position.specs.Nfa.{Nfa, Reads, Follows, Stepped, starts_of}
-use Rattle.ly_subset.specs.Automaton.{Automaton, IsAutomaton, entry_at, next_by_class, next_of, start_of}
+use Rattle.ly_subset.specs.Automaton.{AreInOrder, Automaton, IsAutomaton, entry_at, next_by_class, next_of, start_of}
 use Rattle.ly_subset.specs.Automaton.{start_place}
 use Rattle.ly_subset.specs.Classes.{AreClasses, class_at}
 use Rattle.ly_subset.specs.Subsets.{AreAlike, AreSubsets, Beginning, ComesTo, HasMoreSets, IsAfter, IsAlive, IsStateOf}
 use Rattle.ly_subset.specs.Subsets.{set_at}
 use Rattle.ly_subset.specs.Private.Classes.{AreLeast}
 use Rattle.ly_subset.specs.Private.Found.{AreFound, AreKept, HaveRules, IsFull, IsPast}
-use Rattle.ly_subset.proofs.FoundLemmas.{each_more, entry_within, state_same}
+use Rattle.ly_subset.proofs.FoundLemmas.{each_more, state_same}
+use Rattle.ly_subset.proofs.OrderLemmas.{entry_within}
 
 -- a run and one byte more
 comes_more : (nfa : Nfa) (p : ℕ) (w : List ℕ) (q b r : ℕ) → ComesTo nfa p w q → Reads nfa q b → Follows nfa q r
@@ -102,7 +103,7 @@ module _ (nfa : Nfa) (conditions : ℕ) (least : List ℕ) (limit : ℕ) (sets :
   reached_below : (n s : ℕ) → s < n → s < length sets → IsReachedSet nfa conditions (set_at sets s)
   reached_below zero s l m = absurd (omega (arith, l))
   reached_below (suc n) s l m =
-      let row = so.before_row s m in
+      let row = so.order.before_row s m in
       let there : row.0 < length entries = entry_within entries row.0 s row.2 in
       elim (cases_lt row.0 (2 * conditions)) [
         | inl less ↦ start_reached nfa conditions (set_at sets s) row.0 less
@@ -217,7 +218,7 @@ module _ (nfa : Nfa) (conditions limit : ℕ) (A : Automaton) (least : List ℕ)
     class_within = λ b c e. subst (λ d. d < A.classes) (get_or_from_slice_get A.class_of b c 0 e)
         (classes.within b (let bytes = classes.bytes in omega (arith, slice_get_within A.class_of b c e)));
     full = full ∙ ap (λ n. A.starts + n * length least) (sym rules.count) ∙ ap (λ n. A.starts + length A.rules * n) count;
-    within = λ k s e. let count' = rules.count in omega (arith, so.within k s e);
+    within = λ k s e. let count' = rules.count in omega (arith, so.order.within k s e);
   }
 
   -- bytes of one class come to the same
@@ -272,9 +273,6 @@ module _ (nfa : Nfa) (conditions limit : ℕ) (A : Automaton) (least : List ℕ)
     starts = start_state;
     nexts = each_next;
     rules = rules.least;
-    breadth_first = record {
-      in_order = so.in_order;
-      before_row = λ s l. let row = so.before_row s (omega (arith, l, rules.count)) in
-          (row.0, subst (λ n. row.0 < A.starts + s * n) count row.1, row.2);
-    };
+    breadth_first = subst (λ n. AreInOrder A.starts n (length A.rules) A.entries) count
+        (subst (λ n. AreInOrder A.starts (length least) n A.entries) (sym rules.count) so.order);
   }

@@ -72,9 +72,13 @@ pub record IsTrim (A : Automaton) : Type 0 where
 abbrev pub AppearInOrder : List (Option ℕ) → Type 0
 AppearInOrder entries = (k t : ℕ) → entry_at entries k ≡ Some (suc t) → (j : ℕ) × (j < k) × (entry_at entries j ≡ Some t)
 
--- States are numbered breadth first: in the order of their first appearance among the starts and then the rows, state
--- by state; and a state has appeared before its row.
-pub record IsBreadthFirst (A : Automaton) : Type 0 where
-  pub in_order : AppearInOrder A.entries
-  pub before_row : (s : ℕ) → s < length A.rules
-      → (k : ℕ) × (k < A.starts + s * A.classes) × (entry_at A.entries k ≡ Some s)
+-- Numbers below a count in the order of their first appearance among the starts and then the rows of so many classes;
+-- each has appeared before its row.
+pub record AreInOrder (starts classes count : ℕ) (entries : List (Option ℕ)) : Type 0 where
+  pub within : (k s : ℕ) → entry_at entries k ≡ Some s → s < count
+  pub in_order : AppearInOrder entries
+  pub before_row : (s : ℕ) → s < count → (k : ℕ) × (k < starts + s * classes) × (entry_at entries k ≡ Some s)
+
+-- states are numbered breadth first: in the order of their first appearance among the starts and then the rows
+abbrev pub IsBreadthFirst : Automaton → Type 0
+IsBreadthFirst A = AreInOrder A.starts A.classes (length A.rules) A.entries

@@ -1,5 +1,6 @@
 -- Where entries lead, and automata in memory.
-use Rattle.std.specs.Prelude.{ℕ, map, Option, Some, None, option_map, nat_lt, if◌then◌else◌}
+use Rattle.std.specs.Prelude.{ℕ, List, map, Option, Some, None, option_map, nat_lt, if◌then◌else◌}
+use Rattle.ly_base.specs.declared.numbers.RuleNo.{RuleNo}
 use Rattle.ly_subset.specs.Automaton.{Automaton}
 use Rattle.ly_subset.specs.declared.dfa.Dfa.TheInside.{Inside}
 use Rattle.ly_subset.specs.declared.entry.Entry.{Entry}
@@ -15,4 +16,11 @@ automaton_of d = record {
   rules = map (option_map (λ r. r.0)) d.rules.items;
   starts = d.starts;
   entries = map target_of d.entries.items;
+}
+
+-- an automaton with other states
+abbrev pub with_states : Automaton → List (Option RuleNo) → List Entry → Automaton
+with_states A rules entries = record A {
+  rules = map (option_map (λ r. r.0)) rules;
+  entries = map target_of entries;
 }

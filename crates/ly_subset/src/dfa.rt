@@ -1,4 +1,4 @@
-ghost use Rattle.std.specs.Prelude.{◌≡◌, ◌<◌, ◌+◌, ◌*◌, ◌↔◌, length, map, slice_get, Some, IsTrue, option_map};
+ghost use Rattle.std.specs.Prelude.{◌≡◌, ◌<◌, ◌+◌, ◌*◌, ◌↔◌, length, map, slice_get, Some, IfSome, IsTrue, option_map};
 
 use crate::entry::Entry;
 use ly_base::RuleNo;
@@ -33,7 +33,8 @@ impl Model for Dfa {
 }
 
 impl Dfa {
-    ghost use Rattle.ly_subset.specs.Automaton.{next_by_class, next_of, rule_of, start_of};
+    ghost use Rattle.ly_subset.specs.Automaton.{IsAutomaton, entry_at, next_by_class, next_of, rule_of, start_of};
+    ghost use Rattle.ly_subset.specs.Entry.{with_states};
 
     /// How many states there are.
     pub fn len(&self) -> usize
@@ -84,12 +85,13 @@ impl Dfa {
     }
 
     /// Where a class of bytes leads from a state.
-    pub fn next(&self, state: u32, class: u8) -> Option<u32>
+    pub fn next(&self, state: u32, class: usize) -> Option<u32>
         requires state { state < length self.now.rules }
         requires class { class < self.now.classes }
-        ensures { result ≡ next_by_class self.now state class }
+        ensures state { result ≡ next_by_class self.now state class }
+        ensures within { IfSome result (λ s. s < length self.now.rules) }
     {
-        self.entries[self.starts + (state as usize * self.classes + usize::from(class))].state()
+        self.entries[self.starts + (state as usize * self.classes + class)].state()
     }
 
     /// Where a byte leads from a state.
@@ -97,7 +99,7 @@ impl Dfa {
         requires { state < length self.now.rules }
         ensures { result ≡ next_of self.now (Some state) byte }
     {
-        self.next(state, self.class(byte))
+        self.next(state, usize::from(self.class(byte)))
     }
 
     /// The rule that is accepted at a state, if there is one.
@@ -106,5 +108,28 @@ impl Dfa {
         ensures { option_map (λ r. r.0) result ≡ rule_of self.now (Some state) }
     {
         self.rules[state as usize]
+    }
+
+    /// The entry at a place: the starts, two for each condition, and then the rows of the states.
+    pub fn entry(&self, place: usize) -> Option<u32>
+        requires { place < length self.now.entries }
+        ensures state { result ≡ entry_at self.now.entries place }
+        ensures within { IfSome result (λ s. s < length self.now.rules) }
+    {
+        self.entries[place].state()
+    }
+
+    /// The automaton with the same classes and as many starts, but other states.
+    pub fn with_states(self, rules: Vec<Option<RuleNo>>, entries: Vec<Entry>) -> Dfa
+        requires { IsAutomaton (with_states self rules.items entries.items) }
+        ensures { result ≡ with_states self rules.items entries.items }
+    {
+        Dfa {
+            class_of: self.class_of,
+            classes: self.classes,
+            rules,
+            starts: self.starts,
+            entries,
+        }
     }
 }

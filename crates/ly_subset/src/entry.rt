@@ -3,21 +3,21 @@ ghost use Rattle.ly_subset.specs.Entry.{target_of};
 
 /// Where a start or a class leads: to a state, or nowhere. Four bytes, so that rows are small.
 #[derive(Clone, Copy, Debug, PartialEq, Eq)]
-pub(crate) struct Entry {
+pub struct Entry {
     /// The state's number, or the greatest number where there is none.
     number: u32,
 }
 
 impl Entry {
     /// It leads nowhere.
-    pub(crate) fn none() -> Self
+    pub fn none() -> Self
         ensures { target_of result ≡ None }
     {
         Entry { number: u32::MAX }
     }
 
     /// It leads to the state of a number.
-    pub(crate) fn to(number: u32) -> Self
+    pub fn to(number: u32) -> Self
         requires { number < u32.MAX }
         ensures { target_of result ≡ Some number }
     {
@@ -25,7 +25,7 @@ impl Entry {
     }
 
     /// The state that it leads to, if there is one.
-    pub(crate) fn state(self) -> Option<u32>
+    pub fn state(self) -> Option<u32>
         ensures { result ≡ target_of self }
     {
         if self.number < u32::MAX {

@@ -20,5 +20,7 @@ mod rules;
 
 pub use construct::subsets;
 pub use dfa::Dfa;
+pub use entry::Entry;
 pub use fault::SubsetFault;
+pub use keys::Keys;
 pub use laws::{numbered_are_reached, subsets_are_trim, walks_agree};

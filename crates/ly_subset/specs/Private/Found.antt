@@ -2,7 +2,7 @@
 use Rattle.std.specs.Prelude.{◌≡◌, ◌↔◌, ℕ, ◌<◌, ◌≤◌, ◌+◌, ◌*◌, ◌++◌, List, [], ◌∷◌, length, map, slice_index_or, Option}
 use Rattle.std.specs.Prelude.{Some, None, Contains, AllPairs, ◌⊎◌, option_map}
 use Rattle.ly_position.specs.Nfa.{Nfa, Stepped, IsRoomFor}
-use Rattle.ly_subset.specs.Automaton.{AppearInOrder, entry_at}
+use Rattle.ly_subset.specs.Automaton.{AreInOrder, entry_at}
 use Rattle.ly_subset.specs.Entry.{target_of}
 use Rattle.ly_subset.specs.Subsets.{AreSets, HasEnd, IsLeastRule, IsStateOf, set_at}
 use Rattle.ly_base.specs.declared.numbers.RuleNo.{RuleNo}
@@ -43,15 +43,12 @@ pub record IsFull (limit : ℕ) (sets : List (List ℕ)) (members : List ℕ) : 
 pub record AreFound (nfa : Nfa) (starts : ℕ) (least : List ℕ) (limit : ℕ) (sets : List (List ℕ))
     (entries : List (Option ℕ)) : Type 0 where
   pub kept : AreKept (length nfa.positions) limit sets
-  pub within : (k s : ℕ) → entry_at entries k ≡ Some s → s < length sets
+  pub order : AreInOrder starts (length least) (length sets) entries
   pub at_start : (k : ℕ) → k < length entries → k < starts
       → IsStateOf sets (entry_at entries k) (Contains (slice_index_or nfa.starts k []))
   pub at_row : (s c : ℕ) → c < length least → starts + (s * length least + c) < length entries → (s < length sets)
       × IsStateOf sets (entry_at entries (starts + (s * length least + c)))
       (Stepped nfa (set_at sets s) (slice_index_or least c 0))
-  pub in_order : AppearInOrder entries
-  pub before_row : (s : ℕ) → s < length sets
-      → (k : ℕ) × (k < starts + s * length least) × (entry_at entries k ≡ Some s)
 
 -- so it is with what was found
 abbrev pub IsFound : Nfa → List ℕ → Found → Type 0
