@@ -11,7 +11,7 @@ use Rattle.ly_position.specs.Patterns.{RunsFrom}
 use Rattle.ly_subset.specs.Automaton.{Automaton, IsAutomaton, IsBreadthFirst, IsReached, LeadsToRule, entry_at, next_by_class}
 use Rattle.ly_subset.specs.Automaton.{next_of, rule_after, rule_of, start_of, start_place, state_after}
 use Rattle.ly_subset.specs.Classes.{class_at}
-use Rattle.ly_subset.specs.Laws.{HaveBytes, NumberedAreReached, SubsetsAreTrim, WalksAgree}
+use Rattle.ly_subset.specs.Laws.{NumberedAreReached, SubsetsAreTrim, WalksAgree}
 use Rattle.ly_subset.specs.Subsets.{AreSubsets, ComesTo, HasEnd, IsLeastRule, IsStateOf, set_at}
 use Rattle.ly_subset.proofs.FoundLemmas.{state_same}
 use Rattle.ly_subset.proofs.RuleLemmas.{least_same}
@@ -23,7 +23,7 @@ pub state-append : (A : Automaton) (s : Option ℕ) (u w : List ℕ)
 state-append A s [] w = refl
 state-append A s (b ∷ u) w = state-append A (next_of A s b) u w
 
-module _ (A : Automaton) (is : IsAutomaton A) (used : HaveBytes A) (order : IsBreadthFirst A) where
+module _ (A : Automaton) (is : IsAutomaton A) (order : IsBreadthFirst A) where
   reached_below : (n s : ℕ) → s < n → s < length A.rules → IsReached A s
   reached_below zero s l m = absurd (omega (arith, l))
   reached_below (suc n) s l m =
@@ -47,7 +47,7 @@ module _ (A : Automaton) (is : IsAutomaton A) (used : HaveBytes A) (order : IsBr
             let t : j / w < s = div_below j w s some small in
             let parts : j / w * w + j % w ≡ j = div-add-mod' j w in
             let at : A.starts + (j / w * w + j % w) ≡ row.0 = omega (arith, parts, past) in
-            let b = used (j % w) (omega (arith, some)) in
+            let b = is.used (j % w) (omega (arith, some)) in
             let before = reached_below n (j / w) (omega (arith, t, l)) (omega (arith, t, m)) in (
               before.0,
               before.1,
@@ -59,7 +59,7 @@ module _ (A : Automaton) (is : IsAutomaton A) (used : HaveBytes A) (order : IsBr
       ]
 
 pub reached : NumberedAreReached
-reached A is used order s l = reached_below A is used order (suc s) s (omega arith) l
+reached A is order s l = reached_below A is order (suc s) s (omega arith) l
 
 -- a run comes to an end mark where it reads up to a position with the mark
 run_ends : (nfa : Nfa) (i p : ℕ) (w : List ℕ) → RunsTo nfa i p w → (q : ℕ) × ComesTo nfa p w q × IsEnd nfa q i
@@ -131,8 +131,6 @@ walks nfa conditions A c line w so l = runs nfa conditions A so (Contains (start
 
 pub trim : SubsetsAreTrim
 trim nfa conditions A so is live = record {
-  reached = reached A is (λ c l. let b = so.classes.used c l in
-      (b.0, slice_get-get_or A.class_of b.0 0 (let bytes = so.classes.bytes in omega (arith, b.1)) ∙ ap (λ x. Some x) b.2))
-      so.breadth_first;
+  reached = reached A is so.breadth_first;
   leads = leads nfa conditions A so live;
 }

@@ -215,6 +215,8 @@ module _ (nfa : Nfa) (conditions limit : ℕ) (A : Automaton) (least : List ℕ)
   pub is_automaton : IsAutomaton A
   is_automaton = record {
     bytes = classes.bytes;
+    used = λ c l. let b = classes.used c l in
+        (b.0, slice_get-get_or A.class_of b.0 0 (let bytes = classes.bytes in omega (arith, b.1)) ∙ ap (λ x. Some x) b.2);
     class_within = λ b c e. subst (λ d. d < A.classes) (get_or_from_slice_get A.class_of b c 0 e)
         (classes.within b (let bytes = classes.bytes in omega (arith, slice_get_within A.class_of b c e)));
     full = full ∙ ap (λ n. A.starts + n * length least) (sym rules.count) ∙ ap (λ n. A.starts + length A.rules * n) count;

@@ -16,9 +16,10 @@ pub record Automaton : Type 0 where
 abbrev pub entry_at : List (Option ℕ) → ℕ → Option ℕ
 entry_at entries k = slice_index_or entries k None
 
--- Each byte has a class, each state a row, and entries are states.
+-- Each byte has a class and each class a byte, each state has a row, and entries are states.
 pub record IsAutomaton (A : Automaton) : Type 0 where
   pub bytes : length A.class_of ≡ 256
+  pub used : (c : ℕ) → c < A.classes → (b : ℕ) × (slice_get A.class_of b ≡ Some c)
   pub class_within : (b c : ℕ) → slice_get A.class_of b ≡ Some c → c < A.classes
   pub full : length A.entries ≡ A.starts + length A.rules * A.classes
   pub within : (k s : ℕ) → entry_at A.entries k ≡ Some s → s < length A.rules

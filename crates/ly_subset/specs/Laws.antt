@@ -5,13 +5,9 @@ use Rattle.ly_position.specs.Patterns.{RunsFrom}
 use Rattle.ly_subset.specs.Automaton.{Automaton, IsAutomaton, IsBreadthFirst, IsReached, IsTrim, start_of, rule_after}
 use Rattle.ly_subset.specs.Subsets.{AreSubsets, IsLeastRule}
 
--- each class has a byte
-abbrev pub HaveBytes : Automaton → Type 0
-HaveBytes A = (c : ℕ) → c < A.classes → (b : ℕ) × (slice_get A.class_of b ≡ Some c)
-
 -- states that are numbered breadth first are reached
 abbrev pub NumberedAreReached : Type 0
-NumberedAreReached = (A : Automaton) → IsAutomaton A → HaveBytes A → IsBreadthFirst A → (s : ℕ) → s < length A.rules
+NumberedAreReached = (A : Automaton) → IsAutomaton A → IsBreadthFirst A → (s : ℕ) → s < length A.rules
     → IsReached A s
 
 -- the walk over the subsets ends in the least rule that a run over the positions has

@@ -38,7 +38,8 @@ impl Dfa {
 
     /// How many states there are.
     pub fn len(&self) -> usize
-        ensures { result ≡ length self.now.rules }
+        ensures count { result ≡ length self.now.rules }
+        ensures whole { IsAutomaton self.now }
     {
         self.rules.len()
     }
