@@ -1,4 +1,4 @@
-ghost use Rattle.std.specs.Prelude.{◌≡◌, ◌<◌, ◌+◌, ◌*◌, ◌↔◌, length, map, slice_get, Some, IfSome, IsTrue, option_map};
+ghost use Rattle.std.specs.Prelude.{◌≡◌, ◌<◌, ◌≤◌, ◌+◌, ◌*◌, ◌↔◌, length, map, slice_get, Some, IfSome, IsTrue, option_map};
 
 use crate::entry::Entry;
 use ly_base::RuleNo;
@@ -68,7 +68,8 @@ impl Dfa {
 
     /// How many starts there are: two for each condition.
     pub fn starts(&self) -> usize
-        ensures { result ≡ self.now.starts }
+        ensures count { result ≡ self.now.starts }
+        ensures within { result ≤ length self.now.entries }
     {
         self.starts
     }
