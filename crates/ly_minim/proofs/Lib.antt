@@ -1,0 +1,4 @@
+pub mod BlockLemmas
+pub mod QuotientLemmas
+pub mod SignatureLemmas
+pub mod WalkLemmas

@@ -1,0 +1,100 @@
+-- Walks over automata, and that a reduced automaton is smallest.
+use Rattle.std.proofs.Common.{◌≡◌, ◌⊎◌, ℕ, zero, suc, ◌≤◌, ◌<◌, ◌+◌, ◌*◌, List, [], ◌∷◌, ◌++◌, length, Option, Some, None}
+use Rattle.std.proofs.Common.{refl, ◌∙◌, sym, ap, subst, inl, inr, arith, Bool, slice_get}
+use Rattle.std.specs.Prelude.{option_and_then}
+use Rattle.std.proofs.lemmas.Bool.{cases_eq, cases_lt}
+use Rattle.std.proofs.lemmas.List.{get_or_past}
+use Rattle.std.proofs.lemmas.Nat.{mul-le}
+use Rattle.ly_subset.specs.Automaton.{Automaton, IsAutomaton, entry_at, next_by_class, next_of, rule_after, rule_of, start_of}
+use Rattle.ly_subset.specs.Automaton.{state_after}
+use Rattle.ly_subset.proofs.LawLemmas.{state-append}
+use Rattle.ly_minim.specs.Smallest.{HaveSameRules, IsReduced, Smallest}
+
+-- a relation without partner k, whose place m takes
+abbrev Without : (ℕ → ℕ → Type 0) → ℕ → ℕ → ℕ → ℕ → Type 0
+Without R k m i j = ((j ≡ k) × R i m) ⊎ ((j ≡ k → ⊥) × R i j)
+
+without : (R : ℕ → ℕ → Type 0) (i k m : ℕ) (p : (j : ℕ) × (j < suc m) × R i j) → k < suc m → (p.0 ≡ k → ⊥)
+    → (j : ℕ) × (j < m) × Without R k m i j
+without R i k m p lt ne = elim (cases_eq p.0 m) [
+  | inl e ↦ (k, let less : k ≡ m → ⊥ = λ f. ne (e ∙ sym f) in omega arith, inl (refl, subst (λ j. R i j) e p.2))
+  | inr d ↦ (p.0, let less : p.0 < suc m = p.1 in omega arith, inr (ne, p.2))
+]
+
+-- a relation in which each number below n has a partner below m, and no two have the same (the pigeonhole principle)
+pub pigeonhole : (n m : ℕ) (R : ℕ → ℕ → Type 0) → ((i : ℕ) → i < n → (j : ℕ) × (j < m) × R i j)
+    → ((i h j : ℕ) → i < n → h < n → R i j → R h j → i ≡ h) → n ≤ m
+pigeonhole zero m R partner one = omega arith
+pigeonhole (suc n) zero R partner one = absurd (omega (arith, (partner n (omega arith)).1))
+pigeonhole (suc n) (suc m) R partner one = omega (
+  arith,
+  pigeonhole n m (Without R last.0 m)
+      (λ i lt. without R i last.0 m (partner i (omega arith)) last.1 (off i lt)) one_less,
+)
+  where
+    last : (j : ℕ) × (j < suc m) × R n j
+    last = partner n (omega arith)
+
+    off : (i : ℕ) (lt : i < n) → (partner i (omega arith)).0 ≡ last.0 → ⊥
+    off i lt e = let same = one i n last.0 (omega arith) (omega arith)
+        (subst (λ j. R i j) e (partner i (omega arith)).2) last.2 in omega arith
+
+    one_less : (i h j : ℕ) → i < n → h < n → Without R last.0 m i j → Without R last.0 m h j → i ≡ h
+    one_less i h j a b (inl p) (inl q) = one i h m (omega arith) (omega arith) p.1 q.1
+    one_less i h j a b (inl p) (inr q) = absurd (q.0 p.0)
+    one_less i h j a b (inr p) (inl q) = absurd (p.0 q.0)
+    one_less i h j a b (inr p) (inr q) = one i h j (omega arith) (omega arith) p.1 q.1
+
+-- an ended walk stays so
+pub ended : (A : Automaton) (w : List ℕ) → rule_after A None w ≡ None
+ended A [] = refl
+ended A (b ∷ w) = ended A w
+
+-- there is no rule from a number past the states
+past : (A : Automaton) → IsAutomaton A → (s : ℕ) (w : List ℕ) → length A.rules ≤ s → rule_after A (Some s) w ≡ None
+past A is s [] le = get_or_past A.rules s None le
+past A is s (b ∷ w) le = ap (λ o. rule_after A o w) (by (slice_get A.class_of b)) ∙ ended A w
+  where
+    by : (o : Option ℕ) → option_and_then (next_by_class A s) o ≡ None
+    by None = refl
+    by (Some c) = get_or_past A.entries (A.starts + (s * A.classes + c)) None
+        (let rows = mul-le (length A.rules) A.classes s A.classes le (omega arith) in let full = is.full in omega arith)
+
+-- what leads to a rule is a state
+is_state : (A : Automaton) → IsAutomaton A → (s : Option ℕ) (w : List ℕ) (r : ℕ) → rule_after A s w ≡ Some r
+    → (t : ℕ) × (t < length A.rules) × (s ≡ Some t)
+is_state A is None w r e = absurd (let off : None ≡ Some r = sym (ended A w) ∙ e in cc)
+is_state A is (Some t) w r e = elim (cases_lt t (length A.rules)) [
+  | inl lt ↦ (t, lt, refl)
+  | inr le ↦ absurd (let off : None ≡ Some r = sym (past A is t w le) ∙ e in cc)
+]
+
+-- after a string from a start, two automata with the same rules have the same rules
+onward : (A B : Automaton) (c : ℕ) (line : Bool) (u w : List ℕ) → HaveSameRules A B
+    → rule_after A (state_after A (start_of A c line) u) w ≡ rule_after B (state_after B (start_of B c line) u) w
+onward A B c line u w same = sym (ap (rule_of A) (state-append A (start_of A c line) u w)) ∙ same c line (u ++ w)
+    ∙ ap (rule_of B) (state-append B (start_of B c line) u w)
+
+-- the other automaton's state after the string that reaches a state
+counterpart : (A B : Automaton) → IsReduced A → IsAutomaton B → HaveSameRules A B → (s : ℕ) → s < length A.rules
+    → (t : ℕ) × (t < length B.rules) × ((w : List ℕ) → rule_after A (Some s) w ≡ rule_after B (Some t) w)
+counterpart A B reduced is same s lt =
+    let r = reduced.trim.reached s lt in
+    let l = reduced.trim.leads s lt in
+    let there = state_after B (start_of B r.0 r.1) r.2 in
+    let agree : (w : List ℕ) → rule_after A (Some s) w ≡ rule_after B there w
+    = λ w. sym (ap (λ o. rule_after A o w) r.3) ∙ onward A B r.0 r.1 r.2 w same in
+    let t = is_state B is there l.0 l.1 (sym (agree l.0) ∙ l.2) in
+    (t.0, t.1, λ w. agree w ∙ ap (λ o. rule_after B o w) t.2)
+
+pub smallest : Smallest
+smallest A B reduced is same = pigeonhole (length A.rules) (length B.rules)
+    (λ s t. (w : List ℕ) → rule_after A (Some s) w ≡ rule_after B (Some t) w) (counterpart A B reduced is same) one
+  where
+    one : (s u t : ℕ) → s < length A.rules → u < length A.rules
+        → ((w : List ℕ) → rule_after A (Some s) w ≡ rule_after B (Some t) w)
+        → ((w : List ℕ) → rule_after A (Some u) w ≡ rule_after B (Some t) w) → s ≡ u
+    one s u t a b p q = elim (cases_eq s u) [
+      | inl e ↦ e
+      | inr ne ↦ let d = reduced.distinguished s u a b ne in absurd (d.1 (p d.0 ∙ sym (q d.0)))
+    ]

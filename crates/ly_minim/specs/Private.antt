@@ -1,0 +1,5 @@
+-- What contracts of private functions cite.
+pub mod Blocks
+pub mod Quotient
+pub mod Rules
+pub mod Signature

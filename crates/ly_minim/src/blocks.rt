@@ -1,0 +1,71 @@
+ghost use Rattle.std.specs.Prelude.{◌≡◌, ◌<◌, ◌≤◌, length, IfOk};
+ghost use Rattle.ly_subset.specs.Automaton.{IsTrim};
+ghost use Rattle.ly_minim.specs.Private.Blocks.{AreApart, AreBlocks, IsNamed, IsRefined, IsStable};
+
+use crate::signature::signature;
+use ly_base::OutOfMemory;
+use ly_subset::{Dfa, Keys};
+use std::alloc::{AllocError, Global};
+
+/// A partition of the states into blocks.
+#[derive(Drop)]
+pub(crate) struct Blocks {
+    /// The block of each state.
+    pub(crate) of: Vec<u32>,
+    /// How many blocks there are.
+    pub(crate) count: usize,
+}
+
+/// The coarsest partition in which the states of a block have one rule, and each class leads from them to one block or
+/// nowhere: it is refined until that splits no block (Moore 1956).
+pub(crate) fn coarsest(alloc: Global, dfa: &Dfa) -> Result<Blocks, OutOfMemory>
+    ensures blocks { IfOk result (λ b. AreBlocks (length dfa.now.rules) b.of.items b.count) }
+    ensures stable { IfOk result (λ b. IsStable dfa.now b.of.items) }
+    ensures apart { IfOk result (λ b. IsTrim dfa.now → AreApart dfa.now b.of.items) }
+{
+    let Ok(states) = u32::try_from(dfa.len()) else {
+        return Err(OutOfMemory);
+    };
+    let mut blocks = Blocks {
+        of: vec![in alloc; 0; dfa.len()]?,
+        count: usize::from(states > 0),
+    };
+    loop {
+        let finer = refine(alloc, dfa, &blocks.of, states)?;
+        if finer.count == blocks.count {
+            return Ok(blocks);
+        }
+        blocks = finer;
+    }
+}
+
+/// The partition by what another one sees of each state.
+fn refine(alloc: Global, dfa: &Dfa, of: &[u32], states: u32) -> Result<Blocks, AllocError>
+    requires states { states ≡ length dfa.now.rules }
+    requires of { length of.now ≡ length dfa.now.rules }
+    ensures refined { IfOk result (λ b. IsRefined dfa.now of.now b.of.items) }
+    ensures blocks { IfOk result (λ b. AreBlocks (length dfa.now.rules) b.of.items b.count) }
+{
+    let mut keys = Keys::new(alloc);
+    let mut finer = Vec::with_capacity(alloc, of.len())?;
+    for state in 0..states {
+        let key = signature(alloc, dfa, of, state)?;
+        finer.push(number(&mut keys, key)? as u32)?;
+    }
+    Ok(Blocks {
+        of: finer,
+        count: keys.len(),
+    })
+}
+
+/// The number of a key, which gets the next one where it is new.
+fn number(keys: &mut Keys, key: Vec<u32>) -> Result<usize, AllocError>
+    ensures { IfOk result (IsNamed keys.old key.items keys.new) }
+{
+    if let Some(number) = keys.find(&key) {
+        return Ok(number);
+    }
+    let number = keys.len();
+    keys.push(key)?;
+    Ok(number)
+}

@@ -1,0 +1,113 @@
+ghost use Rattle.std.specs.Prelude.{◌≡◌, ℕ, ◌<◌, ◌≤◌, ◌+◌, ◌*◌, [], length, IfOk, OnOk, IfSome, None, All};
+ghost use Rattle.ly_minim.specs.Private.Blocks.{AreBlocks};
+ghost use Rattle.ly_minim.specs.Private.Signature.{block_of};
+ghost use Rattle.ly_subset.specs.Automaton.{entry_at};
+ghost use Rattle.ly_minim.specs.Private.Quotient.{AreNumbered, IsEntered, IsMet, IsQuotient};
+
+use crate::blocks::Blocks;
+use ly_base::OutOfMemory;
+use ly_subset::{Dfa, Entry};
+use std::alloc::{AllocError, Global};
+
+/// A state for each block that was met, numbered in the order in which they were met.
+#[derive(Drop)]
+pub(crate) struct Quotient {
+    /// For each block the state's number, if it was met.
+    numbers: Vec<Option<u32>>,
+    /// For each number a state of its block.
+    pub(crate) picked: Vec<u32>,
+    /// The entries so far: starts, and then rows.
+    pub(crate) entries: Vec<Entry>,
+}
+
+/// The blocks that are met from the starts, numbered breadth first, and the entries between them.
+pub(crate) fn blocks_met(alloc: Global, dfa: &Dfa, blocks: &Blocks) -> Result<Quotient, OutOfMemory>
+    requires { AreBlocks (length dfa.now.rules) blocks.now.of.items blocks.now.count }
+    ensures quotient { IfOk result (IsQuotient dfa.now blocks.now.of.items) }
+    ensures numbered { IfOk result (AreNumbered blocks.now) }
+    ensures whole { IfOk result (λ q. length q.entries.items
+        ≡ dfa.now.starts + length q.picked.items * dfa.now.classes) }
+{
+    let mut quotient = Quotient {
+        numbers: unmet(alloc, blocks.count)?,
+        picked: Vec::new(alloc),
+        entries: Vec::new(alloc),
+    };
+    for place in 0..dfa.starts() {
+        quotient.enter(blocks, dfa.entry(place))?;
+    }
+    let mut state = 0;
+    while state < quotient.picked.len() {
+        quotient.row(dfa, blocks, state)?;
+        state += 1;
+    }
+    Ok(quotient)
+}
+
+/// No number for each of some blocks.
+fn unmet(alloc: Global, blocks: usize) -> Result<Vec<Option<u32>>, AllocError>
+    ensures count { IfOk result (λ n. length n.items ≡ blocks) }
+    ensures none { IfOk result (λ n. (b : ℕ) → entry_at n.items b ≡ None) }
+{
+    let mut numbers = Vec::with_capacity(alloc, blocks)?;
+    for _block in 0..blocks {
+        numbers.push(None)?;
+    }
+    Ok(numbers)
+}
+
+impl Quotient {
+    /// Enters the row of a state: what the classes lead to from the state that was picked for it.
+    fn row(&mut self, dfa: &Dfa, blocks: &Blocks, state: usize) -> Result<(), AllocError>
+        requires blocks { AreBlocks (length dfa.now.rules) blocks.now.of.items blocks.now.count }
+        requires quotient { IsQuotient dfa.now blocks.now.of.items self.old }
+        requires state { state < length self.old.picked.items }
+        requires next { length self.old.entries.items ≡ dfa.now.starts + state * dfa.now.classes }
+        requires numbered { AreNumbered blocks.now self.old }
+        ensures quotient { OnOk result (IsQuotient dfa.now blocks.now.of.items self.new) }
+        ensures more { OnOk result (length self.new.entries.items
+            ≡ length self.old.entries.items + dfa.now.classes) }
+        ensures longer { OnOk result (length self.old.picked.items ≤ length self.new.picked.items) }
+        ensures numbered { OnOk result (AreNumbered blocks.now self.new) }
+    {
+        let from = self.picked[state];
+        for class in 0..dfa.classes() {
+            self.enter(blocks, dfa.next(from, class))?;
+        }
+        Ok(())
+    }
+
+    /// Appends the entry that leads to the block of a state.
+    fn enter(&mut self, blocks: &Blocks, target: Option<u32>) -> Result<(), AllocError>
+        requires numbered { AreNumbered blocks.now self.old }
+        requires target { IfSome target (λ s. s < length blocks.now.of.items) }
+        ensures entered { OnOk result (IsEntered blocks.now.of.items self.old target self.new) }
+        ensures numbered { OnOk result (AreNumbered blocks.now self.new) }
+    {
+        let entry = match target {
+            Some(state) => Entry::to(self.number(blocks, state)?),
+            None => Entry::none(),
+        };
+        self.entries.push(entry)?;
+        Ok(())
+    }
+
+    /// The number of the block of a state. A block that wasn't met gets the next one, and the state stands for it.
+    fn number(&mut self, blocks: &Blocks, state: u32) -> Result<u32, AllocError>
+        requires numbered { AreNumbered blocks.now self.old }
+        requires state { state < length blocks.now.of.items }
+        ensures met { IfOk result (λ n. IsMet blocks.now.of.items self.old state self.new n) }
+        ensures numbered { OnOk result (AreNumbered blocks.now self.new) }
+        ensures entries { self.new.entries ≡ self.old.entries }
+        ensures fits { IfOk result (λ n. n < u32.MAX) }
+    {
+        let block = blocks.of[state as usize] as usize;
+        if let Some(number) = self.numbers[block] {
+            return Ok(number);
+        }
+        let number = self.picked.len() as u32;
+        self.picked.push(state)?;
+        self.numbers[block] = Some(number);
+        Ok(number)
+    }
+}

@@ -1,0 +1,5 @@
+-- What the contracts of private functions cite.
+pub mod Classes
+pub mod Found
+pub mod Keys
+pub mod Rules

@@ -1,0 +1,148 @@
+ghost use Rattle.std.specs.Prelude.{◌≡◌, ◌<◌, ◌≤◌, ◌+◌, ◌*◌, ℕ, List, length, IfOk, IsErrOf, OnOk};
+ghost use Rattle.ly_position.specs.Nfa.{IsRoomFor};
+ghost use Rattle.ly_subset.specs.Automaton.{start_place};
+ghost use Rattle.ly_subset.specs.Private.Found.{IsFound, IsPast, HaveRoom};
+ghost use Rattle.ly_subset.specs.Subsets.{AreSubsets, HasMoreSets};
+
+use crate::classes::byte_classes;
+use crate::dfa::Dfa;
+use crate::fault::SubsetFault;
+use crate::found::Found;
+use crate::rules::rules_of;
+use ly_base::Limits;
+use ly_position::{PosNfa, PositionSet};
+use std::alloc::Global;
+
+/// The deterministic automaton of the sets of positions that strings lead to, from the starts of as many conditions.
+///
+/// `TooManyStates` comes where these sets are more than the limit.
+pub fn subsets(
+    alloc: Global,
+    nfa: &PosNfa,
+    conditions: u32,
+    limits: &Limits,
+) -> Result<Dfa, SubsetFault>
+    ensures subsets { IfOk result (AreSubsets nfa.now conditions) }
+    ensures few { IfOk result (λ d. length d.rules ≤ limits.now.scanner_states) }
+    ensures many { IsErrOf result SubsetFault.TooManyStates
+        → HasMoreSets nfa.now conditions limits.now.scanner_states }
+{
+    let classes = byte_classes(alloc, nfa)?;
+    let mut found = Found::new(alloc, 2 * conditions as usize, limits.scanner_states());
+    starts(nfa, &mut found, conditions)?;
+    rows(nfa, &mut found, &classes.least)?;
+    Ok(Dfa {
+        rules: rules_of(alloc, nfa, &found.keys)?,
+        class_of: classes.class_of,
+        classes: classes.least.len(),
+        starts: found.starts,
+        entries: found.entries,
+    })
+}
+
+/// Enters the start sets of all conditions.
+fn starts(nfa: &PosNfa, found: &mut Found, conditions: u32) -> Result<(), SubsetFault>
+    requires found { (least : List ℕ) → IsFound nfa.now least found.old }
+    requires none { length found.old.entries.items ≡ 0 }
+    requires starts { found.old.starts ≡ 2 * conditions }
+    ensures found { OnOk result ((least : List ℕ) → IsFound nfa.now least found.new) }
+    ensures all { OnOk result (length found.new.entries.items ≡ found.new.starts) }
+    ensures starts { found.new.starts ≡ found.old.starts }
+    ensures limit { found.new.limit ≡ found.old.limit }
+    ensures past { IsErrOf result SubsetFault.TooManyStates
+        → (least : List ℕ) → IsPast nfa.now found.old.starts least found.old.limit }
+{
+    let mut set = nfa.set(found.alloc)?;
+    for condition in 0..conditions {
+        start(nfa, found, &mut set, condition, false)?;
+        start(nfa, found, &mut set, condition, true)?;
+    }
+    Ok(())
+}
+
+/// Enters the start set of a condition, where a line begins or elsewhere.
+fn start(
+    nfa: &PosNfa,
+    found: &mut Found,
+    set: &mut PositionSet,
+    condition: u32,
+    at_line_start: bool,
+) -> Result<(), SubsetFault>
+    requires room { IsRoomFor nfa.now set.old }
+    requires found { (least : List ℕ) → IsFound nfa.now least found.old }
+    requires next { length found.old.entries.items ≡ start_place condition at_line_start }
+    requires within { length found.old.entries.items < found.old.starts }
+    ensures room { IsRoomFor nfa.now set.new }
+    ensures found { OnOk result ((least : List ℕ) → IsFound nfa.now least found.new) }
+    ensures more { OnOk result (length found.new.entries.items ≡ length found.old.entries.items + 1) }
+    ensures starts { found.new.starts ≡ found.old.starts }
+    ensures limit { found.new.limit ≡ found.old.limit }
+    ensures past { IsErrOf result SubsetFault.TooManyStates
+        → (least : List ℕ) → IsPast nfa.now found.old.starts least found.old.limit }
+{
+    set.fill(nfa.start(condition, at_line_start));
+    found.enter(set)
+}
+
+/// Enters the rows of all states, those that they lead to among them.
+fn rows(nfa: &PosNfa, found: &mut Found, least: &[u8]) -> Result<(), SubsetFault>
+    requires found { IsFound nfa.now least.now found.old }
+    requires starts { length found.old.entries.items ≡ found.old.starts }
+    ensures found { OnOk result (IsFound nfa.now least.now found.new) }
+    ensures all { OnOk result (length found.new.entries.items
+        ≡ found.new.starts + length found.new.keys * length least.now) }
+    ensures starts { found.new.starts ≡ found.old.starts }
+    ensures limit { found.new.limit ≡ found.old.limit }
+    ensures past { IsErrOf result SubsetFault.TooManyStates →
+        IsPast nfa.now found.old.starts least.now found.old.limit }
+{
+    let mut step = Step {
+        from: nfa.set(found.alloc)?,
+        into: nfa.set(found.alloc)?,
+    };
+    let mut state = 0;
+    while state < found.keys.len() {
+        row(nfa, found, least, &mut step, state)?;
+        state += 1;
+    }
+    Ok(())
+}
+
+/// A set of positions, and room for what it comes to.
+#[derive(Drop)]
+struct Step {
+    /// The set.
+    from: PositionSet,
+    /// What it comes to by a byte.
+    into: PositionSet,
+}
+
+/// Enters the row of a state: by the bytes of each class, what its set comes to.
+fn row(
+    nfa: &PosNfa,
+    found: &mut Found,
+    least: &[u8],
+    step: &mut Step,
+    state: usize,
+) -> Result<(), SubsetFault>
+    requires room { HaveRoom nfa.now step.old }
+    requires found { IsFound nfa.now least.now found.old }
+    requires state { state < length found.old.keys }
+    requires next { length found.old.entries.items ≡ found.old.starts + state * length least.now }
+    ensures room { HaveRoom nfa.now step.new }
+    ensures found { OnOk result (IsFound nfa.now least.now found.new) }
+    ensures more { OnOk result (length found.new.entries.items
+        ≡ length found.old.entries.items + length least.now) }
+    ensures longer { OnOk result (length found.old.keys ≤ length found.new.keys) }
+    ensures starts { found.new.starts ≡ found.old.starts }
+    ensures limit { found.new.limit ≡ found.old.limit }
+    ensures past { IsErrOf result SubsetFault.TooManyStates →
+        IsPast nfa.now found.old.starts least.now found.old.limit }
+{
+    step.from.fill(found.keys.key(state));
+    for byte in least {
+        nfa.step(&step.from, *byte, &mut step.into);
+        found.enter(&step.into)?;
+    }
+    Ok(())
+}

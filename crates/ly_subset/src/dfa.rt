@@ -1,0 +1,137 @@
+ghost use Rattle.std.specs.Prelude.{◌≡◌, ◌<◌, ◌≤◌, ◌+◌, ◌*◌, ◌↔◌, length, map, slice_get, Some, IfSome, IsTrue, option_map};
+
+use crate::entry::Entry;
+use ly_base::RuleNo;
+use std::marker::Model;
+
+/// A deterministic automaton over classes of bytes. A step is the class of the byte and one index.
+#[derive(Drop)]
+pub struct Dfa {
+    /// The class of each byte.
+    pub(crate) class_of: Vec<u8>,
+    /// How many classes there are.
+    pub(crate) classes: usize,
+    /// For each state the accepted rule, if it has one.
+    pub(crate) rules: Vec<Option<RuleNo>>,
+    /// How many of the entries are starts: two for each condition.
+    pub(crate) starts: usize,
+    /// The starts, and then a row of all classes for each state.
+    pub(crate) entries: Vec<Entry>,
+}
+
+impl Model for Dfa {
+    ghost use Rattle.ly_subset.specs.Automaton.{Automaton};
+
+    ghost Value = { Automaton };
+
+    ghost use Rattle.ly_subset.specs.Automaton.{IsAutomaton};
+    ghost use Rattle.ly_subset.specs.Entry.{automaton_of};
+
+    ghost view = { automaton_of };
+
+    ghost invariant = { λ d. IsAutomaton (automaton_of d) };
+}
+
+impl Dfa {
+    ghost use Rattle.ly_subset.specs.Automaton.{IsAutomaton, entry_at, next_by_class, next_of, rule_of, start_of};
+    ghost use Rattle.ly_subset.specs.Entry.{with_states};
+
+    /// How many states there are.
+    pub fn len(&self) -> usize
+        ensures count { result ≡ length self.now.rules }
+        ensures whole { IsAutomaton self.now }
+    {
+        self.rules.len()
+    }
+
+    /// Whether there is no state.
+    pub fn is_empty(&self) -> bool
+        ensures { IsTrue result ↔ (length self.now.rules ≡ 0) }
+    {
+        self.rules.is_empty()
+    }
+
+    /// How many classes of bytes there are.
+    pub fn classes(&self) -> usize
+        ensures { result ≡ self.now.classes }
+    {
+        self.classes
+    }
+
+    /// The class of a byte.
+    pub fn class(&self, byte: u8) -> u8
+        ensures class { slice_get self.now.class_of byte ≡ Some result }
+        ensures within { result < self.now.classes }
+    {
+        self.class_of[usize::from(byte)]
+    }
+
+    /// How many starts there are: two for each condition.
+    pub fn starts(&self) -> usize
+        ensures count { result ≡ self.now.starts }
+        ensures within { result ≤ length self.now.entries }
+    {
+        self.starts
+    }
+
+    /// The start state of a condition, where a line begins or elsewhere, if it has one.
+    pub fn start(&self, condition: u32, at_line_start: bool) -> Option<u32>
+        ensures { result ≡ start_of self.now condition at_line_start }
+    {
+        let place = 2 * condition as usize + usize::from(at_line_start);
+        if place < self.starts {
+            self.entries[place].state()
+        } else {
+            None
+        }
+    }
+
+    /// Where a class of bytes leads from a state.
+    pub fn next(&self, state: u32, class: usize) -> Option<u32>
+        requires state { state < length self.now.rules }
+        requires class { class < self.now.classes }
+        ensures state { result ≡ next_by_class self.now state class }
+        ensures within { IfSome result (λ s. s < length self.now.rules) }
+    {
+        self.entries[self.starts + (state as usize * self.classes + class)].state()
+    }
+
+    /// Where a byte leads from a state.
+    pub fn step(&self, state: u32, byte: u8) -> Option<u32>
+        requires { state < length self.now.rules }
+        ensures { result ≡ next_of self.now (Some state) byte }
+    {
+        self.next(state, usize::from(self.class(byte)))
+    }
+
+    /// The rule that is accepted at a state, if there is one.
+    pub fn rule(&self, state: u32) -> Option<RuleNo>
+        requires { state < length self.now.rules }
+        ensures { option_map (λ r. r.0) result ≡ rule_of self.now (Some state) }
+    {
+        self.rules[state as usize]
+    }
+
+    /// The entry at a place: the starts, two for each condition, and then the rows of the states.
+    pub fn entry(&self, place: usize) -> Option<u32>
+        requires { place < length self.now.entries }
+        ensures state { result ≡ entry_at self.now.entries place }
+        ensures within { IfSome result (λ s. s < length self.now.rules) }
+    {
+        self.entries[place].state()
+    }
+
+    /// The automaton with the same classes and as many starts, but other states.
+    pub fn with_states(self, rules: Vec<Option<RuleNo>>, entries: Vec<Entry>) -> Dfa
+        requires { IsAutomaton (with_states self rules.items entries.items) }
+        ensures { result ≡ with_states self rules.items entries.items }
+    {
+        Dfa {
+            class_of: self.class_of,
+            classes: self.classes,
+            rules,
+            starts: self.starts,
+            entries,
+        }
+    }
+}
