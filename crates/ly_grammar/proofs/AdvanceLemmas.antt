@@ -84,7 +84,8 @@ stop_of G s p r symbols marks before at (Some X) is places search rule e =
 pub all_passed : (G : Grammar) (s : Progress) (p : ℕ) (r : Rule) → r.left < length s.found → IsSearch G s
     → IsRule G p r → AllPass s.found s.terminals r.body → Advances G s (with_found s r.left) p r
 all_passed G s p r lt search rule all = record {
-  on = on_found G s r.left search lt (rule_tree G s.terminals p r rule (body_trees G s.found s.terminals r.body search.sound all));
+  on = on_found G s r.left search lt
+      (rule_tree G s.terminals p r rule (body_trees G s.found s.terminals r.body search.sound all));
   settled = λ pending. found (is_found s r.left lt);
 }
 

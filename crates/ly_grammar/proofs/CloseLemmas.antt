@@ -70,7 +70,8 @@ still_waiting s A B p member = elim (same_or_not B A) [
         (ap (λ C. slice_index_or (slice_set s.waiting A []) C []) same ∙ get_or-set_same s.waiting A [] [] lt) member)
     | inr past ↦ Contains-none p (subst (λ ps. Contains ps p)
         (ap (λ C. slice_index_or (slice_set s.waiting A []) C []) same
-        ∙ get_or_past (slice_set s.waiting A []) A [] (let e = length-set s.waiting A [] in omega (arith, past, e))) member)
+        ∙ get_or_past (slice_set s.waiting A []) A [] (let e = length-set s.waiting A [] in omega
+            (arith, past, e))) member)
   ]
   | inr other ↦ subst (λ ps. Contains ps p) (get_or-set_other s.waiting A B [] [] other) member
 ]
@@ -107,7 +108,8 @@ taken G s next rules is (A, queue, these, same) = subst (λ n. IsTaken G s n rul
       | inr other ↦ waiting B m (subst (λ ps. Contains ps p) (sym (get_or-set_other s.waiting A B [] [] other)) w)
           (elim state [
             | inl not ↦ inl not
-            | inr queued ↦ elim (Contains-append_cases next.queue (A ∷ []) B (subst (λ xs. Contains xs B) queue queued)) [
+            | inr queued ↦ elim (Contains-append_cases next.queue (A ∷ []) B
+                (subst (λ xs. Contains xs B) queue queued)) [
               | inl before ↦ inr before
               | inr last ↦ absurd (other (sym (Contains-one A B last)))
             ]

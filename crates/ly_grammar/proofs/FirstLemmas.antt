@@ -51,7 +51,8 @@ opening_to marks (Y ∷ w) (suc at) X all there stop =
 -- symbols of an opening are of the string
 pub opening_in : (marks : List Bool) (w : List Symbol) (X : Symbol) → Contains (opening marks w) X → Contains w X
 opening_in marks [] X member = Contains-none X member
-opening_in marks (Y ∷ w) X member = elim (Contains-cons_cases Y (if passes marks false Y then opening marks w else []) X member) [
+opening_in marks (Y ∷ w) X member =
+    elim (Contains-cons_cases Y (if passes marks false Y then opening marks w else []) X member) [
   | inl same ↦ subst (Contains (Y ∷ w)) same (Contains-first Y w)
   | inr later ↦ Contains-later Y w X (rest (opening_in marks w X) (passes marks false Y) later)
 ] where
@@ -89,7 +90,8 @@ pub added_none : (m : Matrix) (left : ℕ) → AreAdded m m left []
 added_none m left = record {
   width = refl;
   rows = refl;
-  exact = λ j t. (λ member. inl member, λ is. elim is [ inl member ↦ member | inr new ↦ Contains-none (terminal t) new.1 ]);
+  exact = λ j t. (λ member. inl member, λ is. elim is [ inl member ↦ member | inr new ↦ Contains-none
+      (terminal t) new.1 ]);
 }
 
 -- what the openings of the rules below a number say
@@ -138,7 +140,8 @@ way_starts G marks i j t (here k) starts = starts
 way_starts G marks i j t (along a b c edge way) starts =
     let it = of_rule (λ r. parts r.left (opening marks r.body)) G.rules (a, b) edge in
     let part = part_of it.1.left (opening marks it.1.body) a b it.3 in
-    subst (λ A. Starts G marks A t) (sym part.0) (by_part it.0 it.1 b t it.2 part.1 (way_starts G marks b c t way starts))
+    subst (λ A. Starts G marks A t) (sym part.0)
+        (by_part it.0 it.1 b t it.2 part.1 (way_starts G marks b c t way starts))
 
 -- The rows that come of the openings of all rules are what the nonterminals start with.
 pub start_rows : (G : Grammar) (marks : List Bool) (graph : Digraph) (old : Matrix) (new : List NumberSet) (n : ℕ)
@@ -245,7 +248,8 @@ abbrev pub opening_edges : List Bool → Rule → List (ℕ × ℕ)
 opening_edges marks r = parts r.left (opening marks r.body)
 
 -- no rule was looked at
-pub firsts_none : (G : Grammar) (marks : List Bool) (g : Digraph) (sets : Matrix) → g ≡ record { nodes = G.accept + 1; edges = [] }
+pub firsts_none : (G : Grammar) (marks : List Bool) (g : Digraph) (sets : Matrix)
+    → g ≡ record { nodes = G.accept + 1; edges = [] }
     → sets.width ≡ G.terminals → sets.sets ≡ replicate (G.accept + 1) set.empty → AreFirsts G marks g sets 0
 firsts_none G marks g sets graph width empty = record {
   graph = graph;
@@ -253,7 +257,8 @@ firsts_none G marks g sets graph width empty = record {
   rows = ap length empty ∙ length-replicate (G.accept + 1) set.empty;
   exact = λ j t. (
     λ member. let no : false ≡ true = sym (contains-empty nat_cmp t)
-        ∙ ap (λ s. set.contains s t) (sym (ap (λ rows. row rows j) empty ∙ default_everywhere (G.accept + 1) j set.empty))
+        ∙ ap (λ s. set.contains s t) (sym (ap (λ rows. row rows j) empty
+            ∙ default_everywhere (G.accept + 1) j set.empty))
         ∙ member in absurd (cc),
     λ is. let lt = is.2 in absurd (omega (arith, lt)),
   );

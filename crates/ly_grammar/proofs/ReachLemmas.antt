@@ -120,7 +120,8 @@ way_reached G i j (along a k b edge way) same =
 pub reached_way : (G : Grammar) (A : ℕ) → Reached G A → Reaches (used_graph G) A G.start
 reached_way G A at_start = here G.start
 reached_way G A (through p r B rule led member) =
-    along A r.left G.start (by_rule (λ r. uses r.left r.body) G.rules p r (A, r.left) rule (is_use r.left r.body A member))
+    along A r.left G.start (by_rule (λ r. uses r.left r.body) G.rules p r (A, r.left) rule
+        (is_use r.left r.body A member))
     (reached_way G r.left led)
 
 -- what stands in a row stands in those of all that lead to it
@@ -140,7 +141,8 @@ kept_more f G kept n r rule on = of_rules_more f (marked kept G.rules) n (Some r
 pub dropped_more : {X : Type 0} (f : Rule → List X) (G : Grammar) (kept : List Bool) (n : ℕ) → n < length G.rules
     → length kept ≡ length G.rules → slice_index_or kept n false ≡ false
     → of_rules f (take (n + 1) (marked kept G.rules)) ≡ of_rules f (take n (marked kept G.rules))
-dropped_more f G kept n lt long off = of_rules_more f (marked kept G.rules) n None (at_dropped kept G.rules n lt long off)
+dropped_more f G kept n lt long off = of_rules_more f (marked kept G.rules) n None
+    (at_dropped kept G.rules n lt long off)
     ∙ append-nil (of_rules f (take n (marked kept G.rules)))
 
 -- rows of which one has one member
@@ -153,7 +155,8 @@ only_there rows i j lt member = elim (same_or_not j i) [
   | inl same ↦ same
   | inr other ↦
       let e : row (one_member rows i) j ≡ set.empty
-      = get_or-set_other (replicate rows set.empty) i j (set.insert (row (replicate rows set.empty) i) 0) set.empty other
+      = get_or-set_other (replicate rows set.empty) i j
+          (set.insert (row (replicate rows set.empty) i) 0) set.empty other
       ∙ default_everywhere rows j set.empty in
       let no : false ≡ true = sym (contains-empty nat_cmp 0) ∙ ap (λ s. set.contains s 0) (sym e) ∙ member in
       absurd (cc)
@@ -162,7 +165,8 @@ only_there rows i j lt member = elim (same_or_not j i) [
 pub is_there : (rows i : ℕ) → i < rows → Member (row (one_member rows i) i) 0
 is_there rows i lt =
     ap (λ s. set.contains s 0) (get_or-set_same (replicate rows set.empty) i
-    (set.insert (row (replicate rows set.empty) i) 0) set.empty (subst (λ n. i < n) (sym (length-replicate rows set.empty)) lt))
+    (set.insert (row (replicate rows set.empty) i) 0) set.empty
+        (subst (λ n. i < n) (sym (length-replicate rows set.empty)) lt))
     ∙ contains-insert_nat (row (replicate rows set.empty) i) 0 0
 
 -- the rows that come of one member in the start symbol's row have it exactly where the start symbol leads to them

@@ -24,7 +24,8 @@ module _ (G : Grammar) (marks : List Bool) where
     tree_kept (nonterminal A) (leaf t) is all = absurd is
     tree_kept (terminal k) (node p ts) is all = absurd is
     tree_kept (nonterminal A) (node p ts) (r, rule, left, are) all
-        = (r, at_marked marks G.rules p r rule (all p (inl refl)), left, trees_kept r.body ts are (λ q m. all q (inr m)))
+        = (r, at_marked marks G.rules p r rule (all p (inl refl)), left, trees_kept r.body ts are
+            (λ q m. all q (inr m)))
 
     pub trees_kept : (w : List Symbol) (ts : Trees) → AreTrees G w ts
         → ((p : ℕ) → OccursAmong p ts → slice_index_or marks p false ≡ true) → AreTrees (restricted marks G) w ts
@@ -64,7 +65,8 @@ mutual
       = subst (HasBody G) (sym same) (record { rule = r; is = rule; trees = ts; are = are })
   occurs_body G (nonterminal A) (node q ts) p (r, rule, left, are) (inr among) = among_body G r.body ts p are among
 
-  pub among_body : (G : Grammar) (w : List Symbol) (ts : Trees) (p : ℕ) → AreTrees G w ts → OccursAmong p ts → HasBody G p
+  pub among_body : (G : Grammar) (w : List Symbol) (ts : Trees) (p : ℕ) → AreTrees G w ts → OccursAmong p ts
+      → HasBody G p
   among_body G w none p are here = absurd here
   among_body G [] (more t ts) p are here = absurd are
   among_body G (X ∷ w) (more t ts) p are (inl here) = occurs_body G X t p are.0 here
@@ -143,6 +145,7 @@ is_reduction G marks nullable first lawful long useful tree empties starts = rec
       (λ on. n.0 (e.0 on), λ is. e.1 (n.1 is));
   first = λ A t le.
       let s = starts A t in
-      let b = starts_are_begun (restricted marks G) nullable empties (bodies_have_trees G marks lawful long useful tree) A t in
+      let b = starts_are_begun (restricted marks G) nullable empties
+          (bodies_have_trees G marks lawful long useful tree) A t in
       (λ member. b.0 (s.0 member), λ is. s.1 (b.1 is));
 }

@@ -54,7 +54,8 @@ pub member_tree : (G : Grammar) (allowed : Bool) (w : List Symbol) (X : Symbol) 
 member_tree G allowed [] X trees member = Contains-none X member
 member_tree G allowed (Y ∷ w) X (none, are, empty) member = absurd are
 member_tree G allowed (Y ∷ w) X (more t ts, are, empty) member = elim (Contains-cons_cases Y w X member) [
-  | inl same ↦ subst (HasTree G allowed) same (t, are.0, λ e. (nothing_together (yield_of t) (yields_of ts) (empty e)).0)
+  | inl same ↦ subst (HasTree G allowed) same
+      (t, are.0, λ e. (nothing_together (yield_of t) (yields_of ts) (empty e)).0)
   | inr later ↦ member_tree G allowed w X
       (ts, are.1, λ e. (nothing_together (yield_of t) (yields_of ts) (empty e)).1) later
 ]

@@ -41,7 +41,8 @@ impl<'a> Model for Reduced<'a> {
 
     ghost view = { λ r. reduction_of r.grammar.now r.kept.items r.nullable.items r.first };
 
-    ghost invariant = { λ r. IsReduction r.grammar.now (reduction_of r.grammar.now r.kept.items r.nullable.items r.first)
+    ghost invariant = { λ r. IsReduction r.grammar.now
+        (reduction_of r.grammar.now r.kept.items r.nullable.items r.first)
         × HasSizes r.grammar.now r.kept.items r.nullable.items r.first };
 }
 

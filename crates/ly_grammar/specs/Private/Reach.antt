@@ -2,7 +2,7 @@
 use Rattle.std.specs.Prelude.{ℕ, List, [], ◌∷◌, ◌++◌, Option, Some, None, Contains}
 use Rattle.ly_join.specs.Grammar.{Grammar, Rule, IsRule, Symbol, terminal, nonterminal}
 
--- the start symbol leads to the nonterminal: it is that itself, or stands in the body of a rule whose left side is led to
+-- the start symbol leads to the nonterminal: it is that, or a rule has it in its body whose left side is led to
 pub data Reached (G : Grammar) : ℕ → Type 0 where
   at_start : Reached G G.start
   through : (p : ℕ) (r : Rule) (A : ℕ) → IsRule G p r → Reached G r.left → Contains r.body (nonterminal A) → Reached G A

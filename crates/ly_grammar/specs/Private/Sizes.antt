@@ -3,7 +3,8 @@ use Rattle.std.specs.Prelude.{◌≡◌, ◌+◌, List, Bool, length}
 use Rattle.ly_join.specs.Grammar.{Grammar, IsGrammar}
 use Rattle.ly_sets.specs.SetMatrix.{Matrix}
 
--- No rule of the grammar is removed; a mark for each rule, a mark and a row for each nonterminal, and the width of the terminals.
+-- No rule of the grammar is removed; a mark for each rule, a mark and a row for each nonterminal, and the width of the
+-- terminals.
 pub record HasSizes (G : Grammar) (kept nullable : List Bool) (first : Matrix) : Type 0 where
   pub lawful : IsGrammar G
   pub marks : length kept ≡ length G.rules

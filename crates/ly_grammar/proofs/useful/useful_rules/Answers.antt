@@ -81,7 +81,8 @@ loop-number-preserved c =
           )
     ] in
     let each : (q : Rule) → IsRule G n q → (c.if-number-eq0.push ≡ true) ↔ P n q
-    = λ q rule. subst (λ x. (c.if-number-eq0.push ≡ true) ↔ P n x) (rule_is_one G n r q c.rule.ensures.there rule) here in
+    = λ q rule. subst (λ x. (c.if-number-eq0.push ≡ true) ↔ P n x)
+        (rule_is_one G n r q c.rule.ensures.there rule) here in
     subst (λ ms. AreMarks G P ms (n + 1)) (sym c.in_ok-push.ensures.items)
     (marked_more G P c.loop-number.useful.items n c.if-number-eq0.push c.loop-number.invariant each)
 
