@@ -71,7 +71,7 @@ still_waiting s A B p member = elim (same_or_not B A) [
     | inr past ↦ Contains-none p (subst (λ ps. Contains ps p)
         (ap (λ C. slice_index_or (slice_set s.waiting A []) C []) same
         ∙ get_or_past (slice_set s.waiting A []) A [] (let e = length-set s.waiting A [] in omega
-            (arith, past, e))) member)
+        (arith, past, e))) member)
   ]
   | inr other ↦ subst (λ ps. Contains ps p) (get_or-set_other s.waiting A B [] [] other) member
 ]
@@ -110,9 +110,9 @@ taken G s next rules is (A, queue, these, same) = subst (λ n. IsTaken G s n rul
             | inl not ↦ inl not
             | inr queued ↦ elim (Contains-append_cases next.queue (A ∷ []) B
                 (subst (λ xs. Contains xs B) queue queued)) [
-              | inl before ↦ inr before
-              | inr last ↦ absurd (other (sym (Contains-one A B last)))
-            ]
+                  | inl before ↦ inr before
+                  | inr last ↦ absurd (other (sym (Contains-one A B last)))
+                ]
           ])
     ]
     | to_come m ↦ Contains-none p m

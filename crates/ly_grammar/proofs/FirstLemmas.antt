@@ -53,13 +53,13 @@ pub opening_in : (marks : List Bool) (w : List Symbol) (X : Symbol) → Contains
 opening_in marks [] X member = Contains-none X member
 opening_in marks (Y ∷ w) X member =
     elim (Contains-cons_cases Y (if passes marks false Y then opening marks w else []) X member) [
-  | inl same ↦ subst (Contains (Y ∷ w)) same (Contains-first Y w)
-  | inr later ↦ Contains-later Y w X (rest (opening_in marks w X) (passes marks false Y) later)
-] where
-  rest : (Contains (opening marks w) X → Contains w X) → (b : Bool) → Contains (if b then opening marks w else []) X
-      → Contains w X
-  rest recur true m = recur m
-  rest recur false m = Contains-none X m
+      | inl same ↦ subst (Contains (Y ∷ w)) same (Contains-first Y w)
+      | inr later ↦ Contains-later Y w X (rest (opening_in marks w X) (passes marks false Y) later)
+    ] where
+      rest : (Contains (opening marks w) X → Contains w X) → (b : Bool) → Contains (if b then opening marks w else []) X
+          → Contains w X
+      rest recur true m = recur m
+      rest recur false m = Contains-none X m
 
 -- terminals of strings one after another
 pub added_more : (old mid new : Matrix) (left : ℕ) (v w : List Symbol) → AreAdded old mid left v
@@ -90,8 +90,14 @@ pub added_none : (m : Matrix) (left : ℕ) → AreAdded m m left []
 added_none m left = record {
   width = refl;
   rows = refl;
-  exact = λ j t. (λ member. inl member, λ is. elim is [ inl member ↦ member | inr new ↦ Contains-none
-      (terminal t) new.1 ]);
+  exact = λ j t. (
+    λ member. inl member,
+    λ is. elim is [
+      | inl member ↦ member
+      | inr new ↦ Contains-none
+          (terminal t) new.1
+    ],
+  );
 }
 
 -- what the openings of the rules below a number say
@@ -141,7 +147,7 @@ way_starts G marks i j t (along a b c edge way) starts =
     let it = of_rule (λ r. parts r.left (opening marks r.body)) G.rules (a, b) edge in
     let part = part_of it.1.left (opening marks it.1.body) a b it.3 in
     subst (λ A. Starts G marks A t) (sym part.0)
-        (by_part it.0 it.1 b t it.2 part.1 (way_starts G marks b c t way starts))
+    (by_part it.0 it.1 b t it.2 part.1 (way_starts G marks b c t way starts))
 
 -- The rows that come of the openings of all rules are what the nonterminals start with.
 pub start_rows : (G : Grammar) (marks : List Bool) (graph : Digraph) (old : Matrix) (new : List NumberSet) (n : ℕ)
@@ -258,7 +264,7 @@ firsts_none G marks g sets graph width empty = record {
   exact = λ j t. (
     λ member. let no : false ≡ true = sym (contains-empty nat_cmp t)
         ∙ ap (λ s. set.contains s t) (sym (ap (λ rows. row rows j) empty
-            ∙ default_everywhere (G.accept + 1) j set.empty))
+        ∙ default_everywhere (G.accept + 1) j set.empty))
         ∙ member in absurd (cc),
     λ is. let lt = is.2 in absurd (omega (arith, lt)),
   );

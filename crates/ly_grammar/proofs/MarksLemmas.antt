@@ -26,7 +26,7 @@ marked_more G P marks n b are here = record {
         let last : slice_index_or (marks ++ b ∷ []) n false ≡ b
         = get_or-append_right marks (b ∷ []) n false (let l = are.long in omega (arith, l))
         ∙ ap (λ k. slice_index_or (b ∷ []) k false)
-            (let e : n - length marks ≡ 0 = (let l = are.long in omega (arith, l)) in e) in
+        (let e : n - length marks ≡ 0 = (let l = are.long in omega (arith, l)) in e) in
         subst (λ k. (slice_index_or (marks ++ b ∷ []) k false ≡ true) ↔ P k r) same
         (subst (λ x. (x ≡ true) ↔ P n r) (sym last) (here r (subst (λ k. IsRule G k r) (sym same) rule)))
   ];

@@ -22,7 +22,7 @@ use Rattle.ly_grammar.specs.Reduction.{marked}
 use Rattle.ly_grammar.proofs.MarkedLemmas.{at_marked, at_dropped}
 use Rattle.ly_grammar.proofs.SearchLemmas.{same_or_not}
 use Rattle.ly_grammar.proofs.StartLemmas.{default_everywhere}
-use Rattle.ly_grammar.specs.Private.Reach.{Reached, at_start, through, uses, of_rules, use_edges}
+use Rattle.ly_grammar.specs.Private.Reach.{Reached, start, through, uses, of_rules, use_edges}
 
 -- the uses of symbols one after another
 pub uses_append : (left : ℕ) (v w : List Symbol) → uses left (v ++ w) ≡ uses left v ++ uses left w
@@ -111,17 +111,17 @@ used_graph G = record { nodes = G.accept + 1; edges = use_edges G.rules }
 
 -- a way to the start symbol is a way from it by rules
 pub way_reached : (G : Grammar) (i j : ℕ) → Reaches (used_graph G) i j → j ≡ G.start → Reached G i
-way_reached G i j (here k) same = subst (λ A. Reached G A) (sym same) at_start
+way_reached G i j (here k) same = subst (λ A. Reached G A) (sym same) start
 way_reached G i j (along a k b edge way) same =
     let it = of_rule (λ r. uses r.left r.body) G.rules (a, k) edge in
     let used = use_of it.1.left it.1.body a k it.3 in
     through it.0 it.1 a it.2 (subst (λ A. Reached G A) used.0 (way_reached G k b way same)) used.1
 
 pub reached_way : (G : Grammar) (A : ℕ) → Reached G A → Reaches (used_graph G) A G.start
-reached_way G A at_start = here G.start
+reached_way G A start = here G.start
 reached_way G A (through p r B rule led member) =
     along A r.left G.start (by_rule (λ r. uses r.left r.body) G.rules p r (A, r.left) rule
-        (is_use r.left r.body A member))
+    (is_use r.left r.body A member))
     (reached_way G r.left led)
 
 -- what stands in a row stands in those of all that lead to it
@@ -156,7 +156,7 @@ only_there rows i j lt member = elim (same_or_not j i) [
   | inr other ↦
       let e : row (one_member rows i) j ≡ set.empty
       = get_or-set_other (replicate rows set.empty) i j
-          (set.insert (row (replicate rows set.empty) i) 0) set.empty other
+      (set.insert (row (replicate rows set.empty) i) 0) set.empty other
       ∙ default_everywhere rows j set.empty in
       let no : false ≡ true = sym (contains-empty nat_cmp 0) ∙ ap (λ s. set.contains s 0) (sym e) ∙ member in
       absurd (cc)
@@ -166,7 +166,7 @@ pub is_there : (rows i : ℕ) → i < rows → Member (row (one_member rows i) i
 is_there rows i lt =
     ap (λ s. set.contains s 0) (get_or-set_same (replicate rows set.empty) i
     (set.insert (row (replicate rows set.empty) i) 0) set.empty
-        (subst (λ n. i < n) (sym (length-replicate rows set.empty)) lt))
+    (subst (λ n. i < n) (sym (length-replicate rows set.empty)) lt))
     ∙ contains-insert_nat (row (replicate rows set.empty) i) 0 0
 
 -- the rows that come of one member in the start symbol's row have it exactly where the start symbol leads to them

@@ -8,6 +8,7 @@ use Rattle.ly_grammar.specs.Derivations.{IsTree, AreTrees, IsNullable, IsReduced
 use Rattle.ly_sets.specs.NumberSet.{Member}
 use Rattle.ly_sets.specs.SetMatrix.{Matrix, row}
 use Rattle.ly_grammar.specs.Reduction.{restricted, reduction_of, IsReduction, KeepsUseful}
+use Rattle.ly_grammar.specs.Laws.{KeepsSentences, KeepsTrees}
 use Rattle.ly_grammar.specs.Private.First.{Starts}
 use Rattle.ly_grammar.proofs.BeginLemmas.{starts_are_begun}
 use Rattle.ly_grammar.specs.Private.Search.{HasTree, HaveTrees}
@@ -15,40 +16,23 @@ use Rattle.ly_grammar.proofs.MarkedLemmas.{at_marked, marked_at, length-marked}
 use Rattle.ly_grammar.proofs.SearchLemmas.{rule_is_one}
 use Rattle.ly_grammar.proofs.UsefulLemmas.{whole_trees}
 
-module _ (G : Grammar) (marks : List Bool) where
-  mutual
-    -- a tree all of whose rules are marked is one of the grammar of these
-    pub tree_kept : (X : Symbol) (d : Tree) → IsTree G X d
-        → ((p : ℕ) → Occurs p d → slice_index_or marks p false ≡ true) → IsTree (restricted marks G) X d
-    tree_kept (terminal k) (leaf t) is all = is
-    tree_kept (nonterminal A) (leaf t) is all = absurd is
-    tree_kept (terminal k) (node p ts) is all = absurd is
-    tree_kept (nonterminal A) (node p ts) (r, rule, left, are) all
-        = (r, at_marked marks G.rules p r rule (all p (inl refl)), left, trees_kept r.body ts are
-            (λ q m. all q (inr m)))
+mutual
+  -- a tree whose rules another grammar has too is one of that grammar
+  pub tree_into : (G R : Grammar) (X : Symbol) (d : Tree) → IsTree G X d
+      → ((p : ℕ) (r : Rule) → Occurs p d → IsRule G p r → IsRule R p r) → IsTree R X d
+  tree_into G R (terminal k) (leaf t) is has = is
+  tree_into G R (nonterminal A) (leaf t) is has = absurd is
+  tree_into G R (terminal k) (node p ts) is has = absurd is
+  tree_into G R (nonterminal A) (node p ts) (r, rule, left, are) has
+      = (r, has p r (inl refl) rule, left, trees_into G R r.body ts are (λ q s m. has q s (inr m)))
 
-    pub trees_kept : (w : List Symbol) (ts : Trees) → AreTrees G w ts
-        → ((p : ℕ) → OccursAmong p ts → slice_index_or marks p false ≡ true) → AreTrees (restricted marks G) w ts
-    trees_kept [] none are all = tt
-    trees_kept (X ∷ w) none are all = absurd are
-    trees_kept [] (more t ts) are all = absurd are
-    trees_kept (X ∷ w) (more t ts) are all
-        = (tree_kept X t are.0 (λ p m. all p (inl m)), trees_kept w ts are.1 (λ p m. all p (inr m)))
-
-  mutual
-    -- and the trees of that grammar are trees
-    pub tree_back : (X : Symbol) (d : Tree) → IsTree (restricted marks G) X d → IsTree G X d
-    tree_back (terminal k) (leaf t) is = is
-    tree_back (nonterminal A) (leaf t) is = absurd is
-    tree_back (terminal k) (node p ts) is = absurd is
-    tree_back (nonterminal A) (node p ts) (r, rule, left, are)
-        = (r, (marked_at marks G.rules p r rule).0, left, trees_back r.body ts are)
-
-    pub trees_back : (w : List Symbol) (ts : Trees) → AreTrees (restricted marks G) w ts → AreTrees G w ts
-    trees_back [] none are = tt
-    trees_back (X ∷ w) none are = absurd are
-    trees_back [] (more t ts) are = absurd are
-    trees_back (X ∷ w) (more t ts) are = (tree_back X t are.0, trees_back w ts are.1)
+  pub trees_into : (G R : Grammar) (w : List Symbol) (ts : Trees) → AreTrees G w ts
+      → ((p : ℕ) (r : Rule) → OccursAmong p ts → IsRule G p r → IsRule R p r) → AreTrees R w ts
+  trees_into G R [] none are has = tt
+  trees_into G R (X ∷ w) none are has = absurd are
+  trees_into G R [] (more t ts) are has = absurd are
+  trees_into G R (X ∷ w) (more t ts) are has
+      = (tree_into G R X t are.0 (λ p r m. has p r (inl m)), trees_into G R w ts are.1 (λ p r m. has p r (inr m)))
 
 -- The trees of a rule's body, where it occurs.
 pub record HasBody (G : Grammar) (p : ℕ) : Type 0 where
@@ -81,8 +65,8 @@ module _ (G : Grammar) (marks : List Bool) (lawful : IsGrammar G) (long : length
     (useful : MarkUseful G marks) where
   -- the rules of a tree of the start symbol are marked
   pub start_kept : (d : Tree) → IsTree G (nonterminal G.start) d → IsTree (restricted marks G) (nonterminal G.start) d
-  start_kept d is = tree_kept G marks (nonterminal G.start) d is (λ p here.
-      let body = occurs_body G (nonterminal G.start) d p is here in (useful p body.rule body.is).1 (inr (d, is, here)))
+  start_kept d is = tree_into G (restricted marks G) (nonterminal G.start) d is (λ p r here rule.
+      at_marked marks G.rules p r rule ((useful p r rule).1 (inr (d, is, here))))
 
   pub keeps_useful : KeepsUseful G (restricted marks G)
   keeps_useful = record {
@@ -146,6 +130,23 @@ is_reduction G marks nullable first lawful long useful tree empties starts = rec
   first = λ A t le.
       let s = starts A t in
       let b = starts_are_begun (restricted marks G) nullable empties
-          (bodies_have_trees G marks lawful long useful tree) A t in
+      (bodies_have_trees G marks lawful long useful tree) A t in
       (λ member. b.0 (s.0 member), λ is. s.1 (b.1 is));
 }
+
+-- without the other rules the start symbol has the same trees
+pub keeps_trees : KeepsTrees
+keeps_trees G R keeps d = (to, back) where
+  to : IsTree G (nonterminal G.start) d → IsTree R (nonterminal R.start) d
+  to is = subst (λ A. IsTree R (nonterminal A) d) (sym keeps.start) (tree_into G R (nonterminal G.start) d is
+      (λ p r here rule. (keeps.rules p r).1 (rule, inr (d, is, here))))
+
+  back : IsTree R (nonterminal R.start) d → IsTree G (nonterminal G.start) d
+  back is = tree_into R G (nonterminal G.start) d (subst (λ A. IsTree R (nonterminal A) d) keeps.start is)
+      (λ p r here rule. ((keeps.rules p r).0 rule).0)
+
+pub keeps_sentences : KeepsSentences
+keeps_sentences G R keeps ts = (
+  λ (d, is, yields). (d, (keeps_trees G R keeps d).0 is, yields),
+  λ (d, is, yields). (d, (keeps_trees G R keeps d).1 is, yields),
+)

@@ -6,7 +6,8 @@ use Rattle.ly_base.specs.Trees.{Tree, Trees, leaf, node, none, more, Occurs, Occ
 use Rattle.ly_join.specs.Grammar.{Grammar, Rule, IsRule, Symbol, accept_rule, terminal, nonterminal}
 use Rattle.ly_grammar.specs.Derivations.{IsTree, AreTrees, IsUseful}
 use Rattle.ly_grammar.specs.Reduction.{restricted}
-use Rattle.ly_grammar.specs.Private.Reach.{Reached, at_start, through}
+use Rattle.ly_grammar.specs.Laws.{IsLed, at_start, by_rule}
+use Rattle.ly_grammar.specs.Private.Reach.{Reached, start, through}
 use Rattle.ly_grammar.specs.Private.Search.{HaveTrees}
 use Rattle.ly_grammar.proofs.MarkedLemmas.{at_marked, marked_at}
 use Rattle.ly_grammar.proofs.SearchLemmas.{rule_is_one}
@@ -45,69 +46,90 @@ pub record IsInStart (G : Grammar) (d : Tree) : Type 0 where
   pub is : IsTree G (nonterminal G.start) tree
   pub occurs : (p : ℕ) → Occurs p d → Occurs p tree
 
+-- a tree of a nonterminal that the start symbol leads to
+pub in_start : (G : Grammar) (A : ℕ) → IsLed G A → (d : Tree) → IsTree G (nonterminal A) d → IsInStart G d
+in_start G A at_start d is = record { tree = d; is = is; occurs = λ p here. here }
+in_start G A (by_rule p r B rule ts led member) d is =
+    let put = put_in G r.body ts.0 A d ts.1 member is in
+    let up = in_start G r.left led (node p put.trees) (r, rule, refl, put.are) in
+    record { tree = up.tree; is = up.is; occurs = λ q here. up.occurs q (inr (put.occurs q here)) }
+
+-- so a rule with trees for its body, whose left side is led to, is useful
+pub led_to_useful : (G : Grammar) (p : ℕ) (r : Rule) → IsRule G p r → (ts : Trees) × AreTrees G r.body ts
+    → IsLed G r.left → IsUseful G p
+led_to_useful G p r rule ts led =
+    let up = in_start G r.left led (node p ts.0) (r, rule, refl, ts.1) in
+    (up.tree, up.is, up.occurs p (inl refl))
+
+-- A rule that occurs in a tree.
+pub record IsLedTo (G : Grammar) (p : ℕ) : Type 0 where
+  pub rule : Rule
+  pub is : IsRule G p rule
+  pub trees : (ts : Trees) × AreTrees G rule.body ts
+  pub left : IsLed G rule.left
+
+mutual
+  -- the rules that occur in a tree of a nonterminal that is led to are such
+  pub occurs_led : (G : Grammar) (A : ℕ) (d : Tree) (p : ℕ) → IsLed G A → IsTree G (nonterminal A) d → Occurs p d
+      → IsLedTo G p
+  occurs_led G A (leaf t) p led is here = absurd is
+  occurs_led G A (node q ts) p led (r, rule, left, are) (inl same) = record {
+    rule = r;
+    is = subst (λ k. IsRule G k r) (sym same) rule;
+    trees = (ts, are);
+    left = subst (λ B. IsLed G B) (sym left) led;
+  }
+  occurs_led G A (node q ts) p led (r, rule, left, are) (inr among) =
+      among_led G r.body ts p (λ B member. by_rule q r B rule (ts, are) (subst (λ C. IsLed G C) (sym left) led) member)
+      are among
+
+  -- and so are those that occur among trees of such
+  pub among_led : (G : Grammar) (w : List Symbol) (ts : Trees) (p : ℕ)
+      → ((B : ℕ) → Contains w (nonterminal B) → IsLed G B) → AreTrees G w ts → OccursAmong p ts → IsLedTo G p
+  among_led G w none p all are here = absurd here
+  among_led G [] (more t ts) p all are here = absurd are
+  among_led G (terminal k ∷ w) (more (leaf t) ts) p all are (inl here) = absurd here
+  among_led G (terminal k ∷ w) (more (node q us) ts) p all are (inl here) = absurd are.0
+  among_led G (nonterminal A ∷ w) (more t ts) p all are (inl here)
+      = occurs_led G A t p (all A (Contains-first (nonterminal A) w)) are.0 here
+  among_led G (X ∷ w) (more t ts) p all are (inr later)
+      = among_led G w ts p (λ B member. all B (Contains-later X w (nonterminal B) member)) are.1 later
+
+-- useful rules are those with trees for their bodies whose left sides are led to
+pub useful_led : (G : Grammar) (p : ℕ) (r : Rule) → IsRule G p r
+    → IsUseful G p ↔ (((ts : Trees) × AreTrees G r.body ts) × IsLed G r.left)
+useful_led G p r rule = (to, λ is. led_to_useful G p r rule is.0 is.1) where
+  to : IsUseful G p → ((ts : Trees) × AreTrees G r.body ts) × IsLed G r.left
+  to (d, is, here) =
+      let led = occurs_led G G.start d p at_start is here in
+      let same : led.rule ≡ r = rule_is_one G p led.rule r led.is rule in
+      (subst (λ x. (ts : Trees) × AreTrees G x.body ts) same led.trees, subst (λ x. IsLed G x.left) same led.left)
+
 module _ (G : Grammar) (marks : List Bool) (productive : AreProductive G marks) where
-  -- a tree of a nonterminal that the start symbol leads to
-  pub in_start : (A : ℕ) → Reached (restricted marks G) A → (d : Tree) → IsTree G (nonterminal A) d → IsInStart G d
-  in_start A at_start d is = record { tree = d; is = is; occurs = λ p here. here }
-  in_start A (through p r B rule led member) d is =
+  -- what is reached by the rules that are marked is led to, and the other way
+  pub reached_led : (A : ℕ) → Reached (restricted marks G) A → IsLed G A
+  reached_led A start = at_start
+  reached_led A (through p r B rule led member) =
       let there = marked_at marks G.rules p r rule in
       let ts = (productive p r there.0).0 there.1 in
-      let put = put_in G r.body ts.0 A d ts.1 member is in
-      let up = in_start r.left led (node p put.trees) (r, there.0, refl, put.are) in
-      record { tree = up.tree; is = up.is; occurs = λ q here. up.occurs q (inr (put.occurs q here)) }
+      by_rule p r A there.0 (ts.0, ts.1) (reached_led r.left led) member
 
-  -- so a rule with trees for its body, whose left side is led to, is useful
-  pub led_to_useful : (p : ℕ) (r : Rule) → IsRule G p r → HaveTrees G true r.body
-      → Reached (restricted marks G) r.left → IsUseful G p
-  led_to_useful p r rule ts led =
-      let up = in_start r.left led (node p ts.0) (r, rule, refl, ts.1) in
-      (up.tree, up.is, up.occurs p (inl refl))
+  pub led_reached : (A : ℕ) → IsLed G A → Reached (restricted marks G) A
+  led_reached A at_start = start
+  led_reached A (by_rule p r B rule ts led member) =
+      through p r A (at_marked marks G.rules p r rule ((productive p r rule).1 (ts.0, ts.1, λ e. absurd (cc))))
+      (led_reached r.left led) member
 
-  -- A rule that occurs in a tree.
-  pub record IsLedTo (p : ℕ) : Type 0 where
-    pub rule : Rule
-    pub is : IsRule (restricted marks G) p rule
-    pub left : Reached (restricted marks G) rule.left
-
-  -- a rule of a tree is marked
-  mark : (p : ℕ) (r : Rule) (ts : Trees) → IsRule G p r → AreTrees G r.body ts → IsRule (restricted marks G) p r
-  mark p r ts rule are = at_marked marks G.rules p r rule ((productive p r rule).1 (ts, are, λ e. absurd (cc)))
-
-  mutual
-    -- the rules that occur in a tree of a nonterminal that is led to are such
-    pub occurs_led : (A : ℕ) (d : Tree) (p : ℕ) → Reached (restricted marks G) A → IsTree G (nonterminal A) d
-        → Occurs p d → IsLedTo p
-    occurs_led A (leaf t) p led is here = absurd is
-    occurs_led A (node q ts) p led (r, rule, left, are) (inl same) =
-        let is : IsRule (restricted marks G) q r = mark q r ts rule are in record {
-          rule = r;
-          is = subst (λ k. IsRule (restricted marks G) k r) (sym same) is;
-          left = subst (λ B. Reached (restricted marks G) B) (sym left) led;
-        }
-    occurs_led A (node q ts) p led (r, rule, left, are) (inr among) =
-        among_led r.body ts p (λ B member. through q r B (mark q r ts rule are)
-        (subst (λ C. Reached (restricted marks G) C) (sym left) led) member) are among
-
-    -- and so are those that occur among trees of such
-    pub among_led : (w : List Symbol) (ts : Trees) (p : ℕ)
-        → ((B : ℕ) → Contains w (nonterminal B) → Reached (restricted marks G) B) → AreTrees G w ts → OccursAmong p ts
-        → IsLedTo p
-    among_led w none p all are here = absurd here
-    among_led [] (more t ts) p all are here = absurd are
-    among_led (terminal k ∷ w) (more (leaf t) ts) p all are (inl here) = absurd here
-    among_led (terminal k ∷ w) (more (node q us) ts) p all are (inl here) = absurd are.0
-    among_led (nonterminal A ∷ w) (more t ts) p all are (inl here)
-        = occurs_led A t p (all A (Contains-first (nonterminal A) w)) are.0 here
-    among_led (X ∷ w) (more t ts) p all are (inr later)
-        = among_led w ts p (λ B member. all B (Contains-later X w (nonterminal B) member)) are.1 later
-
-  -- useful rules are those with trees for their bodies whose left sides are led to
-  pub useful_led : (p : ℕ) (r : Rule) → IsRule G p r → IsUseful G p
-      → (slice_index_or marks p false ≡ true) × Reached (restricted marks G) r.left
-  useful_led p r rule (d, is, here) =
-      let led = occurs_led G.start d p at_start is here in
-      let there = marked_at marks G.rules p led.rule led.is in
-      (there.1, subst (λ x. Reached (restricted marks G) x.left) (rule_is_one G p led.rule r there.0 rule) led.left)
+  -- so a useful rule is one that is marked and reached
+  pub useful_reached : (p : ℕ) (r : Rule) → IsRule G p r
+      → IsUseful G p ↔ ((slice_index_or marks p false ≡ true) × Reached (restricted marks G) r.left)
+  useful_reached p r rule = (
+    λ is.
+        let led = (useful_led G p r rule).0 is in
+        ((productive p r rule).1 (led.0.0, led.0.1, λ e. absurd (cc)), led_reached r.left led.1),
+    λ is. let ts = (productive p r rule).0 is.0 in
+        (useful_led G p r rule).1 ((ts.0, ts.1), reached_led r.left is.1),
+  )
 
 -- the whole text has a tree where the start symbol has, and the other way
 pub whole_trees : (G : Grammar) (d : Tree) → IsTree G (nonterminal G.start) d

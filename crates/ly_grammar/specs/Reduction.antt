@@ -52,4 +52,4 @@ abbrev pub reduction_code : Coded Reduction
 reduction_code = code_by (Grammar × (List Bool × List NumberSet))
     (coded× grammar_code (coded× (coded_list coded_bool) (coded_list (set.code coded_ℕ))))
     (λ r. (r.grammar, (r.nullable, r.first))) (λ p. record { grammar = p.0; nullable = p.1.0; first = p.1.1 })
-        (λ _. refl)
+    (λ _. refl)

@@ -10,10 +10,12 @@
 
 mod fault;
 mod first;
+mod laws;
 mod reduced;
 mod search;
 mod useful;
 mod waiting;
 
 pub use fault::GrammarFault;
+pub use laws::{reduction_keeps_sentences, useful_is_led};
 pub use reduced::{Reduced, reduce};

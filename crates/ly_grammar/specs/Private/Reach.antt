@@ -4,7 +4,7 @@ use Rattle.ly_join.specs.Grammar.{Grammar, Rule, IsRule, Symbol, terminal, nonte
 
 -- the start symbol leads to the nonterminal: it is that, or a rule has it in its body whose left side is led to
 pub data Reached (G : Grammar) : ℕ → Type 0 where
-  at_start : Reached G G.start
+  start : Reached G G.start
   through : (p : ℕ) (r : Rule) (A : ℕ) → IsRule G p r → Reached G r.left → Contains r.body (nonterminal A) → Reached G A
 
 -- from each nonterminal of a body to a left side

@@ -49,11 +49,11 @@ loop-symbol-preserved c =
     record {
       graph = c.in_ok-add_first.ensures.graph
           ∙ ap (λ g. let it : Digraph = record g { edges = g.edges ++ parts left one } in
-              it) c.loop-symbol.invariant.graph
+          it) c.loop-symbol.invariant.graph
           ∙ ap graph (append_assoc edges (parts left before) (parts left one)
           ∙ ap (λ es. edges ++ es) (sym (parts_append left before one) ∙ ap (parts left) (sym more)));
       sets = subst (AreAdded c.args.sets.now c.add_first.new.sets left) (sym more)
           (added_more c.args.sets.now c.loop-symbol.sets c.add_first.new.sets left before one
-              c.loop-symbol.invariant.sets
+          c.loop-symbol.invariant.sets
           c.in_ok-add_first.ensures.sets);
     }

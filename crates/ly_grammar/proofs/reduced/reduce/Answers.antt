@@ -20,7 +20,7 @@ invariant_of-result c =
     c.deref.ensures.value c.in_ok-nullable.ensures.exact in
     let starts : (A t : ℕ) → Member (row first.sets A) t ↔ Starts (restricted kept G) nullable A t
     = subst (λ ks. (A t : ℕ) → Member (row first.sets A) t
-        ↔ Starts (restricted ks G) nullable A t) c.deref-2.ensures.value
+    ↔ Starts (restricted ks G) nullable A t) c.deref-2.ensures.value
     (subst (λ ns. (A t : ℕ) → Member (row first.sets A) t ↔ Starts (restricted c.deref-2.result.now G) ns A t)
     c.deref-3.ensures.value c.in_ok-first.ensures.exact) in (
       is_reduction G kept nullable first known.lawful known.long known.exact known.productive empties starts,

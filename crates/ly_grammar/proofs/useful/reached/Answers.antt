@@ -32,7 +32,7 @@ loop-number-preserved c =
           let r : Rule = w.rule.result.now in
           w.graph-is ∙ w.in_ok-add_uses.ensures
           ∙ ap (λ g. let it : Digraph = record g { edges = g.edges ++ uses r.left r.body } in
-              it) c.loop-number.invariant
+          it) c.loop-number.invariant
           ∙ ap (graph_of G) (sym (kept_more (λ r. uses r.left r.body) G kept n r w.rule.ensures.there
           w.if-productive-number.true))
       | else-productive-number w ↦

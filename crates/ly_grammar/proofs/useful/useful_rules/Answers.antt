@@ -11,7 +11,7 @@ use Rattle.ly_grammar.specs.Reduction.{restricted}
 use Rattle.ly_grammar.specs.Private.Reach.{Reached}
 use Rattle.ly_grammar.proofs.MarksLemmas.{AreMarks, marked_more}
 use Rattle.ly_grammar.proofs.SearchLemmas.{rule_is_one}
-use Rattle.ly_grammar.proofs.UsefulLemmas.{AreProductive, led_to_useful, useful_led, whole_trees, start_tree}
+use Rattle.ly_grammar.proofs.UsefulLemmas.{AreProductive, useful_reached, whole_trees, start_tree}
 use Rattle.ly_grammar.proofs.useful.useful_rules.Goals as goal
 use Rattle.ly_grammar.proofs.useful.useful_rules.Goals.{then-number-eq0, else-number-eq0+then-index}
 use Rattle.ly_grammar.proofs.useful.useful_rules.Goals.{else-number-eq0+else-index}
@@ -82,7 +82,7 @@ loop-number-preserved c =
     ] in
     let each : (q : Rule) → IsRule G n q → (c.if-number-eq0.push ≡ true) ↔ P n q
     = λ q rule. subst (λ x. (c.if-number-eq0.push ≡ true) ↔ P n x)
-        (rule_is_one G n r q c.rule.ensures.there rule) here in
+    (rule_is_one G n r q c.rule.ensures.there rule) here in
     subst (λ ms. AreMarks G P ms (n + 1)) (sym c.in_ok-push.ensures.items)
     (marked_more G P c.loop-number.useful.items n c.if-number-eq0.push c.loop-number.invariant each)
 
@@ -99,11 +99,11 @@ returns-clause-exact c p r rule =
     let l = known.long in omega (arith, within, past, long, e, l)) in (
       λ on. elim (here.0 on) [
         | inl zero ↦ inl zero
-        | inr led ↦ inr (led_to_useful G marks productive p r rule ((productive p r rule).0 led.0) led.1)
+        | inr led ↦ inr ((useful_reached G marks productive p r rule).1 led)
       ],
       λ is. here.1 (elim is [
         | inl zero ↦ inl zero
-        | inr is_useful ↦ inr (useful_led G marks productive p r rule is_useful)
+        | inr is_useful ↦ inr ((useful_reached G marks productive p r rule).0 is_useful)
       ]),
     )
 

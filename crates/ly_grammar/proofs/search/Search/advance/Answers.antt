@@ -22,7 +22,7 @@ pub find-requires : goal.find-requires
 find-requires c =
     subst (λ n. n < length c.pass.new.self.found) (sym c.left.ensures)
     (subst (λ n. c.args.rule.now.left < n)
-        (ap (λ s. length s.found) (sym c.pass.ensures.rest)) c.requires.numbered.left)
+    (ap (λ s. length s.found) (sym c.pass.ensures.rest)) c.requires.numbered.left)
 
 pub returns-in-None : goal.returns-in-None
 returns-in-None c =
