@@ -81,7 +81,8 @@ module _ (of : List ℕ) (count : ℕ) (numbers : List (Option ℕ)) (picked : L
     states = each_pick (λ n s. s < length of) so.states is_state;
     numbered = each_pick (λ n s. entry_at (set numbers (block_of of state) (Some (length picked)))
         (block_of of s) ≡ Some n)
-        (λ n l. get_or-set_other numbers (block_of of state) (block_of of (pick_of picked n)) (Some (length picked)) None
+        (λ n l. get_or-set_other numbers (block_of of state) (block_of of (pick_of picked n)) (Some
+        (length picked)) None
         (other_block n l) ∙ so.numbered n l)
         given;
     met = λ b n e. elim (cases_eq b (block_of of state)) [
@@ -160,7 +161,8 @@ module _ (A : Automaton) (of : List ℕ) (old new : Quotient) (target : Option �
       → IsQuotient A of new
   entered_any room start row = record {
     order = subst (λ es. AreInOrder A.starts A.classes (length new.picked.items) es) (sym entered.appended)
-        (order_more A.starts A.classes (length old.picked.items) (length new.picked.items) (targets_of old) entered.entry
+        (order_more A.starts A.classes (length old.picked.items) (length new.picked.items)
+        (targets_of old) entered.entry
         so.order longer (λ n e. number_within of new.picked.items entered.entry target n entered.number e)
         entered.fresh room);
     at_start = λ k l m. subst (λ es. IsNumberOf of new.picked.items (entry_at es k) (entry_at A.entries k))
@@ -204,7 +206,8 @@ module _ (A : Automaton) (of : List ℕ) (old new : Quotient) (target : Option �
       let turned : A.classes * t ≡ t * A.classes = mul_comm A.classes t in
       omega (arith, row, turned, at, count_targets old))
       (λ l. absurd (omega (arith, at, l, count_targets old)))
-      (λ t d l is. let place = same_from_place t d n c A.classes l within (omega (arith, is, at, count_targets old)) in (
+      (λ t d l is. let place = same_from_place t d n c A.classes l within (omega
+      (arith, is, at, count_targets old)) in (
         omega (arith, place.0, less),
         same ∙ ap (λ s. next_by_class A s c) (ap (pick_of old.picked.items)
             (sym place.0))
