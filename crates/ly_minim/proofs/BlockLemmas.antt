@@ -1,6 +1,7 @@
 -- Partitions that are refined: what is split is told apart, and where nothing is split the partition is stable.
-use Rattle.std.proofs.Common.{◌≡◌, ◌≢◌, ◌⊎◌, ◌<◌, ◌≤◌, ◌+◌, ◌^◌, ◌∙◌, ◌++◌, ◌∷◌, [], ℕ, zero, suc, List, length, Option, Some}
-use Rattle.std.proofs.Common.{None, refl, sym, ap, subst, arith, inl, inr, get_or, slice_get, below_more, lt-ltb, ltb}
+use Rattle.std.proofs.Common.{◌≡◌, ◌≢◌, ◌⊎◌, ◌<◌, ◌≤◌, ◌+◌, ◌^◌, ◌∙◌, ◌++◌, ◌∷◌, [], ℕ, zero, suc, List, length}
+use Rattle.std.proofs.Common.{Option, Some}
+use Rattle.std.proofs.Common.{None, refl, sym, ap, subst, arith, inl, inr, get_or, below_more, lt-ltb, ltb}
 use Rattle.std.specs.Prelude.{option_map, option_and_then}
 use mir.Val.{bool_byte}
 use Rattle.std.proofs.lemmas.Bool.{cases_eq, cases_lt}
@@ -116,7 +117,8 @@ module _ (A : Automaton) (is : IsAutomaton A) (trim : IsTrim A) (of finer : List
       → Distinguished A (Some s) (Some t)
   by_class s t c l ne =
       let b = is.used c l in
-      let d = by_blocks (next_by_class A s c) (next_by_class A t c) (λ u e. is.within _ u e) (λ u e. is.within _ u e) ne in
+      let d = by_blocks (next_by_class A s c) (next_by_class A t c) (λ u e. is.within _ u e)
+      (λ u e. is.within _ u e) ne in
       let next : (v : ℕ) → next_of A (Some v) b.0 ≡ next_by_class A v c
       = λ v. ap (option_and_then (next_by_class A v)) b.1 in
       (b.0 ∷ d.0, λ e. d.1 (ap (λ o. rule_after A o d.0) (sym (next s)) ∙ e ∙ ap (λ o. rule_after A o d.0) (next t)))
@@ -238,7 +240,8 @@ blocks_of A of n finer keys count all fits same so = record {
 }
 
 -- a key's number
-pub named_known : (keys : List (List ℕ)) (key : List ℕ) (number : ℕ) → number < length keys → get_or keys number [] ≡ key
+pub named_known : (keys : List (List ℕ)) (key : List ℕ) (number : ℕ) → number < length keys
+    → get_or keys number [] ≡ key
     → IsNamed keys key keys number
 named_known keys key number l at = record {
   more = [];
@@ -256,7 +259,8 @@ named_new keys key absent = record {
   grown = refl;
   within = omega (arith, length_push keys key);
   at = get_or_push keys key [] (length keys) refl;
-  fresh = λ n less past. let last : n ≡ length keys = omega (arith, length_push keys key, less, past) in (last, sym last);
+  fresh = λ n less past. let last : n ≡ length keys = omega (arith, length_push keys key, less, past) in
+      (last, sym last);
   absent = λ n less e. absurd (absent n less e);
 }
 

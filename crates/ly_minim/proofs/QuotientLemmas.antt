@@ -1,6 +1,8 @@
 -- A state for each block that is met: how it is numbered, and that the automaton of these does what the first one does.
-use Rattle.std.proofs.Common.{◌≡◌, ◌≢◌, ◌⊎◌, ◌<◌, ◌≤◌, ◌+◌, ◌*◌, ◌^◌, ◌∙◌, ◌++◌, ◌∷◌, [], ℕ, zero, suc, List, length, Option}
-use Rattle.std.proofs.Common.{Some, None, Bool, true, false, refl, sym, ap, subst, arith, inl, inr, get_or, set, slice_get, map}
+use Rattle.std.proofs.Common.{◌≡◌, ◌≢◌, ◌<◌, ◌≤◌, ◌+◌, ◌*◌, ◌∙◌, ◌++◌, ◌∷◌, [], ℕ, suc, List, length}
+use Rattle.std.proofs.Common.{Option}
+use Rattle.std.proofs.Common.{Some, None, Bool, refl, sym, ap, subst, arith, inl, inr, set}
+use Rattle.std.proofs.Common.{slice_get, map}
 use Rattle.std.proofs.Common.{length-set, get_or-set_same, get_or-set_other, lt-ltb}
 use Rattle.std.specs.Prelude.{option_map, option_and_then, if◌then◌else◌, nat_lt}
 use Rattle.std.proofs.lemmas.Bool.{cases_eq, cases_lt}
@@ -8,22 +10,20 @@ use Rattle.std.proofs.lemmas.Bool.{le-ltb}
 use Rattle.std.proofs.lemmas.List.{append-nil, get_or_append_left, get_or_push, length-append, length-map, length_push}
 use Rattle.std.proofs.lemmas.List.{get_or_past, map_push}
 use Rattle.std.proofs.lemmas.Nat.{mul-add-lt, same_from_place}
-use Rattle.std.proofs.lemmas.Option.{same_Some, slice_get_within}
+use Rattle.std.proofs.lemmas.Option.{same_Some}
 use Rattle.std.proofs.Math.Nat.{mul_comm}
-use Rattle.ly_base.specs.declared.numbers.RuleNo.{RuleNo}
 use Rattle.ly_subset.specs.Automaton.{AreInOrder, Automaton, IsAutomaton, IsTrim, entry_at, next_by_class, next_of}
 use Rattle.ly_subset.specs.Automaton.{rule_after, rule_of}
 use Rattle.ly_subset.specs.Automaton.{start_of, start_place, state_after}
 use Rattle.ly_subset.specs.Entry.{target_of}
 use Rattle.ly_subset.specs.declared.entry.Entry.{Entry}
 use Rattle.ly_subset.proofs.OrderLemmas.{each_entry, order_more, order_none}
-use Rattle.ly_minim.specs.Smallest.{Distinguished, HaveSameRules, IsReduced}
-use Rattle.ly_minim.specs.Private.Blocks.{AreApart, AreBlocks, IsStable}
-use Rattle.ly_minim.specs.Private.Quotient.{AreNumbered, AreNumberedBy, IsEntered, IsMet, IsNumberOf, IsQuotient}
+use Rattle.ly_minim.specs.Smallest.{HaveSameRules, IsReduced}
+use Rattle.ly_minim.specs.Private.Blocks.{AreApart, IsStable}
+use Rattle.ly_minim.specs.Private.Quotient.{AreNumberedBy, IsEntered, IsMet, IsNumberOf, IsQuotient}
 use Rattle.ly_minim.specs.Private.Quotient.{pick_of, targets_of}
 use Rattle.ly_minim.specs.Private.Rules.{HaveRules}
-use Rattle.ly_minim.specs.Private.Signature.{block_after, block_of}
-use Rattle.ly_minim.specs.declared.blocks.Blocks.{Blocks}
+use Rattle.ly_minim.specs.Private.Signature.{block_of}
 use Rattle.ly_minim.specs.declared.quotient.Quotient.{Quotient}
 use Rattle.ly_minim.proofs.WalkLemmas.{pigeonhole}
 
@@ -59,48 +59,60 @@ module _ (of : List ℕ) (count : ℕ) (numbers : List (Option ℕ)) (picked : L
   -- there are no more numbers than blocks
   pub room_for : length picked < count
   room_for = pigeonhole (suc (length picked)) count (λ n b. block_of of (pick_of (picked ++ state ∷ []) n) ≡ b)
-      (λ n l. (block_of of (pick_of (picked ++ state ∷ []) n),
+      (λ n l. (
+        block_of of (pick_of (picked ++ state ∷ []) n),
         so.blocks_within (pick_of (picked ++ state ∷ []) n)
-        (each_pick (λ k s. s < length of) so.states is_state n (omega (arith, l, length_push picked state))), refl))
+            (each_pick (λ k s. s < length of) so.states is_state n (omega (arith, l, length_push picked state))),
+        refl,
+      ))
       (λ i h b l m e f. each_pick (λ k s. block_of of s ≡ block_of of (pick_of (picked ++ state ∷ []) h) → k ≡ h)
-        (λ k less. each_pick (λ j s. block_of of (pick_of picked k) ≡ block_of of s → k ≡ j)
-          (λ j more g. same_Some k j (sym (so.numbered k less) ∙ ap (entry_at numbers) g ∙ so.numbered j more))
-          (λ g. absurd (other_block k less g)) h (omega (arith, m, length_push picked state)))
-        (each_pick (λ j s. block_of of state ≡ block_of of s → length picked ≡ j)
-          (λ j more g. absurd (other_block j more (sym g))) (λ g. refl) h (omega (arith, m, length_push picked state)))
-        i (omega (arith, l, length_push picked state)) (e ∙ sym f))
+      (λ k less. each_pick (λ j s. block_of of (pick_of picked k) ≡ block_of of s → k ≡ j)
+      (λ j more g. same_Some k j (sym (so.numbered k less) ∙ ap (entry_at numbers) g ∙ so.numbered j more))
+      (λ g. absurd (other_block k less g)) h (omega (arith, m, length_push picked state)))
+      (each_pick (λ j s. block_of of state ≡ block_of of s → length picked ≡ j)
+      (λ j more g. absurd (other_block j more (sym g))) (λ g. refl) h (omega (arith, m, length_push picked state)))
+      i (omega (arith, l, length_push picked state)) (e ∙ sym f))
 
-  pub numbered_more : AreNumberedBy of count (set numbers (block_of of state) (Some (length picked))) (picked ++ state ∷ [])
+  pub numbered_more : AreNumberedBy of count (set numbers (block_of of state) (Some (length picked)))
+      (picked ++ state ∷ [])
   numbered_more = record {
     room = length-set numbers (block_of of state) (Some (length picked)) ∙ so.room;
     blocks_within = so.blocks_within;
     states = each_pick (λ n s. s < length of) so.states is_state;
-    numbered = each_pick (λ n s. entry_at (set numbers (block_of of state) (Some (length picked))) (block_of of s) ≡ Some n)
-      (λ n l. get_or-set_other numbers (block_of of state) (block_of of (pick_of picked n)) (Some (length picked)) None
+    numbered = each_pick (λ n s. entry_at (set numbers (block_of of state) (Some (length picked)))
+        (block_of of s) ≡ Some n)
+        (λ n l. get_or-set_other numbers (block_of of state) (block_of of (pick_of picked n)) (Some
+        (length picked)) None
         (other_block n l) ∙ so.numbered n l)
-      given;
+        given;
     met = λ b n e. elim (cases_eq b (block_of of state)) [
       | inl same ↦ let is : length picked ≡ n = same_Some (length picked) n
-          (sym given ∙ ap (entry_at (set numbers (block_of of state) (Some (length picked)))) (sym same) ∙ e) in
-          (omega (arith, is, length_push picked state),
-          ap (λ k. block_of of (pick_of (picked ++ state ∷ []) k)) (sym is) ∙ ap (block_of of) new_pick ∙ sym same)
-      | inr other ↦ let was = so.met b n (sym (get_or-set_other numbers (block_of of state) b (Some (length picked)) None
+          (sym given ∙ ap (entry_at (set numbers (block_of of state) (Some (length picked)))) (sym same) ∙ e) in (
+            omega (arith, is, length_push picked state),
+            ap (λ k. block_of of (pick_of (picked ++ state ∷ []) k)) (sym is) ∙ ap (block_of of) new_pick ∙ sym same,
+          )
+      | inr other ↦ let was = so.met b n (sym (get_or-set_other numbers (block_of of state) b (Some
+          (length picked)) None
           other) ∙ e) in
           (omega (arith, was.0, length_push picked state), ap (block_of of) (old_pick n was.0) ∙ was.1)
     ];
   }
     where
-      given : entry_at (set numbers (block_of of state) (Some (length picked))) (block_of of state) ≡ Some (length picked)
+      given : entry_at (set numbers (block_of of state) (Some (length picked))) (block_of of state) ≡ Some
+          (length picked)
       given = get_or-set_same numbers (block_of of state) (Some (length picked)) None
           (let room = so.room in omega (arith, so.blocks_within state is_state))
 
 -- numbers of states, when there are more states
-pub number_more : (of picked more : List ℕ) (e o : Option ℕ) → IsNumberOf of picked e o → IsNumberOf of (picked ++ more) e o
+pub number_more : (of picked more : List ℕ) (e o : Option ℕ) → IsNumberOf of picked e o
+    → IsNumberOf of (picked ++ more) e o
 number_more of picked more None None h = tt
 number_more of picked more None (Some t) h = h
 number_more of picked more (Some n) None h = h
-number_more of picked more (Some n) (Some t) h = (omega (arith, h.0, length-append picked more),
-    ap (block_of of) (get_or_append_left picked more 0 n h.0) ∙ h.1)
+number_more of picked more (Some n) (Some t) h = (
+  omega (arith, h.0, length-append picked more),
+  ap (block_of of) (get_or_append_left picked more 0 n h.0) ∙ h.1,
+)
 
 -- a number of a state is that of another one in its block
 number_same : (of picked : List ℕ) (e o u : Option ℕ) → option_map (block_of of) o ≡ option_map (block_of of) u
@@ -112,7 +124,8 @@ number_same of picked (Some n) None u same h = absurd h
 number_same of picked (Some n) (Some o) None same h = cc
 number_same of picked (Some n) (Some o) (Some u) same h = (h.0, h.1 ∙ same_Some _ _ same)
 
-number_within : (of picked : List ℕ) (e o : Option ℕ) (n : ℕ) → IsNumberOf of picked e o → e ≡ Some n → n < length picked
+number_within : (of picked : List ℕ) (e o : Option ℕ) (n : ℕ) → IsNumberOf of picked e o → e ≡ Some n
+    → n < length picked
 number_within of picked None o n h e = cc
 number_within of picked (Some m) None n h e = absurd h
 number_within of picked (Some m) (Some t) n h e = let same : m ≡ n = cc in omega (arith, h.0, same)
@@ -144,34 +157,39 @@ module _ (A : Automaton) (of : List ℕ) (old new : Quotient) (target : Option �
   entered_any : ((n : ℕ) → length old.picked.items ≡ n → length (targets_of old) < A.starts + n * A.classes)
       → (length (targets_of old) < A.starts → target ≡ entry_at A.entries (length (targets_of old)))
       → ((n c : ℕ) → c < A.classes → A.starts + (n * A.classes + c) ≡ length (targets_of old)
-        → (n < length old.picked.items) × (target ≡ next_by_class A (pick_of old.picked.items n) c))
+      → (n < length old.picked.items) × (target ≡ next_by_class A (pick_of old.picked.items n) c))
       → IsQuotient A of new
   entered_any room start row = record {
     order = subst (λ es. AreInOrder A.starts A.classes (length new.picked.items) es) (sym entered.appended)
-      (order_more A.starts A.classes (length old.picked.items) (length new.picked.items) (targets_of old) entered.entry
-      so.order longer (λ n e. number_within of new.picked.items entered.entry target n entered.number e) entered.fresh room);
+        (order_more A.starts A.classes (length old.picked.items) (length new.picked.items)
+        (targets_of old) entered.entry
+        so.order longer (λ n e. number_within of new.picked.items entered.entry target n entered.number e)
+        entered.fresh room);
     at_start = λ k l m. subst (λ es. IsNumberOf of new.picked.items (entry_at es k) (entry_at A.entries k))
-      (sym entered.appended) (each_entry (targets_of old) entered.entry
-      (λ j o. j < A.starts → IsNumberOf of new.picked.items o (entry_at A.entries j))
-      (λ j less within. kept_number (entry_at (targets_of old) j) (entry_at A.entries j)
+        (sym entered.appended) (each_entry (targets_of old) entered.entry
+        (λ j o. j < A.starts → IsNumberOf of new.picked.items o (entry_at A.entries j))
+        (λ j less within. kept_number (entry_at (targets_of old) j) (entry_at A.entries j)
         (so.at_start j (omega (arith, less, count_targets old)) within))
-      (λ within. subst (λ o. IsNumberOf of new.picked.items entered.entry o) (start within) entered.number)
-      k (omega (arith, l, count_targets new, ap length entered.appended)) m);
+        (λ within. subst (λ o. IsNumberOf of new.picked.items entered.entry o) (start within) entered.number)
+        k (omega (arith, l, count_targets new, ap length entered.appended)) m);
     at_row = λ n c l m. subst (λ es. (n < length new.picked.items) × IsNumberOf of new.picked.items
         (entry_at es (A.starts + (n * A.classes + c))) (next_by_class A (pick_of new.picked.items n) c))
-      (sym entered.appended) (each_entry (targets_of old) entered.entry
-      (λ j o. A.starts + (n * A.classes + c) ≡ j → (n < length new.picked.items)
+        (sym entered.appended) (each_entry (targets_of old) entered.entry
+        (λ j o. A.starts + (n * A.classes + c) ≡ j → (n < length new.picked.items)
         × IsNumberOf of new.picked.items o (next_by_class A (pick_of new.picked.items n) c))
-      (λ j less same. let was = so.at_row n c l (omega (arith, less, same, count_targets old)) in
-        (let long = longer in omega (arith, was.0),
-        subst (λ s. IsNumberOf of new.picked.items (entry_at (targets_of old) j) (next_by_class A s c))
-          (sym (kept_pick n was.0)) (kept_number (entry_at (targets_of old) j)
-          (next_by_class A (pick_of old.picked.items n) c) (subst (λ i. IsNumberOf of old.picked.items
-          (entry_at (targets_of old) i) (next_by_class A (pick_of old.picked.items n) c)) same was.1))))
-      (λ same. let here = row n c l same in (let long = longer in omega (arith, here.0),
-        subst (λ o. IsNumberOf of new.picked.items entered.entry o)
-          (here.1 ∙ ap (λ s. next_by_class A s c) (sym (kept_pick n here.0))) entered.number))
-      (A.starts + (n * A.classes + c)) (omega (arith, m, count_targets new, ap length entered.appended)) refl);
+        (λ j less same. let was = so.at_row n c l (omega (arith, less, same, count_targets old)) in (
+          let long = longer in omega (arith, was.0),
+          subst (λ s. IsNumberOf of new.picked.items (entry_at (targets_of old) j) (next_by_class A s c))
+              (sym (kept_pick n was.0)) (kept_number (entry_at (targets_of old) j)
+              (next_by_class A (pick_of old.picked.items n) c) (subst (λ i. IsNumberOf of old.picked.items
+              (entry_at (targets_of old) i) (next_by_class A (pick_of old.picked.items n) c)) same was.1)),
+        ))
+        (λ same. let here = row n c l same in (
+          let long = longer in omega (arith, here.0),
+          subst (λ o. IsNumberOf of new.picked.items entered.entry o)
+              (here.1 ∙ ap (λ s. next_by_class A s c) (sym (kept_pick n here.0))) entered.number,
+        ))
+        (A.starts + (n * A.classes + c)) (omega (arith, m, count_targets new, ap length entered.appended)) refl);
   }
 
   pub entered_start : length old.entries.items < A.starts → target ≡ entry_at A.entries (length old.entries.items)
@@ -185,12 +203,16 @@ module _ (A : Automaton) (of : List ℕ) (old new : Quotient) (target : Option �
       → target ≡ next_by_class A (pick_of old.picked.items n) c → IsQuotient A of new
   entered_row n c less within at same = entered_any
       (λ t is. let row = mul-add-lt n A.classes c t (omega (arith, less, is)) within in
-        let turned : A.classes * t ≡ t * A.classes = mul_comm A.classes t in
-        omega (arith, row, turned, at, count_targets old))
+      let turned : A.classes * t ≡ t * A.classes = mul_comm A.classes t in
+      omega (arith, row, turned, at, count_targets old))
       (λ l. absurd (omega (arith, at, l, count_targets old)))
-      (λ t d l is. let place = same_from_place t d n c A.classes l within (omega (arith, is, at, count_targets old)) in
-        (omega (arith, place.0, less), same ∙ ap (λ s. next_by_class A s c) (ap (pick_of old.picked.items) (sym place.0))
-          ∙ ap (next_by_class A (pick_of old.picked.items t)) (sym place.1)))
+      (λ t d l is. let place = same_from_place t d n c A.classes l within (omega
+      (arith, is, at, count_targets old)) in (
+        omega (arith, place.0, less),
+        same ∙ ap (λ s. next_by_class A s c) (ap (pick_of old.picked.items)
+            (sym place.0))
+            ∙ ap (next_by_class A (pick_of old.picked.items t)) (sym place.1),
+      ))
 
 -- nothing is entered yet
 pub quotient_none : (A : Automaton) (of : List ℕ) (q : Quotient) → q.picked.items ≡ [] → q.entries.items ≡ []
@@ -251,7 +273,8 @@ pub record IsQuotientOf (A B : Automaton) (of picked : List ℕ) : Type 0 where
   pub full : length B.entries ≡ A.starts + length picked * A.classes
   pub at_start : (k : ℕ) → k < A.starts → IsNumberOf of picked (entry_at B.entries k) (entry_at A.entries k)
   pub at_row : (n c : ℕ) → n < length picked → c < A.classes
-      → IsNumberOf of picked (entry_at B.entries (A.starts + (n * A.classes + c))) (next_by_class A (pick_of picked n) c)
+      → IsNumberOf of picked (entry_at B.entries (A.starts + (n * A.classes + c))) (next_by_class A
+      (pick_of picked n) c)
   pub one : (i j : ℕ) → i < length picked → j < length picked
       → block_of of (pick_of picked i) ≡ block_of of (pick_of picked j) → i ≡ j
 
@@ -261,11 +284,12 @@ module _ (A B : Automaton) (of picked : List ℕ) (is : IsAutomaton A) (so : IsQ
   quotient_automaton = record {
     bytes = ap length so.class_of ∙ is.bytes;
     used = λ c l. let b = is.used c (let same = so.classes in omega arith) in
-      (b.0, ap (λ cs. slice_get cs b.0) so.class_of ∙ b.1);
+        (b.0, ap (λ cs. slice_get cs b.0) so.class_of ∙ b.1);
     class_within = λ b c e. let same = so.classes in
-      omega (arith, is.class_within b c (ap (λ cs. slice_get cs b) (sym so.class_of) ∙ e));
+        omega (arith, is.class_within b c (ap (λ cs. slice_get cs b) (sym so.class_of) ∙ e));
     full = so.full ∙ ap (λ n. A.starts + length picked * n) (sym so.classes)
-      ∙ ap (λ n. A.starts + n * B.classes) (sym so.rules.count) ∙ ap (λ n. n + length B.rules * B.classes) (sym so.starts);
+        ∙ ap (λ n. A.starts + n * B.classes) (sym so.rules.count) ∙ ap (λ n. n + length B.rules * B.classes)
+        (sym so.starts);
     within = λ k s e. let count = so.rules.count in omega (arith, so.order.within k s e);
   }
 
@@ -299,7 +323,7 @@ module _ (A B : Automaton) (of picked : List ℕ) (is : IsAutomaton A) (so : IsQ
         by (Some c) e =
             let less : c < A.classes = is.class_within b c e in
             let same : B.starts + (n * B.classes + c) ≡ A.starts + (n * A.classes + c)
-              = ap (λ x. x + (n * B.classes + c)) so.starts ∙ ap (λ x. A.starts + (n * x + c)) so.classes in
+            = ap (λ x. x + (n * B.classes + c)) so.starts ∙ ap (λ x. A.starts + (n * x + c)) so.classes in
             number_same of picked (entry_at B.entries (B.starts + (n * B.classes + c)))
             (next_by_class A (pick_of picked n) c) (next_by_class A s c)
             (stable.one_next (pick_of picked n) s c (so.states n h.0) l less h.1)
@@ -312,7 +336,8 @@ module _ (A B : Automaton) (of picked : List ℕ) (is : IsAutomaton A) (so : IsQ
     follow None None (b ∷ w) h l = follow None None w tt (λ t e. cc)
     follow None (Some s) (b ∷ w) h l = absurd h
     follow (Some n) None (b ∷ w) h l = absurd h
-    follow (Some n) (Some s) (b ∷ w) h l = follow (next_of B (Some n) b) (next_of A (Some s) b) w (step n s h (l s refl) b)
+    follow (Some n) (Some s) (b ∷ w) h l = follow (next_of B (Some n) b) (next_of A (Some s) b) w (step n s h
+        (l s refl) b)
         (next_in (Some s) b)
 
     after_in : (o : Option ℕ) (w : List ℕ) → ((t : ℕ) → o ≡ Some t → t < length A.rules) → (t : ℕ)
@@ -356,41 +381,50 @@ module _ (A B : Automaton) (of picked : List ℕ) (is : IsAutomaton A) (so : IsQ
     number_of None s h = absurd h
     number_of (Some n) s h = (n, refl, h.0, h.1)
 
-    own : (n : ℕ) → n < length picked → (w : List ℕ) → rule_after B (Some n) w ≡ rule_after A (Some (pick_of picked n)) w
+    own : (n : ℕ) → n < length picked → (w : List ℕ) → rule_after B (Some n) w ≡ rule_after A (Some
+        (pick_of picked n)) w
     own n l w = rules_after (Some n) (Some (pick_of picked n)) w (l, refl)
-        (λ t e. let same : pick_of picked n ≡ t = same_Some (pick_of picked n) t e in omega (arith, so.states n l, same))
+        (λ t e. let same : pick_of picked n ≡ t = same_Some (pick_of picked n) t e in omega
+        (arith, so.states n l, same))
 
     -- and it is reduced
     pub quotient_reduced : IsTrim A → AreApart A of → IsReduced B
     quotient_reduced trim apart = record {
       trim = record {
         reached = λ n l.
-          let less : n < length picked = let count = so.rules.count in omega arith in
-          let r = trim.reached (pick_of picked n) (so.states n less) in
-          let there = number_of (state_after B (start_of B r.0 r.1) r.2) (pick_of picked n)
+            let less : n < length picked = let count = so.rules.count in omega arith in
+            let r = trim.reached (pick_of picked n) (so.states n less) in
+            let there = number_of (state_after B (start_of B r.0 r.1) r.2) (pick_of picked n)
             (subst (λ o. IsNumberOf of picked (state_after B (start_of B r.0 r.1) r.2) o) r.3
             (follow (start_of B r.0 r.1) (start_of A r.0 r.1) r.2 (start_number r.0 r.1) (start_in r.0 r.1))) in
-          (r.0, r.1, r.2, there.1 ∙ ap (λ x. Some x) (so.one there.0 n there.2 less there.3));
+            (r.0, r.1, r.2, there.1 ∙ ap (λ x. Some x) (so.one there.0 n there.2 less there.3));
         leads = λ n l.
-          let less : n < length picked = let count = so.rules.count in omega arith in
-          let r = trim.leads (pick_of picked n) (so.states n less) in
-          (r.0, r.1, own n less r.0 ∙ r.2);
+            let less : n < length picked = let count = so.rules.count in omega arith in
+            let r = trim.leads (pick_of picked n) (so.states n less) in
+            (r.0, r.1, own n less r.0 ∙ r.2);
       };
       distinguished = λ i j l m ne.
-        let a : i < length picked = let count = so.rules.count in omega (arith, l) in
-        let b : j < length picked = let count = so.rules.count in omega (arith, m) in
-        let d = apart (pick_of picked i) (pick_of picked j) (so.states i a) (so.states j b) (λ e. ne (so.one i j a b e)) in
-        (d.0, λ e. d.1 (sym (own i a d.0) ∙ e ∙ own j b d.0));
+          let a : i < length picked = let count = so.rules.count in omega (arith, l) in
+          let b : j < length picked = let count = so.rules.count in omega (arith, m) in
+          let d = apart (pick_of picked i) (pick_of picked j) (so.states i a) (so.states j b) (λ e. ne
+          (so.one i j a b e)) in
+          (d.0, λ e. d.1 (sym (own i a d.0) ∙ e ∙ own j b d.0));
     }
 
 -- no numbers and one more place
-pub none_more : (xs : List (Option ℕ)) → ((b : ℕ) → entry_at xs b ≡ None) → (b : ℕ) → entry_at (xs ++ None ∷ []) b ≡ None
+pub none_more : (xs : List (Option ℕ)) → ((b : ℕ) → entry_at xs b ≡ None) → (b : ℕ)
+    → entry_at (xs ++ None ∷ []) b ≡ None
 none_more xs none b = elim (cases_lt b (length xs)) [
   | inl less ↦ get_or_append_left xs (None ∷ []) None b less ∙ none b
   | inr past ↦ elim (cases_lt (length xs) b) [
-      | inl beyond ↦ get_or_past (xs ++ None ∷ []) b None (omega (arith, length_push xs (let n : Option ℕ = None in n), beyond))
-      | inr last ↦ let same : length xs ≡ b = omega arith in get_or_push xs None None b same
-    ]
+    | inl beyond ↦ get_or_past (xs ++ None ∷ []) b None (omega (
+      arith,
+      length_push xs
+          (let n : Option ℕ = None in n),
+      beyond,
+    ))
+    | inr last ↦ let same : length xs ≡ b = omega arith in get_or_push xs None None b same
+  ]
 ]
 
 -- what was met is the automaton of the numbers
@@ -412,7 +446,7 @@ quotient_of A B of count q numbers classes class_of starts entries rules so by s
   at_row = λ n c l m. subst (λ es. IsNumberOf of q.picked.items (entry_at es (A.starts + (n * A.classes + c)))
       (next_by_class A (pick_of q.picked.items n) c)) (sym entries)
       (so.at_row n c m (let row = mul-add-lt n A.classes c (length q.picked.items) l m in
-        let turned : A.classes * length q.picked.items ≡ length q.picked.items * A.classes
-          = mul_comm A.classes (length q.picked.items) in omega (arith, row, turned, full))).1;
+      let turned : A.classes * length q.picked.items ≡ length q.picked.items * A.classes
+      = mul_comm A.classes (length q.picked.items) in omega (arith, row, turned, full))).1;
   one = λ i j l m e. same_Some i j (sym (by.numbered i l) ∙ ap (entry_at numbers) e ∙ by.numbered j m);
 }

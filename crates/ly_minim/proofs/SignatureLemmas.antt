@@ -1,5 +1,6 @@
 -- Signatures are one where blocks, rules and what the classes lead to are.
-use Rattle.std.proofs.Common.{◌≡◌, ◌<◌, ◌+◌, ◌∙◌, ℕ, zero, suc, List, [], ◌∷◌, ◌++◌, Option, Some, None, refl, sym, ap, ap₂}
+use Rattle.std.proofs.Common.{◌≡◌, ◌<◌, ◌+◌, ◌∙◌, ℕ, zero, suc, List, [], ◌∷◌, ◌++◌, Option, Some, None, refl, sym}
+use Rattle.std.proofs.Common.{ap, ap₂}
 use Rattle.std.proofs.Common.{arith}
 use Rattle.std.specs.Prelude.{flat_map}
 use Rattle.std.specs.List.{range_with_len}
@@ -23,7 +24,8 @@ marked_all f g from zero e c l = absurd (omega (arith, l))
 marked_all f g from (suc n) e zero l = let same : from ≡ from + 0 = omega arith in
     sym (ap f same) ∙ (marked_front (f from) (g from) _ _ e).0 ∙ ap g same
 marked_all f g from (suc n) e (suc c) l = let same : (from + 1) + c ≡ from + suc c = omega arith in
-    sym (ap f same) ∙ marked_all f g (from + 1) n (marked_front (f from) (g from) _ _ e).1 c (omega (arith, l)) ∙ ap g same
+    sym (ap f same) ∙ marked_all f g (from + 1) n (marked_front (f from) (g from) _ _ e).1 c (omega (arith, l))
+    ∙ ap g same
 
 marked_same : (f g : ℕ → Option ℕ) (from n : ℕ) → ((c : ℕ) → c < n → f (from + c) ≡ g (from + c))
     → flat_map (λ c. marked (f c)) (range_with_len from n) ≡ flat_map (λ c. marked (g c)) (range_with_len from n)
@@ -39,9 +41,11 @@ pub record AreSeenAlike (A : Automaton) (of : List ℕ) (s t : ℕ) : Type 0 whe
   pub rule : rule_of A (Some s) ≡ rule_of A (Some t)
   pub nexts : (c : ℕ) → c < A.classes → block_after A of s c ≡ block_after A of t c
 
-pub seen_from : (A : Automaton) (of : List ℕ) (s t : ℕ) → signature_of A of s ≡ signature_of A of t → AreSeenAlike A of s t
+pub seen_from : (A : Automaton) (of : List ℕ) (s t : ℕ) → signature_of A of s ≡ signature_of A of t
+    → AreSeenAlike A of s t
 seen_from A of s t e =
-    let front : marked (rule_of A (Some s)) ++ flat_map (λ c. marked (block_after A of s c)) (range_with_len 0 A.classes)
+    let front : marked (rule_of A (Some s)) ++ flat_map (λ c. marked (block_after A of s c))
+    (range_with_len 0 A.classes)
     ≡ marked (rule_of A (Some t)) ++ flat_map (λ c. marked (block_after A of t c)) (range_with_len 0 A.classes) = cc in
     let parts = marked_front (rule_of A (Some s)) (rule_of A (Some t)) _ _ front in
     record {
@@ -52,7 +56,8 @@ seen_from A of s t e =
           ∙ marked_all (block_after A of s) (block_after A of t) 0 A.classes parts.1 c l ∙ ap (block_after A of t) same;
     }
 
-pub seen_to : (A : Automaton) (of : List ℕ) (s t : ℕ) → AreSeenAlike A of s t → signature_of A of s ≡ signature_of A of t
+pub seen_to : (A : Automaton) (of : List ℕ) (s t : ℕ) → AreSeenAlike A of s t
+    → signature_of A of s ≡ signature_of A of t
 seen_to A of s t h = ap₂ (λ b xs. b ∷ xs) h.block (ap₂ (λ o xs. marked o ++ xs) h.rule
     (marked_same (block_after A of s) (block_after A of t) 0 A.classes (λ c l. let same : c ≡ 0 + c = omega arith in
     sym (ap (block_after A of s) same) ∙ h.nexts c l ∙ ap (block_after A of t) same)))

@@ -1,11 +1,13 @@
 -- Walks over automata, and that a reduced automaton is smallest.
-use Rattle.std.proofs.Common.{◌≡◌, ◌⊎◌, ℕ, zero, suc, ◌≤◌, ◌<◌, ◌+◌, ◌*◌, List, [], ◌∷◌, ◌++◌, length, Option, Some, None}
+use Rattle.std.proofs.Common.{◌≡◌, ◌⊎◌, ℕ, zero, suc, ◌≤◌, ◌<◌, ◌+◌, ◌*◌, List, [], ◌∷◌, ◌++◌, length, Option, Some}
+use Rattle.std.proofs.Common.{None}
 use Rattle.std.proofs.Common.{refl, ◌∙◌, sym, ap, subst, inl, inr, arith, Bool, slice_get}
 use Rattle.std.specs.Prelude.{option_and_then}
 use Rattle.std.proofs.lemmas.Bool.{cases_eq, cases_lt}
 use Rattle.std.proofs.lemmas.List.{get_or_past}
 use Rattle.std.proofs.lemmas.Nat.{mul-le}
-use Rattle.ly_subset.specs.Automaton.{Automaton, IsAutomaton, entry_at, next_by_class, next_of, rule_after, rule_of, start_of}
+use Rattle.ly_subset.specs.Automaton.{Automaton, IsAutomaton, next_by_class, rule_after, rule_of}
+use Rattle.ly_subset.specs.Automaton.{start_of}
 use Rattle.ly_subset.specs.Automaton.{state_after}
 use Rattle.ly_subset.proofs.LawLemmas.{state-append}
 use Rattle.ly_minim.specs.Smallest.{HaveSameRules, IsReduced, Smallest}

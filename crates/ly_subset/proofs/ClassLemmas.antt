@@ -1,14 +1,14 @@
 -- Classes of bytes: how they are named anew, and split by one position after another.
-use Rattle.std.proofs.Common.{◌≡◌, ◌≢◌, ◌⊎◌, inl, inr, ℕ, zero, suc, ◌+◌, ◌*◌, ◌<◌, ◌≤◌, List, length, Bool, true, false}
-use Rattle.std.proofs.Common.{Option, Some, None, refl, sym, ap, ◌∙◌, subst, arith, set, length-set, get_or-set_same}
+use Rattle.std.proofs.Common.{◌≡◌, ◌≢◌, ◌⊎◌, inl, inr, ℕ, zero, suc, ◌+◌, ◌*◌, ◌<◌, ◌≤◌, List, length, Bool, true}
+use Rattle.std.proofs.Common.{false}
+use Rattle.std.proofs.Common.{Option, Some, None, refl, sym, ap, ◌∙◌, subst, arith, set, get_or-set_same}
 use Rattle.std.proofs.Common.{get_or-set_other, below_more, get_or, slice_get, Contains, [], ◌∷◌, ◌++◌}
-use Rattle.std.specs.Prelude.{if◌then◌else◌, ◌↔◌, map, IsTrue}
+use Rattle.std.specs.Prelude.{if◌then◌else◌, ◌↔◌, map}
 use mir.Val.{bool_byte}
-use Rattle.std.proofs.lemmas.Bool.{cases_Bool, cases_eq, cases_lt, false_from_ne_true}
-use Rattle.std.proofs.lemmas.Option.{same_Some, get_or_from_slice_get, slice_get_past, unwrap_or-slice_get}
+use Rattle.std.proofs.lemmas.Bool.{cases_eq, cases_lt}
+use Rattle.std.proofs.lemmas.Option.{same_Some, get_or_from_slice_get}
 use Rattle.std.proofs.lemmas.List.{get_or_append_left, get_or_push, get_or_read, get_or-map, get_or_past, length_push}
 use Rattle.std.proofs.lemmas.List.{length-map}
-use Rattle.ly_base.specs.ByteSet.{has, members}
 use Rattle.ly_base.proofs.ByteSetLemmas.{members_contain}
 use Rattle.ly_base.proofs.MemberLemmas.{Contains-none}
 use Rattle.ly_position.specs.Nfa.{Nfa, Reads, bytes_of, follow_of, position_of}
@@ -17,7 +17,7 @@ use Rattle.ly_position.specs.Position.{position_from}
 use Rattle.ly_position.specs.declared.nfa.Position.{Position}
 use Rattle.ly_position.specs.declared.nfa.Position.TheVariants as position
 use Rattle.ly_subset.specs.Automaton.{entry_at, AppearInOrder}
-use Rattle.ly_subset.specs.Classes.{AreClasses, AreReadAlike, class_at}
+use Rattle.ly_subset.specs.Classes.{AreClasses, class_at}
 use Rattle.ly_subset.specs.Private.Classes.{AreLeast, AreNamed, AreOrdered, AreUnnamed, IsSplit, IsSplitBy, key_by}
 use Rattle.ly_subset.specs.Private.Classes.{reads_in}
 
@@ -92,7 +92,8 @@ module _ (key : ℕ → ℕ) (n : ℕ) (class_of : List ℕ) (names : List (Opti
     below = so.below;
     each = λ d l. each_more c d (so.each d l);
     in_order = order_more c (λ t f. let at = so.comes (key n) c e in
-        let same : class_at class_of at.0 ≡ c = same_Some _ _ (sym (so.named at.0 at.1) ∙ ap (entry_at names) at.2 ∙ e) in
+        let same : class_at class_of at.0 ≡ c = same_Some _ _ (sym (so.named at.0 at.1) ∙ ap (entry_at names) at.2
+        ∙ e) in
         let h = so.in_order at.0 t at.1 (same ∙ f) in
         (h.0, omega (arith, h.1, at.1), h.2));
     few = let few = so.few in omega (arith, few);
@@ -207,7 +208,8 @@ reads_byte n p place b e h = by place (subst (λ (x : nfa.Position). Contains (b
     by (position.Ends rule) h = Contains-none b h
 
 -- all bytes are of one class before any position splits them
-pub split_by_none : (n : Nfa) (class_of : List ℕ) → length class_of ≡ 256 → ((b : ℕ) → b < 256 → class_at class_of b ≡ 0)
+pub split_by_none : (n : Nfa) (class_of : List ℕ) → length class_of ≡ 256 → ((b : ℕ) → b < 256
+    → class_at class_of b ≡ 0)
     → IsSplitBy n 0 class_of
 split_by_none n class_of bytes zeros = record {
   bytes = bytes;
@@ -234,13 +236,15 @@ split_by_more n p old new place there before split = record {
         ),
   );
   in_order = split.in_order before.in_order;
-  read = λ q b l. below_more (λ r. Reads n r b → b < 256) p (λ r less. before.read r b less) (reads_byte n p place b there)
+  read = λ q b l. below_more (λ r. Reads n r b → b < 256) p (λ r less. before.read r b less)
+      (reads_byte n p place b there)
       q l;
 }
 
 -- no position past the last reads a byte
 reads_none : {A : Type 0} (n : Nfa) (p b : ℕ) → length n.positions ≤ p → Reads n p b → A
-reads_none n p b l h = let past : position_of n p ≡ nfa.reading [] [] = get_or_past n.positions p (nfa.reading [] []) l in
+reads_none n p b l h = let past : position_of n p ≡ nfa.reading [] [] = get_or_past n.positions p
+    (nfa.reading [] []) l in
     Contains-none b (subst (λ (x : nfa.Position). Contains (bytes_of x) b) past h)
 
 -- numbered in the order of the bytes
@@ -321,7 +325,8 @@ least_none class_of = record {
   in_class = λ c l. absurd (omega (arith, l));
 }
 
-pub least_all : (class_of : List ℕ) (n : ℕ) (least : List ℕ) → n ≡ 256 → IsLeastOf class_of n least → AreLeast class_of least
+pub least_all : (class_of : List ℕ) (n : ℕ) (least : List ℕ) → n ≡ 256 → IsLeastOf class_of n least
+    → AreLeast class_of least
 least_all class_of n least e so = record {
   within = λ b l. so.within b (omega (arith, l, e));
   byte = λ c l. omega (arith, so.byte c l, e);

@@ -1,5 +1,6 @@
 -- Automata in memory: entries lead to states.
-use Rattle.std.proofs.Common.{◌≡◌, ◌<◌, ◌+◌, ◌*◌, ◌∙◌, ℕ, List, Option, Some, None, sym, ap, subst, arith, get_or, length, map}
+use Rattle.std.proofs.Common.{◌≡◌, ◌<◌, ◌+◌, ◌*◌, ◌∙◌, ℕ, Option, Some, None, sym, ap, subst, arith, get_or}
+use Rattle.std.proofs.Common.{length}
 use Rattle.std.specs.Prelude.{IfSome}
 use Rattle.std.proofs.lemmas.List.{get_or-map, get_or_read, length-map}
 use Rattle.std.proofs.lemmas.Nat.{mul-add-lt}
@@ -35,7 +36,8 @@ entry_state d A view is k e o l f g
     )
 
 -- the state that a class leads to
-pub next_state : (d : Inside) (A : Automaton) → automaton_of d ≡ A → IsAutomaton (automaton_of d) → (s c : ℕ) (e : Entry)
+pub next_state : (d : Inside) (A : Automaton) → automaton_of d ≡ A → IsAutomaton (automaton_of d)
+    → (s c : ℕ) (e : Entry)
     (o : Option ℕ) → s < length A.rules → c < A.classes
     → e ≡ get_or d.entries.items (d.starts + (s * d.classes + c)) e → o ≡ target_of e
     → IfSome o (λ t. t < length A.rules)

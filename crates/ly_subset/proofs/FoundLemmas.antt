@@ -1,13 +1,14 @@
 -- What a construction of subsets has found: one set more, and one entry more.
-use Rattle.std.proofs.Common.{◌≡◌, ◌≢◌, ◌<◌, ◌≤◌, ◌+◌, ◌*◌, ◌∙◌, ℕ, zero, suc, List, [], ◌∷◌, ◌++◌, Option, Some, None, Bool, true, false, Result, Ok, Err}
-use Rattle.std.proofs.Common.{refl, sym, ap, subst, arith, inl, inr, get_or, length, Contains, All}
+use Rattle.std.proofs.Common.{◌≡◌, ◌<◌, ◌≤◌, ◌+◌, ◌*◌, ◌∙◌, ℕ, List, [], ◌∷◌, ◌++◌, Option, Some}
+use Rattle.std.proofs.Common.{None, Bool, true, false, Result, Ok, Err}
+use Rattle.std.proofs.Common.{refl, sym, ap, subst, arith, inl, inr, length, Contains, All}
 use Rattle.std.specs.Prelude.{AllPairs, ◌↔◌, ◌==◌, slice_index_or, OnOk}
 use Rattle.std.proofs.lemmas.Bool.{cases_lt}
 use Rattle.std.proofs.lemmas.List.{append-nil, get_or_append_left, get_or_past, get_or_push, length-append, length-map}
 use Rattle.std.proofs.lemmas.List.{length_push}
 use Rattle.std.proofs.lemmas.List.Elements.{All-contains, Contains-get_or}
 use Rattle.std.proofs.lemmas.Nat.{mul-add-lt, same_from_place}
-use Rattle.std.proofs.Math.Nat.{mul_comm, mul-le-mul_left}
+use Rattle.std.proofs.Math.Nat.{mul_comm}
 use Rattle.ly_base.proofs.MemberLemmas.{Contains-none}
 use Rattle.ly_base.proofs.SparseSetLemmas.{with_members-same}
 use Rattle.ly_base.specs.SparseSet.{with_members}
@@ -16,7 +17,7 @@ use Rattle.ly_position.specs.declared.set.PositionSet.{PositionSet}
 use Rattle.ly_subset.specs.Entry.{target_of}
 use Rattle.ly_subset.specs.declared.found.Found.{Found}
 use Rattle.ly_subset.specs.Automaton.{entry_at}
-use Rattle.ly_subset.specs.Subsets.{AreSets, IsStateOf, set_at}
+use Rattle.ly_subset.specs.Subsets.{IsStateOf, set_at}
 use Rattle.ly_subset.specs.Private.Found.{AreFound, AreKept, IsEntered, IsFound, IsFull, IsNumbered, IsPast}
 use Rattle.ly_subset.specs.Private.Found.{targets_of}
 use Rattle.ly_subset.specs.Keys.{IsAbsent}
@@ -52,13 +53,20 @@ module _ (below limit : ℕ) (sets : List (List ℕ)) (members key : List ℕ) (
       → AreKept below limit (sets ++ key ∷ [])
   kept_more some within room = record {
     are_sets = record {
-      some = each_more sets key (λ s set. (q : ℕ) × Contains set q) kept.are_sets.some (some.0, (is_key.same some.0).1 some.1);
+      some = each_more sets key (λ s set. (q : ℕ) × Contains set q) kept.are_sets.some (
+        some.0,
+        (is_key.same some.0).1 some.1,
+      );
       apart = λ s t l m. each_more sets key
           (λ s' set. (t' : ℕ) → t' < length (sets ++ key ∷ [])
           → ((q : ℕ) → Contains set q ↔ Contains (set_at (sets ++ key ∷ []) t') q) → s' ≡ t')
           (λ s' less. each_more sets key (λ t' set. ((q : ℕ) → Contains (set_at sets s') q ↔ Contains set q) → s' ≡ t')
           (λ t' more e. kept.are_sets.apart s' t' less more e)
-          (λ e. absurd (other_set s' less (λ q. (λ h. (is_key.same q).0 ((e q).0 h), λ h. (e q).1 ((is_key.same q).1 h))))))
+          (λ e. absurd (other_set s' less (λ q. (
+            λ h. (is_key.same q).0 ((e q).0 h),
+            λ h. (e q).1
+                ((is_key.same q).1 h),
+          )))))
           (each_more sets key (λ t' set. ((q : ℕ) → Contains key q ↔ Contains set q) → length sets ≡ t')
           (λ t' more e. absurd (other_set t' more
           (λ q. (λ h. (is_key.same q).0 ((e q).1 h), λ h. (e q).0 ((is_key.same q).1 h)))))
@@ -138,8 +146,10 @@ module _ (nfa : Nfa) (starts : ℕ) (least : List ℕ) (limit : ℕ) (sets new :
     subst (λ set. (q : ℕ) → Contains set q ↔ P q) (sym (kept_set s h.0)) h.1,
   )
 
-  pub entered : AreKept (length nfa.positions) limit new → ((s : ℕ) → length sets ≡ s → length entries < starts + s * length least)
-      → (length entries < starts → (q : ℕ) → Contains members q ↔ Contains (slice_index_or nfa.starts (length entries) []) q)
+  pub entered : AreKept (length nfa.positions) limit new → ((s : ℕ) → length sets ≡ s
+      → length entries < starts + s * length least)
+      → (length entries < starts → (q : ℕ) → Contains members q ↔ Contains (slice_index_or nfa.starts
+      (length entries) []) q)
       → ((s c : ℕ) → c < length least → starts + (s * length least + c) ≡ length entries → (s < length sets)
       × ((q : ℕ) → Contains members q ↔ Stepped nfa (set_at sets s) (slice_index_or least c 0) q))
       → AreFound nfa starts least limit new (entries ++ e ∷ [])
@@ -188,7 +198,8 @@ module _ (nfa : Nfa) (starts : ℕ) (least : List ℕ) (limit : ℕ) (sets new :
       (λ l. absurd (omega (arith, at, l)))
       (λ t d l is. let place = same_from_place t d s c (length least) l within (omega (arith, is, at)) in (
         omega (arith, place.0, less),
-        subst (λ u. (q : ℕ) → Contains members q ↔ Stepped nfa (set_at sets u) (slice_index_or least d 0) q) (sym place.0)
+        subst (λ u. (q : ℕ) → Contains members q ↔ Stepped nfa (set_at sets u) (slice_index_or least d 0) q)
+            (sym place.0)
             (subst (λ u. (q : ℕ) → Contains members q ↔ Stepped nfa (set_at sets s) (slice_index_or least u 0) q)
             (sym place.1) same),
       ))
@@ -223,14 +234,16 @@ module _ (nfa : Nfa) (least : List ℕ) (old new : Found) (members : List ℕ) (
 
   -- the sets that were found stay
   pub entered_kept : (s : ℕ) → s < length old.keys → set_at new.keys s ≡ set_at old.keys s
-  entered_kept s l = kept_set nfa old.starts least old.limit old.keys new.keys (targets_of old) members entered'.entry so
+  entered_kept s l = kept_set nfa old.starts least old.limit old.keys new.keys
+      (targets_of old) members entered'.entry so
       entered'.numbered s l
 
   pub entered_longer : length old.keys ≤ length new.keys
   entered_longer = longer nfa old.starts least old.limit old.keys new.keys (targets_of old) members entered'.entry so
       entered'.numbered
 
-  restated : AreFound nfa old.starts least old.limit new.keys (targets_of old ++ entered'.entry ∷ []) → IsFound nfa least new
+  restated : AreFound nfa old.starts least old.limit new.keys (targets_of old ++ entered'.entry ∷ [])
+      → IsFound nfa least new
   restated h = subst (λ n. AreFound nfa n least new.limit new.keys (targets_of new)) (sym starts)
       (subst (λ n. AreFound nfa old.starts least n new.keys (targets_of new)) (sym limit)
       (subst (λ es. AreFound nfa old.starts least old.limit new.keys es) (sym entered'.appended) h))

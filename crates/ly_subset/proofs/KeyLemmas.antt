@@ -1,8 +1,10 @@
 -- Keys of sets: lists that are looked up, and lists in rising order.
-use Rattle.std.proofs.Common.{◌≡◌, ◌<◌, ◌≤◌, ◌∙◌, ℕ, zero, suc, List, [], ◌∷◌, ◌++◌, Bool, true, false, Option, Some, None}
-use Rattle.std.proofs.Common.{refl, sym, ap, subst, arith, rules, inl, inr, map, position, slice_get, get_or, length, Contains}
-use Rattle.std.proofs.Common.{nat_eq, is_some}
-use Rattle.std.specs.Prelude.{MatchOption, AllPairs, ◌↔◌, ◌||◌, if◌then◌else◌}
+use Rattle.std.proofs.Common.{◌≡◌, ◌<◌, ◌∙◌, ℕ, zero, suc, List, [], ◌∷◌, ◌++◌, true, false, Option, Some}
+use Rattle.std.proofs.Common.{None}
+use Rattle.std.proofs.Common.{refl, sym, ap, subst, arith, rules, inl, inr, map, position, get_or, length}
+use Rattle.std.proofs.Common.{Contains}
+use Rattle.std.proofs.Common.{is_some}
+use Rattle.std.specs.Prelude.{MatchOption, AllPairs, ◌↔◌, if◌then◌else◌}
 use Rattle.std.specs.List.{list_any}
 use Rattle.std.specs.Str.{bytes_eq}
 use Rattle.std.proofs.lemmas.Bool.{cases_Bool, eq-eqb}

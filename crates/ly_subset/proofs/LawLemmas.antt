@@ -1,16 +1,14 @@
 -- Walks over automata, and what walks over subsets come to.
-use Rattle.std.proofs.Common.{◌≡◌, ◌<◌, ◌≤◌, ◌+◌, ◌-◌, ◌*◌, ◌/◌, ◌%◌, ◌∙◌, ℕ, zero, suc, List, [], ◌∷◌, ◌++◌, Option, Some}
-use Rattle.std.proofs.Common.{None, Bool, true, false, refl, sym, ap, subst, arith, inl, inr, length, lt-ltb, Contains}
-use Rattle.std.proofs.Common.{slice_get}
-use Rattle.std.specs.Prelude.{◌↔◌, if◌then◌else◌, option_and_then, nat_lt}
+use Rattle.std.proofs.Common.{◌≡◌, ◌<◌, ◌+◌, ◌-◌, ◌*◌, ◌/◌, ◌%◌, ◌∙◌, ℕ, zero, suc, List, [], ◌∷◌, ◌++◌, Option}
+use Rattle.std.proofs.Common.{Some}
+use Rattle.std.proofs.Common.{None, true, refl, sym, ap, subst, arith, inl, inr, length, lt-ltb, Contains}
+use Rattle.std.specs.Prelude.{if◌then◌else◌, option_and_then, nat_lt}
 use Rattle.std.proofs.lemmas.Bool.{cases_lt}
 use Rattle.std.proofs.lemmas.Nat.{div-add-mod', div_below}
-use Rattle.std.proofs.lemmas.Option.{slice_get-get_or}
 use Rattle.ly_position.specs.Nfa.{Nfa, Reads, Follows, Stepped, IsEnd, RunsTo, starts_of}
-use Rattle.ly_position.specs.Patterns.{RunsFrom}
-use Rattle.ly_subset.specs.Automaton.{Automaton, IsAutomaton, IsBreadthFirst, IsReached, LeadsToRule, entry_at, next_by_class}
+use Rattle.ly_subset.specs.Automaton.{Automaton, IsAutomaton, IsBreadthFirst, IsReached, LeadsToRule, entry_at}
+use Rattle.ly_subset.specs.Automaton.{next_by_class}
 use Rattle.ly_subset.specs.Automaton.{next_of, rule_after, rule_of, start_of, start_place, state_after}
-use Rattle.ly_subset.specs.Classes.{class_at}
 use Rattle.ly_subset.specs.Laws.{NumberedAreReached, SubsetsAreTrim, WalksAgree}
 use Rattle.ly_subset.specs.Subsets.{AreSubsets, ComesTo, HasEnd, IsLeastRule, IsStateOf, set_at}
 use Rattle.ly_subset.proofs.FoundLemmas.{state_same}
@@ -98,7 +96,8 @@ module _ (nfa : Nfa) (conditions : ℕ) (A : Automaton) (so : AreSubsets nfa con
   ends : (P : ℕ → Type 0) (o : Option ℕ) → IsStateOf so.sets o P
       → IsLeastRule (λ i. (q : ℕ) × P q × IsEnd nfa q i) (rule_of A o)
   ends P None h = λ i x. h x.0 x.1
-  ends P (Some s) h = least_same (HasEnd nfa (set_at so.sets s)) (λ i. (q : ℕ) × P q × IsEnd nfa q i) (rule_of A (Some s))
+  ends P (Some s) h = least_same (HasEnd nfa (set_at so.sets s)) (λ i. (q : ℕ) × P q
+      × IsEnd nfa q i) (rule_of A (Some s))
       (λ i x. (x.0, (h.1 x.0).0 x.1, x.2)) (λ i x. (x.0, (h.1 x.0).1 x.1, x.2)) (so.rules s h.0)
 
   -- the least rule that runs from some positions over a string have

@@ -1,5 +1,6 @@
 -- Numbers in the order of their first appearance among entries.
-use Rattle.std.proofs.Common.{◌≡◌, ◌<◌, ◌≤◌, ◌+◌, ◌*◌, ◌∙◌, ℕ, suc, List, [], ◌∷◌, ◌++◌, Option, Some, None, refl, sym, ap}
+use Rattle.std.proofs.Common.{◌≡◌, ◌<◌, ◌≤◌, ◌+◌, ◌*◌, ◌∙◌, ℕ, suc, List, [], ◌∷◌, ◌++◌, Option, Some, None, refl}
+use Rattle.std.proofs.Common.{sym}
 use Rattle.std.proofs.Common.{subst, arith, inl, inr, length}
 use Rattle.std.proofs.lemmas.Bool.{cases_lt}
 use Rattle.std.proofs.lemmas.List.{get_or_append_left, get_or_past, get_or_push, length_push}
@@ -26,7 +27,8 @@ pub each_entry : (entries : List (Option ℕ)) (e : Option ℕ) (P : ℕ → Opt
 each_entry entries e P all one k l = elim (cases_lt k (length entries)) [
   | inl less ↦ subst (P k) (sym (old_entry entries e k less)) (all k less)
   | inr past ↦ let last : length entries ≡ k = omega (arith, length_push entries e, l, past) in
-      subst (λ j. P j (entry_at (entries ++ e ∷ []) j)) last (subst (P (length entries)) (sym (last_entry entries e)) one)
+      subst (λ j. P j (entry_at (entries ++ e ∷ []) j)) last (subst (P (length entries)) (sym
+      (last_entry entries e)) one)
 ]
 
 module _ (starts classes count new : ℕ) (entries : List (Option ℕ)) (e : Option ℕ)
@@ -46,11 +48,17 @@ module _ (starts classes count new : ℕ) (entries : List (Option ℕ)) (e : Opt
   pub order_more : ((s : ℕ) → count ≡ s → length entries < starts + s * classes)
       → AreInOrder starts classes new (entries ++ e ∷ [])
   order_more room = record {
-    within = λ k s h. each_entry entries e (λ j o. o ≡ Some s → s < new) (λ j l g. omega (arith, so.within j s g, longer))
+    within = λ k s h. each_entry entries e (λ j o. o ≡ Some s → s < new) (λ j l g. omega
+        (arith, so.within j s g, longer))
         (within s) k (entry_within (entries ++ e ∷ []) k s h) h;
     in_order = λ k t h. each_entry entries e
         (λ i o. o ≡ Some (suc t) → (j : ℕ) × (j < i) × (entry_at (entries ++ e ∷ []) j ≡ Some t))
-        (λ i l g. let was = so.in_order i t g in (was.0, was.1, old_entry entries e was.0 (omega (arith, was.1, l)) ∙ was.2))
+        (λ i l g. let was = so.in_order i t g in (
+          was.0,
+          was.1,
+          old_entry entries e was.0 (omega (arith, was.1, l))
+              ∙ was.2,
+        ))
         (λ g. let was = appeared t g in (was.0, was.1, old_entry entries e was.0 was.1 ∙ was.2))
         k (entry_within (entries ++ e ∷ []) k (suc t) h) h;
     before_row = λ s l. elim (cases_lt s count) [

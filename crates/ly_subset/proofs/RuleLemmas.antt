@@ -1,5 +1,6 @@
 -- The least rule whose pattern ends in a set.
-use Rattle.std.proofs.Common.{◌≡◌, ◌⊎◌, ◌<◌, ◌≤◌, ◌+◌, ◌∙◌, ℕ, List, [], ◌∷◌, ◌++◌, Option, Some, None, min, refl, sym, ap}
+use Rattle.std.proofs.Common.{◌≡◌, ◌⊎◌, ◌<◌, ◌≤◌, ◌+◌, ◌∙◌, ℕ, List, [], ◌∷◌, ◌++◌, Option, Some, None, min, refl}
+use Rattle.std.proofs.Common.{sym, ap}
 use Rattle.std.proofs.Common.{subst, arith, inl, inr, get_or, length, take, Contains, slice_get, All}
 use Rattle.std.specs.Prelude.{slice_index_or, option_map}
 use Rattle.std.proofs.lemmas.Bool.{cases_lt}
@@ -59,7 +60,12 @@ module _ (nfa : Nfa) (ps : List ℕ) (k p : ℕ) (less : k < length ps) (read : 
   one_more = take_more ps k 0 less ∙ ap (λ q. take k ps ++ q ∷ []) (sym read)
 
   keeps : (j : ℕ) → HasEnd nfa (take k ps) j → HasEnd nfa (take (k + 1) ps) j
-  keeps j h = (h.0, subst (λ qs. Contains qs h.0) (sym one_more) (Contains-append_left (take k ps) (p ∷ []) h.0 h.1), h.2)
+  keeps j h = (
+    h.0,
+    subst (λ qs. Contains qs h.0) (sym one_more) (Contains-append_left (take k ps)
+        (p ∷ []) h.0 h.1),
+    h.2,
+  )
 
   cases : (j : ℕ) → HasEnd nfa (take (k + 1) ps) j → HasEnd nfa (take k ps) j ⊎ IsEnd nfa p j
   cases j h = elim (Contains-push_cases (take k ps) p h.0 (subst (λ qs. Contains qs h.0) one_more h.1)) [

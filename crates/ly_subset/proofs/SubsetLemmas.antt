@@ -1,10 +1,12 @@
 -- What was found is all: each set comes after a string from a start, and what is complete is an automaton of the sets.
-use Rattle.std.proofs.Common.{◌≡◌, ◌<◌, ◌≤◌, ◌+◌, ◌-◌, ◌*◌, ◌/◌, ◌%◌, ◌∙◌, ℕ, zero, suc, List, [], ◌∷◌, ◌++◌, Option, Some}
-use Rattle.std.proofs.Common.{None, Bool, true, false, refl, sym, ap, subst, arith, inl, inr, get_or, length, Contains, All}
-use Rattle.std.proofs.Common.{lt-ltb, slice_get, map}
-use Rattle.std.specs.Prelude.{AllPairs, ◌↔◌, slice_index_or, if◌then◌else◌, nat_lt, option_and_then, option_map}
+use Rattle.std.proofs.Common.{◌≡◌, ◌<◌, ◌≤◌, ◌+◌, ◌-◌, ◌*◌, ◌/◌, ◌%◌, ◌∙◌, ℕ, zero, suc, List, [], ◌∷◌, ◌++◌, Option}
+use Rattle.std.proofs.Common.{Some}
+use Rattle.std.proofs.Common.{None, Bool, true, false, refl, sym, ap, subst, arith, inl, inr, get_or, length}
+use Rattle.std.proofs.Common.{Contains}
+use Rattle.std.proofs.Common.{lt-ltb, slice_get}
+use Rattle.std.specs.Prelude.{◌↔◌, slice_index_or, if◌then◌else◌, nat_lt, option_and_then}
 use Rattle.std.proofs.lemmas.Bool.{cases_eq, cases_lt}
-use Rattle.std.proofs.lemmas.List.{get_or_append_left, get_or_push, length_push, length-map}
+use Rattle.std.proofs.lemmas.List.{get_or_append_left, get_or_push, length_push}
 use Rattle.std.proofs.lemmas.List.Elements.{All-from_get_or}
 use Rattle.std.proofs.lemmas.Nat.{div-add-mod', div_below, mul-add-lt}
 use Rattle.std.proofs.lemmas.Option.{slice_get-get_or, slice_get_past, slice_get_within, get_or_from_slice_get}
@@ -13,10 +15,10 @@ use Rattle.ly_position.specs.Nfa.{Nfa, Reads, Follows, Stepped, starts_of}
 use Rattle.ly_subset.specs.Automaton.{AreInOrder, Automaton, IsAutomaton, entry_at, next_by_class, next_of, start_of}
 use Rattle.ly_subset.specs.Automaton.{start_place}
 use Rattle.ly_subset.specs.Classes.{AreClasses, class_at}
-use Rattle.ly_subset.specs.Subsets.{AreAlike, AreSubsets, Beginning, ComesTo, HasMoreSets, IsAfter, IsAlive, IsStateOf}
+use Rattle.ly_subset.specs.Subsets.{AreSubsets, Beginning, ComesTo, HasMoreSets, IsAfter, IsAlive, IsStateOf}
 use Rattle.ly_subset.specs.Subsets.{set_at}
 use Rattle.ly_subset.specs.Private.Classes.{AreLeast}
-use Rattle.ly_subset.specs.Private.Found.{AreFound, AreKept, HaveRules, IsFull, IsPast}
+use Rattle.ly_subset.specs.Private.Found.{AreFound, HaveRules, IsPast}
 use Rattle.ly_subset.proofs.FoundLemmas.{each_more, state_same}
 use Rattle.ly_subset.proofs.OrderLemmas.{entry_within}
 
@@ -197,7 +199,8 @@ many_of_past nfa conditions least limit past =
       arith,
       before,
       kept.are_sets.apart s t' (omega (arith, before, less)) less
-          (subst (λ set. (q : ℕ) → Contains set q ↔ Contains (set_at sets t') q) (old s (omega (arith, before, less))) e),
+          (subst (λ set. (q : ℕ) → Contains set q ↔ Contains (set_at sets t') q) (old s (omega
+          (arith, before, less))) e),
     )))
     (λ before e. past.full.other s before
     (subst (λ set. (q : ℕ) → Contains set q ↔ Contains members q) (old s before) e))
@@ -215,11 +218,15 @@ module _ (nfa : Nfa) (conditions limit : ℕ) (A : Automaton) (least : List ℕ)
   pub is_automaton : IsAutomaton A
   is_automaton = record {
     bytes = classes.bytes;
-    used = λ c l. let b = classes.used c l in
-        (b.0, slice_get-get_or A.class_of b.0 0 (let bytes = classes.bytes in omega (arith, b.1)) ∙ ap (λ x. Some x) b.2);
+    used = λ c l. let b = classes.used c l in (
+      b.0,
+      slice_get-get_or A.class_of b.0 0 (let bytes = classes.bytes in omega (arith, b.1))
+          ∙ ap (λ x. Some x) b.2,
+    );
     class_within = λ b c e. subst (λ d. d < A.classes) (get_or_from_slice_get A.class_of b c 0 e)
         (classes.within b (let bytes = classes.bytes in omega (arith, slice_get_within A.class_of b c e)));
-    full = full ∙ ap (λ n. A.starts + n * length least) (sym rules.count) ∙ ap (λ n. A.starts + length A.rules * n) count;
+    full = full ∙ ap (λ n. A.starts + n * length least) (sym rules.count)
+        ∙ ap (λ n. A.starts + length A.rules * n) count;
     within = λ k s e. let count' = rules.count in omega (arith, so.order.within k s e);
   }
 
@@ -229,10 +236,12 @@ module _ (nfa : Nfa) (conditions limit : ℕ) (A : Automaton) (least : List ℕ)
   same_class set b l q =
       let c = class_at A.class_of b in
       let within : c < length least = are_least.within b l in
-      let alike = (classes.alike (slice_index_or least c 0) b (are_least.byte c within) l).0 (are_least.in_class c within) in
+      let alike = (classes.alike (slice_index_or least c 0) b (are_least.byte c within) l).0
+      (are_least.in_class c within) in
       (λ h. (h.0, h.1, (alike h.0).0 h.2, h.3), λ h. (h.0, h.1, (alike h.0).1 h.2, h.3))
 
-  next_state : (s b : ℕ) → s < length sets → b < 256 → IsStateOf sets (next_of A (Some s) b) (Stepped nfa (set_at sets s) b)
+  next_state : (s b : ℕ) → s < length sets → b < 256 → IsStateOf sets (next_of A (Some s) b) (Stepped nfa
+      (set_at sets s) b)
   next_state s b l m =
       let c = class_at A.class_of b in
       let within : c < length least = are_least.within b m in
@@ -241,7 +250,8 @@ module _ (nfa : Nfa) (conditions limit : ℕ) (A : Automaton) (least : List ℕ)
       let turned : length least * length sets ≡ length sets * length least = mul_comm (length least) (length sets) in
       omega (arith, row, turned) in
       let here = (so.at_row s c within (omega (arith, full, place))).1 in
-      let at : slice_get A.class_of b ≡ Some c = slice_get-get_or A.class_of b 0 (let bytes = classes.bytes in omega arith) in
+      let at : slice_get A.class_of b ≡ Some c = slice_get-get_or A.class_of b 0
+      (let bytes = classes.bytes in omega arith) in
       subst (λ o. IsStateOf sets (option_and_then (next_by_class A s) o) (Stepped nfa (set_at sets s) b)) (sym at)
       (state_same sets (Stepped nfa (set_at sets s) (slice_index_or least c 0)) (Stepped nfa (set_at sets s) b)
       (next_by_class A s c) (same_class (set_at sets s) b m)
@@ -257,11 +267,13 @@ module _ (nfa : Nfa) (conditions limit : ℕ) (A : Automaton) (least : List ℕ)
         (λ q h. absurd (omega (arith, classes.read h.0 b h.2, past)))
   ]
 
-  start_state : (c : ℕ) (line : Bool) → c < conditions → IsStateOf sets (start_of A c line) (Contains (starts_of nfa c line))
+  start_state : (c : ℕ) (line : Bool) → c < conditions → IsStateOf sets (start_of A c line) (Contains
+      (starts_of nfa c line))
   start_state c line l =
       let less : start_place c line < A.starts = omega (arith, starts, below_place c line conditions l) in
       let test : nat_lt (start_place c line) A.starts ≡ true = lt-ltb (start_place c line) A.starts less in
-      subst (λ t. IsStateOf sets (if t then entry_at A.entries (start_place c line) else None) (Contains (starts_of nfa c line)))
+      subst (λ t. IsStateOf sets (if t then entry_at A.entries (start_place c line) else None) (Contains
+      (starts_of nfa c line)))
       (sym test) (so.at_start (start_place c line) (omega (arith, full, less)) less)
 
   -- of the sets that strings lead to

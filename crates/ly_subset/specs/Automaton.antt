@@ -1,6 +1,6 @@
 -- Deterministic automata over classes of bytes, with partial moves (Hopcroft, Motwani, Ullman: Introduction to Automata
 -- Theory, Languages, and Computation, 2.2).
-use Rattle.std.specs.Prelude.{◌≡◌, ◌≢◌, ℕ, suc, ◌+◌, ◌*◌, ◌<◌, ◌≤◌, List, [], ◌∷◌, length, slice_get, slice_index_or}
+use Rattle.std.specs.Prelude.{◌≡◌, ℕ, suc, ◌+◌, ◌*◌, ◌<◌, List, [], ◌∷◌, length, slice_get, slice_index_or}
 use Rattle.std.specs.Prelude.{Bool, Option, Some, None, option_and_then, nat_lt, if◌then◌else◌}
 
 -- The class of each byte and how many classes there are; the accepted rule of each state, if it has one; and entries,
@@ -71,7 +71,8 @@ pub record IsTrim (A : Automaton) : Type 0 where
 
 -- numbers in the order of their first appearance: a number other than 0 comes only after the one before it
 abbrev pub AppearInOrder : List (Option ℕ) → Type 0
-AppearInOrder entries = (k t : ℕ) → entry_at entries k ≡ Some (suc t) → (j : ℕ) × (j < k) × (entry_at entries j ≡ Some t)
+AppearInOrder entries = (k t : ℕ) → entry_at entries k ≡ Some (suc t) → (j : ℕ) × (j < k)
+    × (entry_at entries j ≡ Some t)
 
 -- Numbers below a count in the order of their first appearance among the starts and then the rows of so many classes;
 -- each has appeared before its row.

@@ -1,5 +1,5 @@
 -- What follows from the definitions of automata and of subsets.
-use Rattle.std.specs.Prelude.{◌≡◌, ℕ, ◌<◌, List, length, slice_get, Bool, Some}
+use Rattle.std.specs.Prelude.{ℕ, ◌<◌, List, length, Bool}
 use Rattle.ly_position.specs.Nfa.{Nfa, RunsTo}
 use Rattle.ly_position.specs.Patterns.{RunsFrom}
 use Rattle.ly_subset.specs.Automaton.{Automaton, IsAutomaton, IsBreadthFirst, IsReached, IsTrim, start_of, rule_after}

@@ -2,7 +2,6 @@
 use Rattle.std.specs.Prelude.{◌≡◌, ◌↔◌, ℕ, suc, ◌*◌, ◌<◌, ◌≤◌, List, [], ◌∷◌, length, slice_index_or, Bool, Option}
 use Rattle.std.specs.Prelude.{Some, None, Contains, All, AllPairs}
 use Rattle.ly_position.specs.Nfa.{Nfa, Reads, Follows, Stepped, IsEnd, starts_of}
-use Rattle.ly_position.specs.Patterns.{RunsFrom}
 use Rattle.ly_subset.specs.Automaton.{Automaton, IsBreadthFirst, start_of, next_of, rule_of}
 use Rattle.ly_subset.specs.Classes.{AreClasses}
 
@@ -40,7 +39,8 @@ pub record AreSubsets (nfa : Nfa) (conditions : ℕ) (A : Automaton) : Type 0 wh
   pub are_sets : AreSets (length nfa.positions) sets
   pub count : length sets ≡ length A.rules
   pub two_starts : A.starts ≡ 2 * conditions
-  pub starts : (c : ℕ) (line : Bool) → c < conditions → IsStateOf sets (start_of A c line) (Contains (starts_of nfa c line))
+  pub starts : (c : ℕ) (line : Bool) → c < conditions → IsStateOf sets (start_of A c line) (Contains
+      (starts_of nfa c line))
   pub nexts : (s b : ℕ) → s < length sets
       → IsStateOf sets (next_of A (Some s) b) (Stepped nfa (set_at sets s) b)
   pub rules : (s : ℕ) → s < length sets → IsLeastRule (HasEnd nfa (set_at sets s)) (rule_of A (Some s))

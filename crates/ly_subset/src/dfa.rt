@@ -1,4 +1,5 @@
-ghost use Rattle.std.specs.Prelude.{◌≡◌, ◌<◌, ◌≤◌, ◌+◌, ◌*◌, ◌↔◌, length, map, slice_get, Some, IfSome, IsTrue, option_map};
+ghost use Rattle.std.specs.Prelude.{◌≡◌, ◌<◌, ◌≤◌, ◌+◌, ◌*◌, ◌↔◌, length, map, slice_get, Some, IfSome, IsTrue};
+ghost use Rattle.std.specs.Prelude.{option_map};
 
 use crate::entry::Entry;
 use ly_base::RuleNo;

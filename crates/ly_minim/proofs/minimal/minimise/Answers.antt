@@ -1,4 +1,4 @@
-use Rattle.std.proofs.Common.{◌≡◌, ◌∙◌, ap, length, refl, subst, sym, map}
+use Rattle.std.proofs.Common.{refl, subst, sym, map}
 use Rattle.std.specs.Prelude.{option_map}
 use Rattle.ly_subset.specs.Automaton.{Automaton, IsAutomaton, IsBreadthFirst}
 use Rattle.ly_subset.specs.Entry.{with_states}
@@ -29,9 +29,9 @@ returns-clause-same c =
     let B = with_states A c.in_ok-rules.rules.items q.entries.items in
     let is = subst (λ (D : Automaton). IsAutomaton D) c.dfa.view_is c.dfa.invariant in
     let so = quotient_of A B of c.in_ok-blocks.blocks.count q q.numbers.items refl refl refl refl
-      (subst (λ ps. HaveRules A ps (map (option_map (λ i. i.0)) c.in_ok-rules.rules.items)) c.deref.ensures.value
-      c.in_ok-rules.ensures) c.in_ok-quotient.ensures.quotient c.in_ok-quotient.ensures.numbered.by
-      c.in_ok-blocks.ensures.blocks.states c.in_ok-quotient.ensures.whole in
+    (subst (λ ps. HaveRules A ps (map (option_map (λ i. i.0)) c.in_ok-rules.rules.items)) c.deref.ensures.value
+    c.in_ok-rules.ensures) c.in_ok-quotient.ensures.quotient c.in_ok-quotient.ensures.numbered.by
+    c.in_ok-blocks.ensures.blocks.states c.in_ok-quotient.ensures.whole in
     subst (λ (D : Automaton). HaveSameRules A D) (sym c.with_states.ensures)
     (quotient_same A B of q.picked.items is so c.in_ok-blocks.ensures.stable)
 
@@ -43,11 +43,12 @@ returns-clause-reduced c =
     let B = with_states A c.in_ok-rules.rules.items q.entries.items in
     let is = subst (λ (D : Automaton). IsAutomaton D) c.dfa.view_is c.dfa.invariant in
     let so = quotient_of A B of c.in_ok-blocks.blocks.count q q.numbers.items refl refl refl refl
-      (subst (λ ps. HaveRules A ps (map (option_map (λ i. i.0)) c.in_ok-rules.rules.items)) c.deref.ensures.value
-      c.in_ok-rules.ensures) c.in_ok-quotient.ensures.quotient c.in_ok-quotient.ensures.numbered.by
-      c.in_ok-blocks.ensures.blocks.states c.in_ok-quotient.ensures.whole in
+    (subst (λ ps. HaveRules A ps (map (option_map (λ i. i.0)) c.in_ok-rules.rules.items)) c.deref.ensures.value
+    c.in_ok-rules.ensures) c.in_ok-quotient.ensures.quotient c.in_ok-quotient.ensures.numbered.by
+    c.in_ok-blocks.ensures.blocks.states c.in_ok-quotient.ensures.whole in
     λ trim. subst (λ (D : Automaton). IsReduced D) (sym c.with_states.ensures)
-    (quotient_reduced A B of q.picked.items is so c.in_ok-blocks.ensures.stable trim (c.in_ok-blocks.ensures.apart trim))
+    (quotient_reduced A B of q.picked.items is so c.in_ok-blocks.ensures.stable trim
+    (c.in_ok-blocks.ensures.apart trim))
 
 pub returns-clause-order : goal.returns-clause-order
 returns-clause-order c =
@@ -57,8 +58,8 @@ returns-clause-order c =
     let B = with_states A c.in_ok-rules.rules.items q.entries.items in
     let is = subst (λ (D : Automaton). IsAutomaton D) c.dfa.view_is c.dfa.invariant in
     let so = quotient_of A B of c.in_ok-blocks.blocks.count q q.numbers.items refl refl refl refl
-      (subst (λ ps. HaveRules A ps (map (option_map (λ i. i.0)) c.in_ok-rules.rules.items)) c.deref.ensures.value
-      c.in_ok-rules.ensures) c.in_ok-quotient.ensures.quotient c.in_ok-quotient.ensures.numbered.by
-      c.in_ok-blocks.ensures.blocks.states c.in_ok-quotient.ensures.whole in
+    (subst (λ ps. HaveRules A ps (map (option_map (λ i. i.0)) c.in_ok-rules.rules.items)) c.deref.ensures.value
+    c.in_ok-rules.ensures) c.in_ok-quotient.ensures.quotient c.in_ok-quotient.ensures.numbered.by
+    c.in_ok-blocks.ensures.blocks.states c.in_ok-quotient.ensures.whole in
     subst (λ (D : Automaton). IsBreadthFirst D) (sym c.with_states.ensures)
     (quotient_order A B of q.picked.items is so)

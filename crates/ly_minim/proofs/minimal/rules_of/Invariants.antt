@@ -8,5 +8,5 @@ abbrev pub invariant-loop-state : goal.invariant-loop-state
 invariant-loop-state l = record {
   count : length l.rules.items ≡ l.state-index;
   same : (n : ℕ) → n < l.state-index → slice_index_or (map (option_map (λ i. i.0)) l.rules.items) n None
-      ≡ rule_of l.dfa (Some (slice_index_or l.states n 0))
+      ≡ rule_of l.dfa (Some (slice_index_or l.states n 0));
 }

@@ -7,7 +7,7 @@ abbrev pub invariant-loop-place : goal.invariant-loop-place
 invariant-loop-place l = record {
   quotient : IsQuotient l.dfa l.blocks.of.items l.quotient;
   numbered : AreNumbered l.blocks l.quotient;
-  at : length l.quotient.entries.items ≡ l.place
+  at : length l.quotient.entries.items ≡ l.place;
 }
 
 -- the rows of the states before this one are there
@@ -16,7 +16,7 @@ invariant-loop-state l = record {
   quotient : IsQuotient l.dfa l.blocks.of.items l.quotient;
   numbered : AreNumbered l.blocks l.quotient;
   state : l.state ≤ length l.quotient.picked.items;
-  at : length l.quotient.entries.items ≡ l.dfa.starts + l.state * l.dfa.classes
+  at : length l.quotient.entries.items ≡ l.dfa.starts + l.state * l.dfa.classes;
 }
 
 abbrev pub decreases-loop-state : goal.decreases-loop-state

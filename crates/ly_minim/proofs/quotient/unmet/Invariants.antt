@@ -6,5 +6,5 @@ use Rattle.ly_minim.proofs.quotient.unmet.Given as goal
 abbrev pub invariant-loop-block : goal.invariant-loop-block
 invariant-loop-block l = record {
   count : length l.numbers.items ≡ l._block;
-  none : (b : ℕ) → entry_at l.numbers.items b ≡ None
+  none : (b : ℕ) → entry_at l.numbers.items b ≡ None;
 }

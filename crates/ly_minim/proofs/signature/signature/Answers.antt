@@ -1,4 +1,4 @@
-use Rattle.std.proofs.Common.{◌≡◌, ◌∷◌, ◌++◌, ◌∙◌, ap, ap₂, Some}
+use Rattle.std.proofs.Common.{◌∷◌, ◌++◌, ◌∙◌, ap₂, Some}
 use Rattle.ly_subset.specs.Automaton.{rule_of}
 use Rattle.ly_minim.specs.Private.Signature.{block_after, block_of, marked}
 use Rattle.ly_minim.proofs.SignatureLemmas.{signature_more}

@@ -9,4 +9,5 @@ least_bytes-requires-clause-order c = subst (λ cs. AreOrdered cs) (sym c.deref.
 
 pub returns-clause-classes : goal.returns-clause-classes
 returns-clause-classes c = classes_of c.args.nfa.now c.in_ok-class_of.class_of.items c.in_ok-least.least.items
-    c.in_ok-class_of.ensures (subst (λ cs. AreLeast cs c.in_ok-least.least.items) c.deref.ensures.value c.in_ok-least.ensures)
+    c.in_ok-class_of.ensures (subst (λ cs. AreLeast cs c.in_ok-least.least.items) c.deref.ensures.value
+    c.in_ok-least.ensures)

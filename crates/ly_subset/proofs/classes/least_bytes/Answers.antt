@@ -1,4 +1,4 @@
-use Rattle.std.proofs.Common.{◌≡◌, ◌∙◌, ◌+◌, ◌<◌, length, ap, arith, subst, sym, vec_len}
+use Rattle.std.proofs.Common.{◌≡◌, ◌∙◌, length, arith, subst, sym, vec_len}
 use Rattle.ly_subset.proofs.ClassLemmas.{IsLeastOf, least_all, least_new, least_none, least_old}
 use Rattle.ly_subset.proofs.classes.least_bytes.Goals as goal
 use Rattle.ly_subset.proofs.classes.least_bytes.Goals.{then-from-len+in_ok-push, else-from-len}

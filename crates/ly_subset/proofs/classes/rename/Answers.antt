@@ -1,5 +1,6 @@
-use Rattle.std.proofs.Common.{◌≡◌, ◌<◌, ◌≤◌, ◌+◌, ◌*◌, ◌∙◌, ℕ, ap, arith, length, length-set, refl, subst, sym, Some, None}
-use Rattle.std.proofs.Common.{get_or-set_other, le_antisymm}
+use Rattle.std.proofs.Common.{◌≡◌, ◌<◌, ◌≤◌, ◌+◌, ◌*◌, ◌∙◌, ap, arith, length, length-set, refl, subst, sym}
+use Rattle.std.proofs.Common.{None}
+use Rattle.std.proofs.Common.{get_or-set_other}
 use Rattle.std.proofs.lemmas.List.{get_or_read}
 use Rattle.ly_base.specs.ByteSet.{has}
 use Rattle.ly_subset.specs.Automaton.{entry_at}
@@ -33,7 +34,12 @@ loop-byte-preserved c =
     let key : 2 * c.from.result + c.from-in-loop-byte.result ≡ by n = key_read c.args.class_of.now.items class_of
     (has c.args.bytes.now) n c.index.result.now c.from.result c.from-in-loop-byte.result fits c.index.ensures
     c.from.ensures (c.from-in-loop-byte.ensures ∙ bit_is _ _ c.contains.ensures) (was.rest n (omega arith)) in
-    let bit : c.from-in-loop-byte.result ≤ 1 = omega (arith, c.from-in-loop-byte.ensures, bit_small c.contains.result) in
+    let bit : c.from-in-loop-byte.result ≤ 1 = omega (
+      arith,
+      c.from-in-loop-byte.ensures,
+      bit_small
+          c.contains.result,
+    ) in
     let room : by n < length names = let given = c.index.type_inv in let all = was.room in
     omega (arith, key, c.from.ensures, bit) in
     let read : c.index-in-loop-byte.result.now ≡ entry_at names (by n)

@@ -1,5 +1,5 @@
-use Rattle.std.proofs.Common.{◌≡◌, ◌<◌, ◌+◌, ◌*◌, ◌∙◌, ℕ, [], All, ap, arith, refl, subst, sym, Contains, length, Err}
-use Rattle.std.specs.Prelude.{◌↔◌, slice_index_or}
+use Rattle.std.proofs.Common.{◌≡◌, ◌<◌, ◌∙◌, ℕ, All, ap, arith, refl, subst, sym, Contains, length, Err}
+use Rattle.std.specs.Prelude.{◌↔◌}
 use Rattle.std.proofs.lemmas.Result.{err_from_is_err_and}
 use Rattle.ly_position.specs.Nfa.{Stepped}
 use Rattle.ly_subset.specs.declared.fault.SubsetFault.TheVariants.{TooManyStates}
@@ -66,7 +66,8 @@ loop-byte-preserved c =
           c.in_ok-enter.ensures.kept) was.state c.loop-byte-test.true was.at
           (both_ways (Contains members) (Stepped nfa c.loop-byte.step.from.positions.members _)
           (Stepped nfa (set_at c.loop-byte.found.keys c.args.state) _) c.step.ensures.members
-          (stepped_same nfa c.loop-byte.step.from.positions.members (set_at c.loop-byte.found.keys c.args.state) _ was.set));
+          (stepped_same nfa c.loop-byte.step.from.positions.members (set_at c.loop-byte.found.keys c.args.state) _
+          was.set));
       state = let less = was.state in omega (arith, longer);
       set = subst (λ xs. (q : ℕ) → Contains c.loop-byte.step.from.positions.members q ↔ Contains xs q)
           (sym (entered_kept nfa least c.loop-byte.found c.enter.new.self members was.found entered

@@ -1,4 +1,4 @@
-use Rattle.std.proofs.Common.{◌≡◌, ◌∙◌, ℕ, [], ap, subst, sym, Contains, length}
+use Rattle.std.proofs.Common.{◌∙◌, ℕ, [], ap, subst, sym, Contains, length}
 use Rattle.std.specs.Prelude.{◌↔◌, slice_index_or}
 use Rattle.ly_subset.specs.Private.Found.{AreKept}
 use Rattle.ly_subset.proofs.FoundLemmas.{count_entered, filled, filled_room, on_ok_both, past_start, start_found}
@@ -6,7 +6,8 @@ use Rattle.ly_subset.proofs.construct.start.Goals as goal
 
 pub enter-requires : goal.enter-requires
 enter-requires c = subst (λ n. AreKept n c.args.found.now.limit c.args.found.now.keys)
-    (sym (filled_room c.args.nfa.now c.fill.new.self c.args.set.now c.start.result.now c.fill.ensures c.requires.room).positions)
+    (sym (filled_room c.args.nfa.now c.fill.new.self c.args.set.now c.start.result.now c.fill.ensures
+    c.requires.room).positions)
     (c.requires.found []).kept
 
 pub returns-clause-room : goal.returns-clause-room
@@ -15,7 +16,8 @@ returns-clause-room c = filled_room c.args.nfa.now c.fill.new.self c.args.set.no
 
 pub returns-clause-found : goal.returns-clause-found
 returns-clause-found c =
-    let room = filled_room c.args.nfa.now c.fill.new.self c.args.set.now c.start.result.now c.fill.ensures c.requires.room in
+    let room = filled_room c.args.nfa.now c.fill.new.self c.args.set.now c.start.result.now c.fill.ensures
+    c.requires.room in
     on_ok_both c.enter.result c.enter.ensures.entered c.enter.ensures.kept (λ entered kept. λ least.
     start_found c.args.nfa.now least c.args.found.now c.enter.new.self c.fill.new.self.positions.members
     (c.requires.found least) entered c.enter.ensures.starts c.enter.ensures.limit
@@ -30,7 +32,8 @@ returns-clause-more c = on_ok_both c.enter.result c.enter.ensures.entered c.ente
     (c.requires.found []) entered c.enter.ensures.starts c.enter.ensures.limit)
 
 pub returns-clause-past : goal.returns-clause-past
-returns-clause-past c = λ failed least. past_start c.args.nfa.now least c.args.found.now c.fill.new.self.positions.members
+returns-clause-past c = λ failed least. past_start c.args.nfa.now least c.args.found.now
+    c.fill.new.self.positions.members
     (length c.args.found.now.entries.items) (c.requires.found least) (c.enter.ensures.full failed) c.requires.within
     (subst (λ xs. (q : ℕ) → Contains c.fill.new.self.positions.members q ↔ Contains xs q)
     (c.start.ensures.these ∙ ap (λ k. slice_index_or c.args.nfa.now.starts k []) (sym c.requires.next))

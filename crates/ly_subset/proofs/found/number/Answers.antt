@@ -1,9 +1,9 @@
-use Rattle.std.proofs.Common.{◌≡◌, ◌<◌, ◌∙◌, ◌++◌, [], ◌∷◌, ℕ, All, Contains, ap, arith, subst, sym, Some}
+use Rattle.std.proofs.Common.{◌<◌, ◌∙◌, ℕ, All, Contains, ap, arith, subst, sym, Some}
 use Rattle.ly_subset.specs.Entry.{target_of}
 use Rattle.ly_subset.specs.Private.Found.{AreKept, IsNumbered}
 use Rattle.ly_subset.specs.Keys.{IsAbsent}
 use Rattle.ly_subset.specs.Private.Keys.{IsKeyOf}
-use Rattle.ly_subset.proofs.FoundLemmas.{full_of, kept_more, numbered_known, numbered_new, numbered_none, some_member}
+use Rattle.ly_subset.proofs.FoundLemmas.{full_of, kept_more, numbered_known, numbered_new, some_member}
 use Rattle.ly_subset.proofs.found.number.Goals as goal
 
 pub returns-in-Some-clause-numbered : goal.returns-in-Some-clause-numbered

@@ -1,7 +1,6 @@
-use Rattle.std.proofs.Common.{◌≡◌, ◌<◌, ◌+◌, ◌∙◌, ℕ, All, arith, length, refl, subst, sym}
-use Rattle.std.specs.Prelude.{option_map, slice_index_or, None}
-use Rattle.ly_subset.specs.Private.Found.{numbers_of}
-use Rattle.ly_subset.specs.Subsets.{HasEnd, IsLeastRule, set_at}
+use Rattle.std.proofs.Common.{◌≡◌, ◌<◌, ◌+◌, ◌∙◌, All, arith, length, subst, sym}
+use Rattle.std.specs.Prelude.{option_map}
+use Rattle.ly_subset.specs.Subsets.{HasEnd, IsLeastRule}
 use Rattle.std.proofs.lemmas.List.{length-map}
 use Rattle.ly_subset.proofs.RuleLemmas.{HaveRulesTo, have_rules_more, set_within}
 use Rattle.ly_subset.proofs.rules.rules_of.Goals as goal

@@ -1,7 +1,7 @@
-use Rattle.std.proofs.Common.{◌≡◌, ◌<◌, ◌≤◌, ◌∙◌, ◌++◌, ◌∷◌, [], ap, arith, length, refl, subst, sym, Some, None}
+use Rattle.std.proofs.Common.{◌≡◌, ◌∙◌, ◌∷◌, [], ap, arith, length, sym, None}
 use Rattle.std.proofs.lemmas.List.{append-nil, get_or_push, get_or_read, length_push}
 use Rattle.ly_subset.specs.Automaton.{entry_at}
-use Rattle.ly_minim.specs.Private.Quotient.{AreNumberedBy, pick_of}
+use Rattle.ly_minim.specs.Private.Quotient.{pick_of}
 use Rattle.ly_minim.specs.Private.Signature.{block_of}
 use Rattle.ly_minim.proofs.QuotientLemmas.{numbered_more, picked_few, room_for}
 use Rattle.ly_minim.proofs.quotient.Quotient.number.Goals as goal
@@ -18,10 +18,10 @@ returns-in-Some-clause-met c =
     let numbers = c.args.self.now.numbers.items in
     let by = c.requires.numbered.by in
     let block : c.index.result.now ≡ block_of of c.args.state
-      = get_or_read of c.args.state c.index.result.now c.requires.state c.index.ensures 0 in
+    = get_or_read of c.args.state c.index.result.now c.requires.state c.index.ensures 0 in
     let read : c.index-2.result.now ≡ entry_at numbers c.index.result.now = get_or_read numbers c.index.result.now
-      c.index-2.result.now (let room = by.room in omega (arith, block, by.blocks_within c.args.state c.requires.state))
-      c.index-2.ensures None in
+    c.index-2.result.now (let room = by.room in omega (arith, block, by.blocks_within c.args.state c.requires.state))
+    c.index-2.ensures None in
     let met = by.met c.index.result.now c.in-Some.number (sym read ∙ c.in-Some.is) in
     record {
       more = [];
@@ -36,10 +36,10 @@ returns-in-Some-clause-fits c =
     let numbers = c.args.self.now.numbers.items in
     let by = c.requires.numbered.by in
     let block : c.index.result.now ≡ block_of of c.args.state
-      = get_or_read of c.args.state c.index.result.now c.requires.state c.index.ensures 0 in
+    = get_or_read of c.args.state c.index.result.now c.requires.state c.index.ensures 0 in
     let read : c.index-2.result.now ≡ entry_at numbers c.index.result.now = get_or_read numbers c.index.result.now
-      c.index-2.result.now (let room = by.room in omega (arith, block, by.blocks_within c.args.state c.requires.state))
-      c.index-2.ensures None in
+    c.index-2.result.now (let room = by.room in omega (arith, block, by.blocks_within c.args.state c.requires.state))
+    c.index-2.ensures None in
     let met = by.met c.index.result.now c.in-Some.number (sym read ∙ c.in-Some.is) in
     let few = picked_few of c.args.blocks.now.count numbers c.args.self.now.picked.items by in
     let fits = c.requires.numbered.fits in omega (arith, met.0, few)
@@ -50,16 +50,16 @@ returns-clause-numbered c =
     let numbers = c.args.self.now.numbers.items in
     let by = c.requires.numbered.by in
     let block : c.index.result.now ≡ block_of of c.args.state
-      = get_or_read of c.args.state c.index.result.now c.requires.state c.index.ensures 0 in
+    = get_or_read of c.args.state c.index.result.now c.requires.state c.index.ensures 0 in
     let read : c.index-2.result.now ≡ entry_at numbers c.index.result.now = get_or_read numbers c.index.result.now
-      c.index-2.result.now (let room = by.room in omega (arith, block, by.blocks_within c.args.state c.requires.state))
-      c.index-2.ensures None in
+    c.index-2.result.now (let room = by.room in omega (arith, block, by.blocks_within c.args.state c.requires.state))
+    c.index-2.ensures None in
     let len : c.len-number.result ≡ length c.args.self.now.picked.items
-      = c.len-number.ensures ∙ c.args.self.now.picked.ok.0 in
+    = c.len-number.ensures ∙ c.args.self.now.picked.ok.0 in
     record {
       by = rw (c.in_ok-push.ensures.items, block, len) (numbered_more of c.args.blocks.now.count numbers
-        c.args.self.now.picked.items c.args.state by c.requires.state
-        (ap (entry_at numbers) (sym block) ∙ sym read ∙ c.in_default.is));
+          c.args.self.now.picked.items c.args.state by c.requires.state
+          (ap (entry_at numbers) (sym block) ∙ sym read ∙ c.in_default.is));
       fits = c.requires.numbered.fits;
     }
 
@@ -72,11 +72,18 @@ returns-clause-met c =
     record {
       more = c.args.state ∷ [];
       grown = grown;
-      block = (omega (arith, len, ap length grown, length_push picked c.args.state),
+      block = (
+        omega (arith, len, ap length grown, length_push picked c.args.state),
         ap (λ ps. block_of of (pick_of ps c.len-number.result)) grown
-        ∙ ap (block_of of) (get_or_push picked c.args.state 0 c.len-number.result (sym len)));
-      fresh = λ n l past. let last : n ≡ length picked = omega (arith, l, past, ap length grown,
-        length_push picked c.args.state) in (last, len ∙ sym last);
+            ∙ ap (block_of of) (get_or_push picked c.args.state 0 c.len-number.result (sym len)),
+      );
+      fresh = λ n l past. let last : n ≡ length picked = omega (
+        arith,
+        l,
+        past,
+        ap length grown,
+        length_push picked c.args.state,
+      ) in (last, len ∙ sym last);
     }
 
 pub returns-clause-fits : goal.returns-clause-fits
@@ -85,11 +92,11 @@ returns-clause-fits c =
     let numbers = c.args.self.now.numbers.items in
     let by = c.requires.numbered.by in
     let block : c.index.result.now ≡ block_of of c.args.state
-      = get_or_read of c.args.state c.index.result.now c.requires.state c.index.ensures 0 in
+    = get_or_read of c.args.state c.index.result.now c.requires.state c.index.ensures 0 in
     let read : c.index-2.result.now ≡ entry_at numbers c.index.result.now = get_or_read numbers c.index.result.now
-      c.index-2.result.now (let room = by.room in omega (arith, block, by.blocks_within c.args.state c.requires.state))
-      c.index-2.ensures None in
+    c.index-2.result.now (let room = by.room in omega (arith, block, by.blocks_within c.args.state c.requires.state))
+    c.index-2.ensures None in
     let room = room_for of c.args.blocks.now.count numbers c.args.self.now.picked.items c.args.state by c.requires.state
-      (ap (entry_at numbers) (sym block) ∙ sym read ∙ c.in_default.is) in
+    (ap (entry_at numbers) (sym block) ∙ sym read ∙ c.in_default.is) in
     let fits = c.requires.numbered.fits in let len = c.len-number.ensures in let same = c.args.self.now.picked.ok.0 in
     omega (arith, room)

@@ -10,5 +10,5 @@ invariant-loop-class l = record {
   state : l.state < length l.self.picked.items;
   from : l.from ≡ pick_of l.self.picked.items l.state;
   at : length l.self.entries.items ≡ l.dfa.starts + (l.state * l.dfa.classes + l.class);
-  longer : length l.initial.self.picked.items ≤ length l.self.picked.items
+  longer : length l.initial.self.picked.items ≤ length l.self.picked.items;
 }
