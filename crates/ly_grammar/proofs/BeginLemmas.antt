@@ -90,7 +90,8 @@ module _ (G : Grammar) (marks : List Bool)
       → Starts G marks A t
   rule_starts p r A t rule left is = subst (λ B. Starts G marks B t) left
       (by_symbol is.symbol is.member is.starts) where
-        by_symbol : (X : Symbol) → Contains (opening marks r.body) X → SymbolStarts G marks X t → Starts G marks r.left t
+        by_symbol : (X : Symbol) → Contains (opening marks r.body) X → SymbolStarts G marks X t
+            → Starts G marks r.left t
         by_symbol (terminal k) m s = subst (λ u. Starts G marks r.left u) s (at_once p r k rule m)
         by_symbol (nonterminal B) m s = by_part p r B t rule m s
 
