@@ -1,9 +1,11 @@
 -- What is spelled at the front of a text is spelled there too where more stands behind the text.
 use Rattle.std.proofs.Common.{◌≡◌, ℕ, ◌<◌, List, [], ◌∷◌, ◌++◌, length, Bool, true, false, refl, ap, ◌∙◌, append_assoc}
-use Rattle.std.proofs.Common.{arith, inl, inr, ◌⊎◌, IsTrue}
+use Rattle.std.proofs.Common.{arith, inl, inr, ◌⊎◌, IsTrue, Option}
 use Rattle.std.proofs.lemmas.Bool.{eqb-true, or_cases}
 use Rattle.ly_base.specs.Blank.{is_blank}
 use Rattle.std.specs.Prelude.{not, nat_eq, ◌&&◌}
+use Rattle.ly_base.specs.Language.{NameBefore}
+use Rattle.ly_base.specs.declared.language.Language.TheVariants.{Lex}
 use Rattle.ly_base.specs.Escapes.{Escape, Stops, bare_x, hexadecimal, is_hexadecimal, is_octal, letter, octal}
 use Rattle.ly_ere.specs.Patterns.{IsBehind}
 use Rattle.ly_ere.specs.Elements.{stands_at}
@@ -142,6 +144,33 @@ bracketed_append (elements.listed t rest rs n i some) more
 bracketed_append (elements.excluded t rest rs i some) more
     = elements.excluded (t ++ more) (rest ++ more) rs (items_append i more) some
 
+name_append : (t name rest : List ℕ) → NameBefore Lex t name (125 ∷ rest) → (more : List ℕ)
+    → NameBefore Lex (t ++ more) name (125 ∷ (rest ++ more))
+name_append t name rest h more = (
+  h.0,
+  h.1,
+  ap (λ u. u ++ more) h.2 ∙ append_assoc name (125 ∷ rest) more,
+)
+
+times_append : (t : List ℕ) (m b : ℕ) (rest : List ℕ) → elements.Times t m (b ∷ rest) → (more : List ℕ)
+    → elements.Times (t ++ more) m (b ∷ (rest ++ more))
+times_append t m b rest h more = (
+  h.0,
+  (h.1.0, h.1.1, h.1.2, ap (λ u. u ++ more) h.1.3 ∙ append_assoc h.0 (b ∷ rest) more),
+  h.2,
+  h.3,
+)
+
+bounds_append : {t rest : List ℕ} {m : ℕ} {n : Option ℕ} → elements.Bounds t m n rest → (more : List ℕ)
+    → elements.Bounds (t ++ more) m n (rest ++ more)
+bounds_append (elements.exactly t rest m h) more
+    = elements.exactly (t ++ more) (rest ++ more) m (times_append t m 125 rest h more)
+bounds_append (elements.at_least t rest m h) more
+    = elements.at_least (t ++ more) (rest ++ more) m (times_append t m 44 (125 ∷ rest) h more)
+bounds_append (elements.between t behind rest m n h k le) more
+    = elements.between (t ++ more) (behind ++ more) (rest ++ more) m n (times_append t m 44 behind h more)
+    (times_append behind n 125 rest k more) le
+
 pub element_append : {t rest : List ℕ} {w : elements.Element} → IsElement t w rest → (more : List ℕ)
     → CanFollow rest more
     → IsElement (t ++ more) w (rest ++ more)
@@ -154,3 +183,7 @@ element_append (elements.bracket t bytes rest h) more f
 element_append (elements.quoted t bs rest h) more f
     = elements.quoted (t ++ more) bs (rest ++ more) (quoted_append h more)
 element_append (elements.sign b w rest p) more f = elements.sign b w (rest ++ more) p
+element_append (elements.braced_name t name rest h) more f
+    = elements.braced_name (t ++ more) name (rest ++ more) (name_append t name rest h more)
+element_append (elements.bounds t m n rest h) more f
+    = elements.bounds (t ++ more) m n (rest ++ more) (bounds_append h more)

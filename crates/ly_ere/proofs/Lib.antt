@@ -1,5 +1,6 @@
 pub mod AppendLemmas
 pub mod ArenaLemmas
+pub mod BracedLemmas
 pub mod ClassLemmas
 pub mod CutLemmas
 pub mod ElementLemmas
@@ -13,6 +14,7 @@ pub mod NameLaws
 pub mod NameLemmas
 pub mod NamedLemmas
 pub mod NextElementLemmas
+pub mod NumberLemmas
 pub mod PatternLaws
 pub mod PointLemmas
 pub mod QuotedLemmas

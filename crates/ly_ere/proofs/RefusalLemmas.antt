@@ -4,6 +4,7 @@ use Rattle.std.proofs.Common.{Result, Ok, Err, IfErr}
 use Rattle.std.proofs.lemmas.List.{take_all}
 use Rattle.ly_base.specs.declared.cut.Cut.TheVariants.{Whole}
 use Rattle.ly_ere.specs.Expression.{Expression}
+use Rattle.ly_ere.specs.Names.{Definition, defined}
 use Rattle.ly_ere.specs.Patterns.{IsFrontPattern, IsPattern, IsRefused, pattern_weight}
 use Rattle.ly_ere.specs.Private.Faults.{fault_of_reading, fault_of_syntax}
 use Rattle.ly_ere.specs.Private.Front.{IsFrontExpression, IsPatternOf}
@@ -30,12 +31,12 @@ pattern_of e = record { line_start = false; head = e; tail = None; cut = Whole }
 pattern_of_is : (e : Expression) → IsPatternOf e (pattern_of e)
 pattern_of_is e = record { head = refl; anywhere = refl; no_tail = refl; no_cut = refl }
 
-plain_weight : (names : List Expression) (e : Expression) (p : Pattern) → IsPatternOf e p
-    → pattern_weight names p ≡ weight_of names e
+plain_weight : (names : List Definition) (e : Expression) (p : Pattern) → IsPatternOf e p
+    → pattern_weight names p ≡ weight_of (defined names) e
 plain_weight names e p x = rw (x.no_tail, x.head) refl
 
-module _ (names : List Expression) (line : List ℕ) where
-  pub plain_front : (e : Expression) (p : Pattern) (n : ℕ) → IsFrontExpression line e n → IsPatternOf e p
+module _ (names : List Definition) (line : List ℕ) where
+  pub plain_front : (e : Expression) (p : Pattern) (n : ℕ) → IsFrontExpression names line e n → IsPatternOf e p
       → IsFrontPattern names line p n
   plain_front e p n x plain = record {
     within = x.within;
@@ -48,11 +49,11 @@ module _ (names : List Expression) (line : List ℕ) where
     follows = x.follows;
   }
 
-  pub front_head : (p : Pattern) (n : ℕ) → IsFrontPattern names line p n → IsFrontExpression line p.head n
+  pub front_head : (p : Pattern) (n : ℕ) → IsFrontPattern names line p n → IsFrontExpression names line p.head n
   front_head p n x = record { within = x.within; is_expression = x.is_pattern.head; follows = x.follows }
 
   -- the front is the whole text
-  pub plain_whole : (e : Expression) (p : Pattern) (n : ℕ) → IsFrontExpression line e n → IsPatternOf e p
+  pub plain_whole : (e : Expression) (p : Pattern) (n : ℕ) → IsFrontExpression names line e n → IsPatternOf e p
       → length line ≤ n
       → IsPattern names line p
   plain_whole e p n x plain whole = record {
@@ -77,7 +78,7 @@ not_heavy syntax_fault.EscapeTooLarge e = cc
 not_heavy syntax_fault.UnknownName e = cc
 not_heavy syntax_fault.AnchorInside e = cc
 
-module _ (most : ℕ) (names : List Expression) (Is : Pattern → Type 0) where
+module _ (most : ℕ) (names : List Definition) (Is : Pattern → Type 0) where
   -- the text is at fault
   pub refused_text : (fault : EreFault) → (fault ≡ ere.TooHeavy → ⊥) → ((p : Pattern) → Is p → ⊥)
       → IsRefused most names Is fault
@@ -100,7 +101,7 @@ module _ (most : ℕ) (names : List Expression) (Is : Pattern → Type 0) where
 
   -- what is read weighs too much, or a growth was refused
   pub refused_weight : (fault : EreFault) (e : Expression) → (fault ≢ ere.OutOfMemory → fault ≡ ere.TooHeavy)
-      → (fault ≡ ere.TooHeavy → most < weight_of names e) → Is (pattern_of e)
+      → (fault ≡ ere.TooHeavy → most < weight_of (defined names) e) → Is (pattern_of e)
       → ((p : Pattern) → Is p → IsPatternOf e p) → IsRefused most names Is fault
   refused_weight fault e only heavy is one = record {
     refused = λ other light. absurd (light (only other));
@@ -111,36 +112,36 @@ module _ (most : ℕ) (names : List Expression) (Is : Pattern → Type 0) where
         omega arith;
   }
 
-module _ (most : ℕ) (names : List Expression) (line : List ℕ) where
+module _ (most : ℕ) (names : List Definition) (line : List ℕ) where
   -- no pattern at the front of a line
-  pub no_front : (fault : ReadFault) → (fault ≢ OutOfMemory → (e : Expression) (n : ℕ) → IsFrontExpression line e n → ⊥)
+  pub no_front : (fault : ReadFault) → (fault ≢ OutOfMemory → (e : Expression) (n : ℕ) → IsFrontExpression names line e n → ⊥)
       → IsRefused most names (λ p. (n : ℕ) × IsFrontPattern names line p n) (fault_of_reading fault)
   no_front fault none = refused_reading most names _ fault
       (λ other p x. none other p.head x.0 (front_head names line p x.0 x.1))
 
   -- a text that is no pattern
-  pub no_text : (fault : ReadFault) → (fault ≢ OutOfMemory → (e : Expression) (n : ℕ) → IsFrontExpression line e n → ⊥)
+  pub no_text : (fault : ReadFault) → (fault ≢ OutOfMemory → (e : Expression) (n : ℕ) → IsFrontExpression names line e n → ⊥)
       → IsRefused most names (IsPattern names line) (fault_of_reading fault)
   no_text fault none = refused_reading most names _ fault
-      (λ other p x. none other p.head (length line) (whole_front line p.head x.head))
+      (λ other p x. none other p.head (length line) (whole_front names line p.head x.head))
 
-  module _ (e : Expression) (n : ℕ) (x : IsFrontExpression line e n) where
+  module _ (e : Expression) (n : ℕ) (x : IsFrontExpression names line e n) where
     -- a text that goes on behind its front
     pub no_whole_text : n < length line → IsRefused most names (IsPattern names line) ere.StrayOperator
     no_whole_text more = refused_text most names _ ere.StrayOperator (λ same. cc)
         (λ p whole. absurd (omega (
           arith,
-          front_length_one line e p.head n (length line) x (whole_front line p.head whole.head),
+          front_length_one names line e p.head n (length line) x (whole_front names line p.head whole.head),
         )))
 
     module _ (fault : EreFault) (only : fault ≢ ere.OutOfMemory → fault ≡ ere.TooHeavy)
-        (heavy : fault ≡ ere.TooHeavy → most < weight_of names e) where
+        (heavy : fault ≡ ere.TooHeavy → most < weight_of (defined names) e) where
       pub heavy_front : IsRefused most names (λ p. (m : ℕ) × IsFrontPattern names line p m) fault
       heavy_front
           = refused_weight most names _ fault e only heavy
           (n, plain_front names line e (pattern_of e) n x (pattern_of_is e))
           (λ p found. record {
-            head = sym (front_expression_one line e p.head n found.0 x (front_head names line p found.0 found.1));
+            head = sym (front_expression_one names line e p.head n found.0 x (front_head names line p found.0 found.1));
             anywhere = found.1.is_pattern.anywhere;
             no_tail = found.1.is_pattern.no_tail;
             no_cut = found.1.is_pattern.no_cut;
@@ -151,7 +152,7 @@ module _ (most : ℕ) (names : List Expression) (line : List ℕ) where
           let here = plain_whole names line e (pattern_of e) n x (pattern_of_is e) whole in
           refused_weight most names _ fault e only heavy here
           (λ p found. record {
-            head = expression_one line p.head e found.head here.head;
+            head = expression_one names line p.head e found.head here.head;
             anywhere = found.anywhere;
             no_tail = found.no_tail;
             no_cut = found.no_cut;

@@ -6,7 +6,7 @@ use Rattle.std.proofs.Math.ListN.{get_or-append}
 use Rattle.std.proofs.Math.Seq.{get_or-append_seam}
 use Rattle.std.proofs.lemmas.Bool.Decides.{nat_tests}
 use Rattle.ly_ere.specs.Expression.{Expression, empty}
-use Rattle.ly_ere.specs.Private.Weights.{AreWeights, weight_at}
+use Rattle.ly_ere.specs.Weight.{AreWeights, weight_at}
 use Rattle.ly_ere.specs.Weight.{named_weight, weight_of, weight_under}
 
 -- one more capped weight

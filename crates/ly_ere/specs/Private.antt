@@ -6,4 +6,3 @@ pub mod Faults
 pub mod Front
 pub mod Groups
 pub mod Levels
-pub mod Weights

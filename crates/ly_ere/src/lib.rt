@@ -9,6 +9,7 @@
 #![tactic(auto)]
 
 mod arena;
+mod braced;
 mod bracket;
 mod element;
 mod fault;

@@ -4,6 +4,7 @@ ghost use Rattle.ly_ere.specs.Arena.{part_of};
 ghost use Rattle.ly_ere.specs.Elements.{Quoted};
 ghost use Rattle.ly_ere.specs.Expression.{Expression, set};
 ghost use Rattle.ly_ere.specs.Grammar.{in_order};
+ghost use Rattle.ly_ere.specs.Names.{defined};
 ghost use Rattle.ly_ere.specs.Patterns.{IsBehind, IsFrontPattern, IsPattern, IsRefused, pattern_weight};
 ghost use Rattle.ly_ere.specs.Private.Elements.{IsWellFormed, LeadsOn, LeadsNowhere};
 ghost use Rattle.ly_ere.specs.Private.Front.{BeginsNo, IsFrontExpression, IsPatternOf};
@@ -15,7 +16,7 @@ ghost use Rattle.ly_ere.specs.declared.fault.ReadFault.TheVariants.{OutOfMemory}
 ghost use Rattle.ly_ere.specs.declared.pattern.Pattern.{Pattern};
 
 use crate::arena::Arena;
-use crate::element::{Element, next_element};
+use crate::element::{Element, Mark, next_element};
 use crate::fault::{EreFault, ReadFault, SyntaxFault};
 use crate::level::Level;
 use crate::names::Names;
@@ -40,7 +41,7 @@ pub fn read_front(
     ensures refused { IfErr result (IsRefused limits.now.pattern_weight names.now
         (λ p. (n : ℕ) × IsFrontPattern names.now line.now p n)) }
 {
-    let (head, length) = read_expression(alloc, line)?;
+    let (head, length) = read_expression(alloc, line, names)?;
     let pattern = weighed(alloc, head, names, limits)?;
     Ok((pattern, length))
 }
@@ -56,7 +57,7 @@ pub fn read_pattern(
     ensures light { IfOk result (λ p. pattern_weight names.now p ≤ limits.now.pattern_weight) }
     ensures refused { IfErr result (IsRefused limits.now.pattern_weight names.now (IsPattern names.now text.now)) }
 {
-    let (head, length) = read_expression(alloc, text)?;
+    let (head, length) = read_expression(alloc, text, names)?;
     if length < text.len() {
         return Err(EreFault::StrayOperator);
     }
@@ -69,7 +70,7 @@ fn weighed(alloc: Global, head: Re, names: &Names, limits: &Limits) -> Result<Pa
     ensures light { IfOk result (λ p. pattern_weight names.now p ≤ limits.now.pattern_weight) }
     ensures only { IfErr result (λ fault. fault ≢ ere.OutOfMemory → fault ≡ ere.TooHeavy) }
     ensures heavy { IfErr result (λ fault. fault ≡ ere.TooHeavy
-        → limits.now.pattern_weight < weight_of names.now head) }
+        → limits.now.pattern_weight < weight_of (defined names.now) head) }
 {
     let Some(_) = weigh(alloc, &head, names, limits.pattern_weight())? else {
         return Err(EreFault::TooHeavy);
@@ -84,10 +85,10 @@ fn weighed(alloc: Global, head: Re, names: &Names, limits: &Limits) -> Result<Pa
 
 /// Reads the expression at the front of a line, and answers how many bytes it takes. Open groups stand on a stack
 /// of the reader's own.
-fn read_expression(alloc: Global, line: &[u8]) -> Result<(Re, usize), ReadFault>
-    ensures ok { IfOk result (λ found. IsFrontExpression line.now found.0 found.1) }
-    ensures refused { IfErr result (λ e. e ≢ OutOfMemory → (re : Expression) (n : ℕ) → IsFrontExpression line.now re n
-        → ⊥) }
+fn read_expression(alloc: Global, line: &[u8], names: &Names) -> Result<(Re, usize), ReadFault>
+    ensures ok { IfOk result (λ found. IsFrontExpression names.now line.now found.0 found.1) }
+    ensures refused { IfErr result (λ e. e ≢ OutOfMemory → (re : Expression) (n : ℕ)
+        → IsFrontExpression names.now line.now re n → ⊥) }
 {
     let mut arena = Arena::new(alloc);
     let mut outer = Vec::new(alloc);
@@ -95,7 +96,7 @@ fn read_expression(alloc: Global, line: &[u8]) -> Result<(Re, usize), ReadFault>
     let mut at = 0;
     while !is_behind(&line[at..]) {
         let (element, length) = next_element(&line[at..])?;
-        level = with_element(&mut arena, &mut outer, level, element)?;
+        level = with_element(&mut arena, &mut outer, level, element, names)?;
         at += length;
     }
     if !outer.is_empty() {
@@ -121,16 +122,17 @@ fn with_element(
     outer: &mut Vec<Level>,
     level: Level,
     element: Element<'_>,
+    names: &Names,
 ) -> Result<Level, ReadFault>
     requires parts { IsWithin (length arena.old) level }
     requires outer_parts { All (IsWithin (length arena.old)) outer.old.items }
     requires formed { IsWellFormed element }
     ensures parts { IfOk result (IsWithin (length arena.new)) }
     ensures outer_parts { OnOk result (All (IsWithin (length arena.new)) outer.new.items) }
-    ensures step { IfOk result (λ l. LeadsOn element.entry (reading_of arena.old outer.old.items level)
+    ensures step { IfOk result (λ l. LeadsOn names.now element.entry (reading_of arena.old outer.old.items level)
         (reading_of arena.new outer.new.items l)) }
     ensures refused { IfErr result (λ e. e ≢ OutOfMemory
-        → LeadsNowhere element.entry (reading_of arena.old outer.old.items level)) }
+        → LeadsNowhere names.now element.entry (reading_of arena.old outer.old.items level)) }
 {
     match element {
         Element::OneOf(set) => {
@@ -141,6 +143,11 @@ fn with_element(
             let atom = push_string(arena, inside)?;
             Ok(level.with_atom(arena, atom)?)
         }
+        Element::Name(name) => {
+            let number = names.find(name).ok_or(SyntaxFault::UnknownName)?;
+            let atom = arena.push(Node::Name(number))?;
+            Ok(level.with_atom(arena, atom)?)
+        }
         Element::Opening => {
             outer.push(level)?;
             Ok(Level::new())
@@ -148,6 +155,16 @@ fn with_element(
         Element::Closing => close(arena, outer, level),
         Element::Bar => level.with_bar(arena),
         Element::Postfix(postfix) => level.with_postfix(arena, postfix),
+        Element::Interval { least, most } => level.with_interval(arena, least, most),
+        Element::Mark(mark) => Err(ReadFault::Syntax(mark_fault(mark))),
+    }
+}
+
+/// What a mark is refused for where none may stand.
+fn mark_fault(mark: Mark) -> SyntaxFault {
+    match mark {
+        Mark::Caret | Mark::DollarSign => SyntaxFault::AnchorInside,
+        Mark::Slash => SyntaxFault::StrayOperator,
     }
 }
 

@@ -1,6 +1,6 @@
 -- What a reader answers.
 use Rattle.std.proofs.Common.{◌≡◌, ◌≢◌, ℕ, List, [], ◌∷◌, Ok, Err, refl, sym, subst}
-use Rattle.ly_ere.specs.Expression.{Expression}
+use Rattle.ly_ere.specs.Names.{Definition}
 use Rattle.ly_ere.specs.Patterns.{IsFrontPattern, IsRefused}
 use Rattle.ly_ere.specs.declared.fault.EreFault.{EreFault}
 use Rattle.ly_ere.specs.declared.fault.EreFault.TheVariants as ere
@@ -54,7 +54,7 @@ module _ {T : Type 0} (Is Light : T → Type 0) (Heavy : Type 0) where
   }
 
 -- a line's pattern is refused
-module _ (most : ℕ) (names : List Expression) (line : List ℕ) (number : ℕ) (inner : EreFault) (fault : LexFault)
+module _ (most : ℕ) (names : List Definition) (line : List ℕ) (number : ℕ) (inner : EreFault) (fault : LexFault)
     (may_be : MayBeRule line) (memory : inner ≡ ere.OutOfMemory → fault ≡ OutOfMemory)
     (other : inner ≢ ere.OutOfMemory → fault ≡ Pattern number inner)
     (refusal : IsRefused most names (λ p. (n : ℕ) × IsFrontPattern names line p n) inner) where

@@ -2,7 +2,7 @@
 use Rattle.std.proofs.Common.{◌≡◌, ℕ, zero, suc, Some, None, List, [], ◌∷◌, drop, false, refl, sym, ◌∙◌, subst}
 use Rattle.std.specs.List.{slice_get}
 use Rattle.ly_base.specs.declared.cut.Cut.TheVariants.{Whole}
-use Rattle.ly_ere.specs.Expression.{Expression}
+use Rattle.ly_ere.specs.Names.{Definition, defined}
 use Rattle.ly_ere.specs.Winner.{AreCut, CutHolds}
 use Rattle.ly_ere.specs.declared.pattern.Rule.{Rule}
 use Rattle.ly_ere.proofs.PatternLaws.{front_pattern_one}
@@ -18,7 +18,7 @@ use Rattle.ly_lexread.proofs.DefinitionLemmas.{definitions_one, mark_used}
 use Rattle.ly_lexread.proofs.RuleLemmas.{in_front, rules_behind}
 
 -- no lines and no rules
-rules_none : (names : List Expression) (left : List (List ℕ)) (rs : List Rule) (xs : List Action) → left ≡ []
+rules_none : (names : List Definition) (left : List (List ℕ)) (rs : List Rule) (xs : List Action) → left ≡ []
     → Rules names left rs xs → (rs ≡ []) × (xs ≡ [])
 rules_none names left rs xs e end = (refl, refl)
 rules_none names left rs xs e (mark l ls m) = (refl, refl)
@@ -26,7 +26,7 @@ rules_none names left rs xs e (unused l ls ps qs u d) = cc e
 rules_none names left rs xs e (rule l ls r a ps qs v d) = cc e
 
 -- no rules stand behind a mark
-rules_marked : (names : List Expression) (left rest : List (List ℕ)) (rs : List Rule) (xs : List Action) (line : List ℕ)
+rules_marked : (names : List Definition) (left rest : List (List ℕ)) (rs : List Rule) (xs : List Action) (line : List ℕ)
     → left ≡ line ∷ rest → IsMark line → Rules names left rs xs → (rs ≡ []) × (xs ≡ [])
 rules_marked names left rest rs xs line e m end = (refl, refl)
 rules_marked names left rest rs xs line e m (mark l ls k) = (refl, refl)
@@ -42,7 +42,7 @@ record AreEqual (r s : Rule) (a b : Action) : Type 0 where
   begin : a.begin ≡ b.begin
   returns : meaning_of a.returns ≡ meaning_of b.returns
 
-line_one : (names : List Expression) (line : List ℕ) (r s : Rule) (a b : Action) → IsRuleLine names line r a
+line_one : (names : List Definition) (line : List ℕ) (r s : Rule) (a b : Action) → IsRuleLine names line r a
     → IsRuleLine names line s b → AreEqual r s a b
 line_one names line r s a b v w =
     let same = front_pattern_one names line r.pattern s.pattern v.taken w.taken v.is_pattern w.is_pattern in
@@ -54,7 +54,7 @@ line_one names line r s a b v w =
       returns = says_one (drop v.taken line) (meaning_of a.returns) (meaning_of b.returns) v.is_action.1 action.1;
     }
 
-rules_one : (names : List Expression) (left : List (List ℕ)) (rs ss : List Rule) (xs ys : List Action)
+rules_one : (names : List Definition) (left : List (List ℕ)) (rs ss : List Rule) (xs ys : List Action)
     → Rules names left rs xs → Rules names left ss ys → AreSameRules rs ss × AreSameActions xs ys
 rules_one names left rs ss xs ys end d = let e = rules_none names [] ss ys refl d
     in (subst (AreSameRules []) (sym e.0) tt, subst (AreSameActions []) (sym e.1) tt)
@@ -90,7 +90,7 @@ pub record IsPlain (r : Rule) : Type 0 where
   pub no_cut : r.pattern.cut ≡ Whole
   pub active : r.active.items ≡ 0 ∷ []
 
-rule_plain : (names : List Expression) (lines : List (List ℕ)) (rs : List Rule) (xs : List Action) (i : ℕ) (r : Rule)
+rule_plain : (names : List Definition) (lines : List (List ℕ)) (rs : List Rule) (xs : List Action) (i : ℕ) (r : Rule)
     → Rules names lines rs xs → slice_get rs i ≡ Some r → IsPlain r
 rule_plain names lines rs xs i r end e = cc e
 rule_plain names lines rs xs i r (mark l ls m) e = cc e
@@ -110,8 +110,8 @@ pub rules_plain : (bytes : List ℕ) (file : LexFile) → LexText bytes file →
 rules_plain bytes file text i r e = rule_plain [] text.behind file.rules.items file.actions.items i r text.rules e
 
 -- each cut tells the truth
-pub rules_cut : (bytes : List ℕ) (file : LexFile) → LexText bytes file → AreCut file.names file.rules.items
+pub rules_cut : (bytes : List ℕ) (file : LexFile) → LexText bytes file → AreCut (defined file.names) file.rules.items
 rules_cut bytes file text i r e =
     let plain = rules_plain bytes file text i r e in
-    subst (λ t. CutHolds file.names r.pattern.head t r.pattern.cut) (sym plain.no_tail)
-    (subst (λ k. CutHolds file.names r.pattern.head None k) (sym plain.no_cut) tt)
+    subst (λ t. CutHolds (defined file.names) r.pattern.head t r.pattern.cut) (sym plain.no_tail)
+    (subst (λ k. CutHolds (defined file.names) r.pattern.head None k) (sym plain.no_cut) tt)

@@ -3,6 +3,7 @@ use Rattle.std.specs.Prelude.{◌≡◌, ◌↔◌, ℕ, List, ◌∷◌, ◌≤
 use Rattle.ly_base.specs.declared.cut.Cut.TheVariants.{Whole}
 use Rattle.ly_ere.specs.Elements.{Quoted}
 use Rattle.ly_ere.specs.Expression.{Expression}
+use Rattle.ly_ere.specs.Names.{Definition}
 use Rattle.ly_ere.specs.Patterns.{IsBehind, IsExpression}
 use Rattle.ly_ere.specs.declared.pattern.Pattern.{Pattern}
 
@@ -23,9 +24,9 @@ abbrev pub IsQuotedByte : List ℕ → ℕ → ℕ → Type 0
 IsQuotedByte text b n = (bs rest : List ℕ) → Quoted text bs rest ↔ IsMore b (drop n text) bs rest
 
 -- The first n bytes of the line are the expression, and behind them stands what may stand behind a pattern.
-pub record IsFrontExpression (line : List ℕ) (e : Expression) (n : ℕ) : Type 0 where
+pub record IsFrontExpression (names : List Definition) (line : List ℕ) (e : Expression) (n : ℕ) : Type 0 where
   pub within : n ≤ length line
-  pub is_expression : IsExpression (take n line) e
+  pub is_expression : IsExpression names (take n line) e
   pub follows : IsBehind (drop n line)
 
 -- The pattern is the expression, whatever is before and behind it.

@@ -14,9 +14,9 @@ loop-arena-init c = record {
   within = omega arith;
   parts = c.new-level.ensures.parts _;
   outer_parts = λ k d less. absurd (omega (arith, ap length c.new-outer.ensures.items));
-  read = subst (λ r. IsRead c.args.line.now c.args.line.now r)
+  read = subst (λ r. IsRead c.args.names.now c.args.line.now c.args.line.now r)
       (sym (init_reading c.new-arena.result c.new-outer.result.items c.new-level.result c.new-outer.ensures.items
-      (c.new-level.ensures.empty c.new-arena.result))) (read_start c.args.line.now);
+      (c.new-level.ensures.empty c.new-arena.result))) (read_start c.args.names.now c.args.line.now);
 }
 
 pub returns-in_err-element-clause-refused : goal.returns-in_err-element-clause-refused
