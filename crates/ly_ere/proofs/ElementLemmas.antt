@@ -8,12 +8,12 @@ use Rattle.ly_base.specs.Language.{DigitsBefore, NameBefore, is_decimal, is_lett
 use Rattle.ly_base.specs.declared.language.Language.TheVariants.{Lex}
 use Rattle.ly_base.proofs.EscapeLemmas.{escape_one}
 use Rattle.ly_base.proofs.NameLemmas.{digits_one, name_one}
-use Rattle.ly_ere.specs.Patterns.{IsBehind}
+use Rattle.ly_ere.specs.Private.Front.{CanEnd}
 use Rattle.ly_ere.specs.Elements.{Element, one_of, string, Quoted, IsElement, plain, dot, escaped_element, bracket}
-use Rattle.ly_ere.specs.Elements.{quoted, braced_name, bounds, sign, named, interval}
+use Rattle.ly_ere.specs.Elements.{quoted, braced_name, bounds, sign, named, interval, caret, dollar_sign, slash}
 use Rattle.ly_ere.specs.Elements.{Times, Bounds, exactly, at_least, between}
 use Rattle.ly_ere.specs.Elements.{sign_of, is_among, own_meaning}
-use Rattle.ly_ere.proofs.AppendLemmas.{blank_cases}
+use Rattle.ly_ere.proofs.AppendLemmas.{end_cases}
 use Rattle.ly_ere.proofs.ItemLemmas.{listed_one}
 use Rattle.ly_ere.proofs.QuotedLemmas.{quoted_one}
 
@@ -151,6 +151,13 @@ front_one (sign b w rest p) (bracket t bytes left h) = absurd (cc)
 front_one (sign b w rest p) (quoted t bs left h) = absurd (cc)
 front_one (sign b w rest p) (sign c v left q) = (cc, refl)
 
+-- the element is no mark of a whole pattern
+abbrev pub IsInside : Element → Type 0
+IsInside caret = ⊥
+IsInside dollar_sign = ⊥
+IsInside slash = ⊥
+IsInside _ = Unit {0}
+
 -- no element begins with a blank, or where nothing stands
 no_element_space : {t rest : List ℕ} {w : Element} → IsElement (32 ∷ t) w rest → ⊥
 no_element_space (plain b rest p) = absurd (cc)
@@ -160,9 +167,26 @@ no_element_tab : {t rest : List ℕ} {w : Element} → IsElement (9 ∷ t) w res
 no_element_tab (plain b rest p) = absurd (cc)
 no_element_tab (sign b w rest p) = absurd (cc)
 
-pub element_is_ahead : (t : List ℕ) {rest : List ℕ} {w : Element} → IsElement t w rest → (more : List ℕ)
-    → IsBehind (t ++ more)
-    → ⊥
-element_is_ahead [] s more h = elim s [ ]
-element_is_ahead (b ∷ t) s more h
-    = elim (blank_cases b h) [ inl e ↦ no_element_space (rw e at s) | inr e ↦ no_element_tab (rw e at s) ]
+-- `/` and `$` begin marks alone
+pub slash_at : (t : List ℕ) → IsElement (47 ∷ t) slash t
+slash_at t = sign 47 slash t refl
+
+pub dollar_at : (t : List ℕ) → IsElement (36 ∷ t) dollar_sign t
+dollar_at t = sign 36 dollar_sign t refl
+
+pub caret_at : (t : List ℕ) → IsElement (94 ∷ t) caret t
+caret_at t = sign 94 caret t refl
+
+pub element_is_ahead : (t : List ℕ) {rest : List ℕ} {w : Element} → IsElement t w rest → IsInside w → (more : List ℕ)
+    → CanEnd (t ++ more) → ⊥
+element_is_ahead [] s inside more h = elim s [ ]
+element_is_ahead (b ∷ t) {rest} {w} s inside more h = elim (end_cases b h) [
+  | inl e ↦ no_element_space (rw e at s)
+  | inr o ↦ elim o [
+    | inl e ↦ no_element_tab (rw e at s)
+    | inr q ↦ elim q [
+      | inl e ↦ subst IsInside (front_one (rw e at s) (slash_at t)).0 inside
+      | inr e ↦ subst IsInside (front_one (rw e at s) (dollar_at t)).0 inside
+    ]
+  ]
+]

@@ -30,7 +30,7 @@ denotes_one (Operator p) v w h k = h ∙ sym k
 denotes_one (Interval m n) v w h k = h ∙ sym k
 denotes_one (Mark m) v w h k = h ∙ sym k
 
-some_but_newline : bytes_where (λ b. not (nat_eq b 10)) ≢ []
+pub some_but_newline : bytes_where (λ b. not (nat_eq b 10)) ≢ []
 unfolding all_bytes
 some_but_newline none = let many : length (bytes_where (λ b. not (nat_eq b 10))) ≡ 255 = refl
     in absurd (omega (arith, many, ap length none))

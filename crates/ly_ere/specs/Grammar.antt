@@ -1,9 +1,10 @@
--- The phrases of an expression: which lists of elements are expressions, and which (POSIX, XBD 9.5.3, as lex changes
+-- The phrases of expressions and patterns: which lists of elements are one, and which (POSIX, XBD 9.5.3, as lex changes
 -- it).
-use Rattle.std.specs.Prelude.{◌≡◌, ℕ, List, [], ◌∷◌, ◌++◌, Option, Some}
+use Rattle.std.specs.Prelude.{◌≡◌, ℕ, List, [], ◌∷◌, ◌++◌, Option, Some, None, Bool, true, false}
+use Rattle.ly_base.specs.Bytes.{newline}
 use Rattle.ly_ere.specs.Expression.{Expression, set, empty, concat, either, star, plus, optional, repeat, name}
 use Rattle.ly_ere.specs.Elements.{Element, one_of, string, named, interval, opening, closing, bar, asterisk, plus_sign}
-use Rattle.ly_ere.specs.Elements.{question_mark}
+use Rattle.ly_ere.specs.Elements.{question_mark, caret, dollar_sign, slash}
 use Rattle.ly_ere.specs.Names.{Definition, number_of}
 
 -- an expression, then bytes one after another
@@ -47,3 +48,24 @@ mutual
     branch : {ws : List Element} {e : Expression} → Branch names ws e → Alternation names ws e
     parted : {ws vs : List Element} {e f : Expression} → Alternation names ws e → Branch names vs f
         → Alternation names (ws ++ bar ∷ vs) (either e f)
+
+-- What a pattern is but for its cut: whether it matches only where a line begins, its head, and its tail if it has one.
+pub record Sides : Type 0 where
+  pub line_start : Bool
+  pub head : Expression
+  pub tail : Option Expression
+
+-- a head, and perhaps what has to follow it: `$` stands for a newline
+pub data Tailed (names : List Definition) : List Element → Expression → Option Expression → Type 0 where
+  whole : {ws : List Element} {e : Expression} → Alternation names ws e → Tailed names ws e None
+  line_end : {ws : List Element} {e : Expression} → Alternation names ws e
+      → Tailed names (ws ++ dollar_sign ∷ []) e (Some (set (newline ∷ [])))
+  followed : {ws vs : List Element} {e f : Expression} → Alternation names ws e → Alternation names vs f
+      → Tailed names (ws ++ slash ∷ vs) e (Some f)
+
+-- the words of a whole pattern: `^` stands in front of all others
+pub data AreSides (names : List Definition) : List Element → Sides → Type 0 where
+  anywhere : {ws : List Element} {e : Expression} {t : Option Expression} → Tailed names ws e t
+      → AreSides names ws (record { line_start = false; head = e; tail = t })
+  at_line_start : {ws : List Element} {e : Expression} {t : Option Expression} → Tailed names ws e t
+      → AreSides names (caret ∷ ws) (record { line_start = true; head = e; tail = t })

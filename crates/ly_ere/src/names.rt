@@ -1,9 +1,11 @@
 ghost use Rattle.std.specs.Prelude.{◌≡◌, ◌≢◌, ◌<◌, ◌≤◌, [], ◌∷◌, ◌++◌, ℕ, None, length, IfOk, IfErr, IsOk};
-ghost use Rattle.ly_ere.specs.Names.{defined, number_of, UsesBelow};
+ghost use Rattle.ly_ere.specs.Lengths.{AreNamedLengths, IsSound};
+ghost use Rattle.ly_ere.specs.Names.{defined, number_of};
 ghost use Rattle.ly_ere.specs.Weight.{AreWeights, weight_of};
 ghost use Rattle.ly_ere.specs.declared.fault.EreFault.TheVariants as ere;
 
 use crate::fault::EreFault;
+use crate::length::{Lengths, lengths_of};
 use crate::re::Re;
 use crate::weight::weigh;
 use indexmap::IndexSet;
@@ -20,6 +22,8 @@ pub struct Names {
     definitions: Vec<Re>,
     /// The weight of each.
     weights: Vec<u32>,
+    /// How long the strings of each are.
+    lengths: Vec<Lengths>,
 }
 
 impl Model for Names {
@@ -27,6 +31,7 @@ impl Model for Names {
     ghost use Rattle.std.specs.Coded.{coded_list, coded_ℕ, coded×};
     ghost use Rattle.ly_ere.specs.ExpressionCode.{expression_code};
     ghost use Rattle.ly_ere.specs.Names.{Definition, AreOrdered};
+    ghost use Rattle.ly_ere.specs.Lengths.{AreNamedLengths};
     ghost use Rattle.ly_ere.specs.Weight.{AreWeights};
 
     ghost Value = { List Definition };
@@ -36,7 +41,7 @@ impl Model for Names {
     ghost view = { λ n. zip (map (λ k. k.items) n.names.keys) n.definitions.items };
 
     ghost invariant = { λ n. (length n.names.keys ≡ length n.definitions.items) × AreOrdered n.definitions.items
-        × AreWeights n.definitions.items n.weights.items };
+        × AreWeights n.definitions.items n.weights.items × AreNamedLengths n.definitions.items n.lengths.items };
 }
 
 impl Names {
@@ -50,6 +55,7 @@ impl Names {
             names: IndexSet::new(alloc),
             definitions: Vec::new(alloc),
             weights: Vec::new(alloc),
+            lengths: Vec::new(alloc),
         }
     }
 
@@ -77,7 +83,7 @@ impl Names {
         definition: Re,
         limits: &Limits,
     ) -> Result<Names, EreFault>
-        requires earlier { UsesBelow (length self) definition }
+        requires sound { IsSound (length self) definition }
         requires new { number_of self name.now ≡ None }
         ensures ok { IfOk result (λ names. names ≡ self ++ (name.now, definition) ∷ []) }
         ensures light { IsOk result → weight_of (defined self) definition ≤ limits.now.pattern_weight }
@@ -85,12 +91,14 @@ impl Names {
         ensures heavy { IfErr result (λ fault. fault ≡ ere.TooHeavy
             → limits.now.pattern_weight < weight_of (defined self) definition) }
     {
+        let lengths = lengths_of(alloc, &definition, &self)?;
         let Some(weight) = weigh(alloc, &definition, &self, limits.pattern_weight())? else {
             return Err(EreFault::TooHeavy);
         };
         self.names.insert(Vec::from_slice(alloc, name)?)?;
         self.definitions.push(definition)?;
         self.weights.push(weight)?;
+        self.lengths.push(lengths)?;
         Ok(self)
     }
 
@@ -99,5 +107,12 @@ impl Names {
         ensures { AreWeights (defined self.now) result.now }
     {
         &self.weights
+    }
+
+    /// How long the strings of each definition are.
+    pub(crate) fn lengths(&self) -> &[Lengths]
+        ensures { AreNamedLengths (defined self.now) result.now }
+    {
+        &self.lengths
     }
 }

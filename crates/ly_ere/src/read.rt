@@ -4,18 +4,16 @@ ghost use Rattle.ly_ere.specs.Arena.{part_of};
 ghost use Rattle.ly_ere.specs.Elements.{Quoted};
 ghost use Rattle.ly_ere.specs.Expression.{Expression, set};
 ghost use Rattle.ly_ere.specs.Grammar.{in_order};
-ghost use Rattle.ly_ere.specs.Names.{defined};
-ghost use Rattle.ly_ere.specs.Patterns.{IsBehind, IsFrontPattern, IsPattern, IsRefused, pattern_weight};
+ghost use Rattle.ly_ere.specs.Patterns.{HasFrontSides, IsBehind, IsFrontPattern, IsPattern, IsRefused, pattern_weight};
+ghost use Rattle.ly_ere.specs.Patterns.{SpellsSides};
 ghost use Rattle.ly_ere.specs.Private.Elements.{IsWellFormed, LeadsOn, LeadsNowhere};
-ghost use Rattle.ly_ere.specs.Private.Front.{BeginsNo, IsFrontExpression, IsPatternOf};
+ghost use Rattle.ly_ere.specs.Private.Front.{BeginsNo, CanEnd, IsFrontExpression};
 ghost use Rattle.ly_ere.specs.Private.Groups.{closed, whole};
 ghost use Rattle.ly_ere.specs.Private.Levels.{IsExtended, IsWithin, group_of, groups_of, reading_of};
-ghost use Rattle.ly_ere.specs.Weight.{weight_of};
-ghost use Rattle.ly_ere.specs.declared.fault.EreFault.TheVariants as ere;
 ghost use Rattle.ly_ere.specs.declared.fault.ReadFault.TheVariants.{OutOfMemory};
-ghost use Rattle.ly_ere.specs.declared.pattern.Pattern.{Pattern};
 
 use crate::arena::Arena;
+use crate::cut::with_cut;
 use crate::element::{Element, Mark, next_element};
 use crate::fault::{EreFault, ReadFault, SyntaxFault};
 use crate::level::Level;
@@ -24,8 +22,8 @@ use crate::node::Node;
 use crate::pattern::Pattern;
 use crate::quoted::quoted_byte;
 use crate::re::Re;
-use crate::weight::weigh;
-use ly_base::{ByteSet, Cut, Limits, is_blank};
+use crate::sides::read_sides;
+use ly_base::{ByteSet, Limits, is_blank};
 use std::alloc::{AllocError, Global};
 
 /// Reads the pattern at the front of a line, up to the line's end or the first blank outside strings, bracket
@@ -39,10 +37,11 @@ pub fn read_front(
     ensures ok { IfOk result (λ found. IsFrontPattern names.now line.now found.0 found.1) }
     ensures light { IfOk result (λ found. pattern_weight names.now found.0 ≤ limits.now.pattern_weight) }
     ensures refused { IfErr result (IsRefused limits.now.pattern_weight names.now
+        (λ s. (n : ℕ) × HasFrontSides names.now line.now s n)
         (λ p. (n : ℕ) × IsFrontPattern names.now line.now p n)) }
 {
-    let (head, length) = read_expression(alloc, line, names)?;
-    let pattern = weighed(alloc, head, names, limits)?;
+    let (sides, length) = read_sides(alloc, line, names)?;
+    let pattern = with_cut(alloc, sides, names, limits)?;
     Ok((pattern, length))
 }
 
@@ -55,37 +54,23 @@ pub fn read_pattern(
 ) -> Result<Pattern, EreFault>
     ensures ok { IfOk result (λ p. IsPattern names.now text.now p) }
     ensures light { IfOk result (λ p. pattern_weight names.now p ≤ limits.now.pattern_weight) }
-    ensures refused { IfErr result (IsRefused limits.now.pattern_weight names.now (IsPattern names.now text.now)) }
+    ensures refused { IfErr result (IsRefused limits.now.pattern_weight names.now (SpellsSides names.now text.now)
+        (IsPattern names.now text.now)) }
 {
-    let (head, length) = read_expression(alloc, text, names)?;
+    let (sides, length) = read_sides(alloc, text, names)?;
     if length < text.len() {
         return Err(EreFault::StrayOperator);
     }
-    weighed(alloc, head, names, limits)
-}
-
-/// The pattern that is an expression, if it isn't too heavy.
-fn weighed(alloc: Global, head: Re, names: &Names, limits: &Limits) -> Result<Pattern, EreFault>
-    ensures ok { IfOk result (IsPatternOf head) }
-    ensures light { IfOk result (λ p. pattern_weight names.now p ≤ limits.now.pattern_weight) }
-    ensures only { IfErr result (λ fault. fault ≢ ere.OutOfMemory → fault ≡ ere.TooHeavy) }
-    ensures heavy { IfErr result (λ fault. fault ≡ ere.TooHeavy
-        → limits.now.pattern_weight < weight_of (defined names.now) head) }
-{
-    let Some(_) = weigh(alloc, &head, names, limits.pattern_weight())? else {
-        return Err(EreFault::TooHeavy);
-    };
-    Ok(Pattern {
-        line_start: false,
-        head,
-        tail: None,
-        cut: Cut::Whole,
-    })
+    with_cut(alloc, sides, names, limits)
 }
 
 /// Reads the expression at the front of a line, and answers how many bytes it takes. Open groups stand on a stack
 /// of the reader's own.
-fn read_expression(alloc: Global, line: &[u8], names: &Names) -> Result<(Re, usize), ReadFault>
+pub(crate) fn read_expression(
+    alloc: Global,
+    line: &[u8],
+    names: &Names,
+) -> Result<(Re, usize), ReadFault>
     ensures ok { IfOk result (λ found. IsFrontExpression names.now line.now found.0 found.1) }
     ensures refused { IfErr result (λ e. e ≢ OutOfMemory → (re : Expression) (n : ℕ)
         → IsFrontExpression names.now line.now re n → ⊥) }
@@ -94,20 +79,39 @@ fn read_expression(alloc: Global, line: &[u8], names: &Names) -> Result<(Re, usi
     let mut outer = Vec::new(alloc);
     let mut level = Level::new();
     let mut at = 0;
-    while !is_behind(&line[at..]) {
+    while !can_end(&line[at..]) {
         let (element, length) = next_element(&line[at..])?;
         level = with_element(&mut arena, &mut outer, level, element, names)?;
         at += length;
     }
     if !outer.is_empty() {
-        return Err(ReadFault::Syntax(SyntaxFault::UnclosedGroup));
+        return Err(ReadFault::Syntax(open_fault(&line[at..])));
     }
     let root = level.whole(&mut arena)?;
     Ok((Re::of(arena, root), at))
 }
 
+/// Whether this is what may stand behind a side of a pattern.
+fn can_end(rest: &[u8]) -> bool
+    ensures { MatchBool result (CanEnd rest.now) (CanEnd rest.now → ⊥) }
+{
+    match rest.first() {
+        None => true,
+        Some(first) => is_blank(*first) || *first == b'/' || *first == b'$',
+    }
+}
+
+/// What a group that is open at the end of a side is refused for, by what stands there.
+fn open_fault(rest: &[u8]) -> SyntaxFault {
+    match rest.first() {
+        Some(b'/') => SyntaxFault::StrayOperator,
+        Some(b'$') => SyntaxFault::AnchorInside,
+        _ => SyntaxFault::UnclosedGroup,
+    }
+}
+
 /// Whether this is what may stand behind a pattern on its line.
-fn is_behind(rest: &[u8]) -> bool
+pub(crate) fn is_behind(rest: &[u8]) -> bool
     ensures { MatchBool result (IsBehind rest.now) (IsBehind rest.now → ⊥) }
 {
     match rest.first() {

@@ -1,8 +1,8 @@
 -- The rules of a lex file.
 use Rattle.std.specs.Prelude.{◌≡◌, ◌<◌, ◌≤◌, ◌⊎◌, ℕ, List, [], ◌∷◌, drop, codes}
+use Rattle.ly_ere.specs.Grammar.{Sides}
 use Rattle.ly_ere.specs.Names.{Definition}
-use Rattle.ly_ere.specs.Patterns.{IsFrontPattern, pattern_weight}
-use Rattle.ly_ere.specs.declared.pattern.Pattern.{Pattern}
+use Rattle.ly_ere.specs.Patterns.{HasFrontSides, IsFrontPattern, pattern_weight, sides_weight}
 use Rattle.ly_ere.specs.declared.pattern.Rule.{Rule}
 use Rattle.ly_lexread.specs.declared.action.Action.{Action}
 use Rattle.ly_lexread.specs.Action.{IsAction}
@@ -38,13 +38,13 @@ abbrev pub AreLight : ℕ → List Definition → List Rule → Type 0
 AreLight most names [] = Unit {0}
 AreLight most names (r ∷ rules) = (pattern_weight names r.pattern ≤ most) × AreLight most names rules
 
--- A line's pattern weighs more than this.
+-- A line has sides of a pattern at its front that weigh more than this.
 pub record IsHeavyLine (most : ℕ) (names : List Definition) (line : List ℕ) : Type 0 where
   pub may_be : MayBeRule line
-  pub pattern : Pattern
+  pub sides : Sides
   pub taken : ℕ
-  pub is_pattern : IsFrontPattern names line pattern taken
-  pub is_heavy : most < pattern_weight names pattern
+  pub are_sides : HasFrontSides names line sides taken
+  pub is_heavy : most < sides_weight names sides
 
 -- that of one of the lines does, up to a mark
 abbrev pub HasHeavyLine : ℕ → List Definition → List (List ℕ) → Type 0
