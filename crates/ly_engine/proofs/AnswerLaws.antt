@@ -62,10 +62,12 @@ answer_one limits others lex text e f answer other a b =
     let same = lex_text_one lex a.file b.file a.spelled b.spelled in
     let here : IsAnswer (defined b.file.names) a.file.rules.items a.file.actions.items text e answer =
     subst (λ t. IsAnswer (defined b.file.names) a.file.rules.items a.file.actions.items t e answer) a.is_text
-    (subst (λ names. IsAnswer (defined names) a.file.rules.items a.file.actions.items a.text e answer) same.names a.is_answer)
+    (subst (λ names. IsAnswer (defined names) a.file.rules.items a.file.actions.items a.text e answer) same.names
+    a.is_answer)
     in
     let there : IsAnswer (defined b.file.names) b.file.rules.items b.file.actions.items text f other =
-    subst (λ t. IsAnswer (defined b.file.names) b.file.rules.items b.file.actions.items t f other) b.is_text b.is_answer in
+    subst (λ t. IsAnswer (defined b.file.names) b.file.rules.items b.file.actions.items t f other) b.is_text
+    b.is_answer in
     let under = lexing_under (defined b.file.names) a.file.rules.items b.file.rules.items same.rules
     (condition_set a.file.actions.items) (condition_set b.file.actions.items)
     (conditions_same a.file.actions.items b.file.actions.items same.actions) (start_of text) here.0 e here.1 in

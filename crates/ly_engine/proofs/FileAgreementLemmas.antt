@@ -35,7 +35,8 @@ runs_spell bytes file conditions nfa text one are i c line w = (there (cases_lt 
     back : IsString (defined file.names) file.rules.items c line i w → (p : ℕ) × Contains (starts_of nfa c line) p
         × RunsTo nfa i p w
     back s = let first
-        = only_first file.names s.rule c (rules_of bytes file text i s.rule s.is_active.is_rule) s.is_active.in_condition in
+        = only_first file.names s.rule c (rules_of bytes file text i s.rule s.is_active.is_rule)
+        s.is_active.in_condition in
         (are.spells c line i w (omega arith)).1 s
 
 -- a head that a tail follows has a byte

@@ -104,7 +104,8 @@ fn answer_by<S: Steps + Drop>(
     steps: S,
     text: &[u8],
 ) -> Result<(TokenEnd, Vec<u8>), AllocError>
-    requires { Agrees (defined file.now.names) file.now.rules.items (record { walk = S.walk steps; cut = S.cut_of steps }) }
+    requires { Agrees (defined file.now.names) file.now.rules.items
+        (record { walk = S.walk steps; cut = S.cut_of steps }) }
     ensures { IfOk result (λ a. IsAnswer (defined file.now.names) file.now.rules.items file.now.actions.items text.now
         (end_of a.0) a.1.items) }
 {

@@ -19,7 +19,8 @@ blank_cases b h
     = elim (or_cases (nat_eq b 32) (nat_eq b 9) h) [ inl e ↦ inl (eqb-true b 32 e) | inr e ↦ inr (eqb-true b 9 e) ]
 
 -- a blank, `/` or `$`
-pub end_cases : (b : ℕ) → IsTrue (is_blank b || nat_eq b 47 || nat_eq b 36) → (b ≡ 32) ⊎ ((b ≡ 9) ⊎ ((b ≡ 47) ⊎ (b ≡ 36)))
+pub end_cases : (b : ℕ) → IsTrue (is_blank b || nat_eq b 47 || nat_eq b 36) → (b ≡ 32)
+    ⊎ ((b ≡ 9) ⊎ ((b ≡ 47) ⊎ (b ≡ 36)))
 end_cases b h = elim (or_cases (is_blank b || nat_eq b 47) (nat_eq b 36) h) [
   | inl e ↦ elim (or_cases (is_blank b) (nat_eq b 47) e) [
     | inl x ↦ elim (blank_cases b x) [ inl y ↦ inl y | inr y ↦ inr (inl y) ]
@@ -76,8 +77,10 @@ escape_append : {t rest : List ℕ} {b : ℕ} → Escape t b rest → (more : Li
 escape_append (octal ds rest a l m s n) more f
     = rw append_assoc (octal ds (rest ++ more) a l m (λ h. stops_append is_octal octal_stops rest more f (s h)) n)
 escape_append (hexadecimal ds rest a l s n) more f
-    = rw append_assoc (hexadecimal ds (rest ++ more) a l (stops_append is_hexadecimal hexadecimal_stops rest more f s) n)
-escape_append (bare_x rest s) more f = bare_x (rest ++ more) (stops_append is_hexadecimal hexadecimal_stops rest more f s)
+    = rw append_assoc (hexadecimal ds (rest ++ more) a l
+    (stops_append is_hexadecimal hexadecimal_stops rest more f s) n)
+escape_append (bare_x rest s) more f = bare_x (rest ++ more)
+    (stops_append is_hexadecimal hexadecimal_stops rest more f s)
 escape_append (letter b rest o x n) more f = letter b (rest ++ more) o x n
 
 quoted_some : {t bs rest : List ℕ} → Quoted t bs rest → 0 < length t

@@ -43,7 +43,8 @@ module _ (t : List ℕ) where
               ⊎ ((c : List ℕ) × (d ≡ 44 ∷ c) × (((c ≡ 125 ∷ rest) × (n ≡ None))
               ⊎ ((k : ℕ) × Times c k (125 ∷ rest) × (n ≡ Some k) × (l ≤ k))))) → (k : ℕ) × Times c k (125 ∷ rest)
               × (m ≤ k)
-          by d p q (inl x) = let wrong : 44 ≡ 125 = ap (λ y. get_or y 0 0) (sym e ∙ (q ∙ x.0)) in absurd (omega (arith, wrong))
+          by d p q (inl x) = let wrong : 44 ≡ 125 = ap (λ y. get_or y 0 0) (sym e ∙ (q ∙ x.0))
+              in absurd (omega (arith, wrong))
           by d p q (inr (a, f, inl x)) = absurd (unclosed rest (ap (drop 1) (sym e ∙ (q ∙ f)) ∙ x.0))
           by d p q (inr (a, f, inr x)) =
               let same : a ≡ c = sym (ap (drop 1) (sym e ∙ (q ∙ f))) in
@@ -92,7 +93,11 @@ module _ (t : List ℕ) (some : 0 < length t) (e : get_or t 0 0 ≡ 123) where
       = braced ∙ (ap (λ x. 123 ∷ x) h.2 ∙ simp append_assoc) in
       let there : drop k t ≡ rest = rest_is t (123 ∷ (n.now ++ 125 ∷ [])) rest k split q in
       let many = ap length split in
-      next_is t k (Name n) (named n.now) (omega (arith, q, many, length-append (n.now ++ 125 ∷ []) rest), omega (arith, q))
+      next_is t k (Name n) (named n.now) (
+        omega (arith, q, many, length-append (n.now ++ 125 ∷ []) rest),
+        omega
+            (arith, q),
+      )
       tt refl
       (rw there (subst (λ x. IsElement x (named n.now) rest) (sym braced) (braced_name (drop 1 t) n.now rest h)))
 

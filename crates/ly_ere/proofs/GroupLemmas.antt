@@ -17,13 +17,15 @@ module _ (names : List Definition) where
   after_all-append [] vs r = refl
   after_all-append (w ∷ ws) vs r = by (step names w r) (after_all-append ws vs)
     where
-      by : (o : Option Reading) → ((s : Reading) → after_all names (ws ++ vs) s ≡ and_then (after_all names ws s) (after_all names vs))
+      by : (o : Option Reading) → ((s : Reading) → after_all names (ws ++ vs) s ≡ and_then (after_all names ws s)
+          (after_all names vs))
           → and_then o (after_all names (ws ++ vs)) ≡ and_then (and_then o (after_all names ws)) (after_all names vs)
       by None h = refl
       by (Some s) h = h s
 
   -- elements that are read, and then more
-  then : (ws vs : List Element) (r s : Reading) → after_all names ws r ≡ Some s → after_all names (ws ++ vs) r ≡ after_all names vs s
+  then : (ws vs : List Element) (r s : Reading) → after_all names ws r ≡ Some s
+      → after_all names (ws ++ vs) r ≡ after_all names vs s
   then ws vs r s e = after_all-append ws vs r ∙ ap (λ o. and_then o (after_all names vs)) e
 
   abbrev at : List Group → Group → Reading
@@ -78,7 +80,8 @@ module _ (names : List Definition) where
           refl,
         )
 
-    alternation_runs : {ws : List Element} {e : Expression} → Alternation names ws e → (outer : List Group) → (g : Group)
+    alternation_runs : {ws : List Element} {e : Expression} → Alternation names ws e → (outer : List Group)
+        → (g : Group)
         × (after_all names ws (at outer new_group) ≡ Some (at outer g)) × (whole g ≡ Some e)
     alternation_runs (branch b) outer =
         let h = branch_runs b outer None in
@@ -109,7 +112,8 @@ module _ (names : List Definition) where
       group_of None = new_group
       group_of (Some r) = r.group
 
-      same : (g h : Group) → after_all names ws start ≡ Some (at [] g) → after_all names ws start ≡ Some (at [] h) → whole g ≡ Some e
+      same : (g h : Group) → after_all names ws start ≡ Some (at [] g) → after_all names ws start ≡ Some (at [] h)
+          → whole g ≡ Some e
           → whole h ≡ Some f → e ≡ f
       same g h p q r s = let i : g ≡ h = ap group_of (sym p ∙ q) in let j : whole g ≡ whole h = ap whole i in cc
 
@@ -173,7 +177,8 @@ module _ (names : List Definition) where
   }
 
   -- the elements of a whole group are an alternation
-  alternation_read : (a o : Option Expression) (e : Expression) (es os : List Element) → EitherRead a es → BranchRead o os
+  alternation_read : (a o : Option Expression) (e : Expression) (es os : List Element) → EitherRead a es
+      → BranchRead o os
       → joined_whole a o ≡ Some e → Alternation names (es ++ os) e
   unfolding EitherRead BranchRead
   alternation_read None None e es os h k q = absurd (cc)
@@ -182,7 +187,8 @@ module _ (names : List Definition) where
   alternation_read (Some a) (Some b) e es os h k q = let same : either a b ≡ e = cc
       in rw (h.2, append_assoc, ← same) (parted h.1 k)
 
-  whole_read : (g : Group) (ws : List Element) (e : Expression) → GroupRead g ws → whole g ≡ Some e → Alternation names ws e
+  whole_read : (g : Group) (ws : List Element) (e : Expression) → GroupRead g ws → whole g ≡ Some e
+      → Alternation names ws e
   whole_read g ws e r q
       = rw r.all (alternation_read g.before (open_branch g) e r.es (r.bs ++ r.ps) r.finished (open_read g ws r) q)
 
@@ -311,7 +317,8 @@ module _ (names : List Definition) where
       = rw (i.all, append_assoc) (inside_read r.outer (with_postfix r.group star) i.us (i.vs ++ asterisk ∷ []) s i.outer
       (λ h p. postfix_read r.group h i.vs (asterisk ∷ []) star (λ vs e k. starred k) i.group p) q)
   step_read plus_sign r s ws i q
-      = rw (i.all, append_assoc) (inside_read r.outer (with_postfix r.group plus) i.us (i.vs ++ plus_sign ∷ []) s i.outer
+      = rw (i.all, append_assoc) (inside_read r.outer (with_postfix r.group plus) i.us
+      (i.vs ++ plus_sign ∷ []) s i.outer
       (λ h p. postfix_read r.group h i.vs (plus_sign ∷ []) plus (λ vs e k. repeated k) i.group p) q)
   step_read question_mark r s ws i q
       = rw (i.all, append_assoc) (inside_read r.outer (with_postfix r.group optional) i.us
@@ -329,7 +336,8 @@ module _ (names : List Definition) where
   run_read (w ∷ ws) us r s i q = by (step names w r) refl q (run_read ws (us ++ w ∷ []))
     where
       by : (o : Option Reading) → step names w r ≡ o → and_then o (after_all names ws) ≡ Some s
-          → ((r s : Reading) → IsRead r (us ++ w ∷ []) → after_all names ws r ≡ Some s → IsRead s ((us ++ w ∷ []) ++ ws))
+          → ((r s : Reading) → IsRead r (us ++ w ∷ []) → after_all names ws r ≡ Some s
+          → IsRead s ((us ++ w ∷ []) ++ ws))
           → IsRead s (us ++ (w ∷ ws))
       by None p q f = absurd (cc)
       by (Some t) p q f = rw append_assoc at (f t s (step_read w r t us i p) q)

@@ -1,5 +1,6 @@
 -- The least and the greatest length of strings that are made of others.
-use Rattle.std.proofs.Common.{◌≡◌, ◌≢◌, ℕ, zero, suc, ◌+◌, ◌*◌, ◌<◌, ◌≤◌, ◌⊎◌, List, [], ◌∷◌, ◌++◌, length, Option, Some, None}
+use Rattle.std.proofs.Common.{◌≡◌, ◌≢◌, ℕ, zero, suc, ◌+◌, ◌*◌, ◌<◌, ◌≤◌, ◌⊎◌, List, [], ◌∷◌, ◌++◌, length, Option}
+use Rattle.std.proofs.Common.{Some, None}
 use Rattle.std.proofs.Common.{refl, sym, ap, ◌∙◌, arith, inl, inr, length-append}
 use Rattle.std.specs.Prelude.{Contains, max, min}
 use Rattle.std.proofs.lemmas.Bool.{cases_lt}
@@ -10,7 +11,7 @@ use Rattle.ly_ere.specs.Weight.{repeated_weight}
 use Rattle.ly_ere.specs.declared.length.Lengths.{Lengths}
 
 -- a string so many times
-abbrev copies : ℕ → List ℕ → List ℕ
+abbrev pub copies : ℕ → List ℕ → List ℕ
 copies zero s = []
 copies (suc k) s = s ++ copies k s
 
@@ -18,7 +19,7 @@ copies_length : (k : ℕ) (s : List ℕ) → length (copies k s) ≡ k * length 
 copies_length zero s = omega arith
 copies_length (suc k) s = omega (arith, copies_length k s, length-append s (copies k s))
 
-copies_joined : (L : List ℕ → Type 0) (k : ℕ) (s : List ℕ) → L s → Joined L k (copies k s)
+pub copies_joined : (L : List ℕ → Type 0) (k : ℕ) (s : List ℕ) → L s → Joined L k (copies k s)
 copies_joined L zero s h = refl
 copies_joined L (suc k) s h = (s, copies k s, refl, h, copies_joined L k s h)
 
@@ -170,7 +171,8 @@ module _ (c : ℕ) where
     none_long (suc k) e = omega (arith, e, none_long k e)
 
     module _ (m : ℕ) (n : Option ℕ) (most : ℕ) (none : l.most ≡ 0 → most ≡ 0)
-        (bounded : (k : ℕ) → n ≡ Some k → most ≡ min (k * l.most) c) (unbounded : n ≡ None → 0 < l.most → most ≡ c) where
+        (bounded : (k : ℕ) → n ≡ Some k → most ≡ min (k * l.most) c)
+        (unbounded : n ≡ None → 0 < l.most → most ≡ c) where
       abbrev pub Repeated : List ℕ → Type 0
       Repeated x = (k : ℕ) × (m ≤ k) × IsAtMost k n × Joined L k x
 

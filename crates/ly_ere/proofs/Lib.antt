@@ -30,6 +30,7 @@ pub mod ReadItemLemmas
 pub mod ReadLemmas
 pub mod SidesLemmas
 pub mod SoundLemmas
+pub mod StringLaws
 pub mod StringLemmas
 pub mod WeightLemmas
 pub mod WinnerLaws

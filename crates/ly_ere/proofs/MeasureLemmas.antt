@@ -1,5 +1,6 @@
 -- The lengths of a node's expression, by those of its parts.
-use Rattle.std.proofs.Common.{◌≡◌, ℕ, zero, suc, ◌+◌, ◌*◌, ◌<◌, ◌≤◌, ◌⊎◌, List, [], ◌∷◌, ◌++◌, length, Option, None, refl, sym, ap}
+use Rattle.std.proofs.Common.{◌≡◌, ℕ, zero, suc, ◌+◌, ◌*◌, ◌<◌, ◌≤◌, ◌⊎◌, List, [], ◌∷◌, ◌++◌, length, Option, None}
+use Rattle.std.proofs.Common.{refl, sym, ap}
 use Rattle.std.proofs.Common.{subst, ◌∙◌, arith, inl, inr, length-append}
 use Rattle.std.specs.Prelude.{max, min}
 use Rattle.std.proofs.Math.ListN.{get_or-append}
@@ -86,7 +87,8 @@ module _ (names done : List Expression) (ls : List Lengths) (m : Measures names 
       measured =
           let here = part a fits sound in
           lengths_as v _ (record { least = min (k * (lengths_at ls a).least) far; most = r.most }) r (sym is.least) refl
-          (repeated_lengths far (weight_of names (part_of done a)) (Matches names (part_of done a)) (lengths_at ls a) here
+          (repeated_lengths far (weight_of names (part_of done a)) (Matches names (part_of done a))
+          (lengths_at ls a) here
           k n r.most is.none is.bounded is.unbounded v within (light here.light))
 
     pub star_measured : IsSound (length names) (star (part_of done a)) → IsRepeated 0 None (lengths_at ls a) r

@@ -9,7 +9,8 @@ use Rattle.ly_base.proofs.EscapeLemmas.{byte_at}
 use Rattle.ly_ere.specs.Private.Front.{IsTaken}
 use Rattle.ly_ere.specs.Private.Elements.{IsNextElement, IsWellFormed, Denotes}
 use Rattle.ly_ere.specs.declared.element.Element.{Element as ReadElement}
-use Rattle.ly_ere.specs.declared.element.Element.TheVariants.{OneOf, String, Name, Opening, Closing, Bar, Interval, Mark}
+use Rattle.ly_ere.specs.declared.element.Element.TheVariants.{OneOf, String, Name, Opening, Closing, Bar, Interval}
+use Rattle.ly_ere.specs.declared.element.Element.TheVariants.{Mark}
 use Rattle.ly_ere.specs.declared.element.Element.TheVariants.{Postfix as Operator}
 use Rattle.ly_ere.specs.Elements.{Element, one_of, string, Quoted, Bracketed, IsElement, plain, dot, escaped_element}
 use Rattle.ly_ere.specs.Elements.{bracket}

@@ -1,12 +1,14 @@
 -- A text is at most one list of elements, and so one pattern; and so is a side at the front of a line.
-use Rattle.std.proofs.Common.{◌≡◌, ℕ, List, [], ◌∷◌, ◌++◌, length, take, drop, refl, sym, ap, subst, ◌∙◌, arith, inl, inr, ◌⊎◌}
+use Rattle.std.proofs.Common.{◌≡◌, ℕ, List, [], ◌∷◌, ◌++◌, length, take, drop, refl, sym, ap, subst, ◌∙◌, arith, inl}
+use Rattle.std.proofs.Common.{inr, ◌⊎◌}
 use Rattle.std.proofs.Common.{length-drop, take-append-drop, Option, Some, None, append-nil}
 use Rattle.std.proofs.lemmas.List.{drop_all, take_all}
 use Rattle.ly_base.specs.declared.cut.Cut.{Cut}
 use Rattle.ly_base.specs.declared.cut.Cut.TheVariants.{Head, Tail}
 use Rattle.ly_ere.specs.Elements.{Element, IsElement, AreElements, end, element, caret, dollar_sign, slash}
 use Rattle.ly_ere.specs.Expression.{Expression, set}
-use Rattle.ly_ere.specs.Grammar.{Alternation, AreSides, Sides, Tailed, anywhere, at_line_start, followed, line_end, whole}
+use Rattle.ly_ere.specs.Grammar.{Alternation, AreSides, Sides, Tailed, anywhere, at_line_start, followed, line_end}
+use Rattle.ly_ere.specs.Grammar.{whole}
 use Rattle.ly_ere.specs.Laws.{PatternIsOne}
 use Rattle.ly_ere.specs.Names.{Definition, defined}
 use Rattle.ly_ere.specs.Patterns.{HasOneLength, IsCutOf, IsExpression, SpellsSides, sides_of}
@@ -129,11 +131,13 @@ module _ (names : List Definition) where
   spelled_one text s u x y = sides_one x.2 (rw (elements_one x.1 y.1) y.2)
 
   -- a text is at most one expression
-  pub expression_one : (text : List ℕ) (e f : Expression) → IsExpression names text e → IsExpression names text f → e ≡ f
+  pub expression_one : (text : List ℕ) (e f : Expression) → IsExpression names text e → IsExpression names text f
+      → e ≡ f
   expression_one text e f x y = phrase_one names x.0 e f x.2 (rw (elements_one x.1 y.1) y.2)
 
   -- what stands behind the expression at the front of a line
-  behind_one : (line : List ℕ) (e f : Expression) (n m : ℕ) → IsFrontExpression names line e n → IsFrontExpression names line f m
+  behind_one : (line : List ℕ) (e f : Expression) (n m : ℕ) → IsFrontExpression names line e n
+      → IsFrontExpression names line f m
       → drop n line ≡ drop m line
   behind_one line e f n m x y
       = (ahead_one x.is_expression.1 y.is_expression.1 (alternation_inside names x.is_expression.2)
@@ -160,7 +164,8 @@ module _ (names : List Definition) where
       (subst (λ k. IsExpression names (take k line) f) (sym (front_length_one line e f n m x y)) y.is_expression)
 
   -- a whole text that is an expression
-  pub whole_front : (text : List ℕ) (e : Expression) → IsExpression names text e → IsFrontExpression names text e (length text)
+  pub whole_front : (text : List ℕ) (e : Expression) → IsExpression names text e
+      → IsFrontExpression names text e (length text)
   whole_front text e x = record {
     within = omega arith;
     is_expression = rw (take_all (length text) text (omega arith)) x;

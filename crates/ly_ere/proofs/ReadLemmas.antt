@@ -102,7 +102,8 @@ module _ {names : List Definition} {t left : List ℕ} {r : Reading} (i : IsRead
 
   -- if an expression stands at the front, the elements that are left are read to its end
   rest_runs : (e : Expression) (n : ℕ) → (x : IsFrontExpression names t e n) → (vs : List Element) × (g : Group)
-      × AreAhead left vs (drop n t) × (after_all names vs r ≡ Some (record { outer = []; group = g })) × (whole g ≡ Some e)
+      × AreAhead left vs (drop n t) × (after_all names vs r ≡ Some (record { outer = []; group = g }))
+      × (whole g ≡ Some e)
       × (x.is_expression.0 ≡ i.so_far ++ vs)
   rest_runs e n x =
       let there : AreAhead t x.is_expression.0 (drop n t)
@@ -119,7 +120,8 @@ module _ {names : List Definition} {t left : List ℕ} {r : Reading} (i : IsRead
       )
 
   -- no element is at the front of what is left
-  pub no_element : (CanEnd left → ⊥) → BeginsNo IsElement left → (e : Expression) (n : ℕ) → IsFrontExpression names t e n
+  pub no_element : (CanEnd left → ⊥) → BeginsNo IsElement left → (e : Expression) (n : ℕ)
+      → IsFrontExpression names t e n
       → ⊥
   no_element goes_on none e n x =
       let k = rest_runs e n x in
@@ -128,7 +130,8 @@ module _ {names : List Definition} {t left : List ℕ} {r : Reading} (i : IsRead
 
   -- the element at the front is refused
   pub no_step : (CanEnd left → ⊥) → (x : ReadElement) (m : ℕ) → IsNextElement left x m
-      → ((w : Element) → Denotes x w → step names w r ≡ None) → (e : Expression) (n : ℕ) → IsFrontExpression names t e n → ⊥
+      → ((w : Element) → Denotes x w → step names w r ≡ None) → (e : Expression) (n : ℕ)
+      → IsFrontExpression names t e n → ⊥
   no_step goes_on x m next none e n front =
       let k = rest_runs e n front in
       let f = first_ahead left k.2.text k.0 (drop n t) front.follows goes_on k.2.elements k.2.is in

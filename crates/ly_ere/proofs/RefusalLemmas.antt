@@ -166,11 +166,13 @@ module _ (most : ℕ) (names : List Definition) (line : List ℕ) where
           → IsRefused most names (SpellsSides names line) (IsPattern names line) fault
       text_judged fault = refused_sides most names (SpellsSides names line) (IsPattern names line) s fault whole_text
           (λ p y. (
-            (front_sides_one names line (sides_of p) s (length line) n (text_front names line (sides_of p) y.sides) x).0,
+            (front_sides_one names line (sides_of p) s (length line) n
+                (text_front names line (sides_of p) y.sides) x).0,
             (y.is_cut, y.some_head),
           ))
 
-      pub text_pattern : (p : Pattern) → (sides_of p ≡ s) × IsCutOfSides (defined names) s p.cut → IsPattern names line p
+      pub text_pattern : (p : Pattern) → (sides_of p ≡ s) × IsCutOfSides (defined names) s p.cut
+          → IsPattern names line p
       text_pattern p f =
           let cut : IsCutOfSides (defined names) (sides_of p) p.cut
           = subst (λ (u : Sides). IsCutOfSides (defined names) u p.cut) (sym f.0) f.1 in

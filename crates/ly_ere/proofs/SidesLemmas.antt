@@ -1,14 +1,17 @@
 -- The sides of a pattern at the front of a line, by its head and what stands behind that.
-use Rattle.std.proofs.Common.{◌≡◌, ◌≢◌, ℕ, ◌+◌, List, [], ◌∷◌, ◌++◌, length, take, drop, Option, Some, None, true, false}
+use Rattle.std.proofs.Common.{◌≡◌, ◌≢◌, ℕ, ◌+◌, List, [], ◌∷◌, ◌++◌, length, take, drop, Option, Some, None, true}
+use Rattle.std.proofs.Common.{false}
 use Rattle.std.proofs.Common.{refl, sym, ap, subst, ◌∙◌, arith, inl, inr, ◌⊎◌, append_assoc, length-append, length-take}
 use Rattle.std.proofs.Common.{take-append-drop, get_or}
 use Rattle.std.proofs.lemmas.Bool.Decides.{nat_tests}
 use Rattle.std.proofs.lemmas.Bool.{false≢true}
 use Rattle.std.proofs.lemmas.List.{append-nil}
 use Rattle.std.proofs.Math.Seq.{drop-append_seam, take-append_seam}
-use Rattle.ly_ere.specs.Elements.{Element, IsElement, AreElements, end, element, sign, sign_of, caret, dollar_sign, slash}
+use Rattle.ly_ere.specs.Elements.{Element, IsElement, AreElements, end, element, sign, sign_of, caret, dollar_sign}
+use Rattle.ly_ere.specs.Elements.{slash}
 use Rattle.ly_ere.specs.Expression.{Expression, set}
-use Rattle.ly_ere.specs.Grammar.{Alternation, AreSides, Sides, Tailed, anywhere, at_line_start, followed, line_end, whole}
+use Rattle.ly_ere.specs.Grammar.{Alternation, AreSides, Sides, Tailed, anywhere, at_line_start, followed, line_end}
+use Rattle.ly_ere.specs.Grammar.{whole}
 use Rattle.ly_ere.specs.Names.{Definition}
 use Rattle.ly_ere.specs.Patterns.{HasFrontSides, IsBehind, IsExpression, SpellsSides}
 use Rattle.ly_ere.specs.Private.Front.{CanEnd, IsFrontExpression, IsFrontTail, IsFrontTailed, newline, none, tail}
@@ -187,7 +190,8 @@ module _ (names : List Definition) where
         follows = b;
         words = x.head.is_expression.0 ++ slash ∷ y.is_expression.0;
         elements = join x.head.is_expression.1
-            (element (47 ∷ take m rest) (take m rest) slash y.is_expression.0 (slash_at (take m rest)) y.is_expression.1)
+            (element (47 ∷ take m rest) (take m rest) slash y.is_expression.0
+            (slash_at (take m rest)) y.is_expression.1)
             refl;
         tailed = followed x.head.is_expression.2 y.is_expression.2;
       }
@@ -252,7 +256,8 @@ module _ (names : List Definition) where
   -- no head begins with `^`
   pub no_start : (line rest : List ℕ) (e : Expression) (t : Option Expression) (n : ℕ) → line ≡ 94 ∷ rest
       → IsFrontTailed names line e t n → ⊥
-  no_start line rest e t n q x = let s = tailed_forth line e t n x in by s.text s.behind s.words (sym s.is ∙ q) s.elements
+  no_start line rest e t n q x = let s = tailed_forth line e t n x
+      in by s.text s.behind s.words (sym s.is ∙ q) s.elements
       s.tailed
     where
       empty_words : (us vs : List Element) → Alternation names us e → [] ≡ us ++ vs → ⊥
@@ -269,7 +274,11 @@ module _ (names : List Definition) where
           let a = tailed_parts names (rw (none_read k) at y) in
           elim a.2 [
             | inl p ↦ empty_words a.0 [] a.1 (p.0 ∙ sym (append-nil a.0))
-            | inr o ↦ elim o [ inl p ↦ empty_words a.0 (dollar_sign ∷ []) a.1 p.0 | inr p ↦ empty_words a.0 (slash ∷ p.0) a.1 p.3 ]
+            | inr o ↦ elim o [
+              | inl p ↦ empty_words a.0 (dollar_sign ∷ []) a.1 p.0
+              | inr p ↦ empty_words a.0
+                  (slash ∷ p.0) a.1 p.3
+            ]
           ]
       by (b ∷ text) behind [] q k y = absurd (some_text k)
         where
@@ -285,7 +294,8 @@ module _ (names : List Definition) where
       → (t ≡ u) × (n ≡ m)
   tail_one l t u n m x y = by x y refl
     where
-      by : {l k : List ℕ} {t u : Option Expression} {n m : ℕ} → IsFrontTail names l t n → IsFrontTail names k u m → l ≡ k
+      by : {l k : List ℕ} {t u : Option Expression} {n m : ℕ} → IsFrontTail names l t n → IsFrontTail names k u m
+          → l ≡ k
           → (t ≡ u) × (n ≡ m)
       by (none l b) (none k c) e = (refl, refl)
       by (none l b) (newline rest c) e = absurd (not_behind_36 rest (subst IsBehind e b))

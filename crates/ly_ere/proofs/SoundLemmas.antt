@@ -7,8 +7,10 @@ use Rattle.ly_ere.specs.Elements.{AreElements, Bracketed, Bounds, Element, IsEle
 use Rattle.ly_ere.specs.Elements.{plain, dot, escaped_element, bracket, quoted, braced_name, bounds, sign, sign_of}
 use Rattle.ly_ere.specs.Elements.{listed, excluded, exactly, at_least, between, closing, bar, asterisk, plus_sign}
 use Rattle.ly_ere.specs.Elements.{question_mark, caret, dollar_sign, slash, opening, string, named}
-use Rattle.ly_ere.specs.Expression.{Expression, IsAtMost, concat, either, empty, name, optional, plus, repeat, set, star}
-use Rattle.ly_ere.specs.Grammar.{Alternation, AreSides, Atom, Branch, Piece, Sides, Tailed, anywhere, at_line_start, atom}
+use Rattle.ly_ere.specs.Expression.{Expression, IsAtMost, concat, either, empty, name, optional, plus, repeat, set}
+use Rattle.ly_ere.specs.Expression.{star}
+use Rattle.ly_ere.specs.Grammar.{Alternation, AreSides, Atom, Branch, Piece, Sides, Tailed, anywhere, at_line_start}
+use Rattle.ly_ere.specs.Grammar.{atom}
 use Rattle.ly_ere.specs.Grammar.{branch, byte_atom, counted, followed, group, in_order, joined, left_open, line_end}
 use Rattle.ly_ere.specs.Grammar.{name_atom, parted, piece, repeated, starred, string_atom, whole, with_bytes}
 use Rattle.ly_ere.specs.Lengths.{IsSound}

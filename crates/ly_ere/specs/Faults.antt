@@ -4,7 +4,8 @@ use Rattle.ly_ere.specs.declared.fault.EreFault.{EreFault}
 use Rattle.ly_ere.specs.declared.fault.EreFault.TheVariants.{Empty, UnclosedQuote, UnclosedBracket, UnclosedGroup}
 use Rattle.ly_ere.specs.declared.fault.EreFault.TheVariants.{StrayOperator, BadRange, EmptySet, UnknownClass}
 use Rattle.ly_ere.specs.declared.fault.EreFault.TheVariants.{BadInterval, EscapeTooLarge, UnknownName, AnchorInside}
-use Rattle.ly_ere.specs.declared.fault.EreFault.TheVariants.{TrailingTwice, TrailingBothVary, TrailingHeadEmpty, TooHeavy}
+use Rattle.ly_ere.specs.declared.fault.EreFault.TheVariants.{TrailingTwice, TrailingBothVary, TrailingHeadEmpty}
+use Rattle.ly_ere.specs.declared.fault.EreFault.TheVariants.{TooHeavy}
 use Rattle.ly_ere.specs.declared.fault.EreFault.TheVariants.{OutOfMemory}
 
 -- a fault's number; want of memory has none

@@ -1,8 +1,9 @@
 -- What holds of winners, of phrases and of patterns, as statements.
-use Rattle.std.specs.Prelude.{◌≡◌, ℕ, List, Bool}
-use Rattle.ly_ere.specs.Expression.{Expression}
+use Rattle.std.specs.Prelude.{◌≡◌, ℕ, List, length, Bool}
+use Rattle.ly_ere.specs.Expression.{Expression, Matches}
+use Rattle.ly_ere.specs.Lengths.{AreSound, IsSound}
 use Rattle.ly_ere.specs.Grammar.{Alternation}
-use Rattle.ly_ere.specs.Names.{Definition}
+use Rattle.ly_ere.specs.Names.{Definition, defined}
 use Rattle.ly_ere.specs.Patterns.{IsFrontPattern, IsPattern}
 use Rattle.ly_ere.specs.Elements.{Element}
 use Rattle.ly_ere.specs.declared.pattern.Pattern.{Pattern}
@@ -34,3 +35,12 @@ PatternIsOne = (names : List Definition) (text : List ℕ) (p q : Pattern) → I
 abbrev pub FrontPatternIsOne : Type 0
 FrontPatternIsOne = (names : List Definition) (line : List ℕ) (p q : Pattern) (n m : ℕ)
     → IsFrontPattern names line p n → IsFrontPattern names line q m → (p ≡ q) × (n ≡ m)
+
+-- an expression has a string, if its sets have members and its names have definitions that have some
+abbrev pub ExpressionHasString : Type 0
+ExpressionHasString = (names : List Expression) (e : Expression) → AreSound names → IsSound (length names) e
+    → (w : List ℕ) × Matches names e w
+
+-- the cut of a pattern tells the truth
+abbrev pub CutIsTrue : Type 0
+CutIsTrue = (names : List Definition) (text : List ℕ) (p : Pattern) → IsPattern names text p → IsCut (defined names) p

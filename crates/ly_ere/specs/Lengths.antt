@@ -1,5 +1,5 @@
 -- How long the strings of an expression are.
-use Rattle.std.specs.Prelude.{◌≡◌, ◌≢◌, ℕ, ◌<◌, ◌≤◌, ◌^◌, min, List, [], length, slice_index_or}
+use Rattle.std.specs.Prelude.{◌≡◌, ◌≢◌, ℕ, ◌<◌, ◌≤◌, ◌^◌, min, List, [], length, slice_get, slice_index_or, Some}
 use Rattle.ly_ere.specs.Expression.{Expression, set, empty, concat, either, star, plus, optional, repeat, name}
 use Rattle.ly_ere.specs.Expression.{IsAtMost, Matches}
 use Rattle.ly_ere.specs.Weight.{named_weight}
@@ -16,6 +16,10 @@ IsSound n (plus r) = IsSound n r
 IsSound n (optional r) = IsSound n r
 IsSound n (repeat k m r) = IsAtMost k m × IsSound n r
 IsSound n (name x) = x < n
+
+-- each definition is sound, with the names before it
+abbrev pub AreSound : List Expression → Type 0
+AreSound names = (x : ℕ) (d : Expression) → slice_get names x ≡ Some d → IsSound x d
 
 -- from here on lengths aren't told apart; no weight that is accepted is as great
 abbrev pub far : ℕ

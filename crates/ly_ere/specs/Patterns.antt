@@ -81,7 +81,8 @@ BothVary names s = (t : Expression) × (s.tail ≡ Some t) × Varies names s.hea
 abbrev pub HasEmptyHead : List Expression → Sides → Type 0
 HasEmptyHead names s = IsSome s.tail × Matches names s.head []
 
--- Why there is no answer, where Have says which sides are spelled, and Is which patterns they are: there is none, or what
+-- Why there is no answer, where Have says which sides are spelled, and Is which patterns they are: there is none, or
+-- what
 -- is spelled weighs more than most. Where the cut or an empty head is at fault, sides are spelled that have that fault.
 pub record IsRefused (most : ℕ) (names : List Definition) (Have : Sides → Type 0) (Is : Pattern → Type 0)
     (fault : EreFault) : Type 0 where

@@ -1,4 +1,5 @@
-ghost use Rattle.std.specs.Prelude.{◌≡◌, ◌<◌, ◌≤◌, ℕ, List, ◌∷◌, Option, drop, length, slice_index, IfSome, MatchOption};
+ghost use Rattle.std.specs.Prelude.{◌≡◌, ◌<◌, ◌≤◌, ℕ, List, ◌∷◌, Option, drop, length, slice_index, IfSome};
+ghost use Rattle.std.specs.Prelude.{MatchOption};
 ghost use Rattle.ly_base.specs.Escapes.{AllPass, number};
 ghost use Rattle.ly_base.specs.Language.{is_decimal, NameBefore};
 ghost use Rattle.ly_base.specs.declared.language.Language.TheVariants.{Lex};

@@ -1,7 +1,8 @@
-// The least and the greatest length of an expression's strings, by those of its parts. They tell whether all strings have
-// one length, and whether the empty string is among them. They are counted up to a number that no accepted weight
+// The least and the greatest length of an expression's strings, by those of its parts. They tell whether all strings
+// have one length, and whether the empty string is among them. They are counted up to a number that no accepted weight
 // reaches: the least length is at most the weight.
-ghost use Rattle.std.specs.Prelude.{◌≡◌, ℕ, ◌+◌, ◌*◌, min, max, Some, None, ◌<◌, ◌≤◌, List, length, slice_index_or, IfOk};
+ghost use Rattle.std.specs.Prelude.{◌≡◌, ℕ, ◌+◌, ◌*◌, min, max, Some, None, ◌<◌, ◌≤◌, List, length, slice_index_or};
+ghost use Rattle.std.specs.Prelude.{IfOk};
 ghost use Rattle.ly_ere.specs.Arena.{expression_of, expressions, part_of, FitsAt, IsOrdered};
 ghost use Rattle.ly_ere.specs.Expression.{Expression, Matches};
 ghost use Rattle.ly_ere.specs.Lengths.{AreLengths, AreNamedLengths, IsSound, far, lengths_at};
@@ -99,7 +100,11 @@ impl Lengths {
     fn then(self, next: Lengths) -> Lengths
         requires near { IsNear self }
         requires next_near { IsNear next }
-        ensures { result ≡ record { least = min (self.least + next.least) far; most = min (self.most + next.most) far } }
+        ensures { result ≡ record {
+          least = min (self.least + next.least) far;
+          most = min
+              (self.most + next.most) far;
+        } }
     {
         Lengths {
             least: (self.least + next.least).min(FAR),

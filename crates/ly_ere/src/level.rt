@@ -1,7 +1,8 @@
 ghost use Rattle.std.specs.Prelude.{◌≡◌, ◌≢◌, ℕ, ◌<◌, ◌≤◌, length, Some, None, IfOk, IfErr};
 ghost use Rattle.std.specs.Option.{ForSome};
 ghost use Rattle.ly_ere.specs.Arena.{part_of};
-ghost use Rattle.ly_ere.specs.Private.Groups.{new_group, open_branch, with_atom, with_postfix, with_interval, with_bar, whole};
+ghost use Rattle.ly_ere.specs.Private.Groups.{new_group, open_branch, with_atom, with_postfix, with_interval};
+ghost use Rattle.ly_ere.specs.Private.Groups.{with_bar, whole};
 ghost use Rattle.ly_ere.specs.Private.Levels.{IsWithin, IsExtended, seen, group_of, operated};
 ghost use Rattle.ly_ere.specs.declared.fault.ReadFault.TheVariants.{OutOfMemory};
 

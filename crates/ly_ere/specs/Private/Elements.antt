@@ -10,7 +10,8 @@ use Rattle.ly_ere.specs.declared.fault.SyntaxFault.{SyntaxFault}
 use Rattle.ly_ere.specs.declared.element.Postfix.{Postfix}
 use Rattle.ly_ere.specs.declared.element.Postfix.TheVariants.{Asterisk, PlusSign, QuestionMark}
 use Rattle.ly_ere.specs.declared.element.Element.{Element as ReadElement}
-use Rattle.ly_ere.specs.declared.element.Element.TheVariants.{OneOf, String, Name, Opening, Closing, Bar, Interval, Mark}
+use Rattle.ly_ere.specs.declared.element.Element.TheVariants.{OneOf, String, Name, Opening, Closing, Bar, Interval}
+use Rattle.ly_ere.specs.declared.element.Element.TheVariants.{Mark}
 use Rattle.ly_ere.specs.declared.element.Element.TheVariants.{Postfix as Operator}
 use Rattle.ly_ere.specs.declared.element.Mark.{Mark as ReadMark}
 use Rattle.ly_ere.specs.declared.element.Mark.TheVariants.{Caret, DollarSign, Slash}

@@ -17,7 +17,8 @@ token_end-requires g c =
     (g.S.Steps.cut_of c.new-lexer.result.steps) (ap (λ s. g.S.Steps.walk s) c.new-lexer.ensures.steps)
     (ap (λ s. g.S.Steps.cut_of s) c.new-lexer.ensures.steps))
     c.new-lexer.ensures.place c.deref.ensures.value c.in_ok-end.ensures in
-    leaves_tokens (defined file.names) file.rules.items (condition_set file.actions.items) _ answer.0 c.in_ok-end.end answer.1
+    leaves_tokens (defined file.names) file.rules.items
+    (condition_set file.actions.items) _ answer.0 c.in_ok-end.end answer.1
 
 pub returns : goal.returns
 returns g c =

@@ -16,7 +16,8 @@ answer_by-requires g c =
     let spelled = c.requires.spelled.1 in
     let walk = c.in_ok-walk.walk in
     let positions : ArePositions (defined file.names) file.rules.items file.conditions c.in_ok-nfa.nfa =
-    subst (λ (rs : List Rule). ArePositions (defined file.names) rs file.conditions c.in_ok-nfa.nfa) c.deref.ensures.value
+    subst (λ (rs : List Rule). ArePositions (defined file.names) rs file.conditions c.in_ok-nfa.nfa)
+    c.deref.ensures.value
     c.in_ok-nfa.ensures.positions in
     let agrees = file_agrees c.requires.spelled.0 file file.conditions c.in_ok-nfa.nfa spelled spelled.one_condition
     positions in

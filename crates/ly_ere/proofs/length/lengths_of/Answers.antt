@@ -15,7 +15,8 @@ returns c = λ sound.
     let root = c.nodes-root.result.1 in
     let ls = c.in_ok-lengths.lengths.items in
     let many : length names ≡ length c.args.names.now = length-map c.args.names.now (λ d. d.1) in
-    let within : root < length (expressions nodes) = omega (arith, c.nodes-root.ensures.within, length-expressions nodes) in
+    let within : root < length (expressions nodes) = omega
+    (arith, c.nodes-root.ensures.within, length-expressions nodes) in
     let here = c.in_ok-lengths.ensures.lengths names c.lengths.ensures root within
     (subst (λ e. IsSound (length names) e) (sym c.nodes-root.ensures.spelled)
     (subst (λ n. IsSound n c.args.re.now) (sym many) sound)) in

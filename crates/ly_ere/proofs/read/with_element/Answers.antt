@@ -24,7 +24,8 @@ step_postfix names Asterisk r = refl
 step_postfix names PlusSign r = refl
 step_postfix names QuestionMark r = refl
 
-operator_step : (names : List Definition) (p : Postfix) (old new : List Expression) (items : List Level) (level l : Level) → IsExtended old new
+operator_step : (names : List Definition) (p : Postfix) (old new : List Expression) (items : List Level)
+    (level l : Level) → IsExtended old new
     → All (IsWithin (length old)) items → with_postfix (group_of old level) (operated p) ≡ Some (group_of new l)
     → step names (operator_element p) (reading_of old items level) ≡ Some (reading_of new items l)
 operator_step names p old new items level l g parts e = step_postfix names p (reading_of old items level)
@@ -140,7 +141,8 @@ returns-in-Postfix-clause-step c
     (λ l e. (
       operator_element c.in-Postfix.postfix,
       refl,
-      operator_step c.args.names.now c.in-Postfix.postfix c.args.arena.now c.with_postfix.new.arena c.args.outer.now.items c.args.level l
+      operator_step c.args.names.now c.in-Postfix.postfix c.args.arena.now c.with_postfix.new.arena
+          c.args.outer.now.items c.args.level l
           c.with_postfix.ensures.grown c.requires.outer_parts e,
     )) c.with_postfix.ensures.operator)
 

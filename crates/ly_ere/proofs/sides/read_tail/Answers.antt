@@ -22,7 +22,8 @@ returns-then-not-is_behind-clause-refused c = λ _.
     let rest = c.in-Some.rest.now in
     no_tail c.args.names.now c.args.line.now rest c.in-Some.ensures
     (λ f m x b.
-    let same = front_length_one c.args.names.now rest c.in_ok-tail.tail f c.in_ok-tail.length m c.in_ok-tail.ensures.ok x
+    let same = front_length_one c.args.names.now rest c.in_ok-tail.tail f c.in_ok-tail.length m
+    c.in_ok-tail.ensures.ok x
     in
     let more : IsBehind (drop c.in_ok-tail.length rest) → ⊥ = rw whole_slice at c.if-not-is_behind.ensures in
     more (subst (λ k. IsBehind (drop k rest)) (sym same) b))

@@ -16,7 +16,8 @@ returns-in_err-tail-clause-refused c =
     let line = c.args.line.now in
     rw (fault.1, fault.2)
     (λ other head tail n x.
-    let same = front_length_one c.args.names.now line c.in_ok-head.head head c.in_ok-head.at x.at c.in_ok-head.ensures.ok
+    let same = front_length_one c.args.names.now line c.in_ok-head.head head c.in_ok-head.at x.at
+    c.in_ok-head.ensures.ok
     x.head in
     let refused = rw whole_slice at c.in_err-tail.ensures.refused in
     refused other tail x.more

@@ -6,7 +6,8 @@ use Rattle.ly_ere.proofs.WeightLemmas.{weights_named, within_cap}
 use Rattle.ly_ere.proofs.weight.weigh.Goals as goal
 
 pub returns : goal.returns
-returns c = within_cap c.at_most.result c.in_ok-weight.weight (weight_of (defined c.args.names.now) c.args.re.now) c.args.most
+returns c = within_cap c.at_most.result c.in_ok-weight.weight
+    (weight_of (defined c.args.names.now) c.args.re.now) c.args.most
     (c.in_ok-weight.ensures
     ∙ ap (λ (w : ℕ → ℕ). min (weight_under w c.args.re.now) (c.from.result + 1))
     (weights_named (defined c.args.names.now) c.weights.result.now c.weights.ensures)

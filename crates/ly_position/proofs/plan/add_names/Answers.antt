@@ -24,7 +24,8 @@ loop-definition-preserved c =
     (MatchesUnder (ListedMatches c.loop-definition.plain ps) d)) c.deref.ensures.value c.in_ok-part.ensures in
     rw c.in_ok-push.ensures.items (record {
       count = omega (arith, length-append ds (p ∷ []), before.count);
-      within = names_more_within (defined c.args.names.now) i d is c.loop-definition.plain c.add.new.plain ds p before.within
+      within = names_more_within (defined c.args.names.now) i d is c.loop-definition.plain c.add.new.plain ds p
+          before.within
           before.count before.spells made;
       spells = names_more (defined c.args.names.now) i d is c.loop-definition.plain c.add.new.plain ds p before.within
           before.count before.spells made;

@@ -11,5 +11,6 @@ abbrev pub invariant-loop-definition : goal.invariant-loop-definition
 invariant-loop-definition l = record {
   count : length l.definitions.items ≡ l.definition-index;
   within : All (IsPlainPart (length l.plain)) l.definitions.items;
-  spells : (x : ℕ) → Same (ListedMatches l.plain l.definitions.items x) (NamedUpTo (defined l.names) l.definition-index x);
+  spells : (x : ℕ) → Same (ListedMatches l.plain l.definitions.items x)
+      (NamedUpTo (defined l.names) l.definition-index x);
 }

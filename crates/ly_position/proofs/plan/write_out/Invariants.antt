@@ -12,7 +12,8 @@ use Rattle.ly_position.proofs.plan.write_out.Given as goal
 abbrev pub invariant-loop-rule : goal.invariant-loop-rule
 invariant-loop-rule l = record {
   names_within : All (IsPlainPart (length l.plain)) l.definitions.items;
-  named : (x : ℕ) → Same (ListedMatches l.plain l.definitions.items x) (NamedUpTo (defined l.names) (length (defined l.names)) x);
+  named : (x : ℕ) → Same (ListedMatches l.plain l.definitions.items x)
+      (NamedUpTo (defined l.names) (length (defined l.names)) x);
   count : length l.parts.items ≡ l.rule-index;
   within : All (IsPlainPart (length l.plain)) l.parts.items;
   spells : (j : ℕ) (q : Rule) → j < l.rule-index → slice_get l.rules j ≡ Some q

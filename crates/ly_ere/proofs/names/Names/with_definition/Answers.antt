@@ -29,10 +29,12 @@ invariant_of-self c =
     let found = rw c.in-Some.is at c.in_ok-weight.ensures in
     let many : length c.args.self ≡ length names = sym (ap length (there c) ∙ length-map c.args.self (λ d. d.1)) in
     let uses : UsesBelow (length names) c.args.definition
-    = subst (λ n. UsesBelow n c.args.definition) many (sound_below (length c.args.self) c.args.definition c.requires.sound) in
+    = subst (λ n. UsesBelow n c.args.definition) many
+    (sound_below (length c.args.self) c.args.definition c.requires.sound) in
     let weight : c.in-Some.weight ≡ weight_of names c.args.definition
     = found.0 ∙ ap (λ ns. weight_of ns c.args.definition) (sym (there c)) in
-    let measured : AreLengths (weight_of names c.args.definition) (Matches names c.args.definition) c.in_ok-lengths.lengths
+    let measured : AreLengths (weight_of names c.args.definition)
+    (Matches names c.args.definition) c.in_ok-lengths.lengths
     = subst (λ ns. AreLengths (weight_of ns c.args.definition) (Matches ns c.args.definition) c.in_ok-lengths.lengths)
     (sym (there c)) (c.in_ok-lengths.ensures c.requires.sound) in (
       omega (
