@@ -2,6 +2,7 @@
 use Rattle.std.proofs.Common.{◌≡◌, ℕ, zero, suc, List, [], ◌∷◌, ◌++◌, Option, Some, None, refl, sym, ap, ap₂, ◌∙◌}
 use Rattle.std.proofs.Common.{◌+◌, subst, take, drop}
 use Rattle.std.specs.Prelude.{slice_index}
+use Rattle.ly_ere.specs.Names.{defined}
 use Rattle.ly_base.specs.Lexed.{start_of, token_if, tokens_from}
 use Rattle.ly_base.specs.Text.{Named}
 use Rattle.ly_base.specs.Text as text
@@ -59,16 +60,18 @@ tokens_same xs ys h at rest (t ∷ ts) = ap₂ ◌++◌
 pub answer_one : AnswerIsOne
 answer_one limits others lex text e f answer other a b =
     let same = lex_text_one lex a.file b.file a.spelled b.spelled in
-    let here : IsAnswer b.file.names a.file.rules.items a.file.actions.items text e answer =
-    subst (λ t. IsAnswer b.file.names a.file.rules.items a.file.actions.items t e answer) a.is_text
-    (subst (λ names. IsAnswer names a.file.rules.items a.file.actions.items a.text e answer) same.names a.is_answer)
+    let here : IsAnswer (defined b.file.names) a.file.rules.items a.file.actions.items text e answer =
+    subst (λ t. IsAnswer (defined b.file.names) a.file.rules.items a.file.actions.items t e answer) a.is_text
+    (subst (λ names. IsAnswer (defined names) a.file.rules.items a.file.actions.items a.text e answer) same.names
+    a.is_answer)
     in
-    let there : IsAnswer b.file.names b.file.rules.items b.file.actions.items text f other =
-    subst (λ t. IsAnswer b.file.names b.file.rules.items b.file.actions.items t f other) b.is_text b.is_answer in
-    let under = lexing_under b.file.names a.file.rules.items b.file.rules.items same.rules
+    let there : IsAnswer (defined b.file.names) b.file.rules.items b.file.actions.items text f other =
+    subst (λ t. IsAnswer (defined b.file.names) b.file.rules.items b.file.actions.items t f other) b.is_text
+    b.is_answer in
+    let under = lexing_under (defined b.file.names) a.file.rules.items b.file.rules.items same.rules
     (condition_set a.file.actions.items) (condition_set b.file.actions.items)
     (conditions_same a.file.actions.items b.file.actions.items same.actions) (start_of text) here.0 e here.1 in
-    let one = lexing_one b.file.names b.file.rules.items (condition_set b.file.actions.items)
+    let one = lexing_one (defined b.file.names) b.file.rules.items (condition_set b.file.actions.items)
     (start_of text) here.0 there.0 e f (rules_cut lex b.file b.spelled) under there.1 in
     let tokens = tokens_same a.file.actions.items b.file.actions.items same.actions 0 text here.0
     ∙ ap (tokens_from (naming b.file.actions.items) 0 text) one.0 in

@@ -1,13 +1,13 @@
 -- The walk over the positions of a lex file agrees with its rules.
-use Rattle.std.proofs.Common.{◌≡◌, inl, inr, ℕ, ◌<◌, ◌≤◌, List, Option, None, subst, arith, rules}
-use Rattle.std.specs.Prelude.{Contains, IsSome, ◌⊎◌}
+use Rattle.std.proofs.Common.{◌≡◌, inl, inr, ℕ, ◌<◌, ◌≤◌, List, subst, arith}
+use Rattle.std.specs.Prelude.{Contains, ◌⊎◌}
 use Rattle.std.proofs.lemmas.Bool.{cases_lt}
+use Rattle.ly_ere.specs.Names.{Definition, defined}
 use Rattle.ly_base.proofs.MemberLemmas.{Contains-none, Contains-one}
-use Rattle.ly_ere.specs.Expression.{Expression}
 use Rattle.ly_ere.specs.declared.pattern.Rule.{Rule}
 use Rattle.ly_lexread.specs.LexText.{LexText}
 use Rattle.ly_lexread.specs.declared.file.LexFile.{LexFile}
-use Rattle.ly_lexread.proofs.FileLemmas.{IsPlain, rules_plain, rules_cut}
+use Rattle.ly_lexread.proofs.FileLemmas.{IsOfFile, rules_of, rules_cut}
 use Rattle.ly_position.specs.Nfa.{Nfa, RunsTo, starts_of}
 use Rattle.ly_position.specs.Patterns.{ArePositions}
 use Rattle.ly_ere.specs.Winner.{IsString}
@@ -15,41 +15,38 @@ use Rattle.ly_engine.specs.Agreement.{HaveBytes, Agrees}
 use Rattle.ly_engine.specs.PositionWalk.{position_walk, cut_in}
 use Rattle.ly_engine.proofs.PositionAgreementLemmas.{RunsSpell, positions_agree}
 
--- a plain rule is active in the initial condition alone
-only_first : (r : Rule) (c : ℕ) → IsPlain r → Contains r.active.items c → c < 1
-only_first r c p h = let P : List ℕ → Type 0 = λ cs. Contains cs c in let zero_is : 0 ≡ c
+-- a rule is active in the initial condition alone
+only_first : (names : List Definition) (r : Rule) (c : ℕ) → IsOfFile names r → Contains r.active.items c → c < 1
+only_first names r c p h = let P : List ℕ → Type 0 = λ cs. Contains cs c in let zero_is : 0 ≡ c
     = Contains-one 0 c (subst P p.active h) in omega arith
 
 -- runs over the positions of a lex file spell its rules' strings
 runs_spell : (bytes : List ℕ) (file : LexFile) (conditions : ℕ) (nfa : Nfa) → LexText bytes file → conditions ≡ 1
-    → ArePositions file.names file.rules.items conditions nfa
-    → RunsSpell file.names file.rules.items nfa
+    → ArePositions (defined file.names) file.rules.items conditions nfa
+    → RunsSpell (defined file.names) file.rules.items nfa
 runs_spell bytes file conditions nfa text one are i c line w = (there (cases_lt c conditions), back)
   where
     there : (c < conditions) ⊎ (conditions ≤ c) → (p : ℕ) × Contains (starts_of nfa c line) p × RunsTo nfa i p w
-        → IsString file.names file.rules.items c line i w
+        → IsString (defined file.names) file.rules.items c line i w
     there (inl less) h = (are.spells c line i w less).0 h
     there (inr more) h = let P : List ℕ → Type 0 = λ ps. Contains ps h.0
         in Contains-none h.0 (subst P (are.starts_past c line more) h.1)
 
-    back : IsString file.names file.rules.items c line i w → (p : ℕ) × Contains (starts_of nfa c line) p
+    back : IsString (defined file.names) file.rules.items c line i w → (p : ℕ) × Contains (starts_of nfa c line) p
         × RunsTo nfa i p w
     back s = let first
-        = only_first s.rule c (rules_plain bytes file text i s.rule s.is_active.is_rule) s.is_active.in_condition in
+        = only_first file.names s.rule c (rules_of bytes file text i s.rule s.is_active.is_rule)
+        s.is_active.in_condition in
         (are.spells c line i w (omega arith)).1 s
 
--- no rule has a tail
-have_bytes : (bytes : List ℕ) (file : LexFile) → LexText bytes file → HaveBytes file.names file.rules.items
-have_bytes bytes file text i r e some h = let p = rules_plain bytes file text i r e in let P : Option Expression
-    → Type 0 = λ t. IsSome t in none_is (subst P p.no_tail some)
-  where
-    none_is : IsSome {T = Expression} None → ⊥
-    none_is k = absurd (search rules)
+-- a head that a tail follows has a byte
+have_bytes : (bytes : List ℕ) (file : LexFile) → LexText bytes file → HaveBytes (defined file.names) file.rules.items
+have_bytes bytes file text i r e = (rules_of bytes file text i r e).some_head
 
 -- the walk over a lex file's positions agrees with its rules
 pub file_agrees : (bytes : List ℕ) (file : LexFile) (conditions : ℕ) (nfa : Nfa) → LexText bytes file
-    → conditions ≡ 1 → ArePositions file.names file.rules.items conditions nfa
-    → Agrees file.names file.rules.items (record { walk = position_walk nfa; cut = cut_in file.rules.items })
+    → conditions ≡ 1 → ArePositions (defined file.names) file.rules.items conditions nfa
+    → Agrees (defined file.names) file.rules.items (record { walk = position_walk nfa; cut = cut_in file.rules.items })
 file_agrees bytes file conditions nfa text one are =
-    positions_agree file.names file.rules.items nfa (runs_spell bytes file conditions nfa text one are)
+    positions_agree (defined file.names) file.rules.items nfa (runs_spell bytes file conditions nfa text one are)
     (rules_cut bytes file text) (have_bytes bytes file text)

@@ -1,5 +1,5 @@
 -- The walk over positions agrees with the rules that they spell.
-use Rattle.std.proofs.Common.{◌≡◌, ℕ, List, Bool, Some, ap, Contains, ◌↔◌, ◌∙◌}
+use Rattle.std.proofs.Common.{ℕ, List, Bool, Some, ap, Contains, ◌↔◌, ◌∙◌}
 use Rattle.std.specs.Prelude.{unwrap_or, option_map}
 use Rattle.ly_base.specs.declared.cut.Cut.TheVariants.{Whole}
 use Rattle.ly_ere.specs.Expression.{Expression}

@@ -1,22 +1,17 @@
 -- The walk over sets of positions: what a set's members read and end, and that their order says nothing.
-use Rattle.std.proofs.Common.{◌≡◌, ◌<◌, ◌≤◌, ℕ, List, [], ◌∷◌, ◌++◌, Bool, false, not, Option, Some, None, min, nat_eq}
+use Rattle.std.proofs.Common.{◌≡◌, ◌<◌, ◌≤◌, ℕ, List, [], ◌∷◌, ◌++◌, Bool, not, Option, Some, None, min, nat_eq}
 use Rattle.std.proofs.Common.{eqb-true, sym, refl, ap, ◌∙◌, arith, inl, inr, ◌⊎◌, Contains, slice_get, slice_index_or}
 use Rattle.std.specs.Prelude.{◌↔◌}
 use Rattle.std.proofs.Common.{is_some, length, le_antisymm, zero, suc, take, get_or, ap₂, ◌+◌}
 use Rattle.std.specs.Bool.{OnTrue}
 use Rattle.std.specs.Cmp.{nat_eq_equiv}
-use Rattle.std.specs.List.{list_any}
-use Rattle.std.proofs.lemmas.Bool.{OnTrue_from, both_ways, cases_Bool, cases_lt, false_from_ne_true, ne_eqb}
+use Rattle.std.proofs.lemmas.Bool.{OnTrue_from, cases_Bool, cases_lt, ne_eqb}
 use Rattle.std.proofs.lemmas.List.{take_more}
 use Rattle.std.proofs.lemmas.Map.Views.{Contains-from_any, list_any-from_Contains}
 use Rattle.std.proofs.lemmas.Option.{get_or_from_slice_get}
-use Rattle.ly_base.specs.declared.byte_set.ByteSet.{ByteSet}
-use Rattle.ly_base.specs.ByteSet.{has, members}
-use Rattle.ly_base.specs.SparseSet.{with_members}
-use Rattle.ly_base.proofs.ByteSetLemmas.{members_contain}
+use Rattle.ly_base.specs.ByteSet.{members}
 use Rattle.ly_base.proofs.MemberLemmas.{SameMembers, Contains-cons_cases, Contains-first, Contains-flat_map}
 use Rattle.ly_base.proofs.MemberLemmas.{Contains-later, Contains-none, flat_map-Contains, flat_map-same}
-use Rattle.ly_base.proofs.SparseSetLemmas.{with_members-same}
 use Rattle.ly_position.specs.Nfa.{Nfa, Position, reading, ending, bytes_of, position_of, Reads, Follows, IsEnd, RunsTo}
 use Rattle.ly_position.specs.Nfa.{Stepped}
 use Rattle.ly_engine.specs.PositionWalk.{reads, rule_of, next_of, next_set, set_after, lesser, least_end, says}

@@ -1,5 +1,6 @@
 -- What the bytes of a lex file and of a text are answered with.
 use Rattle.std.specs.Prelude.{◌≡◌, ◌<◌, ◌≤◌, ℕ, List, Option, IfSome}
+use Rattle.ly_ere.specs.Names.{defined}
 use Rattle.ly_base.specs.Limits.{Sizes}
 use Rattle.ly_base.specs.declared.lexeme.End.{End}
 use Rattle.ly_lexread.specs.LexText.{IsLight, LexText}
@@ -11,7 +12,7 @@ use Rattle.ly_engine.specs.Answering.{IsAnswer}
 abbrev pub AreTooHeavy : Sizes → List ℕ → Type 0
 AreTooHeavy limits lex =
     (file : LexFile) × LexText lex file × IsLight limits.pattern_weight file
-    × (limits.total_weight < total_weight file.names file.rules.items)
+    × (limits.total_weight < total_weight (defined file.names) file.rules.items)
 
 -- The lex bytes are those of a lex file within the limits, and the answer is that to a text under it: to the
 -- bytes that the reader had left, where these are known.
@@ -19,7 +20,7 @@ pub record Answers (limits : Sizes) (lex : List ℕ) (left : Option (List ℕ)) 
   pub file : LexFile
   pub spelled : LexText lex file
   pub light : IsLight limits.pattern_weight file
-  pub within : total_weight file.names file.rules.items ≤ limits.total_weight
+  pub within : total_weight (defined file.names) file.rules.items ≤ limits.total_weight
   pub text : List ℕ
   pub is_text : IfSome left (λ bytes. text ≡ bytes)
-  pub is_answer : IsAnswer file.names file.rules.items file.actions.items text e answer
+  pub is_answer : IsAnswer (defined file.names) file.rules.items file.actions.items text e answer

@@ -1,5 +1,6 @@
 ghost use Rattle.std.specs.Prelude.{◌≡◌, ℕ, ◌<◌, ◌≤◌, List, length, take, Err, IfSome, IfOk, IfErr, IsErrOf, OnOk};
 ghost use Rattle.std.specs.Io.KnownBytes.{Appends, IsAtEnd};
+ghost use Rattle.ly_ere.specs.Names.{defined};
 ghost use Rattle.ly_base.specs.Device.{next_count};
 ghost use Rattle.ly_base.specs.Limits.{version_1};
 ghost use Rattle.ly_base.specs.declared.lexeme.End.{End};
@@ -73,11 +74,11 @@ fn answer_to_text<R: Source>(
 ) -> Result<(TokenEnd, Vec<u8>), TokensFault>
     requires spelled { (bytes : List ℕ) × LexText bytes file.now }
     ensures made { IfOk result (λ a. (text : List ℕ) × IfSome (R.remaining reader.old) (λ bytes. text ≡ bytes)
-        × IsAnswer file.now.names file.now.rules.items file.now.actions.items text (end_of a.0) a.1.items) }
+        × IsAnswer (defined file.now.names) file.now.rules.items file.now.actions.items text (end_of a.0) a.1.items) }
     ensures refused { (fault : LexFault) → result ≡ Err (TokensFault.Lex fault) → ⊥ }
-    ensures within { OnOk result (total_weight file.now.names file.now.rules.items ≤ version_1.total_weight) }
+    ensures within { OnOk result (total_weight (defined file.now.names) file.now.rules.items ≤ version_1.total_weight) }
     ensures heavy { (fault : PosFault) → result ≡ Err (TokensFault.Positions fault) → (fault ≡ TooManyPositions)
-        × (version_1.total_weight < total_weight file.now.names file.now.rules.items) }
+        × (version_1.total_weight < total_weight (defined file.now.names) file.now.rules.items) }
     ensures ended { OnOk result (IsAtEnd (R.remaining reader.new)) }
     ensures unread { IfErr result (λ e. IsBeforeReading e → reader.new ≡ reader.old) }
     ensures read { IsErrOf result TokensFault.Read → R.failures reader.new ≡ next_count (R.failures reader.old) }
@@ -103,8 +104,9 @@ fn answer_by<S: Steps + Drop>(
     steps: S,
     text: &[u8],
 ) -> Result<(TokenEnd, Vec<u8>), AllocError>
-    requires { Agrees file.now.names file.now.rules.items (record { walk = S.walk steps; cut = S.cut_of steps }) }
-    ensures { IfOk result (λ a. IsAnswer file.now.names file.now.rules.items file.now.actions.items text.now
+    requires { Agrees (defined file.now.names) file.now.rules.items
+        (record { walk = S.walk steps; cut = S.cut_of steps }) }
+    ensures { IfOk result (λ a. IsAnswer (defined file.now.names) file.now.rules.items file.now.actions.items text.now
         (end_of a.0) a.1.items) }
 {
     let mut lexer = Lexer::new(steps, text);

@@ -1,9 +1,11 @@
 -- What is spelled at the front of a text is spelled there too where the text ends sooner behind it.
 use Rattle.std.proofs.Common.{◌≡◌, ◌≢◌, ℕ, ◌<◌, List, [], ◌∷◌, ◌++◌, length, Bool, true, false, refl, sym, ap, ◌∙◌}
 use Rattle.std.proofs.Common.{subst}
-use Rattle.std.proofs.Common.{append_assoc, arith, drop, get_or}
+use Rattle.std.proofs.Common.{append_assoc, arith, drop, get_or, Option}
 use Rattle.std.specs.Prelude.{nat_eq, ◌&&◌, ◌||◌}
 use Rattle.std.proofs.lemmas.Bool.{ne_eqb}
+use Rattle.ly_base.specs.Language.{NameBefore}
+use Rattle.ly_base.specs.declared.language.Language.TheVariants.{Lex}
 use Rattle.ly_base.specs.Escapes.{Escape, Stops, bare_x, hexadecimal, is_hexadecimal, is_octal, letter, octal}
 use Rattle.ly_ere.specs.Elements.{Bracketed, Element, Item, Items, Point, Points, Quoted, IsElement, begins_named}
 use Rattle.ly_ere.specs.Elements.{begins_range, stands_at}
@@ -162,6 +164,34 @@ bracketed_cut (elements.listed u r rs n i some) rest more e = let d = items_cut 
 bracketed_cut (elements.excluded u r rs i some) rest more e = let d = items_cut i rest more e
     in (94 ∷ d.0, ap (λ x. 94 ∷ x) d.1, elements.excluded d.0 rest rs d.2 some)
 
+name_cut : (u name r : List ℕ) → NameBefore Lex u name (125 ∷ r) → (rest more : List ℕ) → r ≡ rest ++ more
+    → HasFront (λ t. NameBefore Lex t name (125 ∷ rest)) u more
+name_cut u name r h rest more e = (
+  name ++ 125 ∷ rest,
+  h.2 ∙ (ap (λ x. name ++ 125 ∷ x) e ∙ sym (append_assoc name (125 ∷ rest) more)),
+  (h.0, h.1, refl),
+)
+
+times_cut : (u : List ℕ) (m b : ℕ) (r : List ℕ) → elements.Times u m (b ∷ r) → (rest more : List ℕ) → r ≡ rest ++ more
+    → HasFront (λ t. elements.Times t m (b ∷ rest)) u more
+times_cut u m b r h rest more e = (
+  h.0 ++ b ∷ rest,
+  h.1.3 ∙ (ap (λ x. h.0 ++ b ∷ x) e ∙ sym (append_assoc h.0 (b ∷ rest) more)),
+  (h.0, (h.1.0, h.1.1, h.1.2, refl), h.2, h.3),
+)
+
+bounds_cut : {u r : List ℕ} {m : ℕ} {n : Option ℕ} → elements.Bounds u m n r → (rest more : List ℕ)
+    → r ≡ rest ++ more → HasFront (λ t. elements.Bounds t m n rest) u more
+bounds_cut (elements.exactly u r m h) rest more e = let d = times_cut u m 125 r h rest more e
+    in (d.0, d.1, elements.exactly d.0 rest m d.2)
+bounds_cut (elements.at_least u r m h) rest more e =
+    let d = times_cut u m 44 (125 ∷ r) h (125 ∷ rest) more (ap (λ x. 125 ∷ x) e) in
+    (d.0, d.1, elements.at_least d.0 rest m d.2)
+bounds_cut (elements.between u behind r m n h k le) rest more e =
+    let c = times_cut behind n 125 r k rest more e in
+    let d = times_cut u m 44 behind h c.0 more c.1 in
+    (d.0, d.1, elements.between d.0 c.0 rest m n d.2 c.2 le)
+
 pub element_cut : {u r : List ℕ} {w : Element} → IsElement u w r → (rest more : List ℕ) → r ≡ rest ++ more
     → HasFront (λ t. IsElement t w rest) u more
 element_cut (elements.plain b r p) rest more e = (b ∷ rest, ap (λ x. b ∷ x) e, elements.plain b rest p)
@@ -173,3 +203,7 @@ element_cut (elements.bracket u bytes r h) rest more e = let d = bracketed_cut h
 element_cut (elements.quoted u bs r h) rest more e = let d = quoted_cut h rest more e
     in (34 ∷ d.0, ap (λ x. 34 ∷ x) d.1, elements.quoted d.0 bs rest d.2)
 element_cut (elements.sign b w r p) rest more e = (b ∷ rest, ap (λ x. b ∷ x) e, elements.sign b w rest p)
+element_cut (elements.braced_name u name r h) rest more e = let d = name_cut u name r h rest more e
+    in (123 ∷ d.0, ap (λ x. 123 ∷ x) d.1, elements.braced_name d.0 name rest d.2)
+element_cut (elements.bounds u m n r h) rest more e = let d = bounds_cut h rest more e
+    in (123 ∷ d.0, ap (λ x. 123 ∷ x) d.1, elements.bounds d.0 m n rest d.2)

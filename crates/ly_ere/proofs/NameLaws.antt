@@ -13,7 +13,7 @@ joined_map L M f zero w j = j
 joined_map L M f (suc k) w j = (j.0, j.1, j.2, f j.0 j.3, joined_map L M f k j.1 j.4)
 
 -- only the names that it uses matter
-change : (D E : ℕ → List ℕ → Type 0) (n : ℕ) → ((x : ℕ) (w : List ℕ) → x < n → D x w → E x w)
+pub change : (D E : ℕ → List ℕ → Type 0) (n : ℕ) → ((x : ℕ) (w : List ℕ) → x < n → D x w → E x w)
     → (r : Expression) (w : List ℕ) → UsesBelow n r → MatchesUnder D r w → MatchesUnder E r w
 change D E n f (set bytes) w u h = h
 change D E n f empty w u h = h

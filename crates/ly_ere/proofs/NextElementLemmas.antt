@@ -9,7 +9,9 @@ use Rattle.ly_base.proofs.EscapeLemmas.{byte_at}
 use Rattle.ly_ere.specs.Private.Front.{IsTaken}
 use Rattle.ly_ere.specs.Private.Elements.{IsNextElement, IsWellFormed, Denotes}
 use Rattle.ly_ere.specs.declared.element.Element.{Element as ReadElement}
-use Rattle.ly_ere.specs.declared.element.Element.TheVariants.{OneOf, String, Opening, Closing, Bar, Postfix as Operator}
+use Rattle.ly_ere.specs.declared.element.Element.TheVariants.{OneOf, String, Name, Opening, Closing, Bar, Interval}
+use Rattle.ly_ere.specs.declared.element.Element.TheVariants.{Mark}
+use Rattle.ly_ere.specs.declared.element.Element.TheVariants.{Postfix as Operator}
 use Rattle.ly_ere.specs.Elements.{Element, one_of, string, Quoted, Bracketed, IsElement, plain, dot, escaped_element}
 use Rattle.ly_ere.specs.Elements.{bracket}
 use Rattle.ly_ere.specs.Elements.{quoted}
@@ -21,18 +23,21 @@ use Rattle.ly_ere.proofs.ElementLemmas.{front_one}
 pub denotes_one : (s : ReadElement) (v w : Element) → Denotes s v → Denotes s w → v ≡ w
 denotes_one (OneOf s) v w h k = h ∙ sym k
 denotes_one (String t) v w h k = h.3 ∙ (ap string (quoted_one h.2 k.2).0 ∙ sym k.3)
+denotes_one (Name n) v w h k = h ∙ sym k
 denotes_one Opening v w h k = h ∙ sym k
 denotes_one Closing v w h k = h ∙ sym k
 denotes_one Bar v w h k = h ∙ sym k
 denotes_one (Operator p) v w h k = h ∙ sym k
+denotes_one (Interval m n) v w h k = h ∙ sym k
+denotes_one (Mark m) v w h k = h ∙ sym k
 
-some_but_newline : bytes_where (λ b. not (nat_eq b 10)) ≢ []
+pub some_but_newline : bytes_where (λ b. not (nat_eq b 10)) ≢ []
 unfolding all_bytes
 some_but_newline none = let many : length (bytes_where (λ b. not (nat_eq b 10))) ≡ 255 = refl
     in absurd (omega (arith, many, ap length none))
 
 -- an element that the element stands for is at the front, and so no other
-next_is : (t : List ℕ) (n : ℕ) (s : ReadElement) (w : Element) → IsTaken t n → IsWellFormed s → Denotes s w
+pub next_is : (t : List ℕ) (n : ℕ) (s : ReadElement) (w : Element) → IsTaken t n → IsWellFormed s → Denotes s w
     → IsElement t w (drop n t) → IsNextElement t s n
 next_is t n s w front formed is spelled = record {
   front = front;

@@ -1,13 +1,15 @@
--- Why a pattern is refused, by why its expression is.
-use Rattle.std.proofs.Common.{◌≡◌, ◌≢◌, ℕ, ◌<◌, ◌≤◌, List, length, None, false, refl, sym, arith}
-use Rattle.std.proofs.Common.{Result, Ok, Err, IfErr}
-use Rattle.std.proofs.lemmas.List.{take_all}
-use Rattle.ly_base.specs.declared.cut.Cut.TheVariants.{Whole}
+-- Why a pattern is refused, by why its sides are.
+use Rattle.std.proofs.Common.{◌≡◌, ◌≢◌, ℕ, ◌<◌, ◌≤◌, List, length, Some, None, refl, sym, ap, subst, arith, inl, inr}
+use Rattle.std.proofs.Common.{take, Result, Ok, Err, IfErr}
+use Rattle.std.proofs.lemmas.List.{drop_all, take_all}
+use Rattle.ly_base.specs.declared.cut.Cut.{Cut}
 use Rattle.ly_ere.specs.Expression.{Expression}
-use Rattle.ly_ere.specs.Patterns.{IsFrontPattern, IsPattern, IsRefused, pattern_weight}
+use Rattle.ly_ere.specs.Grammar.{Sides}
+use Rattle.ly_ere.specs.Names.{Definition, defined}
+use Rattle.ly_ere.specs.Patterns.{BothVary, HasFrontSides, IsCutOf, IsFrontPattern, IsPattern, IsRefused}
+use Rattle.ly_ere.specs.Patterns.{SpellsSides, sides_of, sides_weight}
+use Rattle.ly_ere.specs.Private.Cuts.{IsCutOfSides, IsJudged}
 use Rattle.ly_ere.specs.Private.Faults.{fault_of_reading, fault_of_syntax}
-use Rattle.ly_ere.specs.Private.Front.{IsFrontExpression, IsPatternOf}
-use Rattle.ly_ere.specs.Weight.{weight_of}
 use Rattle.ly_ere.specs.declared.fault.EreFault.{EreFault}
 use Rattle.ly_ere.specs.declared.fault.EreFault.TheVariants as ere
 use Rattle.ly_ere.specs.declared.fault.ReadFault.{ReadFault}
@@ -15,144 +17,163 @@ use Rattle.ly_ere.specs.declared.fault.ReadFault.TheVariants.{Syntax, OutOfMemor
 use Rattle.ly_ere.specs.declared.fault.SyntaxFault.{SyntaxFault}
 use Rattle.ly_ere.specs.declared.fault.SyntaxFault.TheVariants as syntax_fault
 use Rattle.ly_ere.specs.declared.pattern.Pattern.{Pattern}
-use Rattle.ly_ere.proofs.PatternLaws.{expression_one, front_expression_one, front_length_one, whole_front}
+use Rattle.ly_ere.proofs.FrontLaws.{pattern_sides}
+use Rattle.ly_ere.proofs.SidesLemmas.{front_sides_one}
 
--- what two facts of a fault say together
-pub err_by_both : {T E : Type 0} (r : Result T E) (P Q R : E → Type 0) → ((e : E) → P e → Q e → R e) → IfErr r P
-    → IfErr r Q → IfErr r R
-err_by_both (Ok x) P Q R f p q = tt
-err_by_both (Err e) P Q R f p q = f e p q
+-- a fact of a fault as another
+pub err_as : {T E : Type 0} (r : Result T E) (P Q : E → Type 0) → ((e : E) → P e → Q e) → IfErr r P → IfErr r Q
+err_as (Ok x) P Q f p = tt
+err_as (Err e) P Q f p = f e p
 
--- the pattern that is an expression
-abbrev pub pattern_of : Expression → Pattern
-pattern_of e = record { line_start = false; head = e; tail = None; cut = Whole }
+-- the fault is of the text, and not of the weight, the cut or an empty head
+abbrev IsOther : EreFault → Type 0
+IsOther fault = (fault ≢ ere.TooHeavy) × (fault ≢ ere.TrailingBothVary) × (fault ≢ ere.TrailingHeadEmpty)
 
-pattern_of_is : (e : Expression) → IsPatternOf e (pattern_of e)
-pattern_of_is e = record { head = refl; anywhere = refl; no_tail = refl; no_cut = refl }
+text_is_other : (fault : SyntaxFault) → IsOther (fault_of_syntax fault)
+text_is_other syntax_fault.Empty = (λ e. cc, λ e. cc, λ e. cc)
+text_is_other syntax_fault.UnclosedQuote = (λ e. cc, λ e. cc, λ e. cc)
+text_is_other syntax_fault.UnclosedBracket = (λ e. cc, λ e. cc, λ e. cc)
+text_is_other syntax_fault.UnclosedGroup = (λ e. cc, λ e. cc, λ e. cc)
+text_is_other syntax_fault.StrayOperator = (λ e. cc, λ e. cc, λ e. cc)
+text_is_other syntax_fault.BadRange = (λ e. cc, λ e. cc, λ e. cc)
+text_is_other syntax_fault.EmptySet = (λ e. cc, λ e. cc, λ e. cc)
+text_is_other syntax_fault.UnknownClass = (λ e. cc, λ e. cc, λ e. cc)
+text_is_other syntax_fault.BadInterval = (λ e. cc, λ e. cc, λ e. cc)
+text_is_other syntax_fault.EscapeTooLarge = (λ e. cc, λ e. cc, λ e. cc)
+text_is_other syntax_fault.UnknownName = (λ e. cc, λ e. cc, λ e. cc)
+text_is_other syntax_fault.AnchorInside = (λ e. cc, λ e. cc, λ e. cc)
+text_is_other syntax_fault.TrailingTwice = (λ e. cc, λ e. cc, λ e. cc)
 
-plain_weight : (names : List Expression) (e : Expression) (p : Pattern) → IsPatternOf e p
-    → pattern_weight names p ≡ weight_of names e
-plain_weight names e p x = rw (x.no_tail, x.head) refl
+-- sides that have a cut
+no_cut : (names : List Expression) (s : Sides) (cut : Cut) → IsCutOfSides names s cut → BothVary names s → ⊥
+no_cut names s cut c b = by s.tail b.1 c.0
+  where
+    by : (t : _) → t ≡ Some b.0 → IsCutOf names s.head t cut → ⊥
+    by None e k = absurd (cc)
+    by (Some t) e (inl k) = b.2 k.0 k.1
+    by (Some t) e (inr k) = let same : t ≡ b.0 = cc in b.3 k.1 (rw same at k.2)
 
-module _ (names : List Expression) (line : List ℕ) where
-  pub plain_front : (e : Expression) (p : Pattern) (n : ℕ) → IsFrontExpression line e n → IsPatternOf e p
-      → IsFrontPattern names line p n
-  plain_front e p n x plain = record {
-    within = x.within;
-    is_pattern = record {
-      head = rw plain.head x.is_expression;
-      anywhere = plain.anywhere;
-      no_tail = plain.no_tail;
-      no_cut = plain.no_cut;
-    };
-    follows = x.follows;
-  }
-
-  pub front_head : (p : Pattern) (n : ℕ) → IsFrontPattern names line p n → IsFrontExpression line p.head n
-  front_head p n x = record { within = x.within; is_expression = x.is_pattern.head; follows = x.follows }
-
-  -- the front is the whole text
-  pub plain_whole : (e : Expression) (p : Pattern) (n : ℕ) → IsFrontExpression line e n → IsPatternOf e p
-      → length line ≤ n
-      → IsPattern names line p
-  plain_whole e p n x plain whole = record {
-    head = rw plain.head (rw (take_all n line whole) at x.is_expression);
-    anywhere = plain.anywhere;
-    no_tail = plain.no_tail;
-    no_cut = plain.no_cut;
-  }
-
--- a fault of the text is none of its weight
-not_heavy : (fault : SyntaxFault) → fault_of_syntax fault ≡ ere.TooHeavy → ⊥
-not_heavy syntax_fault.Empty e = cc
-not_heavy syntax_fault.UnclosedQuote e = cc
-not_heavy syntax_fault.UnclosedBracket e = cc
-not_heavy syntax_fault.UnclosedGroup e = cc
-not_heavy syntax_fault.StrayOperator e = cc
-not_heavy syntax_fault.BadRange e = cc
-not_heavy syntax_fault.EmptySet e = cc
-not_heavy syntax_fault.UnknownClass e = cc
-not_heavy syntax_fault.BadInterval e = cc
-not_heavy syntax_fault.EscapeTooLarge e = cc
-not_heavy syntax_fault.UnknownName e = cc
-not_heavy syntax_fault.AnchorInside e = cc
-
-module _ (most : ℕ) (names : List Expression) (Is : Pattern → Type 0) where
+module _ (most : ℕ) (names : List Definition) (Have : Sides → Type 0) (Is : Pattern → Type 0) where
   -- the text is at fault
-  pub refused_text : (fault : EreFault) → (fault ≡ ere.TooHeavy → ⊥) → ((p : Pattern) → Is p → ⊥)
-      → IsRefused most names Is fault
-  refused_text fault light none = record {
+  pub refused_text : (fault : EreFault) → IsOther fault → ((p : Pattern) → Is p → ⊥)
+      → IsRefused most names Have Is fault
+  refused_text fault other none = record {
     refused = λ _ _. none;
-    heavy = λ e. absurd (light e);
-    none_light = λ e. absurd (light e);
+    vary = λ e. absurd (other.1 e);
+    empty_head = λ e. absurd (other.2 e);
+    heavy = λ e. absurd (other.0 e);
+    none_light = λ e. absurd (other.0 e);
   }
 
   -- the text is at fault, or a growth was refused
   pub refused_reading : (fault : ReadFault) → (fault ≢ OutOfMemory → (p : Pattern) → Is p → ⊥)
-      → IsRefused most names Is (fault_of_reading fault)
-  refused_reading (Syntax fault) none = refused_text (fault_of_syntax fault) (not_heavy fault)
+      → IsRefused most names Have Is (fault_of_reading fault)
+  refused_reading (Syntax fault) none = refused_text (fault_of_syntax fault) (text_is_other fault)
       (none (λ e. absurd (cc)))
   refused_reading OutOfMemory none = record {
     refused = λ other. absurd (other refl);
+    vary = λ e. absurd (cc);
+    empty_head = λ e. absurd (cc);
     heavy = λ e. absurd (cc);
     none_light = λ e. absurd (cc);
   }
 
-  -- what is read weighs too much, or a growth was refused
-  pub refused_weight : (fault : EreFault) (e : Expression) → (fault ≢ ere.OutOfMemory → fault ≡ ere.TooHeavy)
-      → (fault ≡ ere.TooHeavy → most < weight_of names e) → Is (pattern_of e)
-      → ((p : Pattern) → Is p → IsPatternOf e p) → IsRefused most names Is fault
-  refused_weight fault e only heavy is one = record {
-    refused = λ other light. absurd (light (only other));
-    heavy = λ same. (pattern_of e, is, heavy same);
-    none_light = λ same p found light.
-        let weight = plain_weight names e p (one p found) in
-        let more = heavy same in
-        omega arith;
+  -- the sides that are read are at fault, or a growth was refused
+  pub refused_sides : (s : Sides) (fault : EreFault) → Have s
+      → ((p : Pattern) → Is p → (sides_of p ≡ s) × IsCutOfSides (defined names) (sides_of p) p.cut)
+      → IsJudged most names s fault → IsRefused most names Have Is fault
+  refused_sides s fault have is j = record {
+    refused = λ other light p x.
+        let found = is p x in
+        let cut : IsCutOfSides (defined names) s p.cut
+        = subst (λ (u : Sides). IsCutOfSides (defined names) u p.cut) found.0 found.1 in
+        elim (j.only other light) [
+          | inl e ↦ no_cut (defined names) s p.cut cut (j.vary e)
+          | inr e ↦ let h = j.empty_head e in cut.1 h.0 h.1
+        ];
+    vary = λ e. (s, have, j.vary e);
+    empty_head = λ e. (s, have, j.empty_head e);
+    heavy = λ e. (s, have, j.heavy e);
+    none_light = λ e p x light. omega (arith, j.heavy e, ap (sides_weight names) (is p x).0, light);
   }
 
-module _ (most : ℕ) (names : List Expression) (line : List ℕ) where
-  -- no pattern at the front of a line
-  pub no_front : (fault : ReadFault) → (fault ≢ OutOfMemory → (e : Expression) (n : ℕ) → IsFrontExpression line e n → ⊥)
-      → IsRefused most names (λ p. (n : ℕ) × IsFrontPattern names line p n) (fault_of_reading fault)
-  no_front fault none = refused_reading most names _ fault
-      (λ other p x. none other p.head x.0 (front_head names line p x.0 x.1))
+-- the text of a pattern as the front of a line
+pub text_front : (names : List Definition) (text : List ℕ) (s : Sides) → SpellsSides names text s
+    → HasFrontSides names text s (length text)
+text_front names text s x = record {
+  within = omega arith;
+  sides = rw (take_all (length text) text (omega arith)) x;
+  follows = rw (drop_all (length text) text (omega arith)) tt;
+}
+
+module _ (most : ℕ) (names : List Definition) (line : List ℕ) where
+  abbrev HaveFront : Sides → Type 0
+  HaveFront s = (n : ℕ) × HasFrontSides names line s n
+
+  abbrev IsFront : Pattern → Type 0
+  IsFront p = (n : ℕ) × IsFrontPattern names line p n
+
+  -- no sides at the front of a line
+  pub no_front : (fault : ReadFault) → (fault ≢ OutOfMemory → (s : Sides) (n : ℕ) → HasFrontSides names line s n → ⊥)
+      → IsRefused most names HaveFront IsFront (fault_of_reading fault)
+  no_front fault none = refused_reading most names HaveFront IsFront fault
+      (λ other p x. none other (sides_of p) x.0 (pattern_sides names line p x.0 x.1))
 
   -- a text that is no pattern
-  pub no_text : (fault : ReadFault) → (fault ≢ OutOfMemory → (e : Expression) (n : ℕ) → IsFrontExpression line e n → ⊥)
-      → IsRefused most names (IsPattern names line) (fault_of_reading fault)
-  no_text fault none = refused_reading most names _ fault
-      (λ other p x. none other p.head (length line) (whole_front line p.head x.head))
+  pub no_text : (fault : ReadFault) → (fault ≢ OutOfMemory → (s : Sides) (n : ℕ) → HasFrontSides names line s n → ⊥)
+      → IsRefused most names (SpellsSides names line) (IsPattern names line) (fault_of_reading fault)
+  no_text fault none = refused_reading most names (SpellsSides names line) (IsPattern names line) fault
+      (λ other p x. none other (sides_of p) (length line) (text_front names line (sides_of p) x.sides))
 
-  module _ (e : Expression) (n : ℕ) (x : IsFrontExpression line e n) where
+  module _ (s : Sides) (n : ℕ) (x : HasFrontSides names line s n) where
+    pub front_judged : (fault : EreFault) → IsJudged most names s fault → IsRefused most names HaveFront IsFront fault
+    front_judged fault = refused_sides most names HaveFront IsFront s fault (n, x)
+        (λ p y. (
+          (front_sides_one names line (sides_of p) s y.0 n (pattern_sides names line p y.0 y.1) x).0,
+          (y.1.is_pattern.is_cut, y.1.is_pattern.some_head),
+        ))
+
+    pub front_pattern : (p : Pattern) → sides_of p ≡ s → IsCutOfSides (defined names) s p.cut
+        → IsFrontPattern names line p n
+    front_pattern p e c =
+        let cut : IsCutOfSides (defined names) (sides_of p) p.cut
+        = subst (λ (u : Sides). IsCutOfSides (defined names) u p.cut) (sym e) c in
+        record {
+          within = x.within;
+          is_pattern = record {
+            sides = subst (SpellsSides names (take n line)) (sym e) x.sides;
+            is_cut = cut.0;
+            some_head = cut.1;
+          };
+          follows = x.follows;
+        }
+
     -- a text that goes on behind its front
-    pub no_whole_text : n < length line → IsRefused most names (IsPattern names line) ere.StrayOperator
-    no_whole_text more = refused_text most names _ ere.StrayOperator (λ same. cc)
-        (λ p whole. absurd (omega (
+    pub no_whole_text : n < length line
+        → IsRefused most names (SpellsSides names line) (IsPattern names line) ere.StrayOperator
+    no_whole_text more = refused_text most names (SpellsSides names line) (IsPattern names line) ere.StrayOperator
+        (λ e. cc, λ e. cc, λ e. cc)
+        (λ p y. absurd (omega (
           arith,
-          front_length_one line e p.head n (length line) x (whole_front line p.head whole.head),
+          (front_sides_one names line s (sides_of p) n (length line) x (text_front names line (sides_of p) y.sides)).1,
         )))
 
-    module _ (fault : EreFault) (only : fault ≢ ere.OutOfMemory → fault ≡ ere.TooHeavy)
-        (heavy : fault ≡ ere.TooHeavy → most < weight_of names e) where
-      pub heavy_front : IsRefused most names (λ p. (m : ℕ) × IsFrontPattern names line p m) fault
-      heavy_front
-          = refused_weight most names _ fault e only heavy
-          (n, plain_front names line e (pattern_of e) n x (pattern_of_is e))
-          (λ p found. record {
-            head = sym (front_expression_one line e p.head n found.0 x (front_head names line p found.0 found.1));
-            anywhere = found.1.is_pattern.anywhere;
-            no_tail = found.1.is_pattern.no_tail;
-            no_cut = found.1.is_pattern.no_cut;
-          })
+    module _ (all : length line ≤ n) where
+      whole_text : SpellsSides names line s
+      whole_text = rw (take_all n line all) at x.sides
 
-      pub heavy_text : length line ≤ n → IsRefused most names (IsPattern names line) fault
-      heavy_text whole =
-          let here = plain_whole names line e (pattern_of e) n x (pattern_of_is e) whole in
-          refused_weight most names _ fault e only heavy here
-          (λ p found. record {
-            head = expression_one line p.head e found.head here.head;
-            anywhere = found.anywhere;
-            no_tail = found.no_tail;
-            no_cut = found.no_cut;
-          })
+      pub text_judged : (fault : EreFault) → IsJudged most names s fault
+          → IsRefused most names (SpellsSides names line) (IsPattern names line) fault
+      text_judged fault = refused_sides most names (SpellsSides names line) (IsPattern names line) s fault whole_text
+          (λ p y. (
+            (front_sides_one names line (sides_of p) s (length line) n
+                (text_front names line (sides_of p) y.sides) x).0,
+            (y.is_cut, y.some_head),
+          ))
+
+      pub text_pattern : (p : Pattern) → (sides_of p ≡ s) × IsCutOfSides (defined names) s p.cut
+          → IsPattern names line p
+      text_pattern p f =
+          let cut : IsCutOfSides (defined names) (sides_of p) p.cut
+          = subst (λ (u : Sides). IsCutOfSides (defined names) u p.cut) (sym f.0) f.1 in
+          record { sides = subst (SpellsSides names line) (sym f.0) whole_text; is_cut = cut.0; some_head = cut.1 }

@@ -6,7 +6,7 @@ use Rattle.std.proofs.Math.ListN.{get_or-append}
 use Rattle.std.proofs.Math.Seq.{get_or-append_seam}
 use Rattle.std.proofs.lemmas.Bool.Decides.{nat_tests}
 use Rattle.ly_ere.specs.Expression.{Expression, empty}
-use Rattle.ly_ere.specs.Private.Weights.{AreWeights, weight_at}
+use Rattle.ly_ere.specs.Weight.{AreWeights, weight_at}
 use Rattle.ly_ere.specs.Weight.{named_weight, weight_of, weight_under}
 
 -- one more capped weight
@@ -50,6 +50,24 @@ module _ (names : List Expression) (e : Expression) where
       = λ i y. named_same names (e ∷ []) (length names) y (omega arith) i in
       ap (weight_under (named_weight (names ++ e ∷ []) (length names))) (get_or-append_seam names e [] empty)
       ∙ ap (λ (f : ℕ → ℕ). weight_under f e) earlier
+
+  -- the weight of the last definition, and of an earlier one
+  pub weight_of_last : named_weight (names ++ e ∷ []) (suc (length names)) (length names) ≡ weight_of names e
+  weight_of_last = by (nat_eq (length names) (length names)) refl
+    where
+      by : (b : Bool) → nat_eq (length names) (length names) ≡ b
+          → named_weight (names ++ e ∷ []) (suc (length names)) (length names) ≡ weight_of names e
+      by true t = rw t last_weight
+      by false f = absurd (search (rules, nat_tests))
+
+  pub weight_of_earlier : (x : ℕ) → x < length names
+      → named_weight (names ++ e ∷ []) (suc (length names)) x ≡ named_weight names (length names) x
+  weight_of_earlier x less = by (nat_eq x (length names)) refl
+    where
+      by : (b : Bool) → nat_eq x (length names) ≡ b
+          → named_weight (names ++ e ∷ []) (suc (length names)) x ≡ named_weight names (length names) x
+      by true t = let same : x ≡ length names = search (rules, nat_tests) in absurd (omega (arith, same, less))
+      by false f = rw f (named_same names (e ∷ []) (length names) x (omega arith))
 
   module _ (ws : List ℕ) (w : ℕ) (a : AreWeights names ws) (is : w ≡ weight_of names e) where
     push_weighed : (x : ℕ) (b : Bool) → nat_eq x (length names) ≡ b

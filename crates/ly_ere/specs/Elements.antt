@@ -5,18 +5,26 @@ use Rattle.std.specs.Prelude.{◌&&◌, nat_eq, nat_le, codes, Option, Some, Non
 use Rattle.ly_base.specs.Bytes.{backslash, circumflex, colon, double_quote, equals_sign, full_stop, hyphen}
 use Rattle.ly_base.specs.Bytes.{left_bracket, newline, right_bracket}
 use Rattle.ly_base.specs.ByteSet.{bytes_where}
-use Rattle.ly_base.specs.Escapes.{Escape}
+use Rattle.ly_base.specs.Escapes.{Escape, number}
+use Rattle.ly_base.specs.Language.{DigitsBefore, NameBefore}
+use Rattle.ly_base.specs.declared.language.Language.TheVariants.{Lex}
 
--- An element: one byte of a set, a string, or a sign. A set and a string are lists of bytes.
+-- An element: one byte of a set, a string, a name in braces, the bounds of an interval, or a sign. A set, a string and
+-- a name are lists of bytes.
 pub data Element : Type 0 where
   one_of : List ℕ → Element
   string : List ℕ → Element
+  named : List ℕ → Element
+  interval : ℕ → Option ℕ → Element
   opening : Element
   closing : Element
   bar : Element
   asterisk : Element
   plus_sign : Element
   question_mark : Element
+  caret : Element
+  dollar_sign : Element
+  slash : Element
 
 -- What stands behind a quote, up to the next, is these bytes, and then comes the rest.
 pub data Quoted : List ℕ → List ℕ → List ℕ → Type 0 where
@@ -136,7 +144,10 @@ sign_of b = if nat_eq b (byte_of (codes "(")) then Some opening else
     (if nat_eq b (byte_of (codes "|")) then Some bar else
     (if nat_eq b (byte_of (codes "*")) then Some asterisk else
     (if nat_eq b (byte_of (codes "+")) then Some plus_sign else
-    (if nat_eq b (byte_of (codes "?")) then Some question_mark else None)))))
+    (if nat_eq b (byte_of (codes "?")) then Some question_mark else
+    (if nat_eq b (byte_of (codes "^")) then Some caret else
+    (if nat_eq b (byte_of (codes "$")) then Some dollar_sign else
+    (if nat_eq b (byte_of (codes "/")) then Some slash else None))))))))
 
 -- the bytes with a meaning of their own: newline, tab, space and operators
 abbrev pub own_meaning : List ℕ
@@ -147,6 +158,21 @@ abbrev pub is_among : List ℕ → ℕ → Bool
 is_among [] b = false
 is_among (c ∷ cs) b = nat_eq b c || is_among cs b
 
+-- the text is a decimal number of times, at most 255, and then the rest
+abbrev pub Times : List ℕ → ℕ → List ℕ → Type 0
+Times t m rest = (ds : List ℕ) × DigitsBefore t ds rest × (m ≡ number 10 ds) × (m ≤ 255)
+
+-- What stands behind the `{` of an interval: `m}`, `m,}` or `m,n}`, the last with m at most n.
+pub data Bounds : List ℕ → ℕ → Option ℕ → List ℕ → Type 0 where
+  exactly : (t rest : List ℕ) (m : ℕ) → Times t m (codes "}" ++ rest) → Bounds t m (Some m) rest
+  at_least : (t rest : List ℕ) (m : ℕ) → Times t m (codes ",}" ++ rest) → Bounds t m None rest
+  between : (t behind rest : List ℕ) (m n : ℕ) → Times t m (codes "," ++ behind) → Times behind n (codes "}" ++ rest)
+      → m ≤ n → Bounds t m (Some n) rest
+
+-- the byte that opens a name in braces, and an interval
+abbrev pub left_brace : ℕ
+left_brace = byte_of (codes "{")
+
 -- A text that begins with an element, and what is behind it. A set is of one byte or more.
 pub data IsElement : List ℕ → Element → List ℕ → Type 0 where
   plain : (b : ℕ) (rest : List ℕ) → is_among own_meaning b ≡ false → IsElement (b ∷ rest) (one_of (b ∷ [])) rest
@@ -154,6 +180,10 @@ pub data IsElement : List ℕ → Element → List ℕ → Type 0 where
   escaped_element : (t rest : List ℕ) (b : ℕ) → Escape t b rest → IsElement (backslash ∷ t) (one_of (b ∷ [])) rest
   bracket : (t bytes rest : List ℕ) → Bracketed t bytes rest → IsElement (left_bracket ∷ t) (one_of bytes) rest
   quoted : (t bs rest : List ℕ) → Quoted t bs rest → IsElement (double_quote ∷ t) (string bs) rest
+  braced_name : (t name rest : List ℕ) → NameBefore Lex t name (codes "}" ++ rest)
+      → IsElement (left_brace ∷ t) (named name) rest
+  bounds : (t : List ℕ) (m : ℕ) (n : Option ℕ) (rest : List ℕ) → Bounds t m n rest
+      → IsElement (left_brace ∷ t) (interval m n) rest
   sign : (b : ℕ) (w : Element) (rest : List ℕ) → sign_of b ≡ Some w → IsElement (b ∷ rest) w rest
 
 -- The text is these elements, one after another.

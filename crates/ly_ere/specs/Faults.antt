@@ -4,7 +4,9 @@ use Rattle.ly_ere.specs.declared.fault.EreFault.{EreFault}
 use Rattle.ly_ere.specs.declared.fault.EreFault.TheVariants.{Empty, UnclosedQuote, UnclosedBracket, UnclosedGroup}
 use Rattle.ly_ere.specs.declared.fault.EreFault.TheVariants.{StrayOperator, BadRange, EmptySet, UnknownClass}
 use Rattle.ly_ere.specs.declared.fault.EreFault.TheVariants.{BadInterval, EscapeTooLarge, UnknownName, AnchorInside}
-use Rattle.ly_ere.specs.declared.fault.EreFault.TheVariants.{TooHeavy, OutOfMemory}
+use Rattle.ly_ere.specs.declared.fault.EreFault.TheVariants.{TrailingTwice, TrailingBothVary, TrailingHeadEmpty}
+use Rattle.ly_ere.specs.declared.fault.EreFault.TheVariants.{TooHeavy}
+use Rattle.ly_ere.specs.declared.fault.EreFault.TheVariants.{OutOfMemory}
 
 -- a fault's number; want of memory has none
 abbrev pub ere_number : EreFault → Option ℕ
@@ -20,6 +22,9 @@ ere_number BadInterval = Some 9
 ere_number EscapeTooLarge = Some 10
 ere_number UnknownName = Some 11
 ere_number AnchorInside = Some 13
+ere_number TrailingTwice = Some 14
+ere_number TrailingBothVary = Some 15
+ere_number TrailingHeadEmpty = Some 16
 ere_number TooHeavy = Some 17
 ere_number OutOfMemory = None
 
@@ -37,5 +42,8 @@ ere_name BadInterval = codes "BadInterval"
 ere_name EscapeTooLarge = codes "EscapeTooLarge"
 ere_name UnknownName = codes "UnknownName"
 ere_name AnchorInside = codes "AnchorInside"
+ere_name TrailingTwice = codes "TrailingTwice"
+ere_name TrailingBothVary = codes "TrailingBothVary"
+ere_name TrailingHeadEmpty = codes "TrailingHeadEmpty"
 ere_name TooHeavy = codes "TooHeavy"
 ere_name OutOfMemory = codes "OutOfMemory"

@@ -1,8 +1,11 @@
--- The phrases of an expression: which lists of elements are expressions, and which (POSIX, XBD 9.5.3, as lex changes
+-- The phrases of expressions and patterns: which lists of elements are one, and which (POSIX, XBD 9.5.3, as lex changes
 -- it).
-use Rattle.std.specs.Prelude.{ℕ, List, [], ◌∷◌, ◌++◌}
-use Rattle.ly_ere.specs.Expression.{Expression, set, empty, concat, either, star, plus, optional}
-use Rattle.ly_ere.specs.Elements.{Element, one_of, string, opening, closing, bar, asterisk, plus_sign, question_mark}
+use Rattle.std.specs.Prelude.{◌≡◌, ℕ, List, [], ◌∷◌, ◌++◌, Option, Some, None, Bool, true, false}
+use Rattle.ly_base.specs.Bytes.{newline}
+use Rattle.ly_ere.specs.Expression.{Expression, set, empty, concat, either, star, plus, optional, repeat, name}
+use Rattle.ly_ere.specs.Elements.{Element, one_of, string, named, interval, opening, closing, bar, asterisk, plus_sign}
+use Rattle.ly_ere.specs.Elements.{question_mark, caret, dollar_sign, slash}
+use Rattle.ly_ere.specs.Names.{Definition, number_of}
 
 -- an expression, then bytes one after another
 abbrev pub with_bytes : Expression → List ℕ → Expression
@@ -14,27 +17,55 @@ abbrev pub in_order : List ℕ → Expression
 in_order [] = empty
 in_order (b ∷ bs) = with_bytes (set (b ∷ [])) bs
 
+-- A name is looked up among the definitions.
 mutual
-  -- a set, a string or a group
-  pub data Atom : List Element → Expression → Type 0 where
-    byte_atom : {bytes : List ℕ} → Atom (one_of bytes ∷ []) (set bytes)
-    string_atom : {bytes : List ℕ} → Atom (string bytes ∷ []) (in_order bytes)
-    group : {ws : List Element} {e : Expression} → Alternation ws e → Atom (opening ∷ (ws ++ closing ∷ [])) e
+  -- a set, a string, a name or a group
+  pub data Atom (names : List Definition) : List Element → Expression → Type 0 where
+    byte_atom : {bytes : List ℕ} → Atom names (one_of bytes ∷ []) (set bytes)
+    string_atom : {bytes : List ℕ} → Atom names (string bytes ∷ []) (in_order bytes)
+    name_atom : {n : List ℕ} {x : ℕ} → number_of names n ≡ Some x → Atom names (named n ∷ []) (name x)
+    group : {ws : List Element} {e : Expression} → Alternation names ws e
+        → Atom names (opening ∷ (ws ++ closing ∷ [])) e
 
   -- an atom with the operators after it
-  pub data Piece : List Element → Expression → Type 0 where
-    atom : {ws : List Element} {e : Expression} → Atom ws e → Piece ws e
-    starred : {ws : List Element} {e : Expression} → Piece ws e → Piece (ws ++ asterisk ∷ []) (star e)
-    repeated : {ws : List Element} {e : Expression} → Piece ws e → Piece (ws ++ plus_sign ∷ []) (plus e)
-    left_open : {ws : List Element} {e : Expression} → Piece ws e → Piece (ws ++ question_mark ∷ []) (optional e)
+  pub data Piece (names : List Definition) : List Element → Expression → Type 0 where
+    atom : {ws : List Element} {e : Expression} → Atom names ws e → Piece names ws e
+    starred : {ws : List Element} {e : Expression} → Piece names ws e → Piece names (ws ++ asterisk ∷ []) (star e)
+    repeated : {ws : List Element} {e : Expression} → Piece names ws e → Piece names (ws ++ plus_sign ∷ []) (plus e)
+    left_open : {ws : List Element} {e : Expression} → Piece names ws e
+        → Piece names (ws ++ question_mark ∷ []) (optional e)
 
-  -- pieces one after another
-  pub data Branch : List Element → Expression → Type 0 where
-    piece : {ws : List Element} {e : Expression} → Piece ws e → Branch ws e
-    joined : {ws vs : List Element} {e f : Expression} → Branch ws e → Piece vs f → Branch (ws ++ vs) (concat e f)
+  -- pieces one after another; an interval repeats all that stands before it
+  pub data Branch (names : List Definition) : List Element → Expression → Type 0 where
+    piece : {ws : List Element} {e : Expression} → Piece names ws e → Branch names ws e
+    joined : {ws vs : List Element} {e f : Expression} → Branch names ws e → Piece names vs f
+        → Branch names (ws ++ vs) (concat e f)
+    counted : {ws : List Element} {e : Expression} {m : ℕ} {n : Option ℕ} → Branch names ws e
+        → Branch names (ws ++ interval m n ∷ []) (repeat m n e)
 
   -- branches with bars between them
-  pub data Alternation : List Element → Expression → Type 0 where
-    branch : {ws : List Element} {e : Expression} → Branch ws e → Alternation ws e
-    parted : {ws vs : List Element} {e f : Expression} → Alternation ws e → Branch vs f
-        → Alternation (ws ++ bar ∷ vs) (either e f)
+  pub data Alternation (names : List Definition) : List Element → Expression → Type 0 where
+    branch : {ws : List Element} {e : Expression} → Branch names ws e → Alternation names ws e
+    parted : {ws vs : List Element} {e f : Expression} → Alternation names ws e → Branch names vs f
+        → Alternation names (ws ++ bar ∷ vs) (either e f)
+
+-- What a pattern is but for its cut: whether it matches only where a line begins, its head, and its tail if it has one.
+pub record Sides : Type 0 where
+  pub line_start : Bool
+  pub head : Expression
+  pub tail : Option Expression
+
+-- a head, and perhaps what has to follow it: `$` stands for a newline
+pub data Tailed (names : List Definition) : List Element → Expression → Option Expression → Type 0 where
+  whole : {ws : List Element} {e : Expression} → Alternation names ws e → Tailed names ws e None
+  line_end : {ws : List Element} {e : Expression} → Alternation names ws e
+      → Tailed names (ws ++ dollar_sign ∷ []) e (Some (set (newline ∷ [])))
+  followed : {ws vs : List Element} {e f : Expression} → Alternation names ws e → Alternation names vs f
+      → Tailed names (ws ++ slash ∷ vs) e (Some f)
+
+-- the words of a whole pattern: `^` stands in front of all others
+pub data AreSides (names : List Definition) : List Element → Sides → Type 0 where
+  anywhere : {ws : List Element} {e : Expression} {t : Option Expression} → Tailed names ws e t
+      → AreSides names ws (record { line_start = false; head = e; tail = t })
+  at_line_start : {ws : List Element} {e : Expression} {t : Option Expression} → Tailed names ws e t
+      → AreSides names (caret ∷ ws) (record { line_start = true; head = e; tail = t })

@@ -1,7 +1,9 @@
 -- What holds of winners, of phrases and of patterns, as statements.
-use Rattle.std.specs.Prelude.{◌≡◌, ℕ, List, Bool}
-use Rattle.ly_ere.specs.Expression.{Expression}
+use Rattle.std.specs.Prelude.{◌≡◌, ℕ, List, length, Bool}
+use Rattle.ly_ere.specs.Expression.{Expression, Matches}
+use Rattle.ly_ere.specs.Lengths.{AreSound, IsSound}
 use Rattle.ly_ere.specs.Grammar.{Alternation}
+use Rattle.ly_ere.specs.Names.{Definition, defined}
 use Rattle.ly_ere.specs.Patterns.{IsFrontPattern, IsPattern}
 use Rattle.ly_ere.specs.Elements.{Element}
 use Rattle.ly_ere.specs.declared.pattern.Pattern.{Pattern}
@@ -21,14 +23,24 @@ SplitIsOne = (names : List Expression) (p : Pattern) (rest : List ℕ) (n m l : 
 
 -- elements have at most one reading as an expression
 abbrev pub PhraseIsOne : Type 0
-PhraseIsOne = (ws : List Element) (e f : Expression) → Alternation ws e → Alternation ws f → e ≡ f
+PhraseIsOne = (names : List Definition) (ws : List Element) (e f : Expression) → Alternation names ws e
+    → Alternation names ws f → e ≡ f
 
 -- a text is at most one pattern
 abbrev pub PatternIsOne : Type 0
-PatternIsOne = (names : List Expression) (text : List ℕ) (p q : Pattern) → IsPattern names text p
+PatternIsOne = (names : List Definition) (text : List ℕ) (p q : Pattern) → IsPattern names text p
     → IsPattern names text q → p ≡ q
 
 -- a line has at most one pattern at its front
 abbrev pub FrontPatternIsOne : Type 0
-FrontPatternIsOne = (names : List Expression) (line : List ℕ) (p q : Pattern) (n m : ℕ)
+FrontPatternIsOne = (names : List Definition) (line : List ℕ) (p q : Pattern) (n m : ℕ)
     → IsFrontPattern names line p n → IsFrontPattern names line q m → (p ≡ q) × (n ≡ m)
+
+-- an expression has a string, if its sets have members and its names have definitions that have some
+abbrev pub ExpressionHasString : Type 0
+ExpressionHasString = (names : List Expression) (e : Expression) → AreSound names → IsSound (length names) e
+    → (w : List ℕ) × Matches names e w
+
+-- the cut of a pattern tells the truth
+abbrev pub CutIsTrue : Type 0
+CutIsTrue = (names : List Definition) (text : List ℕ) (p : Pattern) → IsPattern names text p → IsCut (defined names) p

@@ -5,6 +5,7 @@ pub mod ExpressionCode
 pub mod Faults
 pub mod Grammar
 pub mod Laws
+pub mod Lengths
 pub mod Names
 pub mod Patterns
 pub mod Private

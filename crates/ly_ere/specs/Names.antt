@@ -1,6 +1,19 @@
--- Definitions in an order in which each uses earlier ones only.
-use Rattle.std.specs.Prelude.{◌≡◌, ◌↔◌, ℕ, ◌<◌, List, slice_get, Some}
+-- Definitions, and an order in which each uses earlier ones only.
+use Rattle.std.specs.Prelude.{◌≡◌, ◌↔◌, ℕ, ◌<◌, List, map, position, slice_get, Option, Some}
+use Rattle.std.specs.Str.{bytes_eq}
 use Rattle.ly_ere.specs.Expression.{Expression, set, empty, concat, either, star, plus, optional, repeat, name, Matches}
+
+-- a definition: a name and its expression
+abbrev pub Definition : Type 0
+Definition = List ℕ × Expression
+
+-- the expressions of definitions
+abbrev pub defined : List Definition → List Expression
+defined names = map (λ d. d.1) names
+
+-- the number of the definition of a name
+abbrev pub number_of : List Definition → List ℕ → Option ℕ
+number_of names n = position (λ d. bytes_eq n d.0) names
 
 -- each name in the expression is below n
 abbrev pub UsesBelow : ℕ → Expression → Type 0

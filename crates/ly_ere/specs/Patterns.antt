@@ -1,43 +1,93 @@
 -- What the text of a pattern stands for.
-use Rattle.std.specs.Prelude.{◌≡◌, ◌≢◌, ℕ, ◌<◌, ◌≤◌, List, [], ◌∷◌, take, drop, length, None, false, IsTrue}
+use Rattle.std.specs.Prelude.{◌≡◌, ◌≢◌, ◌⊎◌, ℕ, ◌<◌, ◌≤◌, List, [], ◌∷◌, take, drop, length, Option, None, Some, IsTrue}
+use Rattle.std.specs.Prelude.{IsSome}
 use Rattle.ly_base.specs.Blank.{is_blank}
-use Rattle.ly_base.specs.declared.cut.Cut.TheVariants.{Whole}
-use Rattle.ly_ere.specs.Expression.{Expression}
-use Rattle.ly_ere.specs.Grammar.{Alternation}
+use Rattle.ly_base.specs.declared.cut.Cut.{Cut}
+use Rattle.ly_base.specs.declared.cut.Cut.TheVariants.{Whole, Head, Tail}
+use Rattle.ly_ere.specs.Expression.{Expression, Matches}
+use Rattle.ly_ere.specs.Grammar.{Alternation, AreSides, Sides}
 use Rattle.ly_ere.specs.Elements.{Element, AreElements}
+use Rattle.ly_ere.specs.Names.{Definition, defined}
 use Rattle.ly_ere.specs.Weight.{weight_of_both}
+use Rattle.ly_ere.specs.Winner.{HasLength}
 use Rattle.ly_ere.specs.declared.fault.EreFault.{EreFault}
-use Rattle.ly_ere.specs.declared.fault.EreFault.TheVariants.{TooHeavy, OutOfMemory}
+use Rattle.ly_ere.specs.declared.fault.EreFault.TheVariants.{TooHeavy, TrailingBothVary, TrailingHeadEmpty, OutOfMemory}
 use Rattle.ly_ere.specs.declared.pattern.Pattern.{Pattern}
 
--- the text's elements are the expression
-abbrev pub IsExpression : List ℕ → Expression → Type 0
-IsExpression text e = (ws : List Element) × AreElements text ws × Alternation ws e
+-- the text's elements are the expression, where names stand for these definitions
+abbrev pub IsExpression : List Definition → List ℕ → Expression → Type 0
+IsExpression names text e = (ws : List Element) × AreElements text ws × Alternation names ws e
 
--- The text is the pattern, which is an expression.
-pub record IsPattern (names : List Expression) (text : List ℕ) (p : Pattern) : Type 0 where
-  pub head : IsExpression text p.head
-  pub anywhere : p.line_start ≡ false
-  pub no_tail : p.tail ≡ None
-  pub no_cut : p.cut ≡ Whole
+-- the text's elements are the sides of a pattern
+abbrev pub SpellsSides : List Definition → List ℕ → Sides → Type 0
+SpellsSides names text s = (ws : List Element) × AreElements text ws × AreSides names ws s
+
+-- some string belongs to the expression, and each that does has this length
+pub record HasOneLength (names : List Expression) (e : Expression) (n : ℕ) : Type 0 where
+  pub string : List ℕ
+  pub belongs : Matches names e string
+  pub all : HasLength names e n
+
+-- the strings of the expression have no one length
+abbrev pub Varies : List Expression → Expression → Type 0
+Varies names e = (n : ℕ) → HasOneLength names e n → ⊥
+
+-- the cut of a head and a tail: where the head has one length, that, and else the tail's
+abbrev pub IsCutOf : List Expression → Expression → Option Expression → Cut → Type 0
+IsCutOf names head None cut = cut ≡ Whole
+IsCutOf names head (Some tail) cut = ((n : ℕ) × HasOneLength names head n × (cut ≡ Head n))
+    ⊎ (Varies names head × (n : ℕ) × HasOneLength names tail n × (cut ≡ Tail n))
+
+-- a pattern but for its cut
+abbrev pub sides_of : Pattern → Sides
+sides_of p = record { line_start = p.line_start; head = p.head; tail = p.tail }
+
+-- The text is the pattern. The empty string is no head that a tail follows.
+pub record IsPattern (names : List Definition) (text : List ℕ) (p : Pattern) : Type 0 where
+  pub sides : SpellsSides names text (sides_of p)
+  pub is_cut : IsCutOf (defined names) p.head p.tail p.cut
+  pub some_head : IsSome p.tail → Matches (defined names) p.head [] → ⊥
 
 -- what may stand behind a pattern on its line: nothing, or a blank in front
 abbrev pub IsBehind : List ℕ → Type 0
 IsBehind [] = Unit {0}
 IsBehind (b ∷ line) = IsTrue (is_blank b)
 
+-- The first n bytes of the line are the sides of a pattern, and behind them stands what may stand there.
+pub record HasFrontSides (names : List Definition) (line : List ℕ) (s : Sides) (n : ℕ) : Type 0 where
+  pub within : n ≤ length line
+  pub sides : SpellsSides names (take n line) s
+  pub follows : IsBehind (drop n line)
+
 -- The first n bytes of the line are the pattern, and behind them stands what may stand there.
-pub record IsFrontPattern (names : List Expression) (line : List ℕ) (p : Pattern) (n : ℕ) : Type 0 where
+pub record IsFrontPattern (names : List Definition) (line : List ℕ) (p : Pattern) (n : ℕ) : Type 0 where
   pub within : n ≤ length line
   pub is_pattern : IsPattern names (take n line) p
   pub follows : IsBehind (drop n line)
 
--- the weight of a pattern
-abbrev pub pattern_weight : List Expression → Pattern → ℕ
-pattern_weight names p = weight_of_both names p.head p.tail
+-- the weight of a pattern's sides
+abbrev pub sides_weight : List Definition → Sides → ℕ
+sides_weight names s = weight_of_both (defined names) s.head s.tail
 
--- Why there is no answer, where Is says which patterns there are: there is none, or it weighs more than most.
-pub record IsRefused (most : ℕ) (names : List Expression) (Is : Pattern → Type 0) (fault : EreFault) : Type 0 where
+-- the weight of a pattern
+abbrev pub pattern_weight : List Definition → Pattern → ℕ
+pattern_weight names p = sides_weight names (sides_of p)
+
+-- neither the head nor the tail has one length
+abbrev pub BothVary : List Expression → Sides → Type 0
+BothVary names s = (t : Expression) × (s.tail ≡ Some t) × Varies names s.head × Varies names t
+
+-- a tail follows a head that has the empty string
+abbrev pub HasEmptyHead : List Expression → Sides → Type 0
+HasEmptyHead names s = IsSome s.tail × Matches names s.head []
+
+-- Why there is no answer, where Have says which sides are spelled, and Is which patterns they are: there is none, or
+-- what
+-- is spelled weighs more than most. Where the cut or an empty head is at fault, sides are spelled that have that fault.
+pub record IsRefused (most : ℕ) (names : List Definition) (Have : Sides → Type 0) (Is : Pattern → Type 0)
+    (fault : EreFault) : Type 0 where
   pub refused : fault ≢ OutOfMemory → fault ≢ TooHeavy → (p : Pattern) → Is p → ⊥
-  pub heavy : fault ≡ TooHeavy → (p : Pattern) × Is p × (most < pattern_weight names p)
+  pub vary : fault ≡ TrailingBothVary → (s : Sides) × Have s × BothVary (defined names) s
+  pub empty_head : fault ≡ TrailingHeadEmpty → (s : Sides) × Have s × HasEmptyHead (defined names) s
+  pub heavy : fault ≡ TooHeavy → (s : Sides) × Have s × (most < sides_weight names s)
   pub none_light : fault ≡ TooHeavy → (p : Pattern) → Is p → pattern_weight names p ≤ most → ⊥

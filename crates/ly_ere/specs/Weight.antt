@@ -1,5 +1,6 @@
 -- How heavy an expression is: how many sets of bytes and empty strings it has, written out.
-use Rattle.std.specs.Prelude.{ℕ, zero, suc, ◌+◌, ◌*◌, max, List, length, slice_index_or, Option, Some, None, nat_eq}
+use Rattle.std.specs.Prelude.{◌≡◌, ℕ, zero, suc, ◌+◌, ◌*◌, max, List, length, slice_index_or, Option, Some, None}
+use Rattle.std.specs.Prelude.{nat_eq}
 use Rattle.std.specs.Prelude.{if◌then◌else◌}
 use Rattle.ly_ere.specs.Expression.{Expression, set, empty, concat, either, star, plus, optional, repeat, name}
 
@@ -35,3 +36,12 @@ weight_of names e = weight_under (named_weight names (length names)) e
 abbrev pub weight_of_both : List Expression → Expression → Option Expression → ℕ
 weight_of_both names head None = weight_of names head
 weight_of_both names head (Some tail) = weight_of names head + weight_of names tail
+
+-- the weight of the definition of a number; 0 where there is none
+abbrev pub weight_at : List ℕ → ℕ → ℕ
+weight_at weights x = slice_index_or weights x 0
+
+-- These are the weights of the definitions, by their numbers.
+pub record AreWeights (names : List Expression) (weights : List ℕ) : Type 0 where
+  pub counted : length weights ≡ length names
+  pub weighed : (x : ℕ) → weight_at weights x ≡ named_weight names (length names) x

@@ -2,6 +2,7 @@ ghost use Rattle.std.specs.Prelude.{◌≡◌, ℕ, IfErr, ◌<◌, ◌≢◌, l
 ghost use Rattle.ly_ere.specs.Private.Elements.{ReadsElement};
 ghost use Rattle.ly_base.specs.ByteSet.{bytes_where, members};
 
+use crate::braced::braced;
 use crate::bracket::bracket;
 use crate::fault::SyntaxFault;
 use crate::node::Node;
@@ -15,6 +16,8 @@ pub(crate) enum Element<'t> {
     OneOf(ByteSet),
     /// A string: what stands behind its opening quote, not yet read.
     String(&'t [u8]),
+    /// A name in braces.
+    Name(&'t [u8]),
     /// `(`
     Opening,
     /// `)`
@@ -23,6 +26,26 @@ pub(crate) enum Element<'t> {
     Bar,
     /// An operator after its operand.
     Postfix(Postfix),
+    /// The bounds of an interval.
+    Interval {
+        /// The least number of times.
+        least: u8,
+        /// The greatest number of times, if there is one.
+        most: Option<u8>,
+    },
+    /// A mark of the whole pattern.
+    Mark(Mark),
+}
+
+/// What parts a pattern, or says where it matches.
+#[derive(Clone, Copy)]
+pub(crate) enum Mark {
+    /// `^`
+    Caret,
+    /// `$`
+    DollarSign,
+    /// `/`
+    Slash,
 }
 
 /// An operator after its operand.
@@ -69,9 +92,11 @@ pub(crate) fn next_element(text: &[u8]) -> Result<(Element<'_>, usize), SyntaxFa
         b'[' => list(text),
         b'\\' => escaped(text),
         b'.' => Ok((Element::OneOf(all_but_newline()), 1)),
-        b'^' | b'$' => Err(SyntaxFault::AnchorInside),
-        b'/' | b' ' | b'\t' | b'\n' => Err(SyntaxFault::StrayOperator),
-        b'{' => Err(brace_fault(text.get(1).copied())),
+        b'^' => Ok((Element::Mark(Mark::Caret), 1)),
+        b'$' => Ok((Element::Mark(Mark::DollarSign), 1)),
+        b'/' => Ok((Element::Mark(Mark::Slash), 1)),
+        b'{' => braced(text),
+        b' ' | b'\t' | b'\n' => Err(SyntaxFault::StrayOperator),
         byte => Ok((Element::OneOf(ByteSet::of(byte)), 1)),
     }
 }
@@ -111,12 +136,4 @@ fn all_but_newline() -> ByteSet
     ensures { members result ≡ bytes_where (λ b. not (nat_eq b 10)) }
 {
     ByteSet::of(b'\n').complement()
-}
-
-/// What `{` is refused for, by the byte after it: a name that isn't defined, or no interval.
-fn brace_fault(next: Option<u8>) -> SyntaxFault {
-    match next {
-        Some(b'a'..=b'z' | b'A'..=b'Z' | b'_') => SyntaxFault::UnknownName,
-        _ => SyntaxFault::BadInterval,
-    }
 }

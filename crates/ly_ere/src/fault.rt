@@ -47,6 +47,15 @@ pub enum EreFault {
     /// `^` that isn't at the start, or `$` that isn't at the end.
     #[error("an anchor inside the pattern")]
     AnchorInside,
+    /// A second `/`, or `/` with `$`.
+    #[error("a second trailing context")]
+    TrailingTwice,
+    /// A `/` or `$` where neither the head nor the tail has one length.
+    #[error("neither side of the trailing context has one length")]
+    TrailingBothVary,
+    /// A `/` or `$` behind a head that has the empty string.
+    #[error("the trailing context follows what may be empty")]
+    TrailingHeadEmpty,
     /// The weight is above the limit.
     #[error("too heavy")]
     TooHeavy,
@@ -75,6 +84,9 @@ impl EreFault {
             EreFault::EscapeTooLarge => Some(10),
             EreFault::UnknownName => Some(11),
             EreFault::AnchorInside => Some(13),
+            EreFault::TrailingTwice => Some(14),
+            EreFault::TrailingBothVary => Some(15),
+            EreFault::TrailingHeadEmpty => Some(16),
             EreFault::TooHeavy => Some(17),
             EreFault::OutOfMemory => None,
         }
@@ -97,6 +109,9 @@ impl EreFault {
             EreFault::EscapeTooLarge => "EscapeTooLarge",
             EreFault::UnknownName => "UnknownName",
             EreFault::AnchorInside => "AnchorInside",
+            EreFault::TrailingTwice => "TrailingTwice",
+            EreFault::TrailingBothVary => "TrailingBothVary",
+            EreFault::TrailingHeadEmpty => "TrailingHeadEmpty",
             EreFault::TooHeavy => "TooHeavy",
             EreFault::OutOfMemory => "OutOfMemory",
         }
@@ -136,6 +151,7 @@ impl From<SyntaxFault> for EreFault {
             SyntaxFault::EscapeTooLarge => EreFault::EscapeTooLarge,
             SyntaxFault::UnknownName => EreFault::UnknownName,
             SyntaxFault::AnchorInside => EreFault::AnchorInside,
+            SyntaxFault::TrailingTwice => EreFault::TrailingTwice,
         }
     }
 }
@@ -211,6 +227,8 @@ pub(crate) enum SyntaxFault {
     UnknownName,
     /// `^` that isn't at the start, or `$` that isn't at the end.
     AnchorInside,
+    /// A second `/`, or `/` with `$`.
+    TrailingTwice,
 }
 
 impl From<EscapeFault> for SyntaxFault {

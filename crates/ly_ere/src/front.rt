@@ -1,4 +1,4 @@
-ghost use Rattle.std.specs.Prelude.{◌≡◌};
+ghost use Rattle.std.specs.Prelude.{◌≡◌, ◌≢◌, ◌∷◌, ℕ, List, MatchOption};
 ghost use Rattle.ly_ere.specs.Elements.{begins, stands_at};
 
 /// Whether this byte stands at an index of a text.
@@ -16,4 +16,14 @@ pub(crate) fn begins(text: &[u8], mark: u8) -> bool
     ensures { result ≡ begins text.now mark }
 {
     stands_at(text, 0, b'[') && stands_at(text, 1, mark)
+}
+
+/// What stands behind this byte at the front of a text, if it stands there.
+pub(crate) fn behind_byte(text: &[u8], byte: u8) -> Option<&[u8]>
+    ensures { MatchOption result ((rest : List ℕ) → text.now ≢ byte ∷ rest) (λ rest. text.now ≡ byte ∷ rest.now) }
+{
+    match text.split_first() {
+        Some((first, rest)) if *first == byte => Some(rest),
+        _ => None,
+    }
 }

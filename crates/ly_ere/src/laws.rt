@@ -1,5 +1,6 @@
 ghost use Rattle.ly_ere.specs.Names.{NameIsDefinition};
-ghost use Rattle.ly_ere.specs.Laws.{FrontPatternIsOne, PatternIsOne, PhraseIsOne, WinnerIsOne, SplitIsOne};
+ghost use Rattle.ly_ere.specs.Laws.{CutIsTrue, ExpressionHasString, FrontPatternIsOne, PatternIsOne, PhraseIsOne};
+ghost use Rattle.ly_ere.specs.Laws.{WinnerIsOne, SplitIsOne};
 
 /// The rule and the length of a winner are determined.
 pub fn winner_is_one()
@@ -29,4 +30,14 @@ pub fn pattern_is_one()
 /// A line has at most one pattern at its front.
 pub fn front_pattern_is_one()
     ensures { FrontPatternIsOne }
+{}
+
+/// An expression has a string, if its sets have members and its names have definitions that have some.
+pub fn expression_has_string()
+    ensures { ExpressionHasString }
+{}
+
+/// The cut of a pattern tells the truth.
+pub fn cut_is_true()
+    ensures { CutIsTrue }
 {}

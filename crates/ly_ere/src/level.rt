@@ -1,7 +1,8 @@
 ghost use Rattle.std.specs.Prelude.{◌≡◌, ◌≢◌, ℕ, ◌<◌, ◌≤◌, length, Some, None, IfOk, IfErr};
 ghost use Rattle.std.specs.Option.{ForSome};
 ghost use Rattle.ly_ere.specs.Arena.{part_of};
-ghost use Rattle.ly_ere.specs.Private.Groups.{new_group, open_branch, with_atom, with_postfix, with_bar, whole};
+ghost use Rattle.ly_ere.specs.Private.Groups.{new_group, open_branch, with_atom, with_postfix, with_interval};
+ghost use Rattle.ly_ere.specs.Private.Groups.{with_bar, whole};
 ghost use Rattle.ly_ere.specs.Private.Levels.{IsWithin, IsExtended, seen, group_of, operated};
 ghost use Rattle.ly_ere.specs.declared.fault.ReadFault.TheVariants.{OutOfMemory};
 
@@ -73,6 +74,34 @@ impl Level {
             either: self.either,
             branch: self.branch,
             piece: Some(over),
+        })
+    }
+
+    /// The group with an interval over all of its open branch.
+    pub(crate) fn with_interval(
+        self,
+        arena: &mut Arena,
+        least: u8,
+        most: Option<u8>,
+    ) -> Result<Level, ReadFault>
+        requires parts { IsWithin (length arena.old) self }
+        ensures parts { IfOk result (IsWithin (length arena.new)) }
+        ensures interval { IfOk result (λ l. with_interval (group_of arena.old self) least most
+            ≡ Some (group_of arena.new l)) }
+        ensures refused { IfErr result (λ e. e ≢ OutOfMemory → with_interval (group_of arena.old self) least most
+            ≡ None) }
+        ensures grown { IsExtended arena.old arena.new }
+    {
+        let branch = self.open_branch(arena)?.ok_or(SyntaxFault::StrayOperator)?;
+        let over = arena.push(Node::Repeat {
+            least,
+            most,
+            part: branch,
+        })?;
+        Ok(Level {
+            either: self.either,
+            branch: Some(over),
+            piece: None,
         })
     }
 

@@ -2,18 +2,22 @@
 //!
 //! `read_front` reads the pattern at the front of a line, `read_pattern` the text of a whole pattern. Each answers
 //! exactly the pattern that the grammar gives its text (`pattern_is_one`, `front_pattern_is_one`), and refuses only
-//! what is no pattern or is too heavy. What a pattern matches, and which rule wins at a place of a text, is defined
-//! here too, and determined (`winner_is_one`, `split_is_one`).
+//! what is no pattern or is too heavy. A pattern with trailing context has the cut that the lengths of its head and its
+//! tail decide. What a pattern matches, and which rule wins at a place of a text, is defined here too, and determined
+//! (`winner_is_one`, `split_is_one`, `cut_is_true`, `expression_has_string`).
 //!
-//! Left out so far: intervals, names in patterns, anchors, trailing context and lists of conditions are refused.
+//! Left out so far: no public call reads definitions, so `Names` has none, and a name in a pattern is refused.
 #![tactic(auto)]
 
 mod arena;
+mod braced;
 mod bracket;
+mod cut;
 mod element;
 mod fault;
 mod front;
 mod laws;
+mod length;
 mod level;
 mod names;
 mod node;
@@ -21,13 +25,14 @@ mod pattern;
 mod quoted;
 mod re;
 mod read;
+mod sides;
 mod weight;
 
 pub use arena::Arena;
 pub use fault::EreFault;
 pub use laws::{
-    front_pattern_is_one, name_is_definition, pattern_is_one, phrase_is_one, split_is_one,
-    winner_is_one,
+    cut_is_true, expression_has_string, front_pattern_is_one, name_is_definition, pattern_is_one,
+    phrase_is_one, split_is_one, winner_is_one,
 };
 pub use names::Names;
 pub use node::Node;

@@ -1,89 +1,118 @@
-ghost use Rattle.std.specs.Prelude.{◌≡◌, ◌≢◌, ◌<◌, ◌≤◌, [], ◌∷◌, ◌++◌, ℕ, length, OnErr, OnOk, IfErr};
-ghost use Rattle.ly_ere.specs.Weight.{weight_of};
+ghost use Rattle.std.specs.Prelude.{◌≡◌, ◌≢◌, ◌<◌, ◌≤◌, [], ◌∷◌, ◌++◌, ℕ, None, length, IfOk, IfErr, IsOk};
+ghost use Rattle.ly_ere.specs.Lengths.{AreNamedLengths, IsSound};
+ghost use Rattle.ly_ere.specs.Names.{defined, number_of};
+ghost use Rattle.ly_ere.specs.Weight.{AreWeights, weight_of};
 ghost use Rattle.ly_ere.specs.declared.fault.EreFault.TheVariants as ere;
 
 use crate::fault::EreFault;
+use crate::length::{Lengths, lengths_of};
 use crate::re::Re;
 use crate::weight::weigh;
+use indexmap::IndexSet;
 use ly_base::Limits;
 use std::alloc::Global;
 use std::marker::Model;
 
-/// The definitions of a lex file, in an order in which each uses earlier ones only, and their weights.
+/// The definitions of a lex file, in an order in which each uses earlier ones only: names with their expressions.
 #[derive(Drop)]
 pub struct Names {
-    /// The definitions.
+    /// The names.
+    names: IndexSet<Vec<u8>>,
+    /// The expression of each.
     definitions: Vec<Re>,
     /// The weight of each.
     weights: Vec<u32>,
+    /// How long the strings of each are.
+    lengths: Vec<Lengths>,
 }
 
 impl Model for Names {
-    ghost use Rattle.std.specs.Prelude.{List};
-    ghost use Rattle.std.specs.Coded.{coded_list};
-    ghost use Rattle.ly_ere.specs.Expression.{Expression};
+    ghost use Rattle.std.specs.Prelude.{◌≡◌, List, map, zip, length};
+    ghost use Rattle.std.specs.Coded.{coded_list, coded_ℕ, coded×};
     ghost use Rattle.ly_ere.specs.ExpressionCode.{expression_code};
+    ghost use Rattle.ly_ere.specs.Names.{Definition, AreOrdered};
+    ghost use Rattle.ly_ere.specs.Lengths.{AreNamedLengths};
+    ghost use Rattle.ly_ere.specs.Weight.{AreWeights};
 
-    ghost Value = { List Expression };
+    ghost Value = { List Definition };
 
-    ghost coded = { coded_list expression_code };
+    ghost coded = { coded_list (coded× (coded_list coded_ℕ) expression_code) };
 
-    ghost use Rattle.ly_ere.specs.Names.{AreOrdered};
-    ghost use Rattle.ly_ere.specs.Private.Weights.{AreWeights};
+    ghost view = { λ n. zip (map (λ k. k.items) n.names.keys) n.definitions.items };
 
-    ghost view = { λ n. n.definitions.items };
-
-    ghost invariant = { λ n. AreOrdered n.definitions.items × AreWeights n.definitions.items n.weights.items };
+    ghost invariant = { λ n. (length n.names.keys ≡ length n.definitions.items) × AreOrdered n.definitions.items
+        × AreWeights n.definitions.items n.weights.items × AreNamedLengths n.definitions.items n.lengths.items };
 }
 
 impl Names {
-    ghost use Rattle.ly_ere.specs.Names.{AreOrdered, UsesBelow};
-    ghost use Rattle.ly_ere.specs.Private.Weights.{AreWeights};
+    ghost use Rattle.ly_ere.specs.Names.{AreOrdered};
 
     /// No definitions.
     pub fn new(alloc: Global) -> Self
         ensures { result ≡ [] }
     {
         Names {
+            names: IndexSet::new(alloc),
             definitions: Vec::new(alloc),
             weights: Vec::new(alloc),
+            lengths: Vec::new(alloc),
         }
     }
 
-    /// The definitions.
+    /// The expressions of the definitions.
     pub fn definitions(&self) -> &[Re]
-        ensures these { result.now ≡ self.now }
+        ensures these { result.now ≡ defined self.now }
         ensures ordered { AreOrdered result.now }
     {
         &self.definitions
     }
 
-    /// Adds a definition that uses earlier ones only, and refuses one whose weight is above the limit. A refused
-    /// call changes nothing.
-    pub fn define(&mut self, alloc: Global, definition: Re, limits: &Limits) -> Result<(), EreFault>
-        requires { UsesBelow (length self.old) definition }
-        ensures ok { OnOk result (self.new ≡ self.old ++ definition ∷ []) }
-        ensures light { OnOk result (weight_of self.old definition ≤ limits.now.pattern_weight) }
+    /// The number of the definition of a name, if there is one.
+    pub(crate) fn find(&self, name: &[u8]) -> Option<usize>
+        ensures { result ≡ number_of self.now name.now }
+    {
+        self.names.get_index_of(name)
+    }
+
+    /// The definitions with one more, which uses earlier ones only, of a name that has none. One whose weight is above
+    /// the limit is refused.
+    pub(crate) fn with_definition(
+        mut self,
+        alloc: Global,
+        name: &[u8],
+        definition: Re,
+        limits: &Limits,
+    ) -> Result<Names, EreFault>
+        requires sound { IsSound (length self) definition }
+        requires new { number_of self name.now ≡ None }
+        ensures ok { IfOk result (λ names. names ≡ self ++ (name.now, definition) ∷ []) }
+        ensures light { IsOk result → weight_of (defined self) definition ≤ limits.now.pattern_weight }
         ensures only { IfErr result (λ fault. fault ≢ ere.OutOfMemory → fault ≡ ere.TooHeavy) }
         ensures heavy { IfErr result (λ fault. fault ≡ ere.TooHeavy
-            → limits.now.pattern_weight < weight_of self.old definition) }
-        ensures err { OnErr result (self.new ≡ self.old) }
+            → limits.now.pattern_weight < weight_of (defined self) definition) }
     {
-        let Some(weight) = weigh(alloc, &definition, self, limits.pattern_weight())? else {
+        let lengths = lengths_of(alloc, &definition, &self)?;
+        let Some(weight) = weigh(alloc, &definition, &self, limits.pattern_weight())? else {
             return Err(EreFault::TooHeavy);
         };
+        self.names.insert(Vec::from_slice(alloc, name)?)?;
+        self.definitions.push(definition)?;
         self.weights.push(weight)?;
-        if let Err(refused) = self.definitions.push(definition) {
-            self.weights.pop();
-            return Err(EreFault::from(refused));
-        }
-        Ok(())
+        self.lengths.push(lengths)?;
+        Ok(self)
     }
 
     /// The weight of each definition.
     pub(crate) fn weights(&self) -> &[u32]
-        ensures { AreWeights self.now result.now }
+        ensures { AreWeights (defined self.now) result.now }
     {
         &self.weights
+    }
+
+    /// How long the strings of each definition are.
+    pub(crate) fn lengths(&self) -> &[Lengths]
+        ensures { AreNamedLengths (defined self.now) result.now }
+    {
+        &self.lengths
     }
 }

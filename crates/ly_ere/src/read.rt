@@ -4,18 +4,17 @@ ghost use Rattle.ly_ere.specs.Arena.{part_of};
 ghost use Rattle.ly_ere.specs.Elements.{Quoted};
 ghost use Rattle.ly_ere.specs.Expression.{Expression, set};
 ghost use Rattle.ly_ere.specs.Grammar.{in_order};
-ghost use Rattle.ly_ere.specs.Patterns.{IsBehind, IsFrontPattern, IsPattern, IsRefused, pattern_weight};
+ghost use Rattle.ly_ere.specs.Patterns.{HasFrontSides, IsBehind, IsFrontPattern, IsPattern, IsRefused, pattern_weight};
+ghost use Rattle.ly_ere.specs.Patterns.{SpellsSides};
 ghost use Rattle.ly_ere.specs.Private.Elements.{IsWellFormed, LeadsOn, LeadsNowhere};
-ghost use Rattle.ly_ere.specs.Private.Front.{BeginsNo, IsFrontExpression, IsPatternOf};
+ghost use Rattle.ly_ere.specs.Private.Front.{BeginsNo, CanEnd, IsFrontExpression};
 ghost use Rattle.ly_ere.specs.Private.Groups.{closed, whole};
 ghost use Rattle.ly_ere.specs.Private.Levels.{IsExtended, IsWithin, group_of, groups_of, reading_of};
-ghost use Rattle.ly_ere.specs.Weight.{weight_of};
-ghost use Rattle.ly_ere.specs.declared.fault.EreFault.TheVariants as ere;
 ghost use Rattle.ly_ere.specs.declared.fault.ReadFault.TheVariants.{OutOfMemory};
-ghost use Rattle.ly_ere.specs.declared.pattern.Pattern.{Pattern};
 
 use crate::arena::Arena;
-use crate::element::{Element, next_element};
+use crate::cut::with_cut;
+use crate::element::{Element, Mark, next_element};
 use crate::fault::{EreFault, ReadFault, SyntaxFault};
 use crate::level::Level;
 use crate::names::Names;
@@ -23,8 +22,8 @@ use crate::node::Node;
 use crate::pattern::Pattern;
 use crate::quoted::quoted_byte;
 use crate::re::Re;
-use crate::weight::weigh;
-use ly_base::{ByteSet, Cut, Limits, is_blank};
+use crate::sides::read_sides;
+use ly_base::{ByteSet, Limits, is_blank};
 use std::alloc::{AllocError, Global};
 
 /// Reads the pattern at the front of a line, up to the line's end or the first blank outside strings, bracket
@@ -38,10 +37,11 @@ pub fn read_front(
     ensures ok { IfOk result (λ found. IsFrontPattern names.now line.now found.0 found.1) }
     ensures light { IfOk result (λ found. pattern_weight names.now found.0 ≤ limits.now.pattern_weight) }
     ensures refused { IfErr result (IsRefused limits.now.pattern_weight names.now
+        (λ s. (n : ℕ) × HasFrontSides names.now line.now s n)
         (λ p. (n : ℕ) × IsFrontPattern names.now line.now p n)) }
 {
-    let (head, length) = read_expression(alloc, line)?;
-    let pattern = weighed(alloc, head, names, limits)?;
+    let (sides, length) = read_sides(alloc, line, names)?;
+    let pattern = with_cut(alloc, sides, names, limits)?;
     Ok((pattern, length))
 }
 
@@ -54,59 +54,64 @@ pub fn read_pattern(
 ) -> Result<Pattern, EreFault>
     ensures ok { IfOk result (λ p. IsPattern names.now text.now p) }
     ensures light { IfOk result (λ p. pattern_weight names.now p ≤ limits.now.pattern_weight) }
-    ensures refused { IfErr result (IsRefused limits.now.pattern_weight names.now (IsPattern names.now text.now)) }
+    ensures refused { IfErr result (IsRefused limits.now.pattern_weight names.now (SpellsSides names.now text.now)
+        (IsPattern names.now text.now)) }
 {
-    let (head, length) = read_expression(alloc, text)?;
+    let (sides, length) = read_sides(alloc, text, names)?;
     if length < text.len() {
         return Err(EreFault::StrayOperator);
     }
-    weighed(alloc, head, names, limits)
-}
-
-/// The pattern that is an expression, if it isn't too heavy.
-fn weighed(alloc: Global, head: Re, names: &Names, limits: &Limits) -> Result<Pattern, EreFault>
-    ensures ok { IfOk result (IsPatternOf head) }
-    ensures light { IfOk result (λ p. pattern_weight names.now p ≤ limits.now.pattern_weight) }
-    ensures only { IfErr result (λ fault. fault ≢ ere.OutOfMemory → fault ≡ ere.TooHeavy) }
-    ensures heavy { IfErr result (λ fault. fault ≡ ere.TooHeavy
-        → limits.now.pattern_weight < weight_of names.now head) }
-{
-    let Some(_) = weigh(alloc, &head, names, limits.pattern_weight())? else {
-        return Err(EreFault::TooHeavy);
-    };
-    Ok(Pattern {
-        line_start: false,
-        head,
-        tail: None,
-        cut: Cut::Whole,
-    })
+    with_cut(alloc, sides, names, limits)
 }
 
 /// Reads the expression at the front of a line, and answers how many bytes it takes. Open groups stand on a stack
 /// of the reader's own.
-fn read_expression(alloc: Global, line: &[u8]) -> Result<(Re, usize), ReadFault>
-    ensures ok { IfOk result (λ found. IsFrontExpression line.now found.0 found.1) }
-    ensures refused { IfErr result (λ e. e ≢ OutOfMemory → (re : Expression) (n : ℕ) → IsFrontExpression line.now re n
-        → ⊥) }
+pub(crate) fn read_expression(
+    alloc: Global,
+    line: &[u8],
+    names: &Names,
+) -> Result<(Re, usize), ReadFault>
+    ensures ok { IfOk result (λ found. IsFrontExpression names.now line.now found.0 found.1) }
+    ensures refused { IfErr result (λ e. e ≢ OutOfMemory → (re : Expression) (n : ℕ)
+        → IsFrontExpression names.now line.now re n → ⊥) }
 {
     let mut arena = Arena::new(alloc);
     let mut outer = Vec::new(alloc);
     let mut level = Level::new();
     let mut at = 0;
-    while !is_behind(&line[at..]) {
+    while !can_end(&line[at..]) {
         let (element, length) = next_element(&line[at..])?;
-        level = with_element(&mut arena, &mut outer, level, element)?;
+        level = with_element(&mut arena, &mut outer, level, element, names)?;
         at += length;
     }
     if !outer.is_empty() {
-        return Err(ReadFault::Syntax(SyntaxFault::UnclosedGroup));
+        return Err(ReadFault::Syntax(open_fault(&line[at..])));
     }
     let root = level.whole(&mut arena)?;
     Ok((Re::of(arena, root), at))
 }
 
+/// Whether this is what may stand behind a side of a pattern.
+fn can_end(rest: &[u8]) -> bool
+    ensures { MatchBool result (CanEnd rest.now) (CanEnd rest.now → ⊥) }
+{
+    match rest.first() {
+        None => true,
+        Some(first) => is_blank(*first) || *first == b'/' || *first == b'$',
+    }
+}
+
+/// What a group that is open at the end of a side is refused for, by what stands there.
+fn open_fault(rest: &[u8]) -> SyntaxFault {
+    match rest.first() {
+        Some(b'/') => SyntaxFault::StrayOperator,
+        Some(b'$') => SyntaxFault::AnchorInside,
+        _ => SyntaxFault::UnclosedGroup,
+    }
+}
+
 /// Whether this is what may stand behind a pattern on its line.
-fn is_behind(rest: &[u8]) -> bool
+pub(crate) fn is_behind(rest: &[u8]) -> bool
     ensures { MatchBool result (IsBehind rest.now) (IsBehind rest.now → ⊥) }
 {
     match rest.first() {
@@ -121,16 +126,17 @@ fn with_element(
     outer: &mut Vec<Level>,
     level: Level,
     element: Element<'_>,
+    names: &Names,
 ) -> Result<Level, ReadFault>
     requires parts { IsWithin (length arena.old) level }
     requires outer_parts { All (IsWithin (length arena.old)) outer.old.items }
     requires formed { IsWellFormed element }
     ensures parts { IfOk result (IsWithin (length arena.new)) }
     ensures outer_parts { OnOk result (All (IsWithin (length arena.new)) outer.new.items) }
-    ensures step { IfOk result (λ l. LeadsOn element.entry (reading_of arena.old outer.old.items level)
+    ensures step { IfOk result (λ l. LeadsOn names.now element.entry (reading_of arena.old outer.old.items level)
         (reading_of arena.new outer.new.items l)) }
     ensures refused { IfErr result (λ e. e ≢ OutOfMemory
-        → LeadsNowhere element.entry (reading_of arena.old outer.old.items level)) }
+        → LeadsNowhere names.now element.entry (reading_of arena.old outer.old.items level)) }
 {
     match element {
         Element::OneOf(set) => {
@@ -141,6 +147,11 @@ fn with_element(
             let atom = push_string(arena, inside)?;
             Ok(level.with_atom(arena, atom)?)
         }
+        Element::Name(name) => {
+            let number = names.find(name).ok_or(SyntaxFault::UnknownName)?;
+            let atom = arena.push(Node::Name(number))?;
+            Ok(level.with_atom(arena, atom)?)
+        }
         Element::Opening => {
             outer.push(level)?;
             Ok(Level::new())
@@ -148,6 +159,16 @@ fn with_element(
         Element::Closing => close(arena, outer, level),
         Element::Bar => level.with_bar(arena),
         Element::Postfix(postfix) => level.with_postfix(arena, postfix),
+        Element::Interval { least, most } => level.with_interval(arena, least, most),
+        Element::Mark(mark) => Err(ReadFault::Syntax(mark_fault(mark))),
+    }
+}
+
+/// What a mark is refused for where none may stand.
+fn mark_fault(mark: Mark) -> SyntaxFault {
+    match mark {
+        Mark::Caret | Mark::DollarSign => SyntaxFault::AnchorInside,
+        Mark::Slash => SyntaxFault::StrayOperator,
     }
 }
 

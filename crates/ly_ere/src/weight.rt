@@ -2,8 +2,8 @@ ghost use Rattle.std.specs.Prelude.{◌≡◌, ℕ, ◌<◌, ◌≤◌, ◌+◌,
 ghost use Rattle.std.specs.Prelude.{MatchOption};
 ghost use Rattle.ly_ere.specs.Arena.{expression_of, expressions, FitsAt, IsOrdered};
 ghost use Rattle.ly_ere.specs.Expression.{Expression, empty};
-ghost use Rattle.ly_ere.specs.Private.Weights.{weight_at};
-ghost use Rattle.ly_ere.specs.Weight.{repeated_weight, weight_of, weight_under};
+ghost use Rattle.ly_ere.specs.Names.{defined};
+ghost use Rattle.ly_ere.specs.Weight.{repeated_weight, weight_at, weight_of, weight_under};
 
 use crate::names::Names;
 use crate::node::Node;
@@ -13,8 +13,8 @@ use std::alloc::{AllocError, Global};
 /// The weight of an expression, if it is at most `most`: how many sets of bytes and empty strings it has,
 /// where repetitions and definitions are written out.
 pub fn weigh(alloc: Global, re: &Re, names: &Names, most: u32) -> Result<Option<u32>, AllocError>
-    ensures { IfOk result (λ weight. MatchOption weight (most < weight_of names.now re.now)
-        (λ w. (w ≡ weight_of names.now re.now) × (w ≤ most))) }
+    ensures { IfOk result (λ weight. MatchOption weight (most < weight_of (defined names.now) re.now)
+        (λ w. (w ≡ weight_of (defined names.now) re.now) × (w ≤ most))) }
 {
     let weight = capped_weight(alloc, re, names.weights(), u64::from(most) + 1)?;
     Ok(at_most(weight, most))

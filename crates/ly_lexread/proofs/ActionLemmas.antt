@@ -7,9 +7,9 @@ use denote.Ref.{Bor}
 use lib.Chars.{codes}
 use Rattle.ly_base.specs.Gap.{Gap}
 use Rattle.ly_base.specs.declared.language.Language.TheVariants.{Lex}
-use Rattle.ly_lexread.specs.Words.{Word, semicolon, name, literal, Front, Wording}
+use Rattle.ly_lexread.specs.Words.{Word, semicolon, text_byte, name, literal, Front, Wording}
 use Rattle.ly_lexread.specs.declared.words.NextWord.{NextWord}
-use Rattle.ly_lexread.specs.declared.words.NextWord.TheVariants.{End, Semicolon, Name, Byte, Other}
+use Rattle.ly_lexread.specs.declared.words.NextWord.TheVariants.{End, Semicolon, TextByte, Name, Byte, Other}
 use Rattle.ly_lexread.specs.declared.action.Value.{Value}
 use Rattle.ly_lexread.specs.Action.{Meaning, nothing, StandsFor, Say, Says}
 use Rattle.ly_lexread.specs.Private.Action.{Returns, value_meaning}
@@ -27,6 +27,7 @@ behind_front text rest x (y ∷ ys) f w = let e = front_one text y x w.0 rest w.
 pub not_end : (text rest : List ℕ) (w : NextWord) → IsFront text w rest → (w ≡ End → ⊥) → Gap Lex text → ⊥
 not_end text rest End f h g = h refl
 not_end text rest Semicolon f h g = front_none text semicolon rest g f
+not_end text rest TextByte f h g = front_none text text_byte rest g f
 not_end text rest (Name n) f h g = front_none text (name n.now) rest g f
 not_end text rest (Byte b) f h g = front_none text (literal b) rest g f
 not_end text rest Other f h g = f.0 g
@@ -44,6 +45,7 @@ pub not_semicolon : (text rest : List ℕ) (w : NextWord) (xs : List Word) → I
     → Wording text (semicolon ∷ xs) → ⊥
 not_semicolon text rest End xs f h w = front_none text semicolon w.0 f w.1
 not_semicolon text rest Semicolon xs f h w = h refl
+not_semicolon text rest TextByte xs f h w = cc (front_one text text_byte semicolon rest w.0 f w.1).0
 not_semicolon text rest (Name n) xs f h w = cc (front_one text (name n.now) semicolon rest w.0 f w.1).0
 not_semicolon text rest (Byte b) xs f h w = cc (front_one text (literal b) semicolon rest w.0 f w.1).0
 not_semicolon text rest Other xs f h w = f.1 semicolon w.0 w.1
@@ -61,6 +63,7 @@ parts text m ([], w, s) = absurd s
 parts text m (x ∷ [], w, s) = absurd s
 parts text m (x ∷ semicolon ∷ [], w, s) = record { word = x; rest = w.0; front = w.1; closed = w.2; stands = s.1 }
 parts text m (x ∷ semicolon ∷ y ∷ ys, w, s) = absurd s
+parts text m (x ∷ text_byte ∷ ys, w, s) = absurd s
 parts text m (x ∷ name n ∷ ys, w, s) = absurd s
 parts text m (x ∷ literal b ∷ ys, w, s) = absurd s
 
@@ -75,16 +78,18 @@ returns_value text rest x m false f s h = λ n r.
 
 -- no value stands in front
 pub returns_none : (text rest : List ℕ) (w : NextWord) (m : Meaning) → IsFront text w rest
-    → ((n : Bor (List ℕ)) → w ≡ Name n → ⊥) → ((b : ℕ) → w ≡ Byte b → ⊥) → Returns text m → ⊥
-returns_none text rest w m f h k r = at w f h k (parts text m r)
+    → ((n : Bor (List ℕ)) → w ≡ Name n → ⊥) → ((b : ℕ) → w ≡ Byte b → ⊥) → (w ≡ TextByte → ⊥) → Returns text m → ⊥
+returns_none text rest w m f h k l r = at w f h k l (parts text m r)
   where
     at : (w : NextWord) → IsFront text w rest → ((n : Bor (List ℕ)) → w ≡ Name n → ⊥) → ((b : ℕ) → w ≡ Byte b → ⊥)
-        → Parts text m → ⊥
-    at End f h k p = front_none text p.word p.rest f p.front
-    at Semicolon f h k p = subst (λ x. StandsFor x m) (front_one text p.word semicolon p.rest rest p.front f).0 p.stands
-    at (Name n) f h k p = h n refl
-    at (Byte b) f h k p = k b refl
-    at Other f h k p = f.1 p.word p.rest p.front
+        → (w ≡ TextByte → ⊥) → Parts text m → ⊥
+    at End f h k l p = front_none text p.word p.rest f p.front
+    at TextByte f h k l p = l refl
+    at Semicolon f h k l p = subst (λ x. StandsFor x m)
+        (front_one text p.word semicolon p.rest rest p.front f).0 p.stands
+    at (Name n) f h k l p = h n refl
+    at (Byte b) f h k l p = k b refl
+    at Other f h k l p = f.1 p.word p.rest p.front
 
 -- `;` in front says nothing, where it ends the text
 pub says_nothing : (text rest : List ℕ) (t : Bool) → Front text semicolon rest
@@ -116,6 +121,7 @@ say_name r [] m s = absurd s
 say_name r (x ∷ []) m s = absurd s
 say_name r (x ∷ semicolon ∷ []) m s = s.0
 say_name r (x ∷ semicolon ∷ y ∷ ys) m s = absurd s
+say_name r (x ∷ text_byte ∷ ys) m s = absurd s
 say_name r (x ∷ name n ∷ ys) m s = absurd s
 say_name r (x ∷ literal b ∷ ys) m s = absurd s
 
@@ -131,6 +137,21 @@ says_name text n rest m f h s = at s.0 s.2 (behind_front text rest (name n) s.0 
   where
     at : (ws : List Word) → Say ws m → (xs : List Word) × (ws ≡ name n ∷ xs) × Wording rest xs → ⊥
     at ws s (xs, e, w) = h (say_name n xs m (subst (λ u. Say u m) e s))
+
+say_text_byte : (xs : List Word) (m : Meaning) → Say (text_byte ∷ xs) m → ⊥
+say_text_byte [] m s = s
+say_text_byte (x ∷ []) m s = s
+say_text_byte (x ∷ y ∷ []) m s = s
+say_text_byte (x ∷ y ∷ z ∷ zs) m s = s
+
+-- no action begins with the first byte of the text
+pub says_text_byte : (text rest : List ℕ) (w : NextWord) (m : Meaning) → w ≡ TextByte → IsFront text w rest
+    → Says text m → ⊥
+says_text_byte text rest w m e f s = at s.0 s.2 (behind_front text rest text_byte s.0
+    (subst (λ v. IsFront text v rest) e f) s.1)
+  where
+    at : (ws : List Word) → Say ws m → (xs : List Word) × (ws ≡ text_byte ∷ xs) × Wording rest xs → ⊥
+    at ws s (xs, e, w) = say_text_byte xs m (subst (λ u. Say u m) e s)
 
 -- no action begins with a literal
 pub says_literal : (text rest : List ℕ) (b : ℕ) (m : Meaning) → Front text (literal b) rest → Says text m → ⊥
@@ -151,6 +172,7 @@ say_one : (ws : List Word) (m n : Meaning) → Say ws m → Say ws n → m ≡ n
 say_one [] m n a b = a ∙ sym b
 say_one (semicolon ∷ []) m n a b = a ∙ sym b
 say_one (name r ∷ semicolon ∷ semicolon ∷ []) m n a b = absurd a.1
+say_one (name r ∷ text_byte ∷ semicolon ∷ []) m n a b = a.1 ∙ sym b.1
 say_one (name r ∷ name k ∷ semicolon ∷ []) m n a b = a.1 ∙ sym b.1
 say_one (name r ∷ literal c ∷ semicolon ∷ []) m n a b = a.1 ∙ sym b.1
 say_one _ m n a b = absurd a
@@ -166,6 +188,10 @@ at_semicolon text rest w e f = subst (λ v. IsFront text v rest) e f
 pub at_name : (text rest : List ℕ) (w : NextWord) (n : Bor (List ℕ)) → w ≡ Name n → IsFront text w rest
     → Front text (name n.now) rest
 at_name text rest w n e f = subst (λ v. IsFront text v rest) e f
+
+pub at_text_byte : (text rest : List ℕ) (w : NextWord) → w ≡ TextByte → IsFront text w rest
+    → Front text text_byte rest
+at_text_byte text rest w e f = subst (λ v. IsFront text v rest) e f
 
 pub at_byte : (text rest : List ℕ) (w : NextWord) (b : ℕ) → w ≡ Byte b → IsFront text w rest
     → Front text (literal b) rest

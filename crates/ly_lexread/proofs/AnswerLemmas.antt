@@ -1,7 +1,7 @@
 -- What a reader answers.
 use Rattle.std.proofs.Common.{◌≡◌, ◌≢◌, ℕ, List, [], ◌∷◌, Ok, Err, refl, sym, subst}
-use Rattle.ly_ere.specs.Expression.{Expression}
-use Rattle.ly_ere.specs.Patterns.{IsFrontPattern, IsRefused}
+use Rattle.ly_ere.specs.Names.{Definition}
+use Rattle.ly_ere.specs.Patterns.{HasFrontSides, IsFrontPattern, IsRefused}
 use Rattle.ly_ere.specs.declared.fault.EreFault.{EreFault}
 use Rattle.ly_ere.specs.declared.fault.EreFault.TheVariants as ere
 use Rattle.ly_ere.specs.declared.pattern.Rule.{Rule}
@@ -54,10 +54,11 @@ module _ {T : Type 0} (Is Light : T → Type 0) (Heavy : Type 0) where
   }
 
 -- a line's pattern is refused
-module _ (most : ℕ) (names : List Expression) (line : List ℕ) (number : ℕ) (inner : EreFault) (fault : LexFault)
+module _ (most : ℕ) (names : List Definition) (line : List ℕ) (number : ℕ) (inner : EreFault) (fault : LexFault)
     (may_be : MayBeRule line) (memory : inner ≡ ere.OutOfMemory → fault ≡ OutOfMemory)
     (other : inner ≢ ere.OutOfMemory → fault ≡ Pattern number inner)
-    (refusal : IsRefused most names (λ p. (n : ℕ) × IsFrontPattern names line p n) inner) where
+    (refusal : IsRefused most names (λ s. (n : ℕ) × HasFrontSides names line s n)
+    (λ p. (n : ℕ) × IsFrontPattern names line p n) inner) where
   too_heavy : IsTooHeavy fault → inner ≡ ere.TooHeavy
   too_heavy h = let given : inner ≢ ere.OutOfMemory = λ e. subst IsTooHeavy (memory e) h
       in subst IsTooHeavy (other given) h
@@ -74,9 +75,9 @@ module _ (most : ℕ) (names : List Expression) (line : List ℕ) (number : ℕ)
         refusal.refused given (λ e. light (subst IsTooHeavy (sym (other given)) e)) x.0.pattern (v.taken, v.is_pattern);
     heavy = λ h. let found = refusal.heavy (too_heavy h) in record {
       may_be = may_be;
-      pattern = found.0;
+      sides = found.0;
       taken = found.1.0;
-      is_pattern = found.1.1;
+      are_sides = found.1.1;
       is_heavy = found.2;
     };
     none_light = λ h x v light. refusal.none_light (too_heavy h) x.0.pattern (v.taken, v.is_pattern) light.0;

@@ -1,11 +1,14 @@
 -- What a lex file says is determined.
-use Rattle.std.proofs.Common.{◌≡◌, ℕ, zero, suc, Some, None, List, [], ◌∷◌, drop, false, refl, sym, ◌∙◌, subst}
+use Rattle.std.proofs.Common.{◌≡◌, ℕ, zero, suc, Some, List, [], ◌∷◌, drop, refl, sym, ◌∙◌, subst}
 use Rattle.std.specs.List.{slice_get}
-use Rattle.ly_base.specs.declared.cut.Cut.TheVariants.{Whole}
-use Rattle.ly_ere.specs.Expression.{Expression}
-use Rattle.ly_ere.specs.Winner.{AreCut, CutHolds}
+use Rattle.std.specs.Prelude.{IsSome}
+use Rattle.ly_ere.specs.Names.{Definition, defined}
+use Rattle.ly_ere.specs.Expression.{Matches}
+use Rattle.ly_ere.specs.Patterns.{IsCutOf}
+use Rattle.ly_ere.specs.Winner.{AreCut}
 use Rattle.ly_ere.specs.declared.pattern.Rule.{Rule}
-use Rattle.ly_ere.proofs.PatternLaws.{front_pattern_one}
+use Rattle.ly_ere.proofs.FrontLaws.{front_pattern_one}
+use Rattle.ly_ere.proofs.PatternLaws.{cut_is_true}
 use Rattle.ly_lexread.specs.declared.action.Action.{Action}
 use Rattle.ly_lexread.specs.declared.file.LexFile.{LexFile}
 use Rattle.ly_lexread.specs.Action.{meaning_of, IsAction}
@@ -18,7 +21,7 @@ use Rattle.ly_lexread.proofs.DefinitionLemmas.{definitions_one, mark_used}
 use Rattle.ly_lexread.proofs.RuleLemmas.{in_front, rules_behind}
 
 -- no lines and no rules
-rules_none : (names : List Expression) (left : List (List ℕ)) (rs : List Rule) (xs : List Action) → left ≡ []
+rules_none : (names : List Definition) (left : List (List ℕ)) (rs : List Rule) (xs : List Action) → left ≡ []
     → Rules names left rs xs → (rs ≡ []) × (xs ≡ [])
 rules_none names left rs xs e end = (refl, refl)
 rules_none names left rs xs e (mark l ls m) = (refl, refl)
@@ -26,7 +29,7 @@ rules_none names left rs xs e (unused l ls ps qs u d) = cc e
 rules_none names left rs xs e (rule l ls r a ps qs v d) = cc e
 
 -- no rules stand behind a mark
-rules_marked : (names : List Expression) (left rest : List (List ℕ)) (rs : List Rule) (xs : List Action) (line : List ℕ)
+rules_marked : (names : List Definition) (left rest : List (List ℕ)) (rs : List Rule) (xs : List Action) (line : List ℕ)
     → left ≡ line ∷ rest → IsMark line → Rules names left rs xs → (rs ≡ []) × (xs ≡ [])
 rules_marked names left rest rs xs line e m end = (refl, refl)
 rules_marked names left rest rs xs line e m (mark l ls k) = (refl, refl)
@@ -42,7 +45,7 @@ record AreEqual (r s : Rule) (a b : Action) : Type 0 where
   begin : a.begin ≡ b.begin
   returns : meaning_of a.returns ≡ meaning_of b.returns
 
-line_one : (names : List Expression) (line : List ℕ) (r s : Rule) (a b : Action) → IsRuleLine names line r a
+line_one : (names : List Definition) (line : List ℕ) (r s : Rule) (a b : Action) → IsRuleLine names line r a
     → IsRuleLine names line s b → AreEqual r s a b
 line_one names line r s a b v w =
     let same = front_pattern_one names line r.pattern s.pattern v.taken w.taken v.is_pattern w.is_pattern in
@@ -54,7 +57,7 @@ line_one names line r s a b v w =
       returns = says_one (drop v.taken line) (meaning_of a.returns) (meaning_of b.returns) v.is_action.1 action.1;
     }
 
-rules_one : (names : List Expression) (left : List (List ℕ)) (rs ss : List Rule) (xs ys : List Action)
+rules_one : (names : List Definition) (left : List (List ℕ)) (rs ss : List Rule) (xs ys : List Action)
     → Rules names left rs xs → Rules names left ss ys → AreSameRules rs ss × AreSameActions xs ys
 rules_one names left rs ss xs ys end d = let e = rules_none names [] ss ys refl d
     in (subst (AreSameRules []) (sym e.0) tt, subst (AreSameActions []) (sym e.1) tt)
@@ -83,35 +86,31 @@ lex_text_one bytes f g a b =
       conditions = a.one_condition ∙ sym b.one_condition;
     }
 
--- a rule without an anchor and without trailing context, active in condition 0
-pub record IsPlain (r : Rule) : Type 0 where
-  pub anywhere : r.pattern.line_start ≡ false
-  pub no_tail : r.pattern.tail ≡ None
-  pub no_cut : r.pattern.cut ≡ Whole
+-- What holds of each rule of a lex file: it has the cut of its sides, and is active in condition 0.
+pub record IsOfFile (names : List Definition) (r : Rule) : Type 0 where
+  pub is_cut : IsCutOf (defined names) r.pattern.head r.pattern.tail r.pattern.cut
+  pub some_head : IsSome r.pattern.tail → Matches (defined names) r.pattern.head [] → ⊥
   pub active : r.active.items ≡ 0 ∷ []
 
-rule_plain : (names : List Expression) (lines : List (List ℕ)) (rs : List Rule) (xs : List Action) (i : ℕ) (r : Rule)
-    → Rules names lines rs xs → slice_get rs i ≡ Some r → IsPlain r
-rule_plain names lines rs xs i r end e = cc e
-rule_plain names lines rs xs i r (mark l ls m) e = cc e
-rule_plain names lines rs xs i r (unused l ls ps qs u d) e = rule_plain names ls ps qs i r d e
-rule_plain names lines rs xs zero r (rule l ls s a ps qs v d) e = let same : s ≡ r = cc e
-    in subst IsPlain same (record {
-      anywhere = v.is_pattern.is_pattern.anywhere;
-      no_tail = v.is_pattern.is_pattern.no_tail;
-      no_cut = v.is_pattern.is_pattern.no_cut;
+rule_of : (names : List Definition) (lines : List (List ℕ)) (rs : List Rule) (xs : List Action) (i : ℕ) (r : Rule)
+    → Rules names lines rs xs → slice_get rs i ≡ Some r → IsOfFile names r
+rule_of names lines rs xs i r end e = cc e
+rule_of names lines rs xs i r (mark l ls m) e = cc e
+rule_of names lines rs xs i r (unused l ls ps qs u d) e = rule_of names ls ps qs i r d e
+rule_of names lines rs xs zero r (rule l ls s a ps qs v d) e = let same : s ≡ r = cc e
+    in subst (IsOfFile names) same (record {
+      is_cut = v.is_pattern.is_pattern.is_cut;
+      some_head = v.is_pattern.is_pattern.some_head;
       active = v.is_active;
     })
-rule_plain names lines rs xs (suc i) r (rule l ls s a ps qs v d) e = rule_plain names ls ps qs i r d e
+rule_of names lines rs xs (suc i) r (rule l ls s a ps qs v d) e = rule_of names ls ps qs i r d e
 
--- each rule of a lex file is plain
-pub rules_plain : (bytes : List ℕ) (file : LexFile) → LexText bytes file → (i : ℕ) (r : Rule)
-    → slice_get file.rules.items i ≡ Some r → IsPlain r
-rules_plain bytes file text i r e = rule_plain [] text.behind file.rules.items file.actions.items i r text.rules e
+pub rules_of : (bytes : List ℕ) (file : LexFile) → LexText bytes file → (i : ℕ) (r : Rule)
+    → slice_get file.rules.items i ≡ Some r → IsOfFile file.names r
+rules_of bytes file text i r e = subst (λ names. IsOfFile names r) (sym text.no_names)
+    (rule_of [] text.behind file.rules.items file.actions.items i r text.rules e)
 
 -- each cut tells the truth
-pub rules_cut : (bytes : List ℕ) (file : LexFile) → LexText bytes file → AreCut file.names file.rules.items
-rules_cut bytes file text i r e =
-    let plain = rules_plain bytes file text i r e in
-    subst (λ t. CutHolds file.names r.pattern.head t r.pattern.cut) (sym plain.no_tail)
-    (subst (λ k. CutHolds file.names r.pattern.head None k) (sym plain.no_cut) tt)
+pub rules_cut : (bytes : List ℕ) (file : LexFile) → LexText bytes file → AreCut (defined file.names) file.rules.items
+rules_cut bytes file text i r e = cut_is_true (defined file.names) r.pattern.head r.pattern.tail r.pattern.cut
+    (rules_of bytes file text i r e).is_cut

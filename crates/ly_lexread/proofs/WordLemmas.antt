@@ -1,7 +1,8 @@
 -- The words of an action are determined.
 use Rattle.std.proofs.lemmas.Bool.{false≢true}
 use Rattle.std.proofs.Common.{◌≡◌, ◌≢◌, ℕ, ◌<◌, List, [], ◌∷◌, ◌++◌, true, false, IsTrue, refl, sym, ap, ap₂, ◌∙◌}
-use Rattle.std.proofs.Common.{subst, arith, length}
+use Rattle.std.proofs.Common.{subst, arith, length, ◌⊎◌, inl, inr, drop, get_or}
+use Rattle.std.specs.Prelude.{codes}
 use Rattle.std.proofs.lemmas.Bool.Decides.{nat_tests}
 use Rattle.std.proofs.lemmas.List.{append-nil}
 use Rattle.ly_base.specs.Blank.{is_blank}
@@ -12,19 +13,24 @@ use Rattle.ly_base.specs.declared.language.Language.TheVariants.{Lex}
 use Rattle.ly_base.proofs.GapLemmas.{gap_one}
 use Rattle.ly_base.proofs.LiteralLemmas.{literal_one}
 use Rattle.ly_base.proofs.NameLemmas.{name_one}
-use Rattle.ly_lexread.specs.Words.{Word, semicolon, name, literal, Begins, Front, Wording}
+use Rattle.ly_lexread.specs.Words.{Word, semicolon, text_byte, name, literal, Begins, Front, IsNoTextByte}
+use Rattle.ly_lexread.specs.Words.{TextByteBefore}
+use Rattle.ly_lexread.specs.Words.{Wording}
 
 -- the byte that a word begins with
 abbrev Starts : Word → ℕ → Type 0
 Starts semicolon b = b ≡ 59
+Starts text_byte b = IsTrue (starts_name Lex b) ⊎ (b ≡ 42)
 Starts (name n) b = IsTrue (starts_name Lex b)
 Starts (literal c) b = b ≡ 39
 
 begins_at : (text : List ℕ) (x : Word) (rest : List ℕ) → Begins text x rest → (b : ℕ) × (s : List ℕ) × (text ≡ b ∷ s)
     × Starts x b
 begins_at text semicolon rest h = (59, rest, h, refl)
-begins_at text (name []) rest h = absurd h.0
-begins_at text (name (b ∷ n)) rest h = (b, n ++ rest, h.2, h.0.0)
+begins_at text text_byte rest (inl h) = (121, codes "ytext" ++ (codes "[0]" ++ rest), h.2, inl h.0.0)
+begins_at text text_byte rest (inr h) = (42, h.0, h.1, inr refl)
+begins_at text (name []) rest h = absurd h.0.0
+begins_at text (name (b ∷ n)) rest h = (b, n ++ rest, h.0.2, h.0.0.0)
 begins_at text (literal c) rest h = (39, h.0, h.1, refl)
 
 blank_starts_none : (b : ℕ) → IsTrue (is_blank b) → IsTrue (starts_name Lex b) → ⊥
@@ -32,11 +38,15 @@ blank_starts_none b h s = grind (arith, nat_tests)
 
 starts_no_blank : (x : Word) (b : ℕ) → Starts x b → IsTrue (is_blank b) → ⊥
 starts_no_blank semicolon b e h = false≢true (ap is_blank (sym e) ∙ h)
+starts_no_blank text_byte b (inl e) h = blank_starts_none b h e
+starts_no_blank text_byte b (inr e) h = false≢true (ap is_blank (sym e) ∙ h)
 starts_no_blank (name n) b e h = blank_starts_none b h e
 starts_no_blank (literal c) b e h = false≢true (ap is_blank (sym e) ∙ h)
 
 starts_no_slash : (x : Word) (b : ℕ) → Starts x b → b ≡ 47 → ⊥
 starts_no_slash semicolon b e h = omega (arith, e, h)
+starts_no_slash text_byte b (inl e) h = false≢true (ap (starts_name Lex) (sym h) ∙ e)
+starts_no_slash text_byte b (inr e) h = omega (arith, e, h)
 starts_no_slash (name n) b e h = false≢true (ap (starts_name Lex) (sym h) ∙ e)
 starts_no_slash (literal c) b e h = omega (arith, e, h)
 
@@ -69,13 +79,48 @@ apart u x y r s h a b = at (begins_at u x r a) (begins_at u y s b)
 no_letter : (n b : ℕ) → starts_name Lex n ≡ false → b ≡ n → IsTrue (starts_name Lex b) → ⊥
 no_letter n b h e s = false≢true (sym h ∙ ap (starts_name Lex) (sym e) ∙ s)
 
+-- no other word begins as the first byte of the text does
+text_byte_apart : (n b : ℕ) → starts_name Lex n ≡ false → (n ≡ 42 → ⊥) → b ≡ n → Starts text_byte b → ⊥
+text_byte_apart n b h k e (inl s) = no_letter n b h e s
+text_byte_apart n b h k e (inr s) = k (sym e ∙ s)
+
+star_no_name : (u n r behind : List ℕ) → NameBefore Lex u n r → u ≡ 42 ∷ behind → ⊥
+star_no_name u [] r behind h e = h.0
+star_no_name u (b ∷ n) r behind h e = no_letter 42 b refl (ap (λ x. get_or x 0 0) (sym h.2 ∙ e)) h.0.0
+
+text_byte_name : (u n r s : List ℕ) → TextByteBefore u s → NameBefore Lex u n r → IsNoTextByte n r → ⊥
+text_byte_name u n r s (inl t) h other = let e = name_one Lex u (codes "yytext") n (codes "[0]" ++ s) r t h
+    in other (sym e.0) s (sym e.1)
+text_byte_name u n r s (inr t) h other = star_no_name u n r t.0 h t.1
+
+text_byte_one : (u r s : List ℕ) → TextByteBefore u r → TextByteBefore u s → r ≡ s
+text_byte_one u r s (inl a) (inl b)
+    = ap (drop 3) (name_one Lex u (codes "yytext") (codes "yytext") (codes "[0]" ++ r) (codes "[0]" ++ s) a b).1
+text_byte_one u r s (inl a) (inr b) = absurd (star_no_name u (codes "yytext") (codes "[0]" ++ r) b.0 a b.1)
+text_byte_one u r s (inr a) (inl b) = absurd (star_no_name u (codes "yytext") (codes "[0]" ++ s) a.0 b a.1)
+text_byte_one u r s (inr a) (inr b) =
+    let same : b.0 ≡ a.0 = ap (drop 1) (sym b.1 ∙ a.1) in
+    (name_one Lex a.0 (codes "yytext") (codes "yytext") r s a.2
+    (subst (λ t. NameBefore Lex t (codes "yytext") s) same b.2)).1
+
 begins_one : (u : List ℕ) (x y : Word) (r s : List ℕ) → Begins u x r → Begins u y s → (x ≡ y) × (r ≡ s)
 begins_one u semicolon semicolon r s a b = (refl, cc)
 begins_one u semicolon (name m) r s a b = absurd (apart u semicolon (name m) r s (λ i e f. no_letter 59 i refl e f) a b)
 begins_one u semicolon (literal d) r s a b
     = absurd (apart u semicolon (literal d) r s (λ i e f. omega (arith, e, f)) a b)
+begins_one u semicolon text_byte r s a b = absurd (apart u semicolon text_byte r s
+    (λ i e f. text_byte_apart 59 i refl (λ k. absurd (omega (arith, k))) e f) a b)
+begins_one u text_byte semicolon r s a b = absurd (apart u text_byte semicolon r s
+    (λ i e f. text_byte_apart 59 i refl (λ k. absurd (omega (arith, k))) f e) a b)
+begins_one u text_byte text_byte r s a b = (refl, text_byte_one u r s a b)
+begins_one u text_byte (name m) r s a b = absurd (text_byte_name u m s r a b.0 b.1)
+begins_one u text_byte (literal d) r s a b = absurd (apart u text_byte (literal d) r s
+    (λ i e f. text_byte_apart 39 i refl (λ k. absurd (omega (arith, k))) f e) a b)
+begins_one u (name n) text_byte r s a b = absurd (text_byte_name u n r s b a.0 a.1)
+begins_one u (literal c) text_byte r s a b = absurd (apart u (literal c) text_byte r s
+    (λ i e f. text_byte_apart 39 i refl (λ k. absurd (omega (arith, k))) e f) a b)
 begins_one u (name n) semicolon r s a b = absurd (apart u (name n) semicolon r s (λ i e f. no_letter 59 i refl f e) a b)
-begins_one u (name n) (name m) r s a b = let e = name_one Lex u n m r s a b in (ap name e.0, e.1)
+begins_one u (name n) (name m) r s a b = let e = name_one Lex u n m r s a.0 b.0 in (ap name e.0, e.1)
 begins_one u (name n) (literal d) r s a b
     = absurd (apart u (name n) (literal d) r s (λ i e f. no_letter 39 i refl f e) a b)
 begins_one u (literal c) semicolon r s a b
@@ -104,9 +149,10 @@ some_not_none xs h e = omega (arith, ap length e, h)
 -- no word and no end stands behind the gap
 pub other_front : (text word : List ℕ) → GapBefore Lex text word → GapEnds Lex word
     → ((b : ℕ) (s : List ℕ) → Literal word b s → ⊥) → ((n s : List ℕ) → NameBefore Lex word n s → ⊥)
+    → ((behind s : List ℕ) → word ≡ codes "*" ++ behind → NameBefore Lex behind (codes "yytext") s → ⊥)
     → ((s : List ℕ) → word ≢ 59 ∷ s) → word ≢ []
     → (Gap Lex text → ⊥) × ((x : Word) (s : List ℕ) → Front text x s → ⊥)
-other_front text word before stops a b c d = (no_gap, λ x s f. none_at x s (front_at text word x s before stops f))
+other_front text word before stops a b f c d = (no_gap, λ x s k. none_at x s (front_at text word x s before stops k))
   where
     no_gap : Gap Lex text → ⊥
     no_gap g =
@@ -114,7 +160,9 @@ other_front text word before stops a b c d = (no_gap, λ x s f. none_at x s (fro
 
     none_at : (x : Word) (s : List ℕ) → Begins word x s → ⊥
     none_at semicolon s h = c s h
-    none_at (name n) s h = b n s h
+    none_at text_byte s (inl h) = b (codes "yytext") (codes "[0]" ++ s) h
+    none_at text_byte s (inr h) = f h.0 s h.1 h.2
+    none_at (name n) s h = b n s h.0
     none_at (literal v) s h = a v s h
 
 -- the words of a text are determined

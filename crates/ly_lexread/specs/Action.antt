@@ -1,6 +1,6 @@
 -- What the text behind a pattern says (POSIX, XCU lex, "Actions in lex").
 use Rattle.std.specs.Prelude.{◌≡◌, ℕ, List, [], ◌∷◌, codes, None}
-use Rattle.ly_lexread.specs.Words.{Word, semicolon, name, literal, Wording}
+use Rattle.ly_lexread.specs.Words.{Word, semicolon, text_byte, name, literal, Wording}
 use Rattle.ly_lexread.specs.declared.action.Action.{Action}
 use Rattle.ly_lexread.specs.declared.action.Returned.{Returned}
 use Rattle.ly_lexread.specs.declared.action.Returned.TheVariants.{Nothing, Token, Literal, FirstByte}
@@ -22,10 +22,11 @@ meaning_of FirstByte = first_byte
 -- the token that a word stands for
 abbrev pub StandsFor : Word → Meaning → Type 0
 StandsFor semicolon m = ⊥
+StandsFor text_byte m = m ≡ first_byte
 StandsFor (name n) m = m ≡ token n
 StandsFor (literal b) m = m ≡ literal_of b
 
--- what words say: nothing, `;`, `return NAME ;` or `return 'c' ;`
+-- what words say: nothing, `;`, `return NAME ;`, `return 'c' ;` or `return yytext[0] ;`
 abbrev pub Say : List Word → Meaning → Type 0
 Say [] m = m ≡ nothing
 Say (semicolon ∷ []) m = m ≡ nothing

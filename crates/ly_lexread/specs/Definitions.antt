@@ -1,6 +1,6 @@
 -- The definitions of a lex file.
-use Rattle.std.specs.Prelude.{◌≡◌, ℕ, List, [], ◌∷◌, ◌++◌, IsTrue, codes}
-use Rattle.ly_base.specs.Blank.{is_blank}
+use Rattle.std.specs.Prelude.{◌≡◌, ℕ, List, ◌∷◌, ◌++◌, codes}
+use Rattle.ly_ere.specs.Patterns.{IsBehind}
 
 -- the front and then more
 abbrev pub BeginsWith : List ℕ → List ℕ → Type 0
@@ -10,10 +10,9 @@ BeginsWith line front = (rest : List ℕ) × (line ≡ front ++ rest)
 abbrev pub IsMark : List ℕ → Type 0
 IsMark line = BeginsWith line (codes "%%")
 
--- nothing, or a blank in front
+-- the line isn't used: nothing, or a blank in front, which also ends a pattern
 abbrev pub IsUnused : List ℕ → Type 0
-IsUnused [] = Unit {0}
-IsUnused (b ∷ line) = IsTrue (is_blank b)
+IsUnused line = IsBehind line
 
 -- the definitions, up to the mark that begins the rules, and the lines behind it
 pub data Definitions : List (List ℕ) → List (List ℕ) → Type 0 where

@@ -19,7 +19,7 @@ pub record LexText (bytes : List ℕ) (file : LexFile) : Type 0 where
   pub no_names : file.names ≡ []
   pub one_condition : file.conditions ≡ 1
 
--- of a file whose definitions have their form, a rule's pattern weighs more than this
+-- of a file whose definitions have their form, the head and the tail of a rule weigh more than this
 abbrev pub IsHeavyText : ℕ → List ℕ → Type 0
 IsHeavyText most bytes = (behind : List (List ℕ)) × Definitions (lines_of bytes) behind × HasHeavyLine most [] behind
 

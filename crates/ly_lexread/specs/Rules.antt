@@ -1,8 +1,8 @@
 -- The rules of a lex file.
 use Rattle.std.specs.Prelude.{◌≡◌, ◌<◌, ◌≤◌, ◌⊎◌, ℕ, List, [], ◌∷◌, drop, codes}
-use Rattle.ly_ere.specs.Expression.{Expression}
-use Rattle.ly_ere.specs.Patterns.{IsFrontPattern, pattern_weight}
-use Rattle.ly_ere.specs.declared.pattern.Pattern.{Pattern}
+use Rattle.ly_ere.specs.Grammar.{Sides}
+use Rattle.ly_ere.specs.Names.{Definition}
+use Rattle.ly_ere.specs.Patterns.{HasFrontSides, IsFrontPattern, pattern_weight, sides_weight}
 use Rattle.ly_ere.specs.declared.pattern.Rule.{Rule}
 use Rattle.ly_lexread.specs.declared.action.Action.{Action}
 use Rattle.ly_lexread.specs.Action.{IsAction}
@@ -16,7 +16,7 @@ pub record MayBeRule (line : List ℕ) : Type 0 where
   pub is_used : IsUnused line → ⊥
 
 -- A line says a rule and its action: the rule is active in condition 0 alone.
-pub record IsRuleLine (names : List Expression) (line : List ℕ) (rule : Rule) (action : Action) : Type 0 where
+pub record IsRuleLine (names : List Definition) (line : List ℕ) (rule : Rule) (action : Action) : Type 0 where
   pub may_be : MayBeRule line
   pub taken : ℕ
   pub is_pattern : IsFrontPattern names line rule.pattern taken
@@ -24,7 +24,7 @@ pub record IsRuleLine (names : List Expression) (line : List ℕ) (rule : Rule) 
   pub is_action : IsAction (drop taken line) action
 
 -- the rules and their actions, up to a mark or the end
-pub data Rules (names : List Expression) : List (List ℕ) → List Rule → List Action → Type 0 where
+pub data Rules (names : List Definition) : List (List ℕ) → List Rule → List Action → Type 0 where
   end : Rules names [] [] []
   mark : (line : List ℕ) (lines : List (List ℕ)) → IsMark line → Rules names (line ∷ lines) [] []
   unused : (line : List ℕ) (lines : List (List ℕ)) (rules : List Rule) (actions : List Action) → IsUnused line
@@ -34,20 +34,20 @@ pub data Rules (names : List Expression) : List (List ℕ) → List Rule → Lis
       → Rules names (line ∷ lines) (r ∷ rules) (a ∷ actions)
 
 -- each pattern weighs at most this
-abbrev pub AreLight : ℕ → List Expression → List Rule → Type 0
+abbrev pub AreLight : ℕ → List Definition → List Rule → Type 0
 AreLight most names [] = Unit {0}
 AreLight most names (r ∷ rules) = (pattern_weight names r.pattern ≤ most) × AreLight most names rules
 
--- A line's pattern weighs more than this.
-pub record IsHeavyLine (most : ℕ) (names : List Expression) (line : List ℕ) : Type 0 where
+-- A line has sides of a pattern at its front that weigh more than this.
+pub record IsHeavyLine (most : ℕ) (names : List Definition) (line : List ℕ) : Type 0 where
   pub may_be : MayBeRule line
-  pub pattern : Pattern
+  pub sides : Sides
   pub taken : ℕ
-  pub is_pattern : IsFrontPattern names line pattern taken
-  pub is_heavy : most < pattern_weight names pattern
+  pub are_sides : HasFrontSides names line sides taken
+  pub is_heavy : most < sides_weight names sides
 
 -- that of one of the lines does, up to a mark
-abbrev pub HasHeavyLine : ℕ → List Expression → List (List ℕ) → Type 0
+abbrev pub HasHeavyLine : ℕ → List Definition → List (List ℕ) → Type 0
 HasHeavyLine most names [] = ⊥
 HasHeavyLine most names (line ∷ lines) = (IsMark line → ⊥)
     × (IsHeavyLine most names line ⊎ HasHeavyLine most names lines)

@@ -31,9 +31,9 @@ pub enum Returned {
     FirstByte,
 }
 
-/// Reads the action that stands on a line behind its pattern: nothing, `;`, `return NAME ;` or
-/// `return 'c' ;`, with blanks and comments between the words (POSIX, lex, "Actions in lex"). `None` where
-/// it is something else.
+/// Reads the action that stands on a line behind its pattern: nothing, `;`, `return NAME ;`, `return 'c' ;` or
+/// `return yytext[0] ;`, also as `*yytext`, with blanks and comments between the words (POSIX, lex, "Actions in lex").
+/// `None` where it is something else.
 pub(crate) fn read_action(alloc: Global, text: &[u8]) -> Result<Option<Action>, AllocError>
     ensures { IfOk result (λ read. MatchOption read ((a : Action) → IsAction text.now a → ⊥) (IsAction text.now)) }
 {
@@ -56,6 +56,8 @@ enum Value<'t> {
     Name(&'t [u8]),
     /// The literal of this byte.
     Byte(u8),
+    /// The literal of the first byte of the text.
+    TextByte,
 }
 
 impl Value<'_> {
@@ -67,6 +69,7 @@ impl Value<'_> {
             Value::Nothing => Ok(Returned::Nothing),
             Value::Name(name) => Ok(Returned::Token(Vec::from_slice(alloc, name)?)),
             Value::Byte(byte) => Ok(Returned::Literal(byte)),
+            Value::TextByte => Ok(Returned::FirstByte),
         }
     }
 }
@@ -86,7 +89,7 @@ fn said(text: &[u8]) -> Option<Value<'_>>
                 None
             }
         }
-        NextWord::Byte(_) | NextWord::Other => None,
+        NextWord::TextByte | NextWord::Byte(_) | NextWord::Other => None,
     }
 }
 
@@ -106,6 +109,7 @@ fn behind_return(text: &[u8]) -> Option<Value<'_>>
     match word {
         NextWord::Name(name) => is_semicolon(rest).then_some(Value::Name(name)),
         NextWord::Byte(byte) => is_semicolon(rest).then_some(Value::Byte(byte)),
+        NextWord::TextByte => is_semicolon(rest).then_some(Value::TextByte),
         _ => None,
     }
 }

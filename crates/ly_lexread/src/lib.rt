@@ -4,8 +4,7 @@
 //! text that says nothing or has a pattern that is too heavy. What the lexemes of a text are under the rules is defined
 //! here too, and determined (`lexing_goes_on, lexing_is_one`).
 //!
-//! Left out so far: definitions of names and conditions, lists of conditions, blocks, actions in braces, `BEGIN`, `|`,
-//! `yytext[0]`.
+//! Left out so far: definitions of names and conditions, lists of conditions, blocks, actions in braces, `BEGIN`, `|`.
 #![tactic(auto)]
 
 mod action;

@@ -8,6 +8,7 @@
 // the patterns that are written out. Start lists alone are made. Nothing recurses, so depth costs
 // memory alone.
 ghost use Rattle.std.specs.Prelude.{◌≡◌, ◌<◌, ◌≤◌, length, All, IfOk, IsErrOf, OnOk};
+ghost use Rattle.ly_ere.specs.Names.{defined};
 ghost use Rattle.ly_position.specs.Private.Plain.{IsPlainPart};
 ghost use Rattle.ly_position.specs.Private.Program.{steps_of};
 ghost use Rattle.ly_position.specs.Private.Reach.{StaysInside};
@@ -36,10 +37,10 @@ pub fn positions(
     conditions: u32,
     limits: &Limits,
 ) -> Result<PosNfa, PosFault>
-    ensures positions { IfOk result (ArePositions names.now rules.now conditions) }
-    ensures light { OnOk result (total_weight names.now rules.now ≤ limits.now.total_weight) }
+    ensures positions { IfOk result (ArePositions (defined names.now) rules.now conditions) }
+    ensures light { OnOk result (total_weight (defined names.now) rules.now ≤ limits.now.total_weight) }
     ensures heavy { IsErrOf result PosFault.TooManyPositions → limits.now.total_weight <
-        total_weight names.now rules.now }
+        total_weight (defined names.now) rules.now }
 {
     if weigh_all(alloc, rules, names, limits.total_weight())?.is_none() {
         return Err(PosFault::TooManyPositions);

@@ -1,5 +1,6 @@
 ghost use Rattle.std.specs.Prelude.{◌≡◌, ℕ, ◌<◌, List, length, slice_index_or, All, IfOk, None};
 ghost use Rattle.ly_ere.specs.Expression.{MatchesUnder, NamedUpTo};
+ghost use Rattle.ly_ere.specs.Names.{defined};
 ghost use Rattle.ly_ere.specs.Arena.{FitsAt};
 ghost use Rattle.ly_position.specs.Private.Plain.{IsPlainPart, Makes, Same};
 ghost use Rattle.ly_position.specs.Private.Plan.{IsPlan, ListedMatches, NodeMatches, SpelledUnder};
@@ -19,7 +20,7 @@ pub struct Plan {
 
 /// Writes out the names and repetitions of rules.
 pub fn write_out(alloc: Global, rules: &[Rule], names: &Names) -> Result<Plan, AllocError>
-    ensures { IfOk result (λ plan. IsPlan names.now rules.now plan.plain plan.parts.items) }
+    ensures { IfOk result (λ plan. IsPlan (defined names.now) rules.now plan.plain plan.parts.items) }
 {
     let mut plain = Plain::new(alloc);
     let definitions = add_names(alloc, &mut plain, names)?;
@@ -35,7 +36,7 @@ pub fn write_out(alloc: Global, rules: &[Rule], names: &Names) -> Result<Plan, A
 fn add_names(alloc: Global, plain: &mut Plain, names: &Names) -> Result<Vec<PlainPart>, AllocError>
     ensures within { IfOk result (λ ds. All (IsPlainPart (length plain.new)) ds.items) }
     ensures spells { IfOk result (λ ds. (x : ℕ) → Same (ListedMatches plain.new ds.items x)
-        (NamedUpTo names.now (length names.now) x)) }
+        (NamedUpTo (defined names.now) (length (defined names.now)) x)) }
 {
     let mut definitions: Vec<PlainPart> = Vec::new(alloc);
     for definition in names.definitions() {

@@ -1,4 +1,5 @@
 ghost use Rattle.std.specs.Prelude.{◌≡◌, ◌<◌, ◌≤◌, IfOk, MatchOption};
+ghost use Rattle.ly_ere.specs.Names.{defined};
 ghost use Rattle.ly_ere.specs.Weight.{weight_of_both};
 ghost use Rattle.ly_position.specs.TotalWeight.{total_weight};
 
@@ -12,8 +13,8 @@ pub fn weigh_all(
     names: &Names,
     most: u32,
 ) -> Result<Option<u32>, AllocError>
-    ensures { IfOk result (λ weight. MatchOption weight (most < total_weight names.now rules.now)
-        (λ w. (w ≡ total_weight names.now rules.now) × (w ≤ most))) }
+    ensures { IfOk result (λ weight. MatchOption weight (most < total_weight (defined names.now) rules.now)
+        (λ w. (w ≡ total_weight (defined names.now) rules.now) × (w ≤ most))) }
 {
     let mut total = 0;
     for rule in rules {
@@ -32,9 +33,9 @@ fn weigh_rule(
     names: &Names,
     most: u32,
 ) -> Result<Option<u32>, AllocError>
-    ensures { IfOk result (λ weight. MatchOption weight (most < weight_of_both names.now
+    ensures { IfOk result (λ weight. MatchOption weight (most < weight_of_both (defined names.now)
         rule.now.pattern.head rule.now.pattern.tail)
-        (λ w. (w ≡ weight_of_both names.now rule.now.pattern.head rule.now.pattern.tail)
+        (λ w. (w ≡ weight_of_both (defined names.now) rule.now.pattern.head rule.now.pattern.tail)
         × (w ≤ most))) }
 {
     let Some(head) = weigh(alloc, &rule.pattern.head, names, most)? else {

@@ -9,7 +9,7 @@ use Rattle.ly_ere.specs.declared.fault.SyntaxFault.{SyntaxFault}
 use Rattle.ly_ere.specs.declared.fault.SyntaxFault.TheVariants.{Empty, UnclosedQuote, UnclosedBracket, UnclosedGroup}
 use Rattle.ly_ere.specs.declared.fault.SyntaxFault.TheVariants.{StrayOperator, BadRange, EmptySet, UnknownClass}
 use Rattle.ly_ere.specs.declared.fault.SyntaxFault.TheVariants.{BadInterval, EscapeTooLarge, UnknownName}
-use Rattle.ly_ere.specs.declared.fault.SyntaxFault.TheVariants.{AnchorInside}
+use Rattle.ly_ere.specs.declared.fault.SyntaxFault.TheVariants.{AnchorInside, TrailingTwice}
 
 -- the fault of an escape as one of its expression
 abbrev pub fault_of_escape : EscapeFault → SyntaxFault
@@ -30,6 +30,7 @@ fault_of_syntax BadInterval = ere.BadInterval
 fault_of_syntax EscapeTooLarge = ere.EscapeTooLarge
 fault_of_syntax UnknownName = ere.UnknownName
 fault_of_syntax AnchorInside = ere.AnchorInside
+fault_of_syntax TrailingTwice = ere.TrailingTwice
 
 -- a fault of reading as one of its pattern
 abbrev pub fault_of_reading : ReadFault → EreFault

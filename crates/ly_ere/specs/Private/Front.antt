@@ -1,10 +1,11 @@
 -- What stands at the front of a text.
-use Rattle.std.specs.Prelude.{◌≡◌, ◌↔◌, ℕ, List, ◌∷◌, ◌≤◌, take, drop, length, None, false}
-use Rattle.ly_base.specs.declared.cut.Cut.TheVariants.{Whole}
+use Rattle.std.specs.Prelude.{◌≡◌, ◌↔◌, ℕ, ◌+◌, List, [], ◌∷◌, ◌≤◌, ◌||◌, take, drop, length, nat_eq, IsTrue, Option}
+use Rattle.std.specs.Prelude.{None, Some}
+use Rattle.ly_base.specs.Blank.{is_blank}
 use Rattle.ly_ere.specs.Elements.{Quoted}
-use Rattle.ly_ere.specs.Expression.{Expression}
+use Rattle.ly_ere.specs.Expression.{Expression, set}
+use Rattle.ly_ere.specs.Names.{Definition}
 use Rattle.ly_ere.specs.Patterns.{IsBehind, IsExpression}
-use Rattle.ly_ere.specs.declared.pattern.Pattern.{Pattern}
 
 -- the relation says nothing of the front of the text
 abbrev pub BeginsNo : {A : Type 0} → (List ℕ → A → List ℕ → Type 0) → List ℕ → Type 0
@@ -22,15 +23,29 @@ IsMore b more bs rest = (cs : List ℕ) × (bs ≡ b ∷ cs) × Quoted more cs r
 abbrev pub IsQuotedByte : List ℕ → ℕ → ℕ → Type 0
 IsQuotedByte text b n = (bs rest : List ℕ) → Quoted text bs rest ↔ IsMore b (drop n text) bs rest
 
--- The first n bytes of the line are the expression, and behind them stands what may stand behind a pattern.
-pub record IsFrontExpression (line : List ℕ) (e : Expression) (n : ℕ) : Type 0 where
-  pub within : n ≤ length line
-  pub is_expression : IsExpression (take n line) e
-  pub follows : IsBehind (drop n line)
+-- what may stand behind one side of a pattern: what may stand behind the pattern, `/` or `$`
+abbrev pub CanEnd : List ℕ → Type 0
+CanEnd [] = Unit {0}
+CanEnd (b ∷ line) = IsTrue (is_blank b || nat_eq b 47 || nat_eq b 36)
 
--- The pattern is the expression, whatever is before and behind it.
-pub record IsPatternOf (e : Expression) (p : Pattern) : Type 0 where
-  pub head : p.head ≡ e
-  pub anywhere : p.line_start ≡ false
-  pub no_tail : p.tail ≡ None
-  pub no_cut : p.cut ≡ Whole
+-- The first n bytes of the line are the expression, and behind them stands what may stand behind a side.
+pub record IsFrontExpression (names : List Definition) (line : List ℕ) (e : Expression) (n : ℕ) : Type 0 where
+  pub within : n ≤ length line
+  pub is_expression : IsExpression names (take n line) e
+  pub follows : CanEnd (drop n line)
+
+-- What stands behind a head, up to what may stand behind a pattern: nothing, `$`, or `/` and a tail.
+pub data IsFrontTail (names : List Definition) : List ℕ → Option Expression → ℕ → Type 0 where
+  none : (line : List ℕ) → IsBehind line → IsFrontTail names line None 0
+  newline : (rest : List ℕ) → IsBehind rest → IsFrontTail names (36 ∷ rest) (Some (set (10 ∷ []))) 1
+  tail : (rest : List ℕ) (f : Expression) (m : ℕ) → IsFrontExpression names rest f m → IsBehind (drop m rest)
+      → IsFrontTail names (47 ∷ rest) (Some f) (m + 1)
+
+-- A head, and what stands behind it, take n bytes in all.
+pub record IsFrontTailed (names : List Definition) (line : List ℕ) (e : Expression) (t : Option Expression) (n : ℕ)
+    : Type 0 where
+  pub at : ℕ
+  pub more : ℕ
+  pub head : IsFrontExpression names line e at
+  pub tail : IsFrontTail names (drop at line) t more
+  pub is : n ≡ at + more

@@ -1,8 +1,10 @@
 -- Groups that are being read, as expressions, and what an element makes of them.
-use Rattle.std.specs.Prelude.{List, [], ◌∷◌, Option, Some, None}
-use Rattle.ly_ere.specs.Expression.{Expression, set, concat, either, star, plus, optional}
+use Rattle.std.specs.Prelude.{ℕ, List, [], ◌∷◌, Option, Some, None}
+use Rattle.ly_ere.specs.Expression.{Expression, set, concat, either, star, plus, optional, repeat, name}
 use Rattle.ly_ere.specs.Grammar.{in_order}
-use Rattle.ly_ere.specs.Elements.{Element, one_of, string, opening, closing, bar, asterisk, plus_sign, question_mark}
+use Rattle.ly_ere.specs.Elements.{Element, one_of, string, named, interval, opening, closing, bar, asterisk, plus_sign}
+use Rattle.ly_ere.specs.Elements.{question_mark, caret, dollar_sign, slash}
+use Rattle.ly_ere.specs.Names.{Definition, number_of}
 
 -- A group: its finished branches, and of the open branch the last piece and all before it.
 pub record Group : Type 0 where
@@ -47,6 +49,15 @@ with_piece g f (Some p) = Some (record { before = g.before; branch = g.branch; p
 abbrev pub with_postfix : Group → (Expression → Expression) → Option Group
 with_postfix g f = with_piece g f g.piece
 
+-- an operator over all of a branch, if there is one
+abbrev pub with_branch : Group → (Expression → Expression) → Option Expression → Option Group
+with_branch g f None = None
+with_branch g f (Some b) = Some (record { before = g.before; branch = Some (f b); piece = None })
+
+-- an interval over all of the open branch; no other operator follows it
+abbrev pub with_interval : Group → ℕ → Option ℕ → Option Group
+with_interval g m n = with_branch g (repeat m n) (open_branch g)
+
 -- a new branch after finished ones
 abbrev pub after_bar : Option Expression → Option Group
 after_bar None = None
@@ -72,16 +83,26 @@ closed [] _ = None
 closed (g ∷ gs) None = None
 closed (g ∷ gs) (Some e) = Some (record { outer = gs; group = with_atom g e })
 
+-- one more name, if it has a definition
+abbrev pub with_name : Reading → Option ℕ → Option Reading
+with_name r None = None
+with_name r (Some x) = Some (record { outer = r.outer; group = with_atom r.group (name x) })
+
 -- after one more element
-abbrev pub step : Element → Reading → Option Reading
-step (one_of bytes) r = Some (record { outer = r.outer; group = with_atom r.group (set bytes) })
-step (string bytes) r = Some (record { outer = r.outer; group = with_atom r.group (in_order bytes) })
-step opening r = Some (record { outer = r.group ∷ r.outer; group = new_group })
-step closing r = closed r.outer (whole r.group)
-step bar r = inside r.outer (with_bar r.group)
-step asterisk r = inside r.outer (with_postfix r.group star)
-step plus_sign r = inside r.outer (with_postfix r.group plus)
-step question_mark r = inside r.outer (with_postfix r.group optional)
+abbrev pub step : List Definition → Element → Reading → Option Reading
+step names (one_of bytes) r = Some (record { outer = r.outer; group = with_atom r.group (set bytes) })
+step names (string bytes) r = Some (record { outer = r.outer; group = with_atom r.group (in_order bytes) })
+step names (named n) r = with_name r (number_of names n)
+step names opening r = Some (record { outer = r.group ∷ r.outer; group = new_group })
+step names closing r = closed r.outer (whole r.group)
+step names bar r = inside r.outer (with_bar r.group)
+step names asterisk r = inside r.outer (with_postfix r.group star)
+step names plus_sign r = inside r.outer (with_postfix r.group plus)
+step names question_mark r = inside r.outer (with_postfix r.group optional)
+step names (interval m n) r = inside r.outer (with_interval r.group m n)
+step names caret r = None
+step names dollar_sign r = None
+step names slash r = None
 
 -- a reading after another, if there is one
 abbrev pub and_then : Option Reading → (Reading → Option Reading) → Option Reading
@@ -89,9 +110,9 @@ and_then None f = None
 and_then (Some r) f = f r
 
 -- after elements
-abbrev pub after_all : List Element → Reading → Option Reading
-after_all [] r = Some r
-after_all (w ∷ ws) r = and_then (step w r) (after_all ws)
+abbrev pub after_all : List Definition → List Element → Reading → Option Reading
+after_all names [] r = Some r
+after_all names (w ∷ ws) r = and_then (step names w r) (after_all names ws)
 
 -- nothing is read
 abbrev pub start : Reading

@@ -1,4 +1,5 @@
 use Rattle.std.proofs.Common.{◌∙◌, List, ap, subst, sym}
+use Rattle.ly_ere.specs.Names.{defined}
 use Rattle.ly_ere.specs.declared.pattern.Rule.{Rule}
 use Rattle.ly_position.specs.Nfa.{Nfa}
 use Rattle.ly_position.specs.Patterns.{ArePositions}
@@ -14,12 +15,13 @@ answer_by-requires g c =
     let file = c.args.file.now in
     let spelled = c.requires.spelled.1 in
     let walk = c.in_ok-walk.walk in
-    let positions : ArePositions file.names file.rules.items file.conditions c.in_ok-nfa.nfa =
-    subst (λ (rs : List Rule). ArePositions file.names rs file.conditions c.in_ok-nfa.nfa) c.deref.ensures.value
+    let positions : ArePositions (defined file.names) file.rules.items file.conditions c.in_ok-nfa.nfa =
+    subst (λ (rs : List Rule). ArePositions (defined file.names) rs file.conditions c.in_ok-nfa.nfa)
+    c.deref.ensures.value
     c.in_ok-nfa.ensures.positions in
     let agrees = file_agrees c.requires.spelled.0 file file.conditions c.in_ok-nfa.nfa spelled spelled.one_condition
     positions in
-    subst (λ (s : Scanner). Agrees file.names file.rules.items s)
+    subst (λ (s : Scanner). Agrees (defined file.names) file.rules.items s)
     (sym (scanner_of (position_walk c.in_ok-nfa.nfa) (position_walk walk.nfa.now) (cut_in file.rules.items)
     (cut_in walk.rules.now) (ap (λ (n : Nfa). position_walk n) c.in_ok-walk.ensures.nfa)
     (ap (λ (rs : List Rule). cut_in rs) (c.in_ok-walk.ensures.rules ∙ c.deref-2.ensures.value)))) agrees

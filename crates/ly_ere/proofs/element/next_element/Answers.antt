@@ -1,6 +1,6 @@
 use Rattle.std.proofs.Common.{get_or, arith, refl}
 use Rattle.std.proofs.lemmas.Bool.Decides.{nat_tests}
-use Rattle.ly_ere.specs.Elements.{opening, closing, bar, asterisk, plus_sign, question_mark}
+use Rattle.ly_ere.specs.Elements.{opening, closing, bar, asterisk, plus_sign, question_mark, caret, dollar_sign, slash}
 use Rattle.ly_ere.proofs.NextElementLemmas.{dot_next, plain_next, sign_next}
 use Rattle.ly_ere.proofs.element.next_element.Goals as goal
 
@@ -21,6 +21,15 @@ returns-in-43 c = sign_next c.args.text.now c.requires 43 _ plus_sign c.in-43.is
 
 pub returns-in-63 : goal.returns-in-63
 returns-in-63 c = sign_next c.args.text.now c.requires 63 _ question_mark c.in-63.is refl tt refl
+
+pub returns-in-94 : goal.returns-in-94
+returns-in-94 c = sign_next c.args.text.now c.requires 94 _ caret c.in-94.is refl tt refl
+
+pub returns-in-36 : goal.returns-in-36
+returns-in-36 c = sign_next c.args.text.now c.requires 36 _ dollar_sign c.in-36.is refl tt refl
+
+pub returns-in-47 : goal.returns-in-47
+returns-in-47 c = sign_next c.args.text.now c.requires 47 _ slash c.in-47.is refl tt refl
 
 pub returns-in-46 : goal.returns-in-46
 returns-in-46 c

@@ -3,7 +3,7 @@ use Rattle.std.proofs.lemmas.Bool.Decides.{nat_tests}
 use Rattle.std.proofs.lemmas.List.{nil_from_length}
 use Rattle.std.proofs.lemmas.Result.{err_from_is_err_and}
 use Rattle.ly_base.proofs.EscapeLemmas.{whole_slice}
-use Rattle.ly_ere.specs.Patterns.{IsBehind}
+use Rattle.ly_ere.specs.Private.Front.{CanEnd}
 use Rattle.ly_ere.specs.Private.Levels.{group_of, reading_of}
 use Rattle.ly_ere.proofs.ReadLemmas.{IsRead, init_reading, last_reading, no_element, no_open, no_step}
 use Rattle.ly_ere.proofs.ReadLemmas.{no_whole, read_start, read_step, read_whole}
@@ -14,22 +14,22 @@ loop-arena-init c = record {
   within = omega arith;
   parts = c.new-level.ensures.parts _;
   outer_parts = λ k d less. absurd (omega (arith, ap length c.new-outer.ensures.items));
-  read = subst (λ r. IsRead c.args.line.now c.args.line.now r)
+  read = subst (λ r. IsRead c.args.names.now c.args.line.now c.args.line.now r)
       (sym (init_reading c.new-arena.result c.new-outer.result.items c.new-level.result c.new-outer.ensures.items
-      (c.new-level.ensures.empty c.new-arena.result))) (read_start c.args.line.now);
+      (c.new-level.ensures.empty c.new-arena.result))) (read_start c.args.names.now c.args.line.now);
 }
 
 pub returns-in_err-element-clause-refused : goal.returns-in_err-element-clause-refused
 returns-in_err-element-clause-refused c =
     let fault = err_from_is_err_and c.from_residual.result c.from_residual.ensures.1 in
-    let goes_on : IsBehind (drop c.loop-arena.at c.args.line.now) → ⊥ = rw whole_slice at c.loop-arena-test.ensures in
+    let goes_on : CanEnd (drop c.loop-arena.at c.args.line.now) → ⊥ = rw whole_slice at c.loop-arena-test.ensures in
     rw (fault.1, fault.2) (λ _. no_element c.loop-arena.invariant.read goes_on
     (rw whole_slice at c.in_err-element.ensures))
 
 pub returns-in_err-level-clause-refused : goal.returns-in_err-level-clause-refused
 returns-in_err-level-clause-refused c =
     let fault = err_from_is_err_and c.from_residual-in_err-level.result c.from_residual-in_err-level.ensures.1 in
-    let goes_on : IsBehind (drop c.loop-arena.at c.args.line.now) → ⊥ = rw whole_slice at c.loop-arena-test.ensures in
+    let goes_on : CanEnd (drop c.loop-arena.at c.args.line.now) → ⊥ = rw whole_slice at c.loop-arena-test.ensures in
     rw (fault.1, fault.2)
     (λ other. no_step c.loop-arena.invariant.read goes_on c.in_ok-element.element c.in_ok-element.length
     (rw whole_slice at c.in_ok-element.ensures) (c.in_err-level.ensures.refused other))
@@ -38,7 +38,7 @@ pub loop-arena-preserved : goal.loop-arena-preserved
 loop-arena-preserved c =
     let line = c.args.line.now in
     let at = c.loop-arena.at in
-    let goes_on : IsBehind (drop at line) → ⊥ = rw whole_slice at c.loop-arena-test.ensures in
+    let goes_on : CanEnd (drop at line) → ⊥ = rw whole_slice at c.loop-arena-test.ensures in
     let here = rw whole_slice at c.in_ok-element.ensures in
     let found = c.in_ok-level.ensures.step in
     let next = reading_of c.with_element.new.arena c.with_element.new.outer.items c.in_ok-level.level in
@@ -54,19 +54,19 @@ loop-arena-preserved c =
 pub returns-then-not-is_empty-clause-refused : goal.returns-then-not-is_empty-clause-refused
 returns-then-not-is_empty-clause-refused c = λ _.
     let now = c.loop-arena in
-    let here : IsBehind (drop now.at c.args.line.now) = rw whole_slice at c.loop-arena-test.ensures in
+    let here : CanEnd (drop now.at c.args.line.now) = rw whole_slice at c.loop-arena-test.ensures in
     no_open now.arena now.outer.items now.level now.invariant.read here (grind (arith, nat_tests))
 
 pub returns-in_err-root-clause-refused : goal.returns-in_err-root-clause-refused
 returns-in_err-root-clause-refused c =
     let fault = err_from_is_err_and c.from_residual-in_err-root.result c.from_residual-in_err-root.ensures.1 in
-    let here : IsBehind (drop c.loop-arena.at c.args.line.now) = rw whole_slice at c.loop-arena-test.ensures in
+    let here : CanEnd (drop c.loop-arena.at c.args.line.now) = rw whole_slice at c.loop-arena-test.ensures in
     rw (fault.1, fault.2) (λ other. no_whole c.loop-arena.invariant.read here (c.in_err-root.ensures.refused other))
 
 pub returns-clause-ok : goal.returns-clause-ok
 returns-clause-ok c =
     let now = c.loop-arena in
-    let here : IsBehind (drop now.at c.args.line.now) = rw whole_slice at c.loop-arena-test.ensures in
+    let here : CanEnd (drop now.at c.args.line.now) = rw whole_slice at c.loop-arena-test.ensures in
     rw c.of.ensures (read_whole now.invariant.read (group_of now.arena now.level) _ now.at now.invariant.within refl
     here
     (last_reading now.arena now.outer.items now.level (nil_from_length now.outer.items (grind (arith, nat_tests))))

@@ -10,7 +10,7 @@ invariant-loop-arena l = record {
   within : l.at ≤ length l.line;
   parts : IsWithin (length l.arena) l.level;
   outer_parts : All (IsWithin (length l.arena)) l.outer.items;
-  read : IsRead l.line (drop l.at l.line) (reading_of l.arena l.outer.items l.level);
+  read : IsRead l.names l.line (drop l.at l.line) (reading_of l.arena l.outer.items l.level);
 }
 
 abbrev pub decreases-loop-arena : goal.decreases-loop-arena

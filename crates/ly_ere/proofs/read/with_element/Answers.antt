@@ -1,4 +1,4 @@
-use Rattle.std.proofs.Common.{◌≡◌, length, refl}
+use Rattle.std.proofs.Common.{◌≡◌, ap, length, refl, rules, sym}
 use Rattle.std.proofs.Common.{List, Some, ◌∙◌}
 use Rattle.std.specs.Prelude.{All}
 use Rattle.std.proofs.lemmas.List.Elements.{All-push}
@@ -7,27 +7,34 @@ use Rattle.ly_base.specs.ByteSet.{members}
 use Rattle.ly_ere.specs.declared.level.Level.{Level}
 use Rattle.ly_ere.specs.declared.element.Postfix.{Postfix}
 use Rattle.ly_ere.specs.declared.element.Postfix.TheVariants.{Asterisk, PlusSign, QuestionMark}
-use Rattle.ly_ere.specs.Expression.{Expression, set}
+use Rattle.ly_ere.specs.Expression.{Expression, name, set}
 use Rattle.ly_ere.specs.Grammar.{in_order}
-use Rattle.ly_ere.specs.Private.Groups.{Reading, inside, step, with_bar, with_postfix}
+use Rattle.ly_ere.specs.Names.{Definition, number_of}
+use Rattle.ly_ere.specs.Private.Groups.{Reading, inside, step, with_bar, with_interval, with_name, with_postfix}
 use Rattle.ly_ere.specs.Private.Levels.{IsExtended, IsWithin, group_of, operated, reading_of}
 use Rattle.ly_ere.specs.Private.Elements.{operator_element}
-use Rattle.ly_ere.specs.Elements.{one_of, string, opening, closing, bar}
+use Rattle.ly_ere.specs.Elements.{one_of, string, named, interval, opening, closing, bar}
 use Rattle.ly_ere.proofs.LevelLemmas.{atom_step, grows_push, grows_trans, inside_step, open_step, part_last}
 use Rattle.ly_ere.proofs.LevelLemmas.{within_grown}
 use Rattle.ly_ere.proofs.read.with_element.Goals as goal
 
-step_postfix : (p : Postfix) (r : Reading)
-    → step (operator_element p) r ≡ inside r.outer (with_postfix r.group (operated p))
-step_postfix Asterisk r = refl
-step_postfix PlusSign r = refl
-step_postfix QuestionMark r = refl
+step_postfix : (names : List Definition) (p : Postfix) (r : Reading)
+    → step names (operator_element p) r ≡ inside r.outer (with_postfix r.group (operated p))
+step_postfix names Asterisk r = refl
+step_postfix names PlusSign r = refl
+step_postfix names QuestionMark r = refl
 
-operator_step : (p : Postfix) (old new : List Expression) (items : List Level) (level l : Level) → IsExtended old new
+operator_step : (names : List Definition) (p : Postfix) (old new : List Expression) (items : List Level)
+    (level l : Level) → IsExtended old new
     → All (IsWithin (length old)) items → with_postfix (group_of old level) (operated p) ≡ Some (group_of new l)
-    → step (operator_element p) (reading_of old items level) ≡ Some (reading_of new items l)
-operator_step p old new items level l g parts e = step_postfix p (reading_of old items level)
+    → step names (operator_element p) (reading_of old items level) ≡ Some (reading_of new items l)
+operator_step names p old new items level l g parts e = step_postfix names p (reading_of old items level)
     ∙ inside_step old new items l (with_postfix (group_of old level) (operated p)) g parts e
+
+-- the number of a name
+name_found : (c : goal.In_ok-with_atom-in-Name) → number_of c.args.names.now c.in-Name.name.now
+    ≡ Some c.in_ok-number-in-Name.number
+name_found c = sym c.find.ensures ∙ search rules
 
 pub returns-in_ok-with_atom-in-OneOf-clause-outer_parts : goal.returns-in_ok-with_atom-in-OneOf-clause-outer_parts
 returns-in_ok-with_atom-in-OneOf-clause-outer_parts c
@@ -64,6 +71,25 @@ returns-in_ok-with_atom-in-String-clause-step c = let found = c.in_ok-atom-in-St
           c.in_ok-with_atom-in-String.field-0 c.in_ok-atom-in-String.atom (in_order found.0) c.requires.parts found.3
           c.in_ok-with_atom-in-String.ensures.atom,
     )
+
+pub returns-in_ok-with_atom-in-Name-clause-outer_parts : goal.returns-in_ok-with_atom-in-Name-clause-outer_parts
+returns-in_ok-with_atom-in-Name-clause-outer_parts c
+    = within_grown c.args.arena.now _ _
+    (grows_trans c.args.arena.now _ _ (grows_push _ _ _ c.in_ok-atom-in-Name.ensures.ok)
+    c.in_ok-with_atom-in-Name.ensures.grown) c.requires.outer_parts
+
+pub returns-in_ok-with_atom-in-Name-clause-step : goal.returns-in_ok-with_atom-in-Name-clause-step
+returns-in_ok-with_atom-in-Name-clause-step c = rw c.in-Name.is (
+  named c.in-Name.name.now,
+  refl,
+  ap (with_name (reading_of c.args.arena.now c.args.outer.now.items c.args.level)) (name_found c)
+      ∙ atom_step c.args.arena.now c.push-in-Name.new.self c.with_atom-in-Name.new.arena c.args.outer.now.items
+      c.args.level (grows_push _ _ _ c.in_ok-atom-in-Name.ensures.ok) c.in_ok-with_atom-in-Name.ensures.grown
+      c.requires.outer_parts c.in_ok-with_atom-in-Name.field-0 c.in_ok-atom-in-Name.atom
+      (name c.in_ok-number-in-Name.number) c.requires.parts
+      (part_last c.args.arena.now c.push-in-Name.new.self _ c.in_ok-atom-in-Name.atom c.in_ok-atom-in-Name.ensures.ok
+      c.in_ok-atom-in-Name.ensures.number) c.in_ok-with_atom-in-Name.ensures.atom,
+)
 
 pub returns-in_ok-push-in-Opening-clause-parts : goal.returns-in_ok-push-in-Opening-clause-parts
 returns-in_ok-push-in-Opening-clause-parts c = c.new.ensures.parts _
@@ -115,6 +141,26 @@ returns-in-Postfix-clause-step c
     (λ l e. (
       operator_element c.in-Postfix.postfix,
       refl,
-      operator_step c.in-Postfix.postfix c.args.arena.now c.with_postfix.new.arena c.args.outer.now.items c.args.level l
+      operator_step c.args.names.now c.in-Postfix.postfix c.args.arena.now c.with_postfix.new.arena
+          c.args.outer.now.items c.args.level l
           c.with_postfix.ensures.grown c.requires.outer_parts e,
     )) c.with_postfix.ensures.operator)
+
+pub returns-in-Interval-clause-outer_parts : goal.returns-in-Interval-clause-outer_parts
+returns-in-Interval-clause-outer_parts c
+    = IfOk-weaker c.with_interval.result _ _
+    (λ _ _. within_grown c.args.arena.now _ _ c.with_interval.ensures.grown c.requires.outer_parts)
+    c.with_interval.ensures.parts
+
+pub returns-in-Interval-clause-step : goal.returns-in-Interval-clause-step
+returns-in-Interval-clause-step c
+    = rw c.in-Interval.is
+    (IfOk-weaker c.with_interval.result _ _
+    (λ l e. (
+      interval c.in-Interval.least c.in-Interval.most,
+      refl,
+      inside_step c.args.arena.now c.with_interval.new.arena c.args.outer.now.items l
+          (with_interval (group_of c.args.arena.now c.args.level) c.in-Interval.least c.in-Interval.most)
+          c.with_interval.ensures.grown c.requires.outer_parts e,
+    ))
+    c.with_interval.ensures.interval)

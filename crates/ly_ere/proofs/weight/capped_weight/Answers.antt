@@ -3,7 +3,7 @@ use Rattle.std.specs.Prelude.{min}
 use Rattle.std.proofs.lemmas.List.{get_or-map}
 use Rattle.ly_ere.specs.Arena.{expressions}
 use Rattle.ly_ere.specs.Expression.{empty}
-use Rattle.ly_ere.specs.Private.Weights.{weight_at}
+use Rattle.ly_ere.specs.Weight.{weight_at}
 use Rattle.ly_ere.specs.Weight.{weight_under}
 use Rattle.ly_ere.proofs.ArenaLemmas.{length-expressions}
 use Rattle.ly_ere.proofs.weight.capped_weight.Goals as goal

@@ -6,7 +6,7 @@ use Rattle.ly_ere.specs.declared.node.Node.{Node}
 use Rattle.ly_base.specs.declared.byte_set.ByteSet.{ByteSet}
 use Rattle.ly_ere.specs.Arena.{expressions, expression_of}
 use Rattle.ly_ere.specs.Expression.{Expression}
-use Rattle.ly_ere.specs.Private.Weights.{weight_at}
+use Rattle.ly_ere.specs.Weight.{weight_at}
 use Rattle.ly_ere.specs.Weight.{weight_under}
 use Rattle.ly_ere.proofs.ArenaLemmas.{expressions-take}
 use Rattle.ly_ere.proofs.WeightLemmas.{push_capped}

@@ -1,7 +1,7 @@
 use Rattle.std.proofs.Common.{◌≡◌, ◌≤◌, ℕ, map, take, get_or, length}
 use Rattle.std.specs.Prelude.{min}
 use Rattle.ly_ere.specs.Arena.{expressions}
-use Rattle.ly_ere.specs.Private.Weights.{weight_at}
+use Rattle.ly_ere.specs.Weight.{weight_at}
 use Rattle.ly_ere.specs.Weight.{weight_under}
 use Rattle.ly_ere.proofs.weight.capped_weights.Given as goal
 

@@ -1,6 +1,6 @@
 use Rattle.std.proofs.Common.{inl, inr}
 use Rattle.ly_lexread.proofs.ActionLemmas.{at_semicolon, at_name, at_byte, says_nothing, says_returned, says_name}
-use Rattle.ly_lexread.proofs.ActionLemmas.{says_literal, says_other}
+use Rattle.ly_lexread.proofs.ActionLemmas.{says_literal, says_other, says_text_byte}
 use Rattle.ly_lexread.proofs.FrontLemmas.{by_test}
 use Rattle.ly_lexread.proofs.action.said.Goals as goal
 
@@ -29,11 +29,14 @@ returns-else-is_return c = λ m.
     says_name text n.now rest m (at_name text rest c.next_word.result.0 n c.in-Name.is c.next_word.ensures)
     c.if-is_return.ensures
 
-pub returns-in-Byte : goal.returns-in-Byte
-returns-in-Byte c = λ m s.
+pub returns-in-TextByte : goal.returns-in-TextByte
+returns-in-TextByte c = λ m s.
     let text = c.args.text.now in
     let rest = c.next_word.result.1.now in
-    elim c.in-Byte.is [
-      | inl w ↦ says_literal text rest w.0 m (at_byte text rest c.next_word.result.0 w.0 w.1 c.next_word.ensures) s
-      | inr e ↦ says_other text rest c.next_word.result.0 m e c.next_word.ensures s
+    elim c.in-TextByte.is [
+      | inl e ↦ says_text_byte text rest c.next_word.result.0 m e c.next_word.ensures s
+      | inr k ↦ elim k [
+        | inl w ↦ says_literal text rest w.0 m (at_byte text rest c.next_word.result.0 w.0 w.1 c.next_word.ensures) s
+        | inr e ↦ says_other text rest c.next_word.result.0 m e c.next_word.ensures s
+      ]
     ]

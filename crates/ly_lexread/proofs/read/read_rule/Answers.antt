@@ -1,6 +1,6 @@
 use Rattle.std.proofs.Common.{drop}
 use Rattle.ly_base.proofs.EscapeLemmas.{whole_slice}
-use Rattle.ly_ere.proofs.PatternLaws.{front_pattern_one}
+use Rattle.ly_ere.proofs.FrontLaws.{front_pattern_one}
 use Rattle.ly_lexread.specs.Action.{IsAction}
 use Rattle.ly_lexread.specs.Rules.{MayBeRule}
 use Rattle.ly_lexread.proofs.AnswerLemmas.{answer_fault, answer_pattern}

@@ -12,5 +12,6 @@ returns-in-None-2 c =
     other_front c.args.text.now word c.after_gap-text.ensures.before c.after_gap-text.ensures.stops
     (at_none c.literal.result _ _ c.in_default.not-Some c.literal.ensures.none)
     (at_none c.leading_name.result _ _ c.in_default-leading_name.not-Some c.leading_name.ensures)
+    (at_none c.behind_text_byte.result _ _ c.in_default-behind_text_byte.not-Some c.behind_text_byte.ensures)
     (strip_prefix_is Decides-eqb word (59 ∷ []) None c.in-None.ensures.cases)
     (λ e. some_not_none word (some_byte c.is_empty.result word c.is_empty.ensures c.if-is_empty.false) e)

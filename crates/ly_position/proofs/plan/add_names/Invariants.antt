@@ -1,5 +1,6 @@
 use Rattle.std.proofs.Common.{◌≡◌, ℕ, length}
 use Rattle.std.specs.Prelude.{All}
+use Rattle.ly_ere.specs.Names.{defined}
 use Rattle.ly_ere.specs.Expression.{NamedUpTo}
 use Rattle.ly_position.specs.Private.Plain.{IsPlainPart, Same}
 use Rattle.ly_position.specs.Private.Plan.{ListedMatches}
@@ -10,5 +11,6 @@ abbrev pub invariant-loop-definition : goal.invariant-loop-definition
 invariant-loop-definition l = record {
   count : length l.definitions.items ≡ l.definition-index;
   within : All (IsPlainPart (length l.plain)) l.definitions.items;
-  spells : (x : ℕ) → Same (ListedMatches l.plain l.definitions.items x) (NamedUpTo l.names l.definition-index x);
+  spells : (x : ℕ) → Same (ListedMatches l.plain l.definitions.items x)
+      (NamedUpTo (defined l.names) l.definition-index x);
 }

@@ -2,6 +2,7 @@ use Rattle.std.proofs.Common.{◌≡◌, ◌∷◌, [], ℕ, List, Option, Some,
 use Rattle.std.proofs.Common.{le_antisymm, refl}
 use Rattle.std.specs.Prelude.{slice_get}
 use Rattle.std.proofs.lemmas.Option.{slice_get_read, slice_get_within}
+use Rattle.ly_ere.specs.Names.{defined}
 use Rattle.ly_position.specs.Private.Plain.{Makes}
 use Rattle.ly_position.specs.Private.Plan.{ListedMatches, SpelledUnder}
 use Rattle.ly_position.proofs.PlanLemmas.{rules_names_within, rules_named, rules_within, rules_more}
@@ -11,7 +12,7 @@ pub loop-rule-preserved : goal.loop-rule-preserved
 loop-rule-preserved c =
     let before = c.loop-rule.invariant in
     let i = c.loop-rule.rule-index in
-    let names = c.args.names.now in
+    let names = (defined c.args.names.now) in
     let rules = c.args.rules.now in
     let ds = c.in_ok-definitions.definitions.items in
     let ps = c.loop-rule.parts.items in

@@ -1,4 +1,4 @@
-use Rattle.std.proofs.Common.{List, ℕ, ap, not, subst, sym}
+use Rattle.std.proofs.Common.{not, subst, sym}
 use Rattle.ly_base.proofs.MemberLemmas.{SameMembers}
 use Rattle.ly_position.specs.declared.set.PositionSet.{PositionSet}
 use Rattle.ly_engine.specs.PositionWalk.{next_set}

@@ -1,0 +1,124 @@
+ghost use Rattle.std.specs.Prelude.{◌≡◌, ◌<◌, ◌≤◌, ℕ, List, ◌∷◌, Option, drop, length, slice_index, IfSome};
+ghost use Rattle.std.specs.Prelude.{MatchOption};
+ghost use Rattle.ly_base.specs.Escapes.{AllPass, number};
+ghost use Rattle.ly_base.specs.Language.{is_decimal, NameBefore};
+ghost use Rattle.ly_base.specs.declared.language.Language.TheVariants.{Lex};
+ghost use Rattle.ly_ere.specs.Elements.{Bounds, Times};
+ghost use Rattle.ly_ere.specs.Private.Elements.{ReadsElement};
+
+use crate::element::Element;
+use crate::fault::SyntaxFault;
+use crate::front::behind_byte;
+use ly_base::{Language, leading_digits, leading_name};
+
+/// The name or the interval at the front, whose first byte is `{`. A letter or `_` begins a name.
+pub(crate) fn braced(text: &[u8]) -> Result<(Element<'_>, usize), SyntaxFault>
+    requires some { 0 < length text.now }
+    requires opening { slice_index text.now 0 ≡ 123 }
+    ensures { ReadsElement text.entry.now result }
+{
+    match leading_name(&text[1..], Language::Lex) {
+        Some((name, behind)) => closed_name(text, name, behind),
+        None => interval(text),
+    }
+}
+
+/// The name at the front, if a `}` closes it; `behind` is what stands behind the name.
+fn closed_name<'t>(
+    text: &'t [u8],
+    name: &'t [u8],
+    behind: &'t [u8],
+) -> Result<(Element<'t>, usize), SyntaxFault>
+    requires some { 0 < length text.now }
+    requires opening { slice_index text.now 0 ≡ 123 }
+    requires name { NameBefore Lex (drop 1 text.now) name.now behind.now }
+    ensures { ReadsElement text.entry.now result }
+{
+    match behind_byte(behind, b'}') {
+        Some(_rest) => Ok((Element::Name(name), name.len() + 2)),
+        None => Err(SyntaxFault::UnknownName),
+    }
+}
+
+/// The interval at the front, whose first byte is `{`.
+fn interval(text: &[u8]) -> Result<(Element<'_>, usize), SyntaxFault>
+    requires some { 0 < length text.now }
+    requires opening { slice_index text.now 0 ≡ 123 }
+    requires no_name { (name rest : List ℕ) → NameBefore Lex (drop 1 text.now) name rest → ⊥ }
+    ensures { ReadsElement text.entry.now result }
+{
+    match bounds(&text[1..]) {
+        Some((least, most, rest)) => {
+            let length = text.len() - rest.len();
+            Ok((Element::Interval { least, most }, length))
+        }
+        None => Err(SyntaxFault::BadInterval),
+    }
+}
+
+/// The bounds of an interval behind its `{`, and what stands behind its `}`.
+fn bounds(text: &[u8]) -> Option<(u8, Option<u8>, &[u8])>
+    ensures shorter { IfSome result (λ found. length found.2.now ≤ length text.now) }
+    ensures bounds { MatchOption result ((m : ℕ) (n : Option ℕ) (rest : List ℕ) → Bounds text.now m n rest → ⊥)
+        (λ found. Bounds text.now found.0 found.1 found.2.now) }
+{
+    let Some((least, behind)) = times(text) else {
+        return None;
+    };
+    if let Some(rest) = behind_byte(behind, b'}') {
+        return Some((least, Some(least), rest));
+    }
+    let Some(behind) = behind_byte(behind, b',') else {
+        return None;
+    };
+    if let Some(rest) = behind_byte(behind, b'}') {
+        return Some((least, None, rest));
+    }
+    let Some((most, rest)) = upper_bound(behind, least) else {
+        return None;
+    };
+    Some((least, Some(most), rest))
+}
+
+/// The second number of an interval, if it is at least the first one and a `}` follows, and what stands behind that.
+fn upper_bound(text: &[u8], least: u8) -> Option<(u8, &[u8])>
+    ensures { MatchOption result ((n : ℕ) (rest : List ℕ) → Times text.now n (125 ∷ rest) → least ≤ n → ⊥)
+        (λ found. Times text.now found.0 (125 ∷ found.1.now) × (least ≤ found.0)) }
+{
+    let Some((most, behind)) = times(text) else {
+        return None;
+    };
+    match behind_byte(behind, b'}') {
+        Some(rest) if least <= most => Some((most, rest)),
+        _ => None,
+    }
+}
+
+/// The number of times at the front, if there is one that is at most 255, and what stands behind it.
+fn times(text: &[u8]) -> Option<(u8, &[u8])>
+    ensures { MatchOption result ((m : ℕ) (rest : List ℕ) → Times text.now m rest → ⊥)
+        (λ found. Times text.now found.0 found.1.now) }
+{
+    let Some((digits, rest)) = leading_digits(text) else {
+        return None;
+    };
+    let Some(times) = number(digits) else {
+        return None;
+    };
+    Some((times, rest))
+}
+
+/// The number that decimal digits spell, if it is at most 255.
+fn number(digits: &[u8]) -> Option<u8>
+    requires { AllPass is_decimal digits.now }
+    ensures { MatchOption result (255 < number 10 digits.now) (λ n. n ≡ number 10 digits.now) }
+{
+    let mut number: u32 = 0;
+    for digit in digits {
+        number = number * 10 + u32::from(*digit - b'0');
+        if number > 255 {
+            return None;
+        }
+    }
+    u8::try_from(number).ok()
+}

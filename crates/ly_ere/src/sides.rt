@@ -1,0 +1,119 @@
+ghost use Rattle.std.specs.Prelude.{◌≡◌, ◌≢◌, ◌∷◌, [], ℕ, List, Option, length, ◌≤◌, IfOk, IfErr};
+ghost use Rattle.ly_ere.specs.Expression.{Expression, set};
+ghost use Rattle.ly_ere.specs.Grammar.{Sides};
+ghost use Rattle.ly_ere.specs.Patterns.{HasFrontSides};
+ghost use Rattle.ly_ere.specs.Private.Front.{CanEnd, IsFrontExpression, IsFrontTail, IsFrontTailed};
+ghost use Rattle.ly_ere.specs.Private.Sides.{sides_read};
+ghost use Rattle.ly_ere.specs.declared.fault.ReadFault.TheVariants.{OutOfMemory};
+
+use crate::arena::Arena;
+use crate::fault::{ReadFault, SyntaxFault};
+use crate::front::behind_byte;
+use crate::names::Names;
+use crate::node::Node;
+use crate::re::Re;
+use crate::read::{is_behind, read_expression};
+use ly_base::ByteSet;
+use std::alloc::{AllocError, Global};
+
+/// A pattern but for its cut.
+#[derive(Drop)]
+pub(crate) struct Uncut {
+    /// Whether it matches only where a line begins.
+    pub(crate) line_start: bool,
+    /// What the token is.
+    pub(crate) head: Re,
+    /// What has to follow the token, if anything.
+    pub(crate) tail: Option<Re>,
+}
+
+/// Reads the sides of the pattern at the front of a line, and answers how many bytes they take.
+pub(crate) fn read_sides(
+    alloc: Global,
+    line: &[u8],
+    names: &Names,
+) -> Result<(Uncut, usize), ReadFault>
+    ensures ok { IfOk result (λ found. HasFrontSides names.now line.now (sides_read found.0) found.1) }
+    ensures refused { IfErr result (λ e. e ≢ OutOfMemory → (s : Sides) (n : ℕ) → HasFrontSides names.now line.now s n
+        → ⊥) }
+{
+    if let Some(rest) = behind_byte(line, b'^') {
+        let (head, tail, length) = read_tailed(alloc, rest, names)?;
+        let line_start = true;
+        return Ok((
+            Uncut {
+                line_start,
+                head,
+                tail,
+            },
+            length + 1,
+        ));
+    }
+    let (head, tail, length) = read_tailed(alloc, line, names)?;
+    let line_start = false;
+    Ok((
+        Uncut {
+            line_start,
+            head,
+            tail,
+        },
+        length,
+    ))
+}
+
+/// Reads a head and what has to follow it, and answers how many bytes they take.
+fn read_tailed(
+    alloc: Global,
+    line: &[u8],
+    names: &Names,
+) -> Result<(Re, Option<Re>, usize), ReadFault>
+    ensures within { IfOk result (λ found. found.2 ≤ length line.now) }
+    ensures ok { IfOk result (λ found. IsFrontTailed names.now line.now found.0 found.1 found.2) }
+    ensures refused { IfErr result (λ e. e ≢ OutOfMemory → (head : Expression) (tail : Option Expression) (n : ℕ)
+        → IsFrontTailed names.now line.now head tail n → ⊥) }
+{
+    let (head, at) = read_expression(alloc, line, names)?;
+    let (tail, length) = read_tail(alloc, &line[at..], names)?;
+    Ok((head, tail, at + length))
+}
+
+/// Reads what stands behind a head: nothing, `$`, or `/` and a tail.
+fn read_tail(alloc: Global, line: &[u8], names: &Names) -> Result<(Option<Re>, usize), ReadFault>
+    requires { CanEnd line.now }
+    ensures within { IfOk result (λ found. found.1 ≤ length line.now) }
+    ensures ok { IfOk result (λ found. IsFrontTail names.now line.now found.0 found.1) }
+    ensures refused { IfErr result (λ e. e ≢ OutOfMemory → (tail : Option Expression) (n : ℕ)
+        → IsFrontTail names.now line.now tail n → ⊥) }
+{
+    if is_behind(line) {
+        return Ok((None, 0));
+    }
+    if let Some(rest) = behind_byte(line, b'/') {
+        let (tail, length) = read_expression(alloc, rest, names)?;
+        if !is_behind(&rest[length..]) {
+            return Err(ReadFault::Syntax(second_fault(&rest[length..])));
+        }
+        return Ok((Some(tail), length + 1));
+    }
+    if !is_behind(&line[1..]) {
+        return Err(ReadFault::Syntax(SyntaxFault::AnchorInside));
+    }
+    Ok((Some(newline(alloc)?), 1))
+}
+
+/// What a `/` or `$` behind a tail is refused for: a `$` that isn't at the end is an anchor inside.
+fn second_fault(rest: &[u8]) -> SyntaxFault {
+    match behind_byte(rest, b'$') {
+        Some(behind) if !is_behind(behind) => SyntaxFault::AnchorInside,
+        _ => SyntaxFault::TrailingTwice,
+    }
+}
+
+/// The expression of a newline.
+fn newline(alloc: Global) -> Result<Re, AllocError>
+    ensures { IfOk result (λ re. re ≡ set (10 ∷ [])) }
+{
+    let mut arena = Arena::new(alloc);
+    let root = arena.push(Node::Set(ByteSet::of(b'\n')))?;
+    Ok(Re::of(arena, root))
+}
