@@ -1,5 +1,5 @@
 -- What a declaration says is determined.
-use Rattle.std.proofs.Common.{◌≡◌, ◌≢◌, ℕ, List, ◌∷◌, Some, None, refl, sym, ap, ◌∙◌, subst, inl, inr}
+use Rattle.std.proofs.Common.{◌≡◌, ℕ, List, ◌∷◌, Some, refl, sym, ap, ◌∙◌, subst, inl, inr}
 use Rattle.std.proofs.Common.{length, ◌<◌, ◌≤◌, arith, get_or, nat_eq}
 use Rattle.std.specs.Prelude.{if◌then◌else◌}
 use Rattle.ly_yaccread.specs.Declarations.{Declarations, Declares, FollowsDirective, Preamble, Saying, tokens}

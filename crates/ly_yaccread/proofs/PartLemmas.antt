@@ -1,5 +1,5 @@
 -- The word at the front of a text in a part of a file is determined.
-use Rattle.std.proofs.Common.{◌≡◌, ◌≢◌, ℕ, List, ◌∷◌, codes, refl, sym, ap, ◌∙◌, subst, length, length-append, ◌<◌}
+use Rattle.std.proofs.Common.{◌≡◌, ◌≢◌, ℕ, List, ◌∷◌, codes, refl, sym, ap, subst, length, length-append, ◌<◌}
 use Rattle.std.proofs.Common.{arith}
 use Rattle.ly_base.specs.Gap.{Closes, EndBefore, Gap, HasNo, last, close, opening, other as plain_byte}
 use Rattle.ly_base.specs.declared.language.Language.TheVariants.{Yacc}
@@ -8,7 +8,7 @@ use Rattle.ly_yaccread.specs.Private.Words.{IsFront, IsPartWord, word_of}
 use Rattle.ly_yaccread.specs.Words.{Word, mark, directive, name, number, literal, block, braces, other, Front, Takes}
 use Rattle.ly_yaccread.specs.Words.{IsPlain}
 use Rattle.ly_yaccread.specs.declared.part.Part.{Part}
-use Rattle.ly_yaccread.specs.declared.part.Part.TheVariants.{Declarations, Rules, Programs}
+use Rattle.ly_yaccread.specs.declared.part.Part.TheVariants.{Declarations}
 use Rattle.ly_yaccread.specs.declared.words.Mark.{Mark}
 use Rattle.ly_yaccread.specs.declared.words.Mark.TheVariants.{Block, OpenBrace}
 use Rattle.ly_yaccread.specs.declared.words.NextWord.{NextWord}
