@@ -12,7 +12,8 @@ use Rattle.std.proofs.lemmas.Option.{slice_get-map, get_or_from_slice_get}
 use Rattle.std.proofs.lemmas.List.Elements.{All-contains, Contains-get_or}
 use Rattle.ly_join.specs.Grammar.{Grammar, Rule, IsRule, Symbol, symbol_of, nonterminal}
 use Rattle.ly_join.specs.declared.symbol.Symbol as code
-use Rattle.ly_grammar.specs.Private.Search.{Progress, IsSearch, HasPlaces, AllPass, IsNumbered, Advances, GoesOn}
+use Rattle.ly_grammar.specs.Private.Search.{Progress, IsSearch, HasPlaces, SymbolsPass, HasNumberBelow, Advances,
+    SearchGoesOn}
 use Rattle.ly_grammar.specs.Private.Search.{StopsAt, HasPassed}
 use Rattle.ly_grammar.specs.Private.Search.{found}
 use Rattle.ly_grammar.specs.Private.Search.{waiting, passes, was_found, with_found, with_passed, with_waiting}
@@ -26,8 +27,8 @@ pub record IsRead (s : Progress) (p : ℕ) (r : Rule) (symbols : List code.Symbo
   pub found : marks ≡ s.found
   pub first : before ≡ slice_index_or s.passed p before
   pub within : at ≤ length symbols
-  pub passing : AllPass marks s.terminals (take before (map symbol_of symbols))
-      → AllPass marks s.terminals (take at (map symbol_of symbols))
+  pub passing : SymbolsPass marks s.terminals (take before (map symbol_of symbols))
+      → SymbolsPass marks s.terminals (take at (map symbol_of symbols))
   pub stops : (X : Symbol) → slice_get (map symbol_of symbols) at ≡ Some X → passes marks s.terminals X ≡ false
 
 -- then so many symbols of the rule's body pass
@@ -37,13 +38,13 @@ pub passed_now : (G : Grammar) (s : Progress) (p : ℕ) (r : Rule) (symbols : Li
 passed_now G s p r symbols marks before at is places search rule =
     let le : at ≤ length r.body
     = subst (λ n. at ≤ n) (sym (length-map symbols symbol_of) ∙ ap length is.body) is.within in
-    let known : AllPass s.found s.terminals (take before r.body)
-    = subst (λ n. AllPass s.found s.terminals (take n r.body))
+    let known : SymbolsPass s.found s.terminals (take before r.body)
+    = subst (λ n. SymbolsPass s.found s.terminals (take n r.body))
     (sym (is.first ∙ get_or_default s.passed p before 0 places.rule)) (search.passed p r rule) in
-    let step : AllPass s.found s.terminals (take before r.body) → AllPass s.found s.terminals (take at r.body)
-    = subst (λ w. AllPass s.found s.terminals (take before w) → AllPass s.found s.terminals (take at w)) is.body
-    (subst (λ bs. AllPass bs s.terminals (take before (map symbol_of symbols))
-    → AllPass bs s.terminals (take at (map symbol_of symbols))) is.found is.passing) in
+    let step : SymbolsPass s.found s.terminals (take before r.body) → SymbolsPass s.found s.terminals (take at r.body)
+    = subst (λ w. SymbolsPass s.found s.terminals (take before w) → SymbolsPass s.found s.terminals (take at w)) is.body
+    (subst (λ bs. SymbolsPass bs s.terminals (take before (map symbol_of symbols))
+    → SymbolsPass bs s.terminals (take at (map symbol_of symbols))) is.found is.passing) in
     (le, step known)
 
 -- a symbol of a body at a place is in it
@@ -74,7 +75,7 @@ pub stop_of : (G : Grammar) (s : Progress) (p : ℕ) (r : Rule) (symbols : List 
 stop_of G s p r symbols marks before at None is places search rule e =
     let le : length symbols ≤ at = ended symbols at (sym e) in
     let long : length r.body ≤ at = subst (λ n. n ≤ at) (sym (length-map symbols symbol_of) ∙ ap length is.body) le in
-    subst (λ w. AllPass s.found s.terminals w) (take_all at r.body long)
+    subst (λ w. SymbolsPass s.found s.terminals w) (take_all at r.body long)
     (passed_now G s p r symbols marks before at is places search rule).1
 stop_of G s p r symbols marks before at (Some X) is places search rule e =
     let here = in_body s p r symbols marks before at X is (sym e) in
@@ -82,7 +83,7 @@ stop_of G s p r symbols marks before at (Some X) is places search rule e =
 
 -- all of the body passes: the left side is found
 pub all_passed : (G : Grammar) (s : Progress) (p : ℕ) (r : Rule) → r.left < length s.found → IsSearch G s
-    → IsRule G p r → AllPass s.found s.terminals r.body → Advances G s (with_found s r.left) p r
+    → IsRule G p r → SymbolsPass s.found s.terminals r.body → Advances G s (with_found s r.left) p r
 all_passed G s p r lt search rule all = record {
   on = on_found G s r.left search lt
       (rule_tree G s.terminals p r rule (body_trees G s.found s.terminals r.body search.sound all));
@@ -99,13 +100,13 @@ nonterminal_stops G s p r A search rule member not lt = record {
 }
 
 -- a step that settles a rule, after one that passed some of it
-pub then_advances : (G : Grammar) (s t u : Progress) (p : ℕ) (r : Rule) → GoesOn G s t → Advances G t u p r
+pub then_advances : (G : Grammar) (s t u : Progress) (p : ℕ) (r : Rule) → SearchGoesOn G s t → Advances G t u p r
     → Advances G s u p r
 then_advances G s t u p r on is = record { on = through G s t u on is.on; settled = is.settled }
 
 -- a symbol of a body has its place
-pub numbered_in : (n : ℕ) (w : List Symbol) (A : ℕ) → All (IsNumbered n) w → Contains w (nonterminal A) → A < n
-numbered_in n w A all member = All-contains (IsNumbered n) w (nonterminal A) all member
+pub numbered_in : (n : ℕ) (w : List Symbol) (A : ℕ) → All (HasNumberBelow n) w → Contains w (nonterminal A) → A < n
+numbered_in n w A all member = All-contains (HasNumberBelow n) w (nonterminal A) all member
 
 -- so a rule's body was passed as far as that
 pub has_passed : (s : Progress) (p : ℕ) (r : Rule) (symbols : List code.Symbol) (marks : List Bool) (before at : ℕ)

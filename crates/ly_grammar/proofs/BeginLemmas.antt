@@ -6,7 +6,7 @@ use Rattle.ly_base.proofs.MemberLemmas.{Contains-none, Contains-first, Contains-
 use Rattle.ly_base.specs.Lexed.{Token}
 use Rattle.ly_base.specs.Trees.{Tree, Trees, leaf, node, none, more, yield_of, yields_of}
 use Rattle.ly_join.specs.Grammar.{Grammar, Rule, IsRule, Symbol, terminal, nonterminal}
-use Rattle.ly_grammar.specs.Derivations.{IsTree, AreTrees, Begins}
+use Rattle.ly_grammar.specs.Derivations.{IsTree, AreTrees, BeginsYield}
 use Rattle.ly_grammar.specs.Private.First.{Starts, at_once, by_part, opening}
 use Rattle.ly_grammar.specs.Private.Search.{HasTree, HaveTrees, passes}
 
@@ -15,7 +15,7 @@ first_is_one : {X : Type 0} (x y : X) (xs ys : List X) → x ∷ xs ≡ y ∷ ys
 first_is_one x y xs ys e = cc
 
 -- a terminal begins itself
-pub terminal_begins : (G : Grammar) (t : ℕ) → Begins G (terminal t ∷ []) t
+pub terminal_begins : (G : Grammar) (t : ℕ) → BeginsYield G (terminal t ∷ []) t
 terminal_begins G t =
     let x : Token ℕ = record { terminal = t; at = 0; bytes = [] } in
     (more (leaf x) none, (refl, tt), x, [], refl, refl)
@@ -45,7 +45,7 @@ module _ (G : Grammar) (marks : List Bool)
     (nullable : (A : ℕ) → (slice_index_or marks A false ≡ true) ↔ HasTree G false (nonterminal A)) where
   -- what begins a symbol of an opening begins the string
   pub opening_begins : (w : List Symbol) (ts : Trees) (X : Symbol) (t : ℕ) → AreTrees G w ts
-      → Contains (opening marks w) X → Begins G (X ∷ []) t → Begins G w t
+      → Contains (opening marks w) X → BeginsYield G (X ∷ []) t → BeginsYield G w t
   opening_begins [] ts X t are member begins = Contains-none X member
   opening_begins (Y ∷ w) none X t are member begins = absurd are
   opening_begins (Y ∷ w) (more d ts) X t are member (none, x_are, x, rest, yields, kind) = absurd x_are
@@ -63,20 +63,20 @@ module _ (G : Grammar) (marks : List Bool)
         | inr later ↦ behind (passes marks false Y) refl later
             (λ there. opening_begins w ts X t are.1 there (more e none, x_are, x, rest, yields, kind))
       ] where
-        empty_before : (Z : Symbol) → passes marks false Z ≡ true → Begins G w t → Begins G (Z ∷ w) t
+        empty_before : (Z : Symbol) → passes marks false Z ≡ true → BeginsYield G w t → BeginsYield G (Z ∷ w) t
         empty_before (terminal k) pass b = absurd (cc)
         empty_before (nonterminal B) pass (us, us_are, y, ys, e2, k2) =
             let gone = (nullable B).0 pass in
             (more gone.0 us, (gone.1, us_are), y, ys, ap (λ zs. zs ++ yields_of us) (gone.2 refl) ∙ e2, k2)
 
         behind : (b : Bool) → passes marks false Y ≡ b → Contains (if b then opening marks w else []) X
-            → (Contains (opening marks w) X → Begins G w t) → Begins G (Y ∷ w) t
+            → (Contains (opening marks w) X → BeginsYield G w t) → BeginsYield G (Y ∷ w) t
         behind true pass there recur = empty_before Y pass (recur there)
         behind false pass there recur = Contains-none X there
 
   -- one that starts with a terminal by rules has a tree whose string begins with it, where all bodies have trees
   pub starts_begins : ((p : ℕ) (r : Rule) → IsRule G p r → HaveTrees G true r.body) → (A t : ℕ) → Starts G marks A t
-      → Begins G (nonterminal A ∷ []) t
+      → BeginsYield G (nonterminal A ∷ []) t
   starts_begins trees A t (at_once p r u rule member) =
       let b = opening_begins r.body (trees p r rule).0 (terminal u) u (trees p r rule).1 member (terminal_begins G u) in
       (more (node p b.0) none, ((r, rule, refl, b.1), tt), b.2, b.3, append-nil (yields_of b.0) ∙ b.4, b.5)
@@ -136,9 +136,9 @@ module _ (G : Grammar) (marks : List Bool)
 
   -- so what a nonterminal starts with is what begins its strings
   pub starts_are_begun : ((p : ℕ) (r : Rule) → IsRule G p r → HaveTrees G true r.body) → (A t : ℕ)
-      → Starts G marks A t ↔ Begins G (nonterminal A ∷ []) t
+      → Starts G marks A t ↔ BeginsYield G (nonterminal A ∷ []) t
   starts_are_begun trees A t = (starts_begins trees A t, back) where
-    back : Begins G (nonterminal A ∷ []) t → Starts G marks A t
+    back : BeginsYield G (nonterminal A ∷ []) t → Starts G marks A t
     back (none, are, x, rest, e, kind) = absurd are
     back (more d (more f fs), are, x, rest, e, kind) = absurd are.1
     back (more d none, are, x, rest, e, kind) = subst (λ u. Starts G marks A u) kind

@@ -8,14 +8,15 @@ use Rattle.ly_base.proofs.MemberLemmas.{Contains-none, Contains-one, Contains-co
 use Rattle.ly_base.specs.Trees.{Tree, Trees, leaf, node, none, more, yield_of, yields_of}
 use Rattle.ly_join.specs.Grammar.{Grammar, Rule, IsRule, Symbol, terminal, nonterminal}
 use Rattle.ly_grammar.specs.Derivations.{IsTree, AreTrees}
-use Rattle.ly_grammar.specs.Private.Search.{Progress, HasTree, HaveTrees, IsSearch, Advances, AllPass, Settled, IsNext}
+use Rattle.ly_grammar.specs.Private.Search.{Progress, HasTree, HaveTrees, IsSearch, Advances, SymbolsPass, Settled,
+    IsTakenNext}
 use Rattle.ly_grammar.specs.Private.Search.{found, stopped, waiting, to_come}
 use Rattle.ly_grammar.specs.Private.Search.{passes, was_found, waits_for, left_to_do}
 use Rattle.ly_grammar.proofs.SearchLemmas.{member_tree, nothing_together, rule_is_one, same_or_not}
 
 -- what the rules that are settled come to where nothing is left to be done: a rule whose body passes has a found left
 pub closed : (s : Progress) (p : ℕ) (r : Rule) → s.queue ≡ [] → Settled s [] p r
-    → AllPass s.found s.terminals r.body → was_found s r.left ≡ true
+    → SymbolsPass s.found s.terminals r.body → was_found s r.left ≡ true
 closed s p r empty is all = elim is [
   | found e ↦ e
   | stopped t m e ↦ let k : s.terminals ≡ true = all (terminal t) m in absurd (cc)
@@ -27,7 +28,8 @@ closed s p r empty is all = elim is [
 ]
 
 module _ (G : Grammar) (s : Progress)
-    (close : (p : ℕ) (r : Rule) → IsRule G p r → AllPass s.found s.terminals r.body → was_found s r.left ≡ true) where
+    (close : (p : ℕ) (r : Rule) → IsRule G p r → SymbolsPass s.found s.terminals r.body → was_found s r.left
+        ≡ true) where
   mutual
     -- what has a tree passes
     pub tree_passes : (X : Symbol) (d : Tree) → IsTree G X d → (s.terminals ≡ false → yield_of d ≡ [])
@@ -43,7 +45,7 @@ module _ (G : Grammar) (s : Progress)
 
     -- and so do all symbols of a string that has trees
     pub trees_pass : (w : List Symbol) (ts : Trees) → AreTrees G w ts → (s.terminals ≡ false → yields_of ts ≡ [])
-        → AllPass s.found s.terminals w
+        → SymbolsPass s.found s.terminals w
     trees_pass [] none is empty X member = Contains-none X member
     trees_pass (Y ∷ w) none is empty X member = absurd is
     trees_pass [] (more t ts) is empty X member = absurd is
@@ -76,7 +78,7 @@ still_waiting s A B p member = elim (same_or_not B A) [
   | inr other ↦ subst (λ ps. Contains ps p) (get_or-set_other s.waiting A B [] [] other) member
 ]
 
-pub taken : (G : Grammar) (s next : Progress) (rules : List ℕ) → IsSearch G s → IsNext s next (Some rules)
+pub taken : (G : Grammar) (s next : Progress) (rules : List ℕ) → IsSearch G s → IsTakenNext s next (Some rules)
     → IsTaken G s next rules
 taken G s next rules is (A, queue, these, same) = subst (λ n. IsTaken G s n rules) (sym same) (record {
   search = record {
@@ -164,7 +166,7 @@ settled_past G s n is never = record {
 -- symbols that have trees pass, where what has one was found
 pub found_passes : (G : Grammar) (marks : List Bool) (w : List Symbol)
     → ((A : ℕ) → HasTree G true (nonterminal A) → slice_index_or marks A false ≡ true) → HaveTrees G true w
-    → AllPass marks true w
+    → SymbolsPass marks true w
 found_passes G marks w complete trees (terminal t) member = refl
 found_passes G marks w complete trees (nonterminal A) member
     = complete A (member_tree G true w (nonterminal A) trees member)

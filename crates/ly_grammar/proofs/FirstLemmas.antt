@@ -24,12 +24,12 @@ use Rattle.ly_join.specs.declared.symbol.Symbol as code
 use Rattle.ly_grammar.proofs.SearchLemmas.{rule_is_one, same_or_not}
 use Rattle.ly_grammar.specs.Private.First.{opening, parts, turned, AreAdded, Starts, at_once, by_part}
 use Rattle.ly_grammar.specs.Private.Reach.{uses, of_rules}
-use Rattle.ly_grammar.specs.Private.Search.{AllPass, passes}
+use Rattle.ly_grammar.specs.Private.Search.{SymbolsPass, passes}
 use Rattle.ly_grammar.proofs.ReachLemmas.{use_of, is_use, uses_append, of_rule, of_rules_more, by_rule, way_grows}
 use Rattle.ly_grammar.proofs.StartLemmas.{default_everywhere}
 
 -- the opening of a string whose symbols all pass is the string
-pub opening_all : (marks : List Bool) (w : List Symbol) → AllPass marks false w → opening marks w ≡ w
+pub opening_all : (marks : List Bool) (w : List Symbol) → SymbolsPass marks false w → opening marks w ≡ w
 opening_all marks [] all = refl
 opening_all marks (X ∷ w) all =
     let here : passes marks false X ≡ true = all X (Contains-first X w) in
@@ -37,7 +37,7 @@ opening_all marks (X ∷ w) all =
     ∙ ap (λ v. X ∷ v) (opening_all marks w (λ Y m. all Y (Contains-later X w Y m)))
 
 -- that of another ends with the first that doesn't pass
-pub opening_to : (marks : List Bool) (w : List Symbol) (at : ℕ) (X : Symbol) → AllPass marks false (take at w)
+pub opening_to : (marks : List Bool) (w : List Symbol) (at : ℕ) (X : Symbol) → SymbolsPass marks false (take at w)
     → slice_get w at ≡ Some X → passes marks false X ≡ false → opening marks w ≡ take (suc at) w
 opening_to marks [] at X all there stop = absurd (cc)
 opening_to marks (Y ∷ w) zero X all there stop =

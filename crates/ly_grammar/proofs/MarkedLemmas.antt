@@ -6,13 +6,13 @@ use Rattle.std.proofs.lemmas.Option.{slice_get-map, slice_get-get_or}
 use Rattle.std.proofs.lemmas.List.Elements.{All-cons, All-nil, All-weaker}
 use Rattle.ly_join.specs.Grammar.{Grammar, Rule, IsRule, IsGrammar, Symbol, SymbolWithin, terminal, nonterminal}
 use Rattle.ly_join.specs.Grammar.{accept_rule}
-use Rattle.ly_grammar.specs.Private.Search.{IsNumbered, RuleNumbered}
-use Rattle.ly_grammar.specs.Reduction.{marked}
+use Rattle.ly_grammar.specs.Private.Search.{HasNumberBelow, RuleNumbered}
+use Rattle.ly_grammar.specs.Reduction.{kept_rules}
 use Rattle.ly_grammar.proofs.SearchLemmas.{rule_is_one}
 
 -- a rule that is left is one, and marked
 pub marked_at : (kept : List Bool) (rules : List (Option Rule)) (p : ℕ) (r : Rule)
-    → slice_get (marked kept rules) p ≡ Some (Some r)
+    → slice_get (kept_rules kept rules) p ≡ Some (Some r)
     → (slice_get rules p ≡ Some (Some r)) × (slice_index_or kept p false ≡ true)
 marked_at [] rules p r e = absurd (cc)
 marked_at (k ∷ kept) [] p r e = absurd (cc)
@@ -24,7 +24,7 @@ marked_at (false ∷ kept) (x ∷ rules) (suc p) r e = marked_at kept rules p r 
 -- and one that is marked is left
 pub at_marked : (kept : List Bool) (rules : List (Option Rule)) (p : ℕ) (r : Rule)
     → slice_get rules p ≡ Some (Some r) → slice_index_or kept p false ≡ true
-    → slice_get (marked kept rules) p ≡ Some (Some r)
+    → slice_get (kept_rules kept rules) p ≡ Some (Some r)
 at_marked [] rules p r e k = absurd (cc)
 at_marked (k ∷ kept) [] p r e m = absurd (cc)
 at_marked (true ∷ kept) (x ∷ rules) zero r e k = e
@@ -34,7 +34,7 @@ at_marked (false ∷ kept) (x ∷ rules) (suc p) r e k = at_marked kept rules p 
 
 -- there are as many numbers as before
 pub length-marked : (kept : List Bool) (rules : List (Option Rule)) → length kept ≡ length rules
-    → length (marked kept rules) ≡ length rules
+    → length (kept_rules kept rules) ≡ length rules
 length-marked [] rules e = e
 length-marked (k ∷ kept) [] e = absurd (omega (arith, e))
 length-marked (true ∷ kept) (x ∷ rules) e = ap suc (length-marked kept rules (omega (arith, e)))
@@ -48,9 +48,9 @@ listed_rule G rules p d e lt = subst (λ rs. slice_get rs p ≡ Some (Some (slic
 
 -- symbols that a rule may name have their places
 pub numbered : (G : Grammar) (w : List Symbol) → All (SymbolWithin G.terminals G.accept) w
-    → All (IsNumbered (G.accept + 1)) w
-numbered G w all = All-weaker (SymbolWithin G.terminals G.accept) (IsNumbered (G.accept + 1)) here w all where
-  here : (X : Symbol) → SymbolWithin G.terminals G.accept X → IsNumbered (G.accept + 1) X
+    → All (HasNumberBelow (G.accept + 1)) w
+numbered G w all = All-weaker (SymbolWithin G.terminals G.accept) (HasNumberBelow (G.accept + 1)) here w all where
+  here : (X : Symbol) → SymbolWithin G.terminals G.accept X → HasNumberBelow (G.accept + 1) X
   here (terminal t) is = tt
   here (nonterminal A) is = omega (arith, is)
 
@@ -59,22 +59,22 @@ pub rule_numbered : (G : Grammar) (p : ℕ) (r : Rule) → IsGrammar G → IsRul
 rule_numbered G zero r is rule = subst (RuleNumbered (G.accept + 1))
     (rule_is_one G 0 (accept_rule G.accept G.start) r is.rule_0 rule) (record {
       left = omega arith;
-      body = All-cons (IsNumbered (G.accept + 1)) (nonterminal G.start) (terminal 0 ∷ [])
+      body = All-cons (HasNumberBelow (G.accept + 1)) (nonterminal G.start) (terminal 0 ∷ [])
           (let lt = is.start_within in omega (arith, lt))
-          (All-cons (IsNumbered (G.accept + 1)) (terminal 0) [] tt (All-nil (IsNumbered (G.accept + 1))));
+          (All-cons (HasNumberBelow (G.accept + 1)) (terminal 0) [] tt (All-nil (HasNumberBelow (G.accept + 1))));
     })
 rule_numbered G (suc p) r is rule =
     let within = is.within (suc p) r rule (omega arith) in
     record { left = (let lt = within.left in omega (arith, lt)); body = numbered G r.body within.body }
 
 -- where all are marked nothing is removed
-pub marked_all : (rules : List (Option Rule)) → marked (replicate (length rules) true) rules ≡ rules
+pub marked_all : (rules : List (Option Rule)) → kept_rules (replicate (length rules) true) rules ≡ rules
 marked_all [] = refl
 marked_all (r ∷ rules) = ap (λ rs. r ∷ rs) (marked_all rules)
 
 -- one that is not marked is removed
 pub at_dropped : (kept : List Bool) (rules : List (Option Rule)) (p : ℕ) → p < length rules
-    → length kept ≡ length rules → slice_index_or kept p false ≡ false → slice_get (marked kept rules) p ≡ Some None
+    → length kept ≡ length rules → slice_index_or kept p false ≡ false → slice_get (kept_rules kept rules) p ≡ Some None
 at_dropped kept [] p lt long off = absurd (omega (arith, lt))
 at_dropped [] (x ∷ rules) p lt long off = absurd (omega (arith, long))
 at_dropped (true ∷ kept) (x ∷ rules) zero lt long off = absurd (cc)

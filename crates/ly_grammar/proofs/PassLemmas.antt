@@ -11,12 +11,12 @@ use Rattle.std.proofs.lemmas.Option.{slice_get-get_or}
 use Rattle.ly_base.proofs.MemberLemmas.{Contains-one}
 use Rattle.ly_join.specs.Grammar.{Symbol, symbol_of, terminal, nonterminal}
 use Rattle.ly_join.specs.declared.symbol.Symbol as code
-use Rattle.ly_grammar.specs.Private.Search.{AllPass, IsNumbered, passes}
+use Rattle.ly_grammar.specs.Private.Search.{SymbolsPass, HasNumberBelow, passes}
 
 -- one symbol more passes
 pub pass_more : (found : List Bool) (allowed : Bool) (w : List Symbol) (at : ℕ) (d : Symbol) → at < length w
-    → AllPass found allowed (take at w) → passes found allowed (slice_index_or w at d) ≡ true
-    → AllPass found allowed (take (at + 1) w)
+    → SymbolsPass found allowed (take at w) → passes found allowed (slice_index_or w at d) ≡ true
+    → SymbolsPass found allowed (take (at + 1) w)
 pass_more found allowed w at d lt before here X member =
     let cut : take (at + 1) w ≡ take at w ++ slice_index_or w at d ∷ []
     = ap (λ n. take n w) (add-one at) ∙ take-suc w at d lt in
@@ -32,7 +32,7 @@ StayFound found later = (A : ℕ) → slice_index_or found A false ≡ true → 
 
 -- what passes still passes
 pub still_passes : (found later : List Bool) (allowed : Bool) (w : List Symbol) → StayFound found later
-    → AllPass found allowed w → AllPass later allowed w
+    → SymbolsPass found allowed w → SymbolsPass later allowed w
 still_passes found later allowed w stay all (terminal t) member = all (terminal t) member
 still_passes found later allowed w stay all (nonterminal A) member = stay A (all (nonterminal A) member)
 
@@ -54,14 +54,14 @@ stay_found found A lt B e = elim (cases_lt A B) [
 
 -- all of a string passes exactly where what passes of it ends with it
 pub passes_to_end : (found : List Bool) (allowed : Bool) (w : List Symbol) (at : ℕ) → at ≤ length w
-    → AllPass found allowed (take at w)
+    → SymbolsPass found allowed (take at w)
     → ((X : Symbol) → slice_get w at ≡ Some X → passes found allowed X ≡ false)
-    → (at ≡ length w) ↔ AllPass found allowed w
+    → (at ≡ length w) ↔ SymbolsPass found allowed w
 passes_to_end found allowed w at le passing stops = (to, back) where
-  to : at ≡ length w → AllPass found allowed w
-  to e = subst (λ v. AllPass found allowed v) (take_all at w (omega (arith, e))) passing
+  to : at ≡ length w → SymbolsPass found allowed w
+  to e = subst (λ v. SymbolsPass found allowed v) (take_all at w (omega (arith, e))) passing
 
-  back : AllPass found allowed w → at ≡ length w
+  back : SymbolsPass found allowed w → at ≡ length w
   back all = elim (cases_lt at (length w)) [
     | inl below ↦
         let X : Symbol = slice_index_or w at (terminal 0) in
@@ -73,6 +73,6 @@ passes_to_end found allowed w at le passing stops = (to, back) where
 
 -- a symbol at a place has its own
 pub place_numbered : (n : ℕ) (xs : List code.Symbol) (at : ℕ) (d : code.Symbol) → at < length xs
-    → All (IsNumbered n) (map symbol_of xs) → IsNumbered n (symbol_of (slice_index_or xs at d))
-place_numbered n xs at d lt all = subst (IsNumbered n) (get_or-map symbol_of xs at d)
+    → All (HasNumberBelow n) (map symbol_of xs) → HasNumberBelow n (symbol_of (slice_index_or xs at d))
+place_numbered n xs at d lt all = subst (HasNumberBelow n) (get_or-map symbol_of xs at d)
     (all at (symbol_of d) (subst (λ k. at < k) (sym (length-map xs symbol_of)) lt))

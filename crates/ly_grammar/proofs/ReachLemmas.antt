@@ -18,11 +18,11 @@ use Rattle.ly_join.specs.declared.symbol.Symbol as code
 use Rattle.ly_sets.specs.NumberSet.{NumberSet, Member}
 use Rattle.ly_sets.specs.SetMatrix.{row}
 use Rattle.ly_sets.proofs.NumberSetLemmas.{contains-insert_nat}
-use Rattle.ly_grammar.specs.Reduction.{marked}
+use Rattle.ly_grammar.specs.Reduction.{kept_rules}
 use Rattle.ly_grammar.proofs.MarkedLemmas.{at_marked, at_dropped}
 use Rattle.ly_grammar.proofs.SearchLemmas.{same_or_not}
 use Rattle.ly_grammar.proofs.StartLemmas.{default_everywhere}
-use Rattle.ly_grammar.specs.Private.Reach.{Reached, start, through, uses, of_rules, use_edges}
+use Rattle.ly_grammar.specs.Private.Reach.{IsReachedBy, start, through, uses, of_rules, use_edges}
 
 -- the uses of symbols one after another
 pub uses_append : (left : ℕ) (v w : List Symbol) → uses left (v ++ w) ≡ uses left v ++ uses left w
@@ -110,14 +110,14 @@ abbrev pub used_graph : Grammar → Digraph
 used_graph G = record { nodes = G.accept + 1; edges = use_edges G.rules }
 
 -- a way to the start symbol is a way from it by rules
-pub way_reached : (G : Grammar) (i j : ℕ) → Reaches (used_graph G) i j → j ≡ G.start → Reached G i
-way_reached G i j (here k) same = subst (λ A. Reached G A) (sym same) start
+pub way_reached : (G : Grammar) (i j : ℕ) → Reaches (used_graph G) i j → j ≡ G.start → IsReachedBy G i
+way_reached G i j (here k) same = subst (λ A. IsReachedBy G A) (sym same) start
 way_reached G i j (along a k b edge way) same =
     let it = of_rule (λ r. uses r.left r.body) G.rules (a, k) edge in
     let used = use_of it.1.left it.1.body a k it.3 in
-    through it.0 it.1 a it.2 (subst (λ A. Reached G A) used.0 (way_reached G k b way same)) used.1
+    through it.0 it.1 a it.2 (subst (λ A. IsReachedBy G A) used.0 (way_reached G k b way same)) used.1
 
-pub reached_way : (G : Grammar) (A : ℕ) → Reached G A → Reaches (used_graph G) A G.start
+pub reached_way : (G : Grammar) (A : ℕ) → IsReachedBy G A → Reaches (used_graph G) A G.start
 reached_way G A start = here G.start
 reached_way G A (through p r B rule led member) =
     along A r.left G.start (by_rule (λ r. uses r.left r.body) G.rules p r (A, r.left) rule
@@ -133,17 +133,18 @@ way_grows g given sets i j n least (along a b c edge way) member
 
 -- what the rules of a grammar are made to is known of them up to a number, and one rule more is kept or not
 pub kept_more : {X : Type 0} (f : Rule → List X) (G : Grammar) (kept : List Bool) (n : ℕ) (r : Rule) → IsRule G n r
-    → slice_index_or kept n false ≡ true → of_rules f (take (n + 1) (marked kept G.rules))
-    ≡ of_rules f (take n (marked kept G.rules)) ++ f r
-kept_more f G kept n r rule on = of_rules_more f (marked kept G.rules) n (Some r) (at_marked kept G.rules n r rule on)
-    ∙ ap (λ xs. of_rules f (take n (marked kept G.rules)) ++ xs) (append-nil (f r))
+    → slice_index_or kept n false ≡ true → of_rules f (take (n + 1) (kept_rules kept G.rules))
+    ≡ of_rules f (take n (kept_rules kept G.rules)) ++ f r
+kept_more f G kept n r rule on = of_rules_more f (kept_rules kept G.rules) n (Some r)
+    (at_marked kept G.rules n r rule on)
+    ∙ ap (λ xs. of_rules f (take n (kept_rules kept G.rules)) ++ xs) (append-nil (f r))
 
 pub dropped_more : {X : Type 0} (f : Rule → List X) (G : Grammar) (kept : List Bool) (n : ℕ) → n < length G.rules
     → length kept ≡ length G.rules → slice_index_or kept n false ≡ false
-    → of_rules f (take (n + 1) (marked kept G.rules)) ≡ of_rules f (take n (marked kept G.rules))
-dropped_more f G kept n lt long off = of_rules_more f (marked kept G.rules) n None
+    → of_rules f (take (n + 1) (kept_rules kept G.rules)) ≡ of_rules f (take n (kept_rules kept G.rules))
+dropped_more f G kept n lt long off = of_rules_more f (kept_rules kept G.rules) n None
     (at_dropped kept G.rules n lt long off)
-    ∙ append-nil (of_rules f (take n (marked kept G.rules)))
+    ∙ append-nil (of_rules f (take n (kept_rules kept G.rules)))
 
 -- rows of which one has one member
 abbrev pub one_member : ℕ → ℕ → List NumberSet
@@ -173,12 +174,12 @@ is_there rows i lt =
 pub led_rows : (G : Grammar) (new : List NumberSet) → G.start < G.accept + 1
     → IsLeast (used_graph G) (one_member (G.accept + 1) G.start) new
     → IsBetween (used_graph G) (one_member (G.accept + 1) G.start) new
-    → (A : ℕ) → Member (row new A) 0 ↔ Reached G A
+    → (A : ℕ) → Member (row new A) 0 ↔ IsReachedBy G A
 led_rows G new lt least between A = (to, back) where
-  to : Member (row new A) 0 → Reached G A
+  to : Member (row new A) 0 → IsReachedBy G A
   to member = let from = between.reached A 0 member in
       way_reached G A from.0 from.1 (only_there (G.accept + 1) G.start from.0 lt from.2)
 
-  back : Reached G A → Member (row new A) 0
+  back : IsReachedBy G A → Member (row new A) 0
   back led = way_grows (used_graph G) (one_member (G.accept + 1) G.start) new A G.start 0 least (reached_way G A led)
       (least.holds.holds G.start 0 (is_there (G.accept + 1) G.start lt))

@@ -10,7 +10,7 @@ use Rattle.ly_base.proofs.MemberLemmas.{Contains-none, Contains-first, Contains-
 use Rattle.ly_base.proofs.MemberLemmas.{Contains-cons_cases}
 use Rattle.ly_base.specs.Trees.{leaf, node, none, more, yield_of, yields_of}
 use Rattle.ly_join.specs.Grammar.{Grammar, Rule, IsRule, Symbol, terminal, nonterminal}
-use Rattle.ly_grammar.specs.Private.Search.{Progress, IsSearch, HasTree, HaveTrees, AllPass, GoesOn}
+use Rattle.ly_grammar.specs.Private.Search.{Progress, IsSearch, HasTree, HaveTrees, SymbolsPass, SearchGoesOn}
 use Rattle.ly_grammar.specs.Private.Search.{Settled, found, stopped, waiting, to_come, was_found, waits_for}
 use Rattle.ly_grammar.specs.Private.Search.{with_found, with_passed, with_waiting, unfound}
 use Rattle.ly_grammar.proofs.PassLemmas.{still_passes, found_now, stay_found}
@@ -33,7 +33,7 @@ rule_is_one G p r q a b = let e : Some (Some r) ≡ Some (Some q) = sym a ∙ b 
 
 -- symbols that pass have trees, where what was found has
 pub body_trees : (G : Grammar) (marks : List Bool) (allowed : Bool) (w : List Symbol)
-    → ((A : ℕ) → slice_index_or marks A false ≡ true → HasTree G allowed (nonterminal A)) → AllPass marks allowed w
+    → ((A : ℕ) → slice_index_or marks A false ≡ true → HasTree G allowed (nonterminal A)) → SymbolsPass marks allowed w
     → HaveTrees G allowed w
 body_trees G marks allowed [] sound all = (none, tt, λ _. refl)
 body_trees G marks allowed (terminal t ∷ w) sound all =
@@ -75,7 +75,7 @@ unfound_less (true ∷ bs) (suc A) lt e = unfound_less bs A (omega (arith, lt)) 
 unfound_less (false ∷ bs) (suc A) lt e = ap (λ n. n + 1) (unfound_less bs A (omega (arith, lt)) e)
 
 -- steps follow one another
-pub through : (G : Grammar) (s t u : Progress) → GoesOn G s t → GoesOn G t u → GoesOn G s u
+pub through : (G : Grammar) (s t u : Progress) → SearchGoesOn G s t → SearchGoesOn G t u → SearchGoesOn G s u
 through G s t u a b = record {
   search = b.search;
   terminals = b.terminals ∙ a.terminals;
@@ -85,7 +85,7 @@ through G s t u a b = record {
 
 -- so many symbols of a rule's body are there, and pass
 abbrev pub HavePassed : Progress → Rule → ℕ → Type 0
-HavePassed s r n = (n ≤ length r.body) × AllPass s.found s.terminals (take n r.body)
+HavePassed s r n = (n ≤ length r.body) × SymbolsPass s.found s.terminals (take n r.body)
 
 -- what is known to have passed of each rule, where it is newly known of one
 pub now_passed : (G : Grammar) (s : Progress) (p at : ℕ) (r : Rule) → IsSearch G s → IsRule G p r
@@ -103,7 +103,7 @@ now_passed G s p at r is rule lt all q r2 is2 = elim (same_or_not q p) [
 
 -- more of a rule's body passes
 pub on_passed : (G : Grammar) (s : Progress) (p at : ℕ) (r : Rule) → IsSearch G s → IsRule G p r → p < length s.passed
-    → HavePassed s r at → GoesOn G s (with_passed s p at)
+    → HavePassed s r at → SearchGoesOn G s (with_passed s p at)
 on_passed G s p at r is rule lt all = record {
   search = record {
     found_long = is.found_long;
@@ -170,7 +170,7 @@ settled_found s A lt pending q r was = elim was [
 -- the search goes on
 found_goes_on : (G : Grammar) (s : Progress) (A : ℕ) (b : Bool) → was_found s A ≡ b → IsSearch G s
     → A < length s.found → HasTree G s.terminals (nonterminal A)
-    → GoesOn G s (if b then s else newly_found s A)
+    → SearchGoesOn G s (if b then s else newly_found s A)
 found_goes_on G s A true e is lt tree
     = record { search = is; terminals = refl; others = λ pending q r was. was; work = omega arith }
 found_goes_on G s A false e is lt tree =
@@ -185,7 +185,7 @@ found_goes_on G s A false e is lt tree =
 
 -- a nonterminal that has a tree is found
 pub on_found : (G : Grammar) (s : Progress) (A : ℕ) → IsSearch G s → A < length s.found
-    → HasTree G s.terminals (nonterminal A) → GoesOn G s (with_found s A)
+    → HasTree G s.terminals (nonterminal A) → SearchGoesOn G s (with_found s A)
 on_found G s A is lt tree = found_goes_on G s A (was_found s A) refl is lt tree
 
 -- and it is found then
@@ -226,7 +226,7 @@ waiting_rule G s A p r is rule lt B q w = elim (same_or_not B A) [
 
 -- a rule waits
 pub on_waiting : (G : Grammar) (s : Progress) (A p : ℕ) (r : Rule) → IsSearch G s → IsRule G p r
-    → A < length s.waiting → GoesOn G s (with_waiting s A p)
+    → A < length s.waiting → SearchGoesOn G s (with_waiting s A p)
 on_waiting G s A p r is rule lt = record {
   search = record {
     found_long = is.found_long;

@@ -6,7 +6,7 @@ use Rattle.std.proofs.lemmas.Bool.{cases_lt}
 use Rattle.std.proofs.lemmas.Option.{slice_get_within}
 use Rattle.ly_base.proofs.MemberLemmas.{Contains-none}
 use Rattle.ly_join.specs.Grammar.{Grammar, Rule, IsRule, IsGrammar}
-use Rattle.ly_grammar.specs.Reduction.{marked, restricted}
+use Rattle.ly_grammar.specs.Reduction.{kept_rules, restricted}
 use Rattle.ly_grammar.specs.Private.Search.{Progress, IsSearch, HasPlaces, RuleNumbered}
 use Rattle.ly_grammar.proofs.MarkedLemmas.{at_marked, marked_at, rule_numbered}
 
@@ -45,7 +45,7 @@ is_begun G terminals = record {
 pub places_of : (G : Grammar) (kept : List Bool) (s : Progress) (p : ℕ) (r : Rule) → IsGrammar G
     → IsSearch (restricted kept G) s → IsRule (restricted kept G) p r → HasPlaces s p r
 places_of G kept s p r is search rule = record {
-  rule = subst (λ n. p < n) (sym search.passed_long) (slice_get_within (marked kept G.rules) p (Some r) rule);
+  rule = subst (λ n. p < n) (sym search.passed_long) (slice_get_within (kept_rules kept G.rules) p (Some r) rule);
   waiting = search.waiting_long ∙ sym search.found_long;
   numbered = subst (λ n. RuleNumbered n r) (sym search.found_long)
       (rule_numbered G p r is (marked_at kept G.rules p r rule).0);

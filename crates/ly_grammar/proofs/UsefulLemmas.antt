@@ -7,7 +7,7 @@ use Rattle.ly_join.specs.Grammar.{Grammar, Rule, IsRule, Symbol, accept_rule, te
 use Rattle.ly_grammar.specs.Derivations.{IsTree, AreTrees, IsUseful}
 use Rattle.ly_grammar.specs.Reduction.{restricted}
 use Rattle.ly_grammar.specs.Laws.{IsLed, at_start, by_rule}
-use Rattle.ly_grammar.specs.Private.Reach.{Reached, start, through}
+use Rattle.ly_grammar.specs.Private.Reach.{IsReachedBy, start, through}
 use Rattle.ly_grammar.specs.Private.Search.{HaveTrees}
 use Rattle.ly_grammar.proofs.MarkedLemmas.{at_marked, marked_at}
 use Rattle.ly_grammar.proofs.SearchLemmas.{rule_is_one}
@@ -107,14 +107,14 @@ useful_led G p r rule = (to, λ is. led_to_useful G p r rule is.0 is.1) where
 
 module _ (G : Grammar) (marks : List Bool) (productive : AreProductive G marks) where
   -- what is reached by the rules that are marked is led to, and the other way
-  pub reached_led : (A : ℕ) → Reached (restricted marks G) A → IsLed G A
+  pub reached_led : (A : ℕ) → IsReachedBy (restricted marks G) A → IsLed G A
   reached_led A start = at_start
   reached_led A (through p r B rule led member) =
       let there = marked_at marks G.rules p r rule in
       let ts = (productive p r there.0).0 there.1 in
       by_rule p r A there.0 (ts.0, ts.1) (reached_led r.left led) member
 
-  pub led_reached : (A : ℕ) → IsLed G A → Reached (restricted marks G) A
+  pub led_reached : (A : ℕ) → IsLed G A → IsReachedBy (restricted marks G) A
   led_reached A at_start = start
   led_reached A (by_rule p r B rule ts led member) =
       through p r A (at_marked marks G.rules p r rule ((productive p r rule).1 (ts.0, ts.1, λ e. absurd (cc))))
@@ -122,7 +122,7 @@ module _ (G : Grammar) (marks : List Bool) (productive : AreProductive G marks) 
 
   -- so a useful rule is one that is marked and reached
   pub useful_reached : (p : ℕ) (r : Rule) → IsRule G p r
-      → IsUseful G p ↔ ((slice_index_or marks p false ≡ true) × Reached (restricted marks G) r.left)
+      → IsUseful G p ↔ ((slice_index_or marks p false ≡ true) × IsReachedBy (restricted marks G) r.left)
   useful_reached p r rule = (
     λ is.
         let led = (useful_led G p r rule).0 is in

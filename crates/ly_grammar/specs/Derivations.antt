@@ -40,13 +40,13 @@ abbrev pub IsNullable : Grammar → List Symbol → Type 0
 IsNullable G w = (ts : Trees) × AreTrees G w ts × (yields_of ts ≡ [])
 
 -- a token of the terminal t begins what some trees of the symbols yield
-abbrev pub Begins : Grammar → List Symbol → ℕ → Type 0
-Begins G w t = (ts : Trees) × AreTrees G w ts
+abbrev pub BeginsYield : Grammar → List Symbol → ℕ → Type 0
+BeginsYield G w t = (ts : Trees) × AreTrees G w ts
     × (x : Token ℕ) × (rest : List (Token ℕ)) × (yields_of ts ≡ x ∷ rest) × (x.terminal ≡ t)
 
 -- the terminal t begins what the symbols yield, with the terminal u behind them
 abbrev pub First : Grammar → List Symbol → ℕ → ℕ → Type 0
-First G w u t = Begins G w t ⊎ (IsNullable G w × (t ≡ u))
+First G w u t = BeginsYield G w t ⊎ (IsNullable G w × (t ≡ u))
 
 -- the start symbol has a tree, and every rule but rule 0 is useful
 pub record IsReduced (G : Grammar) : Type 0 where

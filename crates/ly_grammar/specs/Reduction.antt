@@ -8,18 +8,18 @@ use Rattle.ly_join.specs.GrammarCode.{grammar_code}
 use Rattle.ly_sets.specs.NumberSet.{NumberSet, Member}
 use Rattle.ly_sets.specs.SetMatrix.{Matrix, row}
 use Rattle.ly_join.specs.Grammar.{Grammar, Rule, IsRule, nonterminal}
-use Rattle.ly_grammar.specs.Derivations.{Begins, IsNullable, IsReduced, IsUseful}
+use Rattle.ly_grammar.specs.Derivations.{BeginsYield, IsNullable, IsReduced, IsUseful}
 
 -- the rules whose number is marked; the others are removed
-abbrev pub marked : List Bool → List (Option Rule) → List (Option Rule)
-marked [] rules = []
-marked (k ∷ kept) [] = []
-marked (true ∷ kept) (r ∷ rules) = r ∷ marked kept rules
-marked (false ∷ kept) (r ∷ rules) = None ∷ marked kept rules
+abbrev pub kept_rules : List Bool → List (Option Rule) → List (Option Rule)
+kept_rules [] rules = []
+kept_rules (k ∷ kept) [] = []
+kept_rules (true ∷ kept) (r ∷ rules) = r ∷ kept_rules kept rules
+kept_rules (false ∷ kept) (r ∷ rules) = None ∷ kept_rules kept rules
 
 -- the grammar of the rules that are marked
 abbrev pub restricted : List Bool → Grammar → Grammar
-restricted kept G = record G { rules = marked kept G.rules }
+restricted kept G = record G { rules = kept_rules kept G.rules }
 
 -- A reduced grammar, for each nonterminal whether it is nullable, and which terminals may begin what it derives.
 pub record Reduction : Type 0 where
@@ -41,7 +41,7 @@ pub record IsReduction (G : Grammar) (r : Reduction) : Type 0 where
   pub reduced : IsReduced r.grammar
   pub nullable : (A : ℕ) → A ≤ G.accept → IsTrue (slice_index_or r.nullable A false)
       ↔ IsNullable r.grammar (nonterminal A ∷ [])
-  pub first : (A t : ℕ) → A ≤ G.accept → Member (row r.first A) t ↔ Begins r.grammar (nonterminal A ∷ []) t
+  pub first : (A t : ℕ) → A ≤ G.accept → Member (row r.first A) t ↔ BeginsYield r.grammar (nonterminal A ∷ []) t
 
 -- the reduction to the marked rules of a grammar
 abbrev pub reduction_of : Grammar → List Bool → List Bool → Matrix → Reduction

@@ -6,7 +6,7 @@ ghost use Rattle.ly_sets.specs.SetMatrix.{row};
 ghost use Rattle.ly_join.specs.Grammar.{symbol_of};
 ghost use Rattle.ly_grammar.specs.Reduction.{restricted};
 ghost use Rattle.ly_grammar.specs.Private.First.{opening, parts, AreAdded, HasPlace, RuleHasPlaces, Starts};
-ghost use Rattle.ly_grammar.specs.Private.Search.{IsNumbered};
+ghost use Rattle.ly_grammar.specs.Private.Search.{HasNumberBelow};
 
 use crate::search::passing_until;
 use ly_base::OutOfMemory;
@@ -89,7 +89,7 @@ fn add_first(
 
 /// The symbols of a body up to the first that isn't a nullable nonterminal.
 fn opening<'a>(body: &'a [Symbol], nullable: &[bool]) -> &'a [Symbol]
-    requires { All (IsNumbered (length nullable.now)) (map symbol_of body.now) }
+    requires { All (HasNumberBelow (length nullable.now)) (map symbol_of body.now) }
     ensures { map symbol_of result.now ≡ opening nullable.now (map symbol_of body.now) }
 {
     let passing = passing_until(body, 0, nullable, false);

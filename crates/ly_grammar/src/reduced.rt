@@ -3,7 +3,7 @@ ghost use Rattle.ly_base.specs.Trees.{Tree};
 ghost use Rattle.ly_sets.specs.NumberSet.{Member};
 ghost use Rattle.ly_sets.specs.SetMatrix.{row};
 ghost use Rattle.ly_join.specs.Grammar.{nonterminal, IsRule, Rule};
-ghost use Rattle.ly_grammar.specs.Derivations.{Begins, IsNullable, IsReduced, IsTree};
+ghost use Rattle.ly_grammar.specs.Derivations.{BeginsYield, IsNullable, IsReduced, IsTree};
 ghost use Rattle.ly_grammar.specs.Reduction.{reduction_of, IsReduction, KeepsUseful};
 
 use crate::fault::GrammarFault;
@@ -95,7 +95,7 @@ impl<'a> Reduced<'a> {
     pub fn begins(&self, symbol: Sym, terminal: Sym) -> bool
         requires symbol { symbol.0 ≤ self.now.grammar.accept }
         requires terminal { terminal.0 < self.now.grammar.terminals }
-        ensures { IsTrue result ↔ Begins self.now.grammar (nonterminal symbol.0 ∷ []) terminal.0 }
+        ensures { IsTrue result ↔ BeginsYield self.now.grammar (nonterminal symbol.0 ∷ []) terminal.0 }
     {
         self.first.contains(symbol.0 as usize, terminal)
     }

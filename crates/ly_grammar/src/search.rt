@@ -7,8 +7,8 @@ ghost use Rattle.ly_join.specs.Grammar.{IsRule, nonterminal, symbol_of};
 ghost use Rattle.ly_join.specs.Grammar as join;
 ghost use Rattle.ly_grammar.specs.Reduction.{restricted};
 ghost use Rattle.ly_grammar.specs.Private.Search.{passes, waits_for, with_found, with_passed, with_waiting};
-ghost use Rattle.ly_grammar.specs.Private.Search.{Advances, AllPass, HasPassed, HasPlaces, HasTree, IsNumbered};
-ghost use Rattle.ly_grammar.specs.Private.Search.{IsNext, IsSearch};
+ghost use Rattle.ly_grammar.specs.Private.Search.{Advances, SymbolsPass, HasPassed, HasPlaces, HasTree, HasNumberBelow};
+ghost use Rattle.ly_grammar.specs.Private.Search.{IsTakenNext, IsSearch};
 
 use crate::waiting::Waiting;
 use ly_join::{Grammar, GrammarRule, Symbol};
@@ -95,7 +95,7 @@ impl Search {
     /// Takes a nonterminal that was found, whose rules are then to be looked at, and those rules.
     fn next(&mut self, alloc: Global) -> Option<Vec<usize>>
         requires { All (λ A. A < length self.old.waiting) self.old.queue }
-        ensures { IsNext self.old self.new (option_map (λ rules. rules.items) result) }
+        ensures { IsTakenNext self.old self.new (option_map (λ rules. rules.items) result) }
     {
         let nonterminal = self.queue.pop()?;
         Some(self.waiting.take(alloc, nonterminal))
@@ -149,10 +149,10 @@ impl Search {
 /// How many symbols from the front of a body pass, where it is known of some.
 pub(crate) fn passing_until(body: &[Symbol], from: usize, found: &[bool], terminals: bool) -> usize
     requires from { from ≤ length body.now }
-    requires numbered { All (IsNumbered (length found.now)) (map symbol_of body.now) }
+    requires numbered { All (HasNumberBelow (length found.now)) (map symbol_of body.now) }
     ensures within { result ≤ length body.now }
-    ensures passing { AllPass found.now terminals (take from (map symbol_of body.now))
-        → AllPass found.now terminals (take result (map symbol_of body.now)) }
+    ensures passing { SymbolsPass found.now terminals (take from (map symbol_of body.now))
+        → SymbolsPass found.now terminals (take result (map symbol_of body.now)) }
     ensures stops { (X : join.Symbol) → slice_get (map symbol_of body.now) result ≡ Some X
         → passes found.now terminals X ≡ false }
 {
@@ -165,7 +165,7 @@ pub(crate) fn passing_until(body: &[Symbol], from: usize, found: &[bool], termin
 
 /// Whether a symbol passes: a terminal where they are allowed, a nonterminal that was found.
 fn symbol_passes(symbol: Symbol, found: &[bool], terminals: bool) -> bool
-    requires { IsNumbered (length found.now) (symbol_of symbol) }
+    requires { HasNumberBelow (length found.now) (symbol_of symbol) }
     ensures { result ≡ passes found.now terminals (symbol_of symbol) }
 {
     match symbol {

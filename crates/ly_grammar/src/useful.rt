@@ -9,8 +9,8 @@ ghost use Rattle.ly_sets.specs.SetMatrix.{row};
 ghost use Rattle.ly_join.specs.Grammar.{IsGrammar, IsRule, Rule, nonterminal, symbol_of};
 ghost use Rattle.ly_grammar.specs.Derivations.{IsTree, IsUseful};
 ghost use Rattle.ly_grammar.specs.Reduction.{restricted};
-ghost use Rattle.ly_grammar.specs.Private.Reach.{Reached, uses};
-ghost use Rattle.ly_grammar.specs.Private.Search.{AllPass, HaveTrees, IsNumbered, RuleNumbered};
+ghost use Rattle.ly_grammar.specs.Private.Reach.{IsReachedBy, uses};
+ghost use Rattle.ly_grammar.specs.Private.Search.{SymbolsPass, HaveTrees, HasNumberBelow, RuleNumbered};
 
 use crate::fault::GrammarFault;
 use crate::search::{passing_until, with_trees};
@@ -62,8 +62,8 @@ fn productive_rules(alloc: Global, grammar: &Grammar) -> Result<Vec<bool>, OutOf
 
 /// Whether all nonterminals of a rule's body were found.
 fn body_passes(rule: &GrammarRule, found: &[bool]) -> bool
-    requires { All (IsNumbered (length found.now)) rule.now.body }
-    ensures { IsTrue result ↔ AllPass found.now true rule.now.body }
+    requires { All (HasNumberBelow (length found.now)) rule.now.body }
+    ensures { IsTrue result ↔ SymbolsPass found.now true rule.now.body }
 {
     let body = rule.body();
     passing_until(body, 0, found, true) == body.len()
@@ -75,7 +75,7 @@ fn reached(alloc: Global, grammar: &Grammar, productive: &[bool]) -> Result<SetM
     ensures width { IfOk result (λ m. m.width ≡ 1) }
     ensures rows { IfOk result (λ m. length m.sets ≡ grammar.now.accept + 1) }
     ensures exact { IfOk result (λ m. (A : ℕ) → Member (row m.sets A) 0
-        ↔ Reached (restricted productive.now grammar.now) A) }
+        ↔ IsReachedBy (restricted productive.now grammar.now) A) }
 {
     let nonterminals = grammar.accept().0 as usize + 1;
     let mut graph = Graph::new(alloc, nonterminals)?;
@@ -105,7 +105,7 @@ fn add_uses(graph: &mut Graph, rule: &GrammarRule) -> Result<(), OutOfMemory>
 
 /// Adds an edge from a symbol, if it is a nonterminal, to a left side.
 fn add_use(graph: &mut Graph, symbol: Symbol, left: usize) -> Result<(), OutOfMemory>
-    requires numbered { IsNumbered graph.old.nodes (symbol_of symbol) }
+    requires numbered { HasNumberBelow graph.old.nodes (symbol_of symbol) }
     requires left { left < graph.old.nodes }
     ensures { OnOk result (graph.new ≡
         record graph.old { edges = graph.old.edges ++ uses left (symbol_of symbol ∷ []) }) }

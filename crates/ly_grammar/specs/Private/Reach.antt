@@ -3,9 +3,10 @@ use Rattle.std.specs.Prelude.{ℕ, List, [], ◌∷◌, ◌++◌, Option, Some, 
 use Rattle.ly_join.specs.Grammar.{Grammar, Rule, IsRule, Symbol, terminal, nonterminal}
 
 -- the start symbol leads to the nonterminal: it is that, or a rule has it in its body whose left side is led to
-pub data Reached (G : Grammar) : ℕ → Type 0 where
-  start : Reached G G.start
-  through : (p : ℕ) (r : Rule) (A : ℕ) → IsRule G p r → Reached G r.left → Contains r.body (nonterminal A) → Reached G A
+pub data IsReachedBy (G : Grammar) : ℕ → Type 0 where
+  start : IsReachedBy G G.start
+  through : (p : ℕ) (r : Rule) (A : ℕ) → IsRule G p r → IsReachedBy G r.left → Contains r.body (nonterminal A)
+      → IsReachedBy G A
 
 -- from each nonterminal of a body to a left side
 abbrev pub uses : ℕ → List Symbol → List (ℕ × ℕ)

@@ -20,18 +20,18 @@ passes found terminals (terminal t) = terminals
 passes found terminals (nonterminal A) = slice_index_or found A false
 
 -- all symbols pass
-abbrev pub AllPass : List Bool → Bool → List Symbol → Type 0
-AllPass found terminals w = (X : Symbol) → Contains w X → passes found terminals X ≡ true
+abbrev pub SymbolsPass : List Bool → Bool → List Symbol → Type 0
+SymbolsPass found terminals w = (X : Symbol) → Contains w X → passes found terminals X ≡ true
 
 -- a nonterminal is among the first n
-abbrev pub IsNumbered : ℕ → Symbol → Type 0
-IsNumbered n (terminal t) = Unit {0}
-IsNumbered n (nonterminal A) = A < n
+abbrev pub HasNumberBelow : ℕ → Symbol → Type 0
+HasNumberBelow n (terminal t) = Unit {0}
+HasNumberBelow n (nonterminal A) = A < n
 
 -- the symbols of a rule are
 pub record RuleNumbered (n : ℕ) (r : Rule) : Type 0 where
   pub left : r.left < n
-  pub body : All (IsNumbered n) r.body
+  pub body : All (HasNumberBelow n) r.body
 
 -- How far a search is: whether terminals are allowed, which nonterminals were found, how many symbols of each rule's
 -- body pass, which rules wait for a nonterminal, and those that were found and whose rules still wait.
@@ -86,7 +86,7 @@ pub record IsSearch (G : Grammar) (s : Progress) : Type 0 where
   pub sound : (A : ℕ) → was_found s A ≡ true → HasTree G s.terminals (nonterminal A)
   pub within : (p : ℕ) (r : Rule) → IsRule G p r → slice_index_or s.passed p 0 ≤ length r.body
   pub passed : (p : ℕ) (r : Rule) → IsRule G p r
-      → AllPass s.found s.terminals (take (slice_index_or s.passed p 0) r.body)
+      → SymbolsPass s.found s.terminals (take (slice_index_or s.passed p 0) r.body)
   pub rules_wait : (A p : ℕ) → Contains (waits_for s A) p → (r : Rule) × IsRule G p r
   pub queue_within : (A : ℕ) → Contains s.queue A → A < G.accept + 1
 
@@ -101,7 +101,7 @@ abbrev pub left_to_do : Progress → ℕ
 left_to_do s = 2 * unfound s.found + length s.queue
 
 -- The search goes on: nothing that is known is lost, and there is no more to be done than before.
-pub record GoesOn (G : Grammar) (s next : Progress) : Type 0 where
+pub record SearchGoesOn (G : Grammar) (s next : Progress) : Type 0 where
   pub search : IsSearch G next
   pub terminals : next.terminals ≡ s.terminals
   pub others : (pending : List ℕ) (p : ℕ) (r : Rule) → Settled s pending p r → Settled next pending p r
@@ -109,23 +109,23 @@ pub record GoesOn (G : Grammar) (s next : Progress) : Type 0 where
 
 -- it goes on, and rule p is settled
 pub record Advances (G : Grammar) (s next : Progress) (p : ℕ) (r : Rule) : Type 0 where
-  pub on : GoesOn G s next
+  pub on : SearchGoesOn G s next
   pub settled : (pending : List ℕ) → Settled next pending p r
 
 -- all symbols of the rule's body pass, or this one stands in the way
 abbrev pub StopsAt : Progress → Rule → Option code.Symbol → Type 0
-StopsAt s r None = AllPass s.found s.terminals r.body
+StopsAt s r None = SymbolsPass s.found s.terminals r.body
 StopsAt s r (Some X) = Contains r.body (symbol_of X) × (passes s.found s.terminals (symbol_of X) ≡ false)
 
 -- More of the body of rule p passes than before, up to this symbol.
 pub record HasPassed (s next : Progress) (p : ℕ) (r : Rule) (stop : Option code.Symbol) : Type 0 where
   pub rest : next ≡ record s { passed = next.passed }
   pub inside : IfSome stop (λ X. Contains r.body (symbol_of X))
-  pub on : (G : Grammar) → IsSearch G s → IsRule G p r → GoesOn G s next
+  pub on : (G : Grammar) → IsSearch G s → IsRule G p r → SearchGoesOn G s next
   pub stops : (G : Grammar) → IsSearch G s → IsRule G p r → StopsAt next r stop
 
 -- nothing is queued, or the last that was is taken, and its rules no longer wait: these
-abbrev pub IsNext : Progress → Progress → Option (List ℕ) → Type 0
-IsNext s next None = (s.queue ≡ []) × (next ≡ s)
-IsNext s next (Some rules) = (A : ℕ) × (s.queue ≡ next.queue ++ A ∷ []) × (rules ≡ waits_for s A)
+abbrev pub IsTakenNext : Progress → Progress → Option (List ℕ) → Type 0
+IsTakenNext s next None = (s.queue ≡ []) × (next ≡ s)
+IsTakenNext s next (Some rules) = (A : ℕ) × (s.queue ≡ next.queue ++ A ∷ []) × (rules ≡ waits_for s A)
     × (next ≡ record s { waiting = slice_set s.waiting A []; queue = next.queue })

@@ -5,7 +5,7 @@ use Rattle.std.proofs.lemmas.Option.{get_or_from_slice_get, slice_get_within}
 use Rattle.ly_join.specs.Grammar.{symbol_of}
 use Rattle.ly_join.specs.declared.symbol.Symbol.{Symbol}
 use Rattle.ly_join.specs.declared.symbol.Symbol.TheVariants.{Terminal}
-use Rattle.ly_grammar.specs.Private.Search.{passes, IsNumbered}
+use Rattle.ly_grammar.specs.Private.Search.{passes, HasNumberBelow}
 use Rattle.ly_grammar.proofs.PassLemmas.{pass_more}
 use Rattle.ly_grammar.proofs.search.passing_until.Goals as goal
 
@@ -20,7 +20,7 @@ within_map body at lt = subst (λ n. at < n) (sym (length-map body symbol_of)) l
 pub symbol_passes-requires : goal.symbol_passes-requires
 symbol_passes-requires c =
     let body = c.args.body.now in
-    subst (IsNumbered (length c.args.found.now)) (get_or-map symbol_of body c.loop-at.at nowhere)
+    subst (HasNumberBelow (length c.args.found.now)) (get_or-map symbol_of body c.loop-at.at nowhere)
     (c.requires.numbered c.loop-at.at (symbol_of nowhere) (within_map body c.loop-at.at c.loop-at-test.true))
 
 pub loop-at-preserved : goal.loop-at-preserved

@@ -5,7 +5,7 @@ use Rattle.std.proofs.lemmas.Option.{slice_get_within}
 use Rattle.std.proofs.lemmas.List.Elements.{Contains-get_or}
 use Rattle.ly_join.specs.Grammar.{Grammar, Rule, IsRule, nonterminal}
 use Rattle.ly_grammar.specs.Reduction.{restricted}
-use Rattle.ly_grammar.specs.Private.Search.{Progress, IsSearch, HasTree, Advances, AllPass, Settled, was_found}
+use Rattle.ly_grammar.specs.Private.Search.{Progress, IsSearch, HasTree, Advances, SymbolsPass, Settled, was_found}
 use Rattle.ly_grammar.proofs.MarkedLemmas.{at_marked, marked_at, length-marked}
 use Rattle.ly_grammar.proofs.StartLemmas.{begun, is_begun, kept_rule, places_of}
 use Rattle.ly_grammar.proofs.CloseLemmas.{AreSettledBelow, IsTaken, closed, tree_passes, taken, one_less, settled_to}
@@ -192,7 +192,7 @@ returns-clause-exact c =
     let known = c.loop-waiting.invariant in
     let over = c.in_default.ensures in
     let same : c.search-2.inside.found.items ≡ s.found = ap (λ n. n.found) (c.search-2.view_is ∙ over.1) in
-    let close : (p : ℕ) (r : Rule) → IsRule R p r → AllPass s.found s.terminals r.body
+    let close : (p : ℕ) (r : Rule) → IsRule R p r → SymbolsPass s.found s.terminals r.body
     → was_found s r.left ≡ true
     = λ p r rule. closed s p r over.0 (known.settled p r rule) in
     let exact : (A : ℕ) → (was_found s A ≡ true) ↔ HasTree R s.terminals (nonterminal A)

@@ -5,7 +5,7 @@ use Rattle.ly_join.specs.Grammar.{symbol_of}
 use Rattle.ly_join.specs.declared.symbol.Symbol.{Symbol}
 use Rattle.ly_join.specs.declared.symbol.Symbol.TheVariants.{Terminal}
 use Rattle.ly_grammar.specs.Private.Reach.{uses}
-use Rattle.ly_grammar.specs.Private.Search.{IsNumbered}
+use Rattle.ly_grammar.specs.Private.Search.{HasNumberBelow}
 use Rattle.ly_grammar.proofs.PassLemmas.{place_numbered}
 use Rattle.ly_grammar.proofs.ReachLemmas.{uses_more}
 use Rattle.ly_grammar.proofs.useful.add_uses.Goals as goal
@@ -19,9 +19,9 @@ add_use-requires-clause-numbered c =
     let symbols = c.body-symbol-items.result.now in
     let at = c.loop-symbol.symbol-index in
     let nodes : c.loop-symbol.graph.nodes ≡ c.args.graph.now.nodes = ap (λ g. g.nodes) c.loop-symbol.invariant in
-    subst (λ n. IsNumbered n (symbol_of (slice_index_or symbols at nowhere))) (sym nodes)
+    subst (λ n. HasNumberBelow n (symbol_of (slice_index_or symbols at nowhere))) (sym nodes)
     (place_numbered c.args.graph.now.nodes symbols at nowhere c.loop-symbol-test.true
-    (subst (All (IsNumbered c.args.graph.now.nodes)) (sym c.body-symbol-items.ensures) c.requires.body))
+    (subst (All (HasNumberBelow c.args.graph.now.nodes)) (sym c.body-symbol-items.ensures) c.requires.body))
 
 pub add_use-requires-clause-left : goal.add_use-requires-clause-left
 add_use-requires-clause-left c =

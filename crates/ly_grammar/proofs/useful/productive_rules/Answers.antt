@@ -4,7 +4,7 @@ use Rattle.std.proofs.lemmas.List.{length-map}
 use Rattle.std.proofs.lemmas.Option.{slice_get_within}
 use Rattle.ly_join.specs.Grammar.{Grammar, Rule, IsRule, nonterminal}
 use Rattle.ly_grammar.specs.Reduction.{restricted}
-use Rattle.ly_grammar.specs.Private.Search.{AllPass, HasTree}
+use Rattle.ly_grammar.specs.Private.Search.{SymbolsPass, HasTree}
 use Rattle.ly_grammar.proofs.CloseLemmas.{found_passes}
 use Rattle.ly_grammar.proofs.MarkedLemmas.{marked_all}
 use Rattle.ly_grammar.proofs.MarksLemmas.{AreMarks, marked_more}
@@ -15,11 +15,11 @@ pub loop-number-preserved : goal.loop-number-preserved
 loop-number-preserved c =
     let G : Grammar = c.args.grammar.now in
     let n = c.loop-number.number in
-    let P : ℕ → Rule → Type 0 = λ p r. AllPass c.in_ok-found.found.items true r.body in
+    let P : ℕ → Rule → Type 0 = λ p r. SymbolsPass c.in_ok-found.found.items true r.body in
     let here : (r : Rule) → IsRule G n r → (c.body_passes.result ≡ true) ↔ P n r
     = λ r rule. subst (λ x. (c.body_passes.result ≡ true) ↔ P n x)
     (rule_is_one G n c.rule.result.now r c.rule.ensures.there rule)
-    (subst (λ found. (c.body_passes.result ≡ true) ↔ AllPass found true c.rule.result.now.body)
+    (subst (λ found. (c.body_passes.result ≡ true) ↔ SymbolsPass found true c.rule.result.now.body)
     c.deref-in-loop-number.ensures.value c.body_passes.ensures) in
     subst (λ marks. AreMarks G P marks (n + 1)) (sym c.in_ok-push.ensures.items)
     (marked_more G P c.loop-number.productive.items n c.body_passes.result c.loop-number.invariant here)

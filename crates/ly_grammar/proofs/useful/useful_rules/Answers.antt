@@ -8,7 +8,7 @@ use Rattle.ly_join.specs.Grammar.{Grammar, Rule, IsGrammar, IsRule, accept_rule}
 use Rattle.ly_sets.specs.NumberSet.{Member}
 use Rattle.ly_sets.specs.SetMatrix.{row}
 use Rattle.ly_grammar.specs.Reduction.{restricted}
-use Rattle.ly_grammar.specs.Private.Reach.{Reached}
+use Rattle.ly_grammar.specs.Private.Reach.{IsReachedBy}
 use Rattle.ly_grammar.proofs.MarksLemmas.{AreMarks, marked_more}
 use Rattle.ly_grammar.proofs.SearchLemmas.{rule_is_one}
 use Rattle.ly_grammar.proofs.UsefulLemmas.{AreProductive, useful_reached, whole_trees, start_tree}
@@ -46,12 +46,12 @@ loop-number-preserved c =
     let marks = c.in_ok-productive.productive.items in
     let n = c.loop-number.number in
     let P : ℕ → Rule → Type 0 = λ p r. (p ≡ 0) ⊎ ((slice_index_or marks p false ≡ true)
-    × Reached (restricted marks G) r.left) in
+    × IsReachedBy (restricted marks G) r.left) in
     let r : Rule = c.rule.result.now in
     let lt : n < length marks = (let e = c.in_ok-productive.productive.ok.0 in let l = c.len-number-end.ensures in
     let t = c.loop-number-test.true in omega (arith, e, l, t)) in
-    let exact : (A : ℕ) → Member (row c.in_ok-sets.sets.sets A) 0 ↔ Reached (restricted marks G) A
-    = subst (λ ms. (A : ℕ) → Member (row c.in_ok-sets.sets.sets A) 0 ↔ Reached (restricted ms G) A)
+    let exact : (A : ℕ) → Member (row c.in_ok-sets.sets.sets A) 0 ↔ IsReachedBy (restricted marks G) A
+    = subst (λ ms. (A : ℕ) → Member (row c.in_ok-sets.sets.sets A) 0 ↔ IsReachedBy (restricted ms G) A)
     c.deref.ensures.value c.in_ok-sets.ensures.exact in
     let here : (c.if-number-eq0.push ≡ true) ↔ P n r = elim c.if-number-eq0.branch [
       | then-number-eq0 w ↦ (λ on. inl w.if-number-eq0.true, λ is. w.push-is ∙ eq-eqb n 0 w.if-number-eq0.true)
@@ -60,8 +60,8 @@ loop-number-preserved c =
           w.index-else-number-eq0.ensures ∙ w.if-index.true in
           let there : w.contains.result ≡ set.contains (row c.in_ok-sets.sets.sets r.left) 0
           = w.contains.ensures ∙ ap (λ A. set.contains (row c.in_ok-sets.sets.sets A) 0) c.left.ensures in
-          let led : (w.contains.result ≡ true) ↔ Reached (restricted marks G) r.left
-          = subst (λ b. (b ≡ true) ↔ Reached (restricted marks G) r.left) (sym there) (exact r.left) in
+          let led : (w.contains.result ≡ true) ↔ IsReachedBy (restricted marks G) r.left
+          = subst (λ b. (b ≡ true) ↔ IsReachedBy (restricted marks G) r.left) (sym there) (exact r.left) in
           let a : c.if-number-eq0.push ≡ w.contains.result = w.push-is in (
             λ e. inr (on, led.0 (sym a ∙ e)),
             λ is. a ∙ elim is [

@@ -1,6 +1,6 @@
 use Rattle.std.proofs.Common.{◌≡◌, ◌⊎◌, slice_index_or, true, false}
 use Rattle.ly_grammar.specs.Reduction.{restricted}
-use Rattle.ly_grammar.specs.Private.Reach.{Reached}
+use Rattle.ly_grammar.specs.Private.Reach.{IsReachedBy}
 use Rattle.ly_grammar.proofs.MarksLemmas.{AreMarks}
 use Rattle.ly_grammar.proofs.useful.useful_rules.Given as goal
 
@@ -8,4 +8,4 @@ use Rattle.ly_grammar.proofs.useful.useful_rules.Given as goal
 abbrev pub invariant-loop-number : goal.invariant-loop-number
 invariant-loop-number l = AreMarks l.grammar
     (λ p r. (p ≡ 0) ⊎ ((slice_index_or l.productive.items p false ≡ true)
-    × Reached (restricted l.productive.items l.grammar) r.left)) l.useful.items l.number
+    × IsReachedBy (restricted l.productive.items l.grammar) r.left)) l.useful.items l.number

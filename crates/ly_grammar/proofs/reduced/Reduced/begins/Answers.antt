@@ -1,6 +1,6 @@
 use Rattle.std.proofs.Common.{◌≡◌, ◌<◌, ◌≤◌, ◌↔◌, ◌∙◌, [], ◌∷◌, sym, subst, arith, true}
 use Rattle.ly_join.specs.Grammar.{nonterminal}
-use Rattle.ly_grammar.specs.Derivations.{Begins}
+use Rattle.ly_grammar.specs.Derivations.{BeginsYield}
 use Rattle.ly_grammar.specs.Reduction.{Reduction}
 use Rattle.ly_grammar.proofs.reduced.Reduced.begins.Goals as goal
 
@@ -21,7 +21,7 @@ contains-requires-clause-below c =
 pub returns : goal.returns
 returns c =
     let Test : Reduction → Type 0 = λ r. (c.contains.result ≡ true)
-    ↔ Begins r.grammar (nonterminal c.args.symbol.0 ∷ []) c.args.terminal.0 in
+    ↔ BeginsYield r.grammar (nonterminal c.args.symbol.0 ∷ []) c.args.terminal.0 in
     let View : Reduction → Type 0 = λ r. c.args.symbol.0 ≤ r.grammar.accept in
     let le = subst View (sym c.self.view_is) c.requires.symbol in
     let exact = c.self.invariant.0.first c.args.symbol.0 c.args.terminal.0 le in

@@ -2,7 +2,8 @@ use Rattle.std.proofs.Common.{◌<◌, ◌∙◌, sym, ap, subst, length, Some, 
 use Rattle.std.specs.Option.{IfSome}
 use Rattle.std.proofs.lemmas.Result.{on_ok_weaker}
 use Rattle.ly_join.specs.Grammar.{Rule, symbol_of}
-use Rattle.ly_grammar.specs.Private.Search.{Progress, IsNumbered, Advances, StopsAt, stopped, with_found, with_waiting}
+use Rattle.ly_grammar.specs.Private.Search.{Progress, HasNumberBelow, Advances, StopsAt, stopped, with_found,
+    with_waiting}
 use Rattle.ly_join.specs.declared.symbol.Symbol.TheVariants.{Terminal, Nonterminal}
 use Rattle.ly_grammar.proofs.AdvanceLemmas.{numbered_in, all_passed, nonterminal_stops, then_advances}
 use Rattle.ly_grammar.proofs.search.Search.advance.Goals as goal
@@ -46,8 +47,8 @@ returns-in-Some-Nonterminal c =
     let s : Progress = c.args.self.now in
     let t : Progress = c.pass.new.self in
     let A = c.in-Some-Nonterminal.symbol.0 in
-    let numbered : All (IsNumbered (length t.found)) r.body
-    = subst (λ n. All (IsNumbered n) r.body) (ap (λ s. length s.found) (sym c.pass.ensures.rest))
+    let numbered : All (HasNumberBelow (length t.found)) r.body
+    = subst (λ n. All (HasNumberBelow n) r.body) (ap (λ s. length s.found) (sym c.pass.ensures.rest))
     c.requires.numbered.body in
     on_ok_weaker c.wait.result (λ e G search rule.
     let on = c.pass.ensures.on G search rule in
