@@ -17,7 +17,7 @@ pub(crate) fn signature(
     requires states { length of.now ≡ length dfa.now.rules }
     ensures { IfOk result (λ key. key.items ≡ signature_of dfa.now of.now state) }
 {
-    let mut key = Vec::new(alloc);
+    let mut key = Vec::with_capacity(alloc, dfa.classes())?;
     key.push(of[state as usize])?;
     push_marked(&mut key, dfa.rule(state).map(|rule| rule.0))?;
     for class in 0..dfa.classes() {
