@@ -12,8 +12,8 @@ use Rattle.std.proofs.lemmas.Option.{slice_get-map, get_or_from_slice_get}
 use Rattle.std.proofs.lemmas.List.Elements.{All-contains, Contains-get_or}
 use Rattle.ly_join.specs.Grammar.{Grammar, Rule, IsRule, Symbol, symbol_of, nonterminal}
 use Rattle.ly_join.specs.declared.symbol.Symbol as code
-use Rattle.ly_grammar.specs.Private.Search.{Progress, IsSearch, HasPlaces, SymbolsPass, HasNumberBelow, Advances,
-    SearchGoesOn}
+use Rattle.ly_grammar.specs.Private.Search.{Progress, IsSearch, HasPlaces, SymbolsPass, HasNumberBelow, Advances}
+use Rattle.ly_grammar.specs.Private.Search.{SearchGoesOn}
 use Rattle.ly_grammar.specs.Private.Search.{StopsAt, HasPassed}
 use Rattle.ly_grammar.specs.Private.Search.{found}
 use Rattle.ly_grammar.specs.Private.Search.{waiting, passes, was_found, with_found, with_passed, with_waiting}

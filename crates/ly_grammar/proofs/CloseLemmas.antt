@@ -8,8 +8,8 @@ use Rattle.ly_base.proofs.MemberLemmas.{Contains-none, Contains-one, Contains-co
 use Rattle.ly_base.specs.Trees.{Tree, Trees, leaf, node, none, more, yield_of, yields_of}
 use Rattle.ly_join.specs.Grammar.{Grammar, Rule, IsRule, Symbol, terminal, nonterminal}
 use Rattle.ly_grammar.specs.Derivations.{IsTree, AreTrees}
-use Rattle.ly_grammar.specs.Private.Search.{Progress, HasTree, HaveTrees, IsSearch, Advances, SymbolsPass, Settled,
-    IsTakenNext}
+use Rattle.ly_grammar.specs.Private.Search.{Progress, HasTree, HaveTrees, IsSearch, Advances, SymbolsPass, Settled}
+use Rattle.ly_grammar.specs.Private.Search.{IsTakenNext}
 use Rattle.ly_grammar.specs.Private.Search.{found, stopped, waiting, to_come}
 use Rattle.ly_grammar.specs.Private.Search.{passes, was_found, waits_for, left_to_do}
 use Rattle.ly_grammar.proofs.SearchLemmas.{member_tree, nothing_together, rule_is_one, same_or_not}
@@ -29,7 +29,7 @@ closed s p r empty is all = elim is [
 
 module _ (G : Grammar) (s : Progress)
     (close : (p : ℕ) (r : Rule) → IsRule G p r → SymbolsPass s.found s.terminals r.body → was_found s r.left
-        ≡ true) where
+    ≡ true) where
   mutual
     -- what has a tree passes
     pub tree_passes : (X : Symbol) (d : Tree) → IsTree G X d → (s.terminals ≡ false → yield_of d ≡ [])

@@ -2,8 +2,8 @@ use Rattle.std.proofs.Common.{◌<◌, ◌∙◌, sym, ap, subst, length, Some, 
 use Rattle.std.specs.Option.{IfSome}
 use Rattle.std.proofs.lemmas.Result.{on_ok_weaker}
 use Rattle.ly_join.specs.Grammar.{Rule, symbol_of}
-use Rattle.ly_grammar.specs.Private.Search.{Progress, HasNumberBelow, Advances, StopsAt, stopped, with_found,
-    with_waiting}
+use Rattle.ly_grammar.specs.Private.Search.{Progress, HasNumberBelow, Advances, StopsAt, stopped, with_found}
+use Rattle.ly_grammar.specs.Private.Search.{with_waiting}
 use Rattle.ly_join.specs.declared.symbol.Symbol.TheVariants.{Terminal, Nonterminal}
 use Rattle.ly_grammar.proofs.AdvanceLemmas.{numbered_in, all_passed, nonterminal_stops, then_advances}
 use Rattle.ly_grammar.proofs.search.Search.advance.Goals as goal
