@@ -1,17 +1,22 @@
 -- Texts of definitions are read, and put in order.
-use Rattle.std.proofs.Common.{◌≡◌, ◌≢◌, ◌<◌, ◌≤◌, ◌⊎◌, ◌+◌, ℕ, zero, suc, List, [], ◌∷◌, ◌++◌, length, get_or, set, map, take, inl, inr}
-use Rattle.std.proofs.Common.{arith, ap, ap₂, sym, subst, refl, Option, Some, None, ◌∙◌, length-append, length-take, take-append-drop, drop}
+use Rattle.std.proofs.Common.{◌≡◌, ◌≢◌, ◌<◌, ◌≤◌, ◌⊎◌, ◌+◌, ℕ, zero, suc, List, [], ◌∷◌, ◌++◌, length, get_or, set}
+use Rattle.std.proofs.Common.{map, take, inl, inr}
+use Rattle.std.proofs.Common.{arith, ap, ap₂, sym, subst, refl, Some, None, ◌∙◌, length-append, length-take}
+use Rattle.std.proofs.Common.{take-append-drop, drop}
 use Rattle.std.specs.Prelude.{All, Contains, Vec, slice_get}
 use Rattle.std.specs.Global.{Global}
 use Rattle.std.specs.Option.{ForSome}
 use Rattle.std.proofs.Math.ListN.{get_or-append, get_or-eq_default}
 use Rattle.std.proofs.Math.Seq.{get_or-append_seam, take-suc}
 use Rattle.std.proofs.lemmas.Bool.{cases_eq, cases_lt}
-use Rattle.std.proofs.lemmas.List.{drop_all, get_or_default, get_or-set_other, get_or-set_same, get_or-map, get_or-take, length-map, length-set, map-append, take-map, take_all}
+use Rattle.std.proofs.lemmas.List.{drop_all, get_or_default, get_or-set_other, get_or-set_same, get_or-map}
+use Rattle.std.proofs.lemmas.List.{get_or-take, length-map, length-set, map-append, take-map, take_all}
 use Rattle.std.proofs.lemmas.List.{take-append-le}
-use Rattle.std.proofs.lemmas.List.Elements.{All-contains, Contains-append_left, Contains-get_or, Contains-push, Contains-push_cases}
+use Rattle.std.proofs.lemmas.List.Elements.{All-contains, Contains-append_left, Contains-get_or, Contains-push}
+use Rattle.std.proofs.lemmas.List.Elements.{Contains-push_cases}
 use Rattle.std.proofs.lemmas.Option.{get_or_from_slice_get, slice_get-get_or, slice_get_within}
-use Rattle.ly_ere.specs.Definitions.{AreDistinct, AreLightNames, AreNames, ArePlaced, AreRefused, CanFollow, IsHeavyText}
+use Rattle.ly_ere.specs.Definitions.{AreDistinct, AreLightNames, AreNames, ArePlaced, AreRefused, CanFollow}
+use Rattle.ly_ere.specs.Definitions.{IsHeavyText}
 use Rattle.ly_ere.specs.Definitions.{IsNext, Named, named_text, named_texts, next}
 use Rattle.ly_ere.specs.declared.definitions.NamedText.{NamedText}
 use Rattle.ly_ere.specs.declared.definitions.Refusal.{Refusal}
@@ -22,7 +27,8 @@ use Rattle.ly_ere.specs.Patterns.{IsExpression}
 use Rattle.ly_ere.specs.Private.Definitions.{AreRead, ArePlacing, IsNoText, IsTextRefusal, expression_at, known_names}
 use Rattle.ly_ere.specs.Private.Definitions.{text_uses}
 use Rattle.ly_ere.specs.Private.Front.{IsFrontExpression}
-use Rattle.ly_ere.specs.Private.Turns.{AreInTurn, AreThere, IsLastTurn, IsReady, next as in_turn, none as no_turn, uses_at}
+use Rattle.ly_ere.specs.Private.Turns.{AreInTurn, AreThere, IsLastTurn, IsReady, next as in_turn, none as no_turn}
+use Rattle.ly_ere.specs.Private.Turns.{uses_at}
 use Rattle.ly_ere.specs.Private.Uses.{number_for, renumbered, uses_of}
 use Rattle.ly_ere.specs.Weight.{named_weight, weight_of}
 use Rattle.ly_ere.specs.declared.definitions.Texts.{Texts}
@@ -30,9 +36,11 @@ use Rattle.ly_ere.specs.declared.fault.EreFault.{EreFault}
 use Rattle.ly_ere.specs.declared.fault.EreFault.TheVariants.{NameCycle, OutOfMemory, TooHeavy}
 use Rattle.ly_ere.proofs.NumberedLemmas.{alternation_found}
 use Rattle.ly_ere.proofs.PatternLaws.{expression_one, front_length_one}
-use Rattle.ly_ere.proofs.PlaceLemmas.{cases_option, none_some, some_one, known, known_is, next_one, no_definition, no_text, number_before, number_cases}
+use Rattle.ly_ere.proofs.PlaceLemmas.{cases_option, none_some, some_one, known, known_is, next_one, no_definition}
+use Rattle.ly_ere.proofs.PlaceLemmas.{no_text, number_before, number_cases}
 use Rattle.ly_ere.proofs.WeightLemmas.{weight_at_place, weight_of_earlier, weight_of_last}
-use Rattle.ly_ere.proofs.PlaceLemmas.{number_front, number_is, number_new, placed_at, placed_front, read_under_known, read_under_placed}
+use Rattle.ly_ere.proofs.PlaceLemmas.{number_front, number_is, number_new, placed_at, placed_front, read_under_known}
+use Rattle.ly_ere.proofs.PlaceLemmas.{read_under_placed}
 
 module _ (names : List Definition) (text : List ℕ) where
   -- a whole text as the front of a line
@@ -126,7 +134,8 @@ module _ (known : List Definition) (list : List Named) (d : Named) (t u : Texts)
       by (inl (less, was)) = ap (λ us. uses_at us n) all_uses
           ∙ (get_or-append (text_uses t) (v.items ∷ []) [] n (omega (arith, long, less)) ∙ a.uses n c e was text)
       by (inr (end, same)) = ap (λ us. uses_at us n) all_uses
-          ∙ (ap (uses_at (text_uses t ++ v.items ∷ [])) (end ∙ sym long) ∙ (get_or-append_seam (text_uses t) v.items [] []
+          ∙ (ap (uses_at (text_uses t ++ v.items ∷ [])) (end ∙ sym long) ∙ (get_or-append_seam
+          (text_uses t) v.items [] []
           ∙ last e (subst (λ (k : Named). IsExpression known k.text e) (sym same) text)))
 
   -- a refusal stays one
@@ -135,7 +144,8 @@ module _ (known : List Definition) (list : List Named) (d : Named) (t u : Texts)
       let l = slice_get_within list r.place is.text is.is in record {
         text = is.text;
         is = slice_get-get_or (list ++ d ∷ []) r.place no_text (omega (arith, l, length-append list (d ∷ [])))
-            ∙ ap Some (get_or-append list (d ∷ []) no_text r.place l ∙ get_or_from_slice_get list r.place is.text no_text is.is);
+            ∙ ap Some (get_or-append list (d ∷ []) no_text r.place l
+            ∙ get_or_from_slice_get list r.place is.text no_text is.is);
         none = is.none;
         memory = is.memory;
         weight = is.weight;
@@ -399,10 +409,12 @@ module _ (list : List Named) (distinct : AreDistinct list) (t : Texts) (a : AreR
             by : (number_of names c.name ≡ Some x) ⊎ (d.name ≡ c.name) → Contains (order ++ n ∷ []) m
             by (inl before) = Contains-append_left order (n ∷ []) m
                 (p.only m c is (λ missing. none_some (sym missing ∙ before)))
-            by (inr same) = subst (Contains (order ++ n ∷ [])) (distinct n m d c step.is is same) (Contains-push order n)
+            by (inr same) = subst (Contains (order ++ n ∷ [])) (distinct n m d c step.is is same)
+                (Contains-push order n)
 
   -- whatever is placed stands in an order that can't go on
-  pub placed_in_order : (order : List ℕ) → IsLastTurn (text_uses t) order → {names : List Definition} → ArePlaced list names
+  pub placed_in_order : (order : List ℕ) → IsLastTurn (text_uses t) order → {names : List Definition}
+      → ArePlaced list names
       → (n : ℕ) (d : Named) → slice_get list n ≡ Some d → number_of names d.name ≢ None → (Contains order n → ⊥) → ⊥
   placed_in_order order last definitions.none n d is some apart = some refl
   placed_in_order order last (next placed k c e before step) n d is some apart
@@ -412,7 +424,13 @@ module _ (list : List Named) (distinct : AreDistinct list) (t : Texts) (a : AreR
     where
       at_step : ((y : ℕ) (b : Named) → slice_get list y ≡ Some b → number_of placed b.name ≢ None
           → (Contains order y → ⊥) → ⊥) → n ≡ k → ⊥
-      at_step earlier same = last n (omega (arith, slice_get_within list n d is, length-map t.uses.items (λ (v : Vec ℕ Global). v.items), a.counted)) apart ready
+      at_step earlier same = last n (omega (
+        arith,
+        slice_get_within list n d is,
+        length-map t.uses.items (λ
+            (v : Vec ℕ Global). v.items),
+        a.counted,
+      )) apart ready
         where
           text : IsExpression placed d.text e
           text = subst (λ (b : Named). IsExpression placed b.text e)
@@ -491,7 +509,8 @@ heavy_there most list placed names n d e before step heavy all light = by (cases
         ∙ (ap (λ (k : Definition). k.1) there.4 ∙ sym one.1) in
         let start : take (length placed) (defined names) ≡ defined placed
         = take-map (λ (k : Definition). k.1) (length placed) names ∙ ap defined (sym front) in
-        let weight : named_weight (defined names) (length (defined names)) (length placed) ≡ weight_of (defined placed) e
+        let weight : named_weight (defined names) (length (defined names)) (length placed) ≡ weight_of
+        (defined placed) e
         = weight_at_place (defined names) (length placed)
         (omega (arith, less, length-map names (λ (k : Definition). k.1)))
         ∙ ap₂ weight_of start last in
@@ -529,10 +548,12 @@ module _ (codes : List NamedText) (distinct : AreDistinct (named_texts codes)) (
     length-map codes named_text,
   )
 
-  module _ (names : List Definition) (numbers : List ℕ) (p : ArePlacing (named_texts codes) (take i order) names numbers)
+  module _ (names : List Definition) (numbers : List ℕ) (p : ArePlacing (named_texts codes)
+      (take i order) names numbers)
     where
       -- it is the next to be placed
-      pub placed_next : IsNext (named_texts codes) names (get_or order i 0) (named_text (get_or codes (get_or order i 0) no_entry))
+      pub placed_next : IsNext (named_texts codes) names (get_or order i 0) (named_text (get_or codes
+          (get_or order i 0) no_entry))
           (renumbered (number_for numbers) (expression_at t (get_or order i 0)))
       placed_next =
           let turn = turn_at (text_uses t) order turns i l in
@@ -557,7 +578,8 @@ module _ (codes : List NamedText) (distinct : AreDistinct (named_texts codes)) (
           subst (λ o. ArePlacing (named_texts codes) o more_names (set numbers (get_or order i 0) i)) (sym more)
           (subst (λ k. ArePlacing (named_texts codes) (take i order ++ get_or order i 0 ∷ []) more_names
           (set numbers (get_or order i 0) k)) many
-          (placed_more (named_texts codes) distinct t a (take i order) names numbers p (get_or order i 0) d e placed_next
+          (placed_more (named_texts codes) distinct t a (take i order) names numbers p
+          (get_or order i 0) d e placed_next
           turn.1))
         where
           one_more : (i : ℕ) → i + 1 ≡ suc i
@@ -631,7 +653,8 @@ module _ (most : ℕ) (list : List Named) (distinct : AreDistinct list) where
   }
 
   -- one that leads into a cycle
-  pub refused_cycle : (t : Texts) → AreRead (known_names list) list t → (order : List ℕ) → IsLastTurn (text_uses t) order
+  pub refused_cycle : (t : Texts) → AreRead (known_names list) list t → (order : List ℕ) → IsLastTurn
+      (text_uses t) order
       → (n : ℕ) → n < length list → (Contains order n → ⊥) → AreRefused most list n NameCycle
   refused_cycle t a order last n l apart = record {
     within = λ _. l;

@@ -1,6 +1,7 @@
 -- How far the elements at the front of a line go.
-use Rattle.std.proofs.Common.{◌≡◌, ◌≤◌, ◌+◌, ◌-◌, ℕ, List, [], ◌∷◌, ◌++◌, length, drop, take, refl, sym, ap, subst, ◌∙◌, arith, IsTrue}
-use Rattle.std.proofs.Common.{drop-drop, length-drop, length-append, take-append-drop}
+use Rattle.std.proofs.Common.{◌≡◌, ◌≤◌, ◌+◌, ℕ, List, [], ◌∷◌, ◌++◌, length, drop, refl, sym, ap, subst, ◌∙◌, arith}
+use Rattle.std.proofs.Common.{IsTrue}
+use Rattle.std.proofs.Common.{drop-drop, length-drop}
 use Rattle.std.proofs.lemmas.Bool.Decides.{nat_tests}
 use Rattle.ly_base.specs.Blank.{is_blank}
 use Rattle.ly_ere.specs.Elements.{AreElements, Element, IsElement, bounds, braced_name, bracket, dot, element, end}

@@ -1,13 +1,14 @@
 -- An expression under other definitions of its names: the same words, with other numbers for the names.
-use Rattle.std.proofs.Common.{◌≡◌, ℕ, List, [], ◌∷◌, ◌++◌, length, map, get_or, ap, ap₂, refl, sym, subst, arith, inl, inr, ◌⊎◌}
-use Rattle.std.proofs.Common.{◌<◌, Some, zero, suc, ◌∙◌}
+use Rattle.std.proofs.Common.{◌≡◌, ℕ, List, [], ◌∷◌, ◌++◌, map, ap, ap₂, refl, sym, arith, inl, inr, ◌⊎◌}
+use Rattle.std.proofs.Common.{Some, zero, suc, ◌∙◌}
 use Rattle.std.proofs.lemmas.List.{map-append}
 use Rattle.std.specs.Prelude.{Contains}
 use Rattle.std.proofs.lemmas.List.Elements.{Contains-append_cases, Contains-append_left, Contains-append_right}
 use Rattle.ly_ere.specs.Elements.{Element}
 use Rattle.ly_ere.specs.Expression.{Expression, concat, either, empty, name, optional, plus, repeat, set, star}
 use Rattle.ly_ere.specs.Grammar.{Alternation, Atom, Branch, Piece, atom, branch, byte_atom, counted, group, in_order}
-use Rattle.ly_ere.specs.Grammar.{joined, left_open, name_atom, parted, piece, repeated, starred, string_atom, with_bytes}
+use Rattle.ly_ere.specs.Grammar.{joined, left_open, name_atom, parted, piece, repeated, starred, string_atom}
+use Rattle.ly_ere.specs.Grammar.{with_bytes}
 use Rattle.ly_ere.specs.Names.{Definition, number_of}
 use Rattle.ly_ere.specs.Private.Uses.{renumbered, uses_of}
 

@@ -1,21 +1,22 @@
 -- Definitions that are placed one behind another.
-use Rattle.std.proofs.Common.{◌≡◌, ◌≢◌, ◌<◌, ◌≤◌, ◌⊎◌, ◌+◌, ℕ, zero, suc, List, [], ◌∷◌, ◌++◌, length, get_or, set, map, take, inl, inr}
-use Rattle.std.proofs.Common.{arith, ap, ap₂, sym, subst, refl, Bool, true, false, Option, Some, None, ◌∙◌, length-append}
-use Rattle.std.specs.Prelude.{All, Contains, cond, position, slice_get, slice_index_or}
+use Rattle.std.proofs.Common.{◌≡◌, ◌≢◌, ◌<◌, ◌≤◌, ◌⊎◌, ◌+◌, ℕ, zero, suc, List, [], ◌∷◌, ◌++◌, length, get_or, map}
+use Rattle.std.proofs.Common.{take, inl, inr}
+use Rattle.std.proofs.Common.{arith, ap, ap₂, sym, subst, refl, Bool, true, false, Option, Some, None, ◌∙◌}
+use Rattle.std.proofs.Common.{length-append}
+use Rattle.std.specs.Prelude.{Contains, cond, slice_get}
 use Rattle.std.specs.List.{position_from}
 use Rattle.std.specs.Str.{bytes_eq}
 use Rattle.std.proofs.Math.ListN.{get_or-append}
 use Rattle.std.proofs.Math.Seq.{get_or-append_seam, take-suc}
-use Rattle.std.proofs.lemmas.Bool.{cases_Bool, cases_eq, cases_lt}
+use Rattle.std.proofs.lemmas.Bool.{cases_Bool, cases_lt}
 use Rattle.std.proofs.lemmas.Iterator.Adapters.{position_from-zero}
-use Rattle.std.proofs.lemmas.List.{get_or_default, get_or-map, get_or-set_same, get_or-set_other, length-map, length-set, map-append}
+use Rattle.std.proofs.lemmas.List.{get_or-map, length-map}
 use Rattle.std.proofs.lemmas.List.{take-append-le, take_all}
-use Rattle.std.proofs.lemmas.List.Elements.{All-contains, Contains-append_left, Contains-get_or, Contains-push}
-use Rattle.std.proofs.lemmas.List.Elements.{Contains-push_cases}
+use Rattle.std.proofs.lemmas.List.Elements.{Contains-get_or}
 use Rattle.std.proofs.lemmas.List.Quantifiers.{position-Some}
-use Rattle.std.proofs.lemmas.Option.{get_or_from_slice_get, slice_get-get_or, slice_get-map, slice_get_within}
+use Rattle.std.proofs.lemmas.Option.{get_or_from_slice_get, slice_get-get_or, slice_get_within}
 use Rattle.std.proofs.lemmas.Slice.Eq.{bytes_eq-Decides}
-use Rattle.ly_ere.specs.Definitions.{AreDistinct, AreNames, ArePlaced, CanFollow, IsNext, Named, next, none}
+use Rattle.ly_ere.specs.Definitions.{AreDistinct, AreNames, ArePlaced, IsNext, Named, next, none}
 use Rattle.ly_ere.specs.Expression.{Expression, empty}
 use Rattle.ly_ere.specs.Expression as expression
 use Rattle.ly_ere.specs.Names.{Definition, number_of}
@@ -51,7 +52,8 @@ position_append p (x ∷ xs) ys i = by (p x) (position_append p xs ys (i + 1))
 position_first : {X : Type 0} (p : X → Bool) (xs : List X) (i k : ℕ) (d : X) → k < length xs → p (get_or xs k d) ≡ true
     → ((j : ℕ) → j < k → p (get_or xs j d) ≡ false) → position_from p i xs ≡ Some (i + k)
 position_first p [] i k d l is before = absurd (omega (arith, l))
-position_first p (x ∷ xs) i zero d l is before = ap (λ b. cond b (Some i) (position_from p (i + 1) xs)) is ∙ ap Some (same i)
+position_first p (x ∷ xs) i zero d l is before = ap (λ b. cond b (Some i) (position_from p (i + 1) xs)) is
+    ∙ ap Some (same i)
   where
     same : (i : ℕ) → i ≡ i + 0
     same i = omega arith
@@ -193,7 +195,8 @@ module _ (list : List Named) where
         zero_more : (k : ℕ) → 0 + k ≡ k
         zero_more k = omega arith
 
-        name_at : (j : ℕ) → j < length list → (get_or (known_names list) j no_definition).0 ≡ (get_or list j no_text).name
+        name_at : (j : ℕ) → j < length list → (get_or (known_names list) j no_definition).0 ≡
+            (get_or list j no_text).name
         name_at j less = ap (λ (k : Definition). k.0) (get_or-map known list j no_text no_definition less)
 
         here : p (get_or (known_names list) y no_definition) ≡ true
@@ -212,7 +215,8 @@ module _ (list : List Named) where
             by (inl same) =
                 let name : d.name ≡ (get_or list j no_text).name
                 = (bytes_eq-Decides d.name (get_or (known_names list) j no_definition).0).0 same ∙ name_at j there in
-                let one : y ≡ j = distinct y j d (get_or list j no_text) is (slice_get-get_or list j no_text there) name in
+                let one : y ≡ j = distinct y j d (get_or list j no_text) is
+                (slice_get-get_or list j no_text there) name in
                 absurd (omega (arith, one, less))
             by (inr other) = other
 
@@ -302,7 +306,8 @@ module _ (list : List Named) where
             there.0,
             there.1,
             there.2,
-            subst (λ p. IsNext list p there.0 there.1 there.2) (sym (take-append-le i placed ((d.name, e) ∷ []) (omega (arith, less)))) there.3,
+            subst (λ p. IsNext list p there.0 there.1 there.2) (sym (take-append-le i placed ((d.name, e) ∷ [])
+                (omega (arith, less)))) there.3,
             get_or-append placed ((d.name, e) ∷ []) no_definition i less ∙ there.4,
           )
       by (inr more) f =

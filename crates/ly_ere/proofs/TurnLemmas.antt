@@ -1,5 +1,6 @@
 -- Things are settled and taken, one after another.
-use Rattle.std.proofs.Common.{◌≡◌, ◌≢◌, ◌↔◌, ◌<◌, ◌≤◌, ◌⊎◌, ◌+◌, ◌-◌, ℕ, zero, suc, List, [], ◌∷◌, ◌++◌, length, get_or, set, inl, inr}
+use Rattle.std.proofs.Common.{◌≡◌, ◌≢◌, ◌↔◌, ◌<◌, ◌≤◌, ◌⊎◌, ◌+◌, ◌-◌, ℕ, zero, suc, List, [], ◌∷◌, ◌++◌, length}
+use Rattle.std.proofs.Common.{get_or, set, inl, inr}
 use Rattle.std.proofs.Common.{arith, ap, sym, subst, refl, Bool, true, false, nat_eq, ◌∙◌}
 use Rattle.std.specs.Prelude.{All, Contains, MatchOption, None, Option, Some, Vec, cond, if◌then◌else◌, not, position}
 use Rattle.std.proofs.lemmas.Iterator.Adapters.{position_from-zero}
@@ -10,10 +11,11 @@ use Rattle.std.specs.BTreeSet.{BTreeSet, contains}
 use Rattle.std.specs.Global.{Global}
 use Rattle.std.specs.Ordering.{nat_cmp}
 use Rattle.std.proofs.lemmas.Bool.Decides.{nat_tests}
-use Rattle.std.proofs.lemmas.Bool.{cases_Bool, cases_eq, cases_lt, eq-eqb, ne_eqb, not-true}
-use Rattle.std.proofs.lemmas.List.{get_or_default, get_or-map, get_or-set_same, get_or-set_other, length-map, length-set}
+use Rattle.std.proofs.lemmas.Bool.{cases_eq, cases_lt, eq-eqb, ne_eqb, not-true}
+use Rattle.std.proofs.lemmas.List.{get_or_default, get_or-map, get_or-set_same, get_or-set_other, length-map}
+use Rattle.std.proofs.lemmas.List.{length-set}
 use Rattle.std.proofs.lemmas.List.Elements.{Contains-append_left, Contains-get_or, Contains-push, Contains-push_cases}
-use Rattle.ly_ere.specs.Private.Turns.{AreInTurn, AreTaken, AreThere, IsLastTurn, IsNextUse, IsOpen, IsReady, IsShort, IsThrough}
+use Rattle.ly_ere.specs.Private.Turns.{AreTaken, AreThere, IsLastTurn, IsNextUse, IsOpen, IsReady, IsShort, IsThrough}
 use Rattle.ly_ere.specs.Private.Turns.{AreTurns, awaited, count_untaken, next, none, numbers_from, passed_at, uses_at}
 use Rattle.ly_ere.specs.Private.Turns.{uses_in}
 use Rattle.ly_ere.specs.declared.turns.Turns.{Turns}

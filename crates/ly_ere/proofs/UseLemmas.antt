@@ -1,5 +1,5 @@
 -- The names that an expression uses, found by its nodes.
-use Rattle.std.proofs.Common.{◌≡◌, ◌<◌, ◌+◌, ℕ, zero, suc, List, [], ◌∷◌, ◌++◌, length, get_or, ap, arith, refl, sym, ◌∙◌, map, inl, inr, ◌⊎◌}
+use Rattle.std.proofs.Common.{◌≡◌, ◌<◌, ◌+◌, ℕ, suc, List, [], ◌∷◌, ◌++◌, ap, arith, refl, sym, ◌∙◌, map, inl, inr, ◌⊎◌}
 use Rattle.std.proofs.Common.{length-append, subst, ◌≤◌}
 use Rattle.std.proofs.Common.{append_assoc, append-nil}
 use Rattle.std.specs.Prelude.{All, Option}

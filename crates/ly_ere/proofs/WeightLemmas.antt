@@ -1,5 +1,6 @@
 -- Weights under a cap, and the weights of definitions.
-use Rattle.std.proofs.Common.{◌≡◌, ◌≢◌, ℕ, zero, suc, ◌+◌, ◌≤◌, ◌<◌, ◌-◌, List, [], ◌∷◌, ◌++◌, Option, Some, None, refl, ap}
+use Rattle.std.proofs.Common.{◌≡◌, ◌≢◌, ℕ, zero, suc, ◌+◌, ◌≤◌, ◌<◌, ◌-◌, List, [], ◌∷◌, ◌++◌, Option, Some, None}
+use Rattle.std.proofs.Common.{refl, ap}
 use Rattle.std.proofs.Common.{drop, length-take, take, take-append-drop}
 use Rattle.std.proofs.Common.{sym, ◌∙◌, arith, length, length-append, get_or, Bool, true, false, rules, nat_eq}
 use Rattle.std.specs.Prelude.{min, if◌then◌else◌, MatchOption}
@@ -100,7 +101,8 @@ within_cap (Some w) capped weight most e h = (omega (arith, h.0, h.1), h.1)
 pub weight_at_place : (names : List Expression) (x : ℕ) → x < length names
     → named_weight names (length names) x ≡ weight_of (take x names) (get_or names x empty)
 weight_at_place names x l = ap (λ n. named_weight names n x) (parted (length names) l)
-    ∙ (later (length names - suc x) ∙ (here (nat_eq x x) refl ∙ ap (λ (f : ℕ → ℕ). weight_under f (get_or names x empty))
+    ∙ (later (length names - suc x) ∙ (here (nat_eq x x) refl ∙ ap (λ (f : ℕ → ℕ). weight_under f
+    (get_or names x empty))
     before))
   where
     parted : (n : ℕ) → x < n → n ≡ (n - suc x) + suc x

@@ -59,7 +59,8 @@ pub(crate) fn renumber(alloc: Global, re: &Re, numbers: &[usize]) -> Result<Re, 
 /// The node with another number, if it is a name's.
 fn with_number(node: Node, numbers: &[usize]) -> Node
     ensures fits { (n : ℕ) → FitsAt n node → FitsAt n result }
-    ensures expression { (done : List Expression) → expression_of (map (renumbered (number_for numbers.now)) done) result
+    ensures expression { (done : List Expression) → expression_of (map (renumbered
+        (number_for numbers.now)) done) result
         ≡ renumbered (number_for numbers.now) (expression_of done node) }
 {
     match node {

@@ -1,8 +1,8 @@
 -- Texts of definitions as they are read and placed.
-use Rattle.std.specs.Prelude.{◌≡◌, ◌≢◌, ℕ, ◌<◌, ◌≤◌, List, [], ◌∷◌, ◌++◌, All, map, length, slice_get, slice_index_or}
-use Rattle.std.specs.Prelude.{Option, None, Some, Contains, take}
+use Rattle.std.specs.Prelude.{◌≡◌, ◌≢◌, ℕ, ◌<◌, List, [], ◌∷◌, All, map, length, slice_get, slice_index_or}
+use Rattle.std.specs.Prelude.{None, Some, Contains}
 use Rattle.std.specs.Option.{ForSome}
-use Rattle.ly_ere.specs.Definitions.{AreDistinct, AreLightNames, ArePlaced, Named}
+use Rattle.ly_ere.specs.Definitions.{ArePlaced, Named}
 use Rattle.ly_ere.specs.Expression.{Expression, empty, set}
 use Rattle.ly_ere.specs.Names.{Definition, number_of}
 use Rattle.ly_ere.specs.Patterns.{IsExpression}

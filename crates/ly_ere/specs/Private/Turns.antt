@@ -1,6 +1,6 @@
 -- Things that use one another, in an order in which each stands behind those that it uses.
 use Rattle.std.specs.Prelude.{◌≡◌, ◌↔◌, ◌<◌, ◌≤◌, ◌+◌, ℕ, zero, suc, List, [], ◌∷◌, ◌++◌, All, Contains, length, map}
-use Rattle.std.specs.Prelude.{slice_index_or, take, Bool, true, false, MatchOption, Option}
+use Rattle.std.specs.Prelude.{slice_index_or, Bool, true, false, MatchOption}
 use Rattle.std.specs.BTreeSet.{contains}
 use Rattle.std.specs.Ordering.{nat_cmp}
 use Rattle.ly_ere.specs.declared.turns.InTurn.{InTurn}

@@ -1,12 +1,6 @@
-use Rattle.std.proofs.Common.{◌≡◌, ◌++◌, ◌∷◌, [], ap, arith, get_or, length, map, sym, subst, take, ◌∙◌}
-use Rattle.std.proofs.lemmas.List.{length-map, get_or-map, map-append}
-use Rattle.std.proofs.lemmas.Option.{slice_get-get_or}
+use Rattle.std.proofs.Common.{◌++◌, ◌∷◌, [], ap, get_or, ◌∙◌}
 use Rattle.ly_ere.specs.Definitions.{named_text, named_texts}
-use Rattle.ly_ere.specs.Expression.{set}
-use Rattle.ly_ere.specs.Names.{number_of}
-use Rattle.ly_ere.specs.Private.Definitions.{known_names}
 use Rattle.ly_ere.proofs.DefinitionLemmas.{known_more, name_is_new, no_entry, text_at, texts_front}
-use Rattle.ly_ere.proofs.PlaceLemmas.{known}
 use Rattle.ly_ere.proofs.definitions.all_known.Goals as goal
 
 pub with_weighed-requires-clause-new : goal.with_weighed-requires-clause-new

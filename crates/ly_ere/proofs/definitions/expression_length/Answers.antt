@@ -1,4 +1,4 @@
-use Rattle.std.proofs.Common.{arith, drop, length, length-drop, sym, take, take-append-drop}
+use Rattle.std.proofs.Common.{arith, drop, length-drop, sym, take, take-append-drop}
 use Rattle.ly_base.proofs.EscapeLemmas.{whole_slice}
 use Rattle.ly_ere.specs.Patterns.{IsBehind}
 use Rattle.ly_ere.proofs.ExtentLemmas.{none_taken, one_taken, stops_there}

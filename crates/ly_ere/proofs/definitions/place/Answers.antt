@@ -1,14 +1,14 @@
-use Rattle.std.proofs.Common.{◌≡◌, ◌<◌, ◌++◌, ◌∷◌, [], ℕ, List, ap, ap₂, arith, get_or, length, refl, set, sym, subst, take, ◌∙◌}
+use Rattle.std.proofs.Common.{◌≡◌, ◌<◌, [], ℕ, List, ap, ap₂, arith, get_or, length, refl, sym, subst, take, ◌∙◌}
 use Rattle.std.specs.Prelude.{replicate}
 use Rattle.std.proofs.lemmas.List.{get_or_default, length-map, length-replicate, take_all}
-use Rattle.ly_ere.specs.Definitions.{AreLightNames, IsNext, named_text, named_texts}
+use Rattle.ly_ere.specs.Definitions.{named_text, named_texts}
 use Rattle.ly_ere.specs.Expression.{Expression, empty}
-use Rattle.ly_ere.specs.Private.Definitions.{ArePlacing, expression_at, text_uses}
+use Rattle.ly_ere.specs.Private.Definitions.{ArePlacing, expression_at}
 use Rattle.ly_ere.specs.Private.Uses.{number_for, renumbered}
 use Rattle.ly_ere.specs.Names.{defined}
 use Rattle.ly_ere.specs.Weight.{weight_of}
 use Rattle.ly_ere.specs.declared.definitions.Texts.{Texts}
-use Rattle.ly_ere.proofs.DefinitionLemmas.{light_more, no_entry, place_there, placed_all, placed_next, placed_step}
+use Rattle.ly_ere.proofs.DefinitionLemmas.{light_more, place_there, placed_all, placed_next, placed_step}
 use Rattle.ly_ere.proofs.DefinitionLemmas.{placing_none, refused_heavy}
 use Rattle.ly_ere.proofs.SoundLemmas.{expression_sound}
 use Rattle.ly_ere.proofs.definitions.place.Goals as goal
@@ -90,7 +90,8 @@ returns-in-Err-clause-refused c =
     let is = numbered c.args.texts.now (get_or c.args.order.now c.loop-number.number 0) c.index.result.now
     c.in_ok-expression.expression c.loop-number.numbers.items c.deref.result.now l c.index.ensures c.deref.ensures.value
     c.in_ok-expression.ensures in
-    refused_heavy c.args.limits.now.pattern_weight (named_texts c.args.list.now) (take c.loop-number.number c.args.order.now)
+    refused_heavy c.args.limits.now.pattern_weight (named_texts c.args.list.now)
+    (take c.loop-number.number c.args.order.now)
     c.loop-number.names c.loop-number.numbers.items (get_or c.args.order.now c.loop-number.number 0) _ _ c.in-Err.fault
     c.loop-number.invariant.placing step c.in-Err.ensures.only
     (λ e. subst (λ x. c.args.limits.now.pattern_weight < weight_of (defined c.loop-number.names) x) is

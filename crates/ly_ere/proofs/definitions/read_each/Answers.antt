@@ -1,4 +1,4 @@
-use Rattle.std.proofs.Common.{arith, refl, subst, sym, take}
+use Rattle.std.proofs.Common.{refl, subst, sym}
 use Rattle.ly_ere.specs.Private.Definitions.{AreRead}
 use Rattle.ly_ere.proofs.DefinitionLemmas.{no_entry, texts_more}
 use Rattle.ly_ere.proofs.definitions.read_each.Goals as goal

@@ -1,5 +1,4 @@
-use Rattle.std.proofs.Common.{◌≡◌, ap, arith, length, subst, sym, ◌∙◌}
-use Rattle.std.proofs.lemmas.Map.Keys.{le_from_not_gt}
+use Rattle.std.proofs.Common.{◌≡◌, arith, length, subst, ◌∙◌}
 use Rattle.ly_ere.specs.Private.Turns.{AreTurns}
 use Rattle.ly_ere.proofs.TurnLemmas.{numbers_more, numbers_none, popped}
 use Rattle.ly_ere.proofs.turns.in_turn.Goals as goal
@@ -8,7 +7,8 @@ pub settle-requires : goal.settle-requires
 settle-requires c = (
   _,
   subst (AreTurns c.loop-number.turns)
-      (numbers_more c.loop-number.number (length c.args.uses.now) c.loop-number-test.true) c.loop-number.invariant.turns,
+      (numbers_more c.loop-number.number
+      (length c.args.uses.now) c.loop-number-test.true) c.loop-number.invariant.turns,
 )
 
 pub loop-number-preserved : goal.loop-number-preserved

@@ -1,5 +1,5 @@
-use Rattle.std.proofs.Common.{◌≡◌, ◌++◌, ap, append_assoc, arith, refl, sym, ◌∙◌}
-use Rattle.ly_ere.specs.Private.Uses.{size_of_all, uses_of_all}
+use Rattle.std.proofs.Common.{ap, append_assoc, arith, refl}
+use Rattle.ly_ere.specs.Private.Uses.{size_of_all}
 use Rattle.ly_ere.proofs.UseLemmas.{one_part, size_push, two_parts, uses_push}
 use Rattle.ly_ere.proofs.uses.open_node.Goals as goal
 

@@ -1,12 +1,11 @@
-use Rattle.std.proofs.Common.{◌≡◌, ◌++◌, ◌∷◌, [], ap, arith, get_or, length, length-append, length-take, map, sym, take, ◌∙◌, ℕ}
-use Rattle.std.proofs.lemmas.List.{length-map, map-append, take_all}
+use Rattle.std.proofs.Common.{◌≡◌, ◌++◌, ◌∷◌, [], ap, arith, get_or, length, length-take, map, sym, take, ◌∙◌}
+use Rattle.std.proofs.lemmas.List.{length-map, map-append}
 use Rattle.ly_base.specs.declared.byte_set.ByteSet.{ByteSet}
 use Rattle.ly_ere.specs.Arena.{expression_of, expressions}
 use Rattle.ly_ere.specs.Private.Uses.{number_for, renumbered}
 use Rattle.ly_ere.specs.declared.node.Node.{Node}
 use Rattle.ly_ere.specs.declared.node.Node.TheVariants.{Set}
 use Rattle.ly_ere.proofs.ArenaLemmas.{expressions-take, length-expressions}
-use Rattle.ly_ere.proofs.UseLemmas.{part_renumbered}
 use Rattle.ly_ere.proofs.uses.renumber.Goals as goal
 
 pub push-requires : goal.push-requires

@@ -8,7 +8,8 @@ use Rattle.ly_ere.proofs.uses.uses.Given as goal
 abbrev pub invariant-loop-number : goal.invariant-loop-number
 invariant-loop-number l = record {
   within : All (λ k. k < length l.nodes) l.open.items;
-  uses : l.found.items ++ uses_of_all (expressions l.nodes) l.open.items ≡ uses_of (part_of (expressions l.nodes) l.root);
+  uses : l.found.items ++ uses_of_all (expressions l.nodes) l.open.items ≡ uses_of (part_of
+      (expressions l.nodes) l.root);
 }
 
 abbrev pub decreases-loop-number : goal.decreases-loop-number

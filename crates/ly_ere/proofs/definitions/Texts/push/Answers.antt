@@ -1,4 +1,4 @@
-use Rattle.std.proofs.Common.{refl, ap, ◌∙◌}
+use Rattle.std.proofs.Common.{refl}
 use Rattle.ly_ere.proofs.DefinitionLemmas.{read_more, uses_below}
 use Rattle.ly_ere.proofs.definitions.Texts.push.Goals as goal
 

@@ -1,4 +1,4 @@
-use Rattle.std.proofs.Common.{◌≡◌, ◌++◌, ◌∷◌, [], Option, Some, None, true, refl, ap, subst, sym, ◌∙◌}
+use Rattle.std.proofs.Common.{◌≡◌, ◌++◌, ◌∷◌, [], Option, Some, None, true, subst, sym, ◌∙◌}
 use Rattle.std.specs.Option.{is_some}
 use Rattle.ly_ere.proofs.PlaceLemmas.{none_some, some_one}
 use Rattle.ly_ere.specs.declared.definitions.Refusal.{Refusal}
@@ -18,7 +18,8 @@ returns-then-is_none c known list d a none =
       memory = c.requires.memory;
       weight = c.requires.weight;
     }) in
-    read_none known list d c.args.self.now _ a _ c.in_ok-push.ensures.items none c.new.ensures.items (λ e. none_some (sym e))
+    read_none known list d c.args.self.now _ a _ c.in_ok-push.ensures.items none c.new.ensures.items (λ e.
+        none_some (sym e))
     refusal
 
 none_is_none : (o : Option Refusal) → is_some o ≡ true → o ≡ None → ⊥
@@ -27,7 +28,8 @@ none_is_none (Some r) some e = none_some (sym e)
 
 pub returns-else-is_none : goal.returns-else-is_none
 returns-else-is_none c known list d a none =
-    let u : Texts = record { expressions = c.args.self.now.expressions; uses = c.push.new.self; refusal = c.args.self.now.refusal } in
+    let u : Texts = record { expressions = c.args.self.now.expressions; uses = c.push.new.self; refusal = c.args.self.now.refusal } i
+            let u : Texts = record { expressions = c.args.self.now.expressions; uses = c.push.new.self; refusal = c.args.self.now.refusal } in
     let some : is_some c.args.self.now.refusal ≡ true = c.if-is_none.ensures in
     read_none known list d c.args.self.now _ a _ c.in_ok-push.ensures.items none c.new.ensures.items
     (λ e. none_is_none _ some e) (refusals_later known list d c.args.self.now u a _ c.in_ok-push.ensures.items)

@@ -9,4 +9,5 @@ no_memory fault e = cc
 
 pub returns-in-Err-Syntax : goal.returns-in-Err-Syntax
 returns-in-Err-Syntax c list d a is = c.push_fault.ensures c.args.known.now list d a
-    (subst (IsNoText c.args.known.now) (sym is) (c.in-Err-Syntax.ensures.refused (λ e. no_memory _ (sym c.in-Err-Syntax.field-0-is ∙ e))))
+    (subst (IsNoText c.args.known.now) (sym is) (c.in-Err-Syntax.ensures.refused (λ e. no_memory _
+    (sym c.in-Err-Syntax.field-0-is ∙ e))))

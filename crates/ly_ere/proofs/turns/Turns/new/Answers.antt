@@ -1,4 +1,4 @@
-use Rattle.std.proofs.Common.{◌≡◌, ◌<◌, ◌≤◌, ◌⊎◌, [], inl, inr, ap, arith, get_or, length, refl, sym, subst, map, zero, ◌∙◌, ℕ, Bool, false}
+use Rattle.std.proofs.Common.{◌≡◌, ◌<◌, ◌≤◌, ◌⊎◌, inl, inr, ap, arith, get_or, length, zero, ◌∙◌, ℕ, false}
 use Rattle.std.specs.Prelude.{replicate}
 use Rattle.std.specs.BTreeMap.{is_at}
 use Rattle.std.specs.BTreeSet.{contains}
@@ -29,7 +29,15 @@ returns-clause-turns c =
     rw (c.new-3.ensures.items, ← uses) (nothing_taken _ c.in_ok-vec.field-0.items _ c.in_ok-vec-2.field-0.items
     (contains nat_cmp c.new-2.result) c.requires
     (omega (arith, uses, ap length passed, zeros))
-    (omega (arith, uses, length-map c.loop.waiting.items (λ v. v.items), c.loop.invariant.counted, c.loop-test.false, c.loop.auto.index-end))
+    (omega (
+      arith,
+      uses,
+      length-map c.loop.waiting.items (λ v. v.items),
+      c.loop.invariant.counted,
+      c.loop-test.false,
+      c.loop.auto.index-end,
+    ))
     (omega (arith, uses, ap length bits, length-replicate many false))
     (λ k. ap (λ ps. get_or ps k 0) passed ∙ same many k 0) c.loop.invariant.none
-    (λ k. ap (λ bs. get_or bs k false) bits ∙ same many k false) (λ k. ap (list_any (is_at (nat_cmp k))) c.new-2.ensures.empty))
+    (λ k. ap (λ bs. get_or bs k false) bits ∙ same many k false) (λ k. ap (list_any (is_at
+    (nat_cmp k))) c.new-2.ensures.empty))

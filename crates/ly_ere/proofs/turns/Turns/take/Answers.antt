@@ -1,4 +1,4 @@
-use Rattle.std.proofs.Common.{◌≡◌, ◌<◌, [], suc, ap, arith, set, drop, length, refl, sym, subst, map, true, false, ◌∙◌}
+use Rattle.std.proofs.Common.{◌≡◌, ◌<◌, [], ap, arith, set, length, refl, sym, subst, map, true, ◌∙◌}
 use Rattle.std.specs.BTreeSet.{contains}
 use Rattle.std.specs.Ordering.{nat_cmp}
 use Rattle.std.proofs.lemmas.Bool.{false_from_ne_true}
