@@ -1,7 +1,6 @@
 -- The greatest of numbers.
-use Rattle.std.proofs.Common.{◌≡◌, ◌∙◌, ℕ, List, [], ◌∷◌, ◌++◌, refl, sym, ap, arith, max, map}
-use Rattle.std.specs.List.{filter_map, flat_map}
-use Rattle.std.proofs.lemmas.List.{map-append}
+use Rattle.std.proofs.Common.{◌≡◌, ℕ, List, [], ◌∷◌, ◌++◌, refl, ap, arith, max, map}
+use Rattle.std.specs.List.{filter_map}
 use Rattle.ly_yaccread.specs.File.{symbol_word}
 use Rattle.ly_yaccread.specs.declared.file.Symbol as yacc
 use Rattle.ly_yaccread.specs.declared.file.Symbol.TheVariants.{Name, Literal}

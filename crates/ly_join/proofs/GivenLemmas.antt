@@ -1,6 +1,7 @@
 -- Precedences that are given to terminals.
 use Rattle.std.proofs.Common.{◌≡◌, ◌≢◌, ◌∙◌, ◌<◌, ◌+◌, ◌⊎◌, inl, inr, ℕ, List, [], ◌∷◌, ◌++◌, Option, Some, None, refl}
-use Rattle.std.proofs.Common.{sym, ap, subst, arith, AllPairs, Contains, length, map, take, drop, slice_get, slice_index_or}
+use Rattle.std.proofs.Common.{sym, ap, subst, arith, AllPairs, Contains, length, map}
+use Rattle.std.proofs.Common.{take, drop, slice_get, slice_index_or}
 use Rattle.std.proofs.Common.{length-set, true≢false, get_or, suc, true, false}
 use Rattle.std.specs.Prelude.{is_some, slice_set}
 use Rattle.std.specs.Option.{option_map_or}
@@ -10,7 +11,7 @@ use Rattle.std.proofs.lemmas.List.{append_assoc, append-nil, get_or-set_other, g
 use Rattle.std.proofs.lemmas.List.{length-take-le}
 use Rattle.std.proofs.lemmas.List.Elements.{Contains-append_left, Contains-get_or, Contains-push, Contains-push_cases}
 use Rattle.std.proofs.lemmas.List.Quantifiers.{all_pairs_push}
-use Rattle.std.proofs.lemmas.Option.{get_or_from_slice_get, same_Some, slice_get_within}
+use Rattle.std.proofs.lemmas.Option.{same_Some, slice_get_within}
 use Rattle.ly_yaccread.specs.Declarations.{Declared}
 use Rattle.ly_yaccread.specs.File.{declared_of}
 use Rattle.ly_yaccread.specs.declared.file.Declaration.{Declaration}
@@ -28,7 +29,8 @@ use Rattle.ly_join.specs.Terminals.{terminal_from, Terminal}
 use Rattle.ly_join.specs.declared.precedence.Precedence.{Precedence}
 use Rattle.ly_join.proofs.ListLemmas.{map_twice, mapped_more, mapped_split, one_place}
 
-module _ (all : List (Terminal × Precedence)) (ts : List Terminal) (ps : List (Option Precedence)) (t : ℕ) (x : Terminal)
+module _ (all : List (Terminal × Precedence)) (ts : List Terminal) (ps : List (Option Precedence)) (t : ℕ)
+    (x : Terminal)
     (so_far : AreGiven all ts ps) (here : slice_get ts t ≡ Some x) where
   -- a terminal that has a precedence is given one again
   pub given_again : (p : Precedence) (back : List (Terminal × Precedence))

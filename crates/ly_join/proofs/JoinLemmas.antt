@@ -1,16 +1,16 @@
 -- What faults say of two files, and what files say once they are joined.
-use Rattle.std.proofs.Common.{◌≡◌, ◌≢◌, ◌∙◌, ◌<◌, ◌≤◌, ◌⊎◌, inl, inr, ℕ, List, [], ◌∷◌, ◌++◌, Option, Some, None, refl, sym}
-use Rattle.std.proofs.Common.{ap, subst, arith, AllPairs, Contains, length, map, slice_get, slice_index_or}
+use Rattle.std.proofs.Common.{◌≡◌, ◌≢◌, ◌∙◌, ◌<◌, ◌⊎◌, inl, inr, ℕ, List, [], ◌∷◌, Some, refl, sym}
+use Rattle.std.proofs.Common.{ap, subst, arith, Contains, length, map, slice_get, slice_index_or}
 use Rattle.std.specs.List.{AllZip, flat_map}
 use Rattle.std.proofs.lemmas.List.{get_or_append_left, get_or_at, length-append}
-use Rattle.std.proofs.lemmas.List.Elements.{Contains-append_left, Contains-append_right}
+use Rattle.std.proofs.lemmas.List.Elements.{Contains-append_right}
 use Rattle.std.proofs.lemmas.Option.{same_Some, slice_get_within}
-use Rattle.ly_base.proofs.MemberLemmas.{Contains-cons_cases, Contains-later, Contains-none, Contains-one}
+use Rattle.ly_base.proofs.MemberLemmas.{Contains-cons_cases, Contains-later, Contains-none}
 use Rattle.ly_base.specs.Limits.{Sizes}
 use Rattle.ly_yaccread.specs.File.{Written}
 use Rattle.ly_yaccread.specs.Rules.{Ruling}
-use Rattle.ly_yaccread.specs.Words.{Word, name}
-use Rattle.ly_join.specs.Counts.{counted, limit_of, IsWithin}
+use Rattle.ly_yaccread.specs.Words.{name}
+use Rattle.ly_join.specs.Counts.{IsWithin}
 use Rattle.ly_join.specs.Faults.{IsAtFault, IsOfFiles, IsUndeclared, IsUndefined, IsUnknownPrec, IsUnknownStart}
 use Rattle.ly_join.specs.Grammar.{Rule, Symbol, terminal, nonterminal}
 use Rattle.ly_join.specs.Joined.{table_of, IsRulePrecedence, IsSymbol, Joined, Note, Spec}
@@ -19,17 +19,16 @@ use Rattle.ly_join.specs.Numbering.{declared_terminals, rule_literals}
 use Rattle.ly_join.specs.Numbering.{appearing, left_sides, nonterminals_of, start_name, terminals_of, IsNonterminal}
 use Rattle.ly_join.specs.Numbering.{IsToken}
 use Rattle.ly_join.specs.Precedences.{given, AreGivenOnce, HasPrecedence, IsGivenTwice}
-use Rattle.ly_join.specs.Scanning.{Acting, IsEmitted, IsScanAction, Scanning, returns}
-use Rattle.ly_join.specs.Terminals.{Terminal, byte, end, same_terminal, terminal_from, token, undefined}
+use Rattle.ly_join.specs.Scanning.{Acting, IsEmitted, IsScanAction, Scanning}
+use Rattle.ly_join.specs.Terminals.{Terminal, end, same_terminal, terminal_from, token, undefined}
 use Rattle.ly_join.specs.Private.Joining.{spec_from, AreNumbered, IsReady, IsStart, IsStartFault}
 use Rattle.ly_join.specs.Private.Rules.{AreCovered, RulesJoined}
-use Rattle.ly_join.specs.Private.Rules.{IsFaultOfActions, IsFaultOfRules, IsGivingFault, IsRuleFault, IsTokenOnLeft}
+use Rattle.ly_join.specs.Private.Rules.{IsFaultOfActions, IsFaultOfRules, IsGivingFault, IsTokenOnLeft}
 use Rattle.ly_join.specs.Private.Rules.{IsUndeclaredIn, IsUndefinedIn, IsUnknownPrecIn}
 use Rattle.ly_join.specs.declared.fault.JoinFault.{JoinFault}
 use Rattle.ly_join.specs.declared.fault.JoinFault.TheVariants.{UndefinedSymbol, TokenOnLeft, PrecedenceTwice}
 use Rattle.ly_join.specs.declared.fault.JoinFault.TheVariants.{UnknownStart, ReturnUndeclared, PrecUnknown, NoRules}
 use Rattle.ly_join.specs.declared.fault.JoinFault.TheVariants.{LimitPassed, OutOfMemory}
-use Rattle.ly_join.specs.declared.scan_action.Emitted.{Emitted}
 use Rattle.ly_join.specs.declared.scan_action.ScanAction.{ScanAction}
 use Rattle.ly_join.specs.declared.precedence.Precedence.{Precedence}
 use Rattle.ly_join.proofs.ListLemmas.{mapped_in, member_at, zip_length, zip_partner}
@@ -264,7 +263,8 @@ module _ (x : Scanning) (w : Written) (s : Spec) (joined : Joined x w s) where
   pub not_at_fault : (sizes : Sizes) (f : JoinFault) → IsAtFault sizes x w f → IsOfFiles f → ⊥
   not_at_fault sizes (UndefinedSymbol n) h of = not_undefined n.items h
   not_at_fault sizes (TokenOnLeft n) h of = joined.apart n.items h.0 h.1
-  not_at_fault sizes (PrecedenceTwice t) h of = not_once (given w.preamble.declarations) (terminal_from t) h joined.given_once
+  not_at_fault sizes (PrecedenceTwice t) h of
+      = not_once (given w.preamble.declarations) (terminal_from t) h joined.given_once
   not_at_fault sizes (UnknownStart n) h of = not_unknown_start n.items h
   not_at_fault sizes (ReturnUndeclared n) h of = not_undeclared n.items h
   not_at_fault sizes (PrecUnknown n) h of = not_unknown_prec n.items h

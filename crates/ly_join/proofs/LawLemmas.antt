@@ -1,24 +1,24 @@
 -- Two files make one specification, and symbols are numbered by their first appearance.
-use Rattle.std.proofs.Common.{◌≡◌, ◌≢◌, ◌∙◌, ◌⊎◌, inl, inr, ℕ, zero, suc, List, [], ◌∷◌, ◌++◌, Bool, true, false, filter}
-use Rattle.std.proofs.Common.{Option, Some, None, refl, sym, ap, ap₂, subst, arith, AllPairs, Contains, length, map, slice_get}
+use Rattle.std.proofs.Common.{◌≡◌, ◌≢◌, ◌∙◌, inl, inr, ℕ, List, [], ◌∷◌, ◌++◌, Bool, true, filter}
+use Rattle.std.proofs.Common.{Option, Some, None, refl, sym, ap, ap₂, subst, AllPairs, Contains, length, slice_get}
 use Rattle.std.proofs.Common.{slice_index_or, true≢false}
 use Rattle.std.specs.Prelude.{not}
 use Rattle.std.specs.List.{AllZip}
-use Rattle.std.specs.Option.{option_to_list}
-use Rattle.std.proofs.lemmas.Option.{get_or_from_slice_get, same_Some, slice_get_within}
+use Rattle.std.proofs.lemmas.Option.{same_Some}
 use Rattle.std.proofs.lemmas.List.Elements.{Contains-get_or}
 use Rattle.ly_base.proofs.MemberLemmas.{Contains-cons_cases, Contains-one}
 use Rattle.ly_yaccread.specs.File.{Written}
 use Rattle.ly_yaccread.specs.Rules.{Ruling}
 use Rattle.ly_yaccread.specs.Words.{Word, mark, directive, name, number, literal, block, braces, other}
 use Rattle.ly_join.specs.Grammar.{Grammar, Rule, Symbol, accept_rule, grammar_from, terminal, nonterminal}
-use Rattle.ly_join.specs.Joined.{accept_note, last_terminal, shape_by, table_of, AreJoined, IsJoinedRule, IsPrecedenceOf}
+use Rattle.ly_join.specs.Joined.{accept_note, last_terminal, shape_by, table_of}
+use Rattle.ly_join.specs.Joined.{AreJoined, IsJoinedRule, IsPrecedenceOf}
 use Rattle.ly_join.specs.Joined.{IsRulePrecedence, IsSymbol, IsTerminal, Joined, Note, Spec, SymbolTable}
 use Rattle.ly_join.specs.Laws.{AppearsBefore, AreFirst}
-use Rattle.ly_join.specs.Numbering.{appearing, first_appearances, left_sides, nonterminals_of, terminals_of, IsNonterminal}
-use Rattle.ly_join.specs.Numbering.{IsToken}
+use Rattle.ly_join.specs.Numbering.{appearing, first_appearances, left_sides}
 use Rattle.ly_join.specs.Precedences.{given, AreGivenOnce, HasPrecedence}
-use Rattle.ly_join.specs.Scanning.{Acting, Returning, nothing, returns, first_byte, IsEmitted, IsReturned, IsScanAction, Scanning}
+use Rattle.ly_join.specs.Scanning.{Acting, Returning, nothing, returns, first_byte, IsEmitted}
+use Rattle.ly_join.specs.Scanning.{IsReturned, IsScanAction, Scanning}
 use Rattle.ly_join.specs.Terminals.{Terminal, end, undefined, byte, same_terminal, token, IsNumbered, IsOfByte}
 use Rattle.ly_join.specs.declared.precedence.Precedence.{Precedence}
 use Rattle.ly_join.specs.declared.scan_action.Emitted.{Emitted}
@@ -26,7 +26,8 @@ use Rattle.ly_join.specs.declared.scan_action.Emitted.TheVariants as emitted
 use Rattle.ly_join.specs.declared.scan_action.ScanAction.{ScanAction}
 use Rattle.ly_join.proofs.JoinLemmas.{nonterminal_there, token_there}
 use Rattle.ly_join.proofs.ListLemmas.{member_at, one_place, placed, zip_one}
-use Rattle.ly_join.proofs.NumberingLemmas.{first_in, first_once, in_filter, in_first, pairs_cons, pairs_filter, pairs_none}
+use Rattle.ly_join.proofs.NumberingLemmas.{first_in, first_once, in_filter, in_first}
+use Rattle.ly_join.proofs.NumberingLemmas.{pairs_cons, pairs_filter, pairs_none}
 use Rattle.ly_join.proofs.TableLemmas.{bytes_itself, same_bytes, same_itself, same_sound}
 use Rattle.std.specs.Str.{bytes_eq}
 
@@ -58,7 +59,8 @@ module _ {X : Type 0} (same : X → X → Bool) (sound : (x y : X) → same x y 
       pairs_cons (AppearsBefore (x ∷ xs)) x rest (λ y there. first_before x xs y (apart y there))
       (λ i j d less within. later_before x xs (slice_index_or rest i d) (slice_index_or rest j d)
       (apart (slice_index_or rest j d) (Contains-get_or rest j d within))
-      (pairs_filter (AppearsBefore xs) (λ z. not (same x z)) (first_appearances same xs) (order_of xs) i j d less within))
+      (pairs_filter (AppearsBefore xs) (λ z. not (same x z)) (first_appearances same xs) (order_of xs) i j d less
+      within))
 
   -- first appearances are the members, in the order of their first appearance
   pub are_first : (xs : List X) → AreFirst xs (first_appearances same xs)
@@ -79,7 +81,8 @@ precedence_one all once x (Some p) (Some q) h g =
     let same : i.0 ≡ j.0 = one_place (λ a. a.0) all i.0 j.0 (x, p) (x, q) once i.1 j.1 refl in
     ap (λ a. Some a.1) (same_Some (x, p) (x, q) (sym i.1 ∙ (ap (slice_get all) same ∙ j.1)))
 
-module _ (m : SymbolTable) (tokens : AllPairs (λ x y. x ≢ y) m.terminals) (names : AllPairs (λ x y. x ≢ y) m.nonterminals)
+module _ (m : SymbolTable) (tokens : AllPairs (λ x y. x ≢ y) m.terminals)
+    (names : AllPairs (λ x y. x ≢ y) m.nonterminals)
     (apart : (n : List ℕ) → Contains m.terminals (token n) → Contains m.nonterminals n → ⊥) where
   terminal_one : (x : Terminal) (t u : ℕ) → IsNumbered m.terminals x t → IsNumbered m.terminals x u → t ≡ u
   terminal_one x t u h g = one_place (λ z. z) m.terminals t u x x tokens h g refl

@@ -1,8 +1,9 @@
 -- Lists that are gone through from the front.
-use Rattle.std.proofs.Common.{◌≡◌, ◌<◌, ◌+◌, ◌≤◌, ℕ, zero, suc, List, [], ◌∷◌, ◌++◌, Option, Some, None, length, map, take}
-use Rattle.std.proofs.Common.{slice_get, slice_index_or, Contains, All, AllPairs, refl, sym, ap, subst, ◌∙◌, arith}
+use Rattle.std.proofs.Common.{◌≡◌, ◌<◌, ◌+◌, ◌≤◌, ℕ, zero, suc, List, [], ◌∷◌, ◌++◌, Some, length, map, take}
+use Rattle.std.proofs.Common.{slice_get, slice_index_or, Contains, AllPairs, refl, sym, ap, subst, ◌∙◌, arith}
 use Rattle.std.proofs.Common.{◌≢◌, inl, inr, ◌⊎◌, drop}
-use Rattle.std.proofs.lemmas.List.{append-nil, drop_more, get_or-map, length-map, map_more, take-append-drop, take-map, take_all}
+use Rattle.std.proofs.lemmas.List.{append-nil, drop_more, get_or-map, length-map, map_more}
+use Rattle.std.proofs.lemmas.List.{take-append-drop, take-map, take_all}
 use Rattle.std.proofs.lemmas.List.Concat.{flat_map-append}
 use Rattle.ly_base.proofs.MemberLemmas.{Contains-cons_cases, Contains-first, Contains-later, Contains-none}
 use Rattle.std.proofs.lemmas.Option.{get_or_from_slice_get, slice_get-get_or, slice_get-map, slice_get_within}

@@ -1,5 +1,5 @@
 -- Names in a set that keeps their order.
-use Rattle.std.proofs.Common.{◌≡◌, ◌∙◌, ℕ, List, [], ◌∷◌, ◌++◌, Bool, true, false, Option, Some, None, refl, sym, ap}
+use Rattle.std.proofs.Common.{◌≡◌, ◌∙◌, ℕ, List, [], ◌∷◌, ◌++◌, Bool, true, false, Some, None, refl, sym, ap}
 use Rattle.std.proofs.Common.{map, slice_get, position, get_or, rules, Contains, cond, true≢false, ◌+◌}
 use Rattle.std.proofs.lemmas.Iterator.Adapters.{position_from-zero}
 use Rattle.std.proofs.lemmas.List.{map-append}
@@ -52,6 +52,7 @@ none_from t n (k ∷ ks) e = by (t k) e (none_from t (n + 1) ks)
 pub absent_name : {K : Type 0} (f : K → List ℕ) (ks : List K) (name : List ℕ)
     → position (λ k. bytes_eq name (f k)) ks ≡ None → Contains (map f ks) name → ⊥
 absent_name f ks name none there =
-    let off = none_from (λ k. bytes_eq name (f k)) 0 ks (sym (position_from-zero (λ k. bytes_eq name (f k)) ks) ∙ none) in
+    let off = none_from (λ k. bytes_eq name (f k)) 0 ks
+    (sym (position_from-zero (λ k. bytes_eq name (f k)) ks) ∙ none) in
     let on = any_member (bytes_eq name) (map f ks) name there (bytes_itself name) in
     true≢false (sym on ∙ (sym (any_map f (bytes_eq name) ks) ∙ off))

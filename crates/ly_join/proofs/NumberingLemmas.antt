@@ -1,7 +1,8 @@
 -- First appearances, and lists that grow by what is new.
-use Rattle.std.proofs.Common.{◌≡◌, ◌≢◌, ◌<◌, ◌+◌, ℕ, zero, suc, List, [], ◌∷◌, ◌++◌, Bool, true, false, cond, filter}
-use Rattle.std.proofs.Common.{Option, Some, None, Contains, AllPairs, refl, sym, ap, subst, ◌∙◌, arith, inl, inr, ◌⊎◌, true≢false, length}
-use Rattle.std.specs.Prelude.{not, ◌||◌, if◌then◌else◌, fold, slice_index_or}
+use Rattle.std.proofs.Common.{◌≡◌, ◌≢◌, zero, suc, List, [], ◌∷◌, ◌++◌, Bool, true, false, cond, filter}
+use Rattle.std.proofs.Common.{Option, Some, None, Contains, AllPairs, refl, sym, ap, subst, ◌∙◌}
+use Rattle.std.proofs.Common.{arith, inl, inr, ◌⊎◌, true≢false}
+use Rattle.std.specs.Prelude.{not, ◌||◌, if◌then◌else◌, slice_index_or}
 use Rattle.std.specs.List.{cons_option, filter_map, list_any}
 use Rattle.std.specs.Option.{option_to_list}
 use Rattle.std.proofs.lemmas.List.{append-nil, append_assoc}
@@ -53,7 +54,8 @@ any_filter q p (z ∷ xs) keeps = by (p z) refl (q z) refl (any_filter q p xs ke
     by false e false f rest = rest
 
 -- what a filter keeps
-pub filter_in : {X : Type 0} (p : X → Bool) (xs : List X) (x : X) → Contains xs x → p x ≡ true → Contains (filter p xs) x
+pub filter_in : {X : Type 0} (p : X → Bool) (xs : List X) (x : X) → Contains xs x → p x ≡ true
+    → Contains (filter p xs) x
 filter_in p [] x h is = (Contains-none x h)
 filter_in p (y ∷ xs) x h is = by (Contains-cons_cases y xs x h) (p y) refl (λ rest. filter_in p xs x rest is)
   where

@@ -1,8 +1,8 @@
 -- Rules over numbered symbols.
-use Rattle.std.proofs.Common.{◌≡◌, ◌∙◌, ◌<◌, ◌⊎◌, inl, inr, ℕ, List, [], ◌∷◌, ◌++◌, Option, Some, None, refl, sym, ap, subst}
+use Rattle.std.proofs.Common.{◌≡◌, ◌∙◌, ◌<◌, inl, inr, ℕ, List, [], ◌∷◌, ◌++◌, Option, Some, None, refl, sym, ap, subst}
 use Rattle.std.proofs.Common.{All, Contains, length, map, arith, take, slice_index_or, ◌+◌, zero, suc}
 use Rattle.std.specs.Prelude.{IfSome, option_map, slice_get}
-use Rattle.std.specs.List.{AllZip, cons_option, filter_map, flat_map}
+use Rattle.std.specs.List.{AllZip, cons_option, filter_map}
 use Rattle.std.specs.Option.{option_to_list}
 use Rattle.std.proofs.lemmas.List.{map_more, map_push, take-map}
 use Rattle.std.proofs.lemmas.List.Elements.{All-cons, All-contains_itself, All-head, All-nil, All-tail}
@@ -10,18 +10,19 @@ use Rattle.std.proofs.lemmas.List.Elements.{All-weaker, Contains-append_cases}
 use Rattle.std.proofs.lemmas.List.Elements.{Contains-append_left}
 use Rattle.std.proofs.lemmas.List.Elements.{Contains-append_right, Contains-push_cases, filter_map-append}
 use Rattle.std.proofs.lemmas.Option.{slice_get_within}
-use Rattle.ly_base.proofs.MemberLemmas.{Contains-cons_cases, Contains-first, Contains-flat_map, Contains-later, Contains-none}
-use Rattle.ly_base.proofs.MemberLemmas.{Contains-one, flat_map-Contains}
+use Rattle.ly_base.proofs.MemberLemmas.{Contains-cons_cases, Contains-first, Contains-flat_map}
+use Rattle.ly_base.proofs.MemberLemmas.{Contains-later, Contains-none}
+use Rattle.ly_base.proofs.MemberLemmas.{Contains-one}
 use Rattle.ly_yaccread.specs.Rules.{Ruling}
 use Rattle.ly_yaccread.specs.Words.{Word, mark, directive, name, number, literal, block, braces, other}
 use Rattle.ly_join.specs.Grammar.{Rule, Symbol, RuleWithin, SymbolWithin, symbol_of, terminal, nonterminal}
-use Rattle.ly_join.specs.Joined.{accept_note, last_terminal, later, number_in, AreJoined, IsJoinedRule, IsSymbol, Note}
+use Rattle.ly_join.specs.Joined.{last_terminal, later, number_in, AreJoined, IsJoinedRule, IsSymbol, Note}
 use Rattle.ly_base.specs.declared.numbers.Sym.{Sym}
 use Rattle.ly_join.specs.Joined.{IsTerminal, SymbolTable}
 use Rattle.ly_join.specs.Numbering.{rule_literals}
 use Rattle.ly_join.specs.Terminals.{Terminal, byte, end, literal_in, token}
-use Rattle.ly_join.specs.Private.Rules.{AreCovered, HasAll, HasLiteral, HaveNoTokenLeft, IsBelow, IsFaultOfRules}
-use Rattle.ly_join.specs.Private.Rules.{IsRuleFault, IsUndefinedIn, RulesJoined}
+use Rattle.ly_join.specs.Private.Rules.{AreCovered, HasAll, HasLiteral, IsBelow}
+use Rattle.ly_join.specs.Private.Rules.{IsUndefinedIn, RulesJoined}
 use Rattle.ly_join.specs.declared.symbol.Symbol as code
 use Rattle.ly_join.specs.declared.fault.JoinFault.{JoinFault}
 use Rattle.ly_join.specs.declared.fault.JoinFault.TheVariants.{UndefinedSymbol, TokenOnLeft, PrecedenceTwice}
@@ -86,14 +87,16 @@ pub body_literals : (m : SymbolTable) (r : Ruling) → AreCovered m (r ∷ []) �
 body_literals m r covered = have_literals m.terminals r.body
     (λ x there. rule_covered m r covered x
     (subst (λ xs. Contains xs x) (sym (filter_map-append literal_in r.body (option_to_list r.precedence)))
-    (Contains-append_left (filter_map literal_in r.body) (filter_map literal_in (option_to_list r.precedence)) x there)))
+    (Contains-append_left (filter_map literal_in r.body) (filter_map literal_in (option_to_list r.precedence)) x
+    there)))
 
 pub prec_literals : (m : SymbolTable) (r : Ruling) → AreCovered m (r ∷ [])
     → All (HasLiteral m.terminals) (option_to_list r.precedence)
 prec_literals m r covered = have_literals m.terminals (option_to_list r.precedence)
     (λ x there. rule_covered m r covered x
     (subst (λ xs. Contains xs x) (sym (filter_map-append literal_in r.body (option_to_list r.precedence)))
-    (Contains-append_right (filter_map literal_in r.body) (filter_map literal_in (option_to_list r.precedence)) x there)))
+    (Contains-append_right (filter_map literal_in r.body) (filter_map literal_in (option_to_list r.precedence)) x
+    there)))
 
 -- one of rules that are covered
 pub covered_one : (m : SymbolTable) (rs : List Ruling) (r : Ruling) → AreCovered m rs → Contains rs r

@@ -1,9 +1,9 @@
 -- What each fault of joining says of the files.
-use Rattle.std.specs.Prelude.{◌≡◌, ◌<◌, ◌⊎◌, ℕ, List, [], ◌∷◌, Contains, Option, Some}
+use Rattle.std.specs.Prelude.{◌≡◌, ◌<◌, ◌⊎◌, ℕ, List, [], Contains, Some}
 use Rattle.ly_base.specs.Limits.{Sizes}
 use Rattle.ly_yaccread.specs.File.{Written}
 use Rattle.ly_yaccread.specs.Rules.{Ruling}
-use Rattle.ly_yaccread.specs.Words.{Word, name}
+use Rattle.ly_yaccread.specs.Words.{name}
 use Rattle.ly_join.specs.Counts.{counted, limit_of}
 use Rattle.ly_join.specs.Numbering.{IsNonterminal, IsToken}
 use Rattle.ly_join.specs.Precedences.{given, IsGivenTwice}

@@ -1,5 +1,5 @@
 -- The specification that a lex file and a yacc file are together.
-use Rattle.std.specs.Prelude.{◌≡◌, ◌≢◌, ℕ, List, [], ◌∷◌, map, length, slice_get, Option, Some, None}
+use Rattle.std.specs.Prelude.{◌≡◌, ℕ, List, [], ◌∷◌, length, slice_get, Option, Some, None}
 use Rattle.std.specs.List.{AllZip}
 use Rattle.ly_yaccread.specs.Actions.{Making, default, pass, build}
 use Rattle.ly_yaccread.specs.File.{Written}

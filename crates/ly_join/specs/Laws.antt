@@ -1,10 +1,10 @@
 -- What follows from the definitions of joining.
-use Rattle.std.specs.Prelude.{◌≡◌, ◌↔◌, ℕ, List, ◌∷◌, [], ◌++◌, AllPairs, Contains}
+use Rattle.std.specs.Prelude.{◌≡◌, ◌↔◌, List, ◌∷◌, [], ◌++◌, AllPairs, Contains}
 use Rattle.ly_yaccread.specs.File.{Written}
 use Rattle.ly_join.specs.Joined.{Joined, Spec}
 use Rattle.ly_join.specs.Numbering.{appearing, left_sides, nonterminals_of, terminals_of}
 use Rattle.ly_join.specs.Scanning.{Scanning}
-use Rattle.ly_join.specs.Terminals.{Terminal, end, undefined}
+use Rattle.ly_join.specs.Terminals.{end, undefined}
 
 -- two files make one specification
 abbrev pub JoinedIsOne : Type 0

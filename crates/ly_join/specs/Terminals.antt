@@ -1,10 +1,8 @@
 -- What terminals are, and their numbers.
-use Rattle.std.specs.Prelude.{◌≡◌, ℕ, ◌<◌, ◌⊎◌, List, Option, Some, None, Bool, true, false, slice_get, Contains}
+use Rattle.std.specs.Prelude.{◌≡◌, ℕ, ◌⊎◌, List, Option, Some, None, Bool, true, false, slice_get, Contains}
 use Rattle.std.specs.Prelude.{nat_eq}
 use Rattle.std.specs.Str.{bytes_eq}
 use Rattle.ly_yaccread.specs.Words.{Word, name, literal}
-use Rattle.ly_yaccread.specs.declared.file.Symbol as yacc
-use Rattle.ly_yaccread.specs.declared.file.Symbol.TheVariants.{Name, Literal as LiteralName}
 use Rattle.ly_join.specs.declared.terminal.TerminalName.{TerminalName}
 use Rattle.ly_join.specs.declared.terminal.TerminalName.TheVariants.{End, Undefined, Token, Literal}
 

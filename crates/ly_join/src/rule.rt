@@ -1,5 +1,6 @@
 //! The rules of a yacc file over numbered symbols.
-ghost use Rattle.std.specs.Prelude.{◌≡◌, ◌<◌, ◌∷◌, [], length, map, Contains, IfErr, IfOk, IfSome, Some, slice_get, All};
+ghost use Rattle.std.specs.Prelude.{◌≡◌, ◌<◌, ◌∷◌, [], length, map, Contains, IfErr};
+ghost use Rattle.std.specs.Prelude.{IfOk, IfSome, Some, slice_get, All};
 ghost use Rattle.std.specs.List.{AllZip};
 ghost use Rattle.std.specs.Option.{option_map, option_to_list};
 ghost use Rattle.ly_yaccread.specs.Actions.{default};

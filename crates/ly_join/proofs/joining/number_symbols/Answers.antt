@@ -1,4 +1,4 @@
-use Rattle.std.proofs.Common.{◌≡◌, ◌≢◌, ◌∙◌, ◌∷◌, ◌++◌, AllPairs, Contains, ap, map, subst, sym}
+use Rattle.std.proofs.Common.{◌≢◌, ◌∷◌, AllPairs, Contains, map, subst, sym}
 use Rattle.std.specs.List.{flat_map}
 use Rattle.std.proofs.lemmas.List.Elements.{Contains-append_left}
 use Rattle.ly_yaccread.specs.File.{declared_of, ruling_of, written_of}

@@ -1,9 +1,8 @@
-use Rattle.std.proofs.Common.{◌≡◌, ◌∙◌, ◌<◌, ◌+◌, All, ap, ap₂, arith, length, map, subst, sym, ◌∷◌, Some}
+use Rattle.std.proofs.Common.{◌≡◌, ◌∙◌, ◌+◌, ap, ap₂, arith, length, map, ◌∷◌, Some}
 use Rattle.std.proofs.lemmas.List.{length-map}
 use Rattle.std.proofs.lemmas.Option.{slice_get_within}
-use Rattle.ly_join.specs.Grammar.{Grammar, RuleWithin, accept_rule, grammar_from}
+use Rattle.ly_join.specs.Grammar.{accept_rule, grammar_from}
 use Rattle.ly_join.specs.Joined.{note_of, Spec}
-use Rattle.ly_join.specs.Private.Joining.{spec_from}
 use Rattle.ly_join.specs.Private.Rules.{table_from}
 use Rattle.ly_join.specs.Terminals.{end}
 use Rattle.ly_join.proofs.RuleLemmas.{joined_length, rules_within}

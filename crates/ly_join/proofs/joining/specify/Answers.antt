@@ -2,10 +2,9 @@ use Rattle.std.proofs.Common.{map, subst}
 use Rattle.std.proofs.lemmas.Result.{err_from_is_err_and}
 use Rattle.std.specs.List.{AllZip}
 use Rattle.ly_yaccread.specs.File.{ruling_of, written_of}
-use Rattle.ly_join.specs.Joined.{note_of, Joined}
+use Rattle.ly_join.specs.Joined.{note_of}
 use Rattle.ly_join.specs.Scanning.{acting_of, scanning_of, IsScanAction}
-use Rattle.ly_join.specs.Private.Joining.{spec_from}
-use Rattle.ly_join.specs.Private.Rules.{table_from, AreCovered, IsFaultOfActions, IsFaultOfRules, RulesJoined}
+use Rattle.ly_join.specs.Private.Rules.{table_from, IsFaultOfActions, IsFaultOfRules, RulesJoined}
 use Rattle.ly_join.proofs.JoinLemmas.{actions_at_fault, all_covered, joined_from, ready, rules_at_fault, start_at_fault}
 use Rattle.ly_join.proofs.joining.specify.Goals as goal
 

@@ -1,9 +1,9 @@
-use Rattle.std.proofs.Common.{◌≡◌, ◌∙◌, ◌+◌, ◌++◌, ◌∷◌, [], List, ℕ, ap, ap₂, arith, sym, length, map, max, take}
+use Rattle.std.proofs.Common.{◌≡◌, ◌∙◌, ◌+◌, ◌++◌, ◌∷◌, [], List, ℕ, ap, arith, sym, length, map, max, take}
 use Rattle.std.specs.List.{flat_map}
 use Rattle.std.proofs.lemmas.List.{append-nil, map-append}
 use Rattle.std.proofs.lemmas.List.Concat.{flat_map-append}
 use Rattle.ly_yaccread.specs.File.{declared_of, making_of, ruling_of}
-use Rattle.ly_join.specs.Counts.{constructor_length, greatest, name_lengths, token_length}
+use Rattle.ly_join.specs.Counts.{constructor_length, greatest, token_length}
 use Rattle.ly_join.specs.Numbering.{declared_terminals}
 use Rattle.ly_join.specs.Private.Tables.{terminal_of}
 use Rattle.ly_join.proofs.CountLemmas.{declared_words, greatest_append, greatest_push}
@@ -71,5 +71,7 @@ returns c =
     second ∙ (ap (λ n. max n (greatest sizes)) first ∙ (sym (greatest_append names sizes)
     ∙ (ap (λ xs. greatest (map token_length (flat_map declared_terminals (map declared_of xs)) ++ sizes))
     c.deref-declaration-items.ensures.value
-    ∙ ap (λ xs. greatest (map token_length (flat_map declared_terminals (map declared_of c.args.yacc.now.declarations.items))
-    ++ map (λ r. max (length r.left) (constructor_length r.making)) (map ruling_of xs))) c.deref-rule-items.ensures.value)))
+    ∙ ap (λ xs. greatest (map token_length
+    (flat_map declared_terminals (map declared_of c.args.yacc.now.declarations.items))
+    ++ map (λ r. max (length r.left) (constructor_length r.making)) (map ruling_of xs)))
+    c.deref-rule-items.ensures.value)))

@@ -1,4 +1,4 @@
-use Rattle.std.proofs.Common.{◌≡◌, ◌∙◌, ap, ap₂, sym, map, max, take}
+use Rattle.std.proofs.Common.{◌∙◌, ap, ap₂, sym, map, max, take}
 use Rattle.ly_join.specs.Counts.{greatest, token_length}
 use Rattle.ly_join.specs.Private.Tables.{terminal_of}
 use Rattle.ly_join.proofs.CountLemmas.{greatest_push}

@@ -1,4 +1,4 @@
-use Rattle.std.proofs.Common.{◌≡◌, ◌∙◌, ap, [], map, sym, take}
+use Rattle.std.proofs.Common.{◌∙◌, ap, [], map, sym, take}
 use Rattle.std.specs.Str.{bytes_eq}
 use Rattle.ly_yaccread.specs.File.{ruling_of}
 use Rattle.ly_join.specs.Numbering.{first_appearances}
@@ -28,4 +28,5 @@ returns c =
     ∙ (ap (with_all bytes_eq []) (twice_all (λ r. r.left) ruling_of all c.loop-production.production-index
     c.loop-production-test.false)
     ∙ (sym (first_append bytes_eq same_bytes bytes_itself [] lefts)
-    ∙ ap (λ rs. first_appearances bytes_eq (map (λ r. r.left) (map ruling_of rs))) c.deref-production-items.ensures.value))
+    ∙ ap (λ rs. first_appearances bytes_eq (map (λ r. r.left) (map ruling_of rs)))
+    c.deref-production-items.ensures.value))

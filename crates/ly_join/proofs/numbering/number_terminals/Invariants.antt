@@ -1,4 +1,4 @@
-use Rattle.std.proofs.Common.{◌≡◌, ◌++◌, ◌∷◌, [], map, take}
+use Rattle.std.proofs.Common.{◌≡◌, ◌∷◌, [], map, take}
 use Rattle.std.specs.List.{flat_map}
 use Rattle.ly_yaccread.specs.File.{declared_of, ruling_of}
 use Rattle.ly_join.specs.Numbering.{declared_terminals, rule_literals}

@@ -1,4 +1,4 @@
-use Rattle.std.proofs.Common.{◌≡◌, ◌++◌, List, length, map, take}
+use Rattle.std.proofs.Common.{◌++◌, List, map, take}
 use Rattle.ly_join.specs.Terminals.{Terminal}
 use Rattle.ly_join.specs.Private.Rules.{AreGiven}
 use Rattle.ly_join.specs.Private.Tables.{terminal_of}

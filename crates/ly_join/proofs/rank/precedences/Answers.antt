@@ -1,6 +1,4 @@
-use Rattle.std.proofs.Common.{◌≡◌, ◌∙◌, ◌+◌, ◌++◌, ◌∷◌, [], ap, arith, Contains, length, List, map, subst, sym, take, drop}
-use Rattle.std.specs.List.{flat_map}
-use Rattle.std.specs.Vec.{with_items}
+use Rattle.std.proofs.Common.{◌≡◌, ◌∙◌, ◌+◌, ◌++◌, ap, arith, Contains, map, subst, sym, take, drop}
 use Rattle.std.proofs.lemmas.List.{append-nil, with_items_is}
 use Rattle.std.proofs.lemmas.Result.{err_from_is_err_and}
 use Rattle.ly_base.proofs.MemberLemmas.{Contains-flat_map}
@@ -9,7 +7,6 @@ use Rattle.ly_join.specs.Numbering.{declared_terminals}
 use Rattle.ly_join.specs.Precedences.{given, given_by, given_from}
 use Rattle.ly_join.specs.Private.Rules.{AreGiven, IsGivingFault}
 use Rattle.ly_join.specs.Private.Tables.{terminal_of}
-use Rattle.ly_join.specs.Terminals.{Terminal}
 use Rattle.ly_join.specs.declared.precedence.Precedence.{Precedence}
 use Rattle.ly_join.proofs.CountLemmas.{declared_words}
 use Rattle.ly_join.proofs.GivenLemmas.{given_beyond, given_nothing, given_symbols, given_up_to, giving_more}

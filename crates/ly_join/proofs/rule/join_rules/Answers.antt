@@ -1,9 +1,9 @@
-use Rattle.std.proofs.Common.{◌≡◌, ◌∙◌, ◌++◌, ◌∷◌, [], ap, inr, map, subst, sym, take}
+use Rattle.std.proofs.Common.{◌∙◌, ap, inr, map, take}
 use Rattle.std.proofs.lemmas.List.{map_push}
 use Rattle.std.proofs.lemmas.Result.{err_from_is_err_and}
 use Rattle.ly_yaccread.specs.File.{ruling_of}
 use Rattle.ly_join.specs.Joined.{note_of}
-use Rattle.ly_join.specs.Private.Rules.{table_from, RulesJoined}
+use Rattle.ly_join.specs.Private.Rules.{table_from}
 use Rattle.ly_join.proofs.ListLemmas.{mapped_in, mapped_more, read_in}
 use Rattle.ly_join.proofs.RuleLemmas.{covered_one, rules_more}
 use Rattle.ly_join.proofs.rule.join_rules.Goals as goal

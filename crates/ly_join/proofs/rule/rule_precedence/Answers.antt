@@ -1,11 +1,10 @@
-use Rattle.std.proofs.Common.{◌≡◌, ◌∙◌, ◌<◌, ap, arith, length, map, subst, sym, Some, ◌∷◌, [], All}
+use Rattle.std.proofs.Common.{◌≡◌, ◌∙◌, ◌<◌, ap, arith, length, map, subst, sym, ◌∷◌, [], All}
 use Rattle.std.specs.Prelude.{IfSome, option_map}
 use Rattle.std.specs.Option.{option_to_list}
 use Rattle.std.proofs.lemmas.List.Elements.{All-head}
 use Rattle.ly_yaccread.specs.File.{symbol_word}
 use Rattle.ly_join.specs.Grammar.{symbol_of}
-use Rattle.ly_join.specs.Joined.{last_terminal}
-use Rattle.ly_join.specs.Private.Rules.{table_from, HasLiteral}
+use Rattle.ly_join.specs.Private.Rules.{HasLiteral}
 use Rattle.ly_join.proofs.RuleLemmas.{found_below, last_below, terminal_within}
 use Rattle.ly_join.proofs.rule.rule_precedence.Goals as goal
 

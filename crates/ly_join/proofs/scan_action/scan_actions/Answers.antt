@@ -1,4 +1,4 @@
-use Rattle.std.proofs.Common.{◌≡◌, ◌∙◌, ap, inr, map, refl, take}
+use Rattle.std.proofs.Common.{inr, map, refl, take}
 use Rattle.std.proofs.lemmas.Result.{err_from_is_err_and}
 use Rattle.ly_join.specs.Scanning.{acting_of, IsScanAction}
 use Rattle.ly_join.proofs.ListLemmas.{mapped_in, mapped_more, read_in, zip_push}

@@ -1,7 +1,5 @@
-use Rattle.std.proofs.Common.{◌≡◌, ◌∙◌, ap, map, None, rules, List, ◌++◌, ◌∷◌, [], subst, sym}
+use Rattle.std.proofs.Common.{◌≡◌, ◌∙◌, ap, None, rules, List, ◌++◌, ◌∷◌, []}
 use Rattle.std.specs.Prelude.{replicate}
-use Rattle.ly_join.specs.Terminals.{end, undefined, terminal_from}
-use Rattle.ly_join.specs.Private.Tables.{AreTables}
 use Rattle.ly_join.specs.declared.terminal.TerminalName.{TerminalName}
 use Rattle.ly_join.specs.declared.terminal.TerminalName.TheVariants.{End, Undefined}
 use Rattle.ly_join.proofs.TableLemmas.{no_tables}
@@ -13,5 +11,6 @@ invariant_of-result c =
     let names : c.push-2.new.self.items ≡ End ∷ Undefined ∷ [] = c.in_ok-push-2.ensures.items
     ∙ ap (λ xs. pushed xs Undefined) (c.in_ok-push.ensures.items
     ∙ ap (λ xs. pushed xs End) c.new-names.ensures.items) in
-    let none : c.in_ok-vec.field-0.items ≡ replicate 256 None = c.in_ok-vec.ensures.items_if_clones_equal (λ y h. search rules) in
+    let none : c.in_ok-vec.field-0.items ≡ replicate 256 None
+    = c.in_ok-vec.ensures.items_if_clones_equal (λ y h. search rules) in
     rw (names, c.new.ensures.empty) (no_tables (λ k. k.items) c.in_ok-vec.field-0.items none)

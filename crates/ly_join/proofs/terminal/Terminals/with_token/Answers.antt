@@ -4,7 +4,6 @@ use Rattle.std.specs.Str.{bytes_eq}
 use Rattle.std.proofs.lemmas.List.{length-map, map_push}
 use Rattle.indexmap.proofs.CallerLemmas.{insert_entry-new}
 use Rattle.ly_join.specs.Private.Numbering.{with_one}
-use Rattle.ly_join.specs.Private.Tables.{AreTables}
 use Rattle.ly_join.specs.Terminals.{same_terminal, terminal_from, token}
 use Rattle.ly_join.proofs.NumberingLemmas.{with_new, with_old}
 use Rattle.ly_join.proofs.TableLemmas.{found_there, not_found, same_itself, same_sound, tables_token, unfound_there}
