@@ -6,8 +6,7 @@ use Rattle.std.proofs.lemmas.List.{append-nil, drop_more, get_or-map, length-map
 use Rattle.std.proofs.lemmas.List.{take-append-drop, take-map, take_all}
 use Rattle.std.proofs.lemmas.List.Concat.{flat_map-append}
 use Rattle.ly_base.proofs.MemberLemmas.{Contains-cons_cases, Contains-first, Contains-later, Contains-none}
-use Rattle.std.proofs.lemmas.Option.{get_or_from_slice_get, slice_get-get_or, slice_get-map, slice_get_within}
-use Rattle.std.specs.Prelude.{option_map}
+use Rattle.std.proofs.lemmas.Option.{get_or_from_slice_get, slice_get-get_or, slice_get_within}
 use Rattle.std.proofs.lemmas.Bool.{cases_lt}
 use Rattle.std.specs.List.{AllZip, flat_map}
 
@@ -146,9 +145,3 @@ zip_one R (x ∷ xs) [] zs one a b = absurd a
 zip_one R (x ∷ xs) (y ∷ ys) [] one a b = absurd b
 zip_one R (x ∷ xs) (y ∷ ys) (z ∷ zs) one a b =
     ap (λ w. w ∷ ys) (one x y z a.0 b.0) ∙ ap (λ ws. z ∷ ws) (zip_one R xs ys zs one a.1 b.1)
-
--- what stands at a place of what a list is mapped to, twice
-pub twice_at : {X Y Z : Type 0} (g : Y → Z) (f : X → Y) (xs : List X) (k : ℕ) (x : X) → slice_get xs k ≡ Some x
-    → slice_get (map g (map f xs)) k ≡ Some (g (f x))
-twice_at g f xs k x at = slice_get-map g (map f xs) k
-    ∙ ap (option_map g) (slice_get-map f xs k ∙ ap (option_map f) at)

@@ -1,13 +1,13 @@
 ghost use Rattle.std.specs.Prelude.{◌≡◌, ◌<◌, length, map, slice_get, Some};
 ghost use Rattle.ly_join.specs.Grammar.{IsGrammar};
-ghost use Rattle.ly_join.specs.Joined.{shape_of};
+ghost use Rattle.ly_join.specs.Joined.{note_of};
 ghost use Rattle.ly_join.specs.Sizes.{HasSizes};
 ghost use Rattle.ly_join.specs.Terminals.{terminal_from, IsOfByte};
 
 use crate::grammar::Grammar;
 use crate::nonterminals::Nonterminals;
 use crate::precedence::Precedence;
-use crate::rule::{RuleNote, RuleTree};
+use crate::rule::RuleNote;
 use crate::scan_action::ScanAction;
 use crate::terminal::{TerminalName, Terminals};
 use ly_base::Sym;
@@ -90,28 +90,18 @@ impl Spec {
         self.terminals.of_byte(byte)
     }
 
-    /// The precedence of the terminal of a number.
-    pub fn precedence(&self, terminal: Sym) -> Option<Precedence>
-        requires { terminal.0 < length self.now.terminals }
-        ensures { slice_get self.now.precedences terminal.0 ≡ Some result }
+    /// The precedence of each terminal, by number.
+    pub fn precedences(&self) -> &[Option<Precedence>]
+        ensures { result.now ≡ self.now.precedences }
     {
-        self.precedences[terminal.0 as usize]
+        &self.precedences
     }
 
-    /// The precedence of the rule of a number.
-    pub fn rule_precedence(&self, number: usize) -> Option<Precedence>
-        requires { number < length self.now.notes }
-        ensures { slice_get (map (λ n. n.precedence) self.now.notes) number ≡ Some result }
+    /// What each rule says beside its symbols, by number, rule 0 among them.
+    pub fn notes(&self) -> &[RuleNote]
+        ensures { map note_of result.now ≡ self.now.notes }
     {
-        self.notes[number].precedence
-    }
-
-    /// What the tree of the rule of a number is.
-    pub fn rule_tree(&self, number: usize) -> &RuleTree
-        requires { number < length self.now.notes }
-        ensures { slice_get (map (λ n. n.shape) self.now.notes) number ≡ Some (shape_of result.now) }
-    {
-        &self.notes[number].tree
+        &self.notes
     }
 
     /// What the rules of the lex file do, by number.
