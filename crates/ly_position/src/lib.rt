@@ -12,6 +12,7 @@
 
 mod build;
 mod fault;
+mod laws;
 mod link;
 mod lists;
 mod nfa;
@@ -24,5 +25,9 @@ mod weight;
 
 pub use build::positions;
 pub use fault::PosFault;
+pub use laws::{
+    paths_change_over, positions_are_as_many, positions_come_next, positions_live, positions_spell,
+    reads_along, written_matches,
+};
 pub use nfa::{PosNfa, Position};
 pub use set::PositionSet;
