@@ -3,6 +3,7 @@ pub mod CodeLaws
 pub mod CodePlaces
 pub mod CompileLemmas
 pub mod CountLemmas
+pub mod FullLemmas
 pub mod HomeLemmas
 pub mod JoinedLemmas
 pub mod LabelLemmas

@@ -6,7 +6,7 @@ use Rattle.ly_ere.specs.Expression.{Expression}
 use Rattle.ly_ere.specs.Winner.{InTail, IsActive, IsString, PatternMatches}
 use Rattle.ly_ere.specs.declared.pattern.Pattern.{Pattern}
 use Rattle.ly_ere.specs.declared.pattern.Rule.{Rule}
-use Rattle.ly_position.specs.Nfa.{Nfa, IsEnd, RunsTo, RunsBefore, starts_of}
+use Rattle.ly_position.specs.Nfa.{Nfa, IsEnd, RunsTo, ComesTo, starts_of}
 use Rattle.ly_position.specs.Patterns.{RunsFrom}
 use Rattle.ly_position.specs.Written.{Plain, Member, pattern_written, with_tail, written}
 use Rattle.ly_position.specs.Numbered.{numbered, set_at, set_count, Path, ComesFirst, ComesAfter}
@@ -64,7 +64,7 @@ module _ (names : List Expression) (rules : List Rule) (conditions : ℕ) (nfa :
 
   along : (i : ℕ) (r : Rule) → slice_get rules i ≡ Some r → (w : List ℕ) (p q : ℕ) (js ks : List ℕ)
       → p < length nfa.positions → (spot p).rule ≡ i → Path (plain_of r) (js ++ (spot p).number ∷ ks)
-      → RunsBefore nfa p w q → Along i r js w q
+      → ComesTo nfa p w q → Along i r js w q
   along i r is [] p q js ks less at path run = subst (λ z. Along i r js [] z) run (record {
     within = less;
     of_rule = at;
@@ -126,7 +126,7 @@ module _ (names : List Expression) (rules : List Rule) (conditions : ℕ) (nfa :
   run_along : (i : ℕ) (r : Rule) → slice_get rules i ≡ Some r → (us : List ℕ) (l : ℕ) (zs w js : List ℕ) (p q : ℕ)
       → p < length nfa.positions → q < length nfa.positions → (spot p).rule ≡ i → (spot q).rule ≡ i
       → (spot p).number ≡ first_of_path us l → (spot q).number ≡ l → Path (plain_of r) (js ++ (us ++ l ∷ zs))
-      → IsReadAlong (plain_of r) us w → RunsBefore nfa p w q
+      → IsReadAlong (plain_of r) us w → ComesTo nfa p w q
   run_along i r is [] l zs [] js p q less last at to e f path h
       = all.once p q less last (same_spot (spot p) (spot q) (at ∙ sym to) (e ∙ sym f))
   run_along i r is [] l zs (b ∷ w) js p q less last at to e f path h = absurd h
@@ -157,7 +157,7 @@ module _ (names : List Expression) (rules : List Rule) (conditions : ℕ) (nfa :
   record Parts (i p : ℕ) (w : List ℕ) : Type 0 where
     last : ℕ
     within : last < length nfa.positions
-    before : RunsBefore nfa p w last
+    before : ComesTo nfa p w last
     ends : IsEnd nfa last i
 
   parts : (i : ℕ) (w : List ℕ) (p : ℕ) → p < length nfa.positions → RunsTo nfa i p w → Parts i p w
@@ -166,7 +166,7 @@ module _ (names : List Expression) (rules : List Rule) (conditions : ℕ) (nfa :
       let a = parts i w h.0 (all.follow_within p h.0 h.2) h.3 in
       record { last = a.last; within = a.within; before = (h.0, h.1, h.2, a.before); ends = a.ends }
 
-  whole : (i : ℕ) (w : List ℕ) (p q : ℕ) → RunsBefore nfa p w q → IsEnd nfa q i → RunsTo nfa i p w
+  whole : (i : ℕ) (w : List ℕ) (p q : ℕ) → ComesTo nfa p w q → IsEnd nfa q i → RunsTo nfa i p w
   whole i [] p q h e = subst (λ z. IsEnd nfa z i) (sym h) e
   whole i (b ∷ w) p q h e = (h.0, h.1, h.2, whole i w h.0 q h.3 e)
 
@@ -177,7 +177,7 @@ module _ (names : List Expression) (rules : List Rule) (conditions : ℕ) (nfa :
     goes : Along (spot q).rule rule [] w q
 
   begun : (c : ℕ) (line : Bool) (w : List ℕ) (p q : ℕ) → c < conditions → Contains (starts_of nfa c line) p
-      → RunsBefore nfa p w q → Begun c line w q
+      → ComesTo nfa p w q → Begun c line w q
   begun c line w p q known h run =
       let less = all.starts_within c line p h in
       let s = all.is_spot p less in
@@ -192,7 +192,7 @@ module _ (names : List Expression) (rules : List Rule) (conditions : ℕ) (nfa :
 
   -- runs over w from the start positions stand before the spots that can come next after it
   pub come_next : (c : ℕ) (line : Bool) (w : List ℕ) (q : ℕ) → c < conditions → q < length nfa.positions
-      → ((p : ℕ) × Contains (starts_of nfa c line) p × RunsBefore nfa p w q) ↔ IsNext names rules c line w (spot q)
+      → ((p : ℕ) × Contains (starts_of nfa c line) p × ComesTo nfa p w q) ↔ IsNext names rules c line w (spot q)
   come_next c line w q known less = (
     λ h. let g = begun c line w h.0 q known h.1 h.2 in
         (g.rule, g.active, (g.goes.more, g.goes.rest, g.goes.path, g.goes.reads)),

@@ -1,6 +1,6 @@
 -- The positions of a plain expression: its sets, numbered from the left, and then its end mark
 -- (McNaughton and Yamada 1960, Glushkov 1961).
-use Rattle.std.specs.Prelude.{◌≡◌, ℕ, ◌+◌, List, [], ◌∷◌, ◌++◌, slice_index_or, Contains}
+use Rattle.std.specs.Prelude.{◌≡◌, ◌≢◌, ℕ, ◌+◌, List, [], ◌∷◌, ◌++◌, slice_index_or, Contains}
 use Rattle.std.specs.List.{AllZip}
 use Rattle.ly_position.specs.Written.{Plain, one_of, empty_string, in_turn, or, any_times, some_times, maybe, Member}
 
@@ -48,6 +48,16 @@ Path r ks = (js : List ℕ) × Member (numbered r 0) js × (ks ≡ js ++ set_cou
 -- k is a position: some path goes through it
 abbrev pub IsPosition : Plain → ℕ → Type 0
 IsPosition r k = (js : List ℕ) × (ks : List ℕ) × Path r (js ++ k ∷ ks)
+
+-- every set has a byte
+abbrev pub IsFull : Plain → Type 0
+IsFull (one_of bytes) = bytes ≢ []
+IsFull empty_string = Unit {0}
+IsFull (in_turn r s) = IsFull r × IsFull s
+IsFull (or r s) = IsFull r × IsFull s
+IsFull (any_times r) = IsFull r
+IsFull (some_times r) = IsFull r
+IsFull (maybe r) = IsFull r
 
 -- k can come first: some path begins with it
 abbrev pub ComesFirst : Plain → ℕ → Type 0

@@ -1,5 +1,5 @@
-ghost use Rattle.ly_position.specs.Laws.{PathsChangeOver, PositionsAreAsMany, PositionsComeNext, PositionsLive};
-ghost use Rattle.ly_position.specs.Laws.{PositionsSpell, ReadsAlong, WrittenMatches};
+ghost use Rattle.ly_position.specs.Laws.{AllArePositions, PathsChangeOver, PositionsAreAsMany, PositionsComeNext};
+ghost use Rattle.ly_position.specs.Laws.{PositionsLive, PositionsSpell, ReadsAlong, SomeHasTwoPositions, WrittenMatches};
 
 /// An expression written out has its strings.
 pub fn written_matches()
@@ -16,12 +16,22 @@ pub fn paths_change_over()
     ensures { PathsChangeOver }
 {}
 
+/// Where every set has a byte, the positions are the numbers of all sets and of the end mark.
+pub fn all_are_positions()
+    ensures { AllArePositions }
+{}
+
+/// A rule `a+` has two positions: it isn't `aa*`.
+pub fn some_has_two_positions()
+    ensures { SomeHasTwoPositions }
+{}
+
 /// An automaton that has the positions of rules runs over their strings.
 pub fn positions_spell()
     ensures { PositionsSpell }
 {}
 
-/// Runs over a string stand before the positions that can come next after it.
+/// Runs over a string come to the positions that can come next after it.
 pub fn positions_come_next()
     ensures { PositionsComeNext }
 {}

@@ -5,4 +5,5 @@ pub mod KeyLemmas
 pub mod LawLemmas
 pub mod OrderLemmas
 pub mod RuleLemmas
+pub mod RuleSetLemmas
 pub mod SubsetLemmas
