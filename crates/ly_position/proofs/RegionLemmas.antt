@@ -205,8 +205,8 @@ module _ (g : List Step) (i base : ℕ) (e : Expression) (r : Plain) (is : slim 
       }
 
   -- a path from a run from the start
-  path_of : (us vs zs ws : List ℕ) → CanRun g i start (us ++ vs) → vs ++ set_count r ∷ [] ≡ ws → Path r (us ++ ws)
-  path_of us vs zs ws run eq = (
+  path_of : (us vs ws : List ℕ) → CanRun g i start (us ++ vs) → vs ++ set_count r ∷ [] ≡ ws → Path r (us ++ ws)
+  path_of us vs ws run eq = (
     us ++ vs,
     there (us ++ vs) run,
     ap (λ z. us ++ z) (sym eq) ∙ sym (append_assoc us vs (set_count r ∷ [])),
@@ -216,7 +216,7 @@ module _ (g : List Step) (i base : ℕ) (e : Expression) (r : Plain) (is : slim 
   position p k h =
       let o = onward p k h in
       let u = reach p (number_inside p k h) in
-      (u.0, o.rest, path_of u.0 o.numbers [] (k ∷ o.rest) (u.1 o.numbers o.goes) o.path)
+      (u.0, o.rest, path_of u.0 o.numbers (k ∷ o.rest) (u.1 o.numbers o.goes) o.path)
 
   -- what a run that is the end of a path comes to first
   at_number : (p m : ℕ) (zs rest : List ℕ) (l : ℕ) (s : Step) → IsInside p → slice_get g p ≡ Some s
@@ -316,7 +316,7 @@ module _ (g : List Step) (i base : ℕ) (e : Expression) (r : Plain) (is : slim 
       let o = onward q l h in
       let x = from_root g i (start ∷ []) q o.numbers reached o.goes in
       let run : CanRun g i start o.numbers = subst (λ y. CanRun g i y o.numbers) (sym (Contains-one start x.0 x.1)) x.2
-      in (o.rest, path_of [] o.numbers [] (l ∷ o.rest) run o.path)
+      in (o.rest, path_of [] o.numbers (l ∷ o.rest) run o.path)
 
   pub first_back : (l : ℕ) → ComesFirst r l → (q : ℕ) × Reached g (start ∷ []) q × Numbers q l
   first_back l h = settled start l h.1.0 h.0 start_inside (back h.1.0 h.1.1) (sym h.1.2)
@@ -329,7 +329,7 @@ module _ (g : List Step) (i base : ℕ) (e : Expression) (r : Plain) (is : slim 
       let run : CanRun g i x o.numbers = subst (λ z. CanRun g i z o.numbers) (sym (Contains-one x y.0 y.1)) y.2 in
       let u = reach p inside in
       let whole = u.1 (k ∷ o.numbers) (suc run.0, by_read at (Contains-first k []) run.1) in
-      (u.0, o.rest, path_of u.0 (k ∷ o.numbers) [] (k ∷ l ∷ o.rest) whole (ap (λ z. k ∷ z) o.path))
+      (u.0, o.rest, path_of u.0 (k ∷ o.numbers) (k ∷ l ∷ o.rest) whole (ap (λ z. k ∷ z) o.path))
 
   pub after_back : (p k x l : ℕ) → base < p → p < top → slice_get g p ≡ Some (reads (k ∷ []) x) → ComesAfter r k l
       → (q : ℕ) × Reached g (x ∷ []) q × Numbers q l

@@ -27,8 +27,8 @@ mod weight;
 pub use build::positions;
 pub use fault::PosFault;
 pub use laws::{
-    paths_change_over, positions_are_as_many, positions_come_next, positions_live, positions_spell,
-    reads_along, written_matches,
+    all_are_positions, paths_change_over, positions_are_as_many, positions_come_next,
+    positions_live, positions_spell, reads_along, some_has_two_positions, written_matches,
 };
 pub use nfa::{PosNfa, Position};
 pub use set::PositionSet;
