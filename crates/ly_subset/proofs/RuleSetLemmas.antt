@@ -5,12 +5,16 @@ use Rattle.std.specs.Prelude.{◌↔◌, Contains, nat_lt, if◌then◌else◌}
 use Rattle.std.proofs.lemmas.Bool.{cases_lt, cases_Bool, ltb-true}
 use Rattle.ly_ere.specs.Expression.{Expression}
 use Rattle.ly_ere.specs.declared.pattern.Rule.{Rule}
-use Rattle.ly_position.specs.Nfa.{Nfa, ComesTo, starts_of}
+use Rattle.std.proofs.lemmas.List.{get_or_past}
+use Rattle.ly_base.proofs.MemberLemmas.{Contains-none}
+use Rattle.ly_position.specs.Nfa.{Nfa, ComesTo, Reads, bytes_of, reading, starts_of}
 use Rattle.ly_position.specs.Spots.{Spot, IsNext, IsSpot, ArePositionsOf}
 use Rattle.ly_position.proofs.CountLemmas.{pigeonhole}
 use Rattle.ly_position.proofs.SpotLemmas.{come_next}
 use Rattle.ly_subset.specs.Automaton.{Automaton, IsAutomaton, entry_at, start_of, start_place, state_after}
-use Rattle.ly_subset.specs.Laws.{MoreSetsOfRules, NoMoreSetsThanStates, SubsetsAreSpotSets}
+use Rattle.ly_subset.specs.Laws.{ClassesOfRules, MoreSetsOfRules, NoMoreSetsThanStates, SubsetsAreSpotSets}
+use Rattle.ly_subset.specs.Classes.{AreReadAlike}
+use Rattle.ly_subset.specs.RuleSets.{AreSpotsAlike, IsReadAt}
 use Rattle.ly_subset.specs.RuleSets.{AreSpotSets, HasSpot, HaveMoreSets, HaveSameSpots, IsSpotAfter, state_of}
 use Rattle.ly_subset.specs.Subsets.{AreAlike, AreSubsets, Beginning, HasMoreSets, IsAfter, IsAlive, IsStateOf}
 use Rattle.ly_subset.specs.Subsets.{set_at}
@@ -209,3 +213,40 @@ module _ (names : List Expression) (rules : List Rule) (conditions : ℕ) (A : A
 pub no_more_sets_than_states : NoMoreSetsThanStates
 no_more_sets_than_states names rules conditions A n so l h
     = let more = more_states names rules conditions A n so h in omega arith
+
+-- the bytes of a position are those of its spot
+module _ (names : List Expression) (rules : List Rule) (conditions : ℕ) (nfa : Nfa) (spot : ℕ → Spot)
+    (all : ArePositionsOf names rules conditions nfa spot) where
+  read_at : (p b : ℕ) → p < length nfa.positions → Reads nfa p b ↔ IsReadAt names rules (spot p) b
+  read_at p b l =
+      let s = all.is_spot p l in (
+        λ h. (s.0, s.1, (all.reads p b s.0 l s.1).0 h),
+        λ h. (all.reads p b h.0 l h.1).1 h.2,
+      )
+
+  past_reads : (p b : ℕ) → length nfa.positions ≤ p → Reads nfa p b → ⊥
+  past_reads p b l h = Contains-none b (subst (λ x. Contains (bytes_of x) b)
+      (get_or_past nfa.positions p (reading [] []) l) h)
+
+  spots_alike : (a b : ℕ) → AreReadAlike nfa a b → AreSpotsAlike names rules a b
+  spots_alike a b h s is =
+      let p = all.each s is in
+      subst (λ x. IsReadAt names rules x a ↔ IsReadAt names rules x b) p.2 (
+        λ x. (read_at p.0 b p.1).0 ((h p.0).0 ((read_at p.0 a p.1).1 x)),
+        λ x. (read_at p.0 a p.1).0 ((h p.0).1 ((read_at p.0 b p.1).1 x)),
+      )
+
+  read_alike : (a b : ℕ) → AreSpotsAlike names rules a b → AreReadAlike nfa a b
+  read_alike a b h p = elim (cases_lt p (length nfa.positions)) [
+    | inl l ↦ let k = h (spot p) (all.is_spot p l) in (
+      λ x. (read_at p b l).1 (k.0 ((read_at p a l).0 x)),
+      λ x. (read_at p a l).1 (k.1 ((read_at p b l).0 x)),
+    )
+    | inr l ↦ (λ x. absurd (past_reads p a l x), λ x. absurd (past_reads p b l x))
+  ]
+
+  pub of_rules_alike : (a b : ℕ) → AreReadAlike nfa a b ↔ AreSpotsAlike names rules a b
+  of_rules_alike a b = (spots_alike a b, read_alike a b)
+
+pub classes_of_rules : ClassesOfRules
+classes_of_rules names rules conditions nfa a b h = of_rules_alike names rules conditions nfa h.0 h.1 a b

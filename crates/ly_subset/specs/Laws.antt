@@ -6,7 +6,8 @@ use Rattle.ly_position.specs.Nfa.{Nfa, RunsTo}
 use Rattle.ly_position.specs.Patterns.{RunsFrom}
 use Rattle.ly_position.specs.Spots.{HasPositions}
 use Rattle.ly_subset.specs.Automaton.{Automaton, IsAutomaton, IsBreadthFirst, IsReached, IsTrim, start_of, rule_after}
-use Rattle.ly_subset.specs.RuleSets.{AreSpotSets, HaveMoreSets}
+use Rattle.ly_subset.specs.Classes.{AreReadAlike}
+use Rattle.ly_subset.specs.RuleSets.{AreSpotSets, AreSpotsAlike, HaveMoreSets}
 use Rattle.ly_subset.specs.Subsets.{AreSubsets, HasMoreSets, IsLeastRule}
 
 -- states that are numbered breadth first are reached
@@ -41,3 +42,8 @@ MoreSetsOfRules = (names : List Expression) (rules : List Rule) (conditions : �
 abbrev pub NoMoreSetsThanStates : Type 0
 NoMoreSetsThanStates = (names : List Expression) (rules : List Rule) (conditions : ℕ) (A : Automaton) (n : ℕ)
     → AreSpotSets names rules conditions A → length A.rules ≤ n → HaveMoreSets names rules conditions n → ⊥
+
+-- the classes of bytes are those that the same positions of the patterns read
+abbrev pub ClassesOfRules : Type 0
+ClassesOfRules = (names : List Expression) (rules : List Rule) (conditions : ℕ) (nfa : Nfa) (a b : ℕ)
+    → HasPositions names rules conditions nfa → AreReadAlike nfa a b ↔ AreSpotsAlike names rules a b

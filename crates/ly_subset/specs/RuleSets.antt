@@ -1,8 +1,11 @@
 -- The states of a scanner, over its rules alone: sets of positions of the patterns that can come next after a string.
-use Rattle.std.specs.Prelude.{◌≡◌, ◌↔◌, ℕ, suc, ◌<◌, List, length, Option, Some, None, All, AllPairs}
+use Rattle.std.specs.Prelude.{◌≡◌, ◌↔◌, ℕ, suc, ◌<◌, List, length, slice_get, Contains, Option, Some, None, All}
+use Rattle.std.specs.Prelude.{AllPairs}
 use Rattle.ly_ere.specs.Expression.{Expression}
 use Rattle.ly_ere.specs.declared.pattern.Rule.{Rule}
-use Rattle.ly_position.specs.Spots.{Spot, IsNext}
+use Rattle.ly_position.specs.Numbered.{set_at}
+use Rattle.ly_position.specs.Spots.{Spot, IsNext, IsSpot}
+use Rattle.ly_position.specs.Written.{pattern_written}
 use Rattle.ly_subset.specs.Automaton.{Automaton, start_of, state_after}
 use Rattle.ly_subset.specs.Subsets.{Beginning}
 
@@ -39,3 +42,12 @@ pub record AreSpotSets (names : List Expression) (rules : List Rule) (conditions
   pub same : (o u : Beginning) → o.condition < conditions → u.condition < conditions
       → (state_of A o ≡ state_of A u) ↔ HaveSameSpots names rules o u
   pub each : (s : ℕ) → s < length A.rules → (o : Beginning) × (o.condition < conditions) × (state_of A o ≡ Some s)
+
+-- the set of the spot has the byte
+abbrev pub IsReadAt : List Expression → List Rule → Spot → ℕ → Type 0
+IsReadAt names rules s b = (r : Rule) × (slice_get rules s.rule ≡ Some r)
+    × Contains (set_at (pattern_written names r.pattern) s.number) b
+
+-- each position of the patterns reads both bytes or neither
+abbrev pub AreSpotsAlike : List Expression → List Rule → ℕ → ℕ → Type 0
+AreSpotsAlike names rules a b = (s : Spot) → IsSpot names rules s → IsReadAt names rules s a ↔ IsReadAt names rules s b

@@ -1,5 +1,5 @@
-ghost use Rattle.ly_subset.specs.Laws.{MoreSetsOfRules, NoMoreSetsThanStates, NumberedAreReached, SubsetsAreSpotSets};
-ghost use Rattle.ly_subset.specs.Laws.{SubsetsAreTrim, WalksAgree};
+ghost use Rattle.ly_subset.specs.Laws.{ClassesOfRules, MoreSetsOfRules, NoMoreSetsThanStates, NumberedAreReached};
+ghost use Rattle.ly_subset.specs.Laws.{SubsetsAreSpotSets, SubsetsAreTrim, WalksAgree};
 
 /// States that are numbered breadth first are reached.
 pub fn numbered_are_reached()
@@ -29,4 +29,9 @@ pub fn more_sets_of_rules()
 /// There are no more sets of positions that can come next than states.
 pub fn no_more_sets_than_states()
     ensures { NoMoreSetsThanStates }
+{}
+
+/// The classes of bytes are those that the same positions of the patterns read.
+pub fn classes_of_rules()
+    ensures { ClassesOfRules }
 {}

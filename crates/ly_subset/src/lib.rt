@@ -25,6 +25,6 @@ pub use entry::Entry;
 pub use fault::SubsetFault;
 pub use keys::Keys;
 pub use laws::{
-    more_sets_of_rules, no_more_sets_than_states, numbered_are_reached, subsets_are_spot_sets,
-    subsets_are_trim, walks_agree,
+    classes_of_rules, more_sets_of_rules, no_more_sets_than_states, numbered_are_reached,
+    subsets_are_spot_sets, subsets_are_trim, walks_agree,
 };
