@@ -38,8 +38,9 @@ use Rattle.ly_position.proofs.NumberLemmas.{rank_each}
 use Rattle.ly_position.proofs.NumberedLemmas.{agrees, length-sets}
 use Rattle.ly_position.proofs.ProgramLemmas.{SomeProgram, some_program}
 use Rattle.ly_position.proofs.ReachLemmas.{reached_from-below, reached_from-once}
-use Rattle.ly_position.proofs.RegionLemmas.{IsNumberOf, number_one, number_moved, start_inside, reached_inside, number_inside}
-use Rattle.ly_position.proofs.RegionLemmas.{below_end, number_once, position, each, first, first_back, after, after_back}
+use Rattle.ly_position.proofs.RegionLemmas.{IsNumberOf, number_one, number_moved, start_inside, reached_inside}
+use Rattle.ly_position.proofs.RegionLemmas.{number_inside, below_end, number_once, position, each, first, first_back}
+use Rattle.ly_position.proofs.RegionLemmas.{after, after_back}
 use Rattle.ly_position.proofs.RegionLemmas.{none_after_end, end_at, number_at, next_inside}
 use Rattle.ly_position.proofs.RunLemmas.{Shows, Shown, shown, count, reach_below}
 use Rattle.ly_position.proofs.SlimNumbers.{Strings, fill, slim_fill, slim_strings}
@@ -499,7 +500,8 @@ module _ (names : List Expression) (rules : List Rule) (es : List Expression) (p
           let m = r_end k.at.of k.at.stands k.place i (k.at.low, k.at.high) at in (
             m.1,
             number_one h (base_of other k.at.of) (top_of k.at.of k.at.stands)
-                (set_count (wanted k.at.of k.at.stands)) k.place k.number (set_count (wanted k.at.of k.at.stands)) k.numbers
+                (set_count (wanted k.at.of k.at.stands)) k.place k.number (set_count (wanted k.at.of k.at.stands))
+                k.numbers
                 (inl (m.0, refl)),
           )
 

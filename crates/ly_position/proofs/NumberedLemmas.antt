@@ -237,7 +237,11 @@ module _ (S : ℕ → List ℕ) where
   joined_bytes r base f (suc k) ks j =
       let a = f j.0 j.3 in
       let b = joined_bytes r base f k j.1 j.4 in
-      (a.0 ++ b.0, subst (λ z. Along z (a.0 ++ b.0)) (sym j.2) (zip_both (λ k b. Contains (S k) b) j.0 j.1 a.0 b.0 a.1 b.1))
+      (
+        a.0 ++ b.0,
+        subst (λ z. Along z (a.0 ++ b.0)) (sym j.2)
+            (zip_both (λ k b. Contains (S k) b) j.0 j.1 a.0 b.0 a.1 b.1),
+      )
 
   -- along such numbers some string is read
   pub some_bytes : (r : Plain) (base : ℕ) (ks : List ℕ) → Agrees S r base → Member (numbered r base) ks
@@ -252,7 +256,11 @@ module _ (S : ℕ → List ℕ) where
   some_bytes (in_turn r s) base ks g h =
       let a = some_bytes r base h.0 g.0 h.3 in
       let b = some_bytes s (base + set_count r) h.1 g.1 h.4 in
-      (a.0 ++ b.0, subst (λ z. Along z (a.0 ++ b.0)) (sym h.2) (zip_both (λ k b. Contains (S k) b) h.0 h.1 a.0 b.0 a.1 b.1))
+      (
+        a.0 ++ b.0,
+        subst (λ z. Along z (a.0 ++ b.0)) (sym h.2)
+            (zip_both (λ k b. Contains (S k) b) h.0 h.1 a.0 b.0 a.1 b.1),
+      )
   some_bytes (or r s) base ks g (inl h) = some_bytes r base ks g.0 h
   some_bytes (or r s) base ks g (inr h) = some_bytes s (base + set_count r) ks g.1 h
   some_bytes (any_times r) base ks g h = joined_bytes r base (λ js m. some_bytes r base js g m) h.0 ks h.1

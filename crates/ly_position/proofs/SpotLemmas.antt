@@ -293,7 +293,8 @@ module _ (names : List Expression) (rules : List Rule) (conditions : ℕ) (nfa :
       ]
 
 pub positions_spell : PositionsSpell
-positions_spell names rules conditions nfa h c line i w known = spells names rules conditions nfa h.0 h.1 c line i w known
+positions_spell names rules conditions nfa h c line i w known
+    = spells names rules conditions nfa h.0 h.1 c line i w known
 
 pub positions_come_next : PositionsComeNext
 positions_come_next names rules conditions nfa spot all c line w q known less

@@ -13,7 +13,8 @@ use Rattle.ly_position.proofs.JoinedLemmas.{InTurn, Same, AtMost, Plus, same_tra
 use Rattle.ly_position.proofs.JoinedLemmas.{star_same, plus_same, joined_more, at_most_more, between, or_more}
 
 copies_strings : (m : ℕ) (r s : Plain) → Same (Member (copies m r s)) (InTurn (Joined (Member r) m) (Member s))
-copies_strings zero r s w = (λ h. ([], w, refl, refl, h), λ h. subst (Member s) (sym (h.2 ∙ ap (λ z. z ++ h.1) h.3)) h.4)
+copies_strings zero r s w
+    = (λ h. ([], w, refl, refl, h), λ h. subst (Member s) (sym (h.2 ∙ ap (λ z. z ++ h.1) h.3)) h.4)
 copies_strings (suc m) r s w = same_trans (Member (copies (suc m) r s))
     (InTurn (Member r) (InTurn (Joined (Member r) m) (Member s))) (InTurn (Joined (Member r) (suc m)) (Member s))
     (in_turn_same (Member r) (Member r) (Member (copies m r s)) (InTurn (Joined (Member r) m) (Member s))
@@ -28,7 +29,8 @@ up_to_strings zero r w = (λ h. (0, omega arith, h), back)
     back : AtMost (Member r) 0 w → w ≡ []
     back (zero, l, j) = j
     back (suc k, l, j) = absurd (omega (arith, l))
-up_to_strings (suc n) r w = same_trans (Member (up_to (suc n) r)) (λ w. (w ≡ []) ⊎ InTurn (Member r) (AtMost (Member r) n) w)
+up_to_strings (suc n) r w = same_trans (Member (up_to (suc n) r))
+    (λ w. (w ≡ []) ⊎ InTurn (Member r) (AtMost (Member r) n) w)
     (AtMost (Member r) (suc n))
     (or_same (λ w. w ≡ []) (λ w. w ≡ []) (InTurn (Member r) (Member (up_to n r)))
     (InTurn (Member r) (AtMost (Member r) n)) (λ w. (λ h. h, λ h. h))
@@ -100,7 +102,8 @@ named_one names n f None is w = (there, λ h. Contains-none h.0 h.1)
     there : NamedUpTo names (suc n) n w → Member (one_of []) w
     there (inl h) = let a = h.2 in absurd cc
     there (inr h) = absurd (omega (arith, h.0))
-named_one names n f (Some d) is w = (there, λ h. inl (refl, d, is, (written_strings (NamedUpTo names n) (named_up_to names n) f d w).1 h))
+named_one names n f (Some d) is w
+    = (there, λ h. inl (refl, d, is, (written_strings (NamedUpTo names n) (named_up_to names n) f d w).1 h))
   where
     there : NamedUpTo names (suc n) n w → Member (written_under (named_up_to names n) d) w
     there (inl h) =

@@ -1,5 +1,6 @@
 ghost use Rattle.ly_position.specs.Laws.{AllArePositions, PathsChangeOver, PositionsAreAsMany, PositionsComeNext};
-ghost use Rattle.ly_position.specs.Laws.{PositionsLive, PositionsSpell, ReadsAlong, SomeHasTwoPositions, WrittenMatches};
+ghost use Rattle.ly_position.specs.Laws.{PositionsLive, PositionsSpell, ReadsAlong, SomeHasTwoPositions};
+ghost use Rattle.ly_position.specs.Laws.{WrittenMatches};
 
 /// An expression written out has its strings.
 pub fn written_matches()

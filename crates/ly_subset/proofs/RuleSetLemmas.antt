@@ -37,7 +37,8 @@ module _ (names : List Expression) (rules : List Rule) (conditions : ℕ) (nfa :
 
   -- a position that can come next is a spot that can
   to_spot : (o : Beginning) (q : ℕ) → o.condition < conditions → IsAfter nfa o q → IsSpotAfter names rules o (spot q)
-  to_spot o q l h = (come_next names rules conditions nfa spot all o.condition o.line o.text q l (after_within o q h)).0 h
+  to_spot o q l h
+      = (come_next names rules conditions nfa spot all o.condition o.line o.text q l (after_within o q h)).0 h
 
   of_spot : (o : Beginning) (q : ℕ) → o.condition < conditions → q < length nfa.positions
       → IsSpotAfter names rules o (spot q) → IsAfter nfa o q

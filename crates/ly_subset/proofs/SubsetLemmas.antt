@@ -48,7 +48,7 @@ place_of k = elim (cases_eq (k % 2) 0) [
   | inr odd ↦ (k / 2, true, omega (arith, odd))
 ]
 
-place_below : (c : ℕ) (line : Bool) (conditions : ℕ) → start_place c line < 2 * conditions → c < conditions
+pub place_below : (c : ℕ) (line : Bool) (conditions : ℕ) → start_place c line < 2 * conditions → c < conditions
 place_below c true conditions l = omega (arith, l)
 place_below c false conditions l = omega (arith, l)
 

@@ -1,5 +1,5 @@
 -- What follows from the definitions of automata and of subsets.
-use Rattle.std.specs.Prelude.{ℕ, ◌<◌, ◌≤◌, ◌↔◌, List, length, Bool}
+use Rattle.std.specs.Prelude.{◌≡◌, ◌↔◌, ℕ, ◌*◌, ◌<◌, ◌≤◌, List, length, Bool}
 use Rattle.ly_ere.specs.Expression.{Expression}
 use Rattle.ly_ere.specs.declared.pattern.Rule.{Rule}
 use Rattle.ly_position.specs.Nfa.{Nfa, RunsTo}
@@ -47,3 +47,11 @@ NoMoreSetsThanStates = (names : List Expression) (rules : List Rule) (conditions
 abbrev pub ClassesOfRules : Type 0
 ClassesOfRules = (names : List Expression) (rules : List Rule) (conditions : ℕ) (nfa : Nfa) (a b : ℕ)
     → HasPositions names rules conditions nfa → AreReadAlike nfa a b ↔ AreSpotsAlike names rules a b
+
+-- Over the same classes of bytes, two automata of the same rules whose states are the sets of positions that can come
+-- next, numbered breadth first, have the same entries: the numbers of the states are determined.
+abbrev pub EntriesAreOne : Type 0
+EntriesAreOne = (names : List Expression) (rules : List Rule) (conditions : ℕ) (A B : Automaton) → IsAutomaton A
+    → IsAutomaton B → IsBreadthFirst A → IsBreadthFirst B → AreSpotSets names rules conditions A
+    → AreSpotSets names rules conditions B → A.class_of ≡ B.class_of → A.classes ≡ B.classes
+    → A.starts ≡ 2 * conditions → B.starts ≡ 2 * conditions → A.entries ≡ B.entries

@@ -1,5 +1,5 @@
-ghost use Rattle.ly_subset.specs.Laws.{ClassesOfRules, MoreSetsOfRules, NoMoreSetsThanStates, NumberedAreReached};
-ghost use Rattle.ly_subset.specs.Laws.{SubsetsAreSpotSets, SubsetsAreTrim, WalksAgree};
+ghost use Rattle.ly_subset.specs.Laws.{ClassesOfRules, EntriesAreOne, MoreSetsOfRules, NoMoreSetsThanStates};
+ghost use Rattle.ly_subset.specs.Laws.{NumberedAreReached, SubsetsAreSpotSets, SubsetsAreTrim, WalksAgree};
 
 /// States that are numbered breadth first are reached.
 pub fn numbered_are_reached()
@@ -34,4 +34,9 @@ pub fn no_more_sets_than_states()
 /// The classes of bytes are those that the same positions of the patterns read.
 pub fn classes_of_rules()
     ensures { ClassesOfRules }
+{}
+
+/// The numbers of the states are determined: over the same classes, two such automata have the same entries.
+pub fn entries_are_one()
+    ensures { EntriesAreOne }
 {}

@@ -14,8 +14,8 @@ pub returns-in-Empty : goal.returns-in-Empty
 returns-in-Empty c = elim c.in-Empty.is [
   | inl e ↦ kept slim_optional c.args.self.now c.args.part c.in-Some.a empty c.requires c.in-Some.is
       (ap (expression_of c.args.self.now) (sym e) ∙ c.node.ensures.is) refl
-  | inr (inl e) ↦ kept slim_optional c.args.self.now c.args.part c.in-Some.a (star (part_of c.args.self.now e.0)) c.requires
-      c.in-Some.is (ap (expression_of c.args.self.now) (sym e.1) ∙ c.node.ensures.is)
+  | inr (inl e) ↦ kept slim_optional c.args.self.now c.args.part c.in-Some.a (star (part_of c.args.self.now e.0))
+      c.requires c.in-Some.is (ap (expression_of c.args.self.now) (sym e.1) ∙ c.node.ensures.is)
       refl
   | inr (inr e) ↦ kept slim_optional c.args.self.now c.args.part c.in-Some.a (optional (part_of c.args.self.now e.0))
       c.requires c.in-Some.is (ap (expression_of c.args.self.now) (sym e.1) ∙ c.node.ensures.is)

@@ -6,8 +6,8 @@ use Rattle.ly_position.proofs.PlainLemmas.{all_kept, kept, added, added_none}
 use Rattle.ly_position.proofs.plain.Plain.star.Goals as goal
 
 pub returns-in_default : goal.returns-in_default
-returns-in_default c = added_none slim_star c.push.result c.args.self.now c.push.new.self c.args.part empty c.push.ensures.ok
-    c.push.ensures.number c.in_default.is refl
+returns-in_default c = added_none slim_star c.push.result c.args.self.now c.push.new.self c.args.part empty
+    c.push.ensures.ok c.push.ensures.number c.in_default.is refl
 
 pub returns-in-Empty : goal.returns-in-Empty
 returns-in-Empty c = elim c.in-Empty.is [
