@@ -3,9 +3,10 @@
 //! `read_names` reads definitions, which may use one another in any order: its answer is the one list of definitions
 //! that their texts are (`names_are_one`). `read_front` reads the pattern at the front of a line, `read_pattern` the
 //! text of a whole pattern. Each answers exactly the pattern that the grammar gives its text (`pattern_is_one`,
-//! `front_pattern_is_one`), and refuses only what is no pattern or is too heavy. A pattern with trailing context has the
-//! cut that the lengths of its head and its tail decide. What a pattern matches, and which rule wins at a place of a
-//! text, is defined here too, and determined (`winner_is_one`, `split_is_one`, `cut_is_true`, `expression_has_string`).
+//! `front_pattern_is_one`), and refuses only what is no pattern or is too heavy. A pattern with trailing context has
+//! the cut that the lengths of its head and its tail decide. What a pattern matches, and which rule wins at a place of
+//! a text, is defined here too, and determined (`winner_is_one`, `split_is_one`, `cut_is_true`,
+//! `expression_has_string`).
 #![tactic(auto)]
 
 mod arena;

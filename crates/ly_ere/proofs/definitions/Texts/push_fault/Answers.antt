@@ -18,9 +18,8 @@ returns-then-is_none c known list d a none =
       memory = c.requires.memory;
       weight = c.requires.weight;
     }) in
-    read_none known list d c.args.self.now _ a _ c.in_ok-push.ensures.items none c.new.ensures.items (λ e.
-        none_some (sym e))
-    refusal
+    read_none known list d c.args.self.now _ a _ c.in_ok-push.ensures.items none c.new.ensures.items
+    (λ e. none_some (sym e)) refusal
 
 none_is_none : (o : Option Refusal) → is_some o ≡ true → o ≡ None → ⊥
 none_is_none None some e = cc
@@ -28,8 +27,8 @@ none_is_none (Some r) some e = none_some (sym e)
 
 pub returns-else-is_none : goal.returns-else-is_none
 returns-else-is_none c known list d a none =
-    let u : Texts = record { expressions = c.args.self.now.expressions; uses = c.push.new.self; refusal = c.args.self.now.refusal } i
-            let u : Texts = record { expressions = c.args.self.now.expressions; uses = c.push.new.self; refusal = c.args.self.now.refusal } in
+    let self = c.args.self.now in
+    let u : Texts = record { expressions = self.expressions; uses = c.push.new.self; refusal = self.refusal } in
     let some : is_some c.args.self.now.refusal ≡ true = c.if-is_none.ensures in
     read_none known list d c.args.self.now _ a _ c.in_ok-push.ensures.items none c.new.ensures.items
     (λ e. none_is_none _ some e) (refusals_later known list d c.args.self.now u a _ c.in_ok-push.ensures.items)
