@@ -14,31 +14,31 @@ pub(crate) fn uses(alloc: Global, re: &Re) -> Result<Vec<usize>, AllocError>
 {
     let (nodes, root) = re.nodes();
     let mut found = Vec::new(alloc);
-    let mut open = Vec::new(alloc);
-    open.push(root)?;
-    while let Some(number) = open.pop() {
-        open_node(nodes[number], &mut open, &mut found)?;
+    let mut pending = Vec::new(alloc);
+    pending.push(root)?;
+    while let Some(number) = pending.pop() {
+        open_node(nodes[number], &mut pending, &mut found)?;
     }
     Ok(found)
 }
 
 /// Opens a node: its parts are to be opened next, the first before the second; a name is found.
-fn open_node(node: Node, open: &mut Vec<usize>, found: &mut Vec<usize>) -> Result<(), AllocError>
-    ensures within { (n : ℕ) → FitsAt n node → All (λ k. k < n) open.old.items
-        → OnOk result (All (λ k. k < n) open.new.items) }
-    ensures uses { (done : List Expression) → OnOk result (found.new.items ++ uses_of_all done open.new.items
-        ≡ found.old.items ++ (uses_of (expression_of done node) ++ uses_of_all done open.old.items)) }
-    ensures smaller { (done : List Expression) → OnOk result (size_of_all done open.new.items
-        < size_of (expression_of done node) + size_of_all done open.old.items) }
+fn open_node(node: Node, pending: &mut Vec<usize>, found: &mut Vec<usize>) -> Result<(), AllocError>
+    ensures within { (n : ℕ) → FitsAt n node → All (λ k. k < n) pending.old.items
+        → OnOk result (All (λ k. k < n) pending.new.items) }
+    ensures uses { (done : List Expression) → OnOk result (found.new.items ++ uses_of_all done pending.new.items
+        ≡ found.old.items ++ (uses_of (expression_of done node) ++ uses_of_all done pending.old.items)) }
+    ensures smaller { (done : List Expression) → OnOk result (size_of_all done pending.new.items
+        < size_of (expression_of done node) + size_of_all done pending.old.items) }
 {
     match node {
         Node::Name(name) => found.push(name)?,
         Node::Concat(first, second) | Node::Either(first, second) => {
-            open.push(second)?;
-            open.push(first)?;
+            pending.push(second)?;
+            pending.push(first)?;
         }
         Node::Star(part) | Node::Plus(part) | Node::Optional(part) | Node::Repeat { part, .. } =>
-            open.push(part)?,
+            pending.push(part)?,
         Node::Set(_) | Node::Empty => {}
     }
     Ok(())

@@ -18,14 +18,14 @@ loop-number-smaller c =
     let none : ByteSet = record { words = [] } in
     let past : Node = Set none in
     let node = get_or nodes n past in
-    let taken : c.loop-number.open.items ≡ c.pop.new.self.items ++ n ∷ [] = c.in-Some.ensures.items in
+    let taken : c.loop-number.pending.items ≡ c.pop.new.self.items ++ n ∷ [] = c.in-Some.ensures.items in
     let there : n < length nodes = last_within c.pop.new.self.items n (length nodes)
     (subst (All (λ k. k < length nodes)) taken c.loop-number.invariant.within) in
     let is : expression_of es node ≡ part_of es n
     = expression_at nodes n node c.nodes-root.ensures.ordered there (get_or_default nodes n past node there) in
-    let smaller : size_of_all es c.open_node.new.open.items
+    let smaller : size_of_all es c.open_node.new.pending.items
     < size_of (expression_of es node) + size_of_all es c.pop.new.self.items = c.in_ok-open_node.ensures.smaller es in
-    let less : size_of_all es c.open_node.new.open.items < size_of_all es c.loop-number.open.items
+    let less : size_of_all es c.open_node.new.pending.items < size_of_all es c.loop-number.pending.items
     = omega (arith, smaller, ap size_of is, ap (size_of_all es) taken, size_push es c.pop.new.self.items n) in
     less
 
@@ -37,7 +37,7 @@ loop-number-preserved c =
     let none : ByteSet = record { words = [] } in
     let past : Node = Set none in
     let node = get_or nodes n past in
-    let taken : c.loop-number.open.items ≡ c.pop.new.self.items ++ n ∷ [] = c.in-Some.ensures.items in
+    let taken : c.loop-number.pending.items ≡ c.pop.new.self.items ++ n ∷ [] = c.in-Some.ensures.items in
     let all = subst (All (λ k. k < length nodes)) taken c.loop-number.invariant.within in
     let there : n < length nodes = last_within c.pop.new.self.items n (length nodes) all in
     let is : expression_of es node ≡ part_of es n

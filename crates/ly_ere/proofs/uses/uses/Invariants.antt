@@ -7,10 +7,10 @@ use Rattle.ly_ere.proofs.uses.uses.Given as goal
 -- what is found, and then what the open nodes use
 abbrev pub invariant-loop-number : goal.invariant-loop-number
 invariant-loop-number l = record {
-  within : All (λ k. k < length l.nodes) l.open.items;
-  uses : l.found.items ++ uses_of_all (expressions l.nodes) l.open.items ≡ uses_of (part_of
+  within : All (λ k. k < length l.nodes) l.pending.items;
+  uses : l.found.items ++ uses_of_all (expressions l.nodes) l.pending.items ≡ uses_of (part_of
       (expressions l.nodes) l.root);
 }
 
 abbrev pub decreases-loop-number : goal.decreases-loop-number
-decreases-loop-number l = size_of_all (expressions l.nodes) l.open.items
+decreases-loop-number l = size_of_all (expressions l.nodes) l.pending.items
