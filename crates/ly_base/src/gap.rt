@@ -29,8 +29,8 @@ fn after_space_or_comment(text: &[u8], language: Language) -> Option<&[u8]>
     }
 }
 
-/// What stands behind the first `*/`.
-fn after_comment(inside: &[u8]) -> Option<&[u8]>
+/// What stands behind the first `*/`, which ends a comment.
+pub fn after_comment(inside: &[u8]) -> Option<&[u8]>
     ensures { MatchOption result (HasNo (codes "*/") inside.now)
         (λ rest. EndBefore (codes "*/") inside.now rest.now) }
 {

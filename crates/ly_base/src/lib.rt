@@ -33,7 +33,7 @@ pub use counted::Counted;
 pub use cut::Cut;
 pub use device::{DeviceFailed, Sink, Source};
 pub use escapes::{EscapeFault, escape};
-pub use gap::{after_block, after_braces, after_gap};
+pub use gap::{after_block, after_braces, after_comment, after_gap};
 pub use language::Language;
 pub use lexeme::{End, Lexeme};
 pub use limits::Limits;

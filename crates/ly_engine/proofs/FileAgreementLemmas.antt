@@ -15,18 +15,13 @@ use Rattle.ly_engine.specs.Agreement.{HaveBytes, Agrees}
 use Rattle.ly_engine.specs.PositionWalk.{position_walk, cut_in}
 use Rattle.ly_engine.proofs.PositionAgreementLemmas.{RunsSpell, positions_agree}
 
--- a rule is active in the initial condition alone
-only_first : (names : List Definition) (r : Rule) (c : ℕ) → IsOfFile names r → Contains r.active.items c → c < 1
-only_first names r c p h = let P : List ℕ → Type 0 = λ cs. Contains cs c in let zero_is : 0 ≡ c
-    = Contains-one 0 c (subst P p.active h) in omega arith
-
 -- runs over the positions of a lex file spell its rules' strings
-runs_spell : (bytes : List ℕ) (file : LexFile) (conditions : ℕ) (nfa : Nfa) → LexText bytes file → conditions ≡ 1
-    → ArePositions (defined file.names) file.rules.items conditions nfa
+runs_spell : (bytes : List ℕ) (file : LexFile) (nfa : Nfa) → LexText bytes file
+    → ArePositions (defined file.names) file.rules.items file.conditions nfa
     → RunsSpell (defined file.names) file.rules.items nfa
-runs_spell bytes file conditions nfa text one are i c line w = (there (cases_lt c conditions), back)
+runs_spell bytes file nfa text are i c line w = (there (cases_lt c file.conditions), back)
   where
-    there : (c < conditions) ⊎ (conditions ≤ c) → (p : ℕ) × Contains (starts_of nfa c line) p × RunsTo nfa i p w
+    there : (c < file.conditions) ⊎ (file.conditions ≤ c) → (p : ℕ) × Contains (starts_of nfa c line) p × RunsTo nfa i p w
         → IsString (defined file.names) file.rules.items c line i w
     there (inl less) h = (are.spells c line i w less).0 h
     there (inr more) h = let P : List ℕ → Type 0 = λ ps. Contains ps h.0
@@ -34,19 +29,17 @@ runs_spell bytes file conditions nfa text one are i c line w = (there (cases_lt 
 
     back : IsString (defined file.names) file.rules.items c line i w → (p : ℕ) × Contains (starts_of nfa c line) p
         × RunsTo nfa i p w
-    back s = let first
-        = only_first file.names s.rule c (rules_of bytes file text i s.rule s.is_active.is_rule)
-        s.is_active.in_condition in
-        (are.spells c line i w (omega arith)).1 s
+    back s = (are.spells c line i w
+        ((rules_of bytes file text i s.rule s.is_active.is_rule).active c s.is_active.in_condition)).1 s
 
 -- a head that a tail follows has a byte
 have_bytes : (bytes : List ℕ) (file : LexFile) → LexText bytes file → HaveBytes (defined file.names) file.rules.items
 have_bytes bytes file text i r e = (rules_of bytes file text i r e).some_head
 
 -- the walk over a lex file's positions agrees with its rules
-pub file_agrees : (bytes : List ℕ) (file : LexFile) (conditions : ℕ) (nfa : Nfa) → LexText bytes file
-    → conditions ≡ 1 → ArePositions (defined file.names) file.rules.items conditions nfa
+pub file_agrees : (bytes : List ℕ) (file : LexFile) (nfa : Nfa) → LexText bytes file
+    → ArePositions (defined file.names) file.rules.items file.conditions nfa
     → Agrees (defined file.names) file.rules.items (record { walk = position_walk nfa; cut = cut_in file.rules.items })
-file_agrees bytes file conditions nfa text one are =
-    positions_agree (defined file.names) file.rules.items nfa (runs_spell bytes file conditions nfa text one are)
+file_agrees bytes file nfa text are =
+    positions_agree (defined file.names) file.rules.items nfa (runs_spell bytes file nfa text are)
     (rules_cut bytes file text) (have_bytes bytes file text)

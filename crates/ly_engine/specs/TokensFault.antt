@@ -13,7 +13,9 @@ fault_of_lex lex.OutOfMemory = OutOfMemory
 fault_of_lex (lex.NoRulesMark line) = Lex (lex.NoRulesMark line)
 fault_of_lex (lex.BadDefinition line) = Lex (lex.BadDefinition line)
 fault_of_lex (lex.UnknownCondition line) = Lex (lex.UnknownCondition line)
+fault_of_lex (lex.ConditionTwice line) = Lex (lex.ConditionTwice line)
 fault_of_lex (lex.BadAction line) = Lex (lex.BadAction line)
+fault_of_lex (lex.BarAtEnd line) = Lex (lex.BarAtEnd line)
 fault_of_lex (lex.Pattern line inner) = Lex (lex.Pattern line inner)
 
 abbrev pub fault_of_positions : PosFault → TokensFault

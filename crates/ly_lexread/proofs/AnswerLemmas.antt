@@ -5,20 +5,24 @@ use Rattle.ly_ere.specs.Patterns.{HasFrontSides, IsFrontPattern, IsRefused}
 use Rattle.ly_ere.specs.declared.fault.EreFault.{EreFault}
 use Rattle.ly_ere.specs.declared.fault.EreFault.TheVariants as ere
 use Rattle.ly_ere.specs.declared.pattern.Rule.{Rule}
-use Rattle.ly_lexread.specs.declared.action.Action.{Action}
+use Rattle.ly_lexread.specs.Action.{Saying}
+use Rattle.ly_lexread.specs.Conditions.{Condition}
 use Rattle.ly_lexread.specs.declared.fault.LexFault.{LexFault}
 use Rattle.ly_lexread.specs.declared.fault.LexFault.TheVariants.{Pattern, OutOfMemory}
 use Rattle.ly_lexread.specs.Faults.{IsOfText, IsTooHeavy}
 use Rattle.ly_lexread.specs.LexText.{IsReadAs}
-use Rattle.ly_lexread.specs.Rules.{AreLight, IsHeavyLine, IsRuleLine, MayBeRule}
+use Rattle.ly_lexread.specs.Lines.{LineOf}
+use Rattle.ly_lexread.specs.Rules.{ActiveBefore, AreLight, IsHeavyRule, RuleBefore, RuleLine}
+use Rattle.ly_lexread.proofs.ActiveLemmas.{active_one}
+use Rattle.ly_lexread.proofs.LineLemmas.{line_one}
 
-module _ {T : Type 0} (Is Light : T → Type 0) (Heavy : Type 0) where
-  pub answer_ok : (x : T) → Is x → Light x → IsReadAs Is Light Heavy (Ok x)
+module _ {T X : Type 0} (value : T → X) (Is Light : X → Type 0) (Heavy : Type 0) where
+  pub answer_ok : (x : T) → Is (value x) → Light (value x) → IsReadAs value Is Light Heavy (Ok x)
   answer_ok x is light
       = record { ok = is; light = light; of_text = tt; refused = tt; heavy = tt; none_light = tt }
 
   -- a growth was refused
-  pub answer_memory : (fault : LexFault) → fault ≡ OutOfMemory → IsReadAs Is Light Heavy (Err fault)
+  pub answer_memory : (fault : LexFault) → fault ≡ OutOfMemory → IsReadAs value Is Light Heavy (Err fault)
   answer_memory fault e = rw e (record {
     ok = tt;
     light = tt;
@@ -29,21 +33,21 @@ module _ {T : Type 0} (Is Light : T → Type 0) (Heavy : Type 0) where
   })
 
   -- the text has no value
-  pub answer_fault : (fault : LexFault) → IsOfText fault → (IsTooHeavy fault → ⊥) → ((x : T) → Is x → ⊥)
-      → IsReadAs Is Light Heavy (Err fault)
+  pub answer_fault : (fault : LexFault) → (fault ≢ OutOfMemory → IsOfText fault) → (IsTooHeavy fault → ⊥)
+      → (fault ≢ OutOfMemory → (x : X) → Is x → ⊥) → IsReadAs value Is Light Heavy (Err fault)
   answer_fault fault of_text light none = record {
     ok = tt;
     light = tt;
-    of_text = λ _. of_text;
-    refused = λ _ _. none;
+    of_text = of_text;
+    refused = λ ne _. none ne;
     heavy = λ h. absurd (light h);
     none_light = λ h. absurd (light h);
   }
 
   -- a part of the text is refused
-  pub answer_up : {U : Type 0} {IsPart LightPart : U → Type 0} {HeavyPart : Type 0} (fault : LexFault)
-      → IsReadAs IsPart LightPart HeavyPart (Err fault) → (HeavyPart → Heavy)
-      → ((x : T) → Is x → (y : U) × IsPart y × (Light x → LightPart y)) → IsReadAs Is Light Heavy (Err fault)
+  pub answer_up : {U Y : Type 0} {part : U → Y} {IsPart LightPart : Y → Type 0} {HeavyPart : Type 0} (fault : LexFault)
+      → IsReadAs part IsPart LightPart HeavyPart (Err fault) → (HeavyPart → Heavy)
+      → ((x : X) → Is x → (y : Y) × IsPart y × (Light x → LightPart y)) → IsReadAs value Is Light Heavy (Err fault)
   answer_up fault answer up part = record {
     ok = tt;
     light = tt;
@@ -53,18 +57,29 @@ module _ {T : Type 0} (Is Light : T → Type 0) (Heavy : Type 0) where
     none_light = λ h x is light. let p = part x is in answer.none_light h p.0 p.1 (p.2 light);
   }
 
--- a line's pattern is refused
-module _ (most : ℕ) (names : List Definition) (line : List ℕ) (number : ℕ) (inner : EreFault) (fault : LexFault)
-    (may_be : MayBeRule line) (memory : inner ≡ ere.OutOfMemory → fault ≡ OutOfMemory)
+-- the pattern of a rule is refused
+module _ {T : Type 0} (value : T → Rule × Saying × List ℕ) (most : ℕ) (cs : List Condition) (names : List Definition)
+    (text active body end : List ℕ) (number : ℕ) (inner : EreFault) (fault : LexFault)
+    (line : RuleLine cs text active body end) (memory : inner ≡ ere.OutOfMemory → fault ≡ OutOfMemory)
     (other : inner ≢ ere.OutOfMemory → fault ≡ Pattern number inner)
-    (refusal : IsRefused most names (λ s. (n : ℕ) × HasFrontSides names line s n)
-    (λ p. (n : ℕ) × IsFrontPattern names line p n) inner) where
+    (refusal : IsRefused most names (λ s. (n : ℕ) × HasFrontSides names body s n)
+    (λ p. (n : ℕ) × IsFrontPattern names body p n) inner) where
   too_heavy : IsTooHeavy fault → inner ≡ ere.TooHeavy
   too_heavy h = let given : inner ≢ ere.OutOfMemory = λ e. subst IsTooHeavy (memory e) h
       in subst IsTooHeavy (other given) h
 
-  pub answer_pattern : IsReadAs (λ (read : Rule × Action). IsRuleLine names line read.0 read.1)
-      (λ read. AreLight most names (read.0 ∷ [])) (IsHeavyLine most names line) (Err fault)
+  -- the pattern of any reading
+  pattern_of : (x : Rule × Saying × List ℕ) → RuleBefore cs names text x.0 x.1 x.2
+      → (n : ℕ) × IsFrontPattern names body x.0.pattern n
+  pattern_of x v =
+      let same = line_one text v.line.line line.line v.end end v.line.is_line line.is_line in
+      let there : ActiveBefore cs line.line x.0.active.items v.body
+      = subst (λ i. ActiveBefore cs i x.0.active.items v.body) same.0 v.line.is_active in
+      let e = (active_one cs line.line x.0.active.items active v.body body there line.is_active).1 in
+      (v.taken, subst (λ i. IsFrontPattern names i x.0.pattern v.taken) e v.is_pattern)
+
+  pub answer_pattern : IsReadAs value (λ x. RuleBefore cs names text x.0 x.1 x.2)
+      (λ x. AreLight most names (x.0 ∷ [])) (IsHeavyRule most cs names text) (Err fault)
   answer_pattern = record {
     ok = tt;
     light = tt;
@@ -72,13 +87,16 @@ module _ (most : ℕ) (names : List Definition) (line : List ℕ) (number : ℕ)
         in subst IsOfText (sym (other given)) given;
     refused = λ ne light x v.
         let given : inner ≢ ere.OutOfMemory = λ e. ne (memory e) in
-        refusal.refused given (λ e. light (subst IsTooHeavy (sym (other given)) e)) x.0.pattern (v.taken, v.is_pattern);
+        refusal.refused given (λ e. light (subst IsTooHeavy (sym (other given)) e)) x.0.pattern (pattern_of x v);
     heavy = λ h. let found = refusal.heavy (too_heavy h) in record {
-      may_be = may_be;
+      active = active;
+      body = body;
+      end = end;
+      line = line;
       sides = found.0;
       taken = found.1.0;
       are_sides = found.1.1;
       is_heavy = found.2;
     };
-    none_light = λ h x v light. refusal.none_light (too_heavy h) x.0.pattern (v.taken, v.is_pattern) light.0;
+    none_light = λ h x v light. refusal.none_light (too_heavy h) x.0.pattern (pattern_of x v) light.0;
   }

@@ -1,114 +1,197 @@
 -- What a lex file says is determined.
-use Rattle.std.proofs.Common.{◌≡◌, ℕ, zero, suc, Some, List, [], ◌∷◌, drop, refl, sym, ◌∙◌, subst}
+use Rattle.std.proofs.Common.{◌≡◌, ◌<◌, ◌+◌, ℕ, zero, suc, Some, None, List, [], ◌∷◌, ◌++◌, Bool, true, false, refl, sym}
+use Rattle.std.proofs.Common.{◌∙◌, ap, subst, length, map, arith, inl, inr, Option, length-append, ◌⊎◌, cond, ltb}
+use Rattle.std.proofs.lemmas.Bool.Decides.{nat_tests}
+use Rattle.std.specs.List.{position_or_len}
 use Rattle.std.specs.List.{slice_get}
-use Rattle.std.specs.Prelude.{IsSome}
+use Rattle.std.specs.Prelude.{Contains, IsSome}
 use Rattle.ly_ere.specs.Names.{Definition, defined}
 use Rattle.ly_ere.specs.Expression.{Matches}
 use Rattle.ly_ere.specs.Patterns.{IsCutOf}
 use Rattle.ly_ere.specs.Winner.{AreCut}
 use Rattle.ly_ere.specs.declared.pattern.Rule.{Rule}
-use Rattle.ly_ere.proofs.FrontLaws.{front_pattern_one}
 use Rattle.ly_ere.proofs.PatternLaws.{cut_is_true}
 use Rattle.ly_lexread.specs.declared.action.Action.{Action}
 use Rattle.ly_lexread.specs.declared.file.LexFile.{LexFile}
-use Rattle.ly_lexread.specs.Action.{meaning_of, IsAction}
-use Rattle.ly_lexread.specs.Lines.{lines_of}
-use Rattle.ly_lexread.specs.Definitions.{IsMark, IsUnused}
-use Rattle.ly_lexread.specs.Rules.{IsRuleLine, Rules, end, mark, unused, rule}
-use Rattle.ly_lexread.specs.LexText.{LexText, AreSameRules, AreSameActions, LexTextIsOne}
-use Rattle.ly_lexread.proofs.ActionLemmas.{says_one}
-use Rattle.ly_lexread.proofs.DefinitionLemmas.{definitions_one, mark_used}
-use Rattle.ly_lexread.proofs.RuleLemmas.{in_front, rules_behind}
+use Rattle.ly_lexread.specs.Action.{Effect, Saying, effect_of}
+use Rattle.ly_base.proofs.MemberLemmas.{Contains-none, Contains-one}
+use Rattle.std.proofs.lemmas.List.Elements.{Contains-append_cases}
+use Rattle.std.specs.Prelude.{if◌then◌else◌, codes}
+use Rattle.std.specs.Str.{bytes_eq}
+use Rattle.ly_lexread.specs.Conditions.{Condition, inclusive_from}
+use Rattle.ly_lexread.specs.Definitions.{at_first, DeclaresAll, Definitions, Directs, LineSays, Preamble, directive_of}
+use Rattle.ly_lexread.specs.Definitions.{mark, more}
+use Rattle.ly_lexread.specs.Definitions as declared
+use Rattle.ly_lexread.specs.Lines.{kind_of}
+use Rattle.ly_lexread.specs.declared.directive.Directed.{Directed}
+use Rattle.ly_lexread.specs.declared.directive.Directed.TheVariants.{Inclusive, Exclusive, Size, TextKind, Unknown}
+use Rattle.ly_lexread.specs.declared.kind.LineKind.{LineKind}
+use Rattle.ly_lexread.specs.declared.kind.LineKind.TheVariants.{Mark, Unused, Block, Comment, Directive, Plain}
+use Rattle.ly_lexread.specs.LexText.{AreSame, AreSameActions, AreSameRules, LexText, LexTextIsOne}
+use Rattle.ly_lexread.specs.Rules.{ActiveBefore, ConditionBefore, Listed, RuleBefore, Rules, end, rule, skip}
+use Rattle.ly_lexread.specs.Rules as listing
+use Rattle.ly_lexread.proofs.DefinitionLemmas.{definitions_one}
+use Rattle.ly_lexread.proofs.RuleLemmas.{in_front, over_none, rule_one, rules_begin, rules_skip}
+use Rattle.ly_lexread.proofs.SharedLemmas.{effects_one}
 
--- no lines and no rules
-rules_none : (names : List Definition) (left : List (List ℕ)) (rs : List Rule) (xs : List Action) → left ≡ []
-    → Rules names left rs xs → (rs ≡ []) × (xs ≡ [])
-rules_none names left rs xs e end = (refl, refl)
-rules_none names left rs xs e (mark l ls m) = (refl, refl)
-rules_none names left rs xs e (unused l ls ps qs u d) = cc e
-rules_none names left rs xs e (rule l ls r a ps qs v d) = cc e
-
--- no rules stand behind a mark
-rules_marked : (names : List Definition) (left rest : List (List ℕ)) (rs : List Rule) (xs : List Action) (line : List ℕ)
-    → left ≡ line ∷ rest → IsMark line → Rules names left rs xs → (rs ≡ []) × (xs ≡ [])
-rules_marked names left rest rs xs line e m end = (refl, refl)
-rules_marked names left rest rs xs line e m (mark l ls k) = (refl, refl)
-rules_marked names left rest rs xs line e m (unused l ls ps qs u d)
-    = absurd (mark_used line m (subst IsUnused (cc e) u))
-rules_marked names left rest rs xs line e m (rule l ls r a ps qs v d)
-    = absurd (v.may_be.no_mark (subst IsMark (sym (cc e)) m))
-
--- what a line says is determined
-record AreEqual (r s : Rule) (a b : Action) : Type 0 where
-  pattern : r.pattern ≡ s.pattern
-  active : r.active.items ≡ s.active.items
-  begin : a.begin ≡ b.begin
-  returns : meaning_of a.returns ≡ meaning_of b.returns
-
-line_one : (names : List Definition) (line : List ℕ) (r s : Rule) (a b : Action) → IsRuleLine names line r a
-    → IsRuleLine names line s b → AreEqual r s a b
-line_one names line r s a b v w =
-    let same = front_pattern_one names line r.pattern s.pattern v.taken w.taken v.is_pattern w.is_pattern in
-    let action : IsAction (drop v.taken line) b = rw same.1 w.is_action in
-    record {
-      pattern = same.0;
-      active = v.is_active ∙ sym w.is_active;
-      begin = v.is_action.0 ∙ sym action.0;
-      returns = says_one (drop v.taken line) (meaning_of a.returns) (meaning_of b.returns) v.is_action.1 action.1;
-    }
-
-rules_one : (names : List Definition) (left : List (List ℕ)) (rs ss : List Rule) (xs ys : List Action)
-    → Rules names left rs xs → Rules names left ss ys → AreSameRules rs ss × AreSameActions xs ys
-rules_one names left rs ss xs ys end d = let e = rules_none names [] ss ys refl d
-    in (subst (AreSameRules []) (sym e.0) tt, subst (AreSameActions []) (sym e.1) tt)
-rules_one names left rs ss xs ys (mark l ls m) d = let e = rules_marked names (l ∷ ls) ls ss ys l refl m d
-    in (subst (AreSameRules []) (sym e.0) tt, subst (AreSameActions []) (sym e.1) tt)
-rules_one names left rs ss xs ys (unused l ls ps qs u c) d
-    = rules_one names ls rs ss xs ys c (rules_behind names (l ∷ ls) ls ss ys l refl u d)
-rules_one names left rs ss xs ys (rule l ls r a ps qs v c) d =
-    let f = in_front names (l ∷ ls) ls ss ys l refl v.may_be.no_mark v.may_be.is_used d in
-    let same = line_one names l r f.one a f.action v f.reads in
-    let rest = rules_one names ls ps f.more qs f.actions c f.behind in (
-      subst (AreSameRules (r ∷ ps)) (sym f.these) (same.pattern, same.active, rest.0),
-      subst (AreSameActions (a ∷ qs))
-          (sym f.those) (same.begin, same.returns, rest.1),
+-- equal effects are those of actions that say the same
+same_actions : (as' bs : List Action) → map effect_of as' ≡ map effect_of bs → AreSameActions as' bs
+same_actions [] [] e = tt
+same_actions [] (b ∷ bs) e = absurd (cc)
+same_actions (a ∷ as') [] e = absurd (cc)
+same_actions (a ∷ as') (b ∷ bs) e =
+    let one : effect_of a ≡ effect_of b = heads (effect_of a) (effect_of b) (map effect_of as') (map effect_of bs) e in (
+      ap (λ i. i.begin) one,
+      ap (λ i. i.returns) one,
+      same_actions as' bs (tails (effect_of a) (effect_of b) (map effect_of as') (map effect_of bs) e),
     )
+  where
+    heads : (x y : Effect) (xs ys : List Effect) → x ∷ xs ≡ y ∷ ys → x ≡ y
+    heads x y xs ys f = cc
+
+    tails : (x y : Effect) (xs ys : List Effect) → x ∷ xs ≡ y ∷ ys → xs ≡ ys
+    tails x y xs ys f = cc
+
+pub rules_one : (cs : List Condition) (names : List Definition) (text : List ℕ) (rs ss : List Rule) (xs ys : List Saying)
+    → Rules cs names text rs xs → Rules cs names text ss ys → AreSameRules rs ss × (xs ≡ ys)
+rules_one cs names text rs ss xs ys (end _ o) d =
+    let e = over_none cs names text ss ys o d in
+    (subst (AreSameRules []) (sym e.0) tt, sym e.1)
+rules_one cs names text rs ss xs ys (skip _ u _ _ h c) d
+    = rules_one cs names u rs ss xs ys c (rules_skip cs names text u ss ys h d)
+rules_one cs names text rs ss xs ys (rule _ u r s ps qs b c) d =
+    let f = in_front cs names text ss ys (rules_begin cs names text u r s b) d in
+    let same = rule_one cs names text u f.behind r f.one s f.saying b f.reads in
+    let rest = rules_one cs names u ps f.more qs f.sayings c
+    (subst (λ i. Rules cs names i f.more f.sayings) (sym same.2) f.rest) in (
+      subst (AreSameRules (r ∷ ps)) (sym f.these) (same.0.pattern, same.0.active, rest.0),
+      cons same.1 rest.1 ∙ sym f.those,
+    )
+  where
+    cons : {x y : Saying} {zs ws : List Saying} → x ≡ y → zs ≡ ws → x ∷ zs ≡ y ∷ ws
+    cons e f = cc
 
 pub lex_text_one : LexTextIsOne
 lex_text_one bytes f g a b =
-    let behind = definitions_one (lines_of bytes) a.behind b.behind a.definitions b.definitions in
-    let rules = rules_one [] b.behind f.rules.items g.rules.items f.actions.items g.actions.items
-    (subst (λ i. Rules [] i f.rules.items f.actions.items) behind a.rules) b.rules in
+    let first = definitions_one at_first a.all b.all bytes a.behind b.behind a.definitions b.definitions in
+    let there : Rules b.all.conditions [] b.behind f.rules.items a.sayings
+    = subst (λ i. Rules b.all.conditions [] i f.rules.items a.sayings) first.1
+    (subst (λ i. Rules i.conditions [] a.behind f.rules.items a.sayings) first.0 a.rules) in
+    let rules = rules_one b.all.conditions [] b.behind f.rules.items g.rules.items a.sayings b.sayings there b.rules in
     record {
       names = a.no_names ∙ sym b.no_names;
       rules = rules.0;
-      actions = rules.1;
-      conditions = a.one_condition ∙ sym b.one_condition;
+      actions = same_actions f.actions.items g.actions.items (effects_one b.sayings (map effect_of f.actions.items)
+          (map effect_of g.actions.items)
+          (subst (λ i. Rattle.ly_lexread.specs.Action.AreEffects i (map effect_of f.actions.items)) rules.1 a.effects)
+          b.effects);
+      conditions = a.conditions ∙ ap (λ i. length i.conditions) first.0 ∙ sym b.conditions;
     }
 
--- What holds of each rule of a lex file: it has the cut of its sides, and is active in condition 0.
-pub record IsOfFile (names : List Definition) (r : Rule) : Type 0 where
+-- What holds of each rule of a lex file: it has the cut of its sides, and is active in conditions of the file.
+pub record IsOfFile (names : List Definition) (conditions : ℕ) (r : Rule) : Type 0 where
   pub is_cut : IsCutOf (defined names) r.pattern.head r.pattern.tail r.pattern.cut
   pub some_head : IsSome r.pattern.tail → Matches (defined names) r.pattern.head [] → ⊥
-  pub active : r.active.items ≡ 0 ∷ []
+  pub active : (c : ℕ) → Contains r.active.items c → c < conditions
 
-rule_of : (names : List Definition) (lines : List (List ℕ)) (rs : List Rule) (xs : List Action) (i : ℕ) (r : Rule)
-    → Rules names lines rs xs → slice_get rs i ≡ Some r → IsOfFile names r
-rule_of names lines rs xs i r end e = cc e
-rule_of names lines rs xs i r (mark l ls m) e = cc e
-rule_of names lines rs xs i r (unused l ls ps qs u d) e = rule_of names ls ps qs i r d e
-rule_of names lines rs xs zero r (rule l ls s a ps qs v d) e = let same : s ≡ r = cc e
-    in subst (IsOfFile names) same (record {
-      is_cut = v.is_pattern.is_pattern.is_cut;
-      some_head = v.is_pattern.is_pattern.some_head;
-      active = v.is_active;
+-- the numbers of a list are below a bound
+abbrev AreBelow : ℕ → List ℕ → Type 0
+AreBelow n ns = (c : ℕ) → Contains ns c → c < n
+
+below_push : (n : ℕ) (ns : List ℕ) (m : ℕ) → AreBelow n ns → m < n → AreBelow n (ns ++ m ∷ [])
+below_push n ns m h less c i = by (Contains-append_cases ns (m ∷ []) c i)
+  where
+    by : Contains ns c ⊎ Contains (m ∷ []) c → c < n
+    by (inl k) = h c k
+    by (inr k) = let same : m ≡ c = Contains-one m c k in omega (arith, same, less)
+
+within_length : (m n k : ℕ) → cond (ltb m n) (Some m) None ≡ Some k → k < n
+within_length m n k = at (ltb m n) refl
+  where
+    at : (t : Bool) → ltb m n ≡ t → cond t (Some m) None ≡ Some k → k < n
+    at true f e = let same : m ≡ k = cc e in let less : m < n = grind (arith, nat_tests) in omega (arith, same, less)
+    at false f e = absurd (cc e)
+
+condition_below : (cs : List Condition) (text rest : List ℕ) (n : ℕ) → 0 < length cs → ConditionBefore cs text n rest
+    → n < length cs
+condition_below cs text rest n some (inl h) = within_length (position_or_len (λ c. bytes_eq h.0 c.0) cs) (length cs) n h.2
+condition_below cs text rest n some (inr h) = omega (arith, h.1, some)
+
+listed_below : (cs : List Condition) (ns text all rest : List ℕ) → 0 < length cs → AreBelow (length cs) ns
+    → Listed cs ns text all rest → AreBelow (length cs) all
+listed_below cs ns text all rest some h (listing.last _ _ _ n b)
+    = below_push (length cs) ns n h (condition_below cs text (codes ">" ++ rest) n some b)
+listed_below cs ns text all rest some h (listing.more _ _ u _ _ n b d) = listed_below cs (ns ++ n ∷ []) u all rest some
+    (below_push (length cs) ns n h (condition_below cs text (codes "," ++ u) n some b)) d
+
+with_one : (t : Bool) (n m : ℕ) (ns : List ℕ) → n < m → AreBelow m ns → AreBelow m (if t then ns else n ∷ ns)
+with_one true n m ns less h c i = h c i
+with_one false n m ns less h c i = by (Contains-append_cases (n ∷ []) ns c i)
+  where
+    by : Contains (n ∷ []) c ⊎ Contains ns c → c < m
+    by (inl k) = let same : n ≡ c = Contains-one n c k in omega (arith, same, less)
+    by (inr k) = h c k
+
+inclusive_below : (n : ℕ) (cs : List Condition) → AreBelow (n + length cs) (inclusive_from n cs)
+inclusive_below n [] c i = absurd (Contains-none c i)
+inclusive_below n (d ∷ cs) c i = with_one d.1 n (n + length (d ∷ cs)) (inclusive_from (n + 1) cs) (omega arith)
+    (λ k j. let less = inclusive_below (n + 1) cs k j in omega (arith, less)) c i
+
+active_below : (cs : List Condition) (line active rest : List ℕ) → 0 < length cs → ActiveBefore cs line active rest
+    → AreBelow (length cs) active
+active_below cs line active rest some (inl h) = listed_below cs [] h.0 active rest some (λ c i. absurd (Contains-none c i))
+    h.2
+active_below cs line active rest some (inr h) = λ c i.
+    let less = inclusive_below 0 cs c (subst (λ ns. Contains ns c) h.1 i) in
+    omega (arith, less)
+
+rule_of : (cs : List Condition) (names : List Definition) (text : List ℕ) (rs : List Rule) (ss : List Saying) (i : ℕ)
+    (r : Rule) → 0 < length cs → Rules cs names text rs ss → slice_get rs i ≡ Some r → IsOfFile names (length cs) r
+rule_of cs names text rs ss i r some (end _ o) e = absurd (cc)
+rule_of cs names text rs ss i r some (skip _ u _ _ h d) e = rule_of cs names u rs ss i r some d e
+rule_of cs names text rs ss zero r some (rule _ u q s ps qs b d) e =
+    let same : q ≡ r = cc e in
+    subst (IsOfFile names (length cs)) same (record {
+      is_cut = b.is_pattern.is_pattern.is_cut;
+      some_head = b.is_pattern.is_pattern.some_head;
+      active = active_below cs b.line.line q.active.items b.body some b.line.is_active;
     })
-rule_of names lines rs xs (suc i) r (rule l ls s a ps qs v d) e = rule_of names ls ps qs i r d e
+rule_of cs names text rs ss (suc i) r some (rule _ u q s ps qs b d) e = rule_of cs names u ps qs i r some d e
+
+-- there is a condition
+some_condition : (p q : Preamble) (text rest : List ℕ) → 0 < length p.conditions → Definitions p text q rest
+    → 0 < length q.conditions
+some_condition p q text rest some (mark _ _ l _ b k) = some
+some_condition p q text rest some (more _ s _ _ u _ h d)
+    = some_condition s q u rest (said (kind_of h.0) h.3) d
+  where
+    all : (x : Bool) (cs ds : List Condition) (t : List ℕ) → 0 < length cs → DeclaresAll x cs t ds → 0 < length ds
+    all x cs ds t a (declared.end _ _ p) = a
+    all x cs ds t a (declared.more _ _ _ v n w c e f g)
+        = all x (cs ++ (n, x) ∷ []) ds w (omega (arith, a, length-append cs ((n, x) ∷ []))) g
+
+    directed : (d : Directed) (cs ds : List Condition) (t : List ℕ) → 0 < length cs → Directs d cs t ds → 0 < length ds
+    directed Inclusive cs ds t a h = all false cs ds t a h.1
+    directed Exclusive cs ds t a h = all true cs ds t a h.1
+    directed Size cs ds t a h = omega (arith, a, ap length h.0)
+    directed TextKind cs ds t a h = omega (arith, a, ap length h.0)
+    directed Unknown cs ds t a h = absurd h.1
+
+    said : (k : LineKind) → LineSays k p text h.0 h.1 s u → 0 < length s.conditions
+    said Mark g = absurd g
+    said Unused g = omega (arith, some, ap (λ i. length i.conditions) g.0)
+    said Block g = omega (arith, some, ap (λ i. length i.conditions) g.0)
+    said Comment g = omega (arith, some, ap (λ i. length i.conditions) g.0)
+    said Directive g = directed (directive_of g.2.word) p.conditions s.conditions g.2.rest some g.2.directs
+    said Plain g = absurd g
 
 pub rules_of : (bytes : List ℕ) (file : LexFile) → LexText bytes file → (i : ℕ) (r : Rule)
-    → slice_get file.rules.items i ≡ Some r → IsOfFile file.names r
-rules_of bytes file text i r e = subst (λ names. IsOfFile names r) (sym text.no_names)
-    (rule_of [] text.behind file.rules.items file.actions.items i r text.rules e)
+    → slice_get file.rules.items i ≡ Some r → IsOfFile file.names file.conditions r
+rules_of bytes file text i r e =
+    let some = some_condition at_first text.all bytes text.behind (omega arith) text.definitions in
+    subst (λ names. IsOfFile names file.conditions r) (sym text.no_names)
+    (subst (λ n. IsOfFile [] n r) (sym text.conditions)
+    (rule_of text.all.conditions [] text.behind file.rules.items text.sayings i r some text.rules e))
 
 -- each cut tells the truth
 pub rules_cut : (bytes : List ℕ) (file : LexFile) → LexText bytes file → AreCut (defined file.names) file.rules.items

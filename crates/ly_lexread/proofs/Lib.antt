@@ -1,10 +1,15 @@
-pub mod ActionLemmas
+pub mod ActiveLemmas
 pub mod AnswerLemmas
+pub mod BlankLemmas
+pub mod ConditionLemmas
 pub mod DefinitionLemmas
+pub mod DirectiveLemmas
 pub mod FileLemmas
 pub mod FrontLemmas
 pub mod LexingLaws
 pub mod LineLemmas
 pub mod RuleLemmas
 pub mod SameLemmas
+pub mod SharedLemmas
+pub mod StatementLemmas
 pub mod WordLemmas

@@ -1,76 +1,56 @@
--- A file's first line and the lines behind it.
-use Rattle.std.proofs.Common.{◌≡◌, ℕ, zero, suc, ◌+◌, ◌<◌, List, [], ◌∷◌, Bool, true, false, cond, not, eqb, refl, sym}
-use Rattle.std.proofs.Common.{ap, ◌∙◌, subst, length, take, drop, arith}
+-- A text's first line and what stands behind it.
+use Rattle.std.specs.Bool.{MatchBool}
+use Rattle.std.proofs.Common.{◌≡◌, ◌≢◌, ℕ, ◌<◌, ◌≤◌, List, [], ◌∷◌, ◌++◌, Bool, true, false, refl, sym, ap, ◌∙◌}
+use Rattle.std.proofs.Common.{subst, length, take, drop, arith, eqb, not, take-append-drop, length-drop}
 use Rattle.std.specs.List.{position_or_len}
 use Rattle.std.proofs.lemmas.Bool.{false≢true}
-use Rattle.ly_lexread.specs.Lines.{lines_of, with_first}
+use Rattle.ly_base.specs.Escapes.{AllPass, Stops}
+use Rattle.ly_base.proofs.NameLemmas.{run, runs_one}
+use Rattle.ly_lexread.specs.Lines.{BeginsWith, BlockEnds, LineBefore, LineOf, in_line, last, more}
 
-abbrev end_of : List ℕ → ℕ
-end_of bytes = position_or_len (λ byte. eqb byte 10) bytes
+-- the bytes before the first newline are a line
+pub line_at : (text : List ℕ) (n : ℕ) → n ≡ position_or_len (λ b. eqb b 10) text → LineOf text (take n text) (drop n text)
+line_at text n e =
+    let r = run in_line text in
+    rw e (r.these, r.ends, sym (take-append-drop (position_or_len (λ b. eqb b 10) text) text))
 
-abbrev end_at : Bool → List ℕ → ℕ
-end_at t bytes = cond (not t) (1 + end_of bytes) 0
+pub line_one : (text l m e f : List ℕ) → LineOf text l e → LineOf text m f → (l ≡ m) × (e ≡ f)
+line_one text l m e f a b = runs_one in_line l m e f a.0 b.0 a.1 b.1 (sym a.2 ∙ b.2)
 
-abbrev lines_at : Bool → ℕ → List ℕ → List (List ℕ)
-lines_at t b bytes = cond t ([] ∷ lines_of bytes) (with_first b (lines_of bytes))
-
--- the lines are the first n bytes, and those behind the next byte if there is one
-record IsParted (bytes : List ℕ) (n : ℕ) (lines : List (List ℕ)) : Type 0 where
-  last : drop n bytes ≡ [] → lines ≡ take n bytes ∷ []
-  more : (b : ℕ) (rest : List ℕ) → drop n bytes ≡ b ∷ rest → lines ≡ take n bytes ∷ lines_of rest
-
-one_add : (n : ℕ) → 1 + n ≡ suc n
-one_add n = omega arith
-
-step : (b c : ℕ) (cs : List ℕ) (n : ℕ) → IsParted (c ∷ cs) n (lines_of (c ∷ cs))
-    → IsParted (b ∷ c ∷ cs) (suc n) (with_first b (lines_of (c ∷ cs)))
-step b c cs n h = record {
-  last = λ e. ap (with_first b) (h.last e);
-  more = λ x rest e. ap (with_first b) (h.more x rest e);
-}
-
-parted_at : (t : Bool) (b c : ℕ) (cs : List ℕ) → IsParted (c ∷ cs) (end_of (c ∷ cs)) (lines_of (c ∷ cs))
-    → IsParted (b ∷ c ∷ cs) (end_at t (c ∷ cs)) (lines_at t b (c ∷ cs))
-parted_at true b c cs h = record {
-  last = λ e. cc;
-  more = λ x rest e. let f : c ∷ cs ≡ rest = cc in ap (λ u. [] ∷ lines_of u) f;
-}
-parted_at false b c cs h = subst (λ n. IsParted (b ∷ c ∷ cs) n (with_first b (lines_of (c ∷ cs))))
-    (sym (one_add (end_of (c ∷ cs)))) (step b c cs (end_of (c ∷ cs)) h)
-
-one_byte : (t : Bool) (b : ℕ) → IsParted (b ∷ []) (end_at t []) (lines_at t b [])
-one_byte true b = record {
-  last = λ e. cc;
-  more = λ x rest e. let f : [] ≡ rest = cc in ap (λ u. [] ∷ lines_of u) f;
-}
-one_byte false b = record {
-  last = λ e. refl;
-  more = λ x rest e. cc;
-}
-
-parted : (b : ℕ) (bytes : List ℕ) → IsParted (b ∷ bytes) (end_of (b ∷ bytes)) (lines_of (b ∷ bytes))
-parted b [] = one_byte (eqb b 10) b
-parted b (c ∷ cs) = parted_at (eqb b 10) b c cs (parted c cs)
-
--- nothing stands behind the first line
-pub last_line : (bytes line : List ℕ) (n : ℕ) → 0 < length bytes → n ≡ end_of bytes → line ≡ take n bytes
-    → drop n bytes ≡ [] → lines_of bytes ≡ line ∷ []
-last_line [] line n h e f g = absurd (omega arith)
-last_line (b ∷ bytes) line n h e f g =
-    let at : IsParted (b ∷ bytes) n (lines_of (b ∷ bytes)) = subst (λ k. IsParted (b ∷ bytes) k (lines_of (b ∷ bytes)))
-    (sym e) (parted b bytes) in
-    at.last g ∙ ap (λ l. l ∷ []) (sym f)
-
--- a newline and the rest stand behind the first line
-pub more_lines : (bytes line : List ℕ) (n b : ℕ) (rest : List ℕ) → n ≡ end_of bytes → line ≡ take n bytes
-    → drop n bytes ≡ b ∷ rest → lines_of bytes ≡ line ∷ lines_of rest
-more_lines [] line zero b rest e f g = cc
-more_lines [] line (suc n) b rest e f g = cc
-more_lines (c ∷ bytes) line n b rest e f g =
-    let at : IsParted (c ∷ bytes) n (lines_of (c ∷ bytes)) = subst (λ k. IsParted (c ∷ bytes) k (lines_of (c ∷ bytes)))
-    (sym e) (parted c bytes) in
-    at.more b rest g ∙ ap (λ l. l ∷ lines_of rest) (sym f)
+pub line_before_one : (text l m r s : List ℕ) → LineBefore text l r → LineBefore text m s → (l ≡ m) × (r ≡ s)
+line_before_one text l m r s a b = let e = line_one text l m a.1 b.1 a.2 b.2
+    in (e.0, a.3 ∙ ap (drop 1) e.1 ∙ sym b.3)
 
 pub some_byte : (t : Bool) (xs : List ℕ) → t ≡ eqb (length xs) 0 → t ≡ false → 0 < length xs
 some_byte t [] e f = absurd (false≢true (sym f ∙ e))
 some_byte t (x ∷ xs) e f = omega arith
+
+pub not_empty : (t : Bool) (xs : List ℕ) → t ≡ eqb (length xs) 0 → t ≡ false → xs ≢ []
+not_empty t [] e f n = false≢true (sym f ∙ e)
+not_empty t (x ∷ xs) e f n = cc n
+
+-- a block that ends: with the line in front, or behind it
+pub block_here : (text line behind rest : List ℕ) → LineBefore text line behind → BeginsWith line (37 ∷ 125 ∷ [])
+    → BlockEnds text rest → rest ≡ behind
+block_here text line behind rest b w (last t l r c v) = (line_before_one text l line r behind c b).1
+block_here text line behind rest b w (more t l h r c v d)
+    = absurd (v (subst (λ i. BeginsWith i (37 ∷ 125 ∷ [])) (sym (line_before_one text l line h behind c b).0) w))
+
+pub block_behind : (text line behind rest : List ℕ) → LineBefore text line behind → (BeginsWith line (37 ∷ 125 ∷ []) → ⊥)
+    → BlockEnds text rest → BlockEnds behind rest
+block_behind text line behind rest b w (last t l r c v)
+    = absurd (w (subst (λ i. BeginsWith i (37 ∷ 125 ∷ [])) (line_before_one text l line r behind c b).0 v))
+block_behind text line behind rest b w (more t l h r c v d)
+    = subst (λ i. BlockEnds i r) (line_before_one text l line h behind c b).1 d
+
+pub block_over : (text rest : List ℕ) → text ≡ [] → BlockEnds text rest → ⊥
+block_over text rest e (last t l r c v) = c.0 e
+block_over text rest e (more t l h r c v d) = c.0 e
+
+pub block_one : (text r s : List ℕ) → BlockEnds text r → BlockEnds text s → r ≡ s
+block_one text r s (last t l q c v) h = sym (block_here text l q s c v h)
+block_one text r s (more t l b q c v d) h = block_one b q s d (block_behind text l b s c v h)
+
+pub parted : (text line end : List ℕ) (n : ℕ) → n ≡ position_or_len (λ b. eqb b 10) text → line ≡ take n text
+    → end ≡ drop n text → LineOf text line end
+parted text line end n e f g = rw (f, g) (line_at text n e)

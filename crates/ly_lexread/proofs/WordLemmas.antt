@@ -1,72 +1,87 @@
 -- The words of an action are determined.
 use Rattle.std.proofs.lemmas.Bool.{false≢true}
-use Rattle.std.proofs.Common.{◌≡◌, ◌≢◌, ℕ, ◌<◌, List, [], ◌∷◌, ◌++◌, true, false, IsTrue, refl, sym, ap, ap₂, ◌∙◌}
-use Rattle.std.proofs.Common.{subst, arith, length, ◌⊎◌, inl, inr, drop, get_or}
+use Rattle.std.proofs.Common.{◌≡◌, ◌≢◌, ℕ, ◌<◌, ◌≤◌, List, [], ◌∷◌, ◌++◌, Bool, true, false, IsTrue, refl, sym, ap, ap₂}
+use Rattle.std.proofs.Common.{◌∙◌, subst, arith, length, length-append, ◌⊎◌, inl, inr, drop, get_or}
 use Rattle.std.specs.Prelude.{codes}
 use Rattle.std.proofs.lemmas.Bool.Decides.{nat_tests}
 use Rattle.std.proofs.lemmas.List.{append-nil}
-use Rattle.ly_base.specs.Blank.{is_blank}
 use Rattle.ly_base.specs.Gap.{Gap, GapBefore, GapEnds}
-use Rattle.ly_base.specs.Language.{NameBefore, starts_name}
+use Rattle.ly_base.specs.Language.{NameBefore, is_space, starts_name}
 use Rattle.ly_base.specs.Literals.{Literal}
-use Rattle.ly_base.specs.declared.language.Language.TheVariants.{Lex}
+use Rattle.ly_base.specs.declared.language.Language.{Language}
+use Rattle.ly_base.specs.declared.language.Language.TheVariants.{Lex, Yacc}
 use Rattle.ly_base.proofs.GapLemmas.{gap_one}
-use Rattle.ly_base.proofs.LiteralLemmas.{literal_one}
+use Rattle.ly_base.proofs.LiteralLemmas.{literal_one, literal_shorter}
 use Rattle.ly_base.proofs.NameLemmas.{name_one}
-use Rattle.ly_lexread.specs.Words.{Word, semicolon, text_byte, name, literal, Begins, Front, IsNoTextByte}
-use Rattle.ly_lexread.specs.Words.{TextByteBefore}
-use Rattle.ly_lexread.specs.Words.{Wording}
+use Rattle.ly_lexread.specs.Private.Words.{IsFound, IsFront, word_of}
+use Rattle.ly_lexread.specs.Words.{Word, mark, text_byte, name, literal, Begins, Front, IsNoTextByte, TextByteBefore}
+use Rattle.ly_lexread.specs.Words.{Wording, is_mark}
+use Rattle.ly_lexread.specs.declared.words.NextWord.{NextWord}
+use Rattle.ly_lexread.specs.declared.words.NextWord.TheVariants as next
+
+-- no gap begins with the byte
+record IsSolid (b : ℕ) : Type 0 where
+  no_space : is_space Yacc b ≡ false
+  no_slash : b ≢ 47
+
+name_solid : (b : ℕ) → IsTrue (starts_name Lex b) → IsSolid b
+name_solid b h = record {
+  no_space = grind (arith, nat_tests);
+  no_slash = λ e. false≢true (sym (ap (starts_name Lex) e) ∙ h);
+}
+
+mark_solid : (b : ℕ) → IsTrue (is_mark b) → IsSolid b
+mark_solid b h = record {
+  no_space = grind (arith, nat_tests);
+  no_slash = λ e. false≢true (sym (ap is_mark e) ∙ h);
+}
 
 -- the byte that a word begins with
 abbrev Starts : Word → ℕ → Type 0
-Starts semicolon b = b ≡ 59
+Starts (mark m) b = (b ≡ m) × IsTrue (is_mark m)
 Starts text_byte b = IsTrue (starts_name Lex b) ⊎ (b ≡ 42)
 Starts (name n) b = IsTrue (starts_name Lex b)
 Starts (literal c) b = b ≡ 39
 
 begins_at : (text : List ℕ) (x : Word) (rest : List ℕ) → Begins text x rest → (b : ℕ) × (s : List ℕ) × (text ≡ b ∷ s)
     × Starts x b
-begins_at text semicolon rest h = (59, rest, h, refl)
+begins_at text (mark m) rest h = (m, rest, h.1, (refl, h.0))
 begins_at text text_byte rest (inl h) = (121, codes "ytext" ++ (codes "[0]" ++ rest), h.2, inl h.0.0)
 begins_at text text_byte rest (inr h) = (42, h.0, h.1, inr refl)
 begins_at text (name []) rest h = absurd h.0.0
 begins_at text (name (b ∷ n)) rest h = (b, n ++ rest, h.0.2, h.0.0.0)
 begins_at text (literal c) rest h = (39, h.0, h.1, refl)
 
-blank_starts_none : (b : ℕ) → IsTrue (is_blank b) → IsTrue (starts_name Lex b) → ⊥
-blank_starts_none b h s = grind (arith, nat_tests)
+starts_solid : (x : Word) (b : ℕ) → Starts x b → IsSolid b
+starts_solid (mark m) b h = subst IsSolid (sym h.0) (mark_solid m h.1)
+starts_solid text_byte b (inl e) = name_solid b e
+starts_solid text_byte b (inr e) = subst IsSolid (sym e) (record { no_space = refl; no_slash = λ f. omega (arith, f) })
+starts_solid (name n) b e = name_solid b e
+starts_solid (literal c) b e = subst IsSolid (sym e) (record { no_space = refl; no_slash = λ f. omega (arith, f) })
 
-starts_no_blank : (x : Word) (b : ℕ) → Starts x b → IsTrue (is_blank b) → ⊥
-starts_no_blank semicolon b e h = false≢true (ap is_blank (sym e) ∙ h)
-starts_no_blank text_byte b (inl e) h = blank_starts_none b h e
-starts_no_blank text_byte b (inr e) h = false≢true (ap is_blank (sym e) ∙ h)
-starts_no_blank (name n) b e h = blank_starts_none b h e
-starts_no_blank (literal c) b e h = false≢true (ap is_blank (sym e) ∙ h)
-
-starts_no_slash : (x : Word) (b : ℕ) → Starts x b → b ≡ 47 → ⊥
-starts_no_slash semicolon b e h = omega (arith, e, h)
-starts_no_slash text_byte b (inl e) h = false≢true (ap (starts_name Lex) (sym h) ∙ e)
-starts_no_slash text_byte b (inr e) h = omega (arith, e, h)
-starts_no_slash (name n) b e h = false≢true (ap (starts_name Lex) (sym h) ∙ e)
-starts_no_slash (literal c) b e h = omega (arith, e, h)
-
-begins_stops : (text : List ℕ) (x : Word) (rest : List ℕ) → Begins text x rest → GapEnds Lex text
-begins_stops text x rest h = at (begins_at text x rest h)
+no_space_in : (l : Language) (b : ℕ) → IsSolid b → IsTrue (is_space l b) → ⊥
+no_space_in Lex b h s = no_blank b h.no_space s
   where
-    at : (b : ℕ) × (s : List ℕ) × (text ≡ b ∷ s) × Starts x b → GapEnds Lex text
+    no_blank : (b : ℕ) → is_space Yacc b ≡ false → IsTrue (is_space Lex b) → ⊥
+    no_blank b h s = grind (arith, nat_tests)
+no_space_in Yacc b h s = false≢true (sym h.no_space ∙ s)
+
+begins_stops : (l : Language) (text : List ℕ) (x : Word) (rest : List ℕ) → Begins text x rest → GapEnds l text
+begins_stops l text x rest h = at (begins_at text x rest h)
+  where
+    at : (b : ℕ) × (s : List ℕ) × (text ≡ b ∷ s) × Starts x b → GapEnds l text
     at (b, s, e, starts) = record {
-      no_space = λ c t c_blank f. let same : c ≡ b = cc
-          in starts_no_blank x b starts (subst (λ i. is_blank i ≡ true) same c_blank);
-      no_comment = λ i t f. starts_no_slash x b starts (cc);
+      no_space = λ c t c_space f. let same : c ≡ b = cc
+          in no_space_in l b (starts_solid x b starts) (subst (λ i. is_space l i ≡ true) same c_space);
+      no_comment = λ i t f. (starts_solid x b starts).no_slash (cc);
     }
 
 -- the word that stands behind a gap
-pub front_at : (text word : List ℕ) (x : Word) (rest : List ℕ) → GapBefore Lex text word → GapEnds Lex word
-    → Front text x rest
-    → Begins word x rest
-front_at text word x rest before stops (u, other, begins)
+pub front_at : (l : Language) (text word : List ℕ) (x : Word) (rest : List ℕ) → GapBefore l text word → GapEnds l word
+    → Front l text x rest → Begins word x rest
+front_at l text word x rest before stops (u, other, begins)
     = subst (λ w. Begins w x rest)
-    (gap_one Lex other.0 before.0 u word other.1 before.1 (begins_stops u x rest begins) stops (sym other.2 ∙ before.2))
+    (gap_one l other.0 before.0 u word other.1 before.1 (begins_stops l u x rest begins) stops (sym other.2 ∙ before.2))
     begins
 
 apart : (u : List ℕ) (x y : Word) (r s : List ℕ) → ((b : ℕ) → Starts x b → Starts y b → ⊥) → Begins u x r → Begins u y s
@@ -79,10 +94,27 @@ apart u x y r s h a b = at (begins_at u x r a) (begins_at u y s b)
 no_letter : (n b : ℕ) → starts_name Lex n ≡ false → b ≡ n → IsTrue (starts_name Lex b) → ⊥
 no_letter n b h e s = false≢true (sym h ∙ ap (starts_name Lex) (sym e) ∙ s)
 
--- no other word begins as the first byte of the text does
-text_byte_apart : (n b : ℕ) → starts_name Lex n ≡ false → (n ≡ 42 → ⊥) → b ≡ n → Starts text_byte b → ⊥
-text_byte_apart n b h k e (inl s) = no_letter n b h e s
-text_byte_apart n b h k e (inr s) = k (sym e ∙ s)
+-- a mark is no byte that begins another word
+mark_no_letter : (m : ℕ) → IsTrue (is_mark m) → IsTrue (starts_name Lex m) → ⊥
+mark_no_letter m h s = grind (arith, nat_tests)
+
+mark_not : (m b : ℕ) → IsTrue (is_mark m) → is_mark b ≡ false → m ≡ b → ⊥
+mark_not m b h k e = false≢true (sym k ∙ ap is_mark (sym e) ∙ h)
+
+mark_apart : (m b : ℕ) (x : Word) → ((k : ℕ) → x ≢ mark k) → Starts (mark m) b → Starts x b → ⊥
+mark_apart m b (mark k) other h s = other k refl
+mark_apart m b text_byte other h (inl s) = mark_no_letter m h.1 (subst (λ i. IsTrue (starts_name Lex i)) h.0 s)
+mark_apart m b text_byte other h (inr s) = mark_not m 42 h.1 refl (sym h.0 ∙ s)
+mark_apart m b (name n) other h s = mark_no_letter m h.1 (subst (λ i. IsTrue (starts_name Lex i)) h.0 s)
+mark_apart m b (literal c) other h s = mark_not m 39 h.1 refl (sym h.0 ∙ s)
+
+literal_apart : (b c : ℕ) (x : Word) → ((k : ℕ) → x ≢ mark k) → ((k : ℕ) → x ≢ literal k) → Starts (literal c) b
+    → Starts x b → ⊥
+literal_apart b c (mark k) p q h s = p k refl
+literal_apart b c text_byte p q h (inl s) = no_letter 39 b refl h s
+literal_apart b c text_byte p q h (inr s) = omega (arith, h, s)
+literal_apart b c (name n) p q h s = no_letter 39 b refl h s
+literal_apart b c (literal d) p q h s = q d refl
 
 star_no_name : (u n r behind : List ℕ) → NameBefore Lex u n r → u ≡ 42 ∷ behind → ⊥
 star_no_name u [] r behind h e = h.0
@@ -104,72 +136,159 @@ text_byte_one u r s (inr a) (inr b) =
     (subst (λ t. NameBefore Lex t (codes "yytext") s) same b.2)).1
 
 begins_one : (u : List ℕ) (x y : Word) (r s : List ℕ) → Begins u x r → Begins u y s → (x ≡ y) × (r ≡ s)
-begins_one u semicolon semicolon r s a b = (refl, cc)
-begins_one u semicolon (name m) r s a b = absurd (apart u semicolon (name m) r s (λ i e f. no_letter 59 i refl e f) a b)
-begins_one u semicolon (literal d) r s a b
-    = absurd (apart u semicolon (literal d) r s (λ i e f. omega (arith, e, f)) a b)
-begins_one u semicolon text_byte r s a b = absurd (apart u semicolon text_byte r s
-    (λ i e f. text_byte_apart 59 i refl (λ k. absurd (omega (arith, k))) e f) a b)
-begins_one u text_byte semicolon r s a b = absurd (apart u text_byte semicolon r s
-    (λ i e f. text_byte_apart 59 i refl (λ k. absurd (omega (arith, k))) f e) a b)
+begins_one u (mark m) (mark k) r s a b =
+    let e : m ∷ r ≡ k ∷ s = sym a.1 ∙ b.1 in
+    (ap mark (ap (λ t. get_or t 0 0) e), ap (drop 1) e)
+begins_one u (mark m) text_byte r s a b
+    = absurd (apart u (mark m) text_byte r s (λ i. mark_apart m i text_byte (λ k e. cc)) a b)
+begins_one u (mark m) (name n) r s a b
+    = absurd (apart u (mark m) (name n) r s (λ i. mark_apart m i (name n) (λ k e. cc)) a b)
+begins_one u (mark m) (literal d) r s a b
+    = absurd (apart u (mark m) (literal d) r s (λ i. mark_apart m i (literal d) (λ k e. cc)) a b)
+begins_one u text_byte (mark k) r s a b
+    = absurd (apart u (mark k) text_byte s r (λ i. mark_apart k i text_byte (λ k e. cc)) b a)
 begins_one u text_byte text_byte r s a b = (refl, text_byte_one u r s a b)
 begins_one u text_byte (name m) r s a b = absurd (text_byte_name u m s r a b.0 b.1)
-begins_one u text_byte (literal d) r s a b = absurd (apart u text_byte (literal d) r s
-    (λ i e f. text_byte_apart 39 i refl (λ k. absurd (omega (arith, k))) f e) a b)
+begins_one u text_byte (literal d) r s a b
+    = absurd (apart u (literal d) text_byte s r (λ i. literal_apart i d text_byte (λ k e. cc) (λ k e. cc)) b a)
+begins_one u (name n) (mark k) r s a b
+    = absurd (apart u (mark k) (name n) s r (λ i. mark_apart k i (name n) (λ k e. cc)) b a)
 begins_one u (name n) text_byte r s a b = absurd (text_byte_name u n r s b a.0 a.1)
-begins_one u (literal c) text_byte r s a b = absurd (apart u (literal c) text_byte r s
-    (λ i e f. text_byte_apart 39 i refl (λ k. absurd (omega (arith, k))) e f) a b)
-begins_one u (name n) semicolon r s a b = absurd (apart u (name n) semicolon r s (λ i e f. no_letter 59 i refl f e) a b)
 begins_one u (name n) (name m) r s a b = let e = name_one Lex u n m r s a.0 b.0 in (ap name e.0, e.1)
 begins_one u (name n) (literal d) r s a b
-    = absurd (apart u (name n) (literal d) r s (λ i e f. no_letter 39 i refl f e) a b)
-begins_one u (literal c) semicolon r s a b
-    = absurd (apart u (literal c) semicolon r s (λ i e f. omega (arith, e, f)) a b)
+    = absurd (apart u (literal d) (name n) s r (λ i. literal_apart i d (name n) (λ k e. cc) (λ k e. cc)) b a)
+begins_one u (literal c) (mark k) r s a b
+    = absurd (apart u (mark k) (literal c) s r (λ i. mark_apart k i (literal c) (λ k e. cc)) b a)
+begins_one u (literal c) text_byte r s a b
+    = absurd (apart u (literal c) text_byte r s (λ i. literal_apart i c text_byte (λ k e. cc) (λ k e. cc)) a b)
 begins_one u (literal c) (name m) r s a b
-    = absurd (apart u (literal c) (name m) r s (λ i e f. no_letter 39 i refl e f) a b)
+    = absurd (apart u (literal c) (name m) r s (λ i. literal_apart i c (name m) (λ k e. cc) (λ k e. cc)) a b)
 begins_one u (literal c) (literal d) r s a b = let e = literal_one u c d r s a b in (ap literal e.0, e.1)
 
 -- the word at the front is determined, and so is the rest
-pub front_one : (text : List ℕ) (x y : Word) (r s : List ℕ) → Front text x r → Front text y s → (x ≡ y) × (r ≡ s)
-front_one text x y r s (u, before, a) f = begins_one u x y r s a (front_at text u y s before (begins_stops u x r a) f)
+pub front_one : (l : Language) (text : List ℕ) (x y : Word) (r s : List ℕ) → Front l text x r → Front l text y s
+    → (x ≡ y) × (r ≡ s)
+front_one l text x y r s (u, before, a) f
+    = begins_one u x y r s a (front_at l text u y s before (begins_stops l u x r a) f)
 
-nothing_stops : GapEnds Lex []
-nothing_stops = record { no_space = λ b s h e. cc; no_comment = λ i s e. cc }
+nothing_stops : (l : Language) → GapEnds l []
+nothing_stops l = record { no_space = λ b s h e. cc; no_comment = λ i s e. cc }
 
 -- a gap has no word
-pub front_none : (text : List ℕ) (x : Word) (r : List ℕ) → Gap Lex text → Front text x r → ⊥
-front_none text x r g f = at (begins_at [] x r (front_at text [] x r (text, g, sym (append-nil text)) nothing_stops f))
+pub front_none : (l : Language) (text : List ℕ) (x : Word) (r : List ℕ) → Gap l text → Front l text x r → ⊥
+front_none l text x r g f
+    = at (begins_at [] x r (front_at l text [] x r (text, g, sym (append-nil text)) (nothing_stops l) f))
   where
     at : (b : ℕ) × (s : List ℕ) × ([] ≡ b ∷ s) × Starts x b → ⊥
     at (b, s, e, h) = cc
 
-pub some_not_none : (xs : List ℕ) → 0 < length xs → xs ≢ []
-some_not_none xs h e = omega (arith, ap length e, h)
+-- whatever word stands in front is the one that was found there
+pub front_is : (l : Language) (text : List ℕ) (w : NextWord) (rest : List ℕ) (x : Word) (s : List ℕ)
+    → IsFront l text w rest → Front l text x s → (x ≡ word_of w) × (s ≡ rest)
+front_is l text next.End rest x s h f = absurd (front_none l text x s h.0 f)
+front_is l text next.Other rest x s h f = absurd (h.1 x s f)
+front_is l text (next.Mark b) rest x s h f = front_one l text x (mark b) s rest f h
+front_is l text next.TextByte rest x s h f = front_one l text x text_byte s rest f h
+front_is l text (next.Name n) rest x s h f = front_one l text x (name n.now) s rest f h
+front_is l text (next.Literal b) rest x s h f = front_one l text x (literal b) s rest f h
+
+pub found_front : (l : Language) (text : List ℕ) (w : NextWord) (rest : List ℕ) → IsFront l text w rest → IsFound w
+    → Front l text (word_of w) rest
+found_front l text next.End rest h f = absurd f
+found_front l text next.Other rest h f = absurd f
+found_front l text (next.Mark b) rest h f = h
+found_front l text next.TextByte rest h f = h
+found_front l text (next.Name n) rest h f = h
+found_front l text (next.Literal b) rest h f = h
+
+-- a gap alone is the end
+pub front_end : (l : Language) (text : List ℕ) (w : NextWord) (rest : List ℕ) → IsFront l text w rest → Gap l text
+    → w ≡ next.End
+front_end l text next.End rest h g = refl
+front_end l text next.Other rest h g = absurd (h.0 g)
+front_end l text (next.Mark b) rest h g = absurd (front_none l text (mark b) rest g h)
+front_end l text next.TextByte rest h g = absurd (front_none l text text_byte rest g h)
+front_end l text (next.Name n) rest h g = absurd (front_none l text (name n.now) rest g h)
+front_end l text (next.Literal b) rest h g = absurd (front_none l text (literal b) rest g h)
+
+pub end_gap : (l : Language) (text : List ℕ) (w : NextWord) (rest : List ℕ) → IsFront l text w rest → w ≡ next.End
+    → Gap l text × (rest ≡ [])
+end_gap l text w rest h e = subst (λ i. IsFront l text i rest) e h
+
+-- the mark that was found
+pub mark_front : (l : Language) (text : List ℕ) (w : NextWord) (rest : List ℕ) (m : ℕ) → IsFront l text w rest
+    → word_of w ≡ mark m → 0 < m → Front l text (mark m) rest
+mark_front l text w rest m h e some = subst (λ x. Front l text x rest) e (found_front l text w rest h (at w e))
+  where
+    zero_mark : (k : ℕ) → mark 0 ≡ mark k → k ≡ 0
+    zero_mark k f = cc
+
+    at : (w : NextWord) → word_of w ≡ mark m → IsFound w
+    at next.End f = absurd (omega (arith, zero_mark m f, some))
+    at next.Other f = absurd (omega (arith, zero_mark m f, some))
+    at (next.Mark b) f = tt
+    at next.TextByte f = tt
+    at (next.Name n) f = tt
+    at (next.Literal b) f = tt
+
+pub name_front : (l : Language) (text : List ℕ) (w : NextWord) (rest n : List ℕ) → IsFront l text w rest
+    → word_of w ≡ name n → Front l text (name n) rest
+name_front l text w rest n h e = subst (λ x. Front l text x rest) e (found_front l text w rest h (at w e))
+  where
+    at : (w : NextWord) → word_of w ≡ name n → IsFound w
+    at next.End f = absurd (cc)
+    at next.Other f = absurd (cc)
+    at (next.Mark b) f = tt
+    at next.TextByte f = tt
+    at (next.Name k) f = tt
+    at (next.Literal b) f = tt
 
 -- no word and no end stands behind the gap
-pub other_front : (text word : List ℕ) → GapBefore Lex text word → GapEnds Lex word
+pub other_front : (l : Language) (text word : List ℕ) → GapBefore l text word → GapEnds l word
     → ((b : ℕ) (s : List ℕ) → Literal word b s → ⊥) → ((n s : List ℕ) → NameBefore Lex word n s → ⊥)
     → ((behind s : List ℕ) → word ≡ codes "*" ++ behind → NameBefore Lex behind (codes "yytext") s → ⊥)
-    → ((s : List ℕ) → word ≢ 59 ∷ s) → word ≢ []
-    → (Gap Lex text → ⊥) × ((x : Word) (s : List ℕ) → Front text x s → ⊥)
-other_front text word before stops a b f c d = (no_gap, λ x s k. none_at x s (front_at text word x s before stops k))
+    → (b : ℕ) (t : List ℕ) → word ≡ b ∷ t → is_mark b ≡ false
+    → (Gap l text → ⊥) × ((x : Word) (s : List ℕ) → Front l text x s → ⊥)
+other_front l text word before stops a n f b t e m
+    = (no_gap, λ x s k. none_at x s (front_at l text word x s before stops k))
   where
-    no_gap : Gap Lex text → ⊥
+    no_gap : Gap l text → ⊥
     no_gap g =
-        d (gap_one Lex before.0 text word [] before.1 g stops nothing_stops (sym before.2 ∙ sym (append-nil text)))
+        let nothing : word ≡ [] = gap_one l before.0 text word [] before.1 g stops (nothing_stops l)
+        (sym before.2 ∙ sym (append-nil text)) in
+        cc
+
+    same_mark : (k : ℕ) (s : List ℕ) → IsTrue (is_mark k) → word ≡ k ∷ s → ⊥
+    same_mark k s h g = let same : k ≡ b = cc in false≢true (sym m ∙ ap is_mark (sym same) ∙ h)
 
     none_at : (x : Word) (s : List ℕ) → Begins word x s → ⊥
-    none_at semicolon s h = c s h
-    none_at text_byte s (inl h) = b (codes "yytext") (codes "[0]" ++ s) h
+    none_at (mark k) s h = same_mark k s h.0 h.1
+    none_at text_byte s (inl h) = n (codes "yytext") (codes "[0]" ++ s) h
     none_at text_byte s (inr h) = f h.0 s h.1 h.2
-    none_at (name n) s h = b n s h.0
+    none_at (name k) s h = n k s h.0
     none_at (literal v) s h = a v s h
 
 -- the words of a text are determined
-pub wording_one : (text : List ℕ) (xs ys : List Word) → Wording text xs → Wording text ys → xs ≡ ys
-wording_one text [] [] a b = refl
-wording_one text [] (y ∷ ys) a b = absurd (front_none text y b.0 a b.1)
-wording_one text (x ∷ xs) [] a b = absurd (front_none text x a.0 b a.1)
-wording_one text (x ∷ xs) (y ∷ ys) a b =
-    let e = front_one text x y a.0 b.0 a.1 b.1 in
-    ap₂ ◌∷◌ e.0 (wording_one b.0 xs ys (subst (λ r. Wording r xs) e.1 a.2) b.2)
+pub wording_one : (l : Language) (text : List ℕ) (xs ys : List Word) → Wording l text xs → Wording l text ys → xs ≡ ys
+wording_one l text [] [] a b = refl
+wording_one l text [] (y ∷ ys) a b = absurd (front_none l text y b.0 a b.1)
+wording_one l text (x ∷ xs) [] a b = absurd (front_none l text x a.0 b a.1)
+wording_one l text (x ∷ xs) (y ∷ ys) a b =
+    let e = front_one l text x y a.0 b.0 a.1 b.1 in
+    ap₂ ◌∷◌ e.0 (wording_one l b.0 xs ys (subst (λ r. Wording l r xs) e.1 a.2) b.2)
+
+word_shorter : (text : List ℕ) (x : Word) (rest : List ℕ) → Begins text x rest → length rest < length text
+word_shorter text (mark m) rest h = omega (arith, ap length h.1)
+word_shorter text text_byte rest (inl h)
+    = omega (arith, ap length h.2, length-append (codes "yytext") (codes "[0]" ++ rest), length-append (codes "[0]") rest)
+word_shorter text text_byte rest (inr h)
+    = omega (arith, ap length h.1, ap length h.2.2, length-append (codes "yytext") rest)
+word_shorter text (name []) rest h = absurd h.0.0
+word_shorter text (name (b ∷ n)) rest h = omega (arith, ap length h.0.2, length-append n rest)
+word_shorter text (literal c) rest h = literal_shorter text rest c h
+
+-- a word takes a byte at least
+pub front_shorter : (l : Language) (text : List ℕ) (x : Word) (rest : List ℕ) → Front l text x rest
+    → length rest < length text
+front_shorter l text x rest (u, before, h)
+    = omega (arith, ap length before.2, length-append before.0 u, word_shorter u x rest h)

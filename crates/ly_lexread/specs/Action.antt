@@ -1,6 +1,5 @@
--- What the text behind a pattern says (POSIX, XCU lex, "Actions in lex").
-use Rattle.std.specs.Prelude.{◌≡◌, ℕ, List, [], ◌∷◌, codes, None}
-use Rattle.ly_lexread.specs.Words.{Word, semicolon, text_byte, name, literal, Wording}
+-- What an action does.
+use Rattle.std.specs.Prelude.{◌≡◌, ◌≢◌, ℕ, List, [], ◌∷◌, Option, None}
 use Rattle.ly_lexread.specs.declared.action.Action.{Action}
 use Rattle.ly_lexread.specs.declared.action.Returned.{Returned}
 use Rattle.ly_lexread.specs.declared.action.Returned.TheVariants.{Nothing, Token, Literal, FirstByte}
@@ -19,24 +18,26 @@ meaning_of (Token n) = token n.items
 meaning_of (Literal b) = literal_of b
 meaning_of FirstByte = first_byte
 
--- the token that a word stands for
-abbrev pub StandsFor : Word → Meaning → Type 0
-StandsFor semicolon m = ⊥
-StandsFor text_byte m = m ≡ first_byte
-StandsFor (name n) m = m ≡ token n
-StandsFor (literal b) m = m ≡ literal_of b
+-- What an action does: the condition that it sets, if it sets one, and the token that it returns.
+pub record Effect : Type 0 where
+  pub begin : Option ℕ
+  pub returns : Meaning
 
--- what words say: nothing, `;`, `return NAME ;`, `return 'c' ;` or `return yytext[0] ;`
-abbrev pub Say : List Word → Meaning → Type 0
-Say [] m = m ≡ nothing
-Say (semicolon ∷ []) m = m ≡ nothing
-Say (name r ∷ x ∷ semicolon ∷ []) m = (r ≡ codes "return") × StandsFor x m
-Say _ m = ⊥
+-- that of a rule whose text is passed over
+abbrev pub no_effect : Effect
+no_effect = record { begin = None; returns = nothing }
 
--- the words of the text say this
-abbrev pub Says : List ℕ → Meaning → Type 0
-Says text m = (words : List Word) × Wording text words × Say words m
+abbrev pub effect_of : Action → Effect
+effect_of a = record { begin = a.begin; returns = meaning_of a.returns }
 
--- the text says what the action does
-abbrev pub IsAction : List ℕ → Action → Type 0
-IsAction text a = (a.begin ≡ None) × Says text (meaning_of a.returns)
+-- What a rule says of its action: it is its own, or that of the next rule.
+pub data Saying : Type 0 where
+  own : Effect → Saying
+  next : Saying
+
+-- the effect of each rule, by what the rules say
+abbrev pub AreEffects : List Saying → List Effect → Type 0
+AreEffects [] [] = Unit {0}
+AreEffects (own d ∷ ss) (e ∷ es) = (e ≡ d) × AreEffects ss es
+AreEffects (next ∷ ss) (e ∷ f ∷ es) = (e ≡ f) × AreEffects ss (f ∷ es)
+AreEffects _ _ = ⊥

@@ -1,21 +1,114 @@
--- The definitions of a lex file.
-use Rattle.std.specs.Prelude.{◌≡◌, ℕ, List, ◌∷◌, ◌++◌, codes}
-use Rattle.ly_ere.specs.Patterns.{IsBehind}
+-- The definitions of a lex file (POSIX, XCU lex, "Definitions in lex").
+use Rattle.std.specs.Prelude.{◌≡◌, ◌≢◌, ℕ, List, [], ◌∷◌, ◌++◌, Bool, true, false, ◌||◌, codes, None, nat_eq, drop}
+use Rattle.std.specs.Prelude.{if◌then◌else◌}
+use Rattle.std.specs.List.{list_any}
+use Rattle.std.specs.Str.{bytes_eq}
+use Rattle.ly_base.specs.Blank.{is_blank}
+use Rattle.ly_base.specs.Escapes.{AllPass, Stops}
+use Rattle.ly_base.specs.Gap.{EndBefore}
+use Rattle.ly_base.specs.Language.{DigitsBefore, NameBefore}
+use Rattle.ly_base.specs.declared.language.Language.TheVariants.{Lex}
+use Rattle.ly_lexread.specs.Conditions.{Condition, condition_of, initial}
+use Rattle.ly_lexread.specs.Lines.{BlockEnds, LineBefore, LineOf, kind_of}
+use Rattle.ly_lexread.specs.declared.directive.Directed.{Directed}
+use Rattle.ly_lexread.specs.declared.directive.Directed.TheVariants.{Inclusive, Exclusive, Size, TextKind, Unknown}
+use Rattle.ly_lexread.specs.declared.kind.LineKind.{LineKind}
+use Rattle.ly_lexread.specs.declared.kind.LineKind.TheVariants.{Mark, Unused, Block, Comment, Directive, Plain}
 
--- the front and then more
-abbrev pub BeginsWith : List ℕ → List ℕ → Type 0
-BeginsWith line front = (rest : List ℕ) × (line ≡ front ++ rest)
+-- one blank or more, as many as there are, and then the rest
+abbrev pub BlanksBefore : List ℕ → List ℕ → Type 0
+BlanksBefore text rest = (blanks : List ℕ) × AllPass is_blank blanks × (blanks ≢ []) × Stops is_blank rest
+    × (text ≡ blanks ++ rest)
 
--- the line ends the definitions or the rules
-abbrev pub IsMark : List ℕ → Type 0
-IsMark line = BeginsWith line (codes "%%")
+-- Blanks and names by turns, up to the end of a line: each name is that of a further condition, exclusive or not.
+pub data DeclaresAll (exclusive : Bool) : List Condition → List ℕ → List Condition → Type 0 where
+  end : (cs : List Condition) (text : List ℕ) → AllPass is_blank text → DeclaresAll exclusive cs text cs
+  more : (cs all : List Condition) (text behind n rest : List ℕ) → BlanksBefore text behind
+      → NameBefore Lex behind n rest → condition_of cs n ≡ None
+      → DeclaresAll exclusive (cs ++ (n, exclusive) ∷ []) rest all → DeclaresAll exclusive cs text all
 
--- the line isn't used: nothing, or a blank in front, which also ends a pattern
-abbrev pub IsUnused : List ℕ → Type 0
-IsUnused line = IsBehind line
+-- the same, where there is a name at least
+abbrev pub Declares : Bool → List Condition → List ℕ → List Condition → Type 0
+Declares exclusive cs text all = (AllPass is_blank text → ⊥) × DeclaresAll exclusive cs text all
 
--- the definitions, up to the mark that begins the rules, and the lines behind it
-pub data Definitions : List (List ℕ) → List (List ℕ) → Type 0 where
-  mark : (line : List ℕ) (lines : List (List ℕ)) → IsMark line → Definitions (line ∷ lines) lines
-  unused : (line : List ℕ) (lines rest : List (List ℕ)) → IsUnused line → Definitions lines rest
-      → Definitions (line ∷ lines) rest
+-- the first byte is one of these
+abbrev pub begins_among : List ℕ → List ℕ → Bool
+begins_among bytes [] = false
+begins_among bytes (b ∷ word) = list_any (nat_eq b) bytes
+
+-- the byte of one that has no other
+abbrev pub is_one_of : List ℕ → List ℕ → Bool
+is_one_of bytes [] = false
+is_one_of bytes (b ∷ []) = list_any (nat_eq b) bytes
+is_one_of bytes (b ∷ c ∷ word) = false
+
+-- what the word behind a `%` begins: a word of letters and digits for conditions, a letter for a size of a table
+abbrev pub directive_of : List ℕ → Directed
+directive_of word = if list_any (nat_eq 95) word then Unknown else
+    (if begins_among (codes "sS") word then Inclusive else
+    (if begins_among (codes "xX") word then Exclusive else
+    (if is_one_of (codes "pnaeko") word then Size else
+    (if bytes_eq word (codes "array") || bytes_eq word (codes "pointer") then TextKind else Unknown))))
+
+-- blanks and a decimal number, perhaps with blanks behind it
+abbrev pub IsNumber : List ℕ → Type 0
+IsNumber text = (number digits rest : List ℕ) × BlanksBefore text number × DigitsBefore number digits rest
+    × AllPass is_blank rest
+
+-- what stands behind the word of a directive that isn't used
+abbrev pub IsIdle : Directed → List ℕ → Type 0
+IsIdle Size text = IsNumber text
+IsIdle TextKind text = AllPass is_blank text
+IsIdle _ text = ⊥
+
+-- what stands behind a directive's word, to the end of the line, makes of the conditions
+abbrev pub Directs : Directed → List Condition → List ℕ → List Condition → Type 0
+Directs Inclusive cs text all = Declares false cs text all
+Directs Exclusive cs text all = Declares true cs text all
+Directs d cs text all = (all ≡ cs) × IsIdle d text
+
+-- A line with a `%` in front, and the conditions behind it.
+pub record DirectiveLine (cs : List Condition) (line : List ℕ) (all : List Condition) : Type 0 where
+  pub behind : List ℕ
+  pub is_directive : line ≡ codes "%" ++ behind
+  pub word : List ℕ
+  pub rest : List ℕ
+  pub named : NameBefore Lex behind word rest
+  pub directs : Directs (directive_of word) cs rest all
+
+-- a comment goes to its first `*/`, and the rest of that line isn't used
+abbrev pub CommentEnds : List ℕ → List ℕ → Type 0
+CommentEnds text rest = (inside behind line end : List ℕ) × (text ≡ codes "/*" ++ inside)
+    × EndBefore (codes "*/") inside behind × LineOf behind line end × (rest ≡ drop 1 end)
+
+-- What the definitions say: the conditions, and the definitions of names.
+pub record Preamble : Type 0 where
+  pub conditions : List Condition
+  pub definitions : List (List ℕ × List ℕ)
+
+-- before the first line
+abbrev pub at_first : Preamble
+at_first = record { conditions = initial ∷ []; definitions = [] }
+
+-- the text has this line and then more: what a line of its kind makes of what was said before, and the rest
+abbrev pub LineSays : LineKind → Preamble → List ℕ → List ℕ → List ℕ → Preamble → List ℕ → Type 0
+LineSays Mark p text line behind q rest = ⊥
+LineSays Unused p text line behind q rest = (q ≡ p) × (rest ≡ behind)
+LineSays Block p text line behind q rest = (q ≡ p) × BlockEnds behind rest
+LineSays Comment p text line behind q rest = (q ≡ p) × CommentEnds text rest
+LineSays Directive p text line behind q rest = (rest ≡ behind) × (q.definitions ≡ p.definitions)
+    × DirectiveLine p.conditions line q.conditions
+LineSays Plain p text line behind q rest = ⊥
+
+-- a line, with those that go with it
+abbrev pub Says : Preamble → List ℕ → Preamble → List ℕ → Type 0
+Says p text q rest =
+    (line behind : List ℕ) × LineBefore text line behind × LineSays (kind_of line) p text line behind q rest
+
+-- The definitions, up to the mark that begins the rules: from what was said before them to what is said in all, and
+-- the rest.
+pub data Definitions : Preamble → List ℕ → Preamble → List ℕ → Type 0 where
+  mark : (p : Preamble) (text line rest : List ℕ) → LineBefore text line rest → kind_of line ≡ Mark
+      → Definitions p text p rest
+  more : (p q r : Preamble) (text behind rest : List ℕ) → Says p text q behind → Definitions q behind r rest
+      → Definitions p text r rest

@@ -1,4 +1,5 @@
 pub mod Action
+pub mod Conditions
 pub mod Definitions
 pub mod Faults
 pub mod Laws
@@ -7,4 +8,5 @@ pub mod Lexing
 pub mod Lines
 pub mod Private
 pub mod Rules
+pub mod Statements
 pub mod Words

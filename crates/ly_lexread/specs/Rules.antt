@@ -1,53 +1,98 @@
 -- The rules of a lex file.
-use Rattle.std.specs.Prelude.{◌≡◌, ◌<◌, ◌≤◌, ◌⊎◌, ℕ, List, [], ◌∷◌, drop, codes}
+use Rattle.std.specs.Prelude.{◌≡◌, ◌≢◌, ◌<◌, ◌≤◌, ◌⊎◌, ℕ, List, [], ◌∷◌, ◌++◌, drop, codes, Some}
+use Rattle.ly_base.specs.Language.{NameBefore}
+use Rattle.ly_base.specs.declared.language.Language.TheVariants.{Lex}
 use Rattle.ly_ere.specs.Grammar.{Sides}
 use Rattle.ly_ere.specs.Names.{Definition}
 use Rattle.ly_ere.specs.Patterns.{HasFrontSides, IsFrontPattern, pattern_weight, sides_weight}
 use Rattle.ly_ere.specs.declared.pattern.Rule.{Rule}
-use Rattle.ly_lexread.specs.declared.action.Action.{Action}
-use Rattle.ly_lexread.specs.Action.{IsAction}
-use Rattle.ly_lexread.specs.Definitions.{BeginsWith, IsMark, IsUnused}
+use Rattle.ly_lexread.specs.Action.{Saying}
+use Rattle.ly_lexread.specs.Conditions.{Condition, condition_of, inclusive}
+use Rattle.ly_lexread.specs.Lines.{BlockEnds, LineBefore, LineOf, kind_of}
+use Rattle.ly_lexread.specs.Statements.{SaysAction}
+use Rattle.ly_lexread.specs.declared.kind.LineKind.{LineKind}
+use Rattle.ly_lexread.specs.declared.kind.LineKind.TheVariants.{Mark, Unused, Block, Comment, Directive, Plain}
 
--- A line may be that of a rule: it is no mark, it is used, and no block and no conditions begin it.
-pub record MayBeRule (line : List ℕ) : Type 0 where
-  pub no_mark : IsMark line → ⊥
-  pub no_block : BeginsWith line (codes "%{") → ⊥
-  pub no_conditions : BeginsWith line (codes "<") → ⊥
-  pub is_used : IsUnused line → ⊥
+-- the text is the name of a condition, or `0`, and then the rest
+abbrev pub ConditionBefore : List Condition → List ℕ → ℕ → List ℕ → Type 0
+ConditionBefore cs text n rest = ((s : List ℕ) × NameBefore Lex text s rest × (condition_of cs s ≡ Some n))
+    ⊎ ((text ≡ codes "0" ++ rest) × (n ≡ 0))
 
--- A line says a rule and its action: the rule is active in condition 0 alone.
-pub record IsRuleLine (names : List Definition) (line : List ℕ) (rule : Rule) (action : Action) : Type 0 where
-  pub may_be : MayBeRule line
+-- Conditions with commas between them, up to the `>`: from the numbers so far to those of all, and the rest.
+pub data Listed (cs : List Condition) : List ℕ → List ℕ → List ℕ → List ℕ → Type 0 where
+  last : (ns text rest : List ℕ) (n : ℕ) → ConditionBefore cs text n (codes ">" ++ rest)
+      → Listed cs ns text (ns ++ n ∷ []) rest
+  more : (ns text behind all rest : List ℕ) (n : ℕ) → ConditionBefore cs text n (codes "," ++ behind)
+      → Listed cs (ns ++ n ∷ []) behind all rest → Listed cs ns text all rest
+
+-- The conditions in which a rule is active, and the rest of its line: those that `<..>` lists in front, as they stand
+-- there; of a rule without such a list the inclusive ones.
+abbrev pub ActiveBefore : List Condition → List ℕ → List ℕ → List ℕ → Type 0
+ActiveBefore cs line active rest = ((behind : List ℕ) × (line ≡ codes "<" ++ behind) × Listed cs [] behind active rest)
+    ⊎ (((s : List ℕ) → line ≢ codes "<" ++ s) × (active ≡ inclusive cs) × (rest ≡ line))
+
+-- a line of this kind begins a rule
+abbrev pub BeginsRule : LineKind → Type 0
+BeginsRule Mark = ⊥
+BeginsRule Unused = ⊥
+BeginsRule Block = ⊥
+BeginsRule _ = Unit {0}
+
+-- The text has a line that begins a rule: its conditions, then what stands behind them, then what ends the line.
+pub record RuleLine (cs : List Condition) (text active body end : List ℕ) : Type 0 where
+  pub line : List ℕ
+  pub some : text ≢ []
+  pub is_line : LineOf text line end
+  pub begins : BeginsRule (kind_of line)
+  pub is_active : ActiveBefore cs line active body
+
+-- The text begins with a rule, and then comes the rest.
+pub record RuleBefore (cs : List Condition) (names : List Definition) (text : List ℕ) (rule : Rule) (saying : Saying)
+    (rest : List ℕ) : Type 0 where
+  pub body : List ℕ
+  pub end : List ℕ
+  pub line : RuleLine cs text rule.active.items body end
   pub taken : ℕ
-  pub is_pattern : IsFrontPattern names line rule.pattern taken
-  pub is_active : rule.active.items ≡ 0 ∷ []
-  pub is_action : IsAction (drop taken line) action
+  pub is_pattern : IsFrontPattern names body rule.pattern taken
+  pub says : SaysAction cs (drop taken body) end saying rest
 
--- the rules and their actions, up to a mark or the end
-pub data Rules (names : List Definition) : List (List ℕ) → List Rule → List Action → Type 0 where
-  end : Rules names [] [] []
-  mark : (line : List ℕ) (lines : List (List ℕ)) → IsMark line → Rules names (line ∷ lines) [] []
-  unused : (line : List ℕ) (lines : List (List ℕ)) (rules : List Rule) (actions : List Action) → IsUnused line
-      → Rules names lines rules actions → Rules names (line ∷ lines) rules actions
-  rule : (line : List ℕ) (lines : List (List ℕ)) (r : Rule) (a : Action) (rules : List Rule) (actions : List Action)
-      → IsRuleLine names line r a → Rules names lines rules actions
-      → Rules names (line ∷ lines) (r ∷ rules) (a ∷ actions)
+-- a line that isn't used, or a block, and then the rest
+abbrev pub Skips : List ℕ → List ℕ → Type 0
+Skips text rest = (line more : List ℕ) × LineBefore text line more
+    × (((kind_of line ≡ Unused) × (rest ≡ more)) ⊎ ((kind_of line ≡ Block) × BlockEnds more rest))
+
+-- no rule stands there any more: the text is over, or a mark comes
+abbrev pub AreRulesOver : List ℕ → Type 0
+AreRulesOver text = (text ≡ []) ⊎ ((line rest : List ℕ) × LineBefore text line rest × (kind_of line ≡ Mark))
+
+-- the rules, and what each says of its action
+pub data Rules (cs : List Condition) (names : List Definition) : List ℕ → List Rule → List Saying → Type 0 where
+  end : (text : List ℕ) → AreRulesOver text → Rules cs names text [] []
+  skip : (text rest : List ℕ) (rules : List Rule) (sayings : List Saying) → Skips text rest
+      → Rules cs names rest rules sayings → Rules cs names text rules sayings
+  rule : (text rest : List ℕ) (r : Rule) (s : Saying) (rules : List Rule) (sayings : List Saying)
+      → RuleBefore cs names text r s rest → Rules cs names rest rules sayings
+      → Rules cs names text (r ∷ rules) (s ∷ sayings)
 
 -- each pattern weighs at most this
 abbrev pub AreLight : ℕ → List Definition → List Rule → Type 0
 AreLight most names [] = Unit {0}
 AreLight most names (r ∷ rules) = (pattern_weight names r.pattern ≤ most) × AreLight most names rules
 
--- A line has sides of a pattern at its front that weigh more than this.
-pub record IsHeavyLine (most : ℕ) (names : List Definition) (line : List ℕ) : Type 0 where
-  pub may_be : MayBeRule line
+-- The text begins with a rule whose line has sides of a pattern that weigh more than this.
+pub record IsHeavyRule (most : ℕ) (cs : List Condition) (names : List Definition) (text : List ℕ) : Type 0 where
+  pub active : List ℕ
+  pub body : List ℕ
+  pub end : List ℕ
+  pub line : RuleLine cs text active body end
   pub sides : Sides
   pub taken : ℕ
-  pub are_sides : HasFrontSides names line sides taken
+  pub are_sides : HasFrontSides names body sides taken
   pub is_heavy : most < sides_weight names sides
 
--- that of one of the lines does, up to a mark
-abbrev pub HasHeavyLine : ℕ → List Definition → List (List ℕ) → Type 0
-HasHeavyLine most names [] = ⊥
-HasHeavyLine most names (line ∷ lines) = (IsMark line → ⊥)
-    × (IsHeavyLine most names line ⊎ HasHeavyLine most names lines)
+-- one of the rules does
+pub data HasHeavyRule (most : ℕ) (cs : List Condition) (names : List Definition) : List ℕ → Type 0 where
+  here : (text : List ℕ) → IsHeavyRule most cs names text → HasHeavyRule most cs names text
+  skip : (text rest : List ℕ) → Skips text rest → HasHeavyRule most cs names rest → HasHeavyRule most cs names text
+  rule : (text rest : List ℕ) (r : Rule) (s : Saying) → RuleBefore cs names text r s rest
+      → HasHeavyRule most cs names rest → HasHeavyRule most cs names text

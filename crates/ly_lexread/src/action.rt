@@ -1,12 +1,21 @@
-ghost use Rattle.std.specs.Prelude.{◌≡◌, ◌≢◌, ◌∷◌, [], codes, IfOk, MatchBool, MatchOption};
-ghost use Rattle.ly_lexread.specs.Action.{meaning_of, IsAction, Meaning, Says};
+ghost use Rattle.std.specs.Prelude.{◌≡◌, ◌≢◌, ◌≤◌, ℕ, List, Some, drop, length, take, IfOk, IfErr, IfSome, MatchBool, MatchOption};
 ghost use Rattle.ly_base.specs.Gap.{Gap};
 ghost use Rattle.ly_base.specs.declared.language.Language.TheVariants.{Lex};
-ghost use Rattle.ly_lexread.specs.Private.Action.{value_meaning, Returns};
-ghost use Rattle.ly_lexread.specs.Words.{semicolon, Wording};
-ghost use Rattle.ly_lexread.specs.declared.action.Action.{Action};
+ghost use Rattle.ly_lexread.specs.Action.{Effect, Saying, effect_of, meaning_of, no_effect, nothing, own};
+ghost use Rattle.ly_lexread.specs.Faults.{IsOfText, IsTooHeavy};
+ghost use Rattle.ly_lexread.specs.Private.Statements.{saying_of, statement_of, value_meaning};
+ghost use Rattle.ly_lexread.specs.Statements.{Follows, LineEnds, SaysAction, Statements};
+ghost use Rattle.ly_lexread.specs.declared.action_fault.ActionFault.TheVariants as refusal;
+ghost use Rattle.ly_lexread.specs.declared.fault.LexFault.TheVariants.{OutOfMemory};
+ghost use Rattle.ly_lexread.specs.declared.statement.Extent.TheVariants.{Braces};
 
-use crate::words::{NextWord, next_word};
+use crate::action_fault::ActionFault;
+use crate::conditions::Conditions;
+use crate::fault::LexFault;
+use crate::rest::{Rest, behind_newline, line_length};
+use crate::statement::{Extent, Statement, Value, read_statement};
+use crate::words::next_word;
+use ly_base::Language;
 use std::alloc::{AllocError, Global};
 
 /// What a rule's action does.
@@ -31,33 +40,34 @@ pub enum Returned {
     FirstByte,
 }
 
-/// Reads the action that stands on a line behind its pattern: nothing, `;`, `return NAME ;`, `return 'c' ;` or
-/// `return yytext[0] ;`, also as `*yytext`, with blanks and comments between the words (POSIX, lex, "Actions in lex").
-/// `None` where it is something else.
-pub(crate) fn read_action(alloc: Global, text: &[u8]) -> Result<Option<Action>, AllocError>
-    ensures { IfOk result (λ read. MatchOption read ((a : Action) → IsAction text.now a → ⊥) (IsAction text.now)) }
-{
-    let Some(value) = said(text) else {
-        return Ok(None);
-    };
-    let returns = value.returned(alloc)?;
-    Ok(Some(Action {
-        begin: None,
-        returns,
-    }))
+/// What a rule says of its action.
+#[derive(Drop)]
+pub(crate) enum Said {
+    /// It is this one.
+    Own(Action),
+    /// It is that of the next rule: `|`.
+    Next,
 }
 
-/// What an action returns.
-#[derive(Clone, Copy)]
-enum Value<'t> {
-    /// Nothing.
-    Nothing,
-    /// The token of this name.
-    Name(&'t [u8]),
-    /// The literal of this byte.
-    Byte(u8),
-    /// The literal of the first byte of the text.
-    TextByte,
+impl Returned {
+    /// Whether it is no token.
+    fn is_nothing(&self) -> bool
+        ensures { MatchBool result (meaning_of self.now ≡ nothing) (meaning_of self.now ≢ nothing) }
+    {
+        matches!(self, Returned::Nothing)
+    }
+
+    /// The same, with room of its own.
+    fn copy(&self, alloc: Global) -> Result<Returned, AllocError>
+        ensures { IfOk result (λ returned. meaning_of returned ≡ meaning_of self.now) }
+    {
+        match self {
+            Returned::Nothing => Ok(Returned::Nothing),
+            Returned::Token(name) => Ok(Returned::Token(Vec::from_slice(alloc, name)?)),
+            Returned::Literal(byte) => Ok(Returned::Literal(*byte)),
+            Returned::FirstByte => Ok(Returned::FirstByte),
+        }
+    }
 }
 
 impl Value<'_> {
@@ -66,7 +76,6 @@ impl Value<'_> {
         ensures { IfOk result (λ returned. meaning_of returned ≡ value_meaning self.entry) }
     {
         match self {
-            Value::Nothing => Ok(Returned::Nothing),
             Value::Name(name) => Ok(Returned::Token(Vec::from_slice(alloc, name)?)),
             Value::Byte(byte) => Ok(Returned::Literal(byte)),
             Value::TextByte => Ok(Returned::FirstByte),
@@ -74,61 +83,178 @@ impl Value<'_> {
     }
 }
 
-/// What the text says; `None` where it is none of the forms.
-fn said(text: &[u8]) -> Option<Value<'_>>
-    ensures { MatchOption result ((m : Meaning) → Says text.now m → ⊥) (λ value. Says text.now (value_meaning value)) }
-{
-    let (first, rest) = next_word(text);
-    match first {
-        NextWord::End => Some(Value::Nothing),
-        NextWord::Semicolon => is_end(rest).then_some(Value::Nothing),
-        NextWord::Name(name) => {
-            if is_return(name) {
-                behind_return(rest)
-            } else {
-                None
-            }
+impl Action {
+    /// That of a rule whose text is passed over.
+    fn none() -> Action
+        ensures { effect_of result ≡ no_effect }
+    {
+        Action {
+            begin: None,
+            returns: Returned::Nothing,
         }
-        NextWord::TextByte | NextWord::Byte(_) | NextWord::Other => None,
+    }
+
+    /// The same, with room of its own.
+    pub(crate) fn copy(&self, alloc: Global) -> Result<Action, AllocError>
+        ensures { IfOk result (λ action. effect_of action ≡ effect_of self.now) }
+    {
+        Ok(Action {
+            begin: self.begin,
+            returns: self.returns.copy(alloc)?,
+        })
+    }
+
+    /// What a further statement makes of it; `None` where that statement can't follow.
+    fn with(self, alloc: Global, statement: Statement<'_>) -> Result<Option<Action>, AllocError>
+        ensures { IfOk result (λ made. MatchOption made
+            ((e : Effect) → Follows (effect_of self) (statement_of statement.entry) e → ⊥)
+            (λ action. Follows (effect_of self) (statement_of statement.entry) (effect_of action))) }
+    {
+        match statement {
+            Statement::Ends => Ok(None),
+            Statement::Empty => Ok(Some(self)),
+            Statement::Begins(condition) => Ok(self.with_begin(condition)),
+            Statement::Returns(value) => self.with_return(alloc, value),
+        }
+    }
+
+    /// The action with a condition that it sets, where it did nothing.
+    fn with_begin(self, condition: u32) -> Option<Action>
+        ensures { MatchOption result (effect_of self ≢ no_effect)
+            (λ action. (effect_of self ≡ no_effect)
+            × (effect_of action ≡ record { begin = Some condition; returns = nothing })) }
+    {
+        if self.begin.is_some() || !self.returns.is_nothing() {
+            return None;
+        }
+        Some(Action {
+            begin: Some(condition),
+            returns: Returned::Nothing,
+        })
+    }
+
+    /// The action with a token that it returns, where it returned none.
+    fn with_return(self, alloc: Global, value: Value<'_>) -> Result<Option<Action>, AllocError>
+        ensures { IfOk result (λ made. MatchOption made ((effect_of self).returns ≢ nothing)
+            (λ action. ((effect_of self).returns ≡ nothing)
+            × (effect_of action ≡ record { begin = self.begin; returns = value_meaning value.entry }))) }
+    {
+        if !self.returns.is_nothing() {
+            return Ok(None);
+        }
+        let returns = value.returned(alloc)?;
+        Ok(Some(Action {
+            begin: self.begin,
+            returns,
+        }))
     }
 }
 
-/// Whether the name is `return`.
-fn is_return(name: &[u8]) -> bool
-    ensures { MatchBool result (name.now ≡ codes "return") (name.now ≢ codes "return") }
+/// Reads the action at the front of a text, where so many bytes stand on its line (POSIX, XCU lex, "Actions in lex"):
+/// statements, `|`, or statements in braces, which may go over lines. It answers what is left behind the last line.
+pub(crate) fn read_action<'t>(
+    alloc: Global,
+    text: Rest<'t>,
+    on_line: usize,
+    conditions: &Conditions,
+) -> Result<(Said, Rest<'t>), LexFault>
+    requires { on_line ≤ length text.bytes.now }
+    ensures ok { IfOk result (λ read. SaysAction conditions.now (take on_line text.entry.bytes.now)
+        (drop on_line text.entry.bytes.now) (saying_of read.0) read.1.bytes.now) }
+    ensures of_text { IfErr result (λ fault. fault ≢ OutOfMemory → IsOfText fault) }
+    ensures light { IfErr result (λ fault. IsTooHeavy fault → ⊥) }
+    ensures refused { IfErr result (λ fault. fault ≢ OutOfMemory → (s : Saying) (rest : List ℕ) → SaysAction conditions.now
+        (take on_line text.entry.bytes.now) (drop on_line text.entry.bytes.now) s rest → ⊥) }
 {
-    name == b"return".as_slice()
-}
-
-/// What is returned, by the text behind `return`: a value and a `;`.
-fn behind_return(text: &[u8]) -> Option<Value<'_>>
-    ensures { MatchOption result ((m : Meaning) → Returns text.now m
-        → ⊥) (λ value. Returns text.now (value_meaning value)) }
-{
-    let (word, rest) = next_word(text);
-    match word {
-        NextWord::Name(name) => is_semicolon(rest).then_some(Value::Name(name)),
-        NextWord::Byte(byte) => is_semicolon(rest).then_some(Value::Byte(byte)),
-        NextWord::TextByte => is_semicolon(rest).then_some(Value::TextByte),
-        _ => None,
+    let (line, end) = text.bytes.split_at(on_line);
+    let (word, inside) = next_word(line, Language::Lex);
+    if word.is(b'{') {
+        let (_front, bytes) = text.bytes.split_at(line.len() - inside.len());
+        return read_braced(alloc, Rest { bytes, ..text }, conditions);
+    }
+    let behind = Rest {
+        bytes: behind_newline(end),
+        line: text.line.saturating_add(1),
+    };
+    if word.is(b'|') {
+        if !is_gap(inside) {
+            return Err(LexFault::BadAction { line: text.line });
+        }
+        return Ok((Said::Next, behind));
+    }
+    match read_statements(alloc, line, Extent::Line, conditions) {
+        Ok((action, _rest)) => Ok((Said::Own(action), behind)),
+        Err(fault) => Err(fault.in_text(Rest {
+            bytes: line,
+            ..text
+        })),
     }
 }
 
-/// Whether a `;` is left, and nothing else but blanks and comments.
-fn is_semicolon(text: &[u8]) -> bool
-    ensures { MatchBool result (Wording text.now (semicolon ∷ [])) (Wording text.now (semicolon ∷ []) → ⊥) }
+/// Reads statements up to a `}`, behind which its line has to end.
+fn read_braced<'t>(
+    alloc: Global,
+    text: Rest<'t>,
+    conditions: &Conditions,
+) -> Result<(Said, Rest<'t>), LexFault>
+    ensures ok { IfOk result (λ read. (e : Effect) × ((behind : List ℕ) × (saying_of read.0 ≡ own e)
+        × Statements conditions.now Braces no_effect text.entry.bytes.now e behind × LineEnds behind read.1.bytes.now)) }
+    ensures of_text { IfErr result (λ fault. fault ≢ OutOfMemory → IsOfText fault) }
+    ensures light { IfErr result (λ fault. IsTooHeavy fault → ⊥) }
+    ensures refused { IfErr result (λ fault. fault ≢ OutOfMemory → (e : Effect) (behind rest : List ℕ)
+        → Statements conditions.now Braces no_effect text.entry.bytes.now e behind → LineEnds behind rest → ⊥) }
 {
-    let (word, rest) = next_word(text);
-    match word {
-        NextWord::Semicolon => is_end(rest),
-        _ => false,
+    let (action, behind) = match read_statements(alloc, text.bytes, Extent::Braces, conditions) {
+        Ok(read) => read,
+        Err(fault) => return Err(fault.in_text(text)),
+    };
+    match behind_gap_line(behind) {
+        Some(bytes) => {
+            let line = text.line_before(bytes);
+            Ok((Said::Own(action), Rest { bytes, line }))
+        }
+        None => Err(ActionFault::Word(behind).in_text(text)),
     }
 }
 
-/// Whether nothing but blanks and comments is left.
-fn is_end(text: &[u8]) -> bool
+/// Reads statements to their end, and answers what stands behind them.
+fn read_statements<'t>(
+    alloc: Global,
+    text: &'t [u8],
+    extent: Extent,
+    conditions: &Conditions,
+) -> Result<(Action, &'t [u8]), ActionFault<'t>>
+    ensures ok { IfOk result (λ read. Statements conditions.now extent no_effect text.now (effect_of read.0) read.1.now) }
+    ensures refused { IfErr result (λ fault. fault ≢ refusal.OutOfMemory → (e : Effect) (rest : List ℕ)
+        → Statements conditions.now extent no_effect text.now e rest → ⊥) }
+{
+    let mut action = Action::none();
+    let mut left = text;
+    loop {
+        let (statement, behind) = read_statement(left, extent, conditions)?;
+        if statement.is_end() {
+            return Ok((action, behind));
+        }
+        let Some(longer) = action.with(alloc, statement)? else {
+            return Err(ActionFault::Word(left));
+        };
+        action = longer;
+        left = behind;
+    }
+}
+
+/// What stands behind the line at the front, where nothing but a gap stands on it.
+fn behind_gap_line(text: &[u8]) -> Option<&[u8]>
+    ensures { MatchOption result ((rest : List ℕ) → LineEnds text.now rest → ⊥) (λ rest. LineEnds text.now rest.now) }
+{
+    let (line, end) = text.split_at(line_length(text));
+    is_gap(line).then_some(behind_newline(end))
+}
+
+/// Whether nothing but blanks and comments stands there.
+fn is_gap(text: &[u8]) -> bool
     ensures { MatchBool result (Gap Lex text.now) (Gap Lex text.now → ⊥) }
 {
-    let (word, _rest) = next_word(text);
-    matches!(word, NextWord::End)
+    let (word, _rest) = next_word(text, Language::Lex);
+    word.is_end()
 }

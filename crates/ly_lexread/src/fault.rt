@@ -16,22 +16,34 @@ pub enum LexFault {
         /// The last line of the file, 1 if it is empty.
         line: u64,
     },
-    /// A line of the definitions, or one that begins with `%{`, has none of the forms that are read.
+    /// No definition, or a block or a comment that isn't closed: the line where it opens.
     #[error("not a definition")]
     BadDefinition {
         /// The line.
         line: u64,
     },
-    /// A rule names a condition that isn't declared.
+    /// A condition that isn't declared, or a list of conditions that isn't well formed.
     #[error("a condition that isn't declared")]
     UnknownCondition {
-        /// The rule's line.
+        /// The line where it stands.
         line: u64,
     },
-    /// An action that is none of the forms that are read.
+    /// A condition that is declared a second time, or `INITIAL`.
+    #[error("a condition declared twice")]
+    ConditionTwice {
+        /// The line where it is declared again.
+        line: u64,
+    },
+    /// No action.
     #[error("not an action")]
     BadAction {
-        /// The action's line.
+        /// The line of the word that is at fault; of an action whose braces aren't closed, the last line.
+        line: u64,
+    },
+    /// The last rule has the action of the next one.
+    #[error("no rule follows a |")]
+    BarAtEnd {
+        /// The rule's line.
         line: u64,
     },
     /// A pattern that is refused: fault 26, which is printed as the fault of the pattern.
@@ -56,7 +68,9 @@ impl LexFault {
             LexFault::NoRulesMark { .. } => Some(20),
             LexFault::BadDefinition { .. } => Some(21),
             LexFault::UnknownCondition { .. } => Some(22),
+            LexFault::ConditionTwice { .. } => Some(23),
             LexFault::BadAction { .. } => Some(24),
+            LexFault::BarAtEnd { .. } => Some(25),
             LexFault::Pattern { inner, .. } => inner.number(),
             LexFault::OutOfMemory => None,
         }
@@ -70,7 +84,9 @@ impl LexFault {
             LexFault::NoRulesMark { .. } => "NoRulesMark",
             LexFault::BadDefinition { .. } => "BadDefinition",
             LexFault::UnknownCondition { .. } => "UnknownCondition",
+            LexFault::ConditionTwice { .. } => "ConditionTwice",
             LexFault::BadAction { .. } => "BadAction",
+            LexFault::BarAtEnd { .. } => "BarAtEnd",
             LexFault::Pattern { inner, .. } => inner.name(),
             LexFault::OutOfMemory => "OutOfMemory",
         }
@@ -84,7 +100,9 @@ impl LexFault {
             LexFault::NoRulesMark { line }
             | LexFault::BadDefinition { line }
             | LexFault::UnknownCondition { line }
+            | LexFault::ConditionTwice { line }
             | LexFault::BadAction { line }
+            | LexFault::BarAtEnd { line }
             | LexFault::Pattern { line, .. } => Some(*line),
             LexFault::OutOfMemory => None,
         }

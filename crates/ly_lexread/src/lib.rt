@@ -4,15 +4,26 @@
 //! text that says nothing or has a pattern that is too heavy. What the lexemes of a text are under the rules is defined
 //! here too, and determined (`lexing_goes_on, lexing_is_one`).
 //!
-//! Left out so far: definitions of names and conditions, lists of conditions, blocks, actions in braces, `BEGIN`, `|`.
+//! Left out so far: definitions of names.
 #![tactic(auto)]
 
 mod action;
+mod action_fault;
+mod active;
+mod blanks;
+mod conditions;
+mod definitions;
+mod directive;
 mod fault;
 mod file;
+mod kind;
 mod laws;
-mod lines;
 mod read;
+mod rest;
+mod rules;
+mod shared;
+mod skipped;
+mod statement;
 mod words;
 
 pub use action::{Action, Returned};

@@ -1,7 +1,9 @@
-ghost use Rattle.std.specs.Prelude.{◌≡◌, ◌≢◌, ℕ, List, ◌++◌, codes, MatchBool, MatchOption};
+ghost use Rattle.std.specs.Prelude.{◌≡◌, ◌≢◌, ◌<◌, ℕ, List, ◌++◌, codes, length, MatchBool, MatchOption};
 ghost use Rattle.ly_base.specs.Language.{NameBefore};
 ghost use Rattle.ly_base.specs.declared.language.Language.TheVariants.{Lex};
-ghost use Rattle.ly_lexread.specs.Private.Words.{IsFront, IsNamedWord};
+ghost use Rattle.ly_lexread.specs.Private.Words.{IsFound, IsFront, IsNamedWord, word_of};
+ghost use Rattle.ly_lexread.specs.Words.{is_mark, mark as mark_word, name as name_word};
+ghost use Rattle.ly_lexread.specs.declared.words.NextWord.TheVariants.{End};
 
 use ly_base::{Language, after_gap, leading_name, literal};
 
@@ -10,25 +12,64 @@ use ly_base::{Language, after_gap, leading_name, literal};
 pub(crate) enum NextWord<'t> {
     /// Nothing.
     End,
-    /// `;`.
-    Semicolon,
+    /// A mark of one byte, as `;`.
+    Mark(u8),
     /// `yytext[0]` or `*yytext`.
     TextByte,
     /// A name.
     Name(&'t [u8]),
     /// A literal of this byte.
-    Byte(u8),
+    Literal(u8),
     /// No word.
     Other,
 }
 
-/// The word behind the blanks and comments at the front, and what stands behind it.
-pub(crate) fn next_word(text: &[u8]) -> (NextWord<'_>, &[u8])
-    ensures { IsFront text.now result.0 result.1.now }
+impl NextWord<'_> {
+    /// Whether nothing stands there.
+    pub(crate) fn is_end(&self) -> bool
+        ensures { MatchBool result (self.now ≡ End) (self.now ≢ End) }
+    {
+        matches!(self, NextWord::End)
+    }
+
+    /// Whether this mark stands there.
+    pub(crate) fn is(&self, mark: u8) -> bool
+        requires { 0 < mark }
+        ensures { MatchBool result (word_of self.now ≡ mark_word mark) (word_of self.now ≢ mark_word mark) }
+    {
+        match self {
+            NextWord::Mark(byte) => *byte == mark,
+            _ => false,
+        }
+    }
+
+    /// Whether this name stands there.
+    pub(crate) fn is_name(&self, name: &[u8]) -> bool
+        ensures { MatchBool result (word_of self.now ≡ name_word name.now) (word_of self.now ≢ name_word name.now) }
+    {
+        match self {
+            NextWord::Name(found) => is_same(found, name),
+            _ => false,
+        }
+    }
+}
+
+/// Whether the names are the same.
+fn is_same(name: &[u8], other: &[u8]) -> bool
+    ensures { MatchBool result (name.now ≡ other.now) (name.now ≢ other.now) }
 {
-    let text = after_gap(text, Language::Lex);
+    name == other
+}
+
+/// The word behind the gap at the front, and what stands behind it.
+pub(crate) fn next_word(text: &[u8], gaps: Language) -> (NextWord<'_>, &[u8])
+    ensures front { IsFront gaps text.now result.0 result.1.now }
+    ensures shorter { IsFound result.0 → length result.1.now < length text.now }
+{
+    let text = after_gap(text, gaps);
     if let Some((byte, length)) = literal(text) {
-        return (NextWord::Byte(byte), &text[length..]);
+        let (_literal, rest) = text.split_at(length);
+        return (NextWord::Literal(byte), rest);
     }
     if let Some((name, rest)) = leading_name(text, Language::Lex) {
         return named_word(name, rest);
@@ -36,11 +77,18 @@ pub(crate) fn next_word(text: &[u8]) -> (NextWord<'_>, &[u8])
     if let Some(rest) = behind_text_byte(text) {
         return (NextWord::TextByte, rest);
     }
-    match text.strip_prefix(b";") {
-        Some(rest) => (NextWord::Semicolon, rest),
-        None if text.is_empty() => (NextWord::End, text),
-        None => (NextWord::Other, text),
+    match text.split_first() {
+        Some((first, rest)) if is_mark(*first) => (NextWord::Mark(*first), rest),
+        Some(_) => (NextWord::Other, text),
+        None => (NextWord::End, text),
     }
+}
+
+/// Whether the byte is a mark.
+fn is_mark(byte: u8) -> bool
+    ensures { result ≡ is_mark byte }
+{
+    matches!(byte, b';' | b'|' | b'(' | b')' | b'{' | b'}' | b'0')
 }
 
 /// The word that begins with a name: `yytext[0]`, or the name alone.

@@ -1,20 +1,31 @@
 -- What stands at the front of an action, as it is read.
-use Rattle.std.specs.Prelude.{◌≡◌, ℕ, List, ◌++◌, codes}
+use Rattle.std.specs.Prelude.{◌≡◌, ℕ, List, [], ◌++◌, codes}
 use Rattle.std.specs.Borrow.{Bor}
 use Rattle.ly_base.specs.Gap.{Gap}
-use Rattle.ly_base.specs.declared.language.Language.TheVariants.{Lex}
-use Rattle.ly_lexread.specs.Words.{Word, semicolon, text_byte, name, literal, Front, IsNoTextByte}
+use Rattle.ly_base.specs.declared.language.Language.{Language}
+use Rattle.ly_lexread.specs.Words.{Word, mark, text_byte, name, literal, Front, IsNoTextByte}
 use Rattle.ly_lexread.specs.declared.words.NextWord.{NextWord}
-use Rattle.ly_lexread.specs.declared.words.NextWord.TheVariants.{End, Semicolon, TextByte, Name, Byte, Other}
+use Rattle.ly_lexread.specs.declared.words.NextWord.TheVariants.{End, Mark, TextByte, Name, Literal, Other}
+
+-- the word, which borrows nothing; where there is none, one that no text has
+abbrev pub word_of : NextWord → Word
+word_of (Mark b) = mark b
+word_of TextByte = text_byte
+word_of (Name n) = name n.now
+word_of (Literal b) = literal b
+word_of _ = mark 0
+
+-- there is a word
+abbrev pub IsFound : NextWord → Type 0
+IsFound End = ⊥
+IsFound Other = ⊥
+IsFound _ = Unit {0}
 
 -- what stands at the front of a text, and the rest behind it
-abbrev pub IsFront : List ℕ → NextWord → List ℕ → Type 0
-IsFront text End rest = Gap Lex text
-IsFront text Semicolon rest = Front text semicolon rest
-IsFront text TextByte rest = Front text text_byte rest
-IsFront text (Name n) rest = Front text (name n.now) rest
-IsFront text (Byte b) rest = Front text (literal b) rest
-IsFront text Other rest = (Gap Lex text → ⊥) × ((x : Word) (s : List ℕ) → Front text x s → ⊥)
+abbrev pub IsFront : Language → List ℕ → NextWord → List ℕ → Type 0
+IsFront l text End rest = Gap l text × (rest ≡ [])
+IsFront l text Other rest = (Gap l text → ⊥) × ((x : Word) (s : List ℕ) → Front l text x s → ⊥)
+IsFront l text w rest = Front l text (word_of w) rest
 
 -- the word that a name and what is behind it begin with
 abbrev pub IsNamedWord : Bor (List ℕ) → List ℕ → NextWord → List ℕ → Type 0

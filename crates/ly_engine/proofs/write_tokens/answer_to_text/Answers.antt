@@ -19,8 +19,7 @@ answer_by-requires g c =
     subst (λ (rs : List Rule). ArePositions (defined file.names) rs file.conditions c.in_ok-nfa.nfa)
     c.deref.ensures.value
     c.in_ok-nfa.ensures.positions in
-    let agrees = file_agrees c.requires.spelled.0 file file.conditions c.in_ok-nfa.nfa spelled spelled.one_condition
-    positions in
+    let agrees = file_agrees c.requires.spelled.0 file c.in_ok-nfa.nfa spelled positions in
     subst (λ (s : Scanner). Agrees (defined file.names) file.rules.items s)
     (sym (scanner_of (position_walk c.in_ok-nfa.nfa) (position_walk walk.nfa.now) (cut_in file.rules.items)
     (cut_in walk.rules.now) (ap (λ (n : Nfa). position_walk n) c.in_ok-walk.ensures.nfa)

@@ -18,7 +18,9 @@ same_lex lex.OutOfMemory fault e = absurd cc
 same_lex (lex.NoRulesMark line) fault e = cc
 same_lex (lex.BadDefinition line) fault e = cc
 same_lex (lex.UnknownCondition line) fault e = cc
+same_lex (lex.ConditionTwice line) fault e = cc
 same_lex (lex.BadAction line) fault e = cc
+same_lex (lex.BarAtEnd line) fault e = cc
 same_lex (lex.Pattern line inner) fault e = cc
 
 not_memory : (f fault : LexFault) → Lex fault ≡ fault_of_lex f → f ≡ lex.OutOfMemory → ⊥

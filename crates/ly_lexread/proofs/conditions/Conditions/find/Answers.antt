@@ -1,0 +1,16 @@
+use Rattle.std.proofs.Common.{◌≡◌, Option, ap, sym, ◌∙◌, ℕ}
+use Rattle.std.specs.Prelude.{position}
+use Rattle.std.specs.Str.{bytes_eq}
+use Rattle.ly_lexread.specs.Conditions.{condition_of}
+use Rattle.ly_lexread.proofs.ConditionLemmas.{number_zip}
+use Rattle.ly_lexread.proofs.conditions.Conditions.find.Goals as goal
+
+pub returns-in_err-place : goal.returns-in_err-place
+returns-in_err-place c = c.from_residual.ensures ∙ (c.in_err-place.ensures.index
+    ∙ (number_zip (λ k. k.items) c.args.name.now c.self.inside.names.keys c.self.inside.exclusive.items
+    c.self.invariant.0 ∙ ap (λ cs. condition_of cs c.args.name.now) c.self.view_is))
+
+pub returns : goal.returns
+returns c = c.in_ok-place.ensures.index
+    ∙ (number_zip (λ k. k.items) c.args.name.now c.self.inside.names.keys c.self.inside.exclusive.items
+    c.self.invariant.0 ∙ ap (λ cs. condition_of cs c.args.name.now) c.self.view_is)

@@ -1,0 +1,29 @@
+use Rattle.std.proofs.Common.{subst}
+use Rattle.std.proofs.lemmas.Result.{err_from_is_err_and}
+use Rattle.ly_lexread.specs.Private.Words.{word_of}
+use Rattle.ly_lexread.specs.Statements.{StandsFor}
+use Rattle.ly_lexread.proofs.StatementLemmas.{given_of, given_word, stands_found}
+use Rattle.ly_lexread.proofs.statement.read_value.Goals as goal
+
+pub returns-in_default-clause-these : goal.returns-in_default-clause-these
+returns-in_default-clause-these c = λ x rest m g h.
+    let e = given_word c.args.gaps c.args.text.now c.open-is_open.result.1.now c.next_word.result.1.now rest
+    c.open-is_open.result.0 c.next_word.result.0 x c.open-is_open.ensures.these c.next_word.ensures.front g in
+    c.in_default.ensures m (subst (λ i. StandsFor i m) e.0 h)
+
+pub returns-in_err-rest-clause-these : goal.returns-in_err-rest-clause-these
+returns-in_err-rest-clause-these c =
+    let p = err_from_is_err_and c.from_residual.result c.from_residual.ensures.1 in
+    rw p.1 (λ x rest m g h.
+    let e = given_word c.args.gaps c.args.text.now c.open-is_open.result.1.now c.next_word.result.1.now rest
+    c.open-is_open.result.0 c.next_word.result.0 x c.open-is_open.ensures.these c.next_word.ensures.front g in
+    c.in_err-rest.ensures.these rest e.1)
+
+pub returns-clause-these : goal.returns-clause-these
+returns-clause-these c = (
+  word_of c.next_word.result.0,
+  given_of c.args.gaps c.args.text.now c.open-is_open.result.1.now c.next_word.result.1.now c.in_ok-rest.rest.now
+      c.open-is_open.result.0 c.next_word.result.0 c.open-is_open.ensures.these c.next_word.ensures.front
+      (stands_found c.next_word.result.0 _ c.in-Some.ensures) c.in_ok-rest.ensures.these,
+  c.in-Some.ensures,
+)

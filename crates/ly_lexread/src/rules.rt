@@ -1,0 +1,152 @@
+ghost use Rattle.std.specs.Prelude.{◌≡◌, ◌≢◌, ◌∷◌, [], ◌≤◌, ◌<◌, ◌⊎◌, ℕ, List, length, map, IfErr, IfOk, IfSome, MatchBool, MatchOption};
+ghost use Rattle.ly_ere.specs.declared.fault.EreFault.TheVariants as ere;
+ghost use Rattle.ly_ere.specs.declared.pattern.Rule.{Rule};
+ghost use Rattle.ly_ere.specs.Names.{Definition};
+ghost use Rattle.ly_lexread.specs.Action.{Saying};
+ghost use Rattle.ly_lexread.specs.Conditions.{Condition};
+ghost use Rattle.ly_lexread.specs.Faults.{IsOfText, IsTooHeavy};
+ghost use Rattle.ly_lexread.specs.LexText.{IsReadAs};
+ghost use Rattle.ly_lexread.specs.Private.Rules.{AreSkipped, BeginsWithRule};
+ghost use Rattle.ly_lexread.specs.Private.Statements.{saying_of};
+ghost use Rattle.ly_lexread.specs.Rules.{AreLight, AreRulesOver, HasHeavyRule, IsHeavyRule, RuleBefore, Rules, Skips};
+ghost use Rattle.ly_lexread.specs.declared.fault.LexFault.TheVariants.{OutOfMemory};
+
+use crate::action::{Said, read_action};
+use crate::active::read_active;
+use crate::conditions::Conditions;
+use crate::fault::LexFault;
+use crate::kind::{LineKind, kind_of};
+use crate::rest::Rest;
+use crate::skipped::behind_block;
+use ly_base::Limits;
+use ly_ere::{EreFault, Names, Rule, read_front};
+use std::alloc::Global;
+
+/// What the rules say.
+#[derive(Drop)]
+pub(crate) struct Section {
+    /// The rules.
+    pub(crate) rules: Vec<Rule>,
+    /// What each says of its action.
+    pub(crate) said: Vec<Said>,
+    /// The line of the last rule.
+    pub(crate) last: u64,
+}
+
+/// Reads the rules, up to a mark or the end.
+pub(crate) fn read_rules(
+    alloc: Global,
+    text: Rest<'_>,
+    conditions: &Conditions,
+    names: &Names,
+    limits: &Limits,
+) -> Result<Section, LexFault>
+    ensures { IsReadAs (λ read. (read.rules.items, map saying_of read.said.items))
+        (λ (x : List Rule × List Saying). Rules conditions.now names.now text.entry.bytes.now x.0 x.1)
+        (λ x. AreLight limits.now.pattern_weight names.now x.0)
+        (HasHeavyRule limits.now.pattern_weight conditions.now names.now text.entry.bytes.now) result }
+{
+    let mut rules = Vec::new(alloc);
+    let mut said = Vec::new(alloc);
+    let mut last = text.line;
+    let mut left = skip_unused(text)?;
+    while begins_with_rule(left) {
+        let (rule, saying, behind) = read_rule(alloc, left, conditions, names, limits)?;
+        rules.push(rule)?;
+        said.push(saying)?;
+        last = left.line;
+        left = skip_unused(behind)?;
+    }
+    Ok(Section { rules, said, last })
+}
+
+/// What is left behind the lines and blocks at the front that aren't used.
+fn skip_unused(text: Rest<'_>) -> Result<Rest<'_>, LexFault>
+    ensures ok { IfOk result (λ left. AreSkipped text.entry.bytes.now left.bytes.now) }
+    ensures settled { IfOk result (λ left. AreRulesOver left.bytes.now ⊎ BeginsWithRule left.bytes.now) }
+    ensures within { IfOk result (λ left. length left.bytes.now ≤ length text.entry.bytes.now) }
+    ensures of_text { IfErr result IsOfText }
+    ensures light { IfErr result (λ fault. IsTooHeavy fault → ⊥) }
+    ensures refused { IfErr result (λ _. (cs : List Condition) (names : List Definition) (rules : List Rule)
+        (sayings : List Saying) → Rules cs names text.entry.bytes.now rules sayings → ⊥) }
+{
+    let mut left = text;
+    while let Some(behind) = behind_unused(left)? {
+        left = behind;
+    }
+    Ok(left)
+}
+
+/// What is left behind the line or the block at the front, where it isn't used.
+fn behind_unused(text: Rest<'_>) -> Result<Option<Rest<'_>>, LexFault>
+    ensures ok { IfOk result (λ found. MatchOption found
+        (AreRulesOver text.entry.bytes.now ⊎ BeginsWithRule text.entry.bytes.now)
+        (λ rest. Skips text.entry.bytes.now rest.bytes.now)) }
+    ensures shorter { IfOk result (λ found. IfSome found
+        (λ rest. length rest.bytes.now < length text.entry.bytes.now)) }
+    ensures of_text { IfErr result IsOfText }
+    ensures light { IfErr result (λ fault. IsTooHeavy fault → ⊥) }
+    ensures refused { IfErr result (λ _. (cs : List Condition) (names : List Definition) (rules : List Rule)
+        (sayings : List Saying) → Rules cs names text.entry.bytes.now rules sayings → ⊥) }
+{
+    let Some((line, behind)) = text.first_line() else {
+        return Ok(None);
+    };
+    match kind_of(line) {
+        LineKind::Unused => Ok(Some(behind)),
+        LineKind::Block => match behind_block(behind) {
+            Some(rest) => Ok(Some(rest)),
+            None => Err(LexFault::BadDefinition { line: text.line }),
+        },
+        _ => Ok(None),
+    }
+}
+
+/// Whether a rule stands at the front.
+fn begins_with_rule(text: Rest<'_>) -> bool
+    ensures { MatchBool result (BeginsWithRule text.entry.bytes.now) (BeginsWithRule text.entry.bytes.now → ⊥) }
+{
+    match text.first_line() {
+        Some((line, _behind)) => kind_of(line).begins_rule(),
+        None => false,
+    }
+}
+
+/// Reads the rule at the front: its conditions, its pattern, blanks, and its action, which may go over lines.
+fn read_rule<'t>(
+    alloc: Global,
+    text: Rest<'t>,
+    conditions: &Conditions,
+    names: &Names,
+    limits: &Limits,
+) -> Result<(Rule, Said, Rest<'t>), LexFault>
+    requires { BeginsWithRule text.bytes.now }
+    ensures { IsReadAs (λ read. (read.0, saying_of read.1, read.2.bytes.now))
+        (λ (x : Rule × Saying × List ℕ). RuleBefore conditions.now names.now text.entry.bytes.now x.0 x.1 x.2)
+        (λ x. AreLight limits.now.pattern_weight names.now (x.0 ∷ []))
+        (IsHeavyRule limits.now.pattern_weight conditions.now names.now text.entry.bytes.now) result }
+{
+    let line = text.line_bytes();
+    let Some((active, body)) = read_active(alloc, line, conditions)? else {
+        return Err(LexFault::UnknownCondition { line: text.line });
+    };
+    let (pattern, length) = match read_front(alloc, body, names, limits) {
+        Ok(front) => front,
+        Err(fault) => return Err(pattern_fault(text.line, fault)),
+    };
+    let on_line = body.len() - length;
+    let (_front, bytes) = text.bytes.split_at(line.len() - on_line);
+    let (said, behind) = read_action(alloc, Rest { bytes, ..text }, on_line, conditions)?;
+    Ok((Rule { pattern, active }, said, behind))
+}
+
+/// The fault of a file whose pattern on this line is refused.
+fn pattern_fault(line: u64, inner: EreFault) -> LexFault
+    ensures memory { inner ≡ ere.OutOfMemory → result ≡ OutOfMemory }
+    ensures other { inner ≢ ere.OutOfMemory → result ≡ LexFault.Pattern line inner }
+{
+    match inner {
+        EreFault::OutOfMemory => LexFault::OutOfMemory,
+        inner => LexFault::Pattern { line, inner },
+    }
+}

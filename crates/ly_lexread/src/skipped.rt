@@ -1,0 +1,51 @@
+ghost use Rattle.std.specs.Prelude.{◌≡◌, ◌<◌, ◌≤◌, ℕ, List, length, codes, drop, IfSome, MatchBool, MatchOption};
+ghost use Rattle.ly_lexread.specs.Definitions.{CommentEnds};
+ghost use Rattle.ly_lexread.specs.Lines.{BeginsWith, BlockEnds, LineOf};
+
+use crate::rest::{Rest, behind_newline, line_length};
+use ly_base::after_comment;
+
+/// What is left behind a block, by the lines behind the one that opens it; `None` where no line begins with `%}`.
+pub(crate) fn behind_block(inside: Rest<'_>) -> Option<Rest<'_>>
+    ensures these { MatchOption result ((rest : List ℕ) → BlockEnds inside.entry.bytes.now rest → ⊥)
+        (λ rest. BlockEnds inside.entry.bytes.now rest.bytes.now) }
+    ensures shorter { IfSome result (λ rest. length rest.bytes.now ≤ length inside.entry.bytes.now) }
+{
+    let mut left = inside;
+    while let Some((line, behind)) = left.first_line() {
+        if closes_block(line) {
+            return Some(behind);
+        }
+        left = behind;
+    }
+    None
+}
+
+/// Whether a line ends a block.
+fn closes_block(line: &[u8]) -> bool
+    ensures { MatchBool result (BeginsWith line.now (codes "%}")) (BeginsWith line.now (codes "%}") → ⊥) }
+{
+    line.starts_with(b"%}")
+}
+
+/// What is left behind the comment at the front and the rest of the line where it ends; `None` where it isn't closed.
+pub(crate) fn behind_comment(text: Rest<'_>) -> Option<Rest<'_>>
+    ensures these { MatchOption result ((rest : List ℕ) → CommentEnds text.entry.bytes.now rest → ⊥)
+        (λ rest. CommentEnds text.entry.bytes.now rest.bytes.now) }
+    ensures shorter { IfSome result (λ rest. length rest.bytes.now < length text.entry.bytes.now) }
+{
+    let inside = text.bytes.strip_prefix(b"/*")?;
+    let behind = after_comment(inside)?;
+    let bytes = behind_line(behind);
+    let line = text.line_before(bytes);
+    Some(Rest { bytes, line })
+}
+
+/// What stands behind the line at the front.
+fn behind_line(text: &[u8]) -> &[u8]
+    ensures these { (line end : List ℕ) × LineOf text.now line end × (result.now ≡ drop 1 end) }
+    ensures within { length result.now ≤ length text.now }
+{
+    let (_line, end) = text.split_at(line_length(text));
+    behind_newline(end)
+}
