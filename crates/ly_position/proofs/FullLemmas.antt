@@ -1,18 +1,22 @@
 -- Which positions there are where every set has a byte.
-use Rattle.std.proofs.Common.{◌≡◌, inl, inr, ℕ, zero, suc, ◌+◌, ◌<◌, ◌≤◌, List, [], ◌∷◌, ◌++◌, length, Some, None}
-use Rattle.std.proofs.Common.{refl, sym, ap, subst, ◌∙◌, arith, append_assoc}
-use Rattle.std.specs.Prelude.{slice_get}
-use Rattle.std.proofs.lemmas.Bool.{cases_lt}
+use Rattle.std.proofs.Common.{◌≡◌, inl, inr, ℕ, zero, suc, ◌+◌, ◌-◌, ◌<◌, ◌≤◌, List, [], ◌∷◌, ◌++◌, length, Option}
+use Rattle.std.proofs.Common.{Some, None, refl, sym, ap, subst, ◌∙◌, arith, append_assoc}
+use Rattle.std.specs.Prelude.{slice_get, IfSome}
+use Rattle.std.proofs.lemmas.Bool.{cases_eq, cases_lt, eq-eqb, le-leb, ne_eqb}
 use Rattle.ly_base.proofs.MemberLemmas.{Contains-first}
-use Rattle.ly_ere.specs.Expression.{Expression, set, plus}
+use Rattle.ly_ere.specs.Expression.{Expression, set, empty, concat, either, star, plus, optional, repeat, name}
+use Rattle.ly_ere.specs.Expression.{IsAtMost}
+use Rattle.ly_ere.specs.Lengths.{AreSound, IsSound}
 use Rattle.ly_ere.specs.declared.pattern.Rule.{Rule}
 use Rattle.ly_position.specs.Nfa.{Nfa}
 use Rattle.ly_position.specs.Written.{Plain, one_of, empty_string, in_turn, or, any_times, some_times, maybe, Member}
-use Rattle.ly_position.specs.Written.{pattern_written, with_tail, written}
+use Rattle.ly_position.specs.Written.{copies, named_up_to, pattern_written, times, up_to, with_tail, written}
+use Rattle.ly_position.specs.Written.{written_under}
 use Rattle.ly_position.specs.Numbered.{numbered, set_count, IsFull, IsPosition}
 use Rattle.ly_position.specs.Spots.{Spot, IsSpot, HasPositions}
-use Rattle.ly_position.specs.Laws.{AllArePositions, SomeHasTwoPositions}
+use Rattle.ly_position.specs.Laws.{AllArePositions, SomeHasTwoPositions, SoundHasAll}
 use Rattle.ly_position.proofs.CountLemmas.{pigeonhole}
+use Rattle.ly_position.proofs.LinkLemmas.{get_here}
 use Rattle.ly_position.proofs.NumberedLemmas.{path_range}
 use Rattle.ly_position.proofs.SpotLemmas.{same_spot}
 use Rattle.ly_position.proofs.SplitLemmas.{once_in}
@@ -127,3 +131,55 @@ module _ (names : List Expression) (r : Rule) (conditions : ℕ) (nfa : Nfa)
 
 pub some_has_two_positions : SomeHasTwoPositions
 some_has_two_positions names r conditions nfa head tail has = two names r conditions nfa head tail has
+
+-- copies of what is full are full
+copies_full : (m : ℕ) (r s : Plain) → IsFull r → IsFull s → IsFull (copies m r s)
+copies_full zero r s f g = g
+copies_full (suc m) r s f g = (f, copies_full m r s f g)
+
+up_to_full : (n : ℕ) (r : Plain) → IsFull r → IsFull (up_to n r)
+up_to_full zero r f = tt
+up_to_full (suc n) r f = (f, up_to_full n r f)
+
+times_full : (m : ℕ) (n : Option ℕ) (r : Plain) → IsAtMost m n → IsFull r → IsFull (times m n r)
+times_full zero None r l f = f
+times_full (suc m) None r l f = copies_full m r (some_times r) f f
+times_full m (Some n) r l f = rw (le-leb m n l) (copies_full m r (up_to (n - m) r) f (up_to_full (n - m) r f))
+
+-- a sound expression written out is full
+module _ (P : ℕ → Plain) (n : ℕ) (named : (x : ℕ) → x < n → IsFull (P x)) where
+  full_under : (e : Expression) → IsSound n e → IsFull (written_under P e)
+  full_under (set bytes) h = h
+  full_under empty h = tt
+  full_under (concat r s) h = (full_under r h.0, full_under s h.1)
+  full_under (either r s) h = (full_under r h.0, full_under s h.1)
+  full_under (star r) h = full_under r h
+  full_under (plus r) h = full_under r h
+  full_under (optional r) h = full_under r h
+  full_under (repeat k m r) h = times_full k m (written_under P r) h.0 (full_under r h.1)
+  full_under (name x) h = named x h
+
+named_full : (names : List Expression) → AreSound names → (n x : ℕ) → n ≤ length names → x < n
+    → IsFull (named_up_to names n x)
+named_full names sound zero x l m = absurd (omega (arith, m))
+named_full names sound (suc n) x l m = elim (cases_eq x n) [
+  | inl same ↦
+      let d = get_here names n (omega arith) in
+      rw (eq-eqb x n same, d.1) (full_under (named_up_to names n) n
+      (λ y less. named_full names sound n y (omega arith) less) d.0 (sound n d.0 d.1))
+  | inr other ↦ rw (ne_eqb x n other) (named_full names sound n x (omega arith) (omega arith))
+]
+
+written_full : (names : List Expression) (e : Expression) → AreSound names → IsSound (length names) e
+    → IsFull (written names e)
+written_full names e sound h = full_under (named_up_to names (length names)) (length names)
+    (λ x l. named_full names sound (length names) x (omega arith) l) e h
+
+tail_full : (names : List Expression) (head : Plain) (tail : Option Expression) → AreSound names → IsFull head
+    → IfSome tail (IsSound (length names)) → IsFull (with_tail names head tail)
+tail_full names head None sound f h = f
+tail_full names head (Some t) sound f h = (f, written_full names t sound h)
+
+pub sound_has_all : SoundHasAll
+sound_has_all names p k sound head tail = all_are_positions (pattern_written names p) k
+    (tail_full names (written names p.head) p.tail sound (written_full names p.head sound head) tail)

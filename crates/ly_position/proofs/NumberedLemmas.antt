@@ -236,8 +236,7 @@ module _ (S : ℕ → List ℕ) where
   joined_bytes r base f zero ks j = ([], subst (λ z. Along z []) (sym j) tt)
   joined_bytes r base f (suc k) ks j =
       let a = f j.0 j.3 in
-      let b = joined_bytes r base f k j.1 j.4 in
-      (
+      let b = joined_bytes r base f k j.1 j.4 in (
         a.0 ++ b.0,
         subst (λ z. Along z (a.0 ++ b.0)) (sym j.2)
             (zip_both (λ k b. Contains (S k) b) j.0 j.1 a.0 b.0 a.1 b.1),
@@ -255,8 +254,7 @@ module _ (S : ℕ → List ℕ) where
   some_bytes empty_string base ks g h = ([], subst (λ z. Along z []) (sym h) tt)
   some_bytes (in_turn r s) base ks g h =
       let a = some_bytes r base h.0 g.0 h.3 in
-      let b = some_bytes s (base + set_count r) h.1 g.1 h.4 in
-      (
+      let b = some_bytes s (base + set_count r) h.1 g.1 h.4 in (
         a.0 ++ b.0,
         subst (λ z. Along z (a.0 ++ b.0)) (sym h.2)
             (zip_both (λ k b. Contains (S k) b) h.0 h.1 a.0 b.0 a.1 b.1),

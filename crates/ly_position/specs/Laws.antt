@@ -1,13 +1,15 @@
 -- What holds of expressions that are written out, of their paths, and of automata that have the positions of rules.
-use Rattle.std.specs.Prelude.{◌≡◌, ◌↔◌, ℕ, ◌<◌, ◌≤◌, List, [], ◌∷◌, ◌++◌, length, Bool, Contains, None}
+use Rattle.std.specs.Prelude.{◌≡◌, ◌↔◌, ℕ, ◌<◌, ◌≤◌, List, [], ◌∷◌, ◌++◌, length, Bool, Contains, None, IfSome}
 use Rattle.ly_ere.specs.Expression.{Expression, set, plus, Matches}
+use Rattle.ly_ere.specs.Lengths.{AreSound, IsSound}
 use Rattle.ly_ere.specs.Winner.{IsString}
+use Rattle.ly_ere.specs.declared.pattern.Pattern.{Pattern}
 use Rattle.ly_ere.specs.declared.pattern.Rule.{Rule}
 use Rattle.ly_position.specs.Nfa.{Nfa, ComesTo, RunsTo, starts_of}
 use Rattle.ly_position.specs.Numbered.{numbered, set_count, IsFull, IsPosition, IsReadAlong, Path}
 use Rattle.ly_position.specs.Patterns.{RunsFrom}
 use Rattle.ly_position.specs.Spots.{ArePositionsOf, HasPositions, IsNext, Spot}
-use Rattle.ly_position.specs.Written.{Plain, Member, written}
+use Rattle.ly_position.specs.Written.{Plain, Member, pattern_written, written}
 
 -- an expression written out has its strings
 abbrev pub WrittenMatches : Type 0
@@ -26,6 +28,13 @@ PathsChangeOver = (r : Plain) (k : ℕ) (us vs xs ys : List ℕ) → Path r (us 
 -- where every set has a byte, the positions are the numbers of all sets and of the end mark
 abbrev pub AllArePositions : Type 0
 AllArePositions = (r : Plain) (k : ℕ) → IsFull r → IsPosition r k ↔ (k ≤ set_count r)
+
+-- So it is with a pattern whose sets have bytes, whose names have definitions of this kind, and whose intervals end at
+-- or after their beginnings.
+abbrev pub SoundHasAll : Type 0
+SoundHasAll = (names : List Expression) (p : Pattern) (k : ℕ) → AreSound names → IsSound (length names) p.head
+    → IfSome p.tail (IsSound (length names))
+    → IsPosition (pattern_written names p) k ↔ (k ≤ set_count (pattern_written names p))
 
 -- A rule `a+` has two positions, one that reads and the end mark. So an automaton with a position more, as `aa*` has,
 -- doesn't have the positions of `a+`.

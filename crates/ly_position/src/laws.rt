@@ -1,6 +1,6 @@
 ghost use Rattle.ly_position.specs.Laws.{AllArePositions, PathsChangeOver, PositionsAreAsMany, PositionsComeNext};
 ghost use Rattle.ly_position.specs.Laws.{PositionsLive, PositionsSpell, ReadsAlong, SomeHasTwoPositions};
-ghost use Rattle.ly_position.specs.Laws.{WrittenMatches};
+ghost use Rattle.ly_position.specs.Laws.{SoundHasAll, WrittenMatches};
 
 /// An expression written out has its strings.
 pub fn written_matches()
@@ -20,6 +20,11 @@ pub fn paths_change_over()
 /// Where every set has a byte, the positions are the numbers of all sets and of the end mark.
 pub fn all_are_positions()
     ensures { AllArePositions }
+{}
+
+/// So it is with a sound pattern.
+pub fn sound_has_all()
+    ensures { SoundHasAll }
 {}
 
 /// A rule `a+` has two positions: it isn't `aa*`.

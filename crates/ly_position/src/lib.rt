@@ -28,7 +28,8 @@ pub use build::positions;
 pub use fault::PosFault;
 pub use laws::{
     all_are_positions, paths_change_over, positions_are_as_many, positions_come_next,
-    positions_live, positions_spell, reads_along, some_has_two_positions, written_matches,
+    positions_live, positions_spell, reads_along, some_has_two_positions, sound_has_all,
+    written_matches,
 };
 pub use nfa::{PosNfa, Position};
 pub use set::PositionSet;
