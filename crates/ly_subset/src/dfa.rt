@@ -77,7 +77,8 @@ impl Dfa {
 
     /// The start state of a condition, where a line begins or elsewhere, if it has one.
     pub fn start(&self, condition: u32, at_line_start: bool) -> Option<u32>
-        ensures { result ≡ start_of self.now condition at_line_start }
+        ensures state { result ≡ start_of self.now condition at_line_start }
+        ensures within { IfSome result (λ s. s < length self.now.rules) }
     {
         let place = 2 * condition as usize + usize::from(at_line_start);
         if place < self.starts {
@@ -100,7 +101,8 @@ impl Dfa {
     /// Where a byte leads from a state.
     pub fn step(&self, state: u32, byte: u8) -> Option<u32>
         requires { state < length self.now.rules }
-        ensures { result ≡ next_of self.now (Some state) byte }
+        ensures state { result ≡ next_of self.now (Some state) byte }
+        ensures within { IfSome result (λ s. s < length self.now.rules) }
     {
         self.next(state, usize::from(self.class(byte)))
     }
