@@ -15,7 +15,7 @@ use Rattle.ly_ere.specs.Grammar.{branch, byte_atom, counted, followed, group, in
 use Rattle.ly_ere.specs.Grammar.{name_atom, parted, piece, repeated, starred, string_atom, whole, with_bytes}
 use Rattle.ly_ere.specs.Lengths.{IsSound}
 use Rattle.ly_ere.specs.Names.{Definition, UsesBelow}
-use Rattle.ly_ere.specs.Patterns.{SpellsSides}
+use Rattle.ly_ere.specs.Patterns.{IsExpression, SpellsSides}
 use Rattle.ly_ere.specs.Private.Cuts.{AreSoundSides}
 use Rattle.ly_ere.proofs.NextElementLemmas.{some_but_newline}
 
@@ -128,6 +128,10 @@ module _ (names : List Definition) where
   -- the sides that a text spells are sound
   pub sides_sound : (text : List ℕ) (s : Sides) → SpellsSides names text s → AreSoundSides (length names) s
   sides_sound text s x = words_sound x.2 (elements_formed x.1)
+
+  -- and so is an expression
+  pub expression_sound : (text : List ℕ) (e : Expression) → IsExpression names text e → IsSound (length names) e
+  expression_sound text e x = alternation_sound x.2 (elements_formed x.1)
 
 -- what is sound uses names that have a definition
 pub sound_below : (n : ℕ) (e : Expression) → IsSound n e → UsesBelow n e

@@ -1,5 +1,7 @@
 -- Weights under a cap, and the weights of definitions.
-use Rattle.std.proofs.Common.{◌≡◌, ◌≢◌, ℕ, zero, suc, ◌+◌, ◌≤◌, ◌<◌, List, [], ◌∷◌, ◌++◌, Option, Some, None, refl, ap}
+use Rattle.std.proofs.Common.{◌≡◌, ◌≢◌, ℕ, zero, suc, ◌+◌, ◌≤◌, ◌<◌, ◌-◌, List, [], ◌∷◌, ◌++◌, Option, Some, None}
+use Rattle.std.proofs.Common.{refl, ap}
+use Rattle.std.proofs.Common.{drop, length-take, take, take-append-drop}
 use Rattle.std.proofs.Common.{sym, ◌∙◌, arith, length, length-append, get_or, Bool, true, false, rules, nat_eq}
 use Rattle.std.specs.Prelude.{min, if◌then◌else◌, MatchOption}
 use Rattle.std.proofs.Math.ListN.{get_or-append}
@@ -94,3 +96,42 @@ pub within_cap : (o : Option ℕ) (capped weight most : ℕ) → capped ≡ min 
     → MatchOption o (most < weight) (λ w. (w ≡ weight) × (w ≤ most))
 within_cap None capped weight most e h = omega arith
 within_cap (Some w) capped weight most e h = (omega (arith, h.0, h.1), h.1)
+
+-- the weight of the definition at a place, by those before it
+pub weight_at_place : (names : List Expression) (x : ℕ) → x < length names
+    → named_weight names (length names) x ≡ weight_of (take x names) (get_or names x empty)
+weight_at_place names x l = ap (λ n. named_weight names n x) (parted (length names) l)
+    ∙ (later (length names - suc x) ∙ (here (nat_eq x x) refl ∙ ap (λ (f : ℕ → ℕ). weight_under f
+    (get_or names x empty))
+    before))
+  where
+    parted : (n : ℕ) → x < n → n ≡ (n - suc x) + suc x
+    parted n l = omega (arith, l)
+
+    later : (k : ℕ) → named_weight names (k + suc x) x ≡ named_weight names (suc x) x
+    later zero = ap (λ n. named_weight names n x) (start x)
+      where
+        start : (x : ℕ) → zero + suc x ≡ suc x
+        start x = omega arith
+    later (suc k) = ap (λ n. named_weight names n x) (start k x) ∙ (other (nat_eq x (k + suc x)) refl ∙ later k)
+      where
+        start : (k x : ℕ) → suc k + suc x ≡ suc (k + suc x)
+        start k x = omega arith
+
+        other : (b : Bool) → nat_eq x (k + suc x) ≡ b
+            → named_weight names (suc (k + suc x)) x ≡ named_weight names (k + suc x) x
+        other true t = let same : x ≡ k + suc x = search (rules, nat_tests) in absurd (omega (arith, same))
+        other false f = rw f refl
+
+    here : (b : Bool) → nat_eq x x ≡ b
+        → named_weight names (suc x) x ≡ weight_under (named_weight names x) (get_or names x empty)
+    here true t = rw t refl
+    here false f = absurd (search (rules, nat_tests))
+
+    long : length (take x names) ≡ x
+    long = omega (arith, l, length-take x names)
+
+    before : named_weight names x ≡ named_weight (take x names) (length (take x names))
+    before i y = (ap (λ ns. named_weight ns x y) (sym (take-append-drop x names))
+        ∙ (named_same (take x names) (drop x names) x y (omega (arith, long))
+        ∙ ap (λ n. named_weight (take x names) n y) (sym long))) i

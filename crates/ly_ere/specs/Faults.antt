@@ -3,7 +3,8 @@ use Rattle.std.specs.Prelude.{ℕ, List, Option, Some, None, codes}
 use Rattle.ly_ere.specs.declared.fault.EreFault.{EreFault}
 use Rattle.ly_ere.specs.declared.fault.EreFault.TheVariants.{Empty, UnclosedQuote, UnclosedBracket, UnclosedGroup}
 use Rattle.ly_ere.specs.declared.fault.EreFault.TheVariants.{StrayOperator, BadRange, EmptySet, UnknownClass}
-use Rattle.ly_ere.specs.declared.fault.EreFault.TheVariants.{BadInterval, EscapeTooLarge, UnknownName, AnchorInside}
+use Rattle.ly_ere.specs.declared.fault.EreFault.TheVariants.{BadInterval, EscapeTooLarge, UnknownName, NameCycle}
+use Rattle.ly_ere.specs.declared.fault.EreFault.TheVariants.{AnchorInside}
 use Rattle.ly_ere.specs.declared.fault.EreFault.TheVariants.{TrailingTwice, TrailingBothVary, TrailingHeadEmpty}
 use Rattle.ly_ere.specs.declared.fault.EreFault.TheVariants.{TooHeavy}
 use Rattle.ly_ere.specs.declared.fault.EreFault.TheVariants.{OutOfMemory}
@@ -21,6 +22,7 @@ ere_number UnknownClass = Some 8
 ere_number BadInterval = Some 9
 ere_number EscapeTooLarge = Some 10
 ere_number UnknownName = Some 11
+ere_number NameCycle = Some 12
 ere_number AnchorInside = Some 13
 ere_number TrailingTwice = Some 14
 ere_number TrailingBothVary = Some 15
@@ -41,6 +43,7 @@ ere_name UnknownClass = codes "UnknownClass"
 ere_name BadInterval = codes "BadInterval"
 ere_name EscapeTooLarge = codes "EscapeTooLarge"
 ere_name UnknownName = codes "UnknownName"
+ere_name NameCycle = codes "NameCycle"
 ere_name AnchorInside = codes "AnchorInside"
 ere_name TrailingTwice = codes "TrailingTwice"
 ere_name TrailingBothVary = codes "TrailingBothVary"

@@ -1,4 +1,5 @@
 pub mod Arena
+pub mod Definitions
 pub mod Elements
 pub mod Expression
 pub mod ExpressionCode

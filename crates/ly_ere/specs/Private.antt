@@ -2,6 +2,7 @@
 -- on it.
 pub mod Brackets
 pub mod Cuts
+pub mod Definitions
 pub mod Elements
 pub mod Faults
 pub mod Front
@@ -9,3 +10,5 @@ pub mod Groups
 pub mod Lengths
 pub mod Levels
 pub mod Sides
+pub mod Turns
+pub mod Uses

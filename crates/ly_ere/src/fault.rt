@@ -44,6 +44,9 @@ pub enum EreFault {
     /// A name that isn't defined.
     #[error("a name that isn't defined")]
     UnknownName,
+    /// A definition that leads into a cycle of names.
+    #[error("a cycle of names")]
+    NameCycle,
     /// `^` that isn't at the start, or `$` that isn't at the end.
     #[error("an anchor inside the pattern")]
     AnchorInside,
@@ -83,6 +86,7 @@ impl EreFault {
             EreFault::BadInterval => Some(9),
             EreFault::EscapeTooLarge => Some(10),
             EreFault::UnknownName => Some(11),
+            EreFault::NameCycle => Some(12),
             EreFault::AnchorInside => Some(13),
             EreFault::TrailingTwice => Some(14),
             EreFault::TrailingBothVary => Some(15),
@@ -108,6 +112,7 @@ impl EreFault {
             EreFault::BadInterval => "BadInterval",
             EreFault::EscapeTooLarge => "EscapeTooLarge",
             EreFault::UnknownName => "UnknownName",
+            EreFault::NameCycle => "NameCycle",
             EreFault::AnchorInside => "AnchorInside",
             EreFault::TrailingTwice => "TrailingTwice",
             EreFault::TrailingBothVary => "TrailingBothVary",

@@ -1,3 +1,4 @@
+ghost use Rattle.ly_ere.specs.Definitions.{NamesAreOne};
 ghost use Rattle.ly_ere.specs.Names.{NameIsDefinition};
 ghost use Rattle.ly_ere.specs.Laws.{CutIsTrue, ExpressionHasString, FrontPatternIsOne, PatternIsOne, PhraseIsOne};
 ghost use Rattle.ly_ere.specs.Laws.{WinnerIsOne, SplitIsOne};
@@ -15,6 +16,11 @@ pub fn split_is_one()
 /// A name stands for its definition.
 pub fn name_is_definition()
     ensures { NameIsDefinition }
+{}
+
+/// Texts of definitions are at most one list of definitions.
+pub fn names_are_one()
+    ensures { NamesAreOne }
 {}
 
 /// Elements are at most one expression.

@@ -10,7 +10,7 @@ use crate::re::Re;
 use crate::weight::weigh;
 use indexmap::IndexSet;
 use ly_base::Limits;
-use std::alloc::Global;
+use std::alloc::{AllocError, Global};
 use std::marker::Model;
 
 /// The definitions of a lex file, in an order in which each uses earlier ones only: names with their expressions.
@@ -77,7 +77,7 @@ impl Names {
     /// The definitions with one more, which uses earlier ones only, of a name that has none. One whose weight is above
     /// the limit is refused.
     pub(crate) fn with_definition(
-        mut self,
+        self,
         alloc: Global,
         name: &[u8],
         definition: Re,
@@ -91,10 +91,26 @@ impl Names {
         ensures heavy { IfErr result (λ fault. fault ≡ ere.TooHeavy
             → limits.now.pattern_weight < weight_of (defined self) definition) }
     {
-        let lengths = lengths_of(alloc, &definition, &self)?;
         let Some(weight) = weigh(alloc, &definition, &self, limits.pattern_weight())? else {
             return Err(EreFault::TooHeavy);
         };
+        Ok(self.with_weighed(alloc, name, definition, weight)?)
+    }
+
+    /// The definitions with one more, whose weight is known.
+    pub(crate) fn with_weighed(
+        mut self,
+        alloc: Global,
+        name: &[u8],
+        definition: Re,
+        weight: u32,
+    ) -> Result<Names, AllocError>
+        requires sound { IsSound (length self) definition }
+        requires new { number_of self name.now ≡ None }
+        requires weighed { weight ≡ weight_of (defined self) definition }
+        ensures { IfOk result (λ names. names ≡ self ++ (name.now, definition) ∷ []) }
+    {
+        let lengths = lengths_of(alloc, &definition, &self)?;
         self.names.insert(Vec::from_slice(alloc, name)?)?;
         self.definitions.push(definition)?;
         self.weights.push(weight)?;

@@ -1,8 +1,10 @@
-ghost use Rattle.std.specs.Prelude.{◌≡◌, ◌<◌, length, slice_index_or};
-ghost use Rattle.ly_ere.specs.Expression.{empty};
+ghost use Rattle.std.specs.Prelude.{◌≡◌, ◌<◌, ◌∷◌, [], length, slice_index_or, IfOk};
+ghost use Rattle.ly_ere.specs.Expression.{empty, set};
 
 use crate::arena::Arena;
 use crate::node::Node;
+use ly_base::ByteSet;
+use std::alloc::{AllocError, Global};
 use std::marker::Model;
 
 /// An expression, kept as a list of nodes whose parts have smaller numbers, and seen as the
@@ -38,6 +40,15 @@ impl Re {
         ensures { result ≡ slice_index_or arena root empty }
     {
         Re { arena, root }
+    }
+
+    /// The expression of one byte.
+    pub(crate) fn of_byte(alloc: Global, byte: u8) -> Result<Re, AllocError>
+        ensures { IfOk result (λ re. re ≡ set (byte ∷ [])) }
+    {
+        let mut arena = Arena::new(alloc);
+        let root = arena.push(Node::Set(ByteSet::of(byte)))?;
+        Ok(Re::of(arena, root))
     }
 
     /// The nodes, whose parts come before them, and the number of the whole expression's node.

@@ -1,20 +1,17 @@
-ghost use Rattle.std.specs.Prelude.{◌≡◌, ◌≢◌, ◌∷◌, [], ℕ, List, Option, length, ◌≤◌, IfOk, IfErr};
-ghost use Rattle.ly_ere.specs.Expression.{Expression, set};
+ghost use Rattle.std.specs.Prelude.{◌≢◌, ℕ, Option, length, ◌≤◌, IfOk, IfErr};
+ghost use Rattle.ly_ere.specs.Expression.{Expression};
 ghost use Rattle.ly_ere.specs.Grammar.{Sides};
 ghost use Rattle.ly_ere.specs.Patterns.{HasFrontSides};
 ghost use Rattle.ly_ere.specs.Private.Front.{CanEnd, IsFrontExpression, IsFrontTail, IsFrontTailed};
 ghost use Rattle.ly_ere.specs.Private.Sides.{sides_read};
 ghost use Rattle.ly_ere.specs.declared.fault.ReadFault.TheVariants.{OutOfMemory};
 
-use crate::arena::Arena;
 use crate::fault::{ReadFault, SyntaxFault};
 use crate::front::behind_byte;
 use crate::names::Names;
-use crate::node::Node;
 use crate::re::Re;
 use crate::read::{is_behind, read_expression};
-use ly_base::ByteSet;
-use std::alloc::{AllocError, Global};
+use std::alloc::Global;
 
 /// A pattern but for its cut.
 #[derive(Drop)]
@@ -98,7 +95,7 @@ fn read_tail(alloc: Global, line: &[u8], names: &Names) -> Result<(Option<Re>, u
     if !is_behind(&line[1..]) {
         return Err(ReadFault::Syntax(SyntaxFault::AnchorInside));
     }
-    Ok((Some(newline(alloc)?), 1))
+    Ok((Some(Re::of_byte(alloc, b'\n')?), 1))
 }
 
 /// What a `/` or `$` behind a tail is refused for: a `$` that isn't at the end is an anchor inside.
@@ -107,13 +104,4 @@ fn second_fault(rest: &[u8]) -> SyntaxFault {
         Some(behind) if !is_behind(behind) => SyntaxFault::AnchorInside,
         _ => SyntaxFault::TrailingTwice,
     }
-}
-
-/// The expression of a newline.
-fn newline(alloc: Global) -> Result<Re, AllocError>
-    ensures { IfOk result (λ re. re ≡ set (10 ∷ [])) }
-{
-    let mut arena = Arena::new(alloc);
-    let root = arena.push(Node::Set(ByteSet::of(b'\n')))?;
-    Ok(Re::of(arena, root))
 }

@@ -1,1 +1,10 @@
+pub mod CountLemmas
+pub mod GivenLemmas
 pub mod GrammarLemmas
+pub mod JoinLemmas
+pub mod LawLemmas
+pub mod ListLemmas
+pub mod NonterminalLemmas
+pub mod NumberingLemmas
+pub mod RuleLemmas
+pub mod TableLemmas

@@ -1,2 +1,13 @@
+pub mod Counts
+pub mod FaultNames
+pub mod Faults
 pub mod Grammar
 pub mod GrammarCode
+pub mod Joined
+pub mod Laws
+pub mod Numbering
+pub mod Precedences
+pub mod Private
+pub mod Scanning
+pub mod Sizes
+pub mod Terminals

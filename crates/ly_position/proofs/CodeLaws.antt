@@ -5,25 +5,7 @@ use Rattle.std.specs.Prelude.{slice_get, Contains}
 use Rattle.ly_ere.specs.Expression.{Expression, set, empty, concat, either, star, plus, optional, repeat, name}
 use Rattle.ly_ere.specs.Expression.{MatchesUnder, Joined}
 use Rattle.ly_position.specs.Private.Program.{Step, reads, fork, ends, Runs, at_end, by_read, by_first, by_second, size}
-use Rattle.ly_position.specs.Private.Program.{entry}
-use Rattle.ly_position.specs.Private.Program.{IsPlainExpression}
-
--- the program has the code of the expression at base
-abbrev pub HasCode : List Step → Expression → ℕ → ℕ → Type 0
-HasCode g (set bytes) base next = slice_get g base ≡ Some (reads bytes next)
-HasCode g empty base next = Unit {0}
-HasCode g (concat r s) base next = HasCode g s base next × HasCode g r (base + size s) (entry base (size s) next)
-HasCode g (either r s) base next = HasCode g r base next × HasCode g s (base + size r) next
-    × (slice_get g (base + size r + size s)
-    ≡ Some (fork (entry base (size r) next) (entry (base + size r) (size s) next)))
-HasCode g (star r) base next = HasCode g r base (base + size r)
-    × (slice_get g (base + size r) ≡ Some (fork (entry base (size r) (base + size r)) next))
-HasCode g (plus r) base next = (slice_get g base ≡ Some (fork (entry (base + 1) (size r) base) next))
-    × HasCode g r (base + 1) base
-HasCode g (optional r) base next = HasCode g r base next
-    × (slice_get g (base + size r) ≡ Some (fork (entry base (size r) next) next))
-HasCode g (repeat m n r) base next = Unit {0}
-HasCode g (name x) base next = Unit {0}
+use Rattle.ly_position.specs.Private.Program.{entry, HasCode, IsPlainExpression}
 
 -- where code begins
 entry_some : (base n next : ℕ) → 0 < n → entry base n next ≡ base + (n - 1)
@@ -44,6 +26,10 @@ entry_plus base (suc n) = omega arith
 pub entry_below : (base n next m : ℕ) → base + n ≤ m → next < m → entry base n next < m
 entry_below base zero next m l h = h
 entry_below base (suc n) next m l h = omega arith
+
+pub entry_from : (base n next lo : ℕ) → lo ≤ base → lo ≤ next → lo ≤ entry base n next
+entry_from base zero next lo l h = h
+entry_from base (suc n) next lo l h = omega arith
 
 module _ (g : List Step) (i : ℕ) where
   -- a run that begins at a fork goes on at one of its sides

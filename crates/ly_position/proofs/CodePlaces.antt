@@ -7,9 +7,10 @@ use Rattle.ly_base.proofs.MemberLemmas.{Contains-first}
 use Rattle.ly_ere.specs.Expression.{Expression, set, empty, concat, either, star, plus, optional, repeat, name}
 use Rattle.ly_position.specs.Private.Program.{Step, reads, fork, ends, Runs, at_end, by_read, by_first, by_second, size}
 use Rattle.ly_position.specs.Private.Program.{entry}
-use Rattle.ly_position.specs.Private.Program.{code, IsPlainExpression}
-use Rattle.ly_position.specs.Private.Reach.{LeadsBelow}
-use Rattle.ly_position.proofs.CodeLaws.{HasCode, CanRun, entry_below, first_side, second_side}
+use Rattle.ly_position.specs.Private.Program.{code, HasCode, IsPlainExpression}
+use Rattle.ly_position.specs.Private.Reach.{LeadsBelow, LeadsFrom}
+use Rattle.ly_position.proofs.CodeLaws.{CanRun, entry_below, entry_from, entry_last, entry_both, entry_plus, first_side}
+use Rattle.ly_position.proofs.CodeLaws.{second_side}
 
 pub get-append : {A : Type 0} (xs ys : List A) (p : ℕ) (x : A) → slice_get xs p ≡ Some x
     → slice_get (xs ++ ys) p ≡ Some x
@@ -196,70 +197,75 @@ IsMove (reads bytes q) = Unit {0}
 IsMove (fork a b) = Unit {0}
 IsMove (ends i) = ⊥
 
--- a step that is there, is no end and leads to steps below n
-abbrev pub Stands : List Step → ℕ → ℕ → Type 0
-Stands g n p = (s : Step) × (slice_get g p ≡ Some s) × LeadsBelow n s × IsMove s
+-- a step that is there, is no end and leads to steps below n and not before lo
+abbrev pub Stands : List Step → ℕ → ℕ → ℕ → Type 0
+Stands g lo n p = (s : Step) × (slice_get g p ≡ Some s) × LeadsBelow n s × LeadsFrom lo s × IsMove s
 
--- each step of code is there and leads to steps below n
-pub stands : (g : List Step) (e : Expression) (base next n p : ℕ) → HasCode g e base next → base + size e ≤ n → next < n
-    → base ≤ p → p < base + size e → Stands g n p
-stands g (set bytes) base next n p h le less l m = let same : p ≡ base = omega arith
-    in rw same (reads bytes next, h, less, tt)
-stands g empty base next n p h le less l m = absurd (omega arith)
-stands g (concat r s) base next n p h le less l m = elim (cases_lt p (base + size s)) [
-  | inl a ↦ stands g s base next n p h.0 (omega arith) less l a
-  | inr b ↦ stands g r (base + size s) (entry base (size s) next) n p h.1 (omega arith)
-      (entry_below base (size s) next n (omega arith) less) b (omega arith)
+-- each step of code is there and leads to steps between these
+pub stands : (g : List Step) (e : Expression) (base next lo n p : ℕ) → HasCode g e base next → lo ≤ base → lo ≤ next
+    → base + size e ≤ n → next < n → base ≤ p → p < base + size e → Stands g lo n p
+stands g (set bytes) base next lo n p h from on le less l m = let same : p ≡ base = omega arith
+    in rw same (reads bytes next, h, less, on, tt)
+stands g empty base next lo n p h from on le less l m = absurd (omega arith)
+stands g (concat r s) base next lo n p h from on le less l m = elim (cases_lt p (base + size s)) [
+  | inl a ↦ stands g s base next lo n p h.0 from on (omega arith) less l a
+  | inr b ↦ stands g r (base + size s) (entry base (size s) next) lo n p h.1 (omega arith)
+      (entry_from base (size s) next lo from on) (omega arith) (entry_below base (size s) next n (omega arith) less) b
+      (omega arith)
 ]
-stands g (either r s) base next n p h le less l m = elim (cases_lt p (base + size r)) [
-  | inl a ↦ stands g r base next n p h.0 (omega arith) less l a
+stands g (either r s) base next lo n p h from on le less l m = elim (cases_lt p (base + size r)) [
+  | inl a ↦ stands g r base next lo n p h.0 from on (omega arith) less l a
   | inr b ↦ elim (cases_lt p (base + size r + size s)) [
-    | inl c ↦ stands g s (base + size r) next n p h.1 (omega arith) less b c
+    | inl c ↦ stands g s (base + size r) next lo n p h.1 (omega arith) on (omega arith) less b c
     | inr d ↦ let same : p ≡ base + size r + size s = omega arith in
         rw same (
           fork (entry base (size r) next) (entry (base + size r) (size s) next),
           h.2,
           (
             entry_below base (size r) next n (omega arith) less,
-            entry_below (base + size r) (size s) next n
-                (omega arith) less,
+            entry_below (base + size r) (size s) next n (omega arith) less,
           ),
+          (entry_from base (size r) next lo from on, entry_from (base + size r) (size s) next lo (omega arith) on),
           tt,
         )
   ]
 ]
-stands g (star r) base next n p h le less l m = elim (cases_lt p (base + size r)) [
-  | inl a ↦ stands g r base (base + size r) n p h.0 (omega arith) (omega arith) l a
+stands g (star r) base next lo n p h from on le less l m = elim (cases_lt p (base + size r)) [
+  | inl a ↦ stands g r base (base + size r) lo n p h.0 from (omega arith) (omega arith) (omega arith) l a
   | inr b ↦ let same : p ≡ base + size r = omega arith in
       rw same (
         fork (entry base (size r) (base + size r)) next,
         h.1,
         (entry_below base (size r) (base + size r) n (omega arith) (omega arith), less),
+        (entry_from base (size r) (base + size r) lo from (omega arith), on),
         tt,
       )
 ]
-stands g (plus r) base next n p h le less l m = elim (cases_eq p base) [
+stands g (plus r) base next lo n p h from on le less l m = elim (cases_eq p base) [
   | inl same ↦
       rw same (
         fork (entry (base + 1) (size r) base) next,
         h.0,
         (entry_below (base + 1) (size r) base n (omega arith) (omega arith), less),
+        (entry_from (base + 1) (size r) base lo (omega arith) from, on),
         tt,
       )
-  | inr other ↦ stands g r (base + 1) base n p h.1 (omega arith) (omega arith) (omega arith) (omega arith)
+  | inr other ↦ stands g r (base + 1) base lo n p h.1 (omega arith) from (omega arith) (omega arith) (omega arith)
+      (omega arith)
 ]
-stands g (optional r) base next n p h le less l m = elim (cases_lt p (base + size r)) [
-  | inl a ↦ stands g r base next n p h.0 (omega arith) less l a
+stands g (optional r) base next lo n p h from on le less l m = elim (cases_lt p (base + size r)) [
+  | inl a ↦ stands g r base next lo n p h.0 from on (omega arith) less l a
   | inr b ↦ let same : p ≡ base + size r = omega arith in
       rw same (
         fork (entry base (size r) next) next,
         h.1,
         (entry_below base (size r) next n (omega arith) less, less),
+        (entry_from base (size r) next lo from on, on),
         tt,
       )
 ]
-stands g (repeat a b r) base next n p h le less l m = absurd (omega arith)
-stands g (name x) base next n p h le less l m = absurd (omega arith)
+stands g (repeat a b r) base next lo n p h from on le less l m = absurd (omega arith)
+stands g (name x) base next lo n p h from on le less l m = absurd (omega arith)
 
 module _ (g : List Step) (i : ℕ) where
   -- whatever runs from q, a string before it runs from p
@@ -279,7 +285,7 @@ module _ (g : List Step) (i : ℕ) where
   by_fork_second : (p a b : ℕ) → slice_get g p ≡ Some (fork a b) → StepsTo p b
   by_fork_second p a b h = ([], λ v r. second_side g i p a b v h r)
 
-  from_entry : (base n next : ℕ) → ((p : ℕ) → base ≤ p → p < base + n → StepsTo p next)
+  pub from_entry : (base n next : ℕ) → ((p : ℕ) → base ≤ p → p < base + n → StepsTo p next)
       → StepsTo (entry base n next) next
   from_entry base zero next f = there next
   from_entry base (suc n) next f = f (base + n) (omega arith) (omega arith)
@@ -330,3 +336,60 @@ module _ (g : List Step) (i : ℕ) where
   ]
   leads (repeat a b r) base next p plain h l m = absurd plain
   leads (name x) base next p plain h l m = absurd plain
+
+  -- and is reached from where the code begins
+  pub reaches : (e : Expression) (base next p : ℕ) → IsPlainExpression e → HasCode g e base next → base ≤ p
+      → p < base + size e → StepsTo (entry base (size e) next) p
+  reaches (set bytes) base next p plain h l m = let same : p ≡ base + 0 = omega arith
+      in subst (λ q. StepsTo q p) same (there p)
+  reaches empty base next p plain h l m = absurd (omega arith)
+  reaches (concat r s) base next p plain h l m =
+      subst (λ q. StepsTo q p) (sym (entry_both base (size r) (size s) next)) (elim (cases_lt p (base + size s)) [
+        | inl a ↦
+            then (entry (base + size s) (size r) (entry base (size s) next)) (entry base (size s) next) p
+            (from_entry (base + size s) (size r) (entry base (size s) next)
+            (λ q x y. leads r (base + size s) (entry base (size s) next) q plain.0 h.1 x y))
+            (reaches s base next p plain.1 h.0 l a)
+        | inr b ↦ reaches r (base + size s) (entry base (size s) next) p plain.0 h.1 b (omega arith)
+      ])
+  reaches (either r s) base next p plain h l m =
+      let f = base + size r + size s in
+      subst (λ q. StepsTo q p) (sym (entry_last base (size r + size s) next ∙ omega arith))
+      (elim (cases_lt p (base + size r)) [
+        | inl a ↦
+            then f (entry base (size r) next) p
+            (by_fork_first f (entry base (size r) next) (entry (base + size r) (size s) next) h.2)
+            (reaches r base next p plain.0 h.0 l a)
+        | inr b ↦ elim (cases_lt p f) [
+          | inl c ↦
+              then f (entry (base + size r) (size s) next) p
+              (by_fork_second f (entry base (size r) next) (entry (base + size r) (size s) next) h.2)
+              (reaches s (base + size r) next p plain.1 h.1 b c)
+          | inr d ↦ let same : p ≡ f = omega arith in subst (λ q. StepsTo q p) same (there p)
+        ]
+      ])
+  reaches (star r) base next p plain h l m =
+      let f = base + size r in
+      subst (λ q. StepsTo q p) (sym (entry_last base (size r) next)) (elim (cases_lt p f) [
+        | inl a ↦
+            then f (entry base (size r) f) p (by_fork_first f (entry base (size r) f) next h.1)
+            (reaches r base f p plain h.0 l a)
+        | inr b ↦ let same : p ≡ f = omega arith in subst (λ q. StepsTo q p) same (there p)
+      ])
+  reaches (plus r) base next p plain h l m =
+      subst (λ q. StepsTo q p) (entry_plus base (size r) ∙ sym (entry_last base (size r) next))
+      (elim (cases_eq base p) [
+        | inl same ↦ subst (λ q. StepsTo (entry (base + 1) (size r) base) q) same
+            (from_entry (base + 1) (size r) base (λ q x y. leads r (base + 1) base q plain h.1 x y))
+        | inr other ↦ reaches r (base + 1) base p plain h.1 (omega arith) (omega arith)
+      ])
+  reaches (optional r) base next p plain h l m =
+      let f = base + size r in
+      subst (λ q. StepsTo q p) (sym (entry_last base (size r) next)) (elim (cases_lt p f) [
+        | inl a ↦
+            then f (entry base (size r) next) p (by_fork_first f (entry base (size r) next) next h.1)
+            (reaches r base next p plain h.0 l a)
+        | inr b ↦ let same : p ≡ f = omega arith in subst (λ q. StepsTo q p) same (there p)
+      ])
+  reaches (repeat a b r) base next p plain h l m = absurd plain
+  reaches (name x) base next p plain h l m = absurd plain

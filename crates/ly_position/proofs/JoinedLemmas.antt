@@ -4,7 +4,17 @@ use Rattle.std.proofs.Common.{subst, ◌∙◌, arith, append_assoc, append-nil,
 use Rattle.std.specs.Prelude.{◌↔◌}
 use Rattle.ly_ere.specs.Expression.{Joined}
 use Rattle.ly_ere.proofs.NameLaws.{joined_map}
-use Rattle.ly_position.specs.Private.Plain.{InTurn, Same}
+
+-- a string of L and then one of M
+abbrev pub InTurn : (List ℕ → Type 0) → (List ℕ → Type 0) → List ℕ → Type 0
+InTurn L M w = (u : List ℕ) × (v : List ℕ) × (w ≡ u ++ v) × L u × M v
+
+-- sets with the same strings
+abbrev pub Same : (List ℕ → Type 0) → (List ℕ → Type 0) → Type 0
+Same L M = (w : List ℕ) → L w ↔ M w
+
+pub same_trans : (L M K : List ℕ → Type 0) → Same L M → Same M K → Same L K
+same_trans L M K f g w = (λ a. (g w).0 ((f w).0 a), λ c. (f w).1 ((g w).1 c))
 
 module _ (L : List ℕ → Type 0) where
   pub joined_one : (w : List ℕ) → L w → Joined L 1 w
@@ -204,6 +214,13 @@ or_same L M P Q f g w = (there, back)
 
 pub joined_same : (L M : List ℕ → Type 0) → Same L M → (k : ℕ) → Same (Joined L k) (Joined M k)
 joined_same L M f k w = (joined_map L M (λ v. (f v).0) k w, joined_map M L (λ v. (f v).1) k w)
+
+pub star_same : (L M : List ℕ → Type 0) → Same L M → Same (Star L) (Star M)
+star_same L M f w = (λ h. (h.0, (joined_same L M f h.0 w).0 h.1), λ h. (h.0, (joined_same L M f h.0 w).1 h.1))
+
+pub plus_same : (L M : List ℕ → Type 0) → Same L M → Same (Plus L) (Plus M)
+plus_same L M f w
+    = (λ h. (h.0, h.1, (joined_same L M f h.0 w).0 h.2), λ h. (h.0, h.1, (joined_same L M f h.0 w).1 h.2))
 
 -- at most n strings
 abbrev pub AtMost : (List ℕ → Type 0) → ℕ → List ℕ → Type 0

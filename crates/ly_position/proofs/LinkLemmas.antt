@@ -33,7 +33,7 @@ reached_wider g e roots p h (to_first r k) = to_first (reached_wider g e roots _
 reached_wider g e roots p h (to_second r k) = to_second (reached_wider g e roots _ h r) k
 
 -- and what is reached is reached from one of them
-reached_from_one : (g : List Step) (roots : List ℕ) (p : ℕ) → Reached g roots p
+pub reached_from_one : (g : List Step) (roots : List ℕ) (p : ℕ) → Reached g roots p
     → (e : ℕ) × Contains roots e × Reached g (e ∷ []) p
 reached_from_one g roots p (at_root k) = (p, k, at_root (Contains-first p []))
 reached_from_one g roots p (to_first {p = q} r e) = let s = reached_from_one g roots q r in (s.0, s.1, to_first s.2 e)

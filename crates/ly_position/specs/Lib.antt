@@ -1,8 +1,12 @@
 pub mod FaultNames
+pub mod Laws
 pub mod Lists
 pub mod Nfa
+pub mod Numbered
 pub mod Patterns
 pub mod Position
 pub mod Private
+pub mod Spots
 pub mod Target
 pub mod TotalWeight
+pub mod Written

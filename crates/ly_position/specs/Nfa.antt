@@ -55,6 +55,11 @@ abbrev pub RunsTo : Nfa → ℕ → ℕ → List ℕ → Type 0
 RunsTo nfa i p [] = IsEnd nfa p i
 RunsTo nfa i p (b ∷ w) = (q : ℕ) × Reads nfa p b × Follows nfa p q × RunsTo nfa i q w
 
+-- a run from position p reads w and comes to position q
+abbrev pub ComesTo : Nfa → ℕ → List ℕ → ℕ → Type 0
+ComesTo nfa p [] q = p ≡ q
+ComesTo nfa p (b ∷ w) q = (n : ℕ) × Reads nfa p b × Follows nfa p n × ComesTo nfa n w q
+
 -- the positions that may come first in a condition, where a line begins or elsewhere
 abbrev pub starts_of : Nfa → ℕ → Bool → List ℕ
 starts_of nfa condition line = slice_index_or nfa.starts (2 * condition + (if line then 1 else 0)) []

@@ -6,5 +6,6 @@ pub mod Plain
 pub mod Plan
 pub mod Program
 pub mod Reach
+pub mod Slim
 pub mod Starts
 pub mod Targets

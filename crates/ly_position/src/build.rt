@@ -13,6 +13,7 @@ ghost use Rattle.ly_position.specs.Private.Plain.{IsPlainPart};
 ghost use Rattle.ly_position.specs.Private.Program.{steps_of};
 ghost use Rattle.ly_position.specs.Private.Reach.{StaysInside};
 ghost use Rattle.ly_position.specs.Patterns.{ArePositions};
+ghost use Rattle.ly_position.specs.Spots.{HasPositions};
 ghost use Rattle.ly_position.specs.Private.Assembled.{Assembled};
 ghost use Rattle.ly_position.specs.TotalWeight.{total_weight};
 
@@ -38,6 +39,7 @@ pub fn positions(
     limits: &Limits,
 ) -> Result<PosNfa, PosFault>
     ensures positions { IfOk result (ArePositions (defined names.now) rules.now conditions) }
+    ensures spots { IfOk result (HasPositions (defined names.now) rules.now conditions) }
     ensures light { OnOk result (total_weight (defined names.now) rules.now ≤ limits.now.total_weight) }
     ensures heavy { IsErrOf result PosFault.TooManyPositions → limits.now.total_weight <
         total_weight (defined names.now) rules.now }

@@ -1,4 +1,4 @@
-ghost use Rattle.std.specs.Prelude.{◌≡◌, ◌≢◌, ℕ, ◌<◌, ◌≤◌, [], ◌∷◌, ◌++◌, ◌⊎◌, length, All, Contains, Some, IfOk, OnOk};
+ghost use Rattle.std.specs.Prelude.{◌≡◌, ◌≢◌, ◌<◌, [], ◌∷◌, ◌++◌, length, All, Some, IfOk, OnOk};
 
 use ly_base::ByteSet;
 use ly_ere::{Arena, Node};
@@ -35,10 +35,12 @@ impl Model for Plain {
 
 impl Plain {
     ghost use Rattle.ly_base.specs.ByteSet.{members};
-    ghost use Rattle.ly_ere.specs.Expression.{Joined, IsAtMost};
+    ghost use Rattle.ly_ere.specs.Expression.{empty};
     ghost use Rattle.ly_ere.specs.Arena.{expression_of, part_of, FitsAt};
     ghost use Rattle.ly_position.specs.Private.Program.{IsPlainExpression};
-    ghost use Rattle.ly_position.specs.Private.Plain.{IsPlainPart, IsPlainNode, InTurn, Makes, PartMatches};
+    ghost use Rattle.ly_position.specs.Private.Plain.{IsPlainPart, IsPlainNode, Makes, expression_at};
+    ghost use Rattle.ly_position.specs.Private.Slim.{slim_set, slim_concat, slim_either, slim_star, slim_plus};
+    ghost use Rattle.ly_position.specs.Private.Slim.{slim_optional, slim_times, slim_up_to, slim_copies};
 
     /// No expressions.
     pub fn new(alloc: Global) -> Self
@@ -80,15 +82,14 @@ impl Plain {
     /// One byte of a set that has one.
     pub fn set(&mut self, bytes: ByteSet) -> Result<PlainPart, AllocError>
         requires { members bytes ≢ [] }
-        ensures { IfOk result (λ p. Makes self.old self.new p (λ w. (b : ℕ)
-            × Contains (members bytes) b × (w ≡ b ∷ []))) }
+        ensures { IfOk result (λ p. Makes self.old self.new p (slim_set (members bytes))) }
     {
         self.push(Node::Set(bytes))
     }
 
     /// The empty string.
     pub fn empty(&mut self) -> Result<PlainPart, AllocError>
-        ensures { IfOk result (λ p. Makes self.old self.new p (λ w. w ≡ [])) }
+        ensures { IfOk result (λ p. Makes self.old self.new p (Some empty)) }
     {
         self.push(Node::Empty)
     }
@@ -98,7 +99,7 @@ impl Plain {
         requires first { IsPlainPart (length self.old) first }
         requires second { IsPlainPart (length self.old) second }
         ensures { IfOk result (λ p. Makes self.old self.new p
-            (InTurn (PartMatches self.old first) (PartMatches self.old second))) }
+            (slim_concat (expression_at self.old first) (expression_at self.old second))) }
     {
         let (Some(a), Some(b)) = (first, second) else {
             return Ok(None);
@@ -117,7 +118,7 @@ impl Plain {
         requires first { IsPlainPart (length self.old) first }
         requires second { IsPlainPart (length self.old) second }
         ensures { IfOk result (λ p. Makes self.old self.new p
-            (λ w. PartMatches self.old first w ⊎ PartMatches self.old second w)) }
+            (slim_either (expression_at self.old first) (expression_at self.old second))) }
     {
         match (first, second) {
             (None, _) => Ok(second),
@@ -129,8 +130,7 @@ impl Plain {
     /// The part any number of times.
     pub fn star(&mut self, part: PlainPart) -> Result<PlainPart, AllocError>
         requires { IsPlainPart (length self.old) part }
-        ensures { IfOk result (λ p. Makes self.old self.new p (λ w. (k : ℕ)
-            × Joined (PartMatches self.old part) k w)) }
+        ensures { IfOk result (λ p. Makes self.old self.new p (slim_star (expression_at self.old part))) }
     {
         let Some(a) = part else {
             return self.push(Node::Empty);
@@ -145,8 +145,7 @@ impl Plain {
     /// The part once or more.
     pub fn plus(&mut self, part: PlainPart) -> Result<PlainPart, AllocError>
         requires { IsPlainPart (length self.old) part }
-        ensures { IfOk result (λ p. Makes self.old self.new p (λ w. (k : ℕ) × (1 ≤ k)
-            × Joined (PartMatches self.old part) k w)) }
+        ensures { IfOk result (λ p. Makes self.old self.new p (slim_plus (expression_at self.old part))) }
     {
         let Some(a) = part else {
             return Ok(None);
@@ -161,8 +160,7 @@ impl Plain {
     /// The part or nothing.
     pub fn optional(&mut self, part: PlainPart) -> Result<PlainPart, AllocError>
         requires { IsPlainPart (length self.old) part }
-        ensures { IfOk result (λ p. Makes self.old self.new p (λ w. (w
-            ≡ []) ⊎ PartMatches self.old part w)) }
+        ensures { IfOk result (λ p. Makes self.old self.new p (slim_optional (expression_at self.old part))) }
     {
         let Some(a) = part else {
             return self.push(Node::Empty);
@@ -183,8 +181,8 @@ impl Plain {
         most: Option<u8>,
     ) -> Result<PlainPart, AllocError>
         requires { IsPlainPart (length self.old) part }
-        ensures { IfOk result (λ p. Makes self.old self.new p (λ w. (k : ℕ) × (least ≤ k)
-            × IsAtMost k most × Joined (PartMatches self.old part) k w)) }
+        ensures { IfOk result (λ p. Makes self.old self.new p
+            (slim_times least most (expression_at self.old part))) }
     {
         match most {
             Some(most) if most < least => Ok(None),
@@ -200,10 +198,10 @@ impl Plain {
         }
     }
 
+    /// As many copies of the part, each of which may be left out together with all after it.
     fn at_most(&mut self, part: PlainPart, count: u8) -> Result<PlainPart, AllocError>
         requires { IsPlainPart (length self.old) part }
-        ensures { IfOk result (λ p. Makes self.old self.new p (λ w. (k : ℕ) × (k ≤ count)
-            × Joined (PartMatches self.old part) k w)) }
+        ensures { IfOk result (λ p. Makes self.old self.new p (slim_up_to count (expression_at self.old part))) }
     {
         let mut rest = self.push(Node::Empty)?;
         for _ in 0..count {
@@ -213,6 +211,7 @@ impl Plain {
         Ok(rest)
     }
 
+    /// As many copies of the part, and then the last.
     fn copies(
         &mut self,
         part: PlainPart,
@@ -222,7 +221,7 @@ impl Plain {
         requires part { IsPlainPart (length self.old) part }
         requires last { IsPlainPart (length self.old) last }
         ensures { IfOk result (λ p. Makes self.old self.new p
-            (InTurn (Joined (PartMatches self.old part) count) (PartMatches self.old last))) }
+            (slim_copies count (expression_at self.old part) (expression_at self.old last))) }
     {
         let mut all = last;
         for _ in 0..count {

@@ -1,9 +1,10 @@
 ghost use Rattle.std.specs.Prelude.{◌≡◌, ℕ, ◌<◌, List, length, slice_index_or, All, IfOk, None};
-ghost use Rattle.ly_ere.specs.Expression.{MatchesUnder, NamedUpTo};
 ghost use Rattle.ly_ere.specs.Names.{defined};
 ghost use Rattle.ly_ere.specs.Arena.{FitsAt};
-ghost use Rattle.ly_position.specs.Private.Plain.{IsPlainPart, Makes, Same};
-ghost use Rattle.ly_position.specs.Private.Plan.{IsPlan, ListedMatches, NodeMatches, SpelledUnder};
+ghost use Rattle.ly_position.specs.Written.{named_up_to};
+ghost use Rattle.ly_position.specs.Private.Plain.{IsPlainPart, Makes, listed};
+ghost use Rattle.ly_position.specs.Private.Plan.{IsPlan};
+ghost use Rattle.ly_position.specs.Private.Slim.{slim, slim_node, slim_pattern, slim_under};
 
 use crate::plain::{Plain, PlainPart};
 use ly_ere::{Names, Node, Re, Rule};
@@ -35,8 +36,8 @@ pub fn write_out(alloc: Global, rules: &[Rule], names: &Names) -> Result<Plan, A
 /// The parts of the definitions.
 fn add_names(alloc: Global, plain: &mut Plain, names: &Names) -> Result<Vec<PlainPart>, AllocError>
     ensures within { IfOk result (λ ds. All (IsPlainPart (length plain.new)) ds.items) }
-    ensures spells { IfOk result (λ ds. (x : ℕ) → Same (ListedMatches plain.new ds.items x)
-        (NamedUpTo (defined names.now) (length (defined names.now)) x)) }
+    ensures each { IfOk result (λ ds. (x : ℕ) → listed plain.new ds.items x
+        ≡ slim (named_up_to (defined names.now) (length (defined names.now)) x)) }
 {
     let mut definitions: Vec<PlainPart> = Vec::new(alloc);
     for definition in names.definitions() {
@@ -54,8 +55,8 @@ fn add_rule(
     rule: &Rule,
 ) -> Result<PlainPart, AllocError>
     requires { All (IsPlainPart (length plain.old)) names.now }
-    ensures { IfOk result (λ p. Makes plain.old plain.new p (SpelledUnder
-        (ListedMatches plain.old names.now) rule.now.pattern)) }
+    ensures { IfOk result (λ p. Makes plain.old plain.new p
+        (slim_pattern (listed plain.old names.now) rule.now.pattern)) }
 {
     let head = add(alloc, plain, names, &rule.pattern.head)?;
     match &rule.pattern.tail {
@@ -75,8 +76,7 @@ fn add(
     re: &Re,
 ) -> Result<PlainPart, AllocError>
     requires { All (IsPlainPart (length plain.old)) names.now }
-    ensures { IfOk result (λ p. Makes plain.old plain.new p (MatchesUnder
-        (ListedMatches plain.old names.now) re.now)) }
+    ensures { IfOk result (λ p. Makes plain.old plain.new p (slim_under (listed plain.old names.now) re.now)) }
 {
     let (nodes, root) = re.nodes();
     let mut parts: Vec<PlainPart> = Vec::new(alloc);
@@ -97,8 +97,8 @@ fn add_node(
     requires names { All (IsPlainPart (length plain.old)) names.now }
     requires parts { All (IsPlainPart (length plain.old)) parts.now }
     requires fits { FitsAt (length parts.now) node }
-    ensures { IfOk result (λ p. Makes plain.old plain.new p (NodeMatches
-        (ListedMatches plain.old names.now) (ListedMatches plain.old parts.now) node)) }
+    ensures { IfOk result (λ p. Makes plain.old plain.new p
+        (slim_node (listed plain.old names.now) (listed plain.old parts.now) node)) }
 {
     match node {
         Node::Set(bytes) => plain.set(bytes),

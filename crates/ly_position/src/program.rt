@@ -1,7 +1,7 @@
 ghost use Rattle.std.specs.Prelude.{◌≡◌, ℕ, ◌+◌, ◌^◌, ◌<◌, ◌≤◌, List, ◌∷◌, ◌++◌, length, map, reverse, sum_by, All};
 ghost use Rattle.std.specs.Prelude.{IfOk, IfSome, OnOk};
 ghost use Rattle.ly_ere.specs.Arena.{part_of, FitsAt};
-ghost use Rattle.ly_position.specs.Private.Plain.{IsPlainPart};
+ghost use Rattle.ly_position.specs.Private.Plain.{IsPlainPart, listed};
 ghost use Rattle.ly_position.specs.Private.Program.{code, ends, entry, node_size, IsPlainExpression, size, steps_of};
 ghost use Rattle.ly_position.specs.Private.Compile.{IsProgram, TaskFits, planned, task_work, work};
 
@@ -54,8 +54,8 @@ struct Measured<'a> {
 /// Compiles a plan: for each rule its end, and before it, in the direction of reading, its code.
 pub fn compile(alloc: Global, plan: &Plan) -> Result<Program, AllocError>
     requires { All (IsPlainPart (length plan.now.plain)) plan.now.parts.items }
-    ensures { IfOk result (λ p. IsProgram plan.now.plain plan.now.parts.items
-        (steps_of p.instructions.items) p.entries.items) }
+    ensures { IfOk result (λ p. IsProgram (listed plan.now.plain plan.now.parts.items)
+        (length plan.now.parts.items) (steps_of p.instructions.items) p.entries.items) }
 {
     let sizes = sizes(alloc, &plan.plain)?;
     let source = Measured {

@@ -5,12 +5,12 @@ use Rattle.std.proofs.Common.{None, true, refl, sym, ap, subst, arith, inl, inr,
 use Rattle.std.specs.Prelude.{if◌then◌else◌, option_and_then, nat_lt}
 use Rattle.std.proofs.lemmas.Bool.{cases_lt}
 use Rattle.std.proofs.lemmas.Nat.{div-add-mod', div_below}
-use Rattle.ly_position.specs.Nfa.{Nfa, Reads, Follows, Stepped, IsEnd, RunsTo, starts_of}
+use Rattle.ly_position.specs.Nfa.{Nfa, ComesTo, Reads, Follows, Stepped, IsEnd, RunsTo, starts_of}
 use Rattle.ly_subset.specs.Automaton.{Automaton, IsAutomaton, IsBreadthFirst, IsReached, LeadsToRule, entry_at}
 use Rattle.ly_subset.specs.Automaton.{next_by_class}
 use Rattle.ly_subset.specs.Automaton.{next_of, rule_after, rule_of, start_of, start_place, state_after}
 use Rattle.ly_subset.specs.Laws.{NumberedAreReached, SubsetsAreTrim, WalksAgree}
-use Rattle.ly_subset.specs.Subsets.{AreSubsets, ComesTo, HasEnd, IsLeastRule, IsStateOf, set_at}
+use Rattle.ly_subset.specs.Subsets.{AreSubsets, HasEnd, IsLeastRule, IsStateOf, set_at}
 use Rattle.ly_subset.proofs.FoundLemmas.{state_same}
 use Rattle.ly_subset.proofs.RuleLemmas.{least_same}
 use Rattle.ly_subset.proofs.SubsetLemmas.{place_of, positive}
@@ -83,7 +83,7 @@ module _ (nfa : Nfa) (conditions : ℕ) (A : Automaton) (so : AreSubsets nfa con
       (λ r. (p : ℕ) × P p × Reads nfa p b × Follows nfa p r) (next_of A (Some s) b)
       (λ r. (λ x. (x.0, (h.1 x.0).0 x.1, x.2, x.3), λ x. (x.0, (h.1 x.0).1 x.1, x.2, x.3))) (so.nexts s b h.0)
 
-  follow : (P : ℕ → Type 0) (o : Option ℕ) (w : List ℕ) → IsStateOf so.sets o P
+  pub follow : (P : ℕ → Type 0) (o : Option ℕ) (w : List ℕ) → IsStateOf so.sets o P
       → IsStateOf so.sets (state_after A o w) (λ q. (p : ℕ) × P p × ComesTo nfa p w q)
   follow P o [] h = state_same so.sets P (λ q. (p : ℕ) × P p × (p ≡ q)) o
       (λ q. (λ x. (q, x, refl), λ x. subst P x.2 x.1)) h

@@ -3,6 +3,8 @@ pub mod DfaLemmas
 pub mod FoundLemmas
 pub mod KeyLemmas
 pub mod LawLemmas
+pub mod NumberingLemmas
 pub mod OrderLemmas
 pub mod RuleLemmas
+pub mod RuleSetLemmas
 pub mod SubsetLemmas

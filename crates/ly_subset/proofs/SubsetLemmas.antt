@@ -11,11 +11,11 @@ use Rattle.std.proofs.lemmas.List.Elements.{All-from_get_or}
 use Rattle.std.proofs.lemmas.Nat.{div-add-mod', div_below, mul-add-lt}
 use Rattle.std.proofs.lemmas.Option.{slice_get-get_or, slice_get_past, slice_get_within, get_or_from_slice_get}
 use Rattle.std.proofs.Math.Nat.{mul_comm}
-use Rattle.ly_position.specs.Nfa.{Nfa, Reads, Follows, Stepped, starts_of}
+use Rattle.ly_position.specs.Nfa.{Nfa, ComesTo, Reads, Follows, Stepped, starts_of}
 use Rattle.ly_subset.specs.Automaton.{AreInOrder, Automaton, IsAutomaton, entry_at, next_by_class, next_of, start_of}
 use Rattle.ly_subset.specs.Automaton.{start_place}
 use Rattle.ly_subset.specs.Classes.{AreClasses, class_at}
-use Rattle.ly_subset.specs.Subsets.{AreSubsets, Beginning, ComesTo, HasMoreSets, IsAfter, IsAlive, IsStateOf}
+use Rattle.ly_subset.specs.Subsets.{AreSubsets, Beginning, HasMoreSets, IsAfter, IsAlive, IsStateOf}
 use Rattle.ly_subset.specs.Subsets.{set_at}
 use Rattle.ly_subset.specs.Private.Classes.{AreLeast}
 use Rattle.ly_subset.specs.Private.Found.{AreFound, HaveRules, IsPast}
@@ -48,7 +48,7 @@ place_of k = elim (cases_eq (k % 2) 0) [
   | inr odd ↦ (k / 2, true, omega (arith, odd))
 ]
 
-place_below : (c : ℕ) (line : Bool) (conditions : ℕ) → start_place c line < 2 * conditions → c < conditions
+pub place_below : (c : ℕ) (line : Bool) (conditions : ℕ) → start_place c line < 2 * conditions → c < conditions
 place_below c true conditions l = omega (arith, l)
 place_below c false conditions l = omega (arith, l)
 

@@ -5,4 +5,5 @@ pub mod FaultNames
 pub mod Keys
 pub mod Laws
 pub mod Private
+pub mod RuleSets
 pub mod Subsets

@@ -1,7 +1,7 @@
 -- Sets of positions as the states of a deterministic automaton (Rabin and Scott 1959).
-use Rattle.std.specs.Prelude.{◌≡◌, ◌↔◌, ℕ, suc, ◌*◌, ◌<◌, ◌≤◌, List, [], ◌∷◌, length, slice_index_or, Bool, Option}
+use Rattle.std.specs.Prelude.{◌≡◌, ◌↔◌, ℕ, suc, ◌*◌, ◌<◌, ◌≤◌, List, [], length, slice_index_or, Bool, Option}
 use Rattle.std.specs.Prelude.{Some, None, Contains, All, AllPairs}
-use Rattle.ly_position.specs.Nfa.{Nfa, Reads, Follows, Stepped, IsEnd, starts_of}
+use Rattle.ly_position.specs.Nfa.{Nfa, ComesTo, Stepped, IsEnd, starts_of}
 use Rattle.ly_subset.specs.Automaton.{Automaton, IsBreadthFirst, start_of, next_of, rule_of}
 use Rattle.ly_subset.specs.Classes.{AreClasses}
 
@@ -45,11 +45,6 @@ pub record AreSubsets (nfa : Nfa) (conditions : ℕ) (A : Automaton) : Type 0 wh
       → IsStateOf sets (next_of A (Some s) b) (Stepped nfa (set_at sets s) b)
   pub rules : (s : ℕ) → s < length sets → IsLeastRule (HasEnd nfa (set_at sets s)) (rule_of A (Some s))
   pub breadth_first : IsBreadthFirst A
-
--- a run from position p reads w and comes to position q
-abbrev pub ComesTo : Nfa → ℕ → List ℕ → ℕ → Type 0
-ComesTo nfa p [] q = p ≡ q
-ComesTo nfa p (b ∷ w) q = (r : ℕ) × Reads nfa p b × Follows nfa p r × ComesTo nfa r w q
 
 -- A string that is read from the start of a condition, where a line begins or elsewhere.
 pub record Beginning : Type 0 where

@@ -1,11 +1,10 @@
 -- The program of rules, and what is left to do while it is made.
-use Rattle.std.specs.Prelude.{◌≡◌, ◌↔◌, ℕ, ◌+◌, ◌<◌, List, [], ◌∷◌, ◌++◌, length, slice_get, slice_index_or, All}
+use Rattle.std.specs.Prelude.{◌≡◌, ℕ, zero, suc, ◌+◌, ◌<◌, List, [], ◌∷◌, ◌++◌, length, slice_get, slice_index_or, All}
 use Rattle.std.specs.Prelude.{Option, Some, None}
 use Rattle.ly_ere.specs.Expression.{Expression, set, empty, concat, either, star, plus, optional, repeat, name}
 use Rattle.ly_ere.specs.Arena.{part_of}
 use Rattle.ly_position.specs.Private.Plain.{IsPlainPart}
-use Rattle.ly_position.specs.Private.Plan.{ListedMatches}
-use Rattle.ly_position.specs.Private.Program.{Step, ends, fork, Runs, size, code}
+use Rattle.ly_position.specs.Private.Program.{Step, ends, fork, size, entry, code, HasCode}
 use Rattle.ly_position.specs.Private.Reach.{StaysInside}
 use Rattle.ly_position.specs.declared.program.Task.{Task}
 use Rattle.ly_position.specs.declared.program.Task.TheVariants as task
@@ -47,19 +46,28 @@ abbrev pub task_work : List Expression → Task → ℕ
 task_work es (task.Code p next) = work (part_of es p)
 task_work es (task.Fork a b) = 1
 
--- some run from the step to an end of rule i reads w; none from no step
-abbrev pub EntryRuns : List Step → ℕ → Option ℕ → List ℕ → Type 0
-EntryRuns program i None w = ⊥
-EntryRuns program i (Some p) w = (n : ℕ) × Runs program i n p w
+-- how many steps a rule has: its end, and the code of its expression
+abbrev pub rule_size : Option Expression → ℕ
+rule_size None = 0
+rule_size (Some e) = size e + 1
 
--- The program of parts: from the entry of each it reads the strings of that part, to the end of that
--- part; and from each step it comes to an end.
-pub record IsProgram (es : List Expression) (parts : List (Option ℕ)) (program : List Step)
-    (entries : List (Option ℕ)) : Type 0 where
+-- where the steps of rule n begin
+abbrev pub base_of : (ℕ → Option Expression) → ℕ → ℕ
+base_of rule zero = 0
+base_of rule (suc n) = base_of rule n + rule_size (rule n)
+
+-- the end of rule k stands at base, its code behind it, and this is where it begins
+abbrev pub RuleStands : List Step → Option Expression → Option ℕ → ℕ → ℕ → Type 0
+RuleStands g None begin k base = begin ≡ None
+RuleStands g (Some e) begin k base = (slice_get g base ≡ Some (ends k)) × HasCode g e (base + 1) base
+    × (begin ≡ Some (entry (base + 1) (size e) base))
+
+-- The program of the expressions of n rules, one after another, and where each begins.
+pub record IsProgram (rule : ℕ → Option Expression) (n : ℕ) (program : List Step) (entries : List (Option ℕ))
+    : Type 0 where
   pub closed : StaysInside program
   pub within : All (IsPlainPart (length program)) entries
-  pub count : length entries ≡ length parts
-  pub spells : (i j : ℕ) (w : List ℕ) → EntryRuns program j (slice_index_or entries i None) w
-      ↔ ((j ≡ i) × ListedMatches es parts i w)
-  pub alive : (p : ℕ) → p < length program → (i : ℕ) × (w : List ℕ) × EntryRuns program i (Some p) w
-  pub known : (p i : ℕ) → slice_get program p ≡ Some (ends i) → i < length parts
+  pub count : length entries ≡ n
+  pub long : length program ≡ base_of rule n
+  pub standing : (k : ℕ) → k < n
+      → RuleStands program (rule k) (slice_index_or entries k None) k (base_of rule k)

@@ -65,6 +65,23 @@ code (optional r) base next = code r base next ++ fork (entry base (size r) next
 code (repeat m n r) base next = []
 code (name x) base next = []
 
+-- the program has the code of the expression at base
+abbrev pub HasCode : List Step → Expression → ℕ → ℕ → Type 0
+HasCode g (set bytes) base next = slice_get g base ≡ Some (reads bytes next)
+HasCode g empty base next = Unit {0}
+HasCode g (concat r s) base next = HasCode g s base next × HasCode g r (base + size s) (entry base (size s) next)
+HasCode g (either r s) base next = HasCode g r base next × HasCode g s (base + size r) next
+    × (slice_get g (base + size r + size s)
+    ≡ Some (fork (entry base (size r) next) (entry (base + size r) (size s) next)))
+HasCode g (star r) base next = HasCode g r base (base + size r)
+    × (slice_get g (base + size r) ≡ Some (fork (entry base (size r) (base + size r)) next))
+HasCode g (plus r) base next = (slice_get g base ≡ Some (fork (entry (base + 1) (size r) base) next))
+    × HasCode g r (base + 1) base
+HasCode g (optional r) base next = HasCode g r base next
+    × (slice_get g (base + size r) ≡ Some (fork (entry base (size r) next) next))
+HasCode g (repeat m n r) base next = Unit {0}
+HasCode g (name x) base next = Unit {0}
+
 -- no name, no interval, and every set has a member
 abbrev pub IsPlainExpression : Expression → Type 0
 IsPlainExpression (set bytes) = bytes ≢ []

@@ -1,5 +1,5 @@
 -- What a program reaches by forks alone.
-use Rattle.std.specs.Prelude.{◌≡◌, ℕ, ◌<◌, List, length, slice_get, Contains, Some}
+use Rattle.std.specs.Prelude.{◌≡◌, ℕ, ◌<◌, ◌≤◌, List, length, slice_get, Contains, Some}
 use Rattle.ly_position.specs.Private.Program.{Step, reads, fork, ends}
 
 -- a step leads to steps below n only
@@ -7,6 +7,12 @@ abbrev pub LeadsBelow : ℕ → Step → Type 0
 LeadsBelow n (reads bytes q) = q < n
 LeadsBelow n (fork a b) = (a < n) × (b < n)
 LeadsBelow n (ends i) = Unit {0}
+
+-- and to none before lo
+abbrev pub LeadsFrom : ℕ → Step → Type 0
+LeadsFrom lo (reads bytes q) = lo ≤ q
+LeadsFrom lo (fork a b) = (lo ≤ a) × (lo ≤ b)
+LeadsFrom lo (ends i) = Unit {0}
 
 -- each step leads to steps of the program
 abbrev pub StaysInside : List Step → Type 0

@@ -37,5 +37,5 @@ pub returns-clause-ok : goal.returns-clause-ok
 returns-clause-ok c =
     let line = c.args.line.now in
     let behind : IsBehind (drop 1 line) = rw whole_slice at c.if-not-is_behind-2.ensures in
-    rw (c.in_ok-newline.ensures, dollar_left line c.requires c.if-is_behind.ensures c.in_default.ensures)
+    rw (c.in_ok-of_byte.ensures, dollar_left line c.requires c.if-is_behind.ensures c.in_default.ensures)
     (newline (drop 1 line) behind)

@@ -1,9 +1,9 @@
 use Rattle.std.proofs.Common.{◌++◌, ◌∷◌, [], ℕ, List, Option, get_or, length-append, arith, subst}
 use Rattle.std.proofs.lemmas.List.{get_or_default}
 use Rattle.ly_ere.specs.declared.node.Node.TheVariants.{Set}
-use Rattle.ly_position.specs.Private.Plain.{Makes}
-use Rattle.ly_position.specs.Private.Plan.{ListedMatches, NodeMatches}
-use Rattle.ly_position.proofs.PlanLemmas.{more_grown, more_within, more_spells}
+use Rattle.ly_position.specs.Private.Plain.{Makes, listed}
+use Rattle.ly_position.specs.Private.Slim.{slim_node}
+use Rattle.ly_position.proofs.PlanLemmas.{more_grown, more_within, more_each}
 use Rattle.ly_position.proofs.plan.add.Goals as goal
 
 pub loop-node-preserved : goal.loop-node-preserved
@@ -18,18 +18,18 @@ loop-node-preserved c =
     let is = get_or_default nodes i (Set (record { words = [] })) n c.loop-node-test.true in
     let made =
     subst (λ (ps : List (Option ℕ)). Makes c.loop-node.plain c.add_node.new.plain p
-    (NodeMatches (ListedMatches c.loop-node.plain names) (ListedMatches c.loop-node.plain ps) n))
+    (slim_node (listed c.loop-node.plain names) (listed c.loop-node.plain ps) n))
     c.deref.ensures.value c.in_ok-part.ensures in
     rw c.in_ok-push.ensures.items (record {
       rest = before.rest ++ made.rest;
       grown = more_grown c.args.plain.now c.loop-node.plain c.add_node.new.plain before.rest names parts nodes i n p
-          before.grown c.requires before.count before.within before.spells c.nodes-root.ensures.ordered
+          before.grown c.requires before.count before.within before.each c.nodes-root.ensures.ordered
           c.loop-node-test.true is made;
       count = omega (arith, length-append parts (p ∷ []), before.count);
       within = more_within c.args.plain.now c.loop-node.plain c.add_node.new.plain before.rest names parts nodes i n p
-          before.grown c.requires before.count before.within before.spells c.nodes-root.ensures.ordered
+          before.grown c.requires before.count before.within before.each c.nodes-root.ensures.ordered
           c.loop-node-test.true is made;
-      spells = more_spells c.args.plain.now c.loop-node.plain c.add_node.new.plain before.rest names parts nodes i n p
-          before.grown c.requires before.count before.within before.spells c.nodes-root.ensures.ordered
+      each = more_each c.args.plain.now c.loop-node.plain c.add_node.new.plain before.rest names parts nodes i n p
+          before.grown c.requires before.count before.within before.each c.nodes-root.ensures.ordered
           c.loop-node-test.true is made;
     })

@@ -2,9 +2,9 @@ use Rattle.std.proofs.Common.{◌≡◌, ◌∷◌, [], ℕ, List, Option, Some,
 use Rattle.std.specs.Prelude.{slice_get}
 use Rattle.std.proofs.lemmas.Option.{slice_get_read}
 use Rattle.ly_ere.specs.Names.{defined}
-use Rattle.ly_ere.specs.Expression.{Expression, MatchesUnder}
-use Rattle.ly_position.specs.Private.Plain.{Makes}
-use Rattle.ly_position.specs.Private.Plan.{ListedMatches}
+use Rattle.ly_ere.specs.Expression.{Expression}
+use Rattle.ly_position.specs.Private.Plain.{Makes, listed}
+use Rattle.ly_position.specs.Private.Slim.{slim_under}
 use Rattle.ly_position.proofs.PlanLemmas.{names_more, names_more_within}
 use Rattle.ly_position.proofs.plan.add_names.Goals as goal
 
@@ -21,12 +21,12 @@ loop-definition-preserved c =
     refl c.loop-definition-test.true c.definition-item.is) in
     let made =
     subst (λ (ps : List (Option ℕ)). Makes c.loop-definition.plain c.add.new.plain p
-    (MatchesUnder (ListedMatches c.loop-definition.plain ps) d)) c.deref.ensures.value c.in_ok-part.ensures in
+    (slim_under (listed c.loop-definition.plain ps) d)) c.deref.ensures.value c.in_ok-part.ensures in
     rw c.in_ok-push.ensures.items (record {
       count = omega (arith, length-append ds (p ∷ []), before.count);
       within = names_more_within (defined c.args.names.now) i d is c.loop-definition.plain c.add.new.plain ds p
           before.within
-          before.count before.spells made;
-      spells = names_more (defined c.args.names.now) i d is c.loop-definition.plain c.add.new.plain ds p before.within
-          before.count before.spells made;
+          before.count before.each made;
+      each = names_more (defined c.args.names.now) i d is c.loop-definition.plain c.add.new.plain ds p before.within
+          before.count before.each made;
     })

@@ -3,8 +3,8 @@ use Rattle.std.proofs.Common.{le_antisymm, refl}
 use Rattle.std.specs.Prelude.{slice_get}
 use Rattle.std.proofs.lemmas.Option.{slice_get_read, slice_get_within}
 use Rattle.ly_ere.specs.Names.{defined}
-use Rattle.ly_position.specs.Private.Plain.{Makes}
-use Rattle.ly_position.specs.Private.Plan.{ListedMatches, SpelledUnder}
+use Rattle.ly_position.specs.Private.Plain.{Makes, listed}
+use Rattle.ly_position.specs.Private.Slim.{slim_pattern}
 use Rattle.ly_position.proofs.PlanLemmas.{rules_names_within, rules_named, rules_within, rules_more}
 use Rattle.ly_position.proofs.plan.write_out.Goals as goal
 
@@ -22,18 +22,18 @@ loop-rule-preserved c =
     = slice_get_read rules (length rules) i r refl c.loop-rule-test.true c.rule-item.is in
     let made =
     subst (λ (xs : List (Option ℕ)). Makes c.loop-rule.plain c.add_rule.new.plain p
-    (SpelledUnder (ListedMatches c.loop-rule.plain xs) r.pattern)) c.deref.ensures.value c.in_ok-part.ensures in
+    (slim_pattern (listed c.loop-rule.plain xs) r.pattern)) c.deref.ensures.value c.in_ok-part.ensures in
     rw c.in_ok-push.ensures.items (record {
       names_within
           = rules_names_within names rules c.loop-rule.plain c.add_rule.new.plain ds ps i r p before.names_within
-          before.named before.count before.within before.spells is made;
+          before.named before.count before.within before.each is made;
       named = rules_named names rules c.loop-rule.plain c.add_rule.new.plain ds ps i r p before.names_within
-          before.named before.count before.within before.spells is made;
+          before.named before.count before.within before.each is made;
       count = omega (arith, length-append ps (p ∷ []), before.count);
       within = rules_within names rules c.loop-rule.plain c.add_rule.new.plain ds ps i r p before.names_within
-          before.named before.count before.within before.spells is made;
-      spells = rules_more names rules c.loop-rule.plain c.add_rule.new.plain ds ps i r p before.names_within
-          before.named before.count before.within before.spells is made;
+          before.named before.count before.within before.each is made;
+      each = rules_more names rules c.loop-rule.plain c.add_rule.new.plain ds ps i r p before.names_within
+          before.named before.count before.within before.each is made;
     })
 
 pub returns : goal.returns
@@ -44,5 +44,5 @@ returns c =
     record {
       count = before.count ∙ all;
       within = before.within;
-      spells = λ i r e. before.spells i r (omega (arith, slice_get_within c.args.rules.now i r e)) e;
+      each = λ i r e. before.each i r (omega (arith, slice_get_within c.args.rules.now i r e)) e;
     }

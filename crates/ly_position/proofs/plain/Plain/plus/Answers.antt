@@ -1,37 +1,40 @@
-use Rattle.std.proofs.Common.{inl, inr, None, refl, ap, sym, ◌∙◌}
+use Rattle.std.proofs.Common.{inl, inr, Some, None, refl, ap, sym, ◌∙◌}
 use Rattle.ly_ere.specs.Expression.{empty, star, plus, optional}
 use Rattle.ly_ere.specs.Arena.{expression_of, part_of}
-use Rattle.ly_position.specs.Private.Plain.{PlainMatches, PartMatches}
-use Rattle.ly_position.proofs.JoinedLemmas.{Plus, plus_void, plus_null, plus_star, plus_plus, plus_optional}
-use Rattle.ly_position.proofs.PlainLemmas.{makes_same, no_part, kept, added, same}
+use Rattle.ly_position.specs.Private.Plain.{expression_at}
+use Rattle.ly_position.specs.Private.Slim.{slim_plus}
+use Rattle.ly_position.proofs.PlainLemmas.{all_kept, makes_same, kept, added}
 use Rattle.ly_position.proofs.plain.Plain.plus.Goals as goal
 
 pub returns-in_default : goal.returns-in_default
-returns-in_default c = makes_same c.args.self.now None (Plus (PartMatches c.args.self.now c.args.part)) tt
-    (no_part Plus (λ w. ⊥) c.args.self.now c.args.part c.in_default.is plus_void)
+returns-in_default c = makes_same c.args.self.now None (slim_plus (expression_at c.args.self.now c.args.part)) tt
+    (sym (ap (λ q. slim_plus (expression_at c.args.self.now q)) c.in_default.is))
 
 pub returns-in-Empty : goal.returns-in-Empty
 returns-in-Empty c = elim c.in-Empty.is [
-  | inl e ↦ kept Plus c.args.self.now c.args.part c.in-Some.a empty c.requires c.in-Some.is
-      (ap (expression_of c.args.self.now) (sym e) ∙ c.node.ensures.is) plus_null
-  | inr (inl e) ↦ kept Plus c.args.self.now c.args.part c.in-Some.a (star (part_of c.args.self.now e.0)) c.requires
+  | inl e ↦ kept slim_plus c.args.self.now c.args.part c.in-Some.a empty c.requires c.in-Some.is
+      (ap (expression_of c.args.self.now) (sym e) ∙ c.node.ensures.is) refl
+  | inr (inl e) ↦ kept slim_plus c.args.self.now c.args.part c.in-Some.a (star (part_of c.args.self.now e.0)) c.requires
       c.in-Some.is (ap (expression_of c.args.self.now) (sym e.1) ∙ c.node.ensures.is)
-      (plus_star (PlainMatches (part_of c.args.self.now e.0)))
-  | inr (inr e) ↦ kept Plus c.args.self.now c.args.part c.in-Some.a (plus (part_of c.args.self.now e.0)) c.requires
+      refl
+  | inr (inr e) ↦ kept slim_plus c.args.self.now c.args.part c.in-Some.a (plus (part_of c.args.self.now e.0)) c.requires
       c.in-Some.is (ap (expression_of c.args.self.now) (sym e.1) ∙ c.node.ensures.is)
-      (plus_plus (PlainMatches (part_of c.args.self.now e.0)))
+      refl
 ]
 
 pub returns-in-Optional : goal.returns-in-Optional
 returns-in-Optional c = let e = c.in-Optional.is
-    in added Plus c.push.result c.args.self.now c.push.new.self c.args.part c.in-Some.a
+    in added slim_plus c.push.result c.args.self.now c.push.new.self c.args.part c.in-Some.a
     (optional (part_of c.args.self.now c.in-Optional.b)) (star (part_of c.args.self.now c.in-Optional.b))
     c.push.ensures.ok c.push.ensures.number c.in-Some.is (ap (expression_of c.args.self.now) (sym e)
-    ∙ c.node.ensures.is) (plus_optional (PlainMatches (part_of c.args.self.now c.in-Optional.b)))
+    ∙ c.node.ensures.is) refl
 
 pub returns-in_default-node : goal.returns-in_default-node
-returns-in_default-node c
-    = added Plus c.push-in_default-node.result c.args.self.now c.push-in_default-node.new.self c.args.part c.in-Some.a
-    (part_of c.args.self.now c.in-Some.a) (plus (part_of c.args.self.now c.in-Some.a)) c.push-in_default-node.ensures.ok
-    c.push-in_default-node.ensures.number c.in-Some.is refl
-    (same (PlainMatches (plus (part_of c.args.self.now c.in-Some.a))))
+returns-in_default-node c =
+    let e = part_of c.args.self.now c.in-Some.a in
+    let other = c.in_default-node in
+    let all = all_kept c.args.self.now c.node.result e c.node.ensures.is other.not-Empty other.not-Star other.not-Plus
+    other.not-Optional in
+    added slim_plus c.push-in_default-node.result c.args.self.now c.push-in_default-node.new.self c.args.part
+    c.in-Some.a e (plus e) c.push-in_default-node.ensures.ok c.push-in_default-node.ensures.number c.in-Some.is refl
+    (ap (λ x. Some x) all.by_plus)

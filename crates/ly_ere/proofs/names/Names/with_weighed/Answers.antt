@@ -9,7 +9,7 @@ use Rattle.ly_ere.proofs.NameLemmas.{defined_zip, new_key, ordered_push, zip_pus
 use Rattle.ly_ere.proofs.NamedLengthLemmas.{named_lengths_push}
 use Rattle.ly_ere.proofs.SoundLemmas.{sound_below}
 use Rattle.ly_ere.proofs.WeightLemmas.{weights_push}
-use Rattle.ly_ere.proofs.names.Names.with_definition.Goals as goal
+use Rattle.ly_ere.proofs.names.Names.with_weighed.Goals as goal
 
 -- the definitions before
 there : (c : goal.In_ok-push-3) → c.self.inside.definitions.items ≡ defined c.args.self
@@ -26,13 +26,12 @@ keys c = c.in_ok-insert.ensures.keys
 pub invariant_of-self : goal.invariant_of-self
 invariant_of-self c =
     let names = c.self.inside.definitions.items in
-    let found = rw c.in-Some.is at c.in_ok-weight.ensures in
     let many : length c.args.self ≡ length names = sym (ap length (there c) ∙ length-map c.args.self (λ d. d.1)) in
     let uses : UsesBelow (length names) c.args.definition
     = subst (λ n. UsesBelow n c.args.definition) many
     (sound_below (length c.args.self) c.args.definition c.requires.sound) in
-    let weight : c.in-Some.weight ≡ weight_of names c.args.definition
-    = found.0 ∙ ap (λ ns. weight_of ns c.args.definition) (sym (there c)) in
+    let weight : c.args.weight ≡ weight_of names c.args.definition
+    = c.requires.weighed ∙ ap (λ ns. weight_of ns c.args.definition) (sym (there c)) in
     let measured : AreLengths (weight_of names c.args.definition)
     (Matches names c.args.definition) c.in_ok-lengths.lengths
     = subst (λ ns. AreLengths (weight_of ns c.args.definition) (Matches ns c.args.definition) c.in_ok-lengths.lengths)
@@ -47,14 +46,14 @@ invariant_of-self c =
       ),
       rw c.in_ok-push.ensures.items (ordered_push names c.args.definition c.self.invariant.1 uses),
       rw (c.in_ok-push.ensures.items, c.in_ok-push-2.ensures.items)
-          (weights_push names c.args.definition c.self.inside.weights.items c.in-Some.weight c.self.invariant.2 weight),
+          (weights_push names c.args.definition c.self.inside.weights.items c.args.weight c.self.invariant.2 weight),
       rw (c.in_ok-push.ensures.items, c.in_ok-push-3.ensures.items)
           (named_lengths_push names c.args.definition c.self.invariant.1 uses c.self.inside.lengths.items
           c.in_ok-lengths.lengths c.self.invariant.3 measured),
     )
 
-pub returns-clause-ok : goal.returns-clause-ok
-returns-clause-ok c = rw (keys c, c.in_ok-push.ensures.items)
+pub returns : goal.returns
+returns c = rw (keys c, c.in_ok-push.ensures.items)
     (zip_push (λ k. k.items) c.self.inside.names.keys c.self.inside.definitions.items c.in_ok-from_slice.field-0
     c.args.definition c.self.invariant.0
     ∙ (ap (λ n. zip (map (λ k. k.items) c.self.inside.names.keys) c.self.inside.definitions.items

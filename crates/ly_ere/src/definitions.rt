@@ -1,0 +1,261 @@
+ghost use Rattle.std.specs.Prelude.{◌≡◌, ◌≢◌, ◌<◌, ◌≤◌, ◌⊎◌, ℕ, List, [], ◌∷◌, ◌++◌};
+ghost use Rattle.std.specs.Prelude.{drop, length, take, Contains, None, Some};
+ghost use Rattle.std.specs.Prelude.{IfErr, IfOk, OnOk};
+ghost use Rattle.std.specs.Option.{ForSome};
+ghost use Rattle.ly_ere.specs.Definitions.{AreDistinct, AreLightNames, AreNames, AreRefused, Named, named_texts};
+ghost use Rattle.ly_ere.specs.Elements.{AreElements, Element};
+ghost use Rattle.ly_ere.specs.Names.{Definition};
+ghost use Rattle.ly_ere.specs.Patterns.{IsBehind, IsExpression};
+ghost use Rattle.ly_ere.specs.Private.Definitions.{AreRead, IsNoText, known_names, text_uses};
+ghost use Rattle.ly_ere.specs.Private.Turns.{AreInTurn};
+ghost use Rattle.ly_ere.specs.declared.fault.EreFault.TheVariants.{NameCycle, OutOfMemory, TooHeavy};
+ghost use Rattle.ly_ere.specs.declared.fault.ReadFault.TheVariants as read;
+
+use crate::element::next_element;
+use crate::fault::{EreFault, ReadFault, SyntaxFault};
+use crate::names::Names;
+use crate::re::Re;
+use crate::read::{is_behind, read_expression};
+use crate::turns::in_turn;
+use crate::uses::{renumber, uses};
+use ly_base::Limits;
+use std::alloc::{AllocError, Global};
+
+/// A definition as it stands in a lex file.
+#[derive(Clone, Copy)]
+pub struct NamedText<'t> {
+    /// The name.
+    pub name: &'t [u8],
+    /// The text of its expression.
+    pub text: &'t [u8],
+}
+
+/// Reads definitions, which may use one another in any order. They are placed one behind another: again and again the
+/// first, as they stand, whose names are all placed.
+///
+/// A fault comes with the place of the definition in the list; want of memory with any. It is the first definition's
+/// whose text is no expression or that leads into a cycle of names (`NameCycle`); where there is none, that of the
+/// first that is placed and weighs more than the limit (`TooHeavy`).
+pub fn read_names(
+    alloc: Global,
+    list: &[NamedText<'_>],
+    limits: &Limits,
+) -> Result<Names, (usize, EreFault)>
+    requires distinct { AreDistinct (named_texts list.now) }
+    ensures ok { IfOk result (AreNames (named_texts list.now)) }
+    ensures light { IfOk result (AreLightNames limits.now.pattern_weight) }
+    ensures refused { IfErr result (λ f. AreRefused limits.now.pattern_weight (named_texts list.now) f.0 f.1) }
+{
+    match read_and_place(alloc, list, limits) {
+        Ok(names) => Ok(names),
+        Err(refusal) => Err((refusal.place, refusal.fault)),
+    }
+}
+
+/// Why definitions are refused.
+#[derive(Clone, Copy)]
+pub(crate) struct Refusal {
+    /// Where the one at fault stands in the list; 0 where memory is wanting.
+    place: usize,
+    /// What is wrong with it.
+    fault: EreFault,
+}
+
+impl From<AllocError> for Refusal {
+    ghost from_gives = { λ _ r. r ≡ record { place = 0; fault = OutOfMemory } };
+
+    fn from(_error: AllocError) -> Refusal {
+        Refusal {
+            place: 0,
+            fault: EreFault::OutOfMemory,
+        }
+    }
+}
+
+/// Reads the texts, puts them in order, and places them.
+fn read_and_place(alloc: Global, list: &[NamedText<'_>], limits: &Limits) -> Result<Names, Refusal>
+    requires distinct { AreDistinct (named_texts list.now) }
+    ensures ok { IfOk result (AreNames (named_texts list.now)) }
+    ensures light { IfOk result (AreLightNames limits.now.pattern_weight) }
+    ensures refused { IfErr result (λ r. AreRefused limits.now.pattern_weight (named_texts list.now) r.place r.fault) }
+{
+    let texts = read_texts(alloc, list)?;
+    let turns = in_turn(alloc, &texts.uses)?;
+    if let Some(refusal) = first_refusal(texts.refusal, turns.left) {
+        return Err(refusal);
+    }
+    place(alloc, list, &texts, &turns.order, limits)
+}
+
+/// The refusal of the text that stands first: one that is no expression, or the first that leads into a cycle.
+fn first_refusal(text: Option<Refusal>, cyclic: Option<usize>) -> Option<Refusal>
+    ensures none { result ≡ None → (text ≡ None) × (cyclic ≡ None) }
+    ensures some { ForSome result (λ r. (text ≡ Some r) ⊎ ((cyclic ≡ Some r.place) × (r.fault ≡ NameCycle))) }
+{
+    let cycle = match cyclic {
+        Some(place) => Refusal {
+            place,
+            fault: EreFault::NameCycle,
+        },
+        None => return text,
+    };
+    match text {
+        Some(refusal) if refusal.place < cycle.place => Some(refusal),
+        _ => Some(cycle),
+    }
+}
+
+/// Texts that are read, where a name has the number of its place in the list.
+#[derive(Drop)]
+pub(crate) struct Texts {
+    /// The expressions of those that are one.
+    expressions: Vec<Re>,
+    /// What each uses; nothing where it is no expression.
+    uses: Vec<Vec<usize>>,
+    /// The first that is no expression.
+    refusal: Option<Refusal>,
+}
+
+/// Reads the texts, each under the names of all.
+fn read_texts(alloc: Global, list: &[NamedText<'_>]) -> Result<Texts, AllocError>
+    requires distinct { AreDistinct (named_texts list.now) }
+    ensures { IfOk result (AreRead (known_names (named_texts list.now)) (named_texts list.now)) }
+{
+    let known = all_known(alloc, list)?;
+    read_each(alloc, list, &known)
+}
+
+/// Reads the texts under names.
+fn read_each(alloc: Global, list: &[NamedText<'_>], known: &Names) -> Result<Texts, AllocError>
+    ensures { IfOk result (AreRead known.now (named_texts list.now)) }
+{
+    let mut texts = Texts {
+        expressions: Vec::new(alloc),
+        uses: Vec::new(alloc),
+        refusal: None,
+    };
+    for definition in list {
+        texts.read_one(alloc, definition.text, known)?;
+    }
+    Ok(texts)
+}
+
+impl Texts {
+    /// Reads one more.
+    fn read_one(&mut self, alloc: Global, text: &[u8], known: &Names) -> Result<(), AllocError>
+        ensures { (list : List Named) (d : Named) → AreRead known.now list self.old → d.text ≡ text.now
+            → OnOk result (AreRead known.now (list ++ d ∷ []) self.new) }
+    {
+        match read_text(alloc, text, known) {
+            Ok(re) => self.push(alloc, re),
+            Err(ReadFault::Syntax(fault)) => self.push_fault(alloc, EreFault::from(fault)),
+            Err(ReadFault::OutOfMemory) => Err(AllocError),
+        }
+    }
+
+    /// One more, which is an expression.
+    fn push(&mut self, alloc: Global, re: Re) -> Result<(), AllocError>
+        ensures { (known : List Definition) (list : List Named) (d : Named) → AreRead known list self.old
+            → IsExpression known d.text re → OnOk result (AreRead known (list ++ d ∷ []) self.new) }
+    {
+        let uses = uses(alloc, &re)?;
+        self.uses.push(uses)?;
+        self.expressions.push(re)?;
+        Ok(())
+    }
+
+    /// One more, which is none.
+    fn push_fault(&mut self, alloc: Global, fault: EreFault) -> Result<(), AllocError>
+        requires memory { fault ≢ OutOfMemory }
+        requires weight { fault ≢ TooHeavy }
+        ensures { (known : List Definition) (list : List Named) (d : Named) → AreRead known list self.old
+            → IsNoText known d.text → OnOk result (AreRead known (list ++ d ∷ []) self.new) }
+    {
+        let place = self.uses.len();
+        self.uses.push(Vec::new(alloc))?;
+        if self.refusal.is_none() {
+            self.refusal = Some(Refusal { place, fault });
+        }
+        Ok(())
+    }
+}
+
+/// The names as if each were defined as a byte. Under them a text is an expression where it is one under any
+/// definitions of all its names.
+fn all_known(alloc: Global, list: &[NamedText<'_>]) -> Result<Names, AllocError>
+    requires distinct { AreDistinct (named_texts list.now) }
+    ensures { IfOk result (λ names. names ≡ known_names (named_texts list.now)) }
+{
+    let mut known = Names::new(alloc);
+    for definition in list {
+        let byte = Re::of_byte(alloc, 0)?;
+        known = known.with_weighed(alloc, definition.name, byte, 1)?;
+    }
+    Ok(known)
+}
+
+/// Reads the text of an expression.
+fn read_text(alloc: Global, text: &[u8], names: &Names) -> Result<Re, ReadFault>
+    ensures ok { IfOk result (IsExpression names.now text.now) }
+    ensures refused { IfErr result (λ e. e ≢ read.OutOfMemory → IsNoText names.now text.now) }
+{
+    let (re, length) = read_expression(alloc, text, names)?;
+    match text.get(length) {
+        None => Ok(re),
+        Some(b'$') => Err(ReadFault::Syntax(SyntaxFault::AnchorInside)),
+        Some(_) => Err(ReadFault::Syntax(SyntaxFault::StrayOperator)),
+    }
+}
+
+/// Places the texts in this order.
+fn place(
+    alloc: Global,
+    list: &[NamedText<'_>],
+    texts: &Texts,
+    order: &[usize],
+    limits: &Limits,
+) -> Result<Names, Refusal>
+    requires distinct { AreDistinct (named_texts list.now) }
+    requires read { AreRead (known_names (named_texts list.now)) (named_texts list.now) texts.now }
+    requires whole { texts.now.refusal ≡ None }
+    requires in_turn { AreInTurn (text_uses texts.now) order.now }
+    requires all { (n : ℕ) → n < length list.now → Contains order.now n }
+    ensures ok { IfOk result (AreNames (named_texts list.now)) }
+    ensures light { IfOk result (AreLightNames limits.now.pattern_weight) }
+    ensures refused { IfErr result (λ r. AreRefused limits.now.pattern_weight (named_texts list.now) r.place r.fault) }
+{
+    let mut names = Names::new(alloc);
+    let mut numbers = vec![in alloc; 0; list.len()]?;
+    for (number, place) in order.iter().enumerate() {
+        let expression = renumber(alloc, &texts.expressions[*place], &numbers)?;
+        let definition = &list[*place];
+        names = match names.with_definition(alloc, definition.name, expression, limits) {
+            Ok(names) => names,
+            Err(fault) => {
+                return Err(Refusal {
+                    place: *place,
+                    fault,
+                });
+            }
+        };
+        numbers[*place] = number;
+    }
+    Ok(names)
+}
+
+/// How many bytes the elements at the front of a line take, up to the line's end or the first blank outside strings,
+/// bracket expressions and escapes; all of the line where something there is no element.
+pub fn expression_length(line: &[u8]) -> usize
+    ensures within { result ≤ length line.now }
+    ensures only { (n : ℕ) (ws : List Element) → n ≤ length line.now → AreElements (take n line.now) ws
+        → IsBehind (drop n line.now) → n ≡ result }
+{
+    let mut at = 0;
+    while !is_behind(&line[at..]) {
+        match next_element(&line[at..]) {
+            Ok((_, length)) => at += length,
+            Err(_) => return line.len(),
+        }
+    }
+    at
+}

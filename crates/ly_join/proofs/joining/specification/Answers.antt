@@ -1,0 +1,57 @@
+use Rattle.std.proofs.Common.{◌≡◌, ◌∙◌, ◌+◌, ap, ap₂, arith, length, map, ◌∷◌, Some}
+use Rattle.std.proofs.lemmas.List.{length-map}
+use Rattle.std.proofs.lemmas.Option.{slice_get_within}
+use Rattle.ly_join.specs.Grammar.{accept_rule, grammar_from}
+use Rattle.ly_join.specs.Joined.{note_of, Spec}
+use Rattle.ly_join.specs.Private.Rules.{table_from}
+use Rattle.ly_join.specs.Terminals.{end}
+use Rattle.ly_join.proofs.RuleLemmas.{joined_length, rules_within}
+use Rattle.ly_join.proofs.joining.specification.Goals as goal
+
+pub new-requires-clause-start : goal.new-requires-clause-start
+new-requires-clause-start c = omega (arith, c.requires.start_within, c.count-2.ensures)
+
+pub new-requires-clause-some : goal.new-requires-clause-some
+new-requires-clause-some c =
+    omega (arith, slice_get_within c.args.table.terminals 0 end c.requires.first, c.count.ensures)
+
+pub new-requires-clause-within : goal.new-requires-clause-within
+new-requires-clause-within c =
+    rw (c.count.ensures, c.count-2.ensures)
+    (rules_within (table_from c.args.table) c.requires.rulings c.args.joined.0.items c.requires.joined.rest
+    c.requires.first c.requires.joined.joined)
+
+-- the grammar that is made
+made : (c : goal.In_ok-grammar) → c.in_ok-grammar.grammar ≡ grammar_from (length c.args.table.terminals)
+    (length c.args.table.nonterminals) c.args.start.0
+    (accept_rule (length c.args.table.nonterminals) c.args.start.0 ∷ c.args.joined.0.items)
+made c = c.in_ok-grammar.ensures
+    ∙ ap₂ (λ t n. grammar_from t n c.args.start.0 (accept_rule n c.args.start.0 ∷ c.args.joined.0.items))
+    c.count.ensures c.count-2.ensures
+
+pub invariant_of-result : goal.invariant_of-result
+invariant_of-result c =
+    let rules = c.args.joined.0.items in
+    let ready = c.requires.joined in
+    let notes : length (map note_of c.args.joined.1.items) ≡ length rules + 1
+    = omega (
+      arith,
+      ap length ready.all_notes,
+      joined_length (table_from c.args.table) c.requires.rulings rules ready.rest ready.joined,
+    ) in
+    record {
+      precedences = c.requires.long;
+      notes = omega (arith, notes, ap (λ g. length g.rules) (made c), length-map rules Some);
+      terminals = ap (λ g. g.terminals) (made c);
+      nonterminals = ap (λ g. g.accept) (made c);
+    }
+
+pub returns : goal.returns
+returns c = ap (λ g. let s : Spec = record {
+  grammar = g;
+  terminals = c.args.table.terminals;
+  nonterminals = c.args.table.nonterminals;
+  precedences = c.args.table.precedences.items;
+  notes = map note_of c.args.joined.1.items;
+  scanner = c.args.scanner.items;
+} in s) (made c)

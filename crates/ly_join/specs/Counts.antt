@@ -1,0 +1,54 @@
+-- The counts that have limits.
+use Rattle.std.specs.Prelude.{ℕ, ◌+◌, ◌≤◌, List, [], ◌∷◌, ◌++◌, length, map, max}
+use Rattle.std.specs.List.{flat_map}
+use Rattle.ly_base.specs.Limits.{Sizes}
+use Rattle.ly_yaccread.specs.Actions.{Making, build}
+use Rattle.ly_yaccread.specs.File.{Written}
+use Rattle.ly_join.specs.Numbering.{declared_terminals, nonterminals_of, terminals_of}
+use Rattle.ly_join.specs.Scanning.{Scanning}
+use Rattle.ly_join.specs.Terminals.{Terminal, token}
+use Rattle.ly_join.specs.declared.limit.Limit.{Limit}
+use Rattle.ly_join.specs.declared.limit.Limit.TheVariants.{Symbols, Rules, LexRules, Body, Conditions, Name}
+
+-- the greatest of numbers, 0 of none
+abbrev pub greatest : List ℕ → ℕ
+greatest [] = 0
+greatest (n ∷ ns) = max n (greatest ns)
+
+-- how many bytes the name of a terminal has, if it has one
+abbrev pub token_length : Terminal → ℕ
+token_length (token n) = length n
+token_length _ = 0
+
+-- how many bytes the constructor of a rule has, if it has one
+abbrev pub constructor_length : Making → ℕ
+constructor_length (build n ps) = length n
+constructor_length _ = 0
+
+-- how long the names of tokens, left sides and constructors are
+abbrev pub name_lengths : Written → List ℕ
+name_lengths w = map token_length (flat_map declared_terminals w.preamble.declarations)
+    ++ map (λ r. max (length r.left) (constructor_length r.making)) w.rules
+
+-- what is counted: the symbols, with `$accept`, the rules of both files, the symbols of the longest body, the
+-- conditions, and the bytes of the longest name
+abbrev pub counted : Limit → Scanning → Written → ℕ
+counted Symbols x w = length (terminals_of w) + length (nonterminals_of w) + 1
+counted Rules x w = length w.rules
+counted LexRules x w = x.rules
+counted Body x w = greatest (map (λ r. length r.body) w.rules)
+counted Conditions x w = x.conditions
+counted Name x w = greatest (name_lengths w)
+
+-- the greatest that a count may be
+abbrev pub limit_of : Limit → Sizes → ℕ
+limit_of Symbols sizes = sizes.symbols
+limit_of Rules sizes = sizes.yacc_rules
+limit_of LexRules sizes = sizes.lex_rules
+limit_of Body sizes = sizes.body_length
+limit_of Conditions sizes = sizes.conditions
+limit_of Name sizes = sizes.name_length
+
+-- no count is above its limit
+abbrev pub IsWithin : Sizes → Scanning → Written → Type 0
+IsWithin sizes x w = (which : Limit) → counted which x w ≤ limit_of which sizes

@@ -1,0 +1,54 @@
+-- The symbols of a yacc file, numbered by their first appearance (POSIX, XCU yacc).
+use Rattle.std.specs.Prelude.{ℕ, List, [], ◌∷◌, ◌++◌, Bool, not, filter, map, Contains, Option, Some, None}
+use Rattle.std.specs.List.{filter_map, flat_map}
+use Rattle.std.specs.Option.{option_to_list}
+use Rattle.std.specs.Str.{bytes_eq}
+use Rattle.ly_yaccread.specs.Declarations.{Declared}
+use Rattle.ly_yaccread.specs.File.{Written}
+use Rattle.ly_yaccread.specs.Rules.{Ruling}
+use Rattle.ly_join.specs.Terminals.{Terminal, end, undefined, token, literal_in, same_terminal, terminal_in}
+
+-- the members of a list, each once, in the order of their first appearance: the first, and then those of the rest that
+-- aren't the first
+abbrev pub first_appearances : {X : Type 0} → (X → X → Bool) → List X → List X
+first_appearances same [] = []
+first_appearances same (x ∷ xs) = x ∷ filter (λ y. not (same x y)) (first_appearances same xs)
+
+-- what a declaration names
+abbrev pub declared_terminals : Declared → List Terminal
+declared_terminals d = filter_map terminal_in d.symbols
+
+-- the literals of a rule: of its body, and the one behind its `%prec`
+abbrev pub rule_literals : Ruling → List Terminal
+rule_literals r = filter_map literal_in (r.body ++ option_to_list r.precedence)
+
+-- The terminals as they stand in the text: those of the declarations, and the literals of the rules. A name that a
+-- rule uses is a token only where a declaration names it.
+abbrev pub appearing : Written → List Terminal
+appearing w = flat_map declared_terminals w.preamble.declarations ++ flat_map rule_literals w.rules
+
+-- the terminals by number: the end of the text, what the grammar doesn't name, and the others by first appearance
+abbrev pub terminals_of : Written → List Terminal
+terminals_of w = first_appearances same_terminal (end ∷ undefined ∷ appearing w)
+
+-- the left sides as they stand in the text
+abbrev pub left_sides : Written → List (List ℕ)
+left_sides w = map (λ r. r.left) w.rules
+
+-- the nonterminals by number: by their first left side
+abbrev pub nonterminals_of : Written → List (List ℕ)
+nonterminals_of w = first_appearances bytes_eq (left_sides w)
+
+-- a name is a token: a declaration names it
+abbrev pub IsToken : Written → List ℕ → Type 0
+IsToken w n = Contains (appearing w) (token n)
+
+-- a name is a nonterminal: it is a left side
+abbrev pub IsNonterminal : Written → List ℕ → Type 0
+IsNonterminal w n = Contains (left_sides w) n
+
+-- the start symbol's name: that behind `%start`, or else the first left side
+abbrev pub start_name : Option (List ℕ) → List Ruling → Option (List ℕ)
+start_name (Some n) rules = Some n
+start_name None [] = None
+start_name None (r ∷ rules) = Some r.left

@@ -1,0 +1,4 @@
+pub mod Joining
+pub mod Numbering
+pub mod Rules
+pub mod Tables

@@ -1,0 +1,62 @@
+-- What a lex file says to the grammar.
+use Rattle.std.specs.Prelude.{◌≡◌, ℕ, List, map, length, Option}
+use Rattle.ly_lexread.specs.declared.action.Action.{Action}
+use Rattle.ly_lexread.specs.declared.action.Returned.{Returned}
+use Rattle.ly_lexread.specs.declared.action.Returned.TheVariants as lex
+use Rattle.ly_lexread.specs.declared.file.LexFile.{LexFile}
+use Rattle.ly_join.specs.Terminals.{Terminal, token, byte, IsNumbered, IsOfByte}
+use Rattle.ly_join.specs.declared.scan_action.Emitted.{Emitted}
+use Rattle.ly_join.specs.declared.scan_action.Emitted.TheVariants as emitted
+use Rattle.ly_join.specs.declared.scan_action.ScanAction.{ScanAction}
+
+-- What an action returns: nothing, this token or literal, or the literal of the first byte.
+pub data Returning : Type 0 where
+  nothing : Returning
+  returns : Terminal → Returning
+  first_byte : Returning
+
+-- what is returned, whatever room its name has
+abbrev pub returning_of : Returned → Returning
+returning_of lex.Nothing = nothing
+returning_of (lex.Token n) = returns (token n.items)
+returning_of (lex.Literal b) = returns (byte b)
+returning_of lex.FirstByte = first_byte
+
+-- What an action does: the condition that it sets, if it sets one, and what it returns.
+pub record Acting : Type 0 where
+  pub begin : Option ℕ
+  pub returning : Returning
+
+-- What a lex file says beside its patterns: how many rules and conditions it has, and what the action of each rule
+-- does.
+pub record Scanning : Type 0 where
+  pub rules : ℕ
+  pub conditions : ℕ
+  pub actions : List Acting
+
+abbrev pub acting_of : Action → Acting
+acting_of a = record { begin = a.begin; returning = returning_of a.returns }
+
+-- what the value of a lex file says
+abbrev pub scanning_of : LexFile → Scanning
+scanning_of f = record {
+  rules = length f.rules.items;
+  conditions = f.conditions;
+  actions = map acting_of f.actions.items;
+}
+
+-- the number of what is returned; a literal that the grammar doesn't name is undefined
+abbrev pub IsReturned : List Terminal → Terminal → ℕ → Type 0
+IsReturned terminals (byte b) t = IsOfByte terminals b t
+IsReturned terminals x t = IsNumbered terminals x t
+
+-- the token that comes of what an action returns
+abbrev pub IsEmitted : List Terminal → Returning → Emitted → Type 0
+IsEmitted terminals nothing e = e ≡ emitted.Nothing
+IsEmitted terminals (returns x) e = (t : ℕ) × (e ≡ emitted.Terminal (record { 0 = t })) × IsReturned terminals x t
+IsEmitted terminals first_byte e = e ≡ emitted.FirstByte
+
+-- What an action does, over numbered terminals.
+pub record IsScanAction (terminals : List Terminal) (a : Acting) (c : ScanAction) : Type 0 where
+  pub begin : c.begin ≡ a.begin
+  pub emits : IsEmitted terminals a.returning c.emits

@@ -1,0 +1,49 @@
+-- What terminals are, and their numbers.
+use Rattle.std.specs.Prelude.{◌≡◌, ℕ, ◌⊎◌, List, Option, Some, None, Bool, true, false, slice_get, Contains}
+use Rattle.std.specs.Prelude.{nat_eq}
+use Rattle.std.specs.Str.{bytes_eq}
+use Rattle.ly_yaccread.specs.Words.{Word, name, literal}
+use Rattle.ly_join.specs.declared.terminal.TerminalName.{TerminalName}
+use Rattle.ly_join.specs.declared.terminal.TerminalName.TheVariants.{End, Undefined, Token, Literal}
+
+-- What a terminal is: the end of the text, every byte that the grammar doesn't name, the token of a name, or the
+-- literal of a byte.
+pub data Terminal : Type 0 where
+  end : Terminal
+  undefined : Terminal
+  token : List ℕ → Terminal
+  byte : ℕ → Terminal
+
+-- what a terminal is, whatever room its name has
+abbrev pub terminal_from : TerminalName → Terminal
+terminal_from End = end
+terminal_from Undefined = undefined
+terminal_from (Token n) = token n.items
+terminal_from (Literal b) = byte b
+
+-- whether two terminals are the same
+abbrev pub same_terminal : Terminal → Terminal → Bool
+same_terminal end end = true
+same_terminal undefined undefined = true
+same_terminal (token m) (token n) = bytes_eq m n
+same_terminal (byte b) (byte c) = nat_eq b c
+same_terminal _ _ = false
+
+-- the token or literal that a symbol of a declaration is
+abbrev pub terminal_in : Word → Option Terminal
+terminal_in (name n) = Some (token n)
+terminal_in (literal b) = Some (byte b)
+terminal_in _ = None
+
+-- the literal that a symbol of a rule is, if it is one
+abbrev pub literal_in : Word → Option Terminal
+literal_in (literal b) = Some (byte b)
+literal_in _ = None
+
+-- the number of a terminal is its place in the list of them
+abbrev pub IsNumbered : List Terminal → Terminal → ℕ → Type 0
+IsNumbered terminals x t = slice_get terminals t ≡ Some x
+
+-- the terminal of a byte that stands for itself: its literal, or 1 where the grammar doesn't name it
+abbrev pub IsOfByte : List Terminal → ℕ → ℕ → Type 0
+IsOfByte terminals b t = IsNumbered terminals (byte b) t ⊎ ((Contains terminals (byte b) → ⊥) × (t ≡ 1))

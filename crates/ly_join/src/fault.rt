@@ -1,0 +1,106 @@
+ghost use Rattle.std.specs.Prelude.{◌≡◌};
+ghost use Rattle.ly_join.specs.declared.fault.JoinFault.TheVariants as fault;
+
+use crate::limit::Limit;
+use crate::terminal::TerminalName;
+use ly_base::OutOfMemory;
+use std::alloc::{AllocError, AllocFailed};
+use thiserror::Error;
+
+/// Why a lex file and a yacc file don't make a specification. Nothing is handed out then. It is printed as its number
+/// and its name, and what is at fault.
+#[derive(Debug, Drop, Error)]
+pub enum JoinFault {
+    /// A symbol of a body is neither a token nor the left side of a rule.
+    #[error("a symbol that no declaration and no left side names")]
+    UndefinedSymbol(Vec<u8>),
+    /// The left side of a rule is a token.
+    #[error("a token on the left side of a rule")]
+    TokenOnLeft(Vec<u8>),
+    /// A token is given a precedence twice, by two declarations or by one.
+    #[error("a second precedence for a token")]
+    PrecedenceTwice(TerminalName),
+    /// The name behind `%start` is on no left side, or is a token.
+    #[error("a start symbol without rules")]
+    UnknownStart(Vec<u8>),
+    /// An action of the lex file returns a name that is no token.
+    #[error("a returned name that is no token")]
+    ReturnUndeclared(Vec<u8>),
+    /// The name behind a `%prec` is no token.
+    #[error("a name behind %prec that is no token")]
+    PrecUnknown(Vec<u8>),
+    /// The yacc file has no rules.
+    #[error("no rules")]
+    NoRules,
+    /// A count is above its limit.
+    #[error("a count above its limit")]
+    LimitPassed {
+        /// The limit that is passed.
+        which: Limit,
+    },
+    /// A growth was refused.
+    #[error("out of memory")]
+    OutOfMemory,
+}
+
+impl JoinFault {
+    ghost use Rattle.ly_join.specs.FaultNames.{join_name, join_number};
+
+    /// The number that the fault is printed with; want of memory has none.
+    pub fn number(&self) -> Option<u8>
+        ensures { result ≡ join_number self.now }
+    {
+        match self {
+            JoinFault::UndefinedSymbol(_) => Some(40),
+            JoinFault::TokenOnLeft(_) => Some(41),
+            JoinFault::PrecedenceTwice(_) => Some(42),
+            JoinFault::UnknownStart(_) => Some(43),
+            JoinFault::ReturnUndeclared(_) => Some(44),
+            JoinFault::PrecUnknown(_) => Some(45),
+            JoinFault::NoRules => Some(46),
+            JoinFault::LimitPassed { .. } => Some(47),
+            JoinFault::OutOfMemory => None,
+        }
+    }
+
+    /// The name that the fault is printed with.
+    pub fn name(&self) -> &'static str
+        ensures { result.now ≡ join_name self.now }
+    {
+        match self {
+            JoinFault::UndefinedSymbol(_) => "UndefinedSymbol",
+            JoinFault::TokenOnLeft(_) => "TokenOnLeft",
+            JoinFault::PrecedenceTwice(_) => "PrecedenceTwice",
+            JoinFault::UnknownStart(_) => "UnknownStart",
+            JoinFault::ReturnUndeclared(_) => "ReturnUndeclared",
+            JoinFault::PrecUnknown(_) => "PrecUnknown",
+            JoinFault::NoRules => "NoRules",
+            JoinFault::LimitPassed { .. } => "LimitPassed",
+            JoinFault::OutOfMemory => "OutOfMemory",
+        }
+    }
+}
+
+impl From<OutOfMemory> for JoinFault {
+    ghost from_gives = { λ _ e. e ≡ fault.OutOfMemory };
+
+    fn from(_error: OutOfMemory) -> JoinFault {
+        JoinFault::OutOfMemory
+    }
+}
+
+impl From<AllocError> for JoinFault {
+    ghost from_gives = { λ _ e. e ≡ fault.OutOfMemory };
+
+    fn from(_error: AllocError) -> JoinFault {
+        JoinFault::OutOfMemory
+    }
+}
+
+impl<T: Drop> From<AllocFailed<T>> for JoinFault {
+    ghost from_gives = { λ _ e. e ≡ fault.OutOfMemory };
+
+    fn from(_error: AllocFailed<T>) -> JoinFault {
+        JoinFault::OutOfMemory
+    }
+}

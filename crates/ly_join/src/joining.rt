@@ -1,0 +1,139 @@
+ghost use Rattle.std.specs.Prelude.{◌≡◌, ◌≢◌, ◌<◌, length, map, AllPairs, IfErr, IfOk, OnOk, Some, slice_get, Err};
+ghost use Rattle.std.specs.List.{AllZip};
+ghost use Rattle.ly_yaccread.specs.File.{declared_of, ruling_of, written_of};
+ghost use Rattle.ly_join.specs.Counts.{IsWithin};
+ghost use Rattle.ly_join.specs.Faults.{IsAtFault, IsOfFiles};
+ghost use Rattle.ly_join.specs.Joined as spec;
+ghost use Rattle.ly_join.specs.Joined.{note_of, Joined};
+ghost use Rattle.ly_join.specs.Numbering.{start_name};
+ghost use Rattle.ly_join.specs.Scanning.{scanning_of, IsScanAction};
+ghost use Rattle.ly_join.specs.Private.Joining.{spec_from, AreNumbered, IsReady, IsStart, IsStartFault};
+ghost use Rattle.ly_join.specs.Private.Rules.{table_from, IsGivingFault, RulesJoined};
+ghost use Rattle.ly_join.specs.Precedences.{given};
+ghost use Rattle.ly_join.specs.declared.fault.JoinFault.TheVariants as fault;
+
+use crate::fault::JoinFault;
+use crate::grammar::{Grammar, GrammarRule};
+use crate::limit::check_limits;
+use crate::numbering::{number_nonterminals, number_terminals};
+use crate::rank::precedences;
+use crate::rule::{RuleNote, SymbolTable, join_rules};
+use crate::scan_action::{ScanAction, scan_actions};
+use crate::spec::Spec;
+use ly_base::{Limits, OutOfMemory, Sym};
+use ly_lexread::LexFile;
+use ly_yaccread::YaccFile;
+use std::alloc::Global;
+
+/// Joins a lex file and a yacc file to one specification (POSIX, XCU yacc): the symbols get their numbers by their
+/// first appearance, and what the rules of both files say is said of these.
+///
+/// Of several faults the first of this order comes: `NoRules`; `PrecedenceTwice`, by declarations; `UnknownStart`; rule
+/// by rule `TokenOnLeft`, `UndefinedSymbol` and `PrecUnknown`; `ReturnUndeclared`, by rules of the lex file;
+/// `LimitPassed`, in the order of `Limit`. `OutOfMemory` comes where a growth was refused.
+pub fn join(
+    alloc: Global,
+    lex: &LexFile,
+    yacc: &YaccFile,
+    limits: &Limits,
+) -> Result<Spec, JoinFault>
+    ensures ok { IfOk result (Joined (scanning_of lex.now) (written_of yacc.now)) }
+    ensures within { OnOk result (IsWithin limits.now (scanning_of lex.now) (written_of yacc.now)) }
+    ensures fault { IfErr result (IsAtFault limits.now (scanning_of lex.now) (written_of yacc.now)) }
+    ensures refused { IfErr result (λ f. f ≢ fault.OutOfMemory → (s : spec.Spec)
+        → Joined (scanning_of lex.now) (written_of yacc.now) s
+        → IsWithin limits.now (scanning_of lex.now) (written_of yacc.now) → ⊥) }
+    ensures none { IfErr result (λ f. IsOfFiles f → (s : spec.Spec)
+        → Joined (scanning_of lex.now) (written_of yacc.now) s → ⊥) }
+{
+    if yacc.rules.is_empty() {
+        return Err(JoinFault::NoRules);
+    }
+    let table = number_symbols(alloc, yacc)?;
+    specify(alloc, lex, yacc, limits, table)
+}
+
+/// Joins two files whose symbols are numbered.
+fn specify(
+    alloc: Global,
+    lex: &LexFile,
+    yacc: &YaccFile,
+    limits: &Limits,
+    table: SymbolTable,
+) -> Result<Spec, JoinFault>
+    requires numbered { AreNumbered (written_of yacc.now) (table_from table) }
+    requires some { 0 < length yacc.now.rules.items }
+    ensures ok { IfOk result (Joined (scanning_of lex.now) (written_of yacc.now)) }
+    ensures within { OnOk result (IsWithin limits.now (scanning_of lex.now) (written_of yacc.now)) }
+    ensures fault { IfErr result (IsAtFault limits.now (scanning_of lex.now) (written_of yacc.now)) }
+{
+    let start = start_symbol(alloc, &table, yacc)?;
+    let joined = join_rules(alloc, &table, &yacc.rules)?;
+    let scanner = scan_actions(alloc, &table.terminals, &lex.actions)?;
+    let symbols = table.terminals.count() as usize + table.nonterminals.count() as usize + 1;
+    check_limits(limits, lex, yacc, symbols)?;
+    Ok(specification(alloc, table, start, joined, scanner)?)
+}
+
+/// Numbers the symbols, and finds the precedence of each terminal.
+fn number_symbols(alloc: Global, yacc: &YaccFile) -> Result<SymbolTable, JoinFault>
+    ensures ok { IfOk result (λ table. AreNumbered (written_of yacc.now) (table_from table)) }
+    ensures fault { IfErr result (IsGivingFault (given (map declared_of yacc.now.declarations.items))) }
+{
+    let terminals = number_terminals(alloc, yacc)?;
+    let nonterminals = number_nonterminals(alloc, yacc)?;
+    let precedences = precedences(alloc, &terminals, &yacc.declarations)?;
+    Ok(SymbolTable {
+        terminals,
+        nonterminals,
+        precedences,
+    })
+}
+
+/// The number of the start symbol: of the name behind `%start`, which may be no token, or else the first left side.
+fn start_symbol(alloc: Global, table: &SymbolTable, yacc: &YaccFile) -> Result<Sym, JoinFault>
+    requires numbered { AreNumbered (written_of yacc.now) (table_from table.now) }
+    requires some { 0 < length yacc.now.rules.items }
+    ensures ok { IfOk result (λ start. IsStart (written_of yacc.now) (table_from table.now) start.0) }
+    ensures fault { IfErr result (IsStartFault (written_of yacc.now) (table_from table.now)) }
+{
+    let Some(name) = &yacc.start else {
+        return Ok(table.nonterminals.number(&yacc.rules[0].left));
+    };
+    if table.terminals.token(name).is_some() {
+        return Err(JoinFault::UnknownStart(Vec::from_slice(alloc, name)?));
+    }
+    match table.nonterminals.find(name) {
+        Some(start) => Ok(start),
+        None => Err(JoinFault::UnknownStart(Vec::from_slice(alloc, name)?)),
+    }
+}
+
+/// The specification of joined rules and actions.
+fn specification(
+    alloc: Global,
+    table: SymbolTable,
+    start: Sym,
+    joined: (Vec<GrammarRule>, Vec<RuleNote>),
+    scanner: Vec<ScanAction>,
+) -> Result<Spec, OutOfMemory>
+    requires { IsReady (table_from table) start.0 joined.0.items (map note_of joined.1.items) }
+    ensures { IfOk result (λ s. s ≡ spec_from (table_from table) start.0 joined.0.items (map note_of joined.1.items)
+        scanner.items) }
+{
+    let (rules, notes) = joined;
+    let SymbolTable {
+        terminals,
+        nonterminals,
+        precedences,
+    } = table;
+    let grammar = Grammar::new(alloc, terminals.count(), nonterminals.count(), start, rules)?;
+    Ok(Spec {
+        grammar,
+        terminals,
+        nonterminals,
+        precedences,
+        notes,
+        scanner,
+    })
+}

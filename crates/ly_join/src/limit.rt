@@ -1,0 +1,144 @@
+ghost use Rattle.std.specs.Prelude.{◌≡◌, ◌<◌, ◌≤◌, length, map, max, MatchResult};
+ghost use Rattle.ly_yaccread.specs.File.{making_of, ruling_of, written_of};
+ghost use Rattle.ly_join.specs.Scanning.{scanning_of};
+ghost use Rattle.ly_join.specs.Terminals.{Terminal};
+ghost use Rattle.ly_join.specs.Private.Tables.{terminal_of};
+ghost use Rattle.ly_join.specs.declared.limit.Limit as spec;
+ghost use Rattle.ly_join.specs.declared.limit.Limit.TheVariants as limit;
+ghost use Rattle.ly_join.specs.declared.fault.JoinFault.TheVariants.{LimitPassed};
+ghost use Rattle.ly_join.specs.Counts.{constructor_length, counted, greatest, limit_of, name_lengths, token_length};
+ghost use Rattle.ly_join.specs.Counts.{IsWithin};
+ghost use Rattle.ly_join.specs.FaultNames.{limit_name};
+
+use crate::fault::JoinFault;
+use ly_base::Limits;
+use ly_lexread::LexFile;
+use ly_yaccread::{Action, Production, Symbol, YaccFile};
+
+/// A count that has a limit.
+#[derive(Clone, Copy, Debug, PartialEq, Eq)]
+pub enum Limit {
+    /// How many symbols the grammar has, `$end`, `$undef` and `$accept` among them.
+    Symbols,
+    /// How many rules the yacc file has.
+    Rules,
+    /// How many rules the lex file has.
+    LexRules,
+    /// How many symbols the longest body has.
+    Body,
+    /// How many start conditions the lex file has, the initial one among them.
+    Conditions,
+    /// How many bytes the longest name of a token, a left side or a constructor has.
+    Name,
+}
+
+impl Limit {
+    /// The name that the limit is printed with.
+    pub fn name(&self) -> &'static str
+        ensures { result.now ≡ limit_name self.now }
+    {
+        match self {
+            Limit::Symbols => "symbols",
+            Limit::Rules => "rules",
+            Limit::LexRules => "lexrules",
+            Limit::Body => "body",
+            Limit::Conditions => "conditions",
+            Limit::Name => "name",
+        }
+    }
+}
+
+/// Refuses what has a count above its limit, the first in the order of `Limit`.
+pub(crate) fn check_limits(
+    limits: &Limits,
+    lex: &LexFile,
+    yacc: &YaccFile,
+    symbols: usize,
+) -> Result<(), JoinFault>
+    requires { symbols ≡ counted limit.Symbols (scanning_of lex.now) (written_of yacc.now) }
+    ensures { MatchResult result (λ _. IsWithin limits.now (scanning_of lex.now) (written_of yacc.now))
+        (λ f. (which : spec.Limit) × (f ≡ LimitPassed which)
+        × (limit_of which limits.now < counted which (scanning_of lex.now) (written_of yacc.now))) }
+{
+    check(Limit::Symbols, symbols, limits.symbols())?;
+    check(Limit::Rules, yacc.rules.len(), limits.yacc_rules())?;
+    check(Limit::LexRules, lex.rules.len(), limits.lex_rules())?;
+    check(Limit::Body, longest_body(&yacc.rules), limits.body_length())?;
+    check(
+        Limit::Conditions,
+        lex.conditions as usize,
+        limits.conditions(),
+    )?;
+    check(Limit::Name, longest_name(yacc), limits.name_length())
+}
+
+/// Refuses a count above its limit.
+fn check(which: Limit, count: usize, most: u32) -> Result<(), JoinFault>
+    ensures { MatchResult result (λ _. count ≤ most) (λ f. (f ≡ LimitPassed which) × (most < count)) }
+{
+    if count <= most as usize {
+        Ok(())
+    } else {
+        Err(JoinFault::LimitPassed { which })
+    }
+}
+
+/// How many symbols the longest body has.
+fn longest_body(rules: &[Production]) -> usize
+    ensures { result ≡ greatest (map (λ r. length r.body) (map ruling_of rules.now)) }
+{
+    let mut longest = 0;
+    for rule in rules {
+        longest = rule.body.len().max(longest);
+    }
+    longest
+}
+
+/// How many bytes the longest name of a token, a left side or a constructor has.
+fn longest_name(yacc: &YaccFile) -> usize
+    ensures { result ≡ greatest (name_lengths (written_of yacc.now)) }
+{
+    let mut longest = 0;
+    for declaration in &yacc.declarations {
+        longest = longest_token(&declaration.symbols).max(longest);
+    }
+    for rule in &yacc.rules {
+        longest = rule
+            .left
+            .len()
+            .max(constructor_length(&rule.action))
+            .max(longest);
+    }
+    longest
+}
+
+/// How many bytes the longest name among symbols has.
+fn longest_token(symbols: &[Symbol]) -> usize
+    ensures { result ≡ greatest (map token_length (map terminal_of symbols.now)) }
+{
+    let mut longest = 0;
+    for symbol in symbols {
+        longest = token_length(symbol).max(longest);
+    }
+    longest
+}
+
+/// How many bytes the name of a symbol has; 0 of a literal.
+fn token_length(symbol: &Symbol) -> usize
+    ensures { result ≡ token_length (terminal_of symbol.now) }
+{
+    match symbol {
+        Symbol::Name(name) => name.len(),
+        Symbol::Literal(_) => 0,
+    }
+}
+
+/// How many bytes the constructor of an action has; 0 where it has none.
+fn constructor_length(action: &Action) -> usize
+    ensures { result ≡ constructor_length (making_of action.now) }
+{
+    match action {
+        Action::Build { name, .. } => name.len(),
+        Action::Default | Action::Pass(_) => 0,
+    }
+}

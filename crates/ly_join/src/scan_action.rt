@@ -1,0 +1,72 @@
+//! What the rules of a lex file do, over numbered terminals.
+ghost use Rattle.std.specs.Prelude.{◌≡◌, map, IfErr, IfOk};
+ghost use Rattle.std.specs.List.{AllZip};
+ghost use Rattle.ly_join.specs.Scanning.{acting_of, returning_of, IsEmitted, IsScanAction};
+ghost use Rattle.ly_join.specs.Private.Rules.{IsFaultOfActions, IsUndeclaredIn};
+
+use crate::fault::JoinFault;
+use crate::terminal::Terminals;
+use ly_base::Sym;
+use ly_lexread::{Action, Returned};
+use std::alloc::Global;
+
+/// What happens where a rule of the lex file matches.
+#[derive(Clone, Copy, Debug, PartialEq, Eq)]
+pub struct ScanAction {
+    /// The condition that is set, if one is.
+    pub begin: Option<u32>,
+    /// The token that comes of it.
+    pub emits: Emitted,
+}
+
+/// The token that comes of a match.
+#[derive(Clone, Copy, Debug, PartialEq, Eq)]
+pub enum Emitted {
+    /// None: the text is passed over.
+    Nothing,
+    /// One of this terminal.
+    Terminal(Sym),
+    /// One of the terminal of the first byte that was matched.
+    FirstByte,
+}
+
+/// What the actions of a lex file do.
+pub(crate) fn scan_actions(
+    alloc: Global,
+    terminals: &Terminals,
+    actions: &[Action],
+) -> Result<Vec<ScanAction>, JoinFault>
+    ensures ok { IfOk result (λ joined.
+        AllZip (IsScanAction terminals.now) (map acting_of actions.now) joined.items) }
+    ensures fault { IfErr result (IsFaultOfActions terminals.now (map acting_of actions.now)) }
+{
+    let mut joined = Vec::new(alloc);
+    for action in actions {
+        let emits = emitted_by(alloc, terminals, &action.returns)?;
+        joined.push(ScanAction {
+            begin: action.begin,
+            emits,
+        })?;
+    }
+    Ok(joined)
+}
+
+/// The token that comes of what an action returns.
+fn emitted_by(
+    alloc: Global,
+    terminals: &Terminals,
+    returned: &Returned,
+) -> Result<Emitted, JoinFault>
+    ensures ok { IfOk result (IsEmitted terminals.now (returning_of returned.now)) }
+    ensures fault { IfErr result (IsUndeclaredIn terminals.now (returning_of returned.now)) }
+{
+    match returned {
+        Returned::Nothing => Ok(Emitted::Nothing),
+        Returned::FirstByte => Ok(Emitted::FirstByte),
+        Returned::Literal(byte) => Ok(Emitted::Terminal(terminals.of_byte(*byte))),
+        Returned::Token(name) => match terminals.token(name) {
+            Some(terminal) => Ok(Emitted::Terminal(terminal)),
+            None => Err(JoinFault::ReturnUndeclared(Vec::from_slice(alloc, name)?)),
+        },
+    }
+}

@@ -1,0 +1,175 @@
+ghost use Rattle.std.specs.Prelude.{◌≡◌, ◌<◌, [], ◌∷◌, ◌+◌, ◌^◌, length, map, IfOk, Contains};
+ghost use Rattle.ly_join.specs.Terminals.{byte as byte_terminal, end, undefined, same_terminal};
+ghost use Rattle.ly_join.specs.Terminals.{token as token_terminal, IsNumbered, IsOfByte};
+ghost use Rattle.ly_join.specs.Private.Numbering.{with_one};
+ghost use Rattle.ly_join.specs.Private.Tables.{terminal_of, IsFoundAs};
+
+use indexmap::IndexMap;
+use ly_base::{OutOfMemory, Sym};
+use ly_yaccread::Symbol;
+use std::alloc::Global;
+use std::marker::Model;
+
+/// What a terminal of a grammar is.
+#[derive(Debug, Drop)]
+pub enum TerminalName {
+    /// `$end`, the end of the text.
+    End,
+    /// `$undef`, every byte that the grammar doesn't name.
+    Undefined,
+    /// The token of this name.
+    Token(Vec<u8>),
+    /// The literal of this byte.
+    Literal(u8),
+}
+
+/// Terminals, numbered as they came: `$end`, `$undef`, and then tokens and literals, each once.
+#[derive(Drop)]
+pub(crate) struct Terminals {
+    /// What each terminal is.
+    names: Vec<TerminalName>,
+    /// The numbers of the tokens with a name.
+    tokens: IndexMap<Vec<u8>, Sym>,
+    /// The number of the literal of each byte, if there is one.
+    literals: Vec<Option<Sym>>,
+}
+
+impl Model for Terminals {
+    ghost use Rattle.std.specs.Prelude.{List, map};
+    ghost use Rattle.ly_join.specs.Terminals.{Terminal, terminal_from};
+    ghost use Rattle.ly_join.specs.Private.Tables.{AreTables};
+
+    ghost Value = { List Terminal };
+
+    ghost view = { λ t. map terminal_from t.names.items };
+
+    ghost invariant = { λ t. AreTables (λ k. k.items) (map terminal_from t.names.items) t.tokens.entries
+        t.literals.items };
+}
+
+impl Terminals {
+    ghost use Rattle.ly_join.specs.Terminals.{terminal_from};
+
+    /// `$end` and `$undef`.
+    pub(crate) fn new(alloc: Global) -> Result<Terminals, OutOfMemory>
+        ensures { IfOk result (λ t. t ≡ end ∷ undefined ∷ []) }
+    {
+        let mut names = Vec::new(alloc);
+        names.push(TerminalName::End)?;
+        names.push(TerminalName::Undefined)?;
+        Ok(Terminals {
+            names,
+            tokens: IndexMap::new(alloc),
+            literals: vec![in alloc; None; 256]?,
+        })
+    }
+
+    /// What each terminal is, by number.
+    pub(crate) fn names(&self) -> &[TerminalName]
+        ensures { map terminal_from result.now ≡ self.now }
+    {
+        &self.names
+    }
+
+    /// How many terminals there are.
+    pub(crate) fn count(&self) -> u32
+        ensures { result ≡ length self.now }
+    {
+        self.names.len() as u32
+    }
+
+    /// The number of the token of a name, if there is one.
+    pub(crate) fn token(&self, name: &[u8]) -> Option<Sym>
+        ensures { IsFoundAs self.now (token_terminal name.now) result }
+    {
+        self.tokens.get(name).copied()
+    }
+
+    /// The number of the literal of a byte, if it is a terminal.
+    pub(crate) fn literal(&self, byte: u8) -> Option<Sym>
+        ensures { IsFoundAs self.now (byte_terminal byte) result }
+    {
+        self.literals[byte as usize]
+    }
+
+    /// The number of the literal of a byte; 1 where it is no terminal.
+    pub(crate) fn of_byte(&self, byte: u8) -> Sym
+        ensures { IsOfByte self.now byte result.0 }
+    {
+        match self.literal(byte) {
+            Some(terminal) => terminal,
+            None => Sym(1),
+        }
+    }
+
+    /// The number of a symbol, if it is a terminal.
+    pub(crate) fn find(&self, symbol: &Symbol) -> Option<Sym>
+        ensures { IsFoundAs self.now (terminal_of symbol.now) result }
+    {
+        match symbol {
+            Symbol::Name(name) => self.token(name),
+            Symbol::Literal(byte) => self.literal(*byte),
+        }
+    }
+
+    /// The number of a symbol that is a terminal.
+    pub(crate) fn number(&self, symbol: &Symbol) -> Sym
+        requires { Contains self.now (terminal_of symbol.now) }
+        ensures { IsNumbered self.now (terminal_of symbol.now) result.0 }
+    {
+        self.find(symbol).unwrap()
+    }
+
+    /// The terminals with a symbol, which gets the next number where it is a new one.
+    pub(crate) fn with_symbol(
+        self,
+        alloc: Global,
+        symbol: &Symbol,
+    ) -> Result<Terminals, OutOfMemory>
+        ensures { IfOk result (λ t. t ≡ with_one same_terminal self (terminal_of symbol.now)) }
+    {
+        match symbol {
+            Symbol::Name(name) => self.with_token(alloc, name),
+            Symbol::Literal(byte) => self.with_literal(*byte),
+        }
+    }
+
+    /// The terminals with the token of a name.
+    fn with_token(mut self, alloc: Global, name: &[u8]) -> Result<Terminals, OutOfMemory>
+        ensures { IfOk result (λ t. t ≡ with_one same_terminal self (token_terminal name.now)) }
+    {
+        if self.token(name).is_some() {
+            return Ok(self);
+        }
+        let number = next_number(self.names.len())?;
+        self.tokens.insert(Vec::from_slice(alloc, name)?, number)?;
+        self.names
+            .push(TerminalName::Token(Vec::from_slice(alloc, name)?))?;
+        Ok(self)
+    }
+
+    /// The terminals with the literal of a byte.
+    fn with_literal(mut self, byte: u8) -> Result<Terminals, OutOfMemory>
+        ensures { IfOk result (λ t. t ≡ with_one same_terminal self (byte_terminal byte)) }
+    {
+        if self.literal(byte).is_some() {
+            return Ok(self);
+        }
+        let number = next_number(self.names.len())?;
+        self.literals[byte as usize] = Some(number);
+        self.names.push(TerminalName::Literal(byte))?;
+        Ok(self)
+    }
+}
+
+/// The number of what comes behind so many symbols. More than a u32 counts are too many.
+pub(crate) fn next_number(count: usize) -> Result<Sym, OutOfMemory>
+    ensures number { IfOk result (λ n. n.0 ≡ count) }
+    ensures small { IfOk result (λ n. count + 1 < 2 ^ 32) }
+{
+    if count < u32::MAX as usize {
+        Ok(Sym(count as u32))
+    } else {
+        Err(OutOfMemory)
+    }
+}
