@@ -2,13 +2,13 @@
 use denote.Ref.{Bor}
 use Rattle.std.specs.Option.{MatchOption}
 use Rattle.std.specs.Prelude.{codes}
-use Rattle.std.proofs.Common.{◌≡◌, ◌≢◌, ℕ, ◌<◌, List, [], ◌∷◌, ◌++◌, Bool, true, false, IsTrue, refl, sym, ap, ap₂, ◌∙◌}
-use Rattle.std.proofs.Common.{subst, arith, Option, Some, None, Vec, Global, drop, inl, inr, ◌⊎◌, append_assoc}
+use Rattle.std.proofs.Common.{◌≡◌, ◌≢◌, ℕ, List, [], ◌∷◌, ◌++◌, refl, sym, ap, ◌∙◌}
+use Rattle.std.proofs.Common.{subst, arith, Option, Some, None, Vec, Global, drop, inl, inr, append_assoc}
 use Rattle.std.proofs.lemmas.Bool.{false≢true}
 use Rattle.ly_base.specs.Language.{NameBefore, starts_name}
 use Rattle.ly_base.specs.declared.language.Language.TheVariants.{Lex}
 use Rattle.ly_base.proofs.NameLemmas.{name_one}
-use Rattle.ly_lexread.specs.Conditions.{Condition, condition_of, inclusive}
+use Rattle.ly_lexread.specs.Conditions.{Condition, condition_of}
 use Rattle.ly_lexread.specs.Rules.{ActiveBefore, ConditionBefore, Listed, last, more}
 
 -- a name doesn't begin with `0`

@@ -1,21 +1,19 @@
 -- The lines of directives are determined.
-use Rattle.std.specs.Prelude.{IsSome, codes, is_some}
-use Rattle.std.proofs.Common.{◌≡◌, ◌≢◌, ℕ, List, [], ◌∷◌, ◌++◌, Bool, true, false, refl, sym, ap, ap₂, ◌∙◌, subst, Option}
+use Rattle.std.specs.Prelude.{codes, is_some}
+use Rattle.std.proofs.Common.{◌≡◌, ◌≢◌, ℕ, List, [], ◌∷◌, ◌++◌, Bool, true, false, refl, sym, ap, ◌∙◌, subst, Option}
 use Rattle.std.proofs.Common.{Some, None, Result, Ok, Err, drop}
 use Rattle.ly_base.specs.Blank.{is_blank}
 use Rattle.ly_base.specs.Escapes.{AllPass}
-use Rattle.ly_base.specs.Language.{NameBefore, starts_name}
+use Rattle.ly_base.specs.Language.{NameBefore}
 use Rattle.ly_base.specs.declared.language.Language.TheVariants.{Lex}
 use Rattle.ly_base.proofs.NameLemmas.{name_one}
 use Rattle.ly_lexread.specs.Conditions.{Condition, condition_of}
-use Rattle.ly_lexread.specs.Definitions.{BlanksBefore, Declares, DeclaresAll, DirectiveLine, Directs, IsIdle}
+use Rattle.ly_lexread.specs.Definitions.{BlanksBefore, DeclaresAll, DirectiveLine, Directs, IsIdle}
 use Rattle.ly_lexread.specs.Definitions.{directive_of, end, more}
-use Rattle.ly_lexread.specs.Faults.{IsOfText, IsTooHeavy}
 use Rattle.ly_lexread.specs.Private.Definitions.{IsDirected}
 use Rattle.ly_lexread.specs.declared.directive.Directed.{Directed}
 use Rattle.ly_lexread.specs.declared.directive.Directed.TheVariants.{Inclusive, Exclusive, Size, TextKind, Unknown}
 use Rattle.ly_lexread.specs.declared.fault.LexFault.{LexFault}
-use Rattle.ly_lexread.specs.declared.fault.LexFault.TheVariants.{OutOfMemory}
 use Rattle.ly_lexread.proofs.BlankLemmas.{blanks_one}
 
 -- blanks are no more than blanks

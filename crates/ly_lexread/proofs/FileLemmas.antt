@@ -1,6 +1,6 @@
 -- What a lex file says is determined.
 use Rattle.std.proofs.Common.{◌≡◌, ◌<◌, ◌+◌, ℕ, zero, suc, Some, None, List, [], ◌∷◌, ◌++◌, Bool, true, false, refl, sym}
-use Rattle.std.proofs.Common.{◌∙◌, ap, subst, length, map, arith, inl, inr, Option, length-append, ◌⊎◌, cond, ltb}
+use Rattle.std.proofs.Common.{◌∙◌, ap, subst, length, map, arith, inl, inr, length-append, ◌⊎◌, cond, ltb}
 use Rattle.std.proofs.lemmas.Bool.Decides.{nat_tests}
 use Rattle.std.specs.List.{position_or_len}
 use Rattle.std.specs.List.{slice_get}
@@ -27,7 +27,7 @@ use Rattle.ly_lexread.specs.declared.directive.Directed.{Directed}
 use Rattle.ly_lexread.specs.declared.directive.Directed.TheVariants.{Inclusive, Exclusive, Size, TextKind, Unknown}
 use Rattle.ly_lexread.specs.declared.kind.LineKind.{LineKind}
 use Rattle.ly_lexread.specs.declared.kind.LineKind.TheVariants.{Mark, Unused, Block, Comment, Directive, Plain}
-use Rattle.ly_lexread.specs.LexText.{AreSame, AreSameActions, AreSameRules, LexText, LexTextIsOne}
+use Rattle.ly_lexread.specs.LexText.{AreSameActions, AreSameRules, LexText, LexTextIsOne}
 use Rattle.ly_lexread.specs.Rules.{ActiveBefore, ConditionBefore, Listed, RuleBefore, Rules, end, rule, skip}
 use Rattle.ly_lexread.specs.Rules as listing
 use Rattle.ly_lexread.proofs.DefinitionLemmas.{definitions_one}

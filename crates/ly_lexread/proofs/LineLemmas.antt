@@ -1,10 +1,8 @@
 -- A text's first line and what stands behind it.
-use Rattle.std.specs.Bool.{MatchBool}
-use Rattle.std.proofs.Common.{◌≡◌, ◌≢◌, ℕ, ◌<◌, ◌≤◌, List, [], ◌∷◌, ◌++◌, Bool, true, false, refl, sym, ap, ◌∙◌}
-use Rattle.std.proofs.Common.{subst, length, take, drop, arith, eqb, not, take-append-drop, length-drop}
+use Rattle.std.proofs.Common.{◌≡◌, ◌≢◌, ℕ, ◌<◌, List, [], ◌∷◌, Bool, false, sym, ap, ◌∙◌}
+use Rattle.std.proofs.Common.{subst, length, take, drop, arith, eqb, take-append-drop}
 use Rattle.std.specs.List.{position_or_len}
 use Rattle.std.proofs.lemmas.Bool.{false≢true}
-use Rattle.ly_base.specs.Escapes.{AllPass, Stops}
 use Rattle.ly_base.proofs.NameLemmas.{run, runs_one}
 use Rattle.ly_lexread.specs.Lines.{BeginsWith, BlockEnds, LineBefore, LineOf, in_line, last, more}
 

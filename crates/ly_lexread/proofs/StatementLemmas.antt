@@ -1,16 +1,15 @@
 -- The statements of an action are determined.
 use denote.Ref.{Bor}
 use Rattle.std.specs.Bool.{MatchBool}
-use Rattle.std.specs.Option.{MatchOption}
 use Rattle.std.specs.Prelude.{IfErr, IfOk, MatchResult, codes}
 use Rattle.std.proofs.Common.{◌≡◌, ◌≢◌, ℕ, ◌<◌, ◌≤◌, List, [], ◌∷◌, ◌++◌, Bool, true, false, refl, sym, ap, ◌∙◌, subst}
-use Rattle.std.proofs.Common.{arith, get_or, Result, Ok, Err, Some, None, Option, drop, length}
+use Rattle.std.proofs.Common.{arith, get_or, Result, Ok, Err, Some, Option, drop, length}
 use Rattle.std.proofs.Common.{append_assoc, length-append, length-drop, ◌-◌, ◌+◌, ◌⊎◌, inl, inr}
 use Rattle.std.proofs.Math.Seq.{drop-append_seam}
 use Rattle.ly_base.specs.Gap.{Gap}
 use Rattle.ly_base.specs.declared.language.Language.{Language}
 use Rattle.ly_base.specs.declared.language.Language.TheVariants.{Lex, Yacc}
-use Rattle.ly_lexread.specs.Action.{Effect, Meaning, Saying, first_byte, literal_of, next, no_effect, nothing, own, token}
+use Rattle.ly_lexread.specs.Action.{Effect, Meaning, Saying, next, no_effect, own}
 use Rattle.ly_lexread.specs.Conditions.{Condition}
 use Rattle.ly_lexread.specs.Private.Statements.{EndsBy, saying_of, statement_of}
 use Rattle.ly_lexread.specs.Private.Words.{IsFound, IsFront, word_of}
@@ -35,7 +34,6 @@ use Rattle.ly_lexread.specs.Lines.{LineOf}
 use Rattle.ly_lexread.proofs.LineLemmas.{line_one}
 use Rattle.ly_lexread.proofs.WordLemmas.{end_gap, found_front, front_end, front_is, front_none, front_one, front_shorter}
 use Rattle.ly_lexread.proofs.WordLemmas.{mark_front}
-use Rattle.ly_lexread.proofs.WordLemmas.{name_front}
 
 pub opens_one : (l : Language) (text i j : List ℕ) (t u : Bool) → Opens l text t i → Opens l text u j
     → (t ≡ u) × (i ≡ j)
