@@ -62,7 +62,8 @@ listed_behind cs ns text behind all rest n first u e (last _ _ r m h) =
 listed_behind cs ns text behind all rest n first u e (more _ _ v _ _ m h d) =
     let same = condition_one cs text behind (codes "," ++ v) n m first h in
     let there : v ≡ u = ap (drop 1) (sym same.1 ∙ e) in
-    subst (λ i. Listed cs (ns ++ i ∷ []) u all rest) (sym same.0) (subst (λ i. Listed cs (ns ++ m ∷ []) i all rest) there d)
+    subst (λ i. Listed cs (ns ++ i ∷ []) u all rest) (sym same.0) (subst (λ i. Listed cs (ns
+    ++ m ∷ []) i all rest) there d)
 
 pub listed_end : (cs : List Condition) (ns text behind all rest : List ℕ) (n : ℕ) → ConditionBefore cs text n behind
     → (r : List ℕ) → behind ≡ codes ">" ++ r → Listed cs ns text all rest → (all ≡ ns ++ n ∷ []) × (rest ≡ r)

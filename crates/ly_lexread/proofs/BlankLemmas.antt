@@ -5,7 +5,8 @@ use denote.Ref.{Bor}
 use Rattle.std.specs.List.{prefix_len}
 use Rattle.std.proofs.lemmas.Bool.{false≢true}
 use Rattle.std.proofs.Common.{◌≡◌, ℕ, suc, ◌+◌, ◌<◌, ◌≤◌, List, [], ◌∷◌, ◌++◌, Bool, true, false, cond}
-use Rattle.std.proofs.Common.{refl, sym, ap, ◌∙◌, subst, length, take, drop, arith, eqb, take-append-drop, length-take, Option}
+use Rattle.std.proofs.Common.{refl, sym, ap, ◌∙◌, subst, length, take, drop, arith, eqb, take-append-drop, length-take}
+use Rattle.std.proofs.Common.{Option}
 use Rattle.std.proofs.Common.{Some, None}
 use Rattle.std.proofs.lemmas.Bool.Decides.{nat_tests}
 use Rattle.ly_base.specs.Blank.{is_blank}
@@ -72,7 +73,8 @@ are_all_blanks text n false e f = λ a. other n (length text) (sym f) (e ∙ cou
     other n m h k = grind (arith, nat_tests)
 
 -- a number that stands behind blanks
-pub number_in : (text number digits rest : List ℕ) (t : Bool) → BlanksBefore text number → DigitsBefore number digits rest
+pub number_in : (text number digits rest : List ℕ) (t : Bool) → BlanksBefore text number
+    → DigitsBefore number digits rest
     → MatchBool t (AllPass is_blank rest) (AllPass is_blank rest → ⊥)
     → MatchBool t (IsNumber text) (IsNumber text → ⊥)
 number_in text number digits rest true b d a = (number, digits, rest, b, d, a)

@@ -81,7 +81,8 @@ places_last true k n e = refl
 places_last false k n e = ap (λ i. i ∷ []) e
 
 -- one more
-pub places_more : (xs : List Bool) (x : Bool) → places 0 (xs ++ x ∷ []) ≡ places 0 xs ++ (if x then [] else length xs ∷ [])
+pub places_more : (xs : List Bool) (x : Bool) → places 0 (xs ++ x ∷ []) ≡ places 0 xs ++
+    (if x then [] else length xs ∷ [])
 places_more xs x = places_append 0 xs (x ∷ [])
     ∙ ap (λ ns. places 0 xs ++ ns) (places_last x (0 + length xs) (length xs) (omega arith))
 

@@ -144,7 +144,8 @@ declares_behind_into x cs next all text behind n rest b h e d = subst (λ i. Dec
     (declares_behind x cs all text behind n rest b h d)
 
 -- a directive of this kind
-pub directive_by : (cs : List Condition) (line behind word rest : List ℕ) (d : Directed) (r : Result (List Condition) LexFault)
+pub directive_by : (cs : List Condition) (line behind word rest : List ℕ) (d : Directed) (r : Result
+    (List Condition) LexFault)
     → line ≡ codes "%" ++ behind → NameBefore Lex behind word rest → directive_of word ≡ d
     → IsDirected (Directs d cs rest) r → IsDirected (DirectiveLine cs line) r
 directive_by cs line behind word rest d r e h k =

@@ -280,7 +280,13 @@ wording_one l text (x ∷ xs) (y ∷ ys) a b =
 word_shorter : (text : List ℕ) (x : Word) (rest : List ℕ) → Begins text x rest → length rest < length text
 word_shorter text (mark m) rest h = omega (arith, ap length h.1)
 word_shorter text text_byte rest (inl h)
-    = omega (arith, ap length h.2, length-append (codes "yytext") (codes "[0]" ++ rest), length-append (codes "[0]") rest)
+    = omega (
+      arith,
+      ap length h.2,
+      length-append (codes "yytext") (codes "[0]" ++ rest),
+      length-append
+          (codes "[0]") rest,
+    )
 word_shorter text text_byte rest (inr h)
     = omega (arith, ap length h.1, ap length h.2.2, length-append (codes "yytext") rest)
 word_shorter text (name []) rest h = absurd h.0.0
