@@ -21,7 +21,8 @@ runs_spell : (bytes : List ℕ) (file : LexFile) (nfa : Nfa) → LexText bytes f
     → RunsSpell (defined file.names) file.rules.items nfa
 runs_spell bytes file nfa text are i c line w = (there (cases_lt c file.conditions), back)
   where
-    there : (c < file.conditions) ⊎ (file.conditions ≤ c) → (p : ℕ) × Contains (starts_of nfa c line) p × RunsTo nfa i p w
+    there : (c < file.conditions) ⊎ (file.conditions ≤ c) → (p : ℕ) × Contains (starts_of nfa c line) p
+        × RunsTo nfa i p w
         → IsString (defined file.names) file.rules.items c line i w
     there (inl less) h = (are.spells c line i w less).0 h
     there (inr more) h = let P : List ℕ → Type 0 = λ ps. Contains ps h.0

@@ -2,13 +2,13 @@
 use denote.Ref.{Bor}
 use Rattle.std.specs.Option.{MatchOption}
 use Rattle.std.specs.Prelude.{codes}
-use Rattle.std.proofs.Common.{◌≡◌, ◌≢◌, ℕ, ◌<◌, List, [], ◌∷◌, ◌++◌, Bool, true, false, IsTrue, refl, sym, ap, ap₂, ◌∙◌}
-use Rattle.std.proofs.Common.{subst, arith, Option, Some, None, Vec, Global, drop, inl, inr, ◌⊎◌, append_assoc}
+use Rattle.std.proofs.Common.{◌≡◌, ◌≢◌, ℕ, List, [], ◌∷◌, ◌++◌, refl, sym, ap, ◌∙◌}
+use Rattle.std.proofs.Common.{subst, arith, Option, Some, None, Vec, Global, drop, inl, inr, append_assoc}
 use Rattle.std.proofs.lemmas.Bool.{false≢true}
 use Rattle.ly_base.specs.Language.{NameBefore, starts_name}
 use Rattle.ly_base.specs.declared.language.Language.TheVariants.{Lex}
 use Rattle.ly_base.proofs.NameLemmas.{name_one}
-use Rattle.ly_lexread.specs.Conditions.{Condition, condition_of, inclusive}
+use Rattle.ly_lexread.specs.Conditions.{Condition, condition_of}
 use Rattle.ly_lexread.specs.Rules.{ActiveBefore, ConditionBefore, Listed, last, more}
 
 -- a name doesn't begin with `0`
@@ -62,7 +62,8 @@ listed_behind cs ns text behind all rest n first u e (last _ _ r m h) =
 listed_behind cs ns text behind all rest n first u e (more _ _ v _ _ m h d) =
     let same = condition_one cs text behind (codes "," ++ v) n m first h in
     let there : v ≡ u = ap (drop 1) (sym same.1 ∙ e) in
-    subst (λ i. Listed cs (ns ++ i ∷ []) u all rest) (sym same.0) (subst (λ i. Listed cs (ns ++ m ∷ []) i all rest) there d)
+    subst (λ i. Listed cs (ns ++ i ∷ []) u all rest) (sym same.0) (subst (λ i. Listed cs (ns
+    ++ m ∷ []) i all rest) there d)
 
 pub listed_end : (cs : List Condition) (ns text behind all rest : List ℕ) (n : ℕ) → ConditionBefore cs text n behind
     → (r : List ℕ) → behind ≡ codes ">" ++ r → Listed cs ns text all rest → (all ≡ ns ++ n ∷ []) × (rest ≡ r)

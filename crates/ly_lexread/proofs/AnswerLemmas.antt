@@ -11,7 +11,6 @@ use Rattle.ly_lexread.specs.declared.fault.LexFault.{LexFault}
 use Rattle.ly_lexread.specs.declared.fault.LexFault.TheVariants.{Pattern, OutOfMemory}
 use Rattle.ly_lexread.specs.Faults.{IsOfText, IsTooHeavy}
 use Rattle.ly_lexread.specs.LexText.{IsReadAs}
-use Rattle.ly_lexread.specs.Lines.{LineOf}
 use Rattle.ly_lexread.specs.Rules.{ActiveBefore, AreLight, IsHeavyRule, RuleBefore, RuleLine}
 use Rattle.ly_lexread.proofs.ActiveLemmas.{active_one}
 use Rattle.ly_lexread.proofs.LineLemmas.{line_one}

@@ -4,12 +4,13 @@ use Rattle.std.specs.Option.{MatchOption}
 use denote.Ref.{Bor}
 use Rattle.std.specs.List.{prefix_len}
 use Rattle.std.proofs.lemmas.Bool.{false≢true}
-use Rattle.std.proofs.Common.{◌≡◌, ◌≢◌, ℕ, zero, suc, ◌+◌, ◌<◌, ◌≤◌, List, [], ◌∷◌, ◌++◌, Bool, true, false, cond}
-use Rattle.std.proofs.Common.{refl, sym, ap, ◌∙◌, subst, length, take, drop, arith, eqb, take-append-drop, length-take, Option}
+use Rattle.std.proofs.Common.{◌≡◌, ℕ, suc, ◌+◌, ◌<◌, ◌≤◌, List, [], ◌∷◌, ◌++◌, Bool, true, false, cond}
+use Rattle.std.proofs.Common.{refl, sym, ap, ◌∙◌, subst, length, take, drop, arith, eqb, take-append-drop, length-take}
+use Rattle.std.proofs.Common.{Option}
 use Rattle.std.proofs.Common.{Some, None}
 use Rattle.std.proofs.lemmas.Bool.Decides.{nat_tests}
 use Rattle.ly_base.specs.Blank.{is_blank}
-use Rattle.ly_base.specs.Escapes.{AllPass, Stops}
+use Rattle.ly_base.specs.Escapes.{AllPass}
 use Rattle.ly_base.specs.Language.{DigitsBefore, NameBefore}
 use Rattle.ly_base.specs.declared.language.Language.TheVariants.{Lex}
 use Rattle.ly_base.proofs.NameLemmas.{Run, digits_one, run, runs_one}
@@ -72,7 +73,8 @@ are_all_blanks text n false e f = λ a. other n (length text) (sym f) (e ∙ cou
     other n m h k = grind (arith, nat_tests)
 
 -- a number that stands behind blanks
-pub number_in : (text number digits rest : List ℕ) (t : Bool) → BlanksBefore text number → DigitsBefore number digits rest
+pub number_in : (text number digits rest : List ℕ) (t : Bool) → BlanksBefore text number
+    → DigitsBefore number digits rest
     → MatchBool t (AllPass is_blank rest) (AllPass is_blank rest → ⊥)
     → MatchBool t (IsNumber text) (IsNumber text → ⊥)
 number_in text number digits rest true b d a = (number, digits, rest, b, d, a)

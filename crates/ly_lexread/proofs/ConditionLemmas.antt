@@ -1,12 +1,12 @@
 -- One more condition, and the numbers of conditions.
-use Rattle.std.proofs.Common.{◌≡◌, ◌<◌, ◌≤◌, List, [], ◌∷◌, ◌++◌, length, length-append, sym, ap, ◌∙◌, ◌+◌, ℕ, Bool, refl}
-use Rattle.std.proofs.Common.{subst, arith, drop, take, get_or, length-take, add-one}
-use Rattle.std.specs.Prelude.{◌||◌, None, Some, true, false, if◌then◌else◌, cond, map, not, position, zip}
+use Rattle.std.proofs.Common.{◌≡◌, ◌<◌, List, [], ◌∷◌, ◌++◌, length, sym, ap, ◌∙◌, ◌+◌, ℕ, Bool, refl}
+use Rattle.std.proofs.Common.{arith, take, get_or, length-take, add-one}
+use Rattle.std.specs.Prelude.{◌||◌, None, Some, true, false, if◌then◌else◌, cond, map, position, zip}
 use Rattle.std.specs.List.{list_any, position_from}
 use Rattle.std.proofs.lemmas.Iterator.Adapters.{position_from-zero}
 use Rattle.std.proofs.Math.Seq.{take-suc}
 use Rattle.std.specs.Str.{bytes_eq}
-use Rattle.ly_lexread.specs.Conditions.{Condition, condition_of, inclusive, inclusive_from}
+use Rattle.ly_lexread.specs.Conditions.{Condition, condition_of, inclusive_from}
 
 position_zip : {K : Type 0} (p : List ℕ → Bool) (f : K → List ℕ) (ks : List K) (es : List Bool) (n : ℕ)
     → length ks ≡ length es
@@ -81,7 +81,8 @@ places_last true k n e = refl
 places_last false k n e = ap (λ i. i ∷ []) e
 
 -- one more
-pub places_more : (xs : List Bool) (x : Bool) → places 0 (xs ++ x ∷ []) ≡ places 0 xs ++ (if x then [] else length xs ∷ [])
+pub places_more : (xs : List Bool) (x : Bool) → places 0 (xs ++ x ∷ []) ≡ places 0 xs ++
+    (if x then [] else length xs ∷ [])
 places_more xs x = places_append 0 xs (x ∷ [])
     ∙ ap (λ ns. places 0 xs ++ ns) (places_last x (0 + length xs) (length xs) (omega arith))
 

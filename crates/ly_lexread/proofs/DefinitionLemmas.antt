@@ -1,8 +1,7 @@
 -- The definitions are determined.
-use Rattle.std.proofs.Common.{◌≡◌, ◌≢◌, ℕ, List, [], ◌∷◌, ◌++◌, refl, sym, ap, ◌∙◌, subst, drop, Result, Ok, Err}
-use Rattle.std.specs.Prelude.{codes}
+use Rattle.std.proofs.Common.{◌≡◌, ◌≢◌, ℕ, List, [], refl, sym, ap, ◌∙◌, subst, drop}
 use Rattle.ly_base.proofs.GapLemmas.{comment_one}
-use Rattle.ly_lexread.specs.Definitions.{CommentEnds, Definitions, DirectiveLine, LineSays, Preamble, Says, mark, more}
+use Rattle.ly_lexread.specs.Definitions.{CommentEnds, Definitions, LineSays, Preamble, Says, mark, more}
 use Rattle.ly_lexread.specs.Lines.{BlockEnds, LineBefore, kind_of}
 use Rattle.ly_lexread.specs.declared.kind.LineKind.{LineKind}
 use Rattle.ly_lexread.specs.declared.kind.LineKind.TheVariants.{Mark, Unused, Block, Comment, Directive, Plain}

@@ -1,21 +1,19 @@
 -- The lines of directives are determined.
-use Rattle.std.specs.Prelude.{IsSome, codes, is_some}
-use Rattle.std.proofs.Common.{◌≡◌, ◌≢◌, ℕ, List, [], ◌∷◌, ◌++◌, Bool, true, false, refl, sym, ap, ap₂, ◌∙◌, subst, Option}
+use Rattle.std.specs.Prelude.{codes, is_some}
+use Rattle.std.proofs.Common.{◌≡◌, ◌≢◌, ℕ, List, [], ◌∷◌, ◌++◌, Bool, true, false, refl, sym, ap, ◌∙◌, subst, Option}
 use Rattle.std.proofs.Common.{Some, None, Result, Ok, Err, drop}
 use Rattle.ly_base.specs.Blank.{is_blank}
 use Rattle.ly_base.specs.Escapes.{AllPass}
-use Rattle.ly_base.specs.Language.{NameBefore, starts_name}
+use Rattle.ly_base.specs.Language.{NameBefore}
 use Rattle.ly_base.specs.declared.language.Language.TheVariants.{Lex}
 use Rattle.ly_base.proofs.NameLemmas.{name_one}
 use Rattle.ly_lexread.specs.Conditions.{Condition, condition_of}
-use Rattle.ly_lexread.specs.Definitions.{BlanksBefore, Declares, DeclaresAll, DirectiveLine, Directs, IsIdle}
+use Rattle.ly_lexread.specs.Definitions.{BlanksBefore, DeclaresAll, DirectiveLine, Directs, IsIdle}
 use Rattle.ly_lexread.specs.Definitions.{directive_of, end, more}
-use Rattle.ly_lexread.specs.Faults.{IsOfText, IsTooHeavy}
 use Rattle.ly_lexread.specs.Private.Definitions.{IsDirected}
 use Rattle.ly_lexread.specs.declared.directive.Directed.{Directed}
 use Rattle.ly_lexread.specs.declared.directive.Directed.TheVariants.{Inclusive, Exclusive, Size, TextKind, Unknown}
 use Rattle.ly_lexread.specs.declared.fault.LexFault.{LexFault}
-use Rattle.ly_lexread.specs.declared.fault.LexFault.TheVariants.{OutOfMemory}
 use Rattle.ly_lexread.proofs.BlankLemmas.{blanks_one}
 
 -- blanks are no more than blanks
@@ -146,7 +144,8 @@ declares_behind_into x cs next all text behind n rest b h e d = subst (λ i. Dec
     (declares_behind x cs all text behind n rest b h d)
 
 -- a directive of this kind
-pub directive_by : (cs : List Condition) (line behind word rest : List ℕ) (d : Directed) (r : Result (List Condition) LexFault)
+pub directive_by : (cs : List Condition) (line behind word rest : List ℕ) (d : Directed) (r : Result
+    (List Condition) LexFault)
     → line ≡ codes "%" ++ behind → NameBefore Lex behind word rest → directive_of word ≡ d
     → IsDirected (Directs d cs rest) r → IsDirected (DirectiveLine cs line) r
 directive_by cs line behind word rest d r e h k =

@@ -1,6 +1,7 @@
 -- What a lex file says is determined.
-use Rattle.std.proofs.Common.{◌≡◌, ◌<◌, ◌+◌, ℕ, zero, suc, Some, None, List, [], ◌∷◌, ◌++◌, Bool, true, false, refl, sym}
-use Rattle.std.proofs.Common.{◌∙◌, ap, subst, length, map, arith, inl, inr, Option, length-append, ◌⊎◌, cond, ltb}
+use Rattle.std.proofs.Common.{◌≡◌, ◌<◌, ◌+◌, ℕ, zero, suc, Some, None, List, [], ◌∷◌, ◌++◌, Bool, true, false, refl}
+use Rattle.std.proofs.Common.{sym}
+use Rattle.std.proofs.Common.{◌∙◌, ap, subst, length, map, arith, inl, inr, length-append, ◌⊎◌, cond, ltb}
 use Rattle.std.proofs.lemmas.Bool.Decides.{nat_tests}
 use Rattle.std.specs.List.{position_or_len}
 use Rattle.std.specs.List.{slice_get}
@@ -27,7 +28,7 @@ use Rattle.ly_lexread.specs.declared.directive.Directed.{Directed}
 use Rattle.ly_lexread.specs.declared.directive.Directed.TheVariants.{Inclusive, Exclusive, Size, TextKind, Unknown}
 use Rattle.ly_lexread.specs.declared.kind.LineKind.{LineKind}
 use Rattle.ly_lexread.specs.declared.kind.LineKind.TheVariants.{Mark, Unused, Block, Comment, Directive, Plain}
-use Rattle.ly_lexread.specs.LexText.{AreSame, AreSameActions, AreSameRules, LexText, LexTextIsOne}
+use Rattle.ly_lexread.specs.LexText.{AreSameActions, AreSameRules, LexText, LexTextIsOne}
 use Rattle.ly_lexread.specs.Rules.{ActiveBefore, ConditionBefore, Listed, RuleBefore, Rules, end, rule, skip}
 use Rattle.ly_lexread.specs.Rules as listing
 use Rattle.ly_lexread.proofs.DefinitionLemmas.{definitions_one}
@@ -40,7 +41,8 @@ same_actions [] [] e = tt
 same_actions [] (b ∷ bs) e = absurd (cc)
 same_actions (a ∷ as') [] e = absurd (cc)
 same_actions (a ∷ as') (b ∷ bs) e =
-    let one : effect_of a ≡ effect_of b = heads (effect_of a) (effect_of b) (map effect_of as') (map effect_of bs) e in (
+    let one : effect_of a ≡ effect_of b = heads (effect_of a) (effect_of b) (map effect_of as')
+    (map effect_of bs) e in (
       ap (λ i. i.begin) one,
       ap (λ i. i.returns) one,
       same_actions as' bs (tails (effect_of a) (effect_of b) (map effect_of as') (map effect_of bs) e),
@@ -52,7 +54,8 @@ same_actions (a ∷ as') (b ∷ bs) e =
     tails : (x y : Effect) (xs ys : List Effect) → x ∷ xs ≡ y ∷ ys → xs ≡ ys
     tails x y xs ys f = cc
 
-pub rules_one : (cs : List Condition) (names : List Definition) (text : List ℕ) (rs ss : List Rule) (xs ys : List Saying)
+pub rules_one : (cs : List Condition) (names : List Definition) (text : List ℕ) (rs ss : List Rule)
+    (xs ys : List Saying)
     → Rules cs names text rs xs → Rules cs names text ss ys → AreSameRules rs ss × (xs ≡ ys)
 rules_one cs names text rs ss xs ys (end _ o) d =
     let e = over_none cs names text ss ys o d in
@@ -114,7 +117,8 @@ within_length m n k = at (ltb m n) refl
 
 condition_below : (cs : List Condition) (text rest : List ℕ) (n : ℕ) → 0 < length cs → ConditionBefore cs text n rest
     → n < length cs
-condition_below cs text rest n some (inl h) = within_length (position_or_len (λ c. bytes_eq h.0 c.0) cs) (length cs) n h.2
+condition_below cs text rest n some (inl h) = within_length (position_or_len (λ c. bytes_eq h.0 c.0) cs)
+    (length cs) n h.2
 condition_below cs text rest n some (inr h) = omega (arith, h.1, some)
 
 listed_below : (cs : List Condition) (ns text all rest : List ℕ) → 0 < length cs → AreBelow (length cs) ns
@@ -139,7 +143,8 @@ inclusive_below n (d ∷ cs) c i = with_one d.1 n (n + length (d ∷ cs)) (inclu
 
 active_below : (cs : List Condition) (line active rest : List ℕ) → 0 < length cs → ActiveBefore cs line active rest
     → AreBelow (length cs) active
-active_below cs line active rest some (inl h) = listed_below cs [] h.0 active rest some (λ c i. absurd (Contains-none c i))
+active_below cs line active rest some (inl h) = listed_below cs [] h.0 active rest some (λ c i. absurd
+    (Contains-none c i))
     h.2
 active_below cs line active rest some (inr h) = λ c i.
     let less = inclusive_below 0 cs c (subst (λ ns. Contains ns c) h.1 i) in

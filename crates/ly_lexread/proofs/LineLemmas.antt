@@ -1,15 +1,14 @@
 -- A text's first line and what stands behind it.
-use Rattle.std.specs.Bool.{MatchBool}
-use Rattle.std.proofs.Common.{◌≡◌, ◌≢◌, ℕ, ◌<◌, ◌≤◌, List, [], ◌∷◌, ◌++◌, Bool, true, false, refl, sym, ap, ◌∙◌}
-use Rattle.std.proofs.Common.{subst, length, take, drop, arith, eqb, not, take-append-drop, length-drop}
+use Rattle.std.proofs.Common.{◌≡◌, ◌≢◌, ℕ, ◌<◌, List, [], ◌∷◌, Bool, false, sym, ap, ◌∙◌}
+use Rattle.std.proofs.Common.{subst, length, take, drop, arith, eqb, take-append-drop}
 use Rattle.std.specs.List.{position_or_len}
 use Rattle.std.proofs.lemmas.Bool.{false≢true}
-use Rattle.ly_base.specs.Escapes.{AllPass, Stops}
 use Rattle.ly_base.proofs.NameLemmas.{run, runs_one}
 use Rattle.ly_lexread.specs.Lines.{BeginsWith, BlockEnds, LineBefore, LineOf, in_line, last, more}
 
 -- the bytes before the first newline are a line
-pub line_at : (text : List ℕ) (n : ℕ) → n ≡ position_or_len (λ b. eqb b 10) text → LineOf text (take n text) (drop n text)
+pub line_at : (text : List ℕ) (n : ℕ) → n ≡ position_or_len (λ b. eqb b 10) text → LineOf text (take n text)
+    (drop n text)
 line_at text n e =
     let r = run in_line text in
     rw e (r.these, r.ends, sym (take-append-drop (position_or_len (λ b. eqb b 10) text) text))
@@ -36,7 +35,8 @@ block_here text line behind rest b w (last t l r c v) = (line_before_one text l 
 block_here text line behind rest b w (more t l h r c v d)
     = absurd (v (subst (λ i. BeginsWith i (37 ∷ 125 ∷ [])) (sym (line_before_one text l line h behind c b).0) w))
 
-pub block_behind : (text line behind rest : List ℕ) → LineBefore text line behind → (BeginsWith line (37 ∷ 125 ∷ []) → ⊥)
+pub block_behind : (text line behind rest : List ℕ) → LineBefore text line behind → (BeginsWith line (37 ∷ 125 ∷ [])
+    → ⊥)
     → BlockEnds text rest → BlockEnds behind rest
 block_behind text line behind rest b w (last t l r c v)
     = absurd (w (subst (λ i. BeginsWith i (37 ∷ 125 ∷ [])) (line_before_one text l line r behind c b).0 v))

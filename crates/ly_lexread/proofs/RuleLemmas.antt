@@ -16,7 +16,8 @@ use Rattle.ly_lexread.specs.Conditions.{Condition}
 use Rattle.ly_lexread.specs.Lines.{BlockEnds, LineBefore, LineOf, kind_of}
 use Rattle.ly_lexread.specs.Private.Rules.{AreSkipped, BeginsWithRule}
 use Rattle.ly_lexread.specs.Private.Rules as skipped
-use Rattle.ly_lexread.specs.Rules.{ActiveBefore, AreLight, AreRulesOver, BeginsRule, HasHeavyRule, IsHeavyRule, RuleBefore}
+use Rattle.ly_lexread.specs.Rules.{ActiveBefore, AreLight, AreRulesOver, BeginsRule, HasHeavyRule, IsHeavyRule}
+use Rattle.ly_lexread.specs.Rules.{RuleBefore}
 use Rattle.ly_lexread.specs.Rules.{RuleLine, Rules, Skips, end, rule, skip}
 use Rattle.ly_lexread.specs.Rules as rules
 use Rattle.ly_lexread.specs.Statements.{SaysAction}
@@ -89,7 +90,8 @@ pub rule_begins : (cs : List Condition) (text active body tail : List ℕ) → R
 rule_begins cs text active body tail r = (r.some, r.line, tail, r.is_line, r.begins)
 
 -- rules behind what is skipped
-pub rules_skip : (cs : List Condition) (names : List Definition) (text rest : List ℕ) (rs : List Rule) (ss : List Saying)
+pub rules_skip : (cs : List Condition) (names : List Definition) (text rest : List ℕ) (rs : List Rule)
+    (ss : List Saying)
     → Skips text rest → Rules cs names text rs ss → Rules cs names rest rs ss
 rules_skip cs names text rest rs ss h (end _ o) = absurd (skip_not_over text rest h o)
 rules_skip cs names text rest rs ss h (skip _ r _ _ k d)
@@ -330,7 +332,8 @@ pub active_found : (cs : List Condition) (line : List ℕ) (o : Option (Vec ℕ 
     (b : Bor (List ℕ)) → o ≡ Some (a, b)
     → MatchOption o ((active rest : List ℕ) → ActiveBefore cs line active rest → ⊥)
     (λ found. ActiveBefore cs line found.0.items found.1.now) → ActiveBefore cs line a.items b.now
-active_found cs line o a b e h = subst (λ i. MatchOption i ((active rest : List ℕ) → ActiveBefore cs line active rest → ⊥)
+active_found cs line o a b e h = subst (λ i. MatchOption i ((active rest : List ℕ) → ActiveBefore cs line active rest
+    → ⊥)
     (λ found. ActiveBefore cs line found.0.items found.1.now)) e h
 
 pub rules_begin : (cs : List Condition) (names : List Definition) (text rest : List ℕ) (r : Rule) (s : Saying)
@@ -341,4 +344,5 @@ pub over_none : (cs : List Condition) (names : List Definition) (text : List ℕ
     → AreRulesOver text → Rules cs names text rs ss → (rs ≡ []) × (ss ≡ [])
 over_none cs names text rs ss o (end _ p) = (refl, refl)
 over_none cs names text rs ss o (skip _ u _ _ h d) = absurd (skip_not_over text u h o)
-over_none cs names text rs ss o (rule _ u r s ps qs b d) = absurd (over_no_rule text o (rules_begin cs names text u r s b))
+over_none cs names text rs ss o (rule _ u r s ps qs b d) = absurd (over_no_rule text o
+    (rules_begin cs names text u r s b))

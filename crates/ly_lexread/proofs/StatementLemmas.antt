@@ -1,23 +1,23 @@
 -- The statements of an action are determined.
 use denote.Ref.{Bor}
 use Rattle.std.specs.Bool.{MatchBool}
-use Rattle.std.specs.Option.{MatchOption}
 use Rattle.std.specs.Prelude.{IfErr, IfOk, MatchResult, codes}
 use Rattle.std.proofs.Common.{◌≡◌, ◌≢◌, ℕ, ◌<◌, ◌≤◌, List, [], ◌∷◌, ◌++◌, Bool, true, false, refl, sym, ap, ◌∙◌, subst}
-use Rattle.std.proofs.Common.{arith, get_or, Result, Ok, Err, Some, None, Option, drop, length}
+use Rattle.std.proofs.Common.{arith, get_or, Result, Ok, Err, Some, Option, drop, length}
 use Rattle.std.proofs.Common.{append_assoc, length-append, length-drop, ◌-◌, ◌+◌, ◌⊎◌, inl, inr}
 use Rattle.std.proofs.Math.Seq.{drop-append_seam}
 use Rattle.ly_base.specs.Gap.{Gap}
 use Rattle.ly_base.specs.declared.language.Language.{Language}
 use Rattle.ly_base.specs.declared.language.Language.TheVariants.{Lex, Yacc}
-use Rattle.ly_lexread.specs.Action.{Effect, Meaning, Saying, first_byte, literal_of, next, no_effect, nothing, own, token}
+use Rattle.ly_lexread.specs.Action.{Effect, Meaning, Saying, next, no_effect, own}
 use Rattle.ly_lexread.specs.Conditions.{Condition}
 use Rattle.ly_lexread.specs.Private.Statements.{EndsBy, saying_of, statement_of}
 use Rattle.ly_lexread.specs.Private.Words.{IsFound, IsFront, word_of}
 use Rattle.ly_lexread.specs.Statements.{Closed, Ends, Follows, Given, LineEnds, NamesCondition, Opens, StandsFor}
 use Rattle.ly_lexread.specs.Statements.{SaysAction, Statement, in_braces, of_next, on_line}
 use Rattle.ly_lexread.specs.Statements.{StatementFirst, Statements, begins, done, empty, ends, gaps, more, returns}
-use Rattle.ly_lexread.specs.Words.{Front, Word, Wording, bar, close_brace, close_parenthesis, literal, mark, name, open_parenthesis}
+use Rattle.ly_lexread.specs.Words.{Front, Word, Wording, bar, close_brace, close_parenthesis, literal, mark, name}
+use Rattle.ly_lexread.specs.Words.{open_parenthesis}
 use Rattle.ly_lexread.specs.Words.{open_brace, semicolon, text_byte}
 use Rattle.ly_lexread.specs.declared.action.Said.{Said}
 use Rattle.ly_lexread.specs.declared.action_fault.ActionFault.{ActionFault}
@@ -33,9 +33,9 @@ use Rattle.ly_lexread.specs.declared.words.NextWord.{NextWord}
 use Rattle.ly_lexread.specs.declared.words.NextWord.TheVariants as word
 use Rattle.ly_lexread.specs.Lines.{LineOf}
 use Rattle.ly_lexread.proofs.LineLemmas.{line_one}
-use Rattle.ly_lexread.proofs.WordLemmas.{end_gap, found_front, front_end, front_is, front_none, front_one, front_shorter}
+use Rattle.ly_lexread.proofs.WordLemmas.{end_gap, found_front, front_end, front_is, front_none, front_one}
+use Rattle.ly_lexread.proofs.WordLemmas.{front_shorter}
 use Rattle.ly_lexread.proofs.WordLemmas.{mark_front}
-use Rattle.ly_lexread.proofs.WordLemmas.{name_front}
 
 pub opens_one : (l : Language) (text i j : List ℕ) (t u : Bool) → Opens l text t i → Opens l text u j
     → (t ≡ u) × (i ≡ j)
@@ -63,7 +63,8 @@ pub closed_open : (l : Language) (text behind : List ℕ) (t : Bool) (r : Result
 closed_open l text behind false r e f h = cc e
 closed_open l text behind true (Ok rest) e f h = (behind, f, h)
 closed_open l text behind true (Err fault) e f h = λ rest k. h rest
-    (subst (λ i. Front l i semicolon rest) (front_one l text close_parenthesis close_parenthesis k.0 behind k.1 f).1 k.2)
+    (subst (λ i. Front l i semicolon rest)
+    (front_one l text close_parenthesis close_parenthesis k.0 behind k.1 f).1 k.2)
 
 -- the word that is given, and what closes behind it
 pub given_word : (l : Language) (text inside behind rest : List ℕ) (t : Bool) (w : NextWord) (x : Word)
@@ -117,7 +118,8 @@ begin_is_return e = omega (arith, ap (λ l. get_or l 0 0) e)
 -- a name is no end
 name_ends : (e : Extent) (text n behind rest : List ℕ) → Front (gaps e) text (name n) behind → Ends e text rest → ⊥
 name_ends Line text n behind rest f h = front_none Lex text (name n) behind h.0 f
-name_ends Braces text n behind rest f h = no_name_mark n 125 (front_one Yacc text (name n) close_brace behind rest f h).0
+name_ends Braces text n behind rest f h = no_name_mark n 125 (front_one Yacc text
+    (name n) close_brace behind rest f h).0
 
 -- What stands behind BEGIN.
 pub record Begun (cs : List Condition) (l : Language) (behind : List ℕ) (s : Statement) (rest : List ℕ) : Type 0 where
@@ -132,7 +134,8 @@ pub begin_first : (cs : List Condition) (e : Extent) (text behind rest : List �
     → Begun cs (gaps e) behind s rest
 begin_first cs e text behind rest ends f h = absurd (name_ends e text (codes "BEGIN") behind rest f h)
 begin_first cs e text behind rest empty f h
-    = absurd (no_name_mark (codes "BEGIN") 59 (front_one (gaps e) text (name (codes "BEGIN")) semicolon behind rest f h).0)
+    = absurd (no_name_mark (codes "BEGIN") 59 (front_one (gaps e) text (name
+    (codes "BEGIN")) semicolon behind rest f h).0)
 begin_first cs e text behind rest (begins n) f h = record {
   condition = n;
   is = refl;
@@ -185,7 +188,8 @@ pub statement_none : (cs : List Condition) (e : Extent) (text : List ℕ) (w : N
     → IsFront (gaps e) text w behind → (EndsBy e w → ⊥) → word_of w ≢ semicolon → word_of w ≢ name (codes "BEGIN")
     → word_of w ≢ name (codes "return") → (s : Statement) (rest : List ℕ) → StatementFirst cs e text s rest → ⊥
 statement_none cs e text w behind f a b c d ends rest h = not_ended e text w behind rest f a h
-statement_none cs e text w behind f a b c d empty rest h = b (sym (front_is (gaps e) text w behind semicolon rest f h).0)
+statement_none cs e text w behind f a b c d empty rest h = b (sym (front_is
+    (gaps e) text w behind semicolon rest f h).0)
 statement_none cs e text w behind f a b c d (begins n) rest h
     = c (sym (front_is (gaps e) text w behind (name (codes "BEGIN")) h.1.0 f h.1.1).0)
 statement_none cs e text w behind f a b c d (returns m) rest h
@@ -264,7 +268,8 @@ statement_one cs e text (begins n) t q r a b =
 statement_one cs e text (returns m) t q r a b =
     let h = return_first cs e text a.1.0 r t a.1.1 b in
     let same = given_one (gaps e) a.1.0 q r a.0 h.word a.1.2 h.given in (
-      ap returns (stands_one a.0 m h.meaning a.1.3 (subst (λ x. StandsFor x h.meaning) (sym same.0) h.stands)) ∙ sym h.is,
+      ap returns (stands_one a.0 m h.meaning a.1.3 (subst (λ x. StandsFor x h.meaning) (sym same.0) h.stands))
+          ∙ sym h.is,
       same.1,
     )
 statement_one cs e text ends (begins n) q r a b = absurd (name_ends e text (codes "BEGIN") b.1.0 q b.1.1 a)
@@ -295,7 +300,10 @@ statements_behind cs e d f g s text behind rest h k (more _ j _ t _ u _ i l m) =
 
 pub statements_over : (cs : List Condition) (e : Extent) (d g : Effect) (text behind rest : List ℕ)
     → StatementFirst cs e text ends behind → Statements cs e d text g rest → (g ≡ d) × (rest ≡ behind)
-statements_over cs e d g text behind rest h (done _ _ _ i) = (refl, (statement_one cs e text ends ends rest behind i h).1)
+statements_over cs e d g text behind rest h (done _ _ _ i) = (
+  refl,
+  (statement_one cs e text ends ends rest behind i h).1,
+)
 statements_over cs e d g text behind rest h (more _ j _ t _ u _ i l m)
     = absurd (subst (λ v. Follows d v j) (statement_one cs e text t ends u behind i h).0 l)
 
@@ -474,7 +482,8 @@ given_within l text rest x g = omega (
 statement_within : (cs : List Condition) (e : Extent) (text : List ℕ) (s : Statement) (rest : List ℕ)
     → StatementFirst cs e text s rest → length rest ≤ length text
 statement_within cs Line text ends rest h = omega (arith, ap length h.1)
-statement_within cs Braces text ends rest h = let less = front_shorter Yacc text close_brace rest h in omega (arith, less)
+statement_within cs Braces text ends rest h = let less = front_shorter Yacc text close_brace rest h in omega
+    (arith, less)
 statement_within cs e text empty rest h = let less = front_shorter (gaps e) text semicolon rest h in omega (arith, less)
 statement_within cs e text (begins n) rest h =
     let less = front_shorter (gaps e) text (name (codes "BEGIN")) h.1.0 h.1.1 in

@@ -1,6 +1,6 @@
 -- The words of an action are determined.
 use Rattle.std.proofs.lemmas.Bool.{false≢true}
-use Rattle.std.proofs.Common.{◌≡◌, ◌≢◌, ℕ, ◌<◌, ◌≤◌, List, [], ◌∷◌, ◌++◌, Bool, true, false, IsTrue, refl, sym, ap, ap₂}
+use Rattle.std.proofs.Common.{◌≡◌, ◌≢◌, ℕ, ◌<◌, List, [], ◌∷◌, ◌++◌, true, false, IsTrue, refl, sym, ap, ap₂}
 use Rattle.std.proofs.Common.{◌∙◌, subst, arith, length, length-append, ◌⊎◌, inl, inr, drop, get_or}
 use Rattle.std.specs.Prelude.{codes}
 use Rattle.std.proofs.lemmas.Bool.Decides.{nat_tests}
@@ -280,7 +280,13 @@ wording_one l text (x ∷ xs) (y ∷ ys) a b =
 word_shorter : (text : List ℕ) (x : Word) (rest : List ℕ) → Begins text x rest → length rest < length text
 word_shorter text (mark m) rest h = omega (arith, ap length h.1)
 word_shorter text text_byte rest (inl h)
-    = omega (arith, ap length h.2, length-append (codes "yytext") (codes "[0]" ++ rest), length-append (codes "[0]") rest)
+    = omega (
+      arith,
+      ap length h.2,
+      length-append (codes "yytext") (codes "[0]" ++ rest),
+      length-append
+          (codes "[0]") rest,
+    )
 word_shorter text text_byte rest (inr h)
     = omega (arith, ap length h.1, ap length h.2.2, length-append (codes "yytext") rest)
 word_shorter text (name []) rest h = absurd h.0.0

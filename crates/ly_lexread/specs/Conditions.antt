@@ -1,5 +1,5 @@
 -- The start conditions of a lex file (POSIX, XCU lex, "Definitions in lex").
-use Rattle.std.specs.Prelude.{◌≡◌, ℕ, ◌+◌, List, [], ◌∷◌, Bool, false, position, codes, Option, Some, if◌then◌else◌}
+use Rattle.std.specs.Prelude.{ℕ, ◌+◌, List, [], ◌∷◌, Bool, false, position, codes, Option, if◌then◌else◌}
 use Rattle.std.specs.Str.{bytes_eq}
 
 -- A condition: its name, and whether it is exclusive. Its number is its place in the list.

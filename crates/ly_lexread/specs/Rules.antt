@@ -11,7 +11,7 @@ use Rattle.ly_lexread.specs.Conditions.{Condition, condition_of, inclusive}
 use Rattle.ly_lexread.specs.Lines.{BlockEnds, LineBefore, LineOf, kind_of}
 use Rattle.ly_lexread.specs.Statements.{SaysAction}
 use Rattle.ly_lexread.specs.declared.kind.LineKind.{LineKind}
-use Rattle.ly_lexread.specs.declared.kind.LineKind.TheVariants.{Mark, Unused, Block, Comment, Directive, Plain}
+use Rattle.ly_lexread.specs.declared.kind.LineKind.TheVariants.{Mark, Unused, Block}
 
 -- the text is the name of a condition, or `0`, and then the rest
 abbrev pub ConditionBefore : List Condition → List ℕ → ℕ → List ℕ → Type 0

@@ -1,4 +1,5 @@
-ghost use Rattle.std.specs.Prelude.{◌≡◌, ◌≢◌, ◌≤◌, ℕ, List, Some, drop, length, take, IfOk, IfErr, IfSome, MatchBool, MatchOption};
+ghost use Rattle.std.specs.Prelude.{◌≡◌, ◌≢◌, ◌≤◌, ℕ, List, Some, drop, length, take, IfOk, IfErr, IfSome, MatchBool};
+ghost use Rattle.std.specs.Prelude.{MatchOption};
 ghost use Rattle.ly_base.specs.Gap.{Gap};
 ghost use Rattle.ly_base.specs.declared.language.Language.TheVariants.{Lex};
 ghost use Rattle.ly_lexread.specs.Action.{Effect, Saying, effect_of, meaning_of, no_effect, nothing, own};
@@ -163,7 +164,8 @@ pub(crate) fn read_action<'t>(
         (drop on_line text.entry.bytes.now) (saying_of read.0) read.1.bytes.now) }
     ensures of_text { IfErr result (λ fault. fault ≢ OutOfMemory → IsOfText fault) }
     ensures light { IfErr result (λ fault. IsTooHeavy fault → ⊥) }
-    ensures refused { IfErr result (λ fault. fault ≢ OutOfMemory → (s : Saying) (rest : List ℕ) → SaysAction conditions.now
+    ensures refused { IfErr result (λ fault. fault ≢ OutOfMemory → (s : Saying) (rest : List ℕ)
+        → SaysAction conditions.now
         (take on_line text.entry.bytes.now) (drop on_line text.entry.bytes.now) s rest → ⊥) }
 {
     let (line, end) = text.bytes.split_at(on_line);
@@ -198,7 +200,8 @@ fn read_braced<'t>(
     conditions: &Conditions,
 ) -> Result<(Said, Rest<'t>), LexFault>
     ensures ok { IfOk result (λ read. (e : Effect) × ((behind : List ℕ) × (saying_of read.0 ≡ own e)
-        × Statements conditions.now Braces no_effect text.entry.bytes.now e behind × LineEnds behind read.1.bytes.now)) }
+        × Statements conditions.now Braces no_effect text.entry.bytes.now e behind
+        × LineEnds behind read.1.bytes.now)) }
     ensures of_text { IfErr result (λ fault. fault ≢ OutOfMemory → IsOfText fault) }
     ensures light { IfErr result (λ fault. IsTooHeavy fault → ⊥) }
     ensures refused { IfErr result (λ fault. fault ≢ OutOfMemory → (e : Effect) (behind rest : List ℕ)
@@ -224,7 +227,8 @@ fn read_statements<'t>(
     extent: Extent,
     conditions: &Conditions,
 ) -> Result<(Action, &'t [u8]), ActionFault<'t>>
-    ensures ok { IfOk result (λ read. Statements conditions.now extent no_effect text.now (effect_of read.0) read.1.now) }
+    ensures ok { IfOk result (λ read. Statements conditions.now extent no_effect text.now
+        (effect_of read.0) read.1.now) }
     ensures refused { IfErr result (λ fault. fault ≢ refusal.OutOfMemory → (e : Effect) (rest : List ℕ)
         → Statements conditions.now extent no_effect text.now e rest → ⊥) }
 {

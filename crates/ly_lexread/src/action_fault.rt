@@ -20,7 +20,8 @@ pub(crate) enum ActionFault<'t> {
 }
 
 impl ActionFault<'_> {
-    /// The fault of a file in which this text stands. An action whose braces aren't closed is at fault in the last line.
+    /// The fault of a file in which this text stands. An action whose braces aren't closed is at fault in the last
+    /// line.
     pub(crate) fn in_text(self, text: Rest<'_>) -> LexFault
         ensures memory { self.entry ≡ OutOfMemory → result ≡ lex.OutOfMemory }
         ensures of_text { self.entry ≢ OutOfMemory → IsOfText result }

@@ -1,4 +1,5 @@
-ghost use Rattle.std.specs.Prelude.{◌≡◌, ◌≢◌, ◌∷◌, [], ◌≤◌, ◌<◌, ◌⊎◌, ℕ, List, length, map, IfErr, IfOk, IfSome, MatchBool, MatchOption};
+ghost use Rattle.std.specs.Prelude.{◌≡◌, ◌≢◌, ◌∷◌, [], ◌≤◌, ◌<◌, ◌⊎◌, ℕ, List, length, map, IfErr, IfOk, IfSome};
+ghost use Rattle.std.specs.Prelude.{MatchBool, MatchOption};
 ghost use Rattle.ly_ere.specs.declared.fault.EreFault.TheVariants as ere;
 ghost use Rattle.ly_ere.specs.declared.pattern.Rule.{Rule};
 ghost use Rattle.ly_ere.specs.Names.{Definition};

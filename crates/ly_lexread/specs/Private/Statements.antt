@@ -1,5 +1,5 @@
 -- What a statement says, as it is read.
-use Rattle.std.specs.Prelude.{◌≡◌, Result, Ok, Err, ◌≢◌}
+use Rattle.std.specs.Prelude.{◌≡◌}
 use Rattle.ly_lexread.specs.Action.{Meaning, Saying, effect_of, first_byte, literal_of, next, own, token}
 use Rattle.ly_lexread.specs.Private.Words.{word_of}
 use Rattle.ly_lexread.specs.Statements.{Statement, begins, empty, ends, returns}

@@ -1,10 +1,9 @@
-use Rattle.std.proofs.Common.{◌≡◌, ◌≢◌, ◌∙◌, ◌-◌, ◌++◌, List, ℕ, ap₂, arith, drop, length, subst, sym, take, take-append-drop}
+use Rattle.std.proofs.Common.{◌≡◌, ◌≢◌, ◌∙◌, ◌++◌, List, ℕ, ap₂, arith, subst, sym, take-append-drop}
 use Rattle.std.specs.Prelude.{IfErr, IfOk}
 use Rattle.ly_base.specs.declared.language.Language.TheVariants.{Lex}
 use Rattle.ly_lexread.specs.Action.{Effect, effect_of, no_effect, own}
 use Rattle.ly_lexread.specs.Private.Statements.{saying_of}
 use Rattle.ly_lexread.specs.Statements.{LineEnds, Statements}
-use Rattle.ly_lexread.specs.Words.{Front, bar, open_brace}
 use Rattle.ly_lexread.specs.declared.fault.LexFault.TheVariants.{OutOfMemory}
 use Rattle.ly_lexread.specs.declared.statement.Extent.TheVariants.{Braces}
 use Rattle.ly_lexread.proofs.StatementLemmas.{bar_refused, braced_fault, braced_said, line_refused, mark_suffix}

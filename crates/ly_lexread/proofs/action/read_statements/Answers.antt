@@ -1,4 +1,4 @@
-use Rattle.std.proofs.Common.{◌≢◌, subst}
+use Rattle.std.proofs.Common.{subst}
 use Rattle.std.specs.Option.{MatchOption}
 use Rattle.std.proofs.lemmas.Result.{err_from_is_err_and}
 use Rattle.ly_base.proofs.GapLemmas.{at_none}

@@ -1,4 +1,4 @@
-use Rattle.std.proofs.Common.{sym, ◌∙◌}
+use Rattle.std.proofs.Common.{sym}
 use Rattle.ly_lexread.proofs.ActiveLemmas.{no_condition}
 use Rattle.ly_lexread.proofs.active.leading_condition.Goals as goal
 

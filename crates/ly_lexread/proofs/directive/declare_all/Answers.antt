@@ -1,4 +1,4 @@
-use Rattle.std.proofs.Common.{◌≡◌, ◌∙◌, ap, false, subst, sym, true}
+use Rattle.std.proofs.Common.{◌≡◌, ◌∙◌, ap, false, sym}
 use Rattle.std.specs.Prelude.{is_some}
 use Rattle.ly_base.proofs.GapLemmas.{at_none}
 use Rattle.ly_lexread.specs.Conditions.{condition_of}

@@ -1,4 +1,4 @@
-use Rattle.std.proofs.Common.{List, ℕ, length}
+use Rattle.std.proofs.Common.{List, length}
 use Rattle.ly_lexread.specs.Conditions.{Condition}
 use Rattle.ly_lexread.specs.Definitions.{DeclaresAll}
 use Rattle.ly_lexread.proofs.directive.declare_all.Given as goal

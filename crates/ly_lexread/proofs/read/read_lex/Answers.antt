@@ -32,7 +32,8 @@ returns-in_err-section c =
     (λ h. (all, (behind, definitions, subst (λ n. HasHeavyRule most all.conditions n behind) c.new-names.ensures h)))
     (λ file text.
     let rules = file.rules.items in
-    let same = definitions_one at_first text.all all c.args.bytes.now text.behind behind text.definitions definitions in (
+    let same = definitions_one at_first text.all all c.args.bytes.now text.behind behind text.definitions definitions
+    in (
       (rules, text.sayings),
       subst (λ n. Rules all.conditions n behind rules text.sayings) (sym c.new-names.ensures)
           (subst (λ b. Rules all.conditions [] b rules text.sayings) same.1

@@ -1,4 +1,4 @@
-use Rattle.std.proofs.Common.{inl, inr, refl, sym, ◌∙◌}
+use Rattle.std.proofs.Common.{inl, refl, sym, ◌∙◌}
 use Rattle.ly_lexread.proofs.RuleLemmas.{rules_unclosed, settled}
 use Rattle.ly_lexread.proofs.rules.behind_unused.Goals as goal
 

@@ -24,7 +24,8 @@ loop-last-preserved c =
       | in-Next+in-Some-last+in_ok-action-in-Some-last w ↦
           next_on c.args.said.items c.loop-last.said.items c.pop.new.self.items i.0 c.loop-last.actions.items i.1 i.2
           c.in-Some.last c.match-last.action w.in-Some-last.next.now c.push.new.self.items c.in-Some.ensures.items
-          w.in-Next.is (last_is c.loop-last.actions.items w.deref.result.now w.in-Some-last.next.now w.deref.ensures.value
+          w.in-Next.is (last_is c.loop-last.actions.items w.deref.result.now w.in-Some-last.next.now
+          w.deref.ensures.value
           w.in-Some-last.ensures.value)
           (ap effect_of w.action-is ∙ w.in_ok-action-in-Some-last.ensures) c.in_ok-push.ensures.items
     ]

@@ -1,4 +1,4 @@
-use Rattle.std.proofs.Common.{◌≡◌, ◌++◌, List, ℕ, length, map, reverse}
+use Rattle.std.proofs.Common.{◌≡◌, ◌++◌, List, length, map, reverse}
 use Rattle.ly_lexread.specs.Action.{AreEffects, Saying, effect_of}
 use Rattle.ly_lexread.specs.Private.Statements.{saying_of}
 use Rattle.ly_lexread.proofs.shared.share_actions.Given as goal

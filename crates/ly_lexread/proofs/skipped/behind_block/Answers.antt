@@ -1,7 +1,6 @@
 use Rattle.std.proofs.Common.{arith}
-use Rattle.ly_base.proofs.GapLemmas.{at_none}
 use Rattle.ly_lexread.specs.Lines.{last, more}
-use Rattle.ly_lexread.proofs.LineLemmas.{block_behind, block_over}
+use Rattle.ly_lexread.proofs.LineLemmas.{block_behind}
 use Rattle.ly_lexread.proofs.skipped.behind_block.Goals as goal
 
 pub returns-then-closes_block-clause-these : goal.returns-then-closes_block-clause-these

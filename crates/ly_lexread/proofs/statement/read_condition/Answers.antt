@@ -24,6 +24,7 @@ returns-clause-these c = (
   word_of c.next_word.result.0,
   given_of c.args.gaps c.args.text.now c.open-is_open.result.1.now c.next_word.result.1.now c.in_ok-rest.rest.now
       c.open-is_open.result.0 c.next_word.result.0 c.open-is_open.ensures.these c.next_word.ensures.front
-      (names_found c.args.conditions.now c.next_word.result.0 c.in-Some.condition c.in-Some.ensures) c.in_ok-rest.ensures.these,
+      (names_found c.args.conditions.now c.next_word.result.0 c.in-Some.condition c.in-Some.ensures)
+      c.in_ok-rest.ensures.these,
   c.in-Some.ensures,
 )

@@ -10,7 +10,8 @@ returns-in-Some-clause-shorter c = λ _.
     front_shorter c.args.gaps c.args.text.now (literal c.in-Some.byte) c.split_at.result.1.now (
       c.after_gap-text.result.now,
       c.after_gap-text.ensures.before,
-      subst (Literal c.after_gap-text.result.now c.in-Some.byte) (sym c.split_at.ensures.back) c.in-Some.ensures.literal,
+      subst (Literal c.after_gap-text.result.now c.in-Some.byte)
+          (sym c.split_at.ensures.back) c.in-Some.ensures.literal,
     )
 
 pub returns-in-Some-2-clause-front : goal.returns-in-Some-2-clause-front

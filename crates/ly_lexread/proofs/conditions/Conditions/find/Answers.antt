@@ -1,6 +1,4 @@
-use Rattle.std.proofs.Common.{◌≡◌, Option, ap, sym, ◌∙◌, ℕ}
-use Rattle.std.specs.Prelude.{position}
-use Rattle.std.specs.Str.{bytes_eq}
+use Rattle.std.proofs.Common.{ap, ◌∙◌}
 use Rattle.ly_lexread.specs.Conditions.{condition_of}
 use Rattle.ly_lexread.proofs.ConditionLemmas.{number_zip}
 use Rattle.ly_lexread.proofs.conditions.Conditions.find.Goals as goal

@@ -1,4 +1,4 @@
-use Rattle.std.proofs.Common.{◌≡◌, ◌++◌, ◌∷◌, [], ap, arith, length, length-append, sym, ◌∙◌}
+use Rattle.std.proofs.Common.{◌≡◌, ◌++◌, ◌∷◌, [], ap, arith, length, length-append, ◌∙◌}
 use Rattle.std.specs.Prelude.{map, zip}
 use Rattle.ly_lexread.specs.Conditions.{condition_of}
 use Rattle.ly_lexread.proofs.ConditionLemmas.{new_key, zip_push}

@@ -1,6 +1,4 @@
-use Rattle.std.proofs.Common.{subst, sym}
-use Rattle.ly_lexread.specs.Lines.{LineOf}
-use Rattle.ly_lexread.proofs.LineLemmas.{line_at, not_empty, parted}
+use Rattle.ly_lexread.proofs.LineLemmas.{not_empty, parted}
 use Rattle.ly_lexread.proofs.rest.Rest.first_line.Goals as goal
 
 pub returns-clause-these : goal.returns-clause-these
