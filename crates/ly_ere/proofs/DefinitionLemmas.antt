@@ -16,8 +16,8 @@ use Rattle.std.proofs.lemmas.List.Elements.{All-contains, Contains-append_left, 
 use Rattle.std.proofs.lemmas.List.Elements.{Contains-push_cases}
 use Rattle.std.proofs.lemmas.Option.{get_or_from_slice_get, slice_get-get_or, slice_get_within}
 use Rattle.ly_ere.specs.Definitions.{AreDistinct, AreLightNames, AreNames, ArePlaced, AreRefused, CanFollow}
-use Rattle.ly_ere.specs.Definitions.{IsHeavyText}
-use Rattle.ly_ere.specs.Definitions.{IsNext, Named, named_text, named_texts, next}
+use Rattle.ly_ere.specs.Definitions.{IsHeavyDefinition}
+use Rattle.ly_ere.specs.Definitions.{IsPlacedNext, DefinedText, named_text, named_texts, next}
 use Rattle.ly_ere.specs.declared.definitions.NamedText.{NamedText}
 use Rattle.ly_ere.specs.declared.definitions.Refusal.{Refusal}
 use Rattle.ly_ere.specs.Definitions as definitions
@@ -27,7 +27,7 @@ use Rattle.ly_ere.specs.Patterns.{IsExpression}
 use Rattle.ly_ere.specs.Private.Definitions.{AreRead, ArePlacing, IsNoText, IsTextRefusal, expression_at, known_names}
 use Rattle.ly_ere.specs.Private.Definitions.{text_uses}
 use Rattle.ly_ere.specs.Private.Front.{IsFrontExpression}
-use Rattle.ly_ere.specs.Private.Turns.{AreInTurn, AreThere, IsLastTurn, IsReady, next as in_turn, none as no_turn}
+use Rattle.ly_ere.specs.Private.Turns.{AreInTurn, AreThere, IsLastTurn, HasAllTaken, next as in_turn, none as no_turn}
 use Rattle.ly_ere.specs.Private.Turns.{uses_at}
 use Rattle.ly_ere.specs.Private.Uses.{number_for, renumbered, uses_of}
 use Rattle.ly_ere.specs.Weight.{named_weight, weight_of}
@@ -66,7 +66,8 @@ lists_push : (us : List (Vec ℕ Global)) (v : Vec ℕ Global) → map (λ (v : 
 lists_push us v = map-append (λ (v : Vec ℕ Global). v.items) us (v ∷ [])
 
 -- what stands at a place of a list with one more
-last_cases : (list : List Named) (d : Named) (n : ℕ) (c : Named) → slice_get (list ++ d ∷ []) n ≡ Some c
+last_cases : (list : List DefinedText) (d : DefinedText) (n : ℕ) (c : DefinedText) → slice_get (list ++ d ∷ []) n
+    ≡ Some c
     → ((n < length list) × (slice_get list n ≡ Some c)) ⊎ ((n ≡ length list) × (d ≡ c))
 last_cases list d n c is = by (cases_lt n (length list))
   where
@@ -91,7 +92,7 @@ last_cases list d n c is = by (cases_lt n (length list))
               ∙ at),
         )
 
-module _ (known : List Definition) (list : List Named) (d : Named) (t u : Texts) (a : AreRead known list t)
+module _ (known : List Definition) (list : List DefinedText) (d : DefinedText) (t u : Texts) (a : AreRead known list t)
     (v : Vec ℕ Global) (uses : u.uses.items ≡ t.uses.items ++ v ∷ []) where
   long : length (text_uses t) ≡ length list
   long = length-map t.uses.items (λ (v : Vec ℕ Global). v.items) ∙ a.counted
@@ -125,7 +126,8 @@ module _ (known : List Definition) (list : List Named) (d : Named) (t u : Texts)
           same : length list ≤ n → n ≤ length list → n ≡ length (text_uses t)
           same more le = omega (arith, more, le, long)
 
-  used : ((e : Expression) → IsExpression known d.text e → v.items ≡ uses_of e) → (n : ℕ) (c : Named) (e : Expression)
+  used : ((e : Expression) → IsExpression known d.text e → v.items ≡ uses_of e) → (n : ℕ) (c : DefinedText)
+      (e : Expression)
       → slice_get (list ++ d ∷ []) n ≡ Some c → IsExpression known c.text e → uses_at (text_uses u) n ≡ uses_of e
   used last n c e is text = by (last_cases list d n c is)
     where
@@ -136,7 +138,7 @@ module _ (known : List Definition) (list : List Named) (d : Named) (t u : Texts)
       by (inr (end, same)) = ap (λ us. uses_at us n) all_uses
           ∙ (ap (uses_at (text_uses t ++ v.items ∷ [])) (end ∙ sym long) ∙ (get_or-append_seam
           (text_uses t) v.items [] []
-          ∙ last e (subst (λ (k : Named). IsExpression known k.text e) (sym same) text)))
+          ∙ last e (subst (λ (k : DefinedText). IsExpression known k.text e) (sym same) text)))
 
   -- a refusal stays one
   refusal_later : (r : Refusal) → IsTextRefusal known list r → IsTextRefusal known (list ++ d ∷ []) r
@@ -173,7 +175,7 @@ module _ (known : List Definition) (list : List Named) (d : Named) (t u : Texts)
     refusal = λ r is. refusals_later r (sym same ∙ is);
   }
     where
-      by : (n : ℕ) (c : Named) → t.refusal ≡ None → ((n < length list) × (slice_get list n ≡ Some c))
+      by : (n : ℕ) (c : DefinedText) → t.refusal ≡ None → ((n < length list) × (slice_get list n ≡ Some c))
           ⊎ ((n ≡ length list) × (d ≡ c)) → IsExpression known c.text (expression_at u n)
       by n c none (inl (less, was)) = subst (IsExpression known c.text) (sym (ap (λ es. get_or es n empty) more
           ∙ get_or-append t.expressions.items (re ∷ []) empty n (omega (arith, a.whole none, less))))
@@ -181,7 +183,7 @@ module _ (known : List Definition) (list : List Named) (d : Named) (t u : Texts)
       by n c none (inr (end, is)) = subst (IsExpression known c.text) (sym (ap (λ es. get_or es n empty) more
           ∙ (ap (λ k. get_or (t.expressions.items ++ re ∷ []) k empty) (end ∙ sym (a.whole none))
           ∙ get_or-append_seam t.expressions.items re [] empty)))
-          (subst (λ (k : Named). IsExpression known k.text re) is found)
+          (subst (λ (k : DefinedText). IsExpression known k.text re) is found)
 
   -- one more that is none
   pub read_none : IsNoText known d.text → v.items ≡ [] → u.refusal ≢ None
@@ -203,7 +205,8 @@ uses_below names text e is i d l =
     (number_is names found.0 (get_or (uses_of e) i d) no_definition found.1).0
 
 -- the last of a list with one more
-pub last_is : (list : List Named) (d : Named) (n : ℕ) → n ≡ length list → slice_get (list ++ d ∷ []) n ≡ Some d
+pub last_is : (list : List DefinedText) (d : DefinedText) (n : ℕ) → n ≡ length list → slice_get (list ++ d ∷ []) n
+    ≡ Some d
 last_is list d n is = slice_get-get_or (list ++ d ∷ []) n no_text (omega (arith, is, length-append list (d ∷ [])))
     ∙ ap Some (ap (λ k. get_or (list ++ d ∷ []) k no_text) is ∙ get_or-append_seam list d [] no_text)
 
@@ -217,7 +220,7 @@ texts_more list i d l = ap (map named_text) (ap (λ k. take k list) (one_more i)
     one_more i = omega arith
 
 -- a name isn't known before its place
-pub name_is_new : (list : List Named) → AreDistinct list → (i : ℕ) (d : Named) → slice_get list i ≡ Some d
+pub name_is_new : (list : List DefinedText) → AreDistinct list → (i : ℕ) (d : DefinedText) → slice_get list i ≡ Some d
     → number_of (known_names (take i list)) d.name ≡ None
 name_is_new list distinct i d is = by (cases_option (number_of (known_names (take i list)) d.name))
   where
@@ -284,15 +287,15 @@ among ns n never = by (has_number ns n)
 -- what stands at a place of an order
 pub turn_at : (uses : List (List ℕ)) (order : List ℕ) → AreInTurn uses order → (i : ℕ) → i < length order
     → (get_or order i 0 < length uses) × (Contains (take i order) (get_or order i 0) → ⊥)
-    × IsReady uses (take i order) (get_or order i 0)
-    × ((k : ℕ) → k < get_or order i 0 → (Contains (take i order) k → ⊥) → IsReady uses (take i order) k → ⊥)
+    × HasAllTaken uses (take i order) (get_or order i 0)
+    × ((k : ℕ) → k < get_or order i 0 → (Contains (take i order) k → ⊥) → HasAllTaken uses (take i order) k → ⊥)
 turn_at uses order no_turn i l = absurd (omega (arith, l))
 turn_at uses order (in_turn before n turns less apart ready first) i l
     = by (cases_lt i (length before)) (λ earlier. turn_at uses before turns i earlier)
   where
     Turn : List ℕ → ℕ → Type 0
-    Turn front m = (m < length uses) × (Contains front m → ⊥) × IsReady uses front m
-        × ((k : ℕ) → k < m → (Contains front k → ⊥) → IsReady uses front k → ⊥)
+    Turn front m = (m < length uses) × (Contains front m → ⊥) × HasAllTaken uses front m
+        × ((k : ℕ) → k < m → (Contains front k → ⊥) → HasAllTaken uses front k → ⊥)
 
     by : (i < length before) ⊎ (length before ≤ i) → (i < length before → Turn (take i before) (get_or before i 0))
         → Turn (take i (before ++ n ∷ [])) (get_or (before ++ n ∷ []) i 0)
@@ -307,9 +310,10 @@ turn_at uses order (in_turn before n turns less apart ready first) i l
         (subst (Turn before) (sym (ap (λ k. get_or (before ++ n ∷ []) k 0) last ∙ get_or-append_seam before n [] 0))
         (less, apart, ready, first))
 
-module _ (list : List Named) (distinct : AreDistinct list) (t : Texts) (a : AreRead (known_names list) list t) where
+module _ (list : List DefinedText) (distinct : AreDistinct list) (t : Texts) (a : AreRead
+    (known_names list) list t) where
   -- what an expression of a text uses stands in the list
-  used_there : (n y : ℕ) → Contains (uses_at (text_uses t) n) y → (d : Named) × (slice_get list y ≡ Some d)
+  used_there : (n y : ℕ) → Contains (uses_at (text_uses t) n) y → (d : DefinedText) × (slice_get list y ≡ Some d)
   used_there n y has =
       let l : y < length list
       = omega (
@@ -320,8 +324,8 @@ module _ (list : List Named) (distinct : AreDistinct list) (t : Texts) (a : AreR
       (get_or list y no_text, slice_get-get_or list y no_text l)
 
   -- a text that can be placed uses only what is
-  pub ready_text : {names : List Definition} → ArePlaced list names → (n : ℕ) (d : Named) (f : Expression)
-      → slice_get list n ≡ Some d → IsExpression names d.text f → (y : ℕ) (c : Named)
+  pub ready_text : {names : List Definition} → ArePlaced list names → (n : ℕ) (d : DefinedText) (f : Expression)
+      → slice_get list n ≡ Some d → IsExpression names d.text f → (y : ℕ) (c : DefinedText)
       → Contains (uses_at (text_uses t) n) y → slice_get list y ≡ Some c → number_of names c.name ≢ None
   ready_text placed n d f is text y c has there =
       let read = read_under_known list distinct placed d.text f text in
@@ -329,10 +333,10 @@ module _ (list : List Named) (distinct : AreDistinct list) (t : Texts) (a : AreR
 
   module _ (order : List ℕ) (names : List Definition) (numbers : List ℕ) (p : ArePlacing list order names numbers) where
     -- the next in turn is the next to be placed
-    pub turn_is_next : (n : ℕ) (d : Named) → slice_get list n ≡ Some d → t.refusal ≡ None → (Contains order n → ⊥)
-        → IsReady (text_uses t) order n
-        → ((k : ℕ) → k < n → (Contains order k → ⊥) → IsReady (text_uses t) order k → ⊥)
-        → IsNext list names n d (renumbered (number_for numbers) (expression_at t n))
+    pub turn_is_next : (n : ℕ) (d : DefinedText) → slice_get list n ≡ Some d → t.refusal ≡ None → (Contains order n → ⊥)
+        → HasAllTaken (text_uses t) order n
+        → ((k : ℕ) → k < n → (Contains order k → ⊥) → HasAllTaken (text_uses t) order k → ⊥)
+        → IsPlacedNext list names n d (renumbered (number_for numbers) (expression_at t n))
     turn_is_next n d is none apart ready first = record {
       is = is;
       follows = record {
@@ -345,7 +349,7 @@ module _ (list : List Named) (distinct : AreDistinct list) (t : Texts) (a : AreR
         text : IsExpression (known_names list) d.text (expression_at t n)
         text = a.expressions none n d is
 
-        missing : (n : ℕ) (d : Named) → slice_get list n ≡ Some d → (Contains order n → ⊥)
+        missing : (n : ℕ) (d : DefinedText) → slice_get list n ≡ Some d → (Contains order n → ⊥)
             → number_of names d.name ≡ None
         missing n d is apart = by (cases_option (number_of names d.name))
           where
@@ -354,26 +358,28 @@ module _ (list : List Named) (distinct : AreDistinct list) (t : Texts) (a : AreR
             by (inl (x, found)) = absurd (apart (p.only n d is (λ e. none_some (sym e ∙ found))))
             by (inr e) = e
 
-        numbered : (y : ℕ) (c : Named) → Contains (uses_of (expression_at t n)) y → slice_get list y ≡ Some c
+        numbered : (y : ℕ) (c : DefinedText) → Contains (uses_of (expression_at t n)) y → slice_get list y ≡ Some c
             → number_of names c.name ≡ Some (number_for numbers y)
         numbered y c has there =
             let used = subst (λ us. Contains us y) (sym (a.uses n d (expression_at t n) is text)) has in
             p.found y c there (All-contains (Contains order) (uses_at (text_uses t) n) y ready used)
             ∙ ap Some (get_or_default numbers y 0 y (omega (arith, p.numbered, slice_get_within list y c there)))
 
-        unplaced : (k : ℕ) (c : Named) → slice_get list k ≡ Some c → number_of names c.name ≡ None → Contains order k
+        unplaced : (k : ℕ) (c : DefinedText) → slice_get list k ≡ Some c → number_of names c.name ≡ None
+            → Contains order k
             → ⊥
         unplaced k c there new has = none_some (sym new ∙ p.found k c there has)
 
-        ready_before : (k : ℕ) (c : Named) (f : Expression) → slice_get list k ≡ Some c → CanFollow names c f
-            → IsReady (text_uses t) order k
+        ready_before : (k : ℕ) (c : DefinedText) (f : Expression) → slice_get list k ≡ Some c → CanFollow names c f
+            → HasAllTaken (text_uses t) order k
         ready_before k c f there can i e l =
             let has = Contains-get_or (uses_at (text_uses t) k) i e l in
             let used = used_there k (get_or (uses_at (text_uses t) k) i e) has in
             p.only _ used.0 used.1 (ready_text p.placed k c f there can.is_expression _ used.0 has used.1)
 
     -- it is placed
-    pub placed_more : (n : ℕ) (d : Named) (e : Expression) → IsNext list names n d e → (Contains order n → ⊥)
+    pub placed_more : (n : ℕ) (d : DefinedText) (e : Expression) → IsPlacedNext list names n d e →
+        (Contains order n → ⊥)
         → ArePlacing list (order ++ n ∷ []) (names ++ (d.name, e) ∷ []) (set numbers n (length order))
     placed_more n d e step apart = record {
       placed = next names n d e p.placed step;
@@ -386,11 +392,12 @@ module _ (list : List Named) (distinct : AreDistinct list) (t : Texts) (a : AreR
         within : n < length numbers
         within = omega (arith, p.numbered, slice_get_within list n d step.is)
 
-        found_new : (m : ℕ) (c : Named) → slice_get list m ≡ Some c → Contains order m ⊎ (n ≡ m) → (m ≡ n) ⊎ (m ≡ n → ⊥)
+        found_new : (m : ℕ) (c : DefinedText) → slice_get list m ≡ Some c → Contains order m ⊎ (n ≡ m) → (m ≡ n) ⊎
+            (m ≡ n → ⊥)
             → number_of (names ++ (d.name, e) ∷ []) c.name ≡ Some (get_or (set numbers n (length order)) m 0)
         found_new m c is o (inl same) =
             let one : d ≡ c = some_one (sym step.is ∙ (ap (slice_get list) (sym same) ∙ is)) in
-            ap (λ (k : Named). number_of (names ++ (d.name, e) ∷ []) k.name) (sym one)
+            ap (λ (k : DefinedText). number_of (names ++ (d.name, e) ∷ []) k.name) (sym one)
             ∙ (number_new names d.name e step.follows.new
             ∙ (ap Some p.counted ∙ ap Some (sym (ap (λ k. get_or (set numbers n (length order)) k 0) same
             ∙ get_or-set_same numbers n (length order) 0 within))))
@@ -399,7 +406,7 @@ module _ (list : List Named) (distinct : AreDistinct list) (t : Texts) (a : AreR
             ∙ ap Some (sym (get_or-set_other numbers n m (length order) 0 other))
         found_new m c is (inr same) (inr other) = absurd (other (sym same))
 
-        only_new : (m : ℕ) (c : Named) → slice_get list m ≡ Some c
+        only_new : (m : ℕ) (c : DefinedText) → slice_get list m ≡ Some c
             → ((x : ℕ) × (number_of (names ++ (d.name, e) ∷ []) c.name ≡ Some x))
             ⊎ (number_of (names ++ (d.name, e) ∷ []) c.name ≡ None)
             → number_of (names ++ (d.name, e) ∷ []) c.name ≢ None → Contains (order ++ n ∷ []) m
@@ -415,14 +422,15 @@ module _ (list : List Named) (distinct : AreDistinct list) (t : Texts) (a : AreR
   -- whatever is placed stands in an order that can't go on
   pub placed_in_order : (order : List ℕ) → IsLastTurn (text_uses t) order → {names : List Definition}
       → ArePlaced list names
-      → (n : ℕ) (d : Named) → slice_get list n ≡ Some d → number_of names d.name ≢ None → (Contains order n → ⊥) → ⊥
+      → (n : ℕ) (d : DefinedText) → slice_get list n ≡ Some d → number_of names d.name ≢ None → (Contains order n
+      → ⊥) → ⊥
   placed_in_order order last definitions.none n d is some apart = some refl
   placed_in_order order last (next placed k c e before step) n d is some apart
       = by (cases_option (number_of (placed ++ (c.name, e) ∷ []) d.name))
       (λ there. placed_in_order order last before n d is there apart)
       (λ y b here there. placed_in_order order last before y b here there)
     where
-      at_step : ((y : ℕ) (b : Named) → slice_get list y ≡ Some b → number_of placed b.name ≢ None
+      at_step : ((y : ℕ) (b : DefinedText) → slice_get list y ≡ Some b → number_of placed b.name ≢ None
           → (Contains order y → ⊥) → ⊥) → n ≡ k → ⊥
       at_step earlier same = last n (omega (
         arith,
@@ -433,10 +441,10 @@ module _ (list : List Named) (distinct : AreDistinct list) (t : Texts) (a : AreR
       )) apart ready
         where
           text : IsExpression placed d.text e
-          text = subst (λ (b : Named). IsExpression placed b.text e)
+          text = subst (λ (b : DefinedText). IsExpression placed b.text e)
               (some_one (sym step.is ∙ (ap (slice_get list) (sym same) ∙ is))) step.follows.is_expression
 
-          ready : IsReady (text_uses t) order n
+          ready : HasAllTaken (text_uses t) order n
           ready i z l =
               let has = Contains-get_or (uses_at (text_uses t) n) i z l in
               let used = used_there n (get_or (uses_at (text_uses t) n) i z) has in
@@ -446,7 +454,7 @@ module _ (list : List Named) (distinct : AreDistinct list) (t : Texts) (a : AreR
       by : ((x : ℕ) × (number_of (placed ++ (c.name, e) ∷ []) d.name ≡ Some x))
           ⊎ (number_of (placed ++ (c.name, e) ∷ []) d.name ≡ None)
           → (number_of placed d.name ≢ None → ⊥)
-          → ((y : ℕ) (b : Named) → slice_get list y ≡ Some b → number_of placed b.name ≢ None
+          → ((y : ℕ) (b : DefinedText) → slice_get list y ≡ Some b → number_of placed b.name ≢ None
           → (Contains order y → ⊥) → ⊥) → ⊥
       by (inr missing) now earlier = some missing
       by (inl (x, found)) now earlier = go (number_cases placed c.name e d.name x found)
@@ -484,8 +492,9 @@ light_more most names m e light le x l = by (cases_lt x (length names))
         ∙ weight_of_last (defined names) e)) le
 
 -- where texts are definitions, one that is heavy stays heavy
-pub heavy_there : (most : ℕ) (list : List Named) (placed names : List Definition) (n : ℕ) (d : Named) (e : Expression)
-    → ArePlaced list placed → IsNext list placed n d e → most < weight_of (defined placed) e → AreNames list names
+pub heavy_there : (most : ℕ) (list : List DefinedText) (placed names : List Definition) (n : ℕ) (d : DefinedText)
+    (e : Expression)
+    → ArePlaced list placed → IsPlacedNext list placed n d e → most < weight_of (defined placed) e → AreNames list names
     → AreLightNames most names → ⊥
 heavy_there most list placed names n d e before step heavy all light = by (cases_lt (length placed) (length names))
   where
@@ -503,7 +512,7 @@ heavy_there most list placed names n d e before step heavy all light = by (cases
         let front = placed_front list before all.placed (omega (arith, less)) in
         let there = placed_at list all.placed (length placed) less in
         let one = next_one list placed n there.0 d there.1 e there.2 step
-        (subst (λ p. IsNext list p there.0 there.1 there.2) (sym front) there.3) in
+        (subst (λ p. IsPlacedNext list p there.0 there.1 there.2) (sym front) there.3) in
         let last : get_or (defined names) (length placed) empty ≡ e
         = get_or-map (λ (k : Definition). k.1) names (length placed) no_definition empty less
         ∙ (ap (λ (k : Definition). k.1) there.4 ∙ sym one.1) in
@@ -525,7 +534,7 @@ heavy_there most list placed names n d e before step heavy all light = by (cases
         )
 
 -- nothing is placed
-pub placing_none : (list : List Named) (numbers : List ℕ) → length numbers ≡ length list
+pub placing_none : (list : List DefinedText) (numbers : List ℕ) → length numbers ≡ length list
     → ArePlacing list [] [] numbers
 placing_none list numbers long = record {
   placed = definitions.none;
@@ -552,7 +561,7 @@ module _ (codes : List NamedText) (distinct : AreDistinct (named_texts codes)) (
       (take i order) names numbers)
     where
       -- it is the next to be placed
-      pub placed_next : IsNext (named_texts codes) names (get_or order i 0) (named_text (get_or codes
+      pub placed_next : IsPlacedNext (named_texts codes) names (get_or order i 0) (named_text (get_or codes
           (get_or order i 0) no_entry))
           (renumbered (number_for numbers) (expression_at t (get_or order i 0)))
       placed_next =
@@ -586,7 +595,7 @@ module _ (codes : List NamedText) (distinct : AreDistinct (named_texts codes)) (
           one_more i = omega arith
 
 -- all are placed
-pub placed_all : (list : List Named) (order : List ℕ) (names : List Definition) (numbers : List ℕ)
+pub placed_all : (list : List DefinedText) (order : List ℕ) (names : List Definition) (numbers : List ℕ)
     → ArePlacing list order names numbers → ((n : ℕ) → n < length list → Contains order n) → AreNames list names
 placed_all list order names numbers p all = record {
   placed = p.placed;
@@ -594,8 +603,10 @@ placed_all list order names numbers p all = record {
 }
 
 -- a heavy one is refused
-pub refused_heavy : (most : ℕ) (list : List Named) (order : List ℕ) (names : List Definition) (numbers : List ℕ) (n : ℕ)
-    (d : Named) (e : Expression) (fault : EreFault) → ArePlacing list order names numbers → IsNext list names n d e
+pub refused_heavy : (most : ℕ) (list : List DefinedText) (order : List ℕ) (names : List Definition)
+    (numbers : List ℕ) (n : ℕ)
+    (d : DefinedText) (e : Expression) (fault : EreFault) → ArePlacing list order names numbers
+    → IsPlacedNext list names n d e
     → (fault ≢ OutOfMemory → fault ≡ TooHeavy) → (fault ≡ TooHeavy → most < weight_of (defined names) e)
     → AreRefused most list n fault
 refused_heavy most list order names numbers n d e fault p step only heavy = record {
@@ -613,8 +624,8 @@ refused_heavy most list order names numbers n d e fault p step only heavy = reco
 }
 
 -- whatever is placed is an expression under the known names
-placed_known : (list : List Named) → AreDistinct list → {names : List Definition} → ArePlaced list names → (n : ℕ)
-    (d : Named) → slice_get list n ≡ Some d → number_of names d.name ≢ None
+placed_known : (list : List DefinedText) → AreDistinct list → {names : List Definition} → ArePlaced list names → (n : ℕ)
+    (d : DefinedText) → slice_get list n ≡ Some d → number_of names d.name ≢ None
     → (e : Expression) × IsExpression (known_names list) d.text e
 placed_known list distinct definitions.none n d is some = absurd (some refl)
 placed_known list distinct (next placed k c e before step) n d is some
@@ -626,7 +637,7 @@ placed_known list distinct (next placed k c e before step) n d is some
         let one : n ≡ k = distinct n k d c is step.is (sym same) in
         let text : c ≡ d = some_one (sym step.is ∙ (ap (slice_get list) (sym one) ∙ is)) in
         let read = read_under_known list distinct before c.text e step.follows.is_expression in
-        (read.0, subst (λ (b : Named). IsExpression (known_names list) b.text read.0) text read.1)
+        (read.0, subst (λ (b : DefinedText). IsExpression (known_names list) b.text read.0) text read.1)
 
     by : ((x : ℕ) × (number_of (placed ++ (c.name, e) ∷ []) d.name ≡ Some x))
         ⊎ (number_of (placed ++ (c.name, e) ∷ []) d.name ≡ None)
@@ -640,7 +651,7 @@ placed_known list distinct (next placed k c e before step) n d is some
         go (inl was) = f (λ missing. none_some (sym missing ∙ was))
         go (inr same) = here same
 
-module _ (most : ℕ) (list : List Named) (distinct : AreDistinct list) where
+module _ (most : ℕ) (list : List DefinedText) (distinct : AreDistinct list) where
   -- a text that is no expression
   pub refused_text : (r : Refusal) → IsTextRefusal (known_names list) list r → AreRefused most list r.place r.fault
   refused_text r is = record {
@@ -666,7 +677,7 @@ module _ (most : ℕ) (list : List Named) (distinct : AreDistinct list) where
   }
 
 -- what is used is there
-pub uses_there : (list : List Named) (t : Texts) → AreRead (known_names list) list t → AreThere (text_uses t)
+pub uses_there : (list : List DefinedText) (t : Texts) → AreRead (known_names list) list t → AreThere (text_uses t)
 uses_there list t a n i d l = omega (
   arith,
   a.there n i d l,

@@ -16,7 +16,7 @@ use Rattle.std.proofs.lemmas.List.Elements.{Contains-get_or}
 use Rattle.std.proofs.lemmas.List.Quantifiers.{position-Some}
 use Rattle.std.proofs.lemmas.Option.{get_or_from_slice_get, slice_get-get_or, slice_get_within}
 use Rattle.std.proofs.lemmas.Slice.Eq.{bytes_eq-Decides}
-use Rattle.ly_ere.specs.Definitions.{AreDistinct, AreNames, ArePlaced, IsNext, Named, next, none}
+use Rattle.ly_ere.specs.Definitions.{AreDistinct, AreNames, ArePlaced, IsPlacedNext, DefinedText, next, none}
 use Rattle.ly_ere.specs.Expression.{Expression, empty}
 use Rattle.ly_ere.specs.Expression as expression
 use Rattle.ly_ere.specs.Names.{Definition, number_of}
@@ -143,20 +143,20 @@ number_cases names m e n x is = by (cases_option (number_of names n))
         last (inr other) = none_some (sym (ap (λ b. cond b (Some (length names)) None) other) ∙ rest)
 
 -- a definition as it is known
-abbrev pub known : Named → Definition
+abbrev pub known : DefinedText → Definition
 known d = (d.name, expression.set (0 ∷ []))
 
 -- what no list has
 abbrev pub no_definition : Definition
 no_definition = ([], empty)
 
-abbrev pub no_text : Named
+abbrev pub no_text : DefinedText
 no_text = record { name = []; text = [] }
 
-module _ (list : List Named) where
+module _ (list : List DefinedText) where
   -- what is known by a number has that place in the list
   pub known_is : (n : List ℕ) (y : ℕ) → number_of (known_names list) n ≡ Some y
-      → (d : Named) × (slice_get list y ≡ Some d) × (d.name ≡ n)
+      → (d : DefinedText) × (slice_get list y ≡ Some d) × (d.name ≡ n)
   known_is n y is =
       let found = number_is (known_names list) n y no_definition is in
       let l : y < length list = omega (arith, found.0, length-map list known) in (
@@ -167,20 +167,20 @@ module _ (list : List Named) where
 
   -- the names of what is placed are those of the list
   pub placed_is : {names : List Definition} → ArePlaced list names → (n : List ℕ) (x : ℕ) → number_of names n ≡ Some x
-      → (y : ℕ) × (d : Named) × (slice_get list y ≡ Some d) × (d.name ≡ n)
+      → (y : ℕ) × (d : DefinedText) × (slice_get list y ≡ Some d) × (d.name ≡ n)
   placed_is none n x is = none_some is
   placed_is (next placed k d e before step) n x is
       = by (number_cases placed d.name e n x is) (λ was. placed_is before n x was)
     where
       by : (number_of placed n ≡ Some x) ⊎ (d.name ≡ n)
-          → (number_of placed n ≡ Some x → (y : ℕ) × (c : Named) × (slice_get list y ≡ Some c) × (c.name ≡ n))
-          → (y : ℕ) × (c : Named) × (slice_get list y ≡ Some c) × (c.name ≡ n)
+          → (number_of placed n ≡ Some x → (y : ℕ) × (c : DefinedText) × (slice_get list y ≡ Some c) × (c.name ≡ n))
+          → (y : ℕ) × (c : DefinedText) × (slice_get list y ≡ Some c) × (c.name ≡ n)
       by (inl was) f = f was
       by (inr same) f = (k, d, step.is, same)
 
   module _ (distinct : AreDistinct list) where
     -- a name is known by its place
-    pub known_number : (y : ℕ) (d : Named) → slice_get list y ≡ Some d
+    pub known_number : (y : ℕ) (d : DefinedText) → slice_get list y ≡ Some d
         → number_of (known_names list) d.name ≡ Some y
     known_number y d is = position_from-zero p (known_names list)
         ∙ (position_first p (known_names list) 0 y no_definition (omega (arith, l, length-map list known)) here before
@@ -200,7 +200,7 @@ module _ (list : List Named) where
         name_at j less = ap (λ (k : Definition). k.0) (get_or-map known list j no_text no_definition less)
 
         here : p (get_or (known_names list) y no_definition) ≡ true
-        here = same_text d.name _ (ap (λ (c : Named). c.name) (sym (get_or_from_slice_get list y d no_text is))
+        here = same_text d.name _ (ap (λ (c : DefinedText). c.name) (sym (get_or_from_slice_get list y d no_text is))
             ∙ sym (name_at y l))
 
         before : (j : ℕ) → j < y → p (get_or (known_names list) j no_definition) ≡ false
@@ -223,7 +223,8 @@ module _ (list : List Named) where
     -- an expression under what is placed is one under the known names, and what it uses is placed
     pub read_under_known : {names : List Definition} → ArePlaced list names → (text : List ℕ) (f : Expression)
         → IsExpression names text f → (e : Expression) × IsExpression (known_names list) text e
-        × ((y : ℕ) (d : Named) → Contains (uses_of e) y → slice_get list y ≡ Some d → number_of names d.name ≢ None)
+        × ((y : ℕ) (d : DefinedText) → Contains (uses_of e) y → slice_get list y ≡ Some d
+        → number_of names d.name ≢ None)
     read_under_known {names} placed text f is = (
       renumbered g f,
       (is.0, is.1, alternation_known names (known_names list) g is.2 (λ n x found _. knows n x found)),
@@ -248,7 +249,7 @@ module _ (list : List Named) where
             ∙ ap or_zero number in
             number ∙ ap Some (sym same)
 
-        uses_placed : (y : ℕ) (d : Named) → Contains (map g (uses_of f)) y → slice_get list y ≡ Some d
+        uses_placed : (y : ℕ) (d : DefinedText) → Contains (map g (uses_of f)) y → slice_get list y ≡ Some d
             → number_of names d.name ≢ None
         uses_placed y d (k, l, e) there missing =
             let less : k < length (uses_of f) = omega (arith, l, length-map (uses_of f) g) in
@@ -258,12 +259,12 @@ module _ (list : List Named) where
             let here = known_is found.0 y (knows found.0 x found.1 ∙ ap Some number) in
             let same : d ≡ here.0 = some_one (sym there ∙ here.1) in
             none_some (sym missing
-            ∙ (ap (λ (c : Named). number_of names c.name) same ∙ (ap (number_of names) here.2 ∙ found.1)))
+            ∙ (ap (λ (c : DefinedText). number_of names c.name) same ∙ (ap (number_of names) here.2 ∙ found.1)))
 
     -- and the other way round
     pub read_under_placed : (names : List Definition) (numbers : List ℕ) (text : List ℕ) (e : Expression)
         → IsExpression (known_names list) text e
-        → ((y : ℕ) (d : Named) → Contains (uses_of e) y → slice_get list y ≡ Some d
+        → ((y : ℕ) (d : DefinedText) → Contains (uses_of e) y → slice_get list y ≡ Some d
         → number_of names d.name ≡ Some (number_for numbers y))
         → IsExpression names text (renumbered (number_for numbers) e)
     read_under_placed names numbers text e is placed = (
@@ -275,8 +276,9 @@ module _ (list : List Named) where
     )
 
   -- the next text to be placed is one
-  pub next_one : (names : List Definition) (n m : ℕ) (d c : Named) (e f : Expression) → IsNext list names n d e
-      → IsNext list names m c f → (d ≡ c) × (e ≡ f)
+  pub next_one : (names : List Definition) (n m : ℕ) (d c : DefinedText) (e f : Expression)
+      → IsPlacedNext list names n d e
+      → IsPlacedNext list names m c f → (d ≡ c) × (e ≡ f)
   next_one names n m d c e f a b = by (cases_lt n m) (cases_lt m n)
     where
       by : (n < m) ⊎ (m ≤ n) → (m < n) ⊎ (n ≤ m) → (d ≡ c) × (e ≡ f)
@@ -287,26 +289,31 @@ module _ (list : List Named) where
           let text : d ≡ c = some_one (sym a.is ∙ (ap (slice_get list) same ∙ b.is)) in (
             text,
             expression_one names d.text e f a.follows.is_expression
-                (subst (λ (t : Named). IsExpression names t.text f) (sym text) b.follows.is_expression),
+                (subst (λ (t : DefinedText). IsExpression names t.text f) (sym text) b.follows.is_expression),
           )
 
   -- what is placed at a place is the next behind those before
-  pub placed_at : {names : List Definition} → ArePlaced list names → (i : ℕ) → i < length names → (n : ℕ) × (d : Named)
-      × (e : Expression) × IsNext list (take i names) n d e × (get_or names i no_definition ≡ (d.name, e))
+  pub placed_at : {names : List Definition} → ArePlaced list names → (i : ℕ) → i < length names → (n : ℕ) ×
+      (d : DefinedText)
+      × (e : Expression) × IsPlacedNext list (take i names) n d e × (get_or names i no_definition ≡ (d.name, e))
   placed_at none i l = absurd (omega (arith, l))
   placed_at (next placed n d e before step) i l = by (cases_lt i (length placed)) (λ less. placed_at before i less)
     where
       by : (i < length placed) ⊎ (length placed ≤ i)
-          → (i < length placed → (m : ℕ) × (c : Named) × (f : Expression) × IsNext list (take i placed) m c f
+          → (i < length placed → (m : ℕ) × (c : DefinedText) × (f : Expression) × IsPlacedNext list
+          (take i placed) m c f
           × (get_or placed i no_definition ≡ (c.name, f)))
-          → (m : ℕ) × (c : Named) × (f : Expression) × IsNext list (take i (placed ++ (d.name, e) ∷ [])) m c f
+          → (m : ℕ) × (c : DefinedText) × (f : Expression) × IsPlacedNext list (take i (placed ++ (
+            d.name,
+            e,
+          ) ∷ [])) m c f
           × (get_or (placed ++ (d.name, e) ∷ []) i no_definition ≡ (c.name, f))
       by (inl less) f =
           let there = f less in (
             there.0,
             there.1,
             there.2,
-            subst (λ p. IsNext list p there.0 there.1 there.2) (sym (take-append-le i placed ((d.name, e) ∷ [])
+            subst (λ p. IsPlacedNext list p there.0 there.1 there.2) (sym (take-append-le i placed ((d.name, e) ∷ [])
                 (omega (arith, less)))) there.3,
             get_or-append placed ((d.name, e) ∷ []) no_definition i less ∙ there.4,
           )
@@ -316,7 +323,10 @@ module _ (list : List Named) where
             n,
             d,
             e,
-            subst (λ p. IsNext list p n d e) (sym (take-append-le i placed ((d.name, e) ∷ []) (omega (arith, last))
+            subst (λ p. IsPlacedNext list p n d e) (sym (take-append-le i placed ((d.name, e) ∷ []) (omega (
+              arith,
+              last,
+            ))
                 ∙ take_all i placed (omega (arith, last)))) step,
             ap (λ k. get_or (placed ++ (d.name, e) ∷ []) k no_definition) last
                 ∙ get_or-append_seam placed (d.name, e) [] no_definition,
@@ -337,17 +347,17 @@ module _ (list : List Named) where
       by same =
           let there = placed_at b (length placed) less in
           let one = next_one placed n there.0 d there.1 e there.2 step
-          (subst (λ p. IsNext list p there.0 there.1 there.2) (sym same) there.3) in
+          (subst (λ p. IsPlacedNext list p there.0 there.1 there.2) (sym same) there.3) in
           let last : get_or q (length placed) no_definition ≡ (d.name, e)
-          = there.4 ∙ ap₂ (λ (t : Named) f. (t.name, f)) (sym one.0) (sym one.1) in
+          = there.4 ∙ ap₂ (λ (t : DefinedText) f. (t.name, f)) (sym one.0) (sym one.1) in
           let long : length (placed ++ (d.name, e) ∷ []) ≡ suc (length placed)
           = omega (arith, length-append placed ((d.name, e) ∷ [])) in
           ap₂ (λ p x. p ++ x ∷ []) same (sym last)
           ∙ (sym (take-suc q (length placed) no_definition less) ∙ ap (λ k. take k q) (sym long))
 
   -- nothing is left to be placed behind all of them
-  nothing_next : {names : List Definition} → AreNames list names → (n : ℕ) (d : Named) (e : Expression)
-      → IsNext list names n d e → ⊥
+  nothing_next : {names : List Definition} → AreNames list names → (n : ℕ) (d : DefinedText) (e : Expression)
+      → IsPlacedNext list names n d e → ⊥
   nothing_next a n d e step = a.all n d step.is step.follows.new
 
   -- texts are at most one list of definitions
@@ -357,7 +367,7 @@ module _ (list : List Named) where
       shorter : (p q : List Definition) → AreNames list p → AreNames list q → length p < length q → ⊥
       shorter p q a b less =
           let there = placed_at b.placed (length p) less in
-          nothing_next a there.0 there.1 there.2 (subst (λ r. IsNext list r there.0 there.1 there.2)
+          nothing_next a there.0 there.1 there.2 (subst (λ r. IsPlacedNext list r there.0 there.1 there.2)
           (sym (placed_front a.placed b.placed (omega (arith, less)))) there.3)
 
       by : (length p < length q) ⊎ (length q ≤ length p) → (length q < length p) ⊎ (length p ≤ length q) → p ≡ q

@@ -15,7 +15,16 @@ use Rattle.std.proofs.lemmas.Bool.{cases_eq, cases_lt, eq-eqb, ne_eqb, not-true}
 use Rattle.std.proofs.lemmas.List.{get_or_default, get_or-map, get_or-set_same, get_or-set_other, length-map}
 use Rattle.std.proofs.lemmas.List.{length-set}
 use Rattle.std.proofs.lemmas.List.Elements.{Contains-append_left, Contains-get_or, Contains-push, Contains-push_cases}
-use Rattle.ly_ere.specs.Private.Turns.{AreTaken, AreThere, IsLastTurn, IsNextUse, IsOpen, IsReady, IsShort, IsThrough}
+use Rattle.ly_ere.specs.Private.Turns.{
+  AreTaken,
+  AreThere,
+  IsLastTurn,
+  IsNextUse,
+  IsOpen,
+  HasAllTaken,
+  IsShort,
+  IsThrough,
+}
 use Rattle.ly_ere.specs.Private.Turns.{AreTurns, awaited, count_untaken, next, none, numbers_from, passed_at, uses_at}
 use Rattle.ly_ere.specs.Private.Turns.{uses_in}
 use Rattle.ly_ere.specs.declared.turns.Turns.{Turns}
@@ -327,13 +336,13 @@ module _ (U : List (List ℕ)) (P : List ℕ) (W : List (List ℕ)) (T : List Bo
           two : true ≡ false → ⊥
           two e = absurd (cc)
 
-      ready : IsReady U O n
+      ready : HasAllTaken U O n
       ready k d less = subst (Contains O) (default k d less) (a.behind n k (omega (arith, through, less)))
         where
           default : (k d : ℕ) → k < length (uses_at U n) → get_or (uses_at U n) k 0 ≡ get_or (uses_at U n) k d
           default k d less = get_or_default (uses_at U n) k 0 d less
 
-      waits_on : (k : ℕ) → k < n → (Contains O k → ⊥) → IsReady U O k → ⊥
+      waits_on : (k : ℕ) → k < n → (Contains O k → ⊥) → HasAllTaken U O k → ⊥
       waits_on k less never is =
           let r = a.rest k (omega (arith, less, free_now.0), never) (least k (omega (arith, less))) (apart k less) in
           r.1 (is (passed_at P k) 0 r.0)

@@ -9,66 +9,68 @@ use Rattle.ly_ere.specs.declared.fault.EreFault.{EreFault}
 use Rattle.ly_ere.specs.declared.fault.EreFault.TheVariants.{OutOfMemory, TooHeavy}
 
 -- A name and the text of its definition.
-pub record Named : Type 0 where
+pub record DefinedText : Type 0 where
   pub name : List ℕ
   pub text : List ℕ
 
 -- no two have the same name
-abbrev pub AreDistinct : List Named → Type 0
-AreDistinct list = (n m : ℕ) (c d : Named) → slice_get list n ≡ Some c → slice_get list m ≡ Some d
+abbrev pub AreDistinct : List DefinedText → Type 0
+AreDistinct list = (n m : ℕ) (c d : DefinedText) → slice_get list n ≡ Some c → slice_get list m ≡ Some d
     → c.name ≡ d.name → n ≡ m
 
 -- A text can be placed behind definitions: its name isn't among them, and under them it is this expression.
-pub record CanFollow (placed : List Definition) (d : Named) (e : Expression) : Type 0 where
+pub record CanFollow (placed : List Definition) (d : DefinedText) (e : Expression) : Type 0 where
   pub new : number_of placed d.name ≡ None
   pub is_expression : IsExpression placed d.text e
 
 -- Text n is the first of the list that can be placed behind definitions.
-pub record IsNext (list : List Named) (placed : List Definition) (n : ℕ) (d : Named) (e : Expression) : Type 0
+pub record IsPlacedNext (list : List DefinedText) (placed : List Definition) (n : ℕ) (d : DefinedText)
+    (e : Expression) : Type 0
   where
     pub is : slice_get list n ≡ Some d
     pub follows : CanFollow placed d e
-    pub first : (k : ℕ) (c : Named) (f : Expression) → k < n → slice_get list k ≡ Some c → CanFollow placed c f → ⊥
+    pub first : (k : ℕ) (c : DefinedText) (f : Expression) → k < n → slice_get list k ≡ Some c
+        → CanFollow placed c f → ⊥
 
 -- Definitions, each of the first text of the list that can be placed behind those before it.
-pub data ArePlaced (list : List Named) : List Definition → Type 0 where
+pub data ArePlaced (list : List DefinedText) : List Definition → Type 0 where
   none : ArePlaced list []
-  next : (placed : List Definition) (n : ℕ) (d : Named) (e : Expression) → ArePlaced list placed
-      → IsNext list placed n d e → ArePlaced list (placed ++ (d.name, e) ∷ [])
+  next : (placed : List Definition) (n : ℕ) (d : DefinedText) (e : Expression) → ArePlaced list placed
+      → IsPlacedNext list placed n d e → ArePlaced list (placed ++ (d.name, e) ∷ [])
 
 -- The texts are these definitions: all of them are placed.
-pub record AreNames (list : List Named) (names : List Definition) : Type 0 where
+pub record AreNames (list : List DefinedText) (names : List Definition) : Type 0 where
   pub placed : ArePlaced list names
-  pub all : (n : ℕ) (d : Named) → slice_get list n ≡ Some d → number_of names d.name ≢ None
+  pub all : (n : ℕ) (d : DefinedText) → slice_get list n ≡ Some d → number_of names d.name ≢ None
 
 -- each definition weighs at most this
 abbrev pub AreLightNames : ℕ → List Definition → Type 0
 AreLightNames most names = (x : ℕ) → x < length names → named_weight (defined names) (length names) x ≤ most
 
 -- Text n is placed where it weighs more than most, by the definitions that it uses.
-pub record IsHeavyText (most : ℕ) (list : List Named) (n : ℕ) : Type 0 where
+pub record IsHeavyDefinition (most : ℕ) (list : List DefinedText) (n : ℕ) : Type 0 where
   pub placed : List Definition
   pub are_placed : ArePlaced list placed
-  pub text : Named
+  pub text : DefinedText
   pub expression : Expression
-  pub is_next : IsNext list placed n text expression
+  pub is_next : IsPlacedNext list placed n text expression
   pub is_heavy : most < weight_of (defined placed) expression
 
 -- Why texts are refused, and the place of the one at fault: they are no definitions, or are too heavy.
-pub record AreRefused (most : ℕ) (list : List Named) (place : ℕ) (fault : EreFault) : Type 0 where
+pub record AreRefused (most : ℕ) (list : List DefinedText) (place : ℕ) (fault : EreFault) : Type 0 where
   pub within : fault ≢ OutOfMemory → place < length list
   pub refused : fault ≢ OutOfMemory → fault ≢ TooHeavy → (names : List Definition) → AreNames list names → ⊥
-  pub heavy : fault ≡ TooHeavy → IsHeavyText most list place
+  pub heavy : fault ≡ TooHeavy → IsHeavyDefinition most list place
   pub none_light : fault ≡ TooHeavy → (names : List Definition) → AreNames list names → AreLightNames most names → ⊥
 
 -- a definition as it stands in a lex file
-abbrev pub named_text : code.NamedText → Named
+abbrev pub named_text : code.NamedText → DefinedText
 named_text d = record { name = d.name.now; text = d.text.now }
 
-abbrev pub named_texts : List code.NamedText → List Named
+abbrev pub named_texts : List code.NamedText → List DefinedText
 named_texts list = map named_text list
 
 -- texts are at most one list of definitions
 abbrev pub NamesAreOne : Type 0
-NamesAreOne = (list : List Named) (names others : List Definition) → AreNames list names → AreNames list others
+NamesAreOne = (list : List DefinedText) (names others : List Definition) → AreNames list names → AreNames list others
     → names ≡ others

@@ -2,7 +2,7 @@ ghost use Rattle.std.specs.Prelude.{◌≡◌, ◌≢◌, ◌<◌, ◌≤◌, �
 ghost use Rattle.std.specs.Prelude.{drop, length, take, Contains, None, Some};
 ghost use Rattle.std.specs.Prelude.{IfErr, IfOk, OnOk};
 ghost use Rattle.std.specs.Option.{ForSome};
-ghost use Rattle.ly_ere.specs.Definitions.{AreDistinct, AreLightNames, AreNames, AreRefused, Named, named_texts};
+ghost use Rattle.ly_ere.specs.Definitions.{AreDistinct, AreLightNames, AreNames, AreRefused, DefinedText, named_texts};
 ghost use Rattle.ly_ere.specs.Elements.{AreElements, Element};
 ghost use Rattle.ly_ere.specs.Names.{Definition};
 ghost use Rattle.ly_ere.specs.Patterns.{IsBehind, IsExpression};
@@ -143,7 +143,7 @@ fn read_each(alloc: Global, list: &[NamedText<'_>], known: &Names) -> Result<Tex
 impl Texts {
     /// Reads one more.
     fn read_one(&mut self, alloc: Global, text: &[u8], known: &Names) -> Result<(), AllocError>
-        ensures { (list : List Named) (d : Named) → AreRead known.now list self.old → d.text ≡ text.now
+        ensures { (list : List DefinedText) (d : DefinedText) → AreRead known.now list self.old → d.text ≡ text.now
             → OnOk result (AreRead known.now (list ++ d ∷ []) self.new) }
     {
         match read_text(alloc, text, known) {
@@ -155,7 +155,7 @@ impl Texts {
 
     /// One more, which is an expression.
     fn push(&mut self, alloc: Global, re: Re) -> Result<(), AllocError>
-        ensures { (known : List Definition) (list : List Named) (d : Named) → AreRead known list self.old
+        ensures { (known : List Definition) (list : List DefinedText) (d : DefinedText) → AreRead known list self.old
             → IsExpression known d.text re → OnOk result (AreRead known (list ++ d ∷ []) self.new) }
     {
         let uses = uses(alloc, &re)?;
@@ -168,7 +168,7 @@ impl Texts {
     fn push_fault(&mut self, alloc: Global, fault: EreFault) -> Result<(), AllocError>
         requires memory { fault ≢ OutOfMemory }
         requires weight { fault ≢ TooHeavy }
-        ensures { (known : List Definition) (list : List Named) (d : Named) → AreRead known list self.old
+        ensures { (known : List Definition) (list : List DefinedText) (d : DefinedText) → AreRead known list self.old
             → IsNoText known d.text → OnOk result (AreRead known (list ++ d ∷ []) self.new) }
     {
         let place = self.uses.len();

@@ -15,6 +15,8 @@ mod answers;
 #[cfg(test)]
 mod comparison;
 #[cfg(test)]
+mod definitions;
+#[cfg(test)]
 mod devices;
 #[cfg(test)]
 mod examples;

@@ -2,7 +2,7 @@
 use Rattle.std.specs.Prelude.{◌≡◌, ◌≢◌, ℕ, ◌<◌, List, [], ◌∷◌, All, map, length, slice_get, slice_index_or}
 use Rattle.std.specs.Prelude.{None, Some, Contains}
 use Rattle.std.specs.Option.{ForSome}
-use Rattle.ly_ere.specs.Definitions.{ArePlaced, Named}
+use Rattle.ly_ere.specs.Definitions.{ArePlaced, DefinedText}
 use Rattle.ly_ere.specs.Expression.{Expression, empty, set}
 use Rattle.ly_ere.specs.Names.{Definition, number_of}
 use Rattle.ly_ere.specs.Patterns.{IsExpression}
@@ -12,7 +12,7 @@ use Rattle.ly_ere.specs.declared.definitions.Texts.{Texts}
 use Rattle.ly_ere.specs.declared.fault.EreFault.TheVariants.{OutOfMemory, TooHeavy}
 
 -- the names, as if each were defined as a byte
-abbrev pub known_names : List Named → List Definition
+abbrev pub known_names : List DefinedText → List Definition
 known_names list = map (λ d. (d.name, set (0 ∷ []))) list
 
 -- the text is no expression
@@ -20,8 +20,8 @@ abbrev pub IsNoText : List Definition → List ℕ → Type 0
 IsNoText names text = (e : Expression) → IsExpression names text e → ⊥
 
 -- Text place of the list is no expression, and the fault is one of its text.
-pub record IsTextRefusal (known : List Definition) (list : List Named) (refusal : Refusal) : Type 0 where
-  pub text : Named
+pub record IsTextRefusal (known : List Definition) (list : List DefinedText) (refusal : Refusal) : Type 0 where
+  pub text : DefinedText
   pub is : slice_get list refusal.place ≡ Some text
   pub none : IsNoText known text.text
   pub memory : refusal.fault ≢ OutOfMemory
@@ -36,22 +36,22 @@ abbrev pub expression_at : Texts → ℕ → Expression
 expression_at t n = slice_index_or t.expressions.items n empty
 
 -- Texts of the list are read under the known names.
-pub record AreRead (known : List Definition) (list : List Named) (t : Texts) : Type 0 where
+pub record AreRead (known : List Definition) (list : List DefinedText) (t : Texts) : Type 0 where
   pub counted : length t.uses.items ≡ length list
   pub there : (n : ℕ) → All (λ u. u < length known) (slice_index_or (text_uses t) n [])
-  pub uses : (n : ℕ) (d : Named) (e : Expression) → slice_get list n ≡ Some d → IsExpression known d.text e
+  pub uses : (n : ℕ) (d : DefinedText) (e : Expression) → slice_get list n ≡ Some d → IsExpression known d.text e
       → slice_index_or (text_uses t) n [] ≡ uses_of e
   pub whole : t.refusal ≡ None → length t.expressions.items ≡ length list
-  pub expressions : t.refusal ≡ None → (n : ℕ) (d : Named) → slice_get list n ≡ Some d
+  pub expressions : t.refusal ≡ None → (n : ℕ) (d : DefinedText) → slice_get list n ≡ Some d
       → IsExpression known d.text (expression_at t n)
   pub refusal : ForSome t.refusal (IsTextRefusal known list)
 
 -- Texts of the list are placed, those of the numbers in order and no other. numbers has the place of each.
-pub record ArePlacing (list : List Named) (order : List ℕ) (names : List Definition) (numbers : List ℕ) : Type 0
+pub record ArePlacing (list : List DefinedText) (order : List ℕ) (names : List Definition) (numbers : List ℕ) : Type 0
   where
     pub placed : ArePlaced list names
     pub counted : length names ≡ length order
     pub numbered : length numbers ≡ length list
-    pub found : (n : ℕ) (d : Named) → slice_get list n ≡ Some d → Contains order n
+    pub found : (n : ℕ) (d : DefinedText) → slice_get list n ≡ Some d → Contains order n
         → number_of names d.name ≡ Some (slice_index_or numbers n 0)
-    pub only : (n : ℕ) (d : Named) → slice_get list n ≡ Some d → number_of names d.name ≢ None → Contains order n
+    pub only : (n : ℕ) (d : DefinedText) → slice_get list n ≡ Some d → number_of names d.name ≢ None → Contains order n

@@ -11,19 +11,19 @@ abbrev pub uses_at : List (List ℕ) → ℕ → List ℕ
 uses_at uses n = slice_index_or uses n []
 
 -- all that a thing uses is taken
-abbrev pub IsReady : List (List ℕ) → List ℕ → ℕ → Type 0
-IsReady uses order n = All (Contains order) (uses_at uses n)
+abbrev pub HasAllTaken : List (List ℕ) → List ℕ → ℕ → Type 0
+HasAllTaken uses order n = All (Contains order) (uses_at uses n)
 
 -- Numbers of things, each the least of those that aren't before it and have all that they use before it.
 pub data AreInTurn (uses : List (List ℕ)) : List ℕ → Type 0 where
   none : AreInTurn uses []
   next : (order : List ℕ) (n : ℕ) → AreInTurn uses order → n < length uses → (Contains order n → ⊥)
-      → IsReady uses order n → ((k : ℕ) → k < n → (Contains order k → ⊥) → IsReady uses order k → ⊥)
+      → HasAllTaken uses order n → ((k : ℕ) → k < n → (Contains order k → ⊥) → HasAllTaken uses order k → ⊥)
       → AreInTurn uses (order ++ n ∷ [])
 
 -- no thing that isn't among them has all that it uses among them
 abbrev pub IsLastTurn : List (List ℕ) → List ℕ → Type 0
-IsLastTurn uses order = (n : ℕ) → n < length uses → (Contains order n → ⊥) → IsReady uses order n → ⊥
+IsLastTurn uses order = (n : ℕ) → n < length uses → (Contains order n → ⊥) → HasAllTaken uses order n → ⊥
 
 -- Things are put in order as far as they can be, and one is left that can't, if there is any.
 pub record ArePut (uses : List (List ℕ)) (put : InTurn) : Type 0 where
