@@ -15,6 +15,8 @@ mod answers;
 #[cfg(test)]
 mod comparison;
 #[cfg(test)]
+mod derivations;
+#[cfg(test)]
 mod devices;
 #[cfg(test)]
 mod examples;
@@ -24,6 +26,8 @@ mod graphs;
 mod memory;
 #[cfg(test)]
 mod sets;
+#[cfg(test)]
+mod specifications;
 #[cfg(test)]
 mod walks;
 #[cfg(test)]
