@@ -17,6 +17,8 @@ mod comparison;
 #[cfg(test)]
 mod definitions;
 #[cfg(test)]
+mod derivations;
+#[cfg(test)]
 mod devices;
 #[cfg(test)]
 mod examples;
@@ -26,6 +28,8 @@ mod graphs;
 mod memory;
 #[cfg(test)]
 mod sets;
+#[cfg(test)]
+mod specifications;
 #[cfg(test)]
 mod walks;
 #[cfg(test)]
