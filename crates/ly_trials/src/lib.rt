@@ -15,8 +15,6 @@ mod answers;
 #[cfg(test)]
 mod comparison;
 #[cfg(test)]
-mod definitions;
-#[cfg(test)]
 mod derivations;
 #[cfg(test)]
 mod devices;
