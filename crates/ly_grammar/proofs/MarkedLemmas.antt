@@ -57,14 +57,14 @@ numbered G w all = All-weaker (SymbolWithin G.terminals G.accept) (HasNumberBelo
 -- and so have those of every rule
 pub rule_numbered : (G : Grammar) (p : ℕ) (r : Rule) → IsGrammar G → IsRule G p r → RuleNumbered (G.accept + 1) r
 rule_numbered G zero r is rule = subst (RuleNumbered (G.accept + 1))
-    (rule_is_one G 0 (accept_rule G.accept G.start) r is.rule_0 rule) (record {
+    (rule_is_one G 0 (accept_rule G.accept G.start) r is.augmented.rule_0 rule) (record {
       left = omega arith;
       body = All-cons (HasNumberBelow (G.accept + 1)) (nonterminal G.start) (terminal 0 ∷ [])
-          (let lt = is.start_within in omega (arith, lt))
+          (let lt = is.augmented.start_within in omega (arith, lt))
           (All-cons (HasNumberBelow (G.accept + 1)) (terminal 0) [] tt (All-nil (HasNumberBelow (G.accept + 1))));
     })
 rule_numbered G (suc p) r is rule =
-    let within = is.within (suc p) r rule (omega arith) in
+    let within = is.augmented.within (suc p) r rule (omega arith) in
     record { left = (let lt = within.left in omega (arith, lt)); body = numbered G r.body within.body }
 
 -- where all are marked nothing is removed

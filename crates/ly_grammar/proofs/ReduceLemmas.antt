@@ -80,6 +80,15 @@ module _ (G : Grammar) (marks : List Bool) (lawful : IsGrammar G) (long : length
     );
   }
 
+  pub is_augmented : IsAugmented (restricted marks G)
+  is_augmented = record {
+    end_within = lawful.augmented.end_within;
+    start_within = lawful.augmented.start_within;
+    rule_0 = at_marked marks G.rules 0 (accept_rule G.accept G.start) lawful.augmented.rule_0
+        ((useful 0 (accept_rule G.accept G.start) lawful.augmented.rule_0).1 (inl refl));
+    within = λ p r rule le. lawful.augmented.within p r (marked_at marks G.rules p r rule).0 le;
+  }
+
   pub is_reduced : (d : Tree) × IsTree G (nonterminal G.start) d → IsReduced (restricted marks G)
   is_reduced tree = record {
     start_tree = (tree.0, start_kept tree.0 tree.1);
@@ -97,7 +106,7 @@ module _ (G : Grammar) (marks : List Bool) (lawful : IsGrammar G) (long : length
   bodies_have_trees tree zero r rule =
       let there = marked_at marks G.rules zero r rule in
       subst (λ x. HaveTrees (restricted marks G) true x.body)
-      (rule_is_one G zero (accept_rule G.accept G.start) r lawful.rule_0 there.0)
+      (rule_is_one G zero (accept_rule G.accept G.start) r lawful.augmented.rule_0 there.0)
       (whole_trees (restricted marks G) tree.0 (start_kept tree.0 tree.1))
   bodies_have_trees tree (suc p) r rule =
       let is = (is_reduced tree).useful (suc p) r rule (omega arith) in
@@ -124,6 +133,7 @@ pub is_reduction : (G : Grammar) (marks nullable : List Bool) (first : Matrix) �
     → IsReduction G (reduction_of G marks nullable first)
 is_reduction G marks nullable first lawful long useful tree empties starts = record {
   keeps = keeps_useful G marks lawful long useful;
+  augmented = is_augmented G marks lawful long useful;
   reduced = is_reduced G marks lawful long useful tree;
   nullable = λ A le. let e = empties A in let n = empty_nullable (restricted marks G) A in
       (λ on. n.0 (e.0 on), λ is. e.1 (n.1 is));

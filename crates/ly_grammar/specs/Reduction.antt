@@ -7,7 +7,7 @@ use Rattle.std.specs.FinSet as set
 use Rattle.ly_join.specs.GrammarCode.{grammar_code}
 use Rattle.ly_sets.specs.NumberSet.{NumberSet, Member}
 use Rattle.ly_sets.specs.SetMatrix.{Matrix, row}
-use Rattle.ly_join.specs.Grammar.{Grammar, Rule, IsRule, nonterminal}
+use Rattle.ly_join.specs.Grammar.{Grammar, Rule, IsAugmented, IsRule, nonterminal}
 use Rattle.ly_grammar.specs.Derivations.{BeginsYield, IsNullable, IsReduced, IsUseful}
 
 -- the rules whose number is marked; the others are removed
@@ -38,6 +38,7 @@ pub record KeepsUseful (G R : Grammar) : Type 0 where
 -- The grammar is reduced, and its nonterminals derive what the reduction says.
 pub record IsReduction (G : Grammar) (r : Reduction) : Type 0 where
   pub keeps : KeepsUseful G r.grammar
+  pub augmented : IsAugmented r.grammar
   pub reduced : IsReduced r.grammar
   pub nullable : (A : ℕ) → A ≤ G.accept → IsTrue (slice_index_or r.nullable A false)
       ↔ IsNullable r.grammar (nonterminal A ∷ [])

@@ -17,11 +17,8 @@ pub grammar_of : (terminals accept start : ℕ) (rules : List Rule) → start < 
     → All (RuleWithin terminals accept) rules
     → IsGrammar (grammar_from terminals accept start (accept_rule accept start ∷ rules))
 grammar_of terminals accept start rules within some all = record {
+  augmented = record { end_within = some; start_within = within; rule_0 = refl; within = within_at };
   whole = there (accept_rule accept start ∷ rules);
-  end_within = some;
-  start_within = within;
-  rule_0 = refl;
-  within = within_at;
 } where
   there : (rs : List Rule) (p : ℕ) → p < length (map Some rs) → (r : Rule) × (slice_get (map Some rs) p ≡ Some (Some r))
   there [] p lt = absurd (omega (arith, lt))

@@ -39,13 +39,17 @@ pub record RuleWithin (terminals accept : ℕ) (r : Rule) : Type 0 where
   pub left : r.left < accept
   pub body : All (SymbolWithin terminals accept) r.body
 
--- Rule 0 is that of the whole text, no other rule has the whole text or the end in it, and none is removed.
-pub record IsGrammar (G : Grammar) : Type 0 where
-  pub whole : (p : ℕ) → p < length G.rules → (r : Rule) × IsRule G p r
+-- Rule 0 is that of the whole text, and no other rule has the whole text or the end in it (an augmented grammar).
+pub record IsAugmented (G : Grammar) : Type 0 where
   pub end_within : 0 < G.terminals
   pub start_within : G.start < G.accept
   pub rule_0 : IsRule G 0 (accept_rule G.accept G.start)
   pub within : (p : ℕ) (r : Rule) → IsRule G p r → 1 ≤ p → RuleWithin G.terminals G.accept r
+
+-- The grammar is augmented, and none of its rules is removed.
+pub record IsGrammar (G : Grammar) : Type 0 where
+  pub augmented : IsAugmented G
+  pub whole : (p : ℕ) → p < length G.rules → (r : Rule) × IsRule G p r
 
 -- a symbol as it is kept
 abbrev pub symbol_of : code.Symbol → Symbol

@@ -25,14 +25,14 @@ mark_at marks n b lt e = get_or_default marks n false b lt ∙ sym e
 first_mark : (G : Grammar) (marks : List Bool) (b : Bool) → length marks ≡ length G.rules → IsGrammar G
     → b ≡ slice_index_or marks 0 b → slice_index_or marks 0 false ≡ b
 first_mark G marks b long is e =
-    let lt = slice_get_within G.rules 0 (Some (accept_rule G.accept G.start)) is.rule_0 in
+    let lt = slice_get_within G.rules 0 (Some (accept_rule G.accept G.start)) is.augmented.rule_0 in
     mark_at marks 0 b (omega (arith, lt, long)) e
 
 pub returns-then-not-index-clause-unproductive : goal.returns-then-not-index-clause-unproductive
 returns-then-not-index-clause-unproductive c e d is =
     let G : Grammar = c.args.grammar.now in
     let known = c.in_ok-productive.ensures in
-    let rule = known.lawful.rule_0 in
+    let rule = known.lawful.augmented.rule_0 in
     let off : slice_index_or c.in_ok-productive.productive.items 0 false ≡ false
     = first_mark G c.in_ok-productive.productive.items c.index.result.now known.long known.lawful c.index.ensures
     ∙ c.if-not-index.true in
@@ -111,7 +111,7 @@ pub returns-clause-productive : goal.returns-clause-productive
 returns-clause-productive c =
     let G : Grammar = c.args.grammar.now in
     let known = c.in_ok-productive.ensures in
-    let rule = known.lawful.rule_0 in
+    let rule = known.lawful.augmented.rule_0 in
     let on : slice_index_or c.in_ok-productive.productive.items 0 false ≡ true
     = first_mark G c.in_ok-productive.productive.items c.index.result.now known.long known.lawful c.index.ensures
     ∙ c.if-not-index.false in

@@ -1,0 +1,8 @@
+-- What follows from the definition of an automaton.
+use Rattle.std.specs.Prelude.{ℕ, ◌≤◌, length}
+use Rattle.ly_grammar.specs.Items.{HasMoreCores}
+use Rattle.ly_lr0.specs.Automaton.{Automaton, IsAutomaton}
+
+-- there are no more cores of viable strings than states
+abbrev pub NoMoreCoresThanStates : Type 0
+NoMoreCoresThanStates = (M : Automaton) (n : ℕ) → IsAutomaton M → length M.states ≤ n → HasMoreCores M.grammar n → ⊥

@@ -1,0 +1,3 @@
+pub mod Automaton
+pub mod FaultNames
+pub mod Laws

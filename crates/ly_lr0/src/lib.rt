@@ -1,0 +1,13 @@
+//! From a reduced grammar to its LR(0) automaton: a state for each core of a viable string.
+//!
+//! `automaton` makes it (Knuth 1965; DeRemer 1971): strings lead to one state exactly where they have the same core, and
+//! lead nowhere exactly where they aren't viable (`HasCores`). States are numbered by the least strings that lead to
+//! them, which are their access prefixes: breadth first, symbols in the order of their numbers, terminals before
+//! nonterminals (`AreNumbered`).
+//!
+//! Left out: lookaheads, and what a state does on a terminal.
+#![tactic(auto)]
+
+mod fault;
+
+pub use fault::Lr0Fault;
