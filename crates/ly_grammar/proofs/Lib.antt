@@ -2,6 +2,7 @@ pub mod AdvanceLemmas
 pub mod BeginLemmas
 pub mod CloseLemmas
 pub mod FirstLemmas
+pub mod ItemLemmas
 pub mod MarkedLemmas
 pub mod MarksLemmas
 pub mod PassLemmas
