@@ -2,7 +2,7 @@
 use Rattle.std.proofs.Common.{◌≡◌, ◌≤◌, ◌+◌, ℕ, List, [], ◌∷◌, ◌++◌, length, drop, refl, sym, ap, subst, ◌∙◌, arith}
 use Rattle.std.proofs.Common.{IsTrue}
 use Rattle.std.proofs.Common.{drop-drop, length-append, length-drop, take}
-use Rattle.std.proofs.lemmas.List.{take-append-le, take_all}
+use Rattle.std.proofs.Math.Seq.{take-append_seam}
 use Rattle.std.proofs.lemmas.Bool.Decides.{nat_tests}
 use Rattle.ly_base.specs.Blank.{is_blank}
 use Rattle.ly_ere.specs.Elements.{AreElements, Element, IsElement, bounds, braced_name, bracket, dot, element, end}
@@ -95,10 +95,8 @@ extent_one (element t r w ws s g) (element u l v vs h j) b c i k e =
     let behind : length b ≡ length c
     = omega (arith, ap length rest, ap length more, length-append r b, length-append l c) in
     let long : length t ≡ length u = omega (arith, ap length e, behind, length-append t b, length-append u c) in
-    sym (take-front t b) ∙ (ap (take (length t)) e ∙ (ap (λ n. take n (u ++ c)) long ∙ take-front u c))
-  where
-    take-front : (x y : List ℕ) → take (length x) (x ++ y) ≡ x
-    take-front x y = take-append-le (length x) x y (omega arith) ∙ take_all (length x) x (omega arith)
+    sym (take-append_seam t b)
+    ∙ (ap (take (length t)) e ∙ (ap (λ n. take n (u ++ c)) long ∙ take-append_seam u c))
 
 -- where the reading stops the elements end
 pub stops_there : (line : List ℕ) (at n : ℕ) → at ≤ length line → n ≤ length line → IsBehind (drop at line)

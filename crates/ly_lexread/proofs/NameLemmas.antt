@@ -2,14 +2,14 @@
 use Rattle.std.proofs.Common.{◌≡◌, ◌≢◌, ◌⊎◌, ℕ, zero, suc, List, [], ◌∷◌, ◌++◌, Bool, true, false, Option, Some, None}
 use Rattle.std.proofs.Common.{Contains, Vec, length, map, take, drop, refl, sym, ap, subst, ◌∙◌, arith, length-append}
 use Rattle.std.proofs.Common.{take-append-drop, inl, inr, eqb, ◌<◌, ◌+◌, get_or}
-use Rattle.std.proofs.Math.Seq.{take-suc}
+use Rattle.std.proofs.Math.Seq.{drop-append_seam, take-append_seam, take-suc}
 use Rattle.std.specs.Global.{Global}
 use Rattle.std.specs.List.{list_any, slice_get}
 use Rattle.std.specs.Option.{MatchOption}
 use Rattle.std.specs.Prelude.{◌||◌, ◌≤◌, MatchBool, if◌then◌else◌}
 use Rattle.std.proofs.lemmas.Bool.Decides.{nat_tests}
 use Rattle.std.specs.Str.{bytes_eq}
-use Rattle.std.proofs.lemmas.List.{map-append, take-append-le, take_all}
+use Rattle.std.proofs.lemmas.List.{map-append}
 use Rattle.std.proofs.lemmas.List.Elements.{Contains-push_cases}
 use Rattle.std.proofs.lemmas.Slice.Eq.{bytes_eq-Decides}
 use Rattle.ly_base.specs.Blank.{is_blank}
@@ -199,18 +199,13 @@ module _ (behind : List ℕ) (n : ℕ) (only : (k : ℕ) (ws : List Element) →
   text_is : (t : List ℕ) → IsTextOf behind t → (t ≡ take n behind) × AllPass is_blank (drop n behind)
   text_is t h =
       let long : length t ≤ length behind = omega (arith, ap length h.parted, length-append t h.blanks) in
-      let front : take (length t) behind ≡ t = ap (take (length t)) h.parted
-      ∙ (take-append-le (length t) t h.blanks (omega arith) ∙ take_all (length t) t (omega arith)) in
-      let rest : drop (length t) behind ≡ h.blanks = ap (drop (length t)) h.parted ∙ drop_front t h.blanks in
+      let front : take (length t) behind ≡ t = ap (take (length t)) h.parted ∙ take-append_seam t h.blanks in
+      let rest : drop (length t) behind ≡ h.blanks = ap (drop (length t)) h.parted ∙ drop-append_seam t h.blanks in
       let same : length t ≡ n = only (length t) h.elements long (subst (λ u. AreElements u h.elements) (sym front)
       h.spelled) (subst IsBehind (sym rest) (blanks_behind h.blanks h.are_blanks)) in (
         sym front ∙ ap (λ k. take k behind) same,
         subst (AllPass is_blank) (sym rest ∙ ap (λ k. drop k behind) same) h.are_blanks,
       )
-    where
-      drop_front : (xs ys : List ℕ) → drop (length xs) (xs ++ ys) ≡ ys
-      drop_front [] ys = refl
-      drop_front (x ∷ xs) ys = drop_front xs ys
 
   pub extent_is : (text rest : List ℕ) → text ≡ take n behind → rest ≡ drop n behind → (t : Bool)
       → MatchBool t (AllPass is_blank rest) (AllPass is_blank rest → ⊥)

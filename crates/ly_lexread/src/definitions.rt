@@ -135,7 +135,7 @@ pub(crate) fn first_fault(
     match named_lines(alloc, text) {
         Ok(definitions) => match read_definition_texts(alloc, &definitions, limits) {
             Ok(_) => fault,
-            Err(earlier) => fault.or_earlier(earlier),
+            Err(earlier) => earlier.or_earlier(fault),
         },
         Err(_) => LexFault::OutOfMemory,
     }

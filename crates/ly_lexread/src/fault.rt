@@ -128,7 +128,7 @@ impl LexFault {
     /// said of what is too heavy.
     pub(crate) fn or_earlier(self, other: LexFault) -> LexFault
         ensures one { result ≢ OutOfMemory → (result ≡ self) ⊎ (result ≡ other) }
-        ensures memory { self ≡ OutOfMemory → result ≡ OutOfMemory }
+        ensures memory { (self ≡ OutOfMemory) ⊎ (other ≡ OutOfMemory) → result ≡ OutOfMemory }
         ensures light { IsTooHeavy result → IsTooHeavy self × IsTooHeavy other }
     {
         let (Some(line), Some(other_line)) = (self.line(), other.line()) else {
