@@ -1,6 +1,6 @@
 -- One more definition.
 use Rattle.std.proofs.Common.{◌≡◌, ◌<◌, ◌≤◌, ◌⊎◌, List, [], ◌∷◌, ◌++◌, length, length-append, get_or, Some, sym}
-use Rattle.std.proofs.Common.{ap, ◌∙◌, ◌+◌, ℕ, Bool, refl}
+use Rattle.std.proofs.Common.{ap, ◌∙◌, ℕ}
 use Rattle.std.proofs.Common.{subst, arith, inl, inr}
 use Rattle.std.proofs.Math.ListN.{get_or-append}
 use Rattle.std.proofs.Math.Seq.{get_or-append_seam}
@@ -9,11 +9,8 @@ use Rattle.std.proofs.lemmas.Option.{get_or_from_slice_get, slice_get_within, sl
 use Rattle.ly_ere.specs.Expression.{Expression, empty}
 use Rattle.std.proofs.lemmas.Slice.Zip.{seconds-zip}
 use Rattle.std.proofs.lemmas.List.{length-map}
-use Rattle.std.specs.Prelude.{◌||◌, None, true, false, if◌then◌else◌, cond, map, position, zip}
-use Rattle.std.specs.List.{list_any, position_from}
-use Rattle.std.proofs.lemmas.Iterator.Adapters.{position_from-zero}
-use Rattle.std.specs.Str.{bytes_eq}
-use Rattle.ly_ere.specs.Names.{AreOrdered, Definition, UsesBelow, defined, number_of}
+use Rattle.std.specs.Prelude.{map, zip}
+use Rattle.ly_ere.specs.Names.{AreOrdered, UsesBelow, defined}
 
 -- it uses earlier ones only
 pub ordered_push : (names : List Expression) (e : Expression) → AreOrdered names → UsesBelow (length names) e
