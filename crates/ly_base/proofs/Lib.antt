@@ -2,6 +2,7 @@ pub mod ByteSetLemmas
 pub mod DeviceLemmas
 pub mod EscapeLemmas
 pub mod GapLemmas
+pub mod KeyLemmas
 pub mod LexedLemmas
 pub mod LiteralLemmas
 pub mod MemberLemmas

@@ -15,7 +15,8 @@ use Rattle.std.proofs.lemmas.List.{take-append-le}
 use Rattle.std.proofs.lemmas.List.Elements.{All-contains, Contains-append_left, Contains-get_or, Contains-push}
 use Rattle.std.proofs.lemmas.List.Elements.{Contains-push_cases}
 use Rattle.std.proofs.lemmas.Option.{get_or_from_slice_get, slice_get-get_or, slice_get_within}
-use Rattle.ly_ere.specs.Definitions.{AreDistinct, AreLightNames, AreNames, ArePlaced, AreRefused, CanFollow}
+use Rattle.ly_ere.specs.Definitions.{AreDistinct, AreLightNames, AreNames, ArePlaced, AreRefused, AreSpelled}
+use Rattle.ly_ere.specs.Definitions.{CanFollow}
 use Rattle.ly_ere.specs.Definitions.{IsHeavyDefinition}
 use Rattle.ly_ere.specs.Definitions.{IsPlacedNext, DefinedText, named_text, named_texts, next}
 use Rattle.ly_ere.specs.declared.definitions.NamedText.{NamedText}
@@ -608,10 +609,11 @@ pub refused_heavy : (most : ℕ) (list : List DefinedText) (order : List ℕ) (n
     (d : DefinedText) (e : Expression) (fault : EreFault) → ArePlacing list order names numbers
     → IsPlacedNext list names n d e
     → (fault ≢ OutOfMemory → fault ≡ TooHeavy) → (fault ≡ TooHeavy → most < weight_of (defined names) e)
-    → AreRefused most list n fault
-refused_heavy most list order names numbers n d e fault p step only heavy = record {
+    → AreSpelled list → AreRefused most list n fault
+refused_heavy most list order names numbers n d e fault p step only heavy spelled = record {
   within = λ _. slice_get_within list n d step.is;
   refused = λ memory light. absurd (light (only memory));
+  spelled = λ _. spelled;
   heavy = λ is. record {
     placed = names;
     are_placed = p.placed;
@@ -622,6 +624,11 @@ refused_heavy most list order names numbers n d e fault p step only heavy = reco
   };
   none_light = λ is others all light. heavy_there most list names others n d e p.placed step (heavy is) all light;
 }
+
+-- texts that are read have elements
+pub read_spelled : (known : List Definition) (list : List DefinedText) (t : Texts) → AreRead known list t
+    → t.refusal ≡ None → AreSpelled list
+read_spelled known list t a whole n d is = let e = a.expressions whole n d is in (e.0, e.1)
 
 -- whatever is placed is an expression under the known names
 placed_known : (list : List DefinedText) → AreDistinct list → {names : List Definition} → ArePlaced list names → (n : ℕ)
@@ -651,6 +658,12 @@ placed_known list distinct (next placed k c e before step) n d is some
         go (inl was) = f (λ missing. none_some (sym missing ∙ was))
         go (inr same) = here same
 
+-- definitions have elements
+pub names_spelled : (list : List DefinedText) → AreDistinct list → (names : List Definition) → AreNames list names
+    → AreSpelled list
+names_spelled list distinct names all n d is = let e = placed_known list distinct all.placed n d is (all.all n d is)
+    in (e.1.0, e.1.1)
+
 module _ (most : ℕ) (list : List DefinedText) (distinct : AreDistinct list) where
   -- a text that is no expression
   pub refused_text : (r : Refusal) → IsTextRefusal (known_names list) list r → AreRefused most list r.place r.fault
@@ -659,6 +672,7 @@ module _ (most : ℕ) (list : List DefinedText) (distinct : AreDistinct list) wh
     refused = λ _ _ names all.
         let read = placed_known list distinct all.placed r.place is.text is.is (all.all r.place is.text is.is) in
         is.none read.0 read.1;
+    spelled = λ e. absurd (is.weight e);
     heavy = λ e. absurd (is.weight e);
     none_light = λ e. absurd (is.weight e);
   }
@@ -672,6 +686,7 @@ module _ (most : ℕ) (list : List DefinedText) (distinct : AreDistinct list) wh
     refused = λ _ _ names all.
         let is = slice_get-get_or list n no_text l in
         placed_in_order list distinct t a order last all.placed n _ is (all.all n _ is) apart;
+    spelled = λ e. absurd (cc);
     heavy = λ e. absurd (cc);
     none_light = λ e. absurd (cc);
   }

@@ -1,7 +1,8 @@
 -- How far the elements at the front of a line go.
 use Rattle.std.proofs.Common.{◌≡◌, ◌≤◌, ◌+◌, ℕ, List, [], ◌∷◌, ◌++◌, length, drop, refl, sym, ap, subst, ◌∙◌, arith}
 use Rattle.std.proofs.Common.{IsTrue}
-use Rattle.std.proofs.Common.{drop-drop, length-drop}
+use Rattle.std.proofs.Common.{drop-drop, length-append, length-drop, take}
+use Rattle.std.proofs.Math.Seq.{take-append_seam}
 use Rattle.std.proofs.lemmas.Bool.Decides.{nat_tests}
 use Rattle.ly_base.specs.Blank.{is_blank}
 use Rattle.ly_ere.specs.Elements.{AreElements, Element, IsElement, bounds, braced_name, bracket, dot, element, end}
@@ -10,6 +11,7 @@ use Rattle.ly_ere.specs.Patterns.{IsBehind}
 use Rattle.ly_ere.specs.Private.Elements.{IsNextElement}
 use Rattle.ly_ere.specs.Private.Front.{BeginsNo}
 use Rattle.ly_ere.proofs.AppendLemmas.{behind_end, element_append, end_follows}
+use Rattle.ly_ere.proofs.ElementLemmas.{front_one}
 
 -- no element begins with a blank
 no_blank : (b : ℕ) (t : List ℕ) (w : Element) (rest : List ℕ) → IsTrue (is_blank b) → IsElement (b ∷ t) w rest → ⊥
@@ -76,6 +78,25 @@ pub none_taken : {left behind : List ℕ} → BeginsNo IsElement left → (IsBeh
 none_taken {left} {behind} nothing goes_on b a =
     let first = first_behind left a.text behind a.elements a.is a.are b goes_on in
     nothing first.0 (first.1 ++ behind) first.3
+
+-- the elements at the front of a line end in one place
+pub extent_one : {t u : List ℕ} {ws vs : List Element} → AreElements t ws → AreElements u vs → (b c : List ℕ)
+    → IsBehind b → IsBehind c → t ++ b ≡ u ++ c → t ≡ u
+extent_one end end b c i k e = refl
+extent_one end (element u r w ws s g) b c i k e = absurd (none_behind b w (r ++ c) i
+    (subst (λ x. IsElement x w (r ++ c)) (sym e) (element_append s c (end_follows r c (behind_end c k)))))
+extent_one (element t r w ws s g) end b c i k e = absurd (none_behind c w (r ++ b) k
+    (subst (λ x. IsElement x w (r ++ b)) e (element_append s b (end_follows r b (behind_end b i)))))
+extent_one (element t r w ws s g) (element u l v vs h j) b c i k e =
+    let here = element_append s b (end_follows r b (behind_end b i)) in
+    let there = element_append h c (end_follows l c (behind_end c k)) in
+    let rest : r ++ b ≡ l ++ c = (front_one here (subst (λ x. IsElement x v (l ++ c)) (sym e) there)).1 in
+    let more : r ≡ l = extent_one g j b c i k rest in
+    let behind : length b ≡ length c
+    = omega (arith, ap length rest, ap length more, length-append r b, length-append l c) in
+    let long : length t ≡ length u = omega (arith, ap length e, behind, length-append t b, length-append u c) in
+    sym (take-append_seam t b)
+    ∙ (ap (take (length t)) e ∙ (ap (λ n. take n (u ++ c)) long ∙ take-append_seam u c))
 
 -- where the reading stops the elements end
 pub stops_there : (line : List ℕ) (at n : ℕ) → at ≤ length line → n ≤ length line → IsBehind (drop at line)

@@ -1,5 +1,6 @@
 -- The definitions of a lex file: their names, and the texts of their expressions, in any order (POSIX, XCU lex).
 use Rattle.std.specs.Prelude.{◌≡◌, ◌≢◌, ℕ, ◌<◌, ◌≤◌, List, [], ◌∷◌, ◌++◌, map, length, slice_get, None, Some}
+use Rattle.ly_ere.specs.Elements.{AreElements, Element}
 use Rattle.ly_ere.specs.Expression.{Expression}
 use Rattle.ly_ere.specs.Names.{Definition, defined, number_of}
 use Rattle.ly_ere.specs.Patterns.{IsExpression}
@@ -17,6 +18,10 @@ pub record DefinedText : Type 0 where
 abbrev pub AreDistinct : List DefinedText → Type 0
 AreDistinct list = (n m : ℕ) (c d : DefinedText) → slice_get list n ≡ Some c → slice_get list m ≡ Some d
     → c.name ≡ d.name → n ≡ m
+
+-- each text has elements
+abbrev pub AreSpelled : List DefinedText → Type 0
+AreSpelled list = (n : ℕ) (d : DefinedText) → slice_get list n ≡ Some d → (ws : List Element) × AreElements d.text ws
 
 -- A text can be placed behind definitions: its name isn't among them, and under them it is this expression.
 pub record CanFollow (placed : List Definition) (d : DefinedText) (e : Expression) : Type 0 where
@@ -56,10 +61,12 @@ pub record IsHeavyDefinition (most : ℕ) (list : List DefinedText) (n : ℕ) : 
   pub is_next : IsPlacedNext list placed n text expression
   pub is_heavy : most < weight_of (defined placed) expression
 
--- Why texts are refused, and the place of the one at fault: they are no definitions, or are too heavy.
+-- Why texts are refused, and the place of the one at fault: they are no definitions, or each has elements and they are
+-- too heavy.
 pub record AreRefused (most : ℕ) (list : List DefinedText) (place : ℕ) (fault : EreFault) : Type 0 where
   pub within : fault ≢ OutOfMemory → place < length list
   pub refused : fault ≢ OutOfMemory → fault ≢ TooHeavy → (names : List Definition) → AreNames list names → ⊥
+  pub spelled : fault ≡ TooHeavy → AreSpelled list
   pub heavy : fault ≡ TooHeavy → IsHeavyDefinition most list place
   pub none_light : fault ≡ TooHeavy → (names : List Definition) → AreNames list names → AreLightNames most names → ⊥
 

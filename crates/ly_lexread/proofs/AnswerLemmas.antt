@@ -1,5 +1,8 @@
 -- What a reader answers.
-use Rattle.std.proofs.Common.{◌≡◌, ◌≢◌, ℕ, List, [], ◌∷◌, Ok, Err, refl, sym, subst}
+use Rattle.std.proofs.Common.{◌≡◌, ◌≢◌, ◌⊎◌, ℕ, List, [], ◌∷◌, Ok, Err, Option, Some, None, refl, sym, subst, ◌∙◌}
+use Rattle.std.proofs.Common.{inl, inr}
+use Rattle.std.specs.Option.{MatchOption}
+use Rattle.ly_ere.specs.Definitions.{AreLightNames, AreNames, AreRefused, DefinedText}
 use Rattle.ly_ere.specs.Names.{Definition}
 use Rattle.ly_ere.specs.Patterns.{HasFrontSides, IsFrontPattern, IsRefused}
 use Rattle.ly_ere.specs.declared.fault.EreFault.{EreFault}
@@ -8,12 +11,15 @@ use Rattle.ly_ere.specs.declared.pattern.Rule.{Rule}
 use Rattle.ly_lexread.specs.Action.{Saying}
 use Rattle.ly_lexread.specs.Conditions.{Condition}
 use Rattle.ly_lexread.specs.declared.fault.LexFault.{LexFault}
-use Rattle.ly_lexread.specs.declared.fault.LexFault.TheVariants.{Pattern, OutOfMemory}
+use Rattle.ly_lexread.specs.declared.fault.LexFault.TheVariants.{BadDefinition, Pattern, OutOfMemory}
 use Rattle.ly_lexread.specs.Faults.{IsOfText, IsTooHeavy}
 use Rattle.ly_lexread.specs.LexText.{IsReadAs}
+use Rattle.ly_lexread.specs.Names.{AreDefinitions, AreTextsOf, HasHeavyDefinition}
+use Rattle.ly_lexread.specs.Private.Names.{AreExtents}
 use Rattle.ly_lexread.specs.Rules.{ActiveBefore, AreLight, IsHeavyRule, RuleBefore, RuleLine}
 use Rattle.ly_lexread.proofs.ActiveLemmas.{active_one}
 use Rattle.ly_lexread.proofs.LineLemmas.{line_one}
+use Rattle.ly_lexread.proofs.NameLemmas.{extents_are_texts, texts_are_extents}
 
 module _ {T X : Type 0} (value : T → X) (Is Light : X → Type 0) (Heavy : Type 0) where
   pub answer_ok : (x : T) → Is (value x) → Light (value x) → IsReadAs value Is Light Heavy (Ok x)
@@ -99,3 +105,52 @@ module _ {T : Type 0} (value : T → Rule × Saying × List ℕ) (most : ℕ) (c
     };
     none_light = λ h x v light. refusal.none_light (too_heavy h) x.0.pattern (pattern_of x v) light.0;
   }
+
+-- the texts of definitions are refused
+module _ (most : ℕ) (ds : List (List ℕ × List ℕ)) (list : List DefinedText) (number place : ℕ) (inner : EreFault)
+    (fault : LexFault) (memory : inner ≡ ere.OutOfMemory → fault ≡ OutOfMemory)
+    (other : inner ≢ ere.OutOfMemory → fault ≡ Pattern number inner) (refusal : AreRefused most list place inner) where
+  abbrev Answer : LexFault → Type 0
+  Answer f = IsReadAs {T = List Definition} (λ names. names) (AreDefinitions ds) (AreLightNames most)
+      (HasHeavyDefinition most ds) (Err f)
+
+  is_heavy : IsTooHeavy fault → inner ≡ ere.TooHeavy
+  is_heavy h = let given : inner ≢ ere.OutOfMemory = λ e. subst IsTooHeavy (memory e) h
+      in subst IsTooHeavy (other given) h
+
+  is_of_text : fault ≢ OutOfMemory → IsOfText fault
+  is_of_text ne = let given : inner ≢ ere.OutOfMemory = λ e. ne (memory e) in subst IsOfText (sym (other given)) given
+
+  answer_texts : AreExtents ds list → Answer fault
+  answer_texts extents = record {
+    ok = tt;
+    light = tt;
+    of_text = is_of_text;
+    refused = λ ne light names d.
+        let given : inner ≢ ere.OutOfMemory = λ e. ne (memory e) in
+        refusal.refused given (λ e. light (subst IsTooHeavy (sym (other given)) e)) names (these names d);
+    heavy = λ h. let e = is_heavy h in (list, place, extents_are_texts ds list extents (refusal.spelled e), refusal.heavy e);
+    none_light = λ h names d light. refusal.none_light (is_heavy h) names (these names d) light;
+  }
+    where
+      these : (names : List Definition) → AreDefinitions ds names → AreNames list names
+      these names d = subst (λ ts. AreNames ts names) (texts_are_extents ds list d.0 extents d.1) d.2
+
+  answer_flawed : (result : LexFault) → ((texts : List DefinedText) → AreTextsOf ds texts → ⊥)
+      → (result ≢ OutOfMemory → (result ≡ fault) ⊎ ((line : ℕ) × (result ≡ BadDefinition line)))
+      → (IsTooHeavy result → ⊥) → Answer result
+  answer_flawed result none one light = answer_fault _ _ _ _ result
+      (λ ne. by ne (one ne)) light (λ _ names d. none d.0 d.1)
+    where
+      by : result ≢ OutOfMemory → (result ≡ fault) ⊎ ((line : ℕ) × (result ≡ BadDefinition line)) → IsOfText result
+      by ne (inl same) = subst IsOfText (sym same) (is_of_text (λ e. ne (same ∙ e)))
+      by ne (inr bad) = subst IsOfText (sym bad.1) tt
+
+  pub answer_names : (flaw : Option ℕ) (result : LexFault)
+      → MatchOption flaw (AreExtents ds list) (λ _. (texts : List DefinedText) → AreTextsOf ds texts → ⊥)
+      → (flaw ≡ None → result ≡ fault)
+      → (flaw ≢ None → result ≢ OutOfMemory → (result ≡ fault) ⊎ ((line : ℕ) × (result ≡ BadDefinition line)))
+      → (flaw ≢ None → IsTooHeavy result → ⊥) → Answer result
+  answer_names None result cut whole flawed light = subst Answer (sym (whole refl)) (answer_texts cut)
+  answer_names (Some x) result cut whole flawed light
+      = answer_flawed result cut (flawed (λ e. absurd (cc))) (light (λ e. absurd (cc)))

@@ -7,6 +7,7 @@ use Rattle.ly_lexread.specs.declared.kind.LineKind.{LineKind}
 use Rattle.ly_lexread.specs.declared.kind.LineKind.TheVariants.{Mark, Unused, Block, Comment, Directive, Plain}
 use Rattle.ly_lexread.proofs.DirectiveLemmas.{directive_one}
 use Rattle.ly_lexread.proofs.LineLemmas.{block_one, line_before_one, line_one}
+use Rattle.ly_lexread.proofs.NameLemmas.{definition_one}
 
 pub comment_ends_one : (text r s : List ℕ) → CommentEnds text r → CommentEnds text s → r ≡ s
 comment_ends_one text r s a b =
@@ -29,7 +30,10 @@ line_says_one Directive p q r text line behind u v a b = (
   preamble_of_parts q r (directive_one p.conditions q.conditions r.conditions line a.2 b.2) (a.1 ∙ sym b.1),
   a.0 ∙ sym b.0,
 )
-line_says_one Plain p q r text line behind u v a b = absurd a
+line_says_one Plain p q r text line behind u v a b = (
+  preamble_of_parts q r (a.1 ∙ sym b.1) (definition_one p.definitions line q.definitions r.definitions a.2 b.2),
+  a.0 ∙ sym b.0,
+)
 
 pub says_with : (p q : Preamble) (text line behind rest : List ℕ) (k : LineKind) → LineBefore text line behind
     → kind_of line ≡ k → LineSays k p text line behind q rest → Says p text q rest

@@ -29,9 +29,11 @@ use Rattle.ly_lexread.specs.declared.directive.Directed.TheVariants.{Inclusive, 
 use Rattle.ly_lexread.specs.declared.kind.LineKind.{LineKind}
 use Rattle.ly_lexread.specs.declared.kind.LineKind.TheVariants.{Mark, Unused, Block, Comment, Directive, Plain}
 use Rattle.ly_lexread.specs.LexText.{AreSameActions, AreSameRules, LexText, LexTextIsOne}
+use Rattle.ly_lexread.specs.Names.{AreDefinitions}
 use Rattle.ly_lexread.specs.Rules.{ActiveBefore, ConditionBefore, Listed, RuleBefore, Rules, end, rule, skip}
 use Rattle.ly_lexread.specs.Rules as listing
 use Rattle.ly_lexread.proofs.DefinitionLemmas.{definitions_one}
+use Rattle.ly_lexread.proofs.NameLemmas.{definitions_are_one}
 use Rattle.ly_lexread.proofs.RuleLemmas.{in_front, over_none, rule_one, rules_begin, rules_skip}
 use Rattle.ly_lexread.proofs.SharedLemmas.{effects_one}
 
@@ -74,15 +76,38 @@ rules_one cs names text rs ss xs ys (rule _ u r s ps qs b c) d =
     cons : {x y : Saying} {zs ws : List Saying} → x ≡ y → zs ≡ ws → x ∷ zs ≡ y ∷ ws
     cons e f = cc
 
+-- rules that are read behind the same definitions, under the same names
+pub rules_under : (p q : Preamble) (text rest : List ℕ) (names others : List Definition) (rules : List Rule)
+    (sayings : List Saying) → p ≡ q → text ≡ rest → names ≡ others → Rules p.conditions names text rules sayings
+    → Rules q.conditions others rest rules sayings
+rules_under p q text rest names others rules sayings same behind are r =
+    subst (λ i. Rules q.conditions i rest rules sayings) are
+    (subst (λ i. Rules q.conditions names i rules sayings) behind
+    (subst (λ i. Rules i.conditions names text rules sayings) same r))
+
+-- what definitions that are read say of the names of a text
+module _ (bytes : List ℕ) (all : Preamble) (behind : List ℕ) (definitions : Definitions at_first bytes all behind)
+    (file : LexFile) (text : LexText bytes file) where
+  same : (text.all ≡ all) × (text.behind ≡ behind)
+  same = definitions_one at_first text.all all bytes text.behind behind text.definitions definitions
+
+  pub text_names : AreDefinitions all.definitions file.names
+  text_names = subst (λ i. AreDefinitions i.definitions file.names) same.0 text.names
+
+  pub text_rules : (names : List Definition) → AreDefinitions all.definitions names → (file.names ≡ names)
+      × Rules all.conditions names behind file.rules.items text.sayings
+  text_rules names are =
+      let one = definitions_are_one all.definitions file.names names text_names are in
+      (one, rules_under text.all all text.behind behind file.names names file.rules.items text.sayings same.0 same.1 one text.rules)
+
 pub lex_text_one : LexTextIsOne
 lex_text_one bytes f g a b =
     let first = definitions_one at_first a.all b.all bytes a.behind b.behind a.definitions b.definitions in
-    let there : Rules b.all.conditions [] b.behind f.rules.items a.sayings
-    = subst (λ i. Rules b.all.conditions [] i f.rules.items a.sayings) first.1
-    (subst (λ i. Rules i.conditions [] a.behind f.rules.items a.sayings) first.0 a.rules) in
-    let rules = rules_one b.all.conditions [] b.behind f.rules.items g.rules.items a.sayings b.sayings there b.rules in
+    let there = text_rules bytes b.all b.behind b.definitions f a g.names b.names in
+    let rules = rules_one b.all.conditions g.names b.behind f.rules.items g.rules.items a.sayings b.sayings there.1
+    b.rules in
     record {
-      names = a.no_names ∙ sym b.no_names;
+      names = there.0;
       rules = rules.0;
       actions = same_actions f.actions.items g.actions.items (effects_one b.sayings (map effect_of f.actions.items)
           (map effect_of g.actions.items)
@@ -188,15 +213,14 @@ some_condition p q text rest some (more _ s _ _ u _ h d)
     said Block g = omega (arith, some, ap (λ i. length i.conditions) g.0)
     said Comment g = omega (arith, some, ap (λ i. length i.conditions) g.0)
     said Directive g = directed (directive_of g.2.word) p.conditions s.conditions g.2.rest some g.2.directs
-    said Plain g = absurd g
+    said Plain g = omega (arith, some, ap length g.1)
 
 pub rules_of : (bytes : List ℕ) (file : LexFile) → LexText bytes file → (i : ℕ) (r : Rule)
     → slice_get file.rules.items i ≡ Some r → IsOfFile file.names file.conditions r
 rules_of bytes file text i r e =
     let some = some_condition at_first text.all bytes text.behind (omega arith) text.definitions in
-    subst (λ names. IsOfFile names file.conditions r) (sym text.no_names)
-    (subst (λ n. IsOfFile [] n r) (sym text.conditions)
-    (rule_of text.all.conditions [] text.behind file.rules.items text.sayings i r some text.rules e))
+    subst (λ n. IsOfFile file.names n r) (sym text.conditions)
+    (rule_of text.all.conditions file.names text.behind file.rules.items text.sayings i r some text.rules e)
 
 -- each cut tells the truth
 pub rules_cut : (bytes : List ℕ) (file : LexFile) → LexText bytes file → AreCut (defined file.names) file.rules.items

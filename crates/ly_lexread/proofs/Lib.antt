@@ -8,6 +8,7 @@ pub mod FileLemmas
 pub mod FrontLemmas
 pub mod LexingLaws
 pub mod LineLemmas
+pub mod NameLemmas
 pub mod RuleLemmas
 pub mod SameLemmas
 pub mod SharedLemmas

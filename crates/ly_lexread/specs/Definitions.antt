@@ -1,6 +1,6 @@
 -- The definitions of a lex file (POSIX, XCU lex, "Definitions in lex").
 use Rattle.std.specs.Prelude.{◌≡◌, ◌≢◌, ℕ, List, [], ◌∷◌, ◌++◌, Bool, true, false, ◌||◌, codes, None, nat_eq, drop}
-use Rattle.std.specs.Prelude.{if◌then◌else◌}
+use Rattle.std.specs.Prelude.{if◌then◌else◌, Contains, map}
 use Rattle.std.specs.List.{list_any}
 use Rattle.std.specs.Str.{bytes_eq}
 use Rattle.ly_base.specs.Blank.{is_blank}
@@ -76,12 +76,28 @@ pub record DirectiveLine (cs : List Condition) (line : List ℕ) (all : List Con
   pub named : NameBefore Lex behind word rest
   pub directs : Directs (directive_of word) cs rest all
 
+-- The line has a name at its beginning, then blanks, and then this, to its end.
+abbrev pub DefinesName : List ℕ → List ℕ → List ℕ → Type 0
+DefinesName line name text = (behind : List ℕ) × NameBefore Lex line name behind × BlanksBefore behind text × (text ≢ [])
+
+-- the names that are defined
+abbrev pub defined_names : List (List ℕ × List ℕ) → List (List ℕ)
+defined_names ds = map (λ d. d.0) ds
+
+-- A line that defines a further name, and the definitions with it.
+pub record DefinitionLine (ds : List (List ℕ × List ℕ)) (line : List ℕ) (all : List (List ℕ × List ℕ)) : Type 0 where
+  pub name : List ℕ
+  pub text : List ℕ
+  pub defines : DefinesName line name text
+  pub is_new : Contains (defined_names ds) name → ⊥
+  pub one_more : all ≡ ds ++ (name, text) ∷ []
+
 -- a comment goes to its first `*/`, and the rest of that line isn't used
 abbrev pub CommentEnds : List ℕ → List ℕ → Type 0
 CommentEnds text rest = (inside behind line end : List ℕ) × (text ≡ codes "/*" ++ inside)
     × EndBefore (codes "*/") inside behind × LineOf behind line end × (rest ≡ drop 1 end)
 
--- What the definitions say: the conditions, and the definitions of names.
+-- What the definitions say: the conditions, and the names that are defined, each with what stands behind its blanks.
 pub record Preamble : Type 0 where
   pub conditions : List Condition
   pub definitions : List (List ℕ × List ℕ)
@@ -98,7 +114,8 @@ LineSays Block p text line behind q rest = (q ≡ p) × BlockEnds behind rest
 LineSays Comment p text line behind q rest = (q ≡ p) × CommentEnds text rest
 LineSays Directive p text line behind q rest = (rest ≡ behind) × (q.definitions ≡ p.definitions)
     × DirectiveLine p.conditions line q.conditions
-LineSays Plain p text line behind q rest = ⊥
+LineSays Plain p text line behind q rest = (rest ≡ behind) × (q.conditions ≡ p.conditions)
+    × DefinitionLine p.definitions line q.definitions
 
 -- a line, with those that go with it
 abbrev pub Says : Preamble → List ℕ → Preamble → List ℕ → Type 0

@@ -46,7 +46,7 @@ IsOfText OutOfMemory = ⊥
 IsOfText (Pattern line inner) = inner ≢ ere.OutOfMemory
 IsOfText _ = Unit {0}
 
--- a pattern is too heavy
+-- a pattern or a definition is too heavy
 abbrev pub IsTooHeavy : LexFault → Type 0
 IsTooHeavy (Pattern line inner) = inner ≡ ere.TooHeavy
 IsTooHeavy _ = ⊥

@@ -1,5 +1,7 @@
 -- What a lex file says (POSIX, XCU lex).
-use Rattle.std.specs.Prelude.{◌≡◌, ◌≢◌, ℕ, List, [], ◌∷◌, Result, IfErr, IfOk, length, map}
+use Rattle.std.specs.Prelude.{◌≡◌, ◌≢◌, ◌⊎◌, ℕ, List, [], ◌∷◌, Result, IfErr, IfOk, length, map}
+use Rattle.ly_ere.specs.Definitions.{AreLightNames}
+use Rattle.ly_ere.specs.Names.{Definition}
 use Rattle.ly_ere.specs.declared.pattern.Rule.{Rule}
 use Rattle.ly_lexread.specs.declared.action.Action.{Action}
 use Rattle.ly_lexread.specs.declared.file.LexFile.{LexFile}
@@ -8,6 +10,7 @@ use Rattle.ly_lexread.specs.declared.fault.LexFault.TheVariants.{OutOfMemory}
 use Rattle.ly_lexread.specs.Action.{AreEffects, Saying, effect_of, meaning_of}
 use Rattle.ly_lexread.specs.Definitions.{at_first, Definitions, Preamble}
 use Rattle.ly_lexread.specs.Faults.{IsOfText, IsTooHeavy}
+use Rattle.ly_lexread.specs.Names.{AreDefinitions, HasHeavyDefinition}
 use Rattle.ly_lexread.specs.Rules.{AreLight, HasHeavyRule, Rules}
 
 -- The bytes of a lex file say this.
@@ -15,24 +18,29 @@ pub record LexText (bytes : List ℕ) (file : LexFile) : Type 0 where
   pub all : Preamble
   pub behind : List ℕ
   pub definitions : Definitions at_first bytes all behind
-  pub no_names : file.names ≡ []
+  pub names : AreDefinitions all.definitions file.names
   pub sayings : List Saying
-  pub rules : Rules all.conditions [] behind file.rules.items sayings
+  pub rules : Rules all.conditions file.names behind file.rules.items sayings
   pub effects : AreEffects sayings (map effect_of file.actions.items)
   pub conditions : file.conditions ≡ length all.conditions
 
--- of a file whose definitions have their form, the head and the tail of a rule weigh more than this
-abbrev pub IsHeavyText : ℕ → List ℕ → Type 0
-IsHeavyText most bytes = (all : Preamble) × ((behind : List ℕ) × Definitions at_first bytes all behind
-    × HasHeavyRule most all.conditions [] behind)
+-- a definition weighs more than this, or, under the definitions, the head and the tail of a rule do
+abbrev pub IsHeavyBehind : ℕ → Preamble → List ℕ → Type 0
+IsHeavyBehind most all behind = HasHeavyDefinition most all.definitions
+    ⊎ ((names : List Definition) × AreDefinitions all.definitions names × HasHeavyRule most all.conditions names behind)
 
--- each pattern of the file weighs at most this
+-- the same of a file whose definitions have their form
+abbrev pub IsHeavyText : ℕ → List ℕ → Type 0
+IsHeavyText most bytes
+    = (all : Preamble) × (behind : List ℕ) × Definitions at_first bytes all behind × IsHeavyBehind most all behind
+
+-- each definition and each pattern of the file weighs at most this
 abbrev pub IsLight : ℕ → LexFile → Type 0
-IsLight most file = AreLight most file.names file.rules.items
+IsLight most file = AreLightNames most file.names × AreLight most file.names file.rules.items
 
 -- What a reader answers, where value is what it found, whatever room that has: Is says which values the text has, Light
--- which of them are light enough, and Heavy that a pattern of the text isn't. A text that is refused for anything but a
--- heavy pattern has no value, whatever it weighs.
+-- which of them are light enough, and Heavy that a part of the text isn't. A text that is refused for anything but a
+-- heavy part has no value, whatever it weighs.
 pub record IsReadAs {T X : Type 0} (value : T → X) (Is Light : X → Type 0) (Heavy : Type 0)
     (result : Result T LexFault) : Type 0 where
   pub ok : IfOk result (λ found. Is (value found))

@@ -6,6 +6,7 @@ pub mod Laws
 pub mod LexText
 pub mod Lexing
 pub mod Lines
+pub mod Names
 pub mod Private
 pub mod Rules
 pub mod Statements

@@ -1,32 +1,83 @@
-ghost use Rattle.std.specs.Prelude.{◌<◌, length, IfOk};
-ghost use Rattle.ly_lexread.specs.Definitions.{at_first, Definitions, Says};
-ghost use Rattle.ly_lexread.specs.Private.Definitions.{IsFound, preamble_of};
+ghost use Rattle.std.specs.Prelude.{◌≡◌, ◌≢◌, ◌<◌, length, IfOk, IfSome};
+ghost use Rattle.ly_lexread.specs.Definitions.{at_first, DefinitionLine, Definitions, DirectiveLine, Says};
+ghost use Rattle.ly_lexread.specs.Faults.{IsOfText, IsTooHeavy};
+ghost use Rattle.ly_lexread.specs.Private.Definitions.{IsDirected, IsFound, preamble_of};
+ghost use Rattle.ly_lexread.specs.declared.fault.LexFault.TheVariants.{OutOfMemory};
 
 use crate::conditions::Conditions;
+use crate::defined::{NameLine, NameLines, definition_on};
 use crate::directive::read_directive;
 use crate::fault::LexFault;
 use crate::kind::{LineKind, kind_of};
+use crate::names::read_definition_texts;
 use crate::rest::Rest;
 use crate::skipped::{behind_block, behind_comment};
-use std::alloc::Global;
+use ly_base::Limits;
+use std::alloc::{AllocError, Global};
 
 /// What the definitions say.
 #[derive(Drop)]
-pub(crate) struct Preamble {
+pub(crate) struct Preamble<'t> {
     /// The start conditions.
     pub(crate) conditions: Conditions,
+    /// The lines that define names.
+    pub(crate) definitions: NameLines<'t>,
+}
+
+impl<'t> Preamble<'t> {
+    /// What is said before the first line.
+    fn new(alloc: Global) -> Result<Self, AllocError>
+        ensures { IfOk result (λ preamble. preamble_of preamble ≡ at_first) }
+    {
+        Ok(Preamble {
+            conditions: Conditions::new(alloc)?,
+            definitions: NameLines::new(alloc),
+        })
+    }
+
+    /// What is said behind a line that begins with `%`.
+    fn directed(self, alloc: Global, line: &[u8], number: u64) -> Result<Self, LexFault>
+        ensures { IsDirected (λ preamble. ((preamble_of preamble).definitions ≡ self.entry.definitions)
+            × DirectiveLine self.entry.conditions line.now (preamble_of preamble).conditions) result }
+    {
+        let conditions = read_directive(alloc, line, number, self.conditions)?;
+        Ok(Preamble {
+            conditions,
+            definitions: self.definitions,
+        })
+    }
+
+    /// What is said behind a line that defines a name.
+    fn with_name(self, alloc: Global, line: &'t [u8], number: u64) -> Result<Self, LexFault>
+        ensures { IsDirected (λ preamble. ((preamble_of preamble).conditions ≡ self.entry.conditions)
+            × DefinitionLine self.entry.definitions line.now (preamble_of preamble).definitions) result }
+    {
+        let fault = LexFault::BadDefinition { line: number };
+        let Some(defined) = definition_on(line) else {
+            return Err(fault);
+        };
+        if self.definitions.defines(defined.name) {
+            return Err(fault);
+        }
+        let definitions = self
+            .definitions
+            .with_line(alloc, NameLine { defined, number })?;
+        Ok(Preamble {
+            conditions: self.conditions,
+            definitions,
+        })
+    }
 }
 
 /// Reads the definitions, and the mark that ends them, and answers what is left behind it.
-pub(crate) fn read_definitions(
+pub(crate) fn read_definitions<'t>(
     alloc: Global,
-    text: Rest<'_>,
-) -> Result<(Preamble, Rest<'_>), LexFault>
+    text: Rest<'t>,
+) -> Result<(Preamble<'t>, Rest<'t>), LexFault>
     ensures { IsFound (Definitions at_first text.entry.bytes.now) (λ read. preamble_of read.0)
         (λ read. read.1.bytes.now) result }
 {
-    let conditions = Conditions::new(alloc)?;
-    let mut preamble = Preamble { conditions };
+    let mut preamble = Preamble::new(alloc)?;
     let mut left = text;
     while let Some((line, behind)) = left.first_line() {
         if kind_of(line).is_mark() {
@@ -43,9 +94,9 @@ pub(crate) fn read_definitions(
 fn read_definition_line<'t>(
     alloc: Global,
     text: Rest<'t>,
-    preamble: Preamble,
-) -> Result<(Preamble, Rest<'t>), LexFault>
-    ensures these { IsFound (Says (preamble_of preamble) text.entry.bytes.now) (λ read. preamble_of read.0)
+    preamble: Preamble<'t>,
+) -> Result<(Preamble<'t>, Rest<'t>), LexFault>
+    ensures these { IsFound (Says (preamble_of preamble.entry) text.entry.bytes.now) (λ read. preamble_of read.0)
         (λ read. read.1.bytes.now) result }
     ensures shorter { IfOk result (λ read. length read.1.bytes.now < length text.entry.bytes.now) }
 {
@@ -63,12 +114,74 @@ fn read_definition_line<'t>(
             Some(rest) => Ok((preamble, rest)),
             None => Err(fault),
         },
-        LineKind::Directive => {
-            let Preamble { conditions } = preamble;
-            let conditions = read_directive(alloc, line, text.line, conditions)?;
-            Ok((Preamble { conditions }, behind))
-        }
-        LineKind::Plain => Err(fault),
+        LineKind::Directive => Ok((preamble.directed(alloc, line, text.line)?, behind)),
+        LineKind::Plain => Ok((preamble.with_name(alloc, line, text.line)?, behind)),
         LineKind::Mark => Err(fault),
+    }
+}
+
+/// The fault that is answered where a line of the definitions, or the lack of a mark, has this one: the text of a
+/// definition on an earlier line may be at fault too, and it may use names that are defined behind that line.
+pub(crate) fn first_fault(
+    alloc: Global,
+    text: Rest<'_>,
+    fault: LexFault,
+    limits: &Limits,
+) -> LexFault
+    ensures of_text { (fault ≢ OutOfMemory → IsOfText fault) → result ≢ OutOfMemory → IsOfText result }
+    ensures memory { fault ≡ OutOfMemory → result ≡ OutOfMemory }
+    ensures light { (IsTooHeavy fault → ⊥) → IsTooHeavy result → ⊥ }
+{
+    match named_lines(alloc, text) {
+        Ok(definitions) => match read_definition_texts(alloc, &definitions, limits) {
+            Ok(_) => fault,
+            Err(earlier) => earlier.or_earlier(fault),
+        },
+        Err(_) => LexFault::OutOfMemory,
+    }
+}
+
+/// The lines up to the mark that define names, of each name the first; what has no form of a definition is left out.
+fn named_lines<'t>(alloc: Global, text: Rest<'t>) -> Result<NameLines<'t>, AllocError> {
+    let mut definitions = NameLines::new(alloc);
+    let mut left = text;
+    while let Some((line, behind)) = left.first_line() {
+        let kind = kind_of(line);
+        let Some(rest) = behind_definition(kind, left, behind) else {
+            break;
+        };
+        if let LineKind::Plain = kind {
+            definitions = with_first(alloc, definitions, line, left.line)?;
+        }
+        left = rest;
+    }
+    Ok(definitions)
+}
+
+/// What is left behind a line of the definitions and those that go with it; `None` where it is a mark, or isn't closed.
+fn behind_definition<'t>(kind: LineKind, text: Rest<'t>, behind: Rest<'t>) -> Option<Rest<'t>>
+    requires { length behind.bytes.now < length text.bytes.now }
+    ensures { IfSome result (λ rest. length rest.bytes.now < length text.entry.bytes.now) }
+{
+    match kind {
+        LineKind::Mark => None,
+        LineKind::Block => behind_block(behind),
+        LineKind::Comment => behind_comment(text),
+        LineKind::Unused | LineKind::Directive | LineKind::Plain => Some(behind),
+    }
+}
+
+/// These and this line, where it is the first that defines its name.
+fn with_first<'t>(
+    alloc: Global,
+    definitions: NameLines<'t>,
+    line: &'t [u8],
+    number: u64,
+) -> Result<NameLines<'t>, AllocError> {
+    match definition_on(line) {
+        Some(defined) if !definitions.defines(defined.name) => {
+            definitions.with_line(alloc, NameLine { defined, number })
+        }
+        _ => Ok(definitions),
     }
 }

@@ -1,5 +1,6 @@
-ghost use Rattle.std.specs.Prelude.{◌≡◌};
-ghost use Rattle.ly_lexread.specs.Faults.{lex_line, lex_name, lex_number};
+ghost use Rattle.std.specs.Prelude.{◌≡◌, ◌≢◌, ◌⊎◌, MatchBool};
+ghost use Rattle.ly_ere.specs.declared.fault.EreFault.TheVariants as ere;
+ghost use Rattle.ly_lexread.specs.Faults.{IsTooHeavy, lex_line, lex_name, lex_number};
 ghost use Rattle.ly_lexread.specs.declared.fault.LexFault.TheVariants.{OutOfMemory};
 
 use ly_ere::EreFault;
@@ -106,6 +107,49 @@ impl LexFault {
             | LexFault::Pattern { line, .. } => Some(*line),
             LexFault::OutOfMemory => None,
         }
+    }
+}
+
+impl LexFault {
+    /// Whether a pattern or a definition is too heavy.
+    fn is_too_heavy(&self) -> bool
+        ensures { MatchBool result (IsTooHeavy self.now) (IsTooHeavy self.now → ⊥) }
+    {
+        matches!(
+            self,
+            LexFault::Pattern {
+                inner: EreFault::TooHeavy,
+                ..
+            }
+        )
+    }
+
+    /// Of two faults the one of the least line, and of one line this one; but where something else is wrong, nothing is
+    /// said of what is too heavy.
+    pub(crate) fn or_earlier(self, other: LexFault) -> LexFault
+        ensures one { result ≢ OutOfMemory → (result ≡ self) ⊎ (result ≡ other) }
+        ensures memory { (self ≡ OutOfMemory) ⊎ (other ≡ OutOfMemory) → result ≡ OutOfMemory }
+        ensures light { IsTooHeavy result → IsTooHeavy self × IsTooHeavy other }
+    {
+        let (Some(line), Some(other_line)) = (self.line(), other.line()) else {
+            return LexFault::OutOfMemory;
+        };
+        if other.is_too_heavy() || !self.is_too_heavy() && line <= other_line {
+            self
+        } else {
+            other
+        }
+    }
+}
+
+/// The fault of a file whose pattern on this line is refused.
+pub(crate) fn pattern_fault(line: u64, inner: EreFault) -> LexFault
+    ensures memory { inner ≡ ere.OutOfMemory → result ≡ OutOfMemory }
+    ensures other { inner ≢ ere.OutOfMemory → result ≡ LexFault.Pattern line inner }
+{
+    match inner {
+        EreFault::OutOfMemory => LexFault::OutOfMemory,
+        inner => LexFault::Pattern { line, inner },
     }
 }
 

@@ -1,10 +1,8 @@
 //! From the bytes of a lex file to its rules, and from its rules to the lexemes of a text.
 //!
 //! `read_lex` reads a file. Its answer is the one thing that the bytes say (`lex_text_is_one`), and it refuses only a
-//! text that says nothing or has a pattern that is too heavy. What the lexemes of a text are under the rules is defined
-//! here too, and determined (`lexing_goes_on, lexing_is_one`).
-//!
-//! Left out so far: definitions of names.
+//! text that says nothing or has a definition or a pattern that is too heavy. What the lexemes of a text are under the
+//! rules is defined here too, and determined (`lexing_goes_on, lexing_is_one`).
 #![tactic(auto)]
 
 mod action;
@@ -12,12 +10,14 @@ mod action_fault;
 mod active;
 mod blanks;
 mod conditions;
+mod defined;
 mod definitions;
 mod directive;
 mod fault;
 mod file;
 mod kind;
 mod laws;
+mod names;
 mod read;
 mod rest;
 mod rules;

@@ -1,6 +1,5 @@
-ghost use Rattle.std.specs.Prelude.{◌≡◌, ◌≢◌, ◌∷◌, [], ◌≤◌, ◌<◌, ◌⊎◌, ℕ, List, length, map, IfErr, IfOk, IfSome};
+ghost use Rattle.std.specs.Prelude.{◌∷◌, [], ◌≤◌, ◌<◌, ◌⊎◌, ℕ, List, length, map, IfErr, IfOk, IfSome};
 ghost use Rattle.std.specs.Prelude.{MatchBool, MatchOption};
-ghost use Rattle.ly_ere.specs.declared.fault.EreFault.TheVariants as ere;
 ghost use Rattle.ly_ere.specs.declared.pattern.Rule.{Rule};
 ghost use Rattle.ly_ere.specs.Names.{Definition};
 ghost use Rattle.ly_lexread.specs.Action.{Saying};
@@ -10,17 +9,16 @@ ghost use Rattle.ly_lexread.specs.LexText.{IsReadAs};
 ghost use Rattle.ly_lexread.specs.Private.Rules.{AreSkipped, BeginsWithRule};
 ghost use Rattle.ly_lexread.specs.Private.Statements.{saying_of};
 ghost use Rattle.ly_lexread.specs.Rules.{AreLight, AreRulesOver, HasHeavyRule, IsHeavyRule, RuleBefore, Rules, Skips};
-ghost use Rattle.ly_lexread.specs.declared.fault.LexFault.TheVariants.{OutOfMemory};
 
 use crate::action::{Said, read_action};
 use crate::active::read_active;
 use crate::conditions::Conditions;
-use crate::fault::LexFault;
+use crate::fault::{LexFault, pattern_fault};
 use crate::kind::{LineKind, kind_of};
 use crate::rest::Rest;
 use crate::skipped::behind_block;
 use ly_base::Limits;
-use ly_ere::{EreFault, Names, Rule, read_front};
+use ly_ere::{Names, Rule, read_front};
 use std::alloc::Global;
 
 /// What the rules say.
@@ -139,15 +137,4 @@ fn read_rule<'t>(
     let (_front, bytes) = text.bytes.split_at(line.len() - on_line);
     let (said, behind) = read_action(alloc, Rest { bytes, ..text }, on_line, conditions)?;
     Ok((Rule { pattern, active }, said, behind))
-}
-
-/// The fault of a file whose pattern on this line is refused.
-fn pattern_fault(line: u64, inner: EreFault) -> LexFault
-    ensures memory { inner ≡ ere.OutOfMemory → result ≡ OutOfMemory }
-    ensures other { inner ≢ ere.OutOfMemory → result ≡ LexFault.Pattern line inner }
-{
-    match inner {
-        EreFault::OutOfMemory => LexFault::OutOfMemory,
-        inner => LexFault::Pattern { line, inner },
-    }
 }

@@ -1,5 +1,5 @@
 -- The definitions, as they are read.
-use Rattle.std.specs.Prelude.{◌≢◌, ℕ, List, [], Result, Ok, Err}
+use Rattle.std.specs.Prelude.{◌≢◌, ℕ, List, Result, Ok, Err}
 use Rattle.ly_lexread.specs.Definitions.{Preamble}
 use Rattle.ly_lexread.specs.Faults.{IsOfText, IsTooHeavy}
 use Rattle.ly_lexread.specs.declared.definitions.Preamble.{Preamble as ReadPreamble}
@@ -19,4 +19,4 @@ IsFound {T} {X} Is value rest (Err fault) = (IsTooHeavy fault → ⊥)
 
 -- what was read of the definitions
 abbrev pub preamble_of : ReadPreamble → Preamble
-preamble_of p = record { conditions = p.conditions; definitions = [] }
+preamble_of p = record { conditions = p.conditions; definitions = p.definitions }

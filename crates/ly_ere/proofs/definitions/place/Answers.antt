@@ -9,7 +9,7 @@ use Rattle.ly_ere.specs.Names.{defined}
 use Rattle.ly_ere.specs.Weight.{weight_of}
 use Rattle.ly_ere.specs.declared.definitions.Texts.{Texts}
 use Rattle.ly_ere.proofs.DefinitionLemmas.{light_more, place_there, placed_all, placed_next, placed_step}
-use Rattle.ly_ere.proofs.DefinitionLemmas.{placing_none, refused_heavy}
+use Rattle.ly_ere.proofs.DefinitionLemmas.{placing_none, read_spelled, refused_heavy}
 use Rattle.ly_ere.proofs.SoundLemmas.{expression_sound}
 use Rattle.ly_ere.proofs.definitions.place.Goals as goal
 
@@ -96,6 +96,7 @@ returns-in-Err-clause-refused c =
     c.loop-number.invariant.placing step c.in-Err.ensures.only
     (λ e. subst (λ x. c.args.limits.now.pattern_weight < weight_of (defined c.loop-number.names) x) is
     (c.in-Err.ensures.heavy e))
+    (read_spelled _ (named_texts c.args.list.now) c.args.texts.now c.requires.read c.requires.whole)
 
 pub index_mut-requires : goal.index_mut-requires
 index_mut-requires c =

@@ -12,10 +12,10 @@ returns-then-is_mark c =
     c.loop-line.invariant.sound p behind (mark p c.loop-line.left.bytes.now c.in-Some.line.now behind
     c.in-Some.ensures.these (sym c.kind_of.ensures ∙ c.if-is_mark.ensures))
 
-pub returns-in_err-preamble : goal.returns-in_err-preamble
-returns-in_err-preamble c =
-    let p = err_from_is_err_and c.from_residual-in_err-preamble.result c.from_residual-in_err-preamble.ensures.1 in
-    let e = c.in_err-preamble.ensures.these in
+pub returns-in_err-preamble-2 : goal.returns-in_err-preamble-2
+returns-in_err-preamble-2 c =
+    let p = err_from_is_err_and c.from_residual-in_err-preamble-2.result c.from_residual-in_err-preamble-2.ensures.1 in
+    let e = c.in_err-preamble-2.ensures.these in
     rw (p.1, p.2) (
       e.0,
       λ ne. let k = e.1 ne in (
@@ -29,12 +29,12 @@ returns-in_err-preamble c =
 pub loop-line-preserved : goal.loop-line-preserved
 loop-line-preserved c =
     let p = preamble_of c.loop-line.preamble in
-    let q = preamble_of c.in_ok-preamble.field-0-0 in
+    let q = preamble_of c.in_ok-preamble-2.field-0-0 in
     let left = c.loop-line.left.bytes.now in
-    let u = c.in_ok-preamble.field-0-1.bytes.now in
+    let u = c.in_ok-preamble-2.field-0-1.bytes.now in
     record {
       sound = λ all rest d. c.loop-line.invariant.sound all rest
-          (more p q all left u rest c.in_ok-preamble.ensures.these d);
-      complete = λ all rest d. definitions_behind p q all left u rest c.in_ok-preamble.ensures.these
+          (more p q all left u rest c.in_ok-preamble-2.ensures.these d);
+      complete = λ all rest d. definitions_behind p q all left u rest c.in_ok-preamble-2.ensures.these
           (c.loop-line.invariant.complete all rest d);
     }

@@ -1,6 +1,6 @@
 use Rattle.std.proofs.Common.{ap, ◌∙◌}
 use Rattle.ly_ere.specs.Names.{number_of}
-use Rattle.ly_ere.proofs.NameLemmas.{number_zip}
+use Rattle.ly_base.proofs.KeyLemmas.{number_zip}
 use Rattle.ly_ere.proofs.names.Names.find.Goals as goal
 
 pub returns : goal.returns

@@ -5,7 +5,8 @@ use Rattle.ly_ere.specs.Expression.{Matches}
 use Rattle.ly_ere.specs.Lengths.{AreLengths}
 use Rattle.ly_ere.specs.Names.{UsesBelow, defined, number_of}
 use Rattle.ly_ere.specs.Weight.{weight_of}
-use Rattle.ly_ere.proofs.NameLemmas.{defined_zip, new_key, ordered_push, zip_push}
+use Rattle.ly_base.proofs.KeyLemmas.{new_key, zip_push}
+use Rattle.ly_ere.proofs.NameLemmas.{defined_zip, ordered_push}
 use Rattle.ly_ere.proofs.NamedLengthLemmas.{named_lengths_push}
 use Rattle.ly_ere.proofs.SoundLemmas.{sound_below}
 use Rattle.ly_ere.proofs.WeightLemmas.{weights_push}

@@ -1,5 +1,5 @@
 use Rattle.std.proofs.Common.{ap, arith, length}
-use Rattle.ly_lexread.proofs.ConditionLemmas.{length_zip}
+use Rattle.ly_base.proofs.KeyLemmas.{length_zip}
 use Rattle.ly_lexread.proofs.conditions.Conditions.count.Goals as goal
 
 pub returns : goal.returns

@@ -1,6 +1,6 @@
 use Rattle.std.proofs.Common.{ap, ◌∙◌}
 use Rattle.ly_lexread.specs.Conditions.{condition_of}
-use Rattle.ly_lexread.proofs.ConditionLemmas.{number_zip}
+use Rattle.ly_base.proofs.KeyLemmas.{number_zip}
 use Rattle.ly_lexread.proofs.conditions.Conditions.find.Goals as goal
 
 pub returns-in_err-place : goal.returns-in_err-place

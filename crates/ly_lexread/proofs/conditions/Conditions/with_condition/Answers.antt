@@ -1,7 +1,7 @@
 use Rattle.std.proofs.Common.{◌≡◌, ◌++◌, ◌∷◌, [], ap, arith, length, length-append, ◌∙◌}
 use Rattle.std.specs.Prelude.{map, zip}
 use Rattle.ly_lexread.specs.Conditions.{condition_of}
-use Rattle.ly_lexread.proofs.ConditionLemmas.{new_key, zip_push}
+use Rattle.ly_base.proofs.KeyLemmas.{new_key, zip_push}
 use Rattle.ly_lexread.proofs.conditions.Conditions.with_condition.Goals as goal
 
 -- the names with the new one
