@@ -140,7 +140,7 @@ fn row(
     ensures past { IsErrOf result SubsetFault.TooManyStates →
         IsPast nfa.now found.old.starts least.now found.old.limit }
 {
-    step.from.fill(found.keys.key(state));
+    step.from.fill(&found.keys.members(found.alloc, state)?);
     for byte in least {
         nfa.step(&step.from, *byte, &mut step.into);
         found.enter(&step.into)?;
