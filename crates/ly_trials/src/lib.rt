@@ -25,6 +25,8 @@ mod graphs;
 #[cfg(test)]
 mod memory;
 #[cfg(test)]
+mod second_opinion;
+#[cfg(test)]
 mod sets;
 #[cfg(test)]
 mod specifications;
