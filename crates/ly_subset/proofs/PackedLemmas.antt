@@ -1,11 +1,13 @@
 -- Lists that are packed and unpacked.
 use Rattle.std.proofs.Common.{◌≡◌, ◌≢◌, ◌<◌, ◌≤◌, ◌+◌, ◌*◌, ◌/◌, ◌%◌, ◌^◌, ◌∙◌, ◌==◌, ℕ, zero, suc, List, [], ◌∷◌, ◌++◌}
-use Rattle.std.proofs.Common.{bit_and, length-drop, Some, drop, get_or, false, refl, sym, ap, subst, arith, inl, inr, length, Contains, nat_eq}
+use Rattle.std.proofs.Common.{bit_and, length-drop, Some, drop, get_or, false, refl, sym, ap, subst, arith, inl, inr}
+use Rattle.std.proofs.Common.{length, Contains, nat_eq}
 use Rattle.std.proofs.Math.Seq.{drop-cons}
 use Rattle.std.specs.Prelude.{slice_get, AllPairs, if◌then◌else◌}
 use Rattle.std.specs.Int.{bit_at, w32}
 use Rattle.std.proofs.lemmas.Bool.{cases_eq, cases_lt, eq-eqb}
-use Rattle.std.proofs.lemmas.List.{append-nil, append_assoc, drop_all, get_or-append-add, get_or_append_left, get_or_past}
+use Rattle.std.proofs.lemmas.List.{append-nil, append_assoc, drop_all, get_or-append-add, get_or_append_left}
+use Rattle.std.proofs.lemmas.List.{get_or_past}
 use Rattle.std.proofs.lemmas.List.Elements.{All-contains, All-from_get_or, Contains-append_left, Contains-append_right}
 use Rattle.std.proofs.lemmas.Nat.Bits.{bit_at-lt, bit_at-zero, bit_at_set_same, bit_at_set_other, shr_and_one}
 use Rattle.ly_base.proofs.MemberLemmas.{Contains-first}
@@ -106,7 +108,8 @@ unpack-pack [] rises = refl
 unpack-pack (x ∷ xs) rises = unpack_from (x / 32) 0 (x ∷ xs) rises (λ e i l less. bit_at-zero i)
     ∙ ap (λ ms. ms ++ x ∷ xs) (none_in (x / 32) 32)
 
-contains_member : (block bits i j : ℕ) → i < j → bit_at bits i ≡ 1 → Contains (members_below block bits j) (32 * block + i)
+contains_member : (block bits i j : ℕ) → i < j → bit_at bits i ≡ 1
+    → Contains (members_below block bits j) (32 * block + i)
 contains_member block bits i zero l e = absurd (omega (arith, l))
 contains_member block bits i (suc j) l e = elim (cases_eq i j) [
   | inl same ↦
@@ -114,8 +117,9 @@ contains_member block bits i (suc j) l e = elim (cases_eq i j) [
       subst (λ ms. Contains ms (32 * block + i)) (sym (a_member block bits j set))
       (Contains-append_right (members_below block bits j) ((32 * block + j) ∷ []) (32 * block + i)
       (subst (λ k. Contains ((32 * block + j) ∷ []) (32 * block + k)) (sym same) (Contains-first (32 * block + j) [])))
-  | inr ne ↦ Contains-append_left (members_below block bits j) (if bit_at bits j == 1 then (32 * block + j) ∷ [] else [])
-      (32 * block + i) (contains_member block bits i j (omega (arith, l, ne)) e)
+  | inr ne ↦ Contains-append_left (members_below block bits j)
+      (if bit_at bits j == 1 then (32 * block + j) ∷ [] else []) (32 * block + i)
+      (contains_member block bits i j (omega (arith, l, ne)) e)
 ]
 
 -- a member of a block of words is one
@@ -212,5 +216,6 @@ short_row (b ∷ w ∷ row) l = absurd (omega (arith, l))
 pub unpacked_all : (row : List ℕ) (at : ℕ) (numbers : List ℕ) → (at + 1 < length row → ⊥)
     → numbers ++ unpack (drop at row) ≡ unpack row → numbers ≡ unpack row
 unpacked_all row at numbers end so = sym (append-nil numbers)
-    ∙ ap (λ ns. numbers ++ ns) (sym (short_row (drop at row) (let long = length-drop at row in omega (arith, end, long))))
+    ∙ ap (λ ns. numbers ++ ns)
+    (sym (short_row (drop at row) (let long = length-drop at row in omega (arith, end, long))))
     ∙ so

@@ -1,5 +1,6 @@
 -- Lists that are kept packed.
-use Rattle.std.proofs.Common.{◌≡◌, ◌<◌, ◌∙◌, ℕ, List, [], ◌∷◌, ◌++◌, Option, Some, None, Result, Ok, Err, sym, ap, subst}
+use Rattle.std.proofs.Common.{◌≡◌, ◌<◌, ◌∙◌, ℕ, List, [], ◌∷◌, ◌++◌, Option, Some, None, Result, Ok, Err}
+use Rattle.std.proofs.Common.{sym, ap, subst}
 use Rattle.std.proofs.Common.{arith, length, map, get_or}
 use Rattle.std.specs.Prelude.{MatchOption, OnErr, OnOk}
 use Rattle.std.proofs.lemmas.List.{get_or-map, length-map}

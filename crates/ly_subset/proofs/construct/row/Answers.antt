@@ -12,7 +12,8 @@ use Rattle.ly_subset.proofs.construct.row.Goals as goal
 
 pub fill-requires : goal.fill-requires
 fill-requires c = subst (λ n. All (λ p. p < n) c.deref.result.now) (sym c.requires.room.from.positions)
-    (subst (λ ps. All (λ p. p < length c.args.nfa.now.positions) ps) (sym (c.deref.ensures.value ∙ c.in_ok-members.ensures))
+    (subst (λ ps. All (λ p. p < length c.args.nfa.now.positions) ps)
+    (sym (c.deref.ensures.value ∙ c.in_ok-members.ensures))
     (set_within (length c.args.nfa.now.positions) c.args.found.now.keys c.args.state c.requires.found.kept.are_sets))
 
 pub loop-byte-init : goal.loop-byte-init
@@ -24,7 +25,8 @@ loop-byte-init c = record {
   };
   found = c.requires.found;
   state = c.requires.state;
-  set = subst (λ xs. (q : ℕ) → Contains c.fill.new.self.positions.members q ↔ Contains xs q) (c.deref.ensures.value ∙ c.in_ok-members.ensures)
+  set = subst (λ xs. (q : ℕ) → Contains c.fill.new.self.positions.members q ↔ Contains xs q)
+      (c.deref.ensures.value ∙ c.in_ok-members.ensures)
       (filled c.fill.new.self c.args.step.now.from c.deref.result.now c.fill.ensures);
   at = let next = c.requires.next in omega arith;
   longer = omega arith;

@@ -12,7 +12,8 @@ returns-in-Some-clause-numbered c =
     let is_key : IsKeyOf c.args.set.now.positions.members (unpack c.in_ok-key.key.items)
     = subst (λ ms. IsKeyOf ms (unpack c.in_ok-key.key.items)) c.members-members.ensures.these c.in_ok-key.ensures.key in
     numbered_known c.args.keys.now c.args.set.now.positions.members (unpack c.in_ok-key.key.items) c.in-Some.known
-    (target_of c.to.result) is_key c.in-Some.ensures.0 (c.in-Some.ensures.1 ∙ ap unpack c.deref.ensures.value) c.to.ensures
+    (target_of c.to.result) is_key c.in-Some.ensures.0 (c.in-Some.ensures.1 ∙ ap unpack c.deref.ensures.value)
+    c.to.ensures
 
 pub returns-then-count-limit-clause-full : goal.returns-then-count-limit-clause-full
 returns-then-count-limit-clause-full c =

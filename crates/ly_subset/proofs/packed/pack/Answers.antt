@@ -14,5 +14,5 @@ loop-number-preserved c = c.in_ok-add.ensures (drop (c.loop-number.number-index 
 
 pub returns-clause-packed : goal.returns-clause-packed
 returns-clause-packed c = packed_all c.args.numbers.now c.loop-number.number-index c.loop-number.packing
-    c.push.new.self.items c.push-2.new.self.items (λ l. omega (arith, l, c.loop-number-test.false)) c.in_ok-push.ensures.items
-    c.in_ok-push-2.ensures.items c.loop-number.invariant
+    c.push.new.self.items c.push-2.new.self.items (λ l. omega (arith, l, c.loop-number-test.false))
+    c.in_ok-push.ensures.items c.in_ok-push-2.ensures.items c.loop-number.invariant

@@ -15,7 +15,8 @@ pub loop-bit-preserved : goal.loop-bit-preserved
 loop-bit-preserved c = elim c.if-bits-bit-eq1.branch [
   | then-bits-bit-eq1+in_ok-push w ↦ one_more_member c.args.block c.args.bits c.loop-bit.bit c.args.numbers.now.items
       c.loop-bit.numbers.items c.if-bits-bit-eq1.numbers.items c.loop-bit.invariant
-      (is_set c.args.bits c.loop-bit.bit w.if-bits-bit-eq1.true) (ap (λ v. v.items) w.numbers-is ∙ w.in_ok-push.ensures.items)
+      (is_set c.args.bits c.loop-bit.bit w.if-bits-bit-eq1.true)
+      (ap (λ v. v.items) w.numbers-is ∙ w.in_ok-push.ensures.items)
   | else-bits-bit-eq1 w ↦ no_more_member c.args.block c.args.bits c.loop-bit.bit c.args.numbers.now.items
       c.loop-bit.numbers.items c.if-bits-bit-eq1.numbers.items c.loop-bit.invariant
       (is_off c.args.bits c.loop-bit.bit w.if-bits-bit-eq1.false) (ap (λ v. v.items) w.numbers-is)
