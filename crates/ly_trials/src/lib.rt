@@ -25,8 +25,6 @@ mod graphs;
 #[cfg(test)]
 mod memory;
 #[cfg(test)]
-mod second_opinion;
-#[cfg(test)]
 mod sets;
 #[cfg(test)]
 mod specifications;
