@@ -41,7 +41,7 @@ pub use literals::literal;
 pub use memory::{MemSink, MemSource};
 pub use memory_fault::OutOfMemory;
 pub use names::{leading_digits, leading_name};
-pub use numbers::{RuleNo, Sym};
+pub use numbers::{RuleNo, StateNo, Sym};
 pub use place::Place;
 pub use sparse_set::SparseSet;
 pub use text::{Terminal, push_escaped, push_leaf, push_leaf_line, push_no_rule_line};

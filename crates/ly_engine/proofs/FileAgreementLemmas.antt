@@ -34,7 +34,8 @@ runs_spell bytes file nfa text are i c line w = (there (cases_lt c file.conditio
         ((rules_of bytes file text i s.rule s.is_active.is_rule).active c s.is_active.in_condition)).1 s
 
 -- a head that a tail follows has a byte
-have_bytes : (bytes : List ℕ) (file : LexFile) → LexText bytes file → HaveBytes (defined file.names) file.rules.items
+pub have_bytes : (bytes : List ℕ) (file : LexFile) → LexText bytes file
+    → HaveBytes (defined file.names) file.rules.items
 have_bytes bytes file text i r e = (rules_of bytes file text i r e).some_head
 
 -- the walk over a lex file's positions agrees with its rules

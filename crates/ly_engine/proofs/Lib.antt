@@ -5,3 +5,5 @@ pub mod FileAgreementLemmas
 pub mod PositionAgreementLemmas
 pub mod PositionWalkLemmas
 pub mod PrintingLemmas
+pub mod RowAgreementLemmas
+pub mod StatesFaultLemmas

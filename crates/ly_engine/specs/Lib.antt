@@ -4,4 +4,5 @@ pub mod Answers
 pub mod Laws
 pub mod PositionWalk
 pub mod Printing
+pub mod RowWalk
 pub mod TokensFault

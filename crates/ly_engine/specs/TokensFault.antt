@@ -5,8 +5,10 @@ use Rattle.ly_lexread.specs.declared.fault.LexFault.{LexFault}
 use Rattle.ly_lexread.specs.declared.fault.LexFault.TheVariants as lex
 use Rattle.ly_position.specs.declared.fault.PosFault.{PosFault}
 use Rattle.ly_position.specs.declared.fault.PosFault.TheVariants as position
+use Rattle.ly_subset.specs.declared.fault.SubsetFault.{SubsetFault}
+use Rattle.ly_subset.specs.declared.fault.SubsetFault.TheVariants as subset
 use Rattle.ly_engine.specs.declared.fault.TokensFault.{TokensFault}
-use Rattle.ly_engine.specs.declared.fault.TokensFault.TheVariants.{Lex, Positions, Read, Write, OutOfMemory}
+use Rattle.ly_engine.specs.declared.fault.TokensFault.TheVariants.{Lex, Positions, States, Read, Write, OutOfMemory}
 
 abbrev pub fault_of_lex : LexFault → TokensFault
 fault_of_lex lex.OutOfMemory = OutOfMemory
@@ -22,6 +24,10 @@ abbrev pub fault_of_positions : PosFault → TokensFault
 fault_of_positions position.OutOfMemory = OutOfMemory
 fault_of_positions position.TooManyPositions = Positions position.TooManyPositions
 
+abbrev pub fault_of_states : SubsetFault → TokensFault
+fault_of_states subset.OutOfMemory = OutOfMemory
+fault_of_states subset.TooManyStates = States subset.TooManyStates
+
 abbrev pub fault_of_read : ReadFault → TokensFault
 fault_of_read read.Read = Read
 fault_of_read read.OutOfMemory = OutOfMemory
@@ -31,13 +37,21 @@ abbrev pub IsBeforeWriting : TokensFault → Type 0
 IsBeforeWriting (Write written) = ⊥
 IsBeforeWriting _ = Unit {0}
 
--- Nothing was read: the lex file is refused, or too heavy.
+-- Nothing was read: the lex file is refused, or too heavy, or its scanner has too many states.
 abbrev pub IsBeforeReading : TokensFault → Type 0
 IsBeforeReading (Lex fault) = Unit {0}
 IsBeforeReading (Positions fault) = Unit {0}
+IsBeforeReading (States fault) = Unit {0}
 IsBeforeReading _ = ⊥
 
 -- a write failed
 abbrev pub IsWrite : TokensFault → Type 0
 IsWrite (Write written) = Unit {0}
 IsWrite _ = ⊥
+
+-- a fault of what is made of a file that was read, or want of memory
+abbrev pub IsOfScanner : TokensFault → Type 0
+IsOfScanner (Positions fault) = Unit {0}
+IsOfScanner (States fault) = Unit {0}
+IsOfScanner OutOfMemory = Unit {0}
+IsOfScanner _ = ⊥

@@ -1,10 +1,11 @@
 ghost use Rattle.std.specs.Prelude.{◌≡◌};
-ghost use Rattle.ly_engine.specs.TokensFault.{fault_of_lex, fault_of_positions, fault_of_read};
+ghost use Rattle.ly_engine.specs.TokensFault.{fault_of_lex, fault_of_positions, fault_of_read, fault_of_states};
 ghost use Rattle.ly_engine.specs.declared.fault.TokensFault.TheVariants.{OutOfMemory, Write};
 
-use ly_base::{ReadFault, WriteFault};
+use ly_base::{OutOfMemory as NoMemory, ReadFault, WriteFault};
 use ly_lexread::LexFault;
 use ly_position::PosFault;
+use ly_subset::SubsetFault;
 use std::alloc::AllocError;
 use thiserror::Error;
 
@@ -17,6 +18,9 @@ pub enum TokensFault {
     /// The patterns are too heavy together. Nothing was read or written.
     #[error("{0}")]
     Positions(PosFault),
+    /// The scanner has too many states before it is made smallest. Nothing was read or written.
+    #[error("{0}")]
+    States(SubsetFault),
     /// The reader failed in this call. Nothing was written.
     #[error("the text could not be read")]
     Read,
@@ -39,6 +43,14 @@ impl From<AllocError> for TokensFault {
     }
 }
 
+impl From<NoMemory> for TokensFault {
+    ghost from_gives = { λ _ e. e ≡ OutOfMemory };
+
+    fn from(_error: NoMemory) -> TokensFault {
+        TokensFault::OutOfMemory
+    }
+}
+
 impl From<LexFault> for TokensFault {
     ghost from_gives = { λ fault e. e ≡ fault_of_lex fault };
 
@@ -57,6 +69,17 @@ impl From<PosFault> for TokensFault {
         match fault {
             PosFault::OutOfMemory => TokensFault::OutOfMemory,
             fault => TokensFault::Positions(fault),
+        }
+    }
+}
+
+impl From<SubsetFault> for TokensFault {
+    ghost from_gives = { λ fault e. e ≡ fault_of_states fault };
+
+    fn from(fault: SubsetFault) -> TokensFault {
+        match fault {
+            SubsetFault::OutOfMemory => TokensFault::OutOfMemory,
+            fault => TokensFault::States(fault),
         }
     }
 }

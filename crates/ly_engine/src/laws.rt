@@ -1,6 +1,16 @@
-ghost use Rattle.ly_engine.specs.Laws.{AnswerIsOne};
+ghost use Rattle.ly_engine.specs.Laws.{AnswerIsOne, PositionWalkAgrees, RowWalkAgrees};
 
 /// The bytes of a lex file and those of a text have one answer, whose end is one too.
 pub fn answer_is_one()
     ensures { AnswerIsOne }
+{}
+
+/// The walk over the sets of positions of a lex file agrees with its rules.
+pub fn position_walk_agrees()
+    ensures { PositionWalkAgrees }
+{}
+
+/// The walk over the rows of an automaton that has the rules of a lex file's subsets agrees with them too.
+pub fn row_walk_agrees()
+    ensures { RowWalkAgrees }
 {}

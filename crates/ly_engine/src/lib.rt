@@ -1,16 +1,22 @@
 //! From the bytes of a lex file and a text to the printed tokens: `tokens`. What it writes is the answer to the text
-//! under the file that the lex bytes spell (`Answers`), and there is one such answer (`answer_is_one`). The parser's
-//! side is to come.
+//! under the file that the lex bytes spell (`Answers`), and there is one such answer (`answer_is_one`). It walks the
+//! rows of the smallest automaton of the patterns (`RowWalk`); `PositionWalk`, over the sets of their positions, is a
+//! second opinion, and both agree with the rules (`row_walk_agrees`, `position_walk_agrees`). The parser's side is to
+//! come.
 #![tactic(auto)]
 
 mod fault;
 mod laws;
 mod outcome;
 mod position_walk;
+mod row_walk;
+mod scanner;
 mod token_lines;
 mod write_tokens;
 
 pub use fault::TokensFault;
-pub use laws::answer_is_one;
+pub use laws::{answer_is_one, position_walk_agrees, row_walk_agrees};
 pub use outcome::TokenEnd;
+pub use position_walk::PositionWalk;
+pub use row_walk::RowWalk;
 pub use write_tokens::tokens;

@@ -12,7 +12,7 @@ use std::mem;
 
 /// The walk over the sets of positions that a string leads to (Thompson 1968). Its room is made with it.
 #[derive(Drop)]
-pub(crate) struct PositionWalk<'a> {
+pub struct PositionWalk<'a> {
     /// The positions.
     nfa: &'a PosNfa,
     /// The rules that they spell.
@@ -27,7 +27,7 @@ pub(crate) struct PositionWalk<'a> {
 
 impl<'a> PositionWalk<'a> {
     /// A walk over the positions of these rules, or that its room is refused.
-    pub(crate) fn new(alloc: Global, nfa: &'a PosNfa, rules: &'a [Rule]) -> Result<Self, AllocError>
+    pub fn new(alloc: Global, nfa: &'a PosNfa, rules: &'a [Rule]) -> Result<Self, AllocError>
         ensures nfa { IfOk result (λ w. w.nfa.now ≡ nfa.now) }
         ensures rules { IfOk result (λ w. w.rules.now ≡ rules.now) }
     {

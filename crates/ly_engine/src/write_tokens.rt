@@ -11,19 +11,22 @@ ghost use Rattle.ly_lexread.specs.declared.file.LexFile.{LexFile};
 ghost use Rattle.ly_position.specs.TotalWeight.{total_weight};
 ghost use Rattle.ly_position.specs.declared.fault.PosFault.{PosFault};
 ghost use Rattle.ly_position.specs.declared.fault.PosFault.TheVariants.{TooManyPositions};
+ghost use Rattle.ly_subset.specs.RuleSets.{HaveMoreSets};
+ghost use Rattle.ly_subset.specs.declared.fault.SubsetFault.{SubsetFault};
+ghost use Rattle.ly_subset.specs.declared.fault.SubsetFault.TheVariants.{TooManyStates};
 ghost use Rattle.ly_engine.specs.Agreement.{Agrees};
 ghost use Rattle.ly_engine.specs.Answering.{IsAnswer};
-ghost use Rattle.ly_engine.specs.Answers.{Answers, AreTooHeavy};
+ghost use Rattle.ly_engine.specs.Answers.{Answers, AreTooHeavy, HaveTooManyStates};
 ghost use Rattle.ly_engine.specs.Printing.{end_of, LeavesTokens};
 ghost use Rattle.ly_engine.specs.TokensFault.{IsBeforeReading, IsBeforeWriting, IsWrite};
 
 use crate::fault::TokensFault;
 use crate::outcome::TokenEnd;
-use crate::position_walk::PositionWalk;
+use crate::row_walk::RowWalk;
+use crate::scanner::smallest_automaton;
 use crate::token_lines::token_lines;
 use ly_base::{End, Limits, Sink, Source, read_whole, write_whole};
 use ly_lexread::{LexFile, read_lex};
-use ly_position::positions;
 use ly_scan::{Lexer, Steps};
 use std::alloc::{AllocError, Global};
 
@@ -51,6 +54,8 @@ pub fn tokens<R: Source, W: Sink>(
     ensures of_text { (fault : LexFault) → result ≡ Err (TokensFault.Lex fault) → IsOfText fault }
     ensures heavy { (fault : PosFault) → result ≡ Err (TokensFault.Positions fault)
         → (fault ≡ TooManyPositions) × AreTooHeavy version_1 lex.now }
+    ensures many { (fault : SubsetFault) → result ≡ Err (TokensFault.States fault)
+        → (fault ≡ TooManyStates) × HaveTooManyStates version_1 lex.now }
     ensures ended { OnOk result (IsAtEnd (R.remaining reader.new)) }
     ensures read { IsErrOf result TokensFault.Read → R.failures reader.new ≡ next_count (R.failures reader.old) }
     ensures reader_held { (IsErrOf result TokensFault.Read → ⊥) → R.failures reader.new ≡ R.failures reader.old }
@@ -79,22 +84,20 @@ fn answer_to_text<R: Source>(
     ensures within { OnOk result (total_weight (defined file.now.names) file.now.rules.items ≤ version_1.total_weight) }
     ensures heavy { (fault : PosFault) → result ≡ Err (TokensFault.Positions fault) → (fault ≡ TooManyPositions)
         × (version_1.total_weight < total_weight (defined file.now.names) file.now.rules.items) }
+    ensures few { OnOk result (HaveMoreSets (defined file.now.names) file.now.rules.items file.now.conditions
+        version_1.scanner_states → ⊥) }
+    ensures many { (fault : SubsetFault) → result ≡ Err (TokensFault.States fault) → (fault ≡ TooManyStates)
+        × (total_weight (defined file.now.names) file.now.rules.items ≤ version_1.total_weight)
+        × HaveMoreSets (defined file.now.names) file.now.rules.items file.now.conditions version_1.scanner_states }
     ensures ended { OnOk result (IsAtEnd (R.remaining reader.new)) }
     ensures unread { IfErr result (λ e. IsBeforeReading e → reader.new ≡ reader.old) }
     ensures read { IsErrOf result TokensFault.Read → R.failures reader.new ≡ next_count (R.failures reader.old) }
     ensures held { (IsErrOf result TokensFault.Read → ⊥) → R.failures reader.new ≡ R.failures reader.old }
     ensures before { IfErr result IsBeforeWriting }
 {
-    let nfa = positions(
-        alloc,
-        &file.rules,
-        &file.names,
-        file.conditions,
-        &Limits::V1,
-    )?;
+    let dfa = smallest_automaton(alloc, file)?;
     let text = read_whole(alloc, reader)?;
-    let walk = PositionWalk::new(alloc, &nfa, &file.rules)?;
-    Ok(answer_by(alloc, file, walk, &text)?)
+    Ok(answer_by(alloc, file, RowWalk::new(&dfa, &file.rules), &text)?)
 }
 
 /// The answer to a text under a lex file, by any scanner that agrees with its rules.

@@ -64,10 +64,10 @@ module _ {K : Type 0} (f : K → List ℕ) (key : List ℕ) where
   pushed ks k e h = rw (e, none_from_absent ks h) (map_push f ks k ∙ ap (λ x. map f ks ++ x ∷ []) e)
 
 -- the rest of a list in rising order, and that its first number is below them
-rising_rest : (x : ℕ) (xs : List ℕ) → AllPairs (λ a b. a < b) (x ∷ xs) → AllPairs (λ a b. a < b) xs
+pub rising_rest : (x : ℕ) (xs : List ℕ) → AllPairs (λ a b. a < b) (x ∷ xs) → AllPairs (λ a b. a < b) xs
 rising_rest x xs h i j d l m = h (suc i) (suc j) d (omega (arith, l)) (omega (arith, m))
 
-rising_first : (x : ℕ) (xs : List ℕ) (y : ℕ) → AllPairs (λ a b. a < b) (x ∷ xs) → Contains xs y → x < y
+pub rising_first : (x : ℕ) (xs : List ℕ) (y : ℕ) → AllPairs (λ a b. a < b) (x ∷ xs) → Contains xs y → x < y
 rising_first x xs y h c = subst (λ z. x < z) c.2 (h 0 (suc c.0) y (omega arith) (omega (arith, c.1)))
 
 -- lists in rising order with the same members are one

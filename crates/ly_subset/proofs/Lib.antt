@@ -5,6 +5,8 @@ pub mod KeyLemmas
 pub mod LawLemmas
 pub mod NumberingLemmas
 pub mod OrderLemmas
+pub mod PackedLemmas
 pub mod RuleLemmas
 pub mod RuleSetLemmas
+pub mod SetLemmas
 pub mod SubsetLemmas

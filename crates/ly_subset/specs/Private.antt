@@ -2,4 +2,5 @@
 pub mod Classes
 pub mod Found
 pub mod Keys
+pub mod Packed
 pub mod Rules

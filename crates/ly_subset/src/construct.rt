@@ -1,6 +1,6 @@
 ghost use Rattle.std.specs.Prelude.{◌≡◌, ◌<◌, ◌≤◌, ◌+◌, ◌*◌, ℕ, List, length, IfOk, IsErrOf, OnOk};
 ghost use Rattle.ly_position.specs.Nfa.{IsRoomFor};
-ghost use Rattle.ly_subset.specs.Automaton.{start_place};
+ghost use Rattle.ly_subset.specs.Automaton.{IsAutomaton, start_place};
 ghost use Rattle.ly_subset.specs.Private.Found.{IsFound, IsPast, HaveRoom};
 ghost use Rattle.ly_subset.specs.Subsets.{AreSubsets, HasMoreSets};
 
@@ -23,6 +23,7 @@ pub fn subsets(
     limits: &Limits,
 ) -> Result<Dfa, SubsetFault>
     ensures subsets { IfOk result (AreSubsets nfa.now conditions) }
+    ensures whole { IfOk result IsAutomaton }
     ensures few { IfOk result (λ d. length d.rules ≤ limits.now.scanner_states) }
     ensures many { IsErrOf result SubsetFault.TooManyStates
         → HasMoreSets nfa.now conditions limits.now.scanner_states }
@@ -139,7 +140,7 @@ fn row(
     ensures past { IsErrOf result SubsetFault.TooManyStates →
         IsPast nfa.now found.old.starts least.now found.old.limit }
 {
-    step.from.fill(found.keys.key(state));
+    step.from.fill(&found.keys.members(found.alloc, state)?);
     for byte in least {
         nfa.step(&step.from, *byte, &mut step.into);
         found.enter(&step.into)?;

@@ -5,7 +5,8 @@ ghost use Rattle.ly_subset.specs.Private.Found.{AreKept, IsEntered, IsFull, IsNu
 
 use crate::entry::Entry;
 use crate::fault::SubsetFault;
-use crate::keys::{Keys, key_of};
+use crate::keys::key_of;
+use crate::sets::Sets;
 use ly_position::PositionSet;
 use std::alloc::{AllocError, Global};
 
@@ -14,8 +15,8 @@ use std::alloc::{AllocError, Global};
 pub(crate) struct Found {
     /// Where room comes from.
     pub(crate) alloc: Global,
-    /// The sets' keys, by the numbers of their states.
-    pub(crate) keys: Keys,
+    /// The sets, by the numbers of their states.
+    pub(crate) keys: Sets,
     /// The entries so far: starts, and then rows.
     pub(crate) entries: Vec<Entry>,
     /// How many of the entries are starts.
@@ -34,7 +35,7 @@ impl Found {
     {
         Found {
             alloc,
-            keys: Keys::new(alloc),
+            keys: Sets::new(alloc),
             entries: Vec::new(alloc),
             starts,
             limit,
@@ -60,7 +61,7 @@ impl Found {
 /// The entry that leads to a set, which is added where it is a new one.
 fn number(
     alloc: Global,
-    keys: &mut Keys,
+    keys: &mut Sets,
     limit: u32,
     set: &PositionSet,
 ) -> Result<Entry, SubsetFault>

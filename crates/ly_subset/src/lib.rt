@@ -18,7 +18,9 @@ mod fault;
 mod found;
 mod keys;
 mod laws;
+mod packed;
 mod rules;
+mod sets;
 
 pub use construct::subsets;
 pub use dfa::Dfa;

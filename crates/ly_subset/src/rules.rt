@@ -4,7 +4,7 @@ ghost use Rattle.ly_subset.specs.Private.Found.{HaveRules, numbers_of};
 ghost use Rattle.ly_subset.specs.Private.Rules.{lesser_rule};
 ghost use Rattle.ly_subset.specs.Subsets.{AreSets, HasEnd, IsLeastRule};
 
-use crate::keys::Keys;
+use crate::sets::Sets;
 use ly_base::RuleNo;
 use ly_position::{PosNfa, Position};
 use std::alloc::{AllocError, Global};
@@ -13,14 +13,14 @@ use std::alloc::{AllocError, Global};
 pub(crate) fn rules_of(
     alloc: Global,
     nfa: &PosNfa,
-    keys: &Keys,
+    keys: &Sets,
 ) -> Result<Vec<Option<RuleNo>>, AllocError>
     requires { AreSets (length nfa.now.positions) keys.now }
     ensures { IfOk result (λ r. HaveRules nfa.now keys.now (numbers_of r.items)) }
 {
     let mut rules = Vec::with_capacity(alloc, keys.len())?;
     for number in 0..keys.len() {
-        rules.push(least_end(nfa, keys.key(number)))?;
+        rules.push(least_end(nfa, &keys.members(alloc, number)?))?;
     }
     Ok(rules)
 }

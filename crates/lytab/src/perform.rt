@@ -143,7 +143,10 @@ fn told<E: Write>(failure: Failure<'_>, faults: &mut E) -> u8
     let _ = faults.write_all(b"lytab: ");
     let _ = write_failure(failure, faults);
     match failure {
-        Failure::Tokens(TokensFault::Lex(_) | TokensFault::Positions(_), _) => FILE_REFUSED,
+        Failure::Tokens(
+            TokensFault::Lex(_) | TokensFault::Positions(_) | TokensFault::States(_),
+            _,
+        ) => FILE_REFUSED,
         _ => DEVICE_OR_MEMORY,
     }
 }
@@ -158,6 +161,9 @@ fn write_failure<E: Write>(failure: Failure<'_>, faults: &mut E) -> io::Result<(
             write_fault(fault.number(), fault.name(), faults)
         }
         Failure::Tokens(TokensFault::Positions(fault), _) => {
+            write_fault(fault.number(), fault.name(), faults)
+        }
+        Failure::Tokens(TokensFault::States(fault), _) => {
             write_fault(fault.number(), fault.name(), faults)
         }
         Failure::CannotRead(path) | Failure::Tokens(TokensFault::Read, path) => {

@@ -7,7 +7,7 @@ use Rattle.ly_engine.specs.declared.outcome.TokenEnd.{TokenEnd}
 use Rattle.ly_lexread.specs.declared.fault.LexFault.{LexFault}
 use Rattle.ly_lexread.specs.declared.fault.LexFault.TheVariants as lex
 use Rattle.ly_engine.specs.declared.fault.TokensFault.{TokensFault}
-use Rattle.ly_engine.specs.declared.fault.TokensFault.TheVariants.{Lex, Positions, Write, OutOfMemory}
+use Rattle.ly_engine.specs.declared.fault.TokensFault.TheVariants.{Lex, Positions, States, Write, OutOfMemory}
 use Rattle.ly_engine.specs.Printing.{end_of}
 use Rattle.ly_engine.specs.TokensFault.{fault_of_lex}
 use Rattle.ly_engine.proofs.write_tokens.tokens.Goals as goal
@@ -52,6 +52,14 @@ returns-in_err-end-clause-heavy g c = λ fault is.
     let heavy = c.in_err-end.ensures.heavy fault (ap Err (sym gave)) in
     (heavy.0, (c.in_ok-file.file, c.in_ok-file.ensures.ok, c.in_ok-file.ensures.light, heavy.1))
 
+pub returns-in_err-end-clause-many : goal.returns-in_err-end-clause-many
+returns-in_err-end-clause-many g c = λ fault is.
+    let p = err_from_is_err_and c.from_residual-in_err-end.result c.from_residual-in_err-end.ensures.1 in
+    let gave : States fault ≡ c.in_err-end.field-0.0
+    = same_fault c.from_residual-in_err-end.result (States fault) p.0 is p.1 ∙ p.2 in
+    let many = c.in_err-end.ensures.many fault (ap Err (sym gave)) in
+    (many.0, (c.in_ok-file.file, c.in_ok-file.ensures.ok, c.in_ok-file.ensures.light, many.1, many.2))
+
 pub returns-in_err-write_whole-clause-beginning : goal.returns-in_err-write_whole-clause-beginning
 returns-in_err-write_whole-clause-beginning g c = λ written is.
     let p = err_from_is_err_and c.from_residual-in_err-write_whole.result c.from_residual-in_err-write_whole.ensures.1
@@ -77,6 +85,7 @@ returns-in_err-write_whole-clause-beginning g c = λ written is.
           spelled = c.in_ok-file.ensures.ok;
           light = c.in_ok-file.ensures.light;
           within = c.in_ok-end.ensures.within;
+          few = c.in_ok-end.ensures.few;
           text = made.0;
           is_text = made.1;
           is_answer = made.2;
@@ -96,6 +105,7 @@ returns-clause-answered g c =
         spelled = c.in_ok-file.ensures.ok;
         light = c.in_ok-file.ensures.light;
         within = c.in_ok-end.ensures.within;
+        few = c.in_ok-end.ensures.few;
         text = made.0;
         is_text = made.1;
         is_answer = made.2;

@@ -5,7 +5,8 @@ use Rattle.ly_minim.proofs.BlockLemmas.{named_new}
 use Rattle.ly_minim.proofs.blocks.number.Goals as goal
 
 pub returns : goal.returns
-returns c = subst (λ ks. IsNamed c.args.keys.now c.args.key.items ks c.len-number.result) (sym c.in_ok-push.ensures)
+returns c = subst (λ ks. IsNamed c.args.keys.now c.args.key.items ks c.len-number.result)
+    (sym c.in_ok-push.ensures.added)
     (subst (λ n. IsNamed c.args.keys.now c.args.key.items (c.args.keys.now ++ c.args.key.items ∷ []) n)
     (sym c.len-number.ensures)
     (named_new c.args.keys.now c.args.key.items

@@ -11,21 +11,23 @@ use Rattle.ly_subset.proofs.RuleLemmas.{set_within}
 use Rattle.ly_subset.proofs.construct.row.Goals as goal
 
 pub fill-requires : goal.fill-requires
-fill-requires c = subst (λ n. All (λ p. p < n) c.key.result.now) (sym c.requires.room.from.positions)
-    (subst (λ ps. All (λ p. p < length c.args.nfa.now.positions) ps) (sym c.key.ensures)
+fill-requires c = subst (λ n. All (λ p. p < n) c.deref.result.now) (sym c.requires.room.from.positions)
+    (subst (λ ps. All (λ p. p < length c.args.nfa.now.positions) ps)
+    (sym (c.deref.ensures.value ∙ c.in_ok-members.ensures))
     (set_within (length c.args.nfa.now.positions) c.args.found.now.keys c.args.state c.requires.found.kept.are_sets))
 
 pub loop-byte-init : goal.loop-byte-init
 loop-byte-init c = record {
   room = record {
-    from = filled_room c.args.nfa.now c.fill.new.self c.args.step.now.from c.key.result.now c.fill.ensures
+    from = filled_room c.args.nfa.now c.fill.new.self c.args.step.now.from c.deref.result.now c.fill.ensures
         c.requires.room.from;
     into = c.requires.room.into;
   };
   found = c.requires.found;
   state = c.requires.state;
-  set = subst (λ xs. (q : ℕ) → Contains c.fill.new.self.positions.members q ↔ Contains xs q) c.key.ensures
-      (filled c.fill.new.self c.args.step.now.from c.key.result.now c.fill.ensures);
+  set = subst (λ xs. (q : ℕ) → Contains c.fill.new.self.positions.members q ↔ Contains xs q)
+      (c.deref.ensures.value ∙ c.in_ok-members.ensures)
+      (filled c.fill.new.self c.args.step.now.from c.deref.result.now c.fill.ensures);
   at = let next = c.requires.next in omega arith;
   longer = omega arith;
   starts = refl;
@@ -34,7 +36,7 @@ loop-byte-init c = record {
 
 pub returns-in_err-enter-clause-past : goal.returns-in_err-enter-clause-past
 returns-in_err-enter-clause-past c = λ failed.
-    let p = err_from_is_err_and c.from_residual.result c.from_residual.ensures.1 in
+    let p = err_from_is_err_and c.from_residual-in_err-enter.result c.from_residual-in_err-enter.ensures.1 in
     let was = c.loop-byte.invariant in
     let nfa = c.args.nfa.now in
     let from = c.loop-byte.step.from.positions.members in

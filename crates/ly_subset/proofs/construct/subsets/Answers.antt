@@ -55,6 +55,27 @@ invariant_of-result c =
     c.in_ok-rows.ensures.found (length-map found.entries.items target_of ∙ c.in_ok-rows.ensures.all)
     c.in_ok-rules_of.ensures
 
+pub returns-clause-whole : goal.returns-clause-whole
+returns-clause-whole c =
+    let found = c.rows.new.found in
+    let class_of = c.in_ok-classes.classes.class_of in
+    let least = c.in_ok-classes.classes.least in
+    let A = automaton_of (record {
+      class_of = class_of;
+      classes = c.len.result;
+      rules = c.in_ok-rules_of.field-0;
+      starts = found.starts;
+      entries = found.entries;
+    }) in
+    let count : length least.items ≡ c.len.result = sym least.ok.0 ∙ sym c.len.ensures in
+    is_automaton c.args.nfa.now c.args.conditions found.limit A c.deref.result.now found.keys
+    (subst (λ n. AreClasses c.args.nfa.now class_of.items n) count c.in_ok-classes.ensures.classes)
+    (subst (λ l. AreLeast class_of.items l) (sym c.deref.ensures.value) c.in_ok-classes.ensures.least)
+    (ap length c.deref.ensures.value ∙ count)
+    (c.in_ok-rows.ensures.starts ∙ c.in_ok-starts.ensures.starts ∙ c.new-found.ensures.starts)
+    c.in_ok-rows.ensures.found (length-map found.entries.items target_of ∙ c.in_ok-rows.ensures.all)
+    c.in_ok-rules_of.ensures
+
 pub returns-clause-subsets : goal.returns-clause-subsets
 returns-clause-subsets c =
     let found = c.rows.new.found in

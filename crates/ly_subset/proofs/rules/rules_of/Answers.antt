@@ -6,7 +6,8 @@ use Rattle.ly_subset.proofs.RuleLemmas.{HaveRulesTo, have_rules_more, set_within
 use Rattle.ly_subset.proofs.rules.rules_of.Goals as goal
 
 pub least_end-requires : goal.least_end-requires
-least_end-requires c = subst (λ ps. All (λ p. p < length c.args.nfa.now.positions) ps) (sym c.key.ensures)
+least_end-requires c = subst (λ ps. All (λ p. p < length c.args.nfa.now.positions) ps)
+    (sym (c.deref.ensures.value ∙ c.in_ok-members.ensures))
     (set_within (length c.args.nfa.now.positions) c.args.keys.now c.loop-number.number c.requires)
 
 pub loop-number-preserved : goal.loop-number-preserved
@@ -14,7 +15,8 @@ loop-number-preserved c = subst (λ rs. HaveRulesTo c.args.nfa.now c.args.keys.n
     (sym c.in_ok-push.ensures.items)
     (have_rules_more c.args.nfa.now c.args.keys.now c.loop-number.number c.loop-number.rules.items c.least_end.result
     c.loop-number.invariant
-    (subst (λ ps. IsLeastRule (HasEnd c.args.nfa.now ps) (option_map (λ r. r.0) c.least_end.result)) c.key.ensures
+    (subst (λ ps. IsLeastRule (HasEnd c.args.nfa.now ps) (option_map (λ r. r.0) c.least_end.result))
+    (c.deref.ensures.value ∙ c.in_ok-members.ensures)
     c.least_end.ensures))
 
 pub returns : goal.returns

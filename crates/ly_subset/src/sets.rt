@@ -1,0 +1,72 @@
+ghost use Rattle.std.specs.Prelude.{◌≡◌, ◌<◌, ◌++◌, [], ◌∷◌, length, slice_index_or, IfOk, MatchOption, OnOk};
+ghost use Rattle.ly_subset.specs.Keys.{IsAbsent};
+ghost use Rattle.ly_subset.specs.Private.Packed.{IsPacked, unpack};
+
+use crate::keys::Keys;
+use crate::packed::unpack;
+use std::alloc::{AllocError, Global};
+use std::marker::Model;
+
+/// Rising lists of numbers, numbered in the order in which they came and looked up by a hash. Each is kept as a packed
+/// row, so that many large ones take little room.
+#[derive(Drop)]
+pub(crate) struct Sets {
+    /// The packed rows.
+    rows: Keys,
+}
+
+impl Model for Sets {
+    ghost use Rattle.std.specs.Prelude.{ℕ, List, map};
+
+    ghost Value = { List (List ℕ) };
+
+    ghost use Rattle.ly_subset.specs.Private.Packed.{unpack, ArePacked};
+
+    ghost view = { λ s. map unpack s.rows };
+
+    ghost invariant = { λ s. ArePacked s.rows };
+}
+
+impl Sets {
+    /// No lists.
+    pub(crate) fn new(alloc: Global) -> Self
+        ensures { result ≡ [] }
+    {
+        Sets {
+            rows: Keys::new(alloc),
+        }
+    }
+
+    /// How many lists there are.
+    pub(crate) fn len(&self) -> usize
+        ensures { result ≡ length self.now }
+    {
+        self.rows.len()
+    }
+
+    /// The list of a number.
+    pub(crate) fn members(&self, alloc: Global, number: usize) -> Result<Vec<u32>, AllocError>
+        requires { number < length self.now }
+        ensures { IfOk result (λ m. m.items ≡ slice_index_or self.now number []) }
+    {
+        unpack(alloc, self.rows.key(number))
+    }
+
+    /// The number of a packed list, if it is there.
+    pub(crate) fn find(&self, row: &[u32]) -> Option<usize>
+        requires { IsPacked row.now }
+        ensures { MatchOption result (IsAbsent self.now (unpack row.now))
+            (λ n. (n < length self.now) × (slice_index_or self.now n [] ≡ unpack row.now)) }
+    {
+        self.rows.find(row)
+    }
+
+    /// Adds a packed list that isn't there, with the next number.
+    pub(crate) fn push(&mut self, row: Vec<u32>) -> Result<(), AllocError>
+        requires packed { IsPacked row.items }
+        requires absent { IsAbsent self.old (unpack row.items) }
+        ensures { OnOk result (self.new ≡ self.old ++ unpack row.items ∷ []) }
+    {
+        self.rows.push(row)
+    }
+}
