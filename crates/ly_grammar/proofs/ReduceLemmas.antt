@@ -3,7 +3,8 @@ use Rattle.std.proofs.Common.{◌≡◌, ◌∙◌, ◌⊎◌, ◌↔◌, ◌∷
 use Rattle.std.proofs.Common.{inl, inr, refl, length, slice_index_or}
 use Rattle.std.proofs.lemmas.List.{append-nil}
 use Rattle.ly_base.specs.Trees.{Tree, Trees, leaf, node, none, more, yield_of, Occurs, OccursAmong}
-use Rattle.ly_join.specs.Grammar.{Grammar, Rule, IsAugmented, IsRule, IsGrammar, Symbol, accept_rule, terminal, nonterminal}
+use Rattle.ly_join.specs.Grammar.{Grammar, Rule, IsAugmented, IsRule, IsGrammar, Symbol, accept_rule, terminal}
+use Rattle.ly_join.specs.Grammar.{nonterminal}
 use Rattle.ly_grammar.specs.Derivations.{IsTree, AreTrees, IsNullable, IsReduced, IsUseful}
 use Rattle.ly_sets.specs.NumberSet.{Member}
 use Rattle.ly_sets.specs.SetMatrix.{Matrix, row}

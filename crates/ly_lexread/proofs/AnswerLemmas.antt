@@ -129,7 +129,13 @@ module _ (most : ℕ) (ds : List (List ℕ × List ℕ)) (list : List DefinedTex
     refused = λ ne light names d.
         let given : inner ≢ ere.OutOfMemory = λ e. ne (memory e) in
         refusal.refused given (λ e. light (subst IsTooHeavy (sym (other given)) e)) names (these names d);
-    heavy = λ h. let e = is_heavy h in (list, place, extents_are_texts ds list extents (refusal.spelled e), refusal.heavy e);
+    heavy = λ h. let e = is_heavy h in (
+      list,
+      place,
+      extents_are_texts ds list extents
+          (refusal.spelled e),
+      refusal.heavy e,
+    );
     none_light = λ h names d light. refusal.none_light (is_heavy h) names (these names d) light;
   }
     where

@@ -97,8 +97,11 @@ module _ (bytes : List ℕ) (all : Preamble) (behind : List ℕ) (definitions : 
   pub text_rules : (names : List Definition) → AreDefinitions all.definitions names → (file.names ≡ names)
       × Rules all.conditions names behind file.rules.items text.sayings
   text_rules names are =
-      let one = definitions_are_one all.definitions file.names names text_names are in
-      (one, rules_under text.all all text.behind behind file.names names file.rules.items text.sayings same.0 same.1 one text.rules)
+      let one = definitions_are_one all.definitions file.names names text_names are in (
+        one,
+        rules_under text.all all text.behind behind file.names names file.rules.items text.sayings same.0 same.1
+            one text.rules,
+      )
 
 pub lex_text_one : LexTextIsOne
 lex_text_one bytes f g a b =

@@ -346,6 +346,7 @@ pub cut_defined : (lines : List NameLine) (ds : List (List ℕ × List ℕ)) (t 
 cut_defined lines ds t list names these is a apart whole are =
     let spelled = names_spelled (named_texts list) (cut_distinct lines ds t list these is a apart) names are in (
       named_texts list,
-      extents_are_texts ds (named_texts list) (where_none _ _ t.flaw whole (cut_of lines ds t list these is a).1) spelled,
+      extents_are_texts ds (named_texts list) (where_none _ _ t.flaw whole (cut_of lines ds t list these is a).1)
+          spelled,
       are,
     )

@@ -78,7 +78,8 @@ pub record DirectiveLine (cs : List Condition) (line : List ℕ) (all : List Con
 
 -- The line has a name at its beginning, then blanks, and then this, to its end.
 abbrev pub DefinesName : List ℕ → List ℕ → List ℕ → Type 0
-DefinesName line name text = (behind : List ℕ) × NameBefore Lex line name behind × BlanksBefore behind text × (text ≢ [])
+DefinesName line name text = (behind : List ℕ) × NameBefore Lex line name behind × BlanksBefore behind text
+    × (text ≢ [])
 
 -- the names that are defined
 abbrev pub defined_names : List (List ℕ × List ℕ) → List (List ℕ)

@@ -15,10 +15,10 @@ use std::alloc::Global;
 ///
 /// The faults come for the least line, on a line from left to right: `NoRulesMark` where no line begins with `%%`;
 /// `BadDefinition` for a line of the definitions that has none of its forms or defines a name again, and for a block or
-/// a comment that isn't closed; `ConditionTwice` for a condition that is declared again; `UnknownCondition` for one that
-/// isn't declared, and for a `<..>` that isn't well formed; `Pattern` for a pattern, and for the expression of a
-/// definition, that is refused (a definition that is too heavy comes behind all other faults of the definitions); `BadAction` for an action; `BarAtEnd` where no rule
-/// follows a `|`; `OutOfMemory` where a growth was refused.
+/// a comment that isn't closed; `ConditionTwice` for a condition that is declared again; `UnknownCondition` for one
+/// that isn't declared, and for a `<..>` that isn't well formed; `Pattern` for a pattern, and for the expression of a
+/// definition, that is refused (a definition that is too heavy comes behind all other faults of the definitions);
+/// `BadAction` for an action; `BarAtEnd` where no rule follows a `|`; `OutOfMemory` where a growth was refused.
 pub fn read_lex(alloc: Global, bytes: &[u8], limits: &Limits) -> Result<LexFile, LexFault>
     ensures { IsRead limits.now.pattern_weight bytes.now result }
 {

@@ -1,0 +1,17 @@
+pub mod AutomatonLemmas
+pub mod BuiltLemmas
+pub mod ByLeftLemmas
+pub mod ClosingLemmas
+pub mod ConstructLemmas
+pub mod CoreLemmas
+pub mod FinalLemmas
+pub mod GotoLemmas
+pub mod GroupLemmas
+pub mod KernelLemmas
+pub mod KernelsLemmas
+pub mod LawLemmas
+pub mod ListLemmas
+pub mod OrderLemmas
+pub mod StartLemmas
+pub mod StateLemmas
+pub mod SuccessorLemmas

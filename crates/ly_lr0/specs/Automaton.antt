@@ -2,7 +2,8 @@
 -- symbols have their last symbol first.
 use Rattle.std.specs.Prelude.{◌≡◌, ◌↔◌, ◌⊎◌, ℕ, ◌<◌, List, [], ◌∷◌, Bool, false, Option, Some, None, option_and_then}
 use Rattle.std.specs.Prelude.{length, map, nat_eq, slice_get, slice_index_or, AllPairs, Contains, if◌then◌else◌}
-use Rattle.ly_join.specs.Grammar.{Grammar, Symbol, nonterminal, terminal}
+use Rattle.ly_join.specs.Grammar.{Grammar, IsAugmented, Symbol, nonterminal, terminal}
+use Rattle.ly_grammar.specs.Derivations.{IsReduced}
 use Rattle.ly_grammar.specs.Items.{IsComplete, IsViable, SameCore}
 
 -- A transition of a state: by a symbol to a state.
@@ -67,6 +68,10 @@ ComesBefore g [] = ⊥
 ComesBefore [] (Y ∷ h) = Unit {0}
 ComesBefore (X ∷ g) (Y ∷ h) = ComesBefore g h ⊎ ((g ≡ h) × IsLess X Y)
 
+-- the state of a number
+abbrev pub state_at : Automaton → ℕ → State
+state_at M s = slice_index_or M.states s (record { prefix = []; transitions = []; complete = [] })
+
 -- the least string that leads to a state
 abbrev pub prefix_of : Automaton → ℕ → List Symbol
 prefix_of M s = slice_index_or (map (λ q. q.prefix) M.states) s []
@@ -85,8 +90,10 @@ pub record IsState (G : Grammar) (count : ℕ) (s : State) : Type 0 where
   pub complete : (p : ℕ) → Contains s.complete p ↔ IsComplete G s.prefix p
   pub rising : AllPairs (λ p q. p < q) s.complete
 
--- The states are the LR(0) automaton of the grammar.
+-- The states are the LR(0) automaton of the grammar, which is augmented and reduced.
 pub record IsAutomaton (M : Automaton) : Type 0 where
+  pub augmented : IsAugmented M.grammar
+  pub reduced : IsReduced M.grammar
   pub some : 0 < length M.states
   pub cores : HasCores M.grammar (goto_of M)
   pub numbered : AreNumbered M

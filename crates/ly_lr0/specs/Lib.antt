@@ -1,3 +1,5 @@
 pub mod Automaton
 pub mod FaultNames
 pub mod Laws
+pub mod Private
+pub mod Transitions

@@ -1,13 +1,26 @@
 //! From a reduced grammar to its LR(0) automaton: a state for each core of a viable string.
 //!
-//! `automaton` makes it (Knuth 1965; DeRemer 1971): strings lead to one state exactly where they have the same core, and
-//! lead nowhere exactly where they aren't viable (`HasCores`). States are numbered by the least strings that lead to
-//! them, which are their access prefixes: breadth first, symbols in the order of their numbers, terminals before
+//! `automaton` makes it (Knuth 1965; DeRemer 1971): strings lead to one state exactly where they have the same core,
+//! and lead nowhere exactly where they aren't viable (`HasCores`). States are numbered by the least strings that lead
+//! to them, which are their access prefixes: breadth first, symbols in the order of their numbers, terminals before
 //! nonterminals (`AreNumbered`).
 //!
 //! Left out: lookaheads, and what a state does on a terminal.
 #![tactic(auto)]
 
+mod by_left;
+mod closing;
+mod construct;
 mod fault;
+mod found;
+mod item;
+mod kernels;
+mod laws;
+mod lr0;
+mod transition;
 
+pub use construct::automaton;
 pub use fault::Lr0Fault;
+pub use laws::no_more_cores_than_states;
+pub use lr0::Lr0;
+pub use transition::Transition;

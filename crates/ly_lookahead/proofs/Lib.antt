@@ -1,0 +1,2 @@
+pub mod FromRelations
+pub mod ToRelations

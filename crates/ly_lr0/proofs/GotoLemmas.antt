@@ -1,0 +1,110 @@
+-- Where symbols lead by transitions in the order of their symbols.
+use Rattle.std.proofs.Common.{◌≡◌, inl, inr, ℕ, ◌+◌, ◌<◌, ◌≤◌, List, [], ◌∷◌, Option, Some, None}
+use Rattle.std.proofs.Common.{refl, sym, ◌∙◌, ap, subst, arith, length, map}
+use Rattle.std.specs.Prelude.{slice_get, slice_index_or}
+use Rattle.std.proofs.lemmas.Bool.{cases_order}
+use Rattle.std.proofs.lemmas.List.{get_or_default, length-map, get_or-map as list_map}
+use Rattle.std.proofs.lemmas.Option.{slice_get-get_or, slice_get_within, get_or_from_slice_get}
+use Rattle.std.proofs.Math.ListN.{get_or-map}
+use Rattle.ly_join.specs.Grammar.{Grammar, Symbol, symbol_of}
+use Rattle.ly_lr0.specs.Automaton.{IsLess, goto_of, state_at, target_of}
+use Rattle.ly_lr0.specs.declared.transition.Transition as code
+use Rattle.ly_lr0.specs.declared.transition.Link as link
+use Rattle.ly_lr0.specs.declared.transition.Row.{Row}
+use Rattle.ly_lr0.specs.Private.Built.{AreInOrder, IsBuilt, automaton_from, link_of, prefixes_of, transitions_of}
+use Rattle.ly_lr0.specs.Transitions.{transition_of}
+use Rattle.ly_lr0.proofs.OrderLemmas.{less_off, less_trans}
+use Rattle.ly_lr0.proofs.StateLemmas.{count_of, goto_of-rows, length-fold, state_of, target_at, target_some}
+
+abbrev pub symbol_at : List code.Transition → ℕ → code.Transition → Symbol
+symbol_at ts k d = symbol_of (slice_index_or ts k d).symbol
+
+module _ (ts : List code.Transition) (ordered : AreInOrder (map transition_of ts)) where
+  shown : (k : ℕ) (d : code.Transition) → slice_index_or (map transition_of ts) k (transition_of d)
+      ≡ transition_of (slice_index_or ts k d)
+  shown k d = get_or-map transition_of ts k d
+
+  less_at : (i j : ℕ) (d : code.Transition) → i < j → j < length ts → IsLess (symbol_at ts i d) (symbol_at ts j d)
+  less_at i j d l m = subst (λ t. IsLess t.symbol (symbol_at ts j d)) (shown i d)
+      (subst (λ t. IsLess (slice_index_or (map transition_of ts) i (transition_of d)).symbol t.symbol) (shown j d)
+      (ordered i j (transition_of d) l (omega (arith, m, length-map ts transition_of))))
+
+  same_at : (k : ℕ) (d e : code.Transition) → k < length ts → symbol_at ts k d ≡ symbol_at ts k e
+  same_at k d e l = ap (λ t. symbol_of t.symbol) (get_or_default ts k d e l)
+
+  -- what stands up to a transition before the symbol is before it
+  pub before_to : (X : Symbol) (m : ℕ) (e : code.Transition) → m < length ts → IsLess (symbol_at ts m e) X
+      → (k : ℕ) (d : code.Transition) → k < m + 1 → IsLess (symbol_at ts k d) X
+  before_to X m e inside less k d l = elim (cases_order k m) [
+    | inl same ↦ subst (λ n. IsLess (symbol_at ts n d) X) (sym same)
+        (subst (λ Y. IsLess Y X) (same_at m e d inside) less)
+    | inr (inl low) ↦ less_trans (symbol_at ts k d) (symbol_at ts m d) X (less_at k m d low inside)
+        (subst (λ Y. IsLess Y X) (same_at m e d inside) less)
+    | inr (inr past) ↦ absurd (omega (arith, past, l))
+  ]
+
+  -- and what stands from one on that isn't before it isn't either
+  pub behind_from : (X : Symbol) (m : ℕ) (e : code.Transition) → m < length ts → (IsLess (symbol_at ts m e) X → ⊥)
+      → (k : ℕ) (d : code.Transition) → m ≤ k → k < length ts → IsLess (symbol_at ts k d) X → ⊥
+  behind_from X m e inside off k d l n less = elim (cases_order k m) [
+    | inl same ↦ off (subst (λ Y. IsLess Y X) (same_at m d e inside)
+        (subst (λ n. IsLess (symbol_at ts n d) X) same less))
+    | inr (inl low) ↦ absurd (omega (arith, low, l))
+    | inr (inr past) ↦ off (less_trans (symbol_at ts m e) (symbol_at ts k d) X
+        (subst (λ Y. IsLess Y (symbol_at ts k d)) (same_at m d e inside) (less_at m k d past n)) less)
+  ]
+
+  -- a transition that is there says where its symbol leads
+  pub leads_at : (k : ℕ) (t : code.Transition) → slice_get ts k ≡ Some t
+      → target_of (map transition_of ts) (symbol_of t.symbol) ≡ Some t.target.0
+  leads_at k t is = target_at (map transition_of ts) ordered (transition_of t) (
+    k,
+    omega (arith, slice_get_within ts k t is, length-map ts transition_of),
+    shown k t ∙ ap transition_of (get_or_from_slice_get ts k t t is),
+  )
+
+  -- where the symbols before a place are before the symbol, and those from it on are behind it, it leads nowhere
+  pub leads_nowhere : (X : Symbol) (low : ℕ) (e : code.Transition)
+      → ((k : ℕ) (d : code.Transition) → k < low → IsLess (symbol_at ts k d) X)
+      → ((k : ℕ) (d : code.Transition) → low ≤ k → k < length ts → IsLess (symbol_at ts k d) X → ⊥)
+      → (low < length ts → symbol_at ts low e ≡ X → ⊥) → target_of (map transition_of ts) X ≡ None
+  leads_nowhere X low e before behind other = at (target_of (map transition_of ts) X) refl where
+    off : (n k : ℕ) → k < length ts → symbol_at ts k e ≡ X → ⊥
+    off n k l is = elim (cases_order k low) [
+      | inl same ↦ other (omega (arith, same, l)) (subst (λ m. symbol_at ts m e ≡ X) same is)
+      | inr (inl less) ↦ less_off X (subst (λ Y. IsLess Y X) is (before k e less))
+      | inr (inr past) ↦ behind low e (omega arith) (omega (arith, past, l))
+          (subst (IsLess (symbol_at ts low e)) is (less_at low k e past l))
+    ]
+
+    at : (o : Option ℕ) → target_of (map transition_of ts) X ≡ o → target_of (map transition_of ts) X ≡ None
+    at None is = is
+    at (Some n) is =
+        let c = target_some (map transition_of ts) X n is in
+        let within : c.0 < length ts = omega (arith, c.1, length-map ts transition_of) in
+        absurd (off n c.0 within (ap (λ t. t.symbol) (sym (list_map transition_of ts c.0 e _ within) ∙ c.2)))
+
+-- what the row of a state says
+module _ (G : Grammar) (links : List link.Link) (rows : List Row) (s : ℕ) (row : Row) {lists : List (List ℕ)}
+    (built : IsBuilt G links rows lists)
+    (less : s < length rows) (is : row ≡ slice_index_or rows s row) where
+  many : length (prefixes_of (map link_of links)) ≡ length rows
+  many = let count = built.count in
+      omega (arith, length-fold ([] ∷ []) (map link_of links), length-map links link_of, count)
+
+  -- its transitions are in the order of their symbols
+  pub row_ordered : AreInOrder (map transition_of row.transitions.items)
+  row_ordered =
+      let M = automaton_from G links rows in
+      let q = state_at M s in
+      let there = slice_get-get_or M.states s (record { prefix = []; transitions = []; complete = [] })
+      (omega (arith, less, count_of links rows built.count)) in
+      subst AreInOrder (ap (λ q. q.transitions) (state_of G links rows s row built.count less is))
+      (built.automaton.each s q there).ordered
+
+  -- and say where the state leads
+  pub row_leads : (X : Symbol) → target_of (map transition_of row.transitions.items) X
+      ≡ goto_of (automaton_from G links rows) s X
+  row_leads X = ap (λ r. target_of (transitions_of r) X) is
+      ∙ sym (ap (λ ts. target_of ts X) (list_map transitions_of rows s row [] less))
+      ∙ sym (goto_of-rows G (prefixes_of (map link_of links)) rows many s X)

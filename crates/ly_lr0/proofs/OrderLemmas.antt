@@ -1,0 +1,87 @@
+-- Orders: of symbols, of strings, and of items in lists.
+use Rattle.std.proofs.Common.{◌≡◌, inl, inr, suc, List, [], ◌∷◌, refl, sym, ◌∙◌, ap, subst, arith}
+use Rattle.std.specs.Prelude.{Contains, AllPairs}
+use Rattle.std.specs.declared.cmp.Ordering.TheVariants.{Less}
+use Rattle.std.specs.Cmp.{IsTotalOrder}
+use Rattle.std.proofs.lemmas.Cmp.{nat_cmp_total, on_total, then_total}
+use Rattle.ly_base.proofs.MemberLemmas.{Contains-none, Contains-cons_cases, Contains-first, Contains-later}
+use Rattle.ly_join.specs.Grammar.{Symbol, nonterminal, terminal}
+use Rattle.ly_lr0.specs.declared.item.Item.{Item}
+use Rattle.ly_lr0.specs.Automaton.{ComesBefore, IsLess}
+use Rattle.ly_lr0.specs.Private.Items.{AreRising, item_cmp}
+
+pub less_trans : (X Y Z : Symbol) → IsLess X Y → IsLess Y Z → IsLess X Z
+less_trans (terminal t) (terminal u) (terminal v) a b = omega arith
+less_trans (terminal t) (terminal u) (nonterminal C) a b = tt
+less_trans (terminal t) (nonterminal B) (terminal v) a b = absurd b
+less_trans (terminal t) (nonterminal B) (nonterminal C) a b = tt
+less_trans (nonterminal A) (terminal u) Z a b = absurd a
+less_trans (nonterminal A) (nonterminal B) (terminal v) a b = absurd b
+less_trans (nonterminal A) (nonterminal B) (nonterminal C) a b = omega arith
+
+pub less_off : (X : Symbol) → IsLess X X → ⊥
+less_off (terminal t) a = omega arith
+less_off (nonterminal A) a = omega arith
+
+pub before_trans : (f g h : List Symbol) → ComesBefore f g → ComesBefore g h → ComesBefore f h
+before_trans f g [] a b = absurd (none g b)
+  where
+    none : (g : List Symbol) → ComesBefore g [] → ⊥
+    none [] b = b
+    none (X ∷ g) b = b
+before_trans [] g (Z ∷ h) a b = tt
+before_trans (X ∷ f) [] (Z ∷ h) a b = absurd a
+before_trans (X ∷ f) (Y ∷ g) (Z ∷ h) (inl a) (inl b) = inl (before_trans f g h a b)
+before_trans (X ∷ f) (Y ∷ g) (Z ∷ h) (inl a) (inr b) = inl (subst (ComesBefore f) b.0 a)
+before_trans (X ∷ f) (Y ∷ g) (Z ∷ h) (inr a) (inl b) = inl (subst (λ w. ComesBefore w h) (sym a.0) b)
+before_trans (X ∷ f) (Y ∷ g) (Z ∷ h) (inr a) (inr b) = inr (a.0 ∙ b.0, less_trans X Y Z a.1 b.1)
+
+module _ {X : Type 0} (R : X → X → Type 0) (off : (x y : X) → R x y → R y x → ⊥) where
+  rest_of : (x : X) (xs : List X) → AllPairs R (x ∷ xs) → AllPairs R xs
+  rest_of x xs h i j d l m = h (suc i) (suc j) d (omega (arith, l)) (omega (arith, m))
+
+  first_before : (x : X) (xs : List X) (y : X) → AllPairs R (x ∷ xs) → Contains xs y → R x y
+  first_before x xs y h c = subst (R x) c.2 (h 0 (suc c.0) y (omega arith) (omega (arith, c.1)))
+
+  -- lists in rising order with the same members are one
+  pub rising_one : (xs ys : List X) → AllPairs R xs → AllPairs R ys → ((q : X) → Contains xs q → Contains ys q)
+      → ((q : X) → Contains ys q → Contains xs q) → xs ≡ ys
+  rising_one [] [] r s to back = refl
+  rising_one [] (y ∷ ys) r s to back = Contains-none y (back y (Contains-first y ys))
+  rising_one (x ∷ xs) [] r s to back = Contains-none x (to x (Contains-first x xs))
+  rising_one (x ∷ xs) (y ∷ ys) r s to back = ap (λ z. z ∷ xs) first ∙ ap (λ zs. y ∷ zs)
+      (rising_one xs ys (rest_of x xs r) (rest_of y ys s) onward backward)
+    where
+      first : x ≡ y
+      first = elim (Contains-cons_cases y ys x (to x (Contains-first x xs))) [
+        | inl same ↦ sym same
+        | inr later ↦ elim (Contains-cons_cases x xs y (back y (Contains-first y ys))) [
+          | inl same ↦ same
+          | inr after ↦ absurd (off x y (first_before x xs y r after) (first_before y ys x s later))
+        ]
+      ]
+
+      onward : (q : X) → Contains xs q → Contains ys q
+      onward q c = elim (Contains-cons_cases y ys q (to q (Contains-later x xs q c))) [
+        | inl same ↦ let less = subst (λ z. R z q) first (first_before x xs q r c) in
+            absurd (off y q less (subst (λ z. R q z) (sym same) (subst (λ z. R z q) same less)))
+        | inr later ↦ later
+      ]
+
+      backward : (q : X) → Contains ys q → Contains xs q
+      backward q c = elim (Contains-cons_cases x xs q (back q (Contains-later y ys q c))) [
+        | inl same ↦ let less = subst (λ z. R z q) (sym first) (first_before y ys q s c) in
+            absurd (off x q less (subst (λ z. R q z) (sym same) (subst (λ z. R z q) same less)))
+        | inr later ↦ later
+      ]
+
+pub item_total : IsTotalOrder item_cmp
+item_total = then_total (on_total (λ i. i.rule) nat_cmp_total) (on_total (λ i. i.dot) nat_cmp_total)
+
+item_off : (i j : Item) → item_cmp i j ≡ Less → item_cmp j i ≡ Less → ⊥
+item_off i j a b = let turned = item_total.antisymm i j in cc
+
+-- kernels with the same items are one
+pub kernels_one : (ks ls : List Item) → AreRising ks → AreRising ls → ((i : Item) → Contains ks i → Contains ls i)
+    → ((i : Item) → Contains ls i → Contains ks i) → ks ≡ ls
+kernels_one = rising_one (λ i j. item_cmp i j ≡ Less) item_off

@@ -1,0 +1,5 @@
+pub mod Built
+pub mod Closing
+pub mod Found
+pub mod Items
+pub mod Kernels

@@ -1,0 +1,151 @@
+ghost use Rattle.std.specs.Prelude.{◌≡◌, ◌<◌, ◌≤◌, ◌++◌, ℕ, [], ◌∷◌, length, map, slice_index_or, AllPairs};
+ghost use Rattle.std.specs.Prelude.{IfOk, IsErrOf, OnOk};
+ghost use Rattle.ly_join.specs.Grammar.{IsAugmented};
+ghost use Rattle.ly_grammar.specs.Derivations.{IsReduced};
+ghost use Rattle.ly_grammar.specs.Items.{HasMoreCores};
+ghost use Rattle.ly_lr0.specs.Private.Built.{AreFound, IsNumbered, IsWholeRow, link_of};
+ghost use Rattle.ly_lr0.specs.Private.Found.{IsFound, links_of, with_row};
+ghost use Rattle.ly_lr0.specs.Private.Closing.{AreMoves, IsGroupEnd};
+ghost use Rattle.ly_lr0.specs.Private.Items.{AreRising};
+ghost use Rattle.ly_lr0.specs.Private.Kernels.{IsAbsent, KeepsKernels, kernel_at};
+ghost use Rattle.ly_lr0.specs.Transitions.{transition_of};
+
+use crate::fault::Lr0Fault;
+use crate::item::{Item, Move};
+use crate::kernels::Kernels;
+use crate::transition::{Link, Row, Transition};
+use ly_base::StateNo;
+use ly_grammar::Reduced;
+use std::alloc::{AllocError, Global};
+
+/// The kernels that were found, and the rows of the first of them.
+#[derive(Drop)]
+pub(crate) struct Found<'a> {
+    /// Where room comes from.
+    pub(crate) alloc: Global,
+    /// The grammar.
+    pub(crate) reduced: &'a Reduced<'a>,
+    /// How many states there may be.
+    pub(crate) limit: u32,
+    /// The kernels, by the numbers of their states.
+    pub(crate) kernels: Kernels,
+    /// By which link each state but the first was found.
+    pub(crate) links: Vec<Link>,
+    /// The rows that are done.
+    pub(crate) rows: Vec<Row>,
+}
+
+impl<'a> Found<'a> {
+    /// The kernel of the start alone: rule 0 with nothing before its dot.
+    pub(crate) fn start(
+        alloc: Global,
+        reduced: &'a Reduced<'a>,
+        limit: u32,
+    ) -> Result<Found<'a>, Lr0Fault>
+        requires augmented { IsAugmented reduced.now.grammar }
+        requires reduced { IsReduced reduced.now.grammar }
+        ensures found { IfOk result IsFound }
+        ensures reduced { IfOk result (λ f. f.reduced.now ≡ reduced.now) }
+        ensures limit { IfOk result (λ f. f.limit ≡ limit) }
+        ensures rows { IfOk result (λ f. f.rows.items ≡ []) }
+        ensures many { IsErrOf result Lr0Fault.TooManyStates → HasMoreCores reduced.now.grammar limit }
+    {
+        if limit == 0 {
+            return Err(Lr0Fault::TooManyStates);
+        }
+        let mut kernel = Vec::new(alloc);
+        kernel.push(Item { rule: 0, dot: 0 })?;
+        let mut kernels = Kernels::new(alloc);
+        kernels.push(kernel)?;
+        Ok(Found {
+            alloc,
+            reduced,
+            limit,
+            kernels,
+            links: Vec::new(alloc),
+            rows: Vec::new(alloc),
+        })
+    }
+
+    /// The transitions of the next row, by the moves of its kernel. Kernels that weren't found before get the next
+    /// numbers.
+    pub(crate) fn successors(&mut self, moves: &[Move]) -> Result<Vec<Transition>, Lr0Fault>
+        requires found { IsFound self.old }
+        requires next { length self.old.rows.items < length self.old.kernels }
+        requires moves { AreMoves self.old.reduced.now.grammar
+            (kernel_at self.old.kernels (length self.old.rows.items)) moves.now }
+        ensures found { IfOk result (λ ts. AreFound self.new.reduced.now.grammar self.new.kernels (links_of self.new)
+            (with_row self.new (map transition_of ts.items))) }
+        ensures whole { IfOk result (λ ts. IsWholeRow self.new.reduced.now.grammar
+            (kernel_at self.new.kernels (length self.new.rows.items)) (map transition_of ts.items)) }
+        ensures few { OnOk result (length self.new.kernels ≤ self.new.limit) }
+        ensures kept { OnOk result (KeepsKernels self.old.kernels self.new.kernels) }
+        ensures rows { self.new.rows ≡ self.old.rows }
+        ensures reduced { self.new.reduced ≡ self.old.reduced }
+        ensures limit { self.new.limit ≡ self.old.limit }
+        ensures many { IsErrOf result Lr0Fault.TooManyStates →
+            HasMoreCores self.old.reduced.now.grammar self.old.limit }
+    {
+        let from = self.rows.len();
+        let mut transitions = Vec::new(self.alloc);
+        let mut at = 0;
+        while at < moves.len() {
+            let symbol = moves[at].symbol;
+            let end = group_end(moves, at);
+            let kernel = items_of(self.alloc, &moves[at..end])?;
+            let target = self.number(kernel, Link { from, symbol })?;
+            transitions.push(Transition { symbol, target })?;
+            at = end;
+        }
+        Ok(transitions)
+    }
+
+    /// The number of a kernel, which gets the next one where it is new.
+    fn number(&mut self, kernel: Vec<Item>, link: Link) -> Result<StateNo, Lr0Fault>
+        requires { length self.old.kernels ≤ self.old.limit }
+        ensures numbered { IfOk result (λ s. IsNumbered self.old.kernels (links_of self.old) kernel.items (link_of link)
+            self.new.kernels (links_of self.new) s.0) }
+        ensures few { OnOk result (length self.new.kernels ≤ self.new.limit) }
+        ensures rows { self.new.rows ≡ self.old.rows }
+        ensures reduced { self.new.reduced ≡ self.old.reduced }
+        ensures limit { self.new.limit ≡ self.old.limit }
+        ensures full { IsErrOf result Lr0Fault.TooManyStates →
+            (length self.old.kernels ≡ self.old.limit) × IsAbsent self.old.kernels kernel.items }
+    {
+        let limit = self.limit as usize;
+        if let Some(known) = self.kernels.find(&kernel) {
+            return Ok(StateNo(known as u32));
+        }
+        let count = self.kernels.len();
+        if count >= limit {
+            return Err(Lr0Fault::TooManyStates);
+        }
+        self.kernels.push(kernel)?;
+        self.links.push(link)?;
+        Ok(StateNo(count as u32))
+    }
+}
+
+/// Where the moves over the symbol of the one at a place end.
+fn group_end(moves: &[Move], at: usize) -> usize
+    requires { at < length moves.now }
+    ensures { IsGroupEnd moves.now at result }
+{
+    let symbol = moves[at].symbol;
+    let mut end = at + 1;
+    while end < moves.len() && moves[end].symbol == symbol {
+        end += 1;
+    }
+    end
+}
+
+/// The items of moves.
+fn items_of(alloc: Global, moves: &[Move]) -> Result<Vec<Item>, AllocError>
+    ensures { IfOk result (λ items. items.items ≡ map (λ m. m.item) moves.now) }
+{
+    let mut items = Vec::new(alloc);
+    for step in moves {
+        items.push(step.item)?;
+    }
+    Ok(items)
+}

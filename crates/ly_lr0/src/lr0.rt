@@ -1,0 +1,142 @@
+ghost use Rattle.std.specs.Prelude.{◌≡◌, ◌<◌, ◌≤◌, ◌↔◌, ℕ, Contains, IfOk, IsTrue, length, map, option_map};
+ghost use Rattle.ly_join.specs.Grammar.{symbol_of};
+ghost use Rattle.ly_lr0.specs.Automaton.{target_of, IsLess};
+ghost use Rattle.ly_lr0.specs.Private.Built.{AreInOrder};
+ghost use Rattle.ly_lr0.specs.Transitions.{transition_of};
+
+use crate::by_left::RulesByLeft;
+use crate::transition::{Link, Row, Transition};
+use ly_base::{OutOfMemory, StateNo, Sym};
+use ly_grammar::Reduced;
+use ly_join::Symbol;
+use std::alloc::Global;
+use std::marker::Model;
+
+/// The LR(0) automaton of a reduced grammar.
+#[derive(Drop)]
+pub struct Lr0<'a> {
+    /// The grammar.
+    pub(crate) reduced: &'a Reduced<'a>,
+    /// For each state but the first, how its prefix ends.
+    pub(crate) links: Vec<Link>,
+    /// What leaves each state, and what is complete in it.
+    pub(crate) rows: Vec<Row>,
+    /// The rules of each nonterminal.
+    pub(crate) by_left: RulesByLeft,
+}
+
+impl<'a> Model for Lr0<'a> {
+    ghost use Rattle.ly_lr0.specs.Automaton.{Automaton};
+
+    ghost Value = { Automaton };
+
+    ghost use Rattle.ly_lr0.specs.Private.Built.{automaton_from, IsBuilt};
+
+    ghost view = { λ a. automaton_from a.reduced.now.grammar a.links.items a.rows.items };
+
+    ghost invariant = { λ a. IsBuilt a.reduced.now.grammar a.links.items a.rows.items a.by_left };
+}
+
+impl<'a> Lr0<'a> {
+    ghost use Rattle.ly_join.specs.Grammar.{IsRule, Rule};
+    ghost use Rattle.ly_lr0.specs.Automaton.{goto_of, prefix_of, state_at, IsAutomaton};
+
+    /// The grammar whose automaton it is.
+    pub fn reduced(&self) -> &'a Reduced<'a>
+        ensures { result.now.grammar ≡ self.now.grammar }
+    {
+        self.reduced
+    }
+
+    /// How many states there are.
+    pub fn states(&self) -> usize
+        ensures count { result ≡ length self.now.states }
+        ensures few { result ≤ 4294967295 }
+        ensures lawful { IsAutomaton self.now }
+    {
+        self.rows.len()
+    }
+
+    /// The transitions of a state, in the order of their symbols.
+    pub fn transitions(&self, state: StateNo) -> &[Transition]
+        requires { state.0 < length self.now.states }
+        ensures { map transition_of result.now ≡ (state_at self.now state.0).transitions }
+    {
+        &self.rows[state.0 as usize].transitions
+    }
+
+    /// Where a symbol leads from a state.
+    pub fn goto(&self, state: StateNo, symbol: Symbol) -> Option<StateNo>
+        requires { state.0 < length self.now.states }
+        ensures { option_map (λ s. s.0) result ≡ goto_of self.now state.0 (symbol_of symbol) }
+    {
+        target(&self.rows[state.0 as usize].transitions, symbol)
+    }
+
+    /// The numbers of the rules that are complete in a state, rising.
+    pub fn complete(&self, state: StateNo) -> &[usize]
+        requires { state.0 < length self.now.states }
+        ensures { result.now ≡ (state_at self.now state.0).complete }
+    {
+        &self.rows[state.0 as usize].complete
+    }
+
+    /// The numbers of a nonterminal's rules.
+    pub fn rules_of(&self, symbol: Sym) -> &[usize]
+        requires { symbol.0 ≤ self.now.grammar.accept }
+        ensures { (q : ℕ) → Contains result.now q
+            ↔ ((r : Rule) × IsRule self.now.grammar q r × (r.left ≡ symbol.0)) }
+    {
+        self.by_left.of(symbol)
+    }
+
+    /// The least string that leads to a state, its last symbol first.
+    pub fn prefix(&self, alloc: Global, state: StateNo) -> Result<Vec<Symbol>, OutOfMemory>
+        requires { state.0 < length self.now.states }
+        ensures { IfOk result (λ g. map symbol_of g.items ≡ prefix_of self.now state.0) }
+    {
+        let mut prefix = Vec::new(alloc);
+        let mut state = state.0 as usize;
+        while state > 0 {
+            let link = self.links[state - 1];
+            prefix.push(link.symbol)?;
+            state = link.from;
+        }
+        Ok(prefix)
+    }
+}
+
+/// Where the transition over a symbol leads, of transitions in the order of their symbols.
+fn target(transitions: &[Transition], symbol: Symbol) -> Option<StateNo>
+    requires { AreInOrder (map transition_of transitions.now) }
+    ensures { option_map (λ s. s.0) result ≡ target_of (map transition_of transitions.now) (symbol_of symbol) }
+{
+    let mut low = 0;
+    let mut high = transitions.len();
+    while low < high {
+        let middle = low + (high - low) / 2;
+        if comes_before(transitions[middle].symbol, symbol) {
+            low = middle + 1;
+        } else {
+            high = middle;
+        }
+    }
+    let transition = transitions.get(low)?;
+    if transition.symbol == symbol {
+        Some(transition.target)
+    } else {
+        None
+    }
+}
+
+/// Whether a symbol's number comes before another's, terminals before nonterminals.
+fn comes_before(left: Symbol, right: Symbol) -> bool
+    ensures { IsTrue result ↔ IsLess (symbol_of left) (symbol_of right) }
+{
+    match (left, right) {
+        (Symbol::Terminal(left), Symbol::Terminal(right)) => left.0 < right.0,
+        (Symbol::Terminal(_), Symbol::Nonterminal(_)) => true,
+        (Symbol::Nonterminal(_), Symbol::Terminal(_)) => false,
+        (Symbol::Nonterminal(left), Symbol::Nonterminal(right)) => left.0 < right.0,
+    }
+}

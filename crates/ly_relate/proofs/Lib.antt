@@ -1,0 +1,9 @@
+pub mod DirectLemmas
+pub mod GotoLemmas
+pub mod IncludeLemmas
+pub mod LeaveLemmas
+pub mod ReachLemmas
+pub mod ReadLemmas
+pub mod RuleLemmas
+pub mod UnionLemmas
+pub mod WalkLemmas

@@ -1,0 +1,4 @@
+pub mod Private
+pub mod Related
+pub mod Relations
+pub mod Values

@@ -1,0 +1,4 @@
+pub mod Direct
+pub mod Gotos
+pub mod Reads
+pub mod Walks

@@ -1,0 +1,22 @@
+//! From an automaton to the relations between its nonterminal transitions, from which lookaheads come.
+//!
+//! `relations` finds direct reads, reads, includes and lookback of DeRemer and Pennello, "Efficient Computation of
+//! LALR(1) Look-Ahead Sets", TOPLAS 1982: each pair, and no other (`AreRelations`). Each rule of a transition's
+//! nonterminal is walked once from where the transition begins; then its body is gone through from its end, as long as
+//! what was passed is nullable. So it takes time by what the relations hold and by the walks, with no search for paths.
+//!
+//! Left out: the sets that come from the relations.
+#![tactic(auto)]
+
+mod direct;
+mod gotos;
+mod pairs;
+mod reads;
+mod relate;
+mod walks;
+
+pub use direct::DirectRead;
+pub use gotos::Goto;
+pub use pairs::Relations;
+pub use relate::relations;
+pub use walks::Lookback;

@@ -1,0 +1,76 @@
+ghost use Rattle.std.specs.Prelude.{◌≡◌, map};
+ghost use Rattle.ly_relate.specs.Values.{direct_from, goto_from, lookback_from};
+
+use crate::direct::DirectRead;
+use crate::gotos::Goto;
+use crate::walks::Lookback;
+use ly_digraph::Graph;
+use std::marker::Model;
+
+/// The relations between the nonterminal transitions of an automaton.
+#[derive(Drop)]
+pub struct Relations {
+    /// The transitions, by number.
+    pub(crate) gotos: Vec<Goto>,
+    /// The terminals that they directly read.
+    pub(crate) direct: Vec<DirectRead>,
+    /// An edge `i -> j` where transition `i` reads transition `j`.
+    pub(crate) reads: Graph,
+    /// An edge `i -> j` where transition `i` includes transition `j`.
+    pub(crate) includes: Graph,
+    /// The transitions to which complete rules look back.
+    pub(crate) lookbacks: Vec<Lookback>,
+}
+
+impl Model for Relations {
+    ghost use Rattle.std.specs.Prelude.{map};
+    ghost use Rattle.ly_relate.specs.Related as spec;
+    ghost use Rattle.ly_relate.specs.Values.{direct_from, goto_from, lookback_from};
+
+    ghost Value = { spec.Relations };
+
+    ghost view = { λ r. record {
+      gotos = map goto_from r.gotos.items;
+      direct = map direct_from r.direct.items;
+      reads = r.reads;
+      includes = r.includes;
+      lookbacks = map lookback_from r.lookbacks.items;
+    } };
+}
+
+impl Relations {
+    /// The nonterminal transitions, by number.
+    pub fn gotos(&self) -> &[Goto]
+        ensures { map goto_from result.now ≡ self.now.gotos }
+    {
+        &self.gotos
+    }
+
+    /// The terminals that transitions directly read.
+    pub fn direct(&self) -> &[DirectRead]
+        ensures { map direct_from result.now ≡ self.now.direct }
+    {
+        &self.direct
+    }
+
+    /// Which transitions read which.
+    pub fn reads(&self) -> &Graph
+        ensures { result.now ≡ self.now.reads }
+    {
+        &self.reads
+    }
+
+    /// Which transitions include which.
+    pub fn includes(&self) -> &Graph
+        ensures { result.now ≡ self.now.includes }
+    {
+        &self.includes
+    }
+
+    /// The transitions to which complete rules look back.
+    pub fn lookbacks(&self) -> &[Lookback]
+        ensures { map lookback_from result.now ≡ self.now.lookbacks }
+    {
+        &self.lookbacks
+    }
+}
