@@ -528,3 +528,53 @@ numbered_are n law = subst (AreGotos n.automaton) (sym law.gotos) (are_gotos n.a
 pub numbered_named : (n : Numbering) → IsNumbering n → (k : ℕ) (x : Goto) → slice_get n.gotos k ≡ Some x
     → x.symbol ≤ n.automaton.grammar.accept
 numbered_named n law k x at = are_named n.automaton law.lawful k x (subst (λ w. slice_get w k ≡ Some x) law.gotos at)
+
+-- transitions of one state rise with their symbols
+pub numbered_rising : (n : Numbering) → IsNumbering n → (i j : ℕ) (x y : Goto) → i < j → slice_get n.gotos i ≡ Some x
+    → slice_get n.gotos j ≡ Some y → x.from ≡ y.from → x.symbol < y.symbol
+numbered_rising n law i j x y lt at_x at_y from =
+    let listed : gotos_from 0 n.automaton.states ≡ n.gotos = sym law.gotos in
+    let pairs = subst (AllPairs GotoIsLess) listed
+    (from_pairs 0 n.automaton.states (are_ordered n.automaton law.lawful)) in
+    let less = pairs i j x lt (slice_get_within n.gotos j y at_y) in
+    let here = get_or_from_slice_get n.gotos i x x at_x in
+    let there = get_or_from_slice_get n.gotos j y x at_y in
+    elim (subst (λ z. GotoIsLess z y) here (subst (GotoIsLess (slice_index_or n.gotos i x)) there less)) [
+      | inl before ↦ absurd (omega (arith, before, from))
+      | inr both ↦ both.1
+    ]
+
+-- What is before one of rising transitions is less, and what is behind it is greater.
+pub less_to : (gotos : List Goto) (start end k A : ℕ) (y : Goto)
+    → ((n m : ℕ) (x z : Goto) → start ≤ n → n < m → m < end → slice_get gotos n ≡ Some x → slice_get gotos m ≡ Some z
+    → x.symbol < z.symbol) → k < end → slice_get gotos k ≡ Some y → y.symbol < A → (n : ℕ) (x : Goto) → start ≤ n
+    → n < k + 1 → slice_get gotos n ≡ Some x → x.symbol < A
+less_to gotos start end k A y rise lt at less n x le before is = cases (cases_order n k) where
+  cases : (n ≡ k) ⊎ ((n < k) ⊎ (k < n)) → x.symbol < A
+  cases (inl same) =
+      let one : Some x ≡ Some y = sym is ∙ (ap (slice_get gotos) same ∙ at) in
+      let e : x ≡ y = cc in
+      subst (λ z. z.symbol < A) (sym e) less
+  cases (inr (inl early)) = let first = rise n k x y le early lt is at in omega (arith, first, less)
+  cases (inr (inr late)) = absurd (omega (arith, late, before))
+
+pub not_less_from : (gotos : List Goto) (start end k A : ℕ) (y : Goto)
+    → ((n m : ℕ) (x z : Goto) → start ≤ n → n < m → m < end → slice_get gotos n ≡ Some x → slice_get gotos m ≡ Some z
+    → x.symbol < z.symbol) → start ≤ k → slice_get gotos k ≡ Some y → A ≤ y.symbol → (n : ℕ) (x : Goto) → k ≤ n
+    → n < end → slice_get gotos n ≡ Some x → A ≤ x.symbol
+not_less_from gotos start end k A y rise le at least n x behind lt is = cases (cases_order n k) where
+  cases : (n ≡ k) ⊎ ((n < k) ⊎ (k < n)) → A ≤ x.symbol
+  cases (inl same) =
+      let one : Some x ≡ Some y = sym is ∙ (ap (slice_get gotos) same ∙ at) in
+      let e : x ≡ y = cc in
+      subst (λ z. A ≤ z.symbol) (sym e) least
+  cases (inr (inl early)) = absurd (omega (arith, early, behind))
+  cases (inr (inr late)) = let up = rise k n y x le late lt at is in omega (arith, up, least)
+
+-- the transition of a number, where it is read from what a numbering keeps
+pub at_number : (n : Numbering) (items : List goto.Goto) (k end : ℕ) (g : goto.Goto) → map goto_from items ≡ n.gotos
+    → end ≤ length n.gotos → k < end → g ≡ slice_index_or items k g → slice_get n.gotos k ≡ Some (goto_from g)
+at_number n items k end g shown within lt is =
+    let m = length-map items goto_from in
+    let long = ap length shown in
+    seen_goto n.gotos items k g shown (omega (arith, m, long, lt, within)) is

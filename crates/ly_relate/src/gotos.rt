@@ -95,6 +95,7 @@ impl<'a> Gotos<'a> {
         ensures ordered { result.start ≤ result.end }
         ensures these { (n : ℕ) (x : spec.Goto) → slice_get self.now.gotos n ≡ Some x
             → (x.from ≡ state.0) ↔ ((result.start ≤ n) × (n < result.end)) }
+        ensures lawful { IsNumbering self.now }
     {
         self.first[state.0 as usize]..self.first[state.0 as usize + 1]
     }
@@ -107,12 +108,39 @@ impl<'a> Gotos<'a> {
             × (x.symbol ≡ symbol.0)) }
     {
         let range = self.leaving(state);
-        for number in range.start..range.end {
-            if self.gotos[number].symbol == symbol {
-                return Some(number);
+        let end = range.end;
+        let place = self.first_from(range, symbol);
+        if place < end && self.gotos[place].symbol == symbol {
+            Some(place)
+        } else {
+            None
+        }
+    }
+
+    /// The first of the transitions of a state whose symbol isn't less than one, or the end where there is none.
+    fn first_from(&self, range: Range<usize>, symbol: Sym) -> usize
+        requires within { range.end ≤ length self.now.gotos }
+        requires ordered { range.start ≤ range.end }
+        requires one_state { (n m : ℕ) (x y : spec.Goto) → range.start ≤ n → n < m → m < range.end
+            → slice_get self.now.gotos n ≡ Some x → slice_get self.now.gotos m ≡ Some y → x.symbol < y.symbol }
+        ensures start { range.start ≤ result }
+        ensures end { result ≤ range.end }
+        ensures less { (n : ℕ) (x : spec.Goto) → range.start ≤ n → n < result → slice_get self.now.gotos n ≡ Some x
+            → x.symbol < symbol.0 }
+        ensures not_less { (n : ℕ) (x : spec.Goto) → result ≤ n → n < range.end → slice_get self.now.gotos n ≡ Some x
+            → symbol.0 ≤ x.symbol }
+    {
+        let mut low = range.start;
+        let mut high = range.end;
+        while low < high {
+            let middle = low + (high - low) / 2;
+            if self.gotos[middle].symbol.0 < symbol.0 {
+                low = middle + 1;
+            } else {
+                high = middle;
             }
         }
-        None
+        low
     }
 
     /// The transitions, by number.
