@@ -1,5 +1,5 @@
 -- What is in the merged lookaheads comes out of the relations (DeRemer and Pennello 1982, 4).
-use Rattle.std.proofs.Common.{◌≡◌, ◌≢◌, ◌⊎◌, inl, inr, ℕ, ◌≤◌, List, [], ◌∷◌, ◌++◌, Some, refl, sym, ◌∙◌, ap}
+use Rattle.std.proofs.Common.{◌≡◌, ◌⊎◌, inl, inr, ℕ, ◌≤◌, List, [], ◌∷◌, ◌++◌, Some, refl, sym, ◌∙◌, ap}
 use Rattle.std.proofs.Common.{subst, arith, append-nil}
 use Rattle.ly_base.specs.Lexed.{Token}
 use Rattle.ly_base.specs.Trees.{Tree, Trees, leaf, node, none, more, yield_of, yields_of}
@@ -136,9 +136,8 @@ module _ (G : Grammar) (goto : Gotos) (augmented : IsAugmented G) (automaton : H
   began : {g : List Symbol} {p : ℕ} {before after : List Symbol} {t : ℕ} → Valid G g p before after t → HasNoEnd g
       → Began g p before t
   began (at_start a e) ends = record { under = []; split = refl; follows = inl refl }
-  began
-      (closed {g = g} {p = p} {before = before} {after = after} {B = B} {t = t} {q = q} {r = r} {u = u} v is left ew f)
-      ends =
+  began (closed {g = g} {p = p} {before = before} {after = after} {B = B} {t = t} {q = q} {r = r} {u = u} v is left
+      ew f) ends =
       let i = began v ends in
       let via = automaton.has (nonterminal B ∷ g) ((apart, ends), p, nonterminal B ∷ before, after, (t, moved v)) in
       record {

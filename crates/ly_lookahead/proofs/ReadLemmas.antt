@@ -1,0 +1,124 @@
+-- The least sets along reads are Read, and those along includes Follow.
+use Rattle.std.proofs.Common.{◌≡◌, ◌∙◌, ◌≤◌, ◌↔◌, ℕ, List, Contains, Some, arith, length, refl, slice_get, subst, sym}
+use Rattle.std.proofs.lemmas.Option.{slice_get_within}
+use Rattle.ly_sets.specs.NumberSet.{NumberSet, Member}
+use Rattle.ly_sets.specs.SetMatrix.{row}
+use Rattle.ly_digraph.specs.Digraph.{Digraph, Reaches}
+use Rattle.ly_digraph.specs.Digraph.Reaches.{here, along}
+use Rattle.ly_digraph.specs.Least.{GrowsAlong, IsBetween, IsLeast}
+use Rattle.ly_lr0.specs.Automaton.{Automaton, goto_of}
+use Rattle.ly_relate.specs.Related.{AreEdges, AreRelated, AreRelations, Goto, Relations}
+use Rattle.ly_relate.specs.Relations.{DirectlyReads, Follow, Includes, Read, Reads, along_includes, along_reads}
+use Rattle.ly_relate.specs.Relations.{by_read}
+use Rattle.ly_relate.specs.Relations.{directly}
+use Rattle.ly_lookahead.specs.Private.Sets.{AreDirectSets, AreFollowSets}
+
+-- a solution holds what the nodes hold that it reaches
+along_way : {g : Digraph} {sets : List NumberSet} {i j : ℕ} → GrowsAlong g sets → Reaches g i j → (t : ℕ)
+    → Member (row sets j) t → Member (row sets i) t
+along_way grows (here i) t m = m
+along_way grows (along i j k e way) t m = grows.grows i j t e (along_way grows way t m)
+
+-- what the least rows hold was in a row that they reach
+least_reached : {g : Digraph} {old new : List NumberSet} → IsLeast g old new → IsBetween g old new → (i t : ℕ)
+    → Member (row new i) t ↔ ((j : ℕ) × Reaches g i j × Member (row old j) t)
+least_reached least between i t =
+    (between.reached i t, λ r. along_way least.grows r.1 t (least.holds.holds r.0 t r.2))
+
+-- one number has one transition
+one_goto : (gotos : List Goto) (n : ℕ) (x y : Goto) → slice_get gotos n ≡ Some x → slice_get gotos n ≡ Some y → x ≡ y
+one_goto gotos n x y a b = let e : Some x ≡ Some y = sym a ∙ b in cc
+
+-- an edge that a relation gives is from a transition's number
+edge_within : {gotos : List Goto} (R : ℕ → ℕ → ℕ → ℕ → Type 0) {g : Digraph} → AreEdges gotos (AreRelated gotos R) g
+    → {i j : ℕ} → Reaches g i j → length gotos ≤ i → i ≡ j
+edge_within R are (here i) past = refl
+edge_within {gotos} R are (along i j k e way) past =
+    let r = (are.edges i j).0 e in
+    let lt = slice_get_within gotos i r.0 r.2 in
+    absurd (omega (arith, lt, past))
+
+module _ (M : Automaton) (R : Relations) (are : AreRelations M R) where
+  read_from : {i j t : ℕ} → Reaches R.reads i j → (x : Goto) → slice_get R.gotos i ≡ Some x
+      → Contains R.direct (record { goto = j; terminal = t }) → Read M.grammar (goto_of M) x.from x.symbol t
+  read_from {t = t} (here i) x at has =
+      let d = (are.direct i t).0 has in
+      directly (subst (λ z. DirectlyReads M.grammar (goto_of M) z.from z.symbol t)
+      (one_goto R.gotos i d.0 x d.1 at) d.2)
+  read_from {t = t} (along i j k e way) x at has =
+      let r = (are.reads.edges i j).0 e in
+      along_reads (subst (λ z. Reads M.grammar (goto_of M) z.from z.symbol r.1.from r.1.symbol)
+      (one_goto R.gotos i r.0 x r.2 at) r.4)
+      (read_from {t = t} way r.1 r.3 has)
+
+  read_to : {p A t : ℕ} → Read M.grammar (goto_of M) p A t → (n s : ℕ)
+      → slice_get R.gotos n ≡ Some (record { from = p; symbol = A; target = s })
+      → (j : ℕ) × Reaches R.reads n j × Contains R.direct (record { goto = j; terminal = t })
+  read_to {p} {A} {t} (directly d) n s at =
+      (n, here n, (are.direct n t).1 (record { from = p; symbol = A; target = s }, at, d))
+  read_to {p} {A} {t} (along_reads {r = r} {C = C} x rd) n s at =
+      let there = are.gotos.all r C x.1.0 x.1.1 in
+      let rest = read_to rd there.0 x.1.0 there.1 in
+      let y : Goto = record { from = r; symbol = C; target = x.1.0 } in
+      let e = (are.reads.edges n there.0).1 (record { from = p; symbol = A; target = s }, y, at, there.1, x) in
+      (rest.0, along n there.0 rest.0 e rest.1, rest.2)
+
+  module _ (direct reads follows : List NumberSet) (are_direct : AreDirectSets R.direct direct)
+      (least_reads : IsLeast R.reads direct reads) (between_reads : IsBetween R.reads direct reads)
+      (least_follows : IsLeast R.includes reads follows) (between_follows : IsBetween R.includes reads follows) where
+    -- Read
+    are_reads : (n t : ℕ) (x : Goto) → slice_get R.gotos n ≡ Some x
+        → Member (row reads n) t ↔ Read M.grammar (goto_of M) x.from x.symbol t
+    are_reads n t x at = (to, back) where
+      to : Member (row reads n) t → Read M.grammar (goto_of M) x.from x.symbol t
+      to m =
+          let r = (least_reached least_reads between_reads n t).0 m in
+          read_from {t = t} r.1 x at ((are_direct r.0 t).0 r.2)
+
+      back : Read M.grammar (goto_of M) x.from x.symbol t → Member (row reads n) t
+      back rd =
+          let r = read_to rd n x.target at in
+          (least_reached least_reads between_reads n t).1 (r.0, r.1, (are_direct r.0 t).1 r.2)
+
+    follow_from : {i j t : ℕ} → Reaches R.includes i j → (x : Goto) → slice_get R.gotos i ≡ Some x
+        → Member (row reads j) t → Follow M.grammar (goto_of M) x.from x.symbol t
+    follow_from {t = t} (here i) x at m = by_read ((are_reads i t x at).0 m)
+    follow_from {t = t} (along i j k e way) x at m =
+        let r = (are.includes.edges i j).0 e in
+        along_includes (subst (λ z. Includes M.grammar (goto_of M) z.from z.symbol r.1.from r.1.symbol)
+        (one_goto R.gotos i r.0 x r.2 at) r.4)
+        (follow_from {t = t} way r.1 r.3 m)
+
+    follow_to : {p A t : ℕ} → Follow M.grammar (goto_of M) p A t → (n s : ℕ)
+        → slice_get R.gotos n ≡ Some (record { from = p; symbol = A; target = s })
+        → (j : ℕ) × Reaches R.includes n j × Member (row reads j) t
+    follow_to {p} {A} {t} (by_read rd) n s at =
+        (n, here n, (are_reads n t (record { from = p; symbol = A; target = s }) at).1 rd)
+    follow_to {p} {A} {t} (along_includes {q = q} {B = B} i f) n s at =
+        let to = i.to in
+        let there = are.gotos.all q B to.0 to.1 in
+        let rest = follow_to f there.0 to.0 there.1 in
+        let y : Goto = record { from = q; symbol = B; target = to.0 } in
+        let e = (are.includes.edges n there.0).1 (record { from = p; symbol = A; target = s }, y, at, there.1, i) in
+        (rest.0, along n there.0 rest.0 e rest.1, rest.2)
+
+    -- Follow
+    pub are_follows : AreFollowSets M R.gotos follows
+    are_follows = record { follows = both; fresh = none } where
+      both : (n t : ℕ) (x : Goto) → slice_get R.gotos n ≡ Some x
+          → Member (row follows n) t ↔ Follow M.grammar (goto_of M) x.from x.symbol t
+      both n t x at = (
+        (λ m. let r = (least_reached least_follows between_follows n t).0 m in follow_from {t = t} r.1 x at r.2),
+        (λ f. let r = follow_to f n x.target at in (least_reached least_follows between_follows n t).1 r),
+      )
+
+      none : (i t : ℕ) → length R.gotos ≤ i → Member (row follows i) t → ⊥
+      none i t past m =
+          let r = (least_reached least_follows between_follows i t).0 m in
+          let same = edge_within (Includes M.grammar (goto_of M)) are.includes r.1 past in
+          let read : Member (row reads i) t = subst (λ k. Member (row reads k) t) (sym same) r.2 in
+          let d = (least_reached least_reads between_reads i t).0 read in
+          let here = edge_within (Reads M.grammar (goto_of M)) are.reads d.1 past in
+          let has = (are.direct i t).0 ((are_direct i t).0 (subst (λ k. Member (row direct k) t) (sym here) d.2)) in
+          let lt = slice_get_within R.gotos i has.0 has.1 in
+          omega (arith, lt, past)
