@@ -1,0 +1,3 @@
+pub mod FoundLemmas
+pub mod MeetingLemmas
+pub mod RawLemmas

@@ -1,0 +1,6 @@
+pub mod Actions
+pub mod Conflicts
+pub mod Precedence
+pub mod Private
+pub mod Resolved
+pub mod Values

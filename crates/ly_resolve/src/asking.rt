@@ -1,0 +1,52 @@
+//! What is asked for in the states of an automaton.
+ghost use Rattle.std.specs.Prelude.{◌<◌, ◌↔◌, ℕ, length, AllPairs, Contains, IsTrue, OnOk};
+ghost use Rattle.ly_lookahead.specs.Lookaheads.{AreLookaheads};
+ghost use Rattle.ly_lr0.specs.Automaton.{prefix_of, IsAutomaton};
+ghost use Rattle.ly_resolve.specs.Actions.{reduce, shift, IsRaw};
+
+use ly_base::{StateNo, Sym};
+use ly_join::Symbol;
+use ly_lookahead::Lookaheads;
+use ly_lr0::Lr0;
+use std::alloc::AllocError;
+
+/// Whether a shift is asked for in a state before a terminal. Behind the start symbol that of the end is.
+pub(crate) fn asks_shift(lr0: &Lr0<'_>, state: StateNo, terminal: Sym) -> bool
+    requires lawful { IsAutomaton lr0.now }
+    requires state { state.0 < length lr0.now.states }
+    ensures { IsTrue result ↔ IsRaw lr0.now.grammar (prefix_of lr0.now state.0) terminal.0 shift }
+{
+    if terminal.0 == 0 {
+        let start = lr0.reduced().grammar().start();
+        match lr0.goto(StateNo(0), Symbol::Nonterminal(start)) {
+            Some(accepting) => accepting == state,
+            None => false,
+        }
+    } else {
+        lr0.goto(state, Symbol::Terminal(terminal)).is_some()
+    }
+}
+
+/// Puts the rules into a list by which a reduction is asked for in a state before a terminal, rising.
+pub(crate) fn find_reductions(
+    lr0: &Lr0<'_>,
+    lookaheads: &Lookaheads,
+    state: StateNo,
+    terminal: Sym,
+    found: &mut Vec<usize>,
+) -> Result<(), AllocError>
+    requires lawful { IsAutomaton lr0.now }
+    requires state { state.0 < length lr0.now.states }
+    requires lookaheads { AreLookaheads lr0.now lookaheads.now }
+    ensures these { OnOk result ((p : ℕ) → Contains found.new.items p
+        ↔ IsRaw lr0.now.grammar (prefix_of lr0.now state.0) terminal.0 (reduce p)) }
+    ensures rising { OnOk result (AllPairs (λ p q. p < q) found.new.items) }
+{
+    found.clear();
+    for (place, rule) in lr0.complete(state).iter().enumerate() {
+        if lookaheads.contains(state, place, terminal) {
+            found.push(*rule)?;
+        }
+    }
+    Ok(())
+}

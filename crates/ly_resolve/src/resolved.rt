@@ -1,0 +1,84 @@
+ghost use Rattle.std.specs.Prelude.{◌≡◌, ◌<◌, length, map, slice_get, Some, All};
+ghost use Rattle.ly_grammar.specs.Reduction.{KeepsUseful};
+ghost use Rattle.ly_resolve.specs.Resolved.{AreResolved};
+ghost use Rattle.ly_resolve.specs.Values.{conflict_from, entry_from, IsInside};
+
+use crate::action::Entry;
+use crate::conflict::Conflict;
+use ly_base::StateNo;
+use ly_join::Spec;
+use ly_lr0::Lr0;
+use std::marker::Model;
+
+/// What a parser does in each state of an automaton, and the conflicts.
+#[derive(Drop)]
+pub struct Resolved<'a> {
+    /// The specification.
+    pub(crate) spec: &'a Spec,
+    /// Its automaton.
+    pub(crate) lr0: &'a Lr0<'a>,
+    /// For each state what is done in it, in the order of the terminals.
+    pub(crate) rows: Vec<Vec<Entry>>,
+    /// The conflicts, in their order.
+    pub(crate) conflicts: Vec<Conflict>,
+    /// Whether no two actions are asked for anywhere.
+    pub(crate) conflict_free: bool,
+}
+
+impl<'a> Model for Resolved<'a> {
+    ghost use Rattle.std.specs.Prelude.{map, All};
+    ghost use Rattle.ly_grammar.specs.Reduction.{KeepsUseful};
+    ghost use Rattle.ly_resolve.specs.Resolved as value;
+    ghost use Rattle.ly_resolve.specs.Resolved.{AreResolved};
+    ghost use Rattle.ly_resolve.specs.Values.{conflict_from, entry_from, resolved_from, IsInside};
+
+    ghost Value = { value.Resolved };
+
+    ghost view = { λ r. resolved_from r.spec.now r.lr0.now r.rows.items r.conflicts.items r.conflict_free };
+
+    ghost invariant = { λ r. KeepsUseful r.spec.now.grammar r.lr0.now.grammar
+        × AreResolved r.spec.now r.lr0.now
+        (resolved_from r.spec.now r.lr0.now r.rows.items r.conflicts.items r.conflict_free)
+        × All (IsInside r.lr0.now) r.conflicts.items };
+}
+
+impl<'a> Resolved<'a> {
+    /// The specification.
+    pub fn spec(&self) -> &'a Spec
+        ensures these { result.now ≡ self.now.spec }
+        ensures resolved { AreResolved self.now.spec self.now.automaton self.now }
+    {
+        self.spec
+    }
+
+    /// Its automaton.
+    pub fn lr0(&self) -> &'a Lr0<'a>
+        ensures these { result.now ≡ self.now.automaton }
+        ensures useful { KeepsUseful self.now.spec.grammar self.now.automaton.grammar }
+    {
+        self.lr0
+    }
+
+    /// What is done in a state, in the order of the terminals. Before any other terminal nothing is.
+    pub fn row(&self, state: StateNo) -> &[Entry]
+        requires { state.0 < length self.now.rows }
+        ensures { slice_get self.now.rows state.0 ≡ Some (map entry_from result.now) }
+    {
+        &self.rows[state.0 as usize]
+    }
+
+    /// The conflicts, by state, terminal, kind and rule.
+    pub fn conflicts(&self) -> &[Conflict]
+        ensures these { map (conflict_from self.now.automaton) result.now ≡ self.now.conflicts }
+        ensures inside { All (IsInside self.now.automaton) result.now }
+    {
+        &self.conflicts
+    }
+
+    /// Whether no two actions are asked for in any state before any terminal.
+    pub fn conflict_free(&self) -> bool
+        ensures { result ≡ self.now.conflict_free }
+    {
+        self.conflict_free
+    }
+}

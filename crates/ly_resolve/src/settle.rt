@@ -1,0 +1,135 @@
+ghost use Rattle.std.specs.Prelude.{◌≡◌, ◌<◌, ◌+◌, ◌↔◌, ◌++◌, length, map, All, AllPairs, IfOk, IsTrue, OnOk};
+ghost use Rattle.ly_grammar.specs.Reduction.{KeepsUseful};
+ghost use Rattle.ly_lookahead.specs.Lookaheads.{AreLookaheads};
+ghost use Rattle.ly_lr0.specs.Automaton.{prefix_of, Automaton, IsAutomaton};
+ghost use Rattle.ly_resolve.specs.Actions.{IsDone};
+ghost use Rattle.ly_resolve.specs.Precedence.{judge_of};
+ghost use Rattle.ly_resolve.specs.Private.Found.{AreTold};
+ghost use Rattle.ly_resolve.specs.Private.Meetings.{all_told, AreMany, IsAskedBy};
+ghost use Rattle.ly_resolve.specs.Resolved.{AreResolved, IsRow};
+ghost use Rattle.ly_resolve.specs.Values.{action_from, conflict_from, entry_from, IsInside};
+
+use crate::action::{Action, Entry};
+use crate::asking::{asks_shift, find_reductions};
+use crate::conflict::Conflict;
+use crate::meeting::Meeting;
+use crate::resolved::Resolved;
+use ly_base::{OutOfMemory, StateNo, Sym};
+use ly_join::Spec;
+use ly_lookahead::Lookaheads;
+use ly_lr0::Lr0;
+use std::alloc::{AllocError, Global};
+
+/// Settles what a parser does in each state before each terminal, and finds the conflicts. Each state is gone through
+/// once, terminal by terminal.
+///
+/// `OutOfMemory` comes where a growth was refused.
+pub fn resolve<'a>(
+    alloc: Global,
+    spec: &'a Spec,
+    lr0: &'a Lr0<'a>,
+    lookaheads: &Lookaheads,
+) -> Result<Resolved<'a>, OutOfMemory>
+    requires useful { KeepsUseful spec.now.grammar lr0.now.grammar }
+    requires lookaheads { AreLookaheads lr0.now lookaheads.now }
+    ensures { IfOk result (AreResolved spec.now lr0.now) }
+{
+    let sources = Sources { spec, lr0, lookaheads };
+    let mut rows = Vec::with_capacity(alloc, lr0.states())?;
+    let mut told = Told {
+        conflicts: Vec::new(alloc),
+        conflict_free: true,
+    };
+    for state in 0..lr0.states() {
+        rows.push(resolve_state(alloc, &sources, StateNo(state as u32), &mut told)?)?;
+    }
+    Ok(Resolved {
+        spec,
+        lr0,
+        rows,
+        conflicts: told.conflicts,
+        conflict_free: told.conflict_free,
+    })
+}
+
+/// From what actions are settled.
+#[derive(Clone, Copy)]
+struct Sources<'a> {
+    /// Where precedences stand.
+    spec: &'a Spec,
+    /// The automaton.
+    lr0: &'a Lr0<'a>,
+    /// The lookaheads of its complete rules.
+    lookaheads: &'a Lookaheads,
+}
+
+/// What is told of entries that are settled.
+#[derive(Drop)]
+struct Told {
+    /// Their conflicts.
+    conflicts: Vec<Conflict>,
+    /// Whether none of them asks for two actions.
+    conflict_free: bool,
+}
+
+/// What is done in a state, in the order of the terminals.
+fn resolve_state(
+    alloc: Global,
+    sources: &Sources<'_>,
+    state: StateNo,
+    told: &mut Told,
+) -> Result<Vec<Entry>, OutOfMemory>
+    requires lawful { IsAutomaton sources.now.lr0.now }
+    requires state { state.0 < length sources.now.lr0.now.states }
+    requires lookaheads { AreLookaheads sources.now.lr0.now sources.now.lookaheads.now }
+    requires told { AreTold sources.now.lr0.now (judge_of sources.now.spec.now) state.0 0
+        (map (conflict_from sources.now.lr0.now) told.old.conflicts.items) told.old.conflict_free }
+    requires inside { All (IsInside sources.now.lr0.now) told.old.conflicts.items }
+    ensures row { IfOk result (λ row. IsRow sources.now.lr0.now.grammar (judge_of sources.now.spec.now)
+        (prefix_of sources.now.lr0.now state.0) (map entry_from row.items)) }
+    ensures told { OnOk result (AreTold sources.now.lr0.now (judge_of sources.now.spec.now) (state.0 + 1) 0
+        (map (conflict_from sources.now.lr0.now) told.new.conflicts.items) told.new.conflict_free) }
+    ensures inside { OnOk result (All (IsInside sources.now.lr0.now) told.new.conflicts.items) }
+{
+    let mut row = Vec::new(alloc);
+    let mut reductions = Vec::new(alloc);
+    for terminal in 0..sources.lr0.reduced().grammar().terminals() {
+        let terminal = Sym(terminal);
+        find_reductions(sources.lr0, sources.lookaheads, state, terminal, &mut reductions)?;
+        let meeting = Meeting {
+            spec: sources.spec,
+            terminal,
+            shift: asks_shift(sources.lr0, state, terminal),
+            reductions: &reductions,
+        };
+        if let Some(action) = meeting.action() {
+            row.push(Entry { terminal, action })?;
+            told.tell(&meeting, state, action)?;
+        }
+    }
+    Ok(row)
+}
+
+impl Told {
+    /// Adds the conflicts of one more entry, where more than one action is asked for.
+    fn tell(&mut self, meeting: &Meeting<'_>, state: StateNo, choice: Action) -> Result<(), AllocError>
+        requires rising { AllPairs (λ p q. p < q) meeting.now.reductions.now }
+        requires choice { IsDone (IsAskedBy meeting.now.shift meeting.now.reductions.now)
+            (λ p. judge_of meeting.now.spec.now p meeting.now.terminal.0) (action_from choice) }
+        ensures told { OnOk result ((M : Automaton) → map (conflict_from M) self.new.conflicts.items
+            ≡ map (conflict_from M) self.old.conflicts.items ++ all_told (prefix_of M state.0) meeting.now.terminal.0
+            meeting.now.shift meeting.now.reductions.now
+            (λ p. judge_of meeting.now.spec.now p meeting.now.terminal.0) (action_from choice)) }
+        ensures inside { OnOk result ((M : Automaton) → state.0 < length M.states
+            → meeting.now.terminal.0 < M.grammar.terminals → All (IsInside M) self.old.conflicts.items
+            → All (IsInside M) self.new.conflicts.items) }
+        ensures free { OnOk result (IsTrue self.new.conflict_free ↔ (IsTrue self.old.conflict_free
+            × (AreMany meeting.now.shift meeting.now.reductions.now → ⊥))) }
+    {
+        if meeting.is_many() {
+            self.conflict_free = false;
+            meeting.push_conflicts(state, choice, &mut self.conflicts)?;
+        }
+        Ok(())
+    }
+}

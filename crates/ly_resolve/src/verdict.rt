@@ -1,0 +1,72 @@
+ghost use Rattle.std.specs.Prelude.{◌≡◌};
+ghost use Rattle.ly_resolve.specs.Precedence.{between_equals, by_levels, judge_of, rule_precedence, token_precedence};
+ghost use Rattle.ly_resolve.specs.Private.Verdicts.{verdict_from};
+
+use ly_base::Sym;
+use ly_join::{Associativity, Precedence, Spec};
+use std::cmp::Ordering;
+
+/// What precedence says of a shift against a reduction.
+#[derive(Clone, Copy, Debug, PartialEq, Eq)]
+pub(crate) enum Verdict {
+    /// That the shift is taken.
+    Shift,
+    /// That the reduction is taken.
+    Reduce,
+    /// That neither is.
+    Error,
+    /// Nothing.
+    Unsettled,
+}
+
+/// What the precedences of a specification say of a rule against a shift of a terminal.
+pub(crate) fn judge(spec: &Spec, rule: usize, terminal: Sym) -> Verdict
+    ensures { verdict_from result ≡ judge_of spec.now rule terminal.0 }
+{
+    match (precedence_of_rule(spec, rule), precedence_of_token(spec, terminal)) {
+        (Some(rule), Some(token)) => between(rule, token),
+        _ => Verdict::Unsettled,
+    }
+}
+
+/// The precedence of a rule, if it has one.
+fn precedence_of_rule(spec: &Spec, rule: usize) -> Option<Precedence>
+    ensures { result ≡ rule_precedence spec.now rule }
+{
+    match spec.notes().get(rule) {
+        Some(note) => note.precedence,
+        None => None,
+    }
+}
+
+/// The precedence of a terminal, if it has one.
+fn precedence_of_token(spec: &Spec, terminal: Sym) -> Option<Precedence>
+    ensures { result ≡ token_precedence spec.now terminal.0 }
+{
+    match spec.precedences().get(terminal.0 as usize) {
+        Some(precedence) => *precedence,
+        None => None,
+    }
+}
+
+/// The higher precedence wins; between equals associativity decides.
+fn between(rule: Precedence, token: Precedence) -> Verdict
+    ensures { verdict_from result ≡ by_levels rule token }
+{
+    match rule.level.cmp(&token.level) {
+        Ordering::Greater => Verdict::Reduce,
+        Ordering::Less => Verdict::Shift,
+        Ordering::Equal => for_associativity(token.associativity),
+    }
+}
+
+/// Between equals left is for the reduction, right for the shift.
+fn for_associativity(associativity: Associativity) -> Verdict
+    ensures { verdict_from result ≡ between_equals associativity }
+{
+    match associativity {
+        Associativity::Left => Verdict::Reduce,
+        Associativity::Right => Verdict::Shift,
+        Associativity::Nonassociative => Verdict::Error,
+    }
+}
