@@ -1,6 +1,7 @@
 -- What one more entry and one more state do to what was found.
-use Rattle.std.proofs.Common.{◌≡◌, ◌∙◌, ◌⊎◌, inl, inr, ◌↔◌, ℕ, zero, suc, ◌+◌, ◌<◌, ◌≤◌, List, [], ◌∷◌, ◌++◌, Bool, true}
-use Rattle.std.proofs.Common.{Contains, IsTrue, ap, arith, length, refl, subst, sym}
+use Rattle.std.proofs.Common.{◌≡◌, ◌∙◌, ◌⊎◌, inl, inr, ◌↔◌, ℕ, zero, suc, ◌+◌, ◌<◌, ◌≤◌, List, [], ◌∷◌, ◌++◌, Bool}
+use Rattle.std.proofs.Common.{true}
+use Rattle.std.proofs.Common.{Contains, IsTrue, ap, arith, length, map, refl, slice_get, subst, sym, Some}
 use Rattle.std.specs.List.{AllPairs}
 use Rattle.std.proofs.lemmas.Bool.{cases_eq, cases_lt}
 use Rattle.std.proofs.lemmas.List.Elements.{Contains-append_cases, Contains-append_left, Contains-append_right}
@@ -9,16 +10,26 @@ use Rattle.ly_join.specs.Grammar.{Grammar, Symbol}
 use Rattle.ly_grammar.specs.Items.{IsViable, Merges}
 use Rattle.ly_lr0.specs.Automaton.{Automaton, ComesBefore, IsAutomaton, Reaches, goto_of, prefix_of}
 use Rattle.ly_lr0.proofs.OrderLemmas.{before_trans, less_off}
-use Rattle.ly_resolve.specs.Actions.{Action, Judge, Stays, Verdict, IsAction, IsConflictFree, IsDone, IsRaw, error, reduce}
+use Rattle.ly_resolve.specs.Actions.{Action, Judge, Stays, Verdict, IsAction, IsConflictFree, IsDone, IsRaw, error}
+use Rattle.ly_resolve.specs.Actions.{reduce}
 use Rattle.ly_resolve.specs.Actions.{shift}
 use Rattle.ly_resolve.specs.Conflicts.{AreConflicts, Conflict, CountsAs, IsBefore, IsConflict, IsCounted, IsLeast, Kind}
 use Rattle.ly_resolve.specs.Conflicts.{reduce_reduce, shift_reduce}
 use Rattle.ly_resolve.specs.Private.Found.{AreEntries, AreSingle, AreTold, IsPast, IsToldOf}
 use Rattle.ly_resolve.specs.Private.Meetings.{all_told, AreAsked, AreMany, IsAskedBy}
-use Rattle.ly_resolve.specs.Resolved.{Entry, IsRow}
-use Rattle.ly_resolve.proofs.MeetingLemmas.{AllPairs-append, IsToldAt, counts_too, done_once, done_too, not_single, single}
+use Rattle.ly_join.specs.Joined.{Spec}
+use Rattle.ly_resolve.specs.Precedence.{judge_of}
+use Rattle.ly_resolve.specs.Resolved.{AreResolved, Entry, IsRow}
+use Rattle.ly_resolve.specs.Values.{conflict_from, entry_from, resolved_from}
+use Rattle.ly_resolve.specs.declared.action.Entry as code
+use Rattle.ly_resolve.specs.declared.conflict.Conflict as conflict
+use Rattle.std.specs.declared.alloc.Global.{Global}
+use Rattle.std.specs.declared.vec.Vec.{Vec}
+use Rattle.std.proofs.lemmas.List.{length-map}
+use Rattle.ly_resolve.proofs.MeetingLemmas.{AllPairs-append, IsToldAt, counts_too, done_once, done_too, not_single}
+use Rattle.ly_resolve.proofs.MeetingLemmas.{single}
 use Rattle.ly_resolve.proofs.MeetingLemmas.{told_are, told_ordered}
-use Rattle.ly_resolve.proofs.RawLemmas.{merges_back, raw_too, raw_within, reached_merges, reached_within}
+use Rattle.ly_resolve.proofs.RawLemmas.{merges_back, raw_too, prefix_at, raw_within, reached_merges, reached_within}
 use Rattle.ly_resolve.proofs.RawLemmas.{viable}
 
 -- what is asked for is so by the items
@@ -110,9 +121,9 @@ module _ (M : Automaton) (is : IsAutomaton M) (judge : Judge) (s t : ℕ) (lt : 
     told_there {c} told state terminal =
         let prefix : c.prefix ≡ prefix_of M s = told.prefix ∙ ap (prefix_of M) state in
         let counted = subst (λ g. IsCounted M.grammar judge g t c.kind c.rule) prefix
-            (subst (λ u. IsCounted M.grammar judge c.prefix u c.kind c.rule) terminal told.counted) in
+        (subst (λ u. IsCounted M.grammar judge c.prefix u c.kind c.rule) terminal told.counted) in
         let choice = subst (λ g. IsAction M.grammar judge g t c.choice) prefix
-            (subst (λ u. IsAction M.grammar judge c.prefix u c.choice) terminal told.choice) in
+        (subst (λ u. IsAction M.grammar judge c.prefix u c.choice) terminal told.choice) in
         record {
           prefix = prefix;
           terminal = terminal;
@@ -178,7 +189,7 @@ module _ (M : Automaton) (is : IsAutomaton M) (judge : Judge) (s t : ℕ) (lt : 
           | inr here ↦
               let at : (z : Action) → IsRaw M.grammar (prefix_of M k) u z → IsAskedBy sh rs z
               = λ z r. (asked_same asked z).1 (subst (λ n. IsRaw M.grammar (prefix_of M s) n z) here.1
-                  (subst (λ n. IsRaw M.grammar (prefix_of M n) u z) here.0 r)) in
+              (subst (λ n. IsRaw M.grammar (prefix_of M n) u z) here.0 r)) in
               single sh rs (flag.0 held).1 x y (at x rx) (at y ry)
         ]
 
@@ -195,7 +206,8 @@ module _ (M : Automaton) (is : IsAutomaton M) (judge : Judge) (s t : ℕ) (lt : 
     not_here k u a e f raw = nothing a (subst (λ n. IsRaw M.grammar (prefix_of M s) n a) f
         (subst (λ n. IsRaw M.grammar (prefix_of M n) u a) e raw))
 
-    pub told_nothing : (cs : List Conflict) (free : Bool) → AreTold M judge s t cs free → AreTold M judge s (t + 1) cs free
+    pub told_nothing : (cs : List Conflict) (free : Bool) → AreTold M judge s t cs free
+        → AreTold M judge s (t + 1) cs free
     told_nothing cs free before = record {
       are = λ c. (
         λ has. told_before ((before.are c).0 has),
@@ -210,7 +222,7 @@ module _ (M : Automaton) (is : IsAutomaton M) (judge : Judge) (s t : ℕ) (lt : 
           })
           | inr here ↦
               let raw = counts_asks (IsRaw M.grammar c.prefix c.terminal) (λ p. judge p c.terminal) c.kind c.rule
-                  of.counted in
+              of.counted in
               absurd (not_here of.state c.terminal raw.0 here.0 here.1
               (subst (λ g. IsRaw M.grammar g c.terminal raw.0) of.prefix raw.1))
         ],
@@ -231,7 +243,7 @@ module _ (M : Automaton) (is : IsAutomaton M) (judge : Judge) (s t : ℕ) (lt : 
       are = λ x. (
         λ has. let w = (before.are x).0 has in (let less = w.0 in omega (arith, less), w.1),
         λ w. elim (cases_eq x.terminal t) [
-          | inl e ↦ 
+          | inl e ↦
               let raw = done_asks (IsRaw M.grammar (prefix_of M s) x.terminal) (λ p. judge p x.terminal) x.action w.1 in
               absurd (not_here s x.terminal raw.0 refl e raw.1)
           | inr off ↦ (before.are x).1 (let less = w.0 in omega (arith, less, off), w.1)
@@ -276,7 +288,7 @@ module _ (M : Automaton) (is : IsAutomaton M) (judge : Judge) (s t : ℕ) (lt : 
       is_last : (x : Entry) → x.terminal ≡ t → IsAction M.grammar judge (prefix_of M s) x.terminal x.action → last ≡ x
       is_last x e other =
           let same : a ≡ x.action = done_once (IsRaw M.grammar (prefix_of M s) t) (λ p. judge p t) a x.action action
-              (subst (λ n. IsAction M.grammar judge (prefix_of M s) n x.action) e other) in
+          (subst (λ n. IsAction M.grammar judge (prefix_of M s) n x.action) e other) in
           let made : ℕ → Action → Entry = λ n b. record { terminal = n; action = b } in
           ap (λ n. made n a) (sym e) ∙ ap (made x.terminal) same
 
@@ -297,8 +309,8 @@ module _ (M : Automaton) (is : IsAutomaton M) (judge : Judge) where
       λ has. ((before.are x).0 has).1,
       λ action. (before.are x).1 (
         let raw = done_asks (IsRaw M.grammar (prefix_of M s) x.terminal) (λ p. judge p x.terminal) x.action action in
-        let less = raw_within M.grammar is.augmented (prefix_of M s) x.terminal raw.0 raw.1 in
-        omega (arith, less, le),
+            let less = raw_within M.grammar is.augmented (prefix_of M s) x.terminal raw.0 raw.1 in
+            omega (arith, less, le),
         action,
       ),
     );
@@ -325,7 +337,7 @@ module _ (M : Automaton) (is : IsAutomaton M) (judge : Judge) where
         prefix = of.prefix;
         past =
             let raw = counts_asks (IsRaw M.grammar c.prefix c.terminal) (λ p. judge p c.terminal) c.kind c.rule
-                of.counted in
+            of.counted in
             past c.prefix of.state c.terminal raw.0 raw.1 of.past;
         counted = of.counted;
         choice = of.choice;
@@ -353,28 +365,35 @@ module _ (M : Automaton) (is : IsAutomaton M) (judge : Judge) where
 
   -- THE WHOLE AUTOMATON
 
-  state_of : (g : List Symbol) → IsViable M.grammar g → (s : ℕ) × (s < length M.states) × Merges M.grammar (prefix_of M s) g
+  state_of : (g : List Symbol) → IsViable M.grammar g → (s : ℕ) × (s < length M.states)
+      × Merges M.grammar (prefix_of M s) g
   state_of g v =
       let r = is.cores.has g v in
       let lt = reached_within M is g r.0 r.1 in
       (r.0, lt, reached_merges M is g r.0 lt r.1)
 
   prefix_least : (s : ℕ) → s < length M.states → IsLeast M.grammar (prefix_of M s)
-  prefix_least s lt = (viable M is s lt, λ h m.
-      let r = is.cores.has h m.right in
-      let same : r.0 ≡ s = is.cores.one h (prefix_of M s) r.0 s r.1 (is.numbered.leads s lt) (merges_back m).cores in
-      is.numbered.least s h (subst (Reaches (goto_of M) 0 h) same r.1))
+  prefix_least s lt = (
+    viable M is s lt,
+    λ h m.
+        let r = is.cores.has h m.right in
+        let same : r.0 ≡ s = is.cores.one h (prefix_of M s) r.0 s r.1 (is.numbered.leads s lt) (merges_back m).cores in
+        is.numbered.least s h (subst (Reaches (goto_of M) 0 h) same r.1),
+  )
 
   least_prefix : (g : List Symbol) → IsLeast M.grammar g → (s : ℕ) × (s < length M.states) × (g ≡ prefix_of M s)
   least_prefix g (v, least) =
-      let (s, lt, m) = state_of g v in
-      (s, lt, elim (least (prefix_of M s) (merges_back m)) [
-        | inl e ↦ sym e
-        | inr before ↦ elim ((prefix_least s lt).1 g m) [
-          | inl e ↦ e
-          | inr after ↦ absurd (before_off g (before_trans g (prefix_of M s) g before after))
-        ]
-      ])
+      let (s, lt, m) = state_of g v in (
+        s,
+        lt,
+        elim (least (prefix_of M s) (merges_back m)) [
+          | inl e ↦ sym e
+          | inr before ↦ elim ((prefix_least s lt).1 g m) [
+            | inl e ↦ e
+            | inr after ↦ absurd (before_off g (before_trans g (prefix_of M s) g before after))
+          ]
+        ],
+      )
 
   pub told_all : (n : ℕ) (cs : List Conflict) (free : Bool) → length M.states ≤ n → AreTold M judge n 0 cs free
       → AreConflicts M.grammar judge cs × (IsTrue free ↔ IsConflictFree M.grammar)
@@ -404,3 +423,35 @@ module _ (M : Automaton) (is : IsAutomaton M) (judge : Judge) where
 
     back : IsConflictFree M.grammar → IsTrue free
     back all = told.free.1 (λ k u a b lt past x y. all (prefix_of M k) u a b (viable M is k lt) x y)
+
+-- ROW BY ROW
+
+-- what holds of rows and of one more holds of them all
+pub rows_more : {X Y : Type 0} (f : X → Y) (P : ℕ → Y → Type 0) (xs : List X) (x : X)
+    → ((k : ℕ) (y : Y) → slice_get (map f xs) k ≡ Some y → P k y) → P (length xs) (f x)
+    → (k : ℕ) (y : Y) → slice_get (map f (xs ++ x ∷ [])) k ≡ Some y → P k y
+rows_more f P [] x all last zero y at = let same : f x ≡ y = cc in subst (P 0) same last
+rows_more f P [] x all last (suc k) y at = absurd (cc)
+rows_more f P (z ∷ xs) x all last zero y at = all 0 y at
+rows_more f P (z ∷ xs) x all last (suc k) y at
+    = rows_more f (λ n. P (suc n)) xs x (λ n w e. all (suc n) w e) last k y at
+
+-- once all states are gone through, all is resolved
+pub all_resolved : (s : Spec) (M : Automaton) (n : ℕ) (rows : List (Vec code.Entry Global))
+    (cs : List conflict.Conflict)
+    (free : Bool) → IsAutomaton M → n ≡ length M.states → length rows ≡ n
+    → ((k : ℕ) (row : List Entry) → slice_get (map (λ r. map entry_from r.items) rows) k ≡ Some row
+    → IsRow M.grammar (judge_of s) (prefix_of M k) row)
+    → AreTold M (judge_of s) n 0 (map (conflict_from M) cs) free → AreResolved s M (resolved_from s M rows cs free)
+all_resolved s M n rows cs free is count long each told =
+    let le : length M.states ≤ n = omega (arith, count) in
+    let all = told_all M is (judge_of s) n (map (conflict_from M) cs) free le told in
+    record {
+      spec = refl;
+      automaton = refl;
+      states = length-map rows (λ r. map entry_from r.items) ∙ (long ∙ count);
+      rows = λ k q row at there. subst (λ g. IsRow M.grammar (judge_of s) g row) (prefix_at M k q at)
+          (each k row there);
+      conflicts = all.0;
+      free = all.1;
+    }

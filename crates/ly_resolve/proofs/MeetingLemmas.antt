@@ -1,7 +1,9 @@
 -- What is done and what is counted where some actions are asked for.
-use Rattle.std.proofs.Common.{◌≡◌, ◌∙◌, ◌⊎◌, inl, inr, ◌↔◌, ℕ, zero, suc, ◌<◌, ◌≤◌, List, [], ◌∷◌, ◌++◌, Bool, true, false}
+use Rattle.std.proofs.Common.{◌≡◌, ◌∙◌, ◌⊎◌, inl, inr, ◌↔◌, ℕ, zero, suc, ◌<◌, ◌≤◌, List, [], ◌∷◌, ◌++◌, Bool, true}
+use Rattle.std.proofs.Common.{false}
 use Rattle.std.proofs.Common.{append-nil, slice_index_or, take, ◌+◌}
-use Rattle.std.proofs.Common.{Some, Contains, IsTrue, ap, arith, cond, length, map, not, nat_eq, refl, slice_get, subst, sym, ◌&&◌, ◌||◌}
+use Rattle.std.proofs.Common.{Some, Contains, IsTrue, ap, arith, cond, length, map, not, nat_eq, refl, slice_get, subst}
+use Rattle.std.proofs.Common.{sym, ◌&&◌, ◌||◌}
 use Rattle.std.specs.List.{All, AllPairs, filter}
 use Rattle.std.proofs.lemmas.Bool.{cases_eq, cases_lt, cases_order, eq-eqb, ne_eqb}
 use Rattle.std.proofs.lemmas.List.{map-append, take_more}
@@ -10,7 +12,8 @@ use Rattle.std.proofs.lemmas.List.Elements.{All-contains_itself, All-weaker, Con
 use Rattle.std.proofs.lemmas.List.Elements.{Contains-append_left, Contains-append_right}
 use Rattle.std.proofs.lemmas.List.Kept.{AllPairs-cons, AllPairs-filter}
 use Rattle.std.proofs.lemmas.Option.{get_or_from_slice_get, slice_get-get_or, slice_get_within}
-use Rattle.ly_base.proofs.MemberLemmas.{Contains-cons_cases, Contains-first, Contains-later, Contains-none, Contains-one}
+use Rattle.ly_base.proofs.MemberLemmas.{Contains-cons_cases, Contains-first, Contains-later, Contains-none}
+use Rattle.ly_base.proofs.MemberLemmas.{Contains-one}
 use Rattle.ly_join.specs.Grammar.{Grammar, Symbol}
 use Rattle.ly_join.proofs.ListLemmas.{in_mapped, mapped_in, member_at, placed}
 use Rattle.ly_resolve.specs.Actions.{Action, LeavesShift, Stays, Verdict, IsDone, IsRaw, error, reduce, shift, to_error}
@@ -91,8 +94,14 @@ module _ (A : Action → Type 0) (v : ℕ → Verdict) where
   -- where two actions are counted against each other, there are two
   pub counts_many : (k : Kind) (p : ℕ) → CountsAs A v k p → (a : Action) × (b : Action) × A a × A b × (a ≡ b → ⊥)
   counts_many shift_reduce p c = (shift, reduce p, c.0, c.1, λ e. (let no : shift ≡ reduce p → ⊥ = λ z. cc in no e))
-  counts_many reduce_reduce p c = (reduce p, reduce c.1, c.0.0, c.3.0, λ e.
-      let same : p ≡ c.1 = cc in let less = c.2 in omega (arith, same, less))
+  counts_many reduce_reduce p c = (
+    reduce p,
+    reduce c.1,
+    c.0.0,
+    c.3.0,
+    λ e.
+        let same : p ≡ c.1 = cc in let less = c.2 in omega (arith, same, less),
+  )
 
 -- WHAT IS COUNTED, BY TRUTH VALUES
 
@@ -156,7 +165,7 @@ module _ (s : Bool) (rs : List ℕ) (v : ℕ → Verdict) (a : Action) (done : I
     ap (λ x. x && (not s || is_for_reduction (v p))) (is_not_chosen a p (λ e.
         let least = (subst (IsDone (IsAskedBy s rs) v) e done).1 c.1 c.3 in let less = c.2 in
         omega (arith, least, less)))
-    ∙ stays_by s (v p) c.0.1,
+        ∙ stays_by s (v p) c.0.1,
   )
 
 -- LISTS
@@ -190,7 +199,8 @@ in_filter t (y ∷ xs) x has h = elim (Contains-cons_cases y xs x has) [
     at false later = later
 
 -- what a list begins with stands before all that is in it
-first_before : {X : Type 0} (R : X → X → Type 0) (x : X) (xs : List X) → AllPairs R (x ∷ xs) → (y : X) → Contains xs y → R x y
+first_before : {X : Type 0} (R : X → X → Type 0) (x : X) (xs : List X) → AllPairs R (x ∷ xs) → (y : X) → Contains xs y
+    → R x y
 first_before R x xs pairs y has = at (placed xs y has) where
   at : (k : ℕ) × (slice_get xs k ≡ Some y) → R x y
   at (k, e) = subst (R x) (get_or_from_slice_get xs k y y e)
@@ -231,7 +241,8 @@ abbrev conflict_at : List Symbol → ℕ → Action → Kind → ℕ → Conflic
 conflict_at g t a k p = record { prefix = g; terminal = t; kind = k; rule = p; choice = a }
 
 -- What a conflict says that is told at a string before a terminal.
-pub record IsToldAt (g : List Symbol) (t : ℕ) (A : Action → Type 0) (v : ℕ → Verdict) (a : Action) (c : Conflict) : Type 0 where
+pub record IsToldAt (g : List Symbol) (t : ℕ) (A : Action → Type 0) (v : ℕ → Verdict) (a : Action)
+    (c : Conflict) : Type 0 where
   pub prefix : c.prefix ≡ g
   pub terminal : c.terminal ≡ t
   pub choice : c.choice ≡ a
@@ -243,8 +254,7 @@ module _ (g : List Symbol) (t : ℕ) (s : Bool) (rs : List ℕ) (v : ℕ → Ver
       → (c.kind ≡ k) × IsToldAt g t (IsAskedBy s rs) v a c
   told_kind k c has =
       let w = in_mapped (conflict_at g t a k) (filter (is_counted s v a k) rs) c has in
-      let r = filter_in (is_counted s v a k) rs w.0 w.1 in
-      (
+      let r = filter_in (is_counted s v a k) rs w.0 w.1 in (
         ap (λ x. x.kind) (sym w.2),
         record {
           prefix = ap (λ x. x.prefix) (sym w.2);
@@ -258,7 +268,8 @@ module _ (g : List Symbol) (t : ℕ) (s : Bool) (rs : List ℕ) (v : ℕ → Ver
   told_here : (k : Kind) (c : Conflict) → c.kind ≡ k → IsToldAt g t (IsAskedBy s rs) v a c
       → Contains (told g t s rs v a k) c
   told_here k c e is =
-      let counts : CountsAs (IsAskedBy s rs) v k c.rule = subst (λ x. CountsAs (IsAskedBy s rs) v x c.rule) e is.counts in
+      let counts : CountsAs (IsAskedBy s rs) v k c.rule = subst
+      (λ x. CountsAs (IsAskedBy s rs) v x c.rule) e is.counts in
       let r = counted_back s rs v a done k c.rule counts in
       let same : conflict_at g t a k c.rule ≡ c = conflict_is c k e is in
       subst (Contains (told g t s rs v a k)) same
@@ -292,8 +303,16 @@ module _ (g : List Symbol) (t : ℕ) (s : Bool) (rs : List ℕ) (v : ℕ → Ver
 
   told_rises : (k : Kind) → AllPairs (λ p q. p < q) rs → AllPairs IsBefore (told g t s rs v a k)
   told_rises k rising = AllPairs-map IsBefore (conflict_at g t a k) (filter (is_counted s v a k) rs)
-      (λ i j d l m. inr (refl, inr (refl, inr (refl,
-          AllPairs-filter (λ p q. p < q) (is_counted s v a k) rs rising i j d l m))))
+      (λ i j d l m. inr (
+        refl,
+        inr (
+          refl,
+          inr (
+            refl,
+            AllPairs-filter (λ p q. p < q) (is_counted s v a k) rs rising i j d l m,
+          ),
+        ),
+      ))
 
   -- in order
   pub told_ordered : AllPairs (λ p q. p < q) rs → AllPairs IsBefore (all_told g t s rs v a)
@@ -325,7 +344,8 @@ some_member [] p has = Contains-none p has
 some_member (r ∷ rs) p has = omega arith
 
 -- where not many actions are asked for, there is one
-pub single : (s : Bool) (rs : List ℕ) → (AreMany s rs → ⊥) → (a b : Action) → IsAskedBy s rs a → IsAskedBy s rs b → a ≡ b
+pub single : (s : Bool) (rs : List ℕ) → (AreMany s rs → ⊥) → (a b : Action) → IsAskedBy s rs a → IsAskedBy s rs b → a
+    ≡ b
 single s rs few shift shift x y = refl
 single s rs few shift (reduce q) x y = absurd (few (inr (x, some_member rs q y)))
 single s rs few shift error x y = absurd y
@@ -342,7 +362,7 @@ pub not_single : (s : Bool) (rs : List ℕ) → AllPairs (λ p q. p < q) rs → 
     → ((a b : Action) → IsAskedBy s rs a → IsAskedBy s rs b → a ≡ b) → ⊥
 not_single s (p ∷ q ∷ rs) rising (inl le) one =
     let same = one (reduce p) (reduce q) (Contains-first p (q ∷ rs))
-        (Contains-later p (q ∷ rs) q (Contains-first q rs)) in
+    (Contains-later p (q ∷ rs) q (Contains-first q rs)) in
     let e : p ≡ q = cc in
     let less : p < q = rising 0 1 p (omega arith) (omega arith) in
     omega (arith, e, less)
@@ -365,7 +385,6 @@ told_none g t s rs v a done rising few = empty (all_told g t s rs v a) (λ c has
     empty : (cs : List Conflict) → ((c : Conflict) → Contains cs c → ⊥) → cs ≡ []
     empty [] off = refl
     empty (c ∷ cs) off = absurd (off c (Contains-first c cs))
-
 
 -- RULE BY RULE
 
@@ -420,11 +439,11 @@ module _ (s : Bool) (rs : List ℕ) (v : ℕ → Verdict) (i : ℕ) where
   told_rule g t a k lt counted =
       ap (λ w. map (conflict_at g t a k) (filter (is_counted s v a k) w)) (take_more rs i 0 lt)
       ∙ ap (map (conflict_at g t a k))
-          (filter-append (is_counted s v a k) (take i rs) (slice_index_or rs i 0 ∷ []))
+      (filter-append (is_counted s v a k) (take i rs) (slice_index_or rs i 0 ∷ []))
       ∙ map-append (conflict_at g t a k) (filter (is_counted s v a k) (take i rs))
-          (filter (is_counted s v a k) (slice_index_or rs i 0 ∷ []))
+      (filter (is_counted s v a k) (slice_index_or rs i 0 ∷ []))
       ∙ ap (λ b. told g t s (take i rs) v a k
-          ++ map (conflict_at g t a k) (cond b (slice_index_or rs i 0 ∷ []) [])) counted
+      ++ map (conflict_at g t a k) (cond b (slice_index_or rs i 0 ∷ []) [])) counted
 
   pub told_past : (g : List Symbol) (t : ℕ) (a : Action) (k : Kind) → i < length rs
       → is_counted s v a k (slice_index_or rs i 0) ≡ false
@@ -432,11 +451,11 @@ module _ (s : Bool) (rs : List ℕ) (v : ℕ → Verdict) (i : ℕ) where
   told_past g t a k lt counted =
       ap (λ w. map (conflict_at g t a k) (filter (is_counted s v a k) w)) (take_more rs i 0 lt)
       ∙ ap (map (conflict_at g t a k))
-          (filter-append (is_counted s v a k) (take i rs) (slice_index_or rs i 0 ∷ []))
+      (filter-append (is_counted s v a k) (take i rs) (slice_index_or rs i 0 ∷ []))
       ∙ map-append (conflict_at g t a k) (filter (is_counted s v a k) (take i rs))
-          (filter (is_counted s v a k) (slice_index_or rs i 0 ∷ []))
+      (filter (is_counted s v a k) (slice_index_or rs i 0 ∷ []))
       ∙ ap (λ b. told g t s (take i rs) v a k
-          ++ map (conflict_at g t a k) (cond b (slice_index_or rs i 0 ∷ []) [])) counted
+      ++ map (conflict_at g t a k) (cond b (slice_index_or rs i 0 ∷ []) [])) counted
       ∙ append-nil (told g t s (take i rs) v a k)
 
 -- where no reduction stays and no shift is asked for, nothing is

@@ -1,7 +1,10 @@
 -- Actions that are asked for at strings of one core, and by what stands in an automaton.
 use Rattle.std.proofs.Common.{◌≡◌, ◌≢◌, ◌∙◌, ◌⊎◌, inl, inr, ◌↔◌, ℕ, zero, suc, ◌<◌, ◌≤◌, List, [], ◌∷◌, ◌++◌, Some}
-use Rattle.std.proofs.Common.{◌+◌, All, Contains, ap, arith, length, map, option_map, refl, slice_get, slice_index_or, subst, sym}
-use Rattle.std.proofs.lemmas.Bool.{cases_eq}
+use Rattle.std.proofs.Common.{◌+◌, All, Contains, ap, arith, length, map, option_map, refl, slice_get, slice_index_or}
+use Rattle.std.proofs.Common.{subst, sym}
+use Rattle.std.proofs.Common.{Bool, IsTrue, None, Option, false, is_some, nat_eq, true}
+use Rattle.std.proofs.lemmas.Bool.{cases_eq, eq-eqb, ne_eqb}
+use Rattle.ly_base.specs.declared.numbers.StateNo.{StateNo}
 use Rattle.std.proofs.lemmas.List.Elements.{All-head, All-tail, Contains-append_cases, Contains-append_left}
 use Rattle.std.proofs.lemmas.List.Elements.{Contains-append_right}
 use Rattle.std.specs.List.{AllPairs}
@@ -10,11 +13,13 @@ use Rattle.ly_resolve.proofs.MeetingLemmas.{AllPairs-append}
 use Rattle.std.proofs.lemmas.Option.{get_or_from_slice_get, slice_get-get_or, slice_get-map, slice_get_within}
 use Rattle.ly_base.specs.Lexed.{Token}
 use Rattle.ly_base.specs.Trees.{Tree, Trees, leaf, node, none, more, yield_of, yields_of}
-use Rattle.ly_join.specs.Grammar.{Grammar, IsAugmented, IsRule, Rule, RuleWithin, Symbol, SymbolWithin, nonterminal, terminal}
+use Rattle.ly_join.specs.Grammar.{Grammar, IsAugmented, IsRule, Rule, RuleWithin, Symbol, SymbolWithin, nonterminal}
+use Rattle.ly_join.specs.Grammar.{terminal}
 use Rattle.ly_join.specs.Grammar.{accept_rule}
 use Rattle.ly_join.proofs.ListLemmas.{member_at, placed}
 use Rattle.ly_grammar.specs.Derivations.{AreTrees, First, IsTree}
-use Rattle.ly_grammar.specs.Items.{InLookahead, IsComplete, IsNextSymbol, IsViable, Merges, SameCore, Valid, at_start, closed}
+use Rattle.ly_grammar.specs.Items.{InLookahead, IsComplete, IsNextSymbol, IsViable, Merges, SameCore, Valid, at_start}
+use Rattle.ly_grammar.specs.Items.{closed}
 use Rattle.ly_grammar.specs.Items.{moved, onto}
 use Rattle.ly_grammar.proofs.ItemLemmas.{body_of, zero_item}
 use Rattle.ly_grammar.proofs.SearchLemmas.{rule_is_one}
@@ -44,12 +49,15 @@ merges_back m = record { left = m.right; right = m.left; cores = same_back m.cor
 -- at strings of one core the same is asked for
 pub raw_too : {G : Grammar} {g h : List Symbol} → Merges G g h → (t : ℕ) (a : Action) → IsRaw G g t a → IsRaw G h t a
 raw_too m t shift (p, before, after, core) = (p, before, after, (m.cores p before (terminal t ∷ after)).0 core)
-raw_too m t (reduce p) (some, la) = (some, record {
-  at = la.at;
-  merges = record { left = m.right; right = la.merges.right; cores = same_on (same_back m.cores) la.merges.cores };
-  before = la.before;
-  valid = la.valid;
-})
+raw_too m t (reduce p) (some, la) = (
+  some,
+  record {
+    at = la.at;
+    merges = record { left = m.right; right = la.merges.right; cores = same_on (same_back m.cores) la.merges.cores };
+    before = la.before;
+    valid = la.valid;
+  },
+)
 raw_too m t error raw = raw
 
 -- TERMINALS ARE THOSE OF THE GRAMMAR
@@ -75,7 +83,8 @@ all_below G (X ∷ w) all = below_cons X w (symbol X (All-head (SymbolWithin G.t
 
 rule_below : (G : Grammar) → IsAugmented G → (p : ℕ) (r : Rule) → IsRule G p r → All (IsBelow G.terminals) r.body
 rule_below G augmented zero r is =
-    subst (λ x. All (IsBelow G.terminals) x.body) (sym (rule_is_one G 0 r (accept_rule G.accept G.start) is augmented.rule_0))
+    subst (λ x. All (IsBelow G.terminals) x.body)
+    (sym (rule_is_one G 0 r (accept_rule G.accept G.start) is augmented.rule_0))
     both
   where
     both : All (IsBelow G.terminals) (nonterminal G.start ∷ terminal 0 ∷ [])
@@ -118,7 +127,8 @@ module _ (G : Grammar) (augmented : IsAugmented G) where
   onto_tail (X ∷ before) w all = All-tail (IsBelow G.terminals) X w (onto_tail before (X ∷ w) all)
 
   -- a lookahead is a terminal of the grammar
-  valid_below : {g : List Symbol} {p : ℕ} {before after : List Symbol} {t : ℕ} → Valid G g p before after t → t < G.terminals
+  valid_below : {g : List Symbol} {p : ℕ} {before after : List Symbol} {t : ℕ} → Valid G g p before after t
+      → t < G.terminals
   valid_below (at_start is e) = augmented.end_within
   valid_below (closed {before = before} {after = after} {B = B} v is left e (inl (ts, trees, x, rest, yields, u))) =
       let body = body_of v in
@@ -167,10 +177,12 @@ module _ (M : Automaton) (is : IsAutomaton M) where
     cores = is.cores.same (prefix_of M s) g s (is.numbered.leads s lt) reaches;
   }
 
-  raw_leaves : (s t : ℕ) → s < length M.states → IsRaw M.grammar (prefix_of M s) t shift → Leaves M.grammar (goto_of M) s t
+  raw_leaves : (s t : ℕ) → s < length M.states → IsRaw M.grammar (prefix_of M s) t shift
+      → Leaves M.grammar (goto_of M) s t
   raw_leaves s t lt raw = (prefix_of M s, is.numbered.leads s lt, raw)
 
-  leaves_raw : (s t : ℕ) → s < length M.states → Leaves M.grammar (goto_of M) s t → IsRaw M.grammar (prefix_of M s) t shift
+  leaves_raw : (s t : ℕ) → s < length M.states → Leaves M.grammar (goto_of M) s t
+      → IsRaw M.grammar (prefix_of M s) t shift
   leaves_raw s t lt (g, reaches, next) = raw_too (merges_back (reached_merges g s lt reaches)) t shift next
 
   -- the end is shifted behind the start symbol
@@ -189,6 +201,46 @@ module _ (M : Automaton) (is : IsAutomaton M) where
     λ raw. leaves_shift M.grammar (goto_of M) is.augmented is.cores (raw_leaves s t lt raw) some,
   )
 
+  -- by what is found there
+  pub asks_end : (s t A r : ℕ) (b : Bool) → s < length M.states → t ≡ 0 → A ≡ M.grammar.start
+      → Some r ≡ goto_of M 0 (nonterminal A) → b ≡ nat_eq r s → IsTrue b ↔ IsRaw M.grammar (prefix_of M s) t shift
+  asks_end s t A r b lt z start goes e = subst (λ u. IsTrue b ↔ IsRaw M.grammar (prefix_of M s) u shift) (sym z)
+      (to, back)
+    where
+      there : goto_of M 0 (nonterminal M.grammar.start) ≡ Some r
+      there = ap (λ B. goto_of M 0 (nonterminal B)) (sym start) ∙ sym goes
+
+      to : IsTrue b → IsRaw M.grammar (prefix_of M s) 0 shift
+      to held = (end_shifted s lt).0 (elim (cases_eq r s) [
+        | inl same ↦ there ∙ ap Some same
+        | inr off ↦ absurd (let no : false ≡ true → ⊥ = λ z. cc in no (sym (ne_eqb r s off) ∙ (sym e ∙ held)))
+      ])
+
+      back : IsRaw M.grammar (prefix_of M s) 0 shift → IsTrue b
+      back raw =
+          let one : Some r ≡ Some s = sym there ∙ (end_shifted s lt).1 raw in
+          let same : r ≡ s = cc in
+          e ∙ eq-eqb r s same
+
+  pub asks_no_end : (s t A : ℕ) → s < length M.states → t ≡ 0 → A ≡ M.grammar.start
+      → None ≡ goto_of M 0 (nonterminal A) → IsRaw M.grammar (prefix_of M s) t shift → ⊥
+  asks_no_end s t A lt z start nowhere raw =
+      let there = (end_shifted s lt).1 (subst (λ u. IsRaw M.grammar (prefix_of M s) u shift) z raw) in
+      let no : None ≡ Some s = nowhere ∙ (ap (λ B. goto_of M 0 (nonterminal B)) start ∙ there) in
+      cc
+
+  pub asks_terminal : (s t : ℕ) (o : Option StateNo) (b : Bool) → s < length M.states → t ≢ 0
+      → option_map (λ r. r.0) o ≡ goto_of M s (terminal t) → b ≡ is_some o
+      → IsTrue b ↔ IsRaw M.grammar (prefix_of M s) t shift
+  asks_terminal s t (Some r) b lt some goes e = (
+    λ held. (terminal_shifted s t lt some).0 (r.0, sym goes),
+    λ raw. e,
+  )
+  asks_terminal s t None b lt some goes e = (
+    λ held. absurd (let no : false ≡ true → ⊥ = λ z. cc in no (sym e ∙ held)),
+    λ raw. absurd (let w = (terminal_shifted s t lt some).1 raw in let no : None ≡ Some w.0 = goes ∙ w.1 in cc),
+  )
+
   -- A reduction is asked for by the rules that are complete and have the terminal among their lookaheads.
   module _ (L : Lookaheads) (are : AreLookaheads M L) (s : ℕ) (lt : s < length M.states) (t : ℕ) where
     pub reduced_at : (k p : ℕ) → slice_get (state_at M s).complete k ≡ Some p → Member (set_at L s k) t
@@ -196,7 +248,7 @@ module _ (M : Automaton) (is : IsAutomaton M) where
     reduced_at k p at member =
         let there = state_there M s lt in
         let la = subst (λ g. InLookahead M.grammar g p t) (sym (prefix_at M s (state_at M s) there))
-            ((are.are s k p t (state_at M s) there at).0 member) in
+        ((are.are s k p t (state_at M s) there at).0 member) in
         (some p la, la)
       where
         some : (p : ℕ) → InLookahead M.grammar (prefix_of M s) p t → 1 ≤ p
@@ -211,7 +263,7 @@ module _ (M : Automaton) (is : IsAutomaton M) where
         let complete : IsComplete M.grammar (prefix_of M s) p
         = (la.before, (la.merges.cores p la.before []).1 (t, la.valid)) in
         let has = ((is.each s (state_at M s) there).complete p).1
-            (subst (λ g. IsComplete M.grammar g p) same complete) in
+        (subst (λ g. IsComplete M.grammar g p) same complete) in
         let k = placed (state_at M s).complete p has in
         (k.0, k.1, (are.are s k.0 p t (state_at M s) there k.1).1 (subst (λ g. InLookahead M.grammar g p t) same la))
 
@@ -250,11 +302,11 @@ module _ (complete : List ℕ) (P : ℕ → Type 0) (i x : ℕ) (at : slice_get 
     rising = AllPairs-append (λ p q. p < q) found (x ∷ []) before.rising
         (λ j k d l m. absurd (omega (arith, l, m)))
         (λ p q hp hq. subst (λ y. p < y) (Contains-one x q hq)
-            (let w = (before.these p).0 hp in
-            let less = sorted w.0 i 0 w.1 (slice_get_within complete i x at) in
-            let a = get_or_from_slice_get complete w.0 p 0 w.2 in
-            let b = get_or_from_slice_get complete i x 0 at in
-            omega (arith, less, a, b)));
+        (let w = (before.these p).0 hp in
+        let less = sorted w.0 i 0 w.1 (slice_get_within complete i x at) in
+        let a = get_or_from_slice_get complete w.0 p 0 w.2 in
+        let b = get_or_from_slice_get complete i x 0 at in
+        omega (arith, less, a, b)));
   })
 
   pub found_past : (found : List ℕ) → (P i → ⊥) → AreFoundTo complete P i found → AreFoundTo complete P (i + 1) found

@@ -10,7 +10,7 @@ ghost use Rattle.ly_resolve.specs.Values.{action_from, conflict_from, kind_from,
 
 use crate::action::Action;
 use crate::conflict::{Conflict, ConflictKind};
-use crate::verdict::{judge, Verdict};
+use crate::verdict::{Verdict, judge};
 use ly_base::{StateNo, Sym};
 use ly_join::Spec;
 use std::alloc::AllocError;

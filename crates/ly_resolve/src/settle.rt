@@ -34,7 +34,11 @@ pub fn resolve<'a>(
     requires lookaheads { AreLookaheads lr0.now lookaheads.now }
     ensures { IfOk result (AreResolved spec.now lr0.now) }
 {
-    let sources = Sources { spec, lr0, lookaheads };
+    let sources = Sources {
+        spec,
+        lr0,
+        lookaheads,
+    };
     let mut rows = Vec::with_capacity(alloc, lr0.states())?;
     let mut told = Told {
         conflicts: Vec::new(alloc),
@@ -95,7 +99,13 @@ fn resolve_state(
     let mut reductions = Vec::new(alloc);
     for terminal in 0..sources.lr0.reduced().grammar().terminals() {
         let terminal = Sym(terminal);
-        find_reductions(sources.lr0, sources.lookaheads, state, terminal, &mut reductions)?;
+        find_reductions(
+            sources.lr0,
+            sources.lookaheads,
+            state,
+            terminal,
+            &mut reductions,
+        )?;
         let meeting = Meeting {
             spec: sources.spec,
             terminal,
@@ -112,7 +122,12 @@ fn resolve_state(
 
 impl Told {
     /// Adds the conflicts of one more entry, where more than one action is asked for.
-    fn tell(&mut self, meeting: &Meeting<'_>, state: StateNo, choice: Action) -> Result<(), AllocError>
+    fn tell(
+        &mut self,
+        meeting: &Meeting<'_>,
+        state: StateNo,
+        choice: Action,
+    ) -> Result<(), AllocError>
         requires rising { AllPairs (λ p q. p < q) meeting.now.reductions.now }
         requires choice { IsDone (IsAskedBy meeting.now.shift meeting.now.reductions.now)
             (λ p. judge_of meeting.now.spec.now p meeting.now.terminal.0) (action_from choice) }

@@ -23,7 +23,10 @@ pub(crate) enum Verdict {
 pub(crate) fn judge(spec: &Spec, rule: usize, terminal: Sym) -> Verdict
     ensures { verdict_from result ≡ judge_of spec.now rule terminal.0 }
 {
-    match (precedence_of_rule(spec, rule), precedence_of_token(spec, terminal)) {
+    match (
+        precedence_of_rule(spec, rule),
+        precedence_of_token(spec, terminal),
+    ) {
         (Some(rule), Some(token)) => between(rule, token),
         _ => Verdict::Unsettled,
     }

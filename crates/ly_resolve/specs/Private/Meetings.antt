@@ -51,4 +51,5 @@ told g t s rs verdict choice kind = map
 
 -- the conflicts, by kinds
 abbrev pub all_told : List Symbol → ℕ → Bool → List ℕ → (ℕ → Verdict) → Action → List Conflict
-all_told g t s rs verdict choice = told g t s rs verdict choice shift_reduce ++ told g t s rs verdict choice reduce_reduce
+all_told g t s rs verdict choice = told g t s rs verdict choice shift_reduce
+    ++ told g t s rs verdict choice reduce_reduce

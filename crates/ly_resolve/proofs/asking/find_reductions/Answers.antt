@@ -1,4 +1,5 @@
-use Rattle.std.proofs.Common.{◌≡◌, ◌∙◌, ◌<◌, ◌≤◌, ◌+◌, ◌++◌, ◌∷◌, [], true, false, ℕ, ap, arith, length, slice_index_or, subst, sym}
+use Rattle.std.proofs.Common.{◌≡◌, ◌∙◌, ◌<◌, ◌≤◌, ◌+◌, ◌++◌, ◌∷◌, [], true, false, ℕ, ap, arith, length, slice_index_or}
+use Rattle.std.proofs.Common.{subst, sym}
 use Rattle.std.proofs.lemmas.Option.{slice_get-get_or, slice_get_within}
 use Rattle.ly_sets.specs.NumberSet.{Member}
 use Rattle.ly_lookahead.specs.Lookaheads.{set_at}
@@ -48,15 +49,14 @@ returns-clause-these c p =
     let inv = c.loop-place.invariant in
     let complete = (state_at M s).complete in
     let past : length complete ≤ c.loop-place.place
-    = subst (λ w. length w ≤ c.loop-place.place) c.complete-rule-items.ensures c.loop-place-test.false in
-    (
+    = subst (λ w. length w ≤ c.loop-place.place) c.complete-rule-items.ensures c.loop-place-test.false in (
       λ has.
           let w = (inv.these p).0 has in
           reduced_at M c.requires.lawful c.args.lookaheads.now c.requires.lookaheads s c.requires.state
           c.args.terminal.0 w.0 p w.2 w.3,
       λ raw.
           let w = reduction_at M c.requires.lawful c.args.lookaheads.now c.requires.lookaheads s c.requires.state
-              c.args.terminal.0 p raw in
+          c.args.terminal.0 p raw in
           let within = slice_get_within complete w.0 p w.1 in
           (inv.these p).1 (w.0, omega (arith, within, past), w.1, w.2),
     )

@@ -38,10 +38,10 @@ loop-rule-preserved c =
             ∙ map-append (conflict_from M) old (new ∷ [])
             ∙ ap (λ z. z ++ conflict_from M new ∷ []) (c.loop-rule.invariant.told M)
             ∙ append_assoc (map (conflict_from M) c.args.conflicts.now.items)
-                (told (g M) m.terminal.0 m.shift (take i rs) v a k) (conflict_from M new ∷ [])
+            (told (g M) m.terminal.0 m.shift (take i rs) v a k) (conflict_from M new ∷ [])
             ∙ ap (λ z. map (conflict_from M) c.args.conflicts.now.items ++ z)
-                (sym (told_rule m.shift rs v i (g M) m.terminal.0 a k lt
-                (sym c.is_counted.ensures ∙ w.if-is_counted.true)));
+            (sym (told_rule m.shift rs v i (g M) m.terminal.0 a k lt
+            (sym c.is_counted.ensures ∙ w.if-is_counted.true)));
         inside = λ M state terminal all. subst (λ z. All (IsInside M) z)
             (sym (ap (λ z. z.items) w.conflicts-is ∙ w.in_ok-push.ensures.items))
             (All-push (IsInside M) old new (c.loop-rule.invariant.inside M state terminal all)
@@ -52,8 +52,8 @@ loop-rule-preserved c =
             ap (λ z. map (conflict_from M) z.items) w.conflicts-is
             ∙ c.loop-rule.invariant.told M
             ∙ ap (λ z. map (conflict_from M) c.args.conflicts.now.items ++ z)
-                (sym (told_past m.shift rs v i (g M) m.terminal.0 a k lt
-                (sym c.is_counted.ensures ∙ w.if-is_counted.false)));
+            (sym (told_past m.shift rs v i (g M) m.terminal.0 a k lt
+            (sym c.is_counted.ensures ∙ w.if-is_counted.false)));
         inside = λ M state terminal all. subst (λ z. All (IsInside M) z.items) (sym w.conflicts-is)
             (c.loop-rule.invariant.inside M state terminal all);
       }
