@@ -1,0 +1,6 @@
+pub mod Actions
+pub mod Conflicts
+pub mod Laws
+pub mod Machine
+pub mod Precedence
+pub mod Resolved

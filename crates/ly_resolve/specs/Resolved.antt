@@ -1,0 +1,40 @@
+-- What a parser does in each state of an automaton.
+use Rattle.std.specs.Prelude.{◌≡◌, ◌↔◌, ℕ, ◌<◌, List, Bool, Some, slice_get, length, AllPairs, Contains, IsTrue}
+use Rattle.ly_join.specs.Grammar.{Grammar, Symbol}
+use Rattle.ly_join.specs.Joined.{Spec}
+use Rattle.ly_lr0.specs.Automaton.{Automaton, State}
+use Rattle.ly_resolve.specs.Actions.{Action, Judge, IsAction, IsConflictFree, IsRaw}
+use Rattle.ly_resolve.specs.Conflicts.{Conflict, AreConflicts}
+use Rattle.ly_resolve.specs.Precedence.{judge_of}
+
+-- What is done before a terminal.
+pub record Entry : Type 0 where
+  pub terminal : ℕ
+  pub action : Action
+
+-- A specification with its automaton: for each state what is done in it, the conflicts, and whether no two actions are
+-- asked for anywhere.
+pub record Resolved : Type 0 where
+  pub spec : Spec
+  pub automaton : Automaton
+  pub rows : List (List Entry)
+  pub conflicts : List Conflict
+  pub conflict_free : Bool
+
+-- The entries are what is done at a string, in the order of the terminals: one where an action is asked for, and none
+-- elsewhere.
+pub record IsRow (G : Grammar) (judge : Judge) (g : List Symbol) (row : List Entry) : Type 0 where
+  pub ordered : AllPairs (λ x y. x.terminal < y.terminal) row
+  pub are : (x : Entry) → Contains row x ↔ IsAction G judge g x.terminal x.action
+  pub whole : (t : ℕ) (a : Action) → IsRaw G g t a → (b : Action) × IsAction G judge g t b
+
+-- The rows are what is done in each state, the conflicts are those of the grammar, and it is said whether there is no
+-- conflict even before precedence is asked.
+pub record AreResolved (s : Spec) (M : Automaton) (r : Resolved) : Type 0 where
+  pub spec : r.spec ≡ s
+  pub automaton : r.automaton ≡ M
+  pub states : length r.rows ≡ length M.states
+  pub rows : (k : ℕ) (q : State) (row : List Entry) → slice_get M.states k ≡ Some q → slice_get r.rows k ≡ Some row
+      → IsRow M.grammar (judge_of s) q.prefix row
+  pub conflicts : AreConflicts M.grammar (judge_of s) r.conflicts
+  pub free : IsTrue r.conflict_free ↔ IsConflictFree M.grammar
