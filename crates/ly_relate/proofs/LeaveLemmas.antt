@@ -42,7 +42,7 @@ no_accept {G} {p = suc p} {before = before} {after = after} augmented v =
     omega (arith, lt)
 
 -- an item of rule 0 is valid only at what stands before its dot
-zero_at : {G : Grammar} {g : List Symbol} {p : ℕ} {before after : List Symbol} {t : ℕ} → IsAugmented G → p ≡ 0
+pub zero_at : {G : Grammar} {g : List Symbol} {p : ℕ} {before after : List Symbol} {t : ℕ} → IsAugmented G → p ≡ 0
     → Valid G g p before after t → g ≡ before
 zero_at augmented z (at_start is e) = refl
 zero_at {G} augmented z (closed {g = g} {p = p} {before = before} {after = after} {B = B} {t = t} {r = r} v is left w

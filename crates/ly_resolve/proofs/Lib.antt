@@ -1,3 +1,10 @@
+pub mod AcceptLemmas
+pub mod AcceptedLemmas
+pub mod DefaultLemmas
+pub mod ExactLemmas
 pub mod FoundLemmas
 pub mod MeetingLemmas
 pub mod RawLemmas
+pub mod RefuseLemmas
+pub mod RunLemmas
+pub mod StackLemmas

@@ -2,7 +2,10 @@
 //!
 //! Precedence and associativity settle a shift against a reduction, and what they don't settle is counted as a conflict
 //! (POSIX, XCU yacc, "Conflicts"; Aho, Johnson and Ullman, "Deterministic Parsing of Ambiguous Grammars", 1975).
-//! `resolve` goes through the states once; where two actions are asked for before a terminal, it settles them.
+//! `resolve` goes through the states once; where two actions are asked for before a terminal, it settles them. What a
+//! machine that does so does to texts is said of symbols and trees alone, with no state and no table (Machine), and the
+//! laws of that machine are here too: without conflicts it accepts each sentence with each of its trees, and refuses
+//! the first token that continues no sentence.
 //!
 //! Left out: how conflicts are told, defaults, and tables.
 #![tactic(auto)]
@@ -10,6 +13,7 @@
 mod action;
 mod asking;
 mod conflict;
+mod laws;
 mod meeting;
 mod resolved;
 mod settle;
@@ -17,5 +21,9 @@ mod verdict;
 
 pub use action::{Action, Entry};
 pub use conflict::{Conflict, ConflictKind};
+pub use laws::{
+    accepts_sentences, accepts_trees_only, defaults_never_mislead, is_unambiguous, refuses_exactly,
+    refuses_first,
+};
 pub use resolved::Resolved;
 pub use settle::resolve;
