@@ -15,20 +15,10 @@ mod answers;
 #[cfg(test)]
 mod comparison;
 #[cfg(test)]
-mod derivations;
-#[cfg(test)]
 mod devices;
 #[cfg(test)]
 mod examples;
 #[cfg(test)]
-mod graphs;
-#[cfg(test)]
 mod memory;
 #[cfg(test)]
-mod sets;
-#[cfg(test)]
-mod specifications;
-#[cfg(test)]
 mod walks;
-#[cfg(test)]
-mod yacc_files;

@@ -3,8 +3,8 @@
 use ly_base::{Limits, Sym};
 use ly_grammar::{Reduced, reduce};
 use ly_join::{
-    Associativity, Emitted, Grammar, JoinFault, Limit, Precedence, RuleTree, Spec, TerminalName,
-    join,
+    Associativity, Emitted, Grammar, JoinFault, Limit, Precedence, RuleNote, RuleTree, ScanAction,
+    Spec, TerminalName, join,
 };
 use ly_lexread::read_lex;
 use ly_yaccread::read_yacc;
@@ -36,7 +36,7 @@ pub(crate) fn specification(alloc: Global, lex: &[u8], yacc: &[u8]) -> Result<Sp
 }
 
 /// The name of a terminal that has one.
-fn name_of(terminal: &TerminalName) -> &[u8] {
+pub(crate) fn name_of(terminal: &TerminalName) -> &[u8] {
     match terminal {
         TerminalName::End => b"$end",
         TerminalName::Undefined => b"$undef",
@@ -154,15 +154,27 @@ const REFUSED: [(&[u8], &[u8], u8, &str, &[u8]); 20] = [
     ),
 ];
 
+/// Whether two files are refused with a fault of this number, name and symbol.
+fn is_refused(
+    alloc: Global,
+    files: (&[u8], &[u8]),
+    number: u8,
+    name: &str,
+    symbol: &[u8],
+) -> Result<bool, Fail> {
+    match joined(alloc, files.0, files.1, &Limits::V1)? {
+        Ok(_) => Ok(false),
+        Err(fault) => Ok(
+            fault.number() == Some(number) && fault.name() == name && symbol_of(&fault) == symbol,
+        ),
+    }
+}
+
 #[test]
 fn refused_files_have_their_faults_and_symbols(rt: HostRuntime) -> Result<(), Fail> {
-    for (lex, yacc, number, name, symbol) in REFUSED {
-        let Err(fault) = joined(rt.alloc(), lex, yacc, &Limits::V1)? else {
-            return Err(Fail::from("files were joined that are to be refused"));
-        };
-        assert_eq!(rt; fault.number(), Some(number));
-        assert!(rt; fault.name() == name);
-        assert!(rt; symbol_of(&fault) == symbol);
+    for (lex, yacc, number, name, symbol) in &REFUSED {
+        let refused = is_refused(rt.alloc(), (lex, yacc), *number, name, symbol)?;
+        assert!(rt; refused, "{yacc:?}");
     }
     Ok(())
 }
@@ -248,69 +260,110 @@ const CALC_RULES: [(Option<usize>, &[u8], u32); 6] = [
     (None, b"", 0),
 ];
 
+/// The names of the terminals, none for literals.
+const CALC_NAMES: [&[u8]; 7] = [b"$end", b"$undef", b"NUM", b"", b"", b"", b""];
+
+/// Bytes and their terminals.
+const CALC_BYTES: [(u8, u32); 6] = [
+    (b'+', 3),
+    (b'*', 4),
+    (b'(', 5),
+    (b')', 6),
+    (b'-', 1),
+    (b'^', 1),
+];
+
+/// Whether terminals have these names.
+fn have_names(terminals: &[TerminalName], names: &[&[u8]]) -> bool {
+    let mut same = terminals.len() == names.len();
+    for (terminal, name) in terminals.iter().zip(names.iter()) {
+        same &= name_of(terminal) == *name;
+    }
+    same
+}
+
+/// Whether a rule has a precedence of this level, and a tree of this constructor and first place.
+fn says(note: &RuleNote, level: Option<usize>, name: &[u8], place: u32) -> bool {
+    let (constructor, first) = tree_of(&note.tree);
+    note.precedence.map(|found| found.level) == level && constructor == name && first == place
+}
+
+/// Whether the rules have notes as in the table.
+fn have_notes(notes: &[RuleNote]) -> bool {
+    let mut same = notes.len() == CALC_RULES.len();
+    for (note, (level, name, place)) in notes.iter().zip(CALC_RULES.iter()) {
+        same &= says(note, *level, name, *place);
+    }
+    same
+}
+
 #[test]
 fn the_calculator_is_joined(rt: HostRuntime) -> Result<(), Fail> {
     let spec = specification(rt.alloc(), CALC_LEX, CALC_YACC)?;
-    let names: [&[u8]; 7] = [b"$end", b"$undef", b"NUM", b"", b"", b"", b""];
-    assert_eq!(rt; spec.terminals().len(), names.len());
-    for (terminal, name) in spec.terminals().iter().zip(names.iter()) {
-        assert!(rt; name_of(terminal) == *name);
+    assert!(rt; have_names(spec.terminals(), &CALC_NAMES));
+    for (byte, number) in &CALC_BYTES {
+        assert!(rt; spec.of_byte(*byte) == Sym(*number));
     }
-    for (byte, number) in [
-        (b'+', 3),
-        (b'*', 4),
-        (b'(', 5),
-        (b')', 6),
-        (b'-', 1),
-        (b'^', 1),
-    ] {
-        assert_eq!(rt; spec.of_byte(byte), Sym(number));
-    }
-    for (number, (level, name, place)) in CALC_RULES.iter().enumerate() {
-        let Some(note) = spec.notes().get(number) else {
-            return Err(Fail::from("a rule was left out"));
-        };
-        assert_eq!(rt; note.precedence.map(|found| found.level), *level);
-        let (constructor, first) = tree_of(&note.tree);
-        assert!(rt; constructor == *name);
-        assert_eq!(rt; first, *place);
-    }
+    assert!(rt; have_notes(spec.notes()));
     Ok(())
+}
+
+/// The precedence of each terminal, where it has one: its level, and whether it binds to the right.
+const CALC_PRECEDENCES: [Option<(usize, bool)>; 7] = [
+    None,
+    None,
+    None,
+    Some((1, false)),
+    Some((2, true)),
+    None,
+    None,
+];
+
+/// Whether a precedence is none, or binds to one side at a level.
+fn is_precedence(found: Option<Precedence>, wanted: Option<(usize, bool)>) -> bool {
+    match (found, wanted) {
+        (None, None) => true,
+        (Some(found), Some((level, is_right))) => {
+            let side = if is_right {
+                Associativity::Right
+            } else {
+                Associativity::Left
+            };
+            found.level == level && found.associativity == side
+        }
+        (None, Some(_)) | (Some(_), None) => false,
+    }
+}
+
+/// Whether the terminals have precedences as in the table.
+fn have_precedences(precedences: &[Option<Precedence>]) -> bool {
+    let mut same = precedences.len() == CALC_PRECEDENCES.len();
+    for (found, wanted) in precedences.iter().zip(CALC_PRECEDENCES.iter()) {
+        same &= is_precedence(*found, *wanted);
+    }
+    same
+}
+
+/// Whether the rules of a scanner emit these, and begin no condition.
+fn have_emits(scanner: &[ScanAction], emits: &[Emitted]) -> bool {
+    let mut same = scanner.len() == emits.len();
+    for (action, emitted) in scanner.iter().zip(emits.iter()) {
+        same &= action.emits == *emitted && action.begin.is_none();
+    }
+    same
 }
 
 #[test]
 fn precedences_and_actions_are_joined(rt: HostRuntime) -> Result<(), Fail> {
     let spec = specification(rt.alloc(), CALC_LEX, CALC_YACC)?;
-    let found: [Option<Precedence>; 5] = [
-        None,
-        None,
-        None,
-        Some(Precedence {
-            level: 1,
-            associativity: Associativity::Left,
-        }),
-        Some(Precedence {
-            level: 2,
-            associativity: Associativity::Right,
-        }),
-    ];
-    for (terminal, precedence) in found.iter().enumerate() {
-        assert_eq!(rt;
-            spec.precedences().get(terminal).copied(),
-            Some(*precedence)
-        );
-    }
+    assert!(rt; have_precedences(spec.precedences()));
     let emits = [
         Emitted::Terminal(Sym(2)),
         Emitted::Nothing,
         Emitted::FirstByte,
         Emitted::Terminal(Sym(1)),
     ];
-    assert_eq!(rt; spec.scanner().len(), emits.len());
-    for (action, emitted) in spec.scanner().iter().zip(emits.iter()) {
-        assert_eq!(rt; action.emits, *emitted);
-        assert_eq!(rt; action.begin, None);
-    }
+    assert!(rt; have_emits(spec.scanner(), &emits));
     Ok(())
 }
 
@@ -349,11 +402,16 @@ fn great(alloc: Global) -> Result<Vec<u8>, Fail> {
     let mut text = Vec::new(alloc);
     text.extend_from_slice(b"%%")?;
     for number in 0..MANY {
-        let next = (number + 1) % MANY;
-        let rule = format!(in alloc; "n{number} : n{next} 'a' n{number} | 'b' ;\n")?;
-        text.extend_from_slice(rule.as_bytes())?;
+        push_rules(alloc, &mut text, number, (number + 1) % MANY)?;
     }
     Ok(text)
+}
+
+/// Adds two rules of a nonterminal, of which one leads to the next nonterminal.
+fn push_rules(alloc: Global, text: &mut Vec<u8>, number: u32, next: u32) -> Result<(), Fail> {
+    let rules = format!(in alloc; "n{number} : n{next} 'a' n{number} | 'b' ;\n")?;
+    text.extend_from_slice(rules.as_bytes())?;
+    Ok(())
 }
 
 #[test]
@@ -418,6 +476,23 @@ fn useless_rules_are_removed(rt: HostRuntime) -> Result<(), Fail> {
     Ok(())
 }
 
+/// Whether a nonterminal derives the empty string, and which of the end, `'x'` and `'y'` begin what it derives.
+fn beginnings(reduced: &Reduced<'_>, symbol: u32) -> [bool; 4] {
+    [
+        is_nullable(reduced, symbol),
+        begins(reduced, symbol, 0),
+        begins(reduced, symbol, 2),
+        begins(reduced, symbol, 3),
+    ]
+}
+
+/// The beginnings of the nonterminals of a grammar, by number.
+const BEGINNINGS: [[bool; 4]; 3] = [
+    [true, false, true, true],
+    [true, false, true, false],
+    [true, false, false, true],
+];
+
 #[test]
 fn nullable_and_first_are_found(rt: HostRuntime) -> Result<(), Fail> {
     let yacc = b"%%a : b c ; b : | 'x' ; c : | 'y' ;";
@@ -425,12 +500,8 @@ fn nullable_and_first_are_found(rt: HostRuntime) -> Result<(), Fail> {
     let Ok(reduced) = reduce(rt.alloc(), spec.grammar()) else {
         return Err(Fail::from("a grammar was refused that is to be reduced"));
     };
-    let firsts = [(0, true, true), (1, true, false), (2, false, true)];
-    for (symbol, with_x, with_y) in firsts {
-        assert!(rt; is_nullable(&reduced, symbol));
-        assert_eq!(rt; begins(&reduced, symbol, 2), with_x);
-        assert_eq!(rt; begins(&reduced, symbol, 3), with_y);
-        assert!(rt; !begins(&reduced, symbol, 0));
+    for (symbol, wanted) in BEGINNINGS.iter().enumerate() {
+        assert!(rt; beginnings(&reduced, symbol as u32) == *wanted);
     }
     Ok(())
 }

@@ -7,7 +7,7 @@ use std::test::Fail;
 
 const WIDTHS: [usize; 8] = [0, 1, 63, 64, 65, 255, 257, 4_095];
 
-/// Rows, and of which numbers each gets one: one in three, one in five.
+/// Rows, and of how many numbers each gets the last one.
 const STEPS: [(usize, usize); 2] = [(0, 3), (1, 5)];
 
 /// A row that grows, and the row by which.
@@ -31,10 +31,7 @@ pub(crate) struct Plain {
 
 impl Plain {
     pub(crate) fn new(alloc: Global, rows: usize, width: usize) -> Result<Plain, AllocError> {
-        let mut cells = Vec::new(alloc);
-        for _ in 0..rows.saturating_mul(width) {
-            cells.push(false)?;
-        }
+        let cells = vec![in alloc; false; rows.saturating_mul(width)]?;
         Ok(Plain { cells, width })
     }
 
@@ -96,7 +93,7 @@ pub(crate) fn holds(sets: &SetMatrix, row: usize, number: usize) -> Result<bool,
 }
 
 /// Whether a row is the plain one.
-pub(crate) fn same_row(sets: &SetMatrix, row: usize, plain: &Plain) -> Result<bool, Fail> {
+fn same_row(sets: &SetMatrix, row: usize, plain: &Plain) -> Result<bool, Fail> {
     for number in 0..plain.width {
         if holds(sets, row, number)? != plain.contains(row, number) {
             return Ok(false);
@@ -105,29 +102,63 @@ pub(crate) fn same_row(sets: &SetMatrix, row: usize, plain: &Plain) -> Result<bo
     Ok(row < sets.rows() && sets.count(row) == plain.count(row))
 }
 
+/// Whether all rows are the plain ones.
+pub(crate) fn same_rows(sets: &SetMatrix, plain: &Plain) -> Result<bool, Fail> {
+    for row in 0..sets.rows() {
+        if !same_row(sets, row, plain)? {
+            return Ok(false);
+        }
+    }
+    Ok(true)
+}
+
+/// Adds a number to a set.
+fn add(set: &mut TermSet, number: usize) -> Result<(), Fail> {
+    let symbol = symbol(number)?;
+    if symbol.0 as usize >= set.width() {
+        return Err(Fail::from("no such number"));
+    }
+    set.insert(symbol);
+    Ok(())
+}
+
+/// Whether a number is in a set.
+fn has(set: &TermSet, number: usize) -> Result<bool, Fail> {
+    let symbol = symbol(number)?;
+    if symbol.0 as usize >= set.width() {
+        return Err(Fail::from("no such number"));
+    }
+    Ok(set.contains(symbol))
+}
+
+/// Adds each seventh number, and the last one of each word.
+fn fill(set: &mut TermSet, plain: &mut Plain) -> Result<(), Fail> {
+    for number in 0..plain.width {
+        if number % 7 == 0 || number % 64 == 63 {
+            add(set, number)?;
+            plain.insert(0, number);
+        }
+    }
+    Ok(())
+}
+
+/// Whether a set is the plain one.
+fn same_set(set: &TermSet, plain: &Plain) -> Result<bool, Fail> {
+    for number in 0..plain.width {
+        if has(set, number)? != plain.contains(0, number) {
+            return Ok(false);
+        }
+    }
+    Ok(set.width() == plain.width && set.count() == plain.count(0))
+}
+
 #[test]
 fn sets_of_each_width(rt: HostRuntime) -> Result<(), Fail> {
     for &width in &WIDTHS {
         let mut set = TermSet::new(rt.alloc(), width)?;
         let mut plain = Plain::new(rt.alloc(), 1, width)?;
-        assert!(rt; set.width() == width);
-        for number in 0..width {
-            let symbol = symbol(number)?;
-            if number % 7 == 0 || number % 64 == 63 {
-                assert!(rt; (symbol.0 as usize) < set.width());
-                set.insert(symbol);
-                plain.insert(0, number);
-            }
-        }
-        for number in 0..width {
-            let symbol = symbol(number)?;
-            assert!(rt; (symbol.0 as usize) < set.width());
-            assert!(rt;
-                set.contains(symbol) == plain.contains(0, number),
-                "{number} of {width}"
-            );
-        }
-        assert!(rt; set.count() == plain.count(0), "width {width}");
+        fill(&mut set, &mut plain)?;
+        assert!(rt; same_set(&set, &plain)?, "width {width}");
     }
     Ok(())
 }
@@ -145,31 +176,38 @@ fn a_sparse_set_of_seventy_thousand(rt: HostRuntime) -> Result<(), Fail> {
     Ok(())
 }
 
+/// Adds to rows the numbers that `STEPS` says.
+fn fill_rows(sets: &mut SetMatrix, plain: &mut Plain) -> Result<(), Fail> {
+    for &(row, step) in &STEPS {
+        for number in 0..plain.width {
+            if number % step.max(1) == step.saturating_sub(1) {
+                insert(sets, row, symbol(number)?)?;
+                plain.insert(row, number);
+            }
+        }
+    }
+    Ok(())
+}
+
+/// Grows a row by another, and answers whether it grew as the plain one did, and all rows are then the plain ones.
+fn unite(sets: &mut SetMatrix, plain: &mut Plain, to: usize, from: usize) -> Result<bool, Fail> {
+    if to >= sets.rows() || from >= sets.rows() {
+        return Err(Fail::from("no such row"));
+    }
+    let grew = sets.union_row(to, from);
+    Ok(grew == plain.union_row(to, from) && same_rows(sets, plain)?)
+}
+
 #[test]
 fn unions_of_each_width(rt: HostRuntime) -> Result<(), Fail> {
     for &width in &WIDTHS {
         let mut sets = SetMatrix::new(rt.alloc(), 3, width)?;
         let mut plain = Plain::new(rt.alloc(), 3, width)?;
-        for number in 0..width {
-            for &(row, step) in &STEPS {
-                if number % step == step - 1 {
-                    insert(&mut sets, row, symbol(number)?)?;
-                    plain.insert(row, number);
-                }
-            }
-        }
+        fill_rows(&mut sets, &mut plain)?;
         let inserted = sets.changes();
         for &(to, from) in &UNIONS {
-            assert!(rt; to < sets.rows());
-            assert!(rt; from < sets.rows());
-            let grew = sets.union_row(to, from);
-            assert!(rt;
-                grew == plain.union_row(to, from),
-                "row {to} by row {from} at width {width}"
-            );
-            for row in 0..3 {
-                assert!(rt; same_row(&sets, row, &plain)?, "row {row} at width {width}");
-            }
+            let same = unite(&mut sets, &mut plain, to, from)?;
+            assert!(rt; same, "row {to} by row {from} at width {width}");
         }
         assert!(rt; sets.changes().checked_sub(inserted) == Some(8));
     }

@@ -1,10 +1,10 @@
 //! Least sets along graphs: the one pass against a program that goes round until nothing grows.
 
-use crate::sets::{Plain, holds, insert, same_row};
+use crate::sets::{Plain, holds, insert, same_rows};
 use ly_base::Sym;
 use ly_digraph::{Graph, least};
 use ly_sets::SetMatrix;
-use std::alloc::Global;
+use std::alloc::{AllocError, Global};
 use std::test::Fail;
 
 /// A graph, and which numbers below `WIDTH` its nodes are given.
@@ -279,41 +279,45 @@ fn solved(
     Ok((sets, rise))
 }
 
+/// The rows of an example by going round.
+fn by_rounds(alloc: Global, example: &Example) -> Result<Plain, AllocError> {
+    let mut rows = Plain::new(alloc, example.nodes, WIDTH)?;
+    for &(node, number) in example.given {
+        rows.insert(node, number as usize);
+    }
+    go_round(&mut rows, example.edges, usize::MAX);
+    Ok(rows)
+}
+
+/// Whether the least sets of an example are those by going round, found by few changes.
+fn is_solved(alloc: Global, example: &Example) -> Result<bool, Fail> {
+    let (sets, rise) = solved(alloc, example.nodes, WIDTH, example.edges, example.given)?;
+    let rows = by_rounds(alloc, example)?;
+    let most = example.nodes.saturating_add(example.edges.len()) as u64;
+    Ok(rise <= most && same_rows(&sets, &rows)?)
+}
+
 #[test]
 fn graphs_of_the_table(rt: HostRuntime) -> Result<(), Fail> {
     for example in &EXAMPLES {
-        let (sets, rise) = solved(
-            rt.alloc(),
-            example.nodes,
-            WIDTH,
-            example.edges,
-            example.given,
-        )?;
-        let most = example.nodes.saturating_add(example.edges.len()) as u64;
-        assert!(rt; rise <= most, "{}: {rise} changes", example.name);
-        let mut rows = Plain::new(rt.alloc(), example.nodes, WIDTH)?;
-        for &(node, number) in example.given {
-            rows.insert(node, number as usize);
-        }
-        go_round(&mut rows, example.edges, usize::MAX);
-        for node in 0..example.nodes {
-            assert!(rt;
-                same_row(&sets, node, &rows)?,
-                "{}: node {node}",
-                example.name
-            );
-        }
+        assert!(rt; is_solved(rt.alloc(), example)?, "{}", example.name);
     }
     Ok(())
+}
+
+/// The edges from each node to the next.
+fn chain(alloc: Global, nodes: usize) -> Result<Vec<(usize, usize)>, AllocError> {
+    let mut edges = Vec::new(alloc);
+    for node in 1..nodes {
+        edges.push((node - 1, node))?;
+    }
+    Ok(edges)
 }
 
 #[test]
 fn a_chain_of_two_hundred_thousand(rt: HostRuntime) -> Result<(), Fail> {
     let nodes = 200_000;
-    let mut edges = Vec::new(rt.alloc());
-    for node in 1..nodes {
-        edges.push((node - 1, node))?;
-    }
+    let edges = chain(rt.alloc(), nodes)?;
     let (sets, rise) = solved(rt.alloc(), nodes, 1, &edges, &[(nodes - 1, 0)])?;
     assert!(rt; rise <= 400_000, "{rise} changes");
     for node in 0..nodes {
@@ -322,20 +326,33 @@ fn a_chain_of_two_hundred_thousand(rt: HostRuntime) -> Result<(), Fail> {
     Ok(())
 }
 
+/// Each node and the number that it is given, which is its own.
+fn own_numbers(alloc: Global, nodes: u32) -> Result<Vec<(usize, u32)>, AllocError> {
+    let mut given = Vec::new(alloc);
+    for number in 0..nodes {
+        given.push((number as usize, number))?;
+    }
+    Ok(given)
+}
+
+/// How many numbers a row has.
+fn count(sets: &SetMatrix, row: usize) -> usize {
+    if row < sets.rows() {
+        sets.count(row)
+    } else {
+        0
+    }
+}
+
 #[test]
 fn a_ring_of_a_thousand(rt: HostRuntime) -> Result<(), Fail> {
-    let nodes = 1_000;
-    let mut edges = Vec::new(rt.alloc());
-    let mut given = Vec::new(rt.alloc());
-    for node in 0..nodes {
-        edges.push((node, if node + 1 < nodes { node + 1 } else { 0 }))?;
-        given.push((node, node as u32))?;
-    }
-    let (sets, rise) = solved(rt.alloc(), nodes, nodes, &edges, &given)?;
+    let mut edges = chain(rt.alloc(), 1_000)?;
+    edges.push((999, 0))?;
+    let given = own_numbers(rt.alloc(), 1_000)?;
+    let (sets, rise) = solved(rt.alloc(), 1_000, 1_000, &edges, &given)?;
     assert!(rt; rise <= 2_000, "{rise} changes");
-    for node in 0..nodes {
-        assert!(rt; node < sets.rows());
-        assert!(rt; sets.count(node) == 1_000, "row {node}");
+    for node in 0..1_000 {
+        assert!(rt; count(&sets, node) == 1_000, "row {node}");
     }
     Ok(())
 }
