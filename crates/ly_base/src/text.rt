@@ -79,7 +79,7 @@ pub fn push_escaped(out: &mut Vec<u8>, quote: u8, bytes: &[u8]) -> Result<(), Al
 }
 
 /// Whether the byte stands for itself between these quotes.
-fn is_plain(quote: u8, byte: u8) -> bool
+pub(crate) fn is_plain(quote: u8, byte: u8) -> bool
     ensures { result ≡ is_plain quote byte }
 {
     (32..=126).contains(&byte) && byte != b'\\' && byte != quote
@@ -98,7 +98,7 @@ fn push_escape(out: &mut Vec<u8>, byte: u8) -> Result<(), AllocError>
 }
 
 /// The lower-case hexadecimal digit of a number below 16.
-fn hex_digit(value: u8) -> u8
+pub(crate) fn hex_digit(value: u8) -> u8
     requires { value < 16 }
     ensures { result ≡ digit_glyph false value }
 {
