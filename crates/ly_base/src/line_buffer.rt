@@ -8,7 +8,7 @@ use std::alloc::{AllocError, Global};
 use std::marker::Model;
 
 /// How many bytes the room has.
-const ROOM: usize = 65536;
+const ROOM: usize = 16_384;
 
 /// Printed lines. The last of them stand in a room of fixed length, where a byte is one store; when it is full they are
 /// copied behind the others.
