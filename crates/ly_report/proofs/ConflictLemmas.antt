@@ -25,18 +25,18 @@ onto_all P [] w all = all
 onto_all P (X ∷ before) w all = All-tail P X w (onto_all P before (X ∷ w) all)
 
 module _ (s : Spec) (sizes : HasSizes s) (is : IsGrammar s.grammar) (R : Grammar) (keeps : KeepsUseful s.grammar R)
-    where
-  -- the symbols of a string where an item is valid have names
-  valid_named : {g : List Symbol} {p : ℕ} {before after : List Symbol} {t : ℕ} → Valid R g p before after t
-      → All (IsNamed s) g
-  valid_named (at_start a e) = All-nil (IsNamed s)
-  valid_named (closed v a b c d) = valid_named v
-  valid_named (moved {g = g} {p = p} {before = before} {after = after} {X = X} v) =
-      let body = body_of v in
-      let rule = ((keeps.rules p body.0).0 body.1).0 in
-      let named = subst (All (IsNamed s)) (sym body.2) (body_named s sizes is p body.0 rule) in
-      All-cons (IsNamed s) X g (All-head (IsNamed s) X after (onto_all (IsNamed s) before (X ∷ after) named))
-      (valid_named v)
+  where
+    -- the symbols of a string where an item is valid have names
+    valid_named : {g : List Symbol} {p : ℕ} {before after : List Symbol} {t : ℕ} → Valid R g p before after t
+        → All (IsNamed s) g
+    valid_named (at_start a e) = All-nil (IsNamed s)
+    valid_named (closed v a b c d) = valid_named v
+    valid_named (moved {g = g} {p = p} {before = before} {after = after} {X = X} v) =
+        let body = body_of v in
+        let rule = ((keeps.rules p body.0).0 body.1).0 in
+        let named = subst (All (IsNamed s)) (sym body.2) (body_named s sizes is p body.0 rule) in
+        All-cons (IsNamed s) X g (All-head (IsNamed s) X after (onto_all (IsNamed s) before (X ∷ after) named))
+        (valid_named v)
 
 -- the conflicts of a specification can be printed
 pub are_tellable : (s : Spec) (M : Automaton) (judge : Judge) (conflicts : List Conflict) (told : List spec.Conflict)

@@ -1,12 +1,13 @@
 -- A specification has one report: its removed rules and its conflicts have one order.
-use Rattle.std.proofs.Common.{◌≡◌, ◌∙◌, inl, inr, ℕ, suc, ◌<◌, List, [], ◌∷◌, ◌++◌, Option, Some, None, refl, sym, ap, subst}
-use Rattle.std.proofs.Common.{arith, length, slice_get}
+use Rattle.std.proofs.Common.{◌≡◌, ◌∙◌, inl, inr, ℕ, suc, ◌<◌, List, [], ◌∷◌, ◌++◌, Option, Some, None, refl, sym, ap}
+use Rattle.std.proofs.Common.{subst, arith, length, slice_get}
 use Rattle.std.specs.Prelude.{◌↔◌}
 use Rattle.ly_join.specs.Grammar.{Grammar, Rule, Symbol}
 use Rattle.ly_grammar.specs.Reduction.{KeepsUseful}
 use Rattle.ly_lr0.specs.Automaton.{ComesBefore}
 use Rattle.ly_lr0.proofs.OrderLemmas.{before_trans, less_off, rising_one}
-use Rattle.ly_resolve.specs.Conflicts.{AreConflicts, Conflict, IsBefore, IsKindBefore, Kind, reduce_reduce, shift_reduce}
+use Rattle.ly_resolve.specs.Conflicts.{AreConflicts, Conflict, IsBefore, IsKindBefore, Kind, reduce_reduce}
+use Rattle.ly_resolve.specs.Conflicts.{shift_reduce}
 use Rattle.ly_resolve.specs.Precedence.{judge_of}
 use Rattle.ly_report.specs.Laws.{ReportIsOne}
 use Rattle.ly_report.specs.Report.{conflicts_text, removed_text}
