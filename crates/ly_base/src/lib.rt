@@ -47,5 +47,5 @@ pub use names::{leading_digits, leading_name};
 pub use numbers::{RuleNo, StateNo, Sym};
 pub use place::Place;
 pub use sparse_set::SparseSet;
-pub use text::{Terminal, push_escaped, push_leaf, push_leaf_line, push_no_rule_line};
+pub use text::{Terminal, push_escaped, push_leaf, push_leaf_line, push_name, push_no_rule_line};
 pub use whole::{ReadFault, WriteFault, read_whole, write_whole};

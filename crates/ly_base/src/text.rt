@@ -44,7 +44,9 @@ pub fn push_leaf_line(
 }
 
 /// Appends a terminal's name.
-fn push_name(out: &mut Vec<u8>, terminal: Terminal<'_>) -> Result<(), AllocError>
+///
+/// It fails where memory runs out. How much was appended by then is left open.
+pub fn push_name(out: &mut Vec<u8>, terminal: Terminal<'_>) -> Result<(), AllocError>
     ensures { OnOk result (out.new.items ≡ out.old.items ++ name_of (named terminal.entry)) }
 {
     match terminal {

@@ -19,6 +19,8 @@ mod graphs;
 #[cfg(test)]
 mod merged;
 #[cfg(test)]
+mod reports;
+#[cfg(test)]
 mod sets;
 #[cfg(test)]
 mod specifications;
