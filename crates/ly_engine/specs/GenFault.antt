@@ -1,0 +1,8 @@
+-- The faults of the parts as faults of generating.
+use Rattle.std.specs.Prelude.{◌≡◌, ◌≢◌, ◌⊎◌}
+use Rattle.ly_engine.specs.declared.gen_fault.GenFault.{GenFault}
+use Rattle.ly_engine.specs.declared.gen_fault.GenFault.TheVariants.{OutOfMemory}
+
+-- A part's fault becomes one of the whole: its want of memory is that of the whole, and any other fault is wrapped.
+abbrev pub Becomes : {F : Type 0} → F → (F → GenFault) → F → GenFault → Type 0
+Becomes memory wrap fault e = ((fault ≡ memory) × (e ≡ OutOfMemory)) ⊎ ((fault ≢ memory) × (e ≡ wrap fault))
