@@ -2,7 +2,8 @@
 //!
 //! `write_whole` and `read_whole` carry bytes to and from devices that count their failures: at Ok all of them, at a
 //! fault a stated beginning, and a device is named only where it failed. `Place` says where a run over a text stands,
-//! `push_leaf` and its like print what stands there, `Limits` holds the sizes that are accepted.
+//! `push_leaf` and its like print what stands there, and `LineBuffer` many lines; `Limits` holds the sizes that are
+//! accepted.
 //!
 //! Left out: what a real file or terminal does. That is the word of its reads and writes.
 #![tactic(auto)]
@@ -17,6 +18,7 @@ mod gap;
 mod language;
 mod lexeme;
 mod limits;
+mod line_buffer;
 mod literals;
 mod memory;
 mod memory_fault;
@@ -37,6 +39,7 @@ pub use gap::{after_block, after_braces, after_comment, after_gap};
 pub use language::Language;
 pub use lexeme::{End, Lexeme};
 pub use limits::Limits;
+pub use line_buffer::LineBuffer;
 pub use literals::literal;
 pub use memory::{MemSink, MemSource};
 pub use memory_fault::OutOfMemory;
@@ -44,5 +47,5 @@ pub use names::{leading_digits, leading_name};
 pub use numbers::{RuleNo, StateNo, Sym};
 pub use place::Place;
 pub use sparse_set::SparseSet;
-pub use text::{Terminal, push_escaped, push_leaf, push_leaf_line, push_no_rule_line};
+pub use text::{Terminal, push_escaped, push_leaf, push_leaf_line, push_name, push_no_rule_line};
 pub use whole::{ReadFault, WriteFault, read_whole, write_whole};

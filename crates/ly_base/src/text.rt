@@ -44,7 +44,9 @@ pub fn push_leaf_line(
 }
 
 /// Appends a terminal's name.
-fn push_name(out: &mut Vec<u8>, terminal: Terminal<'_>) -> Result<(), AllocError>
+///
+/// It fails where memory runs out. How much was appended by then is left open.
+pub fn push_name(out: &mut Vec<u8>, terminal: Terminal<'_>) -> Result<(), AllocError>
     ensures { OnOk result (out.new.items ≡ out.old.items ++ name_of (named terminal.entry)) }
 {
     match terminal {
@@ -79,7 +81,7 @@ pub fn push_escaped(out: &mut Vec<u8>, quote: u8, bytes: &[u8]) -> Result<(), Al
 }
 
 /// Whether the byte stands for itself between these quotes.
-fn is_plain(quote: u8, byte: u8) -> bool
+pub(crate) fn is_plain(quote: u8, byte: u8) -> bool
     ensures { result ≡ is_plain quote byte }
 {
     (32..=126).contains(&byte) && byte != b'\\' && byte != quote
@@ -98,7 +100,7 @@ fn push_escape(out: &mut Vec<u8>, byte: u8) -> Result<(), AllocError>
 }
 
 /// The lower-case hexadecimal digit of a number below 16.
-fn hex_digit(value: u8) -> u8
+pub(crate) fn hex_digit(value: u8) -> u8
     requires { value < 16 }
     ensures { result ≡ digit_glyph false value }
 {

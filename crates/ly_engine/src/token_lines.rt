@@ -5,7 +5,7 @@ ghost use Rattle.ly_base.specs.declared.lexeme.Lexeme.{Lexeme};
 ghost use Rattle.ly_scan.specs.Lexer.{ScanEndsAt, IsLexemeAt, Scanner};
 ghost use Rattle.ly_engine.specs.Printing.{condition_set, end_line, line_if, naming, printed};
 
-use ly_base::{End, RuleNo, Terminal, push_leaf_line, push_no_rule_line};
+use ly_base::{End, LineBuffer, RuleNo, Terminal, push_no_rule_line};
 use ly_lexread::{Action, Returned};
 use ly_scan::{Lexer, Steps};
 use std::alloc::{AllocError, Global};
@@ -23,7 +23,7 @@ pub(crate) fn token_lines<S: Steps + Drop>(
         × (found.1.items ≡ printed (tokens_from (naming actions.now) lexer.old.place.at lexer.old.place.rest ts)
         ++ end_line found.0)) }
 {
-    let mut lines = Vec::new(alloc);
+    let mut lines = LineBuffer::new(alloc)?;
     loop {
         match lexer.next_lexeme() {
             Ok(lexeme) => {
@@ -33,6 +33,7 @@ pub(crate) fn token_lines<S: Steps + Drop>(
                 lexer.place.advance(lexeme.taken, begin);
             }
             Err(end) => {
+                let mut lines = lines.into_bytes()?;
                 push_end(&mut lines, end)?;
                 return Ok((end, lines));
             }
@@ -42,17 +43,17 @@ pub(crate) fn token_lines<S: Steps + Drop>(
 
 /// Appends the line of a lexeme's token, if the rule's action returns one.
 fn push_token(
-    lines: &mut Vec<u8>,
+    lines: &mut LineBuffer,
     actions: &[Action],
     rule: RuleNo,
     token: &[u8],
 ) -> Result<(), AllocError>
     requires { 0 < length token.now }
     ensures { OnOk result
-        (lines.new.items ≡ lines.old.items ++ line_if (naming actions.now rule.0 token.now) token.now) }
+        (lines.new ≡ lines.old ++ line_if (naming actions.now rule.0 token.now) token.now) }
 {
     match terminal_for(actions, rule, token) {
-        Some(terminal) => push_leaf_line(lines, terminal, token),
+        Some(terminal) => lines.push_leaf_line(terminal, token),
         None => Ok(()),
     }
 }

@@ -192,6 +192,15 @@ reads_as n p place b l e
     by (position.Reads bytes) = (λ h. ((members_contain bytes b).0 h).1, λ h. (members_contain bytes b).1 (l, h))
     by (position.Ends rule) = (λ h. Contains-none b h, λ h. absurd (cc))
 
+-- no position reads the byte: not of those that there are, and there are no others
+pub read_by_none : (n : Nfa) (count b : ℕ) → length n.positions ≤ count → ((p : ℕ) → p < count → Reads n p b → ⊥)
+    → (p : ℕ) → Reads n p b → ⊥
+read_by_none n count b all none p h = elim (cases_lt p count) [
+  | inl less ↦ none p less h
+  | inr past ↦ Contains-none b (subst (λ (x : nfa.Position). Contains (bytes_of x) b)
+      (get_or_past n.positions p (nfa.reading [] []) (omega arith)) h)
+]
+
 same_tests : (s t : Bool) → (s ≡ true) ↔ (t ≡ true) → s ≡ t
 same_tests true t h = sym (h.0 refl)
 same_tests false true h = h.1 refl

@@ -1,5 +1,6 @@
-ghost use Rattle.std.specs.Prelude.{◌≡◌, ◌<◌, length, IfOk};
+ghost use Rattle.std.specs.Prelude.{◌≡◌, ◌<◌, ℕ, length, false, IfOk, IfSome};
 ghost use Rattle.ly_base.specs.ByteSet.{has};
+ghost use Rattle.ly_position.specs.Nfa.{Reads};
 ghost use Rattle.ly_subset.specs.Classes.{AreClasses};
 ghost use Rattle.ly_subset.specs.Private.Classes.{AreOrdered, AreUnnamed, AreLeast, IsSplit, IsSplitBy, reads_in};
 
@@ -101,4 +102,41 @@ fn least_bytes(alloc: Global, class_of: &[u8]) -> Result<Vec<u8>, AllocError>
         }
     }
     Ok(least)
+}
+
+/// The first of some bytes that no position reads, if there is one.
+pub(crate) fn unread_byte(nfa: &PosNfa, bytes: &[u8]) -> Option<u8>
+    ensures { IfSome result (λ b. (p : ℕ) → Reads nfa.now p b → ⊥) }
+{
+    for byte in bytes {
+        if !is_read(nfa, *byte) {
+            return Some(*byte);
+        }
+    }
+    None
+}
+
+/// Whether a position reads the byte. It may say so where none does.
+fn is_read(nfa: &PosNfa, byte: u8) -> bool
+    ensures { result ≡ false → (p : ℕ) → Reads nfa.now p byte → ⊥ }
+{
+    let Ok(count) = u32::try_from(nfa.len()) else {
+        return true;
+    };
+    for number in 0..count {
+        if reads(&nfa.position(number), byte) {
+            return true;
+        }
+    }
+    false
+}
+
+/// Whether a position reads the byte.
+fn reads(position: &Position, byte: u8) -> bool
+    ensures { result ≡ reads_in position.now byte }
+{
+    match position {
+        Position::Reads { bytes } => bytes.contains(byte),
+        Position::Ends(_) => false,
+    }
 }

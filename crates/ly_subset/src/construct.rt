@@ -1,10 +1,11 @@
-ghost use Rattle.std.specs.Prelude.{◌≡◌, ◌<◌, ◌≤◌, ◌+◌, ◌*◌, ℕ, List, length, IfOk, IsErrOf, OnOk};
-ghost use Rattle.ly_position.specs.Nfa.{IsRoomFor};
+ghost use Rattle.std.specs.Prelude.{◌≡◌, ◌<◌, ◌≤◌, ◌+◌, ◌*◌, ◌↔◌, ℕ, List, length, Contains, IfOk, IfSome};
+ghost use Rattle.std.specs.Prelude.{IsErrOf, OnOk};
+ghost use Rattle.ly_position.specs.Nfa.{IsRoomFor, Reads, Stepped};
 ghost use Rattle.ly_subset.specs.Automaton.{IsAutomaton, start_place};
 ghost use Rattle.ly_subset.specs.Private.Found.{IsFound, IsPast, HaveRoom};
 ghost use Rattle.ly_subset.specs.Subsets.{AreSubsets, HasMoreSets};
 
-use crate::classes::byte_classes;
+use crate::classes::{byte_classes, unread_byte};
 use crate::dfa::Dfa;
 use crate::fault::SubsetFault;
 use crate::found::Found;
@@ -101,9 +102,10 @@ fn rows(nfa: &PosNfa, found: &mut Found, least: &[u8]) -> Result<(), SubsetFault
         from: nfa.set(found.alloc)?,
         into: nfa.set(found.alloc)?,
     };
+    let unread = unread_byte(nfa, least);
     let mut state = 0;
     while state < found.keys.len() {
-        row(nfa, found, least, &mut step, state)?;
+        row(nfa, found, least, unread, &mut step, state)?;
         state += 1;
     }
     Ok(())
@@ -123,9 +125,11 @@ fn row(
     nfa: &PosNfa,
     found: &mut Found,
     least: &[u8],
+    unread: Option<u8>,
     step: &mut Step,
     state: usize,
 ) -> Result<(), SubsetFault>
+    requires unread { IfSome unread (λ b. (p : ℕ) → Reads nfa.now p b → ⊥) }
     requires room { HaveRoom nfa.now step.old }
     requires found { IsFound nfa.now least.now found.old }
     requires state { state < length found.old.keys }
@@ -142,8 +146,24 @@ fn row(
 {
     step.from.fill(&found.keys.members(found.alloc, state)?);
     for byte in least {
-        nfa.step(&step.from, *byte, &mut step.into);
+        come(nfa, &step.from, *byte, unread, &mut step.into);
         found.enter(&step.into)?;
     }
     Ok(())
+}
+
+/// Makes a set that of the positions that may come after some, once the byte is read. `unread` is a byte that no
+/// position reads.
+fn come(nfa: &PosNfa, from: &PositionSet, byte: u8, unread: Option<u8>, into: &mut PositionSet)
+    requires unread { IfSome unread (λ b. (p : ℕ) → Reads nfa.now p b → ⊥) }
+    requires from { IsRoomFor nfa.now from.now }
+    requires into { IsRoomFor nfa.now into.old }
+    ensures members { (q : ℕ) → Contains into.new.positions.members q
+        ↔ Stepped nfa.now from.now.positions.members byte q }
+    ensures into { IsRoomFor nfa.now into.new }
+{
+    match unread {
+        Some(none) if none == byte => into.fill(&[]),
+        _ => nfa.step(from, byte, into),
+    }
 }

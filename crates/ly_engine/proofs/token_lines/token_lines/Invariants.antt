@@ -15,7 +15,7 @@ invariant-loop-lexeme g l =
       so_far : (ts : List Lexeme) × Leads
           (IsLexemeAt (record { walk = steps.walk l.fn.lexer.steps; cut = steps.cut_of l.fn.lexer.steps }))
           (condition_set l.actions) start ts l.lexer.place
-          × (l.lines.items ≡ printed (tokens_from (naming l.actions) start.at start.rest ts));
+          × (l.lines ≡ printed (tokens_from (naming l.actions) start.at start.rest ts));
     }
 
 abbrev pub decreases-loop-lexeme : goal.decreases-loop-lexeme

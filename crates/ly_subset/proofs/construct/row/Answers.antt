@@ -40,34 +40,34 @@ returns-in_err-enter-clause-past c = λ failed.
     let was = c.loop-byte.invariant in
     let nfa = c.args.nfa.now in
     let from = c.loop-byte.step.from.positions.members in
-    let members = c.step.new.into.positions.members in
+    let members = c.come.new.into.positions.members in
     let same : c.in_err-enter.field-0.0 ≡ TooManyStates = let a = p.1 in let b = p.2 in cc in
     subst (λ n. IsPast nfa n c.args.least.now c.args.found.now.limit) was.starts
     (subst (λ n. IsPast nfa c.loop-byte.found.starts c.args.least.now n) was.limit
     (past_row nfa c.args.least.now c.loop-byte.found members c.args.state c.loop-byte.byte-index was.found
     (c.in_err-enter.ensures.full (ap (λ e. Err e) same)) was.state c.loop-byte-test.true
     (both_ways (Contains members) (Stepped nfa from _) (Stepped nfa (set_at c.loop-byte.found.keys c.args.state) _)
-    c.step.ensures.members (stepped_same nfa from (set_at c.loop-byte.found.keys c.args.state) _ was.set))))
+    c.come.ensures.members (stepped_same nfa from (set_at c.loop-byte.found.keys c.args.state) _ was.set))))
 
 pub loop-byte-preserved : goal.loop-byte-preserved
 loop-byte-preserved c =
     let nfa = c.args.nfa.now in
     let least = c.args.least.now in
     let was = c.loop-byte.invariant in
-    let members = c.step.new.into.positions.members in
+    let members = c.come.new.into.positions.members in
     let entered = c.in_ok-enter.ensures.entered in
     let more = count_entered nfa least c.loop-byte.found c.enter.new.self members was.found entered
     c.in_ok-enter.ensures.starts c.in_ok-enter.ensures.limit in
     let longer = entered_longer nfa least c.loop-byte.found c.enter.new.self members was.found entered
     c.in_ok-enter.ensures.starts c.in_ok-enter.ensures.limit in
     record {
-      room = record { from = was.room.from; into = c.step.ensures.into };
+      room = record { from = was.room.from; into = c.come.ensures.into };
       found = row_found nfa least c.loop-byte.found c.enter.new.self members was.found entered
           c.in_ok-enter.ensures.starts c.in_ok-enter.ensures.limit c.args.state c.loop-byte.byte-index
-          (subst (λ n. AreKept n c.enter.new.self.limit c.enter.new.self.keys) c.step.ensures.into.positions
+          (subst (λ n. AreKept n c.enter.new.self.limit c.enter.new.self.keys) c.come.ensures.into.positions
           c.in_ok-enter.ensures.kept) was.state c.loop-byte-test.true was.at
           (both_ways (Contains members) (Stepped nfa c.loop-byte.step.from.positions.members _)
-          (Stepped nfa (set_at c.loop-byte.found.keys c.args.state) _) c.step.ensures.members
+          (Stepped nfa (set_at c.loop-byte.found.keys c.args.state) _) c.come.ensures.members
           (stepped_same nfa c.loop-byte.step.from.positions.members (set_at c.loop-byte.found.keys c.args.state) _
           was.set));
       state = let less = was.state in omega (arith, longer);

@@ -1,0 +1,176 @@
+ghost use Rattle.std.specs.Prelude.{◌≡◌, ◌≤◌, ◌+◌, ◌*◌, ◌++◌, [], ◌∷◌, length, take, IfOk, OnOk};
+ghost use Rattle.std.specs.Bool.{OnTrue};
+ghost use Rattle.ly_base.specs.Text.{escape_for, escaped, leaf_line, name_of, named};
+ghost use Rattle.ly_base.specs.Private.LineBuffer.{line_room, name_room};
+
+use crate::text::{Terminal, hex_digit, is_plain, push_leaf_line};
+use std::alloc::{AllocError, Global};
+use std::marker::Model;
+
+/// How many bytes the room has.
+const ROOM: usize = 65536;
+
+/// Printed lines. The last of them stand in a room of fixed length, where a byte is one store; when it is full they are
+/// copied behind the others.
+#[derive(Drop)]
+pub struct LineBuffer {
+    /// The lines before the room's.
+    lines: Vec<u8>,
+    /// Room for the last lines; they stand in its first `used` bytes.
+    room: Vec<u8>,
+    /// How many bytes of the room are lines.
+    used: usize,
+}
+
+impl Model for LineBuffer {
+    ghost use Rattle.std.specs.Prelude.{ℕ, List, ◌++◌, ◌≤◌, take, length};
+
+    ghost Value = { List ℕ };
+
+    ghost view = { λ b. b.lines.items ++ take b.used b.room.items };
+
+    ghost invariant = { λ b. b.used ≤ length b.room.items };
+}
+
+impl LineBuffer {
+    /// No lines, or that the room is refused.
+    pub fn new(alloc: Global) -> Result<Self, AllocError>
+        ensures { IfOk result (λ b. b ≡ []) }
+    {
+        Ok(LineBuffer {
+            lines: Vec::new(alloc),
+            room: vec![in alloc; 0; ROOM]?,
+            used: 0,
+        })
+    }
+
+    /// Appends a line that is a leaf.
+    ///
+    /// It fails where memory runs out. How much was appended by then is left open.
+    pub fn push_leaf_line(&mut self, terminal: Terminal<'_>, text: &[u8]) -> Result<(), AllocError>
+        ensures { OnOk result (self.new ≡ self.old ++ leaf_line (named terminal.entry) text.now) }
+    {
+        if !fits(self.room.len() - self.used, terminal, text) {
+            self.lines.extend_from_slice(&self.room[..self.used])?;
+            self.used = 0;
+            if !fits(self.room.len(), terminal, text) {
+                return push_leaf_line(&mut self.lines, terminal, text);
+            }
+        }
+        self.used = put_leaf_line(&mut self.room, self.used, terminal, text);
+        Ok(())
+    }
+
+    /// The bytes of all lines.
+    pub fn into_bytes(self) -> Result<Vec<u8>, AllocError>
+        ensures { IfOk result (λ bytes. bytes.items ≡ self) }
+    {
+        let mut lines = self.lines;
+        lines.extend_from_slice(&self.room[..self.used])?;
+        Ok(lines)
+    }
+}
+
+/// Whether so many bytes are room for the line of a leaf. It may say no where they are.
+fn fits(left: usize, terminal: Terminal<'_>, text: &[u8]) -> bool
+    ensures { OnTrue result (line_room (named terminal.entry) text.now ≤ left) }
+{
+    let name_len = match terminal {
+        Terminal::Token(name) => name.len(),
+        Terminal::Literal(_) => 6,
+    };
+    name_len <= left / 2 && text.len() < left / 8
+}
+
+/// Writes the line of a leaf from a place on, and answers where it ends.
+fn put_leaf_line(room: &mut [u8], at: usize, terminal: Terminal<'_>, text: &[u8]) -> usize
+    requires { at + line_room (named terminal) text.now ≤ length room.old }
+    ensures line { take result room.new ≡ take at room.old ++ leaf_line (named terminal.entry) text.now }
+    ensures within { result ≤ length room.new }
+    ensures room { length room.new ≡ length room.old }
+{
+    let named = put_name(room, at, terminal);
+    let quoted = put(room, named, b'"');
+    let end = put_escaped(room, quoted, b'"', text);
+    let closed = put(room, end, b'"');
+    put(room, closed, b'\n')
+}
+
+/// Writes a terminal's name from a place on, and answers where it ends.
+fn put_name(room: &mut [u8], at: usize, terminal: Terminal<'_>) -> usize
+    requires { at + name_room (named terminal) ≤ length room.old }
+    ensures name { take result room.new ≡ take at room.old ++ name_of (named terminal.entry) }
+    ensures within { result ≤ at + name_room (named terminal.entry) }
+    ensures room { length room.new ≡ length room.old }
+{
+    match terminal {
+        Terminal::Token(name) => put_bytes(room, at, name),
+        Terminal::Literal(byte) => {
+            let quoted = put(room, at, b'\'');
+            let end = put_escaped(room, quoted, b'\'', &[byte]);
+            put(room, end, b'\'')
+        }
+    }
+}
+
+/// Writes bytes from a place on as they stand between quotes, and answers where they end.
+fn put_escaped(room: &mut [u8], at: usize, quote: u8, bytes: &[u8]) -> usize
+    requires { at + 4 * length bytes.now ≤ length room.old }
+    ensures bytes { take result room.new ≡ take at room.old ++ escaped quote bytes.now }
+    ensures within { result ≤ at + 4 * length bytes.now }
+    ensures room { length room.new ≡ length room.old }
+{
+    let mut end = at;
+    for byte in bytes {
+        if is_plain(quote, *byte) {
+            end = put(room, end, *byte);
+        } else {
+            end = put_escape(room, end, *byte);
+        }
+    }
+    end
+}
+
+/// Writes a byte that doesn't stand for itself from a place on, and answers where it ends.
+fn put_escape(room: &mut [u8], at: usize, byte: u8) -> usize
+    requires { at + 4 ≤ length room.old }
+    ensures escape { take result room.new ≡ take at room.old ++ escape_for byte }
+    ensures within { result ≤ at + 4 }
+    ensures room { length room.new ≡ length room.old }
+{
+    match byte {
+        b'\n' => put_bytes(room, at, b"\\n"),
+        b'\t' => put_bytes(room, at, b"\\t"),
+        32..=126 => put_bytes(room, at, &[b'\\', byte]),
+        _ => put_bytes(
+            room,
+            at,
+            &[b'\\', b'x', hex_digit(byte / 16), hex_digit(byte % 16)],
+        ),
+    }
+}
+
+/// Writes bytes from a place on as they are, and answers where they end.
+fn put_bytes(room: &mut [u8], at: usize, bytes: &[u8]) -> usize
+    requires { at + length bytes.now ≤ length room.old }
+    ensures bytes { take result room.new ≡ take at room.old ++ bytes.now }
+    ensures end { result ≡ at + length bytes.now }
+    ensures room { length room.new ≡ length room.old }
+{
+    let mut end = at;
+    for byte in bytes {
+        end = put(room, end, *byte);
+    }
+    end
+}
+
+/// Writes a byte at a place, and answers the next one.
+fn put(room: &mut [u8], at: usize, byte: u8) -> usize
+    requires { at + 1 ≤ length room.old }
+    ensures byte { take result room.new ≡ take at room.old ++ byte ∷ [] }
+    ensures end { result ≡ at + 1 }
+    ensures room { length room.new ≡ length room.old }
+{
+    room[at] = byte;
+    at + 1
+}

@@ -1,0 +1,37 @@
+ghost use Rattle.std.specs.Prelude.{◌≡◌};
+ghost use Rattle.ly_report.specs.declared.fault.ReportFault.TheVariants.{OutOfMemory, Write};
+
+use ly_base::{OutOfMemory as NoMemory, WriteFault};
+use thiserror::Error;
+
+/// Why a report wasn't written whole.
+#[derive(Clone, Copy, Debug, PartialEq, Eq, Error)]
+pub enum ReportFault {
+    /// The writer failed in this call, and just the first `written` bytes of the report went out.
+    #[error("the report could not be written after {written} bytes")]
+    Write {
+        /// How many bytes went out.
+        written: usize,
+    },
+    /// A growth was refused. Nothing was written.
+    #[error("out of memory")]
+    OutOfMemory,
+}
+
+impl From<NoMemory> for ReportFault {
+    ghost from_gives = { λ _ e. e ≡ OutOfMemory };
+
+    fn from(_error: NoMemory) -> ReportFault {
+        ReportFault::OutOfMemory
+    }
+}
+
+impl From<WriteFault> for ReportFault {
+    ghost from_gives = { λ fault e. e ≡ Write fault.written };
+
+    fn from(fault: WriteFault) -> ReportFault {
+        ReportFault::Write {
+            written: fault.written,
+        }
+    }
+}

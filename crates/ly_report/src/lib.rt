@@ -1,0 +1,17 @@
+//! From the conflicts of a specification to the bytes of its report (POSIX, XCU yacc, "Conflicts").
+//!
+//! `report` tells which rules are removed, since they occur in no tree of the start symbol, how many conflicts there
+//! are, and of each behind which prefix and before which terminal it is, what is done there, and which rule isn't.
+//!
+//! Left out: which conflicts there are, and faults of specifications.
+#![tactic(auto)]
+
+mod fault;
+mod laws;
+mod line;
+mod name;
+mod write_report;
+
+pub use fault::ReportFault;
+pub use laws::report_is_one;
+pub use write_report::report;

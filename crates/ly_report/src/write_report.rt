@@ -1,0 +1,138 @@
+ghost use Rattle.std.specs.Prelude.{◌≡◌, ◌<◌, ◌++◌, ℕ, List, length, take, map, All, Err, IfOk, IsErrOf, OnOk};
+ghost use Rattle.std.specs.Io.KnownBytes.{Appends};
+ghost use Rattle.ly_base.specs.Device.{next_count};
+ghost use Rattle.ly_grammar.specs.Reduction.{KeepsUseful};
+ghost use Rattle.ly_join.specs.Grammar.{IsGrammar};
+ghost use Rattle.ly_resolve.specs.Values.{conflict_from, kind_from};
+ghost use Rattle.ly_report.specs.Report.{conflicts_text, count_of, counts_text, removed_count, removed_text};
+ghost use Rattle.ly_report.specs.Report.{AreRemoved, IsReport};
+ghost use Rattle.ly_report.specs.Private.Symbols.{IsTellable};
+
+use crate::fault::ReportFault;
+use crate::line::{push_conflict, push_decimal, push_removed};
+use ly_base::{OutOfMemory, Sink, write_whole};
+use ly_grammar::Reduced;
+use ly_join::{Grammar, Spec};
+use ly_lr0::Lr0;
+use ly_resolve::{Conflict, ConflictKind, Resolved};
+use std::alloc::{AllocError, Global};
+
+/// Writes the report of a specification: the rules that are removed, the counts of conflicts, and the conflicts by
+/// state, terminal, kind and rule. Nothing is written before the whole report is known.
+pub fn report<W: Sink>(
+    alloc: Global,
+    resolved: &Resolved<'_>,
+    writer: &mut W,
+) -> Result<(), ReportFault>
+    ensures whole { OnOk result ((text : List ℕ) × IsReport resolved.now.spec text
+        × Appends (W.contents writer.old) (W.contents writer.new) text) }
+    ensures beginning { (written : ℕ) → result ≡ Err (ReportFault.Write written) → (text : List ℕ)
+        × IsReport resolved.now.spec text × (written < length text)
+        × Appends (W.contents writer.old) (W.contents writer.new) (take written text) }
+    ensures failed { (written : ℕ) → result ≡ Err (ReportFault.Write written)
+        → W.failures writer.new ≡ next_count (W.failures writer.old) }
+    ensures held { OnOk result (W.failures writer.new ≡ W.failures writer.old) }
+    ensures untouched { IsErrOf result ReportFault.OutOfMemory → writer.new ≡ writer.old }
+{
+    let text = report_text(alloc, resolved)?;
+    write_whole(writer, &text)?;
+    Ok(())
+}
+
+/// The bytes of the report.
+fn report_text(alloc: Global, resolved: &Resolved<'_>) -> Result<Vec<u8>, OutOfMemory>
+    ensures { IfOk result (λ text. IsReport resolved.now.spec text.items) }
+{
+    let spec = resolved.spec();
+    let lr0 = resolved.lr0();
+    let removed = removed_rules(alloc, spec.grammar(), lr0.reduced())?;
+    let mut text = Vec::new(alloc);
+    push_removed_rules(&mut text, spec, &removed)?;
+    push_conflicts(alloc, &mut text, spec, lr0, resolved.conflicts())?;
+    Ok(text)
+}
+
+/// The numbers of the rules that are removed, rising.
+fn removed_rules(
+    alloc: Global,
+    grammar: &Grammar,
+    reduced: &Reduced<'_>,
+) -> Result<Vec<usize>, AllocError>
+    requires { KeepsUseful grammar.now reduced.now.grammar }
+    ensures these { IfOk result (λ removed. AreRemoved grammar.now removed.items) }
+    ensures lawful { OnOk result (IsGrammar grammar.now) }
+{
+    let mut removed = Vec::new(alloc);
+    for number in 0..grammar.rules().len() {
+        if !reduced.is_kept(number) {
+            removed.push(number)?;
+        }
+    }
+    Ok(removed)
+}
+
+/// Appends how many rules are removed, and a line for each.
+fn push_removed_rules(out: &mut Vec<u8>, spec: &Spec, removed: &[usize]) -> Result<(), AllocError>
+    requires { AreRemoved spec.now.grammar removed.now }
+    ensures { OnOk result (out.new.items ≡ out.old.items ++ removed_text spec.now removed.now) }
+{
+    push_removed_count(out, removed.len())?;
+    for number in removed {
+        push_removed(out, spec, *number)?;
+    }
+    Ok(())
+}
+
+/// Appends the line that says how many rules are removed.
+fn push_removed_count(out: &mut Vec<u8>, count: usize) -> Result<(), AllocError>
+    ensures { OnOk result (out.new.items ≡ out.old.items ++ removed_count count) }
+{
+    out.extend_from_slice(b"removed rules: ")?;
+    push_decimal(out, count)?;
+    out.push(b'\n')?;
+    Ok(())
+}
+
+/// Appends how many conflicts there are, and a line for each.
+fn push_conflicts(
+    alloc: Global,
+    out: &mut Vec<u8>,
+    spec: &Spec,
+    lr0: &Lr0<'_>,
+    conflicts: &[Conflict],
+) -> Result<(), OutOfMemory>
+    requires { All (IsTellable spec.now lr0.now) conflicts.now }
+    ensures { OnOk result (out.new.items
+        ≡ out.old.items ++ conflicts_text spec.now (map (conflict_from lr0.now) conflicts.now)) }
+{
+    push_counts(out, conflicts)?;
+    for conflict in conflicts {
+        push_conflict(alloc, out, spec, lr0, conflict)?;
+    }
+    Ok(())
+}
+
+/// Appends how many conflicts there are of each kind.
+fn push_counts(out: &mut Vec<u8>, conflicts: &[Conflict]) -> Result<(), AllocError>
+    ensures { OnOk result
+        (out.new.items ≡ out.old.items ++ counts_text (map (λ c. kind_from c.kind) conflicts.now)) }
+{
+    let shifts = count(conflicts, ConflictKind::ShiftReduce);
+    let reductions = count(conflicts, ConflictKind::ReduceReduce);
+    out.extend_from_slice(b"conflicts: ")?;
+    push_decimal(out, shifts)?;
+    out.extend_from_slice(b" shift/reduce, ")?;
+    push_decimal(out, reductions)?;
+    out.extend_from_slice(b" reduce/reduce\n")?;
+    Ok(())
+}
+
+/// How many conflicts are of a kind.
+fn count(conflicts: &[Conflict], kind: ConflictKind) -> usize
+    ensures { result ≡ count_of (kind_from kind) (map (λ c. kind_from c.kind) conflicts.now) }
+{
+    conflicts
+        .iter()
+        .filter(|conflict| conflict.kind == kind)
+        .count()
+}
