@@ -23,7 +23,8 @@ use Rattle.ly_yaccread.specs.File.{Written}
 use Rattle.ly_yaccread.specs.YaccText.{YaccText}
 use Rattle.ly_engine.specs.Answers.{AreTooHeavy, HaveTooManyStates}
 use Rattle.ly_engine.specs.declared.gen_fault.GenFault.{GenFault}
-use Rattle.ly_engine.specs.declared.gen_fault.GenFault.TheVariants.{Automaton, Grammar as NoGrammar, Join, Lex, OutOfMemory}
+use Rattle.ly_engine.specs.declared.gen_fault.GenFault.TheVariants.{Automaton, Grammar as NoGrammar, Join, Lex}
+use Rattle.ly_engine.specs.declared.gen_fault.GenFault.TheVariants.{OutOfMemory}
 use Rattle.ly_engine.specs.declared.gen_fault.GenFault.TheVariants.{Positions, States, Write, Yacc}
 
 -- The bytes of a lex file and of a yacc file say this specification, and are within the limits of files and scanners.

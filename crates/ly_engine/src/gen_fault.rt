@@ -1,5 +1,5 @@
 ghost use Rattle.std.specs.Prelude.{◌≡◌};
-ghost use Rattle.ly_engine.specs.GenFault.{Becomes};
+ghost use Rattle.ly_engine.specs.GenFault.{gen_of_report, Becomes};
 ghost use Rattle.ly_engine.specs.declared.gen_fault.GenFault.TheVariants as fault;
 ghost use Rattle.ly_grammar.specs.declared.fault.GrammarFault.TheVariants as grammar;
 ghost use Rattle.ly_join.specs.declared.fault.JoinFault.TheVariants as join;
@@ -15,6 +15,7 @@ use ly_join::JoinFault;
 use ly_lexread::LexFault;
 use ly_lr0::Lr0Fault;
 use ly_position::PosFault;
+use ly_report::ReportFault;
 use ly_subset::SubsetFault;
 use ly_yaccread::YaccFault;
 use thiserror::Error;
@@ -135,6 +136,17 @@ impl From<Lr0Fault> for GenFault {
         match fault {
             Lr0Fault::OutOfMemory => GenFault::OutOfMemory,
             fault => GenFault::Automaton(fault),
+        }
+    }
+}
+
+impl From<ReportFault> for GenFault {
+    ghost from_gives = { λ f e. e ≡ gen_of_report f };
+
+    fn from(fault: ReportFault) -> GenFault {
+        match fault {
+            ReportFault::Write { written } => GenFault::Write { written },
+            ReportFault::OutOfMemory => GenFault::OutOfMemory,
         }
     }
 }

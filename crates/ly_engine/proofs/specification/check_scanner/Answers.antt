@@ -16,9 +16,16 @@ returns-in_err-nfa-clause-refused c =
     let f = c.in_err-nfa.field-0.0 in
     when_becomes c.from_residual.result position.OutOfMemory Positions f _ c.from_residual.ensures.1
     (λ lex yacc text light. tt)
-    (λ ne lex yacc text light. (is_heavy f ne, (file, text, light,
+    (λ ne lex yacc text light. (
+      is_heavy f ne,
+      (
+        file,
+        text,
+        light,
         subst (λ (rs : List Rule). c.args.limits.now.total_weight < total_weight (defined file.names) rs)
-        c.deref.ensures.value (c.in_err-nfa.ensures.heavy (ap Err (is_heavy f ne))))))
+            c.deref.ensures.value (c.in_err-nfa.ensures.heavy (ap Err (is_heavy f ne))),
+      ),
+    ))
 
 pub returns-in_err-subsets-clause-refused : goal.returns-in_err-subsets-clause-refused
 returns-in_err-subsets-clause-refused c =
@@ -31,11 +38,18 @@ returns-in_err-subsets-clause-refused c =
     when_becomes c.from_residual-in_err-subsets.result subset.OutOfMemory States f _
     c.from_residual-in_err-subsets.ensures.1
     (λ lex yacc text light. tt)
-    (λ ne lex yacc text light. (is_many f ne, (file, text, light,
+    (λ ne lex yacc text light. (
+      is_many f ne,
+      (
+        file,
+        text,
+        light,
         subst (λ (rs : List Rule). total_weight names rs ≤ c.args.limits.now.total_weight) c.deref.ensures.value
-        c.in_ok-nfa.ensures.light,
+            c.in_ok-nfa.ensures.light,
         (more_sets_of_rules names file.rules.items file.conditions c.in_ok-nfa.nfa c.args.limits.now.scanner_states
-        spots).0 (c.in_err-subsets.ensures.many (ap Err (is_many f ne))))))
+            spots).0 (c.in_err-subsets.ensures.many (ap Err (is_many f ne))),
+      ),
+    ))
 
 pub returns-clause-few : goal.returns-clause-few
 returns-clause-few c =

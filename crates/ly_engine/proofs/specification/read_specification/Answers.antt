@@ -15,8 +15,13 @@ pub returns-in_err-spec-clause-refused : goal.returns-in_err-spec-clause-refused
 returns-in_err-spec-clause-refused c = when_becomes c.from_residual-in_err-spec.result join.OutOfMemory Join
     c.in_err-spec.field-0.0 (IsRefusedFor c.args.limits.now c.args.lex.now c.args.yacc.now)
     c.from_residual-in_err-spec.ensures.1 tt
-    (λ ne. (c.in_ok-lex.lex, written_of c.in_ok-yacc.yacc, c.in_ok-lex.ensures.ok, c.in_ok-yacc.ensures.ok,
-        c.in_err-spec.ensures.fault))
+    (λ ne. (
+      c.in_ok-lex.lex,
+      written_of c.in_ok-yacc.yacc,
+      c.in_ok-lex.ensures.ok,
+      c.in_ok-yacc.ensures.ok,
+      c.in_err-spec.ensures.fault,
+    ))
 
 pub returns-in_err-check_scanner-clause-refused : goal.returns-in_err-check_scanner-clause-refused
 returns-in_err-check_scanner-clause-refused c = when_same c.from_residual-in_err-check_scanner.result
