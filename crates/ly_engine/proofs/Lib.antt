@@ -2,6 +2,7 @@ pub mod AgreementLemmas
 pub mod AnswerLaws
 pub mod AnswerLemmas
 pub mod FileAgreementLemmas
+pub mod GenFaultLemmas
 pub mod PositionAgreementLemmas
 pub mod PositionWalkLemmas
 pub mod PrintingLemmas

@@ -1,6 +1,8 @@
+pub mod Accepted
 pub mod Agreement
 pub mod Answering
 pub mod Answers
+pub mod GenFault
 pub mod Laws
 pub mod PositionWalk
 pub mod Printing

@@ -6,17 +6,22 @@
 #![tactic(auto)]
 
 mod fault;
+mod gen_fault;
 mod laws;
 mod outcome;
 mod position_walk;
+mod reporting;
 mod row_walk;
 mod scanner;
+mod specification;
 mod token_lines;
 mod write_tokens;
 
 pub use fault::TokensFault;
+pub use gen_fault::GenFault;
 pub use laws::{answer_is_one, position_walk_agrees, row_walk_agrees};
 pub use outcome::TokenEnd;
 pub use position_walk::PositionWalk;
+pub use reporting::generate_report;
 pub use row_walk::RowWalk;
 pub use write_tokens::tokens;

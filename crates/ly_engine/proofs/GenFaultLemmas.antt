@@ -1,0 +1,75 @@
+-- A fault of the whole is that of a part.
+use Rattle.std.proofs.Common.{◌≡◌, ◌≢◌, ◌∙◌, ℕ, Err, IfErr, IfOk, List, Ok, Result, ap, inl, inr, refl, subst, sym}
+use Rattle.ly_base.specs.Limits.{Sizes}
+use Rattle.ly_join.specs.Joined.{Spec}
+use Rattle.ly_report.specs.declared.fault.ReportFault.{ReportFault}
+use Rattle.ly_report.specs.declared.fault.ReportFault.TheVariants as report
+use Rattle.ly_engine.specs.Accepted.{IsRefusedFor, IsUnfitFor, Specifies}
+use Rattle.std.specs.Result.{IsErrAnd}
+use Rattle.ly_position.specs.declared.fault.PosFault.{PosFault}
+use Rattle.ly_position.specs.declared.fault.PosFault.TheVariants as position
+use Rattle.ly_subset.specs.declared.fault.SubsetFault.{SubsetFault}
+use Rattle.ly_subset.specs.declared.fault.SubsetFault.TheVariants as subset
+use Rattle.ly_engine.specs.GenFault.{gen_of_report, Becomes}
+use Rattle.ly_engine.specs.declared.gen_fault.GenFault.{GenFault}
+use Rattle.ly_engine.specs.declared.gen_fault.GenFault.TheVariants.{Automaton, Grammar as NoGrammar, Join, Lex}
+use Rattle.ly_engine.specs.declared.gen_fault.GenFault.TheVariants.{OutOfMemory}
+use Rattle.ly_engine.specs.declared.gen_fault.GenFault.TheVariants.{Positions, States, Write, Yacc}
+
+-- what holds of want of memory and of a wrapped fault holds of what a fault becomes
+pub when_becomes : {T F : Type 0} (r : Result T GenFault) (memory : F) (wrap : F → GenFault) (f : F)
+    (P : GenFault → Type 0) → IsErrAnd r (Becomes memory wrap f) → P OutOfMemory → (f ≢ memory → P (wrap f)) → IfErr r P
+when_becomes (Ok x) memory wrap f P h none some = tt
+when_becomes (Err e) memory wrap f P (inl (is, same)) none some = subst P (sym same) none
+when_becomes (Err e) memory wrap f P (inr (ne, same)) none some = subst P (sym same) (some ne)
+
+-- faults without want of memory
+pub is_heavy : (f : PosFault) → f ≢ position.OutOfMemory → f ≡ position.TooManyPositions
+is_heavy position.OutOfMemory ne = absurd (ne refl)
+is_heavy position.TooManyPositions ne = refl
+
+pub is_many : (f : SubsetFault) → f ≢ subset.OutOfMemory → f ≡ subset.TooManyStates
+is_many subset.OutOfMemory ne = absurd (ne refl)
+is_many subset.TooManyStates ne = refl
+
+-- a fault that is handed on
+pub when_same : {T : Type 0} (r : Result T GenFault) (f : GenFault) (P : GenFault → Type 0) → IsErrAnd r (λ e. e ≡ f)
+    → P f → IfErr r P
+when_same (Ok x) f P h p = tt
+when_same (Err e) f P h p = subst P (sym h) p
+
+-- a failed write is that of the report
+pub wrote : {T : Type 0} (r : Result T GenFault) (f : ReportFault) (written : ℕ) → IsErrAnd r (λ e. e ≡ gen_of_report f)
+    → r ≡ Err (Write written) → f ≡ report.Write written
+wrote (Ok x) f written h is = absurd h
+wrote (Err e) (report.Write w) written h is =
+    let same : e ≡ Write written = cc in
+    let one : Write w ≡ Write written = sym h ∙ same in
+    let n : w ≡ written = cc in
+    ap report.Write n
+wrote (Err e) report.OutOfMemory written h is =
+    let same : e ≡ Write written = cc in
+    let no : OutOfMemory ≡ Write written = sym h ∙ same in
+    absurd cc
+
+-- what follows from what holds at Ok, or at a fault
+pub ok_weaker : {T E : Type 0} (r : Result T E) (P Q : T → Type 0) → ((x : T) → P x → Q x) → IfOk r P → IfOk r Q
+ok_weaker (Ok x) P Q f h = f x h
+ok_weaker (Err e) P Q f h = h
+
+pub err_weaker : {T E : Type 0} (r : Result T E) (P Q : E → Type 0) → ((e : E) → P e → Q e) → IfErr r P → IfErr r Q
+err_weaker (Ok x) P Q f h = h
+err_weaker (Err e) P Q f h = f e h
+
+-- what makes a specification unfit refuses the files that say it
+pub unfit_refused : (limits : Sizes) (lex yacc : List ℕ) (s : Spec) → Specifies limits lex yacc s → (fault : GenFault)
+    → IsUnfitFor limits s fault → IsRefusedFor limits lex yacc fault
+unfit_refused limits lex yacc s specifies (Lex f) unfit = absurd unfit
+unfit_refused limits lex yacc s specifies (Yacc f) unfit = absurd unfit
+unfit_refused limits lex yacc s specifies (Join f) unfit = absurd unfit
+unfit_refused limits lex yacc s specifies (Positions f) unfit = absurd unfit
+unfit_refused limits lex yacc s specifies (States f) unfit = absurd unfit
+unfit_refused limits lex yacc s specifies (NoGrammar f) unfit = (s, specifies, unfit)
+unfit_refused limits lex yacc s specifies (Automaton f) unfit = (s, specifies, unfit)
+unfit_refused limits lex yacc s specifies (Write written) unfit = absurd unfit
+unfit_refused limits lex yacc s specifies OutOfMemory unfit = tt

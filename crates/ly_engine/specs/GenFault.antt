@@ -1,0 +1,15 @@
+-- The faults of the parts as faults of generating.
+use Rattle.std.specs.Prelude.{◌≡◌, ◌≢◌, ◌⊎◌}
+use Rattle.ly_engine.specs.declared.gen_fault.GenFault.{GenFault}
+use Rattle.ly_engine.specs.declared.gen_fault.GenFault.TheVariants.{OutOfMemory, Write}
+use Rattle.ly_report.specs.declared.fault.ReportFault.{ReportFault}
+use Rattle.ly_report.specs.declared.fault.ReportFault.TheVariants as report
+
+-- A part's fault becomes one of the whole: its want of memory is that of the whole, and any other fault is wrapped.
+abbrev pub Becomes : {F : Type 0} → F → (F → GenFault) → F → GenFault → Type 0
+Becomes memory wrap fault e = ((fault ≡ memory) × (e ≡ OutOfMemory)) ⊎ ((fault ≢ memory) × (e ≡ wrap fault))
+
+-- so does a fault of the report, but that a failed write stays one
+abbrev pub gen_of_report : ReportFault → GenFault
+gen_of_report (report.Write written) = Write written
+gen_of_report report.OutOfMemory = OutOfMemory
