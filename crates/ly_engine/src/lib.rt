@@ -1,8 +1,10 @@
 //! From the bytes of a lex file and a text to the printed tokens: `tokens`. What it writes is the answer to the text
 //! under the file that the lex bytes spell (`Answers`), and there is one such answer (`answer_is_one`). It walks the
 //! rows of the smallest automaton of the patterns (`RowWalk`); `PositionWalk`, over the sets of their positions, is a
-//! second opinion, and both agree with the rules (`row_walk_agrees`, `position_walk_agrees`). The parser's side is to
-//! come.
+//! second opinion, and both agree with the rules (`row_walk_agrees`, `position_walk_agrees`).
+//!
+//! And from the bytes of a lex file and a yacc file to the report of their grammar: `generate_report`. The parser's
+//! tables are to come.
 #![tactic(auto)]
 
 mod fault;

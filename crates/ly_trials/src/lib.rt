@@ -21,4 +21,6 @@ mod examples;
 #[cfg(test)]
 mod memory;
 #[cfg(test)]
+mod reports;
+#[cfg(test)]
 mod walks;
