@@ -35,8 +35,7 @@ fn write_report(
     }
 }
 
-const NO_CONFLICTS: &[u8] =
-    b"removed rules: 0\nconflicts: 0 shift/reduce, 0 reduce/reduce\n";
+const NO_CONFLICTS: &[u8] = b"removed rules: 0\nconflicts: 0 shift/reduce, 0 reduce/reduce\n";
 
 /// Yacc files, whether no two actions are asked for anywhere, and their reports.
 const REPORTS: [(&[u8], bool, &[u8]); 15] = [
