@@ -13,6 +13,7 @@ pub mod MemSink
 pub mod MemSource
 pub mod Place
 pub mod Private
+pub mod Shape
 pub mod SparseSet
 pub mod Text
 pub mod Trees

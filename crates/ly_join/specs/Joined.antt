@@ -1,6 +1,7 @@
 -- The specification that a lex file and a yacc file are together.
 use Rattle.std.specs.Prelude.{◌≡◌, ℕ, List, [], ◌∷◌, length, slice_get, Option, Some, None}
 use Rattle.std.specs.List.{AllZip}
+use Rattle.ly_base.specs.Shape.{Shape, nil, node, place, shape_of}
 use Rattle.ly_yaccread.specs.Actions.{Making, default, pass, build}
 use Rattle.ly_yaccread.specs.File.{Written}
 use Rattle.ly_yaccread.specs.Rules.{Ruling}
@@ -12,27 +13,12 @@ use Rattle.ly_join.specs.Scanning.{Scanning, IsScanAction}
 use Rattle.ly_join.specs.Terminals.{Terminal, token, byte, IsNumbered}
 use Rattle.ly_join.specs.declared.precedence.Precedence.{Precedence}
 use Rattle.ly_join.specs.declared.rule.RuleNote as code
-use Rattle.ly_join.specs.declared.rule.RuleTree.{RuleTree}
-use Rattle.ly_join.specs.declared.rule.RuleTree.TheVariants.{Nil, Pass, Build}
 use Rattle.ly_join.specs.declared.scan_action.ScanAction.{ScanAction}
-
--- What the tree of a rule is: that of nothing, the tree at a place of its body, or a node of this constructor with the
--- trees at these places as its children.
-pub data Shape : Type 0 where
-  nil : Shape
-  place : ℕ → Shape
-  node : List ℕ → List ℕ → Shape
 
 -- what a rule says beside its symbols
 pub record Note : Type 0 where
   pub precedence : Option Precedence
   pub shape : Shape
-
--- whatever room their lists have
-abbrev pub shape_of : RuleTree → Shape
-shape_of Nil = nil
-shape_of (Pass p) = place p
-shape_of (Build n ps) = node n.items ps.items
 
 abbrev pub note_of : code.RuleNote → Note
 note_of n = record { precedence = n.precedence; shape = shape_of n.tree }

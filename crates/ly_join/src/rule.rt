@@ -3,11 +3,12 @@ ghost use Rattle.std.specs.Prelude.{◌≡◌, ◌<◌, ◌∷◌, [], length, m
 ghost use Rattle.std.specs.Prelude.{IfOk, IfSome, Some, slice_get, All};
 ghost use Rattle.std.specs.List.{AllZip};
 ghost use Rattle.std.specs.Option.{option_map, option_to_list};
+ghost use Rattle.ly_base.specs.Shape.{shape_of};
 ghost use Rattle.ly_yaccread.specs.Actions.{default};
 ghost use Rattle.ly_yaccread.specs.File.{making_of, ruling_of, symbol_word, symbol_words};
 ghost use Rattle.ly_join.specs.Grammar.{symbol_of};
 ghost use Rattle.ly_join.specs.Terminals.{token as token_terminal};
-ghost use Rattle.ly_join.specs.Joined.{last_terminal, note_of, shape_by, shape_of, IsJoinedRule, IsPrecedenceOf};
+ghost use Rattle.ly_join.specs.Joined.{last_terminal, note_of, shape_by, IsJoinedRule, IsPrecedenceOf};
 ghost use Rattle.ly_join.specs.Joined.{IsRulePrecedence, IsSymbol, IsTerminal};
 ghost use Rattle.ly_join.specs.Private.Rules.{table_from, AreCovered, HasLiteral, IsBelow, IsFaultOfRules};
 ghost use Rattle.ly_join.specs.Private.Rules.{IsRuleFault, IsTokenOnLeft, IsUndefinedIn, IsUnknownPrecIn, RulesJoined};
@@ -18,7 +19,7 @@ use crate::nonterminals::Nonterminals;
 use crate::precedence::Precedence;
 use crate::symbol::Symbol;
 use crate::terminal::Terminals;
-use ly_base::Sym;
+use ly_base::{RuleTree, Sym};
 use ly_yaccread::{Action, Production, Symbol as SymbolName};
 use std::alloc::{AllocError, Global};
 
@@ -29,22 +30,6 @@ pub struct RuleNote {
     pub precedence: Option<Precedence>,
     /// What its tree is.
     pub tree: RuleTree,
-}
-
-/// What the tree of a rule is. Places count the symbols of its body from 1.
-#[derive(Drop)]
-pub enum RuleTree {
-    /// The tree of nothing.
-    Nil,
-    /// The tree at this place.
-    Pass(u32),
-    /// A node.
-    Build {
-        /// Its constructor.
-        name: Vec<u8>,
-        /// The places of its children.
-        places: Vec<u32>,
-    },
 }
 
 /// What the symbols of rules are.

@@ -1,0 +1,4 @@
+pub mod Forest
+pub mod Shown
+pub mod Term
+pub mod TermLaws
