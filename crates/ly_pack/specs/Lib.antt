@@ -1,0 +1,6 @@
+pub mod Defaults
+pub mod Machine
+pub mod Placement
+pub mod Rows
+pub mod Steady
+pub mod Values

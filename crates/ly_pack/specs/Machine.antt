@@ -1,0 +1,84 @@
+-- Parsers as tables (Knuth 1965; Aho, Sethi and Ullman 1986, 4.7).
+use Rattle.std.specs.Prelude.{◌≡◌, ℕ, suc, ◌<◌, ◌≤◌, List, length, All, AllPairs, Option, Some, None, slice_get}
+use Rattle.ly_base.specs.Shape.{Shape, nil, place, node}
+use Rattle.ly_pack.specs.Rows.{Grid, cell}
+
+-- What a table's entry has a parser do before a terminal: shift it and go to a state, reduce by a rule, accept, or
+-- refuse it.
+pub data TableAction : Type 0 where
+  shift : ℕ → TableAction
+  reduce : ℕ → TableAction
+  accept : TableAction
+  error : TableAction
+
+-- A rule: its left side, how many symbols its body has, and what it makes of their trees.
+pub record TableRule : Type 0 where
+  pub left : ℕ
+  pub body_length : ℕ
+  pub shape : Shape
+
+-- A parser's tables: the entries of states and terminals, the default reduction of each state, the entries of states
+-- and nonterminals, and the rules but rule 0.
+pub record Machine : Type 0 where
+  pub terminals : ℕ
+  pub nonterminals : ℕ
+  pub actions : Grid TableAction
+  pub defaults : List (Option ℕ)
+  pub gotos : Grid ℕ
+  pub rules : List TableRule
+
+-- how many states there are
+abbrev pub states_of : Machine → ℕ
+states_of m = length m.defaults
+
+-- the entry of a state before a terminal, if there is one
+abbrev pub entry_at : Machine → ℕ → ℕ → Option TableAction
+entry_at m state t = cell m.actions state t
+
+-- where a state goes by a nonterminal, if it does
+abbrev pub goto_at : Machine → ℕ → ℕ → Option ℕ
+goto_at m state left = cell m.gotos state left
+
+-- the entry, or else the reduction by the default rule, or else an error
+abbrev pub or_default : Option TableAction → Option (Option ℕ) → TableAction
+or_default (Some a) d = a
+or_default None (Some (Some p)) = reduce p
+or_default None _ = error
+
+-- what is done in a state before a terminal
+abbrev pub action_of : Machine → ℕ → ℕ → TableAction
+action_of m state t = or_default (entry_at m state t) (slice_get m.defaults state)
+
+-- rule p of the tables is r; rule 0 isn't among them
+abbrev pub IsTableRule : Machine → ℕ → TableRule → Type 0
+IsTableRule m p r = (q : ℕ) × (p ≡ suc q) × (slice_get m.rules q ≡ Some r)
+
+-- the number is that of a rule
+abbrev pub IsRuleNumber : Machine → ℕ → Type 0
+IsRuleNumber m p = (1 ≤ p) × (p ≤ length m.rules)
+
+-- The end is accepted and never shifted, and what is shifted to and reduced by is there.
+abbrev pub IsLegal : Machine → ℕ → TableAction → Type 0
+IsLegal m t (shift state) = (state < states_of m) × (1 ≤ t)
+IsLegal m t (reduce p) = IsRuleNumber m p
+IsLegal m t accept = t ≡ 0
+IsLegal m t error = Unit {0}
+
+-- the shape speaks of places of a body of this length, of each once, and a constructor has a name
+abbrev pub IsShapeFor : ℕ → Shape → Type 0
+IsShapeFor n nil = n ≡ 0
+IsShapeFor n (place i) = (1 ≤ i) × (i ≤ n)
+IsShapeFor n (node name is) = (1 ≤ length name) × All (λ i. (1 ≤ i) × (i ≤ n)) is × AllPairs (λ i j. i ≡ j → ⊥) is
+
+-- a rule's left side and the places of its shape are there
+pub record IsRuleWithin (nonterminals : ℕ) (r : TableRule) : Type 0 where
+  pub left : r.left < nonterminals
+  pub shape : IsShapeFor r.body_length r.shape
+
+-- All that the tables name is there: states, rules, symbols and places. State 0 is the bottom's.
+pub record IsMachine (m : Machine) : Type 0 where
+  pub bottom : 0 < states_of m
+  pub actions : (state t : ℕ) (a : TableAction) → entry_at m state t ≡ Some a → IsLegal m t a
+  pub defaults : (state p : ℕ) → slice_get m.defaults state ≡ Some (Some p) → IsRuleNumber m p
+  pub gotos : (state left next : ℕ) → goto_at m state left ≡ Some next → next < states_of m
+  pub rules : All (IsRuleWithin m.nonterminals) m.rules

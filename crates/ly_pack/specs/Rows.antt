@@ -1,0 +1,63 @@
+-- Rows of entries, as they are kept: as they stand, and laid over one another.
+use Rattle.std.specs.Prelude.{◌≡◌, ℕ, ◌+◌, ◌*◌, ◌<◌, ◌≤◌, List, Option, Some, None, slice_get, slice_index}
+use Rattle.std.specs.Prelude.{length, map, option_and_then, nat_lt, nat_eq, if◌then◌else◌}
+use Rattle.std.specs.List.{range_with_len}
+
+-- for a row and a column the entry there, if there is one
+abbrev pub Entries : Type 0 → Type 0
+Entries E = ℕ → ℕ → Option E
+
+-- rows of entries written out
+abbrev pub Grid : Type 0 → Type 0
+Grid E = List (List (Option E))
+
+-- the entry of a row and a column
+abbrev pub cell : {E : Type 0} → Grid E → Entries E
+cell g row column = option_and_then (λ cells. option_and_then (λ e. e) (slice_get cells column)) (slice_get g row)
+
+-- so many rows of entries, each of this width, written out
+abbrev pub grid_of : {E : Type 0} → ℕ → ℕ → Entries E → Grid E
+grid_of rows width entries = map (λ row. map (entries row) (range_with_len 0 width)) (range_with_len 0 rows)
+
+-- Rows as they stand, one behind another, each of the same width.
+pub record Dense (E : Type 0) : Type 0 where
+  pub rows : ℕ
+  pub width : ℕ
+  pub cells : List (Option E)
+
+-- the entry of a row and a column
+abbrev pub dense_entry : {E : Type 0} → Dense E → Entries E
+dense_entry d row column = if nat_lt column d.width
+    then option_and_then (λ cell. cell) (slice_get d.cells (row * d.width + column)) else None
+
+-- there are as many cells as rows of the width have
+abbrev pub IsDense : {E : Type 0} → Dense E → Type 0
+IsDense d = length d.cells ≡ d.rows * d.width
+
+-- A slot that is used: its row, and the entry.
+pub record Used (E : Type 0) : Type 0 where
+  pub row : ℕ
+  pub entry : E
+
+-- Rows laid over one another: row r begins at its base, and its entries stand in slots that no other row uses there
+-- (Tarjan and Yao 1979; Aho, Sethi and Ullman 1986, 3.9).
+pub record Comb (E : Type 0) : Type 0 where
+  pub width : ℕ
+  pub bases : List ℕ
+  pub slots : List (Option (Used E))
+
+-- what a slot gives to a row: its entry, where the row uses it
+abbrev pub given_to : {E : Type 0} → ℕ → Used E → Option E
+given_to row slot = if nat_eq slot.row row then Some slot.entry else None
+
+-- the entry of a row and a column
+abbrev pub comb_entry : {E : Type 0} → Comb E → Entries E
+comb_entry c row column = if nat_lt column c.width
+    then option_and_then (λ base. option_and_then (λ slot. option_and_then (given_to row) slot)
+    (slice_get c.slots (base + column))) (slice_get c.bases row) else None
+
+-- Each base is in the list or at its end, and a used slot lies in its row.
+pub record IsComb {E : Type 0} (c : Comb E) : Type 0 where
+  pub bases : (row base : ℕ) → slice_get c.bases row ≡ Some base → base ≤ length c.slots
+  pub slots : (k : ℕ) (slot : Used E) → slice_get c.slots k ≡ Some (Some slot)
+      → (base : ℕ) × (slice_get c.bases slot.row ≡ Some base) × (base ≤ k) × (k < base + c.width)

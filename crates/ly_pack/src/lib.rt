@@ -1,0 +1,14 @@
+//! A parser's tables: rows of entries, and the machine that they are.
+#![tactic(auto)]
+
+mod action;
+mod dense;
+mod machine;
+mod rows;
+mod rule;
+
+pub use action::TableAction;
+pub use dense::Dense;
+pub use machine::Machine;
+pub use rows::Rows;
+pub use rule::TableRule;
