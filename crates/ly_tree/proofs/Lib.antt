@@ -1,1 +1,2 @@
+mod GrownLemmas
 mod HeadedLemmas
