@@ -1,2 +1,3 @@
 mod GrownLemmas
 mod HeadedLemmas
+mod PrintingLemmas

@@ -1,6 +1,7 @@
-ghost use Rattle.std.specs.Prelude.{◌≡◌, ◌<◌, ◌++◌, [], length, Some, None, All, IsSome, IfOk, OnOk};
-ghost use Rattle.ly_tree.specs.Forest.{term_of, StandsFor};
-ghost use Rattle.ly_tree.specs.Shown.{shown};
+ghost use Rattle.std.specs.Prelude.{◌≡◌, ◌<◌, ◌≤◌, ◌++◌, [], length, Some, IfOk, IsSome, OnOk};
+ghost use Rattle.ly_tree.specs.Forest.{term_of, Grown, StandsFor};
+ghost use Rattle.ly_tree.specs.Private.Printing.{next_text, number_text, waiting_text, AllWaitingKnown, IsNextKnown};
+ghost use Rattle.ly_tree.specs.Shown.{shown, Vocabulary};
 ghost use Rattle.ly_tree.specs.Term.{Term};
 
 use crate::forest::{Forest, TermNo};
@@ -22,7 +23,7 @@ impl Forest {
     {
         let mut printing = Printing {
             out: Vec::new(alloc),
-            open: Vec::new(alloc),
+            waiting: Vec::new(alloc),
         };
         let mut next = Some(root);
         while let Some(number) = next {
@@ -38,7 +39,7 @@ struct Printing<'f> {
     /// The text so far.
     out: Vec<u8>,
     /// For each node that is begun and not ended, the outermost first, the children behind the one that is printed.
-    open: Vec<&'f [TermNo]>,
+    waiting: Vec<&'f [TermNo]>,
 }
 
 impl<'f> Printing<'f> {
@@ -49,7 +50,17 @@ impl<'f> Printing<'f> {
         forest: &'f Forest,
         words: &W,
         number: TermNo,
-    ) -> Result<Option<TermNo>, OutOfMemory> {
+    ) -> Result<Option<TermNo>, OutOfMemory>
+        requires number { IsSome (term_of forest.now number) }
+        requires waiting { AllWaitingKnown forest.now self.old.waiting.items }
+        ensures text { let v : Vocabulary = record { terminal = W.terminals words.now; constructor = W.constructors words.now }
+            in IfOk result (λ next. self.new.out.items ++ next_text v forest.now next ++ waiting_text v forest.now self.new.waiting.items
+            ≡ self.old.out.items ++ number_text v forest.now number ++ waiting_text v forest.now self.old.waiting.items) }
+        ensures grows { OnOk result (length self.old.out.items < length self.new.out.items) }
+        ensures next { IfOk result (IsNextKnown forest.now) }
+        ensures waiting { OnOk result (AllWaitingKnown forest.now self.new.waiting.items) }
+        ensures ends { result ≡ Ok None → self.new.waiting.items ≡ [] }
+    {
         match number {
             TermNo::Nothing => self.out.extend_from_slice(b"()")?,
             TermNo::Leaf(leaf) => {
@@ -65,7 +76,7 @@ impl<'f> Printing<'f> {
                 self.out.extend_from_slice(words.constructor(rule))?;
                 self.out.push(b'(')?;
                 if let Some((first, others)) = children.split_first() {
-                    self.open.push(others)?;
+                    self.waiting.push(others)?;
                     return Ok(Some(*first));
                 }
                 self.out.push(b')')?;
@@ -75,11 +86,19 @@ impl<'f> Printing<'f> {
     }
 
     /// Prints what comes before the next term, and answers it if there is one.
-    fn go_on(&mut self) -> Result<Option<TermNo>, OutOfMemory> {
-        while let Some(children) = self.open.pop() {
+    fn go_on(&mut self) -> Result<Option<TermNo>, OutOfMemory>
+        ensures text { IfOk result (λ next. (v : Vocabulary) (f : Grown) → self.new.out.items ++ next_text v f next
+            ++ waiting_text v f self.new.waiting.items ≡ self.old.out.items ++ waiting_text v f self.old.waiting.items) }
+        ensures next { IfOk result (λ next. (f : Grown) → AllWaitingKnown f self.old.waiting.items → IsNextKnown f next) }
+        ensures waiting { OnOk result ((f : Grown) → AllWaitingKnown f self.old.waiting.items
+            → AllWaitingKnown f self.new.waiting.items) }
+        ensures ends { result ≡ Ok None → self.new.waiting.items ≡ [] }
+        ensures grows { OnOk result (length self.old.out.items ≤ length self.new.out.items) }
+    {
+        while let Some(children) = self.waiting.pop() {
             if let Some((next, others)) = children.split_first() {
                 self.out.push(b',')?;
-                self.open.push(others)?;
+                self.waiting.push(others)?;
                 return Ok(Some(*next));
             }
             self.out.push(b')')?;

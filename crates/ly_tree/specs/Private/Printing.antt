@@ -22,10 +22,14 @@ tail_text v f [] = codes ")"
 tail_text v f (n ∷ ns) = codes "," ++ number_text v f n ++ tail_text v f ns
 
 -- the ends of nodes, the last one's first
-abbrev pub open_text : Vocabulary → Grown → List (Bor (List TermNo)) → List ℕ
-open_text v f [] = []
-open_text v f (ns ∷ open) = open_text v f open ++ tail_text v f ns.now
+abbrev pub waiting_text : Vocabulary → Grown → List (Bor (List TermNo)) → List ℕ
+waiting_text v f [] = []
+waiting_text v f (ns ∷ rest) = waiting_text v f rest ++ tail_text v f ns.now
 
 -- each child that is left stands for a term
-abbrev pub AllOpenKnown : Grown → List (Bor (List TermNo)) → Type 0
-AllOpenKnown f open = All (λ ns. AllKnown f ns.now) open
+abbrev pub AllWaitingKnown : Grown → List (Bor (List TermNo)) → Type 0
+AllWaitingKnown f waiting = All (λ ns. AllKnown f ns.now) waiting
+
+-- the term that is next, if there is one, is there
+abbrev pub IsNextKnown : Grown → Option TermNo → Type 0
+IsNextKnown f next = IfSome next (λ n. IsSome (term_of f n))
