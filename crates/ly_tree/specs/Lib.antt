@@ -1,4 +1,6 @@
 pub mod Forest
+pub mod GrownCode
+pub mod Private
 pub mod Shown
 pub mod Term
 pub mod TermLaws

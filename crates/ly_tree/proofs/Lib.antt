@@ -1,0 +1,3 @@
+mod GrownLemmas
+mod HeadedLemmas
+mod PrintingLemmas

@@ -1,0 +1,17 @@
+use Rattle.ly_tree.proofs.GrownLemmas.{leaf_keeps, leaf_known, leaf_stands}
+use Rattle.ly_tree.proofs.forest.Forest.leaf.Goals as goal
+
+pub invariant_of-self-2 : goal.invariant_of-self-2
+invariant_of-self-2 c =
+    leaf_known c.self.inside.leaves c.push.new.self (c.args.terminal, c.args.text.now) c.self.inside.nodes
+    c.self.invariant c.in_ok-push.ensures.ok
+
+pub returns-clause-stands : goal.returns-clause-stands
+returns-clause-stands c =
+    leaf_stands c.self.inside.leaves c.push.new.self (c.args.terminal, c.args.text.now) c.self.inside.nodes
+    c.in_ok-push.field-0 c.in_ok-push.ensures.ok c.in_ok-push.ensures.number
+
+pub returns-clause-keeps : goal.returns-clause-keeps
+returns-clause-keeps c =
+    leaf_keeps c.self.inside.leaves c.push.new.self (c.args.terminal, c.args.text.now) c.self.inside.nodes
+    c.args.self.now c.self.invariant c.self.view_is c.in_ok-push.ensures.ok

@@ -1,0 +1,93 @@
+ghost use Rattle.std.specs.Prelude.{◌≡◌, ◌<◌, ◌≤◌, ◌-◌, [], ◌∷◌, ◌++◌, length, take, drop, slice_get, Some, OnOk, OnErr, IfOk};
+ghost use Rattle.ly_tree.specs.Private.Headed.{start_after};
+
+use ly_base::OutOfMemory;
+use std::alloc::Global;
+use std::marker::Model;
+
+/// Lists, each under a head, one after another in one block.
+#[derive(Drop)]
+pub(crate) struct Headed<H, T> {
+    /// Their heads.
+    heads: Vec<H>,
+    /// Where each list ends among the members.
+    ends: Vec<usize>,
+    /// The members of all lists.
+    members: Vec<T>,
+}
+
+impl<H, T> Model for Headed<H, T> {
+    ghost use Rattle.std.specs.Prelude.{List};
+    ghost use Rattle.std.specs.Coded.{coded_list, coded×};
+
+    ghost Value = { List (H × List T) };
+
+    ghost coded = { coded_list (coded× H.code (coded_list T.code)) };
+
+    ghost use Rattle.ly_tree.specs.Private.Headed.{headed_from, EndsFit};
+    ghost use Rattle.std.specs.Prelude.{length};
+
+    ghost view = { λ l. headed_from 0 l.heads.items l.ends.items l.members.items };
+
+    ghost invariant = { λ l. EndsFit 0 l.heads.items l.ends.items (length l.members.items) };
+}
+
+impl<H, T> Headed<H, T> {
+    /// No lists.
+    pub(crate) fn new(alloc: Global) -> Self
+        ensures { result ≡ [] }
+    {
+        Headed {
+            heads: Vec::new(alloc),
+            ends: Vec::new(alloc),
+            members: Vec::new(alloc),
+        }
+    }
+}
+
+impl<H: Copy, T: Copy> Headed<H, T> {
+    /// Adds a list, and answers its number. After the fault the lists are as they were.
+    pub(crate) fn push(&mut self, head: H, list: &[T]) -> Result<u32, OutOfMemory>
+        ensures ok { OnOk result (self.new ≡ self.old ++ (head, list.now) ∷ []) }
+        ensures number { IfOk result (λ n. n ≡ length self.old) }
+        ensures err { OnErr result (self.new ≡ self.old) }
+    {
+        let number = self.heads.len();
+        if number > u32::MAX as usize {
+            return Err(OutOfMemory);
+        }
+        self.heads.reserve(1)?;
+        self.ends.reserve(1)?;
+        self.members.extend_from_slice(list)?;
+        self.heads.push_reserved(head);
+        self.ends.push_reserved(self.members.len());
+        Ok(number as u32)
+    }
+
+    /// The list of a number, under its head.
+    pub(crate) fn get(&self, number: u32) -> (H, &[T])
+        requires { number < length self.now }
+        ensures { slice_get self.now number ≡ Some (result.0, result.1.now) }
+    {
+        let at = number as usize;
+        let start = start_of(&self.ends, at);
+        let list = part(&self.members, start, self.ends[at]);
+        (self.heads[at], list)
+    }
+}
+
+fn part<T>(members: &[T], start: usize, end: usize) -> &[T]
+    requires rises { start ≤ end }
+    requires within { end ≤ length members.now }
+    ensures { result.now ≡ take (end - start) (drop start members.now) }
+{
+    &members[start..end]
+}
+
+/// Where a list begins: where the one before it ends.
+fn start_of(ends: &[usize], number: usize) -> usize
+    requires { number < length ends.now }
+    ensures { result ≡ start_after 0 ends.now number }
+{
+    if number == 0 { 0 } else { ends[number - 1] }
+}

@@ -1,0 +1,108 @@
+ghost use Rattle.std.specs.Prelude.{◌≡◌, ◌<◌, ◌≤◌, ◌++◌, [], length, Some, IfOk, IsSome, OnOk};
+ghost use Rattle.ly_tree.specs.Forest.{term_of, Grown, StandsFor};
+ghost use Rattle.ly_tree.specs.Private.Printing.{next_text, number_text, waiting_text, AllWaitingKnown, IsNextKnown};
+ghost use Rattle.ly_tree.specs.Shown.{shown, Vocabulary};
+ghost use Rattle.ly_tree.specs.Term.{Term};
+
+use crate::forest::{Forest, TermNo};
+use crate::words::Words;
+use ly_base::{OutOfMemory, Terminal, push_leaf};
+use std::alloc::Global;
+
+impl Forest {
+    /// Prints the term of a number: nothing is `()`, a leaf is as `NUM"12"`, and a node as `Add(NUM"1",NUM"2")`.
+    pub fn show<W: Words>(
+        &self,
+        alloc: Global,
+        words: &W,
+        root: TermNo,
+    ) -> Result<Vec<u8>, OutOfMemory>
+        requires { IsSome (term_of self.now root) }
+        ensures { IfOk result (λ out. (t : Term) → StandsFor self.now root t → out.items ≡ shown
+            (record { terminal = W.terminals words.now; constructor = W.constructors words.now }) t) }
+    {
+        let mut printing = Printing {
+            out: Vec::new(alloc),
+            waiting: Vec::new(alloc),
+        };
+        let mut next = Some(root);
+        while let Some(number) = next {
+            next = printing.print(self, words, number)?;
+        }
+        Ok(printing.out)
+    }
+}
+
+/// A term that is being printed.
+#[derive(Drop)]
+struct Printing<'f> {
+    /// The text so far.
+    out: Vec<u8>,
+    /// For each node that is begun and not ended, the outermost first, the children behind the one that is printed.
+    waiting: Vec<&'f [TermNo]>,
+}
+
+impl<'f> Printing<'f> {
+    /// Prints a term as far as its first child, which is answered; a term without children whole, and then what comes
+    /// before the next term, which is answered if there is one.
+    fn print<W: Words>(
+        &mut self,
+        forest: &'f Forest,
+        words: &W,
+        number: TermNo,
+    ) -> Result<Option<TermNo>, OutOfMemory>
+        requires number { IsSome (term_of forest.now number) }
+        requires waiting { AllWaitingKnown forest.now self.old.waiting.items }
+        ensures text { let v : Vocabulary = record { terminal = W.terminals words.now; constructor = W.constructors words.now }
+            in IfOk result (λ next. self.new.out.items ++ next_text v forest.now next ++ waiting_text v forest.now self.new.waiting.items
+            ≡ self.old.out.items ++ number_text v forest.now number ++ waiting_text v forest.now self.old.waiting.items) }
+        ensures grows { OnOk result (length self.old.out.items < length self.new.out.items) }
+        ensures next { IfOk result (IsNextKnown forest.now) }
+        ensures waiting { OnOk result (AllWaitingKnown forest.now self.new.waiting.items) }
+        ensures ends { result ≡ Ok None → self.new.waiting.items ≡ [] }
+    {
+        match number {
+            TermNo::Nothing => self.out.extend_from_slice(b"()")?,
+            TermNo::Leaf(leaf) => {
+                let (terminal, text) = forest.leaf_at(leaf);
+                push_leaf(
+                    &mut self.out,
+                    Terminal::Token(words.terminal_name(terminal)),
+                    text,
+                )?;
+            }
+            TermNo::Node(node) => {
+                let (rule, children) = forest.node_at(node);
+                self.out.extend_from_slice(words.constructor(rule))?;
+                self.out.push(b'(')?;
+                if let Some((first, others)) = children.split_first() {
+                    self.waiting.push(others)?;
+                    return Ok(Some(*first));
+                }
+                self.out.push(b')')?;
+            }
+        }
+        self.go_on()
+    }
+
+    /// Prints what comes before the next term, and answers it if there is one.
+    fn go_on(&mut self) -> Result<Option<TermNo>, OutOfMemory>
+        ensures text { IfOk result (λ next. (v : Vocabulary) (f : Grown) → self.new.out.items ++ next_text v f next
+            ++ waiting_text v f self.new.waiting.items ≡ self.old.out.items ++ waiting_text v f self.old.waiting.items) }
+        ensures next { IfOk result (λ next. (f : Grown) → AllWaitingKnown f self.old.waiting.items → IsNextKnown f next) }
+        ensures waiting { OnOk result ((f : Grown) → AllWaitingKnown f self.old.waiting.items
+            → AllWaitingKnown f self.new.waiting.items) }
+        ensures ends { result ≡ Ok None → self.new.waiting.items ≡ [] }
+        ensures grows { OnOk result (length self.old.out.items ≤ length self.new.out.items) }
+    {
+        while let Some(children) = self.waiting.pop() {
+            if let Some((next, others)) = children.split_first() {
+                self.out.push(b',')?;
+                self.waiting.push(others)?;
+                return Ok(Some(*next));
+            }
+            self.out.push(b')')?;
+        }
+        Ok(None)
+    }
+}
