@@ -3,4 +3,5 @@ pub mod Machine
 pub mod Placement
 pub mod Rows
 pub mod Steady
+pub mod SteadyLaws
 pub mod Values

@@ -3,12 +3,14 @@
 
 mod action;
 mod dense;
+mod laws;
 mod machine;
 mod rows;
 mod rule;
 
 pub use action::TableAction;
 pub use dense::Dense;
+pub use laws::{runs_end, stacks_keep_edges};
 pub use machine::Machine;
 pub use rows::Rows;
 pub use rule::TableRule;
