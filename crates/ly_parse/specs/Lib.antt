@@ -1,0 +1,6 @@
+pub mod FaultNames
+pub mod Feeding
+pub mod FeedingLaws
+pub mod Parse
+pub mod ParseCode
+pub mod Private

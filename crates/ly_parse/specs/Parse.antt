@@ -1,0 +1,41 @@
+-- What a parser holds, and what a call of it does.
+use Rattle.std.specs.Prelude.{◌≡◌, ℕ, ◌+◌, List, [], Bool, true, false, Result, Ok, Err}
+use Rattle.ly_base.specs.Lexed.{Token}
+use Rattle.ly_pack.specs.Machine.{Machine}
+use Rattle.ly_parse.specs.Feeding.{Feeds, Level, done, faulty, pushed, refused}
+use Rattle.ly_parse.specs.declared.fault.ParseFault.{ParseFault}
+use Rattle.ly_parse.specs.declared.fault.ParseFault.TheVariants.{OutOfMemory, Over, TableFault}
+use Rattle.ly_parse.specs.declared.step.Step as code
+use Rattle.ly_parse.specs.declared.step.Step.TheVariants.{Done, More, Refused}
+use Rattle.ly_tree.specs.Forest.{Grown, StandsFor}
+use Rattle.ly_tree.specs.Term.{Term}
+
+-- A parse: the tables, the forest, the stack, its top first, how many tokens were read, and whether it is over.
+pub record Parse : Type 0 where
+  pub machine : Machine
+  pub forest : Grown
+  pub stack : List Level
+  pub count : ℕ
+  pub over : Bool
+
+-- What a parse that isn't over does with a token, by what is answered: it goes on behind the token, it ends with a
+-- term, it refuses the token, which it counts, or the tables are at fault. Want of memory says nothing.
+abbrev pub Takes : Parse → Token ℕ → Parse → Result code.Step ParseFault → Type 0
+Takes p t q (Ok More) = Feeds p.machine t p.stack (pushed q.stack) × (q.count ≡ p.count + 1)
+Takes p t q (Ok (Done root)) = (d : Term) × Feeds p.machine t p.stack (done d) × StandsFor q.forest root d
+Takes p t q (Ok (Refused token byte)) = Feeds p.machine t p.stack refused × (token ≡ p.count + 1) × (byte ≡ t.at)
+Takes p t q (Err TableFault) = Feeds p.machine t p.stack faulty
+Takes p t q (Err Over) = ⊥
+Takes p t q (Err OutOfMemory) = Unit {0}
+
+-- whether a parse is over after an answer
+abbrev pub is_last : Result code.Step ParseFault → Bool
+is_last (Ok More) = false
+is_last _ = true
+
+-- What a call with a token does: a parse that is over stays as it is, and says so; any other takes the token.
+pub record IsCall (p : Parse) (t : Token ℕ) (q : Parse) (answer : Result code.Step ParseFault) : Type 0 where
+  pub after_end : p.over ≡ true → (answer ≡ Err Over) × (q ≡ p)
+  pub before_end : p.over ≡ false → Takes p t q answer
+  pub machine : q.machine ≡ p.machine
+  pub over : q.over ≡ is_last answer

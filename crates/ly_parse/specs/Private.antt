@@ -1,0 +1,2 @@
+-- What private functions' contracts cite.
+pub mod Stack

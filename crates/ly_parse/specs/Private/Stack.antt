@@ -1,0 +1,44 @@
+-- A parser's stack as it is kept, with its top last, and as contracts see it.
+use Rattle.std.specs.Prelude.{◌≡◌, ℕ, ◌<◌, List, [], ◌∷◌, All, Bool, IsSome, Option, map, reverse, unwrap_or}
+use Rattle.ly_base.specs.Lexed.{Token}
+use Rattle.ly_pack.specs.Machine.{Machine, states_of}
+use Rattle.ly_pack.specs.Steady.{IsSteady}
+use Rattle.ly_pack.specs.SteadyLaws.{IsStack}
+use Rattle.ly_parse.specs.Feeding.{Fed, Feeds, Level, states_on}
+use Rattle.ly_parse.specs.Parse.{Parse}
+use Rattle.ly_parse.specs.declared.parser.Level as code
+use Rattle.ly_tree.specs.Forest.{Grown, term_of}
+use Rattle.ly_tree.specs.Term.{Terms, more, none, nothing}
+
+-- a level with the term of its number
+abbrev pub level_from : Grown → code.Level → Level
+level_from f l = record { state = l.state.0; term = unwrap_or (term_of f l.term) nothing }
+
+abbrev pub stack_from : Grown → List code.Level → List Level
+stack_from f levels = map (level_from f) (reverse levels)
+
+abbrev pub parse_from : Machine → Grown → List code.Level → ℕ → Bool → Parse
+parse_from m f levels count over
+    = record { machine = m; forest = f; stack = stack_from f levels; count = count; over = over }
+
+-- The tables are steady, each level's state is one of theirs and its term is in the forest, and neighbours on the stack
+-- are edges.
+pub record IsParse (m : Machine) (f : Grown) (levels : List code.Level) : Type 0 where
+  pub steady : IsSteady m
+  pub states : All (λ l. l.state.0 < states_of m) levels
+  pub terms : All (λ l. IsSome (term_of f l.term)) levels
+  pub edges : IsStack m (states_on (stack_from f levels))
+
+-- the terms of a stack, its top first, as they stand in the text
+abbrev pub terms_onto : List Level → Terms → Terms
+terms_onto [] ts = ts
+terms_onto (l ∷ stack) ts = terms_onto stack (more l.term ts)
+
+-- what becomes of each token of the terminal on the one stack becomes of it on the other
+abbrev pub FeedAlike : Machine → ℕ → List Level → List Level → Type 0
+FeedAlike m t stack other = (token : Token ℕ) (out : Fed) → token.terminal ≡ t → Feeds m token stack out
+    → Feeds m token other out
+
+-- each token of the terminal becomes this
+abbrev pub FeedAs : Machine → ℕ → List Level → Fed → Type 0
+FeedAs m t stack out = (token : Token ℕ) → token.terminal ≡ t → Feeds m token stack out

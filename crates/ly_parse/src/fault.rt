@@ -1,0 +1,71 @@
+ghost use Rattle.std.specs.Prelude.{◌≡◌};
+ghost use Rattle.ly_parse.specs.declared.fault.ParseFault.TheVariants as fault;
+
+use ly_base::OutOfMemory;
+use std::alloc::{AllocError, AllocFailed};
+use thiserror::Error;
+
+/// Why a parser has no step to answer. The parse is over then.
+#[derive(Clone, Copy, Debug, PartialEq, Eq, Error)]
+pub enum ParseFault {
+    /// The tables are at fault: a goto is missing, a body goes past the bottom of the stack, or they accept without a
+    /// term.
+    #[error("the tables are at fault")]
+    TableFault,
+    /// The parse was over before the call.
+    #[error("the parse is over")]
+    Over,
+    /// A growth was refused.
+    #[error("out of memory")]
+    OutOfMemory,
+}
+
+impl ParseFault {
+    ghost use Rattle.ly_parse.specs.FaultNames.{parse_name, parse_number};
+
+    /// The fault's number; want of memory has none.
+    pub fn number(&self) -> Option<u8>
+        ensures { result ≡ parse_number self.now }
+    {
+        match self {
+            ParseFault::TableFault => Some(90),
+            ParseFault::Over => Some(91),
+            ParseFault::OutOfMemory => None,
+        }
+    }
+
+    /// The fault's name.
+    pub fn name(&self) -> &'static str
+        ensures { result.now ≡ parse_name self.now }
+    {
+        match self {
+            ParseFault::TableFault => "TableFault",
+            ParseFault::Over => "Over",
+            ParseFault::OutOfMemory => "OutOfMemory",
+        }
+    }
+}
+
+impl From<AllocError> for ParseFault {
+    ghost from_gives = { λ _ e. e ≡ fault.OutOfMemory };
+
+    fn from(_error: AllocError) -> ParseFault {
+        ParseFault::OutOfMemory
+    }
+}
+
+impl<T: Drop> From<AllocFailed<T>> for ParseFault {
+    ghost from_gives = { λ _ e. e ≡ fault.OutOfMemory };
+
+    fn from(_error: AllocFailed<T>) -> ParseFault {
+        ParseFault::OutOfMemory
+    }
+}
+
+impl From<OutOfMemory> for ParseFault {
+    ghost from_gives = { λ _ e. e ≡ fault.OutOfMemory };
+
+    fn from(_error: OutOfMemory) -> ParseFault {
+        ParseFault::OutOfMemory
+    }
+}

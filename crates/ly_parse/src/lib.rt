@@ -1,0 +1,21 @@
+//! From tokens to a term, by a parser's tables.
+//!
+//! A `Parser` holds the tables, a stack of states and terms, and the forest that these stand in. Each call makes the
+//! turns of the tables on its token (`Feeds`): reductions, and then the token is read, accepted with a term or refused.
+//! It asks for steady tables, so that every call ends.
+//!
+//! Left out: where tokens come from, and what a refusal is printed as.
+#![tactic(auto)]
+
+mod fault;
+mod laws;
+mod parser;
+mod settled;
+mod step;
+mod token;
+
+pub use fault::ParseFault;
+pub use laws::a_token_is_fed_in_one_way;
+pub use parser::Parser;
+pub use step::Step;
+pub use token::Token;

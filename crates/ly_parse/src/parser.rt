@@ -1,0 +1,256 @@
+ghost use Rattle.std.specs.Prelude.{◌≡◌, ◌≢◌, ◌<◌, ◌≤◌, ◌+◌, [], ◌∷◌, Err, Ok, false, length, take, IfOk, IsSome, OnOk};
+ghost use Rattle.ly_base.specs.Shape.{shape_of};
+ghost use Rattle.ly_pack.specs.Machine.{accept, action_of, error, shift, IsRuleNumber, IsShapeFor};
+ghost use Rattle.ly_pack.specs.Steady.{rule_at, IsSteady};
+ghost use Rattle.ly_parse.specs.Feeding.{faulty, goes_on, reduce_by, settles, top_of};
+ghost use Rattle.ly_parse.specs.Parse.{IsCall};
+ghost use Rattle.ly_parse.specs.Private.Stack.{terms_onto, FeedAlike, FeedAs};
+ghost use Rattle.ly_parse.specs.declared.fault.ParseFault.TheVariants as fault;
+ghost use Rattle.ly_parse.specs.declared.settled.Settled.TheVariants as settled;
+ghost use Rattle.ly_parse.specs.declared.step.Step.TheVariants as step;
+ghost use Rattle.ly_tree.specs.Forest.{Keeps, StandsFor};
+ghost use Rattle.ly_tree.specs.Term.{made, none};
+
+use crate::fault::ParseFault;
+use crate::settled::Settled;
+use crate::step::Step;
+use crate::token::Token;
+use ly_base::{OutOfMemory, RuleNo, RuleTree, StateNo, Sym};
+use ly_pack::{Machine, Rows, TableAction};
+use ly_tree::{Forest, TermNo};
+use std::alloc::Global;
+use std::marker::Model;
+
+/// A state on the stack, with the term that led to it.
+#[derive(Clone, Copy)]
+struct Level {
+    state: StateNo,
+    term: TermNo,
+}
+
+/// A parse over tables of which every run ends.
+#[derive(Drop)]
+pub struct Parser<'a, A: Rows<TableAction> + Drop, G: Rows<StateNo> + Drop> {
+    /// The tables.
+    machine: &'a Machine<A, G>,
+    /// The terms so far.
+    forest: Forest,
+    /// The stack above the bottom, whose state is 0; its top is last.
+    stack: Vec<Level>,
+    /// The children of a node that is being made.
+    children: Vec<TermNo>,
+    /// How many tokens were read.
+    count: u64,
+    /// Whether the parse has ended, well or not.
+    over: bool,
+}
+
+impl<'a, A: Rows<TableAction> + Drop, G: Rows<StateNo> + Drop> Model for Parser<'a, A, G> {
+    ghost use Rattle.ly_parse.specs.Parse as value;
+    ghost use Rattle.std.specs.Coded.{codes};
+    ghost use Rattle.ly_parse.specs.ParseCode.{level_code};
+    ghost use Rattle.ly_tree.specs.GrownCode.{grown_code};
+    ghost use Rattle.ly_parse.specs.Private.Stack.{parse_from, IsParse};
+
+    ghost Value = { value.Parse };
+
+    ghost coded = { Prim.hlevel (codes, level_code, grown_code) };
+
+    ghost view = { λ p. parse_from p.machine.now p.forest p.stack.items p.count p.over };
+
+    ghost invariant = { λ p. IsParse p.machine.now p.forest p.stack.items };
+}
+
+impl<'a, A: Rows<TableAction> + Drop, G: Rows<StateNo> + Drop> Parser<'a, A, G> {
+    /// A parse that has read nothing: the bottom alone is on its stack.
+    pub fn new(alloc: Global, machine: &'a Machine<A, G>) -> Self
+        requires { IsSteady machine.now }
+        ensures { result ≡ record {
+          machine = machine.now;
+          forest = record { leaves = []; nodes = [] };
+          stack = [];
+          count = 0;
+          over = false;
+        } }
+    {
+        Parser {
+            machine,
+            forest: Forest::new(alloc),
+            stack: Vec::new(alloc),
+            children: Vec::new(alloc),
+            count: 0,
+            over: false,
+        }
+    }
+
+    /// The terms so far.
+    pub fn forest(&self) -> &Forest
+        ensures { result.now ≡ self.now.forest }
+    {
+        &self.forest
+    }
+
+    /// Gives up the stack, and hands out the terms.
+    pub fn into_forest(self) -> Forest
+        ensures { result ≡ self.forest }
+    {
+        self.forest
+    }
+
+    /// Takes a token: makes the reductions before it, and then reads it or refuses it. After any other answer than
+    /// `More` the parse is over.
+    pub fn feed(&mut self, token: &Token<'_>) -> Result<Step, ParseFault>
+        requires not_end { token.now.terminal.0 ≢ 0 }
+        requires terminal { token.now.terminal.0 < self.old.machine.terminals }
+        ensures { IsCall self.old (record { terminal = token.now.terminal.0; at = token.now.at; bytes = token.now.text.now })
+            self.new result }
+    {
+        self.take(token)
+    }
+
+    /// Takes the end of the text, which stands at this byte: makes the reductions before it, and then accepts or
+    /// refuses it. The parse is over then.
+    pub fn end(&mut self, at: u64) -> Result<Step, ParseFault>
+        requires { 0 < self.old.machine.terminals }
+        ensures call { IsCall self.old (record { terminal = 0; at = at; bytes = [] }) self.new result }
+        ensures last { result ≢ Ok step.More }
+    {
+        self.take(&Token {
+            terminal: Sym(0),
+            at,
+            text: b"",
+        })
+    }
+
+    /// Takes a token, or the end.
+    fn take(&mut self, token: &Token<'_>) -> Result<Step, ParseFault>
+        requires { token.now.terminal.0 < self.old.machine.terminals }
+        ensures call { IsCall self.old (record { terminal = token.now.terminal.0; at = token.now.at; bytes = token.now.text.now })
+            self.new result }
+        ensures read { result ≡ Ok step.More → token.now.terminal.0 ≢ 0 }
+    {
+        if self.over {
+            return Err(ParseFault::Over);
+        }
+        self.over = true;
+        match self.settle(token.terminal)? {
+            Settled::Reads(state) => self.read(state, token),
+            Settled::Accepts => self.accept(),
+            Settled::Refuses => self.refuse(token.at),
+        }
+    }
+
+    /// Makes the reductions before a terminal, and answers what is done then.
+    fn settle(&mut self, terminal: Sym) -> Result<Settled, ParseFault>
+        requires { terminal.0 < self.old.machine.terminals }
+        ensures alike { OnOk result (FeedAlike self.old.machine terminal.0 self.new.stack self.old.stack) }
+        ensures reads { (state : StateNo) → result ≡ Ok (settled.Reads state)
+            → action_of self.old.machine (top_of self.new.stack) terminal.0 ≡ shift state.0 }
+        ensures accepts { result ≡ Ok settled.Accepts
+            → action_of self.old.machine (top_of self.new.stack) terminal.0 ≡ accept }
+        ensures refuses { result ≡ Ok settled.Refuses
+            → action_of self.old.machine (top_of self.new.stack) terminal.0 ≡ error }
+        ensures faulty { result ≡ Err fault.TableFault → FeedAs self.old.machine terminal.0 self.old.stack faulty }
+        ensures not_over { result ≢ Err fault.Over }
+        ensures machine { self.new.machine ≡ self.old.machine }
+        ensures count { self.new.count ≡ self.old.count }
+        ensures over { self.new.over ≡ self.old.over }
+    {
+        loop {
+            match self.machine.action(self.top(), terminal) {
+                TableAction::Reduce(rule) => self.reduce(rule)?,
+                TableAction::Shift(state) => return Ok(Settled::Reads(state)),
+                TableAction::Accept => return Ok(Settled::Accepts),
+                TableAction::Error => return Ok(Settled::Refuses),
+            }
+        }
+    }
+
+    /// The state on top of the stack.
+    fn top(&self) -> StateNo
+        ensures { result.0 ≡ top_of self.now.stack }
+    {
+        match self.stack.last() {
+            Some(level) => level.state,
+            None => StateNo(0),
+        }
+    }
+
+    /// Makes a reduction.
+    fn reduce(&mut self, number: RuleNo) -> Result<(), ParseFault>
+        requires { IsRuleNumber self.old.machine number.0 }
+        ensures ok { OnOk result (reduce_by self.old.machine number.0 self.old.stack (rule_at self.old.machine number.0)
+            ≡ goes_on self.new.stack) }
+        ensures faulty { result ≡ Err fault.TableFault → reduce_by self.old.machine number.0 self.old.stack
+            (rule_at self.old.machine number.0) ≡ settles faulty }
+        ensures not_over { result ≢ Err fault.Over }
+        ensures machine { self.new.machine ≡ self.old.machine }
+        ensures count { self.new.count ≡ self.old.count }
+        ensures over { self.new.over ≡ self.old.over }
+    {
+        let rule = self.machine.rule(number);
+        let Some(below) = self.stack.len().checked_sub(rule.body_length) else {
+            return Err(ParseFault::TableFault);
+        };
+        let term = self.make(number, &rule.tree, below)?;
+        self.stack.truncate(below);
+        let Some(state) = self.machine.goto(self.top(), rule.left) else {
+            return Err(ParseFault::TableFault);
+        };
+        self.stack.push(Level { state, term })?;
+        Ok(())
+    }
+
+    /// What a rule makes of the terms on the stack above so many levels.
+    fn make(&mut self, number: RuleNo, tree: &RuleTree, below: usize) -> Result<TermNo, OutOfMemory>
+        requires within { below ≤ length self.old.stack }
+        requires shape { IsShapeFor (length self.old.stack - below) (shape_of tree.now) }
+        ensures made { IfOk result (λ n. StandsFor self.new.forest n (made number.0 (shape_of tree.now)
+            (terms_onto (take (length self.old.stack - below) self.old.stack) none))) }
+        ensures stack { self.new.stack ≡ self.old.stack }
+        ensures machine { self.new.machine ≡ self.old.machine }
+        ensures count { self.new.count ≡ self.old.count }
+        ensures over { self.new.over ≡ self.old.over }
+    {
+        match tree {
+            RuleTree::Nil => Ok(TermNo::Nothing),
+            RuleTree::Pass(place) => Ok(self.stack[below + *place as usize - 1].term),
+            RuleTree::Build { places, .. } => {
+                self.children.clear();
+                for place in places {
+                    self.children
+                        .push(self.stack[below + *place as usize - 1].term)?;
+                }
+                self.forest.node(number, &self.children)
+            }
+        }
+    }
+
+    /// Puts a token that is read onto the stack.
+    fn read(&mut self, state: StateNo, token: &Token<'_>) -> Result<Step, ParseFault> {
+        let Some(count) = self.count.checked_add(1) else {
+            return Err(ParseFault::OutOfMemory);
+        };
+        let term = self.forest.leaf(token.terminal, token.text)?;
+        self.stack.push(Level { state, term })?;
+        self.count = count;
+        self.over = false;
+        Ok(Step::More)
+    }
+
+    /// Accepts with the term on top of the stack.
+    fn accept(&self) -> Result<Step, ParseFault> {
+        match self.stack.last() {
+            Some(level) => Ok(Step::Done(level.term)),
+            None => Err(ParseFault::TableFault),
+        }
+    }
+
+    /// Refuses a token.
+    fn refuse(&self, at: u64) -> Result<Step, ParseFault> {
+        let Some(token) = self.count.checked_add(1) else {
+            return Err(ParseFault::OutOfMemory);
+        };
+        Ok(Step::Refused { token, byte: at })
+    }
+}

@@ -1,0 +1,12 @@
+use ly_base::Sym;
+
+/// A token, as a parser is fed with it.
+#[derive(Clone, Copy, Debug)]
+pub struct Token<'t> {
+    /// Its terminal.
+    pub terminal: Sym,
+    /// The byte of the text where it stands.
+    pub at: u64,
+    /// Its bytes.
+    pub text: &'t [u8],
+}
