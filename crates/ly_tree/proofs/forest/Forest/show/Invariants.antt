@@ -1,4 +1,4 @@
-use Rattle.std.proofs.Common.{◌≡◌, ◌+◌, ◌++◌, [], length, None}
+use Rattle.std.proofs.Common.{◌≡◌, ◌++◌, [], length, None}
 use Rattle.ly_tree.specs.Private.Printing.{next_text, number_text, waiting_text, AllWaitingKnown, IsNextKnown}
 use Rattle.ly_tree.specs.Shown.{Vocabulary}
 use Rattle.ly_tree.proofs.forest.Forest.show.Given as goal

@@ -1,6 +1,6 @@
-use Rattle.std.proofs.Common.{◌≡◌, ◌∙◌, ◌++◌, ap, subst, sym}
+use Rattle.std.proofs.Common.{◌∙◌, ◌++◌, ap}
 use Rattle.ly_tree.specs.Forest.{term_of}
-use Rattle.ly_tree.proofs.PrintingLemmas.{begin_text, child_known, pushed_known}
+use Rattle.ly_tree.proofs.PrintingLemmas.{begin_text, pushed_known}
 use Rattle.ly_tree.proofs.show.Printing.print.Goals as goal
 
 pub returns-in-Some-clause-text : goal.returns-in-Some-clause-text
