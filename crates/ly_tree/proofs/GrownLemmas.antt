@@ -71,9 +71,9 @@ pub AreKnown-leaf : (ls ms : List Leafy) (done : List Term) (bs : List (RuleNo �
 AreKnown-leaf ls ms done [] h = tt
 AreKnown-leaf ls ms done (b ∷ bs) h = (
   all_known_kept (record { leaves = ls; nodes = done }) (record { leaves = ls ++ ms; nodes = done }) b.1
-  (more_leaves ls ms done) h.0,
+      (more_leaves ls ms done) h.0,
   subst (λ t. AreKnown (ls ++ ms) (done ++ t ∷ []) bs) (sym (node_term-leaf ls ms done b h.0))
-  (AreKnown-leaf ls ms (done ++ node_term ls done b ∷ []) bs h.1),
+      (AreKnown-leaf ls ms (done ++ node_term ls done b ∷ []) bs h.1),
 )
 
 pub length-terms_from : (ls : List Leafy) (done : List Term) (bs : List (RuleNo × List TermNo))
@@ -193,17 +193,21 @@ pub node_keeps : (ls : List (Sym × List ℕ)) (bs cs : List (RuleNo × List Ter
 node_keeps ls bs cs b f v e n t s =
     subst (λ g. StandsFor g n t) (sym (ap (grown ls) e ∙ ap (λ ts. record { leaves = leaves_from ls; nodes = ts })
     (terms_from-push (leaves_from ls) [] bs b)))
-    (subst (λ xs. StandsFor (record { leaves = xs; nodes = terms_from (leaves_from ls) [] bs
-    ++ node_term (leaves_from ls) (terms_from (leaves_from ls) [] bs) b ∷ [] }) n t) (append-nil (leaves_from ls))
+    (subst (λ xs. StandsFor (record {
+      leaves = xs;
+      nodes = terms_from (leaves_from ls) [] bs
+          ++ node_term (leaves_from ls) (terms_from (leaves_from ls) [] bs) b ∷ [];
+    }) n t) (append-nil (leaves_from ls))
     (Keeps-append (leaves_from ls) [] (terms_from (leaves_from ls) [] bs)
     (node_term (leaves_from ls) (terms_from (leaves_from ls) [] bs) b ∷ []) n t
     (subst (λ g. StandsFor g n t) (sym v) s)))
 
-pub node_stands : (ls : List (Sym × List ℕ)) (bs cs : List (RuleNo × List TermNo)) (b : RuleNo × List TermNo) (f : Grown)
-    (k : ℕ) (ts : Terms) → grown ls bs ≡ f → cs ≡ bs ++ b ∷ [] → k ≡ length bs → StandForAll f b.1 ts
+pub node_stands : (ls : List (Sym × List ℕ)) (bs cs : List (RuleNo × List TermNo)) (b : RuleNo × List TermNo)
+    (f : Grown) (k : ℕ) (ts : Terms) → grown ls bs ≡ f → cs ≡ bs ++ b ∷ [] → k ≡ length bs → StandForAll f b.1 ts
     → StandsFor (grown ls cs) (Node k) (built b.0.0 ts)
 node_stands ls bs cs b f k ts v e n s =
-    let count : length (terms_from (leaves_from ls) [] bs) ≡ k = omega (arith, length-terms_from (leaves_from ls) [] bs) in
+    let count : length (terms_from (leaves_from ls) [] bs) ≡ k
+    = omega (arith, length-terms_from (leaves_from ls) [] bs) in
     let made : terms_of (grown ls bs) b.1 ≡ ts = ap (λ g. terms_of g b.1) v ∙ stand_unwrapped f b.1 ts s in
     ap (λ xs. slice_get (terms_from (leaves_from ls) [] xs) k) e
     ∙ (ap (λ xs. slice_get xs k) (terms_from-push (leaves_from ls) [] bs b)

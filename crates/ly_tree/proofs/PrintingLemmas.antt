@@ -67,13 +67,13 @@ begin_text v f out named out' before after cs os n first p stands c name o a =
     rw (o, name, a, waiting_text-push v f before os, node) (simp append_assoc)
 
 -- what is left is known
-pub last_known : (f : Grown) (before rest : List (Bor (List TermNo))) (cs : Bor (List TermNo)) → before ≡ rest ++ cs ∷ []
-    → AllWaitingKnown f before → AllKnown f cs.now
+pub last_known : (f : Grown) (before rest : List (Bor (List TermNo))) (cs : Bor (List TermNo))
+    → before ≡ rest ++ cs ∷ [] → AllWaitingKnown f before → AllKnown f cs.now
 last_known f before rest cs b h =
     all_last (λ ns. AllKnown f ns.now) rest cs (subst (λ ws. AllWaitingKnown f ws) b h)
 
-pub others_known : (f : Grown) (before rest : List (Bor (List TermNo))) (cs : Bor (List TermNo)) → before ≡ rest ++ cs ∷ []
-    → AllWaitingKnown f before → AllWaitingKnown f rest
+pub others_known : (f : Grown) (before rest : List (Bor (List TermNo))) (cs : Bor (List TermNo))
+    → before ≡ rest ++ cs ∷ [] → AllWaitingKnown f before → AllWaitingKnown f rest
 others_known f before rest cs b h =
     all_front (λ ns. AllKnown f ns.now) rest cs (subst (λ ws. AllWaitingKnown f ws) b h)
 

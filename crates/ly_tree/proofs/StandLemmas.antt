@@ -70,7 +70,8 @@ stand_unwrapped f (n ∷ ns) none h = absurd h
 stand_unwrapped f (n ∷ ns) (more t ts) h = ap (λ u. more u (terms_of f ns)) (stands_unwrapped f n t h.0)
     ∙ ap (λ us. more t us) (stand_unwrapped f ns ts h.1)
 
-pub stand_all_kept : (f g : Grown) (ns : List TermNo) (ts : Terms) → Keeps f g → StandForAll f ns ts → StandForAll g ns ts
+pub stand_all_kept : (f g : Grown) (ns : List TermNo) (ts : Terms) → Keeps f g → StandForAll f ns ts
+    → StandForAll g ns ts
 stand_all_kept f g [] none k h = tt
 stand_all_kept f g [] (more t ts) k h = absurd h
 stand_all_kept f g (n ∷ ns) none k h = absurd h

@@ -21,4 +21,3 @@ returns-in-Some-clause-waiting g c =
     pushed_known c.args.forest.now c.push-in-Some.new.self.items c.args.self.now.waiting.items
     c.node_at.result.1.now c.in-Some.others c.in-Some.first.now c.in-Some.ensures.cases.0
     c.in_ok-push-in-Node-2.ensures.items c.node_at.ensures.known c.requires.waiting
-
