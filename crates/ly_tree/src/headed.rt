@@ -77,6 +77,7 @@ impl<H: Copy, T: Copy> Headed<H, T> {
     }
 }
 
+/// The members between two places.
 fn part<T>(members: &[T], start: usize, end: usize) -> &[T]
     requires rises { start ≤ end }
     requires within { end ≤ length members.now }
