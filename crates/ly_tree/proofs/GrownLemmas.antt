@@ -1,29 +1,17 @@
--- What leaves and nodes stand for, and goes on standing for when more come.
-use Rattle.std.proofs.Common.{◌≡◌, ℕ, zero, suc, ◌+◌, ◌<◌, List, [], ◌∷◌, ◌++◌, length, get_or, map, arith}
-use Rattle.std.proofs.Common.{refl, sym, ap, ◌∙◌, subst, append-nil, length-append, zero-add}
-use Rattle.std.specs.Prelude.{slice_get, is_some, All, IsSome, None, Option, Some, option_map, unwrap_or}
+-- What the leaves and nodes of a forest stand for, and that it stays when more come.
+use Rattle.std.proofs.Common.{◌≡◌, ℕ, zero, suc, ◌+◌, ◌<◌, List, [], ◌∷◌, ◌++◌, length, arith}
+use Rattle.std.proofs.Common.{refl, sym, ap, ◌∙◌, subst, append-nil, length-append}
+use Rattle.std.specs.Prelude.{slice_get, IsSome, None, Option, Some, option_map}
 use Rattle.std.proofs.lemmas.List.{map-append}
-use Rattle.std.proofs.lemmas.Option.{slice_get-map, slice_get_within}
+use Rattle.std.proofs.lemmas.Option.{slice_get-map}
 use Rattle.ly_base.specs.declared.numbers.RuleNo.{RuleNo}
 use Rattle.ly_base.specs.declared.numbers.Sym.{Sym}
+use Rattle.ly_tree.proofs.StandLemmas.{all_known_kept, stand_unwrapped, terms_kept, Keeps-append}
 use Rattle.ly_tree.specs.Forest.{term_of, Grown, Keeps, Leafy, StandsFor, StandForAll}
 use Rattle.ly_tree.specs.Private.Grown.{grown, leaves_from, node_term, terms_from, terms_of, AllKnown, AreKnown}
-use Rattle.ly_tree.specs.Term.{Term, Terms, nothing, leaf, built, none, more}
+use Rattle.ly_tree.specs.Term.{Term, Terms, leaf, built}
 use Rattle.ly_tree.specs.declared.forest.TermNo.{TermNo}
-use Rattle.ly_tree.specs.declared.forest.TermNo.TheVariants.{Nothing, Leaf, Node}
-
--- what is made of an element that is there stays when more come behind
-option_map-append : {A B : Type 0} (f : A → B) (xs ys : List A) (k : ℕ) (b : B)
-    → option_map f (slice_get xs k) ≡ Some b → option_map f (slice_get (xs ++ ys) k) ≡ Some b
-option_map-append f [] ys k b e = cc
-option_map-append f (x ∷ xs) ys zero b e = e
-option_map-append f (x ∷ xs) ys (suc k) b e = option_map-append f xs ys k b e
-
-slice_get-append : {A : Type 0} (xs ys : List A) (k : ℕ) (x : A) → slice_get xs k ≡ Some x
-    → slice_get (xs ++ ys) k ≡ Some x
-slice_get-append [] ys k x e = cc
-slice_get-append (y ∷ xs) ys zero x e = e
-slice_get-append (y ∷ xs) ys (suc k) x e = slice_get-append xs ys k x e
+use Rattle.ly_tree.specs.declared.forest.TermNo.TheVariants.{Leaf, Node}
 
 slice_get_end : {A : Type 0} (xs : List A) (x : A) → slice_get (xs ++ x ∷ []) (length xs) ≡ Some x
 slice_get_end [] x = refl
@@ -37,56 +25,6 @@ slice_get_inside (x ∷ xs) (suc k) h = omega (arith, slice_get_inside xs k h)
 mapped_some : {A B : Type 0} (f : A → B) (o : Option A) → IsSome (option_map f o) → IsSome o
 mapped_some f None h = h
 mapped_some f (Some x) h = refl
-
--- leaves and terms that come behind change no term
-pub Keeps-append : (ls ms : List Leafy) (ts us : List Term)
-    → Keeps (record { leaves = ls; nodes = ts }) (record { leaves = ls ++ ms; nodes = ts ++ us })
-Keeps-append ls ms ts us Nothing t e = e
-Keeps-append ls ms ts us (Leaf k) t e = option_map-append (λ l. leaf l.terminal l.bytes) ls ms k t e
-Keeps-append ls ms ts us (Node k) t e = slice_get-append ts us k t e
-
--- a number that stands for a term has it
-pub known_stands : (f : Grown) (n : TermNo) → IsSome (term_of f n) → StandsFor f n (unwrap_or (term_of f n) nothing)
-known_stands f n h = unwrapped (term_of f n) h
-  where
-    unwrapped : (o : Option Term) → IsSome o → o ≡ Some (unwrap_or o nothing)
-    unwrapped None h = cc
-    unwrapped (Some t) h = refl
-
-pub stands_known : (f : Grown) (n : TermNo) (t : Term) → StandsFor f n t → IsSome (term_of f n)
-stands_known f n t e = ap is_some e
-
-pub stands_unwrapped : (f : Grown) (n : TermNo) (t : Term) → StandsFor f n t → unwrap_or (term_of f n) nothing ≡ t
-stands_unwrapped f n t e = ap (λ o. unwrap_or o nothing) e
-
-pub known_kept : (f g : Grown) (n : TermNo) → Keeps f g → IsSome (term_of f n) → IsSome (term_of g n)
-known_kept f g n k h = stands_known g n _ (k n _ (known_stands f n h))
-
-pub term_kept : (f g : Grown) (n : TermNo) → Keeps f g → IsSome (term_of f n)
-    → unwrap_or (term_of g n) nothing ≡ unwrap_or (term_of f n) nothing
-term_kept f g n k h = stands_unwrapped g n _ (k n _ (known_stands f n h))
-
-pub all_known_kept : (f g : Grown) (ns : List TermNo) → Keeps f g → AllKnown f ns → AllKnown g ns
-all_known_kept f g ns k h i d l = known_kept f g (get_or ns i d) k (h i d l)
-
-pub known_front : (f : Grown) (n : TermNo) (ns : List TermNo) → AllKnown f (n ∷ ns) → IsSome (term_of f n)
-known_front f n ns h = h 0 n (omega arith)
-
-pub known_rest : (f : Grown) (n : TermNo) (ns : List TermNo) → AllKnown f (n ∷ ns) → AllKnown f ns
-known_rest f n ns h i d l = h (suc i) d (omega arith)
-
-pub terms_kept : (f g : Grown) (ns : List TermNo) → Keeps f g → AllKnown f ns → terms_of g ns ≡ terms_of f ns
-terms_kept f g [] k h = refl
-terms_kept f g (n ∷ ns) k h = ap (λ t. more t (terms_of g ns)) (term_kept f g n k (known_front f n ns h))
-    ∙ ap (λ ts. more (unwrap_or (term_of f n) nothing) ts) (terms_kept f g ns k (known_rest f n ns h))
-
--- the terms that numbers stand for are theirs
-pub stand_unwrapped : (f : Grown) (ns : List TermNo) (ts : Terms) → StandForAll f ns ts → terms_of f ns ≡ ts
-stand_unwrapped f [] none h = refl
-stand_unwrapped f [] (more t ts) h = absurd h
-stand_unwrapped f (n ∷ ns) none h = absurd h
-stand_unwrapped f (n ∷ ns) (more t ts) h = ap (λ u. more u (terms_of f ns)) (stands_unwrapped f n t h.0)
-    ∙ ap (λ us. more t us) (stand_unwrapped f ns ts h.1)
 
 -- more nodes keep the terms before them
 pub terms_from-keeps : (ls : List Leafy) (done : List Term) (bs : List (RuleNo × List TermNo))
@@ -133,9 +71,9 @@ pub AreKnown-leaf : (ls ms : List Leafy) (done : List Term) (bs : List (RuleNo �
 AreKnown-leaf ls ms done [] h = tt
 AreKnown-leaf ls ms done (b ∷ bs) h = (
   all_known_kept (record { leaves = ls; nodes = done }) (record { leaves = ls ++ ms; nodes = done }) b.1
-  (more_leaves ls ms done) h.0,
+      (more_leaves ls ms done) h.0,
   subst (λ t. AreKnown (ls ++ ms) (done ++ t ∷ []) bs) (sym (node_term-leaf ls ms done b h.0))
-  (AreKnown-leaf ls ms (done ++ node_term ls done b ∷ []) bs h.1),
+      (AreKnown-leaf ls ms (done ++ node_term ls done b ∷ []) bs h.1),
 )
 
 pub length-terms_from : (ls : List Leafy) (done : List Term) (bs : List (RuleNo × List TermNo))
@@ -255,17 +193,21 @@ pub node_keeps : (ls : List (Sym × List ℕ)) (bs cs : List (RuleNo × List Ter
 node_keeps ls bs cs b f v e n t s =
     subst (λ g. StandsFor g n t) (sym (ap (grown ls) e ∙ ap (λ ts. record { leaves = leaves_from ls; nodes = ts })
     (terms_from-push (leaves_from ls) [] bs b)))
-    (subst (λ xs. StandsFor (record { leaves = xs; nodes = terms_from (leaves_from ls) [] bs
-    ++ node_term (leaves_from ls) (terms_from (leaves_from ls) [] bs) b ∷ [] }) n t) (append-nil (leaves_from ls))
+    (subst (λ xs. StandsFor (record {
+      leaves = xs;
+      nodes = terms_from (leaves_from ls) [] bs
+          ++ node_term (leaves_from ls) (terms_from (leaves_from ls) [] bs) b ∷ [];
+    }) n t) (append-nil (leaves_from ls))
     (Keeps-append (leaves_from ls) [] (terms_from (leaves_from ls) [] bs)
     (node_term (leaves_from ls) (terms_from (leaves_from ls) [] bs) b ∷ []) n t
     (subst (λ g. StandsFor g n t) (sym v) s)))
 
-pub node_stands : (ls : List (Sym × List ℕ)) (bs cs : List (RuleNo × List TermNo)) (b : RuleNo × List TermNo) (f : Grown)
-    (k : ℕ) (ts : Terms) → grown ls bs ≡ f → cs ≡ bs ++ b ∷ [] → k ≡ length bs → StandForAll f b.1 ts
+pub node_stands : (ls : List (Sym × List ℕ)) (bs cs : List (RuleNo × List TermNo)) (b : RuleNo × List TermNo)
+    (f : Grown) (k : ℕ) (ts : Terms) → grown ls bs ≡ f → cs ≡ bs ++ b ∷ [] → k ≡ length bs → StandForAll f b.1 ts
     → StandsFor (grown ls cs) (Node k) (built b.0.0 ts)
 node_stands ls bs cs b f k ts v e n s =
-    let count : length (terms_from (leaves_from ls) [] bs) ≡ k = omega (arith, length-terms_from (leaves_from ls) [] bs) in
+    let count : length (terms_from (leaves_from ls) [] bs) ≡ k
+    = omega (arith, length-terms_from (leaves_from ls) [] bs) in
     let made : terms_of (grown ls bs) b.1 ≡ ts = ap (λ g. terms_of g b.1) v ∙ stand_unwrapped f b.1 ts s in
     ap (λ xs. slice_get (terms_from (leaves_from ls) [] xs) k) e
     ∙ (ap (λ xs. slice_get xs k) (terms_from-push (leaves_from ls) [] bs b)

@@ -91,22 +91,23 @@ list_within s (h ∷ hs) (e ∷ es) n zero f l = (f.0, ends_within e hs es n f.1
 list_within s (h ∷ hs) (e ∷ es) n (suc zero) f l = list_within e hs es n zero f.1 (omega arith)
 list_within s (h ∷ hs) (e ∷ es) n (suc (suc k)) f l = list_within e hs es n (suc k) f.1 (omega arith)
 
--- after a push to the heads, the members and the ends
-pub pushed_fits : {H T : Type 0} (hs gs : List H) (es fs : List ℕ) (ms ns xs : List T) (h : H) (end : ℕ)
-    → EndsFit 0 hs es (length ms) → gs ≡ hs ++ h ∷ [] → fs ≡ es ++ end ∷ [] → ns ≡ ms ++ xs → length ns ≡ end
-    → EndsFit 0 gs fs (length ns)
-pushed_fits hs gs es fs ms ns xs h end fit heads ends more is =
-    rw (heads, ends, is)
+-- after a push to the heads, the members and the ends; room was made in the heads and ends before
+pub pushed_fits : {H T : Type 0} (hs hs' gs : List H) (es es' fs : List ℕ) (ms ns xs : List T) (h : H) (end : ℕ)
+    → EndsFit 0 hs es (length ms) → hs' ≡ hs → gs ≡ hs' ++ h ∷ [] → es' ≡ es → fs ≡ es' ++ end ∷ [] → ns ≡ ms ++ xs
+    → length ns ≡ end → EndsFit 0 gs fs (length ns)
+pushed_fits hs hs' gs es es' fs ms ns xs h end fit heads head ends last more is =
+    rw (head, heads, last, ends, is)
     (EndsFit-push 0 hs es (length ms) end h fit (omega (arith, length-append ms xs, ap length more)))
 
-pub pushed_lists : {H T : Type 0} (hs gs : List H) (es fs : List ℕ) (ms ns xs : List T) (h : H) (end : ℕ)
-    → EndsFit 0 hs es (length ms) → gs ≡ hs ++ h ∷ [] → fs ≡ es ++ end ∷ [] → ns ≡ ms ++ xs → length ns ≡ end
-    → headed_from 0 gs fs ns ≡ headed_from 0 hs es ms ++ (h, xs) ∷ []
-pushed_lists hs gs es fs ms ns xs h end fit heads ends more is =
+pub pushed_lists : {H T : Type 0} (hs hs' gs : List H) (es es' fs : List ℕ) (ms ns xs : List T) (h : H) (end : ℕ)
+    (ls : List (H × List T)) → EndsFit 0 hs es (length ms) → headed_from 0 hs es ms ≡ ls → hs' ≡ hs
+    → gs ≡ hs' ++ h ∷ [] → es' ≡ es → fs ≡ es' ++ end ∷ [] → ns ≡ ms ++ xs → length ns ≡ end
+    → headed_from 0 gs fs ns ≡ ls ++ (h, xs) ∷ []
+pushed_lists hs hs' gs es es' fs ms ns xs h end ls fit view heads head ends last more is =
     let same : 0 + length (ms ++ xs) ≡ end = omega (arith, ap length more) in
     let fits : EndsFit 0 hs es (0 + length ms) = let e : length ms ≡ 0 + length ms = omega arith
     in subst (λ n. EndsFit 0 hs es n) e fit in
-    rw (heads, ends, more, ← same) (headed_from-push 0 hs es ms xs h fits)
+    rw (head, heads, last, ends, more, ← same, ← view) (headed_from-push 0 hs es ms xs h fits)
 
 -- a list's number is that of a head and of an end
 pub number_within : {H T : Type 0} (hs : List H) (es : List ℕ) (ms : List T) (ls : List (H × List T)) (k : ℕ)

@@ -1,3 +1,4 @@
-mod GrownLemmas
-mod HeadedLemmas
-mod PrintingLemmas
+pub mod GrownLemmas
+pub mod HeadedLemmas
+pub mod PrintingLemmas
+pub mod StandLemmas

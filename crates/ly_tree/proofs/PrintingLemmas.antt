@@ -1,17 +1,17 @@
 -- What is left to print, as the code takes it apart.
-use Rattle.std.proofs.Common.{◌≡◌, ℕ, zero, suc, ◌+◌, ◌<◌, List, [], ◌∷◌, ◌++◌, length, get_or, arith}
+use Rattle.std.proofs.Common.{◌≡◌, ℕ, ◌<◌, List, [], ◌∷◌, ◌++◌, length, arith}
 use Rattle.std.proofs.Common.{refl, sym, ap, ◌∙◌, subst, append_assoc, append-nil, length-append}
-use Rattle.std.specs.Prelude.{All, IsSome, None, Option, Some, codes, unwrap_or}
+use Rattle.std.specs.Prelude.{All, IsSome, codes, unwrap_or}
 use Rattle.std.specs.Borrow.{Bor}
 use Rattle.std.proofs.lemmas.List.Elements.{All-push}
 use Rattle.std.proofs.Math.ListN.{get_or-append}
 use Rattle.std.proofs.Math.Seq.{get_or-append_seam}
-use Rattle.ly_tree.proofs.GrownLemmas.{known_front, known_rest}
+use Rattle.ly_tree.proofs.StandLemmas.{known_front, known_rest}
 use Rattle.ly_tree.specs.Forest.{term_of, Grown, StandsFor}
 use Rattle.ly_tree.specs.Private.Grown.{terms_of, AllKnown}
-use Rattle.ly_tree.specs.Private.Printing.{number_text, next_text, waiting_text, tail_text, AllWaitingKnown, IsNextKnown}
+use Rattle.ly_tree.specs.Private.Printing.{number_text, waiting_text, tail_text, AllWaitingKnown}
 use Rattle.ly_tree.specs.Shown.{shown, shown_all, Vocabulary}
-use Rattle.ly_tree.specs.Term.{Term, Terms, nothing, built, none, more}
+use Rattle.ly_tree.specs.Term.{nothing, built}
 use Rattle.ly_tree.specs.declared.forest.TermNo.{TermNo}
 
 -- the last node's end comes first
@@ -67,13 +67,13 @@ begin_text v f out named out' before after cs os n first p stands c name o a =
     rw (o, name, a, waiting_text-push v f before os, node) (simp append_assoc)
 
 -- what is left is known
-pub last_known : (f : Grown) (before rest : List (Bor (List TermNo))) (cs : Bor (List TermNo)) → before ≡ rest ++ cs ∷ []
-    → AllWaitingKnown f before → AllKnown f cs.now
+pub last_known : (f : Grown) (before rest : List (Bor (List TermNo))) (cs : Bor (List TermNo))
+    → before ≡ rest ++ cs ∷ [] → AllWaitingKnown f before → AllKnown f cs.now
 last_known f before rest cs b h =
     all_last (λ ns. AllKnown f ns.now) rest cs (subst (λ ws. AllWaitingKnown f ws) b h)
 
-pub others_known : (f : Grown) (before rest : List (Bor (List TermNo))) (cs : Bor (List TermNo)) → before ≡ rest ++ cs ∷ []
-    → AllWaitingKnown f before → AllWaitingKnown f rest
+pub others_known : (f : Grown) (before rest : List (Bor (List TermNo))) (cs : Bor (List TermNo))
+    → before ≡ rest ++ cs ∷ [] → AllWaitingKnown f before → AllWaitingKnown f rest
 others_known f before rest cs b h =
     all_front (λ ns. AllKnown f ns.now) rest cs (subst (λ ws. AllWaitingKnown f ws) b h)
 

@@ -1,5 +1,5 @@
 -- What a forest holds: leaves and nodes, each a term by its number.
-use Rattle.std.specs.Prelude.{◌≡◌, ℕ, ◌++◌, List, [], ◌∷◌, Option, Some, None, slice_get, option_map}
+use Rattle.std.specs.Prelude.{◌≡◌, ℕ, List, [], ◌∷◌, Option, Some, slice_get, option_map}
 use Rattle.ly_tree.specs.Term.{Term, Terms, nothing, leaf, none, more}
 use Rattle.ly_tree.specs.declared.forest.TermNo.{TermNo}
 use Rattle.ly_tree.specs.declared.forest.TermNo.TheVariants.{Nothing, Leaf, Node}

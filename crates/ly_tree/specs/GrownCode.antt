@@ -1,5 +1,5 @@
 -- A code of what a forest holds: of a term its parts in prefix order, which a stack reads from the right.
-use Rattle.std.specs.Prelude.{◌≡◌, ℕ, zero, suc, ◌⊎◌, List, [], ◌∷◌, ◌++◌, refl}
+use Rattle.std.specs.Prelude.{◌≡◌, ℕ, ◌⊎◌, List, [], ◌∷◌, ◌++◌, refl}
 use base.Stored.{coded_unit}
 use mathlib.Core.Logic.{inl, inr}
 use mathlib.Core.Path.{ap, sym, ◌∙◌}

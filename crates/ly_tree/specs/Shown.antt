@@ -1,5 +1,5 @@
 -- Terms as printed text.
-use Rattle.std.specs.Prelude.{ℕ, List, [], ◌∷◌, ◌++◌, codes}
+use Rattle.std.specs.Prelude.{ℕ, List, [], ◌++◌, codes}
 use Rattle.ly_base.specs.Text.{leaf_of, token}
 use Rattle.ly_tree.specs.Term.{Term, Terms, nothing, leaf, built, none, more}
 

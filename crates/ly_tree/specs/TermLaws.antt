@@ -1,6 +1,6 @@
 -- What holds of forests and of printed terms.
 use Rattle.std.specs.Prelude.{◌≡◌}
-use Rattle.ly_tree.specs.Forest.{Grown, Keeps, StandsFor}
+use Rattle.ly_tree.specs.Forest.{Grown, StandsFor}
 use Rattle.ly_tree.specs.Term.{Term}
 use Rattle.ly_tree.specs.declared.forest.TermNo.{TermNo}
 

@@ -1,4 +1,5 @@
-ghost use Rattle.std.specs.Prelude.{◌≡◌, ◌<◌, ◌≤◌, ◌-◌, [], ◌∷◌, ◌++◌, length, take, drop, slice_get, Some, OnOk, OnErr, IfOk};
+ghost use Rattle.std.specs.Prelude.{◌≡◌, ◌<◌, ◌≤◌, ◌-◌, [], ◌∷◌, ◌++◌, length, take, drop, slice_get, Some, IfOk};
+ghost use Rattle.std.specs.Prelude.{OnOk, OnErr};
 ghost use Rattle.ly_tree.specs.Private.Headed.{start_after};
 
 use ly_base::OutOfMemory;
@@ -76,6 +77,7 @@ impl<H: Copy, T: Copy> Headed<H, T> {
     }
 }
 
+/// The members between two places.
 fn part<T>(members: &[T], start: usize, end: usize) -> &[T]
     requires rises { start ≤ end }
     requires within { end ≤ length members.now }

@@ -1,10 +1,11 @@
-//! From the leaves and nodes of a parse to a term, and from the term to its printed text.
+//! From the tokens and reductions of a parse to a term, and from the term to its printed text.
 //!
-//! A `Forest` owns them in six flat lists, the leaves' bytes among them: a leaf costs 12 bytes and its text, a node 12
-//! bytes and 8 for each child. Contracts see terms: a number that `leaf` or `node` answered stands for one, and goes on
-//! standing for it. `show` prints the term of a number with a stack of its own, so no depth ends the program.
+//! A `Forest` holds leaves and nodes in flat lists, and no box or list a node: a leaf takes 12 bytes and its text, a
+//! node 12 bytes and 8 for each child. Contracts see terms: the number that `leaf` or `node` answers stands for one,
+//! and goes on standing for it. `show` prints the term of a number with a stack of its own, so that no depth ends the
+//! program.
 //!
-//! Left out: what the terms mean, and taking leaves and nodes back out.
+//! Left out: what rules make which terms (a parser asks for them), and taking leaves or nodes out again.
 #![tactic(auto)]
 
 mod forest;

@@ -10,7 +10,7 @@ use ly_base::{OutOfMemory, Terminal, push_leaf};
 use std::alloc::Global;
 
 impl Forest {
-    /// Prints the term of a number: nothing is `()`, a leaf is as `NUM"12"`, and a node as `Add(NUM"1",NUM"2")`.
+    /// The printed term of a number: nothing is `()`, a leaf is as `NUM"12"`, and a node as `Add(NUM"1",NUM"2")`.
     pub fn show<W: Words>(
         &self,
         alloc: Global,
@@ -33,7 +33,7 @@ impl Forest {
     }
 }
 
-/// A term that is being printed.
+/// A term that is being printed, with a stack in place of recursion.
 #[derive(Drop)]
 struct Printing<'f> {
     /// The text so far.
@@ -43,8 +43,8 @@ struct Printing<'f> {
 }
 
 impl<'f> Printing<'f> {
-    /// Prints a term as far as its first child, which is answered; a term without children whole, and then what comes
-    /// before the next term, which is answered if there is one.
+    /// Prints a term as far as its first child, and answers that. A term without children is printed whole, with what
+    /// stands before the next term, which is then answered, if there is one.
     fn print<W: Words>(
         &mut self,
         forest: &'f Forest,
@@ -53,9 +53,13 @@ impl<'f> Printing<'f> {
     ) -> Result<Option<TermNo>, OutOfMemory>
         requires number { IsSome (term_of forest.now number) }
         requires waiting { AllWaitingKnown forest.now self.old.waiting.items }
-        ensures text { let v : Vocabulary = record { terminal = W.terminals words.now; constructor = W.constructors words.now }
-            in IfOk result (λ next. self.new.out.items ++ next_text v forest.now next ++ waiting_text v forest.now self.new.waiting.items
-            ≡ self.old.out.items ++ number_text v forest.now number ++ waiting_text v forest.now self.old.waiting.items) }
+        ensures text { let v : Vocabulary = record {
+          terminal = W.terminals words.now;
+          constructor = W.constructors words.now;
+        } in IfOk result (λ next. self.new.out.items
+            ++ next_text v forest.now next ++ waiting_text v forest.now self.new.waiting.items
+            ≡ self.old.out.items ++ number_text v forest.now number
+            ++ waiting_text v forest.now self.old.waiting.items) }
         ensures grows { OnOk result (length self.old.out.items < length self.new.out.items) }
         ensures next { IfOk result (IsNextKnown forest.now) }
         ensures waiting { OnOk result (AllWaitingKnown forest.now self.new.waiting.items) }
@@ -85,11 +89,13 @@ impl<'f> Printing<'f> {
         self.go_on()
     }
 
-    /// Prints what comes before the next term, and answers it if there is one.
+    /// Prints what stands before the next term, and answers it, if there is one.
     fn go_on(&mut self) -> Result<Option<TermNo>, OutOfMemory>
         ensures text { IfOk result (λ next. (v : Vocabulary) (f : Grown) → self.new.out.items ++ next_text v f next
-            ++ waiting_text v f self.new.waiting.items ≡ self.old.out.items ++ waiting_text v f self.old.waiting.items) }
-        ensures next { IfOk result (λ next. (f : Grown) → AllWaitingKnown f self.old.waiting.items → IsNextKnown f next) }
+            ++ waiting_text v f self.new.waiting.items
+            ≡ self.old.out.items ++ waiting_text v f self.old.waiting.items) }
+        ensures next { IfOk result (λ next. (f : Grown) → AllWaitingKnown f self.old.waiting.items
+            → IsNextKnown f next) }
         ensures waiting { OnOk result ((f : Grown) → AllWaitingKnown f self.old.waiting.items
             → AllWaitingKnown f self.new.waiting.items) }
         ensures ends { result ≡ Ok None → self.new.waiting.items ≡ [] }

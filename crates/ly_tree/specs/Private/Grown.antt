@@ -1,5 +1,5 @@
 -- How a forest keeps its leaves and nodes.
-use Rattle.std.specs.Prelude.{◌≡◌, ℕ, List, [], ◌∷◌, ◌++◌, All, IsSome, map, unwrap_or}
+use Rattle.std.specs.Prelude.{ℕ, List, [], ◌∷◌, ◌++◌, All, IsSome, map, unwrap_or}
 use Rattle.ly_base.specs.declared.numbers.RuleNo.{RuleNo}
 use Rattle.ly_base.specs.declared.numbers.Sym.{Sym}
 use Rattle.ly_tree.specs.Forest.{term_of, Grown, Leafy}

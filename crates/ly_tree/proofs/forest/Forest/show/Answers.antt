@@ -1,4 +1,4 @@
-use Rattle.std.proofs.Common.{◌≡◌, ◌<◌, ◌++◌, length, subst, sym, Some}
+use Rattle.std.proofs.Common.{◌<◌, ◌++◌, length, subst, sym}
 use Rattle.ly_tree.specs.Private.Printing.{next_text, number_text, waiting_text}
 use Rattle.ly_tree.specs.Shown.{Vocabulary}
 use Rattle.ly_tree.proofs.PrintingLemmas.{less_left}

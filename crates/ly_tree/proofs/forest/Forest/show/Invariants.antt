@@ -1,4 +1,4 @@
-use Rattle.std.proofs.Common.{◌≡◌, ◌+◌, ◌++◌, [], length, None}
+use Rattle.std.proofs.Common.{◌≡◌, ◌++◌, [], length, None}
 use Rattle.ly_tree.specs.Private.Printing.{next_text, number_text, waiting_text, AllWaitingKnown, IsNextKnown}
 use Rattle.ly_tree.specs.Shown.{Vocabulary}
 use Rattle.ly_tree.proofs.forest.Forest.show.Given as goal
@@ -6,7 +6,10 @@ use Rattle.ly_tree.proofs.forest.Forest.show.Given as goal
 -- the text so far and what is left are the whole text
 abbrev pub invariant-loop-next : goal.invariant-loop-next
 invariant-loop-next g l =
-    let v : Vocabulary = record { terminal = g.W.Words.terminals l.words; constructor = g.W.Words.constructors l.words } in
+    let v : Vocabulary = record {
+      terminal = g.W.Words.terminals l.words;
+      constructor = g.W.Words.constructors l.words;
+    } in
     record {
       text : l.printing.out.items ++ next_text v l.self l.next ++ waiting_text v l.self l.printing.waiting.items
           ≡ number_text v l.self l.fn.root;
@@ -17,5 +20,8 @@ invariant-loop-next g l =
 
 abbrev pub decreases-loop-next : goal.decreases-loop-next
 decreases-loop-next g l =
-    let v : Vocabulary = record { terminal = g.W.Words.terminals l.words; constructor = g.W.Words.constructors l.words } in
+    let v : Vocabulary = record {
+      terminal = g.W.Words.terminals l.words;
+      constructor = g.W.Words.constructors l.words;
+    } in
     length (next_text v l.self l.next ++ waiting_text v l.self l.printing.waiting.items)

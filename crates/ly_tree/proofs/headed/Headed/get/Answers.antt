@@ -1,4 +1,4 @@
-use Rattle.std.proofs.Common.{◌≡◌, ◌∙◌, ◌<◌, ◌-◌, ap, sym, arith, drop, length, take}
+use Rattle.std.proofs.Common.{◌∙◌, ◌-◌, ap, sym, arith, drop, take}
 use Rattle.std.specs.Prelude.{Some}
 use Rattle.ly_tree.specs.Private.Headed.{start_after}
 use Rattle.ly_tree.proofs.HeadedLemmas.{list_at, number_within, place_within}

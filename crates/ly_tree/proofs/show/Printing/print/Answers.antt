@@ -1,6 +1,6 @@
-use Rattle.std.proofs.Common.{◌≡◌, ◌∙◌, ◌++◌, ap, subst, sym}
+use Rattle.std.proofs.Common.{◌∙◌, ◌++◌, ap}
 use Rattle.ly_tree.specs.Forest.{term_of}
-use Rattle.ly_tree.proofs.PrintingLemmas.{begin_text, child_known, pushed_known}
+use Rattle.ly_tree.proofs.PrintingLemmas.{begin_text, pushed_known}
 use Rattle.ly_tree.proofs.show.Printing.print.Goals as goal
 
 pub returns-in-Some-clause-text : goal.returns-in-Some-clause-text
@@ -21,4 +21,3 @@ returns-in-Some-clause-waiting g c =
     pushed_known c.args.forest.now c.push-in-Some.new.self.items c.args.self.now.waiting.items
     c.node_at.result.1.now c.in-Some.others c.in-Some.first.now c.in-Some.ensures.cases.0
     c.in_ok-push-in-Node-2.ensures.items c.node_at.ensures.known c.requires.waiting
-
