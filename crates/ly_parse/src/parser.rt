@@ -1,4 +1,4 @@
-ghost use Rattle.std.specs.Prelude.{◌≡◌, ◌≢◌, ◌<◌, ◌≤◌, ◌+◌, [], ◌∷◌, Err, Ok, false, length, take, IfOk, IsSome, OnOk};
+ghost use Rattle.std.specs.Prelude.{◌≡◌, ◌≢◌, ◌<◌, ◌≤◌, ◌+◌, ◌-◌, [], ◌∷◌, Err, Ok, false, length, take, IfOk, IsSome, OnOk};
 ghost use Rattle.ly_base.specs.Shape.{shape_of};
 ghost use Rattle.ly_pack.specs.Machine.{accept, action_of, error, shift, IsRuleNumber, IsShapeFor};
 ghost use Rattle.ly_pack.specs.Steady.{rule_at, IsSteady};
@@ -92,7 +92,7 @@ impl<'a, A: Rows<TableAction> + Drop, G: Rows<StateNo> + Drop> Parser<'a, A, G> 
 
     /// Gives up the stack, and hands out the terms.
     pub fn into_forest(self) -> Forest
-        ensures { result ≡ self.forest }
+        ensures { result ≡ self.entry.forest }
     {
         self.forest
     }
