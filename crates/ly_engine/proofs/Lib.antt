@@ -6,5 +6,6 @@ pub mod GenFaultLemmas
 pub mod PositionAgreementLemmas
 pub mod PositionWalkLemmas
 pub mod PrintingLemmas
+pub mod RefusalLaws
 pub mod RowAgreementLemmas
 pub mod StatesFaultLemmas

@@ -1,4 +1,4 @@
-ghost use Rattle.ly_engine.specs.Laws.{AnswerIsOne, PositionWalkAgrees, RowWalkAgrees};
+ghost use Rattle.ly_engine.specs.Laws.{AnswerIsOne, PositionWalkAgrees, RefusalIsExact, RowWalkAgrees};
 
 /// The bytes of a lex file and those of a text have one answer, whose end is one too.
 pub fn answer_is_one()
@@ -13,4 +13,9 @@ pub fn position_walk_agrees()
 /// The walk over the rows of an automaton that has the rules of a lex file's subsets agrees with them too.
 pub fn row_walk_agrees()
     ensures { RowWalkAgrees }
+{}
+
+/// What a refusal says of a lex file and a yacc file is never so of files that are accepted.
+pub fn refusal_is_exact()
+    ensures { RefusalIsExact }
 {}

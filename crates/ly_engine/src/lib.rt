@@ -21,7 +21,7 @@ mod write_tokens;
 
 pub use fault::TokensFault;
 pub use gen_fault::GenFault;
-pub use laws::{answer_is_one, position_walk_agrees, row_walk_agrees};
+pub use laws::{answer_is_one, position_walk_agrees, refusal_is_exact, row_walk_agrees};
 pub use outcome::TokenEnd;
 pub use position_walk::PositionWalk;
 pub use reporting::generate_report;

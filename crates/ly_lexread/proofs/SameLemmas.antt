@@ -18,7 +18,7 @@ same_back (r ∷ rs) [] h = absurd h
 same_back (r ∷ rs) (s ∷ ss) h = (sym h.0, sym h.1, same_back rs ss h.2)
 
 -- the rule of a number, and the one that says the same
-same_rule : (rs ss : List Rule) (i : ℕ) (r : Rule) → AreSameRules rs ss → slice_get rs i ≡ Some r
+pub same_rule : (rs ss : List Rule) (i : ℕ) (r : Rule) → AreSameRules rs ss → slice_get rs i ≡ Some r
     → (s : Rule) × (slice_get ss i ≡ Some s) × (r.pattern ≡ s.pattern) × (r.active.items ≡ s.active.items)
 same_rule [] ss i r h e = cc e
 same_rule (q ∷ rs) [] i r h e = absurd h
