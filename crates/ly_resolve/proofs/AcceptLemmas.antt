@@ -43,7 +43,7 @@ onto-pushed G [] (more d ts) top are = absurd are
 onto-pushed G (X ∷ w) none top are = absurd are
 onto-pushed G (X ∷ w) (more d ts) top are = onto-pushed G w ts (record { symbol = X; tree = d } ∷ top) are.1
 
-Leads-append : {G : Grammar} {judge : Judge} {c d e : Configuration} → Leads G judge c d → Leads G judge d e
+pub Leads-append : {G : Grammar} {judge : Judge} {c d e : Configuration} → Leads G judge c d → Leads G judge d e
     → Leads G judge c e
 Leads-append here rest = rest
 Leads-append (onward s l) rest = onward s (Leads-append l rest)

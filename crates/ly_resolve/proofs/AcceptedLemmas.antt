@@ -12,7 +12,7 @@ use Rattle.ly_resolve.specs.Machine.{Pushed, begin, symbols_of}
 use Rattle.ly_resolve.proofs.StackLemmas.{AreStacked, leads_trees, leads_yield, stack_yield}
 
 -- the end is next behind the start symbol alone
-behind_start : {G : Grammar} {g : List Symbol} → IsAugmented G → IsNextSymbol G g (terminal 0)
+pub behind_start : {G : Grammar} {g : List Symbol} → IsAugmented G → IsNextSymbol G g (terminal 0)
     → g ≡ nonterminal G.start ∷ []
 behind_start {G} augmented (zero, before, after, (u, v)) = elim (zero_item augmented v) [
   | inl x ↦ absurd (apart (sym x.1))

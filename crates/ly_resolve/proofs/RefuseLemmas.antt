@@ -57,13 +57,13 @@ one_back : {G : Grammar} {g before : List Symbol} {q t : ℕ} {X Y : Symbol} {w 
 one_back (moved v) = v
 
 -- an item is valid with its dot in front where what stands before the dot begins
-unread : {G : Grammar} {q t : ℕ} (before under w : List Symbol) → Valid G (before ++ under) q before w t
+pub unread : {G : Grammar} {q t : ℕ} (before under w : List Symbol) → Valid G (before ++ under) q before w t
     → Valid G under q [] (onto before w) t
 unread [] under w v = v
 unread (X ∷ before) under w v = unread before under (X ∷ w) (one_back v)
 
 -- an item whose rule begins waits for its left side
-waits : {G : Grammar} {g : List Symbol} {q t : ℕ} {w : List Symbol} → Valid G g q [] w t → 1 ≤ q → (r : Rule)
+pub waits : {G : Grammar} {g : List Symbol} {q t : ℕ} {w : List Symbol} → Valid G g q [] w t → 1 ≤ q → (r : Rule)
     → IsRule G q r → IsNextSymbol G g (nonterminal r.left)
 waits (at_start is e) le r rule = absurd (omega arith)
 waits {G} (closed {g = g} {p = p} {before = before} {after = after} {B = B} {t = t} {q = q} {r = s} v is left e f) le r
@@ -82,7 +82,7 @@ onto_cancel (X ∷ a) (Y ∷ b) u v e l =
     let rests : X ∷ u ≡ Y ∷ v = parts.1 in
     (cc, cc)
 
-HasNoEnd-under : (a under : List Symbol) → HasNoEnd (a ++ under) → HasNoEnd under
+pub HasNoEnd-under : (a under : List Symbol) → HasNoEnd (a ++ under) → HasNoEnd under
 HasNoEnd-under [] under ends = ends
 HasNoEnd-under (X ∷ a) under ends = HasNoEnd-under a under ends.1
 

@@ -1,0 +1,58 @@
+-- What a parser does in each state of an automaton, as tables.
+use Rattle.std.specs.Prelude.{◌≡◌, ◌≢◌, ℕ, ◌+◌, ◌<◌, ◌≤◌, List, Option, Some, None, length, slice_get}
+use Rattle.ly_base.specs.Shape.{Shape, nil}
+use Rattle.ly_join.specs.Grammar.{Grammar, IsRule, Rule, nonterminal, terminal}
+use Rattle.ly_join.specs.Joined.{Note, Spec}
+use Rattle.ly_lr0.specs.Automaton.{Automaton, goto_of, prefix_of}
+use Rattle.ly_pack.specs.Defaults.{HasDefaultsOf}
+use Rattle.ly_pack.specs.Machine.{Machine, TableAction, accept, entry_at, goto_at, states_of}
+use Rattle.ly_pack.specs.Machine as table
+use Rattle.ly_pack.specs.Steady.{rule_at}
+use Rattle.ly_resolve.specs.Actions.{Action, IsAction, IsRefused, error, reduce, shift}
+use Rattle.ly_resolve.specs.Precedence.{judge_of}
+
+-- The entry of a state before a terminal has this done: a shift goes where the state's transition leads, and before the
+-- end it accepts.
+abbrev pub IsEntryFor : Automaton → ℕ → ℕ → Action → TableAction → Type 0
+IsEntryFor M k t shift (table.shift s) = (1 ≤ t) × (goto_of M k (terminal t) ≡ Some s)
+IsEntryFor M k t shift table.accept = t ≡ 0
+IsEntryFor M k t shift (table.reduce q) = ⊥
+IsEntryFor M k t shift table.error = ⊥
+IsEntryFor M k t (reduce p) (table.shift s) = ⊥
+IsEntryFor M k t (reduce p) table.accept = ⊥
+IsEntryFor M k t (reduce p) (table.reduce q) = p ≡ q
+IsEntryFor M k t (reduce p) table.error = ⊥
+IsEntryFor M k t error (table.shift s) = ⊥
+IsEntryFor M k t error table.accept = ⊥
+IsEntryFor M k t error (table.reduce q) = ⊥
+IsEntryFor M k t error table.error = Unit {0}
+
+-- what the rule of a note makes of the trees of its body; nothing, where there is no such rule
+abbrev pub shape_from : Option Note → Shape
+shape_from None = nil
+shape_from (Some n) = n.shape
+
+-- what a specification's rule makes of the trees of its body
+abbrev pub shape_in : Spec → ℕ → Shape
+shape_in s p = shape_from (slice_get s.notes p)
+
+-- The tables have what is done in each state of the automaton before each terminal, and nowhere a default; where states
+-- go by nonterminals; and the specification's rules, those that are removed too.
+pub record AreTables (s : Spec) (M : Automaton) (m : Machine) : Type 0 where
+  pub terminals : m.terminals ≡ M.grammar.terminals
+  pub nonterminals : m.nonterminals ≡ M.grammar.accept
+  pub states : states_of m ≡ length M.states
+  pub some : (k t : ℕ) (a : TableAction) → k < length M.states → entry_at m k t ≡ Some a
+      → (b : Action) × IsAction M.grammar (judge_of s) (prefix_of M k) t b × IsEntryFor M k t b a
+  pub none : (k t : ℕ) → k < length M.states → t < M.grammar.terminals → entry_at m k t ≡ None
+      → IsRefused M.grammar (prefix_of M k) t
+  pub gotos : (k A : ℕ) → k < length M.states → A < M.grammar.accept
+      → goto_at m k A ≡ goto_of M k (nonterminal A)
+  pub rules : (p : ℕ) (r : Rule) → 1 ≤ p → IsRule s.grammar p r
+      → rule_at m p ≡ Some (record { left = r.left; body_length = length r.body; shape = shape_in s p })
+  pub numbers : length m.rules + 1 ≡ length s.grammar.rules
+  pub no_default : (k p : ℕ) → slice_get m.defaults k ≢ Some (Some p)
+
+-- The machine is that of the specification: its tables, with default reductions.
+abbrev pub IsMachineOf : Spec → Automaton → Machine → Type 0
+IsMachineOf s M n = (m : Machine) × AreTables s M m × HasDefaultsOf m n
