@@ -1,0 +1,3 @@
+pub mod FeedingLemmas
+pub mod StackLemmas
+pub mod TermLemmas

@@ -1,5 +1,6 @@
 -- A parser's stack as it is kept, with its top last, and as contracts see it.
-use Rattle.std.specs.Prelude.{◌≡◌, ℕ, ◌<◌, ◌-◌, List, [], ◌∷◌, All, Bool, IsSome, Option, map, reverse, unwrap_or, option_map, slice_get, Result, Ok, Err}
+use Rattle.std.specs.Prelude.{◌≡◌, ℕ, zero, suc, ◌<◌, List, [], ◌∷◌, All, Bool, IsSome, Result, Ok, Err, map, reverse}
+use Rattle.std.specs.Prelude.{unwrap_or}
 use Rattle.ly_base.specs.Lexed.{Token}
 use Rattle.ly_pack.specs.Machine.{Machine, states_of, IsMachine}
 use Rattle.ly_pack.specs.Steady.{IsSteady}
@@ -29,7 +30,10 @@ parse_from m f levels count over
 
 -- the number of the term at a place of a body, counted from 1
 abbrev pub term_at : List code.Level → ℕ → TermNo
-term_at body i = unwrap_or (option_map (λ l. l.term) (slice_get body (i - 1))) Nothing
+term_at [] i = Nothing
+term_at (l ∷ body) zero = Nothing
+term_at (l ∷ body) (suc zero) = l.term
+term_at (l ∷ body) (suc (suc i)) = term_at body (suc i)
 
 -- All that the tables name is there, they are steady, each level's state is one of theirs and its term is in the forest, and neighbours on the stack
 -- are edges.
