@@ -144,8 +144,7 @@ accepts m f levels l p count over view h e =
     let top = last_is levels l e in
     let d = unwrap_or (term_of f l.term) nothing in
     let known = All-last (λ l. IsSome (term_of f l.term)) top.0 l
-    (subst (All (λ l. IsSome (term_of f l.term))) top.1 h.terms) in
-    (
+    (subst (All (λ l. IsSome (term_of f l.term))) top.1 h.terms) in (
       d,
       ap (λ q. accept_with q.stack) (sym view)
           ∙ ap accept_with (ap (stack_from f) top.1 ∙ stack_from-push f top.0 l),

@@ -1,5 +1,5 @@
 use Rattle.std.proofs.Common.{◌≡◌, ◌∙◌, ap, arith, subst, sym}
-use Rattle.ly_pack.specs.Machine.{shift}
+use Rattle.ly_pack.specs.Machine.{shift, IsMachine}
 use Rattle.ly_parse.specs.Feeding.{top_of}
 use Rattle.ly_parse.specs.Private.Stack.{stack_from, IsParse}
 use Rattle.ly_parse.proofs.FeedingLemmas.{legal}
@@ -34,6 +34,7 @@ returns-clause-stack g c =
 
 pub returns-clause-not_end : goal.returns-clause-not_end
 returns-clause-not_end g c e =
+    let machine = subst IsMachine (ap (λ p. p.machine) c.self.view_is) c.self.invariant.machine in
     let some = (legal c.args.self.now.machine (top_of c.args.self.now.stack) c.args.token.now.terminal.0
-    (shift c.args.state.0) ? c.requires).1 in
+    (shift c.args.state.0) machine c.requires).1 in
     absurd (omega arith)
