@@ -1,0 +1,5 @@
+pub mod FeedingLemmas
+pub mod ReduceLemmas
+pub mod StackLemmas
+pub mod TakeLemmas
+pub mod TermLemmas

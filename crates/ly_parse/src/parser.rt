@@ -1,15 +1,15 @@
-ghost use Rattle.std.specs.Prelude.{◌≡◌, ◌≢◌, ◌<◌, ◌≤◌, ◌+◌, ◌-◌, [], ◌∷◌, Err, Ok, false, length, take, IfOk, IsSome, OnOk};
+ghost use Rattle.std.specs.Prelude.{◌≡◌, ◌≢◌, ◌<◌, ◌≤◌, ◌+◌, ◌-◌, [], ◌∷◌, Err, Ok, false, length, map, take, All, IfErr, IfOk, OnErr, OnOk};
 ghost use Rattle.ly_base.specs.Shape.{shape_of};
-ghost use Rattle.ly_pack.specs.Machine.{accept, action_of, error, shift, IsRuleNumber, IsShapeFor};
+ghost use Rattle.ly_pack.specs.Machine.{accept, action_of, error, shift, states_of, IsRuleNumber, IsShapeFor};
 ghost use Rattle.ly_pack.specs.Steady.{rule_at, IsSteady};
 ghost use Rattle.ly_parse.specs.Feeding.{faulty, goes_on, reduce_by, settles, top_of};
 ghost use Rattle.ly_parse.specs.Parse.{IsCall};
-ghost use Rattle.ly_parse.specs.Private.Stack.{terms_onto, FeedAlike, FeedAs};
+ghost use Rattle.ly_parse.specs.Private.Stack.{term_at, terms_onto, FeedAlike, FeedAs, IsAccepted};
 ghost use Rattle.ly_parse.specs.declared.fault.ParseFault.TheVariants as fault;
 ghost use Rattle.ly_parse.specs.declared.settled.Settled.TheVariants as settled;
 ghost use Rattle.ly_parse.specs.declared.step.Step.TheVariants as step;
-ghost use Rattle.ly_tree.specs.Forest.{Keeps, StandsFor};
-ghost use Rattle.ly_tree.specs.Term.{made, none};
+ghost use Rattle.ly_tree.specs.Forest.{StandsFor};
+ghost use Rattle.ly_tree.specs.Term.{leaf, made, none};
 
 use crate::fault::ParseFault;
 use crate::settled::Settled;
@@ -73,6 +73,8 @@ impl<'a, A: Rows<TableAction> + Drop, G: Rows<StateNo> + Drop> Parser<'a, A, G> 
           over = false;
         } }
     {
+        // all that the tables name is there, as the call says
+        let _states = machine.states();
         Parser {
             machine,
             forest: Forest::new(alloc),
@@ -134,7 +136,10 @@ impl<'a, A: Rows<TableAction> + Drop, G: Rows<StateNo> + Drop> Parser<'a, A, G> 
         }
         self.over = true;
         match self.settle(token.terminal)? {
-            Settled::Reads(state) => self.read(state, token),
+            Settled::Reads(state) => {
+                self.read(state, token)?;
+                Ok(Step::More)
+            }
             Settled::Accepts => self.accept(),
             Settled::Refuses => self.refuse(token.at),
         }
@@ -156,8 +161,9 @@ impl<'a, A: Rows<TableAction> + Drop, G: Rows<StateNo> + Drop> Parser<'a, A, G> 
         ensures count { self.new.count ≡ self.old.count }
         ensures over { self.new.over ≡ self.old.over }
     {
+        let machine = self.machine;
         loop {
-            match self.machine.action(self.top(), terminal) {
+            match machine.action(self.top(), terminal) {
                 TableAction::Reduce(rule) => self.reduce(rule)?,
                 TableAction::Shift(state) => return Ok(Settled::Reads(state)),
                 TableAction::Accept => return Ok(Settled::Accepts),
@@ -168,7 +174,8 @@ impl<'a, A: Rows<TableAction> + Drop, G: Rows<StateNo> + Drop> Parser<'a, A, G> 
 
     /// The state on top of the stack.
     fn top(&self) -> StateNo
-        ensures { result.0 ≡ top_of self.now.stack }
+        ensures top { result.0 ≡ top_of self.now.stack }
+        ensures known { result.0 < states_of self.now.machine }
     {
         match self.stack.last() {
             Some(level) => level.state,
@@ -214,43 +221,72 @@ impl<'a, A: Rows<TableAction> + Drop, G: Rows<StateNo> + Drop> Parser<'a, A, G> 
     {
         match tree {
             RuleTree::Nil => Ok(TermNo::Nothing),
-            RuleTree::Pass(place) => Ok(self.stack[below + *place as usize - 1].term),
+            RuleTree::Pass(place) => Ok(self.stack[below + (*place as usize - 1)].term),
             RuleTree::Build { places, .. } => {
-                self.children.clear();
-                for place in places {
-                    self.children
-                        .push(self.stack[below + *place as usize - 1].term)?;
-                }
+                list_terms(&mut self.children, &self.stack[below..], places)?;
                 self.forest.node(number, &self.children)
             }
         }
     }
 
-    /// Puts a token that is read onto the stack.
-    fn read(&mut self, state: StateNo, token: &Token<'_>) -> Result<Step, ParseFault> {
-        let Some(count) = self.count.checked_add(1) else {
-            return Err(ParseFault::OutOfMemory);
-        };
+    /// Puts a token that is read onto the stack. The parse isn't over then.
+    fn read(&mut self, state: StateNo, token: &Token<'_>) -> Result<(), OutOfMemory>
+        requires { action_of self.old.machine (top_of self.old.stack) token.now.terminal.0 ≡ shift state.0 }
+        ensures stack { OnOk result (self.new.stack ≡ record {
+          state = state.0;
+          term = leaf token.now.terminal.0 token.now.text.now;
+        } ∷ self.old.stack) }
+        ensures count { OnOk result (self.new.count ≡ self.old.count + 1) }
+        ensures not_end { OnOk result (token.now.terminal.0 ≢ 0) }
+        ensures goes_on { OnOk result (self.new.over ≡ false) }
+        ensures err { OnErr result (self.new.over ≡ self.old.over) }
+        ensures machine { self.new.machine ≡ self.old.machine }
+    {
+        let count = self.number()?;
         let term = self.forest.leaf(token.terminal, token.text)?;
         self.stack.push(Level { state, term })?;
         self.count = count;
         self.over = false;
-        Ok(Step::More)
+        Ok(())
     }
 
     /// Accepts with the term on top of the stack.
-    fn accept(&self) -> Result<Step, ParseFault> {
+    fn accept(&self) -> Result<Step, ParseFault>
+        ensures { IsAccepted self.now.forest self.now.stack result }
+    {
         match self.stack.last() {
             Some(level) => Ok(Step::Done(level.term)),
             None => Err(ParseFault::TableFault),
         }
     }
 
-    /// Refuses a token.
-    fn refuse(&self, at: u64) -> Result<Step, ParseFault> {
-        let Some(token) = self.count.checked_add(1) else {
-            return Err(ParseFault::OutOfMemory);
-        };
-        Ok(Step::Refused { token, byte: at })
+    /// Refuses the next token, which stands at this byte.
+    fn refuse(&self, at: u64) -> Result<Step, ParseFault>
+        ensures ok { IfOk result (λ s. s ≡ step.Refused (self.now.count + 1) at) }
+        ensures err { IfErr result (λ e. e ≡ fault.OutOfMemory) }
+    {
+        Ok(Step::Refused {
+            token: self.number()?,
+            byte: at,
+        })
     }
+
+    /// The number of the next token.
+    fn number(&self) -> Result<u64, OutOfMemory>
+        ensures { IfOk result (λ n. n ≡ self.now.count + 1) }
+    {
+        self.count.checked_add(1).ok_or(OutOfMemory)
+    }
+}
+
+/// Lists the terms at these places of a body, which count from 1, in place of what the list had.
+fn list_terms(list: &mut Vec<TermNo>, body: &[Level], places: &[u32]) -> Result<(), OutOfMemory>
+    requires { All (λ i. (1 ≤ i) × (i ≤ length body.now)) places.now }
+    ensures { OnOk result (list.new.items ≡ map (term_at body.now) places.now) }
+{
+    list.clear();
+    for place in places {
+        list.push(body[*place as usize - 1].term)?;
+    }
+    Ok(())
 }

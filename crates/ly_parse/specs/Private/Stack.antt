@@ -1,14 +1,21 @@
 -- A parser's stack as it is kept, with its top last, and as contracts see it.
-use Rattle.std.specs.Prelude.{◌≡◌, ℕ, ◌<◌, List, [], ◌∷◌, All, Bool, IsSome, Option, map, reverse, unwrap_or}
+use Rattle.std.specs.Prelude.{◌≡◌, ℕ, zero, suc, ◌<◌, List, [], ◌∷◌, All, Bool, IsSome, Result, Ok, Err, map, reverse}
+use Rattle.std.specs.Prelude.{unwrap_or}
 use Rattle.ly_base.specs.Lexed.{Token}
-use Rattle.ly_pack.specs.Machine.{Machine, states_of}
+use Rattle.ly_pack.specs.Machine.{Machine, states_of, IsMachine}
 use Rattle.ly_pack.specs.Steady.{IsSteady}
 use Rattle.ly_pack.specs.SteadyLaws.{IsStack}
-use Rattle.ly_parse.specs.Feeding.{Fed, Feeds, Level, states_on}
+use Rattle.ly_parse.specs.Feeding.{Fed, Feeds, Level, accept_with, done, faulty, settles, states_on}
 use Rattle.ly_parse.specs.Parse.{Parse}
+use Rattle.ly_parse.specs.declared.fault.ParseFault.{ParseFault}
+use Rattle.ly_parse.specs.declared.fault.ParseFault.TheVariants.{TableFault}
 use Rattle.ly_parse.specs.declared.parser.Level as code
-use Rattle.ly_tree.specs.Forest.{Grown, term_of}
-use Rattle.ly_tree.specs.Term.{Terms, more, none, nothing}
+use Rattle.ly_parse.specs.declared.step.Step as step
+use Rattle.ly_parse.specs.declared.step.Step.TheVariants.{Done}
+use Rattle.ly_tree.specs.Forest.{Grown, StandsFor, term_of}
+use Rattle.ly_tree.specs.Term.{Term, Terms, more, none, nothing}
+use Rattle.ly_tree.specs.declared.forest.TermNo.{TermNo}
+use Rattle.ly_tree.specs.declared.forest.TermNo.TheVariants.{Nothing}
 
 -- a level with the term of its number
 abbrev pub level_from : Grown → code.Level → Level
@@ -21,9 +28,17 @@ abbrev pub parse_from : Machine → Grown → List code.Level → ℕ → Bool �
 parse_from m f levels count over
     = record { machine = m; forest = f; stack = stack_from f levels; count = count; over = over }
 
--- The tables are steady, each level's state is one of theirs and its term is in the forest, and neighbours on the stack
+-- the number of the term at a place of a body, counted from 1
+abbrev pub term_at : List code.Level → ℕ → TermNo
+term_at [] i = Nothing
+term_at (l ∷ body) zero = Nothing
+term_at (l ∷ body) (suc zero) = l.term
+term_at (l ∷ body) (suc (suc i)) = term_at body (suc i)
+
+-- All that the tables name is there, they are steady, each level's state is one of theirs and its term is in the forest, and neighbours on the stack
 -- are edges.
 pub record IsParse (m : Machine) (f : Grown) (levels : List code.Level) : Type 0 where
+  pub machine : IsMachine m
   pub steady : IsSteady m
   pub states : All (λ l. l.state.0 < states_of m) levels
   pub terms : All (λ l. IsSome (term_of f l.term)) levels
@@ -42,3 +57,9 @@ FeedAlike m t stack other = (token : Token ℕ) (out : Fed) → token.terminal �
 -- each token of the terminal becomes this
 abbrev pub FeedAs : Machine → ℕ → List Level → Fed → Type 0
 FeedAs m t stack out = (token : Token ℕ) → token.terminal ≡ t → Feeds m token stack out
+
+-- what a parser says where its tables accept
+abbrev pub IsAccepted : Grown → List Level → Result step.Step ParseFault → Type 0
+IsAccepted f stack (Ok (Done root)) = (d : Term) × (accept_with stack ≡ settles (done d)) × StandsFor f root d
+IsAccepted f stack (Err TableFault) = accept_with stack ≡ settles faulty
+IsAccepted f stack _ = ⊥

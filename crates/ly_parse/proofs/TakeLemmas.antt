@@ -1,0 +1,101 @@
+-- What a call with a token does.
+use Rattle.std.proofs.Common.{◌≡◌, ℕ, ◌+◌, ◌*◌, ◌<◌, List, ◌∷◌, length, refl, sym, ap, ◌∙◌, subst, Err, Ok}
+use Rattle.std.specs.Prelude.{Bool, false, true, IfErr, IfOk, IsErrAnd, Result}
+use Rattle.ly_base.specs.Lexed.{Token}
+use Rattle.ly_pack.proofs.Runs.{runs_end}
+use Rattle.ly_pack.specs.Machine.{Machine, accept, action_of, error, shift}
+use Rattle.ly_pack.specs.Steady.{run_bound, EndsWithin}
+use Rattle.ly_parse.specs.Feeding.{Feeds, Level, done, faulty, pushed, refused, settles, states_on, top_of}
+use Rattle.ly_parse.specs.Parse.{IsCall, Parse}
+use Rattle.ly_parse.specs.Private.Stack.{parse_from, stack_from, FeedAlike, IsAccepted, IsParse}
+use Rattle.ly_parse.specs.declared.fault.ParseFault.{ParseFault}
+use Rattle.ly_parse.specs.declared.fault.ParseFault.TheVariants.{OutOfMemory, Over, TableFault}
+use Rattle.ly_parse.specs.declared.parser.Level as code
+use Rattle.ly_parse.specs.declared.step.Step as step
+use Rattle.ly_parse.specs.declared.step.Step.TheVariants.{Done, More, Refused}
+use Rattle.ly_parse.proofs.FeedingLemmas.{feeds_by}
+use Rattle.ly_tree.specs.Forest.{Grown}
+use Rattle.ly_tree.specs.Term.{leaf}
+
+-- a run on a token ends
+pub run_ends : (m : Machine) (f : Grown) (levels : List code.Level) (p : Parse) (count : ℕ) (over : Bool) (t : ℕ)
+    → parse_from m f levels count over ≡ p → IsParse m f levels → t < p.machine.terminals
+    → EndsWithin p.machine t (states_on p.stack) ((run_bound + 1) * length (states_on p.stack))
+run_ends m f levels p count over t view h lt =
+    subst (λ q. EndsWithin q.machine t (states_on q.stack) ((run_bound + 1) * length (states_on q.stack))) view
+    (runs_end m run_bound t (states_on (stack_from f levels)) h.steady
+    (subst (λ q. t < q.machine.terminals) (sym view) lt) h.edges)
+
+-- the fault of a call is handed on
+pub same_fault : {T : Type 0} (r : Result T ParseFault) (e d : ParseFault) → IsErrAnd r (λ x. x ≡ e) → r ≡ Err d
+    → e ≡ d
+same_fault (Ok x) e d h is = absurd h
+same_fault (Err x) e d h is = let same : x ≡ d = cc in sym h ∙ same
+
+not_over : {A : Type 0} (b : Bool) → b ≡ false → b ≡ true → A
+not_over b e f = absurd (let no : true ≡ false = sym f ∙ e in cc)
+
+-- A parse that isn't over, and the parse before the token is settled: a token becomes the same on both.
+module _ (m : Machine) (f : Grown) (levels : List code.Level) (p : Parse) (count : ℕ) (over : Bool) (token : Token ℕ)
+    (view : parse_from m f levels count over ≡ p) (goes : over ≡ false) (s : Parse)
+    (alike : FeedAlike m token.terminal s.stack (stack_from f levels)) (machine : s.machine ≡ m)
+    (counted : s.count ≡ count) where
+  -- the token is read
+  pub reads : (state : ℕ) (q : Parse) → action_of m (top_of s.stack) token.terminal ≡ shift state
+      → q.stack ≡ record { state = state; term = leaf token.terminal token.bytes } ∷ s.stack
+      → q.count ≡ s.count + 1 → q.machine ≡ s.machine → q.over ≡ false → IsCall p token q (Ok More)
+  reads state q action stack more same open_ =
+      let fed = alike token (pushed q.stack) refl (feeds_by m token s.stack (shift state) (pushed q.stack) action
+      (ap (λ w. settles (pushed w)) (sym stack))) in
+      subst (λ x. IsCall x token q (Ok More)) view (record {
+        after_end = not_over over goes;
+        before_end = λ _. (fed, more ∙ ap (λ n. n + 1) counted);
+        machine = same ∙ machine;
+        over = open_;
+      })
+
+  -- the tables accept
+  pub accepts_call : (r : Result step.Step ParseFault) → action_of m (top_of s.stack) token.terminal ≡ accept
+      → s.over ≡ true → IsAccepted s.forest s.stack r → IsCall p token s r
+  accepts_call (Ok (Done root)) action ended a =
+      let fed = alike token (done a.0) refl (feeds_by m token s.stack accept (done a.0) action a.1) in
+      subst (λ x. IsCall x token s (Ok (Done root))) view (record {
+        after_end = not_over over goes;
+        before_end = λ _. (a.0, fed, a.2);
+        machine = machine;
+        over = ended;
+      })
+  accepts_call (Err TableFault) action ended a =
+      let fed = alike token faulty refl (feeds_by m token s.stack accept faulty action a) in
+      subst (λ x. IsCall x token s (Err TableFault)) view (record {
+        after_end = not_over over goes;
+        before_end = λ _. fed;
+        machine = machine;
+        over = ended;
+      })
+  accepts_call (Ok More) action ended a = absurd a
+  accepts_call (Ok (Refused t b)) action ended a = absurd a
+  accepts_call (Err Over) action ended a = absurd a
+  accepts_call (Err OutOfMemory) action ended a = absurd a
+
+  -- they refuse the token
+  pub refuses_call : (r : Result step.Step ParseFault) → action_of m (top_of s.stack) token.terminal ≡ error
+      → s.over ≡ true → IfOk r (λ x. x ≡ Refused (s.count + 1) token.at) → IfErr r (λ e. e ≡ OutOfMemory)
+      → IsCall p token s r
+  refuses_call (Ok x) action ended ok err =
+      let fed = alike token refused refl (feeds_by m token s.stack error refused action refl) in
+      subst (λ y. IsCall p token s (Ok y)) (sym ok)
+      (subst (λ x. IsCall x token s (Ok (Refused (s.count + 1) token.at))) view (record {
+        after_end = not_over over goes;
+        before_end = λ _. (fed, ap (λ n. n + 1) counted, refl);
+        machine = machine;
+        over = ended;
+      }))
+  refuses_call (Err e) action ended ok err =
+      subst (λ d. IsCall p token s (Err d)) (sym err)
+      (subst (λ x. IsCall x token s (Err OutOfMemory)) view (record {
+        after_end = not_over over goes;
+        before_end = λ _. tt;
+        machine = machine;
+        over = ended;
+      }))
