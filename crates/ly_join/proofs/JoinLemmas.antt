@@ -29,7 +29,7 @@ use Rattle.ly_join.specs.declared.fault.JoinFault.{JoinFault}
 use Rattle.ly_join.specs.declared.fault.JoinFault.TheVariants.{UndefinedSymbol, TokenOnLeft, PrecedenceTwice}
 use Rattle.ly_join.specs.declared.fault.JoinFault.TheVariants.{UnknownStart, ReturnUndeclared, PrecUnknown, NoRules}
 use Rattle.ly_join.specs.declared.fault.JoinFault.TheVariants.{LimitPassed, OutOfMemory}
-use Rattle.ly_join.specs.declared.scan_action.ScanAction.{ScanAction}
+use Rattle.ly_base.specs.declared.scan_action.ScanAction.{ScanAction}
 use Rattle.ly_join.specs.declared.precedence.Precedence.{Precedence}
 use Rattle.ly_join.proofs.ListLemmas.{mapped_in, member_at, zip_length, zip_partner}
 use Rattle.ly_join.proofs.NumberingLemmas.{first_in, in_first}

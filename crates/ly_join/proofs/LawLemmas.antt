@@ -21,9 +21,9 @@ use Rattle.ly_join.specs.Scanning.{Acting, Returning, nothing, returns, first_by
 use Rattle.ly_join.specs.Scanning.{IsReturned, IsScanAction, Scanning}
 use Rattle.ly_join.specs.Terminals.{Terminal, end, undefined, byte, same_terminal, token, IsNumbered, IsOfByte}
 use Rattle.ly_join.specs.declared.precedence.Precedence.{Precedence}
-use Rattle.ly_join.specs.declared.scan_action.Emitted.{Emitted}
-use Rattle.ly_join.specs.declared.scan_action.Emitted.TheVariants as emitted
-use Rattle.ly_join.specs.declared.scan_action.ScanAction.{ScanAction}
+use Rattle.ly_base.specs.declared.scan_action.Emitted.{Emitted}
+use Rattle.ly_base.specs.declared.scan_action.Emitted.TheVariants as emitted
+use Rattle.ly_base.specs.declared.scan_action.ScanAction.{ScanAction}
 use Rattle.ly_join.proofs.JoinLemmas.{nonterminal_there, token_there}
 use Rattle.ly_join.proofs.ListLemmas.{member_at, one_place, placed, zip_one}
 use Rattle.ly_join.proofs.NumberingLemmas.{first_in, first_once, in_filter, in_first}

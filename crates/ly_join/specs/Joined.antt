@@ -13,7 +13,7 @@ use Rattle.ly_join.specs.Scanning.{Scanning, IsScanAction}
 use Rattle.ly_join.specs.Terminals.{Terminal, token, byte, IsNumbered}
 use Rattle.ly_join.specs.declared.precedence.Precedence.{Precedence}
 use Rattle.ly_join.specs.declared.rule.RuleNote as code
-use Rattle.ly_join.specs.declared.scan_action.ScanAction.{ScanAction}
+use Rattle.ly_base.specs.declared.scan_action.ScanAction.{ScanAction}
 
 -- what a rule says beside its symbols
 pub record Note : Type 0 where

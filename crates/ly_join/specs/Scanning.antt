@@ -5,9 +5,9 @@ use Rattle.ly_lexread.specs.declared.action.Returned.{Returned}
 use Rattle.ly_lexread.specs.declared.action.Returned.TheVariants as lex
 use Rattle.ly_lexread.specs.declared.file.LexFile.{LexFile}
 use Rattle.ly_join.specs.Terminals.{Terminal, token, byte, IsNumbered, IsOfByte}
-use Rattle.ly_join.specs.declared.scan_action.Emitted.{Emitted}
-use Rattle.ly_join.specs.declared.scan_action.Emitted.TheVariants as emitted
-use Rattle.ly_join.specs.declared.scan_action.ScanAction.{ScanAction}
+use Rattle.ly_base.specs.declared.scan_action.Emitted.{Emitted}
+use Rattle.ly_base.specs.declared.scan_action.Emitted.TheVariants as emitted
+use Rattle.ly_base.specs.declared.scan_action.ScanAction.{ScanAction}
 
 -- What an action returns: nothing, this token or literal, or the literal of the first byte.
 pub data Returning : Type 0 where

@@ -30,7 +30,6 @@ pub use laws::{joined_is_one, numbered_by_first};
 pub use limit::Limit;
 pub use precedence::{Associativity, Precedence};
 pub use rule::RuleNote;
-pub use scan_action::{Emitted, ScanAction};
 pub use spec::Spec;
 pub use symbol::Symbol;
 pub use terminal::TerminalName;

@@ -6,29 +6,9 @@ ghost use Rattle.ly_join.specs.Private.Rules.{IsFaultOfActions, IsUndeclaredIn};
 
 use crate::fault::JoinFault;
 use crate::terminal::Terminals;
-use ly_base::Sym;
+use ly_base::{Emitted, ScanAction};
 use ly_lexread::{Action, Returned};
 use std::alloc::Global;
-
-/// What happens where a rule of the lex file matches.
-#[derive(Clone, Copy, Debug, PartialEq, Eq)]
-pub struct ScanAction {
-    /// The condition that is set, if one is.
-    pub begin: Option<u32>,
-    /// The token that comes of it.
-    pub emits: Emitted,
-}
-
-/// The token that comes of a match.
-#[derive(Clone, Copy, Debug, PartialEq, Eq)]
-pub enum Emitted {
-    /// None: the text is passed over.
-    Nothing,
-    /// One of this terminal.
-    Terminal(Sym),
-    /// One of the terminal of the first byte that was matched.
-    FirstByte,
-}
 
 /// What the actions of a lex file do.
 pub(crate) fn scan_actions(

@@ -8,9 +8,8 @@ use crate::grammar::Grammar;
 use crate::nonterminals::Nonterminals;
 use crate::precedence::Precedence;
 use crate::rule::RuleNote;
-use crate::scan_action::ScanAction;
 use crate::terminal::{TerminalName, Terminals};
-use ly_base::Sym;
+use ly_base::{ScanAction, Sym};
 use std::marker::Model;
 
 /// A lex file and a yacc file as one: a numbered grammar, what its symbols are, and what its rules and those of the

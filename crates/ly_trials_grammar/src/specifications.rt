@@ -1,9 +1,9 @@
 //! Lex and yacc files that are joined: the faults and their order, which no contract says, and what small files say.
 
-use ly_base::{Limits, RuleTree, Sym};
+use ly_base::{Emitted, Limits, RuleTree, ScanAction, Sym};
 use ly_grammar::{Reduced, reduce};
 use ly_join::{
-    Associativity, Emitted, Grammar, JoinFault, Limit, Precedence, RuleNote, ScanAction,
+    Associativity, Grammar, JoinFault, Limit, Precedence, RuleNote,
     Spec, TerminalName, join,
 };
 use ly_lexread::read_lex;

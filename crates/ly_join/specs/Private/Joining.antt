@@ -9,7 +9,7 @@ use Rattle.ly_join.specs.Numbering.{nonterminals_of, start_name, terminals_of}
 use Rattle.ly_join.specs.Precedences.{given, AreGivenOnce, HasPrecedence}
 use Rattle.ly_join.specs.Terminals.{end, token}
 use Rattle.ly_join.specs.Private.Rules.{RulesJoined}
-use Rattle.ly_join.specs.declared.scan_action.ScanAction.{ScanAction}
+use Rattle.ly_base.specs.declared.scan_action.ScanAction.{ScanAction}
 use Rattle.ly_join.specs.declared.fault.JoinFault.{JoinFault}
 use Rattle.ly_join.specs.declared.fault.JoinFault.TheVariants.{UnknownStart, OutOfMemory}
 

@@ -1,0 +1,4 @@
+pub mod Ranges
+pub mod Spelling
+pub mod TableSet
+pub mod TableText

@@ -1,0 +1,94 @@
+-- What a table set of a version may hold: every number fits, and what it names is there.
+use Rattle.std.specs.Prelude.{◌≡◌, ℕ, ◌+◌, ◌-◌, ◌*◌, ◌^◌, ◌<◌, ◌≤◌, List, All, Option, Some, length, slice_get, codes}
+use Rattle.std.specs.Int.{Width, byte_len}
+use Rattle.ly_base.specs.Shape.{Shape, nil, place, node}
+use Rattle.ly_base.specs.declared.cut.Cut.{Cut}
+use Rattle.ly_base.specs.declared.cut.Cut.TheVariants.{Whole, Head, Tail}
+use Rattle.ly_base.specs.declared.scan_action.Emitted.{Emitted}
+use Rattle.ly_base.specs.declared.scan_action.Emitted.TheVariants.{Nothing, Terminal, FirstByte}
+use Rattle.ly_pack.specs.Machine.{IsMachine, TableRule}
+use Rattle.ly_pack.specs.Rows.{Comb, IsComb, Used, comb_entry}
+use Rattle.ly_tables.specs.TableSet.{ScanRule, Starts, TableSet, machine_of}
+
+-- The greatest counts of a version.
+pub record Counts : Type 0 where
+  pub symbols : ℕ
+  pub rules : ℕ
+  pub conditions : ℕ
+  pub states : ℕ
+
+abbrev pub version_1 : Counts
+version_1 = record { symbols = 4095; rules = 8191; conditions = 255; states = 16383 }
+
+-- a name has one byte or more
+abbrev pub IsNameLong : List ℕ → Type 0
+IsNameLong name = (1 ≤ length name) × (length name ≤ 255)
+
+-- a returned terminal is one of these, and not the end
+abbrev pub IsEmittedWithin : ℕ → Emitted → Type 0
+IsEmittedWithin terminals (Terminal t) = (1 ≤ t.0) × (t.0 < terminals)
+IsEmittedWithin terminals _ = Unit {0}
+
+-- a cut's length fits
+abbrev pub IsCutWithin : Width → Cut → Type 0
+IsCutWithin w Whole = Unit {0}
+IsCutWithin w (Head n) = (1 ≤ n) × (n < 2 ^ (8 * byte_len w))
+IsCutWithin w (Tail n) = n < 2 ^ (8 * byte_len w)
+
+pub record IsScanRule (w : Width) (terminals conditions : ℕ) (r : ScanRule) : Type 0 where
+  pub emits : IsEmittedWithin terminals r.action.emits
+  pub begin : (c : ℕ) → r.action.begin ≡ Some c → c < conditions
+  pub cut : IsCutWithin w r.cut
+
+-- the states where a condition begins are there
+pub record AreStartsWithin (states : ℕ) (c : Starts) : Type 0 where
+  pub elsewhere : (s : ℕ) → c.elsewhere ≡ Some s → s < states
+  pub at_line : (s : ℕ) → c.at_line ≡ Some s → s < states
+
+-- rows laid over one another: one for each state, of this width, with 32 bits for each base and the count of slots
+pub record AreRows {E : Type 0} (states width : ℕ) (c : Comb E) : Type 0 where
+  pub is_comb : IsComb c
+  pub rows : length c.bases ≡ states
+  pub width : c.width ≡ width
+  pub slots : length c.slots < 2 ^ 32
+
+-- the names and the lengths of a rule fit
+abbrev pub IsShapeShort : Shape → Type 0
+IsShapeShort (node name places) = IsNameLong name
+IsShapeShort _ = Unit {0}
+
+pub record IsRuleShort (r : TableRule) : Type 0 where
+  pub body : r.body_length ≤ 255
+  pub shape : IsShapeShort r.shape
+
+-- Each count and each number is in its range, the first two terminals are the end and the one of no token, and the
+-- parser's tables name only what is there.
+pub record IsWithinRanges (w : Width) (counts : Counts) (s : TableSet) : Type 0 where
+  pub terminals : 2 ≤ length s.terminals
+  pub nonterminals : 1 ≤ s.nonterminals
+  pub symbols : length s.terminals + s.nonterminals + 1 ≤ counts.symbols
+  pub names : All IsNameLong s.terminals
+  pub end : slice_get s.terminals 0 ≡ Some (codes "$end")
+  pub undefined : slice_get s.terminals 1 ≡ Some (codes "$undef")
+  pub all_literals : length s.literals ≡ 256
+  pub literals : All (λ t. (1 ≤ t) × (t < length s.terminals)) s.literals
+  pub scan_rule_count : length s.scan_rules ≤ counts.rules
+  pub scan_rules : All (IsScanRule w (length s.terminals) (length s.conditions)) s.scan_rules
+  pub some_condition : 1 ≤ length s.conditions
+  pub condition_count : length s.conditions ≤ counts.conditions
+  pub conditions : All (AreStartsWithin (length s.accepted)) s.conditions
+  pub some_class : 1 ≤ s.class_count
+  pub class_count : s.class_count ≤ 256
+  pub all_classes : length s.classes ≡ 256
+  pub classes : All (λ c. c < s.class_count) s.classes
+  pub scan_state_count : length s.accepted ≤ counts.states
+  pub accepted : (k p : ℕ) → slice_get s.accepted k ≡ Some (Some p) → p < length s.scan_rules
+  pub scan_rows : AreRows (length s.accepted) s.class_count s.scan_rows
+  pub scan_targets : (k : ℕ) (u : Used ℕ) → slice_get s.scan_rows.slots k ≡ Some (Some u) → u.entry < length s.accepted
+  pub some_rule : 1 ≤ length s.rules
+  pub rule_count : length s.rules ≤ counts.rules
+  pub rules : All IsRuleShort s.rules
+  pub state_count : length s.defaults ≤ counts.states
+  pub actions : AreRows (length s.defaults) (length s.terminals) s.actions
+  pub gotos : AreRows (length s.defaults) s.nonterminals s.gotos
+  pub machine : IsMachine (machine_of s)

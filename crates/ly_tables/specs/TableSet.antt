@@ -1,0 +1,47 @@
+-- What a driver needs to know of two files: a table set.
+use Rattle.std.specs.Prelude.{◌≡◌, ◌≢◌, ℕ, ◌+◌, ◌<◌, ◌≤◌, List, [], ◌∷◌, Option, Some, None, All, length, take, slice_get}
+use Rattle.ly_base.specs.declared.cut.Cut.{Cut}
+use Rattle.ly_base.specs.declared.cut.Cut.TheVariants.{Whole, Head, Tail}
+use Rattle.ly_base.specs.declared.scan_action.Emitted.TheVariants.{Nothing, Terminal, FirstByte}
+use Rattle.ly_base.specs.declared.scan_action.ScanAction.{ScanAction}
+use Rattle.ly_pack.specs.Machine.{Machine, TableAction, TableRule, IsMachine}
+use Rattle.ly_pack.specs.Rows.{Comb, IsComb, comb_entry, grid_of}
+use Rattle.ly_pack.specs.Steady.{IsSteady}
+
+-- A rule of the scanner: what is done where it matches, and what is cut off its matches.
+pub record ScanRule : Type 0 where
+  pub action : ScanAction
+  pub cut : Cut
+
+-- The states where a condition begins: at the start of a line, and elsewhere.
+pub record Starts : Type 0 where
+  pub elsewhere : Option ℕ
+  pub at_line : Option ℕ
+
+-- The printed names of terminals, the terminal of each byte as a literal, the scanner's rules, conditions, classes,
+-- states and rows, and the parser's tables.
+pub record TableSet : Type 0 where
+  pub terminals : List (List ℕ)
+  pub nonterminals : ℕ
+  pub literals : List ℕ
+  pub scan_rules : List ScanRule
+  pub conditions : List Starts
+  pub class_count : ℕ
+  pub classes : List ℕ
+  pub accepted : List (Option ℕ)
+  pub scan_rows : Comb ℕ
+  pub rules : List TableRule
+  pub defaults : List (Option ℕ)
+  pub actions : Comb TableAction
+  pub gotos : Comb ℕ
+
+-- the parser's tables of a set
+abbrev pub machine_of : TableSet → Machine
+machine_of s = record {
+  terminals = length s.terminals;
+  nonterminals = s.nonterminals;
+  actions = grid_of (length s.defaults) (length s.terminals) (comb_entry s.actions);
+  defaults = s.defaults;
+  gotos = grid_of (length s.defaults) s.nonterminals (comb_entry s.gotos);
+  rules = s.rules;
+}
