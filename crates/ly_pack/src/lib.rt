@@ -2,12 +2,14 @@
 #![tactic(auto)]
 
 mod action;
+mod comb;
 mod dense;
 mod machine;
 mod rows;
 mod rule;
 
 pub use action::TableAction;
+pub use comb::{Comb, Slot};
 pub use dense::Dense;
 pub use machine::Machine;
 pub use rows::Rows;
