@@ -2,6 +2,7 @@
 #![tactic(auto)]
 
 mod action;
+mod bit_row;
 mod comb;
 mod dense;
 mod machine;
