@@ -2,7 +2,7 @@
 use Rattle.std.specs.Prelude.{ℕ, List, Option, map}
 use Rattle.std.specs.Option.{option_map}
 use Rattle.ly_pack.specs.Rows.{Comb, Used}
-use Rattle.ly_pack.specs.declared.comb.Slot.{Slot}
+use Rattle.ly_pack.specs.declared.comb_rows.Slot.{Slot}
 
 abbrev pub used_from : {E : Type 0} → Slot E → Used E
 used_from s = record { row = s.row.0; entry = s.entry }

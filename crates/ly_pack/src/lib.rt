@@ -3,15 +3,18 @@
 
 mod action;
 mod bit_row;
-mod comb;
+mod comb_rows;
 mod dense;
 mod machine;
+mod order;
+mod placing;
 mod rows;
 mod rule;
 
 pub use action::TableAction;
-pub use comb::{Comb, Slot};
+pub use comb_rows::{Comb, Slot};
 pub use dense::Dense;
 pub use machine::Machine;
+pub use placing::comb;
 pub use rows::Rows;
 pub use rule::TableRule;
