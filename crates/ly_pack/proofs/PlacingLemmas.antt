@@ -1,13 +1,17 @@
 -- A row that is placed beside the earlier ones.
 use Rattle.std.proofs.Common.{◌≡◌, ◌≢◌, ◌∙◌, ◌<◌, ◌≤◌, ◌+◌, ◌-◌, ℕ, suc, List, length, Option, Some, None}
-use Rattle.std.proofs.Common.{refl, sym, ap, subst, arith, inl, inr, ◌⊎◌, slice_get, set, length-set}
+use Rattle.std.proofs.Common.{refl, sym, ap, subst, arith, inl, inr, ◌⊎◌, slice_get, set, length-set, get_or}
+use Rattle.std.specs.Prelude.{option_and_then}
 use Rattle.std.proofs.lemmas.Bool.{cases_lt, cases_order, cases_eq}
-use Rattle.std.proofs.lemmas.Option.{same_Some, none-some}
+use Rattle.std.proofs.lemmas.Option.{same_Some, none-some, slice_get_past}
 use Rattle.ly_pack.specs.Placement.{Fits, GoesBefore, Has, Table}
-use Rattle.ly_pack.specs.Private.Order.{IsOrder}
-use Rattle.ly_pack.specs.Private.Placing.{AreLaid, IsRowPlaced, Uses, slot_at, slot_of}
+use Rattle.ly_pack.specs.Private.Order.{IsOrder, columns_of}
+use Rattle.ly_pack.specs.Private.Bits.{taken, IsFreeAt, IsTakenAt}
+use Rattle.ly_pack.specs.Private.Placing.{AreLaid, AreTied, IsFilled, IsPartFilled, IsRowPlaced, Uses, flag, slot_at, slot_of}
+use Rattle.ly_pack.specs.Rows.{Entries}
 use Rattle.ly_pack.specs.declared.comb_rows.Slot.{Slot}
 use Rattle.ly_pack.proofs.DenseLemmas.{slice_get-set_same, slice_get-set_other}
+use Rattle.ly_pack.proofs.OrderLemmas.{column_at, has_column}
 
 pub before_not : {E : Type 0} (T : Table E) (r s : ℕ) → GoesBefore T r s → GoesBefore T s r → ⊥
 before_not T r s (inl a) (inl b) = omega (arith, a, b)
@@ -79,7 +83,7 @@ module _ {E : Type 0} (T : Table E) (order : List ℕ) (ordered : IsOrder T orde
   -- an entry of this row, or of an earlier one
   uses_to : (k r : ℕ) (e : E) → slot_at new k ≡ Some (slot_of r e) → Uses T order (n + 1) (set bases row base) k r e
   uses_to k r e is = elim (hit_cases T row base k) [
-    | inl hit ↦ let same = same_Some (slot_of row hit.1) (slot_of r e) (sym (now.entries hit.0 hit.1 hit.2 hit.3)
+    | inl hit ↦ let same = same_Some (slot_of row hit.1) (slot_of r e) (sym (now.filled.entries hit.0 hit.1 hit.2 hit.3)
         ∙ ap (slot_at new) (sym hit.4) ∙ is) in
         let same_row = ap (λ s. s.row.0) same in
         (
@@ -93,7 +97,7 @@ module _ {E : Type 0} (T : Table E) (order : List ℕ) (ordered : IsOrder T orde
           ap (λ q. T.entries q hit.0) (sym same_row) ∙ hit.3 ∙ ap (λ s. Some s.entry) same,
           hit.4,
         )
-    | inr miss ↦ let u = (so.uses k r e).0 (sym (now.others k miss) ∙ is) in
+    | inr miss ↦ let u = (so.uses k r e).0 (sym (now.filled.others k miss) ∙ is) in
         (
           u.0,
           u.1,
@@ -109,7 +113,7 @@ module _ {E : Type 0} (T : Table E) (order : List ℕ) (ordered : IsOrder T orde
 
   -- an earlier row's slot isn't one of this row
   kept : (k r : ℕ) (e : E) → slot_at old k ≡ Some (slot_of r e) → slot_at new k ≡ Some (slot_of r e)
-  kept k r e is = now.others k (λ column has at_k. none-some (slot_of r e) (sym (now.free column has)
+  kept k r e is = now.filled.others k (λ column has at_k. none-some (slot_of r e) (sym (now.free column has)
       ∙ ap (slot_at old) (sym at_k) ∙ is)) ∙ is
 
   uses_from : (k r : ℕ) (e : E) → Uses T order (n + 1) (set bases row base) k r e → slot_at new k ≡ Some (slot_of r e)
@@ -130,7 +134,7 @@ module _ {E : Type 0} (T : Table E) (order : List ℕ) (ordered : IsOrder T orde
         let same_base : u.1 ≡ base = same_Some u.1 base (sym u.5 ∙ ap (slice_get (set bases row base)) same
         ∙ set_same) in
         ap (slot_at new) (u.8 ∙ ap (λ b. b + u.2) same_base)
-        ∙ now.entries u.2 e u.6 (ap (λ q. T.entries q u.2) (sym same) ∙ u.7)
+        ∙ now.filled.entries u.2 e u.6 (ap (λ q. T.entries q u.2) (sym same) ∙ u.7)
         ∙ ap (λ q. Some (slot_of q e)) (sym same)
   ]
 
@@ -172,12 +176,12 @@ module _ {E : Type 0} (T : Table E) (order : List ℕ) (ordered : IsOrder T orde
       (ordered.before u.0 n taken.2.row.0 row u.3 u.4 at) u.5 taken.1 (u.6, taken.2.entry, u.7) u.8
 
   short_more : (k : ℕ) → suc k ≡ length new → (s : Slot E) × (slot_at new k ≡ Some s)
-  short_more k last = elim (now.short k last) [
+  short_more k last = elim (now.filled.short k last) [
     | inl was ↦ let s = so.short k was in elim (hit_cases T row base k) [
-      | inl hit ↦ (slot_of row hit.1, ap (slot_at new) hit.4 ∙ now.entries hit.0 hit.1 hit.2 hit.3)
-      | inr miss ↦ (s.0, now.others k miss ∙ s.1)
+      | inl hit ↦ (slot_of row hit.1, ap (slot_at new) hit.4 ∙ now.filled.entries hit.0 hit.1 hit.2 hit.3)
+      | inr miss ↦ (s.0, now.filled.others k miss ∙ s.1)
     ]
-    | inr hit ↦ (slot_of row hit.1.1, ap (slot_at new) hit.2 ∙ now.entries hit.0 hit.1.1 hit.1.0 hit.1.2)
+    | inr hit ↦ (slot_of row hit.1.1, ap (slot_at new) hit.2 ∙ now.filled.entries hit.0 hit.1.1 hit.1.0 hit.1.2)
   ]
 
   pub laid_more : AreLaid T order (n + 1) (set bases row base) new
@@ -186,7 +190,7 @@ module _ {E : Type 0} (T : Table E) (order : List ℕ) (ordered : IsOrder T orde
     near = λ r b is. elim (cases_eq r row) [
       | inl same ↦ let same_base : base ≡ b = same_Some base b (sym set_same ∙ ap (slice_get (set bases row base)) (sym
           same) ∙ is) in omega (arith, now.within)
-      | inr other ↦ let was = so.near r b (sym (set_other r other) ∙ is) in omega (arith, now.grows)
+      | inr other ↦ let was = so.near r b (sym (set_other r other) ∙ is) in omega (arith, now.filled.grows)
     ];
     uses = λ k r e. (uses_to k r e, uses_from k r e);
     fits = λ i r b lt at_r is. fits_to i r b lt at_r (each_row (Fits T bases) so.fits this_fits i r b lt at_r is);
@@ -196,3 +200,123 @@ module _ {E : Type 0} (T : Table E) (order : List ℕ) (ordered : IsOrder T orde
     empty = each_row (λ q c. ((column : ℕ) → Has T q column → ⊥) → c ≡ 0) so.empty now.empty;
     short = short_more;
   }
+
+pub slot_at_within : {X : Type 0} (slots : List (Option X)) (k : ℕ) (x : X) → slot_at slots k ≡ Some x → k < length slots
+slot_at_within slots k x is = elim (cases_lt k (length slots)) [
+  | inl lt ↦ lt
+  | inr past ↦ absurd (none-some x (sym (ap (option_and_then (λ slot. slot)) (slice_get_past slots k past)) ∙ is))
+]
+
+pub flag-none : {X : Type 0} (o : Option X) → flag o ≡ 0 → o ≡ None
+flag-none None e = refl
+flag-none (Some x) e = absurd (omega (arith, e))
+
+pub flag-some : {X : Type 0} (o : Option X) → flag o ≡ 1 → (x : X) × (o ≡ Some x)
+flag-some None e = absurd (omega (arith, e))
+flag-some (Some x) e = (x, refl)
+
+module _ {E : Type 0} (entries : Entries E) (row base : ℕ) (columns : List ℕ) (n : ℕ)
+    (start before : List (Option (Slot E))) (so : IsPartFilled entries row base columns n start before) where
+  -- a column without an entry
+  pub part_none : entries row (get_or columns n 0) ≡ None → IsPartFilled entries row base columns (n + 1) start before
+  part_none none = record {
+    filled = λ j e lt is. elim (cases_lt j n) [
+      | inl less ↦ so.filled j e less is
+      | inr last ↦ let same : j ≡ n = omega (arith, lt, last) in
+          absurd (none-some e (sym none ∙ ap (λ i. entries row (get_or columns i 0)) (sym same) ∙ is))
+    ];
+    others = λ k miss. so.others k (λ j lt. miss j (omega (arith, lt)));
+    grows = so.grows;
+    short = λ k last. elim (so.short k last) [
+      | inl was ↦ inl was
+      | inr hit ↦ inr (hit.0, omega (arith, hit.1), hit.2)
+    ];
+  }
+
+  -- one entry more is put into its slot
+  module _ (after : List (Option (Slot E))) (e : E) (is : entries row (get_or columns n 0) ≡ Some e)
+      (same : slot_at after (base + get_or columns n 0) ≡ Some (slot_of row e))
+      (others : (k : ℕ) → k ≢ base + get_or columns n 0 → slot_at after k ≡ slot_at before k)
+      (grows : length before ≤ length after)
+      (short : (k : ℕ) → suc k ≡ length after → (k ≡ base + get_or columns n 0) ⊎ (suc k ≡ length before)) where
+    filled_more : (j : ℕ) (f : E) → j < n + 1 → entries row (get_or columns j 0) ≡ Some f
+        → slot_at after (base + get_or columns j 0) ≡ Some (slot_of row f)
+    filled_more j f lt is_f = elim (cases_eq (base + get_or columns j 0) (base + get_or columns n 0)) [
+      | inl here ↦ let column : get_or columns n 0 ≡ get_or columns j 0 = omega (arith, here) in
+          ap (slot_at after) here ∙ same
+          ∙ ap (λ g. Some (slot_of row g)) (same_Some e f (sym is ∙ ap (entries row) column ∙ is_f))
+      | inr other ↦ elim (cases_eq j n) [
+        | inl last ↦ absurd (other (ap (λ i. base + get_or columns i 0) last))
+        | inr less ↦ others (base + get_or columns j 0) other ∙ so.filled j f (omega (arith, lt, less)) is_f
+      ]
+    ]
+
+    pub part_more : IsPartFilled entries row base columns (n + 1) start after
+    part_more = record {
+      filled = filled_more;
+      others = λ k miss. others k (miss n (omega arith)) ∙ so.others k (λ j lt. miss j (omega (arith, lt)));
+      grows = omega (arith, grows, so.grows);
+      short = λ k last. elim (short k last) [
+        | inl here ↦ inr (n, omega arith, here)
+        | inr was ↦ elim (so.short k was) [
+          | inl first ↦ inl first
+          | inr hit ↦ inr (hit.0, omega (arith, hit.1), hit.2)
+        ]
+      ];
+    }
+
+-- a row's entries are in their slots once each column had its turn
+pub filled_all : {E : Type 0} (T : Table E) (row base : ℕ) (columns : List ℕ) (start slots : List (Option (Slot E)))
+    → columns ≡ columns_of T.entries T.width row
+    → IsPartFilled T.entries row base columns (length columns) start slots → IsFilled T row start slots base
+filled_all T row base columns start slots is so = record {
+  entries = λ column e lt at. let found = column_at T row columns is column (lt, e, at) in
+      ap (λ c. slot_at slots (base + c)) (sym found.2)
+      ∙ so.filled found.0 e found.1 (ap (T.entries row) found.2 ∙ at);
+  others = λ k miss. so.others k (λ j lt. miss (get_or columns j 0) (has_column T row columns is j lt));
+  grows = so.grows;
+  short = λ k last. elim (so.short k last) [
+    | inl was ↦ inl was
+    | inr hit ↦ inr (get_or columns hit.0 0, has_column T row columns is hit.0 hit.1, hit.2)
+  ];
+}
+
+-- a row without entries
+pub placed_none : {E : Type 0} (T : Table E) (row : ℕ) (columns : List ℕ) (slots : List (Option (Slot E)))
+    → columns ≡ columns_of T.entries T.width row → length columns ≡ 0 → IsRowPlaced T row slots slots 0
+placed_none {E} T row columns slots is none = record {
+  free = λ column has. absurd (not_one column has);
+  least = λ lower lt. absurd (omega (arith, lt));
+  empty = λ h. refl;
+  filled = record {
+    entries = λ column e lt at. absurd (not_one column (lt, e, at));
+    others = λ k miss. refl;
+    grows = omega arith;
+    short = λ k last. inl last;
+  };
+  within = omega arith;
+}
+  where
+    not_one : (column : ℕ) → Has T row column → ⊥
+    not_one column has = let found = column_at T row columns is column has in omega (arith, found.1, none)
+
+-- a row at the first base that the bits leave
+pub placed_some : {E : Type 0} (T : Table E) (row base : ℕ) (columns words : List ℕ) (old new : List (Option (Slot E)))
+    → columns ≡ columns_of T.entries T.width row → 0 < length columns → AreTied words old
+    → IsFreeAt words columns base → ((lower : ℕ) → lower < base → IsTakenAt words columns lower)
+    → IsFilled T row old new base → IsRowPlaced T row old new base
+placed_some {E} T row base columns words old new is some tied free least filled = record {
+  free = λ column has. let found = column_at T row columns is column has in
+      flag-none (slot_at old (base + column)) (sym (tied (base + column)) ∙ ap (λ c. taken words (base + c)) (sym found.2)
+      ∙ free found.0 found.1);
+  least = λ lower lt. let hit = least lower lt in
+      let s = flag-some (slot_at old (lower + get_or columns hit.0 0)) (sym (tied (lower + get_or columns hit.0 0))
+      ∙ hit.2) in
+      (get_or columns hit.0 0, has_column T row columns is hit.0 hit.1, s.0, s.1);
+  empty = λ none. absurd (none (get_or columns 0 0) (has_column T row columns is 0 some));
+  filled = filled;
+  within = let has = has_column T row columns is 0 some in
+      let within = slot_at_within new (base + get_or columns 0 0) (slot_of row has.1) (filled.entries (get_or columns 0 0)
+      has.1 has.0 has.2) in
+      omega (arith, within);
+}

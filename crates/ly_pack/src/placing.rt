@@ -1,10 +1,10 @@
 //! From rows as they stand to a comb: first fit, the rows with the most entries first (Tarjan and Yao 1979).
 //!
 //! Left out: anything that would make combs shorter than first fit does.
-ghost use Rattle.std.specs.Prelude.{◌≡◌, ◌≢◌, ◌⊎◌, ◌<◌, ◌^◌, ℕ, suc, length, IfOk, OnOk, Some};
+ghost use Rattle.std.specs.Prelude.{◌≡◌, ◌≢◌, ◌⊎◌, ◌<◌, ◌≤◌, ◌^◌, ℕ, suc, length, IfOk, OnOk, Some};
 ghost use Rattle.ly_pack.specs.Placement.{IsPlaced};
 ghost use Rattle.ly_pack.specs.Private.Order.{columns_of};
-ghost use Rattle.ly_pack.specs.Private.Placing.{slot_at, table_of, AreTied, IsRowPlaced};
+ghost use Rattle.ly_pack.specs.Private.Placing.{slot_at, table_of, AreTied, IsFilled, IsRowPlaced};
 ghost use Rattle.ly_pack.specs.Rows.{comb_entry, dense_entry};
 
 use crate::bit_row::BitRow;
@@ -85,8 +85,20 @@ impl<E: Copy> Placing<E> {
         Ok(base as u32)
     }
 
-    /// Puts the entries of a row into the slots from its base on.
-    fn fill(&mut self, dense: &Dense<E>, row: StateNo, columns: &[u32], base: usize) -> Result<(), OutOfMemory>
+    /// Puts the entries of a row into the slots from a base on.
+    fn fill(
+        &mut self,
+        dense: &Dense<E>,
+        row: StateNo,
+        columns: &[u32],
+        base: usize,
+    ) -> Result<(), OutOfMemory>
+        requires columns { columns.now ≡ columns_of (dense_entry dense.now) dense.now.width row.0 }
+        requires base { base < 2 ^ 32 }
+        requires tied { AreTied self.old.used.words.items self.old.slots.items }
+        ensures filled { OnOk result (IsFilled (table_of dense.now) row.0 self.old.slots.items
+            self.new.slots.items base) }
+        ensures tied { OnOk result (AreTied self.new.used.words.items self.new.slots.items) }
     {
         for column in columns {
             if let Some(entry) = dense.entry(row, *column as usize) {
@@ -104,6 +116,7 @@ impl<E: Copy> Placing<E> {
         ensures others { OnOk result ((k : ℕ) → k ≢ place → slot_at self.new.slots.items k
             ≡ slot_at self.old.slots.items k) }
         ensures tied { OnOk result (AreTied self.new.used.words.items self.new.slots.items) }
+        ensures grows { OnOk result (length self.old.slots.items ≤ length self.new.slots.items) }
         ensures short { OnOk result ((k : ℕ) → suc k ≡ length self.new.slots.items
             → (k ≡ place) ⊎ (suc k ≡ length self.old.slots.items)) }
     {

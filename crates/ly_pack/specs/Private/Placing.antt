@@ -1,9 +1,9 @@
 -- Combs that are not whole yet: some rows are placed.
 use Rattle.std.specs.Prelude.{◌≡◌, ◌≢◌, ◌⊎◌, ◌↔◌, ℕ, suc, ◌+◌, ◌<◌, ◌≤◌, List, length, Option, Some, None, slice_get}
-use Rattle.std.specs.Prelude.{option_and_then}
+use Rattle.std.specs.Prelude.{option_and_then, slice_index}
 use Rattle.ly_pack.specs.Placement.{Fits, Has, Table}
 use Rattle.ly_pack.specs.Private.Bits.{taken}
-use Rattle.ly_pack.specs.Rows.{Dense, dense_entry}
+use Rattle.ly_pack.specs.Rows.{Dense, Entries, dense_entry}
 use Rattle.ly_pack.specs.declared.comb_rows.Slot.{Slot}
 
 -- the table of rows as they stand
@@ -27,19 +27,33 @@ flag (Some x) = 1
 abbrev pub AreTied : {X : Type 0} → List ℕ → List (Option X) → Type 0
 AreTied words slots = (k : ℕ) → taken words k ≡ flag (slot_at slots k)
 
+-- A row's entries have been put into the slots from a base on, and nothing else.
+pub record IsFilled {E : Type 0} (T : Table E) (row : ℕ) (old new : List (Option (Slot E))) (base : ℕ) : Type 0 where
+  pub entries : (column : ℕ) (e : E) → column < T.width → T.entries row column ≡ Some e
+      → slot_at new (base + column) ≡ Some (slot_of row e)
+  pub others : (k : ℕ) → ((column : ℕ) → Has T row column → k ≢ base + column) → slot_at new k ≡ slot_at old k
+  pub grows : length old ≤ length new
+  pub short : (k : ℕ) → suc k ≡ length new
+      → (suc k ≡ length old) ⊎ ((column : ℕ) × Has T row column × (k ≡ base + column))
+
+-- The entries of the row's first n columns have been put into the slots from a base on, and nothing else.
+pub record IsPartFilled {E : Type 0} (entries : Entries E) (row base : ℕ) (columns : List ℕ) (n : ℕ)
+    (old new : List (Option (Slot E))) : Type 0 where
+  pub filled : (j : ℕ) (e : E) → j < n → entries row (slice_index columns j) ≡ Some e
+      → slot_at new (base + slice_index columns j) ≡ Some (slot_of row e)
+  pub others : (k : ℕ) → ((j : ℕ) → j < n → k ≢ base + slice_index columns j) → slot_at new k ≡ slot_at old k
+  pub grows : length old ≤ length new
+  pub short : (k : ℕ) → suc k ≡ length new
+      → (suc k ≡ length old) ⊎ ((j : ℕ) × (j < n) × (k ≡ base + slice_index columns j))
+
 -- A row has been placed at the least base where the slots of its entries were free.
 pub record IsRowPlaced {E : Type 0} (T : Table E) (row : ℕ) (old new : List (Option (Slot E))) (base : ℕ) : Type 0 where
   pub free : (column : ℕ) → Has T row column → slot_at old (base + column) ≡ None
   pub least : (lower : ℕ) → lower < base
       → (column : ℕ) × Has T row column × (s : Slot E) × (slot_at old (lower + column) ≡ Some s)
   pub empty : ((column : ℕ) → Has T row column → ⊥) → base ≡ 0
-  pub entries : (column : ℕ) (e : E) → column < T.width → T.entries row column ≡ Some e
-      → slot_at new (base + column) ≡ Some (slot_of row e)
-  pub others : (k : ℕ) → ((column : ℕ) → Has T row column → k ≢ base + column) → slot_at new k ≡ slot_at old k
-  pub grows : length old ≤ length new
+  pub filled : IsFilled T row old new base
   pub within : base ≤ length new
-  pub short : (k : ℕ) → suc k ≡ length new
-      → (suc k ≡ length old) ⊎ ((column : ℕ) × Has T row column × (k ≡ base + column))
 
 -- row number i of the order, below n, uses the slot for this entry
 abbrev pub Uses : {E : Type 0} → Table E → List ℕ → ℕ → List ℕ → ℕ → ℕ → E → Type 0
