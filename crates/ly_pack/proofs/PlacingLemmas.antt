@@ -85,8 +85,7 @@ module _ {E : Type 0} (T : Table E) (order : List ℕ) (ordered : IsOrder T orde
   uses_to k r e is = elim (hit_cases T row base k) [
     | inl hit ↦ let same = same_Some (slot_of row hit.1) (slot_of r e) (sym (now.filled.entries hit.0 hit.1 hit.2 hit.3)
         ∙ ap (slot_at new) (sym hit.4) ∙ is) in
-        let same_row = ap (λ s. s.row.0) same in
-        (
+        let same_row = ap (λ s. s.row.0) same in (
           n,
           base,
           hit.0,
@@ -97,18 +96,17 @@ module _ {E : Type 0} (T : Table E) (order : List ℕ) (ordered : IsOrder T orde
           ap (λ q. T.entries q hit.0) (sym same_row) ∙ hit.3 ∙ ap (λ s. Some s.entry) same,
           hit.4,
         )
-    | inr miss ↦ let u = (so.uses k r e).0 (sym (now.filled.others k miss) ∙ is) in
-        (
-          u.0,
-          u.1,
-          u.2,
-          omega (arith, u.3),
-          u.4,
-          set_other r (rows_apart T order ordered u.0 n r row u.3 u.4 at) ∙ u.5,
-          u.6,
-          u.7,
-          u.8,
-        )
+    | inr miss ↦ let u = (so.uses k r e).0 (sym (now.filled.others k miss) ∙ is) in (
+      u.0,
+      u.1,
+      u.2,
+      omega (arith, u.3),
+      u.4,
+      set_other r (rows_apart T order ordered u.0 n r row u.3 u.4 at) ∙ u.5,
+      u.6,
+      u.7,
+      u.8,
+    )
   ]
 
   -- an earlier row's slot isn't one of this row
@@ -119,16 +117,16 @@ module _ {E : Type 0} (T : Table E) (order : List ℕ) (ordered : IsOrder T orde
   uses_from : (k r : ℕ) (e : E) → Uses T order (n + 1) (set bases row base) k r e → slot_at new k ≡ Some (slot_of r e)
   uses_from k r e u = elim (cases_lt u.0 n) [
     | inl less ↦ kept k r e ((so.uses k r e).1 (
-        u.0,
-        u.1,
-        u.2,
-        less,
-        u.4,
-        sym (set_other r (rows_apart T order ordered u.0 n r row less u.4 at)) ∙ u.5,
-        u.6,
-        u.7,
-        u.8,
-      ))
+      u.0,
+      u.1,
+      u.2,
+      less,
+      u.4,
+      sym (set_other r (rows_apart T order ordered u.0 n r row less u.4 at)) ∙ u.5,
+      u.6,
+      u.7,
+      u.8,
+    ))
     | inr last ↦ let here : u.0 ≡ n = omega (arith, u.3) in
         let same : r ≡ row = same_Some r row (sym u.4 ∙ ap (slice_get order) here ∙ at) in
         let same_base : u.1 ≡ base = same_Some u.1 base (sym u.5 ∙ ap (slice_get (set bases row base)) same

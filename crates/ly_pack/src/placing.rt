@@ -4,7 +4,7 @@
 ghost use Rattle.std.specs.Prelude.{◌≡◌, ◌≢◌, ◌⊎◌, ◌<◌, ◌≤◌, ◌^◌, ℕ, suc, length, IfOk, OnOk, Some};
 ghost use Rattle.ly_pack.specs.Placement.{IsPlaced};
 ghost use Rattle.ly_pack.specs.Private.Order.{columns_of};
-ghost use Rattle.ly_pack.specs.Private.Placing.{slot_at, table_of, AreTied, IsFilled, IsRowPlaced};
+ghost use Rattle.ly_pack.specs.Private.Placing.{slot_at, table_of, AreAllLaid, AreTied, IsFilled, IsRowPlaced};
 ghost use Rattle.ly_pack.specs.Rows.{comb_entry, dense_entry};
 
 use crate::bit_row::BitRow;
@@ -19,9 +19,9 @@ use std::alloc::{AllocError, Global};
 /// as many and a lower number. It fails where memory runs out, and where a base or a column has no `u32`.
 pub fn comb<E: Copy>(alloc: Global, dense: &Dense<E>) -> Result<Comb<E>, OutOfMemory>
     ensures placed { IfOk result (IsPlaced (record {
-        entries = dense_entry dense.now;
-        rows = dense.now.rows;
-        width = dense.now.width;
+      entries = dense_entry dense.now;
+      rows = dense.now.rows;
+      width = dense.now.width;
     })) }
     ensures entries { IfOk result (λ c. (row column : ℕ) → comb_entry c row column
         ≡ dense_entry dense.now row column) }
@@ -40,6 +40,7 @@ fn place_rows<E: Copy>(
 ) -> Result<(Vec<u32>, Vec<Option<Slot<E>>>), OutOfMemory>
     requires rows { dense.now.rows < 2 ^ 32 }
     requires width { dense.now.width < 2 ^ 32 }
+    ensures { IfOk result (λ placed. AreAllLaid (table_of dense.now) placed.0.items placed.1.items) }
 {
     let order = rows_in_order(alloc, dense)?;
     let mut bases = vec![in alloc; 0u32; dense.rows()]?;

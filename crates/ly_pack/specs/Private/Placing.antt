@@ -3,6 +3,7 @@ use Rattle.std.specs.Prelude.{◌≡◌, ◌≢◌, ◌⊎◌, ◌↔◌, ℕ, s
 use Rattle.std.specs.Prelude.{option_and_then, slice_index}
 use Rattle.ly_pack.specs.Placement.{Fits, Has, Table}
 use Rattle.ly_pack.specs.Private.Bits.{taken}
+use Rattle.ly_pack.specs.Private.Order.{IsOrder}
 use Rattle.ly_pack.specs.Rows.{Dense, Entries, dense_entry}
 use Rattle.ly_pack.specs.declared.comb_rows.Slot.{Slot}
 
@@ -73,3 +74,9 @@ pub record AreLaid {E : Type 0} (T : Table E) (order : List ℕ) (n : ℕ) (base
   pub empty : (i row base : ℕ) → i < n → slice_get order i ≡ Some row → slice_get bases row ≡ Some base
       → ((column : ℕ) → Has T row column → ⊥) → base ≡ 0
   pub short : (k : ℕ) → suc k ≡ length slots → (s : Slot E) × (slot_at slots k ≡ Some s)
+
+-- All rows are placed, in some order that their numbers of entries allow.
+pub record AreAllLaid {E : Type 0} (T : Table E) (bases : List ℕ) (slots : List (Option (Slot E))) : Type 0 where
+  pub order : List ℕ
+  pub ordered : IsOrder T order
+  pub laid : AreLaid T order (length order) bases slots
