@@ -1,5 +1,5 @@
 ghost use Rattle.std.specs.Prelude.{◌≡◌, ◌<◌, ◌+◌, ◌*◌, ℕ, nat_eq, ◌&&◌, if◌then◌else◌, None, IfOk};
-ghost use Rattle.ly_pack.specs.Rows.{dense_entry};
+ghost use Rattle.ly_pack.specs.Rows.{dense_entry, IsDense};
 
 use crate::rows::Rows;
 use ly_base::{OutOfMemory, StateNo};
@@ -47,7 +47,8 @@ impl<E: Copy> Dense<E> {
 
     /// How many rows there are.
     pub fn rows(&self) -> usize
-        ensures { result ≡ self.now.rows }
+        ensures count { result ≡ self.now.rows }
+        ensures all { IsDense self.now }
     {
         self.rows
     }

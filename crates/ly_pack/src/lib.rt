@@ -2,15 +2,21 @@
 #![tactic(auto)]
 
 mod action;
+mod bit_row;
+mod comb_rows;
 mod dense;
 mod laws;
 mod machine;
+mod order;
+mod placing;
 mod rows;
 mod rule;
 
 pub use action::TableAction;
+pub use comb_rows::{Comb, Slot};
 pub use dense::Dense;
 pub use laws::{runs_end, stacks_keep_edges};
 pub use machine::Machine;
+pub use placing::comb;
 pub use rows::Rows;
 pub use rule::TableRule;
