@@ -2,3 +2,4 @@ pub mod Ranges
 pub mod Spelling
 pub mod TableSet
 pub mod TableText
+pub mod Values

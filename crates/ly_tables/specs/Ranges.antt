@@ -6,8 +6,9 @@ use Rattle.ly_base.specs.declared.cut.Cut.{Cut}
 use Rattle.ly_base.specs.declared.cut.Cut.TheVariants.{Whole, Head, Tail}
 use Rattle.ly_base.specs.declared.scan_action.Emitted.{Emitted}
 use Rattle.ly_base.specs.declared.scan_action.Emitted.TheVariants.{Nothing, Terminal, FirstByte}
+use Rattle.ly_base.specs.declared.numbers.StateNo.{StateNo}
 use Rattle.ly_pack.specs.Machine.{IsMachine, TableRule}
-use Rattle.ly_pack.specs.Rows.{Comb, IsComb, Used, comb_entry}
+use Rattle.ly_pack.specs.Rows.{Comb, IsComb, Used}
 use Rattle.ly_tables.specs.TableSet.{ScanRule, Starts, TableSet, machine_of}
 
 -- The greatest counts of a version.
@@ -46,10 +47,10 @@ pub record AreStartsWithin (states : ℕ) (c : Starts) : Type 0 where
   pub at_line : (s : ℕ) → c.at_line ≡ Some s → s < states
 
 -- rows laid over one another: one for each state, of this width, with 32 bits for each base and the count of slots
-pub record AreRows {E : Type 0} (states width : ℕ) (c : Comb E) : Type 0 where
+pub record AreRows {E : Type 0} (states columns : ℕ) (c : Comb E) : Type 0 where
   pub is_comb : IsComb c
   pub rows : length c.bases ≡ states
-  pub width : c.width ≡ width
+  pub width : c.width ≡ columns
   pub slots : length c.slots < 2 ^ 32
 
 -- the names and the lengths of a rule fit
@@ -84,7 +85,7 @@ pub record IsWithinRanges (w : Width) (counts : Counts) (s : TableSet) : Type 0 
   pub scan_state_count : length s.accepted ≤ counts.states
   pub accepted : (k p : ℕ) → slice_get s.accepted k ≡ Some (Some p) → p < length s.scan_rules
   pub scan_rows : AreRows (length s.accepted) s.class_count s.scan_rows
-  pub scan_targets : (k : ℕ) (u : Used ℕ) → slice_get s.scan_rows.slots k ≡ Some (Some u) → u.entry < length s.accepted
+  pub scan_targets : (k : ℕ) (u : Used StateNo) → slice_get s.scan_rows.slots k ≡ Some (Some u) → u.entry.0 < length s.accepted
   pub some_rule : 1 ≤ length s.rules
   pub rule_count : length s.rules ≤ counts.rules
   pub rules : All IsRuleShort s.rules

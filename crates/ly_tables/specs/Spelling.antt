@@ -9,6 +9,7 @@ use Rattle.ly_base.specs.declared.scan_action.Emitted.{Emitted}
 use Rattle.ly_base.specs.declared.scan_action.Emitted.TheVariants.{Nothing, Terminal, FirstByte}
 use Rattle.ly_pack.specs.Machine.{TableAction, TableRule, shift, reduce, accept, error}
 use Rattle.ly_pack.specs.Rows.{Comb, Used}
+use Rattle.ly_pack.specs.Values.{action_from}
 use Rattle.ly_tables.specs.TableSet.{ScanRule, Starts, TableSet}
 
 abbrev pub number : Width → ℕ → List ℕ
@@ -91,14 +92,14 @@ scanner_sections w s = number w (length s.scan_rules) ++ flat_map (scan_rule w) 
     ++ number w (length s.conditions) ++ flat_map (starts w) s.conditions
     ++ number w s.class_count ++ s.classes
     ++ number w (length s.accepted) ++ flat_map (counted_from_one w) s.accepted
-    ++ comb w (λ n. n) s.scan_rows
+    ++ comb w (λ n. n.0) s.scan_rows
 
 -- those of the parser
 abbrev pub parser_sections : Width → TableSet → List ℕ
 parser_sections w s = number w (length s.rules) ++ flat_map (rule w) s.rules
     ++ number w (length s.defaults) ++ flat_map (or_zero w) s.defaults
-    ++ comb w (action_number w) s.actions
-    ++ comb w (λ n. n) s.gotos
+    ++ comb w (λ a. action_number w (action_from a)) s.actions
+    ++ comb w (λ n. n.0) s.gotos
 
 -- those of the symbols: how many there are, the names of terminals, and the terminal of each byte
 abbrev pub symbol_sections : Width → TableSet → List ℕ

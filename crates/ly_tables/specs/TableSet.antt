@@ -1,12 +1,12 @@
 -- What a driver needs to know of two files: a table set.
-use Rattle.std.specs.Prelude.{◌≡◌, ◌≢◌, ℕ, ◌+◌, ◌<◌, ◌≤◌, List, [], ◌∷◌, Option, Some, None, All, length, take, slice_get}
+use Rattle.std.specs.Prelude.{ℕ, List, Option, length}
 use Rattle.ly_base.specs.declared.cut.Cut.{Cut}
-use Rattle.ly_base.specs.declared.cut.Cut.TheVariants.{Whole, Head, Tail}
-use Rattle.ly_base.specs.declared.scan_action.Emitted.TheVariants.{Nothing, Terminal, FirstByte}
 use Rattle.ly_base.specs.declared.scan_action.ScanAction.{ScanAction}
-use Rattle.ly_pack.specs.Machine.{Machine, TableAction, TableRule, IsMachine}
-use Rattle.ly_pack.specs.Rows.{Comb, IsComb, comb_entry, grid_of}
-use Rattle.ly_pack.specs.Steady.{IsSteady}
+use Rattle.ly_base.specs.declared.numbers.StateNo.{StateNo}
+use Rattle.ly_pack.specs.Machine.{Machine, TableRule}
+use Rattle.ly_pack.specs.Rows.{Comb, comb_entry, grid_of}
+use Rattle.ly_pack.specs.Values.{actions_from, gotos_from}
+use Rattle.ly_pack.specs.declared.action.TableAction as code
 
 -- A rule of the scanner: what is done where it matches, and what is cut off its matches.
 pub record ScanRule : Type 0 where
@@ -29,19 +29,19 @@ pub record TableSet : Type 0 where
   pub class_count : ℕ
   pub classes : List ℕ
   pub accepted : List (Option ℕ)
-  pub scan_rows : Comb ℕ
+  pub scan_rows : Comb StateNo
   pub rules : List TableRule
   pub defaults : List (Option ℕ)
-  pub actions : Comb TableAction
-  pub gotos : Comb ℕ
+  pub actions : Comb code.TableAction
+  pub gotos : Comb StateNo
 
 -- the parser's tables of a set
 abbrev pub machine_of : TableSet → Machine
 machine_of s = record {
   terminals = length s.terminals;
   nonterminals = s.nonterminals;
-  actions = grid_of (length s.defaults) (length s.terminals) (comb_entry s.actions);
+  actions = grid_of (length s.defaults) (length s.terminals) (actions_from (comb_entry s.actions));
   defaults = s.defaults;
-  gotos = grid_of (length s.defaults) s.nonterminals (comb_entry s.gotos);
+  gotos = grid_of (length s.defaults) s.nonterminals (gotos_from (comb_entry s.gotos));
   rules = s.rules;
 }

@@ -1,0 +1,55 @@
+use crate::scan_rule::ScanRule;
+use crate::starts::Starts;
+use ly_base::{RuleNo, StateNo, Sym};
+use ly_pack::{Comb, TableAction, TableRule};
+use std::marker::Model;
+
+/// What a driver needs to know of a lex file and a yacc file.
+#[derive(Drop)]
+pub struct TableSet {
+    /// The printed names of terminals, by their numbers.
+    pub(crate) terminals: Vec<Vec<u8>>,
+    /// How many nonterminals there are, `$accept` not among them.
+    pub(crate) nonterminals: usize,
+    /// The terminal of each byte as a literal.
+    pub(crate) literals: Vec<Sym>,
+    /// The rules of the scanner.
+    pub(crate) scan_rules: Vec<ScanRule>,
+    /// Where each condition begins.
+    pub(crate) conditions: Vec<Starts>,
+    /// How many classes of bytes there are.
+    pub(crate) class_count: usize,
+    /// The class of each byte.
+    pub(crate) classes: Vec<u8>,
+    /// The rule of each scanner state, if it has one.
+    pub(crate) accepted: Vec<Option<RuleNo>>,
+    /// Where scanner states lead, by classes.
+    pub(crate) scan_rows: Comb<StateNo>,
+    /// The rules of the parser but rule 0.
+    pub(crate) rules: Vec<TableRule>,
+    /// The default reduction of each parser state.
+    pub(crate) defaults: Vec<Option<RuleNo>>,
+    /// What is done in a parser state before a terminal.
+    pub(crate) actions: Comb<TableAction>,
+    /// Where a parser state goes by a nonterminal.
+    pub(crate) gotos: Comb<StateNo>,
+}
+
+impl Model for TableSet {
+    ghost use Rattle.std.specs.Prelude.{map};
+    ghost use Rattle.std.specs.Option.{option_map};
+    ghost use Rattle.std.specs.Int.{w16};
+    ghost use Rattle.ly_pack.specs.Values.{rule_from};
+    ghost use Rattle.ly_tables.specs.Ranges.{version_1, IsWithinRanges};
+    ghost use Rattle.ly_tables.specs.TableSet as value;
+    ghost use Rattle.ly_tables.specs.Values.{scan_rule_from, set_from, starts_from};
+
+    ghost Value = { value.TableSet };
+
+    ghost view = { λ s. set_from s.terminals.items s.nonterminals s.literals.items s.scan_rules.items s.conditions.items
+        s.class_count s.classes.items s.accepted.items s.scan_rows s.rules.items s.defaults.items s.actions s.gotos };
+
+    ghost invariant = { λ s. IsWithinRanges w16 version_1 (set_from s.terminals.items s.nonterminals s.literals.items
+        s.scan_rules.items s.conditions.items s.class_count s.classes.items s.accepted.items s.scan_rows s.rules.items
+        s.defaults.items s.actions s.gotos) };
+}
