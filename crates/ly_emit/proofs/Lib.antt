@@ -1,1 +1,2 @@
 pub mod FollowLemmas
+pub mod RunLemmas

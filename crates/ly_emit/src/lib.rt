@@ -5,4 +5,4 @@
 
 mod laws;
 
-pub use laws::tables_follow;
+pub use laws::{runs_follow, tables_follow};
