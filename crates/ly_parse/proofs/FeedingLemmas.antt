@@ -7,7 +7,7 @@ use Rattle.ly_pack.specs.Machine.{Machine, TableAction, TableRule, action_of, en
 use Rattle.ly_pack.specs.Machine.{IsLegal, IsMachine, IsTableRule}
 use Rattle.ly_pack.specs.Steady as steady
 use Rattle.ly_pack.specs.Steady.{action_on, move, rule_at}
-use Rattle.ly_parse.specs.Feeding.{Fed, Feeds, Level, Turn, go_to, goes_on, onward, perform, pop, reduce_by, settled}
+use Rattle.ly_parse.specs.Feeding.{Fed, Feeds, Level, go_to, goes_on, onward, perform, pop, reduce_by, settled}
 use Rattle.ly_parse.specs.Feeding.{settles, states_on, top_of, turn, uncover}
 use Rattle.ly_parse.specs.Private.Stack.{FeedAlike, FeedAs}
 use Rattle.ly_tree.specs.Term.{Terms, made, none}
@@ -35,7 +35,8 @@ goes_from_top : (m : Machine) (left : ℕ) (stack : List Level)
 goes_from_top m left [] = refl
 goes_from_top m left (l ∷ stack) = refl
 
-acts_on_top : (m : Machine) (t : ℕ) (stack : List Level) → action_on m t (states_on stack) ≡ action_of m (top_of stack) t
+acts_on_top : (m : Machine) (t : ℕ) (stack : List Level)
+    → action_on m t (states_on stack) ≡ action_of m (top_of stack) t
 acts_on_top m t [] = refl
 acts_on_top m t (l ∷ stack) = refl
 

@@ -1,12 +1,12 @@
 -- Reductions by the rules of the tables, on a stack as it is kept.
-use Rattle.std.proofs.Common.{◌≡◌, ℕ, suc, ◌<◌, ◌≤◌, ◌+◌, ◌-◌, List, [], ◌∷◌, ◌++◌, length, drop, take}
-use Rattle.std.proofs.Common.{Some, None, refl, sym, ap, ◌∙◌, arith, subst}
+use Rattle.std.proofs.Common.{◌≡◌, ℕ, ◌<◌, ◌+◌, ◌-◌, List, [], ◌∷◌, ◌++◌, length, drop, take}
+use Rattle.std.proofs.Common.{Some, None, sym, ap, ◌∙◌, arith, subst}
 use Rattle.std.proofs.lemmas.Option.{get_or_from_slice_get, slice_get_within}
 use Rattle.std.specs.Prelude.{Bool, Option}
-use Rattle.ly_pack.specs.Machine.{Machine, TableRule, goto_at, states_of, IsMachine, IsRuleWithin, IsShapeFor}
+use Rattle.ly_pack.specs.Machine.{Machine, TableRule, goto_at, IsMachine, IsRuleWithin, IsShapeFor}
 use Rattle.ly_pack.specs.Machine.{IsTableRule}
 use Rattle.ly_pack.specs.Steady.{rule_at, by_goto}
-use Rattle.ly_parse.specs.Feeding.{Level, faulty, go_to, goes_on, reduce_by, settles, top_of, uncover}
+use Rattle.ly_parse.specs.Feeding.{faulty, go_to, goes_on, reduce_by, settles, top_of, uncover}
 use Rattle.ly_parse.specs.Parse.{Parse}
 use Rattle.ly_parse.specs.Private.Stack.{parse_from, stack_from, terms_onto, IsParse}
 use Rattle.ly_parse.specs.declared.parser.Level as code

@@ -1,5 +1,5 @@
 -- A parser's stack as it is kept, and as contracts see it.
-use Rattle.std.proofs.Common.{◌≡◌, ℕ, zero, suc, ◌<◌, ◌≤◌, ◌-◌, List, [], ◌∷◌, ◌++◌, length, drop, take, map, reverse}
+use Rattle.std.proofs.Common.{◌≡◌, ℕ, zero, suc, ◌<◌, ◌-◌, List, [], ◌∷◌, ◌++◌, length, drop, take, map, reverse}
 use Rattle.std.proofs.Common.{refl, sym, ap, ◌∙◌, subst, arith, length-drop}
 use Rattle.std.proofs.Math.Seq.{drop-append_seam, take-append_seam}
 use Rattle.std.proofs.lemmas.List.{length-map, length-reverse, map-append, reverse-append, take-append-drop}
@@ -132,8 +132,11 @@ last_is [] l e = absurd cc
 last_is (x ∷ []) l e = let same : x ≡ l = cc in ([], ap (λ y. y ∷ []) same)
 last_is (x ∷ y ∷ levels) l e =
     let place : length (x ∷ y ∷ levels) - 1 ≡ suc (length (y ∷ levels) - 1) = omega arith in
-    let r = last_is (y ∷ levels) l (sym (ap (slice_get (x ∷ y ∷ levels)) place) ∙ e) in
-    (x ∷ r.0, ap (λ w. x ∷ w) r.1)
+    under (last_is (y ∷ levels) l (sym (ap (slice_get (x ∷ y ∷ levels)) place) ∙ e))
+  where
+    under : (front : List code.Level) × (y ∷ levels ≡ front ++ l ∷ [])
+        → (front : List code.Level) × (x ∷ y ∷ levels ≡ front ++ l ∷ [])
+    under r = (x ∷ r.0, ap (λ w. x ∷ w) r.1)
 
 -- the tables accept with its term
 pub accepts : (m : Machine) (f : Grown) (levels : List code.Level) (l : code.Level) (p : Parse) (count : ℕ)

@@ -5,7 +5,7 @@ use Rattle.ly_base.specs.Lexed.{Token}
 use Rattle.ly_pack.proofs.Runs.{runs_end}
 use Rattle.ly_pack.specs.Machine.{Machine, accept, action_of, error, shift}
 use Rattle.ly_pack.specs.Steady.{run_bound, EndsWithin}
-use Rattle.ly_parse.specs.Feeding.{Feeds, Level, done, faulty, pushed, refused, settles, states_on, top_of}
+use Rattle.ly_parse.specs.Feeding.{done, faulty, pushed, refused, settles, states_on, top_of}
 use Rattle.ly_parse.specs.Parse.{IsCall, Parse}
 use Rattle.ly_parse.specs.Private.Stack.{parse_from, stack_from, FeedAlike, IsAccepted, IsParse}
 use Rattle.ly_parse.specs.declared.fault.ParseFault.{ParseFault}

@@ -1,6 +1,6 @@
 -- The terms of the levels of a stack.
 use Rattle.std.proofs.Common.{◌≡◌, ℕ, zero, suc, ◌<◌, ◌≤◌, ◌+◌, ◌-◌, List, [], ◌∷◌, ◌++◌, length, drop, take, map}
-use Rattle.std.proofs.Common.{Option, Some, None, refl, sym, ap, ◌∙◌, arith, get_or, length-drop, subst, Err, Ok}
+use Rattle.std.proofs.Common.{Some, None, refl, sym, ap, ◌∙◌, arith, get_or, length-drop, subst, Err, Ok}
 use Rattle.std.proofs.lemmas.List.{get_or-drop, map-append, take_all, take_more}
 use Rattle.std.proofs.lemmas.Option.{slice_get-get_or}
 use Rattle.std.specs.Prelude.{slice_get, unwrap_or, All, Bool, IsSome, OnErr, OnOk, Result, Vec}

@@ -1,4 +1,5 @@
-ghost use Rattle.std.specs.Prelude.{◌≡◌, ◌≢◌, ◌<◌, ◌≤◌, ◌+◌, ◌-◌, [], ◌∷◌, Err, Ok, false, length, map, take, All, IfErr, IfOk, OnErr, OnOk};
+ghost use Rattle.std.specs.Prelude.{◌≡◌, ◌≢◌, ◌<◌, ◌≤◌, ◌+◌, ◌-◌, [], ◌∷◌, Err, Ok, false, length, map, take, All};
+ghost use Rattle.std.specs.Prelude.{IfErr, IfOk, OnErr, OnOk};
 ghost use Rattle.ly_base.specs.Shape.{shape_of};
 ghost use Rattle.ly_pack.specs.Machine.{accept, action_of, error, shift, states_of, IsRuleNumber, IsShapeFor};
 ghost use Rattle.ly_pack.specs.Steady.{rule_at, IsSteady};
@@ -73,7 +74,7 @@ impl<'a, A: Rows<TableAction> + Drop, G: Rows<StateNo> + Drop> Parser<'a, A, G> 
           over = false;
         } }
     {
-        // all that the tables name is there, as the call says
+        // the call's contract says that all that the tables name is there
         let _states = machine.states();
         Parser {
             machine,
@@ -104,8 +105,11 @@ impl<'a, A: Rows<TableAction> + Drop, G: Rows<StateNo> + Drop> Parser<'a, A, G> 
     pub fn feed(&mut self, token: &Token<'_>) -> Result<Step, ParseFault>
         requires not_end { token.now.terminal.0 ≢ 0 }
         requires terminal { token.now.terminal.0 < self.old.machine.terminals }
-        ensures { IsCall self.old (record { terminal = token.now.terminal.0; at = token.now.at; bytes = token.now.text.now })
-            self.new result }
+        ensures { IsCall self.old (record {
+          terminal = token.now.terminal.0;
+          at = token.now.at;
+          bytes = token.now.text.now;
+        }) self.new result }
     {
         self.take(token)
     }
@@ -127,8 +131,11 @@ impl<'a, A: Rows<TableAction> + Drop, G: Rows<StateNo> + Drop> Parser<'a, A, G> 
     /// Takes a token, or the end.
     fn take(&mut self, token: &Token<'_>) -> Result<Step, ParseFault>
         requires { token.now.terminal.0 < self.old.machine.terminals }
-        ensures call { IsCall self.old (record { terminal = token.now.terminal.0; at = token.now.at; bytes = token.now.text.now })
-            self.new result }
+        ensures call { IsCall self.old (record {
+          terminal = token.now.terminal.0;
+          at = token.now.at;
+          bytes = token.now.text.now;
+        }) self.new result }
         ensures read { result ≡ Ok step.More → token.now.terminal.0 ≢ 0 }
     {
         if self.over {

@@ -13,7 +13,7 @@ use Rattle.ly_parse.specs.declared.parser.Level as code
 use Rattle.ly_parse.specs.declared.step.Step as step
 use Rattle.ly_parse.specs.declared.step.Step.TheVariants.{Done}
 use Rattle.ly_tree.specs.Forest.{Grown, StandsFor, term_of}
-use Rattle.ly_tree.specs.Term.{Term, Terms, more, none, nothing}
+use Rattle.ly_tree.specs.Term.{Term, Terms, more, nothing}
 use Rattle.ly_tree.specs.declared.forest.TermNo.{TermNo}
 use Rattle.ly_tree.specs.declared.forest.TermNo.TheVariants.{Nothing}
 
@@ -35,8 +35,8 @@ term_at (l ∷ body) zero = Nothing
 term_at (l ∷ body) (suc zero) = l.term
 term_at (l ∷ body) (suc (suc i)) = term_at body (suc i)
 
--- All that the tables name is there, they are steady, each level's state is one of theirs and its term is in the forest, and neighbours on the stack
--- are edges.
+-- All that the tables name is there, they are steady, each level's state is one of theirs and its term is in the
+-- forest, and neighbours on the stack are edges.
 pub record IsParse (m : Machine) (f : Grown) (levels : List code.Level) : Type 0 where
   pub machine : IsMachine m
   pub steady : IsSteady m

@@ -1,4 +1,4 @@
-use Rattle.std.proofs.Common.{◌≡◌, ◌∙◌, ◌-◌, ap, length, sym, subst}
+use Rattle.std.proofs.Common.{◌≡◌, ◌∙◌, ◌-◌, ap, length, sym}
 use Rattle.std.specs.Prelude.{Some, slice_get}
 use Rattle.ly_parse.proofs.StackLemmas.{accepts}
 use Rattle.ly_parse.proofs.parser.Parser.accept.Goals as goal

@@ -1,4 +1,4 @@
-use Rattle.std.proofs.Common.{◌≡◌, ◌∙◌, ap, arith, subst, sym}
+use Rattle.std.proofs.Common.{◌∙◌, ap, arith, subst, sym}
 use Rattle.ly_pack.specs.Machine.{shift, IsMachine}
 use Rattle.ly_parse.specs.Feeding.{top_of}
 use Rattle.ly_parse.specs.Private.Stack.{stack_from, IsParse}

@@ -1,4 +1,4 @@
-use Rattle.std.proofs.Common.{◌≡◌, ◌∙◌, ◌<◌, ◌+◌, ap, arith, length, subst, sym}
+use Rattle.std.proofs.Common.{◌≡◌, ◌<◌, ◌+◌, ap, arith, length, subst, sym}
 use Rattle.ly_pack.specs.Values.{rule_from}
 use Rattle.ly_parse.specs.Private.Stack.{IsParse}
 use Rattle.ly_parse.proofs.ReduceLemmas.{goes, goes_to, is_cut, lacks_goto, past_bottom, rule_within, shape_fits}

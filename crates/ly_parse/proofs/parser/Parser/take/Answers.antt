@@ -1,4 +1,4 @@
-use Rattle.std.proofs.Common.{◌≡◌, ◌∙◌, ap, Ok}
+use Rattle.std.proofs.Common.{ap, Ok}
 use Rattle.ly_parse.proofs.TakeLemmas.{accepts_call, reads, refuses_call}
 use Rattle.ly_parse.proofs.parser.Parser.take.Goals as goal
 
