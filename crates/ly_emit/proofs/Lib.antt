@@ -1,2 +1,3 @@
+pub mod EndLemmas
 pub mod FollowLemmas
 pub mod RunLemmas

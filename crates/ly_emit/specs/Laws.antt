@@ -4,10 +4,11 @@ use Rattle.ly_base.specs.Lexed.{Token}
 use Rattle.ly_grammar.specs.Reduction.{KeepsUseful}
 use Rattle.ly_join.specs.Joined.{Spec}
 use Rattle.ly_lr0.specs.Automaton.{Automaton, IsAutomaton}
-use Rattle.ly_pack.specs.Machine.{Machine}
+use Rattle.ly_pack.specs.Machine.{Machine, IsMachine}
+use Rattle.ly_pack.specs.Steady.{IsSteady}
 use Rattle.ly_base.specs.Trees.{Tree}
 use Rattle.ly_parse.specs.Feeding.{Fed, Feeds, Level, done, refused}
-use Rattle.ly_resolve.specs.Machine.{AcceptsWith, Pushed, RefusesAfter}
+use Rattle.ly_resolve.specs.Machine.{AcceptsWith, Ends, Pushed, RefusesAfter}
 use Rattle.ly_resolve.specs.Precedence.{judge_of}
 use Rattle.ly_tree.specs.Term.{Term, build}
 use Rattle.ly_emit.specs.Following.{Follows, Mirrors, Reads}
@@ -39,3 +40,9 @@ RefusedFollow = (s : Spec) (M : Automaton) (n : Machine) → IsAutomaton M → K
     → IsMachineOf s M n → (before behind : List (Token ℕ)) (t : Token ℕ) (last : List Level)
     → AreOf M (before ++ t ∷ []) → Reads n [] before last → Feeds n t last refused
     → RefusesAfter M.grammar (judge_of s) (before ++ t ∷ behind) before
+
+-- On steady tables each run of the reference machine on tokens with the end behind them ends.
+abbrev pub RunsEndOnSteady : Type 0
+RunsEndOnSteady = (s : Spec) (M : Automaton) (n : Machine) → IsAutomaton M → KeepsUseful s.grammar M.grammar
+    → IsMachineOf s M n → IsMachine n → IsSteady n → (tokens : List (Token ℕ)) (end : Token ℕ) → end.terminal ≡ 0
+    → AreOf M (tokens ++ end ∷ []) → Ends M.grammar (judge_of s) (tokens ++ end ∷ [])

@@ -1,12 +1,14 @@
-ghost use Rattle.ly_emit.specs.Laws.{AcceptedFollow, RefusedFollow, TablesFollow};
+ghost use Rattle.ly_emit.specs.Laws.{AcceptedFollow, RefusedFollow, RunsEndOnSteady, TablesFollow};
 
 /// What tables with defaults do with a token, the reference machine does too.
 pub fn tables_follow()
     ensures { TablesFollow }
 {}
 
-/// Where tables accept a text or refuse a token, so does the reference machine, with the same tree and at the same token.
+/// Where tables accept a text or refuse a token, so does the reference machine, with the same tree and at the same token;
+/// and where they are steady its runs end.
 pub fn runs_follow()
     ensures accepted { AcceptedFollow }
     ensures refused { RefusedFollow }
+    ensures ends { RunsEndOnSteady }
 {}
