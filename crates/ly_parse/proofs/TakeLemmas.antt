@@ -27,14 +27,14 @@ module _ (m : Machine) (f : Grown) (levels : List code.Level) (p : Parse) (count
   pub reads : (state : ℕ) (q : Parse) → action_of m (top_of s.stack) token.terminal ≡ shift state
       → q.stack ≡ record { state = state; term = leaf token.terminal token.bytes } ∷ s.stack
       → q.count ≡ s.count + 1 → q.machine ≡ s.machine → q.over ≡ false → IsCall p token q (Ok More)
-  reads state q action stack more same open_ =
+  reads state q action stack more same still =
       let fed = alike token (pushed q.stack) refl (feeds_by m token s.stack (shift state) (pushed q.stack) action
       (ap (λ w. settles (pushed w)) (sym stack))) in
       subst (λ x. IsCall x token q (Ok More)) view (record {
         after_end = not_over over goes;
         before_end = λ _. (fed, more ∙ ap (λ n. n + 1) counted);
         machine = same ∙ machine;
-        over = open_;
+        over = still;
       })
 
   -- the tables accept

@@ -31,7 +31,8 @@ invariant_of-self g c =
 pub goto-requires-clause-left : goal.goto-requires-clause-left
 goto-requires-clause-left g c =
     subst (λ m. c.rule-rule.result.now.left.0 < m.nonterminals)
-    (ap (λ p. p.machine) c.self.view_is ∙ (sym c.in_ok-term.ensures.machine ∙ sym (ap (λ p. p.machine) c.self-2.view_is)))
+    (ap (λ p. p.machine) c.self.view_is
+    ∙ (sym c.in_ok-term.ensures.machine ∙ sym (ap (λ p. p.machine) c.self-2.view_is)))
     (rule_within c.self.inside.machine.now c.args.number.0 (rule_from c.rule-rule.result.now)
     c.self.invariant.machine c.rule-rule.ensures).left
 
