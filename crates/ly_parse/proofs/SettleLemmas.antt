@@ -9,7 +9,7 @@ use Rattle.ly_parse.specs.Feeding.{Fed, Level, Turn, goes_on, reduce_by, settles
 use Rattle.ly_parse.specs.Parse.{Parse}
 use Rattle.ly_parse.specs.Private.Stack.{parse_from, stack_from, FeedAlike, FeedAs, IsParse}
 use Rattle.ly_parse.specs.declared.fault.ParseFault.{ParseFault}
-use Rattle.ly_parse.specs.declared.parser.Level as code
+use Rattle.ly_parse.specs.declared.level.Level as code
 use Rattle.ly_parse.proofs.FeedingLemmas.{feeds_alike, feeds_as, moves}
 use Rattle.ly_tree.specs.Forest.{Grown}
 

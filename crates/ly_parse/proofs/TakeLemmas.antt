@@ -8,7 +8,7 @@ use Rattle.ly_parse.specs.Parse.{IsCall, Parse}
 use Rattle.ly_parse.specs.Private.Stack.{parse_from, stack_from, FeedAlike, IsAccepted}
 use Rattle.ly_parse.specs.declared.fault.ParseFault.{ParseFault}
 use Rattle.ly_parse.specs.declared.fault.ParseFault.TheVariants.{OutOfMemory, Over, TableFault}
-use Rattle.ly_parse.specs.declared.parser.Level as code
+use Rattle.ly_parse.specs.declared.level.Level as code
 use Rattle.ly_parse.specs.declared.step.Step as step
 use Rattle.ly_parse.specs.declared.step.Step.TheVariants.{Done, More, Refused}
 use Rattle.ly_parse.proofs.FeedingLemmas.{feeds_by}

@@ -12,7 +12,7 @@ use Rattle.ly_pack.specs.Machine.{Machine, IsShapeFor}
 use Rattle.ly_parse.specs.Feeding.{Level, pop}
 use Rattle.ly_parse.specs.Parse.{Parse}
 use Rattle.ly_parse.specs.Private.Stack.{level_from, parse_from, stack_from, term_at, terms_onto, IsParse}
-use Rattle.ly_parse.specs.declared.parser.Level as code
+use Rattle.ly_parse.specs.declared.level.Level as code
 use Rattle.ly_parse.proofs.StackLemmas.{above, length-stack_from, stack_from-append}
 use Rattle.ly_tree.proofs.StandLemmas.{known_stands}
 use Rattle.ly_tree.specs.Forest.{term_of, Grown, Keeps, StandsFor, StandForAll}
