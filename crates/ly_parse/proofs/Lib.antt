@@ -1,5 +1,6 @@
 pub mod FeedingLemmas
 pub mod ReduceLemmas
+pub mod SettleLemmas
 pub mod StackLemmas
 pub mod TakeLemmas
 pub mod TermLemmas

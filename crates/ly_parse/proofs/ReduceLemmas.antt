@@ -1,21 +1,34 @@
 -- Reductions by the rules of the tables, on a stack as it is kept.
-use Rattle.std.proofs.Common.{◌≡◌, ℕ, ◌<◌, ◌+◌, ◌-◌, List, [], ◌∷◌, ◌++◌, length, drop, take}
+use Rattle.std.proofs.Common.{◌≡◌, ℕ, ◌<◌, ◌≤◌, ◌+◌, ◌-◌, List, [], ◌∷◌, ◌++◌, length, drop, take}
 use Rattle.std.proofs.Common.{Some, None, sym, ap, ◌∙◌, arith, subst}
 use Rattle.std.proofs.lemmas.Option.{get_or_from_slice_get, slice_get_within}
-use Rattle.std.specs.Prelude.{Bool, Option}
+use Rattle.std.specs.Global.{Global}
+use Rattle.std.specs.Prelude.{Bool, Option, Vec, vec_len}
 use Rattle.ly_pack.specs.Machine.{Machine, TableRule, goto_at, IsMachine, IsRuleWithin, IsShapeFor}
 use Rattle.ly_pack.specs.Machine.{IsTableRule}
 use Rattle.ly_pack.specs.Steady.{rule_at, by_goto}
 use Rattle.ly_parse.specs.Feeding.{faulty, go_to, goes_on, reduce_by, settles, top_of, uncover}
 use Rattle.ly_parse.specs.Parse.{Parse}
 use Rattle.ly_parse.specs.Private.Stack.{parse_from, stack_from, terms_onto, IsParse}
-use Rattle.ly_parse.specs.declared.parser.Level as code
+use Rattle.ly_parse.specs.declared.level.Level as code
 use Rattle.ly_parse.proofs.FeedingLemmas.{rule_found}
 use Rattle.ly_parse.proofs.StackLemmas.{below, cut, length-stack_from, pushed, stack_from-push}
 use Rattle.ly_parse.proofs.TermLemmas.{pop_past, pop_within}
 use Rattle.ly_tree.proofs.StandLemmas.{stands_known, stands_unwrapped}
 use Rattle.ly_tree.specs.Forest.{Grown, StandsFor}
 use Rattle.ly_tree.specs.Term.{Term, made, none}
+
+-- a body that fits on the stack, and what is left below it
+pub body_fits : (v : Vec code.Level Global) (n body low : ℕ) → n ≡ vec_len v → (body ≤ n) × (low ≡ n - body)
+    → body + low ≡ length v.items
+body_fits v n body low count cases =
+    let fits = cases.0 in
+    let rest = cases.1 in
+    omega arith
+
+-- a body that doesn't
+pub body_exceeds : (v : Vec code.Level Global) (n body : ℕ) → n ≡ vec_len v → (body ≤ n → ⊥) → length v.items < body
+body_exceeds v n body count past = omega (arith, past)
 
 -- a rule's symbols and places are there
 pub rule_within : (m : Machine) (n : ℕ) (r : TableRule) → IsMachine m → IsTableRule m n r

@@ -11,7 +11,7 @@ use Rattle.ly_pack.specs.SteadyLaws.{IsStack, bottom, on_edge}
 use Rattle.ly_parse.specs.Feeding.{Level, accept_with, done, settles, states_on, top_of}
 use Rattle.ly_parse.specs.Parse.{Parse}
 use Rattle.ly_parse.specs.Private.Stack.{level_from, parse_from, stack_from, IsParse}
-use Rattle.ly_parse.specs.declared.parser.Level as code
+use Rattle.ly_parse.specs.declared.level.Level as code
 use Rattle.ly_parse.proofs.FeedingLemmas.{legal}
 use Rattle.ly_tree.proofs.StandLemmas.{known_kept, known_stands, stands_unwrapped, term_kept}
 use Rattle.ly_tree.specs.Forest.{term_of, Grown, Keeps, StandsFor}

@@ -1,36 +1,19 @@
 -- What a call with a token does.
-use Rattle.std.proofs.Common.{◌≡◌, ℕ, ◌+◌, ◌*◌, ◌<◌, List, ◌∷◌, length, refl, sym, ap, ◌∙◌, subst, Err, Ok}
-use Rattle.std.specs.Prelude.{Bool, false, true, IfErr, IfOk, IsErrAnd, Result}
+use Rattle.std.proofs.Common.{◌≡◌, ℕ, ◌+◌, List, ◌∷◌, refl, sym, ap, ◌∙◌, subst, Err, Ok}
+use Rattle.std.specs.Prelude.{Bool, false, true, IfErr, IfOk, Result}
 use Rattle.ly_base.specs.Lexed.{Token}
-use Rattle.ly_pack.proofs.Runs.{runs_end}
 use Rattle.ly_pack.specs.Machine.{Machine, accept, action_of, error, shift}
-use Rattle.ly_pack.specs.Steady.{run_bound, EndsWithin}
-use Rattle.ly_parse.specs.Feeding.{done, faulty, pushed, refused, settles, states_on, top_of}
+use Rattle.ly_parse.specs.Feeding.{done, faulty, pushed, refused, settles, top_of}
 use Rattle.ly_parse.specs.Parse.{IsCall, Parse}
-use Rattle.ly_parse.specs.Private.Stack.{parse_from, stack_from, FeedAlike, IsAccepted, IsParse}
+use Rattle.ly_parse.specs.Private.Stack.{parse_from, stack_from, FeedAlike, IsAccepted}
 use Rattle.ly_parse.specs.declared.fault.ParseFault.{ParseFault}
 use Rattle.ly_parse.specs.declared.fault.ParseFault.TheVariants.{OutOfMemory, Over, TableFault}
-use Rattle.ly_parse.specs.declared.parser.Level as code
+use Rattle.ly_parse.specs.declared.level.Level as code
 use Rattle.ly_parse.specs.declared.step.Step as step
 use Rattle.ly_parse.specs.declared.step.Step.TheVariants.{Done, More, Refused}
 use Rattle.ly_parse.proofs.FeedingLemmas.{feeds_by}
 use Rattle.ly_tree.specs.Forest.{Grown}
 use Rattle.ly_tree.specs.Term.{leaf}
-
--- a run on a token ends
-pub run_ends : (m : Machine) (f : Grown) (levels : List code.Level) (p : Parse) (count : ℕ) (over : Bool) (t : ℕ)
-    → parse_from m f levels count over ≡ p → IsParse m f levels → t < p.machine.terminals
-    → EndsWithin p.machine t (states_on p.stack) ((run_bound + 1) * length (states_on p.stack))
-run_ends m f levels p count over t view h lt =
-    subst (λ q. EndsWithin q.machine t (states_on q.stack) ((run_bound + 1) * length (states_on q.stack))) view
-    (runs_end m run_bound t (states_on (stack_from f levels)) h.steady
-    (subst (λ q. t < q.machine.terminals) (sym view) lt) h.edges)
-
--- the fault of a call is handed on
-pub same_fault : {T : Type 0} (r : Result T ParseFault) (e d : ParseFault) → IsErrAnd r (λ x. x ≡ e) → r ≡ Err d
-    → e ≡ d
-same_fault (Ok x) e d h is = absurd h
-same_fault (Err x) e d h is = let same : x ≡ d = cc in sym h ∙ same
 
 not_over : {A : Type 0} (b : Bool) → b ≡ false → b ≡ true → A
 not_over b e f = absurd (let no : true ≡ false = sym f ∙ e in cc)
@@ -44,14 +27,14 @@ module _ (m : Machine) (f : Grown) (levels : List code.Level) (p : Parse) (count
   pub reads : (state : ℕ) (q : Parse) → action_of m (top_of s.stack) token.terminal ≡ shift state
       → q.stack ≡ record { state = state; term = leaf token.terminal token.bytes } ∷ s.stack
       → q.count ≡ s.count + 1 → q.machine ≡ s.machine → q.over ≡ false → IsCall p token q (Ok More)
-  reads state q action stack more same open_ =
+  reads state q action stack more same still =
       let fed = alike token (pushed q.stack) refl (feeds_by m token s.stack (shift state) (pushed q.stack) action
       (ap (λ w. settles (pushed w)) (sym stack))) in
       subst (λ x. IsCall x token q (Ok More)) view (record {
         after_end = not_over over goes;
         before_end = λ _. (fed, more ∙ ap (λ n. n + 1) counted);
         machine = same ∙ machine;
-        over = open_;
+        over = still;
       })
 
   -- the tables accept

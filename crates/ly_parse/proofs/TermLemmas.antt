@@ -3,7 +3,7 @@ use Rattle.std.proofs.Common.{◌≡◌, ℕ, zero, suc, ◌<◌, ◌≤◌, ◌
 use Rattle.std.proofs.Common.{Some, None, refl, sym, ap, ◌∙◌, arith, get_or, length-drop, subst, Err, Ok}
 use Rattle.std.proofs.lemmas.List.{get_or-drop, map-append, take_all, take_more}
 use Rattle.std.proofs.lemmas.Option.{slice_get-get_or}
-use Rattle.std.specs.Prelude.{slice_get, unwrap_or, All, Bool, IsSome, OnErr, OnOk, Result, Vec}
+use Rattle.std.specs.Prelude.{slice_get, unwrap_or, All, Bool, IfOk, IsSome, OnErr, OnOk, Result, Vec}
 use Rattle.std.specs.Global.{Global}
 use Rattle.ly_base.specs.Shape.{shape_of}
 use Rattle.ly_base.specs.declared.rule_tree.RuleTree.{RuleTree}
@@ -12,12 +12,12 @@ use Rattle.ly_pack.specs.Machine.{Machine, IsShapeFor}
 use Rattle.ly_parse.specs.Feeding.{Level, pop}
 use Rattle.ly_parse.specs.Parse.{Parse}
 use Rattle.ly_parse.specs.Private.Stack.{level_from, parse_from, stack_from, term_at, terms_onto, IsParse}
-use Rattle.ly_parse.specs.declared.parser.Level as code
+use Rattle.ly_parse.specs.declared.level.Level as code
 use Rattle.ly_parse.proofs.StackLemmas.{above, length-stack_from, stack_from-append}
 use Rattle.ly_tree.proofs.StandLemmas.{known_stands}
 use Rattle.ly_tree.specs.Forest.{term_of, Grown, Keeps, StandsFor, StandForAll}
 use Rattle.ly_tree.specs.Private.Grown.{terms_of}
-use Rattle.ly_tree.specs.Term.{Terms, at_place, at_places, made, more, none, nothing}
+use Rattle.ly_tree.specs.Term.{Terms, at_place, at_places, built, made, more, none, nothing}
 use Rattle.ly_tree.specs.declared.forest.TermNo.{TermNo}
 
 -- popping within a stack
@@ -156,6 +156,21 @@ listed m f levels p count over n name places t w is list view h build shape whol
     (subst (λ ts. StandForAll f (map (term_at (drop n levels)) places.items) (at_places ts places.items))
     (sym (body_of m f levels p count over n view))
     (at_places_stand f (drop n levels) places.items (body_known m f levels n h) all))
+
+-- so the node is what the rule makes
+pub node_made : {E : Type 0} (m : Machine) (f g : Grown) (levels : List code.Level) (p : Parse) (count : ℕ)
+    (over : Bool) (n number : ℕ) (name places : Vec ℕ Global) (t : RuleTree) (w : List code.Level) (is : List ℕ)
+    (list : List TermNo) (r : Result TermNo E) → parse_from m f levels count over ≡ p → IsParse m f levels
+    → t ≡ Build name places → IsShapeFor (length p.stack - n) (shape_of t) → w ≡ levels → is ≡ places.items
+    → list ≡ map (term_at (take (length w - n) (drop n w))) is
+    → IfOk r (λ k. (ts : Terms) → StandForAll f list ts → StandsFor g k (built number ts))
+    → IfOk r (λ k. StandsFor g k (made number (shape_of t) (terms_onto (take (length p.stack - n) p.stack) none)))
+node_made m f g levels p count over n number name places t w is list (Err e) view h build shape whole same terms stands
+    = stands
+node_made m f g levels p count over n number name places t w is list (Ok k) view h build shape whole same terms stands
+    = subst (λ u. StandsFor g k (made number (shape_of u) (terms_onto (take (length p.stack - n) p.stack) none)))
+    (sym build) (stands (at_places (terms_onto (take (length p.stack - n) p.stack) none) places.items)
+    (listed m f levels p count over n name places t w is list view h build shape whole same terms))
 
 -- a call that adds to a forest, or leaves it as it was, keeps the terms
 pub kept_either : {T E : Type 0} (f g : Grown) (r : Result T E) → OnOk r (Keeps f g) → OnErr r (g ≡ f) → Keeps f g

@@ -9,6 +9,7 @@
 
 mod fault;
 mod laws;
+mod level;
 mod parser;
 mod settled;
 mod step;

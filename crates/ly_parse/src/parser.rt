@@ -1,11 +1,11 @@
-ghost use Rattle.std.specs.Prelude.{◌≡◌, ◌≢◌, ◌<◌, ◌≤◌, ◌+◌, ◌-◌, [], ◌∷◌, Err, Ok, false, length, map, take, All};
+ghost use Rattle.std.specs.Prelude.{◌≡◌, ◌≢◌, ◌<◌, ◌≤◌, ◌+◌, ◌-◌, [], ◌∷◌, Err, Ok, false, length, take};
 ghost use Rattle.std.specs.Prelude.{IfErr, IfOk, OnErr, OnOk};
 ghost use Rattle.ly_base.specs.Shape.{shape_of};
 ghost use Rattle.ly_pack.specs.Machine.{accept, action_of, error, shift, states_of, IsRuleNumber, IsShapeFor};
 ghost use Rattle.ly_pack.specs.Steady.{rule_at, IsSteady};
 ghost use Rattle.ly_parse.specs.Feeding.{faulty, goes_on, reduce_by, settles, top_of};
 ghost use Rattle.ly_parse.specs.Parse.{IsCall};
-ghost use Rattle.ly_parse.specs.Private.Stack.{term_at, terms_onto, FeedAlike, FeedAs, IsAccepted};
+ghost use Rattle.ly_parse.specs.Private.Stack.{terms_onto, FeedAlike, FeedAs, IsAccepted};
 ghost use Rattle.ly_parse.specs.declared.fault.ParseFault.TheVariants as fault;
 ghost use Rattle.ly_parse.specs.declared.settled.Settled.TheVariants as settled;
 ghost use Rattle.ly_parse.specs.declared.step.Step.TheVariants as step;
@@ -13,6 +13,7 @@ ghost use Rattle.ly_tree.specs.Forest.{StandsFor};
 ghost use Rattle.ly_tree.specs.Term.{leaf, made, none};
 
 use crate::fault::ParseFault;
+use crate::level::{Level, list_terms};
 use crate::settled::Settled;
 use crate::step::Step;
 use crate::token::Token;
@@ -21,13 +22,6 @@ use ly_pack::{Machine, Rows, TableAction};
 use ly_tree::{Forest, TermNo};
 use std::alloc::Global;
 use std::marker::Model;
-
-/// A state on the stack, with the term that led to it.
-#[derive(Clone, Copy)]
-struct Level {
-    state: StateNo,
-    term: TermNo,
-}
 
 /// A parse over tables of which every run ends.
 #[derive(Drop)]
@@ -284,16 +278,4 @@ impl<'a, A: Rows<TableAction> + Drop, G: Rows<StateNo> + Drop> Parser<'a, A, G> 
     {
         self.count.checked_add(1).ok_or(OutOfMemory)
     }
-}
-
-/// Lists the terms at these places of a body, which count from 1, in place of what the list had.
-fn list_terms(list: &mut Vec<TermNo>, body: &[Level], places: &[u32]) -> Result<(), OutOfMemory>
-    requires { All (λ i. (1 ≤ i) × (i ≤ length body.now)) places.now }
-    ensures { OnOk result (list.new.items ≡ map (term_at body.now) places.now) }
-{
-    list.clear();
-    for place in places {
-        list.push(body[*place as usize - 1].term)?;
-    }
-    Ok(())
 }

@@ -9,7 +9,7 @@ use Rattle.ly_parse.specs.Feeding.{Fed, Feeds, Level, accept_with, done, faulty,
 use Rattle.ly_parse.specs.Parse.{Parse}
 use Rattle.ly_parse.specs.declared.fault.ParseFault.{ParseFault}
 use Rattle.ly_parse.specs.declared.fault.ParseFault.TheVariants.{TableFault}
-use Rattle.ly_parse.specs.declared.parser.Level as code
+use Rattle.ly_parse.specs.declared.level.Level as code
 use Rattle.ly_parse.specs.declared.step.Step as step
 use Rattle.ly_parse.specs.declared.step.Step.TheVariants.{Done}
 use Rattle.ly_tree.specs.Forest.{Grown, StandsFor, term_of}

@@ -1,26 +1,26 @@
-use Rattle.std.proofs.Common.{◌≡◌, ◌<◌, ◌+◌, ap, arith, length, subst, sym}
+use Rattle.std.proofs.Common.{◌∙◌, ◌<◌, ap, subst, sym}
 use Rattle.ly_pack.specs.Values.{rule_from}
 use Rattle.ly_parse.specs.Private.Stack.{IsParse}
-use Rattle.ly_parse.proofs.ReduceLemmas.{goes, goes_to, is_cut, lacks_goto, past_bottom, rule_within, shape_fits}
+use Rattle.ly_parse.proofs.ReduceLemmas.{body_exceeds, body_fits, goes, goes_to, is_cut, lacks_goto}
+use Rattle.ly_parse.proofs.ReduceLemmas.{past_bottom, rule_within, shape_fits}
 use Rattle.ly_parse.proofs.StackLemmas.{cut}
 use Rattle.ly_parse.proofs.parser.Parser.reduce.Goals as goal
 
 pub returns-in_default-clause-faulty : goal.returns-in_default-clause-faulty
 returns-in_default-clause-faulty g c e =
-    let no = c.in_default.ensures in
-    let less : length c.self.inside.stack.items < c.rule-rule.result.now.body_length = omega arith in
     past_bottom c.self.inside.machine.now c.self.inside.forest c.self.inside.stack.items c.args.self.now
     c.self.inside.count c.self.inside.over c.args.number.0 (rule_from c.rule-rule.result.now) c.self.view_is
-    c.rule-rule.ensures less
+    c.rule-rule.ensures
+    (body_exceeds c.self.inside.stack c.len.result c.rule-rule.result.now.body_length c.len.ensures
+    c.in_default.ensures)
 
 pub make-requires-clause-shape : goal.make-requires-clause-shape
 make-requires-clause-shape g c =
-    let cases = c.in-Some.ensures in
-    let count : length c.self.inside.stack.items ≡ c.len.result = omega arith in
-    let size : c.rule-rule.result.now.body_length + c.in-Some.below ≡ length c.self.inside.stack.items = omega arith in
     shape_fits c.self.inside.machine.now c.self.inside.forest c.self.inside.stack.items c.args.self.now
     c.self.inside.count c.self.inside.over c.args.number.0 c.in-Some.below (rule_from c.rule-rule.result.now)
-    c.self.view_is c.self.invariant c.rule-rule.ensures size
+    c.self.view_is c.self.invariant c.rule-rule.ensures
+    (body_fits c.self.inside.stack c.len.result c.rule-rule.result.now.body_length c.in-Some.below
+    c.len.ensures c.in-Some.ensures)
 
 pub invariant_of-self : goal.invariant_of-self
 invariant_of-self g c =
@@ -30,12 +30,11 @@ invariant_of-self g c =
 
 pub goto-requires-clause-left : goal.goto-requires-clause-left
 goto-requires-clause-left g c =
-    let left = (rule_within c.self.inside.machine.now c.args.number.0 (rule_from c.rule-rule.result.now)
-    c.self.invariant.machine c.rule-rule.ensures).left in
-    let same = ap (λ p. p.machine.nonterminals) c.self.view_is in
-    let later = ap (λ p. p.machine.nonterminals) c.self-2.view_is in
-    let between = ap (λ m. m.nonterminals) c.in_ok-term.ensures.machine in
-    omega arith
+    subst (λ m. c.rule-rule.result.now.left.0 < m.nonterminals)
+    (ap (λ p. p.machine) c.self.view_is
+    ∙ (sym c.in_ok-term.ensures.machine ∙ sym (ap (λ p. p.machine) c.self-2.view_is)))
+    (rule_within c.self.inside.machine.now c.args.number.0 (rule_from c.rule-rule.result.now)
+    c.self.invariant.machine c.rule-rule.ensures).left
 
 pub invariant_of-self-in_default-goto : goal.invariant_of-self-in_default-goto
 invariant_of-self-in_default-goto g c =
@@ -45,9 +44,6 @@ invariant_of-self-in_default-goto g c =
 
 pub returns-in_default-goto-clause-faulty : goal.returns-in_default-goto-clause-faulty
 returns-in_default-goto-clause-faulty g c e =
-    let cases = c.in-Some.ensures in
-    let count : length c.self.inside.stack.items ≡ c.len.result = omega arith in
-    let size : c.rule-rule.result.now.body_length + c.in-Some.below ≡ length c.self.inside.stack.items = omega arith in
     lacks_goto c.args.self.now c.args.number.0 (rule_from c.rule-rule.result.now) c.in-Some.below
     c.self-2.inside.machine.now c.self-2.inside.forest c.self-2.inside.stack.items c.truncate.new.self.items
     c.top.result.0
@@ -55,14 +51,13 @@ returns-in_default-goto-clause-faulty g c e =
     c.self.inside.stack.items c.self-2.inside.stack.items c.args.self.now c.make.new.self c.self.inside.count
     c.self-2.inside.count c.self.inside.over c.self-2.inside.over c.args.number.0 c.in-Some.below
     (rule_from c.rule-rule.result.now) c.self.view_is c.self-2.view_is c.self-2.invariant
-    c.in_ok-term.ensures.machine c.in_ok-term.ensures.stack c.rule-rule.ensures size)
+    c.in_ok-term.ensures.machine c.in_ok-term.ensures.stack c.rule-rule.ensures
+    (body_fits c.self.inside.stack c.len.result c.rule-rule.result.now.body_length c.in-Some.below
+    c.len.ensures c.in-Some.ensures))
     c.truncate.ensures.items c.top.ensures.top c.in_default-goto.ensures
 
 pub invariant_of-self-2 : goal.invariant_of-self-2
 invariant_of-self-2 g c =
-    let cases = c.in-Some.ensures in
-    let count : length c.self.inside.stack.items ≡ c.len.result = omega arith in
-    let size : c.rule-rule.result.now.body_length + c.in-Some.below ≡ length c.self.inside.stack.items = omega arith in
     subst (IsParse c.self-2.inside.machine.now c.self-2.inside.forest) (sym c.in_ok-push.ensures.items)
     (goes c.args.self.now c.args.number.0 (rule_from c.rule-rule.result.now) c.in-Some.below
     c.self-2.inside.machine.now c.self-2.inside.forest c.self-2.inside.stack.items c.truncate.new.self.items
@@ -72,15 +67,14 @@ invariant_of-self-2 g c =
     c.self.inside.stack.items c.self-2.inside.stack.items c.args.self.now c.make.new.self c.self.inside.count
     c.self-2.inside.count c.self.inside.over c.self-2.inside.over c.args.number.0 c.in-Some.below
     (rule_from c.rule-rule.result.now) c.self.view_is c.self-2.view_is c.self-2.invariant
-    c.in_ok-term.ensures.machine c.in_ok-term.ensures.stack c.rule-rule.ensures size)
+    c.in_ok-term.ensures.machine c.in_ok-term.ensures.stack c.rule-rule.ensures
+    (body_fits c.self.inside.stack c.len.result c.rule-rule.result.now.body_length c.in-Some.below
+    c.len.ensures c.in-Some.ensures))
     c.truncate.ensures.items c.top.ensures.top c.in-Some-goto.ensures
     (sym (ap (λ p. p.forest) c.self-2.view_is)) c.in_ok-term.ensures.made)
 
 pub returns-clause-ok : goal.returns-clause-ok
 returns-clause-ok g c =
-    let cases = c.in-Some.ensures in
-    let count : length c.self.inside.stack.items ≡ c.len.result = omega arith in
-    let size : c.rule-rule.result.now.body_length + c.in-Some.below ≡ length c.self.inside.stack.items = omega arith in
     goes_to c.args.self.now c.args.number.0 (rule_from c.rule-rule.result.now) c.in-Some.below
     c.self-2.inside.machine.now c.self-2.inside.forest c.self-2.inside.stack.items c.truncate.new.self.items
     c.push.new.self.items c.top.result.0
@@ -89,6 +83,8 @@ returns-clause-ok g c =
     c.self.inside.stack.items c.self-2.inside.stack.items c.args.self.now c.make.new.self c.self.inside.count
     c.self-2.inside.count c.self.inside.over c.self-2.inside.over c.args.number.0 c.in-Some.below
     (rule_from c.rule-rule.result.now) c.self.view_is c.self-2.view_is c.self-2.invariant
-    c.in_ok-term.ensures.machine c.in_ok-term.ensures.stack c.rule-rule.ensures size)
+    c.in_ok-term.ensures.machine c.in_ok-term.ensures.stack c.rule-rule.ensures
+    (body_fits c.self.inside.stack c.len.result c.rule-rule.result.now.body_length c.in-Some.below
+    c.len.ensures c.in-Some.ensures))
     c.truncate.ensures.items c.top.ensures.top c.in-Some-goto.ensures
     (sym (ap (λ p. p.forest) c.self-2.view_is)) c.in_ok-term.ensures.made c.in_ok-push.ensures.items

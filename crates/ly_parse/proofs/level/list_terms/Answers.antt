@@ -1,6 +1,6 @@
 use Rattle.std.proofs.Common.{arith}
 use Rattle.ly_parse.proofs.TermLemmas.{terms_more}
-use Rattle.ly_parse.proofs.parser.list_terms.Goals as goal
+use Rattle.ly_parse.proofs.level.list_terms.Goals as goal
 
 pub loop-place-preserved : goal.loop-place-preserved
 loop-place-preserved c =

@@ -1,6 +1,6 @@
 use Rattle.std.proofs.Common.{◌≡◌, map, take}
 use Rattle.ly_parse.specs.Private.Stack.{term_at}
-use Rattle.ly_parse.proofs.parser.list_terms.Given as goal
+use Rattle.ly_parse.proofs.level.list_terms.Given as goal
 
 -- the terms at the places before this one are listed
 abbrev pub invariant-loop-place : goal.invariant-loop-place
