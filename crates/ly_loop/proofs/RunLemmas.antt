@@ -1,0 +1,58 @@
+-- Stacks that are kept with their tops last, and what a reduction does to them.
+use Rattle.std.proofs.Common.{◌≡◌, ℕ, ◌+◌, ◌-◌, ◌<◌, ◌≤◌, List, [], ◌∷◌, ◌++◌, length, take, drop, map, Option, Some, None}
+use Rattle.std.proofs.Common.{refl, sym, ap, subst, ◌∙◌, arith, slice_get}
+use Rattle.std.specs.Prelude.{reverse}
+use Rattle.std.proofs.Math.Seq.{drop-append_seam}
+use Rattle.std.proofs.lemmas.List.{length-drop, length-map, length-reverse, map-append, map_push, reverse-append}
+use Rattle.std.proofs.lemmas.List.{take-append-drop, take_all, take_more}
+use Rattle.std.proofs.lemmas.Option.{get_or_from_slice_get, slice_get_within}
+use Rattle.ly_base.specs.declared.numbers.StateNo.{StateNo}
+use Rattle.ly_pack.specs.Machine.{IsTableRule, Machine, TableRule, goto_at, reduce}
+use Rattle.ly_pack.specs.Steady.{go_to, perform, push, reduce_by}
+use Rattle.ly_pack.specs.Steady.{rule_at}
+use Rattle.ly_loop.specs.Private.Run.{stack_of}
+
+pub stack_push : (xs : List StateNo) (x : StateNo) → stack_of (xs ++ x ∷ []) ≡ x.0 ∷ stack_of xs
+stack_push xs x = ap reverse (map_push (λ s. s.0) xs x) ∙ reverse-append (map (λ s. s.0) xs) (x.0 ∷ [])
+
+pub stack_length : (xs : List StateNo) → length (stack_of xs) ≡ length xs
+stack_length xs = length-reverse (map (λ s. s.0) xs) ∙ length-map xs (λ s. s.0)
+
+stack_append : (xs ys : List StateNo) → stack_of (xs ++ ys) ≡ stack_of ys ++ stack_of xs
+stack_append xs ys = ap reverse (map-append (λ s. s.0) xs ys)
+    ∙ reverse-append (map (λ s. s.0) xs) (map (λ s. s.0) ys)
+
+-- what is left when some states are popped
+pub stack_take : (xs : List StateNo) (left n : ℕ) → left + n ≡ length xs → stack_of (take left xs) ≡ drop n (stack_of xs)
+stack_take xs left n e =
+    let upper = stack_of (drop left xs) in
+    let lower = stack_of (take left xs) in
+    let count : length upper ≡ n = omega (arith, stack_length (drop left xs), length-drop left xs) in
+    let whole = ap stack_of (sym (take-append-drop left xs)) ∙ stack_append (take left xs) (drop left xs) in
+    sym (ap (drop n) whole ∙ (ap (λ k. drop k (upper ++ lower)) (sym count) ∙ drop-append_seam upper lower))
+
+-- the last state is the top
+pub stack_top : (xs : List StateNo) (x : StateNo) → Some x ≡ slice_get xs (length xs - 1)
+    → stack_of xs ≡ x.0 ∷ stack_of (take (length xs - 1) xs)
+stack_top xs x e =
+    let at = length xs - 1 in
+    let lt : at < length xs = slice_get_within xs at x (sym e) in
+    let last = get_or_from_slice_get xs at x x (sym e) in
+    let whole = sym (take_all (at + 1) xs (omega arith)) ∙ (take_more xs at x lt
+        ∙ ap (λ y. take at xs ++ y ∷ []) last) in
+    ap stack_of whole ∙ stack_push (take at xs) x
+
+pub rule_known : (m : Machine) (p : ℕ) (r : TableRule) → IsTableRule m p r → rule_at m p ≡ Some r
+rule_known m p r (q, same, is) = ap (slice_get m.rules) (omega arith) ∙ is
+
+-- the stack behind a body, and the goto above it
+pub reduce_to : (m : Machine) (p : ℕ) (r : TableRule) (xs : List StateNo) (left : ℕ) (under : StateNo) (o : Option ℕ)
+    → IsTableRule m p r → left + r.body_length ≡ length xs
+    → Some under ≡ slice_get (take left xs) (length (take left xs) - 1) → o ≡ goto_at m under.0 r.left
+    → perform m (stack_of xs) (reduce p) ≡ push (stack_of (take left xs)) o
+reduce_to m p r xs left under o is e last goto =
+    let top = stack_top (take left xs) under last in
+    let rest = stack_of (take (length (take left xs) - 1) (take left xs)) in
+    ap (reduce_by m (stack_of xs)) (rule_known m p r is)
+    ∙ (ap (go_to m r.left) (sym (stack_take xs left r.body_length e) ∙ top)
+    ∙ (ap (push (under.0 ∷ rest)) (sym goto) ∙ ap (λ w. push w o) (sym top)))
