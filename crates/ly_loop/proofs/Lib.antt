@@ -1,1 +1,4 @@
+pub mod EntryLemmas
+pub mod PathLemmas
 pub mod RunLemmas
+pub mod TargetLemmas

@@ -7,9 +7,15 @@ use Rattle.std.proofs.lemmas.List.{length-drop, length-map, length-reverse, map-
 use Rattle.std.proofs.lemmas.List.{take-append-drop, take_all, take_more}
 use Rattle.std.proofs.lemmas.Option.{get_or_from_slice_get, slice_get_within}
 use Rattle.ly_base.specs.declared.numbers.StateNo.{StateNo}
-use Rattle.ly_pack.specs.Machine.{IsTableRule, Machine, TableRule, goto_at, reduce}
-use Rattle.ly_pack.specs.Steady.{go_to, perform, push, reduce_by}
-use Rattle.ly_pack.specs.Steady.{rule_at}
+use Rattle.ly_base.specs.declared.numbers.RuleNo.{RuleNo}
+use Rattle.ly_pack.specs.Machine.{IsLegal, IsMachine, IsRuleNumber, IsTableRule, Machine, TableAction, TableRule}
+use Rattle.ly_pack.specs.Machine.{action_of, entry_at, goto_at, or_default, reduce}
+use Rattle.ly_pack.specs.Steady.{EndsWithin, ReducesTo, RunEnd, accepts, action_on, ends, go_to, move, perform, push}
+use Rattle.ly_pack.specs.Steady.{reads, reduce_by, refuses, rule_at}
+use Rattle.ly_pack.specs.Values.{action_from}
+use Rattle.ly_pack.specs.declared.action.TableAction as code
+use Rattle.ly_pack.specs.declared.action.TableAction.TheVariants.{Shift, Reduce, Accept, Error}
+use Rattle.ly_pack.proofs.Runs.{no_more}
 use Rattle.ly_loop.specs.Private.Run.{stack_of}
 
 pub stack_push : (xs : List StateNo) (x : StateNo) → stack_of (xs ++ x ∷ []) ≡ x.0 ∷ stack_of xs
@@ -56,3 +62,43 @@ reduce_to m p r xs left under o is e last goto =
     ap (reduce_by m (stack_of xs)) (rule_known m p r is)
     ∙ (ap (go_to m r.left) (sym (stack_take xs left r.body_length e) ∙ top)
     ∙ (ap (push (under.0 ∷ rest)) (sym goto) ∙ ap (λ w. push w o) (sym top)))
+
+-- what is reduced by is a rule
+pub legal_reduction : (m : Machine) (s t p : ℕ) → IsMachine m → action_of m s t ≡ reduce p → IsRuleNumber m p
+legal_reduction m s t p ok e = by_entry (entry_at m s t) refl e
+  where
+    by_default : (d : Option (Option ℕ)) → slice_get m.defaults s ≡ d → or_default None d ≡ reduce p → IsRuleNumber m p
+    by_default None i e = absurd (cc)
+    by_default (Some None) i e = absurd (cc)
+    by_default (Some (Some q)) i e = let same : q ≡ p = cc in subst (IsRuleNumber m) same (ok.defaults s q i)
+
+    by_entry : (o : Option TableAction) → entry_at m s t ≡ o → or_default o (slice_get m.defaults s) ≡ reduce p
+        → IsRuleNumber m p
+    by_entry None i e = by_default (slice_get m.defaults s) refl e
+    by_entry (Some a) i e = subst (IsLegal m t) e (ok.actions s t a i)
+
+-- a move by what the state on top does
+pub move_by : (m : Machine) (t : ℕ) (xs : List StateNo) (top : StateNo) (a : TableAction)
+    → Some top ≡ slice_get xs (length xs - 1) → a ≡ action_of m top.0 t
+    → move m t (stack_of xs) ≡ perform m (stack_of xs) a
+move_by m t xs top a last is =
+    ap (perform m (stack_of xs)) (ap (action_on m t) (stack_top xs top last) ∙ sym is)
+
+-- what is no reduction ends the run
+pub ends_by : (m : Machine) (stack : List ℕ) (a : code.TableAction) → ((r : RuleNo) → a ≡ Reduce r → ⊥)
+    → (e : RunEnd) × (perform m stack (action_from a) ≡ ends e)
+ends_by m stack (Shift s) not = (reads s.0, refl)
+ends_by m stack (Reduce r) not = absurd (not r refl)
+ends_by m stack Accept not = (accepts, refl)
+ends_by m stack Error not = (refuses, refl)
+
+-- a run that ends after the reductions that were made
+pub ended : (m : Machine) (t : ℕ) (start stack : List ℕ) (n bound : ℕ) → ReducesTo m t start n stack → n ≤ bound
+    → (e : RunEnd) × (move m t stack ≡ ends e) → EndsWithin m t start bound
+ended m t start stack n bound led le (e, stops) = record {
+  count = n; last = stack; ending = e; leads = led; stops = stops; within = le }
+
+-- a run that has made more reductions doesn't end before
+pub passed : (m : Machine) (t : ℕ) (start stack : List ℕ) (n bound : ℕ) → ReducesTo m t start n stack → bound < n
+    → EndsWithin m t start bound → ⊥
+passed m t start stack n bound led past r = let i = no_more r.ending led r.leads r.stops in omega (arith, r.within)
