@@ -1,8 +1,8 @@
 -- Default reductions (Aho, Sethi and Ullman 1986, 4.7; POSIX, XCU yacc, leaves them open).
-use Rattle.std.specs.Prelude.{◌≡◌, ◌⊎◌, ℕ, ◌<◌, ◌≤◌, List, length, filter, Bool, true, false, Option, Some, None}
+use Rattle.std.specs.Prelude.{◌≡◌, ◌⊎◌, ℕ, ◌<◌, ◌≤◌, length, filter, Bool, false, Option, Some, None}
 use Rattle.std.specs.Prelude.{slice_get, nat_eq, if◌then◌else◌, MatchOption}
 use Rattle.std.specs.List.{range_with_len}
-use Rattle.ly_pack.specs.Machine.{Machine, TableAction, reduce, shift, accept, error, entry_at, states_of}
+use Rattle.ly_pack.specs.Machine.{Machine, TableAction, reduce, entry_at, states_of}
 
 -- the entry is a reduction by the rule
 abbrev pub is_by : ℕ → Option TableAction → Bool

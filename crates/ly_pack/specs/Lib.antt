@@ -1,3 +1,4 @@
+pub mod Combs
 pub mod Defaults
 pub mod Machine
 pub mod Placement

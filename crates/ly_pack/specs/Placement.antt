@@ -1,5 +1,5 @@
 -- Where the rows of a comb begin: first fit, the rows with the most entries first (Tarjan and Yao 1979).
-use Rattle.std.specs.Prelude.{◌≡◌, ◌≢◌, ◌⊎◌, ◌↔◌, ℕ, suc, ◌+◌, ◌<◌, ◌≤◌, List, length, filter, Option, Some, None}
+use Rattle.std.specs.Prelude.{◌≡◌, ◌≢◌, ◌⊎◌, ◌↔◌, ℕ, suc, ◌+◌, ◌<◌, List, length, filter, Some}
 use Rattle.std.specs.Prelude.{slice_get, is_some}
 use Rattle.std.specs.List.{range_with_len}
 use Rattle.ly_pack.specs.Rows.{Entries, Comb, Used}

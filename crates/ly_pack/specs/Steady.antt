@@ -1,5 +1,5 @@
 -- Runs of a parser's tables on one token, without the trees, and the tables of which every run ends soon.
-use Rattle.std.specs.Prelude.{◌≡◌, ℕ, zero, suc, ◌-◌, ◌<◌, ◌≤◌, List, [], ◌∷◌, drop, Option, Some, None, slice_get}
+use Rattle.std.specs.Prelude.{◌≡◌, ℕ, suc, ◌-◌, ◌<◌, ◌≤◌, List, [], ◌∷◌, drop, Option, Some, None, slice_get}
 use Rattle.ly_pack.specs.Machine.{Machine, TableAction, TableRule, shift, reduce, accept, error, action_of, goto_at}
 
 -- How a run on one token ends: it is read, and the parser goes to a state; it is accepted; it is refused; or the tables

@@ -2,6 +2,7 @@
 #![tactic(auto)]
 
 mod action;
+mod comb;
 mod dense;
 mod laws;
 mod machine;
@@ -9,6 +10,7 @@ mod rows;
 mod rule;
 
 pub use action::TableAction;
+pub use comb::{Comb, Slot};
 pub use dense::Dense;
 pub use laws::{runs_end, stacks_keep_edges};
 pub use machine::Machine;

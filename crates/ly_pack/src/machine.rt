@@ -1,7 +1,8 @@
-ghost use Rattle.std.specs.Prelude.{◌≡◌, ◌<◌, ◌≤◌, length, slice_get, Some, option_map};
+ghost use Rattle.std.specs.Prelude.{◌≡◌, ◌<◌, ◌≤◌, length, map, slice_get, Some, option_map};
 ghost use Rattle.ly_pack.specs.Machine.{action_of, entry_at, goto_at, states_of, IsMachine, IsRuleNumber, IsTableRule};
 ghost use Rattle.ly_pack.specs.Machine.{IsWithin};
-ghost use Rattle.ly_pack.specs.Values.{action_from, machine_from, rule_from};
+ghost use Rattle.ly_pack.specs.Rows.{grid_of};
+ghost use Rattle.ly_pack.specs.Values.{action_from, actions_from, gotos_from, machine_from, rule_from};
 
 use crate::action::TableAction;
 use crate::rows::Rows;
@@ -86,6 +87,29 @@ impl<A: Rows<TableAction> + Drop, G: Rows<StateNo> + Drop> Machine<A, G> {
         ensures within { IsWithin self.now }
     {
         self.defaults.len()
+    }
+
+    /// What is done in a state before a terminal, where it isn't the default: the rows of the states.
+    pub fn actions(&self) -> &A
+        ensures { self.now.actions
+            ≡ grid_of (states_of self.now) self.now.terminals (actions_from (A.entries result.now)) }
+    {
+        &self.actions
+    }
+
+    /// Where a state goes by a nonterminal: the rows of the states.
+    pub fn gotos(&self) -> &G
+        ensures { self.now.gotos
+            ≡ grid_of (states_of self.now) self.now.nonterminals (gotos_from (G.entries result.now)) }
+    {
+        &self.gotos
+    }
+
+    /// The rules but rule 0, in their order.
+    pub fn rules(&self) -> &[TableRule]
+        ensures { self.now.rules ≡ map rule_from result.now }
+    {
+        &self.rules
     }
 
     /// The default reduction of a state, if it has one.

@@ -1,0 +1,18 @@
+use Rattle.std.proofs.Common.{◌∙◌, ◌-◌, refl, sym, ap, arith, slice_get, length}
+use Rattle.std.proofs.Math.ListN.{length-map}
+use Rattle.std.specs.Prelude.{option_map}
+use Rattle.std.proofs.lemmas.Option.{slice_get-map, slice_get_read}
+use Rattle.ly_pack.specs.Values.{rule_from}
+use Rattle.ly_pack.proofs.machine.Machine.rule.Goals as goal
+
+pub returns : goal.returns
+returns g c =
+    let rules = ap (λ m. m.rules) c.self.view_is in
+    let long = ap length rules in (
+      c.args.rule.0 - 1,
+      omega (arith, c.requires.0),
+      ap (λ rs. slice_get rs (c.args.rule.0 - 1)) (sym rules)
+          ∙ slice_get-map rule_from c.self.inside.rules.items (c.args.rule.0 - 1)
+          ∙ ap (option_map rule_from) (slice_get_read c.self.inside.rules.items (length c.self.inside.rules.items) _ _
+          refl (omega (arith, c.requires.0, c.requires.1, length-map c.self.inside.rules.items rule_from)) c.index.ensures),
+    )

@@ -1,0 +1,93 @@
+ghost use Rattle.std.specs.Prelude.{◌≡◌};
+ghost use Rattle.ly_pack.specs.Combs.{comb_from, slots_from};
+ghost use Rattle.ly_pack.specs.Rows.{IsComb};
+
+use crate::rows::Rows;
+use ly_base::StateNo;
+use std::marker::Model;
+
+/// A slot that is used.
+#[derive(Clone, Copy, Debug, PartialEq, Eq)]
+pub struct Slot<E> {
+    /// The row that uses it.
+    pub row: StateNo,
+    /// Its entry there.
+    pub entry: E,
+}
+
+/// Rows laid over one another: a row begins at its base, and its entries stand in slots that no other row uses there.
+#[derive(Drop)]
+pub struct Comb<E> {
+    /// How many columns each row has.
+    width: usize,
+    /// Where each row begins.
+    bases: Vec<u32>,
+    /// The slots, those that no row uses too.
+    slots: Vec<Option<Slot<E>>>,
+}
+
+impl<E> Model for Comb<E> {
+    ghost use Rattle.ly_pack.specs.Rows as value;
+    ghost use Rattle.ly_pack.specs.Rows.{IsComb};
+    ghost use Rattle.ly_pack.specs.Combs.{comb_from};
+
+    ghost Value = { value.Comb E };
+
+    ghost view = { λ c. comb_from c.width c.bases.items c.slots.items };
+
+    ghost invariant = { λ c. IsComb (comb_from c.width c.bases.items c.slots.items) };
+}
+
+impl<E: Copy> Comb<E> {
+    /// The comb of these.
+    pub fn new(width: usize, bases: Vec<u32>, slots: Vec<Option<Slot<E>>>) -> Comb<E>
+        requires { IsComb (comb_from width bases.items slots.items) }
+        ensures { result ≡ comb_from width bases.items slots.items }
+    {
+        Comb {
+            width,
+            bases,
+            slots,
+        }
+    }
+
+    /// How many columns each row has.
+    pub fn width(&self) -> usize
+        ensures { result ≡ self.now.width }
+    {
+        self.width
+    }
+
+    /// Where each row begins.
+    pub fn bases(&self) -> &[u32]
+        ensures { result.now ≡ self.now.bases }
+    {
+        &self.bases
+    }
+
+    /// The slots, those that no row uses too.
+    pub fn slots(&self) -> &[Option<Slot<E>>]
+        ensures { slots_from result.now ≡ self.now.slots }
+    {
+        &self.slots
+    }
+}
+
+impl<E: Copy> Rows<E> for Comb<E> {
+    ghost use Rattle.ly_pack.specs.Rows.{comb_entry};
+
+    ghost entries = { λ c. comb_entry c };
+
+    fn entry(&self, row: StateNo, column: usize) -> Option<E> {
+        if self.width <= column {
+            return None;
+        }
+        let base = *self.bases.get(row.0 as usize)?;
+        let slot = (*self.slots[base as usize..].get(column)?)?;
+        if slot.row == row {
+            Some(slot.entry)
+        } else {
+            None
+        }
+    }
+}
