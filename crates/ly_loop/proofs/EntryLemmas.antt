@@ -6,6 +6,7 @@ use Rattle.std.proofs.lemmas.List.Elements.{Contains-append_cases, Contains-appe
 use Rattle.ly_base.proofs.MemberLemmas.{Contains-first, Contains-one}
 use Rattle.ly_pack.specs.Machine.{Machine, TableAction, entry_at}
 use Rattle.ly_pack.specs.Values.{action_from}
+use Rattle.ly_pack.specs.declared.action.TableAction.TheVariants.{Shift}
 use Rattle.ly_loop.specs.declared.entries.Entry.{Entry}
 
 -- The entries of a state before the first terminals.
@@ -62,3 +63,7 @@ slice_get_push (z ∷ xs) x (suc k) y e = elim (slice_get_push xs x k y e) [
   | inl old ↦ inl old
   | inr new ↦ inr (ap suc new.0, new.1)
 ]
+
+-- what indexing gives past the end
+abbrev pub no_entry : Entry
+no_entry = record { terminal = record { 0 = 0 }; action = Shift (record { 0 = 0 }) }
