@@ -1,7 +1,8 @@
 -- The path of an edge, step by step.
 use Rattle.std.proofs.Common.{◌≡◌, ◌⊎◌, ◌≢◌, inl, inr, ℕ, zero, suc, ◌+◌, ◌-◌, ◌<◌, ◌≤◌, All, Bool, true, false, Contains}
 use Rattle.std.proofs.Common.{List, [], ◌∷◌, ◌++◌, length, length-append, None, Option, Some, ap, arith, refl, slice_get}
-use Rattle.std.proofs.Common.{eqb, eqb-true, subst, sym, ◌∙◌}
+use Rattle.std.proofs.Common.{eqb, eqb-true, get_or, subst, sym, ◌∙◌}
+use Rattle.std.specs.Global.{Vec}
 use Rattle.std.specs.Prelude.{AllPairs, nat_eq, option_map}
 use Rattle.std.specs.List.{list_any}
 use Rattle.std.specs.Cmp.{nat_eq_equiv}
@@ -13,15 +14,18 @@ use Rattle.std.proofs.lemmas.Map.Keys.{IsDistinct-push}
 use Rattle.std.proofs.lemmas.Map.Made.{IsDistinct-from_AllPairs}
 use Rattle.std.proofs.lemmas.Map.Steps.{length-le_from_distinct_below}
 use Rattle.std.proofs.lemmas.Map.Views.{Contains-from_any, list_any-from_Contains}
+use Rattle.std.proofs.lemmas.Option.{slice_get_read}
 use Rattle.ly_base.specs.SparseSet.{with_member}
-use Rattle.ly_pack.specs.Machine.{Machine, TableAction, action_of, entry_at, error, or_default, reduce}
-use Rattle.ly_pack.specs.Steady.{EndsWithin, ReducesTo, RunEnd, ends, goes_on, here, move, onward, perform, refuses}
+use Rattle.ly_base.specs.declared.numbers.StateNo.{StateNo}
+use Rattle.ly_pack.specs.Machine.{Machine, TableAction, action_of, entry_at, or_default, states_of}
+use Rattle.ly_pack.specs.Steady.{EndsWithin, ReducesTo, RunEnd, action_on, ends, here, move, onward, perform}
 use Rattle.ly_pack.specs.Steady.{run_bound}
 use Rattle.ly_pack.proofs.Runs.{one_more}
-use Rattle.ly_loop.specs.Private.Entries.{AreEntries}
-use Rattle.ly_loop.specs.Private.Path.{AllEnd, AreSettled, IsOnward, has_left}
+use Rattle.ly_loop.specs.Private.Entries.{AreAllEntries, AreEntries}
+use Rattle.ly_loop.specs.Private.Path.{AllEnd, AreActions, AreSettled, IsOnward, has_left}
+use Rattle.ly_loop.specs.Private.Run.{AreStates, stack_of}
 use Rattle.ly_loop.specs.declared.entries.Entry.{Entry}
-use Rattle.ly_loop.proofs.RunLemmas.{ended}
+use Rattle.ly_loop.proofs.RunLemmas.{ended, move_by, stack_top, top_known}
 
 left_from : (left : List ℕ) (t : ℕ) → Contains left t → has_left left t ≡ true
 left_from left t h = list_any-from_Contains nat_eq_equiv t left h
@@ -117,6 +121,41 @@ stayed m t entries stack bound old left settled not = elim (cases_Bool (has_left
 pub ends_here : (m : Machine) (t : ℕ) (stack : List ℕ) (bound : ℕ) → (e : RunEnd) × (move m t stack ≡ ends e)
     → EndsWithin m t stack bound
 ends_here m t stack bound stop = ended m t stack stack 0 bound here (omega arith) stop
+
+-- where each terminal has left, or its run ends
+pub all_ended : (m : Machine) (stack : List ℕ) (bound : ℕ) (entries : List Entry) (old left : List ℕ)
+    → AreSettled m stack bound entries old left
+    → ((t : ℕ) → t < m.terminals → has_left left t ≡ false → EndsWithin m t stack bound) → (t : ℕ) → t < m.terminals
+    → (has_left old t ≡ true) ⊎ EndsWithin m t stack bound
+all_ended m stack bound entries old left settled end t known = elim (cases_Bool (has_left left t)) [
+  | inl has ↦ settled.ended t has
+  | inr not ↦ inr (end t known not)
+]
+
+pub row_at : (m : Machine) (rows : List (Vec Entry)) (k : ℕ) (row : Vec Entry) → AreAllEntries m rows
+    → k < states_of m → row ≡ get_or rows k row → AreEntries m k row.items
+row_at m rows k row all lt is =
+    all.each k row (slice_get_read rows (length rows) k row refl (omega (arith, all.count)) is)
+
+-- The entries of the state on top of a stack.
+module _ (m : Machine) (rows : List (Vec Entry)) (xs : List StateNo) (top : StateNo) (row : Vec Entry)
+    (entries : List Entry) (all : AreAllEntries m rows) (states : AreStates m xs)
+    (last : Some top ≡ slice_get xs (length xs - 1)) (is : row ≡ get_or rows top.0 row) (so : entries ≡ row.items)
+  where
+    top_entries : AreEntries m top.0 entries
+    top_entries = subst (AreEntries m top.0) (sym so) (row_at m rows top.0 row all (top_known m xs top states last) is)
+
+    pub top_actions : AreActions m (stack_of xs) entries
+    top_actions e h = let entry = top_entries.sound e h in
+        (entry.0, ap (action_on m e.terminal.0) (stack_top xs top last)
+        ∙ ap (λ o. or_default o (slice_get m.defaults top.0)) entry.1)
+
+    -- what the terminals do that stay
+    pub top_stays : (bound : ℕ) (old left : List ℕ) (d : Option ℕ) → AreSettled m (stack_of xs) bound entries old left
+        → slice_get m.defaults top.0 ≡ Some d → (t : ℕ) → has_left left t ≡ false
+        → move m t (stack_of xs) ≡ perform m (stack_of xs) (or_default None (Some d))
+    top_stays bound old left d settled default t not = move_by m t xs top (or_default None (Some d)) last
+        (sym (stays m top.0 t entries (stack_of xs) bound old left top_entries settled not ∙ ap (or_default None) default))
 
 -- What is known of each terminal after the first reductions of a path.
 pub record IsPath (m : Machine) (start : List ℕ) (n : ℕ) (stack left : List ℕ) : Type 0 where

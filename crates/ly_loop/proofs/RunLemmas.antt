@@ -5,18 +5,18 @@ use Rattle.std.specs.Prelude.{reverse}
 use Rattle.std.proofs.Math.Seq.{drop-append_seam}
 use Rattle.std.proofs.lemmas.List.{length-drop, length-map, length-reverse, map-append, map_push, reverse-append}
 use Rattle.std.proofs.lemmas.List.{take-append-drop, take_all, take_more}
-use Rattle.std.proofs.lemmas.Option.{get_or_from_slice_get, slice_get_within}
+use Rattle.std.proofs.lemmas.Option.{get_or_from_slice_get, slice_get-get_or, slice_get_within}
 use Rattle.ly_base.specs.declared.numbers.StateNo.{StateNo}
 use Rattle.ly_base.specs.declared.numbers.RuleNo.{RuleNo}
 use Rattle.ly_pack.specs.Machine.{IsLegal, IsMachine, IsRuleNumber, IsTableRule, Machine, TableAction, TableRule}
-use Rattle.ly_pack.specs.Machine.{action_of, entry_at, goto_at, or_default, reduce}
+use Rattle.ly_pack.specs.Machine.{action_of, entry_at, goto_at, or_default, reduce, states_of}
 use Rattle.ly_pack.specs.Steady.{EndsWithin, ReducesTo, RunEnd, accepts, action_on, ends, go_to, move, perform, push}
 use Rattle.ly_pack.specs.Steady.{reads, reduce_by, refuses, rule_at}
 use Rattle.ly_pack.specs.Values.{action_from}
 use Rattle.ly_pack.specs.declared.action.TableAction as code
 use Rattle.ly_pack.specs.declared.action.TableAction.TheVariants.{Shift, Reduce, Accept, Error}
 use Rattle.ly_pack.proofs.Runs.{no_more}
-use Rattle.ly_loop.specs.Private.Run.{stack_of}
+use Rattle.ly_loop.specs.Private.Run.{AreStates, stack_of}
 
 pub stack_push : (xs : List StateNo) (x : StateNo) → stack_of (xs ++ x ∷ []) ≡ x.0 ∷ stack_of xs
 stack_push xs x = ap reverse (map_push (λ s. s.0) xs x) ∙ reverse-append (map (λ s. s.0) xs) (x.0 ∷ [])
@@ -47,6 +47,21 @@ stack_top xs x e =
     let whole = sym (take_all (at + 1) xs (omega arith)) ∙ (take_more xs at x lt
         ∙ ap (λ y. take at xs ++ y ∷ []) last) in
     ap stack_of whole ∙ stack_push (take at xs) x
+
+-- a stack without a last state is empty
+pub stack_none : (xs : List StateNo) → None ≡ slice_get xs (length xs - 1) → stack_of xs ≡ []
+stack_none [] e = refl
+stack_none (x ∷ xs) e =
+    let some = slice_get-get_or (x ∷ xs) (length (x ∷ xs) - 1) x (omega arith) in absurd (cc)
+
+-- the top of known states is one
+pub top_known : (m : Machine) (xs : List StateNo) (top : StateNo) → AreStates m xs
+    → Some top ≡ slice_get xs (length xs - 1) → top.0 < states_of m
+top_known m xs top states last =
+    let at = length xs - 1 in
+    let is = get_or_from_slice_get xs at top top (sym last) in
+    subst (λ (s : StateNo). s.0 < states_of m) is
+    (states at top (slice_get_within xs at top (sym last)))
 
 pub rule_known : (m : Machine) (p : ℕ) (r : TableRule) → IsTableRule m p r → rule_at m p ≡ Some r
 rule_known m p r (q, same, is) = ap (slice_get m.rules) (omega arith) ∙ is
