@@ -1,5 +1,6 @@
 -- Stacks that are kept with their tops last, and what a reduction does to them.
-use Rattle.std.proofs.Common.{◌≡◌, ℕ, ◌+◌, ◌-◌, ◌<◌, ◌≤◌, List, [], ◌∷◌, ◌++◌, length, take, drop, map, Option, Some, None}
+use Rattle.std.proofs.Common.{◌≡◌, ℕ, zero, suc, ◌+◌, ◌-◌, ◌<◌, ◌≤◌, List, [], ◌∷◌, ◌++◌, length, take, drop, map}
+use Rattle.std.proofs.Common.{Option, Some, None}
 use Rattle.std.proofs.Common.{refl, sym, ap, subst, ◌∙◌, arith, slice_get}
 use Rattle.std.specs.Prelude.{reverse}
 use Rattle.std.proofs.Math.Seq.{drop-append_seam}
@@ -117,3 +118,15 @@ ended m t start stack n bound led le (e, stops) = record {
 pub passed : (m : Machine) (t : ℕ) (start stack : List ℕ) (n bound : ℕ) → ReducesTo m t start n stack → bound < n
     → EndsWithin m t start bound → ⊥
 passed m t start stack n bound led past r = let i = no_more r.ending led r.leads r.stops in omega (arith, r.within)
+
+-- the two states of an edge
+pub edge_items : (below top : StateNo) (none one two : List StateNo) → none ≡ [] → one ≡ none ++ below ∷ []
+    → two ≡ one ++ top ∷ [] → two ≡ below ∷ top ∷ []
+edge_items below top none one two e0 e1 e2 =
+    e2 ∙ ap (λ xs. xs ++ top ∷ []) (e1 ∙ ap (λ xs. xs ++ below ∷ []) e0)
+
+pub edge_states : (m : Machine) (below top : StateNo) → below.0 < states_of m → top.0 < states_of m
+    → AreStates m (below ∷ top ∷ [])
+edge_states m below top b t zero d lt = b
+edge_states m below top b t (suc zero) d lt = t
+edge_states m below top b t (suc (suc k)) d lt = absurd (omega arith)
