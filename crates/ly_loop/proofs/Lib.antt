@@ -1,3 +1,4 @@
+pub mod EdgeLemmas
 pub mod EntryLemmas
 pub mod PathLemmas
 pub mod RunLemmas
