@@ -19,8 +19,11 @@ pub record AreEntriesBelow (m : Machine) (state n : ℕ) (row : List Entry) : Ty
 pub entries_push : (m : Machine) (state n : ℕ) (row : List Entry) (e : Entry) → AreEntriesBelow m state n row
     → e.terminal.0 ≡ n → n < m.terminals → Some (action_from e.action) ≡ entry_at m state n
     → AreEntriesBelow m state (n + 1) (row ++ e ∷ [])
-entries_push m state n row e was at known is = record { sound = sound; whole = λ t a lt some. whole t a some (cases_lt t n)
-    lt }
+entries_push m state n row e was at known is = record {
+  sound = sound;
+  whole = λ t a lt some. whole t a some (cases_lt t n)
+      lt;
+}
   where
     here : (e.terminal.0 < m.terminals) × (entry_at m state e.terminal.0 ≡ Some (action_from e.action))
     here = (omega arith, ap (entry_at m state) at ∙ sym is)

@@ -87,9 +87,13 @@ pub all_left : (left : List ℕ) (n t : ℕ) → All (λ k. k < n) left → AllP
     → has_left left t ≡ true
 all_left left n t within once count lt = elim (cases_Bool (has_left left t)) [
   | inl has ↦ has
-  | inr not ↦ absurd (omega (arith, length-append left (t ∷ []), length-le_from_distinct_below (left ++ t ∷ []) n
-      (IsDistinct-push nat_eq_equiv left t (IsDistinct-from_AllPairs Decides-eqb left once) not)
-      (λ q h. below q (Contains-push_cases left t q (left_to (left ++ t ∷ []) q h)))))
+  | inr not ↦ absurd (omega (
+    arith,
+    length-append left (t ∷ []),
+    length-le_from_distinct_below (left ++ t ∷ []) n
+        (IsDistinct-push nat_eq_equiv left t (IsDistinct-from_AllPairs Decides-eqb left once) not)
+        (λ q h. below q (Contains-push_cases left t q (left_to (left ++ t ∷ []) q h))),
+  ))
 ]
   where
     below : (q : ℕ) → Contains left q ⊎ (t ≡ q) → q < n
@@ -146,9 +150,11 @@ module _ (m : Machine) (rows : List (Vec Entry)) (xs : List StateNo) (top : Stat
     top_entries = subst (AreEntries m top.0) (sym so) (row_at m rows top.0 row all (top_known m xs top states last) is)
 
     pub top_actions : AreActions m (stack_of xs) entries
-    top_actions e h = let entry = top_entries.sound e h in
-        (entry.0, ap (action_on m e.terminal.0) (stack_top xs top last)
-        ∙ ap (λ o. or_default o (slice_get m.defaults top.0)) entry.1)
+    top_actions e h = let entry = top_entries.sound e h in (
+      entry.0,
+      ap (action_on m e.terminal.0) (stack_top xs top last)
+          ∙ ap (λ o. or_default o (slice_get m.defaults top.0)) entry.1,
+    )
 
     -- what the terminals do that stay
     pub top_stays : (bound : ℕ) (old left : List ℕ) (d : Option ℕ) → AreSettled m (stack_of xs) bound entries old left

@@ -46,7 +46,7 @@ stack_top xs x e =
     let lt : at < length xs = slice_get_within xs at x (sym e) in
     let last = get_or_from_slice_get xs at x x (sym e) in
     let whole = sym (take_all (at + 1) xs (omega arith)) ∙ (take_more xs at x lt
-        ∙ ap (λ y. take at xs ++ y ∷ []) last) in
+    ∙ ap (λ y. take at xs ++ y ∷ []) last) in
     ap stack_of whole ∙ stack_push (take at xs) x
 
 -- a stack without a last state is empty
@@ -112,7 +112,13 @@ ends_by m stack Error not = (refuses, refl)
 pub ended : (m : Machine) (t : ℕ) (start stack : List ℕ) (n bound : ℕ) → ReducesTo m t start n stack → n ≤ bound
     → (e : RunEnd) × (move m t stack ≡ ends e) → EndsWithin m t start bound
 ended m t start stack n bound led le (e, stops) = record {
-  count = n; last = stack; ending = e; leads = led; stops = stops; within = le }
+  count = n;
+  last = stack;
+  ending = e;
+  leads = led;
+  stops = stops;
+  within = le;
+}
 
 -- a run that has made more reductions doesn't end before
 pub passed : (m : Machine) (t : ℕ) (start stack : List ℕ) (n bound : ℕ) → ReducesTo m t start n stack → bound < n

@@ -81,7 +81,10 @@ targets_goto m below entries n targets s was is = record {
 pub targets_no_goto : (m : Machine) (below : ℕ) (entries : List Entry) (n : ℕ) (targets : List StateNo)
     → AreTargetsOf m below entries n targets → None ≡ goto_at m below n → AreTargetsOf m below entries (n + 1) targets
 targets_no_goto m below entries n targets was none = record {
-  sound = was.sound; shifts = was.shifts; gotos = λ left top lt goto. by_left left top goto lt (cases_lt left n) }
+  sound = was.sound;
+  shifts = was.shifts;
+  gotos = λ left top lt goto. by_left left top goto lt (cases_lt left n);
+}
   where
     by_left : (left top : ℕ) → goto_at m below left ≡ Some top → left < n + 1 → (left < n) ⊎ (n ≤ left)
         → (x : StateNo) × Contains targets x × (x.0 ≡ top)

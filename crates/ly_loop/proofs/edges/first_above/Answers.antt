@@ -28,22 +28,22 @@ loop-top-preserved g c =
     let more = sym (take_more targets k none c.loop-top-test.true) in
     elim c.if-is_lower.branch [
       | then-is_lower+in_ok-token+in-Some w ↦ record {
-          first = subst (λ ts. IsFirstAbove m below ts c.if-is_lower.first) more
-              (subst (IsFirstAbove m below _) (sym w.first-is) (least_found m below (take k targets) top c.loop-top.first
-              w.in-Some.token was.first w.if-is_lower.ensures
-              (subst (IsFirstToken m below top.0) w.in-Some.is w.in_ok-token.ensures.first)));
-          room = ap (λ (p : Path). p.settled.below) w.path-is ∙ w.in_ok-token.ensures.room;
-        }
+        first = subst (λ ts. IsFirstAbove m below ts c.if-is_lower.first) more
+            (subst (IsFirstAbove m below _) (sym w.first-is) (least_found m below (take k targets) top c.loop-top.first
+            w.in-Some.token was.first w.if-is_lower.ensures
+            (subst (IsFirstToken m below top.0) w.in-Some.is w.in_ok-token.ensures.first)));
+        room = ap (λ (p : Path). p.settled.below) w.path-is ∙ w.in_ok-token.ensures.room;
+      }
       | then-is_lower+in_ok-token+in_default w ↦ record {
-          first = subst (λ ts. IsFirstAbove m below ts c.if-is_lower.first) more
-              (subst (IsFirstAbove m below _) (sym w.first-is) (least_ended m below (take k targets) top c.loop-top.first
-              was.first (subst (IsFirstToken m below top.0) w.in_default.is w.in_ok-token.ensures.first)));
-          room = ap (λ (p : Path). p.settled.below) w.path-is ∙ w.in_ok-token.ensures.room;
-        }
+        first = subst (λ ts. IsFirstAbove m below ts c.if-is_lower.first) more
+            (subst (IsFirstAbove m below _) (sym w.first-is) (least_ended m below (take k targets) top c.loop-top.first
+            was.first (subst (IsFirstToken m below top.0) w.in_default.is w.in_ok-token.ensures.first)));
+        room = ap (λ (p : Path). p.settled.below) w.path-is ∙ w.in_ok-token.ensures.room;
+      }
       | else-is_lower w ↦ record {
-          first = subst (λ ts. IsFirstAbove m below ts c.if-is_lower.first) more
-              (subst (IsFirstAbove m below _) (sym w.first-is) (least_past m below (take k targets) top c.loop-top.first
-              was.first w.if-is_lower.ensures));
-          room = ap (λ (p : Path). p.settled.below) w.path-is ∙ was.room;
-        }
+        first = subst (λ ts. IsFirstAbove m below ts c.if-is_lower.first) more
+            (subst (IsFirstAbove m below _) (sym w.first-is) (least_past m below (take k targets) top c.loop-top.first
+            was.first w.if-is_lower.ensures));
+        room = ap (λ (p : Path). p.settled.below) w.path-is ∙ was.room;
+      }
     ]

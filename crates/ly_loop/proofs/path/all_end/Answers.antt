@@ -12,7 +12,7 @@ loop-made-init g c =
     let m = c.args.machine.now in
     let start = c.args.top.0 ∷ c.args.below.0 ∷ [] in
     let items = edge_items c.args.below c.args.top c.clear-2.new.self.items c.push.new.self.items c.push-2.new.self.items
-        c.clear-2.ensures.items c.in_ok-push.ensures.items c.in_ok-push-2.ensures.items in
+    c.clear-2.ensures.items c.in_ok-push.ensures.items c.in_ok-push-2.ensures.items in
     record {
       path = subst (IsPath m start 0 _) (sym (ap (λ (s : Chosen). s.members) c.clear.ensures))
           (subst (λ xs. IsPath m start 0 (stack_of xs) []) (sym items) (path_start m start));
@@ -27,8 +27,8 @@ returns-in-Ends-clause-ended g c is =
     let n = c.loop-made.made in
     let path = c.loop-made.path in
     let step = subst (λ s. IsStep m (run_bound - n) (stack_of path.stack.items) path.settled.members s
-        (stack_of c.follow.new.path.stack.items) c.follow.new.path.settled.members) c.in-Ends.is
-        c.in_ok-follow.ensures.step in
+    (stack_of c.follow.new.path.stack.items) c.follow.new.path.settled.members) c.in-Ends.is
+    c.in_ok-follow.ensures.step in
     path_end m c.args.below.0 c.args.top.0 n (stack_of path.stack.items) path.settled.members c.loop-made.invariant.path
     (omega arith) step
 
@@ -39,7 +39,7 @@ loop-made-preserved g c =
     let path = c.loop-made.path in
     let next = c.follow.new.path in
     let step = subst (λ s. IsStep m (run_bound - n) (stack_of path.stack.items) path.settled.members s
-        (stack_of next.stack.items) next.settled.members) c.in-Onward.is c.in_ok-follow.ensures.step in
+    (stack_of next.stack.items) next.settled.members) c.in-Onward.is c.in_ok-follow.ensures.step in
     record {
       path = path_more m (c.args.top.0 ∷ c.args.below.0 ∷ []) n (stack_of path.stack.items) path.settled.members
           (stack_of next.stack.items) next.settled.members c.loop-made.invariant.path (omega arith) step;

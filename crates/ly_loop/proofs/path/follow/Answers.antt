@@ -40,9 +40,9 @@ returns-in_default-default-clause-step g c =
     let entries = c.deref-2.result.now in
     let settled = c.in_ok-settle.ensures.settled c.if-not-branch.false in
     let stays = top_stays m c.args.entries.now xs c.in-Some.field-0.now c.index-entries-top.result entries
-        c.requires.entries c.requires.states
-        (c.in-Some.ensures.value ∙ ap (λ w. slice_get w (length w - 1)) c.deref.ensures.value) c.index-entries-top.is
-        c.deref-2.ensures.value c.args.bound old left None settled c.in_default-default.ensures in
+    c.requires.entries c.requires.states
+    (c.in-Some.ensures.value ∙ ap (λ w. slice_get w (length w - 1)) c.deref.ensures.value) c.index-entries-top.is
+    c.deref-2.ensures.value c.args.bound old left None settled c.in_default-default.ensures in
     all_ended m (stack_of xs) c.args.bound entries old left settled
     (λ t known not. ends_here m t (stack_of xs) c.args.bound (refuses, stays t not))
 
@@ -55,12 +55,12 @@ returns-then-branch-clause-step g c =
     let entries = c.deref-2.result.now in
     let settled = c.in_ok-settle.ensures.settled c.if-not-branch.false in
     let stays = top_stays m c.args.entries.now xs c.in-Some.field-0.now c.index-entries-top.result entries
-        c.requires.entries c.requires.states
-        (c.in-Some.ensures.value ∙ ap (λ w. slice_get w (length w - 1)) c.deref.ensures.value) c.index-entries-top.is
-        c.deref-2.ensures.value c.args.bound old left (Some c.in-Some-default.rule.0) settled c.in-Some-default.ensures in
+    c.requires.entries c.requires.states
+    (c.in-Some.ensures.value ∙ ap (λ w. slice_get w (length w - 1)) c.deref.ensures.value) c.index-entries-top.is
+    c.deref-2.ensures.value c.args.bound old left (Some c.in-Some-default.rule.0) settled c.in-Some-default.ensures in
     let made = subst (λ b. IsReduced m c.in-Some-default.rule.0 (stack_of xs) b (stack_of c.reduce.new.stack.items))
-        c.if-branch.true (subst (λ v. IsReduced m c.in-Some-default.rule.0 (stack_of v.items) c.in_ok-reduce.field-0
-        (stack_of c.reduce.new.stack.items)) c.in_ok-settle.ensures.stack c.in_ok-reduce.ensures.made) in
+    c.if-branch.true (subst (λ v. IsReduced m c.in-Some-default.rule.0 (stack_of v.items) c.in_ok-reduce.field-0
+    (stack_of c.reduce.new.stack.items)) c.in_ok-settle.ensures.stack c.in_ok-reduce.ensures.made) in
     record {
       ended = λ t known has. settled.ended t has;
       onward = λ t known not. (stayed m t entries (stack_of xs) c.args.bound old left settled not, stays t not ∙ made);
@@ -75,11 +75,11 @@ returns-else-branch-clause-step g c =
     let entries = c.deref-2.result.now in
     let settled = c.in_ok-settle.ensures.settled c.if-not-branch.false in
     let stays = top_stays m c.args.entries.now xs c.in-Some.field-0.now c.index-entries-top.result entries
-        c.requires.entries c.requires.states
-        (c.in-Some.ensures.value ∙ ap (λ w. slice_get w (length w - 1)) c.deref.ensures.value) c.index-entries-top.is
-        c.deref-2.ensures.value c.args.bound old left (Some c.in-Some-default.rule.0) settled c.in-Some-default.ensures in
+    c.requires.entries c.requires.states
+    (c.in-Some.ensures.value ∙ ap (λ w. slice_get w (length w - 1)) c.deref.ensures.value) c.index-entries-top.is
+    c.deref-2.ensures.value c.args.bound old left (Some c.in-Some-default.rule.0) settled c.in-Some-default.ensures in
     let made = subst (λ b. IsReduced m c.in-Some-default.rule.0 (stack_of xs) b (stack_of c.reduce.new.stack.items))
-        c.if-branch.false (subst (λ v. IsReduced m c.in-Some-default.rule.0 (stack_of v.items) c.in_ok-reduce.field-0
-        (stack_of c.reduce.new.stack.items)) c.in_ok-settle.ensures.stack c.in_ok-reduce.ensures.made) in
+    c.if-branch.false (subst (λ v. IsReduced m c.in-Some-default.rule.0 (stack_of v.items) c.in_ok-reduce.field-0
+    (stack_of c.reduce.new.stack.items)) c.in_ok-settle.ensures.stack c.in_ok-reduce.ensures.made) in
     all_ended m (stack_of xs) c.args.bound entries old left settled
     (λ t known not. ends_here m t (stack_of xs) c.args.bound (made.0, stays t not ∙ made.1))

@@ -17,7 +17,7 @@ returns-in_default-action g c =
     let t = c.args.token.0 in
     let xs = c.loop-made.stack.items in
     let step = move_by m t xs c.in-Some.field-0.now (action_from c.action.result)
-        (c.in-Some.ensures.value ∙ ap (λ w. slice_get w (length w - 1)) c.deref.ensures.value) c.action.ensures in
+    (c.in-Some.ensures.value ∙ ap (λ w. slice_get w (length w - 1)) c.deref.ensures.value) c.action.ensures in
     let stop = ends_by m (stack_of xs) c.action.result c.in_default-action.not-Reduce in
     ended m t (stack_of c.args.stack.now.items) (stack_of xs) c.loop-made._made c.args.bound c.loop-made.invariant.led
     (omega arith) (stop.0, step ∙ stop.1)
@@ -32,9 +32,9 @@ returns-then-not-branch g c =
     let t = c.args.token.0 in
     let xs = c.loop-made.stack.items in
     let step = move_by m t xs c.in-Some.field-0.now (reduce c.in-Reduce.rule.0)
-        (c.in-Some.ensures.value ∙ ap (λ w. slice_get w (length w - 1)) c.deref.ensures.value) c.in-Reduce.ensures in
+    (c.in-Some.ensures.value ∙ ap (λ w. slice_get w (length w - 1)) c.deref.ensures.value) c.in-Reduce.ensures in
     let stop = subst (λ b. IsReduced m c.in-Reduce.rule.0 (stack_of xs) b (stack_of c.reduce.new.stack.items))
-        c.if-not-branch.true c.in_ok-reduce.ensures.made in
+    c.if-not-branch.true c.in_ok-reduce.ensures.made in
     ended m t (stack_of c.args.stack.now.items) (stack_of xs) c.loop-made._made c.args.bound c.loop-made.invariant.led
     (omega arith) (stop.0, step ∙ stop.1)
 
@@ -45,9 +45,9 @@ loop-made-preserved g c =
     let xs = c.loop-made.stack.items in
     let next = stack_of c.reduce.new.stack.items in
     let step = move_by m t xs c.in-Some.field-0.now (reduce c.in-Reduce.rule.0)
-        (c.in-Some.ensures.value ∙ ap (λ w. slice_get w (length w - 1)) c.deref.ensures.value) c.in-Reduce.ensures in
+    (c.in-Some.ensures.value ∙ ap (λ w. slice_get w (length w - 1)) c.deref.ensures.value) c.in-Reduce.ensures in
     let on = subst (λ b. IsReduced m c.in-Reduce.rule.0 (stack_of xs) b next)
-        c.if-not-branch.false c.in_ok-reduce.ensures.made in
+    c.if-not-branch.false c.in_ok-reduce.ensures.made in
     record {
       led = subst (λ n. ReducesTo m t (stack_of c.args.stack.now.items) n next) (omega arith)
           (one_more c.loop-made.invariant.led (step ∙ on));

@@ -9,10 +9,12 @@ pub returns-in_default-goto-clause-made : goal.returns-in_default-goto-clause-ma
 returns-in_default-goto-clause-made g c =
     let xs = c.args.stack.now.items in
     let r = rule_from c.rule-rule.result.now in
-    let kept : c.deref.result.now ≡ take c.in-Some.left xs = c.deref.ensures.value ∙ c.truncate.ensures.items in
-    (lacks_goto, reduce_to c.args.machine.now c.args.rule.0 r xs c.in-Some.left c.in-Some-last.field-0.now None
-    c.rule-rule.ensures (omega (arith, c.in-Some.ensures))
-    (c.in-Some-last.ensures.value ∙ ap (λ w. slice_get w (length w - 1)) kept) c.in_default-goto.ensures)
+    let kept : c.deref.result.now ≡ take c.in-Some.left xs = c.deref.ensures.value ∙ c.truncate.ensures.items in (
+      lacks_goto,
+      reduce_to c.args.machine.now c.args.rule.0 r xs c.in-Some.left c.in-Some-last.field-0.now None
+          c.rule-rule.ensures (omega (arith, c.in-Some.ensures))
+          (c.in-Some-last.ensures.value ∙ ap (λ w. slice_get w (length w - 1)) kept) c.in_default-goto.ensures,
+    )
 
 pub returns-clause-made : goal.returns-clause-made
 returns-clause-made g c =
