@@ -1,14 +1,14 @@
 -- The path of an edge, step by step.
-use Rattle.std.proofs.Common.{◌≡◌, ◌⊎◌, ◌≢◌, inl, inr, ℕ, zero, suc, ◌+◌, ◌-◌, ◌<◌, ◌≤◌, All, Bool, true, false, Contains}
+use Rattle.std.proofs.Common.{◌≡◌, ◌⊎◌, ◌≢◌, inl, inr, ℕ, ◌+◌, ◌-◌, ◌<◌, ◌≤◌, All, true, false, Contains}
 use Rattle.std.proofs.Common.{List, [], ◌∷◌, ◌++◌, length, length-append, None, Option, Some, ap, arith, refl, slice_get}
-use Rattle.std.proofs.Common.{eqb, eqb-true, get_or, subst, sym, ◌∙◌}
+use Rattle.std.proofs.Common.{eqb-true, get_or, subst, sym, ◌∙◌}
 use Rattle.std.specs.Global.{Vec}
-use Rattle.std.specs.Prelude.{AllPairs, nat_eq, option_map}
+use Rattle.std.specs.Prelude.{AllPairs, nat_eq}
 use Rattle.std.specs.List.{list_any}
 use Rattle.std.specs.Cmp.{nat_eq_equiv}
 use Rattle.std.proofs.lemmas.Bool.{cases_Bool}
 use Rattle.std.proofs.lemmas.Bool.Decides.{Decides-eqb}
-use Rattle.std.proofs.lemmas.List.Elements.{All-contains, All-push, Contains-append_cases, Contains-append_left}
+use Rattle.std.proofs.lemmas.List.Elements.{All-contains, Contains-append_left}
 use Rattle.std.proofs.lemmas.List.Elements.{Contains-push, Contains-push_cases}
 use Rattle.std.proofs.lemmas.Map.Keys.{IsDistinct-push}
 use Rattle.std.proofs.lemmas.Map.Made.{IsDistinct-from_AllPairs}

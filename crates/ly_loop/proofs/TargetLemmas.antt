@@ -3,7 +3,7 @@ use Rattle.std.proofs.Common.{◌≡◌, ◌⊎◌, inl, inr, ℕ, ◌+◌, ◌<
 use Rattle.std.proofs.Common.{ap, arith, refl, slice_get, subst, sym, ◌∙◌}
 use Rattle.std.proofs.lemmas.Bool.{cases_lt}
 use Rattle.std.proofs.lemmas.List.Elements.{Contains-append_cases, Contains-append_left, Contains-append_right}
-use Rattle.ly_base.proofs.MemberLemmas.{Contains-first, Contains-none, Contains-one}
+use Rattle.ly_base.proofs.MemberLemmas.{Contains-first, Contains-one}
 use Rattle.ly_base.specs.declared.numbers.StateNo.{StateNo}
 use Rattle.ly_pack.specs.Machine.{IsWithin, Machine, TableAction, action_of, entry_at, goto_at, or_default, shift}
 use Rattle.ly_pack.specs.Steady.{IsTableEdge, by_goto, by_shift}

@@ -1,6 +1,6 @@
 -- The edge and the terminal that are named where tables aren't steady: the first by the state below, then by the state
 -- on top, then by the terminal.
-use Rattle.std.specs.Prelude.{◌≡◌, ◌⊎◌, ℕ, ◌<◌, List, [], ◌∷◌}
+use Rattle.std.specs.Prelude.{◌≡◌, ◌⊎◌, ℕ, ◌<◌, [], ◌∷◌}
 use Rattle.ly_pack.specs.Machine.{Machine}
 use Rattle.ly_pack.specs.Steady.{EndsWithin, IsTableEdge, run_bound}
 use Rattle.ly_loop.specs.declared.fault.LoopFault.{LoopFault}

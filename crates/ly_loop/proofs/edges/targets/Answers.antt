@@ -1,5 +1,5 @@
-use Rattle.std.proofs.Common.{arith, ap, get_or, length, subst, sym, take, ◌+◌, ◌∙◌}
-use Rattle.std.proofs.lemmas.List.{take_all, take_more}
+use Rattle.std.proofs.Common.{arith, ap, get_or, subst, sym, take, ◌+◌, ◌∙◌}
+use Rattle.std.proofs.lemmas.List.{take_more}
 use Rattle.std.proofs.lemmas.List.Elements.{Contains-get_or}
 use Rattle.ly_loop.proofs.EntryLemmas.{no_entry}
 use Rattle.ly_loop.proofs.TargetLemmas.{AreTargetsOf, all_targets, shift_edge, targets_goto, targets_no_goto}

@@ -1,4 +1,4 @@
-use Rattle.std.proofs.Common.{arith, inl, inr, length, length-append, refl, slice_get, subst, sym, ap, ◌++◌, ◌∙◌, [], ◌∷◌}
+use Rattle.std.proofs.Common.{arith, inl, inr, length, length-append, slice_get, subst, sym, ap, ◌∙◌, [], ◌∷◌}
 use Rattle.ly_loop.specs.Private.Entries.{AreEntries}
 use Rattle.ly_loop.proofs.EntryLemmas.{slice_get_push}
 use Rattle.ly_loop.proofs.entries.all_entries.Goals as goal

@@ -1,4 +1,4 @@
-use Rattle.std.proofs.Common.{◌≡◌, ◌∙◌, ◌-◌, ◌∷◌, [], ap, arith, subst, sym}
+use Rattle.std.proofs.Common.{◌∙◌, ◌-◌, ◌∷◌, [], ap, arith, subst, sym}
 use Rattle.ly_base.specs.SparseSet.{Chosen}
 use Rattle.ly_pack.specs.Steady.{run_bound}
 use Rattle.ly_loop.specs.Private.Path.{IsStep}

@@ -1,4 +1,4 @@
-use Rattle.std.proofs.Common.{◌≡◌, ◌<◌, ◌-◌, All, ap, inr, length, true, None, Some, slice_get, subst, sym, ◌∙◌}
+use Rattle.std.proofs.Common.{◌≡◌, ◌<◌, ◌-◌, All, ap, inr, length, true, None, Some, slice_get, subst, ◌∙◌}
 use Rattle.ly_pack.specs.Steady.{move, refuses}
 use Rattle.ly_loop.specs.Private.Path.{has_left}
 use Rattle.ly_loop.specs.Private.Run.{IsReduced, stack_of}

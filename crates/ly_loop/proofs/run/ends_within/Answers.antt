@@ -1,8 +1,7 @@
-use Rattle.std.proofs.Common.{◌≡◌, ◌∙◌, ◌-◌, ◌+◌, ap, arith, length, slice_get, subst, sym, Some}
+use Rattle.std.proofs.Common.{◌∙◌, ◌-◌, ap, arith, length, slice_get, subst, sym}
 use Rattle.ly_pack.specs.Machine.{reduce}
-use Rattle.ly_pack.specs.Steady.{ReducesTo, ends, here, goes_on, move}
+use Rattle.ly_pack.specs.Steady.{ReducesTo, here}
 use Rattle.ly_pack.specs.Values.{action_from}
-use Rattle.ly_pack.specs.declared.action.TableAction.TheVariants.{Reduce}
 use Rattle.ly_pack.proofs.Runs.{one_more}
 use Rattle.ly_loop.specs.Private.Run.{IsReduced, stack_of}
 use Rattle.ly_loop.proofs.RunLemmas.{ended, ends_by, legal_reduction, move_by, passed}
