@@ -47,7 +47,10 @@ entries_push m state n row e was at known is = record {
 
 pub entries_skip : (m : Machine) (state n : ℕ) (row : List Entry) → AreEntriesBelow m state n row
     → None ≡ entry_at m state n → AreEntriesBelow m state (n + 1) row
-entries_skip m state n row was none = record { sound = was.sound; whole = λ t a lt some. whole t a some (cases_lt t n) lt }
+entries_skip m state n row was none = record {
+  sound = was.sound;
+  whole = λ t a lt some. whole t a some (cases_lt t n) lt;
+}
   where
     whole : (t : ℕ) (a : TableAction) → entry_at m state t ≡ Some a → (t < n) ⊎ (n ≤ t) → t < n + 1
         → (x : Entry) × Contains row x × (x.terminal.0 ≡ t) × (action_from x.action ≡ a)

@@ -1,7 +1,7 @@
 -- The path of an edge, step by step.
 use Rattle.std.proofs.Common.{◌≡◌, ◌⊎◌, ◌≢◌, inl, inr, ℕ, ◌+◌, ◌-◌, ◌<◌, ◌≤◌, All, true, false, Contains}
-use Rattle.std.proofs.Common.{List, [], ◌∷◌, ◌++◌, length, length-append, None, Option, Some, ap, arith, refl, slice_get}
-use Rattle.std.proofs.Common.{eqb-true, get_or, subst, sym, ◌∙◌}
+use Rattle.std.proofs.Common.{List, [], ◌∷◌, ◌++◌, length, length-append, None, Option, Some, ap, arith, refl}
+use Rattle.std.proofs.Common.{slice_get, eqb-true, get_or, subst, sym, ◌∙◌}
 use Rattle.std.specs.Global.{Vec}
 use Rattle.std.specs.Prelude.{AllPairs, nat_eq}
 use Rattle.std.specs.List.{list_any}
@@ -83,8 +83,8 @@ settled_more m stack bound entries old left e was end = record {
     now = elim end [ inl before ↦ was.ended e.terminal.0 before | inr r ↦ inr r ]
 
 -- as many terminals as there are have left: all have
-pub all_left : (left : List ℕ) (n t : ℕ) → All (λ k. k < n) left → AllPairs (λ j k. j ≢ k) left → length left ≡ n → t < n
-    → has_left left t ≡ true
+pub all_left : (left : List ℕ) (n t : ℕ) → All (λ k. k < n) left → AllPairs (λ j k. j ≢ k) left → length left ≡ n
+    → t < n → has_left left t ≡ true
 all_left left n t within once count lt = elim (cases_Bool (has_left left t)) [
   | inl has ↦ has
   | inr not ↦ absurd (omega (
@@ -161,7 +161,8 @@ module _ (m : Machine) (rows : List (Vec Entry)) (xs : List StateNo) (top : Stat
         → slice_get m.defaults top.0 ≡ Some d → (t : ℕ) → has_left left t ≡ false
         → move m t (stack_of xs) ≡ perform m (stack_of xs) (or_default None (Some d))
     top_stays bound old left d settled default t not = move_by m t xs top (or_default None (Some d)) last
-        (sym (stays m top.0 t entries (stack_of xs) bound old left top_entries settled not ∙ ap (or_default None) default))
+        (sym (stays m top.0 t entries (stack_of xs) bound old left top_entries settled not
+        ∙ ap (or_default None) default))
 
 -- What is known of each terminal after the first reductions of a path.
 pub record IsPath (m : Machine) (start : List ℕ) (n : ℕ) (stack left : List ℕ) : Type 0 where

@@ -30,7 +30,8 @@ stack_append xs ys = ap reverse (map-append (λ s. s.0) xs ys)
     ∙ reverse-append (map (λ s. s.0) xs) (map (λ s. s.0) ys)
 
 -- what is left when some states are popped
-pub stack_take : (xs : List StateNo) (left n : ℕ) → left + n ≡ length xs → stack_of (take left xs) ≡ drop n (stack_of xs)
+pub stack_take : (xs : List StateNo) (left n : ℕ) → left + n ≡ length xs
+    → stack_of (take left xs) ≡ drop n (stack_of xs)
 stack_take xs left n e =
     let upper = stack_of (drop left xs) in
     let lower = stack_of (take left xs) in

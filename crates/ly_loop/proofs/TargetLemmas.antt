@@ -100,7 +100,8 @@ shift_edge m below entries e s all h is = by_shift e.terminal.0
     (ap (λ o. or_default o (slice_get m.defaults below)) ((all.sound e h).1 ∙ ap (λ a. Some (action_from a)) is))
 
 -- a default shifts nothing
-pub shift_entry : (m : Machine) (below t top : ℕ) → action_of m below t ≡ shift top → entry_at m below t ≡ Some (shift top)
+pub shift_entry : (m : Machine) (below t top : ℕ) → action_of m below t ≡ shift top
+    → entry_at m below t ≡ Some (shift top)
 shift_entry m below t top e = by_entry (entry_at m below t) refl e
   where
     by_default : (d : Option (Option ℕ)) → or_default None d ≡ shift top → ⊥

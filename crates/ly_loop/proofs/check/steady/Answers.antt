@@ -1,4 +1,4 @@
-use Rattle.std.proofs.Common.{◌≡◌, ℕ, arith, inl, inr, subst, sym}
+use Rattle.std.proofs.Common.{◌≡◌, ℕ, refl, arith, inl, inr, subst, sym}
 use Rattle.std.proofs.lemmas.Bool.{cases_lt}
 use Rattle.ly_pack.specs.Steady.{IsTableEdge}
 use Rattle.ly_loop.specs.Private.Edges.{IsFirstAbove}
@@ -29,7 +29,8 @@ loop-number-preserved g c =
     let m = c.args.machine.now in
     let n = c.loop-number.number in
     let targets = c.targets.new.targets.items in
-    let all = subst (IsFirstAbove m n targets) c.in_default.is (subst (λ ts. IsFirstAbove m n ts c.in_ok-passing.field-0)
+    let all = subst (IsFirstAbove m n targets) c.in_default.is
+    (subst (λ ts. IsFirstAbove m n ts c.in_ok-passing.field-0)
     c.deref-in-loop-number-2.ensures.value c.in_ok-passing.ensures.first) in
     record {
       ended = λ below top lt edge. elim (cases_lt below n) [
@@ -44,5 +45,5 @@ loop-number-preserved g c =
 
 pub returns-clause-ok : goal.returns-clause-ok
 returns-clause-ok g c below top t known edge =
-    let lt = edge_below c.args.machine.now below top c.states-number-end.ensures.within edge in
+    let lt = edge_below c.args.machine.now below top (c.if-not-is_countable.ensures refl).within edge in
     c.loop-number.invariant.ended below top (omega (arith, lt)) edge t known

@@ -11,7 +11,8 @@ pub loop-made-init : goal.loop-made-init
 loop-made-init g c =
     let m = c.args.machine.now in
     let start = c.args.top.0 ∷ c.args.below.0 ∷ [] in
-    let items = edge_items c.args.below c.args.top c.clear-2.new.self.items c.push.new.self.items c.push-2.new.self.items
+    let items = edge_items c.args.below c.args.top c.clear-2.new.self.items c.push.new.self.items
+    c.push-2.new.self.items
     c.clear-2.ensures.items c.in_ok-push.ensures.items c.in_ok-push-2.ensures.items in
     record {
       path = subst (IsPath m start 0 _) (sym (ap (λ (s : Chosen). s.members) c.clear.ensures))
