@@ -82,3 +82,10 @@ pub record IsMachine (m : Machine) : Type 0 where
   pub defaults : (state p : ℕ) → slice_get m.defaults state ≡ Some (Some p) → IsRuleNumber m p
   pub gotos : (state left next : ℕ) → goto_at m state left ≡ Some next → next < states_of m
   pub rules : All (IsRuleWithin m.nonterminals) m.rules
+
+-- Entries and gotos stand in rows and columns that are there.
+pub record IsWithin (m : Machine) : Type 0 where
+  pub actions : (state t : ℕ) (a : TableAction) → entry_at m state t ≡ Some a
+      → (state < states_of m) × (t < m.terminals)
+  pub gotos : (state left next : ℕ) → goto_at m state left ≡ Some next
+      → (state < states_of m) × (left < m.nonterminals)

@@ -1,0 +1,5 @@
+pub mod EdgeLemmas
+pub mod EntryLemmas
+pub mod PathLemmas
+pub mod RunLemmas
+pub mod TargetLemmas

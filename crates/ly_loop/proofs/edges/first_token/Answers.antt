@@ -1,0 +1,21 @@
+use Rattle.std.proofs.Common.{ℕ, arith, inl, inr, subst}
+use Rattle.std.proofs.lemmas.Bool.{cases_lt}
+use Rattle.ly_pack.specs.Steady.{run_bound}
+use Rattle.ly_loop.specs.Endless.{EdgeEnds}
+use Rattle.ly_loop.specs.Private.Run.{EndsAs}
+use Rattle.ly_loop.proofs.edges.first_token.Goals as goal
+
+pub loop-number-preserved : goal.loop-number-preserved
+loop-number-preserved g c =
+    let m = c.args.machine.now in
+    let below = c.args.below.0 in
+    let top = c.args.top.0 in
+    let n = c.loop-number.number in
+    let this = subst (EndsAs m n _ run_bound) c.if-not-branch.false c.in_ok-edge_ends.ensures in
+    record {
+      ended = λ t lt. elim (cases_lt t n) [
+        | inl less ↦ c.loop-number.invariant.ended t less
+        | inr more ↦ let P : ℕ → Type 0 = λ k. EdgeEnds m below top k in subst P (omega arith) this
+      ];
+      room = c.loop-number.invariant.room;
+    }

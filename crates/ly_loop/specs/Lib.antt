@@ -1,0 +1,3 @@
+pub mod Endless
+pub mod FaultNames
+pub mod Private

@@ -1,0 +1,4 @@
+pub mod Edges
+pub mod Entries
+pub mod Path
+pub mod Run

@@ -1,0 +1,39 @@
+-- The edges above a state, and the first run above them that makes too many reductions.
+use Rattle.std.specs.Prelude.{◌≡◌, ℕ, ◌<◌, ◌≤◌, Bool, true, false, List, Contains, Option, Some, None, MatchOption}
+use Rattle.ly_base.specs.declared.numbers.StateNo.{StateNo}
+use Rattle.ly_base.specs.declared.numbers.Sym.{Sym}
+use Rattle.ly_pack.specs.Machine.{Machine}
+use Rattle.ly_pack.specs.Steady.{IsTableEdge}
+use Rattle.ly_loop.specs.Endless.{EdgeEnds}
+use Rattle.ly_loop.specs.Private.Path.{AllEnd}
+use Rattle.ly_loop.specs.declared.edges.Passing.{Passing}
+
+-- The states to which a state leads.
+pub record AreTargets (m : Machine) (below : ℕ) (targets : List StateNo) : Type 0 where
+  pub sound : (s : StateNo) → Contains targets s → IsTableEdge m below s.0
+  pub whole : (top : ℕ) → IsTableEdge m below top → (s : StateNo) × Contains targets s × (s.0 ≡ top)
+
+-- The first terminal on which the run of an edge makes too many reductions.
+pub record IsPassing (m : Machine) (below top token : ℕ) : Type 0 where
+  pub known : token < m.terminals
+  pub endless : EdgeEnds m below top token → ⊥
+  pub first : (t : ℕ) → t < token → EdgeEnds m below top t
+
+abbrev pub IsFirstToken : Machine → ℕ → ℕ → Option Sym → Type 0
+IsFirstToken m below top found = MatchOption found (AllEnd m below top) (λ token. IsPassing m below top token.0)
+
+-- The least of these targets above which a run makes too many reductions.
+pub record IsLeast (m : Machine) (below : ℕ) (targets : List StateNo) (found : Passing) : Type 0 where
+  pub member : Contains targets found.top
+  pub passing : IsPassing m below found.top.0 found.token.0
+  pub least : (s : StateNo) → Contains targets s → s.0 < found.top.0 → AllEnd m below s.0
+
+abbrev pub IsFirstAbove : Machine → ℕ → List StateNo → Option Passing → Type 0
+IsFirstAbove m below targets found =
+    MatchOption found ((s : StateNo) → Contains targets s → AllEnd m below s.0) (IsLeast m below targets)
+
+-- whether a target is lower than that of a run that was found
+abbrev pub IsLower : ℕ → Option Passing → Bool → Type 0
+IsLower top None b = b ≡ true
+IsLower top (Some found) true = top < found.top.0
+IsLower top (Some found) false = found.top.0 ≤ top
