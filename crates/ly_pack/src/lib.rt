@@ -4,15 +4,18 @@
 mod action;
 mod bit_row;
 mod comb_rows;
+mod defaults;
 mod dense;
 mod machine;
 mod order;
 mod placing;
 mod rows;
 mod rule;
+mod tally;
 
 pub use action::TableAction;
 pub use comb_rows::{Comb, Slot};
+pub use defaults::choose_defaults;
 pub use dense::Dense;
 pub use machine::Machine;
 pub use placing::comb;
