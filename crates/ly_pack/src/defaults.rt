@@ -1,8 +1,8 @@
 //! Default reductions: each state that reduces does so by its most frequent rule wherever no entry says otherwise, and
 //! the entries that say just this are left out (Aho, Sethi and Ullman 1986, 4.7).
-ghost use Rattle.std.specs.Prelude.{◌≡◌, ◌≢◌, ◌<◌, ℕ, slice_get, IfOk, Some};
+ghost use Rattle.std.specs.Prelude.{◌≡◌, ◌≢◌, ◌<◌, ◌≤◌, ℕ, length, slice_get, IfOk, MatchOption, Some};
 ghost use Rattle.ly_pack.specs.Defaults.{HasDefaultsOf};
-ghost use Rattle.ly_pack.specs.Private.Tally.{left_out};
+ghost use Rattle.ly_pack.specs.Private.Tally.{out_by, reductions, HaveDefaults};
 ghost use Rattle.ly_pack.specs.Rows.{dense_entry};
 
 use crate::action::TableAction;
@@ -31,7 +31,7 @@ pub fn choose_defaults(
         rules,
     } = machine;
     let states = defaults.len();
-    let defaults = take_defaults(alloc, &mut actions, states, rules.len())?;
+    let defaults = take_defaults(alloc, &mut actions, states, terminals, rules.len())?;
     Ok(Machine {
         terminals,
         nonterminals,
@@ -42,42 +42,57 @@ pub fn choose_defaults(
     })
 }
 
-/// The defaults of so many states; their entries are taken out of the rows.
+/// The defaults of so many states; the entries that are equal to them are taken out of the rows.
 fn take_defaults(
     alloc: Global,
     actions: &mut Dense<TableAction>,
     states: usize,
+    terminals: usize,
     rules: usize,
-) -> Result<Vec<Option<RuleNo>>, OutOfMemory> {
+) -> Result<Vec<Option<RuleNo>>, OutOfMemory>
+    requires legal { (state p : ℕ) → 1 ≤ reductions (dense_entry actions.old) terminals state p → p ≤ rules }
+    ensures states { IfOk result (λ defaults. length defaults.items ≡ states) }
+    ensures taken { IfOk result (λ defaults. HaveDefaults terminals actions.old actions.new defaults.items) }
+{
     let Some(numbers) = rules.checked_add(1) else {
         return Err(OutOfMemory);
     };
     if states > u32::MAX as usize {
         return Err(OutOfMemory);
     }
+    let columns = terminals.min(actions.width());
     let mut counts = vec![in alloc; 0usize; numbers]?;
     let mut defaults = Vec::with_capacity(alloc, states)?;
-    let mut rules = Vec::new(alloc);
+    let mut reduced = Vec::new(alloc);
     for state in 0..states {
-        list_rules(actions, StateNo(state as u32), &mut rules)?;
-        let default = most_frequent(&rules, &mut counts);
-        if let Some(rule) = default {
-            take_out(actions, StateNo(state as u32), rule);
-        }
+        list_rules(actions, StateNo(state as u32), columns, &mut reduced)?;
+        let default = most_frequent(&reduced, &mut counts);
+        take_out(actions, StateNo(state as u32), columns, default);
         defaults.push(default)?;
     }
     Ok(defaults)
 }
 
-/// Takes the reductions by a rule out of a row.
-fn take_out(actions: &mut Dense<TableAction>, state: StateNo, default: RuleNo)
-    requires { state.0 < actions.old.rows }
+/// Takes the reductions by a rule, if one is given, out of the first columns of a row.
+fn take_out(
+    actions: &mut Dense<TableAction>,
+    state: StateNo,
+    columns: usize,
+    default: Option<RuleNo>,
+)
+    requires row { MatchOption default (Unit {0}) (λ _. state.0 < actions.old.rows) }
+    requires columns { columns ≤ actions.old.width }
     ensures rows { actions.new.rows ≡ actions.old.rows }
     ensures width { actions.new.width ≡ actions.old.width }
-    ensures row { (t : ℕ) → dense_entry actions.new state.0 t ≡ left_out default.0 (dense_entry actions.old state.0 t) }
+    ensures row { (t : ℕ) → t < columns → dense_entry actions.new state.0 t
+        ≡ out_by default (dense_entry actions.old state.0 t) }
+    ensures past { (t : ℕ) → columns ≤ t → dense_entry actions.new state.0 t ≡ dense_entry actions.old state.0 t }
     ensures others { (r t : ℕ) → r ≢ state.0 → dense_entry actions.new r t ≡ dense_entry actions.old r t }
 {
-    for column in 0..actions.width() {
+    let Some(default) = default else {
+        return;
+    };
+    for column in 0..columns {
         if let Some(rule) = rule_of(actions.entry(state, column)) {
             if rule == default {
                 actions.set(state, column, None);

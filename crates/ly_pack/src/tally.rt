@@ -2,7 +2,7 @@
 //! a state costs no more than its entries.
 ghost use Rattle.std.specs.Prelude.{◌≡◌, ◌≢◌, ◌<◌, ◌≤◌, ℕ, length, slice_index, All, Contains, MatchOption, OnOk, option_map};
 ghost use Rattle.ly_pack.specs.Private.Tally.{IsBetter, rule_of};
-ghost use Rattle.ly_pack.specs.Private.Tally.{reductions, times, IsMostOf, IsBestOf};
+ghost use Rattle.ly_pack.specs.Private.Tally.{reductions, times, IsBestOf, IsChosen};
 ghost use Rattle.ly_pack.specs.Rows.{dense_entry};
 
 use crate::action::TableAction;
@@ -11,17 +11,18 @@ use crate::rows::Rows;
 use ly_base::{RuleNo, StateNo};
 use std::alloc::AllocError;
 
-/// Lists the rules by which a state reduces, one for each entry.
+/// Lists the rules by which a state reduces in the first columns, one for each entry.
 pub(crate) fn list_rules(
     actions: &Dense<TableAction>,
     state: StateNo,
+    columns: usize,
     rules: &mut Vec<u32>,
 ) -> Result<(), AllocError>
     ensures { OnOk result ((p : ℕ) → times p rules.new.items
-        ≡ reductions (dense_entry actions.now) actions.now.width state.0 p) }
+        ≡ reductions (dense_entry actions.now) columns state.0 p) }
 {
     rules.clear();
-    for column in 0..actions.width() {
+    for column in 0..columns {
         if let Some(rule) = rule_of(actions.entry(state, column)) {
             rules.push(rule.0)?;
         }
@@ -43,7 +44,7 @@ pub(crate) fn rule_of(entry: Option<TableAction>) -> Option<RuleNo>
 pub(crate) fn most_frequent(rules: &[u32], counts: &mut [usize]) -> Option<RuleNo>
     requires room { All (λ p. p < length counts.old) rules.now }
     requires clear { (p : ℕ) → slice_index counts.old p ≡ 0 }
-    ensures most { MatchOption result ((p : ℕ) → times p rules.now ≡ 0) (λ p. IsMostOf rules.now p.0) }
+    ensures most { IsChosen (λ p. times p rules.now) result }
     ensures clear { (p : ℕ) → slice_index counts.new p ≡ 0 }
 {
     count(rules, counts);

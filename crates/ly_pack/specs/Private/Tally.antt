@@ -18,11 +18,14 @@ times p rules = length (filter (nat_eq p) rules)
 abbrev pub reductions : Entries code.TableAction → ℕ → ℕ → ℕ → ℕ
 reductions entries width state p = length (filter (λ t. is_by p (actions_from entries state t)) (range_with_len 0 width))
 
--- The most frequent of the rules, and the least of those.
-pub record IsMostOf (rules : List ℕ) (p : ℕ) : Type 0 where
-  pub some : 1 ≤ times p rules
-  pub most : (q : ℕ) → (times q rules < times p rules) ⊎ ((times q rules ≡ times p rules) × (p ≤ q))
-      ⊎ (times q rules ≡ 0)
+-- The rule of the greatest count, and the least of those.
+pub record IsMostBy (count : ℕ → ℕ) (p : ℕ) : Type 0 where
+  pub some : 1 ≤ count p
+  pub most : (q : ℕ) → (count q < count p) ⊎ ((count q ≡ count p) × (p ≤ q)) ⊎ (count q ≡ 0)
+
+-- the rule of the greatest count, or none where nothing is counted
+abbrev pub IsChosen : (ℕ → ℕ) → Option RuleNo → Type 0
+IsChosen count d = MatchOption d ((p : ℕ) → count p ≡ 0) (λ p. IsMostBy count p.0)
 
 -- Of the first n rules no one has a greater count, or as great a one and a lower number.
 pub record IsBestOf (rules counts : List ℕ) (n p : ℕ) : Type 0 where
@@ -46,6 +49,11 @@ IsBetter counts rule None b = b ≡ true
 IsBetter counts rule (Some best) b = b ≡ (nat_lt (slice_index counts best.0) (slice_index counts rule)
     || ((slice_index counts best.0 == slice_index counts rule) && nat_lt rule best.0))
 
+-- an entry, but for those that the default stands for
+abbrev pub out_by : Option RuleNo → Option code.TableAction → Option code.TableAction
+out_by None a = a
+out_by (Some p) a = left_out p.0 a
+
 -- From the first columns of a row the reductions by a rule are taken out.
 pub record AreTakenOut (state p columns : ℕ) (old new : Dense code.TableAction) : Type 0 where
   pub rows : new.rows ≡ old.rows
@@ -53,3 +61,14 @@ pub record AreTakenOut (state p columns : ℕ) (old new : Dense code.TableAction
   pub done : (t : ℕ) → t < columns → dense_entry new state t ≡ left_out p (dense_entry old state t)
   pub left : (t : ℕ) → columns ≤ t → dense_entry new state t ≡ dense_entry old state t
   pub others : (r t : ℕ) → r ≢ state → dense_entry new r t ≡ dense_entry old r t
+
+-- The first states have their defaults, and entries that are equal to these are taken out.
+pub record HaveDefaults (terminals : ℕ) (old new : Dense code.TableAction) (defaults : List (Option RuleNo)) : Type 0
+    where
+  pub rows : new.rows ≡ old.rows
+  pub width : new.width ≡ old.width
+  pub chosen : (state : ℕ) (d : Option RuleNo) → slice_get defaults state ≡ Some d
+      → IsChosen (reductions (dense_entry old) terminals state) d
+  pub taken : (state t : ℕ) (d : Option RuleNo) → slice_get defaults state ≡ Some d → t < terminals
+      → dense_entry new state t ≡ out_by d (dense_entry old state t)
+  pub left : (state t : ℕ) → length defaults ≤ state → dense_entry new state t ≡ dense_entry old state t

@@ -3,7 +3,7 @@ use Rattle.std.proofs.Common.{Some, None, Option}
 use Rattle.std.proofs.lemmas.Bool.{cases_lt}
 use Rattle.std.specs.Prelude.{MatchOption}
 use Rattle.ly_base.specs.declared.numbers.RuleNo.{RuleNo}
-use Rattle.ly_pack.specs.Private.Tally.{IsBestOf, IsMostOf, times}
+use Rattle.ly_pack.specs.Private.Tally.{IsBestOf, IsChosen, times}
 use Rattle.ly_pack.proofs.TallyLemmas.{times_in, times_some}
 use Rattle.ly_pack.proofs.tally.most_frequent.Goals as goal
 
@@ -17,7 +17,7 @@ clear-requires-clause-counted c p some =
 
 most_from : (rules counts : List ℕ) (best : Option RuleNo) → ((p : ℕ) → get_or counts p 0 ≡ times p rules)
     → MatchOption best (length rules ≡ 0) (λ p. IsBestOf rules counts (length rules) p.0)
-    → MatchOption best ((p : ℕ) → times p rules ≡ 0) (λ p. IsMostOf rules p.0)
+    → IsChosen (λ p. times p rules) best
 most_from rules counts None is none = λ p. elim (cases_lt 0 (times p rules)) [
   | inl some ↦ let found = times_in rules p some in absurd (omega (arith, found.1, none))
   | inr zero ↦ omega (arith, zero)
