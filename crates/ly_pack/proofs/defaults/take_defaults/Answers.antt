@@ -17,7 +17,7 @@ most_frequent-default-requires-clause-room c k d lt =
     let listed = ap (times p) c.deref.ensures.value ∙ c.in_ok-list_rules.ensures p
     ∙ counts_old c.args.terminals c.min-columns.result c.loop-state.state c.args.actions.now c.loop-state.actions
     c.loop-state.defaults.items so.taken few (omega (arith, so.states)) p in
-    let legal = c.requires.legal c.loop-state.state p (subst (λ n. 1 ≤ n) listed (times_some c.deref.result.now k d lt)) in
+    let legal = c.requires.legal c.loop-state.state p c.loop-state-test.true (subst (λ n. 1 ≤ n) listed (times_some c.deref.result.now k d lt)) in
     omega (arith, legal, so.room, ap length c.deref_mut.ensures.value)
 
 row_in : (d : Option RuleNo) (count : ℕ → ℕ) (P : Type 0) → IsChosen count d → ((p : ℕ) → 1 ≤ count p → P)
