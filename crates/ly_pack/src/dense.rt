@@ -47,15 +47,15 @@ impl<E: Copy> Dense<E> {
 
     /// How many rows there are.
     pub fn rows(&self) -> usize
-        ensures count { result ≡ self.now.rows }
-        ensures all { IsDense self.now }
+        ensures { result ≡ self.now.rows }
     {
         self.rows
     }
 
     /// How many columns each has.
     pub fn width(&self) -> usize
-        ensures { result ≡ self.now.width }
+        ensures count { result ≡ self.now.width }
+        ensures all { IsDense self.now }
     {
         self.width
     }

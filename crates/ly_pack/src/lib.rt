@@ -4,6 +4,7 @@
 mod action;
 mod bit_row;
 mod comb_rows;
+mod defaults;
 mod dense;
 mod laws;
 mod machine;
@@ -11,9 +12,11 @@ mod order;
 mod placing;
 mod rows;
 mod rule;
+mod tally;
 
 pub use action::TableAction;
 pub use comb_rows::{Comb, Slot};
+pub use defaults::choose_defaults;
 pub use dense::Dense;
 pub use laws::{runs_end, stacks_keep_edges};
 pub use machine::Machine;
