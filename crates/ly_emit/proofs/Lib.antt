@@ -1,1 +1,3 @@
+pub mod FillLemmas
 pub mod FollowLemmas
+pub mod ShapeLemmas
