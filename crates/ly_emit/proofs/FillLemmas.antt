@@ -2,8 +2,7 @@
 use Rattle.std.proofs.Common.{◌≡◌, ◌≢◌, ◌∙◌, ◌⊎◌, inl, inr, ℕ, zero, suc, ◌+◌, ◌-◌, ◌<◌, ◌≤◌, ◌&&◌, List, [], ◌∷◌}
 use Rattle.std.proofs.Common.{Bool, None, Option, Some, ap, arith, false, length, map, nat_eq, option_map, refl, slice_get}
 use Rattle.std.proofs.Common.{slice_index_or, subst, sym, true}
-use Rattle.std.specs.Prelude.{if◌then◌else◌}
-use Rattle.std.specs.List.{replicate}
+use Rattle.std.specs.Prelude.{replicate, if◌then◌else◌}
 use Rattle.std.proofs.lemmas.Bool.{and_from, cases_eq, cases_lt, cond-false, cond-true, eq-eqb, eqb-true}
 use Rattle.std.proofs.Math.ListN.{length-map}
 use Rattle.std.proofs.lemmas.Option.{get_or_from_slice_get, slice_get_within}
@@ -26,7 +25,7 @@ use Rattle.ly_pack.proofs.GridLemmas.{cell-grid_of, cell-grid_of_past}
 use Rattle.ly_resolve.specs.Actions.{Action, IsAction, error, reduce, shift}
 use Rattle.ly_resolve.specs.Precedence.{judge_of}
 use Rattle.ly_emit.specs.Private.Filling.{AreActionsTo, AreFilledTo, AreGotosTo, AreRulesTo}
-use Rattle.ly_emit.specs.Tables.{AreShapesWithin, AreTables, IsEntryFor}
+use Rattle.ly_emit.specs.Tables.{AreShapesWithin, AreTables, IsEntryFor, shape_in}
 
 -- ENTRIES THAT ARE PUT IN
 
@@ -106,7 +105,7 @@ cell_some rows width f r c x e = elim (cases_lt r rows) [
   ]
 ]
 
-mapped_some : {X Y : Type 0} (f : X → Y) (o : Option X) (y : Y) → option_map f o ≡ Some y
+pub mapped_some : {X Y : Type 0} (f : X → Y) (o : Option X) (y : Y) → option_map f o ≡ Some y
     → (x : X) × (o ≡ Some x) × (f x ≡ y)
 mapped_some f None y e = absurd cc
 mapped_some f (Some x) y e = (x, refl, cc)
@@ -214,10 +213,16 @@ module _ (s : Spec) (M : Automaton) (is : IsAutomaton M) (useful : KeepsUseful s
           let less : suc j < length s.grammar.rules = omega (arith, lt, long) in
           let has = lawful.whole (suc j) less in
           let place : suc j - 1 ≡ j = omega arith in
-          let at = subst (λ k. slice_get (map rule_from rules) k ≡ Some _) place
+          let x : TableRule = record {
+            left = has.0.left;
+            body_length = length has.0.body;
+            shape = shape_in s (suc j);
+          } in
+          let at : slice_get (map rule_from rules) j ≡ Some x
+          = subst (λ k. slice_get (map rule_from rules) k ≡ Some x) place
           (all.these (suc j) has.0 (omega arith) less has.1) in
           let left = (lawful.augmented.within (suc j) has.0 has.1 (omega arith)).left in
-          subst (IsRuleWithin nonterminals) (sym (get_or_from_slice_get (map rule_from rules) j _ d at)) (record {
+          subst (IsRuleWithin nonterminals) (sym (get_or_from_slice_get (map rule_from rules) j x d at)) (record {
             left = omega (arith, left, is_nonterminals);
             shape = shapes (suc j) has.0 (omega arith) has.1;
           })

@@ -1,3 +1,4 @@
 pub mod FillLemmas
 pub mod FollowLemmas
+pub mod RowLemmas
 pub mod ShapeLemmas
