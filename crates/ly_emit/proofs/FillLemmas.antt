@@ -1,14 +1,15 @@
 -- Rows that are filled, and the tables that they are.
-use Rattle.std.proofs.Common.{◌≡◌, ◌≢◌, ◌∙◌, ◌⊎◌, inl, inr, ℕ, zero, suc, ◌+◌, ◌-◌, ◌<◌, ◌≤◌, ◌&&◌, List, [], ◌∷◌}
+use Rattle.std.proofs.Common.{◌≡◌, ◌≢◌, ◌∙◌, ◌⊎◌, inl, inr, ℕ, zero, suc, ◌+◌, ◌-◌, ◌<◌, ◌&&◌, List}
 use Rattle.std.proofs.Common.{Bool, None, Option, Some, ap, arith, false, length, map, nat_eq, option_map, refl, slice_get}
 use Rattle.std.proofs.Common.{slice_index_or, subst, sym, true}
 use Rattle.std.specs.Prelude.{replicate, if◌then◌else◌}
 use Rattle.std.proofs.lemmas.Bool.{and_from, cases_eq, cases_lt, cond-false, cond-true, eq-eqb, eqb-true}
+use Rattle.std.proofs.lemmas.List.{length-replicate}
 use Rattle.std.proofs.Math.ListN.{length-map}
 use Rattle.std.proofs.lemmas.Option.{get_or_from_slice_get, slice_get_within}
 use Rattle.ly_base.specs.declared.numbers.RuleNo.{RuleNo}
 use Rattle.ly_base.specs.declared.numbers.StateNo.{StateNo}
-use Rattle.ly_join.specs.Grammar.{IsGrammar, IsRule, Rule, nonterminal, terminal}
+use Rattle.ly_join.specs.Grammar.{IsGrammar, nonterminal, terminal}
 use Rattle.ly_join.specs.Joined.{Spec}
 use Rattle.ly_grammar.specs.Reduction.{KeepsUseful}
 use Rattle.ly_grammar.proofs.ItemLemmas.{body_of}
@@ -123,9 +124,11 @@ module _ (s : Spec) (M : Automaton) (is : IsAutomaton M) (useful : KeepsUseful s
     (terminals nonterminals : ℕ) (actions : Entries code.TableAction) (gotos : Entries StateNo)
     (defaults : List (Option RuleNo)) (rules : List rule.TableRule) (is_terminals : terminals ≡ s.grammar.terminals)
     (is_nonterminals : nonterminals ≡ s.grammar.accept) (are_none : defaults ≡ replicate (length M.states) None)
-    (count : length defaults ≡ length M.states)
     (done : AreActionsTo M (judge_of s) (length M.states) actions) (led : AreGotosTo M (length M.states) gotos)
     (all : AreRulesTo s (length s.grammar.rules) (map rule_from rules)) where
+  count : length defaults ≡ length M.states
+  count = ap length are_none ∙ length-replicate (length M.states) None
+
   abbrev made : Machine
   made = machine_from terminals nonterminals actions gotos defaults rules
 

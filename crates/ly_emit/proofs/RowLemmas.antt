@@ -1,28 +1,29 @@
 -- What stands in the rows that tables are filled from.
-use Rattle.std.proofs.Common.{◌≡◌, ◌≢◌, ◌∙◌, inl, inr, ℕ, zero, suc, ◌+◌, ◌-◌, ◌<◌, ◌≤◌, List, [], ◌∷◌, ◌++◌}
-use Rattle.std.proofs.Common.{None, Option, Some, ap, arith, length, map, option_map, refl, slice_get, slice_index_or}
+use Rattle.std.proofs.Common.{◌≡◌, ◌∙◌, inl, inr, ℕ, zero, suc, ◌+◌, ◌-◌, ◌<◌, ◌≤◌, List, [], ◌∷◌, ◌++◌}
+use Rattle.std.proofs.Common.{Some, ap, arith, length, map, option_map, refl, slice_get, slice_index_or}
 use Rattle.std.proofs.Common.{subst, sym}
 use Rattle.std.proofs.lemmas.Bool.{cases_eq}
-use Rattle.std.proofs.lemmas.List.{length-append, length-map, map-append}
+use Rattle.std.proofs.lemmas.List.{length-append, map-append}
 use Rattle.std.proofs.lemmas.Option.{get_or_from_slice_get, slice_get-get_or, slice_get-map, slice_get_within}
+use Rattle.ly_base.specs.Shape.{shape_of}
 use Rattle.ly_join.specs.Grammar.{Grammar, IsAugmented, IsRule, Rule, Symbol, nonterminal, symbol_of}
-use Rattle.ly_join.specs.Joined.{Spec}
-use Rattle.ly_lr0.specs.Automaton.{Automaton, IsAutomaton, goto_of, prefix_of, state_at, target_of}
+use Rattle.ly_join.specs.Joined.{Spec, note_of}
+use Rattle.ly_join.specs.declared.rule.RuleNote.{RuleNote}
+use Rattle.ly_lr0.specs.Automaton.{Automaton, IsAutomaton, goto_of, state_at, target_of}
 use Rattle.ly_lr0.specs.Transitions.{transition_of}
 use Rattle.ly_lr0.specs.declared.transition.Transition as code
 use Rattle.ly_relate.proofs.GotoLemmas.{Contains_at, at_Contains, goto_at, has_target, nowhere, target_has}
 use Rattle.ly_relate.proofs.LeaveLemmas.{no_accept_transition, symbol_named}
-use Rattle.ly_pack.specs.Machine.{TableRule}
 use Rattle.ly_pack.specs.Values.{rule_from}
 use Rattle.ly_pack.specs.declared.rule.TableRule as rule
 use Rattle.ly_resolve.proofs.RawLemmas.{raw_within, state_there}
 use Rattle.ly_resolve.specs.Actions.{Action, IsAction, IsRaw, Judge, error, reduce, shift}
-use Rattle.ly_resolve.specs.Resolved.{Entry, IsRow}
+use Rattle.ly_resolve.specs.Resolved.{IsRow}
 use Rattle.ly_resolve.specs.Values.{action_from, entry_from}
 use Rattle.ly_resolve.specs.declared.action.Entry as entry
 use Rattle.ly_emit.proofs.FillLemmas.{mapped_some}
 use Rattle.ly_emit.specs.Private.Filling.{AreRulesTo}
-use Rattle.ly_emit.specs.Tables.{shape_in}
+use Rattle.ly_emit.specs.Tables.{shape_from, shape_in}
 
 -- TRANSITIONS
 
@@ -138,3 +139,9 @@ rules_more s n old new v r some before is e pushed = record {
   where
     whole : map rule_from new ≡ map rule_from old ++ rule_from v ∷ []
     whole = ap (map rule_from) pushed ∙ map-append rule_from old (v ∷ [])
+
+-- what the note of a rule makes
+pub noted : (s : Spec) (notes : List RuleNote) (n : ℕ) (note : RuleNote) → map note_of notes ≡ s.notes
+    → n < length notes → note ≡ slice_index_or notes n note → shape_in s n ≡ shape_of note.tree
+noted s notes n note e lt is = ap shape_from (ap (λ w. slice_get w n) (sym e) ∙ slice_get-map note_of notes n
+    ∙ ap (option_map note_of) (slice_get-get_or notes n note lt ∙ ap Some (sym is)))

@@ -1,6 +1,6 @@
 -- What a yacc file makes of trees speaks of places of its bodies.
-use Rattle.std.proofs.Common.{◌≡◌, ◌∙◌, ◌⊎◌, inl, inr, ℕ, zero, suc, ◌+◌, ◌<◌, ◌≤◌, List, [], ◌∷◌, ◌++◌, Some, None}
-use Rattle.std.proofs.Common.{All, Contains, Option, Bool, ap, arith, false, length, map, nat_eq, option_map, refl}
+use Rattle.std.proofs.Common.{◌≡◌, ◌∙◌, inl, inr, ℕ, zero, suc, ◌≤◌, List, [], ◌∷◌, ◌++◌, Some, None}
+use Rattle.std.proofs.Common.{All, Option, ap, arith, false, length, map, nat_eq, option_map, refl}
 use Rattle.std.proofs.Common.{slice_get, subst, sym, true}
 use Rattle.std.specs.List.{AllPairs, AllZip, list_any}
 use Rattle.std.proofs.lemmas.Bool.{eq-eqb}
@@ -11,18 +11,15 @@ use Rattle.ly_base.specs.Language.{IsName}
 use Rattle.ly_base.specs.declared.language.Language.TheVariants.{Lex}
 use Rattle.ly_yaccread.specs.Actions.{ActionPassed, IsPlace, Making, MorePlaces, Places, ValueFirst, build, builds}
 use Rattle.ly_yaccread.specs.Actions.{default, last, more, none, pass, passes, some}
-use Rattle.ly_yaccread.specs.File.{Written}
 use Rattle.ly_yaccread.specs.Rules.{BodyEnd, LateAction, Ruling, YaccRules, end, rule, semicolon}
 use Rattle.ly_yaccread.specs.Words.{Word}
-use Rattle.ly_yaccread.specs.YaccText.{YaccText}
-use Rattle.ly_join.specs.Grammar.{IsRule, Rule, Symbol}
-use Rattle.ly_join.specs.Joined.{AreJoined, IsJoinedRule, Joined, Note, Spec, SymbolTable, shape_by, table_of}
-use Rattle.ly_join.specs.Scanning.{Scanning}
+use Rattle.ly_join.specs.Grammar.{Rule, Symbol}
+use Rattle.ly_join.specs.Joined.{AreJoined, IsJoinedRule, Note, SymbolTable, shape_by, table_of}
 use Rattle.ly_join.proofs.NumberingLemmas.{any_member}
 use Rattle.ly_pack.specs.Machine.{IsShapeFor}
 use Rattle.ly_resolve.proofs.MeetingLemmas.{AllPairs-append}
 use Rattle.ly_emit.specs.Laws.{ShapesAreWithin}
-use Rattle.ly_emit.specs.Tables.{AreShapesWithin, shape_from, shape_in}
+use Rattle.ly_emit.specs.Tables.{shape_from}
 
 -- Places of a body of so many symbols, each once.
 record ArePlaces (n : ℕ) (ps : List ℕ) : Type 0 where

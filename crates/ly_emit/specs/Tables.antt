@@ -1,7 +1,7 @@
 -- What a parser does in each state of an automaton, as tables.
-use Rattle.std.specs.Prelude.{◌≡◌, ◌≢◌, ℕ, ◌+◌, ◌<◌, ◌≤◌, List, Option, Some, None, length, slice_get}
+use Rattle.std.specs.Prelude.{◌≡◌, ◌≢◌, ℕ, ◌+◌, ◌<◌, ◌≤◌, Option, Some, None, length, slice_get}
 use Rattle.ly_base.specs.Shape.{Shape, nil}
-use Rattle.ly_join.specs.Grammar.{Grammar, IsRule, Rule, nonterminal, terminal}
+use Rattle.ly_join.specs.Grammar.{IsRule, Rule, nonterminal, terminal}
 use Rattle.ly_join.specs.Joined.{Note, Spec}
 use Rattle.ly_lr0.specs.Automaton.{Automaton, goto_of, prefix_of}
 use Rattle.ly_pack.specs.Defaults.{HasDefaultsOf}

@@ -1,10 +1,10 @@
 //! The tables of a parser, without defaults.
-ghost use Rattle.std.specs.Prelude.{◌≡◌, ◌+◌, ◌<◌, length, map, IfOk, OnOk};
-ghost use Rattle.ly_lr0.specs.Automaton.{prefix_of, state_at, IsAutomaton};
-ghost use Rattle.ly_lr0.specs.Transitions.{transition_of};
+ghost use Rattle.std.specs.Prelude.{◌≡◌, ◌+◌, ◌<◌, length, map, replicate, IfOk, None, OnOk};
+ghost use Rattle.ly_join.specs.Grammar.{IsGrammar};
+ghost use Rattle.ly_lr0.specs.Automaton.{prefix_of, IsAutomaton};
 ghost use Rattle.ly_pack.specs.Rows.{dense_entry};
 ghost use Rattle.ly_pack.specs.Values.{action_from as entry_action, rule_from};
-ghost use Rattle.ly_resolve.specs.Actions.{shift, IsRaw, Judge};
+ghost use Rattle.ly_resolve.specs.Actions.{shift, IsRaw};
 ghost use Rattle.ly_resolve.specs.Precedence.{judge_of};
 ghost use Rattle.ly_resolve.specs.Resolved.{IsRow};
 ghost use Rattle.ly_resolve.specs.Values.{action_from, entry_from};
@@ -28,19 +28,27 @@ pub fn machine(
     requires { AreShapesWithin resolved.now.spec }
     ensures { IfOk result (AreTables resolved.now.spec resolved.now.automaton) }
 {
-    let grammar = resolved.spec().grammar();
-    let defaults = vec![in alloc; None; resolved.lr0().states()]?;
+    let spec = resolved.spec();
+    let lr0 = resolved.lr0();
+    let defaults = no_defaults(alloc, lr0.states())?;
     let actions = action_rows(alloc, resolved)?;
-    let gotos = goto_rows(alloc, resolved.lr0())?;
-    let rules = table_rules(alloc, resolved.spec())?;
+    let gotos = goto_rows(alloc, lr0)?;
+    let rules = table_rules(alloc, spec)?;
     Ok(Machine::new(
-        grammar.terminals() as usize,
-        grammar.accept().0 as usize,
+        spec.grammar().terminals() as usize,
+        spec.grammar().accept().0 as usize,
         actions,
         gotos,
         defaults,
         rules,
     ))
+}
+
+/// No default in any of so many states.
+fn no_defaults(alloc: Global, states: usize) -> Result<Vec<Option<RuleNo>>, OutOfMemory>
+    ensures { IfOk result (λ defaults. defaults.items ≡ replicate states None) }
+{
+    Ok(vec![in alloc; None; states]?)
 }
 
 /// What is done in each state before each terminal.
@@ -149,7 +157,9 @@ fn fill_gotos(lr0: &Lr0<'_>, state: StateNo, gotos: &mut Dense<StateNo>)
 
 /// The rules but rule 0.
 fn table_rules(alloc: Global, spec: &Spec) -> Result<Vec<TableRule>, OutOfMemory>
-    ensures { IfOk result (λ rules. AreRulesTo spec.now (length spec.now.grammar.rules) (map rule_from rules.items)) }
+    ensures rules { IfOk result (λ rules. AreRulesTo spec.now (length spec.now.grammar.rules)
+        (map rule_from rules.items)) }
+    ensures lawful { IsGrammar spec.now.grammar }
 {
     let grammar = spec.grammar();
     let notes = spec.notes();

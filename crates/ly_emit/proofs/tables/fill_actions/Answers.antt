@@ -1,4 +1,4 @@
-use Rattle.std.proofs.Common.{◌≡◌, ◌∙◌, ◌+◌, ◌<◌, Some, ap, arith, inl, inr, map, refl, slice_get, slice_index_or}
+use Rattle.std.proofs.Common.{◌≡◌, ◌∙◌, Some, ap, arith, inl, inr, map, refl, slice_get, slice_index_or}
 use Rattle.std.proofs.Common.{subst, sym}
 use Rattle.std.proofs.lemmas.Bool.{cases_eq}
 use Rattle.std.proofs.lemmas.List.{length-map}
@@ -11,7 +11,6 @@ use Rattle.ly_resolve.specs.Actions.{IsRaw, shift}
 use Rattle.ly_resolve.specs.Precedence.{judge_of}
 use Rattle.ly_resolve.specs.Values.{action_from, entry_from}
 use Rattle.ly_resolve.specs.declared.action.Action.TheVariants.{Shift}
-use Rattle.ly_resolve.specs.declared.action.Entry as code
 use Rattle.ly_emit.specs.Private.Filling.{IsActionAt, IsAskedAt}
 use Rattle.ly_emit.specs.Tables.{IsEntryFor}
 use Rattle.ly_emit.proofs.FillLemmas.{filled_more, put_filled, put_none}

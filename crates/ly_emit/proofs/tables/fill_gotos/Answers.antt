@@ -1,11 +1,11 @@
-use Rattle.std.proofs.Common.{◌≡◌, ◌∙◌, ◌+◌, ◌<◌, ◌&&◌, ℕ, None, Some, ap, arith, inl, inr, nat_eq, refl, slice_index_or}
+use Rattle.std.proofs.Common.{◌≡◌, ◌∙◌, ◌&&◌, ℕ, Some, ap, arith, inl, inr, nat_eq, refl, slice_index_or}
 use Rattle.std.proofs.Common.{subst, sym}
 use Rattle.std.specs.Prelude.{if◌then◌else◌}
 use Rattle.std.proofs.lemmas.Bool.{cases_eq}
 use Rattle.ly_join.specs.Grammar.{nonterminal, symbol_of, terminal}
 use Rattle.ly_pack.specs.Rows.{dense_entry}
 use Rattle.ly_relate.proofs.GotoLemmas.{nowhere}
-use Rattle.ly_emit.specs.Private.Filling.{IsGotoAt, IsLedAt}
+use Rattle.ly_emit.specs.Private.Filling.{AreGotosTo, IsGotoAt, IsLedAt}
 use Rattle.ly_emit.proofs.FillLemmas.{filled_more, put_filled, put_none}
 use Rattle.ly_emit.proofs.RowLemmas.{found_at, led_at, led_within}
 use Rattle.ly_emit.proofs.tables.fill_gotos.Goals as goal
@@ -54,7 +54,20 @@ loop-transition-preserved c =
                   | inr off ↦ inv.seen j B (omega (arith, lt, off)) is before.0
                 ];
           }
-      | in_default w ↦ ?
+      | in_default w ↦ record {
+        rows = ap (λ d. d.rows) w.gotos-is ∙ inv.rows;
+        width = ap (λ d. d.width) w.gotos-is ∙ inv.width;
+        filled = subst (λ d. AreGotosTo M k (dense_entry d)) (sym w.gotos-is) inv.filled;
+        seen = λ j B lt is none. elim (cases_eq j i) [
+          | inl same ↦
+              let e : terminal w.in_default.field-0.0 ≡ nonterminal B
+              = sym (ap symbol_of w.in_default.is)
+              ∙ (ap (λ n. symbol_of (slice_index_or ts n nowhere).symbol) (sym same) ∙ is) in
+              absurd cc
+          | inr off ↦ inv.seen j B (omega (arith, lt, off)) is
+              (ap (λ d. dense_entry d k B) (sym w.gotos-is) ∙ none)
+        ];
+      }
     ]
 
 pub returns-clause-filled : goal.returns-clause-filled

@@ -1,4 +1,4 @@
-use Rattle.std.proofs.Common.{◌≡◌, ◌≢◌, ◌∙◌, Some, subst, sym, refl}
+use Rattle.std.proofs.Common.{◌∙◌, subst, sym, refl}
 use Rattle.std.specs.Prelude.{IsSome}
 use Rattle.ly_resolve.proofs.RawLemmas.{terminal_shifted}
 use Rattle.ly_emit.proofs.FillLemmas.{mapped_some}
