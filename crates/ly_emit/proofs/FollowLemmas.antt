@@ -1,13 +1,13 @@
 -- Tables follow the reference machine.
-use Rattle.std.proofs.Common.{◌≡◌, ◌≢◌, ◌∙◌, ◌⊎◌, inl, inr, ℕ, zero, suc, ◌+◌, ◌-◌, ◌<◌, ◌≤◌, List, [], ◌∷◌, ◌++◌, Some, None}
-use Rattle.std.proofs.Common.{Option, Bool, IsTrue, true, false, ap, arith, filter, length, nat_eq, refl, slice_get, subst}
+use Rattle.std.proofs.Common.{◌≡◌, ◌∙◌, ◌⊎◌, inl, inr, ℕ, ◌-◌, ◌<◌, ◌≤◌, List, [], ◌∷◌, ◌++◌, Some, None}
+use Rattle.std.proofs.Common.{Option, Bool, true, false, ap, arith, filter, length, nat_eq, refl, slice_get, subst}
 use Rattle.std.proofs.Common.{sym, if◌then◌else◌}
 use Rattle.std.proofs.lemmas.Bool.{eqb-true}
 use Rattle.std.proofs.lemmas.Option.{slice_get-get_or}
 use Rattle.std.specs.Prelude.{slice_index_or}
 use Rattle.ly_base.specs.Lexed.{Token}
 use Rattle.ly_base.specs.Shape.{Shape}
-use Rattle.ly_base.specs.Trees.{Tree, Trees, leaf, node, none, more}
+use Rattle.ly_base.specs.Trees.{Trees, leaf, node, none, more}
 use Rattle.ly_join.specs.Grammar.{Grammar, IsRule, Rule, Symbol, nonterminal, terminal}
 use Rattle.ly_join.specs.Joined.{Spec}
 use Rattle.ly_grammar.specs.Items.{InLookahead, IsNextSymbol, IsViable, Merges, Valid, moved, onto}

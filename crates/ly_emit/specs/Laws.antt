@@ -2,7 +2,8 @@
 use Rattle.std.specs.Prelude.{◌≡◌, ℕ, ◌<◌, List, [], ◌∷◌, ◌++◌, All}
 use Rattle.ly_base.specs.Lexed.{Token}
 use Rattle.ly_grammar.specs.Reduction.{KeepsUseful}
-use Rattle.ly_join.specs.Joined.{Spec}
+use Rattle.ly_join.specs.Joined.{Joined, Spec}
+use Rattle.ly_join.specs.Scanning.{Scanning}
 use Rattle.ly_lr0.specs.Automaton.{Automaton, IsAutomaton}
 use Rattle.ly_pack.specs.Machine.{Machine, IsMachine}
 use Rattle.ly_pack.specs.Steady.{IsSteady}
@@ -11,8 +12,10 @@ use Rattle.ly_parse.specs.Feeding.{Fed, Feeds, Level, done, refused}
 use Rattle.ly_resolve.specs.Machine.{AcceptsWith, Ends, Pushed, RefusesAfter}
 use Rattle.ly_resolve.specs.Precedence.{judge_of}
 use Rattle.ly_tree.specs.Term.{Term, build}
+use Rattle.ly_yaccread.specs.File.{Written}
+use Rattle.ly_yaccread.specs.YaccText.{YaccText}
 use Rattle.ly_emit.specs.Following.{Follows, Mirrors, Reads}
-use Rattle.ly_emit.specs.Tables.{IsMachineOf, shape_in}
+use Rattle.ly_emit.specs.Tables.{AreShapesWithin, IsMachineOf, shape_in}
 
 -- What tables with defaults do with a token, the reference machine does too: a default stands for a reduction that is
 -- done, or leads to no token.
@@ -46,3 +49,8 @@ abbrev pub RunsEndOnSteady : Type 0
 RunsEndOnSteady = (s : Spec) (M : Automaton) (n : Machine) → IsAutomaton M → KeepsUseful s.grammar M.grammar
     → IsMachineOf s M n → IsMachine n → IsSteady n → (tokens : List (Token ℕ)) (end : Token ℕ) → end.terminal ≡ 0
     → AreOf M (tokens ++ end ∷ []) → Ends M.grammar (judge_of s) (tokens ++ end ∷ [])
+
+-- What the rules of a yacc file make of the trees of their bodies speaks of places of the bodies, of each once.
+abbrev pub ShapesAreWithin : Type 0
+ShapesAreWithin = (bytes : List ℕ) (x : Scanning) (w : Written) (s : Spec) → YaccText bytes w → Joined x w s
+    → AreShapesWithin s

@@ -1,3 +1,4 @@
 pub mod Following
 pub mod Laws
+pub mod Private
 pub mod Tables

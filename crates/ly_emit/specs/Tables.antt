@@ -1,11 +1,12 @@
 -- What a parser does in each state of an automaton, as tables.
-use Rattle.std.specs.Prelude.{◌≡◌, ◌≢◌, ℕ, ◌+◌, ◌<◌, ◌≤◌, List, Option, Some, None, length, slice_get}
+use Rattle.std.specs.Prelude.{◌≡◌, ◌≢◌, ℕ, ◌+◌, ◌<◌, ◌≤◌, Option, Some, None, length, slice_get}
 use Rattle.ly_base.specs.Shape.{Shape, nil}
-use Rattle.ly_join.specs.Grammar.{Grammar, IsRule, Rule, nonterminal, terminal}
+use Rattle.ly_join.specs.Grammar.{IsRule, Rule, nonterminal, terminal}
 use Rattle.ly_join.specs.Joined.{Note, Spec}
 use Rattle.ly_lr0.specs.Automaton.{Automaton, goto_of, prefix_of}
 use Rattle.ly_pack.specs.Defaults.{HasDefaultsOf}
-use Rattle.ly_pack.specs.Machine.{Machine, TableAction, accept, entry_at, goto_at, states_of}
+use Rattle.ly_pack.specs.Machine.{Machine, TableAction, IsShapeFor, accept, entry_at, goto_at}
+use Rattle.ly_pack.specs.Machine.{states_of}
 use Rattle.ly_pack.specs.Machine as table
 use Rattle.ly_pack.specs.Steady.{rule_at}
 use Rattle.ly_resolve.specs.Actions.{Action, IsAction, IsRefused, error, reduce, shift}
@@ -52,6 +53,10 @@ pub record AreTables (s : Spec) (M : Automaton) (m : Machine) : Type 0 where
       → rule_at m p ≡ Some (record { left = r.left; body_length = length r.body; shape = shape_in s p })
   pub numbers : length m.rules + 1 ≡ length s.grammar.rules
   pub no_default : (k p : ℕ) → slice_get m.defaults k ≢ Some (Some p)
+
+-- What each rule but rule 0 makes of the trees of its body speaks of places of the body alone, and of each once.
+abbrev pub AreShapesWithin : Spec → Type 0
+AreShapesWithin s = (p : ℕ) (r : Rule) → 1 ≤ p → IsRule s.grammar p r → IsShapeFor (length r.body) (shape_in s p)
 
 -- The machine is that of the specification: its tables, with default reductions.
 abbrev pub IsMachineOf : Spec → Automaton → Machine → Type 0

@@ -1,4 +1,4 @@
-ghost use Rattle.ly_emit.specs.Laws.{AcceptedFollow, RefusedFollow, RunsEndOnSteady, TablesFollow};
+ghost use Rattle.ly_emit.specs.Laws.{AcceptedFollow, RefusedFollow, RunsEndOnSteady, ShapesAreWithin, TablesFollow};
 
 /// What tables with defaults do with a token, the reference machine does too.
 pub fn tables_follow()
@@ -11,4 +11,9 @@ pub fn runs_follow()
     ensures accepted { AcceptedFollow }
     ensures refused { RefusedFollow }
     ensures ends { RunsEndOnSteady }
+{}
+
+/// What the rules of a yacc file make of the trees of their bodies speaks of places of the bodies, of each once.
+pub fn shapes_are_within()
+    ensures { ShapesAreWithin }
 {}

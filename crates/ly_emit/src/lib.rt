@@ -1,8 +1,14 @@
 //! From what a parser does in each state of an automaton to its tables.
 //!
-//! That the tables follow the reference machine, defaults among them, is a law (`tables_follow`).
+//! `machine` writes them out: for each state what is done before each terminal, and where it goes by each nonterminal;
+//! and the rules, those that are removed too, so that their numbers stay. The tables are without defaults. That tables
+//! follow the reference machine, defaults among them, is a law (`tables_follow`).
+//!
+//! Left out: choosing defaults, and laying rows over one another.
 #![tactic(auto)]
 
 mod laws;
+mod tables;
 
-pub use laws::{runs_follow, tables_follow};
+pub use laws::{runs_follow, shapes_are_within, tables_follow};
+pub use tables::machine;

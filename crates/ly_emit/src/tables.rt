@@ -1,0 +1,176 @@
+//! The tables of a parser, without defaults.
+ghost use Rattle.std.specs.Prelude.{◌≡◌, ◌+◌, ◌<◌, length, map, replicate, IfOk, None, OnOk};
+ghost use Rattle.ly_join.specs.Grammar.{IsGrammar};
+ghost use Rattle.ly_lr0.specs.Automaton.{prefix_of, IsAutomaton};
+ghost use Rattle.ly_pack.specs.Rows.{dense_entry};
+ghost use Rattle.ly_pack.specs.Values.{action_from as entry_action, rule_from};
+ghost use Rattle.ly_resolve.specs.Actions.{shift, IsRaw};
+ghost use Rattle.ly_resolve.specs.Precedence.{judge_of};
+ghost use Rattle.ly_resolve.specs.Resolved.{IsRow};
+ghost use Rattle.ly_resolve.specs.Values.{action_from, entry_from};
+ghost use Rattle.ly_emit.specs.Private.Filling.{AreActionsTo, AreGotosTo, AreRulesTo};
+ghost use Rattle.ly_emit.specs.Tables.{AreShapesWithin, AreTables, IsEntryFor};
+
+use ly_base::{OutOfMemory, RuleNo, StateNo, Sym};
+use ly_join::{Spec, Symbol};
+use ly_lr0::Lr0;
+use ly_pack::{Dense, Machine, TableAction, TableRule};
+use ly_resolve::{Action, Entry, Resolved};
+use std::alloc::Global;
+
+/// The tables of what a parser does in each state, without defaults.
+///
+/// `OutOfMemory` comes where a growth was refused, or where the number of a rule is past what tables hold.
+pub fn machine(
+    alloc: Global,
+    resolved: &Resolved<'_>,
+) -> Result<Machine<Dense<TableAction>, Dense<StateNo>>, OutOfMemory>
+    requires { AreShapesWithin resolved.now.spec }
+    ensures { IfOk result (AreTables resolved.now.spec resolved.now.automaton) }
+{
+    let spec = resolved.spec();
+    let lr0 = resolved.lr0();
+    let defaults = no_defaults(alloc, lr0.states())?;
+    let actions = action_rows(alloc, resolved)?;
+    let gotos = goto_rows(alloc, lr0)?;
+    let rules = table_rules(alloc, spec)?;
+    Ok(Machine::new(
+        spec.grammar().terminals() as usize,
+        spec.grammar().accept().0 as usize,
+        actions,
+        gotos,
+        defaults,
+        rules,
+    ))
+}
+
+/// No default in any of so many states.
+fn no_defaults(alloc: Global, states: usize) -> Result<Vec<Option<RuleNo>>, OutOfMemory>
+    ensures { IfOk result (λ defaults. defaults.items ≡ replicate states None) }
+{
+    Ok(vec![in alloc; None; states]?)
+}
+
+/// What is done in each state before each terminal.
+fn action_rows(alloc: Global, resolved: &Resolved<'_>) -> Result<Dense<TableAction>, OutOfMemory>
+    ensures { IfOk result (λ d. AreActionsTo resolved.now.automaton (judge_of resolved.now.spec)
+        (length resolved.now.automaton.states) (dense_entry d)) }
+{
+    let lr0 = resolved.lr0();
+    let terminals = resolved.spec().grammar().terminals();
+    let mut actions = Dense::new(alloc, lr0.states(), terminals as usize)?;
+    for state in 0..lr0.states() {
+        let state = StateNo(state as u32);
+        fill_actions(resolved, state, resolved.row(state), &mut actions)?;
+    }
+    Ok(actions)
+}
+
+/// Fills in what is done in a state.
+fn fill_actions(
+    resolved: &Resolved<'_>,
+    state: StateNo,
+    row: &[Entry],
+    actions: &mut Dense<TableAction>,
+) -> Result<(), OutOfMemory>
+    requires lawful { IsAutomaton resolved.now.automaton }
+    requires state { state.0 < length resolved.now.automaton.states }
+    requires row { IsRow resolved.now.automaton.grammar (judge_of resolved.now.spec)
+        (prefix_of resolved.now.automaton state.0) (map entry_from row.now) }
+    requires rows { actions.old.rows ≡ length resolved.now.automaton.states }
+    requires width { actions.old.width ≡ resolved.now.automaton.grammar.terminals }
+    requires before { AreActionsTo resolved.now.automaton (judge_of resolved.now.spec) state.0
+        (dense_entry actions.old) }
+    ensures rows { actions.new.rows ≡ actions.old.rows }
+    ensures width { actions.new.width ≡ actions.old.width }
+    ensures filled { OnOk result (AreActionsTo resolved.now.automaton (judge_of resolved.now.spec) (state.0 + 1)
+        (dense_entry actions.new)) }
+{
+    for entry in row {
+        let action = table_action(resolved.lr0(), state, *entry)?;
+        actions.set(state, entry.terminal.0 as usize, Some(action));
+    }
+    Ok(())
+}
+
+/// What the table has where this is done.
+fn table_action(lr0: &Lr0<'_>, state: StateNo, entry: Entry) -> Result<TableAction, OutOfMemory>
+    requires lawful { IsAutomaton lr0.now }
+    requires state { state.0 < length lr0.now.states }
+    requires shifted { action_from entry.action ≡ shift
+        → IsRaw lr0.now.grammar (prefix_of lr0.now state.0) entry.terminal.0 shift }
+    ensures { IfOk result (λ a. IsEntryFor lr0.now state.0 entry.terminal.0 (action_from entry.action)
+        (entry_action a)) }
+{
+    match entry.action {
+        Action::Shift => Ok(shift_action(lr0, state, entry.terminal)),
+        Action::Reduce(rule) => match u32::try_from(rule) {
+            Ok(number) => Ok(TableAction::Reduce(RuleNo(number))),
+            Err(_) => Err(OutOfMemory),
+        },
+        Action::Error => Ok(TableAction::Error),
+    }
+}
+
+/// Where a terminal is shifted to; the end is accepted.
+fn shift_action(lr0: &Lr0<'_>, state: StateNo, terminal: Sym) -> TableAction
+    requires lawful { IsAutomaton lr0.now }
+    requires state { state.0 < length lr0.now.states }
+    requires shifted { IsRaw lr0.now.grammar (prefix_of lr0.now state.0) terminal.0 shift }
+    ensures { IsEntryFor lr0.now state.0 terminal.0 shift (entry_action result) }
+{
+    if terminal.0 == 0 {
+        return TableAction::Accept;
+    }
+    TableAction::Shift(lr0.goto(state, Symbol::Terminal(terminal)).unwrap())
+}
+
+/// Where each state goes by each nonterminal.
+fn goto_rows(alloc: Global, lr0: &Lr0<'_>) -> Result<Dense<StateNo>, OutOfMemory>
+    ensures { IfOk result (λ d. AreGotosTo lr0.now (length lr0.now.states) (dense_entry d)) }
+{
+    let nonterminals = lr0.reduced().grammar().accept().0;
+    let mut gotos = Dense::new(alloc, lr0.states(), nonterminals as usize)?;
+    for state in 0..lr0.states() {
+        fill_gotos(lr0, StateNo(state as u32), &mut gotos);
+    }
+    Ok(gotos)
+}
+
+/// Fills in where a state goes by nonterminals.
+fn fill_gotos(lr0: &Lr0<'_>, state: StateNo, gotos: &mut Dense<StateNo>)
+    requires lawful { IsAutomaton lr0.now }
+    requires state { state.0 < length lr0.now.states }
+    requires rows { gotos.old.rows ≡ length lr0.now.states }
+    requires width { gotos.old.width ≡ lr0.now.grammar.accept }
+    requires before { AreGotosTo lr0.now state.0 (dense_entry gotos.old) }
+    ensures rows { gotos.new.rows ≡ gotos.old.rows }
+    ensures width { gotos.new.width ≡ gotos.old.width }
+    ensures filled { AreGotosTo lr0.now (state.0 + 1) (dense_entry gotos.new) }
+{
+    for transition in lr0.transitions(state) {
+        if let Symbol::Nonterminal(left) = transition.symbol {
+            gotos.set(state, left.0 as usize, Some(transition.target));
+        }
+    }
+}
+
+/// The rules but rule 0.
+fn table_rules(alloc: Global, spec: &Spec) -> Result<Vec<TableRule>, OutOfMemory>
+    ensures rules { IfOk result (λ rules. AreRulesTo spec.now (length spec.now.grammar.rules)
+        (map rule_from rules.items)) }
+    ensures lawful { IsGrammar spec.now.grammar }
+{
+    let grammar = spec.grammar();
+    let notes = spec.notes();
+    let mut rules = Vec::new(alloc);
+    for number in 1..grammar.rules().len() {
+        let rule = grammar.rule(number);
+        rules.push(TableRule {
+            left: rule.left(),
+            body_length: rule.body().len(),
+            tree: notes[number].tree.copied(alloc)?,
+        })?;
+    }
+    Ok(rules)
+}
