@@ -1,13 +1,14 @@
 -- Rows of bits: windows of them, and words that are full.
-use Rattle.std.proofs.Common.{◌≡◌, ◌≢◌, ◌∙◌, ◌<◌, ◌≤◌, ◌+◌, ◌-◌, ◌*◌, ◌/◌, ◌%◌, ◌^◌, ◌++◌, ◌∷◌, [], ℕ, List, length, bit_or, max}
-use Rattle.std.proofs.Common.{refl, sym, ap, ap₂, subst, arith, inl, inr, ◌⊎◌, get_or, set, get_or-set_same}
+use Rattle.std.proofs.Common.{◌≡◌, ◌≢◌, ◌∙◌, ◌<◌, ◌≤◌, ◌+◌, ◌-◌, ◌*◌, ◌/◌, ◌%◌, ◌^◌, ◌++◌, ◌∷◌, [], ℕ, List, length}
+use Rattle.std.proofs.Common.{bit_or, max}
+use Rattle.std.proofs.Common.{sym, ap, ap₂, arith, inl, inr, ◌⊎◌, get_or, set, get_or-set_same}
 use Rattle.std.proofs.Common.{get_or-set_other, w64}
 use Rattle.std.specs.Int.{bit_at}
 use Rattle.std.proofs.lemmas.List.{get_or_past, get_or_push, get_or_append_left, length_push}
 use Rattle.std.proofs.lemmas.Bool.{cases_eq, cases_lt, cases_order}
 use Rattle.std.proofs.lemmas.Nat.{shr-shr, shr_split, pow_pos}
 use Rattle.std.proofs.lemmas.Nat.Bits.{bit_at-zero, bit_at_or, bit_at_cat_low, bit_at_cat_high, bit_at_above, bit_at-lt}
-use Rattle.std.proofs.lemmas.Nat.Bits.{bit_at_ones, bit_at_set_same, bit_at_set_other, bit_at-trailing_ones}
+use Rattle.std.proofs.lemmas.Nat.Bits.{bit_at_ones, bit_at_set_same, bit_at_set_other}
 use Rattle.ly_pack.specs.Private.Bits.{taken}
 
 bit_at-shr : (n s i : ℕ) → bit_at (n / 2 ^ s) i ≡ bit_at n (s + i)

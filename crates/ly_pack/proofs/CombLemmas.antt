@@ -1,15 +1,16 @@
 -- Combs whose rows are all placed.
-use Rattle.std.proofs.Common.{◌≡◌, ◌≢◌, ◌∙◌, ◌<◌, ◌≤◌, ◌+◌, [], ℕ, suc, List, length, map, replicate, Option, Some, None}
-use Rattle.std.proofs.Common.{refl, sym, ap, subst, arith, inl, inr, ◌⊎◌, ◌↔◌, slice_get, get_or, nat_lt, nat_eq, lt-ltb}
+use Rattle.std.proofs.Common.{◌≡◌, ◌∙◌, ◌<◌, ◌≤◌, ◌+◌, ℕ, List, length, Option, Some, None}
+use Rattle.std.proofs.Common.{refl, sym, ap, arith, inl, inr, ◌⊎◌, slice_get, get_or, nat_lt, nat_eq, lt-ltb}
 use Rattle.std.specs.Prelude.{option_and_then, option_map}
 use Rattle.std.proofs.lemmas.Bool.{cases_lt, cases_eq, cond-true, cond-false, eq-eqb, ne_eqb, le-ltb}
-use Rattle.std.proofs.lemmas.List.{length-map, length-replicate, get_or-replicate}
-use Rattle.std.proofs.lemmas.Option.{same_Some, none-some, slice_get_past, slice_get_within, slice_get-map, slice_get-get_or}
+use Rattle.std.proofs.lemmas.List.{length-map}
+use Rattle.std.proofs.lemmas.Option.{same_Some, none-some, slice_get_past, slice_get_within, slice_get-map}
+use Rattle.std.proofs.lemmas.Option.{slice_get-get_or}
 use Rattle.ly_pack.specs.Combs.{comb_from, slots_from, used_from}
-use Rattle.ly_pack.specs.Placement.{Has, IsPlaced, Table}
+use Rattle.ly_pack.specs.Placement.{IsPlaced, Table}
 use Rattle.ly_pack.specs.Private.Order.{IsOrder}
-use Rattle.ly_pack.specs.Private.Placing.{AreLaid, Uses, slot_at, slot_of}
-use Rattle.ly_pack.specs.Rows.{Comb, IsComb, Used, comb_entry, given_to}
+use Rattle.ly_pack.specs.Private.Placing.{AreLaid, slot_at, slot_of}
+use Rattle.ly_pack.specs.Rows.{IsComb, Used, comb_entry, given_to}
 use Rattle.ly_pack.specs.declared.comb_rows.Slot.{Slot}
 
 -- what a slot holds, seen in the value
@@ -90,7 +91,8 @@ module _ {E : Type 0} (T : Table E) (order : List ℕ) (ordered : IsOrder T orde
 
   -- what a row finds in its slots
   module _ (row base column : ℕ) (lt : column < T.width) (is : slice_get bases row ≡ Some base) where
-    not_given : T.entries row column ≡ None → (u : Used E) → slice_get (slots_from slots) (base + column) ≡ Some (Some u)
+    not_given : T.entries row column ≡ None → (u : Used E)
+        → slice_get (slots_from slots) (base + column) ≡ Some (Some u)
         → given_to row u ≡ None
     not_given none u at = elim (cases_eq u.row row) [
       | inr other ↦ cond-false (nat_eq u.row row) (Some u.entry) None (ne_eqb u.row row other)
@@ -111,7 +113,8 @@ module _ {E : Type 0} (T : Table E) (order : List ℕ) (ordered : IsOrder T orde
     found : (o : Option E) → T.entries row column ≡ o → option_and_then (λ slot. option_and_then (given_to row) slot)
         (slice_get (slots_from slots) (base + column)) ≡ o
     found None none = empty_slot none (slice_get (slots_from slots) (base + column)) refl
-    found (Some e) some = ap (option_and_then (λ slot. option_and_then (given_to row) slot)) (uses_slot (base + column) row
+    found (Some e) some = ap (option_and_then (λ slot. option_and_then (given_to row) slot)) (uses_slot
+        (base + column) row
         e (base, column, is, lt, some, refl)) ∙ cond-true (nat_eq row row) (Some e) None (eq-eqb row row refl)
 
   pub entries_all : ((row column : ℕ) → (T.rows ≤ row) ⊎ (T.width ≤ column) → T.entries row column ≡ None)

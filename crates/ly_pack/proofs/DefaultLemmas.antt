@@ -1,18 +1,19 @@
 -- A machine with its defaults.
-use Rattle.std.proofs.Common.{◌≡◌, ◌∙◌, ◌<◌, ◌≤◌, ◌+◌, ◌++◌, ◌∷◌, [], ℕ, zero, suc, List, length, map, Option, Some, None}
-use Rattle.std.proofs.Common.{refl, sym, ap, subst, arith, inl, inr, ◌⊎◌, get_or, slice_get, nat_eq, Bool, true, false}
+use Rattle.std.proofs.Common.{◌≡◌, ◌∙◌, ◌<◌, ◌≤◌, ◌+◌, ◌++◌, ◌∷◌, [], ℕ, zero, suc, List, length, map, Option, Some}
+use Rattle.std.proofs.Common.{None}
+use Rattle.std.proofs.Common.{refl, sym, ap, subst, arith, inl, inr, get_or, slice_get, nat_eq, Bool, true, false}
 use Rattle.std.specs.Prelude.{filter, if◌then◌else◌, option_map}
 use Rattle.std.specs.List.{range_with_len}
 use Rattle.std.proofs.Math.ListN.{length-map}
-use Rattle.std.proofs.lemmas.Bool.{cases_lt, cases_Bool, eqb-true, true≢false, false≢true}
+use Rattle.std.proofs.lemmas.Bool.{cases_lt, eqb-true, false≢true}
 use Rattle.std.proofs.lemmas.List.Elements.{filter-append}
 use Rattle.std.proofs.lemmas.Option.{same_Some, none-some, slice_get_within, slice_get-get_or, slice_get-map}
 use Rattle.ly_base.specs.declared.numbers.RuleNo.{RuleNo}
 use Rattle.ly_base.specs.declared.numbers.StateNo.{StateNo}
-use Rattle.ly_pack.specs.Defaults.{HasDefaultsOf, IsDefaultOf, IsMostFrequent, count_by, is_by, without}
-use Rattle.ly_pack.specs.Machine.{IsLegal, IsMachine, IsRuleNumber, Machine, TableAction, accept, entry_at, error, goto_at}
+use Rattle.ly_pack.specs.Defaults.{HasDefaultsOf, IsDefaultOf, count_by, is_by, without}
+use Rattle.ly_pack.specs.Machine.{IsLegal, IsMachine, IsRuleNumber, Machine, TableAction, accept, entry_at, error}
 use Rattle.ly_pack.specs.Machine.{reduce, shift, states_of}
-use Rattle.ly_pack.specs.Private.Tally.{HaveDefaults, IsChosen, left_out, out_by, reductions}
+use Rattle.ly_pack.specs.Private.Tally.{HaveDefaults, IsChosen, out_by, reductions}
 use Rattle.ly_pack.specs.Rows.{Dense, Entries, cell, dense_entry, grid_of}
 use Rattle.ly_pack.specs.Values.{action_from, actions_from, gotos_from, machine_from}
 use Rattle.ly_pack.specs.declared.action.TableAction as code
@@ -87,109 +88,115 @@ legal_same m n t error states rules is = is
 
 module _ (terminals nonterminals : ℕ) (old new : Dense code.TableAction) (gotos : Entries StateNo)
     (before defaults : List (Option RuleNo)) (rules : List rule.TableRule) (long : length defaults ≡ length before)
-    where
-  -- the machine before, and with the defaults
-  abbrev first : Machine
-  first = machine_from terminals nonterminals (dense_entry old) gotos before rules
+  where
+    -- the machine before, and with the defaults
+    abbrev first : Machine
+    first = machine_from terminals nonterminals (dense_entry old) gotos before rules
 
-  abbrev last : Machine
-  last = machine_from terminals nonterminals (dense_entry new) gotos defaults rules
+    abbrev last : Machine
+    last = machine_from terminals nonterminals (dense_entry new) gotos defaults rules
 
-  states_same : states_of last ≡ states_of first
-  states_same = length-map defaults (option_map (λ p. p.0)) ∙ long ∙ sym (length-map before (option_map (λ p. p.0)))
+    states_same : states_of last ≡ states_of first
+    states_same = length-map defaults (option_map (λ p. p.0)) ∙ long ∙ sym (length-map before (option_map (λ p. p.0)))
 
-  entry_first : (state t : ℕ) → state < length before → t < terminals
-      → entry_at first state t ≡ option_map action_from (dense_entry old state t)
-  entry_first state t row column = cell-grid_of (length before) terminals (actions_from (dense_entry old)) state t row
-      column
+    entry_first : (state t : ℕ) → state < length before → t < terminals
+        → entry_at first state t ≡ option_map action_from (dense_entry old state t)
+    entry_first state t row column = cell-grid_of (length before) terminals (actions_from (dense_entry old)) state t row
+        column
 
-  long_last : length last.defaults ≡ length defaults
-  long_last = length-map defaults (option_map (λ p. p.0))
+    long_last : length last.defaults ≡ length defaults
+    long_last = length-map defaults (option_map (λ p. p.0))
 
-  -- a rule that is counted is one of the machine's
-  pub counted_legal : IsMachine first → (state p : ℕ) → state < length before
-      → 1 ≤ reductions (dense_entry old) terminals state p → IsRuleNumber first p
-  counted_legal so state p row some = let found = reductions_in (dense_entry old) state p terminals some in
-      so.actions state found.0 (reduce p) (entry_first state found.0 row found.1
-      ∙ is_by_some p (option_map action_from (dense_entry old state found.0)) found.2)
+    -- a rule that is counted is one of the machine's
+    pub counted_legal : IsMachine first → (state p : ℕ) → state < length before
+        → 1 ≤ reductions (dense_entry old) terminals state p → IsRuleNumber first p
+    counted_legal so state p row some = let found = reductions_in (dense_entry old) state p terminals some in
+        so.actions state found.0 (reduce p) (entry_first state found.0 row found.1
+        ∙ is_by_some p (option_map action_from (dense_entry old state found.0)) found.2)
 
-  module _ (so : HaveDefaults terminals old new defaults) where
-    count_is : (state p : ℕ) → state < length before
-        → reductions (dense_entry old) terminals state p ≡ count_by first state p
-    count_is state p row = ap length (filter_below (λ t. is_by p (actions_from (dense_entry old) state t))
-        (λ t. is_by p (entry_at first state t)) terminals (λ t column. ap (is_by p) (sym (entry_first state t row
-        column))))
+    module _ (so : HaveDefaults terminals old new defaults) where
+      count_is : (state p : ℕ) → state < length before
+          → reductions (dense_entry old) terminals state p ≡ count_by first state p
+      count_is state p row = ap length (filter_below (λ t. is_by p (actions_from (dense_entry old) state t))
+          (λ t. is_by p (entry_at first state t)) terminals (λ t column. ap (is_by p) (sym (entry_first state t row
+          column))))
 
-    default_at : (state : ℕ) (d : Option ℕ) → slice_get last.defaults state ≡ Some d
-        → (e : Option RuleNo) × (slice_get defaults state ≡ Some e) × (option_map (λ p. p.0) e ≡ d)
-    default_at state d is = map_at (option_map (λ p. p.0)) defaults state d is
+      default_at : (state : ℕ) (d : Option ℕ) → slice_get last.defaults state ≡ Some d
+          → (e : Option RuleNo) × (slice_get defaults state ≡ Some e) × (option_map (λ p. p.0) e ≡ d)
+      default_at state d is = map_at (option_map (λ p. p.0)) defaults state d is
 
-    defaults_are : (state : ℕ) (d : Option ℕ) → slice_get last.defaults state ≡ Some d → IsDefaultOf first state d
-    defaults_are state d is = let e = default_at state d is in
-        let within = slice_get_within defaults state e.0 e.1 in
-        subst (IsDefaultOf first state) e.2 (default_is first state e.0 (chosen_same
-        (reductions (dense_entry old) terminals state) (count_by first state) e.0
-        (λ p. count_is state p (omega (arith, within, long))) (so.chosen state e.0 e.1)))
+      defaults_are : (state : ℕ) (d : Option ℕ) → slice_get last.defaults state ≡ Some d → IsDefaultOf first state d
+      defaults_are state d is = let e = default_at state d is in
+          let within = slice_get_within defaults state e.0 e.1 in
+          subst (IsDefaultOf first state) e.2 (default_is first state e.0 (chosen_same
+          (reductions (dense_entry old) terminals state) (count_by first state) e.0
+          (λ p. count_is state p (omega (arith, within, long))) (so.chosen state e.0 e.1)))
 
-    actions_are : (state t : ℕ) (d : Option ℕ) → slice_get last.defaults state ≡ Some d
-        → entry_at last state t ≡ without d (entry_at first state t)
-    actions_are state t d is = let e = default_at state d is in
-        let within = slice_get_within defaults state e.0 e.1 in
-        elim (cases_lt t terminals) [
-          | inl column ↦ cell-grid_of (length defaults) terminals (actions_from (dense_entry new)) state t within column
-              ∙ ap (option_map action_from) (so.taken state t e.0 e.1 column)
-              ∙ out_is e.0 (dense_entry old state t)
-              ∙ ap (λ f. without f (option_map action_from (dense_entry old state t))) e.2
-              ∙ ap (without d) (sym (entry_first state t (omega (arith, within, long)) column))
-          | inr past ↦ cell-grid_of_past (length defaults) terminals (actions_from (dense_entry new)) state t (inr past)
-              ∙ sym (without_none d)
-              ∙ ap (without d) (sym (cell-grid_of_past (length before) terminals (actions_from (dense_entry old)) state t
-              (inr past)))
-        ]
+      actions_are : (state t : ℕ) (d : Option ℕ) → slice_get last.defaults state ≡ Some d
+          → entry_at last state t ≡ without d (entry_at first state t)
+      actions_are state t d is = let e = default_at state d is in
+          let within = slice_get_within defaults state e.0 e.1 in
+          elim (cases_lt t terminals) [
+            | inl column ↦ cell-grid_of (length defaults) terminals (actions_from
+                (dense_entry new)) state t within column
+                ∙ ap (option_map action_from) (so.taken state t e.0 e.1 column)
+                ∙ out_is e.0 (dense_entry old state t)
+                ∙ ap (λ f. without f (option_map action_from (dense_entry old state t))) e.2
+                ∙ ap (without d) (sym (entry_first state t (omega (arith, within, long)) column))
+            | inr past ↦ cell-grid_of_past (length defaults) terminals (actions_from (dense_entry new)) state t
+                (inr past)
+                ∙ sym (without_none d)
+                ∙ ap (without d) (sym (cell-grid_of_past (length before) terminals (actions_from
+                (dense_entry old)) state t
+                (inr past)))
+          ]
 
-    gotos_same : last.gotos ≡ first.gotos
-    gotos_same = ap (λ n. grid_of n nonterminals (gotos_from gotos)) long
+      gotos_same : last.gotos ≡ first.gotos
+      gotos_same = ap (λ n. grid_of n nonterminals (gotos_from gotos)) long
 
-    pub has_defaults : HasDefaultsOf first last
-    has_defaults = record {
-      terminals = refl;
-      nonterminals = refl;
-      states = states_same;
-      defaults = defaults_are;
-      actions = actions_are;
-      gotos = gotos_same;
-      rules = refl;
-    }
+      pub has_defaults : HasDefaultsOf first last
+      has_defaults = record {
+        terminals = refl;
+        nonterminals = refl;
+        states = states_same;
+        defaults = defaults_are;
+        actions = actions_are;
+        gotos = gotos_same;
+        rules = refl;
+      }
 
-    -- a state of the machine has a default, or none
-    some_default : (state : ℕ) → state < length defaults → (d : Option ℕ) × (slice_get last.defaults state ≡ Some d)
-    some_default state lt = (
-      get_or last.defaults state None,
-      slice_get-get_or last.defaults state None (omega (arith, lt, long_last)),
-    )
+      -- a state of the machine has a default, or none
+      some_default : (state : ℕ) → state < length defaults → (d : Option ℕ) × (slice_get last.defaults state ≡ Some d)
+      some_default state lt = (
+        get_or last.defaults state None,
+        slice_get-get_or last.defaults state None (omega (arith, lt, long_last)),
+      )
 
-    legal_at : IsMachine first → (state t : ℕ) (a : TableAction) → entry_at last state t ≡ Some a → IsLegal last t a
-    legal_at machine state t a is = elim (cases_lt state (length defaults)) [
-      | inr past ↦ absurd (none-some a (sym (cell-grid_of_past (length defaults) terminals (actions_from (dense_entry new))
-          state t (inl past)) ∙ is))
-      | inl lt ↦ let d = some_default state lt in
-          legal_same first last t a states_same refl (machine.actions state t a (without_some d.0 (entry_at first state t) a
-          (sym (actions_are state t d.0 d.1) ∙ is)))
-    ]
+      legal_at : IsMachine first → (state t : ℕ) (a : TableAction) → entry_at last state t ≡ Some a → IsLegal last t a
+      legal_at machine state t a is = elim (cases_lt state (length defaults)) [
+        | inr past ↦ absurd (none-some a (sym (cell-grid_of_past (length defaults) terminals (actions_from
+            (dense_entry new))
+            state t (inl past)) ∙ is))
+        | inl lt ↦ let d = some_default state lt in
+            legal_same first last t a states_same refl (machine.actions state t a (without_some d.0
+            (entry_at first state t) a
+            (sym (actions_are state t d.0 d.1) ∙ is)))
+      ]
 
-    rule_at : IsMachine first → (state p : ℕ) → slice_get last.defaults state ≡ Some (Some p) → IsRuleNumber last p
-    rule_at machine state p is = let e = default_at state (Some p) is in
-        let within = slice_get_within defaults state e.0 e.1 in
-        let most = defaults_are state (Some p) is in
-        counted_legal machine state p (omega (arith, within, long)) (subst (λ n. 1 ≤ n) (sym (count_is state p
-        (omega (arith, within, long)))) most.some)
+      rule_at : IsMachine first → (state p : ℕ) → slice_get last.defaults state ≡ Some (Some p) → IsRuleNumber last p
+      rule_at machine state p is = let e = default_at state (Some p) is in
+          let within = slice_get_within defaults state e.0 e.1 in
+          let most = defaults_are state (Some p) is in
+          counted_legal machine state p (omega (arith, within, long)) (subst (λ n. 1 ≤ n) (sym (count_is state p
+          (omega (arith, within, long)))) most.some)
 
-    pub still_machine : IsMachine first → IsMachine last
-    still_machine machine = record {
-      bottom = let some = machine.bottom in omega (arith, some, states_same);
-      actions = legal_at machine;
-      defaults = rule_at machine;
-      gotos = λ state left next is. let lt = machine.gotos state left next (ap (λ g. cell g state left) (sym gotos_same)
-          ∙ is) in omega (arith, lt, states_same);
-      rules = machine.rules;
-    }
+      pub still_machine : IsMachine first → IsMachine last
+      still_machine machine = record {
+        bottom = let some = machine.bottom in omega (arith, some, states_same);
+        actions = legal_at machine;
+        defaults = rule_at machine;
+        gotos = λ state left next is. let lt = machine.gotos state left next (ap (λ g. cell g state left)
+            (sym gotos_same)
+            ∙ is) in omega (arith, lt, states_same);
+        rules = machine.rules;
+      }

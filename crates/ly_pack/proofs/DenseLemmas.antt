@@ -3,7 +3,8 @@ use Rattle.std.proofs.Common.{◌≡◌, ◌≢◌, ◌∙◌, ◌<◌, ◌≤�
 use Rattle.std.proofs.Common.{sym, ap, ap₂, arith, inl, inr, slice_get, lt-ltb, get_or, set, nat_eq, nat_lt}
 use Rattle.std.proofs.Common.{length-set, get_or-set_same, get_or-set_other}
 use Rattle.std.specs.Prelude.{option_and_then, if◌then◌else◌}
-use Rattle.std.proofs.lemmas.Bool.{cases_eq, cases_lt, le-ltb, eq-eqb, ne_eqb, cond-true, cond-false, and_from, and_left, and_right}
+use Rattle.std.proofs.lemmas.Bool.{cases_eq, cases_lt, le-ltb, eq-eqb, ne_eqb, cond-true, cond-false, and_from}
+use Rattle.std.proofs.lemmas.Bool.{and_left, and_right}
 use Rattle.std.proofs.lemmas.Nat.{mul-add-lt, same_from_place, mul-le}
 use Rattle.std.proofs.lemmas.Option.{slice_get-get_or, slice_get_past}
 use Rattle.std.proofs.Math.Nat.{mul_comm}
@@ -43,7 +44,8 @@ module _ {E : Type 0} (d : Dense E) where
 
   pub dense_entry-read : IsDense d → (row column : ℕ) (x : Option E) → row < d.rows → column < d.width
       → x ≡ get_or d.cells (row * d.width + column) x → x ≡ dense_entry d row column
-  dense_entry-read so row column x lt_row lt is = is ∙ ap (option_and_then (λ cell. cell)) (sym (slice_get-get_or d.cells
+  dense_entry-read so row column x lt_row lt is = is
+      ∙ ap (option_and_then (λ cell. cell)) (sym (slice_get-get_or d.cells
       (row * d.width + column) x (omega (
         arith,
         so,

@@ -57,11 +57,13 @@ module _ (m : Machine) (terminals nonterminals : ℕ) (actions : Entries code.Ta
     (so : machine_from terminals nonterminals actions gotos defaults rules ≡ m) where
   pub actions-machine : m.actions ≡ grid_of (states_of m) m.terminals (actions_from actions)
   actions-machine = subst (λ n. n.actions ≡ grid_of (states_of n) n.terminals (actions_from actions)) so
-      (ap (λ n. grid_of n terminals (actions_from actions)) (sym (length-map defaults (option_map (λ (p : RuleNo). p.0)))))
+      (ap (λ n. grid_of n terminals (actions_from actions)) (sym (length-map defaults (option_map (λ
+      (p : RuleNo). p.0)))))
 
   pub gotos-machine : m.gotos ≡ grid_of (states_of m) m.nonterminals (gotos_from gotos)
   gotos-machine = subst (λ n. n.gotos ≡ grid_of (states_of n) n.nonterminals (gotos_from gotos)) so
-      (ap (λ n. grid_of n nonterminals (gotos_from gotos)) (sym (length-map defaults (option_map (λ (p : RuleNo). p.0)))))
+      (ap (λ n. grid_of n nonterminals (gotos_from gotos)) (sym (length-map defaults (option_map (λ
+      (p : RuleNo). p.0)))))
 
   pub entry_at-machine : (state t : ℕ) → state < states_of m → t < m.terminals
       → entry_at m state t ≡ actions_from actions state t

@@ -1,9 +1,8 @@
 -- Machines over combs.
-use Rattle.std.proofs.Common.{◌≡◌, ◌∙◌, ℕ, List, Option, sym, subst}
+use Rattle.std.proofs.Common.{◌≡◌, ℕ, List, Option, sym, subst}
 use Rattle.ly_base.specs.declared.numbers.RuleNo.{RuleNo}
 use Rattle.ly_base.specs.declared.numbers.StateNo.{StateNo}
 use Rattle.ly_pack.specs.Combs.{IsFirstFit, table_in}
-use Rattle.ly_pack.specs.Machine.{IsMachine, Machine}
 use Rattle.ly_pack.specs.Placement.{IsPlaced, Table}
 use Rattle.ly_pack.specs.Rows.{Comb, Entries, comb_entry}
 use Rattle.ly_pack.specs.Values.{machine_from}

@@ -7,7 +7,8 @@ use Rattle.std.proofs.lemmas.Option.{same_Some, none-some, slice_get_past}
 use Rattle.ly_pack.specs.Placement.{Fits, GoesBefore, Has, Table}
 use Rattle.ly_pack.specs.Private.Order.{IsOrder, columns_of}
 use Rattle.ly_pack.specs.Private.Bits.{taken, IsFreeAt, IsTakenAt}
-use Rattle.ly_pack.specs.Private.Placing.{AreLaid, AreTied, IsFilled, IsPartFilled, IsRowPlaced, Uses, flag, slot_at, slot_of}
+use Rattle.ly_pack.specs.Private.Placing.{AreLaid, AreTied, IsFilled, IsPartFilled, IsRowPlaced, Uses, flag, slot_at}
+use Rattle.ly_pack.specs.Private.Placing.{slot_of}
 use Rattle.ly_pack.specs.Rows.{Entries}
 use Rattle.ly_pack.specs.declared.comb_rows.Slot.{Slot}
 use Rattle.ly_pack.proofs.DenseLemmas.{slice_get-set_same, slice_get-set_other}
@@ -199,7 +200,8 @@ module _ {E : Type 0} (T : Table E) (order : List ℕ) (ordered : IsOrder T orde
     short = short_more;
   }
 
-pub slot_at_within : {X : Type 0} (slots : List (Option X)) (k : ℕ) (x : X) → slot_at slots k ≡ Some x → k < length slots
+pub slot_at_within : {X : Type 0} (slots : List (Option X)) (k : ℕ) (x : X) → slot_at slots k ≡ Some x
+    → k < length slots
 slot_at_within slots k x is = elim (cases_lt k (length slots)) [
   | inl lt ↦ lt
   | inr past ↦ absurd (none-some x (sym (ap (option_and_then (λ slot. slot)) (slice_get_past slots k past)) ∙ is))
@@ -305,7 +307,8 @@ pub placed_some : {E : Type 0} (T : Table E) (row base : ℕ) (columns words : L
     → IsFilled T row old new base → IsRowPlaced T row old new base
 placed_some {E} T row base columns words old new is some tied free least filled = record {
   free = λ column has. let found = column_at T row columns is column has in
-      flag-none (slot_at old (base + column)) (sym (tied (base + column)) ∙ ap (λ c. taken words (base + c)) (sym found.2)
+      flag-none (slot_at old (base + column)) (sym (tied (base + column))
+      ∙ ap (λ c. taken words (base + c)) (sym found.2)
       ∙ free found.0 found.1);
   least = λ lower lt. let hit = least lower lt in
       let s = flag-some (slot_at old (lower + get_or columns hit.0 0)) (sym (tied (lower + get_or columns hit.0 0))
@@ -314,7 +317,8 @@ placed_some {E} T row base columns words old new is some tied free least filled 
   empty = λ none. absurd (none (get_or columns 0 0) (has_column T row columns is 0 some));
   filled = filled;
   within = let has = has_column T row columns is 0 some in
-      let within = slot_at_within new (base + get_or columns 0 0) (slot_of row has.1) (filled.entries (get_or columns 0 0)
+      let within = slot_at_within new (base + get_or columns 0 0) (slot_of row has.1) (filled.entries
+      (get_or columns 0 0)
       has.1 has.0 has.2) in
       omega (arith, within);
 }

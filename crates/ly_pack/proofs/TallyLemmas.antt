@@ -1,16 +1,18 @@
 -- How often a rule stands among those by which a state reduces.
-use Rattle.std.proofs.Common.{◌≡◌, ◌≢◌, ◌∙◌, ◌<◌, ◌≤◌, ◌+◌, ◌-◌, ◌++◌, ◌∷◌, [], ℕ, min, zero, suc, List, length, take, Option, Some, None}
-use Rattle.std.proofs.Common.{refl, sym, ap, subst, arith, inl, inr, ◌⊎◌, get_or, nat_eq, Bool, true, false, not, ◌&&◌}
+use Rattle.std.proofs.Common.{◌≡◌, ◌≢◌, ◌∙◌, ◌<◌, ◌≤◌, ◌+◌, ◌-◌, ◌++◌, ◌∷◌, [], ℕ, min, zero, suc, List, length, take}
+use Rattle.std.proofs.Common.{Option, Some, None}
+use Rattle.std.proofs.Common.{refl, sym, ap, subst, arith, inl, inr, get_or, nat_eq, Bool, true, false, not, ◌&&◌}
 use Rattle.std.specs.Prelude.{filter, if◌then◌else◌, option_map}
 use Rattle.std.specs.List.{range_with_len}
-use Rattle.std.proofs.lemmas.Bool.{cases_Bool, cases_eq, cases_lt, eqb-true, eq-eqb, ne_eqb, cond-true, cond-false}
+use Rattle.std.proofs.lemmas.Bool.{cases_Bool, cases_lt, eqb-true, eq-eqb, ne_eqb, cond-true, cond-false}
 use Rattle.std.proofs.lemmas.Bool.{and_from, and_left, and_right, true≢false}
 use Rattle.std.proofs.lemmas.List.{length-append, length-take, length_push}
 use Rattle.std.proofs.lemmas.List.Elements.{filter-append}
-use Rattle.std.proofs.lemmas.List.Filters.{length-filter_both, length-filter_more}
+use Rattle.std.proofs.lemmas.List.Filters.{length-filter_both}
 use Rattle.std.proofs.lemmas.Option.{same_Some, none-some, slice_get_within}
 use Rattle.ly_pack.specs.Defaults.{is_by}
-use Rattle.ly_pack.specs.Private.Tally.{AreTakenOut, HaveDefaults, IsChosen, left_out, out_by, reductions, rule_of, times}
+use Rattle.ly_pack.specs.Private.Tally.{AreTakenOut, HaveDefaults, IsChosen, left_out, out_by, reductions, rule_of}
+use Rattle.ly_pack.specs.Private.Tally.{times}
 use Rattle.ly_pack.specs.Rows.{Dense, Entries, IsDense, dense_entry}
 use Rattle.ly_pack.specs.Values.{action_from, actions_from}
 use Rattle.ly_pack.specs.declared.action.TableAction as code
@@ -62,7 +64,8 @@ pub left_out-rule : (p q : ℕ) (a : Option code.TableAction) → Some q ≡ rul
     → left_out p a ≡ (if nat_eq p q then None else a)
 left_out-rule p q None is = absurd (none-some q (sym is))
 left_out-rule p q (Some (Shift s)) is = absurd (none-some q (sym is))
-left_out-rule p q (Some (Reduce r)) is = ap (λ k. if nat_eq p k then None else Some (Reduce r)) (sym (same_Some q r.0 is))
+left_out-rule p q (Some (Reduce r)) is = ap (λ k. if nat_eq p k then None else Some (Reduce r)) (sym
+    (same_Some q r.0 is))
 left_out-rule p q (Some Accept) is = absurd (none-some q (sym is))
 left_out-rule p q (Some Error) is = absurd (none-some q (sym is))
 
@@ -213,8 +216,10 @@ pub state_in : (columns state p : ℕ) (old mid : Dense code.TableAction) (termi
 state_in columns state p old mid terminals defaults dense so later some = elim (cases_lt state mid.rows) [
   | inl lt ↦ lt
   | inr past ↦ let found = reductions_in (dense_entry mid) state p columns some in
-      let none = so.left state found.0 later ∙ dense_entry-past_row old dense state found.0 (omega (arith, past, so.rows))
-      in absurd (true≢false (sym found.2 ∙ ap (λ (a : Option code.TableAction). is_by p (option_map action_from a)) none))
+      let none = so.left state found.0 later
+      ∙ dense_entry-past_row old dense state found.0 (omega (arith, past, so.rows))
+      in absurd (true≢false (sym found.2
+      ∙ ap (λ (a : Option code.TableAction). is_by p (option_map action_from a)) none))
 ]
 
 -- one state more has its default
@@ -229,7 +234,8 @@ module _ (terminals : ℕ) (old mid new : Dense code.TableAction) (defaults : Li
   out_none None = refl
   out_none (Some p) = refl
 
-  row_is : (t : ℕ) → t < terminals → dense_entry new (length defaults) t ≡ out_by d (dense_entry old (length defaults) t)
+  row_is : (t : ℕ) → t < terminals
+      → dense_entry new (length defaults) t ≡ out_by d (dense_entry old (length defaults) t)
   row_is t lt = let from = so.left (length defaults) t (omega arith) in elim (cases_lt t columns) [
     | inl less ↦ row t less ∙ ap (out_by d) from
     | inr le ↦ let none = dense_entry-past mid (length defaults) t (omega (arith, is, le, lt)) in

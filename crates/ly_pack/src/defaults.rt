@@ -50,7 +50,8 @@ fn take_defaults(
     terminals: usize,
     rules: usize,
 ) -> Result<Vec<Option<RuleNo>>, OutOfMemory>
-    requires legal { (state p : ℕ) → state < states → 1 ≤ reductions (dense_entry actions.old) terminals state p → p ≤ rules }
+    requires legal { (state p : ℕ) → state < states
+        → 1 ≤ reductions (dense_entry actions.old) terminals state p → p ≤ rules }
     ensures states { IfOk result (λ defaults. length defaults.items ≡ states) }
     ensures taken { IfOk result (λ defaults. HaveDefaults terminals actions.old actions.new defaults.items) }
 {

@@ -1,4 +1,11 @@
-//! A parser's tables: rows of entries, and the machine that they are.
+//! From a parser's tables as rows to smaller ones that say the same: default reductions, and rows laid over one another.
+//!
+//! `Machine` is a parser as tables over any `Rows`: as they stand (`Dense`), or one over another with a check of the
+//! row in each slot (`Comb`). `choose_defaults` finds each state's most frequent reduction and leaves out the entries
+//! that are equal to it; `comb` places rows by first fit, those with the most entries first (Tarjan and Yao 1979), and
+//! `pack` a machine's. A machine's value is the same over any rows, so a packed one does what it did.
+//!
+//! Left out: any search for combs shorter than those of first fit, and rows that are shared by equal states.
 #![tactic(auto)]
 
 mod action;

@@ -1,8 +1,8 @@
 //! The rule by which most entries of a state reduce. The counts are cleared by going over the state's rules again, so
 //! a state costs no more than its entries.
-ghost use Rattle.std.specs.Prelude.{◌≡◌, ◌≢◌, ◌<◌, ◌≤◌, ℕ, length, slice_index, All, Contains, MatchOption, OnOk, option_map};
-ghost use Rattle.ly_pack.specs.Private.Tally.{IsBetter, rule_of};
-ghost use Rattle.ly_pack.specs.Private.Tally.{reductions, times, IsBestOf, IsChosen};
+ghost use Rattle.std.specs.Prelude.{◌≡◌, ◌≢◌, ◌<◌, ◌≤◌, ℕ, length, slice_index, All, Contains};
+ghost use Rattle.std.specs.Prelude.{MatchOption, OnOk, option_map};
+ghost use Rattle.ly_pack.specs.Private.Tally.{reductions, rule_of, times, IsBestOf, IsBetter, IsChosen};
 ghost use Rattle.ly_pack.specs.Rows.{dense_entry};
 
 use crate::action::TableAction;

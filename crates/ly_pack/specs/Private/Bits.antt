@@ -1,5 +1,5 @@
 -- A row of bits: bit k is bit k % 64 of word k / 64, and 0 past the end.
-use Rattle.std.specs.Prelude.{◌≡◌, ℕ, ◌+◌, ◌*◌, ◌/◌, ◌%◌, ◌<◌, List, length, slice_index}
+use Rattle.std.specs.Prelude.{◌≡◌, ℕ, ◌+◌, ◌/◌, ◌%◌, ◌<◌, List, length, slice_index}
 use Rattle.std.specs.Int.{bit_at}
 
 -- 1 where the place is taken, else 0

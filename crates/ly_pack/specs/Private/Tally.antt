@@ -1,5 +1,5 @@
 -- The rules by which a state reduces, and how often.
-use Rattle.std.specs.Prelude.{◌≡◌, ◌≢◌, ◌⊎◌, ℕ, suc, ◌+◌, ◌<◌, ◌≤◌, List, length, filter, Option, Some, None, nat_eq, nat_lt}
+use Rattle.std.specs.Prelude.{◌≡◌, ◌≢◌, ◌⊎◌, ℕ, ◌<◌, ◌≤◌, List, length, filter, Option, Some, None, nat_eq, nat_lt}
 use Rattle.std.specs.Prelude.{slice_get, slice_index, if◌then◌else◌, MatchOption}
 use Rattle.std.specs.Prelude.{Bool, true, ◌||◌, ◌&&◌, ◌==◌}
 use Rattle.std.specs.List.{range_with_len}
@@ -8,7 +8,7 @@ use Rattle.ly_pack.specs.Defaults.{is_by}
 use Rattle.ly_pack.specs.Rows.{Dense, Entries, dense_entry}
 use Rattle.ly_pack.specs.Values.{actions_from}
 use Rattle.ly_pack.specs.declared.action.TableAction as code
-use Rattle.ly_pack.specs.declared.action.TableAction.TheVariants.{Accept, Error, Reduce, Shift}
+use Rattle.ly_pack.specs.declared.action.TableAction.TheVariants.{Reduce}
 
 -- how often a number stands in a list
 abbrev pub times : ℕ → List ℕ → ℕ
@@ -16,7 +16,8 @@ times p rules = length (filter (nat_eq p) rules)
 
 -- how many of a state's first entries reduce by the rule
 abbrev pub reductions : Entries code.TableAction → ℕ → ℕ → ℕ → ℕ
-reductions entries width state p = length (filter (λ t. is_by p (actions_from entries state t)) (range_with_len 0 width))
+reductions entries width state p = length (filter (λ t. is_by p (actions_from entries state t))
+    (range_with_len 0 width))
 
 -- The rule of the greatest count, and the least of those.
 pub record IsMostBy (count : ℕ → ℕ) (p : ℕ) : Type 0 where
@@ -64,11 +65,11 @@ pub record AreTakenOut (state p columns : ℕ) (old new : Dense code.TableAction
 
 -- The first states have their defaults, and entries that are equal to these are taken out.
 pub record HaveDefaults (terminals : ℕ) (old new : Dense code.TableAction) (defaults : List (Option RuleNo)) : Type 0
-    where
-  pub rows : new.rows ≡ old.rows
-  pub width : new.width ≡ old.width
-  pub chosen : (state : ℕ) (d : Option RuleNo) → slice_get defaults state ≡ Some d
-      → IsChosen (reductions (dense_entry old) terminals state) d
-  pub taken : (state t : ℕ) (d : Option RuleNo) → slice_get defaults state ≡ Some d → t < terminals
-      → dense_entry new state t ≡ out_by d (dense_entry old state t)
-  pub left : (state t : ℕ) → length defaults ≤ state → dense_entry new state t ≡ dense_entry old state t
+  where
+    pub rows : new.rows ≡ old.rows
+    pub width : new.width ≡ old.width
+    pub chosen : (state : ℕ) (d : Option RuleNo) → slice_get defaults state ≡ Some d
+        → IsChosen (reductions (dense_entry old) terminals state) d
+    pub taken : (state t : ℕ) (d : Option RuleNo) → slice_get defaults state ≡ Some d → t < terminals
+        → dense_entry new state t ≡ out_by d (dense_entry old state t)
+    pub left : (state t : ℕ) → length defaults ≤ state → dense_entry new state t ≡ dense_entry old state t

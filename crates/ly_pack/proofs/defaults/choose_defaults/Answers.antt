@@ -1,9 +1,9 @@
-use Rattle.std.proofs.Common.{◌≡◌, ◌<◌, ◌≤◌, ◌∙◌, ap, sym, subst, refl, arith, length}
+use Rattle.std.proofs.Common.{◌∙◌, subst, refl, arith}
 use Rattle.std.proofs.Math.ListN.{length-map}
 use Rattle.ly_pack.specs.Defaults.{HasDefaultsOf}
 use Rattle.ly_pack.specs.Machine.{Machine}
 use Rattle.ly_pack.specs.Rows.{dense_entry}
-use Rattle.ly_pack.specs.Values.{gotos_from, machine_from, rule_from}
+use Rattle.ly_pack.specs.Values.{machine_from, rule_from}
 use Rattle.ly_pack.proofs.DefaultLemmas.{counted_legal, has_defaults, still_machine}
 use Rattle.ly_pack.proofs.defaults.choose_defaults.Goals as goal
 
@@ -21,7 +21,8 @@ take_defaults-requires c =
 pub invariant_of-result : goal.invariant_of-result
 invariant_of-result c =
     let m = c.machine.inside in
-    still_machine m.terminals m.nonterminals m.actions c.take_defaults.new.actions (dense_entry m.gotos) m.defaults.items
+    still_machine m.terminals m.nonterminals m.actions c.take_defaults.new.actions
+    (dense_entry m.gotos) m.defaults.items
     c.in_ok-defaults.defaults.items m.rules.items
     (c.in_ok-defaults.ensures.states ∙ c.len-states.ensures ∙ m.defaults.ok.0) c.in_ok-defaults.ensures.taken
     c.machine.invariant
@@ -32,6 +33,7 @@ returns c =
     subst (λ (before : Machine). HasDefaultsOf before (machine_from m.terminals m.nonterminals
     (dense_entry c.take_defaults.new.actions) (dense_entry m.gotos) c.in_ok-defaults.defaults.items m.rules.items))
     c.machine.view_is
-    (has_defaults m.terminals m.nonterminals m.actions c.take_defaults.new.actions (dense_entry m.gotos) m.defaults.items
+    (has_defaults m.terminals m.nonterminals m.actions c.take_defaults.new.actions
+    (dense_entry m.gotos) m.defaults.items
     c.in_ok-defaults.defaults.items m.rules.items
     (c.in_ok-defaults.ensures.states ∙ c.len-states.ensures ∙ m.defaults.ok.0) c.in_ok-defaults.ensures.taken)

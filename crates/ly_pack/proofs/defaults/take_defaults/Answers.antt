@@ -1,4 +1,4 @@
-use Rattle.std.proofs.Common.{◌≡◌, ◌≢◌, ◌<◌, ◌≤◌, ◌+◌, ◌++◌, ◌∷◌, [], ◌∙◌, ℕ, List, ap, sym, subst, arith, length, get_or}
+use Rattle.std.proofs.Common.{◌≡◌, ◌≢◌, ◌<◌, ◌≤◌, ◌+◌, ◌∙◌, ℕ, ap, sym, subst, arith, length, get_or}
 use Rattle.std.proofs.Common.{Option, Some, None, min}
 use Rattle.std.specs.Prelude.{MatchOption}
 use Rattle.std.proofs.lemmas.List.{length_push, with_items_is}
@@ -17,7 +17,8 @@ most_frequent-default-requires-clause-room c k d lt =
     let listed = ap (times p) c.deref.ensures.value ∙ c.in_ok-list_rules.ensures p
     ∙ counts_old c.args.terminals c.min-columns.result c.loop-state.state c.args.actions.now c.loop-state.actions
     c.loop-state.defaults.items so.taken few (omega (arith, so.states)) p in
-    let legal = c.requires.legal c.loop-state.state p c.loop-state-test.true (subst (λ n. 1 ≤ n) listed (times_some c.deref.result.now k d lt)) in
+    let legal = c.requires.legal c.loop-state.state p c.loop-state-test.true (subst (λ n. 1 ≤ n) listed
+    (times_some c.deref.result.now k d lt)) in
     omega (arith, legal, so.room, ap length c.deref_mut.ensures.value)
 
 row_in : (d : Option RuleNo) (count : ℕ → ℕ) (P : Type 0) → IsChosen count d → ((p : ℕ) → 1 ≤ count p → P)
@@ -30,7 +31,8 @@ take_out-requires-clause-row c =
     let so = c.loop-state.invariant in
     row_in c.most_frequent-default.result (λ p. times p c.deref.result.now)
     (c.loop-state.state < c.loop-state.actions.rows) c.most_frequent-default.ensures.most
-    (λ p some. state_in c.min-columns.result c.loop-state.state p c.args.actions.now c.loop-state.actions c.args.terminals
+    (λ p some. state_in c.min-columns.result c.loop-state.state p c.args.actions.now c.loop-state.actions
+    c.args.terminals
     c.loop-state.defaults.items c.width.ensures.all so.taken (omega (arith, so.states)) (subst (λ n. 1 ≤ n)
     (ap (times p) c.deref.ensures.value ∙ c.in_ok-list_rules.ensures p) some))
 

@@ -1,10 +1,9 @@
-use Rattle.std.proofs.Common.{◌≡◌, ◌<◌, ◌≤◌, ◌+◌, ◌∙◌, ℕ, Bool, None, ap, sym, subst, arith, refl, inl, inr}
+use Rattle.std.proofs.Common.{◌+◌, ◌∙◌, None, ap, sym, subst, arith}
 use Rattle.std.specs.Prelude.{nat_eq}
-use Rattle.std.proofs.lemmas.Bool.{cases_lt, cond-true, cond-false, eq-eqb, eqb-true, eqb-false, ne_eqb}
-use Rattle.ly_pack.specs.Private.Tally.{AreTakenOut, left_out, rule_of}
+use Rattle.std.proofs.lemmas.Bool.{cond-true, cond-false, eq-eqb, eqb-true, eqb-false, ne_eqb}
+use Rattle.ly_pack.specs.Private.Tally.{AreTakenOut, rule_of}
 use Rattle.ly_pack.specs.Rows.{dense_entry}
 use Rattle.ly_pack.proofs.TallyLemmas.{left_out-none, left_out-rule, taken_one, taken_same}
-use Rattle.ly_pack.proofs.DenseLemmas.{dense_entry-past}
 use Rattle.ly_pack.proofs.defaults.take_out.Goals as goal
 use Rattle.ly_pack.proofs.defaults.take_out.Goals.{in-Some-rule_of+then-eq, in-Some-rule_of+else-eq, in_default-rule_of}
 
@@ -27,7 +26,8 @@ loop-column-preserved c =
           subst (AreTakenOut c.args.state.0 p (c.loop-column.column + 1) c.args.actions.now) (sym w.actions-is)
           (taken_same c.args.state.0 p c.loop-column.column c.args.actions.now c.loop-column.actions
           c.loop-column.invariant (left_out-rule p w.in-Some-rule_of.rule.0 entry (w.in-Some-rule_of.ensures ∙ here)
-          ∙ cond-false (nat_eq p w.in-Some-rule_of.rule.0) None entry (ne_eqb p w.in-Some-rule_of.rule.0 (λ e. other (sym e)))))
+          ∙ cond-false (nat_eq p w.in-Some-rule_of.rule.0) None entry (ne_eqb p w.in-Some-rule_of.rule.0 (λ e. other
+          (sym e)))))
       | in_default-rule_of w ↦ subst (AreTakenOut c.args.state.0 p (c.loop-column.column + 1) c.args.actions.now)
           (sym w.actions-is)
           (taken_same c.args.state.0 p c.loop-column.column c.args.actions.now c.loop-column.actions

@@ -1,8 +1,8 @@
-use Rattle.std.proofs.Common.{◌≡◌, ◌∙◌, ap, sym, subst, inl, inr}
+use Rattle.std.proofs.Common.{◌∙◌, ap, sym, subst, inl, inr}
 use Rattle.ly_pack.specs.Combs.{comb_from}
 use Rattle.ly_pack.specs.Placement.{IsPlaced}
 use Rattle.ly_pack.specs.Private.Placing.{table_of}
-use Rattle.ly_pack.specs.Rows.{comb_entry, dense_entry, IsComb}
+use Rattle.ly_pack.specs.Rows.{comb_entry, IsComb}
 use Rattle.ly_pack.proofs.CombLemmas.{comb_all, entries_all, placed_all}
 use Rattle.ly_pack.proofs.DenseLemmas.{dense_entry-past, dense_entry-past_row}
 use Rattle.ly_pack.proofs.placing.comb.Goals as goal

@@ -1,7 +1,7 @@
-use Rattle.std.proofs.Common.{◌≡◌, ◌<◌, ◌+◌, ◌∙◌, ap, sym, subst, arith, length, get_or, slice_get, Some, List}
+use Rattle.std.proofs.Common.{◌≡◌, sym, subst, arith, length, get_or}
 use Rattle.std.proofs.lemmas.Option.{slice_get-get_or}
 use Rattle.ly_pack.specs.Private.Order.{IsOrder}
-use Rattle.ly_pack.specs.Private.Placing.{AreLaid, IsRowPlaced, table_of}
+use Rattle.ly_pack.specs.Private.Placing.{AreLaid, table_of}
 use Rattle.ly_pack.proofs.PlacingLemmas.{laid_more}
 use Rattle.ly_pack.proofs.placing.place_rows.Goals as goal
 

@@ -1,5 +1,5 @@
 use Rattle.std.proofs.Common.{◌≡◌, ◌+◌, ◌∙◌, ℕ, Bool, ap, ap₂, sym, arith}
-use Rattle.std.specs.Prelude.{option_map, nat_eq, if◌then◌else◌}
+use Rattle.std.specs.Prelude.{if◌then◌else◌}
 use Rattle.ly_pack.specs.Private.Tally.{reductions, rule_of, times}
 use Rattle.ly_pack.specs.Rows.{dense_entry}
 use Rattle.ly_pack.proofs.TallyLemmas.{is_by-none, is_by-rule, reductions-more, times-push}

@@ -1,4 +1,4 @@
-use Rattle.std.proofs.Common.{◌≡◌, ◌≢◌, ◌<◌, ◌≤◌, ◌∙◌, ℕ, arith, ap, sym, subst, inl, inr, ◌⊎◌, length, get_or, List}
+use Rattle.std.proofs.Common.{◌≡◌, ◌≤◌, ℕ, arith, ap, sym, subst, inl, inr, length, get_or, List}
 use Rattle.std.proofs.Common.{Some, None, Option}
 use Rattle.std.proofs.lemmas.Bool.{cases_lt}
 use Rattle.std.specs.Prelude.{MatchOption}

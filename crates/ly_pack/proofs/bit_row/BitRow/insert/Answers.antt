@@ -1,4 +1,4 @@
-use Rattle.std.proofs.Common.{◌≡◌, ◌<◌, ◌≤◌, ◌/◌, ◌%◌, ◌*◌, ◌^◌, ◌∙◌, ap, sym, arith, length, length-set, get_or, bit_or}
+use Rattle.std.proofs.Common.{◌<◌, ◌/◌, ◌%◌, ◌*◌, ◌^◌, ◌∙◌, ap, arith, length, length-set, bit_or}
 use Rattle.std.proofs.lemmas.List.{get_or_read}
 use Rattle.ly_pack.specs.Private.Bits.{taken}
 use Rattle.ly_pack.proofs.BitLemmas.{taken-insert_same, taken-insert_other, taken-insert_keeps}

@@ -1,4 +1,4 @@
-use Rattle.std.proofs.Common.{◌*◌, ◌<◌, ◌∙◌, sym, arith, inl, inr}
+use Rattle.std.proofs.Common.{◌*◌, ◌∙◌, sym, arith, inl, inr}
 use Rattle.std.proofs.lemmas.List.{get_or_read}
 use Rattle.std.proofs.lemmas.Bool.{cases_lt}
 use Rattle.ly_pack.proofs.BitLemmas.{full-taken}

@@ -14,5 +14,6 @@ returns g c =
       ap (λ rs. slice_get rs (c.args.rule.0 - 1)) (sym rules)
           ∙ slice_get-map rule_from c.self.inside.rules.items (c.args.rule.0 - 1)
           ∙ ap (option_map rule_from) (slice_get_read c.self.inside.rules.items (length c.self.inside.rules.items) _ _
-          refl (omega (arith, c.requires.0, c.requires.1, length-map c.self.inside.rules.items rule_from)) c.index.ensures),
+          refl (omega (arith, c.requires.0, c.requires.1, length-map c.self.inside.rules.items rule_from))
+          c.index.ensures),
     )

@@ -1,7 +1,6 @@
-use Rattle.std.proofs.Common.{◌≡◌, ◌+◌, ◌∙◌, List, Option, arith, length, ap, sym, subst}
+use Rattle.std.proofs.Common.{◌≡◌, ◌+◌, arith, length, sym, subst}
 use Rattle.ly_pack.specs.Private.Placing.{table_of, AreTied, IsPartFilled}
 use Rattle.ly_pack.specs.Rows.{dense_entry}
-use Rattle.ly_pack.specs.declared.comb_rows.Slot.{Slot}
 use Rattle.ly_pack.specs.declared.placing.Placing.{Placing}
 use Rattle.ly_pack.proofs.PlacingLemmas.{part_none, part_more, filled_all}
 use Rattle.ly_pack.proofs.placing.Placing.fill.Goals as goal
@@ -12,7 +11,8 @@ loop-column-preserved g c =
     let so = c.loop-column.invariant.part in
     elim c.match-entry.branch [
       | in-Some+in_ok-take w ↦ record {
-        part = subst (λ (s : Placing g.row.E.Denot). IsPartFilled (dense_entry c.args.dense.now) c.args.row.0 c.args.base
+        part = subst (λ (s : Placing g.row.E.Denot). IsPartFilled
+            (dense_entry c.args.dense.now) c.args.row.0 c.args.base
             c.args.columns.now (c.loop-column.column-index + 1) c.args.self.now.slots.items s.slots.items)
             (sym w.self-is)
             (part_more (dense_entry c.args.dense.now) c.args.row.0 c.args.base c.args.columns.now
@@ -23,7 +23,8 @@ loop-column-preserved g c =
             w.in_ok-take.ensures.tied;
       }
       | in_default w ↦ record {
-        part = subst (λ (s : Placing g.row.E.Denot). IsPartFilled (dense_entry c.args.dense.now) c.args.row.0 c.args.base
+        part = subst (λ (s : Placing g.row.E.Denot). IsPartFilled
+            (dense_entry c.args.dense.now) c.args.row.0 c.args.base
             c.args.columns.now (c.loop-column.column-index + 1) c.args.self.now.slots.items s.slots.items)
             (sym w.self-is)
             (part_none (dense_entry c.args.dense.now) c.args.row.0 c.args.base c.args.columns.now

@@ -1,4 +1,4 @@
-use Rattle.std.proofs.Common.{◌≡◌, ◌⊎◌, ◌≤◌, ◌+◌, ◌-◌, ℕ, suc, length, Option, None, slice_get}
+use Rattle.std.proofs.Common.{◌≡◌, ◌⊎◌, ◌≤◌, ◌+◌, ◌-◌, ℕ, length}
 use Rattle.ly_pack.specs.Private.Placing.{slot_at}
 use Rattle.ly_pack.proofs.placing.Placing.take.Given as goal
 
