@@ -342,8 +342,8 @@ module _ (s : Spec) (M : Automaton) (m n : Machine) (is : IsAutomaton M) (useful
     -- so it comes to no shift
     no_shift : {stack : List Pushed} → Strays stack → IsRaw M.grammar (symbols_of stack) token.terminal shift → ⊥
     no_shift {stack = stack} x raw = x.not_asked (never_mislead M.grammar is.augmented is.reduced x.from x.under
-        (symbols_of stack) x.before x.number x.lookahead token.terminal x.rule x.is_rule x.viable x.valid x.split x.leads
-        raw)
+        (symbols_of stack) x.before x.number x.lookahead token.terminal x.rule x.is_rule x.viable x.valid x.split
+        x.leads raw)
 
     -- the symbols of a stack of which a reduction pops some
     symbols_split : {stack : List Pushed} {levels : List Level} {mirrors : Mirrors M (shape_in s) stack levels}
