@@ -1,7 +1,7 @@
 -- Rows that are filled, and the tables that they are.
 use Rattle.std.proofs.Common.{◌≡◌, ◌≢◌, ◌∙◌, ◌⊎◌, inl, inr, ℕ, zero, suc, ◌+◌, ◌-◌, ◌<◌, ◌&&◌, List}
-use Rattle.std.proofs.Common.{Bool, None, Option, Some, ap, arith, false, length, map, nat_eq, option_map, refl, slice_get}
-use Rattle.std.proofs.Common.{slice_index_or, subst, sym, true}
+use Rattle.std.proofs.Common.{Bool, None, Option, Some, ap, arith, false, length, map, nat_eq, option_map, refl}
+use Rattle.std.proofs.Common.{slice_get, slice_index_or, subst, sym, true}
 use Rattle.std.specs.Prelude.{replicate, if◌then◌else◌}
 use Rattle.std.proofs.lemmas.Bool.{and_from, cases_eq, cases_lt, cond-false, cond-true, eq-eqb, eqb-true}
 use Rattle.std.proofs.lemmas.List.{length-replicate}

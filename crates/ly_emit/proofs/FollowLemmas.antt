@@ -107,7 +107,8 @@ split_stack (x ∷ stack) (X ∷ before) under e =
 
 module _ (M : Automaton) (shape : ℕ → Shape) where
   -- the terms that are popped off are built of the trees
-  popped_terms : (popped below : List Pushed) {levels : List Level} (us : Trees) → Mirrors M shape (popped ++ below) levels
+  popped_terms : (popped below : List Pushed) {levels : List Level} (us : Trees)
+      → Mirrors M shape (popped ++ below) levels
       → (ks : List Level)
       × (pop (length popped) levels (builds shape us) ≡ Some (builds shape (trees_onto popped us), ks))
       × Mirrors M shape below ks
@@ -195,7 +196,8 @@ module _ (s : Spec) (M : Automaton) (m n : Machine) (is : IsAutomaton M) (useful
         turns = ap (reduce_by n p levels) numbered
             ∙ (ap (λ k. uncover n p (record { left = rule.left; body_length = length rule.body; shape = shape_in s p })
             (pop k levels Rattle.ly_tree.specs.Term.none)) long
-            ∙ (ap (uncover n p (record { left = rule.left; body_length = length rule.body; shape = shape_in s p })) pops.1
+            ∙ (ap (uncover n p (record { left = rule.left; body_length = length rule.body; shape = shape_in s p }))
+            pops.1
             ∙ ap (go_to p (record { left = rule.left; body_length = length rule.body; shape = shape_in s p })
             (builds (shape_in s) (trees_onto popped none)) ks) there));
         mirrors = above pops.2 goes;
@@ -340,7 +342,8 @@ module _ (s : Spec) (M : Automaton) (m n : Machine) (is : IsAutomaton M) (useful
     -- so it comes to no shift
     no_shift : {stack : List Pushed} → Strays stack → IsRaw M.grammar (symbols_of stack) token.terminal shift → ⊥
     no_shift {stack = stack} x raw = x.not_asked (never_mislead M.grammar is.augmented is.reduced x.from x.under
-        (symbols_of stack) x.before x.number x.lookahead token.terminal x.rule x.is_rule x.viable x.valid x.split x.leads raw)
+        (symbols_of stack) x.before x.number x.lookahead token.terminal x.rule x.is_rule x.viable x.valid x.split
+        x.leads raw)
 
     -- the symbols of a stack of which a reduction pops some
     symbols_split : {stack : List Pushed} {levels : List Level} {mirrors : Mirrors M (shape_in s) stack levels}
@@ -429,7 +432,8 @@ module _ (s : Spec) (M : Automaton) (m n : Machine) (is : IsAutomaton M) (useful
       at stack = record { stack = stack; rest = token ∷ behind }
 
       -- what becomes of the token behind a move becomes of it
-      before_move : (stack next : List Pushed) (out : Fed) → Moves M.grammar (judge_of s) (record { stack = stack; rest = token ∷ behind }) (record { stack = next; rest = token ∷ behind })
+      before_move : (stack next : List Pushed) (out : Fed) → Moves M.grammar (judge_of s)
+          (record { stack = stack; rest = token ∷ behind }) (record { stack = next; rest = token ∷ behind })
           → Follows M (shape_in s) (judge_of s) next token behind out
           → Follows M (shape_in s) (judge_of s) stack token behind out
       before_move stack next (pushed levels) mv f = (f.0, machine.onward mv f.1, f.2)
@@ -438,10 +442,12 @@ module _ (s : Spec) (M : Automaton) (m n : Machine) (is : IsAutomaton M) (useful
       before_move stack next faulty mv f = f
 
       -- one turn of the tables: the token is settled, a reduction is a move, or nothing is asked for
-      data Step {stack : List Pushed} {levels : List Level} (mirrors : Mirrors M (shape_in s) stack levels) : Type 0 where
+      data Step {stack : List Pushed} {levels : List Level} (mirrors : Mirrors M (shape_in s) stack levels)
+          : Type 0 where
         as_settled : (out : Fed) → turn n token levels ≡ settles out
             → Follows M (shape_in s) (judge_of s) stack token behind out → Step mirrors
-        as_moved : (r : Reduced mirrors) → Moves M.grammar (judge_of s) (record { stack = stack; rest = token ∷ behind })
+        as_moved : (r : Reduced mirrors) → Moves M.grammar (judge_of s)
+            (record { stack = stack; rest = token ∷ behind })
             (record {
               stack = record {
                 symbol = nonterminal r.made.rule.left;
@@ -577,7 +583,8 @@ module _ (s : Spec) (M : Automaton) (m n : Machine) (is : IsAutomaton M) (useful
               record { token = token; behind = behind; is_next = refl; action = inr nothing },
               refl,
             )
-      follow {out = out} (onward {next = next} e rest) stack mirrors = by_step (step mirrors) (λ st ms. follow rest st ms)
+      follow {out = out} (onward {next = next} e rest) stack mirrors
+          = by_step (step mirrors) (λ st ms. follow rest st ms)
         where
           by_step : Step mirrors → ((st : List Pushed) → Mirrors M (shape_in s) st next
               → Follows M (shape_in s) (judge_of s) st token behind out)

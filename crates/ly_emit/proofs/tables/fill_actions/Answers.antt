@@ -24,8 +24,8 @@ table_action-requires-clause-shifted c =
     let row = c.args.row.now in
     let i = c.loop-entry.entry-index in
     let x = slice_index_or row i (record { terminal = record { 0 = 0 }; action = Shift }) in
-    let done = done_there row i (record { terminal = record { 0 = 0 }; action = Shift }) c.loop-entry-test.true M.grammar
-    judge (prefix_of M c.args.state.0) c.requires.row in
+    let done = done_there row i (record { terminal = record { 0 = 0 }; action = Shift }) c.loop-entry-test.true
+    M.grammar judge (prefix_of M c.args.state.0) c.requires.row in
     λ e. subst (λ N. IsRaw N.grammar (prefix_of N c.args.state.0) x.terminal.0 shift) (sym c.lr0.ensures.these)
     (shifted M.grammar judge (prefix_of M c.args.state.0) x.terminal.0 (action_from x.action) done e)
 
@@ -57,8 +57,8 @@ loop-entry-preserved c =
     let inv = c.loop-entry.invariant in
     let old = dense_entry c.loop-entry.actions in
     let new = dense_entry c.set.new.self in
-    let done = done_there row i (record { terminal = record { 0 = 0 }; action = Shift }) c.loop-entry-test.true M.grammar
-    judge (prefix_of M k) c.requires.row in
+    let done = done_there row i (record { terminal = record { 0 = 0 }; action = Shift }) c.loop-entry-test.true
+    M.grammar judge (prefix_of M k) c.requires.row in
     let is_entry : IsEntryFor M k t (action_from x.action) (entry_action a)
     = subst (λ N. IsEntryFor N k t (action_from x.action) (entry_action a)) c.lr0.ensures.these
     c.in_ok-action.ensures in

@@ -40,7 +40,8 @@ returns c =
     c.in_ok-gotos.ensures in
     let rules = subst (λ x. AreRulesTo x (length x.grammar.rules) (map rule_from c.in_ok-rules.rules.items))
     c.spec-spec.ensures.these c.in_ok-rules.ensures.rules in
-    subst (AreTables s M) (sym c.new.ensures) (are_tables s M (subst IsAutomaton c.lr0-lr0.ensures.these c.states.ensures.lawful)
+    subst (AreTables s M) (sym c.new.ensures) (are_tables s M
+    (subst IsAutomaton c.lr0-lr0.ensures.these c.states.ensures.lawful)
     c.lr0-lr0.ensures.useful c.terminals.result c.accept.result.0 (dense_entry c.in_ok-actions.actions)
     (dense_entry c.in_ok-gotos.gotos) c.in_ok-defaults.defaults.items c.in_ok-rules.rules.items
     (c.terminals.ensures ∙ ap (λ g. g.terminals) (c.grammar.ensures.grammar ∙ spec))
