@@ -1,3 +1,4 @@
+pub mod Private
 pub mod Ranges
 pub mod Spelling
 pub mod TableSet
