@@ -22,7 +22,7 @@ use Rattle.ly_pack.specs.declared.action.TableAction as code
 use Rattle.ly_pack.proofs.GridLemmas.{cell-grid_of}
 use Rattle.ly_tables.specs.Private.Short.{IsRuleWritten, IsShapeWritten, IsShortOption, IsSlotShort}
 use Rattle.ly_tables.specs.Ranges.{AreRows, IsRuleShort, IsShapeShort, IsWithinRanges, version_1}
-use Rattle.ly_tables.specs.Spelling.{action_number}
+use Rattle.ly_tables.specs.Spelling.{action_number, check_of, next_of}
 use Rattle.ly_tables.specs.TableSet.{TableSet, machine_of}
 
 -- what holds of each member of a list that was mapped
@@ -30,6 +30,11 @@ pub All-at : {A B : Type 0} (P : B → Type 0) (f : A → B) (xs : List A) (i : 
     → All P (map f xs) → P (f (get_or xs i d))
 All-at P f xs i d lt all =
     subst P (get_or-map f xs i d (f d) lt) (all i (f d) (omega (arith, length-map xs f)))
+
+-- what holds of one that stands in the list
+pub All-item : {A B : Type 0} (P : B → Type 0) (f : A → B) (xs : List A) (i : ℕ) (x : A) → i < length xs
+    → x ≡ get_or xs i x → All P (map f xs) → P (f x)
+All-item P f xs i x lt is all = subst (λ y. P (f y)) (sym is) (All-at P f xs i x lt all)
 
 -- distinct places of a body are no more than it has
 few_places : (n : ℕ) (places : List ℕ) → All (λ i. (1 ≤ i) × (i ≤ n)) places → AllPairs (λ i j. i ≡ j → ⊥) places
@@ -70,6 +75,16 @@ slot_short : {E : Type 0} (number : E → ℕ) (o : Option (Used E))
     → ((u : Used E) → o ≡ Some u → (u.row < 65536) × (number u.entry < 65536)) → IsSlotShort number o
 slot_short number None short = tt
 slot_short number (Some u) short = short u refl
+
+pub next_short : {E : Type 0} (number : E → ℕ) (o : Option (Used E)) → IsSlotShort number o
+    → next_of number o < 65536
+next_short number None short = omega arith
+next_short number (Some u) short = short.1
+
+pub check_short : {E : Type 0} (number : E → ℕ) (o : Option (Used E)) → IsSlotShort number o
+    → check_of w16 o < 65536
+check_short number None short = omega arith
+check_short number (Some u) short = short.0
 
 -- the slots of rows whose entries' numbers fit
 pub slots_short : {E : Type 0} (number : E → ℕ) (states columns : ℕ) (c : Comb E) → states ≤ 16383

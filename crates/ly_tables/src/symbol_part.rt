@@ -3,6 +3,7 @@ ghost use Rattle.std.specs.Prelude.{◌≡◌, ◌++◌, ◌<◌, All, OnOk, len
 ghost use Rattle.std.specs.List.{flat_map};
 ghost use Rattle.std.specs.Int.{w16};
 ghost use Rattle.ly_tables.specs.Private.Short.{IsShort};
+ghost use Rattle.ly_tables.specs.Ranges.{version_1, IsWithinRanges};
 ghost use Rattle.ly_tables.specs.Spelling.{number, string, symbol_sections};
 
 use crate::numbers::{push_count, push_number, push_string};
@@ -12,7 +13,8 @@ use std::alloc::AllocError;
 
 /// The sections of the symbols: how many there are, the names of terminals, and the terminal of each byte.
 pub(crate) fn push_symbols(out: &mut Vec<u8>, set: &TableSet) -> Result<(), AllocError>
-    ensures { OnOk result (out.new.items ≡ out.old.items ++ symbol_sections w16 set.now) }
+    ensures bytes { OnOk result (out.new.items ≡ out.old.items ++ symbol_sections w16 set.now) }
+    ensures within { IsWithinRanges w16 version_1 set.now }
 {
     push_count(out, set.terminals.len())?;
     push_count(out, set.nonterminals)?;
