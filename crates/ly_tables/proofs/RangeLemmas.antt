@@ -93,9 +93,9 @@ pub slots_short : {E : Type 0} (number : E → ℕ) (states columns : ℕ) (c : 
     → All (IsSlotShort number) c.slots
 slots_short {E} number states columns c le rows entries = λ k d lt.
     slot_short number (get_or c.slots k d) (λ u e.
-      let at : slice_get c.slots k ≡ Some (Some u) = slice_get-get_or c.slots k d lt ∙ ap Some e in
-      let base = rows.is_comb.slots k u at in
-      (omega (arith, slice_get_within c.bases u.row base.0 base.1, rows.rows), entries k u at))
+    let at : slice_get c.slots k ≡ Some (Some u) = slice_get-get_or c.slots k d lt ∙ ap Some e in
+    let base = rows.is_comb.slots k u at in
+    (omega (arith, slice_get_within c.bases u.row base.0 base.1, rows.rows), entries k u at))
 
 -- a used slot's entry is that of its row and a column
 used_entry : {E : Type 0} (c : Comb E) (u : Used E) (base k : ℕ) → slice_get c.slots k ≡ Some (Some u)

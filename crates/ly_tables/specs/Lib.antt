@@ -1,3 +1,4 @@
+pub mod Laws
 pub mod Private
 pub mod Ranges
 pub mod Spelling

@@ -7,6 +7,7 @@
 #![tactic(auto)]
 
 mod combs;
+mod laws;
 mod numbers;
 mod parser_part;
 mod scan_rule;
@@ -17,6 +18,7 @@ mod table_parts;
 mod table_set;
 mod writing;
 
+pub use laws::a_set_has_one_spelling;
 pub use scan_rule::ScanRule;
 pub use starts::Starts;
 pub use table_parts::TableParts;
