@@ -1,10 +1,11 @@
 -- What is within the ranges fits the file's numbers.
-use Rattle.std.proofs.Common.{◌≡◌, ◌≢◌, ◌∙◌, ◌<◌, ◌≤◌, ◌+◌, ◌-◌, ℕ, suc, zero, List, [], ◌∷◌, length, map, Option, Some, None}
-use Rattle.std.proofs.Common.{true, refl, sym, ap, subst, arith, slice_get, get_or, nat_lt, nat_eq, eqb, eqb-true, lt-ltb, All}
-use Rattle.std.specs.Prelude.{AllPairs, option_and_then, option_map, cond}
+use Rattle.std.proofs.Common.{◌≡◌, ◌∙◌, ◌<◌, ◌≤◌, ◌+◌, ◌-◌, ℕ, suc, List, ◌∷◌, length, map, Option, Some, None}
+use Rattle.std.proofs.Common.{true, refl, sym, ap, subst, arith, slice_get, get_or, nat_lt, nat_eq, eqb}
+use Rattle.std.proofs.Common.{eqb-true, lt-ltb, All}
+use Rattle.std.specs.Prelude.{AllPairs, option_map}
 use Rattle.std.specs.Int.{w16}
-use Rattle.std.specs.List.{list_any, IsDistinct}
-use Rattle.std.proofs.lemmas.Bool.{cond-true, eq-eqb}
+use Rattle.std.specs.List.{IsDistinct}
+use Rattle.std.proofs.lemmas.Bool.{eq-eqb}
 use Rattle.std.proofs.lemmas.Bool.Decides.{Decides-eqb}
 use Rattle.std.proofs.lemmas.List.{get_or-map, length-map}
 use Rattle.std.proofs.lemmas.List.Elements.{All-contains, All-cons, All-weaker}
@@ -15,8 +16,9 @@ use Rattle.std.proofs.lemmas.Map.Views.{Contains-from_any}
 use Rattle.std.proofs.lemmas.Option.{slice_get_within, slice_get-get_or}
 use Rattle.ly_base.specs.Shape.{Shape, nil, place, node}
 use Rattle.ly_base.specs.declared.numbers.StateNo.{StateNo}
-use Rattle.ly_pack.specs.Machine.{TableAction, TableRule, IsLegal, IsMachine, IsRuleNumber, IsRuleWithin, IsShapeFor, shift, reduce, accept, error, states_of}
-use Rattle.ly_pack.specs.Rows.{Comb, Used, comb_entry, given_to}
+use Rattle.ly_pack.specs.Machine.{TableAction, TableRule, IsLegal, IsRuleNumber, IsRuleWithin, IsShapeFor}
+use Rattle.ly_pack.specs.Machine.{shift, reduce, accept, error}
+use Rattle.ly_pack.specs.Rows.{Comb, Used, comb_entry}
 use Rattle.ly_pack.specs.Values.{action_from, actions_from, gotos_from}
 use Rattle.ly_pack.specs.declared.action.TableAction as code
 use Rattle.ly_pack.proofs.GridLemmas.{cell-grid_of}

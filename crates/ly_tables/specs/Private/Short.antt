@@ -1,5 +1,5 @@
 -- Which parts have numbers that fit the file's.
-use Rattle.std.specs.Prelude.{ℕ, ◌<◌, ◌≤◌, All, Option, Some, None, length}
+use Rattle.std.specs.Prelude.{ℕ, ◌<◌, All, Option, Some, None, length}
 use Rattle.std.specs.Int.{w16}
 use Rattle.ly_base.specs.Shape.{Shape, nil, place, node}
 use Rattle.ly_pack.specs.Machine.{TableRule}
