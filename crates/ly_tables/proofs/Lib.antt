@@ -1,0 +1,2 @@
+pub mod JoinLemmas
+pub mod RangeLemmas

@@ -1,3 +1,5 @@
+pub mod Laws
+pub mod Private
 pub mod Ranges
 pub mod Spelling
 pub mod TableSet

@@ -1,11 +1,11 @@
 -- What a table set of a version may hold: every number fits, and what it names is there.
-use Rattle.std.specs.Prelude.{◌≡◌, ℕ, ◌+◌, ◌-◌, ◌*◌, ◌^◌, ◌<◌, ◌≤◌, List, All, Option, Some, length, slice_get, codes}
+use Rattle.std.specs.Prelude.{◌≡◌, ℕ, ◌+◌, ◌*◌, ◌^◌, ◌<◌, ◌≤◌, List, All, Some, length, slice_get, codes}
 use Rattle.std.specs.Int.{Width, byte_len}
-use Rattle.ly_base.specs.Shape.{Shape, nil, place, node}
+use Rattle.ly_base.specs.Shape.{Shape, node}
 use Rattle.ly_base.specs.declared.cut.Cut.{Cut}
 use Rattle.ly_base.specs.declared.cut.Cut.TheVariants.{Whole, Head, Tail}
 use Rattle.ly_base.specs.declared.scan_action.Emitted.{Emitted}
-use Rattle.ly_base.specs.declared.scan_action.Emitted.TheVariants.{Nothing, Terminal, FirstByte}
+use Rattle.ly_base.specs.declared.scan_action.Emitted.TheVariants.{Terminal}
 use Rattle.ly_base.specs.declared.numbers.StateNo.{StateNo}
 use Rattle.ly_pack.specs.Machine.{IsMachine, TableRule}
 use Rattle.ly_pack.specs.Rows.{Comb, IsComb, Used}

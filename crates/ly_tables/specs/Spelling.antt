@@ -1,5 +1,5 @@
 -- The bytes of a table set, with numbers of some width. Numbers are unsigned, and their greatest byte comes first.
-use Rattle.std.specs.Prelude.{◌≡◌, ℕ, ◌+◌, ◌-◌, ◌*◌, ◌^◌, List, [], ◌∷◌, ◌++◌, length, Option, Some, None, codes}
+use Rattle.std.specs.Prelude.{ℕ, ◌+◌, ◌-◌, ◌*◌, ◌^◌, List, [], ◌∷◌, ◌++◌, length, Option, Some, None, codes}
 use Rattle.std.specs.List.{flat_map}
 use Rattle.std.specs.Int.{Width, w16, w32, byte_len, to_be_bytes}
 use Rattle.ly_base.specs.Shape.{Shape, nil, place, node}

@@ -13,6 +13,7 @@ use Rattle.ly_pack.specs.declared.rule.TableRule as rule
 use Rattle.ly_tables.specs.TableSet.{ScanRule, Starts, TableSet}
 use Rattle.ly_tables.specs.declared.scan_rule.ScanRule as scan
 use Rattle.ly_tables.specs.declared.starts.Starts as start
+use Rattle.ly_tables.specs.declared.table_parts.TableParts as parts
 
 abbrev pub scan_rule_from : scan.ScanRule → ScanRule
 scan_rule_from r = record { action = r.action; cut = r.cut }
@@ -40,3 +41,7 @@ set_from terminals nonterminals literals scan_rules conditions class_count class
       actions = actions;
       gotos = gotos;
     }
+
+abbrev pub set_of : parts.TableParts → TableSet
+set_of p = set_from p.terminals.items p.nonterminals p.literals.items p.scan_rules.items p.conditions.items
+    p.class_count p.classes.items p.accepted.items p.scan_rows p.rules.items p.defaults.items p.actions p.gotos

@@ -6,10 +6,21 @@
 //! Left out: reading a table file.
 #![tactic(auto)]
 
+mod combs;
+mod laws;
+mod numbers;
+mod parser_part;
 mod scan_rule;
+mod scanner_part;
 mod starts;
+mod symbol_part;
+mod table_parts;
 mod table_set;
+mod writing;
 
+pub use laws::a_set_has_one_spelling;
 pub use scan_rule::ScanRule;
 pub use starts::Starts;
+pub use table_parts::TableParts;
 pub use table_set::TableSet;
+pub use writing::write_tables;

@@ -1,5 +1,11 @@
+ghost use Rattle.std.specs.Prelude.{◌≡◌};
+ghost use Rattle.std.specs.Int.{w16};
+ghost use Rattle.ly_tables.specs.Ranges.{version_1, IsWithinRanges};
+ghost use Rattle.ly_tables.specs.Values.{set_of};
+
 use crate::scan_rule::ScanRule;
 use crate::starts::Starts;
+use crate::table_parts::TableParts;
 use ly_base::{RuleNo, StateNo, Sym};
 use ly_pack::{Comb, TableAction, TableRule};
 use std::marker::Model;
@@ -52,4 +58,28 @@ impl Model for TableSet {
     ghost invariant = { λ s. IsWithinRanges w16 version_1 (set_from s.terminals.items s.nonterminals s.literals.items
         s.scan_rules.items s.conditions.items s.class_count s.classes.items s.accepted.items s.scan_rows s.rules.items
         s.defaults.items s.actions s.gotos) };
+}
+
+impl TableSet {
+    /// The set of these parts, which are within the ranges.
+    pub fn new(parts: TableParts) -> TableSet
+        requires { IsWithinRanges w16 version_1 (set_of parts) }
+        ensures { result ≡ set_of parts }
+    {
+        TableSet {
+            terminals: parts.terminals,
+            nonterminals: parts.nonterminals,
+            literals: parts.literals,
+            scan_rules: parts.scan_rules,
+            conditions: parts.conditions,
+            class_count: parts.class_count,
+            classes: parts.classes,
+            accepted: parts.accepted,
+            scan_rows: parts.scan_rows,
+            rules: parts.rules,
+            defaults: parts.defaults,
+            actions: parts.actions,
+            gotos: parts.gotos,
+        }
+    }
 }

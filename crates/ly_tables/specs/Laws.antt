@@ -1,0 +1,11 @@
+-- Laws of table files.
+use Rattle.std.specs.Prelude.{◌≡◌, ℕ, List}
+use Rattle.std.specs.Int.{Width}
+use Rattle.ly_tables.specs.Ranges.{Counts}
+use Rattle.ly_tables.specs.TableSet.{TableSet}
+use Rattle.ly_tables.specs.TableText.{TableText}
+
+-- two files of one set, in one version, are equal
+abbrev pub HasOneSpelling : Type 0
+HasOneSpelling = (a b : List ℕ) (w : Width) (version : ℕ) (counts : Counts) (s : TableSet)
+    → TableText a w version counts s → TableText b w version counts s → a ≡ b
