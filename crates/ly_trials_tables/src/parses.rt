@@ -31,10 +31,22 @@ const PARSES: [(&[u8], &[u8], Answer); 12] = [
         b"n*n+n+n",
         Answer::Term(b"A(A(B(t\"n\",t\"n\"),t\"n\"),t\"n\")"),
     ),
-    (b"%left '+'\n%%e : e '+' e | 'n' ;", b"n+", Answer::Refused(3, 2)),
+    (
+        b"%left '+'\n%%e : e '+' e | 'n' ;",
+        b"n+",
+        Answer::Refused(3, 2),
+    ),
     (b"%%s : ;", b"", Answer::Term(b"()")),
-    (b"%left '+'\n%%e : e '+' e | 'n' ;", b"nn", Answer::Refused(2, 1)),
-    (b"%nonassoc '<'\n%%e : e '<' e | 'n' ;", b"n<n<n", Answer::Refused(4, 3)),
+    (
+        b"%left '+'\n%%e : e '+' e | 'n' ;",
+        b"nn",
+        Answer::Refused(2, 1),
+    ),
+    (
+        b"%nonassoc '<'\n%%e : e '<' e | 'n' ;",
+        b"n<n<n",
+        Answer::Refused(4, 3),
+    ),
     (
         b"%%s : 'i' s { $$ = If($2); } | 'i' s 'e' s { $$ = IfElse($2,$4); } | 'x' ;",
         b"iixex",
@@ -107,8 +119,9 @@ fn answered<A: Rows<TableAction> + Drop, G: Rows<StateNo> + Drop>(
 /// Whether that is the answer.
 fn is_so(answered: &(Step, Vec<u8>), answer: Answer) -> bool {
     match (answered.0, answer) {
-        (Step::Done(_), Answer::Term(shown)) => answered.1 == *shown,
-        (Step::Refused { token, byte }, Answer::Refused(number, at)) => token == number && byte == at,
+        (Step::Done(_), Answer::Term(shown)) => answered.1.as_slice() == shown,
+        (Step::Refused { token, byte }, Answer::Refused(number, at)) => token == number
+            && byte == at,
         _ => false,
     }
 }
@@ -139,8 +152,17 @@ fn endless(alloc: Global, yacc: &[u8]) -> Result<Option<(u32, u32, u32)>, Fail> 
 #[test]
 fn endless_tables_are_refused(rt: HostRuntime) -> Result<(), Fail> {
     let alloc = rt.alloc();
-    assert_eq!(rt; endless(alloc, b"%start s\n%%a : a | 'x' ; s : a ;")?, Some((0, 1, 0)));
+    assert_eq!(rt;
+        endless(alloc, b"%start s\n%%a : a | 'x' ; s : a ;")?,
+        Some((0, 1, 0))
+    );
     assert_eq!(rt; endless(alloc, b"%%s : a ; a : a | 'x' ;")?, None);
-    assert!(rt; endless(alloc, b"%left 'y'\n%left HI\n%%s : n s 'x' | 'y' ; n : %prec HI ;")?.is_some());
+    assert!(rt;
+        endless(
+            alloc,
+            b"%left 'y'\n%left HI\n%%s : n s 'x' | 'y' ; n : %prec HI ;"
+        )?
+        .is_some()
+    );
     Ok(())
 }

@@ -9,7 +9,7 @@ use ly_join::{Spec, join};
 use ly_lexread::read_lex;
 use ly_lookahead::lookaheads;
 use ly_lr0::automaton;
-use ly_pack::{Comb, Dense, Machine, TableAction, choose_defaults, pack};
+use ly_pack::{Dense, Machine, Packed, TableAction, choose_defaults, pack};
 use ly_resolve::resolve;
 use ly_yaccread::read_yacc;
 use std::alloc::Global;
@@ -35,7 +35,7 @@ pub(crate) fn specification(alloc: Global, yacc: &[u8]) -> Result<Spec, Fail>
 type Plain = Machine<Dense<TableAction>, Dense<StateNo>>;
 
 /// Tables with defaults, laid over one another.
-pub(crate) type Packed = Machine<Comb<TableAction>, Comb<StateNo>>;
+pub(crate) type Packing = Machine<Packed<TableAction>, Packed<StateNo>>;
 
 /// The tables of a specification, without defaults.
 pub(crate) fn plain_tables(alloc: Global, spec: &Spec) -> Result<Plain, Fail>
@@ -60,7 +60,7 @@ pub(crate) fn plain_tables(alloc: Global, spec: &Spec) -> Result<Plain, Fail>
 }
 
 /// The same with defaults, laid over one another.
-pub(crate) fn packed_tables(alloc: Global, spec: &Spec) -> Result<Packed, Fail>
+pub(crate) fn packed_tables(alloc: Global, spec: &Spec) -> Result<Packing, Fail>
     requires { AreShapesWithin spec.now }
 {
     let plain = plain_tables(alloc, spec)?;
