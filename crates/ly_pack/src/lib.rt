@@ -1,4 +1,5 @@
-//! From a parser's tables as rows to smaller ones that say the same: default reductions, and rows laid over one another.
+//! From a parser's tables as rows to smaller ones that say the same: default reductions, and rows laid over one
+//! another.
 //!
 //! `Machine` is a parser as tables over any `Rows`: as they stand (`Dense`), or one over another with a check of the
 //! row in each slot (`Comb`). `choose_defaults` finds each state's most frequent reduction and leaves out the entries
@@ -18,6 +19,7 @@ mod machine;
 mod order;
 mod pack_machine;
 mod packed;
+mod placement_laws;
 mod placing;
 mod rows;
 mod rule;
@@ -31,6 +33,7 @@ pub use laws::{runs_end, stacks_keep_edges};
 pub use machine::Machine;
 pub use pack_machine::pack;
 pub use packed::Packed;
+pub use placement_laws::{default_is_one, placement_is_one};
 pub use placing::comb;
 pub use rows::Rows;
 pub use rule::TableRule;
