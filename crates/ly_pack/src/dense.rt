@@ -1,5 +1,5 @@
 ghost use Rattle.std.specs.Prelude.{◌≡◌, ◌<◌, ◌+◌, ◌*◌, ℕ, nat_eq, ◌&&◌, if◌then◌else◌, None, IfOk};
-ghost use Rattle.ly_pack.specs.Rows.{dense_entry};
+ghost use Rattle.ly_pack.specs.Rows.{dense_entry, IsDense};
 
 use crate::rows::Rows;
 use ly_base::{OutOfMemory, StateNo};
@@ -54,7 +54,8 @@ impl<E: Copy> Dense<E> {
 
     /// How many columns each has.
     pub fn width(&self) -> usize
-        ensures { result ≡ self.now.width }
+        ensures count { result ≡ self.now.width }
+        ensures all { IsDense self.now }
     {
         self.width
     }

@@ -14,17 +14,17 @@ use std::marker::Model;
 #[derive(Drop)]
 pub struct Machine<A: Rows<TableAction> + Drop, G: Rows<StateNo> + Drop> {
     /// How many terminals there are.
-    terminals: usize,
+    pub(crate) terminals: usize,
     /// How many nonterminals.
-    nonterminals: usize,
+    pub(crate) nonterminals: usize,
     /// What is done in a state before a terminal, where it isn't the default.
-    actions: A,
+    pub(crate) actions: A,
     /// Where a state goes by a nonterminal.
-    gotos: G,
+    pub(crate) gotos: G,
     /// The default reduction of each state.
-    defaults: Vec<Option<RuleNo>>,
+    pub(crate) defaults: Vec<Option<RuleNo>>,
     /// The rules but rule 0.
-    rules: Vec<TableRule>,
+    pub(crate) rules: Vec<TableRule>,
 }
 
 impl<A: Rows<TableAction> + Drop, G: Rows<StateNo> + Drop> Model for Machine<A, G> {

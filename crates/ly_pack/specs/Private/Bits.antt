@@ -1,0 +1,15 @@
+-- A row of bits: bit k is bit k % 64 of word k / 64, and 0 past the end.
+use Rattle.std.specs.Prelude.{◌≡◌, ℕ, ◌+◌, ◌*◌, ◌/◌, ◌%◌, ◌<◌, List, length, slice_index}
+use Rattle.std.specs.Int.{bit_at}
+
+-- 1 where the place is taken, else 0
+abbrev pub taken : List ℕ → ℕ → ℕ
+taken words k = bit_at (slice_index words (k / 64)) (k % 64)
+
+-- at a base every column's place is free
+abbrev pub IsFreeAt : List ℕ → List ℕ → ℕ → Type 0
+IsFreeAt words columns base = (j : ℕ) → j < length columns → taken words (base + slice_index columns j) ≡ 0
+
+-- at a base some column's place is taken
+abbrev pub IsTakenAt : List ℕ → List ℕ → ℕ → Type 0
+IsTakenAt words columns base = (j : ℕ) × (j < length columns) × (taken words (base + slice_index columns j) ≡ 1)

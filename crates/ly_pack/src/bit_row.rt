@@ -1,0 +1,115 @@
+//! Which slots are used, a bit each, and the first place where a row fits: 64 bases are tested at a time.
+ghost use Rattle.std.specs.Prelude.{◌≡◌, ◌≢◌, ◌+◌, ◌*◌, ◌^◌, ◌<◌, ◌≤◌, ℕ, length, slice_index, OnOk};
+ghost use Rattle.std.specs.Int.{bit_at};
+ghost use Rattle.ly_pack.specs.Private.Bits.{taken, IsFreeAt, IsTakenAt};
+
+use std::alloc::{AllocError, Global};
+
+/// How many bits a word has.
+const WORD_BITS: usize = 64;
+
+/// A set of places, a bit each.
+#[derive(Drop)]
+pub(crate) struct BitRow {
+    /// The bits: place `k` is bit `k % 64` of word `k / 64`.
+    words: Vec<u64>,
+    /// How many words, from the first on, are known to be full.
+    full: usize,
+    ghost small: { length words.items ≤ 2 ^ 27 },
+    ghost within: { full ≤ length words.items },
+    ghost are_full: { (k : ℕ) → k < 64 * full → taken words.items k ≡ 1 },
+}
+
+impl BitRow {
+    /// No place is taken.
+    pub(crate) fn new(alloc: Global) -> BitRow
+        ensures { (k : ℕ) → taken result.words.items k ≡ 0 }
+    {
+        BitRow {
+            words: Vec::new(alloc),
+            full: 0,
+        }
+    }
+
+    /// Takes a place.
+    pub(crate) fn insert(&mut self, place: usize) -> Result<(), AllocError>
+        requires { place < 2 ^ 33 }
+        ensures same { OnOk result (taken self.new.words.items place ≡ 1) }
+        ensures others { OnOk result ((k : ℕ) → k ≢ place → taken self.new.words.items k
+            ≡ taken self.old.words.items k) }
+    {
+        let word = place / WORD_BITS;
+        while self.words.len() <= word {
+            self.words.push(0)?;
+        }
+        self.words[word] |= 1 << (place % WORD_BITS);
+        self.skip_full();
+        Ok(())
+    }
+
+    /// Counts the full words anew.
+    fn skip_full(&mut self)
+        ensures { self.new.words ≡ self.old.words }
+    {
+        while self.full < self.words.len() && self.words[self.full] == u64::MAX {
+            self.full += 1;
+        }
+    }
+
+    /// The least base at which every column's place is free.
+    pub(crate) fn first_fit(&self, columns: &[u32]) -> usize
+        requires { 0 < length columns.now }
+        ensures free { IsFreeAt self.now.words.items columns.now result }
+        ensures least { (lower : ℕ) → lower < result → IsTakenAt self.now.words.items columns.now lower }
+    {
+        let start = (WORD_BITS * self.full).saturating_sub(columns[0] as usize) / WORD_BITS;
+        for word in start..self.words.len() {
+            let taken = self.taken_bases(word, columns);
+            if taken != u64::MAX {
+                return WORD_BITS * word + taken.trailing_ones() as usize;
+            }
+        }
+        WORD_BITS * self.words.len()
+    }
+
+    /// Of the 64 bases of a word, those at which some column's place is taken.
+    fn taken_bases(&self, word: usize, columns: &[u32]) -> u64
+        requires { word < length self.now.words.items }
+        ensures taken { (i : ℕ) → i < 64 → bit_at result i ≡ 1
+            → IsTakenAt self.now.words.items columns.now (64 * word + i) }
+        ensures free { (i : ℕ) → i < 64 → bit_at result i ≡ 0
+            → IsFreeAt self.now.words.items columns.now (64 * word + i) }
+    {
+        let mut taken = 0;
+        for column in columns {
+            taken |= self.window(WORD_BITS * word + *column as usize);
+            if taken == u64::MAX {
+                return taken;
+            }
+        }
+        taken
+    }
+
+    /// The 64 bits from a place on.
+    fn window(&self, place: usize) -> u64
+        ensures { (i : ℕ) → i < 64 → bit_at result i ≡ taken self.now.words.items (place + i) }
+    {
+        let word = place / WORD_BITS;
+        let shift = place % WORD_BITS;
+        let low = self.word(word) >> shift;
+        if shift == 0 {
+            return low;
+        }
+        low | self.word(word + 1) << (WORD_BITS - shift)
+    }
+
+    /// A word, with no bit past the end.
+    fn word(&self, index: usize) -> u64
+        ensures { result ≡ slice_index self.now.words.items index }
+    {
+        match self.words.get(index) {
+            Some(word) => *word,
+            None => 0,
+        }
+    }
+}

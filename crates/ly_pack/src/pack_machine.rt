@@ -1,0 +1,44 @@
+ghost use Rattle.std.specs.Prelude.{◌≡◌, ℕ, IfOk};
+ghost use Rattle.ly_pack.specs.Rows.{comb_entry, dense_entry};
+
+use crate::action::TableAction;
+use crate::dense::Dense;
+use crate::machine::Machine;
+use crate::packed::Packed;
+use crate::placing::comb;
+use ly_base::{OutOfMemory, StateNo};
+use std::alloc::Global;
+
+/// The machine over combs that are placed by first fit. It fails where memory runs out, and where a base or a column
+/// has no `u32`.
+pub fn pack(
+    alloc: Global,
+    machine: Machine<Dense<TableAction>, Dense<StateNo>>,
+) -> Result<Machine<Packed<TableAction>, Packed<StateNo>>, OutOfMemory>
+    ensures { IfOk result (λ packed. packed ≡ machine) }
+{
+    let Machine {
+        terminals,
+        nonterminals,
+        actions,
+        gotos,
+        defaults,
+        rules,
+    } = machine;
+    Ok(Machine {
+        terminals,
+        nonterminals,
+        actions: pack_rows(alloc, &actions)?,
+        gotos: pack_rows(alloc, &gotos)?,
+        defaults,
+        rules,
+    })
+}
+
+/// The rows as a comb.
+fn pack_rows<E: Copy>(alloc: Global, dense: &Dense<E>) -> Result<Packed<E>, OutOfMemory>
+    ensures { IfOk result (λ packed. (row column : ℕ) → comb_entry packed row column
+        ≡ dense_entry dense.now row column) }
+{
+    Ok(Packed::new(comb(alloc, dense)?))
+}

@@ -1,0 +1,130 @@
+//! From rows as they stand to a comb: first fit, the rows with the most entries first (Tarjan and Yao 1979).
+//!
+//! Left out: anything that would make combs shorter than first fit does.
+ghost use Rattle.std.specs.Prelude.{◌≡◌, ◌≢◌, ◌⊎◌, ◌<◌, ◌≤◌, ◌^◌, ℕ, suc, length, IfOk, OnOk, Some};
+ghost use Rattle.ly_pack.specs.Placement.{IsPlaced};
+ghost use Rattle.ly_pack.specs.Private.Order.{columns_of};
+ghost use Rattle.ly_pack.specs.Private.Placing.{slot_at, table_of, AreAllLaid, AreTied, IsFilled, IsRowPlaced};
+ghost use Rattle.ly_pack.specs.Rows.{comb_entry, dense_entry};
+
+use crate::bit_row::BitRow;
+use crate::comb_rows::{Comb, Slot};
+use crate::dense::Dense;
+use crate::order::{list_columns, rows_in_order};
+use crate::rows::Rows;
+use ly_base::{OutOfMemory, StateNo};
+use std::alloc::{AllocError, Global};
+
+/// Lays rows over one another: each begins at the least base where it shares no slot with a row of more entries, or of
+/// as many and a lower number. It fails where memory runs out, and where a base or a column has no `u32`.
+pub fn comb<E: Copy>(alloc: Global, dense: &Dense<E>) -> Result<Comb<E>, OutOfMemory>
+    ensures placed { IfOk result (IsPlaced (record {
+      entries = dense_entry dense.now;
+      rows = dense.now.rows;
+      width = dense.now.width;
+    })) }
+    ensures entries { IfOk result (λ c. (row column : ℕ) → comb_entry c row column
+        ≡ dense_entry dense.now row column) }
+{
+    if dense.rows() > u32::MAX as usize || dense.width() > u32::MAX as usize {
+        return Err(OutOfMemory);
+    }
+    let (bases, slots) = place_rows(alloc, dense)?;
+    Ok(Comb::new(dense.width(), bases, slots))
+}
+
+/// The bases of the rows, and the slots.
+fn place_rows<E: Copy>(
+    alloc: Global,
+    dense: &Dense<E>,
+) -> Result<(Vec<u32>, Vec<Option<Slot<E>>>), OutOfMemory>
+    requires rows { dense.now.rows < 2 ^ 32 }
+    requires width { dense.now.width < 2 ^ 32 }
+    ensures { IfOk result (λ placed. AreAllLaid (table_of dense.now) placed.0.items placed.1.items) }
+{
+    let order = rows_in_order(alloc, dense)?;
+    let mut bases = vec![in alloc; 0u32; dense.rows()]?;
+    let mut placing = Placing {
+        slots: Vec::new(alloc),
+        used: BitRow::new(alloc),
+    };
+    let mut columns = Vec::new(alloc);
+    for row in &order {
+        list_columns(dense, StateNo(*row), &mut columns)?;
+        bases[*row as usize] = placing.place(dense, StateNo(*row), &columns)?;
+    }
+    Ok((bases, placing.slots))
+}
+
+/// Rows that are placed, with a bit for each slot that is used.
+#[derive(Drop)]
+struct Placing<E> {
+    /// The slots.
+    slots: Vec<Option<Slot<E>>>,
+    /// Which of them are used.
+    used: BitRow,
+}
+
+impl<E: Copy> Placing<E> {
+    /// Places a row, and tells its base.
+    fn place(&mut self, dense: &Dense<E>, row: StateNo, columns: &[u32]) -> Result<u32, OutOfMemory>
+        requires row { row.0 < dense.now.rows }
+        requires columns { columns.now ≡ columns_of (dense_entry dense.now) dense.now.width row.0 }
+        requires tied { AreTied self.old.used.words.items self.old.slots.items }
+        ensures placed { IfOk result (λ base. IsRowPlaced (table_of dense.now) row.0 self.old.slots.items
+            self.new.slots.items base) }
+        ensures tied { OnOk result (AreTied self.new.used.words.items self.new.slots.items) }
+    {
+        if columns.is_empty() {
+            return Ok(0);
+        }
+        let base = self.used.first_fit(columns);
+        if base > u32::MAX as usize {
+            return Err(OutOfMemory);
+        }
+        self.fill(dense, row, columns, base)?;
+        Ok(base as u32)
+    }
+
+    /// Puts the entries of a row into the slots from a base on.
+    fn fill(
+        &mut self,
+        dense: &Dense<E>,
+        row: StateNo,
+        columns: &[u32],
+        base: usize,
+    ) -> Result<(), OutOfMemory>
+        requires columns { columns.now ≡ columns_of (dense_entry dense.now) dense.now.width row.0 }
+        requires base { base < 2 ^ 32 }
+        requires tied { AreTied self.old.used.words.items self.old.slots.items }
+        ensures filled { OnOk result (IsFilled (table_of dense.now) row.0 self.old.slots.items
+            self.new.slots.items base) }
+        ensures tied { OnOk result (AreTied self.new.used.words.items self.new.slots.items) }
+    {
+        for column in columns {
+            if let Some(entry) = dense.entry(row, *column as usize) {
+                self.take(base + *column as usize, Slot { row, entry })?;
+            }
+        }
+        Ok(())
+    }
+
+    /// Puts a used slot into its place.
+    fn take(&mut self, place: usize, slot: Slot<E>) -> Result<(), AllocError>
+        requires place { place < 2 ^ 33 }
+        requires tied { AreTied self.old.used.words.items self.old.slots.items }
+        ensures same { OnOk result (slot_at self.new.slots.items place ≡ Some slot) }
+        ensures others { OnOk result ((k : ℕ) → k ≢ place → slot_at self.new.slots.items k
+            ≡ slot_at self.old.slots.items k) }
+        ensures tied { OnOk result (AreTied self.new.used.words.items self.new.slots.items) }
+        ensures grows { OnOk result (length self.old.slots.items ≤ length self.new.slots.items) }
+        ensures short { OnOk result ((k : ℕ) → suc k ≡ length self.new.slots.items
+            → (k ≡ place) ⊎ (suc k ≡ length self.old.slots.items)) }
+    {
+        while self.slots.len() <= place {
+            self.slots.push(None)?;
+        }
+        self.slots[place] = Some(slot);
+        self.used.insert(place)
+    }
+}
