@@ -153,7 +153,3 @@ module _ (s : TableSet) (r : IsWithinRanges w16 version_1 s) where
       row column ∙ ap (option_map (λ (n : StateNo). n.0))
       (used_entry s.gotos u place.0 k at place.1 place.2 place.3)) in
       omega (arith, next, r.state_count))
-
-  pub scan_rows_short : All (IsSlotShort (λ (n : StateNo). n.0)) s.scan_rows.slots
-  scan_rows_short = slots_short (λ (n : StateNo). n.0) (length s.accepted) s.class_count s.scan_rows
-      r.scan_state_count r.scan_rows (λ k u at. omega (arith, r.scan_targets k u at, r.scan_state_count))

@@ -85,7 +85,8 @@ pub record IsWithinRanges (w : Width) (counts : Counts) (s : TableSet) : Type 0 
   pub scan_state_count : length s.accepted ≤ counts.states
   pub accepted : (k p : ℕ) → slice_get s.accepted k ≡ Some (Some p) → p < length s.scan_rules
   pub scan_rows : AreRows (length s.accepted) s.class_count s.scan_rows
-  pub scan_targets : (k : ℕ) (u : Used StateNo) → slice_get s.scan_rows.slots k ≡ Some (Some u) → u.entry.0 < length s.accepted
+  pub scan_targets : (k : ℕ) (u : Used StateNo) → slice_get s.scan_rows.slots k ≡ Some (Some u)
+      → u.entry.0 < length s.accepted
   pub some_rule : 1 ≤ length s.rules
   pub rule_count : length s.rules ≤ counts.rules
   pub rules : All IsRuleShort s.rules

@@ -40,13 +40,13 @@ fn push_rules(out: &mut Vec<u8>, rules: &[TableRule]) -> Result<(), AllocError>
 }
 
 /// A rule of the parser.
-fn push_rule(out: &mut Vec<u8>, made: &TableRule) -> Result<(), AllocError>
-    requires { IsRuleWritten (rule_from made.now) }
-    ensures { OnOk result (out.new.items ≡ out.old.items ++ rule w16 (rule_from made.now)) }
+fn push_rule(out: &mut Vec<u8>, table_rule: &TableRule) -> Result<(), AllocError>
+    requires { IsRuleWritten (rule_from table_rule.now) }
+    ensures { OnOk result (out.new.items ≡ out.old.items ++ rule w16 (rule_from table_rule.now)) }
 {
-    push_number(out, made.left.0)?;
-    out.push(made.body_length as u8)?;
-    push_tree(out, &made.tree)
+    push_number(out, table_rule.left.0)?;
+    out.push(table_rule.body_length as u8)?;
+    push_tree(out, &table_rule.tree)
 }
 
 /// What a rule makes: its kind, a constructor's name, and places.

@@ -67,11 +67,11 @@ fn push_emitted(out: &mut Vec<u8>, emits: Emitted) -> Result<(), AllocError>
 }
 
 /// A cut: its kind, and its length or 0.
-fn push_cut(out: &mut Vec<u8>, part: Cut) -> Result<(), AllocError>
-    requires { IsCutWithin w16 part }
-    ensures { OnOk result (out.new.items ≡ out.old.items ++ cut w16 part) }
+fn push_cut(out: &mut Vec<u8>, scan_cut: Cut) -> Result<(), AllocError>
+    requires { IsCutWithin w16 scan_cut }
+    ensures { OnOk result (out.new.items ≡ out.old.items ++ cut w16 scan_cut) }
 {
-    let (kind, len) = match part {
+    let (kind, len) = match scan_cut {
         Cut::Whole => (0, 0),
         Cut::Head(len) => (1, len),
         Cut::Tail(len) => (2, len),

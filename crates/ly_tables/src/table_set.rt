@@ -42,13 +42,10 @@ pub struct TableSet {
 }
 
 impl Model for TableSet {
-    ghost use Rattle.std.specs.Prelude.{map};
-    ghost use Rattle.std.specs.Option.{option_map};
     ghost use Rattle.std.specs.Int.{w16};
-    ghost use Rattle.ly_pack.specs.Values.{rule_from};
     ghost use Rattle.ly_tables.specs.Ranges.{version_1, IsWithinRanges};
     ghost use Rattle.ly_tables.specs.TableSet as value;
-    ghost use Rattle.ly_tables.specs.Values.{scan_rule_from, set_from, starts_from};
+    ghost use Rattle.ly_tables.specs.Values.{set_from};
 
     ghost Value = { value.TableSet };
 

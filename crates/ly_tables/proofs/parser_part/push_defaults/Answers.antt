@@ -5,5 +5,5 @@ use Rattle.ly_tables.specs.Private.Short.{IsShortOption}
 use Rattle.ly_tables.proofs.parser_part.push_defaults.Goals as goal
 
 pub push_default-requires : goal.push_default-requires
-push_default-requires c = All-at IsShortOption (option_map (λ (p : RuleNo). p.0)) c.args.defaults.now c.loop-rule.rule-index _ c.loop-rule-test.true
-    c.requires.short
+push_default-requires c = All-at IsShortOption (option_map (λ (p : RuleNo). p.0)) c.args.defaults.now
+    c.loop-rule.rule-index _ c.loop-rule-test.true c.requires.short

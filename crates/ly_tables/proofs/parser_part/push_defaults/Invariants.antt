@@ -7,5 +7,6 @@ use Rattle.ly_tables.proofs.parser_part.push_defaults.Given as goal
 
 -- what is written and what is left are all
 abbrev pub invariant-loop-rule : goal.invariant-loop-rule
-invariant-loop-rule l = l.out.items ++ flat_map (or_zero w16) (map (option_map (λ p. p.0)) (drop l.rule-index l.defaults))
+invariant-loop-rule l = l.out.items ++ flat_map (or_zero w16)
+    (map (option_map (λ p. p.0)) (drop l.rule-index l.defaults))
     ≡ l.initial.out.items ++ flat_map (or_zero w16) (map (option_map (λ p. p.0)) l.defaults)

@@ -7,5 +7,6 @@ use Rattle.ly_tables.proofs.scanner_part.push_accepted.Given as goal
 
 -- what is written and what is left are all
 abbrev pub invariant-loop-rule : goal.invariant-loop-rule
-invariant-loop-rule l = l.out.items ++ flat_map (counted_from_one w16) (map (option_map (λ p. p.0)) (drop l.rule-index l.accepted))
+invariant-loop-rule l = l.out.items ++ flat_map (counted_from_one w16)
+    (map (option_map (λ p. p.0)) (drop l.rule-index l.accepted))
     ≡ l.initial.out.items ++ flat_map (counted_from_one w16) (map (option_map (λ p. p.0)) l.accepted)

@@ -7,5 +7,6 @@ use Rattle.ly_tables.proofs.scanner_part.push_conditions.Given as goal
 
 -- what is written and what is left are all
 abbrev pub invariant-loop-condition : goal.invariant-loop-condition
-invariant-loop-condition l = l.out.items ++ flat_map (starts w16) (map starts_from (drop l.condition-index l.conditions))
+invariant-loop-condition l = l.out.items ++ flat_map (starts w16)
+    (map starts_from (drop l.condition-index l.conditions))
     ≡ l.initial.out.items ++ flat_map (starts w16) (map starts_from l.conditions)

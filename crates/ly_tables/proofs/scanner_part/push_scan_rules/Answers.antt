@@ -4,5 +4,5 @@ use Rattle.ly_tables.specs.Private.Short.{IsScanRuleShort}
 use Rattle.ly_tables.proofs.scanner_part.push_scan_rules.Goals as goal
 
 pub push_scan_rule-requires : goal.push_scan_rule-requires
-push_scan_rule-requires c = All-at IsScanRuleShort scan_rule_from c.args.rules.now c.loop-rule.rule-index _ c.loop-rule-test.true
-    c.requires.short
+push_scan_rule-requires c = All-at IsScanRuleShort scan_rule_from c.args.rules.now c.loop-rule.rule-index _
+    c.loop-rule-test.true c.requires.short

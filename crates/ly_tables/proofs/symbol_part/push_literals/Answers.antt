@@ -4,5 +4,5 @@ use Rattle.ly_tables.specs.Private.Short.{IsShort}
 use Rattle.ly_tables.proofs.symbol_part.push_literals.Goals as goal
 
 pub push_number-requires : goal.push_number-requires
-push_number-requires c = All-at IsShort (λ (t : Sym). t.0) c.args.literals.now c.loop-literal.literal-index _ c.loop-literal-test.true
-    c.requires
+push_number-requires c = All-at IsShort (λ (t : Sym). t.0) c.args.literals.now c.loop-literal.literal-index _
+    c.loop-literal-test.true c.requires
