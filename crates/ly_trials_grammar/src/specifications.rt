@@ -3,8 +3,7 @@
 use ly_base::{Emitted, Limits, RuleTree, ScanAction, Sym};
 use ly_grammar::{Reduced, reduce};
 use ly_join::{
-    Associativity, Grammar, JoinFault, Limit, Precedence, RuleNote,
-    Spec, TerminalName, join,
+    Associativity, Grammar, JoinFault, Limit, Precedence, RuleNote, Spec, TerminalName, join,
 };
 use ly_lexread::read_lex;
 use ly_yaccread::read_yacc;

@@ -83,8 +83,11 @@ fn answered<A: Rows<TableAction> + Drop, G: Rows<StateNo> + Drop>(
     tables: &Machine<A, G>,
     text: &[u8],
 ) -> Result<(Step, Vec<u8>), Fail> {
-    if steady(alloc, tables).is_err() || tables.terminals() == 0 {
+    let Ok(()) = steady(alloc, tables) else {
         return Err(Fail::from("tables were refused that are steady"));
+    };
+    if tables.terminals() == 0 {
+        return Err(Fail::from("tables have no end"));
     }
     let mut parser = Parser::new(alloc, tables);
     for at in 0..text.len() {

@@ -1,5 +1,5 @@
 //! The tables of small grammars.
-ghost use Rattle.std.specs.Prelude.{IfOk};
+ghost use Rattle.std.specs.Prelude.{◌≢◌, ℕ, Some, slice_get, IfOk};
 ghost use Rattle.ly_emit.specs.Tables.{AreShapesWithin};
 
 use ly_base::{Limits, StateNo};
@@ -40,6 +40,7 @@ pub(crate) type Packing = Machine<Packed<TableAction>, Packed<StateNo>>;
 /// The tables of a specification, without defaults.
 pub(crate) fn plain_tables(alloc: Global, spec: &Spec) -> Result<Plain, Fail>
     requires { AreShapesWithin spec.now }
+    ensures { IfOk result (λ m. (state p : ℕ) → slice_get m.defaults state ≢ Some (Some p)) }
 {
     let Ok(reduced) = reduce(alloc, spec.grammar()) else {
         return Err(Fail::from("a grammar was refused that is to be reduced"));
