@@ -7,7 +7,7 @@ use Rattle.std.proofs.lemmas.Option.{same_Some, none-some, slice_get_past}
 use Rattle.ly_pack.specs.Placement.{Fits, GoesBefore, Has, Table}
 use Rattle.ly_pack.specs.Private.Order.{IsOrder, columns_of}
 use Rattle.ly_pack.specs.Private.Bits.{taken, IsFreeAt, IsTakenAt}
-use Rattle.ly_pack.specs.Private.Placing.{AreLaid, AreTied, IsFilled, IsPartFilled, IsRowPlaced, Uses, flag, slot_at}
+use Rattle.ly_pack.specs.Private.Placing.{AreLaid, AreTied, IsFilled, IsRowPlaced, Uses, flag, slot_at}
 use Rattle.ly_pack.specs.Private.Placing.{slot_of}
 use Rattle.ly_pack.specs.Rows.{Entries}
 use Rattle.ly_pack.specs.declared.comb_rows.Slot.{Slot}
@@ -214,6 +214,16 @@ flag-none (Some x) e = absurd (omega (arith, e))
 pub flag-some : {X : Type 0} (o : Option X) → flag o ≡ 1 → (x : X) × (o ≡ Some x)
 flag-some None e = absurd (omega (arith, e))
 flag-some (Some x) e = (x, refl)
+
+-- The entries of the row's first n columns have been put into the slots from a base on, and nothing else.
+pub record IsPartFilled {E : Type 0} (entries : Entries E) (row base : ℕ) (columns : List ℕ) (n : ℕ)
+    (old new : List (Option (Slot E))) : Type 0 where
+  pub filled : (j : ℕ) (e : E) → j < n → entries row (get_or columns j 0) ≡ Some e
+      → slot_at new (base + get_or columns j 0) ≡ Some (slot_of row e)
+  pub others : (k : ℕ) → ((j : ℕ) → j < n → k ≢ base + get_or columns j 0) → slot_at new k ≡ slot_at old k
+  pub grows : length old ≤ length new
+  pub short : (k : ℕ) → suc k ≡ length new
+      → (suc k ≡ length old) ⊎ ((j : ℕ) × (j < n) × (k ≡ base + get_or columns j 0))
 
 module _ {E : Type 0} (entries : Entries E) (row base : ℕ) (columns : List ℕ) (n : ℕ)
     (start before : List (Option (Slot E))) (so : IsPartFilled entries row base columns n start before) where

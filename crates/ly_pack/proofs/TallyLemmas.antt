@@ -11,7 +11,7 @@ use Rattle.std.proofs.lemmas.List.Elements.{filter-append}
 use Rattle.std.proofs.lemmas.List.Filters.{length-filter_both}
 use Rattle.std.proofs.lemmas.Option.{same_Some, none-some, slice_get_within}
 use Rattle.ly_pack.specs.Defaults.{is_by}
-use Rattle.ly_pack.specs.Private.Tally.{AreTakenOut, HaveDefaults, IsChosen, left_out, out_by, reductions, rule_of}
+use Rattle.ly_pack.specs.Private.Tally.{HaveDefaults, IsChosen, left_out, out_by, reductions, rule_of}
 use Rattle.ly_pack.specs.Private.Tally.{times}
 use Rattle.ly_pack.specs.Rows.{Dense, Entries, IsDense, dense_entry}
 use Rattle.ly_pack.specs.Values.{action_from, actions_from}
@@ -105,6 +105,14 @@ times_few p n rules = omega (
   length-filter_both (nat_eq p) (λ r. not (nat_eq p r)) (λ r. refl) (take n rules),
   length-take n rules,
 )
+
+-- From the first columns of a row the reductions by a rule are taken out.
+pub record AreTakenOut (state p columns : ℕ) (old new : Dense code.TableAction) : Type 0 where
+  pub rows : new.rows ≡ old.rows
+  pub width : new.width ≡ old.width
+  pub done : (t : ℕ) → t < columns → dense_entry new state t ≡ left_out p (dense_entry old state t)
+  pub left : (t : ℕ) → columns ≤ t → dense_entry new state t ≡ dense_entry old state t
+  pub others : (r t : ℕ) → r ≢ state → dense_entry new r t ≡ dense_entry old r t
 
 -- one column more is gone over
 module _ (state p n : ℕ) (old mid : Dense code.TableAction) (so : AreTakenOut state p n old mid) where

@@ -1,10 +1,10 @@
 -- Combs that are not whole yet: some rows are placed.
 use Rattle.std.specs.Prelude.{◌≡◌, ◌≢◌, ◌⊎◌, ◌↔◌, ℕ, suc, ◌+◌, ◌<◌, ◌≤◌, List, length, Option, Some, None, slice_get}
-use Rattle.std.specs.Prelude.{option_and_then, slice_index}
+use Rattle.std.specs.Prelude.{option_and_then}
 use Rattle.ly_pack.specs.Placement.{Fits, Has, Table}
 use Rattle.ly_pack.specs.Private.Bits.{taken}
 use Rattle.ly_pack.specs.Private.Order.{IsOrder}
-use Rattle.ly_pack.specs.Rows.{Dense, Entries, dense_entry}
+use Rattle.ly_pack.specs.Rows.{Dense, dense_entry}
 use Rattle.ly_pack.specs.declared.comb_rows.Slot.{Slot}
 
 -- the table of rows as they stand
@@ -36,16 +36,6 @@ pub record IsFilled {E : Type 0} (T : Table E) (row : ℕ) (old new : List (Opti
   pub grows : length old ≤ length new
   pub short : (k : ℕ) → suc k ≡ length new
       → (suc k ≡ length old) ⊎ ((column : ℕ) × Has T row column × (k ≡ base + column))
-
--- The entries of the row's first n columns have been put into the slots from a base on, and nothing else.
-pub record IsPartFilled {E : Type 0} (entries : Entries E) (row base : ℕ) (columns : List ℕ) (n : ℕ)
-    (old new : List (Option (Slot E))) : Type 0 where
-  pub filled : (j : ℕ) (e : E) → j < n → entries row (slice_index columns j) ≡ Some e
-      → slot_at new (base + slice_index columns j) ≡ Some (slot_of row e)
-  pub others : (k : ℕ) → ((j : ℕ) → j < n → k ≢ base + slice_index columns j) → slot_at new k ≡ slot_at old k
-  pub grows : length old ≤ length new
-  pub short : (k : ℕ) → suc k ≡ length new
-      → (suc k ≡ length old) ⊎ ((j : ℕ) × (j < n) × (k ≡ base + slice_index columns j))
 
 -- A row has been placed at the least base where the slots of its entries were free.
 pub record IsRowPlaced {E : Type 0} (T : Table E) (row : ℕ) (old new : List (Option (Slot E))) (base : ℕ) : Type 0 where

@@ -1,5 +1,5 @@
 -- The rules by which a state reduces, and how often.
-use Rattle.std.specs.Prelude.{◌≡◌, ◌≢◌, ◌⊎◌, ℕ, ◌<◌, ◌≤◌, List, length, filter, Option, Some, None, nat_eq, nat_lt}
+use Rattle.std.specs.Prelude.{◌≡◌, ◌⊎◌, ℕ, ◌<◌, ◌≤◌, List, length, filter, Option, Some, None, nat_eq, nat_lt}
 use Rattle.std.specs.Prelude.{slice_get, slice_index, if◌then◌else◌, MatchOption}
 use Rattle.std.specs.Prelude.{Bool, true, ◌||◌, ◌&&◌, ◌==◌}
 use Rattle.std.specs.List.{range_with_len}
@@ -54,14 +54,6 @@ IsBetter counts rule (Some best) b = b ≡ (nat_lt (slice_index counts best.0) (
 abbrev pub out_by : Option RuleNo → Option code.TableAction → Option code.TableAction
 out_by None a = a
 out_by (Some p) a = left_out p.0 a
-
--- From the first columns of a row the reductions by a rule are taken out.
-pub record AreTakenOut (state p columns : ℕ) (old new : Dense code.TableAction) : Type 0 where
-  pub rows : new.rows ≡ old.rows
-  pub width : new.width ≡ old.width
-  pub done : (t : ℕ) → t < columns → dense_entry new state t ≡ left_out p (dense_entry old state t)
-  pub left : (t : ℕ) → columns ≤ t → dense_entry new state t ≡ dense_entry old state t
-  pub others : (r t : ℕ) → r ≢ state → dense_entry new r t ≡ dense_entry old r t
 
 -- The first states have their defaults, and entries that are equal to these are taken out.
 pub record HaveDefaults (terminals : ℕ) (old new : Dense code.TableAction) (defaults : List (Option RuleNo)) : Type 0

@@ -1,9 +1,9 @@
 use Rattle.std.proofs.Common.{◌+◌, ◌∙◌, None, ap, sym, subst, arith}
 use Rattle.std.specs.Prelude.{nat_eq}
 use Rattle.std.proofs.lemmas.Bool.{cond-true, cond-false, eq-eqb, eqb-true, eqb-false, ne_eqb}
-use Rattle.ly_pack.specs.Private.Tally.{AreTakenOut, rule_of}
+use Rattle.ly_pack.specs.Private.Tally.{rule_of}
 use Rattle.ly_pack.specs.Rows.{dense_entry}
-use Rattle.ly_pack.proofs.TallyLemmas.{left_out-none, left_out-rule, taken_one, taken_same}
+use Rattle.ly_pack.proofs.TallyLemmas.{AreTakenOut, left_out-none, left_out-rule, taken_one, taken_same}
 use Rattle.ly_pack.proofs.defaults.take_out.Goals as goal
 use Rattle.ly_pack.proofs.defaults.take_out.Goals.{in-Some-rule_of+then-eq, in-Some-rule_of+else-eq, in_default-rule_of}
 

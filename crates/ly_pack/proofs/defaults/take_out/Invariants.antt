@@ -1,4 +1,4 @@
-use Rattle.ly_pack.specs.Private.Tally.{AreTakenOut}
+use Rattle.ly_pack.proofs.TallyLemmas.{AreTakenOut}
 use Rattle.ly_pack.proofs.defaults.take_out.Given as goal
 
 abbrev pub invariant-loop-column : goal.invariant-loop-column

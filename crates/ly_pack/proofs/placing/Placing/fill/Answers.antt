@@ -1,8 +1,8 @@
 use Rattle.std.proofs.Common.{◌≡◌, ◌+◌, arith, length, sym, subst}
-use Rattle.ly_pack.specs.Private.Placing.{table_of, AreTied, IsPartFilled}
+use Rattle.ly_pack.specs.Private.Placing.{table_of, AreTied}
 use Rattle.ly_pack.specs.Rows.{dense_entry}
 use Rattle.ly_pack.specs.declared.placing.Placing.{Placing}
-use Rattle.ly_pack.proofs.PlacingLemmas.{part_none, part_more, filled_all}
+use Rattle.ly_pack.proofs.PlacingLemmas.{IsPartFilled, part_none, part_more, filled_all}
 use Rattle.ly_pack.proofs.placing.Placing.fill.Goals as goal
 use Rattle.ly_pack.proofs.placing.Placing.fill.Goals.{in-Some+in_ok-take, in_default}
 

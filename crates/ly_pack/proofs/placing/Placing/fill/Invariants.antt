@@ -1,5 +1,6 @@
-use Rattle.ly_pack.specs.Private.Placing.{AreTied, IsPartFilled}
+use Rattle.ly_pack.specs.Private.Placing.{AreTied}
 use Rattle.ly_pack.specs.Rows.{dense_entry}
+use Rattle.ly_pack.proofs.PlacingLemmas.{IsPartFilled}
 use Rattle.ly_pack.proofs.placing.Placing.fill.Given as goal
 
 abbrev pub invariant-loop-column : goal.invariant-loop-column
