@@ -1,16 +1,16 @@
 -- On steady tables the reference machine's runs end.
-use Rattle.std.proofs.Common.{◌≡◌, ◌≢◌, ◌∙◌, ◌⊎◌, inl, inr, ℕ, zero, suc, ◌+◌, ◌*◌, ◌<◌, ◌≤◌, List, [], ◌∷◌, ◌++◌, All, Option}
+use Rattle.std.proofs.Common.{◌≡◌, ◌∙◌, inl, inr, ℕ, zero, suc, ◌+◌, ◌*◌, ◌<◌, List, [], ◌∷◌, ◌++◌, Option}
 use Rattle.std.proofs.Common.{None, Some, ap, append_assoc, arith, length, refl, subst, sym}
 use Rattle.std.proofs.lemmas.List.Elements.{All-head, All-tail}
 use Rattle.ly_base.specs.Lexed.{Token}
-use Rattle.ly_base.specs.Trees.{Tree}
 use Rattle.ly_join.specs.Joined.{Spec}
 use Rattle.ly_grammar.specs.Reduction.{KeepsUseful}
 use Rattle.ly_lr0.specs.Automaton.{Automaton, IsAutomaton}
-use Rattle.ly_pack.specs.Machine.{Machine, TableAction, TableRule, IsMachine, accept, action_of, error, goto_at, reduce, shift}
+use Rattle.ly_pack.specs.Machine.{Machine, TableAction, TableRule, IsMachine, accept, action_of, error, goto_at}
+use Rattle.ly_pack.specs.Machine.{reduce, shift}
 use Rattle.ly_pack.specs.Steady as steady
 use Rattle.ly_pack.specs.Steady.{EndsWithin, IsSteady, by_shift, move, rule_at, run_bound}
-use Rattle.ly_pack.specs.SteadyLaws.{IsStack, reductions, on_edge, bottom as alone}
+use Rattle.ly_pack.specs.SteadyLaws.{IsStack, reductions, bottom as alone}
 use Rattle.ly_pack.proofs.Runs.{keeps, reductions_fall, runs_end, shifts_keep}
 use Rattle.ly_parse.specs.Feeding.{Fed, Feeds, Level, Turn, done, faulty, go_to, goes_on, onward, perform, pop, pushed}
 use Rattle.ly_parse.specs.Feeding.{reduce_by, refused, settled, settles, states_on, top_of, turn, uncover}
@@ -39,7 +39,8 @@ reduced_not_read m p stack next (Some r) e = by_pop (pop r.body_length stack ter
   by_pop None e = cc e
   by_pop (Some x) e = by_state x (goto_at m (top_of x.1) r.left) e
 
-accepted_not_read : (stack next : List Level) → Rattle.ly_parse.specs.Feeding.accept_with stack ≡ settles (pushed next) → ⊥
+accepted_not_read : (stack next : List Level)
+    → Rattle.ly_parse.specs.Feeding.accept_with stack ≡ settles (pushed next) → ⊥
 accepted_not_read [] next e = cc e
 accepted_not_read (l ∷ stack) next e = cc e
 

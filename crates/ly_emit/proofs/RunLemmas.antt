@@ -1,5 +1,5 @@
 -- Tables follow the reference machine over tokens one after another.
-use Rattle.std.proofs.Common.{◌≡◌, ◌∙◌, ℕ, zero, suc, ◌<◌, List, [], ◌∷◌, ◌++◌, All, append_assoc, arith, length, refl, subst, sym}
+use Rattle.std.proofs.Common.{◌≡◌, ℕ, ◌<◌, List, [], ◌∷◌, ◌++◌, refl, subst, sym}
 use Rattle.std.proofs.lemmas.List.Elements.{All-head, All-tail}
 use Rattle.ly_base.specs.Lexed.{Token}
 use Rattle.ly_join.specs.Joined.{Spec}
@@ -50,5 +50,9 @@ accepted_follow s M n is useful of tokens end last term all reads fed =
 pub refused_follow : RefusedFollow
 refused_follow s M n is useful of before behind t last all reads fed =
     let read = reads_follow s M n is useful of reads [] t behind all bottom in
-    let step = tables_follow s M n is useful of read.0 last t behind refused (last_of M before t all) read.2 fed in
-    (step.0, Leads-append read.1 step.1, step.2, subst (λ rest. before ++ t ∷ behind ≡ before ++ rest) (sym step.3) refl)
+    let step = tables_follow s M n is useful of read.0 last t behind refused (last_of M before t all) read.2 fed in (
+      step.0,
+      Leads-append read.1 step.1,
+      step.2,
+      subst (λ rest. before ++ t ∷ behind ≡ before ++ rest) (sym step.3) refl,
+    )

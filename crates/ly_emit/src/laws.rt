@@ -5,8 +5,8 @@ pub fn tables_follow()
     ensures { TablesFollow }
 {}
 
-/// Where tables accept a text or refuse a token, so does the reference machine, with the same tree and at the same token;
-/// and where they are steady its runs end.
+/// Where tables accept a text or refuse a token, so does the reference machine, with the same tree and at the same
+/// token; and where they are steady its runs end.
 pub fn runs_follow()
     ensures accepted { AcceptedFollow }
     ensures refused { RefusedFollow }

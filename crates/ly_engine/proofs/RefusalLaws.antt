@@ -1,5 +1,6 @@
 -- Files that are refused aren't accepted.
-use Rattle.std.proofs.Common.{◌≡◌, ◌≢◌, ◌∙◌, ◌<◌, ◌≤◌, ◌+◌, ℕ, zero, suc, List, [], ◌∷◌, Bool, Option, Some, None, arith, ap, ap₂}
+use Rattle.std.proofs.Common.{◌≡◌, ◌≢◌, ◌∙◌, ◌<◌, ◌≤◌, ◌+◌, ℕ, zero, suc, List, [], ◌∷◌, Bool, Option, Some, None}
+use Rattle.std.proofs.Common.{arith, ap, ap₂}
 use Rattle.std.proofs.Common.{inl, inr, refl, subst, sym}
 use Rattle.std.specs.Prelude.{All, AllPairs, Contains, IsTrue, length, map, slice_get}
 use Rattle.std.proofs.lemmas.List.Elements.{All-weaker}
@@ -74,7 +75,8 @@ more_sets_under names rs ss conditions n same h = record {
   after = h.after;
   count = h.count;
   alive = All-weaker (HasSpot names rs conditions) (HasSpot names ss conditions)
-      (λ o alive. (alive.0, (alive.1.0, next_under names rs ss same o.condition o.line o.text alive.1.0 alive.1.1))) h.after
+      (λ o alive. (alive.0, (alive.1.0, next_under names rs ss same o.condition o.line o.text alive.1.0 alive.1.1)))
+      h.after
       h.alive;
   apart = λ i j d l m both. h.apart i j d l m (λ s. (
     λ is. next_under names ss rs back _ _ _ s ((both s).0 (next_under names rs ss same _ _ _ s is)),
@@ -117,7 +119,8 @@ count_same (r ∷ rs) (s ∷ ss) h = ap suc (count_same rs ss h.2)
 
 scanning_same : (f g : LexFile) → AreSame f g → scanning_of f ≡ scanning_of g
 scanning_same f g same
-    = ap (λ n. scanning_by n f.conditions (map acting_of f.actions.items)) (count_same f.rules.items g.rules.items same.rules)
+    = ap (λ n. scanning_by n f.conditions (map acting_of f.actions.items))
+    (count_same f.rules.items g.rules.items same.rules)
     ∙ (ap (λ n. scanning_by (length g.rules.items) n (map acting_of f.actions.items)) same.conditions
     ∙ ap (scanning_by (length g.rules.items) g.conditions) (actings_same f.actions.items g.actions.items same.actions))
   where
@@ -125,7 +128,8 @@ scanning_same f g same
     scanning_by rules conditions actions = record { rules = rules; conditions = conditions; actions = actions }
 
 -- two grammars of the useful rules of one are the same
-option_same : {X : Type 0} (a b : Option X) → ((x : X) → (a ≡ Some x) → (b ≡ Some x)) → ((x : X) → (b ≡ Some x) → (a ≡ Some x)) → a ≡ b
+option_same : {X : Type 0} (a b : Option X) → ((x : X) → (a ≡ Some x) → (b ≡ Some x))
+    → ((x : X) → (b ≡ Some x) → (a ≡ Some x)) → a ≡ b
 option_same None None to back = refl
 option_same None (Some y) to back = back y refl
 option_same (Some x) b to back = sym (to x refl)
@@ -163,7 +167,8 @@ module _ (limits : Sizes) (lex yacc : List ℕ) (s : Spec) (is : Specifies limit
   specified_one : (t : Spec) → Specifies limits lex yacc t → t ≡ s
   specified_one t other = joined_one (scanning_of is.file) is.written t s
       (subst (λ x. Joined x is.written t) (scanning_is other.file other.lex_text)
-      (subst (λ w. Joined (scanning_of other.file) w t) (text_one yacc other.written is.written other.yacc_text is.yacc_text)
+      (subst (λ w. Joined (scanning_of other.file) w t)
+      (text_one yacc other.written is.written other.yacc_text is.yacc_text)
       other.joined)) is.joined
 
   unfit_not_fit : (useful : Grammar) → IsFit limits s useful → (fault : GenFault) → fault ≢ OutOfMemory
@@ -178,7 +183,8 @@ module _ (limits : Sizes) (lex yacc : List ℕ) (s : Spec) (is : Specifies limit
   unfit_not_fit useful fit (NoGrammar f) some unfit = let d = fit.reduced.start_tree in
       unfit.1 d.0 ((keeps_trees s.grammar useful fit.useful_rules d.0).1 d.1)
   unfit_not_fit useful fit (Automaton f) some (e, other, keeps, more) = fit.few
-      (subst (λ G. HasMoreCores G limits.parser_states) (useful_same s.grammar other useful keeps fit.useful_rules) more)
+      (subst (λ G. HasMoreCores G limits.parser_states)
+      (useful_same s.grammar other useful keeps fit.useful_rules) more)
 
   not_refused : (useful : Grammar) → IsFit limits s useful → (fault : GenFault) → fault ≢ OutOfMemory
       → IsRefusedFor limits lex yacc fault → ⊥

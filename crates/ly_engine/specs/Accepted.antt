@@ -61,7 +61,8 @@ abbrev pub IsRefusedFor : Sizes → List ℕ → List ℕ → GenFault → Type 
 IsRefusedFor limits lex yacc (Lex fault) = (fault ≢ lex_fault.OutOfMemory)
     × IsRead limits.pattern_weight lex (Err fault)
 IsRefusedFor limits lex yacc (Yacc fault) = (w : Written) → YaccText yacc w → ⊥
-IsRefusedFor limits lex yacc (Join fault) = (fault ≢ join_fault.OutOfMemory) × (file : LexFile) × (w : Written) × LexText lex file × YaccText yacc w
+IsRefusedFor limits lex yacc (Join fault) = (fault ≢ join_fault.OutOfMemory)
+    × (file : LexFile) × (w : Written) × LexText lex file × YaccText yacc w
     × IsAtFault limits (scanning_of file) w fault
 IsRefusedFor limits lex yacc (Positions fault) = (fault ≡ TooManyPositions) × AreTooHeavy limits lex
 IsRefusedFor limits lex yacc (States fault) = (fault ≡ TooManyStates) × HaveTooManyStates limits lex
