@@ -19,29 +19,31 @@ enum Answer {
     Refused(u64, u64),
 }
 
+/// Sums of products.
+const SUMS_AND_PRODUCTS: &[u8] =
+    b"%left '+'\n%left '*'\n%%e : e '+' e { $$ = Add($1,$3); } | e '*' e { $$ = Mul($1,$3); } | 'n' ;";
+
+/// Sums, of which no term is made.
+const SUMS: &[u8] = b"%left '+'\n%%e : e '+' e | 'n' ;";
+
+/// A grammar that has a conflict only since sets of equal cores are merged.
+const MERGED: &[u8] = b"%%s : 'a' A 'd' | 'b' B 'd' | 'a' B 'e' | 'b' A 'e' ; A : 'c' ; B : 'c' ;";
+
 /// Yacc files over literals, texts of which each byte is a token, and what they are answered with.
 const PARSES: [(&[u8], &[u8], Answer); 12] = [
     (
-        b"%left '+'\n%left '*'\n%%e : e '+' e { $$ = Add($1,$3); } | e '*' e { $$ = Mul($1,$3); } | 'n' ;",
+        SUMS_AND_PRODUCTS,
         b"n+n*n",
         Answer::Term(b"A(t\"n\",B(t\"n\",t\"n\"))"),
     ),
     (
-        b"%left '+'\n%left '*'\n%%e : e '+' e { $$ = Add($1,$3); } | e '*' e { $$ = Mul($1,$3); } | 'n' ;",
+        SUMS_AND_PRODUCTS,
         b"n*n+n+n",
         Answer::Term(b"A(A(B(t\"n\",t\"n\"),t\"n\"),t\"n\")"),
     ),
-    (
-        b"%left '+'\n%%e : e '+' e | 'n' ;",
-        b"n+",
-        Answer::Refused(3, 2),
-    ),
+    (SUMS, b"n+", Answer::Refused(3, 2)),
     (b"%%s : ;", b"", Answer::Term(b"()")),
-    (
-        b"%left '+'\n%%e : e '+' e | 'n' ;",
-        b"nn",
-        Answer::Refused(2, 1),
-    ),
+    (SUMS, b"nn", Answer::Refused(2, 1)),
     (
         b"%nonassoc '<'\n%%e : e '<' e | 'n' ;",
         b"n<n<n",
@@ -62,16 +64,8 @@ const PARSES: [(&[u8], &[u8], Answer); 12] = [
         b"*i=i",
         Answer::Term(b"A(B(t\"i\"),t\"i\")"),
     ),
-    (
-        b"%%s : 'a' A 'd' | 'b' B 'd' | 'a' B 'e' | 'b' A 'e' ; A : 'c' ; B : 'c' ;",
-        b"acd",
-        Answer::Term(b"t\"a\""),
-    ),
-    (
-        b"%%s : 'a' A 'd' | 'b' B 'd' | 'a' B 'e' | 'b' A 'e' ; A : 'c' ; B : 'c' ;",
-        b"bcd",
-        Answer::Refused(3, 2),
-    ),
+    (MERGED, b"acd", Answer::Term(b"t\"a\"")),
+    (MERGED, b"bcd", Answer::Refused(3, 2)),
     (b"%%s : 'x' ; t : 'y' ;", b"y", Answer::Refused(1, 0)),
 ];
 
