@@ -11,7 +11,8 @@ use Rattle.ly_resolve.specs.Machine.{Leads, Pushed}
 use Rattle.ly_resolve.specs.Machine as machine
 use Rattle.ly_resolve.specs.Precedence.{judge_of}
 use Rattle.ly_resolve.proofs.AcceptLemmas.{Leads-append}
-use Rattle.ly_emit.specs.Following.{Mirrors, Reads, at_end, bottom, onward}
+use Rattle.ly_emit.specs.Following.{Mirrors, bottom}
+use Rattle.ly_parse.specs.Reading.{Reads, at_end, onward}
 use Rattle.ly_emit.specs.Laws.{AcceptedFollow, AreOf, RefusedFollow}
 use Rattle.ly_emit.specs.Tables.{IsMachineOf, shape_in}
 use Rattle.ly_emit.proofs.FollowLemmas.{tables_follow}

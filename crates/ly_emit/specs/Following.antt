@@ -4,8 +4,7 @@ use Rattle.ly_base.specs.Lexed.{Token}
 use Rattle.ly_base.specs.Shape.{Shape}
 use Rattle.ly_base.specs.Trees.{Tree}
 use Rattle.ly_lr0.specs.Automaton.{Automaton, goto_of}
-use Rattle.ly_pack.specs.Machine.{Machine}
-use Rattle.ly_parse.specs.Feeding.{Fed, Feeds, Level, done, faulty, pushed, refused, top_of}
+use Rattle.ly_parse.specs.Feeding.{Fed, Level, done, faulty, pushed, refused, top_of}
 use Rattle.ly_resolve.specs.Actions.{Judge}
 use Rattle.ly_resolve.specs.Machine.{Accepts, Configuration, Leads, Pushed, Refuses}
 use Rattle.ly_tree.specs.Term.{build}
@@ -31,9 +30,3 @@ Follows M shape judge stack token behind refused = (c : Configuration)
     × Leads M.grammar judge (record { stack = stack; rest = token ∷ behind }) c × Refuses M.grammar judge c
     × (c.rest ≡ token ∷ behind)
 Follows M shape judge stack token behind faulty = ⊥
-
--- Tokens are read one after another: each leaves the stack that the next is fed from.
-pub data Reads (m : Machine) : List Level → List (Token ℕ) → List Level → Type 0 where
-  at_end : {levels : List Level} → Reads m levels [] levels
-  onward : {levels next last : List Level} {token : Token ℕ} {tokens : List (Token ℕ)}
-      → Feeds m token levels (pushed next) → Reads m next tokens last → Reads m levels (token ∷ tokens) last

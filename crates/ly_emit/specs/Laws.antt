@@ -9,12 +9,13 @@ use Rattle.ly_pack.specs.Machine.{Machine, IsMachine}
 use Rattle.ly_pack.specs.Steady.{IsSteady}
 use Rattle.ly_base.specs.Trees.{Tree}
 use Rattle.ly_parse.specs.Feeding.{Fed, Feeds, Level, done, refused}
+use Rattle.ly_parse.specs.Reading.{Reads}
 use Rattle.ly_resolve.specs.Machine.{AcceptsWith, Ends, Pushed, RefusesAfter}
 use Rattle.ly_resolve.specs.Precedence.{judge_of}
 use Rattle.ly_tree.specs.Term.{Term, build}
 use Rattle.ly_yaccread.specs.File.{Written}
 use Rattle.ly_yaccread.specs.YaccText.{YaccText}
-use Rattle.ly_emit.specs.Following.{Follows, Mirrors, Reads}
+use Rattle.ly_emit.specs.Following.{Follows, Mirrors}
 use Rattle.ly_emit.specs.Tables.{AreShapesWithin, IsMachineOf, shape_in}
 
 -- What tables with defaults do with a token, the reference machine does too: a default stands for a reduction that is

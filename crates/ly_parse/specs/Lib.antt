@@ -4,3 +4,4 @@ pub mod FeedingLaws
 pub mod Parse
 pub mod ParseCode
 pub mod Private
+pub mod Reading

@@ -1,4 +1,5 @@
 pub mod Cuts
 pub mod Lexer
 pub mod Matching
+pub mod StateWalk
 pub mod Walk

@@ -1,0 +1,35 @@
+-- The faults of the parts as faults of driving.
+use Rattle.ly_base.specs.declared.whole.ReadFault.{ReadFault}
+use Rattle.ly_base.specs.declared.whole.ReadFault.TheVariants as read
+use Rattle.ly_drive.specs.declared.fault.DriveFault.{DriveFault}
+use Rattle.ly_drive.specs.declared.fault.DriveFault.TheVariants.{OutOfMemory, Read, TableFault, Tables, Write}
+use Rattle.ly_tables.specs.declared.fault.TableFault as code
+use Rattle.ly_tables.specs.declared.fault.TableFault.TheVariants as file
+
+abbrev pub fault_of_tables : code.TableFault → DriveFault
+fault_of_tables file.BadMagic = Tables file.BadMagic
+fault_of_tables file.BadVersion = Tables file.BadVersion
+fault_of_tables file.Truncated = Tables file.Truncated
+fault_of_tables file.Trailing = Tables file.Trailing
+fault_of_tables (file.OutOfRange section) = Tables (file.OutOfRange section)
+fault_of_tables file.Endless = Tables file.Endless
+fault_of_tables file.OutOfMemory = OutOfMemory
+
+abbrev pub fault_of_read : ReadFault → DriveFault
+fault_of_read read.Read = Read
+fault_of_read read.OutOfMemory = OutOfMemory
+
+-- a write failed
+abbrev pub IsWrite : DriveFault → Type 0
+IsWrite (Write written) = Unit {0}
+IsWrite _ = ⊥
+
+-- nothing was written: any fault but a failed write
+abbrev pub IsBeforeWriting : DriveFault → Type 0
+IsBeforeWriting (Write written) = ⊥
+IsBeforeWriting _ = Unit {0}
+
+-- the table file is refused
+abbrev pub IsOfFile : DriveFault → Type 0
+IsOfFile (Tables fault) = Unit {0}
+IsOfFile _ = ⊥

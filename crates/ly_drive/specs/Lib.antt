@@ -1,0 +1,6 @@
+pub mod DriveFault
+pub mod Private
+pub mod ScanPart
+pub mod TableAnswer
+pub mod Verdict
+pub mod Vocabularies

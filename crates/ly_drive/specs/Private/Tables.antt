@@ -1,0 +1,23 @@
+-- A scanner's tables in memory.
+use Rattle.std.specs.Prelude.{◌≡◌, ◌<◌, List, All, length, map, option_map}
+use Rattle.ly_base.specs.declared.numbers.RuleNo.{RuleNo}
+use Rattle.ly_base.specs.declared.numbers.Sym.{Sym}
+use Rattle.ly_drive.specs.ScanPart.{ScanPart, states_from}
+use Rattle.ly_drive.specs.declared.scan_table.ScanTable.TheInside.{Inside}
+use Rattle.ly_pack.specs.Rows.{dense_entry, grid_of}
+use Rattle.ly_tables.specs.Values.{scan_rule_from, starts_from}
+
+abbrev pub part_from : Inside → ScanPart
+part_from t = record {
+  literals = map (λ (s : Sym). s.0) t.literals.items;
+  rules = map scan_rule_from t.rules.items;
+  conditions = map starts_from t.conditions.items;
+  classes = t.classes.items;
+  accepted = map (option_map (λ (p : RuleNo). p.0)) t.accepted.items;
+  rows = grid_of t.rows.rows t.rows.width (states_from (dense_entry t.rows));
+}
+
+-- each byte has a class and a literal
+pub record IsScanTable (t : Inside) : Type 0 where
+  pub classes : length t.classes.items ≡ 256
+  pub literals : length t.literals.items ≡ 256

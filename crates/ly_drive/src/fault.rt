@@ -1,0 +1,81 @@
+ghost use Rattle.std.specs.Prelude.{◌≡◌};
+ghost use Rattle.ly_drive.specs.DriveFault.{fault_of_read, fault_of_tables};
+ghost use Rattle.ly_drive.specs.declared.fault.DriveFault.TheVariants.{OutOfMemory, Write};
+
+use ly_base::{OutOfMemory as NoMemory, ReadFault, WriteFault};
+use ly_tables::TableFault as FileFault;
+use std::alloc::AllocError;
+use thiserror::Error;
+
+/// Why there is no answer to a text by tables.
+#[derive(Clone, Copy, Debug, PartialEq, Eq, Error)]
+pub enum DriveFault {
+    /// The bytes are no table file that can be driven. Nothing was read or written.
+    #[error("{0}")]
+    Tables(FileFault),
+    /// The tables are at fault on the text: a goto is missing, a body goes past the bottom of the stack, they accept
+    /// without a tree, or a cut leaves no byte or more than its match has. Never for tables that were generated.
+    /// Nothing was written.
+    #[error("the tables are at fault")]
+    TableFault,
+    /// The reader failed in this call. Nothing was written.
+    #[error("the text could not be read")]
+    Read,
+    /// The writer failed in this call, and just the first `written` bytes of the answer went out.
+    #[error("the answer could not be written after {written} bytes")]
+    Write {
+        /// How many bytes went out.
+        written: usize,
+    },
+    /// A growth was refused. Nothing was written.
+    #[error("out of memory")]
+    OutOfMemory,
+}
+
+impl From<AllocError> for DriveFault {
+    ghost from_gives = { λ _ e. e ≡ OutOfMemory };
+
+    fn from(_error: AllocError) -> DriveFault {
+        DriveFault::OutOfMemory
+    }
+}
+
+impl From<NoMemory> for DriveFault {
+    ghost from_gives = { λ _ e. e ≡ OutOfMemory };
+
+    fn from(_error: NoMemory) -> DriveFault {
+        DriveFault::OutOfMemory
+    }
+}
+
+impl From<FileFault> for DriveFault {
+    ghost from_gives = { λ fault e. e ≡ fault_of_tables fault };
+
+    fn from(fault: FileFault) -> DriveFault {
+        match fault {
+            FileFault::OutOfMemory => DriveFault::OutOfMemory,
+            fault => DriveFault::Tables(fault),
+        }
+    }
+}
+
+impl From<ReadFault> for DriveFault {
+    ghost from_gives = { λ fault e. e ≡ fault_of_read fault };
+
+    fn from(fault: ReadFault) -> DriveFault {
+        match fault {
+            ReadFault::Read => DriveFault::Read,
+            ReadFault::OutOfMemory => DriveFault::OutOfMemory,
+        }
+    }
+}
+
+impl From<WriteFault> for DriveFault {
+    ghost from_gives = { λ fault e. e ≡ Write fault.written };
+
+    fn from(fault: WriteFault) -> DriveFault {
+        DriveFault::Write {
+            written: fault.written,
+        }
+    }
+}

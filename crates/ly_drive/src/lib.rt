@@ -1,0 +1,11 @@
+//! From a table file and a text to the printed answer.
+#![tactic(auto)]
+
+mod fault;
+mod names;
+mod outcome;
+mod scan_table;
+mod table_walk;
+
+pub use fault::DriveFault;
+pub use outcome::Outcome;

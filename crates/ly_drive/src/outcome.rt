@@ -1,0 +1,18 @@
+/// What a text is answered with.
+#[derive(Clone, Copy, Debug, PartialEq, Eq)]
+pub enum Outcome {
+    /// A tree.
+    Tree,
+    /// A token that is refused, or the end.
+    Syntax {
+        /// Its number, counted from 1; at the end the number of tokens and 1.
+        token: u64,
+        /// The byte where it stands, counted from 0.
+        byte: u64,
+    },
+    /// No rule matches.
+    NoRule {
+        /// At this byte, counted from 0.
+        byte: u64,
+    },
+}

@@ -1,0 +1,119 @@
+ghost use Rattle.std.specs.Prelude.{◌≡◌, ◌<◌, length, IfOk, Some, option_map, slice_get};
+ghost use Rattle.ly_drive.specs.ScanPart.{condition_in, cut_in, scan_part_of, states_in, terminal_in};
+ghost use Rattle.ly_tables.specs.TableSet.{TableSet};
+
+use ly_base::{Cut, Emitted, OutOfMemory, RuleNo, StateNo, Sym};
+use ly_pack::{Comb, Dense, Rows};
+use ly_tables::{ScanRule, Starts};
+use std::alloc::Global;
+use std::marker::Model;
+
+/// The scanner of a table set, its rows as they stand: a step is the class of the byte and one index.
+#[derive(Drop)]
+pub(crate) struct ScanTable {
+    /// The terminal of each byte as a literal.
+    pub(crate) literals: Vec<Sym>,
+    /// The rules.
+    pub(crate) rules: Vec<ScanRule>,
+    /// Where each condition begins.
+    pub(crate) conditions: Vec<Starts>,
+    /// The class of each byte.
+    pub(crate) classes: Vec<u8>,
+    /// The rule of each state, if it has one.
+    pub(crate) accepted: Vec<Option<RuleNo>>,
+    /// Where states lead, by classes.
+    pub(crate) rows: Dense<StateNo>,
+}
+
+impl Model for ScanTable {
+    ghost use Rattle.ly_drive.specs.ScanPart.{ScanPart};
+    ghost use Rattle.ly_drive.specs.Private.Tables.{part_from, IsScanTable};
+
+    ghost Value = { ScanPart };
+
+    ghost view = { part_from };
+
+    ghost invariant = { IsScanTable };
+}
+
+impl ScanTable {
+    /// Where a condition begins, at the start of a line or not, if it does.
+    pub(crate) fn start(&self, condition: u32, at_line_start: bool) -> Option<StateNo>
+        ensures { let states : States = states_in self.now in
+            option_map (λ s. s.0) result ≡ states.start condition at_line_start }
+    {
+        let starts = self.conditions.get(condition as usize)?;
+        if at_line_start {
+            starts.at_line
+        } else {
+            starts.elsewhere
+        }
+    }
+
+    /// Where a byte leads from a state.
+    pub(crate) fn next(&self, state: StateNo, byte: u8) -> Option<StateNo>
+        ensures { let states : States = states_in self.now in
+            option_map (λ s. s.0) result ≡ states.next state.0 byte }
+    {
+        self.rows.entry(state, usize::from(self.classes[usize::from(byte)]))
+    }
+
+    /// The rule of a state, if it has one.
+    pub(crate) fn rule(&self, state: StateNo) -> Option<RuleNo>
+        ensures { let states : States = states_in self.now in option_map (λ r. r.0) result ≡ states.rule state.0 }
+    {
+        *self.accepted.get(state.0 as usize)?
+    }
+
+    /// What is cut off the matches of a rule.
+    pub(crate) fn cut(&self, rule: RuleNo) -> Cut
+        ensures { result ≡ cut_in self.now rule.0 }
+    {
+        match self.rules.get(rule.0 as usize) {
+            Some(rule) => rule.cut,
+            None => Cut::Whole,
+        }
+    }
+
+    /// The condition that a rule sets, if it sets one.
+    pub(crate) fn condition(&self, rule: RuleNo) -> Option<u32>
+        ensures { result ≡ condition_in self.now rule.0 }
+    {
+        self.rules.get(rule.0 as usize)?.action.begin
+    }
+
+    /// The terminal that a rule returns for a token's bytes, if it returns one.
+    pub(crate) fn terminal(&self, rule: RuleNo, bytes: &[u8]) -> Option<Sym>
+        requires { 0 < length bytes.now }
+        ensures { option_map (λ t. t.0) result ≡ terminal_in self.now rule.0 bytes.now }
+    {
+        match self.rules.get(rule.0 as usize)?.action.emits {
+            Emitted::Nothing => None,
+            Emitted::Terminal(terminal) => Some(terminal),
+            Emitted::FirstByte => Some(self.literals[usize::from(bytes[0])]),
+        }
+    }
+}
+
+/// Rows as they stand of rows that are laid over one another.
+pub(crate) fn spread(
+    alloc: Global,
+    comb: &Comb<StateNo>,
+    rows: usize,
+    width: usize,
+) -> Result<Dense<StateNo>, OutOfMemory>
+    requires rows { rows < 4294967296 }
+    ensures rows { IfOk result (λ d. d.rows ≡ rows) }
+    ensures width { IfOk result (λ d. d.width ≡ width) }
+    ensures same { IfOk result (λ d. (row column : ℕ) → row < rows → column < width
+        → dense_entry d row column ≡ comb_entry comb.now row column) }
+{
+    let mut dense = Dense::new(alloc, rows, width)?;
+    for row in 0..rows {
+        let row = StateNo(row as u32);
+        for column in 0..width {
+            dense.set(row, column, comb.entry(row, column));
+        }
+    }
+    Ok(dense)
+}

@@ -1,0 +1,11 @@
+-- Tokens that a parser's tables read, one after another.
+use Rattle.std.specs.Prelude.{ℕ, List, [], ◌∷◌}
+use Rattle.ly_base.specs.Lexed.{Token}
+use Rattle.ly_pack.specs.Machine.{Machine}
+use Rattle.ly_parse.specs.Feeding.{Feeds, Level, pushed}
+
+-- Each token leaves the stack that the next is fed from.
+pub data Reads (m : Machine) : List Level → List (Token ℕ) → List Level → Type 0 where
+  at_end : {levels : List Level} → Reads m levels [] levels
+  onward : {levels next last : List Level} {token : Token ℕ} {tokens : List (Token ℕ)}
+      → Feeds m token levels (pushed next) → Reads m next tokens last → Reads m levels (token ∷ tokens) last
