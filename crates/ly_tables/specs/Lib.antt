@@ -1,6 +1,12 @@
+pub mod FaultNames
 pub mod Laws
 pub mod Private
 pub mod Ranges
+pub mod RawOf
+pub mod RawSections
+pub mod RawSet
+pub mod Reading
+pub mod Refusal
 pub mod Spelling
 pub mod TableSet
 pub mod TableText

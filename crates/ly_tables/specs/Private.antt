@@ -1,1 +1,2 @@
+pub mod RawValues
 pub mod Short

@@ -7,9 +7,11 @@
 #![tactic(auto)]
 
 mod combs;
+mod fault;
 mod laws;
 mod numbers;
 mod parser_part;
+mod raw_tables;
 mod scan_rule;
 mod scanner_part;
 mod starts;
@@ -18,6 +20,7 @@ mod table_parts;
 mod table_set;
 mod writing;
 
+pub use fault::TableFault;
 pub use laws::a_set_has_one_spelling;
 pub use scan_rule::ScanRule;
 pub use starts::Starts;

@@ -1,0 +1,25 @@
+-- The numbers and the names of the faults of table files.
+use Rattle.std.specs.Prelude.{ℕ, List, Option, Some, None, codes}
+use Rattle.ly_tables.specs.declared.fault.TableFault.{TableFault}
+use Rattle.ly_tables.specs.declared.fault.TableFault.TheVariants.{BadMagic, BadVersion, Endless, OutOfMemory}
+use Rattle.ly_tables.specs.declared.fault.TableFault.TheVariants.{OutOfRange, Trailing, Truncated}
+
+-- a fault's number; want of memory has none
+abbrev pub table_number : TableFault → Option ℕ
+table_number BadMagic = Some 80
+table_number BadVersion = Some 81
+table_number Truncated = Some 82
+table_number Trailing = Some 83
+table_number (OutOfRange section) = Some 84
+table_number Endless = Some 85
+table_number OutOfMemory = None
+
+-- a fault's name
+abbrev pub table_name : TableFault → List ℕ
+table_name BadMagic = codes "BadMagic"
+table_name BadVersion = codes "BadVersion"
+table_name Truncated = codes "Truncated"
+table_name Trailing = codes "Trailing"
+table_name (OutOfRange section) = codes "OutOfRange"
+table_name Endless = codes "Endless"
+table_name OutOfMemory = codes "OutOfMemory"

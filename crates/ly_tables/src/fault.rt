@@ -1,0 +1,85 @@
+ghost use Rattle.std.specs.Prelude.{◌≡◌};
+ghost use Rattle.ly_tables.specs.declared.fault.TableFault.TheVariants as fault;
+
+use ly_base::OutOfMemory;
+use std::alloc::AllocError;
+use thiserror::Error;
+
+/// Why bytes are no table file that can be driven. The faults are looked for in the order in which they stand here.
+#[derive(Clone, Copy, Debug, PartialEq, Eq, Error)]
+pub enum TableFault {
+    /// The first four bytes, or the fewer that there are, don't begin `LYTB`.
+    #[error("no table file")]
+    BadMagic,
+    /// The version isn't 1.
+    #[error("a table file of another version")]
+    BadVersion,
+    /// A field is missing.
+    #[error("the table file is cut")]
+    Truncated,
+    /// Bytes are left behind the last field.
+    #[error("bytes are left behind the tables")]
+    Trailing,
+    /// A number is out of its range.
+    #[error("section {section} is out of range")]
+    OutOfRange {
+        /// The first section of which one is.
+        section: u8,
+    },
+    /// The parser's tables aren't steady: it could run forever.
+    #[error("the tables could run forever")]
+    Endless,
+    /// A growth was refused.
+    #[error("out of memory")]
+    OutOfMemory,
+}
+
+impl TableFault {
+    ghost use Rattle.ly_tables.specs.FaultNames.{table_name, table_number};
+
+    /// The fault's number; want of memory has none.
+    pub fn number(&self) -> Option<u8>
+        ensures { result ≡ table_number self.now }
+    {
+        match self {
+            TableFault::BadMagic => Some(80),
+            TableFault::BadVersion => Some(81),
+            TableFault::Truncated => Some(82),
+            TableFault::Trailing => Some(83),
+            TableFault::OutOfRange { .. } => Some(84),
+            TableFault::Endless => Some(85),
+            TableFault::OutOfMemory => None,
+        }
+    }
+
+    /// The fault's name.
+    pub fn name(&self) -> &'static str
+        ensures { result.now ≡ table_name self.now }
+    {
+        match self {
+            TableFault::BadMagic => "BadMagic",
+            TableFault::BadVersion => "BadVersion",
+            TableFault::Truncated => "Truncated",
+            TableFault::Trailing => "Trailing",
+            TableFault::OutOfRange { .. } => "OutOfRange",
+            TableFault::Endless => "Endless",
+            TableFault::OutOfMemory => "OutOfMemory",
+        }
+    }
+}
+
+impl From<AllocError> for TableFault {
+    ghost from_gives = { λ _ e. e ≡ fault.OutOfMemory };
+
+    fn from(_error: AllocError) -> TableFault {
+        TableFault::OutOfMemory
+    }
+}
+
+impl From<OutOfMemory> for TableFault {
+    ghost from_gives = { λ _ e. e ≡ fault.OutOfMemory };
+
+    fn from(_error: OutOfMemory) -> TableFault {
+        TableFault::OutOfMemory
+    }
+}
