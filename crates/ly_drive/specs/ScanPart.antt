@@ -1,6 +1,6 @@
 -- The scanner of a table set.
 use Rattle.std.specs.Prelude.{ℕ, List, length, slice_get, slice_index, slice_index_or, Bool, Option, None, unwrap_or}
-use Rattle.std.specs.Prelude.{option_and_then, option_map, if◌then◌else◌}
+use Rattle.std.specs.Prelude.{Some, option_and_then, option_map, if◌then◌else◌}
 use Rattle.ly_base.specs.declared.cut.Cut.{Cut}
 use Rattle.ly_base.specs.declared.cut.Cut.TheVariants.{Whole}
 use Rattle.ly_base.specs.declared.numbers.StateNo.{StateNo}
@@ -10,7 +10,6 @@ use Rattle.ly_pack.specs.Rows.{Entries, Grid, cell, comb_entry, grid_of}
 use Rattle.ly_scan.specs.Lexer.{Scanner}
 use Rattle.ly_scan.specs.StateWalk.{States, state_walk}
 use Rattle.ly_tables.specs.TableSet.{ScanRule, Starts, TableSet}
-use Rattle.std.specs.Prelude.{Some}
 
 -- The terminal of each byte as a literal, the rules, the conditions, the class of each byte, the rule of each state, and
 -- where states lead by classes.
@@ -39,13 +38,20 @@ scan_part_of s = record {
 abbrev pub start_by : Bool → Starts → Option ℕ
 start_by line c = if line then c.at_line else c.elsewhere
 
--- the states of the scanner: a byte leads by its class
+-- where a condition begins, at the start of a line or not, if it does
+abbrev pub start_in : ScanPart → ℕ → Bool → Option ℕ
+start_in p condition line = option_and_then (start_by line) (slice_get p.conditions condition)
+
+-- where a byte leads from a state, by its class
+abbrev pub next_in : ScanPart → ℕ → ℕ → Option ℕ
+next_in p state byte = option_and_then (cell p.rows state) (slice_get p.classes byte)
+
+-- the rule of a state, if it has one
+abbrev pub rule_in : ScanPart → ℕ → Option ℕ
+rule_in p state = slice_index_or p.accepted state None
+
 abbrev pub states_in : ScanPart → States
-states_in p = record {
-  start = λ condition line. option_and_then (start_by line) (slice_get p.conditions condition);
-  next = λ state byte. option_and_then (cell p.rows state) (slice_get p.classes byte);
-  rule = λ state. slice_index_or p.accepted state None;
-}
+states_in p = record { start = start_in p; next = next_in p; rule = rule_in p }
 
 -- what is cut off the matches of a rule
 abbrev pub cut_in : ScanPart → ℕ → Cut

@@ -19,7 +19,7 @@ use Rattle.ly_tables.specs.TableSet.{TableSet, machine_of}
 pub record AreTokens (p : ScanPart) (text : List ℕ) (tokens : List (Token ℕ)) (e : End) : Type 0 where
   pub lexemes : List Lexeme
   pub lexed : Lexed (IsLexemeAt (scanner_in p)) (ScanEndsAt (scanner_in p)) (condition_in p) (start_of text) lexemes e
-  pub tokens : tokens ≡ tokens_from (terminal_in p) 0 text lexemes
+  pub are_of_lexemes : tokens ≡ tokens_from (terminal_in p) 0 text lexemes
 
 -- the end of a text as a token
 abbrev pub end_of : List ℕ → Token ℕ

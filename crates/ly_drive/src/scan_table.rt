@@ -1,6 +1,6 @@
-ghost use Rattle.std.specs.Prelude.{◌≡◌, ◌<◌, length, IfOk, Some, option_map, slice_get};
-ghost use Rattle.ly_drive.specs.ScanPart.{condition_in, cut_in, scan_part_of, states_in, terminal_in};
-ghost use Rattle.ly_tables.specs.TableSet.{TableSet};
+ghost use Rattle.std.specs.Prelude.{◌≡◌, ◌<◌, ℕ, length, IfOk, option_map};
+ghost use Rattle.ly_drive.specs.ScanPart.{condition_in, cut_in, next_in, rule_in, start_in, terminal_in};
+ghost use Rattle.ly_pack.specs.Rows.{comb_entry, dense_entry};
 
 use ly_base::{Cut, Emitted, OutOfMemory, RuleNo, StateNo, Sym};
 use ly_pack::{Comb, Dense, Rows};
@@ -39,8 +39,7 @@ impl Model for ScanTable {
 impl ScanTable {
     /// Where a condition begins, at the start of a line or not, if it does.
     pub(crate) fn start(&self, condition: u32, at_line_start: bool) -> Option<StateNo>
-        ensures { let states : States = states_in self.now in
-            option_map (λ s. s.0) result ≡ states.start condition at_line_start }
+        ensures { option_map (λ s. s.0) result ≡ start_in self.now condition at_line_start }
     {
         let starts = self.conditions.get(condition as usize)?;
         if at_line_start {
@@ -52,15 +51,14 @@ impl ScanTable {
 
     /// Where a byte leads from a state.
     pub(crate) fn next(&self, state: StateNo, byte: u8) -> Option<StateNo>
-        ensures { let states : States = states_in self.now in
-            option_map (λ s. s.0) result ≡ states.next state.0 byte }
+        ensures { option_map (λ s. s.0) result ≡ next_in self.now state.0 byte }
     {
         self.rows.entry(state, usize::from(self.classes[usize::from(byte)]))
     }
 
     /// The rule of a state, if it has one.
     pub(crate) fn rule(&self, state: StateNo) -> Option<RuleNo>
-        ensures { let states : States = states_in self.now in option_map (λ r. r.0) result ≡ states.rule state.0 }
+        ensures { option_map (λ r. r.0) result ≡ rule_in self.now state.0 }
     {
         *self.accepted.get(state.0 as usize)?
     }

@@ -1,5 +1,5 @@
 ghost use Rattle.std.specs.Prelude.{◌≡◌, option_map};
-ghost use Rattle.ly_drive.specs.ScanPart.{cut_in, states_in};
+ghost use Rattle.ly_drive.specs.ScanPart.{cut_in, start_in, states_in};
 ghost use Rattle.ly_scan.specs.StateWalk.{ahead_of, ahead_of-ended, state_walk};
 
 use crate::scan_table::ScanTable;
@@ -53,5 +53,5 @@ impl Steps for TableWalk<'_> {
     }
 
     ghost stays_ended = { λ w condition line text more h. ahead_of-ended (states_in w.table.now)
-        (start_of w.table.now condition line) text more h };
+        (start_in w.table.now condition line) text more h };
 }
