@@ -1,4 +1,5 @@
 pub mod Following
 pub mod Laws
 pub mod Private
+pub mod SetOf
 pub mod Tables
