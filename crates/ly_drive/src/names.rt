@@ -28,7 +28,10 @@ impl Words for Names<'_> {
 
     fn constructor(&self, rule: RuleNo) -> &[u8] {
         // rule 0 isn't among the rules
-        match self.rules.get((rule.0 as usize).saturating_sub(1)) {
+        let Some(place) = (rule.0 as usize).checked_sub(1) else {
+            return b"";
+        };
+        match self.rules.get(place) {
             Some(TableRule {
                 tree: RuleTree::Build { name, .. },
                 ..
