@@ -1,2 +1,5 @@
 pub mod JoinLemmas
+pub mod PlaceLemmas
 pub mod RangeLemmas
+pub mod RowLemmas
+pub mod SectionLemmas

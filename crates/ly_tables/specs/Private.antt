@@ -1,2 +1,4 @@
+pub mod Names
 pub mod RawValues
+pub mod SectionOrder
 pub mod Short

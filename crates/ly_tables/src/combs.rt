@@ -32,10 +32,10 @@ impl Entry for StateNo {
 }
 
 /// What a shift's number has besides that of its state.
-const SHIFT: u32 = 0x8000;
+pub(crate) const SHIFT: u32 = 0x8000;
 
 /// What a reduction's has besides that of its rule.
-const REDUCE: u32 = 0x4000;
+pub(crate) const REDUCE: u32 = 0x4000;
 
 impl Entry for TableAction {
     ghost use Rattle.std.specs.Int.{w16};

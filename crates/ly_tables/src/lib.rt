@@ -7,15 +7,21 @@
 #![tactic(auto)]
 
 mod combs;
+mod counts;
 mod fault;
 mod laws;
 mod numbers;
 mod parser_part;
 mod raw_tables;
+mod row_ranges;
+mod rule_ranges;
 mod scan_rule;
 mod scanner_part;
+mod scanner_ranges;
+mod sections;
 mod starts;
 mod symbol_part;
+mod symbol_ranges;
 mod table_parts;
 mod table_set;
 mod writing;
