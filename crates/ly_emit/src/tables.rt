@@ -14,7 +14,7 @@ ghost use Rattle.ly_emit.specs.Tables.{AreShapesWithin, AreTables, IsEntryFor};
 use ly_base::{OutOfMemory, RuleNo, StateNo, Sym};
 use ly_join::{Spec, Symbol};
 use ly_lr0::Lr0;
-use ly_pack::{Dense, Machine, TableAction, TableRule};
+use ly_pack::{Dense, Machine, MachineParts, TableAction, TableRule};
 use ly_resolve::{Action, Entry, Resolved};
 use std::alloc::Global;
 
@@ -34,14 +34,14 @@ pub fn machine(
     let actions = action_rows(alloc, resolved)?;
     let gotos = goto_rows(alloc, lr0)?;
     let rules = table_rules(alloc, spec)?;
-    Ok(Machine::new(
-        spec.grammar().terminals() as usize,
-        spec.grammar().accept().0 as usize,
+    Ok(Machine::new(MachineParts {
+        terminals: spec.grammar().terminals() as usize,
+        nonterminals: spec.grammar().accept().0 as usize,
         actions,
         gotos,
         defaults,
         rules,
-    ))
+    }))
 }
 
 /// No default in any of so many states.
@@ -53,8 +53,10 @@ fn no_defaults(alloc: Global, states: usize) -> Result<Vec<Option<RuleNo>>, OutO
 
 /// What is done in each state before each terminal.
 fn action_rows(alloc: Global, resolved: &Resolved<'_>) -> Result<Dense<TableAction>, OutOfMemory>
-    ensures { IfOk result (λ d. AreActionsTo resolved.now.automaton (judge_of resolved.now.spec)
+    ensures filled { IfOk result (λ d. AreActionsTo resolved.now.automaton (judge_of resolved.now.spec)
         (length resolved.now.automaton.states) (dense_entry d)) }
+    ensures rows { IfOk result (λ d. d.rows ≡ length resolved.now.automaton.states) }
+    ensures width { IfOk result (λ d. d.width ≡ resolved.now.automaton.grammar.terminals) }
 {
     let lr0 = resolved.lr0();
     let terminals = resolved.spec().grammar().terminals();
@@ -127,7 +129,9 @@ fn shift_action(lr0: &Lr0<'_>, state: StateNo, terminal: Sym) -> TableAction
 
 /// Where each state goes by each nonterminal.
 fn goto_rows(alloc: Global, lr0: &Lr0<'_>) -> Result<Dense<StateNo>, OutOfMemory>
-    ensures { IfOk result (λ d. AreGotosTo lr0.now (length lr0.now.states) (dense_entry d)) }
+    ensures filled { IfOk result (λ d. AreGotosTo lr0.now (length lr0.now.states) (dense_entry d)) }
+    ensures rows { IfOk result (λ d. d.rows ≡ length lr0.now.states) }
+    ensures width { IfOk result (λ d. d.width ≡ lr0.now.grammar.accept) }
 {
     let nonterminals = lr0.reduced().grammar().accept().0;
     let mut gotos = Dense::new(alloc, lr0.states(), nonterminals as usize)?;

@@ -1,6 +1,6 @@
 -- Rows written out, and what a machine's grids are.
 use Rattle.std.proofs.Common.{◌≡◌, ◌∙◌, ◌<◌, ◌≤◌, ◌+◌, ℕ, List, map, Option, Some, None}
-use Rattle.std.proofs.Common.{sym, ap, subst, arith, inl, inr, ◌⊎◌, slice_get}
+use Rattle.std.proofs.Common.{sym, ap, subst, arith, inl, inr, length, ◌⊎◌, slice_get}
 use Rattle.std.specs.Prelude.{option_map, option_and_then}
 use Rattle.std.specs.List.{range_with_len}
 use Rattle.std.proofs.lemmas.Bool.{cases_lt}
@@ -55,6 +55,9 @@ cell-grid_of_past {E} rows width f r c (inr past) = elim (cases_lt r rows) [
 module _ (m : Machine) (terminals nonterminals : ℕ) (actions : Entries code.TableAction) (gotos : Entries StateNo)
     (defaults : List (Option RuleNo)) (rules : List rule.TableRule)
     (so : machine_from terminals nonterminals actions gotos defaults rules ≡ m) where
+  pub states-machine : length defaults ≡ states_of m
+  states-machine = sym (length-map defaults (option_map (λ (p : RuleNo). p.0))) ∙ ap states_of so
+
   pub actions-machine : m.actions ≡ grid_of (states_of m) m.terminals (actions_from actions)
   actions-machine = subst (λ n. n.actions ≡ grid_of (states_of n) n.terminals (actions_from actions)) so
       (ap (λ n. grid_of n terminals (actions_from actions)) (sym (length-map defaults (option_map (λ

@@ -83,6 +83,14 @@ pub record IsMachine (m : Machine) : Type 0 where
   pub gotos : (state left next : ℕ) → goto_at m state left ≡ Some next → next < states_of m
   pub rules : All (IsRuleWithin m.nonterminals) m.rules
 
+-- The rows of actions and those of gotos are as many as the states, and as wide as there are terminals and
+-- nonterminals.
+pub record HaveSizes (states terminals nonterminals action_rows action_width goto_rows goto_width : ℕ) : Type 0 where
+  pub actions : action_rows ≡ states
+  pub actions_wide : action_width ≡ terminals
+  pub gotos : goto_rows ≡ states
+  pub gotos_wide : goto_width ≡ nonterminals
+
 -- Entries and gotos stand in rows and columns that are there.
 pub record IsWithin (m : Machine) : Type 0 where
   pub actions : (state t : ℕ) (a : TableAction) → entry_at m state t ≡ Some a

@@ -8,6 +8,7 @@ use Rattle.ly_pack.specs.Machine.{Machine, TableAction, TableRule, shift, reduce
 use Rattle.ly_pack.specs.Rows.{Entries, grid_of}
 use Rattle.ly_pack.specs.declared.action.TableAction as code
 use Rattle.ly_pack.specs.declared.action.TableAction.TheVariants.{Shift, Reduce, Accept, Error}
+use Rattle.ly_pack.specs.declared.machine_parts.MachineParts.{MachineParts}
 use Rattle.ly_pack.specs.declared.rule.TableRule as rule
 
 abbrev pub action_from : code.TableAction → TableAction
@@ -35,3 +36,9 @@ machine_from terminals nonterminals actions gotos defaults rules = record {
   gotos = grid_of (length defaults) nonterminals (gotos_from gotos);
   rules = map rule_from rules;
 }
+
+-- the machine that parts are of, by the entries of their rows
+abbrev pub machine_of_parts : {A G : Type 0} → (A → Entries code.TableAction) → (G → Entries StateNo)
+    → MachineParts A G → Machine
+machine_of_parts actions gotos parts = machine_from parts.terminals parts.nonterminals (actions parts.actions)
+    (gotos parts.gotos) parts.defaults.items parts.rules.items

@@ -74,9 +74,14 @@ impl<E: Copy> Comb<E> {
 }
 
 impl<E: Copy> Rows<E> for Comb<E> {
+    ghost use Rattle.std.specs.Prelude.{length};
     ghost use Rattle.ly_pack.specs.Rows.{comb_entry};
 
     ghost entries = { λ c. comb_entry c };
+
+    ghost rows = { λ c. length c.bases };
+
+    ghost width = { λ c. c.width };
 
     fn entry(&self, row: StateNo, column: usize) -> Option<E> {
         if self.width <= column {

@@ -22,24 +22,11 @@ pub fn choose_defaults(
     requires { (state p : ℕ) → slice_get machine.defaults state ≡ Some (Some p) → ⊥ }
     ensures { IfOk result (HasDefaultsOf machine) }
 {
-    let Machine {
-        terminals,
-        nonterminals,
-        mut actions,
-        gotos,
-        defaults,
-        rules,
-    } = machine;
-    let states = defaults.len();
-    let defaults = take_defaults(alloc, &mut actions, states, terminals, rules.len())?;
-    Ok(Machine {
-        terminals,
-        nonterminals,
-        actions,
-        gotos,
-        defaults,
-        rules,
-    })
+    let mut parts = machine.into_parts();
+    let states = parts.defaults.len();
+    let rules = parts.rules.len();
+    parts.defaults = take_defaults(alloc, &mut parts.actions, states, parts.terminals, rules)?;
+    Ok(Machine::new(parts))
 }
 
 /// The defaults of so many states; the entries that are equal to them are taken out of the rows.

@@ -78,6 +78,10 @@ impl<E: Copy> Rows<E> for Dense<E> {
 
     ghost entries = { λ d. dense_entry d };
 
+    ghost rows = { λ d. d.rows };
+
+    ghost width = { λ d. d.width };
+
     fn entry(&self, row: StateNo, column: usize) -> Option<E> {
         if self.width <= column || self.rows <= row.0 as usize {
             return None;

@@ -1,83 +1,72 @@
 ghost use Rattle.std.specs.Prelude.{◌≡◌, ◌<◌, ◌≤◌, length, map, slice_get, Some, option_map};
 ghost use Rattle.ly_pack.specs.Machine.{action_of, entry_at, goto_at, states_of, IsMachine, IsRuleNumber, IsTableRule};
-ghost use Rattle.ly_pack.specs.Machine.{IsWithin};
+ghost use Rattle.ly_pack.specs.Machine.{HaveSizes, IsWithin};
 ghost use Rattle.ly_pack.specs.Rows.{grid_of};
-ghost use Rattle.ly_pack.specs.Values.{action_from, actions_from, gotos_from, machine_from, rule_from};
+ghost use Rattle.ly_pack.specs.Values.{action_from, actions_from, gotos_from, machine_of_parts, rule_from};
 
 use crate::action::TableAction;
+use crate::machine_parts::MachineParts;
 use crate::rows::Rows;
 use crate::rule::TableRule;
 use ly_base::{RuleNo, StateNo, Sym};
 use std::marker::Model;
 
-/// A parser as tables, over any rows: all that its entries name is there. State 0 is the bottom's.
+/// A parser as tables, over any rows: all that its entries name is there, and there is a row for each state. State 0 is
+/// the bottom's.
 #[derive(Drop)]
 pub struct Machine<A: Rows<TableAction> + Drop, G: Rows<StateNo> + Drop> {
-    /// How many terminals there are.
-    pub(crate) terminals: usize,
-    /// How many nonterminals.
-    pub(crate) nonterminals: usize,
-    /// What is done in a state before a terminal, where it isn't the default.
-    pub(crate) actions: A,
-    /// Where a state goes by a nonterminal.
-    pub(crate) gotos: G,
-    /// The default reduction of each state.
-    pub(crate) defaults: Vec<Option<RuleNo>>,
-    /// The rules but rule 0.
-    pub(crate) rules: Vec<TableRule>,
+    parts: MachineParts<A, G>,
 }
 
 impl<A: Rows<TableAction> + Drop, G: Rows<StateNo> + Drop> Model for Machine<A, G> {
+    ghost use Rattle.std.specs.Prelude.{length};
     ghost use Rattle.ly_pack.specs.Machine as value;
-    ghost use Rattle.ly_pack.specs.Machine.{IsMachine};
-    ghost use Rattle.ly_pack.specs.Values.{machine_from};
+    ghost use Rattle.ly_pack.specs.Machine.{HaveSizes, IsMachine};
+    ghost use Rattle.ly_pack.specs.Values.{machine_of_parts};
 
     ghost Value = { value.Machine };
 
-    ghost view = { λ m. machine_from m.terminals m.nonterminals (A.entries m.actions) (G.entries m.gotos)
-        m.defaults.items m.rules.items };
+    ghost view = { λ m. machine_of_parts A.entries G.entries m.parts };
 
-    ghost invariant = { λ m. IsMachine (machine_from m.terminals m.nonterminals (A.entries m.actions)
-        (G.entries m.gotos) m.defaults.items m.rules.items) };
+    ghost invariant = { λ m. IsMachine (machine_of_parts A.entries G.entries m.parts)
+        × HaveSizes (length m.parts.defaults.items) m.parts.terminals m.parts.nonterminals (A.rows m.parts.actions)
+        (A.width m.parts.actions) (G.rows m.parts.gotos) (G.width m.parts.gotos) };
 }
 
 impl<A: Rows<TableAction> + Drop, G: Rows<StateNo> + Drop> Machine<A, G> {
-    /// The machine of these tables.
-    pub fn new(
-        terminals: usize,
-        nonterminals: usize,
-        actions: A,
-        gotos: G,
-        defaults: Vec<Option<RuleNo>>,
-        rules: Vec<TableRule>,
-    ) -> Machine<A, G>
-        requires { IsMachine (machine_from terminals nonterminals (A.entries actions) (G.entries gotos)
-            defaults.items rules.items) }
-        ensures { result ≡ machine_from terminals nonterminals (A.entries actions) (G.entries gotos)
-            defaults.items rules.items }
+    /// The machine of these parts.
+    pub fn new(parts: MachineParts<A, G>) -> Machine<A, G>
+        requires whole { IsMachine (machine_of_parts A.entries G.entries parts) }
+        requires sizes { HaveSizes (length parts.defaults.items) parts.terminals parts.nonterminals
+            (A.rows parts.actions) (A.width parts.actions) (G.rows parts.gotos) (G.width parts.gotos) }
+        ensures { result ≡ machine_of_parts A.entries G.entries parts }
     {
-        Machine {
-            terminals,
-            nonterminals,
-            actions,
-            gotos,
-            defaults,
-            rules,
-        }
+        Machine { parts }
+    }
+
+    /// The parts of the machine.
+    pub fn into_parts(self) -> MachineParts<A, G>
+        ensures same { machine_of_parts A.entries G.entries result ≡ self }
+        ensures whole { IsMachine self }
+        ensures sizes { HaveSizes (length result.defaults.items) result.terminals result.nonterminals
+            (A.rows result.actions) (A.width result.actions) (G.rows result.gotos) (G.width result.gotos) }
+    {
+        let Machine { parts } = self;
+        parts
     }
 
     /// How many terminals there are.
     pub fn terminals(&self) -> usize
         ensures { result ≡ self.now.terminals }
     {
-        self.terminals
+        self.parts.terminals
     }
 
     /// How many nonterminals there are.
     pub fn nonterminals(&self) -> usize
         ensures { result ≡ self.now.nonterminals }
     {
-        self.nonterminals
+        self.parts.nonterminals
     }
 
     /// How many states there are.
@@ -86,30 +75,34 @@ impl<A: Rows<TableAction> + Drop, G: Rows<StateNo> + Drop> Machine<A, G> {
         ensures all { IsMachine self.now }
         ensures within { IsWithin self.now }
     {
-        self.defaults.len()
+        self.parts.defaults.len()
     }
 
     /// What is done in a state before a terminal, where it isn't the default: the rows of the states.
     pub fn actions(&self) -> &A
-        ensures { self.now.actions
+        ensures entries { self.now.actions
             ≡ grid_of (states_of self.now) self.now.terminals (actions_from (A.entries result.now)) }
+        ensures rows { A.rows result.now ≡ states_of self.now }
+        ensures width { A.width result.now ≡ self.now.terminals }
     {
-        &self.actions
+        &self.parts.actions
     }
 
     /// Where a state goes by a nonterminal: the rows of the states.
     pub fn gotos(&self) -> &G
-        ensures { self.now.gotos
+        ensures entries { self.now.gotos
             ≡ grid_of (states_of self.now) self.now.nonterminals (gotos_from (G.entries result.now)) }
+        ensures rows { G.rows result.now ≡ states_of self.now }
+        ensures width { G.width result.now ≡ self.now.nonterminals }
     {
-        &self.gotos
+        &self.parts.gotos
     }
 
     /// The rules but rule 0, in their order.
     pub fn rules(&self) -> &[TableRule]
         ensures { self.now.rules ≡ map rule_from result.now }
     {
-        &self.rules
+        &self.parts.rules
     }
 
     /// The default reduction of a state, if it has one.
@@ -117,7 +110,7 @@ impl<A: Rows<TableAction> + Drop, G: Rows<StateNo> + Drop> Machine<A, G> {
         requires { state.0 < states_of self.now }
         ensures { slice_get self.now.defaults state.0 ≡ Some (option_map (λ p. p.0) result) }
     {
-        self.defaults[state.0 as usize]
+        self.parts.defaults[state.0 as usize]
     }
 
     /// The entry of a state before a terminal, if it isn't the default.
@@ -126,7 +119,7 @@ impl<A: Rows<TableAction> + Drop, G: Rows<StateNo> + Drop> Machine<A, G> {
         requires terminal { terminal.0 < self.now.terminals }
         ensures { option_map action_from result ≡ entry_at self.now state.0 terminal.0 }
     {
-        self.actions.entry(state, terminal.0 as usize)
+        self.parts.actions.entry(state, terminal.0 as usize)
     }
 
     /// What is done in a state before a terminal: the entry, or else the default reduction, or else an error.
@@ -135,7 +128,7 @@ impl<A: Rows<TableAction> + Drop, G: Rows<StateNo> + Drop> Machine<A, G> {
         requires terminal { terminal.0 < self.now.terminals }
         ensures { action_from result ≡ action_of self.now state.0 terminal.0 }
     {
-        if let Some(action) = self.actions.entry(state, terminal.0 as usize) {
+        if let Some(action) = self.parts.actions.entry(state, terminal.0 as usize) {
             return action;
         }
         match self.default(state) {
@@ -150,7 +143,7 @@ impl<A: Rows<TableAction> + Drop, G: Rows<StateNo> + Drop> Machine<A, G> {
         requires left { left.0 < self.now.nonterminals }
         ensures { option_map (λ s. s.0) result ≡ goto_at self.now state.0 left.0 }
     {
-        self.gotos.entry(state, left.0 as usize)
+        self.parts.gotos.entry(state, left.0 as usize)
     }
 
     /// A rule by its number, which counts from 1.
@@ -158,6 +151,6 @@ impl<A: Rows<TableAction> + Drop, G: Rows<StateNo> + Drop> Machine<A, G> {
         requires { IsRuleNumber self.now rule.0 }
         ensures { IsTableRule self.now rule.0 (rule_from result.now) }
     {
-        &self.rules[rule.0 as usize - 1]
+        &self.parts.rules[rule.0 as usize - 1]
     }
 }

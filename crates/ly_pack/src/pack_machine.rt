@@ -1,9 +1,10 @@
-ghost use Rattle.std.specs.Prelude.{◌≡◌, ℕ, IfOk};
+ghost use Rattle.std.specs.Prelude.{◌≡◌, ℕ, length, IfOk};
 ghost use Rattle.ly_pack.specs.Rows.{comb_entry, dense_entry};
 
 use crate::action::TableAction;
 use crate::dense::Dense;
 use crate::machine::Machine;
+use crate::machine_parts::MachineParts;
 use crate::packed::Packed;
 use crate::placing::comb;
 use ly_base::{OutOfMemory, StateNo};
@@ -17,28 +18,30 @@ pub fn pack(
 ) -> Result<Machine<Packed<TableAction>, Packed<StateNo>>, OutOfMemory>
     ensures { IfOk result (λ packed. packed ≡ machine) }
 {
-    let Machine {
+    let MachineParts {
         terminals,
         nonterminals,
         actions,
         gotos,
         defaults,
         rules,
-    } = machine;
-    Ok(Machine {
+    } = machine.into_parts();
+    Ok(Machine::new(MachineParts {
         terminals,
         nonterminals,
         actions: pack_rows(alloc, &actions)?,
         gotos: pack_rows(alloc, &gotos)?,
         defaults,
         rules,
-    })
+    }))
 }
 
 /// The rows as a comb.
 fn pack_rows<E: Copy>(alloc: Global, dense: &Dense<E>) -> Result<Packed<E>, OutOfMemory>
-    ensures { IfOk result (λ packed. (row column : ℕ) → comb_entry packed row column
+    ensures entries { IfOk result (λ packed. (row column : ℕ) → comb_entry packed row column
         ≡ dense_entry dense.now row column) }
+    ensures rows { IfOk result (λ packed. length packed.bases ≡ dense.now.rows) }
+    ensures width { IfOk result (λ packed. packed.width ≡ dense.now.width) }
 {
     Ok(Packed::new(comb(alloc, dense)?))
 }

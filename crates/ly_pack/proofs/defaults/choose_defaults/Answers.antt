@@ -1,7 +1,7 @@
-use Rattle.std.proofs.Common.{◌∙◌, subst, refl, arith}
+use Rattle.std.proofs.Common.{◌∙◌, sym, subst, refl, arith}
 use Rattle.std.proofs.Math.ListN.{length-map}
 use Rattle.ly_pack.specs.Defaults.{HasDefaultsOf}
-use Rattle.ly_pack.specs.Machine.{Machine}
+use Rattle.ly_pack.specs.Machine.{IsMachine, Machine}
 use Rattle.ly_pack.specs.Rows.{dense_entry}
 use Rattle.ly_pack.specs.Values.{machine_from, rule_from}
 use Rattle.ly_pack.proofs.DefaultLemmas.{counted_legal, has_defaults, still_machine}
@@ -9,31 +9,32 @@ use Rattle.ly_pack.proofs.defaults.choose_defaults.Goals as goal
 
 pub take_defaults-requires : goal.take_defaults-requires
 take_defaults-requires c =
-    let m = c.machine.inside in
+    let p = c.into_parts-parts.result in
+    let so = c.into_parts-parts.ensures in
     record {
-      legal = λ state p row some.
-          let is = counted_legal m.terminals m.nonterminals m.actions m.actions (dense_entry m.gotos) m.defaults.items
-          m.defaults.items m.rules.items refl c.machine.invariant state p
-          (omega (arith, row, c.len-states.ensures, m.defaults.ok.0)) some in
-          omega (arith, is.1, length-map m.rules.items rule_from, c.len.ensures, m.rules.ok.0);
+      legal = λ state rule row some.
+          let is = counted_legal p.terminals p.nonterminals p.actions p.actions (dense_entry p.gotos) p.defaults.items
+          p.defaults.items p.rules.items refl (subst IsMachine (sym so.same) so.whole) state rule
+          (omega (arith, row, c.len-states.ensures, p.defaults.ok.0)) some in
+          omega (arith, is.1, length-map p.rules.items rule_from, c.len-rules.ensures, p.rules.ok.0);
     }
 
-pub invariant_of-result : goal.invariant_of-result
-invariant_of-result c =
-    let m = c.machine.inside in
-    still_machine m.terminals m.nonterminals m.actions c.take_defaults.new.actions
-    (dense_entry m.gotos) m.defaults.items
-    c.in_ok-defaults.defaults.items m.rules.items
-    (c.in_ok-defaults.ensures.states ∙ c.len-states.ensures ∙ m.defaults.ok.0) c.in_ok-defaults.ensures.taken
-    c.machine.invariant
+pub new-requires-clause-whole : goal.new-requires-clause-whole
+new-requires-clause-whole c =
+    let p = c.into_parts-parts.result in
+    let so = c.into_parts-parts.ensures in
+    still_machine p.terminals p.nonterminals p.actions c.take_defaults.new.actions (dense_entry p.gotos)
+    p.defaults.items c.in_ok-parts.field-0.items p.rules.items
+    (c.in_ok-parts.ensures.states ∙ c.len-states.ensures ∙ p.defaults.ok.0) c.in_ok-parts.ensures.taken
+    (subst IsMachine (sym so.same) so.whole)
 
 pub returns : goal.returns
 returns c =
-    let m = c.machine.inside in
-    subst (λ (before : Machine). HasDefaultsOf before (machine_from m.terminals m.nonterminals
-    (dense_entry c.take_defaults.new.actions) (dense_entry m.gotos) c.in_ok-defaults.defaults.items m.rules.items))
-    c.machine.view_is
-    (has_defaults m.terminals m.nonterminals m.actions c.take_defaults.new.actions
-    (dense_entry m.gotos) m.defaults.items
-    c.in_ok-defaults.defaults.items m.rules.items
-    (c.in_ok-defaults.ensures.states ∙ c.len-states.ensures ∙ m.defaults.ok.0) c.in_ok-defaults.ensures.taken)
+    let p = c.into_parts-parts.result in
+    let so = c.into_parts-parts.ensures in
+    subst (HasDefaultsOf c.args.machine) (sym c.new.ensures)
+    (subst (λ (before : Machine). HasDefaultsOf before (machine_from p.terminals p.nonterminals
+    (dense_entry c.take_defaults.new.actions) (dense_entry p.gotos) c.in_ok-parts.field-0.items p.rules.items)) so.same
+    (has_defaults p.terminals p.nonterminals p.actions c.take_defaults.new.actions (dense_entry p.gotos)
+    p.defaults.items c.in_ok-parts.field-0.items p.rules.items
+    (c.in_ok-parts.ensures.states ∙ c.len-states.ensures ∙ p.defaults.ok.0) c.in_ok-parts.ensures.taken))

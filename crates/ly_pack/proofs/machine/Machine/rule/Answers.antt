@@ -7,13 +7,13 @@ use Rattle.ly_pack.proofs.machine.Machine.rule.Goals as goal
 
 pub returns : goal.returns
 returns g c =
+    let kept = c.self.inside.parts.rules.items in
     let rules = ap (λ m. m.rules) c.self.view_is in
     let long = ap length rules in (
       c.args.rule.0 - 1,
       omega (arith, c.requires.0),
       ap (λ rs. slice_get rs (c.args.rule.0 - 1)) (sym rules)
-          ∙ slice_get-map rule_from c.self.inside.rules.items (c.args.rule.0 - 1)
-          ∙ ap (option_map rule_from) (slice_get_read c.self.inside.rules.items (length c.self.inside.rules.items) _ _
-          refl (omega (arith, c.requires.0, c.requires.1, length-map c.self.inside.rules.items rule_from))
-          c.index.ensures),
+          ∙ slice_get-map rule_from kept (c.args.rule.0 - 1)
+          ∙ ap (option_map rule_from) (slice_get_read kept (length kept) _ _ refl
+          (omega (arith, c.requires.0, c.requires.1, length-map kept rule_from)) c.index.ensures),
     )
