@@ -1,3 +1,4 @@
+pub mod Meaning
 pub mod Names
 pub mod RawValues
 pub mod SectionOrder
