@@ -1,5 +1,10 @@
+pub mod EntryLemmas
+pub mod ItemLemmas
 pub mod JoinLemmas
+pub mod MeaningLemmas
 pub mod PlaceLemmas
 pub mod RangeLemmas
 pub mod RowLemmas
 pub mod SectionLemmas
+pub mod SetLemmas
+pub mod SlotLemmas

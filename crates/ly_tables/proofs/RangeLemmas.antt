@@ -60,7 +60,7 @@ shape_written : (n : ℕ) (s : Shape) → n ≤ 255 → IsShapeShort s → IsSha
 shape_written n nil le short for = tt
 shape_written n (place i) le short for = omega (arith, for.1)
 shape_written n (node name places) le short for = (
-  omega (arith, short.1),
+  omega (arith, short.0.1),
   omega (arith, few_places n places for.1 for.2),
   All-weaker (λ i. (1 ≤ i) × (i ≤ n)) (λ i. i < 256) (λ i at. omega (arith, at.1)) places for.1,
 )

@@ -7,6 +7,7 @@
 #![tactic(auto)]
 
 mod combs;
+mod conversion;
 mod counts;
 mod fault;
 mod laws;
@@ -14,6 +15,7 @@ mod numbers;
 mod parser_part;
 mod raw_tables;
 mod row_ranges;
+mod row_meaning;
 mod rule_meaning;
 mod rule_ranges;
 mod scan_rule;

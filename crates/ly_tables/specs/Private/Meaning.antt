@@ -47,8 +47,8 @@ state_meant n = record { 0 = n }
 
 -- shifts have the greatest bit, reductions the next
 abbrev pub action_meant : ℕ → code.TableAction
-action_meant n = if nat_lt n 16384 then (if nat_eq n 0 then Error else Accept)
-    else (if nat_lt n 32768 then Reduce (record { 0 = n - 16384 }) else Shift (record { 0 = n - 32768 }))
+action_meant n = if nat_lt n 32768 then (if nat_lt n 16384 then (if nat_eq n 0 then Error else Accept)
+    else Reduce (record { 0 = n - 16384 })) else Shift (record { 0 = n - 32768 })
 
 -- a slot of no row is free
 abbrev pub slot_meant : {E : Type 0} → (ℕ → E) → ℕ → ℕ → Option (Used E)
