@@ -4,7 +4,9 @@ pub mod JoinLemmas
 pub mod MeaningLemmas
 pub mod PlaceLemmas
 pub mod RangeLemmas
+pub mod RawOfLemmas
 pub mod RowLemmas
-pub mod SectionLemmas
+pub mod SectionOrderLemmas
 pub mod SetLemmas
 pub mod SlotLemmas
+pub mod SteadyLemmas

@@ -1,5 +1,5 @@
 use Rattle.ly_tables.specs.Private.RawValues.{raw_from}
-use Rattle.ly_tables.proofs.SectionLemmas.{all_within}
+use Rattle.ly_tables.proofs.SectionOrderLemmas.{all_within}
 use Rattle.ly_tables.proofs.sections.section_out.Goals as goal
 
 pub returns-in-None-clause-none : goal.returns-in-None-clause-none
