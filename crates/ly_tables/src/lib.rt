@@ -18,6 +18,7 @@ mod starts;
 mod symbol_part;
 mod table_parts;
 mod table_set;
+mod within;
 mod writing;
 
 pub use fault::TableFault;
