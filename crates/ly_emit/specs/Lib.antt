@@ -1,3 +1,4 @@
+pub mod Endless
 pub mod Following
 pub mod Laws
 pub mod Private

@@ -9,7 +9,9 @@
 #![tactic(auto)]
 
 mod laws;
+mod steady_tables;
 mod tables;
 
 pub use laws::{runs_follow, shapes_are_within, tables_follow};
+pub use steady_tables::steady_machine;
 pub use tables::machine;

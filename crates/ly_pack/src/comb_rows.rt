@@ -53,7 +53,8 @@ impl<E: Copy> Comb<E> {
 
     /// How many columns each row has.
     pub fn width(&self) -> usize
-        ensures { result ≡ self.now.width }
+        ensures count { result ≡ self.now.width }
+        ensures whole { IsComb self.now }
     {
         self.width
     }

@@ -39,6 +39,15 @@ impl<E: Copy> Packed<E> {
     {
         &self.comb
     }
+
+    /// The comb, given away.
+    pub fn into_comb(self) -> Comb<E>
+        ensures same { result ≡ self }
+        ensures placed { IsFirstFit self }
+    {
+        let Packed { comb } = self;
+        comb
+    }
 }
 
 impl<E: Copy> Rows<E> for Packed<E> {

@@ -20,8 +20,10 @@ pub(crate) fn push_symbol(out: &mut Vec<u8>, spec: &Spec, symbol: Symbol) -> Res
     }
 }
 
-/// Appends the name of a terminal.
-fn push_terminal(out: &mut Vec<u8>, terminal: &TerminalName) -> Result<(), AllocError>
+/// Appends the name of a terminal: `$end`, `$undef`, a token's as it is, and a literal's byte in single quotes.
+///
+/// It fails where memory runs out. How much was appended by then is left open.
+pub fn push_terminal(out: &mut Vec<u8>, terminal: &TerminalName) -> Result<(), AllocError>
     ensures { OnOk result (out.new.items ≡ out.old.items ++ terminal_name (terminal_from terminal.now)) }
 {
     match terminal {

@@ -30,6 +30,7 @@ mod symbol_part;
 mod symbol_ranges;
 mod table_parts;
 mod table_set;
+mod within;
 mod writing;
 
 pub use fault::TableFault;

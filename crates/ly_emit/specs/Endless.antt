@@ -1,0 +1,15 @@
+-- What a refusal by the loop check says of a specification.
+use Rattle.ly_emit.specs.Tables.{IsMachineOf}
+use Rattle.ly_join.specs.Joined.{Spec}
+use Rattle.ly_loop.specs.Endless.{IsFirstEndless}
+use Rattle.ly_loop.specs.declared.fault.LoopFault.{LoopFault}
+use Rattle.ly_loop.specs.declared.fault.LoopFault.TheVariants.{Endless, OutOfMemory}
+use Rattle.ly_lr0.specs.Automaton.{Automaton}
+use Rattle.ly_pack.specs.Machine.{Machine}
+
+-- the fault names the first endless run of the specification's tables with default reductions; want of memory says
+-- nothing
+abbrev pub IsRefusedFor : Spec → Automaton → LoopFault → Type 0
+IsRefusedFor s M (Endless below top token) = (n : Machine) × IsMachineOf s M n
+    × IsFirstEndless n below.0 top.0 token.0
+IsRefusedFor s M OutOfMemory = Unit {0}
