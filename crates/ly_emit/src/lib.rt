@@ -9,9 +9,12 @@
 #![tactic(auto)]
 
 mod laws;
+mod scanner_tables;
+mod set;
 mod steady_tables;
 mod tables;
 
 pub use laws::{runs_follow, shapes_are_within, tables_follow};
+pub use set::table_set;
 pub use steady_tables::steady_machine;
 pub use tables::machine;
