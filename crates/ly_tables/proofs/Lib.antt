@@ -1,2 +1,12 @@
+pub mod EntryLemmas
+pub mod ItemLemmas
 pub mod JoinLemmas
+pub mod MeaningLemmas
+pub mod PlaceLemmas
 pub mod RangeLemmas
+pub mod RawOfLemmas
+pub mod RowLemmas
+pub mod SectionOrderLemmas
+pub mod SetLemmas
+pub mod SlotLemmas
+pub mod SteadyLemmas

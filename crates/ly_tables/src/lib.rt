@@ -7,22 +7,34 @@
 #![tactic(auto)]
 
 mod combs;
+mod conversion;
+mod counts;
 mod fault;
+mod laid_rows;
 mod laws;
 mod numbers;
 mod parser_part;
 mod raw_tables;
+mod row_ranges;
+mod row_meaning;
+mod rule_meaning;
+mod rule_ranges;
 mod scan_rule;
+mod scanner_meaning;
 mod scanner_part;
+mod scanner_ranges;
+mod sections;
 mod starts;
+mod steadiness;
 mod symbol_part;
+mod symbol_ranges;
 mod table_parts;
 mod table_set;
 mod within;
 mod writing;
 
 pub use fault::TableFault;
-pub use laws::a_set_has_one_spelling;
+pub use laws::{a_set_has_one_spelling, a_set_is_spelled_by_numbers};
 pub use scan_rule::ScanRule;
 pub use starts::Starts;
 pub use table_parts::TableParts;
