@@ -31,7 +31,7 @@ pub(crate) fn are_counts_within(terminals: usize, nonterminals: usize) -> bool
 }
 
 /// Whether names have lengths that are allowed, and the first two are those of the end and of no token.
-pub(crate) fn are_names_within(names: &[Vec<u8>]) -> bool
+fn are_names_within(names: &[Vec<u8>]) -> bool
     requires { 2 ≤ length names.now }
     ensures { IsTrue result ↔ AreNamesWithin (map (λ name. name.items) names.now) }
 {
@@ -39,7 +39,7 @@ pub(crate) fn are_names_within(names: &[Vec<u8>]) -> bool
 }
 
 /// Whether the first two names are those of the end and of no token.
-fn begin_with_specials(names: &[Vec<u8>]) -> bool
+pub(crate) fn begin_with_specials(names: &[Vec<u8>]) -> bool
     requires { 2 ≤ length names.now }
     ensures { IsTrue result ↔ BeginWithSpecials (map (λ name. name.items) names.now) }
 {

@@ -1,5 +1,5 @@
 //! Whether parts are within the ranges of a table set. What the parser's tables name isn't looked at.
-ghost use Rattle.std.specs.Prelude.{◌≡◌, ◌<◌, ◌≤◌, ℕ, All, IsTrue, Some, length};
+ghost use Rattle.std.specs.Prelude.{◌≡◌, ◌<◌, ◌≤◌, ℕ, All, IsTrue, Some, length, map};
 ghost use Rattle.std.specs.Int.{w16};
 ghost use Rattle.std.specs.Option.{option_map};
 ghost use Rattle.ly_base.specs.Shape.{shape_of};
@@ -8,16 +8,17 @@ ghost use Rattle.ly_pack.specs.Combs.{used_from};
 ghost use Rattle.ly_pack.specs.Machine.{IsMachine};
 ghost use Rattle.ly_pack.specs.Rows.{Used};
 ghost use Rattle.ly_pack.specs.Values.{rule_from};
+ghost use Rattle.ly_tables.specs.Private.Names.{BeginWithSpecials};
 ghost use Rattle.ly_tables.specs.Private.Within.{AreScanRulesIn, AreScanStatesIn, AreSymbolsIn, IsParserIn};
 ghost use Rattle.ly_tables.specs.Ranges.{version_1, AreRows, AreStartsWithin, IsCutWithin, IsEmittedWithin};
-ghost use Rattle.ly_tables.specs.Ranges.{IsRuleShort, IsScanRule, IsShapeShort, IsWithinRanges};
+ghost use Rattle.ly_tables.specs.Ranges.{IsName, IsRuleShort, IsScanRule, IsShapeShort, IsWithinRanges};
 ghost use Rattle.ly_tables.specs.TableSet.{machine_of};
 ghost use Rattle.ly_tables.specs.Values.{scan_rule_from, set_of, starts_from};
 
 use crate::counts::{MOST_CLASSES, MOST_CONDITIONS, MOST_RULES, MOST_STATES, is_count_within};
 use crate::scan_rule::ScanRule;
 use crate::starts::Starts;
-use crate::symbol_ranges::{are_counts_within, are_names_within, is_name_long, is_token};
+use crate::symbol_ranges::{are_counts_within, begin_with_specials, is_name_long, is_token};
 use crate::table_parts::TableParts;
 use ly_base::{Cut, Emitted, RuleNo, RuleTree, StateNo, Sym};
 use ly_pack::{Comb, Slot, TableRule};
@@ -46,7 +47,7 @@ impl TableParts {
         ensures { IsTrue result → AreSymbolsIn (set_of self.now) }
     {
         are_counts_within(self.terminals.len(), self.nonterminals)
-            && are_names_within(&self.terminals)
+            && are_terminals(&self.terminals)
             && self.literals.len() == BYTES
             && are_tokens(&self.literals, self.terminals.len())
     }
@@ -55,7 +56,7 @@ impl TableParts {
     fn are_scan_rules_within(&self) -> bool
         ensures { IsTrue result → AreScanRulesIn (set_of self.now) }
     {
-        self.scan_rules.len() <= MOST_RULES
+        is_at_most(self.scan_rules.len(), MOST_RULES)
             && are_scan_rules(&self.scan_rules, self.terminals.len(), self.conditions.len())
             && is_count_within(self.conditions.len(), MOST_CONDITIONS)
             && are_starts(&self.conditions, self.accepted.len())
@@ -68,7 +69,7 @@ impl TableParts {
         is_count_within(self.class_count, MOST_CLASSES)
             && self.classes.len() == BYTES
             && are_below(&self.classes, self.class_count)
-            && self.accepted.len() <= MOST_STATES
+            && is_at_most(self.accepted.len(), MOST_STATES)
             && are_rules(&self.accepted, self.scan_rules.len())
             && are_rows(&self.scan_rows, self.accepted.len(), self.class_count)
             && are_targets(self.scan_rows.slots(), self.accepted.len())
@@ -80,10 +81,40 @@ impl TableParts {
     {
         is_count_within(self.rules.len(), MOST_RULES)
             && are_rules_short(&self.rules)
-            && self.defaults.len() <= MOST_STATES
+            && is_at_most(self.defaults.len(), MOST_STATES)
             && are_rows(&self.actions, self.defaults.len(), self.terminals.len())
             && are_rows(&self.gotos, self.defaults.len(), self.nonterminals)
     }
+}
+
+/// Whether a count is not too great.
+fn is_at_most(count: usize, most: usize) -> bool
+    ensures { IsTrue result → count ≤ most }
+{
+    count <= most
+}
+
+/// Whether the names of terminals may be these: the first two are those of the end and of no token.
+fn are_terminals(names: &[Vec<u8>]) -> bool
+    requires { 2 ≤ length names.now }
+    ensures specials { IsTrue result → BeginWithSpecials (map (λ name. name.items) names.now) }
+    ensures names { IsTrue result → All (λ name. IsName name.items) names.now }
+{
+    begin_with_specials(names) && are_names(names)
+}
+
+/// Whether each may be a name.
+fn are_names(names: &[Vec<u8>]) -> bool
+    ensures { IsTrue result → All (λ name. IsName name.items) names.now }
+{
+    names.iter().all(|name| is_name(name))
+}
+
+/// Whether this may be a name. Its bytes are looked at, since a proof knows the range of a byte that is read.
+fn is_name(name: &[u8]) -> bool
+    ensures { IsTrue result → IsName name.now }
+{
+    is_name_long(name) && are_below(name, BYTES)
 }
 
 /// Whether each is one of so many terminals, and not the end.
@@ -159,11 +190,11 @@ fn is_start(starts: Starts, states: usize) -> bool
         && is_below(starts.at_line.map(|state| state.0), states)
 }
 
-/// Whether each class is below their count.
-fn are_below(classes: &[u8], count: usize) -> bool
-    ensures { IsTrue result → All (λ c. c < count) classes.now }
+/// Whether each byte is below a bound.
+fn are_below(bytes: &[u8], bound: usize) -> bool
+    ensures { IsTrue result → All (λ byte. byte < bound) bytes.now }
 {
-    classes.iter().all(|class| usize::from(*class) < count)
+    bytes.iter().all(|byte| usize::from(*byte) < bound)
 }
 
 /// Whether the rule of each state, if it has one, is one of so many.
@@ -222,7 +253,7 @@ fn is_name_short(tree: &RuleTree) -> bool
     ensures { IsTrue result → IsShapeShort (shape_of tree.now) }
 {
     match tree {
-        RuleTree::Build { name, .. } => is_name_long(name),
+        RuleTree::Build { name, .. } => is_name(name),
         RuleTree::Nil | RuleTree::Pass(_) => true,
     }
 }

@@ -3,8 +3,8 @@ use Rattle.std.specs.Prelude.{◌≡◌, ℕ, ◌+◌, ◌<◌, ◌≤◌, All, 
 use Rattle.std.specs.Int.{w16}
 use Rattle.ly_base.specs.declared.numbers.StateNo.{StateNo}
 use Rattle.ly_pack.specs.Rows.{Used}
-use Rattle.ly_tables.specs.Private.Names.{AreNamesWithin}
-use Rattle.ly_tables.specs.Ranges.{AreRows, AreStartsWithin, IsRuleShort, IsScanRule}
+use Rattle.ly_tables.specs.Private.Names.{BeginWithSpecials}
+use Rattle.ly_tables.specs.Ranges.{AreRows, AreStartsWithin, IsName, IsRuleShort, IsScanRule}
 use Rattle.ly_tables.specs.TableSet.{TableSet}
 
 -- The symbols.
@@ -12,7 +12,8 @@ pub record AreSymbolsIn (s : TableSet) : Type 0 where
   pub terminals : 2 ≤ length s.terminals
   pub nonterminals : 1 ≤ s.nonterminals
   pub symbols : length s.terminals + s.nonterminals + 1 ≤ 4095
-  pub names : AreNamesWithin s.terminals
+  pub names : All IsName s.terminals
+  pub specials : BeginWithSpecials s.terminals
   pub all_literals : length s.literals ≡ 256
   pub literals : All (λ t. (1 ≤ t) × (t < length s.terminals)) s.literals
 
