@@ -55,8 +55,8 @@ fn table_parts(
     requires tables { IsMachineOf resolved.now.spec resolved.now.automaton machine }
     requires rules { length rules.now ≡ length resolved.now.spec.scanner }
     requires starts { (conditions : ℕ) × (dfa.now.starts ≡ 2 * conditions) }
-    ensures set { IfOk result (λ parts. IsSetOf resolved.now.spec resolved.now.automaton rules.now dfa.now (set_of parts)
-        × (machine_of (set_of parts) ≡ machine)) }
+    ensures set { IfOk result (λ parts. IsSetOf resolved.now.spec resolved.now.automaton rules.now dfa.now
+        (set_of parts) × (machine_of (set_of parts) ≡ machine)) }
     ensures whole { OnOk result (IsMachine machine) }
 {
     let spec = resolved.spec();

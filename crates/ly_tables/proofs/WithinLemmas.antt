@@ -1,5 +1,5 @@
 -- Lists that are mapped to what a set shows of them.
-use Rattle.std.proofs.Common.{◌≡◌, ℕ, List, Option, Some, length, map, refl, slice_get, subst, All}
+use Rattle.std.proofs.Common.{◌≡◌, ℕ, List, Option, Some, map, refl, slice_get, subst, All}
 use Rattle.std.proofs.lemmas.List.Elements.{All-map, All-weaker}
 use Rattle.std.proofs.lemmas.Option.{get_or_from_slice_get, slice_get_within}
 use Rattle.ly_pack.specs.Rows.{Comb}

@@ -57,7 +57,11 @@ impl TableParts {
         ensures { IsTrue result → AreScanRulesIn (set_of self.now) }
     {
         is_at_most(self.scan_rules.len(), MOST_RULES)
-            && are_scan_rules(&self.scan_rules, self.terminals.len(), self.conditions.len())
+            && are_scan_rules(
+                &self.scan_rules,
+                self.terminals.len(),
+                self.conditions.len(),
+            )
             && is_count_within(self.conditions.len(), MOST_CONDITIONS)
             && are_starts(&self.conditions, self.accepted.len())
     }
