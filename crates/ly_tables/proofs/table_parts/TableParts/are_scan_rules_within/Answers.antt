@@ -10,7 +10,8 @@ use Rattle.ly_tables.specs.Values.{scan_rule_from, starts_from}
 use Rattle.ly_tables.proofs.WithinLemmas.{all_mapped}
 use Rattle.ly_tables.proofs.table_parts.TableParts.are_scan_rules_within.Goals as goal
 use Rattle.ly_tables.proofs.table_parts.TableParts.are_scan_rules_within.Goals.{then-is_at_most, else-is_at_most}
-use Rattle.ly_tables.proofs.table_parts.TableParts.are_scan_rules_within.Goals.{then-are_scan_rules, else-are_scan_rules}
+use Rattle.ly_tables.proofs.table_parts.TableParts.are_scan_rules_within.Goals.{then-are_scan_rules}
+use Rattle.ly_tables.proofs.table_parts.TableParts.are_scan_rules_within.Goals.{else-are_scan_rules}
 
 pub returns-then-is_count_within : goal.returns-then-is_count_within
 returns-then-is_count_within c = λ last. elim c.if-are_scan_rules.branch [
@@ -47,12 +48,14 @@ returns-then-is_count_within c = λ last. elim c.if-are_scan_rules.branch [
               (u.are_scan_rules.ensures (sym u.value-is ∙ v.if-are_scan_rules.true));
           some_condition = omega (arith, count.0, v.len-then-are_scan_rules.ensures, conditions);
           condition_count = omega (arith, count.1, v.len-then-are_scan_rules.ensures, conditions);
-          conditions = all_mapped (AreStartsWithin (length (map (option_map (λ (p : RuleNo). p.0)) parts.accepted.items)))
+          conditions = all_mapped
+              (AreStartsWithin (length (map (option_map (λ (p : RuleNo). p.0)) parts.accepted.items)))
               (AreStartsWithin c.len-then-is_count_within.result) starts_from parts.conditions.items
               c.deref-then-is_count_within.result.now c.deref-then-is_count_within.ensures.value
               (λ x at. subst (λ n. AreStartsWithin n x) states at) (c.are_starts.ensures last);
         }
     | else-is_at_most u ↦ absurd (false≢true (sym u.if-is_at_most.false ∙ sym u.value-is ∙ v.if-are_scan_rules.true))
   ]
-  | else-are_scan_rules v ↦ absurd (false≢true (sym v.if-are_scan_rules.false ∙ sym v.value-is ∙ c.if-is_count_within.true))
+  | else-are_scan_rules v ↦ absurd (false≢true (sym v.if-are_scan_rules.false ∙ sym v.value-is
+      ∙ c.if-is_count_within.true))
 ]

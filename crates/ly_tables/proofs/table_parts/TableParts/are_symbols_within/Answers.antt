@@ -7,7 +7,8 @@ use Rattle.ly_tables.specs.Private.Names.{BeginWithSpecials}
 use Rattle.ly_tables.specs.Ranges.{IsName}
 use Rattle.ly_tables.proofs.WithinLemmas.{all_mapped}
 use Rattle.ly_tables.proofs.table_parts.TableParts.are_symbols_within.Goals as goal
-use Rattle.ly_tables.proofs.table_parts.TableParts.are_symbols_within.Goals.{then-are_counts_within, else-are_counts_within}
+use Rattle.ly_tables.proofs.table_parts.TableParts.are_symbols_within.Goals.{then-are_counts_within}
+use Rattle.ly_tables.proofs.table_parts.TableParts.are_symbols_within.Goals.{else-are_counts_within}
 use Rattle.ly_tables.proofs.table_parts.TableParts.are_symbols_within.Goals.{then-are_terminals, else-are_terminals}
 
 pub returns-then-len-eq-BYTES : goal.returns-then-len-eq-BYTES
@@ -26,9 +27,11 @@ returns-then-len-eq-BYTES c = λ last. elim c.if-are_terminals.branch [
           terminals = omega (arith, a.0, names, c.len.ensures);
           nonterminals = a.1;
           symbols = omega (arith, a.2, names, c.len.ensures);
-          names = all_mapped IsName IsName items parts.terminals.items u.deref.result.now u.deref.ensures.value (λ n at. at)
+          names = all_mapped IsName IsName items parts.terminals.items u.deref.result.now
+              u.deref.ensures.value (λ n at. at)
               (u.are_terminals.ensures.names b);
-          specials = subst (λ xs. BeginWithSpecials (map items xs)) u.deref.ensures.value (u.are_terminals.ensures.specials b);
+          specials = subst (λ xs. BeginWithSpecials (map items xs)) u.deref.ensures.value
+              (u.are_terminals.ensures.specials b);
           all_literals =
               let these = length-map parts.literals.items number in
               let many = v.len-then-are_terminals.ensures in
@@ -39,7 +42,8 @@ returns-then-len-eq-BYTES c = λ last. elim c.if-are_terminals.branch [
               c.deref-then-len-eq-BYTES.result.now c.deref-then-len-eq-BYTES.ensures.value
               (λ t at. (at.0, subst (λ n. t < n) count at.1)) (c.are_tokens.ensures last);
         }
-    | else-are_counts_within u ↦ absurd (false≢true (sym u.if-are_counts_within.false ∙ sym u.value-is ∙ v.if-are_terminals.true))
+    | else-are_counts_within u ↦ absurd (false≢true (sym u.if-are_counts_within.false ∙ sym u.value-is
+        ∙ v.if-are_terminals.true))
   ]
   | else-are_terminals v ↦ absurd (false≢true (sym v.if-are_terminals.false ∙ sym v.value-is ∙ c.if-len-eq-BYTES.true))
 ]

@@ -27,7 +27,8 @@ returns-then-are_rows c = λ last. elim c.if-is_at_most.branch [
           record {
             some_rule = omega (arith, count.0, c.len.ensures, rules);
             rule_count = omega (arith, count.1, c.len.ensures, rules);
-            rules = all_mapped IsRuleShort IsRuleShort rule_from parts.rules.items u.deref.result.now u.deref.ensures.value
+            rules = all_mapped IsRuleShort IsRuleShort rule_from parts.rules.items u.deref.result.now
+                u.deref.ensures.value
                 (λ r at. at) (u.are_rules_short.ensures (sym u.value-is ∙ v.if-are_rules_short.true));
             state_count = omega (
               arith,
@@ -44,9 +45,11 @@ returns-then-are_rows c = λ last. elim c.if-is_at_most.branch [
                 parts.nonterminals parts.gotos (omega (arith, c.len-then-are_rows.ensures, states)) refl
                 (c.are_rows-then-are_rows.ensures last);
           }
-      | else-is_count_within u ↦ absurd (false≢true (sym u.if-is_count_within.false ∙ sym u.value-is ∙ v.if-are_rules_short.true))
+      | else-is_count_within u ↦ absurd (false≢true (sym u.if-is_count_within.false ∙ sym u.value-is
+          ∙ v.if-are_rules_short.true))
     ]
-    | else-are_rules_short v ↦ absurd (false≢true (sym v.if-are_rules_short.false ∙ sym v.value-is ∙ d.if-is_at_most.true))
+    | else-are_rules_short v ↦ absurd (false≢true (sym v.if-are_rules_short.false ∙ sym v.value-is
+        ∙ d.if-is_at_most.true))
   ]
   | else-is_at_most d ↦ absurd (false≢true (sym d.if-is_at_most.false ∙ sym d.value-is ∙ c.if-are_rows.true))
 ]
