@@ -10,3 +10,4 @@ pub mod SectionOrderLemmas
 pub mod SetLemmas
 pub mod SlotLemmas
 pub mod SteadyLemmas
+pub mod WithinLemmas

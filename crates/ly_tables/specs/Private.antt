@@ -4,3 +4,4 @@ pub mod RawValues
 pub mod Refused
 pub mod SectionOrder
 pub mod Short
+pub mod Within

@@ -1,0 +1,65 @@
+use Rattle.std.proofs.Common.{◌≡◌, ◌∙◌, ◌*◌, ap, length, map, subst, sym}
+use Rattle.std.proofs.lemmas.List.{length-map}
+use Rattle.ly_emit.specs.Private.Listing.{AreLiterals}
+use Rattle.ly_emit.specs.Tables.{IsMachineOf}
+use Rattle.ly_emit.proofs.SetLemmas.{set_machine}
+use Rattle.ly_join.specs.Sizes.{HasSizes}
+use Rattle.ly_pack.specs.Combs.{IsFirstFit}
+use Rattle.ly_report.specs.Report.{terminal_name}
+use Rattle.ly_tables.specs.TableSet.{machine_of}
+use Rattle.ly_tables.specs.Values.{set_of, starts_from}
+use Rattle.ly_tables.specs.declared.table_parts.TableParts.{TableParts}
+use Rattle.ly_emit.proofs.set.table_parts.Goals as goal
+
+pub returns-clause-set : goal.returns-clause-set
+returns-clause-set c =
+    let s = c.args.resolved.now.spec in
+    let M = c.args.resolved.now.automaton in
+    let spec = c.spec-spec.ensures.these in
+    let parser = c.into_parts-parser in
+    let scanner = c.in_ok-scanner.scanner in
+    let made = c.in_ok-scanner.ensures in
+    let p : TableParts = record {
+      terminals = c.in_ok-terminal_names.field-0;
+      nonterminals = c.accept.result.0;
+      literals = c.in_ok-literals.field-0;
+      scan_rules = scanner.rules;
+      conditions = scanner.conditions;
+      class_count = c.classes.result;
+      classes = scanner.classes;
+      accepted = scanner.accepted;
+      scan_rows = scanner.rows;
+      rules = parser.result.rules;
+      defaults = parser.result.defaults;
+      actions = c.into_comb.result;
+      gotos = c.into_comb-2.result;
+    } in
+    let sizes = subst HasSizes spec c.in_ok-terminal_names.ensures.sizes in
+    let names : map (λ name. name.items) p.terminals.items ≡ map terminal_name s.terminals
+    = c.in_ok-terminal_names.ensures.names ∙ ap (λ x. map terminal_name x.terminals) spec in
+    let accept : p.nonterminals ≡ M.grammar.accept
+    = c.accept.ensures ∙ sym c.grammar.ensures.keeps.accept ∙ ap (λ g. g.accept) c.reduced.ensures
+    ∙ ap (λ m. m.grammar.accept) c.lr0.ensures.these in
+    let same : machine_of (set_of p) ≡ c.args.machine
+    = set_machine p parser.result.terminals parser.result.nonterminals parser.result.actions parser.result.gotos
+    c.into_comb.ensures.same c.into_comb-2.ensures.same s M c.args.machine sizes c.lr0.ensures.useful
+    c.requires.tables names accept (parser.ensures.same ∙ c.in_ok-pack.ensures) in
+    (record {
+      terminals = names;
+      nonterminals = accept ∙ c.lr0.ensures.useful.accept ∙ sizes.nonterminals;
+      literals = subst (λ x. AreLiterals x.terminals (map (λ t. t.0) p.literals.items)) spec c.in_ok-literals.ensures;
+      scanner = record {
+        actions = made.actions ∙ c.scanner.ensures ∙ ap (λ x. x.scanner) spec;
+        cuts = made.cuts;
+        condition_count = ap (λ n. 2 * n) (length-map scanner.conditions.items starts_from) ∙ made.count;
+        conditions = made.starts;
+        class_count = c.classes.ensures;
+        classes = made.classes;
+        accepted = made.accepted;
+        rows = made.rows;
+      };
+      machine = subst (IsMachineOf s M) (sym same) c.requires.tables;
+      scan_rows = made.placed;
+      actions = subst IsFirstFit (sym c.into_comb.ensures.same) c.into_comb.ensures.placed;
+      gotos = subst IsFirstFit (sym c.into_comb-2.ensures.same) c.into_comb-2.ensures.placed;
+    }, same)
