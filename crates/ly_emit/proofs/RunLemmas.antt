@@ -1,6 +1,6 @@
 -- Tables follow the reference machine over tokens one after another.
-use Rattle.std.proofs.Common.{◌≡◌, ℕ, ◌<◌, List, [], ◌∷◌, ◌++◌, refl, subst, sym}
-use Rattle.std.proofs.lemmas.List.Elements.{All-head, All-tail}
+use Rattle.std.proofs.Common.{◌≡◌, ℕ, ◌<◌, List, [], ◌∷◌, ◌++◌, arith, refl, subst, sym}
+use Rattle.std.proofs.lemmas.List.Elements.{All-cons, All-head, All-tail}
 use Rattle.ly_base.specs.Lexed.{Token}
 use Rattle.ly_join.specs.Joined.{Spec}
 use Rattle.ly_grammar.specs.Reduction.{KeepsUseful}
@@ -19,21 +19,27 @@ use Rattle.ly_emit.proofs.FollowLemmas.{tables_follow}
 
 module _ (s : Spec) (M : Automaton) (n : Machine) (is : IsAutomaton M) (useful : KeepsUseful s.grammar M.grammar)
     (of : IsMachineOf s M n) where
-  -- tokens that are read
-  reads_follow : {levels last : List Level} {tokens : List (Token ℕ)} → Reads n levels tokens last
-      → (stack : List Pushed) (t : Token ℕ) (behind : List (Token ℕ)) → AreOf M (tokens ++ t ∷ [])
-      → Mirrors M (shape_in s) stack levels
+  -- tokens that are read, whatever stands behind them
+  pub reads_follow : {levels last : List Level} {tokens : List (Token ℕ)} → Reads n levels tokens last
+      → (stack : List Pushed) (behind : List (Token ℕ)) → AreOf M tokens → Mirrors M (shape_in s) stack levels
       → (next : List Pushed)
-      × Leads M.grammar (judge_of s) (record { stack = stack; rest = tokens ++ t ∷ behind })
-      (record { stack = next; rest = t ∷ behind }) × Mirrors M (shape_in s) next last
-  reads_follow at_end stack t behind all mirrors = (stack, machine.here, mirrors)
-  reads_follow (onward {levels = levels} {next = next} {token = token} {tokens = tokens} fed rest) stack t behind all
+      × Leads M.grammar (judge_of s) (record { stack = stack; rest = tokens ++ behind })
+      (record { stack = next; rest = behind }) × Mirrors M (shape_in s) next last
+  reads_follow at_end stack behind all mirrors = (stack, machine.here, mirrors)
+  reads_follow (onward {levels = levels} {next = next} {token = token} {tokens = tokens} fed rest) stack behind all
       mirrors =
-      let step = tables_follow s M n is useful of stack levels token (tokens ++ t ∷ behind) (pushed next)
-      (All-head (λ x. x.terminal < M.grammar.terminals) token (tokens ++ t ∷ []) all) mirrors fed in
-      let later = reads_follow rest step.0 t behind
-      (All-tail (λ x. x.terminal < M.grammar.terminals) token (tokens ++ t ∷ []) all) step.2 in
+      let step = tables_follow s M n is useful of stack levels token (tokens ++ behind) (pushed next)
+      (All-head (λ x. x.terminal < M.grammar.terminals) token tokens all) mirrors fed in
+      let later = reads_follow rest step.0 behind
+      (All-tail (λ x. x.terminal < M.grammar.terminals) token tokens all) step.2 in
       (later.0, Leads-append step.1 later.1, later.2)
+
+-- those before the last
+before_last : (M : Automaton) (tokens : List (Token ℕ)) (t : Token ℕ) → AreOf M (tokens ++ t ∷ []) → AreOf M tokens
+before_last M [] t all = λ k d lt. absurd (omega (arith, lt))
+before_last M (x ∷ tokens) t all = All-cons (λ x. x.terminal < M.grammar.terminals) x tokens
+    (All-head (λ x. x.terminal < M.grammar.terminals) x (tokens ++ t ∷ []) all)
+    (before_last M tokens t (All-tail (λ x. x.terminal < M.grammar.terminals) x (tokens ++ t ∷ []) all))
 
 -- the last of them
 last_of : (M : Automaton) (tokens : List (Token ℕ)) (t : Token ℕ) → AreOf M (tokens ++ t ∷ [])
@@ -44,13 +50,13 @@ last_of M (x ∷ tokens) t all = last_of M tokens t
 
 pub accepted_follow : AcceptedFollow
 accepted_follow s M n is useful of tokens end last term all reads fed =
-    let read = reads_follow s M n is useful of reads [] end [] all bottom in
+    let read = reads_follow s M n is useful of reads [] (end ∷ []) (before_last M tokens end all) bottom in
     let step = tables_follow s M n is useful of read.0 last end [] (done term) (last_of M tokens end all) read.2 fed in
     (step.1, (step.0, Leads-append read.1 step.2, step.3), step.4)
 
 pub refused_follow : RefusedFollow
 refused_follow s M n is useful of before behind t last all reads fed =
-    let read = reads_follow s M n is useful of reads [] t behind all bottom in
+    let read = reads_follow s M n is useful of reads [] (t ∷ behind) (before_last M before t all) bottom in
     let step = tables_follow s M n is useful of read.0 last t behind refused (last_of M before t all) read.2 fed in (
       step.0,
       Leads-append read.1 step.1,

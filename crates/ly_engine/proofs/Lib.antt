@@ -3,9 +3,14 @@ pub mod AnswerLaws
 pub mod AnswerLemmas
 pub mod FileAgreementLemmas
 pub mod GenFaultLemmas
+pub mod HeadlineLemmas
 pub mod PositionAgreementLemmas
 pub mod PositionWalkLemmas
 pub mod PrintingLemmas
 pub mod RefusalLaws
 pub mod RowAgreementLemmas
+pub mod ScannerLemmas
 pub mod StatesFaultLemmas
+pub mod TokenLemmas
+pub mod WalkLemmas
+pub mod WordLemmas

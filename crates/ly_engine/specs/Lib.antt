@@ -3,8 +3,10 @@ pub mod Agreement
 pub mod Answering
 pub mod Answers
 pub mod GenFault
+pub mod Headline
 pub mod Laws
 pub mod PositionWalk
 pub mod Printing
 pub mod RowWalk
+pub mod SpecAnswer
 pub mod TokensFault

@@ -1,3 +1,4 @@
+ghost use Rattle.ly_engine.specs.Headline.{AnswersAreOfSpecification, TablesAnswerAsSpecified};
 ghost use Rattle.ly_engine.specs.Laws.{AnswerIsOne, PositionWalkAgrees, RefusalIsExact, RowWalkAgrees};
 
 /// The bytes of a lex file and those of a text have one answer, whose end is one too.
@@ -18,4 +19,10 @@ pub fn row_walk_agrees()
 /// What a refusal says of a lex file and a yacc file is never so of files that are accepted.
 pub fn refusal_is_exact()
     ensures { RefusalIsExact }
+{}
+
+/// What tables that are generated say of a text is what the specification says of it, and so are the answers.
+pub fn tables_answer_as_specified()
+    ensures verdicts { TablesAnswerAsSpecified }
+    ensures answers { AnswersAreOfSpecification }
 {}
