@@ -12,6 +12,8 @@ mod laws;
 mod numbers;
 mod parser_part;
 mod raw_tables;
+mod field;
+mod fields;
 mod scan_rule;
 mod scanner_part;
 mod starts;
