@@ -120,7 +120,7 @@ row_part {V} fits spelled (suc n) bytes (first, rest, part, row, is) =
     }
 
 -- a row of one kind of part, as often as is wanted
-copies : (part : List ℕ → Type 0) (n : ℕ) (bytes : List ℕ) → part bytes → (row : List ℕ) × Row part n row
+pub copies : (part : List ℕ → Type 0) (n : ℕ) (bytes : List ℕ) → part bytes → (row : List ℕ) × Row part n row
 copies part zero bytes is = ([], refl)
 copies part (suc n) bytes is =
     let more = copies part n bytes is in (bytes ++ more.0, (bytes, more.0, is, more.1, refl))
@@ -171,3 +171,15 @@ pub stopped : {T P Q : Type 0} (result : Result T TableFault) (fault : TableFaul
     → IsErrAnd result (λ other. other ≡ fault) → Stops P fault → (P → Q) → IfErr result (Stops Q)
 stopped (Ok x) fault same cut all = tt
 stopped {T} {P} {Q} (Err other) fault same cut all = subst (Stops Q) (sym same) (stops_as fault all cut)
+
+-- there are so many bytes
+pub some_bytes : (n : ℕ) → (bytes : List ℕ) × AreBytes n bytes
+some_bytes n = (replicate n 0, (length-replicate n 0, All-replicate IsByte n 0 (omega arith)))
+
+-- a length and so many bytes are a text
+pub text_part : (whole : List ℕ) → Then (Fits w16) (number w16) AreBytes whole → IsStringText whole
+text_part whole text = record {
+  value = text.rest;
+  fit = (omega (arith, text.follows.0, text.fit), text.follows.1);
+  is = text.is ∙ ap (λ n. number w16 n ++ text.rest) (sym text.follows.0);
+}

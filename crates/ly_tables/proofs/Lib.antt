@@ -1,3 +1,4 @@
+pub mod ChainLemmas
 pub mod CutLemmas
 pub mod JoinLemmas
 pub mod RangeLemmas

@@ -6,15 +6,19 @@
 //! Left out: reading a table file.
 #![tactic(auto)]
 
+mod comb_fields;
 mod combs;
 mod fault;
 mod laws;
 mod numbers;
+mod parser_fields;
 mod parser_part;
+mod plain_fields;
 mod raw_tables;
 mod field;
 mod fields;
 mod scan_rule;
+mod scanner_fields;
 mod scanner_part;
 mod starts;
 mod symbol_part;

@@ -2,7 +2,8 @@
 use Rattle.std.specs.Prelude.{◌≡◌, ◌≢◌, ℕ, zero, suc, List, [], ◌∷◌, ◌++◌, length, All}
 use Rattle.std.specs.List.{flat_map}
 use Rattle.std.specs.Int.{w16, w32, to_be_bytes}
-use Rattle.ly_tables.specs.RawSet.{Fits, IsByte, IsString}
+use Rattle.ly_tables.specs.RawSet.{Fits, IsByte, IsString, RuleFits, ScanRuleFits, StartsFit}
+use Rattle.ly_tables.specs.RawSet.{CombFits, raw_comb, raw_rule, raw_scan_rule, raw_starts}
 use Rattle.ly_tables.specs.Spelling.{number, string}
 use Rattle.ly_tables.specs.declared.fault.TableFault.{TableFault}
 use Rattle.ly_tables.specs.declared.fault.TableFault.TheVariants.{BadMagic, BadVersion, Endless, OutOfMemory}
@@ -34,6 +35,10 @@ abbrev pub Row : (List ℕ → Type 0) → ℕ → List ℕ → Type 0
 Row part zero bytes = bytes ≡ []
 Row part (suc n) bytes = (first rest : List ℕ) × part first × Row part n rest × (bytes ≡ first ++ rest)
 
+-- how many parts there are, and these
+abbrev pub Counted : (List ℕ → Type 0) → List ℕ → Type 0
+Counted part = Then (Fits w16) (number w16) (Row part)
+
 -- why a part isn't read: it is cut, or memory ran out
 abbrev pub Stops : Type 0 → TableFault → Type 0
 Stops cut Truncated = cut
@@ -63,3 +68,15 @@ IsWideText = Spells (Fits w32) (to_be_bytes w32)
 
 abbrev pub IsStringText : List ℕ → Type 0
 IsStringText = Spells IsString string
+
+abbrev pub IsScanRuleText : List ℕ → Type 0
+IsScanRuleText = Spells (ScanRuleFits w16) (raw_scan_rule w16)
+
+abbrev pub AreStartsText : List ℕ → Type 0
+AreStartsText = Spells (StartsFit w16) (raw_starts w16)
+
+abbrev pub IsRuleText : List ℕ → Type 0
+IsRuleText = Spells (RuleFits w16) (raw_rule w16)
+
+abbrev pub IsCombText : ℕ → List ℕ → Type 0
+IsCombText states = Spells (CombFits w16 states) (raw_comb w16)

@@ -10,7 +10,7 @@ returns-then-left-count-clause-cut c = cut_few c.args.count c.args.left.now (ome
 
 pub returns-clause-ok : goal.returns-clause-ok
 returns-clause-ok c =
-    let all = All-take IsByte c.args.left.now c.args.count (are_bytes c.args.left.now c.type_inv.left) in
+    let all = All-take IsByte c.args.count c.args.left.now (are_bytes c.args.left.now c.type_inv.left) in
     ((c.split_at.ensures.front_len, subst (All IsByte) (sym c.split_at.ensures.front) all),
     sym (take-append-drop c.args.count c.args.left.now)
     ∙ ap₂ (λ x y. x ++ y) (sym c.split_at.ensures.front) (sym c.split_at.ensures.back))
