@@ -2,3 +2,4 @@ pub mod ChainLemmas
 pub mod CutLemmas
 pub mod JoinLemmas
 pub mod RangeLemmas
+pub mod SectionLemmas

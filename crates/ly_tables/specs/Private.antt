@@ -1,4 +1,5 @@
 pub mod Found
 pub mod Parts
+pub mod RawParts
 pub mod RawValues
 pub mod Short
