@@ -86,7 +86,8 @@ byte_part [] (long, all) = absurd (omega (arith, long))
 byte_part (byte ∷ []) (long, all) = record { value = byte; fit = all 0 0 (omega arith); is = refl }
 byte_part (byte ∷ next ∷ more) (long, all) = absurd (omega (arith, long))
 
-small : (bytes : List ℕ) → All IsByte bytes → (i : ℕ) → get_or bytes i 0 < 256
+-- what lies behind the end is 0
+pub small : (bytes : List ℕ) → All IsByte bytes → (i : ℕ) → get_or bytes i 0 < 256
 small [] all i = omega arith
 small (byte ∷ bytes) all zero = all 0 0 (omega arith)
 small (byte ∷ bytes) all (suc i) = small bytes (λ k d lt. all (suc k) d (omega arith)) i

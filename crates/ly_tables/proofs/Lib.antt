@@ -1,5 +1,6 @@
 pub mod ChainLemmas
 pub mod CutLemmas
+pub mod FileLemmas
 pub mod JoinLemmas
 pub mod RangeLemmas
 pub mod SectionLemmas

@@ -64,7 +64,7 @@ names_are texts left behind is =
     is ∙ ap (λ x. x ++ behind) (sym (flat_map-map string (λ (text : Vec ℕ Global). text.items) texts))
 
 -- lists one behind another
-four_apart : {whole l1 l2 l3 : List ℕ} (l4 : List ℕ) (a b c d : List ℕ) → whole ≡ a ++ l1 → l1 ≡ b ++ l2 → l2 ≡ c ++ l3
+pub four_apart : {whole l1 l2 l3 : List ℕ} (l4 : List ℕ) (a b c d : List ℕ) → whole ≡ a ++ l1 → l1 ≡ b ++ l2 → l2 ≡ c ++ l3
     → l3 ≡ d ++ l4 → whole ≡ (((a ++ b) ++ c) ++ d) ++ l4
 four_apart {whole} {l1} {l2} {l3} l4 a b c d first second third last =
     let all : whole ≡ a ++ (b ++ (c ++ (d ++ l4))) = cc in all ∙ simp append_assoc
@@ -81,7 +81,7 @@ scanner_apart {whole} {l1} {l2} {l3} {l4} {l5} l6 a n b c d m e f first second t
     let all : whole ≡ a ++ ((n ++ b) ++ (c ++ (d ++ ((m ++ e) ++ (f ++ l6))))) = cc in all ∙ simp append_assoc
 
 -- what is the last has nothing behind it
-ended : {x y : List ℕ} → x ≡ y → x ≡ y ++ []
+pub ended : {x y : List ℕ} → x ≡ y → x ≡ y ++ []
 ended {x} {y} e = e ∙ sym (append-nil y)
 
 -- the numbers of the symbols fit, and their bytes

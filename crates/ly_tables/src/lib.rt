@@ -15,6 +15,7 @@ mod parser_fields;
 mod parser_part;
 mod parser_sections;
 mod plain_fields;
+mod raw_reading;
 mod raw_tables;
 mod field;
 mod fields;

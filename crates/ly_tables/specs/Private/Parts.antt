@@ -80,3 +80,13 @@ IsRuleText = Spells (RuleFits w16) (raw_rule w16)
 
 abbrev pub IsCombText : ℕ → List ℕ → Type 0
 IsCombText states = Spells (CombFits w16 states) (raw_comb w16)
+
+-- a fault that comes before ranges are looked at
+abbrev pub IsEarly : TableFault → Type 0
+IsEarly BadMagic = Unit {0}
+IsEarly BadVersion = Unit {0}
+IsEarly Truncated = Unit {0}
+IsEarly Trailing = Unit {0}
+IsEarly OutOfMemory = Unit {0}
+IsEarly (OutOfRange section) = ⊥
+IsEarly Endless = ⊥
