@@ -4,3 +4,4 @@ pub mod FileLemmas
 pub mod JoinLemmas
 pub mod RangeLemmas
 pub mod SectionLemmas
+pub mod ToldLemmas
