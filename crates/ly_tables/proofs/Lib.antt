@@ -1,10 +1,12 @@
 pub mod ChainLemmas
 pub mod CutLemmas
 pub mod EntryLemmas
+pub mod ExactLemmas
 pub mod FileLemmas
 pub mod ItemLemmas
 pub mod JoinLemmas
 pub mod MeaningLemmas
+pub mod NumberLemmas
 pub mod PlaceLemmas
 pub mod RangeLemmas
 pub mod RawOfLemmas

@@ -28,7 +28,7 @@ use Rattle.ly_tables.proofs.MeaningLemmas.{scan_rule_within, starts_within}
 use Rattle.ly_tables.proofs.SlotLemmas.{comb_back, comb_within, length-slots, used_within}
 
 -- a list that is mapped there and back is as it was
-there_and_back : {A B : Type 0} (f : A → B) (g : B → A) (xs : List A) → All (λ x. g (f x) ≡ x) xs
+pub there_and_back : {A B : Type 0} (f : A → B) (g : B → A) (xs : List A) → All (λ x. g (f x) ≡ x) xs
     → map g (map f xs) ≡ xs
 there_and_back f g xs all = map_back f g (λ x. x) xs all ∙ map-id xs
 

@@ -46,7 +46,8 @@ mod table_set;
 mod writing;
 
 pub use fault::TableFault;
-pub use laws::{a_set_has_one_spelling, a_set_is_spelled_by_numbers, raw_files_are_told_apart};
+pub use laws::{a_file_has_one_set, a_refusal_is_exact, a_set_has_one_spelling, a_set_is_spelled_by_numbers};
+pub use laws::{numbers_of_a_set_are_within, raw_files_are_told_apart};
 pub use reading::read_tables;
 pub use scan_rule::ScanRule;
 pub use starts::Starts;
