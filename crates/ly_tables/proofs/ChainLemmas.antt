@@ -5,7 +5,7 @@ use Rattle.std.specs.Int.{w16, w32, to_be_bytes}
 use Rattle.std.specs.List.{flat_map}
 use Rattle.std.proofs.lemmas.List.{length-replicate}
 use Rattle.std.proofs.lemmas.List.Elements.{All-nil, All-replicate}
-use Rattle.ly_tables.proofs.CutLemmas.{some_bytes}
+use Rattle.ly_tables.proofs.BeginningLemmas.{some_bytes}
 use Rattle.ly_tables.specs.Private.Found.{Is, some_byte, some_short, some_string}
 use Rattle.ly_tables.specs.Private.Parts.{AreBytes, AreStartsText, IsByteText, IsRuleText, IsScanRuleText, IsShortText}
 use Rattle.ly_tables.specs.Private.Parts.{IsCombText, Spells, Then, single}
@@ -67,13 +67,16 @@ abbrev pub NameThen : List ℕ → Type 0
 NameThen = Then IsString string (λ name. PlacesText)
 
 pub some_name_then : Is NameThen
-some_name_then = (string [] ++ some_places.0, record {
-  value = [];
-  rest = some_places.0;
-  fit = (omega arith, All-nil IsByte);
-  follows = some_places.1;
-  is = refl;
-})
+some_name_then = (
+  string [] ++ some_places.0,
+  record {
+    value = [];
+    rest = some_places.0;
+    fit = (omega arith, All-nil IsByte);
+    follows = some_places.1;
+    is = refl;
+  },
+)
 
 -- a rule of the parser
 pub rule_part : (whole : List ℕ) → ShortThen (ByteThen (ByteThen NameThen)) whole → IsRuleText whole
@@ -122,28 +125,34 @@ abbrev pub CombText : ℕ → List ℕ → Type 0
 CombText states = Then (AreWides states) (flat_map (to_be_bytes w32)) (λ bases. SlotsText)
 
 pub some_rows : (n : ℕ) → Is (RowsText n)
-some_rows n = (flat_map (number w16) (replicate n 0), record {
-  value = replicate n 0;
-  fit = (length-replicate n 0, All-replicate (Fits w16) n 0 (omega arith));
-  is = refl;
-})
+some_rows n = (
+  flat_map (number w16) (replicate n 0),
+  record {
+    value = replicate n 0;
+    fit = (length-replicate n 0, All-replicate (Fits w16) n 0 (omega arith));
+    is = refl;
+  },
+)
 
 pub some_entries : (n : ℕ) → Is (EntriesText n)
 some_entries n =
-    let rows = some_rows n in
-    (flat_map (number w16) (replicate n 0) ++ rows.0, record {
-      value = replicate n 0;
-      rest = rows.0;
-      fit = (length-replicate n 0, All-replicate (Fits w16) n 0 (omega arith));
-      follows = rows.1;
-      is = refl;
-    })
+    let rows = some_rows n in (
+      flat_map (number w16) (replicate n 0) ++ rows.0,
+      record {
+        value = replicate n 0;
+        rest = rows.0;
+        fit = (length-replicate n 0, All-replicate (Fits w16) n 0 (omega arith));
+        follows = rows.1;
+        is = refl;
+      },
+    )
 
 pub some_slots : Is SlotsText
 some_slots =
-    let entries = some_entries 0 in
-    (to_be_bytes w32 0 ++ entries.0,
-    record { value = 0; rest = entries.0; fit = omega arith; follows = entries.1; is = refl })
+    let entries = some_entries 0 in (
+      to_be_bytes w32 0 ++ entries.0,
+      record { value = 0; rest = entries.0; fit = omega arith; follows = entries.1; is = refl },
+    )
 
 apart_comb : {whole r1 r2 r3 : List ℕ} (b s e r : List ℕ) → whole ≡ b ++ r1 → r1 ≡ s ++ r2 → r2 ≡ e ++ r3 → r3 ≡ r
     → whole ≡ ((b ++ s) ++ e) ++ r

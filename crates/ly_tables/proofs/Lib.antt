@@ -1,5 +1,5 @@
+pub mod BeginningLemmas
 pub mod ChainLemmas
-pub mod CutLemmas
 pub mod FileLemmas
 pub mod JoinLemmas
 pub mod RangeLemmas

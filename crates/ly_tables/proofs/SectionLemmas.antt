@@ -7,9 +7,9 @@ use Rattle.std.proofs.lemmas.List.{length-map, length-replicate}
 use Rattle.std.proofs.lemmas.List.Elements.{All-map, All-nil, All-replicate}
 use Rattle.std.proofs.lemmas.List.Folds.{flat_map-map}
 use Rattle.ly_tables.proofs.ChainLemmas.{AreShorts, RowsText, ShortThen, some_rows, some_short_then}
-use Rattle.ly_tables.proofs.CutLemmas.{row_part, some_bytes}
+use Rattle.ly_tables.proofs.BeginningLemmas.{repeated_part, some_bytes}
 use Rattle.ly_tables.specs.Private.Found.{Is}
-use Rattle.ly_tables.specs.Private.Parts.{AreBytes, Counted, IsCombText, Row, Spells, Then}
+use Rattle.ly_tables.specs.Private.Parts.{AreBytes, Counted, IsCombText, Repeated, Spells, Then}
 use Rattle.ly_tables.specs.Private.RawParts.{AreSymbolsText, DoSymbolsFit, DoesParserFit, DoesScannerFit, IsParserText}
 use Rattle.ly_tables.specs.Private.RawParts.{IsScannerText, no_rows, of_parser, of_scanner, of_symbols}
 use Rattle.ly_tables.specs.RawSet.{CombFits, Fits, IsByte, IsString, RawComb, RawRule, RawScanRule, RawStarts}
@@ -28,7 +28,7 @@ counted_bytes spelled vs = number w16 (length vs) ++ flat_map spelled vs
 pub counted_part : {V : Type 0} (fits : V → Type 0) (spelled : V → List ℕ) (bytes : List ℕ)
     → Counted (Spells fits spelled) bytes → Spells (AreCounted fits) (counted_bytes spelled) bytes
 counted_part {V} fits spelled bytes counted =
-    let row = row_part fits spelled counted.value counted.rest counted.follows in
+    let row = repeated_part fits spelled counted.value counted.rest counted.follows in
     record {
       value = row.value;
       fit = (omega (arith, counted.fit, row.fit.0), row.fit.1);
@@ -53,9 +53,10 @@ mapped_is spelled value xs left behind is =
 pub names_fit : {count : ℕ} (texts : List (Vec ℕ Global)) → length texts ≡ count → All (λ text. IsString text.items) texts
     → (length (map (λ (text : Vec ℕ Global). text.items) texts) ≡ count)
     × All IsString (map (λ (text : Vec ℕ Global). text.items) texts)
-names_fit texts count all =
-    (length-map texts (λ (text : Vec ℕ Global). text.items) ∙ count,
-    All-map IsString (λ (text : Vec ℕ Global). text.items) texts all)
+names_fit texts count all = (
+  length-map texts (λ (text : Vec ℕ Global). text.items) ∙ count,
+  All-map IsString (λ (text : Vec ℕ Global). text.items) texts all,
+)
 
 pub names_are : (texts : List (Vec ℕ Global)) (left behind : List ℕ)
     → left ≡ flat_map (λ text. string text.items) texts ++ behind
@@ -107,14 +108,16 @@ NamesText t = Then (λ names. (length names ≡ t) × All IsString names) (flat_
 
 pub some_names : (t : ℕ) → Is (NamesText t)
 some_names t =
-    let literals = some_rows 256 in
-    (flat_map string (replicate t []) ++ literals.0, record {
-      value = replicate t [];
-      rest = literals.0;
-      fit = (length-replicate t [], All-replicate IsString t [] (omega arith, All-nil IsByte));
-      follows = literals.1;
-      is = refl;
-    })
+    let literals = some_rows 256 in (
+      flat_map string (replicate t []) ++ literals.0,
+      record {
+        value = replicate t [];
+        rest = literals.0;
+        fit = (length-replicate t [], All-replicate IsString t [] (omega arith, All-nil IsByte));
+        follows = literals.1;
+        is = refl;
+      },
+    )
 
 pub symbols_part : (whole : List ℕ) → Then (Fits w16) (number w16) (λ t. ShortThen (NamesText t)) whole
     → AreSymbolsText whole
@@ -173,37 +176,42 @@ AcceptedText = Then (AreCounted (Fits w16)) (counted_bytes (number w16)) (λ acc
 
 pub some_accepted : Is AcceptedText
 some_accepted =
-    let rows = some_comb 0 in
-    (counted_bytes (number w16) [] ++ rows.0, record {
-      value = [];
-      rest = rows.0;
-      fit = (omega arith, All-nil (Fits w16));
-      follows = rows.1;
-      is = refl;
-    })
+    let rows = some_comb 0 in (
+      counted_bytes (number w16) [] ++ rows.0,
+      record {
+        value = [];
+        rest = rows.0;
+        fit = (omega arith, All-nil (Fits w16));
+        follows = rows.1;
+        is = refl;
+      },
+    )
 
 abbrev pub ClassesText : List ℕ → Type 0
 ClassesText = Then (AreBytes 256) (λ classes. classes) (λ classes. AcceptedText)
 
 pub some_classes : Is ClassesText
 some_classes =
-    let zeros = some_bytes 256 in
-    (zeros.0 ++ some_accepted.0,
-    record { value = zeros.0; rest = some_accepted.0; fit = zeros.1; follows = some_accepted.1; is = refl })
+    let zeros = some_bytes 256 in (
+      zeros.0 ++ some_accepted.0,
+      record { value = zeros.0; rest = some_accepted.0; fit = zeros.1; follows = some_accepted.1; is = refl },
+    )
 
 abbrev pub ConditionsText : List ℕ → Type 0
 ConditionsText = Then (AreCounted (StartsFit w16)) (counted_bytes (raw_starts w16)) (λ conditions. ShortThen ClassesText)
 
 pub some_conditions : Is ConditionsText
 some_conditions =
-    let classes = some_short_then some_classes in
-    (counted_bytes (raw_starts w16) [] ++ classes.0, record {
-      value = [];
-      rest = classes.0;
-      fit = (omega arith, All-nil (StartsFit w16));
-      follows = classes.1;
-      is = refl;
-    })
+    let classes = some_short_then some_classes in (
+      counted_bytes (raw_starts w16) [] ++ classes.0,
+      record {
+        value = [];
+        rest = classes.0;
+        fit = (omega arith, All-nil (StartsFit w16));
+        follows = classes.1;
+        is = refl;
+      },
+    )
 
 pub scanner_part : (whole : List ℕ)
     → Then (AreCounted (ScanRuleFits w16)) (counted_bytes (raw_scan_rule w16)) (λ rules. ConditionsText) whole
@@ -246,28 +254,32 @@ CombsText n = Then (CombFits w16 n) (raw_comb w16) (λ actions. IsCombText n)
 
 pub some_combs : (n : ℕ) → Is (CombsText n)
 some_combs n =
-    let comb = some_comb n in
-    (comb.0 ++ comb.0, record {
-      value = comb.1.value;
-      rest = comb.0;
-      fit = comb.1.fit;
-      follows = comb.1;
-      is = ap (λ x. x ++ comb.0) comb.1.is;
-    })
+    let comb = some_comb n in (
+      comb.0 ++ comb.0,
+      record {
+        value = comb.1.value;
+        rest = comb.0;
+        fit = comb.1.fit;
+        follows = comb.1;
+        is = ap (λ x. x ++ comb.0) comb.1.is;
+      },
+    )
 
 abbrev pub StatesText : List ℕ → Type 0
 StatesText = Then (AreCounted (Fits w16)) (counted_bytes (number w16)) (λ defaults. CombsText (length defaults))
 
 pub some_states : Is StatesText
 some_states =
-    let combs = some_combs 0 in
-    (counted_bytes (number w16) [] ++ combs.0, record {
-      value = [];
-      rest = combs.0;
-      fit = (omega arith, All-nil (Fits w16));
-      follows = combs.1;
-      is = refl;
-    })
+    let combs = some_combs 0 in (
+      counted_bytes (number w16) [] ++ combs.0,
+      record {
+        value = [];
+        rest = combs.0;
+        fit = (omega arith, All-nil (Fits w16));
+        follows = combs.1;
+        is = refl;
+      },
+    )
 
 pub parser_part : (whole : List ℕ)
     → Then (AreCounted (RuleFits w16)) (counted_bytes (raw_rule w16)) (λ rules. StatesText) whole

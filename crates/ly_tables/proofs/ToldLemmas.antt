@@ -98,14 +98,16 @@ scan_rule_told w told a b x y fit other is =
     let terminal = told a.terminal b.terminal _ _ fit.terminal other.terminal kind.1 in
     let begin = told a.begin b.begin _ _ fit.begin other.begin terminal.1 in
     let cut = byte_told a.cut b.cut _ _ begin.1 in
-    let len = told a.len b.len _ _ fit.len other.len cut.1 in
-    ((λ i. record {
-      kind = kind.0 i;
-      terminal = terminal.0 i;
-      begin = begin.0 i;
-      cut = cut.0 i;
-      len = len.0 i;
-    }), len.1)
+    let len = told a.len b.len _ _ fit.len other.len cut.1 in (
+      (λ i. record {
+        kind = kind.0 i;
+        terminal = terminal.0 i;
+        begin = begin.0 i;
+        cut = cut.0 i;
+        len = len.0 i;
+      }),
+      len.1,
+    )
 
 starts_told : (w : Width) → AreNumbersTold w → Told (StartsFit w) (raw_starts w)
 starts_told w told a b x y fit other is =
@@ -127,14 +129,16 @@ rule_told w told a b x y fit other is =
     let kind = byte_told a.kind b.kind _ _ body_length.1 in
     let name = string_told a.name b.name _ _ fit.name other.name kind.1 in
     let count = byte_told (length a.places) (length b.places) _ _ name.1 in
-    let places = bytes_told a.places b.places x y count.0 count.1 in
-    ((λ i. record {
-      left = left.0 i;
-      body_length = body_length.0 i;
-      kind = kind.0 i;
-      name = name.0 i;
-      places = places.0 i;
-    }), places.1)
+    let places = bytes_told a.places b.places x y count.0 count.1 in (
+      (λ i. record {
+        left = left.0 i;
+        body_length = body_length.0 i;
+        kind = kind.0 i;
+        name = name.0 i;
+        places = places.0 i;
+      }),
+      places.1,
+    )
 
 split_comb : (w : Width) (c : RawComb) (x : List ℕ) → raw_comb w c ++ x ≡ flat_map (to_be_bytes w32) c.bases
     ++ (to_be_bytes w32 (length c.entries) ++ (flat_map (number w) c.entries ++ (flat_map (number w) c.rows ++ x)))
@@ -236,19 +240,21 @@ raw_is_one w told version a b x y fit other is =
     let symbols = symbols_told w told a b _ _ fit other (append_cancel_left heading _ _
     (sym (from_front a x) ∙ is ∙ from_front b y)) in
     let scanner = scanner_told w told a b _ _ fit other symbols.3 in
-    let parser = parser_told w told a b x y fit other scanner.6 in
-    ((λ i. record {
-      nonterminals = symbols.0 i;
-      terminals = symbols.1 i;
-      literals = symbols.2 i;
-      scan_rules = scanner.0 i;
-      conditions = scanner.1 i;
-      class_count = scanner.2 i;
-      classes = scanner.3 i;
-      accepted = scanner.4 i;
-      scan_rows = scanner.5 i;
-      rules = parser.0 i;
-      defaults = parser.1 i;
-      actions = parser.2 i;
-      gotos = parser.3 i;
-    }), parser.4)
+    let parser = parser_told w told a b x y fit other scanner.6 in (
+      (λ i. record {
+        nonterminals = symbols.0 i;
+        terminals = symbols.1 i;
+        literals = symbols.2 i;
+        scan_rules = scanner.0 i;
+        conditions = scanner.1 i;
+        class_count = scanner.2 i;
+        classes = scanner.3 i;
+        accepted = scanner.4 i;
+        scan_rows = scanner.5 i;
+        rules = parser.0 i;
+        defaults = parser.1 i;
+        actions = parser.2 i;
+        gotos = parser.3 i;
+      }),
+      parser.4,
+    )

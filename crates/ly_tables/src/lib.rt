@@ -9,6 +9,8 @@
 mod comb_fields;
 mod combs;
 mod fault;
+mod field;
+mod front;
 mod laws;
 mod numbers;
 mod parser_fields;
@@ -17,8 +19,6 @@ mod parser_sections;
 mod plain_fields;
 mod raw_reading;
 mod raw_tables;
-mod field;
-mod fields;
 mod scan_rule;
 mod scanner_fields;
 mod scanner_part;

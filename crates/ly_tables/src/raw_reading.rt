@@ -13,10 +13,10 @@ ghost use Rattle.ly_tables.specs.RawSet.{IsRawSet, raw_spelling};
 ghost use Rattle.ly_tables.specs.Refusal.{IsRefusedAs};
 
 use crate::fault::TableFault;
-use crate::parser_sections::parser;
+use crate::parser_sections::read_parser;
 use crate::raw_tables::RawTables;
-use crate::scanner_sections::scanner;
-use crate::symbol_sections::symbols;
+use crate::scanner_sections::read_scanner;
+use crate::symbol_sections::read_symbols;
 use std::alloc::Global;
 
 /// What a table file begins with.
@@ -33,9 +33,9 @@ pub(crate) fn read_raw(alloc: Global, bytes: &[u8]) -> Result<RawTables, TableFa
     ensures before_ranges { IfErr result IsEarly }
 {
     let left = header(bytes)?;
-    let (symbols, left) = symbols(alloc, left)?;
-    let (scanner, left) = scanner(alloc, left)?;
-    let (parser, left) = parser(alloc, left)?;
+    let (symbols, left) = read_symbols(alloc, left)?;
+    let (scanner, left) = read_scanner(alloc, left)?;
+    let (parser, left) = read_parser(alloc, left)?;
     if !left.is_empty() {
         return Err(TableFault::Trailing);
     }

@@ -16,7 +16,7 @@ pub record Spells {V : Type 0} (fits : V → Type 0) (spelled : V → List ℕ) 
   pub is : bytes ≡ spelled value
 
 -- a proper beginning of bytes of a kind
-pub record IsCut (whole : List ℕ → Type 0) (bytes : List ℕ) : Type 0 where
+pub record IsBeginning (whole : List ℕ → Type 0) (bytes : List ℕ) : Type 0 where
   pub missing : List ℕ
   pub some : missing ≢ []
   pub all : whole (bytes ++ missing)
@@ -31,13 +31,13 @@ pub record Then {V : Type 0} (fits : V → Type 0) (spelled : V → List ℕ) (b
   pub is : bytes ≡ spelled value ++ rest
 
 -- so many parts of a kind, one behind another
-abbrev pub Row : (List ℕ → Type 0) → ℕ → List ℕ → Type 0
-Row part zero bytes = bytes ≡ []
-Row part (suc n) bytes = (first rest : List ℕ) × part first × Row part n rest × (bytes ≡ first ++ rest)
+abbrev pub Repeated : (List ℕ → Type 0) → ℕ → List ℕ → Type 0
+Repeated part zero bytes = bytes ≡ []
+Repeated part (suc n) bytes = (first rest : List ℕ) × part first × Repeated part n rest × (bytes ≡ first ++ rest)
 
 -- how many parts there are, and these
 abbrev pub Counted : (List ℕ → Type 0) → List ℕ → Type 0
-Counted part = Then (Fits w16) (number w16) (Row part)
+Counted part = Then (Fits w16) (number w16) (Repeated part)
 
 -- why a part isn't read: it is cut, or memory ran out
 abbrev pub Stops : Type 0 → TableFault → Type 0

@@ -17,8 +17,8 @@ abbrev pub no_rows : RawComb
 no_rows = record { bases = []; entries = []; rows = [] }
 
 -- the numbers of the three parts together
-abbrev pub joined : RawSet → RawSet → RawSet → RawSet
-joined symbols scanner parser = record {
+abbrev pub together : RawSet → RawSet → RawSet → RawSet
+together symbols scanner parser = record {
   nonterminals = symbols.nonterminals;
   terminals = symbols.terminals;
   literals = symbols.literals;
