@@ -1,16 +1,18 @@
 -- Proper beginnings of parts.
-use Rattle.std.proofs.Common.{◌≡◌, ◌≢◌, ◌∙◌, ◌<◌, ◌≤◌, ◌+◌, ◌-◌, ◌*◌, ◌++◌, ◌^◌, ℕ, zero, suc, ap₂, List, [], ◌∷◌, length, get_or, ap, sym, subst}
+use Rattle.std.proofs.Common.{◌≡◌, ◌≢◌, ◌∙◌, ◌<◌, ◌≤◌, ◌+◌, ◌-◌, ◌*◌, ◌++◌, ◌^◌, ℕ, zero, suc, ap₂, List, [], ◌∷◌}
+use Rattle.std.proofs.Common.{length, get_or, ap, sym, subst}
 use Rattle.std.proofs.Common.{append_assoc, append-nil, All, arith, replicate, length-append, refl}
 use Rattle.std.proofs.Common as memory
 use Rattle.std.proofs.Common.{w8}
 use Rattle.std.proofs.Common.{Result, Ok, Err, IfErr, IsErrAnd}
-use Rattle.std.specs.Int.{w16, w32, to_be_bytes, from_be_bytes}
+use Rattle.std.specs.Int.{w16, w32, from_be_bytes}
 use Rattle.std.specs.List.{flat_map}
 use Rattle.std.proofs.lemmas.List.{length-replicate}
 use Rattle.std.proofs.lemmas.List.Elements.{All-append, All-replicate, All-from_get_or}
 use Rattle.std.proofs.lemmas.Nat.{be_bytes_2, be_bytes_4}
 use Rattle.std.proofs.lemmas.List.Elements.{All-cons, All-head, All-nil, All-tail}
-use Rattle.ly_tables.specs.Private.Parts.{AreBytes, IsByteText, IsBeginning, IsShortText, IsStringText, IsWideText, Repeated, Spells, Stops, Then, single}
+use Rattle.ly_tables.specs.Private.Parts.{AreBytes, IsByteText, IsBeginning, IsShortText, IsStringText, IsWideText}
+use Rattle.ly_tables.specs.Private.Parts.{Repeated, Spells, Stops, Then}
 use Rattle.ly_tables.specs.RawSet.{Fits, IsByte}
 use Rattle.ly_tables.specs.Spelling.{number}
 use Rattle.ly_tables.specs.declared.fault.TableFault.{TableFault}
@@ -29,7 +31,8 @@ begun_as {A} {B} {bytes} all begun =
     record { missing = begun.missing; some = begun.some; all = all (bytes ++ begun.missing) begun.all }
 
 -- where the first of two parts is only begun
-pub begun_first : {V : Type 0} {fits : V → Type 0} {spelled : V → List ℕ} {behind : V → List ℕ → Type 0} {bytes : List ℕ}
+pub begun_first : {V : Type 0} {fits : V → Type 0} {spelled : V → List ℕ} {behind : V → List ℕ
+    → Type 0} {bytes : List ℕ}
     → ((v : V) → fits v → (rest : List ℕ) × behind v rest) → IsBeginning (Spells fits spelled) bytes
     → IsBeginning (Then fits spelled behind) bytes
 begun_first {V} {fits} {spelled} {behind} {bytes} some begun =
@@ -49,9 +52,9 @@ begun_first {V} {fits} {spelled} {behind} {bytes} some begun =
 
 -- where the second is
 pub begun_behind : {V : Type 0} {fits : V → Type 0} {spelled : V → List ℕ} {behind : V → List ℕ → Type 0}
-    {bytes : List ℕ} (v : V) (left : List ℕ) → fits v → bytes ≡ spelled v ++ left → IsBeginning (behind v) left
+    {bytes : List ℕ} (v : V) (left : List ℕ) → fits v × (bytes ≡ spelled v ++ left) → IsBeginning (behind v) left
     → IsBeginning (Then fits spelled behind) bytes
-begun_behind {V} {fits} {spelled} {behind} {bytes} v left fit is begun = record {
+begun_behind {V} {fits} {spelled} {behind} {bytes} v left (fit, is) begun = record {
   missing = begun.missing;
   some = begun.some;
   all = record {
@@ -77,7 +80,11 @@ begun_few {A} count bytes few all make =
     record {
       missing = zeros;
       some = λ e. absurd (omega (arith, ap (length {A = ℕ}) e, long));
-      all = make (bytes ++ zeros) (omega (arith, length-append bytes zeros, long), All-append IsByte bytes zeros all bounded);
+      all = make (bytes ++ zeros) (
+        omega (arith, length-append bytes zeros, long),
+        All-append IsByte bytes zeros all
+            bounded,
+      );
     }
 
 -- a byte is a number
@@ -163,7 +170,8 @@ begun_repeated part (suc done) more (suc all) before bytes left count (first, re
 
 -- values that fit are spelled as so many parts
 pub spelled_repeated : {V : Type 0} (part : List ℕ → Type 0) (fits : V → Type 0) (spelled : V → List ℕ)
-    → ((v : V) → fits v → part (spelled v)) → (vs : List V) → All fits vs → Repeated part (length vs) (flat_map spelled vs)
+    → ((v : V) → fits v → part (spelled v)) → (vs : List V) → All fits vs
+    → Repeated part (length vs) (flat_map spelled vs)
 spelled_repeated part fits spelled is_part [] all = refl
 spelled_repeated part fits spelled is_part (v ∷ vs) all = (
   spelled v,

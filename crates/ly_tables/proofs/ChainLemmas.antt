@@ -1,13 +1,12 @@
 -- Parts of several fields: the fields one behind another are the part.
-use Rattle.std.proofs.Common.{◌≡◌, ◌∙◌, ◌++◌, ◌<◌, ℕ, List, [], ◌∷◌, All, ap, append_assoc, arith, length, refl, sym}
+use Rattle.std.proofs.Common.{◌≡◌, ◌∙◌, ◌++◌, ℕ, List, [], All, ap, append_assoc, arith, length, refl, sym}
 use Rattle.std.proofs.Common.{replicate}
 use Rattle.std.specs.Int.{w16, w32, to_be_bytes}
 use Rattle.std.specs.List.{flat_map}
 use Rattle.std.proofs.lemmas.List.{length-replicate}
 use Rattle.std.proofs.lemmas.List.Elements.{All-nil, All-replicate}
-use Rattle.ly_tables.proofs.BeginningLemmas.{some_bytes}
-use Rattle.ly_tables.specs.Private.Found.{Is, some_byte, some_short, some_string}
-use Rattle.ly_tables.specs.Private.Parts.{AreBytes, AreStartsText, IsByteText, IsRuleText, IsScanRuleText, IsShortText}
+use Rattle.ly_tables.specs.Private.Found.{Is}
+use Rattle.ly_tables.specs.Private.Parts.{AreBytes, AreStartsText, IsRuleText, IsScanRuleText, IsShortText}
 use Rattle.ly_tables.specs.Private.Parts.{IsCombText, Spells, Then, single}
 use Rattle.ly_tables.specs.RawSet.{Fits, IsByte, IsString}
 use Rattle.ly_tables.specs.Spelling.{number, string}
@@ -61,7 +60,17 @@ abbrev pub PlacesText : List ℕ → Type 0
 PlacesText = Then IsByte single AreBytes
 
 pub some_places : Is PlacesText
-some_places = (single 0, record { value = 0; rest = []; fit = omega arith; follows = (refl, All-nil IsByte); is = refl })
+some_places = (
+  single 0,
+  record {
+    value = 0;
+    rest = [];
+    fit = omega arith;
+    follows = (refl, All-nil IsByte);
+    is =
+        refl;
+  },
+)
 
 abbrev pub NameThen : List ℕ → Type 0
 NameThen = Then IsString string (λ name. PlacesText)

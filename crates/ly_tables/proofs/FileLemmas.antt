@@ -1,6 +1,6 @@
 -- A table file: its header and its three parts.
-use Rattle.std.proofs.Common.{◌≡◌, ◌≢◌, ◌∙◌, ◌++◌, ◌<◌, ◌≤◌, ℕ, List, [], ◌∷◌, Result, Ok, Err, IfErr, IsErrAnd, ap}
-use Rattle.std.proofs.Common.{All, append-nil, append_assoc, arith, refl, codes, inl, inr, length, subst, sym, take, ◌⊎◌}
+use Rattle.std.proofs.Common.{◌≡◌, ◌∙◌, ◌++◌, ◌≤◌, ℕ, List, [], ◌∷◌, Result, Ok, Err, IfErr, IsErrAnd, ap}
+use Rattle.std.proofs.Common.{All, append-nil, append_assoc, arith, refl, codes, inr, length, subst, sym, take}
 use Rattle.std.specs.Int.{w16, to_be_bytes}
 use Rattle.std.proofs.Common.{◌*◌, ◌+◌, ap₂, drop, get_or}
 use Rattle.std.proofs.lemmas.List.Elements.{All-cons, All-nil}
@@ -26,7 +26,8 @@ abbrev pub heading : List ℕ
 heading = codes "LYTB" ++ to_be_bytes w16 1
 
 -- the numbers of the three parts fit together
-pub together_fit : (s c p : RawSet) → DoSymbolsFit s → DoesScannerFit c → DoesParserFit p → IsRawSet w16 (together s c p)
+pub together_fit : (s c p : RawSet) → DoSymbolsFit s → DoesScannerFit c → DoesParserFit p
+    → IsRawSet w16 (together s c p)
 together_fit s c p symbols scanner parser = record {
   terminal_count = symbols.terminal_count;
   nonterminals = symbols.nonterminals;
@@ -77,7 +78,8 @@ truncated {bytes} {left} is begun =
       together_fit symbols.value scanner.value parser.value symbols.fit scanner.fit parser.fit,
       begun.some,
       together_is symbols.value scanner.value parser.value []
-          (ap (λ x. x ++ begun.missing) is ∙ append_assoc heading left begun.missing) symbols.is scanner.is (ended parser.is)
+          (ap (λ x. x ++ begun.missing) is ∙ append_assoc heading left begun.missing) symbols.is scanner.is (ended
+          parser.is)
           ∙ append-nil (raw_spelling w16 1 (together symbols.value scanner.value parser.value)),
     )
 
@@ -134,7 +136,8 @@ some_scanner =
 
 -- a version stands behind the magic
 pub version_found : (bytes : List ℕ) → 6 ≤ length bytes → take 4 bytes ≡ take (length bytes) (codes "LYTB")
-    → All IsByte bytes → bytes ≡ (codes "LYTB" ++ to_be_bytes w16 (get_or bytes 4 0 * 256 + get_or bytes 5 0)) ++ drop 6 bytes
+    → All IsByte bytes → bytes ≡ (codes "LYTB" ++ to_be_bytes w16 (get_or bytes 4 0 * 256 + get_or bytes 5 0)) ++
+    drop 6 bytes
 version_found [] long magic all = absurd (omega (arith, long))
 version_found (a ∷ []) long magic all = absurd (omega (arith, long))
 version_found (a ∷ b ∷ []) long magic all = absurd (omega (arith, long))

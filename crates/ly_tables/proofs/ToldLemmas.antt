@@ -1,6 +1,7 @@
 -- What stands behind a file's numbers tells neither apart: each part says by itself where it ends.
-use Rattle.std.proofs.Common.{◌≡◌, ◌∙◌, ◌++◌, ◌<◌, ◌^◌, ℕ, suc, List, [], ◌∷◌, All, ap, ap₂, append_assoc, arith, length, refl}
-use Rattle.std.proofs.Common.{subst, sym}
+use Rattle.std.proofs.Common.{◌≡◌, ◌∙◌, ◌++◌, ℕ, List, [], ◌∷◌, All, ap, ap₂, append_assoc, arith}
+use Rattle.std.proofs.Common.{length, refl}
+use Rattle.std.proofs.Common.{sym}
 use Rattle.std.specs.Int.{Width, w16, w32, from_be_bytes, to_be_bytes}
 use Rattle.std.specs.List.{flat_map}
 use Rattle.std.proofs.Common.{codes}
@@ -8,8 +9,9 @@ use Rattle.std.proofs.lemmas.List.{append_cancel_left}
 use Rattle.std.proofs.lemmas.List.Elements.{All-head, All-tail}
 use Rattle.std.proofs.lemmas.Nat.{from_be_bytes-to_be_bytes_2, from_be_bytes-to_be_bytes_4}
 use Rattle.ly_tables.specs.Laws.{RawIsOne}
-use Rattle.ly_tables.specs.RawSet.{CombFits, Fits, IsByte, IsRawSet, IsString, RawComb, RawRule, RawScanRule, RawSet}
-use Rattle.ly_tables.specs.RawSet.{RawStarts, RuleFits, ScanRuleFits, StartsFit, raw_comb, raw_parser_sections, raw_rule}
+use Rattle.ly_tables.specs.RawSet.{CombFits, Fits, IsRawSet, IsString, RawComb, RawRule, RawScanRule, RawSet}
+use Rattle.ly_tables.specs.RawSet.{RuleFits, ScanRuleFits, StartsFit, raw_comb, raw_parser_sections}
+use Rattle.ly_tables.specs.RawSet.{raw_rule}
 use Rattle.ly_tables.specs.RawSet.{raw_scan_rule, raw_scanner_sections, raw_spelling, raw_starts, raw_symbol_sections}
 use Rattle.ly_tables.specs.Private.Parts.{single}
 use Rattle.ly_tables.specs.Spelling.{number, string}
@@ -25,14 +27,18 @@ AreNumbersTold w = Told (Fits w) (number w)
 pub shorts_told : AreNumbersTold w16
 shorts_told a b x y fit other is =
     let front : number w16 a ≡ number w16 b = cc in
-    let behind : x ≡ y = cc in
-    (sym (from_be_bytes-to_be_bytes_2 a fit) ∙ ap (from_be_bytes w16) front ∙ from_be_bytes-to_be_bytes_2 b other, behind)
+    let behind : x ≡ y = cc in (
+      sym (from_be_bytes-to_be_bytes_2 a fit) ∙ ap (from_be_bytes w16) front ∙ from_be_bytes-to_be_bytes_2 b other,
+      behind,
+    )
 
 pub wides_told : AreNumbersTold w32
 wides_told a b x y fit other is =
     let front : number w32 a ≡ number w32 b = cc in
-    let behind : x ≡ y = cc in
-    (sym (from_be_bytes-to_be_bytes_4 a fit) ∙ ap (from_be_bytes w32) front ∙ from_be_bytes-to_be_bytes_4 b other, behind)
+    let behind : x ≡ y = cc in (
+      sym (from_be_bytes-to_be_bytes_4 a fit) ∙ ap (from_be_bytes w32) front ∙ from_be_bytes-to_be_bytes_4 b other,
+      behind,
+    )
 
 -- a byte
 byte_told : (a b : ℕ) (x y : List ℕ) → a ∷ x ≡ b ∷ y → (a ≡ b) × (x ≡ y)
@@ -49,7 +55,8 @@ bytes_told (a ∷ cs) (b ∷ bs) x y long is =
     (ap₂ (λ u us. u ∷ us) first.0 rest.0, rest.1)
 
 -- as many values
-list_told : {V : Type 0} (fits : V → Type 0) (spelled : V → List ℕ) → Told fits spelled → (cs bs : List V) (x y : List ℕ)
+list_told : {V : Type 0} (fits : V → Type 0) (spelled : V → List ℕ) → Told fits spelled
+    → (cs bs : List V) (x y : List ℕ)
     → length cs ≡ length bs → All fits cs → All fits bs → flat_map spelled cs ++ x ≡ flat_map spelled bs ++ y
     → (cs ≡ bs) × (x ≡ y)
 list_told fits spelled told [] [] x y long all other is = (refl, is)
@@ -151,7 +158,8 @@ comb_told w told n m same a b x y fit other is =
     let bases = list_told (Fits w32) (to_be_bytes w32) wides_told a.bases b.bases _ _
     (fit.count ∙ same ∙ sym other.count) fit.bases other.bases (sym (split_comb w a x) ∙ is ∙ split_comb w b y) in
     let count = wides_told (length a.entries) (length b.entries) _ _ fit.slots other.slots bases.1 in
-    let entries = list_told (Fits w) (number w) told a.entries b.entries _ _ count.0 fit.entries other.entries count.1 in
+    let entries = list_told (Fits w) (number w) told a.entries b.entries _ _ count.0 fit.entries other.entries
+    count.1 in
     let rows = list_told (Fits w) (number w) told a.rows b.rows x y
     (fit.row_count ∙ count.0 ∙ sym other.row_count) fit.rows other.rows entries.1 in
     ((λ i. record { bases = bases.0 i; entries = entries.0 i; rows = rows.0 i }), rows.1)

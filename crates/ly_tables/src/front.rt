@@ -1,7 +1,8 @@
 //! Fields at the front of what is left of a table file.
 ghost use Rattle.std.specs.Prelude.{◌≡◌, ◌++◌, IfOk, IfErr};
 ghost use Rattle.std.specs.Int.{w16, w32, to_be_bytes};
-ghost use Rattle.ly_tables.specs.Private.Parts.{AreBytes, IsByteText, IsBeginning, IsShortText, IsWideText, Stops, single};
+ghost use Rattle.ly_tables.specs.Private.Parts.{AreBytes, IsByteText, IsBeginning, IsShortText, IsWideText, Stops};
+ghost use Rattle.ly_tables.specs.Private.Parts.{single};
 ghost use Rattle.ly_tables.specs.RawSet.{Fits, IsByte};
 ghost use Rattle.ly_tables.specs.Spelling.{number};
 

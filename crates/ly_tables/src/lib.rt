@@ -3,7 +3,9 @@
 //! A `TableSet` is all that a driver needs to know of a lex file and a yacc file. Its ranges are kept by its type.
 //! `write_tables` spells it (`TableText`); a set has one spelling.
 //!
-//! Left out: reading a table file.
+//! `read_raw` takes a file apart into numbers (`RawTables`), by counts alone. Files of some numbers are told apart.
+//!
+//! Left out: what the numbers of a file mean.
 #![tactic(auto)]
 
 mod comb_fields;
@@ -31,7 +33,7 @@ mod table_set;
 mod writing;
 
 pub use fault::TableFault;
-pub use laws::a_set_has_one_spelling;
+pub use laws::{a_set_has_one_spelling, raw_files_are_told_apart};
 pub use scan_rule::ScanRule;
 pub use starts::Starts;
 pub use table_parts::TableParts;

@@ -1,9 +1,10 @@
 -- Parts that there are, of each kind.
-use Rattle.std.specs.Prelude.{◌≡◌, ◌++◌, ℕ, List, [], ◌∷◌, All, length, refl}
+use Rattle.std.specs.Prelude.{ℕ, List, [], refl}
 use Rattle.std.specs.Int.{w16, w32, to_be_bytes}
 use Rattle.std.proofs.Common.{arith}
 use Rattle.std.proofs.lemmas.List.Elements.{All-nil}
-use Rattle.ly_tables.specs.Private.Parts.{AreStartsText, IsByteText, IsRuleText, IsScanRuleText, IsShortText, IsStringText, IsWideText, single}
+use Rattle.ly_tables.specs.Private.Parts.{AreStartsText, IsByteText, IsRuleText, IsScanRuleText, IsShortText}
+use Rattle.ly_tables.specs.Private.Parts.{IsStringText, IsWideText, single}
 use Rattle.ly_tables.specs.RawSet.{IsByte, RawRule, RawScanRule, RawStarts, RuleFits, ScanRuleFits, StartsFit}
 use Rattle.ly_tables.specs.RawSet.{raw_rule, raw_scan_rule, raw_starts}
 use Rattle.ly_tables.specs.Spelling.{number, string}

@@ -1,6 +1,5 @@
 -- Parts of a table file: the bytes of one kind, and what stands where they are cut.
 use Rattle.std.specs.Prelude.{◌≡◌, ◌≢◌, ℕ, zero, suc, List, [], ◌∷◌, ◌++◌, length, All}
-use Rattle.std.specs.List.{flat_map}
 use Rattle.std.specs.Int.{w16, w32, to_be_bytes}
 use Rattle.ly_tables.specs.RawSet.{Fits, IsByte, IsString, RuleFits, ScanRuleFits, StartsFit}
 use Rattle.ly_tables.specs.RawSet.{CombFits, raw_comb, raw_rule, raw_scan_rule, raw_starts}

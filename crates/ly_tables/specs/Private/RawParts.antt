@@ -1,13 +1,11 @@
 -- The sections of a table file in three parts: of the symbols, the scanner and the parser.
-use Rattle.std.specs.Prelude.{◌≡◌, ◌++◌, ℕ, List, [], All, length, map}
+use Rattle.std.specs.Prelude.{◌≡◌, ℕ, List, [], All, length, map}
 use Rattle.std.specs.Int.{w16}
-use Rattle.std.specs.List.{flat_map}
 use Rattle.ly_tables.specs.Private.Parts.{Spells}
 use Rattle.ly_tables.specs.Private.RawValues.{comb_raw, rule_raw, scan_rule_raw, starts_raw}
 use Rattle.ly_tables.specs.RawSet.{CombFits, Fits, IsByte, IsString, RuleFits, ScanRuleFits, StartsFit}
 use Rattle.ly_tables.specs.RawSet.{RawComb, RawRule, RawScanRule, RawSet, RawStarts}
 use Rattle.ly_tables.specs.RawSet.{raw_parser_sections, raw_scanner_sections, raw_symbol_sections}
-use Rattle.ly_tables.specs.Spelling.{number}
 use Rattle.ly_tables.specs.declared.parser_sections.RawParser as parser
 use Rattle.ly_tables.specs.declared.scanner_sections.RawScanner as scanner
 use Rattle.ly_tables.specs.declared.symbol_sections.RawSymbols as symbols

@@ -1,4 +1,4 @@
-use Rattle.std.proofs.Common.{◌≡◌, ◌∙◌, ◌++◌, arith, ap₂, subst, sym, take-append-drop, List, ℕ, All}
+use Rattle.std.proofs.Common.{◌∙◌, ◌++◌, arith, ap₂, subst, sym, take-append-drop, All}
 use Rattle.std.proofs.lemmas.List.Elements.{All-take}
 use Rattle.ly_tables.specs.RawSet.{IsByte}
 use Rattle.ly_tables.proofs.BeginningLemmas.{are_bytes, begun_few}

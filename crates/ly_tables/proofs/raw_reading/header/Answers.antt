@@ -1,4 +1,5 @@
-use Rattle.std.proofs.Common.{◌≡◌, ◌∙◌, ◌++◌, ◌*◌, ◌+◌, ap, arith, codes, drop, get_or, rules, length, refl, subst, sym, take}
+use Rattle.std.proofs.Common.{◌≡◌, ◌∙◌, ◌++◌, ap, arith, codes, drop, rules, length}
+use Rattle.std.proofs.Common.{sym, take}
 use Rattle.std.specs.Int.{w16, to_be_bytes}
 use Rattle.ly_tables.proofs.BeginningLemmas.{are_bytes}
 use Rattle.ly_tables.proofs.FileLemmas.{version_found}
