@@ -5,7 +5,7 @@ use Rattle.std.specs.Int.{w16, w32, to_be_bytes}
 use Rattle.std.specs.List.{flat_map}
 use Rattle.std.proofs.lemmas.List.{length-replicate}
 use Rattle.std.proofs.lemmas.List.Elements.{All-nil, All-replicate}
-use Rattle.ly_tables.specs.Private.Found.{Is}
+use Rattle.ly_tables.specs.Private.Found.{IsThere}
 use Rattle.ly_tables.specs.Private.Parts.{AreBytes, AreStartsText, IsRuleText, IsScanRuleText, IsShortText}
 use Rattle.ly_tables.specs.Private.Parts.{IsCombText, Spells, Then, single}
 use Rattle.ly_tables.specs.RawSet.{Fits, IsByte, IsString}
@@ -19,11 +19,11 @@ ByteThen behind = Then IsByte single (λ n. behind)
 abbrev pub ShortThen : (List ℕ → Type 0) → List ℕ → Type 0
 ShortThen behind = Then (Fits w16) (number w16) (λ n. behind)
 
-pub some_byte_then : {behind : List ℕ → Type 0} (some : Is behind) → Is (ByteThen behind)
+pub some_byte_then : {behind : List ℕ → Type 0} (some : IsThere behind) → IsThere (ByteThen behind)
 some_byte_then some =
     (single 0 ++ some.0, record { value = 0; rest = some.0; fit = omega arith; follows = some.1; is = refl })
 
-pub some_short_then : {behind : List ℕ → Type 0} (some : Is behind) → Is (ShortThen behind)
+pub some_short_then : {behind : List ℕ → Type 0} (some : IsThere behind) → IsThere (ShortThen behind)
 some_short_then some =
     (number w16 0 ++ some.0, record { value = 0; rest = some.0; fit = omega arith; follows = some.1; is = refl })
 
@@ -59,7 +59,7 @@ starts_part whole elsewhere =
 abbrev pub PlacesText : List ℕ → Type 0
 PlacesText = Then IsByte single AreBytes
 
-pub some_places : Is PlacesText
+pub some_places : IsThere PlacesText
 some_places = (
   single 0,
   record {
@@ -75,7 +75,7 @@ some_places = (
 abbrev pub NameThen : List ℕ → Type 0
 NameThen = Then IsString string (λ name. PlacesText)
 
-pub some_name_then : Is NameThen
+pub some_name_then : IsThere NameThen
 some_name_then = (
   string [] ++ some_places.0,
   record {
@@ -133,7 +133,7 @@ SlotsText = Then (Fits w32) (to_be_bytes w32) EntriesText
 abbrev pub CombText : ℕ → List ℕ → Type 0
 CombText states = Then (AreWides states) (flat_map (to_be_bytes w32)) (λ bases. SlotsText)
 
-pub some_rows : (n : ℕ) → Is (RowsText n)
+pub some_rows : (n : ℕ) → IsThere (RowsText n)
 some_rows n = (
   flat_map (number w16) (replicate n 0),
   record {
@@ -143,7 +143,7 @@ some_rows n = (
   },
 )
 
-pub some_entries : (n : ℕ) → Is (EntriesText n)
+pub some_entries : (n : ℕ) → IsThere (EntriesText n)
 some_entries n =
     let rows = some_rows n in (
       flat_map (number w16) (replicate n 0) ++ rows.0,
@@ -156,7 +156,7 @@ some_entries n =
       },
     )
 
-pub some_slots : Is SlotsText
+pub some_slots : IsThere SlotsText
 some_slots =
     let entries = some_entries 0 in (
       to_be_bytes w32 0 ++ entries.0,

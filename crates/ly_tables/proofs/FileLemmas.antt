@@ -8,7 +8,7 @@ use Rattle.std.proofs.lemmas.Nat.{be_bytes_2}
 use Rattle.ly_tables.proofs.BeginningLemmas.{small}
 use Rattle.ly_tables.proofs.SectionLemmas.{counted_bytes, ended, four_apart, parser_part, scanner_part, some_conditions}
 use Rattle.ly_tables.proofs.SectionLemmas.{some_states}
-use Rattle.ly_tables.specs.Private.Found.{Is}
+use Rattle.ly_tables.specs.Private.Found.{IsThere}
 use Rattle.ly_tables.specs.Private.Parts.{IsBeginning, Stops, Then}
 use Rattle.ly_tables.specs.Private.RawParts.{DoSymbolsFit, DoesParserFit, DoesScannerFit, IsParserText, together}
 use Rattle.ly_tables.specs.Ranges.{version_1}
@@ -101,7 +101,7 @@ refused bytes (Ok x) fault same begun all = tt
 refused {T} {P} bytes (Err other) fault same begun all =
     subst (IsRefusedAs w16 1 version_1 bytes) (sym same) (refused_as bytes fault begun all)
 
-pub some_parser : Is IsParserText
+pub some_parser : IsThere IsParserText
 some_parser =
     let bytes = counted_bytes (raw_rule w16) [] ++ some_states.0 in (
       bytes,
@@ -114,7 +114,7 @@ some_parser =
       },
     )
 
-pub some_scanner : Is ScannerText
+pub some_scanner : IsThere ScannerText
 some_scanner =
     let bytes = counted_bytes (raw_scan_rule w16) [] ++ some_conditions.0 in
     let scanner = scanner_part bytes record {

@@ -8,7 +8,7 @@ use Rattle.std.proofs.lemmas.List.Elements.{All-map, All-nil, All-replicate}
 use Rattle.std.proofs.lemmas.List.Folds.{flat_map-map}
 use Rattle.ly_tables.proofs.ChainLemmas.{AreShorts, RowsText, ShortThen, some_rows, some_short_then}
 use Rattle.ly_tables.proofs.BeginningLemmas.{repeated_part, some_bytes}
-use Rattle.ly_tables.specs.Private.Found.{Is}
+use Rattle.ly_tables.specs.Private.Found.{IsThere}
 use Rattle.ly_tables.specs.Private.Parts.{AreBytes, Counted, IsCombText, Spells, Then}
 use Rattle.ly_tables.specs.Private.RawParts.{AreSymbolsText, DoSymbolsFit, DoesParserFit, DoesScannerFit, IsParserText}
 use Rattle.ly_tables.specs.Private.RawParts.{IsScannerText, of_parser, of_scanner, of_symbols}
@@ -107,7 +107,7 @@ symbols_apart t n names literals {whole} {l1} {l2} {l3} l4 count first second th
 abbrev pub NamesText : ℕ → List ℕ → Type 0
 NamesText t = Then (λ names. (length names ≡ t) × All IsString names) (flat_map string) (λ names. RowsText 256)
 
-pub some_names : (t : ℕ) → Is (NamesText t)
+pub some_names : (t : ℕ) → IsThere (NamesText t)
 some_names t =
     let literals = some_rows 256 in (
       flat_map string (replicate t []) ++ literals.0,
@@ -160,7 +160,7 @@ scanner_together rules conditions n classes accepted rows l6 first second third 
     (flat_map (raw_starts w16) conditions) (number w16 n) classes (number w16 (length accepted))
     (flat_map (number w16) accepted) (raw_comb w16 rows) first second third fourth fifth last
 
-pub some_comb : (n : ℕ) → Is (IsCombText n)
+pub some_comb : (n : ℕ) → IsThere (IsCombText n)
 some_comb n =
     let comb : RawComb = record { bases = replicate n 0; entries = []; rows = [] } in
     let fit : CombFits w16 n comb = record {
@@ -176,7 +176,7 @@ some_comb n =
 abbrev pub AcceptedText : List ℕ → Type 0
 AcceptedText = Then (AreCounted (Fits w16)) (counted_bytes (number w16)) (λ accepted. IsCombText (length accepted))
 
-pub some_accepted : Is AcceptedText
+pub some_accepted : IsThere AcceptedText
 some_accepted =
     let rows = some_comb 0 in (
       counted_bytes (number w16) [] ++ rows.0,
@@ -192,7 +192,7 @@ some_accepted =
 abbrev pub ClassesText : List ℕ → Type 0
 ClassesText = Then (AreBytes 256) (λ classes. classes) (λ classes. AcceptedText)
 
-pub some_classes : Is ClassesText
+pub some_classes : IsThere ClassesText
 some_classes =
     let zeros = some_bytes 256 in (
       zeros.0 ++ some_accepted.0,
@@ -203,7 +203,7 @@ abbrev pub ConditionsText : List ℕ → Type 0
 ConditionsText = Then (AreCounted (StartsFit w16)) (counted_bytes (raw_starts w16)) (λ conditions. ShortThen
     ClassesText)
 
-pub some_conditions : Is ConditionsText
+pub some_conditions : IsThere ConditionsText
 some_conditions =
     let classes = some_short_then some_classes in (
       counted_bytes (raw_starts w16) [] ++ classes.0,
@@ -256,7 +256,7 @@ parser_together rules defaults actions gotos l4 first second third last =
 abbrev pub CombsText : ℕ → List ℕ → Type 0
 CombsText n = Then (CombFits w16 n) (raw_comb w16) (λ actions. IsCombText n)
 
-pub some_combs : (n : ℕ) → Is (CombsText n)
+pub some_combs : (n : ℕ) → IsThere (CombsText n)
 some_combs n =
     let comb = some_comb n in (
       comb.0 ++ comb.0,
@@ -272,7 +272,7 @@ some_combs n =
 abbrev pub StatesText : List ℕ → Type 0
 StatesText = Then (AreCounted (Fits w16)) (counted_bytes (number w16)) (λ defaults. CombsText (length defaults))
 
-pub some_states : Is StatesText
+pub some_states : IsThere StatesText
 some_states =
     let combs = some_combs 0 in (
       counted_bytes (number w16) [] ++ combs.0,

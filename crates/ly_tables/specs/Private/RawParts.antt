@@ -86,6 +86,7 @@ of_parser rules defaults actions gotos = record {
   gotos = gotos;
 }
 
+-- the three parts, as they are kept in memory
 abbrev pub symbols_raw : symbols.RawSymbols → RawSet
 symbols_raw s = of_symbols s.nonterminals (map (λ name. name.items) s.terminals.items) s.literals.items
 
@@ -126,6 +127,7 @@ pub record DoesParserFit (r : RawSet) : Type 0 where
   pub actions : CombFits w16 (length r.defaults) r.actions
   pub gotos : CombFits w16 (length r.defaults) r.gotos
 
+-- the bytes of the three parts
 abbrev pub AreSymbolsText : List ℕ → Type 0
 AreSymbolsText = Spells DoSymbolsFit (raw_symbol_sections w16)
 
