@@ -1,13 +1,12 @@
 -- Parts of several fields: the fields one behind another are the part.
-use Rattle.std.proofs.Common.{◌≡◌, ◌∙◌, ◌++◌, ◌<◌, ℕ, List, [], ◌∷◌, All, ap, append_assoc, arith, length, refl, sym}
+use Rattle.std.proofs.Common.{◌≡◌, ◌∙◌, ◌++◌, ℕ, List, [], All, ap, append_assoc, arith, length, refl, sym}
 use Rattle.std.proofs.Common.{replicate}
 use Rattle.std.specs.Int.{w16, w32, to_be_bytes}
 use Rattle.std.specs.List.{flat_map}
 use Rattle.std.proofs.lemmas.List.{length-replicate}
 use Rattle.std.proofs.lemmas.List.Elements.{All-nil, All-replicate}
-use Rattle.ly_tables.proofs.CutLemmas.{some_bytes}
-use Rattle.ly_tables.specs.Private.Found.{Is, some_byte, some_short, some_string}
-use Rattle.ly_tables.specs.Private.Parts.{AreBytes, AreStartsText, IsByteText, IsRuleText, IsScanRuleText, IsShortText}
+use Rattle.ly_tables.specs.Private.Found.{IsThere}
+use Rattle.ly_tables.specs.Private.Parts.{AreBytes, AreStartsText, IsRuleText, IsScanRuleText, IsShortText}
 use Rattle.ly_tables.specs.Private.Parts.{IsCombText, Spells, Then, single}
 use Rattle.ly_tables.specs.RawSet.{Fits, IsByte, IsString}
 use Rattle.ly_tables.specs.Spelling.{number, string}
@@ -20,11 +19,11 @@ ByteThen behind = Then IsByte single (λ n. behind)
 abbrev pub ShortThen : (List ℕ → Type 0) → List ℕ → Type 0
 ShortThen behind = Then (Fits w16) (number w16) (λ n. behind)
 
-pub some_byte_then : {behind : List ℕ → Type 0} (some : Is behind) → Is (ByteThen behind)
+pub some_byte_then : {behind : List ℕ → Type 0} (some : IsThere behind) → IsThere (ByteThen behind)
 some_byte_then some =
     (single 0 ++ some.0, record { value = 0; rest = some.0; fit = omega arith; follows = some.1; is = refl })
 
-pub some_short_then : {behind : List ℕ → Type 0} (some : Is behind) → Is (ShortThen behind)
+pub some_short_then : {behind : List ℕ → Type 0} (some : IsThere behind) → IsThere (ShortThen behind)
 some_short_then some =
     (number w16 0 ++ some.0, record { value = 0; rest = some.0; fit = omega arith; follows = some.1; is = refl })
 
@@ -60,20 +59,33 @@ starts_part whole elsewhere =
 abbrev pub PlacesText : List ℕ → Type 0
 PlacesText = Then IsByte single AreBytes
 
-pub some_places : Is PlacesText
-some_places = (single 0, record { value = 0; rest = []; fit = omega arith; follows = (refl, All-nil IsByte); is = refl })
+pub some_places : IsThere PlacesText
+some_places = (
+  single 0,
+  record {
+    value = 0;
+    rest = [];
+    fit = omega arith;
+    follows = (refl, All-nil IsByte);
+    is =
+        refl;
+  },
+)
 
 abbrev pub NameThen : List ℕ → Type 0
 NameThen = Then IsString string (λ name. PlacesText)
 
-pub some_name_then : Is NameThen
-some_name_then = (string [] ++ some_places.0, record {
-  value = [];
-  rest = some_places.0;
-  fit = (omega arith, All-nil IsByte);
-  follows = some_places.1;
-  is = refl;
-})
+pub some_name_then : IsThere NameThen
+some_name_then = (
+  string [] ++ some_places.0,
+  record {
+    value = [];
+    rest = some_places.0;
+    fit = (omega arith, All-nil IsByte);
+    follows = some_places.1;
+    is = refl;
+  },
+)
 
 -- a rule of the parser
 pub rule_part : (whole : List ℕ) → ShortThen (ByteThen (ByteThen NameThen)) whole → IsRuleText whole
@@ -121,29 +133,35 @@ SlotsText = Then (Fits w32) (to_be_bytes w32) EntriesText
 abbrev pub CombText : ℕ → List ℕ → Type 0
 CombText states = Then (AreWides states) (flat_map (to_be_bytes w32)) (λ bases. SlotsText)
 
-pub some_rows : (n : ℕ) → Is (RowsText n)
-some_rows n = (flat_map (number w16) (replicate n 0), record {
-  value = replicate n 0;
-  fit = (length-replicate n 0, All-replicate (Fits w16) n 0 (omega arith));
-  is = refl;
-})
+pub some_rows : (n : ℕ) → IsThere (RowsText n)
+some_rows n = (
+  flat_map (number w16) (replicate n 0),
+  record {
+    value = replicate n 0;
+    fit = (length-replicate n 0, All-replicate (Fits w16) n 0 (omega arith));
+    is = refl;
+  },
+)
 
-pub some_entries : (n : ℕ) → Is (EntriesText n)
+pub some_entries : (n : ℕ) → IsThere (EntriesText n)
 some_entries n =
-    let rows = some_rows n in
-    (flat_map (number w16) (replicate n 0) ++ rows.0, record {
-      value = replicate n 0;
-      rest = rows.0;
-      fit = (length-replicate n 0, All-replicate (Fits w16) n 0 (omega arith));
-      follows = rows.1;
-      is = refl;
-    })
+    let rows = some_rows n in (
+      flat_map (number w16) (replicate n 0) ++ rows.0,
+      record {
+        value = replicate n 0;
+        rest = rows.0;
+        fit = (length-replicate n 0, All-replicate (Fits w16) n 0 (omega arith));
+        follows = rows.1;
+        is = refl;
+      },
+    )
 
-pub some_slots : Is SlotsText
+pub some_slots : IsThere SlotsText
 some_slots =
-    let entries = some_entries 0 in
-    (to_be_bytes w32 0 ++ entries.0,
-    record { value = 0; rest = entries.0; fit = omega arith; follows = entries.1; is = refl })
+    let entries = some_entries 0 in (
+      to_be_bytes w32 0 ++ entries.0,
+      record { value = 0; rest = entries.0; fit = omega arith; follows = entries.1; is = refl },
+    )
 
 apart_comb : {whole r1 r2 r3 : List ℕ} (b s e r : List ℕ) → whole ≡ b ++ r1 → r1 ≡ s ++ r2 → r2 ≡ e ++ r3 → r3 ≡ r
     → whole ≡ ((b ++ s) ++ e) ++ r

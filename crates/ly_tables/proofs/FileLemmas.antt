@@ -1,16 +1,16 @@
 -- A table file: its header and its three parts.
-use Rattle.std.proofs.Common.{◌≡◌, ◌≢◌, ◌∙◌, ◌++◌, ◌<◌, ◌≤◌, ℕ, List, [], ◌∷◌, Result, Ok, Err, IfErr, IsErrAnd, ap}
-use Rattle.std.proofs.Common.{All, append-nil, append_assoc, arith, refl, codes, inl, inr, length, subst, sym, take, ◌⊎◌}
+use Rattle.std.proofs.Common.{◌≡◌, ◌∙◌, ◌++◌, ◌≤◌, ℕ, List, [], ◌∷◌, Result, Ok, Err, IfErr, IsErrAnd, ap}
+use Rattle.std.proofs.Common.{All, append-nil, append_assoc, arith, refl, codes, inr, length, subst, sym, take}
 use Rattle.std.specs.Int.{w16, to_be_bytes}
 use Rattle.std.proofs.Common.{◌*◌, ◌+◌, ap₂, drop, get_or}
 use Rattle.std.proofs.lemmas.List.Elements.{All-cons, All-nil}
 use Rattle.std.proofs.lemmas.Nat.{be_bytes_2}
-use Rattle.ly_tables.proofs.CutLemmas.{small}
+use Rattle.ly_tables.proofs.BeginningLemmas.{small}
 use Rattle.ly_tables.proofs.SectionLemmas.{counted_bytes, ended, four_apart, parser_part, scanner_part, some_conditions}
 use Rattle.ly_tables.proofs.SectionLemmas.{some_states}
-use Rattle.ly_tables.specs.Private.Found.{Is}
-use Rattle.ly_tables.specs.Private.Parts.{IsCut, Stops, Then}
-use Rattle.ly_tables.specs.Private.RawParts.{DoSymbolsFit, DoesParserFit, DoesScannerFit, IsParserText, joined}
+use Rattle.ly_tables.specs.Private.Found.{IsThere}
+use Rattle.ly_tables.specs.Private.Parts.{IsBeginning, Stops, Then}
+use Rattle.ly_tables.specs.Private.RawParts.{DoSymbolsFit, DoesParserFit, DoesScannerFit, IsParserText, together}
 use Rattle.ly_tables.specs.Ranges.{version_1}
 use Rattle.ly_tables.specs.RawSet.{IsByte, RuleFits, ScanRuleFits, raw_rule, raw_scan_rule}
 use Rattle.ly_tables.specs.RawSet.{IsRawSet, RawSet, raw_parser_sections, raw_scanner_sections, raw_spelling}
@@ -26,8 +26,9 @@ abbrev pub heading : List ℕ
 heading = codes "LYTB" ++ to_be_bytes w16 1
 
 -- the numbers of the three parts fit together
-pub joined_fit : (s c p : RawSet) → DoSymbolsFit s → DoesScannerFit c → DoesParserFit p → IsRawSet w16 (joined s c p)
-joined_fit s c p symbols scanner parser = record {
+pub together_fit : (s c p : RawSet) → DoSymbolsFit s → DoesScannerFit c → DoesParserFit p
+    → IsRawSet w16 (together s c p)
+together_fit s c p symbols scanner parser = record {
   terminal_count = symbols.terminal_count;
   nonterminals = symbols.nonterminals;
   terminals = symbols.terminals;
@@ -52,10 +53,10 @@ joined_fit s c p symbols scanner parser = record {
 }
 
 -- their bytes are those of the file
-pub joined_is : (s c p : RawSet) {bytes l1 l2 l3 : List ℕ} (l4 : List ℕ) → bytes ≡ heading ++ l1
+pub together_is : (s c p : RawSet) {bytes l1 l2 l3 : List ℕ} (l4 : List ℕ) → bytes ≡ heading ++ l1
     → l1 ≡ raw_symbol_sections w16 s ++ l2 → l2 ≡ raw_scanner_sections w16 c ++ l3
-    → l3 ≡ raw_parser_sections w16 p ++ l4 → bytes ≡ raw_spelling w16 1 (joined s c p) ++ l4
-joined_is s c p l4 first second third last =
+    → l3 ≡ raw_parser_sections w16 p ++ l4 → bytes ≡ raw_spelling w16 1 (together s c p) ++ l4
+together_is s c p l4 first second third last =
     four_apart l4 heading (raw_symbol_sections w16 s) (raw_scanner_sections w16 c) (raw_parser_sections w16 p)
     first second third last
 
@@ -67,46 +68,53 @@ ScannerText = Then DoesScannerFit (raw_scanner_sections w16) (λ scanner. IsPars
 abbrev pub FileText : List ℕ → Type 0
 FileText = Then DoSymbolsFit (raw_symbol_sections w16) (λ symbols. ScannerText)
 
--- where what follows the header is cut, the file is
-pub truncated : {bytes left : List ℕ} → bytes ≡ heading ++ left → IsCut FileText left → IsTruncated w16 1 bytes
-truncated {bytes} {left} is cut =
-    let symbols = cut.all in let scanner = symbols.follows in let parser = scanner.follows in
-    inr (joined symbols.value scanner.value parser.value, cut.missing,
-    joined_fit symbols.value scanner.value parser.value symbols.fit scanner.fit parser.fit, cut.some,
-    joined_is symbols.value scanner.value parser.value []
-    (ap (λ x. x ++ cut.missing) is ∙ append_assoc heading left cut.missing) symbols.is scanner.is (ended parser.is)
-    ∙ append-nil (raw_spelling w16 1 (joined symbols.value scanner.value parser.value)))
+-- where what follows the header is only begun, the file is
+pub truncated : {bytes left : List ℕ} → bytes ≡ heading ++ left → IsBeginning FileText left → IsTruncated w16 1 bytes
+truncated {bytes} {left} is begun =
+    let symbols = begun.all in let scanner = symbols.follows in let parser = scanner.follows in
+    inr (
+      together symbols.value scanner.value parser.value,
+      begun.missing,
+      together_fit symbols.value scanner.value parser.value symbols.fit scanner.fit parser.fit,
+      begun.some,
+      together_is symbols.value scanner.value parser.value []
+          (ap (λ x. x ++ begun.missing) is ∙ append_assoc heading left begun.missing) symbols.is scanner.is (ended
+          parser.is)
+          ∙ append-nil (raw_spelling w16 1 (together symbols.value scanner.value parser.value)),
+    )
 
 refused_as : {P : Type 0} (bytes : List ℕ) (fault : TableFault) → Stops P fault → (P → IsTruncated w16 1 bytes)
     → IsRefusedAs w16 1 version_1 bytes fault
-refused_as bytes Truncated cut all = all cut
-refused_as bytes OutOfMemory cut all = tt
-refused_as bytes BadMagic cut all = absurd cut
-refused_as bytes BadVersion cut all = absurd cut
-refused_as bytes Trailing cut all = absurd cut
-refused_as bytes (OutOfRange section) cut all = absurd cut
-refused_as bytes Endless cut all = absurd cut
+refused_as bytes Truncated begun all = all begun
+refused_as bytes OutOfMemory begun all = tt
+refused_as bytes BadMagic begun all = absurd begun
+refused_as bytes BadVersion begun all = absurd begun
+refused_as bytes Trailing begun all = absurd begun
+refused_as bytes (OutOfRange section) begun all = absurd begun
+refused_as bytes Endless begun all = absurd begun
 
--- a part that is cut is why the file is refused
+-- a part that is only begun is why the file is refused
 pub refused : {T P : Type 0} (bytes : List ℕ) (result : Result T TableFault) (fault : TableFault)
     → IsErrAnd result (λ other. other ≡ fault) → Stops P fault → (P → IsTruncated w16 1 bytes)
     → IfErr result (IsRefusedAs w16 1 version_1 bytes)
-refused bytes (Ok x) fault same cut all = tt
-refused {T} {P} bytes (Err other) fault same cut all =
-    subst (IsRefusedAs w16 1 version_1 bytes) (sym same) (refused_as bytes fault cut all)
+refused bytes (Ok x) fault same begun all = tt
+refused {T} {P} bytes (Err other) fault same begun all =
+    subst (IsRefusedAs w16 1 version_1 bytes) (sym same) (refused_as bytes fault begun all)
 
-pub some_parser : Is IsParserText
+pub some_parser : IsThere IsParserText
 some_parser =
-    let bytes = counted_bytes (raw_rule w16) [] ++ some_states.0 in
-    (bytes, parser_part bytes record {
-      value = [];
-      rest = some_states.0;
-      fit = (omega arith, All-nil (RuleFits w16));
-      follows = some_states.1;
-      is = refl;
-    })
+    let bytes = counted_bytes (raw_rule w16) [] ++ some_states.0 in (
+      bytes,
+      parser_part bytes record {
+        value = [];
+        rest = some_states.0;
+        fit = (omega arith, All-nil (RuleFits w16));
+        follows = some_states.1;
+        is = refl;
+      },
+    )
 
-pub some_scanner : Is ScannerText
+pub some_scanner : IsThere ScannerText
 some_scanner =
     let bytes = counted_bytes (raw_scan_rule w16) [] ++ some_conditions.0 in
     let scanner = scanner_part bytes record {
@@ -115,18 +123,21 @@ some_scanner =
       fit = (omega arith, All-nil (ScanRuleFits w16));
       follows = some_conditions.1;
       is = refl;
-    } in
-    (bytes ++ some_parser.0, record {
-      value = scanner.value;
-      rest = some_parser.0;
-      fit = scanner.fit;
-      follows = some_parser.1;
-      is = ap (λ x. x ++ some_parser.0) scanner.is;
-    })
+    } in (
+      bytes ++ some_parser.0,
+      record {
+        value = scanner.value;
+        rest = some_parser.0;
+        fit = scanner.fit;
+        follows = some_parser.1;
+        is = ap (λ x. x ++ some_parser.0) scanner.is;
+      },
+    )
 
 -- a version stands behind the magic
 pub version_found : (bytes : List ℕ) → 6 ≤ length bytes → take 4 bytes ≡ take (length bytes) (codes "LYTB")
-    → All IsByte bytes → bytes ≡ (codes "LYTB" ++ to_be_bytes w16 (get_or bytes 4 0 * 256 + get_or bytes 5 0)) ++ drop 6 bytes
+    → All IsByte bytes → bytes ≡ (codes "LYTB" ++ to_be_bytes w16 (get_or bytes 4 0 * 256 + get_or bytes 5 0)) ++
+    drop 6 bytes
 version_found [] long magic all = absurd (omega (arith, long))
 version_found (a ∷ []) long magic all = absurd (omega (arith, long))
 version_found (a ∷ b ∷ []) long magic all = absurd (omega (arith, long))
@@ -140,9 +151,9 @@ version_found (a ∷ b ∷ c ∷ d ∷ h ∷ l ∷ rest) long magic all =
     (sym (be_bytes_2 (h ∷ l ∷ []) (h * 256 + l) refl (small (h ∷ l ∷ []) two) refl))
 
 -- nothing stands behind the three parts
-pub joined_all : (s c p : RawSet) {bytes l1 l2 l3 : List ℕ} (l4 : List ℕ) → length l4 ≡ 0 → bytes ≡ heading ++ l1
+pub together_all : (s c p : RawSet) {bytes l1 l2 l3 : List ℕ} (l4 : List ℕ) → length l4 ≡ 0 → bytes ≡ heading ++ l1
     → l1 ≡ raw_symbol_sections w16 s ++ l2 → l2 ≡ raw_scanner_sections w16 c ++ l3
-    → l3 ≡ raw_parser_sections w16 p ++ l4 → bytes ≡ raw_spelling w16 1 (joined s c p)
-joined_all s c p [] none first second third last =
-    joined_is s c p [] first second third last ∙ append-nil (raw_spelling w16 1 (joined s c p))
-joined_all s c p (x ∷ l4) none first second third last = absurd (omega (arith, none))
+    → l3 ≡ raw_parser_sections w16 p ++ l4 → bytes ≡ raw_spelling w16 1 (together s c p)
+together_all s c p [] none first second third last =
+    together_is s c p [] first second third last ∙ append-nil (raw_spelling w16 1 (together s c p))
+together_all s c p (x ∷ l4) none first second third last = absurd (omega (arith, none))

@@ -1,5 +1,5 @@
+pub mod BeginningLemmas
 pub mod ChainLemmas
-pub mod CutLemmas
 pub mod EntryLemmas
 pub mod ExactLemmas
 pub mod FileLemmas

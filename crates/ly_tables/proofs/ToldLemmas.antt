@@ -1,6 +1,7 @@
 -- What stands behind a file's numbers tells neither apart: each part says by itself where it ends.
-use Rattle.std.proofs.Common.{◌≡◌, ◌∙◌, ◌++◌, ◌<◌, ◌^◌, ℕ, suc, List, [], ◌∷◌, All, ap, ap₂, append_assoc, arith, length, refl}
-use Rattle.std.proofs.Common.{subst, sym}
+use Rattle.std.proofs.Common.{◌≡◌, ◌∙◌, ◌++◌, ℕ, List, [], ◌∷◌, All, ap, ap₂, append_assoc, arith}
+use Rattle.std.proofs.Common.{length, refl}
+use Rattle.std.proofs.Common.{sym}
 use Rattle.std.specs.Int.{Width, w16, w32, from_be_bytes, to_be_bytes}
 use Rattle.std.specs.List.{flat_map}
 use Rattle.std.proofs.Common.{codes}
@@ -8,8 +9,9 @@ use Rattle.std.proofs.lemmas.List.{append_cancel_left}
 use Rattle.std.proofs.lemmas.List.Elements.{All-head, All-tail}
 use Rattle.std.proofs.lemmas.Nat.{from_be_bytes-to_be_bytes_2, from_be_bytes-to_be_bytes_4}
 use Rattle.ly_tables.specs.Laws.{RawIsOne}
-use Rattle.ly_tables.specs.RawSet.{CombFits, Fits, IsByte, IsRawSet, IsString, RawComb, RawRule, RawScanRule, RawSet}
-use Rattle.ly_tables.specs.RawSet.{RawStarts, RuleFits, ScanRuleFits, StartsFit, raw_comb, raw_parser_sections, raw_rule}
+use Rattle.ly_tables.specs.RawSet.{CombFits, Fits, IsRawSet, IsString, RawComb, RawRule, RawScanRule, RawSet}
+use Rattle.ly_tables.specs.RawSet.{RuleFits, ScanRuleFits, StartsFit, raw_comb, raw_parser_sections}
+use Rattle.ly_tables.specs.RawSet.{raw_rule}
 use Rattle.ly_tables.specs.RawSet.{raw_scan_rule, raw_scanner_sections, raw_spelling, raw_starts, raw_symbol_sections}
 use Rattle.ly_tables.specs.Private.Parts.{single}
 use Rattle.ly_tables.specs.Spelling.{number, string}
@@ -25,14 +27,18 @@ AreNumbersTold w = Told (Fits w) (number w)
 pub shorts_told : AreNumbersTold w16
 shorts_told a b x y fit other is =
     let front : number w16 a ≡ number w16 b = cc in
-    let behind : x ≡ y = cc in
-    (sym (from_be_bytes-to_be_bytes_2 a fit) ∙ ap (from_be_bytes w16) front ∙ from_be_bytes-to_be_bytes_2 b other, behind)
+    let behind : x ≡ y = cc in (
+      sym (from_be_bytes-to_be_bytes_2 a fit) ∙ ap (from_be_bytes w16) front ∙ from_be_bytes-to_be_bytes_2 b other,
+      behind,
+    )
 
 pub wides_told : AreNumbersTold w32
 wides_told a b x y fit other is =
     let front : number w32 a ≡ number w32 b = cc in
-    let behind : x ≡ y = cc in
-    (sym (from_be_bytes-to_be_bytes_4 a fit) ∙ ap (from_be_bytes w32) front ∙ from_be_bytes-to_be_bytes_4 b other, behind)
+    let behind : x ≡ y = cc in (
+      sym (from_be_bytes-to_be_bytes_4 a fit) ∙ ap (from_be_bytes w32) front ∙ from_be_bytes-to_be_bytes_4 b other,
+      behind,
+    )
 
 -- a byte
 byte_told : (a b : ℕ) (x y : List ℕ) → a ∷ x ≡ b ∷ y → (a ≡ b) × (x ≡ y)
@@ -49,7 +55,8 @@ bytes_told (a ∷ cs) (b ∷ bs) x y long is =
     (ap₂ (λ u us. u ∷ us) first.0 rest.0, rest.1)
 
 -- as many values
-list_told : {V : Type 0} (fits : V → Type 0) (spelled : V → List ℕ) → Told fits spelled → (cs bs : List V) (x y : List ℕ)
+list_told : {V : Type 0} (fits : V → Type 0) (spelled : V → List ℕ) → Told fits spelled
+    → (cs bs : List V) (x y : List ℕ)
     → length cs ≡ length bs → All fits cs → All fits bs → flat_map spelled cs ++ x ≡ flat_map spelled bs ++ y
     → (cs ≡ bs) × (x ≡ y)
 list_told fits spelled told [] [] x y long all other is = (refl, is)
@@ -98,14 +105,16 @@ scan_rule_told w told a b x y fit other is =
     let terminal = told a.terminal b.terminal _ _ fit.terminal other.terminal kind.1 in
     let begin = told a.begin b.begin _ _ fit.begin other.begin terminal.1 in
     let cut = byte_told a.cut b.cut _ _ begin.1 in
-    let len = told a.len b.len _ _ fit.len other.len cut.1 in
-    ((λ i. record {
-      kind = kind.0 i;
-      terminal = terminal.0 i;
-      begin = begin.0 i;
-      cut = cut.0 i;
-      len = len.0 i;
-    }), len.1)
+    let len = told a.len b.len _ _ fit.len other.len cut.1 in (
+      (λ i. record {
+        kind = kind.0 i;
+        terminal = terminal.0 i;
+        begin = begin.0 i;
+        cut = cut.0 i;
+        len = len.0 i;
+      }),
+      len.1,
+    )
 
 starts_told : (w : Width) → AreNumbersTold w → Told (StartsFit w) (raw_starts w)
 starts_told w told a b x y fit other is =
@@ -127,14 +136,16 @@ rule_told w told a b x y fit other is =
     let kind = byte_told a.kind b.kind _ _ body_length.1 in
     let name = string_told a.name b.name _ _ fit.name other.name kind.1 in
     let count = byte_told (length a.places) (length b.places) _ _ name.1 in
-    let places = bytes_told a.places b.places x y count.0 count.1 in
-    ((λ i. record {
-      left = left.0 i;
-      body_length = body_length.0 i;
-      kind = kind.0 i;
-      name = name.0 i;
-      places = places.0 i;
-    }), places.1)
+    let places = bytes_told a.places b.places x y count.0 count.1 in (
+      (λ i. record {
+        left = left.0 i;
+        body_length = body_length.0 i;
+        kind = kind.0 i;
+        name = name.0 i;
+        places = places.0 i;
+      }),
+      places.1,
+    )
 
 split_comb : (w : Width) (c : RawComb) (x : List ℕ) → raw_comb w c ++ x ≡ flat_map (to_be_bytes w32) c.bases
     ++ (to_be_bytes w32 (length c.entries) ++ (flat_map (number w) c.entries ++ (flat_map (number w) c.rows ++ x)))
@@ -147,7 +158,8 @@ comb_told w told n m same a b x y fit other is =
     let bases = list_told (Fits w32) (to_be_bytes w32) wides_told a.bases b.bases _ _
     (fit.count ∙ same ∙ sym other.count) fit.bases other.bases (sym (split_comb w a x) ∙ is ∙ split_comb w b y) in
     let count = wides_told (length a.entries) (length b.entries) _ _ fit.slots other.slots bases.1 in
-    let entries = list_told (Fits w) (number w) told a.entries b.entries _ _ count.0 fit.entries other.entries count.1 in
+    let entries = list_told (Fits w) (number w) told a.entries b.entries _ _ count.0 fit.entries other.entries
+    count.1 in
     let rows = list_told (Fits w) (number w) told a.rows b.rows x y
     (fit.row_count ∙ count.0 ∙ sym other.row_count) fit.rows other.rows entries.1 in
     ((λ i. record { bases = bases.0 i; entries = entries.0 i; rows = rows.0 i }), rows.1)
@@ -236,19 +248,21 @@ raw_is_one w told version a b x y fit other is =
     let symbols = symbols_told w told a b _ _ fit other (append_cancel_left heading _ _
     (sym (from_front a x) ∙ is ∙ from_front b y)) in
     let scanner = scanner_told w told a b _ _ fit other symbols.3 in
-    let parser = parser_told w told a b x y fit other scanner.6 in
-    ((λ i. record {
-      nonterminals = symbols.0 i;
-      terminals = symbols.1 i;
-      literals = symbols.2 i;
-      scan_rules = scanner.0 i;
-      conditions = scanner.1 i;
-      class_count = scanner.2 i;
-      classes = scanner.3 i;
-      accepted = scanner.4 i;
-      scan_rows = scanner.5 i;
-      rules = parser.0 i;
-      defaults = parser.1 i;
-      actions = parser.2 i;
-      gotos = parser.3 i;
-    }), parser.4)
+    let parser = parser_told w told a b x y fit other scanner.6 in (
+      (λ i. record {
+        nonterminals = symbols.0 i;
+        terminals = symbols.1 i;
+        literals = symbols.2 i;
+        scan_rules = scanner.0 i;
+        conditions = scanner.1 i;
+        class_count = scanner.2 i;
+        classes = scanner.3 i;
+        accepted = scanner.4 i;
+        scan_rows = scanner.5 i;
+        rules = parser.0 i;
+        defaults = parser.1 i;
+        actions = parser.2 i;
+        gotos = parser.3 i;
+      }),
+      parser.4,
+    )

@@ -1,13 +1,13 @@
-//! Fields of a table file that stand in rows.
+//! Fields of a table file, of which so many stand one behind another.
 ghost use Rattle.std.specs.Prelude.{◌≡◌, ◌++◌, ℕ, List, All, IfOk, IfErr, length};
 ghost use Rattle.std.specs.List.{flat_map};
 ghost use Rattle.std.specs.Int.{w16};
-ghost use Rattle.ly_tables.specs.Private.Parts.{Counted, IsCut, Row, Stops};
+ghost use Rattle.ly_tables.specs.Private.Parts.{Counted, IsBeginning, Repeated, Stops};
 ghost use Rattle.ly_tables.specs.RawSet.{Fits};
 ghost use Rattle.ly_tables.specs.Spelling.{number};
 
 use crate::fault::TableFault;
-use crate::fields::short;
+use crate::front::short;
 use std::alloc::Global;
 
 /// A kind of field.
@@ -27,7 +27,7 @@ pub(crate) trait Field {
     /// The field that comes first, and what is left behind it.
     fn read(alloc: Global, left: &[u8]) -> Result<(Self::Value, &[u8]), TableFault>
         ensures ok { IfOk result (λ r. fits r.0 × (left.now ≡ spelled r.0 ++ r.1.now)) }
-        ensures cut { IfErr result (Stops (IsCut part left.now)) };
+        ensures truncated { IfErr result (Stops (IsBeginning part left.now)) };
 
     /// What is spelled is a part.
     ghost is_part: { (v : Self.Value) → fits v → part (spelled v) };
@@ -45,7 +45,7 @@ pub(crate) fn list<F: Field>(
     ensures count { IfOk result (λ r. length r.0.items ≡ count) }
     ensures fits { IfOk result (λ r. All F.fits r.0.items) }
     ensures ok { IfOk result (λ r. left.now ≡ flat_map F.spelled r.0.items ++ r.1.now) }
-    ensures cut { IfErr result (Stops (IsCut (Row F.part count) left.now)) }
+    ensures truncated { IfErr result (Stops (IsBeginning (Repeated F.part count) left.now)) }
 {
     let mut values = Vec::new(alloc);
     let mut behind = left;
@@ -66,7 +66,7 @@ pub(crate) fn counted<F: Field>(
     ensures fits { IfOk result (λ r. All F.fits r.0.items) }
     ensures ok { IfOk result (λ r. left.now
         ≡ (number w16 (length r.0.items) ++ flat_map F.spelled r.0.items) ++ r.1.now) }
-    ensures cut { IfErr result (Stops (IsCut (Counted F.part) left.now)) }
+    ensures truncated { IfErr result (Stops (IsBeginning (Counted F.part) left.now)) }
 {
     let (count, behind) = short(left)?;
     list::<F>(alloc, behind, count as usize)

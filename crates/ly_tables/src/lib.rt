@@ -2,7 +2,7 @@
 //!
 //! A `TableSet` is all that a driver needs to know of a lex file and a yacc file. Its type keeps its numbers within their
 //! ranges, and its parser's tables steady. `write_tables` spells it, and `read_tables` reads it back (`TableText`); a set
-//! has one spelling, and bytes that are refused are no set's. A file is read in three steps: its fields, as numbers
+//! has one spelling, a file one set, and but for want of memory no set's file is refused. A file is read in three steps: its fields, as numbers
 //! (`raw_reading`); whether these are within the ranges of their sections (`sections`); and what they mean (`conversion`).
 //!
 //! Left out: any version but the first.
@@ -14,7 +14,7 @@ mod conversion;
 mod counts;
 mod fault;
 mod field;
-mod fields;
+mod front;
 mod laid_rows;
 mod laws;
 mod numbers;

@@ -7,7 +7,7 @@ ghost use Rattle.ly_tables.specs.RawSet.{RuleFits, raw_rule};
 
 use crate::fault::TableFault;
 use crate::field::Field;
-use crate::fields::{byte, bytes, short};
+use crate::front::{byte, bytes, short};
 use crate::plain_fields::Text;
 use crate::raw_tables::RawRule;
 use std::alloc::Global;

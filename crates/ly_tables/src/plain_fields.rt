@@ -7,7 +7,7 @@ ghost use Rattle.ly_tables.specs.Spelling.{number, string};
 
 use crate::fault::TableFault;
 use crate::field::Field;
-use crate::fields::{bytes, short, wide};
+use crate::front::{bytes, short, wide};
 use std::alloc::Global;
 
 /// A number of two bytes.

@@ -7,7 +7,7 @@ ghost use Rattle.ly_tables.specs.RawSet.{ScanRuleFits, StartsFit, raw_scan_rule,
 
 use crate::fault::TableFault;
 use crate::field::Field;
-use crate::fields::{byte, short};
+use crate::front::{byte, short};
 use crate::raw_tables::{RawScanRule, RawStarts};
 use std::alloc::Global;
 

@@ -1,13 +1,11 @@
 -- The sections of a table file in three parts: of the symbols, the scanner and the parser.
-use Rattle.std.specs.Prelude.{◌≡◌, ◌++◌, ℕ, List, [], All, length, map}
+use Rattle.std.specs.Prelude.{◌≡◌, ℕ, List, [], All, length, map}
 use Rattle.std.specs.Int.{w16}
-use Rattle.std.specs.List.{flat_map}
 use Rattle.ly_tables.specs.Private.Parts.{Spells}
 use Rattle.ly_tables.specs.Private.RawValues.{comb_raw, rule_raw, scan_rule_raw, starts_raw}
 use Rattle.ly_tables.specs.RawSet.{CombFits, Fits, IsByte, IsString, RuleFits, ScanRuleFits, StartsFit}
 use Rattle.ly_tables.specs.RawSet.{RawComb, RawRule, RawScanRule, RawSet, RawStarts}
 use Rattle.ly_tables.specs.RawSet.{raw_parser_sections, raw_scanner_sections, raw_symbol_sections}
-use Rattle.ly_tables.specs.Spelling.{number}
 use Rattle.ly_tables.specs.declared.parser_sections.RawParser as parser
 use Rattle.ly_tables.specs.declared.scanner_sections.RawScanner as scanner
 use Rattle.ly_tables.specs.declared.symbol_sections.RawSymbols as symbols
@@ -17,8 +15,8 @@ abbrev pub no_rows : RawComb
 no_rows = record { bases = []; entries = []; rows = [] }
 
 -- the numbers of the three parts together
-abbrev pub joined : RawSet → RawSet → RawSet → RawSet
-joined symbols scanner parser = record {
+abbrev pub together : RawSet → RawSet → RawSet → RawSet
+together symbols scanner parser = record {
   nonterminals = symbols.nonterminals;
   terminals = symbols.terminals;
   literals = symbols.literals;
@@ -88,6 +86,7 @@ of_parser rules defaults actions gotos = record {
   gotos = gotos;
 }
 
+-- the three parts, as they are kept in memory
 abbrev pub symbols_raw : symbols.RawSymbols → RawSet
 symbols_raw s = of_symbols s.nonterminals (map (λ name. name.items) s.terminals.items) s.literals.items
 
@@ -128,6 +127,7 @@ pub record DoesParserFit (r : RawSet) : Type 0 where
   pub actions : CombFits w16 (length r.defaults) r.actions
   pub gotos : CombFits w16 (length r.defaults) r.gotos
 
+-- the bytes of the three parts
 abbrev pub AreSymbolsText : List ℕ → Type 0
 AreSymbolsText = Spells DoSymbolsFit (raw_symbol_sections w16)
 
