@@ -1,5 +1,5 @@
 -- A file has one set, and what is refused is no set's file.
-use Rattle.std.proofs.Common.{◌≡◌, ◌∙◌, ◌≢◌, ◌++◌, ◌<◌, ◌≤◌, ◌+◌, ◌-◌, ◌⊎◌, inl, inr, ℕ, List, [], ◌∷◌, length, map, refl, sym, ap}
+use Rattle.std.proofs.Common.{◌≡◌, ◌∙◌, ◌++◌, ◌<◌, ◌≤◌, ◌+◌, ◌-◌, inl, inr, ℕ, List, [], ◌∷◌, length, map, refl, sym, ap}
 use Rattle.std.proofs.Common.{subst, arith, All, Option, Some, None, slice_get, nat_eq, nat_lt, lt-ltb, true, false, codes}
 use Rattle.std.proofs.Common.{append_assoc, take}
 use Rattle.std.specs.Int.{w16, to_be_bytes}
@@ -107,7 +107,7 @@ module _ {E : Type 0} (meant : ℕ → E) (number : E → ℕ) where
       let first : slot_meant meant (next_of number o) (check_of w16 o) ≡ o
       = All-head (λ o. slot_meant meant (next_of number o) (check_of w16 o) ≡ o) o slots all in
       let rest = slots_again slots (All-tail (λ o. slot_meant meant (next_of number o) (check_of w16 o) ≡ o) o slots
-          all) in
+      all) in
       λ i. first i ∷ rest i
 
   comb_again : (states columns : ℕ) (c : Comb E) → states ≤ 65535 → AreRows states columns c
@@ -115,9 +115,9 @@ module _ {E : Type 0} (meant : ℕ → E) (number : E → ℕ) where
       → comb_meant meant columns (raw_comb_of w16 number c) ≡ c
   comb_again states columns c few rows entries =
       let slots = slots_again c.slots (λ k d lt. slot_again _ (λ u e.
-          let at = slice_get-get_or c.slots k d lt ∙ ap Some e in
-          let lies = rows.is_comb.slots k u at in
-          (omega (arith, few, rows.rows, slice_get_within c.bases u.row lies.0 lies.1), entries k u at))) in
+      let at = slice_get-get_or c.slots k d lt ∙ ap Some e in
+      let lies = rows.is_comb.slots k u at in
+      (omega (arith, few, rows.rows, slice_get_within c.bases u.row lies.0 lies.1), entries k u at))) in
       let width = sym rows.width in
       λ i. record { width = width i; bases = c.bases; slots = slots i }
 
@@ -140,24 +140,24 @@ starts_again states c few within =
 pub set_again : (s : TableSet) → IsWithinRanges w16 version_1 s → set_meant (raw_of w16 s) ≡ s
 set_again s r =
     let scan_rules = there_and_back (raw_scan_rule_of w16) scan_rule_meant s.scan_rules (λ k d lt.
-        scan_rule_again (length s.terminals) (length s.conditions) _ (omega (arith, r.condition_count))
-        (r.scan_rules k d lt)) in
+    scan_rule_again (length s.terminals) (length s.conditions) _ (omega (arith, r.condition_count))
+    (r.scan_rules k d lt)) in
     let conditions = there_and_back (raw_starts_of w16) starts_meant s.conditions (λ k d lt.
-        starts_again (length s.accepted) _ (omega (arith, r.scan_state_count)) (r.conditions k d lt)) in
+    starts_again (length s.accepted) _ (omega (arith, r.scan_state_count)) (r.conditions k d lt)) in
     let accepted = there_and_back from_one counted_meant s.accepted (λ k d lt. counted_again _) in
     let scan_rows = comb_again state_meant (λ (n : StateNo). n.0) (length s.accepted) s.class_count s.scan_rows
-        (omega (arith, r.scan_state_count)) r.scan_rows (λ k u at. refl) in
+    (omega (arith, r.scan_state_count)) r.scan_rows (λ k u at. refl) in
     let rules = there_and_back raw_rule_of rule_meant s.rules (λ k d lt. rule_again _) in
     let defaults = there_and_back number_or_zero default_meant s.defaults (λ k d lt. default_again _ (λ p e.
-        (r.machine.defaults k p (slice_get-get_or s.defaults k d lt ∙ ap Some e)).0)) in
+    (r.machine.defaults k p (slice_get-get_or s.defaults k d lt ∙ ap Some e)).0)) in
     let actions = comb_again action_meant (λ a. action_number w16 (action_from a)) (length s.defaults)
-        (length s.terminals) s.actions (omega (arith, r.state_count)) r.actions (λ k u at.
-        let lies = r.actions.is_comb.slots k u at in
-        let legal = used_legal s r k lies.0 u at lies.1 lies.2 lies.3 in
-        action_again u.entry (λ p e. let there = subst (λ a. IsLegal (machine_of s) (k - lies.0) (action_from a)) e legal in
-        omega (arith, there.1, r.rule_count))) in
+    (length s.terminals) s.actions (omega (arith, r.state_count)) r.actions (λ k u at.
+    let lies = r.actions.is_comb.slots k u at in
+    let legal = used_legal s r k lies.0 u at lies.1 lies.2 lies.3 in
+    action_again u.entry (λ p e. let there = subst (λ a. IsLegal (machine_of s) (k - lies.0) (action_from a)) e legal in
+    omega (arith, there.1, r.rule_count))) in
     let gotos = comb_again state_meant (λ (n : StateNo). n.0) (length s.defaults) s.nonterminals s.gotos
-        (omega (arith, r.state_count)) r.gotos (λ k u at. refl) in
+    (omega (arith, r.state_count)) r.gotos (λ k u at. refl) in
     λ i. record {
       terminals = s.terminals;
       nonterminals = s.nonterminals;

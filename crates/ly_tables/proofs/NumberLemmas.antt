@@ -1,24 +1,23 @@
 -- The numbers of a set that is within the ranges are within theirs.
-use Rattle.std.proofs.Common.{◌≡◌, ◌∙◌, ◌≢◌, ◌<◌, ◌≤◌, ◌+◌, ◌-◌, ◌^◌, ◌⊎◌, inl, inr, ℕ, List, [], ◌∷◌, length, map, refl, sym, ap}
+use Rattle.std.proofs.Common.{◌≡◌, ◌∙◌, ◌≢◌, ◌<◌, ◌≤◌, ◌+◌, ◌-◌, ◌⊎◌, inl, inr, ℕ, [], length, map, refl, sym, ap}
 use Rattle.std.proofs.Common.{subst, arith, get_or, All, Option, Some, None, slice_get}
 use Rattle.std.specs.Int.{w16}
-use Rattle.std.specs.Prelude.{AllPairs, option_map}
+use Rattle.std.specs.Prelude.{AllPairs}
 use Rattle.std.proofs.lemmas.List.{length-map}
 use Rattle.std.proofs.lemmas.List.Elements.{All-cons, All-map, All-nil, All-weaker}
-use Rattle.std.proofs.lemmas.Option.{get_or_from_slice_get, none-some, same_Some, slice_get-get_or, slice_get-map}
-use Rattle.std.proofs.lemmas.Option.{slice_get_within}
+use Rattle.std.proofs.lemmas.Option.{same_Some, slice_get-get_or, slice_get-map}
 use Rattle.ly_base.specs.Shape.{Shape, nil, place, node}
 use Rattle.ly_base.specs.declared.cut.Cut.{Cut}
 use Rattle.ly_base.specs.declared.cut.Cut.TheVariants.{Whole, Head, Tail}
 use Rattle.ly_base.specs.declared.numbers.StateNo.{StateNo}
 use Rattle.ly_base.specs.declared.scan_action.Emitted.{Emitted}
 use Rattle.ly_base.specs.declared.scan_action.Emitted.TheVariants.{Nothing, Terminal, FirstByte}
-use Rattle.ly_pack.specs.Machine.{TableAction, TableRule, IsLegal, IsRuleWithin as IsTableRuleWithin, IsShapeFor}
+use Rattle.ly_pack.specs.Machine.{TableAction, IsLegal, IsShapeFor}
 use Rattle.ly_pack.specs.Machine.{shift, reduce, accept, error}
 use Rattle.ly_pack.specs.Rows.{Comb, Used}
 use Rattle.ly_pack.specs.Values.{action_from}
 use Rattle.ly_tables.specs.Private.Short.{IsSlotShort}
-use Rattle.ly_tables.specs.Ranges.{AreRows, AreStartsWithin, IsCutWithin, IsEmittedWithin, IsRuleShort, IsScanRule}
+use Rattle.ly_tables.specs.Ranges.{AreRows, IsCutWithin, IsEmittedWithin}
 use Rattle.ly_tables.specs.Ranges.{IsShapeShort, IsWithinRanges, version_1}
 use Rattle.ly_tables.specs.RawOf.{cut_kind, cut_length, from_one, kind_of, number_or_none, number_or_zero, raw_comb_of}
 use Rattle.ly_tables.specs.RawOf.{raw_of, raw_rule_of, raw_scan_rule_of, raw_starts_of, shape_places, terminal_of}
@@ -27,9 +26,9 @@ use Rattle.ly_tables.specs.RawSections.{IsScanRuleWithin, IsSectionWithin, IsSha
 use Rattle.ly_tables.specs.RawSections.{symbol_section, literal_section, scan_rule_section, condition_section}
 use Rattle.ly_tables.specs.RawSections.{class_section, scan_state_section, scan_row_section, rule_section}
 use Rattle.ly_tables.specs.RawSections.{state_section, action_section, goto_section}
-use Rattle.ly_tables.specs.RawSet.{CombFits, IsRawSet, RawComb, RuleFits, ScanRuleFits, StartsFit}
+use Rattle.ly_tables.specs.RawSet.{CombFits, IsRawSet, RuleFits, ScanRuleFits, StartsFit}
 use Rattle.ly_tables.specs.Spelling.{action_number, check_of, next_of}
-use Rattle.ly_tables.specs.TableSet.{ScanRule, Starts, TableSet, machine_of}
+use Rattle.ly_tables.specs.TableSet.{TableSet, machine_of}
 use Rattle.ly_tables.proofs.EntryLemmas.{option_map_some}
 use Rattle.ly_tables.proofs.RangeLemmas.{actions_short, check_short, few_places, gotos_short, next_short, slots_short}
 use Rattle.ly_tables.proofs.RangeLemmas.{used_goto, used_legal}
@@ -141,13 +140,16 @@ module _ {E : Type 0} (code : E → ℕ) (states columns : ℕ) (c : Comb E) (ro
 
     rows_raw : AreRowsWithin w16 columns legal (raw_comb_of w16 code c)
     rows_raw = record {
-      bases = λ k d lt. omega (arith, length-map c.slots (next_of code),
-          rows.is_comb.bases k _ (slice_get-get_or c.bases k d lt));
+      bases = λ k d lt. omega (
+        arith,
+        length-map c.slots (next_of code),
+        rows.is_comb.bases k _ (slice_get-get_or c.bases k d lt),
+      );
       slots = λ slot entry row at_entry at_row.
           let first = option_map_some (next_of code) (slice_get c.slots slot) entry
-              (sym (slice_get-map (next_of code) c.slots slot) ∙ at_entry) in
+          (sym (slice_get-map (next_of code) c.slots slot) ∙ at_entry) in
           let second = option_map_some (check_of w16) (slice_get c.slots slot) row
-              (sym (slice_get-map (check_of w16) c.slots slot) ∙ at_row) in
+          (sym (slice_get-map (check_of w16) c.slots slot) ∙ at_row) in
           slot_raw slot first.0 entry row first.1 first.2
           (ap (check_of w16) (same_Some first.0 second.0 (sym first.1 ∙ second.1)) ∙ second.2);
     }
@@ -190,7 +192,7 @@ module _ (s : TableSet) (r : IsWithinRanges w16 version_1 s) where
     scan_states = omega (arith, r.scan_state_count, length-map s.accepted from_one);
     accepted = All-map (λ n. n < 65536) from_one s.accepted (λ k d lt.
         let le = counted_raw _ (length s.scan_rules) (λ p e.
-            r.accepted k p (slice_get-get_or s.accepted k d lt ∙ ap Some e)) in
+        r.accepted k p (slice_get-get_or s.accepted k d lt ∙ ap Some e)) in
         omega (arith, le, r.scan_rule_count));
     scan_rows = subst (λ n. CombFits w16 n (raw_comb_of w16 (λ (n : StateNo). n.0) s.scan_rows))
         (sym (length-map s.accepted from_one))
@@ -203,7 +205,7 @@ module _ (s : TableSet) (r : IsWithinRanges w16 version_1 s) where
     states = omega (arith, r.state_count, length-map s.defaults number_or_zero);
     defaults = All-map (λ n. n < 65536) number_or_zero s.defaults (λ k d lt.
         let le = default_raw _ (length s.rules) (λ p e.
-            (r.machine.defaults k p (slice_get-get_or s.defaults k d lt ∙ ap Some e)).1) in
+        (r.machine.defaults k p (slice_get-get_or s.defaults k d lt ∙ ap Some e)).1) in
         omega (arith, le, r.rule_count));
     actions = subst (λ n. CombFits w16 n (raw_comb_of w16 (λ a. action_number w16 (action_from a)) s.actions))
         (sym (length-map s.defaults number_or_zero))
@@ -218,10 +220,22 @@ module _ (s : TableSet) (r : IsWithinRanges w16 version_1 s) where
       → IsActionWithin w16 (raw_of w16 s) t (action_number w16 a)
   action_raw t error legal = inl refl
   action_raw t accept legal = inr (inl (refl, legal))
-  action_raw t (shift n) legal = inr (inr (inl (n, refl, omega (arith, legal.0, length-map s.defaults number_or_zero),
-      legal.1)))
-  action_raw t (reduce p) legal = inr (inr (inr (p, refl, legal.0, omega (arith, legal.1,
-      length-map s.rules raw_rule_of))))
+  action_raw t (shift n) legal = inr (inr (inl (
+    n,
+    refl,
+    omega (arith, legal.0, length-map s.defaults number_or_zero),
+    legal.1,
+  )))
+  action_raw t (reduce p) legal = inr (inr (inr (
+    p,
+    refl,
+    legal.0,
+    omega (
+      arith,
+      legal.1,
+      length-map s.rules raw_rule_of,
+    ),
+  )))
 
   by_section : (section : Section) → IsSectionWithin w16 version_1 (raw_of w16 s) section
   by_section symbol_section = record {
@@ -257,18 +271,19 @@ module _ (s : TableSet) (r : IsWithinRanges w16 version_1 s) where
         × IsNoneOr w16 (length (map from_one s.accepted)) c.at_line) (raw_starts_of w16) s.conditions (λ k d lt.
         let at = r.conditions k d lt in
         let few : length s.accepted ≤ 65535 = omega (arith, r.scan_state_count) in
-        let same = sym (length-map s.accepted from_one) in
-        (subst (λ n. IsNoneOr w16 n (number_or_none w16 (get_or s.conditions k d).elsewhere)) same
-        (number_raw _ (length s.accepted) few at.elsewhere).0,
-        subst (λ n. IsNoneOr w16 n (number_or_none w16 (get_or s.conditions k d).at_line)) same
-        (number_raw _ (length s.accepted) few at.at_line).0));
+        let same = sym (length-map s.accepted from_one) in (
+          subst (λ n. IsNoneOr w16 n (number_or_none w16 (get_or s.conditions k d).elsewhere)) same
+              (number_raw _ (length s.accepted) few at.elsewhere).0,
+          subst (λ n. IsNoneOr w16 n (number_or_none w16 (get_or s.conditions k d).at_line)) same
+              (number_raw _ (length s.accepted) few at.at_line).0,
+        ));
   }
   by_section class_section = record { some = r.some_class; count = r.class_count; classes = r.classes }
   by_section scan_state_section = (
     omega (arith, r.scan_state_count, length-map s.accepted from_one),
     All-map (λ p. p ≤ length (map (raw_scan_rule_of w16) s.scan_rules)) from_one s.accepted (λ k d lt.
         let le = counted_raw _ (length s.scan_rules) (λ p e.
-            r.accepted k p (slice_get-get_or s.accepted k d lt ∙ ap Some e)) in
+        r.accepted k p (slice_get-get_or s.accepted k d lt ∙ ap Some e)) in
         omega (arith, le, length-map s.scan_rules (raw_scan_rule_of w16))),
   )
   by_section scan_row_section = rows_raw (λ (n : StateNo). n.0) (length s.accepted) s.class_count s.scan_rows
@@ -292,7 +307,7 @@ module _ (s : TableSet) (r : IsWithinRanges w16 version_1 s) where
     count = omega (arith, r.state_count, length-map s.defaults number_or_zero);
     defaults = All-map (λ p. p ≤ length (map raw_rule_of s.rules)) number_or_zero s.defaults (λ k d lt.
         let le = default_raw _ (length s.rules) (λ p e.
-            (r.machine.defaults k p (slice_get-get_or s.defaults k d lt ∙ ap Some e)).1) in
+        (r.machine.defaults k p (slice_get-get_or s.defaults k d lt ∙ ap Some e)).1) in
         omega (arith, le, length-map s.rules raw_rule_of));
   }
   by_section action_section = rows_raw (λ a. action_number w16 (action_from a)) (length s.defaults)

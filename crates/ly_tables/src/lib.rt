@@ -1,9 +1,11 @@
 //! Table sets, and the bytes of a table file.
 //!
-//! A `TableSet` is all that a driver needs to know of a lex file and a yacc file. Its type keeps its numbers within their
-//! ranges, and its parser's tables steady. `write_tables` spells it, and `read_tables` reads it back (`TableText`); a set
-//! has one spelling, a file one set, and but for want of memory no set's file is refused. A file is read in three steps: its fields, as numbers
-//! (`raw_reading`); whether these are within the ranges of their sections (`sections`); and what they mean (`conversion`).
+//! A `TableSet` is all that a driver needs to know of a lex file and a yacc file. Its type keeps its numbers within
+//! their ranges, and its parser's tables steady. `write_tables` spells it, and `read_tables` reads it back
+//! (`TableText`); a set has one spelling, a file has one set, and only want of memory refuses a set's file.
+//!
+//! A file is read in three steps: its fields as numbers, by counts alone (`raw_reading`); whether these are within the
+//! ranges of their sections (`sections`); and what they mean (`conversion`). Then the tables are checked (`steadiness`).
 //!
 //! Left out: any version but the first.
 #![tactic(auto)]
@@ -46,8 +48,10 @@ mod table_set;
 mod writing;
 
 pub use fault::TableFault;
-pub use laws::{a_file_has_one_set, a_refusal_is_exact, a_set_has_one_spelling, a_set_is_spelled_by_numbers};
-pub use laws::{numbers_of_a_set_are_within, raw_files_are_told_apart};
+pub use laws::{
+    a_file_has_one_set, a_refusal_is_exact, a_set_has_one_spelling, a_set_is_spelled_by_numbers,
+    numbers_of_a_set_are_within, raw_files_are_told_apart,
+};
 pub use reading::read_tables;
 pub use scan_rule::ScanRule;
 pub use starts::Starts;
