@@ -1,5 +1,5 @@
 -- The entries of rows, taken apart.
-use Rattle.std.proofs.Common.{◌≡◌, ◌∙◌, ◌<◌, ◌≤◌, ◌+◌, ◌⊎◌, inl, inr, ℕ, List, Option, Some, None, true, false}
+use Rattle.std.proofs.Common.{◌≡◌, ◌∙◌, ◌<◌, ◌≤◌, ◌+◌, ◌⊎◌, inl, inr, ℕ, Option, Some, None, true, false}
 use Rattle.std.proofs.Common.{slice_index, refl, sym, ap, arith, slice_get, nat_eq, nat_lt, lt-ltb, subst}
 use Rattle.std.specs.Int.{w16}
 use Rattle.std.specs.Prelude.{length, option_and_then, option_map}

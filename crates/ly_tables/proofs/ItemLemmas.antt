@@ -1,8 +1,8 @@
 -- Numbers that are within their ranges are those of what they mean.
-use Rattle.std.proofs.Common.{◌≡◌, ◌∙◌, ◌≢◌, ◌<◌, ◌≤◌, ◌+◌, ◌-◌, ◌⊎◌, inl, inr, ℕ, zero, suc, List, [], ◌∷◌, length, map}
-use Rattle.std.proofs.Common.{refl, sym, ap, arith, All, Option, Some, None, slice_index, nat_eq, nat_lt, true, false}
+use Rattle.std.proofs.Common.{◌≡◌, ◌≢◌, ◌≤◌, inl, inr, ℕ, zero, suc, List, [], ◌∷◌, length, map}
+use Rattle.std.proofs.Common.{refl, sym, arith, All, slice_index, nat_eq, true, false}
 use Rattle.std.specs.Int.{w16}
-use Rattle.std.proofs.lemmas.Bool.{cases_eq, cases_lt, eq-eqb, ne_eqb}
+use Rattle.std.proofs.lemmas.Bool.{cases_eq, eq-eqb, ne_eqb}
 use Rattle.std.proofs.lemmas.List.Elements.{All-head, All-tail}
 use Rattle.ly_tables.specs.Private.Meaning.{counted_meant, cut_meant, default_meant, emitted_meant, number_meant}
 use Rattle.ly_tables.specs.Private.Meaning.{rule_meant, scan_rule_meant, shape_meant, starts_meant}

@@ -1,11 +1,9 @@
 -- What numbers mean that are within their ranges, item by item.
-use Rattle.std.proofs.Common.{◌≡◌, ◌∙◌, ◌≢◌, ◌<◌, ◌≤◌, ◌+◌, ◌-◌, ◌^◌, ◌⊎◌, inl, inr, ℕ, zero, suc, List, [], ◌∷◌, length}
-use Rattle.std.proofs.Common.{refl, sym, ap, subst, arith, map, All, Option, Some, None, true, false}
-use Rattle.std.proofs.Common.{slice_get, slice_index, nat_eq, nat_lt, lt-ltb}
+use Rattle.std.proofs.Common.{◌≡◌, ◌∙◌, ◌<◌, ◌≤◌, ◌+◌, ◌-◌, inl, inr, ℕ, zero, suc, List, length}
+use Rattle.std.proofs.Common.{refl, sym, subst, arith, map, All, Option, Some, true, false}
+use Rattle.std.proofs.Common.{slice_get, nat_eq, nat_lt, lt-ltb}
 use Rattle.std.specs.Int.{w16}
-use Rattle.std.specs.Prelude.{option_map}
-use Rattle.std.proofs.lemmas.Bool.{cases_eq, cases_lt, eq-eqb, le-ltb, ne_eqb}
-use Rattle.std.proofs.lemmas.List.{length-map}
+use Rattle.std.proofs.lemmas.Bool.{cases_eq, eq-eqb, le-ltb, ne_eqb}
 use Rattle.std.proofs.lemmas.Option.{get_or_from_slice_get, none-some, same_Some, slice_get-map, slice_get_within}
 use Rattle.ly_pack.specs.Machine.{IsRuleWithin as IsTableRuleWithin, IsShapeFor}
 use Rattle.ly_pack.specs.Values.{action_from}
@@ -77,9 +75,12 @@ default_some (suc n) p is =
 numbered : (f : ℕ → Option ℕ) (bound : ℕ) (ns : List ℕ) (k p : ℕ) → All (λ n. n ≤ bound) ns
     → slice_get (map f ns) k ≡ Some (Some p) → (n : ℕ) × (n ≤ bound) × (f n ≡ Some p)
 numbered f bound ns k p all is =
-    let at = option_map_some f (slice_get ns k) (Some p) (sym (slice_get-map f ns k) ∙ is) in
-    (at.0, subst (λ n. n ≤ bound) (get_or_from_slice_get ns k at.0 0 at.1)
-    (all k 0 (slice_get_within ns k at.0 at.1)), at.2)
+    let at = option_map_some f (slice_get ns k) (Some p) (sym (slice_get-map f ns k) ∙ is) in (
+      at.0,
+      subst (λ n. n ≤ bound) (get_or_from_slice_get ns k at.0 0 at.1)
+          (all k 0 (slice_get_within ns k at.0 at.1)),
+      at.2,
+    )
 
 pub accepted_within : (bound : ℕ) (ns : List ℕ) (k p : ℕ) → All (λ n. n ≤ bound) ns
     → slice_get (map counted_meant ns) k ≡ Some (Some p) → p < bound

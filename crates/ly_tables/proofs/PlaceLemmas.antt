@@ -1,6 +1,6 @@
 -- Places of a body that are marked as they are seen.
-use Rattle.std.proofs.Common.{◌≡◌, ◌∙◌, ◌≢◌, ◌<◌, ◌≤◌, ◌+◌, ℕ, List, Bool, true, false, length, get_or, set, arith, sym, ap, subst}
-use Rattle.std.proofs.Common.{◌⊎◌, inl, inr, replicate}
+use Rattle.std.proofs.Common.{◌≡◌, ◌∙◌, ◌<◌, ◌≤◌, ◌+◌, ℕ, List, Bool, true, false, length, get_or, set, arith, sym, ap}
+use Rattle.std.proofs.Common.{inl, inr, replicate}
 use Rattle.std.specs.Prelude.{AllPairs}
 use Rattle.std.proofs.lemmas.Bool.{cases_lt, cases_eq, false≢true}
 use Rattle.std.proofs.lemmas.List.{get_or_default, get_or-replicate, get_or-set_same, get_or-set_other, get_or_past, length-replicate, length-set}

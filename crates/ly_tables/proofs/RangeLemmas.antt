@@ -43,7 +43,7 @@ pub All-item : {A B : Type 0} (P : B → Type 0) (f : A → B) (xs : List A) (i 
 All-item P f xs i x lt is all = subst (λ y. P (f y)) (sym is) (All-at P f xs i x lt all)
 
 -- distinct places of a body are no more than it has
-few_places : (n : ℕ) (places : List ℕ) → All (λ i. (1 ≤ i) × (i ≤ n)) places → AllPairs (λ i j. i ≡ j → ⊥) places
+pub few_places : (n : ℕ) (places : List ℕ) → All (λ i. (1 ≤ i) × (i ≤ n)) places → AllPairs (λ i j. i ≡ j → ⊥) places
     → length places ≤ n
 few_places n places within apart =
     let distinct : IsDistinct eqb (0 ∷ places)
@@ -134,26 +134,38 @@ module _ (s : TableSet) (r : IsWithinRanges w16 version_1 s) where
       number_short (shift n) legal = omega (arith, legal.0, r.state_count)
       number_short (reduce p) legal = omega (arith, legal.1, r.rule_count)
 
+  -- the action of a used slot is legal
+  pub used_legal : (k base : ℕ) (u : Used code.TableAction) → slice_get s.actions.slots k ≡ Some (Some u)
+      → slice_get s.actions.bases u.row ≡ Some base → base ≤ k → k < base + s.actions.width
+      → IsLegal (machine_of s) (k - base) (action_from u.entry)
+  used_legal k base u at starts le lt =
+      let row : u.row < length s.defaults
+      = omega (arith, slice_get_within s.actions.bases u.row base starts, r.actions.rows) in
+      let column : k - base < length s.terminals = omega (arith, le, lt, r.actions.width) in
+      r.machine.actions u.row (k - base) (action_from u.entry)
+      (cell-grid_of (length s.defaults) (length s.terminals) (actions_from (comb_entry s.actions)) u.row (k - base)
+      row column ∙ ap (option_map action_from) (used_entry s.actions u base k at starts le lt))
+
+  -- the state of a used slot is there
+  pub used_goto : (k base : ℕ) (u : Used StateNo) → slice_get s.gotos.slots k ≡ Some (Some u)
+      → slice_get s.gotos.bases u.row ≡ Some base → base ≤ k → k < base + s.gotos.width
+      → u.entry.0 < length s.defaults
+  used_goto k base u at starts le lt =
+      let row : u.row < length s.defaults
+      = omega (arith, slice_get_within s.gotos.bases u.row base starts, r.gotos.rows) in
+      let column : k - base < s.nonterminals = omega (arith, le, lt, r.gotos.width) in
+      r.machine.gotos u.row (k - base) u.entry.0
+      (cell-grid_of (length s.defaults) s.nonterminals (gotos_from (comb_entry s.gotos)) u.row (k - base)
+      row column ∙ ap (option_map (λ (n : StateNo). n.0)) (used_entry s.gotos u base k at starts le lt))
+
   pub actions_short : All (IsSlotShort (λ a. action_number w16 (action_from a))) s.actions.slots
   actions_short = slots_short (λ a. action_number w16 (action_from a)) (length s.defaults) (length s.terminals)
       s.actions r.state_count r.actions (λ k u at.
       let place = r.actions.is_comb.slots k u at in
-      let row : u.row < length s.defaults
-      = omega (arith, slice_get_within s.actions.bases u.row place.0 place.1, r.actions.rows) in
-      let column : k - place.0 < length s.terminals = omega (arith, place.2, place.3, r.actions.width) in
-      legal_short (k - place.0) u.entry (r.machine.actions u.row (k - place.0) (action_from u.entry)
-      (cell-grid_of (length s.defaults) (length s.terminals) (actions_from (comb_entry s.actions)) u.row (k - place.0)
-      row column ∙ ap (option_map action_from) (used_entry s.actions u place.0 k at place.1 place.2 place.3))))
+      legal_short (k - place.0) u.entry (used_legal k place.0 u at place.1 place.2 place.3))
 
   pub gotos_short : All (IsSlotShort (λ (n : StateNo). n.0)) s.gotos.slots
   gotos_short = slots_short (λ (n : StateNo). n.0) (length s.defaults) s.nonterminals
       s.gotos r.state_count r.gotos (λ k u at.
       let place = r.gotos.is_comb.slots k u at in
-      let row : u.row < length s.defaults
-      = omega (arith, slice_get_within s.gotos.bases u.row place.0 place.1, r.gotos.rows) in
-      let column : k - place.0 < s.nonterminals = omega (arith, place.2, place.3, r.gotos.width) in
-      let next : u.entry.0 < length s.defaults = r.machine.gotos u.row (k - place.0) u.entry.0
-      (cell-grid_of (length s.defaults) s.nonterminals (gotos_from (comb_entry s.gotos)) u.row (k - place.0)
-      row column ∙ ap (option_map (λ (n : StateNo). n.0))
-      (used_entry s.gotos u place.0 k at place.1 place.2 place.3)) in
-      omega (arith, next, r.state_count))
+      omega (arith, used_goto k place.0 u at place.1 place.2 place.3, r.state_count))

@@ -17,7 +17,7 @@ use Rattle.ly_tables.specs.RawOf.{cut_kind, cut_length, from_one, kind_of, numbe
 use Rattle.ly_tables.specs.RawOf.{raw_of, raw_rule_of, raw_scan_rule_of, raw_starts_of, shape_kind, shape_name}
 use Rattle.ly_tables.specs.RawOf.{shape_places, terminal_of}
 use Rattle.ly_tables.specs.RawSet.{raw_comb, raw_parser_sections, raw_rule, raw_scan_rule, raw_scanner_sections}
-use Rattle.ly_tables.specs.RawSet.{raw_spelling, raw_starts, raw_symbol_sections}
+use Rattle.ly_tables.specs.RawSet.{raw_spelling, raw_starts}
 use Rattle.ly_tables.specs.Spelling.{action_number, check_of, comb, counted_from_one, cut, emitted, next_of, number}
 use Rattle.ly_tables.specs.Spelling.{or_none, or_zero, parser_sections, rule, scan_rule, scanner_sections, shape}
 use Rattle.ly_tables.specs.Spelling.{spelling, starts, string, symbol_sections}

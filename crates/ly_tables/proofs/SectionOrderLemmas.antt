@@ -1,5 +1,5 @@
 -- The order of sections.
-use Rattle.std.proofs.Common.{◌≡◌, ◌∙◌, ◌<◌, ◌⊎◌, ℕ, suc, Bool, nat_eq, if◌then◌else◌, true, false, refl, inl, inr, arith, sym, ap, subst}
+use Rattle.std.proofs.Common.{◌≡◌, ◌∙◌, ◌<◌, ℕ, suc, nat_eq, if◌then◌else◌, true, false, refl, inl, inr, arith, sym, ap, subst}
 use Rattle.std.specs.Int.{w16}
 use Rattle.std.proofs.lemmas.Bool.{cases_eq, false≢true}
 use Rattle.ly_tables.specs.Private.SectionOrder.{AreWithinBefore, IsFirstNumber}

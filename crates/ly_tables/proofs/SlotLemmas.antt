@@ -1,14 +1,14 @@
 -- Rows of a file and what they mean.
-use Rattle.std.proofs.Common.{◌≡◌, ◌∙◌, ◌≢◌, ◌<◌, ◌≤◌, ◌+◌, ◌⊎◌, inl, inr, ℕ, zero, suc, List, [], ◌∷◌, ◌++◌, length, map}
-use Rattle.std.proofs.Common.{refl, sym, ap, subst, arith, All, Option, Some, None, take, get_or, min, nat_eq, slice_get}
+use Rattle.std.proofs.Common.{◌≡◌, ◌∙◌, ◌≢◌, ◌<◌, ◌≤◌, ◌+◌, inl, inr, ℕ, zero, suc, List, [], ◌∷◌, ◌++◌, length, map}
+use Rattle.std.proofs.Common.{refl, sym, ap, subst, arith, Some, take, get_or, nat_eq, slice_get}
 use Rattle.std.proofs.Common.{true, false, slice_index}
 use Rattle.std.specs.Int.{w16}
 use Rattle.std.specs.List.{zip}
 use Rattle.std.specs.Prelude.{option_map}
-use Rattle.std.proofs.lemmas.Bool.{cases_eq, cases_lt, eq-eqb, ne_eqb}
+use Rattle.std.proofs.lemmas.Bool.{cases_eq, eq-eqb, ne_eqb}
 use Rattle.std.proofs.lemmas.List.{get_or_default, length-map}
 use Rattle.std.proofs.lemmas.Option.{get_or_from_slice_get, none-some, same_Some, slice_get-get_or, slice_get-map}
-use Rattle.std.proofs.lemmas.Option.{slice_get_past, slice_get_within}
+use Rattle.std.proofs.lemmas.Option.{slice_get_within}
 use Rattle.std.proofs.lemmas.Slice.Zip.{firsts-zip, get_or-zip, length-zip, seconds-zip}
 use Rattle.ly_pack.specs.Rows.{IsComb, Used}
 use Rattle.ly_tables.specs.Private.Meaning.{comb_meant, slot_meant, slots_meant}
@@ -57,8 +57,8 @@ module _ {E : Type 0} (meant : ℕ → E) (c : RawComb) (long : length c.rows �
   used_at k u is =
       let lt : k < length c.entries = omega (arith, slice_get_within (slots_meant meant c) k (Some u) is, length-slots) in
       let parts = slot_used meant (slice_index c.entries k) (slice_index c.rows k) u
-          (same_Some (slot_meant meant (slice_index c.entries k) (slice_index c.rows k)) (Some u)
-          (sym (slot_at k lt) ∙ is)) in
+      (same_Some (slot_meant meant (slice_index c.entries k) (slice_index c.rows k)) (Some u)
+      (sym (slot_at k lt) ∙ is)) in
       (lt, parts.0, parts.1, parts.2)
 
   module _ (columns : ℕ) (legal : ℕ → ℕ → Type 0) (within : AreRowsWithin w16 columns legal c) where

@@ -1,5 +1,5 @@
 -- The machine of a table set's parts, and what the check of it says.
-use Rattle.std.proofs.Common.{◌≡◌, ◌∙◌, ◌<◌, ℕ, List, length, map, sym, ap, Vec, Global, Option}
+use Rattle.std.proofs.Common.{◌≡◌, ◌∙◌, ℕ, length, map, sym, Vec, Global, Option}
 use Rattle.std.specs.Prelude.{option_map}
 use Rattle.std.proofs.lemmas.List.{length-map}
 use Rattle.ly_base.specs.declared.numbers.RuleNo.{RuleNo}

@@ -1,9 +1,9 @@
 -- The ranges of a table file, section by section: what its numbers may be.
-use Rattle.std.specs.Prelude.{◌≡◌, ◌≢◌, ◌⊎◌, ℕ, ◌+◌, ◌-◌, ◌*◌, ◌^◌, ◌<◌, ◌≤◌, List, [], length, All, AllPairs}
-use Rattle.std.specs.Prelude.{Option, Some, None, slice_get, codes}
+use Rattle.std.specs.Prelude.{◌≡◌, ◌≢◌, ◌⊎◌, ℕ, ◌+◌, ◌-◌, ◌*◌, ◌^◌, ◌<◌, ◌≤◌, [], length, All, AllPairs}
+use Rattle.std.specs.Prelude.{Some, slice_get, codes}
 use Rattle.std.specs.Int.{Width, byte_len}
 use Rattle.ly_tables.specs.Ranges.{Counts, IsNameLong}
-use Rattle.ly_tables.specs.RawSet.{RawComb, RawRule, RawScanRule, RawSet, RawStarts}
+use Rattle.ly_tables.specs.RawSet.{RawComb, RawRule, RawScanRule, RawSet}
 use Rattle.ly_tables.specs.Spelling.{none_of}
 
 -- two or more terminals, the first two the end and that of no token; a nonterminal; and no more symbols than may be

@@ -1,11 +1,12 @@
--- A table file as numbers, before it is known whether they mean anything: what stands in the fields of its sections, and
--- the bytes of these. Counts and the lengths of texts alone say where a field stands.
+-- A table file as numbers, before it is known whether they mean anything: what stands in the fields of its sections,
+-- and the bytes of these. Counts and the lengths of texts alone say where a field stands.
 use Rattle.std.specs.Prelude.{◌≡◌, ℕ, ◌<◌, ◌*◌, ◌^◌, List, ◌∷◌, ◌++◌, All, length, codes}
 use Rattle.std.specs.List.{flat_map}
 use Rattle.std.specs.Int.{Width, w16, w32, byte_len, to_be_bytes}
 use Rattle.ly_tables.specs.Spelling.{number, string}
 
--- A rule of the scanner: the kind of what it returns and its terminal, its condition, the kind of its cut and its length.
+-- A rule of the scanner: the kind of what it returns and its terminal, its condition, the kind of its cut and its
+-- length.
 pub record RawScanRule : Type 0 where
   pub kind : ℕ
   pub terminal : ℕ

@@ -2,7 +2,8 @@
 use Rattle.std.specs.Prelude.{ℕ, List}
 use Rattle.std.specs.Int.{Width}
 use Rattle.ly_tables.specs.Ranges.{Counts}
-use Rattle.ly_tables.specs.Reading.{HasOtherMagic, HasOtherVersion, HasTrailing, IsEndlessSet, IsOutOfRange, IsTruncated}
+use Rattle.ly_tables.specs.Reading.{HasOtherMagic, HasOtherVersion, HasTrailing, IsEndlessSet, IsOutOfRange}
+use Rattle.ly_tables.specs.Reading.{IsTruncated}
 use Rattle.ly_tables.specs.declared.fault.TableFault.{TableFault}
 use Rattle.ly_tables.specs.declared.fault.TableFault.TheVariants.{BadMagic, BadVersion, Endless, OutOfMemory}
 use Rattle.ly_tables.specs.declared.fault.TableFault.TheVariants.{OutOfRange, Trailing, Truncated}

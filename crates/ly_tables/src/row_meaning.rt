@@ -15,7 +15,11 @@ use ly_pack::{Comb, Slot};
 use std::alloc::{AllocError, Global};
 
 /// Rows of so many columns, laid over one another.
-pub(crate) fn comb<E: Entry>(alloc: Global, width: usize, raw: RawComb) -> Result<Comb<E>, AllocError>
+pub(crate) fn comb<E: Entry>(
+    alloc: Global,
+    width: usize,
+    raw: RawComb,
+) -> Result<Comb<E>, AllocError>
     requires long { length raw.rows.items ≡ length raw.entries.items }
     requires comb { IsComb (comb_meant E.meant width (comb_raw raw)) }
     ensures { IfOk result (λ c. c ≡ comb_meant E.meant width (comb_raw raw)) }

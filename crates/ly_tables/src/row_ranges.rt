@@ -72,7 +72,11 @@ pub(crate) fn scan_rows_within(raw: &RawTables) -> bool
     ensures { IsTrue result ↔ AreRowsWithin w16 raw.now.class_count (λ column s. s < length raw.now.accepted.items)
         (comb_raw raw.now.scan_rows) }
 {
-    are_rows_within(&raw.scan_rows, raw.class_count as usize, &States(raw.accepted.len()))
+    are_rows_within(
+        &raw.scan_rows,
+        raw.class_count as usize,
+        &States(raw.accepted.len()),
+    )
 }
 
 /// Whether the actions are within their ranges.
@@ -90,7 +94,11 @@ pub(crate) fn gotos_within(raw: &RawTables) -> bool
     ensures { IsTrue result ↔ AreRowsWithin w16 raw.now.nonterminals (λ column s. s < length raw.now.defaults.items)
         (comb_raw raw.now.gotos) }
 {
-    are_rows_within(&raw.gotos, raw.nonterminals as usize, &States(raw.defaults.len()))
+    are_rows_within(
+        &raw.gotos,
+        raw.nonterminals as usize,
+        &States(raw.defaults.len()),
+    )
 }
 
 /// Whether rows of so many columns are within their ranges.

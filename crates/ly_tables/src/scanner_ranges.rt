@@ -6,7 +6,9 @@ ghost use Rattle.ly_tables.specs.Ranges.{version_1};
 ghost use Rattle.ly_tables.specs.RawSections.{AreAcceptedWithin, AreClassesWithin, AreConditionsWithin};
 ghost use Rattle.ly_tables.specs.RawSections.{AreScanRulesWithin, IsNoneOr, IsScanRuleWithin};
 
-use crate::counts::{MOST_CLASSES, MOST_CONDITIONS, MOST_RULES, MOST_STATES, are_at_most, is_count_within};
+use crate::counts::{
+    MOST_CLASSES, MOST_CONDITIONS, MOST_RULES, MOST_STATES, are_at_most, is_count_within,
+};
 use crate::numbers::NONE;
 use crate::raw_tables::{RawScanRule, RawStarts, RawTables};
 use crate::symbol_ranges::is_token;
@@ -79,9 +81,8 @@ fn are_starts_within(conditions: &[RawStarts], states: usize) -> bool
     ensures { IsTrue result ↔ All (λ c. IsNoneOr w16 states c.elsewhere × IsNoneOr w16 states c.at_line)
         conditions.now }
 {
-    conditions
-        .iter()
-        .all(|starts| is_none_or(starts.elsewhere, states) && is_none_or(starts.at_line, states))
+    conditions.iter().all(|starts| is_none_or(starts.elsewhere, states)
+        && is_none_or(starts.at_line, states))
 }
 
 /// Whether the classes are within their ranges.

@@ -10,7 +10,9 @@ ghost use Rattle.ly_tables.specs.RawSet.{IsRawSet};
 use crate::raw_tables::RawTables;
 use crate::row_ranges::{actions_within, gotos_within, scan_rows_within};
 use crate::rule_ranges::{defaults_within, rules_within};
-use crate::scanner_ranges::{accepted_within, classes_within, conditions_within, scan_rules_within};
+use crate::scanner_ranges::{
+    accepted_within, classes_within, conditions_within, scan_rules_within,
+};
 use crate::symbol_ranges::{literals_within, symbols_within};
 
 /// The number of the first section that is out of its ranges, if one is.

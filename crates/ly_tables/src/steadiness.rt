@@ -34,7 +34,11 @@ pub(crate) fn steady_set(alloc: Global, parts: TableParts) -> Result<TableSet, T
     if let Err(fault) = steady(alloc, &machine) {
         return Err(refusal(fault));
     }
-    let MachineParts { defaults, rules, .. } = machine.into_parts();
+    let MachineParts {
+        defaults,
+        rules,
+        ..
+    } = machine.into_parts();
     Ok(TableSet::new(TableParts {
         rules,
         defaults,

@@ -1,5 +1,5 @@
 -- The numbers of a table file, as they are kept in memory.
-use Rattle.std.specs.Prelude.{List, map}
+use Rattle.std.specs.Prelude.{map}
 use Rattle.ly_tables.specs.RawSet.{RawComb, RawRule, RawScanRule, RawSet, RawStarts}
 use Rattle.ly_tables.specs.declared.raw_tables.RawComb as comb
 use Rattle.ly_tables.specs.declared.raw_tables.RawRule as rule

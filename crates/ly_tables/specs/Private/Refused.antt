@@ -4,8 +4,7 @@ use Rattle.ly_loop.specs.declared.fault.LoopFault.TheVariants as cause
 use Rattle.ly_pack.specs.Machine.{Machine}
 use Rattle.ly_pack.specs.Steady.{IsSteady}
 use Rattle.ly_tables.specs.declared.fault.TableFault.{TableFault}
-use Rattle.ly_tables.specs.declared.fault.TableFault.TheVariants.{BadMagic, BadVersion, Endless, OutOfMemory}
-use Rattle.ly_tables.specs.declared.fault.TableFault.TheVariants.{OutOfRange, Trailing, Truncated}
+use Rattle.ly_tables.specs.declared.fault.TableFault.TheVariants.{Endless, OutOfMemory}
 
 -- the fault of a table file whose tables have this fault
 abbrev pub refusal_of : LoopFault → TableFault

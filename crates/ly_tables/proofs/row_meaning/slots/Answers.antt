@@ -1,9 +1,8 @@
-use Rattle.std.proofs.Common.{◌≡◌, ◌∙◌, ◌++◌, ◌+◌, ℕ, suc, List, [], ◌∷◌, ap, sym, arith, map, take, get_or, add-one, Option}
+use Rattle.std.proofs.Common.{◌≡◌, ◌∙◌, ◌++◌, ◌+◌, ℕ, suc, [], ◌∷◌, ap, sym, arith, map, take, get_or}
 use Rattle.std.specs.List.{zip}
 use Rattle.std.specs.Prelude.{option_map}
 use Rattle.std.proofs.lemmas.List.{map-append}
 use Rattle.ly_pack.specs.Combs.{slots_from, used_from}
-use Rattle.ly_pack.specs.Rows.{Used}
 use Rattle.ly_tables.specs.Private.Meaning.{slot_meant}
 use Rattle.ly_tables.proofs.SlotLemmas.{zip_more}
 use Rattle.ly_tables.proofs.row_meaning.slots.Goals as goal

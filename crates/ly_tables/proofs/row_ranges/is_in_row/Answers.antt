@@ -1,7 +1,7 @@
-use Rattle.std.proofs.Common.{◌≡◌, ◌∙◌, ◌<◌, ◌≤◌, ◌+◌, ◌-◌, ℕ, Some, None, true, false, refl, arith, ap, sym, subst}
+use Rattle.std.proofs.Common.{◌≡◌, ◌∙◌, Some, refl, arith, ap, sym, subst}
 use Rattle.std.proofs.Common.{slice_get, length}
 use Rattle.std.proofs.lemmas.Bool.{false≢true, lt-ltb, ltb-true}
-use Rattle.std.proofs.lemmas.Option.{same_Some, slice_get_read, slice_get_within}
+use Rattle.std.proofs.lemmas.Option.{same_Some, slice_get_read}
 use Rattle.ly_tables.proofs.row_ranges.is_in_row.Goals as goal
 
 pub returns-then-column-columns : goal.returns-then-column-columns
@@ -10,7 +10,7 @@ returns-then-column-columns g c =
     let look = c.in-Some.ensures.lookup in
     let here : slice_get c.deref.result.now c.args.row ≡ Some c.in-Some.base.now
     = slice_get_read c.deref.result.now (length c.deref.result.now) c.args.row c.in-Some.base.now refl
-        look.3.0 look.1 in
+    look.3.0 look.1 in
     let at : slice_get bases c.args.row ≡ Some c.in-Some.base.now
     = ap (λ v. slice_get v c.args.row) (sym c.deref.ensures.value) ∙ here in
     let gap = c.in-Some-checked_sub.ensures in (
@@ -34,7 +34,7 @@ returns-in-None g c =
     let look = c.in-Some.ensures.lookup in
     let here : slice_get c.deref.result.now c.args.row ≡ Some c.in-Some.base.now
     = slice_get_read c.deref.result.now (length c.deref.result.now) c.args.row c.in-Some.base.now refl
-        look.3.0 look.1 in
+    look.3.0 look.1 in
     let at : slice_get c.args.rows.now.bases.items c.args.row ≡ Some c.in-Some.base.now
     = ap (λ v. slice_get v c.args.row) (sym c.deref.ensures.value) ∙ here in (
       λ e. absurd (false≢true e),
@@ -48,7 +48,7 @@ returns-else-column-columns g c =
     let look = c.in-Some.ensures.lookup in
     let here : slice_get c.deref.result.now c.args.row ≡ Some c.in-Some.base.now
     = slice_get_read c.deref.result.now (length c.deref.result.now) c.args.row c.in-Some.base.now refl
-        look.3.0 look.1 in
+    look.3.0 look.1 in
     let at : slice_get c.args.rows.now.bases.items c.args.row ≡ Some c.in-Some.base.now
     = ap (λ v. slice_get v c.args.row) (sym c.deref.ensures.value) ∙ here in
     let gap = c.in-Some-checked_sub.ensures in (

@@ -1,4 +1,4 @@
-use Rattle.std.proofs.Common.{◌≡◌, take, map}
+use Rattle.std.proofs.Common.{◌≡◌, map}
 use Rattle.ly_pack.specs.Values.{rule_from}
 use Rattle.ly_tables.specs.Private.Meaning.{rule_meant}
 use Rattle.ly_tables.specs.Private.RawValues.{rule_raw}

@@ -1,4 +1,4 @@
-use Rattle.std.proofs.Common.{◌≡◌, take, map}
+use Rattle.std.proofs.Common.{◌≡◌, take}
 use Rattle.ly_tables.proofs.rule_meaning.wide_places.Given as goal
 
 -- those so far

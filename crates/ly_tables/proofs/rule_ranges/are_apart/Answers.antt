@@ -1,4 +1,4 @@
-use Rattle.std.proofs.Common.{◌<◌, arith, refl}
+use Rattle.std.proofs.Common.{arith, refl}
 use Rattle.ly_tables.proofs.PlaceLemmas.{all_apart, none_so_far, one_marked}
 use Rattle.ly_tables.proofs.rule_ranges.are_apart.Goals as goal
 

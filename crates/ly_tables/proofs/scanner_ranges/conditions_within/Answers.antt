@@ -1,11 +1,10 @@
-use Rattle.std.proofs.Common.{◌≤◌, arith, length, refl}
+use Rattle.std.proofs.Common.{arith, length, refl}
 use Rattle.std.specs.Int.{w16}
 use Rattle.std.proofs.lemmas.List.{length-map}
 use Rattle.std.proofs.lemmas.List.Elements.{All-map}
 use Rattle.ly_tables.specs.Private.RawValues.{starts_raw}
 use Rattle.ly_tables.specs.RawSections.{IsNoneOr}
 use Rattle.ly_tables.specs.RawSet.{RawStarts}
-use Rattle.ly_tables.specs.declared.raw_tables.RawStarts as code
 use Rattle.ly_tables.proofs.RangeLemmas.{All-unmap}
 use Rattle.ly_tables.proofs.scanner_ranges.conditions_within.Goals as goal
 

@@ -1,7 +1,7 @@
 use Rattle.std.proofs.Common.{refl}
 use Rattle.ly_tables.specs.Private.RawValues.{raw_from}
 use Rattle.ly_tables.specs.RawSections.{rule_section, state_section, action_section, goto_section}
-use Rattle.ly_tables.proofs.SectionOrderLemmas.{first_number, none_before, one_more}
+use Rattle.ly_tables.proofs.SectionOrderLemmas.{first_number, one_more}
 use Rattle.ly_tables.proofs.sections.parser_section_out.Goals as goal
 
 pub returns-then-not-rules_within-clause-some : goal.returns-then-not-rules_within-clause-some

@@ -1,4 +1,4 @@
-use Rattle.std.proofs.Common.{◌≡◌, ◌∙◌, ap, subst, sym}
+use Rattle.std.proofs.Common.{◌∙◌, ap, subst, sym}
 use Rattle.ly_loop.specs.Endless.{IsRefused}
 use Rattle.ly_pack.specs.Machine.{Machine}
 use Rattle.ly_pack.specs.Steady.{IsSteady}
@@ -23,7 +23,7 @@ new-requires-clause-steady c =
     let same = c.new-machine.ensures ∙ machine_same p c.len.result (c.len.ensures ∙ p.terminals.ok.0) in
     let back = c.into_parts-defaults.ensures.same ∙ c.new-machine.ensures in
     let again = set_again p c.into_parts-defaults.result.rules c.into_parts-defaults.result.defaults
-        (ap (λ (m : Machine). m.rules) back) (ap (λ (m : Machine). m.defaults) back) in
+    (ap (λ (m : Machine). m.rules) back) (ap (λ (m : Machine). m.defaults) back) in
     subst (λ (s : TableSet). IsSteady (machine_of s)) (sym again)
     (subst (λ (m : Machine). IsSteady m) same c.in_default.ensures.ok)
 
@@ -33,6 +33,6 @@ returns-clause-steady c =
     let same = c.new-machine.ensures ∙ machine_same p c.len.result (c.len.ensures ∙ p.terminals.ok.0) in
     let back = c.into_parts-defaults.ensures.same ∙ c.new-machine.ensures in
     let again = set_again p c.into_parts-defaults.result.rules c.into_parts-defaults.result.defaults
-        (ap (λ (m : Machine). m.rules) back) (ap (λ (m : Machine). m.defaults) back) in
+    (ap (λ (m : Machine). m.rules) back) (ap (λ (m : Machine). m.defaults) back) in
     subst (λ (s : TableSet). IsSteady (machine_of s)) (sym (c.new.ensures ∙ again))
     (subst (λ (m : Machine). IsSteady m) same c.in_default.ensures.ok)

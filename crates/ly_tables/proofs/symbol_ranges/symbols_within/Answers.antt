@@ -1,4 +1,4 @@
-use Rattle.std.proofs.Common.{◌≤◌, ◌+◌, ℕ, Vec, Global, arith, refl}
+use Rattle.std.proofs.Common.{ℕ, Vec, Global, arith, refl}
 use Rattle.std.proofs.lemmas.List.{length-map}
 use Rattle.ly_tables.proofs.symbol_ranges.symbols_within.Goals as goal
 
