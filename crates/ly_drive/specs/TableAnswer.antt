@@ -52,7 +52,7 @@ pub record ReadsAll (p : ScanPart) (m : Machine) (text : List ℕ) (e : End) : T
 -- What the scanner and the parser say of a text, by what comes first in it. The tables are at fault where a goto is
 -- missing, a body goes past the bottom, they accept without a term, or a cut leaves no byte or more than the match has.
 abbrev pub IsVerdictBy : ScanPart → Machine → List ℕ → Verdict → Type 0
-IsVerdictBy p m text (accepted d) = (before : List (Token ℕ)) × Comes p m text before (end_of text) (fed.done d)
+IsVerdictBy p m text (accepted d) = (r : ReadsAll p m text Clean) × Feeds m (end_of text) r.last (fed.done d)
 IsVerdictBy p m text (refused k t) = (before : List (Token ℕ)) × Comes p m text before t fed.refused
     × (k ≡ length before + 1)
 IsVerdictBy p m text (unmatched byte) = ReadsAll p m text (Stuck byte)

@@ -1,5 +1,5 @@
 -- The names by which the terms of a table set are printed.
-use Rattle.std.specs.Prelude.{ℕ, ◌-◌, List, [], slice_get, option_map, unwrap_or}
+use Rattle.std.specs.Prelude.{ℕ, zero, suc, List, [], slice_get, option_map, unwrap_or}
 use Rattle.ly_base.specs.Shape.{Shape, nil, node, place}
 use Rattle.ly_pack.specs.Machine.{TableRule}
 use Rattle.ly_tables.specs.TableSet.{TableSet}
@@ -15,9 +15,10 @@ constructor_of (node name places) = name
 abbrev pub name_in : List (List ℕ) → ℕ → List ℕ
 name_in terminals t = unwrap_or (slice_get terminals t) []
 
--- the constructor of rule p, which stands one place before its number; nothing where there is none
+-- the constructor of a rule, which stands one place before its number; nothing for rule 0 and where there is none
 abbrev pub constructor_in : List TableRule → ℕ → List ℕ
-constructor_in rules p = unwrap_or (option_map (λ r. constructor_of r.shape) (slice_get rules (p - 1))) []
+constructor_in rules zero = []
+constructor_in rules (suc p) = unwrap_or (option_map (λ r. constructor_of r.shape) (slice_get rules p)) []
 
 -- the printed names of a table set's terminals, and the constructors of its rules
 abbrev pub vocabulary_of : TableSet → Vocabulary

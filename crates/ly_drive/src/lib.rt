@@ -6,6 +6,7 @@ mod names;
 mod outcome;
 mod scan_table;
 mod table_walk;
+mod tables;
 
 pub use fault::DriveFault;
 pub use outcome::Outcome;

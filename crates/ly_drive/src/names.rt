@@ -28,12 +28,15 @@ impl Words for Names<'_> {
 
     fn constructor(&self, rule: RuleNo) -> &[u8] {
         // rule 0 isn't among the rules
-        match self.rules.get((rule.0 as usize).saturating_sub(1)) {
-            Some(TableRule {
-                tree: RuleTree::Build { name, .. },
-                ..
-            }) => name,
-            _ => b"",
+        let Some(place) = (rule.0 as usize).checked_sub(1) else {
+            return b"";
+        };
+        let Some(rule) = self.rules.get(place) else {
+            return b"";
+        };
+        match &rule.tree {
+            RuleTree::Build { name, .. } => name,
+            RuleTree::Nil | RuleTree::Pass(_) => b"",
         }
     }
 }
