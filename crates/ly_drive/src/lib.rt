@@ -2,8 +2,10 @@
 #![tactic(auto)]
 
 mod fault;
+mod lines;
 mod names;
 mod outcome;
+mod running;
 mod scan_table;
 mod table_walk;
 mod tables;

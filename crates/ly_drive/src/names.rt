@@ -3,6 +3,7 @@ use ly_pack::TableRule;
 use ly_tree::Words;
 
 /// The names of a table set: those of terminals, and the constructors of rules.
+#[derive(Clone, Copy)]
 pub(crate) struct Names<'a> {
     /// The printed names of terminals.
     pub(crate) terminals: &'a [Vec<u8>],

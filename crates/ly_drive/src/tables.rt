@@ -1,5 +1,6 @@
 ghost use Rattle.std.specs.Prelude.{◌≡◌, IfOk, map};
 ghost use Rattle.std.specs.Int.{w16};
+ghost use Rattle.ly_drive.specs.Private.Running.{words_in, words_of};
 ghost use Rattle.ly_drive.specs.ScanPart.{scan_part_of};
 ghost use Rattle.ly_tables.specs.Ranges.{version_1, IsWithinRanges};
 ghost use Rattle.ly_tables.specs.TableSet.{machine_of};
@@ -55,7 +56,9 @@ impl Tables {
     }
 
     /// The names by which terms are printed.
-    pub(crate) fn names(&self) -> Names<'_> {
+    pub(crate) fn names(&self) -> Names<'_>
+        ensures { words_of result ≡ words_in self.now }
+    {
         Names {
             terminals: &self.terminals,
             rules: self.machine.rules(),
