@@ -1,3 +1,4 @@
+pub mod AnswerLemmas
 pub mod FeedingLemmas
 pub mod LexingLemmas
 pub mod NameLemmas
