@@ -33,6 +33,10 @@ pub All-at : {A B : Type 0} (P : B → Type 0) (f : A → B) (xs : List A) (i : 
 All-at P f xs i d lt all =
     subst P (get_or-map f xs i d (f d) lt) (all i (f d) (omega (arith, length-map xs f)))
 
+-- what holds of all members of a list that was mapped
+pub All-unmap : {A B : Type 0} (P : B → Type 0) (f : A → B) (xs : List A) → All P (map f xs) → All (λ x. P (f x)) xs
+All-unmap P f xs all = λ k d lt. All-at P f xs k d lt all
+
 -- what holds of one that stands in the list
 pub All-item : {A B : Type 0} (P : B → Type 0) (f : A → B) (xs : List A) (i : ℕ) (x : A) → i < length xs
     → x ≡ get_or xs i x → All P (map f xs) → P (f x)
@@ -56,7 +60,7 @@ shape_written : (n : ℕ) (s : Shape) → n ≤ 255 → IsShapeShort s → IsSha
 shape_written n nil le short for = tt
 shape_written n (place i) le short for = omega (arith, for.1)
 shape_written n (node name places) le short for = (
-  omega (arith, short.1),
+  omega (arith, short.0.1),
   omega (arith, few_places n places for.1 for.2),
   All-weaker (λ i. (1 ≤ i) × (i ≤ n)) (λ i. i < 256) (λ i at. omega (arith, at.1)) places for.1,
 )

@@ -1,2 +1,9 @@
+pub mod Found
+pub mod Meaning
+pub mod Names
+pub mod Parts
+pub mod RawParts
 pub mod RawValues
+pub mod Refused
+pub mod SectionOrder
 pub mod Short

@@ -25,6 +25,10 @@ version_1 = record { symbols = 4095; rules = 8191; conditions = 255; states = 16
 abbrev pub IsNameLong : List ℕ → Type 0
 IsNameLong name = (1 ≤ length name) × (length name ≤ 255)
 
+-- and consists of bytes
+abbrev pub IsName : List ℕ → Type 0
+IsName name = IsNameLong name × All (λ byte. byte < 256) name
+
 -- a returned terminal is one of these, and not the end
 abbrev pub IsEmittedWithin : ℕ → Emitted → Type 0
 IsEmittedWithin terminals (Terminal t) = (1 ≤ t.0) × (t.0 < terminals)
@@ -55,7 +59,7 @@ pub record AreRows {E : Type 0} (states columns : ℕ) (c : Comb E) : Type 0 whe
 
 -- the names and the lengths of a rule fit
 abbrev pub IsShapeShort : Shape → Type 0
-IsShapeShort (node name places) = IsNameLong name
+IsShapeShort (node name places) = IsName name
 IsShapeShort _ = Unit {0}
 
 pub record IsRuleShort (r : TableRule) : Type 0 where
@@ -68,7 +72,7 @@ pub record IsWithinRanges (w : Width) (counts : Counts) (s : TableSet) : Type 0 
   pub terminals : 2 ≤ length s.terminals
   pub nonterminals : 1 ≤ s.nonterminals
   pub symbols : length s.terminals + s.nonterminals + 1 ≤ counts.symbols
-  pub names : All IsNameLong s.terminals
+  pub names : All IsName s.terminals
   pub end : slice_get s.terminals 0 ≡ Some (codes "$end")
   pub undefined : slice_get s.terminals 1 ≡ Some (codes "$undef")
   pub all_literals : length s.literals ≡ 256

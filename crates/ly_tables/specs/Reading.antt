@@ -1,5 +1,5 @@
 -- What bytes are refused for that are no table file, in this order.
-use Rattle.std.specs.Prelude.{◌≡◌, ◌≢◌, ℕ, ◌<◌, List, [], ◌++◌, length, take, codes}
+use Rattle.std.specs.Prelude.{◌≡◌, ◌≢◌, ◌⊎◌, ℕ, ◌<◌, List, [], ◌++◌, length, take, codes}
 use Rattle.std.specs.Int.{Width, w16, to_be_bytes}
 use Rattle.ly_pack.specs.Steady.{IsSteady}
 use Rattle.ly_tables.specs.Ranges.{Counts}
@@ -17,10 +17,14 @@ abbrev pub HasOtherVersion : ℕ → List ℕ → Type 0
 HasOtherVersion version bytes = (other : ℕ) × (rest : List ℕ) × (other < 65536) × (other ≢ version)
     × (bytes ≡ codes "LYTB" ++ to_be_bytes w16 other ++ rest)
 
--- a field is missing: the bytes are a proper beginning of a file of some numbers
+-- the version is missing: behind the first four bytes, or the fewer that there are, stands at most one
+abbrev pub LacksVersion : List ℕ → Type 0
+LacksVersion bytes = (length bytes < 6) × (take 4 bytes ≡ take (length bytes) (codes "LYTB"))
+
+-- a field is missing: the version, or the bytes are a proper beginning of a file of some numbers
 abbrev pub IsTruncated : Width → ℕ → List ℕ → Type 0
-IsTruncated w version bytes = (r : RawSet) × (missing : List ℕ) × IsRawSet w r × (missing ≢ [])
-    × (bytes ++ missing ≡ raw_spelling w version r)
+IsTruncated w version bytes = LacksVersion bytes ⊎ ((r : RawSet) × (missing : List ℕ) × IsRawSet w r × (missing ≢ [])
+    × (bytes ++ missing ≡ raw_spelling w version r))
 
 -- bytes are left behind such a file
 abbrev pub HasTrailing : Width → ℕ → List ℕ → Type 0

@@ -8,7 +8,7 @@ ghost use Rattle.ly_tables.specs.Private.Short.{IsShort, IsSlotShort};
 ghost use Rattle.ly_tables.specs.Spelling.{check_of, comb, next_of, number};
 
 use crate::numbers::{NONE, push_number, push_wide};
-use ly_base::StateNo;
+use ly_base::{RuleNo, StateNo};
 use ly_pack::{Comb, Slot, TableAction};
 use std::alloc::AllocError;
 
@@ -17,6 +17,13 @@ pub(crate) trait Entry: Copy {
     /// Its number.
     ghost code: { Self → ℕ };
 
+    /// What a number means that is one's.
+    ghost meant: { ℕ → Self };
+
+    /// The entry of a number.
+    fn of(number: u32) -> Self
+        ensures { result ≡ meant number };
+
     /// Its number.
     fn number(self) -> u32
         requires { IsShort (code self) }
@@ -24,7 +31,15 @@ pub(crate) trait Entry: Copy {
 }
 
 impl Entry for StateNo {
+    ghost use Rattle.ly_tables.specs.Private.Meaning.{state_meant};
+
     ghost code = { λ s. s.0 };
+
+    ghost meant = { state_meant };
+
+    fn of(number: u32) -> StateNo {
+        StateNo(number)
+    }
 
     fn number(self) -> u32 {
         self.0
@@ -32,17 +47,32 @@ impl Entry for StateNo {
 }
 
 /// What a shift's number has besides that of its state.
-const SHIFT: u32 = 0x8000;
+pub(crate) const SHIFT: u32 = 0x8000;
 
 /// What a reduction's has besides that of its rule.
-const REDUCE: u32 = 0x4000;
+pub(crate) const REDUCE: u32 = 0x4000;
 
 impl Entry for TableAction {
     ghost use Rattle.std.specs.Int.{w16};
     ghost use Rattle.ly_pack.specs.Values.{action_from};
+    ghost use Rattle.ly_tables.specs.Private.Meaning.{action_meant};
     ghost use Rattle.ly_tables.specs.Spelling.{action_number};
 
     ghost code = { λ a. action_number w16 (action_from a) };
+
+    ghost meant = { action_meant };
+
+    fn of(number: u32) -> TableAction {
+        if number >= SHIFT {
+            TableAction::Shift(StateNo(number - SHIFT))
+        } else if number >= REDUCE {
+            TableAction::Reduce(RuleNo(number - REDUCE))
+        } else if number == 0 {
+            TableAction::Error
+        } else {
+            TableAction::Accept
+        }
+    }
 
     fn number(self) -> u32 {
         match self {

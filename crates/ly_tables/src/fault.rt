@@ -2,7 +2,7 @@ ghost use Rattle.std.specs.Prelude.{◌≡◌};
 ghost use Rattle.ly_tables.specs.declared.fault.TableFault.TheVariants as fault;
 
 use ly_base::OutOfMemory;
-use std::alloc::AllocError;
+use std::alloc::{AllocError, AllocFailed};
 use thiserror::Error;
 
 /// Why bytes are no table file that can be driven. The faults are looked for in the order in which they stand here.
@@ -72,6 +72,14 @@ impl From<AllocError> for TableFault {
     ghost from_gives = { λ _ e. e ≡ fault.OutOfMemory };
 
     fn from(_error: AllocError) -> TableFault {
+        TableFault::OutOfMemory
+    }
+}
+
+impl<T: Drop> From<AllocFailed<T>> for TableFault {
+    ghost from_gives = { λ _ e. e ≡ fault.OutOfMemory };
+
+    fn from(_error: AllocFailed<T>) -> TableFault {
         TableFault::OutOfMemory
     }
 }

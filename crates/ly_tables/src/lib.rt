@@ -1,27 +1,53 @@
 //! Table sets, and the bytes of a table file.
 //!
-//! A `TableSet` is all that a driver needs to know of a lex file and a yacc file. Its ranges are kept by its type.
-//! `write_tables` spells it (`TableText`); a set has one spelling.
+//! A `TableSet` is all that a driver needs to know of a lex file and a yacc file. Its type keeps its numbers within their
+//! ranges, and its parser's tables steady. `write_tables` spells it, and `read_tables` reads it back (`TableText`); a set
+//! has one spelling, and bytes that are refused are no set's. A file is read in three steps: its fields, as numbers
+//! (`raw_reading`); whether these are within the ranges of their sections (`sections`); and what they mean (`conversion`).
 //!
-//! Left out: reading a table file.
+//! Left out: any version but the first.
 #![tactic(auto)]
 
+mod comb_fields;
 mod combs;
+mod conversion;
+mod counts;
 mod fault;
+mod field;
+mod fields;
+mod laid_rows;
 mod laws;
 mod numbers;
+mod parser_fields;
 mod parser_part;
+mod parser_sections;
+mod plain_fields;
+mod raw_reading;
 mod raw_tables;
+mod reading;
+mod row_meaning;
+mod row_ranges;
+mod rule_meaning;
+mod rule_ranges;
 mod scan_rule;
+mod scanner_fields;
+mod scanner_meaning;
 mod scanner_part;
+mod scanner_ranges;
+mod scanner_sections;
+mod sections;
 mod starts;
+mod steadiness;
 mod symbol_part;
+mod symbol_ranges;
+mod symbol_sections;
 mod table_parts;
 mod table_set;
 mod writing;
 
 pub use fault::TableFault;
-pub use laws::a_set_has_one_spelling;
+pub use laws::{a_set_has_one_spelling, a_set_is_spelled_by_numbers, raw_files_are_told_apart};
+pub use reading::read_tables;
 pub use scan_rule::ScanRule;
 pub use starts::Starts;
 pub use table_parts::TableParts;

@@ -1,6 +1,8 @@
 ghost use Rattle.std.specs.Prelude.{◌≡◌};
 ghost use Rattle.std.specs.Int.{w16};
+ghost use Rattle.ly_pack.specs.Steady.{IsSteady};
 ghost use Rattle.ly_tables.specs.Ranges.{version_1, IsWithinRanges};
+ghost use Rattle.ly_tables.specs.TableSet.{machine_of};
 ghost use Rattle.ly_tables.specs.Values.{set_of};
 
 use crate::scan_rule::ScanRule;
@@ -10,7 +12,8 @@ use ly_base::{RuleNo, StateNo, Sym};
 use ly_pack::{Comb, TableAction, TableRule};
 use std::marker::Model;
 
-/// What a driver needs to know of a lex file and a yacc file.
+/// What a driver needs to know of a lex file and a yacc file. Its numbers are within their ranges, and each run of its
+/// parser's tables ends.
 #[derive(Drop)]
 pub struct TableSet {
     /// The printed names of terminals, by their numbers.
@@ -42,25 +45,24 @@ pub struct TableSet {
 }
 
 impl Model for TableSet {
-    ghost use Rattle.std.specs.Int.{w16};
-    ghost use Rattle.ly_tables.specs.Ranges.{version_1, IsWithinRanges};
     ghost use Rattle.ly_tables.specs.TableSet as value;
-    ghost use Rattle.ly_tables.specs.Values.{set_from};
+    ghost use Rattle.ly_tables.specs.Values.{set_from, IsWithinAndSteady};
 
     ghost Value = { value.TableSet };
 
     ghost view = { λ s. set_from s.terminals.items s.nonterminals s.literals.items s.scan_rules.items s.conditions.items
         s.class_count s.classes.items s.accepted.items s.scan_rows s.rules.items s.defaults.items s.actions s.gotos };
 
-    ghost invariant = { λ s. IsWithinRanges w16 version_1 (set_from s.terminals.items s.nonterminals s.literals.items
+    ghost invariant = { λ s. IsWithinAndSteady (set_from s.terminals.items s.nonterminals s.literals.items
         s.scan_rules.items s.conditions.items s.class_count s.classes.items s.accepted.items s.scan_rows s.rules.items
         s.defaults.items s.actions s.gotos) };
 }
 
 impl TableSet {
-    /// The set of these parts, which are within the ranges.
+    /// The set of these parts, which are within the ranges, and whose parser's tables are steady.
     pub fn new(parts: TableParts) -> TableSet
-        requires { IsWithinRanges w16 version_1 (set_of parts) }
+        requires within { IsWithinRanges w16 version_1 (set_of parts) }
+        requires steady { IsSteady (machine_of (set_of parts)) }
         ensures { result ≡ set_of parts }
     {
         TableSet {
@@ -77,6 +79,29 @@ impl TableSet {
             defaults: parts.defaults,
             actions: parts.actions,
             gotos: parts.gotos,
+        }
+    }
+
+    /// The parts of the set.
+    pub fn into_parts(self) -> TableParts
+        ensures same { set_of result ≡ self }
+        ensures within { IsWithinRanges w16 version_1 self }
+        ensures steady { IsSteady (machine_of self) }
+    {
+        TableParts {
+            terminals: self.terminals,
+            nonterminals: self.nonterminals,
+            literals: self.literals,
+            scan_rules: self.scan_rules,
+            conditions: self.conditions,
+            class_count: self.class_count,
+            classes: self.classes,
+            accepted: self.accepted,
+            scan_rows: self.scan_rows,
+            rules: self.rules,
+            defaults: self.defaults,
+            actions: self.actions,
+            gotos: self.gotos,
         }
     }
 }

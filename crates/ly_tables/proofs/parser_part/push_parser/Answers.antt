@@ -15,18 +15,18 @@ use Rattle.ly_tables.proofs.parser_part.push_parser.Goals as goal
 
 pub push_rules-requires-clause-short : goal.push_rules-requires-clause-short
 push_rules-requires-clause-short c = subst (λ (rules : List code.TableRule). All IsRuleWritten (map rule_from rules))
-    (sym c.deref.ensures.value) (rules_written _ c.set.invariant)
+    (sym c.deref.ensures.value) (rules_written _ c.set.invariant.0)
 
 pub push_defaults-requires-clause-short : goal.push_defaults-requires-clause-short
 push_defaults-requires-clause-short c = subst (λ (defaults : List (Option RuleNo)).
     All IsShortOption (map (option_map (λ p. p.0)) defaults)) (sym c.deref-2.ensures.value)
-    (defaults_short _ c.set.invariant)
+    (defaults_short _ c.set.invariant.0)
 
 pub push_comb-requires-clause-slots : goal.push_comb-requires-clause-slots
-push_comb-requires-clause-slots c = actions_short _ c.set.invariant
+push_comb-requires-clause-slots c = actions_short _ c.set.invariant.0
 
 pub push_comb-requires-2-clause-slots : goal.push_comb-requires-2-clause-slots
-push_comb-requires-2-clause-slots c = gotos_short _ c.set.invariant
+push_comb-requires-2-clause-slots c = gotos_short _ c.set.invariant.0
 
 pub returns : goal.returns
 returns c =

@@ -1,0 +1,79 @@
+-- The entries of rows, taken apart.
+use Rattle.std.proofs.Common.{◌≡◌, ◌∙◌, ◌<◌, ◌≤◌, ◌+◌, ◌⊎◌, inl, inr, ℕ, List, Option, Some, None, true, false}
+use Rattle.std.proofs.Common.{slice_index, refl, sym, ap, arith, slice_get, nat_eq, nat_lt, lt-ltb, subst}
+use Rattle.std.specs.Int.{w16}
+use Rattle.std.specs.Prelude.{length, option_and_then, option_map}
+use Rattle.std.proofs.lemmas.Bool.{cases_eq, cases_lt, eq-eqb, le-ltb, ne_eqb}
+use Rattle.std.proofs.lemmas.Option.{none-some, same_Some}
+use Rattle.ly_pack.specs.Rows.{Comb, Entries, Used, cell, comb_entry, given_to, grid_of}
+use Rattle.ly_pack.proofs.GridLemmas.{cell-grid_of, cell-grid_of_past}
+use Rattle.ly_tables.specs.Private.Meaning.{comb_meant}
+use Rattle.ly_tables.specs.RawSections.{AreRowsWithin}
+use Rattle.ly_tables.specs.RawSet.{RawComb}
+use Rattle.ly_tables.proofs.SlotLemmas.{used_within}
+
+pub option_map_some : {A B : Type 0} (f : A → B) (o : Option A) (b : B) → option_map f o ≡ Some b
+    → (a : A) × (o ≡ Some a) × (f a ≡ b)
+option_map_some f None b is = absurd (none-some b is)
+option_map_some f (Some a) b is = (a, refl, same_Some (f a) b is)
+
+-- an entry of rows that are written out stands in a row and a column that are there
+pub cell_at : {E : Type 0} (rows width : ℕ) (f : Entries E) (r c : ℕ) (e : E) → cell (grid_of rows width f) r c ≡ Some e
+    → (r < rows) × (c < width) × (f r c ≡ Some e)
+cell_at {E} rows width f r c e is = by_row (cases_lt r rows) (cases_lt c width)
+  where
+    past : (rows ≤ r) ⊎ (width ≤ c) → ⊥
+    past out = none-some e (sym (cell-grid_of_past rows width f r c out) ∙ is)
+
+    by_row : (r < rows) ⊎ (rows ≤ r) → (c < width) ⊎ (width ≤ c) → (r < rows) × (c < width) × (f r c ≡ Some e)
+    by_row (inl row) (inl column) = (row, column, sym (cell-grid_of rows width f r c row column) ∙ is)
+    by_row (inr out) column = absurd (past (inl out))
+    by_row (inl row) (inr out) = absurd (past (inr out))
+
+-- what a slot gives to a row
+given_used : {E : Type 0} (row : ℕ) (u : Used E) (e : E) → given_to row u ≡ Some e → (u.row ≡ row) × (u.entry ≡ e)
+given_used row u e is = elim (cases_eq u.row row) [
+  | inl same ↦ let h : nat_eq u.row row ≡ true = eq-eqb u.row row same in (same, same_Some u.entry e (rw h at is))
+  | inr other ↦ let h : nat_eq u.row row ≡ false = ne_eqb u.row row other in absurd (none-some e (rw h at is))
+]
+
+-- an entry of rows laid over one another stands in a slot that its row uses
+pub comb_entry_used : {E : Type 0} (c : Comb E) (row column : ℕ) (e : E) → comb_entry c row column ≡ Some e
+    → (base : ℕ) × (u : Used E) × (slice_get c.bases row ≡ Some base)
+    × (slice_get c.slots (base + column) ≡ Some (Some u)) × (u.row ≡ row) × (u.entry ≡ e)
+comb_entry_used {E} c row column e is = elim (cases_lt column c.width) [
+  | inl lt ↦ let h : nat_lt column c.width ≡ true = lt-ltb column c.width lt in
+      from_base (slice_get c.bases row) refl (rw h at is)
+  | inr past ↦ let h : nat_lt column c.width ≡ false = le-ltb column c.width past in absurd (none-some e (rw h at is))
+]
+  where
+    from_slot : (base : ℕ) (slot : Option (Option (Used E))) → slice_get c.slots (base + column) ≡ slot
+        → slice_get c.bases row ≡ Some base
+        → option_and_then (λ slot. option_and_then (given_to row) slot) slot ≡ Some e
+        → (base : ℕ) × (u : Used E) × (slice_get c.bases row ≡ Some base)
+        × (slice_get c.slots (base + column) ≡ Some (Some u)) × (u.row ≡ row) × (u.entry ≡ e)
+    from_slot base None at starts is = absurd (none-some e is)
+    from_slot base (Some None) at starts is = absurd (none-some e is)
+    from_slot base (Some (Some u)) at starts is = let g = given_used row u e is in (base, u, starts, at, g.0, g.1)
+
+    from_base : (base : Option ℕ) → slice_get c.bases row ≡ base
+        → option_and_then (λ base. option_and_then (λ slot. option_and_then (given_to row) slot)
+        (slice_get c.slots (base + column))) base ≡ Some e
+        → (base : ℕ) × (u : Used E) × (slice_get c.bases row ≡ Some base)
+        × (slice_get c.slots (base + column) ≡ Some (Some u)) × (u.row ≡ row) × (u.entry ≡ e)
+    from_base None at is = absurd (none-some e is)
+    from_base (Some base) at is = from_slot base (slice_get c.slots (base + column)) refl at is
+
+-- the number of an entry may stand in its column
+pub entry_legal : {E : Type 0} (meant : ℕ → E) (c : RawComb) → length c.rows ≡ length c.entries → (columns : ℕ)
+    (legal : ℕ → ℕ → Type 0) → AreRowsWithin w16 columns legal c → (row column : ℕ) (e : E)
+    → comb_entry (comb_meant meant columns c) row column ≡ Some e → (n : ℕ) × legal column n × (e ≡ meant n)
+entry_legal {E} meant c long columns legal within row column e is =
+    let found = comb_entry_used (comb_meant meant columns c) row column e is in
+    let base = found.0 in
+    let u = found.1 in
+    let used = used_within meant c long columns legal within (base + column) u found.3 in
+    let same : base ≡ used.0 = same_Some base used.0 (sym found.2 ∙ ap (slice_get c.bases) (sym found.4) ∙ used.2) in
+    let there : used.1 ≡ column = omega (arith, used.4, same) in
+    let n = slice_index c.entries (base + column) in
+    (n, subst (λ k. legal k n) there used.5, sym found.5 ∙ used.6)

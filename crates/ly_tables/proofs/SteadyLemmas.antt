@@ -1,0 +1,46 @@
+-- The machine of a table set's parts, and what the check of it says.
+use Rattle.std.proofs.Common.{◌≡◌, ◌∙◌, ◌<◌, ℕ, List, length, map, sym, ap, Vec, Global, Option}
+use Rattle.std.specs.Prelude.{option_map}
+use Rattle.std.proofs.lemmas.List.{length-map}
+use Rattle.ly_base.specs.declared.numbers.RuleNo.{RuleNo}
+use Rattle.ly_loop.specs.Endless.{IsRefused}
+use Rattle.ly_loop.specs.declared.fault.LoopFault.{LoopFault}
+use Rattle.ly_loop.specs.declared.fault.LoopFault.TheVariants.{Endless, OutOfMemory}
+use Rattle.ly_pack.specs.Machine.{Machine}
+use Rattle.ly_pack.specs.Rows.{comb_entry, grid_of}
+use Rattle.ly_pack.specs.Values.{actions_from, gotos_from, machine_from, rule_from}
+use Rattle.ly_pack.specs.declared.rule.TableRule as code
+use Rattle.ly_tables.specs.Private.Refused.{IsUnsteady, refusal_of}
+use Rattle.ly_tables.specs.TableSet.{machine_of}
+use Rattle.ly_tables.specs.Values.{set_of}
+use Rattle.ly_tables.specs.declared.table_parts.TableParts as parts
+
+-- the machine over the parts' rows is that of their set
+pub machine_same : (p : parts.TableParts) (n : ℕ) → n ≡ length p.terminals.items
+    → machine_from n p.nonterminals (comb_entry p.actions) (comb_entry p.gotos) p.defaults.items p.rules.items
+    ≡ machine_of (set_of p)
+machine_same p n same =
+    let terminals = same ∙ sym (length-map p.terminals.items (λ (name : Vec ℕ Global). name.items)) in
+    let states = sym (length-map p.defaults.items (option_map (λ (p : RuleNo). p.0))) in
+    λ i. record {
+      terminals = terminals i;
+      nonterminals = p.nonterminals;
+      actions = grid_of (states i) (terminals i) (actions_from (comb_entry p.actions));
+      defaults = map (option_map (λ p. p.0)) p.defaults.items;
+      gotos = grid_of (states i) p.nonterminals (gotos_from (comb_entry p.gotos));
+      rules = map rule_from p.rules.items;
+    }
+
+-- rules and defaults of the same values make the same set
+pub set_again : (p : parts.TableParts) (rules : Vec code.TableRule Global) (defaults : Vec (Option RuleNo) Global)
+    → map rule_from rules.items ≡ map rule_from p.rules.items
+    → map (option_map (λ (p : RuleNo). p.0)) defaults.items ≡ map (option_map (λ (p : RuleNo). p.0)) p.defaults.items
+    → set_of (record p { rules = rules; defaults = defaults }) ≡ set_of p
+set_again p rules defaults same_rules same_defaults =
+    λ i. record (set_of p) { rules = same_rules i; defaults = same_defaults i }
+
+-- a machine that the check refuses isn't steady
+pub unsteady : (m : Machine) (f : LoopFault) → IsRefused m f → IsUnsteady m (refusal_of f)
+unsteady m (Endless below top token) first =
+    λ steady. first.endless (steady below.0 top.0 token.0 first.known first.edge)
+unsteady m OutOfMemory first = tt

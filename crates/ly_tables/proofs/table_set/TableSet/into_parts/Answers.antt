@@ -1,0 +1,7 @@
+use Rattle.std.proofs.Common.{subst}
+use Rattle.ly_pack.specs.Steady.{IsSteady}
+use Rattle.ly_tables.specs.TableSet.{TableSet, machine_of}
+use Rattle.ly_tables.proofs.table_set.TableSet.into_parts.Goals as goal
+
+pub returns-clause-steady : goal.returns-clause-steady
+returns-clause-steady c = subst (λ (s : TableSet). IsSteady (machine_of s)) c.self.view_is c.self.invariant.1

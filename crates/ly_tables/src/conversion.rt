@@ -1,0 +1,54 @@
+//! From the numbers of a table file to the parts of a table set.
+ghost use Rattle.std.specs.Prelude.{◌≡◌, IfOk};
+ghost use Rattle.std.specs.Int.{w16};
+ghost use Rattle.ly_tables.specs.Private.Meaning.{set_meant};
+ghost use Rattle.ly_tables.specs.Private.RawValues.{raw_from};
+ghost use Rattle.ly_tables.specs.Ranges.{version_1, IsWithinRanges};
+ghost use Rattle.ly_tables.specs.RawOf.{raw_of};
+ghost use Rattle.ly_tables.specs.RawSections.{AreSectionsWithin};
+ghost use Rattle.ly_tables.specs.RawSet.{IsRawSet};
+ghost use Rattle.ly_tables.specs.Values.{set_of};
+
+use crate::raw_tables::RawTables;
+use crate::row_meaning::comb;
+use crate::rule_meaning::table_rules;
+use crate::scanner_meaning::{accepted, conditions, defaults, literals, scan_rules};
+use crate::table_parts::TableParts;
+use ly_base::OutOfMemory;
+use std::alloc::{AllocError, Global};
+
+/// The parts that numbers mean which are within their ranges. It fails where memory runs out.
+pub(crate) fn table_parts(alloc: Global, raw: RawTables) -> Result<TableParts, OutOfMemory>
+    requires fits { IsRawSet w16 (raw_from raw) }
+    requires within { AreSectionsWithin w16 version_1 (raw_from raw) }
+    ensures same { IfOk result (λ parts. raw_of w16 (set_of parts) ≡ raw_from raw) }
+    ensures within { IfOk result (λ parts. IsWithinRanges w16 version_1 (set_of parts)) }
+{
+    Ok(parts_meant(alloc, raw)?)
+}
+
+/// The parts that numbers mean.
+fn parts_meant(alloc: Global, raw: RawTables) -> Result<TableParts, AllocError>
+    requires fits { IsRawSet w16 (raw_from raw) }
+    requires within { AreSectionsWithin w16 version_1 (raw_from raw) }
+    ensures { IfOk result (λ parts. set_of parts ≡ set_meant (raw_from raw)) }
+{
+    let terminals = raw.terminals.len();
+    let nonterminals = raw.nonterminals as usize;
+    let class_count = raw.class_count as usize;
+    Ok(TableParts {
+        nonterminals,
+        literals: literals(alloc, &raw.literals)?,
+        scan_rules: scan_rules(alloc, &raw.scan_rules)?,
+        conditions: conditions(alloc, &raw.conditions)?,
+        class_count,
+        accepted: accepted(alloc, &raw.accepted)?,
+        scan_rows: comb(alloc, class_count, raw.scan_rows)?,
+        rules: table_rules(alloc, raw.rules)?,
+        defaults: defaults(alloc, &raw.defaults)?,
+        actions: comb(alloc, terminals, raw.actions)?,
+        gotos: comb(alloc, nonterminals, raw.gotos)?,
+        terminals: raw.terminals,
+        classes: raw.classes,
+    })
+}

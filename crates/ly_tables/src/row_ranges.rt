@@ -1,0 +1,150 @@
+//! The ranges of the sections of rows.
+ghost use Rattle.std.specs.Prelude.{◌≡◌, ◌+◌, ◌<◌, ◌≤◌, ◌↔◌, ℕ, IsTrue, Some, length, slice_get, slice_index};
+ghost use Rattle.std.specs.Int.{w16};
+ghost use Rattle.ly_tables.specs.Private.RawValues.{comb_raw, raw_from};
+ghost use Rattle.ly_tables.specs.RawSections.{AreRowsWithin, IsActionWithin, IsSlotWithin};
+
+use crate::combs::{REDUCE, SHIFT};
+use crate::counts::{are_at_most, is_count_within};
+use crate::numbers::NONE;
+use crate::raw_tables::{RawComb, RawTables};
+
+/// What the entries of rows may be.
+trait Legal {
+    /// The entry may stand in the column.
+    ghost IsLegal: { Self → ℕ → ℕ → Type 0 };
+
+    /// Whether the entry may stand in the column.
+    fn is_legal(&self, column: usize, entry: u32) -> bool
+        ensures { IsTrue result ↔ IsLegal self.now column entry };
+}
+
+/// Entries are states, of which there are so many.
+#[derive(Clone, Copy)]
+struct States(usize);
+
+impl Legal for States {
+    ghost IsLegal = { λ states column entry. entry < states.0 };
+
+    fn is_legal(&self, column: usize, entry: u32) -> bool {
+        (entry as usize) < self.0
+    }
+}
+
+/// Entries are actions of these tables.
+#[derive(Clone, Copy)]
+struct Actions<'a>(&'a RawTables);
+
+impl<'a> Legal for Actions<'a> {
+    ghost IsLegal = { λ actions column entry. IsActionWithin w16 (raw_from actions.0.now) column entry };
+
+    fn is_legal(&self, column: usize, entry: u32) -> bool {
+        entry == 0
+            || entry == 1 && column == 0
+            || is_shift(entry, column, self.0.defaults.len())
+            || is_reduction(entry, self.0.rules.len())
+    }
+}
+
+/// Whether a number is a shift's, where it may stand, to a state that is there.
+fn is_shift(entry: u32, column: usize, states: usize) -> bool
+    ensures { IsTrue result ↔ ((s : ℕ) × (entry ≡ 32768 + s) × (s < states) × (1 ≤ column)) }
+{
+    match entry.checked_sub(SHIFT) {
+        Some(state) => (state as usize) < states && 1 <= column,
+        None => false,
+    }
+}
+
+/// Whether a number is a reduction's, by a rule that is there.
+fn is_reduction(entry: u32, rules: usize) -> bool
+    ensures { IsTrue result ↔ ((p : ℕ) × (entry ≡ 16384 + p) × (1 ≤ p) × (p ≤ rules)) }
+{
+    match entry.checked_sub(REDUCE) {
+        Some(rule) => is_count_within(rule as usize, rules),
+        None => false,
+    }
+}
+
+/// Whether the scanner's rows are within their ranges.
+pub(crate) fn scan_rows_within(raw: &RawTables) -> bool
+    requires { length raw.now.scan_rows.rows.items ≡ length raw.now.scan_rows.entries.items }
+    ensures { IsTrue result ↔ AreRowsWithin w16 raw.now.class_count (λ column s. s < length raw.now.accepted.items)
+        (comb_raw raw.now.scan_rows) }
+{
+    are_rows_within(&raw.scan_rows, raw.class_count as usize, &States(raw.accepted.len()))
+}
+
+/// Whether the actions are within their ranges.
+pub(crate) fn actions_within(raw: &RawTables) -> bool
+    requires { length raw.now.actions.rows.items ≡ length raw.now.actions.entries.items }
+    ensures { IsTrue result ↔ AreRowsWithin w16 (length (raw_from raw.now).terminals) (IsActionWithin w16
+        (raw_from raw.now)) (comb_raw raw.now.actions) }
+{
+    are_rows_within(&raw.actions, raw.terminals.len(), &Actions(raw))
+}
+
+/// Whether the gotos are within their ranges.
+pub(crate) fn gotos_within(raw: &RawTables) -> bool
+    requires { length raw.now.gotos.rows.items ≡ length raw.now.gotos.entries.items }
+    ensures { IsTrue result ↔ AreRowsWithin w16 raw.now.nonterminals (λ column s. s < length raw.now.defaults.items)
+        (comb_raw raw.now.gotos) }
+{
+    are_rows_within(&raw.gotos, raw.nonterminals as usize, &States(raw.defaults.len()))
+}
+
+/// Whether rows of so many columns are within their ranges.
+fn are_rows_within<L: Legal>(rows: &RawComb, columns: usize, legal: &L) -> bool
+    requires { length rows.now.rows.items ≡ length rows.now.entries.items }
+    ensures { IsTrue result ↔ AreRowsWithin w16 columns (L.IsLegal legal.now) (comb_raw rows.now) }
+{
+    are_at_most(&rows.bases, rows.entries.len()) && are_slots_within(rows, columns, legal)
+}
+
+/// Whether each slot lies in its row, with an entry that may stand there, or is free.
+fn are_slots_within<L: Legal>(rows: &RawComb, columns: usize, legal: &L) -> bool
+    requires { length rows.now.rows.items ≡ length rows.now.entries.items }
+    ensures { IsTrue result ↔ ((slot : ℕ) → slot < length rows.now.entries.items
+        → IsSlotWithin w16 columns (L.IsLegal legal.now) (comb_raw rows.now) slot
+        (slice_index rows.now.entries.items slot) (slice_index rows.now.rows.items slot)) }
+{
+    for slot in 0..rows.entries.len() {
+        if !is_slot_within(rows, columns, legal, slot) {
+            return false;
+        }
+    }
+    true
+}
+
+/// Whether a slot lies in its row, with an entry that may stand there, or is free.
+fn is_slot_within<L: Legal>(rows: &RawComb, columns: usize, legal: &L, slot: usize) -> bool
+    requires count { length rows.now.rows.items ≡ length rows.now.entries.items }
+    requires slot { slot < length rows.now.entries.items }
+    ensures { IsTrue result ↔ IsSlotWithin w16 columns (L.IsLegal legal.now) (comb_raw rows.now) slot
+        (slice_index rows.now.entries.items slot) (slice_index rows.now.rows.items slot) }
+{
+    let (entry, row) = (rows.entries[slot], rows.rows[slot]);
+    let is_free = row == NONE as u32 && entry == 0;
+    is_free || is_in_row(rows, columns, legal, slot, entry, row)
+}
+
+/// Whether a slot lies in a row that is there, with an entry that may stand there.
+fn is_in_row<L: Legal>(
+    rows: &RawComb,
+    columns: usize,
+    legal: &L,
+    slot: usize,
+    entry: u32,
+    row: u32,
+) -> bool
+    ensures { IsTrue result ↔ ((base column : ℕ) × (slice_get rows.now.bases.items row ≡ Some base)
+        × (column < columns) × (slot ≡ base + column) × L.IsLegal legal.now column entry) }
+{
+    let Some(base) = rows.bases.get(row as usize) else {
+        return false;
+    };
+    match slot.checked_sub(*base as usize) {
+        Some(column) => column < columns && legal.is_legal(column, entry),
+        None => false,
+    }
+}

@@ -1,0 +1,55 @@
+//! Reads the sections of the scanner.
+ghost use Rattle.std.specs.Prelude.{◌≡◌, ◌++◌, IfOk, IfErr};
+ghost use Rattle.std.specs.Int.{w16};
+ghost use Rattle.ly_tables.specs.Private.Parts.{IsCut, Stops};
+ghost use Rattle.ly_tables.specs.Private.RawParts.{DoesScannerFit, IsScannerText, scanner_raw};
+ghost use Rattle.ly_tables.specs.RawSet.{raw_scanner_sections};
+
+use crate::comb_fields::comb;
+use crate::fault::TableFault;
+use crate::field::counted;
+use crate::fields::{bytes, short};
+use crate::plain_fields::Short;
+use crate::raw_tables::{RawComb, RawScanRule, RawStarts};
+use std::alloc::Global;
+
+/// The sections of the scanner, as numbers.
+#[derive(Drop)]
+pub(crate) struct RawScanner {
+    /// The rules.
+    pub(crate) scan_rules: Vec<RawScanRule>,
+    /// Where the conditions begin.
+    pub(crate) conditions: Vec<RawStarts>,
+    /// How many classes of bytes there are.
+    pub(crate) class_count: u32,
+    /// The class of each byte.
+    pub(crate) classes: Vec<u8>,
+    /// The rules of states.
+    pub(crate) accepted: Vec<u32>,
+    /// The rows of states.
+    pub(crate) rows: RawComb,
+}
+
+/// The sections of the scanner, and what is left behind them.
+pub(crate) fn scanner(alloc: Global, left: &[u8]) -> Result<(RawScanner, &[u8]), TableFault>
+    ensures fits { IfOk result (λ r. DoesScannerFit (scanner_raw r.0)) }
+    ensures ok { IfOk result (λ r. left.now ≡ raw_scanner_sections w16 (scanner_raw r.0) ++ r.1.now) }
+    ensures cut { IfErr result (Stops (IsCut IsScannerText left.now)) }
+{
+    let (scan_rules, left) = counted::<RawScanRule>(alloc, left)?;
+    let (conditions, left) = counted::<RawStarts>(alloc, left)?;
+    let (class_count, left) = short(left)?;
+    let (class_bytes, left) = bytes(left, 256)?;
+    let (accepted, left) = counted::<Short>(alloc, left)?;
+    let (rows, left) = comb(alloc, left, accepted.len())?;
+    let classes = Vec::from_slice(alloc, class_bytes)?;
+    let scanner = RawScanner {
+        scan_rules,
+        conditions,
+        class_count,
+        classes,
+        accepted,
+        rows,
+    };
+    Ok((scanner, left))
+}

@@ -1,0 +1,53 @@
+//! From the parts of a table set to the set.
+ghost use Rattle.std.specs.Prelude.{◌≡◌, ◌⊎◌, IfErr, IfOk};
+ghost use Rattle.std.specs.Int.{w16};
+ghost use Rattle.ly_pack.specs.Steady.{IsSteady};
+ghost use Rattle.ly_tables.specs.Private.Refused.{refusal_of, IsUnsteady};
+ghost use Rattle.ly_tables.specs.Ranges.{version_1, IsWithinRanges};
+ghost use Rattle.ly_tables.specs.TableSet.{machine_of};
+ghost use Rattle.ly_tables.specs.Values.{set_of};
+
+use crate::fault::TableFault;
+use crate::laid_rows::LaidRows;
+use crate::table_parts::TableParts;
+use crate::table_set::TableSet;
+use ly_loop::{LoopFault, steady};
+use ly_pack::{Machine, MachineParts};
+use std::alloc::Global;
+
+/// The set of parts that are within the ranges, if their parser's tables are steady.
+pub(crate) fn steady_set(alloc: Global, parts: TableParts) -> Result<TableSet, TableFault>
+    requires { IsWithinRanges w16 version_1 (set_of parts) }
+    ensures same { IfOk result (λ s. s ≡ set_of parts) }
+    ensures steady { IfOk result (λ s. IsSteady (machine_of s)) }
+    ensures refused { IfErr result (IsUnsteady (machine_of (set_of parts))) }
+{
+    let (rules, defaults) = (parts.rules, parts.defaults);
+    let machine = Machine::new(MachineParts {
+        terminals: parts.terminals.len(),
+        nonterminals: parts.nonterminals,
+        actions: LaidRows(&parts.actions),
+        gotos: LaidRows(&parts.gotos),
+        defaults,
+        rules,
+    });
+    if let Err(fault) = steady(alloc, &machine) {
+        return Err(refusal(fault));
+    }
+    let MachineParts { defaults, rules, .. } = machine.into_parts();
+    Ok(TableSet::new(TableParts {
+        rules,
+        defaults,
+        ..parts
+    }))
+}
+
+/// What a fault of the check is called here.
+fn refusal(fault: LoopFault) -> TableFault
+    ensures { result ≡ refusal_of fault }
+{
+    match fault {
+        LoopFault::Endless { .. } => TableFault::Endless,
+        LoopFault::OutOfMemory => TableFault::OutOfMemory,
+    }
+}

@@ -1,0 +1,85 @@
+//! The ranges of the sections of the symbols.
+ghost use Rattle.std.specs.Prelude.{◌≡◌, ◌+◌, ◌<◌, ◌≤◌, ◌↔◌, All, IsTrue, Some, length, map, slice_get};
+ghost use Rattle.std.specs.Int.{w16};
+ghost use Rattle.ly_tables.specs.Private.Names.{AreNamesWithin, BeginWithSpecials};
+ghost use Rattle.ly_tables.specs.Private.RawValues.{raw_from};
+ghost use Rattle.ly_tables.specs.Ranges.{version_1, IsNameLong};
+ghost use Rattle.ly_tables.specs.RawSections.{AreSymbolsWithin, IsToken};
+
+use crate::counts::{MOST_SYMBOLS, is_count_within};
+use crate::raw_tables::RawTables;
+
+/// The greatest length of a name.
+const LONGEST_NAME: usize = 255;
+
+/// Whether the symbols are within their ranges.
+pub(crate) fn symbols_within(raw: &RawTables) -> bool
+    ensures { IsTrue result ↔ AreSymbolsWithin version_1 (raw_from raw.now) }
+{
+    are_counts_within(raw.terminals.len(), raw.nonterminals as usize)
+        && are_names_within(&raw.terminals)
+}
+
+/// Whether there may be so many terminals and nonterminals.
+fn are_counts_within(terminals: usize, nonterminals: usize) -> bool
+    ensures { IsTrue result ↔ (2 ≤ terminals) × (1 ≤ nonterminals) × (terminals + nonterminals + 1 ≤ 4095) }
+{
+    2 <= terminals
+        && 1 <= nonterminals
+        && nonterminals < MOST_SYMBOLS
+        && terminals < MOST_SYMBOLS - nonterminals
+}
+
+/// Whether names have lengths that are allowed, and the first two are those of the end and of no token.
+fn are_names_within(names: &[Vec<u8>]) -> bool
+    requires { 2 ≤ length names.now }
+    ensures { IsTrue result ↔ AreNamesWithin (map (λ name. name.items) names.now) }
+{
+    are_names_long(names) && begin_with_specials(names)
+}
+
+/// Whether the first two names are those of the end and of no token.
+fn begin_with_specials(names: &[Vec<u8>]) -> bool
+    requires { 2 ≤ length names.now }
+    ensures { IsTrue result ↔ BeginWithSpecials (map (λ name. name.items) names.now) }
+{
+    is_named(names, 0, b"$end") && is_named(names, 1, b"$undef")
+}
+
+/// Whether each name has a length that is allowed.
+fn are_names_long(names: &[Vec<u8>]) -> bool
+    ensures { IsTrue result ↔ All (λ name. IsNameLong name.items) names.now }
+{
+    names.iter().all(|name| is_name_long(name))
+}
+
+/// Whether a name has one byte or more, and not too many.
+pub(crate) fn is_name_long(name: &[u8]) -> bool
+    ensures { IsTrue result ↔ IsNameLong name.now }
+{
+    is_count_within(name.len(), LONGEST_NAME)
+}
+
+/// Whether a name is the one of this number.
+fn is_named(names: &[Vec<u8>], number: usize, name: &[u8]) -> bool
+    requires { number < length names.now }
+    ensures { IsTrue result ↔ (slice_get (map (λ name. name.items) names.now) number ≡ Some name.now) }
+{
+    names[number].as_slice() == name
+}
+
+/// Whether the terminal of each byte is there, and not the end.
+pub(crate) fn literals_within(raw: &RawTables) -> bool
+    ensures { IsTrue result ↔ All (IsToken (raw_from raw.now)) (raw_from raw.now).literals }
+{
+    raw.literals
+        .iter()
+        .all(|literal| is_token(*literal, raw.terminals.len()))
+}
+
+/// Whether a number is that of a terminal, and not the end.
+pub(crate) fn is_token(number: u32, terminals: usize) -> bool
+    ensures { IsTrue result ↔ (1 ≤ number) × (number < terminals) }
+{
+    1 <= number && (number as usize) < terminals
+}
