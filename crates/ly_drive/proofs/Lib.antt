@@ -1,4 +1,5 @@
 pub mod AnswerLemmas
+pub mod FaultLemmas
 pub mod FeedingLemmas
 pub mod LexingLemmas
 pub mod NameLemmas
