@@ -33,3 +33,9 @@ IsBeforeWriting _ = Unit {0}
 abbrev pub IsOfFile : DriveFault → Type 0
 IsOfFile (Tables fault) = Unit {0}
 IsOfFile _ = ⊥
+
+-- a fault of a run over a text that is there
+abbrev pub IsOfRun : DriveFault → Type 0
+IsOfRun TableFault = Unit {0}
+IsOfRun OutOfMemory = Unit {0}
+IsOfRun _ = ⊥

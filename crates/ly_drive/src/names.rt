@@ -3,6 +3,7 @@ use ly_pack::TableRule;
 use ly_tree::Words;
 
 /// The names of a table set: those of terminals, and the constructors of rules.
+#[derive(Clone, Copy)]
 pub(crate) struct Names<'a> {
     /// The printed names of terminals.
     pub(crate) terminals: &'a [Vec<u8>],
@@ -31,12 +32,12 @@ impl Words for Names<'_> {
         let Some(place) = (rule.0 as usize).checked_sub(1) else {
             return b"";
         };
-        match self.rules.get(place) {
-            Some(TableRule {
-                tree: RuleTree::Build { name, .. },
-                ..
-            }) => name,
-            _ => b"",
+        let Some(rule) = self.rules.get(place) else {
+            return b"";
+        };
+        match &rule.tree {
+            RuleTree::Build { name, .. } => name,
+            RuleTree::Nil | RuleTree::Pass(_) => b"",
         }
     }
 }

@@ -1,6 +1,6 @@
 ghost use Rattle.std.specs.Prelude.{◌≡◌, ◌<◌, ℕ, length, IfOk, option_map};
 ghost use Rattle.ly_drive.specs.ScanPart.{condition_in, cut_in, next_in, rule_in, start_in, terminal_in};
-ghost use Rattle.ly_pack.specs.Rows.{comb_entry, dense_entry};
+ghost use Rattle.ly_pack.specs.Rows.{comb_entry, dense_entry, IsDense};
 
 use ly_base::{Cut, Emitted, OutOfMemory, RuleNo, StateNo, Sym};
 use ly_pack::{Comb, Dense, Rows};
@@ -105,6 +105,7 @@ pub(crate) fn spread(
     ensures width { IfOk result (λ d. d.width ≡ width) }
     ensures same { IfOk result (λ d. (row column : ℕ) → row < rows → column < width
         → dense_entry d row column ≡ comb_entry comb.now row column) }
+    ensures whole { IfOk result IsDense }
 {
     let mut dense = Dense::new(alloc, rows, width)?;
     for row in 0..rows {
@@ -113,5 +114,7 @@ pub(crate) fn spread(
             dense.set(row, column, comb.entry(row, column));
         }
     }
+    // the call's contract says that the rows have all their cells
+    let _width = dense.width();
     Ok(dense)
 }

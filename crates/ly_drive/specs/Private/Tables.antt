@@ -4,7 +4,7 @@ use Rattle.ly_base.specs.declared.numbers.RuleNo.{RuleNo}
 use Rattle.ly_base.specs.declared.numbers.Sym.{Sym}
 use Rattle.ly_drive.specs.ScanPart.{ScanPart, states_from}
 use Rattle.ly_drive.specs.declared.scan_table.ScanTable.TheInside.{Inside}
-use Rattle.ly_pack.specs.Rows.{dense_entry, grid_of}
+use Rattle.ly_pack.specs.Rows.{dense_entry, grid_of, IsDense}
 use Rattle.ly_tables.specs.Values.{scan_rule_from, starts_from}
 
 abbrev pub part_from : Inside → ScanPart
@@ -17,7 +17,8 @@ part_from t = record {
   rows = grid_of t.rows.rows t.rows.width (states_from (dense_entry t.rows));
 }
 
--- each byte has a class and a literal
+-- Each byte has a class and a literal, and the rows have all their cells.
 pub record IsScanTable (t : Inside) : Type 0 where
   pub classes : length t.classes.items ≡ 256
   pub literals : length t.literals.items ≡ 256
+  pub rows : IsDense t.rows

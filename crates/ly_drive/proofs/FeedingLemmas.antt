@@ -1,0 +1,77 @@
+-- What feeding a token leads to.
+use Rattle.std.proofs.Common.{◌≡◌, ◌∙◌, ℕ, ◌+◌, ◌≤◌, List, [], ◌∷◌, ◌++◌, Option, Some, None, Ok, Err, ap, arith, refl, subst, sym}
+use Rattle.std.specs.Prelude.{false}
+use Rattle.ly_base.specs.Lexed.{Token}
+use Rattle.ly_drive.specs.Private.Running.{IsRefusal}
+use Rattle.ly_drive.specs.Verdict.{syntax_line}
+use Rattle.ly_drive.specs.declared.outcome.Outcome.TheVariants.{Syntax}
+use Rattle.ly_pack.specs.Machine.{Machine, TableAction, TableRule, accept, action_of, error, goto_at, reduce, shift}
+use Rattle.ly_pack.specs.Machine.{IsMachine}
+use Rattle.ly_pack.specs.Steady.{rule_at}
+use Rattle.ly_parse.specs.Feeding.{Feeds, Level, done, go_to, onward, perform, pop, pushed, reduce_by, settled, settles}
+use Rattle.ly_parse.specs.Feeding.{top_of, uncover}
+use Rattle.ly_parse.specs.Parse.{IsCall, Parse}
+use Rattle.ly_parse.specs.Reading.{Reads, at_end}
+use Rattle.ly_parse.specs.Reading as reading
+use Rattle.ly_parse.specs.declared.fault.ParseFault.TheVariants.{Over}
+use Rattle.ly_parse.specs.declared.step.Step.{Step}
+use Rattle.ly_parse.specs.declared.step.Step.TheVariants.{Done, Refused}
+use Rattle.ly_parse.proofs.FeedingLemmas.{legal}
+use Rattle.ly_tree.specs.Forest.{StandsFor}
+use Rattle.ly_tree.specs.Shown.{Vocabulary}
+use Rattle.ly_tree.specs.Term.{Term, Terms, none}
+use Rattle.ly_tree.specs.declared.forest.TermNo.{TermNo}
+
+-- a reduction accepts nothing
+no_reduction : (m : Machine) (p : ℕ) (stack : List Level) (d : Term) (o : Option TableRule)
+    → reduce_by m p stack o ≡ settles (done d) → ⊥
+no_reduction m p stack d None e = cc
+no_reduction m p stack d (Some r) e = by_pop (pop r.body_length stack none) e
+  where
+    by_state : (x : Terms × List Level) (o : Option ℕ) → go_to p r x.0 x.1 o ≡ settles (done d) → ⊥
+    by_state x None e = cc
+    by_state x (Some state) e = cc
+
+    by_pop : (o : Option (Terms × List Level)) → uncover m p r o ≡ settles (done d) → ⊥
+    by_pop None e = cc
+    by_pop (Some x) e = by_state x (goto_at m (top_of x.1) r.left) e
+
+-- the end alone is accepted
+pub accepts_end : {m : Machine} {token : Token ℕ} {stack : List Level} {d : Term} → IsMachine m
+    → Feeds m token stack (done d) → token.terminal ≡ 0
+accepts_end {m} {token} {stack} {d} h (settled e) = by_action (action_of m (top_of stack) token.terminal) refl e
+  where
+    by_action : (a : TableAction) → action_of m (top_of stack) token.terminal ≡ a
+        → perform m token stack a ≡ settles (done d) → token.terminal ≡ 0
+    by_action (shift state) is e = absurd cc
+    by_action (reduce p) is e = absurd (no_reduction m p stack d (rule_at m p) e)
+    by_action accept is e = legal m (top_of stack) token.terminal accept h is
+    by_action error is e = absurd cc
+accepts_end h (onward e fed) = accepts_end h fed
+
+-- no other token is
+pub not_accepted : (s r : Parse) (t : Token ℕ) (root : TermNo) (step : Step) → IsMachine s.machine → s.over ≡ false
+    → 1 ≤ t.terminal → step ≡ Done root → IsCall s t r (Ok step) → ⊥
+not_accepted s r t root step h goes low is call =
+    let fed = (subst (λ x. IsCall s t r (Ok x)) is call).before_end goes in
+    let is_end = accepts_end h fed.1 in
+    omega (arith, low, is_end)
+
+-- what is said of a refused token
+pub refused_told : (v : Vocabulary) (s r : Parse) (t : Token ℕ) (k byte : ℕ) (line : List ℕ) (step : Step)
+    → s.over ≡ false → step ≡ Refused k byte → IsCall s t r (Ok step)
+    → line ≡ syntax_line v k (record { terminal = t.terminal; at = byte; bytes = t.bytes })
+    → IsRefusal v s t (Syntax k byte) line
+refused_told v s r t k byte line step goes is call told =
+    let fed = (subst (λ x. IsCall s t r (Ok x)) is call).before_end goes in (
+      fed.0,
+      ap (λ n. Syntax n byte) fed.1 ∙ ap (λ b. Syntax (s.count + 1) b) fed.2,
+      told ∙ (ap (λ b. syntax_line v k (record { terminal = t.terminal; at = b; bytes = t.bytes })) fed.2
+          ∙ ap (λ n. syntax_line v n t) fed.1),
+    )
+
+-- one token more is read
+pub reads_more : {m : Machine} {a b c : List Level} {ts : List (Token ℕ)} (t : Token ℕ) → Reads m a ts b
+    → Feeds m t b (pushed c) → Reads m a (ts ++ t ∷ []) c
+reads_more t at_end fed = reading.onward fed at_end
+reads_more t (reading.onward first more) fed = reading.onward first (reads_more t more fed)

@@ -1,0 +1,9 @@
+pub mod AnswerLemmas
+pub mod FaultLemmas
+pub mod FeedingLemmas
+pub mod LexingLemmas
+pub mod NameLemmas
+pub mod RunningLemmas
+pub mod ScanTableLemmas
+pub mod TablesLemmas
+pub mod TakingLemmas

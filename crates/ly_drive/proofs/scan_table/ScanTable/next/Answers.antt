@@ -1,0 +1,12 @@
+use Rattle.std.proofs.Common.{◌∙◌, ap, sym}
+use Rattle.std.specs.Prelude.{option_and_then, option_map}
+use Rattle.std.proofs.lemmas.Option.{slice_get-get_or}
+use Rattle.ly_base.specs.declared.numbers.StateNo.{StateNo}
+use Rattle.ly_drive.specs.ScanPart.{next_in}
+use Rattle.ly_drive.proofs.ScanTableLemmas.{next_at}
+use Rattle.ly_drive.proofs.scan_table.ScanTable.next.Goals as goal
+
+pub returns : goal.returns
+returns c = next_at c.self.inside c.args.self.now c.args.state.0 c.args.byte c.from.result c.index.result.now
+    c.from-2.result c.entry.result c.self.invariant c.self.view_is c.ranges.byte.fits c.from.ensures c.index.ensures
+    c.from-2.ensures c.entry.ensures

@@ -1,0 +1,73 @@
+ghost use Rattle.std.specs.Prelude.{◌≡◌, ◌≢◌, [], ◌∷◌, ◌++◌, IfOk, IsSome};
+ghost use Rattle.ly_base.specs.Bytes.{newline};
+ghost use Rattle.ly_base.specs.Text.{no_rule_line};
+ghost use Rattle.ly_drive.specs.Private.Running.{words_of};
+ghost use Rattle.ly_drive.specs.Verdict.{syntax_line};
+ghost use Rattle.ly_tree.specs.Forest.{term_of, StandsFor};
+ghost use Rattle.ly_tree.specs.Shown.{shown, Vocabulary};
+ghost use Rattle.ly_tree.specs.Term.{Term};
+
+use crate::names::Names;
+use ly_base::{OutOfMemory, Terminal, push_leaf, push_no_rule_line};
+use ly_parse::Token;
+use ly_tree::{Forest, TermNo, Words};
+use std::alloc::Global;
+use std::io::Write;
+
+/// The line of a term of a forest.
+pub(crate) fn term_line(
+    alloc: Global,
+    names: &Names<'_>,
+    forest: &Forest,
+    root: TermNo,
+) -> Result<Vec<u8>, OutOfMemory>
+    requires { IsSome (term_of forest.now root) }
+    ensures { IfOk result (λ line. (t : Term) → StandsFor forest.now root t
+        → line.items ≡ shown (words_of names.now) t ++ newline ∷ []) }
+{
+    let mut line = forest.show(alloc, names, root)?;
+    line.push(b'\n')?;
+    Ok(line)
+}
+
+/// The line that says that a token is refused, by its number, which counts from 1.
+pub(crate) fn token_line(
+    alloc: Global,
+    names: &Names<'_>,
+    number: u64,
+    token: &Token<'_>,
+) -> Result<Vec<u8>, OutOfMemory>
+    requires { token.now.terminal.0 ≢ 0 }
+    ensures { IfOk result (λ line. line.items ≡ syntax_line (words_of names.now) number (record {
+      terminal = token.now.terminal.0;
+      at = token.now.at;
+      bytes = token.now.text.now;
+    })) }
+{
+    let mut line = Vec::new(alloc);
+    let byte = token.at;
+    write!(line, "syntax error at token {number}, byte {byte}: ").map_err(|_| OutOfMemory)?;
+    let name = Terminal::Token(names.terminal_name(token.terminal));
+    push_leaf(&mut line, name, token.text)?;
+    line.push(b'\n')?;
+    Ok(line)
+}
+
+/// The line that says that the end is refused, which stands at this byte.
+pub(crate) fn end_line(alloc: Global, number: u64, byte: u64) -> Result<Vec<u8>, OutOfMemory>
+    ensures { IfOk result (λ line. (v : Vocabulary) → line.items
+        ≡ syntax_line v number (record { terminal = 0; at = byte; bytes = [] })) }
+{
+    let mut line = Vec::new(alloc);
+    writeln!(line, "syntax error at end, token {number}, byte {byte}").map_err(|_| OutOfMemory)?;
+    Ok(line)
+}
+
+/// The line that says at which byte no rule matches.
+pub(crate) fn unmatched_line(alloc: Global, byte: u64) -> Result<Vec<u8>, OutOfMemory>
+    ensures { IfOk result (λ line. line.items ≡ no_rule_line byte) }
+{
+    let mut line = Vec::new(alloc);
+    push_no_rule_line(&mut line, byte)?;
+    Ok(line)
+}

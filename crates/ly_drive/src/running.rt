@@ -1,0 +1,197 @@
+ghost use Rattle.std.specs.Prelude.{◌≡◌, ◌<◌, ◌≤◌, ℕ, List, [], length, false, Err, IfErr, IfOk};
+ghost use Rattle.std.specs.Int.{w16};
+ghost use Rattle.ly_base.specs.Lexed.{Place as Spot};
+ghost use Rattle.ly_scan.specs.Lexer.{IsLexemeAt, ScanEndsAt};
+ghost use Rattle.ly_drive.specs.ScanPart.{scanner_in};
+ghost use Rattle.ly_pack.specs.Machine.{IsMachine};
+ghost use Rattle.ly_pack.specs.Steady.{IsSteady};
+ghost use Rattle.ly_tables.specs.Ranges.{version_1, IsWithinRanges};
+ghost use Rattle.ly_tables.specs.TableSet.{machine_of};
+ghost use Rattle.ly_tables.specs.Values.{set_of};
+ghost use Rattle.ly_drive.specs.DriveFault.{IsOfRun};
+ghost use Rattle.ly_drive.specs.Private.Running.{words_of, CanRun, IsFed, IsLast, IsRun, IsTaken, StandsAt};
+ghost use Rattle.ly_drive.specs.TableAnswer.{IsVerdict, TableAnswer};
+ghost use Rattle.ly_drive.specs.Verdict.{faulty};
+ghost use Rattle.ly_tree.specs.Shown.{Vocabulary};
+
+use crate::fault::DriveFault;
+use crate::lines::{end_line, term_line, token_line, unmatched_line};
+use crate::names::Names;
+use crate::outcome::Outcome;
+use crate::table_walk::TableWalk;
+use crate::tables::Tables;
+use ly_base::{End, Lexeme, Place, StateNo};
+use ly_pack::{Comb, TableAction};
+use ly_parse::{ParseFault, Parser, Step, Token};
+use ly_scan::Lexer;
+use ly_tables::TableParts;
+use ly_tree::{Forest, TermNo};
+use std::alloc::Global;
+
+/// How a run over a text ends.
+#[derive(Drop)]
+pub(crate) enum Ended {
+    /// With a term.
+    Accepted(Forest, TermNo),
+    /// Otherwise, and this is the printed answer.
+    Told(Outcome, Vec<u8>),
+}
+
+/// The parser of a table set.
+type TableParser<'a> = Parser<'a, Comb<TableAction>, Comb<StateNo>>;
+
+/// The answer to a text by the tables of these parts: its outcome, and its printed bytes.
+pub(crate) fn answer_to(
+    alloc: Global,
+    parts: TableParts,
+    text: Vec<u8>,
+) -> Result<(Outcome, Vec<u8>), DriveFault>
+    requires within { IsWithinRanges w16 version_1 (set_of parts) }
+    requires steady { IsSteady (machine_of (set_of parts)) }
+    ensures answered { IfOk result (λ a. TableAnswer (set_of parts) text.items a.0 a.1.items) }
+    ensures faulty { result ≡ Err DriveFault.TableFault → IsVerdict (set_of parts) text.items faulty }
+    ensures of_run { IfErr result IsOfRun }
+{
+    let tables = Tables::new(alloc, parts)?;
+    let ended = run(alloc, &tables, &text)?;
+    // the printed tree takes room of its own
+    drop(text);
+    match ended {
+        Ended::Told(outcome, answer) => Ok((outcome, answer)),
+        Ended::Accepted(forest, root) => {
+            let answer = term_line(alloc, &tables.names(), &forest, root)?;
+            Ok((Outcome::Tree, answer))
+        }
+    }
+}
+
+/// Runs scanner and parser over a text, lexeme by lexeme.
+fn run(alloc: Global, tables: &Tables, text: &[u8]) -> Result<Ended, DriveFault>
+    requires { CanRun tables.now.scanner tables.now.machine }
+    ensures { IsRun tables.now text.now result }
+{
+    let mut lexer = Lexer::new(TableWalk::new(&tables.scanner), text);
+    let mut parser = Parser::new(alloc, &tables.machine);
+    loop {
+        let lexeme = match lexer.next_lexeme() {
+            Ok(lexeme) => lexeme,
+            Err(end) => return finish(alloc, tables, parser, end, text.len() as u64),
+        };
+        if let Some((outcome, line)) = take(alloc, tables, &mut parser, &lexer.place, lexeme)? {
+            return Ok(Ended::Told(outcome, line));
+        }
+        let begin = tables.scanner.condition(lexeme.rule);
+        lexer.place.advance(lexeme.taken, begin);
+    }
+}
+
+/// Takes a lexeme at a place: feeds the parser with its token, if it has one. Answers what is said where the token is
+/// refused.
+fn take(
+    alloc: Global,
+    tables: &Tables,
+    parser: &mut TableParser<'_>,
+    place: &Place<'_>,
+    lexeme: Lexeme,
+) -> Result<Option<(Outcome, Vec<u8>)>, DriveFault>
+    requires runs { CanRun tables.now.scanner tables.now.machine }
+    requires machine { parser.old.machine ≡ tables.now.machine }
+    requires goes_on { parser.old.over ≡ false }
+    requires some { 0 < lexeme.taken }
+    requires within { lexeme.taken ≤ length place.now.rest }
+    ensures { (text : List ℕ) → StandsAt tables.now.scanner tables.now.machine text place.now parser.old
+        → IsLexemeAt (scanner_in tables.now.scanner) place.now lexeme
+        → IsTaken tables.now text place.now lexeme parser.new result }
+{
+    let bytes = &place.rest()[..lexeme.taken];
+    let Some(terminal) = tables.scanner.terminal(lexeme.rule, bytes) else {
+        return Ok(None);
+    };
+    let token = Token {
+        terminal,
+        at: place.at() as u64,
+        text: bytes,
+    };
+    feed(alloc, &tables.names(), parser, &token)
+}
+
+/// Feeds a parser with a token of the text, and answers what is said where the token is refused.
+fn feed(
+    alloc: Global,
+    names: &Names<'_>,
+    parser: &mut TableParser<'_>,
+    token: &Token<'_>,
+) -> Result<Option<(Outcome, Vec<u8>)>, DriveFault>
+    requires machine { IsMachine parser.old.machine }
+    requires goes_on { parser.old.over ≡ false }
+    requires not_end { 1 ≤ token.now.terminal.0 }
+    requires terminal { token.now.terminal.0 < parser.old.machine.terminals }
+    ensures { IsFed (words_of names.now) parser.old (record {
+      terminal = token.now.terminal.0;
+      at = token.now.at;
+      bytes = token.now.text.now;
+    }) parser.new result }
+{
+    match parser.feed(token) {
+        Ok(Step::More) => Ok(None),
+        Ok(Step::Refused {
+            token: number,
+            byte,
+        }) => {
+            let line = token_line(alloc, names, number, token)?;
+            let token = number;
+            Ok(Some((Outcome::Syntax { token, byte }, line)))
+        }
+        Err(ParseFault::TableFault) => Err(DriveFault::TableFault),
+        Err(ParseFault::OutOfMemory) => Err(DriveFault::OutOfMemory),
+        // the end alone is accepted
+        Ok(Step::Done(_)) => unreachable!(),
+        Err(ParseFault::Over) => unreachable!(),
+    }
+}
+
+/// What becomes of a text where the scanner's run ends so; it has so many bytes.
+fn finish(
+    alloc: Global,
+    tables: &Tables,
+    parser: TableParser<'_>,
+    end: End,
+    bytes: u64,
+) -> Result<Ended, DriveFault>
+    requires runs { CanRun tables.now.scanner tables.now.machine }
+    requires machine { parser.machine ≡ tables.now.machine }
+    requires goes_on { parser.over ≡ false }
+    ensures { (text : List ℕ) (place : Spot) → bytes ≡ length text
+        → StandsAt tables.now.scanner tables.now.machine text place parser.entry
+        → ScanEndsAt (scanner_in tables.now.scanner) place end → IsRun tables.now text result }
+{
+    match end {
+        End::Clean => close(alloc, parser, bytes),
+        End::Stuck { byte } => {
+            let byte = byte as u64;
+            let line = unmatched_line(alloc, byte)?;
+            Ok(Ended::Told(Outcome::NoRule { byte }, line))
+        }
+        End::BadCut { .. } => Err(DriveFault::TableFault),
+    }
+}
+
+/// Feeds a parser with the end of the text, which stands at this byte.
+fn close(alloc: Global, parser: TableParser<'_>, at: u64) -> Result<Ended, DriveFault>
+    requires goes_on { parser.over ≡ false }
+    requires terminals { 0 < parser.machine.terminals }
+    ensures { (v : Vocabulary) → IsLast v parser.entry (record { terminal = 0; at = at; bytes = [] }) result }
+{
+    let mut parser = parser;
+    match parser.end(at) {
+        Ok(Step::Done(root)) => Ok(Ended::Accepted(parser.into_forest(), root)),
+        Ok(Step::Refused { token, byte }) => {
+            let line = end_line(alloc, token, byte)?;
+            Ok(Ended::Told(Outcome::Syntax { token, byte }, line))
+        }
+        Err(ParseFault::TableFault) => Err(DriveFault::TableFault),
+        Err(ParseFault::OutOfMemory) => Err(DriveFault::OutOfMemory),
+        // the end is never read, and the parse isn't over
+        Ok(Step::More) | Err(ParseFault::Over) => unreachable!(),
+    }
+}
