@@ -1,5 +1,6 @@
 //! The table set of a specification.
 ghost use Rattle.std.specs.Prelude.{◌≡◌, ◌*◌, ◌<◌, ℕ, IfOk, OnOk, length, map};
+ghost use Rattle.std.specs.Int.{w16};
 ghost use Rattle.ly_emit.specs.Private.Listing.{AreLiterals};
 ghost use Rattle.ly_emit.specs.SetOf.{IsSetOf};
 ghost use Rattle.ly_emit.specs.Tables.{IsMachineOf};
@@ -7,6 +8,7 @@ ghost use Rattle.ly_join.specs.Sizes.{HasSizes};
 ghost use Rattle.ly_pack.specs.Machine.{IsMachine};
 ghost use Rattle.ly_pack.specs.Steady.{IsSteady};
 ghost use Rattle.ly_report.specs.Report.{terminal_name};
+ghost use Rattle.ly_tables.specs.Ranges.{version_1, IsWithinRanges};
 ghost use Rattle.ly_tables.specs.TableSet.{machine_of};
 ghost use Rattle.ly_tables.specs.Values.{set_of};
 
@@ -35,7 +37,9 @@ pub fn table_set(
     requires steady { IsSteady machine }
     requires rules { length rules.now ≡ length resolved.now.spec.scanner }
     requires starts { (conditions : ℕ) × (dfa.now.starts ≡ 2 * conditions) }
-    ensures { IfOk result (IsSetOf resolved.now.spec resolved.now.automaton rules.now dfa.now) }
+    ensures set { IfOk result (IsSetOf resolved.now.spec resolved.now.automaton rules.now dfa.now) }
+    ensures within { IfOk result (IsWithinRanges w16 version_1) }
+    ensures ends { IfOk result (λ s. IsSteady (machine_of s)) }
 {
     let parts = table_parts(alloc, resolved, machine, rules, dfa)?;
     if !parts.is_within() {
