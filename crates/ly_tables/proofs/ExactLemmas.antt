@@ -1,6 +1,8 @@
 -- A file has one set, and what is refused is no set's file.
-use Rattle.std.proofs.Common.{◌≡◌, ◌∙◌, ◌++◌, ◌<◌, ◌≤◌, ◌+◌, ◌-◌, inl, inr, ℕ, List, [], ◌∷◌, length, map, refl, sym, ap}
-use Rattle.std.proofs.Common.{subst, arith, All, Option, Some, None, slice_get, nat_eq, nat_lt, lt-ltb, true, false, codes}
+use Rattle.std.proofs.Common.{◌≡◌, ◌∙◌, ◌++◌, ◌<◌, ◌≤◌, ◌+◌, ◌-◌, inl, inr, ℕ, List, []}
+use Rattle.std.proofs.Common.{◌∷◌, length, map, refl, sym, ap}
+use Rattle.std.proofs.Common.{subst, arith, All, Option, Some, None, slice_get, nat_eq}
+use Rattle.std.proofs.Common.{nat_lt, lt-ltb, true, false, codes}
 use Rattle.std.proofs.Common.{append_assoc, take}
 use Rattle.std.specs.Int.{w16, to_be_bytes}
 use Rattle.std.specs.List.{zip}
@@ -91,7 +93,8 @@ action_again (Reduce p) few =
     let same : 16384 + p.0 - 16384 ≡ p.0 = omega arith in rw (e, f) (λ i. Reduce (record { 0 = same i }))
 
 module _ {E : Type 0} (meant : ℕ → E) (number : E → ℕ) where
-  slot_again : (o : Option (Used E)) → ((u : Used E) → o ≡ Some u → (u.row < 65535) × (meant (number u.entry) ≡ u.entry))
+  slot_again : (o : Option (Used E))
+      → ((u : Used E) → o ≡ Some u → (u.row < 65535) × (meant (number u.entry) ≡ u.entry))
       → slot_meant meant (next_of number o) (check_of w16 o) ≡ o
   slot_again None holds = refl
   slot_again (Some u) holds =
@@ -208,7 +211,8 @@ module _ (bytes : List ℕ) (s : TableSet) (text : TableText bytes w16 1 version
   same_raw q fits is = (one_raw q [] [] fits (ap (λ b. b ++ []) is)).0
 
 -- a file has one set
-pub set_is_one : (bytes : List ℕ) (a b : TableSet) → TableText bytes w16 1 version_1 a → TableText bytes w16 1 version_1 b
+pub set_is_one : (bytes : List ℕ) (a b : TableSet) → TableText bytes w16 1 version_1 a
+    → TableText bytes w16 1 version_1 b
     → a ≡ b
 set_is_one bytes a b text other =
     sym (set_again a text.0)

@@ -27,7 +27,8 @@ number_below bound n c within is = elim (cases_eq n 65535) [
       ]
 ]
 
-emitted_within : (k t terminals : ℕ) → (k ≡ 1 → (1 ≤ t) × (t < terminals)) → IsEmittedWithin terminals (emitted_meant k t)
+emitted_within : (k t terminals : ℕ) → (k ≡ 1 → (1 ≤ t) × (t < terminals))
+    → IsEmittedWithin terminals (emitted_meant k t)
 emitted_within zero t terminals token = tt
 emitted_within (suc zero) t terminals token = token refl
 emitted_within (suc (suc k)) t terminals token =

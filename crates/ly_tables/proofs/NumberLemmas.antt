@@ -257,7 +257,8 @@ module _ (s : TableSet) (r : IsWithinRanges w16 version_1 s) where
           kind = emits.0;
           terminal = emits.1;
           no_terminal = emits.2;
-          begin = subst (λ n. IsNoneOr w16 n (number_or_none w16 (get_or s.scan_rules k d).action.begin)) (sym (length-map s.conditions (raw_starts_of w16)))
+          begin = subst (λ n. IsNoneOr w16 n (number_or_none w16 (get_or s.scan_rules k d).action.begin))
+              (sym (length-map s.conditions (raw_starts_of w16)))
               (number_raw _ (length s.conditions) (omega (arith, r.condition_count)) at.begin).0;
           cut = cut.0;
           whole = cut.1;

@@ -1,11 +1,13 @@
 -- The order of sections.
-use Rattle.std.proofs.Common.{◌≡◌, ◌∙◌, ◌<◌, ℕ, suc, nat_eq, if◌then◌else◌, true, false, refl, inl, inr, arith, sym, ap, subst}
+use Rattle.std.proofs.Common.{◌≡◌, ◌∙◌, ◌<◌, ℕ, suc, nat_eq, if◌then◌else◌, true, false, refl}
+use Rattle.std.proofs.Common.{inl, inr, arith, sym, ap, subst}
 use Rattle.std.specs.Int.{w16}
 use Rattle.std.proofs.lemmas.Bool.{cases_eq, false≢true}
 use Rattle.ly_tables.specs.Private.SectionOrder.{AreWithinBefore, IsFirstNumber}
 use Rattle.ly_tables.specs.Ranges.{version_1}
 use Rattle.ly_tables.specs.RawSections.{IsSectionWithin, Section, section_number}
-use Rattle.ly_tables.specs.RawSections.{symbol_section, literal_section, scan_rule_section, condition_section, class_section, scan_state_section}
+use Rattle.ly_tables.specs.RawSections.{symbol_section, literal_section, scan_rule_section, condition_section}
+use Rattle.ly_tables.specs.RawSections.{class_section, scan_state_section}
 use Rattle.ly_tables.specs.RawSections.{scan_row_section, rule_section, state_section, action_section, goto_section}
 use Rattle.ly_tables.specs.RawSet.{RawSet}
 

@@ -178,9 +178,10 @@ module _ (r : RawSet) (fits : IsRawSet w16 r) (within : AreSectionsWithin w16 ve
             (λ k d lt. rule_short r _ (rules.rules k d lt) (fits.rules k d lt));
         state_count = omega (arith, states.count, length-map r.defaults default_meant);
         actions = rows_meant action_meant (length (map default_meant r.defaults)) (length r.terminals)
-            (length r.defaults) (IsActionWithin w16 r) r.actions fits.actions (sym (length-map r.defaults default_meant))
-            action_comb;
+            (length r.defaults) (IsActionWithin w16 r) r.actions fits.actions
+            (sym (length-map r.defaults default_meant)) action_comb;
         gotos = rows_meant state_meant (length (map default_meant r.defaults)) r.nonterminals (length r.defaults)
-            (λ column s. s < length r.defaults) r.gotos fits.gotos (sym (length-map r.defaults default_meant)) goto_comb;
+            (λ column s. s < length r.defaults) r.gotos fits.gotos (sym (length-map r.defaults default_meant))
+            goto_comb;
         machine = machine_meant;
       }

@@ -55,7 +55,8 @@ module _ {E : Type 0} (meant : ℕ → E) (c : RawComb) (long : length c.rows �
       → (k < length c.entries) × (slice_index c.rows k ≢ 65535) × (u.row ≡ slice_index c.rows k)
       × (u.entry ≡ meant (slice_index c.entries k))
   used_at k u is =
-      let lt : k < length c.entries = omega (arith, slice_get_within (slots_meant meant c) k (Some u) is, length-slots) in
+      let lt : k < length c.entries
+      = omega (arith, slice_get_within (slots_meant meant c) k (Some u) is, length-slots) in
       let parts = slot_used meant (slice_index c.entries k) (slice_index c.rows k) u
       (same_Some (slot_meant meant (slice_index c.entries k) (slice_index c.rows k)) (Some u)
       (sym (slot_at k lt) ∙ is)) in
@@ -118,11 +119,13 @@ module _ {E : Type 0} (meant : ℕ → E) (c : RawComb) (long : length c.rows �
           entries_back : map (next_of code) (slots_meant meant c) ≡ c.entries
           entries_back = map_back (λ (p : ℕ × ℕ). slot_meant meant p.0 p.1) (next_of code) (λ (p : ℕ × ℕ). p.0)
               (zip c.entries c.rows) (λ k d lt.
-              at k d lt (λ (p : ℕ × ℕ). next_of code (slot_meant meant p.0 p.1) ≡ p.0) (λ inside. (slot_back k inside).0))
+              at k d lt (λ (p : ℕ × ℕ). next_of code (slot_meant meant p.0 p.1) ≡ p.0)
+              (λ inside. (slot_back k inside).0))
               ∙ firsts-zip c.entries c.rows long
 
           rows_back : map (check_of w16) (slots_meant meant c) ≡ c.rows
           rows_back = map_back (λ (p : ℕ × ℕ). slot_meant meant p.0 p.1) (check_of w16) (λ (p : ℕ × ℕ). p.1)
               (zip c.entries c.rows) (λ k d lt.
-              at k d lt (λ (p : ℕ × ℕ). check_of w16 (slot_meant meant p.0 p.1) ≡ p.1) (λ inside. (slot_back k inside).1))
+              at k d lt (λ (p : ℕ × ℕ). check_of w16 (slot_meant meant p.0 p.1) ≡ p.1)
+              (λ inside. (slot_back k inside).1))
               ∙ seconds-zip c.entries c.rows long

@@ -20,7 +20,8 @@ HasOneSpelling = (a b : List ℕ) (w : Width) (version : ℕ) (counts : Counts) 
 
 -- a set is spelled as its numbers are
 abbrev pub IsSpelledByNumbers : Type 0
-IsSpelledByNumbers = (w : Width) (version : ℕ) (s : TableSet) → spelling w version s ≡ raw_spelling w version (raw_of w s)
+IsSpelledByNumbers = (w : Width) (version : ℕ) (s : TableSet)
+    → spelling w version s ≡ raw_spelling w version (raw_of w s)
 
 -- the numbers of a set that is within the ranges fit their fields, and are within the ranges of their sections
 abbrev pub AreNumbersWithin : Type 0

@@ -4,8 +4,9 @@
 //! their ranges, and its parser's tables steady. `write_tables` spells it, and `read_tables` reads it back
 //! (`TableText`); a set has one spelling, a file has one set, and only want of memory refuses a set's file.
 //!
-//! A file is read in three steps: its fields as numbers, by counts alone (`raw_reading`); whether these are within the
-//! ranges of their sections (`sections`); and what they mean (`conversion`). Then the tables are checked (`steadiness`).
+//! A file is read in four steps: its fields as numbers, by counts alone (`raw_reading`); whether these are within the
+//! ranges of their sections (`sections`); what they mean (`conversion`); and whether the tables are steady
+//! (`steadiness`).
 //!
 //! Left out: any version but the first.
 #![tactic(auto)]

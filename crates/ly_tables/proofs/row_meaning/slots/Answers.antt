@@ -15,7 +15,8 @@ loop-number-preserved g c =
     let k = c.loop-number.number in
     let more = zip_more entries rows k 0 0 c.loop-number-test.true c.requires in
     let slots = c.loop-number.out.items in
-    let grown = ap slots_from c.in_ok-push.ensures.items ∙ map-append (option_map used_from) slots (c.slot.result ∷ []) in
+    let grown = ap slots_from c.in_ok-push.ensures.items
+    ∙ map-append (option_map used_from) slots (c.slot.result ∷ []) in
     let next : suc k ≡ k + 1 = omega arith in
     let before = c.loop-number.invariant in
     let here = c.slot.ensures in

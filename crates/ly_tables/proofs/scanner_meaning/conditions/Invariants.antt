@@ -6,4 +6,5 @@ use Rattle.ly_tables.proofs.scanner_meaning.conditions.Given as goal
 
 -- those so far
 abbrev pub invariant-loop-condition : goal.invariant-loop-condition
-invariant-loop-condition l = map starts_from l.out.items ≡ map starts_meant (map starts_raw (take l.condition-index l.conditions))
+invariant-loop-condition l = map starts_from l.out.items
+    ≡ map starts_meant (map starts_raw (take l.condition-index l.conditions))

@@ -6,4 +6,5 @@ use Rattle.ly_tables.proofs.scanner_meaning.scan_rules.Given as goal
 
 -- those so far
 abbrev pub invariant-loop-rule : goal.invariant-loop-rule
-invariant-loop-rule l = map scan_rule_from l.out.items ≡ map scan_rule_meant (map scan_rule_raw (take l.rule-index l.rules))
+invariant-loop-rule l = map scan_rule_from l.out.items
+    ≡ map scan_rule_meant (map scan_rule_raw (take l.rule-index l.rules))

@@ -13,7 +13,8 @@ returns-then-is_count_within c =
     let conditions = c.args.raw.now.conditions.items in
     let states = length c.args.raw.now.accepted.items in
     let fits = λ (s : RawStarts). IsNoneOr w16 states s.elsewhere × IsNoneOr w16 states s.at_line in
-    let each = rw (c.deref.ensures.value, c.len-then-is_count_within.ensures, c.args.raw.now.accepted.ok.0) at c.are_starts_within.ensures in
+    let each = rw (c.deref.ensures.value, c.len-then-is_count_within.ensures, c.args.raw.now.accepted.ok.0)
+    at c.are_starts_within.ensures in
     let count = c.if-is_count_within.ensures.0 refl in (
       λ e. record {
         some = omega (arith, length-map conditions starts_raw, count.0, c.len.ensures);

@@ -1,6 +1,7 @@
 use Rattle.std.proofs.Common.{refl}
 use Rattle.ly_tables.specs.Private.RawValues.{raw_from}
-use Rattle.ly_tables.specs.RawSections.{symbol_section, literal_section, scan_rule_section, condition_section, class_section, scan_state_section, scan_row_section}
+use Rattle.ly_tables.specs.RawSections.{symbol_section, literal_section, scan_rule_section, condition_section}
+use Rattle.ly_tables.specs.RawSections.{class_section, scan_state_section, scan_row_section}
 use Rattle.ly_tables.proofs.SectionOrderLemmas.{first_number, none_before, one_more}
 use Rattle.ly_tables.proofs.sections.scanner_section_out.Goals as goal
 

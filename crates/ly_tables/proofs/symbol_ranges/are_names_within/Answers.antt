@@ -8,7 +8,10 @@ use Rattle.ly_tables.proofs.symbol_ranges.are_names_within.Goals as goal
 pub returns-then-are_names_long : goal.returns-then-are_names_long
 returns-then-are_names_long c =
     let items = λ (name : Vec ℕ Global). name.items in (
-      λ e. (All-map IsNameLong items c.args.names.now (c.if-are_names_long.ensures.0 refl), c.begin_with_specials.ensures.0 e),
+      λ e. (
+        All-map IsNameLong items c.args.names.now (c.if-are_names_long.ensures.0 refl),
+        c.begin_with_specials.ensures.0 e,
+      ),
       λ r. c.begin_with_specials.ensures.1 r.1,
     )
 

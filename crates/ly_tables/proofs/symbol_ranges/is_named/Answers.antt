@@ -12,7 +12,8 @@ returns c =
     let says = slice_eq-Decides Decides-eqb c.as_slice.result.now c.args.name.now c.eq.result c.eq.ensures in
     let at : slice_get (map items c.args.names.now) c.args.number ≡ Some name.items
     = slice_get-map items c.args.names.now c.args.number ∙ ap (option_map items)
-    (slice_get_read c.args.names.now (length c.args.names.now) c.args.number name refl c.requires c.index-names-number.is) in (
+    (slice_get_read c.args.names.now (length c.args.names.now) c.args.number name refl c.requires
+    c.index-names-number.is) in (
       λ e. at ∙ ap Some (sym c.as_slice.ensures.value ∙ says.0 e),
       λ is. says.1 (c.as_slice.ensures.value ∙ same_Some name.items c.args.name.now (sym at ∙ is)),
     )
