@@ -1,5 +1,5 @@
 -- The tables of a set in memory.
-use Rattle.std.proofs.Common.{◌≡◌, ◌∙◌, ◌<◌, ℕ, map, ap, ap₂, sym, subst, length, slice_get}
+use Rattle.std.proofs.Common.{◌≡◌, ◌∙◌, ◌<◌, ℕ, map, ap, ap₂, sym, length}
 use Rattle.std.specs.Prelude.{option_map}
 use Rattle.std.proofs.Math.ListN.{length-map}
 use Rattle.ly_base.specs.declared.numbers.RuleNo.{RuleNo}

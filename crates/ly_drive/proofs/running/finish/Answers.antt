@@ -1,5 +1,5 @@
-use Rattle.std.proofs.Common.{◌∙◌, [], ap, inr, subst, sym}
-use Rattle.ly_base.specs.declared.lexeme.End.TheVariants.{BadCut, Clean}
+use Rattle.std.proofs.Common.{[], inr, subst}
+use Rattle.ly_base.specs.declared.lexeme.End.TheVariants.{BadCut}
 use Rattle.ly_drive.specs.Private.Running.{words_in, IsLast}
 use Rattle.ly_drive.specs.ScanPart.{scanner_in}
 use Rattle.ly_drive.proofs.RunningLemmas.{reads_all}

@@ -1,4 +1,4 @@
-use Rattle.std.proofs.Common.{◌≡◌, ◌∙◌, ap, sym, length}
+use Rattle.std.proofs.Common.{◌∙◌}
 use Rattle.ly_drive.proofs.TablesLemmas.{same_machine, same_part}
 use Rattle.ly_drive.proofs.tables.Tables.new.Goals as goal
 
