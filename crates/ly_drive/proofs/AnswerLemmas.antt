@@ -1,5 +1,6 @@
 -- The answer by the tables of a set.
-use Rattle.std.proofs.Common.{◌≡◌, ◌∙◌, ◌<◌, ◌≤◌, ℕ, List, [], ◌∷◌, ◌++◌, All, Option, Some, None, Ok, Err, ap, ap₂, arith}
+use Rattle.std.proofs.Common.{◌≡◌, ◌∙◌, ◌<◌, ◌≤◌, ℕ, List, [], ◌∷◌, ◌++◌, All, Some, None, Ok, Err}
+use Rattle.std.proofs.Common.{Option, ap, ap₂, arith}
 use Rattle.std.proofs.Common.{inl, inr, length, map, refl, slice_get, subst, sym}
 use Rattle.std.specs.Int.{w16}
 use Rattle.std.specs.Prelude.{IsErrAnd, Result, option_and_then, slice_index}

@@ -1,5 +1,6 @@
 -- What feeding a token leads to.
-use Rattle.std.proofs.Common.{◌≡◌, ◌∙◌, ℕ, ◌+◌, ◌≤◌, List, [], ◌∷◌, ◌++◌, Option, Some, None, Ok, ap, arith, refl, subst}
+use Rattle.std.proofs.Common.{◌≡◌, ◌∙◌, ℕ, ◌+◌, ◌≤◌, List, [], ◌∷◌, ◌++◌, Option, Some, None, Ok}
+use Rattle.std.proofs.Common.{ap, arith, refl, subst}
 use Rattle.std.specs.Prelude.{false}
 use Rattle.ly_base.specs.Lexed.{Token}
 use Rattle.ly_drive.specs.Private.Running.{IsRefusal}

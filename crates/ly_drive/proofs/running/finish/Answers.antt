@@ -22,5 +22,8 @@ returns-in_ok-line-in-Stuck c text place long h ends = is_unmatched c.args.table
 pub returns-in-BadCut : goal.returns-in-BadCut
 returns-in-BadCut c text place long h ends =
     let T = c.args.tables.now in
-    inr (c.in-BadCut.byte, reads_all T.scanner T.machine text place c.args.parser (BadCut c.in-BadCut.byte) h
-    (subst (λ e. ScanEndsAt (scanner_in T.scanner) place e) c.in-BadCut.is ends))
+    inr (
+      c.in-BadCut.byte,
+      reads_all T.scanner T.machine text place c.args.parser (BadCut c.in-BadCut.byte) h
+          (subst (λ e. ScanEndsAt (scanner_in T.scanner) place e) c.in-BadCut.is ends),
+    )
