@@ -1,5 +1,6 @@
 -- The answer by the tables of a set.
-use Rattle.std.proofs.Common.{◌≡◌, ◌∙◌, ◌<◌, ◌≤◌, ℕ, List, [], ◌∷◌, ◌++◌, All, Option, Some, None, Ok, Err, ap, ap₂, arith, get_or}
+use Rattle.std.proofs.Common.{◌≡◌, ◌∙◌, ◌<◌, ◌≤◌, ℕ, List, [], ◌∷◌, ◌++◌, All, Some, None, Ok, Err}
+use Rattle.std.proofs.Common.{Option, ap, ap₂, arith}
 use Rattle.std.proofs.Common.{inl, inr, length, map, refl, slice_get, subst, sym}
 use Rattle.std.specs.Int.{w16}
 use Rattle.std.specs.Prelude.{IsErrAnd, Result, option_and_then, slice_index}
@@ -22,7 +23,7 @@ use Rattle.ly_drive.specs.declared.tables.Tables.{Tables}
 use Rattle.ly_pack.specs.Steady.{IsSteady}
 use Rattle.ly_tables.specs.Ranges.{version_1, IsEmittedWithin, IsScanRule, IsWithinRanges}
 use Rattle.ly_tables.specs.TableSet.{ScanRule, TableSet, machine_of}
-use Rattle.ly_tree.specs.Forest.{Grown, StandsFor, term_of}
+use Rattle.ly_tree.specs.Forest.{Grown, StandsFor}
 use Rattle.ly_tree.specs.Shown.{shown, Vocabulary}
 use Rattle.ly_tree.specs.Term.{Term}
 use Rattle.ly_tree.specs.declared.forest.TermNo.{TermNo}

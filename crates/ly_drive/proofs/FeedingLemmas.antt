@@ -1,5 +1,6 @@
 -- What feeding a token leads to.
-use Rattle.std.proofs.Common.{◌≡◌, ◌∙◌, ℕ, ◌+◌, ◌≤◌, List, [], ◌∷◌, ◌++◌, Option, Some, None, Ok, Err, ap, arith, refl, subst, sym}
+use Rattle.std.proofs.Common.{◌≡◌, ◌∙◌, ℕ, ◌+◌, ◌≤◌, List, [], ◌∷◌, ◌++◌, Option, Some, None, Ok}
+use Rattle.std.proofs.Common.{ap, arith, refl, subst}
 use Rattle.std.specs.Prelude.{false}
 use Rattle.ly_base.specs.Lexed.{Token}
 use Rattle.ly_drive.specs.Private.Running.{IsRefusal}
@@ -13,11 +14,9 @@ use Rattle.ly_parse.specs.Feeding.{top_of, uncover}
 use Rattle.ly_parse.specs.Parse.{IsCall, Parse}
 use Rattle.ly_parse.specs.Reading.{Reads, at_end}
 use Rattle.ly_parse.specs.Reading as reading
-use Rattle.ly_parse.specs.declared.fault.ParseFault.TheVariants.{Over}
 use Rattle.ly_parse.specs.declared.step.Step.{Step}
 use Rattle.ly_parse.specs.declared.step.Step.TheVariants.{Done, Refused}
 use Rattle.ly_parse.proofs.FeedingLemmas.{legal}
-use Rattle.ly_tree.specs.Forest.{StandsFor}
 use Rattle.ly_tree.specs.Shown.{Vocabulary}
 use Rattle.ly_tree.specs.Term.{Term, Terms, none}
 use Rattle.ly_tree.specs.declared.forest.TermNo.{TermNo}

@@ -1,6 +1,7 @@
 -- Every text is taken apart by a scanner, and ends somehow.
 use Rattle.std.proofs.Common.{◌≡◌, ◌∙◌, ◌<◌, ◌≤◌, ◌+◌, ◌-◌, ◌&&◌, ℕ, zero, suc, List, [], ◌∷◌, ◌++◌, Option, Some, None}
-use Rattle.std.proofs.Common.{◌⊎◌, inl, inr, Bool, true, false, append_assoc, ap, arith, drop, length, length-drop, refl, subst, sym, take}
+use Rattle.std.proofs.Common.{◌⊎◌, inl, inr, Bool, true, false, append_assoc, ap}
+use Rattle.std.proofs.Common.{arith, drop, length, length-drop, refl, subst, sym, take}
 use Rattle.std.specs.Prelude.{if◌then◌else◌, nat_le, nat_lt}
 use Rattle.std.proofs.lemmas.Bool.Decides.{nat_tests}
 use Rattle.ly_base.specs.Lexed.{Leads, Lexed, Place, place_after, token_if, tokens_from}
@@ -66,8 +67,8 @@ stands_or_ends s q = by_rest q.rest refl
       lexeme = record { rule = r; matched = n; taken = taken };
       is_lexeme = (best, e);
       goes_on = (let low = taken_some (s.cut r.0) n taken best.some_byte e in
-      let some = best.some_byte in let within = best.within in
-      omega (arith, length-drop taken q.rest, low, some, within));
+          let some = best.some_byte in let within = best.within in
+          omega (arith, length-drop taken q.rest, low, some, within));
     })
 
     by_best : (best : Option (ℕ × RuleNo)) → (q.rest ≡ [] → ⊥)

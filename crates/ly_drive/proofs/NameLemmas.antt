@@ -1,6 +1,6 @@
 -- The constructors of rules in memory.
 use Rattle.std.proofs.Common.{◌≡◌, ◌∙◌, ◌<◌, ◌≤◌, ◌⊎◌, inl, inr, ◌-◌, ℕ, suc, zero, List, [], map, Some, ap, sym, arith}
-use Rattle.std.proofs.Common.{get_or, length, refl, slice_get}
+use Rattle.std.proofs.Common.{get_or, length, slice_get}
 use Rattle.std.specs.Prelude.{option_map, unwrap_or}
 use Rattle.std.proofs.lemmas.Option.{slice_get-get_or, slice_get-map}
 use Rattle.ly_base.specs.Shape.{shape_of}

@@ -1,9 +1,7 @@
 -- A run over a text, token by token.
-use Rattle.std.proofs.Common.{◌≡◌, ◌∙◌, ℕ, ◌+◌, List, [], ◌∷◌, ◌++◌, Option, Some, None, Ok, Err, append-nil, append_assoc, ap}
-use Rattle.std.proofs.Common.{arith, inl, inr, length, refl, subst, sym, take, drop}
-use Rattle.std.specs.Prelude.{false, Result}
-use Rattle.std.specs.Global.{Global}
-use Rattle.std.specs.declared.vec.Vec.{Vec}
+use Rattle.std.proofs.Common.{◌≡◌, ◌∙◌, ℕ, ◌+◌, List, [], ◌∷◌, ◌++◌, Some, None, append-nil, append_assoc, ap}
+use Rattle.std.proofs.Common.{arith, length, refl, subst, sym, take}
+use Rattle.std.specs.Prelude.{false}
 use Rattle.std.proofs.lemmas.List.{length_push}
 use Rattle.ly_base.proofs.LexedLemmas.{leads_more, leads_on, tokens_more}
 use Rattle.ly_base.specs.Lexed.{Leads, Lexed, Place, Token, place_after, start_of, token_if, tokens_from}
@@ -12,7 +10,7 @@ use Rattle.ly_base.specs.declared.lexeme.End.TheVariants.{BadCut, Clean, Stuck}
 use Rattle.ly_base.specs.declared.lexeme.Lexeme.{Lexeme}
 use Rattle.ly_drive.proofs.FeedingLemmas.{reads_more}
 use Rattle.ly_drive.proofs.LexingLemmas.{lexes, tokens_on}
-use Rattle.ly_drive.specs.Private.Running.{CanRun, IsFed, IsLast, StandsAt}
+use Rattle.ly_drive.specs.Private.Running.{StandsAt}
 use Rattle.ly_drive.specs.ScanPart.{ScanPart, condition_in, scanner_in, terminal_in}
 use Rattle.ly_drive.specs.TableAnswer.{AreTokens, Comes, IsVerdictBy, ReadsAll, end_of, fed_with}
 use Rattle.ly_drive.specs.Verdict.{accepted}

@@ -1,5 +1,5 @@
 -- A scanner's rows in memory, and those of a table set.
-use Rattle.std.proofs.Common.{◌≡◌, ◌∙◌, ◌<◌, ◌≤◌, ◌⊎◌, inl, inr, ℕ, zero, suc, List, [], ◌∷◌, map, Option, Some, None, ap}
+use Rattle.std.proofs.Common.{◌≡◌, ◌∙◌, ◌<◌, ◌≤◌, ◌⊎◌, inl, inr, ℕ, zero, suc, [], ◌∷◌, map, Option, Some, None, ap}
 use Rattle.std.proofs.Common.{refl, sym, arith, slice_get, subst, get_or, ap₂, ◌+◌, ◌++◌}
 use Rattle.std.specs.Prelude.{option_and_then, option_map}
 use Rattle.std.specs.List.{range_with_len}

@@ -1,5 +1,5 @@
 -- The tables of a set in memory.
-use Rattle.std.proofs.Common.{◌≡◌, ◌∙◌, ◌<◌, ℕ, map, ap, ap₂, sym, subst, length, slice_get}
+use Rattle.std.proofs.Common.{◌≡◌, ◌∙◌, ◌<◌, ℕ, map, ap, ap₂, sym, length}
 use Rattle.std.specs.Prelude.{option_map}
 use Rattle.std.proofs.Math.ListN.{length-map}
 use Rattle.ly_base.specs.declared.numbers.RuleNo.{RuleNo}
@@ -29,7 +29,7 @@ pub same_part : (parts : TableParts) (d : Dense StateNo) (states : ℕ) → stat
     } in p) ≡ scan_part_of (set_of parts)
 same_part parts d states count rows width same =
     let entries : grid_of states parts.class_count (states_from (dense_entry d))
-        ≡ grid_of states parts.class_count (states_from (comb_entry parts.scan_rows))
+    ≡ grid_of states parts.class_count (states_from (comb_entry parts.scan_rows))
     = same_grid states parts.class_count (states_from (dense_entry d)) (states_from (comb_entry parts.scan_rows))
     (λ row column lt less. ap (option_map (λ (s : StateNo). s.0)) (same row column lt less)) in
     let all : states ≡ length (map (option_map (λ (p : RuleNo). p.0)) parts.accepted.items)

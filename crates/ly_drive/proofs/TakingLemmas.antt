@@ -1,19 +1,19 @@
 -- What becomes of a lexeme, and of the end of a run.
-use Rattle.std.proofs.Common.{◌≡◌, ◌∙◌, ℕ, ◌+◌, List, [], Option, Some, None, Ok, Err, ap, inl, inr, length, refl, subst}
-use Rattle.std.proofs.Common.{sym, take}
+use Rattle.std.proofs.Common.{◌≡◌, ◌∙◌, ℕ, ◌+◌, List, [], Option, Some, None, Ok, Err, ap, inl, refl, subst}
+use Rattle.std.proofs.Common.{sym}
 use Rattle.std.specs.Prelude.{Bool, IsErrAnd, Result, option_map}
 use Rattle.std.specs.Global.{Global}
 use Rattle.std.specs.declared.vec.Vec.{Vec}
-use Rattle.ly_base.specs.Lexed.{Place, Token, moved, place_after}
+use Rattle.ly_base.specs.Lexed.{Place, Token, place_after}
 use Rattle.ly_base.specs.Text.{no_rule_line}
 use Rattle.ly_base.specs.declared.cut.Cut.{Cut}
 use Rattle.ly_base.specs.declared.lexeme.End.{End}
 use Rattle.ly_base.specs.declared.lexeme.End.TheVariants.{Stuck}
 use Rattle.ly_base.specs.declared.lexeme.Lexeme.{Lexeme}
 use Rattle.ly_base.specs.declared.numbers.Sym.{Sym}
-use Rattle.ly_drive.proofs.RunningLemmas.{accepts, comes_here, comes_last, passes, reads_all, reads_on, tokens_of, IsTokenAt}
+use Rattle.ly_drive.proofs.RunningLemmas.{accepts, comes_here, comes_last, reads_all, reads_on, tokens_of, IsTokenAt}
 use Rattle.ly_drive.specs.Private.Running.{words_in, IsFed, IsLast, IsRun, IsTaken, IsTold, StandsAt}
-use Rattle.ly_drive.specs.ScanPart.{condition_in, scanner_in, terminal_in}
+use Rattle.ly_drive.specs.ScanPart.{condition_in, scanner_in}
 use Rattle.ly_drive.specs.TableAnswer.{end_of}
 use Rattle.ly_drive.specs.Verdict.{refused, syntax_line, unmatched}
 use Rattle.ly_drive.specs.declared.fault.DriveFault.{DriveFault}

@@ -10,7 +10,8 @@ use Rattle.ly_tables.specs.Ranges.{version_1}
 use Rattle.ly_tables.specs.TableSet.{TableSet, machine_of}
 use Rattle.ly_tables.specs.TableText.{TableText}
 
--- A text that the reader gave, where its bytes are known, has this outcome by the set, and its whole answer was written.
+-- A text that the reader gave, where its bytes are known, has this outcome by the set, and its whole answer was
+-- written.
 abbrev pub IsAnsweredBy : TableSet → Option (List ℕ) → Option (List ℕ) → Option (List ℕ) → Outcome → Type 0
 IsAnsweredBy s given before after outcome = (text : List ℕ) × (answer : List ℕ) × IfSome given (λ bytes. text ≡ bytes)
     × TableAnswer s text outcome answer × Appends before after answer

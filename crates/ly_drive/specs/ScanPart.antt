@@ -11,8 +11,8 @@ use Rattle.ly_scan.specs.Lexer.{Scanner}
 use Rattle.ly_scan.specs.StateWalk.{States, state_walk}
 use Rattle.ly_tables.specs.TableSet.{ScanRule, Starts, TableSet}
 
--- The terminal of each byte as a literal, the rules, the conditions, the class of each byte, the rule of each state, and
--- where states lead by classes.
+-- The terminal of each byte as a literal, the rules, the conditions, the class of each byte, the rule of each state,
+-- and where states lead by classes.
 pub record ScanPart : Type 0 where
   pub literals : List ℕ
   pub rules : List ScanRule

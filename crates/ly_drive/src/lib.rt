@@ -1,7 +1,7 @@
 //! From a table file and a text to the printed answer.
 //!
-//! `drive` reads a table file, and `run` takes a table set: the scanner of the set takes the text apart, its parser reads
-//! the tokens one by one, and the tree, or the line that says what is wrong, is written once it is known
+//! `drive` reads a table file, and `run` takes a table set: the scanner of the set takes the text apart, its parser
+//! reads the tokens one by one, and the tree, or the line that says what is wrong, is written once it is known
 //! (`TableAnswer`). Scanner and parser run over the tables alone, so nothing here knows of lex and yacc files.
 //!
 //! Left out: texts in pieces, since the whole text is read first, and what tables say of the files that they were

@@ -134,10 +134,12 @@ fn feed(
 {
     match parser.feed(token) {
         Ok(Step::More) => Ok(None),
-        Ok(Step::Refused {
-            token: number,
-            byte,
-        }) => {
+        Ok(
+            Step::Refused {
+                token: number,
+                byte,
+            },
+        ) => {
             let line = token_line(alloc, names, number, token)?;
             let token = number;
             Ok(Some((Outcome::Syntax { token, byte }, line)))

@@ -53,7 +53,8 @@ impl ScanTable {
     pub(crate) fn next(&self, state: StateNo, byte: u8) -> Option<StateNo>
         ensures { option_map (λ s. s.0) result ≡ next_in self.now state.0 byte }
     {
-        self.rows.entry(state, usize::from(self.classes[usize::from(byte)]))
+        self.rows
+            .entry(state, usize::from(self.classes[usize::from(byte)]))
     }
 
     /// The rule of a state, if it has one.

@@ -33,7 +33,12 @@ impl Tables {
         ensures scanner { IfOk result (λ t. t.scanner ≡ scan_part_of (set_of parts)) }
         ensures machine { IfOk result (λ t. t.machine ≡ machine_of (set_of parts)) }
     {
-        let rows = spread(alloc, &parts.scan_rows, parts.accepted.len(), parts.class_count)?;
+        let rows = spread(
+            alloc,
+            &parts.scan_rows,
+            parts.accepted.len(),
+            parts.class_count,
+        )?;
         Ok(Tables {
             scanner: ScanTable {
                 literals: parts.literals,

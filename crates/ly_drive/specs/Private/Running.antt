@@ -1,5 +1,5 @@
 -- A run over a text, token by token.
-use Rattle.std.specs.Prelude.{◌≡◌, ℕ, ◌+◌, ◌<◌, ◌≤◌, List, [], length, map, Bool, false, Option, Some, None, Result, Ok, Err}
+use Rattle.std.specs.Prelude.{◌≡◌, ℕ, ◌+◌, ◌<◌, ◌≤◌, List, [], length, map, false, Option, Some, None, Result, Ok, Err}
 use Rattle.std.specs.Global.{Global}
 use Rattle.std.specs.declared.vec.Vec.{Vec}
 use Rattle.ly_base.specs.Lexed.{Leads, Place, Token, place_after, start_of, tokens_from}
@@ -87,8 +87,8 @@ abbrev pub IsTold : Tables → List ℕ → Outcome → List ℕ → Type 0
 IsTold t text outcome line = (v : Verdict) × IsVerdictBy t.scanner t.machine text v × IsOutcome v outcome
     × (line ≡ printed (words_in t) v)
 
--- What becomes of a lexeme at a place: the parse has read its token, if it has one, and stands behind it; or the text is
--- answered; or the tables are at fault on it. Want of memory says nothing.
+-- What becomes of a lexeme at a place: the parse has read its token, if it has one, and stands behind it; or the text
+-- is answered; or the tables are at fault on it. Want of memory says nothing.
 abbrev pub IsTaken : Tables → List ℕ → Place → Lexeme → Parse → Result (Option (Outcome × Vec ℕ Global)) DriveFault
     → Type 0
 IsTaken t text q l r (Ok None) = StandsAt t.scanner t.machine text (place_after (condition_in t.scanner) q l) r

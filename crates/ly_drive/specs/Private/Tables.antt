@@ -1,5 +1,5 @@
 -- A scanner's tables in memory.
-use Rattle.std.specs.Prelude.{◌≡◌, ◌<◌, List, All, length, map, option_map}
+use Rattle.std.specs.Prelude.{◌≡◌, length, map, option_map}
 use Rattle.ly_base.specs.declared.numbers.RuleNo.{RuleNo}
 use Rattle.ly_base.specs.declared.numbers.Sym.{Sym}
 use Rattle.ly_drive.specs.ScanPart.{ScanPart, states_from}

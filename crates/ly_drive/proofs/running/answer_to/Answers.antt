@@ -1,4 +1,3 @@
-use Rattle.std.proofs.Common.{◌∙◌}
 use Rattle.ly_drive.proofs.AnswerLemmas.{can_run, fault_is, term_answer, told_answer}
 use Rattle.ly_drive.proofs.running.answer_to.Goals as goal
 use Rattle.ly_tables.specs.Values.{set_of}

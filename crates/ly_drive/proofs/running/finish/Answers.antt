@@ -1,5 +1,5 @@
-use Rattle.std.proofs.Common.{◌∙◌, [], ap, inr, subst, sym}
-use Rattle.ly_base.specs.declared.lexeme.End.TheVariants.{BadCut, Clean}
+use Rattle.std.proofs.Common.{[], inr, subst}
+use Rattle.ly_base.specs.declared.lexeme.End.TheVariants.{BadCut}
 use Rattle.ly_drive.specs.Private.Running.{words_in, IsLast}
 use Rattle.ly_drive.specs.ScanPart.{scanner_in}
 use Rattle.ly_drive.proofs.RunningLemmas.{reads_all}
@@ -22,5 +22,8 @@ returns-in_ok-line-in-Stuck c text place long h ends = is_unmatched c.args.table
 pub returns-in-BadCut : goal.returns-in-BadCut
 returns-in-BadCut c text place long h ends =
     let T = c.args.tables.now in
-    inr (c.in-BadCut.byte, reads_all T.scanner T.machine text place c.args.parser (BadCut c.in-BadCut.byte) h
-    (subst (λ e. ScanEndsAt (scanner_in T.scanner) place e) c.in-BadCut.is ends))
+    inr (
+      c.in-BadCut.byte,
+      reads_all T.scanner T.machine text place c.args.parser (BadCut c.in-BadCut.byte) h
+          (subst (λ e. ScanEndsAt (scanner_in T.scanner) place e) c.in-BadCut.is ends),
+    )

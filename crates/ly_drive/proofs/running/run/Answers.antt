@@ -1,11 +1,11 @@
 use Rattle.std.proofs.Common.{◌∙◌, Err, Ok, ap, refl, subst, sym}
 use Rattle.ly_base.specs.Lexed.{moved}
 use Rattle.ly_drive.specs.Private.Running.{IsTaken, StandsAt}
-use Rattle.ly_drive.specs.ScanPart.{cut_in, scanner_in, states_in}
+use Rattle.ly_drive.specs.ScanPart.{cut_in, states_in}
 use Rattle.ly_drive.proofs.RunningLemmas.{begins}
 use Rattle.ly_drive.proofs.TakingLemmas.{ends_with_fault, same_scanner, takes}
 use Rattle.ly_drive.proofs.running.run.Goals as goal
-use Rattle.ly_scan.specs.Lexer.{IsLexemeAt, ScanEndsAt}
+use Rattle.ly_scan.specs.Lexer.{ScanEndsAt}
 use Rattle.ly_scan.specs.StateWalk.{state_walk}
 
 pub loop-lexeme-init : goal.loop-lexeme-init

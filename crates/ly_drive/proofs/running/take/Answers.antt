@@ -14,8 +14,8 @@ returns-in_default c text h is =
 pub returns : goal.returns
 returns c text h is =
     let T = c.args.tables.now in
-    taken T text _ c.args.place.now c.args.parser.now c.feed.new.parser c.args.lexeme _ c.feed.result c.names.ensures h is
-    (record {
+    taken T text _ c.args.place.now c.args.parser.now c.feed.new.parser c.args.lexeme _ c.feed.result c.names.ensures h
+    is (record {
       at = c.at.ensures;
       bytes = ap (take c.args.lexeme.taken) c.rest.ensures;
       terminal = terminal_is c.terminal.result c.in-Some.terminal _ c.terminal.ensures c.in-Some.is;

@@ -1,8 +1,3 @@
-use Rattle.std.proofs.Common.{◌∙◌, ap, sym}
-use Rattle.std.specs.Prelude.{option_and_then, option_map}
-use Rattle.std.proofs.lemmas.Option.{slice_get-get_or}
-use Rattle.ly_base.specs.declared.numbers.StateNo.{StateNo}
-use Rattle.ly_drive.specs.ScanPart.{next_in}
 use Rattle.ly_drive.proofs.ScanTableLemmas.{next_at}
 use Rattle.ly_drive.proofs.scan_table.ScanTable.next.Goals as goal
 
