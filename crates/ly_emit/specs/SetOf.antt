@@ -1,7 +1,5 @@
 -- The table set of a specification and the automaton of its scanner.
 use Rattle.std.specs.Prelude.{◌≡◌, ℕ, ◌*◌, ◌<◌, List, length, map, slice_get, Some, true, false}
-use Rattle.ly_base.specs.declared.numbers.StateNo.{StateNo}
-use Rattle.ly_base.specs.declared.scan_action.ScanAction.{ScanAction}
 use Rattle.ly_emit.specs.Tables.{IsMachineOf}
 use Rattle.ly_ere.specs.declared.pattern.Rule.{Rule}
 use Rattle.ly_join.specs.Joined.{Spec}

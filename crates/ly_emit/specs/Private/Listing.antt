@@ -1,5 +1,5 @@
 -- What the sections of a table set list.
-use Rattle.std.specs.Prelude.{◌≡◌, ℕ, ◌<◌, List, length, slice_get, Some, true, false}
+use Rattle.std.specs.Prelude.{◌≡◌, ℕ, ◌<◌, List, slice_get, Some, true, false}
 use Rattle.ly_base.specs.declared.numbers.StateNo.{StateNo}
 use Rattle.ly_join.specs.Terminals.{Terminal, IsOfByte}
 use Rattle.ly_pack.specs.Rows.{Entries}

@@ -1,5 +1,4 @@
-use Rattle.std.proofs.Common.{rules, ◌≡◌, ◌+◌, arith, ap, length, subst, sym}
-use Rattle.std.proofs.lemmas.List.{length-append}
+use Rattle.std.proofs.Common.{rules, subst, sym}
 use Rattle.ly_emit.specs.Private.Listing.{IsStartOf}
 use Rattle.ly_emit.proofs.ListingLemmas.{each_more}
 use Rattle.ly_tables.specs.Values.{starts_from}

@@ -1,4 +1,4 @@
-use Rattle.std.proofs.Common.{rules, ◌≡◌, ◌+◌, subst, sym}
+use Rattle.std.proofs.Common.{rules, subst, sym}
 use Rattle.ly_join.specs.Terminals.{IsOfByte}
 use Rattle.ly_emit.proofs.ListingLemmas.{each_more}
 use Rattle.ly_emit.proofs.set.literals.Goals as goal

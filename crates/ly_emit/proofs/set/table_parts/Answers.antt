@@ -1,4 +1,4 @@
-use Rattle.std.proofs.Common.{◌≡◌, ◌∙◌, ◌*◌, ap, length, map, subst, sym}
+use Rattle.std.proofs.Common.{◌≡◌, ◌∙◌, ◌*◌, ap, map, subst, sym}
 use Rattle.std.proofs.lemmas.List.{length-map}
 use Rattle.ly_emit.specs.Private.Listing.{AreLiterals}
 use Rattle.ly_emit.specs.Tables.{IsMachineOf}
@@ -43,23 +43,25 @@ returns-clause-set c =
     let same : machine_of (set_of p) ≡ c.args.machine
     = set_machine p parser.result.terminals parser.result.nonterminals parser.result.actions parser.result.gotos
     c.into_comb.ensures.same c.into_comb-2.ensures.same s M c.args.machine sizes c.lr0.ensures.useful
-    c.requires.tables names accept (parser.ensures.same ∙ c.in_ok-pack.ensures) in
-    (record {
-      terminals = names;
-      nonterminals = accept ∙ c.lr0.ensures.useful.accept ∙ sizes.nonterminals;
-      literals = subst (λ x. AreLiterals x.terminals (map (λ t. t.0) p.literals.items)) spec c.in_ok-literals.ensures;
-      scanner = record {
-        actions = made.actions ∙ c.scanner.ensures ∙ ap (λ x. x.scanner) spec;
-        cuts = made.cuts;
-        condition_count = ap (λ n. 2 * n) (length-map scanner.conditions.items starts_from) ∙ made.count;
-        conditions = made.starts;
-        class_count = c.classes.ensures;
-        classes = made.classes;
-        accepted = made.accepted;
-        rows = made.rows;
-      };
-      machine = subst (IsMachineOf s M) (sym same) c.requires.tables;
-      scan_rows = made.placed;
-      actions = subst IsFirstFit (sym c.into_comb.ensures.same) c.into_comb.ensures.placed;
-      gotos = subst IsFirstFit (sym c.into_comb-2.ensures.same) c.into_comb-2.ensures.placed;
-    }, same)
+    c.requires.tables names accept (parser.ensures.same ∙ c.in_ok-pack.ensures) in (
+      record {
+        terminals = names;
+        nonterminals = accept ∙ c.lr0.ensures.useful.accept ∙ sizes.nonterminals;
+        literals = subst (λ x. AreLiterals x.terminals (map (λ t. t.0) p.literals.items)) spec c.in_ok-literals.ensures;
+        scanner = record {
+          actions = made.actions ∙ c.scanner.ensures ∙ ap (λ x. x.scanner) spec;
+          cuts = made.cuts;
+          condition_count = ap (λ n. 2 * n) (length-map scanner.conditions.items starts_from) ∙ made.count;
+          conditions = made.starts;
+          class_count = c.classes.ensures;
+          classes = made.classes;
+          accepted = made.accepted;
+          rows = made.rows;
+        };
+        machine = subst (IsMachineOf s M) (sym same) c.requires.tables;
+        scan_rows = made.placed;
+        actions = subst IsFirstFit (sym c.into_comb.ensures.same) c.into_comb.ensures.placed;
+        gotos = subst IsFirstFit (sym c.into_comb-2.ensures.same) c.into_comb-2.ensures.placed;
+      },
+      same,
+    )
