@@ -136,24 +136,33 @@ module _ (file : LexFile) (w : Written) (s : Spec) (set : TableSet) (g : IsGener
       (end_of text) r.last d
       (one_more g.automaton r.tokens (end_of text) (all_of r.tokens Clean r.are_tokens) end_below) r.reads fed in
       (r.tokens, Clean, tokens_of r.tokens Clean r.are_tokens, (refl, run.0, run.1, run.2))
-  verdict_follows (refused k t) (before, c, count) = (c.tokens, c.e, tokens_of c.tokens c.e c.are_tokens, (
-    before,
-    c.behind,
-    c.split,
-    refused_follow s g.automaton (machine_of set) g.is_automaton g.useful g.is_set.machine before c.behind t c.last
-        (up_to g.automaton before c.behind t (come_all before t fed.refused c)) c.reads c.feeds,
-    count,
-  ))
+  verdict_follows (refused k t) (before, c, count) = (
+    c.tokens,
+    c.e,
+    tokens_of c.tokens c.e c.are_tokens,
+    (
+      before,
+      c.behind,
+      c.split,
+      refused_follow s g.automaton (machine_of set) g.is_automaton g.useful g.is_set.machine before c.behind t c.last
+          (up_to g.automaton before c.behind t (come_all before t fed.refused c)) c.reads c.feeds,
+      count,
+    ),
+  )
   verdict_follows (unmatched byte) r =
       let all : AreOf g.automaton r.tokens = all_of r.tokens (Stuck byte) r.are_tokens in
       let run = reads_follow s g.automaton (machine_of set) g.is_automaton g.useful g.is_set.machine r.reads [] [] all
-      bottom in
-      (r.tokens, Stuck byte, tokens_of r.tokens (Stuck byte) r.are_tokens, (
-        refl,
-        run.0,
-        subst (λ ts. Leads g.automaton.grammar (judge_of s) (begin ts) (record { stack = run.0; rest = [] }))
-            (append-nil r.tokens) run.1,
-      ))
+      bottom in (
+        r.tokens,
+        Stuck byte,
+        tokens_of r.tokens (Stuck byte) r.are_tokens,
+        (
+          refl,
+          run.0,
+          subst (λ ts. Leads g.automaton.grammar (judge_of s) (begin ts) (record { stack = run.0; rest = [] }))
+              (append-nil r.tokens) run.1,
+        ),
+      )
   verdict_follows faulty (inl (before, t, c)) =
       let all : AreOf g.automaton (before ++ t ∷ c.behind) = come_all before t fed.faulty c in
       let run = reads_follow s g.automaton (machine_of set) g.is_automaton g.useful g.is_set.machine c.reads []
@@ -169,6 +178,9 @@ pub tables_answer : TablesAnswerAsSpecified
 tables_answer file w s set g text v h = verdict_follows file w s set g text v h
 
 pub answers_follow : AnswersAreOfSpecification
-answers_follow file w s set g text o answer (v, h, outcome, bytes) =
-    (v, verdict_follows file w s set g text v h, outcome,
-    bytes ∙ same_words (scanning_of file) w s g.automaton file.rules.items g.walk set g.joined g.is_set v)
+answers_follow file w s set g text o answer (v, h, outcome, bytes) = (
+  v,
+  verdict_follows file w s set g text v h,
+  outcome,
+  bytes ∙ same_words (scanning_of file) w s g.automaton file.rules.items g.walk set g.joined g.is_set v,
+)

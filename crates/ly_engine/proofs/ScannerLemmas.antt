@@ -19,14 +19,25 @@ module _ (S T : Scanner) (walks : (c : ℕ) (line : Bool) (w : List ℕ) → S.w
   }
 
   same_lexeme : (p : Place) (t : Lexeme) → IsLexemeAt S p t → IsLexemeAt T p t
-  same_lexeme p t h = (same_longest p t.matched t.rule.0 h.0,
-      ap (λ cut. token_len cut t.matched) (sym (cuts t.rule.0)) ∙ h.1)
+  same_lexeme p t h = (
+    same_longest p t.matched t.rule.0 h.0,
+    ap (λ cut. token_len cut t.matched) (sym (cuts t.rule.0)) ∙ h.1,
+  )
 
   same_end : (p : Place) (e : End) → ScanEndsAt S p e → ScanEndsAt T p e
   same_end p Clean h = h
   same_end p (Stuck b) h = (h.0, h.1, λ m q some le e. h.2 m q some le (walks p.condition p.line (take m p.rest) ∙ e))
-  same_end p (BadCut b) h = (h.0, (h.1.0, (h.1.1.0, same_longest p h.1.0 h.1.1.0 h.1.1.1,
-      ap (λ cut. token_len cut h.1.0) (sym (cuts h.1.1.0)) ∙ h.1.1.2)))
+  same_end p (BadCut b) h = (
+    h.0,
+    (
+      h.1.0,
+      (
+        h.1.1.0,
+        same_longest p h.1.0 h.1.1.0 h.1.1.1,
+        ap (λ cut. token_len cut h.1.0) (sym (cuts h.1.1.0)) ∙ h.1.1.2,
+      ),
+    ),
+  )
 
   -- a run of one is one of the other
   pub same_run : (next : ℕ → Option ℕ) (p : Place) (ts : List Lexeme) (e : End)
@@ -39,6 +50,8 @@ pub lexed_under : (Is : Place → Lexeme → Type 0) (Ends : Place → End → T
     → ((i : ℕ) → next i ≡ other i) → (p : Place) (ts : List Lexeme) (e : End) → Lexed Is Ends next p ts e
     → Lexed Is Ends other p ts e
 lexed_under Is Ends next other same p [] e h = h
-lexed_under Is Ends next other same p (t ∷ ts) e h =
-    (h.0, lexed_under Is Ends next other same (place_after other p t) ts e
-    (subst (λ o. Lexed Is Ends next (moved p t.taken o) ts e) (same t.rule.0) h.1))
+lexed_under Is Ends next other same p (t ∷ ts) e h = (
+  h.0,
+  lexed_under Is Ends next other same (place_after other p t) ts e
+      (subst (λ o. Lexed Is Ends next (moved p t.taken o) ts e) (same t.rule.0) h.1),
+)

@@ -21,8 +21,10 @@ mod write_tokens;
 
 pub use fault::TokensFault;
 pub use gen_fault::GenFault;
-pub use laws::{answer_is_one, position_walk_agrees, refusal_is_exact, row_walk_agrees};
-pub use laws::tables_answer_as_specified;
+pub use laws::{
+    answer_is_one, position_walk_agrees, refusal_is_exact, row_walk_agrees,
+    tables_answer_as_specified,
+};
 pub use outcome::TokenEnd;
 pub use position_walk::PositionWalk;
 pub use reporting::generate_report;

@@ -63,7 +63,9 @@ impl TableSet {
     pub fn new(parts: TableParts) -> TableSet
         requires within { IsWithinRanges w16 version_1 (set_of parts) }
         requires steady { IsSteady (machine_of (set_of parts)) }
-        ensures { result ≡ set_of parts }
+        ensures set { result ≡ set_of parts }
+        ensures within { IsWithinRanges w16 version_1 result }
+        ensures steady { IsSteady (machine_of result) }
     {
         TableSet {
             terminals: parts.terminals,

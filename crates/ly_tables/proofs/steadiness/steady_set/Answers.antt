@@ -34,5 +34,5 @@ returns-clause-steady c =
     let back = c.into_parts-defaults.ensures.same ∙ c.new-machine.ensures in
     let again = set_again p c.into_parts-defaults.result.rules c.into_parts-defaults.result.defaults
     (ap (λ (m : Machine). m.rules) back) (ap (λ (m : Machine). m.defaults) back) in
-    subst (λ (s : TableSet). IsSteady (machine_of s)) (sym (c.new.ensures ∙ again))
+    subst (λ (s : TableSet). IsSteady (machine_of s)) (sym (c.new.ensures.set ∙ again))
     (subst (λ (m : Machine). IsSteady m) same c.in_default.ensures.ok)
