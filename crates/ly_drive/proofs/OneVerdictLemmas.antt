@@ -1,5 +1,6 @@
 -- A table set says one thing of a text.
-use Rattle.std.proofs.Common.{◌≡◌, ◌∙◌, ◌<◌, ◌≤◌, ◌⊎◌, ◌+◌, inl, inr, ℕ, List, [], ◌∷◌, ◌++◌, Some, None, ap, ap₂, arith}
+use Rattle.std.proofs.Common.{◌≡◌, ◌∙◌, ◌<◌, ◌≤◌, ◌⊎◌, ◌+◌, inl, inr, ℕ, List, [], ◌∷◌, ◌++◌, Some, None, ap}
+use Rattle.std.proofs.Common.{ap₂, arith}
 use Rattle.std.proofs.Common.{length, refl, subst, sym, take}
 use Rattle.std.proofs.lemmas.Bool.{cases_lt}
 use Rattle.ly_base.specs.Lexed.{Lexed, Place, Token, place_after, start_of, tokens_from}
