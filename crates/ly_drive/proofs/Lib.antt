@@ -3,6 +3,7 @@ pub mod FaultLemmas
 pub mod FeedingLemmas
 pub mod LexingLemmas
 pub mod NameLemmas
+pub mod OneVerdictLemmas
 pub mod RunningLemmas
 pub mod ScanTableLemmas
 pub mod TablesLemmas

@@ -1,5 +1,6 @@
 pub mod Answering
 pub mod DriveFault
+pub mod Laws
 pub mod Private
 pub mod ScanPart
 pub mod TableAnswer

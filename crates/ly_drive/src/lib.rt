@@ -10,6 +10,7 @@
 
 mod driving;
 mod fault;
+mod laws;
 mod lines;
 mod names;
 mod outcome;
@@ -20,4 +21,5 @@ mod tables;
 
 pub use driving::{drive, run};
 pub use fault::DriveFault;
+pub use laws::a_text_has_one_verdict;
 pub use outcome::Outcome;

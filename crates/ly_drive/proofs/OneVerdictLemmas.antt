@@ -1,0 +1,239 @@
+-- A table set says one thing of a text.
+use Rattle.std.proofs.Common.{◌≡◌, ◌∙◌, ◌<◌, ◌≤◌, ◌⊎◌, ◌+◌, inl, inr, ℕ, List, [], ◌∷◌, ◌++◌, Some, None, ap}
+use Rattle.std.proofs.Common.{ap₂, arith}
+use Rattle.std.proofs.Common.{length, refl, subst, sym, take}
+use Rattle.std.proofs.lemmas.Bool.{cases_lt}
+use Rattle.ly_base.specs.Lexed.{Lexed, Place, Token, place_after, start_of, tokens_from}
+use Rattle.ly_base.specs.declared.lexeme.End.{End}
+use Rattle.ly_base.specs.declared.lexeme.End.TheVariants.{BadCut, Clean, Stuck}
+use Rattle.ly_base.specs.declared.lexeme.Lexeme.{Lexeme}
+use Rattle.ly_drive.specs.ScanPart.{ScanPart, condition_in, scanner_in, terminal_in}
+use Rattle.ly_drive.specs.TableAnswer.{AreTokens, Comes, IsVerdictBy, ReadsAll, end_of, fed_with}
+use Rattle.ly_drive.specs.Verdict.{Verdict, accepted, faulty, refused, unmatched}
+use Rattle.ly_pack.specs.Machine.{Machine}
+use Rattle.ly_parse.specs.Feeding.{Fed, Feeds, Level, pushed}
+use Rattle.ly_parse.specs.Feeding as fed
+use Rattle.ly_parse.specs.FeedingLaws.{FeedsInOneWay}
+use Rattle.ly_parse.specs.Reading.{Reads, at_end, onward}
+use Rattle.ly_scan.specs.Cuts.{token_len}
+use Rattle.ly_scan.specs.Lexer.{IsLexemeAt, IsLongestAt, ScanEndsAt, Scanner}
+
+-- the longest match is one
+one_longest : (s : Scanner) (q : Place) (n r m k : ℕ) → IsLongestAt s q n r → IsLongestAt s q m k → (n ≡ m) × (r ≡ k)
+one_longest s q n r m k a b = by_order (cases_lt n m) (cases_lt m n)
+  where
+    by_order : (n < m) ⊎ (m ≤ n) → (m < n) ⊎ (n ≤ m) → (n ≡ m) × (r ≡ k)
+    by_order (inl less) o = absurd (a.longest m k less b.within b.has_rule)
+    by_order (inr le) (inl less) = absurd (b.longest n r less a.within a.has_rule)
+    by_order (inr le) (inr ge) =
+        let same : n ≡ m = omega arith in
+        let both : Some (Some r) ≡ Some (Some k)
+        = sym a.has_rule ∙ (ap (λ j. s.walk q.condition q.line (take j q.rest)) same ∙ b.has_rule) in
+        (same, cc)
+
+-- so is the lexeme at a place
+one_lexeme : (s : Scanner) (q : Place) (t u : Lexeme) → IsLexemeAt s q t → IsLexemeAt s q u → t ≡ u
+one_lexeme s q t u a b =
+    let l = one_longest s q t.matched t.rule.0 u.matched u.rule.0 a.0 b.0 in
+    let both : Some t.taken ≡ Some u.taken
+    = sym a.1 ∙ (ap₂ (λ r n. token_len (s.cut r) n) l.1 l.0 ∙ b.1) in
+    let taken : t.taken ≡ u.taken = cc in
+    λ i. record { rule = record { 0 = l.1 i }; matched = l.0 i; taken = taken i }
+
+-- no run ends where a lexeme stands
+no_end : (s : Scanner) (q : Place) (t : Lexeme) (e : End) → IsLexemeAt s q t → ScanEndsAt s q e → ⊥
+no_end s q t Clean a b =
+    let low = a.0.some_byte in let high = a.0.within in let empty = ap length b in omega (arith, low, high, empty)
+no_end s q t (Stuck byte) a b = b.2 t.matched t.rule.0 a.0.some_byte a.0.within a.0.has_rule
+no_end s q t (BadCut byte) a b =
+    let l = one_longest s q t.matched t.rule.0 b.1.0 b.1.1.0 a.0 b.1.1.1 in
+    let both : Some t.taken ≡ None = sym a.1 ∙ (ap₂ (λ r n. token_len (s.cut r) n) l.1 l.0 ∙ b.1.1.2) in
+    cc
+
+-- a run ends in one way
+one_end : (s : Scanner) (q : Place) (e d : End) → ScanEndsAt s q e → ScanEndsAt s q d → e ≡ d
+one_end s q Clean Clean a b = refl
+one_end s q Clean (Stuck byte) a b = absurd (b.0 a)
+one_end s q Clean (BadCut byte) a b =
+    let low = b.1.1.1.some_byte in let high = b.1.1.1.within in let empty = ap length a in
+    absurd (omega (arith, low, high, empty))
+one_end s q (Stuck byte) Clean a b = absurd (a.0 b)
+one_end s q (Stuck byte) (Stuck other) a b = ap Stuck (a.1 ∙ sym b.1)
+one_end s q (Stuck byte) (BadCut other) a b =
+    absurd (a.2 b.1.0 b.1.1.0 b.1.1.1.some_byte b.1.1.1.within b.1.1.1.has_rule)
+one_end s q (BadCut byte) Clean a b =
+    let low = a.1.1.1.some_byte in let high = a.1.1.1.within in let empty = ap length b in
+    absurd (omega (arith, low, high, empty))
+one_end s q (BadCut byte) (Stuck other) a b =
+    absurd (b.2 a.1.0 a.1.1.0 a.1.1.1.some_byte a.1.1.1.within a.1.1.1.has_rule)
+one_end s q (BadCut byte) (BadCut other) a b = ap BadCut (a.0 ∙ sym b.0)
+
+-- a text is taken apart in one way
+one_lexing : (s : Scanner) (next : ℕ → _) (q : Place) (ts us : List Lexeme) (e d : End)
+    → Lexed (IsLexemeAt s) (ScanEndsAt s) next q ts e → Lexed (IsLexemeAt s) (ScanEndsAt s) next q us d
+    → (ts ≡ us) × (e ≡ d)
+one_lexing s next q [] [] e d a b = (refl, one_end s q e d a b)
+one_lexing s next q [] (u ∷ us) e d a b = absurd (no_end s q u e b.0 a)
+one_lexing s next q (t ∷ ts) [] e d a b = absurd (no_end s q t d a.0 b)
+one_lexing s next q (t ∷ ts) (u ∷ us) e d a b =
+    let same = one_lexeme s q t u a.0 b.0 in
+    let on = one_lexing s next (place_after next q t) ts us e d a.1
+    (subst (λ x. Lexed (IsLexemeAt s) (ScanEndsAt s) next (place_after next q x) us d) (sym same) b.1) in
+    (ap₂ (λ x xs. x ∷ xs) same on.0, on.1)
+
+one_tokens : (p : ScanPart) (text : List ℕ) (ts us : List (Token ℕ)) (e d : End) → AreTokens p text ts e
+    → AreTokens p text us d → (ts ≡ us) × (e ≡ d)
+one_tokens p text ts us e d a b =
+    let on = one_lexing (scanner_in p) (condition_in p) (start_of text) a.lexemes b.lexemes e d a.lexed b.lexed in
+    (a.are_of_lexemes ∙ (ap (tokens_from (terminal_in p) 0 text) on.0 ∙ sym b.are_of_lexemes), on.1)
+
+-- a parse stops with the token
+abbrev IsStop : Fed → Type 0
+IsStop (pushed next) = ⊥
+IsStop _ = Unit {0}
+
+-- tables stop at one token, in one way
+one_stop : {m : Machine} {a b c : List Level} {xs ys : List (Token ℕ)} (t u : Token ℕ) (zs ws : List (Token ℕ))
+    (out other : Fed) → FeedsInOneWay → Reads m a xs b → Feeds m t b out → IsStop out → Reads m a ys c
+    → Feeds m u c other → IsStop other → xs ++ t ∷ zs ≡ ys ++ u ∷ ws → (xs ≡ ys) × (t ≡ u) × (out ≡ other)
+one_stop {m} {a} t u zs ws out other way at_end f stop at_end g stops e =
+    let same : t ≡ u = cc in
+    (refl, same, way m t a out other f (subst (λ x. Feeds m x a other) (sym same) g))
+one_stop {m} {a} t u zs ws out other way at_end f stop (onward {next = n} {token = y} first more) g stops e =
+    let same : t ≡ y = cc in
+    absurd (subst IsStop (way m t a out (pushed n) f (subst (λ x. Feeds m x a (pushed n)) (sym same) first)) stop)
+one_stop {m} {a} t u zs ws out other way (onward {next = n} {token = x} first more) f stop at_end g stops e =
+    let same : u ≡ x = cc in
+    absurd (subst IsStop (way m u a other (pushed n) g (subst (λ y. Feeds m y a (pushed n)) (sym same) first)) stops)
+one_stop {m} {a} {c = c} t u zs ws out other way (onward {next = n} {token = x} {tokens = xs} first more) f stop
+    (onward {next = k} {token = y} {tokens = ys} second others) g stops e =
+    let same : x ≡ y = cc in
+    let tails : xs ++ t ∷ zs ≡ ys ++ u ∷ ws = cc in
+    let both = way m x a (pushed n) (pushed k) first (subst (λ z. Feeds m z a (pushed k)) (sym same) second) in
+    let levels : n ≡ k = cc in
+    let on = one_stop t u zs ws out other way more f stop (subst (λ s. Reads m s ys c) (sym levels) others) g stops
+    tails in
+    (ap₂ (λ z zs. z ∷ zs) same on.0, on.1, on.2)
+
+-- they read no token at which they stop
+not_all_read : {m : Machine} {a b c : List Level} {xs ys : List (Token ℕ)} (t : Token ℕ) (zs : List (Token ℕ))
+    (out : Fed) → FeedsInOneWay → Reads m a xs b → Feeds m t b out → IsStop out → Reads m a ys c
+    → xs ++ t ∷ zs ≡ ys → ⊥
+not_all_read t zs out way at_end f stop at_end e = cc
+not_all_read t zs out way (onward first more) f stop at_end e = cc
+not_all_read {m} {a} t zs out way at_end f stop (onward {next = n} {token = y} first more) e =
+    let same : t ≡ y = cc in
+    subst IsStop (way m t a out (pushed n) f (subst (λ x. Feeds m x a (pushed n)) (sym same) first)) stop
+not_all_read {m} {a} {c = c} t zs out way (onward {next = n} {token = x} {tokens = xs} first more) f stop
+    (onward {next = k} {token = y} {tokens = ys} second others) e =
+    let same : x ≡ y = cc in
+    let tails : xs ++ t ∷ zs ≡ ys = cc in
+    let both = way m x a (pushed n) (pushed k) first (subst (λ z. Feeds m z a (pushed k)) (sym same) second) in
+    let levels : n ≡ k = cc in
+    not_all_read t zs out way more f stop (subst (λ s. Reads m s ys c) (sym levels) others) tails
+
+-- what is said where the tables stop at a token
+abbrev said_of : List (Token ℕ) → Token ℕ → Fed → Verdict
+said_of before t (fed.done d) = accepted d
+said_of before t fed.refused = refused (length before + 1) t
+said_of before t _ = faulty
+
+-- and where a run of the scanner ends before the end of the text
+abbrev said_at : End → Verdict
+said_at (Stuck byte) = unmatched byte
+said_at _ = faulty
+
+abbrev IsEarly : End → Type 0
+IsEarly Clean = ⊥
+IsEarly _ = Unit {0}
+
+module _ (p : ScanPart) (m : Machine) (text : List ℕ) where
+  -- The tables stop at a token.
+  record Stops (v : Verdict) : Type 0 where
+    before : List (Token ℕ)
+    token : Token ℕ
+    out : Fed
+    comes : Comes p m text before token out
+    stop : IsStop out
+    said : v ≡ said_of before token out
+
+  -- All tokens are read, and the scanner's run ends before the end of the text.
+  record Breaks (v : Verdict) : Type 0 where
+    e : End
+    all : ReadsAll p m text e
+    early : IsEarly e
+    said : v ≡ said_at e
+
+  -- a verdict says one or the other
+  seen : (v : Verdict) → IsVerdictBy p m text v → Stops v ⊎ Breaks v
+  seen (accepted d) h = inl (record {
+    before = h.0.tokens;
+    token = end_of text;
+    out = fed.done d;
+    comes = record {
+      tokens = h.0.tokens;
+      e = Clean;
+      are_tokens = h.0.are_tokens;
+      behind = [];
+      split = refl;
+      last = h.0.last;
+      reads = h.0.reads;
+      feeds = h.1;
+    };
+    stop = tt;
+    said = refl;
+  })
+  seen (refused k t) h = inl (record {
+    before = h.0;
+    token = t;
+    out = fed.refused;
+    comes = h.1;
+    stop = tt;
+    said = ap (λ n. refused n t) h.2;
+  })
+  seen (unmatched byte) h = inr (record { e = Stuck byte; all = h; early = tt; said = refl })
+  seen faulty (inl h) = inl (record {
+    before = h.0;
+    token = h.1;
+    out = fed.faulty;
+    comes = h.2;
+    stop = tt;
+    said = refl;
+  })
+  seen faulty (inr h) = inr (record { e = BadCut h.0; all = h.1; early = tt; said = refl })
+
+  -- early, a parser is fed with the tokens alone
+  fed_early : (ts : List (Token ℕ)) (e : End) → IsEarly e → fed_with text ts e ≡ ts
+  fed_early ts Clean h = absurd h
+  fed_early ts (Stuck byte) h = refl
+  fed_early ts (BadCut byte) h = refl
+
+  both_stop : (v u : Verdict) → FeedsInOneWay → Stops v → Stops u → v ≡ u
+  both_stop v u way a b =
+      let x = a.comes in
+      let y = b.comes in
+      let same = one_tokens p text x.tokens y.tokens x.e y.e x.are_tokens y.are_tokens in
+      let fed_same = sym x.split ∙ (ap₂ (λ ts e. fed_with text ts e) same.0 same.1 ∙ y.split) in
+      let on = one_stop a.token b.token x.behind y.behind a.out b.out way x.reads x.feeds a.stop y.reads y.feeds b.stop
+      fed_same in
+      a.said ∙ (ap₂ (λ ts t. said_of ts t a.out) on.0 on.1 ∙ (ap (said_of b.before b.token) on.2 ∙ sym b.said))
+
+  never_both : (v u : Verdict) → FeedsInOneWay → Stops v → Breaks u → ⊥
+  never_both v u way a b =
+      let x = a.comes in
+      let y = b.all in
+      let same = one_tokens p text x.tokens y.tokens x.e b.e x.are_tokens y.are_tokens in
+      let fed_same = sym x.split ∙ (ap₂ (λ ts e. fed_with text ts e) same.0 same.1 ∙ fed_early y.tokens b.e b.early) in
+      not_all_read a.token x.behind a.out way x.reads x.feeds a.stop y.reads fed_same
+
+  -- a text has one verdict
+  pub one_verdict : (v u : Verdict) → FeedsInOneWay → IsVerdictBy p m text v → IsVerdictBy p m text u → v ≡ u
+  one_verdict v u way a b = by_seen (seen v a) (seen u b)
+    where
+      by_seen : Stops v ⊎ Breaks v → Stops u ⊎ Breaks u → v ≡ u
+      by_seen (inl x) (inl y) = both_stop v u way x y
+      by_seen (inl x) (inr y) = absurd (never_both v u way x y)
+      by_seen (inr x) (inl y) = absurd (never_both u v way y x)
+      by_seen (inr x) (inr y) = x.said
+          ∙ (ap said_at (one_tokens p text x.all.tokens y.all.tokens x.e y.e x.all.are_tokens y.all.are_tokens).1
+          ∙ sym y.said)
