@@ -43,7 +43,7 @@ impl Model for Limits {
 }
 
 impl Limits {
-    ghost use Rattle.ly_base.specs.Limits.{version_1};
+    ghost use Rattle.ly_base.specs.Limits.{version_1, AreBounded};
 
     /// The limits of version 1.
     pub const V1: Limits = Limits {
@@ -64,6 +64,13 @@ impl Limits {
         ensures { result ≡ version_1 }
     {
         Limits::V1
+    }
+
+    /// Does nothing: its contract says what the type keeps, that no limit is above version 1's.
+    pub fn are_bounded(&self)
+        ensures { AreBounded self.now }
+    {
+        let _ = &self.symbols;
     }
 
     /// How many symbols a grammar may have, `$end`, `$undef` and `$accept` among them.

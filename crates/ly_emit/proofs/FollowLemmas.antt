@@ -70,7 +70,7 @@ lost : (d : Option ℕ) → or_default (without d None) (Some d) ≡ or_default 
 lost None = refl
 lost (Some p) = refl
 
-is_that : (p : ℕ) (o : Option TableAction) → is_by p o ≡ true → o ≡ Some (table.reduce p)
+pub is_that : (p : ℕ) (o : Option TableAction) → is_by p o ≡ true → o ≡ Some (table.reduce p)
 is_that p None is = absurd cc
 is_that p (Some (table.shift state)) is = absurd cc
 is_that p (Some table.accept) is = absurd cc
@@ -78,7 +78,7 @@ is_that p (Some table.error) is = absurd cc
 is_that p (Some (table.reduce q)) is = ap (λ k. Some (table.reduce k)) (sym (eqb-true p q is))
 
 -- some element passes where as many as one do
-some_passes : (f : ℕ → Bool) (xs : List ℕ) → 1 ≤ length (filter f xs) → (x : ℕ) × (f x ≡ true)
+pub some_passes : (f : ℕ → Bool) (xs : List ℕ) → 1 ≤ length (filter f xs) → (x : ℕ) × (f x ≡ true)
 some_passes f [] some = absurd (omega arith)
 some_passes f (x ∷ xs) some = by_first (f x) refl (λ rest. some_passes f xs rest) where
   by_first : (b : Bool) → f x ≡ b → (1 ≤ length (filter f xs) → (y : ℕ) × (f y ≡ true)) → (y : ℕ) × (f y ≡ true)

@@ -1,7 +1,11 @@
+pub mod AlikeLemmas
+pub mod CombSizeLemmas
 pub mod EndLemmas
 pub mod FillLemmas
 pub mod FollowLemmas
 pub mod ListingLemmas
+pub mod OneLemmas
+pub mod RangeLemmas
 pub mod RowLemmas
 pub mod RunLemmas
 pub mod SetLemmas

@@ -71,7 +71,7 @@ module _ (M : Automaton) (is : IsAutomaton M) (k : ℕ) (lt : k < length M.state
 -- ENTRIES
 
 -- an action that is done is asked for, or another is
-asked_for : (G : Grammar) (judge : Judge) (g : List Symbol) (t : ℕ) (a : Action) → IsAction G judge g t a
+pub asked_for : (G : Grammar) (judge : Judge) (g : List Symbol) (t : ℕ) (a : Action) → IsAction G judge g t a
     → (b : Action) × IsRaw G g t b
 asked_for G judge g t shift taken = (shift, taken.0)
 asked_for G judge g t (reduce p) taken = (reduce p, taken.0.0)

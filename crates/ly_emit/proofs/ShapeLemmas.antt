@@ -101,15 +101,15 @@ rules_fit (rule before n ws behind rest x rs follows body h) (suc k) r at w long
 rules_fit (semicolon n ws rs h) k r at w long = rules_fit h k r at w long
 
 -- what a rule of the grammar is joined from
-record IsJoinedAt (m : SymbolTable) (rs : List Ruling) (notes : List Note) (k : ℕ) (x : Rule) : Type 0 where
-  ruling : Ruling
-  note : Note
-  is_ruling : slice_get rs k ≡ Some ruling
-  is_note : slice_get notes k ≡ Some note
-  joined : IsJoinedRule m ruling x note
+pub record IsJoinedAt (m : SymbolTable) (rs : List Ruling) (notes : List Note) (k : ℕ) (x : Rule) : Type 0 where
+  pub ruling : Ruling
+  pub note : Note
+  pub is_ruling : slice_get rs k ≡ Some ruling
+  pub is_note : slice_get notes k ≡ Some note
+  pub joined : IsJoinedRule m ruling x note
 
-joined_at : (m : SymbolTable) (rs : List Ruling) (rules : List Rule) (notes : List Note) → AreJoined m rs rules notes
-    → (k : ℕ) (x : Rule) → slice_get rules k ≡ Some x → IsJoinedAt m rs notes k x
+pub joined_at : (m : SymbolTable) (rs : List Ruling) (rules : List Rule) (notes : List Note)
+    → AreJoined m rs rules notes → (k : ℕ) (x : Rule) → slice_get rules k ≡ Some x → IsJoinedAt m rs notes k x
 joined_at m [] [] [] all k x at = absurd cc
 joined_at m [] [] (n ∷ notes) all k x at = absurd all
 joined_at m [] (g ∷ rules) notes all k x at = absurd all

@@ -1,12 +1,14 @@
 -- What holds of tables.
-use Rattle.std.specs.Prelude.{◌≡◌, ℕ, ◌<◌, List, [], ◌∷◌, ◌++◌, All}
+use Rattle.std.specs.Prelude.{◌≡◌, ℕ, ◌<◌, ◌≤◌, List, [], ◌∷◌, ◌++◌, All, length}
 use Rattle.ly_base.specs.Lexed.{Token}
 use Rattle.ly_grammar.specs.Reduction.{KeepsUseful}
+use Rattle.ly_join.specs.Grammar.{IsRule, Rule}
 use Rattle.ly_join.specs.Joined.{Joined, Spec}
 use Rattle.ly_join.specs.Scanning.{Scanning}
+use Rattle.ly_loop.specs.Endless.{IsFirstEndless}
 use Rattle.ly_lr0.specs.Automaton.{Automaton, IsAutomaton}
-use Rattle.ly_pack.specs.Machine.{Machine, IsMachine}
-use Rattle.ly_pack.specs.Steady.{IsSteady}
+use Rattle.ly_pack.specs.Machine.{Machine, IsMachine, IsWithin, entry_at, goto_at, states_of}
+use Rattle.ly_pack.specs.Steady.{IsSteady, rule_at}
 use Rattle.ly_base.specs.Trees.{Tree}
 use Rattle.ly_parse.specs.Feeding.{Fed, Feeds, Level, done, refused}
 use Rattle.ly_parse.specs.Reading.{Reads}
@@ -55,3 +57,32 @@ RunsEndOnSteady = (s : Spec) (M : Automaton) (n : Machine) → IsAutomaton M →
 abbrev pub ShapesAreWithin : Type 0
 ShapesAreWithin = (bytes : List ℕ) (x : Scanning) (w : Written) (s : Spec) → YaccText bytes w → Joined x w s
     → AreShapesWithin s
+
+-- Two machines are the same tables of a specification: they have the same entries, defaults and gotos in each of their
+-- states, and the same rule for each of the specification's.
+pub record AreSameTables (s : Spec) (m n : Machine) : Type 0 where
+  pub terminals : m.terminals ≡ n.terminals
+  pub nonterminals : m.nonterminals ≡ n.nonterminals
+  pub defaults : m.defaults ≡ n.defaults
+  pub entries : (k t : ℕ) → k < states_of m → entry_at m k t ≡ entry_at n k t
+  pub gotos : (k A : ℕ) → k < states_of m → A < m.nonterminals → goto_at m k A ≡ goto_at n k A
+  pub rules : (p : ℕ) (r : Rule) → 1 ≤ p → IsRule s.grammar p r → rule_at m p ≡ rule_at n p
+  pub numbers : length m.rules ≡ length n.rules
+
+-- The tables of a specification, with default reductions, are one, by whatever automata of its useful rules.
+abbrev pub TablesAreOne : Type 0
+TablesAreOne = (s : Spec) (M N : Automaton) (m n : Machine) → IsAutomaton M → IsAutomaton N
+    → KeepsUseful s.grammar M.grammar → KeepsUseful s.grammar N.grammar → IsMachineOf s M m → IsMachineOf s N n
+    → AreSameTables s m n
+
+-- so they are steady together, where the others have nothing outside of their rows and columns
+abbrev pub SteadyTogether : Type 0
+SteadyTogether = (s : Spec) (M N : Automaton) (m n : Machine) → IsAutomaton M → IsAutomaton N
+    → KeepsUseful s.grammar M.grammar → KeepsUseful s.grammar N.grammar → IsMachineOf s M m → IsMachineOf s N n
+    → IsWithin n → IsSteady m → IsSteady n
+
+-- A run of a specification's tables that is too long excludes that any tables of it are steady.
+abbrev pub EndlessExcludesSteady : Type 0
+EndlessExcludesSteady = (s : Spec) (M N : Automaton) (m n : Machine) → IsAutomaton M → IsAutomaton N
+    → KeepsUseful s.grammar M.grammar → KeepsUseful s.grammar N.grammar → IsMachineOf s M m → IsMachineOf s N n
+    → IsWithin n → IsSteady m → (below top token : ℕ) → IsFirstEndless n below top token → ⊥

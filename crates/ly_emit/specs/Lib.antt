@@ -1,4 +1,5 @@
 pub mod Endless
+pub mod FitsFile
 pub mod Following
 pub mod Laws
 pub mod Private

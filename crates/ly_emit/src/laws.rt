@@ -1,4 +1,5 @@
-ghost use Rattle.ly_emit.specs.Laws.{AcceptedFollow, RefusedFollow, RunsEndOnSteady, ShapesAreWithin, TablesFollow};
+ghost use Rattle.ly_emit.specs.Laws.{AcceptedFollow, EndlessExcludesSteady, RefusedFollow, RunsEndOnSteady};
+ghost use Rattle.ly_emit.specs.Laws.{ShapesAreWithin, SteadyTogether, TablesAreOne, TablesFollow};
 
 /// What tables with defaults do with a token, the reference machine does too.
 pub fn tables_follow()
@@ -16,4 +17,12 @@ pub fn runs_follow()
 /// What the rules of a yacc file make of the trees of their bodies speaks of places of the bodies, of each once.
 pub fn shapes_are_within()
     ensures { ShapesAreWithin }
+{}
+
+/// A specification has the same tables by whatever automata, so they are steady together; and where the loop check
+/// names a run of some, no others are steady.
+pub fn tables_are_one()
+    ensures same { TablesAreOne }
+    ensures steady { SteadyTogether }
+    ensures endless { EndlessExcludesSteady }
 {}

@@ -1,7 +1,8 @@
 //! The tables of a scanner.
-ghost use Rattle.std.specs.Prelude.{◌≡◌, ◌*◌, ◌+◌, ◌<◌, ℕ, IfOk, length, map};
+ghost use Rattle.std.specs.Prelude.{◌≡◌, ◌*◌, ◌+◌, ◌<◌, ◌^◌, ℕ, All, IfOk, OnOk, length, map};
 ghost use Rattle.std.specs.Option.{option_map};
 ghost use Rattle.ly_emit.specs.Private.Listing.{AreNextTo, AreStarts};
+ghost use Rattle.ly_emit.specs.Private.Lists.{HasRows};
 ghost use Rattle.ly_pack.specs.Combs.{IsFirstFit};
 ghost use Rattle.ly_pack.specs.Rows.{comb_entry, dense_entry};
 ghost use Rattle.ly_subset.specs.Automaton.{IsAutomaton};
@@ -38,19 +39,22 @@ pub(crate) fn scanner_tables(
 ) -> Result<ScannerTables, OutOfMemory>
     requires rules { length rules.now ≡ length actions.now }
     requires starts { (conditions : ℕ) × (dfa.now.starts ≡ 2 * conditions) }
+    requires conditions { dfa.now.starts < 2 ^ 32 }
+    requires states { length dfa.now.rules < 2 ^ 32 }
     ensures actions { IfOk result (λ t. map (λ r. r.action) (map scan_rule_from t.rules.items) ≡ actions.now) }
     ensures cuts { IfOk result (λ t. map (λ r. r.cut) (map scan_rule_from t.rules.items)
         ≡ map (λ r. r.pattern.cut) rules.now) }
     ensures count { IfOk result (λ t. 2 * length t.conditions.items ≡ dfa.now.starts) }
     ensures starts { IfOk result (λ t. AreStarts dfa.now (map starts_from t.conditions.items)) }
     ensures classes { IfOk result (λ t. t.classes.items ≡ dfa.now.class_of) }
+    ensures bytes { IfOk result (λ t. All (λ class. class < 256) t.classes.items) }
     ensures accepted { IfOk result (λ t. map (option_map (λ p. p.0)) t.accepted.items ≡ dfa.now.rules) }
     ensures rows { IfOk result (λ t. AreNextTo dfa.now (length dfa.now.rules) (comb_entry t.rows)) }
     ensures placed { IfOk result (λ t. IsFirstFit t.rows) }
+    ensures sizes { IfOk result (λ t. HasRows (length dfa.now.rules) dfa.now.classes t.rows) }
+    ensures whole { OnOk result (IsAutomaton dfa.now) }
 {
-    let Ok(states) = u32::try_from(dfa.len()) else {
-        return Err(OutOfMemory);
-    };
+    let states = dfa.len() as u32;
     Ok(ScannerTables {
         rules: scan_rules(alloc, actions, rules)?,
         conditions: conditions(alloc, dfa)?,
@@ -82,14 +86,13 @@ fn scan_rules(
 }
 
 /// Where the conditions begin.
-fn conditions(alloc: Global, dfa: &Dfa) -> Result<Vec<Starts>, OutOfMemory>
-    requires { (conditions : ℕ) × (dfa.now.starts ≡ 2 * conditions) }
+fn conditions(alloc: Global, dfa: &Dfa) -> Result<Vec<Starts>, AllocError>
+    requires starts { (conditions : ℕ) × (dfa.now.starts ≡ 2 * conditions) }
+    requires few { dfa.now.starts < 2 ^ 32 }
     ensures count { IfOk result (λ c. 2 * length c.items ≡ dfa.now.starts) }
     ensures starts { IfOk result (λ c. AreStarts dfa.now (map starts_from c.items)) }
 {
-    let Ok(count) = u32::try_from(dfa.starts() / 2) else {
-        return Err(OutOfMemory);
-    };
+    let count = (dfa.starts() / 2) as u32;
     let mut conditions = Vec::with_capacity(alloc, count as usize)?;
     for condition in 0..count {
         conditions.push(Starts {
@@ -103,7 +106,8 @@ fn conditions(alloc: Global, dfa: &Dfa) -> Result<Vec<Starts>, OutOfMemory>
 /// The class of each byte.
 fn classes(alloc: Global, dfa: &Dfa) -> Result<Vec<u8>, AllocError>
     requires { IsAutomaton dfa.now }
-    ensures { IfOk result (λ classes. classes.items ≡ dfa.now.class_of) }
+    ensures these { IfOk result (λ classes. classes.items ≡ dfa.now.class_of) }
+    ensures bytes { IfOk result (λ classes. All (λ class. class < 256) classes.items) }
 {
     let mut classes = Vec::with_capacity(alloc, 256)?;
     for byte in 0..256usize {
@@ -127,7 +131,9 @@ fn accepted(alloc: Global, dfa: &Dfa, states: u32) -> Result<Vec<Option<RuleNo>>
 /// Where states lead, by classes, as rows that stand one behind another.
 fn dense_rows(alloc: Global, dfa: &Dfa, states: u32) -> Result<Dense<StateNo>, OutOfMemory>
     requires { states ≡ length dfa.now.rules }
-    ensures { IfOk result (λ rows. AreNextTo dfa.now (length dfa.now.rules) (dense_entry rows)) }
+    ensures rows { IfOk result (λ rows. rows.rows ≡ length dfa.now.rules) }
+    ensures width { IfOk result (λ rows. rows.width ≡ dfa.now.classes) }
+    ensures filled { IfOk result (λ rows. AreNextTo dfa.now (length dfa.now.rules) (dense_entry rows)) }
 {
     let mut rows = Dense::new(alloc, states as usize, dfa.classes())?;
     for state in 0..states {

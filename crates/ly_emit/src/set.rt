@@ -1,13 +1,14 @@
 //! The table set of a specification.
-ghost use Rattle.std.specs.Prelude.{◌≡◌, ◌*◌, ◌<◌, ℕ, IfOk, OnOk, length, map};
+ghost use Rattle.std.specs.Prelude.{◌≡◌, ◌*◌, ◌<◌, ℕ, All, IfOk, length, map};
 ghost use Rattle.std.specs.Int.{w16};
+ghost use Rattle.ly_emit.specs.FitsFile.{FitsFile};
 ghost use Rattle.ly_emit.specs.Private.Listing.{AreLiterals};
 ghost use Rattle.ly_emit.specs.SetOf.{IsSetOf};
 ghost use Rattle.ly_emit.specs.Tables.{IsMachineOf};
 ghost use Rattle.ly_join.specs.Sizes.{HasSizes};
-ghost use Rattle.ly_pack.specs.Machine.{IsMachine};
+ghost use Rattle.ly_join.specs.Terminals.{terminal_from};
 ghost use Rattle.ly_pack.specs.Steady.{IsSteady};
-ghost use Rattle.ly_report.specs.Report.{terminal_name};
+ghost use Rattle.ly_report.specs.Report.{terminal_name as printed};
 ghost use Rattle.ly_tables.specs.Ranges.{version_1, IsWithinRanges};
 ghost use Rattle.ly_tables.specs.TableSet.{machine_of};
 ghost use Rattle.ly_tables.specs.Values.{set_of};
@@ -15,7 +16,7 @@ ghost use Rattle.ly_tables.specs.Values.{set_of};
 use crate::scanner_tables::scanner_tables;
 use ly_base::{OutOfMemory, StateNo, Sym};
 use ly_ere::Rule;
-use ly_join::Spec;
+use ly_join::{Spec, TerminalName};
 use ly_pack::{Dense, Machine, TableAction, pack};
 use ly_report::push_terminal;
 use ly_resolve::Resolved;
@@ -25,7 +26,8 @@ use std::alloc::{AllocError, Global};
 
 /// The table set of a specification: its parser's tables, and the automaton of its scanner.
 ///
-/// `OutOfMemory` comes where a growth was refused, or where a number is past what a table file holds.
+/// What is asked for fits a file, so that no number is past what a file holds: `OutOfMemory` comes where a growth was
+/// refused. (`ly_pack` looks whether a base has a `u32`, as those of rows within a file's counts always do.)
 pub fn table_set(
     alloc: Global,
     resolved: &Resolved<'_>,
@@ -35,6 +37,7 @@ pub fn table_set(
 ) -> Result<TableSet, OutOfMemory>
     requires tables { IsMachineOf resolved.now.spec resolved.now.automaton machine }
     requires steady { IsSteady machine }
+    requires fits { FitsFile resolved.now.spec rules.now dfa.now resolved.now.automaton }
     requires rules { length rules.now ≡ length resolved.now.spec.scanner }
     requires starts { (conditions : ℕ) × (dfa.now.starts ≡ 2 * conditions) }
     ensures set { IfOk result (IsSetOf resolved.now.spec resolved.now.automaton rules.now dfa.now) }
@@ -42,9 +45,6 @@ pub fn table_set(
     ensures ends { IfOk result (λ s. IsSteady (machine_of s)) }
 {
     let parts = table_parts(alloc, resolved, machine, rules, dfa)?;
-    if !parts.is_within() {
-        return Err(OutOfMemory);
-    }
     Ok(TableSet::new(parts))
 }
 
@@ -57,11 +57,12 @@ fn table_parts(
     dfa: &Dfa,
 ) -> Result<TableParts, OutOfMemory>
     requires tables { IsMachineOf resolved.now.spec resolved.now.automaton machine }
+    requires fits { FitsFile resolved.now.spec rules.now dfa.now resolved.now.automaton }
     requires rules { length rules.now ≡ length resolved.now.spec.scanner }
     requires starts { (conditions : ℕ) × (dfa.now.starts ≡ 2 * conditions) }
     ensures set { IfOk result (λ parts. IsSetOf resolved.now.spec resolved.now.automaton rules.now dfa.now
         (set_of parts) × (machine_of (set_of parts) ≡ machine)) }
-    ensures whole { OnOk result (IsMachine machine) }
+    ensures within { IfOk result (λ parts. IsWithinRanges w16 version_1 (set_of parts)) }
 {
     let spec = resolved.spec();
     let parser = pack(alloc, machine)?.into_parts();
@@ -85,22 +86,38 @@ fn table_parts(
 
 /// The printed names of the terminals, by their numbers.
 fn terminal_names(alloc: Global, spec: &Spec) -> Result<Vec<Vec<u8>>, AllocError>
-    ensures names { IfOk result (λ names. map (λ name. name.items) names.items
-        ≡ map terminal_name spec.now.terminals) }
+    ensures names { IfOk result (λ names. map (λ name. name.items) names.items ≡ map printed spec.now.terminals) }
+    ensures bytes { IfOk result (λ names. All (λ name. All (λ byte. byte < 256) name.items) names.items) }
     ensures sizes { HasSizes spec.now }
 {
     let mut names = Vec::with_capacity(alloc, spec.grammar().terminals() as usize)?;
     for terminal in spec.terminals() {
-        let mut name = Vec::new(alloc);
-        push_terminal(&mut name, terminal)?;
-        names.push(name)?;
+        names.push(terminal_name(alloc, terminal)?)?;
     }
     Ok(names)
 }
 
+/// The printed name of a terminal.
+fn terminal_name(alloc: Global, terminal: &TerminalName) -> Result<Vec<u8>, AllocError>
+    ensures name { IfOk result (λ name. name.items ≡ printed (terminal_from terminal.now)) }
+    ensures bytes { IfOk result (λ name. All (λ byte. byte < 256) name.items) }
+{
+    let mut name = Vec::new(alloc);
+    push_terminal(&mut name, terminal)?;
+    // the call's contract says what the type of a byte does
+    are_bytes(&name);
+    Ok(name)
+}
+
+/// What a name consists of is bytes.
+fn are_bytes(name: &[u8])
+    ensures { All (λ byte. byte < 256) name.now }
+{}
+
 /// The terminal of each byte as a literal.
 fn literals(alloc: Global, spec: &Spec) -> Result<Vec<Sym>, AllocError>
-    ensures { IfOk result (λ literals. AreLiterals spec.now.terminals (map (λ t. t.0) literals.items)) }
+    ensures literals { IfOk result (λ literals. AreLiterals spec.now.terminals (map (λ t. t.0) literals.items)) }
+    ensures count { IfOk result (λ literals. length literals.items ≡ 256) }
 {
     let mut literals = Vec::with_capacity(alloc, 256)?;
     for byte in 0..256usize {

@@ -24,6 +24,8 @@ pub fn steady_machine(
     ensures endless { IfErr result (IsRefusedFor resolved.now.spec resolved.now.automaton) }
 {
     let tables = choose_defaults(alloc, machine(alloc, resolved)?)?;
+    // the call's contract says that nothing stands outside of the rows
+    let _states = tables.states();
     steady(alloc, &tables)?;
     Ok(tables)
 }

@@ -1,13 +1,12 @@
 -- The walk over the positions of a lex file agrees with its rules.
-use Rattle.std.proofs.Common.{◌≡◌, inl, inr, ℕ, ◌<◌, ◌≤◌, List, subst, arith}
+use Rattle.std.proofs.Common.{inl, inr, ℕ, ◌<◌, ◌≤◌, List, subst}
 use Rattle.std.specs.Prelude.{Contains, ◌⊎◌}
 use Rattle.std.proofs.lemmas.Bool.{cases_lt}
-use Rattle.ly_ere.specs.Names.{Definition, defined}
-use Rattle.ly_base.proofs.MemberLemmas.{Contains-none, Contains-one}
-use Rattle.ly_ere.specs.declared.pattern.Rule.{Rule}
+use Rattle.ly_ere.specs.Names.{defined}
+use Rattle.ly_base.proofs.MemberLemmas.{Contains-none}
 use Rattle.ly_lexread.specs.LexText.{LexText}
 use Rattle.ly_lexread.specs.declared.file.LexFile.{LexFile}
-use Rattle.ly_lexread.proofs.FileLemmas.{IsOfFile, rules_of, rules_cut}
+use Rattle.ly_lexread.proofs.FileLemmas.{rules_of, rules_cut}
 use Rattle.ly_position.specs.Nfa.{Nfa, RunsTo, starts_of}
 use Rattle.ly_position.specs.Patterns.{ArePositions}
 use Rattle.ly_ere.specs.Winner.{IsString}

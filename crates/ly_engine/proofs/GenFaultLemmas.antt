@@ -4,7 +4,7 @@ use Rattle.ly_base.specs.Limits.{Sizes}
 use Rattle.ly_join.specs.Joined.{Spec}
 use Rattle.ly_report.specs.declared.fault.ReportFault.{ReportFault}
 use Rattle.ly_report.specs.declared.fault.ReportFault.TheVariants as report
-use Rattle.ly_engine.specs.Accepted.{IsRefusedFor, IsUnfitFor, Specifies}
+use Rattle.ly_engine.specs.Accepted.{IsFailedWrite, IsRefusedFor, IsUnfitFor, Specifies}
 use Rattle.std.specs.Result.{IsErrAnd}
 use Rattle.ly_position.specs.declared.fault.PosFault.{PosFault}
 use Rattle.ly_position.specs.declared.fault.PosFault.TheVariants as position
@@ -12,7 +12,7 @@ use Rattle.ly_subset.specs.declared.fault.SubsetFault.{SubsetFault}
 use Rattle.ly_subset.specs.declared.fault.SubsetFault.TheVariants as subset
 use Rattle.ly_engine.specs.GenFault.{gen_of_report, Becomes}
 use Rattle.ly_engine.specs.declared.gen_fault.GenFault.{GenFault}
-use Rattle.ly_engine.specs.declared.gen_fault.GenFault.TheVariants.{Automaton, Grammar as NoGrammar, Join, Lex}
+use Rattle.ly_engine.specs.declared.gen_fault.GenFault.TheVariants.{Automaton, Endless, Grammar as NoGrammar, Join, Lex}
 use Rattle.ly_engine.specs.declared.gen_fault.GenFault.TheVariants.{OutOfMemory}
 use Rattle.ly_engine.specs.declared.gen_fault.GenFault.TheVariants.{Positions, States, Write, Yacc}
 
@@ -57,6 +57,11 @@ pub ok_weaker : {T E : Type 0} (r : Result T E) (P Q : T → Type 0) → ((x : T
 ok_weaker (Ok x) P Q f h = f x h
 ok_weaker (Err e) P Q f h = h
 
+pub ok_both : {T E : Type 0} (r : Result T E) (P Q R : T → Type 0) → ((x : T) → P x → Q x → R x) → IfOk r P → IfOk r Q
+    → IfOk r R
+ok_both (Ok x) P Q R f h k = f x h k
+ok_both (Err e) P Q R f h k = h
+
 pub err_weaker : {T E : Type 0} (r : Result T E) (P Q : E → Type 0) → ((e : E) → P e → Q e) → IfErr r P → IfErr r Q
 err_weaker (Ok x) P Q f h = h
 err_weaker (Err e) P Q f h = f e h
@@ -71,5 +76,36 @@ unfit_refused limits lex yacc s specifies (Positions f) unfit = absurd unfit
 unfit_refused limits lex yacc s specifies (States f) unfit = absurd unfit
 unfit_refused limits lex yacc s specifies (NoGrammar f) unfit = (s, specifies, unfit)
 unfit_refused limits lex yacc s specifies (Automaton f) unfit = (s, specifies, unfit)
+unfit_refused limits lex yacc s specifies (Endless below top t name) unfit = (s, specifies, unfit)
 unfit_refused limits lex yacc s specifies (Write written) unfit = absurd unfit
 unfit_refused limits lex yacc s specifies OutOfMemory unfit = tt
+
+-- nor is it a failed write
+pub unfit_is_no_write : (limits : Sizes) (s : Spec) (fault : GenFault) → IsUnfitFor limits s fault
+    → IsFailedWrite fault → ⊥
+unfit_is_no_write limits s (Lex f) unfit is = is
+unfit_is_no_write limits s (Yacc f) unfit is = is
+unfit_is_no_write limits s (Join f) unfit is = is
+unfit_is_no_write limits s (Positions f) unfit is = is
+unfit_is_no_write limits s (States f) unfit is = is
+unfit_is_no_write limits s (NoGrammar f) unfit is = is
+unfit_is_no_write limits s (Automaton f) unfit is = is
+unfit_is_no_write limits s (Endless below top t name) unfit is = is
+unfit_is_no_write limits s (Write written) unfit is = unfit
+unfit_is_no_write limits s OutOfMemory unfit is = is
+
+-- a fault that is handed on is the one that is answered
+pub gave_same : {T : Type 0} (r : Result T GenFault) (f g : GenFault) → IsErrAnd r (λ e. e ≡ f) → r ≡ Err g → f ≡ g
+gave_same (Ok x) f g h is = absurd h
+gave_same (Err e) f g h is = let same : e ≡ g = cc in sym h ∙ same
+
+-- what a report that isn't written whole says of the specification: nothing
+pub report_unfit : (limits : Sizes) (s : Spec) (f : ReportFault) → (IsFailedWrite (gen_of_report f) → ⊥)
+    → IsUnfitFor limits s (gen_of_report f)
+report_unfit limits s (report.Write written) other = absurd (other tt)
+report_unfit limits s report.OutOfMemory other = tt
+
+-- and without a failed write memory ran out
+pub report_memory : (f : ReportFault) → (IsFailedWrite (gen_of_report f) → ⊥) → f ≡ report.OutOfMemory
+report_memory (report.Write written) other = absurd (other tt)
+report_memory report.OutOfMemory other = refl

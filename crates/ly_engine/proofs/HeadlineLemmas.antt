@@ -1,18 +1,18 @@
 -- Tables that are generated say of a text what the specification says of it.
-use Rattle.std.proofs.Common.{◌≡◌, ◌∙◌, ◌<◌, ◌≤◌, ◌+◌, ℕ, List, [], ◌∷◌, ◌++◌, All, ap, arith, inl, inr, length, map, refl}
-use Rattle.std.proofs.Common.{append-nil, append_assoc, subst, sym}
+use Rattle.std.proofs.Common.{◌≡◌, ◌∙◌, ◌<◌, ◌≤◌, ℕ, List, [], ◌∷◌, ◌++◌, All, ap, arith, inl, inr, length, map, refl}
+use Rattle.std.proofs.Common.{append-nil, subst, sym}
 use Rattle.std.specs.List.{AllZip}
 use Rattle.std.proofs.lemmas.List.{length-map}
 use Rattle.std.proofs.lemmas.List.Elements.{All-cons, All-head, All-tail}
 use Rattle.ly_base.specs.Lexed.{Token, start_of, tokens_from}
 use Rattle.ly_base.specs.declared.lexeme.End.{End}
 use Rattle.ly_base.specs.declared.lexeme.End.TheVariants.{BadCut, Clean, Stuck}
-use Rattle.ly_drive.specs.ScanPart.{ScanPart, condition_in, scan_part_of, scanner_in, terminal_in}
-use Rattle.ly_drive.specs.TableAnswer.{AreTokens, Comes, ReadsAll, IsVerdict, end_of, fed_with}
+use Rattle.ly_drive.specs.ScanPart.{condition_in, scan_part_of, scanner_in}
+use Rattle.ly_drive.specs.TableAnswer.{AreTokens, Comes, IsVerdict, end_of, fed_with}
 use Rattle.ly_drive.specs.Verdict.{Verdict, accepted, faulty, refused, unmatched}
 use Rattle.ly_emit.specs.Following.{bottom}
 use Rattle.ly_emit.specs.Laws.{AreOf}
-use Rattle.ly_emit.specs.Tables.{IsMachineOf, shape_in}
+use Rattle.ly_emit.specs.Tables.{IsMachineOf}
 use Rattle.ly_emit.proofs.FollowLemmas.{tables_follow}
 use Rattle.ly_emit.proofs.RunLemmas.{accepted_follow, reads_follow, refused_follow}
 use Rattle.ly_engine.specs.PositionWalk.{cut_in}
@@ -32,7 +32,7 @@ use Rattle.ly_join.specs.Scanning.{IsScanAction, acting_of, scanning_of}
 use Rattle.ly_lexread.specs.declared.file.LexFile.{LexFile}
 use Rattle.ly_lr0.specs.Automaton.{Automaton}
 use Rattle.ly_parse.specs.Feeding as fed
-use Rattle.ly_resolve.specs.Machine.{Leads, Pushed, begin}
+use Rattle.ly_resolve.specs.Machine.{Leads, begin}
 use Rattle.ly_resolve.specs.Precedence.{judge_of}
 use Rattle.ly_scan.specs.Lexer.{Scanner}
 use Rattle.ly_tables.specs.TableSet.{TableSet, machine_of}

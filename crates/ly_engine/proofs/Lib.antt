@@ -1,8 +1,13 @@
 pub mod AgreementLemmas
 pub mod AnswerLaws
 pub mod AnswerLemmas
+pub mod CountLemmas
 pub mod FileAgreementLemmas
+pub mod FitGrammarLemmas
+pub mod FitLemmas
+pub mod FitScannerLemmas
 pub mod GenFaultLemmas
+pub mod GeneratedLemmas
 pub mod HeadlineLemmas
 pub mod PositionAgreementLemmas
 pub mod PositionWalkLemmas

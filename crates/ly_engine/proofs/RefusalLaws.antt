@@ -1,19 +1,17 @@
 -- Files that are refused aren't accepted.
-use Rattle.std.proofs.Common.{◌≡◌, ◌≢◌, ◌∙◌, ◌<◌, ◌≤◌, ◌+◌, ℕ, zero, suc, List, [], ◌∷◌, Bool, Option, Some, None}
+use Rattle.std.proofs.Common.{◌≡◌, ◌≢◌, ◌∙◌, ◌+◌, ℕ, suc, List, [], ◌∷◌, Bool}
 use Rattle.std.proofs.Common.{arith, ap, ap₂}
-use Rattle.std.proofs.Common.{inl, inr, refl, subst, sym}
-use Rattle.std.specs.Prelude.{All, AllPairs, Contains, IsTrue, length, map, slice_get}
+use Rattle.std.proofs.Common.{refl, subst, sym}
+use Rattle.std.specs.Prelude.{Contains, IsTrue, length, map}
 use Rattle.std.proofs.lemmas.List.Elements.{All-weaker}
 use Rattle.ly_base.specs.Limits.{Sizes}
 use Rattle.ly_ere.specs.Expression.{Expression}
 use Rattle.ly_ere.specs.Names.{defined}
 use Rattle.ly_ere.specs.declared.pattern.Rule.{Rule}
-use Rattle.ly_grammar.specs.Derivations.{IsTree}
 use Rattle.ly_grammar.specs.Items.{HasMoreCores}
 use Rattle.ly_grammar.specs.Reduction.{KeepsUseful}
 use Rattle.ly_grammar.proofs.ReduceLemmas.{keeps_trees}
-use Rattle.ly_join.specs.Grammar as grammar
-use Rattle.ly_join.specs.Grammar.{Grammar, IsRule}
+use Rattle.ly_join.specs.Grammar.{Grammar}
 use Rattle.ly_join.specs.Joined.{Joined, Spec}
 use Rattle.ly_join.specs.Scanning.{acting_of, returning_of, scanning_of, Returning}
 use Rattle.ly_join.specs.Scanning as scanning
@@ -35,13 +33,13 @@ use Rattle.ly_position.specs.TotalWeight.{total_weight}
 use Rattle.ly_position.specs.Written.{pattern_written}
 use Rattle.ly_ere.specs.Weight.{weight_of_both}
 use Rattle.ly_subset.specs.RuleSets.{HasSpot, HaveMoreSets}
-use Rattle.ly_yaccread.specs.File.{Written}
-use Rattle.ly_yaccread.specs.YaccText.{YaccText}
 use Rattle.ly_yaccread.proofs.TextLemmas.{text_one}
+use Rattle.ly_emit.proofs.OneLemmas.{endless_excludes_steady}
+use Rattle.ly_grammar.proofs.OneLemmas.{useful_rules_are_one}
 use Rattle.ly_engine.specs.Accepted.{IsFit, IsRefusedFor, IsUnfitFor, Specifies}
 use Rattle.ly_engine.specs.Laws.{RefusalIsExact}
 use Rattle.ly_engine.specs.declared.gen_fault.GenFault.{GenFault}
-use Rattle.ly_engine.specs.declared.gen_fault.GenFault.TheVariants.{Automaton, Grammar as NoGrammar, Join, Lex}
+use Rattle.ly_engine.specs.declared.gen_fault.GenFault.TheVariants.{Automaton, Endless, Grammar as NoGrammar, Join, Lex}
 use Rattle.ly_engine.specs.declared.gen_fault.GenFault.TheVariants.{OutOfMemory}
 use Rattle.ly_engine.specs.declared.gen_fault.GenFault.TheVariants.{Positions, States, Write, Yacc}
 
@@ -127,37 +125,6 @@ scanning_same f g same
     scanning_by : ℕ → ℕ → List scanning.Acting → scanning.Scanning
     scanning_by rules conditions actions = record { rules = rules; conditions = conditions; actions = actions }
 
--- two grammars of the useful rules of one are the same
-option_same : {X : Type 0} (a b : Option X) → ((x : X) → (a ≡ Some x) → (b ≡ Some x))
-    → ((x : X) → (b ≡ Some x) → (a ≡ Some x)) → a ≡ b
-option_same None None to back = refl
-option_same None (Some y) to back = back y refl
-option_same (Some x) b to back = sym (to x refl)
-
-rules_same : (xs ys : List (Option grammar.Rule)) → length xs ≡ length ys
-    → ((p : ℕ) (r : grammar.Rule) → slice_get xs p ≡ Some (Some r) → slice_get ys p ≡ Some (Some r))
-    → ((p : ℕ) (r : grammar.Rule) → slice_get ys p ≡ Some (Some r) → slice_get xs p ≡ Some (Some r)) → xs ≡ ys
-rules_same [] [] n to back = refl
-rules_same [] (y ∷ ys) n to back = absurd (omega (arith, n))
-rules_same (x ∷ xs) [] n to back = absurd (omega (arith, n))
-rules_same (x ∷ xs) (y ∷ ys) n to back = ap₂ ◌∷◌
-    (option_same x y (λ r e. unwrapped y r (to zero r (ap Some e))) (λ r e. unwrapped x r (back zero r (ap Some e))))
-    (rules_same xs ys (omega (arith, n)) (λ p r. to (suc p) r) (λ p r. back (suc p) r))
-  where
-    unwrapped : (o : Option grammar.Rule) (r : grammar.Rule) → Some o ≡ Some (Some r) → o ≡ Some r
-    unwrapped o r e = cc e
-
-abbrev grammar_by : ℕ → ℕ → ℕ → List (Option grammar.Rule) → Grammar
-grammar_by terminals accept start rules
-    = record { terminals = terminals; accept = accept; start = start; rules = rules }
-
-useful_same : (G R S : Grammar) → KeepsUseful G R → KeepsUseful G S → R ≡ S
-useful_same G R S r s = ap (λ t. grammar_by t R.accept R.start R.rules) (r.terminals ∙ sym s.terminals)
-    ∙ (ap (λ a. grammar_by S.terminals a R.start R.rules) (r.accept ∙ sym s.accept)
-    ∙ (ap (λ a. grammar_by S.terminals S.accept a R.rules) (r.start ∙ sym s.start)
-    ∙ ap (grammar_by S.terminals S.accept S.start) (rules_same R.rules S.rules (r.numbers ∙ sym s.numbers)
-    (λ p x is. (s.rules p x).1 ((r.rules p x).0 is)) (λ p x is. (r.rules p x).1 ((s.rules p x).0 is)))))
-
 module _ (limits : Sizes) (lex yacc : List ℕ) (s : Spec) (is : Specifies limits lex yacc s) where
   -- another value of the lex file says the same to the grammar
   scanning_is : (file : LexFile) → LexText lex file → scanning_of file ≡ scanning_of is.file
@@ -184,7 +151,13 @@ module _ (limits : Sizes) (lex yacc : List ℕ) (s : Spec) (is : Specifies limit
       unfit.1 d.0 ((keeps_trees s.grammar useful fit.useful_rules d.0).1 d.1)
   unfit_not_fit useful fit (Automaton f) some (e, other, keeps, more) = fit.few
       (subst (λ G. HasMoreCores G limits.parser_states)
-      (useful_same s.grammar other useful keeps fit.useful_rules) more)
+      (useful_rules_are_one s.grammar other useful keeps fit.useful_rules) more)
+  unfit_not_fit useful fit (Endless below top t name) some (run, named) =
+      let steady = fit.steady in
+      endless_excludes_steady s steady.automaton run.automaton steady.machine run.machine steady.is_automaton
+      run.is_automaton
+      (subst (λ G. KeepsUseful s.grammar G) (sym steady.same) fit.useful_rules) run.useful steady.is_machine
+      run.is_machine run.within steady.steady below.0 top.0 t.0 run.first
 
   not_refused : (useful : Grammar) → IsFit limits s useful → (fault : GenFault) → fault ≢ OutOfMemory
       → IsRefusedFor limits lex yacc fault → ⊥
@@ -219,6 +192,9 @@ module _ (limits : Sizes) (lex yacc : List ℕ) (s : Spec) (is : Specifies limit
       (subst (λ x. IsUnfitFor limits x (NoGrammar f)) (specified_one t other) unfit)
   not_refused useful fit (Automaton f) some (t, other, unfit) = unfit_not_fit useful fit (Automaton f) some
       (subst (λ x. IsUnfitFor limits x (Automaton f)) (specified_one t other) unfit)
+  not_refused useful fit (Endless below top u name) some (t, other, unfit)
+      = unfit_not_fit useful fit (Endless below top u name) some
+      (subst (λ x. IsUnfitFor limits x (Endless below top u name)) (specified_one t other) unfit)
 
 pub refusal_exact : RefusalIsExact
 refusal_exact limits lex yacc s useful fault some refused is fit

@@ -1,6 +1,6 @@
 -- The walk over rows agrees with the rules that the automaton tells.
-use Rattle.std.proofs.Common.{◌≡◌, ◌<◌, ◌≤◌, ◌∙◌, ℕ, List, Bool, Option, Some, None, true, false, refl, sym, ap, subst}
-use Rattle.std.proofs.Common.{[], ◌∷◌, arith, inl, inr, Contains, ◌*◌, lt-ltb}
+use Rattle.std.proofs.Common.{◌≡◌, ◌≤◌, ◌∙◌, ℕ, List, Bool, Option, Some, None, true, false, refl, sym, ap, subst}
+use Rattle.std.proofs.Common.{[], ◌∷◌, arith, inl, inr, ◌*◌}
 use Rattle.std.specs.Prelude.{nat_lt, if◌then◌else◌, option_map, unwrap_or}
 use Rattle.std.proofs.lemmas.Bool.{cases_lt}
 use Rattle.std.proofs.lemmas.Bool.Decides.{nat_tests}

@@ -1,5 +1,5 @@
 -- Scanners that walk and cut alike find the same lexemes.
-use Rattle.std.proofs.Common.{◌≡◌, ◌∙◌, ℕ, List, [], ◌∷◌, Bool, Option, Some, None, ap, length, subst, sym, take}
+use Rattle.std.proofs.Common.{◌≡◌, ◌∙◌, ℕ, List, [], ◌∷◌, Bool, Option, ap, subst, sym, take}
 use Rattle.ly_base.specs.Lexed.{Lexed, Place, moved, place_after}
 use Rattle.ly_base.specs.declared.lexeme.End.{End}
 use Rattle.ly_base.specs.declared.lexeme.End.TheVariants.{BadCut, Clean, Stuck}
@@ -42,7 +42,8 @@ module _ (S T : Scanner) (walks : (c : ℕ) (line : Bool) (w : List ℕ) → S.w
   -- a run of one is one of the other
   pub same_run : (next : ℕ → Option ℕ) (p : Place) (ts : List Lexeme) (e : End)
       → Lexed (IsLexemeAt S) (ScanEndsAt S) next p ts e → Lexed (IsLexemeAt T) (ScanEndsAt T) next p ts e
-  same_run next p ts e h = lexed_as (IsLexemeAt S) (IsLexemeAt T) (ScanEndsAt S) (ScanEndsAt T) next same_lexeme same_end
+  same_run next p ts e h = lexed_as (IsLexemeAt S) (IsLexemeAt T) (ScanEndsAt S) (ScanEndsAt T) next same_lexeme
+      same_end
       p ts e h
 
 -- a run where rules set the same conditions

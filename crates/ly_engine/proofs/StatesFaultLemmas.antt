@@ -1,5 +1,5 @@
 -- A fault of the scanner's states is the one that was given.
-use Rattle.std.proofs.Common.{◌≡◌, ◌∙◌, sym, Err, Result}
+use Rattle.std.proofs.Common.{◌≡◌, ◌∙◌, Err, Result}
 use Rattle.ly_subset.specs.declared.fault.SubsetFault.{SubsetFault}
 use Rattle.ly_subset.specs.declared.fault.SubsetFault.TheVariants as subset
 use Rattle.ly_engine.specs.declared.fault.TokensFault.{TokensFault}

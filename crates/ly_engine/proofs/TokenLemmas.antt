@@ -1,7 +1,7 @@
 -- The tokens that a table set's scanner gives are those of the lex file, numbered.
 use Rattle.std.proofs.Common.{◌≡◌, ◌∙◌, ◌<◌, ◌≤◌, ◌+◌, ℕ, zero, suc, List, [], ◌∷◌, ◌++◌, Option, Some, None, All}
-use Rattle.std.proofs.Common.{Bool, ap, arith, drop, get_or, inl, inr, length, map, refl, slice_get, subst, sym, take}
-use Rattle.std.specs.Prelude.{option_and_then, option_map, slice_index, unwrap_or}
+use Rattle.std.proofs.Common.{ap, arith, drop, get_or, inl, inr, length, map, refl, slice_get, take}
+use Rattle.std.specs.Prelude.{option_and_then, slice_index}
 use Rattle.std.specs.List.{AllZip}
 use Rattle.std.proofs.lemmas.List.Elements.{All-cons}
 use Rattle.std.proofs.lemmas.Option.{slice_get-get_or, slice_get_within}
@@ -10,18 +10,17 @@ use Rattle.ly_base.specs.Text.{Named, literal, token}
 use Rattle.ly_base.specs.declared.lexeme.End.{End}
 use Rattle.ly_base.specs.declared.lexeme.Lexeme.{Lexeme}
 use Rattle.ly_base.specs.declared.scan_action.Emitted.{Emitted}
-use Rattle.ly_base.specs.declared.scan_action.Emitted.TheVariants as emitted
-use Rattle.ly_base.specs.declared.scan_action.ScanAction.{ScanAction}
-use Rattle.ly_drive.specs.ScanPart.{ScanPart, condition_in, next_in, scanner_in, start_in, states_in, terminal_by, terminal_in}
+use Rattle.ly_drive.specs.ScanPart.{ScanPart, condition_in, next_in, scanner_in, start_in, states_in, terminal_by}
+use Rattle.ly_drive.specs.ScanPart.{terminal_in}
 use Rattle.ly_engine.specs.Printing.{condition_set, naming, terminal_for}
 use Rattle.ly_engine.specs.SpecAnswer.{IsNumberOf, IsNumberedToken}
-use Rattle.ly_join.specs.Scanning.{Acting, IsEmitted, IsScanAction, acting_of, returning_of}
+use Rattle.ly_join.specs.Scanning.{IsEmitted, IsScanAction, acting_of, returning_of}
 use Rattle.ly_join.specs.Terminals.{Terminal, IsOfByte}
 use Rattle.ly_lexread.specs.declared.action.Action.{Action}
 use Rattle.ly_lexread.specs.declared.action.Returned.{Returned}
 use Rattle.ly_lexread.specs.declared.action.Returned.TheVariants as lex
 use Rattle.ly_scan.specs.Lexer.{IsLexemeAt, ScanEndsAt}
-use Rattle.ly_scan.specs.StateWalk.{says, state_after, state_walk}
+use Rattle.ly_scan.specs.StateWalk.{says, state_after}
 use Rattle.ly_tables.specs.TableSet.{ScanRule}
 
 -- both are there and related, or neither is

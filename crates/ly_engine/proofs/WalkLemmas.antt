@@ -1,11 +1,11 @@
 -- The scanner of a table set walks as the automaton that it is of.
 use Rattle.std.proofs.Common.{◌≡◌, ◌∙◌, ◌<◌, ◌≤◌, ◌+◌, ◌*◌, ℕ, List, [], ◌∷◌, Bool, true, false, Option, Some, None}
-use Rattle.std.proofs.Common.{ap, arith, get_or, inl, inr, length, map, refl, slice_get, sym}
-use Rattle.std.specs.Prelude.{nat_lt, option_and_then, option_map, unwrap_or, if◌then◌else◌}
+use Rattle.std.proofs.Common.{ap, arith, get_or, inl, inr, length, refl, slice_get, sym}
+use Rattle.std.specs.Prelude.{nat_lt, option_and_then, unwrap_or, if◌then◌else◌}
 use Rattle.std.proofs.lemmas.Bool.{cases_lt, le-ltb}
 use Rattle.std.proofs.lemmas.Option.{slice_get-get_or, slice_get-map, slice_get_past}
 use Rattle.ly_base.specs.declared.cut.Cut.TheVariants.{Whole}
-use Rattle.ly_drive.specs.ScanPart.{ScanPart, cut_in, next_in, scan_part_of, start_by, start_in, states_from, states_in}
+use Rattle.ly_drive.specs.ScanPart.{cut_in, next_in, scan_part_of, start_by, start_in, states_from, states_in}
 use Rattle.ly_emit.specs.SetOf.{IsScannerOf}
 use Rattle.ly_engine.specs.PositionWalk as patterns
 use Rattle.ly_engine.specs.RowWalk as rows
@@ -92,7 +92,8 @@ module _ (s : Spec) (rules : List Rule) (A : Automaton) (set : TableSet) (is : I
   pub same_walk : (c : ℕ) (line : Bool) (w : List ℕ)
       → state_walk (states_in (scan_part_of set)) c line w ≡ row_walk A c line w
   same_walk c line w
-      = ap (λ o. says (states_in (scan_part_of set)) (state_after (states_in (scan_part_of set)) o w)) (same_start c line)
+      = ap (λ o. says (states_in (scan_part_of set)) (state_after (states_in (scan_part_of set)) o w))
+      (same_start c line)
       ∙ ap (says (states_in (scan_part_of set))) (same_states w (start_of A c line) (start_within c line))
       ∙ same_says (automaton.state_after A (start_of A c line) w)
 

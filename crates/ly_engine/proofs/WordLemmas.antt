@@ -1,5 +1,5 @@
 -- Terms are printed by the same words.
-use Rattle.std.proofs.Common.{◌≡◌, ◌∙◌, ◌<◌, ◌≤◌, ◌+◌, ◌-◌, ℕ, zero, suc, List, [], ◌∷◌, ◌++◌, Option, Some, None}
+use Rattle.std.proofs.Common.{◌≡◌, ◌∙◌, ◌≤◌, ◌-◌, ℕ, zero, suc, List, [], ◌∷◌, ◌++◌, Option, Some, None}
 use Rattle.std.proofs.Common.{ap, ap₂, arith, length, map, refl, slice_get, sym}
 use Rattle.std.specs.Prelude.{codes, option_map, unwrap_or}
 use Rattle.std.proofs.lemmas.List.{length-map}
@@ -15,7 +15,7 @@ use Rattle.ly_ere.specs.declared.pattern.Rule as pattern
 use Rattle.ly_engine.specs.SpecAnswer.{words_of}
 use Rattle.ly_join.specs.Grammar as grammar
 use Rattle.ly_join.specs.Grammar.{accept_rule}
-use Rattle.ly_join.specs.Joined.{AreJoined, Joined, Note, Spec, SymbolTable, accept_note, table_of}
+use Rattle.ly_join.specs.Joined.{AreJoined, Joined, Note, Spec, SymbolTable, table_of}
 use Rattle.ly_join.specs.Scanning.{Scanning}
 use Rattle.ly_lr0.specs.Automaton.{Automaton}
 use Rattle.ly_pack.specs.Machine.{TableRule}
@@ -33,7 +33,8 @@ module _ (v w : Vocabulary) (terminals : (t : ℕ) → v.terminal t ≡ w.termin
     shown_alike : (t : Term) → shown v t ≡ shown w t
     shown_alike nothing = refl
     shown_alike (leaf t bytes) = ap (λ name. leaf_of (token name) bytes) (terminals t)
-    shown_alike (built p ts) = ap₂ (λ name inner. name ++ codes "(" ++ inner ++ codes ")") (constructors p) (all_alike ts)
+    shown_alike (built p ts) = ap₂ (λ name inner. name ++ codes "(" ++ inner ++ codes ")") (constructors p)
+        (all_alike ts)
 
     all_alike : (ts : Terms) → shown_all v ts ≡ shown_all w ts
     all_alike none = refl

@@ -1,5 +1,5 @@
 -- Which lex file and yacc file are accepted, and what a refusal says of them.
-use Rattle.std.specs.Prelude.{◌≡◌, ◌≢◌, ◌≤◌, ℕ, List, Err}
+use Rattle.std.specs.Prelude.{◌≡◌, ◌≢◌, ◌≤◌, ℕ, List, [], Err, option_map, slice_get, unwrap_or}
 use Rattle.ly_base.specs.Limits.{Sizes}
 use Rattle.ly_base.specs.Trees.{Tree}
 use Rattle.ly_ere.specs.Names.{defined}
@@ -23,9 +23,15 @@ use Rattle.ly_subset.specs.RuleSets.{HaveMoreSets}
 use Rattle.ly_subset.specs.declared.fault.SubsetFault.TheVariants.{TooManyStates}
 use Rattle.ly_yaccread.specs.File.{Written}
 use Rattle.ly_yaccread.specs.YaccText.{YaccText}
+use Rattle.ly_emit.specs.Tables.{IsMachineOf}
+use Rattle.ly_loop.specs.Endless.{IsFirstEndless}
+use Rattle.ly_lr0.specs.Automaton as parser
+use Rattle.ly_pack.specs.Machine.{Machine, IsWithin as IsWithinRows}
+use Rattle.ly_pack.specs.Steady.{IsSteady}
+use Rattle.ly_report.specs.Report.{terminal_name}
 use Rattle.ly_engine.specs.Answers.{AreTooHeavy, HaveTooManyStates}
 use Rattle.ly_engine.specs.declared.gen_fault.GenFault.{GenFault}
-use Rattle.ly_engine.specs.declared.gen_fault.GenFault.TheVariants.{Automaton, Grammar as NoGrammar, Join, Lex}
+use Rattle.ly_engine.specs.declared.gen_fault.GenFault.TheVariants.{Automaton, Endless, Grammar as NoGrammar, Join, Lex}
 use Rattle.ly_engine.specs.declared.gen_fault.GenFault.TheVariants.{OutOfMemory}
 use Rattle.ly_engine.specs.declared.gen_fault.GenFault.TheVariants.{Positions, States, Write, Yacc}
 
@@ -41,11 +47,37 @@ pub record Specifies (limits : Sizes) (lex yacc : List ℕ) (s : Spec) : Type 0 
   pub weight : total_weight (defined file.names) file.rules.items ≤ limits.total_weight
   pub few : HaveMoreSets (defined file.names) file.rules.items file.conditions limits.scanner_states → ⊥
 
--- The useful rules of the specification derive something, and have no more cores than a parser may have states.
+-- Each run of the tables of these rules ends.
+pub record HasSteadyTables (s : Spec) (useful : Grammar) : Type 0 where
+  pub automaton : parser.Automaton
+  pub is_automaton : parser.IsAutomaton automaton
+  pub same : automaton.grammar ≡ useful
+  pub machine : Machine
+  pub is_machine : IsMachineOf s automaton machine
+  pub steady : IsSteady machine
+
+-- The useful rules of the specification derive something, have no more cores than a parser may have states, and each
+-- run of their tables ends.
 pub record IsFit (limits : Sizes) (s : Spec) (useful : Grammar) : Type 0 where
   pub useful_rules : KeepsUseful s.grammar useful
   pub reduced : IsReduced useful
   pub few : HasMoreCores useful limits.parser_states → ⊥
+  pub steady : HasSteadyTables s useful
+
+-- The run of the specification's tables on these two states makes too many reductions before this terminal, as the
+-- first of all such runs.
+pub record HasEndlessRun (s : Spec) (below top token : ℕ) : Type 0 where
+  pub automaton : parser.Automaton
+  pub is_automaton : parser.IsAutomaton automaton
+  pub useful : KeepsUseful s.grammar automaton.grammar
+  pub machine : Machine
+  pub is_machine : IsMachineOf s automaton machine
+  pub within : IsWithinRows machine
+  pub first : IsFirstEndless machine below top token
+
+-- the printed name of a terminal
+abbrev pub terminal_name_in : Spec → ℕ → List ℕ
+terminal_name_in s t = unwrap_or (option_map terminal_name (slice_get s.terminals t)) []
 
 -- what a fault says of a specification
 abbrev pub IsUnfitFor : Sizes → Spec → GenFault → Type 0
@@ -53,6 +85,8 @@ IsUnfitFor limits s (NoGrammar fault) = (fault ≡ StartUnproductive)
     × ((d : Tree) → IsTree s.grammar (nonterminal s.grammar.start) d → ⊥)
 IsUnfitFor limits s (Automaton fault) = (fault ≡ automaton.TooManyStates)
     × (useful : Grammar) × KeepsUseful s.grammar useful × HasMoreCores useful limits.parser_states
+IsUnfitFor limits s (Endless below top token name) = HasEndlessRun s below.0 top.0 token.0
+    × (name.items ≡ terminal_name_in s token.0)
 IsUnfitFor limits s OutOfMemory = Unit {0}
 IsUnfitFor limits s _ = ⊥
 

@@ -1,6 +1,5 @@
 -- What tables that are generated answer.
 use Rattle.std.specs.Prelude.{ℕ, List}
-use Rattle.ly_base.specs.Limits.{Sizes}
 use Rattle.ly_drive.specs.TableAnswer.{IsVerdict, TableAnswer}
 use Rattle.ly_drive.specs.Verdict.{Verdict}
 use Rattle.ly_drive.specs.declared.outcome.Outcome.{Outcome}

@@ -1,8 +1,10 @@
 pub mod Accepted
 pub mod Agreement
+pub mod AnswerFault
 pub mod Answering
 pub mod Answers
 pub mod GenFault
+pub mod Generated
 pub mod Headline
 pub mod Laws
 pub mod PositionWalk

@@ -1,5 +1,5 @@
 -- What a lex file and a yacc file answer to a text: the reference machine over the tokens of the text.
-use Rattle.std.specs.Prelude.{◌≡◌, ℕ, ◌+◌, List, [], ◌∷◌, ◌++◌, length, slice_get, option_map, unwrap_or}
+use Rattle.std.specs.Prelude.{◌≡◌, ℕ, ◌+◌, List, [], ◌∷◌, ◌++◌, length}
 use Rattle.std.specs.List.{AllZip}
 use Rattle.ly_base.specs.Lexed.{Token, start_of, tokens_from}
 use Rattle.ly_base.specs.Shape.{Shape}
@@ -13,6 +13,7 @@ use Rattle.ly_drive.specs.Verdict.{Verdict, IsOutcome, accepted, faulty, printed
 use Rattle.ly_drive.specs.Vocabularies.{constructor_of}
 use Rattle.ly_drive.specs.declared.outcome.Outcome.{Outcome}
 use Rattle.ly_emit.specs.Tables.{shape_in}
+use Rattle.ly_engine.specs.Accepted.{terminal_name_in}
 use Rattle.ly_engine.specs.Printing.{condition_set, naming}
 use Rattle.ly_ere.specs.Names.{defined}
 use Rattle.ly_join.specs.Grammar.{Grammar}
@@ -21,7 +22,6 @@ use Rattle.ly_join.specs.Terminals.{Terminal, IsNumbered, IsOfByte}
 use Rattle.ly_join.specs.Terminals as joined
 use Rattle.ly_lexread.specs.Lexing.{Lexing}
 use Rattle.ly_lexread.specs.declared.file.LexFile.{LexFile}
-use Rattle.ly_report.specs.Report.{terminal_name}
 use Rattle.ly_resolve.specs.Actions.{Judge}
 use Rattle.ly_resolve.specs.Machine.{AcceptsWith, Leads, Pushed, RefusesAfter, begin}
 use Rattle.ly_resolve.specs.Precedence.{judge_of}
@@ -46,8 +46,9 @@ pub record AreTokensOf (file : LexFile) (s : Spec) (text : List ℕ) (tokens : L
   pub lexing : Lexing (defined file.names) file.rules.items (condition_set file.actions.items) (start_of text) lexemes e
   pub numbered : AllZip (IsNumberedToken s.terminals) (tokens_from (naming file.actions.items) 0 text lexemes) tokens
 
--- What the reference machine says of tokens, by what comes first in the text: it accepts them, the end behind them, with
--- a tree of which this term is built; it refuses one, or the end; or it reads them all, and no rule matches behind them.
+-- What the reference machine says of tokens, by what comes first in the text: it accepts them, the end behind them,
+-- with a tree of which this term is built; it refuses one, or the end; or it reads them all, and no rule matches behind
+-- them.
 abbrev pub IsMachineVerdict : Grammar → Judge → (ℕ → Shape) → List ℕ → List (Token ℕ) → End → Verdict → Type 0
 IsMachineVerdict G judge shape text tokens e (accepted term) = (e ≡ Clean) × (d : Tree)
     × AcceptsWith G judge (tokens ++ end_of text ∷ []) d × (term ≡ build shape d)
@@ -66,7 +67,7 @@ IsSpecVerdict file s useful text v = (tokens : List (Token ℕ)) × (e : End) ×
 -- the printed names of the terminals, and the constructors of rules
 abbrev pub words_of : Spec → Vocabulary
 words_of s = record {
-  terminal = λ t. unwrap_or (option_map terminal_name (slice_get s.terminals t)) [];
+  terminal = terminal_name_in s;
   constructor = λ p. constructor_of (shape_in s p);
 }
 

@@ -9,7 +9,7 @@ ghost use Rattle.ly_position.specs.declared.fault.PosFault.TheVariants as positi
 ghost use Rattle.ly_subset.specs.declared.fault.SubsetFault.TheVariants as subset;
 ghost use Rattle.ly_yaccread.specs.declared.fault.YaccFault.TheVariants as yacc;
 
-use ly_base::OutOfMemory as NoMemory;
+use ly_base::{OutOfMemory as NoMemory, StateNo, Sym};
 use ly_grammar::GrammarFault;
 use ly_join::JoinFault;
 use ly_lexread::LexFault;
@@ -18,6 +18,7 @@ use ly_position::PosFault;
 use ly_report::ReportFault;
 use ly_subset::SubsetFault;
 use ly_yaccread::YaccFault;
+use std::alloc::AllocError;
 use thiserror::Error;
 
 /// Why a lex file and a yacc file aren't accepted, or a report wasn't written whole.
@@ -44,6 +45,19 @@ pub enum GenFault {
     /// The parser has too many states. Nothing was written.
     #[error("{0}")]
     Automaton(Lr0Fault),
+    /// A run of the parser's tables makes too many reductions before a token. It is the first such run. Nothing was
+    /// written.
+    #[error("a run of the parser makes too many reductions")]
+    Endless {
+        /// The state below on the stack.
+        below: StateNo,
+        /// The state on top of it.
+        top: StateNo,
+        /// The terminal of the token.
+        token: Sym,
+        /// The terminal's printed name.
+        name: Vec<u8>,
+    },
     /// The writer failed in this call, and just the first `written` bytes went out.
     #[error("the report could not be written after {written} bytes")]
     Write {
@@ -53,6 +67,14 @@ pub enum GenFault {
     /// A growth was refused. Nothing was written.
     #[error("out of memory")]
     OutOfMemory,
+}
+
+impl From<AllocError> for GenFault {
+    ghost from_gives = { λ _ e. e ≡ fault.OutOfMemory };
+
+    fn from(_error: AllocError) -> GenFault {
+        GenFault::OutOfMemory
+    }
 }
 
 impl From<NoMemory> for GenFault {

@@ -3,12 +3,16 @@
 //! rows of the smallest automaton of the patterns (`RowWalk`); `PositionWalk`, over the sets of their positions, is a
 //! second opinion, and both agree with the rules (`row_walk_agrees`, `position_walk_agrees`).
 //!
-//! And from the bytes of a lex file and a yacc file to the report of their grammar: `generate_report`. The parser's
-//! tables are to come.
+//! From the bytes of a lex file and a yacc file to their table file and their report: `generate`, `build` and
+//! `generate_report`; and to the answer to a text: `answer`. That tables so made answer what both files say is part of
+//! what these promise (`IsGenerated`), by a law (`tables_answer_as_specified`).
 #![tactic(auto)]
 
+mod answer_fault;
+mod answering;
 mod fault;
 mod gen_fault;
+mod generating;
 mod laws;
 mod outcome;
 mod position_walk;
@@ -19,8 +23,11 @@ mod specification;
 mod token_lines;
 mod write_tokens;
 
+pub use answer_fault::AnswerFault;
+pub use answering::answer;
 pub use fault::TokensFault;
 pub use gen_fault::GenFault;
+pub use generating::{Built, build, generate};
 pub use laws::{
     answer_is_one, position_walk_agrees, refusal_is_exact, row_walk_agrees,
     tables_answer_as_specified,

@@ -1,6 +1,7 @@
 ghost use Rattle.std.specs.Prelude.{◌≡◌, ℕ, List, ◌<◌, ◌↔◌, length, take, Err, IfErr, IfOk, IsTrue, OnOk};
 ghost use Rattle.std.specs.Io.KnownBytes.{Appends};
 ghost use Rattle.ly_base.specs.Device.{next_count};
+ghost use Rattle.ly_emit.specs.Tables.{AreShapesWithin};
 ghost use Rattle.ly_grammar.specs.Reduction.{KeepsUseful};
 ghost use Rattle.ly_join.specs.Grammar.{Grammar};
 ghost use Rattle.ly_join.specs.Joined as spec;
@@ -10,6 +11,7 @@ ghost use Rattle.ly_resolve.specs.Resolved.{AreResolved};
 ghost use Rattle.ly_engine.specs.Accepted.{IsFailedWrite, IsFit, IsRefusedFor, IsUnfitFor, Specifies};
 
 use crate::gen_fault::GenFault;
+use crate::generating::steady_tables;
 use crate::specification::read_specification;
 use ly_base::{Limits, OutOfMemory, Sink};
 use ly_grammar::reduce;
@@ -43,8 +45,8 @@ pub fn generate_report<W: Sink>(
     ensures held { OnOk result (W.failures writer.new ≡ W.failures writer.old) }
     ensures untouched { IfErr result (λ fault. (IsFailedWrite fault → ⊥) → writer.new ≡ writer.old) }
 {
-    let spec = read_specification(alloc, lex, yacc, limits)?;
-    report_on(alloc, &spec, limits, writer)
+    let given = read_specification(alloc, lex, yacc, limits)?;
+    report_on(alloc, &given.spec, limits, writer)
 }
 
 /// Writes the report of a specification.
@@ -54,6 +56,7 @@ fn report_on<W: Sink>(
     limits: &Limits,
     writer: &mut W,
 ) -> Result<bool, GenFault>
+    requires { AreShapesWithin spec.now }
     ensures reported { IfOk result (λ free. (useful : Grammar) × IsFit limits.now spec.now useful
         × (IsTrue free ↔ IsConflictFree useful)
         × (text : List ℕ) × IsReport spec.now text × Appends (W.contents writer.old) (W.contents writer.new) text) }
@@ -69,12 +72,17 @@ fn report_on<W: Sink>(
     let reduced = reduce(alloc, spec.grammar())?;
     let lr0 = automaton(alloc, &reduced, limits)?;
     let resolved = settle(alloc, spec, &lr0)?;
+    steady_tables(alloc, &resolved)?;
     report(alloc, &resolved, writer)?;
     Ok(resolved.conflict_free())
 }
 
 /// Settles what is done in the states of a specification's automaton.
-fn settle<'a>(alloc: Global, spec: &'a Spec, lr0: &'a Lr0<'a>) -> Result<Resolved<'a>, OutOfMemory>
+pub(crate) fn settle<'a>(
+    alloc: Global,
+    spec: &'a Spec,
+    lr0: &'a Lr0<'a>,
+) -> Result<Resolved<'a>, OutOfMemory>
     requires { KeepsUseful spec.now.grammar lr0.now.grammar }
     ensures { IfOk result (AreResolved spec.now lr0.now) }
 {

@@ -5,6 +5,7 @@ pub mod FirstLemmas
 pub mod ItemLemmas
 pub mod MarkedLemmas
 pub mod MarksLemmas
+pub mod OneLemmas
 pub mod PassLemmas
 pub mod ReachLemmas
 pub mod ReduceLemmas

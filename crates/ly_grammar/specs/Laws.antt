@@ -1,5 +1,5 @@
 -- What follows from the definitions of useful rules.
-use Rattle.std.specs.Prelude.{◌↔◌, ℕ, List, Contains}
+use Rattle.std.specs.Prelude.{◌≡◌, ◌↔◌, ℕ, List, Contains}
 use Rattle.ly_base.specs.Lexed.{Token}
 use Rattle.ly_base.specs.Trees.{Tree, Trees}
 use Rattle.ly_join.specs.Grammar.{Grammar, Rule, IsRule, nonterminal}
@@ -25,3 +25,7 @@ KeepsTrees = (G R : Grammar) → KeepsUseful G R → (d : Tree)
 
 abbrev pub KeepsSentences : Type 0
 KeepsSentences = (G R : Grammar) → KeepsUseful G R → (ts : List (Token ℕ)) → IsSentence G ts ↔ IsSentence R ts
+
+-- the useful rules of a grammar under their numbers, with rule 0, are one grammar
+abbrev pub UsefulRulesAreOne : Type 0
+UsefulRulesAreOne = (G R S : Grammar) → KeepsUseful G R → KeepsUseful G S → R ≡ S

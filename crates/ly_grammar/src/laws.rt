@@ -1,4 +1,4 @@
-ghost use Rattle.ly_grammar.specs.Laws.{KeepsSentences, KeepsTrees, UsefulIsLed};
+ghost use Rattle.ly_grammar.specs.Laws.{KeepsSentences, KeepsTrees, UsefulIsLed, UsefulRulesAreOne};
 
 /// A rule is useful exactly where its body has trees and the start symbol leads to its left side by such rules
 /// (Hopcroft and Ullman 1979, 4.4).
@@ -10,4 +10,9 @@ pub fn useful_is_led()
 pub fn reduction_keeps_sentences()
     ensures trees { KeepsTrees }
     ensures sentences { KeepsSentences }
+{}
+
+/// The useful rules of a grammar are one grammar.
+pub fn useful_rules_are_one()
+    ensures { UsefulRulesAreOne }
 {}

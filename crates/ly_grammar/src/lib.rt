@@ -17,5 +17,5 @@ mod useful;
 mod waiting;
 
 pub use fault::GrammarFault;
-pub use laws::{reduction_keeps_sentences, useful_is_led};
+pub use laws::{reduction_keeps_sentences, useful_is_led, useful_rules_are_one};
 pub use reduced::{Reduced, reduce};

@@ -136,7 +136,7 @@ below_push n ns m h less c i = by (Contains-append_cases ns (m ∷ []) c i)
     by (inl k) = h c k
     by (inr k) = let same : m ≡ c = Contains-one m c k in omega (arith, same, less)
 
-within_length : (m n k : ℕ) → cond (ltb m n) (Some m) None ≡ Some k → k < n
+pub within_length : (m n k : ℕ) → cond (ltb m n) (Some m) None ≡ Some k → k < n
 within_length m n k = at (ltb m n) refl
   where
     at : (t : Bool) → ltb m n ≡ t → cond t (Some m) None ≡ Some k → k < n
@@ -192,7 +192,7 @@ rule_of cs names text rs ss zero r some (rule _ u q s ps qs b d) e =
 rule_of cs names text rs ss (suc i) r some (rule _ u q s ps qs b d) e = rule_of cs names u ps qs i r some d e
 
 -- there is a condition
-some_condition : (p q : Preamble) (text rest : List ℕ) → 0 < length p.conditions → Definitions p text q rest
+pub some_condition : (p q : Preamble) (text rest : List ℕ) → 0 < length p.conditions → Definitions p text q rest
     → 0 < length q.conditions
 some_condition p q text rest some (mark _ _ l _ b k) = some
 some_condition p q text rest some (more _ s _ _ u _ h d)

@@ -1,5 +1,6 @@
 pub mod ActiveLemmas
 pub mod AnswerLemmas
+pub mod BeginLemmas
 pub mod BlankLemmas
 pub mod ConditionLemmas
 pub mod DefinitionLemmas

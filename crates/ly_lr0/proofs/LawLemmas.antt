@@ -1,9 +1,9 @@
 -- There are no more cores of viable strings than states: the pigeonhole principle.
 use Rattle.std.proofs.Common.{◌≡◌, ◌⊎◌, ℕ, zero, suc, ◌≤◌, ◌<◌, List, [], ◌∷◌, refl, ◌∙◌, sym, subst, inl, inr, arith}
-use Rattle.std.specs.Prelude.{slice_index_or}
+use Rattle.std.specs.Prelude.{length, slice_index_or}
 use Rattle.std.proofs.lemmas.Bool.{cases_eq, cases_lt}
 use Rattle.ly_join.specs.Grammar.{Symbol}
-use Rattle.ly_lr0.specs.Automaton.{Reaches, goto_of}
+use Rattle.ly_lr0.specs.Automaton.{Automaton, IsAutomaton, Reaches, goto_of}
 use Rattle.ly_lr0.specs.Laws.{NoMoreCoresThanStates}
 use Rattle.ly_lr0.proofs.StateLemmas.{goto_some, target_some}
 
@@ -46,13 +46,23 @@ pigeonhole (suc n) (suc m) R partner one = omega (
     one_less i h j a b (inr p) (inl q) = absurd (p.0 q.0)
     one_less i h j a b (inr p) (inr q) = one i h j (omega arith) (omega arith) p.1 q.1
 
+-- strings lead to states that are there
+pub reached_within : (M : Automaton) → IsAutomaton M → (g : List Symbol) (s : ℕ) → Reaches (goto_of M) 0 g s
+    → s < length M.states
+reached_within M is [] s r = let some = is.some in omega (arith, r)
+reached_within M is (X ∷ g) s r =
+    let q = goto_some M.states r.0 X s r.2 in
+    (is.each r.0 q.0 q.1).within (record { symbol = X; target = s }) (target_some q.0.transitions X s q.2)
+
 pub no_more : NoMoreCoresThanStates
 no_more M n is few more =
     let at : ℕ → List Symbol = λ i. slice_index_or more.strings i [] in
     let reached : (i : ℕ) → i < suc n → (s : ℕ) × Reaches (goto_of M) 0 (at i) s
     = λ i l. is.cores.has (at i) (more.viable i [] (let count = more.count in omega arith)) in
+    let bounded : (g : List Symbol) (s : ℕ) → Reaches (goto_of M) 0 g s → s < n
+    = λ g s r. omega (arith, reached_within M is g s r, few) in
     let states : suc n ≤ n = pigeonhole (suc n) n (λ i s. Reaches (goto_of M) 0 (at i) s)
-    (λ i l. ((reached i l).0, within (at i) (reached i l).0 (reached i l).1, (reached i l).1))
+    (λ i l. ((reached i l).0, bounded (at i) (reached i l).0 (reached i l).1, (reached i l).1))
     (λ i h s a b r q. elim (cases_eq i h) [
       | inl same ↦ same
       | inr other ↦ absurd (elim (cases_lt i h) [
@@ -62,11 +72,3 @@ no_more M n is few more =
       ])
     ]) in
     omega (arith, states)
-  where
-    within : (g : List Symbol) (s : ℕ) → Reaches (goto_of M) 0 g s → s < n
-    within [] s r = let some = is.some in omega (arith, r)
-    within (X ∷ g) s r =
-        let q = goto_some M.states r.0 X s r.2 in
-        let less = (is.each r.0 q.0 q.1).within (record { symbol = X; target = s })
-        (target_some q.0.transitions X s q.2) in
-        omega (arith, less)

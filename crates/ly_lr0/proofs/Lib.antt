@@ -11,6 +11,7 @@ pub mod KernelLemmas
 pub mod KernelsLemmas
 pub mod LawLemmas
 pub mod ListLemmas
+pub mod OneLemmas
 pub mod OrderLemmas
 pub mod StartLemmas
 pub mod StateLemmas

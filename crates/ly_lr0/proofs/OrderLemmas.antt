@@ -36,6 +36,15 @@ before_trans (X ∷ f) (Y ∷ g) (Z ∷ h) (inl a) (inr b) = inl (subst (ComesBe
 before_trans (X ∷ f) (Y ∷ g) (Z ∷ h) (inr a) (inl b) = inl (subst (λ w. ComesBefore w h) (sym a.0) b)
 before_trans (X ∷ f) (Y ∷ g) (Z ∷ h) (inr a) (inr b) = inr (a.0 ∙ b.0, less_trans X Y Z a.1 b.1)
 
+-- no string comes before another that comes before it
+pub before_off : (g h : List Symbol) → ComesBefore g h → ComesBefore h g → ⊥
+before_off g h a b = not_itself g (before_trans g h g a b)
+  where
+    not_itself : (g : List Symbol) → ComesBefore g g → ⊥
+    not_itself [] a = a
+    not_itself (X ∷ g) (inl a) = not_itself g a
+    not_itself (X ∷ g) (inr a) = less_off X a.1
+
 module _ {X : Type 0} (R : X → X → Type 0) (off : (x y : X) → R x y → R y x → ⊥) where
   rest_of : (x : X) (xs : List X) → AllPairs R (x ∷ xs) → AllPairs R xs
   rest_of x xs h i j d l m = h (suc i) (suc j) d (omega (arith, l)) (omega (arith, m))

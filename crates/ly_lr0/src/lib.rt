@@ -21,6 +21,6 @@ mod transition;
 
 pub use construct::automaton;
 pub use fault::Lr0Fault;
-pub use laws::no_more_cores_than_states;
+pub use laws::{automaton_is_one, no_more_cores_than_states};
 pub use lr0::Lr0;
 pub use transition::Transition;

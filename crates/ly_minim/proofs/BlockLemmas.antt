@@ -1,9 +1,8 @@
 -- Partitions that are refined: what is split is told apart, and where nothing is split the partition is stable.
 use Rattle.std.proofs.Common.{◌≡◌, ◌≢◌, ◌⊎◌, ◌<◌, ◌≤◌, ◌+◌, ◌^◌, ◌∙◌, ◌++◌, ◌∷◌, [], ℕ, zero, suc, List, length}
 use Rattle.std.proofs.Common.{Option, Some}
-use Rattle.std.proofs.Common.{None, refl, sym, ap, subst, arith, inl, inr, get_or, below_more, lt-ltb, ltb}
+use Rattle.std.proofs.Common.{None, refl, sym, ap, subst, arith, inl, inr, get_or, below_more}
 use Rattle.std.specs.Prelude.{option_map, option_and_then}
-use mir.Val.{bool_byte}
 use Rattle.std.proofs.lemmas.Bool.{cases_eq, cases_lt}
 use Rattle.std.proofs.lemmas.List.{append-nil, get_or_append_left, get_or_push, length-append, length_push}
 use Rattle.ly_subset.specs.Automaton.{Automaton, IsAutomaton, IsTrim, next_by_class, next_of, rule_after, rule_of}
@@ -98,8 +97,7 @@ agree_or f g (suc n) = elim (agree_or f g n) [
   | inr at ↦ inr (at.0, omega (arith, at.1), at.2)
 ]
 
-module _ (A : Automaton) (is : IsAutomaton A) (trim : IsTrim A) (of finer : List ℕ) (apart : AreApart A of)
-    (refined : IsRefined A of finer) where
+module _ (A : Automaton) (is : IsAutomaton A) (trim : IsTrim A) (of : List ℕ) (apart : AreApart A of) where
   -- a state that leads to a rule is told apart from an ended walk
   not_ended : (s : ℕ) → s < length A.rules → Distinguished A (Some s) None
   not_ended s l = let r = trim.leads s l in
@@ -113,7 +111,8 @@ module _ (A : Automaton) (is : IsAutomaton A) (trim : IsTrim A) (of finer : List
   by_blocks (Some s) None p q ne = not_ended s (p s refl)
   by_blocks (Some s) (Some t) p q ne = apart s t (p s refl) (q t refl) (λ e. ne (ap (λ x. Some x) e))
 
-  by_class : (s t c : ℕ) → c < A.classes → block_after A of s c ≢ block_after A of t c
+  -- states from which a class leads to different blocks are told apart
+  pub by_class : (s t c : ℕ) → c < A.classes → block_after A of s c ≢ block_after A of t c
       → Distinguished A (Some s) (Some t)
   by_class s t c l ne =
       let b = is.used c l in
@@ -124,8 +123,8 @@ module _ (A : Automaton) (is : IsAutomaton A) (trim : IsTrim A) (of finer : List
       (b.0 ∷ d.0, λ e. d.1 (ap (λ o. rule_after A o d.0) (sym (next s)) ∙ e ∙ ap (λ o. rule_after A o d.0) (next t)))
 
   -- what is split is told apart
-  pub apart_more : AreApart A finer
-  apart_more s t l m ne = elim (cases_eq (block_of of s) (block_of of t)) [
+  pub apart_more : (finer : List ℕ) → IsRefined A of finer → AreApart A finer
+  apart_more finer refined s t l m ne = elim (cases_eq (block_of of s) (block_of of t)) [
     | inr other ↦ apart s t l m other
     | inl block ↦ elim (same_option (rule_of A (Some s)) (rule_of A (Some t))) [
       | inr other ↦ ([], other)
@@ -263,24 +262,3 @@ named_new keys key absent = record {
       (last, sym last);
   absent = λ n less e. absurd (absent n less e);
 }
-
--- all states in one block, if there are any
-pub one_block : (n : ℕ) (of : List ℕ) (count : ℕ) → length of ≡ n → ((s : ℕ) → s < n → block_of of s ≡ 0) → n < 2 ^ 32
-    → count ≡ bool_byte (ltb 0 n) → AreBlocks n of count
-one_block zero of count states zeros fits e = record {
-  states = states;
-  within = λ s l. absurd (omega (arith, l));
-  used = λ b l. absurd (omega (arith, l, e));
-  few = omega (arith, e);
-  fits = fits;
-}
-one_block (suc n) of count states zeros fits e = record {
-  states = states;
-  within = λ s l. omega (arith, zeros s l, one);
-  used = λ b l. (0, omega arith, zeros 0 (omega arith) ∙ let same : 0 ≡ b = omega (arith, l, one) in same);
-  few = omega (arith, one);
-  fits = fits;
-}
-  where
-    one : count ≡ 1
-    one = e ∙ ap bool_byte (lt-ltb 0 (suc n) (omega arith))

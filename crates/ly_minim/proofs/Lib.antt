@@ -1,4 +1,9 @@
 pub mod BlockLemmas
+pub mod GroupLemmas
+pub mod HalfLemmas
+pub mod PartitionLemmas
 pub mod QuotientLemmas
 pub mod SignatureLemmas
+pub mod SplitByLemmas
+pub mod SplitLemmas
 pub mod WalkLemmas

@@ -1,5 +1,8 @@
 -- What contracts of private functions cite.
 pub mod Blocks
+pub mod Groups
+pub mod Halves
+pub mod Partition
 pub mod Quotient
 pub mod Rules
 pub mod Signature

@@ -2,6 +2,7 @@ ghost use Rattle.std.specs.Prelude.{◌≡◌, ◌<◌, ◌≤◌, length, IfOk}
 ghost use Rattle.ly_subset.specs.Automaton.{IsTrim};
 ghost use Rattle.ly_minim.specs.Private.Blocks.{AreApart, AreBlocks, IsNamed, IsRefined, IsStable};
 
+use crate::halves::refine_by_halves;
 use crate::signature::signature;
 use ly_base::OutOfMemory;
 use ly_subset::{Dfa, Keys};
@@ -17,7 +18,8 @@ pub(crate) struct Blocks {
 }
 
 /// The coarsest partition in which the states of a block have one rule, and each class leads from them to one block or
-/// nowhere: it is refined until that splits no block (Moore 1956).
+/// nowhere. It is refined by halves (Hopcroft 1971), and then by rounds until one splits no block (Moore 1956), which
+/// the first does where the halves have left nothing to split.
 pub(crate) fn coarsest(alloc: Global, dfa: &Dfa) -> Result<Blocks, OutOfMemory>
     ensures blocks { IfOk result (λ b. AreBlocks (length dfa.now.rules) b.of.items b.count) }
     ensures stable { IfOk result (λ b. IsStable dfa.now b.of.items) }
@@ -26,10 +28,8 @@ pub(crate) fn coarsest(alloc: Global, dfa: &Dfa) -> Result<Blocks, OutOfMemory>
     let Ok(states) = u32::try_from(dfa.len()) else {
         return Err(OutOfMemory);
     };
-    let mut blocks = Blocks {
-        of: vec![in alloc; 0; dfa.len()]?,
-        count: usize::from(states > 0),
-    };
+    let start = refine(alloc, dfa, &vec![in alloc; 0; dfa.len()]?, states)?;
+    let mut blocks = refine_by_halves(alloc, dfa, &start, states)?;
     loop {
         let finer = refine(alloc, dfa, &blocks.of, states)?;
         if finer.count == blocks.count {

@@ -1,17 +1,22 @@
 //! From a deterministic automaton to the smallest one that gives every start and string the same rule.
 //!
-//! `minimise` makes it, by refining a partition of the states until no block can be split (Moore 1956). What it
-//! gives is
-//! reduced: each state is reached and leads to a rule, and any two are told apart by a string (`IsReduced`); so none
-//! with
-//! the same rules has fewer states (`Smallest`). States are numbered breadth first again, and classes stay.
+//! `minimise` makes it from the coarsest stable partition of the states. That is refined by halves (Hopcroft 1971):
+//! whenever a block is split, its smaller half is kept, and later splits the blocks by what leads into it. Rounds over
+//! all states (Moore 1956) follow until one splits nothing; that the halves leave nothing to them is not proved.
+//!
+//! What `minimise` gives is reduced: each state is reached and leads to a rule, and any two are told apart by a string
+//! (`IsReduced`); so none with the same rules has fewer states (`Smallest`). States are numbered breadth first again,
+//! and classes stay.
 //!
 //! Left out: bytes that no state tells apart any more keep classes of their own.
 #![tactic(auto)]
 
 mod blocks;
+mod groups;
+mod halves;
 mod laws;
 mod minimal;
+mod partition;
 mod quotient;
 mod signature;
 

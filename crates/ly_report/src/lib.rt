@@ -2,7 +2,7 @@
 //!
 //! `report` tells which rules are removed, since they occur in no tree of the start symbol, how many conflicts there
 //! are, and of each behind which prefix and before which terminal it is, what is done there, and which rule isn't.
-//! `push_terminal` prints the name of a terminal.
+//! `report_text` is its bytes, and `push_terminal` prints the name of a terminal.
 //!
 //! Left out: which conflicts there are, and faults of specifications.
 #![tactic(auto)]
@@ -16,4 +16,4 @@ mod write_report;
 pub use fault::ReportFault;
 pub use laws::report_is_one;
 pub use name::push_terminal;
-pub use write_report::report;
+pub use write_report::{report, report_text};

@@ -39,8 +39,8 @@ pub fn report<W: Sink>(
     Ok(())
 }
 
-/// The bytes of the report.
-fn report_text(alloc: Global, resolved: &Resolved<'_>) -> Result<Vec<u8>, OutOfMemory>
+/// The bytes of the report that `report` writes.
+pub fn report_text(alloc: Global, resolved: &Resolved<'_>) -> Result<Vec<u8>, OutOfMemory>
     ensures { IfOk result (λ text. IsReport resolved.now.spec text.items) }
 {
     let spec = resolved.spec();

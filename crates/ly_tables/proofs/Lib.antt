@@ -18,4 +18,3 @@ pub mod SetLemmas
 pub mod SlotLemmas
 pub mod SteadyLemmas
 pub mod ToldLemmas
-pub mod WithinLemmas

@@ -7,4 +7,3 @@ pub mod RawValues
 pub mod Refused
 pub mod SectionOrder
 pub mod Short
-pub mod Within

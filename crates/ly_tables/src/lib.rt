@@ -46,7 +46,6 @@ mod symbol_ranges;
 mod symbol_sections;
 mod table_parts;
 mod table_set;
-mod within;
 mod writing;
 
 pub use fault::TableFault;

@@ -21,7 +21,7 @@ pub(crate) fn symbols_within(raw: &RawTables) -> bool
 }
 
 /// Whether there may be so many terminals and nonterminals.
-pub(crate) fn are_counts_within(terminals: usize, nonterminals: usize) -> bool
+fn are_counts_within(terminals: usize, nonterminals: usize) -> bool
     ensures { IsTrue result ↔ (2 ≤ terminals) × (1 ≤ nonterminals) × (terminals + nonterminals + 1 ≤ 4095) }
 {
     2 <= terminals
@@ -39,7 +39,7 @@ fn are_names_within(names: &[Vec<u8>]) -> bool
 }
 
 /// Whether the first two names are those of the end and of no token.
-pub(crate) fn begin_with_specials(names: &[Vec<u8>]) -> bool
+fn begin_with_specials(names: &[Vec<u8>]) -> bool
     requires { 2 ≤ length names.now }
     ensures { IsTrue result ↔ BeginWithSpecials (map (λ name. name.items) names.now) }
 {

@@ -23,4 +23,6 @@ mod memory;
 #[cfg(test)]
 mod reports;
 #[cfg(test)]
+mod trees;
+#[cfg(test)]
 mod walks;

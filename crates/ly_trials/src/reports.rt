@@ -31,6 +31,7 @@ fn letter(fault: &GenFault) -> u8 {
         GenFault::States(_) => b's',
         GenFault::Grammar(_) => b'g',
         GenFault::Automaton(_) => b'a',
+        GenFault::Endless { .. } => b'e',
         GenFault::Write { .. } => b'w',
         GenFault::OutOfMemory => b'm',
     }
@@ -59,12 +60,13 @@ fn a_report_stops_where_its_writer_fails(rt: HostRuntime) -> Result<(), Fail> {
 }
 
 /// Lex files and yacc files, and what refuses them. Where several would, it is the first of this order.
-const REFUSED: [(&[u8], &[u8], u8); 6] = [
+const REFUSED: [(&[u8], &[u8], u8); 7] = [
     (b"a", b"a", b'l'),
     (LEX, b"a", b'y'),
     (LEX, b"%%s : q ;", b'j'),
     (b"%%\na return Y;\n", YACC, b'j'),
     (LEX, b"%token X\n%%s : s X ;", b'g'),
+    (LEX, b"%token X\n%start s\n%%a : a | X ; s : a ;", b'e'),
     (LEX, YACC, b'-'),
 ];
 

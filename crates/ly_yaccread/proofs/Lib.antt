@@ -1,5 +1,6 @@
 pub mod DeclarationLemmas
 pub mod ActionLemmas
+pub mod NamedLemmas
 pub mod PartLemmas
 pub mod PlaceLemmas
 pub mod ReadLemmas

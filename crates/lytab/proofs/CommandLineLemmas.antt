@@ -1,14 +1,16 @@
 -- Lemmas on the line.
-use Rattle.std.proofs.Common.{◌≡◌, ◌∙◌, List, Option, Some, None, Bool, true, false, refl, sym, ap, codes, rules}
-use Rattle.std.specs.Prelude.{option_map, option_and_then, not}
-use Rattle.std.specs.Str.{bytes_eq}
+use Rattle.std.proofs.Common.{◌≡◌, ◌∙◌, List, Option, Some, None, true, refl, sym, ap, ap₂, rules}
+use Rattle.std.specs.Prelude.{option_and_then, option_map}
 use Rattle.clap.specs.Words.{App, Row, Text, first_of, fault_of, is_simple, is_simple_and_free, subcommand_of, takes}
-use Rattle.clap.specs.Words.{first_value, rows_of, subcommand_name_of, subcommand_rows_of}
+use Rattle.clap.specs.Words.{AddsSubcommand, app_of, first_value, found_of, rows_of, subcommand_name_of}
+use Rattle.clap.specs.Words.{subcommand_rows_of}
+use Rattle.clap.specs.Words.{with_subcommand}
+use Rattle.clap.specs.declared.builder.command.Command.{Command}
 use Rattle.clap.proofs.WalkLemmas.{first_value-rows}
 use Rattle.clap.specs.declared.parser.matches.Found.{Found}
 use Rattle.clap.specs.declared.parser.matches.ArgMatches.{ArgMatches}
 use Rattle.clap.proofs.OnLiterals.{clap_on_literals}
-use Rattle.lytab.specs.CommandLine.{line_app, line_faults, line_takes, subcommand_in, tokens_by}
+use Rattle.lytab.specs.CommandLine.{IsApp, line_app, line_faults, line_takes, request_by, request_named, subcommand_in}
 
 -- the line is one of which the words give the matches
 pub line_is_simple : (a : App) → a ≡ line_app → is_simple a ≡ true
@@ -33,7 +35,7 @@ unfolding line_takes
 taken_in a words e = ap (λ x. takes x words) e
 
 -- the subcommand by its two parts
-pub both_parts : (o : Option (Text × List Row)) (t : Text) (rows : List Row) → Some t ≡ option_map (λ p. p.0) o
+both_parts : (o : Option (Text × List Row)) (t : Text) (rows : List Row) → Some t ≡ option_map (λ p. p.0) o
     → Some rows ≡ option_map (λ p. p.1) o → o ≡ Some (t, rows)
 both_parts None t rows h k = search rules
 both_parts (Some p) t rows h k = search rules
@@ -45,38 +47,24 @@ map_twice f g None = refl
 map_twice f g (Some x) = refl
 
 -- the subcommand's name is the first part of what `clap` says of it
-pub name_part : (m : ArgMatches) → subcommand_name_of m ≡ option_map (λ p. p.0) (subcommand_rows_of m)
+name_part : (m : ArgMatches) → subcommand_name_of m ≡ option_map (λ p. p.0) (subcommand_rows_of m)
 name_part m = sym (map_twice _ _ _)
 
--- a subcommand `tokens` asks for what its values say
-tokens_row : (o : Option (Text × List Row)) (t : Text) (rows : List Row) → o ≡ Some (t, rows)
-    → bytes_eq t (codes "tokens") ≡ true
-    → option_and_then tokens_by o ≡ option_map (λ lex. (lex, first_of (codes "TEXT") rows))
-    (first_of (codes "LEX") rows)
-tokens_row o t rows e h = rw e (rw h refl)
+-- the values that are found for the arguments, by the rows
+values_are : (f : Found) → first_value f ≡ (λ id. first_of id (rows_of f))
+values_are f = λ i id. first_value-rows f id i
 
-is_equal : (b : Bool) → false ≡ not b → b ≡ true
-is_equal true h = refl
-is_equal false h = h
+-- what the matches ask for whose subcommand has this name and these values
+pub request_is : (m : ArgMatches) (name found : Text) (values : ArgMatches)
+    → Some found ≡ subcommand_name_of m
+    → Some (rows_of (found_of values)) ≡ option_map (λ p. p.1) (subcommand_rows_of m) → found ≡ name
+    → request_named name (first_value (found_of values)) ≡ option_and_then request_by (subcommand_rows_of m)
+request_is m name found values n r e =
+    ap (request_named name) (values_are (found_of values)) ∙ ap (λ t. request_by (t, rows_of (found_of values))) (sym e)
+    ∙ sym (ap (option_and_then request_by) (both_parts (subcommand_rows_of m) found _ (n ∙ name_part m) r))
 
--- with both values
-pub said_tokens : (o : Option (Text × List Row)) (t : Text) (f : Found) (lex : Text) (text : Option Text)
-    → Some t ≡ option_map (λ p. p.0) o → Some (rows_of f) ≡ option_map (λ p. p.1) o
-    → false ≡ not (bytes_eq t (codes "tokens"))
-    → Some lex ≡ first_value f (codes "LEX") → text ≡ first_value f (codes "TEXT")
-    → Some (lex, text) ≡ option_and_then tokens_by o
-said_tokens o t f lex text h k e l x =
-    let lex_is : first_of (codes "LEX") (rows_of f) ≡ Some lex = sym (l ∙ first_value-rows f (codes "LEX")) in
-    let text_is : first_of (codes "TEXT") (rows_of f) ≡ text = sym (x ∙ first_value-rows f (codes "TEXT")) in
-    sym (tokens_row o t (rows_of f) (both_parts o t (rows_of f) h k) (is_equal _ e)
-    ∙ ap (option_map (λ l. (l, first_of (codes "TEXT") (rows_of f)))) lex_is ∙ ap (λ z. Some (lex, z)) text_is)
-
--- with no first value
-pub said_none : (o : Option (Text × List Row)) (t : Text) (f : Found)
-    → Some t ≡ option_map (λ p. p.0) o → Some (rows_of f) ≡ option_map (λ p. p.1) o
-    → false ≡ not (bytes_eq t (codes "tokens"))
-    → None ≡ first_value f (codes "LEX") → None ≡ option_and_then tokens_by o
-said_none o t f h k e l =
-    let lex_is : first_of (codes "LEX") (rows_of f) ≡ None = sym (l ∙ first_value-rows f (codes "LEX")) in
-    sym (tokens_row o t (rows_of f) (both_parts o t (rows_of f) h k) (is_equal _ e)
-    ∙ ap (option_map (λ l. (l, first_of (codes "TEXT") (rows_of f)))) lex_is)
+-- a subcommand joins the line
+pub added : (old sub new : Command) (line app : App) → app_of old ≡ line → IsApp app sub → AddsSubcommand old sub new
+    → app_of new ≡ with_subcommand line app.top
+added old sub new line app e is adds =
+    adds.shape is.local ∙ ap₂ (λ (a b : App). with_subcommand a b.top) e is.shape

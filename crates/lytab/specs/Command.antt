@@ -1,9 +1,12 @@
--- What a command says.
-use Rattle.std.specs.Prelude.{Option, option_map}
-use Rattle.clap.specs.Words.{Text}
+-- What a command asks for.
+use Rattle.std.specs.Prelude.{option_map}
+use Rattle.lytab.specs.Request.{Request, build, run, tokens, try}
 use Rattle.lytab.specs.declared.command.Command.{Command}
-use Rattle.lytab.specs.declared.command.Command.TheVariants.{Tokens}
+use Rattle.lytab.specs.declared.command.Command.TheVariants.{Build, Run, Tokens, Try}
 
--- the paths that a command names
-abbrev pub said : Command → Text × Option Text
-said (Tokens lex text) = (lex.now, option_map (λ s. s.now) text)
+abbrev pub said : Command → Request
+said (Tokens lex text) = tokens lex.now (option_map (λ s. s.now) text)
+said (Build lex yacc table_file report) =
+    build lex.now yacc.now table_file.now (option_map (λ s. s.now) report)
+said (Run table_file text) = run table_file.now (option_map (λ s. s.now) text)
+said (Try lex yacc text) = try lex.now yacc.now (option_map (λ s. s.now) text)

@@ -3,13 +3,40 @@ ghost use Rattle.std.specs.Prelude.{◌≡◌};
 
 use std::alloc::AllocError;
 
-/// What the words ask for. Each field is a path.
+/// What the words ask for. Each field is a path; standard input is read where there is no `text`.
 #[derive(Clone, Copy, Debug, PartialEq, Eq)]
 pub enum Command<'a> {
-    /// Write the tokens of a text, standard input if there is no path, under a lex file.
+    /// Write the tokens of a text under a lex file.
     Tokens {
         /// The lex file.
         lex: &'a str,
+        /// The text.
+        text: Option<&'a str>,
+    },
+    /// Write the table file of a lex file and a yacc file.
+    Build {
+        /// The lex file.
+        lex: &'a str,
+        /// The yacc file.
+        yacc: &'a str,
+        /// The table file.
+        tables: &'a str,
+        /// Where the report is written, if it is asked for.
+        report: Option<&'a str>,
+    },
+    /// Answer a text by a table file.
+    Run {
+        /// The table file.
+        tables: &'a str,
+        /// The text.
+        text: Option<&'a str>,
+    },
+    /// Answer a text by a lex file and a yacc file.
+    Try {
+        /// The lex file.
+        lex: &'a str,
+        /// The yacc file.
+        yacc: &'a str,
         /// The text.
         text: Option<&'a str>,
     },

@@ -1,31 +1,33 @@
 ghost use Rattle.std.specs.Prelude.{◌≡◌, IfErr, IfOk, IsSome, OnOk, Some, [], map, option_and_then, option_map};
-ghost use Rattle.std.specs.Prelude.{MatchResult, Option, string_bytes, false, true};
-ghost use Rattle.clap.specs.Words.{Text, app_of, kind_of, subcommand_rows_of};
-ghost use Rattle.clap.specs.declared.builder.command.Command.TheViews.{out-Command};
-ghost use Rattle.lytab.specs.CommandLine.{line_app, line_faults, line_takes, subcommand_in, tokens_app, tokens_by};
-ghost use Rattle.lytab.specs.CommandLine.{tokens_of};
+ghost use Rattle.std.specs.Prelude.{MatchResult, string_bytes, true};
+ghost use Rattle.clap.specs.Words.{first_value, found_of, kind_of, subcommand_rows_of};
+ghost use Rattle.lytab.specs.CommandLine.{build_by, line_faults, line_takes, request_by, request_of, run_by};
+ghost use Rattle.lytab.specs.CommandLine.{subcommand_in, tokens_by, try_by};
 ghost use Rattle.lytab.specs.Command.{said};
-ghost use Rattle.lytab.specs.Paths.{AskForTokens};
+ghost use Rattle.lytab.specs.Paths.{AskFor};
+ghost use Rattle.lytab.specs.Request.{Request};
 
 use crate::command::{Command, CommandFault};
+use crate::line::line;
+use clap::ArgMatches;
 use clap::error::ErrorKind;
-use clap::{Arg, ArgMatches};
-use std::alloc::{AllocError, Global};
+use std::alloc::Global;
 
-/// Reads the words of the line, of which the first is the program's name: `tokens LEX [TEXT]`.
+/// Reads the words of the line, of which the first is the program's name: `tokens LEX [TEXT]`,
+/// `build LEX YACC TABLES [--report FILE]`, `run TABLES [TEXT]` or `try LEX YACC [TEXT]`.
 ///
 /// `Help` comes where a help text is asked for, `Bad` where `clap` refuses the words for another reason,
 /// `OutOfMemory` where a growth was refused.
 pub fn command<'a>(alloc: Global, words: &'a [String]) -> Result<Command<'a>, CommandFault>
-    ensures said { IfOk result (λ c. tokens_of (map string_bytes words.entry.now) ≡ Some (said c)) }
+    ensures said { IfOk result (λ c. request_of (map string_bytes words.entry.now) ≡ Some (said c)) }
     ensures faultless { OnOk result (line_faults (map string_bytes words.entry.now) ≡ []) }
     ensures refused { IfErr result (λ e. line_takes (map string_bytes words.entry.now) ≡ true
-        → IsSome (tokens_of (map string_bytes words.entry.now)) → e ≡ CommandFault.OutOfMemory) }
-    ensures taken { (lex : Text) → (text : Option Text) → AskForTokens (map string_bytes words.entry.now) lex text
-        → MatchResult result (λ c. said c ≡ (lex, text)) (λ e. e ≡ CommandFault.OutOfMemory) }
+        → IsSome (request_of (map string_bytes words.entry.now)) → e ≡ CommandFault.OutOfMemory) }
+    ensures taken { (request : Request) → AskFor (map string_bytes words.entry.now) request
+        → MatchResult result (λ c. said c ≡ request) (λ e. e ≡ CommandFault.OutOfMemory) }
 {
     let matches = matched(alloc, words)?;
-    match tokens_in(&matches) {
+    match command_in(&matches) {
         Some(command) => Ok(command),
         None => Err(CommandFault::Bad(String::new(alloc))),
     }
@@ -45,43 +47,60 @@ fn matched<'a>(alloc: Global, words: &'a [String]) -> Result<ArgMatches<'a>, Com
 }
 
 /// The command that the matches name.
-fn tokens_in<'a>(matches: &ArgMatches<'a>) -> Option<Command<'a>>
-    ensures { option_map said result ≡ option_and_then tokens_by (subcommand_rows_of matches.now) }
+fn command_in<'a>(matches: &ArgMatches<'a>) -> Option<Command<'a>>
+    ensures { option_map said result ≡ option_and_then request_by (subcommand_rows_of matches.now) }
 {
     let (name, values) = matches.subcommand()?;
-    if name != "tokens" {
-        return None;
+    match name {
+        "tokens" => tokens_in(values),
+        "build" => build_in(values),
+        "run" => run_in(values),
+        "try" => try_in(values),
+        _ => None,
     }
-    let lex = values.get_str("LEX")?;
+}
+
+/// The command `tokens` with these values.
+fn tokens_in<'a>(values: &ArgMatches<'a>) -> Option<Command<'a>>
+    ensures { option_map said result ≡ tokens_by (first_value (found_of values.now)) }
+{
     Some(Command::Tokens {
-        lex,
+        lex: values.get_str("LEX")?,
         text: values.get_str("TEXT"),
     })
 }
 
-/// The line as `clap` has it.
-fn line<'a>(alloc: Global) -> Result<clap::Command<'a>, AllocError>
-    ensures { IfOk result (λ c. app_of c ≡ line_app) }
+/// The command `build` with these values.
+fn build_in<'a>(values: &ArgMatches<'a>) -> Option<Command<'a>>
+    ensures { option_map said result ≡ build_by (first_value (found_of values.now)) }
 {
-    let top = clap::Command::new(alloc, "lytab")
-        .about("Lexical analysis by POSIX lex files, proved correct")
-        .subcommand_required(true);
-    top.subcommand(tokens_line(alloc)?)
+    Some(Command::Build {
+        lex: values.get_str("LEX")?,
+        yacc: values.get_str("YACC")?,
+        tables: values.get_str("TABLES")?,
+        report: values.get_str("FILE"),
+    })
 }
 
-/// The subcommand `tokens`.
-fn tokens_line<'a>(alloc: Global) -> Result<clap::Command<'a>, AllocError>
-    ensures app { IfOk result (λ c. app_of c ≡ tokens_app) }
-    ensures local { IfOk result (λ c. (out-Command c).has_globals ≡ false) }
+/// The command `run` with these values.
+fn run_in<'a>(values: &ArgMatches<'a>) -> Option<Command<'a>>
+    ensures { option_map said result ≡ run_by (first_value (found_of values.now)) }
 {
-    let lex = Arg::new(alloc, "LEX")
-        .required(true)
-        .help("The lex file: definitions, %%, rules");
-    let text = Arg::new(alloc, "TEXT").help("The text; standard input if it is left out");
-    clap::Command::new(alloc, "tokens")
-        .about("Writes the tokens of a text, one a line")
-        .arg(lex)?
-        .arg(text)
+    Some(Command::Run {
+        tables: values.get_str("TABLES")?,
+        text: values.get_str("TEXT"),
+    })
+}
+
+/// The command `try` with these values.
+fn try_in<'a>(values: &ArgMatches<'a>) -> Option<Command<'a>>
+    ensures { option_map said result ≡ try_by (first_value (found_of values.now)) }
+{
+    Some(Command::Try {
+        lex: values.get_str("LEX")?,
+        yacc: values.get_str("YACC")?,
+        text: values.get_str("TEXT"),
+    })
 }
 
 /// The fault that stands for `clap`'s error.

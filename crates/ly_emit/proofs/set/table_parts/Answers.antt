@@ -1,18 +1,23 @@
-use Rattle.std.proofs.Common.{◌≡◌, ◌∙◌, ◌*◌, ap, map, subst, sym}
+use Rattle.std.proofs.Common.{◌≡◌, ◌∙◌, ◌<◌, ◌*◌, All, ap, length, map, option_map, subst, sym}
 use Rattle.std.proofs.lemmas.List.{length-map}
+use Rattle.std.proofs.lemmas.List.Elements.{All-map}
 use Rattle.ly_emit.specs.Private.Listing.{AreLiterals}
+use Rattle.ly_emit.specs.Private.Lists.{AreLists}
+use Rattle.ly_emit.specs.SetOf.{IsSetOf}
 use Rattle.ly_emit.specs.Tables.{IsMachineOf}
+use Rattle.ly_emit.proofs.RangeLemmas.{set_within}
 use Rattle.ly_emit.proofs.SetLemmas.{set_machine}
 use Rattle.ly_join.specs.Sizes.{HasSizes}
 use Rattle.ly_pack.specs.Combs.{IsFirstFit}
+use Rattle.ly_pack.specs.Machine.{IsMachine}
 use Rattle.ly_report.specs.Report.{terminal_name}
 use Rattle.ly_tables.specs.TableSet.{machine_of}
 use Rattle.ly_tables.specs.Values.{set_of, starts_from}
 use Rattle.ly_tables.specs.declared.table_parts.TableParts.{TableParts}
 use Rattle.ly_emit.proofs.set.table_parts.Goals as goal
 
-pub returns-clause-set : goal.returns-clause-set
-returns-clause-set c =
+pub returns : goal.returns
+returns c =
     let s = c.args.resolved.now.spec in
     let M = c.args.resolved.now.automaton in
     let spec = c.spec-spec.ensures.these in
@@ -40,28 +45,55 @@ returns-clause-set c =
     let accept : p.nonterminals ≡ M.grammar.accept
     = c.accept.ensures ∙ sym c.grammar.ensures.keeps.accept ∙ ap (λ g. g.accept) c.reduced.ensures
     ∙ ap (λ m. m.grammar.accept) c.lr0.ensures.these in
+    let packed = parser.ensures.same ∙ c.in_ok-pack.ensures in
     let same : machine_of (set_of p) ≡ c.args.machine
     = set_machine p parser.result.terminals parser.result.nonterminals parser.result.actions parser.result.gotos
     c.into_comb.ensures.same c.into_comb-2.ensures.same s M c.args.machine sizes c.lr0.ensures.useful
-    c.requires.tables names accept (parser.ensures.same ∙ c.in_ok-pack.ensures) in (
-      record {
-        terminals = names;
-        nonterminals = accept ∙ c.lr0.ensures.useful.accept ∙ sizes.nonterminals;
-        literals = subst (λ x. AreLiterals x.terminals (map (λ t. t.0) p.literals.items)) spec c.in_ok-literals.ensures;
-        scanner = record {
-          actions = made.actions ∙ c.scanner.ensures ∙ ap (λ x. x.scanner) spec;
-          cuts = made.cuts;
-          condition_count = ap (λ n. 2 * n) (length-map scanner.conditions.items starts_from) ∙ made.count;
-          conditions = made.starts;
-          class_count = c.classes.ensures;
-          classes = made.classes;
-          accepted = made.accepted;
-          rows = made.rows;
-        };
-        machine = subst (IsMachineOf s M) (sym same) c.requires.tables;
-        scan_rows = made.placed;
-        actions = subst IsFirstFit (sym c.into_comb.ensures.same) c.into_comb.ensures.placed;
-        gotos = subst IsFirstFit (sym c.into_comb-2.ensures.same) c.into_comb-2.ensures.placed;
-      },
-      same,
-    )
+    c.requires.tables names accept packed in
+    let set : IsSetOf s M c.args.rules.now c.args.dfa.now (set_of p) = record {
+      terminals = names;
+      nonterminals = accept ∙ c.lr0.ensures.useful.accept ∙ sizes.nonterminals;
+      literals = subst (λ x. AreLiterals x.terminals (map (λ t. t.0) p.literals.items)) spec
+          c.in_ok-literals.ensures.literals;
+      scanner = record {
+        actions = made.actions ∙ c.scanner.ensures ∙ ap (λ x. x.scanner) spec;
+        cuts = made.cuts;
+        condition_count = ap (λ n. 2 * n) (length-map scanner.conditions.items starts_from) ∙ made.count;
+        conditions = made.starts;
+        class_count = c.classes.ensures;
+        classes = made.classes;
+        accepted = made.accepted;
+        rows = made.rows;
+      };
+      machine = subst (IsMachineOf s M) (sym same) c.requires.tables;
+      scan_rows = made.placed;
+      actions = subst IsFirstFit (sym c.into_comb.ensures.same) c.into_comb.ensures.placed;
+      gotos = subst IsFirstFit (sym c.into_comb-2.ensures.same) c.into_comb-2.ensures.placed;
+    } in
+    let states = length-map p.defaults.items (option_map (λ p. p.0)) in
+    let wide = ap (λ m. m.terminals) packed ∙ sym (ap (λ m. m.terminals) same) in
+    let narrow = ap (λ m. m.nonterminals) packed ∙ sym (ap (λ m. m.nonterminals) same) in
+    let lists : AreLists (set_of p) = record {
+      names = All-map (All (λ byte. byte < 256)) (λ name. name.items) p.terminals.items
+          c.in_ok-terminal_names.ensures.bytes;
+      literals = length-map p.literals.items (λ t. t.0) ∙ c.in_ok-literals.ensures.count;
+      classes = made.bytes;
+      scan_rows = record {
+        rows = made.sizes.rows ∙ sym (ap length made.accepted);
+        width = made.sizes.width ∙ sym c.classes.ensures;
+      };
+      actions = record {
+        rows = ap (λ x. length x.bases) c.into_comb.ensures.same ∙ parser.ensures.sizes.actions ∙ sym states;
+        width = ap (λ x. x.width) c.into_comb.ensures.same ∙ parser.ensures.sizes.actions_wide ∙ wide;
+      };
+      gotos = record {
+        rows = ap (λ x. length x.bases) c.into_comb-2.ensures.same ∙ parser.ensures.sizes.gotos ∙ sym states;
+        width = ap (λ x. x.width) c.into_comb-2.ensures.same ∙ parser.ensures.sizes.gotos_wide ∙ narrow;
+      };
+    } in
+    let machine = subst IsMachine (c.in_ok-pack.ensures ∙ sym same) parser.ensures.whole in
+    record {
+      set = (set, same);
+      within = set_within s M c.args.dfa.now c.args.rules.now (set_of p) c.requires.fits set lists sizes made.whole
+          c.requires.rules machine;
+    }

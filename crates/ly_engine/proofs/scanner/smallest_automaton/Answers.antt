@@ -1,4 +1,4 @@
-use Rattle.std.proofs.Common.{◌≡◌, ◌≤◌, ◌∙◌, List, Err, ap, subst, sym}
+use Rattle.std.proofs.Common.{◌≤◌, List, Err, ap, subst}
 use Rattle.std.proofs.lemmas.Result.{err_from_is_err_and}
 use Rattle.ly_ere.specs.Names.{defined}
 use Rattle.ly_ere.specs.declared.pattern.Rule.{Rule}

@@ -1,3 +1,4 @@
+use Rattle.std.proofs.Common.{refl}
 use Rattle.ly_join.specs.declared.fault.JoinFault.TheVariants as join
 use Rattle.ly_lexread.specs.declared.fault.LexFault.TheVariants as lex
 use Rattle.ly_yaccread.specs.File.{written_of}
@@ -7,18 +8,18 @@ use Rattle.ly_engine.specs.declared.gen_fault.GenFault.TheVariants.{Join, Lex, Y
 use Rattle.ly_engine.proofs.GenFaultLemmas.{when_becomes, when_same}
 use Rattle.ly_engine.proofs.specification.read_specification.Goals as goal
 
-pub returns-in_err-lex-clause-refused : goal.returns-in_err-lex-clause-refused
-returns-in_err-lex-clause-refused c = when_becomes c.from_residual.result lex.OutOfMemory Lex c.in_err-lex.field-0.0
+pub returns-in_err-file-clause-refused : goal.returns-in_err-file-clause-refused
+returns-in_err-file-clause-refused c = when_becomes c.from_residual.result lex.OutOfMemory Lex c.in_err-file.field-0.0
     (IsRefusedFor c.args.limits.now c.args.lex.now c.args.yacc.now) c.from_residual.ensures.1 tt
     (λ ne. (
       ne,
       record {
         ok = tt;
         light = tt;
-        of_text = c.in_err-lex.ensures.of_text;
-        refused = c.in_err-lex.ensures.refused;
-        heavy = c.in_err-lex.ensures.heavy;
-        none_light = c.in_err-lex.ensures.none_light;
+        of_text = c.in_err-file.ensures.of_text;
+        refused = c.in_err-file.ensures.refused;
+        heavy = c.in_err-file.ensures.heavy;
+        none_light = c.in_err-file.ensures.none_light;
       },
     ))
 
@@ -33,29 +34,34 @@ returns-in_err-spec-clause-refused c = when_becomes c.from_residual-in_err-spec.
     c.from_residual-in_err-spec.ensures.1 tt
     (λ ne. (
       ne,
-      c.in_ok-lex.lex,
+      c.in_ok-file.file,
       written_of c.in_ok-yacc.yacc,
-      c.in_ok-lex.ensures.ok,
+      c.in_ok-file.ensures.ok,
       c.in_ok-yacc.ensures.ok,
       c.in_err-spec.ensures.fault,
     ))
 
-pub returns-in_err-check_scanner-clause-refused : goal.returns-in_err-check_scanner-clause-refused
-returns-in_err-check_scanner-clause-refused c = when_same c.from_residual-in_err-check_scanner.result
-    c.in_err-check_scanner.field-0.0 (IsRefusedFor c.args.limits.now c.args.lex.now c.args.yacc.now)
-    c.from_residual-in_err-check_scanner.ensures.1
-    (c.in_err-check_scanner.ensures.refused c.args.lex.now c.args.yacc.now c.in_ok-lex.ensures.ok
-    c.in_ok-lex.ensures.light)
+pub returns-in_err-subsets-clause-refused : goal.returns-in_err-subsets-clause-refused
+returns-in_err-subsets-clause-refused c = when_same c.from_residual-in_err-subsets.result
+    c.in_err-subsets.field-0.0 (IsRefusedFor c.args.limits.now c.args.lex.now c.args.yacc.now)
+    c.from_residual-in_err-subsets.ensures.1
+    (c.in_err-subsets.ensures.refused c.args.lex.now c.args.yacc.now c.in_ok-file.ensures.ok
+    c.in_ok-file.ensures.light)
 
-pub returns-clause-ok : goal.returns-clause-ok
-returns-clause-ok c = record {
-  file = c.in_ok-lex.lex;
-  lex_text = c.in_ok-lex.ensures.ok;
-  light = c.in_ok-lex.ensures.light;
-  written = written_of c.in_ok-yacc.yacc;
-  yacc_text = c.in_ok-yacc.ensures.ok;
-  joined = c.in_ok-spec.ensures.ok;
-  within = c.in_ok-spec.ensures.within;
-  weight = c.in_ok-check_scanner.ensures.within;
-  few = c.in_ok-check_scanner.ensures.few;
+pub returns-clause-says : goal.returns-clause-says
+returns-clause-says c = record {
+  specifies = record {
+    file = c.in_ok-file.file;
+    lex_text = c.in_ok-file.ensures.ok;
+    light = c.in_ok-file.ensures.light;
+    written = written_of c.in_ok-yacc.yacc;
+    yacc_text = c.in_ok-yacc.ensures.ok;
+    joined = c.in_ok-spec.ensures.ok;
+    within = c.in_ok-spec.ensures.within;
+    weight = c.in_ok-subsets.ensures.within;
+    few = c.in_ok-subsets.ensures.few;
+  };
+  same_file = refl;
+  scanner = c.in_ok-subsets.ensures.scanner;
+  few = c.in_ok-subsets.ensures.states;
 }

@@ -1,20 +1,19 @@
 use Rattle.std.proofs.Common.{◌∙◌, ap, is_some, option_and_then, sym, true≢false, unwrap_or}
-use Rattle.lytab.specs.CommandLine.{tokens_by}
-use Rattle.lytab.proofs.TokensLineLemmas.{asked_taken, asked_tokens, refused_up}
+use Rattle.lytab.specs.CommandLine.{request_by}
+use Rattle.lytab.proofs.RequestLemmas.{asked, refused_up}
 use Rattle.lytab.proofs.command_line.command.Goals as goal
 
 pub returns-in_err-matches-clause-taken : goal.returns-in_err-matches-clause-taken
 returns-in_err-matches-clause-taken c =
-    λ lex text a. refused_up c.from_residual.result c.in_err-matches.field-0.0 _ _ c.from_residual.ensures.1
-    (c.in_err-matches.ensures.taken (asked_taken _ lex text a))
+    λ request a. refused_up c.from_residual.result c.in_err-matches.field-0.0 _ _ c.from_residual.ensures.1
+    (c.in_err-matches.ensures.taken (asked _ request a).0)
 
 pub returns-in-Some-clause-taken : goal.returns-in-Some-clause-taken
 returns-in-Some-clause-taken c =
-    λ lex text a. ap (λ o. unwrap_or o (lex, text))
-    (c.in-Some.ensures ∙ ap (option_and_then tokens_by) c.in_ok-matches.ensures.found ∙ asked_tokens _ lex text a)
+    λ request a. ap (λ o. unwrap_or o request)
+    (c.in-Some.ensures ∙ ap (option_and_then request_by) c.in_ok-matches.ensures.found ∙ (asked _ request a).1)
 
 pub returns-clause-taken : goal.returns-clause-taken
 returns-clause-taken c =
-    λ lex text a. absurd (true≢false (sym (ap is_some
-    (c.in-None.ensures ∙ ap (option_and_then tokens_by) c.in_ok-matches.ensures.found
-    ∙ asked_tokens _ lex text a))))
+    λ request a. absurd (true≢false (sym (ap is_some
+    (c.in-None.ensures ∙ ap (option_and_then request_by) c.in_ok-matches.ensures.found ∙ (asked _ request a).1))))

@@ -1,0 +1,51 @@
+-- What a table file of version 1 can hold of a specification and of its automata.
+use Rattle.std.specs.Prelude.{◌≡◌, ℕ, ◌+◌, ◌*◌, ◌<◌, ◌≤◌, List, All, Some, length, slice_get}
+use Rattle.std.specs.Int.{w16}
+use Rattle.ly_base.specs.declared.scan_action.ScanAction.{ScanAction}
+use Rattle.ly_emit.specs.Tables.{shape_in}
+use Rattle.ly_ere.specs.declared.pattern.Rule as pattern
+use Rattle.ly_join.specs.Grammar.{IsRule, Rule}
+use Rattle.ly_join.specs.Joined.{Spec}
+use Rattle.ly_join.specs.Terminals.{end, undefined}
+use Rattle.ly_lr0.specs.Automaton as parser
+use Rattle.ly_report.specs.Report.{terminal_name}
+use Rattle.ly_subset.specs.Automaton as scanner
+use Rattle.ly_tables.specs.Ranges.{Counts, IsCutWithin, IsEmittedWithin, IsNameLong, IsShapeShort, version_1}
+
+-- The first two terminals are the end and the one of no token; there are no more symbols, rules and states than these
+-- counts allow, and a rule; and bodies, names of terminals and names of constructors are no longer than a byte counts.
+pub record IsGrammarWithin (counts : Counts) (s : Spec) (M : parser.Automaton) : Type 0 where
+  pub end : slice_get s.terminals 0 ≡ Some end
+  pub undefined : slice_get s.terminals 1 ≡ Some undefined
+  pub symbols : length s.terminals + length s.nonterminals + 1 ≤ counts.symbols
+  pub names : All (λ t. IsNameLong (terminal_name t)) s.terminals
+  pub some_rule : 2 ≤ length s.grammar.rules
+  pub rule_count : length s.grammar.rules ≤ counts.rules + 1
+  pub rules : (p : ℕ) → 1 ≤ p → p < length s.grammar.rules
+      → (r : Rule) × IsRule s.grammar p r × (length r.body ≤ 255)
+  pub constructors : (p : ℕ) → IsShapeShort (shape_in s p)
+  pub states : length M.states ≤ counts.states
+
+-- What a rule of the scanner does names what is there: a terminal, which isn't the end, and one of the conditions, of
+-- which each has two starts.
+pub record IsActionWithin (terminals starts : ℕ) (a : ScanAction) : Type 0 where
+  pub emits : IsEmittedWithin terminals a.emits
+  pub begin : (c : ℕ) → a.begin ≡ Some c → 2 * c < starts
+
+-- There are no more rules, conditions and states than these counts allow, and a condition; what rules do, and what is
+-- accepted, is there; and 16 bits count what is cut.
+pub record IsScannerWithin (counts : Counts) (s : Spec) (rules : List pattern.Rule) (A : scanner.Automaton) : Type 0
+  where
+    pub rule_count : length rules ≤ counts.rules
+    pub actions : All (IsActionWithin (length s.terminals) A.starts) s.scanner
+    pub cuts : All (λ r. IsCutWithin w16 r.pattern.cut) rules
+    pub some_condition : 0 < A.starts
+    pub conditions : A.starts ≤ 2 * counts.conditions
+    pub states : length A.rules ≤ counts.states
+    pub accepted : (k p : ℕ) → slice_get A.rules k ≡ Some (Some p) → p < length rules
+
+-- The grammar and the scanner of a specification, and the automata of both, are within the counts of version 1.
+pub record FitsFile (s : Spec) (rules : List pattern.Rule) (A : scanner.Automaton) (M : parser.Automaton) : Type 0
+  where
+    pub grammar : IsGrammarWithin version_1 s M
+    pub scanner : IsScannerWithin version_1 s rules A

@@ -1,0 +1,85 @@
+-- A table set that is made of what two files say is the one that they generate.
+use Rattle.std.proofs.Common.{◌≡◌, ◌≤◌, ℕ, List, length, subst, sym}
+use Rattle.ly_base.specs.Limits.{AreBounded, Sizes}
+use Rattle.ly_drive.specs.Verdict.{faulty}
+use Rattle.ly_emit.specs.FitsFile.{FitsFile}
+use Rattle.ly_engine.specs.Generated.{IsGenerated, IsMadeOf, IsSpecification, IsSubsetScanner}
+use Rattle.ly_engine.specs.Headline.{IsGeneratedSet}
+use Rattle.ly_engine.proofs.FitLemmas.{fits_file}
+use Rattle.ly_engine.proofs.HeadlineLemmas.{answers_follow, tables_answer}
+use Rattle.ly_engine.proofs.RowAgreementLemmas.{same_rules_agree}
+use Rattle.ly_ere.specs.Names.{defined}
+use Rattle.ly_grammar.specs.Reduction.{KeepsUseful}
+use Rattle.ly_join.specs.Joined.{Spec}
+use Rattle.ly_lexread.specs.declared.file.LexFile.{LexFile}
+use Rattle.ly_lr0.specs.Automaton as parser
+use Rattle.ly_minim.specs.Smallest.{HaveSameRules, IsReduced}
+use Rattle.ly_position.proofs.SpotLemmas.{positions_live}
+use Rattle.ly_report.specs.Report.{IsReport}
+use Rattle.ly_subset.specs.Automaton.{Automaton, IsBreadthFirst, IsTrim}
+use Rattle.ly_subset.proofs.LawLemmas.{trim}
+use Rattle.ly_tables.specs.TableSet.{TableSet}
+
+module _ (limits : Sizes) (lex yacc : List ℕ) (given : LexFile) (s : Spec) (A walk : Automaton) (set : TableSet)
+    (says : IsSpecification limits lex yacc given s A) (same : HaveSameRules A walk)
+    (reduced : IsTrim A → IsReduced walk) (order : IsBreadthFirst walk) (of_given : IsMadeOf limits given s walk set)
+  where
+    file : LexFile
+    file = says.specifies.file
+
+    made : IsMadeOf limits file s walk set
+    unfolding file
+    made = subst (λ f. IsMadeOf limits f s walk set) (sym says.same_file) of_given
+
+    scanner : IsSubsetScanner file A
+    unfolding file
+    scanner = subst (λ f. IsSubsetScanner f A) (sym says.same_file) says.scanner
+
+    generated_set : IsGeneratedSet says.specifies.file says.specifies.written s set
+    unfolding file
+    generated_set = record {
+      joined = says.specifies.joined;
+      automaton = made.automaton;
+      is_automaton = made.is_automaton;
+      useful = made.fit.useful_rules;
+      walk = walk;
+      is_walk = made.steady_set.is_automaton;
+      agrees = same_rules_agree lex file says.specifies.lex_text scanner.nfa A scanner.positions scanner.subsets walk
+          same;
+      is_set = made.steady_set.is_set;
+      within = made.steady_set.within;
+      steady = made.steady_set.steady;
+    }
+
+    generated : IsGenerated limits lex yacc set
+    unfolding file generated_set
+    generated = record {
+      spec = s;
+      specifies = says.specifies;
+      generated = generated_set;
+      fit = made.fit;
+      smallest = reduced (trim scanner.nfa file.conditions A scanner.subsets scanner.whole
+          (positions_live (defined file.names) file.rules.items file.conditions scanner.nfa scanner.spots));
+      order = order;
+      answers = answers_follow says.specifies.file says.specifies.written s set generated_set;
+      never_faulty = λ text h. (tables_answer says.specifies.file says.specifies.written s set generated_set text faulty
+          h).3;
+    }
+
+    pub generated_with : (report : List ℕ) → IsReport s report
+        → (is : IsGenerated limits lex yacc set) × IsReport is.spec report
+    unfolding generated
+    generated_with report h = (generated, h)
+
+-- and a table file can hold what is made of them
+pub fits_given : (limits : Sizes) (lex yacc : List ℕ) (given : LexFile) (s : Spec) (A walk : Automaton)
+    → IsSpecification limits lex yacc given s A → HaveSameRules A walk → (IsTrim A → IsReduced walk)
+    → walk.starts ≡ A.starts → AreBounded limits → (M : parser.Automaton) → parser.IsAutomaton M
+    → KeepsUseful s.grammar M.grammar → length M.states ≤ limits.parser_states
+    → FitsFile s given.rules.items walk M
+fits_given limits lex yacc given s A walk says same reduced starts bounded M is useful few =
+    let scanner : IsSubsetScanner says.specifies.file A
+    = subst (λ f. IsSubsetScanner f A) (sym says.same_file) says.scanner in
+    subst (λ (f : LexFile). FitsFile s f.rules.items walk M) says.same_file
+    (fits_file limits lex yacc s says.specifies bounded scanner.nfa A walk scanner.positions scanner.spots
+    scanner.subsets scanner.whole says.few same reduced starts M is useful few)

@@ -1,0 +1,70 @@
+-- The table set that a lex file and a yacc file generate.
+use Rattle.std.specs.Prelude.{◌≡◌, ◌≤◌, ℕ, List, length}
+use Rattle.std.specs.Int.{w16}
+use Rattle.ly_base.specs.Limits.{Sizes}
+use Rattle.ly_drive.specs.TableAnswer.{IsVerdict, TableAnswer}
+use Rattle.ly_drive.specs.Verdict.{faulty}
+use Rattle.ly_drive.specs.declared.outcome.Outcome.{Outcome}
+use Rattle.ly_emit.specs.SetOf.{IsSetOf}
+use Rattle.ly_engine.specs.Accepted.{IsFit, Specifies}
+use Rattle.ly_engine.specs.Headline.{IsGeneratedSet}
+use Rattle.ly_engine.specs.SpecAnswer.{SpecAnswer}
+use Rattle.ly_ere.specs.Names.{defined}
+use Rattle.ly_ere.specs.declared.pattern.Rule.{Rule}
+use Rattle.ly_join.specs.Joined.{Spec}
+use Rattle.ly_lexread.specs.declared.file.LexFile.{LexFile}
+use Rattle.ly_lr0.specs.Automaton as parser
+use Rattle.ly_minim.specs.Smallest.{IsReduced}
+use Rattle.ly_pack.specs.Steady.{IsSteady}
+use Rattle.ly_position.specs.Nfa.{Nfa}
+use Rattle.ly_position.specs.Patterns.{ArePositions}
+use Rattle.ly_position.specs.Spots.{HasPositions}
+use Rattle.ly_subset.specs.Automaton.{Automaton, IsAutomaton, IsBreadthFirst}
+use Rattle.ly_subset.specs.Subsets.{AreSubsets}
+use Rattle.ly_tables.specs.Ranges.{version_1, IsWithinRanges}
+use Rattle.ly_tables.specs.TableSet.{TableSet, machine_of}
+
+-- The states are the sets of positions of the file's patterns.
+pub record IsSubsetScanner (file : LexFile) (A : Automaton) : Type 0 where
+  pub nfa : Nfa
+  pub positions : ArePositions (defined file.names) file.rules.items file.conditions nfa
+  pub spots : HasPositions (defined file.names) file.rules.items file.conditions nfa
+  pub subsets : AreSubsets nfa file.conditions A
+  pub whole : IsAutomaton A
+
+-- The set is that of a specification, of an automaton of its grammar and of a scanner's, is within the ranges of its
+-- file, and its parser's runs end.
+pub record IsSteadySet (s : Spec) (M : parser.Automaton) (rules : List Rule) (A : Automaton) (set : TableSet) : Type 0
+  where
+    pub is_automaton : IsAutomaton A
+    pub is_set : IsSetOf s M rules A set
+    pub within : IsWithinRanges w16 version_1 set
+    pub steady : IsSteady (machine_of set)
+
+-- The set is that of the specification's useful rules, which are fit, and of a scanner.
+pub record IsMadeOf (limits : Sizes) (file : LexFile) (s : Spec) (A : Automaton) (set : TableSet) : Type 0 where
+  pub automaton : parser.Automaton
+  pub is_automaton : parser.IsAutomaton automaton
+  pub fit : IsFit limits s automaton.grammar
+  pub steady_set : IsSteadySet s automaton file.rules.items A set
+
+-- The bytes of two files are these, and say this specification.
+pub record IsSpecification (limits : Sizes) (lex yacc : List ℕ) (file : LexFile) (s : Spec) (A : Automaton) : Type 0
+  where
+    pub specifies : Specifies limits lex yacc s
+    pub same_file : specifies.file ≡ file
+    pub scanner : IsSubsetScanner file A
+    pub few : length A.rules ≤ limits.scanner_states
+
+-- The files are accepted, and the set is theirs: its scanner is the smallest of the lex file's rules, its states
+-- numbered breadth first, and what it answers to any text is the specification's answer to it.
+pub record IsGenerated (limits : Sizes) (lex yacc : List ℕ) (set : TableSet) : Type 0 where
+  pub spec : Spec
+  pub specifies : Specifies limits lex yacc spec
+  pub generated : IsGeneratedSet specifies.file specifies.written spec set
+  pub fit : IsFit limits spec generated.automaton.grammar
+  pub smallest : IsReduced generated.walk
+  pub order : IsBreadthFirst generated.walk
+  pub answers : (text : List ℕ) (o : Outcome) (answer : List ℕ) → TableAnswer set text o answer
+      → SpecAnswer specifies.file spec generated.automaton.grammar text o answer
+  pub never_faulty : (text : List ℕ) → IsVerdict set text faulty → ⊥

@@ -1,0 +1,56 @@
+ghost use Rattle.std.specs.Prelude.{◌≡◌, ◌≢◌, ℕ, Err, IfErr, IfOk, IsErrOf, OnOk};
+ghost use Rattle.std.specs.Io.KnownBytes.{IsAtEnd};
+ghost use Rattle.ly_base.specs.Device.{next_count};
+ghost use Rattle.ly_base.specs.Limits.{version_1};
+ghost use Rattle.ly_drive.specs.Answering.{IsAnsweredBy, IsBegunBy};
+ghost use Rattle.ly_tables.specs.TableSet.{TableSet as Tables};
+ghost use Rattle.ly_engine.specs.Accepted.{IsRefusedFor};
+ghost use Rattle.ly_engine.specs.AnswerFault.{IsBeforeReading, IsBeforeWriting, IsWrite};
+ghost use Rattle.ly_engine.specs.Generated.{IsGenerated};
+ghost use Rattle.ly_engine.specs.declared.gen_fault.GenFault as code;
+ghost use Rattle.ly_engine.specs.declared.gen_fault.GenFault.TheVariants as gen;
+
+use crate::answer_fault::AnswerFault;
+use crate::generating::generated;
+use ly_base::{Limits, Sink, Source};
+use ly_drive::{DriveFault, Outcome, run};
+use std::alloc::Global;
+
+/// Answers the text that a reader gives by a lex file and a yacc file (POSIX, XCU lex and yacc), and writes the answer.
+/// Nothing is read before the tables are made, and nothing is written before the outcome is known.
+///
+/// Its faults are those of `AnswerFault`.
+pub fn answer<R: Source, W: Sink>(
+    alloc: Global,
+    lex: &[u8],
+    yacc: &[u8],
+    reader: &mut R,
+    writer: &mut W,
+) -> Result<Outcome, AnswerFault>
+    ensures answered { IfOk result (λ o. (s : Tables) × IsGenerated version_1 lex.now yacc.now s
+        × IsAnsweredBy s (R.remaining reader.old) (W.contents writer.old) (W.contents writer.new) o) }
+    ensures beginning { (written : ℕ) → result ≡ Err (AnswerFault.Write written) → (s : Tables)
+        × IsGenerated version_1 lex.now yacc.now s
+        × IsBegunBy s (R.remaining reader.old) (W.contents writer.old) (W.contents writer.new) written }
+    ensures refused { (fault : code.GenFault) → result ≡ Err (AnswerFault.Refused fault)
+        → (fault ≢ gen.OutOfMemory) × IsRefusedFor version_1 lex.now yacc.now fault }
+    ensures unread { IfErr result (λ e. IsBeforeReading e → reader.new ≡ reader.old) }
+    ensures ended { OnOk result (IsAtEnd (R.remaining reader.new)) }
+    ensures read { IsErrOf result AnswerFault.Read → R.failures reader.new ≡ next_count (R.failures reader.old) }
+    ensures reader_held { (IsErrOf result AnswerFault.Read → ⊥) → R.failures reader.new ≡ R.failures reader.old }
+    ensures write { IfErr result (λ e. IsWrite e → W.failures writer.new ≡ next_count (W.failures writer.old)) }
+    ensures writer_held { OnOk result (W.failures writer.new ≡ W.failures writer.old) }
+    ensures untouched { IfErr result (λ e. IsBeforeWriting e → writer.new ≡ writer.old) }
+{
+    let generated = generated(alloc, lex, yacc, Limits::V1)?;
+    match run(alloc, generated.set, reader, writer) {
+        Ok(outcome) => Ok(outcome),
+        Err(DriveFault::Read) => Err(AnswerFault::Read),
+        Err(DriveFault::Write { written }) => Err(AnswerFault::Write { written }),
+        Err(DriveFault::OutOfMemory) => Err(AnswerFault::OutOfMemory),
+        // the table set was read from no file
+        Err(DriveFault::Tables(_)) => unreachable!(),
+        // and one that two files generate is never at fault
+        Err(DriveFault::TableFault) => unreachable!(),
+    }
+}

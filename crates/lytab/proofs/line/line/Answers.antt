@@ -1,0 +1,19 @@
+use Rattle.std.proofs.Common.{◌≡◌, ◌∙◌, ap, true}
+use Rattle.std.proofs.lemmas.Result.{IfOk-weaker}
+use Rattle.clap.specs.Simple.{app_of_fields}
+use Rattle.clap.specs.Words.{App, app_of}
+use Rattle.lytab.proofs.CommandLineLemmas.{added}
+use Rattle.lytab.proofs.line.line.Goals as goal
+
+pub returns : goal.returns
+returns c =
+    let about : app_of c.about.result ≡ app_of c.new.result = ap app_of_fields c.about.ensures in
+    let required : App → App = λ a. record a { top = record a.top { subcommand_required = true } } in
+    let top : app_of c.subcommand_required-top.result ≡ required (app_of c.about.result)
+    = ap app_of_fields c.subcommand_required-top.ensures in
+    IfOk-weaker c.subcommand-4.result _ _ (λ m h.
+    added _ _ _ _ _ (added _ _ _ _ _ (added _ _ _ _ _ (added _ _ _ _ _ (top ∙ ap required (about ∙ c.new.ensures.app))
+    c.in_ok-tokens_line.ensures c.in_ok-subcommand.ensures)
+    c.in_ok-build_line.ensures c.in_ok-subcommand-2.ensures)
+    c.in_ok-run_line.ensures c.in_ok-subcommand-3.ensures)
+    c.in_ok-try_line.ensures h) c.subcommand-4.ensures

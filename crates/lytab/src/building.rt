@@ -1,0 +1,47 @@
+//! The command `build`.
+use crate::failure::Failure;
+use crate::files::{STANDARD, read_file, write_file, write_to};
+use ly_base::Limits;
+use ly_engine::build;
+use std::alloc::Global;
+use std::io::Write;
+use std::rt::Files;
+
+/// The paths of what is read and written.
+#[derive(Clone, Copy)]
+pub struct Paths<'a> {
+    /// The lex file.
+    pub lex: &'a str,
+    /// The yacc file.
+    pub yacc: &'a str,
+    /// The table file.
+    pub tables: &'a str,
+    /// The report, if it is asked for.
+    pub report: Option<&'a str>,
+}
+
+/// Writes the table file of a lex file and a yacc file, their report if it is asked for, and to standard output how
+/// many conflicts there are. Both files are read before anything is judged, and nothing is written before it is known.
+pub fn build_tables<'a, F: Files, O: Write>(
+    files: &F,
+    alloc: Global,
+    paths: Paths<'a>,
+    output: &mut O,
+) -> Result<(), Failure<'a>> {
+    let lex = read_file(files, alloc, paths.lex)?;
+    let yacc = read_file(files, alloc, paths.yacc)?;
+    let built = build(alloc, &lex, &yacc, &Limits::V1)?;
+    write_file(files, paths.tables, &built.tables)?;
+    if let Some(path) = paths.report {
+        write_file(files, path, &built.report)?;
+    }
+    write_to(output, STANDARD, conflicts_line(&built.report))
+}
+
+/// The line of a report that says how many conflicts there are.
+fn conflicts_line(report: &[u8]) -> &[u8] {
+    report
+        .split_inclusive(|byte| *byte == b'\n')
+        .find(|line| line.starts_with(b"conflicts:"))
+        .unwrap_or_default()
+}

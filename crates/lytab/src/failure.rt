@@ -1,0 +1,162 @@
+//! Why there is no answer, and the line that says so.
+ghost use Rattle.std.specs.Prelude.{◌≡◌, ◌≤◌};
+
+use crate::files::STANDARD;
+use ly_engine::GenFault;
+use ly_join::JoinFault;
+use ly_report::push_terminal;
+use ly_tables::TableFault;
+use std::alloc::Global;
+use std::io::{self, Write};
+
+const REFUSED: u8 = 2;
+
+const DEVICE_OR_MEMORY: u8 = 3;
+
+/// Why the program gives no answer.
+#[derive(Drop)]
+pub enum Failure<'a> {
+    /// The file of this path, or standard input, can't be read.
+    CannotRead(&'a str),
+    /// The file of this path, or standard output, can't be written.
+    CannotWrite(&'a str),
+    /// The lex file, the yacc file, or both together are refused.
+    Refused(GenFault),
+    /// The table file is refused.
+    Tables(TableFault),
+    /// The tables are at fault on the text.
+    FaultyTables,
+    /// A growth was refused.
+    OutOfMemory,
+}
+
+impl From<GenFault> for Failure<'_> {
+    fn from(fault: GenFault) -> Self {
+        Failure::Refused(fault)
+    }
+}
+
+/// Writes the line of a failure, and answers the exit status.
+pub fn told<E: Write>(alloc: Global, failure: Failure<'_>, faults: &mut E) -> u8
+    ensures { (2 ≤ result) × (result ≤ 3) }
+{
+    let mut line = Vec::new(alloc);
+    if push_line(&mut line, &failure).is_err() {
+        let _ = faults.write_all(b"lytab: out of memory\n");
+        return DEVICE_OR_MEMORY;
+    }
+    let _ = faults.write_all(&line);
+    status_of(&failure)
+}
+
+/// The exit status of a failure: 2 where a file is refused, 3 where a device fails or memory runs out.
+fn status_of(failure: &Failure<'_>) -> u8
+    ensures { (2 ≤ result) × (result ≤ 3) }
+{
+    match failure {
+        Failure::CannotRead(_)
+        | Failure::CannotWrite(_)
+        | Failure::Refused(GenFault::Write { .. } | GenFault::OutOfMemory)
+        | Failure::Tables(TableFault::OutOfMemory)
+        | Failure::OutOfMemory => DEVICE_OR_MEMORY,
+        Failure::Refused(_) | Failure::Tables(_) | Failure::FaultyTables => REFUSED,
+    }
+}
+
+/// Appends the line of a failure. It fails where memory runs out.
+fn push_line(out: &mut Vec<u8>, failure: &Failure<'_>) -> io::Result<()> {
+    out.write_all(b"lytab: ")?;
+    match failure {
+        Failure::CannotRead(path) => writeln!(out, "cannot read {path}"),
+        Failure::CannotWrite(path) => writeln!(out, "cannot write {path}"),
+        Failure::Refused(fault) => push_refusal(out, fault),
+        Failure::Tables(fault) => push_table_fault(out, fault),
+        Failure::FaultyTables => writeln!(out, "tables: fault 90 TableFault"),
+        Failure::OutOfMemory => writeln!(out, "out of memory"),
+    }
+}
+
+/// Appends why a lex file and a yacc file are refused.
+fn push_refusal(out: &mut Vec<u8>, fault: &GenFault) -> io::Result<()> {
+    match fault {
+        GenFault::Lex(fault) => {
+            push_place(out, "lex", fault.line())?;
+            push_fault(out, fault.number(), fault.name())?;
+        }
+        GenFault::Yacc(fault) => {
+            push_place(out, "yacc", fault.line())?;
+            push_fault(out, fault.number(), fault.name())?;
+        }
+        GenFault::Join(fault) => push_join_fault(out, fault)?,
+        GenFault::Positions(fault) => push_fault(out, fault.number(), fault.name())?,
+        GenFault::States(fault) => push_fault(out, fault.number(), fault.name())?,
+        GenFault::Grammar(fault) => push_fault(out, fault.number(), fault.name())?,
+        GenFault::Automaton(fault) => push_fault(out, fault.number(), fault.name())?,
+        GenFault::Endless {
+            below,
+            top,
+            name,
+            ..
+        } => {
+            write!(
+                out,
+                "fault 70 Endless below {} top {} token ",
+                below.0, top.0
+            )?;
+            out.write_all(name)?;
+        }
+        GenFault::Write { .. } => write!(out, "cannot write {STANDARD}")?,
+        GenFault::OutOfMemory => write!(out, "out of memory")?,
+    }
+    out.write_all(b"\n")
+}
+
+/// Appends the place of a fault: the file, and its line if there is one.
+fn push_place(out: &mut Vec<u8>, file: &str, line: Option<u64>) -> io::Result<()> {
+    match line {
+        Some(line) => write!(out, "{file}:{line}: "),
+        None => Ok(()),
+    }
+}
+
+/// Appends a fault by its number and its name. Want of memory has no number.
+fn push_fault(out: &mut Vec<u8>, number: Option<u8>, name: &str) -> io::Result<()> {
+    match number {
+        Some(number) => write!(out, "fault {number} {name}"),
+        None => write!(out, "out of memory"),
+    }
+}
+
+/// Appends why both files make no specification, and what is at fault.
+fn push_join_fault(out: &mut Vec<u8>, fault: &JoinFault) -> io::Result<()> {
+    push_fault(out, fault.number(), fault.name())?;
+    match fault {
+        JoinFault::UndefinedSymbol(name)
+        | JoinFault::TokenOnLeft(name)
+        | JoinFault::UnknownStart(name)
+        | JoinFault::ReturnUndeclared(name)
+        | JoinFault::PrecUnknown(name) => {
+            out.push(b' ')?;
+            out.write_all(name)
+        }
+        JoinFault::PrecedenceTwice(terminal) => {
+            out.push(b' ')?;
+            push_terminal(out, terminal)?;
+            Ok(())
+        }
+        JoinFault::LimitPassed { which } => write!(out, " {}", which.name()),
+        JoinFault::NoRules | JoinFault::OutOfMemory => Ok(()),
+    }
+}
+
+/// Appends why a table file is refused.
+fn push_table_fault(out: &mut Vec<u8>, fault: &TableFault) -> io::Result<()> {
+    if fault.number().is_some() {
+        out.write_all(b"tables: ")?;
+    }
+    push_fault(out, fault.number(), fault.name())?;
+    match fault {
+        TableFault::OutOfRange { section } => writeln!(out, " section {section}"),
+        _ => writeln!(out),
+    }
+}

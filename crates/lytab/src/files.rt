@@ -1,0 +1,52 @@
+//! Files, read and written whole.
+use crate::failure::Failure;
+use ly_base::{Counted, ReadFault, read_whole, write_whole};
+use std::alloc::Global;
+use std::fs;
+use std::io::Write;
+use std::rt::Files;
+
+/// How standard input and output are named.
+pub const STANDARD: &str = "-";
+
+/// Opens a file to read it.
+pub fn open<'a, F: Files>(files: &F, path: &'a str) -> Result<F::File, Failure<'a>> {
+    match fs::open(files, path) {
+        Ok(file) => Ok(file),
+        Err(_) => Err(Failure::CannotRead(path)),
+    }
+}
+
+/// Reads a file whole.
+pub fn read_file<'a, F: Files>(
+    files: &F,
+    alloc: Global,
+    path: &'a str,
+) -> Result<Vec<u8>, Failure<'a>> {
+    let mut file = Counted::new(open(files, path)?);
+    match read_whole(alloc, &mut file) {
+        Ok(bytes) => Ok(bytes),
+        Err(ReadFault::Read) => Err(Failure::CannotRead(path)),
+        Err(ReadFault::OutOfMemory) => Err(Failure::OutOfMemory),
+    }
+}
+
+/// Makes a file of these bytes, in place of an older one.
+pub fn write_file<'a, F: Files>(files: &F, path: &'a str, bytes: &[u8]) -> Result<(), Failure<'a>> {
+    match fs::create(files, path) {
+        Ok(mut file) => write_to(&mut file, path, bytes),
+        Err(_) => Err(Failure::CannotWrite(path)),
+    }
+}
+
+/// Writes the bytes to a device of this name.
+pub fn write_to<'a, W: Write>(
+    writer: &mut W,
+    path: &'a str,
+    bytes: &[u8],
+) -> Result<(), Failure<'a>> {
+    match write_whole(&mut Counted::new(writer), bytes) {
+        Ok(()) => Ok(()),
+        Err(_) => Err(Failure::CannotWrite(path)),
+    }
+}

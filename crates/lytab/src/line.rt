@@ -1,0 +1,93 @@
+ghost use Rattle.std.specs.Prelude.{◌≡◌, IfOk, false};
+ghost use Rattle.clap.specs.Words.{app_of, rule_of};
+ghost use Rattle.lytab.specs.CommandLine.{IsApp, build_app, line_app, path_rule, report_rule, run_app, text_rule};
+ghost use Rattle.lytab.specs.CommandLine.{tokens_app, try_app};
+
+use clap::{Arg, Command};
+use std::alloc::{AllocError, Global};
+
+/// The line as `clap` has it.
+pub fn line<'a>(alloc: Global) -> Result<Command<'a>, AllocError>
+    ensures { IfOk result (λ c. app_of c ≡ line_app) }
+{
+    let top = Command::new(alloc, "lytab")
+        .about("Lexical analysis and parsing by POSIX lex and yacc files, proved correct")
+        .subcommand_required(true);
+    top.subcommand(tokens_line(alloc)?)?
+        .subcommand(build_line(alloc)?)?
+        .subcommand(run_line(alloc)?)?
+        .subcommand(try_line(alloc)?)
+}
+
+/// The subcommand `tokens`.
+fn tokens_line<'a>(alloc: Global) -> Result<Command<'a>, AllocError>
+    ensures { IfOk result (IsApp tokens_app) }
+{
+    Command::new(alloc, "tokens")
+        .about("Writes the tokens of a text, one a line")
+        .arg(path(alloc, "LEX", LEX))?
+        .arg(text(alloc))
+}
+
+/// The subcommand `build`.
+fn build_line<'a>(alloc: Global) -> Result<Command<'a>, AllocError>
+    ensures { IfOk result (IsApp build_app) }
+{
+    Command::new(alloc, "build")
+        .about("Writes the table file of a grammar")
+        .arg(path(alloc, "LEX", LEX))?
+        .arg(path(alloc, "YACC", YACC))?
+        .arg(path(alloc, "TABLES", "The table file, which is written"))?
+        .arg(report(alloc))
+}
+
+/// The subcommand `run`.
+fn run_line<'a>(alloc: Global) -> Result<Command<'a>, AllocError>
+    ensures { IfOk result (IsApp run_app) }
+{
+    Command::new(alloc, "run")
+        .about("Writes the tree of a text by a table file")
+        .arg(path(alloc, "TABLES", "The table file, as build writes it"))?
+        .arg(text(alloc))
+}
+
+/// The subcommand `try`.
+fn try_line<'a>(alloc: Global) -> Result<Command<'a>, AllocError>
+    ensures { IfOk result (IsApp try_app) }
+{
+    Command::new(alloc, "try")
+        .about("Writes the tree of a text by a grammar, at once")
+        .arg(path(alloc, "LEX", LEX))?
+        .arg(path(alloc, "YACC", YACC))?
+        .arg(text(alloc))
+}
+
+const LEX: &str = "The lex file: definitions, %%, rules";
+
+const YACC: &str = "The yacc file: declarations, %%, rules";
+
+/// A path that must be there.
+fn path<'a>(alloc: Global, id: &'a str, help: &'a str) -> Arg<'a>
+    ensures rule { rule_of result ≡ path_rule id.entry.now }
+    ensures local { result.global ≡ false }
+{
+    Arg::new(alloc, id).required(true).help(help)
+}
+
+/// The path of the text, which may be left out.
+fn text<'a>(alloc: Global) -> Arg<'a>
+    ensures rule { rule_of result ≡ text_rule }
+    ensures local { result.global ≡ false }
+{
+    Arg::new(alloc, "TEXT").help("The text; standard input if it is left out")
+}
+
+/// The option of a report.
+fn report<'a>(alloc: Global) -> Arg<'a>
+    ensures rule { rule_of result ≡ report_rule }
+    ensures local { result.global ≡ false }
+{
+    Arg::new(alloc, "FILE")
+        .long("report")
+        .help("The report, which is written too")
+}
