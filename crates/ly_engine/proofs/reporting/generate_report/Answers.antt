@@ -17,8 +17,16 @@ returns-clause-beginning g c = λ written is.
 
 pub returns-clause-reported : goal.returns-clause-reported
 returns-clause-reported g c = ok_weaker c.report_on.result _ _
-    (λ free told. (c.in_ok-given.given.spec, c.in_ok-given.ensures.says.specifies, told.0, told.1, told.2, told.3,
-    told.4, told.5))
+    (λ free told. (
+      c.in_ok-given.given.spec,
+      c.in_ok-given.ensures.says.specifies,
+      told.0,
+      told.1,
+      told.2,
+      told.3,
+      told.4,
+      told.5,
+    ))
     c.report_on.ensures.reported
 
 pub returns-clause-refused : goal.returns-clause-refused
