@@ -1,4 +1,4 @@
-ghost use Rattle.std.specs.Prelude.{◌≡◌, option_map};
+ghost use Rattle.std.specs.Prelude.{◌≡◌, Some, ⊤};
 ghost use Rattle.ly_drive.specs.ScanPart.{cut_in, start_in, states_in};
 ghost use Rattle.ly_scan.specs.StateWalk.{ahead_of, ahead_of-ended, state_walk};
 
@@ -11,41 +11,38 @@ use ly_scan::Steps;
 pub(crate) struct TableWalk<'a> {
     /// The scanner.
     table: &'a ScanTable,
-    /// The state where the walk stands, if it hasn't ended.
-    state: Option<StateNo>,
 }
 
 impl<'a> TableWalk<'a> {
-    /// A walk that hasn't begun.
+    /// The walk over the states of a scanner.
     pub(crate) fn new(table: &'a ScanTable) -> Self
         ensures { result.table.now ≡ table.now }
     {
-        TableWalk { table, state: None }
+        TableWalk { table }
     }
 }
 
 impl Steps for TableWalk<'_> {
+    type At = StateNo;
+
     ghost walk = { λ w. state_walk (states_in w.table.now) };
 
-    ghost ahead = { λ w. ahead_of (states_in w.table.now) (option_map (λ s. s.0) w.state) };
+    ghost ahead = { λ w at. ahead_of (states_in w.table.now) (Some at.0) };
+
+    ghost stands = { λ w at. ⊤ };
 
     ghost cut_of = { λ w. cut_in w.table.now };
 
-    fn start(&mut self, condition: u32, at_line_start: bool) -> bool {
-        self.state = self.table.start(condition, at_line_start);
-        self.state.is_some()
+    fn start(&mut self, condition: u32, at_line_start: bool) -> Option<StateNo> {
+        self.table.start(condition, at_line_start)
     }
 
-    fn step(&mut self, byte: u8) -> bool {
-        let Some(state) = self.state else {
-            return false;
-        };
-        self.state = self.table.next(state, byte);
-        self.state.is_some()
+    fn step(&mut self, at: StateNo, byte: u8) -> Option<StateNo> {
+        self.table.next(at, byte)
     }
 
-    fn accept(&self) -> Option<RuleNo> {
-        self.table.rule(self.state?)
+    fn accept(&self, at: StateNo) -> Option<RuleNo> {
+        self.table.rule(at)
     }
 
     fn cut(&self, rule: RuleNo) -> Cut {

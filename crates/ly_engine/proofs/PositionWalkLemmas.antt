@@ -2,7 +2,7 @@
 use Rattle.std.proofs.Common.{◌≡◌, ◌<◌, ◌≤◌, ℕ, List, [], ◌∷◌, ◌++◌, Bool, not, Option, Some, None, min, nat_eq}
 use Rattle.std.proofs.Common.{eqb-true, sym, refl, ap, ◌∙◌, arith, inl, inr, ◌⊎◌, Contains, slice_get, slice_index_or}
 use Rattle.std.specs.Prelude.{◌↔◌}
-use Rattle.std.proofs.Common.{is_some, length, le_antisymm, zero, suc, take, get_or, ap₂, ◌+◌}
+use Rattle.std.proofs.Common.{is_some, IfSome, length, le_antisymm, zero, suc, take, get_or, ap₂, ◌+◌}
 use Rattle.std.specs.Bool.{OnTrue}
 use Rattle.std.specs.Cmp.{nat_eq_equiv}
 use Rattle.std.proofs.lemmas.Bool.{OnTrue_from, cases_Bool, cases_lt, ne_eqb}
@@ -211,14 +211,12 @@ stepped-same nfa ps new byte h = record {
 }
 
 -- a set with the members of a list says what the list does
-pub alive_of : (nfa : Nfa) (ps qs shown : List ℕ) (ended : Bool) → SameMembers ps qs → shown ≡ ps
-    → ended ≡ nat_eq (length shown) 0 → not ended ≡ is_some (says nfa qs)
-alive_of nfa ps qs shown ended members same is =
-    ap not (is ∙ ap (λ xs. nat_eq (length xs) 0) same) ∙ sym (is_some-says nfa ps)
+pub alive_of : (nfa : Nfa) (ps qs : List ℕ) (alive : Bool) → SameMembers ps qs
+    → alive ≡ not (nat_eq (length ps) 0) → alive ≡ is_some (says nfa qs)
+alive_of nfa ps qs alive members is = is ∙ sym (is_some-says nfa ps)
     ∙ ap is_some (positions_ahead-same nfa ps qs [] members)
 
-pub there_of : (nfa : Nfa) (ps qs : List ℕ) (alive : Bool) → SameMembers ps qs
-    → OnTrue alive ((text : List ℕ) → positions_ahead nfa ps text ≡ positions_ahead nfa qs text)
-there_of nfa ps qs alive members
-    = OnTrue_from alive ((text : List ℕ) → positions_ahead nfa ps text ≡ positions_ahead nfa qs text)
-    (λ _ text. positions_ahead-same nfa ps qs text members)
+pub there_of : {A : Type 0} (nfa : Nfa) (ps qs : List ℕ) (at : Option A) → SameMembers ps qs
+    → IfSome at (λ _. (text : List ℕ) → positions_ahead nfa ps text ≡ positions_ahead nfa qs text)
+there_of nfa ps qs None members = _
+there_of nfa ps qs (Some at) members = λ text. positions_ahead-same nfa ps qs text members

@@ -1,4 +1,4 @@
-ghost use Rattle.std.specs.Prelude.{◌≡◌, ◌<◌, length, All, IfOk, option_map};
+ghost use Rattle.std.specs.Prelude.{◌≡◌, ◌<◌, length, All, IfOk, is_some, nat_eq, not, option_map, ⊤};
 ghost use Rattle.ly_engine.specs.PositionWalk.{cut_in, least_end, lesser, position_walk, positions_ahead};
 ghost use Rattle.ly_engine.specs.PositionWalk.{positions_ahead-ended, rule_of};
 ghost use Rattle.ly_position.specs.Nfa.{IsRoomFor, position_of, starts_of};
@@ -38,27 +38,43 @@ impl<'a> PositionWalk<'a> {
             next: nfa.set(alloc)?,
         })
     }
+
+    /// Whether the walk stands anywhere.
+    fn stands(&self) -> Option<()>
+        ensures { is_some result ≡ not (nat_eq (length self.now.current.positions.members) 0) }
+    {
+        if self.current.members().is_empty() {
+            None
+        } else {
+            Some(())
+        }
+    }
 }
 
 impl Steps for PositionWalk<'_> {
+    /// The walk stands at its current positions.
+    type At = ();
+
     ghost walk = { λ w. position_walk w.nfa.now };
 
-    ghost ahead = { λ w. positions_ahead w.nfa.now w.current.positions.members };
+    ghost ahead = { λ w at. positions_ahead w.nfa.now w.current.positions.members };
+
+    ghost stands = { λ w at. ⊤ };
 
     ghost cut_of = { λ w. cut_in w.rules.now };
 
-    fn start(&mut self, condition: u32, at_line_start: bool) -> bool {
+    fn start(&mut self, condition: u32, at_line_start: bool) -> Option<()> {
         self.current.fill(self.nfa.start(condition, at_line_start));
-        !self.current.members().is_empty()
+        self.stands()
     }
 
-    fn step(&mut self, byte: u8) -> bool {
+    fn step(&mut self, _at: (), byte: u8) -> Option<()> {
         self.nfa.step(&self.current, byte, &mut self.next);
         mem::swap(&mut self.current, &mut self.next);
-        !self.current.members().is_empty()
+        self.stands()
     }
 
-    fn accept(&self) -> Option<RuleNo> {
+    fn accept(&self, _at: ()) -> Option<RuleNo> {
         least_end(self.nfa, self.current.members())
     }
 

@@ -1,4 +1,4 @@
-ghost use Rattle.std.specs.Prelude.{◌≡◌, ◌<◌, ℕ, length, Some};
+ghost use Rattle.std.specs.Prelude.{◌≡◌, ◌<◌, length, Some};
 ghost use Rattle.ly_engine.specs.PositionWalk.{cut_in};
 ghost use Rattle.ly_engine.specs.RowWalk.{row_walk, rows_ahead, rows_ahead-ended};
 ghost use Rattle.ly_subset.specs.Automaton.{start_of};
@@ -15,47 +15,39 @@ pub struct RowWalk<'a> {
     dfa: &'a Dfa,
     /// The rules that it tells.
     rules: &'a [Rule],
-    /// The state where the walk stands, if it hasn't ended.
-    state: Option<u32>,
-    ghost within: { (s : ℕ) → state ≡ Some s → s < length dfa.now.rules },
 }
 
 impl<'a> RowWalk<'a> {
-    /// A walk over the automaton of these rules, which hasn't begun.
+    /// The walk over the automaton of these rules.
     pub fn new(dfa: &'a Dfa, rules: &'a [Rule]) -> Self
         ensures dfa { result.dfa.now ≡ dfa.now }
         ensures rules { result.rules.now ≡ rules.now }
     {
-        RowWalk {
-            dfa,
-            rules,
-            state: None,
-        }
+        RowWalk { dfa, rules }
     }
 }
 
 impl Steps for RowWalk<'_> {
+    type At = u32;
+
     ghost walk = { λ w. row_walk w.dfa.now };
 
-    ghost ahead = { λ w. rows_ahead w.dfa.now w.state };
+    ghost ahead = { λ w at. rows_ahead w.dfa.now (Some at) };
+
+    ghost stands = { λ w at. at < length w.dfa.now.rules };
 
     ghost cut_of = { λ w. cut_in w.rules.now };
 
-    fn start(&mut self, condition: u32, at_line_start: bool) -> bool {
-        self.state = self.dfa.start(condition, at_line_start);
-        self.state.is_some()
+    fn start(&mut self, condition: u32, at_line_start: bool) -> Option<u32> {
+        self.dfa.start(condition, at_line_start)
     }
 
-    fn step(&mut self, byte: u8) -> bool {
-        let Some(state) = self.state else {
-            return false;
-        };
-        self.state = self.dfa.step(state, byte);
-        self.state.is_some()
+    fn step(&mut self, at: u32, byte: u8) -> Option<u32> {
+        self.dfa.step(at, byte)
     }
 
-    fn accept(&self) -> Option<RuleNo> {
-        self.dfa.rule(self.state?)
+    fn accept(&self, at: u32) -> Option<RuleNo> {
+        self.dfa.rule(at)
     }
 
     fn cut(&self, rule: RuleNo) -> Cut {

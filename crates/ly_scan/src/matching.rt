@@ -56,14 +56,15 @@ pub(crate) fn longest<S: Steps>(
     ensures same_cuts { S.cut_of steps.new ≡ S.cut_of steps.old }
 {
     let mut best = None;
-    if !steps.start(condition, at_line_start) {
+    let Some(mut at) = steps.start(condition, at_line_start) else {
         return best;
-    }
-    for (at, byte) in rest.iter().enumerate() {
-        if !steps.step(*byte) {
+    };
+    for (passed, byte) in rest.iter().enumerate() {
+        let Some(next) = steps.step(at, *byte) else {
             return best;
-        }
-        best = better(best, at + 1, steps.accept());
+        };
+        at = next;
+        best = better(best, passed + 1, steps.accept(at));
     }
     best
 }

@@ -1,7 +1,7 @@
 //! The smallest walk that a scanner can have: dense rows, made by hand.
 
 ghost use Rattle.ly_trials.specs.Dense.{dense_ahead, dense_cut, dense_ends, dense_walk, start_entry};
-ghost use Rattle.std.specs.Prelude.{◌≡◌};
+ghost use Rattle.std.specs.Prelude.{◌≡◌, ⊤};
 
 use ly_base::{Cut, RuleNo};
 use ly_scan::Steps;
@@ -24,45 +24,29 @@ pub struct Dense<'a> {
     pub starts: &'a [[u16; 2]],
     /// What each rule's matches are cut down to; of a rule without an entry nothing.
     pub cuts: &'a [Cut],
-    /// Where the walk stands.
-    pub state: u16,
 }
 
 impl Steps for Dense<'_> {
+    type At = u16;
+
     ghost walk = { λ d. dense_walk d.rows.now d.starts.now };
 
-    ghost ahead = { λ d. dense_ahead d.rows.now d.state };
+    ghost ahead = { λ d at. dense_ahead d.rows.now at };
+
+    ghost stands = { λ d at. ⊤ };
 
     ghost cut_of = { λ d. dense_cut d.cuts.now };
 
-    fn start(&mut self, condition: u32, at_line_start: bool) -> bool {
-        let entry = start_entry(self.starts, condition, at_line_start);
-        if entry == 0 {
-            return false;
-        }
-        self.state = entry - 1;
-        true
+    fn start(&mut self, condition: u32, at_line_start: bool) -> Option<u16> {
+        start_entry(self.starts, condition, at_line_start).checked_sub(1)
     }
 
-    fn step(&mut self, byte: u8) -> bool {
-        match self.rows.get(usize::from(self.state)) {
-            Some(row) => {
-                let entry = row.next[usize::from(byte)];
-                if entry == 0 {
-                    return false;
-                }
-                self.state = entry - 1;
-                true
-            }
-            None => false,
-        }
+    fn step(&mut self, at: u16, byte: u8) -> Option<u16> {
+        self.rows.get(usize::from(at))?.next[usize::from(byte)].checked_sub(1)
     }
 
-    fn accept(&self) -> Option<RuleNo> {
-        match self.rows.get(usize::from(self.state)) {
-            Some(row) => row.rule,
-            None => None,
-        }
+    fn accept(&self, at: u16) -> Option<RuleNo> {
+        self.rows.get(usize::from(at))?.rule
     }
 
     fn cut(&self, rule: RuleNo) -> Cut {

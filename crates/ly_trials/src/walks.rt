@@ -130,7 +130,6 @@ fn longest_matches_and_their_cuts(rt: HostRuntime) -> Result<(), Fail> {
             rows: &rows,
             starts: &[[1, 0]],
             cuts: &[Cut::Whole, *cut],
-            state: 0,
         };
         assert!(rt;
             next_match(&mut dense, 0, *line, text) == *wanted,

@@ -1,4 +1,4 @@
-use Rattle.std.proofs.Common.{List, ℕ, ap, not, subst, sym, ◌∙◌, ◌≡◌, []}
+use Rattle.std.proofs.Common.{List, ℕ, ap, is_some, subst, sym, ◌∙◌, ◌≡◌, []}
 use Rattle.ly_base.proofs.MemberLemmas.{SameMembers}
 use Rattle.ly_base.proofs.SparseSetLemmas.{with_members-same}
 use Rattle.ly_base.specs.SparseSet.{with_members}
@@ -19,13 +19,12 @@ pub returns-clause-alive : goal.returns-clause-alive
 returns-clause-alive c =
     let nfa = c.args.self.now.nfa.now in
     let first = starts_of nfa c.args.condition c.args.at_line_start in
-    alive_of nfa c.fill.new.self.positions.members first c.members.result.now c.is_empty.result
-    (filled c.fill.new.self c.args.self.now.current c.start.result.now first c.start.ensures.these c.fill.ensures)
-    c.members.ensures.these c.is_empty.ensures
+    alive_of nfa c.fill.new.self.positions.members first (is_some c.stands.result)
+    (filled c.fill.new.self c.args.self.now.current c.start.result.now first c.start.ensures.these c.fill.ensures) c.stands.ensures
 
 pub returns-clause-there : goal.returns-clause-there
 returns-clause-there c =
     let nfa = c.args.self.now.nfa.now in
     let first = starts_of nfa c.args.condition c.args.at_line_start in
-    there_of nfa c.fill.new.self.positions.members first (not c.is_empty.result)
+    there_of nfa c.fill.new.self.positions.members first c.stands.result
     (filled c.fill.new.self c.args.self.now.current c.start.result.now first c.start.ensures.these c.fill.ensures)

@@ -1,4 +1,4 @@
-use Rattle.std.proofs.Common.{not, subst, sym}
+use Rattle.std.proofs.Common.{is_some, subst, sym}
 use Rattle.ly_base.proofs.MemberLemmas.{SameMembers}
 use Rattle.ly_position.specs.declared.set.PositionSet.{PositionSet}
 use Rattle.ly_engine.specs.PositionWalk.{next_set}
@@ -13,8 +13,7 @@ returns-clause-alive c =
     let came = stepped-same nfa now c.step.new.into.positions.members c.args.byte c.step.ensures.members in
     let here : SameMembers c.swap.new.x.positions.members next =
     subst (λ (s : PositionSet). SameMembers s.positions.members next) (sym c.swap.ensures.x_after) came in
-    alive_of nfa c.swap.new.x.positions.members next c.members.result.now c.is_empty.result here
-    c.members.ensures.these c.is_empty.ensures
+    alive_of nfa c.swap.new.x.positions.members next (is_some c.stands.result) here c.stands.ensures
 
 pub returns-clause-there : goal.returns-clause-there
 returns-clause-there c =
@@ -24,4 +23,4 @@ returns-clause-there c =
     let came = stepped-same nfa now c.step.new.into.positions.members c.args.byte c.step.ensures.members in
     let here : SameMembers c.swap.new.x.positions.members next =
     subst (λ (s : PositionSet). SameMembers s.positions.members next) (sym c.swap.ensures.x_after) came in
-    there_of nfa c.swap.new.x.positions.members next (not c.is_empty.result) here
+    there_of nfa c.swap.new.x.positions.members next c.stands.result here
