@@ -1,5 +1,5 @@
 -- What a scanner takes at a place of a text, by its walk alone.
-use Rattle.std.specs.Prelude.{◌≡◌, ◌≢◌, ℕ, List, [], length, Bool, Some, None}
+use Rattle.std.specs.Prelude.{◌≡◌, ◌≢◌, ℕ, [], length, Bool, Some, None}
 use Rattle.ly_base.specs.Lexed.{Place}
 use Rattle.ly_base.specs.declared.cut.Cut.{Cut}
 use Rattle.ly_base.specs.declared.lexeme.End.{End}

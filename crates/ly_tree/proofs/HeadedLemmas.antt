@@ -141,3 +141,8 @@ list_at hs es ms ls k h start end fit view l is_start is_end is_head =
     sym (ap (λ x. slice_get x k) view)
     ∙ (slice_get-headed_from 0 hs es ms (length ms) k h fit less
     ∙ rw (none, ← is_start, ← read, ← is_head) refl)
+
+-- more members end where their count says
+pub end_behind : {A : Type 0} (ms xs ns : List A) (count end : ℕ) → count ≡ length ms → ns ≡ ms ++ xs
+    → end ≡ count + length xs → length ns ≡ end
+end_behind ms xs ns count end all is e = ap length is ∙ length-append ms xs ∙ sym (omega (arith, all, e))

@@ -56,8 +56,8 @@ impl Forest {
         }
     }
 
-    /// Adds a leaf, and answers its number. It is out of memory also where a number past `u32::MAX` would be needed.
-    /// After the fault the forest is as it was.
+    /// Adds a leaf, and answers its number. It is out of memory also past `u32::MAX` leaves, or bytes of leaves. After
+    /// the fault the forest is as it was.
     pub fn leaf(&mut self, terminal: Sym, text: &[u8]) -> Result<TermNo, OutOfMemory>
         ensures stands { IfOk result (λ n. StandsFor self.new n (leaf terminal.0 text.now)) }
         ensures keeps { OnOk result (Keeps self.old self.new) }
@@ -66,8 +66,8 @@ impl Forest {
         Ok(TermNo::Leaf(self.leaves.push(terminal, text)?))
     }
 
-    /// Adds a node, and answers its number. It is out of memory also where a number past `u32::MAX` would be needed.
-    /// After the fault the forest is as it was.
+    /// Adds a node, and answers its number. It is out of memory also past `u32::MAX` nodes, or children of nodes. After
+    /// the fault the forest is as it was.
     pub fn node(&mut self, rule: RuleNo, children: &[TermNo]) -> Result<TermNo, OutOfMemory>
         requires { All (λ n. IsSome (term_of self.old n)) children.now }
         ensures stands { IfOk result (λ n. (ts : Terms) → StandForAll self.old children.now ts

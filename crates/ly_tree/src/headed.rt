@@ -1,4 +1,4 @@
-ghost use Rattle.std.specs.Prelude.{◌≡◌, ◌<◌, ◌≤◌, ◌-◌, [], ◌∷◌, ◌++◌, length, take, drop, slice_get, Some, IfOk};
+ghost use Rattle.std.specs.Prelude.{◌≡◌, ◌<◌, ◌≤◌, ◌+◌, ◌-◌, [], ◌∷◌, ◌++◌, length, take, drop, slice_get, Some, IfOk};
 ghost use Rattle.std.specs.Prelude.{OnOk, OnErr};
 ghost use Rattle.ly_tree.specs.Private.Headed.{start_after};
 
@@ -12,7 +12,7 @@ pub(crate) struct Headed<H, T> {
     /// Their heads.
     heads: Vec<H>,
     /// Where each list ends among the members.
-    ends: Vec<usize>,
+    ends: Vec<u32>,
     /// The members of all lists.
     members: Vec<T>,
 }
@@ -47,22 +47,21 @@ impl<H, T> Headed<H, T> {
 }
 
 impl<H: Copy, T: Copy> Headed<H, T> {
-    /// Adds a list, and answers its number. After the fault the lists are as they were.
+    /// Adds a list, and answers its number. It is out of memory also past `u32::MAX` lists, or members. After the fault
+    /// the lists are as they were.
     pub(crate) fn push(&mut self, head: H, list: &[T]) -> Result<u32, OutOfMemory>
         ensures ok { OnOk result (self.new ≡ self.old ++ (head, list.now) ∷ []) }
         ensures number { IfOk result (λ n. n ≡ length self.old) }
         ensures err { OnErr result (self.new ≡ self.old) }
     {
-        let number = self.heads.len();
-        if number > u32::MAX as usize {
-            return Err(OutOfMemory);
-        }
+        let number = number_of(self.heads.len())?;
+        let end = end_of(self.members.len(), list.len())?;
         self.heads.reserve(1)?;
         self.ends.reserve(1)?;
         self.members.extend_from_slice(list)?;
         self.heads.push_reserved(head);
-        self.ends.push_reserved(self.members.len());
-        Ok(number as u32)
+        self.ends.push_reserved(end);
+        Ok(number)
     }
 
     /// The list of a number, under its head.
@@ -72,7 +71,7 @@ impl<H: Copy, T: Copy> Headed<H, T> {
     {
         let at = number as usize;
         let start = start_of(&self.ends, at);
-        let list = part(&self.members, start, self.ends[at]);
+        let list = part(&self.members, start, self.ends[at] as usize);
         (self.heads[at], list)
     }
 }
@@ -87,9 +86,27 @@ fn part<T>(members: &[T], start: usize, end: usize) -> &[T]
 }
 
 /// Where a list begins: where the one before it ends.
-fn start_of(ends: &[usize], number: usize) -> usize
+fn start_of(ends: &[u32], number: usize) -> usize
     requires { number < length ends.now }
     ensures { result ≡ start_after 0 ends.now number }
 {
-    if number == 0 { 0 } else { ends[number - 1] }
+    if number == 0 {
+        0
+    } else {
+        ends[number - 1] as usize
+    }
+}
+
+/// A count as a number.
+fn number_of(count: usize) -> Result<u32, OutOfMemory>
+    ensures { IfOk result (λ n. n ≡ count) }
+{
+    u32::try_from(count).map_err(|_| OutOfMemory)
+}
+
+/// Where more members end behind others.
+fn end_of(members: usize, more: usize) -> Result<u32, OutOfMemory>
+    ensures { IfOk result (λ end. end ≡ members + more) }
+{
+    number_of(members.checked_add(more).ok_or(OutOfMemory)?)
 }

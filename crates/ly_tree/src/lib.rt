@@ -1,7 +1,7 @@
 //! From the tokens and reductions of a parse to a term, and from the term to its printed text.
 //!
-//! A `Forest` holds leaves and nodes in flat lists, and no box or list a node: a leaf takes 12 bytes and its text, a
-//! node 12 bytes and 8 for each child. Contracts see terms: the number that `leaf` or `node` answers stands for one,
+//! A `Forest` holds leaves and nodes in flat lists, and no box or list a node: a leaf takes 8 bytes and its text, a
+//! node 8 bytes and 8 for each child. Contracts see terms: the number that `leaf` or `node` answers stands for one,
 //! and goes on standing for it. `show` prints the term of a number with a stack of its own, so that no depth ends the
 //! program.
 //!
