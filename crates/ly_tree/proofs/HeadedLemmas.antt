@@ -3,146 +3,119 @@ use Rattle.std.proofs.Common.{◌≡◌, ℕ, zero, suc, ◌+◌, ◌-◌, ◌<�
 use Rattle.std.proofs.Common.{refl, sym, ap, ◌∙◌, subst, arith, length-append, length-drop}
 use Rattle.std.specs.Prelude.{slice_get, Some}
 use Rattle.std.proofs.lemmas.List.{nil_from_length, take-append-le, drop-append-le, take_all, drop-drop}
-use Rattle.std.proofs.lemmas.List.{get_or_read}
 use Rattle.ly_tree.specs.Private.Headed.{headed_from, start_after, EndsFit}
+use Rattle.ly_tree.specs.declared.headed.Heading.{Heading}
 
-pub length-headed_from : {H T : Type 0} (s : ℕ) (hs : List H) (es : List ℕ) (ms : List T) (n : ℕ) → EndsFit s hs es n
-    → length (headed_from s hs es ms) ≡ length hs
-length-headed_from s [] [] ms n f = refl
-length-headed_from s [] (e ∷ es) ms n f = refl
-length-headed_from s (h ∷ hs) [] ms n f = absurd f
-length-headed_from s (h ∷ hs) (e ∷ es) ms n f = ap suc (length-headed_from e hs es (drop (e - s) ms) n f.1)
-
-pub ends_count : {H : Type 0} (s : ℕ) (hs : List H) (es : List ℕ) (n : ℕ) → EndsFit s hs es n → length es ≡ length hs
-ends_count s [] [] n f = refl
-ends_count s [] (e ∷ es) n f = absurd f
-ends_count s (h ∷ hs) [] n f = absurd f
-ends_count s (h ∷ hs) (e ∷ es) n f = ap suc (ends_count e hs es n f.1)
+pub length-headed_from : {H T : Type 0} (s : ℕ) (hs : List (Heading H)) (ms : List T)
+    → length (headed_from s hs ms) ≡ length hs
+length-headed_from s [] ms = refl
+length-headed_from s (h ∷ hs) ms = ap suc (length-headed_from h.end hs (drop (h.end - s) ms))
 
 -- no end is past the last
-pub ends_within : {H : Type 0} (s : ℕ) (hs : List H) (es : List ℕ) (n : ℕ) → EndsFit s hs es n → s ≤ n
-ends_within s [] [] n f = omega (arith, f)
-ends_within s [] (e ∷ es) n f = absurd f
-ends_within s (h ∷ hs) [] n f = absurd f
-ends_within s (h ∷ hs) (e ∷ es) n f = omega (arith, f.0, ends_within e hs es n f.1)
+ends_within : {H : Type 0} (s : ℕ) (hs : List (Heading H)) (n : ℕ) → EndsFit s hs n → s ≤ n
+ends_within s [] n f = omega (arith, f)
+ends_within s (h ∷ hs) n f = omega (arith, f.0, ends_within h.end hs n f.1)
 
-EndsFit-push : {H : Type 0} (s : ℕ) (hs : List H) (es : List ℕ) (n m : ℕ) (h : H) → EndsFit s hs es n → n ≤ m
-    → EndsFit s (hs ++ h ∷ []) (es ++ m ∷ []) m
-EndsFit-push s [] [] n m h f l = (omega (arith, f), refl)
-EndsFit-push s [] (e ∷ es) n m h f l = absurd f
-EndsFit-push s (g ∷ hs) [] n m h f l = absurd f
-EndsFit-push s (g ∷ hs) (e ∷ es) n m h f l = (f.0, EndsFit-push e hs es n m h f.1 l)
+EndsFit-push : {H : Type 0} (s : ℕ) (hs : List (Heading H)) (n : ℕ) (h : Heading H) → EndsFit s hs n → n ≤ h.end
+    → EndsFit s (hs ++ h ∷ []) h.end
+EndsFit-push s [] n h f l = (omega (arith, f), refl)
+EndsFit-push s (g ∷ hs) n h f l = (f.0, EndsFit-push g.end hs n h f.1 l)
 
 -- one more list at the end
-headed_from-push : {H T : Type 0} (s : ℕ) (hs : List H) (es : List ℕ) (ms xs : List T) (h : H)
-    → EndsFit s hs es (s + length ms)
-    → headed_from s (hs ++ h ∷ []) (es ++ (s + length (ms ++ xs)) ∷ []) (ms ++ xs)
-    ≡ headed_from s hs es ms ++ (h, xs) ∷ []
-headed_from-push s [] [] ms xs h f =
+headed_from-push : {H T : Type 0} (s : ℕ) (hs : List (Heading H)) (ms xs : List T) (h : Heading H)
+    → EndsFit s hs (s + length ms) → h.end ≡ s + length (ms ++ xs)
+    → headed_from s (hs ++ h ∷ []) (ms ++ xs) ≡ headed_from s hs ms ++ (h.head, xs) ∷ []
+headed_from-push s [] ms xs h f is =
     let none : ms ≡ [] = nil_from_length ms (omega (arith, f)) in
-    rw none (ap (λ l. (h, l) ∷ []) (take_all (s + length xs - s) xs (omega arith)))
-headed_from-push s [] (e ∷ es) ms xs h f = absurd f
-headed_from-push s (g ∷ hs) [] ms xs h f = absurd f
-headed_from-push s (g ∷ hs) (e ∷ es) ms xs h f =
-    let le : e ≤ s + length ms = ends_within e hs es (s + length ms) f.1 in
+    let all : length xs ≤ h.end - s = omega (arith, is, length-append ms xs) in
+    rw none (ap (λ l. (h.head, l) ∷ []) (take_all (h.end - s) xs all))
+headed_from-push s (g ∷ hs) ms xs h f is =
+    let e : ℕ = g.end in
+    let le : e ≤ s + length ms = ends_within e hs (s + length ms) f.1 in
     let fits : e - s ≤ length ms = omega arith in
     let same : e + length (drop (e - s) ms) ≡ s + length ms = omega (arith, length-drop (e - s) ms, f.0) in
-    let more : s + length (ms ++ xs) ≡ e + length (drop (e - s) ms ++ xs)
-    = omega (arith, length-append ms xs, length-append (drop (e - s) ms) xs) in
-    rw (more, take-append-le (e - s) ms xs fits, drop-append-le (e - s) ms xs fits)
-    (ap (λ l. (g, take (e - s) ms) ∷ l)
-    (headed_from-push e hs es (drop (e - s) ms) xs h (subst (λ n. EndsFit e hs es n) (sym same) f.1)))
+    let more : h.end ≡ e + length (drop (e - s) ms ++ xs)
+    = omega (arith, is, length-append ms xs, length-append (drop (e - s) ms) xs) in
+    rw (take-append-le (e - s) ms xs fits, drop-append-le (e - s) ms xs fits)
+    (ap (λ l. (g.head, take (e - s) ms) ∷ l)
+    (headed_from-push e hs (drop (e - s) ms) xs h (subst (λ n. EndsFit e hs n) (sym same) f.1) more))
 
-ends_after : {H : Type 0} (e : ℕ) (hs : List H) (es : List ℕ) (n k : ℕ) → EndsFit e hs es n → k < length es
-    → e ≤ get_or es k 0
-ends_after e [] [] n k f l = absurd (omega arith)
-ends_after e [] (x ∷ es) n k f l = absurd f
-ends_after e (h ∷ hs) [] n k f l = absurd f
-ends_after e (h ∷ hs) (x ∷ es) n zero f l = f.0
-ends_after e (h ∷ hs) (x ∷ es) n (suc k) f l = omega (arith, f.0, ends_after x hs es n k f.1 (omega arith))
+-- lists begin no earlier than the first
+starts_rise : {H : Type 0} (s : ℕ) (hs : List (Heading H)) (n k : ℕ) → EndsFit s hs n → s ≤ start_after s hs k
+starts_rise s hs n zero f = omega arith
+starts_rise s [] n (suc k) f = omega arith
+starts_rise s (h ∷ hs) n (suc k) f = omega (arith, f.0, starts_rise h.end hs n k f.1)
 
 -- a list, by where it begins and ends
-slice_get-headed_from : {H T : Type 0} (s : ℕ) (hs : List H) (es : List ℕ) (ms : List T) (n k : ℕ) (d : H)
-    → EndsFit s hs es n → k < length es
-    → slice_get (headed_from s hs es ms) k
-    ≡ Some (get_or hs k d, take (get_or es k 0 - start_after s es k) (drop (start_after s es k - s) ms))
-slice_get-headed_from s [] [] ms n k d f l = absurd (omega arith)
-slice_get-headed_from s [] (e ∷ es) ms n k d f l = absurd f
-slice_get-headed_from s (h ∷ hs) [] ms n k d f l = absurd f
-slice_get-headed_from s (h ∷ hs) (e ∷ es) ms n zero d f l = let none : s - s ≡ 0 = omega arith in rw none refl
-slice_get-headed_from s (h ∷ hs) (e ∷ es) ms n (suc zero) d f l =
-    let le : suc zero < suc (length es) = l in
-    slice_get-headed_from e hs es (drop (e - s) ms) n zero d f.1 (omega arith)
-    ∙ (let none : e - e ≡ 0 = omega arith in rw none refl)
-slice_get-headed_from s (h ∷ hs) (e ∷ es) ms n (suc (suc k)) d f l =
-    let le : suc (suc k) < suc (length es) = l in
-    let later : e ≤ get_or es k 0 = ends_after e hs es n k f.1 (omega arith) in
-    let sum : (e - s) + (get_or es k 0 - e) ≡ get_or es k 0 - s = omega (arith, f.0) in
-    slice_get-headed_from e hs es (drop (e - s) ms) n (suc k) d f.1 (omega arith)
-    ∙ rw (drop-drop (get_or es k 0 - e) (e - s) ms, sum) refl
+slice_get-headed_from : {H T : Type 0} (s : ℕ) (hs : List (Heading H)) (ms : List T) (n k : ℕ) (d : Heading H)
+    → EndsFit s hs n → k < length hs → slice_get (headed_from s hs ms) k
+    ≡ Some ((get_or hs k d).head, take ((get_or hs k d).end - start_after s hs k) (drop (start_after s hs k - s) ms))
+slice_get-headed_from s [] ms n k d f l = absurd (omega arith)
+slice_get-headed_from s (h ∷ hs) ms n zero d f l = let none : s - s ≡ 0 = omega arith in rw none refl
+slice_get-headed_from s (h ∷ hs) ms n (suc k) d f l =
+    let e : ℕ = h.end in
+    let start : ℕ = start_after e hs k in
+    let later : e ≤ start = starts_rise e hs n k f.1 in
+    let sum : (e - s) + (start - e) ≡ start - s = omega (arith, f.0, later) in
+    slice_get-headed_from e hs (drop (e - s) ms) n k d f.1 (omega arith)
+    ∙ rw (drop-drop (start - e) (e - s) ms, sum) refl
 
 -- a list's place lies within the members
-list_within : {H : Type 0} (s : ℕ) (hs : List H) (es : List ℕ) (n k : ℕ) → EndsFit s hs es n → k < length es
-    → (start_after s es k ≤ get_or es k 0) × (get_or es k 0 ≤ n)
-list_within s [] [] n k f l = absurd (omega arith)
-list_within s [] (e ∷ es) n k f l = absurd f
-list_within s (h ∷ hs) [] n k f l = absurd f
-list_within s (h ∷ hs) (e ∷ es) n zero f l = (f.0, ends_within e hs es n f.1)
-list_within s (h ∷ hs) (e ∷ es) n (suc zero) f l = list_within e hs es n zero f.1 (omega arith)
-list_within s (h ∷ hs) (e ∷ es) n (suc (suc k)) f l = list_within e hs es n (suc k) f.1 (omega arith)
+list_within : {H : Type 0} (s : ℕ) (hs : List (Heading H)) (n k : ℕ) (d : Heading H) → EndsFit s hs n
+    → k < length hs → (start_after s hs k ≤ (get_or hs k d).end) × ((get_or hs k d).end ≤ n)
+list_within s [] n k d f l = absurd (omega arith)
+list_within s (h ∷ hs) n zero d f l = (f.0, ends_within h.end hs n f.1)
+list_within s (h ∷ hs) n (suc k) d f l = list_within h.end hs n k d f.1 (omega arith)
 
--- after a push to the heads, the members and the ends; room was made in the heads and ends before
-pub pushed_fits : {H T : Type 0} (hs hs' gs : List H) (es es' fs : List ℕ) (ms ns xs : List T) (h : H) (end : ℕ)
-    → EndsFit 0 hs es (length ms) → hs' ≡ hs → gs ≡ hs' ++ h ∷ [] → es' ≡ es → fs ≡ es' ++ end ∷ [] → ns ≡ ms ++ xs
-    → length ns ≡ end → EndsFit 0 gs fs (length ns)
-pushed_fits hs hs' gs es es' fs ms ns xs h end fit heads head ends last more is =
-    rw (head, heads, last, ends, is)
-    (EndsFit-push 0 hs es (length ms) end h fit (omega (arith, length-append ms xs, ap length more)))
-
-pub pushed_lists : {H T : Type 0} (hs hs' gs : List H) (es es' fs : List ℕ) (ms ns xs : List T) (h : H) (end : ℕ)
-    (ls : List (H × List T)) → EndsFit 0 hs es (length ms) → headed_from 0 hs es ms ≡ ls → hs' ≡ hs
-    → gs ≡ hs' ++ h ∷ [] → es' ≡ es → fs ≡ es' ++ end ∷ [] → ns ≡ ms ++ xs → length ns ≡ end
-    → headed_from 0 gs fs ns ≡ ls ++ (h, xs) ∷ []
-pushed_lists hs hs' gs es es' fs ms ns xs h end ls fit view heads head ends last more is =
-    let same : 0 + length (ms ++ xs) ≡ end = omega (arith, ap length more) in
-    let fits : EndsFit 0 hs es (0 + length ms) = let e : length ms ≡ 0 + length ms = omega arith
-    in subst (λ n. EndsFit 0 hs es n) e fit in
-    rw (head, heads, last, ends, more, ← same, ← view) (headed_from-push 0 hs es ms xs h fits)
-
--- a list's number is that of a head and of an end
-pub number_within : {H T : Type 0} (hs : List H) (es : List ℕ) (ms : List T) (ls : List (H × List T)) (k : ℕ)
-    → EndsFit 0 hs es (length ms) → headed_from 0 hs es ms ≡ ls → k < length ls
-    → (k < length hs) × (k < length es)
-number_within hs es ms ls k fit e l =
-    let count = length-headed_from 0 hs es ms (length ms) fit in
-    let same = ends_count 0 hs es (length ms) fit in
-    let len = ap length e in
-    (omega arith, omega arith)
-
--- where the list of a number lies
-pub place_within : {H T : Type 0} (hs : List H) (es : List ℕ) (ms : List T) (ls : List (H × List T))
-    (k start end : ℕ) → EndsFit 0 hs es (length ms) → headed_from 0 hs es ms ≡ ls → k < length ls
-    → start ≡ start_after 0 es k → end ≡ get_or es k end → (start ≤ end) × (end ≤ length ms)
-place_within hs es ms ls k start end fit view l is_start is_end =
-    let less = (number_within hs es ms ls k fit view l).1 in
-    let within = list_within 0 hs es (length ms) k fit less in
-    let read = get_or_read es k end less is_end 0 in
-    (omega (arith, within.0), omega (arith, within.1))
-
--- the list of a number, under its head
-pub list_at : {H T : Type 0} (hs : List H) (es : List ℕ) (ms : List T) (ls : List (H × List T)) (k : ℕ) (h : H)
-    (start end : ℕ) → EndsFit 0 hs es (length ms) → headed_from 0 hs es ms ≡ ls → k < length ls
-    → start ≡ start_after 0 es k → end ≡ get_or es k end → h ≡ get_or hs k h
-    → slice_get ls k ≡ Some (h, take (end - start) (drop start ms))
-list_at hs es ms ls k h start end fit view l is_start is_end is_head =
-    let less = (number_within hs es ms ls k fit view l).1 in
-    let read : end ≡ get_or es k 0 = get_or_read es k end less is_end 0 in
-    let none : start_after 0 es k - 0 ≡ start_after 0 es k = omega arith in
-    sym (ap (λ x. slice_get x k) view)
-    ∙ (slice_get-headed_from 0 hs es ms (length ms) k h fit less
-    ∙ rw (none, ← is_start, ← read, ← is_head) refl)
+-- where a list begins, by the heading before it
+pub start_behind : {H : Type 0} (s : ℕ) (hs : List (Heading H)) (k : ℕ) (d : Heading H) → k < length hs
+    → (get_or hs k d).end ≡ start_after s hs (suc k)
+start_behind s [] k d l = absurd (omega arith)
+start_behind s (h ∷ hs) zero d l = refl
+start_behind s (h ∷ hs) (suc k) d l = start_behind h.end hs k d (omega arith)
 
 -- more members end where their count says
 pub end_behind : {A : Type 0} (ms xs ns : List A) (count end : ℕ) → count ≡ length ms → ns ≡ ms ++ xs
     → end ≡ count + length xs → length ns ≡ end
 end_behind ms xs ns count end all is e = ap length is ∙ length-append ms xs ∙ sym (omega (arith, all, e))
+
+-- after a push to the headings and the members; room was made in the headings before
+pub pushed_fits : {H T : Type 0} (hs hs' gs : List (Heading H)) (ms ns xs : List T) (h : Heading H)
+    → EndsFit 0 hs (length ms) → hs' ≡ hs → gs ≡ hs' ++ h ∷ [] → ns ≡ ms ++ xs → length ns ≡ h.end
+    → EndsFit 0 gs (length ns)
+pushed_fits hs hs' gs ms ns xs h fit same last more is =
+    rw (last, same, is) (EndsFit-push 0 hs (length ms) h fit (omega (arith, is, length-append ms xs, ap length more)))
+
+pub pushed_lists : {H T : Type 0} (hs hs' gs : List (Heading H)) (ms ns xs : List T) (h : Heading H)
+    (ls : List (H × List T)) → EndsFit 0 hs (length ms) → headed_from 0 hs ms ≡ ls → hs' ≡ hs → gs ≡ hs' ++ h ∷ []
+    → ns ≡ ms ++ xs → length ns ≡ h.end → headed_from 0 gs ns ≡ ls ++ (h.head, xs) ∷ []
+pushed_lists hs hs' gs ms ns xs h ls fit view same last more is =
+    let end : h.end ≡ 0 + length (ms ++ xs) = omega (arith, is, ap length more) in
+    let fits : EndsFit 0 hs (0 + length ms) = let e : length ms ≡ 0 + length ms = omega arith
+    in subst (λ n. EndsFit 0 hs n) e fit in
+    rw (last, same, more, ← view) (headed_from-push 0 hs ms xs h fits end)
+
+-- a list's number is that of a heading
+pub number_within : {H T : Type 0} (hs : List (Heading H)) (ms : List T) (ls : List (H × List T)) (k : ℕ)
+    → headed_from 0 hs ms ≡ ls → k < length ls → k < length hs
+number_within hs ms ls k e l = omega (arith, length-headed_from 0 hs ms, ap length e)
+
+-- where the list of a number lies
+pub place_within : {H T : Type 0} (hs : List (Heading H)) (ms : List T) (ls : List (H × List T)) (k start : ℕ)
+    (h : Heading H) → EndsFit 0 hs (length ms) → headed_from 0 hs ms ≡ ls → k < length ls
+    → start ≡ start_after 0 hs k → h ≡ get_or hs k h → (start ≤ h.end) × (h.end ≤ length ms)
+place_within hs ms ls k start h fit view l is_start is =
+    let within = list_within 0 hs (length ms) k h fit (number_within hs ms ls k view l) in
+    let end : h.end ≡ (get_or hs k h).end = ap (λ g. g.end) is in
+    (omega (arith, within.0, is_start, end), omega (arith, within.1, end))
+
+-- the list of a number, under its head
+pub list_at : {H T : Type 0} (hs : List (Heading H)) (ms : List T) (ls : List (H × List T)) (k start : ℕ)
+    (h : Heading H) → EndsFit 0 hs (length ms) → headed_from 0 hs ms ≡ ls → k < length ls
+    → start ≡ start_after 0 hs k → h ≡ get_or hs k h
+    → slice_get ls k ≡ Some (h.head, take (h.end - start) (drop start ms))
+list_at hs ms ls k start h fit view l is_start is =
+    let none : start_after 0 hs k - 0 ≡ start_after 0 hs k = omega arith in
+    sym (ap (λ x. slice_get x k) view)
+    ∙ (slice_get-headed_from 0 hs ms (length ms) k h fit (number_within hs ms ls k view l)
+    ∙ rw (none, ← is_start, ← is) refl)

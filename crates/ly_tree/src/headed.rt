@@ -6,13 +6,20 @@ use ly_base::OutOfMemory;
 use std::alloc::Global;
 use std::marker::Model;
 
+/// The head of a list, and where the list ends among the members.
+#[derive(Clone, Copy)]
+struct Heading<H> {
+    /// The head.
+    head: H,
+    /// How many members stand before its end, those of the lists before it too.
+    end: u32,
+}
+
 /// Lists, each under a head, one after another in one block.
 #[derive(Drop)]
 pub(crate) struct Headed<H, T> {
-    /// Their heads.
-    heads: Vec<H>,
-    /// Where each list ends among the members.
-    ends: Vec<u32>,
+    /// Their headings.
+    headings: Vec<Heading<H>>,
     /// The members of all lists.
     members: Vec<T>,
 }
@@ -28,9 +35,9 @@ impl<H, T> Model for Headed<H, T> {
     ghost use Rattle.ly_tree.specs.Private.Headed.{headed_from, EndsFit};
     ghost use Rattle.std.specs.Prelude.{length};
 
-    ghost view = { λ l. headed_from 0 l.heads.items l.ends.items l.members.items };
+    ghost view = { λ l. headed_from 0 l.headings.items l.members.items };
 
-    ghost invariant = { λ l. EndsFit 0 l.heads.items l.ends.items (length l.members.items) };
+    ghost invariant = { λ l. EndsFit 0 l.headings.items (length l.members.items) };
 }
 
 impl<H, T> Headed<H, T> {
@@ -39,8 +46,7 @@ impl<H, T> Headed<H, T> {
         ensures { result ≡ [] }
     {
         Headed {
-            heads: Vec::new(alloc),
-            ends: Vec::new(alloc),
+            headings: Vec::new(alloc),
             members: Vec::new(alloc),
         }
     }
@@ -54,13 +60,11 @@ impl<H: Copy, T: Copy> Headed<H, T> {
         ensures number { IfOk result (λ n. n ≡ length self.old) }
         ensures err { OnErr result (self.new ≡ self.old) }
     {
-        let number = number_of(self.heads.len())?;
+        let number = number_of(self.headings.len())?;
         let end = end_of(self.members.len(), list.len())?;
-        self.heads.reserve(1)?;
-        self.ends.reserve(1)?;
+        self.headings.reserve(1)?;
         self.members.extend_from_slice(list)?;
-        self.heads.push_reserved(head);
-        self.ends.push_reserved(end);
+        self.headings.push_reserved(Heading { head, end });
         Ok(number)
     }
 
@@ -70,9 +74,9 @@ impl<H: Copy, T: Copy> Headed<H, T> {
         ensures { slice_get self.now number ≡ Some (result.0, result.1.now) }
     {
         let at = number as usize;
-        let start = start_of(&self.ends, at);
-        let list = part(&self.members, start, self.ends[at] as usize);
-        (self.heads[at], list)
+        let start = start_of(&self.headings, at);
+        let Heading { head, end } = self.headings[at];
+        (head, part(&self.members, start, end as usize))
     }
 }
 
@@ -86,14 +90,14 @@ fn part<T>(members: &[T], start: usize, end: usize) -> &[T]
 }
 
 /// Where a list begins: where the one before it ends.
-fn start_of(ends: &[u32], number: usize) -> usize
-    requires { number < length ends.now }
-    ensures { result ≡ start_after 0 ends.now number }
+fn start_of<H: Copy>(headings: &[Heading<H>], number: usize) -> usize
+    requires { number < length headings.now }
+    ensures { result ≡ start_after 0 headings.now number }
 {
     if number == 0 {
         0
     } else {
-        ends[number - 1] as usize
+        headings[number - 1].end as usize
     }
 }
 

@@ -4,31 +4,28 @@ use Rattle.ly_tree.proofs.headed.Headed.push.Goals as goal
 
 pub invariant_of-self-2 : goal.invariant_of-self-2
 invariant_of-self-2 g c =
-    let count : length c.extend_from_slice.new.self.items ≡ c.in_ok-end.end
-    = end_behind c.self.inside.members.items c.args.list.now c.extend_from_slice.new.self.items c.len-2.result
-    c.in_ok-end.end (omega arith) c.in_ok-extend_from_slice.ensures.items
-    c.in_ok-end.ensures in
-    pushed_fits c.self.inside.heads.items c.reserve.new.self.items c.push_reserved.new.self.items
-    c.self.inside.ends.items c.reserve-2.new.self.items c.push_reserved-2.new.self.items c.self.inside.members.items
-    c.extend_from_slice.new.self.items c.args.list.now c.args.head c.in_ok-end.end c.self.invariant
-    c.in_ok-reserve.ensures.items c.push_reserved.ensures.items c.in_ok-reserve-2.ensures.items
-    c.push_reserved-2.ensures.items c.in_ok-extend_from_slice.ensures.items count
+    let members = c.extend_from_slice.new.self.items in
+    let count : length members ≡ c.in_ok-end.end
+    = end_behind c.self.inside.members.items c.args.list.now members c.len-2.result c.in_ok-end.end (omega arith)
+    c.in_ok-extend_from_slice.ensures.items c.in_ok-end.ensures in
+    pushed_fits c.self.inside.headings.items c.reserve.new.self.items c.push_reserved.new.self.items
+    c.self.inside.members.items members c.args.list.now (record { head = c.args.head; end = c.in_ok-end.end })
+    c.self.invariant c.in_ok-reserve.ensures.items c.push_reserved.ensures.items
+    c.in_ok-extend_from_slice.ensures.items count
 
 pub returns-clause-ok : goal.returns-clause-ok
 returns-clause-ok g c =
-    let count : length c.extend_from_slice.new.self.items ≡ c.in_ok-end.end
-    = end_behind c.self.inside.members.items c.args.list.now c.extend_from_slice.new.self.items c.len-2.result
-    c.in_ok-end.end (omega arith) c.in_ok-extend_from_slice.ensures.items
-    c.in_ok-end.ensures in
-    pushed_lists c.self.inside.heads.items c.reserve.new.self.items c.push_reserved.new.self.items
-    c.self.inside.ends.items c.reserve-2.new.self.items c.push_reserved-2.new.self.items c.self.inside.members.items
-    c.extend_from_slice.new.self.items c.args.list.now c.args.head c.in_ok-end.end c.args.self.now c.self.invariant
-    c.self.view_is c.in_ok-reserve.ensures.items c.push_reserved.ensures.items c.in_ok-reserve-2.ensures.items
-    c.push_reserved-2.ensures.items c.in_ok-extend_from_slice.ensures.items count
+    let members = c.extend_from_slice.new.self.items in
+    let count : length members ≡ c.in_ok-end.end
+    = end_behind c.self.inside.members.items c.args.list.now members c.len-2.result c.in_ok-end.end (omega arith)
+    c.in_ok-extend_from_slice.ensures.items c.in_ok-end.ensures in
+    pushed_lists c.self.inside.headings.items c.reserve.new.self.items c.push_reserved.new.self.items
+    c.self.inside.members.items members c.args.list.now (record { head = c.args.head; end = c.in_ok-end.end })
+    c.args.self.now c.self.invariant c.self.view_is c.in_ok-reserve.ensures.items c.push_reserved.ensures.items
+    c.in_ok-extend_from_slice.ensures.items count
 
 pub returns-clause-number : goal.returns-clause-number
 returns-clause-number g c =
-    let count = length-headed_from 0 c.self.inside.heads.items c.self.inside.ends.items c.self.inside.members.items
-    (length c.self.inside.members.items) c.self.invariant in
+    let count = length-headed_from 0 c.self.inside.headings.items c.self.inside.members.items in
     let same = ap length c.self.view_is in
-    omega arith
+    omega (arith, c.in_ok-number.ensures)
