@@ -6,10 +6,10 @@ use Rattle.ly_emit.specs.FitsFile.{FitsFile}
 use Rattle.ly_engine.specs.Accepted.{Specifies}
 use Rattle.ly_engine.specs.Agreement.{Agrees}
 use Rattle.ly_engine.specs.PositionWalk.{cut_in}
-use Rattle.ly_engine.specs.RowWalk.{row_walk, says}
+use Rattle.ly_engine.specs.RowWalk.{row_walk, rows_of}
 use Rattle.ly_engine.proofs.FitGrammarLemmas.{grammar_within}
 use Rattle.ly_engine.proofs.FitScannerLemmas.{scanner_within}
-use Rattle.ly_engine.proofs.RowAgreementLemmas.{same_rules_agree}
+use Rattle.ly_engine.proofs.RowAgreementLemmas.{row_walk-says, same_rules_agree}
 use Rattle.ly_ere.specs.Names.{defined}
 use Rattle.ly_grammar.specs.Reduction.{KeepsUseful}
 use Rattle.ly_join.specs.Joined.{Spec}
@@ -21,6 +21,7 @@ use Rattle.ly_position.specs.Nfa.{Nfa}
 use Rattle.ly_position.specs.Patterns.{ArePositions}
 use Rattle.ly_position.specs.Spots.{HasPositions}
 use Rattle.ly_position.proofs.SpotLemmas.{positions_live}
+use Rattle.ly_scan.specs.StateWalk.{says}
 use Rattle.ly_subset.specs.Automaton.{Automaton, IsAutomaton, IsTrim}
 use Rattle.ly_subset.specs.Subsets.{AreSubsets}
 use Rattle.ly_subset.proofs.LawLemmas.{trim}
@@ -48,7 +49,8 @@ module _ (limits : Sizes) (lex yacc : List ℕ) (s : Spec) (given : Specifies li
       = same_rules_agree lex given.file given.lex_text nfa A positions subsets walk same in
       let reached = smallest_walk.trim.reached k (slice_get_within walk.rules k (Some p) at) in
       let said : row_walk walk reached.0 reached.1 reached.2 ≡ Some (Some p)
-      = ap (says walk) reached.3 ∙ ap Some (get_or_from_slice_get walk.rules k (Some p) None at) in
+      = row_walk-says walk reached.0 reached.1 reached.2 ∙ ap (says (rows_of walk)) reached.3
+      ∙ ap Some (get_or_from_slice_get walk.rules k (Some p) None at) in
       let string = agrees.belongs reached.0 reached.1 reached.2 p said in
       slice_get_within given.file.rules.items p string.rule string.is_active.is_rule
 

@@ -3,9 +3,8 @@ use Rattle.std.proofs.Common.{◌≡◌, ◌<◌, ◌≤◌, ℕ, List, [], ◌�
 use Rattle.std.proofs.Common.{eqb-true, sym, refl, ap, ◌∙◌, arith, inl, inr, ◌⊎◌, Contains, slice_get, slice_index_or}
 use Rattle.std.specs.Prelude.{◌↔◌}
 use Rattle.std.proofs.Common.{is_some, IfSome, length, le_antisymm, zero, suc, take, get_or, ap₂, ◌+◌}
-use Rattle.std.specs.Bool.{OnTrue}
 use Rattle.std.specs.Cmp.{nat_eq_equiv}
-use Rattle.std.proofs.lemmas.Bool.{OnTrue_from, cases_Bool, cases_lt, ne_eqb}
+use Rattle.std.proofs.lemmas.Bool.{cases_Bool, cases_lt, ne_eqb}
 use Rattle.std.proofs.lemmas.List.{take_more}
 use Rattle.std.proofs.lemmas.Map.Views.{Contains-from_any, list_any-from_Contains}
 use Rattle.std.proofs.lemmas.Option.{get_or_from_slice_get}

@@ -15,13 +15,15 @@ use Rattle.ly_lexread.proofs.FileLemmas.{rules_of, rules_cut}
 use Rattle.ly_minim.specs.Smallest.{HaveSameRules}
 use Rattle.ly_position.specs.Nfa.{Nfa}
 use Rattle.ly_position.specs.Patterns.{ArePositions, RunsFrom}
-use Rattle.ly_subset.specs.Automaton.{Automaton, entry_at, rule_after, rule_of, start_of, start_place, state_after}
+use Rattle.ly_scan.specs.StateWalk as states
+use Rattle.ly_scan.specs.StateWalk.{says}
+use Rattle.ly_subset.specs.Automaton.{Automaton, entry_at, next_of, rule_after, rule_of, start_of, start_place, state_after}
 use Rattle.ly_subset.specs.Subsets.{AreSubsets, IsLeastRule}
 use Rattle.ly_subset.proofs.LawLemmas.{walks}
 use Rattle.ly_subset.proofs.RuleLemmas.{least_same}
 use Rattle.ly_engine.specs.Agreement.{Agrees, HaveBytes}
 use Rattle.ly_engine.specs.PositionWalk.{cut_in}
-use Rattle.ly_engine.specs.RowWalk.{row_walk, says}
+use Rattle.ly_engine.specs.RowWalk.{row_walk, rows_of}
 use Rattle.ly_engine.proofs.FileAgreementLemmas.{have_bytes}
 
 -- after each string the automaton has the least rule that the string belongs to
@@ -29,12 +31,24 @@ abbrev pub TellsRules : List Expression → List Rule → Automaton → Type 0
 TellsRules names rules A = (c : ℕ) (line : Bool) (w : List ℕ)
     → IsLeastRule (λ i. IsString names rules c line i w) (rule_after A (start_of A c line) w)
 
+-- the states after a string are those of the automaton
+same_states : (A : Automaton) (s : Option ℕ) (w : List ℕ)
+    → states.state_after (rows_of A) s w ≡ state_after A s w
+same_states A s [] = refl
+same_states A None (b ∷ w) = same_states A None w
+same_states A (Some s) (b ∷ w) = same_states A (next_of A (Some s) b) w
+
+-- what the walk says is what the automaton's state says
+pub row_walk-says : (A : Automaton) (c : ℕ) (line : Bool) (w : List ℕ)
+    → row_walk A c line w ≡ says (rows_of A) (state_after A (start_of A c line) w)
+row_walk-says A c line w = ap (says (rows_of A)) (same_states A (start_of A c line) w)
+
 -- a walk has a rule where its state has one
-rule_said : (A : Automaton) (s : Option ℕ) (i : ℕ) → says A s ≡ Some (Some i) → rule_of A s ≡ Some i
+rule_said : (A : Automaton) (s : Option ℕ) (i : ℕ) → says (rows_of A) s ≡ Some (Some i) → rule_of A s ≡ Some i
 rule_said A None i e = absurd cc
 rule_said A (Some s) i e = cc
 
-said_rule : (A : Automaton) (s : Option ℕ) (i : ℕ) → rule_of A s ≡ Some i → says A s ≡ Some (Some i)
+said_rule : (A : Automaton) (s : Option ℕ) (i : ℕ) → rule_of A s ≡ Some i → says (rows_of A) s ≡ Some (Some i)
 said_rule A None i e = absurd cc
 said_rule A (Some s) i e = ap (λ o. Some o) e
 
@@ -56,13 +70,15 @@ rows_agree : (names : List Expression) (rules : List Rule) (A : Automaton) → T
     → Agrees names rules (record { walk = row_walk A; cut = cut_in rules })
 rows_agree names rules A tells cuts bytes = record {
   belongs = λ c line w i e. is_rule (λ k. IsString names rules c line k w) (rule_after A (start_of A c line) w) i
-      (tells c line w) (rule_said A (state_after A (start_of A c line) w) i e);
+      (tells c line w)
+      (rule_said A (state_after A (start_of A c line) w) i (sym (row_walk-says A c line w) ∙ e));
   least = λ c line w i j e s. is_least (λ k. IsString names rules c line k w) (rule_after A (start_of A c line) w) i j
-      (tells c line w) (rule_said A (state_after A (start_of A c line) w) i e) s;
+      (tells c line w)
+      (rule_said A (state_after A (start_of A c line) w) i (sym (row_walk-says A c line w) ∙ e)) s;
   found = λ c line w j s.
       let some = is_some (λ k. IsString names rules c line k w) (rule_after A (start_of A c line) w) j
       (tells c line w) s
-      in (some.0, said_rule A (state_after A (start_of A c line) w) some.0 some.1);
+      in (some.0, row_walk-says A c line w ∙ said_rule A (state_after A (start_of A c line) w) some.0 some.1);
   same_cut = λ i r e. ap (λ o. unwrap_or (option_map (λ (rule : Rule). rule.pattern.cut) o) Whole) e;
   true_cuts = cuts;
   with_bytes = bytes;

@@ -8,8 +8,8 @@ use Rattle.ly_base.specs.declared.cut.Cut.TheVariants.{Whole}
 use Rattle.ly_drive.specs.ScanPart.{cut_in, next_in, scan_part_of, start_by, start_in, states_from, states_in}
 use Rattle.ly_emit.specs.SetOf.{IsScannerOf}
 use Rattle.ly_engine.specs.PositionWalk as patterns
-use Rattle.ly_engine.specs.RowWalk as rows
-use Rattle.ly_engine.specs.RowWalk.{row_walk}
+use Rattle.ly_engine.specs.RowWalk.{row_walk, rows_of}
+use Rattle.ly_engine.proofs.RowAgreementLemmas.{row_walk-says}
 use Rattle.ly_ere.specs.declared.pattern.Rule.{Rule}
 use Rattle.ly_join.specs.Joined.{Spec}
 use Rattle.ly_pack.specs.Rows.{cell, comb_entry}
@@ -84,7 +84,7 @@ module _ (s : Spec) (rules : List Rule) (A : Automaton) (set : TableSet) (is : I
       = ap (λ o. state_after (states_in (scan_part_of set)) o w) (same_next q b (there q refl))
       ∙ same_states w (next_of A (Some q) b) (by_class_within q (slice_get A.class_of b))
 
-  same_says : (o : Option ℕ) → says (states_in (scan_part_of set)) o ≡ rows.says A o
+  same_says : (o : Option ℕ) → says (states_in (scan_part_of set)) o ≡ says (rows_of A) o
   same_says None = refl
   same_says (Some q) = ap (λ accepted. Some (automaton.entry_at accepted q)) of.accepted
 
@@ -95,7 +95,7 @@ module _ (s : Spec) (rules : List Rule) (A : Automaton) (set : TableSet) (is : I
       = ap (λ o. says (states_in (scan_part_of set)) (state_after (states_in (scan_part_of set)) o w))
       (same_start c line)
       ∙ ap (says (states_in (scan_part_of set))) (same_states w (start_of A c line) (start_within c line))
-      ∙ same_says (automaton.state_after A (start_of A c line) w)
+      ∙ same_says (automaton.state_after A (start_of A c line) w) ∙ sym (row_walk-says A c line w)
 
   -- and the cuts
   pub same_cut : (i : ℕ) → cut_in (scan_part_of set) i ≡ patterns.cut_in rules i

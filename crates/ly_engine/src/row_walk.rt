@@ -1,6 +1,7 @@
 ghost use Rattle.std.specs.Prelude.{◌≡◌, ◌<◌, length, Some};
 ghost use Rattle.ly_engine.specs.PositionWalk.{cut_in};
-ghost use Rattle.ly_engine.specs.RowWalk.{row_walk, rows_ahead, rows_ahead-ended};
+ghost use Rattle.ly_engine.specs.RowWalk.{row_walk, rows_of};
+ghost use Rattle.ly_scan.specs.StateWalk.{ahead_of, ahead_of-ended};
 ghost use Rattle.ly_subset.specs.Automaton.{start_of};
 
 use ly_base::{Cut, RuleNo};
@@ -32,7 +33,7 @@ impl Steps for RowWalk<'_> {
 
     ghost walk = { λ w. row_walk w.dfa.now };
 
-    ghost ahead = { λ w at. rows_ahead w.dfa.now (Some at) };
+    ghost ahead = { λ w at. ahead_of (rows_of w.dfa.now) (Some at) };
 
     ghost stands = { λ w at. at < length w.dfa.now.rules };
 
@@ -57,6 +58,6 @@ impl Steps for RowWalk<'_> {
         }
     }
 
-    ghost stays_ended = { λ w condition line text more h. rows_ahead-ended w.dfa.now
+    ghost stays_ended = { λ w condition line text more h. ahead_of-ended (rows_of w.dfa.now)
         (start_of w.dfa.now condition line) text more h };
 }

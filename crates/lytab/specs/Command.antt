@@ -6,7 +6,6 @@ use Rattle.lytab.specs.declared.command.Command.TheVariants.{Build, Run, Tokens,
 
 abbrev pub said : Command → Request
 said (Tokens lex text) = tokens lex.now (option_map (λ s. s.now) text)
-said (Build lex yacc table_file report) =
-    build lex.now yacc.now table_file.now (option_map (λ s. s.now) report)
+said (Build paths) = build paths.lex.now paths.yacc.now paths.tables.now (option_map (λ s. s.now) paths.report)
 said (Run table_file text) = run table_file.now (option_map (λ s. s.now) text)
 said (Try lex yacc text) = try lex.now yacc.now (option_map (λ s. s.now) text)

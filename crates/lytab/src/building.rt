@@ -1,4 +1,5 @@
 //! The command `build`.
+use crate::command::Paths;
 use crate::failure::Failure;
 use crate::files::{STANDARD, read_file, write_file, write_to};
 use ly_base::Limits;
@@ -6,19 +7,6 @@ use ly_engine::build;
 use std::alloc::Global;
 use std::io::Write;
 use std::rt::Files;
-
-/// The paths of what is read and written.
-#[derive(Clone, Copy)]
-pub struct Paths<'a> {
-    /// The lex file.
-    pub lex: &'a str,
-    /// The yacc file.
-    pub yacc: &'a str,
-    /// The table file.
-    pub tables: &'a str,
-    /// The report, if it is asked for.
-    pub report: Option<&'a str>,
-}
 
 /// Writes the table file of a lex file and a yacc file, their report if it is asked for, and to standard output how
 /// many conflicts there are. Both files are read before anything is judged, and nothing is written before it is known.

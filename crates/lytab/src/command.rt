@@ -14,16 +14,7 @@ pub enum Command<'a> {
         text: Option<&'a str>,
     },
     /// Write the table file of a lex file and a yacc file.
-    Build {
-        /// The lex file.
-        lex: &'a str,
-        /// The yacc file.
-        yacc: &'a str,
-        /// The table file.
-        tables: &'a str,
-        /// Where the report is written, if it is asked for.
-        report: Option<&'a str>,
-    },
+    Build(Paths<'a>),
     /// Answer a text by a table file.
     Run {
         /// The table file.
@@ -40,6 +31,19 @@ pub enum Command<'a> {
         /// The text.
         text: Option<&'a str>,
     },
+}
+
+/// The paths of what is read and written where tables are built.
+#[derive(Clone, Copy, Debug, PartialEq, Eq)]
+pub struct Paths<'a> {
+    /// The lex file.
+    pub lex: &'a str,
+    /// The yacc file.
+    pub yacc: &'a str,
+    /// The table file.
+    pub tables: &'a str,
+    /// The report, if it is asked for.
+    pub report: Option<&'a str>,
 }
 
 /// Why there is no command.

@@ -7,7 +7,7 @@ ghost use Rattle.lytab.specs.Command.{said};
 ghost use Rattle.lytab.specs.Paths.{AskFor};
 ghost use Rattle.lytab.specs.Request.{Request};
 
-use crate::command::{Command, CommandFault};
+use crate::command::{Command, CommandFault, Paths};
 use crate::line::line;
 use clap::ArgMatches;
 use clap::error::ErrorKind;
@@ -74,12 +74,12 @@ fn tokens_in<'a>(values: &ArgMatches<'a>) -> Option<Command<'a>>
 fn build_in<'a>(values: &ArgMatches<'a>) -> Option<Command<'a>>
     ensures { option_map said result ≡ build_by (first_value (found_of values.now)) }
 {
-    Some(Command::Build {
+    Some(Command::Build(Paths {
         lex: values.get_str("LEX")?,
         yacc: values.get_str("YACC")?,
         tables: values.get_str("TABLES")?,
         report: values.get_str("FILE"),
-    })
+    }))
 }
 
 /// The command `run` with these values.

@@ -4,7 +4,7 @@ ghost use Rattle.lytab.specs.Paths.{AskFor};
 ghost use Rattle.lytab.specs.Request.{Request};
 
 use crate::answering::{Rules, answer_text};
-use crate::building::{Paths, build_tables};
+use crate::building::build_tables;
 use crate::command::{Command, CommandFault};
 use crate::command_line::command;
 use crate::failure::{Failure, told};
@@ -71,18 +71,7 @@ fn carry_out<'a, F: Files, I: Read, O: Write>(
             let rules = Rules::Tokens(read_file(files, alloc, lex)?);
             answer_text(files, alloc, &rules, text, input, output)
         }
-        Command::Build {
-            lex,
-            yacc,
-            tables,
-            report,
-        } => {
-            let paths = Paths {
-                lex,
-                yacc,
-                tables,
-                report,
-            };
+        Command::Build(paths) => {
             build_tables(files, alloc, paths, output)?;
             Ok(true)
         }
