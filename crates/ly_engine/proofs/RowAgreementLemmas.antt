@@ -17,7 +17,8 @@ use Rattle.ly_position.specs.Nfa.{Nfa}
 use Rattle.ly_position.specs.Patterns.{ArePositions, RunsFrom}
 use Rattle.ly_scan.specs.StateWalk as states
 use Rattle.ly_scan.specs.StateWalk.{says}
-use Rattle.ly_subset.specs.Automaton.{Automaton, entry_at, next_of, rule_after, rule_of, start_of, start_place, state_after}
+use Rattle.ly_subset.specs.Automaton.{Automaton, entry_at, next_of, rule_after, rule_of, start_of, start_place}
+use Rattle.ly_subset.specs.Automaton.{state_after}
 use Rattle.ly_subset.specs.Subsets.{AreSubsets, IsLeastRule}
 use Rattle.ly_subset.proofs.LawLemmas.{walks}
 use Rattle.ly_subset.proofs.RuleLemmas.{least_same}

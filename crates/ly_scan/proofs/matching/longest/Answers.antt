@@ -1,4 +1,5 @@
-use Rattle.std.proofs.Common.{◌≡◌, ◌∙◌, ◌∷◌, ◌+◌, ℕ, List, IfSome, Some, [], sym, ap, subst, append-nil, get_or, is_some, take}
+use Rattle.std.proofs.Common.{◌≡◌, ◌∙◌, ◌∷◌, ◌+◌, ℕ, List, [], IfSome, Some, sym, ap, subst, get_or, is_some, take}
+use Rattle.std.proofs.Common.{append-nil}
 use Rattle.std.specs.Prelude.{option_map}
 use Rattle.std.proofs.lemmas.List.{take_more}
 use Rattle.ly_scan.proofs.WalkLemmas.{best_ended, best_next, none_from_start, some_or_none, stands_next, told}

@@ -20,7 +20,8 @@ returns-clause-alive c =
     let nfa = c.args.self.now.nfa.now in
     let first = starts_of nfa c.args.condition c.args.at_line_start in
     alive_of nfa c.fill.new.self.positions.members first (is_some c.stands.result)
-    (filled c.fill.new.self c.args.self.now.current c.start.result.now first c.start.ensures.these c.fill.ensures) c.stands.ensures
+    (filled c.fill.new.self c.args.self.now.current c.start.result.now first c.start.ensures.these c.fill.ensures)
+    c.stands.ensures
 
 pub returns-clause-there : goal.returns-clause-there
 returns-clause-there c =
