@@ -53,7 +53,10 @@ impl From<AllocError> for ReadFault {
     }
 }
 
-/// Reads all that is left, 4,096 bytes at a time. It stops at the first failure; a failed read is
+/// How many bytes are read at a time.
+const ROOM: usize = 65_536;
+
+/// Reads all that is left, `ROOM` bytes at a time. It stops at the first failure; a failed read is
 /// never taken as the end. A source that doesn't end is `OutOfMemory`.
 pub fn read_whole<S: Source>(alloc: Global, source: &mut S) -> Result<Vec<u8>, ReadFault>
     ensures bytes { IfOk result (λ read. IfSome (S.remaining source.old) (λ bytes. read.items ≡ bytes)) }
@@ -63,7 +66,7 @@ pub fn read_whole<S: Source>(alloc: Global, source: &mut S) -> Result<Vec<u8>, R
     ensures memory { IsErrOf result ReadFault.OutOfMemory → S.failures source.new ≡ S.failures source.old }
 {
     let mut read = Vec::new(alloc);
-    let mut room = [0u8; 4096];
+    let mut room = [0u8; ROOM];
     for _ in 0..u64::MAX {
         match source.pull(&mut room) {
             Ok(0) => return Ok(read),
