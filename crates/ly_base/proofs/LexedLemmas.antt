@@ -1,5 +1,5 @@
 -- Lemmas on texts that are taken apart.
-use Rattle.std.proofs.Common.{◌≡◌, ℕ, ◌+◌, List, [], ◌∷◌, ◌++◌, take, drop, Option, refl, ap, subst, ◌∙◌, sym}
+use Rattle.std.proofs.Common.{◌≡◌, ℕ, ◌+◌, List, [], ◌∷◌, ◌++◌, take, drop, Option, ap, subst, ◌∙◌, sym}
 use Rattle.std.proofs.Common.{append_assoc, append-nil}
 use Rattle.ly_base.specs.Lexed.{Place, Lexed, Leads, place_after, token_if, tokens_from}
 use Rattle.ly_base.specs.declared.lexeme.End.{End}

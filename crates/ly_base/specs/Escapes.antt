@@ -1,6 +1,6 @@
 -- Escapes: what stands behind a backslash, and the byte that it stands for (POSIX, lex, "Escape Sequences in lex").
 use Rattle.std.specs.Prelude.{◌≡◌, ◌≢◌, ℕ, ◌+◌, ◌-◌, ◌*◌, ◌<◌, ◌≤◌, List, [], ◌∷◌, ◌++◌, length}
-use Rattle.std.specs.Prelude.{Bool, true, false, ◌||◌, ◌&&◌, nat_eq, nat_le, IsTrue, if◌then◌else◌}
+use Rattle.std.specs.Prelude.{Bool, false, ◌||◌, ◌&&◌, nat_eq, nat_le, IsTrue, if◌then◌else◌}
 use Rattle.ly_base.specs.Bytes.{letter_x, newline}
 
 -- `0` to `7`

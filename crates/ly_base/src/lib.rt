@@ -2,7 +2,7 @@
 //!
 //! `write_whole` and `read_whole` carry bytes to and from devices that count their failures: at Ok all of them, at a
 //! fault a stated beginning, and a device is named only where it failed. `Place` says where a run over a text stands,
-//! `push_leaf` and its like print what stands there, and `LineBuffer` many lines; `Limits` holds the sizes that are
+//! `push_leaf` and its like print what stands there, and `TextBuffer` many pieces; `Limits` holds the sizes that are
 //! accepted.
 //!
 //! Left out: what a real file or terminal does. That is the word of its reads and writes.
@@ -18,7 +18,6 @@ mod gap;
 mod language;
 mod lexeme;
 mod limits;
-mod line_buffer;
 mod literals;
 mod memory;
 mod memory_fault;
@@ -29,6 +28,7 @@ mod rule_tree;
 mod scan_action;
 mod sparse_set;
 mod text;
+mod text_buffer;
 mod whole;
 
 pub use blank::is_blank;
@@ -41,7 +41,6 @@ pub use gap::{after_block, after_braces, after_comment, after_gap};
 pub use language::Language;
 pub use lexeme::{End, Lexeme};
 pub use limits::Limits;
-pub use line_buffer::LineBuffer;
 pub use literals::literal;
 pub use memory::{MemSink, MemSource};
 pub use memory_fault::OutOfMemory;
@@ -51,5 +50,6 @@ pub use place::Place;
 pub use rule_tree::RuleTree;
 pub use scan_action::{Emitted, ScanAction};
 pub use sparse_set::SparseSet;
-pub use text::{Terminal, push_escaped, push_leaf, push_leaf_line, push_name, push_no_rule_line};
+pub use text::{Terminal, push_escaped, push_leaf, push_name, push_no_rule_line};
+pub use text_buffer::TextBuffer;
 pub use whole::{ReadFault, WriteFault, read_whole, write_whole};

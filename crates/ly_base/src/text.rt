@@ -1,6 +1,6 @@
 ghost use Rattle.std.specs.Prelude.{◌≡◌, ◌<◌, ◌++◌, false, OnOk};
 ghost use Rattle.std.specs.Fmt.{digit_glyph};
-ghost use Rattle.ly_base.specs.Text.{escape_for, escaped, is_plain, leaf_line, leaf_of, name_of, named, no_rule_line};
+ghost use Rattle.ly_base.specs.Text.{escape_for, escaped, is_plain, leaf_of, name_of, named, no_rule_line};
 
 use std::alloc::AllocError;
 use std::io::Write;
@@ -25,21 +25,6 @@ pub fn push_leaf(out: &mut Vec<u8>, terminal: Terminal<'_>, text: &[u8]) -> Resu
     out.push(b'"')?;
     push_escaped(out, b'"', text)?;
     out.push(b'"')?;
-    Ok(())
-}
-
-/// Appends a line that is a leaf.
-///
-/// It fails where memory runs out. How much was appended by then is left open.
-pub fn push_leaf_line(
-    out: &mut Vec<u8>,
-    terminal: Terminal<'_>,
-    text: &[u8],
-) -> Result<(), AllocError>
-    ensures { OnOk result (out.new.items ≡ out.old.items ++ leaf_line (named terminal.entry) text.now) }
-{
-    push_leaf(out, terminal, text)?;
-    out.push(b'\n')?;
     Ok(())
 }
 

@@ -5,7 +5,7 @@ ghost use Rattle.ly_base.specs.declared.lexeme.Lexeme.{Lexeme};
 ghost use Rattle.ly_scan.specs.Lexer.{ScanEndsAt, IsLexemeAt, Scanner};
 ghost use Rattle.ly_engine.specs.Printing.{condition_set, end_line, line_if, naming, printed};
 
-use ly_base::{End, LineBuffer, RuleNo, Terminal, push_no_rule_line};
+use ly_base::{End, RuleNo, Terminal, TextBuffer, push_no_rule_line};
 use ly_lexread::{Action, Returned};
 use ly_scan::{Lexer, Steps};
 use std::alloc::{AllocError, Global};
@@ -23,7 +23,7 @@ pub(crate) fn token_lines<S: Steps + Drop>(
         × (found.1.items ≡ printed (tokens_from (naming actions.now) lexer.old.place.at lexer.old.place.rest ts)
         ++ end_line found.0)) }
 {
-    let mut lines = LineBuffer::new(alloc)?;
+    let mut lines = TextBuffer::new(alloc)?;
     loop {
         match lexer.next_lexeme() {
             Ok(lexeme) => {
@@ -43,7 +43,7 @@ pub(crate) fn token_lines<S: Steps + Drop>(
 
 /// Appends the line of a lexeme's token, if the rule's action returns one.
 fn push_token(
-    lines: &mut LineBuffer,
+    lines: &mut TextBuffer,
     actions: &[Action],
     rule: RuleNo,
     token: &[u8],

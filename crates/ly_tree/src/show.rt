@@ -6,7 +6,7 @@ ghost use Rattle.ly_tree.specs.Term.{Term};
 
 use crate::forest::{Forest, TermNo};
 use crate::words::Words;
-use ly_base::{OutOfMemory, Terminal, push_leaf};
+use ly_base::{OutOfMemory, Terminal, TextBuffer};
 use std::alloc::Global;
 
 impl Forest {
@@ -22,14 +22,14 @@ impl Forest {
             (record { terminal = W.terminals words.now; constructor = W.constructors words.now }) t) }
     {
         let mut printing = Printing {
-            out: Vec::new(alloc),
+            out: TextBuffer::new(alloc)?,
             waiting: Vec::new(alloc),
         };
         let mut next = Some(root);
         while let Some(number) = next {
             next = printing.print(self, words, number)?;
         }
-        Ok(printing.out)
+        Ok(printing.out.into_bytes()?)
     }
 }
 
@@ -37,7 +37,7 @@ impl Forest {
 #[derive(Drop)]
 struct Printing<'f> {
     /// The text so far.
-    out: Vec<u8>,
+    out: TextBuffer,
     /// For each node that is begun and not ended, the outermost first, the children behind the one that is printed.
     waiting: Vec<&'f [TermNo]>,
 }
@@ -56,28 +56,25 @@ impl<'f> Printing<'f> {
         ensures text { let v : Vocabulary = record {
           terminal = W.terminals words.now;
           constructor = W.constructors words.now;
-        } in IfOk result (λ next. self.new.out.items
+        } in IfOk result (λ next. self.new.out
             ++ next_text v forest.now next ++ waiting_text v forest.now self.new.waiting.items
-            ≡ self.old.out.items ++ number_text v forest.now number
+            ≡ self.old.out ++ number_text v forest.now number
             ++ waiting_text v forest.now self.old.waiting.items) }
-        ensures grows { OnOk result (length self.old.out.items < length self.new.out.items) }
+        ensures grows { OnOk result (length self.old.out < length self.new.out) }
         ensures next { IfOk result (IsNextKnown forest.now) }
         ensures waiting { OnOk result (AllWaitingKnown forest.now self.new.waiting.items) }
         ensures ends { result ≡ Ok None → self.new.waiting.items ≡ [] }
     {
         match number {
-            TermNo::Nothing => self.out.extend_from_slice(b"()")?,
+            TermNo::Nothing => self.out.push_bytes(b"()")?,
             TermNo::Leaf(leaf) => {
                 let (terminal, text) = forest.leaf_at(leaf);
-                push_leaf(
-                    &mut self.out,
-                    Terminal::Token(words.terminal_name(terminal)),
-                    text,
-                )?;
+                let name = Terminal::Token(words.terminal_name(terminal));
+                self.out.push_leaf(name, text)?;
             }
             TermNo::Node(node) => {
                 let (rule, children) = forest.node_at(node);
-                self.out.extend_from_slice(words.constructor(rule))?;
+                self.out.push_bytes(words.constructor(rule))?;
                 self.out.push(b'(')?;
                 if let Some((first, others)) = children.split_first() {
                     self.waiting.push(others)?;
@@ -91,15 +88,15 @@ impl<'f> Printing<'f> {
 
     /// Prints what stands before the next term, and answers it, if there is one.
     fn go_on(&mut self) -> Result<Option<TermNo>, OutOfMemory>
-        ensures text { IfOk result (λ next. (v : Vocabulary) (f : Grown) → self.new.out.items ++ next_text v f next
+        ensures text { IfOk result (λ next. (v : Vocabulary) (f : Grown) → self.new.out ++ next_text v f next
             ++ waiting_text v f self.new.waiting.items
-            ≡ self.old.out.items ++ waiting_text v f self.old.waiting.items) }
+            ≡ self.old.out ++ waiting_text v f self.old.waiting.items) }
         ensures next { IfOk result (λ next. (f : Grown) → AllWaitingKnown f self.old.waiting.items
             → IsNextKnown f next) }
         ensures waiting { OnOk result ((f : Grown) → AllWaitingKnown f self.old.waiting.items
             → AllWaitingKnown f self.new.waiting.items) }
         ensures ends { result ≡ Ok None → self.new.waiting.items ≡ [] }
-        ensures grows { OnOk result (length self.old.out.items ≤ length self.new.out.items) }
+        ensures grows { OnOk result (length self.old.out ≤ length self.new.out) }
     {
         while let Some(children) = self.waiting.pop() {
             if let Some((next, others)) = children.split_first() {

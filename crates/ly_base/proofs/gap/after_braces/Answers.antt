@@ -1,4 +1,4 @@
-use Rattle.std.proofs.Common.{◌≡◌, ◌+◌, ℕ, List, arith, drop, sym, subst, length}
+use Rattle.std.proofs.Common.{◌≡◌, ◌+◌, arith, drop, sym, subst}
 use Rattle.std.proofs.lemmas.List.{take_rest}
 use Rattle.ly_base.proofs.GapLemmas.{closes_nowhere, last_step, step_close, step_opening, step_other}
 use Rattle.ly_base.specs.Gap.{Closes}

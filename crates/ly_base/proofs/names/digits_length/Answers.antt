@@ -4,7 +4,7 @@ use Rattle.std.specs.List.{position}
 use Rattle.std.proofs.lemmas.Iterator.{YieldsList-from_slice}
 use Rattle.std.proofs.lemmas.Iterator.Search.{position_from_yields_List}
 use Rattle.ly_base.specs.Language.{is_decimal}
-use Rattle.ly_base.proofs.NameLemmas.{unwrap_or-position_not, prefix_len-le}
+use Rattle.ly_base.proofs.NameLemmas.{unwrap_or-position_not}
 use Rattle.ly_base.proofs.names.digits_length.Goals as goal
 
 pub returns-clause-value : goal.returns-clause-value

@@ -14,7 +14,7 @@ loop-next-smaller g c =
     ++ waiting_text v c.args.self.now c.print.new.self.waiting.items)
     < length (next_text v c.args.self.now next ++ waiting_text v c.args.self.now c.loop-next.printing.waiting.items))
     (sym c.in-Some.is)
-    (less_left c.loop-next.printing.out.items c.print.new.self.out.items
+    (less_left c.loop-next.printing.out c.print.new.self.out
     (number_text v c.args.self.now c.in-Some.number)
     (waiting_text v c.args.self.now c.loop-next.printing.waiting.items)
     (next_text v c.args.self.now c.in_ok-next.next) (waiting_text v c.args.self.now c.print.new.self.waiting.items)

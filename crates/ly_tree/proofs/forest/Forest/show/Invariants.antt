@@ -11,7 +11,7 @@ invariant-loop-next g l =
       constructor = g.W.Words.constructors l.words;
     } in
     record {
-      text : l.printing.out.items ++ next_text v l.self l.next ++ waiting_text v l.self l.printing.waiting.items
+      text : l.printing.out ++ next_text v l.self l.next ++ waiting_text v l.self l.printing.waiting.items
           ≡ number_text v l.self l.fn.root;
       next : IsNextKnown l.self l.next;
       waiting : AllWaitingKnown l.self l.printing.waiting.items;

@@ -1,6 +1,6 @@
 use Rattle.std.proofs.Common.{◌≡◌, ◌≤◌, ◌+◌, ◌*◌, ◌++◌, length, take}
 use Rattle.ly_base.specs.Text.{escaped}
-use Rattle.ly_base.proofs.line_buffer.put_escaped.Given as goal
+use Rattle.ly_base.proofs.text_buffer.put_escaped.Given as goal
 
 -- the bytes so far stand between quotes from the place on
 abbrev pub invariant-loop-byte : goal.invariant-loop-byte

@@ -1,4 +1,4 @@
--- How much room a printed line takes at most.
+-- How much room a printed leaf takes at most.
 use Rattle.std.specs.Prelude.{ℕ, ◌+◌, ◌*◌, List, length}
 use Rattle.ly_base.specs.Text.{Named, literal, token}
 
@@ -7,6 +7,6 @@ abbrev pub name_room : Named → ℕ
 name_room (token name) = length name
 name_room (literal b) = 6
 
--- the line of a leaf: each byte of the text may be escaped
-abbrev pub line_room : Named → List ℕ → ℕ
-line_room terminal text = name_room terminal + 4 * length text + 3
+-- a leaf: each byte of the text may be escaped
+abbrev pub leaf_room : Named → List ℕ → ℕ
+leaf_room terminal text = name_room terminal + 4 * length text + 2

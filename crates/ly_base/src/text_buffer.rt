@@ -1,47 +1,86 @@
 ghost use Rattle.std.specs.Prelude.{◌≡◌, ◌≤◌, ◌+◌, ◌*◌, ◌++◌, [], ◌∷◌, length, take, IfOk, OnOk};
 ghost use Rattle.std.specs.Bool.{OnTrue};
-ghost use Rattle.ly_base.specs.Text.{escape_for, escaped, leaf_line, name_of, named};
-ghost use Rattle.ly_base.specs.Private.LineBuffer.{line_room, name_room};
+ghost use Rattle.ly_base.specs.Text.{escape_for, escaped, leaf_line, leaf_of, name_of, named};
+ghost use Rattle.ly_base.specs.Private.TextBuffer.{leaf_room, name_room};
 
-use crate::text::{Terminal, hex_digit, is_plain, push_leaf_line};
+use crate::text::{Terminal, hex_digit, is_plain, push_leaf};
 use std::alloc::{AllocError, Global};
 use std::marker::Model;
 
 /// How many bytes the room has.
 const ROOM: usize = 16_384;
 
-/// Printed lines. The last of them stand in a room of fixed length, where a byte is one store; when it is full they are
-/// copied behind the others.
+/// Printed text. The last of it stands in a room of fixed length, where a byte is one store; when that is full it is
+/// copied behind the rest.
 #[derive(Drop)]
-pub struct LineBuffer {
-    /// The lines before the room's.
-    lines: Vec<u8>,
-    /// Room for the last lines; they stand in its first `used` bytes.
+pub struct TextBuffer {
+    /// The text before the room's.
+    text: Vec<u8>,
+    /// Room for the last text; it stands in its first `used` bytes.
     room: Vec<u8>,
-    /// How many bytes of the room are lines.
+    /// How many bytes of the room are text.
     used: usize,
 }
 
-impl Model for LineBuffer {
+impl Model for TextBuffer {
     ghost use Rattle.std.specs.Prelude.{ℕ, List, ◌++◌, ◌≤◌, take, length};
 
     ghost Value = { List ℕ };
 
-    ghost view = { λ b. b.lines.items ++ take b.used b.room.items };
+    ghost view = { λ b. b.text.items ++ take b.used b.room.items };
 
     ghost invariant = { λ b. b.used ≤ length b.room.items };
 }
 
-impl LineBuffer {
-    /// No lines, or that the room is refused.
+impl TextBuffer {
+    /// No text, or that the room is refused.
     pub fn new(alloc: Global) -> Result<Self, AllocError>
         ensures { IfOk result (λ b. b ≡ []) }
     {
-        Ok(LineBuffer {
-            lines: Vec::new(alloc),
+        Ok(TextBuffer {
+            text: Vec::new(alloc),
             room: vec![in alloc; 0; ROOM]?,
             used: 0,
         })
+    }
+
+    /// Appends a byte.
+    ///
+    /// It fails where memory runs out. How much was appended by then is left open.
+    pub fn push(&mut self, byte: u8) -> Result<(), AllocError>
+        ensures { OnOk result (self.new ≡ self.old ++ byte ∷ []) }
+    {
+        if self.used == self.room.len() {
+            return self.push_behind(&[byte]);
+        }
+        self.used = put(&mut self.room, self.used, byte);
+        Ok(())
+    }
+
+    /// Appends bytes, which are best a short run.
+    ///
+    /// It fails where memory runs out. How much was appended by then is left open.
+    pub fn push_bytes(&mut self, bytes: &[u8]) -> Result<(), AllocError>
+        ensures { OnOk result (self.new ≡ self.old ++ bytes.now) }
+    {
+        if bytes.len() > self.room.len() - self.used {
+            return self.push_behind(bytes);
+        }
+        self.used = put_bytes(&mut self.room, self.used, bytes);
+        Ok(())
+    }
+
+    /// Appends a leaf.
+    ///
+    /// It fails where memory runs out. How much was appended by then is left open.
+    pub fn push_leaf(&mut self, terminal: Terminal<'_>, text: &[u8]) -> Result<(), AllocError>
+        ensures { OnOk result (self.new ≡ self.old ++ leaf_of (named terminal.entry) text.now) }
+    {
+        if !fits(self.room.len() - self.used, terminal, text) {
+            return self.push_leaf_behind(terminal, text);
+        }
+        self.used = put_leaf(&mut self.room, self.used, terminal, text);
+        Ok(())
     }
 
     /// Appends a line that is a leaf.
@@ -50,30 +89,53 @@ impl LineBuffer {
     pub fn push_leaf_line(&mut self, terminal: Terminal<'_>, text: &[u8]) -> Result<(), AllocError>
         ensures { OnOk result (self.new ≡ self.old ++ leaf_line (named terminal.entry) text.now) }
     {
-        if !fits(self.room.len() - self.used, terminal, text) {
-            self.lines.extend_from_slice(&self.room[..self.used])?;
-            self.used = 0;
-            if !fits(self.room.len(), terminal, text) {
-                return push_leaf_line(&mut self.lines, terminal, text);
-            }
-        }
-        self.used = put_leaf_line(&mut self.room, self.used, terminal, text);
-        Ok(())
+        self.push_leaf(terminal, text)?;
+        self.push(b'\n')
     }
 
-    /// The bytes of all lines.
+    /// The bytes of the whole text.
     pub fn into_bytes(self) -> Result<Vec<u8>, AllocError>
         ensures { IfOk result (λ bytes. bytes.items ≡ self) }
     {
-        let mut lines = self.lines;
-        lines.extend_from_slice(&self.room[..self.used])?;
-        Ok(lines)
+        let mut text = self.text;
+        text.extend_from_slice(&self.room[..self.used])?;
+        Ok(text)
+    }
+
+    /// Appends bytes for which the room has no place left.
+    #[cold]
+    fn push_behind(&mut self, bytes: &[u8]) -> Result<(), AllocError>
+        ensures { OnOk result (self.new ≡ self.old ++ bytes.now) }
+    {
+        empty_room(&mut self.text, &self.room, &mut self.used)?;
+        self.text.extend_from_slice(bytes)
+    }
+
+    /// Appends a leaf for which the room may have no place left.
+    #[cold]
+    fn push_leaf_behind(&mut self, terminal: Terminal<'_>, text: &[u8]) -> Result<(), AllocError>
+        ensures { OnOk result (self.new ≡ self.old ++ leaf_of (named terminal.entry) text.now) }
+    {
+        empty_room(&mut self.text, &self.room, &mut self.used)?;
+        push_leaf(&mut self.text, terminal, text)
     }
 }
 
-/// Whether so many bytes are room for the line of a leaf. It may say no where they are.
+/// Copies the text of the room behind the rest, so that the room has none.
+fn empty_room(rest: &mut Vec<u8>, room: &[u8], used: &mut usize) -> Result<(), AllocError>
+    requires { used.old ≤ length room.now }
+    ensures rest { OnOk result (rest.new.items ≡ rest.old.items ++ take used.old room.now) }
+    ensures none { OnOk result (used.new ≡ 0) }
+    ensures within { used.new ≤ used.old }
+{
+    rest.extend_from_slice(&room[..*used])?;
+    *used = 0;
+    Ok(())
+}
+
+/// Whether so many bytes are room for a leaf. It may say no where they are.
 fn fits(left: usize, terminal: Terminal<'_>, text: &[u8]) -> bool
-    ensures { OnTrue result (line_room (named terminal.entry) text.now ≤ left) }
+    ensures { OnTrue result (leaf_room (named terminal.entry) text.now ≤ left) }
 {
     let name_len = match terminal {
         Terminal::Token(name) => name.len(),
@@ -82,18 +144,17 @@ fn fits(left: usize, terminal: Terminal<'_>, text: &[u8]) -> bool
     name_len <= left / 2 && text.len() < left / 8
 }
 
-/// Writes the line of a leaf from a place on, and answers where it ends.
-fn put_leaf_line(room: &mut [u8], at: usize, terminal: Terminal<'_>, text: &[u8]) -> usize
-    requires { at + line_room (named terminal) text.now ≤ length room.old }
-    ensures line { take result room.new ≡ take at room.old ++ leaf_line (named terminal.entry) text.now }
-    ensures within { result ≤ length room.new }
+/// Writes a leaf from a place on, and answers where it ends.
+fn put_leaf(room: &mut [u8], at: usize, terminal: Terminal<'_>, text: &[u8]) -> usize
+    requires { at + leaf_room (named terminal) text.now ≤ length room.old }
+    ensures leaf { take result room.new ≡ take at room.old ++ leaf_of (named terminal.entry) text.now }
+    ensures within { result ≤ at + leaf_room (named terminal.entry) text.now }
     ensures room { length room.new ≡ length room.old }
 {
     let named = put_name(room, at, terminal);
     let quoted = put(room, named, b'"');
     let end = put_escaped(room, quoted, b'"', text);
-    let closed = put(room, end, b'"');
-    put(room, closed, b'\n')
+    put(room, end, b'"')
 }
 
 /// Writes a terminal's name from a place on, and answers where it ends.

@@ -1,5 +1,5 @@
 use Rattle.std.proofs.Common.{◌≡◌, ◌+◌, ◌++◌, length, take}
-use Rattle.ly_base.proofs.line_buffer.put_bytes.Given as goal
+use Rattle.ly_base.proofs.text_buffer.put_bytes.Given as goal
 
 -- the bytes so far stand from the place on
 abbrev pub invariant-loop-byte : goal.invariant-loop-byte
