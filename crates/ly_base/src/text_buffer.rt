@@ -89,8 +89,13 @@ impl TextBuffer {
     pub fn push_leaf_line(&mut self, terminal: Terminal<'_>, text: &[u8]) -> Result<(), AllocError>
         ensures { OnOk result (self.new ≡ self.old ++ leaf_line (named terminal.entry) text.now) }
     {
-        self.push_leaf(terminal, text)?;
-        self.push(b'\n')
+        if !fits(self.room.len() - self.used, terminal, text) {
+            self.push_leaf_behind(terminal, text)?;
+            return self.push(b'\n');
+        }
+        let end = put_leaf(&mut self.room, self.used, terminal, text);
+        self.used = put(&mut self.room, end, b'\n');
+        Ok(())
     }
 
     /// The bytes of the whole text.
@@ -133,9 +138,9 @@ fn empty_room(rest: &mut Vec<u8>, room: &[u8], used: &mut usize) -> Result<(), A
     Ok(())
 }
 
-/// Whether so many bytes are room for a leaf. It may say no where they are.
+/// Whether so many bytes are room for a leaf and a byte behind it. It may say no where they are.
 fn fits(left: usize, terminal: Terminal<'_>, text: &[u8]) -> bool
-    ensures { OnTrue result (leaf_room (named terminal.entry) text.now ≤ left) }
+    ensures { OnTrue result (leaf_room (named terminal.entry) text.now + 1 ≤ left) }
 {
     let name_len = match terminal {
         Terminal::Token(name) => name.len(),
@@ -145,6 +150,7 @@ fn fits(left: usize, terminal: Terminal<'_>, text: &[u8]) -> bool
 }
 
 /// Writes a leaf from a place on, and answers where it ends.
+#[inline(always)] // a call would cost a tenth of a short leaf
 fn put_leaf(room: &mut [u8], at: usize, terminal: Terminal<'_>, text: &[u8]) -> usize
     requires { at + leaf_room (named terminal) text.now ≤ length room.old }
     ensures leaf { take result room.new ≡ take at room.old ++ leaf_of (named terminal.entry) text.now }
