@@ -98,7 +98,7 @@ impl TextBuffer {
         Ok(())
     }
 
-    /// The bytes of the whole text.
+    /// The bytes of the whole text. It fails where memory runs out.
     pub fn into_bytes(self) -> Result<Vec<u8>, AllocError>
         ensures { IfOk result (λ bytes. bytes.items ≡ self) }
     {

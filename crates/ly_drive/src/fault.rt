@@ -27,7 +27,8 @@ pub enum DriveFault {
         /// How many bytes went out.
         written: usize,
     },
-    /// A growth was refused. Nothing was written.
+    /// A growth was refused, or the leaves, nodes, children or bytes of leaves of the text's tree come to 2^32 or more.
+    /// Nothing was written.
     #[error("out of memory")]
     OutOfMemory,
 }

@@ -25,6 +25,8 @@ use std::alloc::Global;
 /// Writes the report of the specification that a lex file and a yacc file say together (POSIX, XCU yacc, "Conflicts"):
 /// the rules that are removed, and the conflicts. It is true where nowhere two actions are asked for. Nothing is
 /// written before the whole report is known.
+///
+/// Its faults are those of `GenFault`.
 pub fn generate_report<W: Sink>(
     alloc: Global,
     lex: &[u8],

@@ -33,6 +33,8 @@ use std::alloc::{AllocError, Global};
 /// Writes the tokens of a text under a lex file (POSIX, XCU lex), a line for each, and a last line if no
 /// rule matches somewhere. The text is all that the reader gives. Nothing is written before the whole
 /// answer is known.
+///
+/// Its faults are those of `TokensFault`.
 pub fn tokens<R: Source, W: Sink>(
     alloc: Global,
     lex: &[u8],

@@ -41,7 +41,7 @@ pub enum EreFault {
     /// An escape above 255.
     #[error("an escape above 255")]
     EscapeTooLarge,
-    /// A name that isn't defined.
+    /// A name in braces that isn't defined, or isn't closed by `}`.
     #[error("a name that isn't defined")]
     UnknownName,
     /// A definition that leads into a cycle of names.

@@ -11,7 +11,7 @@ use crate::re::Re;
 use std::alloc::{AllocError, Global};
 
 /// The weight of an expression, if it is at most `most`: how many sets of bytes and empty strings it has,
-/// where repetitions and definitions are written out.
+/// where repetitions and definitions are written out. It fails where memory runs out.
 pub fn weigh(alloc: Global, re: &Re, names: &Names, most: u32) -> Result<Option<u32>, AllocError>
     ensures { IfOk result (λ weight. MatchOption weight (most < weight_of (defined names.now) re.now)
         (λ w. (w ≡ weight_of (defined names.now) re.now) × (w ≤ most))) }

@@ -50,7 +50,7 @@ impl<'a> Model for Reduced<'a> {
 /// terminals may begin what they derive. Removed rules keep their numbers. It takes time linear in the grammar, but
 /// for the sets of terminals.
 ///
-/// `StartUnproductive` comes where the start symbol has no tree.
+/// `StartUnproductive` comes where the start symbol has no tree, `OutOfMemory` where a growth was refused.
 pub fn reduce<'a>(alloc: Global, grammar: &'a Grammar) -> Result<Reduced<'a>, GrammarFault>
     ensures ok { IfOk result (IsReduction grammar.now) }
     ensures unproductive { result ≡ Err GrammarFault.StartUnproductive

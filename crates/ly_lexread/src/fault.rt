@@ -17,7 +17,8 @@ pub enum LexFault {
         /// The last line of the file, 1 if it is empty.
         line: u64,
     },
-    /// No definition, or a block or a comment that isn't closed: the line where it opens.
+    /// A line that has no form of a definition, or defines a name again; a block or a comment that isn't closed: the
+    /// line where it opens.
     #[error("not a definition")]
     BadDefinition {
         /// The line.
@@ -35,7 +36,7 @@ pub enum LexFault {
         /// The line where it is declared again.
         line: u64,
     },
-    /// No action.
+    /// What stands behind a pattern has no form of an action.
     #[error("not an action")]
     BadAction {
         /// The line of the word that is at fault; of an action whose braces aren't closed, the last line.
@@ -47,10 +48,10 @@ pub enum LexFault {
         /// The rule's line.
         line: u64,
     },
-    /// A pattern that is refused: fault 26, which is printed as the fault of the pattern.
+    /// A pattern, or the expression of a definition, is refused: fault 26, which is printed as its own fault.
     #[error("not a pattern: {inner}")]
     Pattern {
-        /// The pattern's line.
+        /// Its line.
         line: u64,
         /// Why it is refused.
         inner: EreFault,

@@ -2,7 +2,7 @@
 //!
 //! `read_lex` reads a file. Its answer is the one thing that the bytes say (`lex_text_is_one`), and it refuses only a
 //! text that says nothing or has a definition or a pattern that is too heavy. What the lexemes of a text are under the
-//! rules is defined here too, and determined (`lexing_goes_on, lexing_is_one`).
+//! rules is defined here too, and determined (`lexing_goes_on`, `lexing_is_one`).
 #![tactic(auto)]
 
 mod action;

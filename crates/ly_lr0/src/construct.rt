@@ -14,7 +14,8 @@ use std::alloc::Global;
 
 /// The LR(0) automaton of a reduced grammar.
 ///
-/// `TooManyStates` comes where the cores of viable strings are more than the limit.
+/// `TooManyStates` comes where the cores of viable strings are more than the limit, `OutOfMemory` where a growth was
+/// refused.
 pub fn automaton<'a>(
     alloc: Global,
     reduced: &'a Reduced<'a>,

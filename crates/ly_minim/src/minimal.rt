@@ -9,7 +9,8 @@ use ly_base::{OutOfMemory, RuleNo};
 use ly_subset::Dfa;
 use std::alloc::{AllocError, Global};
 
-/// The smallest automaton that gives every start and string the same rule.
+/// An automaton that gives every start and string the same rule: the smallest, where each state of the first is reached
+/// and leads to a rule. It fails where memory runs out.
 pub fn minimise(alloc: Global, dfa: Dfa) -> Result<Dfa, OutOfMemory>
     ensures same { IfOk result (HaveSameRules dfa) }
     ensures reduced { IsTrim dfa → IfOk result IsReduced }

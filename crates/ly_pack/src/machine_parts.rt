@@ -14,6 +14,6 @@ pub struct MachineParts<A, G> {
     pub gotos: G,
     /// The default reduction of each state.
     pub defaults: Vec<Option<RuleNo>>,
-    /// The rules but rule 0.
+    /// The rules but rule 0: the first is rule 1.
     pub rules: Vec<TableRule>,
 }

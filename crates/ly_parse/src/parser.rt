@@ -96,6 +96,8 @@ impl<'a, A: Rows<TableAction> + Drop, G: Rows<StateNo> + Drop> Parser<'a, A, G> 
 
     /// Takes a token: makes the reductions before it, and then reads it or refuses it. After any other answer than
     /// `More` the parse is over.
+    ///
+    /// Its faults are those of `ParseFault`.
     pub fn feed(&mut self, token: &Token<'_>) -> Result<Step, ParseFault>
         requires not_end { token.now.terminal.0 ≢ 0 }
         requires terminal { token.now.terminal.0 < self.old.machine.terminals }
@@ -110,6 +112,8 @@ impl<'a, A: Rows<TableAction> + Drop, G: Rows<StateNo> + Drop> Parser<'a, A, G> 
 
     /// Takes the end of the text, which stands at this byte: makes the reductions before it, and then accepts or
     /// refuses it. The parse is over then.
+    ///
+    /// Its faults are those of `ParseFault`.
     pub fn end(&mut self, at: u64) -> Result<Step, ParseFault>
         requires { 0 < self.old.machine.terminals }
         ensures call { IsCall self.old (record { terminal = 0; at = at; bytes = [] }) self.new result }

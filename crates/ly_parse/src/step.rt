@@ -9,7 +9,7 @@ pub enum Step {
     Done(TermNo),
     /// The token, or the end, is refused.
     Refused {
-        /// How many tokens there are up to it, it among them.
+        /// Its number: how many tokens there are up to it, it among them.
         token: u64,
         /// The byte where it stands.
         byte: u64,

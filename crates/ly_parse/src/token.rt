@@ -5,7 +5,7 @@ use ly_base::Sym;
 pub struct Token<'t> {
     /// Its terminal.
     pub terminal: Sym,
-    /// The byte of the text where it stands.
+    /// The byte of the text where it stands, counted from 0.
     pub at: u64,
     /// Its bytes.
     pub text: &'t [u8],

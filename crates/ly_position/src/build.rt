@@ -30,7 +30,8 @@ use std::alloc::{AllocError, Global};
 
 /// The positions of the rules, for as many conditions.
 ///
-/// `TooManyPositions` comes where the weight of all patterns together is above the limit.
+/// `TooManyPositions` comes where the weight of all patterns together is above the limit, `OutOfMemory` where a growth
+/// was refused.
 pub fn positions(
     alloc: Global,
     rules: &[Rule],

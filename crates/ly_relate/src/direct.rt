@@ -21,8 +21,7 @@ pub struct DirectRead {
 }
 
 /// The terminals that transitions directly read: those that leave the states to which they lead. The end leaves the
-/// state
-/// behind the start symbol, though no transition reads it.
+/// state behind the start symbol, though no transition reads it.
 pub(crate) fn direct_reads(alloc: Global, gotos: &Gotos<'_>) -> Result<Vec<DirectRead>, OutOfMemory>
     ensures { IfOk result (λ direct. AreDirect gotos.now.automaton gotos.now.gotos (map direct_from direct.items)) }
 {

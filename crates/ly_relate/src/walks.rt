@@ -122,8 +122,7 @@ impl Walks {
     }
 
     /// Goes back over a body, as long as what was passed is nullable: a transition over a nonterminal there includes
-    /// the
-    /// one from which the walk began.
+    /// the one from which the walk began.
     fn include(
         &mut self,
         gotos: &Gotos<'_>,

@@ -19,6 +19,8 @@ use std::alloc::{AllocError, Global};
 
 /// Writes the report of a specification: the rules that are removed, the counts of conflicts, and the conflicts by
 /// state, terminal, kind and rule. Nothing is written before the whole report is known.
+///
+/// Its faults are those of `ReportFault`.
 pub fn report<W: Sink>(
     alloc: Global,
     resolved: &Resolved<'_>,
@@ -39,7 +41,7 @@ pub fn report<W: Sink>(
     Ok(())
 }
 
-/// The bytes of the report that `report` writes.
+/// The bytes of the report that `report` writes. It fails where memory runs out.
 pub fn report_text(alloc: Global, resolved: &Resolved<'_>) -> Result<Vec<u8>, OutOfMemory>
     ensures { IfOk result (λ text. IsReport resolved.now.spec text.items) }
 {

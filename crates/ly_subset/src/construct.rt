@@ -16,7 +16,7 @@ use std::alloc::Global;
 
 /// The deterministic automaton of the sets of positions that strings lead to, from the starts of as many conditions.
 ///
-/// `TooManyStates` comes where these sets are more than the limit.
+/// `TooManyStates` comes where these sets are more than the limit, `OutOfMemory` where a growth was refused.
 pub fn subsets(
     alloc: Global,
     nfa: &PosNfa,

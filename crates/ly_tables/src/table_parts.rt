@@ -6,30 +6,30 @@ use ly_pack::{Comb, TableAction, TableRule};
 /// What a set of tables is made of.
 #[derive(Drop)]
 pub struct TableParts {
-    /// The printed names of terminals, by their numbers.
+    /// The printed names of terminals, by their numbers, of 1 to 255 bytes each: `$end`, `$undef`, and then the others.
     pub terminals: Vec<Vec<u8>>,
     /// How many nonterminals there are, `$accept` not among them.
     pub nonterminals: usize,
-    /// The terminal of each byte as a literal.
+    /// The terminal of each of the 256 bytes as a literal, 1 where there is none.
     pub literals: Vec<Sym>,
-    /// The rules of the scanner.
+    /// The rules of the scanner, rule 0 first.
     pub scan_rules: Vec<ScanRule>,
-    /// Where each condition begins.
+    /// Where each condition begins, 1 to 255 of them.
     pub conditions: Vec<Starts>,
-    /// How many classes of bytes there are.
+    /// How many classes of bytes there are, 1 to 256.
     pub class_count: usize,
-    /// The class of each byte.
+    /// The class of each of the 256 bytes.
     pub classes: Vec<u8>,
-    /// The rule of each scanner state, if it has one.
+    /// The scanner's rule of each of its states, if it has one; rules count from 0 here, and from 1 in the file.
     pub accepted: Vec<Option<RuleNo>>,
-    /// Where scanner states lead, by classes.
+    /// Where scanner states lead: a row for each, a column for each class.
     pub scan_rows: Comb<StateNo>,
-    /// The rules of the parser but rule 0.
+    /// The rules of the parser but rule 0: the first is rule 1.
     pub rules: Vec<TableRule>,
     /// The default reduction of each parser state.
     pub defaults: Vec<Option<RuleNo>>,
-    /// What is done in a parser state before a terminal.
+    /// What is done in parser states: a row for each, a column for each terminal.
     pub actions: Comb<TableAction>,
-    /// Where a parser state goes by a nonterminal.
+    /// Where parser states go: a row for each, a column for each nonterminal.
     pub gotos: Comb<StateNo>,
 }

@@ -10,7 +10,8 @@ use ly_base::{OutOfMemory, Terminal, TextBuffer};
 use std::alloc::Global;
 
 impl Forest {
-    /// The printed term of a number: nothing is `()`, a leaf is as `NUM"12"`, and a node as `Add(NUM"1",NUM"2")`.
+    /// The printed term of a number: nothing is `()`, a leaf is as `NUM"12"`, and a node as `Add(NUM"1",NUM"2")`. It
+    /// fails where memory runs out.
     pub fn show<W: Words>(
         &self,
         alloc: Global,

@@ -1,4 +1,5 @@
-//! Tests over all crates: what no run of the program shows, and slow programs straight from the definitions.
+//! Tests over the scanner's side and the whole: what no run of the program shows, and slow programs straight from the
+//! definitions.
 //!
 //! `belongs_to` is membership by its definition, proved equal to it; `Dense` is the smallest walk that a scanner can
 //! have. `docs/testing.md` says what is tested where.

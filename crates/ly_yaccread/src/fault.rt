@@ -15,13 +15,13 @@ pub enum YaccFault {
         /// The last line of the file, 1 if it is empty.
         line: u64,
     },
-    /// No declaration, or a second `%start`.
+    /// A word that can't stand in the declarations, or a second `%start`.
     #[error("not a declaration")]
     BadDeclaration {
         /// The line of the word that is at fault.
         line: u64,
     },
-    /// No rule.
+    /// A word that can't stand in the rules, or at their end.
     #[error("not a rule")]
     BadRule {
         /// The line of the word that is at fault.
@@ -33,7 +33,7 @@ pub enum YaccFault {
         /// The literal's line.
         line: u64,
     },
-    /// No action.
+    /// A word that can't stand in an action.
     #[error("not an action")]
     BadAction {
         /// The line of the word that is at fault.
@@ -51,7 +51,7 @@ pub enum YaccFault {
         /// The line where it is named again.
         line: u64,
     },
-    /// The name `error`.
+    /// The name `error`, which no grammar may have.
     #[error("the token error")]
     ErrorToken {
         /// The name's line.
