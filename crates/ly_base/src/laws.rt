@@ -17,7 +17,7 @@ pub fn counting_keeps_what_is_known<R: Read, W: Write>()
     ensures contents { (c : Counted W) → ⟦<Counted<W> as Sink>⟧.contents c ≡ W.contents (device_of c) }
 {}
 
-/// Over memory all bytes are known.
+/// Over memory all bytes are known: those that are left to read, and those that were written.
 pub fn memory_is_known()
     ensures remaining { (s : MemSource) → ⟦<MemSource<'static> as Source>⟧.remaining s ≡ Some (unread s) }
     ensures contents { (s : MemSink) → ⟦<MemSink as Sink>⟧.contents s ≡ Some (written s) }

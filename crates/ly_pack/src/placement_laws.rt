@@ -1,11 +1,11 @@
 ghost use Rattle.ly_pack.specs.PlacementLaws.{DefaultIsOne, PlacementIsOne};
 
-/// There is one comb that is placed of a table.
+/// A table has one comb that is placed by first fit.
 pub fn placement_is_one<E>()
     ensures { PlacementIsOne E }
 {}
 
-/// There is one default of a state.
+/// A state has one default, or none.
 pub fn default_is_one()
     ensures { DefaultIsOne }
 {}
