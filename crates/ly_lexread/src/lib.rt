@@ -29,5 +29,5 @@ mod words;
 pub use action::{Action, Returned};
 pub use fault::LexFault;
 pub use file::LexFile;
-pub use laws::{lex_text_is_one, lexing_is_one};
+pub use laws::{lex_text_is_one, lexing_goes_on, lexing_is_one};
 pub use read::read_lex;
