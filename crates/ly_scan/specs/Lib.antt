@@ -1,5 +1,6 @@
 pub mod Cuts
 pub mod Lexer
 pub mod Matching
+pub mod StateRows
 pub mod StateWalk
 pub mod Walk

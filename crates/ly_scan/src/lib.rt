@@ -10,8 +10,10 @@
 
 mod lexer;
 mod matching;
+mod state_rows;
 mod steps;
 
 pub use lexer::Lexer;
 pub use matching::{Match, next_match};
+pub use state_rows::StateRows;
 pub use steps::Steps;

@@ -1,0 +1,58 @@
+ghost use Rattle.std.specs.Prelude.{◌≡◌, ◌<◌, ◌+◌, ◌*◌, ◌&&◌, ℕ, length, nat_eq, if◌then◌else◌, None, IfOk};
+ghost use Rattle.ly_scan.specs.StateRows.{row_entry};
+
+use ly_base::OutOfMemory;
+use std::alloc::Global;
+use std::marker::Model;
+
+/// How many entries a row has: one for each class of bytes that there may be.
+const WIDTH: usize = 256;
+
+/// Where the states of a scanner lead, as they are walked: for each state a row of 256 entries, one for each class of
+/// bytes that there may be. So a row is found by a shift, and no multiplication lies between a byte and the next.
+#[derive(Drop)]
+pub struct StateRows {
+    /// The entries, row after row.
+    entries: Vec<Option<u32>>,
+}
+
+impl Model for StateRows {
+    ghost use Rattle.std.specs.Prelude.{ℕ, List, Option};
+
+    ghost Value = { List (Option ℕ) };
+
+    ghost view = { λ r. r.entries.items };
+}
+
+impl StateRows {
+    /// Rows without an entry for so many states. It fails where memory runs out.
+    pub fn new(alloc: Global, states: usize) -> Result<StateRows, OutOfMemory>
+        ensures count { IfOk result (λ r. length r ≡ states * 256) }
+        ensures none { IfOk result (λ r. (state class : ℕ) → row_entry r state class ≡ None) }
+    {
+        let Some(len) = states.checked_mul(WIDTH) else {
+            return Err(OutOfMemory);
+        };
+        Ok(StateRows {
+            entries: vec![in alloc; None; len]?,
+        })
+    }
+
+    /// Puts where a class leads from a state, or that it leads nowhere.
+    pub fn set(&mut self, state: u32, class: usize, next: Option<u32>)
+        requires class { class < 256 }
+        requires there { state * 256 + class < length self.old }
+        ensures count { length self.new ≡ length self.old }
+        ensures entries { (s c : ℕ) → c < 256 → row_entry self.new s c
+            ≡ (if nat_eq s state && nat_eq c class then next else row_entry self.old s c) }
+    {
+        self.entries[state as usize * WIDTH + class] = next;
+    }
+
+    /// Where a class leads from a state: to a state, or nowhere.
+    pub fn next(&self, state: u32, class: u8) -> Option<u32>
+        ensures { result ≡ row_entry self.now state class }
+    {
+        *self.entries.get(state as usize * WIDTH + usize::from(class))?
+    }
+}
