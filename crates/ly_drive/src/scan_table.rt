@@ -1,14 +1,16 @@
-ghost use Rattle.std.specs.Prelude.{◌≡◌, ◌<◌, ℕ, length, IfOk, option_map};
-ghost use Rattle.ly_drive.specs.ScanPart.{condition_in, cut_in, next_in, rule_in, start_in, terminal_in};
-ghost use Rattle.ly_pack.specs.Rows.{comb_entry, dense_entry, IsDense};
+ghost use Rattle.std.specs.Prelude.{◌≡◌, ◌<◌, ◌≤◌, ◌*◌, ℕ, length, IfOk, option_map};
+ghost use Rattle.ly_drive.specs.ScanPart.{condition_in, cut_in, next_in, rule_in, start_in, states_from, terminal_in};
+ghost use Rattle.ly_pack.specs.Rows.{comb_entry};
+ghost use Rattle.ly_scan.specs.StateRows.{row_entry};
 
 use ly_base::{Cut, Emitted, OutOfMemory, RuleNo, StateNo, Sym};
-use ly_pack::{Comb, Dense, Rows};
+use ly_pack::{Comb, Rows};
+use ly_scan::StateRows;
 use ly_tables::{ScanRule, Starts};
 use std::alloc::Global;
 use std::marker::Model;
 
-/// The scanner of a table set, its rows as they stand: a step is the class of the byte and one index.
+/// The scanner of a table set, its rows spread: a step is the class of the byte and one index.
 #[derive(Drop)]
 pub(crate) struct ScanTable {
     /// The terminal of each byte as a literal.
@@ -19,10 +21,12 @@ pub(crate) struct ScanTable {
     pub(crate) conditions: Vec<Starts>,
     /// The class of each byte.
     pub(crate) classes: Vec<u8>,
+    /// How many classes there are.
+    pub(crate) class_count: usize,
     /// The rule of each state, if it has one.
     pub(crate) accepted: Vec<Option<RuleNo>>,
     /// Where states lead, by classes.
-    pub(crate) rows: Dense<StateNo>,
+    pub(crate) rows: StateRows,
 }
 
 impl Model for ScanTable {
@@ -53,8 +57,8 @@ impl ScanTable {
     pub(crate) fn next(&self, state: StateNo, byte: u8) -> Option<StateNo>
         ensures { option_map (λ s. s.0) result ≡ next_in self.now state.0 byte }
     {
-        self.rows
-            .entry(state, usize::from(self.classes[usize::from(byte)]))
+        let class = self.classes[usize::from(byte)];
+        Some(StateNo(self.rows.next(state.0, class)?))
     }
 
     /// The rule of a state, if it has one.
@@ -94,28 +98,25 @@ impl ScanTable {
     }
 }
 
-/// Rows as they stand of rows that are laid over one another.
+/// The rows of states, as they are walked, of rows that are laid over one another.
 pub(crate) fn spread(
     alloc: Global,
     comb: &Comb<StateNo>,
-    rows: usize,
-    width: usize,
-) -> Result<Dense<StateNo>, OutOfMemory>
-    requires rows { rows < 4294967296 }
-    ensures rows { IfOk result (λ d. d.rows ≡ rows) }
-    ensures width { IfOk result (λ d. d.width ≡ width) }
-    ensures same { IfOk result (λ d. (row column : ℕ) → row < rows → column < width
-        → dense_entry d row column ≡ comb_entry comb.now row column) }
-    ensures whole { IfOk result IsDense }
+    states: usize,
+    classes: usize,
+) -> Result<StateRows, OutOfMemory>
+    requires states { states < 4294967296 }
+    requires classes { classes ≤ 256 }
+    ensures count { IfOk result (λ r. length r ≡ states * 256) }
+    ensures same { IfOk result (λ r. (state class : ℕ) → state < states → class < classes
+        → row_entry r state class ≡ states_from (comb_entry comb.now) state class) }
 {
-    let mut dense = Dense::new(alloc, rows, width)?;
-    for row in 0..rows {
-        let row = StateNo(row as u32);
-        for column in 0..width {
-            dense.set(row, column, comb.entry(row, column));
+    let mut rows = StateRows::new(alloc, states)?;
+    for state in 0..states {
+        let state = StateNo(state as u32);
+        for class in 0..classes {
+            rows.set(state.0, class, comb.entry(state, class).map(|next| next.0));
         }
     }
-    // the call's contract says that the rows have all their cells
-    let _width = dense.width();
-    Ok(dense)
+    Ok(rows)
 }

@@ -45,6 +45,7 @@ impl Tables {
                 rules: parts.scan_rules,
                 conditions: parts.conditions,
                 classes: parts.classes,
+                class_count: parts.class_count,
                 accepted: parts.accepted,
                 rows,
             },

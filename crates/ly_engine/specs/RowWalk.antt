@@ -1,5 +1,6 @@
 -- The walk over the rows of a deterministic automaton.
-use Rattle.std.specs.Prelude.{ℕ, Bool, Some}
+use Rattle.std.specs.Prelude.{◌≡◌, ◌<◌, ℕ, List, Bool, Option, Some, IfSome, length}
+use Rattle.ly_scan.specs.StateRows.{row_entry}
 use Rattle.ly_scan.specs.StateWalk.{States, state_walk}
 use Rattle.ly_scan.specs.Walk.{Walk}
 use Rattle.ly_subset.specs.Automaton.{Automaton, next_of, rule_of, start_of}
@@ -11,3 +12,9 @@ rows_of A = record { start = start_of A; next = λ s b. next_of A (Some s) b; ru
 -- the walk from the start of a condition
 abbrev pub row_walk : Automaton → ℕ → Bool → Walk
 row_walk A = state_walk (rows_of A)
+
+-- the rows hold where each byte leads from each state
+abbrev pub AreRowsOf : Automaton → List (Option ℕ) → Type 0
+AreRowsOf A rows = (state byte : ℕ) → state < length A.rules → byte < 256
+    → (row_entry rows state byte ≡ next_of A (Some state) byte)
+    × IfSome (row_entry rows state byte) (λ next. next < length A.rules)

@@ -1,31 +1,54 @@
-ghost use Rattle.std.specs.Prelude.{◌≡◌, ◌<◌, length, Some};
+ghost use Rattle.std.specs.Prelude.{◌≡◌, ◌<◌, length, IfOk, Some};
 ghost use Rattle.ly_engine.specs.PositionWalk.{cut_in};
-ghost use Rattle.ly_engine.specs.RowWalk.{row_walk, rows_of};
+ghost use Rattle.ly_engine.specs.RowWalk.{row_walk, rows_of, AreRowsOf};
 ghost use Rattle.ly_scan.specs.StateWalk.{ahead_of, ahead_of-ended};
 ghost use Rattle.ly_subset.specs.Automaton.{start_of};
 
-use ly_base::{Cut, RuleNo};
+use ly_base::{Cut, OutOfMemory, RuleNo};
 use ly_ere::Rule;
-use ly_scan::Steps;
+use ly_scan::{StateRows, Steps};
 use ly_subset::Dfa;
+use std::alloc::Global;
 
-/// The walk over the rows of a deterministic automaton: a step is the class of the byte and one index.
+/// The walk over the rows of a deterministic automaton, spread over all bytes: a step is one index.
 #[derive(Drop)]
 pub struct RowWalk<'a> {
     /// The automaton.
     dfa: &'a Dfa,
     /// The rules that it tells.
     rules: &'a [Rule],
+    /// Where each byte leads from each state.
+    rows: StateRows,
+    ghost spread: { AreRowsOf dfa.now rows },
 }
 
 impl<'a> RowWalk<'a> {
-    /// The walk over the automaton of these rules.
-    pub fn new(dfa: &'a Dfa, rules: &'a [Rule]) -> Self
-        ensures dfa { result.dfa.now ≡ dfa.now }
-        ensures rules { result.rules.now ≡ rules.now }
+    /// The walk over the automaton of these rules. It fails where memory runs out.
+    pub fn new(alloc: Global, dfa: &'a Dfa, rules: &'a [Rule]) -> Result<Self, OutOfMemory>
+        ensures dfa { IfOk result (λ w. w.dfa.now ≡ dfa.now) }
+        ensures rules { IfOk result (λ w. w.rules.now ≡ rules.now) }
     {
-        RowWalk { dfa, rules }
+        Ok(RowWalk {
+            dfa,
+            rules,
+            rows: spread(alloc, dfa)?,
+        })
     }
+}
+
+/// The rows of an automaton, spread over all bytes.
+fn spread(alloc: Global, dfa: &Dfa) -> Result<StateRows, OutOfMemory>
+    ensures { IfOk result (AreRowsOf dfa.now) }
+{
+    // more states than have a number have no room either
+    let states = u32::try_from(dfa.len()).map_err(|_| OutOfMemory)?;
+    let mut rows = StateRows::new(alloc, dfa.len())?;
+    for state in 0..states {
+        for byte in 0..256usize {
+            rows.set(state, byte, dfa.step(state, byte as u8));
+        }
+    }
+    Ok(rows)
 }
 
 impl Steps for RowWalk<'_> {
@@ -44,7 +67,7 @@ impl Steps for RowWalk<'_> {
     }
 
     fn step(&mut self, at: u32, byte: u8) -> Option<u32> {
-        self.dfa.step(at, byte)
+        self.rows.next(at, byte)
     }
 
     fn accept(&self, at: u32) -> Option<RuleNo> {

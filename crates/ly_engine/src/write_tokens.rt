@@ -98,8 +98,9 @@ fn answer_to_text<R: Source>(
     ensures before { IfErr result IsBeforeWriting }
 {
     let dfa = smallest_automaton(alloc, file)?;
+    let steps = RowWalk::new(alloc, &dfa, &file.rules)?;
     let text = read_whole(alloc, reader)?;
-    Ok(answer_by(alloc, file, RowWalk::new(&dfa, &file.rules), &text)?)
+    Ok(answer_by(alloc, file, steps, &text)?)
 }
 
 /// The answer to a text under a lex file, by any scanner that agrees with its rules.

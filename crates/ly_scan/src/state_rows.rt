@@ -5,11 +5,11 @@ use ly_base::OutOfMemory;
 use std::alloc::Global;
 use std::marker::Model;
 
-/// How many entries a row has: one for each class of bytes that there may be.
+/// How many entries a row has: one for each byte, or for each class of bytes that there may be.
 const WIDTH: usize = 256;
 
-/// Where the states of a scanner lead, as they are walked: for each state a row of 256 entries, one for each class of
-/// bytes that there may be. So a row is found by a shift, and no multiplication lies between a byte and the next.
+/// Where the states of a scanner lead, as they are walked: for each state a row of 256 columns, which stand for bytes or
+/// for classes of bytes. So a row is found by a shift, and no multiplication lies between a byte and the next.
 #[derive(Drop)]
 pub struct StateRows {
     /// The entries, row after row.
@@ -28,7 +28,7 @@ impl StateRows {
     /// Rows without an entry for so many states. It fails where memory runs out.
     pub fn new(alloc: Global, states: usize) -> Result<StateRows, OutOfMemory>
         ensures count { IfOk result (λ r. length r ≡ states * 256) }
-        ensures none { IfOk result (λ r. (state class : ℕ) → row_entry r state class ≡ None) }
+        ensures none { IfOk result (λ r. (state column : ℕ) → row_entry r state column ≡ None) }
     {
         let Some(len) = states.checked_mul(WIDTH) else {
             return Err(OutOfMemory);
@@ -38,21 +38,23 @@ impl StateRows {
         })
     }
 
-    /// Puts where a class leads from a state, or that it leads nowhere.
-    pub fn set(&mut self, state: u32, class: usize, next: Option<u32>)
-        requires class { class < 256 }
-        requires there { state * 256 + class < length self.old }
+    /// Puts where a column leads from a state, or that it leads nowhere.
+    pub fn set(&mut self, state: u32, column: usize, next: Option<u32>)
+        requires column { column < 256 }
+        requires there { state * 256 + column < length self.old }
         ensures count { length self.new ≡ length self.old }
         ensures entries { (s c : ℕ) → c < 256 → row_entry self.new s c
-            ≡ (if nat_eq s state && nat_eq c class then next else row_entry self.old s c) }
+            ≡ (if nat_eq s state && nat_eq c column then next else row_entry self.old s c) }
     {
-        self.entries[state as usize * WIDTH + class] = next;
+        self.entries[state as usize * WIDTH + column] = next;
     }
 
-    /// Where a class leads from a state: to a state, or nowhere.
-    pub fn next(&self, state: u32, class: u8) -> Option<u32>
-        ensures { result ≡ row_entry self.now state class }
+    /// Where a column leads from a state: to a state, or nowhere.
+    pub fn next(&self, state: u32, column: u8) -> Option<u32>
+        ensures { result ≡ row_entry self.now state column }
     {
-        *self.entries.get(state as usize * WIDTH + usize::from(class))?
+        *self
+            .entries
+            .get(state as usize * WIDTH + usize::from(column))?
     }
 }

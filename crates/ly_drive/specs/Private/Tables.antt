@@ -1,10 +1,11 @@
 -- A scanner's tables in memory.
-use Rattle.std.specs.Prelude.{◌≡◌, length, map, option_map}
+use Rattle.std.specs.Prelude.{◌≡◌, ◌<◌, ◌*◌, length, map, option_map, All}
 use Rattle.ly_base.specs.declared.numbers.RuleNo.{RuleNo}
 use Rattle.ly_base.specs.declared.numbers.Sym.{Sym}
-use Rattle.ly_drive.specs.ScanPart.{ScanPart, states_from}
+use Rattle.ly_drive.specs.ScanPart.{ScanPart}
 use Rattle.ly_drive.specs.declared.scan_table.ScanTable.TheInside.{Inside}
-use Rattle.ly_pack.specs.Rows.{dense_entry, grid_of, IsDense}
+use Rattle.ly_pack.specs.Rows.{grid_of}
+use Rattle.ly_scan.specs.StateRows.{row_entry}
 use Rattle.ly_tables.specs.Values.{scan_rule_from, starts_from}
 
 abbrev pub part_from : Inside → ScanPart
@@ -14,11 +15,12 @@ part_from t = record {
   conditions = map starts_from t.conditions.items;
   classes = t.classes.items;
   accepted = map (option_map (λ (p : RuleNo). p.0)) t.accepted.items;
-  rows = grid_of t.rows.rows t.rows.width (states_from (dense_entry t.rows));
+  rows = grid_of (length t.accepted.items) t.class_count (row_entry t.rows);
 }
 
--- Each byte has a class and a literal, and the rows have all their cells.
+-- Each byte has a class of those that there are, and a literal, and each state has a row.
 pub record IsScanTable (t : Inside) : Type 0 where
   pub classes : length t.classes.items ≡ 256
   pub literals : length t.literals.items ≡ 256
-  pub rows : IsDense t.rows
+  pub within : All (λ c. c < t.class_count) t.classes.items
+  pub rows : length t.rows ≡ length t.accepted.items * 256

@@ -4,8 +4,7 @@ use Rattle.ly_drive.proofs.tables.Tables.new.Goals as goal
 
 pub returns-clause-scanner : goal.returns-clause-scanner
 returns-clause-scanner c = same_part c.args.parts c.in_ok-rows.rows c.len.result
-    (c.len.ensures ∙ c.args.parts.accepted.ok.0)
-    c.in_ok-rows.ensures.rows c.in_ok-rows.ensures.width c.in_ok-rows.ensures.same
+    (c.len.ensures ∙ c.args.parts.accepted.ok.0) c.in_ok-rows.ensures.same
 
 pub returns-clause-machine : goal.returns-clause-machine
 returns-clause-machine c = c.new.ensures ∙ same_machine c.args.parts c.len-2.result
