@@ -12,8 +12,8 @@ use Rattle.ly_engine.proofs.write_tokens.answer_to_text.Goals as goal
 pub answer_by-requires : goal.answer_by-requires
 answer_by-requires g c =
     let file = c.args.file.now in
-    let walk = c.new.result in
+    let walk = c.in_ok-steps.steps in
     subst (λ (s : Scanner). Agrees (defined file.names) file.rules.items s)
     (sym (scanner_of (row_walk c.in_ok-dfa.dfa) (row_walk walk.dfa.now) (cut_in file.rules.items)
-    (cut_in walk.rules.now) (ap (λ (A : Automaton). row_walk A) c.new.ensures.dfa)
-    (ap (λ (rs : List Rule). cut_in rs) (c.new.ensures.rules ∙ c.deref.ensures.value)))) c.in_ok-dfa.ensures.agrees
+    (cut_in walk.rules.now) (ap (λ (A : Automaton). row_walk A) c.in_ok-steps.ensures.dfa)
+    (ap (λ (rs : List Rule). cut_in rs) (c.in_ok-steps.ensures.rules ∙ c.deref.ensures.value)))) c.in_ok-dfa.ensures.agrees
