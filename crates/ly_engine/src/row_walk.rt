@@ -1,4 +1,5 @@
 ghost use Rattle.std.specs.Prelude.{◌≡◌, ◌<◌, length, IfOk, Some};
+ghost use Rattle.std.proofs.Props.{props};
 ghost use Rattle.ly_engine.specs.PositionWalk.{cut_in};
 ghost use Rattle.ly_engine.specs.RowWalk.{row_walk, rows_of, AreRowsOf};
 ghost use Rattle.ly_scan.specs.StateWalk.{ahead_of, ahead_of-ended};
@@ -19,7 +20,7 @@ pub struct RowWalk<'a> {
     rules: &'a [Rule],
     /// Where each byte leads from each state.
     rows: StateRows,
-    ghost spread: { AreRowsOf dfa.now rows },
+    ghost spread: { AreRowsOf dfa.now rows } by { Prim.hlevel props },
 }
 
 impl<'a> RowWalk<'a> {
