@@ -6,6 +6,8 @@
 //! From the bytes of a lex file and a yacc file to their table file and their report: `generate`, `build` and
 //! `generate_report`; and to the answer to a text: `answer`. That tables so made answer what both files say is part of
 //! what these promise (`IsGenerated`), by a law (`tables_answer_as_specified`).
+//!
+//! Left out: files, words and lines of faults, which are the program's.
 #![tactic(auto)]
 
 mod answer_fault;

@@ -7,6 +7,8 @@
 //! the cut that the lengths of its head and its tail decide. What a pattern matches, and which rule wins at a place of
 //! a text, is defined here too, and determined (`winner_is_one`, `split_is_one`, `cut_is_true`,
 //! `expression_has_string`).
+//!
+//! Left out: locales but POSIX's, and any automaton: what a pattern matches is said, not looked for.
 #![tactic(auto)]
 
 mod arena;

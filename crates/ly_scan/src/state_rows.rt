@@ -8,8 +8,8 @@ use std::marker::Model;
 /// How many entries a row has: one for each byte, or for each class of bytes that there may be.
 const WIDTH: usize = 256;
 
-/// Where the states of a scanner lead, as they are walked: for each state a row of 256 columns, which stand for bytes or
-/// for classes of bytes. So a row is found by a shift, and no multiplication lies between a byte and the next.
+/// Where the states of a scanner lead, as they are walked: for each state a row of 256 columns, which stand for bytes
+/// or for classes of bytes. So a row is found by a shift, and no multiplication lies between a byte and the next.
 #[derive(Drop)]
 pub struct StateRows {
     /// The entries, row after row.

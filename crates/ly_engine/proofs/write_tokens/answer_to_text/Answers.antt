@@ -16,4 +16,5 @@ answer_by-requires g c =
     subst (λ (s : Scanner). Agrees (defined file.names) file.rules.items s)
     (sym (scanner_of (row_walk c.in_ok-dfa.dfa) (row_walk walk.dfa.now) (cut_in file.rules.items)
     (cut_in walk.rules.now) (ap (λ (A : Automaton). row_walk A) c.in_ok-steps.ensures.dfa)
-    (ap (λ (rs : List Rule). cut_in rs) (c.in_ok-steps.ensures.rules ∙ c.deref.ensures.value)))) c.in_ok-dfa.ensures.agrees
+    (ap (λ (rs : List Rule). cut_in rs) (c.in_ok-steps.ensures.rules ∙ c.deref.ensures.value))))
+    c.in_ok-dfa.ensures.agrees
