@@ -4,8 +4,8 @@
 //! text that says nothing or has a definition or a pattern that is too heavy. What the lexemes of a text are under the
 //! rules is defined here too, and determined (`lexing_goes_on`, `lexing_is_one`).
 //!
-//! Left out: C code in actions, and what needs it (docs/lex-file.md lists it); what the names of tokens mean, which takes
-//! the yacc file too.
+//! Left out: C code in actions, and what needs it (docs/lex-file.md lists it); what the names of tokens mean, which
+//! takes the yacc file too.
 #![tactic(auto)]
 
 mod action;
