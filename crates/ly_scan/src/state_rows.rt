@@ -49,7 +49,7 @@ impl StateRows {
         self.entries[state as usize * WIDTH + column] = next;
     }
 
-    /// Where a column leads from a state: to a state, or nowhere.
+    /// Where a column leads from a state: to a state, or nowhere. A state without a row leads nowhere.
     pub fn next(&self, state: u32, column: u8) -> Option<u32>
         ensures { result ≡ row_entry self.now state column }
     {
