@@ -1,4 +1,5 @@
 pub mod ByteSetLemmas
+pub mod CellLemmas
 pub mod DeviceLemmas
 pub mod EscapeLemmas
 pub mod GapLemmas
@@ -8,6 +9,8 @@ pub mod LiteralLemmas
 pub mod MemberLemmas
 pub mod NameLemmas
 pub mod PlaceLemmas
+pub mod RoomLemmas
 pub mod SparseSetLemmas
+pub mod TextWriterLemmas
 mod WordLemmas
 mod TextLemmas

@@ -1,9 +1,12 @@
 -- Lemmas on bytes between quotes.
 use Rattle.std.proofs.Common.{◌≡◌, ◌∙◌, ◌<◌, ◌≤◌, ◌+◌, ◌-◌, ◌++◌, ◌∷◌, [], ℕ, List, true, false, length, take, drop}
 use Rattle.std.proofs.Common.{get_or, sym, ap, arith, append-nil, append_assoc, get_or-drop, length-drop}
+use Rattle.std.proofs.Common.{flat_map, length-append, take-append-drop}
+use Rattle.std.proofs.lemmas.Grind.{flat_map-append}
 use Rattle.std.proofs.lemmas.Bool.{cond-false, cond-true}
 use Rattle.std.proofs.lemmas.List.{flat_map_more, take_more}
-use Rattle.ly_base.specs.Text.{escape_for, escaped, escaped_byte, is_plain}
+use Rattle.ly_base.specs.Bytes.{double_quote, newline, single_quote}
+use Rattle.ly_base.specs.Text.{escape_for, escaped, escaped_byte, is_plain, leaf_line, literal, name_of, Named}
 
 -- a run with one more byte
 run_more : (bytes : List ℕ) (start at : ℕ) → start ≤ at → at < length bytes
@@ -22,6 +25,50 @@ escaped_more : (quote : ℕ) (bytes before : List ℕ) (at : ℕ) → at < lengt
     (get_or bytes at 0)
 escaped_more quote bytes before at within = ap (λ t. before ++ escaped quote t) (take_more bytes at 0 within)
     ∙ sym (flat_map_more (escaped_byte quote) before (take at bytes) (get_or bytes at 0))
+
+-- bytes between quotes: those before one, that one, and those behind it
+pub escaped_split : (quote : ℕ) (bytes : List ℕ) (at : ℕ) → at < length bytes
+    → (escaped quote (take at bytes) ++ escaped quote (get_or bytes at 0 ∷ [])) ++ escaped quote (drop (at + 1) bytes)
+    ≡ escaped quote bytes
+escaped_split quote bytes at within =
+    let each = escaped_byte quote in
+    ap (λ t. t ++ flat_map each (drop (at + 1) bytes))
+    (sym (flat_map-append each (take at bytes) (get_or bytes at 0 ∷ []))
+    ∙ ap (λ t. flat_map each t) (sym (take_more bytes at 0 within)))
+    ∙ sym (flat_map-append each (take (at + 1) bytes) (drop (at + 1) bytes))
+    ∙ ap (λ t. flat_map each t) (take-append-drop (at + 1) bytes)
+
+-- one more byte between quotes is not more than all are
+pub escaped_within : (quote : ℕ) (bytes : List ℕ) (at : ℕ) → at < length bytes
+    → length (escaped quote (take at bytes)) + length (escaped quote (get_or bytes at 0 ∷ []))
+    ≤ length (escaped quote bytes)
+escaped_within quote bytes at within =
+    let so_far = escaped quote (take at bytes) in
+    let more = escaped quote (get_or bytes at 0 ∷ []) in
+    let rest = escaped quote (drop (at + 1) bytes) in
+    omega (
+      arith,
+      ap length (escaped_split quote bytes at within),
+      length-append (so_far ++ more) rest,
+      length-append so_far more,
+    )
+
+-- the pieces of a literal's name
+pub literal_parts : (b : ℕ) → ((single_quote ∷ []) ++ escaped single_quote (b ∷ [])) ++ single_quote ∷ []
+    ≡ name_of (literal b)
+literal_parts b = ap (λ t. single_quote ∷ (t ++ single_quote ∷ [])) (append-nil (escaped_byte single_quote b))
+
+-- the pieces of a leaf's line
+pub line_parts : (terminal : Named) (text : List ℕ)
+    → ((name_of terminal ++ double_quote ∷ []) ++ escaped double_quote text) ++ double_quote ∷ newline ∷ []
+    ≡ leaf_line terminal text
+line_parts terminal text =
+    let name = name_of terminal in
+    let quoted = escaped double_quote text in
+    append_assoc (name ++ double_quote ∷ []) quoted (double_quote ∷ newline ∷ [])
+    ∙ append_assoc name (double_quote ∷ []) (quoted ++ double_quote ∷ newline ∷ [])
+    ∙ ap (λ t. name ++ double_quote ∷ t) (sym (append_assoc quoted (double_quote ∷ []) (newline ∷ [])))
+    ∙ sym (append_assoc name (double_quote ∷ (quoted ++ double_quote ∷ [])) (newline ∷ []))
 
 module _ (quote : ℕ) (bytes before out : List ℕ) (start at : ℕ) (behind : start ≤ at) (within : at < length bytes)
     (so_far : out ++ take (at - start) (drop start bytes) ≡ before ++ escaped quote (take at bytes)) where

@@ -3,6 +3,7 @@ pub mod ByteSet
 pub mod Bytes
 pub mod Counted
 pub mod Device
+pub mod Entry
 pub mod Escapes
 pub mod Gap
 pub mod Language
@@ -16,4 +17,5 @@ pub mod Private
 pub mod Shape
 pub mod SparseSet
 pub mod Text
+pub mod TextWriter
 pub mod Trees

@@ -2,8 +2,8 @@
 //!
 //! `write_whole` and `read_whole` carry bytes to and from devices that count their failures: at Ok all of them, at a
 //! fault a stated beginning, and a device is named only where it failed. `Place` says where a run over a text stands,
-//! `push_leaf` and its like print what stands there, and `TextBuffer` many pieces; `Limits` holds the sizes that are
-//! accepted.
+//! `push_leaf` and its like print what stands there, `TextBuffer` many pieces, and `TextWriter` writes them while they
+//! are printed; `Limits` holds the sizes that are accepted.
 //!
 //! Left out: what a real file or terminal does. That is the word of its reads and writes.
 #![tactic(auto)]
@@ -13,6 +13,7 @@ mod byte_set;
 mod counted;
 mod cut;
 mod device;
+mod entry;
 mod escapes;
 mod gap;
 mod language;
@@ -30,6 +31,7 @@ mod scan_action;
 mod sparse_set;
 mod text;
 mod text_buffer;
+mod text_writer;
 mod whole;
 
 pub use blank::is_blank;
@@ -37,6 +39,7 @@ pub use byte_set::ByteSet;
 pub use counted::Counted;
 pub use cut::Cut;
 pub use device::{DeviceFailed, Sink, Source};
+pub use entry::Entry;
 pub use escapes::{EscapeFault, escape};
 pub use gap::{after_block, after_braces, after_comment, after_gap};
 pub use language::Language;
@@ -54,4 +57,5 @@ pub use scan_action::{Emitted, ScanAction};
 pub use sparse_set::SparseSet;
 pub use text::{Terminal, push_escaped, push_leaf, push_name, push_no_rule_line};
 pub use text_buffer::TextBuffer;
+pub use text_writer::TextWriter;
 pub use whole::{ReadFault, WriteFault, read_whole, write_whole};

@@ -1,6 +1,6 @@
 ghost use Rattle.std.specs.Prelude.{◌≡◌, ◌≤◌, ◌+◌, ◌*◌, ◌++◌, [], ◌∷◌, length, take, IfOk, OnOk};
 ghost use Rattle.std.specs.Bool.{OnTrue};
-ghost use Rattle.ly_base.specs.Text.{escape_for, escaped, leaf_line, leaf_of, name_of, named};
+ghost use Rattle.ly_base.specs.Text.{escape_for, escaped, leaf_of, name_of, named};
 ghost use Rattle.ly_base.specs.Private.TextBuffer.{leaf_room, name_room};
 
 use crate::text::{Terminal, hex_digit, is_plain, push_leaf};
@@ -83,21 +83,6 @@ impl TextBuffer {
         Ok(())
     }
 
-    /// Appends a line that is a leaf.
-    ///
-    /// It fails where memory runs out. How much was appended by then is left open.
-    pub fn push_leaf_line(&mut self, terminal: Terminal<'_>, text: &[u8]) -> Result<(), AllocError>
-        ensures { OnOk result (self.new ≡ self.old ++ leaf_line (named terminal.entry) text.now) }
-    {
-        if !fits(self.room.len() - self.used, terminal, text) {
-            self.push_leaf_behind(terminal, text)?;
-            return self.push(b'\n');
-        }
-        let end = put_leaf(&mut self.room, self.used, terminal, text);
-        self.used = put(&mut self.room, end, b'\n');
-        Ok(())
-    }
-
     /// The bytes of the whole text. It fails where memory runs out.
     pub fn into_bytes(self) -> Result<Vec<u8>, AllocError>
         ensures { IfOk result (λ bytes. bytes.items ≡ self) }
@@ -139,7 +124,7 @@ fn empty_room(rest: &mut Vec<u8>, room: &[u8], used: &mut usize) -> Result<(), A
 }
 
 /// Whether so many bytes are room for a leaf and a byte behind it. It may say no where they are.
-fn fits(left: usize, terminal: Terminal<'_>, text: &[u8]) -> bool
+pub(crate) fn fits(left: usize, terminal: Terminal<'_>, text: &[u8]) -> bool
     ensures { OnTrue result (leaf_room (named terminal.entry) text.now + 1 ≤ left) }
 {
     let name_len = match terminal {
@@ -151,7 +136,7 @@ fn fits(left: usize, terminal: Terminal<'_>, text: &[u8]) -> bool
 
 /// Writes a leaf from a place on, and answers where it ends.
 #[inline(always)] // a call would cost a tenth of a short leaf
-fn put_leaf(room: &mut [u8], at: usize, terminal: Terminal<'_>, text: &[u8]) -> usize
+pub(crate) fn put_leaf(room: &mut [u8], at: usize, terminal: Terminal<'_>, text: &[u8]) -> usize
     requires { at + leaf_room (named terminal) text.now ≤ length room.old }
     ensures leaf { take result room.new ≡ take at room.old ++ leaf_of (named terminal.entry) text.now }
     ensures within { result ≤ at + leaf_room (named terminal.entry) text.now }
@@ -181,7 +166,7 @@ fn put_name(room: &mut [u8], at: usize, terminal: Terminal<'_>) -> usize
 }
 
 /// Writes bytes from a place on as they stand between quotes, and answers where they end.
-fn put_escaped(room: &mut [u8], at: usize, quote: u8, bytes: &[u8]) -> usize
+pub(crate) fn put_escaped(room: &mut [u8], at: usize, quote: u8, bytes: &[u8]) -> usize
     requires { at + 4 * length bytes.now ≤ length room.old }
     ensures bytes { take result room.new ≡ take at room.old ++ escaped quote bytes.now }
     ensures within { result ≤ at + 4 * length bytes.now }
@@ -199,6 +184,7 @@ fn put_escaped(room: &mut [u8], at: usize, quote: u8, bytes: &[u8]) -> usize
 }
 
 /// Writes a byte that doesn't stand for itself from a place on, and answers where it ends.
+#[cold]
 fn put_escape(room: &mut [u8], at: usize, byte: u8) -> usize
     requires { at + 4 ≤ length room.old }
     ensures escape { take result room.new ≡ take at room.old ++ escape_for byte }
@@ -218,7 +204,7 @@ fn put_escape(room: &mut [u8], at: usize, byte: u8) -> usize
 }
 
 /// Writes bytes from a place on as they are, and answers where they end.
-fn put_bytes(room: &mut [u8], at: usize, bytes: &[u8]) -> usize
+pub(crate) fn put_bytes(room: &mut [u8], at: usize, bytes: &[u8]) -> usize
     requires { at + length bytes.now ≤ length room.old }
     ensures bytes { take result room.new ≡ take at room.old ++ bytes.now }
     ensures end { result ≡ at + length bytes.now }
@@ -232,7 +218,7 @@ fn put_bytes(room: &mut [u8], at: usize, bytes: &[u8]) -> usize
 }
 
 /// Writes a byte at a place, and answers the next one.
-fn put(room: &mut [u8], at: usize, byte: u8) -> usize
+pub(crate) fn put(room: &mut [u8], at: usize, byte: u8) -> usize
     requires { at + 1 ≤ length room.old }
     ensures byte { take result room.new ≡ take at room.old ++ byte ∷ [] }
     ensures end { result ≡ at + 1 }

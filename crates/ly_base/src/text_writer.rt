@@ -1,0 +1,235 @@
+ghost use Rattle.std.specs.Prelude.{◌≡◌, ◌<◌, ◌+◌, ◌^◌, ℕ, List, [], Option, length, take};
+ghost use Rattle.std.specs.Prelude.{IfOk, IfErr, OnOk, OnErr, MatchResult};
+ghost use Rattle.std.specs.Io.KnownBytes.{Appends};
+ghost use Rattle.ly_base.specs.Device.{next_count};
+ghost use Rattle.ly_base.specs.Text.{escaped, leaf_line, name_of, named, no_rule_line};
+ghost use Rattle.ly_base.specs.TextWriter.{bytes_of, IsAppended, IsCutShort, IsUnderway};
+
+use crate::device::Sink;
+use crate::text::Terminal;
+use crate::text_buffer::{fits, put, put_bytes, put_escaped, put_leaf};
+use crate::whole::{WriteFault, write_whole};
+use itoa::Buffer;
+use std::alloc::{AllocError, Global};
+use std::marker::Model;
+
+/// How many bytes the room has.
+const ROOM: usize = 65_536;
+
+/// Printed text on its way to a writer. The last of it is held back in a room of fixed length, and goes out when that
+/// is full. So printing takes no memory once the room is made, and what was printed before takes none.
+#[derive(Drop)]
+pub struct TextWriter {
+    /// The text that is held back stands in its first `used` bytes.
+    room: Vec<u8>,
+    /// How many bytes of the room are text.
+    used: usize,
+    /// How many bytes went out.
+    sent: usize,
+}
+
+impl Model for TextWriter {
+    ghost use Rattle.std.specs.Prelude.{◌≤◌, take, length};
+    ghost use Rattle.ly_base.specs.TextWriter.{Outgoing};
+
+    ghost Value = { Outgoing };
+
+    ghost view = { λ w. record { sent = w.sent; held = take w.used w.room.items } };
+
+    ghost invariant = { λ w. w.used ≤ length w.room.items };
+}
+
+impl TextWriter {
+    /// No text, or that the room is refused.
+    pub fn new(alloc: Global) -> Result<Self, AllocError>
+        ensures { IfOk result (λ w. w ≡ record { sent = 0; held = [] }) }
+    {
+        Ok(TextWriter {
+            room: vec![in alloc; 0; ROOM]?,
+            used: 0,
+            sent: 0,
+        })
+    }
+
+    /// Appends bytes, which are best a short run.
+    ///
+    /// It fails where the writer does.
+    pub fn push_bytes<W: Sink>(&mut self, writer: &mut W, bytes: &[u8]) -> Result<(), WriteFault>
+        requires countable { bytes_of self.old + length bytes.now < 2 ^ 64 }
+        ensures text { IsAppended self.old self.new (W.contents writer.old) (W.contents writer.new) bytes.now result }
+        ensures counted { OnOk result (bytes_of self.new ≡ bytes_of self.old + length bytes.now) }
+        ensures no_failure { OnOk result (W.failures writer.new ≡ W.failures writer.old) }
+        ensures failed { OnErr result (W.failures writer.new ≡ next_count (W.failures writer.old)) }
+    {
+        if bytes.len() > self.room.len() - self.used {
+            return self.push_behind(writer, bytes);
+        }
+        self.used = put_bytes(&mut self.room, self.used, bytes);
+        Ok(())
+    }
+
+    /// Appends a line that is a leaf.
+    ///
+    /// It fails where the writer does.
+    pub fn push_leaf_line<W: Sink>(
+        &mut self,
+        writer: &mut W,
+        terminal: Terminal<'_>,
+        text: &[u8],
+    ) -> Result<(), WriteFault>
+        requires countable { bytes_of self.old + length (leaf_line (named terminal) text.now) < 2 ^ 64 }
+        ensures text { IsAppended self.old self.new (W.contents writer.old) (W.contents writer.new)
+            (leaf_line (named terminal.entry) text.now) result }
+        ensures counted { OnOk result (bytes_of self.new
+            ≡ bytes_of self.old + length (leaf_line (named terminal.entry) text.now)) }
+        ensures no_failure { OnOk result (W.failures writer.new ≡ W.failures writer.old) }
+        ensures failed { OnErr result (W.failures writer.new ≡ next_count (W.failures writer.old)) }
+    {
+        if !fits(self.room.len() - self.used, terminal, text) {
+            return self.push_line_behind(writer, terminal, text);
+        }
+        let end = put_leaf(&mut self.room, self.used, terminal, text);
+        self.used = put(&mut self.room, end, b'\n');
+        Ok(())
+    }
+
+    /// Appends the line that says at which byte no rule matches, counted from 0.
+    ///
+    /// It fails where the writer does.
+    pub fn push_no_rule_line<W: Sink>(
+        &mut self,
+        writer: &mut W,
+        byte: u64,
+    ) -> Result<(), WriteFault>
+        requires countable { bytes_of self.old + length (no_rule_line byte) < 2 ^ 64 }
+        ensures text { IsAppended self.old self.new (W.contents writer.old) (W.contents writer.new)
+            (no_rule_line byte) result }
+        ensures counted { OnOk result (bytes_of self.new ≡ bytes_of self.old + length (no_rule_line byte)) }
+        ensures no_failure { OnOk result (W.failures writer.new ≡ W.failures writer.old) }
+        ensures failed { OnErr result (W.failures writer.new ≡ next_count (W.failures writer.old)) }
+    {
+        let mut digits = Buffer::new();
+        self.push_bytes(writer, b"no rule matches at byte ")?;
+        self.push_bytes(writer, digits.format(byte).as_bytes())?;
+        self.push_bytes(writer, b"\n")
+    }
+
+    /// Writes what is held back: the end of the text.
+    ///
+    /// It fails where the writer does.
+    pub fn finish<W: Sink>(self, writer: &mut W) -> Result<(), WriteFault>
+        requires countable { bytes_of self < 2 ^ 64 }
+        ensures text { (before : Option (List ℕ)) (text : List ℕ)
+            → IsUnderway before (W.contents writer.old) self text
+            → MatchResult result (λ _. Appends before (W.contents writer.new) text)
+            (λ fault. IsCutShort before (W.contents writer.new) fault.written text) }
+        ensures no_failure { OnOk result (W.failures writer.new ≡ W.failures writer.old) }
+        ensures failed { OnErr result (W.failures writer.new ≡ next_count (W.failures writer.old)) }
+    {
+        let mut sent = self.sent;
+        send(&mut sent, writer, &self.room[..self.used])
+    }
+
+    /// Appends bytes for which the room has no place left.
+    #[cold]
+    fn push_behind<W: Sink>(&mut self, writer: &mut W, bytes: &[u8]) -> Result<(), WriteFault>
+        requires countable { bytes_of self.old + length bytes.now < 2 ^ 64 }
+        ensures text { IsAppended self.old self.new (W.contents writer.old) (W.contents writer.new) bytes.now result }
+        ensures counted { OnOk result (bytes_of self.new ≡ bytes_of self.old + length bytes.now) }
+        ensures no_failure { OnOk result (W.failures writer.new ≡ W.failures writer.old) }
+        ensures failed { OnErr result (W.failures writer.new ≡ next_count (W.failures writer.old)) }
+    {
+        send(&mut self.sent, writer, &self.room[..self.used])?;
+        self.used = 0;
+        send(&mut self.sent, writer, bytes)
+    }
+
+    /// Appends a line that is a leaf, for which the room may have no place left.
+    #[cold]
+    fn push_line_behind<W: Sink>(
+        &mut self,
+        writer: &mut W,
+        terminal: Terminal<'_>,
+        text: &[u8],
+    ) -> Result<(), WriteFault>
+        requires countable { bytes_of self.old + length (leaf_line (named terminal) text.now) < 2 ^ 64 }
+        ensures text { IsAppended self.old self.new (W.contents writer.old) (W.contents writer.new)
+            (leaf_line (named terminal.entry) text.now) result }
+        ensures counted { OnOk result (bytes_of self.new
+            ≡ bytes_of self.old + length (leaf_line (named terminal.entry) text.now)) }
+        ensures no_failure { OnOk result (W.failures writer.new ≡ W.failures writer.old) }
+        ensures failed { OnErr result (W.failures writer.new ≡ next_count (W.failures writer.old)) }
+    {
+        self.push_name(writer, terminal)?;
+        self.push_bytes(writer, b"\"")?;
+        self.push_escaped(writer, b'"', text)?;
+        self.push_bytes(writer, b"\"\n")
+    }
+
+    /// Appends a terminal's name.
+    fn push_name<W: Sink>(
+        &mut self,
+        writer: &mut W,
+        terminal: Terminal<'_>,
+    ) -> Result<(), WriteFault>
+        requires countable { bytes_of self.old + length (name_of (named terminal)) < 2 ^ 64 }
+        ensures text { IsAppended self.old self.new (W.contents writer.old) (W.contents writer.new)
+            (name_of (named terminal.entry)) result }
+        ensures counted { OnOk result (bytes_of self.new
+            ≡ bytes_of self.old + length (name_of (named terminal.entry))) }
+        ensures no_failure { OnOk result (W.failures writer.new ≡ W.failures writer.old) }
+        ensures failed { OnErr result (W.failures writer.new ≡ next_count (W.failures writer.old)) }
+    {
+        match terminal {
+            Terminal::Token(name) => self.push_bytes(writer, name),
+            Terminal::Literal(byte) => {
+                self.push_bytes(writer, b"'")?;
+                self.push_escaped(writer, b'\'', &[byte])?;
+                self.push_bytes(writer, b"'")
+            }
+        }
+    }
+
+    /// Appends bytes as they stand between quotes.
+    fn push_escaped<W: Sink>(
+        &mut self,
+        writer: &mut W,
+        quote: u8,
+        bytes: &[u8],
+    ) -> Result<(), WriteFault>
+        requires countable { bytes_of self.old + length (escaped quote bytes.now) < 2 ^ 64 }
+        ensures text { IsAppended self.old self.new (W.contents writer.old) (W.contents writer.new)
+            (escaped quote bytes.now) result }
+        ensures counted { OnOk result (bytes_of self.new ≡ bytes_of self.old + length (escaped quote bytes.now)) }
+        ensures no_failure { OnOk result (W.failures writer.new ≡ W.failures writer.old) }
+        ensures failed { OnErr result (W.failures writer.new ≡ next_count (W.failures writer.old)) }
+    {
+        for byte in bytes {
+            let mut room = [0u8; 4];
+            let end = put_escaped(&mut room, 0, quote, &[*byte]);
+            self.push_bytes(writer, &room[..end])?;
+        }
+        Ok(())
+    }
+}
+
+/// Writes the bytes behind those that went out, and counts them.
+fn send<W: Sink>(sent: &mut usize, writer: &mut W, bytes: &[u8]) -> Result<(), WriteFault>
+    requires countable { sent.old + length bytes.now < 2 ^ 64 }
+    ensures ok { OnOk result (Appends (W.contents writer.old) (W.contents writer.new) bytes.now) }
+    ensures counted { OnOk result (sent.new ≡ sent.old + length bytes.now) }
+    ensures partial { IfErr result (λ fault. (more : ℕ) × (fault.written ≡ sent.old + more)
+        × (more < length bytes.now) × Appends (W.contents writer.old) (W.contents writer.new) (take more bytes.now)) }
+    ensures no_failure { OnOk result (W.failures writer.new ≡ W.failures writer.old) }
+    ensures failed { OnErr result (W.failures writer.new ≡ next_count (W.failures writer.old)) }
+{
+    match write_whole(writer, bytes) {
+        Ok(()) => {
+            *sent += bytes.len();
+            Ok(())
+        }
+        Err(fault) => Err(WriteFault {
+            written: *sent + fault.written,
+        }),
+    }
+}
