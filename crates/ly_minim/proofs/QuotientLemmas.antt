@@ -15,8 +15,8 @@ use Rattle.std.proofs.Math.Nat.{mul_comm}
 use Rattle.ly_subset.specs.Automaton.{AreInOrder, Automaton, IsAutomaton, IsTrim, entry_at, next_by_class, next_of}
 use Rattle.ly_subset.specs.Automaton.{rule_after, rule_of}
 use Rattle.ly_subset.specs.Automaton.{start_of, start_place, state_after}
-use Rattle.ly_subset.specs.Entry.{target_of}
-use Rattle.ly_subset.specs.declared.entry.Entry.{Entry}
+use Rattle.ly_base.specs.Entry.{target_of}
+use Rattle.ly_base.specs.declared.entry.Entry.{Entry}
 use Rattle.ly_subset.proofs.OrderLemmas.{each_entry, order_more, order_none}
 use Rattle.ly_minim.specs.Smallest.{HaveSameRules, IsReduced}
 use Rattle.ly_minim.specs.Private.Blocks.{AreApart, IsStable}

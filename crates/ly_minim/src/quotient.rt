@@ -5,8 +5,8 @@ ghost use Rattle.ly_subset.specs.Automaton.{entry_at};
 ghost use Rattle.ly_minim.specs.Private.Quotient.{AreNumbered, IsEntered, IsMet, IsQuotient};
 
 use crate::blocks::Blocks;
-use ly_base::OutOfMemory;
-use ly_subset::{Dfa, Entry};
+use ly_base::{Entry, OutOfMemory};
+use ly_subset::Dfa;
 use std::alloc::{AllocError, Global};
 
 /// A state for each block that was met, numbered in the order in which they were met.

@@ -11,7 +11,7 @@ use Rattle.ly_pack.specs.Private.Placing.{AreLaid, AreTied, IsFilled, IsRowPlace
 use Rattle.ly_pack.specs.Private.Placing.{slot_of}
 use Rattle.ly_pack.specs.Rows.{Entries}
 use Rattle.ly_pack.specs.declared.comb_rows.Slot.{Slot}
-use Rattle.ly_pack.proofs.DenseLemmas.{slice_get-set_same, slice_get-set_other}
+use Rattle.ly_base.proofs.CellLemmas.{slice_get-set_same, slice_get-set_other}
 use Rattle.ly_pack.proofs.OrderLemmas.{column_at, has_column}
 
 pub before_not : {E : Type 0} (T : Table E) (r s : ℕ) → GoesBefore T r s → GoesBefore T s r → ⊥

@@ -6,9 +6,10 @@ use Rattle.std.proofs.lemmas.List.{get_or-map, get_or_read, length-map}
 use Rattle.std.proofs.lemmas.Nat.{mul-add-lt}
 use Rattle.std.proofs.Math.Nat.{mul_comm}
 use Rattle.ly_subset.specs.Automaton.{Automaton, IsAutomaton, entry_at}
-use Rattle.ly_subset.specs.Entry.{automaton_of, target_of}
+use Rattle.ly_base.specs.Entry.{target_of}
+use Rattle.ly_subset.specs.Dfa.{automaton_of}
 use Rattle.ly_subset.specs.declared.dfa.Dfa.TheInside.{Inside}
-use Rattle.ly_subset.specs.declared.entry.Entry.{Entry}
+use Rattle.ly_base.specs.declared.entry.Entry.{Entry}
 
 some_within : (A : Automaton) → IsAutomaton A → (k : ℕ) (o : Option ℕ) → o ≡ entry_at A.entries k
     → IfSome o (λ s. s < length A.rules)

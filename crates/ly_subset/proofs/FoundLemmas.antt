@@ -14,7 +14,7 @@ use Rattle.ly_base.proofs.SparseSetLemmas.{with_members-same}
 use Rattle.ly_base.specs.SparseSet.{with_members}
 use Rattle.ly_position.specs.Nfa.{Nfa, IsRoomFor, Stepped}
 use Rattle.ly_position.specs.declared.set.PositionSet.{PositionSet}
-use Rattle.ly_subset.specs.Entry.{target_of}
+use Rattle.ly_base.specs.Entry.{target_of}
 use Rattle.ly_subset.specs.declared.found.Found.{Found}
 use Rattle.ly_subset.specs.Automaton.{entry_at}
 use Rattle.ly_subset.specs.Subsets.{IsStateOf, set_at}

@@ -1,6 +1,6 @@
 pub mod Automaton
 pub mod Classes
-pub mod Entry
+pub mod Dfa
 pub mod FaultNames
 pub mod Keys
 pub mod Laws

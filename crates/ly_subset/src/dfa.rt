@@ -1,8 +1,7 @@
 ghost use Rattle.std.specs.Prelude.{◌≡◌, ◌<◌, ◌≤◌, ◌+◌, ◌*◌, ◌↔◌, length, map, slice_get, Some, IfSome, IsTrue};
 ghost use Rattle.std.specs.Prelude.{option_map};
 
-use crate::entry::Entry;
-use ly_base::RuleNo;
+use ly_base::{Entry, RuleNo};
 use std::marker::Model;
 
 /// A deterministic automaton over classes of bytes. A step is the class of the byte and one index.
@@ -26,7 +25,7 @@ impl Model for Dfa {
     ghost Value = { Automaton };
 
     ghost use Rattle.ly_subset.specs.Automaton.{IsAutomaton};
-    ghost use Rattle.ly_subset.specs.Entry.{automaton_of};
+    ghost use Rattle.ly_subset.specs.Dfa.{automaton_of};
 
     ghost view = { automaton_of };
 
@@ -35,7 +34,7 @@ impl Model for Dfa {
 
 impl Dfa {
     ghost use Rattle.ly_subset.specs.Automaton.{IsAutomaton, entry_at, next_by_class, next_of, rule_of, start_of};
-    ghost use Rattle.ly_subset.specs.Entry.{with_states};
+    ghost use Rattle.ly_subset.specs.Dfa.{with_states};
 
     /// How many states there are.
     pub fn len(&self) -> usize

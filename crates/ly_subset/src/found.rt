@@ -1,12 +1,12 @@
 ghost use Rattle.std.specs.Prelude.{◌≡◌, ◌<◌, ◌++◌, [], ◌∷◌, length, map, Contains, IfOk, IsErrOf, OnOk, Ok};
 ghost use Rattle.ly_position.specs.Nfa.{IsRoomFor};
-ghost use Rattle.ly_subset.specs.Entry.{target_of};
+ghost use Rattle.ly_base.specs.Entry.{target_of};
 ghost use Rattle.ly_subset.specs.Private.Found.{AreKept, IsEntered, IsFull, IsNumbered};
 
-use crate::entry::Entry;
 use crate::fault::SubsetFault;
 use crate::keys::key_of;
 use crate::sets::Sets;
+use ly_base::Entry;
 use ly_position::PositionSet;
 use std::alloc::{AllocError, Global};
 

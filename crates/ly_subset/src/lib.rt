@@ -13,7 +13,6 @@
 mod classes;
 mod construct;
 mod dfa;
-mod entry;
 mod fault;
 mod found;
 mod keys;
@@ -24,7 +23,6 @@ mod sets;
 
 pub use construct::subsets;
 pub use dfa::Dfa;
-pub use entry::Entry;
 pub use fault::SubsetFault;
 pub use keys::Keys;
 pub use laws::{

@@ -3,7 +3,7 @@ use Rattle.std.specs.Prelude.{◌≡◌, ℕ, ◌<◌, ◌≤◌, ◌+◌, ◌*�
 use Rattle.std.specs.Prelude.{Option, Some}
 use Rattle.std.specs.Prelude.{None}
 use Rattle.ly_subset.specs.Automaton.{AreInOrder, Automaton, entry_at, next_by_class}
-use Rattle.ly_subset.specs.Entry.{target_of}
+use Rattle.ly_base.specs.Entry.{target_of}
 use Rattle.ly_minim.specs.Private.Signature.{block_of}
 use Rattle.ly_minim.specs.declared.blocks.Blocks.{Blocks}
 use Rattle.ly_minim.specs.declared.quotient.Quotient.{Quotient}

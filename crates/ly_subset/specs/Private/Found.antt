@@ -3,7 +3,7 @@ use Rattle.std.specs.Prelude.{◌≡◌, ◌↔◌, ℕ, ◌<◌, ◌≤◌, ◌
 use Rattle.std.specs.Prelude.{Some, None, Contains, AllPairs, ◌⊎◌, option_map}
 use Rattle.ly_position.specs.Nfa.{Nfa, Stepped, IsRoomFor}
 use Rattle.ly_subset.specs.Automaton.{AreInOrder, entry_at}
-use Rattle.ly_subset.specs.Entry.{target_of}
+use Rattle.ly_base.specs.Entry.{target_of}
 use Rattle.ly_subset.specs.Subsets.{AreSets, HasEnd, IsLeastRule, IsStateOf, set_at}
 use Rattle.ly_base.specs.declared.numbers.RuleNo.{RuleNo}
 use Rattle.ly_subset.specs.declared.found.Found.{Found}

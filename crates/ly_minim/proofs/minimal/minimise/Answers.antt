@@ -1,7 +1,7 @@
 use Rattle.std.proofs.Common.{refl, subst, sym, map}
 use Rattle.std.specs.Prelude.{option_map}
 use Rattle.ly_subset.specs.Automaton.{Automaton, IsAutomaton, IsBreadthFirst}
-use Rattle.ly_subset.specs.Entry.{with_states}
+use Rattle.ly_subset.specs.Dfa.{with_states}
 use Rattle.ly_minim.specs.Smallest.{HaveSameRules, IsReduced}
 use Rattle.ly_minim.specs.Private.Rules.{HaveRules}
 use Rattle.ly_minim.proofs.QuotientLemmas.{quotient_automaton, quotient_of, quotient_order, quotient_reduced}

@@ -3,7 +3,8 @@ use Rattle.std.proofs.lemmas.List.{length-map}
 use Rattle.std.proofs.lemmas.Result.{err_from_is_err_and}
 use Rattle.ly_subset.specs.declared.fault.SubsetFault.TheVariants.{TooManyStates}
 use Rattle.ly_subset.specs.Classes.{AreClasses}
-use Rattle.ly_subset.specs.Entry.{automaton_of, target_of}
+use Rattle.ly_base.specs.Entry.{target_of}
+use Rattle.ly_subset.specs.Dfa.{automaton_of}
 use Rattle.ly_subset.specs.Private.Classes.{AreLeast}
 use Rattle.ly_subset.specs.Private.Found.{IsPast}
 use Rattle.ly_subset.proofs.SubsetLemmas.{are_subsets, is_automaton, many_of_past}

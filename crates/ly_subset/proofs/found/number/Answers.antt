@@ -1,5 +1,5 @@
 use Rattle.std.proofs.Common.{◌<◌, ◌∙◌, ℕ, All, Contains, ap, arith, subst, sym, Some}
-use Rattle.ly_subset.specs.Entry.{target_of}
+use Rattle.ly_base.specs.Entry.{target_of}
 use Rattle.ly_subset.specs.Private.Found.{AreKept, IsNumbered}
 use Rattle.ly_subset.specs.Keys.{IsAbsent}
 use Rattle.ly_subset.specs.Private.Keys.{IsKeyOf}

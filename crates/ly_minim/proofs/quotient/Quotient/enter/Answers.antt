@@ -1,5 +1,5 @@
 use Rattle.std.proofs.Common.{◌∙◌, ◌++◌, ◌∷◌, [], ap, refl, subst, sym}
-use Rattle.ly_subset.specs.Entry.{target_of}
+use Rattle.ly_base.specs.Entry.{target_of}
 use Rattle.ly_minim.specs.Private.Quotient.{AreNumbered, IsEntered, IsMet}
 use Rattle.ly_minim.specs.declared.quotient.Quotient.{Quotient}
 use Rattle.ly_minim.proofs.QuotientLemmas.{entered_none, entered_some}

@@ -1,6 +1,6 @@
 use Rattle.std.proofs.Common.{◌<◌, ◌+◌, ◌*◌, arith, length, subst}
 use Rattle.ly_subset.specs.Automaton.{Automaton}
-use Rattle.ly_subset.specs.Entry.{automaton_of}
+use Rattle.ly_subset.specs.Dfa.{automaton_of}
 use Rattle.ly_subset.proofs.DfaLemmas.{entry_state}
 use Rattle.ly_subset.proofs.dfa.Dfa.start.Goals as goal
 

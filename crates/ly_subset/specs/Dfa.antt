@@ -1,13 +1,10 @@
--- Where entries lead, and automata in memory.
-use Rattle.std.specs.Prelude.{ℕ, List, map, Option, Some, None, option_map, nat_lt, if◌then◌else◌}
+-- Automata in memory.
+use Rattle.std.specs.Prelude.{List, map, Option, option_map}
+use Rattle.ly_base.specs.Entry.{target_of}
+use Rattle.ly_base.specs.declared.entry.Entry.{Entry}
 use Rattle.ly_base.specs.declared.numbers.RuleNo.{RuleNo}
 use Rattle.ly_subset.specs.Automaton.{Automaton}
 use Rattle.ly_subset.specs.declared.dfa.Dfa.TheInside.{Inside}
-use Rattle.ly_subset.specs.declared.entry.Entry.{Entry}
-
--- the state of an entry, if it leads to one
-abbrev pub target_of : Entry → Option ℕ
-target_of e = if nat_lt e.number 4294967295 then Some e.number else None
 
 abbrev pub automaton_of : Inside → Automaton
 automaton_of d = record {
