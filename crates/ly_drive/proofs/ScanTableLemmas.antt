@@ -1,18 +1,34 @@
 -- A scanner's rows in memory, and those of a table set.
-use Rattle.std.proofs.Common.{◌≡◌, ◌∙◌, ◌<◌, inl, inr, ℕ, zero, suc, [], ◌∷◌, map, Option, Some, ap}
+use Rattle.std.proofs.Common.{◌≡◌, ◌∙◌, ◌<◌, inl, inr, ℕ, zero, suc, [], ◌∷◌, map, Option, Some, None, ap}
 use Rattle.std.proofs.Common.{refl, sym, arith, slice_get, subst, get_or, ap₂, ◌+◌, ◌*◌, ◌++◌, length}
-use Rattle.std.specs.Prelude.{option_and_then}
+use Rattle.std.specs.Prelude.{IfSome, option_and_then, option_map}
 use Rattle.std.specs.List.{range_with_len}
 use Rattle.std.proofs.lemmas.Option.{slice_get-get_or, slice_get_past}
 use Rattle.std.proofs.lemmas.Bool.{cases_lt}
 use Rattle.std.proofs.lemmas.List.Elements.{All-get_or}
 use Rattle.std.proofs.lemmas.List.FromFn.{map-range_with_len_more}
-use Rattle.ly_pack.specs.Rows.{Entries, cell, grid_of}
+use Rattle.ly_base.specs.declared.numbers.StateNo.{StateNo}
+use Rattle.ly_pack.specs.Rows.{Comb, Entries, Used, cell, comb_entry, grid_of}
 use Rattle.ly_pack.proofs.GridLemmas.{cell-grid_of, cell-grid_of_past}
 use Rattle.ly_scan.specs.StateRows.{row_entry}
-use Rattle.ly_drive.specs.ScanPart.{ScanPart, next_in}
+use Rattle.ly_tables.proofs.EntryLemmas.{comb_entry_used}
+use Rattle.ly_drive.specs.ScanPart.{ScanPart, next_in, states_from}
 use Rattle.ly_drive.specs.Private.Tables.{part_from, IsScanTable}
 use Rattle.ly_drive.specs.declared.scan_table.ScanTable.TheInside.{Inside}
+
+-- no entry leads past a bound that no slot passes
+pub leads_within : (c : Comb StateNo) (row column : ℕ) (next : Option ℕ) (bound : ℕ)
+    → ((k : ℕ) (u : Used StateNo) → slice_get c.slots k ≡ Some (Some u) → u.entry.0 < bound)
+    → next ≡ states_from (comb_entry c) row column → IfSome next (λ n. n < bound)
+leads_within c row column next bound targets is = subst (λ o. IfSome o (λ n. n < bound)) (sym is)
+    (by_entry (comb_entry c row column) refl)
+  where
+    by_entry : (o : Option StateNo) → o ≡ comb_entry c row column
+        → IfSome (option_map (λ (s : StateNo). s.0) o) (λ n. n < bound)
+    by_entry None is = tt
+    by_entry (Some s) is =
+        let used = comb_entry_used c row column s (sym is) in
+        subst (λ (e : StateNo). e.0 < bound) used.5 (targets (used.0 + column) used.1 used.3)
 
 zero_and : (k : ℕ) → 0 + k ≡ k
 zero_and k = omega arith

@@ -1,7 +1,8 @@
-ghost use Rattle.std.specs.Prelude.{◌≡◌, ◌<◌, ◌≤◌, ◌*◌, ℕ, length, IfOk, option_map};
+ghost use Rattle.std.specs.Prelude.{◌≡◌, ◌<◌, ◌≤◌, ◌*◌, ℕ, length, slice_get, IfOk, Some, option_map};
 ghost use Rattle.ly_drive.specs.ScanPart.{condition_in, cut_in, next_in, rule_in, start_in, states_from, terminal_in};
-ghost use Rattle.ly_pack.specs.Rows.{comb_entry};
+ghost use Rattle.ly_pack.specs.Rows.{comb_entry, Used};
 ghost use Rattle.ly_scan.specs.StateRows.{row_entry};
+ghost use Rattle.ly_base.specs.declared.numbers.StateNo as number;
 
 use ly_base::{Cut, Emitted, OutOfMemory, RuleNo, StateNo, Sym};
 use ly_pack::{Comb, Rows};
@@ -107,6 +108,8 @@ pub(crate) fn spread(
 ) -> Result<StateRows, OutOfMemory>
     requires states { states < 4294967296 }
     requires classes { classes ≤ 256 }
+    requires targets { (k : ℕ) (u : Used number.StateNo) → slice_get comb.now.slots k ≡ Some (Some u)
+        → u.entry.0 < u32.MAX }
     ensures count { IfOk result (λ r. length r ≡ states * 256) }
     ensures same { IfOk result (λ r. (state class : ℕ) → state < states → class < classes
         → row_entry r state class ≡ states_from (comb_entry comb.now) state class) }

@@ -1,6 +1,7 @@
-ghost use Rattle.std.specs.Prelude.{◌≡◌, Some, ⊤};
+ghost use Rattle.std.specs.Prelude.{◌≡◌, Some, option_map, ⊤};
+ghost use Rattle.std.proofs.Props.{props};
 ghost use Rattle.ly_drive.specs.ScanPart.{cut_in, start_in, states_in};
-ghost use Rattle.ly_scan.specs.StateWalk.{ahead_of, ahead_of-ended, state_walk};
+ghost use Rattle.ly_scan.specs.StateWalk.{ahead_of, ahead_of-ended, state_walk, BeginsAlways};
 
 use crate::scan_table::ScanTable;
 use ly_base::{Cut, RuleNo, StateNo};
@@ -11,6 +12,9 @@ use ly_scan::Steps;
 pub(crate) struct TableWalk<'a> {
     /// The scanner.
     table: &'a ScanTable,
+    /// Where the initial condition begins, if that is so at the start of a line and elsewhere.
+    initial: Option<StateNo>,
+    ghost begun: { BeginsAlways (states_in table.now) (option_map (λ s. s.0) initial) } by { Prim.hlevel props },
 }
 
 impl<'a> TableWalk<'a> {
@@ -18,7 +22,23 @@ impl<'a> TableWalk<'a> {
     pub(crate) fn new(table: &'a ScanTable) -> Self
         ensures { result.table.now ≡ table.now }
     {
-        TableWalk { table }
+        TableWalk {
+            table,
+            initial: initial(table),
+        }
+    }
+}
+
+/// Where the initial condition begins, if that is so at the start of a line and elsewhere.
+fn initial(table: &ScanTable) -> Option<StateNo>
+    ensures { BeginsAlways (states_in table.now) (option_map (λ s. s.0) result) }
+{
+    let elsewhere = table.start(0, false)?;
+    let at_line_start = table.start(0, true)?;
+    if elsewhere.0 == at_line_start.0 {
+        Some(elsewhere)
+    } else {
+        None
     }
 }
 
@@ -34,7 +54,11 @@ impl Steps for TableWalk<'_> {
     ghost cut_of = { λ w. cut_in w.table.now };
 
     fn start(&mut self, condition: u32, at_line_start: bool) -> Option<StateNo> {
-        self.table.start(condition, at_line_start)
+        match self.initial {
+            // so a walk needn't wait for the byte before it
+            Some(state) if condition == 0 => Some(state),
+            _ => self.table.start(condition, at_line_start),
+        }
     }
 
     fn step(&mut self, at: StateNo, byte: u8) -> Option<StateNo> {

@@ -1,7 +1,7 @@
 -- Lemmas on walks.
 use Rattle.std.proofs.Common.{◌≡◌, ◌∙◌, ◌<◌, ◌≤◌, ◌+◌, ◌-◌, ◌++◌, ◌∷◌, [], ℕ, List, Option, Some, None, true, false}
 use Rattle.std.proofs.Common.{take, drop, length, refl, sym, ap, subst, arith, rules, is_some, get_or, inl, inr, IfSome}
-use Rattle.std.proofs.Common.{append_assoc}
+use Rattle.std.proofs.Common.{append_assoc, append-nil}
 use Rattle.std.specs.Prelude.{option_map}
 use Rattle.ly_base.specs.declared.numbers.RuleNo.{RuleNo}
 use Rattle.std.proofs.lemmas.Bool.{cases_lt}
@@ -43,15 +43,20 @@ best_same walk text i best none h = best_stays walk text i (i + 1) best (omega a
     (λ m s more within rule. let same : m ≡ i + 1 = omega arith in
     let P : ℕ → Type 0 = λ k. walk (take k text) ≡ Some (Some s) in two_rules _ _ none (subst P same rule)) h
 
--- one more byte with a rule
-pub best_more : (walk : Walk) (text : List ℕ) (i r : ℕ) → walk (take (i + 1) text) ≡ Some (Some r)
-    → IsLongest walk text (i + 1) (i + 1) r
-best_more walk text i r rule = record {
-  some_byte = omega arith;
+-- of the beginnings up to one that has a rule it is the longest
+best_at : (walk : Walk) (text : List ℕ) (n r : ℕ) → 1 ≤ n → walk (take n text) ≡ Some (Some r)
+    → IsLongest walk text n n r
+best_at walk text n r some rule = record {
+  some_byte = some;
   within = omega arith;
   has_rule = rule;
   longest = λ m s more within other. absurd (omega arith);
 }
+
+-- one more byte with a rule
+pub best_more : (walk : Walk) (text : List ℕ) (i r : ℕ) → walk (take (i + 1) text) ≡ Some (Some r)
+    → IsLongest walk text (i + 1) (i + 1) r
+best_more walk text i r rule = best_at walk text (i + 1) r (omega arith) rule
 
 -- a walk that has ended has no rule further on
 pub best_ended : (walk : Walk) (text : List ℕ) (i : ℕ) (best : Option (ℕ × RuleNo)) → i ≤ length text
@@ -92,3 +97,20 @@ told (Some b) a h k = ap (λ z. Some z) (sym k)
 pub none_from_start : (walk : Walk) (text : List ℕ) → ((t u : List ℕ) → walk t ≡ None → walk (t ++ u) ≡ None)
     → walk [] ≡ None → (m s : ℕ) → 1 ≤ m → m ≤ length text → walk (take m text) ≡ Some (Some s) → ⊥
 none_from_start walk text stays none m s one within rule = clash _ _ (stays [] (take m text) none) rule
+
+-- a walk that goes no further has a rule where it stands
+pub ends_best : (walk start there : Walk) (text : List ℕ) (n : ℕ) (r : RuleNo)
+    → ((t u : List ℕ) → walk t ≡ None → walk (t ++ u) ≡ None) → 0 < n → n ≤ length text
+    → ((more : List ℕ) → start more ≡ walk more) → ((more : List ℕ) → there more ≡ start (take n text ++ more))
+    → is_some (there []) ≡ true → IfSome (there []) (λ rule. Some r.0 ≡ rule)
+    → (n < length text → start (take (n + 1) text) ≡ None) → IsLongest walk text (length text) n r.0
+ends_best walk start there text n r stays some within begins on alive rule ended = elim (cases_lt n (length text)) [
+  | inl less ↦ best_ended walk text n (Some (n, r)) within stays
+      (sym (begins (take (n + 1) text)) ∙ ended less) best
+  | inr whole ↦ let same : n ≡ length text = omega arith in
+      subst (λ k. IsLongest walk text k n r.0) same best
+]
+  where
+    best : IsLongest walk text n n r.0
+    best = best_at walk text n r.0 some (sym (begins (take n text)) ∙ ap start (sym (append-nil (take n text)))
+        ∙ sym (on []) ∙ told (there []) (Some r.0) (sym alive) rule)

@@ -1,5 +1,5 @@
 -- Walks over numbered states.
-use Rattle.std.specs.Prelude.{◌≡◌, ◌++◌, ℕ, List, [], ◌∷◌, Bool, Option, Some, None, option_and_then, refl}
+use Rattle.std.specs.Prelude.{◌≡◌, ◌++◌, ℕ, List, [], ◌∷◌, Bool, IfSome, Option, Some, None, option_and_then, refl}
 use Rattle.std.proofs.Common.{◌∙◌, ap}
 use Rattle.ly_scan.specs.Walk.{Walk}
 
@@ -9,6 +9,10 @@ pub record States : Type 0 where
   pub start : ℕ → Bool → Option ℕ
   pub next : ℕ → ℕ → Option ℕ
   pub rule : ℕ → Option ℕ
+
+-- the initial condition begins in this state, at the start of a line or not
+abbrev pub BeginsAlways : States → Option ℕ → Type 0
+BeginsAlways S initial = IfSome initial (λ s. (line : Bool) → S.start 0 line ≡ Some s)
 
 -- the state after a string; none is a walk that has ended
 abbrev pub state_after : States → Option ℕ → List ℕ → Option ℕ

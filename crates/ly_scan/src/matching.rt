@@ -1,4 +1,4 @@
-ghost use Rattle.std.specs.Prelude.{◌≡◌, length};
+ghost use Rattle.std.specs.Prelude.{◌≡◌, ◌<◌, ◌≤◌, ◌+◌, ℕ, List, [], ◌++◌, length, take, true, is_some, None};
 ghost use Rattle.ly_scan.specs.Cuts.{token_len};
 ghost use Rattle.ly_scan.specs.Matching.{IsMatch};
 ghost use Rattle.ly_scan.specs.Walk.{IsBest, better_of};
@@ -46,6 +46,52 @@ pub fn next_match<S: Steps>(
 
 /// The length of the longest walk that has a rule, and the rule.
 pub(crate) fn longest<S: Steps>(
+    steps: &mut S,
+    condition: u32,
+    at_line_start: bool,
+    rest: &[u8],
+) -> Option<(usize, RuleNo)>
+    ensures best { IsBest (S.walk steps.old condition at_line_start) rest.now (length rest.now) result }
+    ensures same_walk { S.walk steps.new ≡ S.walk steps.old }
+    ensures same_cuts { S.cut_of steps.new ≡ S.cut_of steps.old }
+{
+    let Some(start) = steps.start(condition, at_line_start) else {
+        return None;
+    };
+    let (passed, at) = walk_on(steps, start, rest);
+    // most walks end where a rule matches, so it is looked for there first
+    match steps.accept(at) {
+        Some(rule) if 0 < passed => Some((passed, rule)),
+        _ => best_passed(steps, condition, at_line_start, rest),
+    }
+}
+
+/// Walks over bytes as far as it goes: how many they are, and where it stands behind them.
+fn walk_on<S: Steps>(steps: &mut S, start: S::At, bytes: &[u8]) -> (usize, S::At)
+    requires stands { S.stands steps.old start }
+    requires alive { is_some (S.ahead steps.old start []) ≡ true }
+    ensures within { result.0 ≤ length bytes.now }
+    ensures stands { S.stands steps.new result.1 }
+    ensures alive { is_some (S.ahead steps.new result.1 []) ≡ true }
+    ensures ahead { (text : List ℕ) → S.ahead steps.new result.1 text
+        ≡ S.ahead steps.old start (take result.0 bytes.now ++ text) }
+    ensures ended { result.0 < length bytes.now → S.ahead steps.old start (take (result.0 + 1) bytes.now) ≡ None }
+    ensures same_walk { S.walk steps.new ≡ S.walk steps.old }
+    ensures same_cuts { S.cut_of steps.new ≡ S.cut_of steps.old }
+{
+    let mut at = start;
+    for (passed, byte) in bytes.iter().enumerate() {
+        let Some(next) = steps.step(at, *byte) else {
+            return (passed, at);
+        };
+        at = next;
+    }
+    (bytes.len(), at)
+}
+
+/// The best of the places that a walk passes.
+#[cold]
+fn best_passed<S: Steps>(
     steps: &mut S,
     condition: u32,
     at_line_start: bool,

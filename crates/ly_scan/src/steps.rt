@@ -31,13 +31,16 @@ pub trait Steps {
         ensures same_walk { walk self.new ≡ walk self.old }
         ensures same_cuts { cut_of self.new ≡ cut_of self.old };
 
-    /// Where the walk stands after a byte more. None where that ends it. It goes on from there alone.
+    /// Where the walk stands after a byte more, and it goes on from there alone. None where the byte would end it: it
+    /// still stands where it stood.
     fn step(&mut self, at: Self::At, byte: u8) -> Option<Self::At>
         requires { stands self.old at }
         ensures alive { is_some result ≡ is_some (ahead self.old at (byte ∷ [])) }
         ensures stands { IfSome result (stands self.new) }
         ensures there { IfSome result (λ next. (text : List ℕ)
             → ahead self.new next text ≡ ahead self.old at (byte ∷ text)) }
+        ensures stays { result ≡ None → stands self.new at }
+        ensures same_ahead { result ≡ None → (text : List ℕ) → ahead self.new at text ≡ ahead self.old at text }
         ensures same_walk { walk self.new ≡ walk self.old }
         ensures same_cuts { cut_of self.new ≡ cut_of self.old };
 

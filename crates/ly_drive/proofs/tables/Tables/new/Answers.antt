@@ -1,6 +1,13 @@
-use Rattle.std.proofs.Common.{◌∙◌}
+use Rattle.std.proofs.Common.{◌∙◌, arith}
 use Rattle.ly_drive.proofs.TablesLemmas.{same_machine, same_part}
 use Rattle.ly_drive.proofs.tables.Tables.new.Goals as goal
+
+pub spread-requires-clause-targets : goal.spread-requires-clause-targets
+spread-requires-clause-targets c = λ k u is. omega (
+  arith,
+  c.requires.scan_targets k u is,
+  c.requires.scan_state_count,
+)
 
 pub returns-clause-scanner : goal.returns-clause-scanner
 returns-clause-scanner c = same_part c.args.parts c.in_ok-rows.rows c.len.result

@@ -1,0 +1,11 @@
+use Rattle.std.proofs.Common.{◌≡◌, rules}
+use Rattle.ly_pack.specs.Rows.{comb_entry}
+use Rattle.ly_drive.specs.ScanPart.{states_from}
+use Rattle.ly_drive.proofs.ScanTableLemmas.{leads_within}
+use Rattle.ly_drive.proofs.scan_table.spread.Goals as goal
+
+pub set-requires-clause-next : goal.set-requires-clause-next
+set-requires-clause-next c =
+    let is : c.map.result ≡ states_from (comb_entry c.args.comb.now) c.loop-state.state c.loop-class.class
+    = search rules in
+    leads_within c.args.comb.now c.loop-state.state c.loop-class.class c.map.result 4294967295 c.requires.targets is
