@@ -1,15 +1,20 @@
 -- The lines of a text, lexeme by lexeme.
 use Rattle.std.proofs.Common.{◌≡◌, ◌∙◌, ℕ, List, [], ◌∷◌, ◌++◌, take, Bool, Option, Some, None, refl, sym, ap, subst}
-use Rattle.std.proofs.Common.{append_assoc, append-nil}
+use Rattle.std.proofs.Common.{◌≤◌, Result, Ok, Err, IfErr, IsErrAnd, append_assoc, append-nil, arith, length}
 use Rattle.ly_base.specs.Lexed.{Place, Leads, Lexed, Token, moved, token_if, tokens_from}
 use Rattle.ly_base.specs.Text.{Named, leaf_line}
 use Rattle.ly_base.specs.declared.cut.Cut.{Cut}
 use Rattle.ly_base.specs.declared.lexeme.End.{End}
 use Rattle.ly_base.specs.declared.lexeme.Lexeme.{Lexeme}
+use Rattle.ly_base.specs.TextWriter.{IsAppended, IsCutShort, IsUnderway, Outgoing}
+use Rattle.ly_base.specs.declared.whole.WriteFault.{WriteFault}
+use Rattle.ly_base.proofs.TextWriterLemmas.{cut_more}
 use Rattle.ly_base.proofs.LexedLemmas.{leads_more, leads_on, tokens_more}
 use Rattle.ly_lexread.specs.declared.action.Action.{Action}
 use Rattle.ly_scan.specs.Lexer.{ScanEndsAt, IsLexemeAt, Scanner}
 use Rattle.ly_scan.specs.Walk.{Walk}
+use Rattle.ly_drive.proofs.LexingLemmas.{lexes, tokens_on}
+use Rattle.ly_engine.specs.Private.TokenLines.{AreLines}
 use Rattle.ly_engine.specs.Printing.{condition_set, end_line, line_if, naming, printed}
 
 -- the line of one token
@@ -74,3 +79,64 @@ all_told actions s here p q e lines more same ends n f = (
   n ∙ ap (λ z. z ++ end_line e) (f.2
       ∙ ap (λ ts. printed (tokens_from (naming actions) p.at p.rest ts)) (sym (append-nil f.0))),
 )
+
+-- the lines of a beginning go on to some end
+pub begins : (actions : List Action) (s : Scanner) (p q : Place) (told : List ℕ) → SoFar actions s p q told
+    → (e : End) × (more : List ℕ) × AreLines s actions p e (told ++ more)
+begins actions s p q told f =
+    let all : length q.rest ≤ length q.rest = omega arith in
+    let run = lexes s (condition_set actions) (length q.rest) q all in
+    let before = tokens_from (naming actions) p.at p.rest f.0 in
+    let behind = tokens_from (naming actions) q.at q.rest run.0 in (
+      run.1,
+      printed behind ++ end_line run.1,
+      (
+        f.0 ++ run.0,
+        leads_on (IsLexemeAt s) (ScanEndsAt s) (condition_set actions) p q f.0 run.0 run.1 f.1 run.2,
+        ap (λ z. z ++ (printed behind ++ end_line run.1)) f.2
+            ∙ sym (append_assoc (printed before) (printed behind) (end_line run.1))
+            ∙ ap (λ z. z ++ end_line run.1) (sym (printed_append before behind)
+            ∙ ap printed (sym (tokens_on (naming actions) (IsLexemeAt s) (condition_set actions) p q f.0 run.0 f.1))),
+      ),
+    )
+
+-- nothing is on its way yet
+pub nothing_yet : (c : Option (List ℕ)) → IsUnderway c c (record { sent = 0; held = [] }) []
+nothing_yet None = record { within = omega arith; went_out = tt; held_back = refl }
+nothing_yet (Some bytes) = record { within = omega arith; went_out = sym (append-nil bytes); held_back = refl }
+
+module _ (o o' : Outgoing) (before now : Option (List ℕ)) (lines : List ℕ) (none : o ≡ record { sent = 0; held = [] })
+  where
+    -- all that has come is on its way
+    pub underway_from : IsAppended o o' before now lines (Ok tt) → IsUnderway before now o' lines
+    underway_from come
+        = subst (λ (x : Outgoing). IsAppended x o' before now lines (Ok tt)) none come before [] (nothing_yet before)
+
+    -- the writer failed: only a beginning of it went out
+    pub cut_from : (fault : WriteFault) → IsAppended o o' before now lines (Err fault)
+        → IsCutShort before now fault.written lines
+    cut_from fault come
+        = subst (λ (x : Outgoing). IsAppended x o' before now lines (Err fault)) none come before []
+        (nothing_yet before)
+
+-- the writer failed at the lines of a beginning: what went out is a beginning of the lines to some end
+pub fails_at : (actions : List Action) (s : Scanner) (p q : Place) (told : List ℕ) (o o' : Outgoing)
+    (before now : Option (List ℕ)) (fault : WriteFault) → o ≡ record { sent = 0; held = [] } → SoFar actions s p q told
+    → IsAppended o o' before now told (Err fault)
+    → (e : End) × ((lines : List ℕ) × AreLines s actions p e lines × IsCutShort before now fault.written lines)
+fails_at actions s p q told o o' before now fault none f failed =
+    let run = begins actions s p q told f in (
+      run.0,
+      (
+        told ++ run.1,
+        run.2,
+        cut_more before now fault.written told run.1
+            (cut_from o o' before now told none fault failed),
+      ),
+    )
+
+-- the `?` passes a fault on
+pub err_is : {T : Type 0} (r : Result T WriteFault) (f : WriteFault) (P : WriteFault → Type 0)
+    → IsErrAnd r (λ e. e ≡ f) → P f → IfErr r P
+err_is (Ok x) f P h p = tt
+err_is (Err e) f P h p = subst P (sym h) p

@@ -9,6 +9,7 @@ pub mod Headline
 pub mod Laws
 pub mod PositionWalk
 pub mod Printing
+pub mod Private
 pub mod RowWalk
 pub mod SpecAnswer
 pub mod TokensFault

@@ -55,3 +55,9 @@ IsOfScanner (Positions fault) = Unit {0}
 IsOfScanner (States fault) = Unit {0}
 IsOfScanner OutOfMemory = Unit {0}
 IsOfScanner _ = ⊥
+
+-- a failed write, or want of memory
+abbrev pub IsOfOutput : TokensFault → Type 0
+IsOfOutput (Write written) = Unit {0}
+IsOfOutput OutOfMemory = Unit {0}
+IsOfOutput _ = ⊥

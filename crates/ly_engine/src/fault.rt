@@ -30,7 +30,8 @@ pub enum TokensFault {
         /// How many bytes went out.
         written: usize,
     },
-    /// A growth was refused. Nothing was written.
+    /// A growth was refused, or the lines of so long a text might have more bytes than a usize counts. Nothing was
+    /// written.
     #[error("out of memory")]
     OutOfMemory,
 }

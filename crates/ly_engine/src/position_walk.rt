@@ -38,17 +38,6 @@ impl<'a> PositionWalk<'a> {
             next: nfa.set(alloc)?,
         })
     }
-
-    /// Whether the walk stands anywhere.
-    fn stands(&self) -> Option<()>
-        ensures { is_some result ≡ not (nat_eq (length self.now.current.positions.members) 0) }
-    {
-        if self.current.members().is_empty() {
-            None
-        } else {
-            Some(())
-        }
-    }
 }
 
 impl Steps for PositionWalk<'_> {
@@ -65,13 +54,14 @@ impl Steps for PositionWalk<'_> {
 
     fn start(&mut self, condition: u32, at_line_start: bool) -> Option<()> {
         self.current.fill(self.nfa.start(condition, at_line_start));
-        self.stands()
+        stands(&self.current)
     }
 
     fn step(&mut self, _at: (), byte: u8) -> Option<()> {
         self.nfa.step(&self.current, byte, &mut self.next);
+        stands(&self.next)?;
         mem::swap(&mut self.current, &mut self.next);
-        self.stands()
+        Some(())
     }
 
     fn accept(&self, _at: ()) -> Option<RuleNo> {
@@ -87,6 +77,17 @@ impl Steps for PositionWalk<'_> {
 
     ghost stays_ended = { λ w condition line text more h. positions_ahead-ended w.nfa.now
         (starts_of w.nfa.now condition line) text more h };
+}
+
+/// Whether there is a position where a walk stands.
+fn stands(positions: &PositionSet) -> Option<()>
+    ensures { is_some result ≡ not (nat_eq (length positions.now.positions.members) 0) }
+{
+    if positions.members().is_empty() {
+        None
+    } else {
+        Some(())
+    }
 }
 
 /// The least rule whose pattern ends at one of some positions.

@@ -1,8 +1,8 @@
-ghost use Rattle.std.specs.Prelude.{◌≡◌, ◌<◌, length, IfOk, Some};
+ghost use Rattle.std.specs.Prelude.{◌≡◌, ◌<◌, length, IfOk, IfSome, Some};
 ghost use Rattle.std.proofs.Props.{props};
 ghost use Rattle.ly_engine.specs.PositionWalk.{cut_in};
 ghost use Rattle.ly_engine.specs.RowWalk.{row_walk, rows_of, AreRowsOf};
-ghost use Rattle.ly_scan.specs.StateWalk.{ahead_of, ahead_of-ended};
+ghost use Rattle.ly_scan.specs.StateWalk.{ahead_of, ahead_of-ended, BeginsAlways};
 ghost use Rattle.ly_subset.specs.Automaton.{start_of};
 
 use ly_base::{Cut, OutOfMemory, RuleNo};
@@ -18,8 +18,12 @@ pub struct RowWalk<'a> {
     dfa: &'a Dfa,
     /// The rules that it tells.
     rules: &'a [Rule],
+    /// Where the initial condition begins, if that is so at the start of a line and elsewhere.
+    initial: Option<u32>,
     /// Where each byte leads from each state.
     rows: StateRows,
+    ghost begun: { BeginsAlways (rows_of dfa.now) initial } by { Prim.hlevel props },
+    ghost known: { IfSome initial (λ s. s < length dfa.now.rules) } by { Prim.hlevel props },
     ghost spread: { AreRowsOf dfa.now rows } by { Prim.hlevel props },
 }
 
@@ -32,8 +36,23 @@ impl<'a> RowWalk<'a> {
         Ok(RowWalk {
             dfa,
             rules,
+            initial: initial(dfa),
             rows: spread(alloc, dfa)?,
         })
+    }
+}
+
+/// Where the initial condition begins, if that is so at the start of a line and elsewhere.
+fn initial(dfa: &Dfa) -> Option<u32>
+    ensures begins { BeginsAlways (rows_of dfa.now) result }
+    ensures known { IfSome result (λ s. s < length dfa.now.rules) }
+{
+    let elsewhere = dfa.start(0, false)?;
+    let at_line_start = dfa.start(0, true)?;
+    if elsewhere == at_line_start {
+        Some(elsewhere)
+    } else {
+        None
     }
 }
 
@@ -42,7 +61,9 @@ fn spread(alloc: Global, dfa: &Dfa) -> Result<StateRows, OutOfMemory>
     ensures { IfOk result (AreRowsOf dfa.now) }
 {
     // more states than have a number have no room either
-    let states = u32::try_from(dfa.len()).map_err(|_| OutOfMemory)?;
+    let Ok(states) = u32::try_from(dfa.len()) else {
+        return Err(OutOfMemory);
+    };
     let mut rows = StateRows::new(alloc, dfa.len())?;
     for state in 0..states {
         for byte in 0..256usize {
@@ -64,7 +85,11 @@ impl Steps for RowWalk<'_> {
     ghost cut_of = { λ w. cut_in w.rules.now };
 
     fn start(&mut self, condition: u32, at_line_start: bool) -> Option<u32> {
-        self.dfa.start(condition, at_line_start)
+        match self.initial {
+            // so a walk needn't wait for the byte before it
+            Some(state) if condition == 0 => Some(state),
+            _ => self.dfa.start(condition, at_line_start),
+        }
     }
 
     fn step(&mut self, at: u32, byte: u8) -> Option<u32> {

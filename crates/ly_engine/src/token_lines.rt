@@ -1,59 +1,103 @@
-ghost use Rattle.std.specs.Prelude.{◌≡◌, ◌<◌, ◌++◌, List, length, slice_get, IfOk, OnOk, option_map};
-ghost use Rattle.ly_base.specs.Lexed.{Lexed, tokens_from};
-ghost use Rattle.ly_base.specs.Text.{named};
-ghost use Rattle.ly_base.specs.declared.lexeme.Lexeme.{Lexeme};
-ghost use Rattle.ly_scan.specs.Lexer.{ScanEndsAt, IsLexemeAt, Scanner};
-ghost use Rattle.ly_engine.specs.Printing.{condition_set, end_line, line_if, naming, printed};
+ghost use Rattle.std.specs.Prelude.{◌≡◌, ◌<◌, ◌≤◌, ◌+◌, ◌^◌, ℕ, List, [], All, length, option_map};
+ghost use Rattle.std.specs.Prelude.{IfOk, IfErr, OnOk, OnErr};
+ghost use Rattle.std.specs.Bool.{OnTrue};
+ghost use Rattle.std.specs.Io.KnownBytes.{Appends};
+ghost use Rattle.ly_base.specs.Device.{next_count};
+ghost use Rattle.ly_base.specs.Text.{named, no_rule_line};
+ghost use Rattle.ly_base.specs.TextWriter.{bytes_of, IsAppended, IsCutShort};
+ghost use Rattle.ly_scan.specs.Lexer.{Scanner};
+ghost use Rattle.ly_engine.specs.Printing.{condition_set, end_line, line_if, naming};
+ghost use Rattle.ly_engine.specs.Private.TokenLines.{name_len, AreCountable, AreLines};
 
-use ly_base::{End, RuleNo, Terminal, TextBuffer, push_no_rule_line};
+use ly_base::{End, RuleNo, Sink, Terminal, TextWriter, WriteFault};
 use ly_lexread::{Action, Returned};
 use ly_scan::{Lexer, Steps};
-use std::alloc::{AllocError, Global};
 
-/// The lines of the tokens that a lexer finds from where it stands, with a last one where no rule matches, and how
-/// its run ends.
-pub(crate) fn token_lines<S: Steps + Drop>(
-    alloc: Global,
+/// Writes the lines of the tokens that a lexer finds from where it stands, with a last one where no rule matches, and
+/// answers how its run ends.
+pub(crate) fn write_token_lines<S: Steps + Drop, W: Sink>(
     lexer: &mut Lexer<'_, S>,
     actions: &[Action],
-) -> Result<(End, Vec<u8>), AllocError>
-    ensures { let scanner : Scanner = record { walk = S.walk lexer.old.steps; cut = S.cut_of lexer.old.steps } in
-        IfOk result (λ found. (ts : List Lexeme)
-        × Lexed (IsLexemeAt scanner) (ScanEndsAt scanner) (condition_set actions.now) lexer.old.place ts found.0
-        × (found.1.items ≡ printed (tokens_from (naming actions.now) lexer.old.place.at lexer.old.place.rest ts)
-        ++ end_line found.0)) }
+    empty: TextWriter,
+    writer: &mut W,
+) -> Result<End, WriteFault>
+    requires none { empty ≡ record { sent = 0; held = [] } }
+    requires countable { AreCountable actions.now (length lexer.old.place.rest) }
+    ensures told { let scanner : Scanner = record { walk = S.walk lexer.old.steps; cut = S.cut_of lexer.old.steps } in
+        IfOk result (λ e. (lines : List ℕ) × AreLines scanner actions.now lexer.old.place e lines
+        × Appends (W.contents writer.old) (W.contents writer.new) lines) }
+    ensures cut_short { let scanner : Scanner
+        = record { walk = S.walk lexer.old.steps; cut = S.cut_of lexer.old.steps } in
+        IfErr result (λ fault. (e : End) × ((lines : List ℕ) × AreLines scanner actions.now lexer.old.place e lines
+        × IsCutShort (W.contents writer.old) (W.contents writer.new) fault.written lines)) }
+    ensures no_failure { OnOk result (W.failures writer.new ≡ W.failures writer.old) }
+    ensures failed { OnErr result (W.failures writer.new ≡ next_count (W.failures writer.old)) }
 {
-    let mut lines = TextBuffer::new(alloc)?;
+    let mut lines = empty;
     loop {
         match lexer.next_lexeme() {
             Ok(lexeme) => {
                 let token = &lexer.place.rest()[..lexeme.taken];
-                push_token(&mut lines, actions, lexeme.rule, token)?;
+                push_token(&mut lines, writer, actions, lexeme.rule, token)?;
                 let begin = condition_set(actions, lexeme.rule);
                 lexer.place.advance(lexeme.taken, begin);
             }
             Err(end) => {
-                let mut lines = lines.into_bytes()?;
-                push_end(&mut lines, end)?;
-                return Ok((end, lines));
+                push_end(&mut lines, writer, end)?;
+                lines.finish(writer)?;
+                return Ok(end);
             }
         }
     }
 }
 
+/// Whether the lines of so many bytes' tokens can be counted. It may say no where names are so long that none could be
+/// held.
+pub(crate) fn are_countable(actions: &[Action], bytes: usize) -> bool
+    ensures { OnTrue result (AreCountable actions.now bytes) }
+{
+    let Some(each) = longest_name(actions).checked_add(16) else {
+        return false;
+    };
+    match bytes.checked_mul(each) {
+        Some(len) => len < usize::MAX - 64,
+        None => false,
+    }
+}
+
+/// The length of the longest name of a token that an action returns.
+fn longest_name(actions: &[Action]) -> usize
+    ensures { All (λ a. name_len a.returns ≤ result) actions.now }
+{
+    let mut longest = 0;
+    for action in actions {
+        if let Returned::Token(name) = &action.returns {
+            longest = longest.max(name.len());
+        }
+    }
+    longest
+}
+
 /// Appends the line of a lexeme's token, if the rule's action returns one.
-fn push_token(
-    lines: &mut TextBuffer,
+fn push_token<W: Sink>(
+    lines: &mut TextWriter,
+    writer: &mut W,
     actions: &[Action],
     rule: RuleNo,
     token: &[u8],
-) -> Result<(), AllocError>
-    requires { 0 < length token.now }
-    ensures { OnOk result
-        (lines.new ≡ lines.old ++ line_if (naming actions.now rule.0 token.now) token.now) }
+) -> Result<(), WriteFault>
+    requires some { 0 < length token.now }
+    requires countable { bytes_of lines.old + length (line_if (naming actions.now rule.0 token.now) token.now)
+        < 2 ^ 64 }
+    ensures text { IsAppended lines.old lines.new (W.contents writer.old) (W.contents writer.new)
+        (line_if (naming actions.now rule.0 token.now) token.now) result }
+    ensures counted { OnOk result (bytes_of lines.new
+        ≡ bytes_of lines.old + length (line_if (naming actions.now rule.0 token.now) token.now)) }
+    ensures no_failure { OnOk result (W.failures writer.new ≡ W.failures writer.old) }
+    ensures failed { OnErr result (W.failures writer.new ≡ next_count (W.failures writer.old)) }
 {
     match terminal_for(actions, rule, token) {
-        Some(terminal) => lines.push_leaf_line(terminal, token),
+        Some(terminal) => lines.push_leaf_line(writer, terminal, token),
         None => Ok(()),
     }
 }
@@ -79,11 +123,28 @@ fn condition_set(actions: &[Action], rule: RuleNo) -> Option<u32>
 }
 
 /// Appends the last line.
-fn push_end(lines: &mut Vec<u8>, end: End) -> Result<(), AllocError>
-    ensures { OnOk result (lines.new.items ≡ lines.old.items ++ end_line end) }
+fn push_end<W: Sink>(lines: &mut TextWriter, writer: &mut W, end: End) -> Result<(), WriteFault>
+    requires countable { bytes_of lines.old + 64 < 2 ^ 64 }
+    ensures text { IsAppended lines.old lines.new (W.contents writer.old) (W.contents writer.new)
+        (end_line end) result }
+    ensures counted { OnOk result (bytes_of lines.new ≤ bytes_of lines.old + 64) }
+    ensures no_failure { OnOk result (W.failures writer.new ≡ W.failures writer.old) }
+    ensures failed { OnErr result (W.failures writer.new ≡ next_count (W.failures writer.old)) }
 {
     match end {
         End::Clean | End::BadCut { .. } => Ok(()),
-        End::Stuck { byte } => push_no_rule_line(lines, byte as u64),
+        End::Stuck { byte } => push_stuck(lines, writer, byte as u64),
     }
+}
+
+/// Appends the line that says at which byte no rule matches.
+fn push_stuck<W: Sink>(lines: &mut TextWriter, writer: &mut W, byte: u64) -> Result<(), WriteFault>
+    requires countable { bytes_of lines.old + 64 < 2 ^ 64 }
+    ensures text { IsAppended lines.old lines.new (W.contents writer.old) (W.contents writer.new)
+        (no_rule_line byte) result }
+    ensures counted { OnOk result (bytes_of lines.new ≤ bytes_of lines.old + 64) }
+    ensures no_failure { OnOk result (W.failures writer.new ≡ W.failures writer.old) }
+    ensures failed { OnErr result (W.failures writer.new ≡ next_count (W.failures writer.old)) }
+{
+    lines.push_no_rule_line(writer, byte)
 }

@@ -1,8 +1,9 @@
-ghost use Rattle.std.specs.Prelude.{◌≡◌, ℕ, ◌<◌, ◌≤◌, List, length, take, Err, IfSome, IfOk, IfErr, IsErrOf, OnOk};
+ghost use Rattle.std.specs.Prelude.{◌≡◌, ℕ, ◌<◌, ◌≤◌, List, length, take, Err, IfOk, IfErr, IsErrOf, OnOk};
 ghost use Rattle.std.specs.Io.KnownBytes.{Appends, IsAtEnd};
 ghost use Rattle.ly_ere.specs.Names.{defined};
 ghost use Rattle.ly_base.specs.Device.{next_count};
 ghost use Rattle.ly_base.specs.Limits.{version_1};
+ghost use Rattle.ly_base.specs.TextWriter.{IsCutShort};
 ghost use Rattle.ly_base.specs.declared.lexeme.End.{End};
 ghost use Rattle.ly_lexread.specs.Faults.{IsOfText, IsTooHeavy};
 ghost use Rattle.ly_lexread.specs.LexText.{IsHeavyText, IsLight, LexText};
@@ -18,21 +19,22 @@ ghost use Rattle.ly_engine.specs.Agreement.{Agrees};
 ghost use Rattle.ly_engine.specs.Answering.{IsAnswer};
 ghost use Rattle.ly_engine.specs.Answers.{Answers, AreTooHeavy, HaveTooManyStates};
 ghost use Rattle.ly_engine.specs.Printing.{end_of, LeavesTokens};
-ghost use Rattle.ly_engine.specs.TokensFault.{IsBeforeReading, IsBeforeWriting, IsWrite};
+ghost use Rattle.ly_engine.specs.TokensFault.{IsBeforeReading, IsBeforeWriting, IsOfOutput, IsWrite};
+ghost use Rattle.ly_engine.specs.Private.FileAnswers.{FileAnswers};
 
 use crate::fault::TokensFault;
 use crate::outcome::TokenEnd;
 use crate::row_walk::RowWalk;
 use crate::scanner::smallest_automaton;
-use crate::token_lines::token_lines;
-use ly_base::{End, Limits, Sink, Source, read_whole, write_whole};
+use crate::token_lines::{are_countable, write_token_lines};
+use ly_base::{End, Limits, Sink, Source, TextWriter, read_whole};
 use ly_lexread::{LexFile, read_lex};
 use ly_scan::{Lexer, Steps};
-use std::alloc::{AllocError, Global};
+use std::alloc::Global;
 
 /// Writes the tokens of a text under a lex file (POSIX, XCU lex), a line for each, and a last line if no
-/// rule matches somewhere. The text is all that the reader gives. Nothing is written before the whole
-/// answer is known.
+/// rule matches somewhere. The text is all that the reader gives. It is read whole before a byte is
+/// written; then the lines are written while the tokens are found, and only a write can fail.
 ///
 /// Its faults are those of `TokensFault`.
 pub fn tokens<R: Source, W: Sink>(
@@ -67,57 +69,71 @@ pub fn tokens<R: Source, W: Sink>(
     ensures untouched { IfErr result (λ e. IsBeforeWriting e → writer.new ≡ writer.old) }
 {
     let file = read_lex(alloc, lex, &Limits::V1)?;
-    let (end, lines) = answer_to_text(alloc, &file, reader)?;
-    write_whole(writer, &lines)?;
-    Ok(end)
+    write_answer(alloc, &file, reader, writer)
 }
 
-/// The answer to the text that a reader gives, under a lex file: how its tokens end, and the bytes to be
-/// written.
-fn answer_to_text<R: Source>(
+/// Writes the answer to the text that a reader gives, under a lex file, and answers how its tokens end.
+fn write_answer<R: Source, W: Sink>(
     alloc: Global,
     file: &LexFile,
     reader: &mut R,
-) -> Result<(TokenEnd, Vec<u8>), TokensFault>
+    writer: &mut W,
+) -> Result<TokenEnd, TokensFault>
     requires spelled { (bytes : List ℕ) × LexText bytes file.now }
-    ensures made { IfOk result (λ a. (text : List ℕ) × IfSome (R.remaining reader.old) (λ bytes. text ≡ bytes)
-        × IsAnswer (defined file.now.names) file.now.rules.items file.now.actions.items text (end_of a.0) a.1.items) }
+    ensures answered { IfOk result (λ end. (answer : List ℕ)
+        × FileAnswers version_1 file.now (R.remaining reader.old) (end_of end) answer
+        × Appends (W.contents writer.old) (W.contents writer.new) answer) }
+    ensures beginning { (written : ℕ) → result ≡ Err (TokensFault.Write written) → (e : End) × ((answer : List ℕ)
+        × FileAnswers version_1 file.now (R.remaining reader.old) e answer
+        × IsCutShort (W.contents writer.old) (W.contents writer.new) written answer) }
     ensures refused { (fault : LexFault) → result ≡ Err (TokensFault.Lex fault) → ⊥ }
-    ensures within { OnOk result (total_weight (defined file.now.names) file.now.rules.items ≤ version_1.total_weight) }
     ensures heavy { (fault : PosFault) → result ≡ Err (TokensFault.Positions fault) → (fault ≡ TooManyPositions)
         × (version_1.total_weight < total_weight (defined file.now.names) file.now.rules.items) }
-    ensures few { OnOk result (HaveMoreSets (defined file.now.names) file.now.rules.items file.now.conditions
-        version_1.scanner_states → ⊥) }
     ensures many { (fault : SubsetFault) → result ≡ Err (TokensFault.States fault) → (fault ≡ TooManyStates)
         × (total_weight (defined file.now.names) file.now.rules.items ≤ version_1.total_weight)
         × HaveMoreSets (defined file.now.names) file.now.rules.items file.now.conditions version_1.scanner_states }
     ensures ended { OnOk result (IsAtEnd (R.remaining reader.new)) }
-    ensures unread { IfErr result (λ e. IsBeforeReading e → reader.new ≡ reader.old) }
     ensures read { IsErrOf result TokensFault.Read → R.failures reader.new ≡ next_count (R.failures reader.old) }
-    ensures held { (IsErrOf result TokensFault.Read → ⊥) → R.failures reader.new ≡ R.failures reader.old }
-    ensures before { IfErr result IsBeforeWriting }
+    ensures reader_held { (IsErrOf result TokensFault.Read → ⊥) → R.failures reader.new ≡ R.failures reader.old }
+    ensures write { IfErr result (λ e. IsWrite e → W.failures writer.new ≡ next_count (W.failures writer.old)) }
+    ensures writer_held { OnOk result (W.failures writer.new ≡ W.failures writer.old) }
+    ensures unread { IfErr result (λ e. IsBeforeReading e → reader.new ≡ reader.old) }
+    ensures untouched { IfErr result (λ e. IsBeforeWriting e → writer.new ≡ writer.old) }
 {
     let dfa = smallest_automaton(alloc, file)?;
     let steps = RowWalk::new(alloc, &dfa, &file.rules)?;
     let text = read_whole(alloc, reader)?;
-    Ok(answer_by(alloc, file, steps, &text)?)
+    write_answer_by(alloc, file, steps, &text, writer)
 }
 
-/// The answer to a text under a lex file, by any scanner that agrees with its rules.
-fn answer_by<S: Steps + Drop>(
+/// Writes the answer to a text under a lex file, by any scanner that agrees with its rules.
+fn write_answer_by<S: Steps + Drop, W: Sink>(
     alloc: Global,
     file: &LexFile,
     steps: S,
     text: &[u8],
-) -> Result<(TokenEnd, Vec<u8>), AllocError>
+    writer: &mut W,
+) -> Result<TokenEnd, TokensFault>
     requires { Agrees (defined file.now.names) file.now.rules.items
         (record { walk = S.walk steps; cut = S.cut_of steps }) }
-    ensures { IfOk result (λ a. IsAnswer (defined file.now.names) file.now.rules.items file.now.actions.items text.now
-        (end_of a.0) a.1.items) }
+    ensures answered { IfOk result (λ end. (answer : List ℕ)
+        × IsAnswer (defined file.now.names) file.now.rules.items file.now.actions.items text.now (end_of end) answer
+        × Appends (W.contents writer.old) (W.contents writer.new) answer) }
+    ensures beginning { (written : ℕ) → result ≡ Err (TokensFault.Write written) → (e : End) × ((answer : List ℕ)
+        × IsAnswer (defined file.now.names) file.now.rules.items file.now.actions.items text.now e answer
+        × IsCutShort (W.contents writer.old) (W.contents writer.new) written answer) }
+    ensures of_output { IfErr result IsOfOutput }
+    ensures write { IfErr result (λ e. IsWrite e → W.failures writer.new ≡ next_count (W.failures writer.old)) }
+    ensures writer_held { OnOk result (W.failures writer.new ≡ W.failures writer.old) }
+    ensures untouched { IfErr result (λ e. IsBeforeWriting e → writer.new ≡ writer.old) }
 {
+    if !are_countable(&file.actions, text.len()) {
+        return Err(TokensFault::OutOfMemory);
+    }
+    let lines = TextWriter::new(alloc)?;
     let mut lexer = Lexer::new(steps, text);
-    let (end, lines) = token_lines(alloc, &mut lexer, &file.actions)?;
-    Ok((token_end(end), lines))
+    let end = write_token_lines(&mut lexer, &file.actions, lines, writer)?;
+    Ok(token_end(end))
 }
 
 /// The end of a run in which each cut leaves a token.

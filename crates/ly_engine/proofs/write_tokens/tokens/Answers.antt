@@ -1,15 +1,19 @@
-use Rattle.std.proofs.Common.{◌≡◌, ◌∙◌, ℕ, List, Err, Result, sym, ap, subst, ◌<◌, length, take}
-use Rattle.std.specs.Io.KnownBytes.{Appends}
+use Rattle.std.proofs.Common.{◌≡◌, ◌∙◌, ℕ, List, Option, Err, Result, sym, ap, subst}
 use Rattle.std.specs.Result.{IsErrAnd}
-use Rattle.std.proofs.lemmas.Result.{err_from_is_err_and}
+use Rattle.std.proofs.lemmas.Result.{IfOk-weaker, err_from_is_err_and}
 use Rattle.ly_lexread.specs.Faults.{IsTooHeavy}
 use Rattle.ly_engine.specs.declared.outcome.TokenEnd.{TokenEnd}
 use Rattle.ly_lexread.specs.declared.fault.LexFault.{LexFault}
 use Rattle.ly_lexread.specs.declared.fault.LexFault.TheVariants as lex
 use Rattle.ly_engine.specs.declared.fault.TokensFault.{TokensFault}
-use Rattle.ly_engine.specs.declared.fault.TokensFault.TheVariants.{Lex, Positions, States, Write, OutOfMemory}
-use Rattle.ly_engine.specs.Printing.{end_of}
+use Rattle.ly_engine.specs.declared.fault.TokensFault.TheVariants.{Lex, OutOfMemory}
 use Rattle.ly_engine.specs.TokensFault.{fault_of_lex}
+use Rattle.ly_base.specs.Limits.{Sizes}
+use Rattle.ly_base.specs.declared.lexeme.End.{End}
+use Rattle.ly_lexread.specs.LexText.{IsLight, LexText}
+use Rattle.ly_lexread.specs.declared.file.LexFile.{LexFile}
+use Rattle.ly_engine.specs.Answers.{Answers}
+use Rattle.ly_engine.specs.Private.FileAnswers.{FileAnswers}
 use Rattle.ly_engine.proofs.write_tokens.tokens.Goals as goal
 
 -- a fault of the lex file is the one that its reader gave
@@ -44,72 +48,43 @@ returns-in_err-file-clause-none_light g c = λ fault is heavy file text.
     let e = gave c.from_residual.result c.in_err-file.field-0.0 fault c.from_residual.ensures.1 is in
     c.in_err-file.ensures.none_light (subst IsTooHeavy (same_lex c.in_err-file.field-0.0 fault e) heavy) file text
 
-pub returns-in_err-end-clause-heavy : goal.returns-in_err-end-clause-heavy
-returns-in_err-end-clause-heavy g c = λ fault is.
-    let p = err_from_is_err_and c.from_residual-in_err-end.result c.from_residual-in_err-end.ensures.1 in
-    let gave : Positions fault ≡ c.in_err-end.field-0.0
-    = same_fault c.from_residual-in_err-end.result (Positions fault) p.0 is p.1 ∙ p.2 in
-    let heavy = c.in_err-end.ensures.heavy fault (ap Err (sym gave)) in
-    (heavy.0, (c.in_ok-file.file, c.in_ok-file.ensures.ok, c.in_ok-file.ensures.light, heavy.1))
+answers : {limits : Sizes} {file : LexFile} {left : Option (List ℕ)} {e : End} {answer bytes : List ℕ}
+    → LexText bytes file → IsLight limits.pattern_weight file → FileAnswers limits file left e answer
+    → Answers limits bytes left e answer
+answers {limits} {file} spelled light a = record {
+  file = file;
+  spelled = spelled;
+  light = light;
+  within = a.within;
+  few = a.few;
+  text = a.text;
+  is_text = a.is_text;
+  is_answer = a.is_answer;
+}
 
-pub returns-in_err-end-clause-many : goal.returns-in_err-end-clause-many
-returns-in_err-end-clause-many g c = λ fault is.
-    let p = err_from_is_err_and c.from_residual-in_err-end.result c.from_residual-in_err-end.ensures.1 in
-    let gave : States fault ≡ c.in_err-end.field-0.0
-    = same_fault c.from_residual-in_err-end.result (States fault) p.0 is p.1 ∙ p.2 in
-    let many = c.in_err-end.ensures.many fault (ap Err (sym gave)) in
-    (many.0, (c.in_ok-file.file, c.in_ok-file.ensures.ok, c.in_ok-file.ensures.light, many.1, many.2))
+pub returns-clause-answered : goal.returns-clause-answered
+returns-clause-answered g c = IfOk-weaker c.write_answer.result _ _
+    (λ end a. (a.0, answers c.in_ok-file.ensures.ok c.in_ok-file.ensures.light a.1, a.2))
+    c.write_answer.ensures.answered
 
-pub returns-in_err-write_whole-clause-beginning : goal.returns-in_err-write_whole-clause-beginning
-returns-in_err-write_whole-clause-beginning g c = λ written is.
-    let p = err_from_is_err_and c.from_residual-in_err-write_whole.result c.from_residual-in_err-write_whole.ensures.1
-    in
-    let gave : Write written ≡ Write c.in_err-write_whole.field-0.0.written
-    = same_fault c.from_residual-in_err-write_whole.result (Write written) p.0 is p.1 ∙ p.2 in
-    let same : written ≡ c.in_err-write_whole.field-0.0.written = cc in
-    let made = c.in_ok-end.ensures.made in
-    let sink = g.W.Sink in
-    let less : c.in_err-write_whole.field-0.0.written < length c.in_ok-end.lines.items =
-    subst (λ (bytes : List ℕ). c.in_err-write_whole.field-0.0.written < length bytes) c.deref.ensures.value
-    c.in_err-write_whole.ensures.within in
-    let gone : Appends (sink.contents c.args.writer.now) (sink.contents c.write_whole.new.writer)
-    (take c.in_err-write_whole.field-0.0.written c.in_ok-end.lines.items) =
-    subst (λ (bytes : List ℕ). Appends (sink.contents c.args.writer.now) (sink.contents c.write_whole.new.writer)
-    (take c.in_err-write_whole.field-0.0.written bytes)) c.deref.ensures.value c.in_err-write_whole.ensures.partial
-    in (
-      end_of c.in_ok-end.end,
+pub returns-clause-beginning : goal.returns-clause-beginning
+returns-clause-beginning g c = λ written is.
+    let short = c.write_answer.ensures.beginning written is in (
+      short.0,
       (
-        c.in_ok-end.lines.items,
-        record {
-          file = c.in_ok-file.file;
-          spelled = c.in_ok-file.ensures.ok;
-          light = c.in_ok-file.ensures.light;
-          within = c.in_ok-end.ensures.within;
-          few = c.in_ok-end.ensures.few;
-          text = made.0;
-          is_text = made.1;
-          is_answer = made.2;
-        },
-        subst (λ (k : ℕ). k < length c.in_ok-end.lines.items) (sym same) less,
-        subst (λ (k : ℕ). Appends (sink.contents c.args.writer.now) (sink.contents c.write_whole.new.writer)
-            (take k c.in_ok-end.lines.items)) (sym same) gone,
+        short.1.0,
+        answers c.in_ok-file.ensures.ok c.in_ok-file.ensures.light short.1.1,
+        short.1.2.within,
+        short.1.2.went_out,
       ),
     )
 
-pub returns-clause-answered : goal.returns-clause-answered
-returns-clause-answered g c =
-    let made = c.in_ok-end.ensures.made in (
-      c.in_ok-end.lines.items,
-      record {
-        file = c.in_ok-file.file;
-        spelled = c.in_ok-file.ensures.ok;
-        light = c.in_ok-file.ensures.light;
-        within = c.in_ok-end.ensures.within;
-        few = c.in_ok-end.ensures.few;
-        text = made.0;
-        is_text = made.1;
-        is_answer = made.2;
-      },
-      subst (λ (bytes : List ℕ). Appends (g.W.Sink.contents c.args.writer.now)
-          (g.W.Sink.contents c.write_whole.new.writer) bytes) c.deref.ensures.value c.in_ok-write_whole.ensures.ok,
-    )
+pub returns-clause-heavy : goal.returns-clause-heavy
+returns-clause-heavy g c = λ fault is.
+    let heavy = c.write_answer.ensures.heavy fault is in
+    (heavy.0, (c.in_ok-file.file, c.in_ok-file.ensures.ok, c.in_ok-file.ensures.light, heavy.1))
+
+pub returns-clause-many : goal.returns-clause-many
+returns-clause-many g c = λ fault is.
+    let many = c.write_answer.ensures.many fault is in
+    (many.0, (c.in_ok-file.file, c.in_ok-file.ensures.ok, c.in_ok-file.ensures.light, many.1, many.2))

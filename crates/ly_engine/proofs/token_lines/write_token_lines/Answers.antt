@@ -1,0 +1,137 @@
+use Rattle.std.proofs.Common.{◌∙◌, ◌++◌, Err, Ok, ap, arith, length, refl, take, ◌*◌}
+use Rattle.ly_base.specs.Lexed.{Place, moved}
+use Rattle.ly_base.proofs.TextWriterLemmas.{appended_twice}
+use Rattle.ly_scan.specs.Lexer.{Scanner}
+use Rattle.ly_engine.specs.Printing.{condition_set, end_line, line_if, naming}
+use Rattle.ly_engine.specs.Private.TokenLines.{bytes_each}
+use Rattle.ly_engine.proofs.LineLemmas.{line_left}
+use Rattle.ly_engine.proofs.PrintingLemmas.{all_told, cut_from, err_is, fails_at, one_more, scanner_of, underway_from}
+use Rattle.ly_engine.proofs.token_lines.write_token_lines.Goals as goal
+
+pub push_token-requires-clause-countable : goal.push_token-requires-clause-countable
+push_token-requires-clause-countable g c =
+    let countable = c.requires.countable in
+    let now = c.loop-lexeme in omega (
+      arith,
+      now.invariant.counted countable.0 countable.1,
+      line_left c.args.actions.now countable.0 c.in-Ok.lexeme.rule.0 c.in-Ok.lexeme.taken now.lexer.place.rest
+          (take c.in-Ok.lexeme.taken c.rest.result.now) countable.1 c.in-Ok.ensures.within.0 c.in-Ok.ensures.within.1
+          (ap (take c.in-Ok.lexeme.taken) (c.rest.ensures ∙ ap (λ (p : Place). p.rest) c.in-Ok.ensures.place)),
+      countable.2,
+    )
+
+pub returns-in_err-push_token-in-Ok-clause-cut_short : goal.returns-in_err-push_token-in-Ok-clause-cut_short
+returns-in_err-push_token-in-Ok-clause-cut_short g c =
+    let now = c.loop-lexeme in
+    let so_far = now.invariant.so_far in
+    let token = take c.in-Ok.lexeme.taken c.rest.result.now in
+    let line = line_if (naming c.args.actions.now c.in-Ok.lexeme.rule.0 token) token in
+    let begin = condition_set c.args.actions.now c.in-Ok.lexeme.rule.0 in
+    let fault = c.in_err-push_token-in-Ok.field-0.0 in
+    err_is c.from_residual.result fault _ c.from_residual.ensures.1 (fails_at c.args.actions.now (let s : Scanner
+    = record { walk = g.S.Steps.walk c.args.lexer.now.steps; cut = g.S.Steps.cut_of c.args.lexer.now.steps } in s)
+    c.args.lexer.now.place (moved now.lexer.place c.in-Ok.lexeme.taken begin) (so_far.0 ++ line) c.args.empty
+    c.push_token.new.lines _ _ fault c.requires.none
+    (one_more c.args.actions.now _ _ c.args.lexer.now.place now.lexer.place
+    (moved now.lexer.place c.in-Ok.lexeme.taken begin) c.in-Ok.lexeme begin token so_far.0 (so_far.0 ++ line)
+    (scanner_of _ _ _ _ now.invariant.same_walk now.invariant.same_cuts) c.in-Ok.ensures.lexeme refl refl
+    (ap (take c.in-Ok.lexeme.taken) (c.rest.ensures ∙ ap (λ (p : Place). p.rest) c.in-Ok.ensures.place)) refl so_far.1)
+    (appended_twice c.args.empty now.lines c.push_token.new.lines _ _ _ so_far.0 line tt (Err fault) so_far.2
+    c.in_err-push_token-in-Ok.ensures.text))
+
+pub loop-lexeme-preserved : goal.loop-lexeme-preserved
+loop-lexeme-preserved g c =
+    let now = c.loop-lexeme in
+    let so_far = now.invariant.so_far in
+    let taken = c.in-Ok.lexeme.taken in
+    let token = take taken c.rest.result.now in
+    let line = line_if (naming c.args.actions.now c.in-Ok.lexeme.rule.0 token) token in
+    let is = ap (take taken) (c.rest.ensures ∙ ap (λ (p : Place). p.rest) c.in-Ok.ensures.place) in
+    let at = c.advance.ensures ∙ ap (λ (p : Place). moved p taken c.condition_set-begin.result) c.in-Ok.ensures.place in
+    record {
+      same_walk = c.in-Ok.ensures.same_walk ∙ now.invariant.same_walk;
+      same_cuts = c.in-Ok.ensures.same_cuts ∙ now.invariant.same_cuts;
+      so_far = (
+        so_far.0 ++ line,
+        one_more c.args.actions.now _ _ c.args.lexer.now.place now.lexer.place c.advance.new.self c.in-Ok.lexeme
+            c.condition_set-begin.result token so_far.0 (so_far.0 ++ line)
+            (scanner_of _ _ _ _ now.invariant.same_walk now.invariant.same_cuts) c.in-Ok.ensures.lexeme
+            c.condition_set-begin.ensures at is refl so_far.1,
+        appended_twice c.args.empty now.lines c.push_token.new.lines _ _ _ so_far.0 line tt (Ok tt) so_far.2
+            c.in_ok-push_token-in-Ok.ensures.text,
+      );
+      counted = λ longest named. omega (
+        arith,
+        now.invariant.counted longest named,
+        line_left c.args.actions.now longest c.in-Ok.lexeme.rule.0 taken now.lexer.place.rest token named
+            c.in-Ok.ensures.within.0 c.in-Ok.ensures.within.1 is,
+        ap (λ (p : Place). length p.rest * bytes_each longest) at,
+        c.in_ok-push_token-in-Ok.ensures.counted,
+      );
+      no_failure = c.in_ok-push_token-in-Ok.ensures.no_failure ∙ now.invariant.no_failure;
+    }
+
+pub push_end-requires : goal.push_end-requires
+push_end-requires g c =
+    let countable = c.requires.countable in
+    omega (arith, c.loop-lexeme.invariant.counted countable.0 countable.1, countable.2)
+
+pub returns-in_err-push_end-in-Err-clause-cut_short : goal.returns-in_err-push_end-in-Err-clause-cut_short
+returns-in_err-push_end-in-Err-clause-cut_short g c =
+    let now = c.loop-lexeme in
+    let so_far = now.invariant.so_far in
+    let lines = so_far.0 ++ end_line c.in-Err.end in
+    let fault = c.in_err-push_end-in-Err.field-0.0 in
+    err_is c.from_residual-in_err-push_end-in-Err.result fault _ c.from_residual-in_err-push_end-in-Err.ensures.1 (
+      c.in-Err.end,
+      (
+        lines,
+        all_told c.args.actions.now _ _ c.args.lexer.now.place now.lexer.place c.in-Err.end so_far.0 lines
+            (scanner_of _ _ _ _ now.invariant.same_walk now.invariant.same_cuts) c.in-Err.ensures.end refl so_far.1,
+        cut_from c.args.empty c.push_end.new.lines _ _ lines c.requires.none fault
+            (appended_twice c.args.empty now.lines c.push_end.new.lines _ _ _ so_far.0 (end_line c.in-Err.end) tt
+            (Err fault) so_far.2 c.in_err-push_end-in-Err.ensures.text),
+      ),
+    )
+
+pub finish-requires : goal.finish-requires
+finish-requires g c =
+    let countable = c.requires.countable in record {
+      countable = omega (
+        arith,
+        c.loop-lexeme.invariant.counted countable.0 countable.1,
+        countable.2,
+        c.in_ok-push_end-in-Err.ensures.counted,
+      );
+    }
+
+pub returns-in_err-finish-in-Err-clause-cut_short : goal.returns-in_err-finish-in-Err-clause-cut_short
+returns-in_err-finish-in-Err-clause-cut_short g c =
+    let now = c.loop-lexeme in
+    let so_far = now.invariant.so_far in
+    let lines = so_far.0 ++ end_line c.in-Err.end in
+    let fault = c.in_err-finish-in-Err.field-0.0 in
+    err_is c.from_residual-in_err-finish-in-Err.result fault _ c.from_residual-in_err-finish-in-Err.ensures.1 (
+      c.in-Err.end,
+      (
+        lines,
+        all_told c.args.actions.now _ _ c.args.lexer.now.place now.lexer.place c.in-Err.end so_far.0 lines
+            (scanner_of _ _ _ _ now.invariant.same_walk now.invariant.same_cuts) c.in-Err.ensures.end refl so_far.1,
+        c.in_err-finish-in-Err.ensures.text _ lines (underway_from c.args.empty c.push_end.new.lines _ _ lines
+            c.requires.none (appended_twice c.args.empty now.lines c.push_end.new.lines _ _ _ so_far.0
+            (end_line c.in-Err.end) tt (Ok tt) so_far.2 c.in_ok-push_end-in-Err.ensures.text)),
+      ),
+    )
+
+pub returns-in-Err-clause-told : goal.returns-in-Err-clause-told
+returns-in-Err-clause-told g c =
+    let now = c.loop-lexeme in
+    let so_far = now.invariant.so_far in
+    let lines = so_far.0 ++ end_line c.in-Err.end in (
+      lines,
+      all_told c.args.actions.now _ _ c.args.lexer.now.place now.lexer.place c.in-Err.end so_far.0 lines
+          (scanner_of _ _ _ _ now.invariant.same_walk now.invariant.same_cuts) c.in-Err.ensures.end refl so_far.1,
+      c.in_ok-finish-in-Err.ensures.text _ lines (underway_from c.args.empty c.push_end.new.lines _ _ lines
+          c.requires.none (appended_twice c.args.empty now.lines c.push_end.new.lines _ _ _ so_far.0
+          (end_line c.in-Err.end) tt (Ok tt) so_far.2 c.in_ok-push_end-in-Err.ensures.text)),
+    )

@@ -1,0 +1,3 @@
+-- What contracts of private functions cite. No public contract rests on it.
+pub mod TokenLines
+pub mod FileAnswers

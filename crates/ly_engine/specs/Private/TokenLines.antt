@@ -1,0 +1,31 @@
+-- The lines of a run from a place on, and how many bytes they have at most.
+use Rattle.std.specs.Prelude.{◌≡◌, ◌<◌, ◌≤◌, ◌+◌, ◌*◌, ◌^◌, ℕ, List, ◌++◌, All, length}
+use Rattle.ly_base.specs.Lexed.{Lexed, Place, tokens_from}
+use Rattle.ly_base.specs.declared.lexeme.End.{End}
+use Rattle.ly_base.specs.declared.lexeme.Lexeme.{Lexeme}
+use Rattle.ly_lexread.specs.declared.action.Action.{Action}
+use Rattle.ly_lexread.specs.declared.action.Returned.{Returned}
+use Rattle.ly_lexread.specs.declared.action.Returned.TheVariants.{Token}
+use Rattle.ly_scan.specs.Lexer.{IsLexemeAt, ScanEndsAt, Scanner}
+use Rattle.ly_engine.specs.Printing.{condition_set, end_line, naming, printed}
+
+-- from the place the text is lexed to this end, and these are the lines of its tokens, the last one included
+abbrev pub AreLines : Scanner → List Action → Place → End → List ℕ → Type 0
+AreLines s actions p e lines =
+    (ts : List Lexeme) × Lexed (IsLexemeAt s) (ScanEndsAt s) (condition_set actions) p ts e
+    × (lines ≡ printed (tokens_from (naming actions) p.at p.rest ts) ++ end_line e)
+
+-- how long the name of a token is that an action returns
+abbrev pub name_len : Returned → ℕ
+name_len (Token name) = length name.items
+name_len _ = 0
+
+-- how many bytes of lines a byte of a text has at most, where names have at most so many bytes
+abbrev pub bytes_each : ℕ → ℕ
+bytes_each longest = longest + 16
+
+-- the lines of so many bytes can be counted
+abbrev pub AreCountable : List Action → ℕ → Type 0
+AreCountable actions bytes =
+    (longest : ℕ) × All (λ (a : Action). name_len a.returns ≤ longest) actions
+    × (bytes * bytes_each longest + 64 < 2 ^ 64)
