@@ -26,7 +26,7 @@ use Rattle.ly_tables.specs.TableSet.{ScanRule, TableSet, machine_of}
 use Rattle.ly_tree.specs.Forest.{Grown, StandsFor}
 use Rattle.ly_tree.specs.Shown.{shown, Vocabulary}
 use Rattle.ly_tree.specs.Term.{Term}
-use Rattle.ly_tree.specs.declared.forest.TermNo.{TermNo}
+use Rattle.ly_tree.specs.declared.forest.TermRef.{TermRef}
 use Rattle.std.specs.Global.{Global}
 use Rattle.std.specs.declared.vec.Vec.{Vec}
 
@@ -102,7 +102,7 @@ module _ (T : Tables) (s : TableSet) (read text : List ℕ)
       )
 
   -- the term is the answer
-  pub term_answer : (e : Ended) (forest : Grown) (root : TermNo) (line : List ℕ) (v : Vocabulary) → IsRun T read (Ok e)
+  pub term_answer : (e : Ended) (forest : Grown) (root : TermRef) (line : List ℕ) (v : Vocabulary) → IsRun T read (Ok e)
       → e ≡ Accepted forest root → v ≡ words_in T
       → ((d : Term) → StandsFor forest root d → line ≡ shown v d ++ newline ∷ []) → TableAnswer s text Tree line
   term_answer e forest root line v run is words shows =

@@ -19,7 +19,7 @@ use Rattle.ly_parse.specs.declared.step.Step.TheVariants.{Done, Refused}
 use Rattle.ly_parse.proofs.FeedingLemmas.{legal}
 use Rattle.ly_tree.specs.Shown.{Vocabulary}
 use Rattle.ly_tree.specs.Term.{Term, Terms, none}
-use Rattle.ly_tree.specs.declared.forest.TermNo.{TermNo}
+use Rattle.ly_tree.specs.declared.forest.TermRef.{TermRef}
 
 -- a reduction accepts nothing
 no_reduction : (m : Machine) (p : ℕ) (stack : List Level) (d : Term) (o : Option TableRule)
@@ -49,7 +49,7 @@ accepts_end {m} {token} {stack} {d} h (settled e) = by_action (action_of m (top_
 accepts_end h (onward e fed) = accepts_end h fed
 
 -- no other token is
-pub not_accepted : (s r : Parse) (t : Token ℕ) (root : TermNo) (step : Step) → IsMachine s.machine → s.over ≡ false
+pub not_accepted : (s r : Parse) (t : Token ℕ) (root : TermRef) (step : Step) → IsMachine s.machine → s.over ≡ false
     → 1 ≤ t.terminal → step ≡ Done root → IsCall s t r (Ok step) → ⊥
 not_accepted s r t root step h goes low is call =
     let fed = (subst (λ x. IsCall s t r (Ok x)) is call).before_end goes in

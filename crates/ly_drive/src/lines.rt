@@ -10,7 +10,7 @@ ghost use Rattle.ly_tree.specs.Term.{Term};
 use crate::names::Names;
 use ly_base::{OutOfMemory, Terminal, push_leaf, push_no_rule_line};
 use ly_parse::Token;
-use ly_tree::{Forest, TermNo, Words};
+use ly_tree::{Forest, TermRef, Words};
 use std::alloc::Global;
 use std::io::Write;
 
@@ -19,7 +19,7 @@ pub(crate) fn term_line(
     alloc: Global,
     names: &Names<'_>,
     forest: &Forest,
-    root: TermNo,
+    root: TermRef,
 ) -> Result<Vec<u8>, OutOfMemory>
     requires { IsSome (term_of forest.now root) }
     ensures { IfOk result (λ line. (t : Term) → StandsFor forest.now root t

@@ -25,14 +25,14 @@ use ly_pack::{Comb, TableAction};
 use ly_parse::{ParseFault, Parser, Step, Token};
 use ly_scan::Lexer;
 use ly_tables::TableParts;
-use ly_tree::{Forest, TermNo};
+use ly_tree::{Forest, TermRef};
 use std::alloc::Global;
 
 /// How a run over a text ends.
 #[derive(Drop)]
 pub(crate) enum Ended {
     /// With a term.
-    Accepted(Forest, TermNo),
+    Accepted(Forest, TermRef),
     /// Otherwise, and this is the printed answer.
     Told(Outcome, Vec<u8>),
 }

@@ -18,7 +18,7 @@ use Rattle.ly_tree.proofs.StandLemmas.{known_stands}
 use Rattle.ly_tree.specs.Forest.{term_of, Grown, Keeps, StandsFor, StandForAll}
 use Rattle.ly_tree.specs.Private.Grown.{terms_of}
 use Rattle.ly_tree.specs.Term.{Terms, at_place, at_places, built, made, more, none, nothing}
-use Rattle.ly_tree.specs.declared.forest.TermNo.{TermNo}
+use Rattle.ly_tree.specs.declared.forest.TermRef.{TermRef}
 
 -- popping within a stack
 pub pop_within : (n : ℕ) (stack : List Level) (ts : Terms) → n ≤ length stack
@@ -74,7 +74,7 @@ at_places_stand f body (i ∷ is) known places = (
 )
 
 -- a place more
-pub terms_more : (body : List code.Level) (places : List ℕ) (k : ℕ) (d : code.Level) (list longer : List TermNo)
+pub terms_more : (body : List code.Level) (places : List ℕ) (k : ℕ) (d : code.Level) (list longer : List TermRef)
     → k < length places → All (λ i. (1 ≤ i) × (i ≤ length body)) places → list ≡ map (term_at body) (take k places)
     → longer ≡ list ++ (get_or body (get_or places k 0 - 1) d).term ∷ []
     → longer ≡ map (term_at body) (take (k + 1) places)
@@ -136,7 +136,7 @@ passed m f levels p count over n i number l t view h pass shape same =
 
 -- the numbers of a node's children stand for the terms at their places
 pub listed : (m : Machine) (f : Grown) (levels : List code.Level) (p : Parse) (count : ℕ) (over : Bool) (n : ℕ)
-    (name places : Vec ℕ Global) (t : RuleTree) (w : List code.Level) (is : List ℕ) (list : List TermNo)
+    (name places : Vec ℕ Global) (t : RuleTree) (w : List code.Level) (is : List ℕ) (list : List TermRef)
     → parse_from m f levels count over ≡ p → IsParse m f levels → t ≡ Build name places
     → IsShapeFor (length p.stack - n) (shape_of t) → w ≡ levels → is ≡ places.items
     → list ≡ map (term_at (take (length w - n) (drop n w))) is
@@ -160,7 +160,7 @@ listed m f levels p count over n name places t w is list view h build shape whol
 -- so the node is what the rule makes
 pub node_made : {E : Type 0} (m : Machine) (f g : Grown) (levels : List code.Level) (p : Parse) (count : ℕ)
     (over : Bool) (n number : ℕ) (name places : Vec ℕ Global) (t : RuleTree) (w : List code.Level) (is : List ℕ)
-    (list : List TermNo) (r : Result TermNo E) → parse_from m f levels count over ≡ p → IsParse m f levels
+    (list : List TermRef) (r : Result TermRef E) → parse_from m f levels count over ≡ p → IsParse m f levels
     → t ≡ Build name places → IsShapeFor (length p.stack - n) (shape_of t) → w ≡ levels → is ≡ places.items
     → list ≡ map (term_at (take (length w - n) (drop n w))) is
     → IfOk r (λ k. (ts : Terms) → StandForAll f list ts → StandsFor g k (built number ts))

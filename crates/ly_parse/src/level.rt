@@ -2,7 +2,7 @@ ghost use Rattle.std.specs.Prelude.{◌≡◌, ◌≤◌, length, map, All, OnOk
 ghost use Rattle.ly_parse.specs.Private.Stack.{term_at};
 
 use ly_base::{OutOfMemory, StateNo};
-use ly_tree::TermNo;
+use ly_tree::TermRef;
 
 /// A state on the stack, with the term that led to it.
 #[derive(Clone, Copy)]
@@ -10,12 +10,12 @@ pub(crate) struct Level {
     /// The state.
     pub(crate) state: StateNo,
     /// The term's number.
-    pub(crate) term: TermNo,
+    pub(crate) term: TermRef,
 }
 
 /// Lists the terms at these places of a body, which count from 1, in place of what the list had.
 pub(crate) fn list_terms(
-    list: &mut Vec<TermNo>,
+    list: &mut Vec<TermRef>,
     body: &[Level],
     places: &[u32],
 ) -> Result<(), OutOfMemory>

@@ -19,7 +19,7 @@ use crate::step::Step;
 use crate::token::Token;
 use ly_base::{OutOfMemory, RuleNo, RuleTree, StateNo, Sym};
 use ly_pack::{Machine, Rows, TableAction};
-use ly_tree::{Forest, TermNo};
+use ly_tree::{Forest, TermRef};
 use std::alloc::Global;
 use std::marker::Model;
 
@@ -33,7 +33,7 @@ pub struct Parser<'a, A: Rows<TableAction> + Drop, G: Rows<StateNo> + Drop> {
     /// The stack above the bottom, whose state is 0; its top is last.
     stack: Vec<Level>,
     /// The children of a node that is being made.
-    children: Vec<TermNo>,
+    children: Vec<TermRef>,
     /// How many tokens were read.
     count: u64,
     /// Whether the parse has ended, well or not.
@@ -62,7 +62,7 @@ impl<'a, A: Rows<TableAction> + Drop, G: Rows<StateNo> + Drop> Parser<'a, A, G> 
         requires { IsSteady machine.now }
         ensures { result ≡ record {
           machine = machine.now;
-          forest = record { leaves = []; nodes = [] };
+          forest = record { bytes = []; nodes = [] };
           stack = [];
           count = 0;
           over = false;
@@ -214,7 +214,7 @@ impl<'a, A: Rows<TableAction> + Drop, G: Rows<StateNo> + Drop> Parser<'a, A, G> 
     }
 
     /// What a rule makes of the terms on the stack above so many levels.
-    fn make(&mut self, number: RuleNo, tree: &RuleTree, below: usize) -> Result<TermNo, OutOfMemory>
+    fn make(&mut self, number: RuleNo, tree: &RuleTree, below: usize) -> Result<TermRef, OutOfMemory>
         requires within { below ≤ length self.old.stack }
         requires shape { IsShapeFor (length self.old.stack - below) (shape_of tree.now) }
         ensures made { IfOk result (λ n. StandsFor self.new.forest n (made number.0 (shape_of tree.now)
@@ -225,7 +225,7 @@ impl<'a, A: Rows<TableAction> + Drop, G: Rows<StateNo> + Drop> Parser<'a, A, G> 
         ensures over { self.new.over ≡ self.old.over }
     {
         match tree {
-            RuleTree::Nil => Ok(TermNo::Nothing),
+            RuleTree::Nil => Ok(TermRef::Nothing),
             RuleTree::Pass(place) => Ok(self.stack[below + (*place as usize - 1)].term),
             RuleTree::Build { places, .. } => {
                 list_terms(&mut self.children, &self.stack[below..], places)?;

@@ -1,4 +1,5 @@
 pub mod GrownLemmas
 pub mod HeadedLemmas
+pub mod PieceLemmas
 pub mod PrintingLemmas
 pub mod StandLemmas

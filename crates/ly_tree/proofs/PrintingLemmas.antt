@@ -12,17 +12,17 @@ use Rattle.ly_tree.specs.Private.Grown.{terms_of, AllKnown}
 use Rattle.ly_tree.specs.Private.Printing.{number_text, waiting_text, tail_text, AllWaitingKnown}
 use Rattle.ly_tree.specs.Shown.{shown, shown_all, Vocabulary}
 use Rattle.ly_tree.specs.Term.{nothing, built}
-use Rattle.ly_tree.specs.declared.forest.TermNo.{TermNo}
+use Rattle.ly_tree.specs.declared.forest.TermRef.{TermRef}
 
 -- the last node's end comes first
-pub waiting_text-push : (v : Vocabulary) (f : Grown) (rest : List (Bor (List TermNo))) (ns : Bor (List TermNo))
+pub waiting_text-push : (v : Vocabulary) (f : Grown) (rest : List (Bor (List TermRef))) (ns : Bor (List TermRef))
     → waiting_text v f (rest ++ ns ∷ []) ≡ tail_text v f ns.now ++ waiting_text v f rest
 waiting_text-push v f [] ns = sym (append-nil (tail_text v f ns.now))
 waiting_text-push v f (ms ∷ rest) ns = ap (λ t. t ++ tail_text v f ms.now) (waiting_text-push v f rest ns)
     ∙ append_assoc (tail_text v f ns.now) (waiting_text v f rest) (tail_text v f ms.now)
 
 -- the terms between a node's parentheses, and its end
-pub shown_all-tail : (v : Vocabulary) (f : Grown) (n : TermNo) (ns : List TermNo)
+pub shown_all-tail : (v : Vocabulary) (f : Grown) (n : TermRef) (ns : List TermRef)
     → shown_all v (terms_of f (n ∷ ns)) ++ codes ")" ≡ number_text v f n ++ tail_text v f ns
 shown_all-tail v f n [] = refl
 shown_all-tail v f n (m ∷ ns) =
@@ -40,22 +40,22 @@ all_last P xs x h = subst P (get_or-append_seam xs x [] x)
     (h (length xs) x (omega (arith, length-append xs (x ∷ []))))
 
 -- a child is left: a comma, and it is next
-pub comma_text : (v : Vocabulary) (f : Grown) (out out' : List ℕ) (before after rest : List (Bor (List TermNo)))
-    (cs os : Bor (List TermNo)) (n : TermNo) → before ≡ rest ++ cs ∷ [] → cs.now ≡ n ∷ os.now → out' ≡ out ++ 44 ∷ []
+pub comma_text : (v : Vocabulary) (f : Grown) (out out' : List ℕ) (before after rest : List (Bor (List TermRef)))
+    (cs os : Bor (List TermRef)) (n : TermRef) → before ≡ rest ++ cs ∷ [] → cs.now ≡ n ∷ os.now → out' ≡ out ++ 44 ∷ []
     → after ≡ rest ++ os ∷ []
     → out' ++ number_text v f n ++ waiting_text v f after ≡ out ++ waiting_text v f before
 comma_text v f out out' before after rest cs os n b c o a =
     rw (o, a, b, waiting_text-push v f rest os, waiting_text-push v f rest cs, c) (simp append_assoc)
 
 -- no child is left: the node ends
-pub end_text : (v : Vocabulary) (f : Grown) (out out' : List ℕ) (before rest : List (Bor (List TermNo)))
-    (cs : Bor (List TermNo)) → before ≡ rest ++ cs ∷ [] → cs.now ≡ [] → out' ≡ out ++ 41 ∷ []
+pub end_text : (v : Vocabulary) (f : Grown) (out out' : List ℕ) (before rest : List (Bor (List TermRef)))
+    (cs : Bor (List TermRef)) → before ≡ rest ++ cs ∷ [] → cs.now ≡ [] → out' ≡ out ++ 41 ∷ []
     → out' ++ waiting_text v f rest ≡ out ++ waiting_text v f before
 end_text v f out out' before rest cs b c o = rw (o, b, waiting_text-push v f rest cs, c) (simp append_assoc)
 
 -- a node begins, up to its first child
-pub begin_text : (v : Vocabulary) (f : Grown) (out named out' : List ℕ) (before after : List (Bor (List TermNo)))
-    (cs : List TermNo) (os : Bor (List TermNo)) (n first : TermNo) (p : ℕ) → StandsFor f n (built p (terms_of f cs))
+pub begin_text : (v : Vocabulary) (f : Grown) (out named out' : List ℕ) (before after : List (Bor (List TermRef)))
+    (cs : List TermRef) (os : Bor (List TermRef)) (n first : TermRef) (p : ℕ) → StandsFor f n (built p (terms_of f cs))
     → cs ≡ first ∷ os.now → named ≡ out ++ v.constructor p → out' ≡ named ++ 40 ∷ [] → after ≡ before ++ os ∷ []
     → out' ++ number_text v f first ++ waiting_text v f after ≡ out ++ number_text v f n ++ waiting_text v f before
 begin_text v f out named out' before after cs os n first p stands c name o a =
@@ -67,21 +67,21 @@ begin_text v f out named out' before after cs os n first p stands c name o a =
     rw (o, name, a, waiting_text-push v f before os, node) (simp append_assoc)
 
 -- what is left is known
-pub last_known : (f : Grown) (before rest : List (Bor (List TermNo))) (cs : Bor (List TermNo))
+pub last_known : (f : Grown) (before rest : List (Bor (List TermRef))) (cs : Bor (List TermRef))
     → before ≡ rest ++ cs ∷ [] → AllWaitingKnown f before → AllKnown f cs.now
 last_known f before rest cs b h =
     all_last (λ ns. AllKnown f ns.now) rest cs (subst (λ ws. AllWaitingKnown f ws) b h)
 
-pub others_known : (f : Grown) (before rest : List (Bor (List TermNo))) (cs : Bor (List TermNo))
+pub others_known : (f : Grown) (before rest : List (Bor (List TermRef))) (cs : Bor (List TermRef))
     → before ≡ rest ++ cs ∷ [] → AllWaitingKnown f before → AllWaitingKnown f rest
 others_known f before rest cs b h =
     all_front (λ ns. AllKnown f ns.now) rest cs (subst (λ ws. AllWaitingKnown f ws) b h)
 
-pub child_known : (f : Grown) (cs os : List TermNo) (n : TermNo) → cs ≡ n ∷ os → AllKnown f cs → IsSome (term_of f n)
+pub child_known : (f : Grown) (cs os : List TermRef) (n : TermRef) → cs ≡ n ∷ os → AllKnown f cs → IsSome (term_of f n)
 child_known f cs os n c h = known_front f n os (subst (λ ns. AllKnown f ns) c h)
 
-pub pushed_known : (f : Grown) (after rest : List (Bor (List TermNo))) (cs : List TermNo) (os : Bor (List TermNo))
-    (n : TermNo) → cs ≡ n ∷ os.now → after ≡ rest ++ os ∷ [] → AllKnown f cs → AllWaitingKnown f rest
+pub pushed_known : (f : Grown) (after rest : List (Bor (List TermRef))) (cs : List TermRef) (os : Bor (List TermRef))
+    (n : TermRef) → cs ≡ n ∷ os.now → after ≡ rest ++ os ∷ [] → AllKnown f cs → AllWaitingKnown f rest
     → AllWaitingKnown f after
 pushed_known f after rest cs os n c a h k =
     subst (λ ws. AllWaitingKnown f ws) (sym a)

@@ -1,18 +1,18 @@
 -- What numbers stand for, and that it stays.
 use Rattle.std.proofs.Common.{◌≡◌, ℕ, zero, suc, List, [], ◌∷◌, ◌++◌, get_or, arith, refl, ap, ◌∙◌}
 use Rattle.std.specs.Prelude.{slice_get, is_some, IsSome, None, Option, Some, option_map, unwrap_or}
-use Rattle.ly_tree.specs.Forest.{term_of, Grown, Keeps, Leafy, StandsFor, StandForAll}
+use Rattle.ly_tree.proofs.PieceLemmas.{piece-append}
+use Rattle.ly_tree.specs.Forest.{piece, term_of, Grown, Keeps, StandsFor, StandForAll}
 use Rattle.ly_tree.specs.Private.Grown.{terms_of, AllKnown}
 use Rattle.ly_tree.specs.Term.{Term, Terms, nothing, leaf, none, more}
-use Rattle.ly_tree.specs.declared.forest.TermNo.{TermNo}
-use Rattle.ly_tree.specs.declared.forest.TermNo.TheVariants.{Nothing, Leaf, Node}
+use Rattle.ly_tree.specs.declared.forest.TermRef.{TermRef}
+use Rattle.ly_tree.specs.declared.forest.TermRef.TheVariants.{Nothing, Leaf, Node}
 
--- what is made of an element that is there stays when more come behind
-option_map-append : {A B : Type 0} (f : A → B) (xs ys : List A) (k : ℕ) (b : B)
-    → option_map f (slice_get xs k) ≡ Some b → option_map f (slice_get (xs ++ ys) k) ≡ Some b
-option_map-append f [] ys k b e = cc
-option_map-append f (x ∷ xs) ys zero b e = e
-option_map-append f (x ∷ xs) ys (suc k) b e = option_map-append f xs ys k b e
+-- a leaf stays when more bytes come behind
+leaf-append : (terminal : ℕ) (o p : Option (List ℕ)) (t : Term) → ((text : List ℕ) → o ≡ Some text → p ≡ Some text)
+    → option_map (λ text. leaf terminal text) o ≡ Some t → option_map (λ text. leaf terminal text) p ≡ Some t
+leaf-append terminal None p t h e = cc
+leaf-append terminal (Some text) p t h e = ap (option_map (λ x. leaf terminal x)) (h text refl) ∙ e
 
 slice_get-append : {A : Type 0} (xs ys : List A) (k : ℕ) (x : A) → slice_get xs k ≡ Some x
     → slice_get (xs ++ ys) k ≡ Some x
@@ -20,57 +20,59 @@ slice_get-append [] ys k x e = cc
 slice_get-append (y ∷ xs) ys zero x e = e
 slice_get-append (y ∷ xs) ys (suc k) x e = slice_get-append xs ys k x e
 
--- leaves and terms that come behind change no term
-pub Keeps-append : (ls ms : List Leafy) (ts us : List Term)
-    → Keeps (record { leaves = ls; nodes = ts }) (record { leaves = ls ++ ms; nodes = ts ++ us })
+-- bytes and terms that come behind change no term
+pub Keeps-append : (ls ms : List ℕ) (ts us : List Term)
+    → Keeps (record { bytes = ls; nodes = ts }) (record { bytes = ls ++ ms; nodes = ts ++ us })
 Keeps-append ls ms ts us Nothing t e = e
-Keeps-append ls ms ts us (Leaf k) t e = option_map-append (λ l. leaf l.terminal l.bytes) ls ms k t e
+Keeps-append ls ms ts us (Leaf l) t e =
+    leaf-append l.terminal.0 (piece l.start l.length ls) (piece l.start l.length (ls ++ ms)) t
+    (λ text. piece-append l.start l.length ls ms text) e
 Keeps-append ls ms ts us (Node k) t e = slice_get-append ts us k t e
 
 -- a number that stands for a term has it
-pub known_stands : (f : Grown) (n : TermNo) → IsSome (term_of f n) → StandsFor f n (unwrap_or (term_of f n) nothing)
+pub known_stands : (f : Grown) (n : TermRef) → IsSome (term_of f n) → StandsFor f n (unwrap_or (term_of f n) nothing)
 known_stands f n h = unwrapped (term_of f n) h
   where
     unwrapped : (o : Option Term) → IsSome o → o ≡ Some (unwrap_or o nothing)
     unwrapped None h = cc
     unwrapped (Some t) h = refl
 
-pub stands_known : (f : Grown) (n : TermNo) (t : Term) → StandsFor f n t → IsSome (term_of f n)
+pub stands_known : (f : Grown) (n : TermRef) (t : Term) → StandsFor f n t → IsSome (term_of f n)
 stands_known f n t e = ap is_some e
 
-pub stands_unwrapped : (f : Grown) (n : TermNo) (t : Term) → StandsFor f n t → unwrap_or (term_of f n) nothing ≡ t
+pub stands_unwrapped : (f : Grown) (n : TermRef) (t : Term) → StandsFor f n t → unwrap_or (term_of f n) nothing ≡ t
 stands_unwrapped f n t e = ap (λ o. unwrap_or o nothing) e
 
-pub known_kept : (f g : Grown) (n : TermNo) → Keeps f g → IsSome (term_of f n) → IsSome (term_of g n)
+pub known_kept : (f g : Grown) (n : TermRef) → Keeps f g → IsSome (term_of f n) → IsSome (term_of g n)
 known_kept f g n k h = stands_known g n _ (k n _ (known_stands f n h))
 
-pub term_kept : (f g : Grown) (n : TermNo) → Keeps f g → IsSome (term_of f n)
+pub term_kept : (f g : Grown) (n : TermRef) → Keeps f g → IsSome (term_of f n)
     → unwrap_or (term_of g n) nothing ≡ unwrap_or (term_of f n) nothing
 term_kept f g n k h = stands_unwrapped g n _ (k n _ (known_stands f n h))
 
-pub all_known_kept : (f g : Grown) (ns : List TermNo) → Keeps f g → AllKnown f ns → AllKnown g ns
+pub all_known_kept : (f g : Grown) (ns : List TermRef) → Keeps f g → AllKnown f ns → AllKnown g ns
 all_known_kept f g ns k h i d l = known_kept f g (get_or ns i d) k (h i d l)
 
-pub known_front : (f : Grown) (n : TermNo) (ns : List TermNo) → AllKnown f (n ∷ ns) → IsSome (term_of f n)
+pub known_front : (f : Grown) (n : TermRef) (ns : List TermRef) → AllKnown f (n ∷ ns) → IsSome (term_of f n)
 known_front f n ns h = h 0 n (omega arith)
 
-pub known_rest : (f : Grown) (n : TermNo) (ns : List TermNo) → AllKnown f (n ∷ ns) → AllKnown f ns
+pub known_rest : (f : Grown) (n : TermRef) (ns : List TermRef) → AllKnown f (n ∷ ns) → AllKnown f ns
 known_rest f n ns h i d l = h (suc i) d (omega arith)
 
-pub terms_kept : (f g : Grown) (ns : List TermNo) → Keeps f g → AllKnown f ns → terms_of g ns ≡ terms_of f ns
+pub terms_kept : (f g : Grown) (ns : List TermRef) → Keeps f g → AllKnown f ns → terms_of g ns ≡ terms_of f ns
 terms_kept f g [] k h = refl
 terms_kept f g (n ∷ ns) k h = ap (λ t. more t (terms_of g ns)) (term_kept f g n k (known_front f n ns h))
     ∙ ap (λ ts. more (unwrap_or (term_of f n) nothing) ts) (terms_kept f g ns k (known_rest f n ns h))
 
 -- the terms that numbers stand for are theirs
-pub stand_unwrapped : (f : Grown) (ns : List TermNo) (ts : Terms) → StandForAll f ns ts → terms_of f ns ≡ ts
+pub stand_unwrapped : (f : Grown) (ns : List TermRef) (ts : Terms) → StandForAll f ns ts → terms_of f ns ≡ ts
 stand_unwrapped f [] none h = refl
 stand_unwrapped f [] (more t ts) h = absurd h
 stand_unwrapped f (n ∷ ns) none h = absurd h
 stand_unwrapped f (n ∷ ns) (more t ts) h = ap (λ u. more u (terms_of f ns)) (stands_unwrapped f n t h.0)
     ∙ ap (λ us. more t us) (stand_unwrapped f ns ts h.1)
 
-pub stand_all_kept : (f g : Grown) (ns : List TermNo) (ts : Terms) → Keeps f g → StandForAll f ns ts
+pub stand_all_kept : (f g : Grown) (ns : List TermRef) (ts : Terms) → Keeps f g → StandForAll f ns ts
     → StandForAll g ns ts
 stand_all_kept f g [] none k h = tt
 stand_all_kept f g [] (more t ts) k h = absurd h
@@ -78,15 +80,15 @@ stand_all_kept f g (n ∷ ns) none k h = absurd h
 stand_all_kept f g (n ∷ ns) (more t ts) k h = (k n t h.0, stand_all_kept f g ns ts k h.1)
 
 -- numbers that stand for terms may be a node's children
-pub stand_all_known : (f : Grown) (ns : List TermNo) (ts : Terms) → StandForAll f ns ts → AllKnown f ns
+pub stand_all_known : (f : Grown) (ns : List TermRef) (ts : Terms) → StandForAll f ns ts → AllKnown f ns
 stand_all_known f [] ts h i d l = absurd (omega arith)
 stand_all_known f (n ∷ ns) none h i d l = absurd h
 stand_all_known f (n ∷ ns) (more t ts) h zero d l = stands_known f n t h.0
 stand_all_known f (n ∷ ns) (more t ts) h (suc i) d l = stand_all_known f ns ts h.1 i d (omega arith)
 
-pub known_stand_all : (f : Grown) (ns : List TermNo) → AllKnown f ns → (ts : Terms) × StandForAll f ns ts
+pub known_stand_all : (f : Grown) (ns : List TermRef) → AllKnown f ns → (ts : Terms) × StandForAll f ns ts
 known_stand_all f ns h = (terms_of f ns, stand f ns h)
   where
-    stand : (f : Grown) (ns : List TermNo) → AllKnown f ns → StandForAll f ns (terms_of f ns)
+    stand : (f : Grown) (ns : List TermRef) → AllKnown f ns → StandForAll f ns (terms_of f ns)
     stand f [] h = tt
     stand f (n ∷ ns) h = (known_stands f n (known_front f n ns h), stand f ns (known_rest f n ns h))

@@ -1,35 +1,42 @@
--- What a forest holds: leaves and nodes, each a term by its number.
-use Rattle.std.specs.Prelude.{◌≡◌, ℕ, List, [], ◌∷◌, Option, Some, slice_get, option_map}
+-- What a forest holds: the texts of leaves, and nodes, each a term by where it stands.
+use Rattle.std.specs.Prelude.{◌≡◌, ℕ, zero, suc, List, [], ◌∷◌, Option, Some, None, slice_get, option_map}
 use Rattle.ly_tree.specs.Term.{Term, Terms, nothing, leaf, none, more}
-use Rattle.ly_tree.specs.declared.forest.TermNo.{TermNo}
-use Rattle.ly_tree.specs.declared.forest.TermNo.TheVariants.{Nothing, Leaf, Node}
+use Rattle.ly_tree.specs.declared.forest.TermRef.{TermRef}
+use Rattle.ly_tree.specs.declared.forest.TermRef.TheVariants.{Nothing, Leaf, Node}
 
--- A leaf: its terminal, and the token's bytes.
-pub record Leafy : Type 0 where
-  pub terminal : ℕ
-  pub bytes : List ℕ
-
--- The leaves, and the terms of the nodes.
+-- The bytes of all leaves, and the terms of the nodes.
 pub record Grown : Type 0 where
-  pub leaves : List Leafy
+  pub bytes : List ℕ
   pub nodes : List Term
 
--- the term of a number, if it has one
-abbrev pub term_of : Grown → TermNo → Option Term
+-- the first n bytes, if there are so many
+abbrev pub first : ℕ → List ℕ → Option (List ℕ)
+first zero bytes = Some []
+first (suc n) [] = None
+first (suc n) (b ∷ bytes) = option_map (λ front. b ∷ front) (first n bytes)
+
+-- n bytes behind so many, if there are so many
+abbrev pub piece : ℕ → ℕ → List ℕ → Option (List ℕ)
+piece zero n bytes = first n bytes
+piece (suc start) n [] = None
+piece (suc start) n (b ∷ bytes) = piece start n bytes
+
+-- the term that stands there, if one does
+abbrev pub term_of : Grown → TermRef → Option Term
 term_of f Nothing = Some nothing
-term_of f (Leaf k) = option_map (λ l. leaf l.terminal l.bytes) (slice_get f.leaves k)
+term_of f (Leaf l) = option_map (λ text. leaf l.terminal.0 text) (piece l.start l.length f.bytes)
 term_of f (Node k) = slice_get f.nodes k
 
--- the number stands for the term
-abbrev pub StandsFor : Grown → TermNo → Term → Type 0
-StandsFor f n t = term_of f n ≡ Some t
+-- the reference stands for the term
+abbrev pub StandsFor : Grown → TermRef → Term → Type 0
+StandsFor f r t = term_of f r ≡ Some t
 
--- numbers stand for terms, one by one
-abbrev pub StandForAll : Grown → List TermNo → Terms → Type 0
+-- references stand for terms, one by one
+abbrev pub StandForAll : Grown → List TermRef → Terms → Type 0
 StandForAll f [] none = Unit {0}
-StandForAll f (n ∷ ns) (more t ts) = StandsFor f n t × StandForAll f ns ts
+StandForAll f (r ∷ rs) (more t ts) = StandsFor f r t × StandForAll f rs ts
 StandForAll f _ _ = ⊥
 
--- a number that stands for a term stands for it still
+-- a reference that stands for a term stands for it still
 abbrev pub Keeps : Grown → Grown → Type 0
-Keeps f g = (n : TermNo) (t : Term) → StandsFor f n t → StandsFor g n t
+Keeps f g = (r : TermRef) (t : Term) → StandsFor f r t → StandsFor g r t

@@ -5,7 +5,7 @@ use mathlib.Core.Logic.{inl, inr}
 use mathlib.Core.Path.{ap, sym, ◌∙◌}
 use Rattle.std.proofs.Common.{append_assoc, append-nil}
 use Rattle.std.specs.Coded.{Coded, code_by, coded×, coded⊎, coded_ℕ, coded_list}
-use Rattle.ly_tree.specs.Forest.{Grown, Leafy}
+use Rattle.ly_tree.specs.Forest.{Grown}
 use Rattle.ly_tree.specs.Term.{Term, Terms, nothing, leaf, built, none, more}
 
 -- a node begins; a leaf; nothing; a node ends
@@ -97,10 +97,6 @@ term_code = code_by (List PrefixItem)
     (coded_list (coded⊎ coded_ℕ (coded⊎ (coded× coded_ℕ (coded_list coded_ℕ)) (coded⊎ coded_unit coded_unit)))) to_items
     from_items from_to
 
-abbrev pub leafy_code : Coded Leafy
-leafy_code = code_by (ℕ × List ℕ) (coded× coded_ℕ (coded_list coded_ℕ)) (λ l. (l.terminal, l.bytes))
-    (λ p. record { terminal = p.0; bytes = p.1 }) (λ _. refl)
-
 abbrev pub grown_code : Coded Grown
-grown_code = code_by (List Leafy × List Term) (coded× (coded_list leafy_code) (coded_list term_code))
-    (λ f. (f.leaves, f.nodes)) (λ p. record { leaves = p.0; nodes = p.1 }) (λ _. refl)
+grown_code = code_by (List ℕ × List Term) (coded× (coded_list coded_ℕ) (coded_list term_code))
+    (λ f. (f.bytes, f.nodes)) (λ p. record { bytes = p.0; nodes = p.1 }) (λ _. refl)

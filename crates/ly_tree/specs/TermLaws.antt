@@ -2,8 +2,8 @@
 use Rattle.std.specs.Prelude.{◌≡◌}
 use Rattle.ly_tree.specs.Forest.{Grown, StandsFor}
 use Rattle.ly_tree.specs.Term.{Term}
-use Rattle.ly_tree.specs.declared.forest.TermNo.{TermNo}
+use Rattle.ly_tree.specs.declared.forest.TermRef.{TermRef}
 
--- a number stands for one term
+-- a reference stands for one term
 abbrev pub StandsForOne : Type 0
-StandsForOne = (f : Grown) (n : TermNo) (s t : Term) → StandsFor f n s → StandsFor f n t → s ≡ t
+StandsForOne = (f : Grown) (r : TermRef) (s t : Term) → StandsFor f r s → StandsFor f r t → s ≡ t

@@ -1,29 +1,40 @@
-ghost use Rattle.std.specs.Prelude.{◌≡◌, [], ◌∷◌, ◌++◌, length, slice_get, Some, All, IsSome, OnOk, OnErr, IfOk};
+ghost use Rattle.std.specs.Prelude.{◌≡◌, ◌+◌, [], ◌∷◌, ◌++◌, length, slice_get, Some, All, IsSome, OnOk, OnErr, IfOk};
 ghost use Rattle.ly_tree.specs.Term.{Terms, leaf, built};
 
-use crate::headed::Headed;
+use crate::headed::{Headed, number_of, part};
 use ly_base::{OutOfMemory, RuleNo, Sym};
 use std::alloc::Global;
 use std::marker::Model;
 
-/// The number of a term in a forest.
+/// A term of a forest, by where it stands there.
 #[derive(Clone, Copy, Debug, PartialEq, Eq)]
-pub enum TermNo {
+pub enum TermRef {
     /// Nothing, which is in every forest.
     Nothing,
-    /// A leaf, by its number among the leaves.
-    Leaf(u32),
+    /// A leaf.
+    Leaf(Leaf),
     /// A node, by its number among the nodes.
     Node(u32),
 }
 
-/// Leaves with their text, and nodes over them.
+/// A leaf, whose text stands among the bytes of a forest.
+#[derive(Clone, Copy, Debug, PartialEq, Eq)]
+pub struct Leaf {
+    /// Its terminal.
+    pub(crate) terminal: Sym,
+    /// How many bytes stand before its text.
+    pub(crate) start: u32,
+    /// How many bytes its text has.
+    pub(crate) length: u32,
+}
+
+/// The texts of leaves, and nodes over leaves.
 #[derive(Drop)]
 pub struct Forest {
-    /// The leaves: the bytes of each, under its terminal.
-    leaves: Headed<Sym, u8>,
+    /// The texts, one behind another.
+    bytes: Vec<u8>,
     /// The nodes: the children of each, under its rule. A child that is a node stands before it.
-    nodes: Headed<RuleNo, TermNo>,
+    nodes: Headed<RuleNo, TermRef>,
 }
 
 impl Model for Forest {
@@ -35,11 +46,11 @@ impl Model for Forest {
     ghost coded = { grown_code };
 
     ghost use Rattle.std.specs.Prelude.{[]};
-    ghost use Rattle.ly_tree.specs.Private.Grown.{grown, leaves_from, AreKnown};
+    ghost use Rattle.ly_tree.specs.Private.Grown.{grown, AreKnown};
 
-    ghost view = { λ f. grown f.leaves f.nodes };
+    ghost view = { λ f. grown f.bytes.items f.nodes };
 
-    ghost invariant = { λ f. AreKnown (leaves_from f.leaves) [] f.nodes };
+    ghost invariant = { λ f. AreKnown f.bytes.items [] f.nodes };
 }
 
 impl Forest {
@@ -48,48 +59,56 @@ impl Forest {
 
     /// No leaves and no nodes.
     pub fn new(alloc: Global) -> Self
-        ensures { result ≡ record { leaves = []; nodes = [] } }
+        ensures { result ≡ record { bytes = []; nodes = [] } }
     {
         Forest {
-            leaves: Headed::new(alloc),
+            bytes: Vec::new(alloc),
             nodes: Headed::new(alloc),
         }
     }
 
-    /// Adds a leaf, and answers its number. It is out of memory also past `u32::MAX` leaves, or bytes of leaves. After
-    /// the fault the forest is as it was.
-    pub fn leaf(&mut self, terminal: Sym, text: &[u8]) -> Result<TermNo, OutOfMemory>
-        ensures stands { IfOk result (λ n. StandsFor self.new n (leaf terminal.0 text.now)) }
+    /// Adds the text of a leaf, and answers the leaf. It is out of memory also for a text of more than `u32::MAX` bytes,
+    /// or behind as many. After the fault the forest is as it was.
+    pub fn leaf(&mut self, terminal: Sym, text: &[u8]) -> Result<TermRef, OutOfMemory>
+        ensures stands { IfOk result (λ r. StandsFor self.new r (leaf terminal.0 text.now)) }
         ensures keeps { OnOk result (Keeps self.old self.new) }
         ensures err { OnErr result (self.new ≡ self.old) }
     {
-        Ok(TermNo::Leaf(self.leaves.push(terminal, text)?))
+        let start = number_of(self.bytes.len())?;
+        let length = number_of(text.len())?;
+        self.bytes.extend_from_slice(text)?;
+        Ok(TermRef::Leaf(Leaf {
+            terminal,
+            start,
+            length,
+        }))
     }
 
-    /// Adds a node, and answers its number. It is out of memory also past `u32::MAX` nodes, or children of nodes. After
+    /// Adds a node, and answers it. It is out of memory also past `u32::MAX` nodes, or children of nodes. After
     /// the fault the forest is as it was.
-    pub fn node(&mut self, rule: RuleNo, children: &[TermNo]) -> Result<TermNo, OutOfMemory>
+    pub fn node(&mut self, rule: RuleNo, children: &[TermRef]) -> Result<TermRef, OutOfMemory>
         requires { All (λ n. IsSome (term_of self.old n)) children.now }
         ensures stands { IfOk result (λ n. (ts : Terms) → StandForAll self.old children.now ts
             → StandsFor self.new n (built rule.0 ts)) }
         ensures keeps { OnOk result (Keeps self.old self.new) }
         ensures err { OnErr result (self.new ≡ self.old) }
     {
-        Ok(TermNo::Node(self.nodes.push(rule, children)?))
+        Ok(TermRef::Node(self.nodes.push(rule, children)?))
     }
 
-    /// A leaf: its terminal and its text.
-    pub(crate) fn leaf_at(&self, number: u32) -> (Sym, &[u8])
-        requires { IsSome (term_of self.now (TermNo.Leaf number)) }
-        ensures { StandsFor self.now (TermNo.Leaf number) (leaf result.0.0 result.1.now) }
+    /// The text of a leaf.
+    pub(crate) fn text_of(&self, place: Leaf) -> &[u8]
+        requires { IsSome (term_of self.now (TermRef.Leaf place)) }
+        ensures { StandsFor self.now (TermRef.Leaf place) (leaf place.terminal.0 result.now) }
     {
-        self.leaves.get(number)
+        let start = place.start as usize;
+        part(&self.bytes, start, start + place.length as usize)
     }
 
     /// A node: its rule and its children.
-    pub(crate) fn node_at(&self, number: u32) -> (RuleNo, &[TermNo])
-        requires { IsSome (term_of self.now (TermNo.Node number)) }
-        ensures term { StandsFor self.now (TermNo.Node number) (built result.0.0 (terms_of self.now result.1.now)) }
+    pub(crate) fn node_at(&self, number: u32) -> (RuleNo, &[TermRef])
+        requires { IsSome (term_of self.now (TermRef.Node number)) }
+        ensures term { StandsFor self.now (TermRef.Node number) (built result.0.0 (terms_of self.now result.1.now)) }
         ensures known { AllKnown self.now result.1.now }
     {
         self.nodes.get(number)

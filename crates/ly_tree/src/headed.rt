@@ -81,7 +81,7 @@ impl<H: Copy, T: Copy> Headed<H, T> {
 }
 
 /// The members between two places.
-fn part<T>(members: &[T], start: usize, end: usize) -> &[T]
+pub(crate) fn part<T>(members: &[T], start: usize, end: usize) -> &[T]
     requires rises { start ≤ end }
     requires within { end ≤ length members.now }
     ensures { result.now ≡ take (end - start) (drop start members.now) }
@@ -102,7 +102,7 @@ fn start_of<H: Copy>(headings: &[Heading<H>], number: usize) -> usize
 }
 
 /// A count as a number.
-fn number_of(count: usize) -> Result<u32, OutOfMemory>
+pub(crate) fn number_of(count: usize) -> Result<u32, OutOfMemory>
     ensures { IfOk result (λ n. n ≡ count) }
 {
     u32::try_from(count).map_err(|_| OutOfMemory)

@@ -14,6 +14,6 @@ mod laws;
 mod show;
 mod words;
 
-pub use forest::{Forest, TermNo};
+pub use forest::{Forest, Leaf, TermRef};
 pub use laws::a_number_stands_for_one;
 pub use words::Words;

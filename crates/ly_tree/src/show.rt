@@ -4,7 +4,7 @@ ghost use Rattle.ly_tree.specs.Private.Printing.{next_text, number_text, waiting
 ghost use Rattle.ly_tree.specs.Shown.{shown, Vocabulary};
 ghost use Rattle.ly_tree.specs.Term.{Term};
 
-use crate::forest::{Forest, TermNo};
+use crate::forest::{Forest, TermRef};
 use crate::words::Words;
 use ly_base::{OutOfMemory, Terminal, TextBuffer};
 use std::alloc::Global;
@@ -16,7 +16,7 @@ impl Forest {
         &self,
         alloc: Global,
         words: &W,
-        root: TermNo,
+        root: TermRef,
     ) -> Result<Vec<u8>, OutOfMemory>
         requires { IsSome (term_of self.now root) }
         ensures { IfOk result (λ out. (t : Term) → StandsFor self.now root t → out.items ≡ shown
@@ -40,7 +40,7 @@ struct Printing<'f> {
     /// The text so far.
     out: TextBuffer,
     /// For each node that is begun and not ended, the outermost first, the children behind the one that is printed.
-    waiting: Vec<&'f [TermNo]>,
+    waiting: Vec<&'f [TermRef]>,
 }
 
 impl<'f> Printing<'f> {
@@ -50,8 +50,8 @@ impl<'f> Printing<'f> {
         &mut self,
         forest: &'f Forest,
         words: &W,
-        number: TermNo,
-    ) -> Result<Option<TermNo>, OutOfMemory>
+        number: TermRef,
+    ) -> Result<Option<TermRef>, OutOfMemory>
         requires number { IsSome (term_of forest.now number) }
         requires waiting { AllWaitingKnown forest.now self.old.waiting.items }
         ensures text { let v : Vocabulary = record {
@@ -67,13 +67,12 @@ impl<'f> Printing<'f> {
         ensures ends { result ≡ Ok None → self.new.waiting.items ≡ [] }
     {
         match number {
-            TermNo::Nothing => self.out.push_bytes(b"()")?,
-            TermNo::Leaf(leaf) => {
-                let (terminal, text) = forest.leaf_at(leaf);
-                let name = Terminal::Token(words.terminal_name(terminal));
-                self.out.push_leaf(name, text)?;
+            TermRef::Nothing => self.out.push_bytes(b"()")?,
+            TermRef::Leaf(leaf) => {
+                let name = Terminal::Token(words.terminal_name(leaf.terminal));
+                self.out.push_leaf(name, forest.text_of(leaf))?;
             }
-            TermNo::Node(node) => {
+            TermRef::Node(node) => {
                 let (rule, children) = forest.node_at(node);
                 self.out.push_bytes(words.constructor(rule))?;
                 self.out.push(b'(')?;
@@ -88,7 +87,7 @@ impl<'f> Printing<'f> {
     }
 
     /// Prints what stands before the next term, and answers it, if there is one.
-    fn go_on(&mut self) -> Result<Option<TermNo>, OutOfMemory>
+    fn go_on(&mut self) -> Result<Option<TermRef>, OutOfMemory>
         ensures text { IfOk result (λ next. (v : Vocabulary) (f : Grown) → self.new.out ++ next_text v f next
             ++ waiting_text v f self.new.waiting.items
             ≡ self.old.out ++ waiting_text v f self.old.waiting.items) }

@@ -14,8 +14,8 @@ use Rattle.ly_parse.specs.declared.step.Step as step
 use Rattle.ly_parse.specs.declared.step.Step.TheVariants.{Done}
 use Rattle.ly_tree.specs.Forest.{Grown, StandsFor, term_of}
 use Rattle.ly_tree.specs.Term.{Term, Terms, more, nothing}
-use Rattle.ly_tree.specs.declared.forest.TermNo.{TermNo}
-use Rattle.ly_tree.specs.declared.forest.TermNo.TheVariants.{Nothing}
+use Rattle.ly_tree.specs.declared.forest.TermRef.{TermRef}
+use Rattle.ly_tree.specs.declared.forest.TermRef.TheVariants.{Nothing}
 
 -- a level with the term of its number
 abbrev pub level_from : Grown → code.Level → Level
@@ -29,7 +29,7 @@ parse_from m f levels count over
     = record { machine = m; forest = f; stack = stack_from f levels; count = count; over = over }
 
 -- the number of the term at a place of a body, counted from 1
-abbrev pub term_at : List code.Level → ℕ → TermNo
+abbrev pub term_at : List code.Level → ℕ → TermRef
 term_at [] i = Nothing
 term_at (l ∷ body) zero = Nothing
 term_at (l ∷ body) (suc zero) = l.term

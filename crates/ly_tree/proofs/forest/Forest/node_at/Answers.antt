@@ -3,14 +3,14 @@ use Rattle.ly_tree.proofs.forest.Forest.node_at.Goals as goal
 
 pub get-requires : goal.get-requires
 get-requires c
-    = node_inside c.self.inside.leaves c.self.inside.nodes c.args.self.now c.args.number c.self.view_is c.requires
+    = node_inside c.self.inside.bytes.items c.self.inside.nodes c.args.self.now c.args.number c.self.view_is c.requires
 
 pub returns-clause-term : goal.returns-clause-term
 returns-clause-term c =
-    (node_is c.self.inside.leaves c.self.inside.nodes c.args.self.now c.args.number
+    (node_is c.self.inside.bytes.items c.self.inside.nodes c.args.self.now c.args.number
     (c.get.result.0, c.get.result.1.now) c.self.invariant c.self.view_is c.get.ensures).term
 
 pub returns-clause-known : goal.returns-clause-known
 returns-clause-known c =
-    (node_is c.self.inside.leaves c.self.inside.nodes c.args.self.now c.args.number
+    (node_is c.self.inside.bytes.items c.self.inside.nodes c.args.self.now c.args.number
     (c.get.result.0, c.get.result.1.now) c.self.invariant c.self.view_is c.get.ensures).known
