@@ -27,7 +27,7 @@ pub enum DriveFault {
         /// How many bytes went out.
         written: usize,
     },
-    /// A growth was refused, or the leaves, nodes, children or bytes of leaves of the text's tree come to 2^32 or more.
+    /// A growth was refused, or the text's tokens have 2^32 bytes or more, or its tree as many nodes or children.
     /// Nothing was written.
     #[error("out of memory")]
     OutOfMemory,

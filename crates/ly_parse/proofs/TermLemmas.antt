@@ -134,7 +134,7 @@ passed m f levels p count over n i number l t view h pass shape same =
     (subst (λ k. StandsFor f k (at_place (terms_of f (map (λ l. l.term) (drop n levels))) i))
     (term_at_is (drop n levels) i (i - 1) l next found) stands)))
 
--- the numbers of a node's children stand for the terms at their places
+-- what stands for a node's children stands for the terms at their places
 pub listed : (m : Machine) (f : Grown) (levels : List code.Level) (p : Parse) (count : ℕ) (over : Bool) (n : ℕ)
     (name places : Vec ℕ Global) (t : RuleTree) (w : List code.Level) (is : List ℕ) (list : List TermRef)
     → parse_from m f levels count over ≡ p → IsParse m f levels → t ≡ Build name places

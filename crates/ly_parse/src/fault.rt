@@ -15,7 +15,7 @@ pub enum ParseFault {
     /// The parse was over before the call.
     #[error("the parse is over")]
     Over,
-    /// A growth was refused, or the forest has no more numbers for leaves, nodes, children or bytes of leaves.
+    /// A growth was refused, or the forest has no more numbers for nodes, children or bytes of tokens.
     #[error("out of memory")]
     OutOfMemory,
 }

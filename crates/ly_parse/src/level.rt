@@ -9,7 +9,7 @@ use ly_tree::TermRef;
 pub(crate) struct Level {
     /// The state.
     pub(crate) state: StateNo,
-    /// The term's number.
+    /// The term.
     pub(crate) term: TermRef,
 }
 

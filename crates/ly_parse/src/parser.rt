@@ -214,7 +214,12 @@ impl<'a, A: Rows<TableAction> + Drop, G: Rows<StateNo> + Drop> Parser<'a, A, G> 
     }
 
     /// What a rule makes of the terms on the stack above so many levels.
-    fn make(&mut self, number: RuleNo, tree: &RuleTree, below: usize) -> Result<TermRef, OutOfMemory>
+    fn make(
+        &mut self,
+        number: RuleNo,
+        tree: &RuleTree,
+        below: usize,
+    ) -> Result<TermRef, OutOfMemory>
         requires within { below ≤ length self.old.stack }
         requires shape { IsShapeFor (length self.old.stack - below) (shape_of tree.now) }
         ensures made { IfOk result (λ n. StandsFor self.new.forest n (made number.0 (shape_of tree.now)

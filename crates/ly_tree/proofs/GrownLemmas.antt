@@ -1,7 +1,7 @@
--- What the leaves and nodes of a forest stand for, and that it stays when more come.
+-- What leaves and nodes of a forest stand for, and that it stays when more come.
 use Rattle.std.proofs.Common.{◌≡◌, ℕ, zero, suc, ◌+◌, ◌-◌, ◌<◌, ◌≤◌, List, [], ◌∷◌, ◌++◌, length, take, drop, arith}
 use Rattle.std.proofs.Common.{refl, sym, ap, ◌∙◌, subst, append-nil, length-append}
-use Rattle.std.specs.Prelude.{slice_get, IsSome, None, Option, Some, option_map}
+use Rattle.std.specs.Prelude.{slice_get, IsSome, Some, option_map}
 use Rattle.ly_base.specs.declared.numbers.RuleNo.{RuleNo}
 use Rattle.ly_tree.proofs.PieceLemmas.{mapped_some, piece_end, piece_inside, piece_is}
 use Rattle.ly_tree.proofs.StandLemmas.{all_known_kept, stand_unwrapped, terms_kept, Keeps-append}
@@ -42,17 +42,17 @@ pub AreKnown-push : (ls : List ℕ) (done : List Term) (bs : List (RuleNo × Lis
 AreKnown-push ls done [] b h k = (k, tt)
 AreKnown-push ls done (c ∷ bs) b h k = (h.0, AreKnown-push ls (done ++ node_term ls done c ∷ []) bs b h.1 k)
 
-pub more_leaves : (ls ms : List ℕ) (done : List Term)
+pub more_bytes : (ls ms : List ℕ) (done : List Term)
     → Keeps (record { bytes = ls; nodes = done }) (record { bytes = ls ++ ms; nodes = done })
-more_leaves ls ms done n t e = subst (λ ts. StandsFor (record { bytes = ls ++ ms; nodes = ts }) n t) (append-nil done)
+more_bytes ls ms done n t e = subst (λ ts. StandsFor (record { bytes = ls ++ ms; nodes = ts }) n t) (append-nil done)
     (Keeps-append ls ms done [] n t e)
 
--- more leaves change no node
+-- more bytes change no node
 node_term-leaf : (ls ms : List ℕ) (done : List Term) (b : RuleNo × List TermRef)
     → AllKnown (record { bytes = ls; nodes = done }) b.1 → node_term (ls ++ ms) done b ≡ node_term ls done b
 node_term-leaf ls ms done b h =
     ap (λ ts. built b.0.0 ts) (terms_kept (record { bytes = ls; nodes = done })
-    (record { bytes = ls ++ ms; nodes = done }) b.1 (more_leaves ls ms done) h)
+    (record { bytes = ls ++ ms; nodes = done }) b.1 (more_bytes ls ms done) h)
 
 pub terms_from-leaf : (ls ms : List ℕ) (done : List Term) (bs : List (RuleNo × List TermRef))
     → AreKnown ls done bs → terms_from (ls ++ ms) done bs ≡ terms_from ls done bs
@@ -66,7 +66,7 @@ pub AreKnown-leaf : (ls ms : List ℕ) (done : List Term) (bs : List (RuleNo × 
 AreKnown-leaf ls ms done [] h = tt
 AreKnown-leaf ls ms done (b ∷ bs) h = (
   all_known_kept (record { bytes = ls; nodes = done }) (record { bytes = ls ++ ms; nodes = done }) b.1
-      (more_leaves ls ms done) h.0,
+      (more_bytes ls ms done) h.0,
   subst (λ t. AreKnown (ls ++ ms) (done ++ t ∷ []) bs) (sym (node_term-leaf ls ms done b h.0))
       (AreKnown-leaf ls ms (done ++ node_term ls done b ∷ []) bs h.1),
 )
@@ -161,7 +161,7 @@ leaf_keeps ls ms text bs f h v e =
     = ap (λ xs. record { bytes = xs; nodes = terms_from xs [] bs }) e
     ∙ ap (λ ts. record { bytes = ls ++ text; nodes = ts }) (terms_from-leaf ls text [] bs h) in
     subst (λ g. Keeps g (grown ms bs)) v (subst (λ g. Keeps (grown ls bs) g) (sym same)
-    (more_leaves ls text (terms_from ls [] bs)))
+    (more_bytes ls text (terms_from ls [] bs)))
 
 pub leaf_stands : (ls ms text : List ℕ) (bs : List (RuleNo × List TermRef)) (l : code.Leaf) → ms ≡ ls ++ text
     → l.start ≡ length ls → l.length ≡ length text → StandsFor (grown ms bs) (Leaf l) (leaf l.terminal.0 text)

@@ -9,7 +9,7 @@ use Rattle.std.proofs.Math.Seq.{get_or-append_seam}
 use Rattle.ly_tree.proofs.StandLemmas.{known_front, known_rest}
 use Rattle.ly_tree.specs.Forest.{term_of, Grown, StandsFor}
 use Rattle.ly_tree.specs.Private.Grown.{terms_of, AllKnown}
-use Rattle.ly_tree.specs.Private.Printing.{number_text, waiting_text, tail_text, AllWaitingKnown}
+use Rattle.ly_tree.specs.Private.Printing.{term_text, waiting_text, tail_text, AllWaitingKnown}
 use Rattle.ly_tree.specs.Shown.{shown, shown_all, Vocabulary}
 use Rattle.ly_tree.specs.Term.{nothing, built}
 use Rattle.ly_tree.specs.declared.forest.TermRef.{TermRef}
@@ -23,13 +23,13 @@ waiting_text-push v f (ms ∷ rest) ns = ap (λ t. t ++ tail_text v f ms.now) (w
 
 -- the terms between a node's parentheses, and its end
 pub shown_all-tail : (v : Vocabulary) (f : Grown) (n : TermRef) (ns : List TermRef)
-    → shown_all v (terms_of f (n ∷ ns)) ++ codes ")" ≡ number_text v f n ++ tail_text v f ns
+    → shown_all v (terms_of f (n ∷ ns)) ++ codes ")" ≡ term_text v f n ++ tail_text v f ns
 shown_all-tail v f n [] = refl
 shown_all-tail v f n (m ∷ ns) =
-    append_assoc (number_text v f n ++ codes ",") (shown_all v (terms_of f (m ∷ ns))) (codes ")")
-    ∙ (ap (λ t. (number_text v f n ++ codes ",") ++ t) (shown_all-tail v f m ns)
-    ∙ (append_assoc (number_text v f n) (codes ",") (number_text v f m ++ tail_text v f ns)
-    ∙ ap (λ t. number_text v f n ++ t) (sym (append_assoc (codes ",") (number_text v f m) (tail_text v f ns)))))
+    append_assoc (term_text v f n ++ codes ",") (shown_all v (terms_of f (m ∷ ns))) (codes ")")
+    ∙ (ap (λ t. (term_text v f n ++ codes ",") ++ t) (shown_all-tail v f m ns)
+    ∙ (append_assoc (term_text v f n) (codes ",") (term_text v f m ++ tail_text v f ns)
+    ∙ ap (λ t. term_text v f n ++ t) (sym (append_assoc (codes ",") (term_text v f m) (tail_text v f ns)))))
 
 pub all_front : {A : Type 0} (P : A → Type 0) (xs : List A) (x : A) → All P (xs ++ x ∷ []) → All P xs
 all_front P xs x h k d l = subst P (get_or-append xs (x ∷ []) d k l)
@@ -43,7 +43,7 @@ all_last P xs x h = subst P (get_or-append_seam xs x [] x)
 pub comma_text : (v : Vocabulary) (f : Grown) (out out' : List ℕ) (before after rest : List (Bor (List TermRef)))
     (cs os : Bor (List TermRef)) (n : TermRef) → before ≡ rest ++ cs ∷ [] → cs.now ≡ n ∷ os.now → out' ≡ out ++ 44 ∷ []
     → after ≡ rest ++ os ∷ []
-    → out' ++ number_text v f n ++ waiting_text v f after ≡ out ++ waiting_text v f before
+    → out' ++ term_text v f n ++ waiting_text v f after ≡ out ++ waiting_text v f before
 comma_text v f out out' before after rest cs os n b c o a =
     rw (o, a, b, waiting_text-push v f rest os, waiting_text-push v f rest cs, c) (simp append_assoc)
 
@@ -57,9 +57,9 @@ end_text v f out out' before rest cs b c o = rw (o, b, waiting_text-push v f res
 pub begin_text : (v : Vocabulary) (f : Grown) (out named out' : List ℕ) (before after : List (Bor (List TermRef)))
     (cs : List TermRef) (os : Bor (List TermRef)) (n first : TermRef) (p : ℕ) → StandsFor f n (built p (terms_of f cs))
     → cs ≡ first ∷ os.now → named ≡ out ++ v.constructor p → out' ≡ named ++ 40 ∷ [] → after ≡ before ++ os ∷ []
-    → out' ++ number_text v f first ++ waiting_text v f after ≡ out ++ number_text v f n ++ waiting_text v f before
+    → out' ++ term_text v f first ++ waiting_text v f after ≡ out ++ term_text v f n ++ waiting_text v f before
 begin_text v f out named out' before after cs os n first p stands c name o a =
-    let node : number_text v f n ≡ v.constructor p ++ codes "(" ++ (number_text v f first ++ tail_text v f os.now)
+    let node : term_text v f n ≡ v.constructor p ++ codes "(" ++ (term_text v f first ++ tail_text v f os.now)
     = ap (λ t. shown v (unwrap_or t nothing)) stands
     ∙ (ap (λ ns. v.constructor p ++ codes "(" ++ shown_all v (terms_of f ns) ++ codes ")") c
     ∙ (append_assoc (v.constructor p ++ codes "(") (shown_all v (terms_of f (first ∷ os.now))) (codes ")")

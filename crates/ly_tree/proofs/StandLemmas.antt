@@ -1,4 +1,4 @@
--- What numbers stand for, and that it stays.
+-- What references stand for, and that it stays.
 use Rattle.std.proofs.Common.{◌≡◌, ℕ, zero, suc, List, [], ◌∷◌, ◌++◌, get_or, arith, refl, ap, ◌∙◌}
 use Rattle.std.specs.Prelude.{slice_get, is_some, IsSome, None, Option, Some, option_map, unwrap_or}
 use Rattle.ly_tree.proofs.PieceLemmas.{piece-append}
@@ -29,7 +29,7 @@ Keeps-append ls ms ts us (Leaf l) t e =
     (λ text. piece-append l.start l.length ls ms text) e
 Keeps-append ls ms ts us (Node k) t e = slice_get-append ts us k t e
 
--- a number that stands for a term has it
+-- a reference that stands for a term has it
 pub known_stands : (f : Grown) (n : TermRef) → IsSome (term_of f n) → StandsFor f n (unwrap_or (term_of f n) nothing)
 known_stands f n h = unwrapped (term_of f n) h
   where
@@ -64,7 +64,7 @@ terms_kept f g [] k h = refl
 terms_kept f g (n ∷ ns) k h = ap (λ t. more t (terms_of g ns)) (term_kept f g n k (known_front f n ns h))
     ∙ ap (λ ts. more (unwrap_or (term_of f n) nothing) ts) (terms_kept f g ns k (known_rest f n ns h))
 
--- the terms that numbers stand for are theirs
+-- the terms that references stand for are theirs
 pub stand_unwrapped : (f : Grown) (ns : List TermRef) (ts : Terms) → StandForAll f ns ts → terms_of f ns ≡ ts
 stand_unwrapped f [] none h = refl
 stand_unwrapped f [] (more t ts) h = absurd h
@@ -79,7 +79,7 @@ stand_all_kept f g [] (more t ts) k h = absurd h
 stand_all_kept f g (n ∷ ns) none k h = absurd h
 stand_all_kept f g (n ∷ ns) (more t ts) k h = (k n t h.0, stand_all_kept f g ns ts k h.1)
 
--- numbers that stand for terms may be a node's children
+-- references that stand for terms may be a node's children
 pub stand_all_known : (f : Grown) (ns : List TermRef) (ts : Terms) → StandForAll f ns ts → AllKnown f ns
 stand_all_known f [] ts h i d l = absurd (omega arith)
 stand_all_known f (n ∷ ns) none h i d l = absurd h

@@ -1,6 +1,6 @@
 ghost use Rattle.std.specs.Prelude.{◌≡◌, ◌<◌, ◌≤◌, ◌++◌, [], length, Some, IfOk, IsSome, OnOk};
 ghost use Rattle.ly_tree.specs.Forest.{term_of, Grown, StandsFor};
-ghost use Rattle.ly_tree.specs.Private.Printing.{next_text, number_text, waiting_text, AllWaitingKnown, IsNextKnown};
+ghost use Rattle.ly_tree.specs.Private.Printing.{next_text, term_text, waiting_text, AllWaitingKnown, IsNextKnown};
 ghost use Rattle.ly_tree.specs.Shown.{shown, Vocabulary};
 ghost use Rattle.ly_tree.specs.Term.{Term};
 
@@ -10,7 +10,7 @@ use ly_base::{OutOfMemory, Terminal, TextBuffer};
 use std::alloc::Global;
 
 impl Forest {
-    /// The printed term of a number: nothing is `()`, a leaf is as `NUM"12"`, and a node as `Add(NUM"1",NUM"2")`. It
+    /// A term as it is printed: nothing is `()`, a leaf is as `NUM"12"`, and a node as `Add(NUM"1",NUM"2")`. It
     /// fails where memory runs out.
     pub fn show<W: Words>(
         &self,
@@ -27,8 +27,8 @@ impl Forest {
             waiting: Vec::new(alloc),
         };
         let mut next = Some(root);
-        while let Some(number) = next {
-            next = printing.print(self, words, number)?;
+        while let Some(term) = next {
+            next = printing.print(self, words, term)?;
         }
         Ok(printing.out.into_bytes()?)
     }
@@ -50,23 +50,23 @@ impl<'f> Printing<'f> {
         &mut self,
         forest: &'f Forest,
         words: &W,
-        number: TermRef,
+        term: TermRef,
     ) -> Result<Option<TermRef>, OutOfMemory>
-        requires number { IsSome (term_of forest.now number) }
+        requires term { IsSome (term_of forest.now term) }
         requires waiting { AllWaitingKnown forest.now self.old.waiting.items }
         ensures text { let v : Vocabulary = record {
           terminal = W.terminals words.now;
           constructor = W.constructors words.now;
         } in IfOk result (λ next. self.new.out
             ++ next_text v forest.now next ++ waiting_text v forest.now self.new.waiting.items
-            ≡ self.old.out ++ number_text v forest.now number
+            ≡ self.old.out ++ term_text v forest.now term
             ++ waiting_text v forest.now self.old.waiting.items) }
         ensures grows { OnOk result (length self.old.out < length self.new.out) }
         ensures next { IfOk result (IsNextKnown forest.now) }
         ensures waiting { OnOk result (AllWaitingKnown forest.now self.new.waiting.items) }
         ensures ends { result ≡ Ok None → self.new.waiting.items ≡ [] }
     {
-        match number {
+        match term {
             TermRef::Nothing => self.out.push_bytes(b"()")?,
             TermRef::Leaf(leaf) => {
                 let name = Terminal::Token(words.terminal_name(leaf.terminal));

@@ -17,7 +17,7 @@ use Rattle.ly_tree.specs.Term.{Term, Terms, more, nothing}
 use Rattle.ly_tree.specs.declared.forest.TermRef.{TermRef}
 use Rattle.ly_tree.specs.declared.forest.TermRef.TheVariants.{Nothing}
 
--- a level with the term of its number
+-- a level with the term that its reference stands for
 abbrev pub level_from : Grown → code.Level → Level
 level_from f l = record { state = l.state.0; term = unwrap_or (term_of f l.term) nothing }
 
@@ -28,7 +28,7 @@ abbrev pub parse_from : Machine → Grown → List code.Level → ℕ → Bool �
 parse_from m f levels count over
     = record { machine = m; forest = f; stack = stack_from f levels; count = count; over = over }
 
--- the number of the term at a place of a body, counted from 1
+-- what stands for the term at a place of a body, counted from 1
 abbrev pub term_at : List code.Level → ℕ → TermRef
 term_at [] i = Nothing
 term_at (l ∷ body) zero = Nothing

@@ -7,19 +7,19 @@ use Rattle.ly_tree.specs.Shown.{shown, Vocabulary}
 use Rattle.ly_tree.specs.Term.{nothing}
 use Rattle.ly_tree.specs.declared.forest.TermRef.{TermRef}
 
--- the text of a number's term
-abbrev pub number_text : Vocabulary → Grown → TermRef → List ℕ
-number_text v f n = shown v (unwrap_or (term_of f n) nothing)
+-- a term as it is printed
+abbrev pub term_text : Vocabulary → Grown → TermRef → List ℕ
+term_text v f n = shown v (unwrap_or (term_of f n) nothing)
 
 -- that of the term that is next, if there is one
 abbrev pub next_text : Vocabulary → Grown → Option TermRef → List ℕ
 next_text v f None = []
-next_text v f (Some n) = number_text v f n
+next_text v f (Some n) = term_text v f n
 
 -- the end of a node, from behind one of its children: a comma and a term for each child that is left
 abbrev pub tail_text : Vocabulary → Grown → List TermRef → List ℕ
 tail_text v f [] = codes ")"
-tail_text v f (n ∷ ns) = codes "," ++ number_text v f n ++ tail_text v f ns
+tail_text v f (n ∷ ns) = codes "," ++ term_text v f n ++ tail_text v f ns
 
 -- the ends of nodes, the last one's first
 abbrev pub waiting_text : Vocabulary → Grown → List (Bor (List TermRef)) → List ℕ

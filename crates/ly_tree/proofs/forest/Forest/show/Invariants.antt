@@ -1,5 +1,5 @@
 use Rattle.std.proofs.Common.{◌≡◌, ◌++◌, [], length, None}
-use Rattle.ly_tree.specs.Private.Printing.{next_text, number_text, waiting_text, AllWaitingKnown, IsNextKnown}
+use Rattle.ly_tree.specs.Private.Printing.{next_text, term_text, waiting_text, AllWaitingKnown, IsNextKnown}
 use Rattle.ly_tree.specs.Shown.{Vocabulary}
 use Rattle.ly_tree.proofs.forest.Forest.show.Given as goal
 
@@ -12,7 +12,7 @@ invariant-loop-next g l =
     } in
     record {
       text : l.printing.out ++ next_text v l.self l.next ++ waiting_text v l.self l.printing.waiting.items
-          ≡ number_text v l.self l.fn.root;
+          ≡ term_text v l.self l.fn.root;
       next : IsNextKnown l.self l.next;
       waiting : AllWaitingKnown l.self l.printing.waiting.items;
       ends : l.next ≡ None → l.printing.waiting.items ≡ [];

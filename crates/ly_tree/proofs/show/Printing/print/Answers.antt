@@ -9,7 +9,7 @@ returns-in-Some-clause-text g c =
       terminal = g.W.Words.terminals c.args.words.now;
       constructor = g.W.Words.constructors c.args.words.now;
     }) c.args.forest.now c.args.self.now.out c.push_bytes-in-Node.new.self c.push.new.self
-    c.args.self.now.waiting.items c.push-in-Some.new.self.items c.node_at.result.1.now c.in-Some.others c.args.number
+    c.args.self.now.waiting.items c.push-in-Some.new.self.items c.node_at.result.1.now c.in-Some.others c.args.term
     c.in-Some.first.now c.node_at.result.0.0
     (ap (term_of c.args.forest.now) c.in-Node.is ∙ c.node_at.ensures.term) c.in-Some.ensures.cases.0
     (c.in_ok-push_bytes-in-Node.ensures ∙ ap (λ name. c.args.self.now.out ++ name) c.constructor.ensures)
