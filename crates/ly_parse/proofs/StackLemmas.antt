@@ -22,6 +22,11 @@ pub stack_from-append : (f : Grown) (xs ys : List code.Level)
 stack_from-append f xs ys = ap (map (level_from f)) (reverse-append xs ys)
     ∙ map-append (level_from f) (reverse ys) (reverse xs)
 
+-- a push where room was made before
+pub on_top : (before reserved after : List code.Level) (l : code.Level) → reserved ≡ before
+    → after ≡ reserved ++ l ∷ [] → after ≡ before ++ l ∷ []
+on_top before reserved after l same pushes = pushes ∙ ap (λ levels. levels ++ l ∷ []) same
+
 -- a level that is pushed is on top
 pub stack_from-push : (f : Grown) (levels : List code.Level) (l : code.Level)
     → stack_from f (levels ++ l ∷ []) ≡ level_from f l ∷ stack_from f levels

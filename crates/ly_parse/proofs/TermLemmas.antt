@@ -11,12 +11,11 @@ use Rattle.ly_base.specs.declared.rule_tree.RuleTree.TheVariants.{Build, Pass}
 use Rattle.ly_pack.specs.Machine.{Machine, IsShapeFor}
 use Rattle.ly_parse.specs.Feeding.{Level, pop}
 use Rattle.ly_parse.specs.Parse.{Parse}
-use Rattle.ly_parse.specs.Private.Stack.{level_from, parse_from, stack_from, term_at, terms_onto, IsParse}
+use Rattle.ly_parse.specs.Private.Stack.{level_from, parse_from, stack_from, terms_onto, IsParse}
 use Rattle.ly_parse.specs.declared.level.Level as code
 use Rattle.ly_parse.proofs.StackLemmas.{above, length-stack_from, stack_from-append}
 use Rattle.ly_tree.proofs.StandLemmas.{known_stands}
-use Rattle.ly_tree.specs.Forest.{term_of, Grown, Keeps, StandsFor, StandForAll}
-use Rattle.ly_tree.specs.Private.Grown.{terms_of}
+use Rattle.ly_tree.specs.Forest.{term_of, terms_of, Grown, Keeps, StandsFor}
 use Rattle.ly_tree.specs.Term.{Terms, at_place, at_places, built, made, more, none, nothing}
 use Rattle.ly_tree.specs.declared.forest.TermRef.{TermRef}
 
@@ -45,50 +44,14 @@ body_terms f (l ∷ body) = ap (λ s. terms_onto s none) (stack_from-append f (l
     ∙ (terms_onto-append (stack_from f body) (level_from f l ∷ []) none
     ∙ ap (λ ts. more (unwrap_or (term_of f l.term) nothing) ts) (body_terms f body))
 
--- the term at a place of a body
-pub term_at_is : (body : List code.Level) (i k : ℕ) (l : code.Level) → i ≡ suc k → slice_get body k ≡ Some l
-    → term_at body i ≡ l.term
-term_at_is body i k l e h = ap (term_at body) e ∙ at body k h
-  where
-    at : (body : List code.Level) (k : ℕ) → slice_get body k ≡ Some l → term_at body (suc k) ≡ l.term
-    at [] k h = absurd cc
-    at (x ∷ body) zero h = let same : x ≡ l = cc in ap (λ y. y.term) same
-    at (x ∷ body) (suc k) h = at body k h
-
-pub at_place_stands : (f : Grown) (body : List code.Level) (i : ℕ) → All (λ l. IsSome (term_of f l.term)) body
-    → 1 ≤ i → i ≤ length body → StandsFor f (term_at body i) (at_place (terms_of f (map (λ l. l.term) body)) i)
-at_place_stands f [] i known low high = absurd (omega arith)
-at_place_stands f (l ∷ body) zero known low high = absurd (omega arith)
-at_place_stands f (l ∷ body) (suc zero) known low high = known_stands f l.term (known 0 l (omega arith))
-at_place_stands f (l ∷ body) (suc (suc i)) known low high =
-    at_place_stands f body (suc i) (λ k d h. known (suc k) d (omega arith)) (omega arith) (omega arith)
-
--- the terms at places of a body
-pub at_places_stand : (f : Grown) (body : List code.Level) (is : List ℕ)
-    → All (λ l. IsSome (term_of f l.term)) body → All (λ i. (1 ≤ i) × (i ≤ length body)) is
-    → StandForAll f (map (term_at body) is) (at_places (terms_of f (map (λ l. l.term) body)) is)
-at_places_stand f body [] known places = tt
-at_places_stand f body (i ∷ is) known places = (
-  at_place_stands f body i known (places 0 i (omega arith)).0 (places 0 i (omega arith)).1,
-  at_places_stand f body is known (λ k d h. places (suc k) d (omega arith)),
-)
-
--- a place more
-pub terms_more : (body : List code.Level) (places : List ℕ) (k : ℕ) (d : code.Level) (list longer : List TermRef)
-    → k < length places → All (λ i. (1 ≤ i) × (i ≤ length body)) places → list ≡ map (term_at body) (take k places)
-    → longer ≡ list ++ (get_or body (get_or places k 0 - 1) d).term ∷ []
-    → longer ≡ map (term_at body) (take (k + 1) places)
-terms_more body places k d list longer lt h before after =
-    let i = get_or places k 0 in
-    let low = (h k 0 lt).0 in
-    let high = (h k 0 lt).1 in
-    let next : i ≡ suc (i - 1) = omega (arith, low) in
-    let there = slice_get-get_or body (i - 1) d (omega (arith, low, high)) in
-    after ∙ (ap (λ ns. ns ++ (get_or body (i - 1) d).term ∷ []) before
-    ∙ (ap (λ n. map (term_at body) (take k places) ++ n ∷ [])
-    (sym (term_at_is body i (i - 1) (get_or body (i - 1) d) next there))
-    ∙ sym (ap (map (term_at body)) (take_more places k 0 lt)
-    ∙ map-append (term_at body) (take k places) (i ∷ []))))
+-- a level of a body stands for the term at its place
+level_stands : (f : Grown) (body : List code.Level) (k : ℕ) (d : code.Level)
+    → All (λ l. IsSome (term_of f l.term)) body → k < length body
+    → StandsFor f (get_or body k d).term (at_place (terms_of f (map (λ l. l.term) body)) (suc k))
+level_stands f [] k d known lt = absurd (omega arith)
+level_stands f (l ∷ body) zero d known lt = known_stands f l.term (known 0 l (omega arith))
+level_stands f (l ∷ body) (suc k) d known lt =
+    level_stands f body k d (λ i e h. known (suc i) e (omega arith)) (omega arith)
 
 -- the terms of the levels above so many, as contracts see them
 body_of : (m : Machine) (f : Grown) (levels : List code.Level) (p : Parse) (count : ℕ) (over : Bool) (n : ℕ)
@@ -122,55 +85,56 @@ passed m f levels p count over n i number l t view h pass shape same =
     let size = body_size m f levels p count over n view in
     let low = within.0 in
     let high = within.1 in
-    let next : i ≡ suc (i - 1) = omega (arith, low) in
-    let there = slice_get-get_or (drop n levels) (i - 1) l (omega (arith, low, high, size)) in
-    let found = there ∙ ap Some (get_or-drop n levels (i - 1) l ∙ sym same) in
-    let stands = at_place_stands f (drop n levels) i (body_known m f levels n h) low (omega (arith, high, size)) in
+    let next : suc (i - 1) ≡ i = omega (arith, low) in
+    let stands = level_stands f (drop n levels) (i - 1) l (body_known m f levels n h) (omega (arith, low, high, size)) in
     subst (λ g. StandsFor g l.term (made number (shape_of t) (terms_onto (take (length p.stack - n) p.stack) none)))
     (ap (λ q. q.forest) view)
     (subst (λ u. StandsFor f l.term (made number (shape_of u) (terms_onto (take (length p.stack - n) p.stack) none)))
     (sym pass)
     (subst (λ ts. StandsFor f l.term (at_place ts i)) (sym (body_of m f levels p count over n view))
-    (subst (λ k. StandsFor f k (at_place (terms_of f (map (λ l. l.term) (drop n levels))) i))
-    (term_at_is (drop n levels) i (i - 1) l next found) stands)))
+    (subst (λ k. StandsFor f l.term (at_place (terms_of f (map (λ l. l.term) (drop n levels))) k)) next
+    (subst (λ k. StandsFor f k.term (at_place (terms_of f (map (λ l. l.term) (drop n levels))) (suc (i - 1))))
+    (get_or-drop n levels (i - 1) l ∙ sym same) stands))))
 
--- what stands for a node's children stands for the terms at their places
-pub listed : (m : Machine) (f : Grown) (levels : List code.Level) (p : Parse) (count : ℕ) (over : Bool) (n : ℕ)
-    (name places : Vec ℕ Global) (t : RuleTree) (w : List code.Level) (is : List ℕ) (list : List TermRef)
-    → parse_from m f levels count over ≡ p → IsParse m f levels → t ≡ Build name places
+-- the levels above so many as a slice of those that are kept
+sliced : (w levels : List code.Level) (n : ℕ) → w ≡ levels → take (length w - n) (drop n w) ≡ drop n levels
+sliced w levels n whole = ap (λ x. take (length x - n) (drop n x)) whole
+    ∙ take_all (length levels - n) (drop n levels) (omega (arith, length-drop n levels))
+
+-- each stands for a term
+pub slice_known : (m : Machine) (f : Grown) (levels w : List code.Level) (n : ℕ) → IsParse m f levels → w ≡ levels
+    → All (λ l. IsSome (term_of f l.term)) (take (length w - n) (drop n w))
+slice_known m f levels w n h whole =
+    subst (All (λ l. IsSome (term_of f l.term))) (sym (sliced w levels n whole)) (body_known m f levels n h)
+
+-- the places of a node's children are there
+pub slice_places : (m : Machine) (f : Grown) (levels : List code.Level) (p : Parse) (count : ℕ) (over : Bool) (n : ℕ)
+    (name places : Vec ℕ Global) (t : RuleTree) (w : List code.Level) (is : List ℕ)
+    → parse_from m f levels count over ≡ p → t ≡ Build name places
     → IsShapeFor (length p.stack - n) (shape_of t) → w ≡ levels → is ≡ places.items
-    → list ≡ map (term_at (take (length w - n) (drop n w))) is
-    → StandForAll f list (at_places (terms_onto (take (length p.stack - n) p.stack) none) places.items)
-listed m f levels p count over n name places t w is list view h build shape whole same terms =
+    → All (λ i. (1 ≤ i) × (i ≤ length (take (length w - n) (drop n w)))) is
+slice_places m f levels p count over n name places t w is view build shape whole same =
     let within = (subst (λ u. IsShapeFor (length p.stack - n) (shape_of u)) build shape).1 in
-    let size = body_size m f levels p count over n view in
-    let all : All (λ i. (1 ≤ i) × (i ≤ length (drop n levels))) places.items
-    = subst (λ k. All (λ i. (1 ≤ i) × (i ≤ k)) places.items) size within in
-    let cut : take (length levels - n) (drop n levels) ≡ drop n levels
-    = take_all (length levels - n) (drop n levels) (omega (arith, length-drop n levels)) in
-    let made : list ≡ map (term_at (drop n levels)) places.items
-    = terms ∙ (ap (λ x. map (term_at (take (length x - n) (drop n x))) is) whole
-    ∙ (ap (λ x. map (term_at x) is) cut ∙ ap (map (term_at (drop n levels))) same)) in
-    subst (λ ns. StandForAll f ns (at_places (terms_onto (take (length p.stack - n) p.stack) none) places.items))
-    (sym made)
-    (subst (λ ts. StandForAll f (map (term_at (drop n levels)) places.items) (at_places ts places.items))
-    (sym (body_of m f levels p count over n view))
-    (at_places_stand f (drop n levels) places.items (body_known m f levels n h) all))
+    subst (λ k. All (λ i. (1 ≤ i) × (i ≤ k)) is)
+    (body_size m f levels p count over n view ∙ ap (λ x. length x) (sym (sliced w levels n whole)))
+    (subst (All (λ i. (1 ≤ i) × (i ≤ length p.stack - n))) (sym same) within)
 
 -- so the node is what the rule makes
 pub node_made : {E : Type 0} (m : Machine) (f g : Grown) (levels : List code.Level) (p : Parse) (count : ℕ)
     (over : Bool) (n number : ℕ) (name places : Vec ℕ Global) (t : RuleTree) (w : List code.Level) (is : List ℕ)
-    (list : List TermRef) (r : Result TermRef E) → parse_from m f levels count over ≡ p → IsParse m f levels
-    → t ≡ Build name places → IsShapeFor (length p.stack - n) (shape_of t) → w ≡ levels → is ≡ places.items
-    → list ≡ map (term_at (take (length w - n) (drop n w))) is
-    → IfOk r (λ k. (ts : Terms) → StandForAll f list ts → StandsFor g k (built number ts))
+    (r : Result TermRef E) → parse_from m f levels count over ≡ p → t ≡ Build name places → w ≡ levels
+    → is ≡ places.items → IfOk r (λ k. StandsFor g k
+    (built number (at_places (terms_of f (map (λ l. l.term) (take (length w - n) (drop n w)))) is)))
     → IfOk r (λ k. StandsFor g k (made number (shape_of t) (terms_onto (take (length p.stack - n) p.stack) none)))
-node_made m f g levels p count over n number name places t w is list (Err e) view h build shape whole same terms stands
-    = stands
-node_made m f g levels p count over n number name places t w is list (Ok k) view h build shape whole same terms stands
-    = subst (λ u. StandsFor g k (made number (shape_of u) (terms_onto (take (length p.stack - n) p.stack) none)))
-    (sym build) (stands (at_places (terms_onto (take (length p.stack - n) p.stack) none) places.items)
-    (listed m f levels p count over n name places t w is list view h build shape whole same terms))
+node_made m f g levels p count over n number name places t w is (Err e) view build whole same stands = stands
+node_made m f g levels p count over n number name places t w is (Ok k) view build whole same stands =
+    let terms = ap (λ x. terms_of f (map (λ l. l.term) x)) (sliced w levels n whole)
+    ∙ sym (body_of m f levels p count over n view) in
+    subst (λ u. StandsFor g k (made number (shape_of u) (terms_onto (take (length p.stack - n) p.stack) none)))
+    (sym build)
+    (subst (λ ts. StandsFor g k (built number (at_places ts places.items))) terms
+    (subst (λ ps. StandsFor g k
+    (built number (at_places (terms_of f (map (λ l. l.term) (take (length w - n) (drop n w)))) ps))) same stands))
 
 -- a call that adds to a forest, or leaves it as it was, keeps the terms
 pub kept_either : {T E : Type 0} (f g : Grown) (r : Result T E) → OnOk r (Keeps f g) → OnErr r (g ≡ f) → Keeps f g

@@ -13,7 +13,7 @@ ghost use Rattle.ly_tree.specs.Forest.{StandsFor};
 ghost use Rattle.ly_tree.specs.Term.{leaf, made, none};
 
 use crate::fault::ParseFault;
-use crate::level::{Level, list_terms};
+use crate::level::Level;
 use crate::settled::Settled;
 use crate::step::Step;
 use crate::token::Token;
@@ -32,8 +32,6 @@ pub struct Parser<'a, A: Rows<TableAction> + Drop, G: Rows<StateNo> + Drop> {
     forest: Forest,
     /// The stack above the bottom, whose state is 0; its top is last.
     stack: Vec<Level>,
-    /// The children of a node that is being made.
-    children: Vec<TermRef>,
     /// How many tokens were read.
     count: u64,
     /// Whether the parse has ended, well or not.
@@ -74,7 +72,6 @@ impl<'a, A: Rows<TableAction> + Drop, G: Rows<StateNo> + Drop> Parser<'a, A, G> 
             machine,
             forest: Forest::new(alloc),
             stack: Vec::new(alloc),
-            children: Vec::new(alloc),
             count: 0,
             over: false,
         }
@@ -209,7 +206,8 @@ impl<'a, A: Rows<TableAction> + Drop, G: Rows<StateNo> + Drop> Parser<'a, A, G> 
         let Some(state) = self.machine.goto(self.top(), rule.left) else {
             return Err(ParseFault::TableFault);
         };
-        self.stack.push(Level { state, term })?;
+        self.stack.reserve(1)?;
+        self.stack.push_reserved(Level { state, term });
         Ok(())
     }
 
@@ -232,10 +230,7 @@ impl<'a, A: Rows<TableAction> + Drop, G: Rows<StateNo> + Drop> Parser<'a, A, G> 
         match tree {
             RuleTree::Nil => Ok(TermRef::Nothing),
             RuleTree::Pass(place) => Ok(self.stack[below + (*place as usize - 1)].term),
-            RuleTree::Build { places, .. } => {
-                list_terms(&mut self.children, &self.stack[below..], places)?;
-                self.forest.node(number, &self.children)
-            }
+            RuleTree::Build { places, .. } => self.forest.node(number, &self.stack[below..], places),
         }
     }
 
@@ -254,7 +249,8 @@ impl<'a, A: Rows<TableAction> + Drop, G: Rows<StateNo> + Drop> Parser<'a, A, G> 
     {
         let count = self.number()?;
         let term = self.forest.leaf(token.terminal, token.text)?;
-        self.stack.push(Level { state, term })?;
+        self.stack.reserve(1)?;
+        self.stack.push_reserved(Level { state, term });
         self.count = count;
         self.over = false;
         Ok(())

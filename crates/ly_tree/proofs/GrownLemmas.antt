@@ -5,8 +5,8 @@ use Rattle.std.specs.Prelude.{slice_get, IsSome, Some, option_map}
 use Rattle.ly_base.specs.declared.numbers.RuleNo.{RuleNo}
 use Rattle.ly_tree.proofs.PieceLemmas.{mapped_some, piece_end, piece_inside, piece_is}
 use Rattle.ly_tree.proofs.StandLemmas.{all_known_kept, stand_unwrapped, terms_kept, Keeps-append}
-use Rattle.ly_tree.specs.Forest.{piece, term_of, Grown, Keeps, StandsFor, StandForAll}
-use Rattle.ly_tree.specs.Private.Grown.{grown, node_term, terms_from, terms_of, AllKnown, AreKnown}
+use Rattle.ly_tree.specs.Forest.{piece, term_of, terms_of, Grown, Keeps, StandsFor, StandForAll}
+use Rattle.ly_tree.specs.Private.Grown.{grown, node_term, terms_from, AllKnown, AreKnown}
 use Rattle.ly_tree.specs.Term.{Term, Terms, leaf, built}
 use Rattle.ly_tree.specs.declared.forest.Leaf as code
 use Rattle.ly_tree.specs.declared.forest.TermRef.{TermRef}

@@ -1,5 +1,6 @@
 pub mod GrownLemmas
 pub mod HeadedLemmas
+pub mod PickLemmas
 pub mod PieceLemmas
 pub mod PrintingLemmas
 pub mod StandLemmas

@@ -7,8 +7,8 @@ use Rattle.std.proofs.lemmas.List.Elements.{All-push}
 use Rattle.std.proofs.Math.ListN.{get_or-append}
 use Rattle.std.proofs.Math.Seq.{get_or-append_seam}
 use Rattle.ly_tree.proofs.StandLemmas.{known_front, known_rest}
-use Rattle.ly_tree.specs.Forest.{term_of, Grown, StandsFor}
-use Rattle.ly_tree.specs.Private.Grown.{terms_of, AllKnown}
+use Rattle.ly_tree.specs.Forest.{term_of, terms_of, Grown, StandsFor}
+use Rattle.ly_tree.specs.Private.Grown.{AllKnown}
 use Rattle.ly_tree.specs.Private.Printing.{term_text, waiting_text, tail_text, AllWaitingKnown}
 use Rattle.ly_tree.specs.Shown.{shown, shown_all, Vocabulary}
 use Rattle.ly_tree.specs.Term.{nothing, built}

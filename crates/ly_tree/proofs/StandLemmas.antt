@@ -2,8 +2,8 @@
 use Rattle.std.proofs.Common.{◌≡◌, ℕ, zero, suc, List, [], ◌∷◌, ◌++◌, get_or, arith, refl, ap, ◌∙◌}
 use Rattle.std.specs.Prelude.{slice_get, is_some, IsSome, None, Option, Some, option_map, unwrap_or}
 use Rattle.ly_tree.proofs.PieceLemmas.{piece-append}
-use Rattle.ly_tree.specs.Forest.{piece, term_of, Grown, Keeps, StandsFor, StandForAll}
-use Rattle.ly_tree.specs.Private.Grown.{terms_of, AllKnown}
+use Rattle.ly_tree.specs.Forest.{piece, term_of, terms_of, Grown, Keeps, StandsFor, StandForAll}
+use Rattle.ly_tree.specs.Private.Grown.{AllKnown}
 use Rattle.ly_tree.specs.Term.{Term, Terms, nothing, leaf, none, more}
 use Rattle.ly_tree.specs.declared.forest.TermRef.{TermRef}
 use Rattle.ly_tree.specs.declared.forest.TermRef.TheVariants.{Nothing, Leaf, Node}

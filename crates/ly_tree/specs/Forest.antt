@@ -1,5 +1,6 @@
 -- What a forest holds: the texts of leaves, and nodes, each a term by where it stands.
 use Rattle.std.specs.Prelude.{◌≡◌, ℕ, zero, suc, List, [], ◌∷◌, Option, Some, None, slice_get, option_map}
+use Rattle.std.specs.Prelude.{unwrap_or}
 use Rattle.ly_tree.specs.Term.{Term, Terms, nothing, leaf, none, more}
 use Rattle.ly_tree.specs.declared.forest.TermRef.{TermRef}
 use Rattle.ly_tree.specs.declared.forest.TermRef.TheVariants.{Nothing, Leaf, Node}
@@ -26,6 +27,11 @@ abbrev pub term_of : Grown → TermRef → Option Term
 term_of f Nothing = Some nothing
 term_of f (Leaf l) = option_map (λ text. leaf l.terminal.0 text) (piece l.start l.length f.bytes)
 term_of f (Node k) = slice_get f.nodes k
+
+-- the terms that stand there
+abbrev pub terms_of : Grown → List TermRef → Terms
+terms_of f [] = none
+terms_of f (r ∷ rs) = more (unwrap_or (term_of f r) nothing) (terms_of f rs)
 
 -- the reference stands for the term
 abbrev pub StandsFor : Grown → TermRef → Term → Type 0

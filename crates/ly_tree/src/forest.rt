@@ -1,7 +1,9 @@
-ghost use Rattle.std.specs.Prelude.{◌≡◌, ◌+◌, [], ◌∷◌, ◌++◌, length, slice_get, Some, All, IsSome, OnOk, OnErr, IfOk};
-ghost use Rattle.ly_tree.specs.Term.{Terms, leaf, built};
+ghost use Rattle.std.specs.Prelude.{◌≡◌, ◌≤◌, ◌+◌, [], ◌∷◌, ◌++◌, length, map, slice_get, Some, All, IsSome, OnOk, OnErr};
+ghost use Rattle.std.specs.Prelude.{IfOk};
+ghost use Rattle.ly_tree.specs.Term.{at_places, built, leaf};
 
 use crate::headed::{Headed, number_of, part};
+use crate::refers::Refers;
 use ly_base::{OutOfMemory, RuleNo, Sym};
 use std::alloc::Global;
 use std::marker::Model;
@@ -54,8 +56,8 @@ impl Model for Forest {
 }
 
 impl Forest {
-    ghost use Rattle.ly_tree.specs.Forest.{term_of, Keeps, StandsFor, StandForAll};
-    ghost use Rattle.ly_tree.specs.Private.Grown.{terms_of, AllKnown};
+    ghost use Rattle.ly_tree.specs.Forest.{term_of, terms_of, Keeps, StandsFor};
+    ghost use Rattle.ly_tree.specs.Private.Grown.{AllKnown};
 
     /// No leaves and no nodes.
     pub fn new(alloc: Global) -> Self
@@ -84,16 +86,22 @@ impl Forest {
         }))
     }
 
-    /// Adds a node, and answers it. It is out of memory also past `u32::MAX` nodes, or children of nodes. After
-    /// the fault the forest is as it was.
-    pub fn node(&mut self, rule: RuleNo, children: &[TermRef]) -> Result<TermRef, OutOfMemory>
-        requires { All (λ n. IsSome (term_of self.old n)) children.now }
-        ensures stands { IfOk result (λ n. (ts : Terms) → StandForAll self.old children.now ts
-            → StandsFor self.new n (built rule.0 ts)) }
+    /// Adds a node, whose children are the terms at these places among those of a body, which count from 1, and answers
+    /// it. It is out of memory also past `u32::MAX` nodes, or children of nodes. After the fault the forest is as it was.
+    pub fn node<R: Refers>(
+        &mut self,
+        rule: RuleNo,
+        body: &[R],
+        places: &[u32],
+    ) -> Result<TermRef, OutOfMemory>
+        requires known { All (λ r. IsSome (term_of self.old (R.referred r))) body.now }
+        requires places { All (λ i. (1 ≤ i) × (i ≤ length body.now)) places.now }
+        ensures stands { IfOk result (λ r. StandsFor self.new r
+            (built rule.0 (at_places (terms_of self.old (map R.referred body.now)) places.now))) }
         ensures keeps { OnOk result (Keeps self.old self.new) }
         ensures err { OnErr result (self.new ≡ self.old) }
     {
-        Ok(TermRef::Node(self.nodes.push(rule, children)?))
+        Ok(TermRef::Node(self.nodes.push_picked(rule, body, places)?))
     }
 
     /// The text of a leaf.

@@ -11,9 +11,11 @@
 mod forest;
 mod headed;
 mod laws;
+mod refers;
 mod show;
 mod words;
 
 pub use forest::{Forest, Leaf, TermRef};
 pub use laws::a_reference_stands_for_one;
+pub use refers::Refers;
 pub use words::Words;

@@ -14,8 +14,6 @@ use Rattle.ly_parse.specs.declared.step.Step as step
 use Rattle.ly_parse.specs.declared.step.Step.TheVariants.{Done}
 use Rattle.ly_tree.specs.Forest.{Grown, StandsFor, term_of}
 use Rattle.ly_tree.specs.Term.{Term, Terms, more, nothing}
-use Rattle.ly_tree.specs.declared.forest.TermRef.{TermRef}
-use Rattle.ly_tree.specs.declared.forest.TermRef.TheVariants.{Nothing}
 
 -- a level with the term that its reference stands for
 abbrev pub level_from : Grown → code.Level → Level
@@ -27,13 +25,6 @@ stack_from f levels = map (level_from f) (reverse levels)
 abbrev pub parse_from : Machine → Grown → List code.Level → ℕ → Bool → Parse
 parse_from m f levels count over
     = record { machine = m; forest = f; stack = stack_from f levels; count = count; over = over }
-
--- what stands for the term at a place of a body, counted from 1
-abbrev pub term_at : List code.Level → ℕ → TermRef
-term_at [] i = Nothing
-term_at (l ∷ body) zero = Nothing
-term_at (l ∷ body) (suc zero) = l.term
-term_at (l ∷ body) (suc (suc i)) = term_at body (suc i)
 
 -- All that the tables name is there, they are steady, each level's state is one of theirs and its term is in the
 -- forest, and neighbours on the stack are edges.

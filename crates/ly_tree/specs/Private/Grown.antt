@@ -1,14 +1,9 @@
 -- How a forest keeps its nodes.
-use Rattle.std.specs.Prelude.{ℕ, List, [], ◌∷◌, ◌++◌, All, IsSome, unwrap_or}
+use Rattle.std.specs.Prelude.{ℕ, List, [], ◌∷◌, ◌++◌, All, IsSome}
 use Rattle.ly_base.specs.declared.numbers.RuleNo.{RuleNo}
-use Rattle.ly_tree.specs.Forest.{term_of, Grown}
-use Rattle.ly_tree.specs.Term.{Term, Terms, nothing, built, none, more}
+use Rattle.ly_tree.specs.Forest.{term_of, terms_of, Grown}
+use Rattle.ly_tree.specs.Term.{Term, built}
 use Rattle.ly_tree.specs.declared.forest.TermRef.{TermRef}
-
--- the terms of references, where each has one
-abbrev pub terms_of : Grown → List TermRef → Terms
-terms_of f [] = none
-terms_of f (r ∷ rs) = more (unwrap_or (term_of f r) nothing) (terms_of f rs)
 
 -- the term of a node, by the terms before it
 abbrev pub node_term : List ℕ → List Term → RuleNo × List TermRef → Term

@@ -1,5 +1,7 @@
 -- Lists under heads that lie one after another in one list, by where each ends.
 use Rattle.std.specs.Prelude.{◌≡◌, ℕ, zero, suc, ◌-◌, ◌≤◌, List, [], ◌∷◌, take, drop}
+use Rattle.ly_tree.specs.declared.forest.TermRef.{TermRef}
+use Rattle.ly_tree.specs.declared.forest.TermRef.TheVariants.{Nothing}
 use Rattle.ly_tree.specs.declared.headed.Heading.{Heading}
 
 module _ {H T : Type 0} where
@@ -19,3 +21,10 @@ abbrev pub start_after : {H : Type 0} → ℕ → List (Heading H) → ℕ → �
 start_after start hs zero = start
 start_after start [] (suc k) = start
 start_after start (h ∷ hs) (suc k) = start_after h.end hs k
+
+-- what stands at a place, counted from 1; nothing where there is none
+abbrev pub ref_at : List TermRef → ℕ → TermRef
+ref_at [] i = Nothing
+ref_at (r ∷ rs) zero = Nothing
+ref_at (r ∷ rs) (suc zero) = r
+ref_at (r ∷ rs) (suc (suc i)) = ref_at rs (suc i)

@@ -3,20 +3,20 @@ use Rattle.ly_pack.specs.Machine.{shift, IsMachine}
 use Rattle.ly_parse.specs.Feeding.{top_of}
 use Rattle.ly_parse.specs.Private.Stack.{stack_from, IsParse}
 use Rattle.ly_parse.proofs.FeedingLemmas.{legal}
-use Rattle.ly_parse.proofs.StackLemmas.{kept, shifted, shifted_stack}
+use Rattle.ly_parse.proofs.StackLemmas.{kept, on_top, shifted, shifted_stack}
 use Rattle.ly_tree.proofs.StandLemmas.{stands_known}
 use Rattle.ly_tree.specs.Term.{leaf}
 use Rattle.ly_parse.proofs.parser.Parser.read.Goals as goal
 
-pub invariant_of-self-in_err-push : goal.invariant_of-self-in_err-push
-invariant_of-self-in_err-push g c =
-    subst (IsParse c.self.inside.machine.now c.leaf.new.self) (sym c.in_err-push.ensures.items)
+pub invariant_of-self-in_err-reserve : goal.invariant_of-self-in_err-reserve
+invariant_of-self-in_err-reserve g c =
+    subst (IsParse c.self.inside.machine.now c.leaf.new.self) (sym c.in_err-reserve.ensures.items)
     (kept c.self.inside.machine.now c.self.inside.forest c.leaf.new.self c.self.inside.stack.items c.self.invariant
     c.in_ok-term.ensures.keeps)
 
 pub invariant_of-self-2 : goal.invariant_of-self-2
 invariant_of-self-2 g c =
-    subst (IsParse c.self.inside.machine.now c.leaf.new.self) (sym c.in_ok-push.ensures.items)
+    subst (IsParse c.self.inside.machine.now c.leaf.new.self) (sym (on_top _ _ _ _ c.in_ok-reserve.ensures.items c.push_reserved.ensures.items))
     (shifted c.self.inside.machine.now c.self.inside.forest c.leaf.new.self c.self.inside.stack.items
     c.args.self.now c.self.inside.count c.self.inside.over c.args.token.now.terminal.0
     (record { state = c.args.state; term = c.in_ok-term.term }) c.self.view_is c.self.invariant
@@ -26,7 +26,7 @@ invariant_of-self-2 g c =
 
 pub returns-clause-stack : goal.returns-clause-stack
 returns-clause-stack g c =
-    ap (stack_from c.leaf.new.self) c.in_ok-push.ensures.items
+    ap (stack_from c.leaf.new.self) (on_top _ _ _ _ c.in_ok-reserve.ensures.items c.push_reserved.ensures.items)
     ∙ shifted_stack c.self.inside.machine.now c.self.inside.forest c.leaf.new.self c.self.inside.stack.items
     c.args.self.now c.self.inside.count c.self.inside.over (record { state = c.args.state; term = c.in_ok-term.term })
     (leaf c.args.token.now.terminal.0 c.args.token.now.text.now) c.self.view_is c.self.invariant

@@ -3,7 +3,7 @@ use Rattle.ly_pack.specs.Values.{rule_from}
 use Rattle.ly_parse.specs.Private.Stack.{IsParse}
 use Rattle.ly_parse.proofs.ReduceLemmas.{body_exceeds, body_fits, goes, goes_to, is_cut, lacks_goto}
 use Rattle.ly_parse.proofs.ReduceLemmas.{past_bottom, rule_within, shape_fits}
-use Rattle.ly_parse.proofs.StackLemmas.{cut}
+use Rattle.ly_parse.proofs.StackLemmas.{cut, on_top}
 use Rattle.ly_parse.proofs.parser.Parser.reduce.Goals as goal
 
 pub returns-in_default-clause-faulty : goal.returns-in_default-clause-faulty
@@ -58,7 +58,7 @@ returns-in_default-goto-clause-faulty g c e =
 
 pub invariant_of-self-2 : goal.invariant_of-self-2
 invariant_of-self-2 g c =
-    subst (IsParse c.self-2.inside.machine.now c.self-2.inside.forest) (sym c.in_ok-push.ensures.items)
+    subst (IsParse c.self-2.inside.machine.now c.self-2.inside.forest) (sym (on_top _ _ _ _ c.in_ok-reserve.ensures.items c.push_reserved.ensures.items))
     (goes c.args.self.now c.args.number.0 (rule_from c.rule-rule.result.now) c.in-Some.below
     c.self-2.inside.machine.now c.self-2.inside.forest c.self-2.inside.stack.items c.truncate.new.self.items
     c.top.result.0
@@ -77,7 +77,7 @@ pub returns-clause-ok : goal.returns-clause-ok
 returns-clause-ok g c =
     goes_to c.args.self.now c.args.number.0 (rule_from c.rule-rule.result.now) c.in-Some.below
     c.self-2.inside.machine.now c.self-2.inside.forest c.self-2.inside.stack.items c.truncate.new.self.items
-    c.push.new.self.items c.top.result.0
+    c.push_reserved.new.self.items c.top.result.0
     (record { state = c.in-Some-goto.state; term = c.in_ok-term.term }) c.make.new.self.forest
     (is_cut c.self.inside.machine.now c.self-2.inside.machine.now c.self.inside.forest c.self-2.inside.forest
     c.self.inside.stack.items c.self-2.inside.stack.items c.args.self.now c.make.new.self c.self.inside.count
@@ -87,4 +87,4 @@ returns-clause-ok g c =
     (body_fits c.self.inside.stack c.len.result c.rule-rule.result.now.body_length c.in-Some.below
     c.len.ensures c.in-Some.ensures))
     c.truncate.ensures.items c.top.ensures.top c.in-Some-goto.ensures
-    (sym (ap (λ p. p.forest) c.self-2.view_is)) c.in_ok-term.ensures.made c.in_ok-push.ensures.items
+    (sym (ap (λ p. p.forest) c.self-2.view_is)) c.in_ok-term.ensures.made (on_top _ _ _ _ c.in_ok-reserve.ensures.items c.push_reserved.ensures.items)
