@@ -1,9 +1,8 @@
 -- The terms of the levels of a stack.
 use Rattle.std.proofs.Common.{◌≡◌, ℕ, zero, suc, ◌<◌, ◌≤◌, ◌+◌, ◌-◌, List, [], ◌∷◌, ◌++◌, length, drop, take, map}
 use Rattle.std.proofs.Common.{Some, None, refl, sym, ap, ◌∙◌, arith, get_or, length-drop, subst, Err, Ok}
-use Rattle.std.proofs.lemmas.List.{get_or-drop, map-append, take_all, take_more}
-use Rattle.std.proofs.lemmas.Option.{slice_get-get_or}
-use Rattle.std.specs.Prelude.{slice_get, unwrap_or, All, Bool, IfOk, IsSome, OnErr, OnOk, Result, Vec}
+use Rattle.std.proofs.lemmas.List.{get_or-drop, take_all}
+use Rattle.std.specs.Prelude.{unwrap_or, All, Bool, IfOk, IsSome, OnErr, OnOk, Result, Vec}
 use Rattle.std.specs.Global.{Global}
 use Rattle.ly_base.specs.Shape.{shape_of}
 use Rattle.ly_base.specs.declared.rule_tree.RuleTree.{RuleTree}

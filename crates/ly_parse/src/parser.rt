@@ -104,35 +104,6 @@ impl<'a, A: Rows<TableAction> + Drop, G: Rows<StateNo> + Drop> Parser<'a, A, G> 
           bytes = token.now.text.now;
         }) self.new result }
     {
-        self.take(token)
-    }
-
-    /// Takes the end of the text, which stands at this byte: makes the reductions before it, and then accepts or
-    /// refuses it. The parse is over then.
-    ///
-    /// Its faults are those of `ParseFault`.
-    pub fn end(&mut self, at: u64) -> Result<Step, ParseFault>
-        requires { 0 < self.old.machine.terminals }
-        ensures call { IsCall self.old (record { terminal = 0; at = at; bytes = [] }) self.new result }
-        ensures last { result ≢ Ok step.More }
-    {
-        self.take(&Token {
-            terminal: Sym(0),
-            at,
-            text: b"",
-        })
-    }
-
-    /// Takes a token, or the end.
-    fn take(&mut self, token: &Token<'_>) -> Result<Step, ParseFault>
-        requires { token.now.terminal.0 < self.old.machine.terminals }
-        ensures call { IsCall self.old (record {
-          terminal = token.now.terminal.0;
-          at = token.now.at;
-          bytes = token.now.text.now;
-        }) self.new result }
-        ensures read { result ≡ Ok step.More → token.now.terminal.0 ≢ 0 }
-    {
         if self.over {
             return Err(ParseFault::Over);
         }
@@ -144,6 +115,27 @@ impl<'a, A: Rows<TableAction> + Drop, G: Rows<StateNo> + Drop> Parser<'a, A, G> 
             }
             Settled::Accepts => self.accept(),
             Settled::Refuses => self.refuse(token.at),
+        }
+    }
+
+    /// Takes the end of the text, which stands at this byte: makes the reductions before it, and then accepts or
+    /// refuses it. The parse is over then.
+    ///
+    /// Its faults are those of `ParseFault`.
+    pub fn end(&mut self, at: u64) -> Result<Step, ParseFault>
+        requires { 0 < self.old.machine.terminals }
+        ensures call { IsCall self.old (record { terminal = 0; at = at; bytes = [] }) self.new result }
+        ensures last { result ≢ Ok step.More }
+    {
+        if self.over {
+            return Err(ParseFault::Over);
+        }
+        self.over = true;
+        match self.settle(Sym(0))? {
+            Settled::Accepts => self.accept(),
+            Settled::Refuses => self.refuse(at),
+            // the end is never shifted
+            Settled::Reads(_) => unreachable!(),
         }
     }
 
@@ -230,7 +222,9 @@ impl<'a, A: Rows<TableAction> + Drop, G: Rows<StateNo> + Drop> Parser<'a, A, G> 
         match tree {
             RuleTree::Nil => Ok(TermRef::Nothing),
             RuleTree::Pass(place) => Ok(self.stack[below + (*place as usize - 1)].term),
-            RuleTree::Build { places, .. } => self.forest.node(number, &self.stack[below..], places),
+            RuleTree::Build { places, .. } => self
+                .forest
+                .node(number, &self.stack[below..], places),
         }
     }
 
