@@ -85,7 +85,8 @@ passed m f levels p count over n i number l t view h pass shape same =
     let low = within.0 in
     let high = within.1 in
     let next : suc (i - 1) ≡ i = omega (arith, low) in
-    let stands = level_stands f (drop n levels) (i - 1) l (body_known m f levels n h) (omega (arith, low, high, size)) in
+    let stands = level_stands f (drop n levels) (i - 1) l (body_known m f levels n h)
+    (omega (arith, low, high, size)) in
     subst (λ g. StandsFor g l.term (made number (shape_of t) (terms_onto (take (length p.stack - n) p.stack) none)))
     (ap (λ q. q.forest) view)
     (subst (λ u. StandsFor f l.term (made number (shape_of u) (terms_onto (take (length p.stack - n) p.stack) none)))

@@ -1,5 +1,5 @@
-ghost use Rattle.std.specs.Prelude.{◌≡◌, ◌≤◌, ◌+◌, [], ◌∷◌, ◌++◌, length, map, slice_get, Some, All, IsSome, OnOk, OnErr};
-ghost use Rattle.std.specs.Prelude.{IfOk};
+ghost use Rattle.std.specs.Prelude.{◌≡◌, ◌≤◌, ◌+◌, [], ◌∷◌, ◌++◌, length, map, slice_get};
+ghost use Rattle.std.specs.Prelude.{All, IfOk, IsSome, OnErr, OnOk, Some};
 ghost use Rattle.ly_tree.specs.Term.{at_places, built, leaf};
 
 use crate::headed::{Headed, number_of, part};
@@ -69,8 +69,8 @@ impl Forest {
         }
     }
 
-    /// Adds the text of a leaf, and answers the leaf. It is out of memory also for a text of more than `u32::MAX` bytes,
-    /// or behind as many. After the fault the forest is as it was.
+    /// Adds the text of a leaf, and answers the leaf. It is out of memory also for a text of more than `u32::MAX`
+    /// bytes, or behind as many. After the fault the forest is as it was.
     pub fn leaf(&mut self, terminal: Sym, text: &[u8]) -> Result<TermRef, OutOfMemory>
         ensures stands { IfOk result (λ r. StandsFor self.new r (leaf terminal.0 text.now)) }
         ensures keeps { OnOk result (Keeps self.old self.new) }
@@ -86,8 +86,8 @@ impl Forest {
         }))
     }
 
-    /// Adds a node, whose children are the terms at these places among those of a body, which count from 1, and answers
-    /// it. It is out of memory also past `u32::MAX` nodes, or children of nodes. After the fault the forest is as it was.
+    /// Adds a node, whose children are the terms at these places of a body, which count from 1, and answers it. It is
+    /// out of memory also past `u32::MAX` nodes, or children of nodes. After the fault the forest is as it was.
     pub fn node<R: Refers>(
         &mut self,
         rule: RuleNo,

@@ -6,6 +6,7 @@ use Rattle.ly_tree.proofs.headed.pick.Given as goal
 -- what stands at the places before this one is picked, and there is room for the others
 abbrev pub invariant-loop-place : goal.invariant-loop-place
 invariant-loop-place g l = record {
-  picked : l.members.items ≡ l.fn.members.items ++ map (ref_at (map g.R.Refers.referred l.body)) (take l.place-index l.places);
+  picked : l.members.items ≡ l.fn.members.items
+      ++ map (ref_at (map g.R.Refers.referred l.body)) (take l.place-index l.places);
   room : vec_len l.members + length l.places ≤ vec_capacity l.members + l.place-index;
 }

@@ -16,7 +16,8 @@ invariant_of-self-in_err-reserve g c =
 
 pub invariant_of-self-2 : goal.invariant_of-self-2
 invariant_of-self-2 g c =
-    subst (IsParse c.self.inside.machine.now c.leaf.new.self) (sym (on_top _ _ _ _ c.in_ok-reserve.ensures.items c.push_reserved.ensures.items))
+    subst (IsParse c.self.inside.machine.now c.leaf.new.self)
+    (sym (on_top _ _ _ _ c.in_ok-reserve.ensures.items c.push_reserved.ensures.items))
     (shifted c.self.inside.machine.now c.self.inside.forest c.leaf.new.self c.self.inside.stack.items
     c.args.self.now c.self.inside.count c.self.inside.over c.args.token.now.terminal.0
     (record { state = c.args.state; term = c.in_ok-term.term }) c.self.view_is c.self.invariant

@@ -58,7 +58,8 @@ returns-in_default-goto-clause-faulty g c e =
 
 pub invariant_of-self-2 : goal.invariant_of-self-2
 invariant_of-self-2 g c =
-    subst (IsParse c.self-2.inside.machine.now c.self-2.inside.forest) (sym (on_top _ _ _ _ c.in_ok-reserve.ensures.items c.push_reserved.ensures.items))
+    subst (IsParse c.self-2.inside.machine.now c.self-2.inside.forest)
+    (sym (on_top _ _ _ _ c.in_ok-reserve.ensures.items c.push_reserved.ensures.items))
     (goes c.args.self.now c.args.number.0 (rule_from c.rule-rule.result.now) c.in-Some.below
     c.self-2.inside.machine.now c.self-2.inside.forest c.self-2.inside.stack.items c.truncate.new.self.items
     c.top.result.0
@@ -87,4 +88,5 @@ returns-clause-ok g c =
     (body_fits c.self.inside.stack c.len.result c.rule-rule.result.now.body_length c.in-Some.below
     c.len.ensures c.in-Some.ensures))
     c.truncate.ensures.items c.top.ensures.top c.in-Some-goto.ensures
-    (sym (ap (λ p. p.forest) c.self-2.view_is)) c.in_ok-term.ensures.made (on_top _ _ _ _ c.in_ok-reserve.ensures.items c.push_reserved.ensures.items)
+    (sym (ap (λ p. p.forest) c.self-2.view_is)) c.in_ok-term.ensures.made
+    (on_top _ _ _ _ c.in_ok-reserve.ensures.items c.push_reserved.ensures.items)

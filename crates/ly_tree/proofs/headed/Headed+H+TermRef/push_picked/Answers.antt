@@ -10,7 +10,8 @@ invariant_of-self-2 g c =
     let count : length c.pick.new.members.items ≡ c.in_ok-end.end
     = end_behind c.self.inside.members.items list c.pick.new.members.items c.len-2.result c.in_ok-end.end (omega arith)
     c.in_ok-pick.ensures.ok
-    (omega (arith, c.in_ok-end.ensures, length-map c.args.places.now (ref_at (map g.R.Refers.referred c.args.body.now)))) in
+    (let long = length-map c.args.places.now (ref_at (map g.R.Refers.referred c.args.body.now))
+    in omega (arith, c.in_ok-end.ensures, long)) in
     pushed_fits c.self.inside.headings.items c.reserve.new.self.items c.push_reserved.new.self.items
     c.self.inside.members.items c.pick.new.members.items list (record { head = c.args.head; end = c.in_ok-end.end })
     c.self.invariant c.in_ok-reserve.ensures.items c.push_reserved.ensures.items c.in_ok-pick.ensures.ok count
@@ -21,7 +22,8 @@ returns-clause-ok g c =
     let count : length c.pick.new.members.items ≡ c.in_ok-end.end
     = end_behind c.self.inside.members.items list c.pick.new.members.items c.len-2.result c.in_ok-end.end (omega arith)
     c.in_ok-pick.ensures.ok
-    (omega (arith, c.in_ok-end.ensures, length-map c.args.places.now (ref_at (map g.R.Refers.referred c.args.body.now)))) in
+    (let long = length-map c.args.places.now (ref_at (map g.R.Refers.referred c.args.body.now))
+    in omega (arith, c.in_ok-end.ensures, long)) in
     pushed_lists c.self.inside.headings.items c.reserve.new.self.items c.push_reserved.new.self.items
     c.self.inside.members.items c.pick.new.members.items list (record { head = c.args.head; end = c.in_ok-end.end })
     c.args.self.now c.self.invariant c.self.view_is c.in_ok-reserve.ensures.items c.push_reserved.ensures.items
