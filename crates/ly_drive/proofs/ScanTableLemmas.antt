@@ -1,17 +1,22 @@
 -- A scanner's rows in memory, and those of a table set.
 use Rattle.std.proofs.Common.{◌≡◌, ◌∙◌, ◌<◌, inl, inr, ℕ, zero, suc, [], ◌∷◌, map, Option, Some, None, ap}
 use Rattle.std.proofs.Common.{refl, sym, arith, slice_get, subst, get_or, ap₂, ◌+◌, ◌*◌, ◌++◌, length}
-use Rattle.std.specs.Prelude.{IfSome, option_and_then, option_map}
+use Rattle.std.specs.Prelude.{All, IfSome, List, option_and_then, option_map}
 use Rattle.std.specs.List.{range_with_len}
 use Rattle.std.proofs.lemmas.Option.{slice_get-get_or, slice_get_past}
 use Rattle.std.proofs.lemmas.Bool.{cases_lt}
+use Rattle.std.proofs.lemmas.List.{get_or-map, length-map}
 use Rattle.std.proofs.lemmas.List.Elements.{All-get_or}
 use Rattle.std.proofs.lemmas.List.FromFn.{map-range_with_len_more}
+use Rattle.ly_base.specs.declared.numbers.RuleNo.{RuleNo}
 use Rattle.ly_base.specs.declared.numbers.StateNo.{StateNo}
 use Rattle.ly_pack.specs.Rows.{Comb, Entries, Used, cell, comb_entry, grid_of}
 use Rattle.ly_pack.proofs.GridLemmas.{cell-grid_of, cell-grid_of_past}
 use Rattle.ly_scan.specs.StateRows.{row_entry}
 use Rattle.ly_tables.proofs.EntryLemmas.{comb_entry_used}
+use Rattle.ly_tables.specs.Ranges.{AreStartsWithin}
+use Rattle.ly_tables.specs.Values.{starts_from}
+use Rattle.ly_tables.specs.declared.starts.Starts as starts
 use Rattle.ly_drive.specs.ScanPart.{ScanPart, next_in, states_from}
 use Rattle.ly_drive.specs.Private.Tables.{part_from, IsScanTable}
 use Rattle.ly_drive.specs.declared.scan_table.ScanTable.TheInside.{Inside}
@@ -74,3 +79,47 @@ next_at t p state byte at class next h view lt there is e =
     (All-get_or (λ k. k < t.class_count) t.classes.items byte class (omega (arith, h.classes, lt)) h.within) in
     e ∙ entry_written t state class h lies
     ∙ (ap (option_and_then (cell (part_from t).rows state)) (sym found) ∙ ap (λ q. next_in q state byte) view)
+
+-- a table set's states are those of its scanner in memory
+states_of : (t : Inside) (p : ScanPart) → part_from t ≡ p → length t.accepted.items ≡ length p.accepted
+states_of t p view = sym (length-map t.accepted.items (option_map (λ (r : RuleNo). r.0)))
+    ∙ ap (λ q. length q.accepted) view
+
+-- each state has a row
+pub row_there : (t : Inside) (p : ScanPart) (state class : ℕ) → IsScanTable t → part_from t ≡ p
+    → state < length p.accepted → class < 256 → state * 256 + class < length t.rows
+row_there t p state class h view lt less = omega (arith, h.rows, states_of t p view)
+
+-- a byte leads to a state that there is
+pub next_within : (t : Inside) (p : ScanPart) (state byte at class next : ℕ) → IsScanTable t → part_from t ≡ p
+    → state < length p.accepted → byte < 256 → at ≡ byte → class ≡ get_or t.classes.items at class
+    → Some next ≡ row_entry t.rows state class → next < length p.accepted
+next_within t p state byte at class next h view there lt is_at is e =
+    let here : class ≡ get_or t.classes.items byte class = is ∙ ap (λ k. get_or t.classes.items k class) is_at in
+    let lies : class < t.class_count = subst (λ k. k < t.class_count) (sym here)
+    (All-get_or (λ k. k < t.class_count) t.classes.items byte class (omega (arith, h.classes, lt)) h.within) in
+    let low : state < length t.accepted.items = omega (arith, states_of t p view) in
+    subst (λ n. next < n) (states_of t p view)
+    (subst (λ o. IfSome o (λ n. n < length t.accepted.items)) (sym e) (h.targets state class low lies))
+
+-- where a condition begins
+pub starts_at : (t : Inside) (p : ScanPart) (conditions : List starts.Starts) (k : ℕ) (c : starts.Starts)
+    → IsScanTable t → part_from t ≡ p → conditions ≡ t.conditions.items → k < length conditions
+    → c ≡ get_or conditions k c
+    → (slice_get p.conditions k ≡ Some (starts_from c)) × AreStartsWithin (length p.accepted) (starts_from c)
+starts_at t p conditions k c h view same lt is =
+    let low : k < length (map starts_from conditions) = omega (arith, length-map conditions starts_from) in
+    let here : get_or (map starts_from conditions) k (starts_from c) ≡ starts_from c
+    = get_or-map starts_from conditions k c (starts_from c) lt ∙ ap starts_from (sym is) in
+    let all : All (AreStartsWithin (length p.accepted)) (map starts_from conditions)
+    = subst (λ n. All (AreStartsWithin n) (map starts_from conditions)) (states_of t p view)
+    (subst (λ xs. All (AreStartsWithin (length t.accepted.items)) (map starts_from xs)) (sym same) h.conditions) in (
+      ap (λ q. slice_get q.conditions k) (sym view) ∙ (ap (λ xs. slice_get (map starts_from xs) k) (sym same)
+          ∙ (slice_get-get_or (map starts_from conditions) k (starts_from c) low ∙ ap Some here)),
+      subst (AreStartsWithin (length p.accepted)) here (all k (starts_from c) low),
+    )
+
+pub start_within : (o : Option StateNo) (n : ℕ)
+    → ((s : ℕ) → option_map (λ (s : StateNo). s.0) o ≡ Some s → s < n) → IfSome o (λ s. s.0 < n)
+start_within None n h = tt
+start_within (Some s) n h = h s.0 refl

@@ -14,6 +14,10 @@ use Rattle.ly_tables.specs.TableSet.{machine_of}
 use Rattle.ly_tables.specs.Values.{scan_rule_from, set_of, starts_from}
 use Rattle.ly_tables.specs.declared.table_parts.TableParts.{TableParts}
 
+-- a set has a state for each that parts have
+pub states_in : (parts : TableParts) → length (set_of parts).accepted ≡ length parts.accepted.items
+states_in parts = length-map parts.accepted.items (option_map (λ (p : RuleNo). p.0))
+
 -- the scanner with rows that have the comb's entries
 pub same_part : (parts : TableParts) (rows : List (Option ℕ)) (states : ℕ) → states ≡ length parts.accepted.items
     → ((state class : ℕ) → state < states → class < parts.class_count

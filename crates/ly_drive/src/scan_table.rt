@@ -1,4 +1,4 @@
-ghost use Rattle.std.specs.Prelude.{◌≡◌, ◌<◌, ◌≤◌, ◌*◌, ℕ, length, slice_get, IfOk, Some, option_map};
+ghost use Rattle.std.specs.Prelude.{◌≡◌, ◌<◌, ◌≤◌, ◌*◌, ℕ, length, slice_get, IfOk, IfSome, Some, option_map};
 ghost use Rattle.ly_drive.specs.ScanPart.{condition_in, cut_in, next_in, rule_in, start_in, states_from, terminal_in};
 ghost use Rattle.ly_pack.specs.Rows.{comb_entry, Used};
 ghost use Rattle.ly_scan.specs.StateRows.{row_entry};
@@ -44,7 +44,8 @@ impl Model for ScanTable {
 impl ScanTable {
     /// Where a condition begins, at the start of a line or not, if it does.
     pub(crate) fn start(&self, condition: u32, at_line_start: bool) -> Option<StateNo>
-        ensures { option_map (λ s. s.0) result ≡ start_in self.now condition at_line_start }
+        ensures is { option_map (λ s. s.0) result ≡ start_in self.now condition at_line_start }
+        ensures within { IfSome result (λ s. s.0 < length self.now.accepted) }
     {
         let starts = self.conditions.get(condition as usize)?;
         if at_line_start {
@@ -56,7 +57,9 @@ impl ScanTable {
 
     /// Where a byte leads from a state.
     pub(crate) fn next(&self, state: StateNo, byte: u8) -> Option<StateNo>
-        ensures { option_map (λ s. s.0) result ≡ next_in self.now state.0 byte }
+        requires { state.0 < length self.now.accepted }
+        ensures is { option_map (λ s. s.0) result ≡ next_in self.now state.0 byte }
+        ensures within { IfSome result (λ s. s.0 < length self.now.accepted) }
     {
         let class = self.classes[usize::from(byte)];
         Some(StateNo(self.rows.next(state.0, class)?))
@@ -109,10 +112,12 @@ pub(crate) fn spread(
     requires states { states < 4294967296 }
     requires classes { classes ≤ 256 }
     requires targets { (k : ℕ) (u : Used number.StateNo) → slice_get comb.now.slots k ≡ Some (Some u)
-        → u.entry.0 < u32.MAX }
+        → u.entry.0 < states }
     ensures count { IfOk result (λ r. length r ≡ states * 256) }
     ensures same { IfOk result (λ r. (state class : ℕ) → state < states → class < classes
         → row_entry r state class ≡ states_from (comb_entry comb.now) state class) }
+    ensures within { IfOk result (λ r. (state class : ℕ) → state < states → class < classes
+        → IfSome (row_entry r state class) (λ next. next < states)) }
 {
     let mut rows = StateRows::new(alloc, states)?;
     for state in 0..states {

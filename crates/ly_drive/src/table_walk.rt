@@ -1,4 +1,4 @@
-ghost use Rattle.std.specs.Prelude.{◌≡◌, Some, option_map, ⊤};
+ghost use Rattle.std.specs.Prelude.{◌≡◌, ◌<◌, length, IfSome, Some, option_map};
 ghost use Rattle.std.proofs.Props.{props};
 ghost use Rattle.ly_drive.specs.ScanPart.{cut_in, start_in, states_in};
 ghost use Rattle.ly_scan.specs.StateWalk.{ahead_of, ahead_of-ended, state_walk, BeginsAlways};
@@ -15,6 +15,7 @@ pub(crate) struct TableWalk<'a> {
     /// Where the initial condition begins, if that is so at the start of a line and elsewhere.
     initial: Option<StateNo>,
     ghost begun: { BeginsAlways (states_in table.now) (option_map (λ s. s.0) initial) } by { Prim.hlevel props },
+    ghost known: { IfSome initial (λ s. s.0 < length table.now.accepted) } by { Prim.hlevel props },
 }
 
 impl<'a> TableWalk<'a> {
@@ -31,7 +32,8 @@ impl<'a> TableWalk<'a> {
 
 /// Where the initial condition begins, if that is so at the start of a line and elsewhere.
 fn initial(table: &ScanTable) -> Option<StateNo>
-    ensures { BeginsAlways (states_in table.now) (option_map (λ s. s.0) result) }
+    ensures begins { BeginsAlways (states_in table.now) (option_map (λ s. s.0) result) }
+    ensures known { IfSome result (λ s. s.0 < length table.now.accepted) }
 {
     let elsewhere = table.start(0, false)?;
     let at_line_start = table.start(0, true)?;
@@ -49,7 +51,7 @@ impl Steps for TableWalk<'_> {
 
     ghost ahead = { λ w at. ahead_of (states_in w.table.now) (Some at.0) };
 
-    ghost stands = { λ w at. ⊤ };
+    ghost stands = { λ w at. at.0 < length w.table.now.accepted };
 
     ghost cut_of = { λ w. cut_in w.table.now };
 

@@ -1,4 +1,4 @@
-ghost use Rattle.std.specs.Prelude.{◌≡◌, ◌<◌, length, IfOk, IfSome, Some};
+ghost use Rattle.std.specs.Prelude.{◌≡◌, ◌<◌, ◌*◌, length, IfOk, IfSome, Some};
 ghost use Rattle.std.proofs.Props.{props};
 ghost use Rattle.ly_engine.specs.PositionWalk.{cut_in};
 ghost use Rattle.ly_engine.specs.RowWalk.{row_walk, rows_of, AreRowsOf};
@@ -24,6 +24,7 @@ pub struct RowWalk<'a> {
     rows: StateRows,
     ghost begun: { BeginsAlways (rows_of dfa.now) initial } by { Prim.hlevel props },
     ghost known: { IfSome initial (λ s. s < length dfa.now.rules) } by { Prim.hlevel props },
+    ghost counted: { length rows ≡ length dfa.now.rules * 256 } by { Prim.hlevel props },
     ghost spread: { AreRowsOf dfa.now rows } by { Prim.hlevel props },
 }
 
@@ -58,7 +59,8 @@ fn initial(dfa: &Dfa) -> Option<u32>
 
 /// The rows of an automaton, spread over all bytes.
 fn spread(alloc: Global, dfa: &Dfa) -> Result<StateRows, OutOfMemory>
-    ensures { IfOk result (AreRowsOf dfa.now) }
+    ensures counted { IfOk result (λ rows. length rows ≡ length dfa.now.rules * 256) }
+    ensures spread { IfOk result (AreRowsOf dfa.now) }
 {
     // more states than have a number have no room either
     let Ok(states) = u32::try_from(dfa.len()) else {

@@ -53,13 +53,12 @@ impl StateRows {
         self.entries[state as usize * WIDTH + column] = entry_to(next);
     }
 
-    /// Where a column leads from a state: to a state, or nowhere. A state without a row leads nowhere.
+    /// Where a column leads from a state: to a state, or nowhere.
     pub fn next(&self, state: u32, column: u8) -> Option<u32>
+        requires { state * 256 + column < length self.now }
         ensures { result ≡ row_entry self.now state column }
     {
-        self.entries
-            .get(state as usize * WIDTH + usize::from(column))?
-            .state()
+        self.entries[state as usize * WIDTH + usize::from(column)].state()
     }
 }
 
