@@ -1,3 +1,4 @@
+mod BlockLemmas
 pub mod ByteSetLemmas
 pub mod CellLemmas
 pub mod DeviceLemmas

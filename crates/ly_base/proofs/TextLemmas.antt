@@ -2,10 +2,12 @@
 use Rattle.std.proofs.Common.{◌≡◌, ◌∙◌, ◌<◌, ◌≤◌, ◌+◌, ◌-◌, ◌++◌, ◌∷◌, [], ℕ, List, true, false, length, take, drop}
 use Rattle.std.proofs.Common.{get_or, sym, ap, arith, append-nil, append_assoc, get_or-drop, length-drop}
 use Rattle.std.proofs.Common.{flat_map, length-append, take-append-drop}
+use Rattle.std.proofs.Math.Seq.{take-add}
 use Rattle.std.proofs.lemmas.Grind.{flat_map-append}
 use Rattle.std.proofs.lemmas.Bool.{cond-false, cond-true}
 use Rattle.std.proofs.lemmas.List.{flat_map_more, take_more}
 use Rattle.ly_base.specs.Bytes.{double_quote, newline, single_quote}
+use Rattle.ly_base.proofs.EscapeLemmas.{whole_slice}
 use Rattle.ly_base.specs.Text.{escape_for, escaped, escaped_byte, is_plain, leaf_line, literal, name_of, Named}
 
 -- a run with one more byte
@@ -91,3 +93,24 @@ module _ (quote : ℕ) (bytes before out : List ℕ) (start at : ℕ) (behind : 
       ∙ ap (λ t. t ++ escape_for (get_or bytes at 0)) so_far
       ∙ ap (λ t. (before ++ escaped quote (take at bytes)) ++ t) (sym (cond-false _ _ _ other))
       ∙ sym (escaped_more quote bytes before at within))
+
+-- more bytes between quotes, behind others
+pub escaped_run : (quote : ℕ) (before bytes : List ℕ) (at run : ℕ)
+    → (before ++ escaped quote (take at bytes)) ++ escaped quote (take run (take (length bytes - at) (drop at bytes)))
+    ≡ before ++ escaped quote (take (at + run) bytes)
+escaped_run quote before bytes at run =
+    let each = escaped_byte quote in
+    ap (λ t. (before ++ escaped quote (take at bytes)) ++ escaped quote (take run t)) (whole_slice at bytes)
+    ∙ append_assoc before (escaped quote (take at bytes)) (escaped quote (take run (drop at bytes)))
+    ∙ ap (λ t. before ++ t) (sym (flat_map-append each (take at bytes) (take run (drop at bytes)))
+    ∙ ap (flat_map each) (sym (take-add at run bytes)))
+
+-- one more
+pub escaped_next : (quote : ℕ) (before bytes : List ℕ) (at : ℕ) → at < length bytes
+    → (before ++ escaped quote (take at bytes)) ++ escaped quote (get_or bytes at 0 ∷ [])
+    ≡ before ++ escaped quote (take (at + 1) bytes)
+escaped_next quote before bytes at within =
+    let each = escaped_byte quote in
+    append_assoc before (escaped quote (take at bytes)) (escaped quote (get_or bytes at 0 ∷ []))
+    ∙ ap (λ t. before ++ t) (sym (flat_map-append each (take at bytes) (get_or bytes at 0 ∷ []))
+    ∙ ap (flat_map each) (sym (take_more bytes at 0 within)))

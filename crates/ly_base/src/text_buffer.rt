@@ -1,11 +1,16 @@
 ghost use Rattle.std.specs.Prelude.{◌≡◌, ◌≤◌, ◌+◌, ◌*◌, ◌++◌, [], ◌∷◌, length, take, IfOk, OnOk};
 ghost use Rattle.std.specs.Bool.{OnTrue};
-ghost use Rattle.ly_base.specs.Text.{escape_for, escaped, leaf_of, name_of, named};
+ghost use Rattle.std.specs.List.{prefix_len};
+ghost use Rattle.ly_base.specs.Bytes.{double_quote};
+ghost use Rattle.ly_base.specs.Text.{escape_for, escaped, is_plain, leaf_of, name_of, named};
+ghost use lib.Lanes.{put_chunk};
 ghost use Rattle.ly_base.specs.Private.TextBuffer.{leaf_room, name_room};
 
+use crate::front::{BLOCK, Front};
 use crate::text::{Terminal, hex_digit, is_plain, push_leaf};
 use std::alloc::{AllocError, Global};
 use std::marker::Model;
+use std::simd::prelude::*;
 
 /// How many bytes the room has.
 const ROOM: usize = 16_384;
@@ -73,11 +78,11 @@ impl TextBuffer {
     /// Appends a leaf.
     ///
     /// It fails where memory runs out. How much was appended by then is left open.
-    pub fn push_leaf(&mut self, terminal: Terminal<'_>, text: &[u8]) -> Result<(), AllocError>
-        ensures { OnOk result (self.new ≡ self.old ++ leaf_of (named terminal.entry) text.now) }
+    pub fn push_leaf(&mut self, terminal: Terminal<'_>, text: Front<'_>) -> Result<(), AllocError>
+        ensures { OnOk result (self.new ≡ self.old ++ leaf_of (named terminal.entry) text.entry) }
     {
-        if !fits(self.room.len() - self.used, terminal, text) {
-            return self.push_leaf_behind(terminal, text);
+        if !fits(self.room.len() - self.used, terminal, text.len()) {
+            return self.push_leaf_behind(terminal, text.bytes());
         }
         self.used = put_leaf(&mut self.room, self.used, terminal, text);
         Ok(())
@@ -124,28 +129,88 @@ fn empty_room(rest: &mut Vec<u8>, room: &[u8], used: &mut usize) -> Result<(), A
 }
 
 /// Whether so many bytes are room for a leaf and a byte behind it. It may say no where they are.
-pub(crate) fn fits(left: usize, terminal: Terminal<'_>, text: &[u8]) -> bool
-    ensures { OnTrue result (leaf_room (named terminal.entry) text.now + 1 ≤ left) }
+pub(crate) fn fits(left: usize, terminal: Terminal<'_>, len: usize) -> bool
+    ensures { OnTrue result (leaf_room (named terminal.entry) len + 1 ≤ left) }
 {
     let name_len = match terminal {
         Terminal::Token(name) => name.len(),
         Terminal::Literal(_) => 6,
     };
-    name_len <= left / 2 && text.len() < left / 8
+    name_len <= left / 2 && len < (left / 8).saturating_sub(BLOCK / 4)
 }
 
 /// Writes a leaf from a place on, and answers where it ends.
 #[inline(always)] // a call would cost a tenth of a short leaf
-pub(crate) fn put_leaf(room: &mut [u8], at: usize, terminal: Terminal<'_>, text: &[u8]) -> usize
-    requires { at + leaf_room (named terminal) text.now ≤ length room.old }
-    ensures leaf { take result room.new ≡ take at room.old ++ leaf_of (named terminal.entry) text.now }
-    ensures within { result ≤ at + leaf_room (named terminal.entry) text.now }
+pub(crate) fn put_leaf(room: &mut [u8], at: usize, terminal: Terminal<'_>, text: Front<'_>) -> usize
+    requires { at + leaf_room (named terminal) (length text) ≤ length room.old }
+    ensures leaf { take result room.new ≡ take at room.old ++ leaf_of (named terminal.entry) text.entry }
+    ensures within { result ≤ at + leaf_room (named terminal.entry) (length text.entry) }
     ensures room { length room.new ≡ length room.old }
 {
     let named = put_name(room, at, terminal);
     let quoted = put(room, named, b'"');
-    let end = put_escaped(room, quoted, b'"', text);
+    let end = put_text(room, quoted, text);
     put(room, end, b'"')
+}
+
+/// Writes a leaf's text from a place on as it stands between double quotes, and answers where it ends. So that a short
+/// text is one block, a processor has no length to guess.
+fn put_text(room: &mut [u8], at: usize, text: Front<'_>) -> usize
+    requires { at + 4 * length text + 16 ≤ length room.old }
+    ensures bytes { take result room.new ≡ take at room.old ++ escaped double_quote text.entry }
+    ensures within { result ≤ at + 4 * length text.entry }
+    ensures room { length room.new ≡ length room.old }
+{
+    let mut end = at;
+    let mut done = 0;
+    while done < text.count {
+        let run = put_plain(room, end, &text.bytes[done..], text.count - done);
+        end += run;
+        done += run;
+        if done < text.count {
+            end = put_escaped(room, end, b'"', &[text.bytes[done]]);
+            done += 1;
+        }
+    }
+    end
+}
+
+/// Copies those of the first bytes that stand for themselves between double quotes to a place, so many at most and no
+/// more than a block has, and answers how many they are. They are none where no block is left.
+fn put_plain(room: &mut [u8], at: usize, bytes: &[u8], most: usize) -> usize
+    requires { at + 16 ≤ length room.old }
+    ensures bytes { take (at + result) room.new ≡ take at room.old ++ escaped double_quote (take result bytes.now) }
+    ensures most { result ≤ most }
+    ensures within { result ≤ length bytes.now }
+    ensures room { length room.new ≡ length room.old }
+{
+    if bytes.len() < BLOCK {
+        return 0;
+    }
+    put_block(room, at, bytes);
+    plain_run(bytes).min(most)
+}
+
+/// Copies a block to a place.
+fn put_block(room: &mut [u8], at: usize, bytes: &[u8])
+    requires block { 16 ≤ length bytes.now }
+    requires within { at + 16 ≤ length room.old }
+    ensures { room.new ≡ put_chunk at room.old (take 16 bytes.now) }
+{
+    u8x16::from_slice(bytes).copy_to_slice(&mut room[at..]);
+}
+
+/// How many bytes at the front of a block stand for themselves between double quotes.
+fn plain_run(bytes: &[u8]) -> usize
+    requires { 16 ≤ length bytes.now }
+    ensures { result ≡ prefix_len (is_plain double_quote) (take 16 bytes.now) }
+{
+    let block = u8x16::from_slice(bytes);
+    let special = block.simd_lt(u8x16::splat(b' '))
+        | block.simd_gt(u8x16::splat(b'~'))
+        | block.simd_eq(u8x16::splat(b'\\'))
+        | block.simd_eq(u8x16::splat(b'"'));
+    BLOCK.min(special.to_bitmask().trailing_zeros() as usize)
 }
 
 /// Writes a terminal's name from a place on, and answers where it ends.

@@ -6,6 +6,7 @@ ghost use Rattle.ly_base.specs.Text.{escaped, leaf_line, name_of, named, no_rule
 ghost use Rattle.ly_base.specs.TextWriter.{bytes_of, IsAppended, IsCutShort, IsUnderway};
 
 use crate::device::Sink;
+use crate::front::Front;
 use crate::text::Terminal;
 use crate::text_buffer::{fits, put, put_bytes, put_escaped, put_leaf};
 use crate::whole::{WriteFault, write_whole};
@@ -75,18 +76,18 @@ impl TextWriter {
         &mut self,
         writer: &mut W,
         terminal: Terminal<'_>,
-        text: &[u8],
+        text: Front<'_>,
     ) -> Result<(), WriteFault>
-        requires countable { bytes_of self.old + length (leaf_line (named terminal) text.now) < 2 ^ 64 }
+        requires countable { bytes_of self.old + length (leaf_line (named terminal) text) < 2 ^ 64 }
         ensures text { IsAppended self.old self.new (W.contents writer.old) (W.contents writer.new)
-            (leaf_line (named terminal.entry) text.now) result }
+            (leaf_line (named terminal.entry) text.entry) result }
         ensures counted { OnOk result (bytes_of self.new
-            ≡ bytes_of self.old + length (leaf_line (named terminal.entry) text.now)) }
+            ≡ bytes_of self.old + length (leaf_line (named terminal.entry) text.entry)) }
         ensures no_failure { OnOk result (W.failures writer.new ≡ W.failures writer.old) }
         ensures failed { OnErr result (W.failures writer.new ≡ next_count (W.failures writer.old)) }
     {
-        if !fits(self.room.len() - self.used, terminal, text) {
-            return self.push_line_behind(writer, terminal, text);
+        if !fits(self.room.len() - self.used, terminal, text.len()) {
+            return self.push_line_behind(writer, terminal, text.bytes());
         }
         let end = put_leaf(&mut self.room, self.used, terminal, text);
         self.used = put(&mut self.room, end, b'\n');
