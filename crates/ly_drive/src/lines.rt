@@ -41,14 +41,14 @@ pub(crate) fn token_line(
     ensures { IfOk result (λ line. line.items ≡ syntax_line (words_of names.now) number (record {
       terminal = token.now.terminal.0;
       at = token.now.at;
-      bytes = token.now.text.now;
+      bytes = token.now.text;
     })) }
 {
     let mut line = Vec::new(alloc);
     let byte = token.at;
     write!(line, "syntax error at token {number}, byte {byte}: ").map_err(|_| OutOfMemory)?;
     let name = Terminal::Token(names.terminal_name(token.terminal));
-    push_leaf(&mut line, name, token.text)?;
+    push_leaf(&mut line, name, token.text.bytes())?;
     line.push(b'\n')?;
     Ok(line)
 }

@@ -20,7 +20,7 @@ use crate::names::Names;
 use crate::outcome::Outcome;
 use crate::table_walk::TableWalk;
 use crate::tables::Tables;
-use ly_base::{End, Lexeme, Place, StateNo};
+use ly_base::{End, Front, Lexeme, Place, StateNo};
 use ly_pack::{Comb, TableAction};
 use ly_parse::{ParseFault, Parser, Step, Token};
 use ly_scan::Lexer;
@@ -103,14 +103,14 @@ fn take(
         → IsLexemeAt (scanner_in tables.now.scanner) place.now lexeme
         → IsTaken tables.now text place.now lexeme parser.new result }
 {
-    let bytes = &place.rest()[..lexeme.taken];
-    let Some(terminal) = tables.scanner.terminal(lexeme.rule, bytes) else {
+    let text = Front::new(place.rest(), lexeme.taken);
+    let Some(terminal) = tables.scanner.terminal(lexeme.rule, text.bytes()) else {
         return Ok(None);
     };
     let token = Token {
         terminal,
         at: place.at() as u64,
-        text: bytes,
+        text,
     };
     feed(alloc, &tables.names(), parser, &token)
 }
@@ -129,7 +129,7 @@ fn feed(
     ensures { IsFed (words_of names.now) parser.old (record {
       terminal = token.now.terminal.0;
       at = token.now.at;
-      bytes = token.now.text.now;
+      bytes = token.now.text;
     }) parser.new result }
 {
     match parser.feed(token) {

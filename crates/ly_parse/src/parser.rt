@@ -101,7 +101,7 @@ impl<'a, A: Rows<TableAction> + Drop, G: Rows<StateNo> + Drop> Parser<'a, A, G> 
         ensures { IsCall self.old (record {
           terminal = token.now.terminal.0;
           at = token.now.at;
-          bytes = token.now.text.now;
+          bytes = token.now.text;
         }) self.new result }
     {
         if self.over {
@@ -233,7 +233,7 @@ impl<'a, A: Rows<TableAction> + Drop, G: Rows<StateNo> + Drop> Parser<'a, A, G> 
         requires { action_of self.old.machine (top_of self.old.stack) token.now.terminal.0 ≡ shift state.0 }
         ensures stack { OnOk result (self.new.stack ≡ record {
           state = state.0;
-          term = leaf token.now.terminal.0 token.now.text.now;
+          term = leaf token.now.terminal.0 token.now.text;
         } ∷ self.old.stack) }
         ensures count { OnOk result (self.new.count ≡ self.old.count + 1) }
         ensures not_end { OnOk result (token.now.terminal.0 ≢ 0) }
@@ -242,7 +242,7 @@ impl<'a, A: Rows<TableAction> + Drop, G: Rows<StateNo> + Drop> Parser<'a, A, G> 
         ensures machine { self.new.machine ≡ self.old.machine }
     {
         let count = self.number()?;
-        let term = self.forest.leaf(token.terminal, token.text)?;
+        let term = self.forest.leaf(token.terminal, &token.text)?;
         self.stack.reserve(1)?;
         self.stack.push_reserved(Level { state, term });
         self.count = count;

@@ -1,12 +1,12 @@
-use ly_base::Sym;
+use ly_base::{Front, Sym};
 
 /// A token, as a parser is fed with it.
-#[derive(Clone, Copy, Debug)]
+#[derive(Drop)]
 pub struct Token<'t> {
     /// Its terminal.
     pub terminal: Sym,
     /// The byte of the text where it stands, counted from 0.
     pub at: u64,
     /// Its bytes.
-    pub text: &'t [u8],
+    pub text: Front<'t>,
 }

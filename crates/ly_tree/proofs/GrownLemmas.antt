@@ -2,6 +2,7 @@
 use Rattle.std.proofs.Common.{◌≡◌, ℕ, zero, suc, ◌+◌, ◌-◌, ◌<◌, ◌≤◌, List, [], ◌∷◌, ◌++◌, length, take, drop, arith}
 use Rattle.std.proofs.Common.{refl, sym, ap, ◌∙◌, subst, append-nil, length-append}
 use Rattle.std.specs.Prelude.{slice_get, IsSome, Some, option_map}
+use Rattle.ly_base.proofs.EscapeLemmas.{whole_slice}
 use Rattle.ly_base.specs.declared.numbers.RuleNo.{RuleNo}
 use Rattle.ly_tree.proofs.PieceLemmas.{mapped_some, piece_end, piece_inside, piece_is}
 use Rattle.ly_tree.proofs.StandLemmas.{all_known_kept, stand_unwrapped, terms_kept, Keeps-append}
@@ -139,15 +140,14 @@ leaf_inside ls all bs f l e h same =
     (piece_inside l.start l.length f.bytes (mapped_some (λ text. leaf l.terminal.0 text) _ h))
 
 pub leaf_is : (ls all text : List ℕ) (bs : List (RuleNo × List TermRef)) (f : Grown) (l : code.Leaf) → grown ls bs ≡ f
-    → IsSome (term_of f (Leaf l)) → all ≡ ls → text ≡ take (l.start + l.length - l.start) (drop l.start all)
+    → IsSome (term_of f (Leaf l)) → all ≡ ls → text ≡ take l.length (take (length all - l.start) (drop l.start all))
     → StandsFor f (Leaf l) (leaf l.terminal.0 text)
 leaf_is ls all text bs f l e h same is =
-    let long : l.start + l.length - l.start ≡ l.length = omega arith in
     let there = piece_is l.start l.length all (leaf_inside ls all bs f l e h same) in
     subst (λ xs. option_map (λ t. leaf l.terminal.0 t) (piece l.start l.length xs) ≡ Some (leaf l.terminal.0 text))
     (same ∙ ap (λ g. g.bytes) e)
     (ap (option_map (λ t. leaf l.terminal.0 t))
-    (there ∙ ap Some (sym (is ∙ ap (λ n. take n (drop l.start all)) long))))
+    (there ∙ ap Some (sym (is ∙ ap (take l.length) (whole_slice l.start all)))))
 
 -- a leaf more
 pub leaf_known : (ls ms text : List ℕ) (bs : List (RuleNo × List TermRef)) → AreKnown ls [] bs → ms ≡ ls ++ text

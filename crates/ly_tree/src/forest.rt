@@ -2,9 +2,9 @@ ghost use Rattle.std.specs.Prelude.{◌≡◌, ◌≤◌, ◌+◌, [], ◌∷◌
 ghost use Rattle.std.specs.Prelude.{All, IfOk, IsSome, OnErr, OnOk, Some};
 ghost use Rattle.ly_tree.specs.Term.{at_places, built, leaf};
 
-use crate::headed::{Headed, number_of, part};
+use crate::headed::{Headed, number_of};
 use crate::refers::Refers;
-use ly_base::{OutOfMemory, RuleNo, Sym};
+use ly_base::{Front, OutOfMemory, RuleNo, Sym};
 use std::alloc::Global;
 use std::marker::Model;
 
@@ -71,14 +71,14 @@ impl Forest {
 
     /// Adds the text of a leaf, and answers the leaf. It is out of memory also for a text of more than `u32::MAX`
     /// bytes, or behind as many. After the fault the forest is as it was.
-    pub fn leaf(&mut self, terminal: Sym, text: &[u8]) -> Result<TermRef, OutOfMemory>
+    pub fn leaf(&mut self, terminal: Sym, text: &Front<'_>) -> Result<TermRef, OutOfMemory>
         ensures stands { IfOk result (λ r. StandsFor self.new r (leaf terminal.0 text.now)) }
         ensures keeps { OnOk result (Keeps self.old self.new) }
         ensures err { OnErr result (self.new ≡ self.old) }
     {
         let start = number_of(self.bytes.len())?;
         let length = number_of(text.len())?;
-        self.bytes.extend_from_slice(text)?;
+        append(&mut self.bytes, text)?;
         Ok(TermRef::Leaf(Leaf {
             terminal,
             start,
@@ -105,12 +105,11 @@ impl Forest {
     }
 
     /// The text of a leaf.
-    pub(crate) fn text_of(&self, place: Leaf) -> &[u8]
+    pub(crate) fn text_of(&self, place: Leaf) -> Front<'_>
         requires { IsSome (term_of self.now (TermRef.Leaf place)) }
-        ensures { StandsFor self.now (TermRef.Leaf place) (leaf place.terminal.0 result.now) }
+        ensures { StandsFor self.now (TermRef.Leaf place) (leaf place.terminal.0 result) }
     {
-        let start = place.start as usize;
-        part(&self.bytes, start, start + place.length as usize)
+        Front::new(&self.bytes[place.start as usize..], place.length as usize)
     }
 
     /// A node: its rule and its children.
@@ -121,4 +120,19 @@ impl Forest {
     {
         self.nodes.get(number)
     }
+}
+
+/// Appends the front of other bytes. After the fault the bytes are as they were.
+fn append(bytes: &mut Vec<u8>, text: &Front<'_>) -> Result<(), OutOfMemory>
+    ensures ok { OnOk result (bytes.new.items ≡ bytes.old.items ++ text.now) }
+    ensures err { OnErr result (bytes.new.items ≡ bytes.old.items) }
+{
+    let Some(block) = text.block() else {
+        return Ok(bytes.extend_from_slice(text.bytes())?);
+    };
+    // a block is one store, where some bytes are a call
+    let before = bytes.len();
+    bytes.extend_from_slice(block)?;
+    bytes.truncate(before + text.len());
+    Ok(())
 }

@@ -110,7 +110,7 @@ fn pick<R: Refers>(
 }
 
 /// The members between two places.
-pub(crate) fn part<T>(members: &[T], start: usize, end: usize) -> &[T]
+fn part<T>(members: &[T], start: usize, end: usize) -> &[T]
     requires rises { start ≤ end }
     requires within { end ≤ length members.now }
     ensures { result.now ≡ take (end - start) (drop start members.now) }

@@ -8,7 +8,8 @@ pub returns-in_default : goal.returns-in_default
 returns-in_default c text h is =
     let T = c.args.tables.now in
     passes T.scanner T.machine text c.args.place.now _ c.args.parser.now c.args.lexeme h is
-    (ap (λ rest. terminal_in T.scanner c.args.lexeme.rule.0 (take c.args.lexeme.taken rest)) (sym c.rest.ensures)
+    (ap (terminal_in T.scanner c.args.lexeme.rule.0)
+    (ap (take c.args.lexeme.taken) (sym c.rest.ensures) ∙ sym c.new-text.ensures ∙ sym c.bytes.ensures)
     ∙ no_terminal c.terminal.result _ c.terminal.ensures c.in_default.is) refl
 
 pub returns : goal.returns
@@ -17,6 +18,7 @@ returns c text h is =
     taken T text _ c.args.place.now c.args.parser.now c.feed.new.parser c.args.lexeme _ c.feed.result c.names.ensures h
     is (record {
       at = c.at.ensures;
-      bytes = ap (take c.args.lexeme.taken) c.rest.ensures;
-      terminal = terminal_is c.terminal.result c.in-Some.terminal _ c.terminal.ensures c.in-Some.is;
+      bytes = c.new-text.ensures ∙ ap (take c.args.lexeme.taken) c.rest.ensures;
+      terminal = ap (terminal_in T.scanner c.args.lexeme.rule.0) (sym c.bytes.ensures)
+          ∙ terminal_is c.terminal.result c.in-Some.terminal _ c.terminal.ensures c.in-Some.is;
     }) c.feed.ensures

@@ -8,7 +8,7 @@ returns-in_ok-read-in-Reads g c =
     c.self.inside.count c.self.inside.over (record {
       terminal = c.args.token.now.terminal.0;
       at = c.args.token.now.at;
-      bytes = c.args.token.now.text.now;
+      bytes = c.args.token.now.text;
     }) c.self.view_is c.if-self.false c.settle.new.self c.in_ok-state.ensures.alike c.in_ok-state.ensures.machine
     c.in_ok-state.ensures.count c.in-Reads.state.0 c.read.new.self
     (c.in_ok-state.ensures.reads c.in-Reads.state (ap Ok c.in-Reads.is)) c.in_ok-read-in-Reads.ensures.stack
@@ -20,7 +20,7 @@ returns-in-Accepts g c =
     c.self.inside.count c.self.inside.over (record {
       terminal = c.args.token.now.terminal.0;
       at = c.args.token.now.at;
-      bytes = c.args.token.now.text.now;
+      bytes = c.args.token.now.text;
     }) c.self.view_is c.if-self.false c.settle.new.self c.in_ok-state.ensures.alike c.in_ok-state.ensures.machine
     c.in_ok-state.ensures.count c.accept.result (c.in_ok-state.ensures.accepts (ap Ok c.in-Accepts.is))
     c.in_ok-state.ensures.over c.accept.ensures
@@ -31,7 +31,7 @@ returns-in-Refuses g c =
     c.self.inside.count c.self.inside.over (record {
       terminal = c.args.token.now.terminal.0;
       at = c.args.token.now.at;
-      bytes = c.args.token.now.text.now;
+      bytes = c.args.token.now.text;
     }) c.self.view_is c.if-self.false c.settle.new.self c.in_ok-state.ensures.alike c.in_ok-state.ensures.machine
     c.in_ok-state.ensures.count c.refuse.result (c.in_ok-state.ensures.refuses (ap Ok c.in-Refuses.is))
     c.in_ok-state.ensures.over c.refuse.ensures.ok c.refuse.ensures.err

@@ -22,7 +22,7 @@ invariant_of-self-2 g c =
     c.args.self.now c.self.inside.count c.self.inside.over c.args.token.now.terminal.0
     (record { state = c.args.state; term = c.in_ok-term.term }) c.self.view_is c.self.invariant
     c.in_ok-term.ensures.keeps c.requires
-    (stands_known c.leaf.new.self c.in_ok-term.term (leaf c.args.token.now.terminal.0 c.args.token.now.text.now)
+    (stands_known c.leaf.new.self c.in_ok-term.term (leaf c.args.token.now.terminal.0 c.args.token.now.text)
     c.in_ok-term.ensures.stands))
 
 pub returns-clause-stack : goal.returns-clause-stack
@@ -30,7 +30,7 @@ returns-clause-stack g c =
     ap (stack_from c.leaf.new.self) (on_top _ _ _ _ c.in_ok-reserve.ensures.items c.push_reserved.ensures.items)
     ∙ shifted_stack c.self.inside.machine.now c.self.inside.forest c.leaf.new.self c.self.inside.stack.items
     c.args.self.now c.self.inside.count c.self.inside.over (record { state = c.args.state; term = c.in_ok-term.term })
-    (leaf c.args.token.now.terminal.0 c.args.token.now.text.now) c.self.view_is c.self.invariant
+    (leaf c.args.token.now.terminal.0 c.args.token.now.text) c.self.view_is c.self.invariant
     c.in_ok-term.ensures.keeps c.in_ok-term.ensures.stands
 
 pub returns-clause-not_end : goal.returns-clause-not_end
