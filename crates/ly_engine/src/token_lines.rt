@@ -9,7 +9,7 @@ ghost use Rattle.ly_scan.specs.Lexer.{Scanner};
 ghost use Rattle.ly_engine.specs.Printing.{condition_set, end_line, line_if, naming};
 ghost use Rattle.ly_engine.specs.Private.TokenLines.{name_len, AreCountable, AreLines};
 
-use ly_base::{End, RuleNo, Sink, Terminal, TextWriter, WriteFault};
+use ly_base::{End, Front, RuleNo, Sink, Terminal, TextWriter, WriteFault};
 use ly_lexread::{Action, Returned};
 use ly_scan::{Lexer, Steps};
 
@@ -37,7 +37,7 @@ pub(crate) fn write_token_lines<S: Steps + Drop, W: Sink>(
     loop {
         match lexer.next_lexeme() {
             Ok(lexeme) => {
-                let token = &lexer.place.rest()[..lexeme.taken];
+                let token = Front::new(lexer.place.rest(), lexeme.taken);
                 push_token(&mut lines, writer, actions, lexeme.rule, token)?;
                 let begin = condition_set(actions, lexeme.rule);
                 lexer.place.advance(lexeme.taken, begin);
@@ -84,19 +84,18 @@ fn push_token<W: Sink>(
     writer: &mut W,
     actions: &[Action],
     rule: RuleNo,
-    token: &[u8],
+    token: Front<'_>,
 ) -> Result<(), WriteFault>
-    requires some { 0 < length token.now }
-    requires countable { bytes_of lines.old + length (line_if (naming actions.now rule.0 token.now) token.now)
-        < 2 ^ 64 }
+    requires some { 0 < length token }
+    requires countable { bytes_of lines.old + length (line_if (naming actions.now rule.0 token) token) < 2 ^ 64 }
     ensures text { IsAppended lines.old lines.new (W.contents writer.old) (W.contents writer.new)
-        (line_if (naming actions.now rule.0 token.now) token.now) result }
+        (line_if (naming actions.now rule.0 token.entry) token.entry) result }
     ensures counted { OnOk result (bytes_of lines.new
-        ≡ bytes_of lines.old + length (line_if (naming actions.now rule.0 token.now) token.now)) }
+        ≡ bytes_of lines.old + length (line_if (naming actions.now rule.0 token.entry) token.entry)) }
     ensures no_failure { OnOk result (W.failures writer.new ≡ W.failures writer.old) }
     ensures failed { OnErr result (W.failures writer.new ≡ next_count (W.failures writer.old)) }
 {
-    match terminal_for(actions, rule, token) {
+    match terminal_for(actions, rule, token.bytes()) {
         Some(terminal) => lines.push_leaf_line(writer, terminal, token),
         None => Ok(()),
     }

@@ -156,9 +156,11 @@ impl<'a, A: Rows<TableAction> + Drop, G: Rows<StateNo> + Drop> Parser<'a, A, G> 
         ensures over { self.new.over ≡ self.old.over }
     {
         let machine = self.machine;
+        // it is handed on, so that a step needn't wait for the stack
+        let mut top = self.top();
         loop {
-            match machine.action(self.top(), terminal) {
-                TableAction::Reduce(rule) => self.reduce(rule)?,
+            match machine.action(top, terminal) {
+                TableAction::Reduce(rule) => top = self.reduce(rule)?,
                 TableAction::Shift(state) => return Ok(Settled::Reads(state)),
                 TableAction::Accept => return Ok(Settled::Accepts),
                 TableAction::Error => return Ok(Settled::Refuses),
@@ -177,11 +179,13 @@ impl<'a, A: Rows<TableAction> + Drop, G: Rows<StateNo> + Drop> Parser<'a, A, G> 
         }
     }
 
-    /// Makes a reduction.
-    fn reduce(&mut self, number: RuleNo) -> Result<(), ParseFault>
+    /// Makes a reduction, and answers the state on top of the stack then.
+    fn reduce(&mut self, number: RuleNo) -> Result<StateNo, ParseFault>
         requires { IsRuleNumber self.old.machine number.0 }
         ensures ok { OnOk result (reduce_by self.old.machine number.0 self.old.stack (rule_at self.old.machine number.0)
             ≡ goes_on self.new.stack) }
+        ensures top { IfOk result (λ s. s.0 ≡ top_of self.new.stack) }
+        ensures known { IfOk result (λ s. s.0 < states_of self.new.machine) }
         ensures faulty { result ≡ Err fault.TableFault → reduce_by self.old.machine number.0 self.old.stack
             (rule_at self.old.machine number.0) ≡ settles faulty }
         ensures not_over { result ≢ Err fault.Over }
@@ -200,7 +204,7 @@ impl<'a, A: Rows<TableAction> + Drop, G: Rows<StateNo> + Drop> Parser<'a, A, G> 
         };
         self.stack.reserve(1)?;
         self.stack.push_reserved(Level { state, term });
-        Ok(())
+        Ok(state)
     }
 
     /// What a rule makes of the terms on the stack above so many levels.

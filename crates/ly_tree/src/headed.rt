@@ -134,7 +134,12 @@ fn start_of<H: Copy>(headings: &[Heading<H>], number: usize) -> usize
 pub(crate) fn number_of(count: usize) -> Result<u32, OutOfMemory>
     ensures { IfOk result (λ n. n ≡ count) }
 {
-    u32::try_from(count).map_err(|_| OutOfMemory)
+    // by `u32::try_from` it takes twice the time
+    if count <= u32::MAX as usize {
+        Ok(count as u32)
+    } else {
+        Err(OutOfMemory)
+    }
 }
 
 /// Where more members end behind others.

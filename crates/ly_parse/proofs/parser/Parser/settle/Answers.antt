@@ -16,13 +16,15 @@ loop-rule-init g c = record {
   machine = refl;
   count = refl;
   over = refl;
+  top = c.top-top.ensures.top;
+  known = c.top-top.ensures.known;
 }
 
 pub reduce-requires : goal.reduce-requires
 reduce-requires g c =
     subst (λ m. IsRuleNumber m c.in-Reduce.rule.0)
     (ap (λ p. p.machine) c.self.view_is ∙ sym c.loop-rule.invariant.machine)
-    (legal c.self.inside.machine.now c.top.result.0 c.args.terminal.0 (reduce c.in-Reduce.rule.0)
+    (legal c.self.inside.machine.now c.loop-rule.top.0 c.args.terminal.0 (reduce c.in-Reduce.rule.0)
     c.self.invariant.machine (sym c.in-Reduce.ensures))
 
 pub loop-rule-smaller : goal.loop-rule-smaller
@@ -30,37 +32,39 @@ loop-rule-smaller g c =
     (less_left c.args.self.now.machine c.args.terminal.0 c.in-Reduce.rule.0
     ((run_bound + 1) * length (states_on c.args.self.now.stack)) c.loop-rule.self.stack c.reduce.new.self.stack
     (is_made c.args.self.now.machine c.self.inside.machine.now c.loop-rule.self.machine c.args.terminal.0
-    c.top.result.0 c.in-Reduce.rule.0 c.loop-rule.self.stack (goes_on c.reduce.new.self.stack)
-    (ap (λ p. p.machine) c.self.view_is) c.loop-rule.invariant.machine c.top.ensures.top c.in-Reduce.ensures
-    c.in_ok-reduce-in-Reduce.ensures.ok) c.loop-rule.invariant.ends).1
+    c.loop-rule.top.0 c.in-Reduce.rule.0 c.loop-rule.self.stack (goes_on c.reduce.new.self.stack)
+    (ap (λ p. p.machine) c.self.view_is) c.loop-rule.invariant.machine c.loop-rule.invariant.top c.in-Reduce.ensures
+    c.in_ok-top-in-Reduce.ensures.ok) c.loop-rule.invariant.ends).1
 
 pub loop-rule-preserved : goal.loop-rule-preserved
 loop-rule-preserved g c = record {
   alike = still_alike c.args.self.now.machine c.args.terminal.0 c.in-Reduce.rule.0 c.args.self.now.stack
       c.loop-rule.self.stack c.reduce.new.self.stack
       (is_made c.args.self.now.machine c.self.inside.machine.now c.loop-rule.self.machine c.args.terminal.0
-      c.top.result.0 c.in-Reduce.rule.0 c.loop-rule.self.stack (goes_on c.reduce.new.self.stack)
-      (ap (λ p. p.machine) c.self.view_is) c.loop-rule.invariant.machine c.top.ensures.top c.in-Reduce.ensures
-      c.in_ok-reduce-in-Reduce.ensures.ok) c.loop-rule.invariant.alike;
+      c.loop-rule.top.0 c.in-Reduce.rule.0 c.loop-rule.self.stack (goes_on c.reduce.new.self.stack)
+      (ap (λ p. p.machine) c.self.view_is) c.loop-rule.invariant.machine c.loop-rule.invariant.top c.in-Reduce.ensures
+      c.in_ok-top-in-Reduce.ensures.ok) c.loop-rule.invariant.alike;
   ends = (less_left c.args.self.now.machine c.args.terminal.0 c.in-Reduce.rule.0
       ((run_bound + 1) * length (states_on c.args.self.now.stack)) c.loop-rule.self.stack c.reduce.new.self.stack
       (is_made c.args.self.now.machine c.self.inside.machine.now c.loop-rule.self.machine c.args.terminal.0
-      c.top.result.0 c.in-Reduce.rule.0 c.loop-rule.self.stack (goes_on c.reduce.new.self.stack)
-      (ap (λ p. p.machine) c.self.view_is) c.loop-rule.invariant.machine c.top.ensures.top c.in-Reduce.ensures
-      c.in_ok-reduce-in-Reduce.ensures.ok) c.loop-rule.invariant.ends).0;
+      c.loop-rule.top.0 c.in-Reduce.rule.0 c.loop-rule.self.stack (goes_on c.reduce.new.self.stack)
+      (ap (λ p. p.machine) c.self.view_is) c.loop-rule.invariant.machine c.loop-rule.invariant.top c.in-Reduce.ensures
+      c.in_ok-top-in-Reduce.ensures.ok) c.loop-rule.invariant.ends).0;
   tables = c.loop-rule.invariant.tables;
-  machine = c.in_ok-reduce-in-Reduce.ensures.machine ∙ c.loop-rule.invariant.machine;
-  count = c.in_ok-reduce-in-Reduce.ensures.count ∙ c.loop-rule.invariant.count;
-  over = c.in_ok-reduce-in-Reduce.ensures.over ∙ c.loop-rule.invariant.over;
+  machine = c.in_ok-top-in-Reduce.ensures.machine ∙ c.loop-rule.invariant.machine;
+  count = c.in_ok-top-in-Reduce.ensures.count ∙ c.loop-rule.invariant.count;
+  over = c.in_ok-top-in-Reduce.ensures.over ∙ c.loop-rule.invariant.over;
+  top = c.in_ok-top-in-Reduce.ensures.top;
+  known = c.in_ok-top-in-Reduce.ensures.known;
 }
 
-pub returns-in_err-reduce-in-Reduce-clause-faulty : goal.returns-in_err-reduce-in-Reduce-clause-faulty
-returns-in_err-reduce-in-Reduce-clause-faulty g c is =
+pub returns-in_err-top-in-Reduce-clause-faulty : goal.returns-in_err-top-in-Reduce-clause-faulty
+returns-in_err-top-in-Reduce-clause-faulty g c is =
     settled_by c.args.self.now.machine c.args.terminal.0 c.in-Reduce.rule.0 c.args.self.now.stack
     c.loop-rule.self.stack faulty
     (is_made c.args.self.now.machine c.self.inside.machine.now c.loop-rule.self.machine c.args.terminal.0
-    c.top.result.0 c.in-Reduce.rule.0 c.loop-rule.self.stack (settles faulty)
-    (ap (λ p. p.machine) c.self.view_is) c.loop-rule.invariant.machine c.top.ensures.top c.in-Reduce.ensures
-    (c.in_err-reduce-in-Reduce.ensures.faulty (ap Err (same_fault c.from_residual.result
-    c.in_err-reduce-in-Reduce.field-0.0 TableFault c.from_residual.ensures.1 is))))
+    c.loop-rule.top.0 c.in-Reduce.rule.0 c.loop-rule.self.stack (settles faulty)
+    (ap (λ p. p.machine) c.self.view_is) c.loop-rule.invariant.machine c.loop-rule.invariant.top c.in-Reduce.ensures
+    (c.in_err-top-in-Reduce.ensures.faulty (ap Err (same_fault c.from_residual.result
+    c.in_err-top-in-Reduce.field-0.0 TableFault c.from_residual.ensures.1 is))))
     c.loop-rule.invariant.alike

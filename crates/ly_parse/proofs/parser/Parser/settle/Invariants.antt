@@ -1,7 +1,8 @@
-use Rattle.std.proofs.Common.{◌≡◌, ◌+◌, ◌*◌, length}
+use Rattle.std.proofs.Common.{◌≡◌, ◌<◌, ◌+◌, ◌*◌, length}
+use Rattle.ly_pack.specs.Machine.{states_of}
 use Rattle.ly_pack.specs.Steady.{run_bound, EndsWithin}
 use Rattle.ly_pack.specs.SteadyLaws.{reductions}
-use Rattle.ly_parse.specs.Feeding.{states_on}
+use Rattle.ly_parse.specs.Feeding.{states_on, top_of}
 use Rattle.ly_parse.specs.Private.Stack.{FeedAlike}
 use Rattle.ly_parse.proofs.parser.Parser.settle.Given as goal
 
@@ -15,6 +16,8 @@ invariant-loop-rule g l = record {
   machine : l.self.machine ≡ l.fn.self.machine;
   count : l.self.count ≡ l.fn.self.count;
   over : l.self.over ≡ l.fn.self.over;
+  top : l.top.0 ≡ top_of l.self.stack;
+  known : l.top.0 < states_of l.self.machine;
 }
 
 abbrev pub decreases-loop-rule : goal.decreases-loop-rule
