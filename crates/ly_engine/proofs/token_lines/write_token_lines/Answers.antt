@@ -15,8 +15,9 @@ push_token-requires-clause-countable g c =
       arith,
       now.invariant.counted countable.0 countable.1,
       line_left c.args.actions.now countable.0 c.in-Ok.lexeme.rule.0 c.in-Ok.lexeme.taken now.lexer.place.rest
-          (take c.in-Ok.lexeme.taken c.rest.result.now) countable.1 c.in-Ok.ensures.within.0 c.in-Ok.ensures.within.1
-          (ap (take c.in-Ok.lexeme.taken) (c.rest.ensures ∙ ap (λ (p : Place). p.rest) c.in-Ok.ensures.place)),
+          c.new-token.result countable.1 c.in-Ok.ensures.within.0 c.in-Ok.ensures.within.1
+          (c.new-token.ensures
+          ∙ ap (take c.in-Ok.lexeme.taken) (c.rest.ensures ∙ ap (λ (p : Place). p.rest) c.in-Ok.ensures.place)),
       countable.2,
     )
 
@@ -24,7 +25,7 @@ pub returns-in_err-push_token-in-Ok-clause-cut_short : goal.returns-in_err-push_
 returns-in_err-push_token-in-Ok-clause-cut_short g c =
     let now = c.loop-lexeme in
     let so_far = now.invariant.so_far in
-    let token = take c.in-Ok.lexeme.taken c.rest.result.now in
+    let token = c.new-token.result in
     let line = line_if (naming c.args.actions.now c.in-Ok.lexeme.rule.0 token) token in
     let begin = condition_set c.args.actions.now c.in-Ok.lexeme.rule.0 in
     let fault = c.in_err-push_token-in-Ok.field-0.0 in
@@ -35,7 +36,8 @@ returns-in_err-push_token-in-Ok-clause-cut_short g c =
     (one_more c.args.actions.now _ _ c.args.lexer.now.place now.lexer.place
     (moved now.lexer.place c.in-Ok.lexeme.taken begin) c.in-Ok.lexeme begin token so_far.0 (so_far.0 ++ line)
     (scanner_of _ _ _ _ now.invariant.same_walk now.invariant.same_cuts) c.in-Ok.ensures.lexeme refl refl
-    (ap (take c.in-Ok.lexeme.taken) (c.rest.ensures ∙ ap (λ (p : Place). p.rest) c.in-Ok.ensures.place)) refl so_far.1)
+    (c.new-token.ensures
+    ∙ ap (take c.in-Ok.lexeme.taken) (c.rest.ensures ∙ ap (λ (p : Place). p.rest) c.in-Ok.ensures.place)) refl so_far.1)
     (appended_twice c.args.empty now.lines c.push_token.new.lines _ _ _ so_far.0 line tt (Err fault) so_far.2
     c.in_err-push_token-in-Ok.ensures.text))
 
@@ -44,9 +46,10 @@ loop-lexeme-preserved g c =
     let now = c.loop-lexeme in
     let so_far = now.invariant.so_far in
     let taken = c.in-Ok.lexeme.taken in
-    let token = take taken c.rest.result.now in
+    let token = c.new-token.result in
     let line = line_if (naming c.args.actions.now c.in-Ok.lexeme.rule.0 token) token in
-    let is = ap (take taken) (c.rest.ensures ∙ ap (λ (p : Place). p.rest) c.in-Ok.ensures.place) in
+    let is = c.new-token.ensures
+    ∙ ap (take taken) (c.rest.ensures ∙ ap (λ (p : Place). p.rest) c.in-Ok.ensures.place) in
     let at = c.advance.ensures ∙ ap (λ (p : Place). moved p taken c.condition_set-begin.result) c.in-Ok.ensures.place in
     record {
       same_walk = c.in-Ok.ensures.same_walk ∙ now.invariant.same_walk;
