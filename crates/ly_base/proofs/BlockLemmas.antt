@@ -103,7 +103,8 @@ pub plain_block : (room bytes : List ℕ) (at run : ℕ) → 16 ≤ length bytes
     → run ≤ prefix_len (is_plain double_quote) (take 16 bytes)
     → take (at + run) (put_chunk at room (take 16 bytes)) ≡ take at room ++ escaped double_quote (take run bytes)
 plain_block room bytes at run block within plain =
-    let few : run ≤ 16 = omega (arith, prefix_len-le-length (is_plain double_quote) (take 16 bytes), length-take 16 bytes) in
+    let few : run ≤ 16
+    = omega (arith, prefix_len-le-length (is_plain double_quote) (take 16 bytes), length-take 16 bytes) in
     let at_is : length (take at room) ≡ at = omega (arith, length-take at room) in
     sym (take-take (at + run) (at + 16) (put_chunk at room (take 16 bytes)) (omega arith))
     ∙ ap (take (at + run)) (take_more_put_chunk at room (take 16 bytes) (at + 16) (omega (arith, length-take 16 bytes))
