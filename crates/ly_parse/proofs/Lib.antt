@@ -1,4 +1,5 @@
 pub mod FeedingLemmas
+pub mod PassLemmas
 pub mod ReduceLemmas
 pub mod SettleLemmas
 pub mod StackLemmas

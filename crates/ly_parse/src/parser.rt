@@ -1,11 +1,11 @@
-ghost use Rattle.std.specs.Prelude.{◌≡◌, ◌≢◌, ◌<◌, ◌≤◌, ◌+◌, ◌-◌, [], ◌∷◌, Err, Ok, false, length, take};
-ghost use Rattle.std.specs.Prelude.{IfErr, IfOk, OnErr, OnOk};
+ghost use Rattle.std.specs.Prelude.{◌≡◌, ◌≢◌, ◌<◌, ◌≤◌, ◌+◌, ◌-◌, ℕ, [], ◌∷◌, Err, Ok, Some, false, drop, length};
+ghost use Rattle.std.specs.Prelude.{take, IfErr, IfOk, OnErr, OnOk};
 ghost use Rattle.ly_base.specs.Shape.{shape_of};
 ghost use Rattle.ly_pack.specs.Machine.{accept, action_of, error, shift, states_of, IsRuleNumber, IsShapeFor};
 ghost use Rattle.ly_pack.specs.Steady.{rule_at, IsSteady};
 ghost use Rattle.ly_parse.specs.Feeding.{faulty, goes_on, reduce_by, settles, top_of};
 ghost use Rattle.ly_parse.specs.Parse.{IsCall};
-ghost use Rattle.ly_parse.specs.Private.Stack.{terms_onto, FeedAlike, FeedAs, IsAccepted};
+ghost use Rattle.ly_parse.specs.Private.Stack.{passing, terms_onto, FeedAlike, FeedAs, IsAccepted};
 ghost use Rattle.ly_parse.specs.declared.fault.ParseFault.TheVariants as fault;
 ghost use Rattle.ly_parse.specs.declared.settled.Settled.TheVariants as settled;
 ghost use Rattle.ly_parse.specs.declared.step.Step.TheVariants as step;
@@ -173,10 +173,7 @@ impl<'a, A: Rows<TableAction> + Drop, G: Rows<StateNo> + Drop> Parser<'a, A, G> 
         ensures top { result.0 ≡ top_of self.now.stack }
         ensures known { result.0 < states_of self.now.machine }
     {
-        match self.stack.last() {
-            Some(level) => level.state,
-            None => StateNo(0),
-        }
+        self.top_at(self.stack.len())
     }
 
     /// Makes a reduction, and answers the state on top of the stack then.
@@ -194,6 +191,11 @@ impl<'a, A: Rows<TableAction> + Drop, G: Rows<StateNo> + Drop> Parser<'a, A, G> 
         ensures over { self.new.over ≡ self.old.over }
     {
         let rule = self.machine.rule(number);
+        if rule.body_length == 1 {
+            if let RuleTree::Pass(_) = rule.tree {
+                return self.pass_on(rule.left);
+            }
+        }
         let Some(below) = self.stack.len().checked_sub(rule.body_length) else {
             return Err(ParseFault::TableFault);
         };
@@ -205,6 +207,43 @@ impl<'a, A: Rows<TableAction> + Drop, G: Rows<StateNo> + Drop> Parser<'a, A, G> 
         self.stack.reserve(1)?;
         self.stack.push_reserved(Level { state, term });
         Ok(state)
+    }
+
+    /// Makes a reduction by a rule that passes on the one term of its body, and answers the state on top of the stack
+    /// then. The term stays where it is.
+    fn pass_on(&mut self, left: Sym) -> Result<StateNo, ParseFault>
+        requires { left.0 < self.old.machine.nonterminals }
+        ensures ok { OnOk result ((number : ℕ) → reduce_by self.old.machine number self.old.stack
+            (Some (passing left.0)) ≡ goes_on self.new.stack) }
+        ensures top { IfOk result (λ s. s.0 ≡ top_of self.new.stack) }
+        ensures known { IfOk result (λ s. s.0 < states_of self.new.machine) }
+        ensures faulty { result ≡ Err fault.TableFault → (number : ℕ) → reduce_by self.old.machine number
+            self.old.stack (Some (passing left.0)) ≡ settles faulty }
+        ensures not_over { result ≢ Err fault.Over }
+        ensures machine { self.new.machine ≡ self.old.machine }
+        ensures count { self.new.count ≡ self.old.count }
+        ensures over { self.new.over ≡ self.old.over }
+    {
+        let Some(below) = self.stack.len().checked_sub(1) else {
+            return Err(ParseFault::TableFault);
+        };
+        let Some(state) = self.machine.goto(self.top_at(below), left) else {
+            return Err(ParseFault::TableFault);
+        };
+        self.stack[below].state = state;
+        Ok(state)
+    }
+
+    /// The state on top of so many levels, from the bottom on.
+    fn top_at(&self, height: usize) -> StateNo
+        requires { height ≤ length self.now.stack }
+        ensures top { result.0 ≡ top_of (drop (length self.now.stack - height) self.now.stack) }
+        ensures known { result.0 < states_of self.now.machine }
+    {
+        match height.checked_sub(1) {
+            Some(place) => self.stack[place].state,
+            None => StateNo(0),
+        }
     }
 
     /// What a rule makes of the terms on the stack above so many levels.

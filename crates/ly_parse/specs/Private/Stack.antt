@@ -2,7 +2,8 @@
 use Rattle.std.specs.Prelude.{◌≡◌, ℕ, ◌<◌, List, [], ◌∷◌, All, Bool, IsSome, Result, Ok, Err, map, reverse}
 use Rattle.std.specs.Prelude.{unwrap_or}
 use Rattle.ly_base.specs.Lexed.{Token}
-use Rattle.ly_pack.specs.Machine.{Machine, states_of, IsMachine}
+use Rattle.ly_base.specs.Shape.{place}
+use Rattle.ly_pack.specs.Machine.{Machine, TableRule, states_of, IsMachine}
 use Rattle.ly_pack.specs.Steady.{IsSteady}
 use Rattle.ly_pack.specs.SteadyLaws.{IsStack}
 use Rattle.ly_parse.specs.Feeding.{Fed, Feeds, Level, accept_with, done, faulty, settles, states_on}
@@ -39,6 +40,10 @@ pub record IsParse (m : Machine) (f : Grown) (levels : List code.Level) : Type 0
 abbrev pub terms_onto : List Level → Terms → Terms
 terms_onto [] ts = ts
 terms_onto (l ∷ stack) ts = terms_onto stack (more l.term ts)
+
+-- the rule of a left side that passes on the one symbol of its body
+abbrev pub passing : ℕ → TableRule
+passing left = record { left = left; body_length = 1; shape = place 1 }
 
 -- what becomes of each token of the terminal on the one stack becomes of it on the other
 abbrev pub FeedAlike : Machine → ℕ → List Level → List Level → Type 0

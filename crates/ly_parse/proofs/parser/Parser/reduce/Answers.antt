@@ -1,18 +1,38 @@
 use Rattle.std.proofs.Common.{◌∙◌, ◌<◌, ap, subst, sym}
+use Rattle.ly_base.specs.Shape.{shape_of}
 use Rattle.ly_pack.specs.Values.{rule_from}
+use Rattle.ly_parse.specs.Feeding.{reduce_by}
 use Rattle.ly_parse.specs.Private.Stack.{IsParse}
+use Rattle.ly_parse.proofs.PassLemmas.{passes_by_number, passing_found}
 use Rattle.ly_parse.proofs.ReduceLemmas.{body_exceeds, body_fits, goes, goes_to, is_cut, lacks_goto}
 use Rattle.ly_parse.proofs.ReduceLemmas.{past_bottom, rule_within, shape_fits}
 use Rattle.ly_parse.proofs.StackLemmas.{cut, on_top}
 use Rattle.ly_parse.proofs.parser.Parser.reduce.Goals as goal
 
-pub returns-in_default-clause-faulty : goal.returns-in_default-clause-faulty
-returns-in_default-clause-faulty g c e =
+pub returns-in-Pass-clause-ok : goal.returns-in-Pass-clause-ok
+returns-in-Pass-clause-ok g c =
+    passes_by_number c.args.self.now c.pass_on.new.self c.args.number.0 c.rule-rule.result.now.left.0
+    c.pass_on.result
+    (passing_found c.self.inside.machine.now c.self.inside.forest c.self.inside.stack.items c.args.self.now
+    c.self.inside.count c.self.inside.over c.args.number.0 c.in-Pass.field-0 (rule_from c.rule-rule.result.now)
+    c.self.view_is c.self.invariant c.rule-rule.ensures c.if-rule-eq1.true (ap shape_of c.in-Pass.is))
+    c.pass_on.ensures.ok
+
+pub returns-in-Pass-clause-faulty : goal.returns-in-Pass-clause-faulty
+returns-in-Pass-clause-faulty g c e =
+    ap (reduce_by c.args.self.now.machine c.args.number.0 c.args.self.now.stack)
+    (passing_found c.self.inside.machine.now c.self.inside.forest c.self.inside.stack.items c.args.self.now
+    c.self.inside.count c.self.inside.over c.args.number.0 c.in-Pass.field-0 (rule_from c.rule-rule.result.now)
+    c.self.view_is c.self.invariant c.rule-rule.ensures c.if-rule-eq1.true (ap shape_of c.in-Pass.is))
+    ∙ c.pass_on.ensures.faulty e c.args.number.0
+
+pub returns-in_default-checked_sub-clause-faulty : goal.returns-in_default-checked_sub-clause-faulty
+returns-in_default-checked_sub-clause-faulty g c e =
     past_bottom c.self.inside.machine.now c.self.inside.forest c.self.inside.stack.items c.args.self.now
     c.self.inside.count c.self.inside.over c.args.number.0 (rule_from c.rule-rule.result.now) c.self.view_is
     c.rule-rule.ensures
     (body_exceeds c.self.inside.stack c.len.result c.rule-rule.result.now.body_length c.len.ensures
-    c.in_default.ensures)
+    c.in_default-checked_sub.ensures)
 
 pub make-requires-clause-shape : goal.make-requires-clause-shape
 make-requires-clause-shape g c =
