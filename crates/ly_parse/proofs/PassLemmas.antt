@@ -1,21 +1,26 @@
--- Reductions that pass on the term on top of the stack.
-use Rattle.std.proofs.Common.{◌≡◌, ℕ, zero, suc, ◌≤◌, ◌-◌, List, [], ◌∷◌, ◌++◌, length, drop, take, get_or}
+-- Reductions that pass on the term on top of the stack, on a stack as it is kept.
+use Rattle.std.proofs.Common.{◌≡◌, ℕ, zero, suc, ◌<◌, ◌≤◌, ◌-◌, List, [], ◌∷◌, ◌++◌, length, drop, take, get_or}
 use Rattle.std.proofs.Common.{slice_set, Some, refl, sym, ap, ◌∙◌, arith, subst}
 use Rattle.std.proofs.lemmas.List.{get_or-take, length-take-le}
 use Rattle.std.specs.Global.{Global}
-use Rattle.std.specs.Prelude.{Bool, Err, IsSome, Ok, OnOk, Result, Vec, vec_len}
+use Rattle.std.specs.Prelude.{Bool, IsSome, Vec, vec_len}
 use Rattle.ly_base.specs.Shape.{place}
-use Rattle.ly_pack.specs.Machine.{Machine, TableRule, goto_at, IsShapeFor, IsTableRule}
-use Rattle.ly_pack.specs.Steady.{by_goto, rule_at}
-use Rattle.ly_parse.specs.Feeding.{go_to, goes_on, reduce_by, top_of}
+use Rattle.ly_pack.specs.Machine.{Machine, TableRule, action_of, reduce, states_of, IsMachine, IsShapeFor, IsTableRule}
+use Rattle.ly_pack.specs.Steady.{IsTableEdge}
+use Rattle.ly_pack.specs.SteadyLaws.{IsStack}
+use Rattle.ly_pack.specs.Values.{action_from}
+use Rattle.ly_parse.specs.Feeding.{faulty, states_on, top_of}
 use Rattle.ly_parse.specs.Parse.{Parse}
-use Rattle.ly_parse.specs.Private.Stack.{level_from, parse_from, passing, stack_from, IsParse}
+use Rattle.ly_parse.specs.Private.Shortcuts.{passing, IsFrom, IsPass, IsSituation, LacksGoto, Passes}
+use Rattle.ly_parse.specs.Private.Stack.{level_from, parse_from, stack_from, FeedAs, IsParse, Leads}
 use Rattle.ly_parse.specs.declared.level.Level as code
+use Rattle.ly_parse.specs.declared.shortcut.Shortcut.{Shortcut}
+use Rattle.ly_parse.specs.declared.shortcut.Situation.{Situation}
 use Rattle.ly_parse.proofs.FeedingLemmas.{rule_found}
 use Rattle.ly_parse.proofs.ReduceLemmas.{rule_within}
-use Rattle.ly_parse.proofs.StackLemmas.{below, cut, length-stack_from, pushed, stack_from-push}
+use Rattle.ly_parse.proofs.ShortcutLemmas.{acts_from, edge_behind, fails, known_behind, leads}
+use Rattle.ly_parse.proofs.StackLemmas.{below, cut, edge_under, length-stack_from, pushed, stack_from-push}
 use Rattle.ly_tree.specs.Forest.{term_of, Grown}
-use Rattle.ly_tree.specs.Term.{more, none}
 
 -- how many levels are below the top one
 pub counts : (v : Vec code.Level Global) (n low : ℕ) → n ≡ vec_len v → (1 ≤ n) × (low ≡ n - 1)
@@ -40,6 +45,13 @@ top_replaced [] low l size = absurd (omega (arith, size))
 top_replaced (x ∷ []) zero l size = refl
 top_replaced (x ∷ y ∷ levels) zero l size = absurd (omega (arith, size))
 top_replaced (x ∷ levels) (suc low) l size = ap (λ w. x ∷ w) (top_replaced levels low l (omega (arith, size)))
+
+-- a place has one level
+pub one_level : (levels : List code.Level) (low : ℕ) (k l : code.Level) → suc low ≡ length levels
+    → k ≡ get_or levels low k → l ≡ get_or levels low l → l ≡ k
+one_level [] low k l size e f = absurd (omega (arith, size))
+one_level (x ∷ levels) zero k l size e f = f ∙ sym e
+one_level (x ∷ levels) (suc low) k l size e f = one_level levels low k l (omega (arith, size)) e f
 
 -- the levels up to a height
 up_to : (m : Machine) (f : Grown) (levels : List code.Level) (p : Parse) (count : ℕ) (over : Bool) (height : ℕ)
@@ -75,46 +87,106 @@ top_of_all m f v p count over n top view size t =
     let all : length p.stack - n ≡ 0 = omega (arith, length-stack_from f v.items, long, size) in
     t ∙ ap (λ k. top_of (drop k p.stack)) all
 
--- the level that is put on top has the state of the stack
-pub new_top : (f : Grown) (levels : List code.Level) (low : ℕ) (l : code.Level) → suc low ≡ length levels
-    → l.state.0 ≡ top_of (stack_from f (slice_set levels low l))
-new_top f levels low l size =
-    sym (ap top_of (ap (stack_from f) (top_replaced levels low l size) ∙ stack_from-push f (take low levels) l))
+-- A parse with a level on top, and the state below that.
+pub record HasTop (p : Parse) (m : Machine) (f : Grown) (levels : List code.Level) (low below : ℕ) (k : code.Level)
+    : Type 0 where
+  pub machine : m ≡ p.machine
+  pub parse : IsParse m f levels
+  pub size : suc low ≡ length levels
+  pub is : k ≡ get_or levels low k
+  pub stack : level_from f k ∷ stack_from f (take low levels) ≡ p.stack
+  pub under : top_of (stack_from f (take low levels)) ≡ below
 
--- the parse stays one
-pub passed_on : (m : Machine) (f : Grown) (levels : List code.Level) (p : Parse) (count : ℕ) (over : Bool)
-    (low left top : ℕ) (l k : code.Level) → parse_from m f levels count over ≡ p → IsParse m f levels
-    → suc low ≡ length levels → top ≡ top_of (drop (length p.stack - low) p.stack)
-    → Some l.state.0 ≡ goto_at m top left → k ≡ get_or levels low k → l.term ≡ k.term
-    → IsParse m f (slice_set levels low l)
-passed_on m f levels p count over low left top l k view h size t e same term =
-    let under = t ∙ ap top_of (up_to m f levels p count over low view) in
-    let goto : goto_at m (top_of (stack_from f (take low levels))) left ≡ Some l.state.0
-    = ap (λ s. goto_at m s left) (sym under) ∙ sym e in
+pub has_top : (m : Machine) (f : Grown) (levels : List code.Level) (p : Parse) (count : ℕ) (over : Bool)
+    (low below : ℕ) (k : code.Level) → parse_from m f levels count over ≡ p → IsParse m f levels
+    → suc low ≡ length levels → k ≡ get_or levels low k
+    → below ≡ top_of (drop (length p.stack - low) p.stack) → HasTop p m f levels low below k
+has_top m f levels p count over low below k view h size is t = record {
+  machine = ap (λ q. q.machine) view;
+  parse = h;
+  size = size;
+  is = is;
+  stack = sym (ap (stack_from f) (top_apart levels low k size is) ∙ stack_from-push f (take low levels) k)
+      ∙ ap (λ q. q.stack) view;
+  under = sym (t ∙ ap top_of (up_to m f levels p count over low view));
+}
+
+-- it stands in a situation that its tables allow
+pub situated : (p : Parse) (m : Machine) (f : Grown) (levels : List code.Level) (low : ℕ) (k : code.Level)
+    (s : Situation) → HasTop p m f levels low s.below.0 k → s.top.0 ≡ k.state.0 → s.below.0 < states_of p.machine
+    → s.terminal.0 < p.machine.terminals → IsSituation m s
+situated p m f levels low k s h top below terminal =
+    let size = h.size in
+    let edges = subst (λ w. IsStack m (states_on w))
+    (ap (stack_from f) (top_apart levels low k size h.is) ∙ stack_from-push f (take low levels) k) h.parse.edges in
+    let edge = subst (λ b. IsTableEdge m b k.state.0) h.under
+    (edge_under m (level_from f k) (stack_from f (take low levels)) edges) in record {
+      terminal = subst (λ q. s.terminal.0 < q.terminals) (sym h.machine) terminal;
+      below = subst (λ q. s.below.0 < states_of q) (sym h.machine) below;
+      top = subst (λ x. x < states_of m) (sym (top ∙ ap (λ x. x.state.0) h.is)) (h.parse.states low k (omega arith));
+      edge = subst (IsTableEdge m s.below.0) (sym top) edge;
+    }
+
+-- with another state on top, which passes lead to, the parse stays one
+pub passed_on : (p : Parse) (m : Machine) (f : Grown) (levels : List code.Level) (low : ℕ) (k l : code.Level)
+    (s : Situation) → HasTop p m f levels low s.below.0 k → IsSituation m s
+    → Passes m s.terminal.0 s.below.0 s.top.0 l.state.0 → l.term ≡ k.term → IsParse m f (slice_set levels low l)
+passed_on p m f levels low k l s h stands passes term =
+    let size = h.size in
     subst (IsParse m f) (sym (top_replaced levels low l size))
-    (pushed m f (take low levels) l (cut m f levels low h)
-    (h.machine.gotos (top_of (stack_from f (take low levels))) left l.state.0 goto)
-    (subst (λ n. IsSome (term_of f n)) (sym (term ∙ ap (λ x. x.term) same)) (h.terms low k (omega (arith, size))))
-    (by_goto left goto))
+    (pushed m f (take low levels) l (cut m f levels low h.parse)
+    (known_behind m s.terminal.0 s.below.0 s.top.0 l.state.0 h.parse.machine passes stands.top)
+    (subst (λ n. IsSome (term_of f n)) (sym (term ∙ ap (λ x. x.term) h.is)) (h.parse.terms low k (omega arith)))
+    (subst (λ b. IsTableEdge m b l.state.0) (sym h.under)
+    (edge_behind m s.terminal.0 s.below.0 s.top.0 l.state.0 passes stands.edge)))
 
--- and the reduction is made
-pub passes_on : (m : Machine) (f : Grown) (levels : List code.Level) (p : Parse) (count : ℕ) (over : Bool)
-    (low left top number : ℕ) (l k : code.Level) → parse_from m f levels count over ≡ p
-    → suc low ≡ length levels → top ≡ top_of (drop (length p.stack - low) p.stack)
-    → Some l.state.0 ≡ goto_at m top left → k ≡ get_or levels low k → l.term ≡ k.term
-    → reduce_by p.machine number p.stack (Some (passing left)) ≡ goes_on (stack_from f (slice_set levels low l))
-passes_on m f levels p count over low left top number l k view size t e same term =
+-- the stack then
+pub passed_stack : (f : Grown) (levels : List code.Level) (low : ℕ) (k l : code.Level) → suc low ≡ length levels
+    → l.term ≡ k.term
+    → stack_from f (slice_set levels low l)
+    ≡ record { state = l.state.0; term = (level_from f k).term } ∷ stack_from f (take low levels)
+passed_stack f levels low k l size term =
+    ap (stack_from f) (top_replaced levels low l size)
+    ∙ (stack_from-push f (take low levels) l
+    ∙ ap (λ n. level_from f (record { state = l.state; term = n }) ∷ stack_from f (take low levels)) term)
+
+-- what is done there
+pub acts_on : (p : Parse) (m : Machine) (f : Grown) (levels : List code.Level) (low below : ℕ) (k l : code.Level)
+    (from : Situation) (s : Shortcut) → HasTop p m f levels low below k → IsFrom m from s → l.state ≡ s.state
+    → l.term ≡ k.term
+    → action_from s.action ≡ action_of p.machine (top_of (stack_from f (slice_set levels low l))) from.terminal.0
+acts_on p m f levels low below k l from s h is state term =
+    acts_from m from s is
+    ∙ (ap (λ x. action_of m x.0 from.terminal.0) (sym state)
+    ∙ (ap (λ w. action_of m (top_of w) from.terminal.0) (sym (passed_stack f levels low k l h.size term))
+    ∙ ap (λ q. action_of q (top_of (stack_from f (slice_set levels low l))) from.terminal.0) h.machine))
+
+-- and passes lead there
+pub passes_lead : (p : Parse) (m : Machine) (f : Grown) (levels : List code.Level) (low : ℕ) (k l : code.Level)
+    (s : Situation) → HasTop p m f levels low s.below.0 k → s.top.0 ≡ k.state.0
+    → Passes m s.terminal.0 s.below.0 s.top.0 l.state.0 → l.term ≡ k.term
+    → Leads p.machine s.terminal.0 p.stack (stack_from f (slice_set levels low l))
+passes_lead p m f levels low k l s h top passes term =
     let rest = stack_from f (take low levels) in
-    let under = t ∙ ap top_of (up_to m f levels p count over low view) in
-    let goto : goto_at m (top_of rest) left ≡ Some l.state.0
-    = ap (λ s. goto_at m s left) (sym under) ∙ sym e in
-    let whole = ap (stack_from f) (top_apart levels low k size same) ∙ stack_from-push f (take low levels) k in
-    ap (λ q. reduce_by q.machine number q.stack (Some (passing left))) (sym view)
-    ∙ (ap (λ s. reduce_by m number s (Some (passing left))) whole
-    ∙ (ap (go_to number (passing left) (more (level_from f k).term none) rest) goto
-    ∙ (ap (λ n. goes_on (level_from f (record { state = l.state; term = n }) ∷ rest)) (sym term)
-    ∙ ap goes_on (sym (ap (stack_from f) (top_replaced levels low l size)
-    ∙ stack_from-push f (take low levels) l)))))
+    let x = (level_from f k).term in
+    let led = leads m s.terminal.0 s.top.0 x rest l.state.0
+    (subst (λ b. Passes m s.terminal.0 b s.top.0 l.state.0) (sym h.under) passes) in
+    subst (λ q. Leads q s.terminal.0 p.stack (stack_from f (slice_set levels low l))) h.machine
+    (subst (λ w. Leads m s.terminal.0 w (stack_from f (slice_set levels low l)))
+    (ap (λ n. record { state = n; term = x } ∷ rest) top ∙ h.stack)
+    (subst (Leads m s.terminal.0 (record { state = s.top.0; term = x } ∷ rest))
+    (sym (passed_stack f levels low k l h.size term)) led))
+
+-- where a goto is missing the token is settled so
+pub passes_fail : (p : Parse) (m : Machine) (f : Grown) (levels : List code.Level) (low : ℕ) (k : code.Level)
+    (s : Situation) → HasTop p m f levels low s.below.0 k → s.top.0 ≡ k.state.0 → LacksGoto m s
+    → FeedAs p.machine s.terminal.0 p.stack faulty
+passes_fail p m f levels low k s h top lacks =
+    let rest = stack_from f (take low levels) in
+    let x = (level_from f k).term in
+    subst (λ q. FeedAs q s.terminal.0 p.stack faulty) h.machine
+    (subst (λ w. FeedAs m s.terminal.0 w faulty) (ap (λ n. record { state = n; term = x } ∷ rest) top ∙ h.stack)
+    (fails m s x rest h.under lacks))
 
 -- a rule that passes on the one symbol of its body
 pub is_passing : (m : Machine) (r : TableRule) (i : ℕ) → IsShapeFor r.body_length r.shape → r.body_length ≡ 1
@@ -126,18 +198,8 @@ is_passing m r i fits one shape =
     ap (λ n. record { left = r.left; body_length = n; shape = r.shape }) one
     ∙ ap (λ s. record { left = r.left; body_length = 1; shape = s }) (shape ∙ ap place (omega (arith, low, high)))
 
--- so it is what is found at its number
-pub passing_found : (m : Machine) (f : Grown) (levels : List code.Level) (p : Parse) (count : ℕ) (over : Bool)
-    (n i : ℕ) (r : TableRule) → parse_from m f levels count over ≡ p → IsParse m f levels → IsTableRule m n r
-    → r.body_length ≡ 1 → r.shape ≡ place i → rule_at p.machine n ≡ Some (passing r.left)
-passing_found m f levels p count over n i r view h is one shape =
-    subst (λ q. rule_at q.machine n ≡ Some (passing r.left)) view
-    (rule_found m n r is ∙ ap Some (is_passing m r i (rule_within m n r h.machine is).shape one shape))
-
--- and the reduction by the rule is that by its number
-pub passes_by_number : {T E : Type 0} (p q : Parse) (n left : ℕ) (r : Result T E)
-    → rule_at p.machine n ≡ Some (passing left)
-    → OnOk r ((k : ℕ) → reduce_by p.machine k p.stack (Some (passing left)) ≡ goes_on q.stack)
-    → OnOk r (reduce_by p.machine n p.stack (rule_at p.machine n) ≡ goes_on q.stack)
-passes_by_number p q n left (Ok x) e ok = ap (reduce_by p.machine n p.stack) e ∙ ok n
-passes_by_number p q n left (Err x) e ok = ok
+-- so a reduction by it is a pass
+pub is_pass : (m : Machine) (n i : ℕ) (r : TableRule) → IsMachine m → IsTableRule m n r → r.body_length ≡ 1
+    → r.shape ≡ place i → IsPass m (reduce n) r.left
+is_pass m n i r h is one shape =
+    (n, refl, rule_found m n r is ∙ ap Some (is_passing m r i (rule_within m n r h is).shape one shape))

@@ -1,16 +1,17 @@
 -- The reductions before a token is settled.
-use Rattle.std.proofs.Common.{◌≡◌, ℕ, ◌+◌, ◌*◌, ◌<◌, List, length, sym, ap, ◌∙◌, subst, Err, Ok}
+use Rattle.std.proofs.Common.{◌≡◌, ℕ, ◌+◌, ◌*◌, ◌<◌, ◌≤◌, List, length, sym, ap, ◌∙◌, arith, subst, Err, Ok}
 use Rattle.std.specs.Prelude.{Bool, IsErrAnd, Result}
 use Rattle.ly_pack.proofs.Runs.{reductions_fall, runs_end}
-use Rattle.ly_pack.specs.Machine.{Machine, action_of, reduce}
+use Rattle.ly_pack.specs.Machine.{Machine, TableAction, action_of, reduce}
 use Rattle.ly_pack.specs.Steady.{rule_at, run_bound, EndsWithin}
 use Rattle.ly_pack.specs.SteadyLaws.{reductions}
 use Rattle.ly_parse.specs.Feeding.{Fed, Level, Turn, goes_on, reduce_by, settles, states_on, top_of}
 use Rattle.ly_parse.specs.Parse.{Parse}
-use Rattle.ly_parse.specs.Private.Stack.{parse_from, stack_from, FeedAlike, FeedAs, IsParse}
+use Rattle.ly_parse.specs.Private.Stack.{parse_from, stack_from, FeedAlike, FeedAs, IsParse, Leads}
 use Rattle.ly_parse.specs.declared.fault.ParseFault.{ParseFault}
 use Rattle.ly_parse.specs.declared.level.Level as code
 use Rattle.ly_parse.proofs.FeedingLemmas.{feeds_alike, feeds_as, moves}
+use Rattle.ly_parse.proofs.ShortcutLemmas.{still_ends}
 use Rattle.ly_tree.specs.Forest.{Grown}
 
 -- a run on a token ends
@@ -28,33 +29,75 @@ pub record IsMade (m : Machine) (t number : ℕ) (stack : List Level) (turn : Tu
   pub action : action_of m (top_of stack) t ≡ reduce number
   pub makes : reduce_by m number stack (rule_at m number) ≡ turn
 
-pub is_made : (m asked by : Machine) (t top number : ℕ) (stack : List Level) (turn : Turn) → asked ≡ m → by ≡ m
-    → top ≡ top_of stack → reduce number ≡ action_of asked top t → reduce_by by number stack (rule_at by number) ≡ turn
-    → IsMade m t number stack turn
-is_made m asked by t top number stack turn e f g action makes = record {
-  action = ap (λ s. action_of m s t) (sym g) ∙ (ap (λ k. action_of k top t) (sym e) ∙ sym action);
-  makes = ap (λ k. reduce_by k number stack (rule_at k number)) (sym f) ∙ makes;
+is_made : (m asked by : Machine) (t number : ℕ) (a : TableAction) (stack : List Level) (turn : Turn) → asked ≡ m
+    → by ≡ asked → a ≡ reduce number → a ≡ action_of asked (top_of stack) t
+    → reduce_by by number stack (rule_at by number) ≡ turn → IsMade m t number stack turn
+is_made m asked by t number a stack turn e f is action makes = record {
+  action = ap (λ k. action_of k (top_of stack) t) (sym e) ∙ (sym action ∙ is);
+  makes = ap (λ k. reduce_by k number stack (rule_at k number)) (sym (f ∙ e)) ∙ makes;
 }
 
--- less is left of the run after it
-pub less_left : (m : Machine) (t number limit : ℕ) (stack next : List Level)
-    → IsMade m t number stack (goes_on next) → EndsWithin m t (states_on stack) limit
-    → EndsWithin m t (states_on next) limit
+-- A stack within the run on a token: a token becomes what it would have become at first, and the run ends.
+pub record IsWithinRun (m : Machine) (t limit : ℕ) (first stack : List Level) : Type 0 where
+  pub alike : FeedAlike m t stack first
+  pub ends : EndsWithin m t (states_on stack) limit
+
+-- so is the stack behind passes, and no more is left of the run
+behind_passes : (m k : Machine) (t limit : ℕ) (first stack next : List Level) → k ≡ m → Leads k t stack next
+    → IsWithinRun m t limit first stack
+    → IsWithinRun m t limit first next
+    × (reductions m t limit (states_on next) ≤ reductions m t limit (states_on stack))
+behind_passes m k t limit first stack next same led h =
+    let here = subst (λ q. Leads q t stack next) same led in
+    let less = still_ends m t limit here.count (states_on stack) (states_on next) here.moves h.ends in (
+      record {
+        alike = λ token out is fed. h.alike token out is (here.alike token out is fed);
+        ends = less.0;
+      },
+      less.1,
+    )
+
+-- and that behind a reduction, and less is left
+behind_reduction : (m : Machine) (t number limit : ℕ) (first stack next : List Level)
+    → IsMade m t number stack (goes_on next) → IsWithinRun m t limit first stack
+    → IsWithinRun m t limit first next
     × (reductions m t limit (states_on next) < reductions m t limit (states_on stack))
-less_left m t number limit stack next h ends =
-    reductions_fall m t limit (states_on stack) (states_on next) ends (moves m t number stack next h.action h.makes)
+behind_reduction m t number limit first stack next h run =
+    let less = reductions_fall m t limit (states_on stack) (states_on next) run.ends
+    (moves m t number stack next h.action h.makes) in (
+      record {
+        alike = λ token out same fed. run.alike token out same
+            (feeds_alike m t number stack next h.action h.makes token out same fed);
+        ends = less.0;
+      },
+      less.1,
+    )
 
--- and a token becomes the same
-pub still_alike : (m : Machine) (t number : ℕ) (first stack next : List Level)
-    → IsMade m t number stack (goes_on next) → FeedAlike m t stack first → FeedAlike m t next first
-still_alike m t number first stack next h alike token out same fed =
-    alike token out same (feeds_alike m t number stack next h.action h.makes token out same fed)
+-- A turn, made of passes and a reduction behind them: of the tables before it, and of those that the reduction was
+-- made by.
+module _ (m asked by : Machine) (t number : ℕ) (a : TableAction) (first stack next : List Level) (same : asked ≡ m)
+    (still : by ≡ asked) (led : Leads asked t stack next) (is : a ≡ reduce number)
+    (action : a ≡ action_of asked (top_of next) t) where
+  -- the stack behind it is within the run, and less is left
+  pub behind_turn : (limit : ℕ) (last : List Level)
+      → reduce_by by number next (rule_at by number) ≡ goes_on last → IsWithinRun m t limit first stack
+      → IsWithinRun m t limit first last
+      × (reductions m t limit (states_on last) < reductions m t limit (states_on stack))
+  behind_turn limit last makes run =
+      let passed = behind_passes m asked t limit first stack next same led run in
+      let reduced = behind_reduction m t number limit first next last
+      (is_made m asked by t number a next (goes_on last) same still is action makes) passed.0 in
+      let less = passed.1 in
+      let falls = reduced.1 in
+      (reduced.0, omega arith)
 
--- or is settled by it
-pub settled_by : (m : Machine) (t number : ℕ) (first stack : List Level) (out : Fed)
-    → IsMade m t number stack (settles out) → FeedAlike m t stack first → FeedAs m t first out
-settled_by m t number first stack out h alike token same =
-    alike token out same (feeds_as m t number stack out h.action h.makes token same)
+  -- or the token is settled by it
+  pub settled_by : (limit : ℕ) (out : Fed) → reduce_by by number next (rule_at by number) ≡ settles out
+      → IsWithinRun m t limit first stack → FeedAs m t first out
+  settled_by limit out makes run token is_its =
+      let made = is_made m asked by t number a next (settles out) same still is action makes in
+      let passed = behind_passes m asked t limit first stack next same led run in
+      passed.0.alike token out is_its (feeds_as m t number next out made.action made.makes token is_its)
 
 -- the fault of a call is handed on
 pub same_fault : {T : Type 0} (r : Result T ParseFault) (e d : ParseFault) → IsErrAnd r (λ x. x ≡ e) → r ≡ Err d

@@ -72,6 +72,12 @@ stack_kept f g (l ∷ levels) k h = stack_from-append g (l ∷ []) levels
 lower : (m : Machine) (top low : ℕ) (rest : List ℕ) → IsStack m (top ∷ low ∷ rest) → IsStack m (low ∷ rest)
 lower m top low rest (on_edge x h) = h
 
+-- the level on top and the state below it are an edge
+pub edge_under : (m : Machine) (l : Level) (stack : List Level) → IsStack m (states_on (l ∷ stack))
+    → IsTableEdge m (top_of stack) l.state
+edge_under m l [] (on_edge x h) = x
+edge_under m l (k ∷ stack) (on_edge x h) = x
+
 -- what is left of a stack is one
 drops : (m : Machine) (n : ℕ) (stack : List Level) → IsStack m (states_on stack) → IsStack m (states_on (drop n stack))
 drops m zero stack h = h

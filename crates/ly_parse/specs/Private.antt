@@ -1,2 +1,3 @@
 -- What private functions' contracts cite.
+pub mod Shortcuts
 pub mod Stack

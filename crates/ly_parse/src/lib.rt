@@ -3,6 +3,7 @@
 //! A `Parser` holds the tables, a stack of states and terms, and the forest that these stand in. Each call makes the
 //! turns of the tables on its token (`Feeds`): reductions, and then the token is read, accepted with a term or refused.
 //! It asks for steady tables, so that every call ends.
+//! What runs of passes come to, reductions that change a state and no term, it keeps as shortcuts.
 //!
 //! Left out: where tokens come from, and what a refusal is printed as.
 #![tactic(auto)]
@@ -12,6 +13,8 @@ mod laws;
 mod level;
 mod parser;
 mod settled;
+mod shortcut;
+mod shortcuts;
 mod step;
 mod token;
 

@@ -1,11 +1,12 @@
-ghost use Rattle.std.specs.Prelude.{◌≡◌, ◌≢◌, ◌<◌, ◌≤◌, ◌+◌, ◌-◌, ℕ, [], ◌∷◌, Err, Ok, Some, false, drop, length};
+ghost use Rattle.std.specs.Prelude.{◌≡◌, ◌≢◌, ◌<◌, ◌≤◌, ◌+◌, ◌-◌, [], ◌∷◌, Err, Ok, false, drop, length};
 ghost use Rattle.std.specs.Prelude.{take, IfErr, IfOk, OnErr, OnOk};
 ghost use Rattle.ly_base.specs.Shape.{shape_of};
-ghost use Rattle.ly_pack.specs.Machine.{accept, action_of, error, shift, states_of, IsRuleNumber, IsShapeFor};
+ghost use Rattle.ly_pack.specs.Machine.{accept, action_of, error, shift, states_of, IsLegal, IsRuleNumber, IsShapeFor};
 ghost use Rattle.ly_pack.specs.Steady.{rule_at, IsSteady};
+ghost use Rattle.ly_pack.specs.Values.{action_from};
 ghost use Rattle.ly_parse.specs.Feeding.{faulty, goes_on, reduce_by, settles, top_of};
 ghost use Rattle.ly_parse.specs.Parse.{IsCall};
-ghost use Rattle.ly_parse.specs.Private.Stack.{passing, terms_onto, FeedAlike, FeedAs, IsAccepted};
+ghost use Rattle.ly_parse.specs.Private.Stack.{terms_onto, FeedAlike, FeedAs, IsAccepted, Leads};
 ghost use Rattle.ly_parse.specs.declared.fault.ParseFault.TheVariants as fault;
 ghost use Rattle.ly_parse.specs.declared.settled.Settled.TheVariants as settled;
 ghost use Rattle.ly_parse.specs.declared.step.Step.TheVariants as step;
@@ -15,6 +16,8 @@ ghost use Rattle.ly_tree.specs.Term.{leaf, made, none};
 use crate::fault::ParseFault;
 use crate::level::Level;
 use crate::settled::Settled;
+use crate::shortcut::Situation;
+use crate::shortcuts::Shortcuts;
 use crate::step::Step;
 use crate::token::Token;
 use ly_base::{OutOfMemory, RuleNo, RuleTree, StateNo, Sym};
@@ -32,6 +35,8 @@ pub struct Parser<'a, A: Rows<TableAction> + Drop, G: Rows<StateNo> + Drop> {
     forest: Forest,
     /// The stack above the bottom, whose state is 0; its top is last.
     stack: Vec<Level>,
+    /// What runs of passes came to so far.
+    shortcuts: Shortcuts,
     /// How many tokens were read.
     count: u64,
     /// Whether the parse has ended, well or not.
@@ -43,6 +48,7 @@ impl<'a, A: Rows<TableAction> + Drop, G: Rows<StateNo> + Drop> Model for Parser<
     ghost use Rattle.std.specs.Coded.{codes};
     ghost use Rattle.ly_parse.specs.ParseCode.{level_code};
     ghost use Rattle.ly_tree.specs.GrownCode.{grown_code};
+    ghost use Rattle.ly_parse.specs.Private.Shortcuts.{AreShortcuts};
     ghost use Rattle.ly_parse.specs.Private.Stack.{parse_from, IsParse};
 
     ghost Value = { value.Parse };
@@ -51,7 +57,8 @@ impl<'a, A: Rows<TableAction> + Drop, G: Rows<StateNo> + Drop> Model for Parser<
 
     ghost view = { λ p. parse_from p.machine.now p.forest p.stack.items p.count p.over };
 
-    ghost invariant = { λ p. IsParse p.machine.now p.forest p.stack.items };
+    ghost invariant = { λ p. IsParse p.machine.now p.forest p.stack.items
+        × AreShortcuts p.machine.now p.shortcuts };
 }
 
 impl<'a, A: Rows<TableAction> + Drop, G: Rows<StateNo> + Drop> Parser<'a, A, G> {
@@ -72,6 +79,7 @@ impl<'a, A: Rows<TableAction> + Drop, G: Rows<StateNo> + Drop> Parser<'a, A, G> 
             machine,
             forest: Forest::new(alloc),
             stack: Vec::new(alloc),
+            shortcuts: Shortcuts::new(alloc),
             count: 0,
             over: false,
         }
@@ -155,17 +163,43 @@ impl<'a, A: Rows<TableAction> + Drop, G: Rows<StateNo> + Drop> Parser<'a, A, G> 
         ensures count { self.new.count ≡ self.old.count }
         ensures over { self.new.over ≡ self.old.over }
     {
-        let machine = self.machine;
-        // it is handed on, so that a step needn't wait for the stack
-        let mut top = self.top();
+        // the invariant says that the run on a token ends
+        let _ = &self.machine;
         loop {
-            match machine.action(top, terminal) {
-                TableAction::Reduce(rule) => top = self.reduce(rule)?,
+            match self.pass(terminal)? {
+                TableAction::Reduce(rule) => self.reduce(rule)?,
                 TableAction::Shift(state) => return Ok(Settled::Reads(state)),
                 TableAction::Accept => return Ok(Settled::Accepts),
                 TableAction::Error => return Ok(Settled::Refuses),
             }
         }
+    }
+
+    /// Makes the passes before a terminal, and answers what is done then.
+    fn pass(&mut self, terminal: Sym) -> Result<TableAction, ParseFault>
+        requires { terminal.0 < self.old.machine.terminals }
+        ensures leads { OnOk result (Leads self.old.machine terminal.0 self.old.stack self.new.stack) }
+        ensures action { IfOk result (λ a. action_from a
+            ≡ action_of self.old.machine (top_of self.new.stack) terminal.0) }
+        ensures legal { IfOk result (λ a. IsLegal self.old.machine terminal.0 (action_from a)) }
+        ensures faulty { result ≡ Err fault.TableFault → FeedAs self.old.machine terminal.0 self.old.stack faulty }
+        ensures not_over { result ≢ Err fault.Over }
+        ensures machine { self.new.machine ≡ self.old.machine }
+        ensures count { self.new.count ≡ self.old.count }
+        ensures over { self.new.over ≡ self.old.over }
+    {
+        // the bottom alone has no term to pass on
+        let Some(place) = self.stack.len().checked_sub(1) else {
+            return Ok(self.machine.action(StateNo(0), terminal));
+        };
+        let from = Situation {
+            below: self.top_at(place),
+            top: self.stack[place].state,
+            terminal,
+        };
+        let shortcut = self.shortcuts.find(self.machine, from)?;
+        self.stack[place].state = shortcut.state;
+        Ok(shortcut.action)
     }
 
     /// The state on top of the stack.
@@ -176,13 +210,11 @@ impl<'a, A: Rows<TableAction> + Drop, G: Rows<StateNo> + Drop> Parser<'a, A, G> 
         self.top_at(self.stack.len())
     }
 
-    /// Makes a reduction, and answers the state on top of the stack then.
-    fn reduce(&mut self, number: RuleNo) -> Result<StateNo, ParseFault>
+    /// Makes a reduction.
+    fn reduce(&mut self, number: RuleNo) -> Result<(), ParseFault>
         requires { IsRuleNumber self.old.machine number.0 }
         ensures ok { OnOk result (reduce_by self.old.machine number.0 self.old.stack (rule_at self.old.machine number.0)
             ≡ goes_on self.new.stack) }
-        ensures top { IfOk result (λ s. s.0 ≡ top_of self.new.stack) }
-        ensures known { IfOk result (λ s. s.0 < states_of self.new.machine) }
         ensures faulty { result ≡ Err fault.TableFault → reduce_by self.old.machine number.0 self.old.stack
             (rule_at self.old.machine number.0) ≡ settles faulty }
         ensures not_over { result ≢ Err fault.Over }
@@ -191,11 +223,6 @@ impl<'a, A: Rows<TableAction> + Drop, G: Rows<StateNo> + Drop> Parser<'a, A, G> 
         ensures over { self.new.over ≡ self.old.over }
     {
         let rule = self.machine.rule(number);
-        if rule.body_length == 1 {
-            if let RuleTree::Pass(_) = rule.tree {
-                return self.pass_on(rule.left);
-            }
-        }
         let Some(below) = self.stack.len().checked_sub(rule.body_length) else {
             return Err(ParseFault::TableFault);
         };
@@ -206,32 +233,7 @@ impl<'a, A: Rows<TableAction> + Drop, G: Rows<StateNo> + Drop> Parser<'a, A, G> 
         };
         self.stack.reserve(1)?;
         self.stack.push_reserved(Level { state, term });
-        Ok(state)
-    }
-
-    /// Makes a reduction by a rule that passes on the one term of its body, and answers the state on top of the stack
-    /// then. The term stays where it is.
-    fn pass_on(&mut self, left: Sym) -> Result<StateNo, ParseFault>
-        requires { left.0 < self.old.machine.nonterminals }
-        ensures ok { OnOk result ((number : ℕ) → reduce_by self.old.machine number self.old.stack
-            (Some (passing left.0)) ≡ goes_on self.new.stack) }
-        ensures top { IfOk result (λ s. s.0 ≡ top_of self.new.stack) }
-        ensures known { IfOk result (λ s. s.0 < states_of self.new.machine) }
-        ensures faulty { result ≡ Err fault.TableFault → (number : ℕ) → reduce_by self.old.machine number
-            self.old.stack (Some (passing left.0)) ≡ settles faulty }
-        ensures not_over { result ≢ Err fault.Over }
-        ensures machine { self.new.machine ≡ self.old.machine }
-        ensures count { self.new.count ≡ self.old.count }
-        ensures over { self.new.over ≡ self.old.over }
-    {
-        let Some(below) = self.stack.len().checked_sub(1) else {
-            return Err(ParseFault::TableFault);
-        };
-        let Some(state) = self.machine.goto(self.top_at(below), left) else {
-            return Err(ParseFault::TableFault);
-        };
-        self.stack[below].state = state;
-        Ok(state)
+        Ok(())
     }
 
     /// The state on top of so many levels, from the bottom on.

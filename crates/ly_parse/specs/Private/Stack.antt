@@ -2,9 +2,8 @@
 use Rattle.std.specs.Prelude.{◌≡◌, ℕ, ◌<◌, List, [], ◌∷◌, All, Bool, IsSome, Result, Ok, Err, map, reverse}
 use Rattle.std.specs.Prelude.{unwrap_or}
 use Rattle.ly_base.specs.Lexed.{Token}
-use Rattle.ly_base.specs.Shape.{place}
-use Rattle.ly_pack.specs.Machine.{Machine, TableRule, states_of, IsMachine}
-use Rattle.ly_pack.specs.Steady.{IsSteady}
+use Rattle.ly_pack.specs.Machine.{Machine, states_of, IsMachine}
+use Rattle.ly_pack.specs.Steady.{IsSteady, ReducesTo}
 use Rattle.ly_pack.specs.SteadyLaws.{IsStack}
 use Rattle.ly_parse.specs.Feeding.{Fed, Feeds, Level, accept_with, done, faulty, settles, states_on}
 use Rattle.ly_parse.specs.Parse.{Parse}
@@ -41,10 +40,6 @@ abbrev pub terms_onto : List Level → Terms → Terms
 terms_onto [] ts = ts
 terms_onto (l ∷ stack) ts = terms_onto stack (more l.term ts)
 
--- the rule of a left side that passes on the one symbol of its body
-abbrev pub passing : ℕ → TableRule
-passing left = record { left = left; body_length = 1; shape = place 1 }
-
 -- what becomes of each token of the terminal on the one stack becomes of it on the other
 abbrev pub FeedAlike : Machine → ℕ → List Level → List Level → Type 0
 FeedAlike m t stack other = (token : Token ℕ) (out : Fed) → token.terminal ≡ t → Feeds m token stack out
@@ -53,6 +48,12 @@ FeedAlike m t stack other = (token : Token ℕ) (out : Fed) → token.terminal �
 -- each token of the terminal becomes this
 abbrev pub FeedAs : Machine → ℕ → List Level → Fed → Type 0
 FeedAs m t stack out = (token : Token ℕ) → token.terminal ≡ t → Feeds m token stack out
+
+-- Reductions before the terminal lead from the one stack to the other, so a token becomes the same on both.
+pub record Leads (m : Machine) (t : ℕ) (stack last : List Level) : Type 0 where
+  pub alike : FeedAlike m t last stack
+  pub count : ℕ
+  pub moves : ReducesTo m t (states_on stack) count (states_on last)
 
 -- what a parser says where its tables accept
 abbrev pub IsAccepted : Grown → List Level → Result step.Step ParseFault → Type 0

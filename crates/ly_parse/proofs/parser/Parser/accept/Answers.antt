@@ -8,4 +8,4 @@ returns-in-Some g c =
     let top : slice_get c.self.inside.stack.items (length c.self.inside.stack.items - 1) ≡ Some c.in-Some.level.now
     = ap (λ w. slice_get w (length w - 1)) (sym c.deref.ensures.value) ∙ sym c.in-Some.ensures.value in
     accepts c.self.inside.machine.now c.self.inside.forest c.self.inside.stack.items c.in-Some.level.now
-    c.args.self.now c.self.inside.count c.self.inside.over c.self.view_is c.self.invariant top
+    c.args.self.now c.self.inside.count c.self.inside.over c.self.view_is c.self.invariant.0 top

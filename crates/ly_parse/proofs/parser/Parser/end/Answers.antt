@@ -24,5 +24,5 @@ returns-in-Refuses-clause-call g c =
 pub unreachable-requires : goal.unreachable-requires
 unreachable-requires g c =
     let some = (legal c.self.inside.machine.now (top_of c.settle.new.self.stack) 0 (shift c.in-Reads.field-0.0)
-    c.self.invariant.machine (c.in_ok-settle.ensures.reads c.in-Reads.field-0 (ap Ok c.in-Reads.is))).1 in
+    c.self.invariant.0.machine (c.in_ok-settle.ensures.reads c.in-Reads.field-0 (ap Ok c.in-Reads.is))).1 in
     absurd (omega (arith, some))

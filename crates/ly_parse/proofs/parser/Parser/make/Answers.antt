@@ -7,12 +7,12 @@ pub returns-in-Pass-clause-made : goal.returns-in-Pass-clause-made
 returns-in-Pass-clause-made g c =
     passed c.self.inside.machine.now c.self.inside.forest c.self.inside.stack.items c.args.self.now
     c.self.inside.count c.self.inside.over c.args.below c.in-Pass.place c.args.number.0 c.index.result.now
-    c.args.tree.now c.self.view_is c.self.invariant c.in-Pass.is c.requires.shape c.index.ensures
+    c.args.tree.now c.self.view_is c.self.invariant.0 c.in-Pass.is c.requires.shape c.index.ensures
 
 pub node-requires-clause-known : goal.node-requires-clause-known
 node-requires-clause-known g c =
     slice_known c.self.inside.machine.now c.self.inside.forest c.self.inside.stack.items c.deref.result.now
-    c.args.below c.self.invariant c.deref.ensures.value
+    c.args.below c.self.invariant.0 c.deref.ensures.value
 
 pub node-requires-clause-places : goal.node-requires-clause-places
 node-requires-clause-places g c =
@@ -22,9 +22,11 @@ node-requires-clause-places g c =
     c.deref.ensures.value c.deref-in-Build.ensures.value
 
 pub invariant_of-self : goal.invariant_of-self
-invariant_of-self g c =
-    kept c.self.inside.machine.now c.self.inside.forest c.node.new.self c.self.inside.stack.items c.self.invariant
-    (kept_either c.self.inside.forest c.node.new.self c.node.result c.node.ensures.keeps c.node.ensures.err)
+invariant_of-self g c = (
+  kept c.self.inside.machine.now c.self.inside.forest c.node.new.self c.self.inside.stack.items c.self.invariant.0
+      (kept_either c.self.inside.forest c.node.new.self c.node.result c.node.ensures.keeps c.node.ensures.err),
+  c.self.invariant.1,
+)
 
 pub returns-in-Build-clause-made : goal.returns-in-Build-clause-made
 returns-in-Build-clause-made g c =
@@ -37,5 +39,5 @@ pub returns-in-Build-clause-stack : goal.returns-in-Build-clause-stack
 returns-in-Build-clause-stack g c =
     stack_kept c.self.inside.forest c.node.new.self c.self.inside.stack.items
     (kept_either c.self.inside.forest c.node.new.self c.node.result c.node.ensures.keeps c.node.ensures.err)
-    c.self.invariant.terms
+    c.self.invariant.0.terms
     ∙ ap (λ p. p.stack) c.self.view_is

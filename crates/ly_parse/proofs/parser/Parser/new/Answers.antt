@@ -4,6 +4,8 @@ use Rattle.ly_parse.proofs.StackLemmas.{begun}
 use Rattle.ly_parse.proofs.parser.Parser.new.Goals as goal
 
 pub invariant_of-result : goal.invariant_of-result
-invariant_of-result g c =
-    subst (IsParse c.args.machine.now c.new.result) (sym c.new-2.ensures.items)
-    (begun c.args.machine.now c.new.result c.states-states.ensures.all c.requires)
+invariant_of-result g c = (
+  subst (IsParse c.args.machine.now c.new.result) (sym c.new-2.ensures.items)
+      (begun c.args.machine.now c.new.result c.states-states.ensures.all c.requires),
+  c.new-3.ensures c.args.machine.now,
+)
