@@ -98,6 +98,25 @@ plain_run_is q (x ∷ xs) (suc k) h = by (is_plain q x) refl h (plain_run_is q x
     by true e h more = rw e (ap (λ ys. x ∷ ys) (more (omega arith)))
     by false e h more = absurd (omega arith)
 
+-- the first bytes of a block at a place
+block_at : (room block : List ℕ) (at run : ℕ) → 16 ≤ length block → at + 16 ≤ length room → run ≤ 16
+    → take (at + run) (put_chunk at room (take 16 block)) ≡ take at room ++ take run block
+block_at room block at run whole within few =
+    let at_is : length (take at room) ≡ at = omega (arith, length-take at room) in
+    sym (take-take (at + run) (at + 16) (put_chunk at room (take 16 block)) (omega arith))
+    ∙ ap (take (at + run)) (take_more_put_chunk at room (take 16 block) (at + 16) (omega (arith, length-take 16 block))
+    within)
+    ∙ ap (λ n. take (n + run) (take at room ++ take 16 block)) (sym at_is)
+    ∙ take-append-add (take at room) (take 16 block) run
+    ∙ ap (λ ys. take at room ++ ys) (take-take run 16 block few)
+
+-- a block at a place, as far as it is a front
+pub front_block : (room block front : List ℕ) (at : ℕ) → length block ≡ 16 → at + 16 ≤ length room
+    → length front ≤ 16 → take (length front) block ≡ front
+    → take (at + length front) (put_chunk at room (take 16 block)) ≡ take at room ++ front
+front_block room block front at whole within short is =
+    block_at room block at (length front) (omega (arith, whole)) within short ∙ ap (λ ys. take at room ++ ys) is
+
 -- a block at a place, as far as its bytes stand for themselves
 pub plain_block : (room bytes : List ℕ) (at run : ℕ) → 16 ≤ length bytes → at + 16 ≤ length room
     → run ≤ prefix_len (is_plain double_quote) (take 16 bytes)
@@ -105,11 +124,7 @@ pub plain_block : (room bytes : List ℕ) (at run : ℕ) → 16 ≤ length bytes
 plain_block room bytes at run block within plain =
     let few : run ≤ 16
     = omega (arith, prefix_len-le-length (is_plain double_quote) (take 16 bytes), length-take 16 bytes) in
-    let at_is : length (take at room) ≡ at = omega (arith, length-take at room) in
-    sym (take-take (at + run) (at + 16) (put_chunk at room (take 16 bytes)) (omega arith))
-    ∙ ap (take (at + run)) (take_more_put_chunk at room (take 16 bytes) (at + 16) (omega (arith, length-take 16 bytes))
-    within)
-    ∙ ap (λ n. take (n + run) (take at room ++ take 16 bytes)) (sym at_is)
-    ∙ take-append-add (take at room) (take 16 bytes) run
-    ∙ ap (λ ys. take at room ++ ys) (sym (plain_run_is double_quote (take 16 bytes) run plain)
+    block_at room bytes at run block within few
+    ∙ ap (λ ys. take at room ++ ys) (sym (take-take run 16 bytes few)
+    ∙ sym (plain_run_is double_quote (take 16 bytes) run plain)
     ∙ ap (escaped double_quote) (take-take run 16 bytes few))

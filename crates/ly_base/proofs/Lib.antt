@@ -12,6 +12,6 @@ pub mod NameLemmas
 pub mod PlaceLemmas
 pub mod RoomLemmas
 pub mod SparseSetLemmas
+pub mod TextLemmas
 pub mod TextWriterLemmas
 mod WordLemmas
-mod TextLemmas

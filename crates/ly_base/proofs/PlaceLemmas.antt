@@ -1,6 +1,9 @@
 -- Lemmas on places of a text.
-use Rattle.std.proofs.Common.{◌≡◌, ◌-◌, ◌+◌, ℕ, List, [], ◌∷◌, Bool, Some, rules, arith, ap, eqb, length, slice_get}
-use Rattle.ly_base.specs.Lexed.{after_line}
+use Rattle.std.proofs.Common.{◌≡◌, ◌∙◌, ◌-◌, ◌+◌, ◌++◌, ℕ, List, [], ◌∷◌, Bool, true, Some, rules, arith, ap, eqb, refl}
+use Rattle.std.proofs.Common.{Option, drop, length, slice_get, sym, take, take-add}
+use Rattle.std.proofs.lemmas.List.{drop-drop}
+use Rattle.std.specs.Prelude.{unwrap_or}
+use Rattle.ly_base.specs.Lexed.{after_line, moved, Place}
 
 -- the last byte decides whether a line begins
 pub after_last : (before : Bool) (token : List ℕ) (b : ℕ) → Some b ≡ slice_get token (length token - 1)
@@ -11,3 +14,35 @@ after_last before (x ∷ y ∷ ys) b e =
     let n : length (x ∷ y ∷ ys) - 1 ≡ length (y ∷ ys) - 1 + 1 = omega arith in
     let deeper : Some b ≡ slice_get (y ∷ ys) (length (y ∷ ys) - 1) = search rules in
     after_last (eqb x 10) (y ∷ ys) b deeper
+
+-- more bytes are passed
+after_more : (before : Bool) (xs ys : List ℕ) → after_line before (xs ++ ys) ≡ after_line (after_line before xs) ys
+after_more before [] ys = refl
+after_more before (x ∷ xs) ys = after_more (eqb x 10) xs ys
+
+-- whether a line begins some bytes on
+pub line_on : (text : List ℕ) (at count : ℕ)
+    → after_line true (take (at + count) text) ≡ after_line (after_line true (take at text)) (take count (drop at text))
+line_on text at count = ap (after_line true) (take-add at count text)
+    ∙ after_more true (take at text) (take count (drop at text))
+
+-- a place some bytes on
+pub advanced : (text : List ℕ) (at count condition kept : ℕ) (begin : Option ℕ) (p : Place)
+    → (let q : Place = record {
+      line = after_line true (take at text);
+      condition = kept;
+      at = at;
+      rest = drop at text;
+    } in q) ≡ p
+    → condition ≡ unwrap_or begin kept
+    → (let q : Place = record {
+      line = after_line true (take (at + count) text);
+      condition = condition;
+      at = at + count;
+      rest = drop (at + count) text;
+    } in q) ≡ moved p count begin
+advanced text at count condition kept begin p is set =
+    let rest : drop (at + count) text ≡ drop count (drop at text)
+    = ap (λ n. drop n text) (omega arith) ∙ sym (drop-drop count at text) in
+    (λ i. record { line = line_on text at count i; condition = set i; at = at + count; rest = rest i })
+    ∙ ap (λ (q : Place). moved q count begin) is

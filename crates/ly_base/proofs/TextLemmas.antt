@@ -6,9 +6,10 @@ use Rattle.std.proofs.Math.Seq.{take-add}
 use Rattle.std.proofs.lemmas.Grind.{flat_map-append}
 use Rattle.std.proofs.lemmas.Bool.{cond-false, cond-true}
 use Rattle.std.proofs.lemmas.List.{flat_map_more, take_more}
-use Rattle.ly_base.specs.Bytes.{double_quote, newline, single_quote}
+use Rattle.ly_base.specs.Bytes.{double_quote, newline}
 use Rattle.ly_base.proofs.EscapeLemmas.{whole_slice}
-use Rattle.ly_base.specs.Text.{escape_for, escaped, escaped_byte, is_plain, leaf_line, literal, name_of, Named}
+use Rattle.ly_base.specs.Text.{before_leaf, escape_for, escaped, escaped_byte, is_plain, leaf_of, name_of, quoted}
+use Rattle.ly_base.specs.Text.{quoted_line, Named}
 
 -- a run with one more byte
 run_more : (bytes : List ℕ) (start at : ℕ) → start ≤ at → at < length bytes
@@ -55,22 +56,18 @@ escaped_within quote bytes at within =
       length-append so_far more,
     )
 
--- the pieces of a literal's name
-pub literal_parts : (b : ℕ) → ((single_quote ∷ []) ++ escaped single_quote (b ∷ [])) ++ single_quote ∷ []
-    ≡ name_of (literal b)
-literal_parts b = ap (λ t. single_quote ∷ (t ++ single_quote ∷ [])) (append-nil (escaped_byte single_quote b))
+-- the pieces of a line
+pub line_parts : (label text : List ℕ)
+    → (label ++ escaped double_quote text) ++ double_quote ∷ newline ∷ [] ≡ quoted_line label text
+line_parts label text =
+    let between = escaped double_quote text in
+    append_assoc label between (double_quote ∷ newline ∷ [])
+    ∙ ap (λ t. label ++ t) (sym (append_assoc between (double_quote ∷ []) (newline ∷ [])))
+    ∙ sym (append_assoc label (between ++ double_quote ∷ []) (newline ∷ []))
 
--- the pieces of a leaf's line
-pub line_parts : (terminal : Named) (text : List ℕ)
-    → ((name_of terminal ++ double_quote ∷ []) ++ escaped double_quote text) ++ double_quote ∷ newline ∷ []
-    ≡ leaf_line terminal text
-line_parts terminal text =
-    let name = name_of terminal in
-    let quoted = escaped double_quote text in
-    append_assoc (name ++ double_quote ∷ []) quoted (double_quote ∷ newline ∷ [])
-    ∙ append_assoc name (double_quote ∷ []) (quoted ++ double_quote ∷ newline ∷ [])
-    ∙ ap (λ t. name ++ double_quote ∷ t) (sym (append_assoc quoted (double_quote ∷ []) (newline ∷ [])))
-    ∙ sym (append_assoc name (double_quote ∷ (quoted ++ double_quote ∷ [])) (newline ∷ []))
+-- a leaf's text behind what stands before it
+pub quoted_leaf : (n : Named) (text : List ℕ) → quoted (before_leaf n) text ≡ leaf_of n text
+quoted_leaf n text = append_assoc (name_of n) (double_quote ∷ []) (escaped double_quote text ++ double_quote ∷ [])
 
 module _ (quote : ℕ) (bytes before out : List ℕ) (start at : ℕ) (behind : start ≤ at) (within : at < length bytes)
     (so_far : out ++ take (at - start) (drop start bytes) ≡ before ++ escaped quote (take at bytes)) where

@@ -41,6 +41,18 @@ abbrev pub name_of : Named → List ℕ
 name_of (token name) = name
 name_of (literal b) = single_quote ∷ (escaped_byte single_quote b ++ single_quote ∷ [])
 
+-- what stands before a leaf's text: the terminal's name and a double quote
+abbrev pub before_leaf : Named → List ℕ
+before_leaf terminal = name_of terminal ++ double_quote ∷ []
+
+-- a text behind a label, as it stands between double quotes, with the quote that closes it
+abbrev pub quoted : List ℕ → List ℕ → List ℕ
+quoted label text = label ++ (escaped double_quote text ++ double_quote ∷ [])
+
+-- a line of that alone
+abbrev pub quoted_line : List ℕ → List ℕ → List ℕ
+quoted_line label text = quoted label text ++ newline ∷ []
+
 -- a leaf: the terminal's name, then the text in double quotes
 abbrev pub leaf_of : Named → List ℕ → List ℕ
 leaf_of terminal text = name_of terminal ++ double_quote ∷ (escaped double_quote text ++ double_quote ∷ [])

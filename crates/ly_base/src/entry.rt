@@ -28,10 +28,10 @@ impl Entry {
     pub fn state(self) -> Option<u32>
         ensures { result ≡ target_of self }
     {
-        if self.number < u32::MAX {
-            Some(self.number)
-        } else {
+        if self.number == u32::MAX {
             None
+        } else {
+            Some(self.number)
         }
     }
 }

@@ -3,7 +3,7 @@
 //! `write_whole` and `read_whole` carry bytes to and from devices that count their failures: at Ok all of them, at a
 //! fault a stated beginning, and a device is named only where it failed. `Place` says where a run over a text stands,
 //! `push_leaf` and its like print what stands there, `TextBuffer` many pieces, and `TextWriter` writes them while they
-//! are printed; `Limits` holds the sizes that are accepted.
+//! are printed, short ones by blocks (`Front`, `Label`); `Limits` holds the sizes that are accepted.
 //!
 //! Left out: what a real file or terminal does. That is the word of its reads and writes.
 #![tactic(auto)]
@@ -17,6 +17,7 @@ mod entry;
 mod escapes;
 mod front;
 mod gap;
+mod label;
 mod language;
 mod laws;
 mod lexeme;
@@ -44,6 +45,7 @@ pub use entry::Entry;
 pub use escapes::{EscapeFault, escape};
 pub use front::Front;
 pub use gap::{after_block, after_braces, after_comment, after_gap};
+pub use label::Label;
 pub use language::Language;
 pub use laws::{counting_keeps_what_is_known, memory_is_known};
 pub use lexeme::{End, Lexeme};

@@ -1,4 +1,4 @@
-ghost use Rattle.std.specs.Prelude.{◌≡◌, ◌≤◌, length};
+ghost use Rattle.std.specs.Prelude.{◌≡◌, ◌≤◌, length, true};
 ghost use Rattle.ly_base.specs.Lexed.{after_line};
 
 use std::marker::Model;
@@ -12,8 +12,6 @@ pub struct Place<'t> {
     at: usize,
     /// The number of the start condition.
     condition: u32,
-    /// Whether a line begins here.
-    at_line_start: bool,
 }
 
 impl<'t> Model for Place<'t> {
@@ -40,7 +38,6 @@ impl<'t> Place<'t> {
             text,
             at: 0,
             condition: 0,
-            at_line_start: true,
         }
     }
 
@@ -58,11 +55,11 @@ impl<'t> Place<'t> {
         self.condition
     }
 
-    /// Whether a line begins here.
+    /// Whether a line begins here. It is looked for when it is asked for, since few patterns do.
     pub fn at_line_start(&self) -> bool
         ensures { result ≡ self.now.line }
     {
-        self.at_line_start
+        line_starts_behind(&self.text[..self.at])
     }
 
     /// The bytes that are left.
@@ -77,19 +74,17 @@ impl<'t> Place<'t> {
         requires { count ≤ length self.old.rest }
         ensures { self.new ≡ moved self.old count begin }
     {
-        let end = self.at + count;
-        self.at_line_start = line_start_after(self.at_line_start, &self.text[self.at..end]);
         self.condition = begin.unwrap_or(self.condition);
-        self.at = end;
+        self.at += count;
     }
 }
 
-/// Whether a line begins behind some bytes, if one began before them or not.
-fn line_start_after(before: bool, passed: &[u8]) -> bool
-    ensures { result ≡ after_line before passed.now }
+/// Whether a line begins behind the first bytes of a text.
+fn line_starts_behind(passed: &[u8]) -> bool
+    ensures { result ≡ after_line true passed.now }
 {
     match passed.last() {
         Some(byte) => *byte == b'\n',
-        None => before,
+        None => true,
     }
 }

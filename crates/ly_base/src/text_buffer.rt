@@ -2,18 +2,22 @@ ghost use Rattle.std.specs.Prelude.{◌≡◌, ◌≤◌, ◌+◌, ◌*◌, ◌+
 ghost use Rattle.std.specs.Bool.{OnTrue};
 ghost use Rattle.std.specs.List.{prefix_len};
 ghost use Rattle.ly_base.specs.Bytes.{double_quote};
-ghost use Rattle.ly_base.specs.Text.{escape_for, escaped, is_plain, leaf_of, name_of, named};
+ghost use Rattle.ly_base.specs.Text.{escape_for, escaped, is_plain, quoted};
 ghost use lib.Lanes.{put_chunk};
-ghost use Rattle.ly_base.specs.Private.TextBuffer.{leaf_room, name_room};
+ghost use Rattle.ly_base.specs.Private.TextBuffer.{quoted_room};
 
 use crate::front::{BLOCK, Front};
-use crate::text::{Terminal, hex_digit, is_plain, push_leaf};
+use crate::label::Label;
+use crate::text::{hex_digit, is_plain, push_escaped};
 use std::alloc::{AllocError, Global};
 use std::marker::Model;
 use std::simd::prelude::*;
 
 /// How many bytes the room has.
 const ROOM: usize = 16_384;
+
+/// How many bytes a label or a text has at most that is printed into a room at once.
+const SHORT: usize = 512;
 
 /// Printed text. The last of it stands in a room of fixed length, where a byte is one store; when that is full it is
 /// copied behind the rest.
@@ -75,16 +79,30 @@ impl TextBuffer {
         Ok(())
     }
 
-    /// Appends a leaf.
+    /// Appends a label.
     ///
     /// It fails where memory runs out. How much was appended by then is left open.
-    pub fn push_leaf(&mut self, terminal: Terminal<'_>, text: Front<'_>) -> Result<(), AllocError>
-        ensures { OnOk result (self.new ≡ self.old ++ leaf_of (named terminal.entry) text.entry) }
+    pub fn push_label(&mut self, label: &Label) -> Result<(), AllocError>
+        ensures { OnOk result (self.new ≡ self.old ++ label.now) }
     {
-        if !fits(self.room.len() - self.used, terminal, text.len()) {
-            return self.push_leaf_behind(terminal, text.bytes());
+        if !fits(self.room.len() - self.used, label.len(), 0) {
+            return self.push_behind(label.bytes());
         }
-        self.used = put_leaf(&mut self.room, self.used, terminal, text);
+        self.used = put_front(&mut self.room, self.used, &label.front());
+        Ok(())
+    }
+
+    /// Appends a label and a text behind it, as it stands between double quotes, with the quote that closes it: a
+    /// leaf, if the label is what stands before its text.
+    ///
+    /// It fails where memory runs out. How much was appended by then is left open.
+    pub fn push_quoted(&mut self, label: &Label, text: &Front<'_>) -> Result<(), AllocError>
+        ensures { OnOk result (self.new ≡ self.old ++ quoted label.now text.now) }
+    {
+        if !fits(self.room.len() - self.used, label.len(), text.len()) {
+            return self.push_quoted_behind(label.bytes(), text.bytes());
+        }
+        self.used = put_quoted(&mut self.room, self.used, &label.front(), text);
         Ok(())
     }
 
@@ -106,13 +124,16 @@ impl TextBuffer {
         self.text.extend_from_slice(bytes)
     }
 
-    /// Appends a leaf for which the room may have no place left.
+    /// Appends a label and a text behind it, for which the room may have no place left.
     #[cold]
-    fn push_leaf_behind(&mut self, terminal: Terminal<'_>, text: &[u8]) -> Result<(), AllocError>
-        ensures { OnOk result (self.new ≡ self.old ++ leaf_of (named terminal.entry) text.now) }
+    fn push_quoted_behind(&mut self, label: &[u8], text: &[u8]) -> Result<(), AllocError>
+        ensures { OnOk result (self.new ≡ self.old ++ quoted label.now text.now) }
     {
         empty_room(&mut self.text, &self.room, &mut self.used)?;
-        push_leaf(&mut self.text, terminal, text)
+        self.text.extend_from_slice(label)?;
+        push_escaped(&mut self.text, b'"', text)?;
+        self.text.push(b'"')?;
+        Ok(())
     }
 }
 
@@ -128,47 +149,75 @@ fn empty_room(rest: &mut Vec<u8>, room: &[u8], used: &mut usize) -> Result<(), A
     Ok(())
 }
 
-/// Whether so many bytes are room for a leaf and a byte behind it. It may say no where they are.
-pub(crate) fn fits(left: usize, terminal: Terminal<'_>, len: usize) -> bool
-    ensures { OnTrue result (leaf_room (named terminal.entry) len + 1 ≤ left) }
+/// Whether so many bytes are room for a label and a text behind it, each of so many bytes, and for a byte behind both.
+/// It may say no where they are.
+pub(crate) fn fits(left: usize, label: usize, text: usize) -> bool
+    ensures { OnTrue result (quoted_room label text + 1 ≤ left) }
 {
-    let name_len = match terminal {
-        Terminal::Token(name) => name.len(),
-        Terminal::Literal(_) => 6,
-    };
-    name_len <= left / 2 && len < (left / 8).saturating_sub(BLOCK / 4)
+    label <= SHORT && text <= SHORT && 5 * SHORT + BLOCK + 2 <= left
 }
 
-/// Writes a leaf from a place on, and answers where it ends.
-#[inline(always)] // a call would cost a tenth of a short leaf
-pub(crate) fn put_leaf(room: &mut [u8], at: usize, terminal: Terminal<'_>, text: Front<'_>) -> usize
-    requires { at + leaf_room (named terminal) (length text) ≤ length room.old }
-    ensures leaf { take result room.new ≡ take at room.old ++ leaf_of (named terminal.entry) text.entry }
-    ensures within { result ≤ at + leaf_room (named terminal.entry) (length text.entry) }
+/// Writes a label and a text behind it from a place on, and answers where they end.
+#[inline(always)] // a call would cost a tenth of a short text
+pub(crate) fn put_quoted(room: &mut [u8], at: usize, label: &Front<'_>, text: &Front<'_>) -> usize
+    requires { at + quoted_room (length label.now) (length text.now) ≤ length room.old }
+    ensures bytes { take result room.new ≡ take at room.old ++ quoted label.now text.now }
+    ensures within { result ≤ at + quoted_room (length label.now) (length text.now) }
     ensures room { length room.new ≡ length room.old }
 {
-    let named = put_name(room, at, terminal);
-    let quoted = put(room, named, b'"');
-    let end = put_text(room, quoted, text);
+    let labelled = put_front(room, at, label);
+    let end = put_text(room, labelled, text);
     put(room, end, b'"')
 }
 
-/// Writes a leaf's text from a place on as it stands between double quotes, and answers where it ends. So that a short
-/// text is one block, a processor has no length to guess.
-fn put_text(room: &mut [u8], at: usize, text: Front<'_>) -> usize
-    requires { at + 4 * length text + 16 ≤ length room.old }
-    ensures bytes { take result room.new ≡ take at room.old ++ escaped double_quote text.entry }
-    ensures within { result ≤ at + 4 * length text.entry }
+/// Writes a front from a place on as it is, and answers where it ends. A short one is one block.
+#[inline(always)]
+fn put_front(room: &mut [u8], at: usize, front: &Front<'_>) -> usize
+    requires { at + length front.now + 16 ≤ length room.old }
+    ensures bytes { take result room.new ≡ take at room.old ++ front.now }
+    ensures end { result ≡ at + length front.now }
+    ensures room { length room.new ≡ length room.old }
+{
+    let Some(block) = front.block() else {
+        return put_bytes(room, at, front.bytes());
+    };
+    put_block(room, at, block);
+    at + front.len()
+}
+
+/// Writes a text from a place on as it stands between double quotes, and answers where it ends. So that a short text is
+/// one block, a processor has no length to guess.
+#[inline(always)]
+fn put_text(room: &mut [u8], at: usize, text: &Front<'_>) -> usize
+    requires { at + 4 * length text.now + 16 ≤ length room.old }
+    ensures bytes { take result room.new ≡ take at room.old ++ escaped double_quote text.now }
+    ensures within { result ≤ at + 4 * length text.now }
+    ensures room { length room.new ≡ length room.old }
+{
+    let run = put_plain(room, at, text.bytes, text.count);
+    if run == text.count {
+        return at + run;
+    }
+    put_runs(room, at + run, &text.bytes[run..], text.count - run)
+}
+
+/// Writes the first so many bytes from a place on as they stand between double quotes, run after run of those that
+/// stand for themselves, and answers where they end.
+fn put_runs(room: &mut [u8], at: usize, bytes: &[u8], count: usize) -> usize
+    requires within { count ≤ length bytes.now }
+    requires room { at + 4 * count + 16 ≤ length room.old }
+    ensures bytes { take result room.new ≡ take at room.old ++ escaped double_quote (take count bytes.now) }
+    ensures within { result ≤ at + 4 * count }
     ensures room { length room.new ≡ length room.old }
 {
     let mut end = at;
     let mut done = 0;
-    while done < text.count {
-        let run = put_plain(room, end, &text.bytes[done..], text.count - done);
+    while done < count {
+        let run = put_plain(room, end, &bytes[done..], count - done);
         end += run;
         done += run;
-        if done < text.count {
-            end = put_escaped(room, end, b'"', &[text.bytes[done]]);
+        if done < count {
+            end = put_escaped(room, end, b'"', &[bytes[done]]);
             done += 1;
         }
     }
@@ -177,6 +226,7 @@ fn put_text(room: &mut [u8], at: usize, text: Front<'_>) -> usize
 
 /// Copies those of the first bytes that stand for themselves between double quotes to a place, so many at most and no
 /// more than a block has, and answers how many they are. They are none where no block is left.
+#[inline(always)]
 fn put_plain(room: &mut [u8], at: usize, bytes: &[u8], most: usize) -> usize
     requires { at + 16 ≤ length room.old }
     ensures bytes { take (at + result) room.new ≡ take at room.old ++ escaped double_quote (take result bytes.now) }
@@ -211,23 +261,6 @@ fn plain_run(bytes: &[u8]) -> usize
         | block.simd_eq(u8x16::splat(b'\\'))
         | block.simd_eq(u8x16::splat(b'"'));
     BLOCK.min(special.to_bitmask().trailing_zeros() as usize)
-}
-
-/// Writes a terminal's name from a place on, and answers where it ends.
-fn put_name(room: &mut [u8], at: usize, terminal: Terminal<'_>) -> usize
-    requires { at + name_room (named terminal) ≤ length room.old }
-    ensures name { take result room.new ≡ take at room.old ++ name_of (named terminal.entry) }
-    ensures within { result ≤ at + name_room (named terminal.entry) }
-    ensures room { length room.new ≡ length room.old }
-{
-    match terminal {
-        Terminal::Token(name) => put_bytes(room, at, name),
-        Terminal::Literal(byte) => {
-            let quoted = put(room, at, b'\'');
-            let end = put_escaped(room, quoted, b'\'', &[byte]);
-            put(room, end, b'\'')
-        }
-    }
 }
 
 /// Writes bytes from a place on as they stand between quotes, and answers where they end.

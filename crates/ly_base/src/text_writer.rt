@@ -2,13 +2,13 @@ ghost use Rattle.std.specs.Prelude.{◌≡◌, ◌<◌, ◌+◌, ◌^◌, ℕ, L
 ghost use Rattle.std.specs.Prelude.{IfOk, IfErr, OnOk, OnErr, MatchResult};
 ghost use Rattle.std.specs.Io.KnownBytes.{Appends};
 ghost use Rattle.ly_base.specs.Device.{next_count};
-ghost use Rattle.ly_base.specs.Text.{escaped, leaf_line, name_of, named, no_rule_line};
+ghost use Rattle.ly_base.specs.Text.{escaped, no_rule_line, quoted_line};
 ghost use Rattle.ly_base.specs.TextWriter.{bytes_of, IsAppended, IsCutShort, IsUnderway};
 
 use crate::device::Sink;
 use crate::front::Front;
-use crate::text::Terminal;
-use crate::text_buffer::{fits, put, put_bytes, put_escaped, put_leaf};
+use crate::label::Label;
+use crate::text_buffer::{fits, put, put_bytes, put_escaped, put_quoted};
 use crate::whole::{WriteFault, write_whole};
 use itoa::Buffer;
 use std::alloc::{AllocError, Global};
@@ -69,27 +69,28 @@ impl TextWriter {
         Ok(())
     }
 
-    /// Appends a line that is a leaf.
+    /// Appends a line: a label and a text behind it, as it stands between double quotes, with the quote that closes
+    /// it. It is a leaf's line, if the label is what stands before its text.
     ///
     /// It fails where the writer does.
-    pub fn push_leaf_line<W: Sink>(
+    pub fn push_quoted_line<W: Sink>(
         &mut self,
         writer: &mut W,
-        terminal: Terminal<'_>,
-        text: Front<'_>,
+        label: &Label,
+        text: &Front<'_>,
     ) -> Result<(), WriteFault>
-        requires countable { bytes_of self.old + length (leaf_line (named terminal) text) < 2 ^ 64 }
+        requires countable { bytes_of self.old + length (quoted_line label.now text.now) < 2 ^ 64 }
         ensures text { IsAppended self.old self.new (W.contents writer.old) (W.contents writer.new)
-            (leaf_line (named terminal.entry) text.entry) result }
+            (quoted_line label.now text.now) result }
         ensures counted { OnOk result (bytes_of self.new
-            ≡ bytes_of self.old + length (leaf_line (named terminal.entry) text.entry)) }
+            ≡ bytes_of self.old + length (quoted_line label.now text.now)) }
         ensures no_failure { OnOk result (W.failures writer.new ≡ W.failures writer.old) }
         ensures failed { OnErr result (W.failures writer.new ≡ next_count (W.failures writer.old)) }
     {
-        if !fits(self.room.len() - self.used, terminal, text.len()) {
-            return self.push_line_behind(writer, terminal, text.bytes());
+        if !fits(self.room.len() - self.used, label.len(), text.len()) {
+            return self.push_line_behind(writer, label.bytes(), text.bytes());
         }
-        let end = put_leaf(&mut self.room, self.used, terminal, text);
+        let end = put_quoted(&mut self.room, self.used, &label.front(), text);
         self.used = put(&mut self.room, end, b'\n');
         Ok(())
     }
@@ -145,50 +146,26 @@ impl TextWriter {
         send(&mut self.sent, writer, bytes)
     }
 
-    /// Appends a line that is a leaf, for which the room may have no place left.
+    /// Appends a line of a label and a text behind it, for which the room may have no place left.
     #[cold]
     fn push_line_behind<W: Sink>(
         &mut self,
         writer: &mut W,
-        terminal: Terminal<'_>,
+        label: &[u8],
         text: &[u8],
     ) -> Result<(), WriteFault>
-        requires countable { bytes_of self.old + length (leaf_line (named terminal) text.now) < 2 ^ 64 }
+        requires countable { bytes_of self.old + length (quoted_line label.now text.now) < 2 ^ 64 }
         ensures text { IsAppended self.old self.new (W.contents writer.old) (W.contents writer.new)
-            (leaf_line (named terminal.entry) text.now) result }
+            (quoted_line label.now text.now) result }
         ensures counted { OnOk result (bytes_of self.new
-            ≡ bytes_of self.old + length (leaf_line (named terminal.entry) text.now)) }
+            ≡ bytes_of self.old + length (quoted_line label.now text.now)) }
         ensures no_failure { OnOk result (W.failures writer.new ≡ W.failures writer.old) }
         ensures failed { OnErr result (W.failures writer.new ≡ next_count (W.failures writer.old)) }
     {
-        self.push_name(writer, terminal)?;
-        self.push_bytes(writer, b"\"")?;
+        // the lines behind it have the whole room then
+        self.push_behind(writer, label)?;
         self.push_escaped(writer, b'"', text)?;
         self.push_bytes(writer, b"\"\n")
-    }
-
-    /// Appends a terminal's name.
-    fn push_name<W: Sink>(
-        &mut self,
-        writer: &mut W,
-        terminal: Terminal<'_>,
-    ) -> Result<(), WriteFault>
-        requires countable { bytes_of self.old + length (name_of (named terminal)) < 2 ^ 64 }
-        ensures text { IsAppended self.old self.new (W.contents writer.old) (W.contents writer.new)
-            (name_of (named terminal.entry)) result }
-        ensures counted { OnOk result (bytes_of self.new
-            ≡ bytes_of self.old + length (name_of (named terminal.entry))) }
-        ensures no_failure { OnOk result (W.failures writer.new ≡ W.failures writer.old) }
-        ensures failed { OnErr result (W.failures writer.new ≡ next_count (W.failures writer.old)) }
-    {
-        match terminal {
-            Terminal::Token(name) => self.push_bytes(writer, name),
-            Terminal::Literal(byte) => {
-                self.push_bytes(writer, b"'")?;
-                self.push_escaped(writer, b'\'', &[byte])?;
-                self.push_bytes(writer, b"'")
-            }
-        }
     }
 
     /// Appends bytes as they stand between quotes.

@@ -1,4 +1,4 @@
--- How much room a printed leaf takes at most.
+-- How much room printed text takes at most.
 use Rattle.std.specs.Prelude.{ℕ, ◌+◌, ◌*◌, length}
 use Rattle.ly_base.specs.Text.{Named, literal, token}
 
@@ -7,6 +7,7 @@ abbrev pub name_room : Named → ℕ
 name_room (token name) = length name
 name_room (literal b) = 6
 
--- a leaf by the length of its text: each byte may be escaped, and a block may be copied at its end
-abbrev pub leaf_room : Named → ℕ → ℕ
-leaf_room terminal len = name_room terminal + 4 * len + 18
+-- a label and a text behind it, by their lengths: each byte of the text may be escaped, and a block may be copied at
+-- its end
+abbrev pub quoted_room : ℕ → ℕ → ℕ
+quoted_room label text = label + 4 * text + 17

@@ -1,37 +1,19 @@
-use Rattle.std.proofs.Common.{◌∙◌, ◌+◌, ◌-◌, ◌++◌, ◌∷◌, [], ap, arith, drop, get_or, length, take}
+use Rattle.std.proofs.Common.{◌≡◌, ◌∙◌, ◌+◌, ◌-◌, ◌++◌, ap, arith, drop, length, take}
 use Rattle.ly_base.specs.Bytes.{double_quote}
 use Rattle.ly_base.specs.Text.{escaped}
-use Rattle.ly_base.proofs.TextLemmas.{escaped_next, escaped_run}
+use Rattle.ly_base.proofs.TextLemmas.{escaped_run}
 use Rattle.ly_base.proofs.text_buffer.put_text.Goals as goal
 
-pub loop-done-preserved-then-done-text : goal.loop-done-preserved-then-done-text
-loop-done-preserved-then-done-text c =
-    let now = c.loop-done in
+pub returns-clause-bytes : goal.returns-clause-bytes
+returns-clause-bytes c =
     let run = c.put_plain-run in
     let before = take c.args.at c.args.room.now in
-    let bytes = c.text.inside.bytes.now in record {
-      within = omega (arith, c.put_escaped-end.ensures.within, now.invariant.within);
-      some = omega (arith, c.if-done-text.true);
-      so_far = c.put_escaped-end.ensures.bytes
-          ∙ ap (λ t. t ++ escaped double_quote (get_or bytes (now.done + run.result) 0 ∷ [])) (run.ensures.bytes
-          ∙ ap (λ t. t ++ escaped double_quote (take run.result (take (length bytes - now.done) (drop now.done bytes))))
-          now.invariant.so_far
-          ∙ escaped_run double_quote before bytes now.done run.result)
-          ∙ escaped_next double_quote before bytes (now.done + run.result)
-          (omega (arith, c.if-done-text.true, c.text.invariant));
-      same = c.put_escaped-end.ensures.room ∙ run.ensures.room ∙ now.invariant.same;
-    }
-
-pub loop-done-preserved : goal.loop-done-preserved
-loop-done-preserved c =
-    let now = c.loop-done in
-    let run = c.put_plain-run in
-    let bytes = c.text.inside.bytes.now in record {
-      within = omega (arith, now.invariant.within);
-      some = omega (arith, run.ensures.most, c.loop-done-test.true);
-      so_far = run.ensures.bytes
-          ∙ ap (λ t. t ++ escaped double_quote (take run.result (take (length bytes - now.done) (drop now.done bytes))))
-          now.invariant.so_far
-          ∙ escaped_run double_quote (take c.args.at c.args.room.now) bytes now.done run.result;
-      same = run.ensures.room ∙ now.invariant.same;
-    }
+    let bytes = c.text.inside.bytes.now in
+    let left = c.text.inside.count - run.result in
+    let all : run.result + left ≡ c.text.inside.count = omega (arith, run.ensures.most) in
+    c.put_runs.ensures.bytes
+    ∙ ap (λ t. t ++ escaped double_quote (take left (take (length bytes - run.result) (drop run.result bytes))))
+    run.ensures.bytes
+    ∙ escaped_run double_quote before bytes run.result left
+    ∙ ap (λ n. before ++ escaped double_quote (take n bytes)) all
+    ∙ ap (λ t. before ++ escaped double_quote t) c.text.view_is
