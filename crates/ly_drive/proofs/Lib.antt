@@ -1,8 +1,8 @@
 pub mod AnswerLemmas
 pub mod FaultLemmas
 pub mod FeedingLemmas
+pub mod LabelLemmas
 pub mod LexingLemmas
-pub mod NameLemmas
 pub mod OneVerdictLemmas
 pub mod RunningLemmas
 pub mod ScanTableLemmas

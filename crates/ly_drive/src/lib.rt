@@ -10,6 +10,7 @@
 
 mod driving;
 mod fault;
+mod labels;
 mod laws;
 mod lines;
 mod names;

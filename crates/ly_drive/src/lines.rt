@@ -7,10 +7,11 @@ ghost use Rattle.ly_tree.specs.Forest.{term_of, StandsFor};
 ghost use Rattle.ly_tree.specs.Shown.{shown, Vocabulary};
 ghost use Rattle.ly_tree.specs.Term.{Term};
 
+use crate::labels::Labels;
 use crate::names::Names;
 use ly_base::{OutOfMemory, Terminal, push_leaf, push_no_rule_line};
 use ly_parse::Token;
-use ly_tree::{Forest, TermRef, Words};
+use ly_tree::{Forest, TermRef};
 use std::alloc::Global;
 use std::io::Write;
 
@@ -25,7 +26,8 @@ pub(crate) fn term_line(
     ensures { IfOk result (λ line. (t : Term) → StandsFor forest.now root t
         → line.items ≡ shown (words_of names.now) t ++ newline ∷ []) }
 {
-    let mut line = forest.show(alloc, names, root)?;
+    let labels = Labels::new(alloc, *names)?;
+    let mut line = forest.show(alloc, &labels, root)?;
     line.push(b'\n')?;
     Ok(line)
 }
@@ -47,7 +49,7 @@ pub(crate) fn token_line(
     let mut line = Vec::new(alloc);
     let byte = token.at;
     write!(line, "syntax error at token {number}, byte {byte}: ").map_err(|_| OutOfMemory)?;
-    let name = Terminal::Token(names.terminal_name(token.terminal));
+    let name = Terminal::Token(names.of_terminal(token.terminal));
     push_leaf(&mut line, name, token.text.bytes())?;
     line.push(b'\n')?;
     Ok(line)

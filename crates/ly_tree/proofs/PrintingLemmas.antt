@@ -54,17 +54,17 @@ pub end_text : (v : Vocabulary) (f : Grown) (out out' : List ℕ) (before rest :
 end_text v f out out' before rest cs b c o = rw (o, b, waiting_text-push v f rest cs, c) (simp append_assoc)
 
 -- a node begins, up to its first child
-pub begin_text : (v : Vocabulary) (f : Grown) (out named out' : List ℕ) (before after : List (Bor (List TermRef)))
+pub begin_text : (v : Vocabulary) (f : Grown) (out out' : List ℕ) (before after : List (Bor (List TermRef)))
     (cs : List TermRef) (os : Bor (List TermRef)) (n first : TermRef) (p : ℕ) → StandsFor f n (built p (terms_of f cs))
-    → cs ≡ first ∷ os.now → named ≡ out ++ v.constructor p → out' ≡ named ++ 40 ∷ [] → after ≡ before ++ os ∷ []
+    → cs ≡ first ∷ os.now → out' ≡ out ++ (v.constructor p ++ 40 ∷ []) → after ≡ before ++ os ∷ []
     → out' ++ term_text v f first ++ waiting_text v f after ≡ out ++ term_text v f n ++ waiting_text v f before
-begin_text v f out named out' before after cs os n first p stands c name o a =
+begin_text v f out out' before after cs os n first p stands c o a =
     let node : term_text v f n ≡ v.constructor p ++ codes "(" ++ (term_text v f first ++ tail_text v f os.now)
     = ap (λ t. shown v (unwrap_or t nothing)) stands
     ∙ (ap (λ ns. v.constructor p ++ codes "(" ++ shown_all v (terms_of f ns) ++ codes ")") c
     ∙ (append_assoc (v.constructor p ++ codes "(") (shown_all v (terms_of f (first ∷ os.now))) (codes ")")
     ∙ ap (λ t. v.constructor p ++ codes "(" ++ t) (shown_all-tail v f first os.now))) in
-    rw (o, name, a, waiting_text-push v f before os, node) (simp append_assoc)
+    rw (o, a, waiting_text-push v f before os, node) (simp append_assoc)
 
 -- what is left is known
 pub last_known : (f : Grown) (before rest : List (Bor (List TermRef))) (cs : Bor (List TermRef))

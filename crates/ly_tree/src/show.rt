@@ -6,7 +6,7 @@ ghost use Rattle.ly_tree.specs.Term.{Term};
 
 use crate::forest::{Forest, TermRef};
 use crate::words::Words;
-use ly_base::{OutOfMemory, Terminal, TextBuffer};
+use ly_base::{OutOfMemory, TextBuffer};
 use std::alloc::Global;
 
 impl Forest {
@@ -69,13 +69,12 @@ impl<'f> Printing<'f> {
         match term {
             TermRef::Nothing => self.out.push_bytes(b"()")?,
             TermRef::Leaf(leaf) => {
-                let name = Terminal::Token(words.terminal_name(leaf.terminal));
-                self.out.push_leaf(name, forest.text_of(leaf))?;
+                let label = words.leaf_label(leaf.terminal);
+                self.out.push_quoted(label, &forest.text_of(leaf))?;
             }
             TermRef::Node(node) => {
                 let (rule, children) = forest.node_at(node);
-                self.out.push_bytes(words.constructor(rule))?;
-                self.out.push(b'(')?;
+                self.out.push_label(words.node_label(rule))?;
                 if let Some((first, others)) = children.split_first() {
                     self.waiting.push(others)?;
                     return Ok(Some(*first));

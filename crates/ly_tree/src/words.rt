@@ -1,6 +1,7 @@
-ghost use Rattle.std.specs.Prelude.{◌≡◌, ℕ, List};
+ghost use Rattle.std.specs.Prelude.{◌≡◌, ◌++◌, ℕ, List, codes};
+ghost use Rattle.ly_base.specs.Text.{before_leaf, token};
 
-use ly_base::{RuleNo, Sym};
+use ly_base::{Label, RuleNo, Sym};
 
 /// The names by which terms are printed. Every number has one.
 pub trait Words {
@@ -10,11 +11,11 @@ pub trait Words {
     /// The constructors of rules.
     ghost constructors: { Self → ℕ → List ℕ };
 
-    /// A terminal's name.
-    fn terminal_name(&self, terminal: Sym) -> &[u8]
-        ensures { result.now ≡ terminals self.now terminal.0 };
+    /// What stands before the text of a leaf: the terminal's name and a double quote.
+    fn leaf_label(&self, terminal: Sym) -> &Label
+        ensures { result.now ≡ before_leaf (token (terminals self.now terminal.0)) };
 
-    /// A rule's constructor.
-    fn constructor(&self, rule: RuleNo) -> &[u8]
-        ensures { result.now ≡ constructors self.now rule.0 };
+    /// What stands before the children of a node: the rule's constructor and a parenthesis.
+    fn node_label(&self, rule: RuleNo) -> &Label
+        ensures { result.now ≡ constructors self.now rule.0 ++ codes "(" };
 }

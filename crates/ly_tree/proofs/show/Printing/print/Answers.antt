@@ -8,15 +8,14 @@ returns-in-Some-clause-text g c =
     begin_text (record {
       terminal = g.W.Words.terminals c.args.words.now;
       constructor = g.W.Words.constructors c.args.words.now;
-    }) c.args.forest.now c.args.self.now.out c.push_bytes-in-Node.new.self c.push.new.self
-    c.args.self.now.waiting.items c.push-in-Some.new.self.items c.node_at.result.1.now c.in-Some.others c.args.term
-    c.in-Some.first.now c.node_at.result.0.0
+    }) c.args.forest.now c.args.self.now.out c.push_label.new.self c.args.self.now.waiting.items c.push.new.self.items
+    c.node_at.result.1.now c.in-Some.others c.args.term c.in-Some.first.now c.node_at.result.0.0
     (ap (term_of c.args.forest.now) c.in-Node.is ∙ c.node_at.ensures.term) c.in-Some.ensures.cases.0
-    (c.in_ok-push_bytes-in-Node.ensures ∙ ap (λ name. c.args.self.now.out ++ name) c.constructor.ensures)
-    c.in_ok-push-in-Node.ensures c.in_ok-push-in-Node-2.ensures.items
+    (c.in_ok-push_label-in-Node.ensures ∙ ap (λ label. c.args.self.now.out ++ label) c.node_label.ensures)
+    c.in_ok-push-in-Node.ensures.items
 
 pub returns-in-Some-clause-waiting : goal.returns-in-Some-clause-waiting
 returns-in-Some-clause-waiting g c =
-    pushed_known c.args.forest.now c.push-in-Some.new.self.items c.args.self.now.waiting.items
+    pushed_known c.args.forest.now c.push.new.self.items c.args.self.now.waiting.items
     c.node_at.result.1.now c.in-Some.others c.in-Some.first.now c.in-Some.ensures.cases.0
-    c.in_ok-push-in-Node-2.ensures.items c.node_at.ensures.known c.requires.waiting
+    c.in_ok-push-in-Node.ensures.items c.node_at.ensures.known c.requires.waiting
