@@ -9,6 +9,7 @@ pub mod FitScannerLemmas
 pub mod GenFaultLemmas
 pub mod GeneratedLemmas
 pub mod HeadlineLemmas
+pub mod LabelLemmas
 pub mod LineLemmas
 pub mod PositionAgreementLemmas
 pub mod PositionWalkLemmas

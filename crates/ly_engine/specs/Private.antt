@@ -1,3 +1,4 @@
 -- What contracts of private functions cite. No public contract rests on it.
-pub mod TokenLines
 pub mod FileAnswers
+pub mod Labels
+pub mod TokenLines

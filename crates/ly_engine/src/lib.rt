@@ -15,6 +15,7 @@ mod answering;
 mod fault;
 mod gen_fault;
 mod generating;
+mod labels;
 mod laws;
 mod outcome;
 mod position_walk;

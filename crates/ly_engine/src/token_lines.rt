@@ -9,7 +9,8 @@ ghost use Rattle.ly_scan.specs.Lexer.{Scanner};
 ghost use Rattle.ly_engine.specs.Printing.{condition_set, end_line, line_if, naming};
 ghost use Rattle.ly_engine.specs.Private.TokenLines.{name_len, AreCountable, AreLines};
 
-use ly_base::{End, Front, RuleNo, Sink, Terminal, TextWriter, WriteFault};
+use crate::labels::Labels;
+use ly_base::{End, Front, RuleNo, Sink, TextWriter, WriteFault};
 use ly_lexread::{Action, Returned};
 use ly_scan::{Lexer, Steps};
 
@@ -17,18 +18,19 @@ use ly_scan::{Lexer, Steps};
 /// answers how its run ends.
 pub(crate) fn write_token_lines<S: Steps + Drop, W: Sink>(
     lexer: &mut Lexer<'_, S>,
-    actions: &[Action],
+    labels: &Labels<'_>,
     empty: TextWriter,
     writer: &mut W,
 ) -> Result<End, WriteFault>
     requires none { empty ≡ record { sent = 0; held = [] } }
-    requires countable { AreCountable actions.now (length lexer.old.place.rest) }
+    requires countable { AreCountable labels.now.actions.now (length lexer.old.place.rest) }
     ensures told { let scanner : Scanner = record { walk = S.walk lexer.old.steps; cut = S.cut_of lexer.old.steps } in
-        IfOk result (λ e. (lines : List ℕ) × AreLines scanner actions.now lexer.old.place e lines
+        IfOk result (λ e. (lines : List ℕ) × AreLines scanner labels.now.actions.now lexer.old.place e lines
         × Appends (W.contents writer.old) (W.contents writer.new) lines) }
     ensures cut_short { let scanner : Scanner
         = record { walk = S.walk lexer.old.steps; cut = S.cut_of lexer.old.steps } in
-        IfErr result (λ fault. (e : End) × ((lines : List ℕ) × AreLines scanner actions.now lexer.old.place e lines
+        IfErr result (λ fault. (e : End) × ((lines : List ℕ)
+        × AreLines scanner labels.now.actions.now lexer.old.place e lines
         × IsCutShort (W.contents writer.old) (W.contents writer.new) fault.written lines)) }
     ensures no_failure { OnOk result (W.failures writer.new ≡ W.failures writer.old) }
     ensures failed { OnErr result (W.failures writer.new ≡ next_count (W.failures writer.old)) }
@@ -38,8 +40,8 @@ pub(crate) fn write_token_lines<S: Steps + Drop, W: Sink>(
         match lexer.next_lexeme() {
             Ok(lexeme) => {
                 let token = Front::new(lexer.place.rest(), lexeme.taken);
-                push_token(&mut lines, writer, actions, lexeme.rule, token)?;
-                let begin = condition_set(actions, lexeme.rule);
+                push_token(&mut lines, writer, labels, lexeme.rule, token)?;
+                let begin = condition_set(labels.actions, lexeme.rule);
                 lexer.place.advance(lexeme.taken, begin);
             }
             Err(end) => {
@@ -82,35 +84,23 @@ fn longest_name(actions: &[Action]) -> usize
 fn push_token<W: Sink>(
     lines: &mut TextWriter,
     writer: &mut W,
-    actions: &[Action],
+    labels: &Labels<'_>,
     rule: RuleNo,
     token: Front<'_>,
 ) -> Result<(), WriteFault>
     requires some { 0 < length token }
-    requires countable { bytes_of lines.old + length (line_if (naming actions.now rule.0 token) token) < 2 ^ 64 }
+    requires countable { bytes_of lines.old
+        + length (line_if (naming labels.now.actions.now rule.0 token) token) < 2 ^ 64 }
     ensures text { IsAppended lines.old lines.new (W.contents writer.old) (W.contents writer.new)
-        (line_if (naming actions.now rule.0 token.entry) token.entry) result }
+        (line_if (naming labels.now.actions.now rule.0 token.entry) token.entry) result }
     ensures counted { OnOk result (bytes_of lines.new
-        ≡ bytes_of lines.old + length (line_if (naming actions.now rule.0 token.entry) token.entry)) }
+        ≡ bytes_of lines.old + length (line_if (naming labels.now.actions.now rule.0 token.entry) token.entry)) }
     ensures no_failure { OnOk result (W.failures writer.new ≡ W.failures writer.old) }
     ensures failed { OnErr result (W.failures writer.new ≡ next_count (W.failures writer.old)) }
 {
-    match terminal_for(actions, rule, token.bytes()) {
-        Some(terminal) => lines.push_leaf_line(writer, terminal, token),
+    match labels.get(rule, token.bytes()) {
+        Some(label) => lines.push_quoted_line(writer, label, &token),
         None => Ok(()),
-    }
-}
-
-/// The terminal that a rule's action returns for a token's bytes, if it returns one.
-fn terminal_for<'a>(actions: &'a [Action], rule: RuleNo, token: &[u8]) -> Option<Terminal<'a>>
-    requires { 0 < length token.now }
-    ensures { option_map named result ≡ naming actions.entry.now rule.0 token.now }
-{
-    match &actions.get(rule.0 as usize)?.returns {
-        Returned::Nothing => None,
-        Returned::Token(name) => Some(Terminal::Token(name)),
-        Returned::Literal(byte) => Some(Terminal::Literal(*byte)),
-        Returned::FirstByte => Some(Terminal::Literal(token[0])),
     }
 }
 

@@ -23,6 +23,7 @@ ghost use Rattle.ly_engine.specs.TokensFault.{IsBeforeReading, IsBeforeWriting, 
 ghost use Rattle.ly_engine.specs.Private.FileAnswers.{FileAnswers};
 
 use crate::fault::TokensFault;
+use crate::labels::Labels;
 use crate::outcome::TokenEnd;
 use crate::row_walk::RowWalk;
 use crate::scanner::smallest_automaton;
@@ -130,9 +131,10 @@ fn write_answer_by<S: Steps + Drop, W: Sink>(
     if !are_countable(&file.actions, text.len()) {
         return Err(TokensFault::OutOfMemory);
     }
+    let labels = Labels::new(alloc, &file.actions)?;
     let lines = TextWriter::new(alloc)?;
     let mut lexer = Lexer::new(steps, text);
-    let end = write_token_lines(&mut lexer, &file.actions, lines, writer)?;
+    let end = write_token_lines(&mut lexer, &labels, lines, writer)?;
     Ok(token_end(end))
 }
 

@@ -10,11 +10,12 @@ use Rattle.ly_engine.proofs.token_lines.write_token_lines.Goals as goal
 
 pub push_token-requires-clause-countable : goal.push_token-requires-clause-countable
 push_token-requires-clause-countable g c =
+    let actions = c.args.labels.now.actions.now in
     let countable = c.requires.countable in
     let now = c.loop-lexeme in omega (
       arith,
       now.invariant.counted countable.0 countable.1,
-      line_left c.args.actions.now countable.0 c.in-Ok.lexeme.rule.0 c.in-Ok.lexeme.taken now.lexer.place.rest
+      line_left actions countable.0 c.in-Ok.lexeme.rule.0 c.in-Ok.lexeme.taken now.lexer.place.rest
           c.new-token.result countable.1 c.in-Ok.ensures.within.0 c.in-Ok.ensures.within.1
           (c.new-token.ensures
           ∙ ap (take c.in-Ok.lexeme.taken) (c.rest.ensures ∙ ap (λ (p : Place). p.rest) c.in-Ok.ensures.place)),
@@ -23,17 +24,18 @@ push_token-requires-clause-countable g c =
 
 pub returns-in_err-push_token-in-Ok-clause-cut_short : goal.returns-in_err-push_token-in-Ok-clause-cut_short
 returns-in_err-push_token-in-Ok-clause-cut_short g c =
+    let actions = c.args.labels.now.actions.now in
     let now = c.loop-lexeme in
     let so_far = now.invariant.so_far in
     let token = c.new-token.result in
-    let line = line_if (naming c.args.actions.now c.in-Ok.lexeme.rule.0 token) token in
-    let begin = condition_set c.args.actions.now c.in-Ok.lexeme.rule.0 in
+    let line = line_if (naming actions c.in-Ok.lexeme.rule.0 token) token in
+    let begin = condition_set actions c.in-Ok.lexeme.rule.0 in
     let fault = c.in_err-push_token-in-Ok.field-0.0 in
-    err_is c.from_residual.result fault _ c.from_residual.ensures.1 (fails_at c.args.actions.now (let s : Scanner
+    err_is c.from_residual.result fault _ c.from_residual.ensures.1 (fails_at actions (let s : Scanner
     = record { walk = g.S.Steps.walk c.args.lexer.now.steps; cut = g.S.Steps.cut_of c.args.lexer.now.steps } in s)
     c.args.lexer.now.place (moved now.lexer.place c.in-Ok.lexeme.taken begin) (so_far.0 ++ line) c.args.empty
     c.push_token.new.lines _ _ fault c.requires.none
-    (one_more c.args.actions.now _ _ c.args.lexer.now.place now.lexer.place
+    (one_more actions _ _ c.args.lexer.now.place now.lexer.place
     (moved now.lexer.place c.in-Ok.lexeme.taken begin) c.in-Ok.lexeme begin token so_far.0 (so_far.0 ++ line)
     (scanner_of _ _ _ _ now.invariant.same_walk now.invariant.same_cuts) c.in-Ok.ensures.lexeme refl refl
     (c.new-token.ensures
@@ -43,11 +45,12 @@ returns-in_err-push_token-in-Ok-clause-cut_short g c =
 
 pub loop-lexeme-preserved : goal.loop-lexeme-preserved
 loop-lexeme-preserved g c =
+    let actions = c.args.labels.now.actions.now in
     let now = c.loop-lexeme in
     let so_far = now.invariant.so_far in
     let taken = c.in-Ok.lexeme.taken in
     let token = c.new-token.result in
-    let line = line_if (naming c.args.actions.now c.in-Ok.lexeme.rule.0 token) token in
+    let line = line_if (naming actions c.in-Ok.lexeme.rule.0 token) token in
     let is = c.new-token.ensures
     ∙ ap (take taken) (c.rest.ensures ∙ ap (λ (p : Place). p.rest) c.in-Ok.ensures.place) in
     let at = c.advance.ensures ∙ ap (λ (p : Place). moved p taken c.condition_set-begin.result) c.in-Ok.ensures.place in
@@ -56,7 +59,7 @@ loop-lexeme-preserved g c =
       same_cuts = c.in-Ok.ensures.same_cuts ∙ now.invariant.same_cuts;
       so_far = (
         so_far.0 ++ line,
-        one_more c.args.actions.now _ _ c.args.lexer.now.place now.lexer.place c.advance.new.self c.in-Ok.lexeme
+        one_more actions _ _ c.args.lexer.now.place now.lexer.place c.advance.new.self c.in-Ok.lexeme
             c.condition_set-begin.result token so_far.0 (so_far.0 ++ line)
             (scanner_of _ _ _ _ now.invariant.same_walk now.invariant.same_cuts) c.in-Ok.ensures.lexeme
             c.condition_set-begin.ensures at is refl so_far.1,
@@ -66,7 +69,7 @@ loop-lexeme-preserved g c =
       counted = λ longest named. omega (
         arith,
         now.invariant.counted longest named,
-        line_left c.args.actions.now longest c.in-Ok.lexeme.rule.0 taken now.lexer.place.rest token named
+        line_left actions longest c.in-Ok.lexeme.rule.0 taken now.lexer.place.rest token named
             c.in-Ok.ensures.within.0 c.in-Ok.ensures.within.1 is,
         ap (λ (p : Place). length p.rest * bytes_each longest) at,
         c.in_ok-push_token-in-Ok.ensures.counted,
@@ -81,6 +84,7 @@ push_end-requires g c =
 
 pub returns-in_err-push_end-in-Err-clause-cut_short : goal.returns-in_err-push_end-in-Err-clause-cut_short
 returns-in_err-push_end-in-Err-clause-cut_short g c =
+    let actions = c.args.labels.now.actions.now in
     let now = c.loop-lexeme in
     let so_far = now.invariant.so_far in
     let lines = so_far.0 ++ end_line c.in-Err.end in
@@ -89,7 +93,7 @@ returns-in_err-push_end-in-Err-clause-cut_short g c =
       c.in-Err.end,
       (
         lines,
-        all_told c.args.actions.now _ _ c.args.lexer.now.place now.lexer.place c.in-Err.end so_far.0 lines
+        all_told actions _ _ c.args.lexer.now.place now.lexer.place c.in-Err.end so_far.0 lines
             (scanner_of _ _ _ _ now.invariant.same_walk now.invariant.same_cuts) c.in-Err.ensures.end refl so_far.1,
         cut_from c.args.empty c.push_end.new.lines _ _ lines c.requires.none fault
             (appended_twice c.args.empty now.lines c.push_end.new.lines _ _ _ so_far.0 (end_line c.in-Err.end) tt
@@ -110,6 +114,7 @@ finish-requires g c =
 
 pub returns-in_err-finish-in-Err-clause-cut_short : goal.returns-in_err-finish-in-Err-clause-cut_short
 returns-in_err-finish-in-Err-clause-cut_short g c =
+    let actions = c.args.labels.now.actions.now in
     let now = c.loop-lexeme in
     let so_far = now.invariant.so_far in
     let lines = so_far.0 ++ end_line c.in-Err.end in
@@ -118,7 +123,7 @@ returns-in_err-finish-in-Err-clause-cut_short g c =
       c.in-Err.end,
       (
         lines,
-        all_told c.args.actions.now _ _ c.args.lexer.now.place now.lexer.place c.in-Err.end so_far.0 lines
+        all_told actions _ _ c.args.lexer.now.place now.lexer.place c.in-Err.end so_far.0 lines
             (scanner_of _ _ _ _ now.invariant.same_walk now.invariant.same_cuts) c.in-Err.ensures.end refl so_far.1,
         c.in_err-finish-in-Err.ensures.text _ lines (underway_from c.args.empty c.push_end.new.lines _ _ lines
             c.requires.none (appended_twice c.args.empty now.lines c.push_end.new.lines _ _ _ so_far.0
@@ -128,11 +133,12 @@ returns-in_err-finish-in-Err-clause-cut_short g c =
 
 pub returns-in-Err-clause-told : goal.returns-in-Err-clause-told
 returns-in-Err-clause-told g c =
+    let actions = c.args.labels.now.actions.now in
     let now = c.loop-lexeme in
     let so_far = now.invariant.so_far in
     let lines = so_far.0 ++ end_line c.in-Err.end in (
       lines,
-      all_told c.args.actions.now _ _ c.args.lexer.now.place now.lexer.place c.in-Err.end so_far.0 lines
+      all_told actions _ _ c.args.lexer.now.place now.lexer.place c.in-Err.end so_far.0 lines
           (scanner_of _ _ _ _ now.invariant.same_walk now.invariant.same_cuts) c.in-Err.ensures.end refl so_far.1,
       c.in_ok-finish-in-Err.ensures.text _ lines (underway_from c.args.empty c.push_end.new.lines _ _ lines
           c.requires.none (appended_twice c.args.empty now.lines c.push_end.new.lines _ _ _ so_far.0

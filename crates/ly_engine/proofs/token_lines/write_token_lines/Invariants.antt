@@ -14,10 +14,10 @@ invariant-loop-lexeme g l =
     let start = l.fn.lexer.place in record {
       same_walk : steps.walk l.lexer.steps ≡ steps.walk l.fn.lexer.steps;
       same_cuts : steps.cut_of l.lexer.steps ≡ steps.cut_of l.fn.lexer.steps;
-      so_far : (told : List ℕ) × SoFar l.actions
+      so_far : (told : List ℕ) × SoFar l.labels.actions.now
           (record { walk = steps.walk l.fn.lexer.steps; cut = steps.cut_of l.fn.lexer.steps }) start l.lexer.place told
           × IsAppended l.fn.empty l.lines (sink.contents l.fn.writer) (sink.contents l.writer) told (Ok tt);
-      counted : (longest : ℕ) → All (λ (a : Action). name_len a.returns ≤ longest) l.actions
+      counted : (longest : ℕ) → All (λ (a : Action). name_len a.returns ≤ longest) l.labels.actions.now
           → bytes_of l.lines + length l.lexer.place.rest * bytes_each longest ≤ length start.rest * bytes_each longest;
       no_failure : sink.failures l.writer ≡ sink.failures l.fn.writer;
     }
