@@ -1,6 +1,6 @@
 -- Labels by the numbers of rules.
-use Rattle.std.proofs.Common.{◌≡◌, ◌∙◌, ◌<◌, ◌≤◌, ◌∷◌, [], ℕ, List, None, Option, Some, ap, get_or, length, map, refl}
-use Rattle.std.proofs.Common.{suc, sym, zero}
+use Rattle.std.proofs.Common.{◌≡◌, ◌∙◌, ◌<◌, ◌≤◌, [], ℕ, List, None, Option, Some, ap, get_or, length, refl, suc, sym}
+use Rattle.std.proofs.Common.{zero}
 use Rattle.std.specs.Prelude.{option_map, slice_get, unwrap_or}
 use Rattle.std.proofs.lemmas.Option.{slice_get-get_or, slice_get-map, slice_get_past}
 use Rattle.ly_drive.specs.Private.Labels.{constructors_of, node_label, node_labels}

@@ -24,10 +24,10 @@ pub(crate) struct Labels<'a> {
     nameless_leaf: Label,
     /// The label of nodes whose rule has no constructor.
     nameless_node: Label,
-    ghost of_leaves: { leaves.items ≡ leaf_labels (map (λ n. n.items) names.terminals.now) } by { Prim.hlevel props },
-    ghost of_nodes: { nodes.items ≡ node_labels (map rule_from names.rules.now) } by { Prim.hlevel props },
-    ghost of_no_terminal: { nameless_leaf ≡ leaf_label [] } by { Prim.hlevel props },
-    ghost of_no_rule: { nameless_node ≡ node_label [] } by { Prim.hlevel props },
+    ghost leaves_are: { leaves.items ≡ leaf_labels (map (λ n. n.items) names.terminals.now) } by { Prim.hlevel props },
+    ghost nodes_are: { nodes.items ≡ node_labels (map rule_from names.rules.now) } by { Prim.hlevel props },
+    ghost nameless_leaf_is: { nameless_leaf ≡ leaf_label [] } by { Prim.hlevel props },
+    ghost nameless_node_is: { nameless_node ≡ node_label [] } by { Prim.hlevel props },
 }
 
 impl<'a> Labels<'a> {
