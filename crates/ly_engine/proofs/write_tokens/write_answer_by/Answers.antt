@@ -59,7 +59,8 @@ returns-clause-answered g c =
       told.0,
       subst (λ (e : End). IsAnswer (defined file.names) file.rules.items file.actions.items c.args.text.now e told.0)
           (sym c.token_end.ensures) (answer_of (defined file.names) file.rules.items file.actions.items
-          c.in_ok-labels.labels.actions.now (record { walk = g.S.Steps.walk c.args.steps; cut = g.S.Steps.cut_of c.args.steps }) _
+          c.in_ok-labels.labels.actions.now
+          (record { walk = g.S.Steps.walk c.args.steps; cut = g.S.Steps.cut_of c.args.steps }) _
           c.new-lexer.result.place c.args.text.now c.in_ok-end.end told.0 c.requires
           (scanner_of (g.S.Steps.walk c.args.steps) (g.S.Steps.walk c.new-lexer.result.steps)
           (g.S.Steps.cut_of c.args.steps) (g.S.Steps.cut_of c.new-lexer.result.steps)
