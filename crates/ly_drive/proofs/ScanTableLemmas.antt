@@ -12,7 +12,8 @@ use Rattle.ly_base.specs.declared.numbers.RuleNo.{RuleNo}
 use Rattle.ly_base.specs.declared.numbers.StateNo.{StateNo}
 use Rattle.ly_pack.specs.Rows.{Comb, Entries, Used, cell, comb_entry, grid_of}
 use Rattle.ly_pack.proofs.GridLemmas.{cell-grid_of, cell-grid_of_past}
-use Rattle.ly_scan.specs.StateRows.{row_entry}
+use Rattle.ly_scan.specs.StateRows.{row_entry, state_at}
+use Rattle.ly_scan.specs.declared.state_rows.RowStart.{RowStart}
 use Rattle.ly_tables.proofs.EntryLemmas.{comb_entry_used}
 use Rattle.ly_tables.specs.Ranges.{AreStartsWithin}
 use Rattle.ly_tables.specs.Values.{starts_from}
@@ -101,6 +102,11 @@ next_within t p state byte at class next h view there lt is_at is e =
     let low : state < length t.accepted.items = omega (arith, states_of t p view) in
     subst (λ n. next < n) (states_of t p view)
     (subst (λ o. IfSome o (λ n. n < length t.accepted.items)) (sym e) (h.targets state class low lies))
+
+pub row_within : (o : Option RowStart) (n : ℕ) → ((s : ℕ) → Some s ≡ option_map state_at o → s < n)
+    → IfSome o (λ r. state_at r < n)
+row_within None n h = tt
+row_within (Some r) n h = h (state_at r) refl
 
 -- where a condition begins
 pub starts_at : (t : Inside) (p : ScanPart) (conditions : List starts.Starts) (k : ℕ) (c : starts.Starts)

@@ -1,12 +1,14 @@
+ghost use Rattle.std.specs.Bool.{OnTrue};
 ghost use Rattle.std.specs.Prelude.{◌≡◌, ◌<◌, ◌≤◌, ◌*◌, ℕ, length, slice_get, IfOk, IfSome, Some, option_map};
+ghost use Rattle.ly_base.specs.declared.cut.Cut.TheVariants.{Whole};
 ghost use Rattle.ly_drive.specs.ScanPart.{condition_in, cut_in, next_in, rule_in, start_in, states_from, terminal_in};
 ghost use Rattle.ly_pack.specs.Rows.{comb_entry, Used};
-ghost use Rattle.ly_scan.specs.StateRows.{row_entry};
+ghost use Rattle.ly_scan.specs.StateRows.{row_entry, state_at, Begins};
 ghost use Rattle.ly_base.specs.declared.numbers.StateNo as number;
 
 use ly_base::{Cut, Emitted, OutOfMemory, RuleNo, StateNo, Sym};
 use ly_pack::{Comb, Rows};
-use ly_scan::StateRows;
+use ly_scan::{RowStart, StateRows};
 use ly_tables::{ScanRule, Starts};
 use std::alloc::Global;
 use std::marker::Model;
@@ -55,14 +57,25 @@ impl ScanTable {
         }
     }
 
-    /// Where a byte leads from a state.
-    pub(crate) fn next(&self, state: StateNo, byte: u8) -> Option<StateNo>
+    /// Where the row of a state begins.
+    pub(crate) fn row(&self, state: StateNo) -> RowStart
         requires { state.0 < length self.now.accepted }
-        ensures is { option_map (λ s. s.0) result ≡ next_in self.now state.0 byte }
-        ensures within { IfSome result (λ s. s.0 < length self.now.accepted) }
+        ensures state { state_at result ≡ state.0 }
+        ensures begins { Begins result }
+    {
+        self.rows.row(state.0)
+    }
+
+    /// Where a byte leads from a state.
+    pub(crate) fn next(&self, at: RowStart, byte: u8) -> Option<RowStart>
+        requires begins { Begins at }
+        requires there { state_at at < length self.now.accepted }
+        ensures is { option_map state_at result ≡ next_in self.now (state_at at) byte }
+        ensures begins { IfSome result Begins }
+        ensures within { IfSome result (λ next. state_at next < length self.now.accepted) }
     {
         let class = self.classes[usize::from(byte)];
-        Some(StateNo(self.rows.next(state.0, class)?))
+        self.rows.next(at, class)
     }
 
     /// The rule of a state, if it has one.
@@ -80,6 +93,21 @@ impl ScanTable {
             Some(rule) => rule.cut,
             None => Cut::Whole,
         }
+    }
+
+    /// Whether no rule has a cut. It may say no where there are more rules than numbers.
+    pub(crate) fn is_uncut(&self) -> bool
+        ensures { OnTrue result ((rule : ℕ) → cut_in self.now rule ≡ Whole) }
+    {
+        let Ok(count) = u32::try_from(self.rules.len()) else {
+            return false;
+        };
+        for number in 0..count {
+            if self.cut(RuleNo(number)) != Cut::Whole {
+                return false;
+            }
+        }
+        true
     }
 
     /// The condition that a rule sets, if it sets one.

@@ -1,11 +1,14 @@
-ghost use Rattle.std.specs.Prelude.{◌≡◌, ◌<◌, length, IfSome, Some, option_map};
+ghost use Rattle.std.specs.Prelude.{◌≡◌, ◌<◌, ℕ, length, IfSome, Some, option_map};
+ghost use Rattle.std.specs.Bool.{OnTrue};
 ghost use Rattle.std.proofs.Props.{props};
+ghost use Rattle.ly_base.specs.declared.cut.Cut.TheVariants.{Whole};
 ghost use Rattle.ly_drive.specs.ScanPart.{cut_in, start_in, states_in};
+ghost use Rattle.ly_scan.specs.StateRows.{state_at, Begins};
 ghost use Rattle.ly_scan.specs.StateWalk.{ahead_of, ahead_of-ended, state_walk, BeginsAlways};
 
 use crate::scan_table::ScanTable;
 use ly_base::{Cut, RuleNo, StateNo};
-use ly_scan::Steps;
+use ly_scan::{RowStart, Steps};
 
 /// The walk over the states of a table set's scanner.
 #[derive(Drop)]
@@ -14,8 +17,11 @@ pub(crate) struct TableWalk<'a> {
     table: &'a ScanTable,
     /// Where the initial condition begins, if that is so at the start of a line and elsewhere.
     initial: Option<StateNo>,
+    /// Whether no rule is known to have a cut, so that none is looked up.
+    uncut: bool,
     ghost begun: { BeginsAlways (states_in table.now) (option_map (λ s. s.0) initial) } by { Prim.hlevel props },
     ghost known: { IfSome initial (λ s. s.0 < length table.now.accepted) } by { Prim.hlevel props },
+    ghost whole: { OnTrue uncut ((rule : ℕ) → cut_in table.now rule ≡ Whole) } by { Prim.hlevel props },
 }
 
 impl<'a> TableWalk<'a> {
@@ -26,6 +32,7 @@ impl<'a> TableWalk<'a> {
         TableWalk {
             table,
             initial: initial(table),
+            uncut: table.is_uncut(),
         }
     }
 }
@@ -45,33 +52,37 @@ fn initial(table: &ScanTable) -> Option<StateNo>
 }
 
 impl Steps for TableWalk<'_> {
-    type At = StateNo;
+    type At = RowStart;
 
     ghost walk = { λ w. state_walk (states_in w.table.now) };
 
-    ghost ahead = { λ w at. ahead_of (states_in w.table.now) (Some at.0) };
+    ghost ahead = { λ w at. ahead_of (states_in w.table.now) (Some (state_at at)) };
 
-    ghost stands = { λ w at. at.0 < length w.table.now.accepted };
+    ghost stands = { λ w at. Begins at × (state_at at < length w.table.now.accepted) };
 
     ghost cut_of = { λ w. cut_in w.table.now };
 
-    fn start(&mut self, condition: u32, at_line_start: bool) -> Option<StateNo> {
-        match self.initial {
+    fn start(&mut self, condition: u32, at_line_start: bool) -> Option<RowStart> {
+        let state = match self.initial {
             // so a walk needn't wait for the byte before it
-            Some(state) if condition == 0 => Some(state),
-            _ => self.table.start(condition, at_line_start),
-        }
+            Some(state) if condition == 0 => state,
+            _ => self.table.start(condition, at_line_start)?,
+        };
+        Some(self.table.row(state))
     }
 
-    fn step(&mut self, at: StateNo, byte: u8) -> Option<StateNo> {
+    fn step(&mut self, at: RowStart, byte: u8) -> Option<RowStart> {
         self.table.next(at, byte)
     }
 
-    fn accept(&self, at: StateNo) -> Option<RuleNo> {
-        self.table.rule(at)
+    fn accept(&self, at: RowStart) -> Option<RuleNo> {
+        self.table.rule(StateNo(at.state()))
     }
 
     fn cut(&self, rule: RuleNo) -> Cut {
+        if self.uncut {
+            return Cut::Whole;
+        }
         self.table.cut(rule)
     }
 

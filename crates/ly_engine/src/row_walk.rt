@@ -1,13 +1,16 @@
-ghost use Rattle.std.specs.Prelude.{◌≡◌, ◌<◌, ◌*◌, length, IfOk, IfSome, Some};
+ghost use Rattle.std.specs.Prelude.{◌≡◌, ◌<◌, ◌*◌, ℕ, length, true, IfOk, IfSome, Some};
 ghost use Rattle.std.proofs.Props.{props};
+ghost use Rattle.std.specs.Bool.{OnTrue};
+ghost use Rattle.ly_base.specs.declared.cut.Cut.TheVariants.{Whole};
 ghost use Rattle.ly_engine.specs.PositionWalk.{cut_in};
 ghost use Rattle.ly_engine.specs.RowWalk.{row_walk, rows_of, AreRowsOf};
+ghost use Rattle.ly_scan.specs.StateRows.{state_at, Begins};
 ghost use Rattle.ly_scan.specs.StateWalk.{ahead_of, ahead_of-ended, BeginsAlways};
 ghost use Rattle.ly_subset.specs.Automaton.{start_of};
 
 use ly_base::{Cut, OutOfMemory, RuleNo};
 use ly_ere::Rule;
-use ly_scan::{StateRows, Steps};
+use ly_scan::{RowStart, StateRows, Steps};
 use ly_subset::Dfa;
 use std::alloc::Global;
 
@@ -22,10 +25,13 @@ pub struct RowWalk<'a> {
     initial: Option<u32>,
     /// Where each byte leads from each state.
     rows: StateRows,
+    /// Whether no rule is known to have a cut, so that none is looked up.
+    uncut: bool,
     ghost begun: { BeginsAlways (rows_of dfa.now) initial } by { Prim.hlevel props },
     ghost known: { IfSome initial (λ s. s < length dfa.now.rules) } by { Prim.hlevel props },
     ghost counted: { length rows ≡ length dfa.now.rules * 256 } by { Prim.hlevel props },
     ghost spread: { AreRowsOf dfa.now rows } by { Prim.hlevel props },
+    ghost whole: { OnTrue uncut ((rule : ℕ) → cut_in rules.now rule ≡ Whole) } by { Prim.hlevel props },
 }
 
 impl<'a> RowWalk<'a> {
@@ -39,6 +45,7 @@ impl<'a> RowWalk<'a> {
             rules,
             initial: initial(dfa),
             rows: spread(alloc, dfa)?,
+            uncut: are_uncut(rules),
         })
     }
 }
@@ -55,6 +62,18 @@ fn initial(dfa: &Dfa) -> Option<u32>
     } else {
         None
     }
+}
+
+/// Whether no rule has a cut.
+fn are_uncut(rules: &[Rule]) -> bool
+    ensures { OnTrue result ((rule : ℕ) → cut_in rules.now rule ≡ Whole) }
+{
+    for rule in rules {
+        if rule.pattern.cut != Cut::Whole {
+            return false;
+        }
+    }
+    true
 }
 
 /// The rows of an automaton, spread over all bytes.
@@ -76,33 +95,37 @@ fn spread(alloc: Global, dfa: &Dfa) -> Result<StateRows, OutOfMemory>
 }
 
 impl Steps for RowWalk<'_> {
-    type At = u32;
+    type At = RowStart;
 
     ghost walk = { λ w. row_walk w.dfa.now };
 
-    ghost ahead = { λ w at. ahead_of (rows_of w.dfa.now) (Some at) };
+    ghost ahead = { λ w at. ahead_of (rows_of w.dfa.now) (Some (state_at at)) };
 
-    ghost stands = { λ w at. at < length w.dfa.now.rules };
+    ghost stands = { λ w at. Begins at × (state_at at < length w.dfa.now.rules) };
 
     ghost cut_of = { λ w. cut_in w.rules.now };
 
-    fn start(&mut self, condition: u32, at_line_start: bool) -> Option<u32> {
-        match self.initial {
+    fn start(&mut self, condition: u32, at_line_start: bool) -> Option<RowStart> {
+        let state = match self.initial {
             // so a walk needn't wait for the byte before it
-            Some(state) if condition == 0 => Some(state),
-            _ => self.dfa.start(condition, at_line_start),
-        }
+            Some(state) if condition == 0 => state,
+            _ => self.dfa.start(condition, at_line_start)?,
+        };
+        Some(self.rows.row(state))
     }
 
-    fn step(&mut self, at: u32, byte: u8) -> Option<u32> {
+    fn step(&mut self, at: RowStart, byte: u8) -> Option<RowStart> {
         self.rows.next(at, byte)
     }
 
-    fn accept(&self, at: u32) -> Option<RuleNo> {
-        self.dfa.rule(at)
+    fn accept(&self, at: RowStart) -> Option<RuleNo> {
+        self.dfa.rule(at.state())
     }
 
     fn cut(&self, rule: RuleNo) -> Cut {
+        if self.uncut {
+            return Cut::Whole;
+        }
         match self.rules.get(rule.0 as usize) {
             Some(rule) => rule.pattern.cut,
             None => Cut::Whole,

@@ -1,6 +1,7 @@
 pub mod Cuts
 pub mod Lexer
 pub mod Matching
+pub mod Private
 pub mod StateRows
 pub mod StateWalk
 pub mod Walk

@@ -15,5 +15,5 @@ mod steps;
 
 pub use lexer::Lexer;
 pub use matching::{Match, next_match};
-pub use state_rows::StateRows;
+pub use state_rows::{RowStart, StateRows};
 pub use steps::Steps;

@@ -1,74 +1,118 @@
-ghost use Rattle.std.specs.Prelude.{◌≡◌, ◌<◌, ◌+◌, ◌*◌, ◌&&◌, ℕ, length, nat_eq, if◌then◌else◌, None, IfOk, IfSome};
-ghost use Rattle.ly_base.specs.Entry.{target_of};
-ghost use Rattle.ly_scan.specs.StateRows.{row_entry};
+ghost use Rattle.std.specs.Prelude.{◌≡◌, ◌<◌, ◌≤◌, ◌+◌, ◌*◌, ◌^◌, ◌&&◌, ℕ, length, nat_eq, if◌then◌else◌, None, IfOk};
+ghost use Rattle.std.specs.Prelude.{IfSome, option_map};
+ghost use Rattle.ly_scan.specs.StateRows.{row_entry, state_at, Begins};
+ghost use Rattle.ly_scan.specs.Private.StateRows.{target_in, IsStart};
 
-use ly_base::{Entry, OutOfMemory};
+use ly_base::OutOfMemory;
 use std::alloc::Global;
 use std::marker::Model;
 
 /// How many entries a row has: one for each byte, or for each class of bytes that there may be.
-const WIDTH: usize = 256;
+const WIDTH: u32 = 256;
+
+/// The entry that leads nowhere: no row begins there.
+const NOWHERE: u32 = 1;
+
+/// Where a walk stands: where the row of its state begins among the entries.
+#[derive(Clone, Copy, Debug, PartialEq, Eq)]
+pub struct RowStart {
+    /// How many entries stand before it.
+    pub(crate) start: u32,
+}
+
+impl RowStart {
+    /// The number of the state.
+    pub fn state(self) -> u32
+        ensures { result ≡ state_at self }
+    {
+        self.start / WIDTH
+    }
+}
 
 /// Where the states of a scanner lead, as they are walked: for each state a row of 256 columns, which stand for bytes
-/// or for classes of bytes. So a row is found by a shift, and no multiplication lies between a byte and the next.
-/// Entries of four bytes are walked faster than those of eight.
+/// or for classes of bytes. An entry says where the next row begins, so that an addition and one index lie between a
+/// byte and the next.
 #[derive(Drop)]
 pub struct StateRows {
-    /// The entries, row after row.
-    entries: Vec<Entry>,
+    /// The entries, row after row: where the row of the next state begins, or `NOWHERE`.
+    entries: Vec<u32>,
 }
 
 impl Model for StateRows {
     ghost use Rattle.std.specs.Prelude.{ℕ, List, Option, map};
-    ghost use Rattle.ly_base.specs.Entry.{target_of};
+    ghost use Rattle.ly_scan.specs.Private.StateRows.{target_in, AreRows};
 
     ghost Value = { List (Option ℕ) };
 
-    ghost view = { λ r. map target_of r.entries.items };
+    ghost view = { λ r. map target_in r.entries.items };
+
+    ghost invariant = { λ r. AreRows r.entries.items };
 }
 
 impl StateRows {
-    /// Rows without an entry for so many states. It fails where memory runs out.
+    /// Rows without an entry for so many states. It fails where memory runs out, and past 2^24 states.
     pub fn new(alloc: Global, states: usize) -> Result<StateRows, OutOfMemory>
         ensures count { IfOk result (λ r. length r ≡ states * 256) }
         ensures none { IfOk result (λ r. (state column : ℕ) → row_entry r state column ≡ None) }
     {
-        let Some(len) = states.checked_mul(WIDTH) else {
+        if 1 << 24 < states {
             return Err(OutOfMemory);
-        };
+        }
         Ok(StateRows {
-            entries: vec![in alloc; Entry::none(); len]?,
+            entries: vec![in alloc; NOWHERE; states * WIDTH as usize]?,
         })
     }
 
-    /// Puts where a column leads from a state, or that it leads nowhere. The greatest number is no state's.
+    /// Puts where a column leads from a state, or that it leads nowhere.
     pub fn set(&mut self, state: u32, column: usize, next: Option<u32>)
-        requires next { IfSome next (λ n. n < u32.MAX) }
+        requires next { IfSome next (λ n. n * 256 < length self.old) }
         requires column { column < 256 }
         requires there { state * 256 + column < length self.old }
         ensures count { length self.new ≡ length self.old }
         ensures entries { (s c : ℕ) → c < 256 → row_entry self.new s c
             ≡ (if nat_eq s state && nat_eq c column then next else row_entry self.old s c) }
     {
-        self.entries[state as usize * WIDTH + column] = entry_to(next);
+        let entry = &mut self.entries[state as usize * WIDTH as usize + column];
+        *entry = start_of(next);
+    }
+
+    /// Where a walk stands in a state.
+    pub fn row(&self, state: u32) -> RowStart
+        requires { state * 256 < length self.now }
+        ensures state { state_at result ≡ state }
+        ensures begins { Begins result }
+    {
+        // rows of more entries than have a number are never made
+        let _ = &self.entries;
+        RowStart {
+            start: state * WIDTH,
+        }
     }
 
     /// Where a column leads from a state: to a state, or nowhere.
-    pub fn next(&self, state: u32, column: u8) -> Option<u32>
-        requires { state * 256 + column < length self.now }
-        ensures { result ≡ row_entry self.now state column }
+    pub fn next(&self, at: RowStart, column: u8) -> Option<RowStart>
+        requires begins { Begins at }
+        requires there { state_at at * 256 + column < length self.now }
+        ensures is { option_map state_at result ≡ row_entry self.now (state_at at) column }
+        ensures begins { IfSome result Begins }
     {
-        self.entries[state as usize * WIDTH + usize::from(column)].state()
+        let start = self.entries[at.start as usize + usize::from(column)];
+        if start == NOWHERE {
+            None
+        } else {
+            Some(RowStart { start })
+        }
     }
 }
 
 /// The entry that leads to a state, or nowhere.
-fn entry_to(next: Option<u32>) -> Entry
-    requires { IfSome next (λ n. n < u32.MAX) }
-    ensures { target_of result ≡ next }
+fn start_of(next: Option<u32>) -> u32
+    requires { IfSome next (λ n. n * 256 < 2 ^ 32) }
+    ensures leads { target_in result ≡ next }
+    ensures start { IsStart result }
 {
     match next {
-        Some(next) => Entry::to(next),
-        None => Entry::none(),
+        Some(next) => next * WIDTH,
+        None => NOWHERE,
     }
 }
