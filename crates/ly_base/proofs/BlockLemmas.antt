@@ -2,7 +2,7 @@
 use Rattle.std.proofs.Common.{◌≡◌, ◌∙◌, ◌+◌, ◌≤◌, ◌^◌, ◌%◌, ◌++◌, ◌∷◌, [], ℕ, zero, suc, List, length, map, take}
 use Rattle.std.proofs.Common.{Bool, true, false, ◌||◌, not, bit_or, min, ap, ap₂, sym, refl, arith, length-take}
 use Rattle.std.proofs.Common.{eqb}
-use Rattle.std.proofs.lemmas.List.{length-map, take-take}
+use Rattle.std.proofs.lemmas.List.{append-nil, length-map, length-take-le, take-append-le, take-take}
 use Rattle.std.proofs.Math.Seq.{take-append-add}
 use Rattle.std.specs.Prelude.{cond, ltb}
 use Rattle.std.specs.List.{prefix_len}
@@ -116,6 +116,22 @@ pub front_block : (room block front : List ℕ) (at : ℕ) → length block ≡ 
     → take (at + length front) (put_chunk at room (take 16 block)) ≡ take at room ++ front
 front_block room block front at whole within short is =
     block_at room block at (length front) (omega (arith, whole)) within short ∙ ap (λ ys. take at room ++ ys) is
+
+-- a block leaves what stands before it
+pub kept_by_block : (room block : List ℕ) (at : ℕ) → length block ≡ 16 → at + 16 ≤ length room
+    → take at (put_chunk at room (take 16 block)) ≡ take at room
+kept_by_block room block at whole within
+    = ap (λ n. take n (put_chunk at room (take 16 block))) (omega arith)
+    ∙ block_at room block at 0 (omega (arith, whole)) within (omega arith) ∙ append-nil (take at room)
+
+-- and so does what is written further on
+pub kept_before : (room new : List ℕ) (at from run : ℕ) (text : List ℕ) → at ≤ from → from ≤ length room
+    → take (from + run) new ≡ take from room ++ text → take at new ≡ take at room
+kept_before room new at from run text before within written =
+    sym (take-take at (from + run) new (omega (arith, before)))
+    ∙ ap (take at) written
+    ∙ take-append-le at (take from room) text (omega (arith, length-take-le from room within, before))
+    ∙ take-take at from room before
 
 -- a block at a place, as far as its bytes stand for themselves
 pub plain_block : (room bytes : List ℕ) (at run : ℕ) → 16 ≤ length bytes → at + 16 ≤ length room

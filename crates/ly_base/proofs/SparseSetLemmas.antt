@@ -1,5 +1,5 @@
 -- Lemmas on sets whose members stand in the order in which they came.
-use Rattle.std.proofs.Common.{◌≡◌, ◌≢◌, ℕ, ◌+◌, ◌<◌, ◌≤◌, ◌++◌, List, [], ◌∷◌, length, take, get_or, set, nat_eq, eqb}
+use Rattle.std.proofs.Common.{◌≡◌, ◌≢◌, ℕ, ◌+◌, ◌^◌, ◌<◌, ◌≤◌, ◌++◌, List, [], ◌∷◌, length, take, get_or, set, nat_eq, eqb}
 use Rattle.std.proofs.Common.{eqb-true, Bool, not, true, false, ap, sym, subst, ◌∙◌, arith, inl, inr, ◌⊎◌, length-set}
 use Rattle.std.proofs.Common.{length-take-le, length-append, get_or-take, get_or-set_same, get_or-set_other, All}
 use Rattle.std.proofs.Common.{Contains}
@@ -80,18 +80,18 @@ members_once slots places size placed i j d before within same =
     at : (k : ℕ) → k < size → get_or (take size slots) k d ≡ get_or slots k 0
     at k used = get_or_default (take size slots) k d 0 (omega (arith, long)) ∙ get_or-take size slots k 0 used
 
--- a set has room for a number that is not a member
-room_left : (slots places members : List ℕ) (size n : ℕ) → IsPlaced slots places size → take size slots ≡ members
-    → n < length places
-    → list_any (nat_eq n) members ≡ false → size < length slots
-room_left slots places members size n placed view less new =
+-- members below a bound leave room below it for a number that isn't one
+room_below : (slots places members : List ℕ) (size n bound : ℕ) → IsPlaced slots places size
+    → take size slots ≡ members → ((k : ℕ) → k < size → get_or slots k 0 < bound) → n < bound
+    → list_any (nat_eq n) members ≡ false → size < bound
+room_below slots places members size n bound placed view below less new =
     let distinct : IsDistinct eqb more
     = IsDistinct-push nat_eq_equiv (take size slots) n (IsDistinct-from_AllPairs Decides-eqb (take size slots)
     (members_once slots places size placed)) (rw view new) in
-    let count : length more ≤ length places = length-le_from_distinct_below more (length places) distinct
-    (λ q h. All-contains (λ m. m < length places) more q
-    (All-push (λ m. m < length places) (take size slots) n each less) (Contains-from_any eqb-true q more h)) in
-    omega (arith, placed.same_bound, length-append (take size slots) (n ∷ []), long)
+    let count : length more ≤ bound = length-le_from_distinct_below more bound distinct
+    (λ q h. All-contains (λ m. m < bound) more q
+    (All-push (λ m. m < bound) (take size slots) n each less) (Contains-from_any eqb-true q more h)) in
+    omega (arith, length-append (take size slots) (n ∷ []), long)
   where
     more : List ℕ
     more = take size slots ++ n ∷ []
@@ -99,21 +99,25 @@ room_left slots places members size n placed view less new =
     long : length (take size slots) ≡ size
     long = length-take-le size slots placed.room
 
-    each : All (λ m. m < length places) (take size slots)
-    each = All-from_get_or (λ m. m < length places) (take size slots) 0
-        (λ i within. rw (get_or-take size slots i 0 (omega (arith, long))) (placed.within i (omega (arith, long))))
+    each : All (λ m. m < bound) (take size slots)
+    each = All-from_get_or (λ m. m < bound) (take size slots) 0
+        (λ i within. rw (get_or-take size slots i 0 (omega (arith, long))) (below i (omega (arith, long))))
 
 -- one more member in the next slot, with its place
 pub placed_more : (slots places : List ℕ) (size n : ℕ) → IsPlaced slots places size → n < length places
-    → list_any (nat_eq n) (take size slots) ≡ false → size < length slots
+    → n < 2 ^ 32 → list_any (nat_eq n) (take size slots) ≡ false → size < length slots
     → IsPlaced (set slots size n) (set places n size) (size + 1)
-placed_more slots places size n placed less new room = record {
+placed_more slots places size n placed less number new room = record {
   same_bound = length-set slots size n ∙ placed.same_bound ∙ sym (length-set places n size);
   room = omega (arith, length-set slots size n);
   within = λ k used. rw (length-set places n size) (elim (cases_eq k size) [
     | inl last ↦ rw (last, get_or-set_same slots size n 0 room) less
     | inr other ↦ rw (get_or-set_other slots size k n 0 other) (placed.within k (omega (arith, other)))
   ]);
+  numbers = λ k used. elim (cases_eq k size) [
+    | inl last ↦ rw (last, get_or-set_same slots size n 0 room) number
+    | inr other ↦ rw (get_or-set_other slots size k n 0 other) (placed.numbers k (omega (arith, other)))
+  ];
   placed = λ k used. elim (cases_eq k size) [
     | inl last ↦ rw (last, get_or-set_same slots size n 0 room) (get_or-set_same places n size 0 less)
     | inr other ↦
@@ -143,9 +147,18 @@ members_more slots members size n view room new
 pub room_of : (s : Inside) (now : Chosen) (n : ℕ) → IsPlaced s.slots.items s.places.items s.size → chosen s ≡ now
     → n < now.below → list_any (nat_eq n) now.members ≡ false
     → s.size < length s.slots.items
-room_of s now n placed view less new =
-    room_left s.slots.items s.places.items now.members s.size n placed (ap (λ (t : Chosen). t.members) view)
-    (omega (arith, ap (λ (t : Chosen). t.below) view)) new
+room_of s now n placed view less new = let members = ap (λ (t : Chosen). t.members) view in omega (
+  arith,
+  placed.same_bound,
+  room_below s.slots.items s.places.items now.members s.size n (length s.places.items) placed members placed.within
+      (omega (arith, ap (λ (t : Chosen). t.below) view)) new,
+)
+
+-- and its size is a number that a place holds
+pub size_of : (s : Inside) (now : Chosen) (n : ℕ) → IsPlaced s.slots.items s.places.items s.size → chosen s ≡ now
+    → n < 2 ^ 32 → list_any (nat_eq n) now.members ≡ false → s.size < 2 ^ 32
+size_of s now n placed view less new = room_below s.slots.items s.places.items now.members s.size n (2 ^ 32) placed
+    (ap (λ (t : Chosen). t.members) view) placed.numbers less new
 
 -- a number that is added, and those before it
 with_member-old : (ms : List ℕ) (n q : ℕ) → Contains ms q → Contains (with_member ms n) q

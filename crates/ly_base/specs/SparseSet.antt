@@ -1,5 +1,5 @@
 -- Sets of numbers below a bound, by the order in which their members came (Briggs and Torczon 1993).
-use Rattle.std.specs.Prelude.{◌≡◌, ℕ, ◌<◌, ◌≤◌, ◌++◌, List, [], ◌∷◌, length, take, fold, slice_index, nat_eq}
+use Rattle.std.specs.Prelude.{◌≡◌, ℕ, ◌<◌, ◌≤◌, ◌^◌, ◌++◌, List, [], ◌∷◌, length, take, fold, slice_index, nat_eq}
 use Rattle.std.specs.Prelude.{if◌then◌else◌}
 use Rattle.std.specs.List.{list_any}
 use Rattle.ly_base.specs.declared.sparse_set.SparseSet.TheInside.{Inside}
@@ -17,11 +17,13 @@ with_member members number = if list_any (nat_eq number) members then members el
 abbrev pub with_members : List ℕ → List ℕ → List ℕ
 with_members members numbers = fold with_member members numbers
 
--- The first `size` of the slots are members, which are below the bound, and the place of each is known.
+-- The first `size` of the slots are members, which are below the bound and numbers of 32 bits, and the place of
+-- each is known.
 pub record IsPlaced (slots places : List ℕ) (size : ℕ) : Type 0 where
   pub same_bound : length slots ≡ length places
   pub room : size ≤ length slots
   pub within : (k : ℕ) → k < size → slice_index slots k < length places
+  pub numbers : (k : ℕ) → k < size → slice_index slots k < 2 ^ 32
   pub placed : (k : ℕ) → k < size → slice_index places (slice_index slots k) ≡ k
 
 abbrev pub chosen : Inside → Chosen

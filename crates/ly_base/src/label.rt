@@ -1,4 +1,4 @@
-ghost use Rattle.std.specs.Prelude.{◌≡◌, ◌++◌, ◌∷◌, [], length, take, IfOk};
+ghost use Rattle.std.specs.Prelude.{◌≡◌, ◌++◌, ◌∷◌, ◌≤◌, [], length, take, IfOk, IfSome};
 ghost use Rattle.ly_base.specs.Text.{before_leaf, named};
 
 use crate::front::{BLOCK, Front};
@@ -17,13 +17,13 @@ pub struct Label {
 }
 
 impl Model for Label {
-    ghost use Rattle.std.specs.Prelude.{ℕ, List, ◌≤◌, take, length};
+    ghost use Rattle.std.specs.Prelude.{ℕ, List, ◌≤◌, ◌+◌, take, length};
 
     ghost Value = { List ℕ };
 
     ghost view = { λ l. take l.count l.bytes.items };
 
-    ghost invariant = { λ l. l.count ≤ length l.bytes.items };
+    ghost invariant = { λ l. l.count + 16 ≤ length l.bytes.items };
 }
 
 impl Label {
@@ -59,6 +59,19 @@ impl Label {
         ensures { result.now ≡ self.now }
     {
         &self.bytes[..self.count]
+    }
+
+    /// A block of 16 bytes that begins with it, where it has no more.
+    pub(crate) fn block(&self) -> Option<&[u8]>
+        ensures block { IfSome result (λ b. length b.now ≡ 16) }
+        ensures front { IfSome result (λ b. take (length self.now) b.now ≡ self.now) }
+        ensures short { IfSome result (λ b. length self.now ≤ 16) }
+    {
+        if self.count <= BLOCK {
+            Some(&self.bytes[..BLOCK])
+        } else {
+            None
+        }
     }
 
     /// Its bytes, with the room behind them.

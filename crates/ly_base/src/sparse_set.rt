@@ -11,7 +11,7 @@ pub struct SparseSet {
     /// Room for the members; they stand in the first `size` slots.
     slots: Vec<u32>,
     /// The slot in which each number stood last.
-    places: Vec<usize>,
+    places: Vec<u32>,
     /// How many members there are.
     size: usize,
 }
@@ -56,7 +56,7 @@ impl SparseSet {
         requires { number < self.now.below }
         ensures { result ≡ list_any (nat_eq number) self.now.members }
     {
-        let place = self.places[number as usize];
+        let place = self.places[number as usize] as usize;
         place < self.size && self.slots[place] == number
     }
 
@@ -78,7 +78,7 @@ impl SparseSet {
             return false;
         }
         self.slots[self.size] = number;
-        self.places[number as usize] = self.size;
+        self.places[number as usize] = self.size as u32;
         self.size += 1;
         true
     }

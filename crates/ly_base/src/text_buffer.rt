@@ -1,4 +1,4 @@
-ghost use Rattle.std.specs.Prelude.{◌≡◌, ◌≤◌, ◌+◌, ◌*◌, ◌++◌, [], ◌∷◌, length, take, IfOk, OnOk};
+ghost use Rattle.std.specs.Prelude.{◌≡◌, ◌≤◌, ◌+◌, ◌*◌, ◌++◌, [], ◌∷◌, length, take, IfOk, IfSome, None, OnOk};
 ghost use Rattle.std.specs.Bool.{OnTrue};
 ghost use Rattle.std.specs.List.{prefix_len};
 ghost use Rattle.ly_base.specs.Bytes.{double_quote};
@@ -16,6 +16,9 @@ use std::simd::prelude::*;
 /// How many bytes the room has.
 const ROOM: usize = 16_384;
 
+/// How many bytes a label and a text take at most that are printed as a block each, with a quote and a newline.
+pub(crate) const SHORT_ROOM: usize = 34;
+
 /// How many bytes a label or a text has at most that is printed into a room at once.
 const SHORT: usize = 512;
 
@@ -32,13 +35,13 @@ pub struct TextBuffer {
 }
 
 impl Model for TextBuffer {
-    ghost use Rattle.std.specs.Prelude.{ℕ, List, ◌++◌, ◌≤◌, take, length};
+    ghost use Rattle.std.specs.Prelude.{ℕ, List, ◌≡◌, ◌++◌, ◌≤◌, take, length};
 
     ghost Value = { List ℕ };
 
     ghost view = { λ b. b.text.items ++ take b.used b.room.items };
 
-    ghost invariant = { λ b. b.used ≤ length b.room.items };
+    ghost invariant = { λ b. (length b.room.items ≡ 16384) × (b.used ≤ 16384) };
 }
 
 impl TextBuffer {
@@ -99,11 +102,13 @@ impl TextBuffer {
     pub fn push_quoted(&mut self, label: &Label, text: &Front<'_>) -> Result<(), AllocError>
         ensures { OnOk result (self.new ≡ self.old ++ quoted label.now text.now) }
     {
-        if !fits(self.room.len() - self.used, label.len(), text.len()) {
-            return self.push_quoted_behind(label.bytes(), text.bytes());
+        if self.used <= ROOM - SHORT_ROOM {
+            if let Some(end) = put_short(&mut self.room, self.used, label, text) {
+                self.used = end;
+                return Ok(());
+            }
         }
-        self.used = put_quoted(&mut self.room, self.used, &label.front(), text);
-        Ok(())
+        self.push_long(label, text.bytes, text.count)
     }
 
     /// The bytes of the whole text. It fails where memory runs out.
@@ -113,6 +118,20 @@ impl TextBuffer {
         let mut text = self.text;
         text.extend_from_slice(&self.room[..self.used])?;
         Ok(text)
+    }
+
+    /// Appends a label and as many of the bytes behind it as `push_quoted` appends of a text's.
+    #[inline(never)] // so that a short text has the registers
+    fn push_long(&mut self, label: &Label, bytes: &[u8], count: usize) -> Result<(), AllocError>
+        requires { count ≤ length bytes.now }
+        ensures { OnOk result (self.new ≡ self.old ++ quoted label.now (take count bytes.now)) }
+    {
+        let text = Front::new(bytes, count);
+        if !fits(self.room.len() - self.used, label.len(), count) {
+            return self.push_quoted_behind(label.bytes(), text.bytes());
+        }
+        self.used = put_quoted(&mut self.room, self.used, &label.front(), &text);
+        Ok(())
     }
 
     /// Appends bytes for which the room has no place left.
@@ -168,6 +187,36 @@ pub(crate) fn put_quoted(room: &mut [u8], at: usize, label: &Front<'_>, text: &F
     let labelled = put_front(room, at, label);
     let end = put_text(room, labelled, text);
     put(room, end, b'"')
+}
+
+/// Writes a label and a text behind it from a place on, where both are short and all bytes of the text stand for
+/// themselves, and answers where they end. So each is one block. Otherwise what stands before the place is kept.
+#[inline(always)] // as `put_quoted`
+pub(crate) fn put_short(
+    room: &mut [u8],
+    at: usize,
+    label: &Label,
+    text: &Front<'_>,
+) -> Option<usize>
+    requires { at + 33 ≤ length room.old }
+    ensures bytes { IfSome result (λ end. take end room.new ≡ take at room.old ++ quoted label.now text.now) }
+    ensures within { IfSome result (λ end. end ≤ at + 33) }
+    ensures kept { result ≡ None → take at room.new ≡ take at room.old }
+    ensures room { length room.new ≡ length room.old }
+{
+    if BLOCK < text.count {
+        return None;
+    }
+    let Some(block) = label.block() else {
+        return None;
+    };
+    put_block(room, at, block);
+    let labelled = at + label.len();
+    let run = put_plain(room, labelled, text.bytes, text.count);
+    if run < text.count {
+        return None;
+    }
+    Some(put(room, labelled + run, b'"'))
 }
 
 /// Writes a front from a place on as it is, and answers where it ends. A short one is one block.
@@ -237,8 +286,10 @@ fn put_plain(room: &mut [u8], at: usize, bytes: &[u8], most: usize) -> usize
     if bytes.len() < BLOCK {
         return 0;
     }
+    // looked at before it is copied, the block is loaded once
+    let run = plain_run(bytes);
     put_block(room, at, bytes);
-    plain_run(bytes).min(most)
+    run.min(most)
 }
 
 /// Copies a block to a place.

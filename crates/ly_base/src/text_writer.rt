@@ -1,4 +1,4 @@
-ghost use Rattle.std.specs.Prelude.{◌≡◌, ◌<◌, ◌+◌, ◌^◌, ℕ, List, [], Option, length, take};
+ghost use Rattle.std.specs.Prelude.{◌≡◌, ◌<◌, ◌≤◌, ◌+◌, ◌^◌, ℕ, List, [], Option, length, take};
 ghost use Rattle.std.specs.Prelude.{IfOk, IfErr, OnOk, OnErr, MatchResult};
 ghost use Rattle.std.specs.Io.KnownBytes.{Appends};
 ghost use Rattle.ly_base.specs.Device.{next_count};
@@ -8,7 +8,7 @@ ghost use Rattle.ly_base.specs.TextWriter.{bytes_of, IsAppended, IsCutShort, IsU
 use crate::device::Sink;
 use crate::front::Front;
 use crate::label::Label;
-use crate::text_buffer::{fits, put, put_bytes, put_escaped, put_quoted};
+use crate::text_buffer::{SHORT_ROOM, fits, put, put_bytes, put_escaped, put_quoted, put_short};
 use crate::whole::{WriteFault, write_whole};
 use itoa::Buffer;
 use std::alloc::{AllocError, Global};
@@ -30,14 +30,14 @@ pub struct TextWriter {
 }
 
 impl Model for TextWriter {
-    ghost use Rattle.std.specs.Prelude.{◌≤◌, take, length};
+    ghost use Rattle.std.specs.Prelude.{◌≡◌, ◌≤◌, take, length};
     ghost use Rattle.ly_base.specs.TextWriter.{Outgoing};
 
     ghost Value = { Outgoing };
 
     ghost view = { λ w. record { sent = w.sent; held = take w.used w.room.items } };
 
-    ghost invariant = { λ w. w.used ≤ length w.room.items };
+    ghost invariant = { λ w. (length w.room.items ≡ 65536) × (w.used ≤ 65536) };
 }
 
 impl TextWriter {
@@ -87,12 +87,13 @@ impl TextWriter {
         ensures no_failure { OnOk result (W.failures writer.new ≡ W.failures writer.old) }
         ensures failed { OnErr result (W.failures writer.new ≡ next_count (W.failures writer.old)) }
     {
-        if !fits(self.room.len() - self.used, label.len(), text.len()) {
-            return self.push_line_behind(writer, label.bytes(), text.bytes());
+        if self.used <= ROOM - SHORT_ROOM {
+            if let Some(end) = put_short(&mut self.room, self.used, label, text) {
+                self.used = put(&mut self.room, end, b'\n');
+                return Ok(());
+            }
         }
-        let end = put_quoted(&mut self.room, self.used, &label.front(), text);
-        self.used = put(&mut self.room, end, b'\n');
-        Ok(())
+        self.push_long_line(writer, label, text.bytes, text.count)
     }
 
     /// Appends the line that says at which byte no rule matches, counted from 0.
@@ -130,6 +131,33 @@ impl TextWriter {
     {
         let mut sent = self.sent;
         send(&mut sent, writer, &self.room[..self.used])
+    }
+
+    /// Appends a line of a label and as many of the bytes behind it as `push_quoted_line` appends of a text's.
+    #[inline(never)] // so that a short text has the registers
+    fn push_long_line<W: Sink>(
+        &mut self,
+        writer: &mut W,
+        label: &Label,
+        bytes: &[u8],
+        count: usize,
+    ) -> Result<(), WriteFault>
+        requires within { count ≤ length bytes.now }
+        requires countable { bytes_of self.old + length (quoted_line label.now (take count bytes.now)) < 2 ^ 64 }
+        ensures text { IsAppended self.old self.new (W.contents writer.old) (W.contents writer.new)
+            (quoted_line label.now (take count bytes.now)) result }
+        ensures counted { OnOk result (bytes_of self.new
+            ≡ bytes_of self.old + length (quoted_line label.now (take count bytes.now))) }
+        ensures no_failure { OnOk result (W.failures writer.new ≡ W.failures writer.old) }
+        ensures failed { OnErr result (W.failures writer.new ≡ next_count (W.failures writer.old)) }
+    {
+        let text = Front::new(bytes, count);
+        if !fits(self.room.len() - self.used, label.len(), count) {
+            return self.push_line_behind(writer, label.bytes(), text.bytes());
+        }
+        let end = put_quoted(&mut self.room, self.used, &label.front(), &text);
+        self.used = put(&mut self.room, end, b'\n');
+        Ok(())
     }
 
     /// Appends bytes for which the room has no place left.
