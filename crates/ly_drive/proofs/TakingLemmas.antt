@@ -108,15 +108,13 @@ module _ (T : Tables) (text : List ℕ) where
     told,
   )
 
-  -- a call that takes a lexeme where the lexer stands
-  pub takes : (here : Scanner) (q at : Place) (s r : Parse) (t : Lexeme)
-      (result : Result (Option (Outcome × Vec ℕ Global)) DriveFault) → here ≡ scanner_in T.scanner → at ≡ q
+  -- a call that takes a lexeme where the run stands
+  pub takes : (here : Scanner) (q : Place) (s r : Parse) (t : Lexeme)
+      (result : Result (Option (Outcome × Vec ℕ Global)) DriveFault) → here ≡ scanner_in T.scanner
       → StandsAt T.scanner T.machine text q s → IsLexemeAt here q t
-      → ((text : List ℕ) → StandsAt T.scanner T.machine text at s → IsLexemeAt (scanner_in T.scanner) at t
-      → IsTaken T text at t r result) → IsTaken T text at t r result
-  takes here q at s r t result same place h is call = call text
-      (subst (λ x. StandsAt T.scanner T.machine text x s) (sym place) h)
-      (subst (λ x. IsLexemeAt (scanner_in T.scanner) x t) (sym place) (subst (λ x. IsLexemeAt x q t) same is))
+      → ((text : List ℕ) → StandsAt T.scanner T.machine text q s → IsLexemeAt (scanner_in T.scanner) q t
+      → IsTaken T text q t r result) → IsTaken T text q t r result
+  takes here q s r t result same h is call = call text h (subst (λ x. IsLexemeAt x q t) same is)
 
   -- its fault ends the run
   told_fault : (q : Place) (r : Parse) (t : Lexeme) (e : DriveFault) → IsTaken T text q t r (Err e)

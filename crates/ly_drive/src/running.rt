@@ -23,7 +23,7 @@ use crate::tables::Tables;
 use ly_base::{End, Front, Lexeme, Place, StateNo};
 use ly_pack::{Comb, TableAction};
 use ly_parse::{ParseFault, Parser, Step, Token};
-use ly_scan::Lexer;
+use ly_scan::next_lexeme;
 use ly_tables::TableParts;
 use ly_tree::{Forest, TermRef};
 use std::alloc::Global;
@@ -70,18 +70,19 @@ fn run(alloc: Global, tables: &Tables, text: &[u8]) -> Result<Ended, DriveFault>
     requires { CanRun tables.now.scanner tables.now.machine }
     ensures { IsRun tables.now text.now result }
 {
-    let mut lexer = Lexer::new(TableWalk::new(&tables.scanner), text);
+    let mut steps = TableWalk::new(&tables.scanner);
+    let mut place = Place::start(text);
     let mut parser = Parser::new(alloc, &tables.machine);
     loop {
-        let lexeme = match lexer.next_lexeme() {
+        let lexeme = match next_lexeme(&mut steps, &place) {
             Ok(lexeme) => lexeme,
             Err(end) => return finish(alloc, tables, parser, end, text.len() as u64),
         };
-        if let Some((outcome, line)) = take(alloc, tables, &mut parser, &lexer.place, lexeme)? {
+        if let Some((outcome, line)) = take(alloc, tables, &mut parser, &place, lexeme)? {
             return Ok(Ended::Told(outcome, line));
         }
         let begin = tables.scanner.condition(lexeme.rule);
-        lexer.place.advance(lexeme.taken, begin);
+        place.advance(lexeme.taken, begin);
     }
 }
 

@@ -1,9 +1,11 @@
 ghost use Rattle.std.specs.Bool.{OnTrue};
-ghost use Rattle.std.specs.Prelude.{◌≡◌, ◌<◌, ◌≤◌, ◌*◌, ℕ, length, slice_get, IfOk, IfSome, Some, option_map};
+ghost use Rattle.std.specs.Prelude.{◌≡◌, ◌<◌, ◌≤◌, ◌*◌, ℕ, length, false, slice_get, IfOk, IfSome, Some, option_map};
 ghost use Rattle.ly_base.specs.declared.cut.Cut.TheVariants.{Whole};
-ghost use Rattle.ly_drive.specs.ScanPart.{condition_in, cut_in, next_in, rule_in, start_in, states_from, terminal_in};
+ghost use Rattle.ly_drive.specs.ScanPart.{condition_in, cut_in, next_in, rule_in, start_in, states_from, states_in};
+ghost use Rattle.ly_drive.specs.ScanPart.{terminal_in};
 ghost use Rattle.ly_pack.specs.Rows.{comb_entry, Used};
 ghost use Rattle.ly_scan.specs.StateRows.{row_entry, state_at, Begins};
+ghost use Rattle.ly_scan.specs.StateWalk.{MindsNoLine};
 ghost use Rattle.ly_base.specs.declared.numbers.StateNo as number;
 
 use ly_base::{Cut, Emitted, OutOfMemory, RuleNo, StateNo, Sym};
@@ -108,6 +110,22 @@ impl ScanTable {
             }
         }
         true
+    }
+
+    /// Whether a condition begins in another state at the start of a line than elsewhere. It may say yes where there are
+    /// more conditions than numbers.
+    pub(crate) fn minds_lines(&self) -> bool
+        ensures { result ≡ false → MindsNoLine (states_in self.now) }
+    {
+        let Ok(count) = u32::try_from(self.conditions.len()) else {
+            return true;
+        };
+        for condition in 0..count {
+            if self.start(condition, true) != self.start(condition, false) {
+                return true;
+            }
+        }
+        false
     }
 
     /// The condition that a rule sets, if it sets one.

@@ -1,10 +1,10 @@
-ghost use Rattle.std.specs.Prelude.{◌≡◌, ◌<◌, ℕ, length, IfSome, Some, option_map};
+ghost use Rattle.std.specs.Prelude.{◌≡◌, ◌<◌, ℕ, length, false, IfSome, Some, option_map};
 ghost use Rattle.std.specs.Bool.{OnTrue};
 ghost use Rattle.std.proofs.Props.{props};
 ghost use Rattle.ly_base.specs.declared.cut.Cut.TheVariants.{Whole};
 ghost use Rattle.ly_drive.specs.ScanPart.{cut_in, start_in, states_in};
 ghost use Rattle.ly_scan.specs.StateRows.{state_at, Begins};
-ghost use Rattle.ly_scan.specs.StateWalk.{ahead_of, ahead_of-ended, state_walk, BeginsAlways};
+ghost use Rattle.ly_scan.specs.StateWalk.{ahead_of, ahead_of-ended, state_walk, MindsNoLine};
 
 use crate::scan_table::ScanTable;
 use ly_base::{Cut, RuleNo, StateNo};
@@ -15,12 +15,15 @@ use ly_scan::{RowStart, Steps};
 pub(crate) struct TableWalk<'a> {
     /// The scanner.
     table: &'a ScanTable,
-    /// Where the initial condition begins, if that is so at the start of a line and elsewhere.
+    /// Where the initial condition begins elsewhere than at the start of a line.
     initial: Option<StateNo>,
+    /// Whether a condition may begin in another state at the start of a line than elsewhere.
+    lines: bool,
     /// Whether no rule is known to have a cut, so that none is looked up.
     uncut: bool,
-    ghost begun: { BeginsAlways (states_in table.now) (option_map (λ s. s.0) initial) } by { Prim.hlevel props },
+    ghost begun: { option_map (λ s. s.0) initial ≡ start_in table.now 0 false } by { Prim.hlevel props },
     ghost known: { IfSome initial (λ s. s.0 < length table.now.accepted) } by { Prim.hlevel props },
+    ghost alike: { lines ≡ false → MindsNoLine (states_in table.now) } by { Prim.hlevel props },
     ghost whole: { OnTrue uncut ((rule : ℕ) → cut_in table.now rule ≡ Whole) } by { Prim.hlevel props },
 }
 
@@ -31,23 +34,31 @@ impl<'a> TableWalk<'a> {
     {
         TableWalk {
             table,
-            initial: initial(table),
+            initial: table.start(0, false),
+            lines: table.minds_lines(),
             uncut: table.is_uncut(),
         }
     }
 }
 
-/// Where the initial condition begins, if that is so at the start of a line and elsewhere.
-fn initial(table: &ScanTable) -> Option<StateNo>
-    ensures begins { BeginsAlways (states_in table.now) (option_map (λ s. s.0) result) }
-    ensures known { IfSome result (λ s. s.0 < length table.now.accepted) }
-{
-    let elsewhere = table.start(0, false)?;
-    let at_line_start = table.start(0, true)?;
-    if elsewhere.0 == at_line_start.0 {
-        Some(elsewhere)
-    } else {
-        None
+impl TableWalk<'_> {
+    /// Where a walk begins, looked up.
+    #[inline(never)] // so that where most walks begin has the registers
+    fn start_of(&self, condition: u32, at_line_start: bool) -> Option<RowStart>
+        ensures is { option_map state_at result ≡ start_in self.now.table.now condition at_line_start }
+        ensures begins { IfSome result Begins }
+        ensures known { IfSome result (λ at. state_at at < length self.now.table.now.accepted) }
+    {
+        let state = self.table.start(condition, at_line_start)?;
+        Some(self.table.row(state))
+    }
+
+    /// What a rule's matches are cut down to, looked up.
+    #[inline(never)] // as few scanners have cuts
+    fn cut_of(&self, rule: RuleNo) -> Cut
+        ensures { result ≡ cut_in self.now.table.now rule.0 }
+    {
+        self.table.cut(rule)
     }
 }
 
@@ -63,12 +74,14 @@ impl Steps for TableWalk<'_> {
     ghost cut_of = { λ w. cut_in w.table.now };
 
     fn start(&mut self, condition: u32, at_line_start: bool) -> Option<RowStart> {
-        let state = match self.initial {
-            // so a walk needn't wait for the byte before it
-            Some(state) if condition == 0 => state,
-            _ => self.table.start(condition, at_line_start)?,
-        };
-        Some(self.table.row(state))
+        if condition != 0 || at_line_start {
+            return self.start_of(condition, at_line_start);
+        }
+        Some(self.table.row(self.initial?))
+    }
+
+    fn minds_lines(&self) -> bool {
+        self.lines
     }
 
     fn step(&mut self, at: RowStart, byte: u8) -> Option<RowStart> {
@@ -83,7 +96,7 @@ impl Steps for TableWalk<'_> {
         if self.uncut {
             return Cut::Whole;
         }
-        self.table.cut(rule)
+        self.cut_of(rule)
     }
 
     ghost stays_ended = { λ w condition line text more h. ahead_of-ended (states_in w.table.now)

@@ -12,23 +12,20 @@ use Rattle.ly_scan.specs.Lexer.{Scanner, IsLexemeAt, ScanEndsAt}
 use Rattle.ly_engine.specs.Agreement.{Agrees}
 use Rattle.ly_engine.specs.Answering.{IsAnswer}
 use Rattle.ly_engine.specs.Printing.{condition_set, end_line, naming, printed, LeavesTokens}
+use Rattle.ly_engine.specs.Private.TokenLines.{AreLines}
 use Rattle.ly_engine.proofs.AgreementLemmas.{lexing_of}
 
 -- the lines that a scanner's run gives are the answer
-pub answer_of : (names : List Expression) (rules : List Rule) (actions given : List Action) (s here : Scanner)
-    (p : Place) (text : List ℕ) (e : End) (lines : List ℕ) → Agrees names rules s → here ≡ s → p ≡ start_of text
-    → given ≡ actions → ((ts : List Lexeme) × Lexed (IsLexemeAt here) (ScanEndsAt here) (condition_set given) p ts e
-    × (lines ≡ printed (tokens_from (naming given) p.at p.rest ts) ++ end_line e))
-    → IsAnswer names rules actions text e lines
-answer_of names rules actions given s here p text e lines agrees same at by h =
+pub answer_of : (names : List Expression) (rules : List Rule) (actions given : List Action) (s : Scanner)
+    (text : List ℕ) (e : End) (lines : List ℕ) → Agrees names rules s → given ≡ actions
+    → AreLines s given (start_of text) e lines → IsAnswer names rules actions text e lines
+answer_of names rules actions given s text e lines agrees by h =
     let run : Lexed (IsLexemeAt s) (ScanEndsAt s) (condition_set actions) (start_of text) h.0 e =
     subst (λ (xs : List Action). Lexed (IsLexemeAt s) (ScanEndsAt s) (condition_set xs) (start_of text) h.0 e) by
-    (subst (λ (x : Place). Lexed (IsLexemeAt s) (ScanEndsAt s) (condition_set given) x h.0 e) at
-    (subst (λ (x : Scanner). Lexed (IsLexemeAt x) (ScanEndsAt x) (condition_set given) p h.0 e) same h.1)) in (
+    h.1 in (
       h.0,
       lexing_of names rules s agrees (condition_set actions) (start_of text) h.0 e run,
-      subst (λ (xs : List Action). lines ≡ printed (tokens_from (naming xs) 0 text h.0) ++ end_line e) by
-          (subst (λ (x : Place). lines ≡ printed (tokens_from (naming given) x.at x.rest h.0) ++ end_line e) at h.2),
+      subst (λ (xs : List Action). lines ≡ printed (tokens_from (naming xs) 0 text h.0) ++ end_line e) by h.2,
     )
 
 -- each cut of a lexing leaves a token

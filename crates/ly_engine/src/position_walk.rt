@@ -57,8 +57,12 @@ impl Steps for PositionWalk<'_> {
         stands(&self.current)
     }
 
+    fn minds_lines(&self) -> bool {
+        true
+    }
+
     fn step(&mut self, _at: (), byte: u8) -> Option<()> {
-        self.nfa.step(&self.current, byte, &mut self.next);
+        self.nfa.step(self.current.members(), byte, &mut self.next);
         stands(&self.next)?;
         mem::swap(&mut self.current, &mut self.next);
         Some(())

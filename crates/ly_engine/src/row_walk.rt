@@ -1,11 +1,11 @@
-ghost use Rattle.std.specs.Prelude.{◌≡◌, ◌<◌, ◌*◌, ℕ, length, true, IfOk, IfSome, Some};
+ghost use Rattle.std.specs.Prelude.{◌≡◌, ◌<◌, ◌*◌, ℕ, length, false, true, IfOk, IfSome, Some, option_map};
 ghost use Rattle.std.proofs.Props.{props};
 ghost use Rattle.std.specs.Bool.{OnTrue};
 ghost use Rattle.ly_base.specs.declared.cut.Cut.TheVariants.{Whole};
 ghost use Rattle.ly_engine.specs.PositionWalk.{cut_in};
 ghost use Rattle.ly_engine.specs.RowWalk.{row_walk, rows_of, AreRowsOf};
 ghost use Rattle.ly_scan.specs.StateRows.{state_at, Begins};
-ghost use Rattle.ly_scan.specs.StateWalk.{ahead_of, ahead_of-ended, BeginsAlways};
+ghost use Rattle.ly_scan.specs.StateWalk.{ahead_of, ahead_of-ended, MindsNoLine};
 ghost use Rattle.ly_subset.specs.Automaton.{start_of};
 
 use ly_base::{Cut, OutOfMemory, RuleNo};
@@ -21,14 +21,17 @@ pub struct RowWalk<'a> {
     dfa: &'a Dfa,
     /// The rules that it tells.
     rules: &'a [Rule],
-    /// Where the initial condition begins, if that is so at the start of a line and elsewhere.
+    /// Where the initial condition begins elsewhere than at the start of a line.
     initial: Option<u32>,
+    /// Whether a condition may begin in another state at the start of a line than elsewhere.
+    lines: bool,
     /// Where each byte leads from each state.
     rows: StateRows,
     /// Whether no rule is known to have a cut, so that none is looked up.
     uncut: bool,
-    ghost begun: { BeginsAlways (rows_of dfa.now) initial } by { Prim.hlevel props },
+    ghost begun: { initial ≡ start_of dfa.now 0 false } by { Prim.hlevel props },
     ghost known: { IfSome initial (λ s. s < length dfa.now.rules) } by { Prim.hlevel props },
+    ghost alike: { lines ≡ false → MindsNoLine (rows_of dfa.now) } by { Prim.hlevel props },
     ghost counted: { length rows ≡ length dfa.now.rules * 256 } by { Prim.hlevel props },
     ghost spread: { AreRowsOf dfa.now rows } by { Prim.hlevel props },
     ghost whole: { OnTrue uncut ((rule : ℕ) → cut_in rules.now rule ≡ Whole) } by { Prim.hlevel props },
@@ -43,25 +46,29 @@ impl<'a> RowWalk<'a> {
         Ok(RowWalk {
             dfa,
             rules,
-            initial: initial(dfa),
+            initial: dfa.start(0, false),
+            lines: minds_lines(dfa),
             rows: spread(alloc, dfa)?,
             uncut: are_uncut(rules),
         })
     }
 }
 
-/// Where the initial condition begins, if that is so at the start of a line and elsewhere.
-fn initial(dfa: &Dfa) -> Option<u32>
-    ensures begins { BeginsAlways (rows_of dfa.now) result }
-    ensures known { IfSome result (λ s. s < length dfa.now.rules) }
+/// Whether a condition begins in another state at the start of a line than elsewhere. It may say yes where there are more
+/// conditions than numbers.
+fn minds_lines(dfa: &Dfa) -> bool
+    ensures { result ≡ false → MindsNoLine (rows_of dfa.now) }
 {
-    let elsewhere = dfa.start(0, false)?;
-    let at_line_start = dfa.start(0, true)?;
-    if elsewhere == at_line_start {
-        Some(elsewhere)
-    } else {
-        None
+    // two for each condition, so that none is left out
+    let Ok(starts) = u32::try_from(dfa.starts()) else {
+        return true;
+    };
+    for condition in 0..starts {
+        if dfa.start(condition, true) != dfa.start(condition, false) {
+            return true;
+        }
     }
+    false
 }
 
 /// Whether no rule has a cut.
@@ -94,6 +101,30 @@ fn spread(alloc: Global, dfa: &Dfa) -> Result<StateRows, OutOfMemory>
     Ok(rows)
 }
 
+impl RowWalk<'_> {
+    /// Where a walk begins, looked up.
+    #[inline(never)] // so that where most walks begin has the registers
+    fn start_of(&self, condition: u32, at_line_start: bool) -> Option<RowStart>
+        ensures is { option_map state_at result ≡ start_of self.now.dfa.now condition at_line_start }
+        ensures begins { IfSome result Begins }
+        ensures known { IfSome result (λ at. state_at at < length self.now.dfa.now.rules) }
+    {
+        let state = self.dfa.start(condition, at_line_start)?;
+        Some(self.rows.row(state))
+    }
+
+    /// What a rule's matches are cut down to, looked up.
+    #[inline(never)] // as few scanners have cuts
+    fn cut_of(&self, rule: RuleNo) -> Cut
+        ensures { result ≡ cut_in self.now.rules.now rule.0 }
+    {
+        match self.rules.get(rule.0 as usize) {
+            Some(rule) => rule.pattern.cut,
+            None => Cut::Whole,
+        }
+    }
+}
+
 impl Steps for RowWalk<'_> {
     type At = RowStart;
 
@@ -106,12 +137,14 @@ impl Steps for RowWalk<'_> {
     ghost cut_of = { λ w. cut_in w.rules.now };
 
     fn start(&mut self, condition: u32, at_line_start: bool) -> Option<RowStart> {
-        let state = match self.initial {
-            // so a walk needn't wait for the byte before it
-            Some(state) if condition == 0 => state,
-            _ => self.dfa.start(condition, at_line_start)?,
-        };
-        Some(self.rows.row(state))
+        if condition != 0 || at_line_start {
+            return self.start_of(condition, at_line_start);
+        }
+        Some(self.rows.row(self.initial?))
+    }
+
+    fn minds_lines(&self) -> bool {
+        self.lines
     }
 
     fn step(&mut self, at: RowStart, byte: u8) -> Option<RowStart> {
@@ -126,10 +159,7 @@ impl Steps for RowWalk<'_> {
         if self.uncut {
             return Cut::Whole;
         }
-        match self.rules.get(rule.0 as usize) {
-            Some(rule) => rule.pattern.cut,
-            None => Cut::Whole,
-        }
+        self.cut_of(rule)
     }
 
     ghost stays_ended = { λ w condition line text more h. ahead_of-ended (rows_of w.dfa.now)

@@ -3,6 +3,7 @@ ghost use Rattle.std.specs.Prelude.{IfOk, IfErr, OnOk, OnErr};
 ghost use Rattle.std.specs.Bool.{OnTrue};
 ghost use Rattle.std.specs.Io.KnownBytes.{Appends};
 ghost use Rattle.ly_base.specs.Device.{next_count};
+ghost use Rattle.ly_base.specs.Lexed.{start_of};
 ghost use Rattle.ly_base.specs.Text.{named, no_rule_line};
 ghost use Rattle.ly_base.specs.TextWriter.{bytes_of, IsAppended, IsCutShort};
 ghost use Rattle.ly_scan.specs.Lexer.{Scanner};
@@ -10,39 +11,40 @@ ghost use Rattle.ly_engine.specs.Printing.{condition_set, end_line, line_if, nam
 ghost use Rattle.ly_engine.specs.Private.TokenLines.{name_len, AreCountable, AreLines};
 
 use crate::labels::Labels;
-use ly_base::{End, Front, RuleNo, Sink, TextWriter, WriteFault};
+use ly_base::{End, Front, Place, RuleNo, Sink, TextWriter, WriteFault};
 use ly_lexread::{Action, Returned};
-use ly_scan::{Lexer, Steps};
+use ly_scan::{Steps, next_lexeme};
 
-/// Writes the lines of the tokens that a lexer finds from where it stands, with a last one where no rule matches, and
-/// answers how its run ends.
-pub(crate) fn write_token_lines<S: Steps + Drop, W: Sink>(
-    lexer: &mut Lexer<'_, S>,
+/// Writes the lines of the tokens that a scanner finds in a text, with a last one where no rule matches, and answers how
+/// its run ends.
+pub(crate) fn write_token_lines<S: Steps, W: Sink>(
+    steps: &mut S,
+    text: &[u8],
     labels: &Labels<'_>,
     empty: TextWriter,
     writer: &mut W,
 ) -> Result<End, WriteFault>
     requires none { empty ≡ record { sent = 0; held = [] } }
-    requires countable { AreCountable labels.now.actions.now (length lexer.old.place.rest) }
-    ensures told { let scanner : Scanner = record { walk = S.walk lexer.old.steps; cut = S.cut_of lexer.old.steps } in
-        IfOk result (λ e. (lines : List ℕ) × AreLines scanner labels.now.actions.now lexer.old.place e lines
+    requires countable { AreCountable labels.now.actions.now (length text.now) }
+    ensures told { let scanner : Scanner = record { walk = S.walk steps.old; cut = S.cut_of steps.old } in
+        IfOk result (λ e. (lines : List ℕ) × AreLines scanner labels.now.actions.now (start_of text.now) e lines
         × Appends (W.contents writer.old) (W.contents writer.new) lines) }
-    ensures cut_short { let scanner : Scanner
-        = record { walk = S.walk lexer.old.steps; cut = S.cut_of lexer.old.steps } in
+    ensures cut_short { let scanner : Scanner = record { walk = S.walk steps.old; cut = S.cut_of steps.old } in
         IfErr result (λ fault. (e : End) × ((lines : List ℕ)
-        × AreLines scanner labels.now.actions.now lexer.old.place e lines
+        × AreLines scanner labels.now.actions.now (start_of text.now) e lines
         × IsCutShort (W.contents writer.old) (W.contents writer.new) fault.written lines)) }
     ensures no_failure { OnOk result (W.failures writer.new ≡ W.failures writer.old) }
     ensures failed { OnErr result (W.failures writer.new ≡ next_count (W.failures writer.old)) }
 {
     let mut lines = empty;
+    let mut place = Place::start(text);
     loop {
-        match lexer.next_lexeme() {
+        match next_lexeme(steps, &place) {
             Ok(lexeme) => {
-                let token = Front::new(lexer.place.rest(), lexeme.taken);
+                let token = Front::new(place.rest(), lexeme.taken);
                 push_token(&mut lines, writer, labels, lexeme.rule, token)?;
                 let begin = condition_set(labels.actions, lexeme.rule);
-                lexer.place.advance(lexeme.taken, begin);
+                place.advance(lexeme.taken, begin);
             }
             Err(end) => {
                 push_end(&mut lines, writer, end)?;

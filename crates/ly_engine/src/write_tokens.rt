@@ -30,7 +30,7 @@ use crate::scanner::smallest_automaton;
 use crate::token_lines::{are_countable, write_token_lines};
 use ly_base::{End, Limits, Sink, Source, TextWriter, read_whole};
 use ly_lexread::{LexFile, read_lex};
-use ly_scan::{Lexer, Steps};
+use ly_scan::Steps;
 use std::alloc::Global;
 
 /// Writes the tokens of a text under a lex file (POSIX, XCU lex), a line for each, and a last line if no
@@ -133,8 +133,8 @@ fn write_answer_by<S: Steps + Drop, W: Sink>(
     }
     let labels = Labels::new(alloc, &file.actions)?;
     let lines = TextWriter::new(alloc)?;
-    let mut lexer = Lexer::new(steps, text);
-    let end = write_token_lines(&mut lexer, &labels, lines, writer)?;
+    let mut steps = steps;
+    let end = write_token_lines(&mut steps, text, &labels, lines, writer)?;
     Ok(token_end(end))
 }
 

@@ -144,11 +144,11 @@ impl PosNfa {
 
     /// Makes a set that of the positions that may come after some, once the byte is read. Needs no memory, and comes
     /// through each fork once.
-    pub fn step(&self, from: &PositionSet, byte: u8, into: &mut PositionSet)
-        requires from { IsRoomFor self.now from.now }
+    pub fn step(&self, from: &[u32], byte: u8, into: &mut PositionSet)
+        requires from { All (λ p. p < length self.now.positions) from.now }
         requires into { IsRoomFor self.now into.old }
         ensures members { (q : ℕ) → Contains into.new.positions.members q
-            ↔ Stepped self.now from.now.positions.members byte q }
+            ↔ Stepped self.now from.now byte q }
         ensures into { IsRoomFor self.now into.new }
     {
         step(&self.slots, &self.forks, from, byte, into);
@@ -156,16 +156,16 @@ impl PosNfa {
 }
 
 /// Makes a set that of the positions that some lead to, once the byte is read.
-fn step(slots: &[Slot], forks: &[Fork], from: &PositionSet, byte: u8, into: &mut PositionSet)
+fn step(slots: &[Slot], forks: &[Fork], from: &[u32], byte: u8, into: &mut PositionSet)
     requires within { GoOnWithin slots.now forks.now }
-    requires from { from.now.positions.below ≡ length slots.now }
+    requires from { All (λ p. p < length slots.now) from.now }
     requires into { (into.old.positions.below ≡ length slots.now) × (into.old.forks.below ≡ length forks.now) }
     ensures room { SameRoom into.old into.new }
     ensures members { (q : ℕ) → Contains into.new.positions.members q
-        ↔ StepsTo slots.now forks.now from.now.positions.members byte q }
+        ↔ StepsTo slots.now forks.now from.now byte q }
 {
     into.clear();
-    for number in from.members() {
+    for number in from {
         if let Some(next) = target_after(&slots[*number as usize], byte) {
             into.put(next);
         }

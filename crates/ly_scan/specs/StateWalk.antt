@@ -1,5 +1,5 @@
 -- Walks over numbered states.
-use Rattle.std.specs.Prelude.{◌≡◌, ◌++◌, ℕ, List, [], ◌∷◌, Bool, IfSome, Option, Some, None, option_and_then, refl}
+use Rattle.std.specs.Prelude.{◌≡◌, ◌++◌, ℕ, List, [], ◌∷◌, Bool, true, false, Option, Some, None, option_and_then, refl}
 use Rattle.std.proofs.Common.{◌∙◌, ap}
 use Rattle.ly_scan.specs.Walk.{Walk}
 
@@ -10,9 +10,9 @@ pub record States : Type 0 where
   pub next : ℕ → ℕ → Option ℕ
   pub rule : ℕ → Option ℕ
 
--- the initial condition begins in this state, at the start of a line or not
-abbrev pub BeginsAlways : States → Option ℕ → Type 0
-BeginsAlways S initial = IfSome initial (λ s. (line : Bool) → S.start 0 line ≡ Some s)
+-- each condition begins in one state, at the start of a line or not
+abbrev pub MindsNoLine : States → Type 0
+MindsNoLine S = (condition : ℕ) → S.start condition true ≡ S.start condition false
 
 -- the state after a string; none is a walk that has ended
 abbrev pub state_after : States → Option ℕ → List ℕ → Option ℕ

@@ -1,6 +1,6 @@
 //! From a text to its lexemes, over any deterministic walk.
 //!
-//! A walk is a type with `Steps`. `Lexer::next_lexeme` takes the longest match of one or more bytes that has a rule,
+//! A walk is a type with `Steps`. `next_lexeme` takes the longest match of one or more bytes that has a rule,
 //! and what the rule's cut leaves of it (`IsLexemeAt`), or says how the run ends there (`ScanEndsAt`); `next_match`
 //! does so at the front of any text.
 //!
@@ -13,7 +13,7 @@ mod matching;
 mod state_rows;
 mod steps;
 
-pub use lexer::Lexer;
+pub use lexer::next_lexeme;
 pub use matching::{Match, next_match};
 pub use state_rows::{RowStart, StateRows};
 pub use steps::Steps;

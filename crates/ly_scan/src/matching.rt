@@ -90,7 +90,7 @@ fn walk_on<S: Steps>(steps: &mut S, start: S::At, bytes: &[u8]) -> (usize, S::At
 }
 
 /// The best of the places that a walk passes.
-#[cold]
+#[inline(never)] // so that the walk that goes on has the registers
 fn best_passed<S: Steps>(
     steps: &mut S,
     condition: u32,

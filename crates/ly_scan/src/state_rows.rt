@@ -8,7 +8,7 @@ use std::alloc::Global;
 use std::marker::Model;
 
 /// How many entries a row has: one for each byte, or for each class of bytes that there may be.
-const WIDTH: u32 = 256;
+const WIDTH: usize = 256;
 
 /// The entry that leads nowhere: no row begins there.
 const NOWHERE: u32 = 1;
@@ -17,15 +17,16 @@ const NOWHERE: u32 = 1;
 #[derive(Clone, Copy, Debug, PartialEq, Eq)]
 pub struct RowStart {
     /// How many entries stand before it.
-    pub(crate) start: u32,
+    pub(crate) start: usize,
 }
 
 impl RowStart {
     /// The number of the state.
     pub fn state(self) -> u32
+        requires { Begins self }
         ensures { result ≡ state_at self }
     {
-        self.start / WIDTH
+        (self.start / WIDTH) as u32
     }
 }
 
@@ -59,7 +60,7 @@ impl StateRows {
             return Err(OutOfMemory);
         }
         Ok(StateRows {
-            entries: vec![in alloc; NOWHERE; states * WIDTH as usize]?,
+            entries: vec![in alloc; NOWHERE; states * WIDTH]?,
         })
     }
 
@@ -72,7 +73,7 @@ impl StateRows {
         ensures entries { (s c : ℕ) → c < 256 → row_entry self.new s c
             ≡ (if nat_eq s state && nat_eq c column then next else row_entry self.old s c) }
     {
-        let entry = &mut self.entries[state as usize * WIDTH as usize + column];
+        let entry = &mut self.entries[state as usize * WIDTH + column];
         *entry = start_of(next);
     }
 
@@ -85,7 +86,7 @@ impl StateRows {
         // rows of more entries than have a number are never made
         let _ = &self.entries;
         RowStart {
-            start: state * WIDTH,
+            start: state as usize * WIDTH,
         }
     }
 
@@ -96,11 +97,13 @@ impl StateRows {
         ensures is { option_map state_at result ≡ row_entry self.now (state_at at) column }
         ensures begins { IfSome result Begins }
     {
-        let start = self.entries[at.start as usize + usize::from(column)];
+        let start = self.entries[at.start + usize::from(column)];
         if start == NOWHERE {
             None
         } else {
-            Some(RowStart { start })
+            Some(RowStart {
+                start: start as usize,
+            })
         }
     }
 }
@@ -112,7 +115,7 @@ fn start_of(next: Option<u32>) -> u32
     ensures start { IsStart result }
 {
     match next {
-        Some(next) => next * WIDTH,
+        Some(next) => next * WIDTH as u32,
         None => NOWHERE,
     }
 }

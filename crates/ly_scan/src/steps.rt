@@ -1,4 +1,4 @@
-ghost use Rattle.std.specs.Prelude.{◌≡◌, ℕ, List, [], ◌∷◌, ◌++◌, Bool, Option, None, IfSome, is_some, option_map};
+ghost use Rattle.std.specs.Prelude.{◌≡◌, ℕ, List, [], ◌∷◌, ◌++◌, Bool, true, false, Option, None, IfSome, is_some, option_map};
 ghost use Rattle.ly_base.specs.declared.cut.Cut.{Cut};
 ghost use Rattle.ly_scan.specs.Walk.{Walk};
 
@@ -30,6 +30,11 @@ pub trait Steps {
             → ahead self.new at text ≡ walk self.old condition at_line_start text) }
         ensures same_walk { walk self.new ≡ walk self.old }
         ensures same_cuts { cut_of self.new ≡ cut_of self.old };
+
+    /// Whether it may matter to a walk that a line begins where it starts.
+    fn minds_lines(&self) -> bool
+        ensures { result ≡ false
+            → (condition : ℕ) → walk self.now condition true ≡ walk self.now condition false };
 
     /// Where the walk stands after a byte more, and it goes on from there alone. None where the byte would end it: it
     /// still stands where it stood.

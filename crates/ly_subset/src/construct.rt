@@ -1,8 +1,8 @@
-ghost use Rattle.std.specs.Prelude.{◌≡◌, ◌<◌, ◌≤◌, ◌+◌, ◌*◌, ◌↔◌, ℕ, List, length, Contains, IfOk, IfSome};
+ghost use Rattle.std.specs.Prelude.{◌≡◌, ◌<◌, ◌≤◌, ◌+◌, ◌*◌, ◌↔◌, ℕ, List, length, All, Contains, IfOk, IfSome};
 ghost use Rattle.std.specs.Prelude.{IsErrOf, OnOk};
 ghost use Rattle.ly_position.specs.Nfa.{IsRoomFor, Reads, Stepped};
 ghost use Rattle.ly_subset.specs.Automaton.{IsAutomaton, start_place};
-ghost use Rattle.ly_subset.specs.Private.Found.{IsFound, IsPast, HaveRoom};
+ghost use Rattle.ly_subset.specs.Private.Found.{IsFound, IsPast};
 ghost use Rattle.ly_subset.specs.Subsets.{AreSubsets, HasMoreSets};
 
 use crate::classes::{byte_classes, unread_byte};
@@ -98,26 +98,14 @@ fn rows(nfa: &PosNfa, found: &mut Found, least: &[u8]) -> Result<(), SubsetFault
     ensures past { IsErrOf result SubsetFault.TooManyStates →
         IsPast nfa.now found.old.starts least.now found.old.limit }
 {
-    let mut step = Step {
-        from: nfa.set(found.alloc)?,
-        into: nfa.set(found.alloc)?,
-    };
+    let mut into = nfa.set(found.alloc)?;
     let unread = unread_byte(nfa, least);
     let mut state = 0;
     while state < found.keys.len() {
-        row(nfa, found, least, unread, &mut step, state)?;
+        row(nfa, found, least, unread, &mut into, state)?;
         state += 1;
     }
     Ok(())
-}
-
-/// A set of positions, and room for what it comes to.
-#[derive(Drop)]
-struct Step {
-    /// The set.
-    from: PositionSet,
-    /// What it comes to by a byte.
-    into: PositionSet,
 }
 
 /// Enters the row of a state: by the bytes of each class, what its set comes to.
@@ -126,15 +114,15 @@ fn row(
     found: &mut Found,
     least: &[u8],
     unread: Option<u8>,
-    step: &mut Step,
+    into: &mut PositionSet,
     state: usize,
 ) -> Result<(), SubsetFault>
     requires unread { IfSome unread (λ b. (p : ℕ) → Reads nfa.now p b → ⊥) }
-    requires room { HaveRoom nfa.now step.old }
+    requires room { IsRoomFor nfa.now into.old }
     requires found { IsFound nfa.now least.now found.old }
     requires state { state < length found.old.keys }
     requires next { length found.old.entries.items ≡ found.old.starts + state * length least.now }
-    ensures room { HaveRoom nfa.now step.new }
+    ensures room { IsRoomFor nfa.now into.new }
     ensures found { OnOk result (IsFound nfa.now least.now found.new) }
     ensures more { OnOk result (length found.new.entries.items
         ≡ length found.old.entries.items + length least.now) }
@@ -144,22 +132,22 @@ fn row(
     ensures past { IsErrOf result SubsetFault.TooManyStates →
         IsPast nfa.now found.old.starts least.now found.old.limit }
 {
-    step.from.fill(&found.keys.members(found.alloc, state)?);
+    let from = found.keys.members(found.alloc, state)?;
     for byte in least {
-        come(nfa, &step.from, *byte, unread, &mut step.into);
-        found.enter(&step.into)?;
+        come(nfa, &from, *byte, unread, into);
+        found.enter(into)?;
     }
     Ok(())
 }
 
 /// Makes a set that of the positions that may come after some, once the byte is read. `unread` is a byte that no
 /// position reads.
-fn come(nfa: &PosNfa, from: &PositionSet, byte: u8, unread: Option<u8>, into: &mut PositionSet)
+fn come(nfa: &PosNfa, from: &[u32], byte: u8, unread: Option<u8>, into: &mut PositionSet)
     requires unread { IfSome unread (λ b. (p : ℕ) → Reads nfa.now p b → ⊥) }
-    requires from { IsRoomFor nfa.now from.now }
+    requires from { All (λ p. p < length nfa.now.positions) from.now }
     requires into { IsRoomFor nfa.now into.old }
     ensures members { (q : ℕ) → Contains into.new.positions.members q
-        ↔ Stepped nfa.now from.now.positions.members byte q }
+        ↔ Stepped nfa.now from.now byte q }
     ensures into { IsRoomFor nfa.now into.new }
 {
     match unread {

@@ -41,6 +41,10 @@ impl Steps for Dense<'_> {
         start_entry(self.starts, condition, at_line_start).checked_sub(1)
     }
 
+    fn minds_lines(&self) -> bool {
+        true
+    }
+
     fn step(&mut self, at: u16, byte: u8) -> Option<u16> {
         self.rows.get(usize::from(at))?.next[usize::from(byte)].checked_sub(1)
     }

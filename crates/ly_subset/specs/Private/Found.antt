@@ -1,13 +1,12 @@
 -- What a construction of subsets has found so far.
 use Rattle.std.specs.Prelude.{◌≡◌, ◌↔◌, ℕ, ◌<◌, ◌≤◌, ◌+◌, ◌*◌, ◌++◌, List, [], ◌∷◌, length, map, slice_index_or, Option}
 use Rattle.std.specs.Prelude.{Some, None, Contains, AllPairs, ◌⊎◌, option_map}
-use Rattle.ly_position.specs.Nfa.{Nfa, Stepped, IsRoomFor}
+use Rattle.ly_position.specs.Nfa.{Nfa, Stepped}
 use Rattle.ly_subset.specs.Automaton.{AreInOrder, entry_at}
 use Rattle.ly_base.specs.Entry.{target_of}
 use Rattle.ly_subset.specs.Subsets.{AreSets, HasEnd, IsLeastRule, IsStateOf, set_at}
 use Rattle.ly_base.specs.declared.numbers.RuleNo.{RuleNo}
 use Rattle.ly_subset.specs.declared.found.Found.{Found}
-use Rattle.ly_subset.specs.declared.construct.Step.{Step}
 
 -- Sets of numbers below a bound, none empty and no two the same, each in rising order and no more than the limit.
 pub record AreKept (below limit : ℕ) (sets : List (List ℕ)) : Type 0 where
@@ -73,8 +72,3 @@ pub record HaveRules (nfa : Nfa) (sets : List (List ℕ)) (rules : List (Option 
 -- the rules' numbers
 abbrev pub numbers_of : List (Option RuleNo) → List (Option ℕ)
 numbers_of rules = map (option_map (λ r. r.0)) rules
-
--- both sets have room for the positions
-pub record HaveRoom (nfa : Nfa) (step : Step) : Type 0 where
-  pub from : IsRoomFor nfa step.from
-  pub into : IsRoomFor nfa step.into

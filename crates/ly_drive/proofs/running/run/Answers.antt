@@ -11,11 +11,11 @@ use Rattle.ly_scan.specs.StateWalk.{state_walk}
 pub loop-lexeme-init : goal.loop-lexeme-init
 loop-lexeme-init c =
     let T = c.args.tables.now in
-    let steps = ap (λ s. s.table.now) c.new-lexer.ensures.steps ∙ c.new.ensures in record {
+    let steps = c.new-steps.ensures in record {
       same_walk = ap (λ p. state_walk (states_in p)) steps;
       same_cuts = ap (λ p. cut_in p) steps;
-      stands = begins T.scanner T.machine c.args.text.now c.new-lexer.result.place c.new-parser.result
-          c.new-lexer.ensures.place (ap (λ s. s.stack) c.new-parser.ensures) (ap (λ s. s.count) c.new-parser.ensures)
+      stands = begins T.scanner T.machine c.args.text.now c.start-place.result c.new-parser.result
+          c.start-place.ensures (ap (λ s. s.stack) c.new-parser.ensures) (ap (λ s. s.count) c.new-parser.ensures)
           (ap (λ s. s.machine) c.new-parser.ensures) (ap (λ s. s.over) c.new-parser.ensures);
     }
 
@@ -23,29 +23,29 @@ pub returns-in-Err : goal.returns-in-Err
 returns-in-Err c =
     let T = c.args.tables.now in
     let i = c.loop-lexeme.invariant in
-    c.finish.ensures c.args.text.now c.loop-lexeme.lexer.place refl i.stands
-    (subst (λ s. ScanEndsAt s c.loop-lexeme.lexer.place c.in-Err.end) (same_scanner _ _ _ _ i.same_walk i.same_cuts)
+    c.finish.ensures c.args.text.now c.loop-lexeme.place refl i.stands
+    (subst (λ s. ScanEndsAt s c.loop-lexeme.place c.in-Err.end) (same_scanner _ _ _ _ i.same_walk i.same_cuts)
     c.in-Err.ensures.end)
 
 pub returns-in_err-outcome : goal.returns-in_err-outcome
 returns-in_err-outcome c =
     let T = c.args.tables.now in
     let i = c.loop-lexeme.invariant in
-    ends_with_fault T c.args.text.now c.next_lexeme.new.self.place c.take.new.parser c.in-Ok.lexeme
+    let place = c.loop-lexeme.place in
+    ends_with_fault T c.args.text.now place c.take.new.parser c.in-Ok.lexeme
     c.in_err-outcome.field-0.0 c.from_residual.result
-    (takes T c.args.text.now _ c.loop-lexeme.lexer.place c.next_lexeme.new.self.place c.loop-lexeme.parser
-    c.take.new.parser c.in-Ok.lexeme (Err c.in_err-outcome.field-0.0)
-    (same_scanner _ _ _ _ i.same_walk i.same_cuts) c.in-Ok.ensures.place i.stands c.in-Ok.ensures.lexeme
+    (takes T c.args.text.now _ place c.loop-lexeme.parser c.take.new.parser c.in-Ok.lexeme
+    (Err c.in_err-outcome.field-0.0) (same_scanner _ _ _ _ i.same_walk i.same_cuts) i.stands c.in-Ok.ensures.lexeme
     c.in_err-outcome.ensures) c.from_residual.ensures.1
 
 pub returns-in-Some : goal.returns-in-Some
 returns-in-Some c =
     let T = c.args.tables.now in
     let i = c.loop-lexeme.invariant in
-    let place = c.next_lexeme.new.self.place in
+    let place = c.loop-lexeme.place in
     subst (λ o. IsTaken T c.args.text.now place c.in-Ok.lexeme c.take.new.parser (Ok o)) c.in-Some.is
-    (takes T c.args.text.now _ c.loop-lexeme.lexer.place place c.loop-lexeme.parser c.take.new.parser c.in-Ok.lexeme
-    (Ok c.in_ok-outcome.field-0) (same_scanner _ _ _ _ i.same_walk i.same_cuts) c.in-Ok.ensures.place i.stands
+    (takes T c.args.text.now _ place c.loop-lexeme.parser c.take.new.parser c.in-Ok.lexeme
+    (Ok c.in_ok-outcome.field-0) (same_scanner _ _ _ _ i.same_walk i.same_cuts) i.stands
     c.in-Ok.ensures.lexeme c.in_ok-outcome.ensures)
 
 pub loop-lexeme-preserved : goal.loop-lexeme-preserved
@@ -53,13 +53,13 @@ loop-lexeme-preserved c =
     let T = c.args.tables.now in
     let i = c.loop-lexeme.invariant in
     let n = c.in-Ok.ensures in
-    let place = c.next_lexeme.new.self.place in
+    let place = c.loop-lexeme.place in
     let there = c.advance.ensures ∙ ap (moved place c.in-Ok.lexeme.taken) c.condition-begin.ensures in record {
       same_walk = n.same_walk ∙ i.same_walk;
       same_cuts = n.same_cuts ∙ i.same_cuts;
       stands = subst (λ q. StandsAt T.scanner T.machine c.args.text.now q c.take.new.parser) (sym there)
           (subst (λ o. IsTaken T c.args.text.now place c.in-Ok.lexeme c.take.new.parser (Ok o)) c.in_default.is
-          (takes T c.args.text.now _ c.loop-lexeme.lexer.place place c.loop-lexeme.parser c.take.new.parser
-          c.in-Ok.lexeme (Ok c.in_ok-outcome.field-0) (same_scanner _ _ _ _ i.same_walk i.same_cuts) n.place i.stands
-          n.lexeme c.in_ok-outcome.ensures));
+          (takes T c.args.text.now _ place c.loop-lexeme.parser c.take.new.parser c.in-Ok.lexeme
+          (Ok c.in_ok-outcome.field-0) (same_scanner _ _ _ _ i.same_walk i.same_cuts) i.stands n.lexeme
+          c.in_ok-outcome.ensures));
     }

@@ -1,5 +1,5 @@
 use Rattle.std.proofs.Common.{◌∙◌, ◌++◌, Err, Ok, ap, arith, length, refl, take, ◌*◌}
-use Rattle.ly_base.specs.Lexed.{Place, moved}
+use Rattle.ly_base.specs.Lexed.{Place, moved, start_of}
 use Rattle.ly_base.proofs.TextWriterLemmas.{appended_twice}
 use Rattle.ly_scan.specs.Lexer.{Scanner}
 use Rattle.ly_engine.specs.Printing.{condition_set, end_line, line_if, naming}
@@ -15,10 +15,10 @@ push_token-requires-clause-countable g c =
     let now = c.loop-lexeme in omega (
       arith,
       now.invariant.counted countable.0 countable.1,
-      line_left actions countable.0 c.in-Ok.lexeme.rule.0 c.in-Ok.lexeme.taken now.lexer.place.rest
+      line_left actions countable.0 c.in-Ok.lexeme.rule.0 c.in-Ok.lexeme.taken now.place.rest
           c.new-token.result countable.1 c.in-Ok.ensures.within.0 c.in-Ok.ensures.within.1
           (c.new-token.ensures
-          ∙ ap (take c.in-Ok.lexeme.taken) (c.rest.ensures ∙ ap (λ (p : Place). p.rest) c.in-Ok.ensures.place)),
+          ∙ ap (take c.in-Ok.lexeme.taken) c.rest.ensures),
       countable.2,
     )
 
@@ -32,14 +32,14 @@ returns-in_err-push_token-in-Ok-clause-cut_short g c =
     let begin = condition_set actions c.in-Ok.lexeme.rule.0 in
     let fault = c.in_err-push_token-in-Ok.field-0.0 in
     err_is c.from_residual.result fault _ c.from_residual.ensures.1 (fails_at actions (let s : Scanner
-    = record { walk = g.S.Steps.walk c.args.lexer.now.steps; cut = g.S.Steps.cut_of c.args.lexer.now.steps } in s)
-    c.args.lexer.now.place (moved now.lexer.place c.in-Ok.lexeme.taken begin) (so_far.0 ++ line) c.args.empty
+    = record { walk = g.S.Steps.walk c.args.steps.now; cut = g.S.Steps.cut_of c.args.steps.now } in s)
+    (start_of c.args.text.now) (moved now.place c.in-Ok.lexeme.taken begin) (so_far.0 ++ line) c.args.empty
     c.push_token.new.lines _ _ fault c.requires.none
-    (one_more actions _ _ c.args.lexer.now.place now.lexer.place
-    (moved now.lexer.place c.in-Ok.lexeme.taken begin) c.in-Ok.lexeme begin token so_far.0 (so_far.0 ++ line)
+    (one_more actions _ _ (start_of c.args.text.now) now.place
+    (moved now.place c.in-Ok.lexeme.taken begin) c.in-Ok.lexeme begin token so_far.0 (so_far.0 ++ line)
     (scanner_of _ _ _ _ now.invariant.same_walk now.invariant.same_cuts) c.in-Ok.ensures.lexeme refl refl
     (c.new-token.ensures
-    ∙ ap (take c.in-Ok.lexeme.taken) (c.rest.ensures ∙ ap (λ (p : Place). p.rest) c.in-Ok.ensures.place)) refl so_far.1)
+    ∙ ap (take c.in-Ok.lexeme.taken) c.rest.ensures) refl so_far.1)
     (appended_twice c.args.empty now.lines c.push_token.new.lines _ _ _ so_far.0 line tt (Err fault) so_far.2
     c.in_err-push_token-in-Ok.ensures.text))
 
@@ -52,14 +52,14 @@ loop-lexeme-preserved g c =
     let token = c.new-token.result in
     let line = line_if (naming actions c.in-Ok.lexeme.rule.0 token) token in
     let is = c.new-token.ensures
-    ∙ ap (take taken) (c.rest.ensures ∙ ap (λ (p : Place). p.rest) c.in-Ok.ensures.place) in
-    let at = c.advance.ensures ∙ ap (λ (p : Place). moved p taken c.condition_set-begin.result) c.in-Ok.ensures.place in
+    ∙ ap (take taken) c.rest.ensures in
+    let at = c.advance.ensures in
     record {
       same_walk = c.in-Ok.ensures.same_walk ∙ now.invariant.same_walk;
       same_cuts = c.in-Ok.ensures.same_cuts ∙ now.invariant.same_cuts;
       so_far = (
         so_far.0 ++ line,
-        one_more actions _ _ c.args.lexer.now.place now.lexer.place c.advance.new.self c.in-Ok.lexeme
+        one_more actions _ _ (start_of c.args.text.now) now.place c.advance.new.self c.in-Ok.lexeme
             c.condition_set-begin.result token so_far.0 (so_far.0 ++ line)
             (scanner_of _ _ _ _ now.invariant.same_walk now.invariant.same_cuts) c.in-Ok.ensures.lexeme
             c.condition_set-begin.ensures at is refl so_far.1,
@@ -69,7 +69,7 @@ loop-lexeme-preserved g c =
       counted = λ longest named. omega (
         arith,
         now.invariant.counted longest named,
-        line_left actions longest c.in-Ok.lexeme.rule.0 taken now.lexer.place.rest token named
+        line_left actions longest c.in-Ok.lexeme.rule.0 taken now.place.rest token named
             c.in-Ok.ensures.within.0 c.in-Ok.ensures.within.1 is,
         ap (λ (p : Place). length p.rest * bytes_each longest) at,
         c.in_ok-push_token-in-Ok.ensures.counted,
@@ -93,7 +93,7 @@ returns-in_err-push_end-in-Err-clause-cut_short g c =
       c.in-Err.end,
       (
         lines,
-        all_told actions _ _ c.args.lexer.now.place now.lexer.place c.in-Err.end so_far.0 lines
+        all_told actions _ _ (start_of c.args.text.now) now.place c.in-Err.end so_far.0 lines
             (scanner_of _ _ _ _ now.invariant.same_walk now.invariant.same_cuts) c.in-Err.ensures.end refl so_far.1,
         cut_from c.args.empty c.push_end.new.lines _ _ lines c.requires.none fault
             (appended_twice c.args.empty now.lines c.push_end.new.lines _ _ _ so_far.0 (end_line c.in-Err.end) tt
@@ -123,7 +123,7 @@ returns-in_err-finish-in-Err-clause-cut_short g c =
       c.in-Err.end,
       (
         lines,
-        all_told actions _ _ c.args.lexer.now.place now.lexer.place c.in-Err.end so_far.0 lines
+        all_told actions _ _ (start_of c.args.text.now) now.place c.in-Err.end so_far.0 lines
             (scanner_of _ _ _ _ now.invariant.same_walk now.invariant.same_cuts) c.in-Err.ensures.end refl so_far.1,
         c.in_err-finish-in-Err.ensures.text _ lines (underway_from c.args.empty c.push_end.new.lines _ _ lines
             c.requires.none (appended_twice c.args.empty now.lines c.push_end.new.lines _ _ _ so_far.0
@@ -138,7 +138,7 @@ returns-in-Err-clause-told g c =
     let so_far = now.invariant.so_far in
     let lines = so_far.0 ++ end_line c.in-Err.end in (
       lines,
-      all_told actions _ _ c.args.lexer.now.place now.lexer.place c.in-Err.end so_far.0 lines
+      all_told actions _ _ (start_of c.args.text.now) now.place c.in-Err.end so_far.0 lines
           (scanner_of _ _ _ _ now.invariant.same_walk now.invariant.same_cuts) c.in-Err.ensures.end refl so_far.1,
       c.in_ok-finish-in-Err.ensures.text _ lines (underway_from c.args.empty c.push_end.new.lines _ _ lines
           c.requires.none (appended_twice c.args.empty now.lines c.push_end.new.lines _ _ _ so_far.0

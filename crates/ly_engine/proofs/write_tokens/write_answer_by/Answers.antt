@@ -1,4 +1,4 @@
-use Rattle.std.proofs.Common.{◌≡◌, ◌∙◌, Err, Result, ap, subst, sym}
+use Rattle.std.proofs.Common.{◌≡◌, ◌∙◌, Err, Result, subst, sym}
 use Rattle.std.proofs.lemmas.Result.{err_from_is_err_and}
 use Rattle.ly_ere.specs.Names.{defined}
 use Rattle.ly_base.specs.TextWriter.{IsCutShort}
@@ -8,7 +8,6 @@ use Rattle.ly_engine.specs.Printing.{condition_set}
 use Rattle.ly_engine.specs.declared.fault.TokensFault.{TokensFault}
 use Rattle.ly_engine.specs.declared.fault.TokensFault.TheVariants.{Write}
 use Rattle.ly_engine.proofs.AnswerLemmas.{answer_of, leaves_tokens}
-use Rattle.ly_engine.proofs.PrintingLemmas.{scanner_of}
 use Rattle.ly_engine.proofs.write_tokens.write_answer_by.Goals as goal
 
 pub token_end-requires : goal.token_end-requires
@@ -16,12 +15,8 @@ token_end-requires g c =
     let file = c.args.file.now in
     let told = c.in_ok-end.ensures.told in
     let answer = answer_of (defined file.names) file.rules.items file.actions.items c.in_ok-labels.labels.actions.now
-    (record { walk = g.S.Steps.walk c.args.steps; cut = g.S.Steps.cut_of c.args.steps }) _ c.new-lexer.result.place
-    c.args.text.now c.in_ok-end.end told.0 c.requires
-    (scanner_of (g.S.Steps.walk c.args.steps) (g.S.Steps.walk c.new-lexer.result.steps) (g.S.Steps.cut_of c.args.steps)
-    (g.S.Steps.cut_of c.new-lexer.result.steps) (ap (λ s. g.S.Steps.walk s) c.new-lexer.ensures.steps)
-    (ap (λ s. g.S.Steps.cut_of s) c.new-lexer.ensures.steps))
-    c.new-lexer.ensures.place (c.in_ok-labels.ensures ∙ c.deref-2.ensures.value) told.1 in
+    (record { walk = g.S.Steps.walk c.args.steps; cut = g.S.Steps.cut_of c.args.steps }) c.args.text.now
+    c.in_ok-end.end told.0 c.requires (c.in_ok-labels.ensures ∙ c.deref-2.ensures.value) told.1 in
     leaves_tokens (defined file.names) file.rules.items
     (condition_set file.actions.items) _ answer.0 c.in_ok-end.end answer.1
 
@@ -40,13 +35,8 @@ returns-in_err-end-clause-beginning g c = λ written is.
       (
         short.1.0,
         answer_of (defined file.names) file.rules.items file.actions.items c.in_ok-labels.labels.actions.now
-            (record { walk = g.S.Steps.walk c.args.steps; cut = g.S.Steps.cut_of c.args.steps }) _
-            c.new-lexer.result.place c.args.text.now short.0 short.1.0 c.requires
-            (scanner_of (g.S.Steps.walk c.args.steps) (g.S.Steps.walk c.new-lexer.result.steps)
-            (g.S.Steps.cut_of c.args.steps) (g.S.Steps.cut_of c.new-lexer.result.steps)
-            (ap (λ s. g.S.Steps.walk s) c.new-lexer.ensures.steps)
-            (ap (λ s. g.S.Steps.cut_of s) c.new-lexer.ensures.steps))
-            c.new-lexer.ensures.place (c.in_ok-labels.ensures ∙ c.deref-2.ensures.value) short.1.1,
+            (record { walk = g.S.Steps.walk c.args.steps; cut = g.S.Steps.cut_of c.args.steps }) c.args.text.now
+            short.0 short.1.0 c.requires (c.in_ok-labels.ensures ∙ c.deref-2.ensures.value) short.1.1,
         subst (λ k. IsCutShort (g.W.Sink.contents c.args.writer.now)
             (g.W.Sink.contents c.write_token_lines.new.writer) k short.1.0) (sym same) short.1.2,
       ),
@@ -60,12 +50,7 @@ returns-clause-answered g c =
       subst (λ (e : End). IsAnswer (defined file.names) file.rules.items file.actions.items c.args.text.now e told.0)
           (sym c.token_end.ensures) (answer_of (defined file.names) file.rules.items file.actions.items
           c.in_ok-labels.labels.actions.now
-          (record { walk = g.S.Steps.walk c.args.steps; cut = g.S.Steps.cut_of c.args.steps }) _
-          c.new-lexer.result.place c.args.text.now c.in_ok-end.end told.0 c.requires
-          (scanner_of (g.S.Steps.walk c.args.steps) (g.S.Steps.walk c.new-lexer.result.steps)
-          (g.S.Steps.cut_of c.args.steps) (g.S.Steps.cut_of c.new-lexer.result.steps)
-          (ap (λ s. g.S.Steps.walk s) c.new-lexer.ensures.steps)
-          (ap (λ s. g.S.Steps.cut_of s) c.new-lexer.ensures.steps))
-          c.new-lexer.ensures.place (c.in_ok-labels.ensures ∙ c.deref-2.ensures.value) told.1),
+          (record { walk = g.S.Steps.walk c.args.steps; cut = g.S.Steps.cut_of c.args.steps }) c.args.text.now
+          c.in_ok-end.end told.0 c.requires (c.in_ok-labels.ensures ∙ c.deref-2.ensures.value) told.1),
       told.2,
     )

@@ -1,4 +1,4 @@
-use Rattle.std.proofs.Common.{◌≡◌, ◌<◌, [], arith, get_or, length, take, ◌∙◌}
+use Rattle.std.proofs.Common.{◌≡◌, ◌<◌, [], get_or, length, take}
 use Rattle.std.proofs.lemmas.List.{take_all}
 use Rattle.ly_position.specs.Private.Targets.{GoesOn}
 use Rattle.ly_position.specs.declared.nfa.Slot.TheVariants.{Reads}
@@ -12,12 +12,11 @@ pub loop-number-preserved : goal.loop-number-preserved
 loop-number-preserved c =
     let slots = c.args.slots.now in
     let byte = c.args.byte in
-    let items = c.members-number-items.result.now in
+    let items = c.args.from.now in
     let i = c.loop-number.number-index in
     let p = get_or items i 0 in
     let d = Reads (record { words = [] }) (Position 0) in
-    let less : p < length slots = let w = c.members-number-items.ensures.within i 0 c.loop-number-test.true in
-    omega (arith, c.requires.from) in
+    let less : p < length slots = c.requires.from i 0 c.loop-number-test.true in
     elim c.match-target_after.branch [
       | in-Some w ↦
           rw w.into-is
@@ -35,8 +34,8 @@ loop-number-preserved c =
 
 pub returns-clause-members : goal.returns-clause-members
 returns-clause-members c =
-    let items = c.members-number-items.result.now in
-    let all : take c.loop-number.number-index items ≡ c.args.from.now.positions.members =
-    take_all c.loop-number.number-index items c.loop-number-test.false ∙ c.members-number-items.ensures.these in
+    let items = c.args.from.now in
+    let all : take c.loop-number.number-index items ≡ items =
+    take_all c.loop-number.number-index items c.loop-number-test.false in
     puts_all (GoesOn c.args.slots.now c.args.byte) c.args.into.now c.loop-number.into c.args.forks.now
-    c.follow.new.self c.args.from.now.positions.members (rw all at c.loop-number.invariant) c.follow.ensures.closed
+    c.follow.new.self items (rw all at c.loop-number.invariant) c.follow.ensures.closed

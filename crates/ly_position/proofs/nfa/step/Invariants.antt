@@ -5,4 +5,4 @@ use Rattle.ly_position.proofs.nfa.step.Given as goal
 
 -- where the positions so far go on is in the set
 abbrev pub invariant-loop-number : goal.invariant-loop-number
-invariant-loop-number l = Puts (GoesOn l.slots l.byte) l.fn.into l.into (take l.number-index l.number-items)
+invariant-loop-number l = Puts (GoesOn l.slots l.byte) l.fn.into l.into (take l.number-index l.from)

@@ -5,41 +5,37 @@ use Rattle.ly_position.specs.Nfa.{Stepped}
 use Rattle.ly_subset.specs.declared.fault.SubsetFault.TheVariants.{TooManyStates}
 use Rattle.ly_subset.specs.Subsets.{set_at}
 use Rattle.ly_subset.specs.Private.Found.{AreKept, IsPast}
-use Rattle.ly_subset.proofs.FoundLemmas.{both_ways, count_entered, entered_kept, entered_longer, filled, filled_room}
+use Rattle.ly_subset.proofs.FoundLemmas.{both_ways, count_entered, entered_kept, entered_longer}
 use Rattle.ly_subset.proofs.FoundLemmas.{past_row, row_found, stepped_same}
 use Rattle.ly_subset.proofs.RuleLemmas.{set_within}
 use Rattle.ly_subset.proofs.construct.row.Goals as goal
 
-pub fill-requires : goal.fill-requires
-fill-requires c = subst (λ n. All (λ p. p < n) c.deref.result.now) (sym c.requires.room.from.positions)
-    (subst (λ ps. All (λ p. p < length c.args.nfa.now.positions) ps)
-    (sym (c.deref.ensures.value ∙ c.in_ok-members.ensures))
-    (set_within (length c.args.nfa.now.positions) c.args.found.now.keys c.args.state c.requires.found.kept.are_sets))
-
 pub loop-byte-init : goal.loop-byte-init
 loop-byte-init c = record {
-  room = record {
-    from = filled_room c.args.nfa.now c.fill.new.self c.args.step.now.from c.deref.result.now c.fill.ensures
-        c.requires.room.from;
-    into = c.requires.room.into;
-  };
+  room = c.requires.room;
   found = c.requires.found;
   state = c.requires.state;
-  set = subst (λ xs. (q : ℕ) → Contains c.fill.new.self.positions.members q ↔ Contains xs q)
-      (c.deref.ensures.value ∙ c.in_ok-members.ensures)
-      (filled c.fill.new.self c.args.step.now.from c.deref.result.now c.fill.ensures);
+  set = subst (λ xs. (q : ℕ) → Contains c.in_ok-from.from.items q ↔ Contains xs q)
+      c.in_ok-from.ensures (λ q. (λ h. h, λ h. h));
   at = let next = c.requires.next in omega arith;
   longer = omega arith;
   starts = refl;
   limit = refl;
 }
 
+pub come-requires-clause-from : goal.come-requires-clause-from
+come-requires-clause-from c = subst (λ ps. All (λ p. p < length c.args.nfa.now.positions) ps)
+    (sym (c.deref.ensures.value ∙ c.in_ok-from.ensures))
+    (set_within (length c.args.nfa.now.positions) c.args.found.now.keys c.args.state c.requires.found.kept.are_sets)
+
 pub returns-in_err-enter-clause-past : goal.returns-in_err-enter-clause-past
 returns-in_err-enter-clause-past c = λ failed.
     let p = err_from_is_err_and c.from_residual-in_err-enter.result c.from_residual-in_err-enter.ensures.1 in
     let was = c.loop-byte.invariant in
     let nfa = c.args.nfa.now in
-    let from = c.loop-byte.step.from.positions.members in
+    let from = c.deref.result.now in
+    let set = subst (λ xs. (q : ℕ) → Contains xs q ↔ Contains (set_at c.loop-byte.found.keys c.args.state) q)
+    (sym c.deref.ensures.value) was.set in
     let members = c.come.new.into.positions.members in
     let same : c.in_err-enter.field-0.0 ≡ TooManyStates = let a = p.1 in let b = p.2 in cc in
     subst (λ n. IsPast nfa n c.args.least.now c.args.found.now.limit) was.starts
@@ -47,7 +43,7 @@ returns-in_err-enter-clause-past c = λ failed.
     (past_row nfa c.args.least.now c.loop-byte.found members c.args.state c.loop-byte.byte-index was.found
     (c.in_err-enter.ensures.full (ap (λ e. Err e) same)) was.state c.loop-byte-test.true
     (both_ways (Contains members) (Stepped nfa from _) (Stepped nfa (set_at c.loop-byte.found.keys c.args.state) _)
-    c.come.ensures.members (stepped_same nfa from (set_at c.loop-byte.found.keys c.args.state) _ was.set))))
+    c.come.ensures.members (stepped_same nfa from (set_at c.loop-byte.found.keys c.args.state) _ set))))
 
 pub loop-byte-preserved : goal.loop-byte-preserved
 loop-byte-preserved c =
@@ -55,23 +51,25 @@ loop-byte-preserved c =
     let least = c.args.least.now in
     let was = c.loop-byte.invariant in
     let members = c.come.new.into.positions.members in
+    let set = subst (λ xs. (q : ℕ) → Contains xs q ↔ Contains (set_at c.loop-byte.found.keys c.args.state) q)
+    (sym c.deref.ensures.value) was.set in
     let entered = c.in_ok-enter.ensures.entered in
     let more = count_entered nfa least c.loop-byte.found c.enter.new.self members was.found entered
     c.in_ok-enter.ensures.starts c.in_ok-enter.ensures.limit in
     let longer = entered_longer nfa least c.loop-byte.found c.enter.new.self members was.found entered
     c.in_ok-enter.ensures.starts c.in_ok-enter.ensures.limit in
     record {
-      room = record { from = was.room.from; into = c.come.ensures.into };
+      room = c.come.ensures.into;
       found = row_found nfa least c.loop-byte.found c.enter.new.self members was.found entered
           c.in_ok-enter.ensures.starts c.in_ok-enter.ensures.limit c.args.state c.loop-byte.byte-index
           (subst (λ n. AreKept n c.enter.new.self.limit c.enter.new.self.keys) c.come.ensures.into.positions
           c.in_ok-enter.ensures.kept) was.state c.loop-byte-test.true was.at
-          (both_ways (Contains members) (Stepped nfa c.loop-byte.step.from.positions.members _)
+          (both_ways (Contains members) (Stepped nfa c.deref.result.now _)
           (Stepped nfa (set_at c.loop-byte.found.keys c.args.state) _) c.come.ensures.members
-          (stepped_same nfa c.loop-byte.step.from.positions.members (set_at c.loop-byte.found.keys c.args.state) _
-          was.set));
+          (stepped_same nfa c.deref.result.now (set_at c.loop-byte.found.keys c.args.state) _
+          set));
       state = let less = was.state in omega (arith, longer);
-      set = subst (λ xs. (q : ℕ) → Contains c.loop-byte.step.from.positions.members q ↔ Contains xs q)
+      set = subst (λ xs. (q : ℕ) → Contains c.in_ok-from.from.items q ↔ Contains xs q)
           (sym (entered_kept nfa least c.loop-byte.found c.enter.new.self members was.found entered
           c.in_ok-enter.ensures.starts c.in_ok-enter.ensures.limit c.args.state was.state)) was.set;
       at = let at = was.at in let same = c.in_ok-enter.ensures.starts in omega (arith, more);
