@@ -112,8 +112,8 @@ impl ScanTable {
         true
     }
 
-    /// Whether a condition begins in another state at the start of a line than elsewhere. It may say yes where there are
-    /// more conditions than numbers.
+    /// Whether a condition begins in another state at the start of a line than elsewhere. It may say yes where there
+    /// are more conditions than numbers.
     pub(crate) fn minds_lines(&self) -> bool
         ensures { result ≡ false → MindsNoLine (states_in self.now) }
     {

@@ -54,8 +54,8 @@ impl<'a> RowWalk<'a> {
     }
 }
 
-/// Whether a condition begins in another state at the start of a line than elsewhere. It may say yes where there are more
-/// conditions than numbers.
+/// Whether a condition begins in another state at the start of a line than elsewhere. It may say yes where there are
+/// more conditions than numbers.
 fn minds_lines(dfa: &Dfa) -> bool
     ensures { result ≡ false → MindsNoLine (rows_of dfa.now) }
 {

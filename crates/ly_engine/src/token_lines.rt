@@ -15,8 +15,8 @@ use ly_base::{End, Front, Place, RuleNo, Sink, TextWriter, WriteFault};
 use ly_lexread::{Action, Returned};
 use ly_scan::{Steps, next_lexeme};
 
-/// Writes the lines of the tokens that a scanner finds in a text, with a last one where no rule matches, and answers how
-/// its run ends.
+/// Writes the lines of the tokens that a scanner finds in a text, with a last one where no rule matches, and answers
+/// how its run ends.
 pub(crate) fn write_token_lines<S: Steps, W: Sink>(
     steps: &mut S,
     text: &[u8],

@@ -5,8 +5,8 @@ use crate::matching::{cut_down, longest};
 use crate::steps::Steps;
 use ly_base::{End, Lexeme, Place};
 
-/// What is taken at a place of a text: the longest match there, its rule, and the token that the rule's cut leaves. Or how
-/// a run over the text ends there.
+/// What is taken at a place of a text: the longest match there, its rule, and the token that the rule's cut leaves. Or
+/// how a run over the text ends there.
 pub fn next_lexeme<S: Steps>(steps: &mut S, place: &Place<'_>) -> Result<Lexeme, End>
     ensures lexeme { IfOk result
         (IsLexemeAt (record { walk = S.walk steps.old; cut = S.cut_of steps.old }) place.now) }

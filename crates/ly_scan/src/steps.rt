@@ -1,4 +1,5 @@
-ghost use Rattle.std.specs.Prelude.{◌≡◌, ℕ, List, [], ◌∷◌, ◌++◌, Bool, true, false, Option, None, IfSome, is_some, option_map};
+ghost use Rattle.std.specs.Prelude.{◌≡◌, ℕ, List, [], ◌∷◌, ◌++◌, Bool, true, false, Option, None, IfSome, is_some};
+ghost use Rattle.std.specs.Prelude.{option_map};
 ghost use Rattle.ly_base.specs.declared.cut.Cut.{Cut};
 ghost use Rattle.ly_scan.specs.Walk.{Walk};
 
