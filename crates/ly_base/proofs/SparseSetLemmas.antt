@@ -1,8 +1,8 @@
 -- Lemmas on sets whose members stand in the order in which they came.
 use Rattle.std.proofs.Common.{◌≡◌, ◌≢◌, ℕ, ◌+◌, ◌^◌, ◌<◌, ◌≤◌, ◌++◌, List, [], ◌∷◌, length, take, get_or, set, nat_eq}
 use Rattle.std.proofs.Common.{eqb, eqb-true, Bool, not, true, false, ap, sym, subst, ◌∙◌, arith, inl, inr, ◌⊎◌}
-use Rattle.std.proofs.Common.{length-set, length-take-le, length-append, get_or-take, get_or-set_same, get_or-set_other, All}
-use Rattle.std.proofs.Common.{Contains}
+use Rattle.std.proofs.Common.{length-set, length-take-le, length-append, get_or-take, get_or-set_same, get_or-set_other}
+use Rattle.std.proofs.Common.{All, Contains}
 use Rattle.std.specs.Prelude.{AllPairs}
 use Rattle.std.specs.List.{list_any, IsDistinct}
 use Rattle.std.specs.Cmp.{nat_eq_equiv}
