@@ -1,4 +1,5 @@
-ghost use Rattle.std.specs.Prelude.{◌≡◌, ◌<◌, ◌≤◌, ◌+◌, ◌*◌, ◌^◌, ◌&&◌, ℕ, length, nat_eq, if◌then◌else◌, None, IfOk};
+ghost use Rattle.std.specs.Prelude.{◌≡◌, ◌<◌, ◌≤◌, ◌+◌, ◌*◌, ◌^◌, ◌&&◌, ℕ, length, nat_eq, if◌then◌else◌};
+ghost use Rattle.std.specs.Prelude.{slice_index_or, None, IfOk};
 ghost use Rattle.std.specs.Prelude.{IfSome, option_map};
 ghost use Rattle.ly_scan.specs.StateRows.{row_entry, state_at, Begins};
 ghost use Rattle.ly_scan.specs.Private.StateRows.{target_in, IsStart};
@@ -97,7 +98,7 @@ impl StateRows {
         ensures is { option_map state_at result ≡ row_entry self.now (state_at at) column }
         ensures begins { IfSome result Begins }
     {
-        let start = self.entries[at.start + usize::from(column)];
+        let start = entry(&self.entries, at.start, column);
         if start == NOWHERE {
             None
         } else {
@@ -106,6 +107,16 @@ impl StateRows {
             })
         }
     }
+}
+
+/// The entry of a column in the row that begins at a place.
+fn entry(entries: &[u32], start: usize, column: u8) -> u32
+    requires { start + column < length entries.now }
+    ensures { result ≡ slice_index_or entries.now (start + column) 0 }
+{
+    // the column comes first, so that nothing but a load lies between where a walk stands and where it goes
+    let behind = &entries[usize::from(column)..];
+    behind[start]
 }
 
 /// The entry that leads to a state, or nowhere.
