@@ -81,10 +81,10 @@ impl ScanTable {
     }
 
     /// The rule of a state, if it has one.
-    pub(crate) fn rule(&self, state: StateNo) -> Option<RuleNo>
-        ensures { option_map (λ r. r.0) result ≡ rule_in self.now state.0 }
+    pub(crate) fn rule(&self, state: usize) -> Option<RuleNo>
+        ensures { option_map (λ r. r.0) result ≡ rule_in self.now state }
     {
-        *self.accepted.get(state.0 as usize)?
+        *self.accepted.get(state)?
     }
 
     /// What is cut off the matches of a rule.

@@ -89,7 +89,7 @@ impl Steps for TableWalk<'_> {
     }
 
     fn accept(&self, at: RowStart) -> Option<RuleNo> {
-        self.table.rule(StateNo(at.state()))
+        self.table.rule(at.state())
     }
 
     fn cut(&self, rule: RuleNo) -> Cut {

@@ -1,5 +1,6 @@
 -- The walk over the rows of a deterministic automaton.
-use Rattle.std.specs.Prelude.{◌≡◌, ◌<◌, ℕ, List, Bool, Option, Some, IfSome, length}
+use Rattle.std.specs.Prelude.{◌≡◌, ◌<◌, ℕ, List, Bool, Option, Some, IfSome, length, map, option_map}
+use Rattle.ly_base.specs.declared.numbers.RuleNo.{RuleNo}
 use Rattle.ly_scan.specs.StateRows.{row_entry}
 use Rattle.ly_scan.specs.StateWalk.{States, state_walk}
 use Rattle.ly_scan.specs.Walk.{Walk}
@@ -18,3 +19,7 @@ abbrev pub AreRowsOf : Automaton → List (Option ℕ) → Type 0
 AreRowsOf A rows = (state byte : ℕ) → state < length A.rules → byte < 256
     → (row_entry rows state byte ≡ next_of A (Some state) byte)
     × IfSome (row_entry rows state byte) (λ next. next < length A.rules)
+
+-- the rules are those of the states, one by one
+abbrev pub AreRulesOf : Automaton → List (Option RuleNo) → Type 0
+AreRulesOf A rules = map (option_map (λ r. r.0)) rules ≡ A.rules

@@ -3,7 +3,7 @@ ghost use Rattle.std.proofs.Props.{props};
 ghost use Rattle.std.specs.Bool.{OnTrue};
 ghost use Rattle.ly_base.specs.declared.cut.Cut.TheVariants.{Whole};
 ghost use Rattle.ly_engine.specs.PositionWalk.{cut_in};
-ghost use Rattle.ly_engine.specs.RowWalk.{row_walk, rows_of, AreRowsOf};
+ghost use Rattle.ly_engine.specs.RowWalk.{row_walk, rows_of, AreRowsOf, AreRulesOf};
 ghost use Rattle.ly_scan.specs.StateRows.{state_at, Begins};
 ghost use Rattle.ly_scan.specs.StateWalk.{ahead_of, ahead_of-ended, MindsNoLine};
 ghost use Rattle.ly_subset.specs.Automaton.{start_of};
@@ -27,6 +27,8 @@ pub struct RowWalk<'a> {
     lines: bool,
     /// Where each byte leads from each state.
     rows: StateRows,
+    /// The rule of each state, if it has one.
+    accepted: Vec<Option<RuleNo>>,
     /// Whether no rule is known to have a cut, so that none is looked up.
     uncut: bool,
     ghost begun: { initial ≡ start_of dfa.now 0 false } by { Prim.hlevel props },
@@ -34,6 +36,7 @@ pub struct RowWalk<'a> {
     ghost alike: { lines ≡ false → MindsNoLine (rows_of dfa.now) } by { Prim.hlevel props },
     ghost counted: { length rows ≡ length dfa.now.rules * 256 } by { Prim.hlevel props },
     ghost spread: { AreRowsOf dfa.now rows } by { Prim.hlevel props },
+    ghost told: { AreRulesOf dfa.now accepted.items } by { Prim.hlevel props },
     ghost whole: { OnTrue uncut ((rule : ℕ) → cut_in rules.now rule ≡ Whole) } by { Prim.hlevel props },
 }
 
@@ -49,6 +52,7 @@ impl<'a> RowWalk<'a> {
             initial: dfa.start(0, false),
             lines: minds_lines(dfa),
             rows: spread(alloc, dfa)?,
+            accepted: accepted(alloc, dfa)?,
             uncut: are_uncut(rules),
         })
     }
@@ -99,6 +103,21 @@ fn spread(alloc: Global, dfa: &Dfa) -> Result<StateRows, OutOfMemory>
         }
     }
     Ok(rows)
+}
+
+/// The rule of each state of an automaton.
+fn accepted(alloc: Global, dfa: &Dfa) -> Result<Vec<Option<RuleNo>>, OutOfMemory>
+    ensures { IfOk result (λ rules. AreRulesOf dfa.now rules.items) }
+{
+    // more states than have a number have no room either
+    let Ok(states) = u32::try_from(dfa.len()) else {
+        return Err(OutOfMemory);
+    };
+    let mut rules = Vec::with_capacity(alloc, dfa.len())?;
+    for state in 0..states {
+        rules.push(dfa.rule(state))?;
+    }
+    Ok(rules)
 }
 
 impl RowWalk<'_> {
@@ -152,7 +171,7 @@ impl Steps for RowWalk<'_> {
     }
 
     fn accept(&self, at: RowStart) -> Option<RuleNo> {
-        self.dfa.rule(at.state())
+        *self.accepted.get(at.state())?
     }
 
     fn cut(&self, rule: RuleNo) -> Cut {

@@ -114,3 +114,9 @@ ends_best walk start there text n r stays some within begins on alive rule ended
     best : IsLongest walk text n n r.0
     best = best_at walk text n r.0 some (sym (begins (take n text)) ∙ ap start (sym (append-nil (take n text)))
         ∙ sym (on []) ∙ told (there []) (Some r.0) (sym alive) rule)
+
+-- a match has a byte
+pub some_byte : (walk : Walk) (text : List ℕ) (n : ℕ) (best : Option (ℕ × RuleNo)) → IsBest walk text n best
+    → IfSome best (λ b. 0 < b.0)
+some_byte walk text n None h = tt
+some_byte walk text n (Some p) h = omega (arith, h.some_byte)

@@ -1,6 +1,7 @@
-ghost use Rattle.std.specs.Prelude.{◌≡◌, ◌<◌, ◌≤◌, ◌+◌, ℕ, List, [], ◌++◌, length, take, true, is_some, None};
+ghost use Rattle.std.specs.Prelude.{◌≡◌, ◌<◌, ◌≤◌, ◌+◌, ℕ, List, [], ◌++◌, length, take, true, is_some, IfSome, None};
 ghost use Rattle.ly_scan.specs.Cuts.{token_len};
 ghost use Rattle.ly_scan.specs.Matching.{IsMatch};
+ghost use Rattle.ly_scan.specs.Private.Matching.{found};
 ghost use Rattle.ly_scan.specs.Walk.{IsBest, better_of};
 
 use crate::steps::Steps;
@@ -62,7 +63,7 @@ pub(crate) fn longest<S: Steps>(
     // most walks end where a rule matches, so it is looked for there first
     match steps.accept(at) {
         Some(rule) if 0 < passed => Some((passed, rule)),
-        _ => best_passed(steps, condition, at_line_start, rest),
+        _ => best_passed(steps, condition, at_line_start, rest).found(),
     }
 }
 
@@ -91,7 +92,16 @@ fn walk_on<S: Steps>(steps: &mut S, start: S::At, bytes: &[u8]) -> (usize, S::At
 
 /// The best of the places that a walk passes.
 #[inline(never)] // so that the walk that goes on has the registers
-fn best_passed<S: Steps>(
+fn best_passed<S: Steps>(steps: &mut S, condition: u32, at_line_start: bool, rest: &[u8]) -> Best
+    ensures best { IsBest (S.walk steps.old condition at_line_start) rest.now (length rest.now) (found result) }
+    ensures same_walk { S.walk steps.new ≡ S.walk steps.old }
+    ensures same_cuts { S.cut_of steps.new ≡ S.cut_of steps.old }
+{
+    Best::of(best_of_all(steps, condition, at_line_start, rest))
+}
+
+/// The best of the places that a walk passes, place by place.
+fn best_of_all<S: Steps>(
     steps: &mut S,
     condition: u32,
     at_line_start: bool,
@@ -138,5 +148,41 @@ pub(crate) fn cut_down(cut: Cut, length: usize) -> Option<usize>
         Cut::Head(len) if 0 < len && len <= length => Some(len),
         Cut::Tail(len) if len < length => Some(length - len),
         Cut::Head(_) | Cut::Tail(_) => None,
+    }
+}
+
+/// The length of a match and its rule, as two registers hold them. Where nothing matches it has no byte.
+#[derive(Clone, Copy)]
+struct Best {
+    /// The length.
+    length: usize,
+    /// The rule.
+    rule: RuleNo,
+}
+
+impl Best {
+    /// That of an answer.
+    fn of(best: Option<(usize, RuleNo)>) -> Best
+        requires { IfSome best (λ b. 0 < b.0) }
+        ensures { found result ≡ best }
+    {
+        match best {
+            Some((length, rule)) => Best { length, rule },
+            None => Best {
+                length: 0,
+                rule: RuleNo(0),
+            },
+        }
+    }
+
+    /// The answer.
+    fn found(self) -> Option<(usize, RuleNo)>
+        ensures { result ≡ found self }
+    {
+        if self.length == 0 {
+            None
+        } else {
+            Some((self.length, self.rule))
+        }
     }
 }

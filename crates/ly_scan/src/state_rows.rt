@@ -23,11 +23,10 @@ pub struct RowStart {
 
 impl RowStart {
     /// The number of the state.
-    pub fn state(self) -> u32
-        requires { Begins self }
+    pub fn state(self) -> usize
         ensures { result ≡ state_at self }
     {
-        (self.start / WIDTH) as u32
+        self.start / WIDTH
     }
 }
 

@@ -1,6 +1,6 @@
 use Rattle.std.proofs.Common.{◌≡◌, ◌++◌, ℕ, List, take}
 use Rattle.ly_scan.specs.Walk.{IsBest}
-use Rattle.ly_scan.proofs.matching.best_passed.Given as goal
+use Rattle.ly_scan.proofs.matching.best_of_all.Given as goal
 
 -- the walk stands behind the bytes so far, and the best of them is known
 abbrev pub invariant-loop-passed : goal.invariant-loop-passed
