@@ -120,7 +120,8 @@ impl TextBuffer {
         Ok(text)
     }
 
-    /// Appends a label and as many of the bytes behind it as `push_quoted` appends of a text's.
+    /// Appends a label and the first so many of these bytes as `push_quoted` does, however long they are and whether or
+    /// not they stand for themselves.
     #[inline(never)] // so that a short text has the registers
     fn push_long(&mut self, label: &Label, bytes: &[u8], count: usize) -> Result<(), AllocError>
         requires { count ≤ length bytes.now }

@@ -133,7 +133,8 @@ impl TextWriter {
         send(&mut sent, writer, &self.room[..self.used])
     }
 
-    /// Appends a line of a label and as many of the bytes behind it as `push_quoted_line` appends of a text's.
+    /// Appends a line of a label and the first so many of these bytes as `push_quoted_line` does, however long they are
+    /// and whether or not they stand for themselves.
     #[inline(never)] // so that a short text has the registers
     fn push_long_line<W: Sink>(
         &mut self,

@@ -59,15 +59,6 @@ impl ScanTable {
         }
     }
 
-    /// Where the row of a state begins.
-    pub(crate) fn row(&self, state: StateNo) -> RowStart
-        requires { state.0 < length self.now.accepted }
-        ensures state { state_at result ≡ state.0 }
-        ensures begins { Begins result }
-    {
-        self.rows.row(state.0)
-    }
-
     /// Where a byte leads from a state.
     pub(crate) fn next(&self, at: RowStart, byte: u8) -> Option<RowStart>
         requires begins { Begins at }

@@ -50,7 +50,7 @@ impl TableWalk<'_> {
         ensures known { IfSome result (λ at. state_at at < length self.now.table.now.accepted) }
     {
         let state = self.table.start(condition, at_line_start)?;
-        Some(self.table.row(state))
+        Some(RowStart::of(state.0))
     }
 
     /// What a rule's matches are cut down to, looked up.
@@ -77,7 +77,7 @@ impl Steps for TableWalk<'_> {
         if condition != 0 || at_line_start {
             return self.start_of(condition, at_line_start);
         }
-        Some(self.table.row(self.initial?))
+        Some(RowStart::of(self.initial?.0))
     }
 
     fn minds_lines(&self) -> bool {

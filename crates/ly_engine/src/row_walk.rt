@@ -129,7 +129,7 @@ impl RowWalk<'_> {
         ensures known { IfSome result (λ at. state_at at < length self.now.dfa.now.rules) }
     {
         let state = self.dfa.start(condition, at_line_start)?;
-        Some(self.rows.row(state))
+        Some(RowStart::of(state))
     }
 
     /// What a rule's matches are cut down to, looked up.
@@ -159,7 +159,7 @@ impl Steps for RowWalk<'_> {
         if condition != 0 || at_line_start {
             return self.start_of(condition, at_line_start);
         }
-        Some(self.rows.row(self.initial?))
+        Some(RowStart::of(self.initial?))
     }
 
     fn minds_lines(&self) -> bool {

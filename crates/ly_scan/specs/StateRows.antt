@@ -1,5 +1,5 @@
 -- The rows of a scanner's states, as they are walked.
-use Rattle.std.specs.Prelude.{◌≡◌, ℕ, ◌<◌, ◌+◌, ◌*◌, ◌/◌, ◌^◌, List, Option, option_and_then, slice_get}
+use Rattle.std.specs.Prelude.{◌≡◌, ℕ, ◌+◌, ◌*◌, ◌/◌, List, Option, option_and_then, slice_get}
 use Rattle.ly_scan.specs.declared.state_rows.RowStart.{RowStart}
 
 -- where a column leads from a state, in rows of 256 entries that stand one behind another
@@ -10,6 +10,6 @@ row_entry rows state column = option_and_then (λ next. next) (slice_get rows (s
 abbrev pub state_at : RowStart → ℕ
 state_at r = r.start / 256
 
--- a row begins there, at a number of 32 bits
+-- a row begins there
 abbrev pub Begins : RowStart → Type 0
-Begins r = (state_at r * 256 ≡ r.start) × (r.start < 2 ^ 32)
+Begins r = state_at r * 256 ≡ r.start

@@ -22,6 +22,16 @@ pub struct RowStart {
 }
 
 impl RowStart {
+    /// Where a walk stands in a state.
+    pub fn of(state: u32) -> RowStart
+        ensures state { state_at result ≡ state }
+        ensures begins { Begins result }
+    {
+        RowStart {
+            start: state as usize * WIDTH,
+        }
+    }
+
     /// The number of the state.
     pub fn state(self) -> usize
         ensures { result ≡ state_at self }
@@ -75,19 +85,6 @@ impl StateRows {
     {
         let entry = &mut self.entries[state as usize * WIDTH + column];
         *entry = start_of(next);
-    }
-
-    /// Where a walk stands in a state.
-    pub fn row(&self, state: u32) -> RowStart
-        requires { state * 256 < length self.now }
-        ensures state { state_at result ≡ state }
-        ensures begins { Begins result }
-    {
-        // rows of more entries than have a number are never made
-        let _ = &self.entries;
-        RowStart {
-            start: state as usize * WIDTH,
-        }
     }
 
     /// Where a column leads from a state: to a state, or nowhere.

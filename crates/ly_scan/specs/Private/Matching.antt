@@ -3,6 +3,6 @@ use Rattle.std.specs.Prelude.{ℕ, Option, Some, None, nat_eq, if◌then◌else�
 use Rattle.ly_base.specs.declared.numbers.RuleNo.{RuleNo}
 use Rattle.ly_scan.specs.declared.matching.Best.{Best}
 
--- the answer that stands for: none where it has no byte
+-- the answer that they stand for: none where there is no byte
 abbrev pub found : Best → Option (ℕ × RuleNo)
 found b = if nat_eq b.length 0 then None else Some (b.length, b.rule)
