@@ -99,7 +99,7 @@ plain_run_is q (x ∷ xs) (suc k) h = by (is_plain q x) refl h (plain_run_is q x
     by false e h more = absurd (omega arith)
 
 -- the first bytes of a block at a place
-block_at : (room block : List ℕ) (at run : ℕ) → 16 ≤ length block → at + 16 ≤ length room → run ≤ 16
+pub block_at : (room block : List ℕ) (at run : ℕ) → 16 ≤ length block → at + 16 ≤ length room → run ≤ 16
     → take (at + run) (put_chunk at room (take 16 block)) ≡ take at room ++ take run block
 block_at room block at run whole within few =
     let at_is : length (take at room) ≡ at = omega (arith, length-take at room) in

@@ -1,7 +1,6 @@
 -- Lemmas on places of a text.
-use Rattle.std.proofs.Common.{◌≡◌, ◌∙◌, ◌-◌, ◌+◌, ◌++◌, ℕ, List, [], ◌∷◌, Bool, true, Some, rules, arith, ap, eqb, refl}
-use Rattle.std.proofs.Common.{Option, drop, length, slice_get, sym, take, take-add}
-use Rattle.std.proofs.lemmas.List.{drop-drop}
+use Rattle.std.proofs.Common.{◌≡◌, ◌∙◌, ◌-◌, ◌+◌, ◌≤◌, ◌++◌, ℕ, List, [], ◌∷◌, Bool, true, Some, rules, arith, ap, eqb, refl}
+use Rattle.std.proofs.Common.{Option, drop, length, length-drop, slice_get, take, take-add}
 use Rattle.std.specs.Prelude.{unwrap_or}
 use Rattle.ly_base.specs.Lexed.{after_line, moved, Place}
 
@@ -27,22 +26,29 @@ line_on text at count = ap (after_line true) (take-add at count text)
     ∙ after_more true (take at text) (take count (drop at text))
 
 -- a place some bytes on
-pub advanced : (text : List ℕ) (at count condition kept : ℕ) (begin : Option ℕ) (p : Place)
+pub advanced : (text rest left : List ℕ) (count condition kept : ℕ) (begin : Option ℕ) (p : Place)
+    → length rest ≤ length text → drop (length text - length rest) text ≡ rest → count ≤ length rest
+    → left ≡ drop count rest
     → (let q : Place = record {
-      line = after_line true (take at text);
+      line = after_line true (take (length text - length rest) text);
       condition = kept;
-      at = at;
-      rest = drop at text;
+      at = length text - length rest;
+      rest = rest;
     } in q) ≡ p
     → condition ≡ unwrap_or begin kept
     → (let q : Place = record {
-      line = after_line true (take (at + count) text);
+      line = after_line true (take (length text - length left) text);
       condition = condition;
-      at = at + count;
-      rest = drop (at + count) text;
+      at = length text - length left;
+      rest = left;
     } in q) ≡ moved p count begin
-advanced text at count condition kept begin p is set =
-    let rest : drop (at + count) text ≡ drop count (drop at text)
-    = ap (λ n. drop n text) (omega arith) ∙ sym (drop-drop count at text) in
-    (λ i. record { line = line_on text at count i; condition = set i; at = at + count; rest = rest i })
+advanced text rest left count condition kept begin p within end few is_left is set =
+    let at : ℕ = length text - length rest in
+    let on : length text - length left ≡ at + count
+    = omega (arith, ap length is_left, length-drop count rest, within, few) in
+    let line : after_line true (take (length text - length left) text) ≡ after_line (after_line true (take at text))
+    (take count rest)
+    = ap (λ n. after_line true (take n text)) on ∙ line_on text at count
+    ∙ ap (λ xs. after_line (after_line true (take at text)) (take count xs)) end in
+    (λ i. record { line = line i; condition = set i; at = on i; rest = is_left i })
     ∙ ap (λ (q : Place). moved q count begin) is

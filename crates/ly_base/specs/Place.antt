@@ -1,12 +1,21 @@
 -- Where a run over a text stands, as it is kept.
-use Rattle.std.specs.Prelude.{drop, take, true}
+use Rattle.std.specs.Prelude.{◌≡◌, ◌-◌, ◌≤◌, ℕ, drop, length, take, true}
 use Rattle.ly_base.specs.Lexed.{after_line, Place}
 use Rattle.ly_base.specs.declared.place.Place.TheInside.{Inside}
 
+-- how many bytes lie behind the run
+abbrev pub passed : Inside → ℕ
+passed p = length p.text.now - length p.rest.now
+
 abbrev pub spot_of : Inside → Place
 spot_of p = record {
-  line = after_line true (take p.at p.text.now);
+  line = after_line true (take (passed p) p.text.now);
   condition = p.condition;
-  at = p.at;
-  rest = drop p.at p.text.now;
+  at = passed p;
+  rest = p.rest.now;
 }
+
+-- the bytes that are left are the end of the text
+pub record EndsText (p : Inside) : Type 0 where
+  pub within : length p.rest.now ≤ length p.text.now
+  pub end : drop (passed p) p.text.now ≡ p.rest.now

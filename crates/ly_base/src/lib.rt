@@ -34,6 +34,7 @@ mod sparse_set;
 mod text;
 mod text_buffer;
 mod text_writer;
+mod texts;
 mod whole;
 
 pub use blank::is_blank;
@@ -62,4 +63,5 @@ pub use sparse_set::SparseSet;
 pub use text::{Terminal, push_escaped, push_leaf, push_name, push_no_rule_line};
 pub use text_buffer::TextBuffer;
 pub use text_writer::TextWriter;
+pub use texts::Texts;
 pub use whole::{ReadFault, WriteFault, read_whole, write_whole};

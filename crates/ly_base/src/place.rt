@@ -8,23 +8,22 @@ use std::marker::Model;
 pub struct Place<'t> {
     /// The whole text.
     text: &'t [u8],
-    /// How many of its bytes lie behind the run.
-    at: usize,
+    /// The bytes of it that are left.
+    rest: &'t [u8],
     /// The number of the start condition.
     condition: u32,
 }
 
 impl<'t> Model for Place<'t> {
-    ghost use Rattle.std.specs.Prelude.{◌≤◌, length};
     ghost use Rattle.ly_base.specs.Lexed.{Place as Spot};
 
     ghost Value = { Spot };
 
-    ghost use Rattle.ly_base.specs.Place.{spot_of};
+    ghost use Rattle.ly_base.specs.Place.{spot_of, EndsText};
 
     ghost view = { spot_of };
 
-    ghost invariant = { λ p. p.at ≤ length p.text.now };
+    ghost invariant = { EndsText };
 }
 
 impl<'t> Place<'t> {
@@ -36,7 +35,7 @@ impl<'t> Place<'t> {
     {
         Place {
             text,
-            at: 0,
+            rest: text,
             condition: 0,
         }
     }
@@ -45,7 +44,7 @@ impl<'t> Place<'t> {
     pub fn at(&self) -> usize
         ensures { result ≡ self.now.at }
     {
-        self.at
+        self.text.len() - self.rest.len()
     }
 
     /// The number of the start condition.
@@ -59,14 +58,14 @@ impl<'t> Place<'t> {
     pub fn at_line_start(&self) -> bool
         ensures { result ≡ self.now.line }
     {
-        line_starts_behind(&self.text[..self.at])
+        line_starts_behind(&self.text[..self.at()])
     }
 
     /// The bytes that are left.
     pub fn rest(&self) -> &'t [u8]
         ensures { result.now ≡ self.now.rest }
     {
-        &self.text[self.at..]
+        self.rest
     }
 
     /// Goes on by some bytes, and sets the condition if there is one to set.
@@ -75,7 +74,7 @@ impl<'t> Place<'t> {
         ensures { self.new ≡ moved self.old count begin }
     {
         self.condition = begin.unwrap_or(self.condition);
-        self.at += count;
+        self.rest = &self.rest[count..];
     }
 }
 

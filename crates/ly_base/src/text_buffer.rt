@@ -45,12 +45,14 @@ impl Model for TextBuffer {
 }
 
 impl TextBuffer {
-    /// No text, or that the room is refused.
-    pub fn new(alloc: Global) -> Result<Self, AllocError>
+    /// No text, in memory that is used again: the bytes that stand there are dropped. Or that the room is refused.
+    pub fn reusing(alloc: Global, memory: Vec<u8>) -> Result<Self, AllocError>
         ensures { IfOk result (λ b. b ≡ []) }
     {
+        let mut text = memory;
+        text.clear();
         Ok(TextBuffer {
-            text: Vec::new(alloc),
+            text,
             room: vec![in alloc; 0; ROOM]?,
             used: 0,
         })
@@ -213,11 +215,11 @@ pub(crate) fn put_short(
     };
     put_block(room, at, block);
     let labelled = at + label.len();
-    let run = put_plain(room, labelled, text.bytes, text.count);
-    if run < text.count {
+    if text.bytes.len() < BLOCK || plain_run(text.bytes) < text.count {
         return None;
     }
-    Some(put(room, labelled + run, b'"'))
+    put_block(room, labelled, text.bytes);
+    Some(put(room, labelled + text.count, b'"'))
 }
 
 /// Writes a front from a place on as it is, and answers where it ends. A short one is one block.
@@ -294,7 +296,7 @@ fn put_plain(room: &mut [u8], at: usize, bytes: &[u8], most: usize) -> usize
 }
 
 /// Copies a block to a place.
-fn put_block(room: &mut [u8], at: usize, bytes: &[u8])
+pub(crate) fn put_block(room: &mut [u8], at: usize, bytes: &[u8])
     requires block { 16 ≤ length bytes.now }
     requires within { at + 16 ≤ length room.old }
     ensures { room.new ≡ put_chunk at room.old (take 16 bytes.now) }

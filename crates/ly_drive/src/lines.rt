@@ -15,19 +15,20 @@ use ly_tree::{Forest, TermRef};
 use std::alloc::Global;
 use std::io::Write;
 
-/// The line of a term of a forest.
+/// The line of a term of a forest, in memory that is used again.
 pub(crate) fn term_line(
     alloc: Global,
     names: &Names<'_>,
     forest: &Forest,
     root: TermRef,
+    memory: Vec<u8>,
 ) -> Result<Vec<u8>, OutOfMemory>
     requires { IsSome (term_of forest.now root) }
     ensures { IfOk result (λ line. (t : Term) → StandsFor forest.now root t
         → line.items ≡ shown (words_of names.now) t ++ newline ∷ []) }
 {
     let labels = Labels::new(alloc, *names)?;
-    let mut line = forest.show(alloc, &labels, root)?;
+    let mut line = forest.show(alloc, &labels, root, memory)?;
     line.push(b'\n')?;
     Ok(line)
 }

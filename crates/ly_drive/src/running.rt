@@ -54,12 +54,11 @@ pub(crate) fn answer_to(
 {
     let tables = Tables::new(alloc, parts)?;
     let ended = run(alloc, &tables, &text)?;
-    // the printed tree takes room of its own
-    drop(text);
     match ended {
         Ended::Told(outcome, answer) => Ok((outcome, answer)),
         Ended::Accepted(forest, root) => {
-            let answer = term_line(alloc, &tables.names(), &forest, root)?;
+            // the text is needed no more, and its memory has been touched
+            let answer = term_line(alloc, &tables.names(), &forest, root, text)?;
             Ok((Outcome::Tree, answer))
         }
     }

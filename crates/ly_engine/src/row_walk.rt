@@ -156,7 +156,7 @@ impl Steps for RowWalk<'_> {
     ghost cut_of = { λ w. cut_in w.rules.now };
 
     fn start(&mut self, condition: u32, at_line_start: bool) -> Option<RowStart> {
-        if condition != 0 || at_line_start {
+        if at_line_start || condition != 0 {
             return self.start_of(condition, at_line_start);
         }
         Some(RowStart::of(self.initial?))

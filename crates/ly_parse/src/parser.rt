@@ -10,7 +10,7 @@ ghost use Rattle.ly_parse.specs.Private.Stack.{terms_onto, FeedAlike, FeedAs, Is
 ghost use Rattle.ly_parse.specs.declared.fault.ParseFault.TheVariants as fault;
 ghost use Rattle.ly_parse.specs.declared.settled.Settled.TheVariants as settled;
 ghost use Rattle.ly_parse.specs.declared.step.Step.TheVariants as step;
-ghost use Rattle.ly_tree.specs.Forest.{StandsFor};
+ghost use Rattle.ly_tree.specs.Forest.{no_terms, StandsFor};
 ghost use Rattle.ly_tree.specs.Term.{leaf, made, none};
 
 use crate::fault::ParseFault;
@@ -67,7 +67,7 @@ impl<'a, A: Rows<TableAction> + Drop, G: Rows<StateNo> + Drop> Parser<'a, A, G> 
         requires { IsSteady machine.now }
         ensures { result ≡ record {
           machine = machine.now;
-          forest = record { bytes = []; nodes = [] };
+          forest = no_terms;
           stack = [];
           count = 0;
           over = false;

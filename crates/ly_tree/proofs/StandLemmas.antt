@@ -2,11 +2,11 @@
 use Rattle.std.proofs.Common.{◌≡◌, ℕ, zero, suc, List, [], ◌∷◌, ◌++◌, get_or, arith, refl, ap, ◌∙◌}
 use Rattle.std.specs.Prelude.{slice_get, is_some, IsSome, None, Option, Some, option_map, unwrap_or}
 use Rattle.ly_tree.proofs.PieceLemmas.{piece-append}
-use Rattle.ly_tree.specs.Forest.{piece, term_of, terms_of, Grown, Keeps, StandsFor, StandForAll}
+use Rattle.ly_tree.specs.Forest.{piece, term_of, terms_of, Grown, Keeps, Leaves, StandsFor, StandForAll}
 use Rattle.ly_tree.specs.Private.Grown.{AllKnown}
 use Rattle.ly_tree.specs.Term.{Term, Terms, nothing, leaf, none, more}
 use Rattle.ly_tree.specs.declared.forest.TermRef.{TermRef}
-use Rattle.ly_tree.specs.declared.forest.TermRef.TheVariants.{Nothing, Leaf, Node}
+use Rattle.ly_tree.specs.declared.forest.TermRef.TheVariants.{Nothing, ShortLeaf, LongLeaf, Node}
 
 -- a leaf stays when more bytes come behind
 leaf-append : (terminal : ℕ) (o p : Option (List ℕ)) (t : Term) → ((text : List ℕ) → o ≡ Some text → p ≡ Some text)
@@ -20,13 +20,18 @@ slice_get-append [] ys k x e = cc
 slice_get-append (y ∷ xs) ys zero x e = e
 slice_get-append (y ∷ xs) ys (suc k) x e = slice_get-append xs ys k x e
 
--- bytes and terms that come behind change no term
-pub Keeps-append : (ls ms : List ℕ) (ts us : List Term)
-    → Keeps (record { bytes = ls; nodes = ts }) (record { bytes = ls ++ ms; nodes = ts ++ us })
+-- leaves, and others behind them
+abbrev pub joined : Leaves → Leaves → Leaves
+joined ls ms = record { texts = ls.texts ++ ms.texts; long = ls.long ++ ms.long }
+
+-- leaves and nodes that come behind change no term
+pub Keeps-append : (ls ms : Leaves) (ts us : List Term)
+    → Keeps (record { leaves = ls; nodes = ts }) (record { leaves = joined ls ms; nodes = ts ++ us })
 Keeps-append ls ms ts us Nothing t e = e
-Keeps-append ls ms ts us (Leaf l) t e =
-    leaf-append l.terminal.0 (piece l.start l.length ls) (piece l.start l.length (ls ++ ms)) t
-    (λ text. piece-append l.start l.length ls ms text) e
+Keeps-append ls ms ts us (ShortLeaf n terminal start) t e =
+    leaf-append terminal (piece start n ls.texts) (piece start n (ls.texts ++ ms.texts)) t
+    (λ text. piece-append start n ls.texts ms.texts text) e
+Keeps-append ls ms ts us (LongLeaf k) t e = slice_get-append ls.long ms.long k t e
 Keeps-append ls ms ts us (Node k) t e = slice_get-append ts us k t e
 
 -- a reference that stands for a term has it

@@ -3,12 +3,25 @@ use Rattle.std.specs.Prelude.{◌≡◌, ℕ, zero, suc, List, [], ◌∷◌, Op
 use Rattle.std.specs.Prelude.{unwrap_or}
 use Rattle.ly_tree.specs.Term.{Term, Terms, nothing, leaf, none, more}
 use Rattle.ly_tree.specs.declared.forest.TermRef.{TermRef}
-use Rattle.ly_tree.specs.declared.forest.TermRef.TheVariants.{Nothing, Leaf, Node}
+use Rattle.ly_tree.specs.declared.forest.TermRef.TheVariants.{Nothing, ShortLeaf, LongLeaf, Node}
 
--- The bytes of all leaves, and the terms of the nodes.
+-- The texts of short leaves, one behind another, and the other leaves.
+pub record Leaves : Type 0 where
+  pub texts : List ℕ
+  pub long : List Term
+
+-- The leaves, and the terms of the nodes.
 pub record Grown : Type 0 where
-  pub bytes : List ℕ
+  pub leaves : Leaves
   pub nodes : List Term
+
+-- no leaf
+abbrev pub no_leaves : Leaves
+no_leaves = record { texts = []; long = [] }
+
+-- neither leaf nor node
+abbrev pub no_terms : Grown
+no_terms = record { leaves = no_leaves; nodes = [] }
 
 -- the first n bytes, if there are so many
 abbrev pub first : ℕ → List ℕ → Option (List ℕ)
@@ -25,7 +38,8 @@ piece (suc start) n (b ∷ bytes) = piece start n bytes
 -- the term that stands there, if one does
 abbrev pub term_of : Grown → TermRef → Option Term
 term_of f Nothing = Some nothing
-term_of f (Leaf l) = option_map (λ text. leaf l.terminal.0 text) (piece l.start l.length f.bytes)
+term_of f (ShortLeaf length terminal start) = option_map (λ text. leaf terminal text) (piece start length f.leaves.texts)
+term_of f (LongLeaf k) = slice_get f.leaves.long k
 term_of f (Node k) = slice_get f.nodes k
 
 -- the terms that stand there

@@ -98,5 +98,7 @@ term_code = code_by (List PrefixItem)
     from_items from_to
 
 abbrev pub grown_code : Coded Grown
-grown_code = code_by (List ℕ × List Term) (coded× (coded_list coded_ℕ) (coded_list term_code))
-    (λ f. (f.bytes, f.nodes)) (λ p. record { bytes = p.0; nodes = p.1 }) (λ _. refl)
+grown_code = code_by ((List ℕ × List Term) × List Term)
+    (coded× (coded× (coded_list coded_ℕ) (coded_list term_code)) (coded_list term_code))
+    (λ f. ((f.leaves.texts, f.leaves.long), f.nodes))
+    (λ p. record { leaves = record { texts = p.0.0; long = p.0.1 }; nodes = p.1 }) (λ _. refl)

@@ -4,37 +4,37 @@ ghost use Rattle.ly_tree.specs.Term.{at_places, built, leaf};
 
 use crate::headed::{Headed, number_of};
 use crate::refers::Refers;
-use ly_base::{Front, OutOfMemory, RuleNo, Sym};
+use ly_base::{Front, OutOfMemory, RuleNo, Sym, Texts};
 use std::alloc::Global;
 use std::marker::Model;
 
-/// A term of a forest, by where it stands there.
+/// A term of a forest, by where it stands there. It takes eight bytes.
 #[derive(Clone, Copy, Debug, PartialEq, Eq)]
 pub enum TermRef {
     /// Nothing, which is in every forest.
     Nothing,
-    /// A leaf.
-    Leaf(Leaf),
+    /// A leaf of a short text, which stands among the texts of a forest.
+    ShortLeaf {
+        /// How many bytes its text has.
+        length: u8,
+        /// Its terminal.
+        terminal: u16,
+        /// How many bytes stand before its text.
+        start: u32,
+    },
+    /// Another leaf, by its number among these.
+    LongLeaf(u32),
     /// A node, by its number among the nodes.
     Node(u32),
 }
 
-/// A leaf, whose text stands among the bytes of a forest.
-#[derive(Clone, Copy, Debug, PartialEq, Eq)]
-pub struct Leaf {
-    /// Its terminal.
-    pub(crate) terminal: Sym,
-    /// How many bytes stand before its text.
-    pub(crate) start: u32,
-    /// How many bytes its text has.
-    pub(crate) length: u32,
-}
-
-/// The texts of leaves, and nodes over leaves.
+/// Leaves, and nodes over leaves.
 #[derive(Drop)]
 pub struct Forest {
-    /// The texts, one behind another.
-    bytes: Vec<u8>,
+    /// The texts of short leaves, one behind another.
+    texts: Texts,
+    /// The leaves that aren't short: the text of each, under its terminal.
+    long: Headed<Sym, u8>,
     /// The nodes: the children of each, under its rule. A child that is a node stands before it.
     nodes: Headed<RuleNo, TermRef>,
 }
@@ -48,42 +48,55 @@ impl Model for Forest {
     ghost coded = { grown_code };
 
     ghost use Rattle.std.specs.Prelude.{[]};
-    ghost use Rattle.ly_tree.specs.Private.Grown.{grown, AreKnown};
+    ghost use Rattle.ly_tree.specs.Private.Grown.{grown, leaves_from, AreKnown};
 
-    ghost view = { λ f. grown f.bytes.items f.nodes };
+    ghost view = { λ f. grown (leaves_from f.texts f.long) f.nodes };
 
-    ghost invariant = { λ f. AreKnown f.bytes.items [] f.nodes };
+    ghost invariant = { λ f. AreKnown (leaves_from f.texts f.long) [] f.nodes };
 }
 
 impl Forest {
-    ghost use Rattle.ly_tree.specs.Forest.{term_of, terms_of, Keeps, StandsFor};
+    ghost use Rattle.ly_tree.specs.Forest.{no_terms, term_of, terms_of, Keeps, StandsFor};
     ghost use Rattle.ly_tree.specs.Private.Grown.{AllKnown};
 
     /// No leaves and no nodes.
     pub fn new(alloc: Global) -> Self
-        ensures { result ≡ record { bytes = []; nodes = [] } }
+        ensures { result ≡ no_terms }
     {
         Forest {
-            bytes: Vec::new(alloc),
+            texts: Texts::new(alloc),
+            long: Headed::new(alloc),
             nodes: Headed::new(alloc),
         }
     }
 
-    /// Adds the text of a leaf, and answers the leaf. It is out of memory also for a text of more than `u32::MAX`
-    /// bytes, or behind as many. After the fault the forest is as it was.
+    /// Adds a leaf, and answers it. It is out of memory also behind `u32::MAX` bytes of short texts, and past
+    /// `u32::MAX` leaves that aren't short, or bytes of these. After the fault the forest is as it was.
     pub fn leaf(&mut self, terminal: Sym, text: &Front<'_>) -> Result<TermRef, OutOfMemory>
         ensures stands { IfOk result (λ r. StandsFor self.new r (leaf terminal.0 text.now)) }
         ensures keeps { OnOk result (Keeps self.old self.new) }
         ensures err { OnErr result (self.new ≡ self.old) }
     {
-        let start = number_of(self.bytes.len())?;
-        let length = number_of(text.len())?;
-        append(&mut self.bytes, text)?;
-        Ok(TermRef::Leaf(Leaf {
-            terminal,
+        if text.len() > u8::MAX as usize || terminal.0 > u16::MAX as u32 {
+            return self.long_leaf(terminal, text.bytes());
+        }
+        let start = number_of(self.texts.len())?;
+        self.texts.push(text)?;
+        Ok(TermRef::ShortLeaf {
+            length: text.len() as u8,
+            terminal: terminal.0 as u16,
             start,
-            length,
-        }))
+        })
+    }
+
+    /// Adds a leaf that isn't short, and answers it.
+    #[inline(never)] // so that a short one has the registers
+    fn long_leaf(&mut self, terminal: Sym, text: &[u8]) -> Result<TermRef, OutOfMemory>
+        ensures stands { IfOk result (λ r. StandsFor self.new r (leaf terminal.0 text.now)) }
+        ensures keeps { OnOk result (Keeps self.old self.new) }
+        ensures err { OnErr result (self.new ≡ self.old) }
+    {
+        Ok(TermRef::LongLeaf(self.long.push(terminal, text)?))
     }
 
     /// Adds a node, whose children are the terms at these places of a body, which count from 1, and answers it. It is
@@ -104,12 +117,20 @@ impl Forest {
         Ok(TermRef::Node(self.nodes.push_picked(rule, body, places)?))
     }
 
-    /// The text of a leaf.
-    pub(crate) fn text_of(&self, place: Leaf) -> Front<'_>
-        requires { IsSome (term_of self.now (TermRef.Leaf place)) }
-        ensures { StandsFor self.now (TermRef.Leaf place) (leaf place.terminal.0 result) }
+    /// The text of a short leaf.
+    pub(crate) fn short_text(&self, length: u8, terminal: u16, start: u32) -> Front<'_>
+        requires { IsSome (term_of self.now (TermRef.ShortLeaf length terminal start)) }
+        ensures { StandsFor self.now (TermRef.ShortLeaf length terminal start) (leaf terminal result) }
     {
-        Front::new(&self.bytes[place.start as usize..], place.length as usize)
+        self.texts.front(start as usize, length as usize)
+    }
+
+    /// A leaf that isn't short: its terminal and its text.
+    pub(crate) fn long_leaf_at(&self, number: u32) -> (Sym, &[u8])
+        requires { IsSome (term_of self.now (TermRef.LongLeaf number)) }
+        ensures { StandsFor self.now (TermRef.LongLeaf number) (leaf result.0.0 result.1.now) }
+    {
+        self.long.get(number)
     }
 
     /// A node: its rule and its children.
@@ -120,19 +141,4 @@ impl Forest {
     {
         self.nodes.get(number)
     }
-}
-
-/// Appends the front of other bytes. After the fault the bytes are as they were.
-fn append(bytes: &mut Vec<u8>, text: &Front<'_>) -> Result<(), OutOfMemory>
-    ensures ok { OnOk result (bytes.new.items ≡ bytes.old.items ++ text.now) }
-    ensures err { OnErr result (bytes.new.items ≡ bytes.old.items) }
-{
-    let Some(block) = text.block() else {
-        return Ok(bytes.extend_from_slice(text.bytes())?);
-    };
-    // a block is one store, where some bytes are a call
-    let before = bytes.len();
-    bytes.extend_from_slice(block)?;
-    bytes.truncate(before + text.len());
-    Ok(())
 }

@@ -79,6 +79,21 @@ impl<H: Copy> Headed<H, TermRef> {
 }
 
 impl<H: Copy, T: Copy> Headed<H, T> {
+    /// Adds a list, and answers its number. It is out of memory also past `u32::MAX` lists, or members. After the fault
+    /// the lists are as they were.
+    pub(crate) fn push(&mut self, head: H, list: &[T]) -> Result<u32, OutOfMemory>
+        ensures ok { OnOk result (self.new ≡ self.old ++ (head, list.now) ∷ []) }
+        ensures number { IfOk result (λ n. n ≡ length self.old) }
+        ensures err { OnErr result (self.new ≡ self.old) }
+    {
+        let number = number_of(self.headings.len())?;
+        let end = end_of(self.members.len(), list.len())?;
+        self.headings.reserve(1)?;
+        self.members.extend_from_slice(list)?;
+        self.headings.push_reserved(Heading { head, end });
+        Ok(number)
+    }
+
     /// The list of a number, under its head.
     pub(crate) fn get(&self, number: u32) -> (H, &[T])
         requires { number < length self.now }

@@ -1,7 +1,7 @@
 //! From the tokens and reductions of a parse to a term, and from the term to its printed text.
 //!
 //! A `Forest` holds the texts of leaves and the nodes over them in flat lists, and no box or list a node: a leaf takes
-//! its text alone, and a node 8 bytes and 16 for each child. Contracts see terms: what `leaf` or `node` answers stands
+//! its text alone, and 8 bytes where it is long, a node 8 bytes and 8 for each child. Contracts see terms: what `leaf` or `node` answers stands
 //! for one, and goes on standing for it. `show` prints a term with a stack of its own, so that no depth ends the
 //! program.
 //!
@@ -15,7 +15,7 @@ mod refers;
 mod show;
 mod words;
 
-pub use forest::{Forest, Leaf, TermRef};
+pub use forest::{Forest, TermRef};
 pub use laws::a_reference_stands_for_one;
 pub use refers::Refers;
 pub use words::Words;

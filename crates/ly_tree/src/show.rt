@@ -6,24 +6,26 @@ ghost use Rattle.ly_tree.specs.Term.{Term};
 
 use crate::forest::{Forest, TermRef};
 use crate::words::Words;
-use ly_base::{OutOfMemory, TextBuffer};
+use ly_base::{Front, OutOfMemory, Sym, TextBuffer};
 use std::alloc::Global;
 
 impl Forest {
-    /// A term as it is printed: nothing is `()`, a leaf is as `NUM"12"`, and a node as `Add(NUM"1",NUM"2")`. It
-    /// fails where memory runs out.
+    /// A term as it is printed: nothing is `()`, a leaf is as `NUM"12"`, and a node as `Add(NUM"1",NUM"2")`. It is
+    /// printed into memory that is used again, and the bytes that stand there are dropped. It fails where memory runs
+    /// out.
     pub fn show<W: Words>(
         &self,
         alloc: Global,
         words: &W,
         root: TermRef,
+        memory: Vec<u8>,
     ) -> Result<Vec<u8>, OutOfMemory>
         requires { IsSome (term_of self.now root) }
         ensures { IfOk result (λ out. (t : Term) → StandsFor self.now root t → out.items ≡ shown
             (record { terminal = W.terminals words.now; constructor = W.constructors words.now }) t) }
     {
         let mut printing = Printing {
-            out: TextBuffer::new(alloc)?,
+            out: TextBuffer::reusing(alloc, memory)?,
             waiting: Vec::new(alloc),
         };
         let mut next = Some(root);
@@ -68,9 +70,19 @@ impl<'f> Printing<'f> {
     {
         match term {
             TermRef::Nothing => self.out.push_bytes(b"()")?,
-            TermRef::Leaf(leaf) => {
-                let label = words.leaf_label(leaf.terminal);
-                self.out.push_quoted(label, &forest.text_of(leaf))?;
+            TermRef::ShortLeaf {
+                length,
+                terminal,
+                start,
+            } => {
+                let label = words.leaf_label(Sym(u32::from(terminal)));
+                let text = forest.short_text(length, terminal, start);
+                self.out.push_quoted(label, &text)?;
+            }
+            TermRef::LongLeaf(leaf) => {
+                let (terminal, text) = forest.long_leaf_at(leaf);
+                let label = words.leaf_label(terminal);
+                self.out.push_quoted(label, &Front::new(text, text.len()))?;
             }
             TermRef::Node(node) => {
                 let (rule, children) = forest.node_at(node);

@@ -20,8 +20,8 @@ returns-in-Told-clause-answered c =
     t.machine c.deref.ensures.value c.in_ok-ended.ended c.in-Told.outcome c.in-Told.answer c.in_ok-ended.ensures
     c.in-Told.is
 
-pub returns-clause-answered : goal.returns-clause-answered
-returns-clause-answered c =
+pub returns-in_ok-answer-in-Accepted-clause-answered : goal.returns-in_ok-answer-in-Accepted-clause-answered
+returns-in_ok-answer-in-Accepted-clause-answered c =
     let t = c.in_ok-tables.ensures in
     term_answer c.in_ok-tables.tables (set_of c.args.parts) c.deref.result.now c.args.text.items t.terminals t.scanner
     t.machine c.deref.ensures.value c.in_ok-ended.ended c.in-Accepted.forest c.in-Accepted.root

@@ -1,20 +1,26 @@
-use Rattle.std.proofs.Common.{arith}
-use Rattle.ly_tree.proofs.GrownLemmas.{leaf_keeps, leaf_known, leaf_stands}
+use Rattle.std.proofs.Common.{[], arith}
+use Rattle.ly_tree.proofs.GrownLemmas.{leaves_keep, leaves_known, short_joined, short_stands}
+use Rattle.ly_tree.specs.Private.Grown.{leaves_from}
 use Rattle.ly_tree.proofs.forest.Forest.leaf.Goals as goal
 
 pub invariant_of-self-2 : goal.invariant_of-self-2
 invariant_of-self-2 c =
-    leaf_known c.self.inside.bytes.items c.append.new.bytes.items c.args.text.now c.self.inside.nodes
-    c.self.invariant c.in_ok-append.ensures.ok
+    leaves_known (leaves_from c.self.inside.texts c.self.inside.long)
+    (record { texts = c.args.text.now; long = [] })
+    (leaves_from c.push.new.self c.self.inside.long) c.self.inside.nodes c.self.invariant
+    (short_joined c.self.inside.texts c.push.new.self c.args.text.now c.self.inside.long
+    c.in_ok-push.ensures.ok)
 
 pub returns-clause-stands : goal.returns-clause-stands
 returns-clause-stands c =
-    leaf_stands c.self.inside.bytes.items c.append.new.bytes.items c.args.text.now c.self.inside.nodes
-    (record { terminal = c.args.terminal; start = c.in_ok-start.start; length = c.in_ok-length.length })
-    c.in_ok-append.ensures.ok (omega (arith, c.in_ok-start.ensures))
-    (omega (arith, c.in_ok-length.ensures))
+    short_stands c.self.inside.texts c.push.new.self c.args.text.now c.self.inside.long
+    c.self.inside.nodes c.len-3.result c.args.terminal.0 c.in_ok-start.start c.in_ok-push.ensures.ok
+    (omega (arith, c.in_ok-start.ensures)) (omega arith)
 
 pub returns-clause-keeps : goal.returns-clause-keeps
 returns-clause-keeps c =
-    leaf_keeps c.self.inside.bytes.items c.append.new.bytes.items c.args.text.now c.self.inside.nodes
-    c.args.self.now c.self.invariant c.self.view_is c.in_ok-append.ensures.ok
+    leaves_keep (leaves_from c.self.inside.texts c.self.inside.long)
+    (record { texts = c.args.text.now; long = [] })
+    (leaves_from c.push.new.self c.self.inside.long) c.self.inside.nodes c.args.self.now c.self.invariant
+    c.self.view_is (short_joined c.self.inside.texts c.push.new.self c.args.text.now
+    c.self.inside.long c.in_ok-push.ensures.ok)

@@ -1,0 +1,102 @@
+ghost use Rattle.std.specs.Prelude.{◌≡◌, ◌≤◌, ◌+◌, [], ◌++◌, drop, length, take, OnErr, OnOk};
+
+use crate::front::{BLOCK, Front};
+use crate::text_buffer::{put_block, put_bytes};
+use std::alloc::{AllocError, Global};
+use std::marker::Model;
+
+/// How many bytes of room are made at a time.
+const ROOM: usize = 4_096;
+
+/// Texts, one behind another, with room behind them, so that a short one is copied as a block.
+#[derive(Drop)]
+pub struct Texts {
+    /// The texts, and the room behind them.
+    bytes: Vec<u8>,
+    /// How many of the bytes are text.
+    used: usize,
+}
+
+impl Model for Texts {
+    ghost use Rattle.std.specs.Prelude.{ℕ, List, ◌≤◌, take, length};
+
+    ghost Value = { List ℕ };
+
+    ghost view = { λ t. take t.used t.bytes.items };
+
+    ghost invariant = { λ t. t.used ≤ length t.bytes.items };
+}
+
+impl Texts {
+    /// No texts.
+    pub fn new(alloc: Global) -> Self
+        ensures { result ≡ [] }
+    {
+        Texts {
+            bytes: Vec::new(alloc),
+            used: 0,
+        }
+    }
+
+    /// How many bytes they have.
+    pub fn len(&self) -> usize
+        ensures { result ≡ length self.now }
+    {
+        self.used
+    }
+
+    /// Appends a text. It fails where memory runs out, and then the texts are as they were.
+    pub fn push(&mut self, text: &Front<'_>) -> Result<(), AllocError>
+        ensures ok { OnOk result (self.new ≡ self.old ++ text.now) }
+        ensures err { OnErr result (self.new ≡ self.old) }
+    {
+        if let Some(block) = text.block() {
+            if BLOCK <= self.bytes.len() - self.used {
+                self.used = put_front_of(&mut self.bytes, self.used, block, text.len());
+                return Ok(());
+            }
+        }
+        self.push_long(text.bytes, text.count)
+    }
+
+    /// So many of the bytes that stand behind others.
+    pub fn front(&self, start: usize, count: usize) -> Front<'_>
+        requires { start + count ≤ length self.now }
+        ensures { result ≡ take count (drop start self.now) }
+    {
+        Front::new(&self.bytes[start..], count)
+    }
+
+    /// Appends the first so many of these bytes, however many they are.
+    #[inline(never)] // so that a short text has the registers
+    fn push_long(&mut self, bytes: &[u8], count: usize) -> Result<(), AllocError>
+        requires { count ≤ length bytes.now }
+        ensures ok { OnOk result (self.new ≡ self.old ++ take count bytes.now) }
+        ensures err { OnErr result (self.new ≡ self.old) }
+    {
+        let text = &bytes[..count];
+        if count <= self.bytes.len() - self.used {
+            self.used = put_bytes(&mut self.bytes, self.used, text);
+            return Ok(());
+        }
+        self.bytes.truncate(self.used);
+        self.bytes.extend_from_slice(text)?;
+        let end = self.bytes.len();
+        self.bytes.extend_from_slice(&[0; ROOM])?;
+        self.used = end;
+        Ok(())
+    }
+}
+
+/// Copies a block to a place, and answers where so many of its bytes end.
+fn put_front_of(room: &mut [u8], at: usize, block: &[u8], count: usize) -> usize
+    requires block { length block.now ≡ 16 }
+    requires within { at + 16 ≤ length room.old }
+    requires count { count ≤ 16 }
+    ensures bytes { take result room.new ≡ take at room.old ++ take count block.now }
+    ensures within { result ≤ at + 16 }
+    ensures room { length room.new ≡ length room.old }
+{
+    put_block(room, at, block);
+    at + count
+}

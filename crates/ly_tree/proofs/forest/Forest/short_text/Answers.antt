@@ -1,0 +1,13 @@
+use Rattle.std.proofs.Common.{arith}
+use Rattle.ly_tree.proofs.GrownLemmas.{short_inside, short_is}
+use Rattle.ly_tree.specs.Private.Grown.{leaves_from}
+use Rattle.ly_tree.proofs.forest.Forest.short_text.Goals as goal
+
+pub front-requires : goal.front-requires
+front-requires c = short_inside (leaves_from c.self.inside.texts c.self.inside.long) c.self.inside.nodes
+    c.args.self.now c.args.length c.args.terminal c.args.start c.self.view_is c.requires
+
+pub returns : goal.returns
+returns c =
+    short_is (leaves_from c.self.inside.texts c.self.inside.long) c.front.result c.self.inside.nodes
+    c.args.self.now c.args.length c.args.terminal c.args.start c.self.view_is c.requires c.front.ensures
