@@ -90,11 +90,13 @@ impl TextBuffer {
     pub fn push_label(&mut self, label: &Label) -> Result<(), AllocError>
         ensures { OnOk result (self.new ≡ self.old ++ label.now) }
     {
-        if !fits(self.room.len() - self.used, label.len(), 0) {
-            return self.push_behind(label.bytes());
+        if self.used <= ROOM - SHORT_ROOM {
+            if let Some(block) = label.block() {
+                self.used = put_front_of(&mut self.room, self.used, block, label.len());
+                return Ok(());
+            }
         }
-        self.used = put_front(&mut self.room, self.used, &label.front());
-        Ok(())
+        self.push_long_label(label)
     }
 
     /// Appends a label and a text behind it, as it stands between double quotes, with the quote that closes it: a
@@ -120,6 +122,18 @@ impl TextBuffer {
         let mut text = self.text;
         text.extend_from_slice(&self.room[..self.used])?;
         Ok(text)
+    }
+
+    /// Appends a label, however long it is.
+    #[inline(never)] // so that a short one has the registers
+    fn push_long_label(&mut self, label: &Label) -> Result<(), AllocError>
+        ensures { OnOk result (self.new ≡ self.old ++ label.now) }
+    {
+        if !fits(self.room.len() - self.used, label.len(), 0) {
+            return self.push_behind(label.bytes());
+        }
+        self.used = put_front(&mut self.room, self.used, &label.front());
+        Ok(())
     }
 
     /// Appends a label and the first so many of these bytes as `push_quoted` does, however long they are and whether or
@@ -233,8 +247,7 @@ fn put_front(room: &mut [u8], at: usize, front: &Front<'_>) -> usize
     let Some(block) = front.block() else {
         return put_bytes(room, at, front.bytes());
     };
-    put_block(room, at, block);
-    at + front.len()
+    put_front_of(room, at, block, front.len())
 }
 
 /// Writes a text from a place on as it stands between double quotes, and answers where it ends. So that a short text is
@@ -295,8 +308,21 @@ fn put_plain(room: &mut [u8], at: usize, bytes: &[u8], most: usize) -> usize
     run.min(most)
 }
 
+/// Copies a block to a place, and answers where so many of its bytes end.
+pub(crate) fn put_front_of(room: &mut [u8], at: usize, block: &[u8], count: usize) -> usize
+    requires block { length block.now ≡ 16 }
+    requires within { at + 16 ≤ length room.old }
+    requires count { count ≤ 16 }
+    ensures bytes { take result room.new ≡ take at room.old ++ take count block.now }
+    ensures end { result ≡ at + count }
+    ensures room { length room.new ≡ length room.old }
+{
+    put_block(room, at, block);
+    at + count
+}
+
 /// Copies a block to a place.
-pub(crate) fn put_block(room: &mut [u8], at: usize, bytes: &[u8])
+fn put_block(room: &mut [u8], at: usize, bytes: &[u8])
     requires block { 16 ≤ length bytes.now }
     requires within { at + 16 ≤ length room.old }
     ensures { room.new ≡ put_chunk at room.old (take 16 bytes.now) }

@@ -1,7 +1,7 @@
 ghost use Rattle.std.specs.Prelude.{◌≡◌, ◌≤◌, ◌+◌, [], ◌++◌, drop, length, take, OnErr, OnOk};
 
 use crate::front::{BLOCK, Front};
-use crate::text_buffer::{put_block, put_bytes};
+use crate::text_buffer::put_front_of;
 use std::alloc::{AllocError, Global};
 use std::marker::Model;
 
@@ -76,7 +76,7 @@ impl Texts {
     {
         let text = &bytes[..count];
         if count <= self.bytes.len() - self.used {
-            self.used = put_bytes(&mut self.bytes, self.used, text);
+            self.used = copy(&mut self.bytes, self.used, text);
             return Ok(());
         }
         self.bytes.truncate(self.used);
@@ -88,15 +88,14 @@ impl Texts {
     }
 }
 
-/// Copies a block to a place, and answers where so many of its bytes end.
-fn put_front_of(room: &mut [u8], at: usize, block: &[u8], count: usize) -> usize
-    requires block { length block.now ≡ 16 }
-    requires within { at + 16 ≤ length room.old }
-    requires count { count ≤ 16 }
-    ensures bytes { take result room.new ≡ take at room.old ++ take count block.now }
-    ensures within { result ≤ at + 16 }
+/// Copies bytes to a place, and answers where they end.
+fn copy(room: &mut [u8], at: usize, bytes: &[u8]) -> usize
+    requires within { at + length bytes.now ≤ length room.old }
+    ensures bytes { take result room.new ≡ take at room.old ++ bytes.now }
+    ensures end { result ≡ at + length bytes.now }
     ensures room { length room.new ≡ length room.old }
 {
-    put_block(room, at, block);
-    at + count
+    let end = at + bytes.len();
+    room[at..end].copy_from_slice(bytes);
+    end
 }

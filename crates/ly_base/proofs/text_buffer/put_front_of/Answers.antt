@@ -1,6 +1,6 @@
 use Rattle.std.proofs.Common.{◌∙◌, ◌+◌, ap, arith, take}
 use Rattle.ly_base.proofs.BlockLemmas.{block_at}
-use Rattle.ly_base.proofs.texts.put_front_of.Goals as goal
+use Rattle.ly_base.proofs.text_buffer.put_front_of.Goals as goal
 
 pub returns-clause-bytes : goal.returns-clause-bytes
 returns-clause-bytes c =
