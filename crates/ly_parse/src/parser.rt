@@ -188,6 +188,35 @@ impl<'a, A: Rows<TableAction> + Drop, G: Rows<StateNo> + Drop> Parser<'a, A, G> 
         ensures count { self.new.count ≡ self.old.count }
         ensures over { self.new.over ≡ self.old.over }
     {
+        if let Some(place) = self.stack.len().checked_sub(1) {
+            let from = Situation {
+                below: self.top_at(place),
+                top: self.stack[place].state,
+                terminal,
+            };
+            if let Some(shortcut) = self.shortcuts.get(from) {
+                self.stack[place].state = shortcut.state;
+                return Ok(shortcut.action);
+            }
+        }
+        self.pass_by_tables(terminal)
+    }
+
+    /// Makes the passes before a terminal by the tables, keeps what they come to as a shortcut, and answers what is done
+    /// then.
+    #[inline(never)] // so that a shortcut that is kept has the registers
+    fn pass_by_tables(&mut self, terminal: Sym) -> Result<TableAction, ParseFault>
+        requires { terminal.0 < self.old.machine.terminals }
+        ensures leads { OnOk result (Leads self.old.machine terminal.0 self.old.stack self.new.stack) }
+        ensures action { IfOk result (λ a. action_from a
+            ≡ action_of self.old.machine (top_of self.new.stack) terminal.0) }
+        ensures legal { IfOk result (λ a. IsLegal self.old.machine terminal.0 (action_from a)) }
+        ensures faulty { result ≡ Err fault.TableFault → FeedAs self.old.machine terminal.0 self.old.stack faulty }
+        ensures not_over { result ≢ Err fault.Over }
+        ensures machine { self.new.machine ≡ self.old.machine }
+        ensures count { self.new.count ≡ self.old.count }
+        ensures over { self.new.over ≡ self.old.over }
+    {
         // the bottom alone has no term to pass on
         let Some(place) = self.stack.len().checked_sub(1) else {
             return Ok(self.machine.action(StateNo(0), terminal));
@@ -197,7 +226,7 @@ impl<'a, A: Rows<TableAction> + Drop, G: Rows<StateNo> + Drop> Parser<'a, A, G> 
             top: self.stack[place].state,
             terminal,
         };
-        let shortcut = self.shortcuts.find(self.machine, from)?;
+        let shortcut = self.shortcuts.add(self.machine, from)?;
         self.stack[place].state = shortcut.state;
         Ok(shortcut.action)
     }

@@ -16,8 +16,8 @@ const PLACES: usize = 4096;
 /// The shortcuts that were found, each at the place of its situation, where the next one of that place takes over.
 #[derive(Drop)]
 pub(crate) struct Shortcuts {
-    /// The places; none before the first shortcut is kept.
-    places: Vec<Option<Shortcut>>,
+    /// The places; none before the first shortcut is kept, which takes all of them.
+    places: Vec<Shortcut>,
 }
 
 impl Shortcuts {
@@ -30,42 +30,20 @@ impl Shortcuts {
         }
     }
 
-    /// The shortcut from a situation. Where it isn't kept it is found, and kept.
-    ///
-    /// It fails with `TableFault` where a goto is missing on the way.
-    pub(crate) fn find<A: Rows<TableAction> + Drop, G: Rows<StateNo> + Drop>(
-        &mut self,
-        machine: &Machine<A, G>,
-        from: Situation,
-    ) -> Result<Shortcut, ParseFault>
-        requires machine { IsMachine machine.now }
-        requires steady { IsSteady machine.now }
-        requires from { IsSituation machine.now from }
-        requires kept { AreShortcuts machine.now self.old }
-        ensures ok { IfOk result (λ s. IsFrom machine.now from s) }
-        ensures faulty { result ≡ Err fault.TableFault → LacksGoto machine.now from }
-        ensures not_over { result ≢ Err fault.Over }
-        ensures kept { AreShortcuts machine.now self.new }
-    {
-        match self.get(from) {
-            Some(shortcut) => Ok(shortcut),
-            None => self.add(machine, from),
-        }
-    }
-
     /// The shortcut from a situation, if it is kept.
-    fn get(&self, from: Situation) -> Option<Shortcut>
-        ensures { (m : Tables) → AreShortcuts m self.now → IfSome result (λ s. IsFrom m from s) }
+    pub(crate) fn get(&self, from: Situation) -> Option<&Shortcut>
+        ensures { (m : Tables) → AreShortcuts m self.now → IfSome result (λ s. IsFrom m from s.now) }
     {
         match self.places.get(from.place()) {
-            Some(Some(shortcut)) if shortcut.from.is(from) => Some(*shortcut),
+            Some(shortcut) if shortcut.from.is(from) => Some(shortcut),
             _ => None,
         }
     }
 
     /// Finds the shortcut from a situation by the tables, and keeps it.
-    #[cold]
-    fn add<A: Rows<TableAction> + Drop, G: Rows<StateNo> + Drop>(
+    ///
+    /// It fails with `TableFault` where a goto is missing on the way.
+    pub(crate) fn add<A: Rows<TableAction> + Drop, G: Rows<StateNo> + Drop>(
         &mut self,
         machine: &Machine<A, G>,
         from: Situation,
@@ -91,10 +69,10 @@ impl Shortcuts {
         ensures { (m : Tables) → AreShortcuts m self.old → IsShortcut m shortcut → AreShortcuts m self.new }
     {
         if self.places.is_empty() {
-            self.places.resize(PLACES, None)?;
+            self.places.resize(PLACES, shortcut)?;
         }
         if let Some(there) = self.places.get_mut(shortcut.from.place()) {
-            *there = Some(shortcut);
+            *there = shortcut;
         }
         Ok(())
     }

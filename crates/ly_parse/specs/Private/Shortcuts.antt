@@ -1,6 +1,6 @@
 -- Runs of passes: reductions whose body has one symbol, and that pass its term on. They change the state on top of a
 -- stack and nothing else, so that what they come to is the same on every stack with these two states on top.
-use Rattle.std.specs.Prelude.{◌≡◌, ℕ, ◌<◌, All, IfSome, None, Some}
+use Rattle.std.specs.Prelude.{◌≡◌, ℕ, ◌<◌, All, None, Some}
 use Rattle.ly_base.specs.Shape.{place}
 use Rattle.ly_pack.specs.Machine.{Machine, TableAction, TableRule, action_of, goto_at, reduce, states_of}
 use Rattle.ly_pack.specs.Steady.{rule_at, IsTableEdge}
@@ -48,4 +48,4 @@ pub record LacksGoto (m : Machine) (s : Situation) : Type 0 where
 
 -- all that is kept is right for the tables
 abbrev pub AreShortcuts : Machine → Shortcuts → Type 0
-AreShortcuts m kept = All (λ o. IfSome o (IsShortcut m)) kept.places.items
+AreShortcuts m kept = All (IsShortcut m) kept.places.items
