@@ -1,6 +1,6 @@
 -- Lemmas on places of a text.
-use Rattle.std.proofs.Common.{◌≡◌, ◌∙◌, ◌-◌, ◌+◌, ◌≤◌, ◌++◌, ℕ, List, [], ◌∷◌, Bool, true, Some, rules, arith, ap, eqb, refl}
-use Rattle.std.proofs.Common.{Option, drop, length, length-drop, slice_get, take, take-add}
+use Rattle.std.proofs.Common.{◌≡◌, ◌∙◌, ◌-◌, ◌+◌, ◌≤◌, ◌++◌, ℕ, List, [], ◌∷◌, Bool, true, Some, rules, arith, ap, eqb}
+use Rattle.std.proofs.Common.{Option, refl, drop, length, length-drop, slice_get, take, take-add}
 use Rattle.std.specs.Prelude.{unwrap_or}
 use Rattle.ly_base.specs.Lexed.{after_line, moved, Place}
 

@@ -202,8 +202,8 @@ impl<'a, A: Rows<TableAction> + Drop, G: Rows<StateNo> + Drop> Parser<'a, A, G> 
         self.pass_by_tables(terminal)
     }
 
-    /// Makes the passes before a terminal by the tables, keeps what they come to as a shortcut, and answers what is done
-    /// then.
+    /// Makes the passes before a terminal by the tables, keeps what they come to as a shortcut, and answers what is
+    /// done then.
     #[inline(never)] // so that a shortcut that is kept has the registers
     fn pass_by_tables(&mut self, terminal: Sym) -> Result<TableAction, ParseFault>
         requires { terminal.0 < self.old.machine.terminals }

@@ -50,7 +50,8 @@ AreKnown-push ls done (c ∷ bs) b h k = (h.0, AreKnown-push ls (done ++ node_te
 
 pub more_leaves : (ls ms : Leaves) (done : List Term)
     → Keeps (record { leaves = ls; nodes = done }) (record { leaves = joined ls ms; nodes = done })
-more_leaves ls ms done n t e = subst (λ ts. StandsFor (record { leaves = joined ls ms; nodes = ts }) n t) (append-nil done)
+more_leaves ls ms done n t e =
+    subst (λ ts. StandsFor (record { leaves = joined ls ms; nodes = ts }) n t) (append-nil done)
     (Keeps-append ls ms done [] n t e)
 
 -- more leaves change no node
@@ -161,7 +162,8 @@ long_inside texts long bs f k e h =
 pub long_is : (texts : List ℕ) (long : List (Sym × List ℕ)) (bs : List (RuleNo × List TermRef)) (f : Grown) (k : ℕ)
     (l : Sym × List ℕ) → grown (leaves_from texts long) bs ≡ f → slice_get long k ≡ Some l
     → StandsFor f (LongLeaf k) (long_leaf l)
-long_is texts long bs f k l e is = ap (λ g. term_of g (LongLeaf k)) (sym e) ∙ (slice_get-map long_leaf long k ∙ ap (option_map long_leaf) is)
+long_is texts long bs f k l e is = ap (λ g. term_of g (LongLeaf k)) (sym e)
+    ∙ (slice_get-map long_leaf long k ∙ ap (option_map long_leaf) is)
 
 -- leaves more
 pub leaves_known : (ls more ms : Leaves) (bs : List (RuleNo × List TermRef)) → AreKnown ls [] bs → ms ≡ joined ls more

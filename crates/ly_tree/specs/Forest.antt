@@ -38,7 +38,8 @@ piece (suc start) n (b ∷ bytes) = piece start n bytes
 -- the term that stands there, if one does
 abbrev pub term_of : Grown → TermRef → Option Term
 term_of f Nothing = Some nothing
-term_of f (ShortLeaf length terminal start) = option_map (λ text. leaf terminal text) (piece start length f.leaves.texts)
+term_of f (ShortLeaf length terminal start) =
+    option_map (λ text. leaf terminal text) (piece start length f.leaves.texts)
 term_of f (LongLeaf k) = slice_get f.leaves.long k
 term_of f (Node k) = slice_get f.nodes k
 

@@ -11,7 +11,8 @@ use Rattle.ly_tree.proofs.forest.Forest.node.Goals as goal
 pub invariant_of-self-2 : goal.invariant_of-self-2
 invariant_of-self-2 g c =
     let children = map (ref_at (map g.R.Refers.referred c.args.body.now)) c.args.places.now in
-    node_known (leaves_from c.self.inside.texts c.self.inside.long) c.self.inside.nodes c.push_picked.new.self (c.args.rule, children)
+    node_known (leaves_from c.self.inside.texts c.self.inside.long) c.self.inside.nodes c.push_picked.new.self
+    (c.args.rule, children)
     c.args.self.now c.self.invariant c.self.view_is
     (stand_all_known c.args.self.now children _ (body_stands g.R.Refers.referred c.args.body.now c.args.self.now
     c.args.places.now c.requires.known c.requires.places)) c.in_ok-push_picked.ensures.ok

@@ -3,8 +3,8 @@ use Rattle.ly_tree.specs.Private.Grown.{leaves_from}
 use Rattle.ly_tree.proofs.forest.Forest.node_at.Goals as goal
 
 pub get-requires : goal.get-requires
-get-requires c
-    = node_inside (leaves_from c.self.inside.texts c.self.inside.long) c.self.inside.nodes c.args.self.now c.args.number c.self.view_is c.requires
+get-requires c = node_inside (leaves_from c.self.inside.texts c.self.inside.long) c.self.inside.nodes c.args.self.now
+    c.args.number c.self.view_is c.requires
 
 pub returns-clause-term : goal.returns-clause-term
 returns-clause-term c =

@@ -1,4 +1,3 @@
-use Rattle.std.proofs.Common.{arith}
 use Rattle.ly_tree.proofs.GrownLemmas.{short_inside, short_is}
 use Rattle.ly_tree.specs.Private.Grown.{leaves_from}
 use Rattle.ly_tree.proofs.forest.Forest.short_text.Goals as goal
