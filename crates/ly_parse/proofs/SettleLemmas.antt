@@ -2,7 +2,7 @@
 use Rattle.std.proofs.Common.{◌≡◌, ℕ, ◌+◌, ◌*◌, ◌<◌, ◌≤◌, List, length, sym, ap, ◌∙◌, arith, subst, Err, Ok}
 use Rattle.std.specs.Prelude.{Bool, IsErrAnd, Result}
 use Rattle.ly_pack.proofs.Runs.{reductions_fall, runs_end}
-use Rattle.ly_pack.specs.Machine.{Machine, TableAction, action_of, reduce}
+use Rattle.ly_pack.specs.Machine.{Machine, action_of, reduce}
 use Rattle.ly_pack.specs.Steady.{rule_at, run_bound, EndsWithin}
 use Rattle.ly_pack.specs.SteadyLaws.{reductions}
 use Rattle.ly_parse.specs.Feeding.{Fed, Level, Turn, goes_on, reduce_by, settles, states_on, top_of}
@@ -28,14 +28,6 @@ run_ends m f levels p count over t view h lt =
 pub record IsMade (m : Machine) (t number : ℕ) (stack : List Level) (turn : Turn) : Type 0 where
   pub action : action_of m (top_of stack) t ≡ reduce number
   pub makes : reduce_by m number stack (rule_at m number) ≡ turn
-
-is_made : (m asked by : Machine) (t number : ℕ) (a : TableAction) (stack : List Level) (turn : Turn) → asked ≡ m
-    → by ≡ asked → a ≡ reduce number → a ≡ action_of asked (top_of stack) t
-    → reduce_by by number stack (rule_at by number) ≡ turn → IsMade m t number stack turn
-is_made m asked by t number a stack turn e f is action makes = record {
-  action = ap (λ k. action_of k (top_of stack) t) (sym e) ∙ (sym action ∙ is);
-  makes = ap (λ k. reduce_by k number stack (rule_at k number)) (sym (f ∙ e)) ∙ makes;
-}
 
 -- A stack within the run on a token: a token becomes what it would have become at first, and the run ends.
 pub record IsWithinRun (m : Machine) (t limit : ℕ) (first stack : List Level) : Type 0 where
@@ -73,31 +65,41 @@ behind_reduction m t number limit first stack next h run =
       less.1,
     )
 
--- A turn, made of passes and a reduction behind them: of the tables before it, and of those that the reduction was
--- made by.
-module _ (m asked by : Machine) (t number : ℕ) (a : TableAction) (first stack next : List Level) (same : asked ≡ m)
-    (still : by ≡ asked) (led : Leads asked t stack next) (is : a ≡ reduce number)
-    (action : a ≡ action_of asked (top_of next) t) where
-  -- the stack behind it is within the run, and less is left
-  pub behind_turn : (limit : ℕ) (last : List Level)
-      → reduce_by by number next (rule_at by number) ≡ goes_on last → IsWithinRun m t limit first stack
-      → IsWithinRun m t limit first last
-      × (reductions m t limit (states_on last) < reductions m t limit (states_on stack))
-  behind_turn limit last makes run =
-      let passed = behind_passes m asked t limit first stack next same led run in
-      let reduced = behind_reduction m t number limit first next last
-      (is_made m asked by t number a next (goes_on last) same still is action makes) passed.0 in
-      let less = passed.1 in
-      let falls = reduced.1 in
-      (reduced.0, omega arith)
+-- A reduction that is made on a stack, by tables that are those of the run, and what comes behind it.
+module _ (m by : Machine) (t number limit : ℕ) (first stack : List Level) (same : by ≡ m)
+    (action : action_of m (top_of stack) t ≡ reduce number) (run : IsWithinRun m t limit first stack) where
+  made_by : (turn : Turn) → reduce_by by number stack (rule_at by number) ≡ turn → IsMade m t number stack turn
+  made_by turn makes = record {
+    action = action;
+    makes = ap (λ k. reduce_by k number stack (rule_at k number)) (sym same) ∙ makes;
+  }
 
-  -- or the token is settled by it
-  pub settled_by : (limit : ℕ) (out : Fed) → reduce_by by number next (rule_at by number) ≡ settles out
-      → IsWithinRun m t limit first stack → FeedAs m t first out
-  settled_by limit out makes run token is_its =
-      let made = is_made m asked by t number a next (settles out) same still is action makes in
-      let passed = behind_passes m asked t limit first stack next same led run in
-      passed.0.alike token out is_its (feeds_as m t number next out made.action made.makes token is_its)
+  -- the token is settled by it
+  pub settled_by : (out : Fed) → reduce_by by number stack (rule_at by number) ≡ settles out → FeedAs m t first out
+  settled_by out makes token is_its =
+      let made = made_by (settles out) makes in
+      run.alike token out is_its (feeds_as m t number stack out made.action made.makes token is_its)
+
+  module _ (next : List Level) (makes : reduce_by by number stack (rule_at by number) ≡ goes_on next) where
+    reduced : IsWithinRun m t limit first next
+        × (reductions m t limit (states_on next) < reductions m t limit (states_on stack))
+    reduced = behind_reduction m t number limit first stack next (made_by (goes_on next) makes) run
+
+    -- or what becomes of it on the stack that is left becomes of it on the first
+    pub settled_behind : (k : Machine) (out : Fed) → k ≡ by → FeedAs k t next out → FeedAs m t first out
+    settled_behind k out still fed token is_its =
+        reduced.0.alike token out is_its
+        (subst (λ q. FeedAs q t next out) (still ∙ same) fed token is_its)
+
+    -- or passes follow: their last stack is within the run, and less is left
+    pub behind_turn : (k : Machine) (last : List Level) → k ≡ by → Leads k t next last
+        → IsWithinRun m t limit first last
+        × (reductions m t limit (states_on last) < reductions m t limit (states_on stack))
+    behind_turn k last still led =
+        let passed = behind_passes m k t limit first next last (still ∙ same) led reduced.0 in
+        let less = passed.1 in
+        let falls = reduced.1 in
+        (passed.0, omega arith)
 
 -- the fault of a call is handed on
 pub same_fault : {T : Type 0} (r : Result T ParseFault) (e d : ParseFault) → IsErrAnd r (λ x. x ≡ e) → r ≡ Err d

@@ -1,7 +1,8 @@
 ghost use Rattle.std.specs.Prelude.{◌≡◌, ◌≢◌, ◌<◌, ◌≤◌, ◌+◌, ◌-◌, [], ◌∷◌, Err, Ok, false, drop, length};
 ghost use Rattle.std.specs.Prelude.{take, IfErr, IfOk, OnErr, OnOk};
 ghost use Rattle.ly_base.specs.Shape.{shape_of};
-ghost use Rattle.ly_pack.specs.Machine.{accept, action_of, error, shift, states_of, IsLegal, IsRuleNumber, IsShapeFor};
+ghost use Rattle.ly_pack.specs.Machine.{accept, action_of, error, reduce, shift, states_of, IsLegal};
+ghost use Rattle.ly_pack.specs.Machine.{IsRuleNumber, IsShapeFor};
 ghost use Rattle.ly_pack.specs.Steady.{rule_at, IsSteady};
 ghost use Rattle.ly_pack.specs.Values.{action_from};
 ghost use Rattle.ly_parse.specs.Feeding.{faulty, goes_on, reduce_by, settles, top_of};
@@ -148,6 +149,7 @@ impl<'a, A: Rows<TableAction> + Drop, G: Rows<StateNo> + Drop> Parser<'a, A, G> 
     }
 
     /// Makes the reductions before a terminal, and answers what is done then.
+    #[inline(always)] // a call would cost a tenth of a token
     fn settle(&mut self, terminal: Sym) -> Result<Settled, ParseFault>
         requires { terminal.0 < self.old.machine.terminals }
         ensures alike { OnOk result (FeedAlike self.old.machine terminal.0 self.new.stack self.old.stack) }
@@ -163,11 +165,40 @@ impl<'a, A: Rows<TableAction> + Drop, G: Rows<StateNo> + Drop> Parser<'a, A, G> 
         ensures count { self.new.count ≡ self.old.count }
         ensures over { self.new.over ≡ self.old.over }
     {
+        match self.pass(terminal)? {
+            TableAction::Reduce(rule) => self.settle_behind(rule, terminal),
+            TableAction::Shift(state) => Ok(Settled::Reads(state)),
+            TableAction::Accept => Ok(Settled::Accepts),
+            TableAction::Error => Ok(Settled::Refuses),
+        }
+    }
+
+    /// Makes a reduction and those behind it before a terminal, and answers what is done then.
+    #[inline(never)] // so that a token that is read at once has the registers
+    fn settle_behind(&mut self, rule: RuleNo, terminal: Sym) -> Result<Settled, ParseFault>
+        requires terminal { terminal.0 < self.old.machine.terminals }
+        requires rule { IsRuleNumber self.old.machine rule.0 }
+        requires action { action_of self.old.machine (top_of self.old.stack) terminal.0 ≡ reduce rule.0 }
+        ensures alike { OnOk result (FeedAlike self.old.machine terminal.0 self.new.stack self.old.stack) }
+        ensures reads { (state : StateNo) → result ≡ Ok (settled.Reads state)
+            → action_of self.old.machine (top_of self.new.stack) terminal.0 ≡ shift state.0 }
+        ensures accepts { result ≡ Ok settled.Accepts
+            → action_of self.old.machine (top_of self.new.stack) terminal.0 ≡ accept }
+        ensures refuses { result ≡ Ok settled.Refuses
+            → action_of self.old.machine (top_of self.new.stack) terminal.0 ≡ error }
+        ensures faulty { result ≡ Err fault.TableFault → FeedAs self.old.machine terminal.0 self.old.stack faulty }
+        ensures not_over { result ≢ Err fault.Over }
+        ensures machine { self.new.machine ≡ self.old.machine }
+        ensures count { self.new.count ≡ self.old.count }
+        ensures over { self.new.over ≡ self.old.over }
+    {
         // the invariant says that the run on a token ends
         let _ = &self.machine;
+        let mut number = rule;
         loop {
+            self.reduce(number)?;
             match self.pass(terminal)? {
-                TableAction::Reduce(rule) => self.reduce(rule)?,
+                TableAction::Reduce(next) => number = next,
                 TableAction::Shift(state) => return Ok(Settled::Reads(state)),
                 TableAction::Accept => return Ok(Settled::Accepts),
                 TableAction::Error => return Ok(Settled::Refuses),

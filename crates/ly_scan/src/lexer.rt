@@ -7,6 +7,7 @@ use ly_base::{End, Lexeme, Place};
 
 /// What is taken at a place of a text: the longest match there, its rule, and the token that the rule's cut leaves. Or
 /// how a run over the text ends there.
+#[inline(always)] // as `longest`
 pub fn next_lexeme<S: Steps>(steps: &mut S, place: &Place<'_>) -> Result<Lexeme, End>
     ensures lexeme { IfOk result
         (IsLexemeAt (record { walk = S.walk steps.old; cut = S.cut_of steps.old }) place.now) }
@@ -16,14 +17,17 @@ pub fn next_lexeme<S: Steps>(steps: &mut S, place: &Place<'_>) -> Result<Lexeme,
     ensures same_cuts { S.cut_of steps.new ≡ S.cut_of steps.old }
 {
     let rest = place.rest();
-    let byte = place.at();
     if rest.is_empty() {
         return Err(End::Clean);
     }
-    // so a walk needn't wait for the byte before it
-    let at_line_start = steps.minds_lines() && place.at_line_start();
-    let Some((matched, rule)) = longest(steps, place.condition(), at_line_start, rest) else {
-        return Err(End::Stuck { byte });
+    // a walk that minds no line needn't wait for the byte before it
+    let found = if steps.minds_lines() {
+        longest(steps, place.condition(), place.at_line_start(), rest)
+    } else {
+        longest(steps, place.condition(), false, rest)
+    };
+    let Some((matched, rule)) = found else {
+        return Err(End::Stuck { byte: place.at() });
     };
     match cut_down(steps.cut(rule), matched) {
         Some(taken) => Ok(Lexeme {
@@ -31,6 +35,6 @@ pub fn next_lexeme<S: Steps>(steps: &mut S, place: &Place<'_>) -> Result<Lexeme,
             matched,
             taken,
         }),
-        None => Err(End::BadCut { byte }),
+        None => Err(End::BadCut { byte: place.at() }),
     }
 }

@@ -46,6 +46,7 @@ pub fn next_match<S: Steps>(
 }
 
 /// The length of the longest walk that has a rule, and the rule.
+#[inline(always)] // a call would cost a tenth of a lexeme
 pub(crate) fn longest<S: Steps>(
     steps: &mut S,
     condition: u32,
