@@ -15,7 +15,7 @@ use Rattle.ly_drive.proofs.RunningLemmas.{accepts, comes_here, comes_last, reads
 use Rattle.ly_drive.specs.Private.Running.{words_in, IsFed, IsLast, IsRun, IsTaken, IsTold, StandsAt}
 use Rattle.ly_drive.specs.ScanPart.{condition_in, scanner_in}
 use Rattle.ly_drive.specs.TableAnswer.{end_of}
-use Rattle.ly_drive.specs.Verdict.{refused, syntax_line, unmatched}
+use Rattle.ly_drive.specs.Verdict.{refused, unmatched}
 use Rattle.ly_drive.specs.declared.fault.DriveFault.{DriveFault}
 use Rattle.ly_drive.specs.declared.fault.DriveFault.TheVariants as fault
 use Rattle.ly_drive.specs.declared.outcome.Outcome.{Outcome}
@@ -27,7 +27,6 @@ use Rattle.ly_parse.specs.Feeding as fed
 use Rattle.ly_parse.specs.Parse.{Parse}
 use Rattle.ly_scan.specs.Lexer.{IsLexemeAt, ScanEndsAt, Scanner}
 use Rattle.ly_scan.specs.Walk.{Walk}
-use Rattle.ly_tree.specs.Shown.{Vocabulary}
 
 -- equal parts make equal scanners
 pub same_scanner : (walk here : ℕ → Bool → Walk) (cut cut_here : ℕ → Cut) → here ≡ walk → cut_here ≡ cut
@@ -44,13 +43,13 @@ no_terminal o x e is = sym e ∙ ap (option_map (λ (s : Sym). s.0)) is
 
 module _ (T : Tables) (text : List ℕ) where
   -- a lexeme with a token
-  pub taken : (v : Vocabulary) (q : Place) (s r : Parse) (t : Lexeme) (token : Token ℕ)
-      (result : Result (Option (Outcome × Vec ℕ Global)) DriveFault) → v ≡ words_in T
+  pub taken : (q : Place) (s r : Parse) (t : Lexeme) (token : Token ℕ)
+      (result : Result (Option (Outcome × Vec ℕ Global)) DriveFault)
       → StandsAt T.scanner T.machine text q s → IsLexemeAt (scanner_in T.scanner) q t → IsTokenAt T.scanner q t token
-      → IsFed v s token r result → IsTaken T text q t r result
-  taken v q s r t token (Ok None) same h is here f = reads_on T.scanner T.machine text q
+      → IsFed (words_in T) s token r result → IsTaken T text q t r result
+  taken q s r t token (Ok None) h is here f = reads_on T.scanner T.machine text q
       (place_after (condition_in T.scanner) q t) s r t token h is here refl f.0 f.1 f.2 f.3
-  taken v q s r t token (Ok (Some told)) same h is here f = (
+  taken q s r t token (Ok (Some told)) h is here f = (
     refused (s.count + 1) token,
     (
       tokens_of T.scanner T.machine text h.lexemes,
@@ -58,17 +57,17 @@ module _ (T : Tables) (text : List ℕ) where
       ap (λ n. n + 1) h.counted,
     ),
     f.1,
-    f.2 ∙ ap (λ w. syntax_line w (s.count + 1) token) same,
+    f.2,
   )
-  taken v q s r t token (Err fault.TableFault) same h is here f = inl (
+  taken q s r t token (Err fault.TableFault) h is here f = inl (
     tokens_of T.scanner T.machine text h.lexemes,
     token,
     comes_here T.scanner T.machine text q s t token fed.faulty h is here f,
   )
-  taken v q s r t token (Err fault.OutOfMemory) same h is here f = tt
-  taken v q s r t token (Err fault.Read) same h is here f = absurd f
-  taken v q s r t token (Err (fault.Write n)) same h is here f = absurd f
-  taken v q s r t token (Err (fault.Tables e)) same h is here f = absurd f
+  taken q s r t token (Err fault.OutOfMemory) h is here f = tt
+  taken q s r t token (Err fault.Read) h is here f = absurd f
+  taken q s r t token (Err (fault.Write n)) h is here f = absurd f
+  taken q s r t token (Err (fault.Tables e)) h is here f = absurd f
 
   -- the end of the text
   pub closed : (q : Place) (s : Parse) (result : Result Ended DriveFault) → StandsAt T.scanner T.machine text q s

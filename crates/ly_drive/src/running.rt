@@ -9,14 +9,13 @@ ghost use Rattle.ly_tables.specs.Ranges.{version_1, IsWithinRanges};
 ghost use Rattle.ly_tables.specs.TableSet.{machine_of};
 ghost use Rattle.ly_tables.specs.Values.{set_of};
 ghost use Rattle.ly_drive.specs.DriveFault.{IsOfRun};
-ghost use Rattle.ly_drive.specs.Private.Running.{words_of, CanRun, IsFed, IsLast, IsRun, IsTaken, StandsAt};
+ghost use Rattle.ly_drive.specs.Private.Running.{words_in, CanRun, IsFed, IsLast, IsRun, IsTaken, StandsAt};
 ghost use Rattle.ly_drive.specs.TableAnswer.{IsVerdict, TableAnswer};
 ghost use Rattle.ly_drive.specs.Verdict.{faulty};
 ghost use Rattle.ly_tree.specs.Shown.{Vocabulary};
 
 use crate::fault::DriveFault;
 use crate::lines::{end_line, term_line, token_line, unmatched_line};
-use crate::names::Names;
 use crate::outcome::Outcome;
 use crate::table_walk::TableWalk;
 use crate::tables::Tables;
@@ -112,13 +111,13 @@ fn take(
         at: place.at() as u64,
         text,
     };
-    feed(alloc, &tables.names(), parser, &token)
+    feed(alloc, tables, parser, &token)
 }
 
 /// Feeds a parser with a token of the text, and answers what is said where the token is refused.
 fn feed(
     alloc: Global,
-    names: &Names<'_>,
+    tables: &Tables,
     parser: &mut TableParser<'_>,
     token: &Token<'_>,
 ) -> Result<Option<(Outcome, Vec<u8>)>, DriveFault>
@@ -126,7 +125,7 @@ fn feed(
     requires goes_on { parser.old.over ≡ false }
     requires not_end { 1 ≤ token.now.terminal.0 }
     requires terminal { token.now.terminal.0 < parser.old.machine.terminals }
-    ensures { IsFed (words_of names.now) parser.old (record {
+    ensures { IsFed (words_in tables.now) parser.old (record {
       terminal = token.now.terminal.0;
       at = token.now.at;
       bytes = token.now.text;
@@ -140,7 +139,7 @@ fn feed(
                 byte,
             },
         ) => {
-            let line = token_line(alloc, names, number, token)?;
+            let line = token_line(alloc, &tables.names(), number, token)?;
             let token = number;
             Ok(Some((Outcome::Syntax { token, byte }, line)))
         }

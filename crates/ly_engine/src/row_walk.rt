@@ -171,7 +171,7 @@ impl Steps for RowWalk<'_> {
     }
 
     fn accept(&self, at: RowStart) -> Option<RuleNo> {
-        *self.accepted.get(at.state())?
+        self.accepted[at.state()]
     }
 
     fn cut(&self, rule: RuleNo) -> Cut {

@@ -15,8 +15,7 @@ returns-in_default c text h is =
 pub returns : goal.returns
 returns c text h is =
     let T = c.args.tables.now in
-    taken T text _ c.args.place.now c.args.parser.now c.feed.new.parser c.args.lexeme _ c.feed.result c.names.ensures h
-    is (record {
+    taken T text c.args.place.now c.args.parser.now c.feed.new.parser c.args.lexeme _ c.feed.result h is (record {
       at = c.at.ensures;
       bytes = c.new-text.ensures ∙ ap (take c.args.lexeme.taken) c.rest.ensures;
       terminal = ap (terminal_in T.scanner c.args.lexeme.rule.0) (sym c.bytes.ensures)
