@@ -166,8 +166,8 @@ impl<'a, A: Rows<TableAction> + Drop, G: Rows<StateNo> + Drop> Parser<'a, A, G> 
         ensures over { self.new.over ≡ self.old.over }
     {
         match self.pass(terminal)? {
-            TableAction::Reduce(rule) => self.settle_behind(rule, terminal),
             TableAction::Shift(state) => Ok(Settled::Reads(state)),
+            TableAction::Reduce(rule) => self.settle_behind(rule, terminal),
             TableAction::Accept => Ok(Settled::Accepts),
             TableAction::Error => Ok(Settled::Refuses),
         }
@@ -219,7 +219,9 @@ impl<'a, A: Rows<TableAction> + Drop, G: Rows<StateNo> + Drop> Parser<'a, A, G> 
         ensures count { self.new.count ≡ self.old.count }
         ensures over { self.new.over ≡ self.old.over }
     {
-        if let Some(place) = self.stack.len().checked_sub(1) {
+        let height = self.stack.len();
+        if 0 < height {
+            let place = height - 1;
             let from = Situation {
                 below: self.top_at(place),
                 top: self.stack[place].state,
