@@ -26,7 +26,7 @@ impl Situation {
         let below = self.below.0.wrapping_mul(0x9e37_79b1);
         let top = self.top.0.wrapping_mul(0x85eb_ca77);
         let terminal = self.terminal.0.wrapping_mul(0xc2b2_ae3d);
-        ((below ^ top ^ terminal) >> 20) as usize
+        ((below ^ top ^ terminal) >> 18) as usize
     }
 
     /// Whether it is the other one. All numbers are compared at once, so that a processor has one branch to guess.

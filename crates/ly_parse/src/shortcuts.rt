@@ -11,7 +11,7 @@ use ly_pack::{Machine, Rows, TableAction};
 use std::alloc::Global;
 
 /// How many places there are for shortcuts: as many as `Situation::place` names.
-const PLACES: usize = 4096;
+const PLACES: usize = 16_384;
 
 /// The shortcuts that were found, each at the place of its situation, where the next one of that place takes over.
 #[derive(Drop)]
