@@ -149,7 +149,7 @@ impl<'a, A: Rows<TableAction> + Drop, G: Rows<StateNo> + Drop> Parser<'a, A, G> 
     }
 
     /// Makes the reductions before a terminal, and answers what is done then.
-    #[inline(always)] // a call would cost a tenth of a token
+    #[inline(always)] // by a call a token takes a fifteenth more instructions
     fn settle(&mut self, terminal: Sym) -> Result<Settled, ParseFault>
         requires { terminal.0 < self.old.machine.terminals }
         ensures alike { OnOk result (FeedAlike self.old.machine terminal.0 self.new.stack self.old.stack) }
