@@ -2,17 +2,17 @@
 use Rattle.std.proofs.Common.{◌≡◌, ℕ, zero, suc, List, [], ◌∷◌, ◌++◌, get_or, arith, refl, ap, ◌∙◌}
 use Rattle.std.specs.Prelude.{slice_get, is_some, IsSome, None, Option, Some, option_map, unwrap_or}
 use Rattle.ly_tree.proofs.PieceLemmas.{piece-append}
-use Rattle.ly_tree.specs.Forest.{piece, term_of, terms_of, Grown, Keeps, Leaves, StandsFor, StandForAll}
+use Rattle.ly_tree.specs.Forest.{all_of, piece, term_of, terms_of, Grown, Keeps, Leaves, StandsFor, StandForAll}
 use Rattle.ly_tree.specs.Private.Grown.{AllKnown}
-use Rattle.ly_tree.specs.Term.{Term, Terms, nothing, leaf, none, more}
+use Rattle.ly_tree.specs.Term.{Term, Terms, nothing, leaf, built, none, more}
 use Rattle.ly_tree.specs.declared.forest.TermRef.{TermRef}
 use Rattle.ly_tree.specs.declared.forest.TermRef.TheVariants.{Nothing, ShortLeaf, LongLeaf, Node}
 
--- a leaf stays when more bytes come behind
-leaf-append : (terminal : ℕ) (o p : Option (List ℕ)) (t : Term) → ((text : List ℕ) → o ≡ Some text → p ≡ Some text)
-    → option_map (λ text. leaf terminal text) o ≡ Some t → option_map (λ text. leaf terminal text) p ≡ Some t
-leaf-append terminal None p t h e = cc
-leaf-append terminal (Some text) p t h e = ap (option_map (λ x. leaf terminal x)) (h text refl) ∙ e
+-- what is made of a piece stays when more come behind
+made-append : {A : Type 0} (make : List A → Term) (o p : Option (List A)) (t : Term)
+    → ((xs : List A) → o ≡ Some xs → p ≡ Some xs) → option_map make o ≡ Some t → option_map make p ≡ Some t
+made-append make None p t h e = cc
+made-append make (Some xs) p t h e = ap (option_map make) (h xs refl) ∙ e
 
 slice_get-append : {A : Type 0} (xs ys : List A) (k : ℕ) (x : A) → slice_get xs k ≡ Some x
     → slice_get (xs ++ ys) k ≡ Some x
@@ -24,15 +24,17 @@ slice_get-append (y ∷ xs) ys (suc k) x e = slice_get-append xs ys k x e
 abbrev pub joined : Leaves → Leaves → Leaves
 joined ls ms = record { texts = ls.texts ++ ms.texts; long = ls.long ++ ms.long }
 
--- leaves and nodes that come behind change no term
+-- leaves and children that come behind change no term
 pub Keeps-append : (ls ms : Leaves) (ts us : List Term)
-    → Keeps (record { leaves = ls; nodes = ts }) (record { leaves = joined ls ms; nodes = ts ++ us })
+    → Keeps (record { leaves = ls; children = ts }) (record { leaves = joined ls ms; children = ts ++ us })
 Keeps-append ls ms ts us Nothing t e = e
 Keeps-append ls ms ts us (ShortLeaf n terminal start) t e =
-    leaf-append terminal (piece start n ls.texts) (piece start n (ls.texts ++ ms.texts)) t
+    made-append (λ text. leaf terminal text) (piece start n ls.texts) (piece start n (ls.texts ++ ms.texts)) t
     (λ text. piece-append start n ls.texts ms.texts text) e
 Keeps-append ls ms ts us (LongLeaf k) t e = slice_get-append ls.long ms.long k t e
-Keeps-append ls ms ts us (Node k) t e = slice_get-append ts us k t e
+Keeps-append ls ms ts us (Node n rule start) t e =
+    made-append (λ xs. built rule (all_of xs)) (piece start n ts) (piece start n (ts ++ us)) t
+    (λ xs. piece-append start n ts us xs) e
 
 -- a reference that stands for a term has it
 pub known_stands : (f : Grown) (n : TermRef) → IsSome (term_of f n) → StandsFor f n (unwrap_or (term_of f n) nothing)

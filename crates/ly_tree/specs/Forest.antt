@@ -1,7 +1,7 @@
--- What a forest holds: the texts of leaves, and nodes, each a term by where it stands.
+-- What a forest holds: the texts of leaves and the children of nodes, of which a part is a leaf or a node.
 use Rattle.std.specs.Prelude.{◌≡◌, ℕ, zero, suc, List, [], ◌∷◌, Option, Some, None, slice_get, option_map}
 use Rattle.std.specs.Prelude.{unwrap_or}
-use Rattle.ly_tree.specs.Term.{Term, Terms, nothing, leaf, none, more}
+use Rattle.ly_tree.specs.Term.{Term, Terms, nothing, leaf, built, none, more}
 use Rattle.ly_tree.specs.declared.forest.TermRef.{TermRef}
 use Rattle.ly_tree.specs.declared.forest.TermRef.TheVariants.{Nothing, ShortLeaf, LongLeaf, Node}
 
@@ -10,10 +10,10 @@ pub record Leaves : Type 0 where
   pub texts : List ℕ
   pub long : List Term
 
--- The leaves, and the terms of the nodes.
+-- The leaves, and the terms of the children of nodes, one behind another.
 pub record Grown : Type 0 where
   pub leaves : Leaves
-  pub nodes : List Term
+  pub children : List Term
 
 -- no leaf
 abbrev pub no_leaves : Leaves
@@ -21,19 +21,24 @@ no_leaves = record { texts = []; long = [] }
 
 -- neither leaf nor node
 abbrev pub no_terms : Grown
-no_terms = record { leaves = no_leaves; nodes = [] }
+no_terms = record { leaves = no_leaves; children = [] }
 
--- the first n bytes, if there are so many
-abbrev pub first : ℕ → List ℕ → Option (List ℕ)
-first zero bytes = Some []
+-- the first n, if there are so many
+abbrev pub first : {A : Type 0} → ℕ → List A → Option (List A)
+first zero xs = Some []
 first (suc n) [] = None
-first (suc n) (b ∷ bytes) = option_map (λ front. b ∷ front) (first n bytes)
+first (suc n) (x ∷ xs) = option_map (λ front. x ∷ front) (first n xs)
 
--- n bytes behind so many, if there are so many
-abbrev pub piece : ℕ → ℕ → List ℕ → Option (List ℕ)
-piece zero n bytes = first n bytes
+-- n behind so many, if there are so many
+abbrev pub piece : {A : Type 0} → ℕ → ℕ → List A → Option (List A)
+piece zero n xs = first n xs
 piece (suc start) n [] = None
-piece (suc start) n (b ∷ bytes) = piece start n bytes
+piece (suc start) n (x ∷ xs) = piece start n xs
+
+-- the terms of a list
+abbrev pub all_of : List Term → Terms
+all_of [] = none
+all_of (t ∷ ts) = more t (all_of ts)
 
 -- the term that stands there, if one does
 abbrev pub term_of : Grown → TermRef → Option Term
@@ -41,7 +46,7 @@ term_of f Nothing = Some nothing
 term_of f (ShortLeaf length terminal start) =
     option_map (λ text. leaf terminal text) (piece start length f.leaves.texts)
 term_of f (LongLeaf k) = slice_get f.leaves.long k
-term_of f (Node k) = slice_get f.nodes k
+term_of f (Node n rule start) = option_map (λ ts. built rule (all_of ts)) (piece start n f.children)
 
 -- the terms that stand there
 abbrev pub terms_of : Grown → List TermRef → Terms

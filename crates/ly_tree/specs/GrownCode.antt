@@ -100,5 +100,5 @@ term_code = code_by (List PrefixItem)
 abbrev pub grown_code : Coded Grown
 grown_code = code_by ((List ℕ × List Term) × List Term)
     (coded× (coded× (coded_list coded_ℕ) (coded_list term_code)) (coded_list term_code))
-    (λ f. ((f.leaves.texts, f.leaves.long), f.nodes))
-    (λ p. record { leaves = record { texts = p.0.0; long = p.0.1 }; nodes = p.1 }) (λ _. refl)
+    (λ f. ((f.leaves.texts, f.leaves.long), f.children))
+    (λ p. record { leaves = record { texts = p.0.0; long = p.0.1 }; children = p.1 }) (λ _. refl)

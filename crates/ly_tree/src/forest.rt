@@ -1,5 +1,6 @@
-ghost use Rattle.std.specs.Prelude.{◌≡◌, ◌≤◌, ◌+◌, [], ◌∷◌, ◌++◌, length, map, slice_get};
-ghost use Rattle.std.specs.Prelude.{All, IfOk, IsSome, OnErr, OnOk, Some};
+ghost use Rattle.std.specs.Prelude.{◌≡◌, ◌≤◌, ◌+◌, [], ◌++◌, drop, length, map, take};
+ghost use Rattle.std.specs.Prelude.{All, IfOk, IsSome, OnErr, OnOk};
+ghost use Rattle.ly_tree.specs.Private.Headed.{ref_at};
 ghost use Rattle.ly_tree.specs.Term.{at_places, built, leaf};
 
 use crate::headed::{Headed, number_of};
@@ -24,8 +25,15 @@ pub enum TermRef {
     },
     /// Another leaf, by its number among these.
     LongLeaf(u32),
-    /// A node, by its number among the nodes.
-    Node(u32),
+    /// A node, whose children stand one behind another among those of a forest.
+    Node {
+        /// How many children it has.
+        children: u8,
+        /// Its rule.
+        rule: u16,
+        /// How many children of other nodes stand before its own.
+        start: u32,
+    },
 }
 
 /// Leaves, and nodes over leaves.
@@ -35,8 +43,8 @@ pub struct Forest {
     texts: Texts,
     /// The leaves that aren't short: the text of each, under its terminal.
     long: Headed<Sym, u8>,
-    /// The nodes: the children of each, under its rule. A child that is a node stands before it.
-    nodes: Headed<RuleNo, TermRef>,
+    /// The children of nodes, one node's behind another's. Those of a child stand before it.
+    children: Vec<TermRef>,
 }
 
 impl Model for Forest {
@@ -50,9 +58,9 @@ impl Model for Forest {
     ghost use Rattle.std.specs.Prelude.{[]};
     ghost use Rattle.ly_tree.specs.Private.Grown.{grown, leaves_from, AreKnown};
 
-    ghost view = { λ f. grown (leaves_from f.texts f.long) f.nodes };
+    ghost view = { λ f. grown (leaves_from f.texts f.long) f.children.items };
 
-    ghost invariant = { λ f. AreKnown (leaves_from f.texts f.long) [] f.nodes };
+    ghost invariant = { λ f. AreKnown (leaves_from f.texts f.long) [] f.children.items };
 }
 
 impl Forest {
@@ -66,7 +74,7 @@ impl Forest {
         Forest {
             texts: Texts::new(alloc),
             long: Headed::new(alloc),
-            nodes: Headed::new(alloc),
+            children: Vec::new(alloc),
         }
     }
 
@@ -100,7 +108,8 @@ impl Forest {
     }
 
     /// Adds a node, whose children are the terms at these places of a body, which count from 1, and answers it. It is
-    /// out of memory also past `u32::MAX` nodes, or children of nodes. After the fault the forest is as it was.
+    /// out of memory also behind `u32::MAX` children of other nodes, past `u8::MAX` of its own, and for a rule past
+    /// `u16::MAX`. After the fault the forest is as it was.
     pub fn node<R: Refers>(
         &mut self,
         rule: RuleNo,
@@ -114,7 +123,16 @@ impl Forest {
         ensures keeps { OnOk result (Keeps self.old self.new) }
         ensures err { OnErr result (self.new ≡ self.old) }
     {
-        Ok(TermRef::Node(self.nodes.push_picked(rule, body, places)?))
+        if places.len() > u8::MAX as usize || rule.0 > u16::MAX as u32 {
+            return Err(OutOfMemory);
+        }
+        let start = number_of(self.children.len())?;
+        pick(&mut self.children, body, places)?;
+        Ok(TermRef::Node {
+            children: places.len() as u8,
+            rule: rule.0 as u16,
+            start,
+        })
     }
 
     /// The text of a short leaf.
@@ -133,12 +151,38 @@ impl Forest {
         self.long.get(number)
     }
 
-    /// A node: its rule and its children.
-    pub(crate) fn node_at(&self, number: u32) -> (RuleNo, &[TermRef])
-        requires { IsSome (term_of self.now (TermRef.Node number)) }
-        ensures term { StandsFor self.now (TermRef.Node number) (built result.0.0 (terms_of self.now result.1.now)) }
-        ensures known { AllKnown self.now result.1.now }
+    /// The children of a node.
+    pub(crate) fn children_of(&self, children: u8, rule: u16, start: u32) -> &[TermRef]
+        requires { IsSome (term_of self.now (TermRef.Node children rule start)) }
+        ensures term { StandsFor self.now (TermRef.Node children rule start) (built rule (terms_of self.now result.now)) }
+        ensures known { AllKnown self.now result.now }
     {
-        self.nodes.get(number)
+        part(&self.children, start as usize, children as usize)
     }
+}
+
+/// So many of the children that stand behind others.
+fn part(children: &[TermRef], start: usize, count: usize) -> &[TermRef]
+    requires { start + count ≤ length children.now }
+    ensures { result.now ≡ take count (drop start children.now) }
+{
+    &children[start..start + count]
+}
+
+/// Appends what stands at these places of a body, which count from 1. After the fault the children are as they were.
+fn pick<R: Refers>(
+    children: &mut Vec<TermRef>,
+    body: &[R],
+    places: &[u32],
+) -> Result<(), OutOfMemory>
+    requires { All (λ i. (1 ≤ i) × (i ≤ length body.now)) places.now }
+    ensures ok { OnOk result (children.new.items
+        ≡ children.old.items ++ map (ref_at (map R.referred body.now)) places.now) }
+    ensures err { OnErr result (children.new.items ≡ children.old.items) }
+{
+    children.reserve(places.len())?;
+    for place in places {
+        children.push_reserved(body[*place as usize - 1].term());
+    }
+    Ok(())
 }

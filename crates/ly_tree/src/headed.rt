@@ -1,9 +1,7 @@
 ghost use Rattle.std.specs.Prelude.{◌≡◌, ◌<◌, ◌≤◌, ◌+◌, ◌-◌, [], ◌∷◌, ◌++◌, length, map, take, drop};
 ghost use Rattle.std.specs.Prelude.{slice_get, All, IfOk, OnErr, OnOk, Some};
-ghost use Rattle.ly_tree.specs.Private.Headed.{ref_at, start_after};
+ghost use Rattle.ly_tree.specs.Private.Headed.{start_after};
 
-use crate::forest::TermRef;
-use crate::refers::Refers;
 use ly_base::OutOfMemory;
 use std::alloc::Global;
 use std::marker::Model;
@@ -54,30 +52,6 @@ impl<H, T> Headed<H, T> {
     }
 }
 
-impl<H: Copy> Headed<H, TermRef> {
-    /// Adds a list, the terms at these places among others, which count from 1, and answers its number. It is out of
-    /// memory also past `u32::MAX` lists, or members. After the fault the lists are as they were.
-    pub(crate) fn push_picked<R: Refers>(
-        &mut self,
-        head: H,
-        body: &[R],
-        places: &[u32],
-    ) -> Result<u32, OutOfMemory>
-        requires { All (λ i. (1 ≤ i) × (i ≤ length body.now)) places.now }
-        ensures ok { OnOk result (self.new
-            ≡ self.old ++ (head, map (ref_at (map R.referred body.now)) places.now) ∷ []) }
-        ensures number { IfOk result (λ n. n ≡ length self.old) }
-        ensures err { OnErr result (self.new ≡ self.old) }
-    {
-        let number = number_of(self.headings.len())?;
-        let end = end_of(self.members.len(), places.len())?;
-        self.headings.reserve(1)?;
-        pick(&mut self.members, body, places)?;
-        self.headings.push_reserved(Heading { head, end });
-        Ok(number)
-    }
-}
-
 impl<H: Copy, T: Copy> Headed<H, T> {
     /// Adds a list, and answers its number. It is out of memory also past `u32::MAX` lists, or members. After the fault
     /// the lists are as they were.
@@ -104,24 +78,6 @@ impl<H: Copy, T: Copy> Headed<H, T> {
         let Heading { head, end } = self.headings[at];
         (head, part(&self.members, start, end as usize))
     }
-}
-
-/// Appends what stands at these places of a body, which count from 1. After the fault the members are as they were.
-fn pick<R: Refers>(
-    members: &mut Vec<TermRef>,
-    body: &[R],
-    places: &[u32],
-) -> Result<(), OutOfMemory>
-    requires { All (λ i. (1 ≤ i) × (i ≤ length body.now)) places.now }
-    ensures ok { OnOk result (members.new.items
-        ≡ members.old.items ++ map (ref_at (map R.referred body.now)) places.now) }
-    ensures err { OnErr result (members.new.items ≡ members.old.items) }
-{
-    members.reserve(places.len())?;
-    for place in places {
-        members.push_reserved(body[*place as usize - 1].term());
-    }
-    Ok(())
 }
 
 /// The members between two places.

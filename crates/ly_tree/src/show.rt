@@ -6,7 +6,7 @@ ghost use Rattle.ly_tree.specs.Term.{Term};
 
 use crate::forest::{Forest, TermRef};
 use crate::words::Words;
-use ly_base::{Front, OutOfMemory, Sym, TextBuffer};
+use ly_base::{Front, OutOfMemory, RuleNo, Sym, TextBuffer};
 use std::alloc::Global;
 
 impl Forest {
@@ -84,9 +84,14 @@ impl<'f> Printing<'f> {
                 let label = words.leaf_label(terminal);
                 self.out.push_quoted(label, &Front::new(text, text.len()))?;
             }
-            TermRef::Node(node) => {
-                let (rule, children) = forest.node_at(node);
-                self.out.push_label(words.node_label(rule))?;
+            TermRef::Node {
+                children,
+                rule,
+                start,
+            } => {
+                let children = forest.children_of(children, rule, start);
+                self.out
+                    .push_label(words.node_label(RuleNo(u32::from(rule))))?;
                 if let Some((first, others)) = children.split_first() {
                     self.waiting.push(others)?;
                     return Ok(Some(*first));

@@ -7,19 +7,19 @@ pub invariant_of-self-2 : goal.invariant_of-self-2
 invariant_of-self-2 c =
     leaves_known (leaves_from c.self.inside.texts c.self.inside.long)
     (record { texts = []; long = long_leaf (c.args.terminal, c.args.text.now) ∷ [] })
-    (leaves_from c.self.inside.texts c.push.new.self) c.self.inside.nodes c.self.invariant
+    (leaves_from c.self.inside.texts c.push.new.self) c.self.inside.children.items c.self.invariant
     (long_joined c.self.inside.texts c.self.inside.long c.push.new.self (c.args.terminal, c.args.text.now)
     c.in_ok-push.ensures.ok)
 
 pub returns-clause-stands : goal.returns-clause-stands
 returns-clause-stands c =
-    long_stands c.self.inside.texts c.self.inside.long c.push.new.self c.self.inside.nodes
+    long_stands c.self.inside.texts c.self.inside.long c.push.new.self c.self.inside.children.items
     (c.args.terminal, c.args.text.now) c.in_ok-push.field-0 c.in_ok-push.ensures.ok c.in_ok-push.ensures.number
 
 pub returns-clause-keeps : goal.returns-clause-keeps
 returns-clause-keeps c =
     leaves_keep (leaves_from c.self.inside.texts c.self.inside.long)
     (record { texts = []; long = long_leaf (c.args.terminal, c.args.text.now) ∷ [] })
-    (leaves_from c.self.inside.texts c.push.new.self) c.self.inside.nodes c.args.self.now c.self.invariant
+    (leaves_from c.self.inside.texts c.push.new.self) c.self.inside.children.items c.args.self.now c.self.invariant
     c.self.view_is (long_joined c.self.inside.texts c.self.inside.long c.push.new.self
     (c.args.terminal, c.args.text.now) c.in_ok-push.ensures.ok)

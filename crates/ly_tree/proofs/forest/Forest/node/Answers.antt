@@ -1,4 +1,5 @@
-use Rattle.std.proofs.Common.{map}
+use Rattle.std.proofs.Common.{arith, map}
+use Rattle.std.proofs.lemmas.List.{length-map}
 use Rattle.ly_tree.proofs.GrownLemmas.{node_keeps, node_known, node_stands}
 use Rattle.ly_tree.proofs.PickLemmas.{body_stands}
 use Rattle.ly_tree.proofs.StandLemmas.{stand_all_known}
@@ -10,25 +11,25 @@ use Rattle.ly_tree.proofs.forest.Forest.node.Goals as goal
 
 pub invariant_of-self-2 : goal.invariant_of-self-2
 invariant_of-self-2 g c =
-    let children = map (ref_at (map g.R.Refers.referred c.args.body.now)) c.args.places.now in
-    node_known (leaves_from c.self.inside.texts c.self.inside.long) c.self.inside.nodes c.push_picked.new.self
-    (c.args.rule, children)
-    c.args.self.now c.self.invariant c.self.view_is
-    (stand_all_known c.args.self.now children _ (body_stands g.R.Refers.referred c.args.body.now c.args.self.now
-    c.args.places.now c.requires.known c.requires.places)) c.in_ok-push_picked.ensures.ok
+    let picked = map (ref_at (map g.R.Refers.referred c.args.body.now)) c.args.places.now in
+    node_known (leaves_from c.self.inside.texts c.self.inside.long) c.self.inside.children.items
+    c.pick.new.children.items picked c.args.self.now c.self.invariant c.self.view_is
+    (stand_all_known c.args.self.now picked _ (body_stands g.R.Refers.referred c.args.body.now c.args.self.now
+    c.args.places.now c.requires.known c.requires.places)) c.in_ok-pick.ensures.ok
 
 pub returns-clause-stands : goal.returns-clause-stands
 returns-clause-stands g c =
     let refs = map g.R.Refers.referred c.args.body.now in
-    node_stands (leaves_from c.self.inside.texts c.self.inside.long) c.self.inside.nodes c.push_picked.new.self
-    (c.args.rule, map (ref_at refs) c.args.places.now) c.args.self.now c.in_ok-push_picked.field-0
-    (at_places (terms_of c.args.self.now refs) c.args.places.now) c.self.view_is c.in_ok-push_picked.ensures.ok
-    c.in_ok-push_picked.ensures.number
+    node_stands (leaves_from c.self.inside.texts c.self.inside.long) c.self.inside.children.items
+    c.pick.new.children.items (map (ref_at refs) c.args.places.now) c.args.self.now _ c.args.rule.0
+    c.in_ok-start.start (at_places (terms_of c.args.self.now refs) c.args.places.now) c.self.invariant
+    c.self.view_is c.in_ok-pick.ensures.ok (omega (arith, c.in_ok-start.ensures))
+    (omega (arith, length-map c.args.places.now (ref_at refs)))
     (body_stands g.R.Refers.referred c.args.body.now c.args.self.now c.args.places.now c.requires.known
     c.requires.places)
 
 pub returns-clause-keeps : goal.returns-clause-keeps
 returns-clause-keeps g c =
-    node_keeps (leaves_from c.self.inside.texts c.self.inside.long) c.self.inside.nodes c.push_picked.new.self
-    (c.args.rule, map (ref_at (map g.R.Refers.referred c.args.body.now)) c.args.places.now) c.args.self.now
-    c.self.view_is c.in_ok-push_picked.ensures.ok
+    node_keeps (leaves_from c.self.inside.texts c.self.inside.long) c.self.inside.children.items
+    c.pick.new.children.items (map (ref_at (map g.R.Refers.referred c.args.body.now)) c.args.places.now)
+    c.args.self.now c.self.view_is c.in_ok-pick.ensures.ok

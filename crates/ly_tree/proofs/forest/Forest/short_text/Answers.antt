@@ -3,10 +3,10 @@ use Rattle.ly_tree.specs.Private.Grown.{leaves_from}
 use Rattle.ly_tree.proofs.forest.Forest.short_text.Goals as goal
 
 pub front-requires : goal.front-requires
-front-requires c = short_inside (leaves_from c.self.inside.texts c.self.inside.long) c.self.inside.nodes
+front-requires c = short_inside (leaves_from c.self.inside.texts c.self.inside.long) c.self.inside.children.items
     c.args.self.now c.args.length c.args.terminal c.args.start c.self.view_is c.requires
 
 pub returns : goal.returns
 returns c =
-    short_is (leaves_from c.self.inside.texts c.self.inside.long) c.front.result c.self.inside.nodes
+    short_is (leaves_from c.self.inside.texts c.self.inside.long) c.front.result c.self.inside.children.items
     c.args.self.now c.args.length c.args.terminal c.args.start c.self.view_is c.requires c.front.ensures
