@@ -8,7 +8,8 @@ use Rattle.std.proofs.lemmas.Option.{slice_get-map}
 use Rattle.ly_tree.proofs.PieceLemmas.{mapped_some, piece_end, piece_inside, piece_is}
 use Rattle.ly_tree.proofs.StandLemmas.{all_known_kept, joined, known_front, known_kept, known_rest, stand_all_kept}
 use Rattle.ly_tree.proofs.StandLemmas.{stand_all_known, stand_unwrapped, term_kept, Keeps-append}
-use Rattle.ly_tree.specs.Forest.{all_of, no_leaves, piece, term_of, terms_of, Grown, Keeps, Leaves, StandsFor, StandForAll}
+use Rattle.ly_tree.specs.Forest.{all_of, no_leaves, piece, term_of, terms_of}
+use Rattle.ly_tree.specs.Forest.{Grown, Keeps, Leaves, StandsFor, StandForAll}
 use Rattle.ly_tree.specs.Private.Grown.{child_term, grown, leaves_from, long_leaf, terms_from, AllKnown, AreKnown}
 use Rattle.ly_tree.specs.Term.{Term, Terms, built, leaf, more, nothing}
 use Rattle.ly_base.specs.declared.numbers.Sym.{Sym}

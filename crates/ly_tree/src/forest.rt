@@ -154,7 +154,8 @@ impl Forest {
     /// The children of a node.
     pub(crate) fn children_of(&self, children: u8, rule: u16, start: u32) -> &[TermRef]
         requires { IsSome (term_of self.now (TermRef.Node children rule start)) }
-        ensures term { StandsFor self.now (TermRef.Node children rule start) (built rule (terms_of self.now result.now)) }
+        ensures term { StandsFor self.now (TermRef.Node children rule start)
+            (built rule (terms_of self.now result.now)) }
         ensures known { AllKnown self.now result.now }
     {
         part(&self.children, start as usize, children as usize)
