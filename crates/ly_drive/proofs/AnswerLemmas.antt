@@ -8,7 +8,9 @@ use Rattle.std.proofs.lemmas.Option.{slice_get_cases}
 use Rattle.ly_base.specs.Bytes.{newline}
 use Rattle.ly_base.specs.declared.scan_action.Emitted.{Emitted}
 use Rattle.ly_base.specs.declared.scan_action.Emitted.TheVariants.{FirstByte, Nothing, Terminal}
+use Rattle.ly_drive.proofs.ByBytesLemmas.{same_verdict}
 use Rattle.ly_drive.specs.Private.Running.{words_in, CanRun, IsRun}
+use Rattle.ly_drive.specs.Private.Tables.{by_bytes}
 use Rattle.ly_drive.specs.ScanPart.{scan_part_of, terminal_by, terminal_in}
 use Rattle.ly_drive.specs.TableAnswer.{IsVerdict, IsVerdictBy, TableAnswer}
 use Rattle.ly_drive.specs.Verdict.{Verdict, accepted, faulty, printed}
@@ -64,9 +66,9 @@ returned s h i bytes t e = by_rule (slice_get s.scan_rules i) refl e
 
 -- the tables of a set that is within the ranges, and steady, can be run
 pub can_run : (T : Tables) (s : TableSet) → IsWithinRanges w16 version_1 s → IsSteady (machine_of s)
-    → T.scanner ≡ scan_part_of s → T.machine ≡ machine_of s → CanRun T.scanner T.machine
+    → T.scanner ≡ by_bytes (scan_part_of s) → T.machine ≡ machine_of s → CanRun T.scanner T.machine
 can_run T s h steady scanner machine = subst (λ p. CanRun p T.machine) (sym scanner)
-    (subst (λ m. CanRun (scan_part_of s) m) (sym machine) (record {
+    (subst (λ m. CanRun (by_bytes (scan_part_of s)) m) (sym machine) (record {
       machine = h.machine;
       steady = steady;
       terminals = (let two = h.terminals in omega (arith, two));
@@ -74,11 +76,11 @@ can_run T s h steady scanner machine = subst (λ p. CanRun p T.machine) (sym sca
     }))
 
 -- a verdict by the tables is the set's
-verdict_of : (T : Tables) (s : TableSet) (read text : List ℕ) (v : Verdict) → T.scanner ≡ scan_part_of s
+verdict_of : (T : Tables) (s : TableSet) (read text : List ℕ) (v : Verdict) → T.scanner ≡ by_bytes (scan_part_of s)
     → T.machine ≡ machine_of s → read ≡ text → IsVerdictBy T.scanner T.machine read v → IsVerdict s text v
 verdict_of T s read text v scanner machine same is = subst (λ x. IsVerdictBy (scan_part_of s) (machine_of s) x v) same
     (subst (λ m. IsVerdictBy (scan_part_of s) m read v) machine
-    (subst (λ p. IsVerdictBy p T.machine read v) scanner is))
+    (same_verdict s T.machine read v (subst (λ p. IsVerdictBy p T.machine read v) scanner is)))
 
 words_of_set : (T : Tables) (s : TableSet) → map (λ name. name.items) T.terminals.items ≡ s.terminals
     → T.machine ≡ machine_of s → words_in T ≡ vocabulary_of s
@@ -88,8 +90,8 @@ words_of_set T s names machine = ap₂ (λ ts m. (let v : Vocabulary = record {
 } in v)) names machine
 
 module _ (T : Tables) (s : TableSet) (read text : List ℕ)
-    (names : map (λ name. name.items) T.terminals.items ≡ s.terminals) (scanner : T.scanner ≡ scan_part_of s)
-    (machine : T.machine ≡ machine_of s) (same : read ≡ text) where
+    (names : map (λ name. name.items) T.terminals.items ≡ s.terminals)
+    (scanner : T.scanner ≡ by_bytes (scan_part_of s)) (machine : T.machine ≡ machine_of s) (same : read ≡ text) where
   -- what was said is the answer
   pub told_answer : (e : Ended) (outcome : Outcome) (line : Vec ℕ Global) → IsRun T read (Ok e) → e ≡ Told outcome line
       → TableAnswer s text outcome line.items

@@ -1,4 +1,5 @@
 pub mod AnswerLemmas
+pub mod ByBytesLemmas
 pub mod FaultLemmas
 pub mod FeedingLemmas
 pub mod LabelLemmas

@@ -1,17 +1,15 @@
 -- A scanner's rows in memory, and those of a table set.
-use Rattle.std.proofs.Common.{◌≡◌, ◌∙◌, ◌<◌, inl, inr, ℕ, zero, suc, [], ◌∷◌, map, Option, Some, None, ap}
+use Rattle.std.proofs.Common.{◌≡◌, ◌∙◌, ◌<◌, ℕ, zero, suc, [], ◌∷◌, map, Option, Some, None, ap}
 use Rattle.std.proofs.Common.{refl, sym, arith, slice_get, subst, get_or, ap₂, ◌+◌, ◌*◌, ◌++◌, length}
 use Rattle.std.specs.Prelude.{All, IfSome, List, option_and_then, option_map}
 use Rattle.std.specs.List.{range_with_len}
-use Rattle.std.proofs.lemmas.Option.{slice_get-get_or, slice_get_past}
-use Rattle.std.proofs.lemmas.Bool.{cases_lt}
+use Rattle.std.proofs.lemmas.Option.{slice_get-get_or}
 use Rattle.std.proofs.lemmas.List.{get_or-map, length-map}
-use Rattle.std.proofs.lemmas.List.Elements.{All-get_or}
-use Rattle.std.proofs.lemmas.List.FromFn.{map-range_with_len_more}
+use Rattle.std.proofs.lemmas.List.FromFn.{get_or-range_with_len, length-range_with_len, map-range_with_len_more}
 use Rattle.ly_base.specs.declared.numbers.RuleNo.{RuleNo}
 use Rattle.ly_base.specs.declared.numbers.StateNo.{StateNo}
 use Rattle.ly_pack.specs.Rows.{Comb, Entries, Used, cell, comb_entry, grid_of}
-use Rattle.ly_pack.proofs.GridLemmas.{cell-grid_of, cell-grid_of_past}
+use Rattle.ly_pack.proofs.GridLemmas.{cell-grid_of}
 use Rattle.ly_scan.specs.StateRows.{row_entry, state_at}
 use Rattle.ly_scan.specs.declared.state_rows.RowStart.{RowStart}
 use Rattle.ly_tables.proofs.EntryLemmas.{comb_entry_used}
@@ -58,28 +56,10 @@ same_grid rows width f g same = map_same (λ row. map (f row) (range_with_len 0 
     (λ row. map (g row) (range_with_len 0 width)) rows
     (λ row lt. map_same (f row) (g row) width (λ column less. same row column lt less))
 
--- the entry of a class that there is, in rows that are written out
-entry_written : (t : Inside) (state class : ℕ) → IsScanTable t → class < t.class_count
-    → row_entry t.rows state class ≡ cell (part_from t).rows state class
-entry_written t state class h column = elim (cases_lt state (length t.accepted.items)) [
-  | inl row ↦ sym (cell-grid_of (length t.accepted.items) t.class_count (row_entry t.rows) state class row column)
-  | inr past ↦ ap (option_and_then (λ next. next)) (slice_get_past t.rows (state * 256 + class)
-      (omega (arith, h.rows, past)))
-      ∙ sym (cell-grid_of_past (length t.accepted.items) t.class_count (row_entry t.rows) state class (inl past))
-]
-
--- where a byte leads from a state
-pub next_at : (t : Inside) (p : ScanPart) (state byte at class : ℕ) (next : Option ℕ) → IsScanTable t
-    → part_from t ≡ p → byte < 256 → at ≡ byte → class ≡ get_or t.classes.items at class
-    → next ≡ row_entry t.rows state class → next ≡ next_in p state byte
-next_at t p state byte at class next h view lt there is e =
-    let here : class ≡ get_or t.classes.items byte class = is ∙ ap (λ k. get_or t.classes.items k class) there in
-    let found : slice_get t.classes.items byte ≡ Some class
-    = slice_get-get_or t.classes.items byte class (omega (arith, h.classes, lt)) ∙ ap Some (sym here) in
-    let lies : class < t.class_count = subst (λ k. k < t.class_count) (sym here)
-    (All-get_or (λ k. k < t.class_count) t.classes.items byte class (omega (arith, h.classes, lt)) h.within) in
-    e ∙ entry_written t state class h lies
-    ∙ (ap (option_and_then (cell (part_from t).rows state)) (sym found) ∙ ap (λ q. next_in q state byte) view)
+-- each number has its own place
+pub slice_get-range : (n k : ℕ) → k < n → slice_get (range_with_len 0 n) k ≡ Some k
+slice_get-range n k lt = slice_get-get_or (range_with_len 0 n) k 0 (omega (arith, length-range_with_len 0 n))
+    ∙ ap Some (get_or-range_with_len 0 n k 0 lt ∙ zero_and k)
 
 -- a table set's states are those of its scanner in memory
 states_of : (t : Inside) (p : ScanPart) → part_from t ≡ p → length t.accepted.items ≡ length p.accepted
@@ -87,21 +67,26 @@ states_of t p view = sym (length-map t.accepted.items (option_map (λ (r : RuleN
     ∙ ap (λ q. length q.accepted) view
 
 -- each state has a row
-pub row_there : (t : Inside) (p : ScanPart) (state class : ℕ) → IsScanTable t → part_from t ≡ p
-    → state < length p.accepted → class < 256 → state * 256 + class < length t.rows
-row_there t p state class h view lt less = omega (arith, h.rows, states_of t p view)
+pub row_there : (t : Inside) (p : ScanPart) (state byte : ℕ) → IsScanTable t → part_from t ≡ p
+    → state < length p.accepted → byte < 256 → state * 256 + byte < length t.rows
+row_there t p state byte h view lt less = omega (arith, h.rows, states_of t p view)
+
+-- where a byte leads from a state
+pub next_at : (t : Inside) (p : ScanPart) (state byte : ℕ) (next : Option ℕ) → part_from t ≡ p
+    → state < length p.accepted → byte < 256 → next ≡ row_entry t.rows state byte → next ≡ next_in p state byte
+next_at t p state byte next view there lt e =
+    let row : state < length t.accepted.items = omega (arith, states_of t p view) in
+    e ∙ (sym (cell-grid_of (length t.accepted.items) 256 (row_entry t.rows) state byte row lt)
+    ∙ (ap (option_and_then (cell (part_from t).rows state)) (sym (slice_get-range 256 byte lt))
+    ∙ ap (λ q. next_in q state byte) view))
 
 -- a byte leads to a state that there is
-pub next_within : (t : Inside) (p : ScanPart) (state byte at class next : ℕ) → IsScanTable t → part_from t ≡ p
-    → state < length p.accepted → byte < 256 → at ≡ byte → class ≡ get_or t.classes.items at class
-    → Some next ≡ row_entry t.rows state class → next < length p.accepted
-next_within t p state byte at class next h view there lt is_at is e =
-    let here : class ≡ get_or t.classes.items byte class = is ∙ ap (λ k. get_or t.classes.items k class) is_at in
-    let lies : class < t.class_count = subst (λ k. k < t.class_count) (sym here)
-    (All-get_or (λ k. k < t.class_count) t.classes.items byte class (omega (arith, h.classes, lt)) h.within) in
-    let low : state < length t.accepted.items = omega (arith, states_of t p view) in
+pub next_within : (t : Inside) (p : ScanPart) (state byte next : ℕ) → IsScanTable t → part_from t ≡ p
+    → state < length p.accepted → byte < 256 → Some next ≡ row_entry t.rows state byte → next < length p.accepted
+next_within t p state byte next h view there lt e =
+    let row : state < length t.accepted.items = omega (arith, states_of t p view) in
     subst (λ n. next < n) (states_of t p view)
-    (subst (λ o. IfSome o (λ n. n < length t.accepted.items)) (sym e) (h.targets state class low lies))
+    (subst (λ o. IfSome o (λ n. n < length t.accepted.items)) (sym e) (h.targets state byte row lt))
 
 pub row_within : (o : Option RowStart) (n : ℕ) → ((s : ℕ) → Some s ≡ option_map state_at o → s < n)
     → IfSome o (λ r. state_at r < n)

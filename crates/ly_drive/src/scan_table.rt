@@ -1,5 +1,6 @@
 ghost use Rattle.std.specs.Bool.{OnTrue};
-ghost use Rattle.std.specs.Prelude.{◌≡◌, ◌<◌, ◌≤◌, ◌*◌, ℕ, length, false, slice_get, IfOk, IfSome, Some, option_map};
+ghost use Rattle.std.specs.Prelude.{◌≡◌, ◌<◌, ◌≤◌, ◌*◌, ℕ, length, false, slice_get, slice_index, IfOk, IfSome, Some};
+ghost use Rattle.std.specs.Prelude.{option_map};
 ghost use Rattle.ly_base.specs.declared.cut.Cut.TheVariants.{Whole};
 ghost use Rattle.ly_drive.specs.ScanPart.{condition_in, cut_in, next_in, rule_in, start_in, states_from, states_in};
 ghost use Rattle.ly_drive.specs.ScanPart.{terminal_in};
@@ -15,7 +16,7 @@ use ly_tables::{ScanRule, Starts};
 use std::alloc::Global;
 use std::marker::Model;
 
-/// The scanner of a table set, its rows spread: a step is the class of the byte and one index.
+/// The scanner of a table set, its rows spread over all bytes: a step is one index.
 #[derive(Drop)]
 pub(crate) struct ScanTable {
     /// The terminal of each byte as a literal.
@@ -24,13 +25,9 @@ pub(crate) struct ScanTable {
     pub(crate) rules: Vec<ScanRule>,
     /// Where each condition begins.
     pub(crate) conditions: Vec<Starts>,
-    /// The class of each byte.
-    pub(crate) classes: Vec<u8>,
-    /// How many classes there are.
-    pub(crate) class_count: usize,
     /// The rule of each state, if it has one.
     pub(crate) accepted: Vec<Option<RuleNo>>,
-    /// Where states lead, by classes.
+    /// Where states lead, by bytes.
     pub(crate) rows: StateRows,
 }
 
@@ -67,8 +64,7 @@ impl ScanTable {
         ensures begins { IfSome result Begins }
         ensures within { IfSome result (λ next. state_at next < length self.now.accepted) }
     {
-        let class = self.classes[usize::from(byte)];
-        self.rows.next(at, class)
+        self.rows.next(at, byte)
     }
 
     /// The rule of a state, if it has one.
@@ -139,28 +135,30 @@ impl ScanTable {
     }
 }
 
-/// The rows of states, as they are walked, of rows that are laid over one another.
+/// The rows of states by bytes, as they are walked, of rows by classes that are laid over one another. The class of
+/// each byte is looked up here, so that no step has to.
 pub(crate) fn spread(
     alloc: Global,
     comb: &Comb<StateNo>,
+    classes: &[u8],
     states: usize,
-    classes: usize,
 ) -> Result<StateRows, OutOfMemory>
+    requires classes { length classes.now ≡ 256 }
     requires states { states < 4294967296 }
-    requires classes { classes ≤ 256 }
     requires targets { (k : ℕ) (u : Used number.StateNo) → slice_get comb.now.slots k ≡ Some (Some u)
         → u.entry.0 < states }
     ensures count { IfOk result (λ r. length r ≡ states * 256) }
-    ensures same { IfOk result (λ r. (state class : ℕ) → state < states → class < classes
-        → row_entry r state class ≡ states_from (comb_entry comb.now) state class) }
-    ensures within { IfOk result (λ r. (state class : ℕ) → state < states → class < classes
-        → IfSome (row_entry r state class) (λ next. next < states)) }
+    ensures same { IfOk result (λ r. (state byte : ℕ) → state < states → byte < 256
+        → row_entry r state byte ≡ states_from (comb_entry comb.now) state (slice_index classes.now byte)) }
+    ensures within { IfOk result (λ r. (state byte : ℕ) → state < states → byte < 256
+        → IfSome (row_entry r state byte) (λ next. next < states)) }
 {
     let mut rows = StateRows::new(alloc, states)?;
     for state in 0..states {
         let state = StateNo(state as u32);
-        for class in 0..classes {
-            rows.set(state.0, class, comb.entry(state, class).map(|next| next.0));
+        for byte in 0..256usize {
+            let class = usize::from(classes[byte]);
+            rows.set(state.0, byte, comb.entry(state, class).map(|next| next.0));
         }
     }
     Ok(rows)

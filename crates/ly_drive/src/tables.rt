@@ -1,6 +1,7 @@
 ghost use Rattle.std.specs.Prelude.{◌≡◌, IfOk, map};
 ghost use Rattle.std.specs.Int.{w16};
 ghost use Rattle.ly_drive.specs.Private.Running.{words_in, words_of};
+ghost use Rattle.ly_drive.specs.Private.Tables.{by_bytes};
 ghost use Rattle.ly_drive.specs.ScanPart.{scan_part_of};
 ghost use Rattle.ly_tables.specs.Ranges.{version_1, IsWithinRanges};
 ghost use Rattle.ly_tables.specs.TableSet.{machine_of};
@@ -25,27 +26,25 @@ pub(crate) struct Tables {
 }
 
 impl Tables {
-    /// Those of these parts. The scanner's rows are spread, the parser's run as they are.
+    /// Those of these parts. The scanner's rows are spread over all bytes, the parser's run as they are.
     pub(crate) fn new(alloc: Global, parts: TableParts) -> Result<Tables, OutOfMemory>
         requires { IsWithinRanges w16 version_1 (set_of parts) }
         ensures terminals { IfOk result (λ t. let s = set_of parts in
             map (λ name. name.items) t.terminals.items ≡ s.terminals) }
-        ensures scanner { IfOk result (λ t. t.scanner ≡ scan_part_of (set_of parts)) }
+        ensures scanner { IfOk result (λ t. t.scanner ≡ by_bytes (scan_part_of (set_of parts))) }
         ensures machine { IfOk result (λ t. t.machine ≡ machine_of (set_of parts)) }
     {
         let rows = spread(
             alloc,
             &parts.scan_rows,
+            &parts.classes,
             parts.accepted.len(),
-            parts.class_count,
         )?;
         Ok(Tables {
             scanner: ScanTable {
                 literals: parts.literals,
                 rules: parts.scan_rules,
                 conditions: parts.conditions,
-                classes: parts.classes,
-                class_count: parts.class_count,
                 accepted: parts.accepted,
                 rows,
             },

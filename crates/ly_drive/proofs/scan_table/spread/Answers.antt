@@ -7,8 +7,8 @@ use Rattle.ly_drive.proofs.scan_table.spread.Goals as goal
 
 pub set-requires-clause-next : goal.set-requires-clause-next
 set-requires-clause-next c =
-    let is : c.map.result ≡ states_from (comb_entry c.args.comb.now) c.loop-state.state c.loop-class.class
+    let is : c.map.result ≡ states_from (comb_entry c.args.comb.now) c.loop-state.state c.from-class.result
     = search rules in
-    has_row c.map.result c.args.states (length c.loop-class.rows) c.loop-class.invariant.count
-    (leads_within c.args.comb.now c.loop-state.state c.loop-class.class c.map.result c.args.states
+    has_row c.map.result c.args.states (length c.loop-byte.rows) c.loop-byte.invariant.count
+    (leads_within c.args.comb.now c.loop-state.state c.from-class.result c.map.result c.args.states
     c.requires.targets is)

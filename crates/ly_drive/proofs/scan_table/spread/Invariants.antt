@@ -1,4 +1,5 @@
 use Rattle.std.proofs.Common.{◌≡◌, ◌<◌, ◌*◌, ℕ, length}
+use Rattle.std.specs.Prelude.{slice_index}
 use Rattle.ly_pack.specs.Rows.{comb_entry}
 use Rattle.ly_scan.specs.StateRows.{row_entry}
 use Rattle.ly_drive.specs.ScanPart.{states_from}
@@ -8,16 +9,16 @@ use Rattle.ly_drive.proofs.scan_table.spread.Given as goal
 abbrev pub invariant-loop-state : goal.invariant-loop-state
 invariant-loop-state l = record {
   count : length l.rows ≡ l.fn.states * 256;
-  same : (state class : ℕ) → state < l.state → class < l.fn.classes
-      → row_entry l.rows state class ≡ states_from (comb_entry l.comb) state class;
+  same : (state byte : ℕ) → state < l.state → byte < 256
+      → row_entry l.rows state byte ≡ states_from (comb_entry l.comb) state (slice_index l.classes byte);
 }
 
--- and in this one those of the classes before this
-abbrev pub invariant-loop-class : goal.invariant-loop-class
-invariant-loop-class l = record {
+-- and in this one those of the bytes before this
+abbrev pub invariant-loop-byte : goal.invariant-loop-byte
+invariant-loop-byte l = record {
   count : length l.rows ≡ l.fn.states * 256;
-  same : (state class : ℕ) → state < l.state.0 → class < l.fn.classes
-      → row_entry l.rows state class ≡ states_from (comb_entry l.comb) state class;
-  here : (class : ℕ) → class < l.class
-      → row_entry l.rows l.state.0 class ≡ states_from (comb_entry l.comb) l.state.0 class;
+  same : (state byte : ℕ) → state < l.state.0 → byte < 256
+      → row_entry l.rows state byte ≡ states_from (comb_entry l.comb) state (slice_index l.classes byte);
+  here : (byte : ℕ) → byte < l.byte
+      → row_entry l.rows l.state.0 byte ≡ states_from (comb_entry l.comb) l.state.0 (slice_index l.classes byte);
 }
