@@ -69,9 +69,10 @@ impl ScanTable {
 
     /// The rule of a state, if it has one.
     pub(crate) fn rule(&self, state: usize) -> Option<RuleNo>
+        requires { state < length self.now.accepted }
         ensures { option_map (λ r. r.0) result ≡ rule_in self.now state }
     {
-        *self.accepted.get(state)?
+        self.accepted[state]
     }
 
     /// What is cut off the matches of a rule.
