@@ -2,7 +2,7 @@ ghost use Rattle.std.specs.Prelude.{◌≡◌, ◌<◌, ◌≤◌, ℕ, List, []
 ghost use Rattle.std.specs.Int.{w16};
 ghost use Rattle.ly_base.specs.Lexed.{Place as Spot};
 ghost use Rattle.ly_scan.specs.Lexer.{IsLexemeAt, ScanEndsAt};
-ghost use Rattle.ly_drive.specs.ScanPart.{scanner_in};
+ghost use Rattle.ly_drive.specs.ScanPart.{scanner_in, terminal_by, terminal_in};
 ghost use Rattle.ly_pack.specs.Machine.{IsMachine};
 ghost use Rattle.ly_pack.specs.Steady.{IsSteady};
 ghost use Rattle.ly_tables.specs.Ranges.{version_1, IsWithinRanges};
@@ -19,7 +19,7 @@ use crate::lines::{end_line, term_line, token_line, unmatched_line};
 use crate::outcome::Outcome;
 use crate::table_walk::TableWalk;
 use crate::tables::Tables;
-use ly_base::{End, Front, Lexeme, Place, StateNo};
+use ly_base::{Emitted, End, Front, Lexeme, Place, ScanAction, StateNo};
 use ly_pack::{Comb, TableAction};
 use ly_parse::{ParseFault, Parser, Step, Token};
 use ly_scan::next_lexeme;
@@ -76,34 +76,37 @@ fn run(alloc: Global, tables: &Tables, text: &[u8]) -> Result<Ended, DriveFault>
             Ok(lexeme) => lexeme,
             Err(end) => return finish(alloc, tables, parser, end, text.len() as u64),
         };
-        if let Some((outcome, line)) = take(alloc, tables, &mut parser, &place, lexeme)? {
+        let ScanAction { begin, emits } = tables.scanner.action(lexeme.rule);
+        if let Some((outcome, line)) = take(alloc, tables, &mut parser, &place, lexeme, emits)? {
             return Ok(Ended::Told(outcome, line));
         }
-        let begin = tables.scanner.condition(lexeme.rule);
         place.advance(lexeme.taken, begin);
     }
 }
 
-/// Takes a lexeme at a place: feeds the parser with its token, if it has one. Answers what is said where the token is
-/// refused.
+/// Takes a lexeme at a place: feeds the parser with its token, if its rule has one come of it. Answers what is said
+/// where the token is refused.
 fn take(
     alloc: Global,
     tables: &Tables,
     parser: &mut TableParser<'_>,
     place: &Place<'_>,
     lexeme: Lexeme,
+    emits: Emitted,
 ) -> Result<Option<(Outcome, Vec<u8>)>, DriveFault>
     requires runs { CanRun tables.now.scanner tables.now.machine }
     requires machine { parser.old.machine ≡ tables.now.machine }
     requires goes_on { parser.old.over ≡ false }
     requires some { 0 < lexeme.taken }
     requires within { lexeme.taken ≤ length place.now.rest }
+    requires emits { (bytes : List ℕ) → terminal_by tables.now.scanner bytes emits
+        ≡ terminal_in tables.now.scanner lexeme.rule.0 bytes }
     ensures { (text : List ℕ) → StandsAt tables.now.scanner tables.now.machine text place.now parser.old
         → IsLexemeAt (scanner_in tables.now.scanner) place.now lexeme
         → IsTaken tables.now text place.now lexeme parser.new result }
 {
     let text = Front::new(place.rest(), lexeme.taken);
-    let Some(terminal) = tables.scanner.terminal(lexeme.rule, text.bytes()) else {
+    let Some(terminal) = tables.scanner.terminal(emits, text.bytes()) else {
         return Ok(None);
     };
     let token = Token {

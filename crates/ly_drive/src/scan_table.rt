@@ -1,15 +1,15 @@
 ghost use Rattle.std.specs.Bool.{OnTrue};
 ghost use Rattle.std.specs.Prelude.{◌≡◌, ◌<◌, ◌≤◌, ◌*◌, ℕ, length, false, slice_get, slice_index, IfOk, IfSome, Some};
-ghost use Rattle.std.specs.Prelude.{option_map};
+ghost use Rattle.std.specs.Prelude.{List, option_map};
 ghost use Rattle.ly_base.specs.declared.cut.Cut.TheVariants.{Whole};
 ghost use Rattle.ly_drive.specs.ScanPart.{condition_in, cut_in, next_in, rule_in, start_in, states_from, states_in};
-ghost use Rattle.ly_drive.specs.ScanPart.{terminal_in};
+ghost use Rattle.ly_drive.specs.ScanPart.{terminal_by, terminal_in};
 ghost use Rattle.ly_pack.specs.Rows.{comb_entry, Used};
 ghost use Rattle.ly_scan.specs.StateRows.{row_entry, state_at, Begins};
 ghost use Rattle.ly_scan.specs.StateWalk.{MindsNoLine};
 ghost use Rattle.ly_base.specs.declared.numbers.StateNo as number;
 
-use ly_base::{Cut, Emitted, OutOfMemory, RuleNo, StateNo, Sym};
+use ly_base::{Cut, Emitted, OutOfMemory, RuleNo, ScanAction, StateNo, Sym};
 use ly_pack::{Comb, Rows};
 use ly_scan::{RowStart, StateRows};
 use ly_tables::{ScanRule, Starts};
@@ -116,19 +116,26 @@ impl ScanTable {
         false
     }
 
-    /// The condition that a rule sets, if it sets one.
-    pub(crate) fn condition(&self, rule: RuleNo) -> Option<u32>
-        ensures { result ≡ condition_in self.now rule.0 }
+    /// What happens where a rule matches: nothing, if there is no such rule.
+    pub(crate) fn action(&self, rule: RuleNo) -> ScanAction
+        ensures begin { result.begin ≡ condition_in self.now rule.0 }
+        ensures emits { (bytes : List ℕ) → terminal_by self.now bytes result.emits ≡ terminal_in self.now rule.0 bytes }
     {
-        self.rules.get(rule.0 as usize)?.action.begin
+        match self.rules.get(rule.0 as usize) {
+            Some(rule) => rule.action,
+            None => ScanAction {
+                begin: None,
+                emits: Emitted::Nothing,
+            },
+        }
     }
 
-    /// The terminal that a rule returns for a token's bytes, if it returns one.
-    pub(crate) fn terminal(&self, rule: RuleNo, bytes: &[u8]) -> Option<Sym>
+    /// The terminal of a token of these bytes, if one comes of them.
+    pub(crate) fn terminal(&self, emits: Emitted, bytes: &[u8]) -> Option<Sym>
         requires { 0 < length bytes.now }
-        ensures { option_map (λ t. t.0) result ≡ terminal_in self.now rule.0 bytes.now }
+        ensures { option_map (λ t. t.0) result ≡ terminal_by self.now bytes.now emits }
     {
-        match self.rules.get(rule.0 as usize)?.action.emits {
+        match emits {
             Emitted::Nothing => None,
             Emitted::Terminal(terminal) => Some(terminal),
             Emitted::FirstByte => Some(self.literals[usize::from(bytes[0])]),

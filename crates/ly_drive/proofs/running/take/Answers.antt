@@ -10,7 +10,8 @@ returns-in_default c text h is =
     passes T.scanner T.machine text c.args.place.now _ c.args.parser.now c.args.lexeme h is
     (ap (terminal_in T.scanner c.args.lexeme.rule.0)
     (ap (take c.args.lexeme.taken) (sym c.rest.ensures) ∙ sym c.new-text.ensures ∙ sym c.bytes.ensures)
-    ∙ no_terminal c.terminal.result _ c.terminal.ensures c.in_default.is) refl
+    ∙ no_terminal c.terminal.result _ (c.terminal.ensures ∙ c.requires.emits c.bytes.result.now) c.in_default.is)
+    refl
 
 pub returns : goal.returns
 returns c text h is =
@@ -19,5 +20,6 @@ returns c text h is =
       at = c.at.ensures;
       bytes = c.new-text.ensures ∙ ap (take c.args.lexeme.taken) c.rest.ensures;
       terminal = ap (terminal_in T.scanner c.args.lexeme.rule.0) (sym c.bytes.ensures)
-          ∙ terminal_is c.terminal.result c.in-Some.terminal _ c.terminal.ensures c.in-Some.is;
+          ∙ terminal_is c.terminal.result c.in-Some.terminal _ (c.terminal.ensures ∙ c.requires.emits c.bytes.result.now)
+          c.in-Some.is;
     }) c.feed.ensures
