@@ -1,4 +1,5 @@
 pub mod FeedingLemmas
+pub mod LandingLemmas
 pub mod PassLemmas
 pub mod ReduceLemmas
 pub mod SettleLemmas

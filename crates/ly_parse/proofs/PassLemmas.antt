@@ -11,7 +11,7 @@ use Rattle.ly_pack.specs.SteadyLaws.{IsStack}
 use Rattle.ly_pack.specs.Values.{action_from}
 use Rattle.ly_parse.specs.Feeding.{faulty, states_on, top_of}
 use Rattle.ly_parse.specs.Parse.{Parse}
-use Rattle.ly_parse.specs.Private.Shortcuts.{passing, IsFrom, IsPass, IsSituation, LacksGoto, Passes}
+use Rattle.ly_parse.specs.Private.Shortcuts.{passing, ArePasses, IsFrom, IsPass, IsSituation, LacksGoto, Passes}
 use Rattle.ly_parse.specs.Private.Stack.{level_from, parse_from, stack_from, FeedAs, IsParse, Leads}
 use Rattle.ly_parse.specs.declared.level.Level as code
 use Rattle.ly_parse.specs.declared.shortcut.Shortcut.{Shortcut}
@@ -152,8 +152,8 @@ passed_stack f levels low k l size term =
 
 -- what is done there
 pub acts_on : (p : Parse) (m : Machine) (f : Grown) (levels : List code.Level) (low below : ℕ) (k l : code.Level)
-    (from : Situation) (s : Shortcut) → HasTop p m f levels low below k → IsFrom m from s → l.state ≡ s.state
-    → l.term ≡ k.term
+    (from : Situation) (s : Shortcut Situation) → HasTop p m f levels low below k → IsFrom (ArePasses m) from s
+    → l.state ≡ s.state → l.term ≡ k.term
     → action_from s.action ≡ action_of p.machine (top_of (stack_from f (slice_set levels low l))) from.terminal.0
 acts_on p m f levels low below k l from s h is state term =
     acts_from m from s is

@@ -6,17 +6,17 @@ use Rattle.std.specs.Global.{Global}
 use Rattle.std.specs.Prelude.{Bool, Option, Vec, vec_len}
 use Rattle.ly_pack.specs.Machine.{Machine, TableRule, goto_at, IsMachine, IsRuleWithin, IsShapeFor}
 use Rattle.ly_pack.specs.Machine.{IsTableRule}
-use Rattle.ly_pack.specs.Steady.{rule_at, by_goto}
+use Rattle.ly_pack.specs.Steady.{rule_at}
 use Rattle.ly_parse.specs.Feeding.{faulty, go_to, goes_on, reduce_by, settles, top_of, uncover}
 use Rattle.ly_parse.specs.Parse.{Parse}
 use Rattle.ly_parse.specs.Private.Stack.{parse_from, stack_from, terms_onto, IsParse}
 use Rattle.ly_parse.specs.declared.level.Level as code
 use Rattle.ly_parse.proofs.FeedingLemmas.{rule_found}
-use Rattle.ly_parse.proofs.StackLemmas.{below, cut, length-stack_from, pushed, stack_from-push}
+use Rattle.ly_parse.proofs.StackLemmas.{below, length-stack_from, stack_from-push}
 use Rattle.ly_parse.proofs.TermLemmas.{pop_past, pop_within}
-use Rattle.ly_tree.proofs.StandLemmas.{stands_known, stands_unwrapped}
+use Rattle.ly_tree.proofs.StandLemmas.{stands_unwrapped}
 use Rattle.ly_tree.specs.Forest.{Grown, StandsFor}
-use Rattle.ly_tree.specs.Term.{Term, made, none}
+use Rattle.ly_tree.specs.Term.{made, none}
 
 -- a body that fits on the stack, and what is left below it
 pub body_fits : (v : Vec code.Level Global) (n body low : ℕ) → n ≡ vec_len v → (body ≤ n) × (low ≡ n - body)
@@ -109,19 +109,7 @@ lacks_goto p n r low m f levels kept top h k t e =
     cut_reduces p n r low m f levels None h
     (ap (λ s. goto_at m s r.left) (sym (t ∙ ap (λ s. top_of (stack_from f s)) k)) ∙ sym e)
 
--- a goto that is there: the parse stays one
-pub goes : (p : Parse) (n : ℕ) (r : TableRule) (low : ℕ) (m : Machine) (f : Grown) (levels : List code.Level)
-    (kept : List code.Level) (top : ℕ) (l : code.Level) (q : Grown) (d : Term) → IsCut p n r low m f levels
-    → kept ≡ take low levels → top ≡ top_of (stack_from f kept) → Some l.state.0 ≡ goto_at m top r.left
-    → q ≡ f → StandsFor q l.term d → IsParse m f (kept ++ l ∷ [])
-goes p n r low m f levels kept top l q d h k t e same stands =
-    let goto : goto_at m (top_of (stack_from f kept)) r.left ≡ Some l.state.0
-    = ap (λ s. goto_at m s r.left) (sym t) ∙ sym e in
-    pushed m f kept l (subst (IsParse m f) (sym k) (cut m f levels low h.parse))
-    (h.parse.machine.gotos (top_of (stack_from f kept)) r.left l.state.0 goto)
-    (stands_known f l.term d (subst (λ x. StandsFor x l.term d) same stands)) (by_goto r.left goto)
-
--- and the reduction is made
+-- a goto that is there: the reduction is made
 pub goes_to : (p : Parse) (n : ℕ) (r : TableRule) (low : ℕ) (m : Machine) (f : Grown) (levels : List code.Level)
     (kept more : List code.Level) (top : ℕ) (l : code.Level) (q : Grown) → IsCut p n r low m f levels
     → kept ≡ take low levels → top ≡ top_of (stack_from f kept) → Some l.state.0 ≡ goto_at m top r.left → q ≡ f

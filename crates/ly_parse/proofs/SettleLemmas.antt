@@ -1,13 +1,14 @@
 -- The reductions before a token is settled.
-use Rattle.std.proofs.Common.{◌≡◌, ℕ, ◌+◌, ◌*◌, ◌<◌, ◌≤◌, List, length, sym, ap, ◌∙◌, arith, subst, Err, Ok}
+use Rattle.std.proofs.Common.{◌≡◌, ℕ, ◌+◌, ◌*◌, ◌<◌, ◌≤◌, List, length, refl, sym, ap, ◌∙◌, arith, subst, Err, Ok}
 use Rattle.std.specs.Prelude.{Bool, IsErrAnd, Result}
 use Rattle.ly_pack.proofs.Runs.{reductions_fall, runs_end}
 use Rattle.ly_pack.specs.Machine.{Machine, action_of, reduce}
 use Rattle.ly_pack.specs.Steady.{rule_at, run_bound, EndsWithin}
 use Rattle.ly_pack.specs.SteadyLaws.{reductions}
-use Rattle.ly_parse.specs.Feeding.{Fed, Level, Turn, goes_on, reduce_by, settles, states_on, top_of}
+use Rattle.ly_parse.specs.Feeding.{Fed, Level, Turn, faulty, goes_on, reduce_by, settles, states_on, top_of}
 use Rattle.ly_parse.specs.Parse.{Parse}
-use Rattle.ly_parse.specs.Private.Stack.{parse_from, stack_from, FeedAlike, FeedAs, IsParse, Leads}
+use Rattle.ly_parse.specs.Private.Stack.{at_once, behind, parse_from, stack_from, FailsByRule, FeedAlike, FeedAs}
+use Rattle.ly_parse.specs.Private.Stack.{IsParse, Leads}
 use Rattle.ly_parse.specs.declared.fault.ParseFault.{ParseFault}
 use Rattle.ly_parse.specs.declared.level.Level as code
 use Rattle.ly_parse.proofs.FeedingLemmas.{feeds_alike, feeds_as, moves}
@@ -75,7 +76,7 @@ module _ (m by : Machine) (t number limit : ℕ) (first stack : List Level) (sam
   }
 
   -- the token is settled by it
-  pub settled_by : (out : Fed) → reduce_by by number stack (rule_at by number) ≡ settles out → FeedAs m t first out
+  settled_by : (out : Fed) → reduce_by by number stack (rule_at by number) ≡ settles out → FeedAs m t first out
   settled_by out makes token is_its =
       let made = made_by (settles out) makes in
       run.alike token out is_its (feeds_as m t number stack out made.action made.makes token is_its)
@@ -86,7 +87,7 @@ module _ (m by : Machine) (t number limit : ℕ) (first stack : List Level) (sam
     reduced = behind_reduction m t number limit first stack next (made_by (goes_on next) makes) run
 
     -- or what becomes of it on the stack that is left becomes of it on the first
-    pub settled_behind : (k : Machine) (out : Fed) → k ≡ by → FeedAs k t next out → FeedAs m t first out
+    settled_behind : (k : Machine) (out : Fed) → k ≡ by → FeedAs k t next out → FeedAs m t first out
     settled_behind k out still fed token is_its =
         reduced.0.alike token out is_its
         (subst (λ q. FeedAs q t next out) (still ∙ same) fed token is_its)
@@ -100,6 +101,15 @@ module _ (m by : Machine) (t number limit : ℕ) (first stack : List Level) (sam
         let less = passed.1 in
         let falls = reduced.1 in
         (passed.0, omega arith)
+
+-- A reduction that fails, or passes behind it that do.
+pub fails_by_rule : (m by : Machine) (t number limit : ℕ) (first stack : List Level) → by ≡ m
+    → action_of m (top_of stack) t ≡ reduce number → IsWithinRun m t limit first stack → FailsByRule by number t stack
+    → FeedAs m t first faulty
+fails_by_rule m by t number limit first stack same action run (at_once makes) =
+    settled_by m by t number limit first stack same action run faulty makes
+fails_by_rule m by t number limit first stack same action run (behind next makes fed) =
+    settled_behind m by t number limit first stack same action run next makes by faulty refl fed
 
 -- the fault of a call is handed on
 pub same_fault : {T : Type 0} (r : Result T ParseFault) (e d : ParseFault) → IsErrAnd r (λ x. x ≡ e) → r ≡ Err d

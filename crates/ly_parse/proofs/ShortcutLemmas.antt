@@ -9,7 +9,7 @@ use Rattle.ly_pack.specs.SteadyLaws.{reductions}
 use Rattle.ly_pack.specs.Values.{action_from}
 use Rattle.ly_parse.specs.Feeding.{Level, faulty, go_to, goes_on, reduce_by, settles, top_of}
 use Rattle.ly_parse.specs.Private.Shortcuts as run
-use Rattle.ly_parse.specs.Private.Shortcuts.{further, passing, IsFrom, IsPass, IsSituation, LacksGoto, Passes}
+use Rattle.ly_parse.specs.Private.Shortcuts.{further, passing, ArePasses, IsFrom, IsPass, IsSituation, LacksGoto, Passes}
 use Rattle.ly_parse.specs.Private.Stack.{FeedAs, Leads}
 use Rattle.ly_parse.specs.declared.shortcut.Shortcut.{Shortcut}
 use Rattle.ly_parse.specs.declared.shortcut.Situation.{Situation}
@@ -128,10 +128,10 @@ pub is_pass_there : (m : Machine) (s : Situation) (state left : ℕ) (a : TableA
 is_pass_there m s state left a same h = (h.0, sym same ∙ h.1, h.2)
 
 -- what a shortcut from a situation says of it
-pub passes_from : (m : Machine) (from : Situation) (s : Shortcut) → IsFrom m from s
+pub passes_from : (m : Machine) (from : Situation) (s : Shortcut Situation) → IsFrom (ArePasses m) from s
     → Passes m from.terminal.0 from.below.0 from.top.0 s.state.0
 passes_from m from s h = subst (λ k. Passes m k.terminal.0 k.below.0 k.top.0 s.state.0) h.0 h.1.passes
 
-pub acts_from : (m : Machine) (from : Situation) (s : Shortcut) → IsFrom m from s
+pub acts_from : (m : Machine) (from : Situation) (s : Shortcut Situation) → IsFrom (ArePasses m) from s
     → action_from s.action ≡ action_of m s.state.0 from.terminal.0
-acts_from m from s h = h.1.action ∙ ap (λ k. action_of m s.state.0 k.terminal.0) h.0
+acts_from m from s h = h.1.acts ∙ ap (λ k. action_of m s.state.0 k.terminal.0) h.0

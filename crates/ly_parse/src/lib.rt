@@ -9,8 +9,10 @@
 #![tactic(auto)]
 
 mod fault;
+mod landing;
 mod laws;
 mod level;
+mod origin;
 mod parser;
 mod settled;
 mod shortcut;

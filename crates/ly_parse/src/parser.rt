@@ -7,7 +7,7 @@ ghost use Rattle.ly_pack.specs.Steady.{rule_at, IsSteady};
 ghost use Rattle.ly_pack.specs.Values.{action_from};
 ghost use Rattle.ly_parse.specs.Feeding.{faulty, goes_on, reduce_by, settles, top_of};
 ghost use Rattle.ly_parse.specs.Parse.{IsCall};
-ghost use Rattle.ly_parse.specs.Private.Stack.{terms_onto, FeedAlike, FeedAs, IsAccepted, Leads};
+ghost use Rattle.ly_parse.specs.Private.Stack.{terms_onto, FailsByRule, FeedAlike, FeedAs, IsAccepted, Leads, LeadsByRule};
 ghost use Rattle.ly_parse.specs.declared.fault.ParseFault.TheVariants as fault;
 ghost use Rattle.ly_parse.specs.declared.settled.Settled.TheVariants as settled;
 ghost use Rattle.ly_parse.specs.declared.step.Step.TheVariants as step;
@@ -15,9 +15,10 @@ ghost use Rattle.ly_tree.specs.Forest.{no_terms, StandsFor};
 ghost use Rattle.ly_tree.specs.Term.{leaf, made, none};
 
 use crate::fault::ParseFault;
+use crate::landing::Landing;
 use crate::level::Level;
 use crate::settled::Settled;
-use crate::shortcut::Situation;
+use crate::shortcut::{Shortcut, Situation};
 use crate::shortcuts::Shortcuts;
 use crate::step::Step;
 use crate::token::Token;
@@ -37,7 +38,9 @@ pub struct Parser<'a, A: Rows<TableAction> + Drop, G: Rows<StateNo> + Drop> {
     /// The stack above the bottom, whose state is 0; its top is last.
     stack: Vec<Level>,
     /// What runs of passes came to so far.
-    shortcuts: Shortcuts,
+    shortcuts: Shortcuts<Situation>,
+    /// What gotos and the passes behind them came to so far.
+    landings: Shortcuts<Landing>,
     /// How many tokens were read.
     count: u64,
     /// Whether the parse has ended, well or not.
@@ -49,7 +52,7 @@ impl<'a, A: Rows<TableAction> + Drop, G: Rows<StateNo> + Drop> Model for Parser<
     ghost use Rattle.std.specs.Coded.{codes};
     ghost use Rattle.ly_parse.specs.ParseCode.{level_code};
     ghost use Rattle.ly_tree.specs.GrownCode.{grown_code};
-    ghost use Rattle.ly_parse.specs.Private.Shortcuts.{AreShortcuts};
+    ghost use Rattle.ly_parse.specs.Private.Shortcuts.{AreKept};
     ghost use Rattle.ly_parse.specs.Private.Stack.{parse_from, IsParse};
 
     ghost Value = { value.Parse };
@@ -59,7 +62,7 @@ impl<'a, A: Rows<TableAction> + Drop, G: Rows<StateNo> + Drop> Model for Parser<
     ghost view = { λ p. parse_from p.machine.now p.forest p.stack.items p.count p.over };
 
     ghost invariant = { λ p. IsParse p.machine.now p.forest p.stack.items
-        × AreShortcuts p.machine.now p.shortcuts };
+        × AreKept p.machine.now p.shortcuts p.landings };
 }
 
 impl<'a, A: Rows<TableAction> + Drop, G: Rows<StateNo> + Drop> Parser<'a, A, G> {
@@ -81,6 +84,7 @@ impl<'a, A: Rows<TableAction> + Drop, G: Rows<StateNo> + Drop> Parser<'a, A, G> 
             forest: Forest::new(alloc),
             stack: Vec::new(alloc),
             shortcuts: Shortcuts::new(alloc),
+            landings: Shortcuts::new(alloc),
             count: 0,
             over: false,
         }
@@ -196,8 +200,7 @@ impl<'a, A: Rows<TableAction> + Drop, G: Rows<StateNo> + Drop> Parser<'a, A, G> 
         let _ = &self.machine;
         let mut number = rule;
         loop {
-            self.reduce(number)?;
-            match self.pass(terminal)? {
+            match self.reduce(number, terminal)? {
                 TableAction::Reduce(next) => number = next,
                 TableAction::Shift(state) => return Ok(Settled::Reads(state)),
                 TableAction::Accept => return Ok(Settled::Accepts),
@@ -259,7 +262,10 @@ impl<'a, A: Rows<TableAction> + Drop, G: Rows<StateNo> + Drop> Parser<'a, A, G> 
             top: self.stack[place].state,
             terminal,
         };
-        let shortcut = self.shortcuts.add(self.machine, from)?;
+        let Some(shortcut) = Shortcut::find(self.machine, from) else {
+            return Err(ParseFault::TableFault);
+        };
+        self.shortcuts.keep(shortcut)?;
         self.stack[place].state = shortcut.state;
         Ok(shortcut.action)
     }
@@ -272,30 +278,40 @@ impl<'a, A: Rows<TableAction> + Drop, G: Rows<StateNo> + Drop> Parser<'a, A, G> 
         self.top_at(self.stack.len())
     }
 
-    /// Makes a reduction.
-    fn reduce(&mut self, number: RuleNo) -> Result<(), ParseFault>
-        requires { IsRuleNumber self.old.machine number.0 }
-        ensures ok { OnOk result (reduce_by self.old.machine number.0 self.old.stack (rule_at self.old.machine number.0)
-            ≡ goes_on self.new.stack) }
-        ensures faulty { result ≡ Err fault.TableFault → reduce_by self.old.machine number.0 self.old.stack
-            (rule_at self.old.machine number.0) ≡ settles faulty }
+    /// Makes a reduction and the passes behind it before a terminal, and answers what is done then.
+    fn reduce(&mut self, number: RuleNo, terminal: Sym) -> Result<TableAction, ParseFault>
+        requires rule { IsRuleNumber self.old.machine number.0 }
+        requires terminal { terminal.0 < self.old.machine.terminals }
+        ensures leads { OnOk result (LeadsByRule self.old.machine number.0 terminal.0 self.old.stack self.new.stack) }
+        ensures action { IfOk result (λ a. action_from a
+            ≡ action_of self.old.machine (top_of self.new.stack) terminal.0) }
+        ensures legal { IfOk result (λ a. IsLegal self.old.machine terminal.0 (action_from a)) }
+        ensures faulty { result ≡ Err fault.TableFault
+            → FailsByRule self.old.machine number.0 terminal.0 self.old.stack }
         ensures not_over { result ≢ Err fault.Over }
         ensures machine { self.new.machine ≡ self.old.machine }
         ensures count { self.new.count ≡ self.old.count }
         ensures over { self.new.over ≡ self.old.over }
     {
         let rule = self.machine.rule(number);
+        let left = rule.left;
         let Some(below) = self.stack.len().checked_sub(rule.body_length) else {
             return Err(ParseFault::TableFault);
         };
         let term = self.make(number, &rule.tree, below)?;
         self.stack.truncate(below);
-        let Some(state) = self.machine.goto(self.top(), rule.left) else {
-            return Err(ParseFault::TableFault);
+        let from = Landing {
+            below: self.top(),
+            left,
+            terminal,
         };
+        let shortcut = self.landings.land(self.machine, from)?;
         self.stack.reserve(1)?;
-        self.stack.push_reserved(Level { state, term });
-        Ok(())
+        self.stack.push_reserved(Level {
+            state: shortcut.state,
+            term,
+        });
+        Ok(shortcut.action)
     }
 
     /// The state on top of so many levels, from the bottom on.

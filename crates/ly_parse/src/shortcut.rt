@@ -1,10 +1,10 @@
-ghost use Rattle.std.specs.Bool.{OnTrue};
 ghost use Rattle.std.specs.Prelude.{◌≡◌, ◌<◌, ℕ, IfSome, MatchOption};
 ghost use Rattle.ly_pack.specs.Machine.{reduce, IsMachine, IsRuleNumber};
 ghost use Rattle.ly_pack.specs.Steady.{IsSteady};
 ghost use Rattle.ly_pack.specs.Values.{action_from};
-ghost use Rattle.ly_parse.specs.Private.Shortcuts.{IsFrom, IsPass, IsSituation, LacksGoto};
+ghost use Rattle.ly_parse.specs.Private.Shortcuts.{ArePasses, IsFrom, IsPass, IsSituation, LacksGoto};
 
+use crate::origin::{Origin, place_of};
 use ly_base::{RuleTree, StateNo, Sym};
 use ly_pack::{Machine, Rows, TableAction};
 
@@ -20,44 +20,40 @@ pub(crate) struct Situation {
     pub(crate) terminal: Sym,
 }
 
-impl Situation {
-    /// Where a shortcut from here is kept, in a table of 2^12 places (multiplicative hashing, Knuth 1973, 6.4).
-    pub(crate) fn place(&self) -> usize {
-        let below = self.below.0.wrapping_mul(0x9e37_79b1);
-        let top = self.top.0.wrapping_mul(0x85eb_ca77);
-        let terminal = self.terminal.0.wrapping_mul(0xc2b2_ae3d);
-        ((below ^ top ^ terminal) >> 18) as usize
+impl Origin for Situation {
+    ghost leads = { ArePasses };
+
+    fn place(&self) -> usize {
+        place_of(self.below.0, self.top.0, self.terminal)
     }
 
-    /// Whether it is the other one. All numbers are compared at once, so that a processor has one branch to guess.
-    pub(crate) fn is(self, other: Situation) -> bool
-        ensures { OnTrue result (self ≡ other) }
-    {
+    fn is(self, other: Situation) -> bool {
         (self.below == other.below) & (self.top == other.top) & (self.terminal == other.terminal)
     }
 }
 
-/// What the passes from a situation come to.
+/// What the tables lead to from somewhere.
 #[derive(Clone, Copy)]
-pub(crate) struct Shortcut {
-    /// The situation.
-    pub(crate) from: Situation,
-    /// The state on top behind the passes.
+pub(crate) struct Shortcut<O> {
+    /// From where.
+    pub(crate) from: O,
+    /// The state that is on top then.
     pub(crate) state: StateNo,
     /// What is done there before the terminal.
     pub(crate) action: TableAction,
 }
 
-impl Shortcut {
+impl Shortcut<Situation> {
     /// The shortcut from a situation, found pass by pass. There is none where a goto is missing on the way.
     pub(crate) fn find<A: Rows<TableAction> + Drop, G: Rows<StateNo> + Drop>(
         machine: &Machine<A, G>,
         from: Situation,
-    ) -> Option<Shortcut>
+    ) -> Option<Shortcut<Situation>>
         requires machine { IsMachine machine.now }
         requires steady { IsSteady machine.now }
         requires from { IsSituation machine.now from }
-        ensures { MatchOption result (LacksGoto machine.now from) (λ s. IsFrom machine.now from s) }
+        ensures { MatchOption result (LacksGoto machine.now from) (λ s.
+            IsFrom (ArePasses machine.now) from s) }
     {
         let mut state = from.top;
         loop {

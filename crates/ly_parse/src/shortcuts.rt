@@ -1,38 +1,37 @@
-ghost use Rattle.std.specs.Prelude.{◌≡◌, ◌≢◌, Err, IfOk, IfSome};
-ghost use Rattle.ly_pack.specs.Machine.{IsMachine, Machine as Tables};
-ghost use Rattle.ly_pack.specs.Steady.{IsSteady};
-ghost use Rattle.ly_parse.specs.Private.Shortcuts.{AreShortcuts, IsFrom, IsShortcut, IsSituation, LacksGoto};
-ghost use Rattle.ly_parse.specs.declared.fault.ParseFault.TheVariants as fault;
+ghost use Rattle.std.specs.Prelude.{◌≡◌, IfSome};
+ghost use Rattle.ly_pack.specs.Machine.{Machine as Tables};
+ghost use Rattle.ly_pack.specs.Values.{action_from};
+ghost use Rattle.ly_parse.specs.Private.Shortcuts.{AreShortcuts, IsFrom};
 
-use crate::fault::ParseFault;
-use crate::shortcut::{Shortcut, Situation};
-use ly_base::{OutOfMemory, StateNo};
-use ly_pack::{Machine, Rows, TableAction};
+use crate::origin::Origin;
+use crate::shortcut::Shortcut;
+use ly_base::OutOfMemory;
 use std::alloc::Global;
 
-/// How many places there are for shortcuts: as many as `Situation::place` names.
+/// How many places there are for shortcuts: as many as `Origin::place` names.
 const PLACES: usize = 16_384;
 
-/// The shortcuts that were found, each at the place of its situation, where the next one of that place takes over.
+/// The shortcuts that were found, each at the place of its origin, where the next one of that place takes over.
 #[derive(Drop)]
-pub(crate) struct Shortcuts {
+pub(crate) struct Shortcuts<O> {
     /// The places; none before the first shortcut is kept, which takes all of them.
-    places: Vec<Shortcut>,
+    places: Vec<Shortcut<O>>,
 }
 
-impl Shortcuts {
+impl<O: Origin> Shortcuts<O> {
     /// No shortcuts.
-    pub(crate) fn new(alloc: Global) -> Shortcuts
-        ensures { (m : Tables) → AreShortcuts m result }
+    pub(crate) fn new(alloc: Global) -> Self
+        ensures { (m : Tables) → AreShortcuts (O.leads m) result }
     {
         Shortcuts {
             places: Vec::new(alloc),
         }
     }
 
-    /// The shortcut from a situation, if it is kept.
-    pub(crate) fn get(&self, from: Situation) -> Option<&Shortcut>
-        ensures { (m : Tables) → AreShortcuts m self.now → IfSome result (λ s. IsFrom m from s.now) }
+    /// The shortcut from somewhere, if it is kept.
+    pub(crate) fn get(&self, from: O) -> Option<&Shortcut<O>>
+        ensures { (m : Tables) → AreShortcuts (O.leads m) self.now
+            → IfSome result (λ s. IsFrom (O.leads m) from s.now) }
     {
         match self.places.get(from.place()) {
             Some(shortcut) if shortcut.from.is(from) => Some(shortcut),
@@ -40,33 +39,11 @@ impl Shortcuts {
         }
     }
 
-    /// Finds the shortcut from a situation by the tables, and keeps it.
-    ///
-    /// It fails with `TableFault` where a goto is missing on the way.
-    pub(crate) fn add<A: Rows<TableAction> + Drop, G: Rows<StateNo> + Drop>(
-        &mut self,
-        machine: &Machine<A, G>,
-        from: Situation,
-    ) -> Result<Shortcut, ParseFault>
-        requires machine { IsMachine machine.now }
-        requires steady { IsSteady machine.now }
-        requires from { IsSituation machine.now from }
-        requires kept { AreShortcuts machine.now self.old }
-        ensures ok { IfOk result (λ s. IsFrom machine.now from s) }
-        ensures faulty { result ≡ Err fault.TableFault → LacksGoto machine.now from }
-        ensures not_over { result ≢ Err fault.Over }
-        ensures kept { AreShortcuts machine.now self.new }
-    {
-        let Some(shortcut) = Shortcut::find(machine, from) else {
-            return Err(ParseFault::TableFault);
-        };
-        self.keep(shortcut)?;
-        Ok(shortcut)
-    }
-
     /// Keeps a shortcut at its place.
-    fn keep(&mut self, shortcut: Shortcut) -> Result<(), OutOfMemory>
-        ensures { (m : Tables) → AreShortcuts m self.old → IsShortcut m shortcut → AreShortcuts m self.new }
+    pub(crate) fn keep(&mut self, shortcut: Shortcut<O>) -> Result<(), OutOfMemory>
+        ensures { (m : Tables) → AreShortcuts (O.leads m) self.old
+            → O.leads m shortcut.from shortcut.state.0 (action_from shortcut.action)
+            → AreShortcuts (O.leads m) self.new }
     {
         if self.places.is_empty() {
             self.places.resize(PLACES, shortcut)?;

@@ -5,6 +5,7 @@ use Rattle.ly_base.specs.Shape.{place}
 use Rattle.ly_pack.specs.Machine.{Machine, TableAction, TableRule, action_of, goto_at, reduce, states_of}
 use Rattle.ly_pack.specs.Steady.{rule_at, IsTableEdge}
 use Rattle.ly_pack.specs.Values.{action_from}
+use Rattle.ly_parse.specs.declared.landing.Landing.{Landing}
 use Rattle.ly_parse.specs.declared.shortcut.Shortcut.{Shortcut}
 use Rattle.ly_parse.specs.declared.shortcut.Situation.{Situation}
 use Rattle.ly_parse.specs.declared.shortcuts.Shortcuts.{Shortcuts}
@@ -30,13 +31,10 @@ pub record IsSituation (m : Machine) (s : Situation) : Type 0 where
   pub top : s.top.0 < states_of m
   pub edge : IsTableEdge m s.below.0 s.top.0
 
--- passes lead from the situation to the shortcut's state, and its action is what is done there
-pub record IsShortcut (m : Machine) (s : Shortcut) : Type 0 where
-  pub passes : Passes m s.from.terminal.0 s.from.below.0 s.from.top.0 s.state.0
-  pub action : action_from s.action ≡ action_of m s.state.0 s.from.terminal.0
-
-abbrev pub IsFrom : Machine → Situation → Shortcut → Type 0
-IsFrom m from s = (s.from ≡ from) × IsShortcut m s
+-- passes lead from the situation to the state, and this is done there
+pub record ArePasses (m : Machine) (s : Situation) (state : ℕ) (action : TableAction) : Type 0 where
+  pub passes : Passes m s.terminal.0 s.below.0 s.top.0 state
+  pub acts : action ≡ action_of m state s.terminal.0
 
 -- passes lead from the situation to one that has no goto
 pub record LacksGoto (m : Machine) (s : Situation) : Type 0 where
@@ -46,6 +44,30 @@ pub record LacksGoto (m : Machine) (s : Situation) : Type 0 where
   pub action : IsPass m (action_of m state s.terminal.0) left
   pub missing : goto_at m s.below.0 left ≡ None
 
--- all that is kept is right for the tables
-abbrev pub AreShortcuts : Machine → Shortcuts → Type 0
-AreShortcuts m kept = All (IsShortcut m) kept.places.items
+-- the goto of a landing leads to the situation
+pub record GoesTo (m : Machine) (l : Landing) (s : Situation) : Type 0 where
+  pub goto : goto_at m l.below.0 l.left.0 ≡ Some s.top.0
+  pub below : s.below ≡ l.below
+  pub terminal : s.terminal ≡ l.terminal
+
+-- the goto of a landing and passes behind it lead to the state, and this is done there
+abbrev pub Lands : Machine → Landing → ℕ → TableAction → Type 0
+Lands m l state action = (s : Situation) × GoesTo m l s × ArePasses m s state action
+
+-- the goto of a landing is missing, or passes behind it lead to one that has none
+pub data Strands (m : Machine) (l : Landing) : Type 0 where
+  at_once : goto_at m l.below.0 l.left.0 ≡ None → Strands m l
+  behind : (s : Situation) → GoesTo m l s → LacksGoto m s → Strands m l
+
+-- the shortcut is one from there
+abbrev pub IsFrom : {O : Type 0} → (O → ℕ → TableAction → Type 0) → O → Shortcut O → Type 0
+IsFrom Leads from s = (s.from ≡ from) × Leads s.from s.state.0 (action_from s.action)
+
+-- all that is kept is right
+abbrev pub AreShortcuts : {O : Type 0} → (O → ℕ → TableAction → Type 0) → Shortcuts O → Type 0
+AreShortcuts Leads kept = All (λ s. Leads s.from s.state.0 (action_from s.action)) kept.places.items
+
+-- and that which a parser keeps
+pub record AreKept (m : Machine) (shortcuts : Shortcuts Situation) (landings : Shortcuts Landing) : Type 0 where
+  pub passes : AreShortcuts (ArePasses m) shortcuts
+  pub gotos : AreShortcuts (Lands m) landings

@@ -3,9 +3,10 @@ use Rattle.std.specs.Prelude.{◌≡◌, ℕ, ◌<◌, List, [], ◌∷◌, All,
 use Rattle.std.specs.Prelude.{unwrap_or}
 use Rattle.ly_base.specs.Lexed.{Token}
 use Rattle.ly_pack.specs.Machine.{Machine, states_of, IsMachine}
-use Rattle.ly_pack.specs.Steady.{IsSteady, ReducesTo}
+use Rattle.ly_pack.specs.Steady.{rule_at, IsSteady, ReducesTo}
 use Rattle.ly_pack.specs.SteadyLaws.{IsStack}
-use Rattle.ly_parse.specs.Feeding.{Fed, Feeds, Level, accept_with, done, faulty, settles, states_on}
+use Rattle.ly_parse.specs.Feeding.{Fed, Feeds, Level, accept_with, done, faulty, goes_on, reduce_by, settles}
+use Rattle.ly_parse.specs.Feeding.{states_on}
 use Rattle.ly_parse.specs.Parse.{Parse}
 use Rattle.ly_parse.specs.declared.fault.ParseFault.{ParseFault}
 use Rattle.ly_parse.specs.declared.fault.ParseFault.TheVariants.{TableFault}
@@ -54,6 +55,18 @@ pub record Leads (m : Machine) (t : ℕ) (stack last : List Level) : Type 0 wher
   pub alike : FeedAlike m t last stack
   pub count : ℕ
   pub moves : ReducesTo m t (states_on stack) count (states_on last)
+
+-- A reduction before the terminal and further ones lead from the one stack to the other.
+pub record LeadsByRule (m : Machine) (number t : ℕ) (stack last : List Level) : Type 0 where
+  pub next : List Level
+  pub makes : reduce_by m number stack (rule_at m number) ≡ goes_on next
+  pub leads : Leads m t next last
+
+-- a reduction before the terminal fails, or leads to a stack from which each token of the terminal does
+pub data FailsByRule (m : Machine) (number t : ℕ) (stack : List Level) : Type 0 where
+  at_once : reduce_by m number stack (rule_at m number) ≡ settles faulty → FailsByRule m number t stack
+  behind : (next : List Level) → reduce_by m number stack (rule_at m number) ≡ goes_on next
+      → FeedAs m t next faulty → FailsByRule m number t stack
 
 -- what a parser says where its tables accept
 abbrev pub IsAccepted : Grown → List Level → Result step.Step ParseFault → Type 0

@@ -7,5 +7,5 @@ pub invariant_of-result : goal.invariant_of-result
 invariant_of-result g c = (
   subst (IsParse c.args.machine.now c.new.result) (sym c.new-2.ensures.items)
       (begun c.args.machine.now c.new.result c.states-states.ensures.all c.requires),
-  c.new-3.ensures c.args.machine.now,
+  record { passes = c.new-3.ensures c.args.machine.now; gotos = c.new-4.ensures c.args.machine.now },
 )

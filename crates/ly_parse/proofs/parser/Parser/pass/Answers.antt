@@ -20,7 +20,7 @@ invariant_of-self g c =
           c.top_at.ensures.known c.requires)
           (passes_from c.self.inside.machine.now
           (record { below = c.top_at.result; top = c.index.result.now.state; terminal = c.args.terminal })
-          c.in-Some.shortcut.now (c.in-Some.ensures c.self.inside.machine.now c.self.invariant.1))
+          c.in-Some.shortcut.now (c.in-Some.ensures c.self.inside.machine.now c.self.invariant.1.passes))
           (ap (λ x. x.term) (one_level c.self.inside.stack.items place c.index.result.now
           c.index_mut.result.now size c.index.ensures c.index_mut.ensures.value)),
       c.self.invariant.1,
@@ -39,7 +39,7 @@ returns-in-Some-clause-leads g c =
     (record { below = c.top_at.result; top = c.index.result.now.state; terminal = c.args.terminal }) top refl
     (passes_from c.self.inside.machine.now
     (record { below = c.top_at.result; top = c.index.result.now.state; terminal = c.args.terminal })
-    c.in-Some.shortcut.now (c.in-Some.ensures c.self.inside.machine.now c.self.invariant.1))
+    c.in-Some.shortcut.now (c.in-Some.ensures c.self.inside.machine.now c.self.invariant.1.passes))
     (ap (λ x. x.term) (one_level c.self.inside.stack.items place c.index.result.now
     c.index_mut.result.now size c.index.ensures c.index_mut.ensures.value))
 
@@ -54,6 +54,6 @@ returns-in-Some-clause-action g c =
     c.top_at.result.0 c.index.result.now
     (record { state = c.in-Some.shortcut.now.state; term = c.index_mut.result.now.term })
     (record { below = c.top_at.result; top = c.index.result.now.state; terminal = c.args.terminal })
-    c.in-Some.shortcut.now top (c.in-Some.ensures c.self.inside.machine.now c.self.invariant.1) refl
+    c.in-Some.shortcut.now top (c.in-Some.ensures c.self.inside.machine.now c.self.invariant.1.passes) refl
     (ap (λ x. x.term) (one_level c.self.inside.stack.items place c.index.result.now
     c.index_mut.result.now size c.index.ensures c.index_mut.ensures.value))

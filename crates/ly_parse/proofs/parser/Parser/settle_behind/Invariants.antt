@@ -6,8 +6,8 @@ use Rattle.ly_parse.specs.Feeding.{states_on, top_of}
 use Rattle.ly_parse.proofs.SettleLemmas.{IsWithinRun}
 use Rattle.ly_parse.proofs.parser.Parser.settle_behind.Given as goal
 
-abbrev pub invariant-loop-self : goal.invariant-loop-self
-invariant-loop-self g l = record {
+abbrev pub invariant-loop-next : goal.invariant-loop-next
+invariant-loop-next g l = record {
   run : IsWithinRun l.fn.self.machine l.terminal.0 ((run_bound + 1) * length (states_on l.fn.self.stack))
       l.fn.self.stack l.self.stack;
   machine : l.self.machine ≡ l.fn.self.machine;
@@ -17,7 +17,7 @@ invariant-loop-self g l = record {
   over : l.self.over ≡ l.fn.self.over;
 }
 
-abbrev pub decreases-loop-self : goal.decreases-loop-self
-decreases-loop-self g l =
+abbrev pub decreases-loop-next : goal.decreases-loop-next
+decreases-loop-next g l =
     reductions l.fn.self.machine l.terminal.0 ((run_bound + 1) * length (states_on l.fn.self.stack))
     (states_on l.self.stack)

@@ -1,5 +1,5 @@
 use Rattle.ly_parse.proofs.ShortcutLemmas.{left_of, IsOnWay}
-use Rattle.ly_parse.proofs.shortcut.Shortcut.find.Given as goal
+use Rattle.ly_parse.proofs.shortcut.Shortcut+Situation.find.Given as goal
 
 abbrev pub invariant-loop-left : goal.invariant-loop-left
 invariant-loop-left g l = IsOnWay l.machine l.from l.state.0

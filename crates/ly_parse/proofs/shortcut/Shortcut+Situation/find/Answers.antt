@@ -3,7 +3,7 @@ use Rattle.ly_pack.specs.Machine.{reduce}
 use Rattle.ly_pack.specs.Values.{action_from}
 use Rattle.ly_parse.proofs.FeedingLemmas.{legal}
 use Rattle.ly_parse.proofs.ShortcutLemmas.{goes_further, is_pass_there, sets_out}
-use Rattle.ly_parse.proofs.shortcut.Shortcut.find.Goals as goal
+use Rattle.ly_parse.proofs.shortcut.Shortcut+Situation.find.Goals as goal
 
 pub loop-left-init : goal.loop-left-init
 loop-left-init g c = sets_out c.args.machine.now c.args.from c.requires.steady c.requires.from
@@ -17,7 +17,7 @@ passed_to-requires-clause-legal g c p e =
     (sym c.action-action.ensures ∙ e)
 
 pub returns-in_default : goal.returns-in_default
-returns-in_default g c = (refl, record { passes = c.loop-left.invariant.passes; action = c.action-action.ensures })
+returns-in_default g c = (refl, record { passes = c.loop-left.invariant.passes; acts = c.action-action.ensures })
 
 pub returns-in_default-goto : goal.returns-in_default-goto
 returns-in_default-goto g c = record {

@@ -1,0 +1,118 @@
+ghost use Rattle.std.specs.Prelude.{◌≡◌, ◌≢◌, ◌<◌, Err, IfOk, MatchOption};
+ghost use Rattle.ly_pack.specs.Machine.{states_of, IsMachine};
+ghost use Rattle.ly_pack.specs.Steady.{IsSteady};
+ghost use Rattle.ly_parse.specs.Private.Shortcuts.{AreShortcuts, IsFrom, Lands, Strands};
+ghost use Rattle.ly_parse.specs.declared.fault.ParseFault.TheVariants as fault;
+
+use crate::fault::ParseFault;
+use crate::origin::{Origin, place_of};
+use crate::shortcut::{Shortcut, Situation};
+use crate::shortcuts::Shortcuts;
+use ly_base::{StateNo, Sym};
+use ly_pack::{Machine, Rows, TableAction};
+
+/// All that a goto and the passes behind it depend on, where a reduction has put a term above a state.
+#[derive(Clone, Copy)]
+pub(crate) struct Landing {
+    /// The state.
+    pub(crate) below: StateNo,
+    /// The left side that the term is of.
+    pub(crate) left: Sym,
+    /// The terminal that is next.
+    pub(crate) terminal: Sym,
+}
+
+impl Origin for Landing {
+    ghost leads = { Lands };
+
+    fn place(&self) -> usize {
+        place_of(self.below.0, self.left.0, self.terminal)
+    }
+
+    fn is(self, other: Landing) -> bool {
+        (self.below == other.below) & (self.left == other.left) & (self.terminal == other.terminal)
+    }
+}
+
+impl Shortcut<Landing> {
+    /// The shortcut from a landing: its goto, and the passes behind that. There is none where a goto is missing.
+    pub(crate) fn behind<A: Rows<TableAction> + Drop, G: Rows<StateNo> + Drop>(
+        machine: &Machine<A, G>,
+        from: Landing,
+    ) -> Option<Shortcut<Landing>>
+        requires machine { IsMachine machine.now }
+        requires steady { IsSteady machine.now }
+        requires below { from.below.0 < states_of machine.now }
+        requires left { from.left.0 < machine.now.nonterminals }
+        requires terminal { from.terminal.0 < machine.now.terminals }
+        ensures { MatchOption result (Strands machine.now from) (λ s.
+            IsFrom (Lands machine.now) from s) }
+    {
+        let Some(top) = machine.goto(from.below, from.left) else {
+            return None;
+        };
+        let situation = Situation {
+            below: from.below,
+            top,
+            terminal: from.terminal,
+        };
+        let Some(passes) = Shortcut::find(machine, situation) else {
+            return None;
+        };
+        Some(Shortcut {
+            from,
+            state: passes.state,
+            action: passes.action,
+        })
+    }
+}
+
+impl Shortcuts<Landing> {
+    /// The shortcut from a landing, which is kept. It fails with `TableFault` where a goto is missing.
+    pub(crate) fn land<A: Rows<TableAction> + Drop, G: Rows<StateNo> + Drop>(
+        &mut self,
+        machine: &Machine<A, G>,
+        from: Landing,
+    ) -> Result<Shortcut<Landing>, ParseFault>
+        requires machine { IsMachine machine.now }
+        requires steady { IsSteady machine.now }
+        requires below { from.below.0 < states_of machine.now }
+        requires left { from.left.0 < machine.now.nonterminals }
+        requires terminal { from.terminal.0 < machine.now.terminals }
+        requires kept { AreShortcuts (Lands machine.now) self.old }
+        ensures ok { IfOk result (λ s. IsFrom (Lands machine.now) from s) }
+        ensures faulty { result ≡ Err fault.TableFault → Strands machine.now from }
+        ensures not_over { result ≢ Err fault.Over }
+        ensures kept { AreShortcuts (Lands machine.now) self.new }
+    {
+        if let Some(shortcut) = self.get(from) {
+            return Ok(*shortcut);
+        }
+        self.land_by_tables(machine, from)
+    }
+
+    /// The shortcut from a landing by the tables, which is kept then.
+    #[inline(never)] // so that a shortcut that is kept has the registers
+    fn land_by_tables<A: Rows<TableAction> + Drop, G: Rows<StateNo> + Drop>(
+        &mut self,
+        machine: &Machine<A, G>,
+        from: Landing,
+    ) -> Result<Shortcut<Landing>, ParseFault>
+        requires machine { IsMachine machine.now }
+        requires steady { IsSteady machine.now }
+        requires below { from.below.0 < states_of machine.now }
+        requires left { from.left.0 < machine.now.nonterminals }
+        requires terminal { from.terminal.0 < machine.now.terminals }
+        requires kept { AreShortcuts (Lands machine.now) self.old }
+        ensures ok { IfOk result (λ s. IsFrom (Lands machine.now) from s) }
+        ensures faulty { result ≡ Err fault.TableFault → Strands machine.now from }
+        ensures not_over { result ≢ Err fault.Over }
+        ensures kept { AreShortcuts (Lands machine.now) self.new }
+    {
+        let Some(shortcut) = Shortcut::behind(machine, from) else {
+            return Err(ParseFault::TableFault);
+        };
+        self.keep(shortcut)?;
+        Ok(shortcut)
+    }
+}
