@@ -1,5 +1,6 @@
 pub mod Cuts
 pub mod Lexer
+pub mod LoneBytes
 pub mod Matching
 pub mod Private
 pub mod StateRows

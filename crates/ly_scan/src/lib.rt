@@ -9,11 +9,13 @@
 #![tactic(auto)]
 
 mod lexer;
+mod lone_bytes;
 mod matching;
 mod state_rows;
 mod steps;
 
 pub use lexer::next_lexeme;
+pub use lone_bytes::LoneBytes;
 pub use matching::{Match, next_match};
 pub use state_rows::{RowStart, StateRows};
 pub use steps::Steps;
