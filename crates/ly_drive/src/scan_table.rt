@@ -1,6 +1,6 @@
 ghost use Rattle.std.specs.Bool.{OnTrue};
 ghost use Rattle.std.specs.Prelude.{◌≡◌, ◌<◌, ◌≤◌, ◌*◌, ℕ, length, false, slice_get, slice_index, IfOk, IfSome, Some};
-ghost use Rattle.std.specs.Prelude.{List, option_map};
+ghost use Rattle.std.specs.Prelude.{List, None, option_map, slice_index_or};
 ghost use Rattle.ly_base.specs.declared.cut.Cut.TheVariants.{Whole};
 ghost use Rattle.ly_drive.specs.ScanPart.{condition_in, cut_in, next_in, rule_in, start_in, states_from, states_in};
 ghost use Rattle.ly_drive.specs.ScanPart.{terminal_by, terminal_in};
@@ -164,10 +164,24 @@ pub(crate) fn spread(
     let mut rows = StateRows::new(alloc, states)?;
     for state in 0..states {
         let state = StateNo(state as u32);
+        let targets = targets_of(comb, state);
         for byte in 0..256usize {
-            let class = usize::from(classes[byte]);
-            rows.set(state.0, byte, comb.entry(state, class).map(|next| next.0));
+            rows.set(state.0, byte, targets[usize::from(classes[byte])]);
         }
     }
     Ok(rows)
+}
+
+/// Where each class leads from a state. A look-up in a comb takes far longer than a read of these, and classes are
+/// mostly fewer than bytes.
+fn targets_of(comb: &Comb<StateNo>, state: StateNo) -> [Option<u32>; 256]
+    ensures { (class : ℕ) → class < 256
+        → slice_index_or result class None ≡ states_from (comb_entry comb.now) state.0 class }
+{
+    let mut targets = [None; 256];
+    // no class past the comb's width leads anywhere
+    for class in 0..comb.width().min(256) {
+        targets[class] = comb.entry(state, class).map(|next| next.0);
+    }
+    targets
 }
