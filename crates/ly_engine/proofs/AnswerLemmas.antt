@@ -1,5 +1,5 @@
 -- The answer by a scanner that agrees with the rules.
-use Rattle.std.proofs.Common.{◌≡◌, ℕ, List, [], ◌∷◌, ◌++◌, Option, subst}
+use Rattle.std.proofs.Common.{◌≡◌, ℕ, List, [], ◌∷◌, ◌++◌, Option, subst, sym}
 use Rattle.ly_base.specs.Lexed.{Place, Lexed, start_of, place_after, tokens_from}
 use Rattle.ly_base.specs.declared.lexeme.End.{End}
 use Rattle.ly_base.specs.declared.lexeme.End.TheVariants.{Clean, Stuck, BadCut}
@@ -15,16 +15,17 @@ use Rattle.ly_engine.specs.Printing.{condition_set, end_line, naming, printed, L
 use Rattle.ly_engine.specs.Private.TokenLines.{AreLines}
 use Rattle.ly_engine.proofs.AgreementLemmas.{lexing_of}
 
--- the lines that a scanner's run gives are the answer
-pub answer_of : (names : List Expression) (rules : List Rule) (actions given : List Action) (s : Scanner)
-    (text : List ℕ) (e : End) (lines : List ℕ) → Agrees names rules s → given ≡ actions
-    → AreLines s given (start_of text) e lines → IsAnswer names rules actions text e lines
-answer_of names rules actions given s text e lines agrees by h =
-    let run : Lexed (IsLexemeAt s) (ScanEndsAt s) (condition_set actions) (start_of text) h.0 e =
-    subst (λ (xs : List Action). Lexed (IsLexemeAt s) (ScanEndsAt s) (condition_set xs) (start_of text) h.0 e) by
+-- the lines that a scanner's run gives are the answer, by any that says the same
+pub answer_of : (names : List Expression) (rules : List Rule) (actions given : List Action) (s here : Scanner)
+    (text : List ℕ) (e : End) (lines : List ℕ) → here ≡ s → Agrees names rules s → given ≡ actions
+    → AreLines here given (start_of text) e lines → IsAnswer names rules actions text e lines
+answer_of names rules actions given s here text e lines same agrees by h =
+    let run : Lexed (IsLexemeAt here) (ScanEndsAt here) (condition_set actions) (start_of text) h.0 e =
+    subst (λ (xs : List Action). Lexed (IsLexemeAt here) (ScanEndsAt here) (condition_set xs) (start_of text) h.0 e) by
     h.1 in (
       h.0,
-      lexing_of names rules s agrees (condition_set actions) (start_of text) h.0 e run,
+      lexing_of names rules here (subst (Agrees names rules) (sym same) agrees) (condition_set actions)
+          (start_of text) h.0 e run,
       subst (λ (xs : List Action). lines ≡ printed (tokens_from (naming xs) 0 text h.0) ++ end_line e) by h.2,
     )
 

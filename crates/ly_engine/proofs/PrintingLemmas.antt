@@ -1,6 +1,9 @@
 -- The lines of a text, lexeme by lexeme.
 use Rattle.std.proofs.Common.{◌≡◌, ◌∙◌, ℕ, List, [], ◌∷◌, ◌++◌, take, Bool, Option, Some, None, refl, sym, ap, subst}
 use Rattle.std.proofs.Common.{◌≤◌, Result, Ok, Err, IfErr, IsErrAnd, append_assoc, append-nil, arith, length}
+use Rattle.std.proofs.Common.{◌+◌, zero, suc, false, true, map, slice_get}
+use Rattle.std.specs.Bool.{OnTrue}
+use Rattle.std.specs.Int.{from_bool}
 use Rattle.ly_base.specs.Lexed.{Place, Leads, Lexed, Token, moved, token_if, tokens_from}
 use Rattle.ly_base.specs.Text.{Named, leaf_line}
 use Rattle.ly_base.specs.declared.cut.Cut.{Cut}
@@ -11,11 +14,14 @@ use Rattle.ly_base.specs.declared.whole.WriteFault.{WriteFault}
 use Rattle.ly_base.proofs.TextWriterLemmas.{cut_more}
 use Rattle.ly_base.proofs.LexedLemmas.{leads_more, leads_on, tokens_more}
 use Rattle.ly_lexread.specs.declared.action.Action.{Action}
+use Rattle.ly_lexread.specs.declared.action.Returned.{Returned}
+use Rattle.ly_lexread.specs.declared.action.Returned.TheVariants.{Nothing, Token as TokenOf, Literal, FirstByte}
 use Rattle.ly_scan.specs.Lexer.{ScanEndsAt, IsLexemeAt, Scanner}
+use Rattle.ly_scan.specs.LoneBytes.{AreLone, IsLoneAt}
 use Rattle.ly_scan.specs.Walk.{Walk}
 use Rattle.ly_drive.proofs.LexingLemmas.{lexes, tokens_on}
-use Rattle.ly_engine.specs.Private.TokenLines.{AreLines}
-use Rattle.ly_engine.specs.Printing.{condition_set, end_line, line_if, naming, printed}
+use Rattle.ly_engine.specs.Private.TokenLines.{AreLines, SoFar, is_no_effect, is_passed}
+use Rattle.ly_engine.specs.Printing.{condition_set, end_line, line_if, naming, printed, terminal_for}
 
 -- the line of one token
 printed_one : (o : Option Named) (at : ℕ) (bytes : List ℕ) → printed (token_if o at bytes) ≡ line_if o bytes
@@ -39,12 +45,6 @@ printed_more actions Is next p q ts t h = ap printed (tokens_more (naming action
     ∙ ap (λ z. printed (tokens_from (naming actions) p.at p.rest ts) ++ z)
     (printed_one (naming actions t.rule.0 (take t.taken q.rest)) q.at (take t.taken q.rest))
 
--- the lexemes from p lead to q, and the lines of their tokens are these
-abbrev pub SoFar : List Action → Scanner → Place → Place → List ℕ → Type 0
-SoFar actions s p q lines =
-    (ts : List Lexeme) × Leads (IsLexemeAt s) (condition_set actions) p ts q
-    × (lines ≡ printed (tokens_from (naming actions) p.at p.rest ts))
-
 -- equal parts make equal scanners
 pub scanner_of : (walk here : ℕ → Bool → Walk) (cut cut_here : ℕ → Cut) → here ≡ walk → cut_here ≡ cut
     → (let s : Scanner = record { walk = here; cut = cut_here } in s) ≡ record { walk = walk; cut = cut }
@@ -66,6 +66,47 @@ one_more actions s here p q r t begin token lines more same taken b e k n f =
           ∙ ap (λ z. z ++ line_if (naming actions t.rule.0 (take t.taken q.rest)) (take t.taken q.rest)) f.2
           ∙ sym (printed_more actions (IsLexemeAt s) (condition_set actions) p q f.0 t f.1),
     )
+
+-- an action that returns nothing and sets no condition
+no_effect : (begin : Option ℕ) (r : Returned) → is_no_effect begin r ≡ true
+    → (begin ≡ None) × ((bytes : List ℕ) → terminal_for r bytes ≡ None)
+no_effect None Nothing h = (refl, λ bytes. refl)
+no_effect None (TokenOf name) h = absurd cc
+no_effect None (Literal b) h = absurd cc
+no_effect None FirstByte h = absurd cc
+no_effect (Some c) r h = absurd cc
+
+-- a rule that is passed over sets no condition, and its lexemes have no line
+nothing_said : (actions : List Action) (i : ℕ) → slice_get (map is_passed actions) i ≡ Some true
+    → (condition_set actions i ≡ None) × ((bytes : List ℕ) → naming actions i bytes ≡ None)
+nothing_said [] i h = absurd cc
+nothing_said (a ∷ actions) zero h = no_effect a.begin a.returns cc
+nothing_said (a ∷ actions) (suc i) h = nothing_said actions i h
+
+-- no bytes on it is the same place
+unmoved : (p : Place) → moved p 0 None ≡ p
+unmoved p = let at : p.at + 0 ≡ p.at = omega arith in
+    λ i. record { line = p.line; condition = p.condition; at = at i; rest = p.rest }
+
+-- where a lexeme is passed over, if one is told, the lines so far are the same behind it
+pub passed_by : (actions : List Action) (s : Scanner) (l : List Bool × List Bool) (start p q : Place)
+    (told : List ℕ) (is : Bool) → AreLone s (map is_passed actions) l
+    → OnTrue is ((s : Scanner) (passed : List Bool) → AreLone s passed l → IsLoneAt s passed p)
+    → q ≡ moved p (from_bool is) None → SoFar actions s start p told → SoFar actions s start q told
+passed_by actions s l start p q told false are at e f
+    = subst (λ x. SoFar actions s start x told) (sym (e ∙ unmoved p)) f
+passed_by actions s l start p q told true are at e f =
+    let lone = at s (map is_passed actions) are in
+    let none = nothing_said actions lone.lexeme.rule.0 lone.is_passed in
+    let token = take lone.lexeme.taken p.rest in
+    one_more actions s s start p q lone.lexeme None token told told refl lone.is (sym none.0)
+    (e ∙ ap (λ n. moved p n None) (sym lone.one)) refl
+    (sym (append-nil told) ∙ ap (λ o. told ++ line_if o token) (sym (none.1 token))) f
+
+-- there is a byte where one is told
+pub byte_left : (is : Bool) (n len : ℕ) → n ≡ from_bool is → OnTrue is (1 ≤ len) → n ≤ len
+byte_left false n len e some = omega (arith, e)
+byte_left true n len e some = omega (arith, e, some)
 
 -- the end
 pub all_told : (actions : List Action) (s here : Scanner) (p q : Place) (e : End) (lines more : List ℕ) → here ≡ s

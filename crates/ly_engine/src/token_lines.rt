@@ -1,31 +1,37 @@
-ghost use Rattle.std.specs.Prelude.{◌≡◌, ◌<◌, ◌≤◌, ◌+◌, ◌^◌, ℕ, List, [], All, length, option_map};
+ghost use Rattle.std.specs.Prelude.{◌≡◌, ◌<◌, ◌≤◌, ◌+◌, ◌^◌, ℕ, List, [], All, length, map, option_map};
 ghost use Rattle.std.specs.Prelude.{IfOk, IfErr, OnOk, OnErr};
 ghost use Rattle.std.specs.Bool.{OnTrue};
 ghost use Rattle.std.specs.Io.KnownBytes.{Appends};
 ghost use Rattle.ly_base.specs.Device.{next_count};
-ghost use Rattle.ly_base.specs.Lexed.{start_of};
+ghost use Rattle.ly_base.specs.Lexed.{Place as Spot, start_of};
 ghost use Rattle.ly_base.specs.Text.{named, no_rule_line};
 ghost use Rattle.ly_base.specs.TextWriter.{bytes_of, IsAppended, IsCutShort};
+ghost use Rattle.ly_lexread.specs.declared.action.Action.{Action as Acting};
 ghost use Rattle.ly_scan.specs.Lexer.{Scanner};
+ghost use Rattle.ly_scan.specs.LoneBytes.{AreLone};
 ghost use Rattle.ly_engine.specs.Printing.{condition_set, end_line, line_if, naming};
-ghost use Rattle.ly_engine.specs.Private.TokenLines.{name_len, AreCountable, AreLines};
+ghost use Rattle.ly_engine.specs.Private.TokenLines.{is_passed, name_len, AreCountable, AreLines, SoFar};
 
 use crate::labels::Labels;
-use ly_base::{End, Front, Place, RuleNo, Sink, TextWriter, WriteFault};
+use ly_base::{End, Front, OutOfMemory, Place, RuleNo, Sink, TextWriter, WriteFault};
 use ly_lexread::{Action, Returned};
-use ly_scan::{Steps, next_lexeme};
+use ly_scan::{LoneBytes, Steps, next_lexeme};
+use std::alloc::Global;
 
 /// Writes the lines of the tokens that a scanner finds in a text, with a last one where no rule matches, and answers
-/// how its run ends.
+/// how its run ends. Bytes that are lexemes of their own without a line are told by `lone`.
 pub(crate) fn write_token_lines<S: Steps, W: Sink>(
     steps: &mut S,
     text: &[u8],
     labels: &Labels<'_>,
+    lone: &LoneBytes,
     empty: TextWriter,
     writer: &mut W,
 ) -> Result<End, WriteFault>
     requires none { empty ≡ record { sent = 0; held = [] } }
     requires countable { AreCountable labels.now.actions.now (length text.now) }
+    requires lone { let scanner : Scanner = record { walk = S.walk steps.old; cut = S.cut_of steps.old } in
+        AreLone scanner (map is_passed labels.now.actions.now) lone.now }
     ensures told { let scanner : Scanner = record { walk = S.walk steps.old; cut = S.cut_of steps.old } in
         IfOk result (λ e. (lines : List ℕ) × AreLines scanner labels.now.actions.now (start_of text.now) e lines
         × Appends (W.contents writer.old) (W.contents writer.new) lines) }
@@ -39,6 +45,7 @@ pub(crate) fn write_token_lines<S: Steps, W: Sink>(
     let mut lines = empty;
     let mut place = Place::start(text);
     loop {
+        pass_over(&mut place, lone);
         match next_lexeme(steps, &place) {
             Ok(lexeme) => {
                 let token = Front::new(place.rest(), lexeme.taken);
@@ -53,6 +60,36 @@ pub(crate) fn write_token_lines<S: Steps, W: Sink>(
             }
         }
     }
+}
+
+/// Goes on behind a byte that is a lexeme of its own without a line, if one is told there.
+#[inline(always)] // so that no branch has to be guessed
+fn pass_over(place: &mut Place<'_>, lone: &LoneBytes)
+    ensures kept { (actions : List Acting) (scanner : Scanner) (start : Spot) (told : List ℕ)
+        → AreLone scanner (map is_passed actions) lone.now → SoFar actions scanner start place.old told
+        → SoFar actions scanner start place.new told }
+    ensures no_longer { length place.new.rest ≤ length place.old.rest }
+{
+    place.advance(usize::from(lone.at(place)), None);
+}
+
+/// For each rule whether its lexemes are passed over: its action returns nothing and sets no condition. It fails where
+/// memory runs out.
+pub(crate) fn passed_rules(alloc: Global, actions: &[Action]) -> Result<Vec<bool>, OutOfMemory>
+    ensures { IfOk result (λ passed. passed.items ≡ map is_passed actions.now) }
+{
+    let mut passed = Vec::with_capacity(alloc, actions.len())?;
+    for action in actions {
+        passed.push(is_passed(action))?;
+    }
+    Ok(passed)
+}
+
+/// Whether an action returns nothing and sets no condition.
+fn is_passed(action: &Action) -> bool
+    ensures { result ≡ is_passed action.now }
+{
+    action.begin.is_none() && matches!(action.returns, Returned::Nothing)
 }
 
 /// Whether the lines of so many bytes' tokens can be counted. It may say no where names are so long that none could be

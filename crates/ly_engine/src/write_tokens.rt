@@ -27,10 +27,10 @@ use crate::labels::Labels;
 use crate::outcome::TokenEnd;
 use crate::row_walk::RowWalk;
 use crate::scanner::smallest_automaton;
-use crate::token_lines::{are_countable, write_token_lines};
+use crate::token_lines::{are_countable, passed_rules, write_token_lines};
 use ly_base::{End, Limits, Sink, Source, TextWriter, read_whole};
 use ly_lexread::{LexFile, read_lex};
-use ly_scan::Steps;
+use ly_scan::{LoneBytes, Steps};
 use std::alloc::Global;
 
 /// Writes the tokens of a text under a lex file (POSIX, XCU lex), a line for each, and a last line if no
@@ -134,7 +134,9 @@ fn write_answer_by<S: Steps + Drop, W: Sink>(
     let labels = Labels::new(alloc, &file.actions)?;
     let lines = TextWriter::new(alloc)?;
     let mut steps = steps;
-    let end = write_token_lines(&mut steps, text, &labels, lines, writer)?;
+    let passed = passed_rules(alloc, &file.actions)?;
+    let lone = LoneBytes::find(alloc, &mut steps, &passed)?;
+    let end = write_token_lines(&mut steps, text, &labels, &lone, lines, writer)?;
     Ok(token_end(end))
 }
 

@@ -1,4 +1,5 @@
 use Rattle.std.proofs.Common.{◌∙◌, ◌++◌, Err, Ok, ap, arith, length, refl, take, ◌*◌}
+use Rattle.std.proofs.Math.Nat.{mul-le-mul_right}
 use Rattle.ly_base.specs.Lexed.{Place, moved, start_of}
 use Rattle.ly_base.proofs.TextWriterLemmas.{appended_twice}
 use Rattle.ly_scan.specs.Lexer.{Scanner}
@@ -12,14 +13,16 @@ pub push_token-requires-clause-countable : goal.push_token-requires-clause-count
 push_token-requires-clause-countable g c =
     let actions = c.args.labels.now.actions.now in
     let countable = c.requires.countable in
-    let now = c.loop-lexeme in omega (
+    let now = c.loop-lexeme in
+    let here = c.pass_over.new.place in omega (
       arith,
       now.invariant.counted countable.0 countable.1,
-      line_left actions countable.0 c.in-Ok.lexeme.rule.0 c.in-Ok.lexeme.taken now.place.rest
+      line_left actions countable.0 c.in-Ok.lexeme.rule.0 c.in-Ok.lexeme.taken here.rest
           c.new-token.result countable.1 c.in-Ok.ensures.within.0 c.in-Ok.ensures.within.1
           (c.new-token.ensures
           ∙ ap (take c.in-Ok.lexeme.taken) c.rest.ensures),
       countable.2,
+      mul-le-mul_right (bytes_each countable.0) c.pass_over.ensures.no_longer,
     )
 
 pub returns-in_err-push_token-in-Ok-clause-cut_short : goal.returns-in_err-push_token-in-Ok-clause-cut_short
@@ -27,19 +30,21 @@ returns-in_err-push_token-in-Ok-clause-cut_short g c =
     let actions = c.args.labels.now.actions.now in
     let now = c.loop-lexeme in
     let so_far = now.invariant.so_far in
+    let here = c.pass_over.new.place in
+    let led = c.pass_over.ensures.kept actions _ (start_of c.args.text.now) so_far.0 c.requires.lone so_far.1 in
     let token = c.new-token.result in
     let line = line_if (naming actions c.in-Ok.lexeme.rule.0 token) token in
     let begin = condition_set actions c.in-Ok.lexeme.rule.0 in
     let fault = c.in_err-push_token-in-Ok.field-0.0 in
     err_is c.from_residual.result fault _ c.from_residual.ensures.1 (fails_at actions (let s : Scanner
     = record { walk = g.S.Steps.walk c.args.steps.now; cut = g.S.Steps.cut_of c.args.steps.now } in s)
-    (start_of c.args.text.now) (moved now.place c.in-Ok.lexeme.taken begin) (so_far.0 ++ line) c.args.empty
+    (start_of c.args.text.now) (moved here c.in-Ok.lexeme.taken begin) (so_far.0 ++ line) c.args.empty
     c.push_token.new.lines _ _ fault c.requires.none
-    (one_more actions _ _ (start_of c.args.text.now) now.place
-    (moved now.place c.in-Ok.lexeme.taken begin) c.in-Ok.lexeme begin token so_far.0 (so_far.0 ++ line)
+    (one_more actions _ _ (start_of c.args.text.now) here
+    (moved here c.in-Ok.lexeme.taken begin) c.in-Ok.lexeme begin token so_far.0 (so_far.0 ++ line)
     (scanner_of _ _ _ _ now.invariant.same_walk now.invariant.same_cuts) c.in-Ok.ensures.lexeme refl refl
     (c.new-token.ensures
-    ∙ ap (take c.in-Ok.lexeme.taken) c.rest.ensures) refl so_far.1)
+    ∙ ap (take c.in-Ok.lexeme.taken) c.rest.ensures) refl led)
     (appended_twice c.args.empty now.lines c.push_token.new.lines _ _ _ so_far.0 line tt (Err fault) so_far.2
     c.in_err-push_token-in-Ok.ensures.text))
 
@@ -48,6 +53,8 @@ loop-lexeme-preserved g c =
     let actions = c.args.labels.now.actions.now in
     let now = c.loop-lexeme in
     let so_far = now.invariant.so_far in
+    let here = c.pass_over.new.place in
+    let led = c.pass_over.ensures.kept actions _ (start_of c.args.text.now) so_far.0 c.requires.lone so_far.1 in
     let taken = c.in-Ok.lexeme.taken in
     let token = c.new-token.result in
     let line = line_if (naming actions c.in-Ok.lexeme.rule.0 token) token in
@@ -59,20 +66,21 @@ loop-lexeme-preserved g c =
       same_cuts = c.in-Ok.ensures.same_cuts ∙ now.invariant.same_cuts;
       so_far = (
         so_far.0 ++ line,
-        one_more actions _ _ (start_of c.args.text.now) now.place c.advance.new.self c.in-Ok.lexeme
+        one_more actions _ _ (start_of c.args.text.now) here c.advance.new.self c.in-Ok.lexeme
             c.condition_set-begin.result token so_far.0 (so_far.0 ++ line)
             (scanner_of _ _ _ _ now.invariant.same_walk now.invariant.same_cuts) c.in-Ok.ensures.lexeme
-            c.condition_set-begin.ensures at is refl so_far.1,
+            c.condition_set-begin.ensures at is refl led,
         appended_twice c.args.empty now.lines c.push_token.new.lines _ _ _ so_far.0 line tt (Ok tt) so_far.2
             c.in_ok-push_token-in-Ok.ensures.text,
       );
       counted = λ longest named. omega (
         arith,
         now.invariant.counted longest named,
-        line_left actions longest c.in-Ok.lexeme.rule.0 taken now.place.rest token named
+        line_left actions longest c.in-Ok.lexeme.rule.0 taken here.rest token named
             c.in-Ok.ensures.within.0 c.in-Ok.ensures.within.1 is,
         ap (λ (p : Place). length p.rest * bytes_each longest) at,
         c.in_ok-push_token-in-Ok.ensures.counted,
+        mul-le-mul_right (bytes_each longest) c.pass_over.ensures.no_longer,
       );
       no_failure = c.in_ok-push_token-in-Ok.ensures.no_failure ∙ now.invariant.no_failure;
     }
@@ -87,14 +95,16 @@ returns-in_err-push_end-in-Err-clause-cut_short g c =
     let actions = c.args.labels.now.actions.now in
     let now = c.loop-lexeme in
     let so_far = now.invariant.so_far in
+    let here = c.pass_over.new.place in
+    let led = c.pass_over.ensures.kept actions _ (start_of c.args.text.now) so_far.0 c.requires.lone so_far.1 in
     let lines = so_far.0 ++ end_line c.in-Err.end in
     let fault = c.in_err-push_end-in-Err.field-0.0 in
     err_is c.from_residual-in_err-push_end-in-Err.result fault _ c.from_residual-in_err-push_end-in-Err.ensures.1 (
       c.in-Err.end,
       (
         lines,
-        all_told actions _ _ (start_of c.args.text.now) now.place c.in-Err.end so_far.0 lines
-            (scanner_of _ _ _ _ now.invariant.same_walk now.invariant.same_cuts) c.in-Err.ensures.end refl so_far.1,
+        all_told actions _ _ (start_of c.args.text.now) here c.in-Err.end so_far.0 lines
+            (scanner_of _ _ _ _ now.invariant.same_walk now.invariant.same_cuts) c.in-Err.ensures.end refl led,
         cut_from c.args.empty c.push_end.new.lines _ _ lines c.requires.none fault
             (appended_twice c.args.empty now.lines c.push_end.new.lines _ _ _ so_far.0 (end_line c.in-Err.end) tt
             (Err fault) so_far.2 c.in_err-push_end-in-Err.ensures.text),
@@ -117,14 +127,16 @@ returns-in_err-finish-in-Err-clause-cut_short g c =
     let actions = c.args.labels.now.actions.now in
     let now = c.loop-lexeme in
     let so_far = now.invariant.so_far in
+    let here = c.pass_over.new.place in
+    let led = c.pass_over.ensures.kept actions _ (start_of c.args.text.now) so_far.0 c.requires.lone so_far.1 in
     let lines = so_far.0 ++ end_line c.in-Err.end in
     let fault = c.in_err-finish-in-Err.field-0.0 in
     err_is c.from_residual-in_err-finish-in-Err.result fault _ c.from_residual-in_err-finish-in-Err.ensures.1 (
       c.in-Err.end,
       (
         lines,
-        all_told actions _ _ (start_of c.args.text.now) now.place c.in-Err.end so_far.0 lines
-            (scanner_of _ _ _ _ now.invariant.same_walk now.invariant.same_cuts) c.in-Err.ensures.end refl so_far.1,
+        all_told actions _ _ (start_of c.args.text.now) here c.in-Err.end so_far.0 lines
+            (scanner_of _ _ _ _ now.invariant.same_walk now.invariant.same_cuts) c.in-Err.ensures.end refl led,
         c.in_err-finish-in-Err.ensures.text _ lines (underway_from c.args.empty c.push_end.new.lines _ _ lines
             c.requires.none (appended_twice c.args.empty now.lines c.push_end.new.lines _ _ _ so_far.0
             (end_line c.in-Err.end) tt (Ok tt) so_far.2 c.in_ok-push_end-in-Err.ensures.text)),
@@ -136,10 +148,12 @@ returns-in-Err-clause-told g c =
     let actions = c.args.labels.now.actions.now in
     let now = c.loop-lexeme in
     let so_far = now.invariant.so_far in
+    let here = c.pass_over.new.place in
+    let led = c.pass_over.ensures.kept actions _ (start_of c.args.text.now) so_far.0 c.requires.lone so_far.1 in
     let lines = so_far.0 ++ end_line c.in-Err.end in (
       lines,
-      all_told actions _ _ (start_of c.args.text.now) now.place c.in-Err.end so_far.0 lines
-          (scanner_of _ _ _ _ now.invariant.same_walk now.invariant.same_cuts) c.in-Err.ensures.end refl so_far.1,
+      all_told actions _ _ (start_of c.args.text.now) here c.in-Err.end so_far.0 lines
+          (scanner_of _ _ _ _ now.invariant.same_walk now.invariant.same_cuts) c.in-Err.ensures.end refl led,
       c.in_ok-finish-in-Err.ensures.text _ lines (underway_from c.args.empty c.push_end.new.lines _ _ lines
           c.requires.none (appended_twice c.args.empty now.lines c.push_end.new.lines _ _ _ so_far.0
           (end_line c.in-Err.end) tt (Ok tt) so_far.2 c.in_ok-push_end-in-Err.ensures.text)),

@@ -2,8 +2,7 @@ use Rattle.std.proofs.Common.{◌≡◌, ◌≤◌, ◌+◌, ◌*◌, ℕ, List,
 use Rattle.ly_base.specs.Lexed.{start_of}
 use Rattle.ly_base.specs.TextWriter.{bytes_of, IsAppended}
 use Rattle.ly_lexread.specs.declared.action.Action.{Action}
-use Rattle.ly_engine.specs.Private.TokenLines.{bytes_each, name_len}
-use Rattle.ly_engine.proofs.PrintingLemmas.{SoFar}
+use Rattle.ly_engine.specs.Private.TokenLines.{bytes_each, name_len, SoFar}
 use Rattle.ly_engine.proofs.token_lines.write_token_lines.Given as goal
 
 -- the lexemes so far lead to where the run stands, the lines of their tokens are on their way, and what is left can

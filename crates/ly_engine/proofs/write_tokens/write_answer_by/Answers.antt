@@ -8,6 +8,7 @@ use Rattle.ly_engine.specs.Printing.{condition_set}
 use Rattle.ly_engine.specs.declared.fault.TokensFault.{TokensFault}
 use Rattle.ly_engine.specs.declared.fault.TokensFault.TheVariants.{Write}
 use Rattle.ly_engine.proofs.AnswerLemmas.{answer_of, leaves_tokens}
+use Rattle.ly_engine.proofs.PrintingLemmas.{scanner_of}
 use Rattle.ly_engine.proofs.write_tokens.write_answer_by.Goals as goal
 
 pub token_end-requires : goal.token_end-requires
@@ -15,8 +16,9 @@ token_end-requires g c =
     let file = c.args.file.now in
     let told = c.in_ok-end.ensures.told in
     let answer = answer_of (defined file.names) file.rules.items file.actions.items c.in_ok-labels.labels.actions.now
-    (record { walk = g.S.Steps.walk c.args.steps; cut = g.S.Steps.cut_of c.args.steps }) c.args.text.now
-    c.in_ok-end.end told.0 c.requires (c.in_ok-labels.ensures ∙ c.deref-2.ensures.value) told.1 in
+    _ _ c.args.text.now c.in_ok-end.end told.0
+    (scanner_of _ _ _ _ c.in_ok-lone.ensures.same_walk c.in_ok-lone.ensures.same_cuts) c.requires
+    (c.in_ok-labels.ensures ∙ c.deref-2.ensures.value) told.1 in
     leaves_tokens (defined file.names) file.rules.items
     (condition_set file.actions.items) _ answer.0 c.in_ok-end.end answer.1
 
@@ -35,8 +37,9 @@ returns-in_err-end-clause-beginning g c = λ written is.
       (
         short.1.0,
         answer_of (defined file.names) file.rules.items file.actions.items c.in_ok-labels.labels.actions.now
-            (record { walk = g.S.Steps.walk c.args.steps; cut = g.S.Steps.cut_of c.args.steps }) c.args.text.now
-            short.0 short.1.0 c.requires (c.in_ok-labels.ensures ∙ c.deref-2.ensures.value) short.1.1,
+            _ _ c.args.text.now short.0 short.1.0
+            (scanner_of _ _ _ _ c.in_ok-lone.ensures.same_walk c.in_ok-lone.ensures.same_cuts) c.requires
+            (c.in_ok-labels.ensures ∙ c.deref-2.ensures.value) short.1.1,
         subst (λ k. IsCutShort (g.W.Sink.contents c.args.writer.now)
             (g.W.Sink.contents c.write_token_lines.new.writer) k short.1.0) (sym same) short.1.2,
       ),
@@ -49,8 +52,8 @@ returns-clause-answered g c =
       told.0,
       subst (λ (e : End). IsAnswer (defined file.names) file.rules.items file.actions.items c.args.text.now e told.0)
           (sym c.token_end.ensures) (answer_of (defined file.names) file.rules.items file.actions.items
-          c.in_ok-labels.labels.actions.now
-          (record { walk = g.S.Steps.walk c.args.steps; cut = g.S.Steps.cut_of c.args.steps }) c.args.text.now
-          c.in_ok-end.end told.0 c.requires (c.in_ok-labels.ensures ∙ c.deref-2.ensures.value) told.1),
+          c.in_ok-labels.labels.actions.now _ _ c.args.text.now c.in_ok-end.end told.0
+          (scanner_of _ _ _ _ c.in_ok-lone.ensures.same_walk c.in_ok-lone.ensures.same_cuts) c.requires
+          (c.in_ok-labels.ensures ∙ c.deref-2.ensures.value) told.1),
       told.2,
     )
