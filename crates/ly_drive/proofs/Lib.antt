@@ -5,7 +5,6 @@ pub mod FeedingLemmas
 pub mod LabelLemmas
 pub mod LexingLemmas
 pub mod OneVerdictLemmas
-pub mod PassingLemmas
 pub mod RunningLemmas
 pub mod ScanTableLemmas
 pub mod TablesLemmas

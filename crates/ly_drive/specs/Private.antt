@@ -1,4 +1,3 @@
 pub mod Labels
-pub mod Passing
 pub mod Running
 pub mod Tables

@@ -2,15 +2,13 @@ ghost use Rattle.std.specs.Prelude.{◌≡◌, ◌<◌, ◌≤◌, ℕ, List, []
 ghost use Rattle.std.specs.Int.{w16};
 ghost use Rattle.ly_base.specs.Lexed.{Place as Spot};
 ghost use Rattle.ly_scan.specs.Lexer.{IsLexemeAt, ScanEndsAt};
-ghost use Rattle.ly_drive.specs.ScanPart.{ScanPart, scanner_in, terminal_by, terminal_in};
-ghost use Rattle.ly_pack.specs.Machine.{Machine, IsMachine};
-ghost use Rattle.ly_parse.specs.Parse.{Parse};
+ghost use Rattle.ly_drive.specs.ScanPart.{scanner_in, terminal_by, terminal_in};
+ghost use Rattle.ly_pack.specs.Machine.{IsMachine};
 ghost use Rattle.ly_pack.specs.Steady.{IsSteady};
 ghost use Rattle.ly_tables.specs.Ranges.{version_1, IsWithinRanges};
 ghost use Rattle.ly_tables.specs.TableSet.{machine_of};
 ghost use Rattle.ly_tables.specs.Values.{set_of};
 ghost use Rattle.ly_drive.specs.DriveFault.{IsOfRun};
-ghost use Rattle.ly_drive.specs.Private.Passing.{AreBlanks};
 ghost use Rattle.ly_drive.specs.Private.Running.{words_in, CanRun, IsFed, IsLast, IsRun, IsTaken, StandsAt};
 ghost use Rattle.ly_drive.specs.TableAnswer.{IsVerdict, TableAnswer};
 ghost use Rattle.ly_drive.specs.Verdict.{faulty};
@@ -24,7 +22,7 @@ use crate::tables::Tables;
 use ly_base::{Emitted, End, Front, Lexeme, Place, ScanAction, StateNo};
 use ly_pack::{Comb, TableAction};
 use ly_parse::{ParseFault, Parser, Step, Token};
-use ly_scan::{LoneBytes, next_lexeme};
+use ly_scan::next_lexeme;
 use ly_tables::TableParts;
 use ly_tree::{Forest, TermRef};
 use std::alloc::Global;
@@ -71,11 +69,9 @@ fn run(alloc: Global, tables: &Tables, text: &[u8]) -> Result<Ended, DriveFault>
     ensures { IsRun tables.now text.now result }
 {
     let mut steps = TableWalk::new(&tables.scanner);
-    let lone = LoneBytes::find(alloc, &mut steps, &tables.scanner.passed(alloc)?)?;
     let mut place = Place::start(text);
     let mut parser = Parser::new(alloc, &tables.machine);
     loop {
-        pass_over(&lone, &mut place);
         let lexeme = match next_lexeme(&mut steps, &place) {
             Ok(lexeme) => lexeme,
             Err(end) => return finish(alloc, tables, parser, end, text.len() as u64),
@@ -86,17 +82,6 @@ fn run(alloc: Global, tables: &Tables, text: &[u8]) -> Result<Ended, DriveFault>
         }
         place.advance(lexeme.taken, begin);
     }
-}
-
-/// Passes over a lexeme of one byte of which nothing comes, if one is known to stand at a place. Such are between most
-/// others, and hard to foresee, so that no branch asks for them.
-#[inline(always)]
-fn pass_over(lone: &LoneBytes, place: &mut Place<'_>)
-    ensures stands { (p : ScanPart) (m : Machine) (text : List ℕ) (parse : Parse) → AreBlanks p lone.now
-        → StandsAt p m text place.old parse → StandsAt p m text place.new parse }
-    ensures left { length place.new.rest ≤ length place.old.rest }
-{
-    place.advance(usize::from(lone.at(place)), None);
 }
 
 /// Takes a lexeme at a place: feeds the parser with its token, if its rule has one come of it. Answers what is said
