@@ -20,6 +20,7 @@ use std::alloc::Global;
 
 /// Writes the lines of the tokens that a scanner finds in a text, with a last one where no rule matches, and answers
 /// how its run ends. Bytes that are lexemes of their own without a line are told by `lone`.
+#[inline(always)] // by a call what the loop reads of the walk is read anew for each lexeme
 pub(crate) fn write_token_lines<S: Steps, W: Sink>(
     steps: &mut S,
     text: &[u8],
