@@ -9,7 +9,8 @@ use Rattle.ly_pack.specs.SteadyLaws.{reductions}
 use Rattle.ly_pack.specs.Values.{action_from}
 use Rattle.ly_parse.specs.Feeding.{Level, faulty, go_to, goes_on, reduce_by, settles, top_of}
 use Rattle.ly_parse.specs.Private.Shortcuts as run
-use Rattle.ly_parse.specs.Private.Shortcuts.{further, passing, ArePasses, IsFrom, IsPass, IsSituation, LacksGoto, Passes}
+use Rattle.ly_parse.specs.Private.Shortcuts.{further, passing, ArePasses, IsFrom, IsPass, IsSituation, LacksGoto}
+use Rattle.ly_parse.specs.Private.Shortcuts.{Passes}
 use Rattle.ly_parse.specs.Private.Stack.{FeedAs, Leads}
 use Rattle.ly_parse.specs.declared.shortcut.Shortcut.{Shortcut}
 use Rattle.ly_parse.specs.declared.shortcut.Situation.{Situation}

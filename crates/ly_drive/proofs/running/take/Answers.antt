@@ -20,6 +20,6 @@ returns c text h is =
       at = c.at.ensures;
       bytes = c.new-text.ensures ∙ ap (take c.args.lexeme.taken) c.rest.ensures;
       terminal = ap (terminal_in T.scanner c.args.lexeme.rule.0) (sym c.bytes.ensures)
-          ∙ terminal_is c.terminal.result c.in-Some.terminal _ (c.terminal.ensures ∙ c.requires.emits c.bytes.result.now)
-          c.in-Some.is;
+          ∙ terminal_is c.terminal.result c.in-Some.terminal _
+          (c.terminal.ensures ∙ c.requires.emits c.bytes.result.now) c.in-Some.is;
     }) c.feed.ensures

@@ -52,8 +52,8 @@ invariant_of-self-in_err-shortcut g c = (
 
 pub returns-in_err-shortcut-clause-faulty : goal.returns-in_err-shortcut-clause-faulty
 returns-in_err-shortcut-clause-faulty g c is =
-    strands c.args.self.now c.args.number.0 (rule_from c.rule-rule.result.now) c.in-Some.below c.self-2.inside.machine.now
-    c.self-2.inside.forest c.self-2.inside.stack.items c.truncate.new.self.items
+    strands c.args.self.now c.args.number.0 (rule_from c.rule-rule.result.now) c.in-Some.below
+    c.self-2.inside.machine.now c.self-2.inside.forest c.self-2.inside.stack.items c.truncate.new.self.items
     (record { below = c.top.result; left = c.rule-rule.result.now.left; terminal = c.args.terminal })
     (record { state = record { 0 = 0 }; term = c.in_ok-term.term }) c.make.new.self.forest
     (record {
@@ -78,8 +78,8 @@ pub invariant_of-self-2 : goal.invariant_of-self-2
 invariant_of-self-2 g c = (
   subst (IsParse c.self-2.inside.machine.now c.self-2.inside.forest)
       (sym (on_top _ _ _ _ c.in_ok-reserve.ensures.items c.push_reserved.ensures.items))
-      (landed c.args.self.now c.args.number.0 (rule_from c.rule-rule.result.now) c.in-Some.below c.self-2.inside.machine.now
-      c.self-2.inside.forest c.self-2.inside.stack.items c.truncate.new.self.items
+      (landed c.args.self.now c.args.number.0 (rule_from c.rule-rule.result.now) c.in-Some.below
+      c.self-2.inside.machine.now c.self-2.inside.forest c.self-2.inside.stack.items c.truncate.new.self.items
       (record { below = c.top.result; left = c.rule-rule.result.now.left; terminal = c.args.terminal })
       (record { state = c.in_ok-shortcut.shortcut.state; term = c.in_ok-term.term }) c.make.new.self.forest
       (record {
@@ -105,8 +105,8 @@ invariant_of-self-2 g c = (
 
 pub returns-clause-leads : goal.returns-clause-leads
 returns-clause-leads g c =
-    leads_on c.args.self.now c.args.number.0 (rule_from c.rule-rule.result.now) c.in-Some.below c.self-2.inside.machine.now
-    c.self-2.inside.forest c.self-2.inside.stack.items c.truncate.new.self.items
+    leads_on c.args.self.now c.args.number.0 (rule_from c.rule-rule.result.now) c.in-Some.below
+    c.self-2.inside.machine.now c.self-2.inside.forest c.self-2.inside.stack.items c.truncate.new.self.items
     (record { below = c.top.result; left = c.rule-rule.result.now.left; terminal = c.args.terminal })
     (record { state = c.in_ok-shortcut.shortcut.state; term = c.in_ok-term.term }) c.make.new.self.forest
     (record {
@@ -131,8 +131,8 @@ returns-clause-leads g c =
 
 pub returns-clause-action : goal.returns-clause-action
 returns-clause-action g c =
-    acts_there c.args.self.now c.args.number.0 (rule_from c.rule-rule.result.now) c.in-Some.below c.self-2.inside.machine.now
-    c.self-2.inside.forest c.self-2.inside.stack.items c.truncate.new.self.items
+    acts_there c.args.self.now c.args.number.0 (rule_from c.rule-rule.result.now) c.in-Some.below
+    c.self-2.inside.machine.now c.self-2.inside.forest c.self-2.inside.stack.items c.truncate.new.self.items
     (record { below = c.top.result; left = c.rule-rule.result.now.left; terminal = c.args.terminal })
     (record { state = c.in_ok-shortcut.shortcut.state; term = c.in_ok-term.term }) c.make.new.self.forest
     (record {
@@ -157,8 +157,8 @@ returns-clause-action g c =
 
 pub returns-clause-legal : goal.returns-clause-legal
 returns-clause-legal g c =
-    legal_there c.args.self.now c.args.number.0 (rule_from c.rule-rule.result.now) c.in-Some.below c.self-2.inside.machine.now
-    c.self-2.inside.forest c.self-2.inside.stack.items c.truncate.new.self.items
+    legal_there c.args.self.now c.args.number.0 (rule_from c.rule-rule.result.now) c.in-Some.below
+    c.self-2.inside.machine.now c.self-2.inside.forest c.self-2.inside.stack.items c.truncate.new.self.items
     (record { below = c.top.result; left = c.rule-rule.result.now.left; terminal = c.args.terminal })
     (record { state = c.in_ok-shortcut.shortcut.state; term = c.in_ok-term.term }) c.make.new.self.forest
     (record {
