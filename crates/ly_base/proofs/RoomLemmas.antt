@@ -6,7 +6,7 @@ use Rattle.std.proofs.lemmas.Fmt.{length-decimal-le}
 use Rattle.ly_base.specs.Bytes.{double_quote, newline, single_quote, tab}
 use Rattle.ly_base.specs.Text.{escape_for, escaped, escaped_byte, is_plain, leaf_line, name_of, no_rule_line}
 use Rattle.ly_base.specs.Text.{Named, literal, token}
-use Rattle.ly_base.specs.Private.TextBuffer.{name_room}
+use Rattle.ly_base.specs.Private.Room.{name_room}
 use Rattle.std.specs.Prelude.{nat_eq, nat_le, ◌&&◌, if◌then◌else◌, Bool}
 
 -- either of two texts

@@ -6,10 +6,10 @@ use Rattle.std.proofs.Math.Seq.{take-add}
 use Rattle.std.proofs.lemmas.Grind.{flat_map-append}
 use Rattle.std.proofs.lemmas.Bool.{cond-false, cond-true}
 use Rattle.std.proofs.lemmas.List.{flat_map_more, take_more}
-use Rattle.ly_base.specs.Bytes.{double_quote, newline}
+use Rattle.ly_base.specs.Bytes.{double_quote}
 use Rattle.ly_base.proofs.EscapeLemmas.{whole_slice}
 use Rattle.ly_base.specs.Text.{before_leaf, escape_for, escaped, escaped_byte, is_plain, leaf_of, name_of, quoted}
-use Rattle.ly_base.specs.Text.{quoted_line, Named}
+use Rattle.ly_base.specs.Text.{Named}
 
 -- a run with one more byte
 run_more : (bytes : List ℕ) (start at : ℕ) → start ≤ at → at < length bytes
@@ -55,15 +55,6 @@ escaped_within quote bytes at within =
       length-append (so_far ++ more) rest,
       length-append so_far more,
     )
-
--- the pieces of a line
-pub line_parts : (label text : List ℕ)
-    → (label ++ escaped double_quote text) ++ double_quote ∷ newline ∷ [] ≡ quoted_line label text
-line_parts label text =
-    let between = escaped double_quote text in
-    append_assoc label between (double_quote ∷ newline ∷ [])
-    ∙ ap (λ t. label ++ t) (sym (append_assoc between (double_quote ∷ []) (newline ∷ [])))
-    ∙ sym (append_assoc label (between ++ double_quote ∷ []) (newline ∷ []))
 
 -- a leaf's text behind what stands before it
 pub quoted_leaf : (n : Named) (text : List ℕ) → quoted (before_leaf n) text ≡ leaf_of n text

@@ -1,6 +1,7 @@
 -- Lemmas on text on its way to a writer.
 use Rattle.std.proofs.Common.{◌≡◌, ◌∙◌, ℕ, ◌<◌, ◌≤◌, ◌+◌, List, [], ◌++◌, length, take, Option, Result, Ok, Err}
-use Rattle.std.proofs.Common.{MatchResult, OnOk, IfErr, IsErrAnd, ap, ap₂, arith, append_assoc, le_of_lt, subst, sym}
+use Rattle.std.proofs.Common.{MatchResult, OnOk, IfErr, IsErrAnd, ap, ap₂, arith, append_assoc, append-nil, le_of_lt}
+use Rattle.std.proofs.Common.{None, Some, refl, subst, sym}
 use Rattle.std.proofs.Common.{take-append-drop, length-append, length-drop, take-add}
 use Rattle.std.proofs.Math.Seq.{take-length}
 use Rattle.std.proofs.lemmas.List.{take-append-le, drop-append-le, drop_all}
@@ -29,7 +30,7 @@ held_more b n o text bytes u =
     }
 
 -- how much of the text went out or is held back: all
-all_there : (b n : Option (List ℕ)) (o : Outgoing) (text : List ℕ) → IsUnderway b n o text
+pub all_there : (b n : Option (List ℕ)) (o : Outgoing) (text : List ℕ) → IsUnderway b n o text
     → o.sent + length o.held ≡ length text
 all_there b n o text u =
     let within : o.sent ≤ length text = u.within in
@@ -152,3 +153,28 @@ pub failed_before : (o o' o'' : Outgoing) (n n' : Option (List ℕ)) (xs ys whol
 failed_before o o' o'' n n' xs ys whole r fault is e h = passed_on o o' o'' n n' whole r fault e
     (λ b text u. subst (IsCutShort b n' fault.written) (append_assoc text xs ys ∙ ap (λ t. text ++ t) is)
     (cut_more b n' fault.written (text ++ xs) ys (h b text u)))
+
+-- nothing is on its way yet
+pub nothing_yet : (c : Option (List ℕ)) → IsUnderway c c (record { sent = 0; held = [] }) []
+nothing_yet None = record { within = omega arith; went_out = tt; held_back = refl }
+nothing_yet (Some bytes) = record { within = omega arith; went_out = sym (append-nil bytes); held_back = refl }
+
+module _ (o o' : Outgoing) (before now : Option (List ℕ)) (text : List ℕ) (none : o ≡ record { sent = 0; held = [] })
+  where
+    -- all that has come is on its way
+    pub underway_from : IsAppended o o' before now text (Ok tt) → IsUnderway before now o' text
+    underway_from come
+        = subst (λ (x : Outgoing). IsAppended x o' before now text (Ok tt)) none come before [] (nothing_yet before)
+
+    -- the writer failed: only a beginning of it went out
+    pub cut_from : (fault : WriteFault) → IsAppended o o' before now text (Err fault)
+        → IsCutShort before now fault.written text
+    cut_from fault come
+        = subst (λ (x : Outgoing). IsAppended x o' before now text (Err fault)) none come before []
+        (nothing_yet before)
+
+-- the `?` passes a fault on
+pub err_is : {T : Type 0} (r : Result T WriteFault) (f : WriteFault) (P : WriteFault → Type 0)
+    → IsErrAnd r (λ e. e ≡ f) → P f → IfErr r P
+err_is (Ok x) f P h p = tt
+err_is (Err e) f P h p = subst P (sym h) p

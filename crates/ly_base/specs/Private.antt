@@ -2,4 +2,4 @@
 -- public contract rests on it.
 pub mod Escapes
 pub mod Names
-pub mod TextBuffer
+pub mod Room

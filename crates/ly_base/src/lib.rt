@@ -2,8 +2,8 @@
 //!
 //! `write_whole` and `read_whole` carry bytes to and from devices that count their failures: at Ok all of them, at a
 //! fault a stated beginning, and a device is named only where it failed. `Place` says where a run over a text stands,
-//! `push_leaf` and its like print what stands there, `TextBuffer` many pieces, and `TextWriter` writes them while they
-//! are printed, short ones by blocks (`Front`, `Label`); `Limits` holds the sizes that are accepted.
+//! `push_leaf` and its like print what stands there, and `TextWriter` writes many pieces while they are printed, short
+//! ones by blocks (`Front`, `Label`); `Limits` holds the sizes that are accepted.
 //!
 //! Left out: what a real file or terminal does. That is the word of its reads and writes.
 #![tactic(auto)]
@@ -28,11 +28,11 @@ mod memory_fault;
 mod names;
 mod numbers;
 mod place;
+mod room;
 mod rule_tree;
 mod scan_action;
 mod sparse_set;
 mod text;
-mod text_buffer;
 mod text_writer;
 mod texts;
 mod whole;
@@ -61,7 +61,6 @@ pub use rule_tree::RuleTree;
 pub use scan_action::{Emitted, ScanAction};
 pub use sparse_set::SparseSet;
 pub use text::{Terminal, push_escaped, push_leaf, push_name, push_no_rule_line};
-pub use text_buffer::TextBuffer;
 pub use text_writer::TextWriter;
 pub use texts::Texts;
 pub use whole::{ReadFault, WriteFault, read_whole, write_whole};

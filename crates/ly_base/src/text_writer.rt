@@ -1,14 +1,16 @@
-ghost use Rattle.std.specs.Prelude.{◌≡◌, ◌<◌, ◌≤◌, ◌+◌, ◌^◌, ℕ, List, [], Option, length, take};
+ghost use Rattle.std.specs.Prelude.{◌≡◌, ◌<◌, ◌≤◌, ◌+◌, ◌^◌, ℕ, List, [], ◌∷◌, Option, length, take};
 ghost use Rattle.std.specs.Prelude.{IfOk, IfErr, OnOk, OnErr, MatchResult};
 ghost use Rattle.std.specs.Io.KnownBytes.{Appends};
 ghost use Rattle.ly_base.specs.Device.{next_count};
-ghost use Rattle.ly_base.specs.Text.{escaped, no_rule_line, quoted_line};
+ghost use Rattle.ly_base.specs.Text.{escaped, no_rule_line, quoted, quoted_line};
 ghost use Rattle.ly_base.specs.TextWriter.{bytes_of, IsAppended, IsCutShort, IsUnderway};
 
 use crate::device::Sink;
 use crate::front::Front;
 use crate::label::Label;
-use crate::text_buffer::{SHORT_ROOM, fits, put, put_bytes, put_escaped, put_quoted, put_short};
+use crate::room::{
+    SHORT_ROOM, fits, put, put_bytes, put_escaped, put_front_of, put_quoted, put_short,
+};
 use crate::whole::{WriteFault, write_whole};
 use itoa::Buffer;
 use std::alloc::{AllocError, Global};
@@ -52,6 +54,24 @@ impl TextWriter {
         })
     }
 
+    /// Appends a byte.
+    ///
+    /// It fails where the writer does.
+    #[inline(always)] // a call would cost more than the store
+    pub fn push<W: Sink>(&mut self, writer: &mut W, byte: u8) -> Result<(), WriteFault>
+        requires countable { bytes_of self.old + 1 < 2 ^ 64 }
+        ensures text { IsAppended self.old self.new (W.contents writer.old) (W.contents writer.new) (byte ∷ []) result }
+        ensures counted { OnOk result (bytes_of self.new ≡ bytes_of self.old + 1) }
+        ensures no_failure { OnOk result (W.failures writer.new ≡ W.failures writer.old) }
+        ensures failed { OnErr result (W.failures writer.new ≡ next_count (W.failures writer.old)) }
+    {
+        if self.used == self.room.len() {
+            return self.push_behind(writer, &[byte]);
+        }
+        self.used = put(&mut self.room, self.used, byte);
+        Ok(())
+    }
+
     /// Appends bytes, which are best a short run.
     ///
     /// It fails where the writer does.
@@ -67,6 +87,53 @@ impl TextWriter {
         }
         self.used = put_bytes(&mut self.room, self.used, bytes);
         Ok(())
+    }
+
+    /// Appends a label.
+    ///
+    /// It fails where the writer does.
+    #[inline(always)] // as `push`
+    pub fn push_label<W: Sink>(&mut self, writer: &mut W, label: &Label) -> Result<(), WriteFault>
+        requires countable { bytes_of self.old + length label.now < 2 ^ 64 }
+        ensures text { IsAppended self.old self.new (W.contents writer.old) (W.contents writer.new) label.now result }
+        ensures counted { OnOk result (bytes_of self.new ≡ bytes_of self.old + length label.now) }
+        ensures no_failure { OnOk result (W.failures writer.new ≡ W.failures writer.old) }
+        ensures failed { OnErr result (W.failures writer.new ≡ next_count (W.failures writer.old)) }
+    {
+        if self.used <= ROOM - SHORT_ROOM {
+            if let Some(block) = label.block() {
+                self.used = put_front_of(&mut self.room, self.used, block, label.len());
+                return Ok(());
+            }
+        }
+        self.push_long_label(writer, label)
+    }
+
+    /// Appends a label and a text behind it, as it stands between double quotes, with the quote that closes it: a
+    /// leaf, if the label is what stands before its text.
+    ///
+    /// It fails where the writer does.
+    #[inline(always)] // as `push`
+    pub fn push_quoted<W: Sink>(
+        &mut self,
+        writer: &mut W,
+        label: &Label,
+        text: &Front<'_>,
+    ) -> Result<(), WriteFault>
+        requires countable { bytes_of self.old + length (quoted label.now text.now) < 2 ^ 64 }
+        ensures text { IsAppended self.old self.new (W.contents writer.old) (W.contents writer.new)
+            (quoted label.now text.now) result }
+        ensures counted { OnOk result (bytes_of self.new ≡ bytes_of self.old + length (quoted label.now text.now)) }
+        ensures no_failure { OnOk result (W.failures writer.new ≡ W.failures writer.old) }
+        ensures failed { OnErr result (W.failures writer.new ≡ next_count (W.failures writer.old)) }
+    {
+        if self.used <= ROOM - SHORT_ROOM {
+            if let Some(end) = put_short(&mut self.room, self.used, label, text) {
+                self.used = end;
+                return Ok(());
+            }
+        }
+        self.push_long(writer, label, text.bytes, text.count)
     }
 
     /// Appends a line: a label and a text behind it, as it stands between double quotes, with the quote that closes
@@ -133,6 +200,45 @@ impl TextWriter {
         send(&mut sent, writer, &self.room[..self.used])
     }
 
+    /// Appends a label, however long it is.
+    #[inline(never)] // so that a short one has the registers
+    fn push_long_label<W: Sink>(&mut self, writer: &mut W, label: &Label) -> Result<(), WriteFault>
+        requires countable { bytes_of self.old + length label.now < 2 ^ 64 }
+        ensures text { IsAppended self.old self.new (W.contents writer.old) (W.contents writer.new) label.now result }
+        ensures counted { OnOk result (bytes_of self.new ≡ bytes_of self.old + length label.now) }
+        ensures no_failure { OnOk result (W.failures writer.new ≡ W.failures writer.old) }
+        ensures failed { OnErr result (W.failures writer.new ≡ next_count (W.failures writer.old)) }
+    {
+        self.push_bytes(writer, label.bytes())
+    }
+
+    /// Appends a label and the first so many of these bytes as `push_quoted` does, however long they are and whether or
+    /// not they stand for themselves.
+    #[inline(never)] // so that a short text has the registers
+    fn push_long<W: Sink>(
+        &mut self,
+        writer: &mut W,
+        label: &Label,
+        bytes: &[u8],
+        count: usize,
+    ) -> Result<(), WriteFault>
+        requires within { count ≤ length bytes.now }
+        requires countable { bytes_of self.old + length (quoted label.now (take count bytes.now)) < 2 ^ 64 }
+        ensures text { IsAppended self.old self.new (W.contents writer.old) (W.contents writer.new)
+            (quoted label.now (take count bytes.now)) result }
+        ensures counted { OnOk result (bytes_of self.new
+            ≡ bytes_of self.old + length (quoted label.now (take count bytes.now))) }
+        ensures no_failure { OnOk result (W.failures writer.new ≡ W.failures writer.old) }
+        ensures failed { OnErr result (W.failures writer.new ≡ next_count (W.failures writer.old)) }
+    {
+        let text = Front::new(bytes, count);
+        if !fits(self.room.len() - self.used, label.len(), count) {
+            return self.push_quoted_behind(writer, label.bytes(), text.bytes());
+        }
+        self.used = put_quoted(&mut self.room, self.used, &label.front(), &text);
+        Ok(())
+    }
+
     /// Appends a line of a label and the first so many of these bytes as `push_quoted_line` does, however long they are
     /// and whether or not they stand for themselves.
     #[inline(never)] // so that a short text has the registers
@@ -152,13 +258,8 @@ impl TextWriter {
         ensures no_failure { OnOk result (W.failures writer.new ≡ W.failures writer.old) }
         ensures failed { OnErr result (W.failures writer.new ≡ next_count (W.failures writer.old)) }
     {
-        let text = Front::new(bytes, count);
-        if !fits(self.room.len() - self.used, label.len(), count) {
-            return self.push_line_behind(writer, label.bytes(), text.bytes());
-        }
-        let end = put_quoted(&mut self.room, self.used, &label.front(), &text);
-        self.used = put(&mut self.room, end, b'\n');
-        Ok(())
+        self.push_long(writer, label, bytes, count)?;
+        self.push(writer, b'\n')
     }
 
     /// Appends bytes for which the room has no place left.
@@ -175,26 +276,25 @@ impl TextWriter {
         send(&mut self.sent, writer, bytes)
     }
 
-    /// Appends a line of a label and a text behind it, for which the room may have no place left.
+    /// Appends a label and a text behind it, for which the room may have no place left.
     #[cold]
-    fn push_line_behind<W: Sink>(
+    fn push_quoted_behind<W: Sink>(
         &mut self,
         writer: &mut W,
         label: &[u8],
         text: &[u8],
     ) -> Result<(), WriteFault>
-        requires countable { bytes_of self.old + length (quoted_line label.now text.now) < 2 ^ 64 }
+        requires countable { bytes_of self.old + length (quoted label.now text.now) < 2 ^ 64 }
         ensures text { IsAppended self.old self.new (W.contents writer.old) (W.contents writer.new)
-            (quoted_line label.now text.now) result }
-        ensures counted { OnOk result (bytes_of self.new
-            ≡ bytes_of self.old + length (quoted_line label.now text.now)) }
+            (quoted label.now text.now) result }
+        ensures counted { OnOk result (bytes_of self.new ≡ bytes_of self.old + length (quoted label.now text.now)) }
         ensures no_failure { OnOk result (W.failures writer.new ≡ W.failures writer.old) }
         ensures failed { OnErr result (W.failures writer.new ≡ next_count (W.failures writer.old)) }
     {
-        // the lines behind it have the whole room then
+        // what comes behind it has the whole room then
         self.push_behind(writer, label)?;
         self.push_escaped(writer, b'"', text)?;
-        self.push_bytes(writer, b"\"\n")
+        self.push(writer, b'"')
     }
 
     /// Appends bytes as they stand between quotes.

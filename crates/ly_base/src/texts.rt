@@ -1,7 +1,7 @@
 ghost use Rattle.std.specs.Prelude.{◌≡◌, ◌≤◌, ◌+◌, [], ◌++◌, drop, length, take, OnErr, OnOk};
 
 use crate::front::{BLOCK, Front};
-use crate::text_buffer::put_front_of;
+use crate::room::put_front_of;
 use std::alloc::{AllocError, Global};
 use std::marker::Model;
 

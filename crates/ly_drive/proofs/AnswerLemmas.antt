@@ -3,12 +3,15 @@ use Rattle.std.proofs.Common.{◌≡◌, ◌∙◌, ◌<◌, ◌≤◌, ℕ, Lis
 use Rattle.std.proofs.Common.{Option, ap, ap₂, arith}
 use Rattle.std.proofs.Common.{inl, inr, length, map, refl, slice_get, subst, sym}
 use Rattle.std.specs.Int.{w16}
-use Rattle.std.specs.Prelude.{IsErrAnd, Result, option_and_then, slice_index}
+use Rattle.std.specs.Io.KnownBytes.{Appends}
+use Rattle.std.specs.Prelude.{IfOk, IfSome, IsErrAnd, Result, option_and_then, slice_index}
 use Rattle.std.proofs.lemmas.Option.{slice_get_cases}
 use Rattle.ly_base.specs.Bytes.{newline}
 use Rattle.ly_base.specs.declared.scan_action.Emitted.{Emitted}
 use Rattle.ly_base.specs.declared.scan_action.Emitted.TheVariants.{FirstByte, Nothing, Terminal}
 use Rattle.ly_drive.proofs.ByBytesLemmas.{same_verdict}
+use Rattle.ly_drive.proofs.ListLemmas.{holds_at}
+use Rattle.ly_drive.specs.Answering.{IsAnsweredBy}
 use Rattle.ly_drive.specs.Private.Running.{words_in, CanRun, IsRun}
 use Rattle.ly_drive.specs.Private.Tables.{by_bytes}
 use Rattle.ly_drive.specs.ScanPart.{scan_part_of, terminal_by, terminal_in}
@@ -25,21 +28,13 @@ use Rattle.ly_drive.specs.declared.tables.Tables.{Tables}
 use Rattle.ly_pack.specs.Steady.{IsSteady}
 use Rattle.ly_tables.specs.Ranges.{version_1, IsEmittedWithin, IsScanRule, IsWithinRanges}
 use Rattle.ly_tables.specs.TableSet.{ScanRule, TableSet, machine_of}
+use Rattle.ly_tree.specs.Costs.{IsPaid}
 use Rattle.ly_tree.specs.Forest.{Grown, StandsFor}
 use Rattle.ly_tree.specs.Shown.{shown, Vocabulary}
 use Rattle.ly_tree.specs.Term.{Term}
 use Rattle.ly_tree.specs.declared.forest.TermRef.{TermRef}
 use Rattle.std.specs.Global.{Global}
 use Rattle.std.specs.declared.vec.Vec.{Vec}
-
--- what holds of each holds of one that is found
-holds_at : {X : Type 0} (P : X → Type 0) (xs : List X) (i : ℕ) (x : X) → All P xs → slice_get xs i ≡ Some x → P x
-holds_at P xs i x all e = elim (slice_get_cases xs i).1 [
-  | inl found ↦
-      let same : found.0 ≡ x = (let both : Some found.0 ≡ Some x = sym found.2 ∙ e in cc) in
-      subst P (found.3 ∙ same) (all i found.0 found.1)
-  | inr past ↦ absurd (let both : None ≡ Some x = sym past.1 ∙ e in cc)
-]
 
 -- a terminal that the scanner returns is one of the parser's, and not the end
 returned : (s : TableSet) → IsWithinRanges w16 version_1 s → (i : ℕ) (bytes : List ℕ) (t : ℕ)
@@ -103,18 +98,26 @@ module _ (T : Tables) (s : TableSet) (read text : List ℕ)
         told.3 ∙ ap (λ v. printed v told.0) (words_of_set T s names machine),
       )
 
-  -- the term is the answer
-  pub term_answer : (e : Ended) (forest : Grown) (root : TermRef) (line : List ℕ) (v : Vocabulary) → IsRun T read (Ok e)
-      → e ≡ Accepted forest root → v ≡ words_in T
-      → ((d : Term) → StandsFor forest root d → line ≡ shown v d ++ newline ∷ []) → TableAnswer s text Tree line
-  term_answer e forest root line v run is words shows =
+  -- the term is accepted, and its forest pays for it
+  pub accepted_term : (e : Ended) (forest : Grown) (root : TermRef) → IsRun T read (Ok e) → e ≡ Accepted forest root
+      → (d : Term) × IsVerdict s text (accepted d) × StandsFor forest root d × IsPaid forest d
+  accepted_term e forest root run is =
       let known = subst (λ x. IsRun T read (Ok x)) is run in (
-        accepted known.0,
+        known.0,
         verdict_of T s read text (accepted known.0) scanner machine same known.1,
-        refl,
-        shows known.0 known.2
-            ∙ ap (λ w. shown w known.0 ++ newline ∷ []) (words ∙ words_of_set T s names machine),
+        known.2,
+        known.3,
       )
+
+  -- it is the answer
+  pub term_answer : (v : Vocabulary) (d : Term) → v ≡ words_in T → IsVerdict s text (accepted d)
+      → TableAnswer s text Tree (shown v d ++ newline ∷ [])
+  term_answer v d words is = (
+    accepted d,
+    is,
+    refl,
+    ap (λ w. shown w d ++ newline ∷ []) (words ∙ words_of_set T s names machine),
+  )
 
   -- the tables' fault
   pub fault_is : {A : Type 0} (e : DriveFault) (result : Result A DriveFault) → IsRun T read (Err e)
@@ -123,3 +126,30 @@ module _ (T : Tables) (s : TableSet) (read text : List ℕ)
   fault_is e (Err x) run is failed =
       let fault : x ≡ TableFault = cc in
       verdict_of T s read text faulty scanner machine same (subst (λ y. IsRun T read (Err y)) (sym is ∙ fault) run)
+
+-- the one term of a reference is paid for
+pub paid_there : (forest : Grown) (root : TermRef) (d t : Term) → StandsFor forest root d → IsPaid forest d
+    → StandsFor forest root t → IsPaid forest t
+paid_there forest root d t stands paid also =
+    let same : d ≡ t = (let both : Some d ≡ Some t = sym stands ∙ also in cc) in
+    subst (IsPaid forest) same paid
+
+-- the same set says the same of the same text
+pub said_by : (s z : TableSet) (read text : List ℕ) (v : Verdict) → s ≡ z → read ≡ text → IsVerdict s read v
+    → IsVerdict z text v
+said_by s z read text v set same h = subst (λ x. IsVerdict x text v) set (subst (λ x. IsVerdict s x v) same h)
+
+-- and answers it alike
+pub answered_by : (s z : TableSet) (read text : List ℕ) (outcome : Outcome) (answer : List ℕ) → s ≡ z → read ≡ text
+    → TableAnswer s read outcome answer → TableAnswer z text outcome answer
+answered_by s z read text outcome answer set same h =
+    subst (λ x. TableAnswer x text outcome answer) set (subst (λ x. TableAnswer s x outcome answer) same h)
+
+-- so does a call that is handed on
+pub answered_on : {E : Type 0} (s z : TableSet) (read text : List ℕ) (given before after : Option (List ℕ))
+    (r : Result Outcome E) → s ≡ z → read ≡ text → IfSome given (λ bytes. text ≡ bytes)
+    → IfOk r (λ o. (answer : List ℕ) × TableAnswer s read o answer × Appends before after answer)
+    → IfOk r (IsAnsweredBy z given before after)
+answered_on s z read text given before after (Ok o) set same bytes h =
+    (text, h.0, bytes, answered_by s z read text o h.0 set same h.1, h.2)
+answered_on s z read text given before after (Err e) set same bytes h = tt

@@ -1,6 +1,8 @@
 -- Which fault a call hands on.
-use Rattle.std.proofs.Common.{◌≡◌, ◌∙◌, ℕ, Err, Ok, sym}
+use Rattle.std.proofs.Common.{◌≡◌, ◌∙◌, ◌<◌, ℕ, Err, List, Ok, Option, length, subst, sym, take}
+use Rattle.std.specs.Io.KnownBytes.{Appends}
 use Rattle.std.specs.Prelude.{IsErrAnd, Result}
+use Rattle.ly_base.specs.TextWriter.{IsCutShort}
 use Rattle.ly_drive.specs.declared.fault.DriveFault.{DriveFault}
 use Rattle.ly_drive.specs.declared.fault.DriveFault.TheVariants.{Write}
 
@@ -12,3 +14,10 @@ same_fault (Err x) e fault h is = let same : x ≡ fault = cc in sym h ∙ same
 
 pub same_count : (n k : ℕ) → Write n ≡ Write k → n ≡ k
 same_count n k e = cc
+
+-- so many bytes of a text that is written whole went out
+pub cut_short : (b n : Option (List ℕ)) (count written : ℕ) (bytes text : List ℕ) → count ≡ written → bytes ≡ text
+    → count < length bytes → Appends b n (take count bytes) → IsCutShort b n written text
+cut_short b n count written bytes text same is within out =
+    subst (λ k. IsCutShort b n k text) same
+    (subst (IsCutShort b n count) is (record { within = within; went_out = out }))

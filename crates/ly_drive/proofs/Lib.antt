@@ -4,6 +4,7 @@ pub mod FaultLemmas
 pub mod FeedingLemmas
 pub mod LabelLemmas
 pub mod LexingLemmas
+pub mod ListLemmas
 pub mod OneVerdictLemmas
 pub mod RunningLemmas
 pub mod ScanTableLemmas

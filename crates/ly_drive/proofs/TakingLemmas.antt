@@ -76,6 +76,7 @@ module _ (T : Tables) (text : List ℕ) where
     f.0,
     accepts T.scanner T.machine text q s f.0 h ends f.1,
     f.2,
+    f.3,
   )
   closed q s (Ok (Told outcome line)) h ends f = (
     refused (s.count + 1) (end_of text),

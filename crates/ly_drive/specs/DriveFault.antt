@@ -39,3 +39,16 @@ abbrev pub IsOfRun : DriveFault → Type 0
 IsOfRun TableFault = Unit {0}
 IsOfRun OutOfMemory = Unit {0}
 IsOfRun _ = ⊥
+
+-- a fault of writing a tree
+abbrev pub IsOfWriting : DriveFault → Type 0
+IsOfWriting (Write written) = Unit {0}
+IsOfWriting OutOfMemory = Unit {0}
+IsOfWriting _ = ⊥
+
+-- a fault of answering a text that is there
+abbrev pub IsOfAnswering : DriveFault → Type 0
+IsOfAnswering TableFault = Unit {0}
+IsOfAnswering (Write written) = Unit {0}
+IsOfAnswering OutOfMemory = Unit {0}
+IsOfAnswering _ = ⊥

@@ -13,7 +13,7 @@ ghost use Rattle.ly_drive.specs.DriveFault.{IsBeforeWriting, IsOfFile, IsWrite};
 use crate::fault::DriveFault;
 use crate::outcome::Outcome;
 use crate::running::answer_to;
-use ly_base::{Sink, Source, read_whole, write_whole};
+use ly_base::{Sink, Source, read_whole};
 use ly_tables::{TableSet, read_tables};
 use std::alloc::Global;
 
@@ -71,7 +71,5 @@ pub fn run<R: Source, W: Sink>(
     ensures untouched { IfErr result (λ e. IsBeforeWriting e → writer.new ≡ writer.old) }
 {
     let text = read_whole(alloc, reader)?;
-    let (outcome, answer) = answer_to(alloc, set.into_parts(), text)?;
-    write_whole(writer, &answer)?;
-    Ok(outcome)
+    answer_to(alloc, set.into_parts(), &text, writer)
 }

@@ -1,4 +1,4 @@
-ghost use Rattle.std.specs.Prelude.{◌≡◌, [], map, IfOk};
+ghost use Rattle.std.specs.Prelude.{◌≡◌, ◌≤◌, [], length, map, All, IfOk};
 ghost use Rattle.std.proofs.Props.{props};
 ghost use Rattle.ly_base.specs.Shape.{shape_of};
 ghost use Rattle.ly_drive.specs.Private.Labels.{leaf_label, leaf_labels, node_label, node_labels};
@@ -112,4 +112,22 @@ impl Words for Labels<'_> {
             None => &self.nameless_node,
         }
     }
+
+    fn longest(&self) -> usize {
+        let named = longest_of(&self.leaves).max(longest_of(&self.nodes));
+        named
+            .max(self.nameless_leaf.len())
+            .max(self.nameless_node.len())
+    }
+}
+
+/// The length of the longest of these labels.
+fn longest_of(labels: &[Label]) -> usize
+    ensures { All (λ label. length label ≤ result) labels.now }
+{
+    let mut longest = 0;
+    for label in labels {
+        longest = longest.max(label.len());
+    }
+    longest
 }

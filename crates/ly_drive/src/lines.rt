@@ -1,36 +1,50 @@
-ghost use Rattle.std.specs.Prelude.{◌≡◌, ◌≢◌, [], ◌∷◌, ◌++◌, IfOk, IsSome};
+ghost use Rattle.std.specs.Prelude.{◌≡◌, ◌≢◌, ℕ, [], ◌∷◌, ◌++◌, Err, IfErr, IfOk, IsSome, OnOk};
+ghost use Rattle.std.specs.Io.KnownBytes.{Appends};
 ghost use Rattle.ly_base.specs.Bytes.{newline};
+ghost use Rattle.ly_base.specs.Device.{next_count};
 ghost use Rattle.ly_base.specs.Text.{no_rule_line};
+ghost use Rattle.ly_base.specs.TextWriter.{IsCutShort};
+ghost use Rattle.ly_drive.specs.DriveFault.{IsBeforeWriting, IsOfWriting, IsWrite};
 ghost use Rattle.ly_drive.specs.Private.Running.{words_of};
 ghost use Rattle.ly_drive.specs.Verdict.{syntax_line};
 ghost use Rattle.ly_tree.specs.Forest.{term_of, StandsFor};
+ghost use Rattle.ly_tree.specs.Costs.{IsPaid};
 ghost use Rattle.ly_tree.specs.Shown.{shown, Vocabulary};
 ghost use Rattle.ly_tree.specs.Term.{Term};
 
+use crate::fault::DriveFault;
 use crate::labels::Labels;
 use crate::names::Names;
-use ly_base::{OutOfMemory, Terminal, push_leaf, push_no_rule_line};
+use ly_base::{OutOfMemory, Sink, Terminal, push_leaf, push_no_rule_line};
 use ly_parse::Token;
 use ly_tree::{Forest, TermRef};
 use std::alloc::Global;
 use std::io::Write;
 
-/// The line of a term of a forest, in memory that is used again.
-pub(crate) fn term_line(
+/// Writes the line of a term of a forest. Nothing is written where memory runs out.
+pub(crate) fn write_term<W: Sink>(
     alloc: Global,
     names: &Names<'_>,
     forest: &Forest,
     root: TermRef,
-    memory: Vec<u8>,
-) -> Result<Vec<u8>, OutOfMemory>
-    requires { IsSome (term_of forest.now root) }
-    ensures { IfOk result (λ line. (t : Term) → StandsFor forest.now root t
-        → line.items ≡ shown (words_of names.now) t ++ newline ∷ []) }
+    writer: &mut W,
+) -> Result<(), DriveFault>
+    requires known { IsSome (term_of forest.now root) }
+    requires paid { (t : Term) → StandsFor forest.now root t → IsPaid forest.now t }
+    ensures ok { OnOk result ((t : Term) → StandsFor forest.now root t → Appends (W.contents writer.old)
+        (W.contents writer.new) (shown (words_of names.now) t ++ newline ∷ [])) }
+    ensures beginning { (written : ℕ) (t : Term) → result ≡ Err (DriveFault.Write written) → StandsFor forest.now root t
+        → IsCutShort (W.contents writer.old) (W.contents writer.new) written
+        (shown (words_of names.now) t ++ newline ∷ []) }
+    ensures of_writing { IfErr result IsOfWriting }
+    ensures write { IfErr result (λ e. IsWrite e → W.failures writer.new ≡ next_count (W.failures writer.old)) }
+    ensures writer_held { OnOk result (W.failures writer.new ≡ W.failures writer.old) }
+    ensures untouched { IfErr result (λ e. IsBeforeWriting e → writer.new ≡ writer.old) }
 {
     let labels = Labels::new(alloc, *names)?;
-    let mut line = forest.show(alloc, &labels, root, memory)?;
-    line.push(b'\n')?;
-    Ok(line)
+    let line = forest.line(alloc, &labels, root)?;
+    line.write(writer)?;
+    Ok(())
 }
 
 /// The line that says that a token is refused, by its number, which counts from 1.

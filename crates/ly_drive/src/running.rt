@@ -1,5 +1,7 @@
-ghost use Rattle.std.specs.Prelude.{◌≡◌, ◌<◌, ◌≤◌, ℕ, List, [], length, false, Err, IfErr, IfOk};
+ghost use Rattle.std.specs.Prelude.{◌≡◌, ◌<◌, ◌≤◌, ℕ, List, [], length, false, Err, IfErr, IfOk, OnOk};
 ghost use Rattle.std.specs.Int.{w16};
+ghost use Rattle.std.specs.Io.KnownBytes.{Appends};
+ghost use Rattle.ly_base.specs.Device.{next_count};
 ghost use Rattle.ly_base.specs.Lexed.{Place as Spot};
 ghost use Rattle.ly_scan.specs.Lexer.{IsLexemeAt, ScanEndsAt};
 ghost use Rattle.ly_drive.specs.ScanPart.{scanner_in, terminal_by, terminal_in};
@@ -8,18 +10,20 @@ ghost use Rattle.ly_pack.specs.Steady.{IsSteady};
 ghost use Rattle.ly_tables.specs.Ranges.{version_1, IsWithinRanges};
 ghost use Rattle.ly_tables.specs.TableSet.{machine_of};
 ghost use Rattle.ly_tables.specs.Values.{set_of};
-ghost use Rattle.ly_drive.specs.DriveFault.{IsOfRun};
+ghost use Rattle.ly_base.specs.TextWriter.{IsCutShort};
+ghost use Rattle.ly_drive.specs.DriveFault.{IsBeforeWriting, IsOfAnswering, IsWrite};
+ghost use Rattle.ly_drive.specs.declared.outcome.Outcome.{Outcome as Answered};
 ghost use Rattle.ly_drive.specs.Private.Running.{words_in, CanRun, IsFed, IsLast, IsRun, IsTaken, StandsAt};
 ghost use Rattle.ly_drive.specs.TableAnswer.{IsVerdict, TableAnswer};
 ghost use Rattle.ly_drive.specs.Verdict.{faulty};
 ghost use Rattle.ly_tree.specs.Shown.{Vocabulary};
 
 use crate::fault::DriveFault;
-use crate::lines::{end_line, term_line, token_line, unmatched_line};
+use crate::lines::{end_line, token_line, unmatched_line, write_term};
 use crate::outcome::Outcome;
 use crate::table_walk::TableWalk;
 use crate::tables::Tables;
-use ly_base::{Emitted, End, Front, Lexeme, Place, ScanAction, StateNo};
+use ly_base::{Emitted, End, Front, Lexeme, Place, ScanAction, Sink, StateNo, write_whole};
 use ly_pack::{Comb, TableAction};
 use ly_parse::{ParseFault, Parser, Step, Token};
 use ly_scan::next_lexeme;
@@ -39,26 +43,36 @@ pub(crate) enum Ended {
 /// The parser of a table set.
 type TableParser<'a> = Parser<'a, Comb<TableAction>, Comb<StateNo>>;
 
-/// The answer to a text by the tables of these parts: its outcome, and its printed bytes.
-pub(crate) fn answer_to(
+/// Answers a text by the tables of these parts, and writes the answer: nothing before the outcome is known, and then
+/// nothing but a write can fail.
+pub(crate) fn answer_to<W: Sink>(
     alloc: Global,
     parts: TableParts,
-    text: Vec<u8>,
-) -> Result<(Outcome, Vec<u8>), DriveFault>
+    text: &[u8],
+    writer: &mut W,
+) -> Result<Outcome, DriveFault>
     requires within { IsWithinRanges w16 version_1 (set_of parts) }
     requires steady { IsSteady (machine_of (set_of parts)) }
-    ensures answered { IfOk result (λ a. TableAnswer (set_of parts) text.items a.0 a.1.items) }
-    ensures faulty { result ≡ Err DriveFault.TableFault → IsVerdict (set_of parts) text.items faulty }
-    ensures of_run { IfErr result IsOfRun }
+    ensures answered { IfOk result (λ o. (answer : List ℕ) × TableAnswer (set_of parts) text.now o answer
+        × Appends (W.contents writer.old) (W.contents writer.new) answer) }
+    ensures beginning { (written : ℕ) → result ≡ Err (DriveFault.Write written) → (answer : List ℕ) × (o : Answered)
+        × TableAnswer (set_of parts) text.now o answer
+        × IsCutShort (W.contents writer.old) (W.contents writer.new) written answer }
+    ensures faulty { result ≡ Err DriveFault.TableFault → IsVerdict (set_of parts) text.now faulty }
+    ensures of_answering { IfErr result IsOfAnswering }
+    ensures write { IfErr result (λ e. IsWrite e → W.failures writer.new ≡ next_count (W.failures writer.old)) }
+    ensures writer_held { OnOk result (W.failures writer.new ≡ W.failures writer.old) }
+    ensures untouched { IfErr result (λ e. IsBeforeWriting e → writer.new ≡ writer.old) }
 {
     let tables = Tables::new(alloc, parts)?;
-    let ended = run(alloc, &tables, &text)?;
-    match ended {
-        Ended::Told(outcome, answer) => Ok((outcome, answer)),
+    match run(alloc, &tables, text)? {
+        Ended::Told(outcome, line) => {
+            write_whole(writer, &line)?;
+            Ok(outcome)
+        }
         Ended::Accepted(forest, root) => {
-            // the text is needed no more, and its memory has been touched
-            let answer = term_line(alloc, &tables.names(), &forest, root, text)?;
-            Ok((Outcome::Tree, answer))
+            write_term(alloc, &tables.names(), &forest, root, writer)?;
+            Ok(Outcome::Tree)
         }
     }
 }

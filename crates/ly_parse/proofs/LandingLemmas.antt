@@ -1,11 +1,13 @@
 -- Reductions whose goto and the passes behind it are known, on a stack as it is kept.
-use Rattle.std.proofs.Common.{◌≡◌, ℕ, ◌<◌, ◌-◌, List, [], ◌∷◌, ◌++◌, length, take, Some, refl, sym, ap, ◌∙◌, subst}
+use Rattle.std.proofs.Common.{◌≡◌, ℕ, ◌<◌, ◌+◌, ◌-◌, ◌*◌, List, [], ◌∷◌, ◌++◌, length, drop, take, Some}
+use Rattle.std.proofs.Common.{refl, sym, ap, ◌∙◌, arith, subst}
 use Rattle.ly_pack.specs.Machine.{Machine, TableAction, TableRule, action_of, goto_at, states_of, IsLegal}
-use Rattle.ly_pack.specs.Machine.{IsMachine}
+use Rattle.ly_pack.specs.Machine.{IsMachine, IsShapeFor}
 use Rattle.ly_pack.specs.Steady.{rule_at, by_goto, IsTableEdge}
 use Rattle.ly_pack.specs.Values.{action_from}
 use Rattle.ly_parse.specs.Feeding.{Level, faulty, goes_on, reduce_by, top_of}
 use Rattle.ly_parse.specs.Parse.{Parse}
+use Rattle.ly_parse.specs.Private.Paying.{places_in, IsStackPaid}
 use Rattle.ly_parse.specs.Private.Shortcuts as run
 use Rattle.ly_parse.specs.Private.Shortcuts.{GoesTo, IsFrom, IsSituation, LacksGoto, Lands, Passes, Strands}
 use Rattle.ly_parse.specs.Private.Stack.{at_once, behind, level_from, stack_from, terms_onto, FailsByRule, FeedAs}
@@ -15,10 +17,12 @@ use Rattle.ly_parse.specs.declared.level.Level as code
 use Rattle.ly_parse.specs.declared.shortcut.Shortcut.{Shortcut}
 use Rattle.ly_parse.specs.declared.shortcut.Situation.{Situation}
 use Rattle.ly_parse.proofs.FeedingLemmas.{legal}
-use Rattle.ly_parse.proofs.ReduceLemmas.{goes_to, lacks_goto, IsCut}
+use Rattle.ly_parse.proofs.PayingLemmas.{made_paid}
+use Rattle.ly_parse.proofs.ReduceLemmas.{goes_to, lacks_goto, rule_within, IsCut}
 use Rattle.ly_parse.proofs.ShortcutLemmas.{edge_behind, fails, known_behind, leads}
-use Rattle.ly_parse.proofs.StackLemmas.{cut, pushed, stack_from-push}
-use Rattle.ly_tree.proofs.StandLemmas.{stands_known}
+use Rattle.ly_parse.proofs.StackLemmas.{below, cut, length-stack_from, pushed, stack_from-push}
+use Rattle.ly_tree.proofs.StandLemmas.{stands_known, stands_unwrapped}
+use Rattle.ly_tree.specs.Costs.{budget}
 use Rattle.ly_tree.specs.Forest.{Grown, StandsFor}
 use Rattle.ly_tree.specs.Term.{Term, made, none}
 
@@ -87,6 +91,28 @@ module _ (p : Parse) (n : ℕ) (r : TableRule) (low : ℕ) (m : Machine) (f : Gr
       (sym missing ∙ ap (goto_at m l.below.0) h.left))
   strands (run.behind s goes lacks) = fails_behind s goes lacks
 
+  -- the forest pays for what the rule makes and for what is left
+  left_paid : IsStackPaid p.forest p.stack
+      → ((each byte : ℕ) → budget each byte q ≡ budget each byte p.forest + each * places_in r.shape)
+      → IsStackPaid f (level_from f x ∷ rest)
+  left_paid paid pays =
+      let popped = length p.stack - low in
+      let size = h.cut.size in
+      let long = ap (λ s. length s) h.cut.stack in
+      let body : r.body_length ≡ popped = omega (arith, length-stack_from f levels) in
+      let whole = made n r.shape (terms_onto (take popped p.stack) none) in
+      let left : drop popped p.stack ≡ rest
+      = ap (λ s. drop (length s - low) s) (sym h.cut.stack)
+      ∙ (ap (λ k. drop (k - low) (stack_from f levels)) (length-stack_from f levels)
+      ∙ (below f levels low ∙ ap (stack_from f) (sym h.left_of))) in
+      subst (λ t. IsStackPaid f (record { state = x.state.0; term = t } ∷ rest))
+      (sym (stands_unwrapped f x.term whole (subst (λ g. StandsFor g x.term whole) h.same h.stands)))
+      (subst (λ s. IsStackPaid f (record { state = x.state.0; term = whole } ∷ s)) left
+      (subst (λ g. IsStackPaid g (record { state = x.state.0; term = whole } ∷ drop popped p.stack)) h.same
+      (made_paid p.forest q p.stack popped n x.state.0 r.shape paid
+      (subst (λ k. IsShapeFor k r.shape) body (rule_within m n r h.cut.parse.machine h.cut.rule).shape)
+      (omega arith) pays)))
+
   -- where it leads to the level's state
   module _ (a : TableAction) (lands : Lands m l x.state.0 a) where
     passes : Passes m lands.0.terminal.0 lands.0.below.0 lands.0.top.0 x.state.0
@@ -96,8 +122,10 @@ module _ (p : Parse) (n : ℕ) (r : TableRule) (low : ℕ) (m : Machine) (f : Gr
     goto = goto_from m l lands.0 lands.1
 
     -- the parse stays one
-    pub landed : IsParse m f (kept ++ x ∷ [])
-    landed = pushed m f kept x (subst (IsParse m f) (sym h.left_of) (cut m f levels low h.cut.parse))
+    pub landed : IsStackPaid p.forest p.stack
+        → ((each byte : ℕ) → budget each byte q ≡ budget each byte p.forest + each * places_in r.shape)
+        → IsParse m f (kept ++ x ∷ [])
+    landed paid pays = pushed m f kept x (subst (IsParse m f) (sym h.left_of) (cut m f levels low h.cut.parse))
         (known_behind m lands.0.terminal.0 lands.0.below.0 lands.0.top.0 x.state.0 h.cut.parse.machine passes
         (h.cut.parse.machine.gotos lands.0.below.0 l.left.0 lands.0.top.0 goto))
         (stands_known f x.term (made n r.shape (terms_onto (take (length p.stack - low) p.stack) none))
@@ -105,6 +133,7 @@ module _ (p : Parse) (n : ℕ) (r : TableRule) (low : ℕ) (m : Machine) (f : Gr
         h.same h.stands))
         (subst (λ b. IsTableEdge m b x.state.0) (sym (under lands.0 lands.1))
         (edge_behind m lands.0.terminal.0 lands.0.below.0 lands.0.top.0 x.state.0 passes (by_goto l.left.0 goto)))
+        (left_paid paid pays)
 
     -- all that the action names is there
     pub legal_there : IsLegal p.machine l.terminal.0 a

@@ -1,6 +1,7 @@
 pub mod FeedingLemmas
 pub mod LandingLemmas
 pub mod PassLemmas
+pub mod PayingLemmas
 pub mod ReduceLemmas
 pub mod SettleLemmas
 pub mod ShortcutLemmas

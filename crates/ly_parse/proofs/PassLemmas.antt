@@ -11,6 +11,7 @@ use Rattle.ly_pack.specs.SteadyLaws.{IsStack}
 use Rattle.ly_pack.specs.Values.{action_from}
 use Rattle.ly_parse.specs.Feeding.{faulty, states_on, top_of}
 use Rattle.ly_parse.specs.Parse.{Parse}
+use Rattle.ly_parse.specs.Private.Paying.{IsStackPaid}
 use Rattle.ly_parse.specs.Private.Shortcuts.{passing, ArePasses, IsFrom, IsPass, IsSituation, LacksGoto, Passes}
 use Rattle.ly_parse.specs.Private.Stack.{level_from, parse_from, stack_from, FeedAs, IsParse, Leads}
 use Rattle.ly_parse.specs.declared.level.Level as code
@@ -138,7 +139,10 @@ passed_on p m f levels low k l s h stands passes term =
     (known_behind m s.terminal.0 s.below.0 s.top.0 l.state.0 h.parse.machine passes stands.top)
     (subst (λ n. IsSome (term_of f n)) (sym (term ∙ ap (λ x. x.term) h.is)) (h.parse.terms low k (omega arith)))
     (subst (λ b. IsTableEdge m b l.state.0) (sym h.under)
-    (edge_behind m s.terminal.0 s.below.0 s.top.0 l.state.0 passes stands.edge)))
+    (edge_behind m s.terminal.0 s.below.0 s.top.0 l.state.0 passes stands.edge))
+    (subst (λ n. IsStackPaid f (level_from f (record { state = l.state; term = n }) ∷ stack_from f (take low levels)))
+    (sym term) (subst (IsStackPaid f)
+    (ap (stack_from f) (top_apart levels low k size h.is) ∙ stack_from-push f (take low levels) k) h.parse.paid)))
 
 -- the stack then
 pub passed_stack : (f : Grown) (levels : List code.Level) (low : ℕ) (k l : code.Level) → suc low ≡ length levels

@@ -1,6 +1,6 @@
 -- A parser's stack as it is kept, and as contracts see it.
-use Rattle.std.proofs.Common.{◌≡◌, ℕ, zero, suc, ◌<◌, ◌-◌, List, [], ◌∷◌, ◌++◌, length, drop, take, map, reverse}
-use Rattle.std.proofs.Common.{refl, sym, ap, ◌∙◌, subst, arith, length-drop}
+use Rattle.std.proofs.Common.{◌≡◌, ℕ, zero, suc, ◌<◌, ◌+◌, ◌-◌, ◌*◌, List, [], ◌∷◌, ◌++◌, length, drop, take, map}
+use Rattle.std.proofs.Common.{reverse, refl, sym, ap, ◌∙◌, subst, arith, length-drop}
 use Rattle.std.proofs.Math.Seq.{drop-append_seam, take-append_seam}
 use Rattle.std.proofs.lemmas.List.{length-map, length-reverse, map-append, reverse-append, take-append-drop}
 use Rattle.std.proofs.lemmas.List.Elements.{All-push, All-take}
@@ -10,12 +10,15 @@ use Rattle.ly_pack.specs.Steady.{IsSteady, IsTableEdge, by_shift}
 use Rattle.ly_pack.specs.SteadyLaws.{IsStack, bottom, on_edge}
 use Rattle.ly_parse.specs.Feeding.{Level, accept_with, done, settles, states_on, top_of}
 use Rattle.ly_parse.specs.Parse.{Parse}
+use Rattle.ly_parse.specs.Private.Paying.{IsStackPaid}
 use Rattle.ly_parse.specs.Private.Stack.{level_from, parse_from, stack_from, IsParse}
 use Rattle.ly_parse.specs.declared.level.Level as code
 use Rattle.ly_parse.proofs.FeedingLemmas.{legal}
-use Rattle.ly_tree.proofs.StandLemmas.{known_kept, known_stands, stands_unwrapped, term_kept}
+use Rattle.ly_parse.proofs.PayingLemmas.{leaf_paid, none_paid, paid_drop, paid_kept, top_paid}
+use Rattle.ly_tree.proofs.StandLemmas.{known_kept, known_stands, stands_known, stands_unwrapped, term_kept}
+use Rattle.ly_tree.specs.Costs.{budget, IsPaid}
 use Rattle.ly_tree.specs.Forest.{term_of, Grown, Keeps, StandsFor}
-use Rattle.ly_tree.specs.Term.{Term, nothing}
+use Rattle.ly_tree.specs.Term.{Term, leaf, nothing}
 
 pub stack_from-append : (f : Grown) (xs ys : List code.Level)
     → stack_from f (xs ++ ys) ≡ stack_from f ys ++ stack_from f xs
@@ -98,6 +101,7 @@ begun m f machine steady = record {
   states = λ k d h. absurd (omega arith);
   terms = λ k d h. absurd (omega arith);
   edges = bottom;
+  paid = none_paid f;
 }
 
 -- in a forest that keeps the terms
@@ -109,6 +113,8 @@ kept m f g levels h k = record {
   states = h.states;
   terms = λ i d lt. known_kept f g _ k (h.terms i d lt);
   edges = subst (λ s. IsStack m (states_on s)) (sym (stack_kept f g levels k h.terms)) h.edges;
+  paid = subst (IsStackPaid g) (sym (stack_kept f g levels k h.terms))
+      (paid_kept f g (stack_from f levels) k h.paid);
 }
 
 -- with the levels above so many taken off
@@ -121,19 +127,22 @@ cut m f levels n h = record {
   terms = All-take (λ l. IsSome (term_of f l.term)) n levels h.terms;
   edges = subst (λ s. IsStack m (states_on s)) (below f levels n)
       (drops m (length levels - n) (stack_from f levels) h.edges);
+  paid = subst (IsStackPaid f) (below f levels n)
+      (paid_drop f (length levels - n) (stack_from f levels) h.paid);
 }
 
 -- with a level more
 pub pushed : (m : Machine) (f : Grown) (levels : List code.Level) (l : code.Level) → IsParse m f levels
     → l.state.0 < states_of m → IsSome (term_of f l.term) → IsTableEdge m (top_of (stack_from f levels)) l.state.0
-    → IsParse m f (levels ++ l ∷ [])
-pushed m f levels l h state term edge = record {
+    → IsStackPaid f (level_from f l ∷ stack_from f levels) → IsParse m f (levels ++ l ∷ [])
+pushed m f levels l h state term edge paid = record {
   machine = h.machine;
   steady = h.steady;
   states = All-push (λ l. l.state.0 < states_of m) levels l h.states state;
   terms = All-push (λ l. IsSome (term_of f l.term)) levels l h.terms term;
   edges = subst (λ s. IsStack m (states_on s)) (sym (stack_from-push f levels l))
       (edge_on m l.state.0 (stack_from f levels) edge h.edges);
+  paid = subst (IsStackPaid f) (sym (stack_from-push f levels l)) paid;
 }
 
 -- the level that is on top
@@ -169,18 +178,35 @@ accepts m f levels l p count over view h e =
     All-last P [] x h = h 0 x (omega arith)
     All-last P (y ∷ xs) x h = All-last P xs x (λ k d lt. h (suc k) d (omega arith))
 
+-- and the forest pays for it
+pub accepted_paid : (m : Machine) (f : Grown) (levels : List code.Level) (l : code.Level) (p : Parse) (count : ℕ)
+    (over : Bool) (t : Term) → parse_from m f levels count over ≡ p → IsParse m f levels
+    → slice_get levels (length levels - 1) ≡ Some l → StandsFor p.forest l.term t → IsPaid p.forest t
+accepted_paid m f levels l p count over t view h e stands =
+    let top = last_is levels l e in
+    let paid = subst (IsStackPaid f) (ap (stack_from f) top.1 ∙ stack_from-push f top.0 l) h.paid in
+    subst (λ q. IsPaid q.forest t) view
+    (subst (IsPaid f) (stands_unwrapped f l.term t (subst (λ q. StandsFor q.forest l.term t) (sym view) stands))
+    (top_paid f (level_from f l) (stack_from f top.0) paid))
+
 -- a shift
 pub shifted : (m : Machine) (f g : Grown) (levels : List code.Level) (p : Parse) (count : ℕ) (over : Bool) (t : ℕ)
-    (l : code.Level) → parse_from m f levels count over ≡ p → IsParse m f levels → Keeps f g
-    → action_of p.machine (top_of p.stack) t ≡ shift l.state.0 → IsSome (term_of g l.term)
+    (bytes : List ℕ) (l : code.Level) → parse_from m f levels count over ≡ p → IsParse m f levels → Keeps f g
+    → action_of p.machine (top_of p.stack) t ≡ shift l.state.0 → StandsFor g l.term (leaf t bytes)
+    → ((each byte : ℕ) → budget each byte g ≡ budget each byte f + byte * length bytes)
     → IsParse m g (levels ++ l ∷ [])
-shifted m f g levels p count over t l view h k action term =
+shifted m f g levels p count over t bytes l view h k action stands pays =
     let shifts : action_of m (top_of (stack_from f levels)) t ≡ shift l.state.0
     = subst (λ q. action_of q.machine (top_of q.stack) t ≡ shift l.state.0) (sym view) action in
     let same = ap top_of (stack_kept f g levels k h.terms) in
     pushed m g levels l (kept m f g levels h k)
-    (legal m (top_of (stack_from f levels)) t (shift l.state.0) h.machine shifts).0 term
-    (by_shift t (ap (λ s. action_of m s t) same ∙ shifts))
+    (legal m (top_of (stack_from f levels)) t (shift l.state.0) h.machine shifts).0
+    (stands_known g l.term (leaf t bytes) stands) (by_shift t (ap (λ s. action_of m s t) same ∙ shifts))
+    (subst (λ u. IsStackPaid g (record { state = l.state.0; term = u } ∷ stack_from g levels))
+    (sym (stands_unwrapped g l.term (leaf t bytes) stands))
+    (subst (λ s. IsStackPaid g (record { state = l.state.0; term = leaf t bytes } ∷ s))
+    (sym (stack_kept f g levels k h.terms))
+    (leaf_paid f g l.state.0 t bytes (stack_from f levels) h.paid pays)))
 
 -- the stack behind it
 pub shifted_stack : (m : Machine) (f g : Grown) (levels : List code.Level) (p : Parse) (count : ℕ) (over : Bool)

@@ -1,3 +1,4 @@
 -- What private functions' contracts cite.
+pub mod Paying
 pub mod Shortcuts
 pub mod Stack

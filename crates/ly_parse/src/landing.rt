@@ -1,11 +1,11 @@
 ghost use Rattle.std.specs.Prelude.{◌≡◌, ◌≢◌, ◌<◌, Err, IfOk, MatchOption};
 ghost use Rattle.ly_pack.specs.Machine.{states_of, IsMachine};
 ghost use Rattle.ly_pack.specs.Steady.{IsSteady};
-ghost use Rattle.ly_parse.specs.Private.Shortcuts.{AreShortcuts, IsFrom, Lands, Strands};
+ghost use Rattle.ly_parse.specs.Private.Shortcuts.{landing_of, AreShortcuts, IsFrom, Lands, Strands};
 ghost use Rattle.ly_parse.specs.declared.fault.ParseFault.TheVariants as fault;
 
 use crate::fault::ParseFault;
-use crate::origin::{Origin, place_of};
+use crate::origin::{Numbers, Origin};
 use crate::shortcut::{Shortcut, Situation};
 use crate::shortcuts::Shortcuts;
 use ly_base::{StateNo, Sym};
@@ -25,12 +25,14 @@ pub(crate) struct Landing {
 impl Origin for Landing {
     ghost leads = { Lands };
 
-    fn place(&self) -> usize {
-        place_of(self.below.0, self.left.0, self.terminal)
-    }
+    ghost origin_of = { landing_of };
 
-    fn is(self, other: Landing) -> bool {
-        (self.below == other.below) & (self.left == other.left) & (self.terminal == other.terminal)
+    fn numbers(self) -> Numbers {
+        Numbers {
+            below: self.below.0,
+            above: self.left.0,
+            terminal: self.terminal.0,
+        }
     }
 }
 
@@ -79,14 +81,14 @@ impl Shortcuts<Landing> {
         requires below { from.below.0 < states_of machine.now }
         requires left { from.left.0 < machine.now.nonterminals }
         requires terminal { from.terminal.0 < machine.now.terminals }
-        requires kept { AreShortcuts (Lands machine.now) self.old }
+        requires kept { AreShortcuts landing_of (Lands machine.now) self.old }
         ensures ok { IfOk result (λ s. IsFrom (Lands machine.now) from s) }
         ensures faulty { result ≡ Err fault.TableFault → Strands machine.now from }
         ensures not_over { result ≢ Err fault.Over }
-        ensures kept { AreShortcuts (Lands machine.now) self.new }
+        ensures kept { AreShortcuts landing_of (Lands machine.now) self.new }
     {
         if let Some(shortcut) = self.get(from) {
-            return Ok(*shortcut);
+            return Ok(shortcut);
         }
         self.land_by_tables(machine, from)
     }
@@ -103,11 +105,11 @@ impl Shortcuts<Landing> {
         requires below { from.below.0 < states_of machine.now }
         requires left { from.left.0 < machine.now.nonterminals }
         requires terminal { from.terminal.0 < machine.now.terminals }
-        requires kept { AreShortcuts (Lands machine.now) self.old }
+        requires kept { AreShortcuts landing_of (Lands machine.now) self.old }
         ensures ok { IfOk result (λ s. IsFrom (Lands machine.now) from s) }
         ensures faulty { result ≡ Err fault.TableFault → Strands machine.now from }
         ensures not_over { result ≢ Err fault.Over }
-        ensures kept { AreShortcuts (Lands machine.now) self.new }
+        ensures kept { AreShortcuts landing_of (Lands machine.now) self.new }
     {
         let Some(shortcut) = Shortcut::behind(machine, from) else {
             return Err(ParseFault::TableFault);

@@ -9,6 +9,7 @@
 #![tactic(auto)]
 
 mod fault;
+mod kept;
 mod landing;
 mod laws;
 mod level;

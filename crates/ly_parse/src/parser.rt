@@ -1,4 +1,4 @@
-ghost use Rattle.std.specs.Prelude.{◌≡◌, ◌≢◌, ◌<◌, ◌≤◌, ◌+◌, ◌-◌, [], ◌∷◌, Err, Ok, false, drop, length};
+ghost use Rattle.std.specs.Prelude.{◌≡◌, ◌≢◌, ◌<◌, ◌≤◌, ◌+◌, ◌-◌, ◌*◌, ℕ, [], ◌∷◌, Err, Ok, false, drop, length};
 ghost use Rattle.std.specs.Prelude.{take, IfErr, IfOk, OnErr, OnOk};
 ghost use Rattle.ly_base.specs.Shape.{shape_of};
 ghost use Rattle.ly_pack.specs.Machine.{accept, action_of, error, reduce, shift, states_of, IsLegal};
@@ -7,13 +7,15 @@ ghost use Rattle.ly_pack.specs.Steady.{rule_at, IsSteady};
 ghost use Rattle.ly_pack.specs.Values.{action_from};
 ghost use Rattle.ly_parse.specs.Feeding.{faulty, goes_on, reduce_by, settles, top_of};
 ghost use Rattle.ly_parse.specs.Parse.{IsCall};
+ghost use Rattle.ly_parse.specs.Private.Paying.{places_in};
 ghost use Rattle.ly_parse.specs.Private.Stack.{terms_onto, FailsByRule, FeedAlike, FeedAs, IsAccepted, Leads};
 ghost use Rattle.ly_parse.specs.Private.Stack.{LeadsByRule};
 ghost use Rattle.ly_parse.specs.declared.fault.ParseFault.TheVariants as fault;
 ghost use Rattle.ly_parse.specs.declared.settled.Settled.TheVariants as settled;
 ghost use Rattle.ly_parse.specs.declared.step.Step.TheVariants as step;
+ghost use Rattle.ly_tree.specs.Costs.{budget, IsPaid};
 ghost use Rattle.ly_tree.specs.Forest.{no_terms, StandsFor};
-ghost use Rattle.ly_tree.specs.Term.{leaf, made, none};
+ghost use Rattle.ly_tree.specs.Term.{Term, leaf, made, none};
 
 use crate::fault::ParseFault;
 use crate::landing::Landing;
@@ -133,13 +135,16 @@ impl<'a, A: Rows<TableAction> + Drop, G: Rows<StateNo> + Drop> Parser<'a, A, G> 
     }
 
     /// Takes the end of the text, which stands at this byte: makes the reductions before it, and then accepts or
-    /// refuses it. The parse is over then.
+    /// refuses it. The parse is over then. The term that it accepts with uses no part of the forest twice, so the forest
+    /// says how much there is to print.
     ///
     /// Its faults are those of `ParseFault`.
     pub fn end(&mut self, at: u64) -> Result<Step, ParseFault>
         requires { 0 < self.old.machine.terminals }
         ensures call { IsCall self.old (record { terminal = 0; at = at; bytes = [] }) self.new result }
         ensures last { result ≢ Ok step.More }
+        ensures paid { (root : TermRef) (t : Term) → result ≡ Ok (step.Done root)
+            → StandsFor self.new.forest root t → IsPaid self.new.forest t }
     {
         if self.over {
             return Err(ParseFault::Over);
@@ -338,6 +343,8 @@ impl<'a, A: Rows<TableAction> + Drop, G: Rows<StateNo> + Drop> Parser<'a, A, G> 
         requires shape { IsShapeFor (length self.old.stack - below) (shape_of tree.now) }
         ensures made { IfOk result (λ n. StandsFor self.new.forest n (made number.0 (shape_of tree.now)
             (terms_onto (take (length self.old.stack - below) self.old.stack) none))) }
+        ensures pays { OnOk result ((each byte : ℕ) → budget each byte self.new.forest
+            ≡ budget each byte self.old.forest + each * places_in (shape_of tree.now)) }
         ensures stack { self.new.stack ≡ self.old.stack }
         ensures machine { self.new.machine ≡ self.old.machine }
         ensures count { self.new.count ≡ self.old.count }
@@ -376,7 +383,9 @@ impl<'a, A: Rows<TableAction> + Drop, G: Rows<StateNo> + Drop> Parser<'a, A, G> 
 
     /// Accepts with the term on top of the stack.
     fn accept(&self) -> Result<Step, ParseFault>
-        ensures { IsAccepted self.now.forest self.now.stack result }
+        ensures accepted { IsAccepted self.now.forest self.now.stack result }
+        ensures paid { (root : TermRef) (t : Term) → result ≡ Ok (step.Done root)
+            → StandsFor self.now.forest root t → IsPaid self.now.forest t }
     {
         match self.stack.last() {
             Some(level) => Ok(Step::Done(level.term)),

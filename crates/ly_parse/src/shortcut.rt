@@ -3,8 +3,9 @@ ghost use Rattle.ly_pack.specs.Machine.{reduce, IsMachine, IsRuleNumber};
 ghost use Rattle.ly_pack.specs.Steady.{IsSteady};
 ghost use Rattle.ly_pack.specs.Values.{action_from};
 ghost use Rattle.ly_parse.specs.Private.Shortcuts.{ArePasses, IsFrom, IsPass, IsSituation, LacksGoto};
+ghost use Rattle.ly_parse.specs.Private.Shortcuts.{situation_of};
 
-use crate::origin::{Origin, place_of};
+use crate::origin::{Numbers, Origin};
 use ly_base::{RuleTree, StateNo, Sym};
 use ly_pack::{Machine, Rows, TableAction};
 
@@ -23,12 +24,14 @@ pub(crate) struct Situation {
 impl Origin for Situation {
     ghost leads = { ArePasses };
 
-    fn place(&self) -> usize {
-        place_of(self.below.0, self.top.0, self.terminal)
-    }
+    ghost origin_of = { situation_of };
 
-    fn is(self, other: Situation) -> bool {
-        (self.below == other.below) & (self.top == other.top) & (self.terminal == other.terminal)
+    fn numbers(self) -> Numbers {
+        Numbers {
+            below: self.below.0,
+            above: self.top.0,
+            terminal: self.terminal.0,
+        }
     }
 }
 

@@ -1,7 +1,9 @@
 -- Lists under heads that lie one after another in one list.
 use Rattle.std.proofs.Common.{◌≡◌, ℕ, zero, suc, ◌+◌, ◌-◌, ◌<◌, ◌≤◌, List, [], ◌∷◌, ◌++◌, length, get_or, take, drop}
 use Rattle.std.proofs.Common.{refl, sym, ap, ◌∙◌, subst, arith, length-append, length-drop}
-use Rattle.std.specs.Prelude.{slice_get, Some}
+use Rattle.std.proofs.Common.{length-take}
+use Rattle.std.specs.Prelude.{map, slice_get, sum, Some}
+use Rattle.std.proofs.lemmas.List.Sums.{sum_by-cons}
 use Rattle.std.proofs.lemmas.List.{nil_from_length, take-append-le, drop-append-le, take_all, drop-drop}
 use Rattle.ly_tree.specs.Private.Headed.{headed_from, start_after, EndsFit}
 use Rattle.ly_tree.specs.declared.headed.Heading.{Heading}
@@ -119,3 +121,24 @@ list_at hs ms ls k start h fit view l is_start is =
     sym (ap (λ x. slice_get x k) view)
     ∙ (slice_get-headed_from 0 hs ms (length ms) k h fit (number_within hs ms ls k view l)
     ∙ rw (none, ← is_start, ← is) refl)
+
+-- the lists have all members
+pub members_counted : {H T : Type 0} (s : ℕ) (hs : List (Heading H)) (ms : List T) (n : ℕ) → n ≡ s + length ms
+    → EndsFit s hs n → sum (map (λ (l : H × List T). length l.1) (headed_from s hs ms)) ≡ length ms
+members_counted s [] ms n is fit = omega (arith, is, fit)
+members_counted {H} {T} s (h ∷ hs) ms n is fit =
+    let count = h.end - s in
+    let within : h.end ≤ n = ends_within h.end hs n fit.1 in
+    let rises : s ≤ h.end = fit.0 in
+    let rest = members_counted h.end hs (drop count ms) n (omega (arith, is, within, rises, length-drop count ms)) fit.1 in
+    omega (
+      arith,
+      rest,
+      length-drop count ms,
+      length-take count ms,
+      is,
+      within,
+      rises,
+      sum_by-cons (λ n. n) (length (take count ms)) (map (λ (l : H × List T). length l.1)
+          (headed_from h.end hs (drop count ms))),
+    )

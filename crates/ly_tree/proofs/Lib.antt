@@ -1,5 +1,7 @@
+pub mod CostLemmas
 pub mod GrownLemmas
 pub mod HeadedLemmas
+pub mod LineLemmas
 pub mod PickLemmas
 pub mod PieceLemmas
 pub mod PrintingLemmas

@@ -1,3 +1,4 @@
+pub mod Costs
 pub mod Forest
 pub mod GrownCode
 pub mod Private

@@ -1,5 +1,5 @@
-ghost use Rattle.std.specs.Prelude.{◌≡◌, ◌≤◌, ◌+◌, [], ◌++◌, drop, length, map, take};
-ghost use Rattle.std.specs.Prelude.{All, IfOk, IsSome, OnErr, OnOk};
+ghost use Rattle.std.specs.Prelude.{◌≡◌, ◌<◌, ◌≤◌, ◌+◌, ◌*◌, ◌^◌, ℕ, [], ◌++◌, drop, length, map, take};
+ghost use Rattle.std.specs.Prelude.{All, IfOk, IfSome, IsSome, OnErr, OnOk};
 ghost use Rattle.ly_tree.specs.Private.Headed.{ref_at};
 ghost use Rattle.ly_tree.specs.Term.{at_places, built, leaf};
 
@@ -64,6 +64,7 @@ impl Model for Forest {
 }
 
 impl Forest {
+    ghost use Rattle.ly_tree.specs.Costs.{budget};
     ghost use Rattle.ly_tree.specs.Forest.{no_terms, term_of, terms_of, Keeps, StandsFor};
     ghost use Rattle.ly_tree.specs.Private.Grown.{AllKnown};
 
@@ -83,6 +84,8 @@ impl Forest {
     pub fn leaf(&mut self, terminal: Sym, text: &Front<'_>) -> Result<TermRef, OutOfMemory>
         ensures stands { IfOk result (λ r. StandsFor self.new r (leaf terminal.0 text.now)) }
         ensures keeps { OnOk result (Keeps self.old self.new) }
+        ensures pays { OnOk result ((each byte : ℕ) → budget each byte self.new
+            ≡ budget each byte self.old + byte * length text.now) }
         ensures err { OnErr result (self.new ≡ self.old) }
     {
         if text.len() > u8::MAX as usize || terminal.0 > u16::MAX as u32 {
@@ -102,6 +105,8 @@ impl Forest {
     fn long_leaf(&mut self, terminal: Sym, text: &[u8]) -> Result<TermRef, OutOfMemory>
         ensures stands { IfOk result (λ r. StandsFor self.new r (leaf terminal.0 text.now)) }
         ensures keeps { OnOk result (Keeps self.old self.new) }
+        ensures pays { OnOk result ((each byte : ℕ) → budget each byte self.new
+            ≡ budget each byte self.old + byte * length text.now) }
         ensures err { OnErr result (self.new ≡ self.old) }
     {
         Ok(TermRef::LongLeaf(self.long.push(terminal, text)?))
@@ -121,6 +126,8 @@ impl Forest {
         ensures stands { IfOk result (λ r. StandsFor self.new r
             (built rule.0 (at_places (terms_of self.old (map R.referred body.now)) places.now))) }
         ensures keeps { OnOk result (Keeps self.old self.new) }
+        ensures pays { OnOk result ((each byte : ℕ) → budget each byte self.new
+            ≡ budget each byte self.old + each * length places.now) }
         ensures err { OnErr result (self.new ≡ self.old) }
     {
         if places.len() > u8::MAX as usize || rule.0 > u16::MAX as u32 {
@@ -133,6 +140,31 @@ impl Forest {
             rule: rule.0 as u16,
             start,
         })
+    }
+
+    /// How long the line of a term may be whose parts are used once each, where no label is longer than that; nothing,
+    /// where no number says so.
+    pub(crate) fn longest_line(&self, label: usize) -> Option<usize>
+        ensures { IfSome result (λ n. (n ≡ (label + 4) + budget (label + 4) 4 self.now) × (n < 2 ^ 64)) }
+    {
+        let each = label.checked_add(4)?;
+        let terms = self.children.len().checked_mul(each)?;
+        let bytes = self.texts.len().checked_add(self.long.members())?;
+        each.checked_add(terms.checked_add(bytes.checked_mul(4)?)?)
+    }
+
+    /// How many terms one may have whose parts are used once each.
+    pub(crate) fn most_terms(&self) -> usize
+        ensures { result ≡ 1 + budget 1 0 self.now }
+    {
+        self.children.len() + 1
+    }
+
+    /// No children.
+    pub(crate) fn no_children(&self) -> &[TermRef]
+        ensures { result.now ≡ [] }
+    {
+        &self.children[..0]
     }
 
     /// The text of a short leaf.

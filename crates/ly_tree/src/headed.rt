@@ -1,5 +1,5 @@
 ghost use Rattle.std.specs.Prelude.{◌≡◌, ◌<◌, ◌≤◌, ◌+◌, ◌-◌, [], ◌∷◌, ◌++◌, length, take, drop};
-ghost use Rattle.std.specs.Prelude.{slice_get, IfOk, OnErr, OnOk, Some};
+ghost use Rattle.std.specs.Prelude.{map, slice_get, sum, IfOk, OnErr, OnOk, Some};
 ghost use Rattle.ly_tree.specs.Private.Headed.{start_after};
 
 use ly_base::OutOfMemory;
@@ -49,6 +49,15 @@ impl<H, T> Headed<H, T> {
             headings: Vec::new(alloc),
             members: Vec::new(alloc),
         }
+    }
+}
+
+impl<H, T> Headed<H, T> {
+    /// How many members all lists have.
+    pub(crate) fn members(&self) -> usize
+        ensures { result ≡ sum (map (λ l. length l.1) self.now) }
+    {
+        self.members.len()
     }
 }
 

@@ -18,4 +18,5 @@ mod words;
 pub use forest::{Forest, TermRef};
 pub use laws::a_reference_stands_for_one;
 pub use refers::Refers;
+pub use show::TermLine;
 pub use words::Words;

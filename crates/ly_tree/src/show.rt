@@ -1,127 +1,280 @@
-ghost use Rattle.std.specs.Prelude.{◌≡◌, ◌<◌, ◌≤◌, ◌++◌, [], length, Some, IfOk, IsSome, OnOk};
+ghost use Rattle.std.specs.Prelude.{◌≡◌, ◌<◌, ◌+◌, ◌++◌, ◌^◌, [], ◌∷◌, length, IfErr, IfOk, IsSome, None, Ok, OnErr};
+ghost use Rattle.std.specs.Prelude.{OnOk, Some, vec_capacity};
+ghost use Rattle.std.specs.Io.KnownBytes.{Appends};
+ghost use Rattle.ly_base.specs.Bytes.{newline};
+ghost use Rattle.ly_base.specs.Device.{next_count};
+ghost use Rattle.ly_base.specs.Text.{leaf_of, token};
+ghost use Rattle.ly_base.specs.TextWriter.{bytes_of, IsAppended, IsCutShort};
+ghost use Rattle.ly_tree.specs.Costs.{IsPaid};
 ghost use Rattle.ly_tree.specs.Forest.{term_of, Grown, StandsFor};
-ghost use Rattle.ly_tree.specs.Private.Printing.{next_text, term_text, waiting_text, AllWaitingKnown, IsNextKnown};
+ghost use Rattle.ly_tree.specs.Private.Printing.{left_text, next_text, opening, term_at, term_text, HasChildren};
+ghost use Rattle.ly_tree.specs.Private.Printing.{IsAlone, IsOpen, IsPrinted, IsPut};
 ghost use Rattle.ly_tree.specs.Shown.{shown, Vocabulary};
 ghost use Rattle.ly_tree.specs.Term.{Term};
 
 use crate::forest::{Forest, TermRef};
 use crate::words::Words;
-use ly_base::{Front, OutOfMemory, RuleNo, Sym, TextBuffer};
+use ly_base::{Front, OutOfMemory, RuleNo, Sink, Sym, TextWriter, WriteFault};
 use std::alloc::Global;
+use std::marker::Model;
 
-impl Forest {
-    /// A term as it is printed: nothing is `()`, a leaf is as `NUM"12"`, and a node as `Add(NUM"1",NUM"2")`. It is
-    /// printed into memory that is used again, and the bytes that stand there are dropped. It fails where memory runs
-    /// out.
-    pub fn show<W: Words>(
-        &self,
-        alloc: Global,
-        words: &W,
-        root: TermRef,
-        memory: Vec<u8>,
-    ) -> Result<Vec<u8>, OutOfMemory>
-        requires { IsSome (term_of self.now root) }
-        ensures { IfOk result (λ out. (t : Term) → StandsFor self.now root t → out.items ≡ shown
-            (record { terminal = W.terminals words.now; constructor = W.constructors words.now }) t) }
-    {
-        let mut printing = Printing {
-            out: TextBuffer::reusing(alloc, memory)?,
-            waiting: Vec::new(alloc),
-        };
-        let mut next = Some(root);
-        while let Some(term) = next {
-            next = printing.print(self, words, term)?;
-        }
-        Ok(printing.out.into_bytes()?)
-    }
+/// The line of a term, ready to be written: all room that this takes is made, so that nothing but a write can fail.
+///
+/// Nothing is printed as `()`, a leaf as `NUM"12"`, and a node as `Add(NUM"1",NUM"2")`.
+#[derive(Drop)]
+pub struct TermLine<'f, W: Words> {
+    /// The term.
+    root: TermRef,
+    /// Its forest.
+    forest: &'f Forest,
+    /// The names by which it is printed.
+    words: &'f W,
+    /// What is printed, and room for children that wait.
+    printing: Printing<'f>,
+}
+
+impl<'f, W: Words> Model for TermLine<'f, W> {
+    ghost use Rattle.std.specs.Prelude.{◌≡◌, ◌<◌, ◌^◌, ◌++◌, [], ◌∷◌, List, Some, length, vec_capacity, ℕ};
+    ghost use Rattle.ly_base.specs.Bytes.{newline};
+    ghost use Rattle.ly_tree.specs.Private.Printing.{term_text, IsOpen};
+
+    ghost Value = { List ℕ };
+
+    ghost view = { λ l. term_text (record {
+      terminal = W.terminals l.words.now;
+      constructor = W.constructors l.words.now;
+    }) l.forest.now l.root ++ newline ∷ [] };
+
+    ghost invariant = { λ l. (l.printing.out ≡ record { sent = 0; held = [] }) × (l.printing.waiting.items ≡ [])
+        × IsOpen l.forest.now l.printing.waiting.items l.printing.others (Some l.root) (vec_capacity l.printing.waiting)
+        × (length (term_text (record {
+          terminal = W.terminals l.words.now;
+          constructor = W.constructors l.words.now;
+        }) l.forest.now l.root ++ newline ∷ []) < 2 ^ 64) };
 }
 
 /// A term that is being printed, with a stack in place of recursion.
 #[derive(Drop)]
 struct Printing<'f> {
-    /// The text so far.
-    out: TextBuffer,
-    /// For each node that is begun and not ended, the outermost first, the children behind the one that is printed.
+    /// The text.
+    out: TextWriter,
+    /// Of the node that was begun last and isn't ended, the children behind the one that is printed.
+    others: &'f [TermRef],
+    /// The same of each node around it, the outermost first; before them all, none.
     waiting: Vec<&'f [TermRef]>,
+}
+
+impl Forest {
+    /// The line of a term. It fails where memory runs out.
+    pub fn line<'f, W: Words>(
+        &'f self,
+        alloc: Global,
+        words: &'f W,
+        root: TermRef,
+    ) -> Result<TermLine<'f, W>, OutOfMemory>
+        requires known { IsSome (term_of self.now root) }
+        requires paid { (t : Term) → StandsFor self.now root t → IsPaid self.now t }
+        ensures { IfOk result (λ l. (t : Term) → StandsFor self.now root t → l ≡ shown
+            (record { terminal = W.terminals words.now; constructor = W.constructors words.now }) t ++ newline ∷ []) }
+    {
+        // a line is no longer than that
+        let Some(_) = self.longest_line(words.longest()) else {
+            return Err(OutOfMemory);
+        };
+        Ok(TermLine {
+            root,
+            forest: self,
+            words,
+            printing: Printing {
+                out: TextWriter::new(alloc)?,
+                others: self.no_children(),
+                waiting: Vec::with_capacity(alloc, self.most_terms())?,
+            },
+        })
+    }
+}
+
+impl<W: Words> TermLine<'_, W> {
+    /// Writes the line.
+    ///
+    /// It fails where the writer does.
+    pub fn write<S: Sink>(self, writer: &mut S) -> Result<(), WriteFault>
+        ensures ok { OnOk result (Appends (S.contents writer.old) (S.contents writer.new) self.entry) }
+        ensures cut_short { IfErr result (λ fault.
+            IsCutShort (S.contents writer.old) (S.contents writer.new) fault.written self.entry) }
+        ensures no_failure { OnOk result (S.failures writer.new ≡ S.failures writer.old) }
+        ensures failed { OnErr result (S.failures writer.new ≡ next_count (S.failures writer.old)) }
+    {
+        let TermLine {
+            root,
+            forest,
+            words,
+            printing,
+        } = self;
+        let mut printing = printing;
+        let mut next = Some(root);
+        while let Some(term) = next {
+            next = printing.print(writer, forest, words, term)?;
+        }
+        printing.out.push(writer, b'\n')?;
+        printing.out.finish(writer)
+    }
 }
 
 impl<'f> Printing<'f> {
     /// Prints a term as far as its first child, and answers that. A term without children is printed whole, with what
     /// stands before the next term, which is then answered, if there is one.
-    fn print<W: Words>(
+    #[inline(always)] // so that the loop over terms has the registers
+    fn print<W: Words, S: Sink>(
         &mut self,
+        writer: &mut S,
         forest: &'f Forest,
         words: &W,
         term: TermRef,
-    ) -> Result<Option<TermRef>, OutOfMemory>
-        requires term { IsSome (term_of forest.now term) }
-        requires waiting { AllWaitingKnown forest.now self.old.waiting.items }
-        ensures text { let v : Vocabulary = record {
+    ) -> Result<Option<TermRef>, WriteFault>
+        requires stands { IsOpen forest.now self.old.waiting.items self.old.others (Some term)
+            (vec_capacity self.old.waiting) }
+        requires countable { let v : Vocabulary = record {
           terminal = W.terminals words.now;
           constructor = W.constructors words.now;
-        } in IfOk result (λ next. self.new.out
-            ++ next_text v forest.now next ++ waiting_text v forest.now self.new.waiting.items
-            ≡ self.old.out ++ term_text v forest.now term
-            ++ waiting_text v forest.now self.old.waiting.items) }
-        ensures grows { OnOk result (length self.old.out < length self.new.out) }
-        ensures next { IfOk result (IsNextKnown forest.now) }
-        ensures waiting { OnOk result (AllWaitingKnown forest.now self.new.waiting.items) }
+        } in bytes_of self.old.out
+            + length (term_text v forest.now term ++ left_text v forest.now self.old.waiting.items self.old.others)
+            < 2 ^ 64 }
+        ensures printed { let v : Vocabulary = record {
+          terminal = W.terminals words.now;
+          constructor = W.constructors words.now;
+        } in IsPrinted self.old.out self.new.out (S.contents writer.old) (S.contents writer.new)
+            (term_text v forest.now term ++ left_text v forest.now self.old.waiting.items self.old.others)
+            (λ next. next_text v forest.now next ++ left_text v forest.now self.new.waiting.items self.new.others)
+            result }
+        ensures grows { let v : Vocabulary = record {
+          terminal = W.terminals words.now;
+          constructor = W.constructors words.now;
+        } in IfOk result (λ next. length (next_text v forest.now next
+            ++ left_text v forest.now self.new.waiting.items self.new.others)
+            < length (term_text v forest.now term ++ left_text v forest.now self.old.waiting.items self.old.others)) }
+        ensures stands { IfOk result (λ next. IsOpen forest.now self.new.waiting.items self.new.others next
+            (vec_capacity self.new.waiting)) }
         ensures ends { result ≡ Ok None → self.new.waiting.items ≡ [] }
+        ensures capacity { vec_capacity self.new.waiting ≡ vec_capacity self.old.waiting }
+        ensures no_failure { OnOk result (S.failures writer.new ≡ S.failures writer.old) }
+        ensures failed { OnErr result (S.failures writer.new ≡ next_count (S.failures writer.old)) }
     {
-        match term {
-            TermRef::Nothing => self.out.push_bytes(b"()")?,
-            TermRef::ShortLeaf {
-                length,
-                terminal,
-                start,
-            } => {
-                let label = words.leaf_label(Sym(u32::from(terminal)));
-                let text = forest.short_text(length, terminal, start);
-                self.out.push_quoted(label, &text)?;
-            }
-            TermRef::LongLeaf(leaf) => {
-                let (terminal, text) = forest.long_leaf_at(leaf);
-                let label = words.leaf_label(terminal);
-                self.out.push_quoted(label, &Front::new(text, text.len()))?;
-            }
-            TermRef::Node {
-                children,
-                rule,
-                start,
-            } => {
-                let children = forest.children_of(children, rule, start);
-                self.out
-                    .push_label(words.node_label(RuleNo(u32::from(rule))))?;
-                if let Some((first, others)) = children.split_first() {
-                    self.waiting.push(others)?;
-                    return Ok(Some(*first));
-                }
-                self.out.push(b')')?;
-            }
-        }
-        self.go_on()
+        let Some(children) = begin(&mut self.out, writer, forest, words, term)? else {
+            return self.go_on(writer);
+        };
+        self.waiting.push_reserved(self.others);
+        let Some((first, others)) = children.split_first() else {
+            self.others = children;
+            return self.go_on(writer);
+        };
+        self.others = others;
+        Ok(Some(*first))
     }
 
     /// Prints what stands before the next term, and answers it, if there is one.
-    fn go_on(&mut self) -> Result<Option<TermRef>, OutOfMemory>
-        ensures text { IfOk result (λ next. (v : Vocabulary) (f : Grown) → self.new.out ++ next_text v f next
-            ++ waiting_text v f self.new.waiting.items
-            ≡ self.old.out ++ waiting_text v f self.old.waiting.items) }
-        ensures next { IfOk result (λ next. (f : Grown) → AllWaitingKnown f self.old.waiting.items
-            → IsNextKnown f next) }
-        ensures waiting { OnOk result ((f : Grown) → AllWaitingKnown f self.old.waiting.items
-            → AllWaitingKnown f self.new.waiting.items) }
+    #[inline(always)] // as `print`
+    fn go_on<S: Sink>(&mut self, writer: &mut S) -> Result<Option<TermRef>, WriteFault>
+        requires alone { IsAlone self.old.waiting.items self.old.others }
+        requires countable { bytes_of self.old.out + length self.old.waiting.items < 2 ^ 64 }
+        ensures printed { (v : Vocabulary) (f : Grown) → IsPrinted self.old.out self.new.out (S.contents writer.old)
+            (S.contents writer.new) (left_text v f self.old.waiting.items self.old.others)
+            (λ next. next_text v f next ++ left_text v f self.new.waiting.items self.new.others) result }
+        ensures stands { (f : Grown) → IsOpen f self.old.waiting.items self.old.others None (vec_capacity self.old.waiting)
+            → IfOk result (λ next. IsOpen f self.new.waiting.items self.new.others next
+            (vec_capacity self.new.waiting)) }
         ensures ends { result ≡ Ok None → self.new.waiting.items ≡ [] }
-        ensures grows { OnOk result (length self.old.out ≤ length self.new.out) }
+        ensures capacity { vec_capacity self.new.waiting ≡ vec_capacity self.old.waiting }
+        ensures no_failure { OnOk result (S.failures writer.new ≡ S.failures writer.old) }
+        ensures failed { OnErr result (S.failures writer.new ≡ next_count (S.failures writer.old)) }
     {
-        while let Some(children) = self.waiting.pop() {
-            if let Some((next, others)) = children.split_first() {
-                self.out.push(b',')?;
-                self.waiting.push(others)?;
+        loop {
+            if let Some((next, others)) = self.others.split_first() {
+                self.out.push(writer, b',')?;
+                self.others = others;
                 return Ok(Some(*next));
             }
-            self.out.push(b')')?;
+            let Some(outer) = self.waiting.pop() else {
+                return Ok(None);
+            };
+            self.out.push(writer, b')')?;
+            self.others = outer;
         }
-        Ok(None)
     }
+}
+
+/// Prints what stands before the children of a term: of one that is no node, all of it. Answers the children of a node.
+#[inline(always)] // as `print`
+fn begin<'f, W: Words, S: Sink>(
+    out: &mut TextWriter,
+    writer: &mut S,
+    forest: &'f Forest,
+    words: &W,
+    term: TermRef,
+) -> Result<Option<&'f [TermRef]>, WriteFault>
+    requires known { IsSome (term_of forest.now term) }
+    requires countable { let v : Vocabulary = record {
+      terminal = W.terminals words.now;
+      constructor = W.constructors words.now;
+    } in bytes_of out.old + length (opening v (term_at forest.now term)) < 2 ^ 64 }
+    ensures text { let v : Vocabulary = record {
+      terminal = W.terminals words.now;
+      constructor = W.constructors words.now;
+    } in IsPut out.old out.new (S.contents writer.old) (S.contents writer.new)
+        (opening v (term_at forest.now term)) result }
+    ensures counted { let v : Vocabulary = record {
+      terminal = W.terminals words.now;
+      constructor = W.constructors words.now;
+    } in OnOk result (bytes_of out.new ≡ bytes_of out.old + length (opening v (term_at forest.now term))) }
+    ensures children { IfOk result (HasChildren forest.now term) }
+    ensures no_failure { OnOk result (S.failures writer.new ≡ S.failures writer.old) }
+    ensures failed { OnErr result (S.failures writer.new ≡ next_count (S.failures writer.old)) }
+{
+    match term {
+        TermRef::Nothing => out.push_bytes(writer, b"()")?,
+        TermRef::ShortLeaf {
+            length,
+            terminal,
+            start,
+        } => {
+            let text = forest.short_text(length, terminal, start);
+            print_leaf(out, writer, words, Sym(u32::from(terminal)), &text)?;
+        }
+        TermRef::LongLeaf(leaf) => {
+            let (terminal, text) = forest.long_leaf_at(leaf);
+            let text = Front::new(text, text.len());
+            print_leaf(out, writer, words, terminal, &text)?;
+        }
+        TermRef::Node {
+            children,
+            rule,
+            start,
+        } => {
+            let label = words.node_label(RuleNo(u32::from(rule)));
+            out.push_label(writer, label)?;
+            return Ok(Some(forest.children_of(children, rule, start)));
+        }
+    }
+    Ok(None)
+}
+
+/// Prints a leaf.
+#[inline(always)] // as `print`
+fn print_leaf<W: Words, S: Sink>(
+    out: &mut TextWriter,
+    writer: &mut S,
+    words: &W,
+    terminal: Sym,
+    text: &Front<'_>,
+) -> Result<(), WriteFault>
+    requires countable { bytes_of out.old
+        + length (leaf_of (token (W.terminals words.now terminal.0)) text.now) < 2 ^ 64 }
+    ensures text { IsAppended out.old out.new (S.contents writer.old) (S.contents writer.new)
+        (leaf_of (token (W.terminals words.now terminal.0)) text.now) result }
+    ensures counted { OnOk result (bytes_of out.new
+        ≡ bytes_of out.old + length (leaf_of (token (W.terminals words.now terminal.0)) text.now)) }
+    ensures no_failure { OnOk result (S.failures writer.new ≡ S.failures writer.old) }
+    ensures failed { OnErr result (S.failures writer.new ≡ next_count (S.failures writer.old)) }
+{
+    out.push_quoted(writer, words.leaf_label(terminal), text)
 }

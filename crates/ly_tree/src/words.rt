@@ -1,4 +1,4 @@
-ghost use Rattle.std.specs.Prelude.{◌≡◌, ◌++◌, ℕ, List, codes};
+ghost use Rattle.std.specs.Prelude.{◌≡◌, ◌≤◌, ◌++◌, ℕ, List, codes, length};
 ghost use Rattle.ly_base.specs.Text.{before_leaf, token};
 
 use ly_base::{Label, RuleNo, Sym};
@@ -18,4 +18,9 @@ pub trait Words {
     /// What stands before the children of a node: the rule's constructor and a parenthesis.
     fn node_label(&self, rule: RuleNo) -> &Label
         ensures { result.now ≡ constructors self.now rule.0 ++ codes "(" };
+
+    /// A length that no label passes.
+    fn longest(&self) -> usize
+        ensures leaves { (t : ℕ) → length (before_leaf (token (terminals self.now t))) ≤ result }
+        ensures nodes { (p : ℕ) → length (constructors self.now p ++ codes "(") ≤ result };
 }

@@ -24,6 +24,7 @@ use Rattle.ly_parse.specs.Feeding as fed
 use Rattle.ly_parse.specs.Parse.{Parse}
 use Rattle.ly_parse.specs.Reading.{Reads}
 use Rattle.ly_scan.specs.Lexer.{IsLexemeAt}
+use Rattle.ly_tree.specs.Costs.{IsPaid}
 use Rattle.ly_tree.specs.Forest.{StandsFor}
 use Rattle.ly_tree.specs.Shown.{Vocabulary}
 use Rattle.ly_tree.specs.Term.{Term}
@@ -77,6 +78,7 @@ IsFed v s t r (Err _) = ⊥
 -- and with the end
 abbrev pub IsLast : Vocabulary → Parse → Token ℕ → Result Ended DriveFault → Type 0
 IsLast v s t (Ok (Accepted forest root)) = (d : Term) × Feeds s.machine t s.stack (done d) × StandsFor forest root d
+    × IsPaid forest d
 IsLast v s t (Ok (Told outcome line)) = IsRefusal v s t outcome line.items
 IsLast v s t (Err TableFault) = Feeds s.machine t s.stack fed.faulty
 IsLast v s t (Err OutOfMemory) = Unit {0}
@@ -100,7 +102,7 @@ IsTaken t text q l r (Err _) = ⊥
 -- What becomes of a text: it has a term, or it is answered, or the tables are at fault on it.
 abbrev pub IsRun : Tables → List ℕ → Result Ended DriveFault → Type 0
 IsRun t text (Ok (Accepted forest root)) = (d : Term) × IsVerdictBy t.scanner t.machine text (accepted d)
-    × StandsFor forest root d
+    × StandsFor forest root d × IsPaid forest d
 IsRun t text (Ok (Told outcome line)) = IsTold t text outcome line.items
 IsRun t text (Err TableFault) = IsVerdictBy t.scanner t.machine text faulty
 IsRun t text (Err OutOfMemory) = Unit {0}

@@ -5,7 +5,9 @@ use Rattle.ly_base.specs.Shape.{place}
 use Rattle.ly_pack.specs.Machine.{Machine, TableAction, TableRule, action_of, goto_at, reduce, states_of}
 use Rattle.ly_pack.specs.Steady.{rule_at, IsTableEdge}
 use Rattle.ly_pack.specs.Values.{action_from}
+use Rattle.ly_parse.specs.declared.kept.Kept.{Kept}
 use Rattle.ly_parse.specs.declared.landing.Landing.{Landing}
+use Rattle.ly_parse.specs.declared.origin.Numbers.{Numbers}
 use Rattle.ly_parse.specs.declared.shortcut.Shortcut.{Shortcut}
 use Rattle.ly_parse.specs.declared.shortcut.Situation.{Situation}
 use Rattle.ly_parse.specs.declared.shortcuts.Shortcuts.{Shortcuts}
@@ -63,11 +65,35 @@ pub data Strands (m : Machine) (l : Landing) : Type 0 where
 abbrev pub IsFrom : {O : Type 0} → (O → ℕ → TableAction → Type 0) → O → Shortcut O → Type 0
 IsFrom Leads from s = (s.from ≡ from) × Leads s.from s.state.0 (action_from s.action)
 
+-- the situation, and the landing, of some numbers
+abbrev pub situation_of : Numbers → Situation
+situation_of n = record {
+  below = record { 0 = n.below };
+  top = record { 0 = n.above };
+  terminal = record { 0 = n.terminal };
+}
+
+abbrev pub landing_of : Numbers → Landing
+landing_of n = record {
+  below = record { 0 = n.below };
+  left = record { 0 = n.above };
+  terminal = record { 0 = n.terminal };
+}
+
+-- the shortcut that stands at a place
+abbrev pub shortcut_of : {O : Type 0} → (Numbers → O) → Kept → Shortcut O
+shortcut_of origin_of k = record {
+  from = origin_of (record { below = k.below; above = k.above; terminal = k.terminal });
+  state = record { 0 = k.state };
+  action = k.action;
+}
+
 -- all that is kept is right
-abbrev pub AreShortcuts : {O : Type 0} → (O → ℕ → TableAction → Type 0) → Shortcuts O → Type 0
-AreShortcuts Leads kept = All (λ s. Leads s.from s.state.0 (action_from s.action)) kept.places.items
+abbrev pub AreShortcuts : {O : Type 0} → (Numbers → O) → (O → ℕ → TableAction → Type 0) → Shortcuts O → Type 0
+AreShortcuts origin_of Leads kept =
+    All (λ k. let s = shortcut_of origin_of k in Leads s.from s.state.0 (action_from s.action)) kept.places.items
 
 -- and that which a parser keeps
 pub record AreKept (m : Machine) (shortcuts : Shortcuts Situation) (landings : Shortcuts Landing) : Type 0 where
-  pub passes : AreShortcuts (ArePasses m) shortcuts
-  pub gotos : AreShortcuts (Lands m) landings
+  pub passes : AreShortcuts situation_of (ArePasses m) shortcuts
+  pub gotos : AreShortcuts landing_of (Lands m) landings

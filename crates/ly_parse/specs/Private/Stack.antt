@@ -8,6 +8,7 @@ use Rattle.ly_pack.specs.SteadyLaws.{IsStack}
 use Rattle.ly_parse.specs.Feeding.{Fed, Feeds, Level, accept_with, done, faulty, goes_on, reduce_by, settles}
 use Rattle.ly_parse.specs.Feeding.{states_on}
 use Rattle.ly_parse.specs.Parse.{Parse}
+use Rattle.ly_parse.specs.Private.Paying.{IsStackPaid}
 use Rattle.ly_parse.specs.declared.fault.ParseFault.{ParseFault}
 use Rattle.ly_parse.specs.declared.fault.ParseFault.TheVariants.{TableFault}
 use Rattle.ly_parse.specs.declared.level.Level as code
@@ -28,13 +29,14 @@ parse_from m f levels count over
     = record { machine = m; forest = f; stack = stack_from f levels; count = count; over = over }
 
 -- All that the tables name is there, they are steady, each level's state is one of theirs and its term is in the
--- forest, and neighbours on the stack are edges.
+-- forest, neighbours on the stack are edges, and the forest pays for the terms.
 pub record IsParse (m : Machine) (f : Grown) (levels : List code.Level) : Type 0 where
   pub machine : IsMachine m
   pub steady : IsSteady m
   pub states : All (λ l. l.state.0 < states_of m) levels
   pub terms : All (λ l. IsSome (term_of f l.term)) levels
   pub edges : IsStack m (states_on (stack_from f levels))
+  pub paid : IsStackPaid f (stack_from f levels)
 
 -- the terms of a stack, its top first, as they stand in the text
 abbrev pub terms_onto : List Level → Terms → Terms

@@ -1,15 +1,24 @@
--- What is left to print of a term.
-use Rattle.std.specs.Prelude.{ℕ, List, [], ◌∷◌, ◌++◌, All, IfSome, IsSome, Option, None, Some, codes, unwrap_or}
+-- What is left to print of a term, and the room that this takes.
+use Rattle.std.specs.Prelude.{◌≡◌, ◌<◌, ◌≤◌, ◌+◌, ℕ, List, [], ◌∷◌, ◌++◌, All, IfSome, IsSome, Option, None, Some, Result}
+use Rattle.std.specs.Prelude.{Ok, Err, codes, length, unwrap_or}
 use Rattle.std.specs.Borrow.{Bor}
-use Rattle.ly_tree.specs.Forest.{term_of, Grown}
+use Rattle.ly_base.specs.Text.{leaf_of, token}
+use Rattle.ly_base.specs.TextWriter.{IsAppended, Outgoing}
+use Rattle.ly_base.specs.declared.whole.WriteFault.{WriteFault}
+use Rattle.ly_tree.specs.Costs.{cost, costs}
+use Rattle.ly_tree.specs.Forest.{term_of, terms_of, Grown, StandsFor}
 use Rattle.ly_tree.specs.Private.Grown.{AllKnown}
 use Rattle.ly_tree.specs.Shown.{shown, Vocabulary}
-use Rattle.ly_tree.specs.Term.{nothing}
+use Rattle.ly_tree.specs.Term.{Term, nothing, leaf, built}
 use Rattle.ly_tree.specs.declared.forest.TermRef.{TermRef}
+
+-- the term of a reference; nothing where there is none
+abbrev pub term_at : Grown → TermRef → Term
+term_at f n = unwrap_or (term_of f n) nothing
 
 -- a term as it is printed
 abbrev pub term_text : Vocabulary → Grown → TermRef → List ℕ
-term_text v f n = shown v (unwrap_or (term_of f n) nothing)
+term_text v f n = shown v (term_at f n)
 
 -- that of the term that is next, if there is one
 abbrev pub next_text : Vocabulary → Grown → Option TermRef → List ℕ
@@ -26,6 +35,16 @@ abbrev pub waiting_text : Vocabulary → Grown → List (Bor (List TermRef)) →
 waiting_text v f [] = []
 waiting_text v f (ns ∷ rest) = waiting_text v f rest ++ tail_text v f ns.now
 
+-- The nodes that are begun and not ended, by the children that are left of each, the outermost first. Below them all is
+-- what stands beside the whole term, which is nothing.
+abbrev pub begun : List (Bor (List TermRef)) → Bor (List TermRef) → List (Bor (List TermRef))
+begun [] others = []
+begun (beside ∷ outer) others = outer ++ others ∷ []
+
+-- what is left behind the term that is next
+abbrev pub left_text : Vocabulary → Grown → List (Bor (List TermRef)) → Bor (List TermRef) → List ℕ
+left_text v f waiting others = waiting_text v f (begun waiting others)
+
 -- each child that is left stands for a term
 abbrev pub AllWaitingKnown : Grown → List (Bor (List TermRef)) → Type 0
 AllWaitingKnown f waiting = All (λ ns. AllKnown f ns.now) waiting
@@ -33,3 +52,55 @@ AllWaitingKnown f waiting = All (λ ns. AllKnown f ns.now) waiting
 -- the term that is next, if there is one, is there
 abbrev pub IsNextKnown : Grown → Option TermRef → Type 0
 IsNextKnown f next = IfSome next (λ n. IsSome (term_of f n))
+
+-- how many terms are left of children
+abbrev pub left_of : Grown → List TermRef → ℕ
+left_of f ns = costs 1 0 (terms_of f ns)
+
+abbrev pub all_left_of : Grown → List (Bor (List TermRef)) → ℕ
+all_left_of f [] = 0
+all_left_of f (ns ∷ rest) = left_of f ns.now + all_left_of f rest
+
+-- how many terms the one that is next has
+abbrev pub next_terms : Grown → Option TermRef → ℕ
+next_terms f None = 0
+next_terms f (Some n) = cost 1 0 (term_at f n)
+
+-- nothing stands beside the whole term
+abbrev pub IsAlone : List (Bor (List TermRef)) → Bor (List TermRef) → Type 0
+IsAlone [] others = others.now ≡ []
+IsAlone (beside ∷ outer) others = beside.now ≡ []
+
+-- Where a printer stands: each child that is left is there, nothing stands beside the whole term, and each term that is
+-- left may still open a node.
+pub record IsOpen (f : Grown) (waiting : List (Bor (List TermRef))) (others : Bor (List TermRef)) (next : Option TermRef)
+    (room : ℕ) : Type 0 where
+  pub waiting_known : AllWaitingKnown f waiting
+  pub others_known : AllKnown f others.now
+  pub next_known : IsNextKnown f next
+  pub alone : IsAlone waiting others
+  pub fits : length waiting + next_terms f next + all_left_of f waiting + left_of f others.now ≤ room
+
+-- what is printed of a term before its children: of one that is no node, all of it
+abbrev pub opening : Vocabulary → Term → List ℕ
+opening v nothing = codes "()"
+opening v (leaf t bytes) = leaf_of (token (v.terminal t)) bytes
+opening v (built p ts) = v.constructor p ++ codes "("
+
+-- the term is no node, or it is one with these children
+abbrev pub HasChildren : Grown → TermRef → Option (Bor (List TermRef)) → Type 0
+HasChildren f n None = (v : Vocabulary) → shown v (term_at f n) ≡ opening v (term_at f n)
+HasChildren f n (Some ns) = ((p : ℕ) × StandsFor f n (built p (terms_of f ns.now))) × AllKnown f ns.now
+
+-- the bytes come to the text, and something is answered; or the writer failed on them
+abbrev pub IsPut : {A : Type 0} → Outgoing → Outgoing → Option (List ℕ) → Option (List ℕ) → List ℕ
+    → Result A WriteFault → Type 0
+IsPut old new before after bytes (Ok x) = IsAppended old new before after bytes (Ok tt)
+IsPut old new before after bytes (Err fault) = IsAppended old new before after bytes (Err fault)
+
+-- Of a text the first bytes are printed, so that the rest is left; or the writer failed on it.
+abbrev pub IsPrinted : Outgoing → Outgoing → Option (List ℕ) → Option (List ℕ) → List ℕ → (Option TermRef → List ℕ)
+    → Result (Option TermRef) WriteFault → Type 0
+IsPrinted old new before after text left (Ok next) = (bytes : List ℕ) × (bytes ++ left next ≡ text)
+    × IsAppended old new before after bytes (Ok tt)
+IsPrinted old new before after text left (Err fault) = IsAppended old new before after text (Err fault)

@@ -1,4 +1,7 @@
-use Rattle.std.proofs.Common.{[]}
+use Rattle.std.proofs.Common.{◌∙◌, [], Ok, ap, subst, sym}
+use Rattle.ly_parse.specs.Parse.{IsCall}
+use Rattle.ly_tree.specs.Costs.{IsPaid}
+use Rattle.ly_tree.specs.Forest.{StandsFor}
 use Rattle.ly_drive.proofs.FeedingLemmas.{refused_told}
 use Rattle.ly_drive.proofs.running.close.Goals as goal
 
@@ -7,3 +10,15 @@ returns-in_ok-line-in-Ok-Refused c v = refused_told v c.args.parser c.end.new.se
     (record { terminal = 0; at = c.args.at; bytes = [] }) c.in-Ok-Refused.token c.in-Ok-Refused.byte
     c.in_ok-line-in-Ok-Refused.line.items c.in-Ok-Refused.field-0 c.requires.goes_on c.in-Ok-Refused.field-0-is
     c.in-Ok-Refused.ensures.call (c.in_ok-line-in-Ok-Refused.ensures v)
+
+pub returns-in-Ok-Done : goal.returns-in-Ok-Done
+returns-in-Ok-Done c v =
+    let is = c.in-Ok-Done.is ∙ ap Ok c.in-Ok-Done.field-0-is in
+    let call = subst (λ r. IsCall c.args.parser (record { terminal = 0; at = c.args.at; bytes = [] }) c.end.new.self r) is
+    c.end.ensures.call in
+    let fed = call.before_end c.requires.goes_on in (
+      fed.0,
+      fed.1,
+      subst (λ f. StandsFor f c.in-Ok-Done.root fed.0) (sym c.into_forest.ensures) fed.2,
+      subst (λ f. IsPaid f fed.0) (sym c.into_forest.ensures) (c.end.ensures.paid c.in-Ok-Done.root fed.0 is fed.2),
+    )

@@ -11,7 +11,7 @@ returns-in-Accepts-clause-call g c =
     c.self.inside.count c.self.inside.over (record { terminal = 0; at = c.args.at; bytes = [] }) c.self.view_is
     c.if-self.false c.settle.new.self c.in_ok-settle.ensures.alike c.in_ok-settle.ensures.machine
     c.in_ok-settle.ensures.count c.accept.result (c.in_ok-settle.ensures.accepts (ap Ok c.in-Accepts.is))
-    c.in_ok-settle.ensures.over c.accept.ensures
+    c.in_ok-settle.ensures.over c.accept.ensures.accepted
 
 pub returns-in-Refuses-clause-call : goal.returns-in-Refuses-clause-call
 returns-in-Refuses-clause-call g c =

@@ -23,7 +23,7 @@ returns-in-Accepts g c =
       bytes = c.args.token.now.text;
     }) c.self.view_is c.if-self.false c.settle.new.self c.in_ok-state.ensures.alike c.in_ok-state.ensures.machine
     c.in_ok-state.ensures.count c.accept.result (c.in_ok-state.ensures.accepts (ap Ok c.in-Accepts.is))
-    c.in_ok-state.ensures.over c.accept.ensures
+    c.in_ok-state.ensures.over c.accept.ensures.accepted
 
 pub returns-in-Refuses : goal.returns-in-Refuses
 returns-in-Refuses g c =

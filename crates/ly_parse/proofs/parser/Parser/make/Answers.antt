@@ -1,4 +1,5 @@
 use Rattle.std.proofs.Common.{◌∙◌, ap}
+use Rattle.ly_parse.proofs.PayingLemmas.{children_paid}
 use Rattle.ly_parse.proofs.StackLemmas.{kept, stack_kept}
 use Rattle.ly_parse.proofs.TermLemmas.{kept_either, node_made, passed, slice_known, slice_places}
 use Rattle.ly_parse.proofs.parser.Parser.make.Goals as goal
@@ -41,3 +42,9 @@ returns-in-Build-clause-stack g c =
     (kept_either c.self.inside.forest c.node.new.self c.node.result c.node.ensures.keeps c.node.ensures.err)
     c.self.invariant.0.terms
     ∙ ap (λ p. p.stack) c.self.view_is
+
+pub returns-in-Build-clause-pays : goal.returns-in-Build-clause-pays
+returns-in-Build-clause-pays g c =
+    children_paid c.self.inside.forest c.node.new.self c.args.self.now.forest c.in-Build.name c.in-Build.places
+    c.args.tree.now c.deref-in-Build.result.now c.node.result (ap (λ p. p.forest) c.self.view_is) c.in-Build.is
+    c.deref-in-Build.ensures.value c.node.ensures.pays

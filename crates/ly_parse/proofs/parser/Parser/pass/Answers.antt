@@ -12,7 +12,7 @@ invariant_of-self g c =
     c.self.invariant.0 size c.index.ensures c.top_at.ensures.top in (
       passed_on c.args.self.now c.self.inside.machine.now c.self.inside.forest c.self.inside.stack.items
           place c.index.result.now
-          (record { state = c.in-Some.shortcut.now.state; term = c.index_mut.result.now.term })
+          (record { state = c.in-Some.shortcut.state; term = c.index_mut.result.now.term })
           (record { below = c.top_at.result; top = c.index.result.now.state; terminal = c.args.terminal }) top
           (situated c.args.self.now c.self.inside.machine.now c.self.inside.forest c.self.inside.stack.items
           place c.index.result.now
@@ -20,7 +20,7 @@ invariant_of-self g c =
           c.top_at.ensures.known c.requires)
           (passes_from c.self.inside.machine.now
           (record { below = c.top_at.result; top = c.index.result.now.state; terminal = c.args.terminal })
-          c.in-Some.shortcut.now (c.in-Some.ensures c.self.inside.machine.now c.self.invariant.1.passes))
+          c.in-Some.shortcut (c.in-Some.ensures c.self.inside.machine.now c.self.invariant.1.passes))
           (ap (λ x. x.term) (one_level c.self.inside.stack.items place c.index.result.now
           c.index_mut.result.now size c.index.ensures c.index_mut.ensures.value)),
       c.self.invariant.1,
@@ -35,11 +35,11 @@ returns-in-Some-clause-leads g c =
     c.self.invariant.0 size c.index.ensures c.top_at.ensures.top in
     passes_lead c.args.self.now c.self.inside.machine.now c.self.inside.forest c.self.inside.stack.items
     place c.index.result.now
-    (record { state = c.in-Some.shortcut.now.state; term = c.index_mut.result.now.term })
+    (record { state = c.in-Some.shortcut.state; term = c.index_mut.result.now.term })
     (record { below = c.top_at.result; top = c.index.result.now.state; terminal = c.args.terminal }) top refl
     (passes_from c.self.inside.machine.now
     (record { below = c.top_at.result; top = c.index.result.now.state; terminal = c.args.terminal })
-    c.in-Some.shortcut.now (c.in-Some.ensures c.self.inside.machine.now c.self.invariant.1.passes))
+    c.in-Some.shortcut (c.in-Some.ensures c.self.inside.machine.now c.self.invariant.1.passes))
     (ap (λ x. x.term) (one_level c.self.inside.stack.items place c.index.result.now
     c.index_mut.result.now size c.index.ensures c.index_mut.ensures.value))
 
@@ -52,8 +52,8 @@ returns-in-Some-clause-action g c =
     c.self.invariant.0 size c.index.ensures c.top_at.ensures.top in
     acts_on c.args.self.now c.self.inside.machine.now c.self.inside.forest c.self.inside.stack.items place
     c.top_at.result.0 c.index.result.now
-    (record { state = c.in-Some.shortcut.now.state; term = c.index_mut.result.now.term })
+    (record { state = c.in-Some.shortcut.state; term = c.index_mut.result.now.term })
     (record { below = c.top_at.result; top = c.index.result.now.state; terminal = c.args.terminal })
-    c.in-Some.shortcut.now top (c.in-Some.ensures c.self.inside.machine.now c.self.invariant.1.passes) refl
+    c.in-Some.shortcut top (c.in-Some.ensures c.self.inside.machine.now c.self.invariant.1.passes) refl
     (ap (λ x. x.term) (one_level c.self.inside.stack.items place c.index.result.now
     c.index_mut.result.now size c.index.ensures c.index_mut.ensures.value))

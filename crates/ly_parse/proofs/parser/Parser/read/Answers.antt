@@ -4,7 +4,6 @@ use Rattle.ly_parse.specs.Feeding.{top_of}
 use Rattle.ly_parse.specs.Private.Stack.{stack_from, IsParse}
 use Rattle.ly_parse.proofs.FeedingLemmas.{legal}
 use Rattle.ly_parse.proofs.StackLemmas.{kept, on_top, shifted, shifted_stack}
-use Rattle.ly_tree.proofs.StandLemmas.{stands_known}
 use Rattle.ly_tree.specs.Term.{leaf}
 use Rattle.ly_parse.proofs.parser.Parser.read.Goals as goal
 
@@ -21,11 +20,9 @@ invariant_of-self-2 g c = (
   subst (IsParse c.self.inside.machine.now c.leaf.new.self)
       (sym (on_top _ _ _ _ c.in_ok-reserve.ensures.items c.push_reserved.ensures.items))
       (shifted c.self.inside.machine.now c.self.inside.forest c.leaf.new.self c.self.inside.stack.items
-      c.args.self.now c.self.inside.count c.self.inside.over c.args.token.now.terminal.0
+      c.args.self.now c.self.inside.count c.self.inside.over c.args.token.now.terminal.0 c.args.token.now.text
       (record { state = c.args.state; term = c.in_ok-term.term }) c.self.view_is c.self.invariant.0
-      c.in_ok-term.ensures.keeps c.requires
-      (stands_known c.leaf.new.self c.in_ok-term.term (leaf c.args.token.now.terminal.0 c.args.token.now.text)
-      c.in_ok-term.ensures.stands)),
+      c.in_ok-term.ensures.keeps c.requires c.in_ok-term.ensures.stands c.in_ok-term.ensures.pays),
   c.self.invariant.1,
 )
 

@@ -1,5 +1,6 @@
 use Rattle.std.proofs.Common.{◌∙◌, ◌<◌, Err, ap, refl, subst, sym}
 use Rattle.ly_pack.specs.Values.{action_from, rule_from}
+use Rattle.ly_parse.specs.Private.Paying.{IsStackPaid}
 use Rattle.ly_parse.specs.Private.Stack.{at_once, IsParse}
 use Rattle.ly_parse.specs.declared.fault.ParseFault.TheVariants.{TableFault}
 use Rattle.ly_parse.proofs.LandingLemmas.{acts_there, landed, lands_from, leads_on, legal_there}
@@ -99,7 +100,8 @@ invariant_of-self-2 g c = (
       (action_from c.in_ok-shortcut.shortcut.action)
       (lands_from c.self-2.inside.machine.now
       (record { below = c.top.result; left = c.rule-rule.result.now.left; terminal = c.args.terminal })
-      c.in_ok-shortcut.shortcut c.in_ok-shortcut.ensures.ok)),
+      c.in_ok-shortcut.shortcut c.in_ok-shortcut.ensures.ok)
+      (subst (λ p. IsStackPaid p.forest p.stack) c.self.view_is c.self.invariant.0.paid) c.in_ok-term.ensures.pays),
   record { passes = c.self-2.invariant.1.passes; gotos = c.in_ok-shortcut.ensures.kept },
 )
 

@@ -1,4 +1,5 @@
 use Rattle.std.proofs.Common.{[], arith}
+use Rattle.ly_tree.proofs.CostLemmas.{short_pays}
 use Rattle.ly_tree.proofs.GrownLemmas.{leaves_keep, leaves_known, short_joined, short_stands}
 use Rattle.ly_tree.specs.Private.Grown.{leaves_from}
 use Rattle.ly_tree.proofs.forest.Forest.leaf.Goals as goal
@@ -24,3 +25,8 @@ returns-clause-keeps c =
     (leaves_from c.push.new.self c.self.inside.long) c.self.inside.children.items c.args.self.now c.self.invariant
     c.self.view_is (short_joined c.self.inside.texts c.push.new.self c.args.text.now
     c.self.inside.long c.in_ok-push.ensures.ok)
+
+pub returns-clause-pays : goal.returns-clause-pays
+returns-clause-pays c each byte =
+    short_pays c.self.inside.texts c.push.new.self c.args.text.now c.self.inside.long c.self.inside.children.items
+    c.args.self.now each byte c.self.invariant c.self.view_is c.in_ok-push.ensures.ok

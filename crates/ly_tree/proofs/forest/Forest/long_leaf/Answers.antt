@@ -1,4 +1,5 @@
 use Rattle.std.proofs.Common.{[], ◌∷◌}
+use Rattle.ly_tree.proofs.CostLemmas.{long_pays}
 use Rattle.ly_tree.proofs.GrownLemmas.{leaves_keep, leaves_known, long_joined, long_stands}
 use Rattle.ly_tree.specs.Private.Grown.{leaves_from, long_leaf}
 use Rattle.ly_tree.proofs.forest.Forest.long_leaf.Goals as goal
@@ -23,3 +24,8 @@ returns-clause-keeps c =
     (leaves_from c.self.inside.texts c.push.new.self) c.self.inside.children.items c.args.self.now c.self.invariant
     c.self.view_is (long_joined c.self.inside.texts c.self.inside.long c.push.new.self
     (c.args.terminal, c.args.text.now) c.in_ok-push.ensures.ok)
+
+pub returns-clause-pays : goal.returns-clause-pays
+returns-clause-pays c each byte =
+    long_pays c.self.inside.texts c.self.inside.long c.push.new.self (c.args.terminal, c.args.text.now)
+    c.self.inside.children.items c.args.self.now each byte c.self.invariant c.self.view_is c.in_ok-push.ensures.ok

@@ -1,8 +1,10 @@
-use Rattle.std.proofs.Common.{arith, map}
+use Rattle.std.proofs.Common.{◌∙◌, ◌+◌, ◌*◌, ap, arith, map}
 use Rattle.std.proofs.lemmas.List.{length-map}
+use Rattle.ly_tree.proofs.CostLemmas.{node_pays}
 use Rattle.ly_tree.proofs.GrownLemmas.{node_keeps, node_known, node_stands}
 use Rattle.ly_tree.proofs.PickLemmas.{body_stands}
 use Rattle.ly_tree.proofs.StandLemmas.{stand_all_known}
+use Rattle.ly_tree.specs.Costs.{budget}
 use Rattle.ly_tree.specs.Forest.{terms_of}
 use Rattle.ly_tree.specs.Private.Headed.{ref_at}
 use Rattle.ly_tree.specs.Term.{at_places}
@@ -33,3 +35,11 @@ returns-clause-keeps g c =
     node_keeps (leaves_from c.self.inside.texts c.self.inside.long) c.self.inside.children.items
     c.pick.new.children.items (map (ref_at (map g.R.Refers.referred c.args.body.now)) c.args.places.now)
     c.args.self.now c.self.view_is c.in_ok-pick.ensures.ok
+
+pub returns-clause-pays : goal.returns-clause-pays
+returns-clause-pays g c each byte =
+    let at = ref_at (map g.R.Refers.referred c.args.body.now) in
+    node_pays (leaves_from c.self.inside.texts c.self.inside.long) c.self.inside.children.items
+    c.pick.new.children.items (map at c.args.places.now) c.args.self.now each byte c.self.view_is
+    c.in_ok-pick.ensures.ok
+    ∙ ap (λ n. budget each byte c.args.self.now + each * n) (length-map c.args.places.now at)

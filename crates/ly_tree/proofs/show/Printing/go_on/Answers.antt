@@ -1,41 +1,104 @@
-use Rattle.std.proofs.Common.{◌∙◌, ◌∷◌, [], ap, arith, length, length-append}
+use Rattle.std.proofs.Common.{◌∙◌, ◌∷◌, [], ◌++◌, ap, append_assoc, append-nil, codes, sym, subst, arith, length, length-append, Err, Ok, None}
+use Rattle.std.specs.Prelude.{vec_capacity}
+use Rattle.ly_base.proofs.TextWriterLemmas.{appended_twice}
+use Rattle.ly_tree.specs.Private.Printing.{left_text, term_text, IsOpen}
+use Rattle.ly_tree.proofs.PrintingLemmas.{alone_inside, end_text, has_node, nothing_appended, open_inside, open_sibling}
+use Rattle.ly_tree.proofs.PrintingLemmas.{printed_fails, sibling_text}
 use Rattle.std.proofs.lemmas.List.{nil_from_length}
-use Rattle.ly_tree.proofs.PrintingLemmas.{child_known, comma_text, end_text, last_known, others_known, pushed_known}
 use Rattle.ly_tree.proofs.show.Printing.go_on.Goals as goal
 
-pub returns-in-Some-split_first-clause-text : goal.returns-in-Some-split_first-clause-text
-returns-in-Some-split_first-clause-text c v f =
-    comma_text v f c.loop-children.self.out c.push.new.self c.loop-children.self.waiting.items
-    c.push-in-Some-split_first.new.self.items c.pop.new.self.items c.in-Some.children c.in-Some-split_first.others
-    c.in-Some-split_first.next.now c.in-Some.ensures.items c.in-Some-split_first.ensures.cases.0
-    c.in_ok-push.ensures c.in_ok-push-2.ensures.items
-    ∙ c.loop-children.invariant.text v f
+pub returns-in_err-push-clause-printed : goal.returns-in_err-push-clause-printed
+returns-in_err-push-clause-printed g c v f =
+    let now = c.loop-next in
+    let s = now.invariant.so_far v f in
+    let fault = c.in_err-push.field-0.0 in
+    let left = term_text v f c.in-Some.next.now ++ left_text v f now.self.waiting.items c.in-Some.others in
+    printed_fails c.args.self.now.out c.push.new.self c.push.new.self _ _ (s.0 ++ codes ",") left _ _
+    c.from_residual.result fault
+    (append_assoc s.0 (codes ",") left
+    ∙ (ap (λ t. s.0 ++ t) (sibling_text v f now.self.waiting.items now.self.others c.in-Some.others
+    c.in-Some.next.now now.invariant.alone c.in-Some.ensures.cases.0)
+    ∙ s.1))
+    c.from_residual.ensures.1
+    (appended_twice c.args.self.now.out now.self.out c.push.new.self _ _ _ s.0 (codes ",") tt (Err fault) s.2
+    c.in_err-push.ensures.text)
 
-pub returns-in-Some-split_first-clause-next : goal.returns-in-Some-split_first-clause-next
-returns-in-Some-split_first-clause-next c f h =
-    child_known f c.in-Some.children.now c.in-Some-split_first.others.now c.in-Some-split_first.next.now
-    c.in-Some-split_first.ensures.cases.0
-    (last_known f c.loop-children.self.waiting.items c.pop.new.self.items c.in-Some.children c.in-Some.ensures.items
-    (c.loop-children.invariant.known f h))
+pub returns-in-Some-clause-printed : goal.returns-in-Some-clause-printed
+returns-in-Some-clause-printed g c v f =
+    let now = c.loop-next in
+    let s = now.invariant.so_far v f in
+    let left = term_text v f c.in-Some.next.now ++ left_text v f now.self.waiting.items c.in-Some.others in (
+      s.0 ++ codes ",",
+      append_assoc s.0 (codes ",") left
+          ∙ (ap (λ t. s.0 ++ t) (sibling_text v f now.self.waiting.items now.self.others c.in-Some.others
+          c.in-Some.next.now now.invariant.alone c.in-Some.ensures.cases.0)
+          ∙ s.1),
+      appended_twice c.args.self.now.out now.self.out c.push.new.self _ _ _ s.0 (codes ",") tt (Ok tt) s.2
+          c.in_ok-push.ensures.text,
+    )
 
-pub returns-in-Some-split_first-clause-waiting : goal.returns-in-Some-split_first-clause-waiting
-returns-in-Some-split_first-clause-waiting c f h =
-    let known = last_known f c.loop-children.self.waiting.items c.pop.new.self.items c.in-Some.children
-    c.in-Some.ensures.items (c.loop-children.invariant.known f h) in
-    let others = others_known f c.loop-children.self.waiting.items c.pop.new.self.items c.in-Some.children
-    c.in-Some.ensures.items (c.loop-children.invariant.known f h) in
-    pushed_known f c.push-in-Some-split_first.new.self.items c.pop.new.self.items c.in-Some.children.now
-    c.in-Some-split_first.others c.in-Some-split_first.next.now c.in-Some-split_first.ensures.cases.0
-    c.in_ok-push-2.ensures.items known others
+pub returns-in-Some-clause-stands : goal.returns-in-Some-clause-stands
+returns-in-Some-clause-stands g c f h =
+    let now = c.loop-next in
+    open_sibling f now.self.waiting.items now.self.others c.in-Some.others c.in-Some.next.now _
+    c.in-Some.ensures.cases.0
+    (now.invariant.stands f (vec_capacity now.self.waiting)
+    (subst (λ room. IsOpen f c.args.self.now.waiting.items c.args.self.now.others None room)
+    (sym now.invariant.capacity) h))
 
-pub loop-children-preserved : goal.loop-children-preserved
-loop-children-preserved c = record {
-  text = λ v f. end_text v f c.loop-children.self.out c.push-in-Some.new.self
-      c.loop-children.self.waiting.items c.pop.new.self.items c.in-Some.children c.in-Some.ensures.items
-      (nil_from_length c.in-Some.children.now c.in_default-split_first.ensures.cases) c.in_ok-push-3.ensures
-      ∙ c.loop-children.invariant.text v f;
-  known = λ f h. others_known f c.loop-children.self.waiting.items c.pop.new.self.items c.in-Some.children
-      c.in-Some.ensures.items (c.loop-children.invariant.known f h);
-  grows = let g = c.loop-children.invariant.grows in
-      omega (arith, ap length c.in_ok-push-3.ensures, length-append c.loop-children.self.out (41 ∷ []));
-}
+pub returns-in_default-pop-clause-printed : goal.returns-in_default-pop-clause-printed
+returns-in_default-pop-clause-printed g c v f =
+    let now = c.loop-next in
+    let s = now.invariant.so_far v f in
+    let same = c.in_default-pop.ensures.items ∙ append-nil c.pop.new.self.items in (
+      s.0,
+      ap (λ ws. s.0 ++ left_text v f ws now.self.others) (sym same) ∙ s.1,
+      s.2,
+    )
+
+pub returns-in_err-push-2-clause-printed : goal.returns-in_err-push-2-clause-printed
+returns-in_err-push-2-clause-printed g c v f =
+    let now = c.loop-next in
+    let s = now.invariant.so_far v f in
+    let fault = c.in_err-push-2.field-0.0 in
+    let left = left_text v f c.pop.new.self.items c.in-Some-pop.outer in
+    printed_fails c.args.self.now.out c.push-in-loop-next.new.self c.push-in-loop-next.new.self _ _ (s.0 ++ codes ")")
+    left _ _ c.from_residual-in_err-push-2.result fault
+    (append_assoc s.0 (codes ")") left
+    ∙ (ap (λ t. s.0 ++ t) (end_text v f now.self.waiting.items c.pop.new.self.items now.self.others
+    c.in-Some-pop.outer c.in-Some-pop.ensures.items
+    (nil_from_length now.self.others.now c.in_default.ensures.cases))
+    ∙ s.1))
+    c.from_residual-in_err-push-2.ensures.1
+    (appended_twice c.args.self.now.out now.self.out c.push-in-loop-next.new.self _ _ _ s.0 (codes ")") tt (Err fault)
+    s.2 c.in_err-push-2.ensures.text)
+
+pub loop-next-preserved : goal.loop-next-preserved
+loop-next-preserved g c =
+    let now = c.loop-next in
+    let none = nil_from_length now.self.others.now c.in_default.ensures.cases in
+    let popped = c.in-Some-pop.ensures.items in record {
+      alone = alone_inside now.self.waiting.items c.pop.new.self.items now.self.others c.in-Some-pop.outer popped
+          now.invariant.alone;
+      so_far = λ v f.
+          let s = now.invariant.so_far v f in (
+            s.0 ++ codes ")",
+            append_assoc s.0 (codes ")") (left_text v f c.pop.new.self.items c.in-Some-pop.outer)
+                ∙ (ap (λ t. s.0 ++ t) (end_text v f now.self.waiting.items c.pop.new.self.items now.self.others
+                c.in-Some-pop.outer popped none)
+                ∙ s.1),
+            appended_twice c.args.self.now.out now.self.out c.push-in-loop-next.new.self _ _ _ s.0 (codes ")") tt
+                (Ok tt) s.2 c.in_ok-push-2.ensures.text,
+          );
+      counted = omega (
+        arith,
+        now.invariant.counted,
+        c.in_ok-push-2.ensures.counted,
+        ap length popped,
+        length-append c.pop.new.self.items (c.in-Some-pop.outer ∷ []),
+      );
+      stands = λ f room h. open_inside f now.self.waiting.items c.pop.new.self.items now.self.others
+          c.in-Some-pop.outer room popped (now.invariant.stands f room h);
+      capacity = c.pop.ensures.capacity ∙ now.invariant.capacity;
+      no_failure = c.in_ok-push-2.ensures.no_failure ∙ now.invariant.no_failure;
+    }

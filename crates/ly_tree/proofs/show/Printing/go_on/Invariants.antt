@@ -1,17 +1,25 @@
-use Rattle.std.proofs.Common.{◌≡◌, ◌≤◌, ◌++◌, length, vec_len}
+use Rattle.std.proofs.Common.{◌≡◌, ◌≤◌, ◌+◌, ◌++◌, ℕ, List, None, Ok, length, vec_capacity, vec_len}
+use Rattle.ly_base.specs.TextWriter.{bytes_of, IsAppended}
 use Rattle.ly_tree.specs.Forest.{Grown}
-use Rattle.ly_tree.specs.Private.Printing.{waiting_text, AllWaitingKnown}
+use Rattle.ly_tree.specs.Private.Printing.{left_text, IsAlone, IsOpen}
 use Rattle.ly_tree.specs.Shown.{Vocabulary}
 use Rattle.ly_tree.proofs.show.Printing.go_on.Given as goal
 
--- the text and what is left are what they were
-abbrev pub invariant-loop-children : goal.invariant-loop-children
-invariant-loop-children l = record {
-  text : (v : Vocabulary) (f : Grown) → l.self.out ++ waiting_text v f l.self.waiting.items
-      ≡ l.fn.self.out ++ waiting_text v f l.fn.self.waiting.items;
-  known : (f : Grown) → AllWaitingKnown f l.fn.self.waiting.items → AllWaitingKnown f l.self.waiting.items;
-  grows : length l.fn.self.out ≤ length l.self.out;
+-- what was printed and what is left are what was left
+abbrev pub invariant-loop-next : goal.invariant-loop-next
+invariant-loop-next g l = let sink = g.S.Sink in record {
+  alone : IsAlone l.self.waiting.items l.self.others;
+  so_far : (v : Vocabulary) (f : Grown) → (told : List ℕ)
+      × (told ++ left_text v f l.self.waiting.items l.self.others
+      ≡ left_text v f l.fn.self.waiting.items l.fn.self.others)
+      × IsAppended l.fn.self.out l.self.out (sink.contents l.fn.writer) (sink.contents l.writer) told (Ok tt);
+  counted : bytes_of l.self.out + length l.self.waiting.items
+      ≤ bytes_of l.fn.self.out + length l.fn.self.waiting.items;
+  stands : (f : Grown) (room : ℕ) → IsOpen f l.fn.self.waiting.items l.fn.self.others None room
+      → IsOpen f l.self.waiting.items l.self.others None room;
+  capacity : vec_capacity l.self.waiting ≡ vec_capacity l.fn.self.waiting;
+  no_failure : sink.failures l.writer ≡ sink.failures l.fn.writer;
 }
 
-abbrev pub decreases-loop-children : goal.decreases-loop-children
-decreases-loop-children l = vec_len l.self.waiting
+abbrev pub decreases-loop-next : goal.decreases-loop-next
+decreases-loop-next g l = vec_len l.self.waiting

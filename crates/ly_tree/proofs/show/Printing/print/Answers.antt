@@ -1,22 +1,180 @@
-use Rattle.std.proofs.Common.{◌∙◌, ◌++◌, ◌∷◌, [], ap}
-use Rattle.ly_tree.specs.Forest.{term_of}
-use Rattle.ly_tree.proofs.PrintingLemmas.{begin_text, pushed_known}
+use Rattle.std.proofs.Common.{◌∙◌, ◌++◌, ap, arith, length, length-append, subst, sym, Ok, Err, None}
+use Rattle.std.specs.Prelude.{Some, vec_capacity}
+use Rattle.std.proofs.lemmas.List.{nil_from_length}
+use Rattle.ly_tree.specs.Private.Printing.{left_text, next_text, opening, term_at, term_text, HasChildren, IsOpen}
+use Rattle.ly_tree.specs.Shown.{Vocabulary}
+use Rattle.ly_tree.proofs.PrintingLemmas.{child_text, childless_text, left_text-long, no_longer, open_around}
+use Rattle.ly_tree.proofs.PrintingLemmas.{open_sibling, opening_long, printed_fails, printed_on, whole_text}
+use Rattle.ly_tree.proofs.PrintingLemmas.{opened_before, shorter}
 use Rattle.ly_tree.proofs.show.Printing.print.Goals as goal
 
-pub returns-in-Some-clause-text : goal.returns-in-Some-clause-text
-returns-in-Some-clause-text g c =
-    begin_text (record {
+pub returns-in_err-children-clause-printed : goal.returns-in_err-children-clause-printed
+returns-in_err-children-clause-printed g c =
+    let v : Vocabulary = record {
       terminal = g.W.Words.terminals c.args.words.now;
       constructor = g.W.Words.constructors c.args.words.now;
-    }) c.args.forest.now c.args.self.now.out c.push_label.new.self c.args.self.now.waiting.items c.push.new.self.items
-    c.children_of-children.result.now c.in-Some.others c.args.term c.in-Some.first.now c.in-Node.rule
-    (ap (term_of c.args.forest.now) c.in-Node.is ∙ c.children_of-children.ensures.term) c.in-Some.ensures.cases.0
-    (c.in_ok-push_label-in-Node.ensures ∙ ap (λ label. c.args.self.now.out ++ label) (c.node_label.ensures
-    ∙ ap (λ rule. g.W.Words.constructors c.args.words.now rule ++ 40 ∷ []) c.from-in-Node.ensures))
-    c.in_ok-push-in-Node.ensures.items
+    } in
+    let more = opened_before v c.args.forest.now c.args.term
+    (left_text v c.args.forest.now c.args.self.now.waiting.items c.args.self.now.others) in
+    printed_fails c.args.self.now.out c.begin.new.out c.begin.new.out _ _
+    (opening v (term_at c.args.forest.now c.args.term)) more.0 _ _ c.from_residual.result c.in_err-children.field-0.0
+    more.1 c.from_residual.ensures.1 c.in_err-children.ensures.text
 
-pub returns-in-Some-clause-waiting : goal.returns-in-Some-clause-waiting
-returns-in-Some-clause-waiting g c =
-    pushed_known c.args.forest.now c.push.new.self.items c.args.self.now.waiting.items
-    c.children_of-children.result.now c.in-Some.others c.in-Some.first.now c.in-Some.ensures.cases.0
-    c.in_ok-push-in-Node.ensures.items c.children_of-children.ensures.known c.requires.waiting
+pub go_on-requires-clause-countable : goal.go_on-requires-clause-countable
+go_on-requires-clause-countable g c =
+    let v : Vocabulary = record {
+      terminal = g.W.Words.terminals c.args.words.now;
+      constructor = g.W.Words.constructors c.args.words.now;
+    } in
+    let f = c.args.forest.now in
+    let self = c.args.self.now in
+    let opened = opening v (term_at f c.args.term) in
+    omega (
+      arith,
+      c.requires.countable,
+      c.in_ok-children.ensures.counted,
+      left_text-long v f self.waiting.items self.others,
+      length-append opened (left_text v f self.waiting.items self.others),
+      ap length (whole_text v f self.waiting.items self.others c.args.term
+          (subst (HasChildren f c.args.term) c.in_default.is c.in_ok-children.ensures.children)),
+    )
+
+pub returns-in_default-clause-printed : goal.returns-in_default-clause-printed
+returns-in_default-clause-printed g c =
+    let v : Vocabulary = record {
+      terminal = g.W.Words.terminals c.args.words.now;
+      constructor = g.W.Words.constructors c.args.words.now;
+    } in
+    let f = c.args.forest.now in
+    let self = c.args.self.now in
+    printed_on self.out c.begin.new.out c.go_on.new.self.out _ _ _ (opening v (term_at f c.args.term)) _ _ _
+    c.go_on.result
+    (whole_text v f self.waiting.items self.others c.args.term
+    (subst (HasChildren f c.args.term) c.in_default.is c.in_ok-children.ensures.children))
+    c.in_ok-children.ensures.text (c.go_on.ensures.printed v f)
+
+pub returns-in_default-clause-grows : goal.returns-in_default-clause-grows
+returns-in_default-clause-grows g c =
+    let v : Vocabulary = record {
+      terminal = g.W.Words.terminals c.args.words.now;
+      constructor = g.W.Words.constructors c.args.words.now;
+    } in
+    let f = c.args.forest.now in
+    let self = c.args.self.now in
+    shorter (opening v (term_at f c.args.term)) _ _ _ c.go_on.result (opening_long v (term_at f c.args.term))
+    (whole_text v f self.waiting.items self.others c.args.term
+    (subst (HasChildren f c.args.term) c.in_default.is c.in_ok-children.ensures.children))
+    (no_longer _ _ _ _ _ _ c.go_on.result (c.go_on.ensures.printed v f))
+
+pub go_on-requires-in_default-split_first-clause-countable : goal.go_on-requires-in_default-split_first-clause-countable
+go_on-requires-in_default-split_first-clause-countable g c =
+    let v : Vocabulary = record {
+      terminal = g.W.Words.terminals c.args.words.now;
+      constructor = g.W.Words.constructors c.args.words.now;
+    } in
+    let f = c.args.forest.now in
+    let self = c.args.self.now in
+    let ws = c.push_reserved.new.self.items in
+    omega (
+      arith,
+      c.requires.countable,
+      c.in_ok-children.ensures.counted,
+      left_text-long v f ws c.in-Some.children,
+      length-append (opening v (term_at f c.args.term)) (left_text v f ws c.in-Some.children),
+      ap length (childless_text v f ws self.waiting.items self.others c.in-Some.children c.args.term
+          c.push_reserved.ensures.items
+          (subst (HasChildren f c.args.term) c.in-Some.is c.in_ok-children.ensures.children)
+          (nil_from_length c.in-Some.children.now c.in_default-split_first.ensures.cases)),
+    )
+
+pub returns-in_default-split_first-clause-printed : goal.returns-in_default-split_first-clause-printed
+returns-in_default-split_first-clause-printed g c =
+    let v : Vocabulary = record {
+      terminal = g.W.Words.terminals c.args.words.now;
+      constructor = g.W.Words.constructors c.args.words.now;
+    } in
+    let f = c.args.forest.now in
+    let self = c.args.self.now in
+    let end = c.go_on-in_default-split_first in
+    printed_on self.out c.begin.new.out end.new.self.out _ _ _ (opening v (term_at f c.args.term)) _ _ _ end.result
+    (childless_text v f c.push_reserved.new.self.items self.waiting.items self.others c.in-Some.children c.args.term
+    c.push_reserved.ensures.items
+    (subst (HasChildren f c.args.term) c.in-Some.is c.in_ok-children.ensures.children)
+    (nil_from_length c.in-Some.children.now c.in_default-split_first.ensures.cases))
+    c.in_ok-children.ensures.text (end.ensures.printed v f)
+
+pub returns-in_default-split_first-clause-grows : goal.returns-in_default-split_first-clause-grows
+returns-in_default-split_first-clause-grows g c =
+    let v : Vocabulary = record {
+      terminal = g.W.Words.terminals c.args.words.now;
+      constructor = g.W.Words.constructors c.args.words.now;
+    } in
+    let f = c.args.forest.now in
+    let self = c.args.self.now in
+    let end = c.go_on-in_default-split_first in
+    shorter (opening v (term_at f c.args.term)) _ _ _ end.result (opening_long v (term_at f c.args.term))
+    (childless_text v f c.push_reserved.new.self.items self.waiting.items self.others c.in-Some.children c.args.term
+    c.push_reserved.ensures.items
+    (subst (HasChildren f c.args.term) c.in-Some.is c.in_ok-children.ensures.children)
+    (nil_from_length c.in-Some.children.now c.in_default-split_first.ensures.cases))
+    (no_longer _ _ _ _ _ _ end.result (end.ensures.printed v f))
+
+pub returns-in_default-split_first-clause-stands : goal.returns-in_default-split_first-clause-stands
+returns-in_default-split_first-clause-stands g c =
+    let f = c.args.forest.now in
+    let self = c.args.self.now in
+    c.go_on-in_default-split_first.ensures.stands f
+    (open_around f c.push_reserved.new.self.items self.waiting.items self.others c.in-Some.children c.args.term _
+    c.push_reserved.ensures.items
+    (subst (HasChildren f c.args.term) c.in-Some.is c.in_ok-children.ensures.children)
+    (subst (λ room. IsOpen f self.waiting.items self.others (Some c.args.term) room)
+    (sym c.push_reserved.ensures.capacity) c.requires.stands))
+
+pub returns-clause-printed : goal.returns-clause-printed
+returns-clause-printed g c =
+    let v : Vocabulary = record {
+      terminal = g.W.Words.terminals c.args.words.now;
+      constructor = g.W.Words.constructors c.args.words.now;
+    } in
+    let f = c.args.forest.now in
+    let self = c.args.self.now in (
+      opening v (term_at f c.args.term),
+      child_text v f c.push_reserved.new.self.items self.waiting.items self.others c.in-Some.children
+          c.in-Some-split_first.others c.args.term c.in-Some-split_first.first.now c.push_reserved.ensures.items
+          (subst (HasChildren f c.args.term) c.in-Some.is c.in_ok-children.ensures.children)
+          c.in-Some-split_first.ensures.cases.0,
+      c.in_ok-children.ensures.text,
+    )
+
+pub returns-clause-grows : goal.returns-clause-grows
+returns-clause-grows g c =
+    let v : Vocabulary = record {
+      terminal = g.W.Words.terminals c.args.words.now;
+      constructor = g.W.Words.constructors c.args.words.now;
+    } in
+    let f = c.args.forest.now in
+    let self = c.args.self.now in
+    let opened = opening v (term_at f c.args.term) in
+    let left = term_text v f c.in-Some-split_first.first.now
+    ++ left_text v f c.push_reserved.new.self.items c.in-Some-split_first.others in
+    omega (
+      arith,
+      opening_long v (term_at f c.args.term),
+      length-append opened left,
+      ap length (child_text v f c.push_reserved.new.self.items self.waiting.items self.others c.in-Some.children
+          c.in-Some-split_first.others c.args.term c.in-Some-split_first.first.now c.push_reserved.ensures.items
+          (subst (HasChildren f c.args.term) c.in-Some.is c.in_ok-children.ensures.children)
+          c.in-Some-split_first.ensures.cases.0),
+    )
+
+pub returns-clause-stands : goal.returns-clause-stands
+returns-clause-stands g c =
+    let f = c.args.forest.now in
+    let self = c.args.self.now in
+    open_sibling f c.push_reserved.new.self.items c.in-Some.children c.in-Some-split_first.others
+    c.in-Some-split_first.first.now _ c.in-Some-split_first.ensures.cases.0
+    (open_around f c.push_reserved.new.self.items self.waiting.items self.others c.in-Some.children c.args.term _
+    c.push_reserved.ensures.items
+    (subst (HasChildren f c.args.term) c.in-Some.is c.in_ok-children.ensures.children)
+    (subst (λ room. IsOpen f self.waiting.items self.others (Some c.args.term) room)
+    (sym c.push_reserved.ensures.capacity) c.requires.stands))

@@ -1,0 +1,33 @@
+use Rattle.std.proofs.Common.{◌≡◌, ◌++◌, ◌∷◌, ℕ, List, [], None, Ok, length, vec_capacity}
+use Rattle.ly_base.specs.Bytes.{newline}
+use Rattle.ly_base.specs.TextWriter.{IsAppended}
+use Rattle.ly_tree.specs.Private.Printing.{left_text, next_text, IsOpen}
+use Rattle.ly_tree.specs.Shown.{Vocabulary}
+use Rattle.ly_tree.proofs.show.TermLine.write.Given as goal
+
+-- what was printed, what is left and a newline are the whole line
+abbrev pub invariant-loop-next : goal.invariant-loop-next
+invariant-loop-next g l =
+    let v : Vocabulary = record {
+      terminal = g.W.Words.terminals l.words;
+      constructor = g.W.Words.constructors l.words;
+    } in
+    let sink = g.S.Sink in
+    record {
+      so_far : (told : List ℕ)
+          × ((told ++ (next_text v l.forest l.next
+          ++ left_text v l.forest l.printing.waiting.items l.printing.others)) ++ newline ∷ [] ≡ l.fn.self)
+          × IsAppended (record { sent = 0; held = [] }) l.printing.out (sink.contents l.fn.writer)
+          (sink.contents l.writer) told (Ok tt);
+      stands : IsOpen l.forest l.printing.waiting.items l.printing.others l.next (vec_capacity l.printing.waiting);
+      ends : l.next ≡ None → l.printing.waiting.items ≡ [];
+      no_failure : sink.failures l.writer ≡ sink.failures l.fn.writer;
+    }
+
+abbrev pub decreases-loop-next : goal.decreases-loop-next
+decreases-loop-next g l =
+    let v : Vocabulary = record {
+      terminal = g.W.Words.terminals l.words;
+      constructor = g.W.Words.constructors l.words;
+    } in
+    length (next_text v l.forest l.next ++ left_text v l.forest l.printing.waiting.items l.printing.others)

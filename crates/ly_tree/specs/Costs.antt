@@ -1,0 +1,27 @@
+-- What a term costs: so much for each term that it consists of, itself among them, and so much for each byte of its
+-- leaves. So many sums over terms are one: how many terms there are, how many bytes, how long a printed text may be.
+use Rattle.std.specs.Prelude.{ℕ, ◌≤◌, ◌+◌, ◌*◌, length, map, sum}
+use Rattle.ly_tree.specs.Forest.{Grown, Leaves}
+use Rattle.ly_tree.specs.Term.{Term, Terms, nothing, leaf, built, none, more}
+
+abbrev mutual
+  pub cost : ℕ → ℕ → Term → ℕ
+  cost each byte nothing = each
+  cost each byte (leaf t bytes) = each + byte * length bytes
+  cost each byte (built p ts) = each + costs each byte ts
+
+  pub costs : ℕ → ℕ → Terms → ℕ
+  costs each byte none = 0
+  costs each byte (more t ts) = cost each byte t + costs each byte ts
+
+-- how many bytes the leaves of a forest have
+abbrev pub bytes_in : Leaves → ℕ
+bytes_in l = length l.texts + sum (map (λ t. cost 0 1 t) l.long)
+
+-- what a forest can pay: for a term for each of its children, and for each byte of its leaves
+abbrev pub budget : ℕ → ℕ → Grown → ℕ
+budget each byte f = each * length f.children + byte * bytes_in f.leaves
+
+-- A forest pays for a term, which is no child itself: none of its parts is used twice.
+abbrev pub IsPaid : Grown → Term → Type 0
+IsPaid f t = (each byte : ℕ) → cost each byte t ≤ each + budget each byte f
