@@ -6,6 +6,7 @@ pub mod LabelLemmas
 pub mod LexingLemmas
 pub mod ListLemmas
 pub mod OneVerdictLemmas
+pub mod PassingLemmas
 pub mod RunningLemmas
 pub mod ScanTableLemmas
 pub mod TablesLemmas

@@ -1,3 +1,4 @@
 pub mod Labels
+pub mod Passing
 pub mod Running
 pub mod Tables

@@ -4,8 +4,9 @@ ghost use Rattle.std.specs.Io.KnownBytes.{Appends};
 ghost use Rattle.ly_base.specs.Device.{next_count};
 ghost use Rattle.ly_base.specs.Lexed.{Place as Spot};
 ghost use Rattle.ly_scan.specs.Lexer.{IsLexemeAt, ScanEndsAt};
-ghost use Rattle.ly_drive.specs.ScanPart.{scanner_in, terminal_by, terminal_in};
-ghost use Rattle.ly_pack.specs.Machine.{IsMachine};
+ghost use Rattle.ly_drive.specs.ScanPart.{ScanPart, scanner_in, terminal_by, terminal_in};
+ghost use Rattle.ly_pack.specs.Machine.{Machine, IsMachine};
+ghost use Rattle.ly_parse.specs.Parse.{Parse};
 ghost use Rattle.ly_pack.specs.Steady.{IsSteady};
 ghost use Rattle.ly_tables.specs.Ranges.{version_1, IsWithinRanges};
 ghost use Rattle.ly_tables.specs.TableSet.{machine_of};
@@ -13,6 +14,7 @@ ghost use Rattle.ly_tables.specs.Values.{set_of};
 ghost use Rattle.ly_base.specs.TextWriter.{IsCutShort};
 ghost use Rattle.ly_drive.specs.DriveFault.{IsBeforeWriting, IsOfAnswering, IsWrite};
 ghost use Rattle.ly_drive.specs.declared.outcome.Outcome.{Outcome as Answered};
+ghost use Rattle.ly_drive.specs.Private.Passing.{AreBlanks};
 ghost use Rattle.ly_drive.specs.Private.Running.{words_in, CanRun, IsFed, IsLast, IsRun, IsTaken, StandsAt};
 ghost use Rattle.ly_drive.specs.TableAnswer.{IsVerdict, TableAnswer};
 ghost use Rattle.ly_drive.specs.Verdict.{faulty};
@@ -26,7 +28,7 @@ use crate::tables::Tables;
 use ly_base::{Emitted, End, Front, Lexeme, Place, ScanAction, Sink, StateNo, write_whole};
 use ly_pack::{Comb, TableAction};
 use ly_parse::{ParseFault, Parser, Step, Token};
-use ly_scan::next_lexeme;
+use ly_scan::{LoneBytes, next_lexeme};
 use ly_tables::TableParts;
 use ly_tree::{Forest, TermRef};
 use std::alloc::Global;
@@ -83,9 +85,11 @@ fn run(alloc: Global, tables: &Tables, text: &[u8]) -> Result<Ended, DriveFault>
     ensures { IsRun tables.now text.now result }
 {
     let mut steps = TableWalk::new(&tables.scanner);
+    let lone = LoneBytes::find(alloc, &mut steps, &tables.scanner.passed(alloc)?)?;
     let mut place = Place::start(text);
     let mut parser = Parser::new(alloc, &tables.machine);
     loop {
+        pass_over(&lone, &mut place);
         let lexeme = match next_lexeme(&mut steps, &place) {
             Ok(lexeme) => lexeme,
             Err(end) => return finish(alloc, tables, parser, end, text.len() as u64),
@@ -95,6 +99,19 @@ fn run(alloc: Global, tables: &Tables, text: &[u8]) -> Result<Ended, DriveFault>
             return Ok(Ended::Told(outcome, line));
         }
         place.advance(lexeme.taken, begin);
+    }
+}
+
+/// Passes over lexemes of one byte of which nothing comes, as long as one is known to stand at a place. A branch asks for
+/// them, since between the words of most texts it is mostly guessed right.
+#[inline(always)]
+fn pass_over(lone: &LoneBytes, place: &mut Place<'_>)
+    ensures stands { (p : ScanPart) (m : Machine) (text : List ℕ) (parse : Parse) → AreBlanks p lone.now
+        → StandsAt p m text place.old parse → StandsAt p m text place.new parse }
+    ensures left { length place.new.rest ≤ length place.old.rest }
+{
+    while lone.at(place) {
+        place.advance(1, None);
     }
 }
 

@@ -3,6 +3,7 @@ ghost use Rattle.std.specs.Prelude.{◌≡◌, ◌<◌, ◌≤◌, ◌*◌, ℕ,
 ghost use Rattle.std.specs.Prelude.{List, None, option_map, slice_index_or};
 ghost use Rattle.ly_base.specs.declared.cut.Cut.TheVariants.{Whole};
 ghost use Rattle.ly_drive.specs.ScanPart.{condition_in, cut_in, next_in, rule_in, start_in, states_from, states_in};
+ghost use Rattle.ly_drive.specs.Private.Passing.{ArePassedOver, IsPassedOver};
 ghost use Rattle.ly_drive.specs.ScanPart.{terminal_by, terminal_in};
 ghost use Rattle.ly_pack.specs.Rows.{comb_entry, Used};
 ghost use Rattle.ly_scan.specs.StateRows.{row_entry, state_at, Begins};
@@ -128,6 +129,29 @@ impl ScanTable {
                 emits: Emitted::Nothing,
             },
         }
+    }
+
+    /// For each rule whether its lexemes are passed over. It may say no of one, as where there are more rules than
+    /// numbers.
+    pub(crate) fn passed(&self, alloc: Global) -> Result<Vec<bool>, OutOfMemory>
+        ensures { IfOk result (λ passed. ArePassedOver self.now passed.items) }
+    {
+        let mut passed = Vec::new(alloc);
+        let Ok(count) = u32::try_from(self.rules.len()) else {
+            return Ok(passed);
+        };
+        for number in 0..count {
+            passed.push(self.passes_over(RuleNo(number)))?;
+        }
+        Ok(passed)
+    }
+
+    /// Whether nothing comes of the lexemes of a rule.
+    fn passes_over(&self, rule: RuleNo) -> bool
+        ensures { OnTrue result (IsPassedOver self.now rule.0) }
+    {
+        let ScanAction { begin, emits } = self.action(rule);
+        begin.is_none() && matches!(emits, Emitted::Nothing)
     }
 
     /// The terminal of a token of these bytes, if one comes of them.

@@ -11,7 +11,7 @@ use Rattle.ly_base.specs.declared.lexeme.End.{End}
 use Rattle.ly_base.specs.declared.lexeme.Lexeme.{Lexeme}
 use Rattle.ly_base.specs.TextWriter.{IsAppended, IsCutShort, IsUnderway, Outgoing}
 use Rattle.ly_base.specs.declared.whole.WriteFault.{WriteFault}
-use Rattle.ly_base.proofs.TextWriterLemmas.{cut_more}
+use Rattle.ly_base.proofs.TextWriterLemmas.{cut_from, cut_more}
 use Rattle.ly_base.proofs.LexedLemmas.{leads_more, leads_on, tokens_more}
 use Rattle.ly_lexread.specs.declared.action.Action.{Action}
 use Rattle.ly_lexread.specs.declared.action.Returned.{Returned}
@@ -141,25 +141,6 @@ begins actions s p q told f =
       ),
     )
 
--- nothing is on its way yet
-pub nothing_yet : (c : Option (List ℕ)) → IsUnderway c c (record { sent = 0; held = [] }) []
-nothing_yet None = record { within = omega arith; went_out = tt; held_back = refl }
-nothing_yet (Some bytes) = record { within = omega arith; went_out = sym (append-nil bytes); held_back = refl }
-
-module _ (o o' : Outgoing) (before now : Option (List ℕ)) (lines : List ℕ) (none : o ≡ record { sent = 0; held = [] })
-  where
-    -- all that has come is on its way
-    pub underway_from : IsAppended o o' before now lines (Ok tt) → IsUnderway before now o' lines
-    underway_from come
-        = subst (λ (x : Outgoing). IsAppended x o' before now lines (Ok tt)) none come before [] (nothing_yet before)
-
-    -- the writer failed: only a beginning of it went out
-    pub cut_from : (fault : WriteFault) → IsAppended o o' before now lines (Err fault)
-        → IsCutShort before now fault.written lines
-    cut_from fault come
-        = subst (λ (x : Outgoing). IsAppended x o' before now lines (Err fault)) none come before []
-        (nothing_yet before)
-
 -- the writer failed at the lines of a beginning: what went out is a beginning of the lines to some end
 pub fails_at : (actions : List Action) (s : Scanner) (p q : Place) (told : List ℕ) (o o' : Outgoing)
     (before now : Option (List ℕ)) (fault : WriteFault) → o ≡ record { sent = 0; held = [] } → SoFar actions s p q told
@@ -175,9 +156,3 @@ fails_at actions s p q told o o' before now fault none f failed =
             (cut_from o o' before now told none fault failed),
       ),
     )
-
--- the `?` passes a fault on
-pub err_is : {T : Type 0} (r : Result T WriteFault) (f : WriteFault) (P : WriteFault → Type 0)
-    → IsErrAnd r (λ e. e ≡ f) → P f → IfErr r P
-err_is (Ok x) f P h p = tt
-err_is (Err e) f P h p = subst P (sym h) p

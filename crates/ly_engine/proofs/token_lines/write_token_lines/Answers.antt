@@ -1,12 +1,12 @@
 use Rattle.std.proofs.Common.{◌∙◌, ◌++◌, Err, Ok, ap, arith, length, refl, take, ◌*◌}
 use Rattle.std.proofs.Math.Nat.{mul-le-mul_right}
 use Rattle.ly_base.specs.Lexed.{Place, moved, start_of}
-use Rattle.ly_base.proofs.TextWriterLemmas.{appended_twice}
+use Rattle.ly_base.proofs.TextWriterLemmas.{appended_twice, cut_from, err_is, underway_from}
 use Rattle.ly_scan.specs.Lexer.{Scanner}
 use Rattle.ly_engine.specs.Printing.{condition_set, end_line, line_if, naming}
 use Rattle.ly_engine.specs.Private.TokenLines.{bytes_each}
 use Rattle.ly_engine.proofs.LineLemmas.{line_left}
-use Rattle.ly_engine.proofs.PrintingLemmas.{all_told, cut_from, err_is, fails_at, one_more, scanner_of, underway_from}
+use Rattle.ly_engine.proofs.PrintingLemmas.{all_told, fails_at, one_more, scanner_of}
 use Rattle.ly_engine.proofs.token_lines.write_token_lines.Goals as goal
 
 pub push_token-requires-clause-countable : goal.push_token-requires-clause-countable
