@@ -84,6 +84,12 @@ all_behind o n n' n'' sent sent' bytes (Err fault) gone counted more counted' pa
     held_cut b n' n'' (record { sent = sent; held = bytes }) fault.written (text ++ bytes)
     (held_more b n' (record { sent = sent; held = [] }) text bytes (held_gone b n n' o sent text u gone counted)) part
 
+-- what was held back goes out, and the bytes are held back
+all_held : (o : Outgoing) (n n' : Option (List ℕ)) (sent : ℕ) (bytes : List ℕ) → Appends n n' o.held
+    → sent ≡ o.sent + length o.held → IsAppended o (record { sent = sent; held = bytes }) n n' bytes (Ok tt)
+all_held o n n' sent bytes gone counted = λ b text u.
+    held_more b n' (record { sent = sent; held = [] }) text bytes (held_gone b n n' o sent text u gone counted)
+
 -- all that was held back goes out at last, or the writer fails
 all_last : (b n m : Option (List ℕ)) (o : Outgoing) (text : List ℕ) (r : Result (Unit {0}) WriteFault)
     → IsUnderway b n o text → OnOk r (Appends n m o.held)
@@ -110,6 +116,15 @@ module _ (o : Outgoing) (sent : ℕ) (held : List ℕ) (same_sent : sent ≡ o.s
   goes_behind n n' n'' sent' sent'' bytes r gone counted more counted' part =
       subst (λ o. IsAppended o (record { sent = sent''; held = [] }) n n'' bytes r) same
       (all_behind (record { sent = sent; held = held }) n n' n'' sent' sent'' bytes r gone counted more counted' part)
+
+  -- what was held back goes out, and the bytes are held back
+  pub held_behind : (n n' : Option (List ℕ)) (sent' : ℕ) (held' bytes : List ℕ) → Appends n n' held
+      → sent' ≡ sent + length held → held' ≡ bytes
+      → IsAppended o (record { sent = sent'; held = held' }) n n' bytes (Ok tt)
+  held_behind n n' sent' held' bytes gone counted is =
+      subst (λ h. IsAppended o (record { sent = sent'; held = h }) n n' bytes (Ok tt)) (sym is)
+      (subst (λ o. IsAppended o (record { sent = sent'; held = bytes }) n n' bytes (Ok tt)) same
+      (all_held (record { sent = sent; held = held }) n n' sent' bytes gone counted))
 
   -- the writer fails at what was held back, before the bytes
   pub fails_behind : (o' : Outgoing) (n n' : Option (List ℕ)) (bytes : List ℕ) (fault : WriteFault)

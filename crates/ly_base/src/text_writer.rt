@@ -262,7 +262,8 @@ impl TextWriter {
         self.push(writer, b'\n')
     }
 
-    /// Appends bytes for which the room has no place left.
+    /// Appends bytes for which the room has no place left. What is held back goes out, and the bytes are held back in
+    /// its place. They go out at once only where the whole room is too short for them.
     #[cold]
     fn push_behind<W: Sink>(&mut self, writer: &mut W, bytes: &[u8]) -> Result<(), WriteFault>
         requires countable { bytes_of self.old + length bytes.now < 2 ^ 64 }
@@ -273,7 +274,11 @@ impl TextWriter {
     {
         send(&mut self.sent, writer, &self.room[..self.used])?;
         self.used = 0;
-        send(&mut self.sent, writer, bytes)
+        if bytes.len() > self.room.len() {
+            return send(&mut self.sent, writer, bytes);
+        }
+        self.used = put_bytes(&mut self.room, 0, bytes);
+        Ok(())
     }
 
     /// Appends a label and a text behind it, for which the room may have no place left.
@@ -291,7 +296,7 @@ impl TextWriter {
         ensures no_failure { OnOk result (W.failures writer.new ≡ W.failures writer.old) }
         ensures failed { OnErr result (W.failures writer.new ≡ next_count (W.failures writer.old)) }
     {
-        // what comes behind it has the whole room then
+        // the room holds the label at most then
         self.push_behind(writer, label)?;
         self.push_escaped(writer, b'"', text)?;
         self.push(writer, b'"')
