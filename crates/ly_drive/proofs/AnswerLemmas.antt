@@ -1,11 +1,10 @@
 -- The answer by the tables of a set.
-use Rattle.std.proofs.Common.{◌≡◌, ◌∙◌, ◌<◌, ◌≤◌, ℕ, List, [], ◌∷◌, ◌++◌, All, Some, None, Ok, Err}
+use Rattle.std.proofs.Common.{◌≡◌, ◌∙◌, ◌<◌, ◌≤◌, ℕ, List, [], ◌∷◌, ◌++◌, Some, None, Ok, Err}
 use Rattle.std.proofs.Common.{Option, ap, ap₂, arith}
-use Rattle.std.proofs.Common.{inl, inr, length, map, refl, slice_get, subst, sym}
+use Rattle.std.proofs.Common.{length, map, refl, slice_get, subst, sym}
 use Rattle.std.specs.Int.{w16}
 use Rattle.std.specs.Io.KnownBytes.{Appends}
 use Rattle.std.specs.Prelude.{IfOk, IfSome, IsErrAnd, Result, option_and_then, slice_index}
-use Rattle.std.proofs.lemmas.Option.{slice_get_cases}
 use Rattle.ly_base.specs.Bytes.{newline}
 use Rattle.ly_base.specs.declared.scan_action.Emitted.{Emitted}
 use Rattle.ly_base.specs.declared.scan_action.Emitted.TheVariants.{FirstByte, Nothing, Terminal}

@@ -1,7 +1,7 @@
 -- What is left to print, as the code takes it apart.
 use Rattle.std.proofs.Common.{◌≡◌, ℕ, ◌<◌, ◌≤◌, ◌+◌, List, [], ◌∷◌, ◌++◌, length, arith, Option, Result, Ok, Err}
 use Rattle.std.proofs.Common.{refl, sym, ap, ◌∙◌, subst, append_assoc, append-nil, length-append, IsErrAnd, Some, None}
-use Rattle.std.specs.Prelude.{All, IfErr, IfOk, MatchResult, OnOk, IsSome, codes, unwrap_or}
+use Rattle.std.specs.Prelude.{All, IfErr, IfOk, MatchResult, OnOk, codes, unwrap_or}
 use Rattle.std.specs.Borrow.{Bor}
 use Rattle.std.proofs.lemmas.List.Elements.{All-push}
 use Rattle.std.proofs.Math.ListN.{get_or-append}
@@ -12,12 +12,12 @@ use Rattle.ly_base.specs.Text.{escaped}
 use Rattle.ly_base.specs.TextWriter.{IsAppended, IsCutShort, IsUnderway, Outgoing, bytes_of}
 use Rattle.ly_base.specs.declared.whole.WriteFault.{WriteFault}
 use Rattle.ly_tree.proofs.StandLemmas.{known_front, known_rest}
-use Rattle.ly_tree.specs.Costs.{cost, costs}
-use Rattle.ly_tree.specs.Forest.{term_of, terms_of, Grown, StandsFor}
+use Rattle.ly_tree.specs.Costs.{cost}
+use Rattle.ly_tree.specs.Forest.{terms_of, Grown, StandsFor}
 use Rattle.ly_tree.specs.Private.Grown.{AllKnown}
 use Rattle.ly_tree.specs.Private.Printing.{all_left_of, begun, left_of, left_text, next_text, opening, tail_text}
 use Rattle.ly_tree.specs.Private.Printing.{term_at, term_text, waiting_text, AllWaitingKnown, HasChildren, IsAlone}
-use Rattle.ly_tree.specs.Private.Printing.{IsOpen, IsPrinted, IsPut}
+use Rattle.ly_tree.specs.Private.Printing.{IsOpen, IsPrinted}
 use Rattle.ly_tree.specs.Shown.{shown, shown_all, Vocabulary}
 use Rattle.ly_tree.specs.Term.{Term, nothing, leaf, built}
 use Rattle.ly_tree.specs.declared.forest.TermRef.{TermRef}

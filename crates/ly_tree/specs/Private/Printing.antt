@@ -1,5 +1,5 @@
 -- What is left to print of a term, and the room that this takes.
-use Rattle.std.specs.Prelude.{◌≡◌, ◌<◌, ◌≤◌, ◌+◌, ℕ, List, [], ◌∷◌, ◌++◌, All, IfSome, IsSome, Option, None, Some, Result}
+use Rattle.std.specs.Prelude.{◌≡◌, ◌≤◌, ◌+◌, ℕ, List, [], ◌∷◌, ◌++◌, All, IfSome, IsSome, Option, None, Some, Result}
 use Rattle.std.specs.Prelude.{Ok, Err, codes, length, unwrap_or}
 use Rattle.std.specs.Borrow.{Bor}
 use Rattle.ly_base.specs.Text.{leaf_of, token}

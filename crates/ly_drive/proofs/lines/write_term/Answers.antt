@@ -1,4 +1,4 @@
-use Rattle.std.proofs.Common.{◌∙◌, ◌++◌, ◌∷◌, [], ap, subst, sym}
+use Rattle.std.proofs.Common.{◌∙◌, ◌++◌, ◌∷◌, [], ap, subst}
 use Rattle.std.specs.Io.KnownBytes.{Appends}
 use Rattle.ly_base.specs.Bytes.{newline}
 use Rattle.ly_base.specs.TextWriter.{IsCutShort}

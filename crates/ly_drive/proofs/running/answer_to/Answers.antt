@@ -1,6 +1,5 @@
-use Rattle.std.proofs.Common.{◌∙◌, ◌++◌, ◌∷◌, [], Err, ap, refl, subst, sym}
+use Rattle.std.proofs.Common.{◌++◌, ◌∷◌, [], Err, ap, refl, subst}
 use Rattle.ly_base.specs.Bytes.{newline}
-use Rattle.ly_base.specs.TextWriter.{IsCutShort}
 use Rattle.std.specs.Io.KnownBytes.{Appends}
 use Rattle.ly_drive.proofs.AnswerLemmas.{accepted_term, can_run, fault_is, paid_there, term_answer, told_answer}
 use Rattle.ly_drive.proofs.FaultLemmas.{cut_short, same_count, same_fault}

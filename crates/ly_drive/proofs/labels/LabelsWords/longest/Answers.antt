@@ -1,4 +1,4 @@
-use Rattle.std.proofs.Common.{◌∙◌, ◌≤◌, All, ap, arith, length, map, subst, sym}
+use Rattle.std.proofs.Common.{◌∙◌, ap, arith, length, map}
 use Rattle.ly_drive.proofs.LabelLemmas.{all_more, leaf_within, node_within}
 use Rattle.ly_pack.specs.Values.{rule_from}
 use Rattle.ly_drive.proofs.labels.LabelsWords.longest.Goals as goal

@@ -2,7 +2,7 @@ use Rattle.std.proofs.Common.{◌∙◌, ◌∷◌, [], ◌++◌, ap, append_ass
 use Rattle.std.specs.Prelude.{vec_capacity}
 use Rattle.ly_base.proofs.TextWriterLemmas.{appended_twice}
 use Rattle.ly_tree.specs.Private.Printing.{left_text, term_text, IsOpen}
-use Rattle.ly_tree.proofs.PrintingLemmas.{alone_inside, end_text, has_node, nothing_appended, open_inside, open_sibling}
+use Rattle.ly_tree.proofs.PrintingLemmas.{alone_inside, end_text, open_inside, open_sibling}
 use Rattle.ly_tree.proofs.PrintingLemmas.{printed_fails, sibling_text}
 use Rattle.std.proofs.lemmas.List.{nil_from_length}
 use Rattle.ly_tree.proofs.show.Printing.go_on.Goals as goal

@@ -1,7 +1,7 @@
-use Rattle.std.proofs.Common.{◌∙◌, ◌++◌, ap, arith, length, length-append, subst, sym, Ok, Err, None}
-use Rattle.std.specs.Prelude.{Some, vec_capacity}
+use Rattle.std.proofs.Common.{◌++◌, ap, arith, length, length-append, subst, sym}
+use Rattle.std.specs.Prelude.{Some}
 use Rattle.std.proofs.lemmas.List.{nil_from_length}
-use Rattle.ly_tree.specs.Private.Printing.{left_text, next_text, opening, term_at, term_text, HasChildren, IsOpen}
+use Rattle.ly_tree.specs.Private.Printing.{left_text, opening, term_at, term_text, HasChildren, IsOpen}
 use Rattle.ly_tree.specs.Shown.{Vocabulary}
 use Rattle.ly_tree.proofs.PrintingLemmas.{child_text, childless_text, left_text-long, no_longer, open_around}
 use Rattle.ly_tree.proofs.PrintingLemmas.{open_sibling, opening_long, printed_fails, printed_on, whole_text}
