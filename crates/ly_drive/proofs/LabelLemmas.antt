@@ -1,5 +1,6 @@
 -- Labels by the numbers of rules.
-use Rattle.std.proofs.Common.{◌≡◌, ◌∙◌, ◌<◌, ◌≤◌, [], ℕ, List, None, Option, Some, ap, arith, get_or, length, map, refl, subst}
+use Rattle.std.proofs.Common.{◌≡◌, ◌∙◌, ◌<◌, ◌≤◌, [], ℕ, List, None, Option, Some}
+use Rattle.std.proofs.Common.{ap, arith, get_or, length, map, refl, subst}
 use Rattle.std.proofs.Common.{suc, sym}
 use Rattle.std.proofs.Common.{zero}
 use Rattle.std.specs.Prelude.{option_map, slice_get, unwrap_or, All}

@@ -102,8 +102,8 @@ fn run(alloc: Global, tables: &Tables, text: &[u8]) -> Result<Ended, DriveFault>
     }
 }
 
-/// Passes over lexemes of one byte of which nothing comes, as long as one is known to stand at a place. A branch asks for
-/// them, since between the words of most texts it is mostly guessed right.
+/// Passes over lexemes of one byte of which nothing comes, as long as one is known to stand at a place. A branch asks
+/// for them, since between the words of most texts it is mostly guessed right.
 #[inline(always)]
 fn pass_over(lone: &LoneBytes, place: &mut Place<'_>)
     ensures stands { (p : ScanPart) (m : Machine) (text : List ℕ) (parse : Parse) → AreBlanks p lone.now

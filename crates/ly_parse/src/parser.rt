@@ -135,8 +135,8 @@ impl<'a, A: Rows<TableAction> + Drop, G: Rows<StateNo> + Drop> Parser<'a, A, G> 
     }
 
     /// Takes the end of the text, which stands at this byte: makes the reductions before it, and then accepts or
-    /// refuses it. The parse is over then. The term that it accepts with uses no part of the forest twice, so the forest
-    /// says how much there is to print.
+    /// refuses it. The parse is over then. The term that it accepts with uses no part of the forest twice, so the
+    /// forest says how much there is to print.
     ///
     /// Its faults are those of `ParseFault`.
     pub fn end(&mut self, at: u64) -> Result<Step, ParseFault>

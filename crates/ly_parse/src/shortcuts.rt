@@ -41,7 +41,8 @@ impl<O: Origin> Shortcuts<O> {
         self.places.get(from.numbers().place())?.shortcut(from)
     }
 
-    /// Keeps a shortcut at its place, unless one of its numbers is past `u16::MAX`: the tables are asked then each time.
+    /// Keeps a shortcut at its place, unless one of its numbers is past `u16::MAX`: the tables are then asked each
+    /// time.
     pub(crate) fn keep(&mut self, shortcut: Shortcut<O>) -> Result<(), OutOfMemory>
         ensures { (m : Tables) → AreShortcuts O.origin_of (O.leads m) self.old
             → O.leads m shortcut.from shortcut.state.0 (action_from shortcut.action)

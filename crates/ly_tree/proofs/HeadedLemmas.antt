@@ -130,7 +130,8 @@ members_counted {H} {T} s (h ∷ hs) ms n is fit =
     let count = h.end - s in
     let within : h.end ≤ n = ends_within h.end hs n fit.1 in
     let rises : s ≤ h.end = fit.0 in
-    let rest = members_counted h.end hs (drop count ms) n (omega (arith, is, within, rises, length-drop count ms)) fit.1 in
+    let counted : n ≡ h.end + length (drop count ms) = omega (arith, is, within, rises, length-drop count ms) in
+    let rest = members_counted h.end hs (drop count ms) n counted fit.1 in
     omega (
       arith,
       rest,

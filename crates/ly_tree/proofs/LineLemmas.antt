@@ -1,6 +1,6 @@
 -- How long the line of a term may be, and how many terms wait while it is printed.
-use Rattle.std.proofs.Common.{◌≡◌, ℕ, ◌+◌, ◌*◌, ◌<◌, ◌≤◌, List, [], ◌∷◌, ◌++◌, length, map, arith, Some, None, refl, sym}
-use Rattle.std.proofs.Common.{ap, ◌∙◌, subst, length-append}
+use Rattle.std.proofs.Common.{◌≡◌, ℕ, ◌+◌, ◌*◌, ◌<◌, ◌≤◌, List, [], ◌∷◌, ◌++◌, length, map, arith, Some, None}
+use Rattle.std.proofs.Common.{refl, sym, ap, ◌∙◌, subst, length-append}
 use Rattle.std.proofs.lemmas.List.Sums.{sum_by-cons}
 use Rattle.std.specs.Borrow.{Bor}
 use Rattle.std.specs.Option.{SomeIff}
@@ -46,8 +46,8 @@ some_is (Some x) v n bound h is =
     (h.1 ∙ is, omega (arith, within, h.1))
 some_is None v n bound h is = tt
 
--- A term costs a length for each of its parts, and four for each byte of a leaf, since an escape has four bytes. So much
--- and a newline it has at most as printed, where labels are no longer than that.
+-- A term costs a length for each of its parts, and four for each byte of a leaf, since an escape has four bytes. So
+-- much and a newline it has at most as printed, where labels are no longer than that.
 -- (a comma or a parenthesis stands behind each part but the last)
 module _ (v : Vocabulary) (longest : ℕ)
     (leaves : (t : ℕ) → length (before_leaf (token (v.terminal t))) ≤ longest)

@@ -254,8 +254,8 @@ printed_on o o' o'' n n' n'' bytes mid whole left (Err fault) is h k =
 
 -- the writer failed at the first bytes of what is printed
 pub printed_fails : (o o' o'' : Outgoing) (n n' : Option (List ℕ)) (bytes mid whole : List ℕ)
-    (left : Option TermRef → List ℕ) (r : Result (Option TermRef) WriteFault) (fault : WriteFault) → bytes ++ mid ≡ whole
-    → IsErrAnd r (λ e. e ≡ fault) → IsAppended o o' n n' bytes (Err fault) → IsPrinted o o'' n n' whole left r
+    (left : Option TermRef → List ℕ) (r : Result (Option TermRef) WriteFault) (fault : WriteFault)
+    → bytes ++ mid ≡ whole → IsErrAnd r (λ e. e ≡ fault) → IsAppended o o' n n' bytes (Err fault) → IsPrinted o o'' n n' whole left r
 printed_fails o o' o'' n n' bytes mid whole left (Ok next) fault is e h = absurd e
 printed_fails o o' o'' n n' bytes mid whole left (Err f) fault is e h =
     subst (λ f. IsAppended o o'' n n' whole (Err f)) (sym e) (λ b text u.
@@ -360,7 +360,8 @@ module _ (line : List ℕ) (before : Option (List ℕ)) where
       (appended_twice none_sent o o' before now now' told (newline ∷ []) tt (Ok tt) come pushed))
 
 -- what holds at each end holds at the one that came
-pub where_ok : {E : Type 0} (r : Result (Unit {0}) E) (A : Type 0) (B : E → Type 0) → MatchResult r (λ _. A) B → OnOk r A
+pub where_ok : {E : Type 0} (r : Result (Unit {0}) E) (A : Type 0) (B : E → Type 0) → MatchResult r (λ _. A) B
+    → OnOk r A
 where_ok (Ok x) A B h = h
 where_ok (Err e) A B h = tt
 

@@ -2,9 +2,9 @@
 //!
 //! A `Forest` holds the texts of leaves and the children of nodes in flat lists, and no box or list a node: a leaf
 //! takes its text alone, and 8 bytes where that is long; a node 8 bytes for each child. Contracts see terms: what
-//! `leaf` or `node` answers stands for one, and goes on standing for it. `line` makes all room that the printed text of a
-//! term takes, so that `TermLine::write` fails only where the writer does; it has a stack of its own, so that no depth
-//! ends the program.
+//! `leaf` or `node` answers stands for one, and goes on standing for it. `line` makes all room that the printed text of
+//! a term takes, so that `TermLine::write` fails only where the writer does; it has a stack of its own, so that no
+//! depth ends the program.
 //!
 //! Left out: what rules make which terms (a parser asks for them), and taking leaves or nodes out again.
 #![tactic(auto)]

@@ -180,7 +180,8 @@ impl<'f> Printing<'f> {
         ensures printed { (v : Vocabulary) (f : Grown) → IsPrinted self.old.out self.new.out (S.contents writer.old)
             (S.contents writer.new) (left_text v f self.old.waiting.items self.old.others)
             (λ next. next_text v f next ++ left_text v f self.new.waiting.items self.new.others) result }
-        ensures stands { (f : Grown) → IsOpen f self.old.waiting.items self.old.others None (vec_capacity self.old.waiting)
+        ensures stands { (f : Grown) → IsOpen f self.old.waiting.items self.old.others None
+            (vec_capacity self.old.waiting)
             → IfOk result (λ next. IsOpen f self.new.waiting.items self.new.others next
             (vec_capacity self.new.waiting)) }
         ensures ends { result ≡ Ok None → self.new.waiting.items ≡ [] }

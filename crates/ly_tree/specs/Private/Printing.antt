@@ -73,8 +73,8 @@ IsAlone (beside ∷ outer) others = beside.now ≡ []
 
 -- Where a printer stands: each child that is left is there, nothing stands beside the whole term, and each term that is
 -- left may still open a node.
-pub record IsOpen (f : Grown) (waiting : List (Bor (List TermRef))) (others : Bor (List TermRef)) (next : Option TermRef)
-    (room : ℕ) : Type 0 where
+pub record IsOpen (f : Grown) (waiting : List (Bor (List TermRef))) (others : Bor (List TermRef))
+    (next : Option TermRef) (room : ℕ) : Type 0 where
   pub waiting_known : AllWaitingKnown f waiting
   pub others_known : AllKnown f others.now
   pub next_known : IsNextKnown f next

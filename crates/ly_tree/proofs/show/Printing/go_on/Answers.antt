@@ -1,4 +1,5 @@
-use Rattle.std.proofs.Common.{◌∙◌, ◌∷◌, [], ◌++◌, ap, append_assoc, append-nil, codes, sym, subst, arith, length, length-append, Err, Ok, None}
+use Rattle.std.proofs.Common.{◌∙◌, ◌∷◌, [], ◌++◌, ap, append_assoc, append-nil, codes, sym, subst, arith}
+use Rattle.std.proofs.Common.{length, length-append, Err, Ok, None}
 use Rattle.std.specs.Prelude.{vec_capacity}
 use Rattle.ly_base.proofs.TextWriterLemmas.{appended_twice}
 use Rattle.ly_tree.specs.Private.Printing.{left_text, term_text, IsOpen}

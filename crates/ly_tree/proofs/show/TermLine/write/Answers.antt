@@ -3,7 +3,8 @@ use Rattle.ly_base.proofs.TextWriterLemmas.{err_is}
 use Rattle.ly_base.specs.Bytes.{newline}
 use Rattle.ly_tree.specs.Private.Printing.{left_text, next_text, term_text}
 use Rattle.ly_tree.specs.Shown.{Vocabulary}
-use Rattle.ly_tree.proofs.PrintingLemmas.{line_counted, line_cut, line_goes_on, line_underway, newline_cut, newline_left}
+use Rattle.ly_tree.proofs.PrintingLemmas.{line_counted, line_cut, line_goes_on, line_underway}
+use Rattle.ly_tree.proofs.PrintingLemmas.{newline_cut, newline_left}
 use Rattle.ly_tree.proofs.PrintingLemmas.{where_err, where_ok}
 use Rattle.ly_tree.proofs.show.TermLine.write.Goals as goal
 
