@@ -14,8 +14,8 @@ returns-in_ok-line-in-Ok-Refused c v = refused_told v c.args.parser c.end.new.se
 pub returns-in-Ok-Done : goal.returns-in-Ok-Done
 returns-in-Ok-Done c v =
     let is = c.in-Ok-Done.is ∙ ap Ok c.in-Ok-Done.field-0-is in
-    let token = record { terminal = 0; at = c.args.at; bytes = [] } in
-    let call = subst (λ r. IsCall c.args.parser token c.end.new.self r) is c.end.ensures.call in
+    let call = subst (λ r. IsCall c.args.parser
+    (record { terminal = 0; at = c.args.at; bytes = [] }) c.end.new.self r) is c.end.ensures.call in
     let fed = call.before_end c.requires.goes_on in (
       fed.0,
       fed.1,
