@@ -255,7 +255,8 @@ printed_on o o' o'' n n' n'' bytes mid whole left (Err fault) is h k =
 -- the writer failed at the first bytes of what is printed
 pub printed_fails : (o o' o'' : Outgoing) (n n' : Option (List ℕ)) (bytes mid whole : List ℕ)
     (left : Option TermRef → List ℕ) (r : Result (Option TermRef) WriteFault) (fault : WriteFault)
-    → bytes ++ mid ≡ whole → IsErrAnd r (λ e. e ≡ fault) → IsAppended o o' n n' bytes (Err fault) → IsPrinted o o'' n n' whole left r
+    → bytes ++ mid ≡ whole → IsErrAnd r (λ e. e ≡ fault) → IsAppended o o' n n' bytes (Err fault)
+    → IsPrinted o o'' n n' whole left r
 printed_fails o o' o'' n n' bytes mid whole left (Ok next) fault is e h = absurd e
 printed_fails o o' o'' n n' bytes mid whole left (Err f) fault is e h =
     subst (λ f. IsAppended o o'' n n' whole (Err f)) (sym e) (λ b text u.
