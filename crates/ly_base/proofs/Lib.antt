@@ -6,6 +6,7 @@ pub mod EscapeLemmas
 pub mod GapLemmas
 pub mod KeyLemmas
 pub mod LexedLemmas
+pub mod LimitsLemmas
 pub mod LiteralLemmas
 pub mod MemberLemmas
 pub mod NameLemmas

@@ -1,6 +1,8 @@
 -- The sizes that lytab refuses to pass.
-use Rattle.std.specs.Prelude.{ℕ, ◌≤◌}
+use Rattle.std.specs.Prelude.{ℕ, ◌≤◌, min}
 use Rattle.ly_base.specs.declared.limits.Limits.TheInside.{Inside}
+use Rattle.ly_base.specs.declared.version.Version.{Version}
+use Rattle.ly_base.specs.declared.version.Version.TheVariants.{V1, V2}
 
 -- the greatest that each may be
 pub record Sizes : Type 0 where
@@ -30,18 +32,53 @@ version_1 = record {
   total_weight = 65535;
 }
 
--- none is above version 1's
-pub record AreBounded (sizes : Sizes) : Type 0 where
-  pub symbols : sizes.symbols ≤ version_1.symbols
-  pub yacc_rules : sizes.yacc_rules ≤ version_1.yacc_rules
-  pub lex_rules : sizes.lex_rules ≤ version_1.lex_rules
-  pub body_length : sizes.body_length ≤ version_1.body_length
-  pub conditions : sizes.conditions ≤ version_1.conditions
-  pub name_length : sizes.name_length ≤ version_1.name_length
-  pub parser_states : sizes.parser_states ≤ version_1.parser_states
-  pub scanner_states : sizes.scanner_states ≤ version_1.scanner_states
-  pub pattern_weight : sizes.pattern_weight ≤ version_1.pattern_weight
-  pub total_weight : sizes.total_weight ≤ version_1.total_weight
+-- those of version 2
+abbrev pub version_2 : Sizes
+version_2 = record {
+  symbols = 16383;
+  yacc_rules = 131071;
+  lex_rules = 131071;
+  body_length = 255;
+  conditions = 255;
+  name_length = 255;
+  parser_states = 262143;
+  scanner_states = 262143;
+  pattern_weight = 1048575;
+  total_weight = 1048575;
+}
+
+-- those of a version of the table file
+abbrev pub sizes_in : Version → Sizes
+sizes_in V1 = version_1
+sizes_in V2 = version_2
+
+-- none is above the other's
+pub record AreBounded (most sizes : Sizes) : Type 0 where
+  pub symbols : sizes.symbols ≤ most.symbols
+  pub yacc_rules : sizes.yacc_rules ≤ most.yacc_rules
+  pub lex_rules : sizes.lex_rules ≤ most.lex_rules
+  pub body_length : sizes.body_length ≤ most.body_length
+  pub conditions : sizes.conditions ≤ most.conditions
+  pub name_length : sizes.name_length ≤ most.name_length
+  pub parser_states : sizes.parser_states ≤ most.parser_states
+  pub scanner_states : sizes.scanner_states ≤ most.scanner_states
+  pub pattern_weight : sizes.pattern_weight ≤ most.pattern_weight
+  pub total_weight : sizes.total_weight ≤ most.total_weight
+
+-- the lesser of each
+abbrev pub least_of : Sizes → Sizes → Sizes
+least_of s t = record {
+  symbols = min s.symbols t.symbols;
+  yacc_rules = min s.yacc_rules t.yacc_rules;
+  lex_rules = min s.lex_rules t.lex_rules;
+  body_length = min s.body_length t.body_length;
+  conditions = min s.conditions t.conditions;
+  name_length = min s.name_length t.name_length;
+  parser_states = min s.parser_states t.parser_states;
+  scanner_states = min s.scanner_states t.scanner_states;
+  pattern_weight = min s.pattern_weight t.pattern_weight;
+  total_weight = min s.total_weight t.total_weight;
+}
 
 abbrev pub sizes_of : Inside → Sizes
 sizes_of l = record {

@@ -3,7 +3,8 @@
 //! `write_whole` and `read_whole` carry bytes to and from devices that count their failures: at Ok all of them, at a
 //! fault a stated beginning, and a device is named only where it failed. `Place` says where a run over a text stands,
 //! `push_leaf` and its like print what stands there, and `TextWriter` writes many pieces while they are printed, short
-//! ones by blocks (`Front`, `Label`); `Limits` holds the sizes that are accepted.
+//! ones by blocks (`Front`, `Label`); `Limits` holds the sizes that are accepted,
+//! by the version of the table file (`Version`).
 //!
 //! Left out: what a real file or terminal does. That is the word of its reads and writes.
 #![tactic(auto)]
@@ -35,6 +36,7 @@ mod sparse_set;
 mod text;
 mod text_writer;
 mod texts;
+mod version;
 mod whole;
 
 pub use blank::is_blank;
@@ -63,4 +65,5 @@ pub use sparse_set::SparseSet;
 pub use text::{Terminal, push_escaped, push_leaf, push_name, push_no_rule_line};
 pub use text_writer::TextWriter;
 pub use texts::Texts;
+pub use version::Version;
 pub use whole::{ReadFault, WriteFault, read_whole, write_whole};

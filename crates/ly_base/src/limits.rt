@@ -1,9 +1,10 @@
 ghost use Rattle.std.specs.Prelude.{◌≡◌, min};
 
+use crate::version::Version;
 use std::marker::Model;
 
-/// The sizes that lytab refuses to pass. A greater limit than this version's counts as this version's, so a `Limits`
-/// never holds one.
+/// The sizes that lytab refuses to pass. A greater limit than version 2's counts as version 2's, so a `Limits` never
+/// holds one.
 #[derive(Clone, Copy, Debug, PartialEq, Eq)]
 pub struct Limits {
     /// How many symbols a grammar may have, `$end`, `$undef` and `$accept` among them.
@@ -33,17 +34,17 @@ impl Model for Limits {
 
     ghost Value = { Sizes };
 
-    ghost use Rattle.ly_base.specs.Limits.{inside_of, sizes_of, AreBounded};
+    ghost use Rattle.ly_base.specs.Limits.{inside_of, sizes_of, version_2, AreBounded};
 
     ghost view = { sizes_of };
 
     ghost inverse = { inside_of };
 
-    ghost invariant = { λ l. AreBounded (sizes_of l) };
+    ghost invariant = { λ l. AreBounded version_2 (sizes_of l) };
 }
 
 impl Limits {
-    ghost use Rattle.ly_base.specs.Limits.{version_1, AreBounded};
+    ghost use Rattle.ly_base.specs.Limits.{least_of, sizes_in, version_1, version_2, AreBounded};
 
     /// The limits of version 1.
     pub const V1: Limits = Limits {
@@ -59,6 +60,20 @@ impl Limits {
         total_weight: 65_535,
     };
 
+    /// The limits of version 2.
+    pub const V2: Limits = Limits {
+        symbols: 16_383,
+        yacc_rules: 131_071,
+        lex_rules: 131_071,
+        body_length: 255,
+        conditions: 255,
+        name_length: 255,
+        parser_states: 262_143,
+        scanner_states: 262_143,
+        pattern_weight: 1_048_575,
+        total_weight: 1_048_575,
+    };
+
     /// The limits of version 1, as a value that contracts see.
     pub fn version_1() -> Self
         ensures { result ≡ version_1 }
@@ -66,9 +81,39 @@ impl Limits {
         Limits::V1
     }
 
-    /// Does nothing: its contract says what the type keeps, that no limit is above version 1's.
+    /// The limits of version 2, as a value that contracts see.
+    pub fn version_2() -> Self
+        ensures { result ≡ version_2 }
+    {
+        Limits::V2
+    }
+
+    /// The same limits, but none above that of a version.
+    pub fn within(self, version: Version) -> Self
+        ensures least { result ≡ least_of self (sizes_in version) }
+        ensures bounded { AreBounded (sizes_in version) result }
+    {
+        let most = match version {
+            Version::V1 => Limits::V1,
+            Version::V2 => Limits::V2,
+        };
+        Limits {
+            symbols: self.symbols.min(most.symbols),
+            yacc_rules: self.yacc_rules.min(most.yacc_rules),
+            lex_rules: self.lex_rules.min(most.lex_rules),
+            body_length: self.body_length.min(most.body_length),
+            conditions: self.conditions.min(most.conditions),
+            name_length: self.name_length.min(most.name_length),
+            parser_states: self.parser_states.min(most.parser_states),
+            scanner_states: self.scanner_states.min(most.scanner_states),
+            pattern_weight: self.pattern_weight.min(most.pattern_weight),
+            total_weight: self.total_weight.min(most.total_weight),
+        }
+    }
+
+    /// Does nothing: its contract says what the type keeps, that no limit is above version 2's.
     pub fn are_bounded(&self)
-        ensures { AreBounded self.now }
+        ensures { AreBounded version_2 self.now }
     {
         let _ = &self.symbols;
     }
@@ -80,13 +125,14 @@ impl Limits {
         self.symbols
     }
 
-    /// The same limits with another one for the symbols of a grammar, or version 1's if that is less.
+    /// The same limits with another one for the symbols of a grammar, or version 2's if that is less.
     pub fn with_symbols(self, most: u32) -> Self
-        ensures { result ≡ record self { symbols = min most version_1.symbols } }
+        ensures { result ≡ record self { symbols = min most version_2.symbols } }
     {
-        let mut limits = self;
-        limits.symbols = most.min(Limits::V1.symbols);
-        limits
+        Limits {
+            symbols: most.min(Limits::V2.symbols),
+            ..self
+        }
     }
 
     /// How many rules a yacc file may have, the one that lytab adds not counted.
@@ -96,13 +142,14 @@ impl Limits {
         self.yacc_rules
     }
 
-    /// The same limits with another one for the rules of a yacc file, or version 1's if that is less.
+    /// The same limits with another one for the rules of a yacc file, or version 2's if that is less.
     pub fn with_yacc_rules(self, most: u32) -> Self
-        ensures { result ≡ record self { yacc_rules = min most version_1.yacc_rules } }
+        ensures { result ≡ record self { yacc_rules = min most version_2.yacc_rules } }
     {
-        let mut limits = self;
-        limits.yacc_rules = most.min(Limits::V1.yacc_rules);
-        limits
+        Limits {
+            yacc_rules: most.min(Limits::V2.yacc_rules),
+            ..self
+        }
     }
 
     /// How many rules a lex file may have.
@@ -112,13 +159,14 @@ impl Limits {
         self.lex_rules
     }
 
-    /// The same limits with another one for the rules of a lex file, or version 1's if that is less.
+    /// The same limits with another one for the rules of a lex file, or version 2's if that is less.
     pub fn with_lex_rules(self, most: u32) -> Self
-        ensures { result ≡ record self { lex_rules = min most version_1.lex_rules } }
+        ensures { result ≡ record self { lex_rules = min most version_2.lex_rules } }
     {
-        let mut limits = self;
-        limits.lex_rules = most.min(Limits::V1.lex_rules);
-        limits
+        Limits {
+            lex_rules: most.min(Limits::V2.lex_rules),
+            ..self
+        }
     }
 
     /// How many symbols the body of a rule may have.
@@ -128,13 +176,14 @@ impl Limits {
         self.body_length
     }
 
-    /// The same limits with another one for the symbols in the body of a rule, or version 1's if that is less.
+    /// The same limits with another one for the symbols in the body of a rule, or version 2's if that is less.
     pub fn with_body_length(self, most: u32) -> Self
-        ensures { result ≡ record self { body_length = min most version_1.body_length } }
+        ensures { result ≡ record self { body_length = min most version_2.body_length } }
     {
-        let mut limits = self;
-        limits.body_length = most.min(Limits::V1.body_length);
-        limits
+        Limits {
+            body_length: most.min(Limits::V2.body_length),
+            ..self
+        }
     }
 
     /// How many start conditions there may be, the initial one among them.
@@ -144,13 +193,14 @@ impl Limits {
         self.conditions
     }
 
-    /// The same limits with another one for the start conditions, or version 1's if that is less.
+    /// The same limits with another one for the start conditions, or version 2's if that is less.
     pub fn with_conditions(self, most: u32) -> Self
-        ensures { result ≡ record self { conditions = min most version_1.conditions } }
+        ensures { result ≡ record self { conditions = min most version_2.conditions } }
     {
-        let mut limits = self;
-        limits.conditions = most.min(Limits::V1.conditions);
-        limits
+        Limits {
+            conditions: most.min(Limits::V2.conditions),
+            ..self
+        }
     }
 
     /// How many bytes the name of a symbol or a constructor may have.
@@ -160,13 +210,14 @@ impl Limits {
         self.name_length
     }
 
-    /// The same limits with another one for the bytes of a name, or version 1's if that is less.
+    /// The same limits with another one for the bytes of a name, or version 2's if that is less.
     pub fn with_name_length(self, most: u32) -> Self
-        ensures { result ≡ record self { name_length = min most version_1.name_length } }
+        ensures { result ≡ record self { name_length = min most version_2.name_length } }
     {
-        let mut limits = self;
-        limits.name_length = most.min(Limits::V1.name_length);
-        limits
+        Limits {
+            name_length: most.min(Limits::V2.name_length),
+            ..self
+        }
     }
 
     /// How many states the parser may have.
@@ -176,13 +227,14 @@ impl Limits {
         self.parser_states
     }
 
-    /// The same limits with another one for the states of the parser, or version 1's if that is less.
+    /// The same limits with another one for the states of the parser, or version 2's if that is less.
     pub fn with_parser_states(self, most: u32) -> Self
-        ensures { result ≡ record self { parser_states = min most version_1.parser_states } }
+        ensures { result ≡ record self { parser_states = min most version_2.parser_states } }
     {
-        let mut limits = self;
-        limits.parser_states = most.min(Limits::V1.parser_states);
-        limits
+        Limits {
+            parser_states: most.min(Limits::V2.parser_states),
+            ..self
+        }
     }
 
     /// How many states the scanner may have before it is made smallest.
@@ -192,13 +244,14 @@ impl Limits {
         self.scanner_states
     }
 
-    /// The same limits with another one for the states of the scanner, or version 1's if that is less.
+    /// The same limits with another one for the states of the scanner, or version 2's if that is less.
     pub fn with_scanner_states(self, most: u32) -> Self
-        ensures { result ≡ record self { scanner_states = min most version_1.scanner_states } }
+        ensures { result ≡ record self { scanner_states = min most version_2.scanner_states } }
     {
-        let mut limits = self;
-        limits.scanner_states = most.min(Limits::V1.scanner_states);
-        limits
+        Limits {
+            scanner_states: most.min(Limits::V2.scanner_states),
+            ..self
+        }
     }
 
     /// The greatest weight of one pattern or definition.
@@ -208,13 +261,14 @@ impl Limits {
         self.pattern_weight
     }
 
-    /// The same limits with another one for the weight of one pattern or definition, or version 1's if that is less.
+    /// The same limits with another one for the weight of one pattern or definition, or version 2's if that is less.
     pub fn with_pattern_weight(self, most: u32) -> Self
-        ensures { result ≡ record self { pattern_weight = min most version_1.pattern_weight } }
+        ensures { result ≡ record self { pattern_weight = min most version_2.pattern_weight } }
     {
-        let mut limits = self;
-        limits.pattern_weight = most.min(Limits::V1.pattern_weight);
-        limits
+        Limits {
+            pattern_weight: most.min(Limits::V2.pattern_weight),
+            ..self
+        }
     }
 
     /// The greatest weight of all patterns together.
@@ -224,12 +278,13 @@ impl Limits {
         self.total_weight
     }
 
-    /// The same limits with another one for the weight of all patterns, or version 1's if that is less.
+    /// The same limits with another one for the weight of all patterns, or version 2's if that is less.
     pub fn with_total_weight(self, most: u32) -> Self
-        ensures { result ≡ record self { total_weight = min most version_1.total_weight } }
+        ensures { result ≡ record self { total_weight = min most version_2.total_weight } }
     {
-        let mut limits = self;
-        limits.total_weight = most.min(Limits::V1.total_weight);
-        limits
+        Limits {
+            total_weight: most.min(Limits::V2.total_weight),
+            ..self
+        }
     }
 }
