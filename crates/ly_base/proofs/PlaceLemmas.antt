@@ -1,5 +1,5 @@
 -- Lemmas on places of a text.
-use Rattle.std.proofs.Common.{◌≡◌, ◌∙◌, ◌-◌, ◌+◌, ◌≤◌, ◌++◌, ℕ, List, [], ◌∷◌, Bool, true, Some, rules, arith, ap, eqb}
+use Rattle.std.proofs.Common.{◌≡◌, ◌∙◌, ◌-◌, ◌+◌, ◌≤◌, ◌++◌, ℕ, List, [], ◌∷◌, Bool, Some, rules, arith, ap, eqb}
 use Rattle.std.proofs.Common.{Option, refl, drop, length, length-drop, slice_get, take, take-add}
 use Rattle.std.specs.Prelude.{unwrap_or}
 use Rattle.ly_base.specs.Lexed.{after_line, moved, Place}
@@ -20,35 +20,37 @@ after_more before [] ys = refl
 after_more before (x ∷ xs) ys = after_more (eqb x 10) xs ys
 
 -- whether a line begins some bytes on
-pub line_on : (text : List ℕ) (at count : ℕ)
-    → after_line true (take (at + count) text) ≡ after_line (after_line true (take at text)) (take count (drop at text))
-line_on text at count = ap (after_line true) (take-add at count text)
-    ∙ after_more true (take at text) (take count (drop at text))
+pub line_on : (before : Bool) (text : List ℕ) (at count : ℕ) → after_line before (take (at + count) text)
+    ≡ after_line (after_line before (take at text)) (take count (drop at text))
+line_on before text at count = ap (after_line before) (take-add at count text)
+    ∙ after_more before (take at text) (take count (drop at text))
 
 -- a place some bytes on
-pub advanced : (text rest left : List ℕ) (count condition kept : ℕ) (begin : Option ℕ) (p : Place)
+pub advanced : (before : Bool) (given_up : ℕ) (text rest left : List ℕ) (count condition kept : ℕ) (begin : Option ℕ)
+    (p : Place)
     → length rest ≤ length text → drop (length text - length rest) text ≡ rest → count ≤ length rest
     → left ≡ drop count rest
     → (let q : Place = record {
-      line = after_line true (take (length text - length rest) text);
+      line = after_line before (take (length text - length rest) text);
       condition = kept;
-      at = length text - length rest;
+      at = given_up + (length text - length rest);
       rest = rest;
     } in q) ≡ p
     → condition ≡ unwrap_or begin kept
     → (let q : Place = record {
-      line = after_line true (take (length text - length left) text);
+      line = after_line before (take (length text - length left) text);
       condition = condition;
-      at = length text - length left;
+      at = given_up + (length text - length left);
       rest = left;
     } in q) ≡ moved p count begin
-advanced text rest left count condition kept begin p within end few is_left is set =
+advanced before given_up text rest left count condition kept begin p within end few is_left is set =
     let at : ℕ = length text - length rest in
     let on : length text - length left ≡ at + count
     = omega (arith, ap length is_left, length-drop count rest, within, few) in
-    let line : after_line true (take (length text - length left) text) ≡ after_line (after_line true (take at text))
-    (take count rest)
-    = ap (λ n. after_line true (take n text)) on ∙ line_on text at count
-    ∙ ap (λ xs. after_line (after_line true (take at text)) (take count xs)) end in
-    (λ i. record { line = line i; condition = set i; at = on i; rest = is_left i })
+    let further : given_up + (length text - length left) ≡ given_up + at + count = omega (arith, on) in
+    let line : after_line before (take (length text - length left) text)
+    ≡ after_line (after_line before (take at text)) (take count rest)
+    = ap (λ n. after_line before (take n text)) on ∙ line_on before text at count
+    ∙ ap (λ xs. after_line (after_line before (take at text)) (take count xs)) end in
+    (λ i. record { line = line i; condition = set i; at = further i; rest = is_left i })
     ∙ ap (λ (q : Place). moved q count begin) is

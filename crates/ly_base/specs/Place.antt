@@ -1,21 +1,22 @@
 -- Where a run over a text stands, as it is kept.
-use Rattle.std.specs.Prelude.{◌≡◌, ◌-◌, ◌≤◌, ℕ, drop, length, take, true}
+use Rattle.std.specs.Prelude.{◌≡◌, ◌+◌, ◌-◌, ◌<◌, ◌≤◌, ◌^◌, ℕ, drop, length, take}
 use Rattle.ly_base.specs.Lexed.{after_line, Place}
 use Rattle.ly_base.specs.declared.place.Place.TheInside.{Inside}
 
--- how many bytes lie behind the run
+-- how many bytes lie behind the run and weren't given up
 abbrev pub passed : Inside → ℕ
 passed p = length p.text.now - length p.rest.now
 
 abbrev pub spot_of : Inside → Place
 spot_of p = record {
-  line = after_line true (take (passed p) p.text.now);
+  line = after_line p.line (take (passed p) p.text.now);
   condition = p.condition;
-  at = passed p;
+  at = p.given_up + passed p;
   rest = p.rest.now;
 }
 
--- the bytes that are left are the end of the text
+-- the bytes that are left are the end of the text, and all of them can be counted
 pub record EndsText (p : Inside) : Type 0 where
   pub within : length p.rest.now ≤ length p.text.now
   pub end : drop (passed p) p.text.now ≡ p.rest.now
+  pub countable : p.given_up + length p.text.now < 2 ^ 64

@@ -1,12 +1,17 @@
-ghost use Rattle.std.specs.Prelude.{◌≡◌, ◌≤◌, length, true};
+ghost use Rattle.std.specs.Prelude.{◌≡◌, ◌<◌, ◌≤◌, ◌+◌, ◌^◌, length};
 ghost use Rattle.ly_base.specs.Lexed.{after_line};
 
 use std::marker::Model;
 
-/// Where a run over a text stands: at a byte, in a start condition, at the start of a line or not.
+/// Where a run over a text stands: at a byte, in a start condition, at the start of a line or not. The first bytes of
+/// the text may have been given up.
 #[derive(Drop)]
 pub struct Place<'t> {
-    /// The whole text.
+    /// How many bytes were given up.
+    given_up: usize,
+    /// Whether a line begins behind these.
+    line: bool,
+    /// The text behind these.
     text: &'t [u8],
     /// The bytes of it that are left.
     rest: &'t [u8],
@@ -34,9 +39,25 @@ impl<'t> Place<'t> {
         ensures { result ≡ start_of text.now }
     {
         Place {
+            given_up: 0,
+            line: true,
             text,
             rest: text,
             condition: 0,
+        }
+    }
+
+    /// A place in a text whose bytes before it were given up.
+    pub fn behind(text: &'t [u8], given_up: usize, line: bool, condition: u32) -> Self
+        requires { given_up + length text.now < 2 ^ 64 }
+        ensures { result ≡ record { line = line; condition = condition; at = given_up; rest = text.now } }
+    {
+        Place {
+            given_up,
+            line,
+            text,
+            rest: text,
+            condition,
         }
     }
 
@@ -44,7 +65,7 @@ impl<'t> Place<'t> {
     pub fn at(&self) -> usize
         ensures { result ≡ self.now.at }
     {
-        self.text.len() - self.rest.len()
+        self.given_up + (self.text.len() - self.rest.len())
     }
 
     /// The number of the start condition.
@@ -58,7 +79,7 @@ impl<'t> Place<'t> {
     pub fn at_line_start(&self) -> bool
         ensures { result ≡ self.now.line }
     {
-        line_starts_behind(&self.text[..self.at()])
+        line_starts_behind(self.line, &self.text[..self.text.len() - self.rest.len()])
     }
 
     /// The bytes that are left.
@@ -78,12 +99,12 @@ impl<'t> Place<'t> {
     }
 }
 
-/// Whether a line begins behind the first bytes of a text.
-fn line_starts_behind(passed: &[u8]) -> bool
-    ensures { result ≡ after_line true passed.now }
+/// Whether a line begins behind some bytes, by whether one began before them.
+fn line_starts_behind(before: bool, passed: &[u8]) -> bool
+    ensures { result ≡ after_line before passed.now }
 {
     match passed.last() {
         Some(byte) => *byte == b'\n',
-        None => true,
+        None => before,
     }
 }
