@@ -26,6 +26,11 @@ digits_pass p (suc n) (b ∷ t) = by (p b) refl (digits_pass p n t)
     by true e h = (e, h)
     by false e h = tt
 
+-- more digits make no number less
+pub number_grows : (n : ℕ) (ds : List ℕ) → n ≤ number_from 10 n ds
+number_grows n [] = omega arith
+number_grows n (d ∷ ds) = omega (arith, number_grows (n * 10 + digit d) ds)
+
 -- the digits, and what is behind them
 pub digits_rest : (p : ℕ → Bool) (n : ℕ) (t : List ℕ) → t ≡ digits p n t ++ drop (length (digits p n t)) t
 digits_rest p zero t = refl

@@ -20,7 +20,8 @@ number_zip {V = V} f name ks vs e = position_from-zero (λ k. bytes_eq name (f k
     ∙ (position_zip (bytes_eq name) f ks vs 0 e
     ∙ sym (position_from-zero (λ (c : List ℕ × V). bytes_eq name c.0) (zip (map f ks) vs)))
 
-none_from : {K : Type 0} (t : K → Bool) (n : ℕ) (ks : List K) → position_from t n ks ≡ None → list_any t ks ≡ false
+-- where no test finds a place, none passes
+pub none_from : {K : Type 0} (t : K → Bool) (n : ℕ) (ks : List K) → position_from t n ks ≡ None → list_any t ks ≡ false
 none_from t n [] e = refl
 none_from t n (k ∷ ks) e = by (t k) e (none_from t (n + 1) ks)
   where

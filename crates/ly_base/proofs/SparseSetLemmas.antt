@@ -161,19 +161,19 @@ size_of s now n placed view less new = room_below s.slots.items s.places.items n
     (ap (λ (t : Chosen). t.members) view) placed.numbers less new
 
 -- a number that is added, and those before it
-with_member-old : (ms : List ℕ) (n q : ℕ) → Contains ms q → Contains (with_member ms n) q
+pub with_member-old : (ms : List ℕ) (n q : ℕ) → Contains ms q → Contains (with_member ms n) q
 with_member-old ms n q h = elim (cases_Bool (list_any (nat_eq n) ms)) [
   | inl has ↦ rw has h
   | inr new ↦ rw new (Contains-append_left ms (n ∷ []) q h)
 ]
 
-with_member-new : (ms : List ℕ) (n : ℕ) → Contains (with_member ms n) n
+pub with_member-new : (ms : List ℕ) (n : ℕ) → Contains (with_member ms n) n
 with_member-new ms n = elim (cases_Bool (list_any (nat_eq n) ms)) [
   | inl has ↦ rw has (Contains-from_any eqb-true n ms has)
   | inr new ↦ rw new (Contains-push ms n)
 ]
 
-with_member-cases : (ms : List ℕ) (n q : ℕ) → Contains (with_member ms n) q → Contains ms q ⊎ (n ≡ q)
+pub with_member-cases : (ms : List ℕ) (n q : ℕ) → Contains (with_member ms n) q → Contains ms q ⊎ (n ≡ q)
 with_member-cases ms n q h = elim (cases_Bool (list_any (nat_eq n) ms)) [
   | inl has ↦ inl (rw has at h)
   | inr new ↦ Contains-push_cases ms n q (rw new at h)

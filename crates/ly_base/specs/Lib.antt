@@ -19,3 +19,4 @@ pub mod SparseSet
 pub mod Text
 pub mod TextWriter
 pub mod Trees
+pub mod Words

@@ -1,18 +1,23 @@
-ghost use Rattle.std.specs.Prelude.{◌≡◌, ◌≤◌, ◌+◌, ◌*◌, ◌++◌, [], ◌∷◌, length, take, IfSome, None};
+ghost use Rattle.std.specs.Prelude.{◌≡◌, ◌<◌, ◌≤◌, ◌+◌, ◌*◌, ◌++◌, [], ◌∷◌, false, length, take, IfSome, None};
 ghost use Rattle.std.specs.Bool.{OnTrue};
+ghost use Rattle.std.specs.Fmt.{digit_glyph};
 ghost use Rattle.std.specs.List.{prefix_len};
 ghost use Rattle.ly_base.specs.Bytes.{double_quote};
-ghost use Rattle.ly_base.specs.Text.{escape_for, escaped, is_plain, quoted};
+ghost use Rattle.ly_base.specs.Text.{escape_for, escaped, is_plain, no_rule_line, quoted};
 ghost use lib.Lanes.{put_chunk};
 ghost use Rattle.ly_base.specs.Private.Room.{quoted_room};
 
 use crate::front::{BLOCK, Front};
 use crate::label::Label;
-use crate::text::{hex_digit, is_plain};
+use crate::text::is_plain;
+use itoa::Buffer;
 use std::simd::prelude::*;
 
 /// How many bytes a label and a text take at most that are printed as a block each, with a quote and a newline.
 pub(crate) const SHORT_ROOM: usize = 34;
+
+/// How many bytes the line has at most that says at which byte no rule matches.
+pub(crate) const NO_RULE_ROOM: usize = 45;
 
 /// How many bytes a label or a text has at most that is printed into a room at once.
 const SHORT: usize = 512;
@@ -195,7 +200,7 @@ pub(crate) fn put_escaped(room: &mut [u8], at: usize, quote: u8, bytes: &[u8]) -
 
 /// Writes a byte that doesn't stand for itself from a place on, and answers where it ends.
 #[cold]
-fn put_escape(room: &mut [u8], at: usize, byte: u8) -> usize
+pub(crate) fn put_escape(room: &mut [u8], at: usize, byte: u8) -> usize
     requires { at + 4 ≤ length room.old }
     ensures escape { take result room.new ≡ take at room.old ++ escape_for byte }
     ensures within { result ≤ at + 4 }
@@ -211,6 +216,31 @@ fn put_escape(room: &mut [u8], at: usize, byte: u8) -> usize
             &[b'\\', b'x', hex_digit(byte / 16), hex_digit(byte % 16)],
         ),
     }
+}
+
+/// The lower-case hexadecimal digit of a number below 16.
+fn hex_digit(value: u8) -> u8
+    requires { value < 16 }
+    ensures { result ≡ digit_glyph false value }
+{
+    if value < 10 {
+        b'0' + value
+    } else {
+        b'a' + (value - 10)
+    }
+}
+
+/// Writes the line that says at which byte no rule matches, counted from 0, from a place on, and answers where it ends.
+pub(crate) fn put_no_rule_line(room: &mut [u8], at: usize, byte: u64) -> usize
+    requires { at + 45 ≤ length room.old }
+    ensures bytes { take result room.new ≡ take at room.old ++ no_rule_line byte }
+    ensures within { result ≤ at + 45 }
+    ensures room { length room.new ≡ length room.old }
+{
+    let mut digits = Buffer::new();
+    let said = put_bytes(room, at, b"no rule matches at byte ");
+    let counted = put_bytes(room, said, digits.format(byte).as_bytes());
+    put(room, counted, b'\n')
 }
 
 /// Writes bytes from a place on as they are, and answers where they end.

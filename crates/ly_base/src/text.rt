@@ -1,9 +1,8 @@
-ghost use Rattle.std.specs.Prelude.{◌≡◌, ◌<◌, ◌++◌, false, OnOk};
-ghost use Rattle.std.specs.Fmt.{digit_glyph};
+ghost use Rattle.std.specs.Prelude.{◌≡◌, ◌++◌, OnOk};
 ghost use Rattle.ly_base.specs.Text.{escape_for, escaped, is_plain, leaf_of, name_of, named, no_rule_line};
 
+use crate::room::{NO_RULE_ROOM, put_escape, put_no_rule_line};
 use std::alloc::AllocError;
-use std::io::Write;
 
 /// A terminal, as it is printed.
 #[derive(Clone, Copy, Debug, PartialEq, Eq)]
@@ -76,24 +75,9 @@ pub(crate) fn is_plain(quote: u8, byte: u8) -> bool
 fn push_escape(out: &mut Vec<u8>, byte: u8) -> Result<(), AllocError>
     ensures { OnOk result (out.new.items ≡ out.old.items ++ escape_for byte) }
 {
-    match byte {
-        b'\n' => out.extend_from_slice(b"\\n"),
-        b'\t' => out.extend_from_slice(b"\\t"),
-        32..=126 => out.extend_from_slice(&[b'\\', byte]),
-        _ => out.extend_from_slice(&[b'\\', b'x', hex_digit(byte / 16), hex_digit(byte % 16)]),
-    }
-}
-
-/// The lower-case hexadecimal digit of a number below 16.
-pub(crate) fn hex_digit(value: u8) -> u8
-    requires { value < 16 }
-    ensures { result ≡ digit_glyph false value }
-{
-    if value < 10 {
-        b'0' + value
-    } else {
-        b'a' + (value - 10)
-    }
+    let mut room = [0u8; 4];
+    let end = put_escape(&mut room, 0, byte);
+    out.extend_from_slice(&room[..end])
 }
 
 /// Appends the line that says at which byte no rule matches, counted from 0.
@@ -102,5 +86,7 @@ pub(crate) fn hex_digit(value: u8) -> u8
 pub fn push_no_rule_line(out: &mut Vec<u8>, byte: u64) -> Result<(), AllocError>
     ensures { OnOk result (out.new.items ≡ out.old.items ++ no_rule_line byte) }
 {
-    writeln!(out, "no rule matches at byte {byte}").map_err(|_| AllocError)
+    let mut room = [0u8; NO_RULE_ROOM];
+    let end = put_no_rule_line(&mut room, 0, byte);
+    out.extend_from_slice(&room[..end])
 }

@@ -9,10 +9,10 @@ use crate::device::Sink;
 use crate::front::Front;
 use crate::label::Label;
 use crate::room::{
-    SHORT_ROOM, fits, put, put_bytes, put_escaped, put_front_of, put_quoted, put_short,
+    NO_RULE_ROOM, SHORT_ROOM, fits, put, put_bytes, put_escaped, put_front_of, put_no_rule_line,
+    put_quoted, put_short,
 };
 use crate::whole::{WriteFault, write_whole};
-use itoa::Buffer;
 use std::alloc::{AllocError, Global};
 use std::marker::Model;
 
@@ -178,10 +178,9 @@ impl TextWriter {
         ensures no_failure { OnOk result (W.failures writer.new ≡ W.failures writer.old) }
         ensures failed { OnErr result (W.failures writer.new ≡ next_count (W.failures writer.old)) }
     {
-        let mut digits = Buffer::new();
-        self.push_bytes(writer, b"no rule matches at byte ")?;
-        self.push_bytes(writer, digits.format(byte).as_bytes())?;
-        self.push_bytes(writer, b"\n")
+        let mut room = [0u8; NO_RULE_ROOM];
+        let end = put_no_rule_line(&mut room, 0, byte);
+        self.push_bytes(writer, &room[..end])
     }
 
     /// Writes what is held back: the end of the text.
