@@ -4,6 +4,7 @@ use Rattle.std.proofs.Common.{arith}
 use Rattle.ly_base.specs.Gap.{Closes, EndBefore, Gap, HasNo, last, close, opening, other as plain_byte}
 use Rattle.ly_base.specs.declared.language.Language.TheVariants.{Yacc}
 use Rattle.ly_base.proofs.GapLemmas.{block_one, closes_one}
+use Rattle.ly_base.proofs.WordBeforeLemmas.{word_none, word_one, word_shorter}
 use Rattle.ly_yaccread.specs.Private.Words.{IsFront, IsPartWord, word_of}
 use Rattle.ly_yaccread.specs.Words.{Word, mark, directive, name, number, literal, block, braces, other, Front, Takes}
 use Rattle.ly_yaccread.specs.Words.{IsPlain}
@@ -13,7 +14,7 @@ use Rattle.ly_yaccread.specs.declared.words.Mark.{Mark}
 use Rattle.ly_yaccread.specs.declared.words.Mark.TheVariants.{Block, OpenBrace}
 use Rattle.ly_yaccread.specs.declared.words.NextWord.{NextWord}
 use Rattle.ly_yaccread.specs.declared.words.NextWord.TheVariants as next
-use Rattle.ly_yaccread.proofs.WordLemmas.{front_none, front_one, front_shorter}
+use Rattle.ly_yaccread.proofs.WordLemmas.{words}
 
 -- a word of a part begins with a word of one piece
 pub takes_front : (p : Part) (text : List ℕ) (x : Word) (s : List ℕ) → Takes p text x s
@@ -49,14 +50,16 @@ no_mark p text rest next.Other f n = (f.0, λ x s h. let g = takes_front p text 
 -- a word that isn't a mark, and another word of the same text
 plain_one : (p : Part) (text : List ℕ) (x y : Word) (r s : List ℕ) → ((m : Mark) → x ≢ mark m) → Front text x r
     → Takes p text y s → (x ≡ y) × (r ≡ s)
-plain_one p text x (mark m) r s differs a b = front_one text x (mark m) r s a b.0
-plain_one p text x (directive n) r s differs a b = front_one text x (directive n) r s a b
-plain_one p text x (name n) r s differs a b = front_one text x (name n) r s a b
-plain_one p text x (number n) r s differs a b = front_one text x (number n) r s a b
-plain_one p text x (literal c) r s differs a b = front_one text x (literal c) r s a b
-plain_one p text x block r s differs a b = absurd (differs Block (front_one text x (mark Block) r b.1 a b.2).0)
-plain_one p text x braces r s differs a b = absurd (differs OpenBrace (front_one text x (mark OpenBrace) r b.1 a b.2).0)
-plain_one p text x other r s differs a b = front_one text x other r s a b
+plain_one p text x (mark m) r s differs a b = word_one words Yacc text x (mark m) r s a b.0
+plain_one p text x (directive n) r s differs a b = word_one words Yacc text x (directive n) r s a b
+plain_one p text x (name n) r s differs a b = word_one words Yacc text x (name n) r s a b
+plain_one p text x (number n) r s differs a b = word_one words Yacc text x (number n) r s a b
+plain_one p text x (literal c) r s differs a b = word_one words Yacc text x (literal c) r s a b
+plain_one p text x block r s differs a b =
+    absurd (differs Block (word_one words Yacc text x (mark Block) r b.1 a b.2).0)
+plain_one p text x braces r s differs a b =
+    absurd (differs OpenBrace (word_one words Yacc text x (mark OpenBrace) r b.1 a b.2).0)
+plain_one p text x other r s differs a b = word_one words Yacc text x other r s a b
 
 not_block : (p : Part) (m : Mark) → p ≡ Declarations → m ≡ Block → IsPlain p m → ⊥
 not_block p m e f h = (subst (λ i. IsPlain i m) e h).0 f
@@ -76,21 +79,22 @@ data TakesMark (p : Part) (m : Mark) (inside : List ℕ) : Word → List ℕ →
 at_mark : (p : Part) (text : List ℕ) (m : Mark) (inside : List ℕ) (y : Word) (s : List ℕ) → Front text (mark m) inside
     → Takes p text y s → TakesMark p m inside y s
 at_mark p text m inside (mark k) s f t =
-    let e = front_one text (mark m) (mark k) inside s f t.0 in
+    let e = word_one words Yacc text (mark m) (mark k) inside s f t.0 in
     let same = same_mark m k e.0 in
     subst (λ i. TakesMark p m inside (mark i) s) same
     (subst (λ i. TakesMark p m inside (mark m) i) e.1 (itself (subst (IsPlain p) (sym same) t.1)))
-at_mark p text m inside (directive n) s f t = absurd (cc (front_one text (mark m) (directive n) inside s f t).0)
-at_mark p text m inside (name n) s f t = absurd (cc (front_one text (mark m) (name n) inside s f t).0)
-at_mark p text m inside (number n) s f t = absurd (cc (front_one text (mark m) (number n) inside s f t).0)
-at_mark p text m inside (literal c) s f t = absurd (cc (front_one text (mark m) (literal c) inside s f t).0)
+at_mark p text m inside (directive n) s f t =
+    absurd (cc (word_one words Yacc text (mark m) (directive n) inside s f t).0)
+at_mark p text m inside (name n) s f t = absurd (cc (word_one words Yacc text (mark m) (name n) inside s f t).0)
+at_mark p text m inside (number n) s f t = absurd (cc (word_one words Yacc text (mark m) (number n) inside s f t).0)
+at_mark p text m inside (literal c) s f t = absurd (cc (word_one words Yacc text (mark m) (literal c) inside s f t).0)
 at_mark p text m inside block s f (d, u, g, b) =
-    let e = front_one text (mark m) (mark Block) inside u f g in
+    let e = word_one words Yacc text (mark m) (mark Block) inside u f g in
     a_block s d (same_mark m Block e.0) (subst (λ i. EndBefore (codes "%}") i s) (sym e.1) b)
 at_mark p text m inside braces s f (d, u, g, b) =
-    let e = front_one text (mark m) (mark OpenBrace) inside u f g in
+    let e = word_one words Yacc text (mark m) (mark OpenBrace) inside u f g in
     a_brace s d (same_mark m OpenBrace e.0) (subst (λ i. Closes 0 i s) (sym e.1) b)
-at_mark p text m inside other s f t = absurd (cc (front_one text (mark m) other inside s f t).0)
+at_mark p text m inside other s f t = absurd (cc (word_one words Yacc text (mark m) other inside s f t).0)
 
 block_no_brace : (m : Mark) → m ≡ Block → m ≡ OpenBrace → ⊥
 block_no_brace m e f = cc
@@ -142,7 +146,7 @@ Nothing p text = (Gap Yacc text → ⊥) × ((x : Word) (s : List ℕ) → Takes
 pub open_block : (p : Part) (text inside : List ℕ) → Front text (mark Block) inside → p ≡ Declarations
     → HasNo (codes "%}") inside → Nothing p text
 open_block p text inside f d h = (
-  λ g. front_none text (mark Block) inside g f,
+  λ g. word_none words Yacc text (mark Block) inside g f,
   λ x s t. open_mark p Block inside x s (not_block p Block d refl) (λ e. h) (λ e. absurd (block_no_brace Block refl e))
       (at_mark p text Block inside x s f t),
 )
@@ -151,7 +155,7 @@ open_block p text inside f d h = (
 pub open_brace : (p : Part) (text inside : List ℕ) → Front text (mark OpenBrace) inside → p ≡ Declarations
     → ((rest : List ℕ) → Closes 0 inside rest → ⊥) → Nothing p text
 open_brace p text inside f d h = (
-  λ g. front_none text (mark OpenBrace) inside g f,
+  λ g. word_none words Yacc text (mark OpenBrace) inside g f,
   λ x s t. open_mark p OpenBrace inside x s (not_brace p OpenBrace d refl)
       (λ e. absurd (block_no_brace OpenBrace e refl)) (λ e. h) (at_mark p text OpenBrace inside x s f t),
 )
@@ -165,17 +169,17 @@ closes_shorter n t r (plain_byte m b u q x y h) = omega (arith, closes_shorter m
 -- a word has bytes
 pub takes_shorter : (p : Part) (text : List ℕ) (x : Word) (rest : List ℕ) → Takes p text x rest
     → length rest < length text
-takes_shorter p text (mark m) rest h = front_shorter text (mark m) rest h.0
-takes_shorter p text (directive n) rest h = front_shorter text (directive n) rest h
-takes_shorter p text (name n) rest h = front_shorter text (name n) rest h
-takes_shorter p text (number n) rest h = front_shorter text (number n) rest h
-takes_shorter p text (literal b) rest h = front_shorter text (literal b) rest h
+takes_shorter p text (mark m) rest h = word_shorter words Yacc text (mark m) rest h.0
+takes_shorter p text (directive n) rest h = word_shorter words Yacc text (directive n) rest h
+takes_shorter p text (name n) rest h = word_shorter words Yacc text (name n) rest h
+takes_shorter p text (number n) rest h = word_shorter words Yacc text (number n) rest h
+takes_shorter p text (literal b) rest h = word_shorter words Yacc text (literal b) rest h
 takes_shorter p text block rest h =
-    let f = front_shorter text (mark Block) h.1 h.2 in
+    let f = word_shorter words Yacc text (mark Block) h.1 h.2 in
     omega (arith, f, ap length h.3.2, length-append h.3.0 (37 ∷ 125 ∷ rest))
 takes_shorter p text braces rest h =
-    let f = front_shorter text (mark OpenBrace) h.1 h.2 in omega (arith, f, closes_shorter 0 h.1 rest h.3)
-takes_shorter p text other rest h = front_shorter text other rest h
+    let f = word_shorter words Yacc text (mark OpenBrace) h.1 h.2 in omega (arith, f, closes_shorter 0 h.1 rest h.3)
+takes_shorter p text other rest h = word_shorter words Yacc text other rest h
 
 -- what is found is a word
 pub taken : (p : Part) (text rest : List ℕ) (w : NextWord) → w ≢ next.End → w ≢ next.Other → IsPartWord p text w rest

@@ -9,8 +9,9 @@ use Rattle.ly_base.specs.Escapes.{AllPass, digit, number, number_from}
 use Rattle.ly_base.specs.Language.{IsName, NameBefore, is_decimal}
 use Rattle.ly_base.specs.declared.language.Language.TheVariants.{Lex}
 use Rattle.ly_base.proofs.NameLemmas.{name_one}
+use Rattle.ly_base.proofs.EscapeLemmas.{number_grows}
+use Rattle.ly_base.proofs.ListLemmas.{not_empty}
 use Rattle.ly_yaccread.proofs.SymbolLemmas.{empty_list}
-use Rattle.ly_yaccread.proofs.WordLemmas.{not_empty}
 use Rattle.ly_yaccread.specs.Actions.{IsPlace, PlaceFirst}
 use Rattle.ly_yaccread.specs.Words as words
 use Rattle.ly_yaccread.specs.Words.{Word, mark}
@@ -50,11 +51,6 @@ one_digit ds value at d h i e is =
       sound = λ k. h.sound (subst (AllPass is_decimal) (sym f) (is, k));
       complete = λ k. (subst (AllPass is_decimal) f (h.complete k)).1;
     }
-
--- digits don't make a number less
-number_grows : (value : ℕ) (ds : List ℕ) → value ≤ number_from 10 value ds
-number_grows value [] = omega arith
-number_grows value (d ∷ ds) = omega (arith, number_grows (value * 10 + digit d) ds)
 
 pub digits_so_far : (ds : List ℕ) (value at : ℕ) → DigitsGoOn ds value at → value ≤ number 10 ds
 digits_so_far ds value at h = omega (arith, number_grows value (drop at ds), h.same)

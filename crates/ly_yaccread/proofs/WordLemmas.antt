@@ -1,42 +1,26 @@
 -- The word at the front of a text is determined.
-use Rattle.std.specs.Option.{MatchOption}
 use Rattle.std.specs.Prelude.{if◌then◌else◌}
 use Rattle.std.proofs.lemmas.Bool.{false≢true}
 use Rattle.std.proofs.lemmas.Bool.Decides.{nat_tests}
-use Rattle.std.proofs.lemmas.List.{append-nil}
-use Rattle.std.proofs.Common.{◌≡◌, ◌≢◌, ℕ, List, [], ◌∷◌, ◌++◌, Bool, true, false, IsTrue, Option, Some, None}
-use Rattle.std.proofs.Common.{refl, sym, ap, ◌∙◌, subst, arith, nat_eq, eqb, length, length-append, ◌<◌}
+use Rattle.std.proofs.lemmas.List.{append-nil, append_cancel_left}
+use Rattle.std.proofs.Common.{◌≡◌, ℕ, List, [], ◌∷◌, ◌++◌, Bool, true, false, IsTrue, Option, Some, None}
+use Rattle.std.proofs.Common.{refl, sym, ap, ◌∙◌, subst, arith, nat_eq, length, length-append, ◌<◌}
 use Rattle.ly_base.specs.Gap.{Gap, GapBefore, GapEnds}
-use Rattle.ly_base.specs.Language.{is_space, is_decimal, starts_name, NameBefore}
+use Rattle.ly_base.specs.Language.{is_decimal, starts_name, NameBefore}
 use Rattle.ly_base.specs.declared.language.Language.TheVariants.{Yacc}
 use Rattle.ly_base.specs.Escapes.{Stops}
-use Rattle.ly_base.proofs.GapLemmas.{gap_one}
 use Rattle.ly_base.proofs.NameLemmas.{name_one, digits_one}
 use Rattle.ly_base.proofs.LiteralLemmas.{literal_one, literal_shorter}
+use Rattle.ly_base.proofs.WordBeforeLemmas.{AreWords, IsSolid, name_solid, nothing_behind, word_at}
 use Rattle.ly_yaccread.specs.Private.Words.{IsWordAt, IsFront}
 use Rattle.ly_yaccread.specs.Words.{Word, mark, directive, name, number, literal, block, braces, other, spelling}
-use Rattle.ly_yaccread.specs.Words.{MarkBefore, Begins, Front}
+use Rattle.ly_yaccread.specs.Words.{MarkBefore, Begins}
 use Rattle.ly_yaccread.specs.declared.words.Mark.{Mark}
 use Rattle.ly_yaccread.specs.declared.words.Mark.TheVariants.{Section, Block, Whole, Dollar, Colon, Bar, Semicolon}
 use Rattle.ly_yaccread.specs.declared.words.Mark.TheVariants.{OpenBrace, CloseBrace, OpenParenthesis}
 use Rattle.ly_yaccread.specs.declared.words.Mark.TheVariants.{CloseParenthesis, OpenTag, CloseTag, Equals, Comma}
 use Rattle.ly_yaccread.specs.declared.words.NextWord.{NextWord}
 use Rattle.ly_yaccread.specs.declared.words.NextWord.TheVariants as next
-
--- what holds of nothing, where nothing was found
-pub at_none : {T : Type 0} (o : Option T) (P : Type 0) (Q : T → Type 0) → ((x : T) → o ≡ Some x → ⊥) → MatchOption o P Q
-    → P
-at_none None P Q h m = m
-at_none (Some x) P Q h m = absurd (h x refl)
-
-pub not_empty : (t : Bool) (xs : List ℕ) → t ≡ eqb (length xs) 0 → t ≡ false → xs ≢ []
-not_empty t [] e f n = false≢true (sym f ∙ e)
-not_empty t (x ∷ xs) e f n = cc n
-
--- no gap begins with the byte
-record IsSolid (b : ℕ) : Type 0 where
-  no_space : is_space Yacc b ≡ false
-  no_slash : b ≢ 47
 
 spelled : (m : Mark) → (b : ℕ) × (s : List ℕ) × (spelling m ≡ b ∷ s) × IsSolid b
 spelled Section = (37, 37 ∷ [], refl, record { no_space = refl; no_slash = λ e. omega (arith, e) })
@@ -55,12 +39,6 @@ spelled CloseTag = (62, [], refl, record { no_space = refl; no_slash = λ e. ome
 spelled Equals = (61, [], refl, record { no_space = refl; no_slash = λ e. omega (arith, e) })
 spelled Comma = (44, [], refl, record { no_space = refl; no_slash = λ e. omega (arith, e) })
 
-name_solid : (b : ℕ) → IsTrue (starts_name Yacc b) → IsSolid b
-name_solid b h = record {
-  no_space = grind (arith, nat_tests);
-  no_slash = λ e. false≢true (sym (ap (starts_name Yacc) e) ∙ h);
-}
-
 digit_solid : (b : ℕ) → IsTrue (is_decimal b) → IsSolid b
 digit_solid b h = record { no_space = grind (arith, nat_tests); no_slash = λ e. false≢true (sym (ap is_decimal e) ∙ h) }
 
@@ -70,60 +48,13 @@ begins_at text (mark m) rest h = let p = spelled m in (p.0, p.1 ++ rest, h.0 ∙
 begins_at text (directive n) rest h
     = (37, h.0, h.1, record { no_space = refl; no_slash = λ e. omega (arith, e) })
 begins_at text (name []) rest h = absurd h.0
-begins_at text (name (b ∷ n)) rest h = (b, n ++ rest, h.2, name_solid b h.0.0)
+begins_at text (name (b ∷ n)) rest h = (b, n ++ rest, h.2, name_solid Yacc b h.0.0)
 begins_at text (number []) rest h = absurd (h.1 refl)
 begins_at text (number (b ∷ ds)) rest h = (b, ds ++ rest, h.3, digit_solid b h.0.0)
 begins_at text (literal c) rest h = (39, h.0, h.1, record { no_space = refl; no_slash = λ e. omega (arith, e) })
 begins_at text block rest h = absurd h
 begins_at text braces rest h = absurd h
 begins_at text other rest h = absurd h
-
--- a word is no gap
-pub begins_stops : (text : List ℕ) (x : Word) (rest : List ℕ) → Begins text x rest → GapEnds Yacc text
-begins_stops text x rest h = at (begins_at text x rest h)
-  where
-    at : (b : ℕ) × (s : List ℕ) × (text ≡ b ∷ s) × IsSolid b → GapEnds Yacc text
-    at (b, s, e, solid) = record {
-      no_space = λ c t c_space f. let same : c ≡ b = cc
-          in false≢true (sym solid.no_space ∙ subst (λ i. is_space Yacc i ≡ true) same c_space);
-      no_comment = λ i t f. solid.no_slash (cc);
-    }
-
--- the word that stands behind a gap
-pub front_at : (text word : List ℕ) (x : Word) (rest : List ℕ) → GapBefore Yacc text word → GapEnds Yacc word
-    → Front text x rest → Begins word x rest
-front_at text word x rest before stops (u, found, begins)
-    = subst (λ w. Begins w x rest)
-    (gap_one Yacc found.0 before.0 u word found.1 before.1 (begins_stops u x rest begins) stops
-    (sym found.2 ∙ before.2))
-    begins
-
-nothing_stops : GapEnds Yacc []
-nothing_stops = record { no_space = λ b s h e. cc; no_comment = λ i s e. cc }
-
--- a gap has no word
-pub front_none : (text : List ℕ) (x : Word) (r : List ℕ) → Gap Yacc text → Front text x r → ⊥
-front_none text x r g f = at (begins_at [] x r (front_at text [] x r (text, g, sym (append-nil text)) nothing_stops f))
-  where
-    at : (b : ℕ) × (s : List ℕ) × ([] ≡ b ∷ s) × IsSolid b → ⊥
-    at (b, s, e, h) = cc
-
--- what stands behind the gap stands at the front
-pub behind_gap : (text word rest : List ℕ) (x : NextWord) → GapBefore Yacc text word → GapEnds Yacc word
-    → IsWordAt word x rest → IsFront text x rest
-behind_gap text word rest next.End before stops h
-    = subst (Gap Yacc) (sym (before.2 ∙ ap (λ u. before.0 ++ u) h ∙ append-nil before.0)) before.1
-behind_gap text word rest (next.Mark m) before stops h = (word, before, h)
-behind_gap text word rest (next.Directive n) before stops h = (word, before, h)
-behind_gap text word rest (next.Name n) before stops h = (word, before, h)
-behind_gap text word rest (next.Number n) before stops h = (word, before, h)
-behind_gap text word rest (next.Literal b) before stops h = (word, before, h)
-behind_gap text word rest next.Block before stops h = absurd h
-behind_gap text word rest next.Braces before stops h = absurd h
-behind_gap text word rest next.Other before stops h = (
-  λ g. h.0 (gap_one Yacc before.0 text word [] before.1 g stops nothing_stops (sym before.2 ∙ sym (append-nil text))),
-  λ x s f. h.1 x s (front_at text word x s before stops f),
-)
 
 -- the mark of a byte that no other byte has to follow
 abbrev single : ℕ → Option Mark
@@ -176,14 +107,10 @@ found_at t m r h = ap found_mark h.0 ∙ mark_found m r (refl, h.1)
 some_one : (m k : Mark) → Some m ≡ Some k → m ≡ k
 some_one m k e = cc
 
-behind_spelling : (s r t : List ℕ) → s ++ r ≡ s ++ t → r ≡ t
-behind_spelling [] r t e = e
-behind_spelling (b ∷ s) r t e = behind_spelling s r t (cc)
-
 mark_one : (t : List ℕ) (m k : Mark) (r s : List ℕ) → MarkBefore t m r → MarkBefore t k s → (m ≡ k) × (r ≡ s)
 mark_one t m k r s a b =
     let e = some_one m k (sym (found_at t m r a) ∙ found_at t k s b) in
-    (e, behind_spelling (spelling m) r s (sym a.0 ∙ b.0 ∙ ap (λ i. spelling i ++ s) (sym e)))
+    (e, append_cancel_left (spelling m) r s (sym a.0 ∙ b.0 ∙ ap (λ i. spelling i ++ s) (sym e)))
 
 -- which sort of word a text begins with: 0 a mark, 1 a directive, 2 a name, 3 a number, 4 a literal
 abbrev behind_percent : List ℕ → ℕ
@@ -246,7 +173,7 @@ sorted : (text : List ℕ) (x y : Word) (r s : List ℕ) → sort_of x ≡ sort_
     → (x ≡ y) × (r ≡ s)
 sorted text (mark m) (mark k) r s e a b = let f = mark_one text m k r s a b in (ap mark f.0, f.1)
 sorted text (directive n) (directive m) r s e a b =
-    let behind : a.0 ≡ b.0 = behind_spelling (37 ∷ []) a.0 b.0 (sym a.1 ∙ b.1) in
+    let behind : a.0 ≡ b.0 = append_cancel_left (37 ∷ []) a.0 b.0 (sym a.1 ∙ b.1) in
     let f = name_one Yacc b.0 n m r s (subst (λ t. NameBefore Yacc t n r) behind a.2) b.2 in (ap directive f.0, f.1)
 sorted text (name n) (name m) r s e a b = let f = name_one Yacc text n m r s a b in (ap name f.0, f.1)
 sorted text (number n) (number m) r s e a b = let f = digits_one text n m r s a b in (ap number f.0, f.1)
@@ -262,10 +189,6 @@ sorted text _ _ r s e a b = absurd (omega (arith, e))
 begins_one : (text : List ℕ) (x y : Word) (r s : List ℕ) → Begins text x r → Begins text y s → (x ≡ y) × (r ≡ s)
 begins_one text x y r s a b = sorted text x y r s (sym (sort_is text x r a) ∙ sort_is text y s b) a b
 
--- the word at the front is determined, and so is the rest
-pub front_one : (text : List ℕ) (x y : Word) (r s : List ℕ) → Front text x r → Front text y s → (x ≡ y) × (r ≡ s)
-front_one text x y r s (u, before, a) f = begins_one u x y r s a (front_at text u y s before (begins_stops u x r a) f)
-
 -- a word has bytes
 begins_shorter : (text : List ℕ) (x : Word) (rest : List ℕ) → Begins text x rest → length rest < length text
 begins_shorter text (mark m) rest h = let p = spelled m in
@@ -280,6 +203,22 @@ begins_shorter text block rest h = absurd h
 begins_shorter text braces rest h = absurd h
 begins_shorter text other rest h = absurd h
 
-pub front_shorter : (text : List ℕ) (x : Word) (rest : List ℕ) → Front text x rest → length rest < length text
-front_shorter text x rest (word, before, h)
-    = omega (arith, begins_shorter word x rest h, ap length before.2, length-append before.0 word)
+pub words : AreWords Begins
+words = record { solid = begins_at; one = begins_one; shorter = begins_shorter }
+
+-- what stands behind the gap stands at the front
+pub behind_gap : (text word rest : List ℕ) (x : NextWord) → GapBefore Yacc text word → GapEnds Yacc word
+    → IsWordAt word x rest → IsFront text x rest
+behind_gap text word rest next.End before stops h
+    = subst (Gap Yacc) (sym (before.2 ∙ ap (λ u. before.0 ++ u) h ∙ append-nil before.0)) before.1
+behind_gap text word rest (next.Mark m) before stops h = (word, before, h)
+behind_gap text word rest (next.Directive n) before stops h = (word, before, h)
+behind_gap text word rest (next.Name n) before stops h = (word, before, h)
+behind_gap text word rest (next.Number n) before stops h = (word, before, h)
+behind_gap text word rest (next.Literal b) before stops h = (word, before, h)
+behind_gap text word rest next.Block before stops h = absurd h
+behind_gap text word rest next.Braces before stops h = absurd h
+behind_gap text word rest next.Other before stops h = (
+  λ g. h.0 (nothing_behind Yacc text word before stops g),
+  λ x s f. h.1 x s (word_at words Yacc text word x s before stops f),
+)

@@ -3,6 +3,7 @@ use Rattle.std.proofs.Common.{◌≡◌, ◌≢◌, ℕ, List, [], ◌∷◌, �
 use Rattle.std.proofs.lemmas.List.{append-nil}
 use Rattle.ly_base.specs.Gap.{Gap}
 use Rattle.ly_base.specs.declared.language.Language.TheVariants.{Yacc}
+use Rattle.ly_base.proofs.WordBeforeLemmas.{word_none}
 use Rattle.ly_yaccread.specs.Private.Words.{IsPartWord, word_of, words_of}
 use Rattle.ly_yaccread.specs.Words.{Word, other, Takes, Wording, Words, free, end, stuck, more}
 use Rattle.ly_yaccread.specs.Words.{part_behind}
@@ -11,7 +12,7 @@ use Rattle.ly_yaccread.specs.declared.part.Part.TheVariants.{Programs}
 use Rattle.ly_yaccread.specs.declared.words.NextWord.{NextWord}
 use Rattle.ly_yaccread.specs.declared.words.NextWord.TheVariants as next
 use Rattle.ly_yaccread.proofs.PartLemmas.{taken, takes_front, takes_one}
-use Rattle.ly_yaccread.proofs.WordLemmas.{front_none}
+use Rattle.ly_yaccread.proofs.WordLemmas.{words}
 
 words_push : (before : List NextWord) (p : NextWord) (ws : List Word)
     → words_of (before ++ p ∷ []) ++ ws ≡ words_of before ++ word_of p ∷ ws
@@ -54,7 +55,7 @@ at_programs text rest before p so_far e
 
 -- a gap has no word of any part
 gap_takes : (p : Part) (text : List ℕ) (x : Word) (s : List ℕ) → Gap Yacc text → Takes p text x s → ⊥
-gap_takes p text x s g h = let f = takes_front p text x s h in front_none text f.0 f.1 g f.2
+gap_takes p text x s g h = let f = takes_front p text x s h in word_none words Yacc text f.0 f.1 g f.2
 
 -- a text has one list of words
 pub wording_one : (p : Part) (text : List ℕ) (ws vs : List Word) → Wording p text ws → Wording p text vs → ws ≡ vs

@@ -1,9 +1,10 @@
 -- The words of a yacc file (POSIX, XCU yacc).
 use Rattle.std.specs.Prelude.{◌≡◌, ◌≢◌, ℕ, List, [], ◌∷◌, ◌++◌, nat_eq, codes}
 use Rattle.ly_base.specs.Escapes.{Stops}
-use Rattle.ly_base.specs.Gap.{Closes, EndBefore, Gap, GapBefore}
+use Rattle.ly_base.specs.Gap.{Closes, EndBefore, Gap}
 use Rattle.ly_base.specs.Language.{DigitsBefore, NameBefore}
 use Rattle.ly_base.specs.Literals.{Literal}
+use Rattle.ly_base.specs.Words.{WordBefore}
 use Rattle.ly_base.specs.declared.language.Language.TheVariants.{Yacc}
 use Rattle.ly_yaccread.specs.declared.part.Part.{Part}
 use Rattle.ly_yaccread.specs.declared.part.Part.TheVariants.{Declarations, Rules, Programs}
@@ -66,7 +67,7 @@ Begins text _ rest = ⊥
 
 -- the text is a gap, a word and the rest
 abbrev pub Front : List ℕ → Word → List ℕ → Type 0
-Front text x rest = (word : List ℕ) × GapBefore Yacc text word × Begins word x rest
+Front text x rest = WordBefore Begins Yacc text x rest
 
 -- A mark that stands for itself: in the declarations `%{` begins a block, and `{` what stands between braces.
 abbrev pub IsPlain : Part → Mark → Type 0

@@ -2,11 +2,12 @@ use Rattle.std.proofs.Common.{ℕ, List}
 use Rattle.ly_base.specs.Language.{NameBefore, DigitsBefore}
 use Rattle.ly_base.specs.Literals.{Literal}
 use Rattle.ly_base.specs.declared.language.Language.TheVariants.{Yacc}
+use Rattle.ly_base.proofs.GapLemmas.{at_none}
+use Rattle.ly_base.proofs.ListLemmas.{not_empty}
 use Rattle.ly_yaccread.specs.Words.{DirectiveBefore, MarkBefore, Word, mark}
 use Rattle.ly_yaccread.specs.Words.{directive, name, number, literal, block, braces}
 use Rattle.ly_yaccread.specs.Words.{other, Begins}
 use Rattle.ly_yaccread.specs.declared.words.Mark.{Mark}
-use Rattle.ly_yaccread.proofs.WordLemmas.{at_none, not_empty}
 use Rattle.ly_yaccread.proofs.words.word_at.Goals as goal
 
 none_at : (text : List ℕ) → ((m : Mark) (r : List ℕ) → MarkBefore text m r → ⊥)
