@@ -6,25 +6,28 @@ use Rattle.std.proofs.lemmas.List.{map-append}
 use Rattle.std.proofs.lemmas.List.Sums.{sum_by-append, sum_by-cons}
 use Rattle.std.specs.Prelude.{option_map, slice_get, sum, All, AllPairs}
 use Rattle.ly_base.specs.declared.numbers.Sym.{Sym}
-use Rattle.ly_tree.proofs.GrownLemmas.{long_joined, short_joined, terms_from-leaf}
+use Rattle.ly_tree.proofs.GrownLemmas.{long_joined, node_known, short_joined, span_alone, span_joined, terms_from-leaf}
 use Rattle.ly_tree.proofs.PieceLemmas.{mapped_some, piece_end, piece_inside}
 use Rattle.ly_tree.proofs.StandLemmas.{joined, stands_known}
 use Rattle.ly_tree.specs.Costs.{budget, bytes_in, cost, costs}
-use Rattle.ly_tree.specs.Forest.{all_of, Grown, Keeps, Leaves}
-use Rattle.ly_tree.specs.Private.Grown.{child_term, grown, leaves_from, long_leaf, terms_from, AreKnown}
+use Rattle.ly_tree.specs.Forest.{all_of, number_of, Grown, Keeps, Lists}
+use Rattle.ly_tree.specs.Private.Grown.{child_term, grown, lists_from, long_leaf, terms_from, AllKnown, AreKnown}
 use Rattle.ly_tree.specs.Term.{Term, Terms, at_place, at_places, built, leaf, more, none, nothing}
 use Rattle.ly_tree.specs.declared.forest.TermRef.{TermRef}
 use Rattle.ly_tree.specs.declared.forest.TermRef.TheVariants.{LongLeaf, Node, ShortLeaf}
+use Rattle.ly_tree.specs.declared.span.Span.{Span}
 
-bytes_in-joined : (ls ms : Leaves) → bytes_in (joined ls ms) ≡ bytes_in ls + bytes_in ms
+bytes_in-joined : (ls ms : Lists) → bytes_in (joined ls ms) ≡ bytes_in ls + bytes_in ms
 bytes_in-joined ls ms =
     let count : Term → ℕ = λ t. cost 0 1 t in
-    let both : sum (map count (ls.long ++ ms.long)) ≡ sum (map count ls.long) + sum (map count ms.long)
-    = ap sum (map-append count ls.long ms.long) ∙ sum_by-append (λ x. x) (map count ls.long) (map count ms.long) in
+    let xs = ls.long_leaves in
+    let ys = ms.long_leaves in
+    let both : sum (map count (xs ++ ys)) ≡ sum (map count xs) + sum (map count ys)
+    = ap sum (map-append count xs ys) ∙ sum_by-append (λ x. x) (map count xs) (map count ys) in
     omega (arith, length-append ls.texts ms.texts, both)
 
 -- a term stands for each child
-pub length-terms_from : (ls : Leaves) (done : List Term) (rs : List TermRef)
+pub length-terms_from : (ls : Lists) (done : List Term) (rs : List TermRef)
     → length (terms_from ls done rs) ≡ length done + length rs
 length-terms_from ls done [] = omega arith
 length-terms_from ls done (r ∷ rs) =
@@ -34,14 +37,14 @@ length-terms_from ls done (r ∷ rs) =
       length-append done (child_term ls done r ∷ []),
     )
 
--- leaves more
-leaves_pay : (ls others ms : Leaves) (bs : List TermRef) (f : Grown) (each byte : ℕ) → AreKnown ls [] bs
+-- lists more
+lists_pay : (ls others ms : Lists) (bs : List TermRef) (f : Grown) (each byte : ℕ) → AreKnown ls [] bs
     → grown ls bs ≡ f → ms ≡ joined ls others
     → budget each byte (grown ms bs) ≡ budget each byte f + byte * bytes_in others
-leaves_pay ls others ms bs f each byte h v e =
-    let same : grown ms bs ≡ record { leaves = joined ls others; children = terms_from ls [] bs }
+lists_pay ls others ms bs f each byte h v e =
+    let same : grown ms bs ≡ record { lists = joined ls others; children = terms_from ls [] bs }
     = ap (λ l. grown l bs) e
-    ∙ ap (λ ts. record { leaves = joined ls others; children = ts }) (terms_from-leaf ls others [] bs h) in
+    ∙ ap (λ ts. record { lists = joined ls others; children = ts }) (terms_from-leaf ls others [] bs h) in
     let before : budget each byte (grown ls bs) ≡ budget each byte f = ap (budget each byte) v in
     let after : budget each byte (grown ms bs)
     ≡ each * length (terms_from ls [] bs) + byte * bytes_in (joined ls others) = ap (budget each byte) same in
@@ -50,27 +53,27 @@ leaves_pay ls others ms bs f each byte h v e =
     omega (arith, before, after, more)
 
 -- a short leaf more
-pub short_pays : (texts ms text : List ℕ) (long : List (Sym × List ℕ)) (bs : List TermRef) (f : Grown)
-    (each byte : ℕ) → AreKnown (leaves_from texts long) [] bs → grown (leaves_from texts long) bs ≡ f
-    → ms ≡ texts ++ text
-    → budget each byte (grown (leaves_from ms long) bs) ≡ budget each byte f + byte * length text
-short_pays texts ms text long bs f each byte h v e =
-    leaves_pay (leaves_from texts long) (record { texts = text; long = [] }) (leaves_from ms long) bs f each byte h v
-    (short_joined texts ms text long e)
+pub short_pays : (texts ms text : List ℕ) (long : List (Sym × List ℕ)) (spans : List Span) (bs : List TermRef)
+    (f : Grown) (each byte : ℕ) → AreKnown (lists_from texts long spans) [] bs
+    → grown (lists_from texts long spans) bs ≡ f → ms ≡ texts ++ text
+    → budget each byte (grown (lists_from ms long spans) bs) ≡ budget each byte f + byte * length text
+short_pays texts ms text long spans bs f each byte h v e =
+    lists_pay (lists_from texts long spans) (record { texts = text; long_leaves = []; long_nodes = [] })
+    (lists_from ms long spans) bs f each byte h v (short_joined texts ms text long spans e)
     ∙ omega arith
 
 -- another leaf more
-pub long_pays : (texts : List ℕ) (long ls : List (Sym × List ℕ)) (l : Sym × List ℕ) (bs : List TermRef) (f : Grown)
-    (each byte : ℕ) → AreKnown (leaves_from texts long) [] bs → grown (leaves_from texts long) bs ≡ f
-    → ls ≡ long ++ l ∷ []
-    → budget each byte (grown (leaves_from texts ls) bs) ≡ budget each byte f + byte * length l.1
-long_pays texts long ls l bs f each byte h v e =
-    leaves_pay (leaves_from texts long) (record { texts = []; long = long_leaf l ∷ [] }) (leaves_from texts ls) bs f
-    each byte h v (long_joined texts long ls l e)
+pub long_pays : (texts : List ℕ) (long ls : List (Sym × List ℕ)) (spans : List Span) (l : Sym × List ℕ)
+    (bs : List TermRef) (f : Grown) (each byte : ℕ) → AreKnown (lists_from texts long spans) [] bs
+    → grown (lists_from texts long spans) bs ≡ f → ls ≡ long ++ l ∷ []
+    → budget each byte (grown (lists_from texts ls spans) bs) ≡ budget each byte f + byte * length l.1
+long_pays texts long ls spans l bs f each byte h v e =
+    lists_pay (lists_from texts long spans) (record { texts = []; long_leaves = long_leaf l ∷ []; long_nodes = [] })
+    (lists_from texts ls spans) bs f each byte h v (long_joined texts long ls spans l e)
     ∙ omega arith
 
 -- a node more
-pub node_pays : (ls : Leaves) (rs cs qs : List TermRef) (f : Grown) (each byte : ℕ) → grown ls rs ≡ f
+pub node_pays : (ls : Lists) (rs cs qs : List TermRef) (f : Grown) (each byte : ℕ) → grown ls rs ≡ f
     → cs ≡ rs ++ qs → budget each byte (grown ls cs) ≡ budget each byte f + each * length qs
 node_pays ls rs cs qs f each byte v e =
     let before : budget each byte (grown ls rs) ≡ budget each byte f = ap (budget each byte) v in
@@ -85,6 +88,18 @@ node_pays ls rs cs qs f each byte v e =
     )) in
     omega (arith, before, after, more)
 
+-- a long node more
+pub long_node_pays : (texts : List ℕ) (long : List (Sym × List ℕ)) (spans longer : List Span) (rs cs qs : List TermRef)
+    (f : Grown) (s : Span) (each byte : ℕ) → AreKnown (lists_from texts long spans) [] rs
+    → grown (lists_from texts long spans) rs ≡ f → AllKnown f qs → cs ≡ rs ++ qs → longer ≡ spans ++ s ∷ []
+    → budget each byte (grown (lists_from texts long longer) cs) ≡ budget each byte f + each * length qs
+long_node_pays texts long spans longer rs cs qs f s each byte h v k e last =
+    let before : Lists = lists_from texts long spans in
+    lists_pay before (span_alone texts long spans longer rs cs qs f s h v e last) (lists_from texts long longer) cs
+    (grown before cs) each byte (node_known before rs cs qs f h v k e) refl
+    (span_joined texts long spans longer rs cs qs f s h v e last)
+    ∙ omega (arith, node_pays before rs cs qs f each byte v e)
+
 -- A forest that keeps the terms can pay as much at least.
 module _ (f g : Grown) (keeps : Keeps f g) where
   no_child_lost : length f.children ≤ length g.children
@@ -97,24 +112,25 @@ module _ (f g : Grown) (keeps : Keeps f g) where
             (stands_known g (Node (length f.children) 0 0) (built 0 (all_of f.children)) after)),
       )
 
-  no_byte_lost : length f.leaves.texts ≤ length g.leaves.texts
+  no_byte_lost : length f.lists.texts ≤ length g.lists.texts
   no_byte_lost =
-      let before = ap (option_map (λ text. leaf 0 text)) (piece_end [] f.leaves.texts) in
-      let after = keeps (ShortLeaf (length f.leaves.texts) 0 0) (leaf 0 f.leaves.texts) before in
+      let before = ap (option_map (λ text. leaf 0 text)) (piece_end [] f.lists.texts) in
+      let after = keeps (ShortLeaf (length f.lists.texts) 0 0) (leaf 0 f.lists.texts) before in
       omega (
         arith,
-        piece_inside 0 (length f.leaves.texts) g.leaves.texts (mapped_some (λ text. leaf 0 text) _
-            (stands_known g (ShortLeaf (length f.leaves.texts) 0 0) (leaf 0 f.leaves.texts) after)),
+        piece_inside 0 (length f.lists.texts) g.lists.texts (mapped_some (λ text. leaf 0 text) _
+            (stands_known g (ShortLeaf (length f.lists.texts) 0 0) (leaf 0 f.lists.texts) after)),
       )
 
   pub budget_kept : (each byte : ℕ) → budget each byte f ≤ budget each byte g
   budget_kept each byte =
-      let bytes : bytes_in f.leaves ≤ bytes_in g.leaves
-      = omega (
-        arith,
-        no_byte_lost,
-        front_sum (λ t. cost 0 1 t) f.leaves.long g.leaves.long (λ k t is. keeps (LongLeaf k) t is),
-      ) in
+      let xs = f.lists.long_leaves in
+      let ys = g.lists.long_leaves in
+      let number : (k : ℕ) → number_of 0 k ≡ k = λ k. omega arith in
+      let kept : (k : ℕ) (t : Term) → slice_get xs k ≡ Some t → slice_get ys k ≡ Some t
+      = λ k t is. ap (slice_get ys) (sym (number k)) ∙ keeps (LongLeaf 0 k) t (ap (slice_get xs) (number k) ∙ is) in
+      let bytes : bytes_in f.lists ≤ bytes_in g.lists
+      = omega (arith, no_byte_lost, front_sum (λ t. cost 0 1 t) xs ys kept) in
       omega (arith, mul-le-mul_left each no_child_lost, mul-le-mul_left byte bytes)
     where
       front_sum : (c : Term → ℕ) (xs ys : List Term)

@@ -1,20 +1,21 @@
 -- What leaves and nodes of a forest stand for, and that it stays when more come.
 use Rattle.std.proofs.Common.{◌≡◌, ℕ, zero, suc, ◌+◌, ◌<◌, ◌≤◌, List, [], ◌∷◌, ◌++◌, length, map, take, drop, arith}
 use Rattle.std.proofs.Common.{refl, sym, ap, ◌∙◌, subst, append-nil, append_assoc}
-use Rattle.std.specs.Prelude.{slice_get, IsSome, Some, option_map, unwrap_or}
+use Rattle.std.specs.Prelude.{slice_get, IsSome, None, Option, Some, option_map, unwrap_or}
 use Rattle.std.proofs.lemmas.List.{drop-map, length-map, map-append, take-map}
 use Rattle.std.proofs.lemmas.List.Elements.{All-drop, All-take}
 use Rattle.std.proofs.lemmas.Option.{slice_get-map}
 use Rattle.ly_tree.proofs.PieceLemmas.{mapped_some, piece_end, piece_inside, piece_is}
 use Rattle.ly_tree.proofs.StandLemmas.{all_known_kept, joined, known_front, known_kept, known_rest, stand_all_kept}
 use Rattle.ly_tree.proofs.StandLemmas.{stand_all_known, stand_unwrapped, term_kept, Keeps-append}
-use Rattle.ly_tree.specs.Forest.{all_of, no_leaves, piece, term_of, terms_of}
-use Rattle.ly_tree.specs.Forest.{Grown, Keeps, Leaves, StandsFor, StandForAll}
-use Rattle.ly_tree.specs.Private.Grown.{child_term, grown, leaves_from, long_leaf, terms_from, AllKnown, AreKnown}
+use Rattle.ly_tree.specs.Forest.{all_of, no_lists, node_by, number_of, piece, term_of, terms_of}
+use Rattle.ly_tree.specs.Forest.{Grown, Keeps, Lists, StandsFor, StandForAll}
+use Rattle.ly_tree.specs.Private.Grown.{child_term, grown, lists_from, long_leaf, terms_from, AllKnown, AreKnown}
 use Rattle.ly_tree.specs.Term.{Term, Terms, built, leaf, more, nothing}
 use Rattle.ly_base.specs.declared.numbers.Sym.{Sym}
 use Rattle.ly_tree.specs.declared.forest.TermRef.{TermRef}
-use Rattle.ly_tree.specs.declared.forest.TermRef.TheVariants.{LongLeaf, Node, ShortLeaf}
+use Rattle.ly_tree.specs.declared.forest.TermRef.TheVariants.{LongLeaf, LongNode, Node, ShortLeaf}
+use Rattle.ly_tree.specs.declared.span.Span.{Span}
 
 slice_get_end : {A : Type 0} (xs : List A) (x : A) → slice_get (xs ++ x ∷ []) (length xs) ≡ Some x
 slice_get_end [] x = refl
@@ -25,74 +26,77 @@ slice_get_inside [] k h = absurd cc
 slice_get_inside (x ∷ xs) zero h = omega arith
 slice_get_inside (x ∷ xs) (suc k) h = omega (arith, slice_get_inside xs k h)
 
-joined-none : (ls : Leaves) → joined ls no_leaves ≡ ls
-joined-none ls = ap (λ xs. record { texts = xs; long = ls.long ++ [] }) (append-nil ls.texts)
-    ∙ ap (λ ts. record { texts = ls.texts; long = ts }) (append-nil ls.long)
+joined-none : (ls : Lists) → joined ls no_lists ≡ ls
+joined-none ls = λ i. record {
+  texts = append-nil ls.texts i;
+  long_leaves = append-nil ls.long_leaves i;
+  long_nodes = append-nil ls.long_nodes i;
+}
 
 -- a term behind them changes none
-one_more : (ls : Leaves) (done : List Term) (t : Term)
-    → Keeps (record { leaves = ls; children = done }) (record { leaves = ls; children = done ++ t ∷ [] })
+one_more : (ls : Lists) (done : List Term) (t : Term)
+    → Keeps (record { lists = ls; children = done }) (record { lists = ls; children = done ++ t ∷ [] })
 one_more ls done t n u e =
-    subst (λ ms. StandsFor (record { leaves = ms; children = done ++ t ∷ [] }) n u) (joined-none ls)
-    (Keeps-append ls no_leaves done (t ∷ []) n u e)
+    subst (λ ms. StandsFor (record { lists = ms; children = done ++ t ∷ [] }) n u) (joined-none ls)
+    (Keeps-append ls no_lists done (t ∷ []) n u e)
 
 -- more children keep the terms before them
-pub terms_from-keeps : (ls : Leaves) (done : List Term) (rs : List TermRef)
-    → Keeps (record { leaves = ls; children = done }) (record { leaves = ls; children = terms_from ls done rs })
+pub terms_from-keeps : (ls : Lists) (done : List Term) (rs : List TermRef)
+    → Keeps (record { lists = ls; children = done }) (record { lists = ls; children = terms_from ls done rs })
 terms_from-keeps ls done [] n t e = e
 terms_from-keeps ls done (r ∷ rs) n t e =
     terms_from-keeps ls (done ++ child_term ls done r ∷ []) rs n t (one_more ls done (child_term ls done r) n t e)
 
 -- children behind others
-terms_from-more : (ls : Leaves) (done : List Term) (rs qs : List TermRef)
+terms_from-more : (ls : Lists) (done : List Term) (rs qs : List TermRef)
     → terms_from ls done (rs ++ qs) ≡ terms_from ls (terms_from ls done rs) qs
 terms_from-more ls done [] qs = refl
 terms_from-more ls done (r ∷ rs) qs = terms_from-more ls (done ++ child_term ls done r ∷ []) rs qs
 
 -- references that are known may be children
-known_behind : (ls : Leaves) (done : List Term) (qs : List TermRef)
-    → AllKnown (record { leaves = ls; children = done }) qs → AreKnown ls done qs
+known_behind : (ls : Lists) (done : List Term) (qs : List TermRef)
+    → AllKnown (record { lists = ls; children = done }) qs → AreKnown ls done qs
 known_behind ls done [] k = tt
 known_behind ls done (q ∷ qs) k =
-    let now : Grown = record { leaves = ls; children = done } in
+    let now : Grown = record { lists = ls; children = done } in
     let next : List Term = done ++ child_term ls done q ∷ [] in (
       known_front now q qs k,
-      known_behind ls next qs (all_known_kept now (record { leaves = ls; children = next }) qs
+      known_behind ls next qs (all_known_kept now (record { lists = ls; children = next }) qs
           (one_more ls done (child_term ls done q)) (known_rest now q qs k)),
     )
 
-AreKnown-more : (ls : Leaves) (done : List Term) (rs qs : List TermRef) → AreKnown ls done rs
-    → AllKnown (record { leaves = ls; children = terms_from ls done rs }) qs → AreKnown ls done (rs ++ qs)
+AreKnown-more : (ls : Lists) (done : List Term) (rs qs : List TermRef) → AreKnown ls done rs
+    → AllKnown (record { lists = ls; children = terms_from ls done rs }) qs → AreKnown ls done (rs ++ qs)
 AreKnown-more ls done [] qs h k = known_behind ls done qs k
 AreKnown-more ls done (r ∷ rs) qs h k = (h.0, AreKnown-more ls (done ++ child_term ls done r ∷ []) rs qs h.1 k)
 
-pub more_leaves : (ls ms : Leaves) (done : List Term)
-    → Keeps (record { leaves = ls; children = done }) (record { leaves = joined ls ms; children = done })
-more_leaves ls ms done n t e =
-    subst (λ ts. StandsFor (record { leaves = joined ls ms; children = ts }) n t) (append-nil done)
+pub more_lists : (ls ms : Lists) (done : List Term)
+    → Keeps (record { lists = ls; children = done }) (record { lists = joined ls ms; children = done })
+more_lists ls ms done n t e =
+    subst (λ ts. StandsFor (record { lists = joined ls ms; children = ts }) n t) (append-nil done)
     (Keeps-append ls ms done [] n t e)
 
 -- more leaves change no child
-child_term-leaf : (ls ms : Leaves) (done : List Term) (r : TermRef)
-    → IsSome (term_of (record { leaves = ls; children = done }) r)
+child_term-leaf : (ls ms : Lists) (done : List Term) (r : TermRef)
+    → IsSome (term_of (record { lists = ls; children = done }) r)
     → child_term (joined ls ms) done r ≡ child_term ls done r
 child_term-leaf ls ms done r h =
-    term_kept (record { leaves = ls; children = done }) (record { leaves = joined ls ms; children = done }) r
-    (more_leaves ls ms done) h
+    term_kept (record { lists = ls; children = done }) (record { lists = joined ls ms; children = done }) r
+    (more_lists ls ms done) h
 
-pub terms_from-leaf : (ls ms : Leaves) (done : List Term) (rs : List TermRef)
+pub terms_from-leaf : (ls ms : Lists) (done : List Term) (rs : List TermRef)
     → AreKnown ls done rs → terms_from (joined ls ms) done rs ≡ terms_from ls done rs
 terms_from-leaf ls ms done [] h = refl
 terms_from-leaf ls ms done (r ∷ rs) h =
     ap (λ t. terms_from (joined ls ms) (done ++ t ∷ []) rs) (child_term-leaf ls ms done r h.0)
     ∙ terms_from-leaf ls ms (done ++ child_term ls done r ∷ []) rs h.1
 
-pub AreKnown-leaf : (ls ms : Leaves) (done : List Term) (rs : List TermRef)
+pub AreKnown-leaf : (ls ms : Lists) (done : List Term) (rs : List TermRef)
     → AreKnown ls done rs → AreKnown (joined ls ms) done rs
 AreKnown-leaf ls ms done [] h = tt
 AreKnown-leaf ls ms done (r ∷ rs) h = (
-  known_kept (record { leaves = ls; children = done }) (record { leaves = joined ls ms; children = done }) r
-      (more_leaves ls ms done) h.0,
+  known_kept (record { lists = ls; children = done }) (record { lists = joined ls ms; children = done }) r
+      (more_lists ls ms done) h.0,
   subst (λ t. AreKnown (joined ls ms) (done ++ t ∷ []) rs) (sym (child_term-leaf ls ms done r h.0))
       (AreKnown-leaf ls ms (done ++ child_term ls done r ∷ []) rs h.1),
 )
@@ -102,24 +106,24 @@ abbrev term_by : Grown → TermRef → Term
 term_by f r = unwrap_or (term_of f r) nothing
 
 -- the terms of children are those that they stand for when all are there
-children_are : (ls : Leaves) (done : List Term) (rs : List TermRef) → AreKnown ls done rs
-    → terms_from ls done rs ≡ done ++ map (term_by (record { leaves = ls; children = terms_from ls done rs })) rs
+children_are : (ls : Lists) (done : List Term) (rs : List TermRef) → AreKnown ls done rs
+    → terms_from ls done rs ≡ done ++ map (term_by (record { lists = ls; children = terms_from ls done rs })) rs
 children_are ls done [] h = sym (append-nil done)
 children_are ls done (r ∷ rs) h =
-    let f : Grown = record { leaves = ls; children = terms_from ls done (r ∷ rs) } in
+    let f : Grown = record { lists = ls; children = terms_from ls done (r ∷ rs) } in
     let stays : term_by f r ≡ child_term ls done r
-    = term_kept (record { leaves = ls; children = done }) f r (terms_from-keeps ls done (r ∷ rs)) h.0 in
+    = term_kept (record { lists = ls; children = done }) f r (terms_from-keeps ls done (r ∷ rs)) h.0 in
     children_are ls (done ++ child_term ls done r ∷ []) rs h.1
     ∙ (append_assoc done (child_term ls done r ∷ []) (map (term_by f) rs)
     ∙ ap (λ t. done ++ t ∷ map (term_by f) rs) (sym stays))
 
 -- and each stands for one
-children_known : (ls : Leaves) (done : List Term) (rs : List TermRef) → AreKnown ls done rs
-    → AllKnown (record { leaves = ls; children = terms_from ls done rs }) rs
+children_known : (ls : Lists) (done : List Term) (rs : List TermRef) → AreKnown ls done rs
+    → AllKnown (record { lists = ls; children = terms_from ls done rs }) rs
 children_known ls done [] h i d l = absurd (omega arith)
 children_known ls done (r ∷ rs) h zero d l =
-    known_kept (record { leaves = ls; children = done })
-    (record { leaves = ls; children = terms_from ls done (r ∷ rs) }) r (terms_from-keeps ls done (r ∷ rs)) h.0
+    known_kept (record { lists = ls; children = done })
+    (record { lists = ls; children = terms_from ls done (r ∷ rs) }) r (terms_from-keeps ls done (r ∷ rs)) h.0
 children_known ls done (r ∷ rs) h (suc i) d l =
     children_known ls (done ++ child_term ls done r ∷ []) rs h.1 i d (omega arith)
 
@@ -128,7 +132,7 @@ all_of_map f [] = refl
 all_of_map f (r ∷ rs) = ap (more (term_by f r)) (all_of_map f rs)
 
 -- reading a node
-pub node_inside : (ls : Leaves) (rs : List TermRef) (f : Grown) (n p s : ℕ) → AreKnown ls [] rs → grown ls rs ≡ f
+pub node_inside : (ls : Lists) (rs : List TermRef) (f : Grown) (n p s : ℕ) → AreKnown ls [] rs → grown ls rs ≡ f
     → IsSome (term_of f (Node n p s)) → s + n ≤ length rs
 node_inside ls rs f n p s known e h =
     let within = piece_inside s n f.children (mapped_some (λ ts. built p (all_of ts)) _ h) in
@@ -142,7 +146,7 @@ pub record IsNode (f : Grown) (n p s : ℕ) (rs : List TermRef) : Type 0 where
   pub term : StandsFor f (Node n p s) (built p (terms_of f rs))
   pub known : AllKnown f rs
 
-node_of : (ls : Leaves) (rs : List TermRef) (n p s : ℕ) → AreKnown ls [] rs → s + n ≤ length rs
+node_of : (ls : Lists) (rs : List TermRef) (n p s : ℕ) → AreKnown ls [] rs → s + n ≤ length rs
     → IsNode (grown ls rs) n p s (take n (drop s rs))
 node_of ls rs n p s known within =
     let f : Grown = grown ls rs in
@@ -159,20 +163,20 @@ node_of ls rs n p s known within =
           (All-drop (λ r. IsSome (term_of f r)) s rs (children_known ls [] rs known));
     }
 
-pub node_is : (ls : Leaves) (rs qs : List TermRef) (f : Grown) (n p s : ℕ) → AreKnown ls [] rs → grown ls rs ≡ f
+pub node_is : (ls : Lists) (rs qs : List TermRef) (f : Grown) (n p s : ℕ) → AreKnown ls [] rs → grown ls rs ≡ f
     → IsSome (term_of f (Node n p s)) → qs ≡ take n (drop s rs) → IsNode f n p s qs
 node_is ls rs qs f n p s known e h is =
     subst (λ g. IsNode g n p s qs) e (subst (λ xs. IsNode (grown ls rs) n p s xs) (sym is)
     (node_of ls rs n p s known (node_inside ls rs f n p s known e h)))
 
 -- reading a short leaf
-pub short_inside : (ls : Leaves) (bs : List TermRef) (f : Grown) (n t s : ℕ) → grown ls bs ≡ f
+pub short_inside : (ls : Lists) (bs : List TermRef) (f : Grown) (n t s : ℕ) → grown ls bs ≡ f
     → IsSome (term_of f (ShortLeaf n t s)) → s + n ≤ length ls.texts
 short_inside ls bs f n t s e h =
-    subst (λ g. s + n ≤ length g.leaves.texts) (sym e)
-    (piece_inside s n f.leaves.texts (mapped_some (λ text. leaf t text) _ h))
+    subst (λ g. s + n ≤ length g.lists.texts) (sym e)
+    (piece_inside s n f.lists.texts (mapped_some (λ text. leaf t text) _ h))
 
-pub short_is : (ls : Leaves) (text : List ℕ) (bs : List TermRef) (f : Grown) (n t s : ℕ)
+pub short_is : (ls : Lists) (text : List ℕ) (bs : List TermRef) (f : Grown) (n t s : ℕ)
     → grown ls bs ≡ f → IsSome (term_of f (ShortLeaf n t s)) → text ≡ take n (drop s ls.texts)
     → StandsFor f (ShortLeaf n t s) (leaf t text)
 short_is ls text bs f n t s e h is =
@@ -180,86 +184,116 @@ short_is ls text bs f n t s e h is =
     ∙ ap (option_map (λ x. leaf t x)) (piece_is s n ls.texts (short_inside ls bs f n t s e h) ∙ ap Some (sym is))
 
 -- reading a leaf that isn't short
-pub long_inside : (texts : List ℕ) (long : List (Sym × List ℕ)) (bs : List TermRef) (f : Grown) (k : ℕ)
-    → grown (leaves_from texts long) bs ≡ f → IsSome (term_of f (LongLeaf k)) → k < length long
-long_inside texts long bs f k e h =
-    let less = slice_get_inside f.leaves.long k h in
-    omega (arith, ap (λ g. length g.leaves.long) e, length-map long long_leaf)
+pub long_inside : (texts : List ℕ) (long : List (Sym × List ℕ)) (spans : List Span) (bs : List TermRef) (f : Grown)
+    (high low : ℕ) → grown (lists_from texts long spans) bs ≡ f → IsSome (term_of f (LongLeaf high low))
+    → number_of high low < length long
+long_inside texts long spans bs f high low e h =
+    let less = slice_get_inside f.lists.long_leaves (number_of high low) h in
+    omega (arith, less, ap (λ g. length g.lists.long_leaves) e, length-map long long_leaf)
 
-pub long_is : (texts : List ℕ) (long : List (Sym × List ℕ)) (bs : List TermRef) (f : Grown) (k : ℕ)
-    (l : Sym × List ℕ) → grown (leaves_from texts long) bs ≡ f → slice_get long k ≡ Some l
-    → StandsFor f (LongLeaf k) (long_leaf l)
-long_is texts long bs f k l e is = ap (λ g. term_of g (LongLeaf k)) (sym e)
-    ∙ (slice_get-map long_leaf long k ∙ ap (option_map long_leaf) is)
+pub long_is : (texts : List ℕ) (long : List (Sym × List ℕ)) (spans : List Span) (bs : List TermRef) (f : Grown)
+    (high low : ℕ) (l : Sym × List ℕ) → grown (lists_from texts long spans) bs ≡ f
+    → slice_get long (number_of high low) ≡ Some l → StandsFor f (LongLeaf high low) (long_leaf l)
+long_is texts long spans bs f high low l e is =
+    ap (λ g. term_of g (LongLeaf high low)) (sym e)
+    ∙ (slice_get-map long_leaf long (number_of high low) ∙ ap (option_map long_leaf) is)
 
--- leaves more
-pub leaves_known : (ls others ms : Leaves) (bs : List TermRef) → AreKnown ls [] bs → ms ≡ joined ls others
+-- reading a long node
+span_there : (ts : List Term) (spans : List Span) (k : ℕ) → IsSome (node_by ts (slice_get spans k)) → k < length spans
+span_there ts spans k h = slice_get_inside spans k (there (slice_get spans k) h)
+  where
+    there : (o : Option Span) → IsSome (node_by ts o) → IsSome o
+    there None h = h
+    there (Some s) h = refl
+
+pub long_node_inside : (texts : List ℕ) (long : List (Sym × List ℕ)) (spans : List Span) (bs : List TermRef)
+    (f : Grown) (high low : ℕ) → grown (lists_from texts long spans) bs ≡ f
+    → IsSome (term_of f (LongNode high low)) → number_of high low < length spans
+long_node_inside texts long spans bs f high low e h =
+    let less = span_there f.children f.lists.long_nodes (number_of high low) h in
+    omega (arith, less, ap (λ g. length g.lists.long_nodes) e)
+
+-- it is the node of its span
+pub long_node_is : (texts : List ℕ) (long : List (Sym × List ℕ)) (spans : List Span) (bs : List TermRef) (f : Grown)
+    (high low : ℕ) (s : Span) → grown (lists_from texts long spans) bs ≡ f
+    → slice_get spans (number_of high low) ≡ Some s
+    → term_of f (LongNode high low) ≡ term_of f (Node s.count s.rule.0 s.start)
+long_node_is texts long spans bs f high low s e is =
+    ap (λ g. node_by f.children (slice_get g.lists.long_nodes (number_of high low))) (sym e)
+    ∙ ap (node_by f.children) is
+
+-- lists more
+pub lists_known : (ls others ms : Lists) (bs : List TermRef) → AreKnown ls [] bs → ms ≡ joined ls others
     → AreKnown ms [] bs
-leaves_known ls others ms bs h e = subst (λ l. AreKnown l [] bs) (sym e) (AreKnown-leaf ls others [] bs h)
+lists_known ls others ms bs h e = subst (λ l. AreKnown l [] bs) (sym e) (AreKnown-leaf ls others [] bs h)
 
-pub leaves_keep : (ls others ms : Leaves) (bs : List TermRef) (f : Grown) → AreKnown ls [] bs
+pub lists_keep : (ls others ms : Lists) (bs : List TermRef) (f : Grown) → AreKnown ls [] bs
     → grown ls bs ≡ f → ms ≡ joined ls others → Keeps f (grown ms bs)
-leaves_keep ls others ms bs f h v e =
-    let same : grown ms bs ≡ record { leaves = joined ls others; children = terms_from ls [] bs }
+lists_keep ls others ms bs f h v e =
+    let same : grown ms bs ≡ record { lists = joined ls others; children = terms_from ls [] bs }
     = ap (λ l. grown l bs) e
-    ∙ ap (λ ts. record { leaves = joined ls others; children = ts }) (terms_from-leaf ls others [] bs h) in
+    ∙ ap (λ ts. record { lists = joined ls others; children = ts }) (terms_from-leaf ls others [] bs h) in
     subst (λ g. Keeps g (grown ms bs)) v (subst (λ g. Keeps (grown ls bs) g) (sym same)
-    (more_leaves ls others (terms_from ls [] bs)))
+    (more_lists ls others (terms_from ls [] bs)))
 
 -- a short leaf more
-pub short_joined : (texts ms text : List ℕ) (long : List (Sym × List ℕ)) → ms ≡ texts ++ text
-    → leaves_from ms long ≡ joined (leaves_from texts long) (record { texts = text; long = [] })
-short_joined texts ms text long e =
-    ap (λ xs. record { texts = xs; long = map long_leaf long }) e
-    ∙ ap (λ ts. record { texts = texts ++ text; long = ts }) (sym (append-nil (map long_leaf long)))
+pub short_joined : (texts ms text : List ℕ) (long : List (Sym × List ℕ)) (spans : List Span) → ms ≡ texts ++ text
+    → lists_from ms long spans
+    ≡ joined (lists_from texts long spans) (record { texts = text; long_leaves = []; long_nodes = [] })
+short_joined texts ms text long spans e = λ i. record {
+  texts = e i;
+  long_leaves = sym (append-nil (map long_leaf long)) i;
+  long_nodes = sym (append-nil spans) i;
+}
 
-pub short_stands : (texts ms text : List ℕ) (long : List (Sym × List ℕ)) (bs : List TermRef) (n t s : ℕ)
-    → ms ≡ texts ++ text → s ≡ length texts → n ≡ length text
-    → StandsFor (grown (leaves_from ms long) bs) (ShortLeaf n t s) (leaf t text)
-short_stands texts ms text long bs n t s e start count =
+pub short_stands : (texts ms text : List ℕ) (long : List (Sym × List ℕ)) (spans : List Span) (bs : List TermRef)
+    (n t s : ℕ) → ms ≡ texts ++ text → s ≡ length texts → n ≡ length text
+    → StandsFor (grown (lists_from ms long spans) bs) (ShortLeaf n t s) (leaf t text)
+short_stands texts ms text long spans bs n t s e start count =
     ap (option_map (λ x. leaf t x))
     (ap (piece s n) e ∙ (ap (λ k. piece k n (texts ++ text)) start
     ∙ (ap (λ k. piece (length texts) k (texts ++ text)) count ∙ piece_end texts text)))
 
 -- another leaf more
-pub long_joined : (texts : List ℕ) (long ls : List (Sym × List ℕ)) (l : Sym × List ℕ) → ls ≡ long ++ l ∷ []
-    → leaves_from texts ls ≡ joined (leaves_from texts long) (record { texts = []; long = long_leaf l ∷ [] })
-long_joined texts long ls l e =
-    ap (λ xs. record { texts = texts; long = map long_leaf xs }) e
-    ∙ (ap (λ ts. record { texts = texts; long = ts }) (map-append long_leaf long (l ∷ []))
-    ∙ ap (λ xs. record { texts = xs; long = map long_leaf long ++ long_leaf l ∷ [] }) (sym (append-nil texts)))
+pub long_joined : (texts : List ℕ) (long ls : List (Sym × List ℕ)) (spans : List Span) (l : Sym × List ℕ)
+    → ls ≡ long ++ l ∷ [] → lists_from texts ls spans
+    ≡ joined (lists_from texts long spans) (record { texts = []; long_leaves = long_leaf l ∷ []; long_nodes = [] })
+long_joined texts long ls spans l e =
+    let leaves : map long_leaf ls ≡ map long_leaf long ++ long_leaf l ∷ []
+    = ap (map long_leaf) e ∙ map-append long_leaf long (l ∷ []) in
+    λ i. record { texts = sym (append-nil texts) i; long_leaves = leaves i; long_nodes = sym (append-nil spans) i }
 
-pub long_stands : (texts : List ℕ) (long ls : List (Sym × List ℕ)) (bs : List TermRef)
-    (l : Sym × List ℕ) (k : ℕ) → ls ≡ long ++ l ∷ [] → k ≡ length long
-    → StandsFor (grown (leaves_from texts ls) bs) (LongLeaf k) (long_leaf l)
-long_stands texts long ls bs l k e n =
+pub long_stands : (texts : List ℕ) (long ls : List (Sym × List ℕ)) (spans : List Span) (bs : List TermRef)
+    (l : Sym × List ℕ) (high low : ℕ) → ls ≡ long ++ l ∷ [] → number_of high low ≡ length long
+    → StandsFor (grown (lists_from texts ls spans) bs) (LongLeaf high low) (long_leaf l)
+long_stands texts long ls spans bs l high low e n =
     ap (λ i. slice_get (map long_leaf ls) i) n
     ∙ (ap (λ xs. slice_get (map long_leaf xs) (length long)) e
     ∙ (slice_get-map long_leaf (long ++ l ∷ []) (length long)
     ∙ ap (option_map long_leaf) (slice_get_end long l)))
 
 -- a node more
-pub node_known : (ls : Leaves) (rs cs qs : List TermRef) (f : Grown) → AreKnown ls [] rs → grown ls rs ≡ f
+pub node_known : (ls : Lists) (rs cs qs : List TermRef) (f : Grown) → AreKnown ls [] rs → grown ls rs ≡ f
     → AllKnown f qs → cs ≡ rs ++ qs → AreKnown ls [] cs
 node_known ls rs cs qs f h v k e =
     subst (λ xs. AreKnown ls [] xs) (sym e)
     (AreKnown-more ls [] rs qs h (subst (λ g. AllKnown g qs) (sym v) k))
 
-pub node_keeps : (ls : Leaves) (rs cs qs : List TermRef) (f : Grown) → grown ls rs ≡ f → cs ≡ rs ++ qs
+pub node_keeps : (ls : Lists) (rs cs qs : List TermRef) (f : Grown) → grown ls rs ≡ f → cs ≡ rs ++ qs
     → Keeps f (grown ls cs)
 node_keeps ls rs cs qs f v e n t s =
     subst (λ g. StandsFor g n t) (sym (ap (grown ls) e
-    ∙ ap (λ ts. record { leaves = ls; children = ts }) (terms_from-more ls [] rs qs)))
+    ∙ ap (λ ts. record { lists = ls; children = ts }) (terms_from-more ls [] rs qs)))
     (terms_from-keeps ls (terms_from ls [] rs) qs n t (subst (λ g. StandsFor g n t) (sym v) s))
 
-pub node_stands : (ls : Leaves) (rs cs qs : List TermRef) (f : Grown) (n p s : ℕ) (ts : Terms) → AreKnown ls [] rs
+pub node_stands : (ls : Lists) (rs cs qs : List TermRef) (f : Grown) (n p s : ℕ) (ts : Terms) → AreKnown ls [] rs
     → grown ls rs ≡ f → cs ≡ rs ++ qs → s ≡ length rs → n ≡ length qs → StandForAll f qs ts
     → StandsFor (grown ls cs) (Node n p s) (built p ts)
 node_stands ls rs cs qs f n p s ts known v e start count stand =
     let done = terms_from ls [] rs in
-    let g : Grown = record { leaves = ls; children = terms_from ls done qs } in
+    let g : Grown = record { lists = ls; children = terms_from ls done qs } in
     let same : grown ls cs ≡ g
-    = ap (grown ls) e ∙ ap (λ us. record { leaves = ls; children = us }) (terms_from-more ls [] rs qs) in
+    = ap (grown ls) e ∙ ap (λ us. record { lists = ls; children = us }) (terms_from-more ls [] rs qs) in
     let size : length done ≡ s
     = ap length (children_are ls [] rs known)
     ∙ (length-map rs (term_by (grown ls rs)) ∙ sym start) in
@@ -277,3 +311,45 @@ node_stands ls rs cs qs f n p s ts known v e start count stand =
     ap (λ h. term_of h (Node n p s)) same
     ∙ (ap (option_map (λ us. built p (all_of us))) pieces
     ∙ ap (λ us. Some (built p us)) (all_of_map g qs ∙ stand_unwrapped g qs ts kept))
+
+-- a long node more: its children, and then its span
+module _ (texts : List ℕ) (long : List (Sym × List ℕ)) (spans longer : List Span) (rs cs qs : List TermRef) (f : Grown)
+    (s : Span) (known : AreKnown (lists_from texts long spans) [] rs)
+    (view : grown (lists_from texts long spans) rs ≡ f) (children : cs ≡ rs ++ qs)
+    (last : longer ≡ spans ++ s ∷ []) where
+  abbrev before : Lists
+  before = lists_from texts long spans
+
+  abbrev pub span_alone : Lists
+  span_alone = record { texts = []; long_leaves = []; long_nodes = s ∷ [] }
+
+  pub span_joined : lists_from texts long longer ≡ joined before span_alone
+  span_joined = λ i. record {
+    texts = sym (append-nil texts) i;
+    long_leaves = sym (append-nil (map long_leaf long)) i;
+    long_nodes = last i;
+  }
+
+  pub long_node_known : AllKnown f qs → AreKnown (lists_from texts long longer) [] cs
+  long_node_known k =
+      lists_known before span_alone (lists_from texts long longer) cs
+      (node_known before rs cs qs f known view k children) span_joined
+
+  span_keeps : AllKnown f qs → Keeps (grown before cs) (grown (lists_from texts long longer) cs)
+  span_keeps k =
+      lists_keep before span_alone (lists_from texts long longer) cs (grown before cs)
+      (node_known before rs cs qs f known view k children) refl span_joined
+
+  pub long_node_keeps : AllKnown f qs → Keeps f (grown (lists_from texts long longer) cs)
+  long_node_keeps k r t e = span_keeps k r t (node_keeps before rs cs qs f view children r t e)
+
+  pub long_node_stands : (high low : ℕ) (ts : Terms) → s.start ≡ length rs → s.count ≡ length qs
+      → number_of high low ≡ length spans → StandForAll f qs ts
+      → StandsFor (grown (lists_from texts long longer) cs) (LongNode high low) (built s.rule.0 ts)
+  long_node_stands high low ts start count number stand =
+      let there : slice_get longer (number_of high low) ≡ Some s
+      = ap (λ xs. slice_get xs (number_of high low)) last
+      ∙ (ap (slice_get (spans ++ s ∷ [])) number ∙ slice_get_end spans s) in
+      long_node_is texts long longer cs (grown (lists_from texts long longer) cs) high low s refl there
+      ∙ span_keeps (stand_all_known f qs ts stand) (Node s.count s.rule.0 s.start) (built s.rule.0 ts)
+      (node_stands before rs cs qs f s.count s.rule.0 s.start ts known view children start count stand)

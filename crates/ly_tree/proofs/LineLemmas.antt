@@ -12,15 +12,16 @@ use Rattle.ly_base.specs.Text.{before_leaf, escaped, token}
 use Rattle.ly_base.specs.declared.numbers.Sym.{Sym}
 use Rattle.ly_tree.proofs.CostLemmas.{length-terms_from}
 use Rattle.ly_tree.specs.Costs.{budget, bytes_in, cost, costs, IsPaid}
-use Rattle.ly_tree.specs.Forest.{term_of, Grown, Leaves}
-use Rattle.ly_tree.specs.Private.Grown.{grown, leaves_from, long_leaf, terms_from, AllKnown}
+use Rattle.ly_tree.specs.Forest.{term_of, Grown, Lists}
+use Rattle.ly_tree.specs.Private.Grown.{grown, lists_from, long_leaf, terms_from, AllKnown}
 use Rattle.ly_tree.specs.Private.Printing.{left_of, term_at, term_text, IsOpen}
 use Rattle.ly_tree.specs.Shown.{shown, shown_all, Vocabulary}
 use Rattle.ly_tree.specs.Term.{Term, Terms, built, leaf, more, none, nothing}
 use Rattle.ly_tree.specs.declared.forest.TermRef.{TermRef}
+use Rattle.ly_tree.specs.declared.span.Span.{Span}
 
 -- a child for each reference
-pub budget_is : (ls : Leaves) (rs : List TermRef) (f : Grown) (each byte : ℕ) → grown ls rs ≡ f
+pub budget_is : (ls : Lists) (rs : List TermRef) (f : Grown) (each byte : ℕ) → grown ls rs ≡ f
     → budget each byte f ≡ each * length rs + byte * bytes_in ls
 budget_is ls rs f each byte is =
     let long : length (terms_from ls [] rs) ≡ length rs = omega (arith, length-terms_from ls [] rs) in
@@ -28,13 +29,13 @@ budget_is ls rs f each byte is =
     omega (arith, ap (budget each byte) is, count)
 
 -- the bytes of leaves that aren't short
-pub long_bytes : (long : List (Sym × List ℕ)) (texts : List ℕ)
-    → bytes_in (leaves_from texts long) ≡ length texts + sum (map (λ l. length l.1) long)
-long_bytes [] texts = refl
-long_bytes (l ∷ ls) texts =
+pub long_bytes : (long : List (Sym × List ℕ)) (texts : List ℕ) (spans : List Span)
+    → bytes_in (lists_from texts long spans) ≡ length texts + sum (map (λ l. length l.1) long)
+long_bytes [] texts spans = refl
+long_bytes (l ∷ ls) texts spans =
     omega (
       arith,
-      long_bytes ls texts,
+      long_bytes ls texts spans,
       sum_by-cons (λ n. n) (length l.1) (map (λ l. length l.1) ls),
       sum_by-cons (λ n. n) (cost 0 1 (long_leaf l)) (map (λ t. cost 0 1 t) (map long_leaf ls)),
     )

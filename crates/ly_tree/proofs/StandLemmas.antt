@@ -2,11 +2,13 @@
 use Rattle.std.proofs.Common.{◌≡◌, ℕ, zero, suc, List, [], ◌∷◌, ◌++◌, get_or, arith, refl, ap, ◌∙◌}
 use Rattle.std.specs.Prelude.{slice_get, is_some, IsSome, None, Option, Some, option_map, unwrap_or}
 use Rattle.ly_tree.proofs.PieceLemmas.{piece-append}
-use Rattle.ly_tree.specs.Forest.{all_of, piece, term_of, terms_of, Grown, Keeps, Leaves, StandsFor, StandForAll}
+use Rattle.ly_tree.specs.Forest.{all_of, node_by, node_over, number_of, piece, term_of, terms_of, Grown, Keeps, Lists}
+use Rattle.ly_tree.specs.Forest.{StandsFor, StandForAll}
 use Rattle.ly_tree.specs.Private.Grown.{AllKnown}
 use Rattle.ly_tree.specs.Term.{Term, Terms, nothing, leaf, built, none, more}
 use Rattle.ly_tree.specs.declared.forest.TermRef.{TermRef}
-use Rattle.ly_tree.specs.declared.forest.TermRef.TheVariants.{Nothing, ShortLeaf, LongLeaf, Node}
+use Rattle.ly_tree.specs.declared.forest.TermRef.TheVariants.{Nothing, ShortLeaf, LongLeaf, Node, LongNode}
+use Rattle.ly_tree.specs.declared.span.Span.{Span}
 
 -- what is made of a piece stays when more come behind
 made-append : {A : Type 0} (make : List A → Term) (o p : Option (List A)) (t : Term)
@@ -20,21 +22,41 @@ slice_get-append [] ys k x e = cc
 slice_get-append (y ∷ xs) ys zero x e = e
 slice_get-append (y ∷ xs) ys (suc k) x e = slice_get-append xs ys k x e
 
--- leaves, and others behind them
-abbrev pub joined : Leaves → Leaves → Leaves
-joined ls ms = record { texts = ls.texts ++ ms.texts; long = ls.long ++ ms.long }
+-- a node stays when more children come behind
+node_kept : (ts us : List Term) (n rule start : ℕ) (t : Term) → node_over ts n rule start ≡ Some t
+    → node_over (ts ++ us) n rule start ≡ Some t
+node_kept ts us n rule start t e =
+    made-append (λ xs. built rule (all_of xs)) (piece start n ts) (piece start n (ts ++ us)) t
+    (λ xs. piece-append start n ts us xs) e
 
--- leaves and children that come behind change no term
-pub Keeps-append : (ls ms : Leaves) (ts us : List Term)
-    → Keeps (record { leaves = ls; children = ts }) (record { leaves = joined ls ms; children = ts ++ us })
+long_node_kept : (ts us : List Term) (o p : Option Span) (t : Term) → ((s : Span) → o ≡ Some s → p ≡ Some s)
+    → node_by ts o ≡ Some t → node_by (ts ++ us) p ≡ Some t
+long_node_kept ts us None p t h e = cc
+long_node_kept ts us (Some s) p t h e =
+    ap (node_by (ts ++ us)) (h s refl) ∙ node_kept ts us s.count s.rule.0 s.start t e
+
+-- lists, and others behind them
+abbrev pub joined : Lists → Lists → Lists
+joined ls ms = record {
+  texts = ls.texts ++ ms.texts;
+  long_leaves = ls.long_leaves ++ ms.long_leaves;
+  long_nodes = ls.long_nodes ++ ms.long_nodes;
+}
+
+-- lists and children that come behind change no term
+pub Keeps-append : (ls ms : Lists) (ts us : List Term)
+    → Keeps (record { lists = ls; children = ts }) (record { lists = joined ls ms; children = ts ++ us })
 Keeps-append ls ms ts us Nothing t e = e
 Keeps-append ls ms ts us (ShortLeaf n terminal start) t e =
     made-append (λ text. leaf terminal text) (piece start n ls.texts) (piece start n (ls.texts ++ ms.texts)) t
     (λ text. piece-append start n ls.texts ms.texts text) e
-Keeps-append ls ms ts us (LongLeaf k) t e = slice_get-append ls.long ms.long k t e
-Keeps-append ls ms ts us (Node n rule start) t e =
-    made-append (λ xs. built rule (all_of xs)) (piece start n ts) (piece start n (ts ++ us)) t
-    (λ xs. piece-append start n ts us xs) e
+Keeps-append ls ms ts us (LongLeaf high low) t e =
+    slice_get-append ls.long_leaves ms.long_leaves (number_of high low) t e
+Keeps-append ls ms ts us (Node n rule start) t e = node_kept ts us n rule start t e
+Keeps-append ls ms ts us (LongNode high low) t e =
+    let k : ℕ = number_of high low in
+    long_node_kept ts us (slice_get ls.long_nodes k) (slice_get (ls.long_nodes ++ ms.long_nodes) k) t
+    (λ s. slice_get-append ls.long_nodes ms.long_nodes k s) e
 
 -- a reference that stands for a term has it
 pub known_stands : (f : Grown) (n : TermRef) → IsSome (term_of f n) → StandsFor f n (unwrap_or (term_of f n) nothing)

@@ -1,7 +1,7 @@
 -- What a term costs: so much for each term that it consists of, itself among them, and so much for each byte of its
 -- leaves. So many sums over terms are one: how many terms there are, how many bytes, how long a printed text may be.
 use Rattle.std.specs.Prelude.{ℕ, ◌≤◌, ◌+◌, ◌*◌, length, map, sum}
-use Rattle.ly_tree.specs.Forest.{Grown, Leaves}
+use Rattle.ly_tree.specs.Forest.{Grown, Lists}
 use Rattle.ly_tree.specs.Term.{Term, Terms, nothing, leaf, built, none, more}
 
 abbrev mutual
@@ -15,12 +15,12 @@ abbrev mutual
   costs each byte (more t ts) = cost each byte t + costs each byte ts
 
 -- how many bytes the leaves of a forest have
-abbrev pub bytes_in : Leaves → ℕ
-bytes_in l = length l.texts + sum (map (λ t. cost 0 1 t) l.long)
+abbrev pub bytes_in : Lists → ℕ
+bytes_in l = length l.texts + sum (map (λ t. cost 0 1 t) l.long_leaves)
 
 -- what a forest can pay: for a term for each of its children, and for each byte of its leaves
 abbrev pub budget : ℕ → ℕ → Grown → ℕ
-budget each byte f = each * length f.children + byte * bytes_in f.leaves
+budget each byte f = each * length f.children + byte * bytes_in f.lists
 
 -- A forest pays for a term, which is no child itself: none of its parts is used twice.
 abbrev pub IsPaid : Grown → Term → Type 0

@@ -1,27 +1,30 @@
 -- What a forest holds: the texts of leaves and the children of nodes, of which a part is a leaf or a node.
-use Rattle.std.specs.Prelude.{◌≡◌, ℕ, zero, suc, List, [], ◌∷◌, Option, Some, None, slice_get, option_map}
+use Rattle.std.specs.Prelude.{◌≡◌, ℕ, zero, suc, ◌+◌, ◌*◌, List, [], ◌∷◌, Option, Some, None, slice_get, option_map}
 use Rattle.std.specs.Prelude.{unwrap_or}
 use Rattle.ly_tree.specs.Term.{Term, Terms, nothing, leaf, built, none, more}
 use Rattle.ly_tree.specs.declared.forest.TermRef.{TermRef}
-use Rattle.ly_tree.specs.declared.forest.TermRef.TheVariants.{Nothing, ShortLeaf, LongLeaf, Node}
+use Rattle.ly_tree.specs.declared.forest.TermRef.TheVariants.{Nothing, ShortLeaf, LongLeaf, Node, LongNode}
+use Rattle.ly_tree.specs.declared.span.Span.{Span}
 
--- The texts of short leaves, one behind another, and the other leaves.
-pub record Leaves : Type 0 where
+-- The texts of short leaves, one behind another; the other leaves; and of each long node its rule, and where its
+-- children stand.
+pub record Lists : Type 0 where
   pub texts : List ℕ
-  pub long : List Term
+  pub long_leaves : List Term
+  pub long_nodes : List Span
 
--- The leaves, and the terms of the children of nodes, one behind another.
+-- The lists, and the terms of the children of nodes, one behind another.
 pub record Grown : Type 0 where
-  pub leaves : Leaves
+  pub lists : Lists
   pub children : List Term
 
--- no leaf
-abbrev pub no_leaves : Leaves
-no_leaves = record { texts = []; long = [] }
+-- no leaf and no long node
+abbrev pub no_lists : Lists
+no_lists = record { texts = []; long_leaves = []; long_nodes = [] }
 
 -- neither leaf nor node
 abbrev pub no_terms : Grown
-no_terms = record { leaves = no_leaves; children = [] }
+no_terms = record { lists = no_lists; children = [] }
 
 -- the first n, if there are so many
 abbrev pub first : {A : Type 0} → ℕ → List A → Option (List A)
@@ -40,13 +43,27 @@ abbrev pub all_of : List Term → Terms
 all_of [] = none
 all_of (t ∷ ts) = more t (all_of ts)
 
+-- the number of a long leaf or node, which is kept in two parts
+abbrev pub number_of : ℕ → ℕ → ℕ
+number_of high low = high * 4294967296 + low
+
+-- the node of a rule over so many children behind others, if they are there
+abbrev pub node_over : List Term → ℕ → ℕ → ℕ → Option Term
+node_over children n rule start = option_map (λ ts. built rule (all_of ts)) (piece start n children)
+
+-- that of a span, if there is one
+abbrev pub node_by : List Term → Option Span → Option Term
+node_by children None = None
+node_by children (Some s) = node_over children s.count s.rule.0 s.start
+
 -- the term that stands there, if one does
 abbrev pub term_of : Grown → TermRef → Option Term
 term_of f Nothing = Some nothing
 term_of f (ShortLeaf length terminal start) =
-    option_map (λ text. leaf terminal text) (piece start length f.leaves.texts)
-term_of f (LongLeaf k) = slice_get f.leaves.long k
-term_of f (Node n rule start) = option_map (λ ts. built rule (all_of ts)) (piece start n f.children)
+    option_map (λ text. leaf terminal text) (piece start length f.lists.texts)
+term_of f (LongLeaf high low) = slice_get f.lists.long_leaves (number_of high low)
+term_of f (Node n rule start) = node_over f.children n rule start
+term_of f (LongNode high low) = node_by f.children (slice_get f.lists.long_nodes (number_of high low))
 
 -- the terms that stand there
 abbrev pub terms_of : Grown → List TermRef → Terms

@@ -3,8 +3,10 @@ ghost use Rattle.std.specs.Prelude.{All, IfOk, IfSome, IsSome, OnErr, OnOk};
 ghost use Rattle.ly_tree.specs.Private.Headed.{ref_at};
 ghost use Rattle.ly_tree.specs.Term.{at_places, built, leaf};
 
-use crate::headed::{Headed, number_of};
+use crate::headed::Headed;
+use crate::numbers::{number_of, parts_of};
 use crate::refers::Refers;
+use crate::span::Span;
 use ly_base::{Front, OutOfMemory, RuleNo, Sym, Texts};
 use std::alloc::Global;
 use std::marker::Model;
@@ -14,7 +16,7 @@ use std::marker::Model;
 pub enum TermRef {
     /// Nothing, which is in every forest.
     Nothing,
-    /// A leaf of a short text, which stands among the texts of a forest.
+    /// A short leaf, whose text stands among the texts of a forest.
     ShortLeaf {
         /// How many bytes its text has.
         length: u8,
@@ -23,8 +25,13 @@ pub enum TermRef {
         /// How many bytes stand before its text.
         start: u32,
     },
-    /// Another leaf, by its number among these.
-    LongLeaf(u32),
+    /// A long leaf, by its number among these.
+    LongLeaf {
+        /// The upper part of the number.
+        high: u16,
+        /// The lower part of the number.
+        low: u32,
+    },
     /// A node, whose children stand one behind another among those of a forest.
     Node {
         /// How many children it has.
@@ -34,15 +41,26 @@ pub enum TermRef {
         /// How many children of other nodes stand before its own.
         start: u32,
     },
+    /// A long node, by its number among these.
+    LongNode {
+        /// The upper part of the number.
+        high: u16,
+        /// The lower part of the number.
+        low: u32,
+    },
 }
+
+const _: () = prove!(size_of::<TermRef>() == 8);
 
 /// Leaves, and nodes over leaves.
 #[derive(Drop)]
 pub struct Forest {
     /// The texts of short leaves, one behind another.
     texts: Texts,
-    /// The leaves that aren't short: the text of each, under its terminal.
-    long: Headed<Sym, u8>,
+    /// The long leaves: the text of each, under its terminal.
+    long_leaves: Headed<Sym, u8>,
+    /// The long nodes: of each its rule, and where its children stand.
+    long_nodes: Vec<Span>,
     /// The children of nodes, one node's behind another's. Those of a child stand before it.
     children: Vec<TermRef>,
 }
@@ -56,11 +74,11 @@ impl Model for Forest {
     ghost coded = { grown_code };
 
     ghost use Rattle.std.specs.Prelude.{[]};
-    ghost use Rattle.ly_tree.specs.Private.Grown.{grown, leaves_from, AreKnown};
+    ghost use Rattle.ly_tree.specs.Private.Grown.{grown, lists_from, AreKnown};
 
-    ghost view = { λ f. grown (leaves_from f.texts f.long) f.children.items };
+    ghost view = { λ f. grown (lists_from f.texts f.long_leaves f.long_nodes.items) f.children.items };
 
-    ghost invariant = { λ f. AreKnown (leaves_from f.texts f.long) [] f.children.items };
+    ghost invariant = { λ f. AreKnown (lists_from f.texts f.long_leaves f.long_nodes.items) [] f.children.items };
 }
 
 impl Forest {
@@ -74,13 +92,13 @@ impl Forest {
     {
         Forest {
             texts: Texts::new(alloc),
-            long: Headed::new(alloc),
+            long_leaves: Headed::new(alloc),
+            long_nodes: Vec::new(alloc),
             children: Vec::new(alloc),
         }
     }
 
-    /// Adds a leaf, and answers it. It is out of memory also behind `u32::MAX` bytes of short texts, and past
-    /// `u32::MAX` leaves that aren't short, or bytes of these. After the fault the forest is as it was.
+    /// Adds a leaf, and answers it. After the fault the forest is as it was.
     pub fn leaf(&mut self, terminal: Sym, text: &Front<'_>) -> Result<TermRef, OutOfMemory>
         ensures stands { IfOk result (λ r. StandsFor self.new r (leaf terminal.0 text.now)) }
         ensures keeps { OnOk result (Keeps self.old self.new) }
@@ -88,19 +106,22 @@ impl Forest {
             ≡ budget each byte self.old + byte * length text.now) }
         ensures err { OnErr result (self.new ≡ self.old) }
     {
-        if text.len() > u8::MAX as usize || terminal.0 > u16::MAX as u32 {
+        let start = self.texts.len();
+        if text.len() > u8::MAX as usize
+            || terminal.0 > u16::MAX as u32
+            || start > u32::MAX as usize
+        {
             return self.long_leaf(terminal, text.bytes());
         }
-        let start = number_of(self.texts.len())?;
         self.texts.push(text)?;
         Ok(TermRef::ShortLeaf {
             length: text.len() as u8,
             terminal: terminal.0 as u16,
-            start,
+            start: start as u32,
         })
     }
 
-    /// Adds a leaf that isn't short, and answers it.
+    /// Adds a long leaf, and answers it.
     #[inline(never)] // so that a short one has the registers
     fn long_leaf(&mut self, terminal: Sym, text: &[u8]) -> Result<TermRef, OutOfMemory>
         ensures stands { IfOk result (λ r. StandsFor self.new r (leaf terminal.0 text.now)) }
@@ -109,12 +130,13 @@ impl Forest {
             ≡ budget each byte self.old + byte * length text.now) }
         ensures err { OnErr result (self.new ≡ self.old) }
     {
-        Ok(TermRef::LongLeaf(self.long.push(terminal, text)?))
+        let (high, low) = parts_of(self.long_leaves.len())?;
+        self.long_leaves.push(terminal, text)?;
+        Ok(TermRef::LongLeaf { high, low })
     }
 
-    /// Adds a node, whose children are the terms at these places of a body, which count from 1, and answers it. It is
-    /// out of memory also behind `u32::MAX` children of other nodes, past `u8::MAX` of its own, and for a rule past
-    /// `u16::MAX`. After the fault the forest is as it was.
+    /// Adds a node, whose children are the terms at these places of a body, which count from 1, and answers it. After
+    /// the fault the forest is as it was.
     pub fn node<R: Refers>(
         &mut self,
         rule: RuleNo,
@@ -130,16 +152,48 @@ impl Forest {
             ≡ budget each byte self.old + each * length places.now) }
         ensures err { OnErr result (self.new ≡ self.old) }
     {
-        if places.len() > u8::MAX as usize || rule.0 > u16::MAX as u32 {
-            return Err(OutOfMemory);
+        let start = self.children.len();
+        if places.len() > u8::MAX as usize
+            || rule.0 > u16::MAX as u32
+            || start > u32::MAX as usize
+        {
+            return self.long_node(rule, body, places);
         }
-        let start = number_of(self.children.len())?;
         pick(&mut self.children, body, places)?;
         Ok(TermRef::Node {
             children: places.len() as u8,
             rule: rule.0 as u16,
-            start,
+            start: start as u32,
         })
+    }
+
+    /// Adds a long node, and answers it.
+    #[inline(never)] // so that another one has the registers
+    fn long_node<R: Refers>(
+        &mut self,
+        rule: RuleNo,
+        body: &[R],
+        places: &[u32],
+    ) -> Result<TermRef, OutOfMemory>
+        requires known { All (λ r. IsSome (term_of self.old (R.referred r))) body.now }
+        requires places { All (λ i. (1 ≤ i) × (i ≤ length body.now)) places.now }
+        ensures stands { IfOk result (λ r. StandsFor self.new r
+            (built rule.0 (at_places (terms_of self.old (map R.referred body.now)) places.now))) }
+        ensures keeps { OnOk result (Keeps self.old self.new) }
+        ensures pays { OnOk result ((each byte : ℕ) → budget each byte self.new
+            ≡ budget each byte self.old + each * length places.now) }
+        ensures err { OnErr result (self.new ≡ self.old) }
+    {
+        let (high, low) = parts_of(self.long_nodes.len())?;
+        let start = self.children.len();
+        self.long_nodes.reserve(1)?;
+        pick(&mut self.children, body, places)?;
+        self.long_nodes.push_reserved(Span {
+            rule,
+            start,
+            count: places.len(),
+        });
+        Ok(TermRef::LongNode { high, low })
     }
 
     /// How long the line of a term may be whose parts are used once each, where no label is longer than that; nothing,
@@ -149,7 +203,7 @@ impl Forest {
     {
         let each = label.checked_add(4)?;
         let terms = self.children.len().checked_mul(each)?;
-        let bytes = self.texts.len().checked_add(self.long.members())?;
+        let bytes = self.texts.len().checked_add(self.long_leaves.members())?;
         each.checked_add(terms.checked_add(bytes.checked_mul(4)?)?)
     }
 
@@ -175,22 +229,34 @@ impl Forest {
         self.texts.front(start as usize, length as usize)
     }
 
-    /// A leaf that isn't short: its terminal and its text.
-    pub(crate) fn long_leaf_at(&self, number: u32) -> (Sym, &[u8])
-        requires { IsSome (term_of self.now (TermRef.LongLeaf number)) }
-        ensures { StandsFor self.now (TermRef.LongLeaf number) (leaf result.0.0 result.1.now) }
+    /// A long leaf: its terminal and its text.
+    pub(crate) fn long_leaf_at(&self, high: u16, low: u32) -> (Sym, &[u8])
+        requires { IsSome (term_of self.now (TermRef.LongLeaf high low)) }
+        ensures { StandsFor self.now (TermRef.LongLeaf high low) (leaf result.0.0 result.1.now) }
     {
-        self.long.get(number)
+        self.long_leaves.get(number_of(high, low))
     }
 
     /// The children of a node.
-    pub(crate) fn children_of(&self, children: u8, rule: u16, start: u32) -> &[TermRef]
-        requires { IsSome (term_of self.now (TermRef.Node children rule start)) }
-        ensures term { StandsFor self.now (TermRef.Node children rule start)
-            (built rule (terms_of self.now result.now)) }
+    pub(crate) fn children_of(&self, children: usize, rule: RuleNo, start: usize) -> &[TermRef]
+        requires { IsSome (term_of self.now (TermRef.Node children rule.0 start)) }
+        ensures term { StandsFor self.now (TermRef.Node children rule.0 start)
+            (built rule.0 (terms_of self.now result.now)) }
         ensures known { AllKnown self.now result.now }
     {
-        part(&self.children, start as usize, children as usize)
+        part(&self.children, start, children)
+    }
+
+    /// A long node: its rule and its children.
+    #[inline(never)] // as `long_node`
+    pub(crate) fn long_node_at(&self, high: u16, low: u32) -> (RuleNo, &[TermRef])
+        requires { IsSome (term_of self.now (TermRef.LongNode high low)) }
+        ensures term { StandsFor self.now (TermRef.LongNode high low)
+            (built result.0.0 (terms_of self.now result.1.now)) }
+        ensures known { AllKnown self.now result.1.now }
+    {
+        let Span { rule, start, count } = self.long_nodes[number_of(high, low)];
+        (rule, self.children_of(count, rule, start))
     }
 }
 

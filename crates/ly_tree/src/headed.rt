@@ -1,5 +1,5 @@
 ghost use Rattle.std.specs.Prelude.{◌≡◌, ◌<◌, ◌≤◌, ◌+◌, ◌-◌, [], ◌∷◌, ◌++◌, length, take, drop};
-ghost use Rattle.std.specs.Prelude.{map, slice_get, sum, IfOk, OnErr, OnOk, Some};
+ghost use Rattle.std.specs.Prelude.{map, slice_get, sum, OnErr, OnOk, Some};
 ghost use Rattle.ly_tree.specs.Private.Headed.{start_after};
 
 use ly_base::OutOfMemory;
@@ -12,7 +12,7 @@ struct Heading<H> {
     /// The head.
     head: H,
     /// How many members stand before its end, those of the lists before it too.
-    end: u32,
+    end: usize,
 }
 
 /// Lists, each under a head, one after another in one block.
@@ -53,6 +53,13 @@ impl<H, T> Headed<H, T> {
 }
 
 impl<H, T> Headed<H, T> {
+    /// How many lists there are.
+    pub(crate) fn len(&self) -> usize
+        ensures { result ≡ length self.now }
+    {
+        self.headings.len()
+    }
+
     /// How many members all lists have.
     pub(crate) fn members(&self) -> usize
         ensures { result ≡ sum (map (λ l. length l.1) self.now) }
@@ -62,30 +69,26 @@ impl<H, T> Headed<H, T> {
 }
 
 impl<H: Copy, T: Copy> Headed<H, T> {
-    /// Adds a list, and answers its number. It is out of memory also past `u32::MAX` lists, or members. After the fault
-    /// the lists are as they were.
-    pub(crate) fn push(&mut self, head: H, list: &[T]) -> Result<u32, OutOfMemory>
+    /// Adds a list. After the fault the lists are as they were.
+    pub(crate) fn push(&mut self, head: H, list: &[T]) -> Result<(), OutOfMemory>
         ensures ok { OnOk result (self.new ≡ self.old ++ (head, list.now) ∷ []) }
-        ensures number { IfOk result (λ n. n ≡ length self.old) }
         ensures err { OnErr result (self.new ≡ self.old) }
     {
-        let number = number_of(self.headings.len())?;
-        let end = end_of(self.members.len(), list.len())?;
         self.headings.reserve(1)?;
         self.members.extend_from_slice(list)?;
+        let end = self.members.len();
         self.headings.push_reserved(Heading { head, end });
-        Ok(number)
+        Ok(())
     }
 
     /// The list of a number, under its head.
-    pub(crate) fn get(&self, number: u32) -> (H, &[T])
+    pub(crate) fn get(&self, number: usize) -> (H, &[T])
         requires { number < length self.now }
         ensures { slice_get self.now number ≡ Some (result.0, result.1.now) }
     {
-        let at = number as usize;
-        let start = start_of(&self.headings, at);
-        let Heading { head, end } = self.headings[at];
-        (head, part(&self.members, start, end as usize))
+        let start = start_of(&self.headings, number);
+        let Heading { head, end } = self.headings[number];
+        (head, part(&self.members, start, end))
     }
 }
 
@@ -106,25 +109,6 @@ fn start_of<H: Copy>(headings: &[Heading<H>], number: usize) -> usize
     if number == 0 {
         0
     } else {
-        headings[number - 1].end as usize
+        headings[number - 1].end
     }
-}
-
-/// A count as a number.
-pub(crate) fn number_of(count: usize) -> Result<u32, OutOfMemory>
-    ensures { IfOk result (λ n. n ≡ count) }
-{
-    // by `u32::try_from` it takes twice the time
-    if count <= u32::MAX as usize {
-        Ok(count as u32)
-    } else {
-        Err(OutOfMemory)
-    }
-}
-
-/// Where more members end behind others.
-fn end_of(members: usize, more: usize) -> Result<u32, OutOfMemory>
-    ensures { IfOk result (λ end. end ≡ members + more) }
-{
-    number_of(members.checked_add(more).ok_or(OutOfMemory)?)
 }

@@ -241,8 +241,8 @@ fn begin<'f, W: Words, S: Sink>(
             let text = forest.short_text(length, terminal, start);
             print_leaf(out, writer, words, Sym(u32::from(terminal)), &text)?;
         }
-        TermRef::LongLeaf(leaf) => {
-            let (terminal, text) = forest.long_leaf_at(leaf);
+        TermRef::LongLeaf { high, low } => {
+            let (terminal, text) = forest.long_leaf_at(high, low);
             let text = Front::new(text, text.len());
             print_leaf(out, writer, words, terminal, &text)?;
         }
@@ -251,9 +251,14 @@ fn begin<'f, W: Words, S: Sink>(
             rule,
             start,
         } => {
-            let label = words.node_label(RuleNo(u32::from(rule)));
-            out.push_label(writer, label)?;
-            return Ok(Some(forest.children_of(children, rule, start)));
+            let rule = RuleNo(u32::from(rule));
+            out.push_label(writer, words.node_label(rule))?;
+            return Ok(Some(forest.children_of(usize::from(children), rule, start as usize)));
+        }
+        TermRef::LongNode { high, low } => {
+            let (rule, children) = forest.long_node_at(high, low);
+            out.push_label(writer, words.node_label(rule))?;
+            return Ok(Some(children));
         }
     }
     Ok(None)

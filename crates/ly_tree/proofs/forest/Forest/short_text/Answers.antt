@@ -1,12 +1,14 @@
 use Rattle.ly_tree.proofs.GrownLemmas.{short_inside, short_is}
-use Rattle.ly_tree.specs.Private.Grown.{leaves_from}
+use Rattle.ly_tree.specs.Private.Grown.{lists_from}
 use Rattle.ly_tree.proofs.forest.Forest.short_text.Goals as goal
 
 pub front-requires : goal.front-requires
-front-requires c = short_inside (leaves_from c.self.inside.texts c.self.inside.long) c.self.inside.children.items
-    c.args.self.now c.args.length c.args.terminal c.args.start c.self.view_is c.requires
+front-requires c = short_inside
+    (lists_from c.self.inside.texts c.self.inside.long_leaves c.self.inside.long_nodes.items)
+    c.self.inside.children.items c.args.self.now c.args.length c.args.terminal c.args.start c.self.view_is c.requires
 
 pub returns : goal.returns
 returns c =
-    short_is (leaves_from c.self.inside.texts c.self.inside.long) c.front.result c.self.inside.children.items
+    short_is (lists_from c.self.inside.texts c.self.inside.long_leaves c.self.inside.long_nodes.items) c.front.result
+    c.self.inside.children.items
     c.args.self.now c.args.length c.args.terminal c.args.start c.self.view_is c.requires c.front.ensures

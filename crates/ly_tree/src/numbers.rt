@@ -1,0 +1,26 @@
+ghost use Rattle.std.specs.Prelude.{◌≡◌, IfOk};
+ghost use Rattle.ly_tree.specs.Forest.{number_of};
+
+use ly_base::OutOfMemory;
+
+/// How many numbers the lower part tells apart.
+const LOWER: usize = 4_294_967_296;
+
+/// The two parts of the number of a long leaf or node, which have 48 bits together. So many of these as would need more
+/// take over 4,000 terabytes, and are out of memory.
+pub(crate) fn parts_of(number: usize) -> Result<(u16, u32), OutOfMemory>
+    ensures { IfOk result (λ parts. number_of parts.0 parts.1 ≡ number) }
+{
+    let high = number / LOWER;
+    if high > u16::MAX as usize {
+        return Err(OutOfMemory);
+    }
+    Ok((high as u16, (number % LOWER) as u32))
+}
+
+/// The number of these parts.
+pub(crate) fn number_of(high: u16, low: u32) -> usize
+    ensures { result ≡ number_of high low }
+{
+    high as usize * LOWER + low as usize
+}
