@@ -1,5 +1,5 @@
 ghost use Rattle.std.specs.Prelude.{◌≡◌, ◌<◌, ◌≤◌, ◌+◌, ◌*◌, ◌^◌, ◌&&◌, ℕ, length, nat_eq, if◌then◌else◌};
-ghost use Rattle.std.specs.Prelude.{slice_index_or, None, IfOk};
+ghost use Rattle.std.specs.Prelude.{slice_index_or, None, IfOk, OnErr, OnOk};
 ghost use Rattle.std.specs.Prelude.{IfSome, option_map};
 ghost use Rattle.ly_scan.specs.StateRows.{row_entry, state_at, Begins};
 ghost use Rattle.ly_scan.specs.Private.StateRows.{target_in, IsStart};
@@ -10,6 +10,9 @@ use std::marker::Model;
 
 /// How many entries a row has: one for each byte, or for each class of bytes that there may be.
 const WIDTH: usize = 256;
+
+/// How many states may have rows.
+const MOST_STATES: usize = 1 << 24;
 
 /// The entry that leads nowhere: no row begins there.
 const NOWHERE: u32 = 1;
@@ -61,16 +64,14 @@ impl Model for StateRows {
 }
 
 impl StateRows {
-    /// Rows without an entry for so many states. It fails where memory runs out, and past 2^24 states.
+    /// Rows without an entry for so many states. It fails where memory runs out (see `entries_of` too).
     pub fn new(alloc: Global, states: usize) -> Result<StateRows, OutOfMemory>
         ensures count { IfOk result (λ r. length r ≡ states * 256) }
         ensures none { IfOk result (λ r. (state column : ℕ) → row_entry r state column ≡ None) }
     {
-        if 1 << 24 < states {
-            return Err(OutOfMemory);
-        }
+        let count = entries_of(states)?;
         Ok(StateRows {
-            entries: vec![in alloc; NOWHERE; states * WIDTH]?,
+            entries: vec![in alloc; NOWHERE; count]?,
         })
     }
 
@@ -103,6 +104,20 @@ impl StateRows {
             })
         }
     }
+}
+
+/// How many entries the rows of so many states have. Where a row begins has 32 bits, so the rows of more than 2^24
+/// states, over 16 GB, are out of memory. No scanner has so many: each version of the table file has 262,143 states at
+/// most, a 64th of these, and no scanner with more is made.
+fn entries_of(states: usize) -> Result<usize, OutOfMemory>
+    ensures count { IfOk result (λ n. n ≡ states * 256) }
+    ensures fits { OnOk result (states * 256 ≤ 2 ^ 32) }
+    ensures past { OnErr result (2 ^ 24 < states) }
+{
+    if MOST_STATES < states {
+        return Err(OutOfMemory);
+    }
+    Ok(states * WIDTH)
 }
 
 /// The entry of a column in the row that begins at a place.
