@@ -1,358 +1,172 @@
-//! Least sets along graphs: the one pass against a program that goes round until nothing grows.
+//! Least sets along graphs: the one pass against going round until nothing grows.
 
-use crate::sets::{Plain, holds, insert, same_rows};
-use ly_base::Sym;
+use crate::sets::{count, holds, insert};
+use ly_base::OutOfMemory;
 use ly_digraph::{Graph, least};
 use ly_sets::SetMatrix;
-use std::alloc::{AllocError, Global};
+use std::alloc::Global;
 use std::test::Fail;
 
-/// A graph, and which numbers below `WIDTH` its nodes are given.
-struct Example {
-    name: &'static str,
-    nodes: usize,
-    edges: &'static [(usize, usize)],
-    given: &'static [(usize, u32)],
-}
+/// Which numbers below this one a node may be given.
+const WIDTH: u32 = 9;
 
-const WIDTH: usize = 9;
-
-/// The last ones are drawn at random.
-const EXAMPLES: [Example; 20] = [
-    Example {
-        name: "no nodes",
-        nodes: 0,
-        edges: &[],
-        given: &[],
-    },
-    Example {
-        name: "no edges",
-        nodes: 3,
-        edges: &[],
-        given: &[(0, 1), (2, 8)],
-    },
-    Example {
-        name: "self loops",
-        nodes: 3,
-        edges: &[(0, 0), (1, 1), (1, 2), (2, 2)],
-        given: &[(0, 3), (2, 4)],
-    },
-    Example {
-        name: "an edge twice",
-        nodes: 2,
-        edges: &[(0, 1), (0, 1)],
-        given: &[(1, 5)],
-    },
-    Example {
-        name: "two rings joined",
-        nodes: 7,
-        edges: &[
-            (0, 1),
-            (1, 2),
-            (2, 0),
-            (2, 3),
-            (3, 4),
-            (4, 5),
-            (5, 6),
-            (6, 3),
-        ],
-        given: &[(0, 0), (1, 1), (2, 2), (3, 3), (4, 4), (5, 5), (6, 6)],
-    },
-    Example {
-        name: "two rings joined the other way, entered in the middle",
-        nodes: 7,
-        edges: &[
-            (4, 5),
-            (5, 6),
-            (6, 3),
-            (3, 4),
-            (5, 1),
-            (1, 2),
-            (2, 0),
-            (0, 1),
-        ],
-        given: &[(0, 0), (1, 1), (2, 2), (3, 3), (4, 4), (5, 5), (6, 6)],
-    },
-    Example {
-        name: "a ring in a ring",
-        nodes: 6,
-        edges: &[
-            (0, 1),
-            (1, 2),
-            (2, 1),
-            (2, 3),
-            (3, 4),
-            (4, 3),
-            (4, 5),
-            (5, 0),
-        ],
-        given: &[(0, 0), (1, 1), (2, 2), (3, 3), (4, 4), (5, 5)],
-    },
-    Example {
-        name: "an edge to a part that is closed",
-        nodes: 5,
-        edges: &[(0, 1), (1, 2), (2, 1), (0, 3), (3, 4), (4, 1), (4, 3)],
-        given: &[(2, 7), (3, 8)],
-    },
-    Example {
-        name: "random 0",
-        nodes: 5,
-        edges: &[
-            (0, 0),
-            (2, 4),
-            (3, 3),
-            (3, 2),
-            (0, 1),
-            (0, 0),
-            (1, 0),
-            (0, 0),
-            (2, 3),
-            (0, 4),
-        ],
-        given: &[(0, 1), (3, 3), (0, 1)],
-    },
-    Example {
-        name: "random 1",
-        nodes: 3,
-        edges: &[(2, 1), (0, 0), (2, 0)],
-        given: &[(1, 1), (2, 1)],
-    },
-    Example {
-        name: "random 2",
-        nodes: 5,
-        edges: &[(2, 2), (4, 2), (2, 4), (1, 2), (1, 1)],
-        given: &[(2, 5), (4, 3), (1, 7)],
-    },
-    Example {
-        name: "random 3",
-        nodes: 9,
-        edges: &[(7, 0), (6, 1), (0, 8), (3, 0)],
-        given: &[(6, 8), (8, 5), (1, 2), (7, 3), (6, 5)],
-    },
-    Example {
-        name: "random 4",
-        nodes: 12,
-        edges: &[(8, 0), (2, 0), (1, 3), (4, 1), (5, 3), (0, 5)],
-        given: &[(11, 6), (5, 2), (0, 7), (3, 4), (9, 4), (7, 8), (0, 6)],
-    },
-    Example {
-        name: "random 5",
-        nodes: 3,
-        edges: &[(2, 1), (0, 1), (2, 2)],
-        given: &[(2, 1), (2, 8)],
-    },
-    Example {
-        name: "random 6",
-        nodes: 9,
-        edges: &[
-            (4, 2),
-            (6, 0),
-            (6, 6),
-            (0, 6),
-            (3, 4),
-            (0, 6),
-            (6, 3),
-            (6, 8),
-            (7, 5),
-        ],
-        given: &[(6, 4), (4, 3), (5, 5), (4, 8), (3, 8)],
-    },
-    Example {
-        name: "random 7",
-        nodes: 12,
-        edges: &[(10, 6), (1, 7), (6, 0), (5, 3), (4, 6), (2, 10)],
-        given: &[(5, 7), (1, 2), (3, 7), (7, 7), (8, 5), (6, 5), (5, 6)],
-    },
-    Example {
-        name: "random 8",
-        nodes: 5,
-        edges: &[
-            (2, 1),
-            (1, 1),
-            (3, 3),
-            (1, 1),
-            (4, 3),
-            (0, 3),
-            (0, 4),
-            (1, 4),
-            (3, 0),
-            (1, 4),
-        ],
-        given: &[(1, 3), (0, 7), (1, 3)],
-    },
-    Example {
-        name: "random 9",
-        nodes: 5,
-        edges: &[
-            (0, 4),
-            (1, 0),
-            (4, 2),
-            (1, 1),
-            (4, 0),
-            (1, 4),
-            (1, 0),
-            (1, 2),
-            (1, 4),
-            (3, 1),
-        ],
-        given: &[(1, 2), (0, 0), (2, 3)],
-    },
-    Example {
-        name: "random 10",
-        nodes: 7,
-        edges: &[(0, 1), (2, 6), (5, 4)],
-        given: &[(4, 3), (0, 3), (1, 7), (2, 0)],
-    },
-    Example {
-        name: "random 11",
-        nodes: 12,
-        edges: &[
-            (0, 3),
-            (2, 10),
-            (5, 10),
-            (1, 6),
-            (10, 6),
-            (8, 8),
-            (4, 9),
-            (6, 5),
-            (4, 4),
-            (9, 4),
-            (10, 11),
-            (6, 4),
-        ],
-        given: &[(5, 8), (2, 3), (3, 6), (1, 7), (0, 3), (7, 3), (9, 1)],
-    },
+/// Numbers of nodes, edges by the letters of their nodes, and which digits nodes are given.
+const EXAMPLES: [(usize, &[u8], &[u8]); 20] = [
+    // no nodes; no edges; self loops; an edge twice
+    (0, b"", b""),
+    (3, b"", b"a1c8"),
+    (3, b"aabbbccc", b"a3c4"),
+    (2, b"abab", b"b5"),
+    // two rings joined, and the other way; a ring in a ring; an edge to a part that is closed
+    (7, b"abbccacddeeffggd", b"a0b1c2d3e4f5g6"),
+    (7, b"effggddefbbccaab", b"a0b1c2d3e4f5g6"),
+    (6, b"abbccbcddeedeffa", b"a0b1c2d3e4f5"),
+    (5, b"abbccbaddeebed", b"c7d8"),
+    // drawn at random
+    (5, b"aacedddcabaabaaacdae", b"a1d3a1"),
+    (3, b"cbaaca", b"b1c1"),
+    (5, b"cceccebcbb", b"c5e3b7"),
+    (9, b"hagbaida", b"g8i5b2h3g5"),
+    (12, b"iacabdebfdaf", b"l6f2a7d4j4h8a6"),
+    (3, b"cbabcc", b"c1c8"),
+    (9, b"ecgaggagdeaggdgihf", b"g4e3f5e8d8"),
+    (12, b"kgbhgafdegck", b"f7b2d7h7i5g5f6"),
+    (5, b"cbbbddbbedadaebedabe", b"b3a7b3"),
+    (5, b"aebaecbbeabebabcbedb", b"b2a0c3"),
+    (7, b"abcgfe", b"e3a3b7c0"),
+    (12, b"adckfkbgkgiiejgfeejeklge", b"f8c3d6b7a3h3j1"),
 ];
 
-/// Adds an edge of a table.
-fn add(graph: &mut Graph, from: usize, to: usize) -> Result<(), Fail> {
-    if from >= graph.nodes() || to >= graph.nodes() {
-        return Err(Fail::from("no such node"));
+/// The place of a letter, or of a digit, behind the first one.
+fn place(byte: u8, first: u8) -> u32 {
+    u32::from(byte.wrapping_sub(first))
+}
+
+/// Adds an edge between nodes that there are.
+fn add(graph: &mut Graph, from: u32, to: u32) -> Result<(), OutOfMemory> {
+    if (from as usize) < graph.nodes() && (to as usize) < graph.nodes() {
+        graph.add(from as usize, to as usize)?;
     }
-    graph.add(from, to)?;
     Ok(())
 }
 
-/// The one pass.
-fn solve(alloc: Global, graph: &Graph, sets: &mut SetMatrix) -> Result<(), Fail> {
-    if sets.rows() < graph.nodes() {
-        return Err(Fail::from("too few rows"));
+/// The one pass, and by how much `changes` rose.
+fn solve(alloc: Global, graph: &Graph, sets: &mut SetMatrix) -> Result<u64, OutOfMemory> {
+    let before = sets.changes();
+    if sets.rows() >= graph.nodes() {
+        least(alloc, graph, sets)?;
     }
-    least(alloc, graph, sets)?;
-    Ok(())
+    Ok(sets.changes().saturating_sub(before))
 }
 
-/// The same by going round until nothing grows, from the last edge to the first.
-fn go_round(rows: &mut Plain, edges: &[(usize, usize)], rounds: usize) {
-    for _ in 0..rounds {
-        let mut grew = false;
-        for &(from, to) in edges.iter().rev() {
-            if rows.union_row(from, to) {
-                grew = true;
+/// Adds bits to those of a node.
+fn grow(rows: &mut [u16; 12], node: u32, more: u16) {
+    if let Some(row) = rows.get_mut(node as usize) {
+        *row |= more;
+    }
+}
+
+/// The bits of each node by going round, as often as there are nodes at most.
+fn by_rounds(edges: &[u8], given: &[u8]) -> [u16; 12] {
+    let mut rows = [0u16; 12];
+    for pair in given.chunks_exact(2) {
+        if let [node, digit] = pair {
+            grow(
+                &mut rows,
+                place(*node, b'a'),
+                1u16.wrapping_shl(place(*digit, b'0')),
+            );
+        }
+    }
+    for _ in 0..12u32 {
+        for pair in edges.chunks_exact(2) {
+            if let [from, to] = pair {
+                let more = rows.get(place(*to, b'a') as usize).copied().unwrap_or(0);
+                grow(&mut rows, place(*from, b'a'), more);
             }
         }
-        if !grew {
-            return;
+    }
+    rows
+}
+
+/// Whether rows of sets are those of bits.
+fn are_rows(sets: &SetMatrix, rows: &[u16]) -> bool {
+    let mut same = true;
+    for (node, row) in rows.iter().enumerate() {
+        for number in 0..WIDTH {
+            let is_there = row & 1u16.wrapping_shl(number) != 0;
+            same &= node >= sets.rows() || holds(sets, node, number) == is_there;
         }
     }
+    same
 }
 
-/// The least sets of a graph, and how much `changes` rose.
-fn solved(
-    alloc: Global,
-    nodes: usize,
-    width: usize,
-    edges: &[(usize, usize)],
-    given: &[(usize, u32)],
-) -> Result<(SetMatrix, u64), Fail> {
+/// Whether the least sets of a graph are those by going round, found by few changes.
+fn is_solved(alloc: Global, nodes: usize, edges: &[u8], given: &[u8]) -> Result<bool, OutOfMemory> {
     let mut graph = Graph::new(alloc, nodes)?;
-    for &(from, to) in edges {
-        add(&mut graph, from, to)?;
+    for pair in edges.chunks_exact(2) {
+        if let [from, to] = pair {
+            add(&mut graph, place(*from, b'a'), place(*to, b'a'))?;
+        }
     }
-    let mut sets = SetMatrix::new(alloc, nodes, width)?;
-    for &(node, number) in given {
-        insert(&mut sets, node, Sym(number))?;
+    let mut sets = SetMatrix::new(alloc, nodes, WIDTH as usize)?;
+    for pair in given.chunks_exact(2) {
+        if let [node, digit] = pair {
+            insert(&mut sets, place(*node, b'a') as usize, place(*digit, b'0'));
+        }
     }
-    let before = sets.changes();
-    solve(alloc, &graph, &mut sets)?;
-    let rise = sets.changes().saturating_sub(before);
-    Ok((sets, rise))
+    let rise = solve(alloc, &graph, &mut sets)?;
+    let most = nodes.saturating_add(edges.len() / 2) as u64;
+    Ok(rise <= most && are_rows(&sets, &by_rounds(edges, given)))
 }
 
-/// The rows of an example by going round.
-fn by_rounds(alloc: Global, example: &Example) -> Result<Plain, AllocError> {
-    let mut rows = Plain::new(alloc, example.nodes, WIDTH)?;
-    for &(node, number) in example.given {
-        rows.insert(node, number as usize);
-    }
-    go_round(&mut rows, example.edges, usize::MAX);
-    Ok(rows)
-}
-
-/// Whether the least sets of an example are those by going round, found by few changes.
-fn is_solved(alloc: Global, example: &Example) -> Result<bool, Fail> {
-    let (sets, rise) = solved(alloc, example.nodes, WIDTH, example.edges, example.given)?;
-    let rows = by_rounds(alloc, example)?;
-    let most = example.nodes.saturating_add(example.edges.len()) as u64;
-    Ok(rise <= most && same_rows(&sets, &rows)?)
-}
-
-#[test]
-fn graphs_of_the_table(rt: HostRuntime) -> Result<(), Fail> {
-    for example in &EXAMPLES {
-        assert!(rt; is_solved(rt.alloc(), example)?, "{}", example.name);
-    }
-    Ok(())
-}
-
-/// The edges from each node to the next.
-fn chain(alloc: Global, nodes: usize) -> Result<Vec<(usize, usize)>, AllocError> {
-    let mut edges = Vec::new(alloc);
+/// Each node leads to the next, and the last one of a ring to the first.
+fn chain(alloc: Global, nodes: u32, is_ring: bool) -> Result<Graph, OutOfMemory> {
+    let mut graph = Graph::new(alloc, nodes as usize)?;
     for node in 1..nodes {
-        edges.push((node - 1, node))?;
+        add(&mut graph, node - 1, node)?;
     }
-    Ok(edges)
+    if is_ring {
+        add(&mut graph, nodes.saturating_sub(1), 0)?;
+    }
+    Ok(graph)
 }
 
-#[test]
-fn a_chain_of_two_hundred_thousand(rt: HostRuntime) -> Result<(), Fail> {
-    let nodes = 200_000;
-    let edges = chain(rt.alloc(), nodes)?;
-    let (sets, rise) = solved(rt.alloc(), nodes, 1, &edges, &[(nodes - 1, 0)])?;
-    assert!(rt; rise <= 400_000, "{rise} changes");
-    for node in 0..nodes {
-        assert!(rt; holds(&sets, node, 0)?, "row {node}");
+/// Whether each node of a chain gets the number of the last one, by few changes.
+fn is_chain_solved(alloc: Global, nodes: u32) -> Result<bool, OutOfMemory> {
+    let graph = chain(alloc, nodes, false)?;
+    let mut sets = SetMatrix::new(alloc, nodes as usize, 1)?;
+    insert(&mut sets, nodes.saturating_sub(1) as usize, 0);
+    let mut solved = solve(alloc, &graph, &mut sets)? <= u64::from(nodes).saturating_mul(2);
+    for node in 0..sets.rows() {
+        solved &= holds(&sets, node, 0);
     }
-    Ok(())
+    Ok(solved)
 }
 
-/// Each node and the number that it is given, which is its own.
-fn own_numbers(alloc: Global, nodes: u32) -> Result<Vec<(usize, u32)>, AllocError> {
-    let mut given = Vec::new(alloc);
+/// Whether each node of a ring gets the numbers of all, by few changes.
+fn is_ring_solved(alloc: Global, nodes: u32) -> Result<bool, OutOfMemory> {
+    let graph = chain(alloc, nodes, true)?;
+    let mut sets = SetMatrix::new(alloc, nodes as usize, nodes as usize)?;
     for number in 0..nodes {
-        given.push((number as usize, number))?;
+        insert(&mut sets, number as usize, number);
     }
-    Ok(given)
-}
-
-/// How many numbers a row has.
-fn count(sets: &SetMatrix, row: usize) -> usize {
-    if row < sets.rows() {
-        sets.count(row)
-    } else {
-        0
+    let mut solved = solve(alloc, &graph, &mut sets)? <= u64::from(nodes).saturating_mul(2);
+    for node in 0..sets.rows() {
+        solved &= count(&sets, node) == nodes as usize;
     }
+    Ok(solved)
 }
 
 #[test]
-fn a_ring_of_a_thousand(rt: HostRuntime) -> Result<(), Fail> {
-    let mut edges = chain(rt.alloc(), 1_000)?;
-    edges.push((999, 0))?;
-    let given = own_numbers(rt.alloc(), 1_000)?;
-    let (sets, rise) = solved(rt.alloc(), 1_000, 1_000, &edges, &given)?;
-    assert!(rt; rise <= 2_000, "{rise} changes");
-    for node in 0..1_000 {
-        assert!(rt; count(&sets, node) == 1_000, "row {node}");
+fn least_sets_are_found(rt: HostRuntime) -> Result<(), Fail> {
+    for (number, (nodes, edges, given)) in EXAMPLES.iter().enumerate() {
+        assert!(rt;
+            is_solved(rt.alloc(), *nodes, edges, given)?,
+            "graph {number}"
+        );
     }
+    assert!(rt; is_chain_solved(rt.alloc(), 200_000)?);
+    assert!(rt; is_ring_solved(rt.alloc(), 1_000)?);
     Ok(())
 }

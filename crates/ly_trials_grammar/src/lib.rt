@@ -1,5 +1,5 @@
-//! Tests over the crates of the grammar's side: what no run of the program shows, and slow programs straight from the
-//! definitions.
+//! Tests over the crates of the grammar's side: what no run of the program shows, each public function once, and
+//! automata beside a slow program straight from the definition.
 //!
 //! `docs/testing.md` says what is tested where.
 #![tactic(auto)]
@@ -7,22 +7,14 @@
 #[cfg(test)]
 mod automata;
 #[cfg(test)]
-mod canonical;
-#[cfg(test)]
-mod derivations;
-#[cfg(test)]
 mod facts;
-#[cfg(test)]
-mod first;
 #[cfg(test)]
 mod graphs;
 #[cfg(test)]
-mod merged;
+mod knuth;
 #[cfg(test)]
 mod reports;
 #[cfg(test)]
 mod sets;
 #[cfg(test)]
 mod specifications;
-#[cfg(test)]
-mod yacc_files;

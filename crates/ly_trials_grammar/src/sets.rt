@@ -1,164 +1,126 @@
-//! Sets by lanes against plain ones, at widths round the ends of words and blocks.
+//! Sets by lanes beside plain sums, at widths round the ends of words and blocks.
 
-use ly_base::{SparseSet, Sym};
+use ly_base::{OutOfMemory, SparseSet, Sym};
 use ly_sets::{SetMatrix, TermSet};
-use std::alloc::{AllocError, Global};
+use std::alloc::Global;
 use std::test::Fail;
 
-const WIDTHS: [usize; 8] = [0, 1, 63, 64, 65, 255, 257, 4_095];
+const WIDTHS: [u32; 8] = [0, 1, 63, 64, 65, 255, 257, 4_095];
 
-/// Rows, and of how many numbers each gets the last one.
-const STEPS: [(usize, usize); 2] = [(0, 3), (1, 5)];
+/// What rows may hold: nothing, each third number, each fifth, and both.
+const NONE: (bool, bool) = (false, false);
 
-/// A row that grows, and the row by which.
-const UNIONS: [(usize, usize); 8] = [
-    (0, 0),
-    (2, 2),
-    (1, 0),
-    (1, 0),
-    (2, 1),
-    (0, 1),
-    (0, 2),
-    (1, 2),
+const THIRDS: (bool, bool) = (true, false);
+
+const FIFTHS: (bool, bool) = (false, true);
+
+const BOTH: (bool, bool) = (true, true);
+
+/// A row that grows, the row by which, and what the three rows hold then.
+const UNIONS: [(usize, usize, [(bool, bool); 3]); 8] = [
+    (0, 0, [THIRDS, FIFTHS, NONE]),
+    (2, 2, [THIRDS, FIFTHS, NONE]),
+    (1, 0, [THIRDS, BOTH, NONE]),
+    (1, 0, [THIRDS, BOTH, NONE]),
+    (2, 1, [THIRDS, BOTH, BOTH]),
+    (0, 1, [BOTH, BOTH, BOTH]),
+    (0, 2, [BOTH, BOTH, BOTH]),
+    (1, 2, [BOTH, BOTH, BOTH]),
 ];
 
-/// Rows of sets, a `bool` for each number of each row, one row after the other.
-#[derive(Drop)]
-pub(crate) struct Plain {
-    cells: Vec<bool>,
-    width: usize,
+/// Whether a number is among those that a row holds.
+fn is_in(held: (bool, bool), number: u32) -> bool {
+    held.0 && number % 3 == 2 || held.1 && number % 5 == 4
 }
 
-impl Plain {
-    pub(crate) fn new(alloc: Global, rows: usize, width: usize) -> Result<Plain, AllocError> {
-        let cells = vec![in alloc; false; rows.saturating_mul(width)]?;
-        Ok(Plain { cells, width })
+/// Adds a number to a row that has room for it.
+pub(crate) fn insert(sets: &mut SetMatrix, row: usize, number: u32) {
+    if row < sets.rows() && (number as usize) < sets.width() {
+        sets.insert(row, Sym(number));
     }
+}
 
-    /// The place of a number of a row.
-    fn place(&self, row: usize, number: usize) -> usize {
-        row.saturating_mul(self.width).saturating_add(number)
+/// Whether there is such a row, and a number is in it.
+pub(crate) fn holds(sets: &SetMatrix, row: usize, number: u32) -> bool {
+    row < sets.rows() && (number as usize) < sets.width() && sets.contains(row, Sym(number))
+}
+
+/// How many numbers a row has.
+pub(crate) fn count(sets: &SetMatrix, row: usize) -> usize {
+    if row < sets.rows() {
+        sets.count(row)
+    } else {
+        0
     }
+}
 
-    pub(crate) fn insert(&mut self, row: usize, number: usize) {
-        let place = self.place(row, number);
-        if let Some(there) = self.cells.get_mut(place) {
-            *there = true;
+/// Whether a row holds just what it is to hold.
+fn is_row(sets: &SetMatrix, row: usize, width: u32, held: (bool, bool)) -> bool {
+    let mut same = true;
+    let mut members = 0usize;
+    for number in 0..width {
+        same &= holds(sets, row, number) == is_in(held, number);
+        members = members.wrapping_add(usize::from(is_in(held, number)));
+    }
+    same && count(sets, row) == members
+}
+
+/// Grows a row by another, and answers whether it was said rightly that it grew.
+fn unite(sets: &mut SetMatrix, to: usize, from: usize) -> bool {
+    let before = count(sets, to);
+    let grew = to < sets.rows() && from < sets.rows() && sets.union_row(to, from);
+    grew == (count(sets, to) != before)
+}
+
+/// Whether the unions of a width are the plain ones, one change each.
+fn are_united(alloc: Global, width: u32) -> Result<bool, OutOfMemory> {
+    let mut sets = SetMatrix::new(alloc, 3, width as usize)?;
+    for number in 0..width {
+        if is_in(THIRDS, number) {
+            insert(&mut sets, 0, number);
+        }
+        if is_in(FIFTHS, number) {
+            insert(&mut sets, 1, number);
         }
     }
-
-    pub(crate) fn contains(&self, row: usize, number: usize) -> bool {
-        self.cells.get(self.place(row, number)) == Some(&true)
-    }
-
-    pub(crate) fn count(&self, row: usize) -> usize {
-        (0..self.width)
-            .filter(|&number| self.contains(row, number))
-            .count()
-    }
-
-    pub(crate) fn union_row(&mut self, to: usize, from: usize) -> bool {
-        let mut grew = false;
-        for number in 0..self.width {
-            if self.contains(from, number) && !self.contains(to, number) {
-                self.insert(to, number);
-                grew = true;
-            }
-        }
-        grew
-    }
-}
-
-/// The symbol of a number.
-fn symbol(number: usize) -> Result<Sym, Fail> {
-    Ok(Sym(u32::try_from(number)?))
-}
-
-/// Adds a symbol of a table.
-pub(crate) fn insert(sets: &mut SetMatrix, row: usize, symbol: Sym) -> Result<(), Fail> {
-    if row >= sets.rows() || symbol.0 as usize >= sets.width() {
-        return Err(Fail::from("no such row or number"));
-    }
-    sets.insert(row, symbol);
-    Ok(())
-}
-
-/// Whether a number is in a row.
-pub(crate) fn holds(sets: &SetMatrix, row: usize, number: usize) -> Result<bool, Fail> {
-    let symbol = symbol(number)?;
-    if row >= sets.rows() || symbol.0 as usize >= sets.width() {
-        return Err(Fail::from("no such row or number"));
-    }
-    Ok(sets.contains(row, symbol))
-}
-
-/// Whether a row is the plain one.
-fn same_row(sets: &SetMatrix, row: usize, plain: &Plain) -> Result<bool, Fail> {
-    for number in 0..plain.width {
-        if holds(sets, row, number)? != plain.contains(row, number) {
-            return Ok(false);
+    let inserted = sets.changes();
+    let mut same = true;
+    for (to, from, rows) in &UNIONS {
+        same &= unite(&mut sets, *to, *from);
+        for (row, held) in rows.iter().enumerate() {
+            same &= is_row(&sets, row, width, *held);
         }
     }
-    Ok(row < sets.rows() && sets.count(row) == plain.count(row))
+    Ok(same && sets.changes().wrapping_sub(inserted) == 8)
 }
 
-/// Whether all rows are the plain ones.
-pub(crate) fn same_rows(sets: &SetMatrix, plain: &Plain) -> Result<bool, Fail> {
-    for row in 0..sets.rows() {
-        if !same_row(sets, row, plain)? {
-            return Ok(false);
+/// Whether there is room for a number in a set, and the set has it.
+fn has(set: &TermSet, number: u32) -> bool {
+    (number as usize) < set.width() && set.contains(Sym(number))
+}
+
+/// Whether a set of a width is the plain one.
+fn is_set(alloc: Global, width: u32) -> Result<bool, OutOfMemory> {
+    let mut set = TermSet::new(alloc, width as usize)?;
+    for number in 0..width {
+        if is_in(BOTH, number) && (number as usize) < set.width() {
+            set.insert(Sym(number));
         }
     }
-    Ok(true)
-}
-
-/// Adds a number to a set.
-fn add(set: &mut TermSet, number: usize) -> Result<(), Fail> {
-    let symbol = symbol(number)?;
-    if symbol.0 as usize >= set.width() {
-        return Err(Fail::from("no such number"));
+    let mut same = set.width() == width as usize;
+    let mut members = 0usize;
+    for number in 0..width {
+        same &= has(&set, number) == is_in(BOTH, number);
+        members = members.wrapping_add(usize::from(is_in(BOTH, number)));
     }
-    set.insert(symbol);
-    Ok(())
-}
-
-/// Whether a number is in a set.
-fn has(set: &TermSet, number: usize) -> Result<bool, Fail> {
-    let symbol = symbol(number)?;
-    if symbol.0 as usize >= set.width() {
-        return Err(Fail::from("no such number"));
-    }
-    Ok(set.contains(symbol))
-}
-
-/// Adds each seventh number, and the last one of each word.
-fn fill(set: &mut TermSet, plain: &mut Plain) -> Result<(), Fail> {
-    for number in 0..plain.width {
-        if number % 7 == 0 || number % 64 == 63 {
-            add(set, number)?;
-            plain.insert(0, number);
-        }
-    }
-    Ok(())
-}
-
-/// Whether a set is the plain one.
-fn same_set(set: &TermSet, plain: &Plain) -> Result<bool, Fail> {
-    for number in 0..plain.width {
-        if has(set, number)? != plain.contains(0, number) {
-            return Ok(false);
-        }
-    }
-    Ok(set.width() == plain.width && set.count() == plain.count(0))
+    Ok(same && set.count() == members)
 }
 
 #[test]
 fn sets_of_each_width(rt: HostRuntime) -> Result<(), Fail> {
-    for &width in &WIDTHS {
-        let mut set = TermSet::new(rt.alloc(), width)?;
-        let mut plain = Plain::new(rt.alloc(), 1, width)?;
-        fill(&mut set, &mut plain)?;
-        assert!(rt; same_set(&set, &plain)?, "width {width}");
+    for width in WIDTHS {
+        assert!(rt; is_set(rt.alloc(), width)?, "a set of width {width}");
+        assert!(rt; are_united(rt.alloc(), width)?, "rows of width {width}");
     }
     Ok(())
 }
@@ -166,50 +128,10 @@ fn sets_of_each_width(rt: HostRuntime) -> Result<(), Fail> {
 #[test]
 fn a_sparse_set_of_seventy_thousand(rt: HostRuntime) -> Result<(), Fail> {
     let mut set = SparseSet::new(rt.alloc(), 70_000)?;
+    let mut new = true;
     for number in 0..70_000u32 {
-        assert!(rt; set.insert(number), "{number}");
+        new &= set.insert(number);
     }
-    let members = set.members();
-    assert!(rt; members.len() == 70_000);
-    assert!(rt; members.first() == Some(&0));
-    assert!(rt; members.last() == Some(&69_999));
-    Ok(())
-}
-
-/// Adds to rows the numbers that `STEPS` says.
-fn fill_rows(sets: &mut SetMatrix, plain: &mut Plain) -> Result<(), Fail> {
-    for &(row, step) in &STEPS {
-        for number in 0..plain.width {
-            if number % step.max(1) == step.saturating_sub(1) {
-                insert(sets, row, symbol(number)?)?;
-                plain.insert(row, number);
-            }
-        }
-    }
-    Ok(())
-}
-
-/// Grows a row by another, and answers whether it grew as the plain one did, and all rows are then the plain ones.
-fn unite(sets: &mut SetMatrix, plain: &mut Plain, to: usize, from: usize) -> Result<bool, Fail> {
-    if to >= sets.rows() || from >= sets.rows() {
-        return Err(Fail::from("no such row"));
-    }
-    let grew = sets.union_row(to, from);
-    Ok(grew == plain.union_row(to, from) && same_rows(sets, plain)?)
-}
-
-#[test]
-fn unions_of_each_width(rt: HostRuntime) -> Result<(), Fail> {
-    for &width in &WIDTHS {
-        let mut sets = SetMatrix::new(rt.alloc(), 3, width)?;
-        let mut plain = Plain::new(rt.alloc(), 3, width)?;
-        fill_rows(&mut sets, &mut plain)?;
-        let inserted = sets.changes();
-        for &(to, from) in &UNIONS {
-            let same = unite(&mut sets, &mut plain, to, from)?;
-            assert!(rt; same, "row {to} by row {from} at width {width}");
-        }
-        assert!(rt; sets.changes().checked_sub(inserted) == Some(8));
-    }
+    assert!(rt; new && set.members().len() == 70_000);
     Ok(())
 }

@@ -1,0 +1,200 @@
+//! Knuth's item sets of a grammar, slowly and straight from the definition (Knuth 1965; Aho, Sethi and Ullman 1986,
+//! 4.7), merged where their cores are equal.
+
+use crate::facts::Facts;
+use crate::specifications::{begins, is_kept, is_nullable};
+use ly_base::Sym;
+use ly_grammar::Reduced;
+use ly_join::{Grammar, Symbol};
+use std::alloc::{AllocError, Global};
+
+/// How many items a set may have, and how many sets there may be: more than any grammar here has.
+const MOST: usize = 1_000;
+
+/// A rule, how many symbols of its body stand before the dot, and a terminal that may follow it.
+type Item = (usize, usize, u32);
+
+/// What the automaton of Knuth's item sets is where sets of equal cores are one state, numbered as they first come.
+pub(crate) fn merged(alloc: Global, reduced: &Reduced<'_>) -> Result<Facts, AllocError> {
+    let mut sets = Vec::new(alloc);
+    let mut start = Vec::new(alloc);
+    start.push((0, 0, 0))?;
+    close(reduced, &mut start)?;
+    sets.push(start)?;
+    let mut facts = Facts::new(alloc);
+    for number in 0..MOST {
+        leave(alloc, reduced, &mut sets, number, &mut facts)?;
+    }
+    let numbers = numbers(alloc, &sets)?;
+    for (from, _, to) in &mut facts.moves {
+        *from = numbers.get(*from).copied().unwrap_or(MOST);
+        *to = numbers.get(*to).copied().unwrap_or(MOST);
+    }
+    for (set, state) in sets.iter().zip(numbers.iter()) {
+        push_aheads(&mut facts, reduced, set, *state)?;
+    }
+    facts.sort();
+    Ok(facts)
+}
+
+/// Finds the sets to which symbols lead from a set, breadth first, terminals before nonterminals.
+fn leave(
+    alloc: Global,
+    reduced: &Reduced<'_>,
+    sets: &mut Vec<Vec<Item>>,
+    number: usize,
+    facts: &mut Facts,
+) -> Result<(), AllocError> {
+    for symbol in &symbols(alloc, reduced.grammar())? {
+        let Some(set) = sets.get(number) else {
+            return Ok(());
+        };
+        let items = behind(alloc, reduced, set, *symbol)?;
+        if !items.is_empty() {
+            let target = number_of(sets, items)?;
+            facts.moves.push((number, *symbol, target))?;
+        }
+    }
+    Ok(())
+}
+
+/// All symbols, but the end and the left side of rule 0.
+fn symbols(alloc: Global, grammar: &Grammar) -> Result<Vec<Symbol>, AllocError> {
+    let mut symbols = Vec::new(alloc);
+    for number in 1..grammar.terminals() {
+        symbols.push(Symbol::Terminal(Sym(number)))?;
+    }
+    for number in 0..grammar.accept().0 {
+        symbols.push(Symbol::Nonterminal(Sym(number)))?;
+    }
+    Ok(symbols)
+}
+
+/// The body of a rule.
+fn body<'a>(reduced: &Reduced<'a>, rule: usize) -> &'a [Symbol] {
+    match reduced.grammar().rules().get(rule) {
+        Some(rule) => rule.body(),
+        None => &[],
+    }
+}
+
+/// The items to which a symbol leads, closed; none where it leads nowhere.
+fn behind(
+    alloc: Global,
+    reduced: &Reduced<'_>,
+    items: &[Item],
+    symbol: Symbol,
+) -> Result<Vec<Item>, AllocError> {
+    let mut moved = Vec::new(alloc);
+    for (rule, dot, ahead) in items {
+        if body(reduced, *rule).get(*dot) == Some(&symbol) {
+            moved.push((*rule, dot.saturating_add(1), *ahead))?;
+        }
+    }
+    close(reduced, &mut moved)?;
+    Ok(moved)
+}
+
+/// Closes items: with each item there are those that its nonterminal calls for.
+fn close(reduced: &Reduced<'_>, items: &mut Vec<Item>) -> Result<(), AllocError> {
+    for next in 0..MOST {
+        let Some(item) = items.get(next).copied() else {
+            break;
+        };
+        call(reduced, items, item)?;
+    }
+    items.sort_unstable();
+    Ok(())
+}
+
+/// Adds what an item calls for: each rule of the nonterminal behind its dot.
+fn call(reduced: &Reduced<'_>, items: &mut Vec<Item>, item: Item) -> Result<(), AllocError> {
+    let (rule, dot, ahead) = item;
+    let behind = body(reduced, rule).get(dot..).unwrap_or(&[]);
+    if let Some((Symbol::Nonterminal(part), rest)) = behind.split_first() {
+        for (number, rule) in reduced.grammar().rules().iter().enumerate() {
+            if rule.left() == *part && is_kept(reduced, number) {
+                add_rule(reduced, items, number, rest, ahead)?;
+            }
+        }
+    }
+    Ok(())
+}
+
+/// Adds the items of a rule with nothing before its dot and each terminal that begins what symbols and a terminal
+/// behind them derive.
+fn add_rule(
+    reduced: &Reduced<'_>,
+    items: &mut Vec<Item>,
+    rule: usize,
+    symbols: &[Symbol],
+    behind: u32,
+) -> Result<(), AllocError> {
+    for terminal in 0..reduced.grammar().terminals() {
+        let item = (rule, 0, terminal);
+        if follows(reduced, symbols, behind, terminal) && !items.contains(&item) {
+            items.push(item)?;
+        }
+    }
+    Ok(())
+}
+
+/// Whether a terminal begins what symbols and a terminal behind them derive.
+fn follows(reduced: &Reduced<'_>, symbols: &[Symbol], behind: u32, terminal: u32) -> bool {
+    for symbol in symbols {
+        match symbol {
+            Symbol::Terminal(first) => return first.0 == terminal,
+            Symbol::Nonterminal(part) => {
+                if begins(reduced, part.0, terminal) {
+                    return true;
+                }
+                if !is_nullable(reduced, part.0) {
+                    return false;
+                }
+            }
+        }
+    }
+    behind == terminal
+}
+
+/// The number of a set, which is added if it is new.
+fn number_of(sets: &mut Vec<Vec<Item>>, set: Vec<Item>) -> Result<usize, AllocError> {
+    let known = sets
+        .iter()
+        .position(|known| known.as_slice() == set.as_slice());
+    if let Some(number) = known {
+        return Ok(number);
+    }
+    sets.push(set)?;
+    Ok(sets.len().saturating_sub(1))
+}
+
+/// The number of each set's core, which is its items without their terminals, in the order in which cores first come.
+fn numbers(alloc: Global, sets: &[Vec<Item>]) -> Result<Vec<usize>, AllocError> {
+    let mut cores = Vec::new(alloc);
+    let mut numbers = Vec::new(alloc);
+    for set in sets {
+        let mut core = Vec::new(alloc);
+        for (rule, dot, _) in set {
+            core.push((*rule, *dot, 0))?;
+        }
+        core.dedup();
+        numbers.push(number_of(&mut cores, core)?)?;
+    }
+    Ok(numbers)
+}
+
+/// Adds the terminals that may follow the rules that are complete in a set.
+fn push_aheads(
+    facts: &mut Facts,
+    reduced: &Reduced<'_>,
+    set: &[Item],
+    state: usize,
+) -> Result<(), AllocError> {
+    for (rule, dot, ahead) in set {
+        if body(reduced, *rule).len() == *dot {
+            facts.aheads.push((state, *rule, *ahead))?;
+        }
+    }
+    Ok(())
+}
