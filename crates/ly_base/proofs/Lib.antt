@@ -9,6 +9,7 @@ pub mod LexedLemmas
 pub mod LimitsLemmas
 pub mod ListLemmas
 pub mod LiteralLemmas
+pub mod LookedUpLemmas
 pub mod MemberLemmas
 pub mod NameLemmas
 pub mod PigeonholeLemmas

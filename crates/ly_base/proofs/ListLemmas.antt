@@ -1,13 +1,14 @@
 -- Places of lists, and lists in order.
-use Rattle.std.proofs.Common.{◌≡◌, ◌≢◌, ◌∙◌, ℕ, zero, suc, ◌+◌, ◌<◌, List, [], ◌∷◌, ◌++◌, Bool, false, Option, Some, None}
-use Rattle.std.proofs.Common.{All, Contains, ap, arith, eqb, inl, inr, length, option_map, refl, slice_get, subst, sym}
+use Rattle.std.proofs.Common.{◌≡◌, ◌≢◌, ◌∙◌, ℕ, zero, suc, ◌+◌, ◌<◌, List, [], ◌∷◌, ◌++◌, Bool, false, Option, Some}
+use Rattle.std.proofs.Common.{None, All, Contains, ap, arith, eqb, inl, inr, length, option_map, refl, slice_get, subst}
+use Rattle.std.proofs.Common.{sym}
 use Rattle.std.specs.List.{AllPairs, range_with_len}
 use Rattle.std.proofs.lemmas.Bool.{false≢true}
 use Rattle.std.proofs.lemmas.List.Elements.{All-contains_itself, All-weaker, Contains-append_cases}
 use Rattle.std.proofs.lemmas.List.FromFn.{get_or-range_with_len, length-range_with_len}
 use Rattle.std.proofs.lemmas.List.Kept.{AllPairs-cons}
 use Rattle.std.proofs.lemmas.Option.{get_or_from_slice_get, slice_get-get_or, slice_get_cases, slice_get_within}
-use Rattle.ly_base.proofs.MemberLemmas.{Contains-first, Contains-later}
+use Rattle.ly_base.proofs.MemberLemmas.{Contains-cons_cases, Contains-first, Contains-later, Contains-none}
 
 -- what stands at a place stands there before more
 pub slice_get-append : {X : Type 0} (xs ys : List X) (k : ℕ) (x : X) → slice_get xs k ≡ Some x
@@ -16,10 +17,13 @@ slice_get-append [] ys k x here = absurd (cc)
 slice_get-append (z ∷ xs) ys zero x here = here
 slice_get-append (z ∷ xs) ys (suc k) x here = slice_get-append xs ys k x here
 
--- what comes behind a list
-pub slice_get-behind : {X : Type 0} (xs ys : List X) (x : X) → slice_get (xs ++ x ∷ ys) (length xs) ≡ Some x
-slice_get-behind [] ys x = refl
-slice_get-behind (z ∷ xs) ys x = slice_get-behind xs ys x
+-- what comes behind a list stands at its length
+pub slice_get-behind : {X : Type 0} (xs ys : List X) (k : ℕ) (x : X) → length xs ≡ k
+    → slice_get (xs ++ x ∷ ys) k ≡ Some x
+slice_get-behind [] ys zero x e = refl
+slice_get-behind [] ys (suc k) x e = absurd (omega arith)
+slice_get-behind (z ∷ xs) ys zero x e = absurd (omega arith)
+slice_get-behind (z ∷ xs) ys (suc k) x e = slice_get-behind xs ys k x (omega arith)
 
 -- there is something at each place within
 pub some_at : {X : Type 0} (xs : List X) (k : ℕ) → k < length xs → (x : X) × (slice_get xs k ≡ Some x)
@@ -39,7 +43,7 @@ All-at P xs k x all at = subst P (get_or_from_slice_get xs k x x at) (all k x (s
 
 -- and of the last
 pub All-last : {X : Type 0} (P : X → Type 0) (xs : List X) (x : X) → All P (xs ++ x ∷ []) → P x
-All-last P xs x all = All-at P (xs ++ x ∷ []) (length xs) x all (slice_get-behind xs [] x)
+All-last P xs x all = All-at P (xs ++ x ∷ []) (length xs) x all (slice_get-behind xs [] (length xs) x refl)
 
 -- what a value that may be there is mapped to
 pub option_map-some : {X Y : Type 0} (f : X → Y) (o : Option X) (y : Y) → option_map f o ≡ Some y
@@ -80,3 +84,36 @@ module _ {X : Type 0} (R : X → X → Type 0) where
         | inr there ↦ across x y (Contains-first x xs) there
       ]) (xs ++ ys) (All-contains_itself (xs ++ ys)))
       (AllPairs-append xs ys (AllPairs-tail x xs a) b (λ z y is there. across z y (Contains-later x xs z is) there))
+
+module _ {X : Type 0} (R : X → X → Type 0) (off : (x y : X) → R x y → R y x → ⊥) where
+  -- lists in rising order with the same members are one
+  pub rising_one : (xs ys : List X) → AllPairs R xs → AllPairs R ys → ((q : X) → Contains xs q → Contains ys q)
+      → ((q : X) → Contains ys q → Contains xs q) → xs ≡ ys
+  rising_one [] [] r s to back = refl
+  rising_one [] (y ∷ ys) r s to back = Contains-none y (back y (Contains-first y ys))
+  rising_one (x ∷ xs) [] r s to back = Contains-none x (to x (Contains-first x xs))
+  rising_one (x ∷ xs) (y ∷ ys) r s to back = ap (λ z. z ∷ xs) first ∙ ap (λ zs. y ∷ zs)
+      (rising_one xs ys (AllPairs-tail R x xs r) (AllPairs-tail R y ys s) onward backward)
+    where
+      first : x ≡ y
+      first = elim (Contains-cons_cases y ys x (to x (Contains-first x xs))) [
+        | inl same ↦ sym same
+        | inr later ↦ elim (Contains-cons_cases x xs y (back y (Contains-first y ys))) [
+          | inl same ↦ same
+          | inr after ↦ absurd (off x y (AllPairs-head R x y xs r after) (AllPairs-head R y x ys s later))
+        ]
+      ]
+
+      onward : (q : X) → Contains xs q → Contains ys q
+      onward q c = elim (Contains-cons_cases y ys q (to q (Contains-later x xs q c))) [
+        | inl same ↦ let less = subst (λ z. R z q) first (AllPairs-head R x q xs r c) in
+            absurd (off y q less (subst (λ z. R q z) (sym same) (subst (λ z. R z q) same less)))
+        | inr later ↦ later
+      ]
+
+      backward : (q : X) → Contains ys q → Contains xs q
+      backward q c = elim (Contains-cons_cases x xs q (back q (Contains-later y ys q c))) [
+        | inl same ↦ let less = subst (λ z. R z q) (sym first) (AllPairs-head R y q ys s c) in
+            absurd (off x q less (subst (λ z. R q z) (sym same) (subst (λ z. R z q) same less)))
+        | inr later ↦ later
+      ]

@@ -6,6 +6,7 @@ pub mod Device
 pub mod Entry
 pub mod Escapes
 pub mod Gap
+pub mod Keys
 pub mod Language
 pub mod Lexed
 pub mod Limits
