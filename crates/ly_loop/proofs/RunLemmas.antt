@@ -12,11 +12,12 @@ use Rattle.ly_base.specs.declared.numbers.RuleNo.{RuleNo}
 use Rattle.ly_pack.specs.Machine.{IsLegal, IsMachine, IsRuleNumber, IsTableRule, Machine, TableAction, TableRule}
 use Rattle.ly_pack.specs.Machine.{action_of, entry_at, goto_at, or_default, reduce, states_of}
 use Rattle.ly_pack.specs.Steady.{EndsWithin, ReducesTo, RunEnd, accepts, action_on, ends, go_to, move, perform, push}
-use Rattle.ly_pack.specs.Steady.{reads, reduce_by, refuses, rule_at}
+use Rattle.ly_pack.specs.Steady.{reads, reduce_by, refuses}
 use Rattle.ly_pack.specs.Values.{action_from}
 use Rattle.ly_pack.specs.declared.action.TableAction as code
 use Rattle.ly_pack.specs.declared.action.TableAction.TheVariants.{Shift, Reduce, Accept, Error}
 use Rattle.ly_pack.proofs.Runs.{no_more}
+use Rattle.ly_pack.proofs.WithinLemmas.{rule_known}
 use Rattle.ly_loop.specs.Private.Run.{AreStates, stack_of}
 
 pub stack_push : (xs : List StateNo) (x : StateNo) → stack_of (xs ++ x ∷ []) ≡ x.0 ∷ stack_of xs
@@ -64,9 +65,6 @@ top_known m xs top states last =
     let is = get_or_from_slice_get xs at top top (sym last) in
     subst (λ (s : StateNo). s.0 < states_of m) is
     (states at top (slice_get_within xs at top (sym last)))
-
-pub rule_known : (m : Machine) (p : ℕ) (r : TableRule) → IsTableRule m p r → rule_at m p ≡ Some r
-rule_known m p r (q, same, is) = ap (slice_get m.rules) (omega arith) ∙ is
 
 -- the stack behind a body, and the goto above it
 pub reduce_to : (m : Machine) (p : ℕ) (r : TableRule) (xs : List StateNo) (left : ℕ) (under : StateNo) (o : Option ℕ)

@@ -51,7 +51,8 @@ without_none : (d : Option ℕ) → without d None ≡ None
 without_none None = refl
 without_none (Some p) = refl
 
-without_some : (d : Option ℕ) (x : Option TableAction) (a : TableAction) → without d x ≡ Some a → x ≡ Some a
+-- an entry that is left is the one that was there
+pub without_some : (d : Option ℕ) (x : Option TableAction) (a : TableAction) → without d x ≡ Some a → x ≡ Some a
 without_some None x a is = is
 without_some (Some p) x a is = go (is_by p x) is
   where

@@ -1,28 +1,25 @@
 -- Rows written out, and what a machine's grids are.
-use Rattle.std.proofs.Common.{◌≡◌, ◌∙◌, ◌<◌, ◌≤◌, ◌+◌, ℕ, List, map, Option, Some, None}
+use Rattle.std.proofs.Common.{◌≡◌, ◌∙◌, ◌<◌, ◌≤◌, ℕ, List, map, Option, Some, None}
 use Rattle.std.proofs.Common.{sym, ap, subst, arith, inl, inr, length, ◌⊎◌, slice_get}
 use Rattle.std.specs.Prelude.{option_map, option_and_then}
 use Rattle.std.specs.List.{range_with_len}
 use Rattle.std.proofs.lemmas.Bool.{cases_lt}
 use Rattle.std.proofs.Math.ListN.{length-map}
-use Rattle.std.proofs.lemmas.List.FromFn.{length-range_with_len, get_or-range_with_len}
-use Rattle.std.proofs.lemmas.Option.{slice_get-map, slice_get-get_or, slice_get_past}
+use Rattle.std.proofs.lemmas.List.FromFn.{length-range_with_len}
+use Rattle.std.proofs.lemmas.Option.{none-some, slice_get-map, slice_get_past}
 use Rattle.ly_base.specs.declared.numbers.RuleNo.{RuleNo}
 use Rattle.ly_base.specs.declared.numbers.StateNo.{StateNo}
+use Rattle.ly_base.proofs.ListLemmas.{slice_get-range}
 use Rattle.ly_pack.specs.Machine.{Machine, entry_at, goto_at, states_of}
 use Rattle.ly_pack.specs.Rows.{Entries, cell, grid_of}
 use Rattle.ly_pack.specs.Values.{actions_from, gotos_from, machine_from}
 use Rattle.ly_pack.specs.declared.action.TableAction as code
 use Rattle.ly_pack.specs.declared.rule.TableRule as rule
 
-zero_and : (k : ℕ) → 0 + k ≡ k
-zero_and k = omega arith
-
 -- the k-th of a list that is made by number
 pub slice_get-made : {X : Type 0} (f : ℕ → X) (n k : ℕ) → k < n → slice_get (map f (range_with_len 0 n)) k ≡ Some (f k)
 slice_get-made f n k lt = slice_get-map f (range_with_len 0 n) k
-    ∙ ap (option_map f) (slice_get-get_or (range_with_len 0 n) k 0 (omega (arith, length-range_with_len 0 n))
-    ∙ ap Some (get_or-range_with_len 0 n k 0 lt ∙ zero_and k))
+    ∙ ap (option_map f) (slice_get-range n k lt)
 
 pub slice_get-made_past : {X : Type 0} (f : ℕ → X) (n k : ℕ) → n ≤ k
     → slice_get (map f (range_with_len 0 n)) k ≡ None
@@ -49,6 +46,17 @@ cell-grid_of_past {E} rows width f r c (inr past) = elim (cases_lt r rows) [
       (slice_get-made (λ row. map (f row) (range_with_len 0 width)) rows r row)
       ∙ ap (option_and_then (λ (e : Option E). e)) (slice_get-made_past (f r) width c past)
   | inr none ↦ past_rows rows width f r c none
+]
+
+-- an entry that is there stands in a row and a column that are there
+pub cell-grid_of_some : {E : Type 0} (rows width : ℕ) (f : Entries E) (r c : ℕ) (e : E)
+    → cell (grid_of rows width f) r c ≡ Some e → (r < rows) × (c < width) × (f r c ≡ Some e)
+cell-grid_of_some rows width f r c e is = elim (cases_lt r rows) [
+  | inr past ↦ absurd (none-some e (sym (cell-grid_of_past rows width f r c (inl past)) ∙ is))
+  | inl row ↦ elim (cases_lt c width) [
+    | inr past ↦ absurd (none-some e (sym (cell-grid_of_past rows width f r c (inr past)) ∙ is))
+    | inl column ↦ (row, column, sym (cell-grid_of rows width f r c row column) ∙ is)
+  ]
 ]
 
 -- what a machine's grids are

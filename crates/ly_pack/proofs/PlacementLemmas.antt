@@ -1,5 +1,5 @@
 -- There is one comb that is placed of a table: bases are found in the order of rows, and slots follow from them.
-use Rattle.std.proofs.Common.{◌≡◌, ◌∙◌, ◌<◌, ◌≤◌, ◌+◌, ◌-◌, ◌*◌, ℕ, zero, suc, List, length, Option, Some, None}
+use Rattle.std.proofs.Common.{◌≡◌, ◌∙◌, ◌⊎◌, ◌<◌, ◌≤◌, ◌+◌, ◌-◌, ◌*◌, ℕ, zero, suc, List, length, Option, Some, None}
 use Rattle.std.proofs.Common.{refl, sym, ap, subst, arith, inl, inr, get_or, slice_get, not}
 use Rattle.std.specs.Prelude.{is_some}
 use Rattle.std.specs.List.{range_with_len}
@@ -28,14 +28,32 @@ module _ {E : Type 0} (T : Table E) where
   )
 
   -- how far behind a row stands
-  abbrev rank : ℕ → ℕ
+  abbrev pub rank : ℕ → ℕ
   rank row = (T.width - entry_count T row) * T.rows + row
 
-  rank_less : (other row : ℕ) → other < T.rows → GoesBefore T other row → rank other < rank row
+  pub rank_less : (other row : ℕ) → other < T.rows → GoesBefore T other row → rank other < rank row
   rank_less other row small (inl fewer) = below (T.width - entry_count T other) (T.width - entry_count T row) T.rows
       other row (omega (arith, fewer, few other)) small
   rank_less other row small (inr tie) = subst (λ n. (T.width - n) * T.rows + other < rank row) (sym tie.0)
       (omega (arith, tie.1))
+
+  -- what holds of a row where it holds of those that go before it holds of each
+  pub by_order : (P : ℕ → Type 0) → ((row : ℕ) → row < T.rows
+      → ((other : ℕ) → other < T.rows → GoesBefore T other row → P other) → P row) → (row : ℕ) → row < T.rows → P row
+  by_order P step row lt = below_rank (suc (rank row)) row (omega arith) lt
+    where
+      below_rank : (n row : ℕ) → rank row < n → row < T.rows → P row
+      below_rank zero row less lt = absurd (omega (arith, less))
+      below_rank (suc n) row less lt = step row lt (λ other small goes. below_rank n other
+          (let lower = rank_less other row small goes in omega (arith, lower, less)) small)
+
+  -- an entry of a row, or that it has none
+  pub entry_or_none : (row : ℕ) → ((column : ℕ) × Has T row column) ⊎ ((column : ℕ) → Has T row column → ⊥)
+  entry_or_none row = elim (cases_lt 0 (length (columns_of T.entries T.width row))) [
+    | inl some ↦ inl (_, has_column T row (columns_of T.entries T.width row) refl 0 some)
+    | inr none ↦ inr (λ column has. let found = column_at T row (columns_of T.entries T.width row) refl column has in
+        omega (arith, found.1, none))
+  ]
 
   fits_moved : (bases others : List ℕ) (row base : ℕ) → ((other : ℕ) → other < T.rows → GoesBefore T other row
       → slice_get bases other ≡ slice_get others other) → Fits T bases row base → Fits T others row base
@@ -50,34 +68,25 @@ module _ {E : Type 0} (T : Table E) where
         let e = get_or d.bases row 0 in
         let at_c = slice_get-get_or c.bases row 0 (omega (arith, lt, one.rows)) in
         let at_d = slice_get-get_or d.bases row 0 (omega (arith, lt, two.rows)) in
-        at_c ∙ ap Some (elim (cases_lt 0 (length (columns_of T.entries T.width row))) [
-          | inr none ↦
-              let empty : (column : ℕ) → Has T row column → ⊥
-              = λ column has. let found = column_at T row (columns_of T.entries T.width row) refl column has in
-              omega (arith, found.1, none) in
-              one.empty row b at_c empty ∙ sym (two.empty row e at_d empty)
-          | inl some ↦ let has = has_column T row (columns_of T.entries T.width row) refl 0 some in
-              elim (cases_order b e) [
-                | inl same ↦ same
-                | inr (inl less) ↦ absurd (two.least row e b (get_or
-                    (columns_of T.entries T.width row) 0 0) at_d has less
-                    (fits_moved c.bases d.bases row b earlier (one.fits row b at_c)))
-                | inr (inr more) ↦ absurd (one.least row b e (get_or
-                    (columns_of T.entries T.width row) 0 0) at_c has more
-                    (fits_moved d.bases c.bases row e (λ other small goes. sym (earlier other small goes))
-                    (two.fits row e at_d)))
-              ]
+        at_c ∙ ap Some (elim (entry_or_none row) [
+          | inr none ↦ one.empty row b at_c none ∙ sym (two.empty row e at_d none)
+          | inl some ↦ elim (cases_order b e) [
+            | inl same ↦ same
+            | inr (inl less) ↦ absurd (two.least row e b some.0 at_d some.1 less
+                (fits_moved c.bases d.bases row b earlier (one.fits row b at_c)))
+            | inr (inr more) ↦ absurd (one.least row b e some.0 at_c some.1 more
+                (fits_moved d.bases c.bases row e (λ other small goes. sym (earlier other small goes))
+                (two.fits row e at_d)))
+          ]
         ]) ∙ sym at_d
 
-    base_same : (n row : ℕ) → rank row < n → row < T.rows → slice_get c.bases row ≡ slice_get d.bases row
-    base_same zero row less lt = absurd (omega (arith, less))
-    base_same (suc n) row less lt = row_same row lt (λ other small goes. base_same n other
-        (let lower = rank_less other row small goes in omega (arith, lower, less)) small)
+    base_same : (row : ℕ) → row < T.rows → slice_get c.bases row ≡ slice_get d.bases row
+    base_same = by_order (λ row. slice_get c.bases row ≡ slice_get d.bases row) row_same
 
     bases_same : c.bases ≡ d.bases
     bases_same = same_lists c.bases d.bases (one.rows ∙ sym two.rows) (λ k x lt.
         same_Some (get_or c.bases k x) (get_or d.bases k x) (sym (slice_get-get_or c.bases k x lt)
-        ∙ base_same (suc (rank k)) k (omega arith) (omega (arith, lt, one.rows))
+        ∙ base_same k (omega (arith, lt, one.rows))
         ∙ slice_get-get_or d.bases k x (omega (arith, lt, one.rows, two.rows))))
 
   -- a slot that the one uses, the other does
