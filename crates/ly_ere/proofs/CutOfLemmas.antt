@@ -1,8 +1,9 @@
 -- The cut of a pattern's sides, by their lengths.
-use Rattle.std.proofs.Common.{◌≡◌, ℕ, ◌+◌, ◌<◌, List, [], ◌∷◌, length, Option, Some, refl, sym, ap, subst}
+use Rattle.std.proofs.Common.{◌≡◌, ℕ, ◌+◌, ◌<◌, List, [], length, Option, Some, refl, sym, ap, subst}
 use Rattle.std.proofs.Common.{arith, inl, inr}
 use Rattle.std.specs.Prelude.{IsSome}
 use Rattle.ly_base.specs.declared.cut.Cut.{Cut}
+use Rattle.std.proofs.lemmas.List.{nil_from_length}
 use Rattle.ly_ere.specs.Expression.{Expression, Matches}
 use Rattle.ly_ere.specs.Grammar.{Sides}
 use Rattle.ly_ere.specs.Lengths.{AreLengths, far}
@@ -38,11 +39,7 @@ module _ (names : List Expression) (w : ℕ) (e : Expression) (l : Lengths) (a :
 
   empty_string : l.least ≡ 0 → Matches names e []
   empty_string none = let zero : length a.short ≡ 0 = omega (arith, none, a.short_is)
-      in subst (Matches names e) (nil a.short zero) a.short_in
-    where
-      nil : (u : List ℕ) → length u ≡ 0 → u ≡ []
-      nil [] q = refl
-      nil (b ∷ u) q = absurd (omega (arith, q))
+      in subst (Matches names e) (nil_from_length a.short zero) a.short_in
 
 module _ (names : List Definition) (s : Sides) (t : Expression) (is : s.tail ≡ Some t) (h k : Lengths)
     (head : AreLengths (weight_of (defined names) s.head) (Matches (defined names) s.head) h)

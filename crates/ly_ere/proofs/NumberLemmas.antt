@@ -5,6 +5,7 @@ use Rattle.std.proofs.Common.{arith, ap, refl, IsTrue, take-append-drop}
 use Rattle.std.proofs.lemmas.Bool.Decides.{nat_tests}
 use Rattle.ly_base.specs.Escapes.{AllPass, digit, number, number_from}
 use Rattle.ly_base.specs.Language.{is_decimal}
+use Rattle.ly_base.proofs.EscapeLemmas.{number_grows}
 
 -- a decimal digit, and what it counts
 decimal_digit : (b : ℕ) → IsTrue (is_decimal b) → (48 ≤ b) × (digit b ≡ b - 48)
@@ -15,11 +16,6 @@ pub decimal_at : (t : List ℕ) (k : ℕ) → AllPass is_decimal t → k < lengt
 decimal_at [] k a l = absurd (omega arith)
 decimal_at (b ∷ t) zero a l = decimal_digit b a.0
 decimal_at (b ∷ t) (suc k) a l = decimal_at t k a.1 (omega arith)
-
--- more digits make no smaller number
-number_grows : (n : ℕ) (ds : List ℕ) → n ≤ number_from 10 n ds
-number_grows n [] = omega arith
-number_grows n (d ∷ ds) = omega (arith, number_grows (n * 10 + digit d) ds)
 
 number_behind : (n : ℕ) (ds es : List ℕ) → number_from 10 n (ds ++ es) ≡ number_from 10 (number_from 10 n ds) es
 number_behind n [] es = refl

@@ -1,6 +1,6 @@
 -- Why a pattern is refused, by why its sides are.
 use Rattle.std.proofs.Common.{◌≡◌, ◌≢◌, ℕ, ◌<◌, ◌≤◌, List, length, Some, None, refl, sym, ap, subst, arith, inl, inr}
-use Rattle.std.proofs.Common.{take, Result, Ok, Err, IfErr}
+use Rattle.std.proofs.Common.{take}
 use Rattle.std.proofs.lemmas.List.{drop_all, take_all}
 use Rattle.ly_base.specs.declared.cut.Cut.{Cut}
 use Rattle.ly_ere.specs.Expression.{Expression}
@@ -19,11 +19,6 @@ use Rattle.ly_ere.specs.declared.fault.SyntaxFault.TheVariants as syntax_fault
 use Rattle.ly_ere.specs.declared.pattern.Pattern.{Pattern}
 use Rattle.ly_ere.proofs.FrontLaws.{pattern_sides}
 use Rattle.ly_ere.proofs.SidesLemmas.{front_sides_one}
-
--- a fact of a fault as another
-pub err_as : {T E : Type 0} (r : Result T E) (P Q : E → Type 0) → ((e : E) → P e → Q e) → IfErr r P → IfErr r Q
-err_as (Ok x) P Q f p = tt
-err_as (Err e) P Q f p = f e p
 
 -- the fault is of the text, and not of the weight, the cut or an empty head
 abbrev IsOther : EreFault → Type 0

@@ -153,7 +153,7 @@ impl Texts {
         }
     }
 
-    /// One more, which is an expression.
+    /// Adds a text that is an expression.
     fn push(&mut self, alloc: Global, re: Re) -> Result<(), AllocError>
         ensures { (known : List Definition) (list : List DefinedText) (d : DefinedText) → AreRead known list self.old
             → IsExpression known d.text re → OnOk result (AreRead known (list ++ d ∷ []) self.new) }
@@ -164,7 +164,7 @@ impl Texts {
         Ok(())
     }
 
-    /// One more, which is none.
+    /// Adds a text that is no expression.
     fn push_fault(&mut self, alloc: Global, fault: EreFault) -> Result<(), AllocError>
         requires memory { fault ≢ OutOfMemory }
         requires weight { fault ≢ TooHeavy }

@@ -112,7 +112,7 @@ impl Lengths {
         }
     }
 
-    /// Of the strings of either.
+    /// The lengths of the strings of either.
     fn either(self, other: Lengths) -> Lengths
         ensures { result ≡ record { least = min self.least other.least; most = max self.most other.most } }
     {

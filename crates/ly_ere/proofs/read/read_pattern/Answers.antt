@@ -1,7 +1,7 @@
 use Rattle.std.proofs.Common.{arith}
-use Rattle.std.proofs.lemmas.Result.{err_from_is_err_and, IfOk-weaker}
+use Rattle.std.proofs.lemmas.Result.{IfErr-weaker, IfOk-weaker, err_from_is_err_and}
 use Rattle.ly_ere.specs.Private.Sides.{sides_read}
-use Rattle.ly_ere.proofs.RefusalLemmas.{err_as, no_text, no_whole_text, text_judged, text_pattern}
+use Rattle.ly_ere.proofs.RefusalLemmas.{no_text, no_whole_text, text_judged, text_pattern}
 use Rattle.ly_ere.proofs.SoundLemmas.{sides_sound}
 use Rattle.ly_ere.proofs.read.read_pattern.Goals as goal
 
@@ -26,6 +26,6 @@ returns-clause-ok c
     c.with_cut.ensures.ok
 
 pub returns-clause-refused : goal.returns-clause-refused
-returns-clause-refused c = err_as c.with_cut.result _ _
+returns-clause-refused c = IfErr-weaker c.with_cut.result _ _
     (λ fault. text_judged _ c.args.names.now c.args.text.now (sides_read c.in_ok-sides.sides) c.in_ok-sides.length
     c.in_ok-sides.ensures.ok (omega arith) fault) c.with_cut.ensures.refused
