@@ -7,6 +7,7 @@ use Rattle.std.proofs.lemmas.List.{get_or_past, length-map}
 use Rattle.std.proofs.lemmas.List.Elements.{All-contains}
 use Rattle.std.proofs.lemmas.Option.{get_or_from_slice_get, slice_get_within}
 use Rattle.ly_base.proofs.MemberLemmas.{Contains-none}
+use Rattle.ly_base.proofs.ListLemmas.{some_at}
 use Rattle.ly_ere.specs.Expression.{Expression}
 use Rattle.ly_ere.specs.Winner.{IsActive}
 use Rattle.ly_ere.specs.declared.pattern.Rule.{Rule}
@@ -33,7 +34,7 @@ use Rattle.ly_position.specs.declared.nfa.Target.{Target}
 use Rattle.ly_position.proofs.HomeLemmas.{IsOf, home, home_one, base_below, has_some, rule_stands, same_bases}
 use Rattle.ly_position.proofs.HomeLemmas.{rule_size-fill}
 use Rattle.ly_position.proofs.LabelLemmas.{Twin, fill_step, size-fill, twin}
-use Rattle.ly_position.proofs.LinkLemmas.{get_here, number_below, reached_from_one, reached_wider}
+use Rattle.ly_position.proofs.LinkLemmas.{number_below, reached_from_one, reached_wider}
 use Rattle.ly_position.proofs.NumberLemmas.{rank_each}
 use Rattle.ly_position.proofs.NumberedLemmas.{agrees, length-sets}
 use Rattle.ly_position.proofs.ProgramLemmas.{SomeProgram, some_program}
@@ -107,7 +108,7 @@ module _ (names : List Expression) (rules : List Rule) (es : List Expression) (p
 
   rule_fill : (i : ℕ) → i < length parts → rule i ≡ option_map (fill (bytes_at i)) (other i)
   rule_fill i l =
-      let r = get_here rules i (omega (arith, plan.count)) in
+      let r = some_at rules i (omega (arith, plan.count)) in
       plan.each i r.0 r.1 ∙ ap (λ o. slim (plain_of names o)) (sym r.1)
       ∙ slim_fill (bytes_at i) (pat i) 0 (agrees (pat i))
 
@@ -141,7 +142,7 @@ module _ (names : List Expression) (rules : List Rule) (es : List Expression) (p
 
   standing : (i : ℕ) → i < length parts → (e : Expression) → other i ≡ Some e → Stands i
   standing i l e is =
-      let r = get_here rules i (omega (arith, plan.count)) in
+      let r = some_at rules i (omega (arith, plan.count)) in
       let a = rule_stands other (length parts) h twins.entries i e twins.is l is in
       let b = rule_stands rule (length parts) g entries i (fill (bytes_at i) e) program l
       (rule_fill i l ∙ ap (option_map (fill (bytes_at i))) is) in
@@ -250,7 +251,7 @@ module _ (names : List Expression) (rules : List Rule) (es : List Expression) (p
 
   numbered_place : (q : ℕ) → q < length made.positions → (p : ℕ) × IsNumber g p q
   numbered_place q l =
-      let s = get_here (filter is_position g) q (omega (arith, positions_long)) in
+      let s = some_at (filter is_position g) q (omega (arith, positions_long)) in
       let p = rank_each is_position g q s.0 s.1 in
       (p.0, record { step = s.0; is_step = p.1; reads_or_ends = p.2; is_rank = p.3 })
 
@@ -673,7 +674,7 @@ module _ (names : List Expression) (rules : List Rule) (es : List Expression) (p
   each_position : (P : Position → Type 0) → ((x : Slot) → P (position_in (length slots) forks x)) → P (reading [] [])
       → (q : ℕ) → P (position_of made q)
   each_position P f none q = elim (cases_lt q (length slots)) [
-    | inl l ↦ let x = get_here slots q l in subst P (sym (position_at slots forks starts q x.0 x.1)) (f x.0)
+    | inl l ↦ let x = some_at slots q l in subst P (sym (position_at slots forks starts q x.0 x.1)) (f x.0)
     | inr l ↦ subst P (sym (position_past slots forks starts q l)) none
   ]
 

@@ -4,6 +4,7 @@ use Rattle.std.proofs.Common.{ap, subst, ◌∙◌, arith, Some, append_assoc, l
 use Rattle.std.specs.Prelude.{slice_get, Contains}
 use Rattle.std.proofs.lemmas.Bool.{cases_eq, cases_lt}
 use Rattle.ly_base.proofs.MemberLemmas.{Contains-first}
+use Rattle.ly_base.proofs.ListLemmas.{slice_get-append, slice_get-behind}
 use Rattle.ly_ere.specs.Expression.{Expression, set, empty, concat, either, star, plus, optional, repeat, name}
 use Rattle.ly_position.specs.Private.Program.{Step, reads, fork, ends, Runs, at_end, by_read, by_first, by_second, size}
 use Rattle.ly_position.specs.Private.Program.{entry}
@@ -12,18 +13,6 @@ use Rattle.ly_position.specs.Private.Reach.{LeadsBelow, LeadsFrom}
 use Rattle.ly_position.proofs.CodeLaws.{CanRun, entry_below, entry_from, entry_last, entry_both, entry_plus, first_side}
 use Rattle.ly_position.proofs.CodeLaws.{second_side}
 
-pub get-append : {A : Type 0} (xs ys : List A) (p : ℕ) (x : A) → slice_get xs p ≡ Some x
-    → slice_get (xs ++ ys) p ≡ Some x
-get-append [] ys p x e = cc
-get-append (y ∷ xs) ys zero x e = e
-get-append (y ∷ xs) ys (suc p) x e = get-append xs ys p x e
-
-pub get-at_length : {A : Type 0} (xs ys : List A) (p : ℕ) (x : A) → length xs ≡ p → slice_get (xs ++ x ∷ ys) p ≡ Some x
-get-at_length [] ys zero x e = refl
-get-at_length [] ys (suc p) x e = absurd (omega arith)
-get-at_length (y ∷ xs) ys zero x e = absurd (omega arith)
-get-at_length (y ∷ xs) ys (suc p) x e = get-at_length xs ys p x (omega arith)
-
 some_member : (xs : List ℕ) → xs ≢ [] → (x : ℕ) × Contains xs x
 some_member [] h = absurd (h refl)
 some_member (x ∷ xs) h = (x, Contains-first x xs)
@@ -31,7 +20,7 @@ some_member (x ∷ xs) h = (x, Contains-first x xs)
 -- code stays as the program grows
 pub HasCode-append : (g more : List Step) (e : Expression) (base next : ℕ) → HasCode g e base next
     → HasCode (g ++ more) e base next
-HasCode-append g more (set bytes) base next h = get-append g more base (reads bytes next) h
+HasCode-append g more (set bytes) base next h = slice_get-append g more base (reads bytes next) h
 HasCode-append g more empty base next h = h
 HasCode-append g more (concat r s) base next h
     = (HasCode-append g more s base next h.0, HasCode-append g more r (base + size s) (entry base (size s) next) h.1)
@@ -39,24 +28,25 @@ HasCode-append g more (either r s) base next h
     = (
       HasCode-append g more r base next h.0,
       HasCode-append g more s (base + size r) next h.1,
-      get-append g more (base + size r + size s) (fork (entry base (size r) next) (entry (base + size r) (size s) next))
+      slice_get-append g more (base + size r + size s)
+          (fork (entry base (size r) next) (entry (base + size r) (size s) next))
           h.2,
     )
 HasCode-append g more (star r) base next h
     = (
       HasCode-append g more r base (base + size r) h.0,
-      get-append g more (base + size r)
+      slice_get-append g more (base + size r)
           (fork (entry base (size r) (base + size r)) next) h.1,
     )
 HasCode-append g more (plus r) base next h
     = (
-      get-append g more base (fork (entry (base + 1) (size r) base) next) h.0,
+      slice_get-append g more base (fork (entry (base + 1) (size r) base) next) h.0,
       HasCode-append g more r (base + 1) base h.1,
     )
 HasCode-append g more (optional r) base next h
     = (
       HasCode-append g more r base next h.0,
-      get-append g more (base + size r)
+      slice_get-append g more (base + size r)
           (fork (entry base (size r) next) next) h.1,
     )
 HasCode-append g more (repeat m n r) base next h = h
@@ -64,13 +54,13 @@ HasCode-append g more (name x) base next h = h
 
 -- runs stay as the program grows
 pub Runs-append : (g more : List Step) (i n p : ℕ) (w : List ℕ) → Runs g i n p w → Runs (g ++ more) i n p w
-Runs-append g more i n p w (at_end k) = at_end (get-append g more p (ends i) k)
+Runs-append g more i n p w (at_end k) = at_end (slice_get-append g more p (ends i) k)
 Runs-append g more i n p w (by_read {n = m} {b = b} {q = q} {bytes = bytes} {w = v} k c r)
-    = by_read (get-append g more p (reads bytes q) k) c (Runs-append g more i m q v r)
+    = by_read (slice_get-append g more p (reads bytes q) k) c (Runs-append g more i m q v r)
 Runs-append g more i n p w (by_first {n = m} {a = a} {b = b} k r)
-    = by_first (get-append g more p (fork a b) k) (Runs-append g more i m a w r)
+    = by_first (slice_get-append g more p (fork a b) k) (Runs-append g more i m a w r)
 Runs-append g more i n p w (by_second {n = m} {a = a} {b = b} k r)
-    = by_second (get-append g more p (fork a b) k) (Runs-append g more i m b w r)
+    = by_second (slice_get-append g more p (fork a b) k) (Runs-append g more i m b w r)
 
 pub length-code : (e : Expression) (base next : ℕ) → length (code e base next) ≡ size e
 length-code (set bytes) base next = refl
@@ -110,7 +100,7 @@ length-code (name x) base next = refl
 -- code that stands in a program
 pub HasCode-of : (e : Expression) (pre post g : List Step) (base next : ℕ) → length pre ≡ base
     → g ≡ pre ++ (code e base next ++ post) → HasCode g e base next
-HasCode-of (set bytes) pre post g base next l e = rw e (get-at_length pre post base (reads bytes next) l)
+HasCode-of (set bytes) pre post g base next l e = rw e (slice_get-behind pre post base (reads bytes next) l)
 HasCode-of empty pre post g base next l e = tt
 HasCode-of (concat r s) pre post g base next l e = (
   HasCode-of s pre (right ++ post) g base next l (e ∙ ap (λ z. pre ++ z) (append_assoc left right post)),
@@ -133,7 +123,7 @@ HasCode-of (either r s) pre post g base next l e = (
   HasCode-of s (pre ++ left) (f ∷ post) g (base + size r) next
       (omega (arith, length-append pre left, length-code r base next)) split,
   rw (split ∙ sym (append_assoc (pre ++ left) right (f ∷ post)))
-      (get-at_length ((pre ++ left) ++ right) post (base + size r + size s) f
+      (slice_get-behind ((pre ++ left) ++ right) post (base + size r + size s) f
       (omega (
         arith,
         length-append (pre ++ left) right,
@@ -159,7 +149,7 @@ HasCode-of (either r s) pre post g base next l e = (
 HasCode-of (star r) pre post g base next l e = (
   HasCode-of r pre (f ∷ post) g base (base + size r) l (e ∙ ap (λ z. pre ++ z) (append_assoc left (f ∷ []) post)),
   rw (e ∙ (ap (λ z. pre ++ z) (append_assoc left (f ∷ []) post) ∙ sym (append_assoc pre left (f ∷ post))))
-      (get-at_length (pre ++ left) post (base + size r) f
+      (slice_get-behind (pre ++ left) post (base + size r) f
       (omega (arith, length-append pre left, length-code r base (base + size r)))),
 )
   where
@@ -169,7 +159,7 @@ HasCode-of (star r) pre post g base next l e = (
     left : List Step
     left = code r base (base + size r)
 HasCode-of (plus r) pre post g base next l e = (
-  rw e (get-at_length pre (code r (base + 1) base ++ post) base f l),
+  rw e (slice_get-behind pre (code r (base + 1) base ++ post) base f l),
   HasCode-of r (pre ++ f ∷ []) post g (base + 1) base (omega (arith, length-append pre (f ∷ [])))
       (e ∙ sym (append_assoc pre (f ∷ []) (code r (base + 1) base ++ post))),
 )
@@ -179,7 +169,7 @@ HasCode-of (plus r) pre post g base next l e = (
 HasCode-of (optional r) pre post g base next l e = (
   HasCode-of r pre (f ∷ post) g base next l (e ∙ ap (λ z. pre ++ z) (append_assoc left (f ∷ []) post)),
   rw (e ∙ (ap (λ z. pre ++ z) (append_assoc left (f ∷ []) post) ∙ sym (append_assoc pre left (f ∷ post))))
-      (get-at_length (pre ++ left) post (base + size r) f
+      (slice_get-behind (pre ++ left) post (base + size r) f
       (omega (arith, length-append pre left, length-code r base next))),
 )
   where

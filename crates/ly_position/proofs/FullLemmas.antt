@@ -15,8 +15,8 @@ use Rattle.ly_position.specs.Written.{written_under}
 use Rattle.ly_position.specs.Numbered.{numbered, set_count, IsFull, IsPosition}
 use Rattle.ly_position.specs.Spots.{Spot, IsSpot, HasPositions}
 use Rattle.ly_position.specs.Laws.{AllArePositions, SomeHasTwoPositions, SoundHasAll}
-use Rattle.ly_position.proofs.CountLemmas.{pigeonhole}
-use Rattle.ly_position.proofs.LinkLemmas.{get_here}
+use Rattle.ly_base.proofs.PigeonholeLemmas.{pigeonhole}
+use Rattle.ly_base.proofs.ListLemmas.{some_at}
 use Rattle.ly_position.proofs.NumberedLemmas.{path_range}
 use Rattle.ly_position.proofs.SpotLemmas.{same_spot}
 use Rattle.ly_position.proofs.SplitLemmas.{once_in}
@@ -164,7 +164,7 @@ named_full : (names : List Expression) → AreSound names → (n x : ℕ) → n 
 named_full names sound zero x l m = absurd (omega (arith, m))
 named_full names sound (suc n) x l m = elim (cases_eq x n) [
   | inl same ↦
-      let d = get_here names n (omega arith) in
+      let d = some_at names n (omega arith) in
       rw (eq-eqb x n same, d.1) (full_under (named_up_to names n) n
       (λ y less. named_full names sound n y (omega arith) less) d.0 (sound n d.0 d.1))
   | inr other ↦ rw (ne_eqb x n other) (named_full names sound n x (omega arith) (omega arith))

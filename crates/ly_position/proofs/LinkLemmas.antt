@@ -3,9 +3,10 @@ use Rattle.std.proofs.Common.{◌≡◌, ◌⊎◌, inl, inr, true, ℕ, ◌<◌
 use Rattle.std.proofs.Common.{subst, ◌∙◌, arith}
 use Rattle.std.specs.Prelude.{All, Contains, slice_get, ◌↔◌}
 use Rattle.std.proofs.lemmas.List.Elements.{All-contains}
-use Rattle.std.proofs.lemmas.Option.{get_or_from_slice_get, slice_get_cases, slice_get_within}
+use Rattle.std.proofs.lemmas.Option.{get_or_from_slice_get, slice_get_within}
 use Rattle.std.proofs.lemmas.Slice.Zip.{AllZip-long}
 use Rattle.ly_base.proofs.MemberLemmas.{Contains-first, Contains-one}
+use Rattle.ly_base.proofs.ListLemmas.{some_at}
 use Rattle.ly_position.specs.Private.Link.{IsForkOf, IsLinkOf, IsNumber, IsReachedNumber, IsReachList, IsSlotOf}
 use Rattle.ly_position.specs.Private.Link.{is_fork}
 use Rattle.ly_position.specs.Private.Link.{is_position, rank, target_of}
@@ -21,9 +22,6 @@ use Rattle.ly_position.specs.declared.nfa.Target.{Target}
 use Rattle.ly_position.specs.declared.nfa.Target.TheVariants as target
 use Rattle.ly_position.proofs.NumberLemmas.{position_target, rank_each, rank_get, zip_get}
 use Rattle.ly_position.proofs.ReachLemmas.{reached_from-members, reached_from-once}
-
-pub get_here : {A : Type 0} (xs : List A) (i : ℕ) → i < length xs → (x : A) × (slice_get xs i ≡ Some x)
-get_here xs i l = elim (slice_get_cases xs i).1 [ inl h ↦ (h.0, h.2) | inr past ↦ absurd (omega (arith, past.0)) ]
 
 -- a wider list of roots reaches more
 pub reached_wider : (g : List Step) (e : ℕ) (roots : List ℕ) (p : ℕ) → Contains roots e → Reached g (e ∷ []) p
@@ -97,7 +95,7 @@ module _ (g : List Step) (targets : List Target) (slots : List Slot) (forks : Li
   from_side : (e k : ℕ) (f : Fork) (u : Target) → Behind e (target.Fork k) → slice_get forks k ≡ Some f → IsSide f u
       → Behind e u
   from_side e k f u h at side =
-      let s = get_here g h.place h.below in
+      let s = some_at g h.place h.below in
       let t = target_fork g h.place k s.0 s.1 h.is in
       let x = sides h.place t.0 t.1 t.2 in
       let both : LeadsBelow (length g) (fork t.0 t.1) = inside h.place (fork t.0 t.1) t.2 in
@@ -133,7 +131,7 @@ module _ (g : List Step) (targets : List Target) (slots : List Slot) (forks : Li
       → (p : ℕ) × Reached g (e ∷ []) p × IsNumber g p q
   from_position e q less r =
       let h = from_target e (target.Position q) less r in
-      let s = get_here g h.place h.below in
+      let s = some_at g h.place h.below in
       (h.place, h.reached, target_number g h.place q s.0 s.1 h.is)
 
   to_position : (e p q : ℕ) → Reached g (e ∷ []) p → IsNumber g p q
@@ -207,7 +205,7 @@ target_within g targets slots forks linked p s e = of s e (is_one s)
 module _ (g : List Step) (targets : List Target) (slots : List Slot) (forks : List Fork) (inside : StaysInside g)
     (linked : IsLinkOf g targets slots forks) where
   below_within : (p : ℕ) → p < length g → TargetWithin (length slots) (length forks) (target_of g p)
-  below_within p less = let s = get_here g p less in target_within g targets slots forks linked p s.0 s.1
+  below_within p less = let s = some_at g p less in target_within g targets slots forks linked p s.0 s.1
 
   pub targets_within : All (TargetWithin (length slots) (length forks)) targets
   targets_within k d less =
@@ -231,7 +229,7 @@ module _ (g : List Step) (targets : List Target) (slots : List Slot) (forks : Li
   pub slots_within : All (SlotWithin (length slots) (length forks)) slots
   slots_within k d less =
       let long = AllZip-long (IsSlotOf g) (filter is_position g) slots linked.slots_are in
-      let s = get_here (filter is_position g) k (omega arith) in
+      let s = some_at (filter is_position g) k (omega arith) in
       let z = zip_get (IsSlotOf g) (filter is_position g) slots k s.0 linked.slots_are s.1 in
       let p = rank_each is_position g k s.0 s.1 in
       rw (get_or_from_slice_get slots k z.0 d z.1) (slot_within s.0 z.0 (inside p.0 s.0 p.1) z.2)
@@ -239,7 +237,7 @@ module _ (g : List Step) (targets : List Target) (slots : List Slot) (forks : Li
   pub forks_within : All (ForkWithin (length slots) (length forks)) forks
   forks_within k d less =
       let long = AllZip-long (IsForkOf g) (filter is_fork g) forks linked.forks_are in
-      let s = get_here (filter is_fork g) k (omega arith) in
+      let s = some_at (filter is_fork g) k (omega arith) in
       let z = zip_get (IsForkOf g) (filter is_fork g) forks k s.0 linked.forks_are s.1 in
       let p = rank_each is_fork g k s.0 s.1 in
       rw (get_or_from_slice_get forks k z.0 d z.1) (fork_within s.0 z.0 (inside p.0 s.0 p.1) z.2)

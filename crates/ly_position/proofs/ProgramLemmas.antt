@@ -7,13 +7,14 @@ use Rattle.std.proofs.lemmas.Bool.{cases_eq, cases_lt}
 use Rattle.std.proofs.lemmas.List.{get_or_push, get_or_append_left}
 use Rattle.std.proofs.lemmas.List.Elements.{All-push, All-weaker}
 use Rattle.std.proofs.lemmas.Option.{get_or_from_slice_get, slice_get-get_or, slice_get_within}
+use Rattle.ly_base.proofs.ListLemmas.{slice_get-append, slice_get-behind}
 use Rattle.ly_ere.specs.Expression.{Expression}
 use Rattle.ly_position.specs.Private.Plain.{IsPlainPart}
 use Rattle.ly_position.specs.Private.Program.{Step, reads, fork, ends, size, entry, code, HasCode}
 use Rattle.ly_position.specs.Private.Reach.{LeadsBelow, StaysInside}
 use Rattle.ly_position.specs.Private.Compile.{IsProgram, RuleStands, base_of, rule_size}
 use Rattle.ly_position.proofs.CodeLaws.{entry_below}
-use Rattle.ly_position.proofs.CodePlaces.{get-append, get-at_length, HasCode-append, HasCode-of, length-code}
+use Rattle.ly_position.proofs.CodePlaces.{HasCode-append, HasCode-of, length-code}
 use Rattle.ly_position.proofs.CodePlaces.{stands}
 
 -- a rule stays as the program grows
@@ -21,7 +22,7 @@ rule_stays : (g more : List Step) (rule : Option Expression) (begin : Option ℕ
     → RuleStands g rule begin k base → RuleStands (g ++ more) rule begin k base
 rule_stays g more None begin k base h = h
 rule_stays g more (Some e) begin k base h
-    = (get-append g more base (ends k) h.0, HasCode-append g more e (base + 1) base h.1, h.2)
+    = (slice_get-append g more base (ends k) h.0, HasCode-append g more e (base + 1) base h.1, h.2)
 
 -- the entries so far and one more
 standing_more : (rule : ℕ → Option Expression) (entries : List (Option ℕ)) (g more : List Step) (n : ℕ)
@@ -94,7 +95,7 @@ module _ (rule : ℕ → Option Expression) (g : List Step) (entries : List (Opt
   count_more = omega (arith, length-append g more, length-code e (base + 1) base)
 
   at_base : slice_get (g ++ more) base ≡ Some (ends n)
-  at_base = get-at_length g (code e (base + 1) base) base (ends n) refl
+  at_base = slice_get-behind g (code e (base + 1) base) base (ends n) refl
 
   has_code : HasCode (g ++ more) e (base + 1) base
   has_code = HasCode-of e (g ++ ends n ∷ []) [] (g ++ more) (base + 1) base

@@ -1,15 +1,15 @@
 -- Sets of targets: one more member, and what the forks lead to.
 use Rattle.std.proofs.Common.{◌≡◌, ◌⊎◌, inl, inr, ℕ, ◌+◌, ◌<◌, ◌≤◌, List, [], ◌∷◌, ◌++◌, Some, length, get_or, take}
-use Rattle.std.proofs.Common.{refl, sym, ap, subst, ◌∙◌, arith, append-nil, append_assoc, eqb-true, nat_eq}
+use Rattle.std.proofs.Common.{refl, sym, ap, subst, ◌∙◌, arith, append-nil, append_assoc, nat_eq}
 use Rattle.std.specs.Prelude.{Contains, slice_get, ◌↔◌}
 use Rattle.std.specs.List.{list_any}
 use Rattle.std.proofs.lemmas.Bool.{cases_Bool}
 use Rattle.std.proofs.lemmas.List.{take_all, take_more, take-append-le}
 use Rattle.std.proofs.lemmas.List.Elements.{Contains-append_left, Contains-get_or, Contains-push, Contains-push_cases}
-use Rattle.std.proofs.lemmas.Map.Views.{Contains-from_any}
 use Rattle.std.proofs.lemmas.Option.{slice_get-get_or}
 use Rattle.ly_base.proofs.MemberLemmas.{Contains-none}
 use Rattle.ly_base.specs.SparseSet.{with_member}
+use Rattle.ly_base.proofs.SparseSetLemmas.{with_member-cases, with_member-new, with_member-old}
 use Rattle.ly_position.specs.Private.Targets.{Closes, Has, IsSide, ForksTo, SameRoom, here, onward, with_target}
 use Rattle.ly_position.specs.declared.nfa.Fork.{Fork}
 use Rattle.ly_position.specs.declared.nfa.Target.{Target}
@@ -17,24 +17,6 @@ use Rattle.ly_position.specs.declared.nfa.Target.TheVariants as target
 use Rattle.ly_position.specs.declared.set.PositionSet.{PositionSet}
 
 -- one more number
-member_old : (ms : List ℕ) (n x : ℕ) → Contains ms x → Contains (with_member ms n) x
-member_old ms n x h = elim (cases_Bool (list_any (nat_eq n) ms)) [
-  | inl is ↦ rw is h
-  | inr not ↦ rw not (Contains-append_left ms (n ∷ []) x h)
-]
-
-member_new : (ms : List ℕ) (n : ℕ) → Contains (with_member ms n) n
-member_new ms n = elim (cases_Bool (list_any (nat_eq n) ms)) [
-  | inl is ↦ rw is (Contains-from_any eqb-true n ms is)
-  | inr not ↦ rw not (Contains-push ms n)
-]
-
-member_cases : (ms : List ℕ) (n x : ℕ) → Contains (with_member ms n) x → Contains ms x ⊎ (n ≡ x)
-member_cases ms n x h = elim (cases_Bool (list_any (nat_eq n) ms)) [
-  | inl is ↦ inl (rw is at h)
-  | inr not ↦ Contains-push_cases ms n x (rw not at h)
-]
-
 member_after : (ms : List ℕ) (n : ℕ) → (rest : List ℕ) × (with_member ms n ≡ ms ++ rest)
 member_after ms n = elim (cases_Bool (list_any (nat_eq n) ms)) [
   | inl is ↦ ([], rw is (sym (append-nil ms)))
@@ -43,23 +25,23 @@ member_after ms n = elim (cases_Bool (list_any (nat_eq n) ms)) [
 
 -- one more target
 pub has_old : (s : PositionSet) (t u : Target) → Has s u → Has (with_target s t) u
-has_old s (target.Position n) (target.Position x) h = member_old s.positions.members n x h
+has_old s (target.Position n) (target.Position x) h = with_member-old s.positions.members n x h
 has_old s (target.Position n) (target.Fork x) h = h
 has_old s (target.Fork n) (target.Position x) h = h
-has_old s (target.Fork n) (target.Fork x) h = member_old s.forks.members n x h
+has_old s (target.Fork n) (target.Fork x) h = with_member-old s.forks.members n x h
 
 pub has_new : (s : PositionSet) (t : Target) → Has (with_target s t) t
-has_new s (target.Position n) = member_new s.positions.members n
-has_new s (target.Fork n) = member_new s.forks.members n
+has_new s (target.Position n) = with_member-new s.positions.members n
+has_new s (target.Fork n) = with_member-new s.forks.members n
 
 pub has_cases : (s : PositionSet) (t u : Target) → Has (with_target s t) u → Has s u ⊎ (t ≡ u)
-has_cases s (target.Position n) (target.Position x) h = elim (member_cases s.positions.members n x h) [
+has_cases s (target.Position n) (target.Position x) h = elim (with_member-cases s.positions.members n x h) [
   | inl old ↦ inl old
   | inr e ↦ inr (ap target.Position e)
 ]
 has_cases s (target.Position n) (target.Fork x) h = inl h
 has_cases s (target.Fork n) (target.Position x) h = inl h
-has_cases s (target.Fork n) (target.Fork x) h = elim (member_cases s.forks.members n x h) [
+has_cases s (target.Fork n) (target.Fork x) h = elim (with_member-cases s.forks.members n x h) [
   | inl old ↦ inl old
   | inr e ↦ inr (ap target.Fork e)
 ]

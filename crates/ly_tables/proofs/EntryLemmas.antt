@@ -1,34 +1,15 @@
 -- The entries of rows, taken apart.
-use Rattle.std.proofs.Common.{◌≡◌, ◌∙◌, ◌<◌, ◌≤◌, ◌+◌, ◌⊎◌, inl, inr, ℕ, Option, Some, None, true, false}
+use Rattle.std.proofs.Common.{◌≡◌, ◌∙◌, ◌+◌, inl, inr, ℕ, Option, Some, None, true, false}
 use Rattle.std.proofs.Common.{slice_index, refl, sym, ap, arith, slice_get, nat_eq, nat_lt, lt-ltb, subst}
 use Rattle.std.specs.Int.{w16}
-use Rattle.std.specs.Prelude.{length, option_and_then, option_map}
+use Rattle.std.specs.Prelude.{length, option_and_then}
 use Rattle.std.proofs.lemmas.Bool.{cases_eq, cases_lt, eq-eqb, le-ltb, ne_eqb}
 use Rattle.std.proofs.lemmas.Option.{none-some, same_Some}
-use Rattle.ly_pack.specs.Rows.{Comb, Entries, Used, cell, comb_entry, given_to, grid_of}
-use Rattle.ly_pack.proofs.GridLemmas.{cell-grid_of, cell-grid_of_past}
+use Rattle.ly_pack.specs.Rows.{Comb, Used, comb_entry, given_to}
 use Rattle.ly_tables.specs.Private.Meaning.{comb_meant}
 use Rattle.ly_tables.specs.RawSections.{AreRowsWithin}
 use Rattle.ly_tables.specs.RawSet.{RawComb}
 use Rattle.ly_tables.proofs.SlotLemmas.{used_within}
-
-pub option_map_some : {A B : Type 0} (f : A → B) (o : Option A) (b : B) → option_map f o ≡ Some b
-    → (a : A) × (o ≡ Some a) × (f a ≡ b)
-option_map_some f None b is = absurd (none-some b is)
-option_map_some f (Some a) b is = (a, refl, same_Some (f a) b is)
-
--- an entry of rows that are written out stands in a row and a column that are there
-pub cell_at : {E : Type 0} (rows width : ℕ) (f : Entries E) (r c : ℕ) (e : E) → cell (grid_of rows width f) r c ≡ Some e
-    → (r < rows) × (c < width) × (f r c ≡ Some e)
-cell_at {E} rows width f r c e is = by_row (cases_lt r rows) (cases_lt c width)
-  where
-    past : (rows ≤ r) ⊎ (width ≤ c) → ⊥
-    past out = none-some e (sym (cell-grid_of_past rows width f r c out) ∙ is)
-
-    by_row : (r < rows) ⊎ (rows ≤ r) → (c < width) ⊎ (width ≤ c) → (r < rows) × (c < width) × (f r c ≡ Some e)
-    by_row (inl row) (inl column) = (row, column, sym (cell-grid_of rows width f r c row column) ∙ is)
-    by_row (inr out) column = absurd (past (inl out))
-    by_row (inl row) (inr out) = absurd (past (inr out))
 
 -- what a slot gives to a row
 given_used : {E : Type 0} (row : ℕ) (u : Used E) (e : E) → given_to row u ≡ Some e → (u.row ≡ row) × (u.entry ≡ e)

@@ -5,6 +5,7 @@ use Rattle.std.proofs.Common.{slice_get, nat_eq, nat_lt, lt-ltb}
 use Rattle.std.specs.Int.{w16}
 use Rattle.std.proofs.lemmas.Bool.{cases_eq, eq-eqb, le-ltb, ne_eqb}
 use Rattle.std.proofs.lemmas.Option.{get_or_from_slice_get, none-some, same_Some, slice_get-map, slice_get_within}
+use Rattle.ly_base.proofs.ListLemmas.{option_map-some}
 use Rattle.ly_pack.specs.Machine.{IsRuleWithin as IsTableRuleWithin, IsShapeFor}
 use Rattle.ly_pack.specs.Values.{action_from}
 use Rattle.ly_tables.specs.Private.Meaning.{action_meant, counted_meant, cut_meant, default_meant, emitted_meant}
@@ -13,7 +14,6 @@ use Rattle.ly_tables.specs.Ranges.{AreStartsWithin, IsCutWithin, IsEmittedWithin
 use Rattle.ly_tables.specs.RawSections.{IsActionWithin, IsNoneOr, IsRuleWithin, IsScanRuleWithin, IsShapeWithin}
 use Rattle.ly_tables.specs.RawSet.{RawRule, RawScanRule, RawSet, RawStarts, RuleFits, ScanRuleFits}
 use Rattle.ly_tables.specs.Spelling.{action_number}
-use Rattle.ly_tables.proofs.EntryLemmas.{option_map_some}
 
 -- a number that is there is below its bound
 number_below : (bound n c : ℕ) → IsNoneOr w16 bound n → number_meant n ≡ Some c → c < bound
@@ -76,7 +76,7 @@ default_some (suc n) p is =
 numbered : (f : ℕ → Option ℕ) (bound : ℕ) (ns : List ℕ) (k p : ℕ) → All (λ n. n ≤ bound) ns
     → slice_get (map f ns) k ≡ Some (Some p) → (n : ℕ) × (n ≤ bound) × (f n ≡ Some p)
 numbered f bound ns k p all is =
-    let at = option_map_some f (slice_get ns k) (Some p) (sym (slice_get-map f ns k) ∙ is) in (
+    let at = option_map-some f (slice_get ns k) (Some p) (sym (slice_get-map f ns k) ∙ is) in (
       at.0,
       subst (λ n. n ≤ bound) (get_or_from_slice_get ns k at.0 0 at.1)
           (all k 0 (slice_get_within ns k at.0 at.1)),

@@ -12,6 +12,7 @@ use Rattle.ly_base.specs.declared.cut.Cut.TheVariants.{Whole, Head, Tail}
 use Rattle.ly_base.specs.declared.numbers.StateNo.{StateNo}
 use Rattle.ly_base.specs.declared.scan_action.Emitted.{Emitted}
 use Rattle.ly_base.specs.declared.scan_action.Emitted.TheVariants.{Nothing, Terminal, FirstByte}
+use Rattle.ly_base.proofs.ListLemmas.{option_map-some}
 use Rattle.ly_pack.specs.Machine.{TableAction, IsLegal, IsShapeFor}
 use Rattle.ly_pack.specs.Machine.{shift, reduce, accept, error}
 use Rattle.ly_pack.specs.Rows.{Comb, Used}
@@ -29,7 +30,6 @@ use Rattle.ly_tables.specs.RawSections.{state_section, action_section, goto_sect
 use Rattle.ly_tables.specs.RawSet.{CombFits, IsRawSet, RuleFits, ScanRuleFits, StartsFit}
 use Rattle.ly_tables.specs.Spelling.{action_number, check_of, next_of}
 use Rattle.ly_tables.specs.TableSet.{TableSet, machine_of}
-use Rattle.ly_tables.proofs.EntryLemmas.{option_map_some}
 use Rattle.ly_tables.proofs.RangeLemmas.{actions_short, check_short, few_places, gotos_short, next_short, slots_short}
 use Rattle.ly_tables.proofs.RangeLemmas.{used_goto, used_legal}
 
@@ -146,9 +146,9 @@ module _ {E : Type 0} (code : E → ℕ) (states columns : ℕ) (c : Comb E) (ro
         rows.is_comb.bases k _ (slice_get-get_or c.bases k d lt),
       );
       slots = λ slot entry row at_entry at_row.
-          let first = option_map_some (next_of code) (slice_get c.slots slot) entry
+          let first = option_map-some (next_of code) (slice_get c.slots slot) entry
           (sym (slice_get-map (next_of code) c.slots slot) ∙ at_entry) in
-          let second = option_map_some (check_of w16) (slice_get c.slots slot) row
+          let second = option_map-some (check_of w16) (slice_get c.slots slot) row
           (sym (slice_get-map (check_of w16) c.slots slot) ∙ at_row) in
           slot_raw slot first.0 entry row first.1 first.2
           (ap (check_of w16) (same_Some first.0 second.0 (sym first.1 ∙ second.1)) ∙ second.2);

@@ -6,9 +6,11 @@ use Rattle.std.proofs.lemmas.Bool.{le-ltb}
 use Rattle.std.proofs.lemmas.List.{length-map, map-id}
 use Rattle.std.proofs.lemmas.List.Elements.{All-map}
 use Rattle.ly_base.specs.declared.numbers.StateNo.{StateNo}
+use Rattle.ly_base.proofs.ListLemmas.{option_map-some}
 use Rattle.ly_pack.specs.Machine.{IsLegal, IsMachine, IsRuleWithin as IsTableRuleWithin}
 use Rattle.ly_pack.specs.Rows.{comb_entry}
 use Rattle.ly_pack.specs.Values.{action_from, actions_from, gotos_from}
+use Rattle.ly_pack.proofs.GridLemmas.{cell-grid_of_some}
 use Rattle.ly_tables.specs.Private.Meaning.{action_meant, comb_meant, counted_meant, default_meant, rule_meant}
 use Rattle.ly_tables.specs.Private.Meaning.{scan_rule_meant, set_meant, starts_meant, state_meant}
 use Rattle.ly_tables.specs.Ranges.{AreRows, AreStartsWithin, IsRuleShort, IsScanRule, IsWithinRanges, version_1}
@@ -21,7 +23,7 @@ use Rattle.ly_tables.specs.RawSections.{state_section, action_section, goto_sect
 use Rattle.ly_tables.specs.RawSet.{CombFits, IsRawSet, RawComb, RawSet}
 use Rattle.ly_tables.specs.Spelling.{action_number}
 use Rattle.ly_tables.specs.TableSet.{machine_of}
-use Rattle.ly_tables.proofs.EntryLemmas.{cell_at, entry_legal, option_map_some}
+use Rattle.ly_tables.proofs.EntryLemmas.{entry_legal}
 use Rattle.ly_tables.proofs.ItemLemmas.{counted_back, default_back, map_back, rule_back, scan_rule_back, starts_back}
 use Rattle.ly_tables.proofs.MeaningLemmas.{accepted_within, action_back, defaults_within, rule_short, rule_within}
 use Rattle.ly_tables.proofs.MeaningLemmas.{scan_rule_within, starts_within}
@@ -107,9 +109,9 @@ module _ (r : RawSet) (fits : IsRawSet w16 r) (within : AreSectionsWithin w16 ve
   machine_meant = record {
     bottom = omega (arith, (within state_section).some, length-map r.defaults default_meant);
     actions = λ state t a is.
-        let at = cell_at (length (map default_meant r.defaults)) (length r.terminals)
+        let at = cell-grid_of_some (length (map default_meant r.defaults)) (length r.terminals)
         (actions_from (comb_entry (set_meant r).actions)) state t a is in
-        let entry = option_map_some action_from (comb_entry (set_meant r).actions state t) a at.2 in
+        let entry = option_map-some action_from (comb_entry (set_meant r).actions state t) a at.2 in
         let legal = entry_legal action_meant r.actions fits.actions.row_count (length r.terminals)
         (IsActionWithin w16 r) action_comb state t entry.0 entry.1 in
         subst (IsLegal (machine_of (set_meant r)) t) (ap action_from (sym legal.2) ∙ entry.2)
@@ -118,9 +120,9 @@ module _ (r : RawSet) (fits : IsRawSet w16 r) (within : AreSectionsWithin w16 ve
         let at = defaults_within (length r.rules) r.defaults state p (within state_section).defaults is in
         (at.0, omega (arith, at.1, length-map r.rules rule_meant));
     gotos = λ state left next is.
-        let at = cell_at (length (map default_meant r.defaults)) r.nonterminals
+        let at = cell-grid_of_some (length (map default_meant r.defaults)) r.nonterminals
         (gotos_from (comb_entry (set_meant r).gotos)) state left next is in
-        let entry = option_map_some (λ (s : StateNo). s.0) (comb_entry (set_meant r).gotos state left) next at.2 in
+        let entry = option_map-some (λ (s : StateNo). s.0) (comb_entry (set_meant r).gotos state left) next at.2 in
         let legal = entry_legal state_meant r.gotos fits.gotos.row_count r.nonterminals
         (λ column s. s < length r.defaults) goto_comb state left entry.0 entry.1 in
         let same : legal.0 ≡ next = sym (ap (λ (s : StateNo). s.0) legal.2) ∙ entry.2 in
