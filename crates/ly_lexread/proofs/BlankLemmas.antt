@@ -3,7 +3,7 @@ use Rattle.std.specs.Bool.{MatchBool}
 use Rattle.std.specs.Option.{MatchOption}
 use denote.Ref.{Bor}
 use Rattle.std.specs.List.{prefix_len}
-use Rattle.std.proofs.lemmas.Bool.{false≢true}
+use Rattle.std.proofs.lemmas.Bool.{eqb-true, false≢true}
 use Rattle.std.proofs.Common.{◌≡◌, ℕ, suc, ◌+◌, ◌<◌, ◌≤◌, List, [], ◌∷◌, ◌++◌, Bool, true, false, cond}
 use Rattle.std.proofs.Common.{refl, sym, ap, ◌∙◌, subst, length, take, drop, arith, eqb, take-append-drop, length-take}
 use Rattle.std.proofs.Common.{Option}
@@ -63,10 +63,7 @@ count_all (b ∷ text) a = step (is_blank b) (prefix_len is_blank text) (length 
 
 pub are_all_blanks : (text : List ℕ) (n : ℕ) (t : Bool) → n ≡ prefix_len is_blank text → t ≡ eqb n (length text)
     → MatchBool t (AllPass is_blank text) (AllPass is_blank text → ⊥)
-are_all_blanks text n true e f = all_blanks text (sym e ∙ same n (length text) (sym f))
-  where
-    same : (n m : ℕ) → eqb n m ≡ true → n ≡ m
-    same n m h = grind (arith, nat_tests)
+are_all_blanks text n true e f = all_blanks text (sym e ∙ eqb-true n (length text) (sym f))
 are_all_blanks text n false e f = λ a. other n (length text) (sym f) (e ∙ count_all text a)
   where
     other : (n m : ℕ) → eqb n m ≡ false → n ≡ m → ⊥

@@ -24,10 +24,6 @@ pub some_byte : (t : Bool) (xs : List ℕ) → t ≡ eqb (length xs) 0 → t ≡
 some_byte t [] e f = absurd (false≢true (sym f ∙ e))
 some_byte t (x ∷ xs) e f = omega arith
 
-pub not_empty : (t : Bool) (xs : List ℕ) → t ≡ eqb (length xs) 0 → t ≡ false → xs ≢ []
-not_empty t [] e f n = false≢true (sym f ∙ e)
-not_empty t (x ∷ xs) e f n = cc n
-
 -- a block that ends: with the line in front, or behind it
 pub block_here : (text line behind rest : List ℕ) → LineBefore text line behind → BeginsWith line (37 ∷ 125 ∷ [])
     → BlockEnds text rest → rest ≡ behind

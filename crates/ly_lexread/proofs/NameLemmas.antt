@@ -7,11 +7,11 @@ use Rattle.std.specs.Global.{Global}
 use Rattle.std.specs.List.{list_any, slice_get}
 use Rattle.std.specs.Option.{MatchOption}
 use Rattle.std.specs.Prelude.{◌||◌, ◌≤◌, MatchBool, if◌then◌else◌}
-use Rattle.std.proofs.lemmas.Bool.Decides.{nat_tests}
 use Rattle.std.specs.Str.{bytes_eq}
 use Rattle.std.proofs.lemmas.List.{map-append}
 use Rattle.std.proofs.lemmas.List.Elements.{Contains-push_cases}
 use Rattle.std.proofs.lemmas.Slice.Eq.{bytes_eq-Decides}
+use Rattle.std.proofs.lemmas.Bool.{eqb-true}
 use Rattle.ly_base.specs.Blank.{is_blank}
 use Rattle.ly_base.specs.Escapes.{AllPass}
 use Rattle.ly_base.specs.Language.{NameBefore}
@@ -121,10 +121,8 @@ pub all_blank_behind : (line name behind text : List ℕ) → NameBefore Lex lin
     → true ≡ eqb (length text) 0 → (n t : List ℕ) → DefinesName line n t → ⊥
 all_blank_behind line name behind [] h b e n t d =
     d.3 (blanks_one behind t [] (subst (λ i. BlanksBefore i t) (name_one Lex line n name d.0 behind d.1 h).1 d.2) b)
-all_blank_behind line name behind (x ∷ text) h b e n t d = absurd (omega (arith, same (length (x ∷ text)) 0 (sym e)))
-  where
-    same : (n m : ℕ) → eqb n m ≡ true → n ≡ m
-    same n m h = grind (arith, nat_tests)
+all_blank_behind line name behind (x ∷ text) h b e n t d =
+    absurd (omega (arith, eqb-true (length (x ∷ text)) 0 (sym e)))
 
 -- one more name
 pub apart_push : (ns : List (List ℕ)) (n : List ℕ) → AreApart ns → (Contains ns n → ⊥) → AreApart (ns ++ n ∷ [])

@@ -9,6 +9,7 @@ use Rattle.std.proofs.Math.Seq.{drop-append_seam}
 use Rattle.ly_base.specs.Gap.{Gap}
 use Rattle.ly_base.specs.declared.language.Language.{Language}
 use Rattle.ly_base.specs.declared.language.Language.TheVariants.{Lex, Yacc}
+use Rattle.ly_base.proofs.WordBeforeLemmas.{word_none, word_one, word_shorter}
 use Rattle.ly_lexread.specs.Action.{Effect, Meaning, Saying, next, no_effect, own}
 use Rattle.ly_lexread.specs.Conditions.{Condition}
 use Rattle.ly_lexread.specs.Private.Statements.{EndsBy, saying_of, statement_of}
@@ -33,13 +34,11 @@ use Rattle.ly_lexread.specs.declared.words.NextWord.{NextWord}
 use Rattle.ly_lexread.specs.declared.words.NextWord.TheVariants as word
 use Rattle.ly_lexread.specs.Lines.{LineOf}
 use Rattle.ly_lexread.proofs.LineLemmas.{line_one}
-use Rattle.ly_lexread.proofs.WordLemmas.{end_gap, found_front, front_end, front_is, front_none, front_one}
-use Rattle.ly_lexread.proofs.WordLemmas.{front_shorter}
-use Rattle.ly_lexread.proofs.WordLemmas.{mark_front}
+use Rattle.ly_lexread.proofs.WordLemmas.{end_gap, found_front, front_end, front_is, mark_front, words}
 
 pub opens_one : (l : Language) (text i j : List ℕ) (t u : Bool) → Opens l text t i → Opens l text u j
     → (t ≡ u) × (i ≡ j)
-opens_one l text i j true true a b = (refl, (front_one l text open_parenthesis open_parenthesis i j a b).1)
+opens_one l text i j true true a b = (refl, (word_one words l text open_parenthesis open_parenthesis i j a b).1)
 opens_one l text i j true false a b = absurd (b.1 i a)
 opens_one l text i j false true a b = absurd (a.1 j b)
 opens_one l text i j false false a b = (refl, a.0 ∙ sym b.0)
@@ -64,7 +63,7 @@ closed_open l text behind false r e f h = cc e
 closed_open l text behind true (Ok rest) e f h = (behind, f, h)
 closed_open l text behind true (Err fault) e f h = λ rest k. h rest
     (subst (λ i. Front l i semicolon rest)
-    (front_one l text close_parenthesis close_parenthesis k.0 behind k.1 f).1 k.2)
+    (word_one words l text close_parenthesis close_parenthesis k.0 behind k.1 f).1 k.2)
 
 -- the word that is given, and what closes behind it
 pub given_word : (l : Language) (text inside behind rest : List ℕ) (t : Bool) (w : NextWord) (x : Word)
@@ -117,8 +116,8 @@ begin_is_return e = omega (arith, ap (λ l. get_or l 0 0) e)
 
 -- a name is no end
 name_ends : (e : Extent) (text n behind rest : List ℕ) → Front (gaps e) text (name n) behind → Ends e text rest → ⊥
-name_ends Line text n behind rest f h = front_none Lex text (name n) behind h.0 f
-name_ends Braces text n behind rest f h = no_name_mark n 125 (front_one Yacc text
+name_ends Line text n behind rest f h = word_none words Lex text (name n) behind h.0 f
+name_ends Braces text n behind rest f h = no_name_mark n 125 (word_one words Yacc text
     (name n) close_brace behind rest f h).0
 
 -- What stands behind BEGIN.
@@ -134,18 +133,18 @@ pub begin_first : (cs : List Condition) (e : Extent) (text behind rest : List �
     → Begun cs (gaps e) behind s rest
 begin_first cs e text behind rest ends f h = absurd (name_ends e text (codes "BEGIN") behind rest f h)
 begin_first cs e text behind rest empty f h
-    = absurd (no_name_mark (codes "BEGIN") 59 (front_one (gaps e) text (name
+    = absurd (no_name_mark (codes "BEGIN") 59 (word_one words (gaps e) text (name
     (codes "BEGIN")) semicolon behind rest f h).0)
 begin_first cs e text behind rest (begins n) f h = record {
   condition = n;
   is = refl;
   word = h.0;
   given = subst (λ i. Given (gaps e) i h.0 rest)
-      (front_one (gaps e) text (name (codes "BEGIN")) (name (codes "BEGIN")) h.1.0 behind h.1.1 f).1 h.1.2;
+      (word_one words (gaps e) text (name (codes "BEGIN")) (name (codes "BEGIN")) h.1.0 behind h.1.1 f).1 h.1.2;
   named = h.1.3;
 }
 begin_first cs e text behind rest (returns m) f h = absurd (begin_is_return (same_name (codes "BEGIN") (codes "return")
-    (front_one (gaps e) text (name (codes "BEGIN")) (name (codes "return")) behind h.1.0 f h.1.1).0))
+    (word_one words (gaps e) text (name (codes "BEGIN")) (name (codes "return")) behind h.1.0 f h.1.1).0))
 
 -- What stands behind `return`.
 pub record Told (l : Language) (behind : List ℕ) (s : Statement) (rest : List ℕ) : Type 0 where
@@ -160,15 +159,16 @@ pub return_first : (cs : List Condition) (e : Extent) (text behind rest : List �
     → Told (gaps e) behind s rest
 return_first cs e text behind rest ends f h = absurd (name_ends e text (codes "return") behind rest f h)
 return_first cs e text behind rest empty f h = absurd
-    (no_name_mark (codes "return") 59 (front_one (gaps e) text (name (codes "return")) semicolon behind rest f h).0)
+    (no_name_mark (codes "return") 59
+    (word_one words (gaps e) text (name (codes "return")) semicolon behind rest f h).0)
 return_first cs e text behind rest (begins n) f h = absurd (begin_is_return (same_name (codes "BEGIN") (codes "return")
-    (front_one (gaps e) text (name (codes "BEGIN")) (name (codes "return")) h.1.0 behind h.1.1 f).0))
+    (word_one words (gaps e) text (name (codes "BEGIN")) (name (codes "return")) h.1.0 behind h.1.1 f).0))
 return_first cs e text behind rest (returns m) f h = record {
   meaning = m;
   is = refl;
   word = h.0;
   given = subst (λ i. Given (gaps e) i h.0 rest)
-      (front_one (gaps e) text (name (codes "return")) (name (codes "return")) h.1.0 behind h.1.1 f).1 h.1.2;
+      (word_one words (gaps e) text (name (codes "return")) (name (codes "return")) h.1.0 behind h.1.1 f).1 h.1.2;
   stands = h.1.3;
 }
 
@@ -217,16 +217,16 @@ pub given_one : (l : Language) (text r s : List ℕ) (x y : Word) → Given l te
 given_one l text r s x y a b =
     let e = opens_one l text b.inside a.inside b.is_open a.is_open b.opens a.opens in
     let word : Front l a.inside y b.behind = subst (λ i. Front l i y b.behind) e.1 b.word in
-    let same = front_one l a.inside x y a.behind b.behind a.word word in
+    let same = word_one words l a.inside x y a.behind b.behind a.word word in
     let closed : Closed l a.is_open a.behind s
     = subst (λ u. Closed l u a.behind s) e.0 (subst (λ i. Closed l b.is_open i s) (sym same.1) b.closed) in
     (same.0, closed_one a.is_open a.behind a.closed closed)
   where
     closed_one : (t : Bool) (u : List ℕ) → Closed l t u r → Closed l t u s → r ≡ s
     closed_one true u c d =
-        let e = (front_one l u close_parenthesis close_parenthesis c.0 d.0 c.1 d.1).1 in
-        (front_one l c.0 semicolon semicolon r s c.2 (subst (λ i. Front l i semicolon s) (sym e) d.2)).1
-    closed_one false u c d = (front_one l u semicolon semicolon r s c d).1
+        let e = (word_one words l u close_parenthesis close_parenthesis c.0 d.0 c.1 d.1).1 in
+        (word_one words l c.0 semicolon semicolon r s c.2 (subst (λ i. Front l i semicolon s) (sym e) d.2)).1
+    closed_one false u c d = (word_one words l u semicolon semicolon r s c d).1
 
 some_one : (a b : ℕ) (o : Option ℕ) → o ≡ Some a → o ≡ Some b → a ≡ b
 some_one a b o e f = cc
@@ -245,19 +245,19 @@ stands_one (literal b) m n h k = h ∙ sym k
 
 ends_one : (e : Extent) (text r s : List ℕ) → Ends e text r → Ends e text s → r ≡ s
 ends_one Line text r s a b = a.1 ∙ sym b.1
-ends_one Braces text r s a b = (front_one Yacc text close_brace close_brace r s a b).1
+ends_one Braces text r s a b = (word_one words Yacc text close_brace close_brace r s a b).1
 
 no_semicolon_end : (e : Extent) (text r s : List ℕ) → Front (gaps e) text semicolon r → Ends e text s → ⊥
-no_semicolon_end Line text r s f h = front_none Lex text semicolon r h.0 f
+no_semicolon_end Line text r s f h = word_none words Lex text semicolon r h.0 f
 no_semicolon_end Braces text r s f h
-    = absurd (omega (arith, same_mark 59 125 (front_one Yacc text semicolon close_brace r s f h).0))
+    = absurd (omega (arith, same_mark 59 125 (word_one words Yacc text semicolon close_brace r s f h).0))
 
 pub statement_one : (cs : List Condition) (e : Extent) (text : List ℕ) (s t : Statement) (q r : List ℕ)
     → StatementFirst cs e text s q → StatementFirst cs e text t r → (s ≡ t) × (q ≡ r)
 statement_one cs e text ends ends q r a b = (refl, ends_one e text q r a b)
 statement_one cs e text ends empty q r a b = absurd (no_semicolon_end e text r q b a)
 statement_one cs e text empty ends q r a b = absurd (no_semicolon_end e text q r a b)
-statement_one cs e text empty empty q r a b = (refl, (front_one (gaps e) text semicolon semicolon q r a b).1)
+statement_one cs e text empty empty q r a b = (refl, (word_one words (gaps e) text semicolon semicolon q r a b).1)
 statement_one cs e text (begins n) t q r a b =
     let h = begin_first cs e text a.1.0 r t a.1.1 b in
     let same = given_one (gaps e) a.1.0 q r a.0 h.word a.1.2 h.given in (
@@ -275,9 +275,10 @@ statement_one cs e text (returns m) t q r a b =
 statement_one cs e text ends (begins n) q r a b = absurd (name_ends e text (codes "BEGIN") b.1.0 q b.1.1 a)
 statement_one cs e text ends (returns m) q r a b = absurd (name_ends e text (codes "return") b.1.0 q b.1.1 a)
 statement_one cs e text empty (begins n) q r a b = absurd
-    (no_name_mark (codes "BEGIN") 59 (front_one (gaps e) text (name (codes "BEGIN")) semicolon b.1.0 q b.1.1 a).0)
+    (no_name_mark (codes "BEGIN") 59 (word_one words (gaps e) text (name (codes "BEGIN")) semicolon b.1.0 q b.1.1 a).0)
 statement_one cs e text empty (returns m) q r a b = absurd
-    (no_name_mark (codes "return") 59 (front_one (gaps e) text (name (codes "return")) semicolon b.1.0 q b.1.1 a).0)
+    (no_name_mark (codes "return") 59
+    (word_one words (gaps e) text (name (codes "return")) semicolon b.1.0 q b.1.1 a).0)
 
 follows_one : (d f g : Effect) (s : Statement) → Follows d s f → Follows d s g → f ≡ g
 follows_one d f g ends a b = absurd a
@@ -347,13 +348,13 @@ statements_to_end cs d f text rest (more _ j _ t _ u _ i l m) = statements_to_en
 -- a mark but `;` begins no statement of a line
 mark_no_statement : (cs : List Condition) (line inside : List ℕ) (m : ℕ) → Front Lex line (mark m) inside → m ≢ 59
     → (s : Statement) (r : List ℕ) → StatementFirst cs Line line s r → ⊥
-mark_no_statement cs line inside m f other ends r h = front_none Lex line (mark m) inside h.0 f
+mark_no_statement cs line inside m f other ends r h = word_none words Lex line (mark m) inside h.0 f
 mark_no_statement cs line inside m f other empty r h
-    = other (same_mark m 59 (front_one Lex line (mark m) semicolon inside r f h).0)
+    = other (same_mark m 59 (word_one words Lex line (mark m) semicolon inside r f h).0)
 mark_no_statement cs line inside m f other (begins n) r h
-    = no_name_mark (codes "BEGIN") m (front_one Lex line (name (codes "BEGIN")) (mark m) h.1.0 inside h.1.1 f).0
+    = no_name_mark (codes "BEGIN") m (word_one words Lex line (name (codes "BEGIN")) (mark m) h.1.0 inside h.1.1 f).0
 mark_no_statement cs line inside m f other (returns v) r h
-    = no_name_mark (codes "return") m (front_one Lex line (name (codes "return")) (mark m) h.1.0 inside h.1.1 f).0
+    = no_name_mark (codes "return") m (word_one words Lex line (name (codes "return")) (mark m) h.1.0 inside h.1.1 f).0
 
 -- an action with a `{` in front
 pub braced_refused : (cs : List Condition) (line end inside : List ℕ) → Front Lex line open_brace inside
@@ -363,10 +364,10 @@ braced_refused cs line end inside f none s rest (on_line e h)
     = none_first cs Line no_effect e line []
     (mark_no_statement cs line inside 123 f (λ i. omega (arith, i))) h
 braced_refused cs line end inside f none s rest (of_next h)
-    = omega (arith, same_mark 124 123 (front_one Lex line bar open_brace h.0 inside h.1 f).0)
+    = omega (arith, same_mark 124 123 (word_one words Lex line bar open_brace h.0 inside h.1 f).0)
 braced_refused cs line end inside f none s rest (in_braces e i behind r g h k) = none e behind r
     (subst (λ u. Statements cs Braces no_effect (u ++ end) e behind)
-    (front_one Lex line open_brace open_brace i inside g f).1 h) k
+    (word_one words Lex line open_brace open_brace i inside g f).1 h) k
 
 -- an action with a `|` in front and more behind it
 pub bar_refused : (cs : List Condition) (line end inside : List ℕ) → Front Lex line bar inside → (Gap Lex inside → ⊥)
@@ -375,9 +376,9 @@ bar_refused cs line end inside f none s rest (on_line e h)
     = none_first cs Line no_effect e line []
     (mark_no_statement cs line inside 124 f (λ i. omega (arith, i))) h
 bar_refused cs line end inside f none s rest (of_next h)
-    = none (subst (Gap Lex) (front_one Lex line bar bar h.0 inside h.1 f).1 h.2)
+    = none (subst (Gap Lex) (word_one words Lex line bar bar h.0 inside h.1 f).1 h.2)
 bar_refused cs line end inside f none s rest (in_braces e i behind r g h k)
-    = omega (arith, same_mark 123 124 (front_one Lex line open_brace bar i inside g f).0)
+    = omega (arith, same_mark 123 124 (word_one words Lex line open_brace bar i inside g f).0)
 
 -- any other action
 pub line_refused : (cs : List Condition) (line end inside : List ℕ) (w : NextWord) → IsFront Lex line w inside
@@ -440,13 +441,13 @@ says_one cs line end r q s t (on_line e h) (in_braces f i b _ g k l) = absurd (n
 says_one cs line end r q s t (of_next h) (on_line f k) = absurd (bar_refused_by cs line h f k)
 says_one cs line end r q s t (of_next h) (of_next k) = (refl, refl)
 says_one cs line end r q s t (of_next h) (in_braces f i b _ g k l)
-    = absurd (omega (arith, same_mark 123 124 (front_one Lex line open_brace bar i h.0 g h.1).0))
+    = absurd (omega (arith, same_mark 123 124 (word_one words Lex line open_brace bar i h.0 g h.1).0))
 says_one cs line end r q s t (in_braces e i b _ g h l) (on_line f k) = absurd (none_first cs Line no_effect f line []
     (mark_no_statement cs line i 123 g (λ j. omega (arith, j))) k)
 says_one cs line end r q s t (in_braces e i b _ g h l) (of_next k)
-    = absurd (omega (arith, same_mark 123 124 (front_one Lex line open_brace bar i k.0 g k.1).0))
+    = absurd (omega (arith, same_mark 123 124 (word_one words Lex line open_brace bar i k.0 g k.1).0))
 says_one cs line end r q s t (in_braces e i b _ g h l) (in_braces f j c _ v k m) =
-    let same = (front_one Lex line open_brace open_brace i j g v).1 in
+    let same = (word_one words Lex line open_brace open_brace i j g v).1 in
     let there : Statements cs Braces no_effect (i ++ end) f c
     = subst (λ u. Statements cs Braces no_effect (u ++ end) f c) (sym same) k in
     let one = statements_one cs Braces no_effect e f (i ++ end) b c h there in
@@ -465,32 +466,33 @@ given_within : (l : Language) (text rest : List ℕ) (x : Word) → Given l text
 given_within l text rest x g = omega (
   arith,
   opened g.is_open g.inside g.opens,
-  front_shorter l g.inside x g.behind g.word,
+  word_shorter words l g.inside x g.behind g.word,
   closed g.is_open g.behind g.closed,
 )
   where
     opened : (t : Bool) (u : List ℕ) → Opens l text t u → length u ≤ length text
-    opened true u o = let less = front_shorter l text open_parenthesis u o in omega (arith, less)
+    opened true u o = let less = word_shorter words l text open_parenthesis u o in omega (arith, less)
     opened false u o = omega (arith, ap length o.0)
 
     closed : (t : Bool) (u : List ℕ) → Closed l t u rest → length rest ≤ length u
-    closed true u c = let a = front_shorter l u close_parenthesis c.0 c.1 in
-        let b = front_shorter l c.0 semicolon rest c.2 in
+    closed true u c = let a = word_shorter words l u close_parenthesis c.0 c.1 in
+        let b = word_shorter words l c.0 semicolon rest c.2 in
         omega (arith, a, b)
-    closed false u c = let less = front_shorter l u semicolon rest c in omega (arith, less)
+    closed false u c = let less = word_shorter words l u semicolon rest c in omega (arith, less)
 
 statement_within : (cs : List Condition) (e : Extent) (text : List ℕ) (s : Statement) (rest : List ℕ)
     → StatementFirst cs e text s rest → length rest ≤ length text
 statement_within cs Line text ends rest h = omega (arith, ap length h.1)
-statement_within cs Braces text ends rest h = let less = front_shorter Yacc text close_brace rest h in omega
+statement_within cs Braces text ends rest h = let less = word_shorter words Yacc text close_brace rest h in omega
     (arith, less)
-statement_within cs e text empty rest h = let less = front_shorter (gaps e) text semicolon rest h in omega (arith, less)
+statement_within cs e text empty rest h =
+    let less = word_shorter words (gaps e) text semicolon rest h in omega (arith, less)
 statement_within cs e text (begins n) rest h =
-    let less = front_shorter (gaps e) text (name (codes "BEGIN")) h.1.0 h.1.1 in
+    let less = word_shorter words (gaps e) text (name (codes "BEGIN")) h.1.0 h.1.1 in
     let more = given_within (gaps e) h.1.0 rest h.0 h.1.2 in
     omega (arith, less, more)
 statement_within cs e text (returns m) rest h =
-    let less = front_shorter (gaps e) text (name (codes "return")) h.1.0 h.1.1 in
+    let less = word_shorter words (gaps e) text (name (codes "return")) h.1.0 h.1.1 in
     let more = given_within (gaps e) h.1.0 rest h.0 h.1.2 in
     omega (arith, less, more)
 
@@ -517,7 +519,7 @@ pub says_shorter : (cs : List Condition) (line end rest : List ℕ) (s : Saying)
 says_shorter cs line end rest s (on_line e h) = inr refl
 says_shorter cs line end rest s (of_next h) = inr refl
 says_shorter cs line end rest s (in_braces e i b _ f h k) =
-    let a = front_shorter Lex line open_brace i f in
+    let a = word_shorter words Lex line open_brace i f in
     let c = statements_within cs Braces no_effect e (i ++ end) b h in
     let d = line_ends_within b rest k in
     inl (omega (arith, a, c, d, length-append i end))

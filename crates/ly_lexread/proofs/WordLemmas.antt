@@ -1,34 +1,22 @@
 -- The words of an action are determined.
 use Rattle.std.proofs.lemmas.Bool.{false≢true}
-use Rattle.std.proofs.Common.{◌≡◌, ◌≢◌, ℕ, ◌<◌, List, [], ◌∷◌, ◌++◌, true, false, IsTrue, refl, sym, ap, ap₂}
+use Rattle.std.proofs.Common.{◌≡◌, ◌≢◌, ℕ, ◌<◌, List, [], ◌∷◌, ◌++◌, false, IsTrue, refl, sym, ap, ap₂}
 use Rattle.std.proofs.Common.{◌∙◌, subst, arith, length, length-append, ◌⊎◌, inl, inr, drop, get_or}
 use Rattle.std.specs.Prelude.{codes}
 use Rattle.std.proofs.lemmas.Bool.Decides.{nat_tests}
-use Rattle.std.proofs.lemmas.List.{append-nil}
 use Rattle.ly_base.specs.Gap.{Gap, GapBefore, GapEnds}
-use Rattle.ly_base.specs.Language.{NameBefore, is_space, starts_name}
+use Rattle.ly_base.specs.Language.{NameBefore, starts_name}
 use Rattle.ly_base.specs.Literals.{Literal}
 use Rattle.ly_base.specs.declared.language.Language.{Language}
-use Rattle.ly_base.specs.declared.language.Language.TheVariants.{Lex, Yacc}
-use Rattle.ly_base.proofs.GapLemmas.{gap_one}
+use Rattle.ly_base.specs.declared.language.Language.TheVariants.{Lex}
 use Rattle.ly_base.proofs.LiteralLemmas.{literal_one, literal_shorter}
 use Rattle.ly_base.proofs.NameLemmas.{name_one}
+use Rattle.ly_base.proofs.WordBeforeLemmas.{AreWords, IsSolid, name_solid, nothing_behind, word_at, word_none, word_one}
 use Rattle.ly_lexread.specs.Private.Words.{IsFound, IsFront, word_of}
 use Rattle.ly_lexread.specs.Words.{Word, mark, text_byte, name, literal, Begins, Front, IsNoTextByte, TextByteBefore}
 use Rattle.ly_lexread.specs.Words.{Wording, is_mark}
 use Rattle.ly_lexread.specs.declared.words.NextWord.{NextWord}
 use Rattle.ly_lexread.specs.declared.words.NextWord.TheVariants as next
-
--- no gap begins with the byte
-record IsSolid (b : ℕ) : Type 0 where
-  no_space : is_space Yacc b ≡ false
-  no_slash : b ≢ 47
-
-name_solid : (b : ℕ) → IsTrue (starts_name Lex b) → IsSolid b
-name_solid b h = record {
-  no_space = grind (arith, nat_tests);
-  no_slash = λ e. false≢true (sym (ap (starts_name Lex) e) ∙ h);
-}
 
 mark_solid : (b : ℕ) → IsTrue (is_mark b) → IsSolid b
 mark_solid b h = record {
@@ -54,35 +42,10 @@ begins_at text (literal c) rest h = (39, h.0, h.1, refl)
 
 starts_solid : (x : Word) (b : ℕ) → Starts x b → IsSolid b
 starts_solid (mark m) b h = subst IsSolid (sym h.0) (mark_solid m h.1)
-starts_solid text_byte b (inl e) = name_solid b e
+starts_solid text_byte b (inl e) = name_solid Lex b e
 starts_solid text_byte b (inr e) = subst IsSolid (sym e) (record { no_space = refl; no_slash = λ f. omega (arith, f) })
-starts_solid (name n) b e = name_solid b e
+starts_solid (name n) b e = name_solid Lex b e
 starts_solid (literal c) b e = subst IsSolid (sym e) (record { no_space = refl; no_slash = λ f. omega (arith, f) })
-
-no_space_in : (l : Language) (b : ℕ) → IsSolid b → IsTrue (is_space l b) → ⊥
-no_space_in Lex b h s = no_blank b h.no_space s
-  where
-    no_blank : (b : ℕ) → is_space Yacc b ≡ false → IsTrue (is_space Lex b) → ⊥
-    no_blank b h s = grind (arith, nat_tests)
-no_space_in Yacc b h s = false≢true (sym h.no_space ∙ s)
-
-begins_stops : (l : Language) (text : List ℕ) (x : Word) (rest : List ℕ) → Begins text x rest → GapEnds l text
-begins_stops l text x rest h = at (begins_at text x rest h)
-  where
-    at : (b : ℕ) × (s : List ℕ) × (text ≡ b ∷ s) × Starts x b → GapEnds l text
-    at (b, s, e, starts) = record {
-      no_space = λ c t c_space f. let same : c ≡ b = cc
-          in no_space_in l b (starts_solid x b starts) (subst (λ i. is_space l i ≡ true) same c_space);
-      no_comment = λ i t f. (starts_solid x b starts).no_slash (cc);
-    }
-
--- the word that stands behind a gap
-pub front_at : (l : Language) (text word : List ℕ) (x : Word) (rest : List ℕ) → GapBefore l text word → GapEnds l word
-    → Front l text x rest → Begins word x rest
-front_at l text word x rest before stops (u, other, begins)
-    = subst (λ w. Begins w x rest)
-    (gap_one l other.0 before.0 u word other.1 before.1 (begins_stops l u x rest begins) stops (sym other.2 ∙ before.2))
-    begins
 
 apart : (u : List ℕ) (x y : Word) (r s : List ℕ) → ((b : ℕ) → Starts x b → Starts y b → ⊥) → Begins u x r → Begins u y s
     → ⊥
@@ -165,32 +128,38 @@ begins_one u (literal c) (name m) r s a b
     = absurd (apart u (literal c) (name m) r s (λ i. literal_apart i c (name m) (λ k e. cc) (λ k e. cc)) a b)
 begins_one u (literal c) (literal d) r s a b = let e = literal_one u c d r s a b in (ap literal e.0, e.1)
 
--- the word at the front is determined, and so is the rest
-pub front_one : (l : Language) (text : List ℕ) (x y : Word) (r s : List ℕ) → Front l text x r → Front l text y s
-    → (x ≡ y) × (r ≡ s)
-front_one l text x y r s (u, before, a) f
-    = begins_one u x y r s a (front_at l text u y s before (begins_stops l u x r a) f)
+begins_shorter : (text : List ℕ) (x : Word) (rest : List ℕ) → Begins text x rest → length rest < length text
+begins_shorter text (mark m) rest h = omega (arith, ap length h.1)
+begins_shorter text text_byte rest (inl h)
+    = omega (
+      arith,
+      ap length h.2,
+      length-append (codes "yytext") (codes "[0]" ++ rest),
+      length-append
+          (codes "[0]") rest,
+    )
+begins_shorter text text_byte rest (inr h)
+    = omega (arith, ap length h.1, ap length h.2.2, length-append (codes "yytext") rest)
+begins_shorter text (name []) rest h = absurd h.0.0
+begins_shorter text (name (b ∷ n)) rest h = omega (arith, ap length h.0.2, length-append n rest)
+begins_shorter text (literal c) rest h = literal_shorter text rest c h
 
-nothing_stops : (l : Language) → GapEnds l []
-nothing_stops l = record { no_space = λ b s h e. cc; no_comment = λ i s e. cc }
-
--- a gap has no word
-pub front_none : (l : Language) (text : List ℕ) (x : Word) (r : List ℕ) → Gap l text → Front l text x r → ⊥
-front_none l text x r g f
-    = at (begins_at [] x r (front_at l text [] x r (text, g, sym (append-nil text)) (nothing_stops l) f))
-  where
-    at : (b : ℕ) × (s : List ℕ) × ([] ≡ b ∷ s) × Starts x b → ⊥
-    at (b, s, e, h) = cc
+pub words : AreWords Begins
+words = record {
+  solid = λ text x rest h. let at = begins_at text x rest h in (at.0, at.1, at.2, starts_solid x at.0 at.3);
+  one = begins_one;
+  shorter = begins_shorter;
+}
 
 -- whatever word stands in front is the one that was found there
 pub front_is : (l : Language) (text : List ℕ) (w : NextWord) (rest : List ℕ) (x : Word) (s : List ℕ)
     → IsFront l text w rest → Front l text x s → (x ≡ word_of w) × (s ≡ rest)
-front_is l text next.End rest x s h f = absurd (front_none l text x s h.0 f)
+front_is l text next.End rest x s h f = absurd (word_none words l text x s h.0 f)
 front_is l text next.Other rest x s h f = absurd (h.1 x s f)
-front_is l text (next.Mark b) rest x s h f = front_one l text x (mark b) s rest f h
-front_is l text next.TextByte rest x s h f = front_one l text x text_byte s rest f h
-front_is l text (next.Name n) rest x s h f = front_one l text x (name n.now) s rest f h
-front_is l text (next.Literal b) rest x s h f = front_one l text x (literal b) s rest f h
+front_is l text (next.Mark b) rest x s h f = word_one words l text x (mark b) s rest f h
+front_is l text next.TextByte rest x s h f = word_one words l text x text_byte s rest f h
+front_is l text (next.Name n) rest x s h f = word_one words l text x (name n.now) s rest f h
+front_is l text (next.Literal b) rest x s h f = word_one words l text x (literal b) s rest f h
 
 pub found_front : (l : Language) (text : List ℕ) (w : NextWord) (rest : List ℕ) → IsFront l text w rest → IsFound w
     → Front l text (word_of w) rest
@@ -206,10 +175,10 @@ pub front_end : (l : Language) (text : List ℕ) (w : NextWord) (rest : List ℕ
     → w ≡ next.End
 front_end l text next.End rest h g = refl
 front_end l text next.Other rest h g = absurd (h.0 g)
-front_end l text (next.Mark b) rest h g = absurd (front_none l text (mark b) rest g h)
-front_end l text next.TextByte rest h g = absurd (front_none l text text_byte rest g h)
-front_end l text (next.Name n) rest h g = absurd (front_none l text (name n.now) rest g h)
-front_end l text (next.Literal b) rest h g = absurd (front_none l text (literal b) rest g h)
+front_end l text (next.Mark b) rest h g = absurd (word_none words l text (mark b) rest g h)
+front_end l text next.TextByte rest h g = absurd (word_none words l text text_byte rest g h)
+front_end l text (next.Name n) rest h g = absurd (word_none words l text (name n.now) rest g h)
+front_end l text (next.Literal b) rest h g = absurd (word_none words l text (literal b) rest g h)
 
 pub end_gap : (l : Language) (text : List ℕ) (w : NextWord) (rest : List ℕ) → IsFront l text w rest → w ≡ next.End
     → Gap l text × (rest ≡ [])
@@ -250,13 +219,10 @@ pub other_front : (l : Language) (text word : List ℕ) → GapBefore l text wor
     → (b : ℕ) (t : List ℕ) → word ≡ b ∷ t → is_mark b ≡ false
     → (Gap l text → ⊥) × ((x : Word) (s : List ℕ) → Front l text x s → ⊥)
 other_front l text word before stops a n f b t e m
-    = (no_gap, λ x s k. none_at x s (front_at l text word x s before stops k))
+    = (no_gap, λ x s k. none_at x s (word_at words l text word x s before stops k))
   where
     no_gap : Gap l text → ⊥
-    no_gap g =
-        let nothing : word ≡ [] = gap_one l before.0 text word [] before.1 g stops (nothing_stops l)
-        (sym before.2 ∙ sym (append-nil text)) in
-        cc
+    no_gap g = let nothing = nothing_behind l text word before stops g in cc
 
     same_mark : (k : ℕ) (s : List ℕ) → IsTrue (is_mark k) → word ≡ k ∷ s → ⊥
     same_mark k s h g = let same : k ≡ b = cc in false≢true (sym m ∙ ap is_mark (sym same) ∙ h)
@@ -271,30 +237,8 @@ other_front l text word before stops a n f b t e m
 -- the words of a text are determined
 pub wording_one : (l : Language) (text : List ℕ) (xs ys : List Word) → Wording l text xs → Wording l text ys → xs ≡ ys
 wording_one l text [] [] a b = refl
-wording_one l text [] (y ∷ ys) a b = absurd (front_none l text y b.0 a b.1)
-wording_one l text (x ∷ xs) [] a b = absurd (front_none l text x a.0 b a.1)
+wording_one l text [] (y ∷ ys) a b = absurd (word_none words l text y b.0 a b.1)
+wording_one l text (x ∷ xs) [] a b = absurd (word_none words l text x a.0 b a.1)
 wording_one l text (x ∷ xs) (y ∷ ys) a b =
-    let e = front_one l text x y a.0 b.0 a.1 b.1 in
+    let e = word_one words l text x y a.0 b.0 a.1 b.1 in
     ap₂ ◌∷◌ e.0 (wording_one l b.0 xs ys (subst (λ r. Wording l r xs) e.1 a.2) b.2)
-
-word_shorter : (text : List ℕ) (x : Word) (rest : List ℕ) → Begins text x rest → length rest < length text
-word_shorter text (mark m) rest h = omega (arith, ap length h.1)
-word_shorter text text_byte rest (inl h)
-    = omega (
-      arith,
-      ap length h.2,
-      length-append (codes "yytext") (codes "[0]" ++ rest),
-      length-append
-          (codes "[0]") rest,
-    )
-word_shorter text text_byte rest (inr h)
-    = omega (arith, ap length h.1, ap length h.2.2, length-append (codes "yytext") rest)
-word_shorter text (name []) rest h = absurd h.0.0
-word_shorter text (name (b ∷ n)) rest h = omega (arith, ap length h.0.2, length-append n rest)
-word_shorter text (literal c) rest h = literal_shorter text rest c h
-
--- a word takes a byte at least
-pub front_shorter : (l : Language) (text : List ℕ) (x : Word) (rest : List ℕ) → Front l text x rest
-    → length rest < length text
-front_shorter l text x rest (u, before, h)
-    = omega (arith, ap length before.2, length-append before.0 u, word_shorter u x rest h)

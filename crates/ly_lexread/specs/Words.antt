@@ -1,9 +1,10 @@
 -- The words of an action.
 use Rattle.std.specs.Prelude.{◌≡◌, ◌≢◌, ◌⊎◌, ℕ, List, [], ◌∷◌, ◌++◌, Bool, IsTrue, codes, nat_eq}
 use Rattle.std.specs.List.{list_any}
-use Rattle.ly_base.specs.Gap.{Gap, GapBefore}
+use Rattle.ly_base.specs.Gap.{Gap}
 use Rattle.ly_base.specs.Language.{NameBefore}
 use Rattle.ly_base.specs.Literals.{Literal}
+use Rattle.ly_base.specs.Words.{WordBefore}
 use Rattle.ly_base.specs.declared.language.Language.{Language}
 use Rattle.ly_base.specs.declared.language.Language.TheVariants.{Lex}
 
@@ -57,7 +58,7 @@ Begins text (literal b) rest = Literal text b rest
 
 -- the text is a gap, a word and the rest
 abbrev pub Front : Language → List ℕ → Word → List ℕ → Type 0
-Front l text x rest = (word : List ℕ) × GapBefore l text word × Begins word x rest
+Front l text x rest = WordBefore Begins l text x rest
 
 -- the text is these words, with gaps before, between and behind them
 abbrev pub Wording : Language → List ℕ → List Word → Type 0

@@ -1,10 +1,10 @@
 -- A turn on a token, and the move that it is on the states alone.
 use Rattle.std.proofs.Common.{◌≡◌, ℕ, zero, suc, ◌-◌, List, [], ◌∷◌, drop, Option, Some, None, refl, ap, ◌∙◌}
-use Rattle.std.proofs.Common.{arith, subst}
+use Rattle.std.proofs.Common.{subst}
 use Rattle.std.specs.Prelude.{slice_get}
 use Rattle.ly_base.specs.Lexed.{Token}
 use Rattle.ly_pack.specs.Machine.{Machine, TableAction, TableRule, action_of, entry_at, goto_at, or_default, reduce}
-use Rattle.ly_pack.specs.Machine.{IsLegal, IsMachine, IsTableRule}
+use Rattle.ly_pack.specs.Machine.{IsLegal, IsMachine}
 use Rattle.ly_pack.specs.Steady as steady
 use Rattle.ly_pack.specs.Steady.{action_on, move, rule_at}
 use Rattle.ly_parse.specs.Feeding.{Fed, Feeds, Level, go_to, goes_on, onward, perform, pop, reduce_by, settled}
@@ -86,9 +86,3 @@ feeds_as m t p stack out a e token same = settled (turns m token t stack (reduce
 pub feeds_by : (m : Machine) (token : Token ℕ) (stack : List Level) (a : TableAction) (out : Fed)
     → action_of m (top_of stack) token.terminal ≡ a → perform m token stack a ≡ settles out → Feeds m token stack out
 feeds_by m token stack a out e done = settled (turns m token token.terminal stack a e refl ∙ done)
-
--- a rule is found at its number
-pub rule_found : (m : Machine) (p : ℕ) (r : TableRule) → IsTableRule m p r → rule_at m p ≡ Some r
-rule_found m p r h =
-    let place : p - 1 ≡ h.0 = (let e = h.1 in omega arith) in
-    ap (slice_get m.rules) place ∙ h.2

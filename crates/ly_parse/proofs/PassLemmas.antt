@@ -9,6 +9,7 @@ use Rattle.ly_pack.specs.Machine.{Machine, TableRule, action_of, reduce, states_
 use Rattle.ly_pack.specs.Steady.{IsTableEdge}
 use Rattle.ly_pack.specs.SteadyLaws.{IsStack}
 use Rattle.ly_pack.specs.Values.{action_from}
+use Rattle.ly_pack.proofs.WithinLemmas.{rule_known}
 use Rattle.ly_parse.specs.Feeding.{faulty, states_on, top_of}
 use Rattle.ly_parse.specs.Parse.{Parse}
 use Rattle.ly_parse.specs.Private.Paying.{IsStackPaid}
@@ -17,7 +18,6 @@ use Rattle.ly_parse.specs.Private.Stack.{level_from, parse_from, stack_from, Fee
 use Rattle.ly_parse.specs.declared.level.Level as code
 use Rattle.ly_parse.specs.declared.shortcut.Shortcut.{Shortcut}
 use Rattle.ly_parse.specs.declared.shortcut.Situation.{Situation}
-use Rattle.ly_parse.proofs.FeedingLemmas.{rule_found}
 use Rattle.ly_parse.proofs.ReduceLemmas.{rule_within}
 use Rattle.ly_parse.proofs.ShortcutLemmas.{acts_from, edge_behind, fails, known_behind, leads}
 use Rattle.ly_parse.proofs.StackLemmas.{below, cut, edge_under, length-stack_from, pushed, stack_from-push}
@@ -206,4 +206,4 @@ is_passing m r i fits one shape =
 pub is_pass : (m : Machine) (n i : ℕ) (r : TableRule) → IsMachine m → IsTableRule m n r → r.body_length ≡ 1
     → r.shape ≡ place i → IsPass m (reduce n) r.left
 is_pass m n i r h is one shape =
-    (n, refl, rule_found m n r is ∙ ap Some (is_passing m r i (rule_within m n r h is).shape one shape))
+    (n, refl, rule_known m n r is ∙ ap Some (is_passing m r i (rule_within m n r h is).shape one shape))

@@ -7,11 +7,11 @@ use Rattle.std.specs.Prelude.{Bool, Option, Vec, vec_len}
 use Rattle.ly_pack.specs.Machine.{Machine, TableRule, goto_at, IsMachine, IsRuleWithin, IsShapeFor}
 use Rattle.ly_pack.specs.Machine.{IsTableRule}
 use Rattle.ly_pack.specs.Steady.{rule_at}
+use Rattle.ly_pack.proofs.WithinLemmas.{rule_known}
 use Rattle.ly_parse.specs.Feeding.{faulty, go_to, goes_on, reduce_by, settles, top_of, uncover}
 use Rattle.ly_parse.specs.Parse.{Parse}
 use Rattle.ly_parse.specs.Private.Stack.{parse_from, stack_from, terms_onto, IsParse}
 use Rattle.ly_parse.specs.declared.level.Level as code
-use Rattle.ly_parse.proofs.FeedingLemmas.{rule_found}
 use Rattle.ly_parse.proofs.StackLemmas.{below, length-stack_from, stack_from-push}
 use Rattle.ly_parse.proofs.TermLemmas.{pop_past, pop_within}
 use Rattle.ly_tree.proofs.StandLemmas.{stands_unwrapped}
@@ -43,7 +43,7 @@ pub past_bottom : (m : Machine) (f : Grown) (levels : List code.Level) (p : Pars
     → reduce_by p.machine n p.stack (rule_at p.machine n) ≡ settles faulty
 past_bottom m f levels p count over n r view is less =
     subst (λ q. reduce_by q.machine n q.stack (rule_at q.machine n) ≡ settles faulty) view
-    (ap (reduce_by m n (stack_from f levels)) (rule_found m n r is)
+    (ap (reduce_by m n (stack_from f levels)) (rule_known m n r is)
     ∙ ap (uncover m n r) (pop_past r.body_length (stack_from f levels) none
     (omega (arith, length-stack_from f levels))))
 
@@ -95,7 +95,7 @@ cut_reduces p n r low m f levels o h e =
     = ap (λ s. drop r.body_length s) (sym h.stack)
     ∙ (ap (λ k. drop k (stack_from f levels)) body ∙ below f levels low) in
     ap (λ k. reduce_by k n p.stack (rule_at k n)) h.machine
-    ∙ (ap (reduce_by m n p.stack) (rule_found m n r h.rule)
+    ∙ (ap (reduce_by m n p.stack) (rule_known m n r h.rule)
     ∙ (ap (uncover m n r) (pop_within r.body_length p.stack none (omega (arith, length-stack_from f levels)))
     ∙ (ap (λ s. go_to n r (terms_onto (take r.body_length p.stack) none) s (goto_at m (top_of s) r.left)) rest
     ∙ ap (go_to n r (terms_onto (take r.body_length p.stack) none) (stack_from f (take low levels))) e)))

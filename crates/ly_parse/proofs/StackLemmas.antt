@@ -5,6 +5,7 @@ use Rattle.std.proofs.Math.Seq.{drop-append_seam, take-append_seam}
 use Rattle.std.proofs.lemmas.List.{length-map, length-reverse, map-append, reverse-append, take-append-drop}
 use Rattle.std.proofs.lemmas.List.Elements.{All-push, All-take}
 use Rattle.std.specs.Prelude.{All, Bool, IsSome, Some, slice_get, unwrap_or}
+use Rattle.ly_base.proofs.ListLemmas.{All-last}
 use Rattle.ly_pack.specs.Machine.{Machine, action_of, shift, states_of, IsMachine}
 use Rattle.ly_pack.specs.Steady.{IsSteady, IsTableEdge, by_shift}
 use Rattle.ly_pack.specs.SteadyLaws.{IsStack, bottom, on_edge}
@@ -173,10 +174,6 @@ accepts m f levels l p count over view h e =
           ∙ ap accept_with (ap (stack_from f) top.1 ∙ stack_from-push f top.0 l),
       subst (λ q. StandsFor q.forest l.term d) view (known_stands f l.term known),
     )
-  where
-    All-last : {A : Type 0} (P : A → Type 0) (xs : List A) (x : A) → All P (xs ++ x ∷ []) → P x
-    All-last P [] x h = h 0 x (omega arith)
-    All-last P (y ∷ xs) x h = All-last P xs x (λ k d lt. h (suc k) d (omega arith))
 
 -- and the forest pays for it
 pub accepted_paid : (m : Machine) (f : Grown) (levels : List code.Level) (l : code.Level) (p : Parse) (count : ℕ)

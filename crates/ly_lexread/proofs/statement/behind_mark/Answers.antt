@@ -1,6 +1,7 @@
 use Rattle.std.proofs.Common.{arith, sym}
+use Rattle.ly_base.proofs.WordBeforeLemmas.{word_shorter}
 use Rattle.ly_lexread.specs.Words.{mark}
-use Rattle.ly_lexread.proofs.WordLemmas.{front_is, front_shorter, mark_front}
+use Rattle.ly_lexread.proofs.WordLemmas.{front_is, mark_front, words}
 use Rattle.ly_lexread.proofs.statement.behind_mark.Goals as goal
 
 pub returns-then-is-clause-these : goal.returns-then-is-clause-these
@@ -9,7 +10,7 @@ returns-then-is-clause-these c = mark_front c.args.gaps c.args.text.now c.next_w
 
 pub returns-then-is-clause-within : goal.returns-then-is-clause-within
 returns-then-is-clause-within c =
-    let less = front_shorter c.args.gaps c.args.text.now (mark c.args.mark) c.next_word.result.1.now
+    let less = word_shorter words c.args.gaps c.args.text.now (mark c.args.mark) c.next_word.result.1.now
     (mark_front c.args.gaps c.args.text.now c.next_word.result.0 c.next_word.result.1.now c.args.mark
     c.next_word.ensures.front c.if-is.ensures c.requires) in
     omega (arith, less)

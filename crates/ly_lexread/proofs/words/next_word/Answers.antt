@@ -1,13 +1,14 @@
 use Rattle.std.proofs.Common.{sym, subst}
 use Rattle.ly_base.specs.Literals.{Literal}
 use Rattle.ly_base.proofs.GapLemmas.{at_none}
+use Rattle.ly_base.proofs.WordBeforeLemmas.{word_shorter}
 use Rattle.ly_lexread.specs.Words.{literal}
-use Rattle.ly_lexread.proofs.WordLemmas.{front_shorter, other_front}
+use Rattle.ly_lexread.proofs.WordLemmas.{other_front, words}
 use Rattle.ly_lexread.proofs.words.next_word.Goals as goal
 
 pub returns-in-Some-clause-shorter : goal.returns-in-Some-clause-shorter
 returns-in-Some-clause-shorter c = λ _.
-    front_shorter c.args.gaps c.args.text.now (literal c.in-Some.byte) c.split_at.result.1.now (
+    word_shorter words c.args.gaps c.args.text.now (literal c.in-Some.byte) c.split_at.result.1.now (
       c.after_gap-text.result.now,
       c.after_gap-text.ensures.before,
       subst (Literal c.after_gap-text.result.now c.in-Some.byte)

@@ -1,4 +1,5 @@
-use Rattle.ly_lexread.proofs.LineLemmas.{not_empty, parted}
+use Rattle.ly_base.proofs.ListLemmas.{not_empty}
+use Rattle.ly_lexread.proofs.LineLemmas.{parted}
 use Rattle.ly_lexread.proofs.rest.Rest.first_line.Goals as goal
 
 pub returns-clause-these : goal.returns-clause-these
