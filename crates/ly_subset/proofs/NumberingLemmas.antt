@@ -7,7 +7,7 @@ use Rattle.std.proofs.lemmas.List.{get_or_default, same_lists}
 use Rattle.std.proofs.lemmas.Nat.{div-add-mod', div_below}
 use Rattle.ly_ere.specs.Expression.{Expression}
 use Rattle.ly_ere.specs.declared.pattern.Rule.{Rule}
-use Rattle.ly_position.proofs.CountLemmas.{pigeonhole}
+use Rattle.ly_base.proofs.PigeonholeLemmas.{pigeonhole}
 use Rattle.ly_subset.specs.Automaton.{AppearInOrder, Automaton, IsAutomaton, IsBreadthFirst, entry_at, next_by_class}
 use Rattle.ly_subset.specs.Automaton.{next_of, start_of, start_place}
 use Rattle.ly_subset.specs.Laws.{EntriesAreOne}

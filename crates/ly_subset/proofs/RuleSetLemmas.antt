@@ -9,7 +9,7 @@ use Rattle.std.proofs.lemmas.List.{get_or_past}
 use Rattle.ly_base.proofs.MemberLemmas.{Contains-none}
 use Rattle.ly_position.specs.Nfa.{Nfa, ComesTo, Reads, bytes_of, reading, starts_of}
 use Rattle.ly_position.specs.Spots.{Spot, IsNext, IsSpot, ArePositionsOf}
-use Rattle.ly_position.proofs.CountLemmas.{pigeonhole}
+use Rattle.ly_base.proofs.PigeonholeLemmas.{pigeonhole}
 use Rattle.ly_position.proofs.SpotLemmas.{come_next}
 use Rattle.ly_subset.specs.Automaton.{Automaton, IsAutomaton, entry_at, start_of, start_place, state_after}
 use Rattle.ly_subset.specs.Laws.{ClassesOfRules, MoreSetsOfRules, NoMoreSetsThanStates, SubsetsAreSpotSets}
