@@ -22,7 +22,11 @@ mod examples;
 #[cfg(test)]
 mod memory;
 #[cfg(test)]
+mod parses;
+#[cfg(test)]
 mod reports;
+#[cfg(test)]
+mod scanners;
 #[cfg(test)]
 mod trees;
 #[cfg(test)]

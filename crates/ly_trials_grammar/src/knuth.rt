@@ -16,19 +16,14 @@ type Item = (usize, usize, u32);
 
 /// What the automaton of Knuth's item sets is where sets of equal cores are one state, numbered as they first come.
 pub(crate) fn merged(alloc: Global, reduced: &Reduced<'_>) -> Result<Facts, AllocError> {
-    let mut sets = Vec::new(alloc);
-    let mut start = Vec::new(alloc);
-    start.push((0, 0, 0))?;
-    close(reduced, &mut start)?;
-    sets.push(start)?;
-    let mut facts = Facts::new(alloc);
-    for number in 0..MOST {
-        leave(alloc, reduced, &mut sets, number, &mut facts)?;
-    }
+    let mut moves = Vec::new(alloc);
+    let sets = sets(alloc, reduced, &mut moves)?;
     let numbers = numbers(alloc, &sets)?;
-    for (from, _, to) in &mut facts.moves {
-        *from = numbers.get(*from).copied().unwrap_or(MOST);
-        *to = numbers.get(*to).copied().unwrap_or(MOST);
+    let mut facts = Facts::new(alloc);
+    for (from, symbol, to) in &moves {
+        if let (Some(from), Some(to)) = (numbers.get(*from), numbers.get(*to)) {
+            facts.moves.push((*from, *symbol, *to))?;
+        }
     }
     for (set, state) in sets.iter().zip(numbers.iter()) {
         push_aheads(&mut facts, reduced, set, *state)?;
@@ -37,28 +32,47 @@ pub(crate) fn merged(alloc: Global, reduced: &Reduced<'_>) -> Result<Facts, Allo
     Ok(facts)
 }
 
-/// Finds the sets to which symbols lead from a set, breadth first, terminals before nonterminals.
+/// The sets of items: that of the start, and breadth first those to which symbols lead.
+fn sets(
+    alloc: Global,
+    reduced: &Reduced<'_>,
+    moves: &mut Vec<(usize, Symbol, usize)>,
+) -> Result<Vec<Vec<Item>>, AllocError> {
+    let symbols = symbols(alloc, reduced.grammar())?;
+    let mut sets = Vec::new(alloc);
+    let mut start = Vec::new(alloc);
+    start.push((0, 0, 0))?;
+    close(reduced, &mut start)?;
+    sets.push(start)?;
+    for number in 0..MOST {
+        for symbol in &symbols {
+            leave(alloc, reduced, &mut sets, (number, *symbol), moves)?;
+        }
+    }
+    Ok(sets)
+}
+
+/// Finds the set to which a symbol leads from a set, if there is one.
 fn leave(
     alloc: Global,
     reduced: &Reduced<'_>,
     sets: &mut Vec<Vec<Item>>,
-    number: usize,
-    facts: &mut Facts,
+    from: (usize, Symbol),
+    moves: &mut Vec<(usize, Symbol, usize)>,
 ) -> Result<(), AllocError> {
-    for symbol in &symbols(alloc, reduced.grammar())? {
-        let Some(set) = sets.get(number) else {
-            return Ok(());
-        };
-        let items = behind(alloc, reduced, set, *symbol)?;
-        if !items.is_empty() {
-            let target = number_of(sets, items)?;
-            facts.moves.push((number, *symbol, target))?;
-        }
+    let (number, symbol) = from;
+    let items = match sets.get(number) {
+        Some(set) => behind(alloc, reduced, set, symbol)?,
+        None => return Ok(()),
+    };
+    if !items.is_empty() {
+        let target = number_of(sets, items)?;
+        moves.push((number, symbol, target))?;
     }
     Ok(())
 }
 
-/// All symbols, but the end and the left side of rule 0.
+/// All symbols but the end and the left side of rule 0, terminals before nonterminals.
 fn symbols(alloc: Global, grammar: &Grammar) -> Result<Vec<Symbol>, AllocError> {
     let mut symbols = Vec::new(alloc);
     for number in 1..grammar.terminals() {

@@ -61,7 +61,7 @@ const REDUCED: [(&[u8], &[u8]); 5] = [
     (b"%%s : s 'x' ;", b"60"),
 ];
 
-const LETTERS: &[u8] = b"$uxyz";
+const LETTERS: [u8; 5] = [b'$', b'u', b'x', b'y', b'z'];
 
 /// What is said of a grammar reduced, or the number of the fault.
 fn reduction(alloc: Global, grammar: &Grammar) -> Result<Vec<u8>, AllocError> {

@@ -1,0 +1,147 @@
+//! The automaton of a lex file: its classes and states, before and after it is made smallest, and the limits that are met
+//! on the way.
+
+use ly_base::Limits;
+use ly_lexread::read_lex;
+use ly_minim::minimise;
+use ly_position::positions;
+use ly_subset::{Dfa, subsets};
+use std::alloc::{AllocError, Global};
+use std::test::Fail;
+
+/// The automaton of a lex file, or the number of the fault.
+fn automaton(alloc: Global, lex: &[u8], limits: &Limits) -> Result<Dfa, u8> {
+    let file = match read_lex(alloc, lex, limits) {
+        Ok(file) => file,
+        Err(fault) => return Err(fault.number().unwrap_or(0)),
+    };
+    let nfa = match positions(alloc, &file.rules, &file.names, file.conditions, limits) {
+        Ok(nfa) => nfa,
+        Err(fault) => return Err(fault.number().unwrap_or(0)),
+    };
+    match subsets(alloc, &nfa, file.conditions, limits) {
+        Ok(dfa) => Ok(dfa),
+        Err(fault) => Err(fault.number().unwrap_or(0)),
+    }
+}
+
+/// Lex files, a limit of the weight of each pattern and of all, one of states, and how many states there are, or the
+/// number of the fault.
+const LIMITED: [(&[u8], u32, u32, usize); 7] = [
+    (b"%%\na{8} return A;\n", 8, 100, 9),
+    (b"%%\na{9} return A;\n", 8, 100, 17),
+    (b"%%\na{4} return A;\nb{4} return B;\n", 8, 100, 9),
+    (b"%%\na{4} return A;\nb{5} return B;\n", 8, 100, 51),
+    (b"%%\n(a|b)*abb return A;\n", 100, 4, 4),
+    (b"%%\n(a|b)*abb return A;\n", 100, 3, 50),
+    (b"%%\n[a-c] return L;\n[c-e] return R;\n", 100, 3, 50),
+];
+
+/// How many states there are, or the number of the fault.
+fn states(alloc: Global, lex: &[u8], weight: u32, most: u32) -> usize {
+    let limits = Limits::V1
+        .with_pattern_weight(weight)
+        .with_total_weight(weight);
+    match automaton(alloc, lex, &limits.with_scanner_states(most)) {
+        Ok(dfa) => dfa.len(),
+        Err(number) => usize::from(number),
+    }
+}
+
+#[test]
+fn limits_of_weight_and_of_states_are_exact(rt: HostRuntime) {
+    for (lex, weight, most, wanted) in LIMITED {
+        assert_eq!(rt; states(rt.alloc(), lex, weight, most), wanted);
+    }
+}
+
+/// Lex files, and their automata before and after they are made smallest: of each state the states to which the bytes `a`
+/// to `e` and `z` lead, and the rule that it accepts.
+const AUTOMATA: [(&[u8], &[u8], &[u8]); 3] = [
+    (
+        b"%%\n[a-c] return L;\n[c-e] return R;\n",
+        b"11233- ------0 ------0 ------1 ",
+        b"11122- ------0 ------1 ",
+    ),
+    (
+        b"%%\nab|cb return A;\n",
+        b"1-2--- -3---- -3---- ------0 ",
+        b"1-1--- -2---- ------0 ",
+    ),
+    (
+        b"%%\n(a|b)*abb return A;\n",
+        b"10---- 12---- 13---- 10----0 ",
+        b"10---- 12---- 13---- 10----0 ",
+    ),
+];
+
+/// A digit.
+fn digit(number: u32) -> u8 {
+    b"0123456789".get(number as usize).copied().unwrap_or(b'?')
+}
+
+/// Where a byte leads from a state that there is.
+fn step(dfa: &Dfa, state: u32, byte: u8) -> u8 {
+    if (state as usize) < dfa.len() {
+        match dfa.step(state, byte) {
+            Some(next) => digit(next),
+            None => b'-',
+        }
+    } else {
+        b'?'
+    }
+}
+
+/// An automaton of few states as `AUTOMATA` write it.
+fn rows(alloc: Global, dfa: &Dfa) -> Result<Vec<u8>, AllocError> {
+    let mut text = Vec::new(alloc);
+    for state in 0..9u32 {
+        if (state as usize) < dfa.len() {
+            for byte in b"abcdez" {
+                text.push(step(dfa, state, *byte))?;
+            }
+            if let Some(rule) = dfa.rule(state) {
+                text.push(digit(rule.0))?;
+            }
+            text.push(b' ')?;
+        }
+    }
+    Ok(text)
+}
+
+#[test]
+fn automata_are_made_smallest(rt: HostRuntime) -> Result<(), Fail> {
+    for (lex, found, smallest) in AUTOMATA {
+        let Ok(dfa) = automaton(rt.alloc(), lex, &Limits::V1) else {
+            return Err(Fail::from("a lex file was refused that has an automaton"));
+        };
+        let text = rows(rt.alloc(), &dfa)?;
+        assert!(rt; text.as_slice() == found, "{text:?}");
+        let text = rows(rt.alloc(), &minimise(rt.alloc(), dfa)?)?;
+        assert!(rt; text.as_slice() == smallest, "{text:?}");
+    }
+    Ok(())
+}
+
+/// Bytes and their classes in the first of `AUTOMATA`.
+const CLASSES: [(u8, u8); 7] = [
+    (0, 0),
+    (b'a', 1),
+    (b'b', 1),
+    (b'c', 2),
+    (b'd', 3),
+    (b'e', 3),
+    (b'z', 0),
+];
+
+#[test]
+fn bytes_have_their_classes(rt: HostRuntime) -> Result<(), Fail> {
+    let Ok(dfa) = automaton(rt.alloc(), AUTOMATA[0].0, &Limits::V1) else {
+        return Err(Fail::from("a lex file was refused that has an automaton"));
+    };
+    assert!(rt; dfa.classes() == 4 && dfa.starts() == 2 && dfa.start(0, true) == Some(0));
+    for (byte, class) in CLASSES {
+        assert_eq!(rt; dfa.class(byte), class);
+    }
+    Ok(())
+}
