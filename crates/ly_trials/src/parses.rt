@@ -1,8 +1,8 @@
-//! A parser over tables made by hand, and rows of entries that are laid over one another.
+//! Rows of entries that stand apart and that are laid over one another, and parsers over both.
 
-use ly_base::{Front, OutOfMemory, RuleNo, StateNo, Sym};
+use ly_base::{Front, OutOfMemory, RuleNo, RuleTree, StateNo, Sym};
 use ly_loop::steady;
-use ly_pack::{Dense, Machine, MachineParts, Rows, TableAction, comb, pack};
+use ly_pack::{Dense, Machine, MachineParts, Rows, TableAction, TableRule, comb, pack};
 use ly_parse::{ParseFault, Parser, Step, Token};
 use std::alloc::Global;
 use std::test::Fail;
@@ -25,9 +25,9 @@ fn dense_rows(alloc: Global) -> Result<Dense<u8>, OutOfMemory> {
 
 /// An entry of `ROWS`.
 fn entry(row: usize, column: usize) -> Option<u8> {
-    match ROWS.get(row) {
-        Some(entries) => entries.get(column).copied().filter(|entry| *entry != b'.'),
-        None => None,
+    match ROWS.get(row)?.get(column)? {
+        b'.' => None,
+        entry => Some(*entry),
     }
 }
 
@@ -52,48 +52,98 @@ fn rows_keep_their_entries(rt: HostRuntime) -> Result<(), Fail> {
     Ok(())
 }
 
-/// A table of one state, two terminals and one nonterminal, in which each token is refused.
-fn refusing(alloc: Global) -> Result<Machine<Dense<TableAction>, Dense<StateNo>>, OutOfMemory> {
-    let defaults: Vec<Option<RuleNo>> = vec![in alloc; None; 1]?;
+/// The tables of `s : 'a' s | 'b' ;`, of which the terminals are 2 and 3, as rows one behind another.
+fn by_hand(alloc: Global) -> Result<Machine<Dense<TableAction>, Dense<StateNo>>, OutOfMemory> {
+    let mut actions = Dense::new(alloc, 5, 4)?;
+    actions.set(StateNo(0), 2, Some(TableAction::Shift(StateNo(1))));
+    actions.set(StateNo(0), 3, Some(TableAction::Shift(StateNo(2))));
+    actions.set(StateNo(1), 2, Some(TableAction::Shift(StateNo(1))));
+    actions.set(StateNo(1), 3, Some(TableAction::Shift(StateNo(2))));
+    actions.set(StateNo(3), 0, Some(TableAction::Accept));
+    let mut gotos = Dense::new(alloc, 5, 1)?;
+    gotos.set(StateNo(0), 0, Some(StateNo(3)));
+    gotos.set(StateNo(1), 0, Some(StateNo(4)));
+    let by_default = [None, None, Some(RuleNo(2)), None, Some(RuleNo(1))];
+    let defaults = Vec::from_slice(alloc, &by_default)?;
+    let mut rules = Vec::new(alloc);
+    rules.push(TableRule {
+        left: Sym(0),
+        body_length: 2,
+        tree: RuleTree::Pass(2),
+    })?;
+    rules.push(TableRule {
+        left: Sym(0),
+        body_length: 1,
+        tree: RuleTree::Pass(1),
+    })?;
     Ok(Machine::new(MachineParts {
-        terminals: 2,
+        terminals: 4,
         nonterminals: 1,
-        actions: Dense::new(alloc, 1, 2)?,
-        gotos: Dense::new(alloc, 1, 1)?,
+        actions,
+        gotos,
         defaults,
-        rules: Vec::new(alloc),
+        rules,
     }))
 }
 
-/// What a parser says of two tokens and of the end, one after the other.
+/// What a parser over tables says of two tokens and of the end, one after the other: a letter each.
 fn fed<A: Rows<TableAction> + Drop, G: Rows<StateNo> + Drop>(
     alloc: Global,
     machine: &Machine<A, G>,
-) -> Result<[Result<Step, ParseFault>; 3], Fail> {
-    if machine.terminals() < 2 || steady(alloc, machine).is_err() {
-        return Err(Fail::from("a table was refused that is to be used"));
+    first: u32,
+    second: u32,
+) -> Result<[u8; 3], Fail> {
+    let most = machine.terminals();
+    if steady(alloc, machine).is_err() || first as usize >= most || second as usize >= most {
+        return Err(Fail::from("tables were refused that are to be used"));
+    }
+    if first == 0 || second == 0 {
+        return Err(Fail::from("the end is no token"));
     }
     let mut parser = Parser::new(alloc, machine);
-    let token = Token {
-        terminal: Sym(1),
-        at: 7,
-        text: Front::new(b"x", 1),
-    };
-    Ok([parser.feed(&token), parser.feed(&token), parser.end(8)])
+    let first = letter(parser.feed(&token(first)));
+    let second = letter(parser.feed(&token(second)));
+    Ok([first, second, letter(parser.end(9))])
 }
 
-/// What is said behind a refused token.
-const REFUSED: [Result<Step, ParseFault>; 3] = [
-    Ok(Step::Refused { token: 1, byte: 7 }),
-    Err(ParseFault::Over),
-    Err(ParseFault::Over),
+/// A token.
+fn token(terminal: u32) -> Token<'static>
+    ensures { result.terminal.0 ≡ terminal }
+{
+    Token {
+        terminal: Sym(terminal),
+        at: 0,
+        text: Front::new(b"x", 1),
+    }
+}
+
+/// The letter of what a parser says.
+fn letter(said: Result<Step, ParseFault>) -> u8 {
+    match said {
+        Ok(Step::More) => b'm',
+        Ok(Step::Done(_)) => b'd',
+        Ok(Step::Refused { .. }) => b'r',
+        Err(ParseFault::Over) => b'o',
+        Err(_) => b'?',
+    }
+}
+
+/// Two tokens, and what is said of them and of the end.
+const TEXTS: [(u32, u32, [u8; 3]); 5] = [
+    (2, 3, *b"mmd"),
+    (2, 2, *b"mmr"),
+    (3, 3, *b"mro"),
+    (1, 2, *b"roo"),
+    (2, 1, *b"mro"),
 ];
 
 #[test]
-fn a_parse_is_over_behind_a_refused_token(rt: HostRuntime) -> Result<(), Fail> {
-    let machine = refusing(rt.alloc())?;
-    assert!(rt; fed(rt.alloc(), &machine)? == REFUSED);
-    let packed = pack(rt.alloc(), machine)?;
-    assert!(rt; fed(rt.alloc(), &packed)? == REFUSED);
+fn rows_apart_and_laid_are_answered_alike(rt: HostRuntime) -> Result<(), Fail> {
+    let apart = by_hand(rt.alloc())?;
+    let laid = pack(rt.alloc(), by_hand(rt.alloc())?)?;
+    for (first, second, wanted) in TEXTS {
+        assert!(rt; fed(rt.alloc(), &apart, first, second)? == wanted);
+        assert!(rt; fed(rt.alloc(), &laid, first, second)? == wanted);
+    }
     Ok(())
 }

@@ -78,17 +78,40 @@ fn each_part_refuses_in_its_turn(rt: HostRuntime) -> Result<(), Fail> {
     Ok(())
 }
 
+const SMALL: &[u8] = b"%%s : 'x' ;";
+
+const CALC: &[u8] =
+    b"%token NUM\n%left '+'\n%left '*'\n%%e : e '+' e | e '*' e | '(' e ')' | NUM ;";
+
+/// Yacc files, limits of the scanner's and of the parser's states, and what refuses them.
+const LIMITED: [(&[u8], u32, u32, u8); 7] = [
+    (SMALL, 2, 3, b'-'),
+    (SMALL, 2, 2, b'a'),
+    (SMALL, 1, 3, b's'),
+    (CALC, 2, 10, b'-'),
+    (CALC, 2, 9, b'a'),
+    (b"%%s : ;", 2, 1, b'a'),
+    (b"%%s : ;", 2, 0, b'a'),
+];
+
 #[test]
 fn limits_are_met_exactly(rt: HostRuntime) -> Result<(), Fail> {
     let lex = b"%%\nx return 'x';\n".as_slice();
-    let yacc = b"%%s : 'x' ;".as_slice();
-    let limits = Limits::V1.with_parser_states(3).with_scanner_states(2);
-    assert_eq!(rt; refusal(rt.alloc(), lex, yacc, &limits), b'-');
-    let few = limits.with_parser_states(2);
-    assert_eq!(rt; refusal(rt.alloc(), lex, yacc, &few), b'a');
-    let few = limits.with_scanner_states(1);
-    assert_eq!(rt; refusal(rt.alloc(), lex, yacc, &few), b's');
-    let light = limits.with_total_weight(0);
-    assert_eq!(rt; refusal(rt.alloc(), lex, yacc, &light), b'p');
+    for (yacc, scanner, parser, wanted) in LIMITED {
+        let limits = Limits::V1
+            .with_scanner_states(scanner)
+            .with_parser_states(parser);
+        assert_eq!(rt; refusal(rt.alloc(), lex, yacc, &limits), wanted);
+    }
+    let light = Limits::V1.with_total_weight(0);
+    assert_eq!(rt; refusal(rt.alloc(), lex, SMALL, &light), b'p');
+    assert_eq!(rt;
+        refusal(rt.alloc(), lex, SMALL, &Limits::V1.with_symbols(5)),
+        b'-'
+    );
+    assert_eq!(rt;
+        refusal(rt.alloc(), lex, SMALL, &Limits::V1.with_symbols(4)),
+        b'j'
+    );
     Ok(())
 }

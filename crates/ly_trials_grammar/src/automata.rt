@@ -1,11 +1,11 @@
-//! Automata with their lookaheads: worked examples, the limit of states, and small grammars beside Knuth's item sets.
+//! Automata with their lookaheads: worked examples, and small grammars, all of them beside Knuth's item sets.
 
 use crate::facts::Facts;
 use crate::knuth::merged;
 use crate::specifications::specification;
 use ly_base::{Limits, OutOfMemory, StateNo};
 use ly_grammar::reduce;
-use ly_join::{Spec, Symbol};
+use ly_join::Symbol;
 use ly_lr0::{Lr0, automaton};
 use ly_relate::relations;
 use std::alloc::{AllocError, Global};
@@ -21,47 +21,54 @@ const READS: &[u8] = b"%%s : a b c ; a : 'x' ; b : | 'y' ; c : | 'z' ;";
 const MERGED: &[u8] = b"%%s : 'a' A 'd' | 'b' B 'd' | 'a' B 'e' | 'b' A 'e' ; A : 'c' ; B : 'c' ;";
 
 /// Yacc files, letters of their terminals and of their nonterminals, and of each state by number the least string that
-/// leads there, and behind it the rules that are complete there with what may follow them.
+/// leads there, and behind it the rules that are complete there with what may follow them. At the end stand digits: how
+/// many transitions over nonterminals there are, how many terminals they directly read, how often they read and include
+/// others, and how many transitions complete rules look back to.
 const EXAMPLES: [(&[u8], &[u8], &[u8], &[u8]); 4] = [
     (
         LVALUE,
         b"$?I=*",
         b"slr",
-        b"/I 4$=/*/s/l 5$/r 2$/*l 5$=/*r 3$=/l=/l=r 1$/",
+        b"/I 4$=/*/s/l 5$/r 2$/*l 5$=/*r 3$=/l=/l=r 1$/7208b",
     ),
     (
         CALC,
         b"$?N+*()",
         b"e",
-        b"/N 4$+*)/(/e/(e/e+/e*/(e) 3$+*)/e+e 1$+*)/e*e 2$+*)/",
+        b"/N 4$+*)/(/e/(e/e+/e*/(e) 3$+*)/e+e 1$+*)/e*e 2$+*)/4a08g",
     ),
     (
         READS,
         b"$?xyz",
         b"sabc",
-        b"/x 2$yz/s/a 3$z/ay 4$z/ab 5$/abz 6$/abc 1$/",
+        b"/x 2$yz/s/a 3$z/ay 4$z/ab 5$/abz 6$/abc 1$/43236",
     ),
     (
         MERGED,
         b"$?adbec",
         b"sAB",
-        b"/a/b/s/ac 5de 6de/aA/aB/bA/bB/aAd 1$/aBe 3$/bAe 4$/bBd 2$/",
+        b"/a/b/s/ac 5de 6de/aA/aB/bA/bB/aAd 1$/aBe 3$/bAe 4$/bBd 2$/55008",
     ),
 ];
 
+const DIGITS: &[u8] = b"0123456789abcdefg";
+
 /// A letter, or a question mark where there is none of this number.
 fn letter(letters: &[u8], number: usize) -> u8 {
-    letters.get(number).copied().unwrap_or(b'?')
+    match letters.get(number) {
+        Some(letter) => *letter,
+        None => b'?',
+    }
 }
 
 /// An automaton as `EXAMPLES` write it.
 fn automaton_text(
     alloc: Global,
     lr0: &Lr0<'_>,
+    facts: &Facts,
     terminals: &[u8],
     nonterminals: &[u8],
 ) -> Result<Vec<u8>, OutOfMemory> {
-    let facts = Facts::found(alloc, lr0)?;
     let mut text = Vec::new(alloc);
     for state in 0..lr0.states() {
         let prefix = lr0.prefix(alloc, StateNo(state as u32))?;
@@ -71,7 +78,7 @@ fn automaton_text(
                 Symbol::Nonterminal(number) => letter(nonterminals, number.0 as usize),
             })?;
         }
-        push_aheads(&mut text, &facts, state, terminals)?;
+        push_aheads(&mut text, facts, state, terminals)?;
         text.push(b'/')?;
     }
     Ok(text)
@@ -89,7 +96,7 @@ fn push_aheads(
         if *at == state {
             if *rule != last {
                 text.push(b' ')?;
-                text.push(letter(b"0123456789", *rule))?;
+                text.push(letter(DIGITS, *rule))?;
                 last = *rule;
             }
             text.push(letter(terminals, *terminal as usize))?;
@@ -98,54 +105,51 @@ fn push_aheads(
     Ok(())
 }
 
-#[test]
-fn worked_examples(rt: HostRuntime) -> Result<(), Fail> {
-    for (yacc, terminals, nonterminals, wanted) in &EXAMPLES {
-        let spec = specification(rt.alloc(), yacc)?;
-        let Ok(reduced) = reduce(rt.alloc(), spec.grammar()) else {
-            return Err(Fail::from("a grammar was refused that is to be reduced"));
-        };
-        let Ok(lr0) = automaton(rt.alloc(), &reduced, &Limits::V1) else {
-            return Err(Fail::from("a grammar was refused that has an automaton"));
-        };
-        let text = automaton_text(rt.alloc(), &lr0, terminals, nonterminals)?;
-        assert!(rt; text.as_slice() == *wanted, "{text:?}");
-    }
+/// Adds how many transitions over nonterminals there are, and how they are related.
+fn push_relations(alloc: Global, text: &mut Vec<u8>, lr0: &Lr0<'_>) -> Result<(), OutOfMemory> {
+    let found = relations(alloc, lr0)?;
+    text.push(letter(DIGITS, found.gotos().len()))?;
+    text.push(letter(DIGITS, found.direct().len()))?;
+    text.push(letter(DIGITS, found.reads().edges()))?;
+    text.push(letter(DIGITS, found.includes().edges()))?;
+    text.push(letter(DIGITS, found.lookbacks().len()))?;
     Ok(())
 }
 
-/// Grammars, a limit of states, and how many states there are, or 61 where these are more.
-const LIMITED: [(&[u8], u32, usize); 6] = [
-    (CALC, 10, 10),
-    (CALC, 9, 61),
-    (b"%%s : 'x' ;", 3, 3),
-    (b"%%s : 'x' ;", 2, 61),
-    (b"%%s : ;", 1, 61),
-    (b"%%s : ;", 0, 61),
-];
-
-/// How many states there are, or the number of the fault.
-fn states(alloc: Global, spec: &Spec, limit: u32) -> Result<usize, Fail> {
+/// The automaton of a yacc file as `EXAMPLES` write it, if it is that of Knuth's item sets.
+fn automaton_of(
+    alloc: Global,
+    yacc: &[u8],
+    terminals: &[u8],
+    nonterminals: &[u8],
+) -> Result<Vec<u8>, Fail> {
+    let spec = specification(alloc, yacc)?;
     let Ok(reduced) = reduce(alloc, spec.grammar()) else {
         return Err(Fail::from("a grammar was refused that is to be reduced"));
     };
-    match automaton(alloc, &reduced, &Limits::V1.with_parser_states(limit)) {
-        Ok(lr0) => Ok(lr0.states()),
-        Err(fault) => Ok(fault.number().map_or(0, usize::from)),
+    let Ok(lr0) = automaton(alloc, &reduced, &Limits::V1) else {
+        return Err(Fail::from("a grammar was refused that has an automaton"));
+    };
+    let facts = Facts::found(alloc, &lr0)?;
+    if !facts.are(&merged(alloc, &reduced)?) {
+        return Err(Fail::from("an automaton isn't that of Knuth's item sets"));
     }
+    let mut text = automaton_text(alloc, &lr0, &facts, terminals, nonterminals)?;
+    push_relations(alloc, &mut text, &lr0)?;
+    Ok(text)
 }
 
 #[test]
-fn the_limit_of_states_is_exact(rt: HostRuntime) -> Result<(), Fail> {
-    for (yacc, limit, wanted) in LIMITED {
-        let spec = specification(rt.alloc(), yacc)?;
-        assert_eq!(rt; states(rt.alloc(), &spec, limit)?, wanted);
+fn worked_examples(rt: HostRuntime) -> Result<(), Fail> {
+    for (yacc, terminals, nonterminals, wanted) in EXAMPLES {
+        let text = automaton_of(rt.alloc(), yacc, terminals, nonterminals)?;
+        assert!(rt; text.as_slice() == wanted, "{text:?}");
     }
     Ok(())
 }
 
 /// Small grammars, with the ways in which a terminal comes to follow a rule. cases/whole-tables has more.
-const GRAMMARS: [&[u8]; 12] = [
+const GRAMMARS: [&[u8]; 10] = [
     // recursion: left, right, both, hidden
     b"%%s : s 'x' | 'y' ;",
     b"%%s : 'x' s | ;",
@@ -156,57 +160,16 @@ const GRAMMARS: [&[u8]; 12] = [
     b"%%s : a b c d ; a : 'w' ; b : | 'x' ; c : | 'y' ; d : | 'z' ;",
     b"%%s : a 'v' | 'w' a b ; a : 'x' b ; b : | 'y' b ;",
     // SLR's follow sets are too much
-    LVALUE,
     b"%%s : a 'x' | 'y' a 'z' | 'w' 'z' | 'y' 'w' 'x' ; a : 'w' ;",
-    // canonical sets that conflict only where they are merged
-    MERGED,
     // ambiguous, and with useless rules
     b"%%e : e '+' e | e '*' e | '(' e ')' | 'n' ;",
     b"%%s : 'x' | t 'y' ; t : t 'z' ; u : s ;",
 ];
 
-/// Whether the automaton of a grammar is that of Knuth's item sets.
-fn is_knuths(alloc: Global, spec: &Spec) -> Result<bool, Fail> {
-    let Ok(reduced) = reduce(alloc, spec.grammar()) else {
-        return Err(Fail::from("a grammar was refused that is to be reduced"));
-    };
-    let Ok(lr0) = automaton(alloc, &reduced, &Limits::V1) else {
-        return Err(Fail::from("a grammar was refused that has an automaton"));
-    };
-    Ok(Facts::found(alloc, &lr0)?.are(&merged(alloc, &reduced)?))
-}
-
 #[test]
 fn automata_are_knuths_with_equal_cores_merged(rt: HostRuntime) -> Result<(), Fail> {
-    for (number, yacc) in GRAMMARS.iter().enumerate() {
-        let spec = specification(rt.alloc(), yacc)?;
-        assert!(rt; is_knuths(rt.alloc(), &spec)?, "grammar {number}");
+    for yacc in GRAMMARS {
+        automaton_of(rt.alloc(), yacc, b"", b"")?;
     }
-    Ok(())
-}
-
-/// How many transitions over nonterminals the automaton has, how many terminals they directly read, how often they
-/// read and include others, and how many transitions complete rules look back to.
-fn related(alloc: Global, lr0: &Lr0<'_>) -> Result<[usize; 5], OutOfMemory> {
-    let found = relations(alloc, lr0)?;
-    Ok([
-        found.gotos().len(),
-        found.direct().len(),
-        found.reads().edges(),
-        found.includes().edges(),
-        found.lookbacks().len(),
-    ])
-}
-
-#[test]
-fn transitions_are_related(rt: HostRuntime) -> Result<(), Fail> {
-    let spec = specification(rt.alloc(), READS)?;
-    let Ok(reduced) = reduce(rt.alloc(), spec.grammar()) else {
-        return Err(Fail::from("a grammar was refused that is to be reduced"));
-    };
-    let Ok(lr0) = automaton(rt.alloc(), &reduced, &Limits::V1) else {
-        return Err(Fail::from("a grammar was refused that has an automaton"));
-    };
-    assert!(rt; related(rt.alloc(), &lr0)? == [4, 3, 2, 3, 6]);
     Ok(())
 }

@@ -173,11 +173,10 @@ fn follows(reduced: &Reduced<'_>, symbols: &[Symbol], behind: u32, terminal: u32
 
 /// The number of a set, which is added if it is new.
 fn number_of(sets: &mut Vec<Vec<Item>>, set: Vec<Item>) -> Result<usize, AllocError> {
-    let known = sets
-        .iter()
-        .position(|known| known.as_slice() == set.as_slice());
-    if let Some(number) = known {
-        return Ok(number);
+    for (number, known) in sets.iter().enumerate() {
+        if known.as_slice() == set.as_slice() {
+            return Ok(number);
+        }
     }
     sets.push(set)?;
     Ok(sets.len().saturating_sub(1))
