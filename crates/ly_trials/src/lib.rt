@@ -22,9 +22,9 @@ mod examples;
 #[cfg(test)]
 mod memory;
 #[cfg(test)]
-mod parses;
-#[cfg(test)]
 mod reports;
+#[cfg(test)]
+mod rows;
 #[cfg(test)]
 mod scanners;
 #[cfg(test)]

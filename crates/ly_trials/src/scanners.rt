@@ -93,7 +93,7 @@ fn step(dfa: &Dfa, state: u32, byte: u8) -> u8 {
 }
 
 /// An automaton of few states as `AUTOMATA` write it.
-fn rows(alloc: Global, dfa: &Dfa) -> Result<Vec<u8>, AllocError> {
+fn rows_text(alloc: Global, dfa: &Dfa) -> Result<Vec<u8>, AllocError> {
     let mut text = Vec::new(alloc);
     for state in 0..9u32 {
         if (state as usize) < dfa.len() {
@@ -115,9 +115,9 @@ fn automata_are_made_smallest(rt: HostRuntime) -> Result<(), Fail> {
         let Ok(dfa) = automaton(rt.alloc(), lex, &Limits::V1) else {
             return Err(Fail::from("a lex file was refused that has an automaton"));
         };
-        let text = rows(rt.alloc(), &dfa)?;
+        let text = rows_text(rt.alloc(), &dfa)?;
         assert!(rt; text.as_slice() == found, "{text:?}");
-        let text = rows(rt.alloc(), &minimise(rt.alloc(), dfa)?)?;
+        let text = rows_text(rt.alloc(), &minimise(rt.alloc(), dfa)?)?;
         assert!(rt; text.as_slice() == smallest, "{text:?}");
     }
     Ok(())

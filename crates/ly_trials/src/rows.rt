@@ -1,9 +1,8 @@
-//! Rows of entries that stand apart and that are laid over one another, and parsers over both.
+//! Rows of entries that stand apart and that are laid over one another, and tables of both kinds.
 
-use ly_base::{Front, OutOfMemory, RuleNo, RuleTree, StateNo, Sym};
+use ly_base::{OutOfMemory, RuleNo, RuleTree, StateNo, Sym};
 use ly_loop::steady;
 use ly_pack::{Dense, Machine, MachineParts, Rows, TableAction, TableRule, comb, pack};
-use ly_parse::{ParseFault, Parser, Step, Token};
 use std::alloc::Global;
 use std::test::Fail;
 
@@ -53,7 +52,9 @@ fn rows_keep_their_entries(rt: HostRuntime) -> Result<(), Fail> {
 }
 
 /// The tables of `s : 'a' s | 'b' ;`, of which the terminals are 2 and 3, as rows one behind another.
-fn by_hand(alloc: Global) -> Result<Machine<Dense<TableAction>, Dense<StateNo>>, OutOfMemory> {
+pub(crate) fn by_hand(
+    alloc: Global,
+) -> Result<Machine<Dense<TableAction>, Dense<StateNo>>, OutOfMemory> {
     let mut actions = Dense::new(alloc, 5, 4)?;
     actions.set(StateNo(0), 2, Some(TableAction::Shift(StateNo(1))));
     actions.set(StateNo(0), 3, Some(TableAction::Shift(StateNo(2))));
@@ -86,64 +87,11 @@ fn by_hand(alloc: Global) -> Result<Machine<Dense<TableAction>, Dense<StateNo>>,
     }))
 }
 
-/// What a parser over tables says of two tokens and of the end, one after the other: a letter each.
-fn fed<A: Rows<TableAction> + Drop, G: Rows<StateNo> + Drop>(
-    alloc: Global,
-    machine: &Machine<A, G>,
-    first: u32,
-    second: u32,
-) -> Result<[u8; 3], Fail> {
-    let most = machine.terminals();
-    if steady(alloc, machine).is_err() || first as usize >= most || second as usize >= most {
-        return Err(Fail::from("tables were refused that are to be used"));
-    }
-    if first == 0 || second == 0 {
-        return Err(Fail::from("the end is no token"));
-    }
-    let mut parser = Parser::new(alloc, machine);
-    let first = letter(parser.feed(&token(first)));
-    let second = letter(parser.feed(&token(second)));
-    Ok([first, second, letter(parser.end(9))])
-}
-
-/// A token.
-fn token(terminal: u32) -> Token<'static>
-    ensures { result.terminal.0 ≡ terminal }
-{
-    Token {
-        terminal: Sym(terminal),
-        at: 0,
-        text: Front::new(b"x", 1),
-    }
-}
-
-/// The letter of what a parser says.
-fn letter(said: Result<Step, ParseFault>) -> u8 {
-    match said {
-        Ok(Step::More) => b'm',
-        Ok(Step::Done(_)) => b'd',
-        Ok(Step::Refused { .. }) => b'r',
-        Err(ParseFault::Over) => b'o',
-        Err(_) => b'?',
-    }
-}
-
-/// Two tokens, and what is said of them and of the end.
-const TEXTS: [(u32, u32, [u8; 3]); 5] = [
-    (2, 3, *b"mmd"),
-    (2, 2, *b"mmr"),
-    (3, 3, *b"mro"),
-    (1, 2, *b"roo"),
-    (2, 1, *b"mro"),
-];
-
 #[test]
-fn rows_apart_and_laid_are_answered_alike(rt: HostRuntime) -> Result<(), Fail> {
+fn machines_are_steady(rt: HostRuntime) -> Result<(), Fail> {
     let apart = by_hand(rt.alloc())?;
     let laid = pack(rt.alloc(), by_hand(rt.alloc())?)?;
-    for (first, second, wanted) in TEXTS {
-        assert!(rt; fed(rt.alloc(), &apart, first, second)? == wanted);
-        assert!(rt; fed(rt.alloc(), &laid, first, second)? == wanted);
-    }
+    assert!(rt; steady(rt.alloc(), &apart).is_ok());
+    assert!(rt; steady(rt.alloc(), &laid).is_ok());
     Ok(())
 }
