@@ -51,34 +51,24 @@ fn rows_keep_their_entries(rt: HostRuntime) -> Result<(), Fail> {
     Ok(())
 }
 
-/// The tables of `s : 'a' s | 'b' ;`, of which the terminals are 2 and 3, as rows one behind another.
+/// The tables of `s : 'x' ;`, of which `'x'` is terminal 2, over rows that stand apart.
 pub(crate) fn by_hand(
     alloc: Global,
 ) -> Result<Machine<Dense<TableAction>, Dense<StateNo>>, OutOfMemory> {
-    let mut actions = Dense::new(alloc, 5, 4)?;
+    let defaults = Vec::from_slice(alloc, &[None, Some(RuleNo(1)), None])?;
+    let mut actions = Dense::new(alloc, 3, 3)?;
     actions.set(StateNo(0), 2, Some(TableAction::Shift(StateNo(1))));
-    actions.set(StateNo(0), 3, Some(TableAction::Shift(StateNo(2))));
-    actions.set(StateNo(1), 2, Some(TableAction::Shift(StateNo(1))));
-    actions.set(StateNo(1), 3, Some(TableAction::Shift(StateNo(2))));
-    actions.set(StateNo(3), 0, Some(TableAction::Accept));
-    let mut gotos = Dense::new(alloc, 5, 1)?;
-    gotos.set(StateNo(0), 0, Some(StateNo(3)));
-    gotos.set(StateNo(1), 0, Some(StateNo(4)));
-    let by_default = [None, None, Some(RuleNo(2)), None, Some(RuleNo(1))];
-    let defaults = Vec::from_slice(alloc, &by_default)?;
+    actions.set(StateNo(2), 0, Some(TableAction::Accept));
+    let mut gotos = Dense::new(alloc, 3, 1)?;
+    gotos.set(StateNo(0), 0, Some(StateNo(2)));
     let mut rules = Vec::new(alloc);
-    rules.push(TableRule {
-        left: Sym(0),
-        body_length: 2,
-        tree: RuleTree::Pass(2),
-    })?;
     rules.push(TableRule {
         left: Sym(0),
         body_length: 1,
         tree: RuleTree::Pass(1),
     })?;
     Ok(Machine::new(MachineParts {
-        terminals: 4,
+        terminals: 3,
         nonterminals: 1,
         actions,
         gotos,

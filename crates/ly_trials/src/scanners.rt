@@ -1,5 +1,5 @@
-//! The automaton of a lex file: its classes and states, before and after it is made smallest, and the limits that are met
-//! on the way.
+//! The automaton of a lex file: its classes and states, before and after it is made smallest, and the limits that are
+//! met on the way.
 
 use ly_base::Limits;
 use ly_lexread::read_lex;
@@ -55,8 +55,8 @@ fn limits_of_weight_and_of_states_are_exact(rt: HostRuntime) {
     }
 }
 
-/// Lex files, and their automata before and after they are made smallest: of each state the states to which the bytes `a`
-/// to `e` and `z` lead, and the rule that it accepts.
+/// Lex files, and their automata before and after they are made smallest: of each state the states to which the bytes
+/// `a` to `e` and `z` lead, and the rule that it accepts.
 const AUTOMATA: [(&[u8], &[u8], &[u8]); 3] = [
     (
         b"%%\n[a-c] return L;\n[c-e] return R;\n",
