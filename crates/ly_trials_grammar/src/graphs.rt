@@ -10,171 +10,37 @@ use std::test::Fail;
 /// Which numbers below this one a node may be given.
 const WIDTH: u32 = 9;
 
-/// Numbers of nodes, edges, and which numbers nodes are given.
-const EXAMPLES: [(usize, &[(u32, u32)], &[(u32, u32)]); 20] = [
+/// Numbers of nodes, edges by the letters of their nodes, and which digits nodes are given.
+const EXAMPLES: [(usize, &[u8], &[u8]); 20] = [
     // no nodes; no edges; self loops; an edge twice
-    (0, &[], &[]),
-    (3, &[], &[(0, 1), (2, 8)]),
-    (3, &[(0, 0), (1, 1), (1, 2), (2, 2)], &[(0, 3), (2, 4)]),
-    (2, &[(0, 1), (0, 1)], &[(1, 5)]),
+    (0, b"", b""),
+    (3, b"", b"a1c8"),
+    (3, b"aabbbccc", b"a3c4"),
+    (2, b"abab", b"b5"),
     // two rings joined, and the other way; a ring in a ring; an edge to a part that is closed
-    (
-        7,
-        &[
-            (0, 1),
-            (1, 2),
-            (2, 0),
-            (2, 3),
-            (3, 4),
-            (4, 5),
-            (5, 6),
-            (6, 3),
-        ],
-        &[(0, 0), (1, 1), (2, 2), (3, 3), (4, 4), (5, 5), (6, 6)],
-    ),
-    (
-        7,
-        &[
-            (4, 5),
-            (5, 6),
-            (6, 3),
-            (3, 4),
-            (5, 1),
-            (1, 2),
-            (2, 0),
-            (0, 1),
-        ],
-        &[(0, 0), (1, 1), (2, 2), (3, 3), (4, 4), (5, 5), (6, 6)],
-    ),
-    (
-        6,
-        &[
-            (0, 1),
-            (1, 2),
-            (2, 1),
-            (2, 3),
-            (3, 4),
-            (4, 3),
-            (4, 5),
-            (5, 0),
-        ],
-        &[(0, 0), (1, 1), (2, 2), (3, 3), (4, 4), (5, 5)],
-    ),
-    (
-        5,
-        &[(0, 1), (1, 2), (2, 1), (0, 3), (3, 4), (4, 1), (4, 3)],
-        &[(2, 7), (3, 8)],
-    ),
+    (7, b"abbccacddeeffggd", b"a0b1c2d3e4f5g6"),
+    (7, b"effggddefbbccaab", b"a0b1c2d3e4f5g6"),
+    (6, b"abbccbcddeedeffa", b"a0b1c2d3e4f5"),
+    (5, b"abbccbaddeebed", b"c7d8"),
     // drawn at random
-    (
-        5,
-        &[
-            (0, 0),
-            (2, 4),
-            (3, 3),
-            (3, 2),
-            (0, 1),
-            (0, 0),
-            (1, 0),
-            (0, 0),
-            (2, 3),
-            (0, 4),
-        ],
-        &[(0, 1), (3, 3), (0, 1)],
-    ),
-    (3, &[(2, 1), (0, 0), (2, 0)], &[(1, 1), (2, 1)]),
-    (
-        5,
-        &[(2, 2), (4, 2), (2, 4), (1, 2), (1, 1)],
-        &[(2, 5), (4, 3), (1, 7)],
-    ),
-    (
-        9,
-        &[(7, 0), (6, 1), (0, 8), (3, 0)],
-        &[(6, 8), (8, 5), (1, 2), (7, 3), (6, 5)],
-    ),
-    (
-        12,
-        &[(8, 0), (2, 0), (1, 3), (4, 1), (5, 3), (0, 5)],
-        &[(11, 6), (5, 2), (0, 7), (3, 4), (9, 4), (7, 8), (0, 6)],
-    ),
-    (3, &[(2, 1), (0, 1), (2, 2)], &[(2, 1), (2, 8)]),
-    (
-        9,
-        &[
-            (4, 2),
-            (6, 0),
-            (6, 6),
-            (0, 6),
-            (3, 4),
-            (0, 6),
-            (6, 3),
-            (6, 8),
-            (7, 5),
-        ],
-        &[(6, 4), (4, 3), (5, 5), (4, 8), (3, 8)],
-    ),
-    (
-        12,
-        &[(10, 6), (1, 7), (6, 0), (5, 3), (4, 6), (2, 10)],
-        &[(5, 7), (1, 2), (3, 7), (7, 7), (8, 5), (6, 5), (5, 6)],
-    ),
-    (
-        5,
-        &[
-            (2, 1),
-            (1, 1),
-            (3, 3),
-            (1, 1),
-            (4, 3),
-            (0, 3),
-            (0, 4),
-            (1, 4),
-            (3, 0),
-            (1, 4),
-        ],
-        &[(1, 3), (0, 7), (1, 3)],
-    ),
-    (
-        5,
-        &[
-            (0, 4),
-            (1, 0),
-            (4, 2),
-            (1, 1),
-            (4, 0),
-            (1, 4),
-            (1, 0),
-            (1, 2),
-            (1, 4),
-            (3, 1),
-        ],
-        &[(1, 2), (0, 0), (2, 3)],
-    ),
-    (
-        7,
-        &[(0, 1), (2, 6), (5, 4)],
-        &[(4, 3), (0, 3), (1, 7), (2, 0)],
-    ),
-    (
-        12,
-        &[
-            (0, 3),
-            (2, 10),
-            (5, 10),
-            (1, 6),
-            (10, 6),
-            (8, 8),
-            (4, 9),
-            (6, 5),
-            (4, 4),
-            (9, 4),
-            (10, 11),
-            (6, 4),
-        ],
-        &[(5, 8), (2, 3), (3, 6), (1, 7), (0, 3), (7, 3), (9, 1)],
-    ),
+    (5, b"aacedddcabaabaaacdae", b"a1d3a1"),
+    (3, b"cbaaca", b"b1c1"),
+    (5, b"cceccebcbb", b"c5e3b7"),
+    (9, b"hagbaida", b"g8i5b2h3g5"),
+    (12, b"iacabdebfdaf", b"l6f2a7d4j4h8a6"),
+    (3, b"cbabcc", b"c1c8"),
+    (9, b"ecgaggagdeaggdgihf", b"g4e3f5e8d8"),
+    (12, b"kgbhgafdegck", b"f7b2d7h7i5g5f6"),
+    (5, b"cbbbddbbedadaebedabe", b"b3a7b3"),
+    (5, b"aebaecbbeabebabcbedb", b"b2a0c3"),
+    (7, b"abcgfe", b"e3a3b7c0"),
+    (12, b"adckfkbgkgiiejgfeejeklge", b"f8c3d6b7a3h3j1"),
 ];
+
+/// The place of a letter, or of a digit, behind the first one.
+fn place(byte: u8, first: u8) -> u32 {
+    u32::from(byte.wrapping_sub(first))
+}
 
 /// Adds an edge between nodes that there are.
 fn add(graph: &mut Graph, from: u32, to: u32) -> Result<(), OutOfMemory> {
@@ -200,64 +66,57 @@ fn grow(rows: &mut [u16; 12], node: u32, more: u16) {
     }
 }
 
-/// The bits of a node that there is.
-fn bits(rows: &[u16; 12], node: u32) -> u16 {
-    match rows.get(node as usize) {
-        Some(row) => *row,
-        None => 0,
-    }
-}
-
 /// The bits of each node by going round, as often as there are nodes at most.
-fn by_rounds(edges: &[(u32, u32)], given: &[(u32, u32)]) -> [u16; 12] {
+fn by_rounds(edges: &[u8], given: &[u8]) -> [u16; 12] {
     let mut rows = [0u16; 12];
-    for (node, number) in given {
-        grow(&mut rows, *node, 1u16.wrapping_shl(*number));
+    for pair in given.chunks_exact(2) {
+        if let [node, digit] = pair {
+            grow(
+                &mut rows,
+                place(*node, b'a'),
+                1u16.wrapping_shl(place(*digit, b'0')),
+            );
+        }
     }
     for _ in 0..12u32 {
-        for (from, to) in edges {
-            let more = bits(&rows, *to);
-            grow(&mut rows, *from, more);
+        for pair in edges.chunks_exact(2) {
+            if let [from, to] = pair {
+                let more = rows.get(place(*to, b'a') as usize).copied().unwrap_or(0);
+                grow(&mut rows, place(*from, b'a'), more);
+            }
         }
     }
     rows
 }
 
 /// Whether rows of sets are those of bits.
-fn are_rows(sets: &SetMatrix, rows: &[u16; 12]) -> bool {
+fn are_rows(sets: &SetMatrix, rows: &[u16]) -> bool {
     let mut same = true;
-    for node in 0..12u32 {
+    for (node, row) in rows.iter().enumerate() {
         for number in 0..WIDTH {
-            let is_there = bits(rows, node) & 1u16.wrapping_shl(number) != 0;
-            same &= holds(sets, node as usize, number) == is_there;
+            let is_there = row & 1u16.wrapping_shl(number) != 0;
+            same &= node >= sets.rows() || holds(sets, node, number) == is_there;
         }
     }
     same
 }
 
-/// The graph of these edges.
-fn graph_of(alloc: Global, nodes: usize, edges: &[(u32, u32)]) -> Result<Graph, OutOfMemory> {
-    let mut graph = Graph::new(alloc, nodes)?;
-    for (from, to) in edges {
-        add(&mut graph, *from, *to)?;
-    }
-    Ok(graph)
-}
-
 /// Whether the least sets of a graph are those by going round, found by few changes.
-fn is_solved(
-    alloc: Global,
-    nodes: usize,
-    edges: &[(u32, u32)],
-    given: &[(u32, u32)],
-) -> Result<bool, OutOfMemory> {
-    let graph = graph_of(alloc, nodes, edges)?;
+fn is_solved(alloc: Global, nodes: usize, edges: &[u8], given: &[u8]) -> Result<bool, OutOfMemory> {
+    let mut graph = Graph::new(alloc, nodes)?;
+    for pair in edges.chunks_exact(2) {
+        if let [from, to] = pair {
+            add(&mut graph, place(*from, b'a'), place(*to, b'a'))?;
+        }
+    }
     let mut sets = SetMatrix::new(alloc, nodes, WIDTH as usize)?;
-    for (node, number) in given {
-        insert(&mut sets, *node as usize, *number);
+    for pair in given.chunks_exact(2) {
+        if let [node, digit] = pair {
+            insert(&mut sets, place(*node, b'a') as usize, place(*digit, b'0'));
+        }
     }
     let rise = solve(alloc, &graph, &mut sets)?;
-    let most = nodes.saturating_add(edges.len()) as u64;
+    let most = nodes.saturating_add(edges.len() / 2) as u64;
     Ok(rise <= most && are_rows(&sets, &by_rounds(edges, given)))
 }
 
