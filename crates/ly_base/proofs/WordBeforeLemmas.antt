@@ -37,7 +37,8 @@ nothing_stops : (l : Language) → GapEnds l []
 nothing_stops l = record { no_space = λ b s h e. cc; no_comment = λ i s e. cc }
 
 -- behind what is a gap alone there is nothing
-pub nothing_behind : (l : Language) (text word : List ℕ) → GapBefore l text word → GapEnds l word → Gap l text → word ≡ []
+pub nothing_behind : (l : Language) (text word : List ℕ) → GapBefore l text word → GapEnds l word → Gap l text
+    → word ≡ []
 nothing_behind l text word before stops g =
     gap_one l before.0 text word [] before.1 g stops (nothing_stops l) (sym before.2 ∙ sym (append-nil text))
 

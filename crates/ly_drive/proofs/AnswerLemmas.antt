@@ -2,14 +2,14 @@
 use Rattle.std.proofs.Common.{◌≡◌, ◌∙◌, ◌<◌, ◌≤◌, ℕ, List, [], ◌∷◌, ◌++◌, Some, None, Ok, Err}
 use Rattle.std.proofs.Common.{Option, ap, ap₂, arith}
 use Rattle.std.proofs.Common.{length, map, refl, slice_get, subst, sym}
-use Rattle.std.specs.Int.{w16}
+use Rattle.std.specs.Int.{Width, w16}
 use Rattle.std.specs.Io.KnownBytes.{Appends}
 use Rattle.std.specs.Prelude.{IfOk, IfSome, IsErrAnd, Result, option_and_then, slice_index}
 use Rattle.ly_base.specs.Bytes.{newline}
 use Rattle.ly_base.specs.declared.scan_action.Emitted.{Emitted}
 use Rattle.ly_base.specs.declared.scan_action.Emitted.TheVariants.{FirstByte, Nothing, Terminal}
+use Rattle.ly_base.proofs.ListLemmas.{All-at}
 use Rattle.ly_drive.proofs.ByBytesLemmas.{same_verdict}
-use Rattle.ly_drive.proofs.ListLemmas.{holds_at}
 use Rattle.ly_drive.specs.Answering.{IsAnsweredBy}
 use Rattle.ly_drive.specs.Private.Running.{words_in, CanRun, IsRun}
 use Rattle.ly_drive.specs.Private.Tables.{by_bytes}
@@ -25,7 +25,7 @@ use Rattle.ly_drive.specs.declared.running.Ended.{Ended}
 use Rattle.ly_drive.specs.declared.running.Ended.TheVariants.{Accepted, Told}
 use Rattle.ly_drive.specs.declared.tables.Tables.{Tables}
 use Rattle.ly_pack.specs.Steady.{IsSteady}
-use Rattle.ly_tables.specs.Ranges.{version_1, IsEmittedWithin, IsScanRule, IsWithinRanges}
+use Rattle.ly_tables.specs.Ranges.{version_1, Counts, IsEmittedWithin, IsScanRule, IsWithinRanges}
 use Rattle.ly_tables.specs.TableSet.{ScanRule, TableSet, machine_of}
 use Rattle.ly_tree.specs.Costs.{IsPaid}
 use Rattle.ly_tree.specs.Forest.{Grown, StandsFor}
@@ -36,12 +36,12 @@ use Rattle.std.specs.Global.{Global}
 use Rattle.std.specs.declared.vec.Vec.{Vec}
 
 -- a terminal that the scanner returns is one of the parser's, and not the end
-returned : (s : TableSet) → IsWithinRanges w16 version_1 s → (i : ℕ) (bytes : List ℕ) (t : ℕ)
-    → terminal_in (scan_part_of s) i bytes ≡ Some t → (1 ≤ t) × (t < length s.terminals)
-returned s h i bytes t e = by_rule (slice_get s.scan_rules i) refl e
+pub returned : (w : Width) (counts : Counts) (s : TableSet) → IsWithinRanges w counts s → (i : ℕ) (bytes : List ℕ)
+    (t : ℕ) → terminal_in (scan_part_of s) i bytes ≡ Some t → (1 ≤ t) × (t < length s.terminals)
+returned w counts s h i bytes t e = by_rule (slice_get s.scan_rules i) refl e
   where
     by_action : (r : ScanRule) (a : Emitted) → r.action.emits ≡ a
-        → IsScanRule w16 (length s.terminals) (length s.conditions) r → terminal_by (scan_part_of s) bytes a ≡ Some t
+        → IsScanRule w (length s.terminals) (length s.conditions) r → terminal_by (scan_part_of s) bytes a ≡ Some t
         → (1 ≤ t) × (t < length s.terminals)
     by_action r Nothing is rule e = absurd cc
     by_action r (Terminal k) is rule e =
@@ -49,14 +49,14 @@ returned s h i bytes t e = by_rule (slice_get s.scan_rules i) refl e
         let emits = subst (λ a. IsEmittedWithin (length s.terminals) a) is rule.emits in
         subst (λ n. (1 ≤ n) × (n < length s.terminals)) same emits
     by_action r FirstByte is rule e =
-        holds_at (λ n. (1 ≤ n) × (n < length s.terminals)) s.literals (slice_index bytes 0) t h.literals e
+        All-at (λ n. (1 ≤ n) × (n < length s.terminals)) s.literals (slice_index bytes 0) t h.literals e
 
     by_rule : (o : Option ScanRule) → slice_get s.scan_rules i ≡ o
         → option_and_then (λ r. terminal_by (scan_part_of s) bytes r.action.emits) o ≡ Some t
         → (1 ≤ t) × (t < length s.terminals)
     by_rule None found e = absurd cc
     by_rule (Some r) found e = by_action r r.action.emits refl
-        (holds_at (IsScanRule w16 (length s.terminals) (length s.conditions)) s.scan_rules i r h.scan_rules found) e
+        (All-at (IsScanRule w (length s.terminals) (length s.conditions)) s.scan_rules i r h.scan_rules found) e
 
 -- the tables of a set that is within the ranges, and steady, can be run
 pub can_run : (T : Tables) (s : TableSet) → IsWithinRanges w16 version_1 s → IsSteady (machine_of s)
@@ -66,7 +66,7 @@ can_run T s h steady scanner machine = subst (λ p. CanRun p T.machine) (sym sca
       machine = h.machine;
       steady = steady;
       terminals = (let two = h.terminals in omega (arith, two));
-      returned = returned s h;
+      returned = returned w16 version_1 s h;
     }))
 
 -- a verdict by the tables is the set's

@@ -8,7 +8,7 @@ use Rattle.std.proofs.lemmas.List.FromFn.{length-range_with_len}
 use Rattle.std.proofs.lemmas.Option.{slice_get_past}
 use Rattle.ly_base.specs.Lexed.{Lexed, Token, start_of}
 use Rattle.ly_base.specs.declared.lexeme.End.{End}
-use Rattle.ly_drive.proofs.ScanTableLemmas.{slice_get-range}
+use Rattle.ly_base.proofs.ListLemmas.{slice_get-range}
 use Rattle.ly_drive.specs.Private.Tables.{by_bytes}
 use Rattle.ly_drive.specs.ScanPart.{condition_in, cut_in, next_in, rule_in, scan_part_of, scanner_in, start_in}
 use Rattle.ly_drive.specs.ScanPart.{states_from}

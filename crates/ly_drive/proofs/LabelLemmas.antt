@@ -5,7 +5,7 @@ use Rattle.std.proofs.Common.{suc, sym}
 use Rattle.std.proofs.Common.{zero}
 use Rattle.std.specs.Prelude.{option_map, slice_get, unwrap_or, All}
 use Rattle.std.proofs.lemmas.Option.{slice_get-get_or, slice_get-map, slice_get_past}
-use Rattle.ly_drive.proofs.ListLemmas.{holds_at}
+use Rattle.ly_base.proofs.ListLemmas.{All-at}
 use Rattle.ly_drive.specs.Private.Labels.{constructors_of, leaf_label, leaf_labels, node_label, node_labels}
 use Rattle.ly_drive.specs.Vocabularies.{constructor_in, constructor_of, name_in}
 use Rattle.ly_pack.specs.Machine.{TableRule}
@@ -53,7 +53,7 @@ label_within label names k n all none = either_way (slice_get names k) refl
     either_way : (found : Option (List ℕ)) → slice_get names k ≡ found → length (label (unwrap_or found [])) ≤ n
     either_way None is = none
     either_way (Some name) is =
-        holds_at (λ l. length l ≤ n) (map label names) k (label name) all
+        All-at (λ l. length l ≤ n) (map label names) k (label name) all
         (slice_get-map label names k ∙ ap (option_map label) is)
 
 pub leaf_within : (names labels : List (List ℕ)) (t n : ℕ) → labels ≡ leaf_labels names → All (λ l. length l ≤ n) labels

@@ -3,11 +3,10 @@ pub mod ByBytesLemmas
 pub mod FaultLemmas
 pub mod FeedingLemmas
 pub mod LabelLemmas
-pub mod LexingLemmas
-pub mod ListLemmas
 pub mod OneVerdictLemmas
 pub mod PassingLemmas
 pub mod RunningLemmas
 pub mod ScanTableLemmas
+pub mod SomeVerdictLemmas
 pub mod TablesLemmas
 pub mod TakingLemmas

@@ -9,7 +9,7 @@ use Rattle.ly_base.specs.declared.lexeme.End.{End}
 use Rattle.ly_base.specs.declared.lexeme.End.TheVariants.{BadCut, Clean, Stuck}
 use Rattle.ly_base.specs.declared.lexeme.Lexeme.{Lexeme}
 use Rattle.ly_drive.proofs.FeedingLemmas.{reads_more}
-use Rattle.ly_drive.proofs.LexingLemmas.{lexes, tokens_on}
+use Rattle.ly_scan.proofs.LexingLemmas.{lexes, tokens_on}
 use Rattle.ly_drive.specs.Private.Running.{StandsAt}
 use Rattle.ly_drive.specs.ScanPart.{ScanPart, condition_in, scanner_in, terminal_in}
 use Rattle.ly_drive.specs.TableAnswer.{AreTokens, Comes, IsVerdictBy, ReadsAll, end_of, fed_with}
@@ -29,7 +29,8 @@ pub record IsTokenAt (p : ScanPart) (q : Place) (t : Lexeme) (token : Token ℕ)
   pub terminal : terminal_in p t.rule.0 token.bytes ≡ Some token.terminal
 
 -- the end comes behind the last of the tokens
-fed_behind : (text : List ℕ) (e : End) (ts us : List (Token ℕ)) → fed_with text (ts ++ us) e ≡ ts ++ fed_with text us e
+pub fed_behind : (text : List ℕ) (e : End) (ts us : List (Token ℕ))
+    → fed_with text (ts ++ us) e ≡ ts ++ fed_with text us e
 fed_behind text Clean ts us = append_assoc ts us (end_of text ∷ [])
 fed_behind text (Stuck b) ts us = refl
 fed_behind text (BadCut b) ts us = refl

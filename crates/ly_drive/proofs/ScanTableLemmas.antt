@@ -5,9 +5,10 @@ use Rattle.std.specs.Prelude.{All, IfSome, List, option_and_then, option_map}
 use Rattle.std.specs.List.{range_with_len}
 use Rattle.std.proofs.lemmas.Option.{slice_get-get_or}
 use Rattle.std.proofs.lemmas.List.{get_or-map, length-map}
-use Rattle.std.proofs.lemmas.List.FromFn.{get_or-range_with_len, length-range_with_len, map-range_with_len_more}
+use Rattle.std.proofs.lemmas.List.FromFn.{map-range_with_len_more}
 use Rattle.ly_base.specs.declared.numbers.RuleNo.{RuleNo}
 use Rattle.ly_base.specs.declared.numbers.StateNo.{StateNo}
+use Rattle.ly_base.proofs.ListLemmas.{slice_get-range}
 use Rattle.ly_pack.specs.Rows.{Comb, Entries, Used, cell, comb_entry, grid_of}
 use Rattle.ly_pack.proofs.GridLemmas.{cell-grid_of}
 use Rattle.ly_scan.specs.StateRows.{row_entry, state_at}
@@ -55,11 +56,6 @@ pub same_grid : {E : Type 0} (rows width : ℕ) (f g : Entries E)
 same_grid rows width f g same = map_same (λ row. map (f row) (range_with_len 0 width))
     (λ row. map (g row) (range_with_len 0 width)) rows
     (λ row lt. map_same (f row) (g row) width (λ column less. same row column lt less))
-
--- each number has its own place
-pub slice_get-range : (n k : ℕ) → k < n → slice_get (range_with_len 0 n) k ≡ Some k
-slice_get-range n k lt = slice_get-get_or (range_with_len 0 n) k 0 (omega (arith, length-range_with_len 0 n))
-    ∙ ap Some (get_or-range_with_len 0 n k 0 lt ∙ zero_and k)
 
 -- a table set's states are those of its scanner in memory
 states_of : (t : Inside) (p : ScanPart) → part_from t ≡ p → length t.accepted.items ≡ length p.accepted

@@ -1,9 +1,17 @@
 -- What holds of the answers by tables.
 use Rattle.std.specs.Prelude.{◌≡◌, ℕ, List}
+use Rattle.std.specs.Int.{Width}
 use Rattle.ly_drive.specs.TableAnswer.{IsVerdict}
 use Rattle.ly_drive.specs.Verdict.{Verdict}
-use Rattle.ly_tables.specs.TableSet.{TableSet}
+use Rattle.ly_pack.specs.Steady.{IsSteady}
+use Rattle.ly_tables.specs.Ranges.{Counts, IsWithinRanges}
+use Rattle.ly_tables.specs.TableSet.{TableSet, machine_of}
 
 -- a table set says one thing of a text
 abbrev pub HasOneVerdict : Type 0
 HasOneVerdict = (s : TableSet) (text : List ℕ) (v u : Verdict) → IsVerdict s text v → IsVerdict s text u → v ≡ u
+
+-- a table set that is within the ranges of whatever version, and whose parser's runs end, says something of every text
+abbrev pub HasSomeVerdict : Type 0
+HasSomeVerdict = (w : Width) (counts : Counts) (s : TableSet) → IsWithinRanges w counts s → IsSteady (machine_of s)
+    → (text : List ℕ) → (v : Verdict) × IsVerdict s text v

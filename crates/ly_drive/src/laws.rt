@@ -1,4 +1,4 @@
-ghost use Rattle.ly_drive.specs.Laws.{HasOneVerdict};
+ghost use Rattle.ly_drive.specs.Laws.{HasOneVerdict, HasSomeVerdict};
 
 use ly_parse::a_token_is_fed_in_one_way;
 
@@ -8,3 +8,8 @@ pub fn a_text_has_one_verdict()
 {
     a_token_is_fed_in_one_way();
 }
+
+/// A table set within the ranges of its file, whose parser's runs end, says something of every text.
+pub fn a_text_has_a_verdict()
+    ensures { HasSomeVerdict }
+{}

@@ -26,7 +26,7 @@ pub(crate) struct Tables {
 }
 
 impl Tables {
-    /// Those of these parts. The scanner's rows are spread over all bytes, the parser's run as they are.
+    /// Takes these parts. The scanner's rows are spread over all bytes, the parser's run as they are.
     pub(crate) fn new(alloc: Global, parts: TableParts) -> Result<Tables, OutOfMemory>
         requires { IsWithinRanges w16 version_1 (set_of parts) }
         ensures terminals { IfOk result (λ t. let s = set_of parts in

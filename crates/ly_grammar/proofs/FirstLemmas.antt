@@ -3,7 +3,7 @@ use Rattle.std.proofs.Common.{◌≡◌, ◌<◌, ◌≤◌, ◌+◌, ◌∙◌,
 use Rattle.std.proofs.Common.{sym, ap}
 use Rattle.std.proofs.Common.{subst, arith, inl, inr, refl, length, map, take, Contains, slice_index_or, slice_get}
 use Rattle.std.proofs.Common.{slice_set, Some, None, add-one, if◌then◌else◌, nat_eq, replicate, ◌||◌}
-use Rattle.std.proofs.lemmas.Bool.{cases_lt, eq-eqb, eqb-true}
+use Rattle.std.proofs.lemmas.Bool.{cases_lt, eq-eqb, eqb-true, or_cases}
 use Rattle.std.specs.FinSet as set
 use Rattle.std.proofs.Math.Seq.{take-suc}
 use Rattle.std.proofs.lemmas.List.{append-nil, take_all, map-append, length-replicate, length-set}
@@ -188,11 +188,6 @@ shown_more xs n d lt = ap (λ k. map symbol_of (take k xs)) (add-one n)
 -- the parts of strings one after another
 pub parts_append : (left : ℕ) (v w : List Symbol) → parts left (v ++ w) ≡ parts left v ++ parts left w
 parts_append left v w = ap (map turned) (uses_append left v w) ∙ map-append turned (uses left v) (uses left w)
-
--- one of two tests is passed
-or_cases : (a b : Bool) → (a || b) ≡ true → (a ≡ true) ⊎ (b ≡ true)
-or_cases true b e = inl refl
-or_cases false b e = inr e
 
 or_second : (a b : Bool) → b ≡ true → (a || b) ≡ true
 or_second true b e = refl

@@ -1,6 +1,7 @@
 -- Valid items and trees.
 use Rattle.std.proofs.Common.{◌≡◌, ◌⊎◌, inl, inr, ℕ, zero, suc, ◌+◌, ◌≤◌, List, [], ◌∷◌, ◌++◌, refl, sym, ◌∙◌, ap}
-use Rattle.std.proofs.Common.{subst, arith, length}
+use Rattle.std.proofs.Common.{All, subst, arith, length}
+use Rattle.std.proofs.lemmas.List.Elements.{All-tail}
 use Rattle.ly_base.specs.Lexed.{Token}
 use Rattle.ly_base.specs.Trees.{Tree, Trees, leaf, none, more, yield_of, yields_of}
 use Rattle.ly_join.specs.Grammar.{Grammar, IsAugmented, IsRule, Rule, Symbol, accept_rule, nonterminal, terminal}
@@ -40,6 +41,11 @@ trees_to_come {G} {p = p} {before = before} {after = after} reduced le v =
 pub length-onto : (b w : List Symbol) → length (onto b w) ≡ length b + length w
 length-onto [] w = omega arith
 length-onto (X ∷ b) w = omega (arith, length-onto b (X ∷ w))
+
+-- what all symbols of a body meet, those at its end do
+pub All-onto : (P : Symbol → Type 0) (before w : List Symbol) → All P (onto before w) → All P w
+All-onto P [] w all = all
+All-onto P (X ∷ before) w all = All-tail P X w (All-onto P before (X ∷ w) all)
 
 -- Where an item of rule 0 has its dot: before the start symbol, with the end behind that, or before the end.
 pub zero_split : (G : Grammar) (b w : List Symbol) (X : Symbol)

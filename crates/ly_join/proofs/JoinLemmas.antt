@@ -138,8 +138,7 @@ module _ (w : Written) (m : SymbolTable) (numbered : AreNumbered w m) where
 
     -- and one of the start symbol
     pub start_at_fault : (f : JoinFault) → IsStartFault w m f → IsAtFault sizes x w f
-    start_at_fault (UnknownStart n) (named, inl none) = (named, inl (λ is. none (nonterminal_to n.items is)))
-    start_at_fault (UnknownStart n) (named, inr is) = (named, inr (token_from n.items is))
+    start_at_fault (UnknownStart n) (named, none) = (named, λ is. none (nonterminal_to n.items is))
     start_at_fault OutOfMemory h = tt
     start_at_fault (UndefinedSymbol n) h = absurd h
     start_at_fault (TokenOnLeft n) h = absurd h
@@ -242,11 +241,11 @@ module _ (x : Scanning) (w : Written) (s : Spec) (joined : Joined x w s) where
       no_token (token_of n found.0 found.1)
 
   not_unknown_start : (n : List ℕ) → IsUnknownStart w n → ⊥
-  not_unknown_start n (named, why) =
+  not_unknown_start n (named, none) =
       let same : n ≡ joined.start
       = same_Some n joined.start (sym (ap (λ o. start_name o w.rules) named) ∙ joined.starts) in
       let is : IsNonterminal w n = nonterminal_of n s.grammar.start (joined.start_number ∙ ap Some (sym same)) in
-      elim why [ inl none ↦ none is | inr named' ↦ joined.apart n named' is ]
+      none is
 
   not_undeclared : (n : List ℕ) → IsUndeclared x w n → ⊥
   not_undeclared n (a, there, named, no_token) =

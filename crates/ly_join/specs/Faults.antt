@@ -1,5 +1,5 @@
 -- What each fault of joining says of the files.
-use Rattle.std.specs.Prelude.{◌≡◌, ◌<◌, ◌⊎◌, ℕ, List, [], Contains, Some}
+use Rattle.std.specs.Prelude.{◌≡◌, ◌<◌, ℕ, List, [], Contains, Some}
 use Rattle.ly_base.specs.Limits.{Sizes}
 use Rattle.ly_yaccread.specs.File.{Written}
 use Rattle.ly_yaccread.specs.Rules.{Ruling}
@@ -23,9 +23,9 @@ IsUndefined w n = (r : Ruling) × Contains w.rules r × Contains r.body (name n)
 abbrev pub IsUnknownPrec : Written → List ℕ → Type 0
 IsUnknownPrec w n = (r : Ruling) × Contains w.rules r × (r.precedence ≡ Some (name n)) × (IsToken w n → ⊥)
 
--- `%start` names it, and it is no nonterminal, or a token
+-- `%start` names it, and it is no left side
 abbrev pub IsUnknownStart : Written → List ℕ → Type 0
-IsUnknownStart w n = (w.preamble.start ≡ Some n) × ((IsNonterminal w n → ⊥) ⊎ IsToken w n)
+IsUnknownStart w n = (w.preamble.start ≡ Some n) × (IsNonterminal w n → ⊥)
 
 -- an action returns it, and it is no token
 abbrev pub IsUndeclared : Scanning → Written → List ℕ → Type 0

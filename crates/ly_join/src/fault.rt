@@ -20,7 +20,7 @@ pub enum JoinFault {
     /// A token is given a precedence twice, by two declarations or by one.
     #[error("a second precedence for a token")]
     PrecedenceTwice(TerminalName),
-    /// The name behind `%start` is on no left side, or is a token.
+    /// The name behind `%start` is on no left side.
     #[error("a start symbol without rules")]
     UnknownStart(Vec<u8>),
     /// An action of the lex file returns a name that is no token.

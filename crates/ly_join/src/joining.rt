@@ -90,7 +90,7 @@ fn number_symbols(alloc: Global, yacc: &YaccFile) -> Result<SymbolTable, JoinFau
     })
 }
 
-/// The number of the start symbol: of the name behind `%start`, which may be no token, or else the first left side.
+/// The number of the start symbol: of the name behind `%start`, which has to be a left side, or else the first one.
 fn start_symbol(alloc: Global, table: &SymbolTable, yacc: &YaccFile) -> Result<Sym, JoinFault>
     requires numbered { AreNumbered (written_of yacc.now) (table_from table.now) }
     requires some { 0 < length yacc.now.rules.items }
@@ -100,9 +100,6 @@ fn start_symbol(alloc: Global, table: &SymbolTable, yacc: &YaccFile) -> Result<S
     let Some(name) = &yacc.start else {
         return Ok(table.nonterminals.number(&yacc.rules[0].left));
     };
-    if table.terminals.token(name).is_some() {
-        return Err(JoinFault::UnknownStart(Vec::from_slice(alloc, name)?));
-    }
     match table.nonterminals.find(name) {
         Some(start) => Ok(start),
         None => Err(JoinFault::UnknownStart(Vec::from_slice(alloc, name)?)),

@@ -7,15 +7,17 @@ use Rattle.std.proofs.lemmas.Bool.{cases_order}
 use Rattle.std.proofs.lemmas.List.Elements.{All-weaker, All-contains_itself}
 use Rattle.std.proofs.lemmas.Option.{get_or_from_slice_get, slice_get_within}
 use Rattle.ly_join.specs.Grammar.{Grammar, IsAugmented, IsRule, Rule, Symbol, accept_rule, nonterminal, terminal}
+use Rattle.ly_join.proofs.ListLemmas.{member_at}
 use Rattle.ly_grammar.specs.Items.{HasNoEnd, Valid, at_start, closed, moved}
 use Rattle.ly_grammar.proofs.ItemLemmas.{body_of, zero_item, zero_split}
 use Rattle.ly_grammar.proofs.SearchLemmas.{rule_is_one}
 use Rattle.ly_sets.specs.NumberSet.{NumberSet, Member}
 use Rattle.ly_sets.specs.SetMatrix.{row}
 use Rattle.ly_lr0.specs.Automaton.{Automaton, IsAutomaton, Reaches, State, goto_of, state_at}
+use Rattle.ly_lr0.proofs.StateLemmas.{target_some}
 use Rattle.ly_relate.specs.Related.{AreRelations, DirectRead, Goto, Lookback, Relations}
 use Rattle.ly_relate.specs.Relations.{DirectlyReads, LookaheadBy, LooksBack}
-use Rattle.ly_relate.proofs.GotoLemmas.{at_Contains, leads_from, target_has}
+use Rattle.ly_relate.proofs.GotoLemmas.{leads_from}
 use Rattle.ly_relate.proofs.LeaveLemmas.{symbol_within}
 use Rattle.ly_relate.proofs.ReachLemmas.{apart}
 use Rattle.ly_lookahead.specs.Lookaheads.{AreLookaheads}
@@ -98,7 +100,7 @@ module _ (M : Automaton) (is : IsAutomaton M) where
   leads_within s r X e =
       let of = leads_from M s X r e in (
         slice_get_within M.states s of.0 of.1,
-        (is.each s of.0 of.1).within (record { symbol = X; target = r }) (target_has of.0.transitions X r of.2),
+        (is.each s of.0 of.1).within (record { symbol = X; target = r }) (target_some of.0.transitions X r of.2),
       )
 
   reaches_within : (q : ℕ) (w : List Symbol) (s : ℕ) → q < length M.states → Reaches (goto_of M) q w s
@@ -113,7 +115,7 @@ module _ (M : Automaton) (is : IsAutomaton M) where
   -- a rule that is complete in a state isn't rule 0
   complete_past_zero : (s k p : ℕ) (q : State) → slice_get M.states s ≡ Some q → slice_get q.complete k ≡ Some p → 1 ≤ p
   complete_past_zero s k zero q at there =
-      let c = ((is.each s q at).complete 0).0 (at_Contains q.complete k 0 there) in
+      let c = ((is.each s q at).complete 0).0 (member_at q.complete k 0 there) in
       let viable = is.cores.only q.prefix s (prefix_leads s q at) in
       absurd (no_zero is.augmented refl viable.0 c.1.1)
   complete_past_zero s k (suc p) q at there = omega arith

@@ -13,6 +13,7 @@ use Rattle.std.proofs.Math.ListN.{get_or-map}
 use Rattle.std.proofs.lemmas.List.Elements.{All-contains, Contains-append_cases, Contains-append_left}
 use Rattle.std.proofs.lemmas.List.Elements.{Contains-append_right}
 use Rattle.ly_base.proofs.MemberLemmas.{Contains-first, Contains-none, Contains-one}
+use Rattle.ly_join.proofs.ListLemmas.{member_at}
 use Rattle.ly_sets.specs.NumberSet.{NumberSet, Member}
 use Rattle.ly_sets.specs.SetMatrix.{row}
 use Rattle.ly_sets.proofs.NumberSetLemmas.{contains-insert_nat}
@@ -23,7 +24,7 @@ use Rattle.ly_relate.specs.Related.{DirectRead, Lookback}
 use Rattle.ly_relate.specs.Values.{direct_from, lookback_from}
 use Rattle.ly_relate.specs.declared.direct.DirectRead as code
 use Rattle.ly_relate.specs.declared.walks.Lookback as lookback
-use Rattle.ly_relate.proofs.GotoLemmas.{at_Contains, split_at}
+use Rattle.ly_relate.proofs.GotoLemmas.{split_at}
 use Rattle.ly_lookahead.specs.Private.Sets.{AreDirectSets, AreLookedBack, ComesBack, IsInside, IsRowOf}
 
 -- ONE MORE MEMBER OF A LIST
@@ -148,7 +149,7 @@ pub inside_at : (rows width : ℕ) (items : List code.DirectRead) (i : ℕ) → 
     → IsInside rows width (direct_from (slice_index_or items i no_read))
 inside_at rows width items i lt all = All-contains (IsInside rows width) (map direct_from items)
     (direct_from (slice_index_or items i no_read)) all
-    (at_Contains (map direct_from items) i (direct_from (slice_index_or items i no_read))
+    (member_at (map direct_from items) i (direct_from (slice_index_or items i no_read))
     (direct_seen (map direct_from items) items i refl lt))
 
 -- LOOKBACKS
@@ -197,7 +198,7 @@ module _ (M : Automaton) (first : List ℕ) (ls : List Lookback) (i : ℕ) (l : 
     back (inl was) = (before r t).1 (inl was)
     back (inr comes) = elim ((come_more old r t).0 comes) [
       | inl earlier ↦ (before r t).1 (inr earlier)
-      | inr last ↦ let is = last.0 in absurd (lacks (at_Contains (state_at M l.state).complete is.0 l.rule is.1))
+      | inr last ↦ let is = last.0 in absurd (lacks (member_at (state_at M l.state).complete is.0 l.rule is.1))
     ]
 
   -- the row of a transition stays

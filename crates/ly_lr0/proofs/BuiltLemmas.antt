@@ -5,13 +5,14 @@ use Rattle.std.specs.Prelude.{◌↔◌, Contains, slice_index_or}
 use Rattle.std.proofs.lemmas.Bool.{cases_lt}
 use Rattle.std.proofs.lemmas.List.{get_or_append_left, get_or_push, length_push}
 use Rattle.std.proofs.lemmas.List.Elements.{Contains-append_left, Contains-get_or, Contains-push, Contains-push_cases}
+use Rattle.ly_base.specs.Keys.{IsAbsent}
 use Rattle.ly_join.specs.Grammar.{Grammar, Symbol, terminal}
 use Rattle.ly_lr0.specs.Automaton.{IsLess, Transition}
 use Rattle.ly_lr0.specs.declared.item.Item.{Item}
 use Rattle.ly_lr0.specs.Private.Built.{AreFound, AreInOrder, IsLed, IsNumbered, Leads, Link, LinkIsLess, link_at}
 use Rattle.ly_lr0.specs.Private.Closing.{AreKept}
 use Rattle.ly_lr0.specs.Private.Items.{AreRising, IsMoved}
-use Rattle.ly_lr0.specs.Private.Kernels.{IsAbsent, kernel_at}
+use Rattle.ly_lr0.specs.Private.Kernels.{kernel_at}
 
 -- what holds of each element and of one more
 each_more : {X : Type 0} (xs : List X) (x d : X) (P : ℕ → X → Type 0)

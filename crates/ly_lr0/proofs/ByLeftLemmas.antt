@@ -8,9 +8,9 @@ use Rattle.std.proofs.lemmas.List.Elements.{Contains-append_left, Contains-push,
 use Rattle.std.proofs.lemmas.Option.{slice_get_within}
 use Rattle.ly_join.specs.Grammar.{Grammar, IsRule, Rule, accept_rule}
 use Rattle.ly_grammar.specs.Reduction.{IsReduction, Reduction}
+use Rattle.ly_grammar.proofs.SearchLemmas.{rule_is_one}
 use Rattle.ly_lr0.specs.Private.Closing.{AreByLeft, IsKept}
 use Rattle.ly_lr0.proofs.ClosingLemmas.{kept_one}
-use Rattle.ly_lr0.proofs.CoreLemmas.{rule_one}
 
 -- the rules below a number stand in their lists
 abbrev pub HasRulesBelow : Grammar → List (List ℕ) → ℕ → Type 0
@@ -55,7 +55,7 @@ module _ (F : Grammar) (R : Reduction) (lists : List (List ℕ)) (n : ℕ) (is :
               | inr past ↦
                   let last : q ≡ n = omega (arith, h.0, past) in
                   let one : h.1.0 ≡ s =
-                  rule_one R.grammar n h.1.0 s (subst (λ k. IsRule R.grammar k h.1.0) last h.1.1) rule in
+                  rule_is_one R.grammar n h.1.0 s (subst (λ k. IsRule R.grammar k h.1.0) last h.1.1) rule in
                   absurd (other (sym h.1.2 ∙ ap (λ r. r.left) one ∙ sym same))
             ]),
           )
@@ -95,7 +95,7 @@ pub left_within : (F : Grammar) (R : Reduction) (n : ℕ) (s : Rule) (left : ℕ
     → IsRule F n s → left ≡ s.left → (size : ℕ) → size ≡ R.grammar.accept + 1 → left < size
 left_within F R zero s left is kept here same size count =
     let one : s ≡ accept_rule R.grammar.accept R.grammar.start
-    = rule_one R.grammar 0 s _ (kept_one F R 0 s is kept here) is.augmented.rule_0 in
+    = rule_is_one R.grammar 0 s _ (kept_one F R 0 s is kept here) is.augmented.rule_0 in
     let left_is = ap (λ r. r.left) one in
     omega (arith, same, count, left_is)
 left_within F R (suc n) s left is kept here same size count =

@@ -15,17 +15,17 @@ use Rattle.ly_join.specs.Grammar.{Grammar, IsAugmented, IsRule, Rule, Symbol, Sy
 use Rattle.ly_join.specs.Grammar.{symbol_of}
 use Rattle.ly_join.specs.declared.symbol.Symbol as code
 use Rattle.ly_grammar.specs.Reduction.{IsReduction, Reduction}
+use Rattle.ly_grammar.proofs.SearchLemmas.{rule_is_one}
 use Rattle.ly_lr0.specs.declared.item.Item.{Item}
 use Rattle.ly_lr0.specs.Private.Closing.{AreAdded, AreByLeft, IsAdded, IsAtEnd, IsKept, IsListed, IsMove}
 use Rattle.ly_lr0.specs.Private.Items.{IsBehind, IsClosed, IsEntered, added, given}
-use Rattle.ly_lr0.proofs.CoreLemmas.{rule_one}
 
 -- a rule that is kept is the grammar's
 pub kept_one : (F : Grammar) (R : Reduction) (p : ℕ) (s : Rule) → IsReduction F R → IsKept R.grammar p → IsRule F p s
     → IsRule R.grammar p s
 kept_one F R p s is kept here =
     let there = (is.keeps.rules p kept.0).0 kept.1 in
-    let same : kept.0 ≡ s = rule_one F p kept.0 s there.0 here in
+    let same : kept.0 ≡ s = rule_is_one F p kept.0 s there.0 here in
     subst (IsRule R.grammar p) same kept.1
 
 module _ (F : Grammar) (R : Reduction) (i : Item) (s : Rule) (body : List code.Symbol) (is : IsReduction F R)
@@ -57,21 +57,21 @@ module _ (F : Grammar) (R : Reduction) (i : Item) (s : Rule) (body : List code.S
 -- one symbol stands behind a dot
 pub behind_one : (G : Grammar) (p d : ℕ) (X Y : Symbol) → IsBehind G p d X → IsBehind G p d Y → X ≡ Y
 behind_one G p d X Y a b =
-    let same : a.0 ≡ b.0 = rule_one G p a.0 b.0 a.1 b.1 in
+    let same : a.0 ≡ b.0 = rule_is_one G p a.0 b.0 a.1 b.1 in
     let e : Some X ≡ Some Y = sym a.2 ∙ ap (λ r. slice_get r.body d) same ∙ b.2 in
     cc
 
 -- and none behind one at the end
 pub end_off : (G : Grammar) (i : Item) (X : Symbol) → IsAtEnd G i → IsBehind G i.rule i.dot X → ⊥
 end_off G i X e b =
-    let same : e.0 ≡ b.0 = rule_one G i.rule e.0 b.0 e.1 b.1 in
+    let same : e.0 ≡ b.0 = rule_is_one G i.rule e.0 b.0 e.1 b.1 in
     let less = slice_get_within b.0.body i.dot X b.2 in
     omega (arith, e.2, less, ap (λ r. length r.body) same)
 
 -- nonterminals behind dots are less than that of the whole text
 pub behind_within : (G : Grammar) (p d A : ℕ) → IsAugmented G → IsBehind G p d (nonterminal A) → A < G.accept
 behind_within G zero d A is b =
-    let same : b.0 ≡ accept_rule G.accept G.start = rule_one G 0 b.0 _ b.1 is.rule_0 in
+    let same : b.0 ≡ accept_rule G.accept G.start = rule_is_one G 0 b.0 _ b.1 is.rule_0 in
     at_zero d (ap (λ r. slice_get r.body d) (sym same) ∙ b.2)
   where
     at_zero : (d : ℕ) → slice_get (accept_rule G.accept G.start).body d ≡ Some (nonterminal A) → A < G.accept

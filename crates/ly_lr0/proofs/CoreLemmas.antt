@@ -3,17 +3,15 @@ use Rattle.std.proofs.Common.{◌≡◌, inl, inr, ℕ, zero, suc, ◌+◌, ◌�
 use Rattle.std.proofs.Common.{refl, sym, ◌∙◌, ap, subst, arith, length}
 use Rattle.std.specs.Prelude.{slice_get}
 use Rattle.ly_base.specs.Lexed.{Token}
-use Rattle.ly_base.specs.Trees.{Tree, Trees, leaf, node, none, more, yields_of, Occurs, OccursAmong}
+use Rattle.ly_base.specs.Trees.{Tree, Trees, leaf, node, none, more, Occurs, OccursAmong}
 use Rattle.ly_join.specs.Grammar.{Grammar, IsAugmented, IsRule, Rule, Symbol, accept_rule, nonterminal, terminal}
 use Rattle.ly_grammar.specs.Derivations.{AreTrees, First, IsReduced, IsTree}
 use Rattle.ly_grammar.specs.Items.{HasNoEnd, InCore, IsComplete, IsViable, SameCore, Valid, at_start, closed, moved}
 use Rattle.ly_grammar.specs.Items.{onto}
+use Rattle.ly_grammar.proofs.ItemLemmas.{First_some, body_of, length-onto, trees_of_end}
+use Rattle.ly_grammar.proofs.SearchLemmas.{rule_is_one}
 use Rattle.ly_lr0.specs.Private.Items.{HasItem, IsBehind, SameItems}
 use Rattle.ly_lr0.specs.Private.Items as lr0
-
--- one number names one rule
-pub rule_one : (G : Grammar) (p : ℕ) (r s : Rule) → IsRule G p r → IsRule G p s → r ≡ s
-rule_one G p r s a b = cc (a, b)
 
 -- what stands behind symbols that are put in front
 get-onto : (b w : List Symbol) → slice_get (onto b w) (length b) ≡ slice_get w 0
@@ -22,10 +20,6 @@ get-onto b w = ap (slice_get (onto b w)) (omega arith) ∙ go b w 0
     go : (b w : List Symbol) (k : ℕ) → slice_get (onto b w) (length b + k) ≡ slice_get w k
     go [] w k = ap (slice_get w) (omega arith)
     go (X ∷ b) w k = ap (slice_get (onto b (X ∷ w))) (omega arith) ∙ go b (X ∷ w) (suc k)
-
-length-onto : (b w : List Symbol) → length (onto b w) ≡ length b + length w
-length-onto [] w = omega arith
-length-onto (X ∷ b) w = omega (arith, length-onto b (X ∷ w))
 
 first_of : (w : List Symbol) (X : Symbol) → slice_get w 0 ≡ Some X → (v : List Symbol) × (w ≡ X ∷ v)
 first_of [] X e = absurd (cc)
@@ -41,13 +35,6 @@ onto_one (X ∷ b) (Y ∷ c) v w l e =
     let first : X ≡ Y = let f = rest.1 in cc in
     let behind : v ≡ w = let f = rest.1 in cc in
     (ap (λ Z. Z ∷ b) first ∙ ap (λ d. Y ∷ d) rest.0, behind)
-
--- the body of a valid item's rule
-pub body_of : {G : Grammar} {g : List Symbol} {p : ℕ} {before after : List Symbol} {t : ℕ} → Valid G g p before after t
-    → (r : Rule) × IsRule G p r × (onto before after ≡ r.body)
-body_of (at_start {r = r} is same) = (r, is, same)
-body_of (closed {r = r} v is left same first) = (r, is, same)
-body_of (moved v) = body_of v
 
 -- a valid item is one
 pub item_of_valid : {G : Grammar} {g : List Symbol} {p : ℕ} {before after : List Symbol} {t : ℕ}
@@ -67,16 +54,6 @@ item_of_valid {G = G} (moved {before = before} {after = after} {X = X} v) =
     lr0.moved (item_of_valid v)
     (b.0, b.1, subst (λ w. slice_get w (length before) ≡ Some X) b.2 (get-onto before (X ∷ after)))
 
--- trees of the end of a string
-trees_of_end : (G : Grammar) (before after : List Symbol) (ts : Trees) → AreTrees G (onto before after) ts
-    → (us : Trees) × AreTrees G after us
-trees_of_end G [] after ts h = (ts, h)
-trees_of_end G (X ∷ before) after ts h = drop_one (trees_of_end G before (X ∷ after) ts h)
-  where
-    drop_one : ((us : Trees) × AreTrees G (X ∷ after) us) → (us : Trees) × AreTrees G after us
-    drop_one (none, k) = absurd k
-    drop_one (more d us, k) = (us, k.1)
-
 mutual
   -- a rule that occurs in a tree has trees for its body
   body_trees : (d : Tree) (G : Grammar) (X : Symbol) (p : ℕ) (r : Rule) → IsRule G p r → IsTree G X d → Occurs p d
@@ -85,7 +62,7 @@ mutual
   body_trees (node q ts) G (terminal k) p r e h o = absurd h
   body_trees (node q ts) G (nonterminal A) p r e h (inl same) = (
     ts,
-    subst (λ x. AreTrees G x.body ts) (rule_one G q h.0 r h.1 (subst (λ n. IsRule G n r) same e)) h.3,
+    subst (λ x. AreTrees G x.body ts) (rule_is_one G q h.0 r h.1 (subst (λ n. IsRule G n r) same e)) h.3,
   )
   body_trees (node q ts) G (nonterminal A) p r e h (inr o) = body_trees_among ts G h.0.body p r e h.3 o
 
@@ -96,19 +73,12 @@ mutual
   body_trees_among (more d ts) G (X ∷ w) p r e h (inl o) = body_trees d G X p r e h.0 o
   body_trees_among (more d ts) G (X ∷ w) p r e h (inr o) = body_trees_among ts G w p r e h.1 o
 
--- trees of a string give it a first terminal
-First_some : {G : Grammar} {w : List Symbol} (u : ℕ) (ts : Trees) → AreTrees G w ts → (t : ℕ) × First G w u t
-First_some {G} {w} u ts h = go (yields_of ts) refl
-  where
-    go : (y : List (Token ℕ)) → yields_of ts ≡ y → (t : ℕ) × First G w u t
-    go [] e = (u, inr ((ts, h, e), refl))
-    go (x ∷ rest) e = (x.terminal, inl (ts, h, x, rest, e, refl))
-
 module _ (G : Grammar) (augmented : IsAugmented G) (reduced : IsReduced G) where
   -- every rule has trees for its body
   rule_trees : (p : ℕ) (r : Rule) → IsRule G p r → (ts : Trees) × AreTrees G r.body ts
   rule_trees zero r is =
-      let same : accept_rule G.accept G.start ≡ r = rule_one G 0 (accept_rule G.accept G.start) r augmented.rule_0 is in
+      let same : accept_rule G.accept G.start ≡ r
+      = rule_is_one G 0 (accept_rule G.accept G.start) r augmented.rule_0 is in
       let start = reduced.start_tree in
       let end : Token ℕ = record { terminal = 0; at = 0; bytes = [] } in
       subst (λ x. (ts : Trees) × AreTrees G x.body ts) same (more start.0 (more (leaf end) none), (start.1, (refl, tt)))
@@ -137,7 +107,7 @@ module _ (G : Grammar) (augmented : IsAugmented G) (reduced : IsReduced G) where
       → (v : List Symbol) × (s.after ≡ X ∷ v)
   next_of {p = p} {X = X} s b =
       let body = body_of s.valid in
-      let same : body.0 ≡ b.0 = rule_one G p body.0 b.0 body.1 b.1 in
+      let same : body.0 ≡ b.0 = rule_is_one G p body.0 b.0 body.1 b.1 in
       first_of s.after X (sym (get-onto s.before s.after) ∙ ap (λ k. slice_get (onto s.before s.after) k) s.dot
       ∙ ap (λ w. slice_get w _) (body.2 ∙ ap (λ r. r.body) same) ∙ b.2)
 
@@ -184,7 +154,7 @@ module _ (G : Grammar) (augmented : IsAugmented G) (reduced : IsReduced G) where
           let s = valid_of_item i in
           let b = body_of c.1 in
           let e = body_of s.valid in
-          let same : e.0 ≡ b.0 = rule_one G p e.0 b.0 e.1 b.1 in
+          let same : e.0 ≡ b.0 = rule_is_one G p e.0 b.0 e.1 b.1 in
           let one = onto_one s.before before s.after after s.dot (e.2 ∙ ap (λ r. r.body) same ∙ sym b.2) in (
             s.lookahead,
             subst (λ w. Valid G h p before w s.lookahead) one.1
@@ -204,7 +174,7 @@ module _ (G : Grammar) (augmented : IsAugmented G) (reduced : IsReduced G) where
   complete_of_item g p d r is long i =
       let s = valid_of_item i in
       let b = body_of s.valid in
-      let same : length b.0.body ≡ length r.body = ap (λ x. length x.body) (rule_one G p b.0 r b.1 is) in
+      let same : length b.0.body ≡ length r.body = ap (λ x. length x.body) (rule_is_one G p b.0 r b.1 is) in
       let none : length s.after ≡ 0 = omega (arith, length-onto s.before s.after, ap length b.2, same, s.dot, long) in
       (s.before, (s.lookahead, subst (λ w. Valid G g p s.before w s.lookahead) (empty s.after none) s.valid))
     where

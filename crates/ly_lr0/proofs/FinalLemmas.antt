@@ -1,10 +1,12 @@
 -- What was found is the automaton once all rows are there, and a kernel too many is a core too many.
-use Rattle.std.proofs.Common.{◌≡◌, ◌≢◌, ◌⊎◌, inl, inr, ℕ, zero, suc, ◌<◌, List, [], ◌∷◌, ◌++◌, Some}
-use Rattle.std.proofs.Common.{refl, sym, ◌∙◌, ap, subst, arith, length, map}
+use Rattle.std.proofs.Common.{◌≡◌, ◌≢◌, ◌⊎◌, inl, inr, ℕ, suc, ◌<◌, List, [], ◌∷◌, ◌++◌, Some}
+use Rattle.std.proofs.Common.{sym, ◌∙◌, ap, subst, arith, length, map}
 use Rattle.std.specs.Prelude.{◌↔◌, Contains, AllPairs, slice_get, slice_index_or}
 use Rattle.std.proofs.lemmas.Bool.{cases_lt}
 use Rattle.std.proofs.lemmas.List.{get_or_default, get_or-map, get_or_append_left, get_or_push, length-map, length_push}
 use Rattle.std.proofs.lemmas.Option.{get_or_from_slice_get, slice_get_within}
+use Rattle.ly_base.proofs.ListLemmas.{some_at}
+use Rattle.ly_base.specs.Keys.{IsAbsent}
 use Rattle.ly_join.specs.Grammar.{Grammar, IsAugmented, Symbol, terminal}
 use Rattle.ly_grammar.specs.Derivations.{IsReduced}
 use Rattle.ly_grammar.specs.Items.{HasMoreCores, IsComplete, IsViable, SameCore}
@@ -14,7 +16,7 @@ use Rattle.ly_lr0.specs.declared.item.Item.{Item}
 use Rattle.ly_lr0.specs.declared.transition.Row.{Row}
 use Rattle.ly_lr0.specs.Private.Built.{AreFound, IsRowOf, Link, prefixes_of, states_of, transitions_of}
 use Rattle.ly_lr0.specs.Private.Items.{AreRising, IsKernel, IsMoved, moved}
-use Rattle.ly_lr0.specs.Private.Kernels.{IsAbsent, kernel_at}
+use Rattle.ly_lr0.specs.Private.Kernels.{kernel_at}
 use Rattle.ly_lr0.proofs.AutomatonLemmas.{AreWhole, ArePrefixes, IsAt, IsGoto, at_reached, has_cores, least_prefix}
 use Rattle.ly_lr0.proofs.AutomatonLemmas.{leads_to, rising_prefixes}
 use Rattle.ly_lr0.proofs.CoreLemmas.{complete_of_item, item_of_complete, same_items, viable_of}
@@ -22,12 +24,6 @@ use Rattle.ly_lr0.proofs.KernelLemmas.{closed_of_item, item_of_closed, kernel_on
 use Rattle.ly_lr0.proofs.OrderLemmas.{kernels_one}
 use Rattle.ly_lr0.proofs.StateLemmas.{IsStateAt, are_prefixes, goto_by, goto_of-rows, is_goto_by, length-fold}
 use Rattle.ly_lr0.proofs.StateLemmas.{length-states, prefixes-states, state_parts}
-
--- an element of a list that is long enough
-some_at : {X : Type 0} (xs : List X) (k : ℕ) → k < length xs → (x : X) × (slice_get xs k ≡ Some x)
-some_at [] k l = absurd (omega (arith, l))
-some_at (x ∷ xs) zero l = (x, refl)
-some_at (x ∷ xs) (suc k) l = some_at xs k (omega (arith, l))
 
 module _ (G : Grammar) (augmented : IsAugmented G) (reduced : IsReduced G) (kernels : List (List Item))
     (links : List Link)

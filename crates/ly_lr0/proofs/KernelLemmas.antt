@@ -3,10 +3,10 @@ use Rattle.std.proofs.Common.{◌≡◌, ℕ, zero, suc, List, [], ◌∷◌, So
 use Rattle.std.specs.Prelude.{slice_get, Contains}
 use Rattle.std.proofs.lemmas.Option.{get_or_from_slice_get, slice_get_within}
 use Rattle.ly_join.specs.Grammar.{Grammar, IsAugmented, IsRule, Symbol, SymbolWithin, accept_rule, nonterminal}
+use Rattle.ly_grammar.proofs.SearchLemmas.{rule_is_one}
 use Rattle.ly_lr0.specs.declared.item.Item.{Item}
 use Rattle.ly_lr0.specs.Private.Items.{HasItem, IsBehind, IsClosed, IsKernel, SameItems, added, at_start, closed}
 use Rattle.ly_lr0.specs.Private.Items.{given, moved}
-use Rattle.ly_lr0.proofs.CoreLemmas.{rule_one}
 
 module _ (G : Grammar) where
   -- what is closed to from a kernel is closed to from another with the same items
@@ -48,7 +48,7 @@ module _ (G : Grammar) where
     -- rule 0 is no rule that closing adds
     no_accept : (p d : ℕ) → IsBehind G p d (nonterminal G.accept) → ⊥
     no_accept zero d b =
-        let same : b.0 ≡ accept_rule G.accept G.start = rule_one G 0 b.0 _ b.1 augmented.rule_0 in
+        let same : b.0 ≡ accept_rule G.accept G.start = rule_is_one G 0 b.0 _ b.1 augmented.rule_0 in
         at_zero d (ap (λ r. slice_get r.body d) (sym same) ∙ b.2)
       where
         at_zero : (d : ℕ) → slice_get (accept_rule G.accept G.start).body d ≡ Some (nonterminal G.accept) → ⊥
@@ -68,7 +68,7 @@ module _ (G : Grammar) where
     item_at_0 at_start e f = refl
     item_at_0 (closed {p = q} {d = c} {r = r} i b is left) e f =
         let same : r ≡ accept_rule G.accept G.start =
-        rule_one G 0 r _ (subst (λ n. IsRule G n r) e is) augmented.rule_0 in
+        rule_is_one G 0 r _ (subst (λ n. IsRule G n r) e is) augmented.rule_0 in
         absurd (no_accept q c (subst (λ A. IsBehind G q c (nonterminal A)) (sym left ∙ ap (λ x. x.left) same) b))
     item_at_0 (moved i b) e f = absurd (omega (arith, f))
 

@@ -7,8 +7,8 @@ pub mod CoreLemmas
 pub mod FinalLemmas
 pub mod GotoLemmas
 pub mod GroupLemmas
+pub mod ItemLemmas
 pub mod KernelLemmas
-pub mod KernelsLemmas
 pub mod LawLemmas
 pub mod ListLemmas
 pub mod OneLemmas

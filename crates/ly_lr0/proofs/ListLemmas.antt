@@ -8,13 +8,14 @@ use Rattle.std.specs.List.{AllByRecursion}
 use Rattle.std.specs.List.Sorted.{IsStrictlySortedBy}
 use Rattle.std.specs.declared.cmp.Ordering.{Ordering}
 use Rattle.std.specs.declared.cmp.Ordering.TheVariants.{Less, Equal, Greater}
-use Rattle.std.proofs.lemmas.Bool.{eqb-true}
+use Rattle.std.proofs.lemmas.Bool.{and_parts, eqb-true}
 use Rattle.std.proofs.lemmas.Cmp.{ranked}
 use Rattle.std.proofs.lemmas.List.Elements.{Contains-append_left, Contains-push, Contains-push_cases}
 use Rattle.std.proofs.lemmas.List.Kept.{AllPairs-cons}
 use Rattle.ly_join.specs.Grammar.{Grammar, symbol_of, terminal}
 use Rattle.ly_join.specs.declared.symbol.Symbol as code
 use Rattle.ly_join.specs.declared.symbol.Symbol.TheVariants.{Terminal, Nonterminal}
+use Rattle.ly_lr0.proofs.ItemLemmas.{item_same}
 use Rattle.ly_lr0.specs.declared.item.Item.{Item}
 use Rattle.ly_lr0.specs.declared.item.Move.{Move}
 use Rattle.ly_lr0.specs.contracts.item.MovePartialEq.TheImpl as eq
@@ -215,28 +216,17 @@ move_less m n e = go (symbol_cmp m.symbol n.symbol) refl e
     go Equal s f = inr (symbol_same m.symbol n.symbol s, f)
     go Greater s f = absurd (cc)
 
-both : (s t : Bool) → (s && t) ≡ true → (s ≡ true) × (t ≡ true)
-both true true e = (refl, refl)
-both true false e = absurd (cc)
-both false t e = absurd (cc)
-
-item_tested : (i j : Item) → (nat_eq i.rule j.rule && nat_eq i.dot j.dot) ≡ true → i ≡ j
-item_tested i j e =
-    let p = both (nat_eq i.rule j.rule) (nat_eq i.dot j.dot) e in
-    ap (λ n. record { rule = n; dot = i.dot }) (eqb-true i.rule j.rule p.0)
-    ∙ ap (λ n. record { rule = j.rule; dot = n }) (eqb-true i.dot j.dot p.1)
-
 parts_tested : (x y : code.Symbol) (i j : Item)
     → eq.ghosts.eq (record { symbol = x; item = i }) (record { symbol = y; item = j })
     ≡ true → (x ≡ y) × (i ≡ j)
 parts_tested (Terminal t) (Terminal u) i j e =
-    let p = both (nat_eq t.0 u.0) (nat_eq i.rule j.rule && nat_eq i.dot j.dot) e in
-    (ap (λ m. Terminal (record { 0 = m })) (eqb-true t.0 u.0 p.0), item_tested i j p.1)
+    let p = and_parts (nat_eq t.0 u.0) (nat_eq i.rule j.rule && nat_eq i.dot j.dot) e in
+    (ap (λ m. Terminal (record { 0 = m })) (eqb-true t.0 u.0 p.0), item_same i j p.1)
 parts_tested (Terminal t) (Nonterminal B) i j e = absurd (cc)
 parts_tested (Nonterminal A) (Terminal u) i j e = absurd (cc)
 parts_tested (Nonterminal A) (Nonterminal B) i j e =
-    let p = both (nat_eq A.0 B.0) (nat_eq i.rule j.rule && nat_eq i.dot j.dot) e in
-    (ap (λ m. Nonterminal (record { 0 = m })) (eqb-true A.0 B.0 p.0), item_tested i j p.1)
+    let p = and_parts (nat_eq A.0 B.0) (nat_eq i.rule j.rule && nat_eq i.dot j.dot) e in
+    (ap (λ m. Nonterminal (record { 0 = m })) (eqb-true A.0 B.0 p.0), item_same i j p.1)
 
 -- moves that pass the test are one
 pub move_eq : (m n : Move) → eq.ghosts.eq m n ≡ true → m ≡ n

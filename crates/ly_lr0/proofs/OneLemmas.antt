@@ -1,31 +1,27 @@
 -- A grammar has one automaton: its states are the cores of viable strings, in the order of the least strings of each.
 use Rattle.std.proofs.Common.{◌≡◌, ◌∙◌, ◌<◌, inl, inr, ℕ, List, [], ◌∷◌, Some, ap, arith, get_or, length}
-use Rattle.std.proofs.Common.{map, slice_get, subst, sym}
+use Rattle.std.proofs.Common.{map, subst, sym}
 use Rattle.std.specs.Prelude.{AllPairs, Contains, option_and_then}
 use Rattle.std.proofs.lemmas.List.{get_or-map, get_or_default, length-map, same_lists}
 use Rattle.std.proofs.lemmas.List.Elements.{Contains-get_or}
-use Rattle.std.proofs.lemmas.Option.{slice_get-get_or}
+use Rattle.ly_base.proofs.ListLemmas.{rising_one}
 use Rattle.ly_join.specs.Grammar.{Grammar, Symbol}
 use Rattle.ly_grammar.specs.Items.{IsComplete, SameCore}
 use Rattle.ly_lr0.specs.Automaton.{Automaton, ComesBefore, HasCores, IsAutomaton, IsLess, Reaches}
 use Rattle.ly_lr0.specs.Automaton.{Transition, goto_of, prefix_of, state_at, target_of}
 use Rattle.ly_lr0.specs.Laws.{AutomatonIsOne}
 use Rattle.ly_lr0.proofs.LawLemmas.{reached_within}
-use Rattle.ly_lr0.proofs.OrderLemmas.{before_off, less_off, less_trans, rising_one}
-use Rattle.ly_lr0.proofs.StateLemmas.{target_at, target_some}
+use Rattle.ly_lr0.proofs.OrderLemmas.{before_off, less_off, less_trans}
+use Rattle.ly_lr0.proofs.StateLemmas.{state_there, target_at, target_some}
 
 -- a string has its own core
 same_itself : (G : Grammar) (g : List Symbol) → SameCore G g g
 same_itself G g p before after = (λ c. c, λ c. c)
 
--- the state of a number is there
-there : (M : Automaton) (s : ℕ) → s < length M.states → slice_get M.states s ≡ Some (state_at M s)
-there M s lt = slice_get-get_or M.states s (record { prefix = []; transitions = []; complete = [] }) lt
-
 -- where it leads is what its transitions say, and its prefix is its own
 goes_by : (M : Automaton) (s : ℕ) (X : Symbol) → s < length M.states
     → goto_of M s X ≡ target_of (state_at M s).transitions X
-goes_by M s X lt = ap (option_and_then (λ q. target_of q.transitions X)) (there M s lt)
+goes_by M s X lt = ap (option_and_then (λ q. target_of q.transitions X)) (state_there M s lt)
 
 prefix_at : (M : Automaton) (s : ℕ) → s < length M.states → prefix_of M s ≡ (state_at M s).prefix
 prefix_at M s lt = get_or-map (λ q. q.prefix) M.states s (record { prefix = []; transitions = []; complete = [] }) [] lt
@@ -86,7 +82,7 @@ module _ (M N : Automaton) (one : IsAutomaton M) (two : IsAutomaton N) (cores : 
     transition_too s lt x c =
         let X = x.symbol in
         let g = prefix_of M s in
-        let state = one.each s (state_at M s) (there M s lt) in
+        let state = one.each s (state_at M s) (state_there M s lt) in
         let goes : goto_of M s X ≡ Some x.target
         = goes_by M s X lt ∙ target_at (state_at M s).transitions state.ordered x c in
         let leads : Reaches (goto_of M) 0 (X ∷ g) x.target = (s, one.numbered.leads s lt, goes) in
@@ -110,8 +106,8 @@ module _ (M N : Automaton) (one : IsAutomaton M) (two : IsAutomaton N) (cores : 
         let less : s < length N.states = omega (arith, lt, count) in
         let at : (state_at M s).prefix ≡ (state_at N s).prefix
         = sym (prefix_at M s lt) ∙ prefix_same s ∙ prefix_at N s less in
-        let is = ((one.each s (state_at M s) (there M s lt)).complete p).0 c in
-        ((two.each s (state_at N s) (there N s less)).complete p).1
+        let is = ((one.each s (state_at M s) (state_there M s lt)).complete p).0 c in
+        ((two.each s (state_at N s) (state_there N s less)).complete p).1
         (subst (λ G. IsComplete G (state_at N s).prefix p) (sym rules) (subst (λ g. IsComplete M.grammar g p) at is))
 
 less_once : (t u : Transition) → IsLess t.symbol u.symbol → IsLess u.symbol t.symbol → ⊥
@@ -137,8 +133,8 @@ automaton_is_one M N one two same = λ i. record { grammar = same i; states = st
       where
         state_one : (s : ℕ) → s < length M.states → s < length N.states → state_at M s ≡ state_at N s
         state_one s lt less =
-            let m = one.each s (state_at M s) (there M s lt) in
-            let n = two.each s (state_at N s) (there N s less) in
+            let m = one.each s (state_at M s) (state_there M s lt) in
+            let n = two.each s (state_at N s) (state_there N s less) in
             let prefix : (state_at M s).prefix ≡ (state_at N s).prefix
             = sym (prefix_at M s lt) ∙ prefix_same M N one two to prefixes_one s ∙ prefix_at N s less in
             let transitions : (state_at M s).transitions ≡ (state_at N s).transitions

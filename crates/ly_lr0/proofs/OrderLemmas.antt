@@ -1,10 +1,10 @@
 -- Orders: of symbols, of strings, and of items in lists.
-use Rattle.std.proofs.Common.{◌≡◌, inl, inr, suc, List, [], ◌∷◌, refl, sym, ◌∙◌, ap, subst, arith}
-use Rattle.std.specs.Prelude.{Contains, AllPairs}
+use Rattle.std.proofs.Common.{◌≡◌, inl, inr, List, [], ◌∷◌, sym, ◌∙◌, subst, arith}
+use Rattle.std.specs.Prelude.{Contains}
 use Rattle.std.specs.declared.cmp.Ordering.TheVariants.{Less}
 use Rattle.std.specs.Cmp.{IsTotalOrder}
 use Rattle.std.proofs.lemmas.Cmp.{nat_cmp_total, on_total, then_total}
-use Rattle.ly_base.proofs.MemberLemmas.{Contains-none, Contains-cons_cases, Contains-first, Contains-later}
+use Rattle.ly_base.proofs.ListLemmas.{rising_one}
 use Rattle.ly_join.specs.Grammar.{Symbol, nonterminal, terminal}
 use Rattle.ly_lr0.specs.declared.item.Item.{Item}
 use Rattle.ly_lr0.specs.Automaton.{ComesBefore, IsLess}
@@ -36,53 +36,15 @@ before_trans (X ∷ f) (Y ∷ g) (Z ∷ h) (inl a) (inr b) = inl (subst (ComesBe
 before_trans (X ∷ f) (Y ∷ g) (Z ∷ h) (inr a) (inl b) = inl (subst (λ w. ComesBefore w h) (sym a.0) b)
 before_trans (X ∷ f) (Y ∷ g) (Z ∷ h) (inr a) (inr b) = inr (a.0 ∙ b.0, less_trans X Y Z a.1 b.1)
 
--- no string comes before another that comes before it
+-- no string comes before itself
+pub not_before_itself : (g : List Symbol) → ComesBefore g g → ⊥
+not_before_itself [] a = a
+not_before_itself (X ∷ g) (inl a) = not_before_itself g a
+not_before_itself (X ∷ g) (inr a) = less_off X a.1
+
+-- or before another that comes before it
 pub before_off : (g h : List Symbol) → ComesBefore g h → ComesBefore h g → ⊥
-before_off g h a b = not_itself g (before_trans g h g a b)
-  where
-    not_itself : (g : List Symbol) → ComesBefore g g → ⊥
-    not_itself [] a = a
-    not_itself (X ∷ g) (inl a) = not_itself g a
-    not_itself (X ∷ g) (inr a) = less_off X a.1
-
-module _ {X : Type 0} (R : X → X → Type 0) (off : (x y : X) → R x y → R y x → ⊥) where
-  rest_of : (x : X) (xs : List X) → AllPairs R (x ∷ xs) → AllPairs R xs
-  rest_of x xs h i j d l m = h (suc i) (suc j) d (omega (arith, l)) (omega (arith, m))
-
-  first_before : (x : X) (xs : List X) (y : X) → AllPairs R (x ∷ xs) → Contains xs y → R x y
-  first_before x xs y h c = subst (R x) c.2 (h 0 (suc c.0) y (omega arith) (omega (arith, c.1)))
-
-  -- lists in rising order with the same members are one
-  pub rising_one : (xs ys : List X) → AllPairs R xs → AllPairs R ys → ((q : X) → Contains xs q → Contains ys q)
-      → ((q : X) → Contains ys q → Contains xs q) → xs ≡ ys
-  rising_one [] [] r s to back = refl
-  rising_one [] (y ∷ ys) r s to back = Contains-none y (back y (Contains-first y ys))
-  rising_one (x ∷ xs) [] r s to back = Contains-none x (to x (Contains-first x xs))
-  rising_one (x ∷ xs) (y ∷ ys) r s to back = ap (λ z. z ∷ xs) first ∙ ap (λ zs. y ∷ zs)
-      (rising_one xs ys (rest_of x xs r) (rest_of y ys s) onward backward)
-    where
-      first : x ≡ y
-      first = elim (Contains-cons_cases y ys x (to x (Contains-first x xs))) [
-        | inl same ↦ sym same
-        | inr later ↦ elim (Contains-cons_cases x xs y (back y (Contains-first y ys))) [
-          | inl same ↦ same
-          | inr after ↦ absurd (off x y (first_before x xs y r after) (first_before y ys x s later))
-        ]
-      ]
-
-      onward : (q : X) → Contains xs q → Contains ys q
-      onward q c = elim (Contains-cons_cases y ys q (to q (Contains-later x xs q c))) [
-        | inl same ↦ let less = subst (λ z. R z q) first (first_before x xs q r c) in
-            absurd (off y q less (subst (λ z. R q z) (sym same) (subst (λ z. R z q) same less)))
-        | inr later ↦ later
-      ]
-
-      backward : (q : X) → Contains ys q → Contains xs q
-      backward q c = elim (Contains-cons_cases x xs q (back q (Contains-later y ys q c))) [
-        | inl same ↦ let less = subst (λ z. R z q) (sym first) (first_before y ys q s c) in
-            absurd (off x q less (subst (λ z. R q z) (sym same) (subst (λ z. R z q) same less)))
-        | inr later ↦ later
-      ]
+before_off g h a b = not_before_itself g (before_trans g h g a b)
 
 pub item_total : IsTotalOrder item_cmp
 item_total = then_total (on_total (λ i. i.rule) nat_cmp_total) (on_total (λ i. i.dot) nat_cmp_total)

@@ -5,9 +5,11 @@ use Rattle.std.specs.Prelude.{Contains, fold, slice_get, slice_index_or, option_
 use Rattle.std.proofs.lemmas.Bool.{cases_Bool, eq-eqb, eqb-true}
 use Rattle.std.proofs.lemmas.List.{append_assoc, get_or-map, get_or_append_left, get_or_push, map_push, length-map}
 use Rattle.std.proofs.lemmas.List.{length_push}
+use Rattle.std.proofs.lemmas.Option.{slice_get-get_or}
 use Rattle.ly_base.proofs.MemberLemmas.{Contains-none, Contains-cons_cases, Contains-first, Contains-later}
 use Rattle.ly_join.specs.Grammar.{Grammar, Symbol, nonterminal, symbol_of, terminal}
-use Rattle.ly_lr0.specs.Automaton.{IsLess, State, Transition, goto_of, prefix_of, state_at, symbol_eq, target_of}
+use Rattle.ly_lr0.specs.Automaton.{Automaton, IsLess, State, Transition, goto_of, prefix_of, state_at, symbol_eq}
+use Rattle.ly_lr0.specs.Automaton.{target_of}
 use Rattle.ly_lr0.specs.declared.transition.Row.{Row}
 use Rattle.ly_lr0.specs.declared.transition.Link as link
 use Rattle.ly_join.specs.declared.symbol.Symbol as code
@@ -94,6 +96,10 @@ state_parts (p ∷ ps) (r ∷ rs) zero q e =
 state_parts (p ∷ ps) (r ∷ rs) (suc s) q e =
     let t = state_parts ps rs s q e in
     record { row = t.row; is_row = t.is_row; prefix = t.prefix; transitions = t.transitions; complete = t.complete }
+
+-- the state of a number is there
+pub state_there : (M : Automaton) (s : ℕ) → s < length M.states → slice_get M.states s ≡ Some (state_at M s)
+state_there M s lt = slice_get-get_or M.states s (record { prefix = []; transitions = []; complete = [] }) lt
 
 pub symbol_same : (X Y : Symbol) → symbol_eq X Y ≡ true → X ≡ Y
 symbol_same (terminal t) (terminal u) e = ap terminal (eqb-true t u e)

@@ -5,6 +5,7 @@ use Rattle.std.specs.Prelude.{◌↔◌, Contains, slice_index_or, slice_range}
 use Rattle.std.proofs.lemmas.Bool.{cases_lt}
 use Rattle.std.proofs.lemmas.List.{get_or_append_left, get_or_default, get_or_push, length_push}
 use Rattle.ly_base.proofs.MemberLemmas.{Contains-none}
+use Rattle.ly_base.specs.Keys.{IsAbsent}
 use Rattle.ly_join.specs.Grammar.{Grammar, IsAugmented, Symbol, nonterminal, symbol_of, terminal}
 use Rattle.ly_join.specs.declared.symbol.Symbol as code
 use Rattle.ly_join.specs.declared.symbol.Symbol.TheVariants.{Terminal, Nonterminal}
@@ -16,7 +17,7 @@ use Rattle.ly_lr0.specs.declared.item.Move.{Move}
 use Rattle.ly_lr0.specs.Private.Built.{AreFound, AreInOrder, IsNumbered, IsWholeRow, Leads, Link, link_at}
 use Rattle.ly_lr0.specs.Private.Closing.{AreMoves, IsGroupEnd}
 use Rattle.ly_lr0.specs.Private.Items.{IsBehind, IsMoved}
-use Rattle.ly_lr0.specs.Private.Kernels.{IsAbsent, kernel_at}
+use Rattle.ly_lr0.specs.Private.Kernels.{kernel_at}
 use Rattle.ly_lr0.proofs.BuiltLemmas.{found_more}
 use Rattle.ly_lr0.proofs.FinalLemmas.{more_cores}
 use Rattle.ly_lr0.proofs.GroupLemmas as group

@@ -1,5 +1,6 @@
 ghost use Rattle.std.specs.Prelude.{◌≡◌, ◌<◌, ◌≤◌, ◌++◌, ℕ, [], ◌∷◌, length, map, slice_index_or, AllPairs};
 ghost use Rattle.std.specs.Prelude.{IfOk, IsErrOf, OnOk};
+ghost use Rattle.ly_base.specs.Keys.{IsAbsent};
 ghost use Rattle.ly_join.specs.Grammar.{IsAugmented};
 ghost use Rattle.ly_grammar.specs.Derivations.{IsReduced};
 ghost use Rattle.ly_grammar.specs.Items.{HasMoreCores};
@@ -7,7 +8,7 @@ ghost use Rattle.ly_lr0.specs.Private.Built.{AreFound, IsNumbered, IsWholeRow, l
 ghost use Rattle.ly_lr0.specs.Private.Found.{IsFound, links_of, with_row};
 ghost use Rattle.ly_lr0.specs.Private.Closing.{AreMoves, IsGroupEnd};
 ghost use Rattle.ly_lr0.specs.Private.Items.{AreRising};
-ghost use Rattle.ly_lr0.specs.Private.Kernels.{IsAbsent, KeepsKernels, kernel_at};
+ghost use Rattle.ly_lr0.specs.Private.Kernels.{KeepsKernels, kernel_at};
 ghost use Rattle.ly_lr0.specs.Transitions.{transition_of};
 
 use crate::fault::Lr0Fault;

@@ -1,5 +1,5 @@
 ghost use Rattle.std.specs.Prelude.{◌≡◌, ◌<◌, ◌++◌, [], ◌∷◌, length, slice_index_or, MatchOption, OnOk};
-ghost use Rattle.ly_lr0.specs.Private.Kernels.{IsAbsent};
+ghost use Rattle.ly_base.specs.Keys.{IsAbsent};
 
 use crate::item::Item;
 use indexmap::IndexSet;

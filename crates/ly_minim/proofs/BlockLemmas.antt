@@ -6,12 +6,13 @@ use Rattle.std.specs.Prelude.{option_map, option_and_then}
 use Rattle.std.proofs.lemmas.Bool.{cases_eq, cases_lt}
 use Rattle.std.proofs.lemmas.List.{append-nil, get_or_append_left, get_or_push, length-append, length_push}
 use Rattle.ly_subset.specs.Automaton.{Automaton, IsAutomaton, IsTrim, next_by_class, next_of, rule_after, rule_of}
-use Rattle.ly_subset.specs.Keys.{IsAbsent}
+use Rattle.ly_base.specs.Keys.{IsAbsent}
+use Rattle.ly_base.proofs.PigeonholeLemmas.{pigeonhole}
 use Rattle.ly_minim.specs.Smallest.{Distinguished}
 use Rattle.ly_minim.specs.Private.Blocks.{AreApart, AreBlocks, IsNamed, IsRefined, IsStable}
 use Rattle.ly_minim.specs.Private.Signature.{block_after, block_of, signature_of}
 use Rattle.ly_minim.proofs.SignatureLemmas.{seen_from, seen_to}
-use Rattle.ly_minim.proofs.WalkLemmas.{ended, pigeonhole}
+use Rattle.ly_minim.proofs.WalkLemmas.{ended}
 
 module _ (A : Automaton) (of finer : List ℕ) (count more : ℕ) (before : AreBlocks (length A.rules) of count)
     (after : AreBlocks (length A.rules) finer more) (refined : IsRefined A of finer) where

@@ -4,11 +4,11 @@ use Rattle.std.proofs.Common.{Option, Some, None}
 use Rattle.std.proofs.Common.{sym, ap, refl, subst, arith, inl, inr, get_or}
 use Rattle.std.proofs.lemmas.Bool.{cases_eq, cases_lt}
 use Rattle.std.proofs.lemmas.List.{get_or_append_left, get_or_push, length_push}
+use Rattle.ly_base.proofs.PigeonholeLemmas.{pigeonhole}
 use Rattle.ly_subset.specs.Automaton.{entry_at}
 use Rattle.ly_minim.specs.Private.Groups.{AreChains, AreGrouped, past}
 use Rattle.ly_minim.specs.Private.Partition.{AreTouched, HasSameBlocks, IsClear, IsLaid, IsMarked, IsMarking, home}
 use Rattle.ly_minim.specs.declared.partition.Partition.{Partition}
-use Rattle.ly_minim.proofs.WalkLemmas.{pigeonhole}
 
 -- there are as many blocks as states, or fewer
 pub few : (n : ℕ) (states place of first middle end : List ℕ) → IsLaid n states place of first middle end

@@ -17,6 +17,7 @@ use Rattle.ly_subset.specs.Automaton.{rule_after, rule_of}
 use Rattle.ly_subset.specs.Automaton.{start_of, start_place, state_after}
 use Rattle.ly_base.specs.Entry.{target_of}
 use Rattle.ly_base.specs.declared.entry.Entry.{Entry}
+use Rattle.ly_base.proofs.PigeonholeLemmas.{pigeonhole}
 use Rattle.ly_subset.proofs.OrderLemmas.{each_entry, order_more, order_none}
 use Rattle.ly_minim.specs.Smallest.{HaveSameRules, IsReduced}
 use Rattle.ly_minim.specs.Private.Blocks.{AreApart, IsStable}
@@ -25,7 +26,6 @@ use Rattle.ly_minim.specs.Private.Quotient.{pick_of, targets_of}
 use Rattle.ly_minim.specs.Private.Rules.{HaveRules}
 use Rattle.ly_minim.specs.Private.Signature.{block_of}
 use Rattle.ly_minim.specs.declared.quotient.Quotient.{Quotient}
-use Rattle.ly_minim.proofs.WalkLemmas.{pigeonhole}
 
 -- there are no more numbers than blocks
 pub picked_few : (of : List ℕ) (count : ℕ) (numbers : List (Option ℕ)) (picked : List ℕ)

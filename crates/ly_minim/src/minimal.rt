@@ -15,7 +15,8 @@ pub fn minimise(alloc: Global, dfa: Dfa) -> Result<Dfa, OutOfMemory>
     ensures same { IfOk result (HaveSameRules dfa) }
     ensures reduced { IsTrim dfa → IfOk result IsReduced }
     ensures order { IfOk result IsBreadthFirst }
-    ensures classes { IfOk result (λ d. d.class_of ≡ dfa.class_of) }
+    ensures class_of { IfOk result (λ d. d.class_of ≡ dfa.class_of) }
+    ensures classes { IfOk result (λ d. d.classes ≡ dfa.classes) }
     ensures starts { IfOk result (λ d. d.starts ≡ dfa.starts) }
 {
     let blocks = coarsest(alloc, &dfa)?;

@@ -4,6 +4,7 @@ pub mod PassLemmas
 pub mod PayingLemmas
 pub mod ReduceLemmas
 pub mod SettleLemmas
+pub mod SettlingLemmas
 pub mod ShortcutLemmas
 pub mod StackLemmas
 pub mod TakeLemmas

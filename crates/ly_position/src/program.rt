@@ -1,8 +1,9 @@
-ghost use Rattle.std.specs.Prelude.{◌≡◌, ℕ, ◌+◌, ◌^◌, ◌<◌, ◌≤◌, List, ◌∷◌, ◌++◌, length, map, reverse, sum_by, All};
-ghost use Rattle.std.specs.Prelude.{IfOk, IfSome, OnOk};
+ghost use Rattle.std.specs.Prelude.{◌≡◌, ℕ, ◌+◌, ◌^◌, ◌<◌, ◌≤◌, List, ◌∷◌, ◌++◌, length, map, min, reverse};
+ghost use Rattle.std.specs.Prelude.{sum_by, All, IfOk, OnOk};
 ghost use Rattle.ly_ere.specs.Arena.{part_of, FitsAt};
 ghost use Rattle.ly_position.specs.Private.Plain.{IsPlainPart, listed};
-ghost use Rattle.ly_position.specs.Private.Program.{code, ends, entry, node_size, IsPlainExpression, size, steps_of};
+ghost use Rattle.ly_position.specs.Private.Program.{code, counted, ends, entry, most_counted, node_size, size};
+ghost use Rattle.ly_position.specs.Private.Program.{steps_of, IsPlainExpression};
 ghost use Rattle.ly_position.specs.Private.Compile.{IsProgram, TaskFits, planned, task_work, work};
 
 use crate::plain::Plain;
@@ -46,9 +47,21 @@ pub enum Task {
 struct Measured<'a> {
     /// The expressions.
     plain: &'a Plain,
-    /// The sizes of their code.
+    /// The sizes of their code, which stop at the greatest number: an expression that no rule uses may be written out
+    /// to code of any size, as `(((a{255}){255}){255}){0}` is.
     sizes: &'a [usize],
-    ghost measured: { sizes.now ≡ map size plain.now },
+    ghost measured: { sizes.now ≡ map counted plain.now },
+}
+
+impl Measured<'_> {
+    /// How many instructions the code of an expression has, of which there are no more than numbers.
+    fn size(&self, part: usize) -> usize
+        requires part { part < length self.now.plain.now }
+        requires room { size (part_of self.now.plain.now part) < 2 ^ 64 }
+        ensures { result ≡ size (part_of self.now.plain.now part) }
+    {
+        self.sizes[part]
+    }
 }
 
 /// Compiles a plan: for each rule its end, and before it, in the direction of reading, its code.
@@ -161,12 +174,12 @@ fn append_node(
     match source.plain.node(part) {
         Node::Set(bytes) => Ok(instructions.push(Instruction::Read(bytes, next))?),
         Node::Concat(a, b) => {
-            let middle = entry_at(base, source.sizes[b], next);
+            let middle = entry_at(base, source.size(b), next);
             tasks.extend_from_slice(&[Task::Code(a, middle), Task::Code(b, next)])
         }
         Node::Either(a, b) => {
-            let first = entry_at(base, source.sizes[a], next);
-            let second = entry_at(base + source.sizes[a], source.sizes[b], next);
+            let first = entry_at(base, source.size(a), next);
+            let second = entry_at(base + source.size(a), source.size(b), next);
             tasks.extend_from_slice(&[
                 Task::Fork(first, second),
                 Task::Code(b, next),
@@ -174,17 +187,17 @@ fn append_node(
             ])
         }
         Node::Star(a) => {
-            let fork = base + source.sizes[a];
-            let first = entry_at(base, source.sizes[a], fork);
+            let fork = base + source.size(a);
+            let first = entry_at(base, source.size(a), fork);
             tasks.extend_from_slice(&[Task::Fork(first, next), Task::Code(a, fork)])
         }
         Node::Plus(a) => {
-            let first = entry_at(base + 1, source.sizes[a], base);
+            let first = entry_at(base + 1, source.size(a), base);
             instructions.push(Instruction::Fork(first, next))?;
             tasks.extend_from_slice(&[Task::Code(a, base)])
         }
         Node::Optional(a) => {
-            let first = entry_at(base, source.sizes[a], next);
+            let first = entry_at(base, source.size(a), next);
             tasks.extend_from_slice(&[Task::Fork(first, next), Task::Code(a, next)])
         }
         Node::Empty | Node::Repeat { .. } | Node::Name(_) => Ok(()),
@@ -199,28 +212,28 @@ fn entry_at(base: usize, size: usize, next: usize) -> usize
     if size == 0 { next } else { base + size - 1 }
 }
 
-/// How many instructions the code of each expression has.
+/// How many instructions the code of each expression has, as they are counted.
 fn sizes(alloc: Global, plain: &Plain) -> Result<Vec<usize>, AllocError>
-    ensures sizes { IfOk result (λ ss. ss.items ≡ map size plain.now) }
+    ensures sizes { IfOk result (λ ss. ss.items ≡ map counted plain.now) }
     ensures plain { OnOk result (All IsPlainExpression plain.now) }
 {
     let mut sizes = Vec::new(alloc);
     for number in 0..plain.len() {
-        let size = size_of_node(plain.node(number), &sizes).ok_or(AllocError)?;
-        sizes.push(size)?;
+        sizes.push(counted_size(plain.node(number), &sizes))?;
     }
     Ok(sizes)
 }
 
-fn size_of_node(node: Node, sizes: &[usize]) -> Option<usize>
+/// How many instructions the code of a node has, by those of the nodes before it.
+fn counted_size(node: Node, sizes: &[usize]) -> usize
     requires { FitsAt (length sizes.now) node }
-    ensures { IfSome result (λ n. n ≡ node_size sizes.now node) }
+    ensures { result ≡ min (node_size sizes.now node) most_counted }
 {
     match node {
-        Node::Set(_) => Some(1),
-        Node::Concat(a, b) => sizes[a].checked_add(sizes[b]),
-        Node::Either(a, b) => sizes[a].checked_add(sizes[b])?.checked_add(1),
-        Node::Star(a) | Node::Plus(a) | Node::Optional(a) => sizes[a].checked_add(1),
-        Node::Empty | Node::Repeat { .. } | Node::Name(_) => Some(0),
+        Node::Set(_) => 1,
+        Node::Concat(a, b) => sizes[a].saturating_add(sizes[b]),
+        Node::Either(a, b) => sizes[a].saturating_add(sizes[b]).saturating_add(1),
+        Node::Star(a) | Node::Plus(a) | Node::Optional(a) => sizes[a].saturating_add(1),
+        Node::Empty | Node::Repeat { .. } | Node::Name(_) => 0,
     }
 }

@@ -9,6 +9,7 @@ use Rattle.ly_join.specs.Grammar.{Symbol, nonterminal, symbol_of, terminal}
 use Rattle.ly_lr0.specs.Automaton.{Automaton, IsAutomaton, Transition, goto_of, state_at}
 use Rattle.ly_lr0.specs.Transitions.{transition_of}
 use Rattle.ly_lr0.specs.declared.transition.Transition as code
+use Rattle.ly_lr0.proofs.StateLemmas.{target_some}
 use Rattle.ly_relate.specs.Private.Direct.{IsShiftedBehind, read_over, row_reads}
 use Rattle.ly_relate.specs.Private.Gotos.{IsNumbering, Numbering}
 use Rattle.std.proofs.lemmas.Bool.{cases_order}
@@ -17,7 +18,7 @@ use Rattle.ly_relate.specs.Relations.{DirectlyReads, Leaves}
 use Rattle.ly_relate.specs.Related.{AreDirect, DirectRead, Goto}
 use Rattle.ly_relate.proofs.GotoLemmas.{are_ordered, goto_at, has_target, nowhere, numbered_are, numbered_states}
 use Rattle.ly_relate.proofs.GotoLemmas.{shown_more}
-use Rattle.ly_relate.proofs.GotoLemmas.{target_has, transition_is}
+use Rattle.ly_relate.proofs.GotoLemmas.{transition_is}
 use Rattle.ly_relate.proofs.LeaveLemmas.{end_from, end_leaves, leaves_end, leaves_shift, shift_leaves}
 
 -- what one more transition adds
@@ -85,7 +86,7 @@ state_leads M is s lt X r =
     let same = goto_at M s (state_at M s) X here in (
       (λ has. same ∙ has_target (state_at M s).transitions (record { symbol = X; target = r })
           (are_ordered M is s (state_at M s) here) has),
-      (λ e. target_has (state_at M s).transitions X r (sym same ∙ e)),
+      (λ e. target_some (state_at M s).transitions X r (sym same ∙ e)),
     )
 
 pub shifted_more : (n : Numbering) (k : ℕ) (x : Goto) (old new : List DirectRead) → IsNumbering n

@@ -1,19 +1,20 @@
 -- Nonterminal transitions, numbered state by state.
-use Rattle.std.proofs.Common.{◌≡◌, ◌∙◌, ◌⊎◌, inl, inr, ℕ, zero, suc, ◌+◌, ◌<◌, ◌≤◌, List, [], ◌∷◌, ◌++◌, Bool, true}
+use Rattle.std.proofs.Common.{◌≡◌, ◌∙◌, ◌⊎◌, inl, inr, ℕ, zero, suc, ◌+◌, ◌<◌, ◌≤◌, List, [], ◌∷◌, ◌++◌}
 use Rattle.std.proofs.Common.{map, Option, ◌↔◌, append_assoc, append-nil, slice_index_or, false, rules, Some, None}
 use Rattle.std.proofs.Common.{arith, refl, sym, ap, subst, length, slice_get, take, drop, Contains}
-use Rattle.std.specs.Prelude.{if◌then◌else◌, option_and_then}
+use Rattle.std.specs.Prelude.{option_and_then}
 use Rattle.std.proofs.lemmas.List.{get_or_append_left, get_or_default, length-append, length-map, map-append, take_more}
 use Rattle.std.proofs.lemmas.List.Elements.{Contains-append_cases, Contains-append_left}
-use Rattle.std.proofs.lemmas.List.Elements.{All-contains_itself, All-weaker, Contains-append_right}
+use Rattle.std.proofs.lemmas.List.Elements.{Contains-append_right}
 use Rattle.std.proofs.lemmas.Bool.{cases_order}
-use Rattle.std.proofs.lemmas.List.Kept.{AllPairs-cons}
 use Rattle.std.proofs.lemmas.Option.{get_or_from_slice_get, slice_get-get_or, slice_get_within}
 use Rattle.std.specs.List.{AllPairs}
 use Rattle.ly_base.proofs.MemberLemmas.{Contains-none, Contains-one, Contains-first, Contains-later}
 use Rattle.ly_base.proofs.MemberLemmas.{Contains-cons_cases}
+use Rattle.ly_base.proofs.ListLemmas.{AllPairs-append, AllPairs-head, AllPairs-nil, AllPairs-one, AllPairs-tail}
 use Rattle.ly_join.specs.Grammar.{Symbol, nonterminal, symbol_of, terminal}
 use Rattle.ly_join.specs.declared.symbol.Symbol.TheVariants.{Terminal}
+use Rattle.ly_join.proofs.ListLemmas.{member_at, placed}
 use Rattle.ly_lr0.specs.Automaton.{Automaton, IsAutomaton, IsLess, State, Transition, goto_of, state_at, symbol_eq}
 use Rattle.ly_lr0.specs.Automaton.{target_of}
 use Rattle.std.proofs.Math.Seq.{get_or-append_seam}
@@ -23,34 +24,9 @@ use Rattle.ly_relate.specs.declared.gotos.Goto as goto
 use Rattle.ly_relate.specs.Private.Gotos.{IsNumbering, Numbering, count_before, goto_over, gotos_from, row_gotos}
 use Rattle.ly_lr0.specs.Transitions.{transition_of}
 use Rattle.ly_lr0.specs.declared.transition.Transition as code
+use Rattle.ly_lr0.proofs.StateLemmas.{target_some, symbol_eq-self}
 use Rattle.ly_relate.specs.Related.{AreGotos, Goto}
 use Rattle.ly_relate.proofs.LeaveLemmas.{symbol_named}
-
--- what stands at a place is a member
-pub at_Contains : {X : Type 0} (xs : List X) (n : ℕ) (x : X) → slice_get xs n ≡ Some x → Contains xs x
-at_Contains [] n x is = absurd (cc)
-at_Contains (y ∷ xs) zero x is = let e : y ≡ x = cc in subst (Contains (y ∷ xs)) e (Contains-first y xs)
-at_Contains (y ∷ xs) (suc n) x is = Contains-later y xs x (at_Contains xs n x is)
-
--- and a member stands at a place
-pub Contains_at : {X : Type 0} (xs : List X) (x : X) → Contains xs x → (n : ℕ) × (slice_get xs n ≡ Some x)
-Contains_at [] x is = Contains-none x is
-Contains_at (y ∷ xs) x is = elim (Contains-cons_cases y xs x is) [
-  | inl e ↦ (zero, ap (λ z. Some z) e)
-  | inr later ↦ let at = Contains_at xs x later in (suc (at.0), at.1)
-]
-
--- a symbol is itself
-same_symbol : (X : Symbol) → symbol_eq X X ≡ true
-same_symbol (terminal t) = search rules
-same_symbol (nonterminal A) = search rules
-
--- symbols that are the same
-symbols_same : (X Y : Symbol) → symbol_eq X Y ≡ true → X ≡ Y
-symbols_same (terminal t) (terminal u) e = search rules
-symbols_same (terminal t) (nonterminal B) e = absurd (cc)
-symbols_same (nonterminal A) (terminal u) e = absurd (cc)
-symbols_same (nonterminal A) (nonterminal B) e = search rules
 
 -- a lesser symbol is another one
 less_differs : (X Y : Symbol) → IsLess X Y → symbol_eq X Y ≡ false
@@ -59,13 +35,6 @@ less_differs (terminal t) (nonterminal B) lt = refl
 less_differs (nonterminal A) (terminal u) lt = absurd lt
 less_differs (nonterminal A) (nonterminal B) lt = search rules
 
-AllPairs-head : {X : Type 0} (R : X → X → Type 0) (x y : X) (xs : List X) → AllPairs R (x ∷ xs) → Contains xs y → R x y
-AllPairs-head R x y xs pairs (k, lt, is) =
-    subst (R x) is (pairs 0 (suc k) y (omega arith) (omega (arith, lt)))
-
-AllPairs-tail : {X : Type 0} (R : X → X → Type 0) (x : X) (xs : List X) → AllPairs R (x ∷ xs) → AllPairs R xs
-AllPairs-tail R x xs pairs = λ i j d lt inside. pairs (suc i) (suc j) d (omega (arith, lt)) (omega (arith, inside))
-
 -- a transition is its symbol and where it leads
 pub transition_is : (t : Transition) (X : Symbol) (r : ℕ) → t.symbol ≡ X → t.target ≡ r
     → t ≡ record { symbol = X; target = r }
@@ -73,25 +42,12 @@ transition_is t X r a b =
     let at : Symbol → ℕ → Transition = λ Y n. record { symbol = Y; target = n } in
     ap (λ Y. at Y t.target) a ∙ ap (at X) b
 
--- where the transition over a symbol leads is said by one of the transitions
-pub target_has : (ts : List Transition) (X : Symbol) (r : ℕ) → target_of ts X ≡ Some r
-    → Contains ts (record { symbol = X; target = r })
-target_has [] X r e = absurd (cc)
-target_has (t ∷ ts) X r e = at (symbol_eq t.symbol X) refl e (target_has ts X r) where
-  at : (b : Bool) → symbol_eq t.symbol X ≡ b → (if b then Some t.target else target_of ts X) ≡ Some r
-      → (target_of ts X ≡ Some r → Contains ts (record { symbol = X; target = r }))
-      → Contains (t ∷ ts) (record { symbol = X; target = r })
-  at true same e later =
-      let target : t.target ≡ r = cc in
-      subst (Contains (t ∷ ts)) (transition_is t X r (symbols_same t.symbol X same) target) (Contains-first t ts)
-  at false other e later = Contains-later t ts (record { symbol = X; target = r }) (later e)
-
--- and where symbols rise, each of them says it
+-- where symbols rise, each transition says where its symbol leads
 pub has_target : (ts : List Transition) (t : Transition) → AllPairs (λ t u. IsLess t.symbol u.symbol) ts → Contains ts t
     → target_of ts t.symbol ≡ Some t.target
 has_target [] t ordered is = Contains-none t is
 has_target (u ∷ ts) t ordered is = elim (Contains-cons_cases u ts t is) [
-  | inl e ↦ subst (λ v. target_of (u ∷ ts) v.symbol ≡ Some v.target) e (rw (same_symbol u.symbol) refl)
+  | inl e ↦ subst (λ v. target_of (u ∷ ts) v.symbol ≡ Some v.target) e (rw (symbol_eq-self u.symbol) refl)
   | inr later ↦
       rw (less_differs u.symbol t.symbol (AllPairs-head (λ t u. IsLess t.symbol u.symbol) u t ts ordered later))
       (has_target ts t (AllPairs-tail (λ t u. IsLess t.symbol u.symbol) u ts ordered) later)
@@ -179,22 +135,6 @@ from_has k (p ∷ states) (suc n) q A r is has =
 abbrev pub GotoIsLess : Goto → Goto → Type 0
 GotoIsLess x y = (x.from < y.from) ⊎ ((x.from ≡ y.from) × (x.symbol < y.symbol))
 
-AllPairs-nil : {X : Type 0} (R : X → X → Type 0) → AllPairs R []
-AllPairs-nil R = λ i j d lt inside. absurd (omega (arith, inside))
-
-AllPairs-one : {X : Type 0} (R : X → X → Type 0) (x : X) → AllPairs R (x ∷ [])
-AllPairs-one R x = λ i j d lt inside. absurd (omega (arith, lt, inside))
-
-AllPairs-append : {X : Type 0} (R : X → X → Type 0) (xs ys : List X) → AllPairs R xs → AllPairs R ys
-    → ((x y : X) → Contains xs x → Contains ys y → R x y) → AllPairs R (xs ++ ys)
-AllPairs-append R [] ys a b across = b
-AllPairs-append R (x ∷ xs) ys a b across = AllPairs-cons R x (xs ++ ys)
-    (All-weaker (Contains (xs ++ ys)) (R x) (λ y is. elim (Contains-append_cases xs ys y is) [
-      | inl here ↦ AllPairs-head R x y xs a here
-      | inr there ↦ across x y (Contains-first x xs) there
-    ]) (xs ++ ys) (All-contains_itself (xs ++ ys)))
-    (AllPairs-append R xs ys (AllPairs-tail R x xs a) b (λ z y is there. across z y (Contains-later x xs z is) there))
-
 over_pairs : (s : ℕ) (X : Symbol) (r : ℕ) → AllPairs GotoIsLess (goto_over s X r)
 over_pairs s (terminal t) r = AllPairs-nil GotoIsLess
 over_pairs s (nonterminal A) r = AllPairs-one GotoIsLess (record { from = s; symbol = A; target = r })
@@ -261,7 +201,7 @@ split_at (y ∷ xs) (suc n) x is =
 three_parts : {X : Type 0} (xs ys zs : List X) (n : ℕ) (x : X) → slice_get (xs ++ (ys ++ zs)) n ≡ Some x
     → ((n < length xs) × Contains xs x) ⊎ (((length xs ≤ n) × (n < length xs + length ys) × Contains ys x)
     ⊎ ((length xs + length ys ≤ n) × Contains zs x))
-three_parts [] [] zs n x is = inr (inr (omega arith, at_Contains zs n x is))
+three_parts [] [] zs n x is = inr (inr (omega arith, member_at zs n x is))
 three_parts [] (y ∷ ys) zs zero x is = let e : y ≡ x = cc in
     inr (inl (omega arith, omega arith, subst (Contains (y ∷ ys)) e (Contains-first y ys)))
 three_parts [] (y ∷ ys) zs (suc n) x is = elim (three_parts [] ys zs n x is) [
@@ -385,7 +325,7 @@ are_gotos M is = record { are = are; all = all; once = λ n m x. once_in (gotos_
   are : (n : ℕ) (x : Goto) → slice_get (gotos_from 0 M.states) n ≡ Some x
       → goto_of M x.from (nonterminal x.symbol) ≡ Some x.target
   are n x at =
-      let of = from_member 0 M.states x (at_Contains (gotos_from 0 M.states) n x at) in
+      let of = from_member 0 M.states x (member_at (gotos_from 0 M.states) n x at) in
       let from : x.from ≡ of.place = (let e = of.from in omega (arith, e)) in
       ap (λ k. goto_of M k (nonterminal x.symbol)) from ∙ goto_at M of.place of.state (nonterminal x.symbol) of.is
       ∙ has_target of.state.transitions (record { symbol = nonterminal x.symbol; target = x.target })
@@ -395,16 +335,16 @@ are_gotos M is = record { are = are; all = all; once = λ n m x. once_in (gotos_
       → (n : ℕ) × (slice_get (gotos_from 0 M.states) n ≡ Some (record { from = p; symbol = A; target = r }))
   all p A r e =
       let of = leads_from M p (nonterminal A) r e in
-      Contains_at (gotos_from 0 M.states) (record { from = p; symbol = A; target = r })
+      placed (gotos_from 0 M.states) (record { from = p; symbol = A; target = r })
       (subst (λ k. Contains (gotos_from 0 M.states) (record { from = k; symbol = A; target = r }))
       (let sum : 0 + p ≡ p = omega arith in sum)
-      (from_has 0 M.states p of.0 A r of.1 (target_has of.0.transitions (nonterminal A) r of.2)))
+      (from_has 0 M.states p of.0 A r of.1 (target_some of.0.transitions (nonterminal A) r of.2)))
 
 -- a transition leads to a state, from one
 pub goto_states : (M : Automaton) → IsAutomaton M → (n : ℕ) (x : Goto) → slice_get (gotos_from 0 M.states) n ≡ Some x
     → (x.from < length M.states) × (x.target < length M.states)
 goto_states M is n x at =
-    let of = from_member 0 M.states x (at_Contains (gotos_from 0 M.states) n x at) in
+    let of = from_member 0 M.states x (member_at (gotos_from 0 M.states) n x at) in
     let lt = slice_get_within M.states of.place of.state of.is in
     let from = of.from in (
       omega (arith, lt, from),

@@ -1,21 +1,16 @@
 -- What leaves a state: the terminals of its transitions, and the end behind the start symbol.
 use Rattle.std.proofs.Common.{◌≡◌, ◌≢◌, ◌∙◌, inl, inr, ℕ, zero, suc, List, [], ◌∷◌, ◌++◌, All, Some, arith}
 use Rattle.std.proofs.Common.{refl, sym, ap, subst, ◌≤◌, ◌<◌}
-use Rattle.std.proofs.lemmas.List.Elements.{All-head, All-tail}
+use Rattle.std.proofs.lemmas.List.Elements.{All-head}
 use Rattle.ly_join.specs.Grammar.{Grammar, IsAugmented, IsRule, Rule, Symbol, SymbolWithin, accept_rule, nonterminal}
 use Rattle.ly_join.specs.Grammar.{terminal}
 use Rattle.ly_grammar.specs.Derivations.{IsReduced}
 use Rattle.ly_grammar.specs.Items.{HasNoEnd, IsNextSymbol, Valid, at_start, closed, moved, onto}
-use Rattle.ly_grammar.proofs.ItemLemmas.{body_of, closes, read_on, zero_item}
+use Rattle.ly_grammar.proofs.ItemLemmas.{All-onto, body_of, closes, read_on, zero_item}
 use Rattle.ly_grammar.proofs.SearchLemmas.{rule_is_one}
 use Rattle.ly_lr0.specs.Automaton.{Gotos, HasCores, Reaches}
 use Rattle.ly_relate.specs.Relations.{Leaves}
 use Rattle.ly_relate.proofs.ReachLemmas.{Reaches-split, Reaches_one, apart, back}
-
--- what all symbols of a body meet, those at its end do
-all_onto : (P : Symbol → Type 0) (before w : List Symbol) → All P (onto before w) → All P w
-all_onto P [] w all = all
-all_onto P (X ∷ before) w all = All-tail P X w (all_onto P before (X ∷ w) all)
 
 -- a symbol of a rule, but of rule 0, is one that rules may name
 pub symbol_within : {G : Grammar} {p : ℕ} {r : Rule} (before after : List Symbol) (X : Symbol) → IsAugmented G
@@ -23,7 +18,7 @@ pub symbol_within : {G : Grammar} {p : ℕ} {r : Rule} (before after : List Symb
 symbol_within {G} {p} {r} before after X augmented is le e =
     let all = (augmented.within p r is le).body in
     let within = SymbolWithin G.terminals G.accept in
-    All-head within X after (all_onto within before (X ∷ after) (subst (All within) (sym e) all))
+    All-head within X after (All-onto within before (X ∷ after) (subst (All within) (sym e) all))
 
 -- no item has the whole text behind its dot
 pub no_accept : {G : Grammar} {g : List Symbol} {p : ℕ} {before after : List Symbol} {t : ℕ} → IsAugmented G

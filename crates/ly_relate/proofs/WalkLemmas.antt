@@ -21,7 +21,8 @@ use Rattle.std.proofs.Math.Seq.{get_or-append_seam}
 use Rattle.std.proofs.lemmas.List.{get_or_append_left, length-append}
 use Rattle.ly_base.specs.Trees.{Tree, leaf, node, none, more, yield_of, yields_of}
 use Rattle.ly_grammar.specs.Derivations.{IsTree}
-use Rattle.ly_relate.proofs.GotoLemmas.{leads_from, split_at, target_has}
+use Rattle.ly_lr0.proofs.StateLemmas.{target_some}
+use Rattle.ly_relate.proofs.GotoLemmas.{leads_from, split_at}
 use Rattle.ly_relate.proofs.ReachLemmas.{left_empty, nullable_tree, right_empty}
 
 -- symbols, last first, in front of others are these in their order, and then the others
@@ -96,7 +97,7 @@ pub leads_to : (M : Automaton) → IsAutomaton M → (s : ℕ) (X : Symbol) (t :
     → t < length M.states
 leads_to M is s X t e =
     let of = leads_from M s X t e in
-    (is.each s of.0 of.1).within (record { symbol = X; target = t }) (target_has of.0.transitions X t of.2)
+    (is.each s of.0 of.1).within (record { symbol = X; target = t }) (target_some of.0.transitions X t of.2)
 
 -- a nullable symbol in front of nullable ones
 pub nullable_cons : (G : Grammar) (X : Symbol) (w : List Symbol) → IsNullable G (X ∷ []) → IsNullable G w

@@ -2,14 +2,14 @@
 use Rattle.std.proofs.Common.{◌≡◌, ℕ, zero, suc, ◌<◌, List, [], ◌∷◌, All, map, refl, sym, ap, subst, arith}
 use Rattle.std.proofs.Common.{length, get_or}
 use Rattle.std.specs.Prelude.{Contains}
-use Rattle.std.proofs.lemmas.List.Elements.{All-cons, All-head, All-nil, All-tail}
+use Rattle.std.proofs.lemmas.List.Elements.{All-cons, All-head, All-nil}
 use Rattle.std.proofs.lemmas.List.{length-map}
 use Rattle.ly_join.specs.Grammar.{Grammar, IsGrammar, Symbol}
 use Rattle.ly_join.specs.Joined.{Spec}
 use Rattle.ly_join.specs.Sizes.{HasSizes}
-use Rattle.ly_grammar.specs.Items.{Valid, at_start, closed, moved, onto}
+use Rattle.ly_grammar.specs.Items.{Valid, at_start, closed, moved}
 use Rattle.ly_grammar.specs.Reduction.{KeepsUseful}
-use Rattle.ly_grammar.proofs.ItemLemmas.{body_of}
+use Rattle.ly_grammar.proofs.ItemLemmas.{All-onto, body_of}
 use Rattle.ly_lr0.specs.Automaton.{Automaton}
 use Rattle.ly_resolve.specs.Actions.{Judge}
 use Rattle.ly_resolve.specs.Conflicts as spec
@@ -18,11 +18,6 @@ use Rattle.ly_resolve.specs.Values.{IsInside, conflict_from, kind_from}
 use Rattle.ly_resolve.specs.declared.conflict.Conflict.{Conflict}
 use Rattle.ly_report.specs.Private.Symbols.{IsNamed, IsTellable}
 use Rattle.ly_report.proofs.NameLemmas.{body_named}
-
--- what all symbols of a string meet, those at its end do
-onto_all : (P : Symbol → Type 0) (before w : List Symbol) → All P (onto before w) → All P w
-onto_all P [] w all = all
-onto_all P (X ∷ before) w all = All-tail P X w (onto_all P before (X ∷ w) all)
 
 module _ (s : Spec) (sizes : HasSizes s) (is : IsGrammar s.grammar) (R : Grammar) (keeps : KeepsUseful s.grammar R)
   where
@@ -35,7 +30,7 @@ module _ (s : Spec) (sizes : HasSizes s) (is : IsGrammar s.grammar) (R : Grammar
         let body = body_of v in
         let rule = ((keeps.rules p body.0).0 body.1).0 in
         let named = subst (All (IsNamed s)) (sym body.2) (body_named s sizes is p body.0 rule) in
-        All-cons (IsNamed s) X g (All-head (IsNamed s) X after (onto_all (IsNamed s) before (X ∷ after) named))
+        All-cons (IsNamed s) X g (All-head (IsNamed s) X after (All-onto (IsNamed s) before (X ∷ after) named))
         (valid_named v)
 
 -- the conflicts of a specification can be printed

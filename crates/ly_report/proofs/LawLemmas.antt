@@ -2,21 +2,16 @@
 use Rattle.std.proofs.Common.{◌≡◌, ◌∙◌, inl, inr, ℕ, suc, ◌<◌, List, [], ◌∷◌, ◌++◌, Option, Some, None, refl, sym, ap}
 use Rattle.std.proofs.Common.{subst, arith, length, slice_get}
 use Rattle.std.specs.Prelude.{◌↔◌}
-use Rattle.ly_join.specs.Grammar.{Grammar, Rule, Symbol}
+use Rattle.ly_base.proofs.ListLemmas.{rising_one}
+use Rattle.ly_join.specs.Grammar.{Grammar, Rule}
 use Rattle.ly_grammar.specs.Reduction.{KeepsUseful}
 use Rattle.ly_lr0.specs.Automaton.{ComesBefore}
-use Rattle.ly_lr0.proofs.OrderLemmas.{before_trans, less_off, rising_one}
+use Rattle.ly_lr0.proofs.OrderLemmas.{before_trans, not_before_itself}
 use Rattle.ly_resolve.specs.Conflicts.{AreConflicts, Conflict, IsBefore, IsKindBefore, Kind, reduce_reduce}
 use Rattle.ly_resolve.specs.Conflicts.{shift_reduce}
 use Rattle.ly_resolve.specs.Precedence.{judge_of}
 use Rattle.ly_report.specs.Laws.{ReportIsOne}
 use Rattle.ly_report.specs.Report.{conflicts_text, removed_text}
-
--- no string comes before itself
-before_off : (g : List Symbol) → ComesBefore g g → ⊥
-before_off [] b = b
-before_off (X ∷ g) (inl b) = before_off g b
-before_off (X ∷ g) (inr b) = less_off X b.1
 
 kind_off : (k l : Kind) → IsKindBefore k l → IsKindBefore l k → ⊥
 kind_off shift_reduce shift_reduce a b = a
@@ -29,9 +24,9 @@ kind_irreflexive k a = kind_off k k a a
 
 -- of two conflicts one comes first
 conflict_off : (c d : Conflict) → IsBefore c d → IsBefore d c → ⊥
-conflict_off c d (inl a) (inl b) = before_off c.prefix (before_trans c.prefix d.prefix c.prefix a b)
-conflict_off c d (inl a) (inr (same, b)) = before_off c.prefix (subst (ComesBefore c.prefix) same a)
-conflict_off c d (inr (same, a)) (inl b) = before_off d.prefix (subst (ComesBefore d.prefix) same b)
+conflict_off c d (inl a) (inl b) = not_before_itself c.prefix (before_trans c.prefix d.prefix c.prefix a b)
+conflict_off c d (inl a) (inr (same, b)) = not_before_itself c.prefix (subst (ComesBefore c.prefix) same a)
+conflict_off c d (inr (same, a)) (inl b) = not_before_itself d.prefix (subst (ComesBefore d.prefix) same b)
 conflict_off c d (inr (_, inl a)) (inr (_, inl b)) = omega (arith, a, b)
 conflict_off c d (inr (_, inl a)) (inr (_, inr (same, b))) = omega (arith, a, same)
 conflict_off c d (inr (_, inr (same, a))) (inr (_, inl b)) = omega (arith, b, same)

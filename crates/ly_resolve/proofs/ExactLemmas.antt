@@ -31,7 +31,7 @@ compare (z ∷ a) (w ∷ b) u v x y e = with_heads (compare a b u v x y cc) wher
   with_heads (inr (inr m)) = let r = m.1 in inr (inr (m.0, cc))
 
 -- where no token but the last is the end, nothing stands behind the end
-end_is_last : (tokens y behind : List (Token ℕ)) (end z : Token ℕ) → All (λ x. x.terminal ≢ 0) tokens
+pub end_is_last : (tokens y behind : List (Token ℕ)) (end z : Token ℕ) → All (λ x. x.terminal ≢ 0) tokens
     → z.terminal ≡ 0 → tokens ++ end ∷ [] ≡ y ++ z ∷ behind → behind ≡ []
 end_is_last [] [] behind end z ends is e = cc
 end_is_last [] (x ∷ []) behind end z ends is e =

@@ -6,10 +6,11 @@ use Rattle.std.specs.List.{AllPairs}
 use Rattle.std.proofs.lemmas.Bool.{cases_eq, cases_lt}
 use Rattle.std.proofs.lemmas.List.Elements.{Contains-append_cases, Contains-append_left, Contains-append_right}
 use Rattle.ly_base.proofs.MemberLemmas.{Contains-first, Contains-none, Contains-one}
+use Rattle.ly_base.proofs.ListLemmas.{AllPairs-append}
 use Rattle.ly_join.specs.Grammar.{Grammar, Symbol}
 use Rattle.ly_grammar.specs.Items.{IsViable, Merges}
 use Rattle.ly_lr0.specs.Automaton.{Automaton, ComesBefore, IsAutomaton, Reaches, goto_of, prefix_of}
-use Rattle.ly_lr0.proofs.OrderLemmas.{before_trans, less_off}
+use Rattle.ly_lr0.proofs.OrderLemmas.{before_trans, not_before_itself}
 use Rattle.ly_resolve.specs.Actions.{Action, Judge, Stays, Verdict, IsAction, IsConflictFree, IsDone, IsRaw, error}
 use Rattle.ly_resolve.specs.Actions.{reduce}
 use Rattle.ly_resolve.specs.Actions.{shift}
@@ -18,6 +19,7 @@ use Rattle.ly_resolve.specs.Conflicts.{reduce_reduce, shift_reduce}
 use Rattle.ly_resolve.specs.Private.Found.{AreEntries, AreSingle, AreTold, IsPast, IsToldOf}
 use Rattle.ly_resolve.specs.Private.Meetings.{all_told, AreAsked, AreMany, IsAskedBy}
 use Rattle.ly_join.specs.Joined.{Spec}
+use Rattle.ly_lr0.proofs.LawLemmas.{reached_within}
 use Rattle.ly_resolve.specs.Precedence.{judge_of}
 use Rattle.ly_resolve.specs.Resolved.{AreResolved, Entry, IsRow}
 use Rattle.ly_resolve.specs.Values.{conflict_from, entry_from, resolved_from}
@@ -26,10 +28,10 @@ use Rattle.ly_resolve.specs.declared.conflict.Conflict as conflict
 use Rattle.std.specs.declared.alloc.Global.{Global}
 use Rattle.std.specs.declared.vec.Vec.{Vec}
 use Rattle.std.proofs.lemmas.List.{length-map}
-use Rattle.ly_resolve.proofs.MeetingLemmas.{AllPairs-append, IsToldAt, counts_too, done_once, done_too, not_single}
+use Rattle.ly_resolve.proofs.MeetingLemmas.{IsToldAt, counts_too, done_once, done_too, not_single}
 use Rattle.ly_resolve.proofs.MeetingLemmas.{single}
 use Rattle.ly_resolve.proofs.MeetingLemmas.{told_are, told_ordered}
-use Rattle.ly_resolve.proofs.RawLemmas.{merges_back, raw_too, prefix_at, raw_within, reached_merges, reached_within}
+use Rattle.ly_resolve.proofs.RawLemmas.{merges_back, raw_too, prefix_at, raw_within, reached_merges}
 use Rattle.ly_resolve.proofs.RawLemmas.{viable}
 
 -- what is asked for is so by the items
@@ -357,12 +359,6 @@ module _ (M : Automaton) (is : IsAutomaton M) (judge : Judge) where
       ]
       past g k u a raw (inr (e, lt)) = absurd (omega (arith, lt))
 
-  -- a string doesn't come before itself
-  before_off : (g : List Symbol) → ComesBefore g g → ⊥
-  before_off [] b = b
-  before_off (X ∷ g) (inl b) = before_off g b
-  before_off (X ∷ g) (inr (e, less)) = less_off X less
-
   -- THE WHOLE AUTOMATON
 
   state_of : (g : List Symbol) → IsViable M.grammar g → (s : ℕ) × (s < length M.states)
@@ -390,7 +386,7 @@ module _ (M : Automaton) (is : IsAutomaton M) (judge : Judge) where
           | inl e ↦ sym e
           | inr before ↦ elim ((prefix_least s lt).1 g m) [
             | inl e ↦ e
-            | inr after ↦ absurd (before_off g (before_trans g (prefix_of M s) g before after))
+            | inr after ↦ absurd (not_before_itself g (before_trans g (prefix_of M s) g before after))
           ]
         ],
       )

@@ -5,7 +5,7 @@ use Rattle.std.proofs.Common.{append-nil, slice_index_or, take, ◌+◌}
 use Rattle.std.proofs.Common.{Some, Contains, IsTrue, ap, arith, cond, length, map, not, nat_eq, refl, slice_get, subst}
 use Rattle.std.proofs.Common.{sym, ◌&&◌, ◌||◌}
 use Rattle.std.specs.List.{All, AllPairs, filter}
-use Rattle.std.proofs.lemmas.Bool.{cases_eq, cases_lt, cases_order, eq-eqb, ne_eqb}
+use Rattle.std.proofs.lemmas.Bool.{and_parts, cases_eq, cases_lt, cases_order, eq-eqb, ne_eqb}
 use Rattle.std.proofs.lemmas.List.{map-append, take_more}
 use Rattle.std.proofs.lemmas.List.Elements.{filter-append}
 use Rattle.std.proofs.lemmas.List.Elements.{All-contains_itself, All-weaker, Contains-append_cases}
@@ -14,6 +14,7 @@ use Rattle.std.proofs.lemmas.List.Kept.{AllPairs-cons, AllPairs-filter}
 use Rattle.std.proofs.lemmas.Option.{get_or_from_slice_get, slice_get-get_or, slice_get_within}
 use Rattle.ly_base.proofs.MemberLemmas.{Contains-cons_cases, Contains-first, Contains-later, Contains-none}
 use Rattle.ly_base.proofs.MemberLemmas.{Contains-one}
+use Rattle.ly_base.proofs.ListLemmas.{AllPairs-append, AllPairs-head, AllPairs-tail}
 use Rattle.ly_join.specs.Grammar.{Grammar, Symbol}
 use Rattle.ly_join.proofs.ListLemmas.{in_mapped, mapped_in, member_at, placed}
 use Rattle.ly_resolve.specs.Actions.{Action, LeavesShift, Stays, Verdict, IsDone, IsRaw, error, reduce, shift, to_error}
@@ -117,10 +118,6 @@ says_nothing to_shift h = absurd (cc)
 says_nothing to_error h = absurd (cc)
 says_nothing unsettled h = refl
 
-both : (a b : Bool) → IsTrue (a && b) → IsTrue a × IsTrue b
-both true b h = (refl, h)
-both false b h = absurd (cc)
-
 either : (s r : Bool) → IsTrue (not s || r) → IsTrue s → IsTrue r
 either true r h e = h
 either false r h e = absurd (cc)
@@ -147,9 +144,9 @@ module _ (s : Bool) (rs : List ℕ) (v : ℕ → Verdict) (a : Action) (done : I
   -- what is counted by truth values counts
   counted_to : (k : Kind) (p : ℕ) → Contains rs p → IsTrue (is_counted s v a k p) → CountsAs (IsAskedBy s rs) v k p
   counted_to shift_reduce p has h =
-      let parts = both s (is_unsettled (v p)) h in (parts.0, has, says_nothing (v p) parts.1)
+      let parts = and_parts s (is_unsettled (v p)) h in (parts.0, has, says_nothing (v p) parts.1)
   counted_to reduce_reduce p has h =
-      let parts = both (not (reduces_by a p)) (not s || is_for_reduction (v p)) h in
+      let parts = and_parts (not (reduces_by a p)) (not s || is_for_reduction (v p)) h in
       let stays : Stays (IsAskedBy s rs) v p
       = (has, λ e. for_reduction (v p) (either s (is_for_reduction (v p)) parts.1 e)) in
       let before = stays_behind (IsAskedBy s rs) v a p done stays (not_chosen a p parts.0) in
@@ -198,41 +195,16 @@ in_filter t (y ∷ xs) x has h = elim (Contains-cons_cases y xs x has) [
     at true later = Contains-later y (filter t xs) x later
     at false later = later
 
--- what a list begins with stands before all that is in it
-first_before : {X : Type 0} (R : X → X → Type 0) (x : X) (xs : List X) → AllPairs R (x ∷ xs) → (y : X) → Contains xs y
-    → R x y
-first_before R x xs pairs y has = at (placed xs y has) where
-  at : (k : ℕ) × (slice_get xs k ≡ Some y) → R x y
-  at (k, e) = subst (R x) (get_or_from_slice_get xs k y y e)
-      (pairs zero (suc k) y (omega arith) (let lt = slice_get_within xs k y e in omega (arith, lt)))
-
-rest_pairs : {X : Type 0} (R : X → X → Type 0) (x : X) (xs : List X) → AllPairs R (x ∷ xs) → AllPairs R xs
-rest_pairs R x xs pairs = λ i j d l m. pairs (suc i) (suc j) d (omega (arith, l)) (omega (arith, m))
-
--- one list in order behind another
-pub AllPairs-append : {X : Type 0} (R : X → X → Type 0) (xs ys : List X) → AllPairs R xs → AllPairs R ys
-    → ((x y : X) → Contains xs x → Contains ys y → R x y) → AllPairs R (xs ++ ys)
-AllPairs-append R [] ys a b cross = b
-AllPairs-append R (x ∷ xs) ys a b cross = AllPairs-cons R x (xs ++ ys)
-    (All-weaker (Contains (xs ++ ys)) (R x) each (xs ++ ys) (All-contains_itself (xs ++ ys)))
-    (AllPairs-append R xs ys (rest_pairs R x xs a) b (λ u y h. cross u y (Contains-later x xs u h)))
-  where
-    each : (z : _) → Contains (xs ++ ys) z → R x z
-    each z has = elim (Contains-append_cases xs ys z has) [
-      | inl front ↦ first_before R x xs a z front
-      | inr behind ↦ cross x z (Contains-first x xs) behind
-    ]
-
 pub AllPairs-map : {X Y : Type 0} (R : Y → Y → Type 0) (f : X → Y) (xs : List X) → AllPairs (λ x y. R (f x) (f y)) xs
     → AllPairs R (map f xs)
 AllPairs-map R f [] pairs = λ i j d l m. absurd (omega (arith, m))
 AllPairs-map R f (x ∷ xs) pairs = AllPairs-cons R (f x) (map f xs)
     (All-weaker (Contains (map f xs)) (R (f x)) each (map f xs) (All-contains_itself (map f xs)))
-    (AllPairs-map R f xs (rest_pairs (λ x y. R (f x) (f y)) x xs pairs))
+    (AllPairs-map R f xs (AllPairs-tail (λ x y. R (f x) (f y)) x xs pairs))
   where
     each : (z : _) → Contains (map f xs) z → R (f x) z
     each z has = let w = in_mapped f xs z has in
-        subst (R (f x)) w.2 (first_before (λ x y. R (f x) (f y)) x xs pairs w.0 w.1)
+        subst (R (f x)) w.2 (AllPairs-head (λ x y. R (f x) (f y)) x w.0 xs pairs w.1)
 
 -- WHAT IS TOLD
 

@@ -9,10 +9,10 @@ use Rattle.std.proofs.lemmas.List.Elements.{All-head, All-tail, Contains-append_
 use Rattle.std.proofs.lemmas.List.Elements.{Contains-append_right}
 use Rattle.std.specs.List.{AllPairs}
 use Rattle.ly_base.proofs.MemberLemmas.{Contains-first, Contains-none, Contains-one}
-use Rattle.ly_resolve.proofs.MeetingLemmas.{AllPairs-append}
-use Rattle.std.proofs.lemmas.Option.{get_or_from_slice_get, slice_get-get_or, slice_get-map, slice_get_within}
+use Rattle.std.proofs.lemmas.Option.{get_or_from_slice_get, slice_get-map, slice_get_within}
 use Rattle.ly_base.specs.Lexed.{Token}
 use Rattle.ly_base.specs.Trees.{Tree, Trees, leaf, node, none, more, yield_of, yields_of}
+use Rattle.ly_base.proofs.ListLemmas.{AllPairs-append}
 use Rattle.ly_join.specs.Grammar.{Grammar, IsAugmented, IsRule, Rule, RuleWithin, Symbol, SymbolWithin, nonterminal}
 use Rattle.ly_join.specs.Grammar.{terminal}
 use Rattle.ly_join.specs.Grammar.{accept_rule}
@@ -25,8 +25,8 @@ use Rattle.ly_grammar.proofs.ItemLemmas.{body_of, zero_item}
 use Rattle.ly_grammar.proofs.SearchLemmas.{rule_is_one}
 use Rattle.ly_sets.specs.NumberSet.{Member}
 use Rattle.ly_lr0.specs.Automaton.{Automaton, ComesBefore, IsAutomaton, Reaches, State, goto_of, prefix_of, state_at}
+use Rattle.ly_lr0.proofs.StateLemmas.{state_there}
 use Rattle.ly_relate.specs.Relations.{Leaves}
-use Rattle.ly_relate.proofs.WalkLemmas.{leads_to}
 use Rattle.ly_relate.proofs.LeaveLemmas.{end_leaves, leaves_end, leaves_shift, shift_leaves, shift_some}
 use Rattle.ly_lookahead.specs.Lookaheads.{AreLookaheads, Lookaheads, set_at}
 use Rattle.ly_lookahead.proofs.LookaheadLemmas.{no_zero}
@@ -155,15 +155,7 @@ pub prefix_at : (M : Automaton) (s : ℕ) (q : State) → slice_get M.states s �
 prefix_at M s q at = get_or_from_slice_get (map (λ q. q.prefix) M.states) s q.prefix []
     (slice_get-map (λ q. q.prefix) M.states s ∙ ap (option_map (λ q. q.prefix)) at)
 
-pub state_there : (M : Automaton) (s : ℕ) → s < length M.states → slice_get M.states s ≡ Some (state_at M s)
-state_there M s lt = slice_get-get_or M.states s (record { prefix = []; transitions = []; complete = [] }) lt
-
 module _ (M : Automaton) (is : IsAutomaton M) where
-  -- strings lead to states
-  pub reached_within : (g : List Symbol) (s : ℕ) → Reaches (goto_of M) 0 g s → s < length M.states
-  reached_within [] s r = let some = is.some in omega (arith, r, some)
-  reached_within (X ∷ g) s r = leads_to M is r.0 X s r.2
-
   -- the prefix of a state is viable
   pub viable : (s : ℕ) → s < length M.states → IsViable M.grammar (prefix_of M s)
   viable s lt = is.cores.only (prefix_of M s) s (is.numbered.leads s lt)

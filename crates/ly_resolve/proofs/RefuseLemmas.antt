@@ -10,7 +10,7 @@ use Rattle.ly_grammar.specs.Items.{HasNoEnd, IsNextSymbol, IsViable, Valid, at_s
 use Rattle.ly_grammar.proofs.ItemLemmas.{First_trees, body_of, length-onto, trees_of_end, trees_to_come}
 use Rattle.ly_grammar.proofs.SearchLemmas.{rule_is_one}
 use Rattle.ly_resolve.specs.Actions.{IsAction, IsRefused, Judge, error}
-use Rattle.ly_resolve.specs.Laws.{RefusesFirst}
+use Rattle.ly_resolve.specs.Laws.{ReadsPrefixes, RefusesFirst}
 use Rattle.ly_resolve.specs.Machine.{Accepts, Configuration, Leads, Moves, Pushed, Reduces, Refuses, begin, here}
 use Rattle.ly_resolve.specs.Machine.{onward, symbols_of}
 use Rattle.ly_resolve.proofs.AcceptLemmas.{accepts_all}
@@ -215,26 +215,30 @@ whole_tree G augmented (node p ts) (r, rule, left, are) =
         = record { sentence = d; is = are.0; end = z; is_end = are.1.0; yields = refl }
     of_body (more d (more (leaf z) (more e ts))) are = absurd are.1.1
 
-pub refused_first : RefusesFirst
-refused_first G judge augmented reduced free before behind t (c, l, r, split) = (
-  let viable = leads_viable at_bottom l in
-      let v = viable.4.1 in
-      let ts = trees_after augmented reduced v in
-      let stacked = leads_trees {c = begin (before ++ t ∷ behind)} l tt in
-      let i = complete augmented v c.stack refl stacked ts.0 ts.1 in
-      let regroup = append_assoc (stack_yield c.stack) (yields_of ts.0) i.0
-      ∙ ap (λ w. w ++ (yields_of ts.0 ++ i.0)) (sym before_is) in
-      (yields_of ts.0 ++ i.0, (i.1.0, i.1.1, i.1.2 ∙ regroup)),
-  continues_none,
-)
+-- what the machine has read begins a sentence
+pub read_prefix : ReadsPrefixes
+read_prefix G judge augmented reduced tokens before c l split =
+    let viable = leads_viable at_bottom l in
+    let v = viable.4.1 in
+    let ts = trees_after augmented reduced v in
+    let stacked = leads_trees {c = begin tokens} l tt in
+    let i = complete augmented v c.stack refl stacked ts.0 ts.1 in
+    let regroup = append_assoc (stack_yield c.stack) (yields_of ts.0) i.0
+    ∙ ap (λ w. w ++ (yields_of ts.0 ++ i.0)) (sym before_is) in
+    (yields_of ts.0 ++ i.0, (i.1.0, i.1.1, i.1.2 ∙ regroup))
   where
     at_bottom : IsViable G []
     at_bottom = (tt, 0, [], nonterminal G.start ∷ terminal 0 ∷ [], (0, at_start augmented.rule_0 refl))
 
     before_is : before ≡ stack_yield c.stack
-    before_is = append_cancel_right before (stack_yield c.stack) c.rest
-        (sym split ∙ leads_yield {c = begin (before ++ t ∷ behind)} l)
+    before_is = append_cancel_right before (stack_yield c.stack) c.rest (sym split ∙ leads_yield {c = begin tokens} l)
 
+pub refused_first : RefusesFirst
+refused_first G judge augmented reduced free before behind t (c, l, r, split) = (
+  read_prefix G judge augmented reduced (before ++ t ∷ behind) before c l split,
+  continues_none,
+)
+  where
     rest_is : c.rest ≡ t ∷ behind
     rest_is = append_cancel_left before c.rest (t ∷ behind) (sym split)
 

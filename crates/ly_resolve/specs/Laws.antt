@@ -6,7 +6,7 @@ use Rattle.ly_join.specs.Grammar.{Grammar, IsAugmented, IsRule, Rule, Symbol, no
 use Rattle.ly_grammar.specs.Derivations.{IsReduced, IsSentencePrefix, IsTree}
 use Rattle.ly_grammar.specs.Items.{InLookahead, IsViable, Valid}
 use Rattle.ly_resolve.specs.Actions.{IsConflictFree, IsRaw, Judge, shift}
-use Rattle.ly_resolve.specs.Machine.{AcceptsWith, Ends, RefusesAfter}
+use Rattle.ly_resolve.specs.Machine.{AcceptsWith, Configuration, Ends, Leads, RefusesAfter, begin}
 
 -- Without conflicts the machine accepts each sentence with each of its trees.
 abbrev pub AcceptsSentences : Type 0
@@ -28,6 +28,11 @@ AcceptsTreesOnly = (G : Grammar) (judge : Judge) → IsAugmented G → (tokens :
 -- the token behind those before is the first that continues no sentence
 abbrev pub IsFirstWrong : Grammar → List (Token ℕ) → Token ℕ → Type 0
 IsFirstWrong G before t = IsSentencePrefix G before × (IsSentencePrefix G (before ++ t ∷ []) → ⊥)
+
+-- What the machine has read, also with conflicts, begins a sentence.
+abbrev pub ReadsPrefixes : Type 0
+ReadsPrefixes = (G : Grammar) (judge : Judge) → IsAugmented G → IsReduced G → (tokens before : List (Token ℕ))
+    (c : Configuration) → Leads G judge (begin tokens) c → tokens ≡ before ++ c.rest → IsSentencePrefix G before
 
 -- Without conflicts the token that the machine refuses is the first that continues no sentence.
 abbrev pub RefusesFirst : Type 0

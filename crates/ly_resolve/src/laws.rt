@@ -1,5 +1,5 @@
 ghost use Rattle.ly_resolve.specs.Laws.{AcceptsSentences, AcceptsTreesOnly, DefaultsNeverMislead, IsUnambiguous};
-ghost use Rattle.ly_resolve.specs.Laws.{RefusesExactly, RefusesFirst};
+ghost use Rattle.ly_resolve.specs.Laws.{ReadsPrefixes, RefusesExactly, RefusesFirst};
 
 /// Without conflicts the reference machine accepts each sentence with each of its trees.
 pub fn accepts_sentences()
@@ -14,6 +14,11 @@ pub fn is_unambiguous()
 /// What the reference machine accepts, also with conflicts, is a tree of the tokens before the end.
 pub fn accepts_trees_only()
     ensures { AcceptsTreesOnly }
+{}
+
+/// What the reference machine has read, also with conflicts, begins a sentence.
+pub fn reads_prefixes()
+    ensures { ReadsPrefixes }
 {}
 
 /// Without conflicts the token that the reference machine refuses is the first that continues no sentence.

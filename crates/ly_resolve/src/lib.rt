@@ -22,8 +22,8 @@ mod verdict;
 pub use action::{Action, Entry};
 pub use conflict::{Conflict, ConflictKind};
 pub use laws::{
-    accepts_sentences, accepts_trees_only, defaults_never_mislead, is_unambiguous, refuses_exactly,
-    refuses_first,
+    accepts_sentences, accepts_trees_only, defaults_never_mislead, is_unambiguous, reads_prefixes,
+    refuses_exactly, refuses_first,
 };
 pub use resolved::Resolved;
 pub use settle::resolve;

@@ -20,9 +20,9 @@ use Rattle.ly_subset.specs.Automaton.{entry_at}
 use Rattle.ly_subset.specs.Subsets.{IsStateOf, set_at}
 use Rattle.ly_subset.specs.Private.Found.{AreFound, AreKept, IsEntered, IsFound, IsFull, IsNumbered, IsPast}
 use Rattle.ly_subset.specs.Private.Found.{targets_of}
-use Rattle.ly_subset.specs.Keys.{IsAbsent}
+use Rattle.ly_base.specs.Keys.{IsAbsent}
+use Rattle.ly_base.proofs.ListLemmas.{rising_one}
 use Rattle.ly_subset.specs.Private.Keys.{IsKeyOf}
-use Rattle.ly_subset.proofs.KeyLemmas.{rising_one}
 use Rattle.ly_subset.proofs.OrderLemmas.{each_entry, order_more, order_none}
 
 -- a list that isn't empty has a member
@@ -45,8 +45,9 @@ module _ (below limit : ℕ) (sets : List (List ℕ)) (members key : List ℕ) (
     (is_key : IsKeyOf members key) (absent : IsAbsent sets key) where
   -- a key that isn't there is that of another set
   pub other_set : (s : ℕ) → s < length sets → ((q : ℕ) → Contains (set_at sets s) q ↔ Contains members q) → ⊥
-  other_set s l e = absent s l (rising_one (set_at sets s) key (kept.rising s l) is_key.rising
-      (λ q. (λ h. (is_key.same q).1 ((e q).0 h), λ h. (e q).1 ((is_key.same q).0 h))))
+  other_set s l e = absent s l (rising_one (λ a b. a < b) (λ a b less more. omega (arith, less, more))
+      (set_at sets s) key (kept.rising s l) is_key.rising (λ q h. (is_key.same q).1 ((e q).0 h))
+      (λ q h. (e q).1 ((is_key.same q).0 h)))
 
   -- one set more, which isn't empty
   pub kept_more : ((q : ℕ) × Contains members q) → All (λ p. p < below) members → length sets < limit

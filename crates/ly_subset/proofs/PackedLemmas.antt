@@ -11,9 +11,9 @@ use Rattle.std.proofs.lemmas.List.{get_or_past}
 use Rattle.std.proofs.lemmas.List.Elements.{All-contains, All-from_get_or, Contains-append_left, Contains-append_right}
 use Rattle.std.proofs.lemmas.Nat.Bits.{bit_at-lt, bit_at-zero, bit_at_set_same, bit_at_set_other, shr_and_one}
 use Rattle.ly_base.proofs.MemberLemmas.{Contains-first}
+use Rattle.ly_base.proofs.ListLemmas.{AllPairs-head, AllPairs-tail}
 use Rattle.ly_subset.specs.Private.Packed.{AreWords, members_below, pack, pack_from, packed_with, unpack, with_number}
 use Rattle.ly_subset.specs.declared.packed.Packing.{Packing}
-use Rattle.ly_subset.proofs.KeyLemmas.{rising_first, rising_rest}
 
 -- no bit is set from one on
 abbrev pub HasNoneFrom : ℕ → ℕ → Type 0
@@ -77,7 +77,7 @@ comes_next : (block bits m : ℕ) (ms : List ℕ) → m / 32 ≡ block → HasNo
     → AllPairs (λ a b. a < b) (m ∷ ms) → ComesNext block (with_number bits m) ms
 comes_next block bits m [] here none rises = tt
 comes_next block bits m (n ∷ ns) here none rises = λ same i l less.
-    let above : m < n = rising_first m (n ∷ ns) n rises (Contains-first n ns) in
+    let above : m < n = AllPairs-head (λ a b. a < b) m n (n ∷ ns) rises (Contains-first n ns) in
     none_after block bits m here none i (omega (arith, l, above, here, same)) less
 
 unpack_from : (block bits : ℕ) (ms : List ℕ) → AllPairs (λ a b. a < b) ms → ComesNext block bits ms
@@ -87,14 +87,16 @@ unpack_from block bits (m ∷ ms) rises next = elim (cases_eq (m / 32) block) [
   | inl here ↦
       let none = next here in
       rw (eq-eqb (m / 32) block here)
-      (unpack_from block (with_number bits m) ms (rising_rest m ms rises) (comes_next block bits m ms here none rises)
+      (unpack_from block (with_number bits m) ms (AllPairs-tail (λ a b. a < b) m ms rises)
+      (comes_next block bits m ms here none rises)
       ∙ ap (λ xs. xs ++ ms) (one_more block bits m here none 32 (omega arith) (omega arith))
       ∙ append_assoc (members_below block bits 32) (m ∷ []) ms)
   | inr ne ↦
       let none : HasNoneFrom 0 (m % 32) = λ i l less. bit_at-zero i in
       rw (neq_test (m / 32) block ne)
       (ap (λ xs. members_below block bits 32 ++ xs)
-      (unpack_from (m / 32) (with_number 0 m) ms (rising_rest m ms rises) (comes_next (m / 32) 0 m ms refl none rises)
+      (unpack_from (m / 32) (with_number 0 m) ms (AllPairs-tail (λ a b. a < b) m ms rises)
+      (comes_next (m / 32) 0 m ms refl none rises)
       ∙ ap (λ xs. xs ++ ms) (one_more (m / 32) 0 m refl none 32 (omega arith) (omega arith)
       ∙ ap (λ xs. xs ++ m ∷ []) (none_in (m / 32) 32))))
 ]

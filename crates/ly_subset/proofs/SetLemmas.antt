@@ -4,7 +4,7 @@ use Rattle.std.proofs.Common.{sym, ap, subst}
 use Rattle.std.proofs.Common.{arith, length, map, get_or}
 use Rattle.std.specs.Prelude.{MatchOption, OnErr, OnOk}
 use Rattle.std.proofs.lemmas.List.{get_or-map, length-map}
-use Rattle.ly_subset.specs.Keys.{IsAbsent}
+use Rattle.ly_base.specs.Keys.{IsAbsent}
 use Rattle.ly_subset.specs.Private.Packed.{ArePacked, AreWords, IsPacked, pack, unpack}
 use Rattle.ly_subset.specs.Private.Keys.{IsKeyOf}
 use Rattle.ly_subset.proofs.FoundLemmas.{each_more}

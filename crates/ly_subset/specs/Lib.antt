@@ -2,7 +2,6 @@ pub mod Automaton
 pub mod Classes
 pub mod Dfa
 pub mod FaultNames
-pub mod Keys
 pub mod Laws
 pub mod Private
 pub mod RuleSets

@@ -1,5 +1,5 @@
 ghost use Rattle.std.specs.Prelude.{◌≡◌, ◌<◌, ◌++◌, [], ◌∷◌, length, slice_index_or, IfOk, MatchOption, OnOk};
-ghost use Rattle.ly_subset.specs.Keys.{IsAbsent};
+ghost use Rattle.ly_base.specs.Keys.{IsAbsent};
 ghost use Rattle.ly_subset.specs.Private.Packed.{IsPacked, unpack};
 
 use crate::keys::Keys;

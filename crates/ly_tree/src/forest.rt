@@ -269,6 +269,7 @@ fn part(children: &[TermRef], start: usize, count: usize) -> &[TermRef]
 }
 
 /// Appends what stands at these places of a body, which count from 1. After the fault the children are as they were.
+#[inline(always)] // else `node` and `long_node` each call it
 fn pick<R: Refers>(
     children: &mut Vec<TermRef>,
     body: &[R],

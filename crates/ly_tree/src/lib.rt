@@ -1,10 +1,10 @@
 //! From the tokens and reductions of a parse to a term, and from the term to its printed text.
 //!
 //! A `Forest` holds the texts of leaves and the children of nodes in flat lists, and no box or list a node: a leaf
-//! takes its text alone, and a node 8 bytes for each child; a long leaf 16 bytes more, and a long node 24. Contracts see
-//! terms: what `leaf` or `node` answers stands for one, and goes on standing for it. `line` makes all room that the
+//! takes its text alone, and a node 8 bytes for each child; a long leaf 16 bytes more, and a long node 24. Contracts
+//! see terms: what `leaf` or `node` answers stands for one, and goes on standing for it. `line` makes all room that the
 //! printed text of a term takes, so that `TermLine::write` fails only where the writer does; it has a stack of its own,
-//! so that no depth ends the program.
+//! so that no depth ends the program. `show` gives that line as bytes.
 //!
 //! Left out: what rules make which terms (a parser asks for them), and taking leaves or nodes out again.
 #![tactic(auto)]

@@ -14,7 +14,7 @@ ghost use Rattle.ly_tree.specs.Term.{Term};
 
 use crate::forest::{Forest, TermRef};
 use crate::words::Words;
-use ly_base::{Front, OutOfMemory, RuleNo, Sink, Sym, TextWriter, WriteFault};
+use ly_base::{Front, MemSink, OutOfMemory, RuleNo, Sink, Sym, TextWriter, WriteFault};
 use std::alloc::Global;
 use std::marker::Model;
 
@@ -91,6 +91,27 @@ impl Forest {
                 waiting: Vec::with_capacity(alloc, self.most_terms())?,
             },
         })
+    }
+
+    /// The line of a term as bytes, its newline included. It fails where memory runs out.
+    pub fn show<W: Words>(
+        &self,
+        alloc: Global,
+        words: &W,
+        root: TermRef,
+    ) -> Result<Vec<u8>, OutOfMemory>
+        requires known { IsSome (term_of self.now root) }
+        requires paid { (t : Term) → StandsFor self.now root t → IsPaid self.now t }
+        ensures { IfOk result (λ bytes. (t : Term) → StandsFor self.now root t → bytes.items ≡ shown
+            (record { terminal = W.terminals words.now; constructor = W.constructors words.now }) t ++ newline ∷ []) }
+    {
+        let line = self.line(alloc, words, root)?;
+        let mut sink = MemSink::new(alloc);
+        // its only failure is want of memory
+        let Ok(()) = line.write(&mut sink) else {
+            return Err(OutOfMemory);
+        };
+        Ok(Vec::from_slice(alloc, sink.bytes())?)
     }
 }
 

@@ -22,6 +22,8 @@ mod examples;
 #[cfg(test)]
 mod memory;
 #[cfg(test)]
+mod parses;
+#[cfg(test)]
 mod reports;
 #[cfg(test)]
 mod rows;

@@ -4,7 +4,7 @@ use crate::facts::Facts;
 use crate::knuth::merged;
 use crate::specifications::specification;
 use ly_base::{Limits, OutOfMemory, StateNo};
-use ly_grammar::reduce;
+use ly_grammar::{Reduced, reduce};
 use ly_join::Symbol;
 use ly_lr0::{Lr0, automaton};
 use ly_relate::relations;
@@ -127,15 +127,36 @@ fn automaton_of(
     let Ok(reduced) = reduce(alloc, spec.grammar()) else {
         return Err(Fail::from("a grammar was refused that is to be reduced"));
     };
-    let Ok(lr0) = automaton(alloc, &reduced, &Limits::V1) else {
+    knuths_automaton(alloc, &reduced, terminals, nonterminals)
+}
+
+/// The same of a reduced grammar.
+fn knuths_automaton(
+    alloc: Global,
+    reduced: &Reduced<'_>,
+    terminals: &[u8],
+    nonterminals: &[u8],
+) -> Result<Vec<u8>, Fail> {
+    let Ok(lr0) = automaton(alloc, reduced, &Limits::V1) else {
         return Err(Fail::from("a grammar was refused that has an automaton"));
     };
     let facts = Facts::found(alloc, &lr0)?;
-    if !facts.are(&merged(alloc, &reduced)?) {
+    if !facts.are(&merged(alloc, reduced)?) {
         return Err(Fail::from("an automaton isn't that of Knuth's item sets"));
     }
-    let mut text = automaton_text(alloc, &lr0, &facts, terminals, nonterminals)?;
-    push_relations(alloc, &mut text, &lr0)?;
+    whole_text(alloc, &lr0, &facts, terminals, nonterminals)
+}
+
+/// An automaton with its relations, as `EXAMPLES` write them.
+fn whole_text(
+    alloc: Global,
+    lr0: &Lr0<'_>,
+    facts: &Facts,
+    terminals: &[u8],
+    nonterminals: &[u8],
+) -> Result<Vec<u8>, Fail> {
+    let mut text = automaton_text(alloc, lr0, facts, terminals, nonterminals)?;
+    push_relations(alloc, &mut text, lr0)?;
     Ok(text)
 }
 

@@ -1,5 +1,5 @@
 -- What is known while two files are joined.
-use Rattle.std.specs.Prelude.{◌≡◌, ◌<◌, ◌⊎◌, ℕ, List, ◌∷◌, length, Contains, Some, slice_get}
+use Rattle.std.specs.Prelude.{◌≡◌, ◌<◌, ℕ, List, ◌∷◌, length, Contains, Some, slice_get}
 use Rattle.std.specs.List.{AllZip}
 use Rattle.ly_yaccread.specs.File.{Written}
 use Rattle.ly_yaccread.specs.Rules.{Ruling}
@@ -7,7 +7,7 @@ use Rattle.ly_join.specs.Grammar.{Rule, accept_rule, grammar_from}
 use Rattle.ly_join.specs.Joined.{Note, Spec, SymbolTable}
 use Rattle.ly_join.specs.Numbering.{nonterminals_of, start_name, terminals_of}
 use Rattle.ly_join.specs.Precedences.{given, AreGivenOnce, HasPrecedence}
-use Rattle.ly_join.specs.Terminals.{end, token}
+use Rattle.ly_join.specs.Terminals.{end}
 use Rattle.ly_join.specs.Private.Rules.{RulesJoined}
 use Rattle.ly_base.specs.declared.scan_action.ScanAction.{ScanAction}
 use Rattle.ly_join.specs.declared.fault.JoinFault.{JoinFault}
@@ -28,7 +28,7 @@ IsStart w m start = (n : List ℕ) × (start_name w.preamble.start w.rules ≡ S
 -- what a fault says of the start symbol; want of memory says nothing
 abbrev pub IsStartFault : Written → SymbolTable → JoinFault → Type 0
 IsStartFault w m (UnknownStart n) = (w.preamble.start ≡ Some n.items)
-    × ((Contains m.nonterminals n.items → ⊥) ⊎ Contains m.terminals (token n.items))
+    × (Contains m.nonterminals n.items → ⊥)
 IsStartFault w m OutOfMemory = Unit {0}
 IsStartFault w m _ = ⊥
 

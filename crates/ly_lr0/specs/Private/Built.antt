@@ -1,6 +1,7 @@
 -- Automata as they are built: kernels, the links by which they were found, and the rows of the first states.
 use Rattle.std.specs.Prelude.{◌≡◌, ◌≢◌, ◌↔◌, ◌⊎◌, ◌<◌, ◌≤◌, ◌++◌, ℕ, suc, List, [], ◌∷◌, length, map, slice_index_or}
 use Rattle.std.specs.Prelude.{Contains, AllPairs, fold}
+use Rattle.ly_base.specs.Keys.{IsAbsent}
 use Rattle.ly_join.specs.Grammar.{Grammar, Symbol, symbol_of, terminal}
 use Rattle.ly_lr0.specs.Automaton.{Automaton, IsAutomaton, IsLess, State, Transition}
 use Rattle.ly_lr0.specs.Transitions.{transition_of}
@@ -9,7 +10,7 @@ use Rattle.ly_lr0.specs.declared.transition.Link as link
 use Rattle.ly_lr0.specs.declared.transition.Row as row
 use Rattle.ly_lr0.specs.Private.Closing.{AreByLeft, AreComplete, AreKept}
 use Rattle.ly_lr0.specs.Private.Items.{AreRising, IsBehind, IsClosed, IsMoved}
-use Rattle.ly_lr0.specs.Private.Kernels.{IsAbsent, kernel_at}
+use Rattle.ly_lr0.specs.Private.Kernels.{kernel_at}
 
 -- A state, and a symbol that leads from it to the next state that was found.
 pub record Link : Type 0 where

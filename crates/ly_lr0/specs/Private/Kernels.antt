@@ -6,10 +6,6 @@ use Rattle.ly_lr0.specs.declared.item.Item.{Item}
 abbrev pub kernel_at : List (List Item) → ℕ → List Item
 kernel_at kernels n = slice_index_or kernels n []
 
--- the kernel isn't among these
-abbrev pub IsAbsent : List (List Item) → List Item → Type 0
-IsAbsent kernels kernel = (n : ℕ) → n < length kernels → kernel_at kernels n ≡ kernel → ⊥
-
 -- the kernels that were there keep their numbers
 abbrev pub KeepsKernels : List (List Item) → List (List Item) → Type 0
 KeepsKernels old new = (s : ℕ) → s < length old → (s < length new) × (kernel_at new s ≡ kernel_at old s)

@@ -1,6 +1,6 @@
 -- Programs that read strings (Thompson 1968): what they are, how they run, and the code of an expression.
-use Rattle.std.specs.Prelude.{◌≡◌, ◌≢◌, ℕ, zero, suc, ◌+◌, List, [], ◌∷◌, ◌++◌, map, slice_get, slice_index, Contains}
-use Rattle.std.specs.Prelude.{Some}
+use Rattle.std.specs.Prelude.{◌≡◌, ◌≢◌, ℕ, zero, suc, ◌+◌, List, [], ◌∷◌, ◌++◌, map, min, slice_get, slice_index}
+use Rattle.std.specs.Prelude.{Contains, Some}
 use Rattle.ly_base.specs.ByteSet.{members}
 use Rattle.ly_ere.specs.Expression.{Expression, set, empty, concat, either, star, plus, optional, repeat, name}
 use Rattle.ly_ere.specs.declared.node.Node.{Node}
@@ -93,6 +93,14 @@ IsPlainExpression (plus r) = IsPlainExpression r
 IsPlainExpression (optional r) = IsPlainExpression r
 IsPlainExpression (repeat m n r) = ⊥
 IsPlainExpression (name x) = ⊥
+
+-- sizes of code from here on aren't told apart: an expression that nothing uses may have code of any size
+abbrev pub most_counted : ℕ
+most_counted = 18446744073709551615
+
+-- the size of an expression's code as it is counted
+abbrev pub counted : Expression → ℕ
+counted e = min (size e) most_counted
 
 -- how many steps the code of a node has, by those of the nodes before it
 abbrev pub node_size : List ℕ → Node → ℕ

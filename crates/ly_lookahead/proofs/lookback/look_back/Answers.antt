@@ -4,12 +4,12 @@ use Rattle.std.specs.List.{AllPairs}
 use Rattle.std.proofs.lemmas.List.{length-map, take_all}
 use Rattle.std.proofs.Math.ListN.{length-set}
 use Rattle.std.specs.FinSet as set
+use Rattle.ly_join.proofs.ListLemmas.{member_at}
 use Rattle.ly_sets.specs.SetMatrix.{row}
 use Rattle.ly_lr0.specs.Automaton.{Automaton, IsAutomaton}
 use Rattle.ly_relate.specs.Related.{AreRelations, Relations}
 use Rattle.ly_relate.specs.declared.walks.Lookback as lookback
 use Rattle.ly_relate.specs.Values.{lookback_from}
-use Rattle.ly_relate.proofs.GotoLemmas.{at_Contains}
 use Rattle.ly_lookahead.specs.Private.Sets.{AreLookedBack}
 use Rattle.ly_lookahead.proofs.LookaheadLemmas.{complete_once, complete_rising, lookback_within, place_within}
 use Rattle.ly_lookahead.proofs.LookaheadLemmas.{rows_apart, rows_count}
@@ -24,7 +24,7 @@ seen_within : (M : Automaton) → IsAutomaton M → (R : Relations) → AreRelat
     × ((slice_index_or items i no_lookback).goto < length R.gotos)
 seen_within M law R are items i shown lt =
     let l = lookback_from (slice_index_or items i no_lookback) in
-    lookback_within M law R are l (at_Contains R.lookbacks i l (lookback_seen R.lookbacks items i shown lt))
+    lookback_within M law R are l (member_at R.lookbacks i l (lookback_seen R.lookbacks items i shown lt))
 
 pub complete-requires : goal.complete-requires
 complete-requires c = (seen_within c.args.lr0.now c.requires.lawful c.args.relations.now c.requires.relations
@@ -93,7 +93,7 @@ loop-lookback-preserved c =
     let first = c.args.first.now in
     let l = lookback_from (slice_index_or items i no_lookback) in
     let at = lookback_seen R.lookbacks items i c.lookbacks-lookback-items.ensures c.loop-lookback-test.true in
-    let has = at_Contains R.lookbacks i l at in
+    let has = member_at R.lookbacks i l at in
     let in_state = (lookback_within M c.requires.lawful R c.requires.relations l has).0 in
     let old = c.args.sets.now.sets in
     let now = c.loop-lookback.sets.sets in

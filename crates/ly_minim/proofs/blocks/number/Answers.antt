@@ -1,5 +1,5 @@
 use Rattle.std.proofs.Common.{◌++◌, ◌∷◌, [], subst, sym}
-use Rattle.ly_subset.specs.Keys.{IsAbsent}
+use Rattle.ly_base.specs.Keys.{IsAbsent}
 use Rattle.ly_minim.specs.Private.Blocks.{IsNamed}
 use Rattle.ly_minim.proofs.BlockLemmas.{named_new}
 use Rattle.ly_minim.proofs.blocks.number.Goals as goal

@@ -1,7 +1,7 @@
 use Rattle.std.proofs.Common.{◌<◌, ◌∙◌, ℕ, All, Contains, ap, arith, subst, sym, Some}
 use Rattle.ly_base.specs.Entry.{target_of}
 use Rattle.ly_subset.specs.Private.Found.{AreKept, IsNumbered}
-use Rattle.ly_subset.specs.Keys.{IsAbsent}
+use Rattle.ly_base.specs.Keys.{IsAbsent}
 use Rattle.ly_subset.specs.Private.Keys.{IsKeyOf}
 use Rattle.ly_subset.specs.Private.Packed.{unpack}
 use Rattle.ly_subset.proofs.FoundLemmas.{full_of, kept_more, numbered_known, numbered_new, some_member}

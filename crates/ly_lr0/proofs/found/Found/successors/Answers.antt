@@ -2,6 +2,7 @@ use Rattle.std.proofs.Common.{◌≡◌, ◌∙◌, Err, List, [], ◌∷◌, �
 use Rattle.std.specs.Prelude.{slice_range}
 use Rattle.std.proofs.lemmas.List.{length-map, map_push}
 use Rattle.std.proofs.lemmas.Result.{err_from_is_err_and}
+use Rattle.ly_base.specs.Keys.{IsAbsent}
 use Rattle.ly_grammar.specs.Items.{HasMoreCores}
 use Rattle.ly_join.specs.Grammar.{IsAugmented, symbol_of}
 use Rattle.ly_grammar.specs.Derivations.{IsReduced}
@@ -11,7 +12,7 @@ use Rattle.ly_lr0.specs.Private.Built.{IsNumbered, Link, transitions_of}
 use Rattle.ly_lr0.specs.Transitions.{transition_of}
 use Rattle.ly_lr0.specs.Private.Closing.{AreMoves}
 use Rattle.ly_lr0.specs.Private.Found.{links_of, rows_of}
-use Rattle.ly_lr0.specs.Private.Kernels.{IsAbsent, kernel_at}
+use Rattle.ly_lr0.specs.Private.Kernels.{kernel_at}
 use Rattle.ly_lr0.proofs.SuccessorLemmas.{HasEntered, entered_more, entered_past, entered_start, entered_whole}
 use Rattle.ly_lr0.proofs.SuccessorLemmas.{kernel_kept, move_at}
 use Rattle.ly_lr0.proofs.found.Found.successors.Goals as goal

@@ -1,5 +1,5 @@
 use Rattle.std.proofs.Common.{subst, sym}
-use Rattle.ly_subset.specs.Keys.{IsAbsent}
+use Rattle.ly_base.specs.Keys.{IsAbsent}
 use Rattle.ly_subset.specs.Private.Packed.{unpack}
 use Rattle.ly_subset.proofs.SetLemmas.{other_row, packed_after}
 use Rattle.ly_subset.proofs.sets.Sets.push.Goals as goal
