@@ -3,12 +3,13 @@ use Rattle.std.proofs.Common.{◌≡◌, ◌≢◌, ◌∙◌, ◌⊎◌, inl, i
 use Rattle.std.proofs.Common.{Bool, None, Option, Some, ap, arith, false, length, map, nat_eq, option_map, refl}
 use Rattle.std.proofs.Common.{slice_get, slice_index_or, subst, sym, true}
 use Rattle.std.specs.Prelude.{replicate, if◌then◌else◌}
-use Rattle.std.proofs.lemmas.Bool.{and_from, cases_eq, cases_lt, cond-false, cond-true, eq-eqb, eqb-true}
+use Rattle.std.proofs.lemmas.Bool.{and_from, and_parts, cases_eq, cond-false, cond-true, eq-eqb, eqb-true}
 use Rattle.std.proofs.lemmas.List.{length-replicate}
 use Rattle.std.proofs.Math.ListN.{length-map}
 use Rattle.std.proofs.lemmas.Option.{get_or_from_slice_get, slice_get_within}
 use Rattle.ly_base.specs.declared.numbers.RuleNo.{RuleNo}
 use Rattle.ly_base.specs.declared.numbers.StateNo.{StateNo}
+use Rattle.ly_base.proofs.ListLemmas.{option_map-none, option_map-some}
 use Rattle.ly_join.specs.Grammar.{IsGrammar, nonterminal, terminal}
 use Rattle.ly_join.specs.Joined.{Spec}
 use Rattle.ly_grammar.specs.Reduction.{KeepsUseful}
@@ -18,22 +19,17 @@ use Rattle.ly_relate.proofs.WalkLemmas.{leads_to}
 use Rattle.ly_pack.specs.Machine.{IsLegal, IsMachine, IsRuleWithin, Machine, TableAction, TableRule, entry_at, goto_at}
 use Rattle.ly_pack.specs.Machine.{states_of}
 use Rattle.ly_pack.specs.Machine as table
-use Rattle.ly_pack.specs.Rows.{Entries, cell, grid_of}
+use Rattle.ly_pack.specs.Rows.{Entries}
 use Rattle.ly_pack.specs.Values.{action_from, actions_from, gotos_from, machine_from, rule_from}
 use Rattle.ly_pack.specs.declared.action.TableAction as code
 use Rattle.ly_pack.specs.declared.rule.TableRule as rule
-use Rattle.ly_pack.proofs.GridLemmas.{cell-grid_of, cell-grid_of_past}
+use Rattle.ly_pack.proofs.GridLemmas.{cell-grid_of, cell-grid_of_some}
 use Rattle.ly_resolve.specs.Actions.{Action, IsAction, error, reduce, shift}
 use Rattle.ly_resolve.specs.Precedence.{judge_of}
 use Rattle.ly_emit.specs.Private.Filling.{AreActionsTo, AreFilledTo, AreGotosTo, AreRulesTo}
 use Rattle.ly_emit.specs.Tables.{AreShapesWithin, AreTables, IsEntryFor, shape_in}
 
 -- ENTRIES THAT ARE PUT IN
-
-both : (a b : Bool) → (a && b) ≡ true → (a ≡ true) × (b ≡ true)
-both true true e = (refl, refl)
-both true false e = absurd cc
-both false b e = absurd cc
 
 module _ {E : Type 0} (f g : Entries E) (row column : ℕ) (x : E)
     (put : (r c : ℕ) → g r c ≡ (if nat_eq r row && nat_eq c column then Some x else f r c)) where
@@ -42,7 +38,7 @@ module _ {E : Type 0} (f g : Entries E) (row column : ℕ) (x : E)
     by : (b : Bool) → (nat_eq r row && nat_eq c column) ≡ b
         → ((r ≡ row) × (c ≡ column) × (x ≡ y)) ⊎ (f r c ≡ Some y)
     by true t =
-        let same = both (nat_eq r row) (nat_eq c column) t in
+        let same = and_parts (nat_eq r row) (nat_eq c column) t in
         let one : Some x ≡ Some y
         = sym (cond-true (nat_eq r row && nat_eq c column) (Some x) (f r c) t) ∙ (sym (put r c) ∙ e) in
         let is : x ≡ y = cc in
@@ -95,26 +91,6 @@ module _ {E : Type 0} (IsRight : ℕ → ℕ → E → Type 0) (IsWanted : ℕ �
 
 -- THE TABLES
 
--- an entry that is there is in the grid
-cell_some : {E : Type 0} (rows width : ℕ) (f : Entries E) (r c : ℕ) (x : E) → cell (grid_of rows width f) r c ≡ Some x
-    → (r < rows) × (c < width) × (f r c ≡ Some x)
-cell_some rows width f r c x e = elim (cases_lt r rows) [
-  | inr past ↦ absurd (let no : None ≡ Some x = sym (cell-grid_of_past rows width f r c (inl past)) ∙ e in cc)
-  | inl row ↦ elim (cases_lt c width) [
-    | inr past ↦ absurd (let no : None ≡ Some x = sym (cell-grid_of_past rows width f r c (inr past)) ∙ e in cc)
-    | inl column ↦ (row, column, sym (cell-grid_of rows width f r c row column) ∙ e)
-  ]
-]
-
-pub mapped_some : {X Y : Type 0} (f : X → Y) (o : Option X) (y : Y) → option_map f o ≡ Some y
-    → (x : X) × (o ≡ Some x) × (f x ≡ y)
-mapped_some f None y e = absurd cc
-mapped_some f (Some x) y e = (x, refl, cc)
-
-mapped_none : {X Y : Type 0} (f : X → Y) (o : Option X) → option_map f o ≡ None → o ≡ None
-mapped_none f None e = refl
-mapped_none f (Some x) e = absurd cc
-
 no_default : (n k p : ℕ) → slice_get (map (option_map (λ (q : RuleNo). q.0)) (replicate n None)) k ≢ Some (Some p)
 no_default zero k p e = cc
 no_default (suc n) zero p e = cc
@@ -147,12 +123,12 @@ module _ (s : Spec) (M : Automaton) (is : IsAutomaton M) (useful : KeepsUseful s
     nonterminals = is_nonterminals ∙ sym useful.accept;
     states = length-map defaults (option_map (λ (p : RuleNo). p.0)) ∙ count;
     some = λ k t a lt e.
-        let there = cell_some (length defaults) terminals (actions_from actions) k t a e in
-        let x = mapped_some action_from (actions k t) a there.2 in
+        let there = cell-grid_of_some (length defaults) terminals (actions_from actions) k t a e in
+        let x = option_map-some action_from (actions k t) a there.2 in
         let d = done.right k t x.0 x.1 in
         (d.0, d.1, subst (IsEntryFor M k t d.0) x.2 d.2);
     none = λ k t lt within e a raw.
-        done.whole k t lt (mapped_none action_from (actions k t)
+        done.whole k t lt (option_map-none action_from (actions k t)
         (sym (cell-grid_of (length defaults) terminals (actions_from actions) k t (omega (arith, lt, count))
         (let same = is_terminals ∙ sym useful.terminals in omega (arith, within, same))) ∙ e)) (a, raw);
     gotos = λ k A lt within.
@@ -194,13 +170,13 @@ module _ (s : Spec) (M : Automaton) (is : IsAutomaton M) (useful : KeepsUseful s
   is_machine lawful shapes = record {
     bottom = let some = is.some in let long = are_tables.states in omega (arith, some, long);
     actions = λ k t a e.
-        let there = cell_some (length defaults) terminals (actions_from actions) k t a e in
+        let there = cell-grid_of_some (length defaults) terminals (actions_from actions) k t a e in
         let row = there.0 in
         let d = are_tables.some k t a (omega (arith, row, count)) e in
         legal k t a d.0 d.1 d.2;
     defaults = λ k p e. absurd (are_tables.no_default k p e);
     gotos = λ k A next e.
-        let there = cell_some (length defaults) nonterminals (gotos_from gotos) k A next e in
+        let there = cell-grid_of_some (length defaults) nonterminals (gotos_from gotos) k A next e in
         let row = there.0 in
         let lt = leads_to M is k (nonterminal A) next
         (sym (goto_same k A (omega (arith, row, count))) ∙ there.2) in

@@ -14,6 +14,7 @@ use Rattle.ly_grammar.specs.Items.{InLookahead, IsNextSymbol, IsViable, Merges, 
 use Rattle.ly_grammar.specs.Reduction.{KeepsUseful}
 use Rattle.ly_grammar.proofs.ItemLemmas.{body_of, length-onto}
 use Rattle.ly_lr0.specs.Automaton.{Automaton, IsAutomaton, Reaches, goto_of, prefix_of}
+use Rattle.ly_lr0.proofs.LawLemmas.{reached_within}
 use Rattle.ly_relate.proofs.ReachLemmas.{Reaches_one}
 use Rattle.ly_pack.specs.Defaults.{HasDefaultsOf, IsDefaultOf, is_by, without}
 use Rattle.ly_pack.specs.Machine.{Machine, TableAction, TableRule, action_of, entry_at, goto_at, or_default, states_of}
@@ -29,7 +30,7 @@ use Rattle.ly_resolve.specs.Machine as machine
 use Rattle.ly_resolve.specs.Precedence.{judge_of}
 use Rattle.ly_resolve.proofs.AcceptedLemmas.{behind_start}
 use Rattle.ly_resolve.proofs.DefaultLemmas.{never_mislead}
-use Rattle.ly_resolve.proofs.RawLemmas.{merges_back, raw_too, reached_merges, reached_within}
+use Rattle.ly_resolve.proofs.RawLemmas.{merges_back, raw_too, reached_merges}
 use Rattle.ly_resolve.proofs.RefuseLemmas.{HasNoEnd-under, unread, waits}
 use Rattle.ly_resolve.proofs.StackLemmas.{ends_with_read, length-symbols_of, symbols_of-append}
 use Rattle.ly_tree.specs.Term.{Term, Terms, build, builds, made}

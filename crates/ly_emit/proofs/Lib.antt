@@ -1,5 +1,4 @@
 pub mod AlikeLemmas
-pub mod CombSizeLemmas
 pub mod EndLemmas
 pub mod FillLemmas
 pub mod FollowLemmas

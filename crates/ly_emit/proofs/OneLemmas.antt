@@ -1,6 +1,6 @@
 -- The tables of a specification are one, with the automaton that they are of; so they are steady together.
-use Rattle.std.proofs.Common.{◌≡◌, ◌∙◌, inl, inr, ℕ, zero, suc, ◌-◌, ◌<◌, ◌≤◌, [], ◌∷◌, Bool, true, false, Option}
-use Rattle.std.proofs.Common.{Some, None, ap, arith, filter, get_or, if◌then◌else◌, length, refl, slice_get, subst, sym}
+use Rattle.std.proofs.Common.{◌≡◌, ◌∙◌, inl, inr, ℕ, zero, suc, ◌-◌, ◌<◌, ◌≤◌, [], ◌∷◌, Option}
+use Rattle.std.proofs.Common.{Some, None, ap, arith, filter, get_or, length, refl, slice_get, subst, sym}
 use Rattle.std.specs.List.{range_with_len}
 use Rattle.std.proofs.lemmas.List.{same_lists}
 use Rattle.std.proofs.lemmas.List.Elements.{All-cons, All-nil}
@@ -20,6 +20,7 @@ use Rattle.ly_pack.specs.Machine.{states_of}
 use Rattle.ly_pack.specs.Machine as table
 use Rattle.ly_pack.specs.Rows.{cell}
 use Rattle.ly_pack.specs.Steady.{IsSteady, IsTableEdge, by_goto, by_shift, rule_at, run_bound}
+use Rattle.ly_pack.proofs.DefaultLemmas.{without_some}
 use Rattle.ly_pack.proofs.PlacementLemmas.{default_is_one}
 use Rattle.ly_resolve.specs.Actions.{Action, IsAction, error, reduce, shift}
 use Rattle.ly_resolve.specs.Precedence.{judge_of}
@@ -56,15 +57,6 @@ entry_is M k t error (table.shift state) is = absurd is
 entry_is M k t error table.accept is = absurd is
 entry_is M k t error (table.reduce q) is = absurd is
 entry_is M k t error table.error is = refl
-
--- an entry that is left is the one that was there
-was_there : (d : Option ℕ) (o : Option TableAction) (a : TableAction) → without d o ≡ Some a → o ≡ Some a
-was_there None o a e = e
-was_there (Some p) o a e = by_test (is_by p o) e
-  where
-    by_test : (b : Bool) → (if b then None else o) ≡ Some a → o ≡ Some a
-    by_test true e = absurd cc
-    by_test false e = e
 
 module _ (s : Spec) (M : Automaton) (is : IsAutomaton M) (useful : KeepsUseful s.grammar M.grammar) where
   -- what a shift's entry leads to is a state
@@ -126,7 +118,7 @@ module _ (s : Spec) (M : Automaton) (is : IsAutomaton M) (useful : KeepsUseful s
           by_entry None at e = by_default (get_or m.defaults k None) refl
               (sym (ap (or_default None) (default_at k lt)) ∙ e)
           by_entry (Some x) at e = entry_rule k t p lt
-              (was_there (get_or m.defaults k None) (entry_at a k t) (table.reduce p)
+              (without_some (get_or m.defaults k None) (entry_at a k t) (table.reduce p)
               (sym (entry_left k t lt) ∙ at ∙ ap Some e))
 
   -- the tables without defaults
@@ -233,7 +225,7 @@ module _ (s : Spec) (M : Automaton) (is : IsAutomaton M) (useful : KeepsUseful s
           let entry = shift_entry n below t top e in
           let inside = within.actions below t (table.shift top) entry in
           let from : below < length M.states = omega (arith, inside.0, count b two n too) in
-          let was = was_there (get_or n.defaults below None) (entry_at b below t) (table.shift top)
+          let was = without_some (get_or n.defaults below None) (entry_at b below t) (table.shift top)
           (sym (entry_left b two n too below t from) ∙ entry) in
           let taken = two.some below t (table.shift top) from was in
           record {

@@ -7,10 +7,11 @@ use Rattle.std.proofs.lemmas.Bool.{cases_lt}
 use Rattle.std.proofs.lemmas.List.{length-map}
 use Rattle.std.proofs.lemmas.List.Elements.{All-map}
 use Rattle.std.proofs.lemmas.Nat.{mul-le}
-use Rattle.std.proofs.lemmas.Option.{get_or_from_slice_get, same_Some, slice_get-get_or, slice_get-map}
+use Rattle.std.proofs.lemmas.Option.{same_Some, slice_get-get_or, slice_get-map}
 use Rattle.std.proofs.lemmas.Option.{slice_get_within}
 use Rattle.ly_base.specs.Shape.{nil}
 use Rattle.ly_base.specs.declared.numbers.StateNo.{StateNo}
+use Rattle.ly_base.proofs.ListLemmas.{All-at}
 use Rattle.ly_ere.specs.declared.pattern.Rule.{Rule}
 use Rattle.ly_join.specs.Joined.{Spec}
 use Rattle.ly_join.specs.Sizes.{HasSizes}
@@ -28,13 +29,10 @@ use Rattle.ly_tables.specs.TableSet.{ScanRule, Starts, TableSet, machine_of}
 use Rattle.ly_emit.specs.FitsFile.{FitsFile, IsActionWithin}
 use Rattle.ly_emit.specs.SetOf.{IsSetOf}
 use Rattle.ly_emit.specs.Private.Lists.{AreLists, HasRows}
-use Rattle.ly_emit.proofs.CombSizeLemmas.{first_fit_comb, first_fit_short}
+use Rattle.ly_pack.proofs.CombSizeLemmas.{first_fit_comb, first_fit_short}
 
 all_from : {X : Type 0} (P : X → Type 0) (xs : List X) → ((k : ℕ) (x : X) → slice_get xs k ≡ Some x → P x) → All P xs
 all_from P xs each k d lt = each k _ (slice_get-get_or xs k d lt)
-
-all_at : {X : Type 0} (P : X → Type 0) (xs : List X) (k : ℕ) (x : X) → All P xs → slice_get xs k ≡ Some x → P x
-all_at P xs k x all at = subst P (get_or_from_slice_get xs k x x at) (all k x (slice_get_within xs k x at))
 
 mapped_at : {X Y : Type 0} (f : X → Y) (xs : List X) (ys : List Y) (k : ℕ) (x : X) → map f xs ≡ ys
     → slice_get xs k ≡ Some x → slice_get ys k ≡ Some (f x)
@@ -99,9 +97,9 @@ module _ (s : Spec) (M : parser.Automaton) (A : scanner.Automaton) (rules : List
   scan_rule : (k : ℕ) (r : ScanRule) → slice_get set.scan_rules k ≡ Some r
       → IsScanRule w16 (length set.terminals) (length set.conditions) r
   scan_rule k r at =
-      let does = all_at (IsActionWithin (length s.terminals) A.starts) s.scanner k r.action fits.scanner.actions
+      let does = All-at (IsActionWithin (length s.terminals) A.starts) s.scanner k r.action fits.scanner.actions
       (mapped_at (λ r. r.action) set.scan_rules s.scanner k r is.scanner.actions at) in
-      let cuts = all_at (IsCutWithin w16) (map (λ r. r.pattern.cut) rules) k r.cut
+      let cuts = All-at (IsCutWithin w16) (map (λ r. r.pattern.cut) rules) k r.cut
       (All-map (IsCutWithin w16) (λ r. r.pattern.cut) rules fits.scanner.cuts)
       (mapped_at (λ r. r.cut) set.scan_rules (map (λ r. r.pattern.cut) rules) k r is.scanner.cuts at) in
       record {
@@ -123,7 +121,7 @@ module _ (s : Spec) (M : parser.Automaton) (A : scanner.Automaton) (rules : List
   class_count = elim (cases_lt 256 set.class_count) [
     | inr le ↦ le
     | inl more ↦ let used = whole.used 256 (let same = is.scanner.class_count in omega (arith, more, same)) in
-        let within = all_at (λ class. class < 256) set.classes used.0 256 lists.classes
+        let within = All-at (λ class. class < 256) set.classes used.0 256 lists.classes
         (ap (λ cs. slice_get cs used.0) is.scanner.classes ∙ used.1) in
         absurd (omega (arith, within))
   ]
@@ -180,7 +178,7 @@ module _ (s : Spec) (M : parser.Automaton) (A : scanner.Automaton) (rules : List
       let some : 0 < length set.rules = let count = rule_count in let two = fits.grammar.some_rule in
       omega (arith, count, two) in
       let first = slice_get-get_or set.rules 0 (record { left = 0; body_length = 0; shape = nil }) some in
-      let lt = (all_at (IsRuleWithin set.nonterminals) set.rules 0 _ machine.rules first).left in
+      let lt = (All-at (IsRuleWithin set.nonterminals) set.rules 0 _ machine.rules first).left in
       omega (arith, lt)
 
   pub set_within : IsWithinRanges w16 version_1 set

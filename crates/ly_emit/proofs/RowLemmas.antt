@@ -1,27 +1,29 @@
 -- What stands in the rows that tables are filled from.
-use Rattle.std.proofs.Common.{◌≡◌, ◌∙◌, inl, inr, ℕ, zero, suc, ◌+◌, ◌-◌, ◌<◌, ◌≤◌, List, [], ◌∷◌, ◌++◌}
+use Rattle.std.proofs.Common.{◌≡◌, ◌∙◌, inl, inr, ℕ, ◌+◌, ◌-◌, ◌<◌, ◌≤◌, List, [], ◌∷◌, ◌++◌}
 use Rattle.std.proofs.Common.{Some, ap, arith, length, map, option_map, refl, slice_get, slice_index_or}
 use Rattle.std.proofs.Common.{subst, sym}
 use Rattle.std.proofs.lemmas.Bool.{cases_eq}
 use Rattle.std.proofs.lemmas.List.{length-append, map-append}
 use Rattle.std.proofs.lemmas.Option.{get_or_from_slice_get, slice_get-get_or, slice_get-map, slice_get_within}
 use Rattle.ly_base.specs.Shape.{shape_of}
+use Rattle.ly_base.proofs.ListLemmas.{option_map-some, slice_get-append, slice_get-behind}
 use Rattle.ly_join.specs.Grammar.{Grammar, IsAugmented, IsRule, Rule, Symbol, nonterminal, symbol_of}
 use Rattle.ly_join.specs.Joined.{Spec, note_of}
 use Rattle.ly_join.specs.declared.rule.RuleNote.{RuleNote}
+use Rattle.ly_join.proofs.ListLemmas.{member_at, placed}
 use Rattle.ly_lr0.specs.Automaton.{Automaton, IsAutomaton, goto_of, state_at, target_of}
 use Rattle.ly_lr0.specs.Transitions.{transition_of}
 use Rattle.ly_lr0.specs.declared.transition.Transition as code
-use Rattle.ly_relate.proofs.GotoLemmas.{Contains_at, at_Contains, goto_at, has_target, nowhere, target_has}
+use Rattle.ly_lr0.proofs.StateLemmas.{state_there, target_some}
+use Rattle.ly_relate.proofs.GotoLemmas.{goto_at, has_target, nowhere}
 use Rattle.ly_relate.proofs.LeaveLemmas.{no_accept_transition, symbol_named}
 use Rattle.ly_pack.specs.Values.{rule_from}
 use Rattle.ly_pack.specs.declared.rule.TableRule as rule
-use Rattle.ly_resolve.proofs.RawLemmas.{raw_within, state_there}
+use Rattle.ly_resolve.proofs.RawLemmas.{raw_within}
 use Rattle.ly_resolve.specs.Actions.{Action, IsAction, IsRaw, Judge, error, reduce, shift}
 use Rattle.ly_resolve.specs.Resolved.{IsRow}
 use Rattle.ly_resolve.specs.Values.{action_from, entry_from}
 use Rattle.ly_resolve.specs.declared.action.Entry as entry
-use Rattle.ly_emit.proofs.FillLemmas.{mapped_some}
 use Rattle.ly_emit.specs.Private.Filling.{AreRulesTo}
 use Rattle.ly_emit.specs.Tables.{shape_from, shape_in}
 
@@ -41,17 +43,17 @@ module _ (M : Automaton) (is : IsAutomaton M) (k : ℕ) (lt : k < length M.state
         goto_at M k (state_at M k) (nonterminal A) there
         ∙ ap (target_of (state_at M k).transitions) (sym named)
         ∙ has_target (state_at M k).transitions t (is.each k (state_at M k) there).ordered
-        (at_Contains (state_at M k).transitions i t at)
+        (member_at (state_at M k).transitions i t at)
 
     -- and where it goes, a transition leads
     pub found_at : (A s : ℕ) → goto_of M k (nonterminal A) ≡ Some s
         → (j : ℕ) × (j < length ts) × (symbol_of (slice_index_or ts j nowhere).symbol ≡ nonterminal A)
     found_at A s goes =
         let there = state_there M k lt in
-        let place = Contains_at (state_at M k).transitions (record { symbol = nonterminal A; target = s })
-        (target_has (state_at M k).transitions (nonterminal A) s
+        let place = placed (state_at M k).transitions (record { symbol = nonterminal A; target = s })
+        (target_some (state_at M k).transitions (nonterminal A) s
         (sym (goto_at M k (state_at M k) (nonterminal A) there) ∙ goes)) in
-        let x = mapped_some transition_of (slice_get ts place.0) (record { symbol = nonterminal A; target = s })
+        let x = option_map-some transition_of (slice_get ts place.0) (record { symbol = nonterminal A; target = s })
         (sym (slice_get-map transition_of ts place.0) ∙ ap (λ w. slice_get w place.0) e ∙ place.1) in (
           place.0,
           slice_get_within ts place.0 x.0 x.1,
@@ -95,18 +97,9 @@ module _ (row : List entry.Entry) (i : ℕ) (d : entry.Entry) (lt : i < length r
   pub done_there : (G : Grammar) (judge : Judge) (g : List Symbol) → IsRow G judge g (map entry_from row)
       → IsAction G judge g (slice_index_or row i d).terminal.0 (action_from (slice_index_or row i d).action)
   done_there G judge g is = (is.are (entry_from (slice_index_or row i d))).0
-      (at_Contains (map entry_from row) i (entry_from (slice_index_or row i d)) entry_there)
+      (member_at (map entry_from row) i (entry_from (slice_index_or row i d)) entry_there)
 
 -- RULES
-
-last_there : {X : Type 0} (xs : List X) (y : X) → slice_get (xs ++ y ∷ []) (length xs) ≡ Some y
-last_there [] y = refl
-last_there (x ∷ xs) y = last_there xs y
-
-front_there : {X : Type 0} (xs ys : List X) (k : ℕ) (x : X) → slice_get xs k ≡ Some x → slice_get (xs ++ ys) k ≡ Some x
-front_there [] ys k x at = absurd cc
-front_there (z ∷ xs) ys zero x at = at
-front_there (z ∷ xs) ys (suc k) x at = front_there xs ys k x at
 
 -- one more rule
 pub rules_more : (s : Spec) (n : ℕ) (old new : List rule.TableRule) (v : rule.TableRule) (r : Rule) → 1 ≤ n
@@ -128,11 +121,11 @@ rules_more s n old new v r some before is e pushed = record {
         let place : p - 1 ≡ length (map rule_from old) = omega (arith, same, count) in
         ap (λ w. slice_get w (p - 1)) whole
         ∙ ap (slice_get (map rule_from old ++ rule_from v ∷ [])) place
-        ∙ last_there (map rule_from old) (rule_from v)
+        ∙ slice_get-behind (map rule_from old) [] (length (map rule_from old)) (rule_from v) refl
         ∙ ap Some (e ∙ ap (λ y. record { left = y.left; body_length = length y.body; shape = shape_in s n }) rule
         ∙ ap (λ k. record { left = x.left; body_length = length x.body; shape = shape_in s k }) (sym same))
     | inr off ↦ ap (λ w. slice_get w (p - 1)) whole
-        ∙ front_there (map rule_from old) (rule_from v ∷ []) (p - 1) _
+        ∙ slice_get-append (map rule_from old) (rule_from v ∷ []) (p - 1) _
         (before.these p x le (omega (arith, lt, off)) is')
   ];
 }

@@ -2,13 +2,15 @@
 use Rattle.std.proofs.Common.{◌≡◌, ◌∙◌, inl, inr, ℕ, zero, suc, ◌≤◌, List, [], ◌∷◌, ◌++◌, Some, None}
 use Rattle.std.proofs.Common.{All, Option, ap, arith, false, length, map, nat_eq, option_map, refl}
 use Rattle.std.proofs.Common.{slice_get, subst, sym, true}
-use Rattle.std.specs.List.{AllPairs, AllZip, list_any}
+use Rattle.std.specs.List.{AllPairs, list_any}
 use Rattle.std.proofs.lemmas.Bool.{eq-eqb}
 use Rattle.std.proofs.lemmas.List.Elements.{All-append, All-cons, All-nil}
 use Rattle.std.proofs.lemmas.Option.{slice_get-map}
+use Rattle.std.proofs.lemmas.Slice.Zip.{AllZip-long}
 use Rattle.ly_base.proofs.MemberLemmas.{Contains-one}
 use Rattle.ly_base.specs.Language.{IsName}
 use Rattle.ly_base.specs.declared.language.Language.TheVariants.{Lex}
+use Rattle.ly_base.proofs.ListLemmas.{AllPairs-append}
 use Rattle.ly_yaccread.specs.Actions.{ActionPassed, IsPlace, Making, MorePlaces, Places, ValueFirst, build, builds}
 use Rattle.ly_yaccread.specs.Actions.{default, last, more, none, pass, passes, some}
 use Rattle.ly_yaccread.specs.Rules.{BodyEnd, LateAction, Ruling, YaccRules, end, rule, semicolon}
@@ -17,7 +19,6 @@ use Rattle.ly_join.specs.Grammar.{Rule, Symbol}
 use Rattle.ly_join.specs.Joined.{AreJoined, IsJoinedRule, Note, SymbolTable, shape_by, table_of}
 use Rattle.ly_join.proofs.NumberingLemmas.{any_member}
 use Rattle.ly_pack.specs.Machine.{IsShapeFor}
-use Rattle.ly_resolve.proofs.MeetingLemmas.{AllPairs-append}
 use Rattle.ly_emit.specs.Laws.{ShapesAreWithin}
 use Rattle.ly_emit.specs.Tables.{shape_from}
 
@@ -134,12 +135,6 @@ joined_at m (r ∷ rs) (g ∷ rules) (n ∷ notes) all (suc k) x at =
       joined = later.joined;
     }
 
-zip_length : {X Y : Type 0} (R : X → Y → Type 0) (xs : List X) (ys : List Y) → AllZip R xs ys → length ys ≡ length xs
-zip_length R [] [] zip = refl
-zip_length R [] (y ∷ ys) zip = absurd zip
-zip_length R (x ∷ xs) [] zip = absurd zip
-zip_length R (x ∷ xs) (y ∷ ys) zip = omega (arith, zip_length R xs ys zip.1)
-
 pub shapes_are_within : ShapesAreWithin
 shapes_are_within bytes x w s text joined zero r le is = absurd (omega (arith, le))
 shapes_are_within bytes x w s text joined (suc k) r le is =
@@ -148,7 +143,7 @@ shapes_are_within bytes x w s text joined (suc k) r le is =
     let at : slice_get joined.rules k ≡ Some r
     = there (slice_get joined.rules k) (sym (slice_get-map Some joined.rules k) ∙ listed) in
     let from = joined_at (table_of s) w.rules joined.rules joined.notes joined.joined k r at in
-    let long = zip_length _ from.ruling.body r.body from.joined.body in
+    let long = AllZip-long _ from.ruling.body r.body from.joined.body in
     let note : slice_get s.notes (suc k) ≡ Some from.note
     = ap (λ ns. slice_get ns (suc k)) joined.all_notes ∙ from.is_note in
     subst (IsShapeFor (length r.body)) (sym (ap shape_from note ∙ from.joined.shape))

@@ -15,7 +15,8 @@ use Rattle.ly_base.proofs.MemberLemmas.{Contains-cons_cases, Contains-none, flat
 use Rattle.ly_base.specs.Bytes.{backslash, newline, single_quote, tab}
 use Rattle.ly_base.specs.Escapes.{AllPass}
 use Rattle.ly_base.specs.Language.{IsName, continues_name, is_letter}
-use Rattle.ly_base.specs.Limits.{AreBounded, Sizes}
+use Rattle.ly_base.specs.Limits.{AreBounded, Sizes, sizes_in}
+use Rattle.ly_base.specs.declared.version.Version.TheVariants.{V1}
 use Rattle.ly_base.specs.Text.{escape_for, escaped_byte, is_plain}
 use Rattle.ly_base.specs.Trees.{Tree, leaf, node}
 use Rattle.ly_base.specs.declared.language.Language.{Language}
@@ -173,8 +174,9 @@ shape_short default (X ∷ body) built short = tt
 shape_short (pass p) body built short = tt
 shape_short (build n ps) body built short = ((name_long Lex n built, short), name_bytes n built)
 
-module _ (limits : Sizes) (yacc : List ℕ) (x : Scanning) (w : Written) (s : Spec) (bounded : AreBounded limits)
-    (text : YaccText yacc w) (joined : Joined x w s) (within : IsWithin limits x w) where
+module _ (limits : Sizes) (yacc : List ℕ) (x : Scanning) (w : Written) (s : Spec)
+    (bounded : AreBounded (sizes_in V1) limits) (text : YaccText yacc w) (joined : Joined x w s)
+    (within : IsWithin limits x w) where
   token_long : (n : List ℕ) → IsToken w n → IsNameLong n
   token_long n is =
       let there = mapped_in token_length (flat_map declared_terminals w.preamble.declarations) (token n)

@@ -1,15 +1,15 @@
 -- What two files say within the limits, and the automata that are made of it, a table file can hold.
 use Rattle.std.proofs.Common.{◌≡◌, ◌∙◌, ◌<◌, ◌≤◌, ℕ, List, Some, None, ap, arith, length, slice_get, sym}
 use Rattle.std.proofs.lemmas.Option.{get_or_from_slice_get, slice_get_within}
-use Rattle.ly_base.specs.Limits.{AreBounded, Sizes}
+use Rattle.ly_base.specs.Limits.{AreBounded, Sizes, sizes_in}
+use Rattle.ly_base.specs.declared.version.Version.TheVariants.{V1}
 use Rattle.ly_emit.specs.FitsFile.{FitsFile}
 use Rattle.ly_engine.specs.Accepted.{Specifies}
-use Rattle.ly_engine.specs.Agreement.{Agrees}
-use Rattle.ly_engine.specs.PositionWalk.{cut_in}
-use Rattle.ly_engine.specs.RowWalk.{row_walk, rows_of}
+use Rattle.ly_tokens.specs.Agreement.{Agrees}
+use Rattle.ly_tokens.specs.RowWalk.{cut_in, row_walk, rows_of}
 use Rattle.ly_engine.proofs.FitGrammarLemmas.{grammar_within}
 use Rattle.ly_engine.proofs.FitScannerLemmas.{scanner_within}
-use Rattle.ly_engine.proofs.RowAgreementLemmas.{row_walk-says, same_rules_agree}
+use Rattle.ly_tokens.proofs.RowAgreementLemmas.{row_walk-says, same_rules_agree}
 use Rattle.ly_ere.specs.Names.{defined}
 use Rattle.ly_grammar.specs.Reduction.{KeepsUseful}
 use Rattle.ly_join.specs.Joined.{Spec}
@@ -27,7 +27,7 @@ use Rattle.ly_subset.specs.Subsets.{AreSubsets}
 use Rattle.ly_subset.proofs.LawLemmas.{trim}
 
 module _ (limits : Sizes) (lex yacc : List ℕ) (s : Spec) (given : Specifies limits lex yacc s)
-    (bounded : AreBounded limits) (nfa : Nfa) (A walk : Automaton)
+    (bounded : AreBounded (sizes_in V1) limits) (nfa : Nfa) (A walk : Automaton)
     (positions : ArePositions (defined given.file.names) given.file.rules.items given.file.conditions nfa)
     (spots : HasPositions (defined given.file.names) given.file.rules.items given.file.conditions nfa)
     (subsets : AreSubsets nfa given.file.conditions A) (whole : IsAutomaton A)

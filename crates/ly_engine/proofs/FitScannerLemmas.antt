@@ -8,7 +8,8 @@ use Rattle.std.specs.List.{AllZip}
 use Rattle.std.proofs.lemmas.Bool.Decides.{nat_tests}
 use Rattle.std.proofs.lemmas.Option.{get_or_from_slice_get, same_Some, slice_get-get_or, slice_get-map}
 use Rattle.std.proofs.lemmas.Option.{slice_get_within}
-use Rattle.ly_base.specs.Limits.{AreBounded, Sizes}
+use Rattle.ly_base.specs.Limits.{AreBounded, Sizes, sizes_in}
+use Rattle.ly_base.specs.declared.version.Version.TheVariants.{V1}
 use Rattle.ly_base.specs.declared.cut.Cut.{Cut}
 use Rattle.ly_base.specs.declared.scan_action.Emitted.{Emitted}
 use Rattle.ly_base.specs.declared.scan_action.ScanAction.{ScanAction}
@@ -182,8 +183,9 @@ zip_at R (x ∷ xs) [] k y all at = absurd all
 zip_at R (x ∷ xs) (z ∷ ys) zero y all at = let same : z ≡ y = cc in (x, refl, subst (R x) same all.0)
 zip_at R (x ∷ xs) (z ∷ ys) (suc k) y all at = zip_at R xs ys k y all.1 at
 
-module _ (limits : Sizes) (lex : List ℕ) (file : LexFile) (w : Written) (s : Spec) (bounded : AreBounded limits)
-    (text : LexText lex file) (joined : Joined (scanning_of file) w s) (within : IsWithin limits (scanning_of file) w)
+module _ (limits : Sizes) (lex : List ℕ) (file : LexFile) (w : Written) (s : Spec)
+    (bounded : AreBounded (sizes_in V1) limits) (text : LexText lex file) (joined : Joined (scanning_of file) w s)
+    (within : IsWithin limits (scanning_of file) w)
     (weight : total_weight (defined file.names) file.rules.items ≤ limits.total_weight) where
   action_within : (starts : ℕ) → starts ≡ 2 * file.conditions → (k : ℕ) (c : ScanAction)
       → slice_get s.scanner k ≡ Some c → IsActionWithin (length s.terminals) starts c

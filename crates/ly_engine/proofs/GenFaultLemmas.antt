@@ -6,11 +6,12 @@ use Rattle.ly_report.specs.declared.fault.ReportFault.{ReportFault}
 use Rattle.ly_report.specs.declared.fault.ReportFault.TheVariants as report
 use Rattle.ly_engine.specs.Accepted.{IsFailedWrite, IsRefusedFor, IsUnfitFor, Specifies}
 use Rattle.std.specs.Result.{IsErrAnd}
-use Rattle.ly_position.specs.declared.fault.PosFault.{PosFault}
-use Rattle.ly_position.specs.declared.fault.PosFault.TheVariants as position
-use Rattle.ly_subset.specs.declared.fault.SubsetFault.{SubsetFault}
-use Rattle.ly_subset.specs.declared.fault.SubsetFault.TheVariants as subset
-use Rattle.ly_engine.specs.GenFault.{gen_of_report, Becomes}
+use Rattle.ly_lexread.specs.LexText.{IsLight, LexText}
+use Rattle.ly_lexread.specs.declared.file.LexFile.{LexFile}
+use Rattle.ly_tokens.specs.ScannerFault.{HasNoScanner}
+use Rattle.ly_tokens.specs.declared.scanner_fault.ScannerFault.{ScannerFault}
+use Rattle.ly_tokens.specs.declared.scanner_fault.ScannerFault.TheVariants as scanner
+use Rattle.ly_engine.specs.GenFault.{gen_of_report, gen_of_scanner, Becomes}
 use Rattle.ly_engine.specs.declared.gen_fault.GenFault.{GenFault}
 use Rattle.ly_engine.specs.declared.gen_fault.GenFault.TheVariants.{Automaton, Endless, Grammar as NoGrammar, Join, Lex}
 use Rattle.ly_engine.specs.declared.gen_fault.GenFault.TheVariants.{OutOfMemory}
@@ -23,14 +24,14 @@ when_becomes (Ok x) memory wrap f P h none some = tt
 when_becomes (Err e) memory wrap f P (inl (is, same)) none some = subst P (sym same) none
 when_becomes (Err e) memory wrap f P (inr (ne, same)) none some = subst P (sym same) (some ne)
 
--- faults without want of memory
-pub is_heavy : (f : PosFault) → f ≢ position.OutOfMemory → f ≡ position.TooManyPositions
-is_heavy position.OutOfMemory ne = absurd (ne refl)
-is_heavy position.TooManyPositions ne = refl
-
-pub is_many : (f : SubsetFault) → f ≢ subset.OutOfMemory → f ≡ subset.TooManyStates
-is_many subset.OutOfMemory ne = absurd (ne refl)
-is_many subset.TooManyStates ne = refl
+-- files whose scanner isn't within the limits are refused
+pub scanner_refused : (limits : Sizes) (lex yacc : List ℕ) (file : LexFile) (f : ScannerFault) → LexText lex file
+    → IsLight limits.pattern_weight file → HasNoScanner limits file f
+    → IsRefusedFor limits lex yacc (gen_of_scanner f)
+scanner_refused limits lex yacc file (scanner.Positions f) text light (is, heavy) = (is, (file, text, light, heavy))
+scanner_refused limits lex yacc file (scanner.States f) text light (is, within, many)
+    = (is, (file, text, light, within, many))
+scanner_refused limits lex yacc file scanner.OutOfMemory text light h = tt
 
 -- a fault that is handed on
 pub when_same : {T : Type 0} (r : Result T GenFault) (f : GenFault) (P : GenFault → Type 0) → IsErrAnd r (λ e. e ≡ f)

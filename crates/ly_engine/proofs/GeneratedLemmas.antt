@@ -1,13 +1,15 @@
 -- A table set that is made of what two files say is the one that they generate.
-use Rattle.std.proofs.Common.{◌≡◌, ◌≤◌, ℕ, List, length, subst, sym}
-use Rattle.ly_base.specs.Limits.{AreBounded, Sizes}
+use Rattle.std.proofs.Common.{◌≡◌, ◌∙◌, ◌≤◌, ℕ, List, length, subst, sym}
+use Rattle.ly_base.specs.Limits.{AreBounded, Sizes, sizes_in}
+use Rattle.ly_base.specs.declared.version.Version.TheVariants.{V1}
 use Rattle.ly_drive.specs.Verdict.{faulty}
 use Rattle.ly_emit.specs.FitsFile.{FitsFile}
-use Rattle.ly_engine.specs.Generated.{IsGenerated, IsMadeOf, IsSpecification, IsSubsetScanner}
+use Rattle.ly_engine.specs.Generated.{HasFormOf, IsGenerated, IsMadeOf, IsSpecification}
+use Rattle.ly_tokens.specs.Scanner.{IsSubsetScanner}
 use Rattle.ly_engine.specs.Headline.{IsGeneratedSet}
 use Rattle.ly_engine.proofs.FitLemmas.{fits_file}
 use Rattle.ly_engine.proofs.HeadlineLemmas.{answers_follow, tables_answer}
-use Rattle.ly_engine.proofs.RowAgreementLemmas.{same_rules_agree}
+use Rattle.ly_tokens.proofs.RowAgreementLemmas.{same_rules_agree}
 use Rattle.ly_ere.specs.Names.{defined}
 use Rattle.ly_grammar.specs.Reduction.{KeepsUseful}
 use Rattle.ly_join.specs.Joined.{Spec}
@@ -17,12 +19,14 @@ use Rattle.ly_minim.specs.Smallest.{HaveSameRules, IsReduced}
 use Rattle.ly_position.proofs.SpotLemmas.{positions_live}
 use Rattle.ly_report.specs.Report.{IsReport}
 use Rattle.ly_subset.specs.Automaton.{Automaton, IsBreadthFirst, IsTrim}
+use Rattle.ly_subset.specs.Classes.{AreClasses}
 use Rattle.ly_subset.proofs.LawLemmas.{trim}
 use Rattle.ly_tables.specs.TableSet.{TableSet}
 
 module _ (limits : Sizes) (lex yacc : List ℕ) (given : LexFile) (s : Spec) (A walk : Automaton) (set : TableSet)
     (says : IsSpecification limits lex yacc given s A) (same : HaveSameRules A walk)
-    (reduced : IsTrim A → IsReduced walk) (order : IsBreadthFirst walk) (of_given : IsMadeOf limits given s walk set)
+    (reduced : IsTrim A → IsReduced walk) (order : IsBreadthFirst walk) (class_of : walk.class_of ≡ A.class_of)
+    (classes : walk.classes ≡ A.classes) (starts : walk.starts ≡ A.starts) (of_given : IsMadeOf limits given s walk set)
   where
     file : LexFile
     file = says.specifies.file
@@ -51,6 +55,17 @@ module _ (limits : Sizes) (lex yacc : List ℕ) (given : LexFile) (s : Spec) (A 
       steady = made.steady_set.steady;
     }
 
+    form : HasFormOf file walk
+    unfolding file
+    form = record {
+      nfa = scanner.nfa;
+      positions = scanner.positions;
+      spots = scanner.spots;
+      classes = subst (λ n. AreClasses scanner.nfa walk.class_of n) (sym classes)
+          (subst (λ cs. AreClasses scanner.nfa cs A.classes) (sym class_of) scanner.subsets.classes);
+      two_starts = starts ∙ scanner.subsets.two_starts;
+    }
+
     generated : IsGenerated limits lex yacc set
     unfolding file generated_set
     generated = record {
@@ -61,6 +76,7 @@ module _ (limits : Sizes) (lex yacc : List ℕ) (given : LexFile) (s : Spec) (A 
       smallest = reduced (trim scanner.nfa file.conditions A scanner.subsets scanner.whole
           (positions_live (defined file.names) file.rules.items file.conditions scanner.nfa scanner.spots));
       order = order;
+      form = form;
       answers = answers_follow says.specifies.file says.specifies.written s set generated_set;
       never_faulty = λ text h. (tables_answer says.specifies.file says.specifies.written s set generated_set text faulty
           h).3;
@@ -74,7 +90,7 @@ module _ (limits : Sizes) (lex yacc : List ℕ) (given : LexFile) (s : Spec) (A 
 -- and a table file can hold what is made of them
 pub fits_given : (limits : Sizes) (lex yacc : List ℕ) (given : LexFile) (s : Spec) (A walk : Automaton)
     → IsSpecification limits lex yacc given s A → HaveSameRules A walk → (IsTrim A → IsReduced walk)
-    → walk.starts ≡ A.starts → AreBounded limits → (M : parser.Automaton) → parser.IsAutomaton M
+    → walk.starts ≡ A.starts → AreBounded (sizes_in V1) limits → (M : parser.Automaton) → parser.IsAutomaton M
     → KeepsUseful s.grammar M.grammar → length M.states ≤ limits.parser_states
     → FitsFile s given.rules.items walk M
 fits_given limits lex yacc given s A walk says same reduced starts bounded M is useful few =

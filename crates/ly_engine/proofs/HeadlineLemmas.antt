@@ -15,11 +15,10 @@ use Rattle.ly_emit.specs.Laws.{AreOf}
 use Rattle.ly_emit.specs.Tables.{IsMachineOf}
 use Rattle.ly_emit.proofs.FollowLemmas.{tables_follow}
 use Rattle.ly_emit.proofs.RunLemmas.{accepted_follow, reads_follow, refused_follow}
-use Rattle.ly_engine.specs.PositionWalk.{cut_in}
-use Rattle.ly_engine.specs.Printing.{condition_set, naming}
-use Rattle.ly_engine.specs.RowWalk.{row_walk}
-use Rattle.ly_engine.proofs.AgreementLemmas.{lexing_of}
-use Rattle.ly_engine.proofs.AnswerLemmas.{leaves_tokens}
+use Rattle.ly_tokens.specs.RowWalk.{cut_in, row_walk}
+use Rattle.ly_tokens.specs.Printing.{condition_set, naming}
+use Rattle.ly_tokens.proofs.AgreementLemmas.{lexing_of}
+use Rattle.ly_tokens.proofs.AnswerLemmas.{leaves_tokens}
 use Rattle.ly_ere.specs.Names.{defined}
 use Rattle.ly_engine.specs.Headline.{AnswersAreOfSpecification, IsGeneratedSet, TablesAnswerAsSpecified}
 use Rattle.ly_engine.specs.SpecAnswer.{AreTokensOf, IsNumberedToken, IsSpecVerdict}

@@ -7,9 +7,9 @@ use Rattle.std.proofs.lemmas.Option.{slice_get-get_or, slice_get-map, slice_get_
 use Rattle.ly_base.specs.declared.cut.Cut.TheVariants.{Whole}
 use Rattle.ly_drive.specs.ScanPart.{cut_in, next_in, scan_part_of, start_by, start_in, states_from, states_in}
 use Rattle.ly_emit.specs.SetOf.{IsScannerOf}
-use Rattle.ly_engine.specs.PositionWalk as patterns
-use Rattle.ly_engine.specs.RowWalk.{row_walk, rows_of}
-use Rattle.ly_engine.proofs.RowAgreementLemmas.{row_walk-says}
+use Rattle.ly_tokens.specs.RowWalk as patterns
+use Rattle.ly_tokens.specs.RowWalk.{row_walk, rows_of}
+use Rattle.ly_tokens.proofs.RowAgreementLemmas.{row_walk-says}
 use Rattle.ly_ere.specs.declared.pattern.Rule.{Rule}
 use Rattle.ly_join.specs.Joined.{Spec}
 use Rattle.ly_pack.specs.Rows.{cell, comb_entry}

@@ -29,7 +29,7 @@ use Rattle.ly_lr0.specs.Automaton as parser
 use Rattle.ly_pack.specs.Machine.{Machine, IsWithin as IsWithinRows}
 use Rattle.ly_pack.specs.Steady.{IsSteady}
 use Rattle.ly_report.specs.Report.{terminal_name}
-use Rattle.ly_engine.specs.Answers.{AreTooHeavy, HaveTooManyStates}
+use Rattle.ly_tokens.specs.Answers.{AreTooHeavy, HaveTooManyStates}
 use Rattle.ly_engine.specs.declared.gen_fault.GenFault.{GenFault}
 use Rattle.ly_engine.specs.declared.gen_fault.GenFault.TheVariants.{Automaton, Endless, Grammar as NoGrammar, Join, Lex}
 use Rattle.ly_engine.specs.declared.gen_fault.GenFault.TheVariants.{OutOfMemory}

@@ -1,9 +1,11 @@
 -- The faults of the parts as faults of generating.
 use Rattle.std.specs.Prelude.{◌≡◌, ◌≢◌, ◌⊎◌}
 use Rattle.ly_engine.specs.declared.gen_fault.GenFault.{GenFault}
-use Rattle.ly_engine.specs.declared.gen_fault.GenFault.TheVariants.{OutOfMemory, Write}
+use Rattle.ly_engine.specs.declared.gen_fault.GenFault.TheVariants.{OutOfMemory, Positions, States, Write}
 use Rattle.ly_report.specs.declared.fault.ReportFault.{ReportFault}
 use Rattle.ly_report.specs.declared.fault.ReportFault.TheVariants as report
+use Rattle.ly_tokens.specs.declared.scanner_fault.ScannerFault.{ScannerFault}
+use Rattle.ly_tokens.specs.declared.scanner_fault.ScannerFault.TheVariants as scanner
 
 -- A part's fault becomes one of the whole: its want of memory is that of the whole, and any other fault is wrapped.
 abbrev pub Becomes : {F : Type 0} → F → (F → GenFault) → F → GenFault → Type 0
@@ -13,3 +15,9 @@ Becomes memory wrap fault e = ((fault ≡ memory) × (e ≡ OutOfMemory)) ⊎ ((
 abbrev pub gen_of_report : ReportFault → GenFault
 gen_of_report (report.Write written) = Write written
 gen_of_report report.OutOfMemory = OutOfMemory
+
+-- and one of the scanner
+abbrev pub gen_of_scanner : ScannerFault → GenFault
+gen_of_scanner (scanner.Positions fault) = Positions fault
+gen_of_scanner (scanner.States fault) = States fault
+gen_of_scanner scanner.OutOfMemory = OutOfMemory

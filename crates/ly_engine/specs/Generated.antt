@@ -1,5 +1,5 @@
 -- The table set that a lex file and a yacc file generate.
-use Rattle.std.specs.Prelude.{◌≡◌, ◌≤◌, ℕ, List, length}
+use Rattle.std.specs.Prelude.{◌≡◌, ◌≤◌, ◌*◌, ℕ, List, length}
 use Rattle.std.specs.Int.{w16}
 use Rattle.ly_base.specs.Limits.{Sizes}
 use Rattle.ly_drive.specs.TableAnswer.{IsVerdict, TableAnswer}
@@ -20,17 +20,10 @@ use Rattle.ly_position.specs.Nfa.{Nfa}
 use Rattle.ly_position.specs.Patterns.{ArePositions}
 use Rattle.ly_position.specs.Spots.{HasPositions}
 use Rattle.ly_subset.specs.Automaton.{Automaton, IsAutomaton, IsBreadthFirst}
-use Rattle.ly_subset.specs.Subsets.{AreSubsets}
+use Rattle.ly_subset.specs.Classes.{AreClasses}
 use Rattle.ly_tables.specs.Ranges.{version_1, IsWithinRanges}
 use Rattle.ly_tables.specs.TableSet.{TableSet, machine_of}
-
--- The states are the sets of positions of the file's patterns.
-pub record IsSubsetScanner (file : LexFile) (A : Automaton) : Type 0 where
-  pub nfa : Nfa
-  pub positions : ArePositions (defined file.names) file.rules.items file.conditions nfa
-  pub spots : HasPositions (defined file.names) file.rules.items file.conditions nfa
-  pub subsets : AreSubsets nfa file.conditions A
-  pub whole : IsAutomaton A
+use Rattle.ly_tokens.specs.Scanner.{IsSubsetScanner}
 
 -- The set is that of a specification, of an automaton of its grammar and of a scanner's, is within the ranges of its
 -- file, and its parser's runs end.
@@ -56,8 +49,18 @@ pub record IsSpecification (limits : Sizes) (lex yacc : List ℕ) (file : LexFil
     pub scanner : IsSubsetScanner file A
     pub few : length A.rules ≤ limits.scanner_states
 
+-- The automaton's classes are those of the bytes that the same positions of the file's patterns read, numbered by their
+-- least byte, and each condition of the file has its two starts: elsewhere, and where a line begins.
+pub record HasFormOf (file : LexFile) (A : Automaton) : Type 0 where
+  pub nfa : Nfa
+  pub positions : ArePositions (defined file.names) file.rules.items file.conditions nfa
+  pub spots : HasPositions (defined file.names) file.rules.items file.conditions nfa
+  pub classes : AreClasses nfa A.class_of A.classes
+  pub two_starts : A.starts ≡ 2 * file.conditions
+
 -- The files are accepted, and the set is theirs: its scanner is the smallest of the lex file's rules, its states
--- numbered breadth first, and what it answers to any text is the specification's answer to it.
+-- numbered breadth first, its classes and conditions are the file's, and what it answers to any text is the
+-- specification's answer to it.
 pub record IsGenerated (limits : Sizes) (lex yacc : List ℕ) (set : TableSet) : Type 0 where
   pub spec : Spec
   pub specifies : Specifies limits lex yacc spec
@@ -65,6 +68,7 @@ pub record IsGenerated (limits : Sizes) (lex yacc : List ℕ) (set : TableSet) :
   pub fit : IsFit limits spec generated.automaton.grammar
   pub smallest : IsReduced generated.walk
   pub order : IsBreadthFirst generated.walk
+  pub form : HasFormOf specifies.file generated.walk
   pub answers : (text : List ℕ) (o : Outcome) (answer : List ℕ) → TableAnswer set text o answer
       → SpecAnswer specifies.file spec generated.automaton.grammar text o answer
   pub never_faulty : (text : List ℕ) → IsVerdict set text faulty → ⊥

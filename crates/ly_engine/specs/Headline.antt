@@ -4,9 +4,8 @@ use Rattle.ly_drive.specs.TableAnswer.{IsVerdict, TableAnswer}
 use Rattle.ly_drive.specs.Verdict.{Verdict}
 use Rattle.ly_drive.specs.declared.outcome.Outcome.{Outcome}
 use Rattle.ly_emit.specs.SetOf.{IsSetOf}
-use Rattle.ly_engine.specs.Agreement.{Agrees}
-use Rattle.ly_engine.specs.PositionWalk.{cut_in}
-use Rattle.ly_engine.specs.RowWalk.{row_walk}
+use Rattle.ly_tokens.specs.Agreement.{Agrees}
+use Rattle.ly_tokens.specs.RowWalk.{cut_in, row_walk}
 use Rattle.ly_ere.specs.Names.{defined}
 use Rattle.ly_grammar.specs.Reduction.{KeepsUseful}
 use Rattle.ly_engine.specs.SpecAnswer.{IsSpecVerdict, SpecAnswer}

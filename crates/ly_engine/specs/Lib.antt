@@ -1,15 +1,8 @@
 pub mod Accepted
-pub mod Agreement
 pub mod AnswerFault
-pub mod Answering
-pub mod Answers
 pub mod GenFault
 pub mod Generated
 pub mod Headline
 pub mod Laws
-pub mod PositionWalk
-pub mod Printing
-pub mod Private
-pub mod RowWalk
+pub mod SentenceAnswer
 pub mod SpecAnswer
-pub mod TokensFault

@@ -14,7 +14,7 @@ use Rattle.ly_drive.specs.Vocabularies.{constructor_of}
 use Rattle.ly_drive.specs.declared.outcome.Outcome.{Outcome}
 use Rattle.ly_emit.specs.Tables.{shape_in}
 use Rattle.ly_engine.specs.Accepted.{terminal_name_in}
-use Rattle.ly_engine.specs.Printing.{condition_set, naming}
+use Rattle.ly_tokens.specs.Printing.{condition_set, naming}
 use Rattle.ly_ere.specs.Names.{defined}
 use Rattle.ly_join.specs.Grammar.{Grammar}
 use Rattle.ly_join.specs.Joined.{Spec}

@@ -12,7 +12,7 @@ ghost use Rattle.ly_engine.specs.declared.gen_fault.GenFault.TheVariants as gen;
 
 use crate::answer_fault::AnswerFault;
 use crate::generating::generated;
-use ly_base::{Limits, Sink, Source};
+use ly_base::{Limits, Sink, Source, Version};
 use ly_drive::{DriveFault, Outcome, run};
 use std::alloc::Global;
 
@@ -42,7 +42,7 @@ pub fn answer<R: Source, W: Sink>(
     ensures writer_held { OnOk result (W.failures writer.new ≡ W.failures writer.old) }
     ensures untouched { IfErr result (λ e. IsBeforeWriting e → writer.new ≡ writer.old) }
 {
-    let generated = generated(alloc, lex, yacc, Limits::V1)?;
+    let generated = generated(alloc, lex, yacc, Limits::V1.within(Version::V1))?;
     match run(alloc, generated.set, reader, writer) {
         Ok(outcome) => Ok(outcome),
         Err(DriveFault::Read) => Err(AnswerFault::Read),

@@ -1,12 +1,10 @@
 ghost use Rattle.std.specs.Prelude.{◌≡◌};
-ghost use Rattle.ly_engine.specs.GenFault.{gen_of_report, Becomes};
+ghost use Rattle.ly_engine.specs.GenFault.{gen_of_report, gen_of_scanner, Becomes};
 ghost use Rattle.ly_engine.specs.declared.gen_fault.GenFault.TheVariants as fault;
 ghost use Rattle.ly_grammar.specs.declared.fault.GrammarFault.TheVariants as grammar;
 ghost use Rattle.ly_join.specs.declared.fault.JoinFault.TheVariants as join;
 ghost use Rattle.ly_lexread.specs.declared.fault.LexFault.TheVariants as lex;
 ghost use Rattle.ly_lr0.specs.declared.fault.Lr0Fault.TheVariants as automaton;
-ghost use Rattle.ly_position.specs.declared.fault.PosFault.TheVariants as position;
-ghost use Rattle.ly_subset.specs.declared.fault.SubsetFault.TheVariants as subset;
 ghost use Rattle.ly_yaccread.specs.declared.fault.YaccFault.TheVariants as yacc;
 
 use ly_base::{OutOfMemory as NoMemory, StateNo, Sym};
@@ -17,6 +15,7 @@ use ly_lr0::Lr0Fault;
 use ly_position::PosFault;
 use ly_report::ReportFault;
 use ly_subset::SubsetFault;
+use ly_tokens::ScannerFault;
 use ly_yaccread::YaccFault;
 use std::alloc::AllocError;
 use thiserror::Error;
@@ -118,24 +117,14 @@ impl From<JoinFault> for GenFault {
     }
 }
 
-impl From<PosFault> for GenFault {
-    ghost from_gives = { λ f e. Becomes position.OutOfMemory fault.Positions f e };
+impl From<ScannerFault> for GenFault {
+    ghost from_gives = { λ f e. e ≡ gen_of_scanner f };
 
-    fn from(fault: PosFault) -> GenFault {
+    fn from(fault: ScannerFault) -> GenFault {
         match fault {
-            PosFault::OutOfMemory => GenFault::OutOfMemory,
-            fault => GenFault::Positions(fault),
-        }
-    }
-}
-
-impl From<SubsetFault> for GenFault {
-    ghost from_gives = { λ f e. Becomes subset.OutOfMemory fault.States f e };
-
-    fn from(fault: SubsetFault) -> GenFault {
-        match fault {
-            SubsetFault::OutOfMemory => GenFault::OutOfMemory,
-            fault => GenFault::States(fault),
+            ScannerFault::Positions(fault) => GenFault::Positions(fault),
+            ScannerFault::States(fault) => GenFault::States(fault),
+            ScannerFault::OutOfMemory => GenFault::OutOfMemory,
         }
     }
 }

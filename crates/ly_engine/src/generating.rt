@@ -1,6 +1,7 @@
 ghost use Rattle.std.specs.Prelude.{◌≡◌, ◌*◌, ◌≤◌, ℕ, IfErr, IfOk, OnOk, length};
 ghost use Rattle.std.specs.Int.{w16};
-ghost use Rattle.ly_base.specs.Limits.{Sizes};
+ghost use Rattle.ly_base.specs.Limits.{least_of, sizes_in, AreBounded, Sizes};
+ghost use Rattle.ly_base.specs.declared.version.Version.TheVariants.{V1};
 ghost use Rattle.ly_emit.specs.FitsFile.{FitsFile};
 ghost use Rattle.ly_emit.specs.Tables.{AreShapesWithin, IsMachineOf};
 ghost use Rattle.ly_grammar.specs.Reduction.{KeepsUseful};
@@ -17,7 +18,7 @@ ghost use Rattle.ly_engine.specs.Generated.{IsGenerated, IsMadeOf, IsSteadySet};
 use crate::gen_fault::GenFault;
 use crate::reporting::settle;
 use crate::specification::read_specification;
-use ly_base::{Limits, StateNo};
+use ly_base::{Limits, StateNo, Version};
 use ly_emit::{steady_machine, table_set};
 use ly_ere::Rule;
 use ly_grammar::reduce;
@@ -54,31 +55,33 @@ pub(crate) struct Made {
 /// The bytes of the table file of a lex file and a yacc file (POSIX, XCU lex and yacc): what a driver answers by it is
 /// what they say of a text.
 ///
-/// Its faults are those of `GenFault` but `Write`.
+/// A limit above that of version 1 of the table file counts as that. Its faults are those of `GenFault` but `Write`.
 pub fn generate(
     alloc: Global,
     lex: &[u8],
     yacc: &[u8],
     limits: &Limits,
 ) -> Result<Vec<u8>, GenFault>
-    ensures generated { IfOk result (λ bytes. (s : Tables) × IsGenerated limits.now lex.now yacc.now s
+    ensures generated { IfOk result (λ bytes. (s : Tables)
+        × IsGenerated (least_of limits.now (sizes_in V1)) lex.now yacc.now s
         × TableText bytes.items w16 1 version_1 s) }
-    ensures refused { IfErr result (IsRefusedFor limits.now lex.now yacc.now) }
+    ensures refused { IfErr result (IsRefusedFor (least_of limits.now (sizes_in V1)) lex.now yacc.now) }
 {
-    let generated = generated(alloc, lex, yacc, *limits)?;
+    let generated = generated(alloc, lex, yacc, limits.within(Version::V1))?;
     Ok(write_tables(alloc, &generated.set)?)
 }
 
 /// The table file of a lex file and a yacc file, as `generate` gives it, together with their report, as
 /// `generate_report` writes it.
 ///
-/// Its faults are those of `GenFault` but `Write`.
+/// A limit above that of version 1 of the table file counts as that. Its faults are those of `GenFault` but `Write`.
 pub fn build(alloc: Global, lex: &[u8], yacc: &[u8], limits: &Limits) -> Result<Built, GenFault>
-    ensures built { IfOk result (λ b. (s : Tables) × (g : IsGenerated limits.now lex.now yacc.now s)
+    ensures built { IfOk result (λ b. (s : Tables)
+        × (g : IsGenerated (least_of limits.now (sizes_in V1)) lex.now yacc.now s)
         × TableText b.tables.items w16 1 version_1 s × IsReport g.spec b.report.items) }
-    ensures refused { IfErr result (IsRefusedFor limits.now lex.now yacc.now) }
+    ensures refused { IfErr result (IsRefusedFor (least_of limits.now (sizes_in V1)) lex.now yacc.now) }
 {
-    let generated = generated(alloc, lex, yacc, *limits)?;
+    let generated = generated(alloc, lex, yacc, limits.within(Version::V1))?;
     Ok(Built {
         tables: write_tables(alloc, &generated.set)?,
         report: generated.report,
@@ -92,15 +95,15 @@ pub(crate) fn generated(
     yacc: &[u8],
     limits: Limits,
 ) -> Result<Made, GenFault>
+    requires bounded { AreBounded (sizes_in V1) limits }
     ensures generated { IfOk result (λ g. (is : IsGenerated limits lex.now yacc.now g.set)
         × IsReport is.spec g.report.items) }
     ensures refused { IfErr result (IsRefusedFor limits lex.now yacc.now) }
 {
     let given = read_specification(alloc, lex, yacc, &limits)?;
     let dfa = minimise(alloc, given.subsets)?;
-    // by their contracts each state has a row, and no limit is above version 1's
+    // by its contract each state has a row
     let _states = dfa.len();
-    limits.are_bounded();
     made_of(alloc, &given.file, &given.spec, &dfa, &limits)
 }
 

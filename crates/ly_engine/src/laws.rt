@@ -1,20 +1,8 @@
 ghost use Rattle.ly_engine.specs.Headline.{AnswersAreOfSpecification, TablesAnswerAsSpecified};
-ghost use Rattle.ly_engine.specs.Laws.{AnswerIsOne, PositionWalkAgrees, RefusalIsExact, RowWalkAgrees};
+ghost use Rattle.ly_engine.specs.Laws.{RefusalIsExact};
+ghost use Rattle.ly_engine.specs.SentenceAnswer.{AnswersSentences};
 
-/// The bytes of a lex file and those of a text have one answer, whose end is one too.
-pub fn answer_is_one()
-    ensures { AnswerIsOne }
-{}
-
-/// The walk over the sets of positions of a lex file agrees with its rules.
-pub fn position_walk_agrees()
-    ensures { PositionWalkAgrees }
-{}
-
-/// The walk over the rows of an automaton that has the rules of a lex file's subsets agrees with them too.
-pub fn row_walk_agrees()
-    ensures { RowWalkAgrees }
-{}
+use ly_drive::{a_text_has_a_verdict, a_text_has_one_verdict};
 
 /// What a refusal says of a lex file and a yacc file is never so of files that are accepted.
 pub fn refusal_is_exact()
@@ -26,3 +14,12 @@ pub fn tables_answer_as_specified()
     ensures verdicts { TablesAnswerAsSpecified }
     ensures answers { AnswersAreOfSpecification }
 {}
+
+/// Without conflicts the one answer to a text is the tree of the only derivation of its tokens; or it names the first
+/// token that continues no sentence, or the byte at which no rule matches, behind tokens that begin a sentence.
+pub fn sentences_are_answered()
+    ensures { AnswersSentences }
+{
+    a_text_has_one_verdict();
+    a_text_has_a_verdict();
+}

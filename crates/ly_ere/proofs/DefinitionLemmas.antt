@@ -16,7 +16,7 @@ use Rattle.std.proofs.lemmas.List.Elements.{All-contains, Contains-append_left, 
 use Rattle.std.proofs.lemmas.List.Elements.{Contains-push_cases}
 use Rattle.std.proofs.lemmas.Option.{get_or_from_slice_get, slice_get-get_or, slice_get_within}
 use Rattle.ly_ere.specs.Definitions.{AreDistinct, AreLightNames, AreNames, ArePlaced, AreRefused, AreSpelled}
-use Rattle.ly_ere.specs.Definitions.{CanFollow}
+use Rattle.ly_ere.specs.Definitions.{CanFollow, HasText}
 use Rattle.ly_ere.specs.Definitions.{IsHeavyDefinition}
 use Rattle.ly_ere.specs.Definitions.{IsPlacedNext, DefinedText, named_text, named_texts, next}
 use Rattle.ly_ere.specs.declared.definitions.NamedText.{NamedText}
@@ -25,7 +25,8 @@ use Rattle.ly_ere.specs.Definitions as definitions
 use Rattle.ly_ere.specs.Expression.{Expression, empty}
 use Rattle.ly_ere.specs.Names.{Definition, defined, number_of}
 use Rattle.ly_ere.specs.Patterns.{IsExpression}
-use Rattle.ly_ere.specs.Private.Definitions.{AreRead, ArePlacing, IsNoText, IsTextRefusal, expression_at, known_names}
+use Rattle.ly_ere.specs.Private.Definitions.{AreRead, ArePlacing, IsTextRefusal, expression_at}
+use Rattle.ly_ere.specs.Definitions.{IsNoText, known_names}
 use Rattle.ly_ere.specs.Private.Definitions.{text_uses}
 use Rattle.ly_ere.specs.Private.Front.{IsFrontExpression}
 use Rattle.ly_ere.specs.Private.Turns.{AreInTurn, AreThere, IsLastTurn, HasAllTaken, next as in_turn, none as no_turn}
@@ -141,6 +142,32 @@ module _ (known : List Definition) (list : List DefinedText) (d : DefinedText) (
           (text_uses t) v.items [] []
           ∙ last e (subst (λ (k : DefinedText). IsExpression known k.text e) (sym same) text)))
 
+  -- each is an expression, or uses nothing
+  each_more : HasText known d.text ⊎ (v.items ≡ []) → (n : ℕ) (c : DefinedText)
+      → slice_get (list ++ d ∷ []) n ≡ Some c → HasText known c.text ⊎ (uses_at (text_uses u) n ≡ [])
+  each_more last n c is = by (last_cases list d n c is)
+    where
+      here : n < length list → uses_at (text_uses u) n ≡ uses_at (text_uses t) n
+      here less = ap (λ us. uses_at us n) all_uses
+          ∙ get_or-append (text_uses t) (v.items ∷ []) [] n (omega (arith, long, less))
+
+      before : n < length list → HasText known c.text ⊎ (uses_at (text_uses t) n ≡ [])
+          → HasText known c.text ⊎ (uses_at (text_uses u) n ≡ [])
+      before less (inl e) = inl e
+      before less (inr none) = inr (here less ∙ none)
+
+      at_end : n ≡ length list → d ≡ c → HasText known d.text ⊎ (v.items ≡ [])
+          → HasText known c.text ⊎ (uses_at (text_uses u) n ≡ [])
+      at_end end same (inl e) = inl (subst (λ (k : DefinedText). HasText known k.text) same e)
+      at_end end same (inr none) = inr (ap (λ us. uses_at us n) all_uses
+          ∙ (ap (uses_at (text_uses t ++ v.items ∷ [])) (end ∙ sym long)
+          ∙ (get_or-append_seam (text_uses t) v.items [] [] ∙ none)))
+
+      by : ((n < length list) × (slice_get list n ≡ Some c)) ⊎ ((n ≡ length list) × (d ≡ c))
+          → HasText known c.text ⊎ (uses_at (text_uses u) n ≡ [])
+      by (inl (less, was)) = before less (a.each n c was)
+      by (inr (end, same)) = at_end end same last
+
   -- a refusal stays one
   refusal_later : (r : Refusal) → IsTextRefusal known list r → IsTextRefusal known (list ++ d ∷ []) r
   refusal_later r is =
@@ -152,6 +179,7 @@ module _ (known : List Definition) (list : List DefinedText) (d : DefinedText) (
         none = is.none;
         memory = is.memory;
         weight = is.weight;
+        cycle = is.cycle;
       }
 
   pub refusals_later : (r : Refusal) → t.refusal ≡ Some r → IsTextRefusal known (list ++ d ∷ []) r
@@ -165,6 +193,7 @@ module _ (known : List Definition) (list : List DefinedText) (d : DefinedText) (
     counted = counted;
     there = there (subst (All (λ x. x < length known)) (sym items) below);
     uses = used (λ e text. items ∙ ap uses_of (expression_one known d.text re e found text));
+    each = each_more (inl (re, found));
     whole = λ none. omega (
       arith,
       ap length more,
@@ -193,6 +222,7 @@ module _ (known : List Definition) (list : List DefinedText) (d : DefinedText) (
     counted = counted;
     there = there (subst (All (λ x. x < length known)) (sym items) (λ i e l. absurd (omega (arith, l))));
     uses = used (λ e text. absurd (no_text e text));
+    each = each_more (inr items);
     whole = λ none. absurd (some none);
     expressions = λ none. absurd (some none);
     refusal = refusal;
@@ -613,6 +643,7 @@ pub refused_heavy : (most : ℕ) (list : List DefinedText) (order : List ℕ) (n
 refused_heavy most list order names numbers n d e fault p step only heavy spelled = record {
   within = λ _. slice_get_within list n d step.is;
   refused = λ memory light. absurd (light (only memory));
+  at_place = λ memory light. absurd (light (only memory));
   spelled = λ _. spelled;
   heavy = λ is. record {
     placed = names;
@@ -672,10 +703,25 @@ module _ (most : ℕ) (list : List DefinedText) (distinct : AreDistinct list) wh
     refused = λ _ _ names all.
         let read = placed_known list distinct all.placed r.place is.text is.is (all.all r.place is.text is.is) in
         is.none read.0 read.1;
+    at_place = λ _ _. record {
+      text = is.text;
+      is = is.is;
+      never = λ placed are. by_number placed are (cases_option (number_of placed is.text.name));
+      cyclic = λ e. absurd (is.cycle e);
+      no_text = λ _. is.none;
+    };
     spelled = λ e. absurd (is.weight e);
     heavy = λ e. absurd (is.weight e);
     none_light = λ e. absurd (is.weight e);
   }
+    where
+      by_number : (placed : List Definition) → ArePlaced list placed
+          → ((x : ℕ) × (number_of placed is.text.name ≡ Some x)) ⊎ (number_of placed is.text.name ≡ None)
+          → number_of placed is.text.name ≡ None
+      by_number placed are (inr none) = none
+      by_number placed are (inl (x, found)) =
+          let read = placed_known list distinct are r.place is.text is.is (λ missing. none_some (sym missing ∙ found))
+          in absurd (is.none read.0 read.1)
 
   -- one that leads into a cycle
   pub refused_cycle : (t : Texts) → AreRead (known_names list) list t → (order : List ℕ) → IsLastTurn
@@ -686,10 +732,35 @@ module _ (most : ℕ) (list : List DefinedText) (distinct : AreDistinct list) wh
     refused = λ _ _ names all.
         let is = slice_get-get_or list n no_text l in
         placed_in_order list distinct t a order last all.placed n _ is (all.all n _ is) apart;
+    at_place = λ _ _. record {
+      text = get_or list n no_text;
+      is = there;
+      never = λ placed are. by_number placed are (cases_option (number_of placed (get_or list n no_text).name));
+      cyclic = λ _. has_text (a.each n (get_or list n no_text) there);
+      no_text = λ other. absurd (other refl);
+    };
     spelled = λ e. absurd (cc);
     heavy = λ e. absurd (cc);
     none_light = λ e. absurd (cc);
   }
+    where
+      there : slice_get list n ≡ Some (get_or list n no_text)
+      there = slice_get-get_or list n no_text l
+
+      by_number : (placed : List Definition) → ArePlaced list placed
+          → ((x : ℕ) × (number_of placed (get_or list n no_text).name ≡ Some x))
+          ⊎ (number_of placed (get_or list n no_text).name ≡ None)
+          → number_of placed (get_or list n no_text).name ≡ None
+      by_number placed are (inr none) = none
+      by_number placed are (inl (x, found)) = absurd (placed_in_order list distinct t a order last are n
+          (get_or list n no_text) there (λ missing. none_some (sym missing ∙ found)) apart)
+
+      has_text : HasText (known_names list) (get_or list n no_text).text ⊎ (uses_at (text_uses t) n ≡ [])
+          → HasText (known_names list) (get_or list n no_text).text
+      has_text (inl e) = e
+      has_text (inr none) = absurd (last n
+          (omega (arith, l, length-map t.uses.items (λ (v : Vec ℕ Global). v.items), a.counted)) apart
+          (λ i d lt. absurd (omega (arith, lt, ap length none))))
 
 -- what is used is there
 pub uses_there : (list : List DefinedText) (t : Texts) → AreRead (known_names list) list t → AreThere (text_uses t)

@@ -21,7 +21,7 @@ use Rattle.ly_ere.specs.Expression.{Expression, empty}
 use Rattle.ly_ere.specs.Expression as expression
 use Rattle.ly_ere.specs.Names.{Definition, number_of}
 use Rattle.ly_ere.specs.Patterns.{IsExpression}
-use Rattle.ly_ere.specs.Private.Definitions.{known_names}
+use Rattle.ly_ere.specs.Definitions.{known_names}
 use Rattle.ly_ere.specs.Private.Uses.{number_for, renumbered, uses_of}
 use Rattle.ly_ere.proofs.NumberedLemmas.{alternation_found, alternation_known, uses_renumbered}
 use Rattle.ly_ere.proofs.PatternLaws.{expression_one}

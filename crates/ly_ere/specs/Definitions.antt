@@ -1,13 +1,13 @@
 -- The definitions of a lex file: their names, and the texts of their expressions, in any order (POSIX, XCU lex).
 use Rattle.std.specs.Prelude.{◌≡◌, ◌≢◌, ℕ, ◌<◌, ◌≤◌, List, [], ◌∷◌, ◌++◌, map, length, slice_get, None, Some}
 use Rattle.ly_ere.specs.Elements.{AreElements, Element}
-use Rattle.ly_ere.specs.Expression.{Expression}
+use Rattle.ly_ere.specs.Expression.{Expression, set}
 use Rattle.ly_ere.specs.Names.{Definition, defined, number_of}
 use Rattle.ly_ere.specs.Patterns.{IsExpression}
 use Rattle.ly_ere.specs.Weight.{named_weight, weight_of}
 use Rattle.ly_ere.specs.declared.definitions.NamedText as code
 use Rattle.ly_ere.specs.declared.fault.EreFault.{EreFault}
-use Rattle.ly_ere.specs.declared.fault.EreFault.TheVariants.{OutOfMemory, TooHeavy}
+use Rattle.ly_ere.specs.declared.fault.EreFault.TheVariants.{NameCycle, OutOfMemory, TooHeavy}
 
 -- A name and the text of its definition.
 pub record DefinedText : Type 0 where
@@ -61,11 +61,34 @@ pub record IsHeavyDefinition (most : ℕ) (list : List DefinedText) (n : ℕ) : 
   pub is_next : IsPlacedNext list placed n text expression
   pub is_heavy : most < weight_of (defined placed) expression
 
--- Why texts are refused, and the place of the one at fault: they are no definitions, or each has elements and they are
--- too heavy.
+-- the names, as if each were defined as a byte: under them a text is an expression where it is one under any
+-- definitions of all of them
+abbrev pub known_names : List DefinedText → List Definition
+known_names list = map (λ d. (d.name, set (0 ∷ []))) list
+
+-- the text is an expression
+abbrev pub HasText : List Definition → List ℕ → Type 0
+HasText names text = (e : Expression) × IsExpression names text e
+
+-- the text is none
+abbrev pub IsNoText : List Definition → List ℕ → Type 0
+IsNoText names text = (e : Expression) → IsExpression names text e → ⊥
+
+-- The definition at a place is at fault: it can't be placed. Its text is an expression where it leads into a cycle of
+-- names, and else it is none.
+pub record IsAtFault (list : List DefinedText) (place : ℕ) (fault : EreFault) : Type 0 where
+  pub text : DefinedText
+  pub is : slice_get list place ≡ Some text
+  pub never : (placed : List Definition) → ArePlaced list placed → number_of placed text.name ≡ None
+  pub cyclic : fault ≡ NameCycle → HasText (known_names list) text.text
+  pub no_text : fault ≢ NameCycle → IsNoText (known_names list) text.text
+
+-- Why texts are refused, and the place of the one at fault: its text is no expression, it leads into a cycle of names,
+-- or each has elements and this one is too heavy.
 pub record AreRefused (most : ℕ) (list : List DefinedText) (place : ℕ) (fault : EreFault) : Type 0 where
   pub within : fault ≢ OutOfMemory → place < length list
   pub refused : fault ≢ OutOfMemory → fault ≢ TooHeavy → (names : List Definition) → AreNames list names → ⊥
+  pub at_place : fault ≢ OutOfMemory → fault ≢ TooHeavy → IsAtFault list place fault
   pub spelled : fault ≡ TooHeavy → AreSpelled list
   pub heavy : fault ≡ TooHeavy → IsHeavyDefinition most list place
   pub none_light : fault ≡ TooHeavy → (names : List Definition) → AreNames list names → AreLightNames most names → ⊥

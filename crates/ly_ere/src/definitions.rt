@@ -6,7 +6,8 @@ ghost use Rattle.ly_ere.specs.Definitions.{AreDistinct, AreLightNames, AreNames,
 ghost use Rattle.ly_ere.specs.Elements.{AreElements, Element};
 ghost use Rattle.ly_ere.specs.Names.{Definition};
 ghost use Rattle.ly_ere.specs.Patterns.{IsBehind, IsExpression};
-ghost use Rattle.ly_ere.specs.Private.Definitions.{AreRead, IsNoText, known_names, text_uses};
+ghost use Rattle.ly_ere.specs.Private.Definitions.{AreRead, text_uses};
+ghost use Rattle.ly_ere.specs.Definitions.{IsNoText, known_names};
 ghost use Rattle.ly_ere.specs.Private.Turns.{AreInTurn};
 ghost use Rattle.ly_ere.specs.declared.fault.EreFault.TheVariants.{NameCycle, OutOfMemory, TooHeavy};
 ghost use Rattle.ly_ere.specs.declared.fault.ReadFault.TheVariants as read;
@@ -141,7 +142,7 @@ fn read_each(alloc: Global, list: &[NamedText<'_>], known: &Names) -> Result<Tex
 }
 
 impl Texts {
-    /// Reads one more.
+    /// Reads a text behind those that are read.
     fn read_one(&mut self, alloc: Global, text: &[u8], known: &Names) -> Result<(), AllocError>
         ensures { (list : List DefinedText) (d : DefinedText) → AreRead known.now list self.old → d.text ≡ text.now
             → OnOk result (AreRead known.now (list ++ d ∷ []) self.new) }
@@ -164,10 +165,11 @@ impl Texts {
         Ok(())
     }
 
-    /// Adds a text that is no expression.
+    /// Adds a text that is no expression, with its fault.
     fn push_fault(&mut self, alloc: Global, fault: EreFault) -> Result<(), AllocError>
         requires memory { fault ≢ OutOfMemory }
         requires weight { fault ≢ TooHeavy }
+        requires cycle { fault ≢ NameCycle }
         ensures { (known : List Definition) (list : List DefinedText) (d : DefinedText) → AreRead known list self.old
             → IsNoText known d.text → OnOk result (AreRead known (list ++ d ∷ []) self.new) }
     {

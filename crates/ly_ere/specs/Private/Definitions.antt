@@ -1,23 +1,15 @@
 -- Texts of definitions as they are read and placed.
-use Rattle.std.specs.Prelude.{◌≡◌, ◌≢◌, ℕ, ◌<◌, List, [], ◌∷◌, All, map, length, slice_get, slice_index_or}
+use Rattle.std.specs.Prelude.{◌≡◌, ◌≢◌, ◌⊎◌, ℕ, ◌<◌, List, [], All, map, length, slice_get, slice_index_or}
 use Rattle.std.specs.Prelude.{None, Some, Contains}
 use Rattle.std.specs.Option.{ForSome}
-use Rattle.ly_ere.specs.Definitions.{ArePlaced, DefinedText}
-use Rattle.ly_ere.specs.Expression.{Expression, empty, set}
+use Rattle.ly_ere.specs.Definitions.{ArePlaced, DefinedText, HasText, IsNoText}
+use Rattle.ly_ere.specs.Expression.{Expression, empty}
 use Rattle.ly_ere.specs.Names.{Definition, number_of}
 use Rattle.ly_ere.specs.Patterns.{IsExpression}
 use Rattle.ly_ere.specs.Private.Uses.{uses_of}
 use Rattle.ly_ere.specs.declared.definitions.Refusal.{Refusal}
 use Rattle.ly_ere.specs.declared.definitions.Texts.{Texts}
-use Rattle.ly_ere.specs.declared.fault.EreFault.TheVariants.{OutOfMemory, TooHeavy}
-
--- the names, as if each were defined as a byte
-abbrev pub known_names : List DefinedText → List Definition
-known_names list = map (λ d. (d.name, set (0 ∷ []))) list
-
--- the text is no expression
-abbrev pub IsNoText : List Definition → List ℕ → Type 0
-IsNoText names text = (e : Expression) → IsExpression names text e → ⊥
+use Rattle.ly_ere.specs.declared.fault.EreFault.TheVariants.{NameCycle, OutOfMemory, TooHeavy}
 
 -- Text place of the list is no expression, and the fault is one of its text.
 pub record IsTextRefusal (known : List Definition) (list : List DefinedText) (refusal : Refusal) : Type 0 where
@@ -26,6 +18,7 @@ pub record IsTextRefusal (known : List Definition) (list : List DefinedText) (re
   pub none : IsNoText known text.text
   pub memory : refusal.fault ≢ OutOfMemory
   pub weight : refusal.fault ≢ TooHeavy
+  pub cycle : refusal.fault ≢ NameCycle
 
 -- what each text uses
 abbrev pub text_uses : Texts → List (List ℕ)
@@ -41,6 +34,8 @@ pub record AreRead (known : List Definition) (list : List DefinedText) (t : Text
   pub there : (n : ℕ) → All (λ u. u < length known) (slice_index_or (text_uses t) n [])
   pub uses : (n : ℕ) (d : DefinedText) (e : Expression) → slice_get list n ≡ Some d → IsExpression known d.text e
       → slice_index_or (text_uses t) n [] ≡ uses_of e
+  pub each : (n : ℕ) (d : DefinedText) → slice_get list n ≡ Some d
+      → HasText known d.text ⊎ (slice_index_or (text_uses t) n [] ≡ [])
   pub whole : t.refusal ≡ None → length t.expressions.items ≡ length list
   pub expressions : t.refusal ≡ None → (n : ℕ) (d : DefinedText) → slice_get list n ≡ Some d
       → IsExpression known d.text (expression_at t n)

@@ -1,9 +1,10 @@
 use Rattle.std.proofs.Common.{◌<◌, ap, arith, length, map, subst, sym}
 use Rattle.ly_lr0.specs.Automaton.{state_at}
+use Rattle.ly_lr0.proofs.StateLemmas.{state_there}
 use Rattle.ly_resolve.specs.Precedence.{judge_of}
 use Rattle.ly_resolve.specs.Resolved.{IsRow}
 use Rattle.ly_resolve.specs.Values.{entry_from}
-use Rattle.ly_resolve.proofs.RawLemmas.{prefix_at, state_there}
+use Rattle.ly_resolve.proofs.RawLemmas.{prefix_at}
 use Rattle.ly_emit.proofs.tables.action_rows.Goals as goal
 
 pub fill_actions-requires-clause-row : goal.fill_actions-requires-clause-row

@@ -3,10 +3,10 @@ use Rattle.std.proofs.Common.{subst, sym}
 use Rattle.std.proofs.lemmas.Bool.{cases_eq}
 use Rattle.std.proofs.lemmas.List.{length-map}
 use Rattle.std.proofs.lemmas.Option.{slice_get_within}
+use Rattle.ly_join.proofs.ListLemmas.{placed}
 use Rattle.ly_lr0.specs.Automaton.{prefix_of}
 use Rattle.ly_pack.specs.Rows.{dense_entry}
 use Rattle.ly_pack.specs.Values.{action_from as entry_action}
-use Rattle.ly_relate.proofs.GotoLemmas.{Contains_at}
 use Rattle.ly_resolve.specs.Actions.{IsRaw, shift}
 use Rattle.ly_resolve.specs.Precedence.{judge_of}
 use Rattle.ly_resolve.specs.Values.{action_from, entry_from}
@@ -90,7 +90,7 @@ returns-clause-filled c =
     let past = c.loop-entry-test.false in
     filled_more (IsActionAt M judge) (IsAskedAt M) (dense_entry c.loop-entry.actions) k inv.filled (λ t none asked.
     let b = c.requires.row.whole t asked.0 asked.1 in
-    let place = Contains_at (map entry_from row) (record { terminal = t; action = b.0 })
+    let place = placed (map entry_from row) (record { terminal = t; action = b.0 })
     ((c.requires.row.are (record { terminal = t; action = b.0 })).1 b.1) in
     let within = slice_get_within (map entry_from row) place.0 (record { terminal = t; action = b.0 }) place.1 in
     let long = length-map row entry_from in

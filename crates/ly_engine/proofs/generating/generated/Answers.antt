@@ -35,7 +35,7 @@ made_of-requires-clause-fits c =
     let given = c.in_ok-given.given in
     let dfa = c.in_ok-dfa.ensures in
     fits_given c.args.limits c.args.lex.now c.args.yacc.now given.file given.spec given.subsets c.in_ok-dfa.dfa
-    c.in_ok-given.ensures.says dfa.same dfa.reduced dfa.starts c.are_bounded.ensures
+    c.in_ok-given.ensures.says dfa.same dfa.reduced dfa.starts c.requires.bounded
 
 pub returns-in_err-dfa-clause-refused : goal.returns-in_err-dfa-clause-refused
 returns-in_err-dfa-clause-refused c = when_same c.from_residual-in_err-dfa.result OutOfMemory
@@ -50,7 +50,7 @@ returns-clause-generated c =
     (λ m. IsReport spec m.report.items) _
     (λ m made reported. generated_with c.args.limits c.args.lex.now c.args.yacc.now file spec
     c.in_ok-given.given.subsets dfa.dfa m.set c.in_ok-given.ensures.says dfa.ensures.same dfa.ensures.reduced
-    dfa.ensures.order
+    dfa.ensures.order dfa.ensures.class_of dfa.ensures.classes dfa.ensures.starts
     made m.report.items reported) c.made_of.ensures.made c.made_of.ensures.reported
 
 pub returns-clause-refused : goal.returns-clause-refused

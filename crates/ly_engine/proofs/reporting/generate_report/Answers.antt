@@ -1,6 +1,9 @@
+use Rattle.std.proofs.Common.{◌≡◌, IfErr, subst}
+use Rattle.ly_base.specs.Limits.{Sizes, least_of, sizes_in}
+use Rattle.ly_base.specs.declared.version.Version.TheVariants.{V1}
 use Rattle.ly_emit.proofs.ShapeLemmas.{shapes_are_within}
 use Rattle.ly_join.specs.Scanning.{scanning_of}
-use Rattle.ly_engine.specs.Accepted.{IsFailedWrite, IsRefusedFor, IsUnfitFor}
+use Rattle.ly_engine.specs.Accepted.{IsFailedWrite, IsFit, IsRefusedFor, IsUnfitFor, Specifies}
 use Rattle.ly_engine.proofs.GenFaultLemmas.{err_weaker, ok_weaker, unfit_refused}
 use Rattle.ly_engine.proofs.reporting.generate_report.Goals as goal
 
@@ -12,16 +15,28 @@ report_on-requires g c =
 
 pub returns-clause-beginning : goal.returns-clause-beginning
 returns-clause-beginning g c = λ written is.
-    let told = c.report_on.ensures.beginning written is in
-    (c.in_ok-given.given.spec, c.in_ok-given.ensures.says.specifies, told.0, told.1, told.2, told.3)
-
-pub returns-clause-reported : goal.returns-clause-reported
-returns-clause-reported g c = ok_weaker c.report_on.result _ _
-    (λ free told. (
-      c.in_ok-given.given.spec,
-      c.in_ok-given.ensures.says.specifies,
+    let spec = c.in_ok-given.given.spec in
+    let told = c.report_on.ensures.beginning written is in (
+      spec,
+      subst (λ (limits : Sizes). Specifies limits c.args.lex.now c.args.yacc.now spec) c.within-limits.ensures.least
+          c.in_ok-given.ensures.says.specifies,
       told.0,
       told.1,
+      told.2,
+      told.3,
+    )
+
+pub returns-clause-reported : goal.returns-clause-reported
+returns-clause-reported g c =
+    let spec = c.in_ok-given.given.spec in
+    let least = c.within-limits.ensures.least in
+    ok_weaker c.report_on.result _ _
+    (λ free told. (
+      spec,
+      subst (λ (limits : Sizes). Specifies limits c.args.lex.now c.args.yacc.now spec) least
+          c.in_ok-given.ensures.says.specifies,
+      told.0,
+      subst (λ (limits : Sizes). IsFit limits spec told.0) least told.1,
       told.2,
       told.3,
       told.4,
@@ -30,8 +45,13 @@ returns-clause-reported g c = ok_weaker c.report_on.result _ _
     c.report_on.ensures.reported
 
 pub returns-clause-refused : goal.returns-clause-refused
-returns-clause-refused g c = err_weaker c.report_on.result
-    (λ fault. (IsFailedWrite fault → ⊥) → IsUnfitFor c.args.limits.now c.in_ok-given.given.spec fault)
-    (λ fault. (IsFailedWrite fault → ⊥) → IsRefusedFor c.args.limits.now c.args.lex.now c.args.yacc.now fault)
-    (λ fault unfit other. unfit_refused c.args.limits.now c.args.lex.now c.args.yacc.now c.in_ok-given.given.spec
-    c.in_ok-given.ensures.says.specifies fault (unfit other)) c.report_on.ensures.unfit
+returns-clause-refused g c =
+    let limits = c.within-limits.result in
+    let spec = c.in_ok-given.given.spec in
+    subst (λ (l : Sizes). IfErr c.report_on.result
+    (λ fault. (IsFailedWrite fault → ⊥) → IsRefusedFor l c.args.lex.now c.args.yacc.now fault))
+    c.within-limits.ensures.least
+    (err_weaker c.report_on.result (λ fault. (IsFailedWrite fault → ⊥) → IsUnfitFor limits spec fault)
+    (λ fault. (IsFailedWrite fault → ⊥) → IsRefusedFor limits c.args.lex.now c.args.yacc.now fault)
+    (λ fault unfit other. unfit_refused limits c.args.lex.now c.args.yacc.now spec c.in_ok-given.ensures.says.specifies
+    fault (unfit other)) c.report_on.ensures.unfit)

@@ -5,7 +5,8 @@ use Rattle.ly_yaccread.specs.File.{written_of}
 use Rattle.ly_yaccread.specs.declared.fault.YaccFault.TheVariants as yacc
 use Rattle.ly_engine.specs.Accepted.{IsRefusedFor}
 use Rattle.ly_engine.specs.declared.gen_fault.GenFault.TheVariants.{Join, Lex, Yacc}
-use Rattle.ly_engine.proofs.GenFaultLemmas.{when_becomes, when_same}
+use Rattle.ly_engine.specs.GenFault.{gen_of_scanner}
+use Rattle.ly_engine.proofs.GenFaultLemmas.{scanner_refused, when_becomes, when_same}
 use Rattle.ly_engine.proofs.specification.read_specification.Goals as goal
 
 pub returns-in_err-file-clause-refused : goal.returns-in_err-file-clause-refused
@@ -43,10 +44,10 @@ returns-in_err-spec-clause-refused c = when_becomes c.from_residual-in_err-spec.
 
 pub returns-in_err-subsets-clause-refused : goal.returns-in_err-subsets-clause-refused
 returns-in_err-subsets-clause-refused c = when_same c.from_residual-in_err-subsets.result
-    c.in_err-subsets.field-0.0 (IsRefusedFor c.args.limits.now c.args.lex.now c.args.yacc.now)
+    (gen_of_scanner c.in_err-subsets.field-0.0) (IsRefusedFor c.args.limits.now c.args.lex.now c.args.yacc.now)
     c.from_residual-in_err-subsets.ensures.1
-    (c.in_err-subsets.ensures.refused c.args.lex.now c.args.yacc.now c.in_ok-file.ensures.ok
-    c.in_ok-file.ensures.light)
+    (scanner_refused c.args.limits.now c.args.lex.now c.args.yacc.now c.in_ok-file.file c.in_err-subsets.field-0.0
+    c.in_ok-file.ensures.ok c.in_ok-file.ensures.light c.in_err-subsets.ensures.refused)
 
 pub returns-clause-says : goal.returns-clause-says
 returns-clause-says c = record {

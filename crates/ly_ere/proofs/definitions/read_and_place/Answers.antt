@@ -3,7 +3,8 @@ use Rattle.std.specs.Prelude.{Contains, MatchOption, Vec}
 use Rattle.std.specs.Global.{Global}
 use Rattle.std.proofs.lemmas.List.{length-map}
 use Rattle.ly_ere.specs.Definitions.{AreDistinct, AreRefused, DefinedText, named_text, named_texts}
-use Rattle.ly_ere.specs.Private.Definitions.{AreRead, known_names, text_uses}
+use Rattle.ly_ere.specs.Private.Definitions.{AreRead, text_uses}
+use Rattle.ly_ere.specs.Definitions.{known_names}
 use Rattle.ly_ere.specs.Private.Turns.{ArePut}
 use Rattle.ly_ere.specs.declared.definitions.Refusal.{Refusal}
 use Rattle.ly_ere.specs.declared.definitions.Texts.{Texts}

@@ -17,6 +17,7 @@ returns-then-is_none c known list d a none =
       none = none;
       memory = c.requires.memory;
       weight = c.requires.weight;
+      cycle = c.requires.cycle;
     }) in
     read_none known list d c.args.self.now _ a _ c.in_ok-push.ensures.items none c.new.ensures.items
     (λ e. none_some (sym e)) refusal

@@ -1,4 +1,0 @@
--- What contracts of private functions cite. No public contract rests on it.
-pub mod FileAnswers
-pub mod Labels
-pub mod TokenLines

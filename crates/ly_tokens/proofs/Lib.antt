@@ -1,0 +1,9 @@
+pub mod AgreementLemmas
+pub mod AnswerLaws
+pub mod AnswerLemmas
+pub mod LabelLemmas
+pub mod LineLemmas
+pub mod PrintingLemmas
+pub mod RowAgreementLemmas
+pub mod RunEndLemmas
+pub mod ScannerFaultLemmas

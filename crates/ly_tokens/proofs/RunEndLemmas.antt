@@ -1,0 +1,101 @@
+-- How the run over a text ends.
+use Rattle.std.proofs.Common.{◌≡◌, ◌∙◌, ◌<◌, ◌+◌, ℕ, List, [], ◌∷◌, ◌++◌, All, Bool, Option, Some, None, ap, arith}
+use Rattle.std.proofs.Common.{inl, inr, drop, false, length, refl, subst, take, true}
+use Rattle.std.specs.Prelude.{option_and_then, slice_get, unwrap_or}
+use Rattle.std.proofs.lemmas.Bool.{cases_lt}
+use Rattle.std.proofs.lemmas.List.Elements.{All-drop, All-head}
+use Rattle.ly_base.proofs.LexedLemmas.{leads_on}
+use Rattle.ly_base.specs.Lexed.{Lexed, Place, place_after, start_of}
+use Rattle.ly_base.specs.declared.lexeme.End.{End}
+use Rattle.ly_base.specs.declared.lexeme.End.TheVariants.{BadCut, Clean, Stuck}
+use Rattle.ly_base.specs.declared.lexeme.Lexeme.{Lexeme}
+use Rattle.ly_lexread.specs.declared.action.Action.{Action}
+use Rattle.ly_scan.proofs.LexingLemmas.{lexes}
+use Rattle.ly_scan.proofs.OneLexingLemmas.{one_lexing}
+use Rattle.ly_scan.specs.Lexer.{IsLexemeAt, ScanEndsAt, Scanner}
+use Rattle.ly_tokens.specs.Printing.{LeavesTokens, condition_set}
+use Rattle.ly_tokens.specs.Private.RunEnd.{AreSetBelow, BeginsEverywhere, EndsSo, HasRule}
+use Rattle.ly_tokens.specs.Private.TokenLines.{SoFar}
+
+-- no run is stuck where a byte alone has a rule
+not_stuck : (s : Scanner) (p : Place) (b : ℕ) (more : List ℕ) (byte : ℕ) → p.rest ≡ b ∷ more
+    → HasRule s p.condition p.line b → ScanEndsAt s p (Stuck byte) → ⊥
+not_stuck s p b more byte e rule stuck = stuck.2 1 rule.0 (omega arith) (omega (arith, ap length e))
+    (ap (λ w. s.walk p.condition p.line (take 1 w)) e ∙ rule.1)
+
+-- where each byte alone has a rule, and each cut leaves a token, a run is clean
+clean_from : (s : Scanner) (next : ℕ → Option ℕ) (n : ℕ) → BeginsEverywhere s n
+    → ((i c : ℕ) → next i ≡ Some c → c < n) → (ts : List Lexeme) (p : Place) (e : End) → p.condition < n
+    → All (λ b. b < 256) p.rest → Lexed (IsLexemeAt s) (ScanEndsAt s) next p ts e → LeavesTokens e → e ≡ Clean
+clean_from s next n all below [] p Clean low bytes run leaves = refl
+clean_from s next n all below [] p (Stuck byte) low bytes run leaves = by_rest p.rest refl
+  where
+    by_rest : (rest : List ℕ) → p.rest ≡ rest → Stuck byte ≡ Clean
+    by_rest [] e = absurd (run.0 e)
+    by_rest (b ∷ more) e = absurd (not_stuck s p b more byte e
+        (all p.condition b p.line low (All-head (λ x. x < 256) b more (subst (All (λ x. x < 256)) e bytes))) run)
+clean_from s next n all below [] p (BadCut byte) low bytes run leaves = absurd leaves
+clean_from s next n all below (t ∷ ts) p e low bytes run leaves =
+    clean_from s next n all below ts (place_after next p t) e (by_set (next t.rule.0) refl)
+    (All-drop (λ b. b < 256) t.taken p.rest bytes) run.1 leaves
+  where
+    by_set : (o : Option ℕ) → next t.rule.0 ≡ o → unwrap_or (next t.rule.0) p.condition < n
+    by_set None e = rw e low
+    by_set (Some c) e = rw e (below t.rule.0 c e)
+
+pub clean_everywhere : (s : Scanner) (actions : List Action) (n : ℕ) (text : List ℕ) → BeginsEverywhere s n
+    → AreSetBelow actions n → 0 < n → All (λ b. b < 256) text
+    → ((e : End) → EndsSo s actions text e → LeavesTokens e) → EndsSo s actions text Clean
+clean_everywhere s actions n text all below some bytes leaves =
+    let run = lexes s (condition_set actions) (length text) (start_of text) (omega arith) in
+    let clean = clean_from s (condition_set actions) n all below run.0 (start_of text) run.1 some bytes run.2
+    (leaves run.1 (run.0, run.2)) in (
+      run.0,
+      subst (λ e. Lexed (IsLexemeAt s) (ScanEndsAt s) (condition_set actions) (start_of text) run.0 e) clean
+          run.2,
+    )
+
+-- rules of bytes up to one more
+pub rules_below : (s : Scanner) (c : ℕ) (line : Bool) (n : ℕ) → ((b : ℕ) → b < n → HasRule s c line b)
+    → HasRule s c line n → (b : ℕ) → b < n + 1 → HasRule s c line b
+rules_below s c line n all one b lt = elim (cases_lt b n) [
+  | inl less ↦ all b less
+  | inr more ↦ let same : n ≡ b = omega (arith, lt, more) in subst (HasRule s c line) same one
+]
+
+-- conditions up to one more
+pub conditions_below : (s : Scanner) (n : ℕ) → BeginsEverywhere s n
+    → ((b : ℕ) → b < 256 → HasRule s n false b) → ((b : ℕ) → b < 256 → HasRule s n true b) → BeginsEverywhere s (n + 1)
+conditions_below s n all elsewhere at_line c b line lt byte = elim (cases_lt c n) [
+  | inl less ↦ all c b line less byte
+  | inr more ↦ let same : n ≡ c = omega (arith, lt, more) in subst (λ k. HasRule s k line b) same (by_line line)
+]
+  where
+    by_line : (line : Bool) → HasRule s n line b
+    by_line false = elsewhere b byte
+    by_line true = at_line b byte
+
+-- conditions that each action sets are below a number
+pub set_below : (actions : List Action) (n : ℕ)
+    → ((k : ℕ) (a : Action) (c : ℕ) → slice_get actions k ≡ Some a → a.begin ≡ Some c → c < n) → AreSetBelow actions n
+set_below actions n all i c e = by_action (slice_get actions i) refl e
+  where
+    by_action : (o : Option Action) → slice_get actions i ≡ o → option_and_then (λ (a : Action). a.begin) o ≡ Some c
+        → c < n
+    by_action None at is = absurd cc
+    by_action (Some a) at is = all i a c at is
+
+-- where a run so far ends, the text's does
+pub ends_there : (actions : List Action) (s here : Scanner) (text told : List ℕ) (q : Place) (e : End) → here ≡ s
+    → ScanEndsAt here q e → SoFar actions s (start_of text) q told → EndsSo s actions text e
+ends_there actions s here text told q e same ends f = (
+  f.0 ++ [],
+  leads_on (IsLexemeAt s) (ScanEndsAt s) (condition_set actions) (start_of text) q f.0 [] e f.1
+      (subst (λ (x : Scanner). ScanEndsAt x q e) same ends),
+)
+
+-- a run ends in one way
+pub one_run_end : (actions : List Action) (s : Scanner) (text : List ℕ) (e d : End) → EndsSo s actions text e
+    → EndsSo s actions text d → e ≡ d
+one_run_end actions s text e d a b
+    = (one_lexing s (condition_set actions) (start_of text) a.0 b.0 e d a.1 b.1).1

@@ -1,0 +1,6 @@
+use Rattle.std.proofs.Common.{◌≡◌, map, option_map, take}
+use Rattle.ly_tokens.proofs.row_walk.accepted.Given as goal
+
+-- the rules so far are those of the first states
+abbrev pub invariant-loop-state : goal.invariant-loop-state
+invariant-loop-state l = map (option_map (λ r. r.0)) l.rules.items ≡ take l.state l.dfa.rules

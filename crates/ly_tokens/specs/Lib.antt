@@ -1,0 +1,10 @@
+pub mod Agreement
+pub mod Answering
+pub mod Answers
+pub mod Laws
+pub mod Printing
+pub mod Private
+pub mod RowWalk
+pub mod Scanner
+pub mod ScannerFault
+pub mod TokensFault

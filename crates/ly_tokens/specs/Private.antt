@@ -1,0 +1,5 @@
+-- What contracts of private functions cite. No public contract rests on it.
+pub mod FileAnswers
+pub mod Labels
+pub mod RunEnd
+pub mod TokenLines

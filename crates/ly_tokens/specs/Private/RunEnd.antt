@@ -1,0 +1,26 @@
+-- How the run over a text ends.
+use Rattle.std.specs.Prelude.{◌≡◌, ◌<◌, ℕ, List, [], ◌∷◌, Bool, Some}
+use Rattle.ly_base.specs.Lexed.{Lexed, start_of}
+use Rattle.ly_base.specs.declared.lexeme.End.{End}
+use Rattle.ly_base.specs.declared.lexeme.Lexeme.{Lexeme}
+use Rattle.ly_lexread.specs.declared.action.Action.{Action}
+use Rattle.ly_scan.specs.Lexer.{IsLexemeAt, ScanEndsAt, Scanner}
+use Rattle.ly_tokens.specs.Printing.{condition_set}
+
+-- the run over a text ends so
+abbrev pub EndsSo : Scanner → List Action → List ℕ → End → Type 0
+EndsSo s actions text e = (ts : List Lexeme)
+    × Lexed (IsLexemeAt s) (ScanEndsAt s) (condition_set actions) (start_of text) ts e
+
+-- a byte alone has a rule in a condition, at the start of a line or not
+abbrev pub HasRule : Scanner → ℕ → Bool → ℕ → Type 0
+HasRule s condition line b = (r : ℕ) × (s.walk condition line (b ∷ []) ≡ Some (Some r))
+
+-- each byte alone has a rule, in each of so many conditions
+abbrev pub BeginsEverywhere : Scanner → ℕ → Type 0
+BeginsEverywhere s conditions = (condition b : ℕ) (line : Bool) → condition < conditions → b < 256
+    → HasRule s condition line b
+
+-- the actions set conditions below a number
+abbrev pub AreSetBelow : List Action → ℕ → Type 0
+AreSetBelow actions conditions = (i c : ℕ) → condition_set actions i ≡ Some c → c < conditions

@@ -1,0 +1,46 @@
+-- The lines of a run from a place on, and how many bytes they have at most.
+use Rattle.std.specs.Prelude.{◌≡◌, ◌<◌, ◌≤◌, ◌+◌, ◌*◌, ◌^◌, ℕ, List, ◌++◌, All, Bool, Option, None, true, false, length}
+use Rattle.ly_base.specs.Lexed.{Leads, Lexed, Place, tokens_from}
+use Rattle.ly_base.specs.declared.lexeme.End.{End}
+use Rattle.ly_base.specs.declared.lexeme.Lexeme.{Lexeme}
+use Rattle.ly_lexread.specs.declared.action.Action.{Action}
+use Rattle.ly_lexread.specs.declared.action.Returned.{Returned}
+use Rattle.ly_lexread.specs.declared.action.Returned.TheVariants.{Nothing, Token}
+use Rattle.ly_scan.specs.Lexer.{IsLexemeAt, ScanEndsAt, Scanner}
+use Rattle.ly_tokens.specs.Printing.{condition_set, end_line, naming, printed}
+
+-- from the place the text is lexed to this end, and these are the lines of its tokens, the last one included
+abbrev pub AreLines : Scanner → List Action → Place → End → List ℕ → Type 0
+AreLines s actions p e lines =
+    (ts : List Lexeme) × Lexed (IsLexemeAt s) (ScanEndsAt s) (condition_set actions) p ts e
+    × (lines ≡ printed (tokens_from (naming actions) p.at p.rest ts) ++ end_line e)
+
+-- the lexemes from p lead to q, and the lines of their tokens are these
+abbrev pub SoFar : List Action → Scanner → Place → Place → List ℕ → Type 0
+SoFar actions s p q lines =
+    (ts : List Lexeme) × Leads (IsLexemeAt s) (condition_set actions) p ts q
+    × (lines ≡ printed (tokens_from (naming actions) p.at p.rest ts))
+
+-- no condition is set, and nothing is returned
+abbrev pub is_no_effect : Option ℕ → Returned → Bool
+is_no_effect None Nothing = true
+is_no_effect _ _ = false
+
+-- the lexemes of a rule with this action are passed over
+abbrev pub is_passed : Action → Bool
+is_passed a = is_no_effect a.begin a.returns
+
+-- how long the name of a token is that an action returns
+abbrev pub name_len : Returned → ℕ
+name_len (Token name) = length name.items
+name_len _ = 0
+
+-- how many bytes of lines a byte of a text has at most, where names have at most so many bytes
+abbrev pub bytes_each : ℕ → ℕ
+bytes_each longest = longest + 16
+
+-- the lines of so many bytes can be counted
+abbrev pub AreCountable : List Action → ℕ → Type 0
+AreCountable actions bytes =
+    (longest : ℕ) × All (λ (a : Action). name_len a.returns ≤ longest) actions
+    × (bytes * bytes_each longest + 64 < 2 ^ 64)

@@ -1,0 +1,61 @@
+-- The faults of the parts as faults of the whole.
+use Rattle.ly_base.specs.Limits.{Sizes}
+use Rattle.ly_base.specs.declared.whole.ReadFault.{ReadFault}
+use Rattle.ly_base.specs.declared.whole.ReadFault.TheVariants as read
+use Rattle.ly_lexread.specs.declared.fault.LexFault.{LexFault}
+use Rattle.ly_lexread.specs.declared.fault.LexFault.TheVariants as lex
+use Rattle.ly_lexread.specs.declared.file.LexFile.{LexFile}
+use Rattle.ly_tokens.specs.ScannerFault.{HasNoScanner}
+use Rattle.ly_tokens.specs.declared.fault.TokensFault.{TokensFault}
+use Rattle.ly_tokens.specs.declared.fault.TokensFault.TheVariants.{Lex, Positions, States, Read, Write, OutOfMemory}
+use Rattle.ly_tokens.specs.declared.scanner_fault.ScannerFault.{ScannerFault}
+use Rattle.ly_tokens.specs.declared.scanner_fault.ScannerFault.TheVariants as scanner
+
+abbrev pub fault_of_lex : LexFault → TokensFault
+fault_of_lex lex.OutOfMemory = OutOfMemory
+fault_of_lex (lex.NoRulesMark line) = Lex (lex.NoRulesMark line)
+fault_of_lex (lex.BadDefinition line) = Lex (lex.BadDefinition line)
+fault_of_lex (lex.UnknownCondition line) = Lex (lex.UnknownCondition line)
+fault_of_lex (lex.ConditionTwice line) = Lex (lex.ConditionTwice line)
+fault_of_lex (lex.BadAction line) = Lex (lex.BadAction line)
+fault_of_lex (lex.BarAtEnd line) = Lex (lex.BarAtEnd line)
+fault_of_lex (lex.Pattern line inner) = Lex (lex.Pattern line inner)
+
+abbrev pub fault_of_scanner : ScannerFault → TokensFault
+fault_of_scanner (scanner.Positions fault) = Positions fault
+fault_of_scanner (scanner.States fault) = States fault
+fault_of_scanner scanner.OutOfMemory = OutOfMemory
+
+abbrev pub fault_of_read : ReadFault → TokensFault
+fault_of_read read.Read = Read
+fault_of_read read.OutOfMemory = OutOfMemory
+
+-- Nothing was written: any fault but a failed write.
+abbrev pub IsBeforeWriting : TokensFault → Type 0
+IsBeforeWriting (Write written) = ⊥
+IsBeforeWriting _ = Unit {0}
+
+-- Nothing was read: the lex file is refused, or too heavy, or its scanner has too many states.
+abbrev pub IsBeforeReading : TokensFault → Type 0
+IsBeforeReading (Lex fault) = Unit {0}
+IsBeforeReading (Positions fault) = Unit {0}
+IsBeforeReading (States fault) = Unit {0}
+IsBeforeReading _ = ⊥
+
+-- a write failed
+abbrev pub IsWrite : TokensFault → Type 0
+IsWrite (Write written) = Unit {0}
+IsWrite _ = ⊥
+
+-- what a fault says of a lex file that was read
+abbrev pub HasNoTokens : Sizes → LexFile → TokensFault → Type 0
+HasNoTokens limits file (Lex fault) = ⊥
+HasNoTokens limits file (Positions fault) = HasNoScanner limits file (scanner.Positions fault)
+HasNoTokens limits file (States fault) = HasNoScanner limits file (scanner.States fault)
+HasNoTokens limits file _ = Unit {0}
+
+-- a failed write, or want of memory
+abbrev pub IsOfOutput : TokensFault → Type 0
+IsOfOutput (Write written) = Unit {0}
+IsOfOutput OutOfMemory = Unit {0}
+IsOfOutput _ = ⊥

@@ -1,0 +1,52 @@
+ghost use Rattle.std.specs.Prelude.{◌≡◌};
+ghost use Rattle.ly_tokens.specs.ScannerFault.{fault_of_positions, fault_of_states};
+ghost use Rattle.ly_tokens.specs.declared.scanner_fault.ScannerFault.TheVariants.{OutOfMemory};
+
+use ly_base::OutOfMemory as NoMemory;
+use ly_position::PosFault;
+use ly_subset::SubsetFault;
+use thiserror::Error;
+
+/// Why the patterns of a lex file have no scanner within the limits.
+#[derive(Clone, Copy, Debug, PartialEq, Eq, Error)]
+pub enum ScannerFault {
+    /// The patterns are too heavy together.
+    #[error("{0}")]
+    Positions(PosFault),
+    /// The scanner has too many states before it is made smallest.
+    #[error("{0}")]
+    States(SubsetFault),
+    /// A growth was refused.
+    #[error("out of memory")]
+    OutOfMemory,
+}
+
+impl From<PosFault> for ScannerFault {
+    ghost from_gives = { λ fault e. e ≡ fault_of_positions fault };
+
+    fn from(fault: PosFault) -> ScannerFault {
+        match fault {
+            PosFault::OutOfMemory => ScannerFault::OutOfMemory,
+            fault => ScannerFault::Positions(fault),
+        }
+    }
+}
+
+impl From<SubsetFault> for ScannerFault {
+    ghost from_gives = { λ fault e. e ≡ fault_of_states fault };
+
+    fn from(fault: SubsetFault) -> ScannerFault {
+        match fault {
+            SubsetFault::OutOfMemory => ScannerFault::OutOfMemory,
+            fault => ScannerFault::States(fault),
+        }
+    }
+}
+
+impl From<NoMemory> for ScannerFault {
+    ghost from_gives = { λ _ e. e ≡ OutOfMemory };
+
+    fn from(_error: NoMemory) -> ScannerFault {
+        ScannerFault::OutOfMemory
+    }
+}

@@ -1,0 +1,153 @@
+ghost use Rattle.std.specs.Prelude.{◌≡◌, ℕ, ◌<◌, ◌≤◌, List, length, take, Err, IfOk, IfErr, IsErrOf, OnOk};
+ghost use Rattle.std.specs.Io.KnownBytes.{Appends, IsAtEnd};
+ghost use Rattle.ly_ere.specs.Names.{defined};
+ghost use Rattle.ly_base.specs.Device.{next_count};
+ghost use Rattle.ly_base.specs.Limits.{version_1};
+ghost use Rattle.ly_base.specs.TextWriter.{IsCutShort};
+ghost use Rattle.ly_base.specs.declared.lexeme.End.{End};
+ghost use Rattle.ly_lexread.specs.Faults.{IsOfText, IsTooHeavy};
+ghost use Rattle.ly_lexread.specs.LexText.{IsHeavyText, IsLight, LexText};
+ghost use Rattle.ly_lexread.specs.declared.fault.LexFault.{LexFault};
+ghost use Rattle.ly_lexread.specs.declared.file.LexFile.{LexFile};
+ghost use Rattle.ly_position.specs.declared.fault.PosFault.{PosFault};
+ghost use Rattle.ly_position.specs.declared.fault.PosFault.TheVariants.{TooManyPositions};
+ghost use Rattle.ly_subset.specs.declared.fault.SubsetFault.{SubsetFault};
+ghost use Rattle.ly_subset.specs.declared.fault.SubsetFault.TheVariants.{TooManyStates};
+ghost use Rattle.ly_tokens.specs.Agreement.{Agrees};
+ghost use Rattle.ly_tokens.specs.Answering.{IsAnswer};
+ghost use Rattle.ly_tokens.specs.Answers.{Answers, AreTooHeavy, HaveTooManyStates};
+ghost use Rattle.ly_tokens.specs.Printing.{end_of, LeavesTokens};
+ghost use Rattle.ly_tokens.specs.TokensFault.{HasNoTokens, IsBeforeReading, IsBeforeWriting, IsOfOutput, IsWrite};
+ghost use Rattle.ly_tokens.specs.Private.FileAnswers.{FileAnswers};
+ghost use Rattle.ly_tokens.specs.Private.RunEnd.{AreSetBelow};
+
+use crate::fault::TokensFault;
+use crate::labels::Labels;
+use crate::outcome::TokenEnd;
+use crate::row_walk::RowWalk;
+use crate::run_end::run_end;
+use crate::scanner::smallest_automaton;
+use crate::token_lines::{are_countable, passed_rules, write_token_lines};
+use ly_base::{End, Limits, Sink, Source, TextWriter, read_whole};
+use ly_lexread::{LexFile, read_lex};
+use ly_scan::{LoneBytes, Steps};
+use std::alloc::Global;
+
+/// Writes the tokens of a text under a lex file (POSIX, XCU lex), a line for each, and a last line if no
+/// rule matches somewhere. The text is all that the reader gives. It is read whole, and how its tokens end is
+/// known, before a byte is written; then the lines are written while the tokens are found, and only a write can fail.
+///
+/// Its faults are those of `TokensFault`.
+pub fn tokens<R: Source, W: Sink>(
+    alloc: Global,
+    lex: &[u8],
+    reader: &mut R,
+    writer: &mut W,
+) -> Result<TokenEnd, TokensFault>
+    ensures answered { IfOk result (λ end. (answer : List ℕ)
+        × Answers version_1 lex.now (R.remaining reader.old) (end_of end) answer
+        × Appends (W.contents writer.old) (W.contents writer.new) answer) }
+    ensures beginning { (written : ℕ) → result ≡ Err (TokensFault.Write written) → (e : End) × ((answer : List ℕ)
+        × Answers version_1 lex.now (R.remaining reader.old) e answer × (written < length answer)
+        × Appends (W.contents writer.old) (W.contents writer.new) (take written answer)) }
+    ensures refused { (fault : LexFault) → result ≡ Err (TokensFault.Lex fault) → (IsTooHeavy fault → ⊥)
+        → (file : LexFile) → LexText lex.now file → ⊥ }
+    ensures heavy_pattern { (fault : LexFault) → result ≡ Err (TokensFault.Lex fault) → IsTooHeavy fault
+        → IsHeavyText version_1.pattern_weight lex.now }
+    ensures none_light { (fault : LexFault) → result ≡ Err (TokensFault.Lex fault) → IsTooHeavy fault
+        → (file : LexFile) → LexText lex.now file → IsLight version_1.pattern_weight file → ⊥ }
+    ensures of_text { (fault : LexFault) → result ≡ Err (TokensFault.Lex fault) → IsOfText fault }
+    ensures heavy { (fault : PosFault) → result ≡ Err (TokensFault.Positions fault)
+        → (fault ≡ TooManyPositions) × AreTooHeavy version_1 lex.now }
+    ensures many { (fault : SubsetFault) → result ≡ Err (TokensFault.States fault)
+        → (fault ≡ TooManyStates) × HaveTooManyStates version_1 lex.now }
+    ensures ended { OnOk result (IsAtEnd (R.remaining reader.new)) }
+    ensures read { IsErrOf result TokensFault.Read → R.failures reader.new ≡ next_count (R.failures reader.old) }
+    ensures reader_held { (IsErrOf result TokensFault.Read → ⊥) → R.failures reader.new ≡ R.failures reader.old }
+    ensures write { IfErr result (λ e. IsWrite e → W.failures writer.new ≡ next_count (W.failures writer.old)) }
+    ensures writer_held { OnOk result (W.failures writer.new ≡ W.failures writer.old) }
+    ensures unread { IfErr result (λ e. IsBeforeReading e → reader.new ≡ reader.old) }
+    ensures untouched { IfErr result (λ e. IsBeforeWriting e → writer.new ≡ writer.old) }
+{
+    let limits = Limits::V1;
+    let file = read_lex(alloc, lex, &limits)?;
+    write_answer(alloc, &file, &limits, reader, writer)
+}
+
+/// Writes the answer to the text that a reader gives, under a lex file, and answers how its tokens end.
+fn write_answer<R: Source, W: Sink>(
+    alloc: Global,
+    file: &LexFile,
+    limits: &Limits,
+    reader: &mut R,
+    writer: &mut W,
+) -> Result<TokenEnd, TokensFault>
+    requires spelled { (bytes : List ℕ) × LexText bytes file.now }
+    ensures answered { IfOk result (λ end. (answer : List ℕ)
+        × FileAnswers limits.now file.now (R.remaining reader.old) (end_of end) answer
+        × Appends (W.contents writer.old) (W.contents writer.new) answer) }
+    ensures beginning { (written : ℕ) → result ≡ Err (TokensFault.Write written) → (e : End) × ((answer : List ℕ)
+        × FileAnswers limits.now file.now (R.remaining reader.old) e answer
+        × IsCutShort (W.contents writer.old) (W.contents writer.new) written answer) }
+    ensures refused { IfErr result (HasNoTokens limits.now file.now) }
+    ensures ended { OnOk result (IsAtEnd (R.remaining reader.new)) }
+    ensures read { IsErrOf result TokensFault.Read → R.failures reader.new ≡ next_count (R.failures reader.old) }
+    ensures reader_held { (IsErrOf result TokensFault.Read → ⊥) → R.failures reader.new ≡ R.failures reader.old }
+    ensures write { IfErr result (λ e. IsWrite e → W.failures writer.new ≡ next_count (W.failures writer.old)) }
+    ensures writer_held { OnOk result (W.failures writer.new ≡ W.failures writer.old) }
+    ensures unread { IfErr result (λ e. IsBeforeReading e → reader.new ≡ reader.old) }
+    ensures untouched { IfErr result (λ e. IsBeforeWriting e → writer.new ≡ writer.old) }
+{
+    let dfa = smallest_automaton(alloc, file, limits)?;
+    let steps = RowWalk::new(alloc, &dfa, &file.rules)?;
+    let text = read_whole(alloc, reader)?;
+    write_answer_by(alloc, file, steps, &text, writer)
+}
+
+/// Writes the answer to a text under a lex file, by any scanner that agrees with its rules.
+fn write_answer_by<S: Steps + Drop, W: Sink>(
+    alloc: Global,
+    file: &LexFile,
+    steps: S,
+    text: &[u8],
+    writer: &mut W,
+) -> Result<TokenEnd, TokensFault>
+    requires agrees { Agrees (defined file.now.names) file.now.rules.items
+        (record { walk = S.walk steps; cut = S.cut_of steps }) }
+    requires below { AreSetBelow file.now.actions.items file.now.conditions }
+    requires some { 0 < file.now.conditions }
+    ensures answered { IfOk result (λ end. (answer : List ℕ)
+        × IsAnswer (defined file.now.names) file.now.rules.items file.now.actions.items text.now (end_of end) answer
+        × Appends (W.contents writer.old) (W.contents writer.new) answer) }
+    ensures beginning { (written : ℕ) → result ≡ Err (TokensFault.Write written) → (e : End) × ((answer : List ℕ)
+        × IsAnswer (defined file.now.names) file.now.rules.items file.now.actions.items text.now e answer
+        × IsCutShort (W.contents writer.old) (W.contents writer.new) written answer) }
+    ensures of_output { IfErr result IsOfOutput }
+    ensures write { IfErr result (λ e. IsWrite e → W.failures writer.new ≡ next_count (W.failures writer.old)) }
+    ensures writer_held { OnOk result (W.failures writer.new ≡ W.failures writer.old) }
+    ensures untouched { IfErr result (λ e. IsBeforeWriting e → writer.new ≡ writer.old) }
+{
+    if !are_countable(&file.actions, text.len()) {
+        return Err(TokensFault::OutOfMemory);
+    }
+    let labels = Labels::new(alloc, &file.actions)?;
+    let lines = TextWriter::new(alloc)?;
+    let mut steps = steps;
+    let passed = passed_rules(alloc, &file.actions)?;
+    let lone = LoneBytes::find(alloc, &mut steps, &passed)?;
+    let end = run_end(&mut steps, text, file, &lone);
+    write_token_lines(&mut steps, text, &labels, &lone, end, lines, writer)?;
+    Ok(token_end(end))
+}
+
+/// The end of a run in which each cut leaves a token.
+fn token_end(end: End) -> TokenEnd
+    requires { LeavesTokens end }
+    ensures { end_of result ≡ end }
+{
+    match end {
+        End::Clean => TokenEnd::Clean,
+        End::Stuck { byte } => TokenEnd::Stuck { byte: byte as u64 },
+        End::BadCut { .. } => unreachable!(),
+    }
+}
