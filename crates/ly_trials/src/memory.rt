@@ -12,7 +12,7 @@ const TEXT: &[u8] = b"if ifx";
 const LINES: &[u8] = b"IF\"if\"\nID\"ifx\"\n";
 
 /// How often it is tried.
-const TRIES: u32 = 1_000;
+const TRIES: u32 = 4_000;
 
 /// Small blocks, one behind the other.
 fn small_blocks(rt: &HostRuntime) -> Result<Vec<Vec<u8>>, AllocError> {
