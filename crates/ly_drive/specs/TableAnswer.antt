@@ -9,7 +9,8 @@ use Rattle.ly_drive.specs.Vocabularies.{vocabulary_of}
 use Rattle.ly_drive.specs.Verdict.{Verdict, IsOutcome, accepted, faulty, printed, refused, unmatched}
 use Rattle.ly_drive.specs.declared.outcome.Outcome.{Outcome}
 use Rattle.ly_pack.specs.Machine.{Machine}
-use Rattle.ly_parse.specs.Feeding.{Feeds, Level}
+use Rattle.ly_parse.specs.Expected.{AreExpected}
+use Rattle.ly_parse.specs.Feeding.{Feeds, Level, states_on}
 use Rattle.ly_parse.specs.Feeding as fed
 use Rattle.ly_parse.specs.Reading.{Reads}
 use Rattle.ly_scan.specs.Lexer.{IsLexemeAt, ScanEndsAt}
@@ -49,12 +50,12 @@ pub record ReadsAll (p : ScanPart) (m : Machine) (text : List ℕ) (e : End) : T
   pub last : List Level
   pub reads : Reads m [] tokens last
 
--- What the scanner and the parser say of a text, by what comes first in it. The tables are at fault where a goto is
--- missing, a body goes past the bottom, they accept without a term, or a cut leaves no byte or more than the match has.
+-- What the scanner and the parser say of a text, by what comes first in it. What is expected in place of a refused token
+-- is asked of the stack on which the token came. The tables are at fault where a goto is missing, a body goes past the bottom, they accept without a term, or a cut leaves no byte or more than the match has.
 abbrev pub IsVerdictBy : ScanPart → Machine → List ℕ → Verdict → Type 0
 IsVerdictBy p m text (accepted d) = (r : ReadsAll p m text Clean) × Feeds m (end_of text) r.last (fed.done d)
-IsVerdictBy p m text (refused k t) = (before : List (Token ℕ)) × Comes p m text before t fed.refused
-    × (k ≡ length before + 1)
+IsVerdictBy p m text (refused k t ts) = (before : List (Token ℕ)) × (c : Comes p m text before t fed.refused)
+    × (k ≡ length before + 1) × AreExpected m (states_on c.last) ts
 IsVerdictBy p m text (unmatched byte) = ReadsAll p m text (Stuck byte)
 IsVerdictBy p m text faulty = ((before : List (Token ℕ)) × (t : Token ℕ) × Comes p m text before t fed.faulty)
     ⊎ ((byte : ℕ) × ReadsAll p m text (BadCut byte))

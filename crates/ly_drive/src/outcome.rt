@@ -1,5 +1,7 @@
+use ly_base::Sym;
+
 /// What a text is answered with.
-#[derive(Clone, Copy, Debug, PartialEq, Eq)]
+#[derive(Debug, Drop)]
 pub enum Outcome {
     /// A tree.
     Tree,
@@ -9,6 +11,8 @@ pub enum Outcome {
         token: u64,
         /// The byte where it stands, counted from 0.
         byte: u64,
+        /// The terminals that would have been read in its place, or accepted with, by rising number.
+        expected: Vec<Sym>,
     },
     /// No rule matches.
     NoRule {

@@ -1,5 +1,5 @@
 -- What holds of tables.
-use Rattle.std.specs.Prelude.{◌≡◌, ℕ, ◌<◌, ◌≤◌, List, [], ◌∷◌, ◌++◌, All, length}
+use Rattle.std.specs.Prelude.{◌≡◌, ◌↔◌, ℕ, ◌<◌, ◌≤◌, List, [], ◌∷◌, ◌++◌, All, Contains, length}
 use Rattle.ly_base.specs.Lexed.{Token}
 use Rattle.ly_grammar.specs.Reduction.{KeepsUseful}
 use Rattle.ly_join.specs.Grammar.{IsRule, Rule}
@@ -9,10 +9,12 @@ use Rattle.ly_loop.specs.Endless.{IsFirstEndless}
 use Rattle.ly_lr0.specs.Automaton.{Automaton, IsAutomaton}
 use Rattle.ly_pack.specs.Machine.{Machine, IsMachine, IsWithin, entry_at, goto_at, states_of}
 use Rattle.ly_pack.specs.Steady.{IsSteady, rule_at}
+use Rattle.ly_pack.specs.SteadyLaws.{IsStack}
 use Rattle.ly_base.specs.Trees.{Tree}
-use Rattle.ly_parse.specs.Feeding.{Fed, Feeds, Level, done, refused}
+use Rattle.ly_parse.specs.Expected.{AreExpected}
+use Rattle.ly_parse.specs.Feeding.{Fed, Feeds, Level, done, refused, states_on}
 use Rattle.ly_parse.specs.Reading.{Reads}
-use Rattle.ly_resolve.specs.Machine.{AcceptsWith, Ends, Pushed, RefusesAfter}
+use Rattle.ly_resolve.specs.Machine.{AcceptsWith, Ends, Next, Pushed, RefusesAfter}
 use Rattle.ly_resolve.specs.Precedence.{judge_of}
 use Rattle.ly_tree.specs.Term.{Term, build}
 use Rattle.ly_yaccread.specs.File.{Written}
@@ -52,6 +54,14 @@ abbrev pub RunsEndOnSteady : Type 0
 RunsEndOnSteady = (s : Spec) (M : Automaton) (n : Machine) → IsAutomaton M → KeepsUseful s.grammar M.grammar
     → IsMachineOf s M n → IsMachine n → IsSteady n → (tokens : List (Token ℕ)) (end : Token ℕ) → end.terminal ≡ 0
     → AreOf M (tokens ++ end ∷ []) → Ends M.grammar (judge_of s) (tokens ++ end ∷ [])
+
+-- On steady tables, whose levels mirror a stack of the reference machine, the terminals that are expected are those that
+-- it would read next.
+abbrev pub ExpectedFollow : Type 0
+ExpectedFollow = (s : Spec) (M : Automaton) (n : Machine) → IsAutomaton M → KeepsUseful s.grammar M.grammar
+    → IsMachineOf s M n → IsSteady n → (stack : List Pushed) (levels : List Level)
+    → Mirrors M (shape_in s) stack levels → IsStack n (states_on levels) → (ts : List ℕ)
+    → AreExpected n (states_on levels) ts → (t : ℕ) → Contains ts t ↔ Next M.grammar (judge_of s) stack t
 
 -- What the rules of a yacc file make of the trees of their bodies speaks of places of the bodies, of each once.
 abbrev pub ShapesAreWithin : Type 0

@@ -1,4 +1,5 @@
-ghost use Rattle.ly_emit.specs.Laws.{AcceptedFollow, EndlessExcludesSteady, RefusedFollow, RunsEndOnSteady};
+ghost use Rattle.ly_emit.specs.Laws.{AcceptedFollow, EndlessExcludesSteady, ExpectedFollow, RefusedFollow};
+ghost use Rattle.ly_emit.specs.Laws.{RunsEndOnSteady};
 ghost use Rattle.ly_emit.specs.Laws.{ShapesAreWithin, SteadyTogether, TablesAreOne, TablesFollow};
 
 /// What tables with defaults do with a token, the reference machine does too.
@@ -12,6 +13,11 @@ pub fn runs_follow()
     ensures accepted { AcceptedFollow }
     ensures refused { RefusedFollow }
     ensures ends { RunsEndOnSteady }
+{}
+
+/// The terminals that steady tables with defaults expect are those that the reference machine would read next.
+pub fn expected_follow()
+    ensures { ExpectedFollow }
 {}
 
 /// What the rules of a yacc file make of the trees of their bodies speaks of places of the bodies, of each once.

@@ -1,5 +1,5 @@
 -- What a grammar without conflicts says of a text, by its derivations alone: no machine is spoken of.
-use Rattle.std.specs.Prelude.{◌≡◌, ℕ, ◌+◌, List, ◌∷◌, ◌++◌, length}
+use Rattle.std.specs.Prelude.{◌≡◌, ◌↔◌, ℕ, ◌+◌, ◌<◌, List, ◌∷◌, ◌++◌, AllPairs, Contains, length}
 use Rattle.ly_base.specs.Lexed.{Token}
 use Rattle.ly_base.specs.Limits.{Sizes}
 use Rattle.ly_base.specs.Shape.{Shape}
@@ -16,7 +16,7 @@ use Rattle.ly_join.specs.Grammar.{Grammar, nonterminal}
 use Rattle.ly_join.specs.Joined.{Spec}
 use Rattle.ly_lexread.specs.declared.file.LexFile.{LexFile}
 use Rattle.ly_resolve.specs.Actions.{IsConflictFree}
-use Rattle.ly_resolve.specs.Laws.{IsFirstWrong}
+use Rattle.ly_resolve.specs.Laws.{Continues, IsFirstWrong}
 use Rattle.ly_tables.specs.TableSet.{TableSet}
 use Rattle.ly_tree.specs.Term.{build}
 
@@ -26,14 +26,20 @@ pub record IsOnlyDerivation (G : Grammar) (tokens : List (Token ℕ)) (d : Tree)
   pub yields : yield_of d ≡ tokens
   pub only : (other : Tree) → IsTree G (nonterminal G.start) other → yield_of other ≡ tokens → d ≡ other
 
+-- The list rises, and has the terminals that continue a sentence behind these tokens and no others.
+pub record AreContinuing (G : Grammar) (before : List (Token ℕ)) (ts : List ℕ) : Type 0 where
+  pub ordered : AllPairs (λ x y. x < y) ts
+  pub are : (t : ℕ) → Contains ts t ↔ Continues G before t
+
 -- What derivations say of the tokens of a text, by what comes first in it: they have one derivation, of which this term
--- is built; a token, or the end, is the first that continues no sentence; or the tokens begin a sentence, and no rule
+-- is built; a token, or the end, is the first that continues no sentence, and these terminals would have; or the tokens begin a sentence, and no rule
 -- matches behind them.
 abbrev pub IsSentenceVerdict : Grammar → (ℕ → Shape) → List ℕ → List (Token ℕ) → End → Verdict → Type 0
 IsSentenceVerdict G shape text tokens e (accepted term) = (e ≡ Clean) × (d : Tree) × IsOnlyDerivation G tokens d
     × (term ≡ build shape d)
-IsSentenceVerdict G shape text tokens e (refused k t) = (before behind : List (Token ℕ))
+IsSentenceVerdict G shape text tokens e (refused k t ts) = (before behind : List (Token ℕ))
     × (fed_with text tokens e ≡ before ++ t ∷ behind) × IsFirstWrong G before t × (k ≡ length before + 1)
+    × AreContinuing G before ts
 IsSentenceVerdict G shape text tokens e (unmatched byte) = (e ≡ Stuck byte) × IsSentencePrefix G tokens
 IsSentenceVerdict G shape text tokens e faulty = ⊥
 

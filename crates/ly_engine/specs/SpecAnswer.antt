@@ -1,5 +1,5 @@
 -- What a lex file and a yacc file answer to a text: the reference machine over the tokens of the text.
-use Rattle.std.specs.Prelude.{◌≡◌, ℕ, ◌+◌, List, [], ◌∷◌, ◌++◌, length}
+use Rattle.std.specs.Prelude.{◌≡◌, ◌↔◌, ℕ, ◌+◌, ◌<◌, List, [], ◌∷◌, ◌++◌, AllPairs, Contains, length}
 use Rattle.std.specs.List.{AllZip}
 use Rattle.ly_base.specs.Lexed.{Token, start_of, tokens_from}
 use Rattle.ly_base.specs.Shape.{Shape}
@@ -23,7 +23,8 @@ use Rattle.ly_join.specs.Terminals as joined
 use Rattle.ly_lexread.specs.Lexing.{Lexing}
 use Rattle.ly_lexread.specs.declared.file.LexFile.{LexFile}
 use Rattle.ly_resolve.specs.Actions.{Judge}
-use Rattle.ly_resolve.specs.Machine.{AcceptsWith, Leads, Pushed, RefusesAfter, begin}
+use Rattle.ly_resolve.specs.Laws.{ReadsTo}
+use Rattle.ly_resolve.specs.Machine.{AcceptsWith, Next, Pushed, RefusesAfter}
 use Rattle.ly_resolve.specs.Precedence.{judge_of}
 use Rattle.ly_tree.specs.Shown.{Vocabulary}
 use Rattle.ly_tree.specs.Term.{build}
@@ -46,17 +47,25 @@ pub record AreTokensOf (file : LexFile) (s : Spec) (text : List ℕ) (tokens : L
   pub lexing : Lexing (defined file.names) file.rules.items (condition_set file.actions.items) (start_of text) lexemes e
   pub numbered : AllZip (IsNumberedToken s.terminals) (tokens_from (naming file.actions.items) 0 text lexemes) tokens
 
+-- The reference machine reads the tokens before one, and the list rises and has the terminals that it would read next,
+-- or accept with, and no others: no reduction is made yet on the token that is refused in their place.
+pub record AreNext (G : Grammar) (judge : Judge) (before : List (Token ℕ)) (ts : List ℕ) : Type 0 where
+  pub stack : List Pushed
+  pub reads : ReadsTo G judge before stack
+  pub ordered : AllPairs (λ x y. x < y) ts
+  pub are : (t : ℕ) → Contains ts t ↔ Next G judge stack t
+
 -- What the reference machine says of tokens, by what comes first in the text: it accepts them, the end behind them,
--- with a tree of which this term is built; it refuses one, or the end; or it reads them all, and no rule matches behind
--- them.
+-- with a tree of which this term is built; it refuses one, or the end, and would have read these in its place; or it
+-- reads them all, and no rule matches behind them.
 abbrev pub IsMachineVerdict : Grammar → Judge → (ℕ → Shape) → List ℕ → List (Token ℕ) → End → Verdict → Type 0
 IsMachineVerdict G judge shape text tokens e (accepted term) = (e ≡ Clean) × (d : Tree)
     × AcceptsWith G judge (tokens ++ end_of text ∷ []) d × (term ≡ build shape d)
-IsMachineVerdict G judge shape text tokens e (refused k t) = (before behind : List (Token ℕ))
+IsMachineVerdict G judge shape text tokens e (refused k t ts) = (before behind : List (Token ℕ))
     × (fed_with text tokens e ≡ before ++ t ∷ behind) × RefusesAfter G judge (before ++ t ∷ behind) before
-    × (k ≡ length before + 1)
+    × (k ≡ length before + 1) × AreNext G judge before ts
 IsMachineVerdict G judge shape text tokens e (unmatched byte) = (e ≡ Stuck byte) × (stack : List Pushed)
-    × Leads G judge (begin tokens) (record { stack = stack; rest = [] })
+    × ReadsTo G judge tokens stack
 IsMachineVerdict G judge shape text tokens e faulty = ⊥
 
 -- what the specification says of a text, where these are its useful rules

@@ -1,9 +1,9 @@
 -- What a call with a token does.
 use Rattle.std.proofs.Common.{◌≡◌, ℕ, ◌+◌, List, ◌∷◌, refl, sym, ap, ◌∙◌, subst, Err, Ok}
-use Rattle.std.specs.Prelude.{Bool, false, true, IfErr, IfOk, Result}
+use Rattle.std.specs.Prelude.{Bool, false, true, Result}
 use Rattle.ly_base.specs.Lexed.{Token}
-use Rattle.ly_pack.specs.Machine.{Machine, accept, action_of, error, shift}
-use Rattle.ly_parse.specs.Feeding.{done, faulty, pushed, refused, settles, top_of}
+use Rattle.ly_pack.specs.Machine.{Machine, accept, action_of, shift}
+use Rattle.ly_parse.specs.Feeding.{done, faulty, pushed, settles, top_of}
 use Rattle.ly_parse.specs.Parse.{IsCall, Parse}
 use Rattle.ly_parse.specs.Private.Stack.{parse_from, stack_from, FeedAlike, IsAccepted}
 use Rattle.ly_parse.specs.declared.fault.ParseFault.{ParseFault}
@@ -57,25 +57,14 @@ module _ (m : Machine) (f : Grown) (levels : List code.Level) (p : Parse) (count
         over = ended;
       })
   accepts_call (Ok More) action ended a = absurd a
-  accepts_call (Ok (Refused t b)) action ended a = absurd a
+  accepts_call (Ok (Refused t b ts)) action ended a = absurd a
   accepts_call (Err Over) action ended a = absurd a
   accepts_call (Err OutOfMemory) action ended a = absurd a
 
   -- they refuse the token
-  pub refuses_call : (r : Result step.Step ParseFault) → action_of m (top_of s.stack) token.terminal ≡ error
-      → s.over ≡ true → IfOk r (λ x. x ≡ Refused (s.count + 1) token.at) → IfErr r (λ e. e ≡ OutOfMemory)
-      → IsCall p token s r
-  refuses_call (Ok x) action ended ok err =
-      let fed = alike token refused refl (feeds_by m token s.stack error refused action refl) in
-      subst (λ y. IsCall p token s (Ok y)) (sym ok)
-      (subst (λ x. IsCall x token s (Ok (Refused (s.count + 1) token.at))) view (record {
-        after_end = not_over over goes;
-        before_end = λ _. (fed, ap (λ n. n + 1) counted, refl);
-        machine = machine;
-        over = ended;
-      }))
-  refuses_call (Err e) action ended ok err =
-      subst (λ d. IsCall p token s (Err d)) (sym err)
+  pub refuses_call : (r : Result step.Step ParseFault) → s.over ≡ true → r ≡ Err OutOfMemory → IsCall p token s r
+  refuses_call r ended e =
+      subst (λ d. IsCall p token s d) (sym e)
       (subst (λ x. IsCall x token s (Err OutOfMemory)) view (record {
         after_end = not_over over goes;
         before_end = λ _. tt;

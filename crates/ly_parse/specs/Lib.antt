@@ -1,3 +1,4 @@
+pub mod Expected
 pub mod FaultNames
 pub mod Feeding
 pub mod FeedingLaws

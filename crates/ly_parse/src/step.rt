@@ -1,7 +1,8 @@
+use ly_base::Sym;
 use ly_tree::TermRef;
 
 /// What a parser says of a token, or of the end of the text.
-#[derive(Clone, Copy, Debug, PartialEq, Eq)]
+#[derive(Debug, Drop)]
 pub enum Step {
     /// The token was read, and the parse goes on.
     More,
@@ -13,5 +14,7 @@ pub enum Step {
         token: u64,
         /// The byte where it stands.
         byte: u64,
+        /// The terminals that would have been read in its place, or accepted with, by rising number.
+        expected: Vec<Sym>,
     },
 }

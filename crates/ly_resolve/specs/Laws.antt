@@ -6,7 +6,8 @@ use Rattle.ly_join.specs.Grammar.{Grammar, IsAugmented, IsRule, Rule, Symbol, no
 use Rattle.ly_grammar.specs.Derivations.{IsReduced, IsSentencePrefix, IsTree}
 use Rattle.ly_grammar.specs.Items.{InLookahead, IsViable, Valid}
 use Rattle.ly_resolve.specs.Actions.{IsConflictFree, IsRaw, Judge, shift}
-use Rattle.ly_resolve.specs.Machine.{AcceptsWith, Configuration, Ends, Leads, RefusesAfter, begin}
+use Rattle.ly_resolve.specs.Machine.{Accepts, AcceptsWith, Configuration, Ends, Leads, Next, Pushed, Refuses}
+use Rattle.ly_resolve.specs.Machine.{RefusesAfter, begin}
 
 -- Without conflicts the machine accepts each sentence with each of its trees.
 abbrev pub AcceptsSentences : Type 0
@@ -47,6 +48,37 @@ RefusesExactly = (G : Grammar) (judge : Judge) → IsAugmented G → IsReduced G
     → (tokens before behind : List (Token ℕ)) (t end : Token ℕ) → All (λ x. x.terminal ≢ 0) tokens → end.terminal ≡ 0
     → tokens ++ end ∷ [] ≡ before ++ t ∷ behind → Ends G judge (before ++ t ∷ behind)
     → RefusesAfter G judge (before ++ t ∷ behind) before ↔ IsFirstWrong G before t
+
+-- all these tokens are read, and the stack is this: no reduction is made behind the last of them
+abbrev pub ReadsTo : Grammar → Judge → List (Token ℕ) → List Pushed → Type 0
+ReadsTo G judge before stack = Leads G judge (begin before) (record { stack = stack; rest = [] })
+
+-- a token of the terminal continues a sentence behind these
+abbrev pub Continues : Grammar → List (Token ℕ) → ℕ → Type 0
+Continues G before t = (token : Token ℕ) × (token.terminal ≡ t) × IsSentencePrefix G (before ++ token ∷ [])
+
+-- Without conflicts the terminals that the machine would read behind some tokens are those that continue a sentence.
+abbrev pub NextContinues : Type 0
+NextContinues = (G : Grammar) (judge : Judge) → IsAugmented G → IsReduced G → IsConflictFree G
+    → (before : List (Token ℕ)) (stack : List Pushed) → ReadsTo G judge before stack
+    → (t : ℕ) → Next G judge stack t ↔ Continues G before t
+
+-- What becomes of one token of a terminal says whether the terminal is among those that would be read.
+pub record IsTold (G : Grammar) (judge : Judge) (stack : List Pushed) (probe : Token ℕ) : Type 0 where
+  pub read : (next : List Pushed) → Leads G judge (record { stack = stack; rest = probe ∷ [] })
+      (record { stack = next; rest = [] }) → Next G judge stack probe.terminal
+  pub accepted : (c : Configuration) (d : Tree) → Leads G judge (record { stack = stack; rest = probe ∷ [] }) c
+      → Accepts G judge c d → Next G judge stack probe.terminal
+  pub refused : (c : Configuration) → Leads G judge (record { stack = stack; rest = probe ∷ [] }) c
+      → Refuses G judge c → Next G judge stack probe.terminal → ⊥
+
+abbrev pub OneTokenTells : Type 0
+OneTokenTells = (G : Grammar) (judge : Judge) (stack : List Pushed) (probe : Token ℕ) → IsTold G judge stack probe
+
+-- behind tokens that are read the stack is one
+abbrev pub ReadsToOne : Type 0
+ReadsToOne = (G : Grammar) (judge : Judge) (before : List (Token ℕ)) (a b : List Pushed) → ReadsTo G judge before a
+    → ReadsTo G judge before b → a ≡ b
 
 -- Reductions by rules that are complete, whatever terminal is next, lead from a string to another.
 pub data Reduces (G : Grammar) : List Symbol → List Symbol → Type 0 where

@@ -18,8 +18,8 @@ returns-in-Refuses-clause-call g c =
     refuses_call c.self.inside.machine.now c.self.inside.forest c.self.inside.stack.items c.args.self.now
     c.self.inside.count c.self.inside.over (record { terminal = 0; at = c.args.at; bytes = [] }) c.self.view_is
     c.if-self.false c.settle.new.self c.in_ok-settle.ensures.alike c.in_ok-settle.ensures.machine
-    c.in_ok-settle.ensures.count c.refuse.result (c.in_ok-settle.ensures.refuses (ap Ok c.in-Refuses.is))
-    c.in_ok-settle.ensures.over c.refuse.ensures.ok c.refuse.ensures.err
+    c.in_ok-settle.ensures.count c.refuse.result c.in_ok-settle.ensures.over c.refuse.ensures
+
 
 pub unreachable-requires : goal.unreachable-requires
 unreachable-requires g c =

@@ -33,5 +33,4 @@ returns-in-Refuses g c =
       at = c.args.token.now.at;
       bytes = c.args.token.now.text;
     }) c.self.view_is c.if-self.false c.settle.new.self c.in_ok-state.ensures.alike c.in_ok-state.ensures.machine
-    c.in_ok-state.ensures.count c.refuse.result (c.in_ok-state.ensures.refuses (ap Ok c.in-Refuses.is))
-    c.in_ok-state.ensures.over c.refuse.ensures.ok c.refuse.ensures.err
+    c.in_ok-state.ensures.count c.refuse.result c.in_ok-state.ensures.over c.refuse.ensures
