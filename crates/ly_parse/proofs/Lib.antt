@@ -1,3 +1,7 @@
+pub mod BeforeLemmas
+pub mod CopiedLemmas
+pub mod ExpectedListLemmas
+pub mod ExpectedRunLemmas
 pub mod FeedingLemmas
 pub mod LandingLemmas
 pub mod PassLemmas
