@@ -1,3 +1,4 @@
+pub mod ExpectedFedLemmas
 pub mod FeedingLemmas
 pub mod LandingLemmas
 pub mod PassLemmas
