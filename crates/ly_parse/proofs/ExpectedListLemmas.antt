@@ -11,6 +11,12 @@ use Rattle.std.proofs.lemmas.List.Kept.{AllPairs-cons}
 use Rattle.ly_base.proofs.MemberLemmas.{Contains-cons_cases, Contains-first, Contains-later, Contains-none, Contains-one}
 use Rattle.ly_pack.specs.Machine.{Machine}
 use Rattle.ly_parse.specs.Expected.{AreExpected, IsExpected}
+use Rattle.ly_parse.specs.Feeding.{Fed, Feeds, Level, done, faulty, pushed, refused, states_on}
+use Rattle.ly_pack.specs.Steady.{IsSteady}
+use Rattle.ly_pack.specs.SteadyLaws.{IsStack}
+use Rattle.ly_base.specs.Lexed.{Token}
+use Rattle.ly_parse.proofs.ExpectedFedLemmas.{expected_is_taken, taken_is_expected, IsTaken}
+use Rattle.ly_parse.proofs.SettlingLemmas.{settles_on_steady}
 
 -- the list rises, and has those below a number
 pub record AreBelow (m : Machine) (stack : List ℕ) (bound : ℕ) (ts : List ℕ) : Type 0 where
@@ -96,3 +102,48 @@ rising_one (x ∷ xs) (y ∷ ys) p q same =
 pub all_below : (m : Machine) (stack : List ℕ) (n : ℕ) (ts : List ℕ) → n ≡ m.terminals → AreBelow m stack n ts
     → AreExpected m stack ts
 all_below m stack n ts e below = record { ordered = below.ordered; are = subst (λ k. (t : ℕ) → Contains ts t ↔ ((t < k) × IsExpected m t stack)) e below.are }
+
+-- On steady tables there is such a list.
+module _ (m : Machine) (levels : List Level) (calm : IsSteady m) (edges : IsStack m (states_on levels)) where
+  listed_below : (n : ℕ) → n ≤ m.terminals → (ts : List ℕ) × AreBelow m (states_on levels) n ts
+  listed_below zero within = ([], record {
+    ordered = λ i j d lt low. absurd (omega (arith, low));
+    are = λ t. (λ has. absurd (Contains-none t has), λ w. absurd (omega (arith, w.0)));
+  })
+  listed_below (suc n) within =
+      let less = listed_below n (omega (arith, within)) in
+      let probe : Token ℕ = record { terminal = n; at = 0; bytes = [] } in
+      let it = settles_on_steady m probe levels calm (omega (arith, within)) edges in
+      by_out less.0 less.1 probe refl it.0 it.1
+    where
+      one_more : (ts : List ℕ) → AreBelow m (states_on levels) (n + 1) ts
+          → (ts : List ℕ) × AreBelow m (states_on levels) (suc n) ts
+      one_more ts is = (ts, subst (λ k. AreBelow m (states_on levels) k ts) (omega arith) is)
+
+      by_out : (ts : List ℕ) → AreBelow m (states_on levels) n ts → (probe : Token ℕ) → probe.terminal ≡ n
+          → (out : Fed) → Feeds m probe levels out → (ts : List ℕ) × AreBelow m (states_on levels) (suc n) ts
+      by_out ts below probe same out feeds = by_taken out feeds (decides out)
+        where
+          decides : (out : Fed) → IsTaken out ⊎ (IsTaken out → ⊥)
+          decides (pushed next) = inl tt
+          decides (done term) = inl tt
+          decides refused = inr (λ x. x)
+          decides faulty = inr (λ x. x)
+
+          by_taken : (out : Fed) → Feeds m probe levels out → IsTaken out ⊎ (IsTaken out → ⊥)
+              → (ts : List ℕ) × AreBelow m (states_on levels) (suc n) ts
+          by_taken out feeds (inl taken) = one_more (ts ++ n ∷ []) (with_it m (states_on levels) n ts below
+              (subst (λ k. IsExpected m k (states_on levels)) same (taken_is_expected m probe feeds taken)))
+          by_taken out feeds (inr not) = one_more ts (without_it m (states_on levels) n ts below
+              (λ x. not (expected_is_taken m probe feeds
+              (subst (λ k. IsExpected m k (states_on levels)) (sym same) x))))
+
+  pub are_listed : (ts : List ℕ) × AreExpected m (states_on levels) ts
+  are_listed =
+      let all = listed_below m.terminals (omega arith) in
+      (all.0, all_below m (states_on levels) m.terminals all.0 refl all.1)
+
+-- of two such lists neither has more
+pub one_list : (m : Machine) (stack xs ys : List ℕ) → AreExpected m stack xs → AreExpected m stack ys → xs ≡ ys
+one_list m stack xs ys a b = rising_one xs ys a.ordered b.ordered
+    (λ t. (λ has. (b.are t).1 ((a.are t).0 has), λ has. (a.are t).1 ((b.are t).0 has)))

@@ -24,18 +24,18 @@ legal m s t a h same = by_entry (entry_at m s t) (slice_get m.defaults s) refl r
     by_entry None None e f same = subst (IsLegal m t) same tt
 
 -- popping takes the states off too
-pop_states : (n : ℕ) (stack : List Level) (ts : Terms) (x : Terms × List Level) → pop n stack ts ≡ Some x
+pub pop_states : (n : ℕ) (stack : List Level) (ts : Terms) (x : Terms × List Level) → pop n stack ts ≡ Some x
     → drop n (states_on stack) ≡ states_on x.1
 pop_states zero stack ts x e = let same : (ts, stack) ≡ x = cc in ap (λ y. states_on y.1) same
 pop_states (suc n) [] ts x e = absurd cc
 pop_states (suc n) (l ∷ stack) ts x e = pop_states n stack _ x e
 
-goes_from_top : (m : Machine) (left : ℕ) (stack : List Level)
+pub goes_from_top : (m : Machine) (left : ℕ) (stack : List Level)
     → steady.go_to m left (states_on stack) ≡ steady.push (states_on stack) (goto_at m (top_of stack) left)
 goes_from_top m left [] = refl
 goes_from_top m left (l ∷ stack) = refl
 
-acts_on_top : (m : Machine) (t : ℕ) (stack : List Level)
+pub acts_on_top : (m : Machine) (t : ℕ) (stack : List Level)
     → action_on m t (states_on stack) ≡ action_of m (top_of stack) t
 acts_on_top m t [] = refl
 acts_on_top m t (l ∷ stack) = refl

@@ -1,5 +1,6 @@
 pub mod BeforeLemmas
 pub mod CopiedLemmas
+pub mod ExpectedFedLemmas
 pub mod ExpectedListLemmas
 pub mod ExpectedRunLemmas
 pub mod FeedingLemmas

@@ -55,7 +55,7 @@ module _ (m : Machine) (token : Token ℕ) where
     by_action error is e = absurd cc
 
   -- a turn that goes on is a move of the states
-  turn_moves : (stack next : List Level) → turn m token stack ≡ goes_on next
+  pub turn_moves : (stack next : List Level) → turn m token stack ≡ goes_on next
       → move m token.terminal (states_on stack) ≡ steady.goes_on (states_on next)
   turn_moves stack next e = by_action (action_of m (top_of stack) token.terminal) refl e where
     by_action : (a : TableAction) → action_of m (top_of stack) token.terminal ≡ a

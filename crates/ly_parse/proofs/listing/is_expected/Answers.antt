@@ -1,11 +1,11 @@
 use Rattle.std.proofs.Common.{◌≡◌, ◌∙◌, ◌<◌, ◌+◌, ◌*◌, All, Bool, MatchBool, true, false, ap, length, sym, subst}
 use Rattle.ly_pack.proofs.Runs.{reductions_fall, runs_end}
 use Rattle.ly_pack.specs.Machine.{accept, error, reduce, shift, states_of}
-use Rattle.ly_pack.specs.Steady.{EndsWithin, IsSteady, goes_on, move, perform, run_bound}
+use Rattle.ly_pack.specs.Steady.{EndsWithin, IsSteady, goes_on, move, perform, refuses, run_bound}
 use Rattle.ly_pack.specs.SteadyLaws.{IsStack}
 use Rattle.ly_parse.specs.Private.Copied.{IsMade}
 use Rattle.ly_parse.specs.Expected.{IsExpected, onward, read}
-use Rattle.ly_parse.proofs.ExpectedRunLemmas.{accepting, behind, faulty, legal_reduction, move_by, refused}
+use Rattle.ly_parse.proofs.ExpectedRunLemmas.{accepting, behind, ended_fine, faulty, legal_reduction, move_by}
 use Rattle.ly_parse.proofs.listing.is_expected.Goals as goal
 
 pub loop-copied-init : goal.loop-copied-init
@@ -37,7 +37,8 @@ returns-in-Accept-clause-expected g c =
     c.loop-copied.invariant.forth c.has_term.result c.has_term.ensures
 
 pub returns-in-Error-clause-expected : goal.returns-in-Error-clause-expected
-returns-in-Error-clause-expected g c x = refused c.args.machine.now c.args.terminal.0 c.loop-copied.copied.now
+returns-in-Error-clause-expected g c x =
+    ended_fine c.args.machine.now c.args.terminal.0 c.loop-copied.copied.now refuses
     (move_by c.args.machine.now c.args.terminal.0 c.top.result.0 c.loop-copied.copied.now error
     c.top.ensures.some c.top.ensures.top c.in-Error.ensures) (c.loop-copied.invariant.forth x)
 
