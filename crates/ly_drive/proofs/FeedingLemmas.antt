@@ -1,10 +1,13 @@
 -- What feeding a token leads to.
 use Rattle.std.proofs.Common.{◌≡◌, ◌∙◌, ℕ, ◌+◌, ◌≤◌, List, [], ◌∷◌, ◌++◌, Option, Some, None, Ok}
 use Rattle.std.proofs.Common.{ap, arith, refl, subst}
-use Rattle.std.specs.Prelude.{false}
+use Rattle.std.specs.Prelude.{false, map}
+use Rattle.std.specs.Global.{Global}
+use Rattle.std.specs.declared.vec.Vec.{Vec}
+use Rattle.ly_base.specs.declared.numbers.Sym.{Sym}
 use Rattle.ly_base.specs.Lexed.{Token}
 use Rattle.ly_drive.specs.Private.Running.{IsRefusal}
-use Rattle.ly_drive.specs.Verdict.{syntax_line}
+use Rattle.ly_drive.specs.Verdict.{printed, refused}
 use Rattle.ly_drive.specs.declared.outcome.Outcome.TheVariants.{Syntax}
 use Rattle.ly_pack.specs.Machine.{Machine, TableAction, TableRule, accept, action_of, error, goto_at, reduce, shift}
 use Rattle.ly_pack.specs.Machine.{IsMachine}
@@ -56,17 +59,25 @@ not_accepted s r t root step h goes low is call =
     let is_end = accepts_end h fed.1 in
     omega (arith, low, is_end)
 
--- what is said of a refused token
-pub refused_told : (v : Vocabulary) (s r : Parse) (t : Token ℕ) (k byte : ℕ) (line : List ℕ) (step : Step)
-    → s.over ≡ false → step ≡ Refused k byte → IsCall s t r (Ok step)
-    → line ≡ syntax_line v k (record { terminal = t.terminal; at = byte; bytes = t.bytes })
-    → IsRefusal v s t (Syntax k byte) line
-refused_told v s r t k byte line step goes is call told =
-    let fed = (subst (λ x. IsCall s t r (Ok x)) is call).before_end goes in (
+-- what is said of a refused token, by the names that it is said with
+pub refused_told : (v names : Vocabulary) (s r : Parse) (t : Token ℕ) (k byte : ℕ) (expected : Vec Sym Global)
+    (seen : List Sym) (at : ℕ) (line : List ℕ) (step : Step) → s.over ≡ false → step ≡ Refused k byte expected
+    → IsCall s t r (Ok step) → names ≡ v → seen ≡ expected.items → (byte ≡ t.at → at ≡ t.at)
+    → line ≡ printed names (refused k (record { terminal = t.terminal; at = at; bytes = t.bytes })
+    (map (λ x. x.0) seen)) → IsRefusal v s t (Syntax k byte expected) line
+refused_told v names s r t k byte expected seen at line step goes is call words sees there told =
+    let fed = (subst (λ x. IsCall s t r (Ok x)) is call).before_end goes in
+    let ts = map (λ x. x.0) expected.items in (
+      ts,
       fed.0,
-      ap (λ n. Syntax n byte) fed.1 ∙ ap (λ b. Syntax (s.count + 1) b) fed.2,
-      told ∙ (ap (λ b. syntax_line v k (record { terminal = t.terminal; at = b; bytes = t.bytes })) fed.2
-          ∙ ap (λ n. syntax_line v n t) fed.1),
+      fed.3,
+      (fed.1, fed.2, refl),
+      told ∙ (ap (λ w. printed w (refused k (record { terminal = t.terminal; at = at; bytes = t.bytes })
+          (map (λ x. x.0) seen))) words
+          ∙ (ap (λ xs. printed v (refused k (record { terminal = t.terminal; at = at; bytes = t.bytes })
+          (map (λ x. x.0) xs))) sees
+          ∙ (ap (λ b. printed v (refused k (record { terminal = t.terminal; at = b; bytes = t.bytes }) ts))
+          (there fed.2) ∙ ap (λ n. printed v (refused n t ts)) fed.1))),
     )
 
 -- one token more is read
