@@ -10,53 +10,10 @@ use Rattle.ly_parse.specs.Expected.{IsExpected, accepted, onward, read}
 use Rattle.ly_parse.specs.Feeding.{Fed, Feeds, Level, accept_with, done, faulty, go_to, goes_on, perform, pop, pushed}
 use Rattle.ly_parse.specs.Feeding.{reduce_by, refused, settled, settles, states_on, top_of, turn, uncover}
 use Rattle.ly_parse.specs.Feeding as fed
+use Rattle.ly_parse.proofs.ExpectedRunLemmas.{bare, behind, ended_fine}
 use Rattle.ly_parse.proofs.FeedingLemmas.{acts_on_top, goes_from_top, pop_states}
 use Rattle.ly_parse.proofs.SettlingLemmas.{turn_moves}
 use Rattle.ly_tree.specs.Term.{Terms, leaf, none}
-
--- RUNS OF STATES
-
--- the end of a run that is expected
-abbrev IsFine : RunEnd → Type 0
-IsFine (reads state) = Unit {0}
-IsFine accepts = Unit {0}
-IsFine refuses = ⊥
-IsFine lacks_goto = ⊥
-IsFine leaves_bottom = ⊥
-
-module _ (m : Machine) (t : ℕ) where
-  -- an expected run ends so
-  ended_fine : (stack : List ℕ) (e : RunEnd) → move m t stack ≡ ends e → IsExpected m t stack → IsFine e
-  ended_fine stack e is (read {state = state} x) =
-      let whole : ends e ≡ ends (reads state) = sym is ∙ x in
-      let same : e ≡ reads state = cc in
-      subst IsFine (sym same) tt
-  ended_fine stack e is (accepted x) =
-      let whole : ends e ≡ ends accepts = sym is ∙ x in
-      let same : e ≡ accepts = cc in
-      subst IsFine (sym same) tt
-  ended_fine stack e is (onward {next = next} x rest) =
-      absurd (let off : ends e ≡ steady.goes_on next → ⊥ = λ z. cc in off (sym is ∙ x))
-
-  -- accepting with nothing on the bottom is not expected
-  bare : (stack : List ℕ) → move m t stack ≡ ends accepts → (1 < length stack → ⊥) → IsExpected m t stack → ⊥
-  bare stack e few (read {state = state} x) =
-      let off : ends accepts ≡ ends (reads state) → ⊥ = λ z. cc in off (sym e ∙ x)
-  bare (top ∷ below ∷ rest) e few (accepted x) = few (omega arith)
-  bare stack e few (onward {next = next} x rest) =
-      let off : ends accepts ≡ steady.goes_on next → ⊥ = λ z. cc in off (sym e ∙ x)
-
-  -- behind a reduction it is as before
-  pub expected_behind : (stack next : List ℕ) → move m t stack ≡ steady.goes_on next → IsExpected m t stack
-      → IsExpected m t next
-  expected_behind stack next e (read {state = state} x) =
-      absurd (let off : steady.goes_on next ≡ ends (reads state) → ⊥ = λ z. cc in off (sym e ∙ x))
-  expected_behind stack next e (accepted x) =
-      absurd (let off : steady.goes_on next ≡ ends accepts → ⊥ = λ z. cc in off (sym e ∙ x))
-  expected_behind stack next e (onward {next = other} x rest) =
-      let whole : steady.goes_on other ≡ steady.goes_on next = sym x ∙ e in
-      let same : other ≡ next = cc in
-      subst (IsExpected m t) same rest
 
 -- REDUCTIONS THAT SETTLE A TOKEN
 
@@ -154,7 +111,7 @@ module _ (m : Machine) (token : Token ℕ) where
   pub expected_is_taken : {stack : List Level} {out : Fed} → Feeds m token stack out → Expected stack → IsTaken out
   expected_is_taken {stack} {out} (settled e) x = settled_taken stack out e x
   expected_is_taken {stack} {out} (fed.onward {next = next} e rest) x =
-      expected_is_taken rest (expected_behind m token.terminal (states_on stack) (states_on next)
+      expected_is_taken rest (behind m token.terminal (states_on stack) (states_on next)
       (turn_moves m token stack next e) x)
 
   -- and where the token is taken, its terminal is expected

@@ -1,4 +1,8 @@
+pub mod BeforeLemmas
+pub mod CopiedLemmas
 pub mod ExpectedFedLemmas
+pub mod ExpectedListLemmas
+pub mod ExpectedRunLemmas
 pub mod FeedingLemmas
 pub mod LandingLemmas
 pub mod PassLemmas

@@ -1,4 +1,6 @@
 -- What private functions' contracts cite.
+pub mod Before
+pub mod Copied
 pub mod Paying
 pub mod Shortcuts
 pub mod Stack

@@ -3,18 +3,24 @@
 //! A `Parser` holds the tables, a stack of states and terms, and the forest that these stand in. Each call makes the
 //! turns of the tables on its token (`Feeds`): reductions, and then the token is read, accepted with a term or refused.
 //! It asks for steady tables, so that every call ends.
+//! Where a token is refused, the terminals that are expected in its place are listed, by runs on a copy of the stack as
+//! it stood before the token.
 //! What runs of passes come to, reductions that change a state and no term, it keeps as shortcuts.
 //!
 //! Left out: where tokens come from, and what a refusal is printed as.
 #![tactic(auto)]
 
+mod before;
+mod copied;
 mod fault;
 mod kept;
 mod landing;
 mod laws;
 mod level;
+mod listing;
 mod origin;
 mod parser;
+mod running;
 mod settled;
 mod shortcut;
 mod shortcuts;

@@ -5,6 +5,7 @@ use Rattle.ly_base.specs.Lexed.{Token}
 use Rattle.ly_pack.specs.Machine.{Machine, states_of, IsMachine}
 use Rattle.ly_pack.specs.Steady.{rule_at, IsSteady, ReducesTo}
 use Rattle.ly_pack.specs.SteadyLaws.{IsStack}
+use Rattle.ly_parse.specs.Expected.{AreExpected}
 use Rattle.ly_parse.specs.Feeding.{Fed, Feeds, Level, accept_with, done, faulty, goes_on, reduce_by, settles}
 use Rattle.ly_parse.specs.Feeding.{states_on}
 use Rattle.ly_parse.specs.Parse.{Parse}
@@ -13,7 +14,7 @@ use Rattle.ly_parse.specs.declared.fault.ParseFault.{ParseFault}
 use Rattle.ly_parse.specs.declared.fault.ParseFault.TheVariants.{TableFault}
 use Rattle.ly_parse.specs.declared.level.Level as code
 use Rattle.ly_parse.specs.declared.step.Step as step
-use Rattle.ly_parse.specs.declared.step.Step.TheVariants.{Done}
+use Rattle.ly_parse.specs.declared.step.Step.TheVariants.{Done, Refused}
 use Rattle.ly_tree.specs.Forest.{Grown, StandsFor, term_of}
 use Rattle.ly_tree.specs.Term.{Term, Terms, more, nothing}
 
@@ -75,3 +76,9 @@ abbrev pub IsAccepted : Grown → List Level → Result step.Step ParseFault →
 IsAccepted f stack (Ok (Done root)) = (d : Term) × (accept_with stack ≡ settles (done d)) × StandsFor f root d
 IsAccepted f stack (Err TableFault) = accept_with stack ≡ settles faulty
 IsAccepted f stack _ = ⊥
+
+-- what a parser says of a token of this number and place that it refuses, where its stack had these states before
+abbrev pub IsRefusedWith : Machine → List ℕ → ℕ → ℕ → step.Step → Type 0
+IsRefusedWith m states token byte (Refused t b expected) = (t ≡ token) × (b ≡ byte)
+    × AreExpected m states (map (λ s. s.0) expected.items)
+IsRefusedWith m states token byte _ = ⊥

@@ -1,0 +1,42 @@
+use Rattle.std.proofs.Common.{◌∙◌, ap, arith, subst, sym}
+use Rattle.ly_pack.specs.Machine.{shift, IsMachine}
+use Rattle.ly_parse.specs.Feeding.{top_of}
+use Rattle.ly_parse.specs.Private.Stack.{stack_from, IsParse}
+use Rattle.ly_parse.proofs.FeedingLemmas.{legal}
+use Rattle.ly_parse.proofs.StackLemmas.{kept, on_top, shifted, shifted_stack}
+use Rattle.ly_tree.specs.Term.{leaf}
+use Rattle.ly_parse.proofs.running.Running.read.Goals as goal
+
+pub invariant_of-self-in_err-reserve : goal.invariant_of-self-in_err-reserve
+invariant_of-self-in_err-reserve g c = (
+  subst (IsParse c.self.inside.machine.now c.leaf.new.self) (sym c.in_err-reserve.ensures.items)
+      (kept c.self.inside.machine.now c.self.inside.forest c.leaf.new.self c.self.inside.stack.items
+      c.self.invariant.0 c.in_ok-term.ensures.keeps),
+  c.self.invariant.1,
+)
+
+pub invariant_of-self-2 : goal.invariant_of-self-2
+invariant_of-self-2 g c = (
+  subst (IsParse c.self.inside.machine.now c.leaf.new.self)
+      (sym (on_top _ _ _ _ c.in_ok-reserve.ensures.items c.push_reserved.ensures.items))
+      (shifted c.self.inside.machine.now c.self.inside.forest c.leaf.new.self c.self.inside.stack.items
+      c.args.self.now c.self.inside.count c.self.inside.over c.args.token.now.terminal.0 c.args.token.now.text
+      (record { state = c.args.state; term = c.in_ok-term.term }) c.self.view_is c.self.invariant.0
+      c.in_ok-term.ensures.keeps c.requires c.in_ok-term.ensures.stands c.in_ok-term.ensures.pays),
+  c.self.invariant.1,
+)
+
+pub returns-clause-stack : goal.returns-clause-stack
+returns-clause-stack g c =
+    ap (stack_from c.leaf.new.self) (on_top _ _ _ _ c.in_ok-reserve.ensures.items c.push_reserved.ensures.items)
+    ∙ shifted_stack c.self.inside.machine.now c.self.inside.forest c.leaf.new.self c.self.inside.stack.items
+    c.args.self.now c.self.inside.count c.self.inside.over (record { state = c.args.state; term = c.in_ok-term.term })
+    (leaf c.args.token.now.terminal.0 c.args.token.now.text) c.self.view_is c.self.invariant.0
+    c.in_ok-term.ensures.keeps c.in_ok-term.ensures.stands
+
+pub returns-clause-not_end : goal.returns-clause-not_end
+returns-clause-not_end g c e =
+    let machine = subst IsMachine (ap (λ p. p.machine) c.self.view_is) c.self.invariant.0.machine in
+    let some = (legal c.args.self.now.machine (top_of c.args.self.now.stack) c.args.token.now.terminal.0
+    (shift c.args.state.0) machine c.requires).1 in
+    absurd (omega arith)

@@ -1,0 +1,201 @@
+use Rattle.std.proofs.Common.{◌∙◌, ◌<◌, Err, ap, refl, subst, sym}
+use Rattle.ly_pack.specs.Values.{action_from, rule_from}
+use Rattle.ly_parse.specs.Private.Paying.{IsStackPaid}
+use Rattle.ly_parse.specs.Private.Stack.{at_once, IsParse}
+use Rattle.ly_parse.specs.declared.fault.ParseFault.TheVariants.{TableFault}
+use Rattle.ly_parse.proofs.BeforeLemmas.{note_kept}
+use Rattle.ly_parse.proofs.LandingLemmas.{acts_there, landed, lands_from, leads_on, legal_there}
+use Rattle.ly_parse.proofs.LandingLemmas.{strands}
+use Rattle.ly_parse.proofs.ReduceLemmas.{body_exceeds, body_fits, is_cut}
+use Rattle.ly_parse.proofs.ReduceLemmas.{past_bottom, rule_within, shape_fits}
+use Rattle.ly_parse.proofs.SettleLemmas.{same_fault}
+use Rattle.ly_parse.proofs.StackLemmas.{cut, on_top}
+use Rattle.ly_parse.proofs.running.Running.reduce.Goals as goal
+
+pub returns-in_default-clause-faulty : goal.returns-in_default-clause-faulty
+returns-in_default-clause-faulty g c e =
+    at_once (past_bottom c.self.inside.machine.now c.self.inside.forest c.self.inside.stack.items c.args.self.now
+    c.self.inside.count c.self.inside.over c.args.number.0 (rule_from c.rule-rule.result.now) c.self.view_is
+    c.rule-rule.ensures
+    (body_exceeds c.self.inside.stack c.len.result c.rule-rule.result.now.body_length c.len.ensures
+    c.in_default.ensures))
+
+pub make-requires-clause-shape : goal.make-requires-clause-shape
+make-requires-clause-shape g c =
+    shape_fits c.self.inside.machine.now c.self.inside.forest c.self.inside.stack.items c.args.self.now
+    c.self.inside.count c.self.inside.over c.args.number.0 c.in-Some.below (rule_from c.rule-rule.result.now)
+    c.self.view_is c.self.invariant.0 c.rule-rule.ensures
+    (body_fits c.self.inside.stack c.len.result c.rule-rule.result.now.body_length c.in-Some.below
+    c.len.ensures c.in-Some.ensures)
+
+pub invariant_of-self : goal.invariant_of-self
+invariant_of-self g c = (
+  subst (IsParse c.self-2.inside.machine.now c.self-2.inside.forest) (sym c.truncate.ensures.items)
+      (cut c.self-2.inside.machine.now c.self-2.inside.forest c.self-2.inside.stack.items c.in-Some.below
+      c.self-2.invariant.0),
+  c.self-2.invariant.1,
+)
+
+pub land-requires-clause-left : goal.land-requires-clause-left
+land-requires-clause-left g c =
+    subst (λ m. c.rule-rule.result.now.left.0 < m.nonterminals)
+    (ap (λ p. p.machine) c.self.view_is
+    ∙ (sym c.in_ok-term.ensures.machine ∙ sym (ap (λ p. p.machine) c.self-2.view_is)))
+    (rule_within c.self.inside.machine.now c.args.number.0 (rule_from c.rule-rule.result.now)
+    c.self.invariant.0.machine c.rule-rule.ensures).left
+
+pub invariant_of-self-in_err-shortcut : goal.invariant_of-self-in_err-shortcut
+invariant_of-self-in_err-shortcut g c = (
+  subst (IsParse c.self-2.inside.machine.now c.self-2.inside.forest) (sym c.truncate.ensures.items)
+      (cut c.self-2.inside.machine.now c.self-2.inside.forest c.self-2.inside.stack.items c.in-Some.below
+      c.self-2.invariant.0),
+  record { passes = c.self-2.invariant.1.passes; gotos = c.in_err-shortcut.ensures.kept },
+)
+
+pub returns-in_err-shortcut-clause-faulty : goal.returns-in_err-shortcut-clause-faulty
+returns-in_err-shortcut-clause-faulty g c is =
+    strands c.args.self.now c.args.number.0 (rule_from c.rule-rule.result.now) c.in-Some.below
+    c.self-2.inside.machine.now c.self-2.inside.forest c.self-2.inside.stack.items c.truncate.new.self.items
+    (record { below = c.top.result; left = c.rule-rule.result.now.left; terminal = c.args.terminal })
+    (record { state = record { 0 = 0 }; term = c.in_ok-term.term }) c.make.new.self.forest
+    (record {
+      cut = is_cut c.self.inside.machine.now c.self-2.inside.machine.now c.self.inside.forest c.self-2.inside.forest
+          c.self.inside.stack.items c.self-2.inside.stack.items c.args.self.now c.make.new.self c.self.inside.count
+          c.self-2.inside.count c.self.inside.over c.self-2.inside.over c.args.number.0 c.in-Some.below
+          (rule_from c.rule-rule.result.now) c.self.view_is c.self-2.view_is c.self-2.invariant.0
+          c.in_ok-term.ensures.machine c.in_ok-term.ensures.stack c.rule-rule.ensures
+          (body_fits c.self.inside.stack c.len.result c.rule-rule.result.now.body_length c.in-Some.below
+          c.len.ensures c.in-Some.ensures);
+      left_of = c.truncate.ensures.items;
+      below = c.top.ensures.top;
+      left = refl;
+      same = sym (ap (λ p. p.forest) c.self-2.view_is);
+      stands = c.in_ok-term.ensures.made;
+    })
+    (c.in_err-shortcut.ensures.faulty (ap Err
+    (same_fault c.from_residual-in_err-shortcut.result c.in_err-shortcut.field-0.0 TableFault
+    c.from_residual-in_err-shortcut.ensures.1 is)))
+
+pub invariant_of-self-2 : goal.invariant_of-self-2
+invariant_of-self-2 g c = (
+  subst (IsParse c.self-2.inside.machine.now c.self-2.inside.forest)
+      (sym (on_top _ _ _ _ c.in_ok-reserve.ensures.items c.push_reserved.ensures.items))
+      (landed c.args.self.now c.args.number.0 (rule_from c.rule-rule.result.now) c.in-Some.below
+      c.self-2.inside.machine.now c.self-2.inside.forest c.self-2.inside.stack.items c.truncate.new.self.items
+      (record { below = c.top.result; left = c.rule-rule.result.now.left; terminal = c.args.terminal })
+      (record { state = c.in_ok-shortcut.shortcut.state; term = c.in_ok-term.term }) c.make.new.self.forest
+      (record {
+        cut = is_cut c.self.inside.machine.now c.self-2.inside.machine.now c.self.inside.forest c.self-2.inside.forest
+            c.self.inside.stack.items c.self-2.inside.stack.items c.args.self.now c.make.new.self c.self.inside.count
+            c.self-2.inside.count c.self.inside.over c.self-2.inside.over c.args.number.0 c.in-Some.below
+            (rule_from c.rule-rule.result.now) c.self.view_is c.self-2.view_is c.self-2.invariant.0
+            c.in_ok-term.ensures.machine c.in_ok-term.ensures.stack c.rule-rule.ensures
+            (body_fits c.self.inside.stack c.len.result c.rule-rule.result.now.body_length c.in-Some.below
+            c.len.ensures c.in-Some.ensures);
+        left_of = c.truncate.ensures.items;
+        below = c.top.ensures.top;
+        left = refl;
+        same = sym (ap (λ p. p.forest) c.self-2.view_is);
+        stands = c.in_ok-term.ensures.made;
+      })
+      (action_from c.in_ok-shortcut.shortcut.action)
+      (lands_from c.self-2.inside.machine.now
+      (record { below = c.top.result; left = c.rule-rule.result.now.left; terminal = c.args.terminal })
+      c.in_ok-shortcut.shortcut c.in_ok-shortcut.ensures.ok)
+      (subst (λ p. IsStackPaid p.forest p.stack) c.self.view_is c.self.invariant.0.paid) c.in_ok-term.ensures.pays),
+  record { passes = c.self-2.invariant.1.passes; gotos = c.in_ok-shortcut.ensures.kept },
+)
+
+pub returns-clause-leads : goal.returns-clause-leads
+returns-clause-leads g c =
+    leads_on c.args.self.now c.args.number.0 (rule_from c.rule-rule.result.now) c.in-Some.below
+    c.self-2.inside.machine.now c.self-2.inside.forest c.self-2.inside.stack.items c.truncate.new.self.items
+    (record { below = c.top.result; left = c.rule-rule.result.now.left; terminal = c.args.terminal })
+    (record { state = c.in_ok-shortcut.shortcut.state; term = c.in_ok-term.term }) c.make.new.self.forest
+    (record {
+      cut = is_cut c.self.inside.machine.now c.self-2.inside.machine.now c.self.inside.forest c.self-2.inside.forest
+          c.self.inside.stack.items c.self-2.inside.stack.items c.args.self.now c.make.new.self c.self.inside.count
+          c.self-2.inside.count c.self.inside.over c.self-2.inside.over c.args.number.0 c.in-Some.below
+          (rule_from c.rule-rule.result.now) c.self.view_is c.self-2.view_is c.self-2.invariant.0
+          c.in_ok-term.ensures.machine c.in_ok-term.ensures.stack c.rule-rule.ensures
+          (body_fits c.self.inside.stack c.len.result c.rule-rule.result.now.body_length c.in-Some.below
+          c.len.ensures c.in-Some.ensures);
+      left_of = c.truncate.ensures.items;
+      below = c.top.ensures.top;
+      left = refl;
+      same = sym (ap (λ p. p.forest) c.self-2.view_is);
+      stands = c.in_ok-term.ensures.made;
+    })
+    (action_from c.in_ok-shortcut.shortcut.action)
+    (lands_from c.self-2.inside.machine.now
+    (record { below = c.top.result; left = c.rule-rule.result.now.left; terminal = c.args.terminal })
+    c.in_ok-shortcut.shortcut c.in_ok-shortcut.ensures.ok)
+    c.push_reserved.new.self.items (on_top _ _ _ _ c.in_ok-reserve.ensures.items c.push_reserved.ensures.items)
+
+pub returns-clause-action : goal.returns-clause-action
+returns-clause-action g c =
+    acts_there c.args.self.now c.args.number.0 (rule_from c.rule-rule.result.now) c.in-Some.below
+    c.self-2.inside.machine.now c.self-2.inside.forest c.self-2.inside.stack.items c.truncate.new.self.items
+    (record { below = c.top.result; left = c.rule-rule.result.now.left; terminal = c.args.terminal })
+    (record { state = c.in_ok-shortcut.shortcut.state; term = c.in_ok-term.term }) c.make.new.self.forest
+    (record {
+      cut = is_cut c.self.inside.machine.now c.self-2.inside.machine.now c.self.inside.forest c.self-2.inside.forest
+          c.self.inside.stack.items c.self-2.inside.stack.items c.args.self.now c.make.new.self c.self.inside.count
+          c.self-2.inside.count c.self.inside.over c.self-2.inside.over c.args.number.0 c.in-Some.below
+          (rule_from c.rule-rule.result.now) c.self.view_is c.self-2.view_is c.self-2.invariant.0
+          c.in_ok-term.ensures.machine c.in_ok-term.ensures.stack c.rule-rule.ensures
+          (body_fits c.self.inside.stack c.len.result c.rule-rule.result.now.body_length c.in-Some.below
+          c.len.ensures c.in-Some.ensures);
+      left_of = c.truncate.ensures.items;
+      below = c.top.ensures.top;
+      left = refl;
+      same = sym (ap (λ p. p.forest) c.self-2.view_is);
+      stands = c.in_ok-term.ensures.made;
+    })
+    (action_from c.in_ok-shortcut.shortcut.action)
+    (lands_from c.self-2.inside.machine.now
+    (record { below = c.top.result; left = c.rule-rule.result.now.left; terminal = c.args.terminal })
+    c.in_ok-shortcut.shortcut c.in_ok-shortcut.ensures.ok)
+    c.push_reserved.new.self.items (on_top _ _ _ _ c.in_ok-reserve.ensures.items c.push_reserved.ensures.items)
+
+pub returns-clause-legal : goal.returns-clause-legal
+returns-clause-legal g c =
+    legal_there c.args.self.now c.args.number.0 (rule_from c.rule-rule.result.now) c.in-Some.below
+    c.self-2.inside.machine.now c.self-2.inside.forest c.self-2.inside.stack.items c.truncate.new.self.items
+    (record { below = c.top.result; left = c.rule-rule.result.now.left; terminal = c.args.terminal })
+    (record { state = c.in_ok-shortcut.shortcut.state; term = c.in_ok-term.term }) c.make.new.self.forest
+    (record {
+      cut = is_cut c.self.inside.machine.now c.self-2.inside.machine.now c.self.inside.forest c.self-2.inside.forest
+          c.self.inside.stack.items c.self-2.inside.stack.items c.args.self.now c.make.new.self c.self.inside.count
+          c.self-2.inside.count c.self.inside.over c.self-2.inside.over c.args.number.0 c.in-Some.below
+          (rule_from c.rule-rule.result.now) c.self.view_is c.self-2.view_is c.self-2.invariant.0
+          c.in_ok-term.ensures.machine c.in_ok-term.ensures.stack c.rule-rule.ensures
+          (body_fits c.self.inside.stack c.len.result c.rule-rule.result.now.body_length c.in-Some.below
+          c.len.ensures c.in-Some.ensures);
+      left_of = c.truncate.ensures.items;
+      below = c.top.ensures.top;
+      left = refl;
+      same = sym (ap (λ p. p.forest) c.self-2.view_is);
+      stands = c.in_ok-term.ensures.made;
+    })
+    (action_from c.in_ok-shortcut.shortcut.action)
+    (lands_from c.self-2.inside.machine.now
+    (record { below = c.top.result; left = c.rule-rule.result.now.left; terminal = c.args.terminal })
+    c.in_ok-shortcut.shortcut c.in_ok-shortcut.ensures.ok)
+
+pub returns-clause-noted : goal.returns-clause-noted
+returns-clause-noted g c states note =
+    note_kept c.args.self.now c.args.number.0 (rule_from c.rule-rule.result.now) c.in-Some.below
+    c.self-2.inside.machine.now c.self-2.inside.forest c.self-2.inside.stack.items c.deref.result.now
+    c.truncate.new.self.items c.push_reserved.new.self.items c.args.before.now c.note.new.self
+    (record { state = c.in_ok-shortcut.shortcut.state; term = c.in_ok-term.term }) states
+    (is_cut c.self.inside.machine.now c.self-2.inside.machine.now c.self.inside.forest c.self-2.inside.forest
+    c.self.inside.stack.items c.self-2.inside.stack.items c.args.self.now c.make.new.self c.self.inside.count
+    c.self-2.inside.count c.self.inside.over c.self-2.inside.over c.args.number.0 c.in-Some.below
+    (rule_from c.rule-rule.result.now) c.self.view_is c.self-2.view_is c.self-2.invariant.0
+    c.in_ok-term.ensures.machine c.in_ok-term.ensures.stack c.rule-rule.ensures
+    (body_fits c.self.inside.stack c.len.result c.rule-rule.result.now.body_length c.in-Some.below
+    c.len.ensures c.in-Some.ensures))
+    c.deref.ensures.value c.truncate.ensures.items
+    (on_top _ _ _ _ c.in_ok-reserve.ensures.items c.push_reserved.ensures.items) c.in_ok-note.ensures.same
+    c.in_ok-note.ensures.low note

@@ -1,0 +1,39 @@
+-- What a parser's stack was before a token.
+use Rattle.std.specs.Prelude.{◌≡◌, ℕ, ◌-◌, ◌≤◌, List, [], ◌∷◌, ◌++◌, drop, length, map, take}
+use Rattle.ly_parse.specs.Feeding.{Level, states_on}
+use Rattle.ly_parse.specs.Private.Copied.{states_in}
+use Rattle.ly_parse.specs.declared.before.Before.{Before}
+use Rattle.ly_parse.specs.declared.level.Level as code
+
+-- the states of levels, the bottom's among them: those of a stack whose top is last, the top's first
+abbrev pub states_in_levels : List code.Level → List ℕ
+states_in_levels levels = states_in (map (λ l. l.state) levels)
+
+-- the states that were popped, and those that are still there
+abbrev pub before_of : List code.Level → Before → List ℕ
+before_of levels b = map (λ s. s.0) b.popped.items ++ states_in_levels (take b.kept levels)
+
+-- the states of levels with another one on top; the bottom alone stays
+abbrev pub levels_with_top : ℕ → List code.Level → List ℕ
+levels_with_top top [] = states_in_levels []
+levels_with_top top (l ∷ levels) = top ∷ states_in_levels (take (length levels) (l ∷ levels))
+
+-- the same on a stack as contracts see it
+abbrev pub before_on : List Level → Before → List ℕ
+before_on stack b = map (λ s. s.0) b.popped.items ++ states_on (drop (length stack - b.kept) stack)
+
+-- the states of a stack with another one on top; the bottom alone stays
+abbrev pub with_top : ℕ → List Level → List ℕ
+with_top top [] = states_on []
+with_top top (l ∷ stack) = top ∷ states_on stack
+
+-- The note says that the stack which is this now had these states.
+pub record IsNoteOf (states : List ℕ) (stack : List Level) (b : Before) : Type 0 where
+  pub kept : b.kept ≤ length stack
+  pub same : before_on stack b ≡ states
+
+-- both are the bottom alone, or they differ on top alone
+abbrev pub AreAlikeBelow : List Level → List Level → Type 0
+AreAlikeBelow [] [] = Unit {0}
+AreAlikeBelow (l ∷ stack) (k ∷ other) = stack ≡ other
+AreAlikeBelow _ _ = ⊥

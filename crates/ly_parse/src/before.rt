@@ -1,0 +1,73 @@
+//! What a stack was before the token that a parse is at, while reductions take it down.
+ghost use Rattle.std.specs.Prelude.{◌≡◌, ◌≤◌, IfOk, OnOk, length};
+ghost use Rattle.ly_parse.specs.Private.Before.{before_of, levels_with_top};
+ghost use Rattle.ly_parse.specs.Private.Copied.{states_in};
+
+use crate::level::Level;
+use ly_base::StateNo;
+use std::alloc::{AllocError, Global};
+
+/// The states that a stack had before a token, as far as they aren't still there: each is noted once, before it is
+/// popped.
+#[derive(Drop)]
+pub(crate) struct Before {
+    /// How many levels, from the bottom on, are still as they were.
+    kept: usize,
+    /// The states that stood above them, the top first.
+    popped: Vec<StateNo>,
+}
+
+impl Before {
+    /// Nothing is noted.
+    pub(crate) fn new(alloc: Global) -> Self {
+        Before {
+            kept: 0,
+            popped: Vec::new(alloc),
+        }
+    }
+
+    /// Begins anew: the stack is as it was, but for the state that stood on top, if one stands there.
+    pub(crate) fn begin(&mut self, stack: &[Level], first: StateNo) -> Result<(), AllocError>
+        ensures kept { OnOk result (self.new.kept ≤ length stack.now) }
+        ensures before { OnOk result (before_of stack.now self.new ≡ levels_with_top first.0 stack.now) }
+    {
+        self.popped.clear();
+        self.kept = 0;
+        if let Some(kept) = stack.len().checked_sub(1) {
+            self.popped.push(first)?;
+            self.kept = kept;
+        }
+        Ok(())
+    }
+
+    /// Notes the states above a height, which are popped next.
+    pub(crate) fn note(&mut self, stack: &[Level], height: usize) -> Result<(), AllocError>
+        requires { self.old.kept ≤ length stack.now }
+        ensures same { OnOk result (before_of stack.now self.new ≡ before_of stack.now self.old) }
+        ensures low { OnOk result (self.new.kept ≤ height) }
+        ensures lower { OnOk result (self.new.kept ≤ self.old.kept) }
+    {
+        while height < self.kept {
+            self.popped.push(stack[self.kept - 1].state)?;
+            self.kept -= 1;
+        }
+        Ok(())
+    }
+
+    /// The states that the stack had above the bottom, the top last.
+    pub(crate) fn states(&self, alloc: Global, stack: &[Level]) -> Result<Vec<StateNo>, AllocError>
+        requires { self.now.kept ≤ length stack.now }
+        ensures { IfOk result (λ states. states_in states.items ≡ before_of stack.now self.now) }
+    {
+        let mut states = Vec::new(alloc);
+        for place in 0..self.kept {
+            states.push(stack[place].state)?;
+        }
+        let mut left = self.popped.len();
+        while 0 < left {
+            left -= 1;
+            states.push(self.popped[left])?;
+        }
+        Ok(states)
+    }
+}
