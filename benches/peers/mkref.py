@@ -5,9 +5,9 @@ From a lex and a yacc file as lytab reads them (YACC may be `-`) writes
 OUT/scan.l for flex and OUT/parse.y for bison and byacc, so that the built
 program answers as lytab does: `PROG parse FILE` writes the tree, the syntax
 line or the `no rule` line, `PROG tokens FILE` one leaf a line.  `make.sh OUT`
-builds it.  Two differences stay: byacc and bison settle a token with several
-reductions against one shift in their own way, and a specification that lytab
-refuses is not refused here.
+builds it.  Three differences stay: byacc and bison settle a token with several
+reductions against one shift in their own way, a specification that lytab
+refuses is not refused here, and no line `expected:` stands behind a syntax line.
 """
 import os
 import re
