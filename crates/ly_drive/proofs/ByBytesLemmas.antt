@@ -92,9 +92,9 @@ module _ (s : TableSet) where
     -- and what becomes of a text
     pub same_verdict : (v : Verdict) → IsVerdictBy (by_bytes (scan_part_of s)) m text v
         → IsVerdictBy (scan_part_of s) m text v
-    unfolding same_reading
+    unfolding same_coming same_reading
     same_verdict (accepted d) is = (same_reading _ is.0, is.1)
-    same_verdict (refused k t) is = (is.0, same_coming is.0 t fed.refused is.1, is.2)
+    same_verdict (refused k t ts) is = (is.0, same_coming is.0 t fed.refused is.1, is.2, is.3)
     same_verdict (unmatched byte) is = same_reading _ is
     same_verdict faulty (inl is) = inl (is.0, is.1, same_coming is.0 is.1 fed.faulty is.2)
     same_verdict faulty (inr is) = inr (is.0, same_reading _ is.1)

@@ -1,10 +1,13 @@
 -- What feeding a token leads to.
 use Rattle.std.proofs.Common.{◌≡◌, ◌∙◌, ℕ, ◌+◌, ◌≤◌, List, [], ◌∷◌, ◌++◌, Option, Some, None, Ok}
-use Rattle.std.proofs.Common.{ap, arith, refl, subst}
-use Rattle.std.specs.Prelude.{false}
+use Rattle.std.proofs.Common.{ap, ap₂, arith, refl, subst}
+use Rattle.std.specs.Prelude.{false, map}
+use Rattle.std.specs.Global.{Global}
+use Rattle.std.specs.declared.vec.Vec.{Vec}
+use Rattle.ly_base.specs.declared.numbers.Sym.{Sym}
 use Rattle.ly_base.specs.Lexed.{Token}
 use Rattle.ly_drive.specs.Private.Running.{IsRefusal}
-use Rattle.ly_drive.specs.Verdict.{syntax_line}
+use Rattle.ly_drive.specs.Verdict.{printed, refused}
 use Rattle.ly_drive.specs.declared.outcome.Outcome.TheVariants.{Syntax}
 use Rattle.ly_pack.specs.Machine.{Machine, TableAction, TableRule, accept, action_of, error, goto_at, reduce, shift}
 use Rattle.ly_pack.specs.Machine.{IsMachine}
@@ -56,17 +59,22 @@ not_accepted s r t root step h goes low is call =
     let is_end = accepts_end h fed.1 in
     omega (arith, low, is_end)
 
--- what is said of a refused token
-pub refused_told : (v : Vocabulary) (s r : Parse) (t : Token ℕ) (k byte : ℕ) (line : List ℕ) (step : Step)
-    → s.over ≡ false → step ≡ Refused k byte → IsCall s t r (Ok step)
-    → line ≡ syntax_line v k (record { terminal = t.terminal; at = byte; bytes = t.bytes })
-    → IsRefusal v s t (Syntax k byte) line
-refused_told v s r t k byte line step goes is call told =
-    let fed = (subst (λ x. IsCall s t r (Ok x)) is call).before_end goes in (
+-- what is said of a refused token, by words, a list and a place that are the same
+pub refused_told : (v w : Vocabulary) (s r : Parse) (t : Token ℕ) (k byte at : ℕ) (expected : Vec Sym Global)
+    (given : List Sym) (lines : List ℕ) (step : Step) → s.over ≡ false → step ≡ Refused k byte expected
+    → IsCall s t r (Ok step) → w ≡ v → given ≡ expected.items → (byte ≡ t.at → at ≡ t.at)
+    → lines ≡ printed w (refused k (record { terminal = t.terminal; at = at; bytes = t.bytes })
+    (map (λ x. x.0) given)) → IsRefusal v s t (Syntax k byte expected) lines
+refused_told v w s r t k byte at expected given lines step goes is call words same there told =
+    let fed = (subst (λ x. IsCall s t r (Ok x)) is call).before_end goes in
+    let here : ℕ → Token ℕ = λ b. record { terminal = t.terminal; at = b; bytes = t.bytes } in
+    let ts = map (λ x. x.0) expected.items in (
+      ts,
       fed.0,
-      ap (λ n. Syntax n byte) fed.1 ∙ ap (λ b. Syntax (s.count + 1) b) fed.2,
-      told ∙ (ap (λ b. syntax_line v k (record { terminal = t.terminal; at = b; bytes = t.bytes })) fed.2
-          ∙ ap (λ n. syntax_line v n t) fed.1),
+      fed.3,
+      (fed.1, fed.2, refl),
+      told ∙ (ap₂ (λ v xs. printed v (refused k (here at) (map (λ x. x.0) xs))) words same
+          ∙ (ap (λ b. printed v (refused k (here b) ts)) (there fed.2) ∙ ap (λ n. printed v (refused n t ts)) fed.1)),
     )
 
 -- one token more is read

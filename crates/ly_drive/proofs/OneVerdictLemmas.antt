@@ -8,10 +8,12 @@ use Rattle.ly_drive.specs.ScanPart.{ScanPart, condition_in, scanner_in, terminal
 use Rattle.ly_drive.specs.TableAnswer.{AreTokens, Comes, IsVerdictBy, ReadsAll, end_of, fed_with}
 use Rattle.ly_drive.specs.Verdict.{Verdict, accepted, faulty, refused, unmatched}
 use Rattle.ly_pack.specs.Machine.{Machine}
-use Rattle.ly_parse.specs.Feeding.{Fed, Feeds, Level, pushed}
+use Rattle.ly_parse.specs.Expected.{AreExpected}
+use Rattle.ly_parse.specs.Feeding.{Fed, Feeds, Level, pushed, states_on}
 use Rattle.ly_parse.specs.Feeding as fed
 use Rattle.ly_parse.specs.FeedingLaws.{FeedsInOneWay}
 use Rattle.ly_parse.specs.Reading.{Reads, at_end, onward}
+use Rattle.ly_parse.proofs.ExpectedListLemmas.{one_list}
 use Rattle.ly_scan.proofs.OneLexingLemmas.{one_lexing}
 
 one_tokens : (p : ScanPart) (text : List ℕ) (ts us : List (Token ℕ)) (e d : End) → AreTokens p text ts e
@@ -28,10 +30,11 @@ IsStop _ = Unit {0}
 -- tables stop at one token, in one way
 one_stop : {m : Machine} {a b c : List Level} {xs ys : List (Token ℕ)} (t u : Token ℕ) (zs ws : List (Token ℕ))
     (out other : Fed) → FeedsInOneWay → Reads m a xs b → Feeds m t b out → IsStop out → Reads m a ys c
-    → Feeds m u c other → IsStop other → xs ++ t ∷ zs ≡ ys ++ u ∷ ws → (xs ≡ ys) × (t ≡ u) × (out ≡ other)
+    → Feeds m u c other → IsStop other → xs ++ t ∷ zs ≡ ys ++ u ∷ ws
+    → (xs ≡ ys) × (t ≡ u) × (out ≡ other) × (b ≡ c)
 one_stop {m} {a} t u zs ws out other way at_end f stop at_end g stops e =
     let same : t ≡ u = cc in
-    (refl, same, way m t a out other f (subst (λ x. Feeds m x a other) (sym same) g))
+    (refl, same, way m t a out other f (subst (λ x. Feeds m x a other) (sym same) g), refl)
 one_stop {m} {a} t u zs ws out other way at_end f stop (onward {next = n} {token = y} first more) g stops e =
     let same : t ≡ y = cc in
     absurd (subst IsStop (way m t a out (pushed n) f (subst (λ x. Feeds m x a (pushed n)) (sym same) first)) stop)
@@ -46,7 +49,7 @@ one_stop {m} {a} {c = c} t u zs ws out other way (onward {next = n} {token = x} 
     let levels : n ≡ k = cc in
     let on = one_stop t u zs ws out other way more f stop (subst (λ s. Reads m s ys c) (sym levels) others) g stops
     tails in
-    (ap₂ (λ z zs. z ∷ zs) same on.0, on.1, on.2)
+    (ap₂ (λ z zs. z ∷ zs) same on.0, on.1, on.2, on.3)
 
 -- they read no token at which they stop
 not_all_read : {m : Machine} {a b c : List Level} {xs ys : List (Token ℕ)} (t : Token ℕ) (zs : List (Token ℕ))
@@ -65,11 +68,19 @@ not_all_read {m} {a} {c = c} t zs out way (onward {next = n} {token = x} {tokens
     let levels : n ≡ k = cc in
     not_all_read t zs out way more f stop (subst (λ s. Reads m s ys c) (sym levels) others) tails
 
--- what is said where the tables stop at a token
-abbrev said_of : List (Token ℕ) → Token ℕ → Fed → Verdict
-said_of before t (fed.done d) = accepted d
-said_of before t fed.refused = refused (length before + 1) t
-said_of before t _ = faulty
+-- what is said where the tables stop at a token; where it is refused, these terminals are expected
+abbrev said_of : List (Token ℕ) → Token ℕ → List ℕ → Fed → Verdict
+said_of before t ts (fed.done d) = accepted d
+said_of before t ts fed.refused = refused (length before + 1) t ts
+said_of before t ts _ = faulty
+
+-- of the terminals that are expected nothing is said where none is refused
+said_alike : (before : List (Token ℕ)) (t : Token ℕ) (ts us : List ℕ) (out : Fed) → (out ≡ fed.refused → ts ≡ us)
+    → said_of before t ts out ≡ said_of before t us out
+said_alike before t ts us (fed.done d) same = refl
+said_alike before t ts us fed.refused same = ap (refused (length before + 1) t) (same refl)
+said_alike before t ts us (pushed next) same = refl
+said_alike before t ts us fed.faulty same = refl
 
 -- and where a run of the scanner ends before the end of the text
 abbrev said_at : End → Verdict
@@ -88,7 +99,9 @@ module _ (p : ScanPart) (m : Machine) (text : List ℕ) where
     out : Fed
     comes : Comes p m text before token out
     stop : IsStop out
-    said : v ≡ said_of before token out
+    expected : List ℕ
+    listed : out ≡ fed.refused → AreExpected m (states_on comes.last) expected
+    said : v ≡ said_of before token expected out
 
   -- All tokens are read, and the scanner's run ends before the end of the text.
   record Breaks (v : Verdict) : Type 0 where
@@ -114,15 +127,19 @@ module _ (p : ScanPart) (m : Machine) (text : List ℕ) where
       feeds = h.1;
     };
     stop = tt;
+    expected = [];
+    listed = λ e. absurd (let off : fed.done d ≡ fed.refused → ⊥ = λ z. cc in off e);
     said = refl;
   })
-  seen (refused k t) h = inl (record {
+  seen (refused k t ts) h = inl (record {
     before = h.0;
     token = t;
     out = fed.refused;
     comes = h.1;
     stop = tt;
-    said = ap (λ n. refused n t) h.2;
+    expected = ts;
+    listed = λ e. h.3;
+    said = ap (λ n. refused n t ts) h.2;
   })
   seen (unmatched byte) h = inr (record { e = Stuck byte; all = h; early = tt; said = refl })
   seen faulty (inl h) = inl (record {
@@ -131,6 +148,8 @@ module _ (p : ScanPart) (m : Machine) (text : List ℕ) where
     out = fed.faulty;
     comes = h.2;
     stop = tt;
+    expected = [];
+    listed = λ e. absurd (let off : fed.faulty ≡ fed.refused → ⊥ = λ z. cc in off e);
     said = refl;
   })
   seen faulty (inr h) = inr (record { e = BadCut h.0; all = h.1; early = tt; said = refl })
@@ -149,7 +168,11 @@ module _ (p : ScanPart) (m : Machine) (text : List ℕ) where
       let fed_same = sym x.split ∙ (ap₂ (λ ts e. fed_with text ts e) same.0 same.1 ∙ y.split) in
       let on = one_stop a.token b.token x.behind y.behind a.out b.out way x.reads x.feeds a.stop y.reads y.feeds b.stop
       fed_same in
-      a.said ∙ (ap₂ (λ ts t. said_of ts t a.out) on.0 on.1 ∙ (ap (said_of b.before b.token) on.2 ∙ sym b.said))
+      let lists = λ (r : b.out ≡ fed.refused). one_list m (states_on y.last) a.expected b.expected
+      (subst (λ l. AreExpected m (states_on l) a.expected) on.3 (a.listed (on.2 ∙ r))) (b.listed r) in
+      a.said ∙ (ap₂ (λ ts t. said_of ts t a.expected a.out) on.0 on.1
+      ∙ (ap (said_of b.before b.token a.expected) on.2
+      ∙ (said_alike b.before b.token a.expected b.expected b.out lists ∙ sym b.said)))
 
   never_both : (v u : Verdict) → FeedsInOneWay → Stops v → Breaks u → ⊥
   never_both v u way a b =

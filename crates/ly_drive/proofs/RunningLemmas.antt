@@ -13,9 +13,10 @@ use Rattle.ly_scan.proofs.LexingLemmas.{lexes, tokens_on}
 use Rattle.ly_drive.specs.Private.Running.{StandsAt}
 use Rattle.ly_drive.specs.ScanPart.{ScanPart, condition_in, scanner_in, terminal_in}
 use Rattle.ly_drive.specs.TableAnswer.{AreTokens, Comes, IsVerdictBy, ReadsAll, end_of, fed_with}
-use Rattle.ly_drive.specs.Verdict.{accepted}
+use Rattle.ly_drive.specs.Verdict.{accepted, refused}
 use Rattle.ly_pack.specs.Machine.{Machine}
-use Rattle.ly_parse.specs.Feeding.{Fed, Feeds, pushed}
+use Rattle.ly_parse.specs.Expected.{AreExpected}
+use Rattle.ly_parse.specs.Feeding.{Fed, Feeds, pushed, states_on}
 use Rattle.ly_parse.specs.Feeding as fed
 use Rattle.ly_parse.specs.Parse.{Parse}
 use Rattle.ly_parse.specs.Reading.{Reads, at_end}
@@ -176,3 +177,27 @@ module _ (p : ScanPart) (m : Machine) (text : List ℕ) where
   unfolding reads_all
   accepts q s d h ends feeds
       = (reads_all q s Clean h ends, subst (λ k. Feeds k (end_of text) s.stack (fed.done d)) h.machine feeds)
+
+  -- a token is refused, and these terminals are expected in its place
+  pub refuses_here : (q : Place) (s : Parse) (t : Lexeme) (token : Token ℕ) (ts : List ℕ) → StandsAt p m text q s
+      → IsLexemeAt (scanner_in p) q t → IsTokenAt p q t token → Feeds s.machine token s.stack fed.refused
+      → AreExpected s.machine (states_on s.stack) ts → IsVerdictBy p m text (refused (s.count + 1) token ts)
+  unfolding comes_here
+  refuses_here q s t token ts h is here feeds list = (
+    tokens_of h.lexemes,
+    comes_here q s t token fed.refused h is here feeds,
+    ap (λ n. n + 1) h.counted,
+    subst (λ k. AreExpected k (states_on s.stack) ts) h.machine list,
+  )
+
+  -- the end is
+  pub refuses_last : (q : Place) (s : Parse) (ts : List ℕ) → StandsAt p m text q s → q.rest ≡ []
+      → Feeds s.machine (end_of text) s.stack fed.refused → AreExpected s.machine (states_on s.stack) ts
+      → IsVerdictBy p m text (refused (s.count + 1) (end_of text) ts)
+  unfolding comes_last
+  refuses_last q s ts h ends feeds list = (
+    tokens_of h.lexemes,
+    comes_last q s fed.refused h ends feeds,
+    ap (λ n. n + 1) h.counted,
+    subst (λ k. AreExpected k (states_on s.stack) ts) h.machine list,
+  )

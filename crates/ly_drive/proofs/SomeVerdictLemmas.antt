@@ -21,6 +21,7 @@ use Rattle.ly_pack.specs.SteadyLaws.{IsStack, bottom}
 use Rattle.ly_parse.specs.Feeding.{Fed, Feeds, Level, pushed, states_on}
 use Rattle.ly_parse.specs.Feeding as fed
 use Rattle.ly_parse.specs.Reading.{Reads, at_end, onward}
+use Rattle.ly_parse.proofs.ExpectedListLemmas.{are_listed}
 use Rattle.ly_parse.proofs.SettlingLemmas.{end_not_read, settles_on_steady, stack_kept}
 use Rattle.ly_tables.specs.TableSet.{machine_of}
 
@@ -66,6 +67,7 @@ module _ (m : Machine) where
     last : List Level
     reads : Reads m levels before last
     out : Fed
+    edges : IsStack m (states_on last)
     feeds : Feeds m token last out
     halt : IsHalt out
 
@@ -84,6 +86,7 @@ module _ (m : Machine) where
     last = h.last;
     reads = onward first h.reads;
     out = h.out;
+    edges = h.edges;
     feeds = h.feeds;
     halt = h.halt;
   })
@@ -107,6 +110,7 @@ module _ (m : Machine) where
         last = levels;
         reads = at_end;
         out = out;
+        edges = edges;
         feeds = feeds;
         halt = halt;
       }
@@ -127,15 +131,18 @@ module _ (p : ScanPart) (m : Machine) (text : List ℕ) where
   Says = (v : Verdict) × IsVerdictBy p m text v
 
   -- what is said of a token that isn't read
-  said_of : (before : List (Token ℕ)) (t : Token ℕ) (out : Fed) → IsHalt m out → Comes p m text before t out → Says
-  said_of before t fed.refused halt comes = (refused (length before + 1) t, (before, comes, refl))
-  said_of before t fed.faulty halt comes = (faulty, inl (before, t, comes))
-  said_of before t (fed.done d) halt comes = absurd halt
-  said_of before t (pushed next) halt comes = absurd halt
+  said_of : IsSteady m → (before : List (Token ℕ)) (t : Token ℕ) (out : Fed) → IsHalt m out
+      → (comes : Comes p m text before t out) → IsStack m (states_on comes.last) → Says
+  said_of calm before t fed.refused halt comes edges =
+      let list = are_listed m comes.last calm edges in
+      (refused (length before + 1) t list.0, (before, comes, refl, list.1))
+  said_of calm before t fed.faulty halt comes edges = (faulty, inl (before, t, comes))
+  said_of calm before t (fed.done d) halt comes edges = absurd halt
+  said_of calm before t (pushed next) halt comes edges = absurd halt
 
   -- a token of the text isn't read
-  halted : (tokens : List (Token ℕ)) (e : End) → AreTokens p text tokens e → HaltsAt m [] tokens → Says
-  halted tokens e are h = said_of h.before h.token h.out h.halt (record {
+  halted : IsSteady m → (tokens : List (Token ℕ)) (e : End) → AreTokens p text tokens e → HaltsAt m [] tokens → Says
+  halted calm tokens e are h = said_of calm h.before h.token h.out h.halt (record {
     tokens = tokens;
     e = e;
     are_tokens = are;
@@ -145,7 +152,7 @@ module _ (p : ScanPart) (m : Machine) (text : List ℕ) where
     last = h.last;
     reads = h.reads;
     feeds = h.feeds;
-  })
+  }) h.edges
 
   -- all are read, and then the end
   closed : CanRun p m → (tokens : List (Token ℕ)) → AreTokens p text tokens Clean → AreRead m [] tokens → Says
@@ -171,8 +178,10 @@ module _ (p : ScanPart) (m : Machine) (text : List ℕ) where
         accepted d,
         (record { tokens = tokens; are_tokens = are; last = r.last; reads = r.reads }, feeds),
       )
-      by_out fed.refused feeds = said_of tokens (end_of text) fed.refused tt (comes fed.refused feeds)
-      by_out fed.faulty feeds = said_of tokens (end_of text) fed.faulty tt (comes fed.faulty feeds)
+      by_out fed.refused feeds = said_of can.steady tokens (end_of text) fed.refused tt
+          (comes fed.refused feeds) r.edges
+      by_out fed.faulty feeds = said_of can.steady tokens (end_of text) fed.faulty tt
+          (comes fed.faulty feeds) r.edges
 
   -- all are read, and the scanner's run ends so
   ended : CanRun p m → (tokens : List (Token ℕ)) (e : End) → AreTokens p text tokens e → AreRead m [] tokens → Says
@@ -195,7 +204,7 @@ module _ (p : ScanPart) (m : Machine) (text : List ℕ) where
       by_run : (tokens : List (Token ℕ)) (e : End) → AreTokens p text tokens e
           → AreRead m [] tokens ⊎ HaltsAt m [] tokens → Says
       by_run tokens e are (inl r) = ended can tokens e are r
-      by_run tokens e are (inr h) = halted tokens e are h
+      by_run tokens e are (inr h) = halted can.steady tokens e are h
 
 pub has_some_verdict : HasSomeVerdict
 has_some_verdict w counts s within steady text = some_verdict (scan_part_of s) (machine_of s) text (record {

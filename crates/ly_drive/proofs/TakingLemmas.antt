@@ -11,7 +11,8 @@ use Rattle.ly_base.specs.declared.lexeme.End.{End}
 use Rattle.ly_base.specs.declared.lexeme.End.TheVariants.{Stuck}
 use Rattle.ly_base.specs.declared.lexeme.Lexeme.{Lexeme}
 use Rattle.ly_base.specs.declared.numbers.Sym.{Sym}
-use Rattle.ly_drive.proofs.RunningLemmas.{accepts, comes_here, comes_last, reads_all, reads_on, tokens_of, IsTokenAt}
+use Rattle.ly_drive.proofs.RunningLemmas.{accepts, comes_here, comes_last, reads_all, reads_on, refuses_here}
+use Rattle.ly_drive.proofs.RunningLemmas.{refuses_last, tokens_of, IsTokenAt}
 use Rattle.ly_drive.specs.Private.Running.{words_in, IsFed, IsLast, IsRun, IsTaken, IsTold, StandsAt}
 use Rattle.ly_drive.specs.ScanPart.{condition_in, scanner_in}
 use Rattle.ly_drive.specs.TableAnswer.{end_of}
@@ -50,14 +51,10 @@ module _ (T : Tables) (text : List ℕ) where
   taken q s r t token (Ok None) h is here f = reads_on T.scanner T.machine text q
       (place_after (condition_in T.scanner) q t) s r t token h is here refl f.0 f.1 f.2 f.3
   taken q s r t token (Ok (Some told)) h is here f = (
-    refused (s.count + 1) token,
-    (
-      tokens_of T.scanner T.machine text h.lexemes,
-      comes_here T.scanner T.machine text q s t token fed.refused h is here f.0,
-      ap (λ n. n + 1) h.counted,
-    ),
-    f.1,
-    f.2,
+    refused (s.count + 1) token f.0,
+    refuses_here T.scanner T.machine text q s t token f.0 h is here f.1 f.2,
+    f.3,
+    f.4,
   )
   taken q s r t token (Err fault.TableFault) h is here f = inl (
     tokens_of T.scanner T.machine text h.lexemes,
@@ -79,14 +76,10 @@ module _ (T : Tables) (text : List ℕ) where
     f.3,
   )
   closed q s (Ok (Told outcome line)) h ends f = (
-    refused (s.count + 1) (end_of text),
-    (
-      tokens_of T.scanner T.machine text h.lexemes,
-      comes_last T.scanner T.machine text q s fed.refused h ends f.0,
-      ap (λ n. n + 1) h.counted,
-    ),
-    f.1,
-    f.2,
+    refused (s.count + 1) (end_of text) f.0,
+    refuses_last T.scanner T.machine text q s f.0 h ends f.1 f.2,
+    f.3,
+    f.4,
   )
   closed q s (Err fault.TableFault) h ends f = inl (
     tokens_of T.scanner T.machine text h.lexemes,

@@ -37,7 +37,7 @@ printed v faulty = []
 
 -- the outcome says which token is refused, where it stands and what is expected
 abbrev pub IsSyntax : ℕ → ℕ → List ℕ → Outcome → Type 0
-IsSyntax k at ts (Syntax token byte expected) = (token ≡ k) × (byte ≡ at) × (map (λ s. s.0) expected.items ≡ ts)
+IsSyntax k at ts (Syntax n b expected) = (n ≡ k) × (b ≡ at) × (map (λ s. s.0) expected.items ≡ ts)
 IsSyntax k at ts _ = ⊥
 
 -- the outcome that a verdict is told by

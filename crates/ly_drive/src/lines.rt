@@ -1,4 +1,4 @@
-ghost use Rattle.std.specs.Prelude.{◌≡◌, ◌≢◌, ℕ, [], ◌∷◌, ◌++◌, Err, IfErr, IfOk, IsSome, OnOk};
+ghost use Rattle.std.specs.Prelude.{◌≡◌, ◌≢◌, ℕ, [], ◌∷◌, ◌++◌, Err, IfErr, IfOk, IsSome, OnOk, map};
 ghost use Rattle.std.specs.Io.KnownBytes.{Appends};
 ghost use Rattle.ly_base.specs.Bytes.{newline};
 ghost use Rattle.ly_base.specs.Device.{next_count};
@@ -6,16 +6,16 @@ ghost use Rattle.ly_base.specs.Text.{no_rule_line};
 ghost use Rattle.ly_base.specs.TextWriter.{IsCutShort};
 ghost use Rattle.ly_drive.specs.DriveFault.{IsBeforeWriting, IsOfWriting, IsWrite};
 ghost use Rattle.ly_drive.specs.Private.Running.{words_of};
-ghost use Rattle.ly_drive.specs.Verdict.{syntax_line};
+ghost use Rattle.ly_drive.specs.Verdict.{expected_line, printed, refused};
 ghost use Rattle.ly_tree.specs.Forest.{term_of, StandsFor};
 ghost use Rattle.ly_tree.specs.Costs.{IsPaid};
-ghost use Rattle.ly_tree.specs.Shown.{shown, Vocabulary};
+ghost use Rattle.ly_tree.specs.Shown.{shown};
 ghost use Rattle.ly_tree.specs.Term.{Term};
 
 use crate::fault::DriveFault;
 use crate::labels::Labels;
 use crate::names::Names;
-use ly_base::{OutOfMemory, Sink, Terminal, push_leaf, push_no_rule_line};
+use ly_base::{OutOfMemory, Sink, Sym, Terminal, push_leaf, push_no_rule_line};
 use ly_parse::Token;
 use ly_tree::{Forest, TermRef};
 use std::alloc::Global;
@@ -47,37 +47,64 @@ pub(crate) fn write_term<W: Sink>(
     Ok(())
 }
 
-/// The line that says that a token is refused, by its number, which counts from 1.
-pub(crate) fn token_line(
+/// The lines that say that a token is refused, by its number, which counts from 1, and what is expected in its place.
+pub(crate) fn token_lines(
     alloc: Global,
     names: &Names<'_>,
     number: u64,
     token: &Token<'_>,
+    expected: &[Sym],
 ) -> Result<Vec<u8>, OutOfMemory>
     requires { token.now.terminal.0 ≢ 0 }
-    ensures { IfOk result (λ line. line.items ≡ syntax_line (words_of names.now) number (record {
+    ensures { IfOk result (λ lines. lines.items ≡ printed (words_of names.now) (refused number (record {
       terminal = token.now.terminal.0;
       at = token.now.at;
       bytes = token.now.text;
-    })) }
+    }) (map (λ t. t.0) expected.now))) }
 {
-    let mut line = Vec::new(alloc);
+    let mut lines = Vec::new(alloc);
     let byte = token.at;
-    write!(line, "syntax error at token {number}, byte {byte}: ").map_err(|_| OutOfMemory)?;
+    write!(lines, "syntax error at token {number}, byte {byte}: ").map_err(|_| OutOfMemory)?;
     let name = Terminal::Token(names.of_terminal(token.terminal));
-    push_leaf(&mut line, name, token.text.bytes())?;
-    line.push(b'\n')?;
-    Ok(line)
+    push_leaf(&mut lines, name, token.text.bytes())?;
+    lines.push(b'\n')?;
+    push_expected_line(&mut lines, names, expected)?;
+    Ok(lines)
 }
 
-/// The line that says that the end is refused, which stands at this byte.
-pub(crate) fn end_line(alloc: Global, number: u64, byte: u64) -> Result<Vec<u8>, OutOfMemory>
-    ensures { IfOk result (λ line. (v : Vocabulary) → line.items
-        ≡ syntax_line v number (record { terminal = 0; at = byte; bytes = [] })) }
+/// The lines that say that the end is refused, which stands at this byte, and what is expected in its place.
+pub(crate) fn end_lines(
+    alloc: Global,
+    names: &Names<'_>,
+    number: u64,
+    byte: u64,
+    expected: &[Sym],
+) -> Result<Vec<u8>, OutOfMemory>
+    ensures { IfOk result (λ lines. lines.items ≡ printed (words_of names.now) (refused number
+        (record { terminal = 0; at = byte; bytes = [] }) (map (λ t. t.0) expected.now))) }
 {
-    let mut line = Vec::new(alloc);
-    writeln!(line, "syntax error at end, token {number}, byte {byte}").map_err(|_| OutOfMemory)?;
-    Ok(line)
+    let mut lines = Vec::new(alloc);
+    writeln!(lines, "syntax error at end, token {number}, byte {byte}").map_err(|_| OutOfMemory)?;
+    push_expected_line(&mut lines, names, expected)?;
+    Ok(lines)
+}
+
+/// Adds the line that names the terminals that are expected.
+fn push_expected_line(
+    lines: &mut Vec<u8>,
+    names: &Names<'_>,
+    expected: &[Sym],
+) -> Result<(), OutOfMemory>
+    ensures { OnOk result (lines.new.items
+        ≡ lines.old.items ++ expected_line (words_of names.now) (map (λ t. t.0) expected.now)) }
+{
+    lines.extend_from_slice(b"expected:")?;
+    for &terminal in expected {
+        lines.push(b' ')?;
+        lines.extend_from_slice(names.of_terminal(terminal))?;
+    }
+    lines.push(b'\n')?;
+    Ok(())
 }
 
 /// The line that says at which byte no rule matches.

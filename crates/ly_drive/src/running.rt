@@ -18,10 +18,9 @@ ghost use Rattle.ly_drive.specs.Private.Passing.{AreBlanks};
 ghost use Rattle.ly_drive.specs.Private.Running.{words_in, CanRun, IsFed, IsLast, IsRun, IsTaken, StandsAt};
 ghost use Rattle.ly_drive.specs.TableAnswer.{IsVerdict, TableAnswer};
 ghost use Rattle.ly_drive.specs.Verdict.{faulty};
-ghost use Rattle.ly_tree.specs.Shown.{Vocabulary};
 
 use crate::fault::DriveFault;
-use crate::lines::{end_line, token_line, unmatched_line, write_term};
+use crate::lines::{end_lines, token_lines, unmatched_line, write_term};
 use crate::outcome::Outcome;
 use crate::table_walk::TableWalk;
 use crate::tables::Tables;
@@ -171,11 +170,17 @@ fn feed(
             Step::Refused {
                 token: number,
                 byte,
+                expected,
             },
         ) => {
-            let line = token_line(alloc, &tables.names(), number, token)?;
+            let lines = token_lines(alloc, &tables.names(), number, token, &expected)?;
             let token = number;
-            Ok(Some((Outcome::Syntax { token, byte }, line)))
+            let outcome = Outcome::Syntax {
+                token,
+                byte,
+                expected,
+            };
+            Ok(Some((outcome, lines)))
         }
         Err(ParseFault::TableFault) => Err(DriveFault::TableFault),
         Err(ParseFault::OutOfMemory) => Err(DriveFault::OutOfMemory),
@@ -201,7 +206,7 @@ fn finish(
         → ScanEndsAt (scanner_in tables.now.scanner) place end → IsRun tables.now text result }
 {
     match end {
-        End::Clean => close(alloc, parser, bytes),
+        End::Clean => close(alloc, tables, parser, bytes),
         End::Stuck { byte } => {
             let byte = byte as u64;
             let line = unmatched_line(alloc, byte)?;
@@ -212,17 +217,33 @@ fn finish(
 }
 
 /// Feeds a parser with the end of the text, which stands at this byte.
-fn close(alloc: Global, parser: TableParser<'_>, at: u64) -> Result<Ended, DriveFault>
+fn close(
+    alloc: Global,
+    tables: &Tables,
+    parser: TableParser<'_>,
+    at: u64,
+) -> Result<Ended, DriveFault>
     requires goes_on { parser.over ≡ false }
     requires terminals { 0 < parser.machine.terminals }
-    ensures { (v : Vocabulary) → IsLast v parser.entry (record { terminal = 0; at = at; bytes = [] }) result }
+    ensures { IsLast (words_in tables.now) parser.entry (record { terminal = 0; at = at; bytes = [] }) result }
 {
     let mut parser = parser;
     match parser.end(at) {
         Ok(Step::Done(root)) => Ok(Ended::Accepted(parser.into_forest(), root)),
-        Ok(Step::Refused { token, byte }) => {
-            let line = end_line(alloc, token, byte)?;
-            Ok(Ended::Told(Outcome::Syntax { token, byte }, line))
+        Ok(
+            Step::Refused {
+                token,
+                byte,
+                expected,
+            },
+        ) => {
+            let lines = end_lines(alloc, &tables.names(), token, byte, &expected)?;
+            let outcome = Outcome::Syntax {
+                token,
+                byte,
+                expected,
+            };
+            Ok(Ended::Told(outcome, lines))
         }
         Err(ParseFault::TableFault) => Err(DriveFault::TableFault),
         Err(ParseFault::OutOfMemory) => Err(DriveFault::OutOfMemory),

@@ -6,20 +6,21 @@ use Rattle.ly_base.specs.Lexed.{Leads, Place, Token, place_after, start_of, toke
 use Rattle.ly_base.specs.declared.lexeme.Lexeme.{Lexeme}
 use Rattle.ly_drive.specs.ScanPart.{ScanPart, condition_in, scanner_in, terminal_in}
 use Rattle.ly_drive.specs.TableAnswer.{IsVerdictBy}
-use Rattle.ly_drive.specs.Verdict.{Verdict, IsOutcome, accepted, faulty, printed, syntax_line}
+use Rattle.ly_drive.specs.Verdict.{Verdict, IsOutcome, accepted, faulty, printed}
+use Rattle.ly_drive.specs.Verdict as say
 use Rattle.ly_drive.specs.Vocabularies.{constructor_in, name_in}
 use Rattle.ly_drive.specs.declared.fault.DriveFault.{DriveFault}
 use Rattle.ly_drive.specs.declared.fault.DriveFault.TheVariants.{OutOfMemory, TableFault}
 use Rattle.ly_drive.specs.declared.names.Names.{Names}
 use Rattle.ly_drive.specs.declared.outcome.Outcome.{Outcome}
-use Rattle.ly_drive.specs.declared.outcome.Outcome.TheVariants.{Syntax}
 use Rattle.ly_drive.specs.declared.running.Ended.{Ended}
 use Rattle.ly_drive.specs.declared.running.Ended.TheVariants.{Accepted, Told}
 use Rattle.ly_drive.specs.declared.tables.Tables.{Tables}
 use Rattle.ly_pack.specs.Machine.{Machine, IsMachine}
 use Rattle.ly_pack.specs.Steady.{IsSteady}
 use Rattle.ly_pack.specs.Values.{rule_from}
-use Rattle.ly_parse.specs.Feeding.{Feeds, done, pushed, refused}
+use Rattle.ly_parse.specs.Expected.{AreExpected}
+use Rattle.ly_parse.specs.Feeding.{Feeds, done, pushed, refused, states_on}
 use Rattle.ly_parse.specs.Feeding as fed
 use Rattle.ly_parse.specs.Parse.{Parse}
 use Rattle.ly_parse.specs.Reading.{Reads}
@@ -60,10 +61,11 @@ pub record StandsAt (p : ScanPart) (m : Machine) (text : List ℕ) (q : Place) (
   pub machine : s.machine ≡ m
   pub goes_on : s.over ≡ false
 
--- a parse refuses the token, and this is said
+-- a parse refuses the token, these terminals are expected in its place, and this is said
 abbrev pub IsRefusal : Vocabulary → Parse → Token ℕ → Outcome → List ℕ → Type 0
-IsRefusal v s t outcome line = Feeds s.machine t s.stack refused × (outcome ≡ Syntax (s.count + 1) t.at)
-    × (line ≡ syntax_line v (s.count + 1) t)
+IsRefusal v s t outcome line = (ts : List ℕ) × Feeds s.machine t s.stack refused
+    × AreExpected s.machine (states_on s.stack) ts × IsOutcome (say.refused (s.count + 1) t ts) outcome
+    × (line ≡ printed v (say.refused (s.count + 1) t ts))
 
 -- What a parse that isn't over does with a token of the text: it reads the token and goes on, or the token is refused,
 -- or the tables are at fault. Want of memory says nothing.

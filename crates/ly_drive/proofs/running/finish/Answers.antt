@@ -13,7 +13,7 @@ returns-in-Clean c text place long h ends =
     closed T text place c.args.parser c.close.result h
     (subst (λ e. ScanEndsAt (scanner_in T.scanner) place e) c.in-Clean.is ends)
     (subst (λ n. IsLast (words_in T) c.args.parser (record { terminal = 0; at = n; bytes = [] }) c.close.result) long
-    (c.close.ensures (words_in T)))
+    c.close.ensures)
 
 pub returns-in_ok-line-in-Stuck : goal.returns-in_ok-line-in-Stuck
 returns-in_ok-line-in-Stuck c text place long h ends = is_unmatched c.args.tables.now text place c.args.parser
