@@ -1,5 +1,6 @@
 pub mod AlikeLemmas
 pub mod EndLemmas
+pub mod ExpectedLemmas
 pub mod FillLemmas
 pub mod FollowLemmas
 pub mod ListingLemmas

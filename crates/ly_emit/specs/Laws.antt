@@ -55,8 +55,8 @@ RunsEndOnSteady = (s : Spec) (M : Automaton) (n : Machine) → IsAutomaton M →
     → IsMachineOf s M n → IsMachine n → IsSteady n → (tokens : List (Token ℕ)) (end : Token ℕ) → end.terminal ≡ 0
     → AreOf M (tokens ++ end ∷ []) → Ends M.grammar (judge_of s) (tokens ++ end ∷ [])
 
--- On steady tables, whose levels mirror a stack of the reference machine, the terminals that are expected are those that
--- it would read next.
+-- On steady tables, whose levels mirror a stack of the reference machine, the terminals that are expected are those
+-- that it would read next.
 abbrev pub ExpectedFollow : Type 0
 ExpectedFollow = (s : Spec) (M : Automaton) (n : Machine) → IsAutomaton M → KeepsUseful s.grammar M.grammar
     → IsMachineOf s M n → IsSteady n → (stack : List Pushed) (levels : List Level)

@@ -4,6 +4,7 @@ pub mod DefaultLemmas
 pub mod ExactLemmas
 pub mod FoundLemmas
 pub mod MeetingLemmas
+pub mod NextLemmas
 pub mod RawLemmas
 pub mod RefuseLemmas
 pub mod RunLemmas

@@ -20,7 +20,7 @@ use Rattle.ly_resolve.proofs.StackLemmas.{symbols_of-append}
 
 -- Where an item is valid at a stack's symbols, the stack's trees and trees of what stands behind the dot are part of a
 -- tree of the whole text.
-complete : {G : Grammar} {g : List Symbol} {p : ℕ} {before after : List Symbol} {t : ℕ} → IsAugmented G
+pub complete : {G : Grammar} {g : List Symbol} {p : ℕ} {before after : List Symbol} {t : ℕ} → IsAugmented G
     → Valid G g p before after t → (stack : List Pushed) → symbols_of stack ≡ g → AreStacked G stack → (ts : Trees)
     → AreTrees G after ts
     → (rest : List (Token ℕ)) × Derives G (nonterminal G.accept) ((stack_yield stack ++ yields_of ts) ++ rest)
@@ -187,12 +187,12 @@ other_rest {G} {judge} {d = d} y behind other (onward {c = c} {d = m} (inr s) l)
         move_with (x ∷ u) x (u ++ y ∷ other) refl cc
 
 -- A tree of the whole text is one of a sentence, with the end behind it.
-record IsWhole (G : Grammar) (d : Tree) : Type 0 where
-  sentence : Tree
-  is : IsTree G (nonterminal G.start) sentence
-  end : Token ℕ
-  is_end : end.terminal ≡ 0
-  yields : yield_of d ≡ yield_of sentence ++ end ∷ []
+pub record IsWhole (G : Grammar) (d : Tree) : Type 0 where
+  pub sentence : Tree
+  pub is : IsTree G (nonterminal G.start) sentence
+  pub end : Token ℕ
+  pub is_end : end.terminal ≡ 0
+  pub yields : yield_of d ≡ yield_of sentence ++ end ∷ []
 
 -- rule 0 is that of the whole text alone
 only_zero : (G : Grammar) → IsAugmented G → (p : ℕ) (r : Rule) → IsRule G p r → r.left ≡ G.accept
@@ -202,7 +202,7 @@ only_zero G augmented (suc p) r is left =
     let lt = (augmented.within (suc p) r is (omega arith)).left in
     absurd (omega (arith, lt, left))
 
-whole_tree : (G : Grammar) → IsAugmented G → (d : Tree) → IsTree G (nonterminal G.accept) d → IsWhole G d
+pub whole_tree : (G : Grammar) → IsAugmented G → (d : Tree) → IsTree G (nonterminal G.accept) d → IsWhole G d
 whole_tree G augmented (leaf t) is = absurd is
 whole_tree G augmented (node p ts) (r, rule, left, are) =
     of_body ts (subst (λ x. AreTrees G x.body ts) (only_zero G augmented p r rule left) are)

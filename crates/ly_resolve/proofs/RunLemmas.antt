@@ -63,7 +63,7 @@ configuration_of c d a b = λ i. record { stack = a i; rest = b i }
 
 module _ (G : Grammar) (judge : Judge) where
   -- the machine has one move at most
-  move_is_one : (c d e : Configuration) → Moves G judge c d → Moves G judge c e → d ≡ e
+  pub move_is_one : (c d e : Configuration) → Moves G judge c d → Moves G judge c e → d ≡ e
   move_is_one c d e (inl s) (inl r) =
       let whole : s.token ∷ d.rest ≡ r.token ∷ e.rest = sym s.is_next ∙ r.is_next in
       let same : s.token ≡ r.token = cc in
@@ -135,7 +135,7 @@ module _ (G : Grammar) (judge : Judge) where
       cc
 
   -- where a token is refused, no other action is done
-  shift_refused : (g : List Symbol) (t : ℕ) → IsAction G judge g t shift
+  pub shift_refused : (g : List Symbol) (t : ℕ) → IsAction G judge g t shift
       → IsAction G judge g t error ⊎ IsRefused G g t → ⊥
   shift_refused g t x (inl y) = let off = action_is_one G judge g t shift error x y in cc
   shift_refused g t x (inr y) = done_is_asked G judge g t shift x y
