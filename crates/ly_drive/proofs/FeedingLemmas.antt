@@ -1,6 +1,6 @@
 -- What feeding a token leads to.
-use Rattle.std.proofs.Common.{◌≡◌, ◌∙◌, ℕ, ◌+◌, ◌≤◌, List, [], ◌∷◌, ◌++◌, Option, Some, None, Ok}
-use Rattle.std.proofs.Common.{ap, arith, refl, subst}
+use Rattle.std.proofs.Common.{◌≡◌, ◌∙◌, ℕ, ◌≤◌, List, [], ◌∷◌, ◌++◌, Option, Some, None, Ok}
+use Rattle.std.proofs.Common.{ap, ap₂, arith, refl, subst}
 use Rattle.std.specs.Prelude.{false, map}
 use Rattle.std.specs.Global.{Global}
 use Rattle.std.specs.declared.vec.Vec.{Vec}
@@ -59,25 +59,22 @@ not_accepted s r t root step h goes low is call =
     let is_end = accepts_end h fed.1 in
     omega (arith, low, is_end)
 
--- what is said of a refused token, by the names that it is said with
-pub refused_told : (v names : Vocabulary) (s r : Parse) (t : Token ℕ) (k byte : ℕ) (expected : Vec Sym Global)
-    (seen : List Sym) (at : ℕ) (line : List ℕ) (step : Step) → s.over ≡ false → step ≡ Refused k byte expected
-    → IsCall s t r (Ok step) → names ≡ v → seen ≡ expected.items → (byte ≡ t.at → at ≡ t.at)
-    → line ≡ printed names (refused k (record { terminal = t.terminal; at = at; bytes = t.bytes })
-    (map (λ x. x.0) seen)) → IsRefusal v s t (Syntax k byte expected) line
-refused_told v names s r t k byte expected seen at line step goes is call words sees there told =
+-- what is said of a refused token, by words, a list and a place that are the same
+pub refused_told : (v w : Vocabulary) (s r : Parse) (t : Token ℕ) (k byte at : ℕ) (expected : Vec Sym Global)
+    (given : List Sym) (lines : List ℕ) (step : Step) → s.over ≡ false → step ≡ Refused k byte expected
+    → IsCall s t r (Ok step) → w ≡ v → given ≡ expected.items → (byte ≡ t.at → at ≡ t.at)
+    → lines ≡ printed w (refused k (record { terminal = t.terminal; at = at; bytes = t.bytes })
+    (map (λ x. x.0) given)) → IsRefusal v s t (Syntax k byte expected) lines
+refused_told v w s r t k byte at expected given lines step goes is call words same there told =
     let fed = (subst (λ x. IsCall s t r (Ok x)) is call).before_end goes in
+    let here : ℕ → Token ℕ = λ b. record { terminal = t.terminal; at = b; bytes = t.bytes } in
     let ts = map (λ x. x.0) expected.items in (
       ts,
       fed.0,
       fed.3,
       (fed.1, fed.2, refl),
-      told ∙ (ap (λ w. printed w (refused k (record { terminal = t.terminal; at = at; bytes = t.bytes })
-          (map (λ x. x.0) seen))) words
-          ∙ (ap (λ xs. printed v (refused k (record { terminal = t.terminal; at = at; bytes = t.bytes })
-          (map (λ x. x.0) xs))) sees
-          ∙ (ap (λ b. printed v (refused k (record { terminal = t.terminal; at = b; bytes = t.bytes }) ts))
-          (there fed.2) ∙ ap (λ n. printed v (refused n t ts)) fed.1))),
+      told ∙ (ap₂ (λ v xs. printed v (refused k (here at) (map (λ x. x.0) xs))) words same
+          ∙ (ap (λ b. printed v (refused k (here b) ts)) (there fed.2) ∙ ap (λ n. printed v (refused n t ts)) fed.1)),
     )
 
 -- one token more is read

@@ -1,6 +1,6 @@
 -- A table set whose parser's runs end says something of every text.
 use Rattle.std.proofs.Common.{◌≡◌, ◌∙◌, ◌⊎◌, inl, inr, ℕ, ◌+◌, ◌<◌, ◌≤◌, List, [], ◌∷◌, ◌++◌, All, Option, Some, None}
-use Rattle.std.proofs.Common.{ap, append_assoc, arith, drop, length, refl, subst, sym, take}
+use Rattle.std.proofs.Common.{ap, arith, drop, length, refl, take}
 use Rattle.std.proofs.lemmas.List.Elements.{All-cons, All-head, All-tail}
 use Rattle.ly_base.specs.Lexed.{Token, start_of, token_if, tokens_from}
 use Rattle.ly_base.specs.declared.lexeme.End.{End}
@@ -13,7 +13,7 @@ use Rattle.ly_drive.proofs.RunningLemmas.{fed_behind}
 use Rattle.ly_drive.specs.Laws.{HasSomeVerdict}
 use Rattle.ly_drive.specs.Private.Running.{CanRun}
 use Rattle.ly_drive.specs.ScanPart.{ScanPart, condition_in, scan_part_of, scanner_in, terminal_in}
-use Rattle.ly_drive.specs.TableAnswer.{AreTokens, Comes, IsVerdictBy, ReadsAll, end_of, fed_with}
+use Rattle.ly_drive.specs.TableAnswer.{AreTokens, Comes, IsVerdictBy, end_of, fed_with}
 use Rattle.ly_drive.specs.Verdict.{Verdict, accepted, faulty, refused, unmatched}
 use Rattle.ly_pack.specs.Machine.{Machine, IsMachine}
 use Rattle.ly_pack.specs.Steady.{IsSteady}

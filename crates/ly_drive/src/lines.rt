@@ -68,7 +68,7 @@ pub(crate) fn token_lines(
     let name = Terminal::Token(names.of_terminal(token.terminal));
     push_leaf(&mut lines, name, token.text.bytes())?;
     lines.push(b'\n')?;
-    push_expected(&mut lines, names, expected)?;
+    push_expected_line(&mut lines, names, expected)?;
     Ok(lines)
 }
 
@@ -85,12 +85,16 @@ pub(crate) fn end_lines(
 {
     let mut lines = Vec::new(alloc);
     writeln!(lines, "syntax error at end, token {number}, byte {byte}").map_err(|_| OutOfMemory)?;
-    push_expected(&mut lines, names, expected)?;
+    push_expected_line(&mut lines, names, expected)?;
     Ok(lines)
 }
 
 /// Adds the line that names the terminals that are expected.
-fn push_expected(lines: &mut Vec<u8>, names: &Names<'_>, expected: &[Sym]) -> Result<(), OutOfMemory>
+fn push_expected_line(
+    lines: &mut Vec<u8>,
+    names: &Names<'_>,
+    expected: &[Sym],
+) -> Result<(), OutOfMemory>
     ensures { OnOk result (lines.new.items
         ≡ lines.old.items ++ expected_line (words_of names.now) (map (λ t. t.0) expected.now)) }
 {

@@ -2,16 +2,16 @@ use Rattle.std.proofs.Common.{◌∙◌, [], Ok, ap, subst, sym}
 use Rattle.ly_parse.specs.Parse.{IsCall}
 use Rattle.ly_tree.specs.Costs.{IsPaid}
 use Rattle.ly_tree.specs.Forest.{StandsFor}
-use Rattle.ly_drive.specs.Private.Running.{words_in, words_of}
+use Rattle.ly_drive.specs.Private.Running.{words_in}
 use Rattle.ly_drive.proofs.FeedingLemmas.{refused_told}
 use Rattle.ly_drive.proofs.running.close.Goals as goal
 
 pub returns-in_ok-lines-in-Ok-Refused : goal.returns-in_ok-lines-in-Ok-Refused
-returns-in_ok-lines-in-Ok-Refused c = refused_told (words_in c.args.tables.now) (words_of c.names.result) c.args.parser c.end.new.self
+returns-in_ok-lines-in-Ok-Refused c = refused_told (words_in c.args.tables.now) _ c.args.parser c.end.new.self
     (record { terminal = 0; at = c.args.at; bytes = [] }) c.in-Ok-Refused.token c.in-Ok-Refused.byte
-    c.in-Ok-Refused.expected c.deref.result.now c.in-Ok-Refused.byte c.in_ok-lines-in-Ok-Refused.lines.items c.in-Ok-Refused.field-0 c.requires.goes_on
-    c.in-Ok-Refused.field-0-is c.in-Ok-Refused.ensures.call c.names.ensures c.deref.ensures.value (λ e. e)
-    c.in_ok-lines-in-Ok-Refused.ensures
+    c.in-Ok-Refused.byte c.in-Ok-Refused.expected _ c.in_ok-lines-in-Ok-Refused.lines.items c.in-Ok-Refused.field-0
+    c.requires.goes_on c.in-Ok-Refused.field-0-is c.in-Ok-Refused.ensures.call c.names.ensures c.deref.ensures.value
+    (λ same. same) c.in_ok-lines-in-Ok-Refused.ensures
 
 pub returns-in-Ok-Done : goal.returns-in-Ok-Done
 returns-in-Ok-Done c =

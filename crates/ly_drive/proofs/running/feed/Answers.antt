@@ -1,5 +1,5 @@
 use Rattle.std.proofs.Common.{refl}
-use Rattle.ly_drive.specs.Private.Running.{words_in, words_of}
+use Rattle.ly_drive.specs.Private.Running.{words_in}
 use Rattle.ly_drive.proofs.FeedingLemmas.{not_accepted, refused_told}
 use Rattle.ly_drive.proofs.running.feed.Goals as goal
 
@@ -9,11 +9,10 @@ unreachable-requires c = not_accepted c.args.parser.now c.feed.new.self _ c.in-O
 
 pub returns-in_ok-lines-in-Ok-Refused : goal.returns-in_ok-lines-in-Ok-Refused
 returns-in_ok-lines-in-Ok-Refused c =
-    refused_told (words_in c.args.tables.now) (words_of c.names.result) c.args.parser.now c.feed.new.self (record {
+    refused_told (words_in c.args.tables.now) _ c.args.parser.now c.feed.new.self (record {
       terminal = c.args.token.now.terminal.0;
       at = c.args.token.now.at;
       bytes = c.args.token.now.text;
-    }) c.in-Ok-Refused.number c.in-Ok-Refused.byte c.in-Ok-Refused.expected c.deref.result.now
-    c.args.token.now.at c.in_ok-lines-in-Ok-Refused.lines.items _
-    c.requires.goes_on c.in-Ok-Refused.field-0-is c.in-Ok-Refused.ensures c.names.ensures
-    c.deref.ensures.value (λ e. refl) c.in_ok-lines-in-Ok-Refused.ensures
+    }) c.in-Ok-Refused.number c.in-Ok-Refused.byte c.args.token.now.at c.in-Ok-Refused.expected _
+    c.in_ok-lines-in-Ok-Refused.lines.items _ c.requires.goes_on c.in-Ok-Refused.field-0-is c.in-Ok-Refused.ensures
+    c.names.ensures c.deref.ensures.value (λ same. refl) c.in_ok-lines-in-Ok-Refused.ensures
