@@ -1,16 +1,21 @@
 -- What a parser's stack was before a token.
 use Rattle.std.proofs.Common.{◌≡◌, ℕ, ◌+◌, ◌-◌, ◌<◌, ◌≤◌, List, [], ◌∷◌, ◌++◌, length, drop, take, map}
 use Rattle.std.proofs.Common.{All, refl, sym, ap, ◌∙◌, arith, slice_set, subst}
-use Rattle.std.specs.Prelude.{Bool}
+use Rattle.std.specs.Prelude.{Bool, Option, None, Some}
 use Rattle.std.proofs.lemmas.List.{length-append, length-take-le, map-append, take-append-le, take-take}
 use Rattle.std.proofs.lemmas.List.Elements.{All-push, All-tail}
+use Rattle.ly_base.specs.declared.numbers.RuleNo.{RuleNo}
 use Rattle.ly_base.specs.declared.numbers.StateNo.{StateNo}
+use Rattle.ly_pack.specs.Values.{action_from}
+use Rattle.ly_pack.specs.declared.action.TableAction.{TableAction}
+use Rattle.ly_pack.specs.declared.action.TableAction.TheVariants as action
 use Rattle.ly_pack.specs.Machine.{Machine, TableRule, states_of}
 use Rattle.ly_parse.specs.Parse.{Parse}
 use Rattle.ly_parse.proofs.ReduceLemmas.{IsCut}
 use Rattle.ly_parse.specs.Feeding.{Level, states_on, top_of}
-use Rattle.ly_parse.specs.Private.Before.{before_of, before_on, levels_with_top, states_in_levels, with_top}
-use Rattle.ly_parse.specs.Private.Before.{AreAlikeBelow, IsNoteOf}
+use Rattle.ly_parse.specs.Private.Before.{before_of, before_on, levels_with_top, noted_before, states_in_levels}
+use Rattle.ly_parse.specs.Private.Before.{with_top}
+use Rattle.ly_parse.specs.Private.Before.{AreAlikeBelow, IsBefore, IsNoteOf, IsOpen}
 use Rattle.ly_parse.specs.Private.Copied.{states_in, upward}
 use Rattle.ly_parse.specs.Private.Stack.{level_from, parse_from, stack_from, IsParse}
 use Rattle.ly_parse.specs.declared.before.Before.{Before}
@@ -98,13 +103,22 @@ alike_below p m f levels low under k l h term =
     (subst (AreAlikeBelow (level_from f k ∷ stack_from f (take low levels)))
     (sym (passed_stack f levels low k l h.size term)) refl)
 
+-- what a stack was, as it is kept and as contracts see it
+was_before : (f : Grown) (levels : List code.Level) (stack : List Level) (first : Option StateNo) (b : Before)
+    (states : List ℕ) → stack_from f levels ≡ stack → IsBefore first states stack b
+    → noted_before first levels b ≡ states
+was_before f levels stack (Some top) b states same before =
+    with_top_levels f levels top.0 ∙ (ap (with_top top.0) same ∙ before)
+was_before f levels stack None b states same before =
+    before_levels f levels b ∙ (ap (λ w. before_on w b) same ∙ before.same)
+
 -- What a reduction pops is noted: the levels up to a height stay, and another stands on them.
 pub note_kept : (p : Parse) (n : ℕ) (r : TableRule) (low : ℕ) (m : Machine) (f : Grown)
-    (levels seen left after : List code.Level) (a b : Before) (l : code.Level) (states : List ℕ)
-    → IsCut p n r low m f levels → seen ≡ levels → left ≡ take low levels → after ≡ left ++ l ∷ []
-    → before_of seen b ≡ before_of seen a → b.kept ≤ low → IsNoteOf states p.stack a
+    (levels seen left after : List code.Level) (first : Option StateNo) (a b : Before) (l : code.Level)
+    (states : List ℕ) → IsCut p n r low m f levels → seen ≡ levels → left ≡ take low levels → after ≡ left ++ l ∷ []
+    → before_of seen b ≡ noted_before first seen a → b.kept ≤ low → IsBefore first states p.stack a
     → IsNoteOf states (stack_from f after) b
-note_kept p n r low m f levels seen left after a b l states h sees cut pushes same kept note =
+note_kept p n r low m f levels seen left after first a b l states h sees cut pushes same kept before =
     let front = take low levels in
     let fits = h.size in
     let size = length-take-le low levels (omega (arith, fits)) in
@@ -115,8 +129,8 @@ note_kept p n r low m f levels seen left after a b l states h sees cut pushes sa
     ∙ take-take b.kept low levels kept) in
     noted f after b states (omega (arith, kept, long))
     (ap (λ w. map (λ s. s.0) b.popped.items ++ states_in_levels w) there
-    ∙ (subst (λ w. before_of w b ≡ before_of w a) sees same
-    ∙ (before_levels f levels a ∙ (ap (λ w. before_on w a) h.stack ∙ note.same))))
+    ∙ (subst (λ w. before_of w b ≡ noted_before first w a) sees same
+    ∙ was_before f levels p.stack first a states h.stack before))
 
 -- the states of a parse's stack are known, the bottom's among them
 pub states_known : (m : Machine) (f : Grown) (levels : List code.Level) → IsParse m f levels
@@ -140,3 +154,11 @@ pub listed_states : (m : Machine) (f : Grown) (levels seen : List code.Level) (p
 listed_states m f levels seen p count over b listed states view sees e same =
     ap states_in same ∙ (e ∙ (ap (λ w. before_of w b) sees
     ∙ (before_levels f levels b ∙ ap (λ q. before_on q.stack b) view)))
+
+-- what is no reduction and no error reads or accepts the terminal
+pub not_open : (a : TableAction) → ((p : RuleNo) → a ≡ action.Reduce p → ⊥) → (a ≡ action.Error → ⊥)
+    → IsOpen (action_from a) → ⊥
+not_open (action.Shift s) a b h = h
+not_open (action.Reduce p) a b h = a p refl
+not_open action.Accept a b h = h
+not_open action.Error a b h = b refl

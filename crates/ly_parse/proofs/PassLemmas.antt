@@ -79,6 +79,12 @@ state_at m f levels p count over height low l view within next e =
     ∙ (ap (stack_from f) (top_apart (take height levels) low l size there)
     ∙ stack_from-push f (take low (take height levels)) l)))
 
+-- the state on top of them, where it is told
+pub top_below : (m : Machine) (f : Grown) (levels : List code.Level) (p : Parse) (count : ℕ) (over : Bool)
+    (height top : ℕ) → parse_from m f levels count over ≡ p → top ≡ top_of (drop (length p.stack - height) p.stack)
+    → top ≡ top_of (stack_from f (take height levels))
+top_below m f levels p count over height top view t = t ∙ ap top_of (up_to m f levels p count over height view)
+
 -- that of all levels is the stack's
 pub top_of_all : (m : Machine) (f : Grown) (v : Vec code.Level Global) (p : Parse) (count : ℕ) (over : Bool)
     (n top : ℕ) → parse_from m f v.items count over ≡ p → n ≡ vec_len v

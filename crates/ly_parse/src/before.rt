@@ -1,6 +1,6 @@
 //! What a stack was before the token that a parse is at, while reductions take it down.
-ghost use Rattle.std.specs.Prelude.{◌≡◌, ◌≤◌, IfOk, OnOk, length};
-ghost use Rattle.ly_parse.specs.Private.Before.{before_of, levels_with_top};
+ghost use Rattle.std.specs.Prelude.{◌≡◌, ◌≤◌, IfOk, None, OnOk, length};
+ghost use Rattle.ly_parse.specs.Private.Before.{before_of, levels_with_top, noted_before};
 ghost use Rattle.ly_parse.specs.Private.Copied.{states_in};
 
 use crate::level::Level;
@@ -40,13 +40,21 @@ impl Before {
         Ok(())
     }
 
-    /// Notes the states above a height, which are popped next.
-    pub(crate) fn note(&mut self, stack: &[Level], height: usize) -> Result<(), AllocError>
-        requires { self.old.kept ≤ length stack.now }
-        ensures same { OnOk result (before_of stack.now self.new ≡ before_of stack.now self.old) }
+    /// Notes the states above a height, which are popped next. Where a state is told that stood on top, it begins anew.
+    pub(crate) fn note(
+        &mut self,
+        stack: &[Level],
+        height: usize,
+        first: Option<StateNo>,
+    ) -> Result<(), AllocError>
+        requires { first ≡ None → self.old.kept ≤ length stack.now }
+        ensures before { OnOk result (before_of stack.now self.new ≡ noted_before first stack.now self.old) }
         ensures low { OnOk result (self.new.kept ≤ height) }
-        ensures lower { OnOk result (self.new.kept ≤ self.old.kept) }
+        ensures kept { OnOk result (self.new.kept ≤ length stack.now) }
     {
+        if let Some(first) = first {
+            self.begin(stack, first)?;
+        }
         while height < self.kept {
             self.popped.push(stack[self.kept - 1].state)?;
             self.kept -= 1;

@@ -1,4 +1,4 @@
-ghost use Rattle.std.specs.Prelude.{◌≡◌, ◌≢◌, ◌<◌, ◌≤◌, ◌+◌, ◌-◌, ◌*◌, ℕ, [], ◌∷◌, Err, Ok, false, drop, length};
+ghost use Rattle.std.specs.Prelude.{◌≡◌, ◌≢◌, ◌<◌, ◌≤◌, ◌+◌, ◌-◌, ◌*◌, ℕ, [], ◌∷◌, Err, None, Ok, false, drop, length};
 ghost use Rattle.std.specs.Prelude.{take, All, IfErr, IfOk, List, OnErr, OnOk};
 ghost use Rattle.ly_base.specs.Shape.{shape_of};
 ghost use Rattle.ly_pack.specs.Machine.{accept, action_of, error, reduce, shift, states_of, IsLegal};
@@ -8,7 +8,7 @@ ghost use Rattle.ly_pack.specs.SteadyLaws.{IsStack};
 ghost use Rattle.ly_pack.specs.Values.{action_from};
 ghost use Rattle.ly_parse.specs.Feeding.{faulty, goes_on, reduce_by, settles, states_on, top_of};
 ghost use Rattle.ly_parse.specs.Parse.{IsCall};
-ghost use Rattle.ly_parse.specs.Private.Before.{before_on, with_top, AreAlikeBelow, IsNoteOf};
+ghost use Rattle.ly_parse.specs.Private.Before.{before_on, with_top, AreAlikeBelow, IsBefore, IsNoteOf, IsOpen};
 ghost use Rattle.ly_parse.specs.Private.Paying.{places_in};
 ghost use Rattle.ly_parse.specs.Private.Stack.{terms_onto, FailsByRule, FeedAlike, FeedAs, IsAccepted, Leads};
 ghost use Rattle.ly_parse.specs.Private.Stack.{IsRefusedWith, LeadsByRule};
@@ -227,11 +227,14 @@ impl<'a, A: Rows<TableAction> + Drop, G: Rows<StateNo> + Drop> Running<'a, A, G>
     {
         // the invariant says that the run on a token ends
         let _ = &self.machine;
-        before.begin(&self.stack, first)?;
         let mut number = rule;
+        let mut first = Some(first);
         loop {
-            match self.reduce(number, terminal, before)? {
-                TableAction::Reduce(next) => number = next,
+            match self.reduce(number, terminal, first, before)? {
+                TableAction::Reduce(next) => {
+                    number = next;
+                    first = None;
+                }
                 TableAction::Shift(state) => return Ok(Settled::Reads(state)),
                 TableAction::Accept => return Ok(Settled::Accepts),
                 TableAction::Error => return Ok(Settled::Refuses),
@@ -311,22 +314,24 @@ impl<'a, A: Rows<TableAction> + Drop, G: Rows<StateNo> + Drop> Running<'a, A, G>
     }
 
     /// Makes a reduction and the passes behind it before a terminal, and answers what is done then. What it pops is
-    /// noted.
+    /// noted unless the terminal is read or accepted then. At the first reduction before the terminal it is told which
+    /// state stood on top before the passes.
     fn reduce(
         &mut self,
         number: RuleNo,
         terminal: Sym,
+        first: Option<StateNo>,
         before: &mut Before,
     ) -> Result<TableAction, ParseFault>
         requires rule { IsRuleNumber self.old.machine number.0 }
         requires terminal { terminal.0 < self.old.machine.terminals }
-        requires kept { before.old.kept ≤ length self.old.stack }
+        requires kept { first ≡ None → before.old.kept ≤ length self.old.stack }
         ensures leads { OnOk result (LeadsByRule self.old.machine number.0 terminal.0 self.old.stack self.new.stack) }
         ensures action { IfOk result (λ a. action_from a
             ≡ action_of self.old.machine (top_of self.new.stack) terminal.0) }
         ensures legal { IfOk result (λ a. IsLegal self.old.machine terminal.0 (action_from a)) }
-        ensures noted { OnOk result ((states : List ℕ) → IsNoteOf states self.old.stack before.old
-            → IsNoteOf states self.new.stack before.new) }
+        ensures noted { IfOk result (λ a. IsOpen (action_from a) → (states : List ℕ)
+            → IsBefore first states self.old.stack before.old → IsNoteOf states self.new.stack before.new) }
         ensures faulty { result ≡ Err fault.TableFault
             → FailsByRule self.old.machine number.0 terminal.0 self.old.stack }
         ensures not_over { result ≢ Err fault.Over }
@@ -340,14 +345,17 @@ impl<'a, A: Rows<TableAction> + Drop, G: Rows<StateNo> + Drop> Running<'a, A, G>
             return Err(ParseFault::TableFault);
         };
         let term = self.make(number, &rule.tree, below)?;
-        before.note(&self.stack, below)?;
-        self.stack.truncate(below);
         let from = Landing {
-            below: self.top(),
+            below: self.top_at(below),
             left,
             terminal,
         };
         let shortcut = self.landings.land(self.machine, from)?;
+        // where the terminal is read or accepted next, nobody asks what the stack was
+        if let TableAction::Reduce(_) | TableAction::Error = shortcut.action {
+            before.note(&self.stack, below, first)?;
+        }
+        self.stack.truncate(below);
         self.stack.reserve(1)?;
         self.stack.push_reserved(Level {
             state: shortcut.state,

@@ -1,5 +1,8 @@
 -- What a parser's stack was before a token.
-use Rattle.std.specs.Prelude.{◌≡◌, ℕ, ◌-◌, ◌≤◌, List, [], ◌∷◌, ◌++◌, drop, length, map, take}
+use Rattle.std.specs.Prelude.{◌≡◌, ℕ, ◌-◌, ◌≤◌, List, [], ◌∷◌, ◌++◌, Option, None, Some, drop}
+use Rattle.std.specs.Prelude.{length, map, take}
+use Rattle.ly_base.specs.declared.numbers.StateNo.{StateNo}
+use Rattle.ly_pack.specs.Machine.{TableAction, accept, shift}
 use Rattle.ly_parse.specs.Feeding.{Level, states_on}
 use Rattle.ly_parse.specs.Private.Copied.{states_in}
 use Rattle.ly_parse.specs.declared.before.Before.{Before}
@@ -18,6 +21,11 @@ abbrev pub levels_with_top : ℕ → List code.Level → List ℕ
 levels_with_top top [] = states_in_levels []
 levels_with_top top (l ∷ levels) = top ∷ states_in_levels (take (length levels) (l ∷ levels))
 
+-- what a stack was where a state is told that stood on top, or as a note says
+abbrev pub noted_before : Option StateNo → List code.Level → Before → List ℕ
+noted_before (Some top) levels b = levels_with_top top.0 levels
+noted_before None levels b = before_of levels b
+
 -- the same on a stack as contracts see it
 abbrev pub before_on : List Level → Before → List ℕ
 before_on stack b = map (λ s. s.0) b.popped.items ++ states_on (drop (length stack - b.kept) stack)
@@ -31,6 +39,17 @@ with_top top (l ∷ stack) = top ∷ states_on stack
 pub record IsNoteOf (states : List ℕ) (stack : List Level) (b : Before) : Type 0 where
   pub kept : b.kept ≤ length stack
   pub same : before_on stack b ≡ states
+
+-- the stack had these states: with the state on top that is told, or as the note says
+abbrev pub IsBefore : Option StateNo → List ℕ → List Level → Before → Type 0
+IsBefore (Some top) states stack b = with_top top.0 stack ≡ states
+IsBefore None states stack b = IsNoteOf states stack b
+
+-- the terminal isn't read or accepted yet
+abbrev pub IsOpen : TableAction → Type 0
+IsOpen (shift state) = ⊥
+IsOpen accept = ⊥
+IsOpen _ = Unit {0}
 
 -- both are the bottom alone, or they differ on top alone
 abbrev pub AreAlikeBelow : List Level → List Level → Type 0

@@ -1,16 +1,20 @@
-use Rattle.std.proofs.Common.{◌∙◌, ◌<◌, Err, ap, refl, subst, sym}
+use Rattle.std.proofs.Common.{◌∙◌, ◌<◌, [], ◌∷◌, ◌++◌, Err, ap, refl, subst, sym, take}
 use Rattle.ly_pack.specs.Values.{action_from, rule_from}
 use Rattle.ly_parse.specs.Private.Paying.{IsStackPaid}
 use Rattle.ly_parse.specs.Private.Stack.{at_once, IsParse}
 use Rattle.ly_parse.specs.declared.fault.ParseFault.TheVariants.{TableFault}
-use Rattle.ly_parse.proofs.BeforeLemmas.{note_kept}
+use Rattle.ly_parse.proofs.BeforeLemmas.{not_open, note_kept}
 use Rattle.ly_parse.proofs.LandingLemmas.{acts_there, landed, lands_from, leads_on, legal_there}
 use Rattle.ly_parse.proofs.LandingLemmas.{strands}
+use Rattle.ly_parse.proofs.PassLemmas.{top_below}
 use Rattle.ly_parse.proofs.ReduceLemmas.{body_exceeds, body_fits, is_cut}
 use Rattle.ly_parse.proofs.ReduceLemmas.{past_bottom, rule_within, shape_fits}
 use Rattle.ly_parse.proofs.SettleLemmas.{same_fault}
 use Rattle.ly_parse.proofs.StackLemmas.{cut, on_top}
+use Rattle.ly_parse.specs.Private.Before.{IsNoteOf}
+use Rattle.ly_parse.specs.Private.Stack.{stack_from}
 use Rattle.ly_parse.proofs.running.Running.reduce.Goals as goal
+use Rattle.ly_parse.proofs.running.Running.reduce.Goals.{in-Reduce+in_ok-note, in_default-action}
 
 pub returns-in_default-clause-faulty : goal.returns-in_default-clause-faulty
 returns-in_default-clause-faulty g c e =
@@ -30,10 +34,8 @@ make-requires-clause-shape g c =
 
 pub invariant_of-self : goal.invariant_of-self
 invariant_of-self g c = (
-  subst (IsParse c.self-2.inside.machine.now c.self-2.inside.forest) (sym c.truncate.ensures.items)
-      (cut c.self-2.inside.machine.now c.self-2.inside.forest c.self-2.inside.stack.items c.in-Some.below
-      c.self-2.invariant.0),
-  c.self-2.invariant.1,
+  c.self-2.invariant.0,
+  record { passes = c.self-2.invariant.1.passes; gotos = c.in_err-shortcut.ensures.kept },
 )
 
 pub land-requires-clause-left : goal.land-requires-clause-left
@@ -44,19 +46,12 @@ land-requires-clause-left g c =
     (rule_within c.self.inside.machine.now c.args.number.0 (rule_from c.rule-rule.result.now)
     c.self.invariant.0.machine c.rule-rule.ensures).left
 
-pub invariant_of-self-in_err-shortcut : goal.invariant_of-self-in_err-shortcut
-invariant_of-self-in_err-shortcut g c = (
-  subst (IsParse c.self-2.inside.machine.now c.self-2.inside.forest) (sym c.truncate.ensures.items)
-      (cut c.self-2.inside.machine.now c.self-2.inside.forest c.self-2.inside.stack.items c.in-Some.below
-      c.self-2.invariant.0),
-  record { passes = c.self-2.invariant.1.passes; gotos = c.in_err-shortcut.ensures.kept },
-)
-
 pub returns-in_err-shortcut-clause-faulty : goal.returns-in_err-shortcut-clause-faulty
 returns-in_err-shortcut-clause-faulty g c is =
     strands c.args.self.now c.args.number.0 (rule_from c.rule-rule.result.now) c.in-Some.below
-    c.self-2.inside.machine.now c.self-2.inside.forest c.self-2.inside.stack.items c.truncate.new.self.items
-    (record { below = c.top.result; left = c.rule-rule.result.now.left; terminal = c.args.terminal })
+    c.self-2.inside.machine.now c.self-2.inside.forest c.self-2.inside.stack.items
+    (take c.in-Some.below c.self-2.inside.stack.items)
+    (record { below = c.top_at.result; left = c.rule-rule.result.now.left; terminal = c.args.terminal })
     (record { state = record { 0 = 0 }; term = c.in_ok-term.term }) c.make.new.self.forest
     (record {
       cut = is_cut c.self.inside.machine.now c.self-2.inside.machine.now c.self.inside.forest c.self-2.inside.forest
@@ -66,8 +61,10 @@ returns-in_err-shortcut-clause-faulty g c is =
           c.in_ok-term.ensures.machine c.in_ok-term.ensures.stack c.rule-rule.ensures
           (body_fits c.self.inside.stack c.len.result c.rule-rule.result.now.body_length c.in-Some.below
           c.len.ensures c.in-Some.ensures);
-      left_of = c.truncate.ensures.items;
-      below = c.top.ensures.top;
+      left_of = refl;
+      below = top_below c.self-2.inside.machine.now c.self-2.inside.forest c.self-2.inside.stack.items c.make.new.self
+          c.self-2.inside.count c.self-2.inside.over c.in-Some.below c.top_at.result.0 c.self-2.view_is
+          c.top_at.ensures.top;
       left = refl;
       same = sym (ap (λ p. p.forest) c.self-2.view_is);
       stands = c.in_ok-term.ensures.made;
@@ -79,10 +76,13 @@ returns-in_err-shortcut-clause-faulty g c is =
 pub invariant_of-self-2 : goal.invariant_of-self-2
 invariant_of-self-2 g c = (
   subst (IsParse c.self-2.inside.machine.now c.self-2.inside.forest)
-      (sym (on_top _ _ _ _ c.in_ok-reserve.ensures.items c.push_reserved.ensures.items))
+      (sym (on_top _ _ _ _ c.in_ok-reserve.ensures.items c.push_reserved.ensures.items
+    ∙ ap (λ w. w ++ (record { state = c.in_ok-shortcut.shortcut.state; term = c.in_ok-term.term }) ∷ [])
+    c.truncate.ensures.items))
       (landed c.args.self.now c.args.number.0 (rule_from c.rule-rule.result.now) c.in-Some.below
-      c.self-2.inside.machine.now c.self-2.inside.forest c.self-2.inside.stack.items c.truncate.new.self.items
-      (record { below = c.top.result; left = c.rule-rule.result.now.left; terminal = c.args.terminal })
+      c.self-2.inside.machine.now c.self-2.inside.forest c.self-2.inside.stack.items
+    (take c.in-Some.below c.self-2.inside.stack.items)
+      (record { below = c.top_at.result; left = c.rule-rule.result.now.left; terminal = c.args.terminal })
       (record { state = c.in_ok-shortcut.shortcut.state; term = c.in_ok-term.term }) c.make.new.self.forest
       (record {
         cut = is_cut c.self.inside.machine.now c.self-2.inside.machine.now c.self.inside.forest c.self-2.inside.forest
@@ -92,15 +92,17 @@ invariant_of-self-2 g c = (
             c.in_ok-term.ensures.machine c.in_ok-term.ensures.stack c.rule-rule.ensures
             (body_fits c.self.inside.stack c.len.result c.rule-rule.result.now.body_length c.in-Some.below
             c.len.ensures c.in-Some.ensures);
-        left_of = c.truncate.ensures.items;
-        below = c.top.ensures.top;
+        left_of = refl;
+        below = top_below c.self-2.inside.machine.now c.self-2.inside.forest c.self-2.inside.stack.items c.make.new.self
+          c.self-2.inside.count c.self-2.inside.over c.in-Some.below c.top_at.result.0 c.self-2.view_is
+          c.top_at.ensures.top;
         left = refl;
         same = sym (ap (λ p. p.forest) c.self-2.view_is);
         stands = c.in_ok-term.ensures.made;
       })
       (action_from c.in_ok-shortcut.shortcut.action)
       (lands_from c.self-2.inside.machine.now
-      (record { below = c.top.result; left = c.rule-rule.result.now.left; terminal = c.args.terminal })
+      (record { below = c.top_at.result; left = c.rule-rule.result.now.left; terminal = c.args.terminal })
       c.in_ok-shortcut.shortcut c.in_ok-shortcut.ensures.ok)
       (subst (λ p. IsStackPaid p.forest p.stack) c.self.view_is c.self.invariant.0.paid) c.in_ok-term.ensures.pays),
   record { passes = c.self-2.invariant.1.passes; gotos = c.in_ok-shortcut.ensures.kept },
@@ -109,8 +111,9 @@ invariant_of-self-2 g c = (
 pub returns-clause-leads : goal.returns-clause-leads
 returns-clause-leads g c =
     leads_on c.args.self.now c.args.number.0 (rule_from c.rule-rule.result.now) c.in-Some.below
-    c.self-2.inside.machine.now c.self-2.inside.forest c.self-2.inside.stack.items c.truncate.new.self.items
-    (record { below = c.top.result; left = c.rule-rule.result.now.left; terminal = c.args.terminal })
+    c.self-2.inside.machine.now c.self-2.inside.forest c.self-2.inside.stack.items
+    (take c.in-Some.below c.self-2.inside.stack.items)
+    (record { below = c.top_at.result; left = c.rule-rule.result.now.left; terminal = c.args.terminal })
     (record { state = c.in_ok-shortcut.shortcut.state; term = c.in_ok-term.term }) c.make.new.self.forest
     (record {
       cut = is_cut c.self.inside.machine.now c.self-2.inside.machine.now c.self.inside.forest c.self-2.inside.forest
@@ -120,23 +123,28 @@ returns-clause-leads g c =
           c.in_ok-term.ensures.machine c.in_ok-term.ensures.stack c.rule-rule.ensures
           (body_fits c.self.inside.stack c.len.result c.rule-rule.result.now.body_length c.in-Some.below
           c.len.ensures c.in-Some.ensures);
-      left_of = c.truncate.ensures.items;
-      below = c.top.ensures.top;
+      left_of = refl;
+      below = top_below c.self-2.inside.machine.now c.self-2.inside.forest c.self-2.inside.stack.items c.make.new.self
+          c.self-2.inside.count c.self-2.inside.over c.in-Some.below c.top_at.result.0 c.self-2.view_is
+          c.top_at.ensures.top;
       left = refl;
       same = sym (ap (λ p. p.forest) c.self-2.view_is);
       stands = c.in_ok-term.ensures.made;
     })
     (action_from c.in_ok-shortcut.shortcut.action)
     (lands_from c.self-2.inside.machine.now
-    (record { below = c.top.result; left = c.rule-rule.result.now.left; terminal = c.args.terminal })
+    (record { below = c.top_at.result; left = c.rule-rule.result.now.left; terminal = c.args.terminal })
     c.in_ok-shortcut.shortcut c.in_ok-shortcut.ensures.ok)
-    c.push_reserved.new.self.items (on_top _ _ _ _ c.in_ok-reserve.ensures.items c.push_reserved.ensures.items)
+    c.push_reserved.new.self.items (on_top _ _ _ _ c.in_ok-reserve.ensures.items c.push_reserved.ensures.items
+    ∙ ap (λ w. w ++ (record { state = c.in_ok-shortcut.shortcut.state; term = c.in_ok-term.term }) ∷ [])
+    c.truncate.ensures.items)
 
 pub returns-clause-action : goal.returns-clause-action
 returns-clause-action g c =
     acts_there c.args.self.now c.args.number.0 (rule_from c.rule-rule.result.now) c.in-Some.below
-    c.self-2.inside.machine.now c.self-2.inside.forest c.self-2.inside.stack.items c.truncate.new.self.items
-    (record { below = c.top.result; left = c.rule-rule.result.now.left; terminal = c.args.terminal })
+    c.self-2.inside.machine.now c.self-2.inside.forest c.self-2.inside.stack.items
+    (take c.in-Some.below c.self-2.inside.stack.items)
+    (record { below = c.top_at.result; left = c.rule-rule.result.now.left; terminal = c.args.terminal })
     (record { state = c.in_ok-shortcut.shortcut.state; term = c.in_ok-term.term }) c.make.new.self.forest
     (record {
       cut = is_cut c.self.inside.machine.now c.self-2.inside.machine.now c.self.inside.forest c.self-2.inside.forest
@@ -146,23 +154,28 @@ returns-clause-action g c =
           c.in_ok-term.ensures.machine c.in_ok-term.ensures.stack c.rule-rule.ensures
           (body_fits c.self.inside.stack c.len.result c.rule-rule.result.now.body_length c.in-Some.below
           c.len.ensures c.in-Some.ensures);
-      left_of = c.truncate.ensures.items;
-      below = c.top.ensures.top;
+      left_of = refl;
+      below = top_below c.self-2.inside.machine.now c.self-2.inside.forest c.self-2.inside.stack.items c.make.new.self
+          c.self-2.inside.count c.self-2.inside.over c.in-Some.below c.top_at.result.0 c.self-2.view_is
+          c.top_at.ensures.top;
       left = refl;
       same = sym (ap (λ p. p.forest) c.self-2.view_is);
       stands = c.in_ok-term.ensures.made;
     })
     (action_from c.in_ok-shortcut.shortcut.action)
     (lands_from c.self-2.inside.machine.now
-    (record { below = c.top.result; left = c.rule-rule.result.now.left; terminal = c.args.terminal })
+    (record { below = c.top_at.result; left = c.rule-rule.result.now.left; terminal = c.args.terminal })
     c.in_ok-shortcut.shortcut c.in_ok-shortcut.ensures.ok)
-    c.push_reserved.new.self.items (on_top _ _ _ _ c.in_ok-reserve.ensures.items c.push_reserved.ensures.items)
+    c.push_reserved.new.self.items (on_top _ _ _ _ c.in_ok-reserve.ensures.items c.push_reserved.ensures.items
+    ∙ ap (λ w. w ++ (record { state = c.in_ok-shortcut.shortcut.state; term = c.in_ok-term.term }) ∷ [])
+    c.truncate.ensures.items)
 
 pub returns-clause-legal : goal.returns-clause-legal
 returns-clause-legal g c =
     legal_there c.args.self.now c.args.number.0 (rule_from c.rule-rule.result.now) c.in-Some.below
-    c.self-2.inside.machine.now c.self-2.inside.forest c.self-2.inside.stack.items c.truncate.new.self.items
-    (record { below = c.top.result; left = c.rule-rule.result.now.left; terminal = c.args.terminal })
+    c.self-2.inside.machine.now c.self-2.inside.forest c.self-2.inside.stack.items
+    (take c.in-Some.below c.self-2.inside.stack.items)
+    (record { below = c.top_at.result; left = c.rule-rule.result.now.left; terminal = c.args.terminal })
     (record { state = c.in_ok-shortcut.shortcut.state; term = c.in_ok-term.term }) c.make.new.self.forest
     (record {
       cut = is_cut c.self.inside.machine.now c.self-2.inside.machine.now c.self.inside.forest c.self-2.inside.forest
@@ -172,30 +185,37 @@ returns-clause-legal g c =
           c.in_ok-term.ensures.machine c.in_ok-term.ensures.stack c.rule-rule.ensures
           (body_fits c.self.inside.stack c.len.result c.rule-rule.result.now.body_length c.in-Some.below
           c.len.ensures c.in-Some.ensures);
-      left_of = c.truncate.ensures.items;
-      below = c.top.ensures.top;
+      left_of = refl;
+      below = top_below c.self-2.inside.machine.now c.self-2.inside.forest c.self-2.inside.stack.items c.make.new.self
+          c.self-2.inside.count c.self-2.inside.over c.in-Some.below c.top_at.result.0 c.self-2.view_is
+          c.top_at.ensures.top;
       left = refl;
       same = sym (ap (λ p. p.forest) c.self-2.view_is);
       stands = c.in_ok-term.ensures.made;
     })
     (action_from c.in_ok-shortcut.shortcut.action)
     (lands_from c.self-2.inside.machine.now
-    (record { below = c.top.result; left = c.rule-rule.result.now.left; terminal = c.args.terminal })
+    (record { below = c.top_at.result; left = c.rule-rule.result.now.left; terminal = c.args.terminal })
     c.in_ok-shortcut.shortcut c.in_ok-shortcut.ensures.ok)
 
 pub returns-clause-noted : goal.returns-clause-noted
-returns-clause-noted g c states note =
-    note_kept c.args.self.now c.args.number.0 (rule_from c.rule-rule.result.now) c.in-Some.below
-    c.self-2.inside.machine.now c.self-2.inside.forest c.self-2.inside.stack.items c.deref.result.now
-    c.truncate.new.self.items c.push_reserved.new.self.items c.args.before.now c.note.new.self
-    (record { state = c.in_ok-shortcut.shortcut.state; term = c.in_ok-term.term }) states
-    (is_cut c.self.inside.machine.now c.self-2.inside.machine.now c.self.inside.forest c.self-2.inside.forest
-    c.self.inside.stack.items c.self-2.inside.stack.items c.args.self.now c.make.new.self c.self.inside.count
-    c.self-2.inside.count c.self.inside.over c.self-2.inside.over c.args.number.0 c.in-Some.below
-    (rule_from c.rule-rule.result.now) c.self.view_is c.self-2.view_is c.self-2.invariant.0
-    c.in_ok-term.ensures.machine c.in_ok-term.ensures.stack c.rule-rule.ensures
-    (body_fits c.self.inside.stack c.len.result c.rule-rule.result.now.body_length c.in-Some.below
-    c.len.ensures c.in-Some.ensures))
-    c.deref.ensures.value c.truncate.ensures.items
-    (on_top _ _ _ _ c.in_ok-reserve.ensures.items c.push_reserved.ensures.items) c.in_ok-note.ensures.same
-    c.in_ok-note.ensures.low note
+returns-clause-noted g c later states before = elim c.match-shortcut.branch [
+  | in-Reduce+in_ok-note w ↦
+      subst (IsNoteOf states (stack_from c.self-2.inside.forest c.push_reserved.new.self.items)) (sym w.before-is)
+      (note_kept c.args.self.now c.args.number.0 (rule_from c.rule-rule.result.now) c.in-Some.below
+      c.self-2.inside.machine.now c.self-2.inside.forest c.self-2.inside.stack.items w.deref.result.now
+      c.truncate.new.self.items c.push_reserved.new.self.items c.args.first c.args.before.now w.note.new.self
+      (record { state = c.in_ok-shortcut.shortcut.state; term = c.in_ok-term.term }) states
+      (is_cut c.self.inside.machine.now c.self-2.inside.machine.now c.self.inside.forest c.self-2.inside.forest
+      c.self.inside.stack.items c.self-2.inside.stack.items c.args.self.now c.make.new.self c.self.inside.count
+      c.self-2.inside.count c.self.inside.over c.self-2.inside.over c.args.number.0 c.in-Some.below
+      (rule_from c.rule-rule.result.now) c.self.view_is c.self-2.view_is c.self-2.invariant.0
+      c.in_ok-term.ensures.machine c.in_ok-term.ensures.stack c.rule-rule.ensures
+      (body_fits c.self.inside.stack c.len.result c.rule-rule.result.now.body_length c.in-Some.below
+      c.len.ensures c.in-Some.ensures))
+      w.deref.ensures.value c.truncate.ensures.items
+      (on_top _ _ _ _ c.in_ok-reserve.ensures.items c.push_reserved.ensures.items) w.in_ok-note.ensures.before
+      w.in_ok-note.ensures.low before)
+  | in_default-action w ↦
+      absurd (not_open c.in_ok-shortcut.shortcut.action w.in_default-action.not-Reduce w.in_default-action.not-Error later)
+]

@@ -4,8 +4,7 @@ use Rattle.ly_pack.specs.Steady.{run_bound}
 use Rattle.ly_pack.specs.Values.{action_from}
 use Rattle.ly_parse.specs.Feeding.{states_on, top_of}
 use Rattle.ly_parse.specs.declared.fault.ParseFault.TheVariants.{TableFault}
-use Rattle.ly_parse.specs.Private.Before.{with_top}
-use Rattle.ly_parse.proofs.BeforeLemmas.{begins}
+use Rattle.ly_parse.specs.Private.Before.{with_top, IsBefore, IsOpen}
 use Rattle.ly_parse.proofs.SettleLemmas.{behind_turn, fails_by_rule, run_ends, same_fault}
 use Rattle.ly_parse.proofs.running.Running.settle_behind.Goals as goal
 
@@ -22,10 +21,7 @@ loop-next-init g c = record {
   action = c.requires.action;
   count = refl;
   over = refl;
-  noted = begins c.self.inside.machine.now c.self.inside.forest c.self.inside.stack.items c.deref.result.now
-      c.args.self.now c.self.inside.count c.self.inside.over c.begin.new.self c.args.first.0
-      (with_top c.args.first.0 c.args.self.now.stack) c.self.view_is c.deref.ensures.value c.in_ok-begin.ensures.kept
-      c.in_ok-begin.ensures.before refl;
+  noted = refl;
 }
 
 pub returns-in_err-next-clause-faulty : goal.returns-in_err-next-clause-faulty
@@ -34,7 +30,7 @@ returns-in_err-next-clause-faulty g c is =
     ((run_bound + 1) * length (states_on c.args.self.now.stack)) c.args.self.now.stack c.loop-next.self.stack
     c.loop-next.invariant.machine c.loop-next.invariant.action c.loop-next.invariant.run
     (c.in_err-next.ensures.faulty (ap Err
-    (same_fault c.from_residual-in_err-next.result c.in_err-next.field-0.0 TableFault c.from_residual-in_err-next.ensures.1 is)))
+    (same_fault c.from_residual.result c.in_err-next.field-0.0 TableFault c.from_residual.ensures.1 is)))
 
 pub loop-next-smaller : goal.loop-next-smaller
 loop-next-smaller g c =
@@ -60,7 +56,8 @@ loop-next-preserved g c = record {
       ∙ ap action_from c.in-Reduce.is;
   count = c.in_ok-next.ensures.count ∙ c.loop-next.invariant.count;
   over = c.in_ok-next.ensures.over ∙ c.loop-next.invariant.over;
-  noted = c.in_ok-next.ensures.noted (with_top c.args.first.0 c.args.self.now.stack) c.loop-next.invariant.noted;
+  noted = c.in_ok-next.ensures.noted (subst (λ a. IsOpen (action_from a)) (sym c.in-Reduce.is) tt)
+      (with_top c.args.first.0 c.args.self.now.stack) c.loop-next.invariant.noted;
 }
 
 pub returns-in-Shift-clause-alike : goal.returns-in-Shift-clause-alike
@@ -88,8 +85,11 @@ returns-in-Error-clause-alike g c =
     c.reduce.new.self.stack refl c.in_ok-next.ensures.leads.leads).0.alike
 
 pub reduce-requires-clause-kept : goal.reduce-requires-clause-kept
-reduce-requires-clause-kept g c = c.loop-next.invariant.noted.kept
+reduce-requires-clause-kept g c none =
+    (subst (λ o. IsBefore o (with_top c.args.first.0 c.args.self.now.stack) c.loop-next.self.stack c.loop-next.before)
+    none c.loop-next.invariant.noted).kept
 
 pub returns-in-Error-clause-noted : goal.returns-in-Error-clause-noted
 returns-in-Error-clause-noted g c same =
-    c.in_ok-next.ensures.noted (with_top c.args.first.0 c.args.self.now.stack) c.loop-next.invariant.noted
+    c.in_ok-next.ensures.noted (subst (λ a. IsOpen (action_from a)) (sym c.in-Error.is) tt)
+    (with_top c.args.first.0 c.args.self.now.stack) c.loop-next.invariant.noted

@@ -3,7 +3,7 @@ use Rattle.ly_pack.specs.Machine.{action_of, reduce, IsRuleNumber}
 use Rattle.ly_pack.specs.Steady.{run_bound}
 use Rattle.ly_pack.specs.SteadyLaws.{reductions}
 use Rattle.ly_parse.specs.Feeding.{states_on, top_of}
-use Rattle.ly_parse.specs.Private.Before.{with_top, IsNoteOf}
+use Rattle.ly_parse.specs.Private.Before.{with_top, IsBefore}
 use Rattle.ly_parse.proofs.SettleLemmas.{IsWithinRun}
 use Rattle.ly_parse.proofs.running.Running.settle_behind.Given as goal
 
@@ -16,7 +16,7 @@ invariant-loop-next g l = record {
   action : action_of l.fn.self.machine (top_of l.self.stack) l.terminal.0 ≡ reduce l.number.0;
   count : l.self.count ≡ l.fn.self.count;
   over : l.self.over ≡ l.fn.self.over;
-  noted : IsNoteOf (with_top l.fn.first.0 l.fn.self.stack) l.self.stack l.before;
+  noted : IsBefore l.first (with_top l.fn.first.0 l.fn.self.stack) l.self.stack l.before;
 }
 
 abbrev pub decreases-loop-next : goal.decreases-loop-next
