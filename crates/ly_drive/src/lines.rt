@@ -91,19 +91,19 @@ pub(crate) fn end_lines(
 
 /// Adds the line that names the terminals that are expected.
 fn push_expected_line(
-    lines: &mut Vec<u8>,
+    line: &mut Vec<u8>,
     names: &Names<'_>,
     expected: &[Sym],
 ) -> Result<(), OutOfMemory>
-    ensures { OnOk result (lines.new.items
-        ≡ lines.old.items ++ expected_line (words_of names.now) (map (λ t. t.0) expected.now)) }
+    ensures { OnOk result (line.new.items
+        ≡ line.old.items ++ expected_line (words_of names.now) (map (λ t. t.0) expected.now)) }
 {
-    lines.extend_from_slice(b"expected:")?;
+    line.extend_from_slice(b"expected:")?;
     for &terminal in expected {
-        lines.push(b' ')?;
-        lines.extend_from_slice(names.of_terminal(terminal))?;
+        line.push(b' ')?;
+        line.extend_from_slice(names.of_terminal(terminal))?;
     }
-    lines.push(b'\n')?;
+    line.push(b'\n')?;
     Ok(())
 }
 

@@ -13,6 +13,7 @@ use Rattle.ly_drive.specs.Verdict.{Verdict, accepted, faulty, refused, unmatched
 use Rattle.ly_emit.specs.Following.{bottom}
 use Rattle.ly_emit.specs.Laws.{AreOf}
 use Rattle.ly_emit.specs.Tables.{IsMachineOf}
+use Rattle.ly_emit.proofs.ExpectedLemmas.{expected_follow}
 use Rattle.ly_emit.proofs.FollowLemmas.{tables_follow}
 use Rattle.ly_emit.proofs.RunLemmas.{accepted_follow, reads_follow, refused_follow}
 use Rattle.ly_tokens.specs.RowWalk.{cut_in, row_walk}
@@ -21,7 +22,7 @@ use Rattle.ly_tokens.proofs.AgreementLemmas.{lexing_of}
 use Rattle.ly_tokens.proofs.AnswerLemmas.{leaves_tokens}
 use Rattle.ly_ere.specs.Names.{defined}
 use Rattle.ly_engine.specs.Headline.{AnswersAreOfSpecification, IsGeneratedSet, TablesAnswerAsSpecified}
-use Rattle.ly_engine.specs.SpecAnswer.{AreTokensOf, IsNumberedToken, IsSpecVerdict}
+use Rattle.ly_engine.specs.SpecAnswer.{AreNext, AreTokensOf, IsNumberedToken, IsSpecVerdict}
 use Rattle.ly_engine.proofs.ScannerLemmas.{lexed_under, same_run}
 use Rattle.ly_engine.proofs.TokenLemmas.{all_below, numbered, same_conditions}
 use Rattle.ly_engine.proofs.WalkLemmas.{same_cut, same_walk}
@@ -30,7 +31,13 @@ use Rattle.ly_join.specs.Joined.{Spec}
 use Rattle.ly_join.specs.Scanning.{IsScanAction, acting_of, scanning_of}
 use Rattle.ly_lexread.specs.declared.file.LexFile.{LexFile}
 use Rattle.ly_lr0.specs.Automaton.{Automaton}
+use Rattle.ly_pack.specs.Machine.{Machine}
+use Rattle.ly_pack.specs.SteadyLaws.{IsStack, bottom as alone}
+use Rattle.ly_parse.specs.Expected.{AreExpected}
+use Rattle.ly_parse.specs.Feeding.{Level, states_on}
 use Rattle.ly_parse.specs.Feeding as fed
+use Rattle.ly_parse.specs.Reading.{Reads, at_end, onward}
+use Rattle.ly_parse.proofs.SettlingLemmas.{stack_kept}
 use Rattle.ly_resolve.specs.Machine.{Leads, begin}
 use Rattle.ly_resolve.specs.Precedence.{judge_of}
 use Rattle.ly_scan.specs.Lexer.{Scanner}
@@ -68,6 +75,12 @@ one_more M [] t all lt = All-cons (λ x. x.terminal < M.grammar.terminals) t [] 
 one_more M (x ∷ tokens) t all lt = All-cons (λ x. x.terminal < M.grammar.terminals) x (tokens ++ t ∷ [])
     (All-head (λ x. x.terminal < M.grammar.terminals) x tokens all)
     (one_more M tokens t (All-tail (λ x. x.terminal < M.grammar.terminals) x tokens all) lt)
+
+-- tokens that are read keep the neighbours on the stack edges
+reads_keep : (m : Machine) {levels last : List Level} {tokens : List (Token ℕ)} → Reads m levels tokens last
+    → IsStack m (states_on levels) → IsStack m (states_on last)
+reads_keep m at_end edges = edges
+reads_keep m (onward {token = token} feeds rest) edges = reads_keep m rest (stack_kept m token feeds edges)
 
 module _ (file : LexFile) (w : Written) (s : Spec) (set : TableSet) (g : IsGeneratedSet file w s set)
     (text : List ℕ) where
@@ -128,6 +141,23 @@ module _ (file : LexFile) (w : Written) (s : Spec) (set : TableSet) (g : IsGener
       (c : Comes (scan_part_of set) (machine_of set) text before t out) → AreOf g.automaton (before ++ t ∷ c.behind)
   come_all before t out c = subst (AreOf g.automaton) c.split (fed_all c.tokens c.e c.are_tokens)
 
+  -- what the tables expect behind tokens that they read, the reference machine would read
+  next_of : (before : List (Token ℕ)) (last : List Level) (ts : List ℕ) → AreOf g.automaton before
+      → Reads (machine_of set) [] before last → AreExpected (machine_of set) (states_on last) ts
+      → AreNext g.automaton.grammar (judge_of s) before ts
+  next_of before last ts all reads expected =
+      let run = reads_follow s g.automaton (machine_of set) g.is_automaton g.useful g.is_set.machine reads [] [] all
+      bottom in
+      let edges : IsStack (machine_of set) (states_on last) = reads_keep (machine_of set) reads alone in
+      record {
+        stack = run.0;
+        reads = subst (λ us. Leads g.automaton.grammar (judge_of s) (begin us) (record { stack = run.0; rest = [] }))
+            (append-nil before) run.1;
+        ordered = expected.ordered;
+        are = expected_follow s g.automaton (machine_of set) g.is_automaton g.useful g.is_set.machine g.steady run.0
+            last run.2 edges ts expected;
+      }
+
   -- the verdict is the specification's
   pub verdict_follows : (v : Verdict) → IsVerdict set text v → IsSpecVerdict file s g.automaton.grammar text v
   verdict_follows (accepted d) (r, fed) =
@@ -135,7 +165,7 @@ module _ (file : LexFile) (w : Written) (s : Spec) (set : TableSet) (g : IsGener
       (end_of text) r.last d
       (one_more g.automaton r.tokens (end_of text) (all_of r.tokens Clean r.are_tokens) end_below) r.reads fed in
       (r.tokens, Clean, tokens_of r.tokens Clean r.are_tokens, (refl, run.0, run.1, run.2))
-  verdict_follows (refused k t) (before, c, count) = (
+  verdict_follows (refused k t ts) (before, c, count, expected) = (
     c.tokens,
     c.e,
     tokens_of c.tokens c.e c.are_tokens,
@@ -146,6 +176,8 @@ module _ (file : LexFile) (w : Written) (s : Spec) (set : TableSet) (g : IsGener
       refused_follow s g.automaton (machine_of set) g.is_automaton g.useful g.is_set.machine before c.behind t c.last
           (up_to g.automaton before c.behind t (come_all before t fed.refused c)) c.reads c.feeds,
       count,
+      next_of before c.last ts (before_it g.automaton before c.behind t (come_all before t fed.refused c)) c.reads
+          expected,
     ),
   )
   verdict_follows (unmatched byte) r =

@@ -1,39 +1,38 @@
 -- Without conflicts what generated tables say of a text is what the derivations of its tokens say.
-use Rattle.std.proofs.Common.{◌≡◌, ◌≢◌, ◌∙◌, ◌<◌, ◌+◌, ℕ, List, [], ◌∷◌, ◌++◌, All, Some, ap, append-nil, arith}
-use Rattle.std.proofs.Common.{inl, inr, length, refl, slice_get, subst, sym}
+use Rattle.std.proofs.Common.{◌≡◌, ◌≢◌, ◌↔◌, ◌∙◌, ℕ, List, [], ◌∷◌, ◌++◌, All, Some, ap, append-nil, arith}
+use Rattle.std.proofs.Common.{inl, inr, refl, slice_get, sym}
 use Rattle.std.specs.List.{AllZip}
+use Rattle.std.specs.Prelude.{Contains}
 use Rattle.std.proofs.lemmas.List.Elements.{All-cons}
-use Rattle.ly_base.specs.Lexed.{Token, tokens_from}
-use Rattle.ly_base.specs.Limits.{Sizes}
+use Rattle.ly_base.specs.Lexed.{Token}
 use Rattle.ly_base.specs.Shape.{Shape}
 use Rattle.ly_base.specs.Text.{Named, literal, token}
 use Rattle.ly_base.specs.Trees.{Tree, yield_of}
 use Rattle.ly_base.specs.declared.lexeme.End.{End}
-use Rattle.ly_base.specs.declared.lexeme.End.TheVariants.{BadCut, Clean, Stuck}
 use Rattle.ly_drive.specs.Laws.{HasOneVerdict, HasSomeVerdict}
-use Rattle.ly_drive.specs.TableAnswer.{IsVerdict, end_of, fed_with}
+use Rattle.ly_drive.specs.TableAnswer.{end_of}
 use Rattle.ly_drive.specs.Verdict.{Verdict, accepted, faulty, refused, unmatched}
 use Rattle.ly_emit.specs.Tables.{shape_in}
-use Rattle.ly_engine.specs.Generated.{IsGenerated}
-use Rattle.ly_engine.specs.SentenceAnswer.{AnswersSentences, IsOnlyDerivation, IsSaidBySentences, IsSentenceVerdict}
-use Rattle.ly_engine.specs.SpecAnswer.{AreTokensOf, IsMachineVerdict, IsNumberOf, IsNumberedToken, IsSpecVerdict}
+use Rattle.ly_engine.specs.SentenceAnswer.{AnswersSentences, AreContinuing, IsOnlyDerivation}
+use Rattle.ly_engine.specs.SentenceAnswer.{IsSentenceVerdict}
+use Rattle.ly_engine.specs.SpecAnswer.{AreNext, AreTokensOf, IsMachineVerdict, IsNumberOf, IsNumberedToken}
+use Rattle.ly_engine.specs.SpecAnswer.{IsSpecVerdict}
 use Rattle.ly_engine.proofs.HeadlineLemmas.{tables_answer}
-use Rattle.ly_grammar.specs.Derivations.{IsReduced, IsTree}
-use Rattle.ly_join.specs.Grammar.{Grammar, IsAugmented, nonterminal}
+use Rattle.ly_grammar.specs.Derivations.{IsReduced}
+use Rattle.ly_join.specs.Grammar.{Grammar, IsAugmented}
 use Rattle.ly_join.specs.Joined.{Joined, Spec}
 use Rattle.ly_join.specs.Scanning.{Scanning}
 use Rattle.ly_join.specs.Terminals.{Terminal, end}
 use Rattle.ly_join.specs.Terminals as joined
-use Rattle.ly_lexread.specs.declared.file.LexFile.{LexFile}
 use Rattle.ly_resolve.specs.Actions.{IsConflictFree, Judge}
+use Rattle.ly_resolve.specs.Laws.{Continues}
 use Rattle.ly_resolve.specs.Machine.{AcceptsWith}
 use Rattle.ly_resolve.specs.Precedence.{judge_of}
 use Rattle.ly_resolve.proofs.AcceptedLemmas.{accepts_trees}
 use Rattle.ly_resolve.proofs.ExactLemmas.{end_is_last}
+use Rattle.ly_resolve.proofs.NextLemmas.{next_continues}
 use Rattle.ly_resolve.proofs.RefuseLemmas.{read_prefix, refused_first}
 use Rattle.ly_resolve.proofs.RunLemmas.{unambiguous}
-use Rattle.ly_tables.specs.TableSet.{TableSet}
-use Rattle.ly_tree.specs.Term.{build}
 use Rattle.ly_yaccread.specs.File.{Written}
 
 -- no named terminal is the end's
@@ -88,16 +87,25 @@ module _ (G : Grammar) (judge : Judge) (augmented : IsAugmented G) (reduced : Is
           let rest = same_front a b x y tails in
           cc
 
+  -- what it would read next continues a sentence
+  continuing : (before : List (Token ℕ)) (ts : List ℕ) → AreNext G judge before ts → AreContinuing G before ts
+  continuing before ts next = record { ordered = next.ordered; are = same } where
+    same : (t : ℕ) → Contains ts t ↔ Continues G before t
+    same t =
+        let reads = next_continues G judge augmented reduced free before next.stack next.reads t in
+        (λ has. reads.0 ((next.are t).0 has), λ continues. (next.are t).1 (reads.1 continues))
+
   -- what the reference machine says, derivations say
   pub sentences_say : (shape : ℕ → Shape) (e : End) (v : Verdict) → IsMachineVerdict G judge shape text tokens e v
       → IsSentenceVerdict G shape text tokens e v
   sentences_say shape e (accepted term) (clean, d, run, built) = (clean, d, only d run, built)
-  sentences_say shape e (refused k t) (before, behind, split, refuses, count) = (
+  sentences_say shape e (refused k t ts) (before, behind, split, refuses, count, next) = (
     before,
     behind,
     split,
     refused_first G judge augmented reduced free before behind t refuses,
     count,
+    continuing before ts next,
   )
   sentences_say shape e (unmatched byte) (stuck, stack, leads) = (
     stuck,

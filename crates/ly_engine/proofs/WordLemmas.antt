@@ -1,13 +1,14 @@
 -- Terms are printed by the same words.
 use Rattle.std.proofs.Common.{◌≡◌, ◌∙◌, ◌≤◌, ◌-◌, ℕ, zero, suc, List, [], ◌∷◌, ◌++◌, Option, Some, None}
 use Rattle.std.proofs.Common.{ap, ap₂, arith, length, map, refl, slice_get, sym}
+use Rattle.std.specs.List.{flat_map}
 use Rattle.std.specs.Prelude.{codes, option_map, unwrap_or}
 use Rattle.std.proofs.lemmas.List.{length-map}
 use Rattle.std.proofs.lemmas.Option.{slice_get-map, slice_get_past}
 use Rattle.ly_base.specs.Bytes.{newline}
 use Rattle.ly_base.specs.Lexed.{Token}
 use Rattle.ly_base.specs.Text.{leaf_of, token}
-use Rattle.ly_drive.specs.Verdict.{Verdict, accepted, faulty, printed, refused, syntax_line, unmatched}
+use Rattle.ly_drive.specs.Verdict.{Verdict, accepted, expected_line, faulty, printed, refused, syntax_line, unmatched}
 use Rattle.ly_drive.specs.Vocabularies.{constructor_in, constructor_of, name_in, vocabulary_of}
 use Rattle.ly_emit.specs.SetOf.{IsSetOf}
 use Rattle.ly_emit.specs.Tables.{AreTables, shape_from, shape_in}
@@ -45,10 +46,18 @@ module _ (v w : Vocabulary) (terminals : (t : ℕ) → v.terminal t ≡ w.termin
   line_alike : (k : ℕ) (t : Token ℕ) → syntax_line v k t ≡ syntax_line w k t
   line_alike k t = rw (terminals t.terminal) refl
 
+  names_alike : (ts : List ℕ)
+      → flat_map (λ t. codes " " ++ v.terminal t) ts ≡ flat_map (λ t. codes " " ++ w.terminal t) ts
+  names_alike [] = refl
+  names_alike (t ∷ ts) = ap₂ (λ name others. (codes " " ++ name) ++ others) (terminals t) (names_alike ts)
+
+  expected_alike : (ts : List ℕ) → expected_line v ts ≡ expected_line w ts
+  expected_alike ts = ap (λ names. codes "expected:" ++ names ++ newline ∷ []) (names_alike ts)
+
   -- verdicts are printed alike
   pub printed_alike : (x : Verdict) → printed v x ≡ printed w x
   printed_alike (accepted t) = ap (λ text. text ++ newline ∷ []) (shown_alike t)
-  printed_alike (refused k t) = line_alike k t
+  printed_alike (refused k t ts) = ap₂ (λ line expected. line ++ expected) (line_alike k t) (expected_alike ts)
   printed_alike (unmatched byte) = refl
   printed_alike faulty = refl
 

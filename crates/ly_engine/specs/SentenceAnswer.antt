@@ -32,8 +32,8 @@ pub record AreContinuing (G : Grammar) (before : List (Token ℕ)) (ts : List �
   pub are : (t : ℕ) → Contains ts t ↔ Continues G before t
 
 -- What derivations say of the tokens of a text, by what comes first in it: they have one derivation, of which this term
--- is built; a token, or the end, is the first that continues no sentence, and these terminals would have; or the tokens begin a sentence, and no rule
--- matches behind them.
+-- is built; a token, or the end, is the first that continues no sentence, and these terminals would have; or the tokens
+-- begin a sentence, and no rule matches behind them.
 abbrev pub IsSentenceVerdict : Grammar → (ℕ → Shape) → List ℕ → List (Token ℕ) → End → Verdict → Type 0
 IsSentenceVerdict G shape text tokens e (accepted term) = (e ≡ Clean) × (d : Tree) × IsOnlyDerivation G tokens d
     × (term ≡ build shape d)

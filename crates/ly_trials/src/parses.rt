@@ -16,28 +16,40 @@ use ly_tree::TermRef;
 use std::alloc::Global;
 use std::test::Fail;
 
-/// What a parser answers to a call.
-type Answer = Result<Step, ParseFault>;
+/// What a parser is to answer to a call.
+#[derive(Clone, Copy)]
+enum Wanted {
+    /// The parse goes on.
+    More,
+    /// The term is the leaf of the first token.
+    Leaf,
+    /// The token of this number, at byte 5, is refused, and these terminals are expected in its place.
+    Refused(u64, &'static [Sym]),
+    /// The parse is over.
+    Over,
+}
 
-const MORE: Answer = Ok(Step::More);
+const MORE: Wanted = Wanted::More;
 
-const OVER: Answer = Err(ParseFault::Over);
+const LEAF: Wanted = Wanted::Leaf;
+
+const OVER: Wanted = Wanted::Over;
+
+/// The first token is refused, or the end in its place.
+const FIRST: Wanted = Wanted::Refused(1, &[Sym(2)]);
+
+/// The second token is, behind one that is a whole text.
+const SECOND: Wanted = Wanted::Refused(2, &[Sym(0)]);
 
 /// The leaf of a token of terminal 2 with one byte, the first of its forest.
-const LEAF: Answer = Ok(Step::Done(TermRef::ShortLeaf {
+const FIRST_LEAF: TermRef = TermRef::ShortLeaf {
     length: 1,
     terminal: 2,
     start: 0,
-}));
-
-/// The first token is refused, or the end in its place, at byte 5.
-const FIRST: Answer = Ok(Step::Refused { token: 1, byte: 5 });
-
-/// The second one is.
-const SECOND: Answer = Ok(Step::Refused { token: 2, byte: 5 });
+};
 
 /// Calls of one parser, each a terminal, of which 0 is the end, and the answer to it.
-type Calls<'a> = &'a [(u32, Answer)];
+type Calls<'a> = &'a [(u32, Wanted)];
 
 /// Texts of no token, of one and of two: accepted, or refused at each place.
 const TEXTS: [Calls<'static>; 6] = [
@@ -91,18 +103,37 @@ fn answers_so<A: Rows<TableAction> + Drop, G: Rows<StateNo> + Drop>(
         if machine.terminals() <= *terminal as usize {
             return Err(Fail::from("there is no such terminal"));
         }
-        if call(&mut parser, *terminal) != *wanted {
+        if !is_wanted(&call(&mut parser, *terminal), *wanted) {
             return Ok(false);
         }
     }
     Ok(true)
 }
 
+/// Whether a parser answered as is wanted.
+fn is_wanted(answer: &Result<Step, ParseFault>, wanted: Wanted) -> bool {
+    match wanted {
+        Wanted::More => matches!(answer, Ok(Step::More)),
+        Wanted::Leaf => matches!(answer, Ok(Step::Done(root)) if *root == FIRST_LEAF),
+        Wanted::Refused(number, terminals) => match answer {
+            Ok(
+                Step::Refused {
+                    token,
+                    byte,
+                    expected,
+                },
+            ) => *token == number && *byte == 5 && expected.as_slice() == terminals,
+            _ => false,
+        },
+        Wanted::Over => matches!(answer, Err(ParseFault::Over)),
+    }
+}
+
 /// Feeds a parser with a token of one byte, or with the end, which is terminal 0; both stand at byte 5.
 fn call<A: Rows<TableAction> + Drop, G: Rows<StateNo> + Drop>(
     parser: &mut Parser<'_, A, G>,
     terminal: u32,
-) -> Answer
+) -> Result<Step, ParseFault>
     requires { terminal < parser.old.machine.terminals }
     ensures { parser.new.machine ≡ parser.old.machine }
 {

@@ -20,7 +20,7 @@ fn a_text_is_answered(rt: HostRuntime) -> Result<(), Fail> {
     let Ok(outcome) = answer(alloc, LEX, YACC, &mut MemSource::new(TEXT), &mut sink) else {
         return Err(Fail::from("a text was refused that is to be answered"));
     };
-    assert!(rt; outcome == Outcome::Tree);
+    assert!(rt; matches!(outcome, Outcome::Tree));
     assert!(rt; sink.bytes() == TREE);
     Ok(())
 }
@@ -35,7 +35,7 @@ fn a_generated_file_is_driven(rt: HostRuntime) -> Result<(), Fail> {
     let Ok(outcome) = drive(alloc, &tables, &mut MemSource::new(TEXT), &mut sink) else {
         return Err(Fail::from("a table file was refused that is to be driven"));
     };
-    assert!(rt; outcome == Outcome::Tree);
+    assert!(rt; matches!(outcome, Outcome::Tree));
     assert!(rt; sink.bytes() == TREE);
     Ok(())
 }

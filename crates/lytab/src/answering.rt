@@ -59,11 +59,11 @@ fn answer_by<'a, I: Read, O: Write>(
             Err(fault) => Err(of_tokens(fault, path)),
         },
         Rules::Tables(tables) => match drive(alloc, tables, &mut reader, &mut writer) {
-            Ok(outcome) => Ok(outcome == Outcome::Tree),
+            Ok(outcome) => Ok(matches!(outcome, Outcome::Tree)),
             Err(fault) => Err(of_drive(fault, path)),
         },
         Rules::Both { lex, yacc } => match answer(alloc, lex, yacc, &mut reader, &mut writer) {
-            Ok(outcome) => Ok(outcome == Outcome::Tree),
+            Ok(outcome) => Ok(matches!(outcome, Outcome::Tree)),
             Err(fault) => Err(of_answer(fault, path)),
         },
     }
