@@ -48,6 +48,7 @@ pub(crate) fn write_term<W: Sink>(
 }
 
 /// The lines that say that a token is refused, by its number, which counts from 1, and what is expected in its place.
+#[inline(never)] // so that a token that is read has the registers
 pub(crate) fn token_lines(
     alloc: Global,
     names: &Names<'_>,
@@ -73,6 +74,7 @@ pub(crate) fn token_lines(
 }
 
 /// The lines that say that the end is refused, which stands at this byte, and what is expected in its place.
+#[inline(never)] // likewise
 pub(crate) fn end_lines(
     alloc: Global,
     names: &Names<'_>,

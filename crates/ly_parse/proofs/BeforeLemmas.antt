@@ -4,7 +4,6 @@ use Rattle.std.proofs.Common.{All, refl, sym, ap, ◌∙◌, arith, slice_set, s
 use Rattle.std.specs.Prelude.{Bool, Option, None, Some}
 use Rattle.std.proofs.lemmas.List.{length-append, length-take-le, map-append, take-append-le, take-take}
 use Rattle.std.proofs.lemmas.List.Elements.{All-push, All-tail}
-use Rattle.ly_base.specs.declared.numbers.RuleNo.{RuleNo}
 use Rattle.ly_base.specs.declared.numbers.StateNo.{StateNo}
 use Rattle.ly_pack.specs.Values.{action_from}
 use Rattle.ly_pack.specs.declared.action.TableAction.{TableAction}
@@ -155,10 +154,6 @@ listed_states m f levels seen p count over b listed states view sees e same =
     ap states_in same ∙ (e ∙ (ap (λ w. before_of w b) sees
     ∙ (before_levels f levels b ∙ ap (λ q. before_on q.stack b) view)))
 
--- what is no reduction and no error reads or accepts the terminal
-pub not_open : (a : TableAction) → ((p : RuleNo) → a ≡ action.Reduce p → ⊥) → (a ≡ action.Error → ⊥)
-    → IsOpen (action_from a) → ⊥
-not_open (action.Shift s) a b h = h
-not_open (action.Reduce p) a b h = a p refl
-not_open action.Accept a b h = h
-not_open action.Error a b h = b refl
+-- what is shifted is read
+pub shifted_not_open : (a : TableAction) → ((s : StateNo) × (a ≡ action.Shift s)) → IsOpen (action_from a) → ⊥
+shifted_not_open a shifts h = subst (λ x. IsOpen (action_from x)) shifts.1 h

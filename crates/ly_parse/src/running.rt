@@ -314,7 +314,7 @@ impl<'a, A: Rows<TableAction> + Drop, G: Rows<StateNo> + Drop> Running<'a, A, G>
     }
 
     /// Makes a reduction and the passes behind it before a terminal, and answers what is done then. What it pops is
-    /// noted unless the terminal is read or accepted then. At the first reduction before the terminal it is told which
+    /// noted unless the terminal is read then. At the first reduction before the terminal it is told which
     /// state stood on top before the passes.
     fn reduce(
         &mut self,
@@ -351,8 +351,8 @@ impl<'a, A: Rows<TableAction> + Drop, G: Rows<StateNo> + Drop> Running<'a, A, G>
             terminal,
         };
         let shortcut = self.landings.land(self.machine, from)?;
-        // where the terminal is read or accepted next, nobody asks what the stack was
-        if let TableAction::Reduce(_) | TableAction::Error = shortcut.action {
+        // where the terminal is read next, nobody asks what the stack was
+        if !matches!(shortcut.action, TableAction::Shift(_)) {
             before.note(&self.stack, below, first)?;
         }
         self.stack.truncate(below);

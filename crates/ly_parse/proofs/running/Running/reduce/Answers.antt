@@ -1,9 +1,9 @@
-use Rattle.std.proofs.Common.{◌∙◌, ◌<◌, [], ◌∷◌, ◌++◌, Err, ap, refl, subst, sym, take}
+use Rattle.std.proofs.Common.{◌≡◌, ◌∙◌, ◌<◌, [], ◌∷◌, ◌++◌, Err, ap, false, refl, subst, sym, take, true}
 use Rattle.ly_pack.specs.Values.{action_from, rule_from}
 use Rattle.ly_parse.specs.Private.Paying.{IsStackPaid}
 use Rattle.ly_parse.specs.Private.Stack.{at_once, IsParse}
 use Rattle.ly_parse.specs.declared.fault.ParseFault.TheVariants.{TableFault}
-use Rattle.ly_parse.proofs.BeforeLemmas.{not_open, note_kept}
+use Rattle.ly_parse.proofs.BeforeLemmas.{note_kept, shifted_not_open}
 use Rattle.ly_parse.proofs.LandingLemmas.{acts_there, landed, lands_from, leads_on, legal_there}
 use Rattle.ly_parse.proofs.LandingLemmas.{strands}
 use Rattle.ly_parse.proofs.PassLemmas.{top_below}
@@ -14,7 +14,8 @@ use Rattle.ly_parse.proofs.StackLemmas.{cut, on_top}
 use Rattle.ly_parse.specs.Private.Before.{IsNoteOf}
 use Rattle.ly_parse.specs.Private.Stack.{stack_from}
 use Rattle.ly_parse.proofs.running.Running.reduce.Goals as goal
-use Rattle.ly_parse.proofs.running.Running.reduce.Goals.{in-Reduce+in_ok-note, in_default-action}
+use Rattle.ly_parse.proofs.running.Running.reduce.Goals.{else-not-matches, in-Shift, in_default-matches}
+use Rattle.ly_parse.proofs.running.Running.reduce.Goals.{then-not-matches+in_ok-note}
 
 pub returns-in_default-clause-faulty : goal.returns-in_default-clause-faulty
 returns-in_default-clause-faulty g c e =
@@ -199,8 +200,8 @@ returns-clause-legal g c =
     c.in_ok-shortcut.shortcut c.in_ok-shortcut.ensures.ok)
 
 pub returns-clause-noted : goal.returns-clause-noted
-returns-clause-noted g c later states before = elim c.match-shortcut.branch [
-  | in-Reduce+in_ok-note w ↦
+returns-clause-noted g c later states before = elim c.if-not-matches.branch [
+  | then-not-matches+in_ok-note w ↦
       subst (IsNoteOf states (stack_from c.self-2.inside.forest c.push_reserved.new.self.items)) (sym w.before-is)
       (note_kept c.args.self.now c.args.number.0 (rule_from c.rule-rule.result.now) c.in-Some.below
       c.self-2.inside.machine.now c.self-2.inside.forest c.self-2.inside.stack.items w.deref.result.now
@@ -216,6 +217,8 @@ returns-clause-noted g c later states before = elim c.match-shortcut.branch [
       w.deref.ensures.value c.truncate.ensures.items
       (on_top _ _ _ _ c.in_ok-reserve.ensures.items c.push_reserved.ensures.items) w.in_ok-note.ensures.before
       w.in_ok-note.ensures.low before)
-  | in_default-action w ↦
-      absurd (not_open c.in_ok-shortcut.shortcut.action w.in_default-action.not-Reduce w.in_default-action.not-Error later)
+  | else-not-matches w ↦ elim c.match-matches.branch [
+    | in-Shift s ↦ absurd (shifted_not_open c.in_ok-shortcut.shortcut.action (s.in-Shift.field-0, s.in-Shift.is) later)
+    | in_default-matches d ↦ absurd (let off : true ≡ false = sym w.if-not-matches.false ∙ d.matches-is in cc)
+  ]
 ]
