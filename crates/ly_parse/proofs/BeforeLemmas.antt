@@ -21,7 +21,7 @@ use Rattle.ly_parse.specs.declared.before.Before.{Before}
 use Rattle.ly_parse.specs.declared.level.Level as code
 use Rattle.ly_parse.proofs.CopiedLemmas.{upward_append}
 use Rattle.ly_parse.proofs.PassLemmas.{passed_stack, HasTop}
-use Rattle.ly_parse.proofs.StackLemmas.{below, length-stack_from, stack_from-append, stack_from-push}
+use Rattle.ly_parse.proofs.StackLemmas.{below, length-stack_from, stack_from-append}
 use Rattle.ly_tree.specs.Forest.{Grown}
 
 -- the states of levels, as they are kept and as contracts see them
@@ -84,7 +84,8 @@ top_put_back (l ∷ old) (k ∷ new) top alike e = ap (λ s. s ∷ states_on new
     ∙ ap (λ w. l.state ∷ states_on w) (sym alike)
 
 -- the note that is begun on a stack with this state on top
-pub begins : (m : Machine) (f : Grown) (levels seen : List code.Level) (p : Parse) (count : ℕ) (over : Bool) (b : Before)
+pub begins : (m : Machine) (f : Grown) (levels seen : List code.Level) (p : Parse) (count : ℕ) (over : Bool) (b :
+    Before)
     (top : ℕ) (states : List ℕ) → parse_from m f levels count over ≡ p → seen ≡ levels → b.kept ≤ length seen
     → before_of seen b ≡ levels_with_top top seen → with_top top p.stack ≡ states → IsNoteOf states p.stack b
 begins m f levels seen p count over b top states view sees kept before same =

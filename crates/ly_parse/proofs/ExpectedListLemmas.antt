@@ -1,14 +1,15 @@
 -- Lists of terminals that are expected.
-use Rattle.std.proofs.Common.{◌≡◌, ◌∙◌, ◌⊎◌, inl, inr, ℕ, zero, suc, ◌+◌, ◌<◌, ◌≤◌, List, [], ◌∷◌, ◌++◌, AllPairs, Contains, length, slice_get, Some}
+use Rattle.std.proofs.Common.{◌≡◌, ◌∙◌, ◌⊎◌, inl, inr, ℕ, zero, suc, ◌+◌, ◌<◌, ◌≤◌, List, [], ◌∷◌, ◌++◌, AllPairs}
+use Rattle.std.proofs.Common.{Contains, length}
 use Rattle.std.proofs.Common.{refl, sym, ap, subst, arith, ◌↔◌}
-use Rattle.std.specs.Prelude.{slice_index_or}
 use Rattle.std.proofs.Math.ListN.{get_or}
 use Rattle.std.proofs.Math.Seq.{get_or-append_seam}
 use Rattle.std.proofs.lemmas.Bool.{cases_lt}
 use Rattle.std.proofs.lemmas.List.{get_or_append_left, length-append}
 use Rattle.std.proofs.lemmas.List.Elements.{Contains-append_cases, Contains-append_left, Contains-append_right}
 use Rattle.std.proofs.lemmas.List.Kept.{AllPairs-cons}
-use Rattle.ly_base.proofs.MemberLemmas.{Contains-cons_cases, Contains-first, Contains-later, Contains-none, Contains-one}
+use Rattle.ly_base.proofs.MemberLemmas.{Contains-cons_cases, Contains-first, Contains-later, Contains-none}
+use Rattle.ly_base.proofs.MemberLemmas.{Contains-one}
 use Rattle.ly_pack.specs.Machine.{Machine}
 use Rattle.ly_parse.specs.Expected.{AreExpected, IsExpected}
 use Rattle.ly_parse.specs.Feeding.{Fed, Feeds, Level, done, faulty, pushed, refused, states_on}
@@ -37,7 +38,8 @@ pairs_push n (x ∷ xs) pairs below = AllPairs-cons (λ a b. a < b) x (xs ++ n �
     at k d (inl front) lt = subst (λ y. x < y) (sym (get_or_append_left xs (n ∷ []) d k front))
         (pairs 0 (suc k) d (omega arith) (omega (arith, front)))
     at k d (inr past) lt = let last : k ≡ length xs = omega (arith, past, lt, length-append xs (n ∷ [])) in
-        subst (λ y. x < y) (sym (ap (λ j. get_or (xs ++ n ∷ []) j d) last ∙ get_or-append_seam xs n [] d)) (below x (Contains-first x xs))
+        subst (λ y. x < y) (sym (ap (λ j. get_or (xs ++ n ∷ []) j d) last
+        ∙ get_or-append_seam xs n [] d)) (below x (Contains-first x xs))
 
 module _ (m : Machine) (stack : List ℕ) (n : ℕ) (ts : List ℕ) (was : AreBelow m stack n ts) where
   pub with_it : IsExpected m n stack → AreBelow m stack (n + 1) (ts ++ n ∷ [])
@@ -46,7 +48,8 @@ module _ (m : Machine) (stack : List ℕ) (n : ℕ) (ts : List ℕ) (was : AreBe
     are = λ t. (
       λ has. elim (Contains-append_cases ts (n ∷ []) t has) [
         | inl old ↦ let w = (was.are t).0 old in (omega (arith, w.0), w.1)
-        | inr new ↦ let same : t ≡ n = sym (Contains-one n t new) in (omega (arith, same), subst (λ k. IsExpected m k stack) (sym same) is)
+        | inr new ↦ let same : t ≡ n = sym (Contains-one n t new) in
+            (omega (arith, same), subst (λ k. IsExpected m k stack) (sym same) is)
       ],
       λ w. elim (cases_lt t n) [
         | inl old ↦ Contains-append_left ts (n ∷ []) t ((was.are t).1 (old, w.1))
@@ -63,7 +66,8 @@ module _ (m : Machine) (stack : List ℕ) (n : ℕ) (ts : List ℕ) (was : AreBe
       λ has. let w = (was.are t).0 has in (omega (arith, w.0), w.1),
       λ w. elim (cases_lt t n) [
         | inl old ↦ (was.are t).1 (old, w.1)
-        | inr new ↦ let same : t ≡ n = omega (arith, new, w.0) in absurd (not (subst (λ k. IsExpected m k stack) same w.1))
+        | inr new ↦ let same : t ≡ n = omega (arith, new, w.0) in
+            absurd (not (subst (λ k. IsExpected m k stack) same w.1))
       ],
     );
   }
@@ -85,8 +89,10 @@ rising_one (x ∷ xs) (y ∷ ys) p q same =
       ]
     ] in
     let tails = rising_one xs ys (rest_pairs x xs p) (rest_pairs y ys q) (λ t. (
-      λ has. later y ys t ((same t).0 (Contains-later x xs t has)) (let lt = before x xs p t has in omega (arith, lt, heads)),
-      λ has. later x xs t ((same t).1 (Contains-later y ys t has)) (let lt = before y ys q t has in omega (arith, lt, heads)),
+      λ has. later y ys t ((same t).0 (Contains-later x xs t has)) (let lt = before x xs p t has in
+          omega (arith, lt, heads)),
+      λ has. later x xs t ((same t).1 (Contains-later y ys t has)) (let lt = before y ys q t has in
+          omega (arith, lt, heads)),
     )) in
     ap (λ z. z ∷ xs) heads ∙ ap (λ w. y ∷ w) tails
   where
@@ -101,15 +107,22 @@ rising_one (x ∷ xs) (y ∷ ys) p q same =
 
 pub all_below : (m : Machine) (stack : List ℕ) (n : ℕ) (ts : List ℕ) → n ≡ m.terminals → AreBelow m stack n ts
     → AreExpected m stack ts
-all_below m stack n ts e below = record { ordered = below.ordered; are = subst (λ k. (t : ℕ) → Contains ts t ↔ ((t < k) × IsExpected m t stack)) e below.are }
+all_below m stack n ts e below = record {
+  ordered = below.ordered;
+  are = subst (λ k. (t : ℕ)
+      → Contains ts t ↔ ((t < k) × IsExpected m t stack)) e below.are;
+}
 
 -- On steady tables there is such a list.
 module _ (m : Machine) (levels : List Level) (calm : IsSteady m) (edges : IsStack m (states_on levels)) where
   listed_below : (n : ℕ) → n ≤ m.terminals → (ts : List ℕ) × AreBelow m (states_on levels) n ts
-  listed_below zero within = ([], record {
-    ordered = λ i j d lt low. absurd (omega (arith, low));
-    are = λ t. (λ has. absurd (Contains-none t has), λ w. absurd (omega (arith, w.0)));
-  })
+  listed_below zero within = (
+    [],
+    record {
+      ordered = λ i j d lt low. absurd (omega (arith, low));
+      are = λ t. (λ has. absurd (Contains-none t has), λ w. absurd (omega (arith, w.0)));
+    },
+  )
   listed_below (suc n) within =
       let less = listed_below n (omega (arith, within)) in
       let probe : Token ℕ = record { terminal = n; at = 0; bytes = [] } in

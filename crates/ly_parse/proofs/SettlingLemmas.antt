@@ -1,5 +1,5 @@
 -- On steady tables each token is settled.
-use Rattle.std.proofs.Common.{◌≡◌, ◌∙◌, ℕ, zero, suc, ◌+◌, ◌*◌, ◌<◌, List, [], ◌∷◌, Option}
+use Rattle.std.proofs.Common.{◌≡◌, ℕ, zero, suc, ◌+◌, ◌*◌, ◌<◌, List, [], ◌∷◌, Option}
 use Rattle.std.proofs.Common.{None, Some, ap, arith, length, refl, subst, sym}
 use Rattle.ly_base.specs.Lexed.{Token}
 use Rattle.ly_pack.specs.Machine.{Machine, TableAction, TableRule, IsMachine, accept, action_of, error, goto_at}
@@ -8,7 +8,7 @@ use Rattle.ly_pack.specs.Steady as steady
 use Rattle.ly_pack.specs.Steady.{EndsWithin, IsSteady, move, rule_at, run_bound}
 use Rattle.ly_pack.specs.SteadyLaws.{IsStack, reductions}
 use Rattle.ly_pack.proofs.Runs.{keeps, reductions_fall, runs_end, shifts_keep}
-use Rattle.ly_parse.specs.Feeding.{Fed, Feeds, Level, Turn, accept_with, done, go_to, goes_on, onward, perform, pop}
+use Rattle.ly_parse.specs.Feeding.{Fed, Feeds, Level, Turn, accept_with, go_to, goes_on, onward, perform, pop}
 use Rattle.ly_parse.specs.Feeding.{pushed, reduce_by, settled, settles, states_on, top_of, turn, uncover}
 use Rattle.ly_parse.proofs.FeedingLemmas.{legal, moves}
 use Rattle.ly_tree.specs.Term.{Terms}

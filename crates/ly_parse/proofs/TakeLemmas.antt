@@ -77,8 +77,12 @@ module _ (m : Machine) (f : Grown) (levels : List code.Level) (p : Parse) (count
       let list = subst (λ w. AreExpected s.machine w (map (λ t. t.0) ts.items)) note.same ok.2 in
       subst (λ x. IsCall x token s (Ok (Refused k at ts))) view (record {
         after_end = not_over over goes;
-        before_end = λ _. (fed, ok.0 ∙ ap (λ n. n + 1) counted, ok.1,
-            subst (λ x. AreExpected x (states_on (stack_from f levels)) (map (λ t. t.0) ts.items)) machine list);
+        before_end = λ _. (
+          fed,
+          ok.0 ∙ ap (λ n. n + 1) counted,
+          ok.1,
+          subst (λ x. AreExpected x (states_on (stack_from f levels)) (map (λ t. t.0) ts.items)) machine list,
+        );
         machine = machine;
         over = ended;
       })

@@ -20,8 +20,8 @@ pub record Parse : Type 0 where
   pub over : Bool
 
 -- What a parse that isn't over does with a token, by what is answered: it goes on behind the token, it ends with a
--- term, it refuses the token, which it counts, and lists the terminals that are expected in its place, from the stack as
--- it stood before the call; or the tables are at fault. Want of memory says nothing.
+-- term, it refuses the token, which it counts, and lists the terminals that are expected in its place, from the stack
+-- as it stood before the call; or the tables are at fault. Want of memory says nothing.
 abbrev pub Takes : Parse → Token ℕ → Parse → Result code.Step ParseFault → Type 0
 Takes p t q (Ok More) = Feeds p.machine t p.stack (pushed q.stack) × (q.count ≡ p.count + 1)
 Takes p t q (Ok (Done root)) = (d : Term) × Feeds p.machine t p.stack (done d) × StandsFor q.forest root d

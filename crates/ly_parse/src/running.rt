@@ -118,7 +118,11 @@ impl<'a, A: Rows<TableAction> + Drop, G: Rows<StateNo> + Drop> Running<'a, A, G>
     /// `More` the parse is over.
     ///
     /// Its faults are those of `ParseFault`.
-    pub(crate) fn feed(&mut self, token: &Token<'_>, before: &mut Before) -> Result<Step, ParseFault>
+    pub(crate) fn feed(
+        &mut self,
+        token: &Token<'_>,
+        before: &mut Before,
+    ) -> Result<Step, ParseFault>
         requires not_end { token.now.terminal.0 ≢ 0 }
         requires terminal { token.now.terminal.0 < self.old.machine.terminals }
         ensures { IsCall self.old (record {
@@ -165,8 +169,8 @@ impl<'a, A: Rows<TableAction> + Drop, G: Rows<StateNo> + Drop> Running<'a, A, G>
         }
     }
 
-    /// Makes the reductions before a terminal, and answers what is done then. Where it is refused, what the stack was is
-    /// noted.
+    /// Makes the reductions before a terminal, and answers what is done then. Where it is refused, what the stack was
+    /// is noted.
     #[inline(always)] // by a call a token takes a fifteenth more instructions
     fn settle(&mut self, terminal: Sym, before: &mut Before) -> Result<Settled, ParseFault>
         requires { terminal.0 < self.old.machine.terminals }

@@ -1,4 +1,5 @@
-use Rattle.std.proofs.Common.{◌≡◌, ◌∙◌, ◌+◌, ◌<◌, [], ◌∷◌, ◌++◌, Bool, MatchBool, true, false, All, ap, arith, map, subst, sym}
+use Rattle.std.proofs.Common.{◌∙◌, ◌+◌, ◌<◌, [], ◌∷◌, ◌++◌, MatchBool, All, ap, arith, map}
+use Rattle.std.proofs.Common.{subst, sym}
 use Rattle.ly_pack.specs.Machine.{states_of}
 use Rattle.ly_pack.specs.SteadyLaws.{IsStack}
 use Rattle.ly_parse.specs.Private.Copied.{states_in}
@@ -9,10 +10,12 @@ use Rattle.ly_parse.proofs.listing.expected.Goals.{then-branch+in_ok-push, else-
 use Rattle.std.proofs.lemmas.List.{map_push}
 
 pub is_expected-requires-clause-states : goal.is_expected-requires-clause-states
-is_expected-requires-clause-states g c = subst (All (λ s. s < states_of c.args.machine.now)) (sym c.loop-number.invariant.whole) c.requires.states
+is_expected-requires-clause-states g c = subst (All (λ s. s < states_of c.args.machine.now)) (sym
+    c.loop-number.invariant.whole) c.requires.states
 
 pub is_expected-requires-clause-stack : goal.is_expected-requires-clause-stack
-is_expected-requires-clause-stack g c = subst (IsStack c.args.machine.now) (sym c.loop-number.invariant.whole) c.requires.stack
+is_expected-requires-clause-stack g c = subst (IsStack c.args.machine.now) (sym c.loop-number.invariant.whole)
+    c.requires.stack
 
 pub loop-number-preserved : goal.loop-number-preserved
 loop-number-preserved g c =
@@ -28,12 +31,15 @@ loop-number-preserved g c =
       listed = elim c.if-branch.branch [
         | then-branch+in_ok-push w ↦
             subst (AreBelow m st (n + 1))
-            (sym (ap (λ (l : _). map (λ t. t.0) l.items) w.list-is ∙ (ap (map (λ t. t.0)) w.in_ok-push.ensures.items ∙ (map_push (λ t. t.0) c.loop-number.list.items _
+            (sym (ap (λ (l : _). map (λ t. t.0) l.items) w.list-is ∙ (ap (map (λ t. t.0)) w.in_ok-push.ensures.items
+            ∙ (map_push (λ t. t.0) c.loop-number.list.items _
             ∙ ap (λ k. map (λ t. t.0) c.loop-number.list.items ++ k ∷ []) c.in-Ok.ensures.1))))
-            (with_it m st n _ was.listed (subst (λ b. MatchBool b (IsExpected m n st) (IsExpected m n st → ⊥)) w.if-branch.true told))
+            (with_it m st n _ was.listed (subst (λ b. MatchBool b (IsExpected m n st) (IsExpected m n st
+            → ⊥)) w.if-branch.true told))
         | else-branch w ↦
             subst (AreBelow m st (n + 1)) (sym (ap (λ (l : _). map (λ t. t.0) l.items) w.list-is))
-            (without_it m st n _ was.listed (subst (λ b. MatchBool b (IsExpected m n st) (IsExpected m n st → ⊥)) w.if-branch.false told))
+            (without_it m st n _ was.listed (subst (λ b. MatchBool b (IsExpected m n st) (IsExpected m n st
+            → ⊥)) w.if-branch.false told))
       ];
     }
 

@@ -1,8 +1,7 @@
-use Rattle.std.proofs.Common.{◌≡◌, ◌∙◌, ◌<◌, ◌+◌, ◌*◌, All, Bool, MatchBool, true, false, ap, length, sym, subst}
+use Rattle.std.proofs.Common.{◌≡◌, ◌∙◌, ◌<◌, ◌+◌, ◌*◌, All, ap, length, sym, subst}
 use Rattle.ly_pack.proofs.Runs.{reductions_fall, runs_end}
 use Rattle.ly_pack.specs.Machine.{accept, error, reduce, shift, states_of}
-use Rattle.ly_pack.specs.Steady.{EndsWithin, IsSteady, goes_on, move, perform, refuses, run_bound}
-use Rattle.ly_pack.specs.SteadyLaws.{IsStack}
+use Rattle.ly_pack.specs.Steady.{EndsWithin, goes_on, move, refuses, run_bound}
 use Rattle.ly_parse.specs.Private.Copied.{IsMade}
 use Rattle.ly_parse.specs.Expected.{IsExpected, onward, read}
 use Rattle.ly_parse.proofs.ExpectedRunLemmas.{accepting, behind, ended_fine, faulty, legal_reduction, move_by}

@@ -1,4 +1,4 @@
-use Rattle.std.proofs.Common.{◌≡◌, ◌+◌, ◌≤◌, length}
+use Rattle.std.proofs.Common.{◌≡◌, ◌≤◌, length}
 use Rattle.ly_parse.specs.Private.Before.{before_of, noted_before}
 use Rattle.ly_parse.proofs.before.Before.note.Given as goal
 

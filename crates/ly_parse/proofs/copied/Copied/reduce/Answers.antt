@@ -1,4 +1,4 @@
-use Rattle.std.proofs.Common.{◌≡◌, ◌∙◌, ◌<◌, All, Some, ap, arith, refl, sym, subst, length}
+use Rattle.std.proofs.Common.{◌∙◌, ◌<◌, All, Some, ap, sym, subst}
 use Rattle.ly_pack.specs.Machine.{states_of}
 use Rattle.ly_pack.specs.Steady.{goes_on}
 use Rattle.ly_pack.specs.Values.{rule_from}
@@ -11,10 +11,12 @@ goto-requires-clause-state g c =
     let n = states_of c.args.machine.now in
     let now = c.pop.new.self.now in
     subst (λ s. s < n) (sym c.top.ensures.top) (top_known n now c.top.ensures.some
-    (subst (All (λ s. s < n)) (sym (c.pop.ensures.popped c.if-not-pop.false)) (kept_known n c.rule-rule.result.now.body_length c.args.self.now.now c.requires.states)))
+    (subst (All (λ s. s < n)) (sym (c.pop.ensures.popped c.if-not-pop.false)) (kept_known n
+    c.rule-rule.result.now.body_length c.args.self.now.now c.requires.states)))
 
 pub goto-requires-clause-left : goal.goto-requires-clause-left
-goto-requires-clause-left g c = rule_within c.args.machine.now c.args.rule.0 (rule_from c.rule-rule.result.now) c.requires.machine c.rule-rule.ensures
+goto-requires-clause-left g c = rule_within c.args.machine.now c.args.rule.0 (rule_from c.rule-rule.result.now)
+    c.requires.machine c.rule-rule.ensures
 
 pub returns-clause-made : goal.returns-clause-made
 returns-clause-made g c =

@@ -10,7 +10,7 @@ use Rattle.ly_parse.proofs.PassLemmas.{top_below}
 use Rattle.ly_parse.proofs.ReduceLemmas.{body_exceeds, body_fits, is_cut}
 use Rattle.ly_parse.proofs.ReduceLemmas.{past_bottom, rule_within, shape_fits}
 use Rattle.ly_parse.proofs.SettleLemmas.{same_fault}
-use Rattle.ly_parse.proofs.StackLemmas.{cut, on_top}
+use Rattle.ly_parse.proofs.StackLemmas.{on_top}
 use Rattle.ly_parse.specs.Private.Before.{IsNoteOf}
 use Rattle.ly_parse.specs.Private.Stack.{stack_from}
 use Rattle.ly_parse.proofs.running.Running.reduce.Goals as goal
@@ -78,11 +78,11 @@ pub invariant_of-self-2 : goal.invariant_of-self-2
 invariant_of-self-2 g c = (
   subst (IsParse c.self-2.inside.machine.now c.self-2.inside.forest)
       (sym (on_top _ _ _ _ c.in_ok-reserve.ensures.items c.push_reserved.ensures.items
-    ∙ ap (λ w. w ++ (record { state = c.in_ok-shortcut.shortcut.state; term = c.in_ok-term.term }) ∷ [])
-    c.truncate.ensures.items))
+      ∙ ap (λ w. w ++ (record { state = c.in_ok-shortcut.shortcut.state; term = c.in_ok-term.term }) ∷ [])
+      c.truncate.ensures.items))
       (landed c.args.self.now c.args.number.0 (rule_from c.rule-rule.result.now) c.in-Some.below
       c.self-2.inside.machine.now c.self-2.inside.forest c.self-2.inside.stack.items
-    (take c.in-Some.below c.self-2.inside.stack.items)
+      (take c.in-Some.below c.self-2.inside.stack.items)
       (record { below = c.top_at.result; left = c.rule-rule.result.now.left; terminal = c.args.terminal })
       (record { state = c.in_ok-shortcut.shortcut.state; term = c.in_ok-term.term }) c.make.new.self.forest
       (record {
@@ -95,8 +95,8 @@ invariant_of-self-2 g c = (
             c.len.ensures c.in-Some.ensures);
         left_of = refl;
         below = top_below c.self-2.inside.machine.now c.self-2.inside.forest c.self-2.inside.stack.items c.make.new.self
-          c.self-2.inside.count c.self-2.inside.over c.in-Some.below c.top_at.result.0 c.self-2.view_is
-          c.top_at.ensures.top;
+            c.self-2.inside.count c.self-2.inside.over c.in-Some.below c.top_at.result.0 c.self-2.view_is
+            c.top_at.ensures.top;
         left = refl;
         same = sym (ap (λ p. p.forest) c.self-2.view_is);
         stands = c.in_ok-term.ensures.made;

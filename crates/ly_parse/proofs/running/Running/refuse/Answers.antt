@@ -1,4 +1,4 @@
-use Rattle.std.proofs.Common.{◌+◌, ◌<◌, All, ap, map, refl, subst, sym}
+use Rattle.std.proofs.Common.{◌<◌, All, ap, map, refl, subst, sym}
 use Rattle.ly_pack.specs.Machine.{states_of}
 use Rattle.ly_pack.specs.SteadyLaws.{IsStack}
 use Rattle.ly_parse.specs.Expected.{AreExpected}

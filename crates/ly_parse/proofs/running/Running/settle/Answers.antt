@@ -1,7 +1,6 @@
 use Rattle.ly_parse.specs.Feeding.{states_on}
 use Rattle.ly_parse.proofs.BeforeLemmas.{begins, top_put_back}
 use Rattle.ly_parse.proofs.running.Running.settle.Goals as goal
-use Rattle.std.proofs.Common.{ap}
 
 pub returns-in_ok-begin-in-Error-clause-noted : goal.returns-in_ok-begin-in-Error-clause-noted
 returns-in_ok-begin-in-Error-clause-noted g c same =
