@@ -1,6 +1,5 @@
-use Rattle.std.proofs.Common.{◌≡◌, IfErr, subst}
-use Rattle.ly_base.specs.Limits.{Sizes, least_of, sizes_in}
-use Rattle.ly_base.specs.declared.version.Version.TheVariants.{V1}
+use Rattle.std.proofs.Common.{IfErr, subst}
+use Rattle.ly_base.specs.Limits.{Sizes}
 use Rattle.ly_emit.proofs.ShapeLemmas.{shapes_are_within}
 use Rattle.ly_join.specs.Scanning.{scanning_of}
 use Rattle.ly_engine.specs.Accepted.{IsFailedWrite, IsFit, IsRefusedFor, IsUnfitFor, Specifies}
