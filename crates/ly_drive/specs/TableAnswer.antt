@@ -51,8 +51,8 @@ pub record ReadsAll (p : ScanPart) (m : Machine) (text : List ℕ) (e : End) : T
   pub reads : Reads m [] tokens last
 
 -- What the scanner and the parser say of a text, by what comes first in it. What is expected in place of a refused
--- token is asked of the stack on which the token came. The tables are at fault where a goto is missing, a body goes past
--- the bottom, they accept without a term, or a cut leaves no byte or more than the match has.
+-- token is asked of the stack on which the token came. The tables are at fault where a goto is missing, a body goes
+-- past the bottom, they accept without a term, or a cut leaves no byte or more than the match has.
 abbrev pub IsVerdictBy : ScanPart → Machine → List ℕ → Verdict → Type 0
 IsVerdictBy p m text (accepted d) = (r : ReadsAll p m text Clean) × Feeds m (end_of text) r.last (fed.done d)
 IsVerdictBy p m text (refused k t ts) = (before : List (Token ℕ)) × (c : Comes p m text before t fed.refused)
