@@ -139,6 +139,13 @@ impl MemSink {
     {
         self.bytes.as_slice()
     }
+
+    /// The bytes that were written, which are given away.
+    pub fn into_bytes(self) -> Vec<u8>
+        ensures { result.items ≡ written self }
+    {
+        self.bytes
+    }
 }
 
 impl Sink for MemSink {
