@@ -1,6 +1,7 @@
 pub mod Answering
 pub mod DriveFault
 pub mod Laws
+pub mod Onward
 pub mod Private
 pub mod ScanPart
 pub mod TableAnswer

@@ -2,6 +2,7 @@ pub mod Cuts
 pub mod Lexer
 pub mod LoneBytes
 pub mod Matching
+pub mod Pieces
 pub mod Private
 pub mod StateRows
 pub mod StateWalk
