@@ -1,5 +1,5 @@
 -- What is written for the text that a reader gives.
-use Rattle.std.specs.Prelude.{◌≡◌, ◌<◌, ℕ, List, length, take, IfSome, Option}
+use Rattle.std.specs.Prelude.{◌≡◌, ◌<◌, ◌≤◌, ◌^◌, ℕ, List, length, take, IfSome, Option}
 use Rattle.std.specs.Io.KnownBytes.{Appends}
 use Rattle.std.specs.Int.{w16}
 use Rattle.ly_drive.specs.TableAnswer.{IsVerdict, TableAnswer}
@@ -25,6 +25,10 @@ IsBegunBy s given before after written = (text : List ℕ) × (answer : List ℕ
 -- the set is at fault on the text that the reader gave
 abbrev pub IsFaultyOn : TableSet → Option (List ℕ) → Type 0
 IsFaultyOn s given = (text : List ℕ) × IfSome given (λ bytes. text ≡ bytes) × IsVerdict s text faulty
+
+-- the reader gave more bytes than a text may have
+abbrev pub IsTooLong : Option (List ℕ) → Type 0
+IsTooLong given = IfSome given (λ bytes. 2 ^ 64 ≤ length bytes)
 
 -- the bytes of a table file spell the set, whose parser's runs end
 abbrev pub IsDriven : List ℕ → TableSet → Type 0

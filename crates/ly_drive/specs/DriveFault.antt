@@ -1,8 +1,6 @@
 -- The faults of the parts as faults of driving.
-use Rattle.ly_base.specs.declared.whole.ReadFault.{ReadFault}
-use Rattle.ly_base.specs.declared.whole.ReadFault.TheVariants as read
 use Rattle.ly_drive.specs.declared.fault.DriveFault.{DriveFault}
-use Rattle.ly_drive.specs.declared.fault.DriveFault.TheVariants.{OutOfMemory, Read, TableFault, Tables, Write}
+use Rattle.ly_drive.specs.declared.fault.DriveFault.TheVariants.{OutOfMemory, TableFault, Tables, Write}
 use Rattle.ly_tables.specs.declared.fault.TableFault as code
 use Rattle.ly_tables.specs.declared.fault.TableFault.TheVariants as file
 
@@ -14,10 +12,6 @@ fault_of_tables file.Trailing = Tables file.Trailing
 fault_of_tables (file.OutOfRange section) = Tables (file.OutOfRange section)
 fault_of_tables file.Endless = Tables file.Endless
 fault_of_tables file.OutOfMemory = OutOfMemory
-
-abbrev pub fault_of_read : ReadFault → DriveFault
-fault_of_read read.Read = Read
-fault_of_read read.OutOfMemory = OutOfMemory
 
 -- a write failed
 abbrev pub IsWrite : DriveFault → Type 0
@@ -34,19 +28,13 @@ abbrev pub IsOfFile : DriveFault → Type 0
 IsOfFile (Tables fault) = Unit {0}
 IsOfFile _ = ⊥
 
--- a fault of a run over a text that is there
-abbrev pub IsOfRun : DriveFault → Type 0
-IsOfRun TableFault = Unit {0}
-IsOfRun OutOfMemory = Unit {0}
-IsOfRun _ = ⊥
-
--- a fault of writing a tree
+-- a fault of writing an answer
 abbrev pub IsOfWriting : DriveFault → Type 0
 IsOfWriting (Write written) = Unit {0}
 IsOfWriting OutOfMemory = Unit {0}
 IsOfWriting _ = ⊥
 
--- a fault of answering a text that is there
+-- a fault of answering a text that has ended
 abbrev pub IsOfAnswering : DriveFault → Type 0
 IsOfAnswering TableFault = Unit {0}
 IsOfAnswering (Write written) = Unit {0}

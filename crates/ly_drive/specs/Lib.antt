@@ -1,5 +1,7 @@
 pub mod Answering
 pub mod DriveFault
+pub mod FeedFaultNames
+pub mod Held
 pub mod Laws
 pub mod Onward
 pub mod Private

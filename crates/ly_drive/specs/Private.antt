@@ -1,4 +1,9 @@
+pub mod Feeding
+pub mod Flaw
 pub mod Labels
+pub mod LexerOf
 pub mod Passing
+pub mod Reading
 pub mod Running
 pub mod Tables
+pub mod Window

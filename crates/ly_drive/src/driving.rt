@@ -1,4 +1,4 @@
-ghost use Rattle.std.specs.Prelude.{◌≡◌, ◌≢◌, ℕ, Err, IfErr, IfOk, IsErrOf, OnOk};
+ghost use Rattle.std.specs.Prelude.{◌≡◌, ◌≢◌, ℕ, Err, IfErr, IfOk, IsErrOf, Ok, OnOk};
 ghost use Rattle.std.specs.Int.{w16};
 ghost use Rattle.std.specs.Io.KnownBytes.{IsAtEnd};
 ghost use Rattle.ly_base.specs.Device.{next_count};
@@ -7,18 +7,21 @@ ghost use Rattle.ly_tables.specs.Refusal.{IsRefusedAs};
 ghost use Rattle.ly_tables.specs.TableSet.{TableSet as Tables};
 ghost use Rattle.ly_tables.specs.declared.fault.TableFault as file;
 ghost use Rattle.ly_tables.specs.declared.fault.TableFault.TheVariants.{OutOfMemory};
-ghost use Rattle.ly_drive.specs.Answering.{IsAnsweredBy, IsBegunBy, IsDriven, IsFaultyOn};
+ghost use Rattle.ly_drive.specs.Answering.{IsAnsweredBy, IsBegunBy, IsDriven, IsFaultyOn, IsTooLong};
 ghost use Rattle.ly_drive.specs.DriveFault.{IsBeforeWriting, IsOfFile, IsWrite};
 
 use crate::fault::DriveFault;
+use crate::feed::Feed;
+use crate::need::Need;
 use crate::outcome::Outcome;
-use crate::running::answer_to;
-use ly_base::{Sink, Source, read_whole};
+use crate::reading::read_into;
+use ly_base::{Sink, Source, write_whole};
 use ly_tables::{TableSet, read_tables};
 use std::alloc::Global;
 
 /// Answers the text that a reader gives by the bytes of a table file, and writes the answer. Nothing is read before the
-/// table file is read, and nothing is written before the outcome is known.
+/// table file is read, and at most 4,096 bytes at a time; nothing is written before the outcome is known, and nothing is
+/// read after it is, so only at a tree the reader is known to be at its end.
 ///
 /// Its faults are those of `DriveFault`.
 pub fn drive<R: Source, W: Sink>(
@@ -35,8 +38,9 @@ pub fn drive<R: Source, W: Sink>(
         × IsFaultyOn s (R.remaining reader.old) }
     ensures refused { (fault : file.TableFault) → result ≡ Err (DriveFault.Tables fault)
         → (fault ≢ OutOfMemory) × IsRefusedAs w16 1 version_1 tables.now fault }
+    ensures long { result ≡ Err DriveFault.TooLong → IsTooLong (R.remaining reader.old) }
     ensures unread { IfErr result (λ e. IsOfFile e → reader.new ≡ reader.old) }
-    ensures ended { OnOk result (IsAtEnd (R.remaining reader.new)) }
+    ensures ended { result ≡ Ok Outcome.Tree → IsAtEnd (R.remaining reader.new) }
     ensures read { IsErrOf result DriveFault.Read → R.failures reader.new ≡ next_count (R.failures reader.old) }
     ensures reader_held { (IsErrOf result DriveFault.Read → ⊥) → R.failures reader.new ≡ R.failures reader.old }
     ensures write { IfErr result (λ e. IsWrite e → W.failures writer.new ≡ next_count (W.failures writer.old)) }
@@ -44,32 +48,46 @@ pub fn drive<R: Source, W: Sink>(
     ensures untouched { IfErr result (λ e. IsBeforeWriting e → writer.new ≡ writer.old) }
 {
     let set = read_tables(alloc, tables)?;
-    run(alloc, set, reader, writer)
+    run(alloc, &set, reader, writer)
 }
 
+/// How many bytes are asked for at a time.
+const PIECE: usize = 4_096;
+
 /// Answers the text that a reader gives by a table set, and writes the answer. Nothing is written before the outcome is
-/// known.
+/// known, and nothing is read after it is, so only at a tree the reader is known to be at its end.
 ///
 /// Its faults are those of `DriveFault`; none is of a table file.
 pub fn run<R: Source, W: Sink>(
     alloc: Global,
-    set: TableSet,
+    set: &TableSet,
     reader: &mut R,
     writer: &mut W,
 ) -> Result<Outcome, DriveFault>
-    ensures answered { IfOk result (IsAnsweredBy set (R.remaining reader.old) (W.contents writer.old)
+    ensures answered { IfOk result (IsAnsweredBy set.now (R.remaining reader.old) (W.contents writer.old)
         (W.contents writer.new)) }
     ensures beginning { (written : ℕ) → result ≡ Err (DriveFault.Write written)
-        → IsBegunBy set (R.remaining reader.old) (W.contents writer.old) (W.contents writer.new) written }
-    ensures faulty { result ≡ Err DriveFault.TableFault → IsFaultyOn set (R.remaining reader.old) }
+        → IsBegunBy set.now (R.remaining reader.old) (W.contents writer.old) (W.contents writer.new) written }
+    ensures faulty { result ≡ Err DriveFault.TableFault → IsFaultyOn set.now (R.remaining reader.old) }
+    ensures long { result ≡ Err DriveFault.TooLong → IsTooLong (R.remaining reader.old) }
     ensures not_of_file { IfErr result (λ e. IsOfFile e → ⊥) }
-    ensures ended { OnOk result (IsAtEnd (R.remaining reader.new)) }
+    ensures ended { result ≡ Ok Outcome.Tree → IsAtEnd (R.remaining reader.new) }
     ensures read { IsErrOf result DriveFault.Read → R.failures reader.new ≡ next_count (R.failures reader.old) }
     ensures reader_held { (IsErrOf result DriveFault.Read → ⊥) → R.failures reader.new ≡ R.failures reader.old }
     ensures write { IfErr result (λ e. IsWrite e → W.failures writer.new ≡ next_count (W.failures writer.old)) }
     ensures writer_held { OnOk result (W.failures writer.new ≡ W.failures writer.old) }
     ensures untouched { IfErr result (λ e. IsBeforeWriting e → writer.new ≡ writer.old) }
 {
-    let text = read_whole(alloc, reader)?;
-    answer_to(alloc, set.into_parts(), &text, writer)
+    let mut feed = Feed::new(alloc, set)?;
+    let mut room = vec![in alloc; 0u8; PIECE]?;
+    loop {
+        match read_into(&mut feed, reader, &mut room)? {
+            Some(Need::More) => {}
+            Some(Need::Settled(outcome, answer)) => {
+                write_whole(writer, &answer)?;
+                return Ok(outcome);
+            }
+            None => return feed.finish_into(writer),
+        }
+    }
 }

@@ -1,8 +1,8 @@
 ghost use Rattle.std.specs.Prelude.{◌≡◌};
-ghost use Rattle.ly_drive.specs.DriveFault.{fault_of_read, fault_of_tables};
+ghost use Rattle.ly_drive.specs.DriveFault.{fault_of_tables};
 ghost use Rattle.ly_drive.specs.declared.fault.DriveFault.TheVariants.{OutOfMemory, Write};
 
-use ly_base::{OutOfMemory as NoMemory, ReadFault, WriteFault};
+use ly_base::{OutOfMemory as NoMemory, WriteFault};
 use ly_tables::TableFault as FileFault;
 use std::alloc::AllocError;
 use thiserror::Error;
@@ -18,6 +18,9 @@ pub enum DriveFault {
     /// Nothing was written.
     #[error("the tables are at fault")]
     TableFault,
+    /// More than 2^64-1 bytes were read, and no answer was known by then. Nothing was written.
+    #[error("the text is too long")]
+    TooLong,
     /// The reader failed in this call. Nothing was written.
     #[error("the text could not be read")]
     Read,
@@ -56,17 +59,6 @@ impl From<FileFault> for DriveFault {
         match fault {
             FileFault::OutOfMemory => DriveFault::OutOfMemory,
             fault => DriveFault::Tables(fault),
-        }
-    }
-}
-
-impl From<ReadFault> for DriveFault {
-    ghost from_gives = { λ fault e. e ≡ fault_of_read fault };
-
-    fn from(fault: ReadFault) -> DriveFault {
-        match fault {
-            ReadFault::Read => DriveFault::Read,
-            ReadFault::OutOfMemory => DriveFault::OutOfMemory,
         }
     }
 }

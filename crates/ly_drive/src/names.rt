@@ -1,8 +1,10 @@
 ghost use Rattle.std.specs.Prelude.{◌≡◌, map};
-ghost use Rattle.ly_drive.specs.Vocabularies.{name_in};
+ghost use Rattle.ly_drive.specs.Private.Running.{words_of};
+ghost use Rattle.ly_drive.specs.Vocabularies.{name_in, vocabulary_of};
 
 use ly_base::Sym;
 use ly_pack::TableRule;
+use ly_tables::TableSet;
 
 /// The names of a table set: those of terminals, and the constructors of rules.
 #[derive(Clone, Copy)]
@@ -11,6 +13,18 @@ pub(crate) struct Names<'a> {
     pub(crate) terminals: &'a [Vec<u8>],
     /// The rules but rule 0.
     pub(crate) rules: &'a [TableRule],
+}
+
+impl<'a> Names<'a> {
+    /// Those of a table set.
+    pub(crate) fn of(set: &'a TableSet) -> Names<'a>
+        ensures { words_of result ≡ vocabulary_of set.now }
+    {
+        Names {
+            terminals: set.terminals(),
+            rules: set.rules(),
+        }
+    }
 }
 
 impl Names<'_> {

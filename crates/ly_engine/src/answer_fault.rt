@@ -9,6 +9,9 @@ pub enum AnswerFault {
     /// The files are refused. Nothing was read or written.
     #[error("{0}")]
     Refused(GenFault),
+    /// More than 2^64-1 bytes were read, and no answer was known by then. Nothing was written.
+    #[error("the text is too long")]
+    TooLong,
     /// The reader failed in this call. Nothing was written.
     #[error("the text could not be read")]
     Read,

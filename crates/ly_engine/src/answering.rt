@@ -1,8 +1,8 @@
-ghost use Rattle.std.specs.Prelude.{◌≡◌, ◌≢◌, ℕ, Err, IfErr, IfOk, IsErrOf, OnOk};
+ghost use Rattle.std.specs.Prelude.{◌≡◌, ◌≢◌, ℕ, Err, IfErr, IfOk, IsErrOf, Ok, OnOk};
 ghost use Rattle.std.specs.Io.KnownBytes.{IsAtEnd};
 ghost use Rattle.ly_base.specs.Device.{next_count};
 ghost use Rattle.ly_base.specs.Limits.{version_1};
-ghost use Rattle.ly_drive.specs.Answering.{IsAnsweredBy, IsBegunBy};
+ghost use Rattle.ly_drive.specs.Answering.{IsAnsweredBy, IsBegunBy, IsTooLong};
 ghost use Rattle.ly_tables.specs.TableSet.{TableSet as Tables};
 ghost use Rattle.ly_engine.specs.Accepted.{IsRefusedFor};
 ghost use Rattle.ly_engine.specs.AnswerFault.{IsBeforeReading, IsBeforeWriting, IsWrite};
@@ -17,7 +17,8 @@ use ly_drive::{DriveFault, Outcome, run};
 use std::alloc::Global;
 
 /// Answers the text that a reader gives by a lex file and a yacc file (POSIX, XCU lex and yacc), and writes the answer.
-/// Nothing is read before the tables are made, and nothing is written before the outcome is known.
+/// Nothing is read before the tables are made, and at most 4,096 bytes at a time; nothing is written before the outcome
+/// is known, and nothing is read after it is, so only at a tree the reader is known to be at its end.
 ///
 /// Its faults are those of `AnswerFault`.
 pub fn answer<R: Source, W: Sink>(
@@ -34,8 +35,9 @@ pub fn answer<R: Source, W: Sink>(
         × IsBegunBy s (R.remaining reader.old) (W.contents writer.old) (W.contents writer.new) written }
     ensures refused { (fault : code.GenFault) → result ≡ Err (AnswerFault.Refused fault)
         → (fault ≢ gen.OutOfMemory) × IsRefusedFor version_1 lex.now yacc.now fault }
+    ensures long { result ≡ Err AnswerFault.TooLong → IsTooLong (R.remaining reader.old) }
     ensures unread { IfErr result (λ e. IsBeforeReading e → reader.new ≡ reader.old) }
-    ensures ended { OnOk result (IsAtEnd (R.remaining reader.new)) }
+    ensures ended { result ≡ Ok Outcome.Tree → IsAtEnd (R.remaining reader.new) }
     ensures read { IsErrOf result AnswerFault.Read → R.failures reader.new ≡ next_count (R.failures reader.old) }
     ensures reader_held { (IsErrOf result AnswerFault.Read → ⊥) → R.failures reader.new ≡ R.failures reader.old }
     ensures write { IfErr result (λ e. IsWrite e → W.failures writer.new ≡ next_count (W.failures writer.old)) }
@@ -43,8 +45,9 @@ pub fn answer<R: Source, W: Sink>(
     ensures untouched { IfErr result (λ e. IsBeforeWriting e → writer.new ≡ writer.old) }
 {
     let generated = generated(alloc, lex, yacc, Limits::V1.within(Version::V1))?;
-    match run(alloc, generated.set, reader, writer) {
+    match run(alloc, &generated.set, reader, writer) {
         Ok(outcome) => Ok(outcome),
+        Err(DriveFault::TooLong) => Err(AnswerFault::TooLong),
         Err(DriveFault::Read) => Err(AnswerFault::Read),
         Err(DriveFault::Write { written }) => Err(AnswerFault::Write { written }),
         Err(DriveFault::OutOfMemory) => Err(AnswerFault::OutOfMemory),

@@ -3,7 +3,8 @@
 //! what these promise (`IsGenerated`), by a law (`tables_answer_as_specified`); without conflicts that is what the
 //! derivations of the text's tokens say (`sentences_are_answered`).
 //!
-//! What an embedder needs beside these is handed on: `tokens` for a lex file alone, and `drive` for a table file.
+//! What an embedder needs beside these is handed on: `tokens` for a lex file alone, `drive` for a table file, and `Feed`
+//! for a text that comes in pieces.
 //!
 //! Left out: files, words and lines of faults, which are the program's.
 #![tactic(auto)]
@@ -22,7 +23,7 @@ pub use gen_fault::GenFault;
 pub use generating::{Built, build, generate};
 pub use laws::{refusal_is_exact, sentences_are_answered, tables_answer_as_specified};
 pub use ly_base::{Counted, Limits, MemSink, MemSource, Sink, Source, Version};
-pub use ly_drive::{DriveFault, Outcome, drive};
+pub use ly_drive::{DriveFault, Feed, FeedFault, Need, Outcome, drive};
 pub use ly_tables::{TableFault, TableSet, read_tables, write_tables};
 pub use ly_tokens::{TokenEnd, TokensFault, tokens};
 pub use reporting::generate_report;

@@ -86,6 +86,7 @@ fn of_drive<'a>(fault: DriveFault, path: &'a str) -> Failure<'a> {
     match fault {
         DriveFault::Tables(fault) => Failure::Tables(fault),
         DriveFault::TableFault => Failure::FaultyTables,
+        DriveFault::TooLong => Failure::TooLong,
         DriveFault::Read => Failure::CannotRead(path),
         DriveFault::Write { .. } => Failure::CannotWrite(STANDARD),
         DriveFault::OutOfMemory => Failure::OutOfMemory,
@@ -96,6 +97,7 @@ fn of_drive<'a>(fault: DriveFault, path: &'a str) -> Failure<'a> {
 fn of_answer<'a>(fault: AnswerFault, path: &'a str) -> Failure<'a> {
     match fault {
         AnswerFault::Refused(fault) => Failure::Refused(fault),
+        AnswerFault::TooLong => Failure::TooLong,
         AnswerFault::Read => Failure::CannotRead(path),
         AnswerFault::Write { .. } => Failure::CannotWrite(STANDARD),
         AnswerFault::OutOfMemory => Failure::OutOfMemory,

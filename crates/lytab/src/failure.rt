@@ -9,6 +9,8 @@ use ly_tables::TableFault;
 use std::alloc::Global;
 use std::io::{self, Write};
 
+const TEXT_REFUSED: u8 = 1;
+
 const REFUSED: u8 = 2;
 
 const DEVICE_OR_MEMORY: u8 = 3;
@@ -26,6 +28,8 @@ pub enum Failure<'a> {
     Tables(TableFault),
     /// The tables are at fault on the text.
     FaultyTables,
+    /// The text has more than 2^64-1 bytes.
+    TooLong,
     /// A growth was refused.
     OutOfMemory,
 }
@@ -38,7 +42,7 @@ impl From<GenFault> for Failure<'_> {
 
 /// Writes the line of a failure, and answers the exit status.
 pub fn told<E: Write>(alloc: Global, failure: Failure<'_>, faults: &mut E) -> u8
-    ensures { (2 ≤ result) × (result ≤ 3) }
+    ensures { (1 ≤ result) × (result ≤ 3) }
 {
     let mut line = Vec::new(alloc);
     if push_line(&mut line, &failure).is_err() {
@@ -49,9 +53,10 @@ pub fn told<E: Write>(alloc: Global, failure: Failure<'_>, faults: &mut E) -> u8
     status_of(&failure)
 }
 
-/// The exit status of a failure: 2 where a file is refused, 3 where a device fails or memory runs out.
+/// The exit status of a failure: 1 where the text is too long, 2 where a file is refused, 3 where a device fails or
+/// memory runs out.
 fn status_of(failure: &Failure<'_>) -> u8
-    ensures { (2 ≤ result) × (result ≤ 3) }
+    ensures { (1 ≤ result) × (result ≤ 3) }
 {
     match failure {
         Failure::CannotRead(_)
@@ -60,6 +65,7 @@ fn status_of(failure: &Failure<'_>) -> u8
         | Failure::Tables(TableFault::OutOfMemory)
         | Failure::OutOfMemory => DEVICE_OR_MEMORY,
         Failure::Refused(_) | Failure::Tables(_) | Failure::FaultyTables => REFUSED,
+        Failure::TooLong => TEXT_REFUSED,
     }
 }
 
@@ -72,6 +78,7 @@ fn push_line(out: &mut Vec<u8>, failure: &Failure<'_>) -> io::Result<()> {
         Failure::Refused(fault) => push_refusal(out, fault),
         Failure::Tables(fault) => push_table_fault(out, fault),
         Failure::FaultyTables => writeln!(out, "tables: fault 90 TableFault"),
+        Failure::TooLong => writeln!(out, "fault 92 TooLong"),
         Failure::OutOfMemory => writeln!(out, "out of memory"),
     }
 }

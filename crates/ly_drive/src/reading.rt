@@ -1,0 +1,38 @@
+ghost use Rattle.std.specs.Prelude.{◌≡◌, ◌<◌, IsErrOf, length, false};
+ghost use Rattle.ly_base.specs.Device.{next_count};
+ghost use Rattle.ly_drive.specs.Private.Reading.{IsReadInto};
+
+use crate::fault::DriveFault;
+use crate::feed::Feed;
+use crate::feed_fault::FeedFault;
+use crate::need::Need;
+use ly_base::Source;
+
+/// Reads what a reader gives at once, at most so much as there is room for, into a feed, and says what that wants next.
+/// None where the text has ended.
+pub(crate) fn read_into<R: Source>(
+    feed: &mut Feed<'_>,
+    reader: &mut R,
+    room: &mut [u8],
+) -> Result<Option<Need>, DriveFault>
+    requires goes_on { feed.old.over ≡ false }
+    requires room { 0 < length room.old }
+    ensures is_read { IsReadInto feed.old (R.remaining reader.old) (R.remaining reader.new) feed.new result }
+    ensures room { length room.new ≡ length room.old }
+    ensures read { IsErrOf result DriveFault.Read → R.failures reader.new ≡ next_count (R.failures reader.old) }
+    ensures held { (IsErrOf result DriveFault.Read → ⊥) → R.failures reader.new ≡ R.failures reader.old }
+{
+    let count = match reader.pull(room) {
+        Ok(0) => return Ok(None),
+        Ok(count) => count,
+        Err(_) => return Err(DriveFault::Read),
+    };
+    match feed.piece(&room[..count]) {
+        Ok(need) => Ok(Some(need)),
+        Err(FeedFault::TableFault) => Err(DriveFault::TableFault),
+        Err(FeedFault::TooLong) => Err(DriveFault::TooLong),
+        Err(FeedFault::OutOfMemory) => Err(DriveFault::OutOfMemory),
+        // no answer has come yet
+        Err(FeedFault::Over) => unreachable!(),
+    }
+}
