@@ -5,6 +5,7 @@ pub mod FeedingLemmas
 pub mod LabelLemmas
 pub mod OneVerdictLemmas
 pub mod PassingLemmas
+pub mod ReadingLemmas
 pub mod RunningLemmas
 pub mod ScanTableLemmas
 pub mod SomeVerdictLemmas

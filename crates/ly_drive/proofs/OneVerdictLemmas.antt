@@ -1,86 +1,40 @@
--- A table set says one thing of a text.
-use Rattle.std.proofs.Common.{◌≡◌, ◌∙◌, ◌⊎◌, ◌+◌, inl, inr, ℕ, List, [], ◌∷◌, ◌++◌, ap}
+-- Tables say one thing of what is left of a text.
+use Rattle.std.proofs.Common.{◌≡◌, ◌∙◌, ◌⊎◌, ◌+◌, inl, inr, ℕ, List, [], ap}
 use Rattle.std.proofs.Common.{ap₂, length, refl, subst, sym}
-use Rattle.ly_base.specs.Lexed.{Token, start_of, tokens_from}
+use Rattle.ly_base.specs.Lexed.{Place, Token, tokens_from}
 use Rattle.ly_base.specs.declared.lexeme.End.{End}
 use Rattle.ly_base.specs.declared.lexeme.End.TheVariants.{BadCut, Clean, Stuck}
+use Rattle.ly_drive.proofs.ReadingLemmas.{IsStop, not_all_read, one_stop}
 use Rattle.ly_drive.specs.ScanPart.{ScanPart, condition_in, scanner_in, terminal_in}
-use Rattle.ly_drive.specs.TableAnswer.{AreTokens, Comes, IsVerdictBy, ReadsAll, end_of, fed_with}
+use Rattle.ly_drive.specs.TableAnswer.{AreTokens, Comes, IsSaidFrom, Progress, ReadsAll, fed_with}
 use Rattle.ly_drive.specs.Verdict.{Verdict, accepted, faulty, refused, unmatched}
 use Rattle.ly_pack.specs.Machine.{Machine}
 use Rattle.ly_parse.specs.Expected.{AreExpected}
-use Rattle.ly_parse.specs.Feeding.{Fed, Feeds, Level, pushed, states_on}
+use Rattle.ly_parse.specs.Feeding.{Fed, pushed, states_on}
 use Rattle.ly_parse.specs.Feeding as fed
 use Rattle.ly_parse.specs.FeedingLaws.{FeedsInOneWay}
-use Rattle.ly_parse.specs.Reading.{Reads, at_end, onward}
 use Rattle.ly_parse.proofs.ExpectedListLemmas.{one_list}
 use Rattle.ly_scan.proofs.OneLexingLemmas.{one_lexing}
 
-one_tokens : (p : ScanPart) (text : List ℕ) (ts us : List (Token ℕ)) (e d : End) → AreTokens p text ts e
-    → AreTokens p text us d → (ts ≡ us) × (e ≡ d)
-one_tokens p text ts us e d a b =
-    let on = one_lexing (scanner_in p) (condition_in p) (start_of text) a.lexemes b.lexemes e d a.lexed b.lexed in
-    (a.are_of_lexemes ∙ (ap (tokens_from (terminal_in p) 0 text) on.0 ∙ sym b.are_of_lexemes), on.1)
+one_tokens : (p : ScanPart) (q : Place) (ts us : List (Token ℕ)) (e d : End) → AreTokens p q ts e
+    → AreTokens p q us d → (ts ≡ us) × (e ≡ d)
+one_tokens p q ts us e d a b =
+    let on = one_lexing (scanner_in p) (condition_in p) q a.lexemes b.lexemes e d a.lexed b.lexed in
+    (a.are_of_lexemes ∙ (ap (tokens_from (terminal_in p) q.at q.rest) on.0 ∙ sym b.are_of_lexemes), on.1)
 
--- a parse stops with the token
-abbrev IsStop : Fed → Type 0
-IsStop (pushed next) = ⊥
-IsStop _ = Unit {0}
-
--- tables stop at one token, in one way
-one_stop : {m : Machine} {a b c : List Level} {xs ys : List (Token ℕ)} (t u : Token ℕ) (zs ws : List (Token ℕ))
-    (out other : Fed) → FeedsInOneWay → Reads m a xs b → Feeds m t b out → IsStop out → Reads m a ys c
-    → Feeds m u c other → IsStop other → xs ++ t ∷ zs ≡ ys ++ u ∷ ws
-    → (xs ≡ ys) × (t ≡ u) × (out ≡ other) × (b ≡ c)
-one_stop {m} {a} t u zs ws out other way at_end f stop at_end g stops e =
-    let same : t ≡ u = cc in
-    (refl, same, way m t a out other f (subst (λ x. Feeds m x a other) (sym same) g), refl)
-one_stop {m} {a} t u zs ws out other way at_end f stop (onward {next = n} {token = y} first more) g stops e =
-    let same : t ≡ y = cc in
-    absurd (subst IsStop (way m t a out (pushed n) f (subst (λ x. Feeds m x a (pushed n)) (sym same) first)) stop)
-one_stop {m} {a} t u zs ws out other way (onward {next = n} {token = x} first more) f stop at_end g stops e =
-    let same : u ≡ x = cc in
-    absurd (subst IsStop (way m u a other (pushed n) g (subst (λ y. Feeds m y a (pushed n)) (sym same) first)) stops)
-one_stop {m} {a} {c = c} t u zs ws out other way (onward {next = n} {token = x} {tokens = xs} first more) f stop
-    (onward {next = k} {token = y} {tokens = ys} second others) g stops e =
-    let same : x ≡ y = cc in
-    let tails : xs ++ t ∷ zs ≡ ys ++ u ∷ ws = cc in
-    let both = way m x a (pushed n) (pushed k) first (subst (λ z. Feeds m z a (pushed k)) (sym same) second) in
-    let levels : n ≡ k = cc in
-    let on = one_stop t u zs ws out other way more f stop (subst (λ s. Reads m s ys c) (sym levels) others) g stops
-    tails in
-    (ap₂ (λ z zs. z ∷ zs) same on.0, on.1, on.2, on.3)
-
--- they read no token at which they stop
-not_all_read : {m : Machine} {a b c : List Level} {xs ys : List (Token ℕ)} (t : Token ℕ) (zs : List (Token ℕ))
-    (out : Fed) → FeedsInOneWay → Reads m a xs b → Feeds m t b out → IsStop out → Reads m a ys c
-    → xs ++ t ∷ zs ≡ ys → ⊥
-not_all_read t zs out way at_end f stop at_end e = cc
-not_all_read t zs out way (onward first more) f stop at_end e = cc
-not_all_read {m} {a} t zs out way at_end f stop (onward {next = n} {token = y} first more) e =
-    let same : t ≡ y = cc in
-    subst IsStop (way m t a out (pushed n) f (subst (λ x. Feeds m x a (pushed n)) (sym same) first)) stop
-not_all_read {m} {a} {c = c} t zs out way (onward {next = n} {token = x} {tokens = xs} first more) f stop
-    (onward {next = k} {token = y} {tokens = ys} second others) e =
-    let same : x ≡ y = cc in
-    let tails : xs ++ t ∷ zs ≡ ys = cc in
-    let both = way m x a (pushed n) (pushed k) first (subst (λ z. Feeds m z a (pushed k)) (sym same) second) in
-    let levels : n ≡ k = cc in
-    not_all_read t zs out way more f stop (subst (λ s. Reads m s ys c) (sym levels) others) tails
-
--- what is said where the tables stop at a token; where it is refused, these terminals are expected
-abbrev said_of : List (Token ℕ) → Token ℕ → List ℕ → Fed → Verdict
-said_of before t ts (fed.done d) = accepted d
-said_of before t ts fed.refused = refused (length before + 1) t ts
-said_of before t ts _ = faulty
+-- what is said where the tables stop at a token behind so many; where it is refused, these terminals are expected
+abbrev said_of : ℕ → List (Token ℕ) → Token ℕ → List ℕ → Fed → Verdict
+said_of count before t ts (fed.done d) = accepted d
+said_of count before t ts fed.refused = refused (count + length before + 1) t ts
+said_of count before t ts _ = faulty
 
 -- of the terminals that are expected nothing is said where none is refused
-said_alike : (before : List (Token ℕ)) (t : Token ℕ) (ts us : List ℕ) (out : Fed) → (out ≡ fed.refused → ts ≡ us)
-    → said_of before t ts out ≡ said_of before t us out
-said_alike before t ts us (fed.done d) same = refl
-said_alike before t ts us fed.refused same = ap (refused (length before + 1) t) (same refl)
-said_alike before t ts us (pushed next) same = refl
-said_alike before t ts us fed.faulty same = refl
+said_alike : (count : ℕ) (before : List (Token ℕ)) (t : Token ℕ) (ts us : List ℕ) (out : Fed)
+    → (out ≡ fed.refused → ts ≡ us) → said_of count before t ts out ≡ said_of count before t us out
+said_alike count before t ts us (fed.done d) same = refl
+said_alike count before t ts us fed.refused same = ap (refused (count + length before + 1) t) (same refl)
+said_alike count before t ts us (pushed next) same = refl
+said_alike count before t ts us fed.faulty same = refl
 
 -- and where a run of the scanner ends before the end of the text
 abbrev said_at : End → Verdict
@@ -91,30 +45,30 @@ abbrev IsEarly : End → Type 0
 IsEarly Clean = ⊥
 IsEarly _ = Unit {0}
 
-module _ (p : ScanPart) (m : Machine) (text : List ℕ) where
+module _ (p : ScanPart) (m : Machine) (w : Progress) (end : Token ℕ) where
   -- The tables stop at a token.
   record Stops (v : Verdict) : Type 0 where
     before : List (Token ℕ)
     token : Token ℕ
     out : Fed
-    comes : Comes p m text before token out
+    comes : Comes p m w end before token out
     stop : IsStop out
     expected : List ℕ
     listed : out ≡ fed.refused → AreExpected m (states_on comes.last) expected
-    said : v ≡ said_of before token expected out
+    said : v ≡ said_of w.count before token expected out
 
   -- All tokens are read, and the scanner's run ends before the end of the text.
   record Breaks (v : Verdict) : Type 0 where
     e : End
-    all : ReadsAll p m text e
+    all : ReadsAll p m w e
     early : IsEarly e
     said : v ≡ said_at e
 
   -- a verdict says one or the other
-  seen : (v : Verdict) → IsVerdictBy p m text v → Stops v ⊎ Breaks v
+  seen : (v : Verdict) → IsSaidFrom p m w end v → Stops v ⊎ Breaks v
   seen (accepted d) h = inl (record {
     before = h.0.tokens;
-    token = end_of text;
+    token = end;
     out = fed.done d;
     comes = record {
       tokens = h.0.tokens;
@@ -155,7 +109,7 @@ module _ (p : ScanPart) (m : Machine) (text : List ℕ) where
   seen faulty (inr h) = inr (record { e = BadCut h.0; all = h.1; early = tt; said = refl })
 
   -- early, a parser is fed with the tokens alone
-  fed_early : (ts : List (Token ℕ)) (e : End) → IsEarly e → fed_with text ts e ≡ ts
+  fed_early : (ts : List (Token ℕ)) (e : End) → IsEarly e → fed_with end ts e ≡ ts
   fed_early ts Clean h = absurd h
   fed_early ts (Stuck byte) h = refl
   fed_early ts (BadCut byte) h = refl
@@ -164,26 +118,26 @@ module _ (p : ScanPart) (m : Machine) (text : List ℕ) where
   both_stop v u way a b =
       let x = a.comes in
       let y = b.comes in
-      let same = one_tokens p text x.tokens y.tokens x.e y.e x.are_tokens y.are_tokens in
-      let fed_same = sym x.split ∙ (ap₂ (λ ts e. fed_with text ts e) same.0 same.1 ∙ y.split) in
+      let same = one_tokens p w.place x.tokens y.tokens x.e y.e x.are_tokens y.are_tokens in
+      let fed_same = sym x.split ∙ (ap₂ (λ ts e. fed_with end ts e) same.0 same.1 ∙ y.split) in
       let on = one_stop a.token b.token x.behind y.behind a.out b.out way x.reads x.feeds a.stop y.reads y.feeds b.stop
       fed_same in
       let lists = λ (r : b.out ≡ fed.refused). one_list m (states_on y.last) a.expected b.expected
       (subst (λ l. AreExpected m (states_on l) a.expected) on.3 (a.listed (on.2 ∙ r))) (b.listed r) in
-      a.said ∙ (ap₂ (λ ts t. said_of ts t a.expected a.out) on.0 on.1
-      ∙ (ap (said_of b.before b.token a.expected) on.2
-      ∙ (said_alike b.before b.token a.expected b.expected b.out lists ∙ sym b.said)))
+      a.said ∙ (ap₂ (λ ts t. said_of w.count ts t a.expected a.out) on.0 on.1
+      ∙ (ap (said_of w.count b.before b.token a.expected) on.2
+      ∙ (said_alike w.count b.before b.token a.expected b.expected b.out lists ∙ sym b.said)))
 
   never_both : (v u : Verdict) → FeedsInOneWay → Stops v → Breaks u → ⊥
   never_both v u way a b =
       let x = a.comes in
       let y = b.all in
-      let same = one_tokens p text x.tokens y.tokens x.e b.e x.are_tokens y.are_tokens in
-      let fed_same = sym x.split ∙ (ap₂ (λ ts e. fed_with text ts e) same.0 same.1 ∙ fed_early y.tokens b.e b.early) in
+      let same = one_tokens p w.place x.tokens y.tokens x.e b.e x.are_tokens y.are_tokens in
+      let fed_same = sym x.split ∙ (ap₂ (λ ts e. fed_with end ts e) same.0 same.1 ∙ fed_early y.tokens b.e b.early) in
       not_all_read a.token x.behind a.out way x.reads x.feeds a.stop y.reads fed_same
 
-  -- a text has one verdict
-  pub one_verdict : (v u : Verdict) → FeedsInOneWay → IsVerdictBy p m text v → IsVerdictBy p m text u → v ≡ u
+  -- one thing is said
+  pub one_verdict : (v u : Verdict) → FeedsInOneWay → IsSaidFrom p m w end v → IsSaidFrom p m w end u → v ≡ u
   one_verdict v u way a b = by_seen (seen v a) (seen u b)
     where
       by_seen : Stops v ⊎ Breaks v → Stops u ⊎ Breaks u → v ≡ u
@@ -191,5 +145,5 @@ module _ (p : ScanPart) (m : Machine) (text : List ℕ) where
       by_seen (inl x) (inr y) = absurd (never_both v u way x y)
       by_seen (inr x) (inl y) = absurd (never_both u v way y x)
       by_seen (inr x) (inr y) = x.said
-          ∙ (ap said_at (one_tokens p text x.all.tokens y.all.tokens x.e y.e x.all.are_tokens y.all.are_tokens).1
+          ∙ (ap said_at (one_tokens p w.place x.all.tokens y.all.tokens x.e y.e x.all.are_tokens y.all.are_tokens).1
           ∙ sym y.said)
