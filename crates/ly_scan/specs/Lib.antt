@@ -1,9 +1,11 @@
 pub mod Cuts
 pub mod Lexer
+pub mod Lexers
 pub mod LoneBytes
 pub mod Matching
 pub mod Pieces
 pub mod Private
 pub mod StateRows
 pub mod StateWalk
+pub mod Stub
 pub mod Walk

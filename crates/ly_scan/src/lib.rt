@@ -12,6 +12,7 @@ mod lexer;
 mod lone_bytes;
 mod matching;
 mod state_rows;
+mod stub;
 mod steps;
 
 pub use lexer::next_lexeme;
@@ -19,3 +20,4 @@ pub use lone_bytes::LoneBytes;
 pub use matching::{Match, next_match};
 pub use state_rows::{RowStart, StateRows};
 pub use steps::Steps;
+pub use stub::{Lexer, Matcher};

@@ -1,4 +1,4 @@
-ghost use Rattle.std.specs.Prelude.{◌≡◌, map, option_map};
+ghost use Rattle.std.specs.Prelude.{◌≡◌, length, map, option_map};
 ghost use Rattle.std.specs.Int.{w16};
 ghost use Rattle.ly_pack.specs.Steady.{IsSteady};
 ghost use Rattle.ly_pack.specs.Values.{rule_from};
@@ -140,7 +140,8 @@ impl TableSet {
 
     /// The terminal of each byte as a literal, 1 where there is none.
     pub fn literals(&self) -> &[Sym]
-        ensures { map (λ t. t.0) result.now ≡ self.now.literals }
+        ensures literals { map (λ t. t.0) result.now ≡ self.now.literals }
+        ensures all { length result.now ≡ 256 }
     {
         &self.literals
     }
