@@ -1,4 +1,4 @@
-ghost use Rattle.ly_drive.specs.Laws.{HasOneVerdict, HasSomeVerdict};
+ghost use Rattle.ly_drive.specs.Laws.{DecidedChangesNothing, HasOneVerdict, HasSomeVerdict};
 
 use ly_parse::a_token_is_fed_in_one_way;
 
@@ -13,3 +13,11 @@ pub fn a_text_has_one_verdict()
 pub fn a_text_has_a_verdict()
     ensures { HasSomeVerdict }
 {}
+
+/// Of what is left of a text the same is said before and behind matches that are decided, whatever comes behind the
+/// bytes that are known.
+pub fn decided_matches_change_nothing()
+    ensures { DecidedChangesNothing }
+{
+    a_token_is_fed_in_one_way();
+}

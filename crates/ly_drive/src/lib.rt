@@ -22,5 +22,5 @@ mod tables;
 
 pub use driving::{drive, run};
 pub use fault::DriveFault;
-pub use laws::{a_text_has_a_verdict, a_text_has_one_verdict};
+pub use laws::{a_text_has_a_verdict, a_text_has_one_verdict, decided_matches_change_nothing};
 pub use outcome::Outcome;
