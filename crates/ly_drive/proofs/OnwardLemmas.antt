@@ -1,15 +1,15 @@
 -- Decided matches change nothing of what is said, whatever comes.
-use Rattle.std.proofs.Common.{◌≡◌, ◌∙◌, ◌+◌, ◌≤◌, ℕ, List, [], ◌++◌, Option, ap, ap₂, append-nil, arith, drop}
-use Rattle.std.proofs.Common.{length, length-append, length-drop, refl, subst, sym, take}
+use Rattle.std.proofs.Common.{◌≡◌, ◌↔◌, ◌∙◌, ◌+◌, ◌≤◌, ℕ, List, [], ◌++◌, Option, ap, ap₂, append-nil, arith}
+use Rattle.std.proofs.Common.{drop, length, length-append, length-drop, refl, subst, sym, take}
 use Rattle.std.specs.Prelude.{Bool, false, true}
 use Rattle.std.proofs.lemmas.List.{drop-append-le, take-append-le}
-use Rattle.ly_base.specs.Lexed.{Place, after_line, moved, place_after, token_if}
+use Rattle.ly_base.specs.Lexed.{Place, after_line, moved, place_after, start_of, token_if}
 use Rattle.ly_base.specs.declared.lexeme.Lexeme.{Lexeme}
 use Rattle.ly_drive.proofs.RestLemmas.{IsStep, passing, reading, said_back, said_front, token_here}
 use Rattle.ly_drive.specs.Onward.{AreAlike, IsSettled, Onward, and_passes, and_reads, none_yet, passed_on, read_on}
 use Rattle.ly_drive.specs.Private.Passing.{ArePassedOver}
 use Rattle.ly_drive.specs.ScanPart.{ScanPart, condition_in, scanner_in, terminal_in}
-use Rattle.ly_drive.specs.TableAnswer.{IsRest, IsSaidFrom, Progress, end_at, with_more}
+use Rattle.ly_drive.specs.TableAnswer.{IsRest, IsSaidFrom, IsVerdictBy, Progress, begun, end_at, end_of, with_more}
 use Rattle.ly_drive.specs.Verdict.{Verdict}
 use Rattle.ly_pack.specs.Machine.{Machine}
 use Rattle.ly_parse.specs.FeedingLaws.{FeedsInOneWay}
@@ -61,6 +61,15 @@ module _ (p : ScanPart) (m : Machine) where
       = end_stays (condition_in p) w.place t within ∙ ap end_at (sym step.place) in (
         λ h. subst (λ e. IsSaidFrom p m u e v) end (said_back p m w u t step (end_at w.place) v way h),
         λ h. said_front p m w u t step (end_at w.place) v (subst (λ e. IsSaidFrom p m u e v) (sym end) h),
+      )
+
+  -- what is said of the rest of a text of which nothing is read is said of the text
+  pub from_start : (text : List ℕ) (v : Verdict) → IsRest p m (begun text) v ↔ IsVerdictBy p m text v
+  from_start text v =
+      let at : 0 + length text ≡ length text = omega arith in
+      let end : end_at (start_of text) ≡ end_of text = λ i. record { terminal = 0; at = at i; bytes = [] } in (
+        subst (λ e. IsSaidFrom p m (begun text) e v) end,
+        subst (λ e. IsSaidFrom p m (begun text) e v) (sym end),
       )
 
 module _ (ended : Bool) (p : ScanPart) (m : Machine) where

@@ -1,9 +1,9 @@
 -- What holds of the answers by tables.
-use Rattle.std.specs.Prelude.{◌≡◌, ℕ, List, Bool}
+use Rattle.std.specs.Prelude.{◌≡◌, ◌↔◌, ℕ, List, Bool}
 use Rattle.std.specs.Int.{Width}
 use Rattle.ly_drive.specs.Onward.{AreAlike, Onward}
-use Rattle.ly_drive.specs.ScanPart.{ScanPart}
-use Rattle.ly_drive.specs.TableAnswer.{IsVerdict, Progress}
+use Rattle.ly_drive.specs.ScanPart.{ScanPart, scan_part_of}
+use Rattle.ly_drive.specs.TableAnswer.{IsRest, IsVerdict, Progress, begun}
 use Rattle.ly_drive.specs.Verdict.{Verdict}
 use Rattle.ly_pack.specs.Machine.{Machine}
 use Rattle.ly_pack.specs.Steady.{IsSteady}
@@ -23,3 +23,8 @@ HasSomeVerdict = (w : Width) (counts : Counts) (s : TableSet) → IsWithinRanges
 abbrev pub DecidedChangesNothing : Type 0
 DecidedChangesNothing = (ended : Bool) (p : ScanPart) (m : Machine) (w u : Progress) → Onward ended p m w u
     → AreAlike ended p m w u
+
+-- what a table set says of the rest of a text of which nothing is read is what it says of the text
+abbrev pub BeginningSaysIt : Type 0
+BeginningSaysIt = (s : TableSet) (text : List ℕ) (v : Verdict)
+    → IsRest (scan_part_of s) (machine_of s) (begun text) v ↔ IsVerdict s text v

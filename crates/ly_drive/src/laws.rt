@@ -1,4 +1,4 @@
-ghost use Rattle.ly_drive.specs.Laws.{DecidedChangesNothing, HasOneVerdict, HasSomeVerdict};
+ghost use Rattle.ly_drive.specs.Laws.{BeginningSaysIt, DecidedChangesNothing, HasOneVerdict, HasSomeVerdict};
 
 use ly_parse::a_token_is_fed_in_one_way;
 
@@ -21,3 +21,8 @@ pub fn decided_matches_change_nothing()
 {
     a_token_is_fed_in_one_way();
 }
+
+/// What a table set says of the rest of a text of which nothing is read is what it says of the text.
+pub fn a_beginning_says_it()
+    ensures { BeginningSaysIt }
+{}

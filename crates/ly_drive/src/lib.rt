@@ -22,5 +22,8 @@ mod tables;
 
 pub use driving::{drive, run};
 pub use fault::DriveFault;
-pub use laws::{a_text_has_a_verdict, a_text_has_one_verdict, decided_matches_change_nothing};
+pub use laws::{
+    a_beginning_says_it, a_text_has_a_verdict, a_text_has_one_verdict,
+    decided_matches_change_nothing,
+};
 pub use outcome::Outcome;
