@@ -14,7 +14,7 @@ use Rattle.ly_drive.specs.Answering.{IsAnsweredBy}
 use Rattle.ly_drive.specs.Private.Running.{words_in, CanRun, IsRun}
 use Rattle.ly_drive.specs.Private.Tables.{by_bytes}
 use Rattle.ly_drive.specs.ScanPart.{scan_part_of, terminal_by, terminal_in}
-use Rattle.ly_drive.specs.TableAnswer.{IsVerdict, IsVerdictBy, TableAnswer}
+use Rattle.ly_drive.specs.TableAnswer.{IsVerdict, IsVerdictBy, TableAnswer, begun, end_of}
 use Rattle.ly_drive.specs.Verdict.{Verdict, accepted, faulty, printed}
 use Rattle.ly_drive.specs.Vocabularies.{constructor_in, name_in, vocabulary_of}
 use Rattle.ly_drive.specs.declared.fault.DriveFault.{DriveFault}
@@ -74,7 +74,7 @@ verdict_of : (T : Tables) (s : TableSet) (read text : List ℕ) (v : Verdict) �
     → T.machine ≡ machine_of s → read ≡ text → IsVerdictBy T.scanner T.machine read v → IsVerdict s text v
 verdict_of T s read text v scanner machine same is = subst (λ x. IsVerdictBy (scan_part_of s) (machine_of s) x v) same
     (subst (λ m. IsVerdictBy (scan_part_of s) m read v) machine
-    (same_verdict s T.machine read v (subst (λ p. IsVerdictBy p T.machine read v) scanner is)))
+    (same_verdict s T.machine (begun read) (end_of read) v (subst (λ p. IsVerdictBy p T.machine read v) scanner is)))
 
 words_of_set : (T : Tables) (s : TableSet) → map (λ name. name.items) T.terminals.items ≡ s.terminals
     → T.machine ≡ machine_of s → words_in T ≡ vocabulary_of s

@@ -1,4 +1,4 @@
--- A part with a class for each byte says of a text what the part by classes says.
+-- A part with a class for each byte says of what is left of a text what the part by classes says.
 use Rattle.std.proofs.Common.{◌≡◌, ◌∙◌, ◌≤◌, ℕ, List, Option, Some, None, ap, arith, inl, inr, length, refl, slice_get}
 use Rattle.std.proofs.Common.{subst, sym}
 use Rattle.std.specs.List.{range_with_len}
@@ -6,13 +6,13 @@ use Rattle.std.specs.Prelude.{option_and_then}
 use Rattle.std.proofs.lemmas.Bool.{cases_lt}
 use Rattle.std.proofs.lemmas.List.FromFn.{length-range_with_len}
 use Rattle.std.proofs.lemmas.Option.{slice_get_past}
-use Rattle.ly_base.specs.Lexed.{Lexed, Token, start_of}
+use Rattle.ly_base.specs.Lexed.{Lexed, Token}
 use Rattle.ly_base.specs.declared.lexeme.End.{End}
 use Rattle.ly_base.proofs.ListLemmas.{slice_get-range}
 use Rattle.ly_drive.specs.Private.Tables.{by_bytes}
 use Rattle.ly_drive.specs.ScanPart.{condition_in, cut_in, next_in, rule_in, scan_part_of, scanner_in, start_in}
 use Rattle.ly_drive.specs.ScanPart.{states_from}
-use Rattle.ly_drive.specs.TableAnswer.{AreTokens, Comes, IsVerdictBy, ReadsAll}
+use Rattle.ly_drive.specs.TableAnswer.{AreTokens, Comes, IsSaidFrom, Progress, ReadsAll}
 use Rattle.ly_drive.specs.Verdict.{Verdict, accepted, faulty, refused, unmatched}
 use Rattle.ly_pack.proofs.GridLemmas.{cell-grid_of, cell-grid_of_past}
 use Rattle.ly_pack.specs.Machine.{Machine}
@@ -58,17 +58,17 @@ module _ (s : TableSet) where
     cut = cut_in (scan_part_of s);
   } in scanner) (λ i state byte. same_next state byte i)
 
-  module _ (m : Machine) (text : List ℕ) where
-    same_tokens : (tokens : List (Token ℕ)) (e : End) → AreTokens (by_bytes (scan_part_of s)) text tokens e
-        → AreTokens (scan_part_of s) text tokens e
+  module _ (m : Machine) (w : Progress) (end : Token ℕ) where
+    same_tokens : (tokens : List (Token ℕ)) (e : End) → AreTokens (by_bytes (scan_part_of s)) w.place tokens e
+        → AreTokens (scan_part_of s) w.place tokens e
     same_tokens tokens e a = record {
       lexemes = a.lexemes;
       lexed = subst (λ scanner. Lexed (IsLexemeAt scanner) (ScanEndsAt scanner) (condition_in (scan_part_of s))
-          (start_of text) a.lexemes e) same_scanner a.lexed;
+          w.place a.lexemes e) same_scanner a.lexed;
       are_of_lexemes = a.are_of_lexemes;
     }
 
-    same_reading : (e : End) → ReadsAll (by_bytes (scan_part_of s)) m text e → ReadsAll (scan_part_of s) m text e
+    same_reading : (e : End) → ReadsAll (by_bytes (scan_part_of s)) m w e → ReadsAll (scan_part_of s) m w e
     same_reading e r = record {
       tokens = r.tokens;
       are_tokens = same_tokens r.tokens e r.are_tokens;
@@ -77,7 +77,7 @@ module _ (s : TableSet) where
     }
 
     same_coming : (before : List (Token ℕ)) (t : Token ℕ) (out : fed.Fed)
-        → Comes (by_bytes (scan_part_of s)) m text before t out → Comes (scan_part_of s) m text before t out
+        → Comes (by_bytes (scan_part_of s)) m w end before t out → Comes (scan_part_of s) m w end before t out
     same_coming before t out c = record {
       tokens = c.tokens;
       e = c.e;
@@ -89,9 +89,9 @@ module _ (s : TableSet) where
       feeds = c.feeds;
     }
 
-    -- and what becomes of a text
-    pub same_verdict : (v : Verdict) → IsVerdictBy (by_bytes (scan_part_of s)) m text v
-        → IsVerdictBy (scan_part_of s) m text v
+    -- and what is said
+    pub same_verdict : (v : Verdict) → IsSaidFrom (by_bytes (scan_part_of s)) m w end v
+        → IsSaidFrom (scan_part_of s) m w end v
     unfolding same_coming same_reading
     same_verdict (accepted d) is = (same_reading _ is.0, is.1)
     same_verdict (refused k t ts) is = (is.0, same_coming is.0 t fed.refused is.1, is.2, is.3)

@@ -4,10 +4,14 @@ pub mod FaultLemmas
 pub mod FeedingLemmas
 pub mod LabelLemmas
 pub mod OneVerdictLemmas
+pub mod OnwardLemmas
 pub mod PassingLemmas
 pub mod ReadingLemmas
+pub mod RestLemmas
 pub mod RunningLemmas
 pub mod ScanTableLemmas
+pub mod SettledLemmas
 pub mod SomeVerdictLemmas
+pub mod StopLemmas
 pub mod TablesLemmas
 pub mod TakingLemmas

@@ -1,19 +1,19 @@
--- A table set whose parser's runs end says something of every text.
+-- Tables whose parser's runs end say something of whatever is left of a text.
 use Rattle.std.proofs.Common.{◌≡◌, ◌∙◌, ◌⊎◌, inl, inr, ℕ, ◌+◌, ◌<◌, ◌≤◌, List, [], ◌∷◌, ◌++◌, All, Option, Some, None}
 use Rattle.std.proofs.Common.{ap, arith, drop, length, refl, take}
 use Rattle.std.proofs.lemmas.List.Elements.{All-cons, All-head, All-tail}
-use Rattle.ly_base.specs.Lexed.{Token, start_of, token_if, tokens_from}
+use Rattle.ly_base.specs.Lexed.{Token, token_if, tokens_from}
 use Rattle.ly_base.specs.declared.lexeme.End.{End}
 use Rattle.ly_base.specs.declared.lexeme.End.TheVariants.{BadCut, Clean, Stuck}
 use Rattle.ly_base.specs.declared.lexeme.Lexeme.{Lexeme}
 use Rattle.ly_drive.proofs.AnswerLemmas.{returned}
 use Rattle.ly_drive.proofs.FeedingLemmas.{accepts_end}
 use Rattle.ly_scan.proofs.LexingLemmas.{lexes}
-use Rattle.ly_drive.proofs.RunningLemmas.{fed_behind}
+use Rattle.ly_drive.proofs.RestLemmas.{fed_behind}
 use Rattle.ly_drive.specs.Laws.{HasSomeVerdict}
 use Rattle.ly_drive.specs.Private.Running.{CanRun}
 use Rattle.ly_drive.specs.ScanPart.{ScanPart, condition_in, scan_part_of, scanner_in, terminal_in}
-use Rattle.ly_drive.specs.TableAnswer.{AreTokens, Comes, IsVerdictBy, end_of, fed_with}
+use Rattle.ly_drive.specs.TableAnswer.{AreTokens, Comes, IsSaidFrom, Progress, begun, end_of, fed_with}
 use Rattle.ly_drive.specs.Verdict.{Verdict, accepted, faulty, refused, unmatched}
 use Rattle.ly_pack.specs.Machine.{Machine, IsMachine}
 use Rattle.ly_pack.specs.Steady.{IsSteady}
@@ -126,41 +126,44 @@ module _ (m : Machine) where
       by_out fed.refused feeds more = inr (halts fed.refused feeds tt)
       by_out fed.faulty feeds more = inr (halts fed.faulty feeds tt)
 
-module _ (p : ScanPart) (m : Machine) (text : List ℕ) where
+module _ (p : ScanPart) (m : Machine) (w : Progress) (end : Token ℕ) where
   abbrev Says : Type 0
-  Says = (v : Verdict) × IsVerdictBy p m text v
+  Says = (v : Verdict) × IsSaidFrom p m w end v
 
   -- what is said of a token that isn't read
   said_of : IsSteady m → (before : List (Token ℕ)) (t : Token ℕ) (out : Fed) → IsHalt m out
-      → (comes : Comes p m text before t out) → IsStack m (states_on comes.last) → Says
+      → (comes : Comes p m w end before t out) → IsStack m (states_on comes.last) → Says
   said_of calm before t fed.refused halt comes edges =
       let list = are_listed m comes.last calm edges in
-      (refused (length before + 1) t list.0, (before, comes, refl, list.1))
+      (refused (w.count + length before + 1) t list.0, (before, comes, refl, list.1))
   said_of calm before t fed.faulty halt comes edges = (faulty, inl (before, t, comes))
   said_of calm before t (fed.done d) halt comes edges = absurd halt
   said_of calm before t (pushed next) halt comes edges = absurd halt
 
   -- a token of the text isn't read
-  halted : IsSteady m → (tokens : List (Token ℕ)) (e : End) → AreTokens p text tokens e → HaltsAt m [] tokens → Says
+  halted : IsSteady m → (tokens : List (Token ℕ)) (e : End) → AreTokens p w.place tokens e
+      → HaltsAt m w.stack tokens → Says
   halted calm tokens e are h = said_of calm h.before h.token h.out h.halt (record {
     tokens = tokens;
     e = e;
     are_tokens = are;
-    behind = fed_with text h.behind e;
-    split = ap (λ ts. fed_with text ts e) h.split ∙ (fed_behind text e h.before (h.token ∷ h.behind)
-        ∙ ap (λ ts. h.before ++ ts) (fed_behind text e (h.token ∷ []) h.behind));
+    behind = fed_with end h.behind e;
+    split = ap (λ ts. fed_with end ts e) h.split ∙ (fed_behind end e h.before (h.token ∷ h.behind)
+        ∙ ap (λ ts. h.before ++ ts) (fed_behind end e (h.token ∷ []) h.behind));
     last = h.last;
     reads = h.reads;
     feeds = h.feeds;
   }) h.edges
 
   -- all are read, and then the end
-  closed : CanRun p m → (tokens : List (Token ℕ)) → AreTokens p text tokens Clean → AreRead m [] tokens → Says
-  closed can tokens are r =
-      let it = settles_on_steady m (end_of text) r.last can.steady can.terminals r.edges in
+  closed : CanRun p m → end.terminal ≡ 0 → (tokens : List (Token ℕ)) → AreTokens p w.place tokens Clean
+      → AreRead m w.stack tokens → Says
+  closed can is_end tokens are r =
+      let some = can.terminals in
+      let it = settles_on_steady m end r.last can.steady (omega (arith, is_end, some)) r.edges in
       by_out it.0 it.1
     where
-      comes : (out : Fed) → Feeds m (end_of text) r.last out → Comes p m text tokens (end_of text) out
+      comes : (out : Fed) → Feeds m end r.last out → Comes p m w end tokens end out
       comes out feeds = record {
         tokens = tokens;
         e = Clean;
@@ -172,44 +175,46 @@ module _ (p : ScanPart) (m : Machine) (text : List ℕ) where
         feeds = feeds;
       }
 
-      by_out : (out : Fed) → Feeds m (end_of text) r.last out → Says
-      by_out (pushed next) feeds = absurd (end_not_read m (end_of text) can.machine refl feeds)
+      by_out : (out : Fed) → Feeds m end r.last out → Says
+      by_out (pushed next) feeds = absurd (end_not_read m end can.machine is_end feeds)
       by_out (fed.done d) feeds = (
         accepted d,
         (record { tokens = tokens; are_tokens = are; last = r.last; reads = r.reads }, feeds),
       )
-      by_out fed.refused feeds = said_of can.steady tokens (end_of text) fed.refused tt
-          (comes fed.refused feeds) r.edges
-      by_out fed.faulty feeds = said_of can.steady tokens (end_of text) fed.faulty tt
-          (comes fed.faulty feeds) r.edges
+      by_out fed.refused feeds = said_of can.steady tokens end fed.refused tt (comes fed.refused feeds) r.edges
+      by_out fed.faulty feeds = said_of can.steady tokens end fed.faulty tt (comes fed.faulty feeds) r.edges
 
   -- all are read, and the scanner's run ends so
-  ended : CanRun p m → (tokens : List (Token ℕ)) (e : End) → AreTokens p text tokens e → AreRead m [] tokens → Says
-  ended can tokens Clean are r = closed can tokens are r
-  ended can tokens (Stuck byte) are r
+  ended : CanRun p m → end.terminal ≡ 0 → (tokens : List (Token ℕ)) (e : End) → AreTokens p w.place tokens e
+      → AreRead m w.stack tokens → Says
+  ended can is_end tokens Clean are r = closed can is_end tokens are r
+  ended can is_end tokens (Stuck byte) are r
       = (unmatched byte, record { tokens = tokens; are_tokens = are; last = r.last; reads = r.reads })
-  ended can tokens (BadCut byte) are r
+  ended can is_end tokens (BadCut byte) are r
       = (faulty, inr (byte, record { tokens = tokens; are_tokens = are; last = r.last; reads = r.reads }))
 
-  -- something is said of the text
-  some_verdict : CanRun p m → Says
-  some_verdict can =
-      let on = lexes (scanner_in p) (condition_in p) (length text) (start_of text) (omega arith) in
-      let tokens = tokens_from (terminal_in p) 0 text on.0 in
-      let are : AreTokens p text tokens on.1
+  -- something is said
+  pub some_verdict : CanRun p m → end.terminal ≡ 0 → IsStack m (states_on w.stack) → Says
+  some_verdict can is_end edges =
+      let q = w.place in
+      let on = lexes (scanner_in p) (condition_in p) (length q.rest) q (omega arith) in
+      let tokens = tokens_from (terminal_in p) q.at q.rest on.0 in
+      let are : AreTokens p q tokens on.1
       = record { lexemes = on.0; lexed = on.2; are_of_lexemes = refl } in
-      by_run tokens on.1 are (read_or_halt m can.machine can.steady tokens []
-      (all_returned m (terminal_in p) can.returned 0 text on.0) bottom)
+      by_run tokens on.1 are (read_or_halt m can.machine can.steady tokens w.stack
+      (all_returned m (terminal_in p) can.returned q.at q.rest on.0) edges)
     where
-      by_run : (tokens : List (Token ℕ)) (e : End) → AreTokens p text tokens e
-          → AreRead m [] tokens ⊎ HaltsAt m [] tokens → Says
-      by_run tokens e are (inl r) = ended can tokens e are r
+      by_run : (tokens : List (Token ℕ)) (e : End) → AreTokens p w.place tokens e
+          → AreRead m w.stack tokens ⊎ HaltsAt m w.stack tokens → Says
+      by_run tokens e are (inl r) = ended can is_end tokens e are r
       by_run tokens e are (inr h) = halted can.steady tokens e are h
 
+-- of a whole text a table set says something
 pub has_some_verdict : HasSomeVerdict
-has_some_verdict w counts s within steady text = some_verdict (scan_part_of s) (machine_of s) text (record {
-  machine = within.machine;
-  steady = steady;
-  terminals = (let two = within.terminals in omega (arith, two));
-  returned = returned w counts s within;
-})
+has_some_verdict w counts s within steady text =
+    some_verdict (scan_part_of s) (machine_of s) (begun text) (end_of text) (record {
+      machine = within.machine;
+      steady = steady;
+      terminals = (let two = within.terminals in omega (arith, two));
+      returned = returned w counts s within;
+    }) refl bottom

@@ -1,8 +1,11 @@
 -- What holds of the answers by tables.
-use Rattle.std.specs.Prelude.{◌≡◌, ℕ, List}
+use Rattle.std.specs.Prelude.{◌≡◌, ◌↔◌, ℕ, List, Bool}
 use Rattle.std.specs.Int.{Width}
-use Rattle.ly_drive.specs.TableAnswer.{IsVerdict}
+use Rattle.ly_drive.specs.Onward.{AreAlike, Onward}
+use Rattle.ly_drive.specs.ScanPart.{ScanPart, scan_part_of}
+use Rattle.ly_drive.specs.TableAnswer.{IsRest, IsVerdict, Progress, begun}
 use Rattle.ly_drive.specs.Verdict.{Verdict}
+use Rattle.ly_pack.specs.Machine.{Machine}
 use Rattle.ly_pack.specs.Steady.{IsSteady}
 use Rattle.ly_tables.specs.Ranges.{Counts, IsWithinRanges}
 use Rattle.ly_tables.specs.TableSet.{TableSet, machine_of}
@@ -15,3 +18,13 @@ HasOneVerdict = (s : TableSet) (text : List ℕ) (v u : Verdict) → IsVerdict s
 abbrev pub HasSomeVerdict : Type 0
 HasSomeVerdict = (w : Width) (counts : Counts) (s : TableSet) → IsWithinRanges w counts s → IsSteady (machine_of s)
     → (text : List ℕ) → (v : Verdict) × IsVerdict s text v
+
+-- matches that are decided change nothing of what tables say of the rest of a text, whatever comes
+abbrev pub DecidedChangesNothing : Type 0
+DecidedChangesNothing = (ended : Bool) (p : ScanPart) (m : Machine) (w u : Progress) → Onward ended p m w u
+    → AreAlike ended p m w u
+
+-- what a table set says of the rest of a text of which nothing is read is what it says of the text
+abbrev pub BeginningSaysIt : Type 0
+BeginningSaysIt = (s : TableSet) (text : List ℕ) (v : Verdict)
+    → IsRest (scan_part_of s) (machine_of s) (begun text) v ↔ IsVerdict s text v

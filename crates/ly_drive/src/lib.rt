@@ -30,6 +30,9 @@ pub use driving::{drive, run};
 pub use fault::DriveFault;
 pub use feed::Feed;
 pub use feed_fault::FeedFault;
-pub use laws::{a_text_has_a_verdict, a_text_has_one_verdict};
+pub use laws::{
+    a_beginning_says_it, a_text_has_a_verdict, a_text_has_one_verdict,
+    decided_matches_change_nothing,
+};
 pub use need::Need;
 pub use outcome::Outcome;
