@@ -59,24 +59,6 @@ not_accepted s r t root step h goes low is call =
     let is_end = accepts_end h fed.1 in
     omega (arith, low, is_end)
 
--- what is said of a refused token, by words, a list and a place that are the same
-pub refused_told : (v w : Vocabulary) (s r : Parse) (t : Token ℕ) (k byte at : ℕ) (expected : Vec Sym Global)
-    (given : List Sym) (lines : List ℕ) (step : Step) → s.over ≡ false → step ≡ Refused k byte expected
-    → IsCall s t r (Ok step) → w ≡ v → given ≡ expected.items → (byte ≡ t.at → at ≡ t.at)
-    → lines ≡ printed w (refused k (record { terminal = t.terminal; at = at; bytes = t.bytes })
-    (map (λ x. x.0) given)) → IsRefusal v s t (Syntax k byte expected) lines
-refused_told v w s r t k byte at expected given lines step goes is call words same there told =
-    let fed = (subst (λ x. IsCall s t r (Ok x)) is call).before_end goes in
-    let here : ℕ → Token ℕ = λ b. record { terminal = t.terminal; at = b; bytes = t.bytes } in
-    let ts = map (λ x. x.0) expected.items in (
-      ts,
-      fed.0,
-      fed.3,
-      (fed.1, fed.2, refl),
-      told ∙ (ap₂ (λ v xs. printed v (refused k (here at) (map (λ x. x.0) xs))) words same
-          ∙ (ap (λ b. printed v (refused k (here b) ts)) (there fed.2) ∙ ap (λ n. printed v (refused n t ts)) fed.1)),
-    )
-
 -- one token more is read
 pub reads_more : {m : Machine} {a b c : List Level} {ts : List (Token ℕ)} (t : Token ℕ) → Reads m a ts b
     → Feeds m t b (pushed c) → Reads m a (ts ++ t ∷ []) c

@@ -6,7 +6,7 @@ use Rattle.ly_base.specs.Lexed.{Token, token_if, tokens_from}
 use Rattle.ly_base.specs.declared.lexeme.End.{End}
 use Rattle.ly_base.specs.declared.lexeme.End.TheVariants.{BadCut, Clean, Stuck}
 use Rattle.ly_base.specs.declared.lexeme.Lexeme.{Lexeme}
-use Rattle.ly_drive.proofs.AnswerLemmas.{returned}
+use Rattle.ly_drive.proofs.ReturnedLemmas.{returned}
 use Rattle.ly_drive.proofs.FeedingLemmas.{accepts_end}
 use Rattle.ly_scan.proofs.LexingLemmas.{lexes}
 use Rattle.ly_drive.proofs.RestLemmas.{fed_behind}

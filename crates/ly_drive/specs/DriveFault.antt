@@ -1,6 +1,8 @@
 -- The faults of the parts as faults of driving.
 use Rattle.ly_drive.specs.declared.fault.DriveFault.{DriveFault}
 use Rattle.ly_drive.specs.declared.fault.DriveFault.TheVariants.{OutOfMemory, TableFault, Tables, Write}
+use Rattle.ly_drive.specs.declared.run_fault.RunFault.{RunFault}
+use Rattle.ly_drive.specs.declared.run_fault.RunFault.TheVariants as run
 use Rattle.ly_tables.specs.declared.fault.TableFault as code
 use Rattle.ly_tables.specs.declared.fault.TableFault.TheVariants as file
 
@@ -12,6 +14,11 @@ fault_of_tables file.Trailing = Tables file.Trailing
 fault_of_tables (file.OutOfRange section) = Tables (file.OutOfRange section)
 fault_of_tables file.Endless = Tables file.Endless
 fault_of_tables file.OutOfMemory = OutOfMemory
+
+-- a fault of a run, as it is told
+abbrev pub drive_fault_of : RunFault → DriveFault
+drive_fault_of run.TableFault = TableFault
+drive_fault_of run.OutOfMemory = OutOfMemory
 
 -- a write failed
 abbrev pub IsWrite : DriveFault → Type 0

@@ -5,5 +5,4 @@ pub mod LexerOf
 pub mod Passing
 pub mod Reading
 pub mod Running
-pub mod Tables
 pub mod Window

@@ -1,7 +1,8 @@
 ghost use Rattle.std.specs.Prelude.{◌≡◌};
-ghost use Rattle.ly_drive.specs.DriveFault.{fault_of_tables};
+ghost use Rattle.ly_drive.specs.DriveFault.{drive_fault_of, fault_of_tables};
 ghost use Rattle.ly_drive.specs.declared.fault.DriveFault.TheVariants.{OutOfMemory, Write};
 
+use crate::run_fault::RunFault;
 use ly_base::{OutOfMemory as NoMemory, WriteFault};
 use ly_tables::TableFault as FileFault;
 use std::alloc::AllocError;
@@ -59,6 +60,17 @@ impl From<FileFault> for DriveFault {
         match fault {
             FileFault::OutOfMemory => DriveFault::OutOfMemory,
             fault => DriveFault::Tables(fault),
+        }
+    }
+}
+
+impl From<RunFault> for DriveFault {
+    ghost from_gives = { λ fault e. e ≡ drive_fault_of fault };
+
+    fn from(fault: RunFault) -> DriveFault {
+        match fault {
+            RunFault::TableFault => DriveFault::TableFault,
+            RunFault::OutOfMemory => DriveFault::OutOfMemory,
         }
     }
 }

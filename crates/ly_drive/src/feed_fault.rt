@@ -1,7 +1,8 @@
 ghost use Rattle.std.specs.Prelude.{◌≡◌};
-ghost use Rattle.ly_drive.specs.FeedFaultNames.{feed_fault_name, feed_fault_number};
+ghost use Rattle.ly_drive.specs.FeedFaultNames.{feed_fault_name, feed_fault_number, feed_fault_of};
 ghost use Rattle.ly_drive.specs.declared.feed_fault.FeedFault.TheVariants.{OutOfMemory};
 
+use crate::run_fault::RunFault;
 use ly_base::OutOfMemory as NoMemory;
 use std::alloc::AllocError;
 use thiserror::Error;
@@ -63,5 +64,16 @@ impl From<NoMemory> for FeedFault {
 
     fn from(_error: NoMemory) -> FeedFault {
         FeedFault::OutOfMemory
+    }
+}
+
+impl From<RunFault> for FeedFault {
+    ghost from_gives = { λ fault e. e ≡ feed_fault_of fault };
+
+    fn from(fault: RunFault) -> FeedFault {
+        match fault {
+            RunFault::TableFault => FeedFault::TableFault,
+            RunFault::OutOfMemory => FeedFault::OutOfMemory,
+        }
     }
 }

@@ -23,6 +23,7 @@ mod names;
 mod need;
 mod outcome;
 mod reading;
+mod run_fault;
 mod running;
 mod window;
 

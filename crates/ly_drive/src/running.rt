@@ -1,14 +1,15 @@
 ghost use Rattle.std.specs.Prelude.{◌≡◌, ◌<◌, ◌≤◌, ℕ, List, [], Bool, length, false};
 ghost use Rattle.ly_drive.specs.Private.Flaw.{token_of};
-ghost use Rattle.ly_drive.specs.Private.Running.{progress_of, CanRun, IsClosed, IsFed, IsLast, IsLexerOf, IsRunOn, IsTaken};
+ghost use Rattle.ly_drive.specs.Private.LexerOf.{IsLexerOf};
+ghost use Rattle.ly_drive.specs.Private.Running.{progress_of, CanRun, IsClosed, IsFed, IsLast, IsRunOn, IsTaken};
 ghost use Rattle.ly_drive.specs.ScanPart.{scan_part_of, scanner_in, terminal_by, terminal_in};
 ghost use Rattle.ly_pack.specs.Machine.{IsMachine};
 ghost use Rattle.ly_scan.specs.Pieces.{StandsFast};
 ghost use Rattle.ly_tables.specs.TableSet.{machine_of};
 
-use crate::feed_fault::FeedFault;
 use crate::flaw::Flaw;
 use crate::meaning::{action, terminal};
+use crate::run_fault::RunFault;
 use ly_base::{Emitted, End, Front, Lexeme, Place, ScanAction, StateNo, Sym};
 use ly_pack::{Comb, TableAction};
 use ly_parse::{ParseFault, Parser, Step, Token};
@@ -28,12 +29,12 @@ pub(crate) fn run_on<'t>(
     parser: &mut TableParser<'_>,
     place: &mut Place<'t>,
     ended: bool,
-) -> Result<Option<Flaw<'t>>, FeedFault>
+) -> Result<Option<Flaw<'t>>, RunFault>
     requires lexer { IsLexerOf (scan_part_of set.now) lexer.now }
     requires runs { CanRun (scan_part_of set.now) (machine_of set.now) }
     requires machine { parser.old.machine ≡ machine_of set.now }
     requires goes_on { parser.old.over ≡ false }
-    ensures { IsRunOn ended (scan_part_of set.now) (machine_of set.now) (progress_of place.old parser.old) place.new
+    ensures runs { IsRunOn ended (scan_part_of set.now) (machine_of set.now) (progress_of place.old parser.old) place.new
         parser.new result }
     ensures machine { parser.new.machine ≡ parser.old.machine }
 {
@@ -42,7 +43,7 @@ pub(crate) fn run_on<'t>(
             Ok(Some(lexeme)) => lexeme,
             Ok(None) | Err(End::Clean) => return Ok(None),
             Err(End::Stuck { byte }) => return Ok(Some(Flaw::NoRule { byte: byte as u64 })),
-            Err(End::BadCut { .. }) => return Err(FeedFault::TableFault),
+            Err(End::BadCut { .. }) => return Err(RunFault::TableFault),
         };
         let ScanAction { begin, emits } = action(set, lexeme.rule);
         if let Some(flaw) = take(set, parser, place, lexeme, emits)? {
@@ -61,7 +62,7 @@ fn take<'t>(
     place: &Place<'t>,
     lexeme: Lexeme,
     emits: Emitted,
-) -> Result<Option<Flaw<'t>>, FeedFault>
+) -> Result<Option<Flaw<'t>>, RunFault>
     requires runs { CanRun (scan_part_of set.now) (machine_of set.now) }
     requires machine { parser.old.machine ≡ machine_of set.now }
     requires goes_on { parser.old.over ≡ false }
@@ -69,7 +70,7 @@ fn take<'t>(
     requires within { lexeme.taken ≤ length place.now.rest }
     requires emits { (bytes : List ℕ) → terminal_by (scan_part_of set.now) bytes emits
         ≡ terminal_in (scan_part_of set.now) lexeme.rule.0 bytes }
-    ensures { (ended : Bool) → StandsFast ended (scanner_in (scan_part_of set.now)) place.now lexeme
+    ensures taken { (ended : Bool) → StandsFast ended (scanner_in (scan_part_of set.now)) place.now lexeme
         → IsTaken ended (scan_part_of set.now) (machine_of set.now) (progress_of place.now parser.old) lexeme parser.new
         result }
     ensures machine { parser.new.machine ≡ parser.old.machine }
@@ -87,12 +88,12 @@ fn take<'t>(
 fn feed<'t>(
     parser: &mut TableParser<'_>,
     token: Token<'t>,
-) -> Result<Option<Flaw<'t>>, FeedFault>
+) -> Result<Option<Flaw<'t>>, RunFault>
     requires machine { IsMachine parser.old.machine }
     requires goes_on { parser.old.over ≡ false }
     requires not_end { 1 ≤ token.terminal.0 }
     requires terminal { token.terminal.0 < parser.old.machine.terminals }
-    ensures { IsFed parser.old (token_of token.entry) parser.new result }
+    ensures fed { IsFed parser.old (token_of token.entry) parser.new result }
     ensures machine { parser.new.machine ≡ parser.old.machine }
 {
     match parser.feed(&token) {
@@ -110,8 +111,8 @@ fn feed<'t>(
                 expected,
             }),
         ),
-        Err(ParseFault::TableFault) => Err(FeedFault::TableFault),
-        Err(ParseFault::OutOfMemory) => Err(FeedFault::OutOfMemory),
+        Err(ParseFault::TableFault) => Err(RunFault::TableFault),
+        Err(ParseFault::OutOfMemory) => Err(RunFault::OutOfMemory),
         // the end alone is accepted
         Ok(Step::Done(_)) => unreachable!(),
         Err(ParseFault::Over) => unreachable!(),
@@ -133,7 +134,7 @@ pub(crate) fn run_to_end<'t>(
     lexer: &Lexer,
     parser: &mut TableParser<'_>,
     place: &mut Place<'t>,
-) -> Result<Ended<'t>, FeedFault>
+) -> Result<Ended<'t>, RunFault>
     requires lexer { IsLexerOf (scan_part_of set.now) lexer.now }
     requires runs { CanRun (scan_part_of set.now) (machine_of set.now) }
     requires machine { parser.old.machine ≡ machine_of set.now }
@@ -151,7 +152,7 @@ pub(crate) fn run_to_end<'t>(
 fn close<'t>(
     parser: &mut TableParser<'_>,
     place: &Place<'t>,
-) -> Result<Ended<'t>, FeedFault>
+) -> Result<Ended<'t>, RunFault>
     requires goes_on { parser.old.over ≡ false }
     requires terminals { 0 < parser.old.machine.terminals }
     requires ended { place.now.rest ≡ [] }
@@ -180,8 +181,8 @@ fn close<'t>(
                 }),
             )
         }
-        Err(ParseFault::TableFault) => Err(FeedFault::TableFault),
-        Err(ParseFault::OutOfMemory) => Err(FeedFault::OutOfMemory),
+        Err(ParseFault::TableFault) => Err(RunFault::TableFault),
+        Err(ParseFault::OutOfMemory) => Err(RunFault::OutOfMemory),
         // the end is never read, and the parse isn't over
         Ok(Step::More) | Err(ParseFault::Over) => unreachable!(),
     }

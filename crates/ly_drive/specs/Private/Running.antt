@@ -8,8 +8,8 @@ use Rattle.ly_drive.specs.ScanPart.{ScanPart, condition_in, scanner_in, terminal
 use Rattle.ly_drive.specs.TableAnswer.{Progress, IsRest}
 use Rattle.ly_drive.specs.Verdict.{Verdict, accepted, faulty, refused}
 use Rattle.ly_drive.specs.Vocabularies.{constructor_in, name_in}
-use Rattle.ly_drive.specs.declared.feed_fault.FeedFault.{FeedFault}
-use Rattle.ly_drive.specs.declared.feed_fault.FeedFault.TheVariants.{OutOfMemory, TableFault}
+use Rattle.ly_drive.specs.declared.run_fault.RunFault.{RunFault}
+use Rattle.ly_drive.specs.declared.run_fault.RunFault.TheVariants.{OutOfMemory, TableFault}
 use Rattle.ly_drive.specs.declared.flaw.Flaw.{Flaw}
 use Rattle.ly_drive.specs.declared.names.Names.{Names}
 use Rattle.ly_drive.specs.declared.running.Ended.{Ended}
@@ -48,23 +48,21 @@ progress_of q s = record { place = q; stack = s.stack; count = s.count }
 
 -- What a parse that isn't over does with a token of the text: it reads the token and goes on, or the token is refused,
 -- or the tables are at fault. Want of memory says nothing.
-abbrev pub IsFed : Parse → Token ℕ → Parse → Result (Option Flaw) FeedFault → Type 0
+abbrev pub IsFed : Parse → Token ℕ → Parse → Result (Option Flaw) RunFault → Type 0
 IsFed s t r (Ok None) = Feeds s.machine t s.stack (pushed r.stack) × (r.count ≡ s.count + 1) × (r.over ≡ false)
 IsFed s t r (Ok (Some flaw)) = (ts : _) × Feeds s.machine t s.stack fed.refused
     × AreExpected s.machine (states_on s.stack) ts × (verdict_of flaw ≡ refused (s.count + 1) t ts)
 IsFed s t r (Err TableFault) = Feeds s.machine t s.stack fed.faulty
 IsFed s t r (Err OutOfMemory) = Unit {0}
-IsFed s t r (Err _) = ⊥
 
 -- What becomes of a lexeme: the run goes on behind it, or something is wrong, or the tables are at fault, whatever
 -- comes. Want of memory says nothing.
-abbrev pub IsTaken : Bool → ScanPart → Machine → Progress → Lexeme → Parse → Result (Option Flaw) FeedFault → Type 0
+abbrev pub IsTaken : Bool → ScanPart → Machine → Progress → Lexeme → Parse → Result (Option Flaw) RunFault → Type 0
 IsTaken ended p m w t r (Ok None) = Onward ended p m w (progress_of (place_after (condition_in p) w.place t) r)
     × (r.over ≡ false)
 IsTaken ended p m w t r (Ok (Some flaw)) = IsSettled ended p m w (verdict_of flaw)
 IsTaken ended p m w t r (Err TableFault) = IsSettled ended p m w faulty
 IsTaken ended p m w t r (Err OutOfMemory) = Unit {0}
-IsTaken ended p m w t r (Err _) = ⊥
 
 -- a run halts at a place where the next match isn't decided, or at the end of the text
 abbrev pub Halts : Bool → ScanPart → Place → Type 0
@@ -73,12 +71,11 @@ Halts false p q = IsUndecided (scanner_in p) q
 
 -- How far a run comes: to where it halts, the parse not being over; or something is wrong, or the tables are at fault,
 -- whatever comes. Want of memory says nothing.
-abbrev pub IsRunOn : Bool → ScanPart → Machine → Progress → Place → Parse → Result (Option Flaw) FeedFault → Type 0
+abbrev pub IsRunOn : Bool → ScanPart → Machine → Progress → Place → Parse → Result (Option Flaw) RunFault → Type 0
 IsRunOn ended p m w q r (Ok None) = Onward ended p m w (progress_of q r) × Halts ended p q × (r.over ≡ false)
 IsRunOn ended p m w q r (Ok (Some flaw)) = IsSettled ended p m w (verdict_of flaw)
 IsRunOn ended p m w q r (Err TableFault) = IsSettled ended p m w faulty
 IsRunOn ended p m w q r (Err OutOfMemory) = Unit {0}
-IsRunOn ended p m w q r (Err _) = ⊥
 
 -- the end as a token, where it stands at a byte
 abbrev pub end_token : ℕ → Token ℕ
@@ -86,14 +83,13 @@ end_token at = record { terminal = 0; at = at; bytes = [] }
 
 -- What a parse that isn't over does with the end of the text, which stands at a byte: it accepts it with a term that
 -- the forest pays for, or refuses it, or the tables are at fault. Want of memory says nothing.
-abbrev pub IsLast : Parse → ℕ → Grown → Result Ended FeedFault → Type 0
+abbrev pub IsLast : Parse → ℕ → Grown → Result Ended RunFault → Type 0
 IsLast s at forest (Ok (Accepted root)) = (d : Term) × Feeds s.machine (end_token at) s.stack (done d)
     × StandsFor forest root d × IsPaid forest d
 IsLast s at forest (Ok (Refused flaw)) = (ts : _) × Feeds s.machine (end_token at) s.stack fed.refused
     × AreExpected s.machine (states_on s.stack) ts × (verdict_of flaw ≡ refused (s.count + 1) (end_token at) ts)
 IsLast s at forest (Err TableFault) = Feeds s.machine (end_token at) s.stack fed.faulty
 IsLast s at forest (Err OutOfMemory) = Unit {0}
-IsLast s at forest (Err _) = ⊥
 
 -- the verdict that a value stands for, where a forest has the terms
 abbrev pub IsVerdictOf : Grown → Ended → Verdict → Type 0
@@ -107,8 +103,7 @@ IsThere forest (Refused flaw) = Unit {0}
 
 -- What comes of a text that has ended: what the value stands for is said of it, or the tables are at fault. Want of
 -- memory says nothing.
-abbrev pub IsClosed : ScanPart → Machine → Progress → Grown → Result Ended FeedFault → Type 0
+abbrev pub IsClosed : ScanPart → Machine → Progress → Grown → Result Ended RunFault → Type 0
 IsClosed p m w forest (Ok ended) = (v : Verdict) × IsRest p m w v × IsVerdictOf forest ended v × IsThere forest ended
 IsClosed p m w forest (Err TableFault) = IsRest p m w faulty
 IsClosed p m w forest (Err OutOfMemory) = Unit {0}
-IsClosed p m w forest (Err _) = ⊥
