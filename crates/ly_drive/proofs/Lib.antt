@@ -6,6 +6,7 @@ pub mod LabelLemmas
 pub mod OneVerdictLemmas
 pub mod OnwardLemmas
 pub mod PassingLemmas
+pub mod PieceLemmas
 pub mod ReadingLemmas
 pub mod RestLemmas
 pub mod RunningLemmas
