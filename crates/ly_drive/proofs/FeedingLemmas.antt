@@ -1,26 +1,17 @@
 -- What feeding a token leads to.
-use Rattle.std.proofs.Common.{◌≡◌, ◌∙◌, ℕ, ◌≤◌, List, [], ◌∷◌, ◌++◌, Option, Some, None, Ok}
-use Rattle.std.proofs.Common.{ap, ap₂, arith, refl, subst}
-use Rattle.std.specs.Prelude.{false, map}
-use Rattle.std.specs.Global.{Global}
-use Rattle.std.specs.declared.vec.Vec.{Vec}
-use Rattle.ly_base.specs.declared.numbers.Sym.{Sym}
+use Rattle.std.proofs.Common.{◌≡◌, ◌∙◌, ℕ, ◌≤◌, List, Option, Some, None, Ok}
+use Rattle.std.proofs.Common.{arith, refl, subst}
+use Rattle.std.specs.Prelude.{false}
 use Rattle.ly_base.specs.Lexed.{Token}
-use Rattle.ly_drive.specs.Private.Running.{IsRefusal}
-use Rattle.ly_drive.specs.Verdict.{printed, refused}
-use Rattle.ly_drive.specs.declared.outcome.Outcome.TheVariants.{Syntax}
 use Rattle.ly_pack.specs.Machine.{Machine, TableAction, TableRule, accept, action_of, error, goto_at, reduce, shift}
 use Rattle.ly_pack.specs.Machine.{IsMachine}
 use Rattle.ly_pack.specs.Steady.{rule_at}
 use Rattle.ly_parse.specs.Feeding.{Feeds, Level, done, go_to, onward, perform, pop, pushed, reduce_by, settled, settles}
 use Rattle.ly_parse.specs.Feeding.{top_of, uncover}
 use Rattle.ly_parse.specs.Parse.{IsCall, Parse}
-use Rattle.ly_parse.specs.Reading.{Reads, at_end}
-use Rattle.ly_parse.specs.Reading as reading
 use Rattle.ly_parse.specs.declared.step.Step.{Step}
-use Rattle.ly_parse.specs.declared.step.Step.TheVariants.{Done, Refused}
+use Rattle.ly_parse.specs.declared.step.Step.TheVariants.{Done}
 use Rattle.ly_parse.proofs.FeedingLemmas.{legal}
-use Rattle.ly_tree.specs.Shown.{Vocabulary}
 use Rattle.ly_tree.specs.Term.{Term, Terms, none}
 use Rattle.ly_tree.specs.declared.forest.TermRef.{TermRef}
 
@@ -58,9 +49,3 @@ not_accepted s r t root step h goes low is call =
     let fed = (subst (λ x. IsCall s t r (Ok x)) is call).before_end goes in
     let is_end = accepts_end h fed.1 in
     omega (arith, low, is_end)
-
--- one token more is read
-pub reads_more : {m : Machine} {a b c : List Level} {ts : List (Token ℕ)} (t : Token ℕ) → Reads m a ts b
-    → Feeds m t b (pushed c) → Reads m a (ts ++ t ∷ []) c
-reads_more t at_end fed = reading.onward fed at_end
-reads_more t (reading.onward first more) fed = reading.onward first (reads_more t more fed)

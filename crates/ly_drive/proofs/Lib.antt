@@ -3,6 +3,7 @@ pub mod FeedingLemmas
 pub mod LabelLemmas
 pub mod OneVerdictLemmas
 pub mod OnwardLemmas
+pub mod PieceLemmas
 pub mod ReadingLemmas
 pub mod RestLemmas
 pub mod ReturnedLemmas

@@ -45,7 +45,7 @@ fast_of ended s q t fast = record {
 }
 
 -- behind a lexeme the end of a text stays where it was
-end_stays : (next : ℕ → Option ℕ) (q : Place) (t : Lexeme) → t.taken ≤ length q.rest
+pub end_stays : (next : ℕ → Option ℕ) (q : Place) (t : Lexeme) → t.taken ≤ length q.rest
     → end_at q ≡ end_at (place_after next q t)
 end_stays next q t within =
     let at : q.at + length q.rest ≡ q.at + t.taken + length (drop t.taken q.rest)

@@ -36,10 +36,10 @@ pub(crate) fn write_ended<W: Sink>(
     writer: &mut W,
 ) -> Result<Outcome, DriveFault>
     requires { IsThere forest.now ended }
-    ensures ok { IfOk result (λ o. (v : Verdict) → IsVerdictOf forest.now ended v → IsOutcome v o
+    ensures ok { IfOk result (λ o. (v : Verdict) → IsVerdictOf forest.now ended.entry v → IsOutcome v o
         × Appends (W.contents writer.old) (W.contents writer.new) (printed (vocabulary_of set.now) v)) }
     ensures beginning { (written : ℕ) (v : Verdict) → result ≡ Err (DriveFault.Write written)
-        → IsVerdictOf forest.now ended v
+        → IsVerdictOf forest.now ended.entry v
         → IsCutShort (W.contents writer.old) (W.contents writer.new) written (printed (vocabulary_of set.now) v) }
     ensures of_writing { IfErr result IsOfWriting }
     ensures write { IfErr result (λ e. IsWrite e → W.failures writer.new ≡ next_count (W.failures writer.old)) }
@@ -92,8 +92,8 @@ pub(crate) fn told(
     set: &TableSet,
     flaw: Flaw<'_>,
 ) -> Result<(Outcome, Vec<u8>), OutOfMemory>
-    ensures { IfOk result (λ told. IsOutcome (verdict_of flaw) told.0
-        × (told.1.items ≡ printed (vocabulary_of set.now) (verdict_of flaw))) }
+    ensures { IfOk result (λ told. IsOutcome (verdict_of flaw.entry) told.0
+        × (told.1.items ≡ printed (vocabulary_of set.now) (verdict_of flaw.entry))) }
 {
     let names = Names::of(set);
     let mut lines = Vec::new(alloc);

@@ -8,7 +8,7 @@ use Rattle.ly_base.specs.Lexed.{Token, start_of, tokens_from}
 use Rattle.ly_base.specs.declared.lexeme.End.{End}
 use Rattle.ly_base.specs.declared.lexeme.End.TheVariants.{BadCut, Clean, Stuck}
 use Rattle.ly_drive.specs.ScanPart.{condition_in, scan_part_of, scanner_in}
-use Rattle.ly_drive.specs.TableAnswer.{AreTokens, Comes, IsVerdict, end_of, fed_with}
+use Rattle.ly_drive.specs.TableAnswer.{AreTokens, Comes, IsVerdict, begun, end_of, fed_with}
 use Rattle.ly_drive.specs.Verdict.{Verdict, accepted, faulty, refused, unmatched}
 use Rattle.ly_emit.specs.Following.{bottom}
 use Rattle.ly_emit.specs.Laws.{AreOf}
@@ -94,7 +94,7 @@ module _ (file : LexFile) (w : Written) (s : Spec) (set : TableSet) (g : IsGener
   all_classes : length set.classes ≡ 256
   all_classes = g.within.all_classes
 
-  tokens_of : (tokens : List (Token ℕ)) (e : End) → AreTokens (scan_part_of set) text tokens e
+  tokens_of : (tokens : List (Token ℕ)) (e : End) → AreTokens (scan_part_of set) (start_of text) tokens e
       → AreTokensOf file s text tokens e
   unfolding scanner
   tokens_of tokens e a = record {
@@ -122,7 +122,8 @@ module _ (file : LexFile) (w : Written) (s : Spec) (set : TableSet) (g : IsGener
   two : 2 ≤ length s.terminals
   two = omega (arith, g.within.terminals, ap length g.is_set.terminals ∙ length-map s.terminals _)
 
-  all_of : (tokens : List (Token ℕ)) (e : End) → AreTokens (scan_part_of set) text tokens e → AreOf g.automaton tokens
+  all_of : (tokens : List (Token ℕ)) (e : End) → AreTokens (scan_part_of set) (start_of text) tokens e
+      → AreOf g.automaton tokens
   unfolding tokens_of
   all_of tokens e a = subst (λ n. All (λ t. t.terminal < n) tokens) terminals_are
       (all_below s.terminals (tokens_from (naming file.actions.items) 0 text a.lexemes) tokens two
@@ -131,14 +132,15 @@ module _ (file : LexFile) (w : Written) (s : Spec) (set : TableSet) (g : IsGener
   end_below : 0 < g.automaton.grammar.terminals
   end_below = omega (arith, two, terminals_are)
 
-  fed_all : (tokens : List (Token ℕ)) (e : End) → AreTokens (scan_part_of set) text tokens e
-      → AreOf g.automaton (fed_with text tokens e)
+  fed_all : (tokens : List (Token ℕ)) (e : End) → AreTokens (scan_part_of set) (start_of text) tokens e
+      → AreOf g.automaton (fed_with (end_of text) tokens e)
   fed_all tokens Clean a = one_more g.automaton tokens (end_of text) (all_of tokens Clean a) end_below
   fed_all tokens (Stuck b) a = all_of tokens (Stuck b) a
   fed_all tokens (BadCut b) a = all_of tokens (BadCut b) a
 
   come_all : (before : List (Token ℕ)) (t : Token ℕ) (out : fed.Fed)
-      (c : Comes (scan_part_of set) (machine_of set) text before t out) → AreOf g.automaton (before ++ t ∷ c.behind)
+      (c : Comes (scan_part_of set) (machine_of set) (begun text) (end_of text) before t out)
+      → AreOf g.automaton (before ++ t ∷ c.behind)
   come_all before t out c = subst (AreOf g.automaton) c.split (fed_all c.tokens c.e c.are_tokens)
 
   -- what the tables expect behind tokens that they read, the reference machine would read
@@ -175,7 +177,7 @@ module _ (file : LexFile) (w : Written) (s : Spec) (set : TableSet) (g : IsGener
       c.split,
       refused_follow s g.automaton (machine_of set) g.is_automaton g.useful g.is_set.machine before c.behind t c.last
           (up_to g.automaton before c.behind t (come_all before t fed.refused c)) c.reads c.feeds,
-      count,
+      omega (arith, count),
       next_of before c.last ts (before_it g.automaton before c.behind t (come_all before t fed.refused c)) c.reads
           expected,
     ),

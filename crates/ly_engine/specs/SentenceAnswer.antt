@@ -6,7 +6,7 @@ use Rattle.ly_base.specs.Shape.{Shape}
 use Rattle.ly_base.specs.Trees.{Tree, yield_of}
 use Rattle.ly_base.specs.declared.lexeme.End.{End}
 use Rattle.ly_base.specs.declared.lexeme.End.TheVariants.{Clean, Stuck}
-use Rattle.ly_drive.specs.TableAnswer.{IsVerdict, fed_with}
+use Rattle.ly_drive.specs.TableAnswer.{IsVerdict, end_of, fed_with}
 use Rattle.ly_drive.specs.Verdict.{Verdict, accepted, faulty, refused, unmatched}
 use Rattle.ly_emit.specs.Tables.{shape_in}
 use Rattle.ly_engine.specs.Generated.{IsGenerated}
@@ -38,7 +38,7 @@ abbrev pub IsSentenceVerdict : Grammar → (ℕ → Shape) → List ℕ → List
 IsSentenceVerdict G shape text tokens e (accepted term) = (e ≡ Clean) × (d : Tree) × IsOnlyDerivation G tokens d
     × (term ≡ build shape d)
 IsSentenceVerdict G shape text tokens e (refused k t ts) = (before behind : List (Token ℕ))
-    × (fed_with text tokens e ≡ before ++ t ∷ behind) × IsFirstWrong G before t × (k ≡ length before + 1)
+    × (fed_with (end_of text) tokens e ≡ before ++ t ∷ behind) × IsFirstWrong G before t × (k ≡ length before + 1)
     × AreContinuing G before ts
 IsSentenceVerdict G shape text tokens e (unmatched byte) = (e ≡ Stuck byte) × IsSentencePrefix G tokens
 IsSentenceVerdict G shape text tokens e faulty = ⊥

@@ -62,7 +62,7 @@ abbrev pub IsMachineVerdict : Grammar → Judge → (ℕ → Shape) → List ℕ
 IsMachineVerdict G judge shape text tokens e (accepted term) = (e ≡ Clean) × (d : Tree)
     × AcceptsWith G judge (tokens ++ end_of text ∷ []) d × (term ≡ build shape d)
 IsMachineVerdict G judge shape text tokens e (refused k t ts) = (before behind : List (Token ℕ))
-    × (fed_with text tokens e ≡ before ++ t ∷ behind) × RefusesAfter G judge (before ++ t ∷ behind) before
+    × (fed_with (end_of text) tokens e ≡ before ++ t ∷ behind) × RefusesAfter G judge (before ++ t ∷ behind) before
     × (k ≡ length before + 1) × AreNext G judge before ts
 IsMachineVerdict G judge shape text tokens e (unmatched byte) = (e ≡ Stuck byte) × (stack : List Pushed)
     × ReadsTo G judge tokens stack
