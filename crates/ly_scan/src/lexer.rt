@@ -8,13 +8,11 @@ use ly_base::{End, Lexeme, Place};
 /// What is taken at a place of a text: the longest match there, its rule, and the token that the rule's cut leaves. Or
 /// how a run over the text ends there.
 #[inline(always)] // as `longest`
-pub fn next_lexeme<S: Steps>(steps: &mut S, place: &Place<'_>) -> Result<Lexeme, End>
+pub fn next_lexeme<S: Steps>(steps: &S, place: &Place<'_>) -> Result<Lexeme, End>
     ensures lexeme { IfOk result
-        (IsLexemeAt (record { walk = S.walk steps.old; cut = S.cut_of steps.old }) place.now) }
+        (IsLexemeAt (record { walk = S.walk steps.now; cut = S.cut_of steps.now }) place.now) }
     ensures within { IfOk result (λ t. (0 < t.taken) × (t.taken ≤ length place.now.rest)) }
-    ensures end { IfErr result (ScanEndsAt (record { walk = S.walk steps.old; cut = S.cut_of steps.old }) place.now) }
-    ensures same_walk { S.walk steps.new ≡ S.walk steps.old }
-    ensures same_cuts { S.cut_of steps.new ≡ S.cut_of steps.old }
+    ensures end { IfErr result (ScanEndsAt (record { walk = S.walk steps.now; cut = S.cut_of steps.now }) place.now) }
 {
     let rest = place.rest();
     if rest.is_empty() {

@@ -26,15 +26,8 @@ pub enum Match {
 /// The longest match of one or more bytes at the front of `rest`, which begins at a condition, at
 /// the start of a line or not (POSIX, lex: "the longest possible match"). The walk says which rule
 /// it is, where several match the same bytes.
-pub fn next_match<S: Steps>(
-    steps: &mut S,
-    condition: u32,
-    at_line_start: bool,
-    rest: &[u8],
-) -> Match
-    ensures found { IsMatch (S.walk steps.old condition at_line_start) (S.cut_of steps.old) rest.now result }
-    ensures same_walk { S.walk steps.new ≡ S.walk steps.old }
-    ensures same_cuts { S.cut_of steps.new ≡ S.cut_of steps.old }
+pub fn next_match<S: Steps>(steps: &S, condition: u32, at_line_start: bool, rest: &[u8]) -> Match
+    ensures { IsMatch (S.walk steps.now condition at_line_start) (S.cut_of steps.now) rest.now result }
 {
     match longest(steps, condition, at_line_start, rest) {
         None => Match::Stuck,
@@ -48,14 +41,12 @@ pub fn next_match<S: Steps>(
 /// The length of the longest walk that has a rule, and the rule.
 #[inline(always)] // by a call a lexeme takes a third more instructions
 pub(crate) fn longest<S: Steps>(
-    steps: &mut S,
+    steps: &S,
     condition: u32,
     at_line_start: bool,
     rest: &[u8],
 ) -> Option<(usize, RuleNo)>
-    ensures best { IsBest (S.walk steps.old condition at_line_start) rest.now (length rest.now) result }
-    ensures same_walk { S.walk steps.new ≡ S.walk steps.old }
-    ensures same_cuts { S.cut_of steps.new ≡ S.cut_of steps.old }
+    ensures { IsBest (S.walk steps.now condition at_line_start) rest.now (length rest.now) result }
 {
     let Some(start) = steps.start(condition, at_line_start) else {
         return None;
@@ -69,17 +60,15 @@ pub(crate) fn longest<S: Steps>(
 }
 
 /// Walks over bytes as far as it goes: how many they are, and where it stands behind them.
-fn walk_on<S: Steps>(steps: &mut S, start: S::At, bytes: &[u8]) -> (usize, S::At)
-    requires stands { S.stands steps.old start }
-    requires alive { is_some (S.ahead steps.old start []) ≡ true }
+fn walk_on<S: Steps>(steps: &S, start: S::At, bytes: &[u8]) -> (usize, S::At)
+    requires stands { S.stands steps.now start }
+    requires alive { is_some (S.ahead steps.now start []) ≡ true }
     ensures within { result.0 ≤ length bytes.now }
-    ensures stands { S.stands steps.new result.1 }
-    ensures alive { is_some (S.ahead steps.new result.1 []) ≡ true }
-    ensures ahead { (text : List ℕ) → S.ahead steps.new result.1 text
-        ≡ S.ahead steps.old start (take result.0 bytes.now ++ text) }
-    ensures ended { result.0 < length bytes.now → S.ahead steps.old start (take (result.0 + 1) bytes.now) ≡ None }
-    ensures same_walk { S.walk steps.new ≡ S.walk steps.old }
-    ensures same_cuts { S.cut_of steps.new ≡ S.cut_of steps.old }
+    ensures stands { S.stands steps.now result.1 }
+    ensures alive { is_some (S.ahead steps.now result.1 []) ≡ true }
+    ensures ahead { (text : List ℕ) → S.ahead steps.now result.1 text
+        ≡ S.ahead steps.now start (take result.0 bytes.now ++ text) }
+    ensures ended { result.0 < length bytes.now → S.ahead steps.now start (take (result.0 + 1) bytes.now) ≡ None }
 {
     let mut at = start;
     for (passed, byte) in bytes.iter().enumerate() {
@@ -93,24 +82,20 @@ fn walk_on<S: Steps>(steps: &mut S, start: S::At, bytes: &[u8]) -> (usize, S::At
 
 /// The best of the places that a walk passes.
 #[inline(never)] // so that the walk that goes on has the registers
-fn best_passed<S: Steps>(steps: &mut S, condition: u32, at_line_start: bool, rest: &[u8]) -> Best
-    ensures best { IsBest (S.walk steps.old condition at_line_start) rest.now (length rest.now) (found result) }
-    ensures same_walk { S.walk steps.new ≡ S.walk steps.old }
-    ensures same_cuts { S.cut_of steps.new ≡ S.cut_of steps.old }
+fn best_passed<S: Steps>(steps: &S, condition: u32, at_line_start: bool, rest: &[u8]) -> Best
+    ensures { IsBest (S.walk steps.now condition at_line_start) rest.now (length rest.now) (found result) }
 {
     Best::of(best_of_all(steps, condition, at_line_start, rest))
 }
 
 /// The best of the places that a walk passes, place by place.
 fn best_of_all<S: Steps>(
-    steps: &mut S,
+    steps: &S,
     condition: u32,
     at_line_start: bool,
     rest: &[u8],
 ) -> Option<(usize, RuleNo)>
-    ensures best { IsBest (S.walk steps.old condition at_line_start) rest.now (length rest.now) result }
-    ensures same_walk { S.walk steps.new ≡ S.walk steps.old }
-    ensures same_cuts { S.cut_of steps.new ≡ S.cut_of steps.old }
+    ensures { IsBest (S.walk steps.now condition at_line_start) rest.now (length rest.now) result }
 {
     let mut best = None;
     let Some(mut at) = steps.start(condition, at_line_start) else {
