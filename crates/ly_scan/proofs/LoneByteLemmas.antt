@@ -57,14 +57,22 @@ lone_in s passed l p [] e initial long h byte begins ends = absurd (omega (arith
 lone_in s passed l p (b ∷ []) e initial long h byte begins ends = absurd (omega (arith, long))
 lone_in s passed l p (b ∷ c ∷ more) e initial long h byte begins ends =
     let one = h.begin b p.line begins in
-    let found = longest (s.walk 0 p.line) b c more one.rule (h.stays_ended p.line) one.walked
-    (h.end b c p.line byte begins ends) in record {
+    let found : (after : List ℕ) → IsLongest (s.walk 0 p.line) ((b ∷ c ∷ more) ++ after)
+    (length ((b ∷ c ∷ more) ++ after)) 1 one.rule
+    = λ after. longest (s.walk 0 p.line) b c (more ++ after) one.rule (h.stays_ended p.line) one.walked
+    (h.end b c p.line byte begins ends) in
+    record {
       lexeme = record { rule = record { 0 = one.rule }; matched = 1; taken = 1 };
-      is = (
-        subst (λ k. IsLongest (s.walk k p.line) p.rest (length p.rest) 1 one.rule) (sym initial)
-            (subst (λ w. IsLongest (s.walk 0 p.line) w (length w) 1 one.rule) (sym e) found),
-        ap (λ k. token_len k 1) one.whole,
-      );
+      stands = record {
+        is = λ after follows. (
+          subst (λ k. IsLongest (s.walk k p.line) (p.rest ++ after) (length (p.rest ++ after)) 1 one.rule) (sym initial)
+              (subst (λ w. IsLongest (s.walk 0 p.line) (w ++ after) (length (w ++ after)) 1 one.rule) (sym e)
+              (found after)),
+          ap (λ k. token_len k 1) one.whole,
+        );
+        some = omega arith;
+        within = omega (arith, ap length e);
+      };
       one = refl;
       is_passed = one.is_passed;
     }

@@ -1,6 +1,7 @@
 pub mod Cuts
 pub mod Lexer
 pub mod LoneBytes
+pub mod Matcher
 pub mod Matching
 pub mod Pieces
 pub mod Private

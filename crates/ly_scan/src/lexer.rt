@@ -1,38 +1,52 @@
-ghost use Rattle.std.specs.Prelude.{◌≡◌, ◌<◌, ◌≤◌, length, IfErr, IfOk};
-ghost use Rattle.ly_scan.specs.Lexer.{ScanEndsAt, IsLexemeAt, Scanner};
+ghost use Rattle.std.specs.Prelude.{◌≡◌, ℕ, false, IfErr, IfOk, MatchOption};
+ghost use Rattle.ly_scan.specs.Lexer.{Scanner};
+ghost use Rattle.ly_scan.specs.Pieces.{EndsFast, IsUndecided, StandsFast};
 
-use crate::matching::{cut_down, longest};
+use crate::matching::{Match, known_match};
 use crate::steps::Steps;
 use ly_base::{End, Lexeme, Place};
 
 /// What is taken at a place of a text: the longest match there, its rule, and the token that the rule's cut leaves. Or
-/// how a run over the text ends there.
-#[inline(always)] // as `longest`
-pub fn next_lexeme<S: Steps>(steps: &S, place: &Place<'_>) -> Result<Lexeme, End>
-    ensures lexeme { IfOk result
-        (IsLexemeAt (record { walk = S.walk steps.now; cut = S.cut_of steps.now }) place.now) }
-    ensures within { IfOk result (λ t. (0 < t.taken) × (t.taken ≤ length place.now.rest)) }
-    ensures end { IfErr result (ScanEndsAt (record { walk = S.walk steps.now; cut = S.cut_of steps.now }) place.now) }
+/// how a run over the text ends there. `ended` says that no more of the text comes: else the answer is what it is
+/// whatever comes behind the bytes that are left, and None where these don't decide.
+#[inline(always)] // as `known_match`
+pub fn next_lexeme<S: Steps>(
+    steps: &S,
+    place: &Place<'_>,
+    ended: bool,
+) -> Result<Option<Lexeme>, End>
+    ensures found { let s : Scanner = record { walk = S.walk steps.now; cut = S.cut_of steps.now } in
+        IfOk result (λ o. MatchOption o ((ended ≡ false) × IsUndecided s place.now) (StandsFast ended s place.now)) }
+    ensures end { let s : Scanner = record { walk = S.walk steps.now; cut = S.cut_of steps.now } in
+        IfErr result (EndsFast ended s place.now) }
 {
     let rest = place.rest();
     if rest.is_empty() {
-        return Err(End::Clean);
+        return if ended { Err(End::Clean) } else { Ok(None) };
     }
-    // a walk that minds no line needn't wait for the byte before it
-    let found = if steps.minds_lines() {
-        longest(steps, place.condition(), place.at_line_start(), rest)
-    } else {
-        longest(steps, place.condition(), false, rest)
+    let line = line_at(steps, place);
+    let Some(found) = known_match(steps, place.condition(), line, rest, ended) else {
+        return Ok(None);
     };
-    let Some((matched, rule)) = found else {
-        return Err(End::Stuck { byte: place.at() });
-    };
-    match cut_down(steps.cut(rule), matched) {
-        Some(taken) => Ok(Lexeme {
+    match found {
+        Match::Win {
             rule,
             matched,
-            taken,
-        }),
-        None => Err(End::BadCut { byte: place.at() }),
+            token_len,
+        } => Ok(Some(Lexeme {
+            rule,
+            matched,
+            taken: token_len,
+        })),
+        Match::BadCut => Err(End::BadCut { byte: place.at() }),
+        Match::Stuck => Err(End::Stuck { byte: place.at() }),
     }
+}
+
+/// Whether a line begins at a place, as far as a walk minds it: one that doesn't needn't wait for the byte before it.
+#[inline(always)]
+fn line_at<S: Steps>(steps: &S, place: &Place<'_>) -> bool
+    ensures { (condition : ℕ) → S.walk steps.now condition result ≡ S.walk steps.now condition place.now.line }
+{
+    steps.minds_lines() && place.at_line_start()
 }

@@ -10,12 +10,14 @@
 
 mod lexer;
 mod lone_bytes;
+mod matcher;
 mod matching;
 mod state_rows;
 mod steps;
 
 pub use lexer::next_lexeme;
 pub use lone_bytes::LoneBytes;
+pub use matcher::Matcher;
 pub use matching::{Match, next_match};
 pub use state_rows::{RowStart, StateRows};
 pub use steps::Steps;
