@@ -144,3 +144,8 @@ module _ {P : Type 0} (walk : Walk) (ahead : P → Walk) (stands : P → Type 0)
       → IsUnderway walk ahead stands seen u → IsUnderway walk ahead stands (seen ++ bytes) u
   goes_on_still seen bytes u empty h = subst (λ t. IsUnderway walk ahead stands t u)
       (sym (append-nil seen) ∙ ap (λ t. seen ++ t) (sym (no_bytes bytes (grind (arith, nat_tests, empty))))) h
+
+  -- a match under way isn't decided
+  pub not_ended : (seen : List ℕ) (at : Option P) → StandsBehind walk ahead stands seen at → seen ≢ [] → walk seen ≢ None
+  not_ended seen None there some = absurd (some there.0)
+  not_ended seen (Some at) there some = λ ended. (let no : is_some {T = Option ℕ} None ≡ true = ap is_some (sym ended) ∙ there.2 in cc)

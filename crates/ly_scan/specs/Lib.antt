@@ -3,8 +3,10 @@ pub mod Lexer
 pub mod LoneBytes
 pub mod Matcher
 pub mod Matching
+pub mod PieceLexer
 pub mod Pieces
 pub mod Private
 pub mod StateRows
+pub mod StateTable
 pub mod StateWalk
 pub mod Walk

@@ -2,7 +2,7 @@ use Rattle.std.proofs.Common.{◌≡◌, ◌≢◌, ◌∙◌, [], ap, length}
 use Rattle.std.specs.Prelude.{◌==◌, false, true}
 use Rattle.ly_scan.proofs.PieceLemmas.{ends_cut, ends_stuck, match_at, stands_fast}
 use Rattle.ly_scan.specs.Lexer.{Scanner}
-use Rattle.ly_scan.proofs.lexer.next_lexeme.Goals as goal
+use Rattle.ly_scan.proofs.lexeme.next_lexeme.Goals as goal
 
 pub returns-in-Win-clause-found : goal.returns-in-Win-clause-found
 returns-in-Win-clause-found g c =
