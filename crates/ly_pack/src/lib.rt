@@ -2,9 +2,10 @@
 //! another.
 //!
 //! `Machine` is a parser as tables over any `Rows`: as they stand (`Dense`), or one over another with a check of the
-//! row in each slot (`Comb`). `choose_defaults` finds each state's most frequent reduction and leaves out the entries
-//! that are equal to it; `comb` places rows by first fit, those with the most entries first (Tarjan and Yao 1979), and
-//! `pack` a machine's. A machine's value is the same over any rows, so a packed one does what it did.
+//! row in each slot (`Comb`); `MachineView` is one whose tables are borrowed. `choose_defaults` finds each state's most
+//! frequent reduction and leaves out the entries that are equal to it; `comb` places rows by first fit, those with the
+//! most entries first (Tarjan and Yao 1979), and `pack` a machine's. A machine's value is the same over any rows, so a
+//! packed one does what it did.
 //!
 //! Left out: any search for combs shorter than those of first fit, and rows that are shared by equal states.
 #![tactic(auto)]
@@ -17,6 +18,7 @@ mod dense;
 mod laws;
 mod machine;
 mod machine_parts;
+mod machine_view;
 mod order;
 mod pack_machine;
 mod packed;
@@ -33,6 +35,7 @@ pub use dense::Dense;
 pub use laws::{runs_end, stacks_keep_edges};
 pub use machine::Machine;
 pub use machine_parts::MachineParts;
+pub use machine_view::MachineView;
 pub use pack_machine::pack;
 pub use packed::Packed;
 pub use placement_laws::{default_is_one, placement_is_one};

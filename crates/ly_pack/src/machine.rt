@@ -6,6 +6,7 @@ ghost use Rattle.ly_pack.specs.Values.{action_from, actions_from, gotos_from, ma
 
 use crate::action::TableAction;
 use crate::machine_parts::MachineParts;
+use crate::machine_view::MachineView;
 use crate::rows::Rows;
 use crate::rule::TableRule;
 use ly_base::{RuleNo, StateNo, Sym};
@@ -75,7 +76,7 @@ impl<A: Rows<TableAction> + Drop, G: Rows<StateNo> + Drop> Machine<A, G> {
         ensures all { IsMachine self.now }
         ensures within { IsWithin self.now }
     {
-        self.parts.defaults.len()
+        self.view().states()
     }
 
     /// What is done in a state before a terminal, where it isn't the default: the rows of the states.
@@ -98,11 +99,25 @@ impl<A: Rows<TableAction> + Drop, G: Rows<StateNo> + Drop> Machine<A, G> {
         &self.parts.gotos
     }
 
+    /// The machine by reference.
+    pub fn view(&self) -> MachineView<'_, A, G>
+        ensures { result ≡ self.now }
+    {
+        MachineView::new(
+            self.parts.terminals,
+            self.parts.nonterminals,
+            &self.parts.actions,
+            &self.parts.gotos,
+            &self.parts.defaults,
+            &self.parts.rules,
+        )
+    }
+
     /// The rules but rule 0, in their order.
     pub fn rules(&self) -> &[TableRule]
         ensures { self.now.rules ≡ map rule_from result.now }
     {
-        &self.parts.rules
+        self.view().rules()
     }
 
     /// The default reduction of a state, if it has one.
@@ -110,7 +125,7 @@ impl<A: Rows<TableAction> + Drop, G: Rows<StateNo> + Drop> Machine<A, G> {
         requires { state.0 < states_of self.now }
         ensures { slice_get self.now.defaults state.0 ≡ Some (option_map (λ p. p.0) result) }
     {
-        self.parts.defaults[state.0 as usize]
+        self.view().default(state)
     }
 
     /// The entry of a state before a terminal, if it isn't the default.
@@ -119,7 +134,7 @@ impl<A: Rows<TableAction> + Drop, G: Rows<StateNo> + Drop> Machine<A, G> {
         requires terminal { terminal.0 < self.now.terminals }
         ensures { option_map action_from result ≡ entry_at self.now state.0 terminal.0 }
     {
-        self.parts.actions.entry(state, terminal.0 as usize)
+        self.view().entry(state, terminal)
     }
 
     /// What is done in a state before a terminal: the entry, or else the default reduction, or else an error.
@@ -128,13 +143,7 @@ impl<A: Rows<TableAction> + Drop, G: Rows<StateNo> + Drop> Machine<A, G> {
         requires terminal { terminal.0 < self.now.terminals }
         ensures { action_from result ≡ action_of self.now state.0 terminal.0 }
     {
-        if let Some(action) = self.parts.actions.entry(state, terminal.0 as usize) {
-            return action;
-        }
-        match self.default(state) {
-            Some(rule) => TableAction::Reduce(rule),
-            None => TableAction::Error,
-        }
+        self.view().action(state, terminal)
     }
 
     /// Where a state goes by a nonterminal, if it does.
@@ -143,7 +152,7 @@ impl<A: Rows<TableAction> + Drop, G: Rows<StateNo> + Drop> Machine<A, G> {
         requires left { left.0 < self.now.nonterminals }
         ensures { option_map (λ s. s.0) result ≡ goto_at self.now state.0 left.0 }
     {
-        self.parts.gotos.entry(state, left.0 as usize)
+        self.view().goto(state, left)
     }
 
     /// A rule by its number, which counts from 1.
@@ -151,6 +160,6 @@ impl<A: Rows<TableAction> + Drop, G: Rows<StateNo> + Drop> Machine<A, G> {
         requires { IsRuleNumber self.now rule.0 }
         ensures { IsTableRule self.now rule.0 (rule_from result.now) }
     {
-        &self.parts.rules[rule.0 as usize - 1]
+        self.view().rule(rule)
     }
 }

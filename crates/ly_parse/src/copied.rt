@@ -4,7 +4,7 @@ ghost use Rattle.ly_pack.specs.Machine.{states_of, IsMachine, IsRuleNumber};
 ghost use Rattle.ly_parse.specs.Private.Copied.{states_in, top_in, IsMade};
 
 use ly_base::{OutOfMemory, RuleNo, StateNo};
-use ly_pack::{Machine, Rows, TableAction};
+use ly_pack::{MachineView, Rows, TableAction};
 use std::alloc::{AllocError, Global};
 use std::marker::Model;
 
@@ -103,7 +103,7 @@ impl<'a> Copied<'a> {
     /// Reduces by a rule. False where the run ends by it, for a goto is missing or the body goes past the bottom.
     pub(crate) fn reduce<A: Rows<TableAction> + Drop, G: Rows<StateNo> + Drop>(
         &mut self,
-        machine: &Machine<A, G>,
+        machine: &MachineView<'_, A, G>,
         rule: RuleNo,
     ) -> Result<bool, OutOfMemory>
         requires machine { IsMachine machine.now }

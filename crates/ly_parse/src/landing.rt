@@ -9,7 +9,7 @@ use crate::origin::{Numbers, Origin};
 use crate::shortcut::{Shortcut, Situation};
 use crate::shortcuts::Shortcuts;
 use ly_base::{StateNo, Sym};
-use ly_pack::{Machine, Rows, TableAction};
+use ly_pack::{MachineView, Rows, TableAction};
 
 /// All that a goto and the passes behind it depend on, where a reduction has put a term above a state.
 #[derive(Clone, Copy)]
@@ -39,7 +39,7 @@ impl Origin for Landing {
 impl Shortcut<Landing> {
     /// The shortcut from a landing: its goto, and the passes behind that. There is none where a goto is missing.
     pub(crate) fn behind<A: Rows<TableAction> + Drop, G: Rows<StateNo> + Drop>(
-        machine: &Machine<A, G>,
+        machine: &MachineView<'_, A, G>,
         from: Landing,
     ) -> Option<Shortcut<Landing>>
         requires machine { IsMachine machine.now }
@@ -73,7 +73,7 @@ impl Shortcuts<Landing> {
     /// The shortcut from a landing, which is kept. It fails with `TableFault` where a goto is missing.
     pub(crate) fn land<A: Rows<TableAction> + Drop, G: Rows<StateNo> + Drop>(
         &mut self,
-        machine: &Machine<A, G>,
+        machine: &MachineView<'_, A, G>,
         from: Landing,
     ) -> Result<Shortcut<Landing>, ParseFault>
         requires machine { IsMachine machine.now }
@@ -97,7 +97,7 @@ impl Shortcuts<Landing> {
     #[inline(never)] // so that a shortcut that is kept has the registers
     fn land_by_tables<A: Rows<TableAction> + Drop, G: Rows<StateNo> + Drop>(
         &mut self,
-        machine: &Machine<A, G>,
+        machine: &MachineView<'_, A, G>,
         from: Landing,
     ) -> Result<Shortcut<Landing>, ParseFault>
         requires machine { IsMachine machine.now }

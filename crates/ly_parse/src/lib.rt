@@ -1,7 +1,8 @@
 //! From tokens to a term, by a parser's tables.
 //!
-//! A `Parser` holds the tables, a stack of states and terms, and the forest that these stand in. Each call makes the
-//! turns of the tables on its token (`Feeds`): reductions, and then the token is read, accepted with a term or refused.
+//! A `Parser` borrows the tables, and holds a stack of states and terms and the forest that these stand in. Each call
+//! makes the turns of the tables on its token (`Feeds`): reductions, and then the token is read, accepted with a term or
+//! refused.
 //! It asks for steady tables, so that every call ends.
 //! Where a token is refused, the terminals that are expected in its place are listed, by runs on a copy of the stack as
 //! it stood before the token.

@@ -8,7 +8,7 @@ ghost use Rattle.ly_parse.specs.Expected.{AreExpected, IsExpected};
 
 use crate::copied::Copied;
 use ly_base::{OutOfMemory, StateNo, Sym};
-use ly_pack::{Machine, Rows, TableAction};
+use ly_pack::{MachineView, Rows, TableAction};
 use std::alloc::Global;
 
 /// The terminals that a parser's tables would read, or accept with, from a stack of states, rising. The stack stays as
@@ -16,7 +16,7 @@ use std::alloc::Global;
 #[inline(never)] // so that a token that is read has the registers
 pub(crate) fn expected<A: Rows<TableAction> + Drop, G: Rows<StateNo> + Drop>(
     alloc: Global,
-    machine: &Machine<A, G>,
+    machine: &MachineView<'_, A, G>,
     stack: &[StateNo],
 ) -> Result<Vec<Sym>, OutOfMemory>
     requires steady { IsSteady machine.now }
@@ -41,7 +41,7 @@ pub(crate) fn expected<A: Rows<TableAction> + Drop, G: Rows<StateNo> + Drop>(
 
 /// Whether a terminal would be read, or accepted with, from the whole of a stack.
 fn is_expected<A: Rows<TableAction> + Drop, G: Rows<StateNo> + Drop>(
-    machine: &Machine<A, G>,
+    machine: &MachineView<'_, A, G>,
     terminal: Sym,
     copied: &mut Copied<'_>,
 ) -> Result<bool, OutOfMemory>

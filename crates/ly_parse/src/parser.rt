@@ -12,7 +12,7 @@ use crate::running::Running;
 use crate::step::Step;
 use crate::token::Token;
 use ly_base::StateNo;
-use ly_pack::{Machine, Rows, TableAction};
+use ly_pack::{MachineView, Rows, TableAction};
 use ly_tree::{Forest, TermRef};
 use std::alloc::Global;
 use std::marker::Model;
@@ -41,10 +41,10 @@ impl<'a, A: Rows<TableAction> + Drop, G: Rows<StateNo> + Drop> Model for Parser<
 
 impl<'a, A: Rows<TableAction> + Drop, G: Rows<StateNo> + Drop> Parser<'a, A, G> {
     /// A parse that has read nothing: the bottom alone is on its stack.
-    pub fn new(alloc: Global, machine: &'a Machine<A, G>) -> Self
-        requires { IsSteady machine.now }
+    pub fn new(alloc: Global, machine: MachineView<'a, A, G>) -> Self
+        requires { IsSteady machine }
         ensures { result ≡ record {
-          machine = machine.now;
+          machine = machine.entry;
           forest = no_terms;
           stack = [];
           count = 0;

@@ -30,7 +30,7 @@ use crate::shortcuts::Shortcuts;
 use crate::step::Step;
 use crate::token::Token;
 use ly_base::{OutOfMemory, RuleNo, RuleTree, StateNo, Sym};
-use ly_pack::{Machine, Rows, TableAction};
+use ly_pack::{MachineView, Rows, TableAction};
 use ly_tree::{Forest, TermRef};
 use std::alloc::Global;
 use std::marker::Model;
@@ -41,7 +41,7 @@ pub(crate) struct Running<'a, A: Rows<TableAction> + Drop, G: Rows<StateNo> + Dr
     /// Where room is taken from.
     alloc: Global,
     /// The tables.
-    machine: &'a Machine<A, G>,
+    machine: MachineView<'a, A, G>,
     /// The terms so far.
     forest: Forest,
     /// The stack above the bottom, whose state is 0; its top is last.
@@ -68,18 +68,18 @@ impl<'a, A: Rows<TableAction> + Drop, G: Rows<StateNo> + Drop> Model for Running
 
     ghost coded = { Prim.hlevel (codes, level_code, grown_code) };
 
-    ghost view = { λ p. parse_from p.machine.now p.forest p.stack.items p.count p.over };
+    ghost view = { λ p. parse_from p.machine p.forest p.stack.items p.count p.over };
 
-    ghost invariant = { λ p. IsParse p.machine.now p.forest p.stack.items
-        × AreKept p.machine.now p.shortcuts p.landings };
+    ghost invariant = { λ p. IsParse p.machine p.forest p.stack.items
+        × AreKept p.machine p.shortcuts p.landings };
 }
 
 impl<'a, A: Rows<TableAction> + Drop, G: Rows<StateNo> + Drop> Running<'a, A, G> {
     /// A parse that has read nothing: the bottom alone is on its stack.
-    pub(crate) fn new(alloc: Global, machine: &'a Machine<A, G>) -> Self
-        requires { IsSteady machine.now }
+    pub(crate) fn new(alloc: Global, machine: MachineView<'a, A, G>) -> Self
+        requires { IsSteady machine }
         ensures { result ≡ record {
-          machine = machine.now;
+          machine = machine.entry;
           forest = no_terms;
           stack = [];
           count = 0;
@@ -301,7 +301,7 @@ impl<'a, A: Rows<TableAction> + Drop, G: Rows<StateNo> + Drop> Running<'a, A, G>
             top: self.stack[place].state,
             terminal,
         };
-        let Some(shortcut) = Shortcut::find(self.machine, from) else {
+        let Some(shortcut) = Shortcut::find(&self.machine, from) else {
             return Err(ParseFault::TableFault);
         };
         self.shortcuts.keep(shortcut)?;
@@ -354,7 +354,7 @@ impl<'a, A: Rows<TableAction> + Drop, G: Rows<StateNo> + Drop> Running<'a, A, G>
             left,
             terminal,
         };
-        let shortcut = self.landings.land(self.machine, from)?;
+        let shortcut = self.landings.land(&self.machine, from)?;
         // where the terminal is read next, nobody asks what the stack was
         if !matches!(shortcut.action, TableAction::Shift(_)) {
             before.note(&self.stack, below, first)?;
@@ -457,7 +457,7 @@ impl<'a, A: Rows<TableAction> + Drop, G: Rows<StateNo> + Drop> Running<'a, A, G>
         Ok(Step::Refused {
             token,
             byte: at,
-            expected: expected(self.alloc, self.machine, &states)?,
+            expected: expected(self.alloc, &self.machine, &states)?,
         })
     }
 

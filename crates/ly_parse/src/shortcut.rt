@@ -7,7 +7,7 @@ ghost use Rattle.ly_parse.specs.Private.Shortcuts.{situation_of};
 
 use crate::origin::{Numbers, Origin};
 use ly_base::{RuleTree, StateNo, Sym};
-use ly_pack::{Machine, Rows, TableAction};
+use ly_pack::{MachineView, Rows, TableAction};
 
 /// All that a run of passes depends on. A pass is a reduction by a rule of one symbol that passes its term on: it
 /// changes the state on top of the stack, and nothing else.
@@ -49,7 +49,7 @@ pub(crate) struct Shortcut<O> {
 impl Shortcut<Situation> {
     /// The shortcut from a situation, found pass by pass. There is none where a goto is missing on the way.
     pub(crate) fn find<A: Rows<TableAction> + Drop, G: Rows<StateNo> + Drop>(
-        machine: &Machine<A, G>,
+        machine: &MachineView<'_, A, G>,
         from: Situation,
     ) -> Option<Shortcut<Situation>>
         requires machine { IsMachine machine.now }
@@ -78,7 +78,7 @@ impl Shortcut<Situation> {
 
 /// The left side that an action passes the term on top to, if it is a reduction that does no more.
 fn passed_to<A: Rows<TableAction> + Drop, G: Rows<StateNo> + Drop>(
-    machine: &Machine<A, G>,
+    machine: &MachineView<'_, A, G>,
     action: TableAction,
 ) -> Option<Sym>
     requires machine { IsMachine machine.now }

@@ -1,5 +1,5 @@
 -- The machine of a table set's parts, and what the check of it says.
-use Rattle.std.proofs.Common.{◌≡◌, ◌∙◌, ℕ, length, map, sym, Vec, Global, Option}
+use Rattle.std.proofs.Common.{◌≡◌, ◌∙◌, ℕ, List, ap, length, map, refl, sym, Vec, Global, Option}
 use Rattle.std.specs.Prelude.{option_map}
 use Rattle.std.proofs.lemmas.List.{length-map}
 use Rattle.ly_base.specs.declared.numbers.RuleNo.{RuleNo}
@@ -11,25 +11,33 @@ use Rattle.ly_pack.specs.Rows.{comb_entry, grid_of}
 use Rattle.ly_pack.specs.Values.{actions_from, gotos_from, machine_from, rule_from}
 use Rattle.ly_pack.specs.declared.rule.TableRule as code
 use Rattle.ly_tables.specs.Private.Refused.{IsUnsteady, refusal_of}
-use Rattle.ly_tables.specs.TableSet.{machine_of}
+use Rattle.ly_tables.specs.TableSet.{TableSet, machine_of}
 use Rattle.ly_tables.specs.Values.{set_of}
 use Rattle.ly_tables.specs.declared.table_parts.TableParts as parts
 
--- the machine over the parts' rows is that of their set
+-- the machine over a set's rows, with its rules and defaults, is that of the set
+pub machine_over : (s : TableSet) (n : ℕ) (defaults : List (Option RuleNo)) (rules : List code.TableRule)
+    → n ≡ length s.terminals → map (option_map (λ (p : RuleNo). p.0)) defaults ≡ s.defaults
+    → map rule_from rules ≡ s.rules
+    → machine_from n s.nonterminals (comb_entry s.actions) (comb_entry s.gotos) defaults rules ≡ machine_of s
+machine_over s n defaults rules terminals same_defaults same_rules =
+    let states = sym (length-map defaults (option_map (λ (p : RuleNo). p.0))) ∙ ap length same_defaults in
+    λ i. record {
+      terminals = terminals i;
+      nonterminals = s.nonterminals;
+      actions = grid_of (states i) (terminals i) (actions_from (comb_entry s.actions));
+      defaults = same_defaults i;
+      gotos = grid_of (states i) s.nonterminals (gotos_from (comb_entry s.gotos));
+      rules = same_rules i;
+    }
+
+-- and so it is over parts
 pub machine_same : (p : parts.TableParts) (n : ℕ) → n ≡ length p.terminals.items
     → machine_from n p.nonterminals (comb_entry p.actions) (comb_entry p.gotos) p.defaults.items p.rules.items
     ≡ machine_of (set_of p)
 machine_same p n same =
-    let terminals = same ∙ sym (length-map p.terminals.items (λ (name : Vec ℕ Global). name.items)) in
-    let states = sym (length-map p.defaults.items (option_map (λ (p : RuleNo). p.0))) in
-    λ i. record {
-      terminals = terminals i;
-      nonterminals = p.nonterminals;
-      actions = grid_of (states i) (terminals i) (actions_from (comb_entry p.actions));
-      defaults = map (option_map (λ p. p.0)) p.defaults.items;
-      gotos = grid_of (states i) p.nonterminals (gotos_from (comb_entry p.gotos));
-      rules = map rule_from p.rules.items;
-    }
+    machine_over (set_of p) n p.defaults.items p.rules.items
+    (same ∙ sym (length-map p.terminals.items (λ (name : Vec ℕ Global). name.items))) refl refl
 
 -- rules and defaults of the same values make the same set
 pub set_again : (p : parts.TableParts) (rules : Vec code.TableRule Global) (defaults : Vec (Option RuleNo) Global)

@@ -1,8 +1,9 @@
 //! Table sets, and the bytes of a table file.
 //!
 //! A `TableSet` is all that a driver needs to know of a lex file and a yacc file. Its type keeps its numbers within
-//! their ranges, and its parser's tables steady. `write_tables` spells it, and `read_tables` reads it back
-//! (`TableText`); a set has one spelling, a file has one set, and only want of memory refuses a set's file.
+//! their ranges, and its parser's tables steady. It lends its parts, and gives them away. `write_tables` spells it, and
+//! `read_tables` reads it back (`TableText`); a set has one spelling, a file has one set, and only want of memory
+//! refuses a set's file.
 //!
 //! A file is read in four steps: its fields as numbers, by counts alone (`raw_reading`); whether these are within the
 //! ranges of their sections (`sections`); what they mean (`conversion`); and whether the tables are steady

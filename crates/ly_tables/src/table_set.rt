@@ -1,15 +1,16 @@
-ghost use Rattle.std.specs.Prelude.{◌≡◌};
+ghost use Rattle.std.specs.Prelude.{◌≡◌, map, option_map};
 ghost use Rattle.std.specs.Int.{w16};
 ghost use Rattle.ly_pack.specs.Steady.{IsSteady};
+ghost use Rattle.ly_pack.specs.Values.{rule_from};
 ghost use Rattle.ly_tables.specs.Ranges.{version_1, IsWithinRanges};
 ghost use Rattle.ly_tables.specs.TableSet.{machine_of};
-ghost use Rattle.ly_tables.specs.Values.{set_of};
+ghost use Rattle.ly_tables.specs.Values.{scan_rule_from, set_of, starts_from};
 
 use crate::scan_rule::ScanRule;
 use crate::starts::Starts;
 use crate::table_parts::TableParts;
 use ly_base::{RuleNo, StateNo, Sym};
-use ly_pack::{Comb, TableAction, TableRule};
+use ly_pack::{Comb, MachineView, TableAction, TableRule};
 use std::marker::Model;
 
 /// What a driver needs to know of a lex file and a yacc file. Its numbers are within their ranges, and each run of its
@@ -105,5 +106,77 @@ impl TableSet {
             actions: self.actions,
             gotos: self.gotos,
         }
+    }
+
+    /// The parser's tables.
+    pub fn machine(&self) -> MachineView<'_, Comb<TableAction>, Comb<StateNo>>
+        ensures machine { result ≡ machine_of self.now }
+        ensures within { IsWithinRanges w16 version_1 self.now }
+        ensures steady { IsSteady (machine_of self.now) }
+    {
+        MachineView::new(
+            self.terminals.len(),
+            self.nonterminals,
+            &self.actions,
+            &self.gotos,
+            &self.defaults,
+            &self.rules,
+        )
+    }
+
+    /// The printed names of terminals, by their numbers.
+    pub fn terminals(&self) -> &[Vec<u8>]
+        ensures { map (λ n. n.items) result.now ≡ self.now.terminals }
+    {
+        &self.terminals
+    }
+
+    /// The rules of the parser but rule 0: the first is rule 1.
+    pub fn rules(&self) -> &[TableRule]
+        ensures { map rule_from result.now ≡ self.now.rules }
+    {
+        &self.rules
+    }
+
+    /// The terminal of each byte as a literal, 1 where there is none.
+    pub fn literals(&self) -> &[Sym]
+        ensures { map (λ t. t.0) result.now ≡ self.now.literals }
+    {
+        &self.literals
+    }
+
+    /// The rules of the scanner, rule 0 first.
+    pub fn scan_rules(&self) -> &[ScanRule]
+        ensures { map scan_rule_from result.now ≡ self.now.scan_rules }
+    {
+        &self.scan_rules
+    }
+
+    /// Where each condition begins.
+    pub fn conditions(&self) -> &[Starts]
+        ensures { map starts_from result.now ≡ self.now.conditions }
+    {
+        &self.conditions
+    }
+
+    /// The class of each byte.
+    pub fn classes(&self) -> &[u8]
+        ensures { result.now ≡ self.now.classes }
+    {
+        &self.classes
+    }
+
+    /// The rule of each scanner state, counted from 0, if it has one.
+    pub fn accepted(&self) -> &[Option<RuleNo>]
+        ensures { map (option_map (λ p. p.0)) result.now ≡ self.now.accepted }
+    {
+        &self.accepted
+    }
+
+    /// Where scanner states lead: a row for each, a column for each class.
+    pub fn scan_rows(&self) -> &Comb<StateNo>
+        ensures { result.now ≡ self.now.scan_rows }
+    {
+        &self.scan_rows
     }
 }

@@ -8,7 +8,7 @@ pub returns-in-Some-clause-accepted : goal.returns-in-Some-clause-accepted
 returns-in-Some-clause-accepted g c =
     let top : slice_get c.self.inside.stack.items (length c.self.inside.stack.items - 1) ≡ Some c.in-Some.level.now
     = ap (λ w. slice_get w (length w - 1)) (sym c.deref.ensures.value) ∙ sym c.in-Some.ensures.value in
-    accepts c.self.inside.machine.now c.self.inside.forest c.self.inside.stack.items c.in-Some.level.now
+    accepts c.self.inside.machine c.self.inside.forest c.self.inside.stack.items c.in-Some.level.now
     c.args.self.now c.self.inside.count c.self.inside.over c.self.view_is c.self.invariant.0 top
 
 pub returns-in-Some-clause-paid : goal.returns-in-Some-clause-paid
@@ -16,6 +16,6 @@ returns-in-Some-clause-paid g c root t is stands =
     let top : slice_get c.self.inside.stack.items (length c.self.inside.stack.items - 1) ≡ Some c.in-Some.level.now
     = ap (λ w. slice_get w (length w - 1)) (sym c.deref.ensures.value) ∙ sym c.in-Some.ensures.value in
     let same : root ≡ c.in-Some.level.now.term = cc in
-    accepted_paid c.self.inside.machine.now c.self.inside.forest c.self.inside.stack.items c.in-Some.level.now
+    accepted_paid c.self.inside.machine c.self.inside.forest c.self.inside.stack.items c.in-Some.level.now
     c.args.self.now c.self.inside.count c.self.inside.over t c.self.view_is c.self.invariant.0 top
     (subst (λ r. StandsFor c.args.self.now.forest r t) same stands)

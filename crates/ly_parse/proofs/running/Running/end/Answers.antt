@@ -7,7 +7,7 @@ use Rattle.ly_parse.proofs.running.Running.end.Goals as goal
 
 pub returns-in-Accepts-clause-call : goal.returns-in-Accepts-clause-call
 returns-in-Accepts-clause-call g c =
-    accepts_call c.self.inside.machine.now c.self.inside.forest c.self.inside.stack.items c.args.self.now
+    accepts_call c.self.inside.machine c.self.inside.forest c.self.inside.stack.items c.args.self.now
     c.self.inside.count c.self.inside.over (record { terminal = 0; at = c.args.at; bytes = [] }) c.self.view_is
     c.if-self.false c.settle.new.self c.in_ok-settle.ensures.alike c.in_ok-settle.ensures.machine
     c.in_ok-settle.ensures.count c.accept.result (c.in_ok-settle.ensures.accepts (ap Ok c.in-Accepts.is))
@@ -15,7 +15,7 @@ returns-in-Accepts-clause-call g c =
 
 pub returns-in-Refuses-clause-call : goal.returns-in-Refuses-clause-call
 returns-in-Refuses-clause-call g c =
-    refuses_call c.self.inside.machine.now c.self.inside.forest c.self.inside.stack.items c.args.self.now
+    refuses_call c.self.inside.machine c.self.inside.forest c.self.inside.stack.items c.args.self.now
     c.self.inside.count c.self.inside.over (record { terminal = 0; at = c.args.at; bytes = [] }) c.self.view_is
     c.if-self.false c.settle.new.self c.in_ok-settle.ensures.alike c.in_ok-settle.ensures.machine
     c.in_ok-settle.ensures.count c.refuse.result c.settle.new.before
@@ -24,7 +24,7 @@ returns-in-Refuses-clause-call g c =
 
 pub unreachable-requires : goal.unreachable-requires
 unreachable-requires g c =
-    let some = (legal c.self.inside.machine.now (top_of c.settle.new.self.stack) 0 (shift c.in-Reads.field-0.0)
+    let some = (legal c.self.inside.machine (top_of c.settle.new.self.stack) 0 (shift c.in-Reads.field-0.0)
     c.self.invariant.0.machine (c.in_ok-settle.ensures.reads c.in-Reads.field-0 (ap Ok c.in-Reads.is))).1 in
     absurd (omega (arith, some))
 
@@ -33,12 +33,12 @@ refuse-requires-clause-kept g c = (c.in_ok-settle.ensures.noted (ap Ok c.in-Refu
 
 pub refuse-requires-clause-states : goal.refuse-requires-clause-states
 refuse-requires-clause-states g c =
-    before_known c.self.inside.machine.now c.self.inside.forest c.self.inside.stack.items c.self.invariant.0
+    before_known c.self.inside.machine c.self.inside.forest c.self.inside.stack.items c.self.invariant.0
     c.settle.new.self c.in_ok-settle.ensures.machine c.settle.new.before
     (c.in_ok-settle.ensures.noted (ap Ok c.in-Refuses.is))
 
 pub refuse-requires-clause-edges : goal.refuse-requires-clause-edges
 refuse-requires-clause-edges g c =
-    before_edges c.self.inside.machine.now c.self.inside.forest c.self.inside.stack.items c.self.invariant.0
+    before_edges c.self.inside.machine c.self.inside.forest c.self.inside.stack.items c.self.invariant.0
     c.settle.new.self c.in_ok-settle.ensures.machine c.settle.new.before
     (c.in_ok-settle.ensures.noted (ap Ok c.in-Refuses.is))

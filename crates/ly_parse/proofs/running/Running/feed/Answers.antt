@@ -4,7 +4,7 @@ use Rattle.ly_parse.proofs.running.Running.feed.Goals as goal
 
 pub returns-in_ok-read-in-Reads : goal.returns-in_ok-read-in-Reads
 returns-in_ok-read-in-Reads g c =
-    reads c.self.inside.machine.now c.self.inside.forest c.self.inside.stack.items c.args.self.now
+    reads c.self.inside.machine c.self.inside.forest c.self.inside.stack.items c.args.self.now
     c.self.inside.count c.self.inside.over (record {
       terminal = c.args.token.now.terminal.0;
       at = c.args.token.now.at;
@@ -16,7 +16,7 @@ returns-in_ok-read-in-Reads g c =
 
 pub returns-in-Accepts : goal.returns-in-Accepts
 returns-in-Accepts g c =
-    accepts_call c.self.inside.machine.now c.self.inside.forest c.self.inside.stack.items c.args.self.now
+    accepts_call c.self.inside.machine c.self.inside.forest c.self.inside.stack.items c.args.self.now
     c.self.inside.count c.self.inside.over (record {
       terminal = c.args.token.now.terminal.0;
       at = c.args.token.now.at;
@@ -27,7 +27,7 @@ returns-in-Accepts g c =
 
 pub returns-in-Refuses : goal.returns-in-Refuses
 returns-in-Refuses g c =
-    refuses_call c.self.inside.machine.now c.self.inside.forest c.self.inside.stack.items c.args.self.now
+    refuses_call c.self.inside.machine c.self.inside.forest c.self.inside.stack.items c.args.self.now
     c.self.inside.count c.self.inside.over (record {
       terminal = c.args.token.now.terminal.0;
       at = c.args.token.now.at;
@@ -42,12 +42,12 @@ refuse-requires-clause-kept g c = (c.in_ok-state.ensures.noted (ap Ok c.in-Refus
 
 pub refuse-requires-clause-states : goal.refuse-requires-clause-states
 refuse-requires-clause-states g c =
-    before_known c.self.inside.machine.now c.self.inside.forest c.self.inside.stack.items c.self.invariant.0
+    before_known c.self.inside.machine c.self.inside.forest c.self.inside.stack.items c.self.invariant.0
     c.settle.new.self c.in_ok-state.ensures.machine c.settle.new.before
     (c.in_ok-state.ensures.noted (ap Ok c.in-Refuses.is))
 
 pub refuse-requires-clause-edges : goal.refuse-requires-clause-edges
 refuse-requires-clause-edges g c =
-    before_edges c.self.inside.machine.now c.self.inside.forest c.self.inside.stack.items c.self.invariant.0
+    before_edges c.self.inside.machine c.self.inside.forest c.self.inside.stack.items c.self.invariant.0
     c.settle.new.self c.in_ok-state.ensures.machine c.settle.new.before
     (c.in_ok-state.ensures.noted (ap Ok c.in-Refuses.is))

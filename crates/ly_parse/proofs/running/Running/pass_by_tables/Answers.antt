@@ -12,10 +12,10 @@ returns-in_default-clause-leads g c = record { alike = λ token out same fed. fe
 pub find-requires-clause-from : goal.find-requires-clause-from
 find-requires-clause-from g c =
     let size = counts c.self.inside.stack c.len.result c.in-Some.place c.len.ensures c.in-Some.ensures in
-    let top = has_top c.self.inside.machine.now c.self.inside.forest c.self.inside.stack.items c.args.self.now
+    let top = has_top c.self.inside.machine c.self.inside.forest c.self.inside.stack.items c.args.self.now
     c.self.inside.count c.self.inside.over c.in-Some.place c.top_at.result.0 c.index.result.now c.self.view_is
     c.self.invariant.0 size c.index.ensures c.top_at.ensures.top in
-    situated c.args.self.now c.self.inside.machine.now c.self.inside.forest c.self.inside.stack.items c.in-Some.place
+    situated c.args.self.now c.self.inside.machine c.self.inside.forest c.self.inside.stack.items c.in-Some.place
     c.index.result.now
     (record { below = c.top_at.result; top = c.index.result.now.state; terminal = c.args.terminal }) top refl
     c.top_at.ensures.known c.requires
@@ -23,10 +23,10 @@ find-requires-clause-from g c =
 pub returns-in_default-find-clause-faulty : goal.returns-in_default-find-clause-faulty
 returns-in_default-find-clause-faulty g c is =
     let size = counts c.self.inside.stack c.len.result c.in-Some.place c.len.ensures c.in-Some.ensures in
-    let top = has_top c.self.inside.machine.now c.self.inside.forest c.self.inside.stack.items c.args.self.now
+    let top = has_top c.self.inside.machine c.self.inside.forest c.self.inside.stack.items c.args.self.now
     c.self.inside.count c.self.inside.over c.in-Some.place c.top_at.result.0 c.index.result.now c.self.view_is
     c.self.invariant.0 size c.index.ensures c.top_at.ensures.top in
-    passes_fail c.args.self.now c.self.inside.machine.now c.self.inside.forest c.self.inside.stack.items
+    passes_fail c.args.self.now c.self.inside.machine c.self.inside.forest c.self.inside.stack.items
     c.in-Some.place c.index.result.now
     (record { below = c.top_at.result; top = c.index.result.now.state; terminal = c.args.terminal }) top refl
     c.in_default-find.ensures
@@ -34,24 +34,24 @@ returns-in_default-find-clause-faulty g c is =
 pub invariant_of-self-2 : goal.invariant_of-self-2
 invariant_of-self-2 g c =
     let size = counts c.self.inside.stack c.len.result c.in-Some.place c.len.ensures c.in-Some.ensures in
-    let top = has_top c.self.inside.machine.now c.self.inside.forest c.self.inside.stack.items c.args.self.now
+    let top = has_top c.self.inside.machine c.self.inside.forest c.self.inside.stack.items c.args.self.now
     c.self.inside.count c.self.inside.over c.in-Some.place c.top_at.result.0 c.index.result.now c.self.view_is
     c.self.invariant.0 size c.index.ensures c.top_at.ensures.top in (
-      passed_on c.args.self.now c.self.inside.machine.now c.self.inside.forest c.self.inside.stack.items
+      passed_on c.args.self.now c.self.inside.machine c.self.inside.forest c.self.inside.stack.items
           c.in-Some.place c.index.result.now
           (record { state = c.in-Some-find.shortcut.state; term = c.index_mut.result.now.term })
           (record { below = c.top_at.result; top = c.index.result.now.state; terminal = c.args.terminal }) top
-          (situated c.args.self.now c.self.inside.machine.now c.self.inside.forest c.self.inside.stack.items
+          (situated c.args.self.now c.self.inside.machine c.self.inside.forest c.self.inside.stack.items
           c.in-Some.place c.index.result.now
           (record { below = c.top_at.result; top = c.index.result.now.state; terminal = c.args.terminal }) top refl
           c.top_at.ensures.known c.requires)
-          (passes_from c.self.inside.machine.now
+          (passes_from c.self.inside.machine
           (record { below = c.top_at.result; top = c.index.result.now.state; terminal = c.args.terminal })
           c.in-Some-find.shortcut c.in-Some-find.ensures)
           (ap (λ x. x.term) (one_level c.self.inside.stack.items c.in-Some.place c.index.result.now
           c.index_mut.result.now size c.index.ensures c.index_mut.ensures.value)),
       record {
-        passes = c.keep.ensures c.self.inside.machine.now c.self.invariant.1.passes c.in-Some-find.ensures.1;
+        passes = c.keep.ensures c.self.inside.machine c.self.invariant.1.passes c.in-Some-find.ensures.1;
         gotos = c.self.invariant.1.gotos;
       },
     )
@@ -59,14 +59,14 @@ invariant_of-self-2 g c =
 pub returns-clause-leads : goal.returns-clause-leads
 returns-clause-leads g c =
     let size = counts c.self.inside.stack c.len.result c.in-Some.place c.len.ensures c.in-Some.ensures in
-    let top = has_top c.self.inside.machine.now c.self.inside.forest c.self.inside.stack.items c.args.self.now
+    let top = has_top c.self.inside.machine c.self.inside.forest c.self.inside.stack.items c.args.self.now
     c.self.inside.count c.self.inside.over c.in-Some.place c.top_at.result.0 c.index.result.now c.self.view_is
     c.self.invariant.0 size c.index.ensures c.top_at.ensures.top in
-    passes_lead c.args.self.now c.self.inside.machine.now c.self.inside.forest c.self.inside.stack.items
+    passes_lead c.args.self.now c.self.inside.machine c.self.inside.forest c.self.inside.stack.items
     c.in-Some.place c.index.result.now
     (record { state = c.in-Some-find.shortcut.state; term = c.index_mut.result.now.term })
     (record { below = c.top_at.result; top = c.index.result.now.state; terminal = c.args.terminal }) top refl
-    (passes_from c.self.inside.machine.now
+    (passes_from c.self.inside.machine
     (record { below = c.top_at.result; top = c.index.result.now.state; terminal = c.args.terminal })
     c.in-Some-find.shortcut c.in-Some-find.ensures)
     (ap (λ x. x.term) (one_level c.self.inside.stack.items c.in-Some.place c.index.result.now
@@ -75,10 +75,10 @@ returns-clause-leads g c =
 pub returns-clause-action : goal.returns-clause-action
 returns-clause-action g c =
     let size = counts c.self.inside.stack c.len.result c.in-Some.place c.len.ensures c.in-Some.ensures in
-    let top = has_top c.self.inside.machine.now c.self.inside.forest c.self.inside.stack.items c.args.self.now
+    let top = has_top c.self.inside.machine c.self.inside.forest c.self.inside.stack.items c.args.self.now
     c.self.inside.count c.self.inside.over c.in-Some.place c.top_at.result.0 c.index.result.now c.self.view_is
     c.self.invariant.0 size c.index.ensures c.top_at.ensures.top in
-    acts_on c.args.self.now c.self.inside.machine.now c.self.inside.forest c.self.inside.stack.items c.in-Some.place
+    acts_on c.args.self.now c.self.inside.machine c.self.inside.forest c.self.inside.stack.items c.in-Some.place
     c.top_at.result.0 c.index.result.now
     (record { state = c.in-Some-find.shortcut.state; term = c.index_mut.result.now.term })
     (record { below = c.top_at.result; top = c.index.result.now.state; terminal = c.args.terminal })
@@ -89,10 +89,10 @@ returns-clause-action g c =
 pub returns-clause-below : goal.returns-clause-below
 returns-clause-below g c =
     let size = counts c.self.inside.stack c.len.result c.in-Some.place c.len.ensures c.in-Some.ensures in
-    let top = has_top c.self.inside.machine.now c.self.inside.forest c.self.inside.stack.items c.args.self.now
+    let top = has_top c.self.inside.machine c.self.inside.forest c.self.inside.stack.items c.args.self.now
     c.self.inside.count c.self.inside.over c.in-Some.place c.top_at.result.0 c.index.result.now c.self.view_is
     c.self.invariant.0 size c.index.ensures c.top_at.ensures.top in
-    alike_below c.args.self.now c.self.inside.machine.now c.self.inside.forest c.self.inside.stack.items
+    alike_below c.args.self.now c.self.inside.machine c.self.inside.forest c.self.inside.stack.items
     c.in-Some.place c.top_at.result.0 c.index.result.now
     (record { state = c.in-Some-find.shortcut.state; term = c.index_mut.result.now.term }) top
     (ap (λ x. x.term) (one_level c.self.inside.stack.items c.in-Some.place c.index.result.now

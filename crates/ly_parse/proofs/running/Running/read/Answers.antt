@@ -9,17 +9,17 @@ use Rattle.ly_parse.proofs.running.Running.read.Goals as goal
 
 pub invariant_of-self-in_err-reserve : goal.invariant_of-self-in_err-reserve
 invariant_of-self-in_err-reserve g c = (
-  subst (IsParse c.self.inside.machine.now c.leaf.new.self) (sym c.in_err-reserve.ensures.items)
-      (kept c.self.inside.machine.now c.self.inside.forest c.leaf.new.self c.self.inside.stack.items
+  subst (IsParse c.self.inside.machine c.leaf.new.self) (sym c.in_err-reserve.ensures.items)
+      (kept c.self.inside.machine c.self.inside.forest c.leaf.new.self c.self.inside.stack.items
       c.self.invariant.0 c.in_ok-term.ensures.keeps),
   c.self.invariant.1,
 )
 
 pub invariant_of-self-2 : goal.invariant_of-self-2
 invariant_of-self-2 g c = (
-  subst (IsParse c.self.inside.machine.now c.leaf.new.self)
+  subst (IsParse c.self.inside.machine c.leaf.new.self)
       (sym (on_top _ _ _ _ c.in_ok-reserve.ensures.items c.push_reserved.ensures.items))
-      (shifted c.self.inside.machine.now c.self.inside.forest c.leaf.new.self c.self.inside.stack.items
+      (shifted c.self.inside.machine c.self.inside.forest c.leaf.new.self c.self.inside.stack.items
       c.args.self.now c.self.inside.count c.self.inside.over c.args.token.now.terminal.0 c.args.token.now.text
       (record { state = c.args.state; term = c.in_ok-term.term }) c.self.view_is c.self.invariant.0
       c.in_ok-term.ensures.keeps c.requires c.in_ok-term.ensures.stands c.in_ok-term.ensures.pays),
@@ -29,7 +29,7 @@ invariant_of-self-2 g c = (
 pub returns-clause-stack : goal.returns-clause-stack
 returns-clause-stack g c =
     ap (stack_from c.leaf.new.self) (on_top _ _ _ _ c.in_ok-reserve.ensures.items c.push_reserved.ensures.items)
-    ∙ shifted_stack c.self.inside.machine.now c.self.inside.forest c.leaf.new.self c.self.inside.stack.items
+    ∙ shifted_stack c.self.inside.machine c.self.inside.forest c.leaf.new.self c.self.inside.stack.items
     c.args.self.now c.self.inside.count c.self.inside.over (record { state = c.args.state; term = c.in_ok-term.term })
     (leaf c.args.token.now.terminal.0 c.args.token.now.text) c.self.view_is c.self.invariant.0
     c.in_ok-term.ensures.keeps c.in_ok-term.ensures.stands

@@ -19,7 +19,7 @@ use Rattle.ly_parse.proofs.running.Running.reduce.Goals.{then-not-matches+in_ok-
 
 pub returns-in_default-clause-faulty : goal.returns-in_default-clause-faulty
 returns-in_default-clause-faulty g c e =
-    at_once (past_bottom c.self.inside.machine.now c.self.inside.forest c.self.inside.stack.items c.args.self.now
+    at_once (past_bottom c.self.inside.machine c.self.inside.forest c.self.inside.stack.items c.args.self.now
     c.self.inside.count c.self.inside.over c.args.number.0 (rule_from c.rule-rule.result.now) c.self.view_is
     c.rule-rule.ensures
     (body_exceeds c.self.inside.stack c.len.result c.rule-rule.result.now.body_length c.len.ensures
@@ -27,7 +27,7 @@ returns-in_default-clause-faulty g c e =
 
 pub make-requires-clause-shape : goal.make-requires-clause-shape
 make-requires-clause-shape g c =
-    shape_fits c.self.inside.machine.now c.self.inside.forest c.self.inside.stack.items c.args.self.now
+    shape_fits c.self.inside.machine c.self.inside.forest c.self.inside.stack.items c.args.self.now
     c.self.inside.count c.self.inside.over c.args.number.0 c.in-Some.below (rule_from c.rule-rule.result.now)
     c.self.view_is c.self.invariant.0 c.rule-rule.ensures
     (body_fits c.self.inside.stack c.len.result c.rule-rule.result.now.body_length c.in-Some.below
@@ -44,18 +44,18 @@ land-requires-clause-left g c =
     subst (λ m. c.rule-rule.result.now.left.0 < m.nonterminals)
     (ap (λ p. p.machine) c.self.view_is
     ∙ (sym c.in_ok-term.ensures.machine ∙ sym (ap (λ p. p.machine) c.self-2.view_is)))
-    (rule_within c.self.inside.machine.now c.args.number.0 (rule_from c.rule-rule.result.now)
+    (rule_within c.self.inside.machine c.args.number.0 (rule_from c.rule-rule.result.now)
     c.self.invariant.0.machine c.rule-rule.ensures).left
 
 pub returns-in_err-shortcut-clause-faulty : goal.returns-in_err-shortcut-clause-faulty
 returns-in_err-shortcut-clause-faulty g c is =
     strands c.args.self.now c.args.number.0 (rule_from c.rule-rule.result.now) c.in-Some.below
-    c.self-2.inside.machine.now c.self-2.inside.forest c.self-2.inside.stack.items
+    c.self-2.inside.machine c.self-2.inside.forest c.self-2.inside.stack.items
     (take c.in-Some.below c.self-2.inside.stack.items)
     (record { below = c.top_at.result; left = c.rule-rule.result.now.left; terminal = c.args.terminal })
     (record { state = record { 0 = 0 }; term = c.in_ok-term.term }) c.make.new.self.forest
     (record {
-      cut = is_cut c.self.inside.machine.now c.self-2.inside.machine.now c.self.inside.forest c.self-2.inside.forest
+      cut = is_cut c.self.inside.machine c.self-2.inside.machine c.self.inside.forest c.self-2.inside.forest
           c.self.inside.stack.items c.self-2.inside.stack.items c.args.self.now c.make.new.self c.self.inside.count
           c.self-2.inside.count c.self.inside.over c.self-2.inside.over c.args.number.0 c.in-Some.below
           (rule_from c.rule-rule.result.now) c.self.view_is c.self-2.view_is c.self-2.invariant.0
@@ -63,7 +63,7 @@ returns-in_err-shortcut-clause-faulty g c is =
           (body_fits c.self.inside.stack c.len.result c.rule-rule.result.now.body_length c.in-Some.below
           c.len.ensures c.in-Some.ensures);
       left_of = refl;
-      below = top_below c.self-2.inside.machine.now c.self-2.inside.forest c.self-2.inside.stack.items c.make.new.self
+      below = top_below c.self-2.inside.machine c.self-2.inside.forest c.self-2.inside.stack.items c.make.new.self
           c.self-2.inside.count c.self-2.inside.over c.in-Some.below c.top_at.result.0 c.self-2.view_is
           c.top_at.ensures.top;
       left = refl;
@@ -76,17 +76,17 @@ returns-in_err-shortcut-clause-faulty g c is =
 
 pub invariant_of-self-2 : goal.invariant_of-self-2
 invariant_of-self-2 g c = (
-  subst (IsParse c.self-2.inside.machine.now c.self-2.inside.forest)
+  subst (IsParse c.self-2.inside.machine c.self-2.inside.forest)
       (sym (on_top _ _ _ _ c.in_ok-reserve.ensures.items c.push_reserved.ensures.items
       ∙ ap (λ w. w ++ (record { state = c.in_ok-shortcut.shortcut.state; term = c.in_ok-term.term }) ∷ [])
       c.truncate.ensures.items))
       (landed c.args.self.now c.args.number.0 (rule_from c.rule-rule.result.now) c.in-Some.below
-      c.self-2.inside.machine.now c.self-2.inside.forest c.self-2.inside.stack.items
+      c.self-2.inside.machine c.self-2.inside.forest c.self-2.inside.stack.items
       (take c.in-Some.below c.self-2.inside.stack.items)
       (record { below = c.top_at.result; left = c.rule-rule.result.now.left; terminal = c.args.terminal })
       (record { state = c.in_ok-shortcut.shortcut.state; term = c.in_ok-term.term }) c.make.new.self.forest
       (record {
-        cut = is_cut c.self.inside.machine.now c.self-2.inside.machine.now c.self.inside.forest c.self-2.inside.forest
+        cut = is_cut c.self.inside.machine c.self-2.inside.machine c.self.inside.forest c.self-2.inside.forest
             c.self.inside.stack.items c.self-2.inside.stack.items c.args.self.now c.make.new.self c.self.inside.count
             c.self-2.inside.count c.self.inside.over c.self-2.inside.over c.args.number.0 c.in-Some.below
             (rule_from c.rule-rule.result.now) c.self.view_is c.self-2.view_is c.self-2.invariant.0
@@ -94,7 +94,7 @@ invariant_of-self-2 g c = (
             (body_fits c.self.inside.stack c.len.result c.rule-rule.result.now.body_length c.in-Some.below
             c.len.ensures c.in-Some.ensures);
         left_of = refl;
-        below = top_below c.self-2.inside.machine.now c.self-2.inside.forest c.self-2.inside.stack.items c.make.new.self
+        below = top_below c.self-2.inside.machine c.self-2.inside.forest c.self-2.inside.stack.items c.make.new.self
             c.self-2.inside.count c.self-2.inside.over c.in-Some.below c.top_at.result.0 c.self-2.view_is
             c.top_at.ensures.top;
         left = refl;
@@ -102,7 +102,7 @@ invariant_of-self-2 g c = (
         stands = c.in_ok-term.ensures.made;
       })
       (action_from c.in_ok-shortcut.shortcut.action)
-      (lands_from c.self-2.inside.machine.now
+      (lands_from c.self-2.inside.machine
       (record { below = c.top_at.result; left = c.rule-rule.result.now.left; terminal = c.args.terminal })
       c.in_ok-shortcut.shortcut c.in_ok-shortcut.ensures.ok)
       (subst (λ p. IsStackPaid p.forest p.stack) c.self.view_is c.self.invariant.0.paid) c.in_ok-term.ensures.pays),
@@ -112,12 +112,12 @@ invariant_of-self-2 g c = (
 pub returns-clause-leads : goal.returns-clause-leads
 returns-clause-leads g c =
     leads_on c.args.self.now c.args.number.0 (rule_from c.rule-rule.result.now) c.in-Some.below
-    c.self-2.inside.machine.now c.self-2.inside.forest c.self-2.inside.stack.items
+    c.self-2.inside.machine c.self-2.inside.forest c.self-2.inside.stack.items
     (take c.in-Some.below c.self-2.inside.stack.items)
     (record { below = c.top_at.result; left = c.rule-rule.result.now.left; terminal = c.args.terminal })
     (record { state = c.in_ok-shortcut.shortcut.state; term = c.in_ok-term.term }) c.make.new.self.forest
     (record {
-      cut = is_cut c.self.inside.machine.now c.self-2.inside.machine.now c.self.inside.forest c.self-2.inside.forest
+      cut = is_cut c.self.inside.machine c.self-2.inside.machine c.self.inside.forest c.self-2.inside.forest
           c.self.inside.stack.items c.self-2.inside.stack.items c.args.self.now c.make.new.self c.self.inside.count
           c.self-2.inside.count c.self.inside.over c.self-2.inside.over c.args.number.0 c.in-Some.below
           (rule_from c.rule-rule.result.now) c.self.view_is c.self-2.view_is c.self-2.invariant.0
@@ -125,7 +125,7 @@ returns-clause-leads g c =
           (body_fits c.self.inside.stack c.len.result c.rule-rule.result.now.body_length c.in-Some.below
           c.len.ensures c.in-Some.ensures);
       left_of = refl;
-      below = top_below c.self-2.inside.machine.now c.self-2.inside.forest c.self-2.inside.stack.items c.make.new.self
+      below = top_below c.self-2.inside.machine c.self-2.inside.forest c.self-2.inside.stack.items c.make.new.self
           c.self-2.inside.count c.self-2.inside.over c.in-Some.below c.top_at.result.0 c.self-2.view_is
           c.top_at.ensures.top;
       left = refl;
@@ -133,7 +133,7 @@ returns-clause-leads g c =
       stands = c.in_ok-term.ensures.made;
     })
     (action_from c.in_ok-shortcut.shortcut.action)
-    (lands_from c.self-2.inside.machine.now
+    (lands_from c.self-2.inside.machine
     (record { below = c.top_at.result; left = c.rule-rule.result.now.left; terminal = c.args.terminal })
     c.in_ok-shortcut.shortcut c.in_ok-shortcut.ensures.ok)
     c.push_reserved.new.self.items (on_top _ _ _ _ c.in_ok-reserve.ensures.items c.push_reserved.ensures.items
@@ -143,12 +143,12 @@ returns-clause-leads g c =
 pub returns-clause-action : goal.returns-clause-action
 returns-clause-action g c =
     acts_there c.args.self.now c.args.number.0 (rule_from c.rule-rule.result.now) c.in-Some.below
-    c.self-2.inside.machine.now c.self-2.inside.forest c.self-2.inside.stack.items
+    c.self-2.inside.machine c.self-2.inside.forest c.self-2.inside.stack.items
     (take c.in-Some.below c.self-2.inside.stack.items)
     (record { below = c.top_at.result; left = c.rule-rule.result.now.left; terminal = c.args.terminal })
     (record { state = c.in_ok-shortcut.shortcut.state; term = c.in_ok-term.term }) c.make.new.self.forest
     (record {
-      cut = is_cut c.self.inside.machine.now c.self-2.inside.machine.now c.self.inside.forest c.self-2.inside.forest
+      cut = is_cut c.self.inside.machine c.self-2.inside.machine c.self.inside.forest c.self-2.inside.forest
           c.self.inside.stack.items c.self-2.inside.stack.items c.args.self.now c.make.new.self c.self.inside.count
           c.self-2.inside.count c.self.inside.over c.self-2.inside.over c.args.number.0 c.in-Some.below
           (rule_from c.rule-rule.result.now) c.self.view_is c.self-2.view_is c.self-2.invariant.0
@@ -156,7 +156,7 @@ returns-clause-action g c =
           (body_fits c.self.inside.stack c.len.result c.rule-rule.result.now.body_length c.in-Some.below
           c.len.ensures c.in-Some.ensures);
       left_of = refl;
-      below = top_below c.self-2.inside.machine.now c.self-2.inside.forest c.self-2.inside.stack.items c.make.new.self
+      below = top_below c.self-2.inside.machine c.self-2.inside.forest c.self-2.inside.stack.items c.make.new.self
           c.self-2.inside.count c.self-2.inside.over c.in-Some.below c.top_at.result.0 c.self-2.view_is
           c.top_at.ensures.top;
       left = refl;
@@ -164,7 +164,7 @@ returns-clause-action g c =
       stands = c.in_ok-term.ensures.made;
     })
     (action_from c.in_ok-shortcut.shortcut.action)
-    (lands_from c.self-2.inside.machine.now
+    (lands_from c.self-2.inside.machine
     (record { below = c.top_at.result; left = c.rule-rule.result.now.left; terminal = c.args.terminal })
     c.in_ok-shortcut.shortcut c.in_ok-shortcut.ensures.ok)
     c.push_reserved.new.self.items (on_top _ _ _ _ c.in_ok-reserve.ensures.items c.push_reserved.ensures.items
@@ -174,12 +174,12 @@ returns-clause-action g c =
 pub returns-clause-legal : goal.returns-clause-legal
 returns-clause-legal g c =
     legal_there c.args.self.now c.args.number.0 (rule_from c.rule-rule.result.now) c.in-Some.below
-    c.self-2.inside.machine.now c.self-2.inside.forest c.self-2.inside.stack.items
+    c.self-2.inside.machine c.self-2.inside.forest c.self-2.inside.stack.items
     (take c.in-Some.below c.self-2.inside.stack.items)
     (record { below = c.top_at.result; left = c.rule-rule.result.now.left; terminal = c.args.terminal })
     (record { state = c.in_ok-shortcut.shortcut.state; term = c.in_ok-term.term }) c.make.new.self.forest
     (record {
-      cut = is_cut c.self.inside.machine.now c.self-2.inside.machine.now c.self.inside.forest c.self-2.inside.forest
+      cut = is_cut c.self.inside.machine c.self-2.inside.machine c.self.inside.forest c.self-2.inside.forest
           c.self.inside.stack.items c.self-2.inside.stack.items c.args.self.now c.make.new.self c.self.inside.count
           c.self-2.inside.count c.self.inside.over c.self-2.inside.over c.args.number.0 c.in-Some.below
           (rule_from c.rule-rule.result.now) c.self.view_is c.self-2.view_is c.self-2.invariant.0
@@ -187,7 +187,7 @@ returns-clause-legal g c =
           (body_fits c.self.inside.stack c.len.result c.rule-rule.result.now.body_length c.in-Some.below
           c.len.ensures c.in-Some.ensures);
       left_of = refl;
-      below = top_below c.self-2.inside.machine.now c.self-2.inside.forest c.self-2.inside.stack.items c.make.new.self
+      below = top_below c.self-2.inside.machine c.self-2.inside.forest c.self-2.inside.stack.items c.make.new.self
           c.self-2.inside.count c.self-2.inside.over c.in-Some.below c.top_at.result.0 c.self-2.view_is
           c.top_at.ensures.top;
       left = refl;
@@ -195,7 +195,7 @@ returns-clause-legal g c =
       stands = c.in_ok-term.ensures.made;
     })
     (action_from c.in_ok-shortcut.shortcut.action)
-    (lands_from c.self-2.inside.machine.now
+    (lands_from c.self-2.inside.machine
     (record { below = c.top_at.result; left = c.rule-rule.result.now.left; terminal = c.args.terminal })
     c.in_ok-shortcut.shortcut c.in_ok-shortcut.ensures.ok)
 
@@ -204,10 +204,10 @@ returns-clause-noted g c later states before = elim c.if-not-matches.branch [
   | then-not-matches+in_ok-note w ↦
       subst (IsNoteOf states (stack_from c.self-2.inside.forest c.push_reserved.new.self.items)) (sym w.before-is)
       (note_kept c.args.self.now c.args.number.0 (rule_from c.rule-rule.result.now) c.in-Some.below
-      c.self-2.inside.machine.now c.self-2.inside.forest c.self-2.inside.stack.items w.deref.result.now
+      c.self-2.inside.machine c.self-2.inside.forest c.self-2.inside.stack.items w.deref.result.now
       c.truncate.new.self.items c.push_reserved.new.self.items c.args.first c.args.before.now w.note.new.self
       (record { state = c.in_ok-shortcut.shortcut.state; term = c.in_ok-term.term }) states
-      (is_cut c.self.inside.machine.now c.self-2.inside.machine.now c.self.inside.forest c.self-2.inside.forest
+      (is_cut c.self.inside.machine c.self-2.inside.machine c.self.inside.forest c.self-2.inside.forest
       c.self.inside.stack.items c.self-2.inside.stack.items c.args.self.now c.make.new.self c.self.inside.count
       c.self-2.inside.count c.self.inside.over c.self-2.inside.over c.args.number.0 c.in-Some.below
       (rule_from c.rule-rule.result.now) c.self.view_is c.self-2.view_is c.self-2.invariant.0

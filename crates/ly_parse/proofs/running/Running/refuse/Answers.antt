@@ -8,8 +8,8 @@ use Rattle.ly_parse.proofs.running.Running.refuse.Goals as goal
 
 pub expected-requires-clause-states : goal.expected-requires-clause-states
 expected-requires-clause-states g c =
-    subst (All (λ k. k < states_of c.self.inside.machine.now))
-    (sym (listed_states c.self.inside.machine.now c.self.inside.forest c.self.inside.stack.items c.deref.result.now
+    subst (All (λ k. k < states_of c.self.inside.machine))
+    (sym (listed_states c.self.inside.machine c.self.inside.forest c.self.inside.stack.items c.deref.result.now
     c.args.self.now c.self.inside.count c.self.inside.over c.args.before.now c.in_ok-states.states.items
     c.deref-2.result.now c.self.view_is c.deref.ensures.value c.in_ok-states.ensures c.deref-2.ensures.value))
     (subst (λ m. All (λ k. k < states_of m) (before_on c.args.self.now.stack c.args.before.now))
@@ -17,8 +17,8 @@ expected-requires-clause-states g c =
 
 pub expected-requires-clause-stack : goal.expected-requires-clause-stack
 expected-requires-clause-stack g c =
-    subst (IsStack c.self.inside.machine.now)
-    (sym (listed_states c.self.inside.machine.now c.self.inside.forest c.self.inside.stack.items c.deref.result.now
+    subst (IsStack c.self.inside.machine)
+    (sym (listed_states c.self.inside.machine c.self.inside.forest c.self.inside.stack.items c.deref.result.now
     c.args.self.now c.self.inside.count c.self.inside.over c.args.before.now c.in_ok-states.states.items
     c.deref-2.result.now c.self.view_is c.deref.ensures.value c.in_ok-states.ensures c.deref-2.ensures.value))
     (subst (λ m. IsStack m (before_on c.args.self.now.stack c.args.before.now))
@@ -30,8 +30,8 @@ returns-clause-ok g c = (
   refl,
   subst (λ m. AreExpected m (before_on c.args.self.now.stack c.args.before.now)
       (map (λ s. s.0) c.in_ok-expected.field-0.items)) (ap (λ q. q.machine) c.self.view_is)
-      (subst (λ w. AreExpected c.self.inside.machine.now w (map (λ s. s.0) c.in_ok-expected.field-0.items))
-      (listed_states c.self.inside.machine.now c.self.inside.forest c.self.inside.stack.items c.deref.result.now
+      (subst (λ w. AreExpected c.self.inside.machine w (map (λ s. s.0) c.in_ok-expected.field-0.items))
+      (listed_states c.self.inside.machine c.self.inside.forest c.self.inside.stack.items c.deref.result.now
       c.args.self.now c.self.inside.count c.self.inside.over c.args.before.now c.in_ok-states.states.items
       c.deref-2.result.now c.self.view_is c.deref.ensures.value c.in_ok-states.ensures c.deref-2.ensures.value)
       c.in_ok-expected.ensures),

@@ -12,7 +12,7 @@ pub loop-next-init : goal.loop-next-init
 loop-next-init g c = record {
   run = record {
     alike = λ token out same fed. fed;
-    ends = run_ends c.self.inside.machine.now c.self.inside.forest c.self.inside.stack.items c.args.self.now
+    ends = run_ends c.self.inside.machine c.self.inside.forest c.self.inside.stack.items c.args.self.now
         c.self.inside.count c.self.inside.over c.args.terminal.0 c.self.view_is c.self.invariant.0
         c.requires.terminal;
   };

@@ -2,7 +2,7 @@ use Rattle.std.proofs.Common.{◌∙◌, ap, sym}
 use Rattle.std.specs.Prelude.{option_map}
 use Rattle.ly_pack.specs.Values.{action_from}
 use Rattle.ly_pack.proofs.GridLemmas.{entry_at-machine}
-use Rattle.ly_pack.proofs.machine.Machine.entry.Goals as goal
+use Rattle.ly_pack.proofs.machine_view.MachineView.entry.Goals as goal
 
 pub returns : goal.returns
 returns g c = ap (option_map action_from) c.entry.ensures

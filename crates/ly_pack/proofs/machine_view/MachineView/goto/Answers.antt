@@ -2,7 +2,7 @@ use Rattle.std.proofs.Common.{◌∙◌, ap, sym}
 use Rattle.std.specs.Prelude.{option_map}
 use Rattle.ly_base.specs.declared.numbers.StateNo.{StateNo}
 use Rattle.ly_pack.proofs.GridLemmas.{goto_at-machine}
-use Rattle.ly_pack.proofs.machine.Machine.goto.Goals as goal
+use Rattle.ly_pack.proofs.machine_view.MachineView.goto.Goals as goal
 
 pub returns : goal.returns
 returns g c = ap (option_map (λ (s : StateNo). s.0)) c.entry.ensures
