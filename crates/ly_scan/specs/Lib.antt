@@ -1,9 +1,9 @@
 pub mod Cuts
 pub mod Lexer
+pub mod Lexers
 pub mod LoneBytes
 pub mod Matcher
 pub mod Matching
-pub mod PieceLexer
 pub mod Pieces
 pub mod Private
 pub mod StateRows

@@ -4,9 +4,8 @@ use Rattle.std.specs.Prelude.{option_and_then, slice_get, slice_index_or, unwrap
 use Rattle.ly_base.specs.declared.cut.Cut.{Cut}
 use Rattle.ly_base.specs.declared.cut.Cut.TheVariants.{Whole}
 use Rattle.ly_base.specs.declared.numbers.RuleNo.{RuleNo}
-use Rattle.ly_scan.specs.Lexer.{Scanner}
 use Rattle.ly_scan.specs.StateRows.{row_entry, state_at, Begins}
-use Rattle.ly_scan.specs.StateWalk.{States, ahead_of, state_walk}
+use Rattle.ly_scan.specs.StateWalk.{States, ahead_of}
 use Rattle.ly_scan.specs.Walk.{Walk}
 use Rattle.ly_scan.specs.declared.scanner_parts.ConditionStart.{ConditionStart}
 use Rattle.ly_scan.specs.declared.scanner_parts.ScannerParts.{ScannerParts}
@@ -42,11 +41,7 @@ states_of t = record { start = start_at t; next = next_at t; rule = rule_at t }
 abbrev pub cut_at : StateTable → ℕ → Cut
 cut_at t rule = unwrap_or (slice_get t.cuts rule) Whole
 
--- what it says of a text
-abbrev pub scanner_of : StateTable → Scanner
-scanner_of t = record { walk = state_walk (states_of t); cut = cut_at t }
-
--- what it says of the bytes that come, from where a walk stands
+-- what a walk says of the bytes that come, from where it stands
 abbrev pub ahead_at : StateTable → RowStart → Walk
 ahead_at t at = ahead_of (states_of t) (Some (state_at at))
 

@@ -1,8 +1,8 @@
 ghost use Rattle.std.specs.Prelude.{◌≡◌, ◌<◌, ◌≤◌, ◌+◌, ◌^◌, false, true, length, IfErr, IfOk, IfSome, MatchOption};
 ghost use Rattle.ly_base.specs.Lexed.{Place as Spot};
-ghost use Rattle.ly_scan.specs.PieceLexer.{IsUnderwayAt};
+ghost use Rattle.ly_scan.specs.Lexers.{scanner_of, IsUnderwayAt};
 ghost use Rattle.ly_scan.specs.Pieces.{behind, EndsFast, IsUndecided, PassesOver, StandsFast};
-ghost use Rattle.ly_scan.specs.StateTable.{scanner_of, StandsIn};
+ghost use Rattle.ly_scan.specs.StateTable.{StandsIn};
 
 use crate::lexeme::next_lexeme;
 use crate::lone_bytes::LoneBytes;
@@ -27,8 +27,8 @@ pub struct Lexer {
 
 impl Model for Lexer {
     ghost use Rattle.ly_scan.specs.LoneBytes.{AreLone};
-    ghost use Rattle.ly_scan.specs.PieceLexer as value;
-    ghost use Rattle.ly_scan.specs.StateTable.{scanner_of};
+    ghost use Rattle.ly_scan.specs.Lexers as value;
+    ghost use Rattle.ly_scan.specs.Lexers.{scanner_of};
 
     ghost Value = { value.Lexer };
 

@@ -2,7 +2,7 @@ ghost use Rattle.std.specs.Bool.{OnTrue};
 ghost use Rattle.std.specs.Prelude.{◌≡◌, ◌<◌, ℕ, Some, false, length, IfSome, All, option_map};
 ghost use Rattle.ly_base.specs.declared.cut.Cut.TheVariants.{Whole};
 ghost use Rattle.ly_scan.specs.StateRows.{state_at, Begins};
-ghost use Rattle.ly_scan.specs.StateTable.{ahead_at, cut_at, scanner_of, start_at, states_of, table_from};
+ghost use Rattle.ly_scan.specs.StateTable.{ahead_at, cut_at, start_at, states_of, table_from};
 ghost use Rattle.ly_scan.specs.StateTable.{LeadsWithin, StandsIn};
 ghost use Rattle.ly_scan.specs.StateWalk.{ahead_of-ended, state_walk, MindsNoLine};
 

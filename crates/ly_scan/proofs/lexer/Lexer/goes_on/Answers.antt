@@ -1,8 +1,7 @@
 use Rattle.std.proofs.Common.{◌∙◌, ap, not, subst, sym}
-use Rattle.ly_scan.proofs.PieceLexerLemmas.{goes_on_at}
-use Rattle.ly_scan.specs.PieceLexer.{IsUnderwayAt, Lexer}
+use Rattle.ly_scan.proofs.LexerLemmas.{goes_on_at}
+use Rattle.ly_scan.specs.Lexers.{IsUnderwayAt, Lexer, scanner_of}
 use Rattle.ly_scan.specs.Pieces.{IsUndecided, behind}
-use Rattle.ly_scan.specs.StateTable.{scanner_of}
 use Rattle.ly_scan.proofs.lexer.Lexer.goes_on.Goals as goal
 
 pub returns : goal.returns

@@ -1,9 +1,8 @@
 use Rattle.std.proofs.Common.{subst, sym}
 use Rattle.std.specs.Prelude.{[]}
-use Rattle.ly_scan.proofs.PieceLexerLemmas.{underway_at}
-use Rattle.ly_scan.specs.PieceLexer.{IsUnderwayAt, Lexer}
+use Rattle.ly_scan.proofs.LexerLemmas.{underway_at}
+use Rattle.ly_scan.specs.Lexers.{IsUnderwayAt, Lexer, scanner_of}
 use Rattle.ly_scan.specs.Pieces.{IsUndecided}
-use Rattle.ly_scan.specs.StateTable.{scanner_of}
 use Rattle.ly_scan.proofs.lexer.Lexer.matcher_at.Goals as goal
 
 pub returns : goal.returns

@@ -1,8 +1,8 @@
 use Rattle.std.proofs.Common.{arith, ap, length, length-drop, subst}
-use Rattle.ly_scan.proofs.PieceLexerLemmas.{passes_one}
+use Rattle.ly_scan.proofs.LexerLemmas.{passes_one}
 use Rattle.ly_scan.specs.LoneBytes.{AreLone}
 use Rattle.ly_scan.specs.Pieces.{none_yet}
-use Rattle.ly_scan.specs.StateTable.{scanner_of}
+use Rattle.ly_scan.specs.Lexers.{scanner_of}
 use Rattle.ly_scan.proofs.lexer.Lexer.pass_over.Goals as goal
 
 pub loop-self-init : goal.loop-self-init

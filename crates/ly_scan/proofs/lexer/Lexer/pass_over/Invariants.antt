@@ -1,6 +1,6 @@
 use Rattle.std.proofs.Common.{◌≤◌, length}
 use Rattle.ly_scan.specs.Pieces.{PassesOver}
-use Rattle.ly_scan.specs.StateTable.{scanner_of}
+use Rattle.ly_scan.specs.Lexers.{scanner_of}
 use Rattle.ly_scan.proofs.lexer.Lexer.pass_over.Given as goal
 
 abbrev pub invariant-loop-self : goal.invariant-loop-self
