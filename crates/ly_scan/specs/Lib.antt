@@ -9,5 +9,4 @@ pub mod Private
 pub mod StateRows
 pub mod StateTable
 pub mod StateWalk
-pub mod Stub
 pub mod Walk

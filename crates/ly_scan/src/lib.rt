@@ -18,7 +18,6 @@ mod matching;
 mod scanner;
 mod scanner_parts;
 mod state_rows;
-mod stub;
 mod steps;
 
 pub use lexeme::next_lexeme;
@@ -30,4 +29,3 @@ pub use scanner::Scanner;
 pub use scanner_parts::{ConditionStart, ScannerParts};
 pub use state_rows::{RowStart, StateRows};
 pub use steps::Steps;
-pub use stub::{Lexer, Matcher};
