@@ -1,4 +1,7 @@
+pub mod ClosingLemmas
+pub mod EndingLemmas
 pub mod FaultLemmas
+pub mod FeedLemmas
 pub mod FeedingLemmas
 pub mod LabelLemmas
 pub mod LineLemmas
