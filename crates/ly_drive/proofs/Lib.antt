@@ -1,12 +1,10 @@
 pub mod AnswerLemmas
-pub mod ByBytesLemmas
 pub mod FaultLemmas
 pub mod FeedingLemmas
 pub mod LabelLemmas
+pub mod LexerOfLemmas
 pub mod OneVerdictLemmas
 pub mod PassingLemmas
 pub mod RunningLemmas
-pub mod ScanTableLemmas
 pub mod SomeVerdictLemmas
-pub mod TablesLemmas
 pub mod TakingLemmas

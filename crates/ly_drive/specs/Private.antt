@@ -1,4 +1,5 @@
 pub mod Labels
+pub mod LexerOf
 pub mod Passing
 pub mod Running
-pub mod Tables
+pub mod ScannerOf

@@ -12,13 +12,11 @@ mod driving;
 mod fault;
 mod labels;
 mod laws;
+mod lexer_of_set;
 mod lines;
 mod names;
 mod outcome;
 mod running;
-mod scan_table;
-mod table_walk;
-mod tables;
 
 pub use driving::{drive, run};
 pub use fault::DriveFault;

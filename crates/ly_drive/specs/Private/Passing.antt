@@ -1,7 +1,6 @@
 -- Rules whose lexemes are passed over.
 use Rattle.std.specs.Prelude.{◌≡◌, ℕ, List, Bool, Some, None, true, slice_get}
-use Rattle.ly_drive.specs.ScanPart.{ScanPart, condition_in, scanner_in, terminal_in}
-use Rattle.ly_scan.specs.LoneBytes.{AreLone}
+use Rattle.ly_drive.specs.ScanPart.{ScanPart, condition_in, terminal_in}
 
 -- nothing comes of the lexemes of a rule: it returns no terminal and sets no condition
 pub record IsPassedOver (p : ScanPart) (rule : ℕ) : Type 0 where
@@ -11,9 +10,3 @@ pub record IsPassedOver (p : ScanPart) (rule : ℕ) : Type 0 where
 -- the rules marked are such
 abbrev pub ArePassedOver : ScanPart → List Bool → Type 0
 ArePassedOver p passed = (rule : ℕ) → slice_get passed rule ≡ Some true → IsPassedOver p rule
-
--- The bytes told are lexemes of their own, of which nothing comes.
-pub record AreBlanks (p : ScanPart) (bytes : List Bool × List Bool) : Type 0 where
-  pub passed : List Bool
-  pub over : ArePassedOver p passed
-  pub lone : AreLone (scanner_in p) passed bytes

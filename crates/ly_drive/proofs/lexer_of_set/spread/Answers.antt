@@ -1,7 +1,7 @@
 use Rattle.std.proofs.Common.{arith, get_or, length, None}
 use Rattle.ly_scan.proofs.StateRowLemmas.{has_row}
-use Rattle.ly_drive.proofs.ScanTableLemmas.{leads_within}
-use Rattle.ly_drive.proofs.scan_table.spread.Goals as goal
+use Rattle.ly_drive.proofs.LexerOfLemmas.{leads_within}
+use Rattle.ly_drive.proofs.lexer_of_set.spread.Goals as goal
 
 pub set-requires-clause-next : goal.set-requires-clause-next
 set-requires-clause-next c =

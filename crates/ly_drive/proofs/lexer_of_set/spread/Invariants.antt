@@ -3,7 +3,7 @@ use Rattle.std.specs.Prelude.{slice_index}
 use Rattle.ly_pack.specs.Rows.{comb_entry}
 use Rattle.ly_scan.specs.StateRows.{row_entry}
 use Rattle.ly_drive.specs.ScanPart.{states_from}
-use Rattle.ly_drive.proofs.scan_table.spread.Given as goal
+use Rattle.ly_drive.proofs.lexer_of_set.spread.Given as goal
 
 -- the entries of the rows before this one are there
 abbrev pub invariant-loop-state : goal.invariant-loop-state

@@ -1,6 +1,6 @@
 use Rattle.std.proofs.Common.{None, arith, refl}
 use Rattle.std.proofs.lemmas.List.{get_or-replicate}
-use Rattle.ly_drive.proofs.scan_table.targets_of.Goals as goal
+use Rattle.ly_drive.proofs.lexer_of_set.targets_of.Goals as goal
 
 pub loop-class-init : goal.loop-class-init
 loop-class-init c = record {

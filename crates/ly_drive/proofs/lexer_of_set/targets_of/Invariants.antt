@@ -1,7 +1,7 @@
 use Rattle.std.proofs.Common.{◌≡◌, ◌<◌, ◌≤◌, ℕ, length, None, get_or}
 use Rattle.ly_pack.specs.Rows.{comb_entry}
 use Rattle.ly_drive.specs.ScanPart.{states_from}
-use Rattle.ly_drive.proofs.scan_table.targets_of.Given as goal
+use Rattle.ly_drive.proofs.lexer_of_set.targets_of.Given as goal
 
 -- the classes before this one are looked up, and those from it on lead nowhere yet
 abbrev pub invariant-loop-class : goal.invariant-loop-class
