@@ -1,6 +1,6 @@
 -- What stands at a place, whatever comes behind the bytes that are known.
 use Rattle.std.proofs.Common.{◌≡◌, ◌≢◌, ℕ, List, [], ◌∷◌, ◌++◌, append-nil, arith, refl, subst}
-use Rattle.std.specs.Prelude.{Bool}
+use Rattle.std.specs.Prelude.{Bool, MatchOption, Option, Some, false}
 use Rattle.ly_base.specs.Lexed.{Place}
 use Rattle.ly_base.specs.declared.cut.Cut.{Cut}
 use Rattle.ly_base.specs.declared.lexeme.End.{End}
@@ -10,7 +10,7 @@ use Rattle.ly_base.specs.declared.numbers.RuleNo.{RuleNo}
 use Rattle.ly_scan.proofs.LexingLemmas.{taken_within}
 use Rattle.ly_scan.specs.Lexer.{IsLexemeAt, ScanEndsAt, Scanner}
 use Rattle.ly_scan.specs.Matching.{IsMatch}
-use Rattle.ly_scan.specs.Pieces.{CanFollow, EndsFast, StandsFast, behind}
+use Rattle.ly_scan.specs.Pieces.{CanFollow, EndsFast, IsUndecided, StandsFast, behind}
 use Rattle.ly_scan.specs.Walk.{Walk}
 use Rattle.ly_scan.specs.declared.matching.Match.{Match}
 use Rattle.ly_scan.specs.declared.matching.Match.TheVariants.{BadCut, Stuck, Win}
@@ -75,3 +75,9 @@ lexeme_at s q ended t h = subst (λ x. IsLexemeAt s x t) (behind_none q) (h.is [
 -- and a run that ends there whatever comes ends there
 pub end_at : (s : Scanner) (q : Place) (ended : Bool) (e : End) → EndsFast ended s q e → ScanEndsAt s q e
 end_at s q ended e h = subst (λ x. ScanEndsAt s x e) (behind_none q) (h [] (none_follows ended))
+
+-- what a lexer answers, where that is a lexeme
+pub answered : (ended : Bool) (s : Scanner) (q : Place) (o : Option Lexeme) (t : Lexeme) → o ≡ Some t
+    → MatchOption o ((ended ≡ false) × IsUndecided s q) (StandsFast ended s q) → StandsFast ended s q t
+answered ended s q o t e h
+    = subst (λ o. MatchOption o ((ended ≡ false) × IsUndecided s q) (StandsFast ended s q)) e h
