@@ -1,12 +1,15 @@
 pub mod FaultLemmas
 pub mod FeedingLemmas
 pub mod LabelLemmas
+pub mod LineLemmas
 pub mod OneVerdictLemmas
 pub mod OnwardLemmas
 pub mod PieceLemmas
 pub mod ReadingLemmas
 pub mod RestLemmas
 pub mod ReturnedLemmas
+pub mod RunLemmas
 pub mod SettledLemmas
 pub mod SomeVerdictLemmas
 pub mod StopLemmas
+pub mod TakingLemmas

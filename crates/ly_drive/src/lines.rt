@@ -1,7 +1,8 @@
-ghost use Rattle.std.specs.Prelude.{◌≡◌, ℕ, [], ◌∷◌, ◌++◌, Err, IfErr, IfOk, IsSome, OnOk, map};
+ghost use Rattle.std.specs.Prelude.{◌≡◌, ◌≢◌, ℕ, List, [], ◌∷◌, ◌++◌, Err, IfErr, IfOk, IsSome, OnOk, map};
 ghost use Rattle.std.specs.Io.KnownBytes.{Appends};
 ghost use Rattle.ly_base.specs.Bytes.{newline};
 ghost use Rattle.ly_base.specs.Device.{next_count};
+ghost use Rattle.ly_base.specs.Text.{no_rule_line};
 ghost use Rattle.ly_base.specs.TextWriter.{IsCutShort};
 ghost use Rattle.ly_drive.specs.DriveFault.{IsBeforeWriting, IsOfWriting, IsWrite};
 ghost use Rattle.ly_drive.specs.Private.Flaw.{token_of, verdict_of};
@@ -10,7 +11,7 @@ ghost use Rattle.ly_drive.specs.Verdict.{expected_line, printed, syntax_line, Is
 ghost use Rattle.ly_drive.specs.Vocabularies.{vocabulary_of};
 ghost use Rattle.ly_tree.specs.Costs.{IsPaid};
 ghost use Rattle.ly_tree.specs.Forest.{term_of, StandsFor};
-ghost use Rattle.ly_tree.specs.Shown.{shown};
+ghost use Rattle.ly_tree.specs.Shown.{shown, Vocabulary};
 ghost use Rattle.ly_tree.specs.Term.{Term};
 
 use crate::fault::DriveFault;
@@ -95,42 +96,71 @@ pub(crate) fn told(
     ensures { IfOk result (λ told. IsOutcome (verdict_of flaw.entry) told.0
         × (told.1.items ≡ printed (vocabulary_of set.now) (verdict_of flaw.entry))) }
 {
-    let names = Names::of(set);
-    let mut lines = Vec::new(alloc);
-    match &flaw {
+    let lines = flaw_lines(alloc, &Names::of(set), &flaw)?;
+    Ok((flaw.into_outcome(), lines))
+}
+
+/// The lines that say what is wrong with a text.
+fn flaw_lines(alloc: Global, names: &Names<'_>, flaw: &Flaw<'_>) -> Result<Vec<u8>, OutOfMemory>
+    ensures { IfOk result (λ lines. lines.items ≡ printed (words_of names.now) (verdict_of flaw.now)) }
+{
+    match flaw {
         Flaw::Refused {
             number,
             token,
             expected,
         } => {
-            push_syntax_line(&mut lines, &names, *number, token)?;
-            push_expected_line(&mut lines, &names, expected)?;
+            let mut lines = syntax_line(alloc, names, *number, token)?;
+            push_expected_line(&mut lines, names, expected)?;
+            Ok(lines)
         }
-        Flaw::NoRule { byte } => push_no_rule_line(&mut lines, *byte)?,
+        Flaw::NoRule { byte } => unmatched_line(alloc, *byte),
     }
-    Ok((flaw.into_outcome(), lines))
 }
 
-/// Adds the line that says that a token is refused, or the end, by its number, which counts from 1.
-fn push_syntax_line(
-    lines: &mut Vec<u8>,
+/// The line that says that a token is refused, or the end, by its number, which counts from 1.
+fn syntax_line(
+    alloc: Global,
     names: &Names<'_>,
     number: u64,
     token: &Token<'_>,
-) -> Result<(), OutOfMemory>
-    ensures { OnOk result (lines.new.items
-        ≡ lines.old.items ++ syntax_line (words_of names.now) number (token_of token.now)) }
+) -> Result<Vec<u8>, OutOfMemory>
+    ensures { IfOk result (λ line. line.items ≡ syntax_line (words_of names.now) number (token_of token.now)) }
 {
-    let byte = token.at;
-    if token.terminal == Sym(0) {
-        writeln!(lines, "syntax error at end, token {number}, byte {byte}").map_err(|_| OutOfMemory)?;
-        return Ok(());
+    if token.terminal.0 == 0 {
+        end_line(alloc, number, token.at)
+    } else {
+        token_line(alloc, names, number, token)
     }
-    write!(lines, "syntax error at token {number}, byte {byte}: ").map_err(|_| OutOfMemory)?;
+}
+
+/// That of a token of the text.
+fn token_line(
+    alloc: Global,
+    names: &Names<'_>,
+    number: u64,
+    token: &Token<'_>,
+) -> Result<Vec<u8>, OutOfMemory>
+    requires { token.now.terminal.0 ≢ 0 }
+    ensures { IfOk result (λ line. line.items ≡ syntax_line (words_of names.now) number (token_of token.now)) }
+{
+    let mut line = Vec::new(alloc);
+    let byte = token.at;
+    write!(line, "syntax error at token {number}, byte {byte}: ").map_err(|_| OutOfMemory)?;
     let name = Terminal::Token(names.of_terminal(token.terminal));
-    push_leaf(lines, name, token.text.bytes())?;
-    lines.push(b'\n')?;
-    Ok(())
+    push_leaf(&mut line, name, token.text.bytes())?;
+    line.push(b'\n')?;
+    Ok(line)
+}
+
+/// That of the end, which stands at this byte.
+fn end_line(alloc: Global, number: u64, byte: u64) -> Result<Vec<u8>, OutOfMemory>
+    ensures { IfOk result (λ line. (v : Vocabulary) (bytes : List ℕ) → line.items
+        ≡ syntax_line v number (record { terminal = 0; at = byte; bytes = bytes })) }
+{
+    let mut line = Vec::new(alloc);
+    writeln!(line, "syntax error at end, token {number}, byte {byte}").map_err(|_| OutOfMemory)?;
+    Ok(line)
 }
 
 /// Adds the line that names the terminals that are expected.
@@ -149,4 +179,13 @@ fn push_expected_line(
     }
     line.push(b'\n')?;
     Ok(())
+}
+
+/// The line that says at which byte no rule matches.
+fn unmatched_line(alloc: Global, byte: u64) -> Result<Vec<u8>, OutOfMemory>
+    ensures { IfOk result (λ line. line.items ≡ no_rule_line byte) }
+{
+    let mut line = Vec::new(alloc);
+    push_no_rule_line(&mut line, byte)?;
+    Ok(line)
 }

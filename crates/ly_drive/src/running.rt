@@ -41,6 +41,7 @@ pub(crate) fn run_on<'t>(
     loop {
         let lexeme = match lexer.next(place, ended) {
             Ok(Some(lexeme)) => lexeme,
+            // it isn't decided which one comes, or the text has ended
             Ok(None) | Err(End::Clean) => return Ok(None),
             Err(End::Stuck { byte }) => return Ok(Some(Flaw::NoRule { byte: byte as u64 })),
             Err(End::BadCut { .. }) => return Err(RunFault::TableFault),

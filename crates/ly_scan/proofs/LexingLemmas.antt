@@ -36,19 +36,22 @@ best_of walk text (suc n) = subst (λ k. (best : Option (ℕ × RuleNo)) × IsBe
         = (b.0, best_stays walk text n (n + 1) b.0 (omega arith) (other (Some None) e (λ s no. cc)) b.1)
     by_walk (Some (Some r)) e b = (Some (n + 1, record { 0 = r }), best_more walk text n r e)
 
--- what a cut leaves has a byte
-taken_some : (c : Cut) (n k : ℕ) → 1 ≤ n → token_len c n ≡ Some k → 1 ≤ k
-taken_some Whole n k low e = let same : n ≡ k = cc in omega (arith, low, same)
-taken_some (Head len) n k low e = by_test (nat_lt 0 len && nat_le len n) refl e
+-- what a cut leaves has a byte, and lies in the match
+pub taken_within : (c : Cut) (n k : ℕ) → 1 ≤ n → token_len c n ≡ Some k → (1 ≤ k) × (k ≤ n)
+taken_within Whole n k low e = let same : n ≡ k = cc in (omega (arith, low, same), omega (arith, same))
+taken_within (Head len) n k low e = by_test (nat_lt 0 len && nat_le len n) refl e
   where
-    by_test : (b : Bool) → (nat_lt 0 len && nat_le len n) ≡ b → (if b then Some len else None) ≡ Some k → 1 ≤ k
+    by_test : (b : Bool) → (nat_lt 0 len && nat_le len n) ≡ b → (if b then Some len else None) ≡ Some k
+        → (1 ≤ k) × (k ≤ n)
     by_test false t f = absurd cc
-    by_test true t f = let same : len ≡ k = cc in grind (arith, nat_tests, same, t)
-taken_some (Tail len) n k low e = by_test (nat_lt len n) refl e
+    by_test true t f =
+        let same : len ≡ k = cc in (grind (arith, nat_tests, same, t), grind (arith, nat_tests, same, t))
+taken_within (Tail len) n k low e = by_test (nat_lt len n) refl e
   where
-    by_test : (b : Bool) → nat_lt len n ≡ b → (if b then Some (n - len) else None) ≡ Some k → 1 ≤ k
+    by_test : (b : Bool) → nat_lt len n ≡ b → (if b then Some (n - len) else None) ≡ Some k → (1 ≤ k) × (k ≤ n)
     by_test false t f = absurd cc
-    by_test true t f = let same : n - len ≡ k = cc in grind (arith, nat_tests, same, t)
+    by_test true t f =
+        let same : n - len ≡ k = cc in (grind (arith, nat_tests, same, t), grind (arith, nat_tests, same, t))
 
 -- A lexeme stands at a place, and a byte or more of it is its token.
 record Stands (s : Scanner) (q : Place) : Type 0 where
@@ -66,7 +69,7 @@ stands_or_ends s q = by_rest q.rest refl
     by_cut n r best (Some taken) e = inl (record {
       lexeme = record { rule = r; matched = n; taken = taken };
       is_lexeme = (best, e);
-      goes_on = (let low = taken_some (s.cut r.0) n taken best.some_byte e in
+      goes_on = (let low = (taken_within (s.cut r.0) n taken best.some_byte e).0 in
           let some = best.some_byte in let within = best.within in
           omega (arith, length-drop taken q.rest, low, some, within));
     })
@@ -82,7 +85,8 @@ stands_or_ends s q = by_rest q.rest refl
         let best = best_of (s.walk q.condition q.line) q.rest (length q.rest) in
         by_best best.0 (λ none. (let same : b ∷ bs ≡ [] = sym e ∙ none in cc)) best.1
 
-no_bytes : (bytes : List ℕ) → length bytes ≤ 0 → bytes ≡ []
+-- a text of no byte
+pub no_bytes : (bytes : List ℕ) → length bytes ≤ 0 → bytes ≡ []
 no_bytes [] h = refl
 no_bytes (b ∷ bytes) h = absurd (omega arith)
 

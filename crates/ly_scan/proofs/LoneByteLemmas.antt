@@ -1,9 +1,8 @@
 -- Lexemes of one byte.
-use Rattle.std.proofs.Common.{◌≡◌, ◌≢◌, ◌∙◌, ◌<◌, ◌≤◌, ℕ, suc, zero, [], ◌∷◌, ◌++◌, List, Some, None, true, false}
+use Rattle.std.proofs.Common.{◌≡◌, ◌∙◌, ◌<◌, ◌≤◌, ◌⊎◌, ℕ, suc, zero, [], ◌∷◌, ◌++◌, List, Some, None, true, false}
 use Rattle.std.proofs.Common.{ap, arith, get_or, inl, inr, length, refl, subst, sym, take}
 use Rattle.std.proofs.Math.ListN.{replicate, set}
-use Rattle.std.proofs.lemmas.Bool.{cases_lt}
-use Rattle.std.proofs.lemmas.Grind.{get_or-set_at}
+use Rattle.std.proofs.lemmas.Bool.{cases_eq, cases_lt}
 use Rattle.std.proofs.lemmas.List.{get_or-replicate, get_or-set_other, get_or_default, get_or_past}
 use Rattle.std.proofs.lemmas.List.{length-replicate}
 use Rattle.std.specs.Bool.{OnTrue}
@@ -11,17 +10,8 @@ use Rattle.std.specs.Prelude.{Bool, ◌&&◌, not}
 use Rattle.ly_base.specs.Lexed.{Place}
 use Rattle.ly_scan.specs.Cuts.{token_len}
 use Rattle.ly_scan.specs.Lexer.{Scanner}
-use Rattle.ly_scan.specs.LoneBytes.{AreLone, IsLoneAt}
+use Rattle.ly_scan.specs.LoneBytes.{AreLone, IsLoneAt, IsOfPassed}
 use Rattle.ly_scan.specs.Walk.{IsLongest, Walk}
-
--- what is still false after a place was made true isn't that place
-pub not_there : (xs : List Bool) (i c : ℕ) → i < length xs → get_or (set xs i true) c false ≡ false → c ≢ i
-not_there xs i c lt h e = let no : true ≡ false = sym (get_or-set_at xs i c true false e lt) ∙ h in cc
-
--- and was so before
-pub was_so : (xs : List Bool) (i c : ℕ) → i < length xs → get_or (set xs i true) c false ≡ false
-    → get_or xs c false ≡ false
-was_so xs i c lt h = sym (get_or-set_other xs i c true false (not_there xs i c lt h)) ∙ h
 
 -- a value and the negation of another
 pub both : (a b : Bool) (P : Type 0) → (a ≡ true → b ≡ false → P) → OnTrue (a && not b) P
@@ -67,14 +57,22 @@ lone_in s passed l p [] e initial long h byte begins ends = absurd (omega (arith
 lone_in s passed l p (b ∷ []) e initial long h byte begins ends = absurd (omega (arith, long))
 lone_in s passed l p (b ∷ c ∷ more) e initial long h byte begins ends =
     let one = h.begin b p.line begins in
-    let found = longest (s.walk 0 p.line) b c more one.rule (h.stays_ended p.line) one.walked
-    (h.end b c p.line byte begins ends) in record {
+    let found : (after : List ℕ) → IsLongest (s.walk 0 p.line) ((b ∷ c ∷ more) ++ after)
+    (length ((b ∷ c ∷ more) ++ after)) 1 one.rule
+    = λ after. longest (s.walk 0 p.line) b c (more ++ after) one.rule (h.stays_ended p.line) one.walked
+    (h.end b c p.line byte begins ends) in
+    record {
       lexeme = record { rule = record { 0 = one.rule }; matched = 1; taken = 1 };
-      is = (
-        subst (λ k. IsLongest (s.walk k p.line) p.rest (length p.rest) 1 one.rule) (sym initial)
-            (subst (λ w. IsLongest (s.walk 0 p.line) w (length w) 1 one.rule) (sym e) found),
-        ap (λ k. token_len k 1) one.whole,
-      );
+      stands = record {
+        is = λ after follows. (
+          subst (λ k. IsLongest (s.walk k p.line) (p.rest ++ after) (length (p.rest ++ after)) 1 one.rule) (sym initial)
+              (subst (λ w. IsLongest (s.walk 0 p.line) (w ++ after) (length (w ++ after)) 1 one.rule) (sym e)
+              (found after)),
+          ap (λ k. token_len k 1) one.whole,
+        );
+        some = omega arith;
+        within = omega (arith, ap length e);
+      };
       one = refl;
       is_passed = one.is_passed;
     }
@@ -101,3 +99,38 @@ none_begins s passed ends stays = record {
   end = λ b c line byte h ends. let no : false ≡ true = sym (none_there b) ∙ h in cc;
   stays_ended = stays;
 }
+
+-- one more byte begins one, and those that may go on with it are marked
+pub one_added : (s : Scanner) (passed begins goes next : List Bool) (byte : ℕ) → byte < length begins
+    → AreLone s passed (begins, goes) → IsOfPassed s passed false byte → IsOfPassed s passed true byte
+    → ((c : ℕ) → get_or next c false ≡ false → get_or goes c false ≡ false)
+    → ((c : ℕ) → c < 256 → get_or next c false ≡ false → s.walk 0 false (byte ∷ c ∷ []) ≡ None)
+    → ((c : ℕ) → c < 256 → get_or next c false ≡ false → s.walk 0 true (byte ∷ c ∷ []) ≡ None)
+    → AreLone s passed (set begins byte true, next)
+one_added s passed begins goes next byte lt h elsewhere at_line kept ends ends_at_line = record {
+  begin = λ b line e. by_byte b line (cases_eq b byte) e;
+  end = λ b c line low e none. ended b c line low (cases_eq b byte) e none;
+  stays_ended = h.stays_ended;
+}
+  where
+    was : (b : ℕ) → (b ≡ byte → ⊥) → get_or (set begins byte true) b false ≡ true → get_or begins b false ≡ true
+    was b other e = sym (get_or-set_other begins byte b true false other) ∙ e
+
+    of_line : (line : Bool) → IsOfPassed s passed line byte
+    of_line false = elsewhere
+    of_line true = at_line
+
+    by_byte : (b : ℕ) (line : Bool) → (b ≡ byte) ⊎ (b ≡ byte → ⊥) → get_or (set begins byte true) b false ≡ true
+        → IsOfPassed s passed line b
+    by_byte b line (inl same) e = subst (IsOfPassed s passed line) (sym same) (of_line line)
+    by_byte b line (inr other) e = h.begin b line (was b other e)
+
+    ends_by : (c : ℕ) (line : Bool) → c < 256 → get_or next c false ≡ false → s.walk 0 line (byte ∷ c ∷ []) ≡ None
+    ends_by c false low none = ends c low none
+    ends_by c true low none = ends_at_line c low none
+
+    ended : (b c : ℕ) (line : Bool) → c < 256 → (b ≡ byte) ⊎ (b ≡ byte → ⊥)
+        → get_or (set begins byte true) b false ≡ true → get_or next c false ≡ false
+        → s.walk 0 line (b ∷ c ∷ []) ≡ None
+    ended b c line low (inl same) e none = ap (λ x. s.walk 0 line (x ∷ c ∷ [])) same ∙ ends_by c line low none
+    ended b c line low (inr other) e none = h.end b c line low (was b other e) (kept c none)

@@ -1,12 +1,13 @@
 -- Lemmas on walks.
 use Rattle.std.proofs.Common.{◌≡◌, ◌∙◌, ◌<◌, ◌≤◌, ◌+◌, ◌-◌, ◌++◌, ◌∷◌, [], ℕ, List, Option, Some, None, true, false}
 use Rattle.std.proofs.Common.{take, drop, length, refl, sym, ap, subst, arith, rules, is_some, get_or, inl, inr, IfSome}
-use Rattle.std.proofs.Common.{append_assoc, append-nil}
-use Rattle.std.specs.Prelude.{option_map}
+use Rattle.std.proofs.Common.{append_assoc, append-nil, length-append, take-append-drop}
+use Rattle.std.specs.Prelude.{Bool, option_map}
 use Rattle.ly_base.specs.declared.numbers.RuleNo.{RuleNo}
 use Rattle.std.proofs.lemmas.Bool.{cases_lt}
-use Rattle.std.proofs.lemmas.List.{take_more}
-use Rattle.std.proofs.Math.Seq.{take-add}
+use Rattle.std.proofs.lemmas.List.{take_more, take-append-le}
+use Rattle.std.proofs.Math.Seq.{take-add, take-append-add}
+use Rattle.ly_scan.specs.Pieces.{CanFollow}
 use Rattle.ly_scan.specs.Walk.{Walk, IsBest, IsLongest, better_of}
 
 -- an answer is not at once there and missing
@@ -120,3 +121,46 @@ pub some_byte : (walk : Walk) (text : List ℕ) (n : ℕ) (best : Option (ℕ ×
     → IfSome best (λ b. 0 < b.0)
 some_byte walk text n None h = tt
 some_byte walk text n (Some p) h = omega (arith, h.some_byte)
+
+-- of a text that goes on, the best of the beginnings so far
+pub best_further : (walk : Walk) (text more : List ℕ) (n : ℕ) (best : Option (ℕ × RuleNo)) → n ≤ length text
+    → IsBest walk text n best → IsBest walk (text ++ more) n best
+best_further walk text more n None le h = λ m s low high rule. h m s low high
+    (sym (ap walk (take-append-le m text more (omega (arith, le, high)))) ∙ rule)
+best_further walk text more n (Some x) le h = record {
+  some_byte = h.some_byte;
+  within = h.within;
+  has_rule = ap walk (take-append-le x.0 text more (omega (arith, le, h.within))) ∙ h.has_rule;
+  longest = λ m s low high rule. h.longest m s low high
+      (sym (ap walk (take-append-le m text more (omega (arith, le, high)))) ∙ rule);
+}
+
+-- where a walk has ended, the best of the beginnings stays, however the text goes on
+pub best_fast : (walk : Walk) (text more : List ℕ) (best : Option (ℕ × RuleNo))
+    → ((t u : List ℕ) → walk t ≡ None → walk (t ++ u) ≡ None) → walk text ≡ None
+    → IsBest walk text (length text) best → IsBest walk (text ++ more) (length (text ++ more)) best
+best_fast walk text more best stays ended h =
+    best_stays walk (text ++ more) (length text) (length (text ++ more)) best (omega (arith, length-append text more))
+    (λ m s past within rule. clash _ _ (ap walk (over m past) ∙ stays text (take (m - length text) more) ended) rule)
+    (best_further walk text more (length text) best (omega arith) h)
+  where
+    over : (m : ℕ) → length text < m → take m (text ++ more) ≡ text ++ take (m - length text) more
+    over m past = ap (λ k. take k (text ++ more)) (let e : m ≡ length text + (m - length text) = omega arith in e)
+        ∙ take-append-add text more (m - length text)
+
+-- so it stays where a walk or the text has ended
+pub best_known : (walk : Walk) (text more : List ℕ) (ended : Bool) (best : Option (ℕ × RuleNo))
+    → ((t u : List ℕ) → walk t ≡ None → walk (t ++ u) ≡ None) → CanFollow ended more
+    → (ended ≡ false → walk text ≡ None) → IsBest walk text (length text) best
+    → IsBest walk (text ++ more) (length (text ++ more)) best
+best_known walk text more true best stays none over h =
+    subst (λ t. IsBest walk t (length t) best)
+    (sym (append-nil text) ∙ ap (λ xs. text ++ xs) (sym (none refl))) h
+best_known walk text more false best stays none over h = best_fast walk text more best stays (over refl) h
+
+-- a walk that ends within a text has ended behind it
+pub ends_within : (walk start : Walk) (text : List ℕ) (n : ℕ)
+    → ((t u : List ℕ) → walk t ≡ None → walk (t ++ u) ≡ None) → ((more : List ℕ) → start more ≡ walk more)
+    → start (take n text) ≡ None → walk text ≡ None
+ends_within walk start text n stays begins ended = ap walk (sym (take-append-drop n text))
+    ∙ stays (take n text) (drop n text) (sym (begins (take n text)) ∙ ended)

@@ -1,23 +1,22 @@
--- STUB
-use Rattle.std.specs.Prelude.{◌≡◌, ◌+◌, ℕ, List, Bool, slice_get}
-use Rattle.ly_base.specs.declared.cut.Cut.TheVariants.{Whole}
-use Rattle.ly_scan.specs.StateWalk.{state_walk}
+-- A lexer over a text that comes in pieces.
+use Rattle.std.specs.Prelude.{List, Bool}
 use Rattle.ly_base.specs.Lexed.{Place}
 use Rattle.ly_scan.specs.Lexer.{Scanner}
+use Rattle.ly_scan.specs.Matcher.{IsUnderway, Underway}
+use Rattle.ly_scan.specs.StateTable.{StateTable, StandsIn, ahead_at, cut_at, states_of}
+use Rattle.ly_scan.specs.StateWalk.{state_walk}
+use Rattle.ly_scan.specs.declared.state_rows.RowStart.{RowStart}
 
+-- A scanner, and for each of its rules whether its lexemes are passed over.
 pub record Lexer : Type 0 where
-  pub scanner : List ℕ
+  pub scanner : StateTable
   pub passed : List Bool
 
-pub record Matching : Type 0 where
-  pub passed : ℕ
-  pub seen : List ℕ
+-- what a scanner says of a text
+abbrev pub scanner_of : StateTable → Scanner
+scanner_of t = record { walk = state_walk (states_of t); cut = cut_at t }
 
-abbrev pub scanner_of : List ℕ → Scanner
-scanner_of rows = record {
-  walk = state_walk (record { start = λ c l. slice_get rows c; next = λ s b. slice_get rows (s + b); rule = λ s. slice_get rows s });
-  cut = λ r. Whole;
-}
-
-pub record IsUnderwayAt (l : Lexer) (q : Place) (m : Matching) : Type 0 where
-  pub seen : m.seen ≡ q.rest
+-- the match at a place is under way, and the bytes that are left there have come
+abbrev pub IsUnderwayAt : Lexer → Place → Underway RowStart → Type 0
+IsUnderwayAt l q u = IsUnderway ((scanner_of l.scanner).walk q.condition q.line) (ahead_at l.scanner)
+    (StandsIn l.scanner) q.rest u

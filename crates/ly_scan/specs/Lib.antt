@@ -2,10 +2,11 @@ pub mod Cuts
 pub mod Lexer
 pub mod Lexers
 pub mod LoneBytes
+pub mod Matcher
 pub mod Matching
 pub mod Pieces
 pub mod Private
 pub mod StateRows
+pub mod StateTable
 pub mod StateWalk
-pub mod Stub
 pub mod Walk

@@ -3,7 +3,8 @@ use Rattle.std.specs.Prelude.{◌≡◌, ◌<◌, ℕ, [], ◌∷◌, ◌++◌, 
 use Rattle.ly_base.specs.Lexed.{Place}
 use Rattle.ly_base.specs.declared.cut.Cut.TheVariants.{Whole}
 use Rattle.ly_base.specs.declared.lexeme.Lexeme.{Lexeme}
-use Rattle.ly_scan.specs.Lexer.{Scanner, IsLexemeAt}
+use Rattle.ly_scan.specs.Lexer.{Scanner}
+use Rattle.ly_scan.specs.Pieces.{StandsFast}
 
 -- a byte alone, at the start of a line or not, has a rule that is passed over, and no cut
 pub record IsOfPassed (s : Scanner) (passed : List Bool) (line : Bool) (byte : ℕ) : Type 0 where
@@ -20,9 +21,9 @@ pub record AreLone (s : Scanner) (passed : List Bool) (l : List Bool × List Boo
       → s.walk 0 line (b ∷ c ∷ []) ≡ None
   pub stays_ended : (line : Bool) (text more : List ℕ) → s.walk 0 line text ≡ None → s.walk 0 line (text ++ more) ≡ None
 
--- a lexeme of one byte stands there whose rule is passed over
+-- a lexeme of one byte stands there, whatever comes behind the bytes that are known, and its rule is passed over
 pub record IsLoneAt (s : Scanner) (passed : List Bool) (p : Place) : Type 0 where
   pub lexeme : Lexeme
-  pub is : IsLexemeAt s p lexeme
+  pub stands : StandsFast false s p lexeme
   pub one : lexeme.taken ≡ 1
   pub is_passed : slice_get passed lexeme.rule.0 ≡ Some true

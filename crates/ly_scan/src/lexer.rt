@@ -1,40 +1,109 @@
-ghost use Rattle.std.specs.Prelude.{◌≡◌, ◌<◌, ◌≤◌, length, IfErr, IfOk};
-ghost use Rattle.ly_scan.specs.Lexer.{ScanEndsAt, IsLexemeAt, Scanner};
+ghost use Rattle.std.specs.Prelude.{◌≡◌, ◌<◌, ◌≤◌, ◌+◌, ◌^◌, false, true, length, IfErr, IfOk, IfSome, MatchOption};
+ghost use Rattle.ly_base.specs.Lexed.{Place as Spot};
+ghost use Rattle.ly_scan.specs.Lexers.{scanner_of, IsUnderwayAt};
+ghost use Rattle.ly_scan.specs.Pieces.{behind, EndsFast, IsUndecided, PassesOver, StandsFast};
+ghost use Rattle.ly_scan.specs.StateTable.{StandsIn};
 
-use crate::matching::{cut_down, longest};
-use crate::steps::Steps;
-use ly_base::{End, Lexeme, Place};
+use crate::lexeme::next_lexeme;
+use crate::lone_bytes::LoneBytes;
+use crate::matcher::Matcher;
+use crate::scanner::Scanner;
+use crate::state_rows::RowStart;
+use ly_base::{End, Lexeme, OutOfMemory, Place};
+use std::alloc::Global;
+use std::marker::Model;
 
-/// What is taken at a place of a text: the longest match there, its rule, and the token that the rule's cut leaves. Or
-/// how a run over the text ends there.
-#[inline(always)] // as `longest`
-pub fn next_lexeme<S: Steps>(steps: &mut S, place: &Place<'_>) -> Result<Lexeme, End>
-    ensures lexeme { IfOk result
-        (IsLexemeAt (record { walk = S.walk steps.old; cut = S.cut_of steps.old }) place.now) }
-    ensures within { IfOk result (λ t. (0 < t.taken) × (t.taken ≤ length place.now.rest)) }
-    ensures end { IfErr result (ScanEndsAt (record { walk = S.walk steps.old; cut = S.cut_of steps.old }) place.now) }
-    ensures same_walk { S.walk steps.new ≡ S.walk steps.old }
-    ensures same_cuts { S.cut_of steps.new ≡ S.cut_of steps.old }
-{
-    let rest = place.rest();
-    if rest.is_empty() {
-        return Err(End::Clean);
+/// Takes a text apart by a scanner, lexeme by lexeme. Lexemes of one byte that are passed over, as blanks mostly are,
+/// take no walk.
+#[derive(Drop)]
+pub struct Lexer {
+    /// The scanner.
+    scanner: Scanner,
+    /// For each of its rules whether its lexemes are passed over.
+    passed: Vec<bool>,
+    /// The bytes that are such lexemes.
+    lone: LoneBytes,
+}
+
+impl Model for Lexer {
+    ghost use Rattle.ly_scan.specs.LoneBytes.{AreLone};
+    ghost use Rattle.ly_scan.specs.Lexers as value;
+    ghost use Rattle.ly_scan.specs.Lexers.{scanner_of};
+
+    ghost Value = { value.Lexer };
+
+    ghost view = { λ l. record { scanner = l.scanner; passed = l.passed.items } };
+
+    ghost invariant = { λ l. AreLone (scanner_of l.scanner) l.passed.items l.lone };
+}
+
+impl Lexer {
+    /// The lexer of a scanner, by which of its rules are passed over. It fails where memory runs out.
+    pub fn new(alloc: Global, scanner: Scanner, passed: Vec<bool>) -> Result<Lexer, OutOfMemory>
+        ensures { IfOk result (λ l. l ≡ record { scanner = scanner; passed = passed.items }) }
+    {
+        let lone = LoneBytes::find(alloc, &scanner, &passed)?;
+        Ok(Lexer {
+            scanner,
+            passed,
+            lone,
+        })
     }
-    // a walk that minds no line needn't wait for the byte before it
-    let found = if steps.minds_lines() {
-        longest(steps, place.condition(), place.at_line_start(), rest)
-    } else {
-        longest(steps, place.condition(), false, rest)
-    };
-    let Some((matched, rule)) = found else {
-        return Err(End::Stuck { byte: place.at() });
-    };
-    match cut_down(steps.cut(rule), matched) {
-        Some(taken) => Ok(Lexeme {
-            rule,
-            matched,
-            taken,
-        }),
-        None => Err(End::BadCut { byte: place.at() }),
+
+    /// The scanner.
+    pub fn scanner(&self) -> &Scanner
+        ensures { result.now ≡ self.now.scanner }
+    {
+        &self.scanner
+    }
+
+    /// Passes over lexemes of one byte, and answers what is taken behind them, or how a run over the text ends there.
+    /// `ended` says that no more of the text comes: else the answer is what it is whatever comes behind the bytes that
+    /// are left, and None where these don't decide.
+    #[inline(always)] // by a call what the loop reads of the scanner is read anew for each lexeme
+    pub fn next(&self, place: &mut Place<'_>, ended: bool) -> Result<Option<Lexeme>, End>
+        ensures passed { PassesOver (scanner_of self.now.scanner) self.now.passed place.old place.new }
+        ensures left { length place.new.rest ≤ length place.old.rest }
+        ensures found { let s = scanner_of self.now.scanner in
+            IfOk result (λ o. MatchOption o ((ended ≡ false) × IsUndecided s place.new)
+            (StandsFast ended s place.new)) }
+        ensures end { IfErr result (EndsFast ended (scanner_of self.now.scanner) place.new) }
+    {
+        self.pass_over(place);
+        next_lexeme(&self.scanner, place, ended)
+    }
+
+    /// The match at a place where the bytes that are left don't decide it: all of them have come.
+    pub fn matcher_at(&self, place: &Place<'_>) -> Matcher<RowStart>
+        requires { IsUndecided (scanner_of self.now.scanner) place.now }
+        ensures { IsUnderwayAt self.now place.now result }
+    {
+        let mut matcher = Matcher::new(&self.scanner, place.condition(), place.at_line_start());
+        // which these bytes don't decide
+        let _undecided = matcher.piece(&self.scanner, place.rest());
+        matcher
+    }
+
+    /// Takes the next bytes of a match, and answers whether it still isn't decided.
+    pub fn goes_on(&self, matcher: &mut Matcher<RowStart>, bytes: &[u8]) -> bool
+        requires countable { matcher.old.passed + length bytes.now < 2 ^ 64 }
+        requires stands { IfSome matcher.old.at (StandsIn self.now.scanner) }
+        ensures { (q : Spot) → IsUnderwayAt self.now q matcher.old → result ≡ true
+            → IsUnderwayAt self.now (behind q bytes.now) matcher.new
+            × IsUndecided (scanner_of self.now.scanner) (behind q bytes.now) }
+    {
+        matcher.piece(&self.scanner, bytes).is_none()
+    }
+
+    /// Passes over lexemes of one byte, as long as one is known to stand at a place. A branch asks for them, since
+    /// between the words of most texts it is mostly guessed right.
+    #[inline(always)]
+    fn pass_over(&self, place: &mut Place<'_>)
+        ensures passed { PassesOver (scanner_of self.now.scanner) self.now.passed place.old place.new }
+        ensures left { length place.new.rest ≤ length place.old.rest }
+    {
+        while self.lone.at(place) {
+            place.advance(1, None);
+        }
     }
 }

@@ -32,13 +32,11 @@ impl LoneBytes {
     /// Those of a walk, by which of its rules are passed over. It fails where memory runs out.
     pub fn find<S: Steps>(
         alloc: Global,
-        steps: &mut S,
+        steps: &S,
         passed: &[bool],
     ) -> Result<LoneBytes, OutOfMemory>
-        ensures lone { let scanner : Scanner = record { walk = S.walk steps.old; cut = S.cut_of steps.old } in
+        ensures { let scanner : Scanner = record { walk = S.walk steps.now; cut = S.cut_of steps.now } in
             IfOk result (AreLone scanner passed.now) }
-        ensures same_walk { S.walk steps.new ≡ S.walk steps.old }
-        ensures same_cuts { S.cut_of steps.new ≡ S.cut_of steps.old }
     {
         let mut lone = LoneBytes {
             begins: vec![in alloc; false; 256]?,
@@ -65,11 +63,9 @@ impl LoneBytes {
     }
 
     /// Adds a byte, if it is such a lexeme at the start of a line and elsewhere.
-    fn add<S: Steps>(&mut self, steps: &mut S, passed: &[bool], byte: u8)
-        ensures kept { let scanner : Scanner = record { walk = S.walk steps.old; cut = S.cut_of steps.old } in
+    fn add<S: Steps>(&mut self, steps: &S, passed: &[bool], byte: u8)
+        ensures { let scanner : Scanner = record { walk = S.walk steps.now; cut = S.cut_of steps.now } in
             AreLone scanner passed.now self.old → AreLone scanner passed.now self.new }
-        ensures same_walk { S.walk steps.new ≡ S.walk steps.old }
-        ensures same_cuts { S.cut_of steps.new ≡ S.cut_of steps.old }
     {
         if is_passed(steps, passed, false, byte) && is_passed(steps, passed, true, byte) {
             follow(steps, false, byte, &mut self.goes_on);
@@ -80,11 +76,9 @@ impl LoneBytes {
 }
 
 /// Whether a byte alone has a rule that is passed over, and no cut.
-fn is_passed<S: Steps>(steps: &mut S, passed: &[bool], line: bool, byte: u8) -> bool
-    ensures of_passed { let scanner : Scanner = record { walk = S.walk steps.old; cut = S.cut_of steps.old } in
+fn is_passed<S: Steps>(steps: &S, passed: &[bool], line: bool, byte: u8) -> bool
+    ensures { let scanner : Scanner = record { walk = S.walk steps.now; cut = S.cut_of steps.now } in
         OnTrue result (IsOfPassed scanner passed.now line byte) }
-    ensures same_walk { S.walk steps.new ≡ S.walk steps.old }
-    ensures same_cuts { S.cut_of steps.new ≡ S.cut_of steps.old }
 {
     let Some(start) = steps.start(0, line) else {
         return false;
@@ -102,14 +96,12 @@ fn is_passed<S: Steps>(steps: &mut S, passed: &[bool], line: bool, byte: u8) -> 
 }
 
 /// Marks the bytes that may go on with a lexeme behind a byte.
-fn follow<S: Steps>(steps: &mut S, line: bool, byte: u8, goes_on: &mut Vec<bool>)
+fn follow<S: Steps>(steps: &S, line: bool, byte: u8, goes_on: &mut Vec<bool>)
     requires { length goes_on.old.items ≡ 256 }
     ensures length { length goes_on.new.items ≡ 256 }
     ensures kept { (c : ℕ) → get_or goes_on.new.items c false ≡ false → get_or goes_on.old.items c false ≡ false }
     ensures ended { (c : ℕ) → c < 256 → get_or goes_on.new.items c false ≡ false
-        → S.walk steps.old 0 line (byte ∷ c ∷ []) ≡ None }
-    ensures same_walk { S.walk steps.new ≡ S.walk steps.old }
-    ensures same_cuts { S.cut_of steps.new ≡ S.cut_of steps.old }
+        → S.walk steps.now 0 line (byte ∷ c ∷ []) ≡ None }
 {
     for next in 0..256usize {
         if leads_on(steps, line, byte, next as u8) {
@@ -119,10 +111,8 @@ fn follow<S: Steps>(steps: &mut S, line: bool, byte: u8, goes_on: &mut Vec<bool>
 }
 
 /// Whether a walk over two bytes goes on. It may say so where it doesn't.
-fn leads_on<S: Steps>(steps: &mut S, line: bool, byte: u8, next: u8) -> bool
-    ensures ended { result ≡ false → S.walk steps.old 0 line (byte ∷ next ∷ []) ≡ None }
-    ensures same_walk { S.walk steps.new ≡ S.walk steps.old }
-    ensures same_cuts { S.cut_of steps.new ≡ S.cut_of steps.old }
+fn leads_on<S: Steps>(steps: &S, line: bool, byte: u8, next: u8) -> bool
+    ensures { result ≡ false → S.walk steps.now 0 line (byte ∷ next ∷ []) ≡ None }
 {
     let Some(start) = steps.start(0, line) else {
         return true;

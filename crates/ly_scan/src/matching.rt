@@ -1,8 +1,10 @@
-ghost use Rattle.std.specs.Prelude.{◌≡◌, ◌<◌, ◌≤◌, ◌+◌, ℕ, List, [], ◌++◌, length, take, true, is_some, IfSome, None};
+ghost use Rattle.std.specs.Prelude.{◌≡◌, ◌≢◌, ◌<◌, ◌≤◌, ◌+◌, ℕ, List, [], ◌++◌, length, take, true, false, is_some};
+ghost use Rattle.std.specs.Prelude.{IfSome, None};
 ghost use Rattle.ly_scan.specs.Cuts.{token_len};
 ghost use Rattle.ly_scan.specs.Matching.{IsMatch};
 ghost use Rattle.ly_scan.specs.Private.Matching.{found};
-ghost use Rattle.ly_scan.specs.Walk.{IsBest, better_of};
+ghost use Rattle.ly_scan.specs.Pieces.{CanFollow};
+ghost use Rattle.ly_scan.specs.Walk.{IsBest, Walk, better_of};
 
 use crate::steps::Steps;
 use ly_base::{Cut, RuleNo};
@@ -14,6 +16,8 @@ pub enum Match {
     Win {
         /// The rule of the longest match.
         rule: RuleNo,
+        /// The length of the match in bytes.
+        matched: usize,
         /// The length of its token in bytes, which is the match or what its cut leaves of it.
         token_len: usize,
     },
@@ -26,60 +30,73 @@ pub enum Match {
 /// The longest match of one or more bytes at the front of `rest`, which begins at a condition, at
 /// the start of a line or not (POSIX, lex: "the longest possible match"). The walk says which rule
 /// it is, where several match the same bytes.
-pub fn next_match<S: Steps>(
-    steps: &mut S,
-    condition: u32,
-    at_line_start: bool,
-    rest: &[u8],
-) -> Match
-    ensures found { IsMatch (S.walk steps.old condition at_line_start) (S.cut_of steps.old) rest.now result }
-    ensures same_walk { S.walk steps.new ≡ S.walk steps.old }
-    ensures same_cuts { S.cut_of steps.new ≡ S.cut_of steps.old }
+pub fn next_match<S: Steps>(steps: &S, condition: u32, at_line_start: bool, rest: &[u8]) -> Match
+    ensures { IsMatch (S.walk steps.now condition at_line_start) (S.cut_of steps.now) rest.now result }
 {
-    match longest(steps, condition, at_line_start, rest) {
-        None => Match::Stuck,
-        Some((length, rule)) => match cut_down(steps.cut(rule), length) {
-            Some(token_len) => Match::Win { rule, token_len },
-            None => Match::BadCut,
-        },
+    match known_match(steps, condition, at_line_start, rest, true) {
+        Some(found) => found,
+        // the end decides
+        None => unreachable!(),
     }
 }
 
-/// The length of the longest walk that has a rule, and the rule.
+/// The match at the front of some bytes, whatever comes behind them; `ended` says that nothing does. None where it
+/// isn't decided.
 #[inline(always)] // by a call a lexeme takes a third more instructions
-pub(crate) fn longest<S: Steps>(
-    steps: &mut S,
+pub(crate) fn known_match<S: Steps>(
+    steps: &S,
     condition: u32,
     at_line_start: bool,
-    rest: &[u8],
-) -> Option<(usize, RuleNo)>
-    ensures best { IsBest (S.walk steps.old condition at_line_start) rest.now (length rest.now) result }
-    ensures same_walk { S.walk steps.new ≡ S.walk steps.old }
-    ensures same_cuts { S.cut_of steps.new ≡ S.cut_of steps.old }
+    bytes: &[u8],
+    ended: bool,
+) -> Option<Match>
+    ensures undecided { result ≡ None → (ended ≡ false) × (S.walk steps.now condition at_line_start bytes.now ≢ None) }
+    ensures decided { IfSome result (λ m. (more : List ℕ) → CanFollow ended more
+        → IsMatch (S.walk steps.now condition at_line_start) (S.cut_of steps.now) (bytes.now ++ more) m) }
 {
     let Some(start) = steps.start(condition, at_line_start) else {
-        return None;
+        return Some(Match::Stuck);
     };
-    let (passed, at) = walk_on(steps, start, rest);
+    let (passed, at) = walk_on(steps, start, bytes);
+    if passed == bytes.len() && !ended {
+        return None;
+    }
     // most walks end where a rule matches, so it is looked for there first
-    match steps.accept(at) {
+    let found = match steps.accept(at) {
         Some(rule) if 0 < passed => Some((passed, rule)),
-        _ => best_passed(steps, condition, at_line_start, rest).found(),
+        _ => best_passed(steps, condition, at_line_start, bytes).found(),
+    };
+    Some(match_of(steps, found))
+}
+
+/// The match of the longest walk that has a rule, if there is one.
+pub(crate) fn match_of<S: Steps>(steps: &S, found: Option<(usize, RuleNo)>) -> Match
+    ensures { (walk : Walk) (text : List ℕ) → IsBest walk text (length text) found
+        → IsMatch walk (S.cut_of steps.now) text result }
+{
+    let Some((matched, rule)) = found else {
+        return Match::Stuck;
+    };
+    match cut_down(steps.cut(rule), matched) {
+        Some(token_len) => Match::Win {
+            rule,
+            matched,
+            token_len,
+        },
+        None => Match::BadCut,
     }
 }
 
 /// Walks over bytes as far as it goes: how many they are, and where it stands behind them.
-fn walk_on<S: Steps>(steps: &mut S, start: S::At, bytes: &[u8]) -> (usize, S::At)
-    requires stands { S.stands steps.old start }
-    requires alive { is_some (S.ahead steps.old start []) ≡ true }
+fn walk_on<S: Steps>(steps: &S, start: S::At, bytes: &[u8]) -> (usize, S::At)
+    requires stands { S.stands steps.now start }
+    requires alive { is_some (S.ahead steps.now start []) ≡ true }
     ensures within { result.0 ≤ length bytes.now }
-    ensures stands { S.stands steps.new result.1 }
-    ensures alive { is_some (S.ahead steps.new result.1 []) ≡ true }
-    ensures ahead { (text : List ℕ) → S.ahead steps.new result.1 text
-        ≡ S.ahead steps.old start (take result.0 bytes.now ++ text) }
-    ensures ended { result.0 < length bytes.now → S.ahead steps.old start (take (result.0 + 1) bytes.now) ≡ None }
-    ensures same_walk { S.walk steps.new ≡ S.walk steps.old }
-    ensures same_cuts { S.cut_of steps.new ≡ S.cut_of steps.old }
+    ensures stands { S.stands steps.now result.1 }
+    ensures alive { is_some (S.ahead steps.now result.1 []) ≡ true }
+    ensures ahead { (text : List ℕ) → S.ahead steps.now result.1 text
+        ≡ S.ahead steps.now start (take result.0 bytes.now ++ text) }
+    ensures ended { result.0 < length bytes.now → S.ahead steps.now start (take (result.0 + 1) bytes.now) ≡ None }
 {
     let mut at = start;
     for (passed, byte) in bytes.iter().enumerate() {
@@ -93,24 +110,20 @@ fn walk_on<S: Steps>(steps: &mut S, start: S::At, bytes: &[u8]) -> (usize, S::At
 
 /// The best of the places that a walk passes.
 #[inline(never)] // so that the walk that goes on has the registers
-fn best_passed<S: Steps>(steps: &mut S, condition: u32, at_line_start: bool, rest: &[u8]) -> Best
-    ensures best { IsBest (S.walk steps.old condition at_line_start) rest.now (length rest.now) (found result) }
-    ensures same_walk { S.walk steps.new ≡ S.walk steps.old }
-    ensures same_cuts { S.cut_of steps.new ≡ S.cut_of steps.old }
+fn best_passed<S: Steps>(steps: &S, condition: u32, at_line_start: bool, rest: &[u8]) -> Best
+    ensures { IsBest (S.walk steps.now condition at_line_start) rest.now (length rest.now) (found result) }
 {
     Best::of(best_of_all(steps, condition, at_line_start, rest))
 }
 
 /// The best of the places that a walk passes, place by place.
 fn best_of_all<S: Steps>(
-    steps: &mut S,
+    steps: &S,
     condition: u32,
     at_line_start: bool,
     rest: &[u8],
 ) -> Option<(usize, RuleNo)>
-    ensures best { IsBest (S.walk steps.old condition at_line_start) rest.now (length rest.now) result }
-    ensures same_walk { S.walk steps.new ≡ S.walk steps.old }
-    ensures same_cuts { S.cut_of steps.new ≡ S.cut_of steps.old }
+    ensures { IsBest (S.walk steps.now condition at_line_start) rest.now (length rest.now) result }
 {
     let mut best = None;
     let Some(mut at) = steps.start(condition, at_line_start) else {
@@ -127,7 +140,7 @@ fn best_of_all<S: Steps>(
 }
 
 /// The better of two answers: the longer one, where it has a rule.
-fn better(
+pub(crate) fn better(
     best: Option<(usize, RuleNo)>,
     length: usize,
     rule: Option<RuleNo>,
@@ -141,7 +154,7 @@ fn better(
 }
 
 /// The length of the token of a match.
-pub(crate) fn cut_down(cut: Cut, length: usize) -> Option<usize>
+fn cut_down(cut: Cut, length: usize) -> Option<usize>
     ensures { result ≡ token_len cut length }
 {
     match cut {

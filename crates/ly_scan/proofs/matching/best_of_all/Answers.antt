@@ -5,13 +5,13 @@ use Rattle.std.proofs.lemmas.List.{take_more}
 use Rattle.ly_scan.proofs.WalkLemmas.{best_ended, best_next, none_from_start, some_or_none, stands_next, told}
 use Rattle.ly_scan.proofs.matching.best_of_all.Goals as goal
 
-pub returns-in_default-clause-best : goal.returns-in_default-clause-best
-returns-in_default-clause-best g c = none_from_start _ c.args.rest.now
+pub returns-in_default : goal.returns-in_default
+returns-in_default g c = none_from_start _ c.args.rest.now
     (g.met.S.Steps.stays_ended c.args.steps.now c.args.condition c.args.at_line_start)
     (some_or_none _ (ap is_some (sym c.in_default.is) ∙ c.start.ensures.alive))
 
-pub returns-in_default-step-clause-best : goal.returns-in_default-step-clause-best
-returns-in_default-step-clause-best g c = best_ended _ c.args.rest.now c.loop-passed.passed c.loop-passed.best
+pub returns-in_default-step : goal.returns-in_default-step
+returns-in_default-step g c = best_ended _ c.args.rest.now c.loop-passed.passed c.loop-passed.best
     c.loop-passed.auto.passed-end
     (g.met.S.Steps.stays_ended c.args.steps.now c.args.condition c.args.at_line_start)
     (ap (g.S.Steps.walk c.args.steps.now c.args.condition c.args.at_line_start)
@@ -23,11 +23,11 @@ returns-in_default-step-clause-best g c = best_ended _ c.args.rest.now c.loop-pa
 pub loop-passed-preserved : goal.loop-passed-preserved
 loop-passed-preserved g c =
     let walk = g.S.Steps.walk c.args.steps.now c.args.condition c.args.at_line_start in
-    let there = g.S.Steps.ahead c.step.new.self c.in-Some-step.next in
-    let on = subst (λ o. IfSome o (λ next. (text : List ℕ) → g.S.Steps.ahead c.step.new.self next text
-    ≡ g.S.Steps.ahead c.loop-passed.steps c.loop-passed.at (get_or c.args.rest.now c.loop-passed.passed 0 ∷ text)))
+    let there = g.S.Steps.ahead c.args.steps.now c.in-Some-step.next in
+    let on = subst (λ o. IfSome o (λ next. (text : List ℕ) → g.S.Steps.ahead c.args.steps.now next text
+    ≡ g.S.Steps.ahead c.args.steps.now c.loop-passed.at (get_or c.args.rest.now c.loop-passed.passed 0 ∷ text)))
     c.in-Some-step.is c.step.ensures.there in
-    let further = stands_next walk (g.S.Steps.ahead c.loop-passed.steps c.loop-passed.at) there c.args.rest.now
+    let further = stands_next walk (g.S.Steps.ahead c.args.steps.now c.loop-passed.at) there c.args.rest.now
     c.loop-passed.passed c.loop-passed-test.true c.loop-passed.invariant.ahead on in
     let answer : there [] ≡ Some (option_map (λ r. r.0) c.accept.result)
     = told (there []) (option_map (λ r. r.0) c.accept.result)
@@ -36,11 +36,9 @@ loop-passed-preserved g c =
     ≡ Some (option_map (λ r. r.0) c.accept.result) =
     ap walk (sym (append-nil (take (c.loop-passed.passed + 1) c.args.rest.now))) ∙ sym (further []) ∙ answer in
     record {
-      stands = subst (λ o. IfSome o (g.S.Steps.stands c.step.new.self)) c.in-Some-step.is c.step.ensures.stands;
+      stands = subst (λ o. IfSome o (g.S.Steps.stands c.args.steps.now)) c.in-Some-step.is c.step.ensures.stands;
       ahead = further;
       best = rw c.better-best.ensures
           (best_next walk c.args.rest.now c.loop-passed.passed c.accept.result c.loop-passed.best here
           c.loop-passed.invariant.best);
-      same_walk = c.step.ensures.same_walk ∙ c.loop-passed.invariant.same_walk;
-      same_cuts = c.step.ensures.same_cuts ∙ c.loop-passed.invariant.same_cuts;
     }

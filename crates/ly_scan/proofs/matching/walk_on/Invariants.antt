@@ -6,8 +6,6 @@ abbrev pub invariant-loop-passed : goal.invariant-loop-passed
 invariant-loop-passed g l = let steps = g.S.Steps in record {
   stands : steps.stands l.steps l.at;
   alive : is_some (steps.ahead l.steps l.at []) ≡ true;
-  ahead : (text : List ℕ) → steps.ahead l.steps l.at text ≡ steps.ahead l.fn.steps l.fn.start
+  ahead : (text : List ℕ) → steps.ahead l.steps l.at text ≡ steps.ahead l.steps l.fn.start
       (take l.passed l.bytes ++ text);
-  same_walk : steps.walk l.steps ≡ steps.walk l.fn.steps;
-  same_cuts : steps.cut_of l.steps ≡ steps.cut_of l.fn.steps;
 }

@@ -1,4 +1,4 @@
-use Rattle.std.proofs.Common.{refl, subst, sym}
+use Rattle.std.proofs.Common.{subst, sym}
 use Rattle.ly_scan.specs.Lexer.{Scanner}
 use Rattle.ly_scan.specs.LoneBytes.{AreLone}
 use Rattle.ly_scan.proofs.LoneByteLemmas.{none_begins}
@@ -8,8 +8,6 @@ pub loop-byte-init : goal.loop-byte-init
 loop-byte-init g c =
     let scanner : Scanner
     = record { walk = g.S.Steps.walk c.args.steps.now; cut = g.S.Steps.cut_of c.args.steps.now } in record {
-      same_walk = refl;
-      same_cuts = refl;
       lone = subst (λ b. AreLone scanner c.args.passed.now (b, c.in_ok-vec-2.field-0.items))
           (sym (c.in_ok-vec.ensures.items_if_clones_equal (λ y e. e)))
           (none_begins scanner c.args.passed.now c.in_ok-vec-2.field-0.items

@@ -1,10 +1,7 @@
-use Rattle.std.proofs.Common.{◌≡◌}
 use Rattle.ly_scan.specs.LoneBytes.{AreLone}
 use Rattle.ly_scan.proofs.lone_bytes.LoneBytes.find.Given as goal
 
 abbrev pub invariant-loop-byte : goal.invariant-loop-byte
 invariant-loop-byte g l = record {
-  same_walk : g.S.Steps.walk l.steps ≡ g.S.Steps.walk l.fn.steps;
-  same_cuts : g.S.Steps.cut_of l.steps ≡ g.S.Steps.cut_of l.fn.steps;
   lone : AreLone (record { walk = g.S.Steps.walk l.steps; cut = g.S.Steps.cut_of l.steps }) l.passed l.lone;
 }

@@ -1,0 +1,76 @@
+-- A run over what has come of a text.
+use Rattle.std.proofs.Common.{◌≡◌, ◌∙◌, ℕ, List, [], ◌∷◌, ◌++◌, Option, Some, None, Ok, Err, Result, ap, append-nil, arith}
+use Rattle.std.proofs.Common.{length, length-append, refl, subst, sym}
+use Rattle.std.specs.Prelude.{Bool, IsErrAnd, false, true}
+use Rattle.ly_base.specs.Lexed.{Place}
+use Rattle.ly_base.specs.declared.lexeme.End.{End}
+use Rattle.ly_base.specs.declared.lexeme.End.TheVariants.{BadCut, Clean, Stuck}
+use Rattle.ly_base.specs.declared.lexeme.Lexeme.{Lexeme}
+use Rattle.ly_drive.proofs.OnwardLemmas.{onward_on, passed_onward, settled_on}
+use Rattle.ly_drive.proofs.PieceLemmas.{anything_follows}
+use Rattle.ly_drive.proofs.SettledLemmas.{settled_cut, settled_stuck}
+use Rattle.ly_drive.specs.Onward.{IsSettled, Onward}
+use Rattle.ly_drive.specs.Private.Flaw.{verdict_of}
+use Rattle.ly_drive.specs.Private.LexerOf.{IsLexerOf}
+use Rattle.ly_drive.specs.Private.Running.{Halts, IsRunOn, IsTaken, progress_of}
+use Rattle.ly_drive.specs.ScanPart.{ScanPart, scanner_in}
+use Rattle.ly_drive.specs.TableAnswer.{Progress}
+use Rattle.ly_drive.specs.Verdict.{faulty, unmatched}
+use Rattle.ly_drive.specs.declared.flaw.Flaw.{Flaw}
+use Rattle.ly_drive.specs.declared.run_fault.RunFault.{RunFault}
+use Rattle.ly_drive.specs.declared.run_fault.RunFault.TheVariants as run
+use Rattle.ly_pack.specs.Machine.{Machine}
+use Rattle.ly_parse.proofs.FedOnceLemmas.{fed_in_one_way}
+use Rattle.ly_parse.specs.Parse.{Parse}
+use Rattle.ly_scan.specs.Lexers.{Lexer, scanner_of}
+use Rattle.ly_scan.specs.Pieces.{EndsFast, IsUndecided, PassesOver}
+
+-- a run halts where the next match isn't decided
+pub halts_undecided : (ended : Bool) (p : ScanPart) (q : Place) → ended ≡ false → IsUndecided (scanner_in p) q
+    → Halts ended p q
+halts_undecided false p q e open = open
+halts_undecided true p q e open = absurd cc
+
+-- and at the end of the text
+pub halts_at_end : (ended : Bool) (p : ScanPart) (q : Place) → EndsFast ended (scanner_in p) q Clean → Halts ended p q
+halts_at_end true p q ends = sym (append-nil q.rest) ∙ ends [] (λ e. refl)
+halts_at_end false p q ends = absurd
+    (let none = ap length (ends (0 ∷ []) (anything_follows (0 ∷ []))) in
+    omega (arith, none, length-append q.rest (0 ∷ [])))
+
+module _ (ended : Bool) (p : ScanPart) (m : Machine) (w : Progress) where
+  -- it goes on behind what is passed over
+  pub over : (l : Lexer) (q r : Place) (s : Parse) → IsLexerOf p l → Onward ended p m w (progress_of q s)
+      → PassesOver (scanner_of l.scanner) l.passed q r → Onward ended p m w (progress_of r s)
+  over l q r s is on passes = onward_on ended p m on (passed_onward ended p m (progress_of q s) l.passed is.passed
+      (subst (λ x. PassesOver x l.passed q r) is.scanner passes))
+
+  -- no rule matches there
+  pub stuck : (l : Lexer) (q : Place) (s : Parse) (e : End) (b : ℕ) → IsLexerOf p l
+      → Onward ended p m w (progress_of q s) → EndsFast ended (scanner_of l.scanner) q e → e ≡ Stuck b
+      → IsSettled ended p m w (unmatched b)
+  stuck l q s e b is on ends at = settled_on ended p m (unmatched b) fed_in_one_way on
+      (settled_stuck ended p m (progress_of q s) b (subst (λ x. EndsFast ended (scanner_in p) q x) at
+      (subst (λ x. EndsFast ended x q e) is.scanner ends)))
+
+  -- or a cut leaves no byte or more than the match has
+  pub cut : (l : Lexer) (q : Place) (s : Parse) (e : End) (b : ℕ) → IsLexerOf p l
+      → Onward ended p m w (progress_of q s) → EndsFast ended (scanner_of l.scanner) q e → e ≡ BadCut b
+      → IsSettled ended p m w faulty
+  cut l q s e b is on ends at = settled_on ended p m faulty fed_in_one_way on
+      (settled_cut ended p m (progress_of q s) b (subst (λ x. EndsFast ended (scanner_in p) q x) at
+      (subst (λ x. EndsFast ended x q e) is.scanner ends)))
+
+  -- what is wrong behind decided matches
+  pub wrong : (q : Place) (s r : Parse) (t : Lexeme) (flaw : Flaw) → Onward ended p m w (progress_of q s)
+      → IsTaken ended p m (progress_of q s) t r (Ok (Some flaw)) → IsSettled ended p m w (verdict_of flaw)
+  wrong q s r t flaw on taken = settled_on ended p m (verdict_of flaw) fed_in_one_way on taken
+
+  -- a fault that is handed on
+  pub failed : (q : Place) (s r : Parse) (t : Lexeme) (e : RunFault) (result : Result (Option Flaw) RunFault)
+      → Onward ended p m w (progress_of q s) → IsTaken ended p m (progress_of q s) t r (Err e)
+      → IsErrAnd result (λ x. x ≡ e) → IsRunOn ended p m w q r result
+  failed q s r t e (Ok x) on taken is = absurd is
+  failed q s r t run.TableFault (Err x) on taken is = subst (λ y. IsRunOn ended p m w q r (Err y)) (sym is)
+      (settled_on ended p m faulty fed_in_one_way on taken)
+  failed q s r t run.OutOfMemory (Err x) on taken is = subst (λ y. IsRunOn ended p m w q r (Err y)) (sym is) tt

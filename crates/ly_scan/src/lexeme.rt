@@ -1,0 +1,52 @@
+ghost use Rattle.std.specs.Prelude.{◌≡◌, ℕ, false, IfErr, IfOk, MatchOption};
+ghost use Rattle.ly_scan.specs.Lexer.{Scanner};
+ghost use Rattle.ly_scan.specs.Pieces.{EndsFast, IsUndecided, StandsFast};
+
+use crate::matching::{Match, known_match};
+use crate::steps::Steps;
+use ly_base::{End, Lexeme, Place};
+
+/// What is taken at a place of a text: the longest match there, its rule, and the token that the rule's cut leaves. Or
+/// how a run over the text ends there. `ended` says that no more of the text comes: else the answer is what it is
+/// whatever comes behind the bytes that are left, and None where these don't decide.
+#[inline(always)] // as `known_match`
+pub fn next_lexeme<S: Steps>(
+    steps: &S,
+    place: &Place<'_>,
+    ended: bool,
+) -> Result<Option<Lexeme>, End>
+    ensures found { let s : Scanner = record { walk = S.walk steps.now; cut = S.cut_of steps.now } in
+        IfOk result (λ o. MatchOption o ((ended ≡ false) × IsUndecided s place.now) (StandsFast ended s place.now)) }
+    ensures end { let s : Scanner = record { walk = S.walk steps.now; cut = S.cut_of steps.now } in
+        IfErr result (EndsFast ended s place.now) }
+{
+    let rest = place.rest();
+    if rest.is_empty() {
+        return if ended { Err(End::Clean) } else { Ok(None) };
+    }
+    let line = line_at(steps, place);
+    let Some(found) = known_match(steps, place.condition(), line, rest, ended) else {
+        return Ok(None);
+    };
+    match found {
+        Match::Win {
+            rule,
+            matched,
+            token_len,
+        } => Ok(Some(Lexeme {
+            rule,
+            matched,
+            taken: token_len,
+        })),
+        Match::BadCut => Err(End::BadCut { byte: place.at() }),
+        Match::Stuck => Err(End::Stuck { byte: place.at() }),
+    }
+}
+
+/// Whether a line begins at a place, as far as a walk minds it: one that doesn't needn't wait for the byte before it.
+#[inline(always)]
+fn line_at<S: Steps>(steps: &S, place: &Place<'_>) -> bool
+    ensures { (condition : ℕ) → S.walk steps.now condition result ≡ S.walk steps.now condition place.now.line }
+{
+    steps.minds_lines() && place.at_line_start()
+}

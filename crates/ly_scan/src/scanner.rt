@@ -1,0 +1,151 @@
+ghost use Rattle.std.specs.Bool.{OnTrue};
+ghost use Rattle.std.specs.Prelude.{◌≡◌, ◌<◌, ℕ, Some, false, length, IfSome, All, option_map};
+ghost use Rattle.ly_base.specs.declared.cut.Cut.TheVariants.{Whole};
+ghost use Rattle.ly_scan.specs.StateRows.{state_at, Begins};
+ghost use Rattle.ly_scan.specs.StateTable.{ahead_at, cut_at, start_at, states_of, table_from};
+ghost use Rattle.ly_scan.specs.StateTable.{LeadsWithin, StandsIn};
+ghost use Rattle.ly_scan.specs.StateWalk.{ahead_of-ended, state_walk, MindsNoLine};
+
+use crate::scanner_parts::{ConditionStart, ScannerParts};
+use crate::state_rows::RowStart;
+use crate::steps::Steps;
+use ly_base::{Cut, RuleNo};
+use std::marker::Model;
+
+/// A scanner: the walk over states whose rows are spread over all bytes, so that a step is one index.
+#[derive(Drop)]
+pub struct Scanner {
+    /// What it is made of.
+    parts: ScannerParts,
+    /// Where the initial condition begins elsewhere than at the start of a line.
+    initial: Option<RowStart>,
+    /// Whether a condition may begin in another state at the start of a line than elsewhere.
+    lines: bool,
+    /// Whether no rule is known to have a cut, so that none is looked up.
+    uncut: bool,
+}
+
+impl Model for Scanner {
+    ghost use Rattle.ly_scan.specs.StateTable.{StateTable, table_from};
+    ghost use Rattle.ly_scan.specs.Private.Scanner.{IsKnown};
+
+    ghost Value = { StateTable };
+
+    ghost view = { λ s. table_from s.parts };
+
+    ghost invariant = { λ s. IsKnown (table_from s.parts) s.initial s.lines s.uncut };
+}
+
+impl Scanner {
+    /// The scanner of these parts.
+    pub fn new(parts: ScannerParts) -> Scanner
+        requires { LeadsWithin (table_from parts) }
+        ensures { result ≡ table_from parts }
+    {
+        Scanner {
+            initial: start_of(&parts, 0, false),
+            lines: minds_lines(&parts),
+            uncut: is_uncut(&parts),
+            parts,
+        }
+    }
+
+    /// Where a walk begins, looked up.
+    #[inline(never)] // so that where most walks begin has the registers
+    fn start_at(&self, condition: u32, at_line_start: bool) -> Option<RowStart>
+        ensures is { option_map state_at result ≡ start_at self.now condition at_line_start }
+        ensures stands { IfSome result (StandsIn self.now) }
+    {
+        start_of(&self.parts, condition, at_line_start)
+    }
+
+    /// What a rule's matches are cut down to, looked up.
+    #[inline(never)] // as few scanners have cuts
+    fn cut_at(&self, rule: RuleNo) -> Cut
+        ensures { result ≡ cut_at self.now rule.0 }
+    {
+        match self.parts.cuts.get(rule.0 as usize) {
+            Some(cut) => *cut,
+            None => Cut::Whole,
+        }
+    }
+}
+
+impl Steps for Scanner {
+    type At = RowStart;
+
+    ghost walk = { λ t. state_walk (states_of t) };
+
+    ghost ahead = { ahead_at };
+
+    ghost stands = { StandsIn };
+
+    ghost cut_of = { cut_at };
+
+    fn start(&self, condition: u32, at_line_start: bool) -> Option<RowStart> {
+        if at_line_start || condition != 0 {
+            return self.start_at(condition, at_line_start);
+        }
+        self.initial
+    }
+
+    fn minds_lines(&self) -> bool {
+        self.lines
+    }
+
+    fn step(&self, at: RowStart, byte: u8) -> Option<RowStart> {
+        self.parts.rows.next(at, byte)
+    }
+
+    fn accept(&self, at: RowStart) -> Option<RuleNo> {
+        self.parts.rules[at.state()]
+    }
+
+    fn cut(&self, rule: RuleNo) -> Cut {
+        if self.uncut {
+            return Cut::Whole;
+        }
+        self.cut_at(rule)
+    }
+
+    ghost stays_ended = { λ t condition line text more h. ahead_of-ended (states_of t) (start_at t condition line) text
+        more h };
+}
+
+/// Where a condition begins, at the start of a line or not, if it does.
+fn start_of(parts: &ScannerParts, condition: u32, at_line_start: bool) -> Option<RowStart>
+    ensures is { option_map state_at result ≡ start_at (table_from parts.now) condition at_line_start }
+    ensures begins { IfSome result Begins }
+{
+    let start = parts.starts.get(condition as usize)?;
+    let state = if at_line_start {
+        start.at_line
+    } else {
+        start.elsewhere
+    };
+    state.map(RowStart::of)
+}
+
+/// Whether a condition begins in another state at the start of a line than elsewhere.
+fn minds_lines(parts: &ScannerParts) -> bool
+    ensures { result ≡ false → MindsNoLine (states_of (table_from parts.now)) }
+{
+    for start in &parts.starts {
+        if start.at_line != start.elsewhere {
+            return true;
+        }
+    }
+    false
+}
+
+/// Whether no rule has a cut.
+fn is_uncut(parts: &ScannerParts) -> bool
+    ensures { OnTrue result ((rule : ℕ) → cut_at (table_from parts.now) rule ≡ Whole) }
+{
+    for cut in &parts.cuts {
+        if *cut != Cut::Whole {
+            return false;
+        }
+    }
+    true
+}
