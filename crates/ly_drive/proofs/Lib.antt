@@ -1,6 +1,10 @@
+pub mod ClosingLemmas
+pub mod EndingLemmas
 pub mod FaultLemmas
+pub mod FeedLemmas
 pub mod FeedingLemmas
 pub mod LabelLemmas
+pub mod LexerOfLemmas
 pub mod LineLemmas
 pub mod OneVerdictLemmas
 pub mod OnwardLemmas
@@ -11,5 +15,6 @@ pub mod ReturnedLemmas
 pub mod RunLemmas
 pub mod SettledLemmas
 pub mod SomeVerdictLemmas
+pub mod SoFarLemmas
 pub mod StopLemmas
 pub mod TakingLemmas

@@ -1,7 +1,7 @@
 -- A run over what has come of a text.
 use Rattle.std.proofs.Common.{◌≡◌, ◌∙◌, ℕ, List, [], ◌∷◌, ◌++◌, Option, Some, None, Ok, Err, Result, ap, append-nil, arith}
 use Rattle.std.proofs.Common.{length, length-append, refl, subst, sym}
-use Rattle.std.specs.Prelude.{Bool, IsErrAnd, false, true}
+use Rattle.std.specs.Prelude.{Bool, IsErrAnd, MatchOption, false, true}
 use Rattle.ly_base.specs.Lexed.{Place}
 use Rattle.ly_base.specs.declared.lexeme.End.{End}
 use Rattle.ly_base.specs.declared.lexeme.End.TheVariants.{BadCut, Clean, Stuck}
@@ -23,13 +23,13 @@ use Rattle.ly_pack.specs.Machine.{Machine}
 use Rattle.ly_parse.proofs.FedOnceLemmas.{fed_in_one_way}
 use Rattle.ly_parse.specs.Parse.{Parse}
 use Rattle.ly_scan.specs.Lexers.{Lexer, scanner_of}
-use Rattle.ly_scan.specs.Pieces.{EndsFast, IsUndecided, PassesOver}
+use Rattle.ly_scan.specs.Pieces.{EndsFast, IsUndecided, PassesOver, StandsFast}
 
 -- a run halts where the next match isn't decided
-pub halts_undecided : (ended : Bool) (p : ScanPart) (q : Place) → ended ≡ false → IsUndecided (scanner_in p) q
+halts_undecided : (ended : Bool) (p : ScanPart) (q : Place) → ended ≡ false → IsUndecided (scanner_in p) q
     → Halts ended p q
-halts_undecided false p q e open = open
-halts_undecided true p q e open = absurd cc
+halts_undecided false p q e undecided = undecided
+halts_undecided true p q e undecided = absurd cc
 
 -- and at the end of the text
 pub halts_at_end : (ended : Bool) (p : ScanPart) (q : Place) → EndsFast ended (scanner_in p) q Clean → Halts ended p q
@@ -37,6 +37,22 @@ halts_at_end true p q ends = sym (append-nil q.rest) ∙ ends [] (λ e. refl)
 halts_at_end false p q ends = absurd
     (let none = ap length (ends (0 ∷ []) (anything_follows (0 ∷ []))) in
     omega (arith, none, length-append q.rest (0 ∷ [])))
+
+-- what a lexer finds is what its set's scanner has there
+pub fast_there : (ended : Bool) (p : ScanPart) (l : Lexer) (q : Place) (o : Option Lexeme) (t : Lexeme) → IsLexerOf p l
+    → MatchOption o ((ended ≡ false) × IsUndecided (scanner_of l.scanner) q)
+    (StandsFast ended (scanner_of l.scanner) q) → o ≡ Some t → StandsFast ended (scanner_in p) q t
+fast_there ended p l q (Some x) t is found at =
+    let same : x ≡ t = cc in
+    subst (StandsFast ended (scanner_in p) q) same (subst (λ s. StandsFast ended s q x) is.scanner found)
+fast_there ended p l q None t is found at = absurd cc
+
+pub undecided_there : (ended : Bool) (p : ScanPart) (l : Lexer) (q : Place) (o : Option Lexeme) → IsLexerOf p l
+    → MatchOption o ((ended ≡ false) × IsUndecided (scanner_of l.scanner) q)
+    (StandsFast ended (scanner_of l.scanner) q) → o ≡ None → Halts ended p q
+undecided_there ended p l q None is found at =
+    halts_undecided ended p q found.0 (subst (λ s. IsUndecided s q) is.scanner found.1)
+undecided_there ended p l q (Some x) is found at = absurd cc
 
 module _ (ended : Bool) (p : ScanPart) (m : Machine) (w : Progress) where
   -- it goes on behind what is passed over
@@ -74,3 +90,9 @@ module _ (ended : Bool) (p : ScanPart) (m : Machine) (w : Progress) where
   failed q s r t run.TableFault (Err x) on taken is = subst (λ y. IsRunOn ended p m w q r (Err y)) (sym is)
       (settled_on ended p m faulty fed_in_one_way on taken)
   failed q s r t run.OutOfMemory (Err x) on taken is = subst (λ y. IsRunOn ended p m w q r (Err y)) (sym is) tt
+
+-- where a run halts before the end of the text
+pub halts_here : (p : ScanPart) (m : Machine) (w : Progress) (q : Place) (r : Parse) (o : Option Flaw)
+    → IsRunOn false p m w q r (Ok o) → o ≡ None
+    → Onward false p m w (progress_of q r) × IsUndecided (scanner_in p) q × (r.over ≡ false)
+halts_here p m w q r o run none = subst (λ x. IsRunOn false p m w q r (Ok x)) none run

@@ -18,7 +18,7 @@ use Rattle.ly_parse.specs.Feeding as fed
 use Rattle.ly_scan.specs.Pieces.{EndsFast, StandsFast, behind}
 
 -- nothing comes
-nothing_more : (w : Progress) (more : List ℕ) → more ≡ [] → with_more w more ≡ w
+pub nothing_more : (w : Progress) (more : List ℕ) → more ≡ [] → with_more w more ≡ w
 nothing_more w more none = λ i. record {
   place = (ap (behind w.place) none ∙ behind_none w.place) i;
   stack = w.stack;

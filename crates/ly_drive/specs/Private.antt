@@ -5,4 +5,5 @@ pub mod LexerOf
 pub mod Passing
 pub mod Reading
 pub mod Running
+pub mod ScannerOf
 pub mod Window

@@ -99,23 +99,25 @@ impl<'a> Feed<'a> {
         }
         self.over = true;
         self.window.push(bytes)?;
-        if !self.lexer.goes_on(&mut self.matcher, bytes) {
-            let mut place = self.window.place();
-            let flaw = run_on(
-                self.set,
-                &self.lexer,
-                &mut self.parser,
-                &mut place,
-                false,
-            )?;
-            if let Some(flaw) = flaw {
-                let (outcome, lines) = told(self.alloc, self.set, flaw)?;
-                return Ok(Need::Settled(outcome, lines));
-            }
-            self.matcher = self.lexer.matcher_at(&place);
-            let (at, line, condition) = (place.at(), place.at_line_start(), place.condition());
-            self.window.give_up(at, line, condition);
+        if self.lexer.goes_on(&mut self.matcher, bytes) {
+            self.over = false;
+            return Ok(Need::More);
         }
+        let mut place = self.window.place();
+        let flaw = run_on(
+            self.set,
+            &self.lexer,
+            &mut self.parser,
+            &mut place,
+            false,
+        )?;
+        if let Some(flaw) = flaw {
+            let (outcome, lines) = told(self.alloc, self.set, flaw)?;
+            return Ok(Need::Settled(outcome, lines));
+        }
+        self.matcher = self.lexer.matcher_at(&place);
+        let (at, line, condition) = (place.at(), place.at_line_start(), place.condition());
+        self.window.give_up(at, line, condition);
         self.over = false;
         Ok(Need::More)
     }

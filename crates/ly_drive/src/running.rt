@@ -41,8 +41,9 @@ pub(crate) fn run_on<'t>(
     loop {
         let lexeme = match lexer.next(place, ended) {
             Ok(Some(lexeme)) => lexeme,
-            // it isn't decided which one comes, or the text has ended
-            Ok(None) | Err(End::Clean) => return Ok(None),
+            Ok(None) => return Ok(None),
+            // the text has ended
+            Err(End::Clean) => return Ok(None),
             Err(End::Stuck { byte }) => return Ok(Some(Flaw::NoRule { byte: byte as u64 })),
             Err(End::BadCut { .. }) => return Err(RunFault::TableFault),
         };
@@ -140,8 +141,9 @@ pub(crate) fn run_to_end<'t>(
     requires runs { CanRun (scan_part_of set.now) (machine_of set.now) }
     requires machine { parser.old.machine ≡ machine_of set.now }
     requires goes_on { parser.old.over ≡ false }
-    ensures { IsClosed (scan_part_of set.now) (machine_of set.now) (progress_of place.old parser.old) parser.new.forest
-        result }
+    ensures closed { IsClosed (scan_part_of set.now) (machine_of set.now) (progress_of place.old parser.old)
+        parser.new.forest result }
+    ensures machine { parser.new.machine ≡ parser.old.machine }
 {
     if let Some(flaw) = run_on(set, lexer, parser, place, true)? {
         return Ok(Ended::Refused(flaw));
@@ -157,7 +159,8 @@ fn close<'t>(
     requires goes_on { parser.old.over ≡ false }
     requires terminals { 0 < parser.old.machine.terminals }
     requires ended { place.now.rest ≡ [] }
-    ensures { IsLast parser.old place.now.at parser.new.forest result }
+    ensures last { IsLast parser.old place.now.at parser.new.forest result }
+    ensures machine { parser.new.machine ≡ parser.old.machine }
 {
     let at = place.at() as u64;
     match parser.end(at) {

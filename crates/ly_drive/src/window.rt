@@ -1,4 +1,4 @@
-ghost use Rattle.std.specs.Prelude.{◌≡◌, ◌≢◌, ◌≤◌, ◌+◌, ◌-◌, ◌^◌, [], drop, length, Err, OnOk};
+ghost use Rattle.std.specs.Prelude.{◌≡◌, ◌≢◌, ◌<◌, ◌≤◌, ◌+◌, ◌-◌, ◌^◌, [], drop, length, Err, OnOk};
 ghost use Rattle.ly_base.specs.Lexed.{start_of};
 ghost use Rattle.ly_scan.specs.Pieces.{behind};
 
@@ -68,6 +68,7 @@ impl Window {
     /// memory runs out.
     pub(crate) fn push(&mut self, bytes: &[u8]) -> Result<(), FeedFault>
         ensures ok { OnOk result (self.new ≡ behind self.old bytes.now) }
+        ensures countable { OnOk result (self.old.at + length self.old.rest + length bytes.now < 2 ^ 64) }
         ensures long { result ≡ Err FeedFault.TooLong → 2 ^ 64 ≤ self.old.at + length self.old.rest + length bytes.now }
         ensures not_over { result ≢ Err FeedFault.Over }
         ensures not_faulty { result ≢ Err FeedFault.TableFault }

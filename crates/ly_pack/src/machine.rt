@@ -1,4 +1,4 @@
-ghost use Rattle.std.specs.Prelude.{◌≡◌, ◌<◌, ◌≤◌, length, map, slice_get, Some, option_map};
+ghost use Rattle.std.specs.Prelude.{◌≡◌, ◌<◌, length, map, slice_get, Some, option_map};
 ghost use Rattle.ly_pack.specs.Machine.{action_of, entry_at, goto_at, states_of, IsMachine, IsRuleNumber, IsTableRule};
 ghost use Rattle.ly_pack.specs.Machine.{HaveSizes, IsWithin};
 ghost use Rattle.ly_pack.specs.Rows.{grid_of};

@@ -1,14 +1,15 @@
 -- What a call with a token does.
 use Rattle.std.proofs.Common.{◌≡◌, ℕ, ◌+◌, ◌<◌, List, ◌∷◌, refl, sym, ap, ◌∙◌, subst, Err, Ok}
-use Rattle.std.specs.Prelude.{Bool, false, true, All, IfErr, IfOk, Result, map}
+use Rattle.std.specs.Prelude.{Bool, false, true, All, Result, map}
 use Rattle.ly_base.specs.Lexed.{Token}
 use Rattle.ly_pack.specs.Machine.{Machine, accept, action_of, error, shift, states_of}
 use Rattle.ly_pack.specs.SteadyLaws.{IsStack}
 use Rattle.ly_parse.specs.Expected.{AreExpected}
 use Rattle.ly_parse.specs.Feeding.{done, faulty, pushed, refused, settles, states_on, top_of}
 use Rattle.ly_parse.specs.Parse.{IsCall, Parse}
+use Rattle.ly_parse.specs.Private.Answered.{IsRefusal, IsTellable}
 use Rattle.ly_parse.specs.Private.Before.{before_on, IsNoteOf}
-use Rattle.ly_parse.specs.Private.Stack.{parse_from, stack_from, FeedAlike, IsAccepted, IsParse, IsRefusedWith}
+use Rattle.ly_parse.specs.Private.Stack.{parse_from, stack_from, FeedAlike, IsAccepted, IsParse}
 use Rattle.ly_parse.specs.declared.before.Before.{Before}
 use Rattle.ly_parse.specs.declared.fault.ParseFault.{ParseFault}
 use Rattle.ly_parse.specs.declared.fault.ParseFault.TheVariants.{OutOfMemory, Over, TableFault}
@@ -69,27 +70,25 @@ module _ (m : Machine) (f : Grown) (levels : List code.Level) (p : Parse) (count
   -- they refuse the token, and list what is expected from the stack as it was
   pub refuses_call : (r : Result step.Step ParseFault) (b : Before)
       → action_of m (top_of s.stack) token.terminal ≡ error → s.over ≡ true
-      → IsNoteOf (states_on (stack_from f levels)) s.stack b
-      → IfOk r (IsRefusedWith s.machine (before_on s.stack b) (s.count + 1) token.at)
-      → IfErr r (λ e. e ≡ OutOfMemory) → IsCall p token s r
-  refuses_call (Ok (Refused k at ts)) b action ended note ok err =
+      → IsNoteOf (states_on (stack_from f levels)) s.stack b → IsRefusal s b token.at r → IsCall p token s r
+  refuses_call (Ok (Refused k at ts)) b action ended note told =
       let fed = alike token refused refl (feeds_by m token s.stack error refused action refl) in
-      let list = subst (λ w. AreExpected s.machine w (map (λ t. t.0) ts.items)) note.same ok.2 in
+      let list = subst (λ w. AreExpected s.machine w (map (λ t. t.0) ts.items)) note.same told.0.2 in
       subst (λ x. IsCall x token s (Ok (Refused k at ts))) view (record {
         after_end = not_over over goes;
         before_end = λ _. (
           fed,
-          ok.0 ∙ ap (λ n. n + 1) counted,
-          ok.1,
+          told.0.0 ∙ ap (λ n. n + 1) counted,
+          told.0.1,
           subst (λ x. AreExpected x (states_on (stack_from f levels)) (map (λ t. t.0) ts.items)) machine list,
         );
         machine = machine;
         over = ended;
       })
-  refuses_call (Ok (Done root)) b action ended note ok err = absurd ok
-  refuses_call (Ok More) b action ended note ok err = absurd ok
-  refuses_call (Err e) b action ended note ok err =
-      subst (λ d. IsCall p token s (Err d)) (sym err)
+  refuses_call (Ok (Done root)) b action ended note told = absurd told.0
+  refuses_call (Ok More) b action ended note told = absurd told.0
+  refuses_call (Err e) b action ended note told =
+      subst (λ d. IsCall p token s (Err d)) (sym told.1)
       (subst (λ x. IsCall x token s (Err OutOfMemory)) view (record {
         after_end = not_over over goes;
         before_end = λ _. tt;
@@ -97,13 +96,13 @@ module _ (m : Machine) (f : Grown) (levels : List code.Level) (p : Parse) (count
         over = ended;
       }))
 
--- The states that a stack had before are known, and neighbours were edges.
-module _ (m : Machine) (f : Grown) (levels : List code.Level) (h : IsParse m f levels) (s : Parse)
-    (machine : s.machine ≡ m) (b : Before) (note : IsNoteOf (states_on (stack_from f levels)) s.stack b) where
-  pub before_known : All (λ k. k < states_of s.machine) (before_on s.stack b)
-  before_known = subst (λ x. All (λ k. k < states_of x) (before_on s.stack b)) (sym machine)
-      (subst (All (λ k. k < states_of m)) (sym note.same) (states_known m f levels h))
-
-  pub before_edges : IsStack s.machine (before_on s.stack b)
-  before_edges = subst (λ x. IsStack x (before_on s.stack b)) (sym machine)
-      (subst (IsStack m) (sym note.same) h.edges)
+-- A refusal can be told from the states that a stack had before: they are known, and neighbours were edges.
+pub tellable : (m : Machine) (f : Grown) (levels : List code.Level) (h : IsParse m f levels) (s : Parse)
+    (machine : s.machine ≡ m) (b : Before) (note : IsNoteOf (states_on (stack_from f levels)) s.stack b)
+    → IsTellable s b
+tellable m f levels h s machine b note = record {
+  kept = note.kept;
+  states = subst (λ x. All (λ k. k < states_of x) (before_on s.stack b)) (sym machine)
+      (subst (All (λ k. k < states_of m)) (sym note.same) (states_known m f levels h));
+  edges = subst (λ x. IsStack x (before_on s.stack b)) (sym machine) (subst (IsStack m) (sym note.same) h.edges);
+}

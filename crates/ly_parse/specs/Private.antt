@@ -1,4 +1,5 @@
 -- What private functions' contracts cite.
+pub mod Answered
 pub mod Before
 pub mod Copied
 pub mod Paying

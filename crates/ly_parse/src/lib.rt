@@ -1,8 +1,8 @@
 //! From tokens to a term, by a parser's tables.
 //!
 //! A `Parser` borrows the tables, and holds a stack of states and terms and the forest that these stand in. Each call
-//! makes the turns of the tables on its token (`Feeds`): reductions, and then the token is read, accepted with a term or
-//! refused.
+//! makes the turns of the tables on its token (`Feeds`): reductions, and then the token is read, accepted with a term
+//! or refused.
 //! It asks for steady tables, so that every call ends.
 //! Where a token is refused, the terminals that are expected in its place are listed, by runs on a copy of the stack as
 //! it stood before the token.
@@ -11,6 +11,7 @@
 //! Left out: where tokens come from, and what a refusal is printed as.
 #![tactic(auto)]
 
+mod answer;
 mod before;
 mod copied;
 mod fault;

@@ -1,4 +1,4 @@
-ghost use Rattle.std.specs.Prelude.{◌≡◌, ◌≢◌, ◌<◌, ℕ, [], Ok, false};
+ghost use Rattle.std.specs.Prelude.{◌≡◌, ◌≢◌, ◌<◌, [], Ok, false};
 ghost use Rattle.ly_pack.specs.Steady.{IsSteady};
 ghost use Rattle.ly_parse.specs.Parse.{IsCall};
 ghost use Rattle.ly_parse.specs.declared.step.Step.TheVariants as step;
@@ -76,6 +76,7 @@ impl<'a, A: Rows<TableAction> + Drop, G: Rows<StateNo> + Drop> Parser<'a, A, G> 
     /// answer than `More` the parse is over.
     ///
     /// Its faults are those of `ParseFault`.
+    #[inline(always)] // so that a caller which looks at the step of a token that is read makes none
     pub fn feed(&mut self, token: &Token<'_>) -> Result<Step, ParseFault>
         requires not_end { token.now.terminal.0 ≢ 0 }
         requires terminal { token.now.terminal.0 < self.old.machine.terminals }
@@ -85,7 +86,8 @@ impl<'a, A: Rows<TableAction> + Drop, G: Rows<StateNo> + Drop> Parser<'a, A, G> 
           bytes = token.now.text;
         }) self.new result }
     {
-        self.running.feed(token, &mut self.before)
+        let answer = self.running.feed(token, &mut self.before);
+        self.running.step(answer, token.at, &self.before)
     }
 
     /// Takes the end of the text, which stands at this byte: makes the reductions before it, and then accepts or
@@ -100,6 +102,7 @@ impl<'a, A: Rows<TableAction> + Drop, G: Rows<StateNo> + Drop> Parser<'a, A, G> 
         ensures paid { (root : TermRef) (t : Term) → result ≡ Ok (step.Done root)
             → StandsFor self.new.forest root t → IsPaid self.new.forest t }
     {
-        self.running.end(at, &mut self.before)
+        let answer = self.running.end(&mut self.before);
+        self.running.step(answer, at, &self.before)
     }
 }

@@ -1,17 +1,18 @@
 ghost use Rattle.std.specs.Prelude.{◌≡◌, ◌≢◌, ◌<◌, ◌≤◌, ◌+◌, ◌-◌, ◌*◌, ℕ, [], ◌∷◌, Err, None, Ok, false, drop, length};
-ghost use Rattle.std.specs.Prelude.{take, All, IfErr, IfOk, List, OnErr, OnOk};
+ghost use Rattle.std.specs.Prelude.{map, take, IfErr, IfOk, List, OnErr, OnOk};
 ghost use Rattle.ly_base.specs.Shape.{shape_of};
 ghost use Rattle.ly_pack.specs.Machine.{accept, action_of, error, reduce, shift, states_of, IsLegal};
 ghost use Rattle.ly_pack.specs.Machine.{IsRuleNumber, IsShapeFor};
-ghost use Rattle.ly_pack.specs.Steady.{rule_at, IsSteady};
-ghost use Rattle.ly_pack.specs.SteadyLaws.{IsStack};
+ghost use Rattle.ly_pack.specs.Steady.{IsSteady};
 ghost use Rattle.ly_pack.specs.Values.{action_from};
-ghost use Rattle.ly_parse.specs.Feeding.{faulty, goes_on, reduce_by, settles, states_on, top_of};
-ghost use Rattle.ly_parse.specs.Parse.{IsCall};
+ghost use Rattle.ly_parse.specs.Expected.{AreExpected};
+ghost use Rattle.ly_parse.specs.Feeding.{faulty, states_on, top_of};
+ghost use Rattle.ly_parse.specs.Private.Answered.{IsAnswered, IsTellable, IsTold};
 ghost use Rattle.ly_parse.specs.Private.Before.{before_on, with_top, AreAlikeBelow, IsBefore, IsNoteOf, IsOpen};
 ghost use Rattle.ly_parse.specs.Private.Paying.{places_in};
 ghost use Rattle.ly_parse.specs.Private.Stack.{terms_onto, FailsByRule, FeedAlike, FeedAs, IsAccepted, Leads};
 ghost use Rattle.ly_parse.specs.Private.Stack.{IsRefusedWith, LeadsByRule};
+ghost use Rattle.ly_parse.specs.declared.answer.Answer.TheVariants as answers;
 ghost use Rattle.ly_parse.specs.declared.fault.ParseFault.TheVariants as fault;
 ghost use Rattle.ly_parse.specs.declared.settled.Settled.TheVariants as settled;
 ghost use Rattle.ly_parse.specs.declared.step.Step.TheVariants as step;
@@ -19,6 +20,7 @@ ghost use Rattle.ly_tree.specs.Costs.{budget, IsPaid};
 ghost use Rattle.ly_tree.specs.Forest.{no_terms, StandsFor};
 ghost use Rattle.ly_tree.specs.Term.{Term, leaf, made, none};
 
+use crate::answer::Answer;
 use crate::before::Before;
 use crate::fault::ParseFault;
 use crate::landing::Landing;
@@ -115,57 +117,70 @@ impl<'a, A: Rows<TableAction> + Drop, G: Rows<StateNo> + Drop> Running<'a, A, G>
     }
 
     /// Takes a token: makes the reductions before it, and then reads it or refuses it. After any other answer than
-    /// `More` the parse is over.
-    ///
-    /// Its faults are those of `ParseFault`.
-    pub(crate) fn feed(
-        &mut self,
-        token: &Token<'_>,
-        before: &mut Before,
-    ) -> Result<Step, ParseFault>
+    /// `Reads` the parse is over. Where the token is refused, what the stack was is noted.
+    pub(crate) fn feed(&mut self, token: &Token<'_>, before: &mut Before) -> Answer
         requires not_end { token.now.terminal.0 ≢ 0 }
         requires terminal { token.now.terminal.0 < self.old.machine.terminals }
-        ensures { IsCall self.old (record {
+        ensures call { IsAnswered self.old (record {
           terminal = token.now.terminal.0;
           at = token.now.at;
           bytes = token.now.text;
-        }) self.new result }
+        }) self.new before.new result }
+        ensures tellable { result ≡ answers.Refuses → IsTellable self.new before.new }
     {
         if self.over {
-            return Err(ParseFault::Over);
+            return Answer::Over;
         }
         self.over = true;
-        match self.settle(token.terminal, before)? {
-            Settled::Reads(state) => {
-                self.read(state, token)?;
-                Ok(Step::More)
-            }
-            Settled::Accepts => self.accept(),
-            Settled::Refuses => self.refuse(token.at, before),
+        match self.settle(token.terminal, before) {
+            Ok(Settled::Reads(state)) => match self.read(state, token) {
+                Ok(()) => Answer::Reads,
+                Err(OutOfMemory) => Answer::OutOfMemory,
+            },
+            Ok(Settled::Accepts) => Answer::Accepts,
+            Ok(Settled::Refuses) => Answer::Refuses,
+            Err(fault) => Answer::from(fault),
         }
     }
 
-    /// Takes the end of the text, which stands at this byte: makes the reductions before it, and then accepts or
-    /// refuses it. The parse is over then. The term that it accepts with uses no part of the forest twice, so the
-    /// forest says how much there is to print.
-    ///
-    /// Its faults are those of `ParseFault`.
-    pub(crate) fn end(&mut self, at: u64, before: &mut Before) -> Result<Step, ParseFault>
+    /// Takes the end of the text: makes the reductions before it, and then accepts or refuses it. The parse is over
+    /// then. Where the end is refused, what the stack was is noted.
+    pub(crate) fn end(&mut self, before: &mut Before) -> Answer
         requires { 0 < self.old.machine.terminals }
-        ensures call { IsCall self.old (record { terminal = 0; at = at; bytes = [] }) self.new result }
-        ensures last { result ≢ Ok step.More }
-        ensures paid { (root : TermRef) (t : Term) → result ≡ Ok (step.Done root)
-            → StandsFor self.new.forest root t → IsPaid self.new.forest t }
+        ensures call { (at : ℕ) → IsAnswered self.old (record { terminal = 0; at = at; bytes = [] }) self.new
+            before.new result }
+        ensures tellable { result ≡ answers.Refuses → IsTellable self.new before.new }
+        ensures last { result ≢ answers.Reads }
     {
         if self.over {
-            return Err(ParseFault::Over);
+            return Answer::Over;
         }
         self.over = true;
-        match self.settle(Sym(0), before)? {
-            Settled::Accepts => self.accept(),
-            Settled::Refuses => self.refuse(at, before),
+        match self.settle(Sym(0), before) {
+            Ok(Settled::Accepts) => Answer::Accepts,
+            Ok(Settled::Refuses) => Answer::Refuses,
             // the end is never shifted
-            Settled::Reads(_) => unreachable!(),
+            Ok(Settled::Reads(_)) => unreachable!(),
+            Err(fault) => Answer::from(fault),
+        }
+    }
+
+    /// What is told of a call that came to this answer, and whose token stands at this byte. A term that is accepted
+    /// uses no part of the forest twice.
+    #[inline(always)] // so that a caller which looks at the step of a token that is read makes none
+    pub(crate) fn step(&self, answer: Answer, at: u64, before: &Before) -> Result<Step, ParseFault>
+        requires { answer ≡ answers.Refuses → IsTellable self.now before.now }
+        ensures told { IsTold self.now before.now at answer result }
+        ensures paid { (root : TermRef) (t : Term) → result ≡ Ok (step.Done root)
+            → StandsFor self.now.forest root t → IsPaid self.now.forest t }
+    {
+        match answer {
+            Answer::Reads => Ok(Step::More),
+            Answer::Accepts => self.accept(),
+            Answer::Refuses => self.refuse(at, before),
+            Answer::TableFault => Err(ParseFault::TableFault),
+            Answer::Over => Err(ParseFault::Over),
+            Answer::OutOfMemory => Err(ParseFault::OutOfMemory),
         }
     }
 
@@ -430,6 +445,7 @@ impl<'a, A: Rows<TableAction> + Drop, G: Rows<StateNo> + Drop> Running<'a, A, G>
     }
 
     /// Accepts with the term on top of the stack.
+    #[inline(always)] // so that a caller which looks at the step of a token that is read makes none
     fn accept(&self) -> Result<Step, ParseFault>
         ensures accepted { IsAccepted self.now.forest self.now.stack result }
         ensures paid { (root : TermRef) (t : Term) → result ≡ Ok (step.Done root)
@@ -443,22 +459,30 @@ impl<'a, A: Rows<TableAction> + Drop, G: Rows<StateNo> + Drop> Running<'a, A, G>
 
     /// Refuses the next token, which stands at this byte, and lists what is expected in its place, from the stack as it
     /// was.
-    #[inline(never)] // so that a token that is read has the registers
+    #[inline(always)] // so that the room of the list is made where a token is refused, and at no other
     fn refuse(&self, at: u64, before: &Before) -> Result<Step, ParseFault>
-        requires kept { before.now.kept ≤ length self.now.stack }
-        requires states { All (λ s. s < states_of self.now.machine) (before_on self.now.stack before.now) }
-        requires edges { IsStack self.now.machine (before_on self.now.stack before.now) }
+        requires { IsTellable self.now before.now }
         ensures ok { IfOk result (IsRefusedWith self.now.machine (before_on self.now.stack before.now)
             (self.now.count + 1) at) }
         ensures err { IfErr result (λ e. e ≡ fault.OutOfMemory) }
     {
         let token = self.number()?;
-        let states = before.states(self.alloc, &self.stack)?;
         Ok(Step::Refused {
             token,
             byte: at,
-            expected: expected(self.alloc, &self.machine, &states)?,
+            expected: self.expected(before)?,
         })
+    }
+
+    /// What is expected in place of the next token, from the stack as it was.
+    #[inline(never)] // so that a token that is read has the registers
+    fn expected(&self, before: &Before) -> Result<Vec<Sym>, OutOfMemory>
+        requires { IsTellable self.now before.now }
+        ensures { IfOk result (λ ts. AreExpected self.now.machine (before_on self.now.stack before.now)
+            (map (λ t. t.0) ts.items)) }
+    {
+        let states = before.states(self.alloc, &self.stack)?;
+        expected(self.alloc, &self.machine, &states)
     }
 
     /// The number of the next token.

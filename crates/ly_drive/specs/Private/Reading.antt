@@ -1,12 +1,15 @@
 -- A piece that a reader gives on its way into a feed.
-use Rattle.std.specs.Prelude.{◌≡◌, ◌<◌, ◌≤◌, ◌^◌, ℕ, ◌+◌, List, [], ◌++◌, Option, Some, None, Result, Ok, Err, length}
+use Rattle.std.specs.Prelude.{◌≡◌, ◌<◌, ◌≤◌, ◌^◌, ℕ, ◌+◌, List, [], ◌++◌, Option, Some, None, Result, Ok, Err, false}
+use Rattle.std.specs.Prelude.{length}
 use Rattle.std.specs.Io.KnownBytes.{Consumes, IsAtEnd}
 use Rattle.ly_drive.specs.Held.{Held, IsOnward, IsRestOf, IsSettledBy, seen}
-use Rattle.ly_drive.specs.Verdict.{faulty}
+use Rattle.ly_drive.specs.TableAnswer.{IsVerdict}
+use Rattle.ly_drive.specs.Verdict.{Verdict, faulty}
 use Rattle.ly_drive.specs.declared.fault.DriveFault.{DriveFault}
 use Rattle.ly_drive.specs.declared.fault.DriveFault.TheVariants.{OutOfMemory, Read, TableFault, TooLong}
 use Rattle.ly_drive.specs.declared.need.Need.{Need}
 use Rattle.ly_drive.specs.declared.need.Need.TheVariants.{More, Settled}
+use Rattle.ly_tables.specs.TableSet.{TableSet}
 
 -- What one read comes to: the text has ended; or a piece has come, and more is wanted, or the text is answered, or the
 -- tables are at fault, or the text is too long; or the read failed. Want of memory says nothing.
@@ -23,3 +26,12 @@ IsReadInto f before after g (Err TooLong) = (piece : List ℕ) × Consumes befor
 IsReadInto f before after g (Err Read) = Unit {0}
 IsReadInto f before after g (Err OutOfMemory) = Unit {0}
 IsReadInto f before after g (Err _) = ⊥
+
+-- What a reader gave so far has come to a feed of a set, which says of the rest what the set says of the whole.
+pub record IsReadSoFar (s : TableSet) (given now : Option (List ℕ)) (f : Held) : Type 0 where
+  pub taken : List ℕ
+  pub consumed : Consumes given now taken
+  pub says : (more : List ℕ) (v : Verdict) → IsRestOf f more v → IsVerdict s (taken ++ more) v
+  pub counted : seen f ≡ length taken
+  pub set : f.set ≡ s
+  pub goes_on : f.over ≡ false

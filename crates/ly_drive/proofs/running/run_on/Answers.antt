@@ -1,13 +1,12 @@
 use Rattle.std.proofs.Common.{◌∙◌, Ok, ap, subst, sym}
-use Rattle.ly_base.specs.Lexed.{moved, place_after}
+use Rattle.ly_base.specs.Lexed.{moved}
 use Rattle.ly_drive.proofs.OnwardLemmas.{onward_on}
-use Rattle.ly_drive.proofs.RunLemmas.{cut, failed, halts_at_end, halts_undecided, over, stuck, wrong}
+use Rattle.ly_drive.proofs.RunLemmas.{cut, failed, fast_there, halts_at_end, over, stuck, undecided_there, wrong}
 use Rattle.ly_drive.specs.Onward.{Onward, none_yet}
 use Rattle.ly_drive.specs.Private.Running.{IsTaken, progress_of}
-use Rattle.ly_drive.specs.ScanPart.{condition_in, scan_part_of, scanner_in}
+use Rattle.ly_drive.specs.ScanPart.{scan_part_of, scanner_in}
 use Rattle.ly_drive.proofs.running.run_on.Goals as goal
-use Rattle.ly_drive.proofs.running.run_on.Goals.{in-Ok+in-None-1, in-Err+in-Clean-1}
-use Rattle.ly_scan.specs.Pieces.{EndsFast, IsUndecided, StandsFast}
+use Rattle.ly_scan.specs.Pieces.{EndsFast}
 use Rattle.ly_tables.specs.TableSet.{machine_of}
 
 pub loop-lexeme-init : goal.loop-lexeme-init
@@ -44,10 +43,21 @@ returns-in-Ok-None-clause-runs c =
       over c.args.ended p (machine_of c.args.set.now) (progress_of c.args.place.now c.args.parser.now) c.args.lexer.now
           c.loop-lexeme.place q c.loop-lexeme.parser c.requires.lexer c.loop-lexeme.invariant.onward
           c.next.ensures.passed,
-      elim c.in-Ok-None-1.branch [
-        | in-Ok+in-None-1 w ↦ ?
-        | in-Err+in-Clean-1 w ↦ ?
-      ],
+      undecided_there c.args.ended p c.args.lexer.now q c.in-Ok-None.field-0 c.requires.lexer
+          c.in-Ok-None.ensures.found c.in-Ok-None.field-0-is,
+      c.loop-lexeme.invariant.goes_on,
+    )
+
+pub returns-in-Err-Clean-clause-runs : goal.returns-in-Err-Clean-clause-runs
+returns-in-Err-Clean-clause-runs c =
+    let p = scan_part_of c.args.set.now in
+    let q = c.next.new.place in (
+      over c.args.ended p (machine_of c.args.set.now) (progress_of c.args.place.now c.args.parser.now) c.args.lexer.now
+          c.loop-lexeme.place q c.loop-lexeme.parser c.requires.lexer c.loop-lexeme.invariant.onward
+          c.next.ensures.passed,
+      halts_at_end c.args.ended p q (subst (λ e. EndsFast c.args.ended (scanner_in p) q e) c.in-Err-Clean.field-0-is
+          (subst (λ x. EndsFast c.args.ended x q c.in-Err-Clean.field-0) c.requires.lexer.scanner
+          c.in-Err-Clean.ensures.end)),
       c.loop-lexeme.invariant.goes_on,
     )
 
@@ -59,14 +69,46 @@ returns-in_err-flaw-clause-runs c =
     let l = c.args.lexer.now in
     let q = c.next.new.place in
     let s = c.loop-lexeme.parser in
+    let fast = fast_there c.args.ended p l q c.in-Ok-Some.field-0 c.in-Ok-Some.lexeme c.requires.lexer
+    c.in-Ok-Some.ensures.found c.in-Ok-Some.field-0-is in
     failed c.args.ended p m w q s c.take.new.parser c.in-Ok-Some.lexeme c.in_err-flaw.field-0.0 c.from_residual.result
     (over c.args.ended p m w l c.loop-lexeme.place q s c.requires.lexer c.loop-lexeme.invariant.onward
-    c.next.ensures.passed)
-    (c.in_err-flaw.ensures.taken c.args.ended (subst (λ x. StandsFast c.args.ended x q c.in-Ok-Some.lexeme)
-    c.requires.lexer.scanner c.in-Ok-Some.ensures.found)) ?
+    c.next.ensures.passed) (c.in_err-flaw.ensures.taken c.args.ended fast) c.from_residual.ensures.1
 
 pub returns-in-Some-clause-runs : goal.returns-in-Some-clause-runs
-returns-in-Some-clause-runs c = ?
+returns-in-Some-clause-runs c =
+    let p = scan_part_of c.args.set.now in
+    let m = machine_of c.args.set.now in
+    let w = progress_of c.args.place.now c.args.parser.now in
+    let l = c.args.lexer.now in
+    let q = c.next.new.place in
+    let s = c.loop-lexeme.parser in
+    let fast = fast_there c.args.ended p l q c.in-Ok-Some.field-0 c.in-Ok-Some.lexeme c.requires.lexer
+    c.in-Ok-Some.ensures.found c.in-Ok-Some.field-0-is in
+    wrong c.args.ended p m w q s c.take.new.parser c.in-Ok-Some.lexeme c.in-Some.flaw
+    (over c.args.ended p m w l c.loop-lexeme.place q s c.requires.lexer c.loop-lexeme.invariant.onward
+    c.next.ensures.passed)
+    (subst (λ o. IsTaken c.args.ended p m (progress_of q s) c.in-Ok-Some.lexeme c.take.new.parser (Ok o)) c.in-Some.is
+    (c.in_ok-flaw.ensures.taken c.args.ended fast))
 
 pub loop-lexeme-preserved : goal.loop-lexeme-preserved
-loop-lexeme-preserved c = ?
+loop-lexeme-preserved c =
+    let p = scan_part_of c.args.set.now in
+    let m = machine_of c.args.set.now in
+    let w = progress_of c.args.place.now c.args.parser.now in
+    let l = c.args.lexer.now in
+    let q = c.next.new.place in
+    let s = c.loop-lexeme.parser in
+    let t = c.in-Ok-Some.lexeme in
+    let fast = fast_there c.args.ended p l q c.in-Ok-Some.field-0 t c.requires.lexer c.in-Ok-Some.ensures.found
+    c.in-Ok-Some.field-0-is in
+    let there = c.advance.ensures ∙ ap (moved q t.taken) c.action-begin.ensures.begin in
+    let taken = subst (λ o. IsTaken c.args.ended p m (progress_of q s) t c.take.new.parser (Ok o)) c.in_default.is
+    (c.in_ok-flaw.ensures.taken c.args.ended fast) in record {
+      onward = subst (λ x. Onward c.args.ended p m w (progress_of x c.take.new.parser)) (sym there)
+          (onward_on c.args.ended p m
+          (over c.args.ended p m w l c.loop-lexeme.place q s c.requires.lexer c.loop-lexeme.invariant.onward
+          c.next.ensures.passed) taken.0);
+      machine = c.take.ensures.machine ∙ c.loop-lexeme.invariant.machine;
+      goes_on = taken.1;
+    }

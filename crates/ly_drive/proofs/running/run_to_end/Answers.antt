@@ -1,0 +1,28 @@
+use Rattle.std.proofs.Common.{◌∙◌, Ok, subst}
+use Rattle.std.specs.Prelude.{true}
+use Rattle.ly_drive.proofs.ClosingLemmas.{closed, closed_by, closed_fault}
+use Rattle.ly_drive.specs.Private.Running.{IsRunOn, progress_of}
+use Rattle.ly_drive.specs.ScanPart.{scan_part_of}
+use Rattle.ly_drive.proofs.running.run_to_end.Goals as goal
+use Rattle.ly_tables.specs.TableSet.{machine_of}
+
+pub returns-in_err-flaw-clause-closed : goal.returns-in_err-flaw-clause-closed
+returns-in_err-flaw-clause-closed c = closed_fault (scan_part_of c.args.set.now) (machine_of c.args.set.now)
+    (progress_of c.args.place.now c.args.parser.now) c.run_on.new.place c.run_on.new.parser
+    c.run_on.new.parser.forest c.in_err-flaw.field-0.0 c.from_residual.result c.in_err-flaw.ensures.runs
+    c.from_residual.ensures.1
+
+pub returns-in-Some-clause-closed : goal.returns-in-Some-clause-closed
+returns-in-Some-clause-closed c = closed_by (scan_part_of c.args.set.now) (machine_of c.args.set.now)
+    (progress_of c.args.place.now c.args.parser.now) c.run_on.new.place c.run_on.new.parser
+    c.run_on.new.parser.forest c.in_ok-flaw.field-0 c.in-Some.flaw c.in_ok-flaw.ensures.runs c.in-Some.is
+
+pub returns-clause-closed : goal.returns-clause-closed
+returns-clause-closed c =
+    let p = scan_part_of c.args.set.now in
+    let m = machine_of c.args.set.now in
+    let w = progress_of c.args.place.now c.args.parser.now in
+    let run = subst (λ o. IsRunOn true p m w c.run_on.new.place c.run_on.new.parser (Ok o)) c.in_default.is
+    c.in_ok-flaw.ensures.runs in
+    closed p m w c.run_on.new.place c.run_on.new.parser run.0 run.1 (c.run_on.ensures.machine ∙ c.requires.machine)
+    c.close.new.parser.forest c.close.result c.close.ensures.last
