@@ -37,7 +37,7 @@ impl Steps for Dense<'_> {
 
     ghost cut_of = { λ d. dense_cut d.cuts.now };
 
-    fn start(&mut self, condition: u32, at_line_start: bool) -> Option<u16> {
+    fn start(&self, condition: u32, at_line_start: bool) -> Option<u16> {
         start_entry(self.starts, condition, at_line_start).checked_sub(1)
     }
 
@@ -45,7 +45,7 @@ impl Steps for Dense<'_> {
         true
     }
 
-    fn step(&mut self, at: u16, byte: u8) -> Option<u16> {
+    fn step(&self, at: u16, byte: u8) -> Option<u16> {
         self.rows.get(usize::from(at))?.next[usize::from(byte)].checked_sub(1)
     }
 

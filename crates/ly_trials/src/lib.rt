@@ -24,6 +24,8 @@ mod memory;
 #[cfg(test)]
 mod parses;
 #[cfg(test)]
+mod pieces;
+#[cfg(test)]
 mod reports;
 #[cfg(test)]
 mod rows;

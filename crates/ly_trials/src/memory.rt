@@ -12,10 +12,10 @@ const TEXT: &[u8] = b"if ifx";
 const LINES: &[u8] = b"IF\"if\"\nID\"ifx\"\n";
 
 /// How often it is tried.
-const TRIES: u32 = 4_000;
+pub(crate) const TRIES: u32 = 4_000;
 
 /// Small blocks, one behind the other.
-fn small_blocks(rt: &HostRuntime) -> Result<Vec<Vec<u8>>, AllocError> {
+pub(crate) fn small_blocks(rt: &HostRuntime) -> Result<Vec<Vec<u8>>, AllocError> {
     let mut blocks = Vec::new(rt.alloc());
     for _ in 0..TRIES {
         blocks.push(Vec::with_capacity(rt.alloc(), 256)?)?;
@@ -24,7 +24,7 @@ fn small_blocks(rt: &HostRuntime) -> Result<Vec<Vec<u8>>, AllocError> {
 }
 
 /// Takes all the room that there is, the smallest blocks last.
-fn hog(rt: &HostRuntime) -> Vec<Vec<u8>> {
+pub(crate) fn hog(rt: &HostRuntime) -> Vec<Vec<u8>> {
     let mut held = Vec::new(rt.alloc());
     let _ = held.reserve(60_000);
     let mut size = 1usize << 46;

@@ -98,7 +98,7 @@ fn answers_so<A: Rows<TableAction> + Drop, G: Rows<StateNo> + Drop>(
     let Ok(()) = steady(alloc, machine) else {
         return Err(Fail::from("tables were refused that are steady"));
     };
-    let mut parser = Parser::new(alloc, machine);
+    let mut parser = Parser::new(alloc, machine.view());
     for (terminal, wanted) in calls {
         if machine.terminals() <= *terminal as usize {
             return Err(Fail::from("there is no such terminal"));

@@ -23,6 +23,7 @@ const MATCHES: [(&[u8], bool, Cut, Match); 16] = [
         Cut::Whole,
         Match::Win {
             rule: RuleNo(0),
+            matched: 2,
             token_len: 2,
         },
     ),
@@ -32,6 +33,7 @@ const MATCHES: [(&[u8], bool, Cut, Match); 16] = [
         Cut::Whole,
         Match::Win {
             rule: RuleNo(0),
+            matched: 2,
             token_len: 2,
         },
     ),
@@ -41,6 +43,7 @@ const MATCHES: [(&[u8], bool, Cut, Match); 16] = [
         Cut::Whole,
         Match::Win {
             rule: RuleNo(0),
+            matched: 2,
             token_len: 2,
         },
     ),
@@ -50,6 +53,7 @@ const MATCHES: [(&[u8], bool, Cut, Match); 16] = [
         Cut::Whole,
         Match::Win {
             rule: RuleNo(0),
+            matched: 2,
             token_len: 2,
         },
     ),
@@ -59,6 +63,7 @@ const MATCHES: [(&[u8], bool, Cut, Match); 16] = [
         Cut::Whole,
         Match::Win {
             rule: RuleNo(1),
+            matched: 4,
             token_len: 4,
         },
     ),
@@ -68,6 +73,7 @@ const MATCHES: [(&[u8], bool, Cut, Match); 16] = [
         Cut::Whole,
         Match::Win {
             rule: RuleNo(1),
+            matched: 6,
             token_len: 6,
         },
     ),
@@ -77,6 +83,7 @@ const MATCHES: [(&[u8], bool, Cut, Match); 16] = [
         Cut::Head(2),
         Match::Win {
             rule: RuleNo(1),
+            matched: 6,
             token_len: 2,
         },
     ),
@@ -86,6 +93,7 @@ const MATCHES: [(&[u8], bool, Cut, Match); 16] = [
         Cut::Head(6),
         Match::Win {
             rule: RuleNo(1),
+            matched: 6,
             token_len: 6,
         },
     ),
@@ -97,6 +105,7 @@ const MATCHES: [(&[u8], bool, Cut, Match); 16] = [
         Cut::Tail(1),
         Match::Win {
             rule: RuleNo(1),
+            matched: 6,
             token_len: 5,
         },
     ),
@@ -126,17 +135,17 @@ fn longest_matches_and_their_cuts(rt: HostRuntime) -> Result<(), Fail> {
         rows.push(row(edges, *rule))?;
     }
     for (text, line, cut, wanted) in &MATCHES {
-        let mut dense = Dense {
+        let dense = Dense {
             rows: &rows,
             starts: &[[1, 0]],
             cuts: &[Cut::Whole, *cut],
         };
         assert!(rt;
-            next_match(&mut dense, 0, *line, text) == *wanted,
+            next_match(&dense, 0, *line, text) == *wanted,
             "{text:?} {cut:?}"
         );
         assert!(rt;
-            next_match(&mut dense, 1, *line, text) == Match::Stuck,
+            next_match(&dense, 1, *line, text) == Match::Stuck,
             "{text:?}"
         );
     }
