@@ -95,14 +95,15 @@ module _ (set : TableSet) (q : Place) (s : Parse) (over : Bool) (piece : List �
 
   -- decided matches lead to where the next one isn't
   pub goes_onward : (r : Place) (t : Parse) → Onward false p m (progress_of (behind q piece) s) (progress_of r t)
-      → IsUndecided (scanner_in p) r → IsOnward f piece (held_from set r t false)
-  goes_onward r t on undecided = record {
+      → IsUndecided (scanner_in p) r → seen f + length piece < 2 ^ 64 → IsOnward f piece (held_from set r t false)
+  goes_onward r t on undecided few = record {
     onward = on;
     undecided = undecided;
     same_rest = same_rest p m (progress_of q s) piece fed_in_one_way on;
     set = refl;
     goes_on = refl;
     counted = omega (arith, same_end p m on, length-append q.rest piece);
+    countable = few;
   }
 
   -- something is wrong

@@ -55,6 +55,7 @@ pub record IsOnward (f : Held) (piece : List ℕ) (g : Held) : Type 0 where
   pub set : g.set ≡ f.set
   pub goes_on : g.over ≡ false
   pub counted : seen g ≡ seen f + length piece
+  pub countable : seen f + length piece < 2 ^ 64
 
 -- The text is answered with this outcome and these bytes, whatever comes behind the piece; never with a tree, which
 -- needs the end of the text.

@@ -1,4 +1,4 @@
-ghost use Rattle.std.specs.Prelude.{◌≡◌, ◌≢◌, ℕ, Err, IfErr, IfOk, IsErrOf, Ok, OnOk};
+ghost use Rattle.std.specs.Prelude.{◌≡◌, ◌≢◌, ◌<◌, ℕ, Err, IfErr, IfOk, IsErrOf, Ok, OnOk, length};
 ghost use Rattle.std.specs.Int.{w16};
 ghost use Rattle.std.specs.Io.KnownBytes.{IsAtEnd};
 ghost use Rattle.ly_base.specs.Device.{next_count};
@@ -8,6 +8,7 @@ ghost use Rattle.ly_tables.specs.TableSet.{TableSet as Tables};
 ghost use Rattle.ly_tables.specs.declared.fault.TableFault as file;
 ghost use Rattle.ly_tables.specs.declared.fault.TableFault.TheVariants.{OutOfMemory};
 ghost use Rattle.ly_drive.specs.Answering.{IsAnsweredBy, IsBegunBy, IsDriven, IsFaultyOn, IsTooLong};
+ghost use Rattle.ly_drive.specs.Held.{nothing_read};
 ghost use Rattle.ly_drive.specs.DriveFault.{IsBeforeWriting, IsOfFile, IsWrite};
 
 use crate::fault::DriveFault;
@@ -80,8 +81,35 @@ pub fn run<R: Source, W: Sink>(
 {
     let mut feed = Feed::new(alloc, set)?;
     let mut room = vec![in alloc; 0u8; PIECE]?;
+    feed_all(&mut feed, &mut room, reader, writer)
+}
+
+/// Feeds a feed to which nothing has come with what a reader gives, so much at a time as there is room for, until the
+/// text is answered or ends, and writes the answer.
+fn feed_all<R: Source, W: Sink>(
+    feed: &mut Feed<'_>,
+    room: &mut [u8],
+    reader: &mut R,
+    writer: &mut W,
+) -> Result<Outcome, DriveFault>
+    requires begins { feed.old ≡ nothing_read feed.old.set }
+    requires room { 0 < length room.old }
+    ensures answered { IfOk result (IsAnsweredBy feed.old.set (R.remaining reader.old) (W.contents writer.old)
+        (W.contents writer.new)) }
+    ensures beginning { (written : ℕ) → result ≡ Err (DriveFault.Write written)
+        → IsBegunBy feed.old.set (R.remaining reader.old) (W.contents writer.old) (W.contents writer.new) written }
+    ensures faulty { result ≡ Err DriveFault.TableFault → IsFaultyOn feed.old.set (R.remaining reader.old) }
+    ensures long { result ≡ Err DriveFault.TooLong → IsTooLong (R.remaining reader.old) }
+    ensures not_of_file { IfErr result (λ e. IsOfFile e → ⊥) }
+    ensures ended { result ≡ Ok Outcome.Tree → IsAtEnd (R.remaining reader.new) }
+    ensures read { IsErrOf result DriveFault.Read → R.failures reader.new ≡ next_count (R.failures reader.old) }
+    ensures reader_held { (IsErrOf result DriveFault.Read → ⊥) → R.failures reader.new ≡ R.failures reader.old }
+    ensures write { IfErr result (λ e. IsWrite e → W.failures writer.new ≡ next_count (W.failures writer.old)) }
+    ensures writer_held { OnOk result (W.failures writer.new ≡ W.failures writer.old) }
+    ensures untouched { IfErr result (λ e. IsBeforeWriting e → writer.new ≡ writer.old) }
+{
     loop {
-        match read_into(&mut feed, reader, &mut room)? {
+        match read_into(feed, reader, room)? {
             Some(Need::More) => {}
             Some(Need::Settled(outcome, answer)) => {
                 write_whole(writer, &answer)?;

@@ -1,15 +1,16 @@
 -- What stands at a place, whatever comes behind the bytes that are known.
-use Rattle.std.proofs.Common.{◌≡◌, ◌≢◌, ℕ, List, [], ◌∷◌, ◌++◌, append-nil, arith, refl}
-use Rattle.std.proofs.Common.{subst}
-use Rattle.std.specs.Prelude.{Bool}
+use Rattle.std.proofs.Common.{◌≡◌, ◌≢◌, ℕ, List, [], ◌∷◌, ◌++◌, append-nil, arith, refl, subst}
+use Rattle.std.specs.Prelude.{Bool, MatchOption, Option, Some, false}
 use Rattle.ly_base.specs.Lexed.{Place}
 use Rattle.ly_base.specs.declared.cut.Cut.{Cut}
+use Rattle.ly_base.specs.declared.lexeme.End.{End}
 use Rattle.ly_base.specs.declared.lexeme.End.TheVariants.{BadCut as bad_cut, Stuck as stuck}
+use Rattle.ly_base.specs.declared.lexeme.Lexeme.{Lexeme}
 use Rattle.ly_base.specs.declared.numbers.RuleNo.{RuleNo}
 use Rattle.ly_scan.proofs.LexingLemmas.{taken_within}
-use Rattle.ly_scan.specs.Lexer.{Scanner}
+use Rattle.ly_scan.specs.Lexer.{IsLexemeAt, ScanEndsAt, Scanner}
 use Rattle.ly_scan.specs.Matching.{IsMatch}
-use Rattle.ly_scan.specs.Pieces.{CanFollow, EndsFast, StandsFast}
+use Rattle.ly_scan.specs.Pieces.{CanFollow, EndsFast, IsUndecided, StandsFast, behind}
 use Rattle.ly_scan.specs.Walk.{Walk}
 use Rattle.ly_scan.specs.declared.matching.Match.{Match}
 use Rattle.ly_scan.specs.declared.matching.Match.TheVariants.{BadCut, Stuck, Win}
@@ -62,3 +63,21 @@ some_left (b ∷ rest) more some e = cc
 pub ends_stuck : (s : Scanner) (q : Place) (ended : Bool) (at : ℕ) → at ≡ q.at → q.rest ≢ []
     → IsMatchFast ended (s.walk q.condition q.line) s.cut q.rest Stuck → EndsFast ended s q (stuck at)
 ends_stuck s q ended at here some h more follows = (some_left q.rest more some, here, h more follows)
+
+-- behind no byte it is the same place
+behind_none : (q : Place) → behind q [] ≡ q
+behind_none q = λ i. record { line = q.line; condition = q.condition; at = q.at; rest = append-nil q.rest i }
+
+-- a lexeme that stands at a place whatever comes is the one there
+pub lexeme_at : (s : Scanner) (q : Place) (ended : Bool) (t : Lexeme) → StandsFast ended s q t → IsLexemeAt s q t
+lexeme_at s q ended t h = subst (λ x. IsLexemeAt s x t) (behind_none q) (h.is [] (none_follows ended))
+
+-- and a run that ends there whatever comes ends there
+pub end_at : (s : Scanner) (q : Place) (ended : Bool) (e : End) → EndsFast ended s q e → ScanEndsAt s q e
+end_at s q ended e h = subst (λ x. ScanEndsAt s x e) (behind_none q) (h [] (none_follows ended))
+
+-- what a lexer answers, where that is a lexeme
+pub answered : (ended : Bool) (s : Scanner) (q : Place) (o : Option Lexeme) (t : Lexeme) → o ≡ Some t
+    → MatchOption o ((ended ≡ false) × IsUndecided s q) (StandsFast ended s q) → StandsFast ended s q t
+answered ended s q o t e h
+    = subst (λ o. MatchOption o ((ended ≡ false) × IsUndecided s q) (StandsFast ended s q)) e h

@@ -1,5 +1,5 @@
 -- The answer by a scanner that agrees with the rules.
-use Rattle.std.proofs.Common.{◌≡◌, ℕ, List, [], ◌∷◌, ◌++◌, Option, subst, sym}
+use Rattle.std.proofs.Common.{◌≡◌, ℕ, List, [], ◌∷◌, ◌++◌, Option, subst}
 use Rattle.ly_base.specs.Lexed.{Place, Lexed, start_of, place_after, tokens_from}
 use Rattle.ly_base.specs.declared.lexeme.End.{End}
 use Rattle.ly_base.specs.declared.lexeme.End.TheVariants.{Clean, Stuck, BadCut}
@@ -16,17 +16,15 @@ use Rattle.ly_tokens.specs.Private.RunEnd.{EndsSo}
 use Rattle.ly_tokens.specs.Private.TokenLines.{AreLines}
 use Rattle.ly_tokens.proofs.AgreementLemmas.{lexing_of}
 
--- the lines that a scanner's run gives are the answer, by any that says the same
-pub answer_of : (names : List Expression) (rules : List Rule) (actions given : List Action) (s here : Scanner)
-    (text : List ℕ) (e : End) (lines : List ℕ) → here ≡ s → Agrees names rules s → given ≡ actions
-    → AreLines here given (start_of text) e lines → IsAnswer names rules actions text e lines
-answer_of names rules actions given s here text e lines same agrees by h =
-    let run : Lexed (IsLexemeAt here) (ScanEndsAt here) (condition_set actions) (start_of text) h.0 e =
-    subst (λ (xs : List Action). Lexed (IsLexemeAt here) (ScanEndsAt here) (condition_set xs) (start_of text) h.0 e) by
-    h.1 in (
+-- the lines that a scanner's run gives are the answer
+pub answer_of : (names : List Expression) (rules : List Rule) (actions given : List Action) (s : Scanner)
+    (text : List ℕ) (e : End) (lines : List ℕ) → Agrees names rules s → given ≡ actions
+    → AreLines s given (start_of text) e lines → IsAnswer names rules actions text e lines
+answer_of names rules actions given s text e lines agrees by h =
+    let run : Lexed (IsLexemeAt s) (ScanEndsAt s) (condition_set actions) (start_of text) h.0 e =
+    subst (λ (xs : List Action). Lexed (IsLexemeAt s) (ScanEndsAt s) (condition_set xs) (start_of text) h.0 e) by h.1 in (
       h.0,
-      lexing_of names rules here (subst (Agrees names rules) (sym same) agrees) (condition_set actions)
-          (start_of text) h.0 e run,
+      lexing_of names rules s agrees (condition_set actions) (start_of text) h.0 e run,
       subst (λ (xs : List Action). lines ≡ printed (tokens_from (naming xs) 0 text h.0) ++ end_line e) by h.2,
     )
 
@@ -40,9 +38,8 @@ leaves_tokens names rules next p (t ∷ ts) (BadCut b) h
     = leaves_tokens names rules next (place_after next p t) ts (BadCut b) h.1
 
 -- so each cut of a run leaves one, by a scanner that agrees with the rules
-pub run_leaves_tokens : (names : List Expression) (rules : List Rule) (actions : List Action) (s here : Scanner)
-    (text : List ℕ) (e : End) → here ≡ s → Agrees names rules s → EndsSo here actions text e → LeavesTokens e
-run_leaves_tokens names rules actions s here text e same agrees run =
+pub run_leaves_tokens : (names : List Expression) (rules : List Rule) (actions : List Action) (s : Scanner)
+    (text : List ℕ) (e : End) → Agrees names rules s → EndsSo s actions text e → LeavesTokens e
+run_leaves_tokens names rules actions s text e agrees run =
     leaves_tokens names rules (condition_set actions) (start_of text) run.0 e
-    (lexing_of names rules here (subst (Agrees names rules) (sym same) agrees) (condition_set actions) (start_of text)
-    run.0 e run.1)
+    (lexing_of names rules s agrees (condition_set actions) (start_of text) run.0 e run.1)

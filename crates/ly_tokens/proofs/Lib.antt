@@ -5,5 +5,6 @@ pub mod LabelLemmas
 pub mod LineLemmas
 pub mod PrintingLemmas
 pub mod RowAgreementLemmas
+pub mod RowTableLemmas
 pub mod RunEndLemmas
 pub mod ScannerFaultLemmas

@@ -1,15 +1,12 @@
 -- The lines of a text, lexeme by lexeme.
 use Rattle.std.proofs.Common.{◌≡◌, ◌∙◌, ℕ, List, [], ◌∷◌, ◌++◌, take, Bool, Option, Some, None, refl, sym, ap, subst}
-use Rattle.std.proofs.Common.{◌≤◌, Result, Ok, Err, IfErr, IsErrAnd, append_assoc, append-nil, arith, length}
-use Rattle.std.proofs.Common.{◌+◌, zero, suc, false, true, map, slice_get}
-use Rattle.std.specs.Bool.{OnTrue}
-use Rattle.std.specs.Int.{from_bool}
+use Rattle.std.proofs.Common.{◌≤◌, Err, append_assoc, append-nil, arith, length}
+use Rattle.std.proofs.Common.{zero, suc, false, true, map, slice_get}
 use Rattle.ly_base.specs.Lexed.{Place, Leads, Lexed, Token, moved, start_of, token_if, tokens_from}
 use Rattle.ly_base.specs.Text.{Named, leaf_line}
-use Rattle.ly_base.specs.declared.cut.Cut.{Cut}
 use Rattle.ly_base.specs.declared.lexeme.End.{End}
 use Rattle.ly_base.specs.declared.lexeme.Lexeme.{Lexeme}
-use Rattle.ly_base.specs.TextWriter.{IsAppended, IsCutShort, IsUnderway, Outgoing}
+use Rattle.ly_base.specs.TextWriter.{IsAppended, IsCutShort, Outgoing}
 use Rattle.ly_base.specs.declared.whole.WriteFault.{WriteFault}
 use Rattle.ly_base.proofs.TextWriterLemmas.{cut_from, cut_more}
 use Rattle.ly_base.proofs.LexedLemmas.{leads_more, leads_on, tokens_more}
@@ -17,9 +14,9 @@ use Rattle.ly_lexread.specs.declared.action.Action.{Action}
 use Rattle.ly_lexread.specs.declared.action.Returned.{Returned}
 use Rattle.ly_lexread.specs.declared.action.Returned.TheVariants.{Nothing, Token as TokenOf, Literal, FirstByte}
 use Rattle.ly_scan.specs.Lexer.{ScanEndsAt, IsLexemeAt, Scanner}
-use Rattle.ly_scan.specs.LoneBytes.{AreLone, IsLoneAt}
-use Rattle.ly_scan.specs.Walk.{Walk}
+use Rattle.ly_scan.specs.Pieces.{PassesOver, and_one, none_yet}
 use Rattle.ly_scan.proofs.LexingLemmas.{lexes, tokens_on}
+use Rattle.ly_scan.proofs.PieceLemmas.{lexeme_at}
 use Rattle.ly_tokens.specs.Private.RunEnd.{EndsSo}
 use Rattle.ly_tokens.proofs.RunEndLemmas.{ends_there, one_run_end}
 use Rattle.ly_tokens.specs.Private.TokenLines.{AreLines, SoFar, is_no_effect, is_passed}
@@ -47,19 +44,13 @@ printed_more actions Is next p q ts t h = ap printed (tokens_more (naming action
     ∙ ap (λ z. printed (tokens_from (naming actions) p.at p.rest ts) ++ z)
     (printed_one (naming actions t.rule.0 (take t.taken q.rest)) q.at (take t.taken q.rest))
 
--- equal parts make equal scanners
-pub scanner_of : (walk here : ℕ → Bool → Walk) (cut cut_here : ℕ → Cut) → here ≡ walk → cut_here ≡ cut
-    → (let s : Scanner = record { walk = here; cut = cut_here } in s) ≡ record { walk = walk; cut = cut }
-scanner_of walk here cut cut_here a b = λ i. record { walk = a i; cut = b i }
-
 -- one lexeme more
-pub one_more : (actions : List Action) (s here : Scanner) (p q r : Place) (t : Lexeme) (begin : Option ℕ)
-    (token lines more : List ℕ) → here ≡ s → IsLexemeAt here q t → begin ≡ condition_set actions t.rule.0
+pub one_more : (actions : List Action) (s : Scanner) (p q r : Place) (t : Lexeme) (begin : Option ℕ)
+    (token lines more : List ℕ) → IsLexemeAt s q t → begin ≡ condition_set actions t.rule.0
     → r ≡ moved q t.taken begin → token ≡ take t.taken q.rest
     → more ≡ lines ++ line_if (naming actions t.rule.0 token) token → SoFar actions s p q lines
     → SoFar actions s p r more
-one_more actions s here p q r t begin token lines more same taken b e k n f =
-    let is : IsLexemeAt s q t = subst (λ (x : Scanner). IsLexemeAt x q t) same taken in
+one_more actions s p q r t begin token lines more is b e k n f =
     let there : moved q t.taken (condition_set actions t.rule.0) ≡ r = ap (moved q t.taken) (sym b) ∙ sym e in (
       f.0 ++ t ∷ [],
       subst (λ x. Leads (IsLexemeAt s) (condition_set actions) p (f.0 ++ t ∷ []) x) there
@@ -85,40 +76,26 @@ nothing_said [] i h = absurd cc
 nothing_said (a ∷ actions) zero h = no_effect a.begin a.returns cc
 nothing_said (a ∷ actions) (suc i) h = nothing_said actions i h
 
--- no bytes on it is the same place
-unmoved : (p : Place) → moved p 0 None ≡ p
-unmoved p = let at : p.at + 0 ≡ p.at = omega arith in
-    λ i. record { line = p.line; condition = p.condition; at = at i; rest = p.rest }
-
--- where a lexeme is passed over, if one is told, the lines so far are the same behind it
-pub passed_by : (actions : List Action) (s : Scanner) (l : List Bool × List Bool) (start p q : Place)
-    (told : List ℕ) (is : Bool) → AreLone s (map is_passed actions) l
-    → OnTrue is ((s : Scanner) (passed : List Bool) → AreLone s passed l → IsLoneAt s passed p)
-    → q ≡ moved p (from_bool is) None → SoFar actions s start p told → SoFar actions s start q told
-passed_by actions s l start p q told false are at e f
-    = subst (λ x. SoFar actions s start x told) (sym (e ∙ unmoved p)) f
-passed_by actions s l start p q told true are at e f =
-    let lone = at s (map is_passed actions) are in
-    let none = nothing_said actions lone.lexeme.rule.0 lone.is_passed in
-    let token = take lone.lexeme.taken p.rest in
-    one_more actions s s start p q lone.lexeme None token told told refl lone.is (sym none.0)
-    (e ∙ ap (λ n. moved p n None) (sym lone.one)) refl
-    (sym (append-nil told) ∙ ap (λ o. told ++ line_if o token) (sym (none.1 token))) f
-
--- there is a byte where one is told
-pub byte_left : (is : Bool) (n len : ℕ) → n ≡ from_bool is → OnTrue is (1 ≤ len) → n ≤ len
-byte_left false n len e some = omega (arith, e)
-byte_left true n len e some = omega (arith, e, some)
+-- behind lexemes that are passed over the lines so far are the same
+pub passes_lines : (actions : List Action) (s : Scanner) (passed : List Bool) (start p : Place) (told : List ℕ)
+    → passed ≡ map is_passed actions → SoFar actions s start p told → {r : Place} → PassesOver s passed p r
+    → SoFar actions s start r told
+passes_lines actions s passed start p told same f none_yet = f
+passes_lines actions s passed start p told same f (and_one {r = q} t before fast one is) =
+    let none = nothing_said actions t.rule.0 (ap (λ xs. slice_get xs t.rule.0) (sym same) ∙ is) in
+    let token = take t.taken q.rest in
+    one_more actions s start q (moved q 1 None) t None token told told (lexeme_at s q false t fast) (sym none.0)
+    (ap (λ n. moved q n None) (sym one)) refl (sym (append-nil told) ∙ ap (λ o. told ++ line_if o token)
+    (sym (none.1 token))) (passes_lines actions s passed start p told same f before)
 
 -- the end
-all_told : (actions : List Action) (s here : Scanner) (p q : Place) (e : End) (lines more : List ℕ) → here ≡ s
-    → ScanEndsAt here q e → more ≡ lines ++ end_line e → SoFar actions s p q lines
+all_told : (actions : List Action) (s : Scanner) (p q : Place) (e : End) (lines more : List ℕ)
+    → ScanEndsAt s q e → more ≡ lines ++ end_line e → SoFar actions s p q lines
     → (ts : List Lexeme) × Lexed (IsLexemeAt s) (ScanEndsAt s) (condition_set actions) p ts e
     × (more ≡ printed (tokens_from (naming actions) p.at p.rest ts) ++ end_line e)
-all_told actions s here p q e lines more same ends n f = (
+all_told actions s p q e lines more ends n f = (
   f.0 ++ [],
-  leads_on (IsLexemeAt s) (ScanEndsAt s) (condition_set actions) p q f.0 [] e f.1
-      (subst (λ (x : Scanner). ScanEndsAt x q e) same ends),
+  leads_on (IsLexemeAt s) (ScanEndsAt s) (condition_set actions) p q f.0 [] e f.1 ends,
   n ∙ ap (λ z. z ++ end_line e) (f.2
       ∙ ap (λ ts. printed (tokens_from (naming actions) p.at p.rest ts)) (sym (append-nil f.0))),
 )
@@ -159,10 +136,10 @@ fails_at actions s text q told known o o' before now fault ends none f failed =
     )
 
 -- where a run comes to an end, that is the one that is known, and with its line all is told
-pub all_known : (actions : List Action) (s here : Scanner) (text : List ℕ) (q : Place) (found known : End)
-    (lines more : List ℕ) → EndsSo s actions text known → here ≡ s → ScanEndsAt here q found
+pub all_known : (actions : List Action) (s : Scanner) (text : List ℕ) (q : Place) (found known : End)
+    (lines more : List ℕ) → EndsSo s actions text known → ScanEndsAt s q found
     → more ≡ lines ++ end_line known → SoFar actions s (start_of text) q lines
     → AreLines s actions (start_of text) known more
-all_known actions s here text q found known lines more ends same at n f =
-    let one = one_run_end actions s text found known (ends_there actions s here text lines q found same at f) ends in
-    all_told actions s here (start_of text) q known lines more same (subst (λ e. ScanEndsAt here q e) one at) n f
+all_known actions s text q found known lines more ends at n f =
+    let one = one_run_end actions s text found known (ends_there actions s text lines q found at f) ends in
+    all_told actions s (start_of text) q known lines more (subst (λ e. ScanEndsAt s q e) one at) n f

@@ -1,6 +1,6 @@
 -- How the run over a text ends.
 use Rattle.std.proofs.Common.{◌≡◌, ◌∙◌, ◌<◌, ◌+◌, ℕ, List, [], ◌∷◌, ◌++◌, All, Bool, Option, Some, None, ap, arith}
-use Rattle.std.proofs.Common.{inl, inr, drop, false, length, refl, subst, take, true}
+use Rattle.std.proofs.Common.{inl, inr, false, length, refl, subst, take, true}
 use Rattle.std.specs.Prelude.{option_and_then, slice_get, unwrap_or}
 use Rattle.std.proofs.lemmas.Bool.{cases_lt}
 use Rattle.std.proofs.lemmas.List.Elements.{All-drop, All-head}
@@ -86,12 +86,11 @@ set_below actions n all i c e = by_action (slice_get actions i) refl e
     by_action (Some a) at is = all i a c at is
 
 -- where a run so far ends, the text's does
-pub ends_there : (actions : List Action) (s here : Scanner) (text told : List ℕ) (q : Place) (e : End) → here ≡ s
-    → ScanEndsAt here q e → SoFar actions s (start_of text) q told → EndsSo s actions text e
-ends_there actions s here text told q e same ends f = (
+pub ends_there : (actions : List Action) (s : Scanner) (text told : List ℕ) (q : Place) (e : End) → ScanEndsAt s q e
+    → SoFar actions s (start_of text) q told → EndsSo s actions text e
+ends_there actions s text told q e ends f = (
   f.0 ++ [],
-  leads_on (IsLexemeAt s) (ScanEndsAt s) (condition_set actions) (start_of text) q f.0 [] e f.1
-      (subst (λ (x : Scanner). ScanEndsAt x q e) same ends),
+  leads_on (IsLexemeAt s) (ScanEndsAt s) (condition_set actions) (start_of text) q f.0 [] e f.1 ends,
 )
 
 -- a run ends in one way

@@ -1,5 +1,5 @@
 -- Faults of a scanner as faults of what asks for one.
-use Rattle.std.proofs.Common.{◌≡◌, ◌≢◌, Err, Result, subst, sym}
+use Rattle.std.proofs.Common.{◌≡◌, Err, Result, subst, sym}
 use Rattle.std.specs.Prelude.{IfErr}
 use Rattle.std.specs.Result.{IsErrAnd}
 use Rattle.ly_base.specs.Limits.{Sizes}
@@ -9,8 +9,6 @@ use Rattle.ly_position.specs.declared.fault.PosFault.TheVariants as position
 use Rattle.ly_subset.specs.declared.fault.SubsetFault.{SubsetFault}
 use Rattle.ly_subset.specs.declared.fault.SubsetFault.TheVariants as subset
 use Rattle.ly_tokens.specs.ScannerFault.{HasNoScanner, fault_of_positions, fault_of_states}
-use Rattle.ly_tokens.specs.declared.scanner_fault.ScannerFault.{ScannerFault}
-use Rattle.ly_tokens.specs.declared.scanner_fault.ScannerFault.TheVariants.{OutOfMemory}
 
 -- what is so of the fault that a result has is so of the result
 pub err_is : {T E : Type 0} (r : Result T E) (x : E) (P : E → Type 0) → IsErrAnd r (λ e. e ≡ x) → P x → IfErr r P

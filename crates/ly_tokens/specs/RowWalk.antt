@@ -1,11 +1,8 @@
 -- The walk over the rows of a deterministic automaton.
-use Rattle.std.specs.Prelude.{◌≡◌, ◌<◌, ℕ, List, Bool, Option, Some, IfSome, length, map, option_map, slice_get}
-use Rattle.std.specs.Prelude.{unwrap_or}
+use Rattle.std.specs.Prelude.{ℕ, List, Bool, Some, option_map, slice_get, unwrap_or}
 use Rattle.ly_base.specs.declared.cut.Cut.{Cut}
 use Rattle.ly_base.specs.declared.cut.Cut.TheVariants.{Whole}
-use Rattle.ly_base.specs.declared.numbers.RuleNo.{RuleNo}
 use Rattle.ly_ere.specs.declared.pattern.Rule.{Rule}
-use Rattle.ly_scan.specs.StateRows.{row_entry}
 use Rattle.ly_scan.specs.StateWalk.{States, state_walk}
 use Rattle.ly_scan.specs.Walk.{Walk}
 use Rattle.ly_subset.specs.Automaton.{Automaton, next_of, rule_of, start_of}
@@ -21,13 +18,3 @@ row_walk A = state_walk (rows_of A)
 -- what the matches of a rule are cut down to
 abbrev pub cut_in : List Rule → ℕ → Cut
 cut_in rules i = unwrap_or (option_map (λ r. r.pattern.cut) (slice_get rules i)) Whole
-
--- the rows hold where each byte leads from each state
-abbrev pub AreRowsOf : Automaton → List (Option ℕ) → Type 0
-AreRowsOf A rows = (state byte : ℕ) → state < length A.rules → byte < 256
-    → (row_entry rows state byte ≡ next_of A (Some state) byte)
-    × IfSome (row_entry rows state byte) (λ next. next < length A.rules)
-
--- the rules are those of the states, one by one
-abbrev pub AreRulesOf : Automaton → List (Option RuleNo) → Type 0
-AreRulesOf A rules = map (option_map (λ r. r.0)) rules ≡ A.rules

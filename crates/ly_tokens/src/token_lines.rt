@@ -3,46 +3,40 @@ ghost use Rattle.std.specs.Prelude.{IfOk, IfErr, OnOk, OnErr};
 ghost use Rattle.std.specs.Bool.{OnTrue};
 ghost use Rattle.std.specs.Io.KnownBytes.{Appends};
 ghost use Rattle.ly_base.specs.Device.{next_count};
-ghost use Rattle.ly_base.specs.Lexed.{Place as Spot, start_of};
+ghost use Rattle.ly_base.specs.Lexed.{start_of};
 ghost use Rattle.ly_base.specs.Text.{named, no_rule_line};
 ghost use Rattle.ly_base.specs.TextWriter.{bytes_of, IsAppended, IsCutShort};
-ghost use Rattle.ly_lexread.specs.declared.action.Action.{Action as Acting};
-ghost use Rattle.ly_scan.specs.Lexer.{Scanner};
-ghost use Rattle.ly_scan.specs.LoneBytes.{AreLone};
+ghost use Rattle.ly_scan.specs.Lexers.{scanner_of};
 ghost use Rattle.ly_tokens.specs.Printing.{condition_set, end_line, line_if, naming};
 ghost use Rattle.ly_tokens.specs.Private.RunEnd.{EndsSo};
-ghost use Rattle.ly_tokens.specs.Private.TokenLines.{is_passed, name_len, AreCountable, AreLines, SoFar};
+ghost use Rattle.ly_tokens.specs.Private.TokenLines.{is_passed, name_len, AreCountable, AreLines};
 
 use crate::labels::Labels;
-use ly_base::{End, Front, OutOfMemory, Place, RuleNo, Sink, TextWriter, WriteFault};
+use ly_base::{End, Front, Place, RuleNo, Sink, TextWriter, WriteFault};
 use ly_lexread::{Action, Returned};
-use ly_scan::{LoneBytes, Steps, next_lexeme};
+use ly_scan::Lexer;
 use std::alloc::Global;
 
-/// Writes the lines of the tokens that a scanner finds in a text, with a last one where no rule matches. How the run
-/// over the text ends is known by then. Bytes that are lexemes of their own without a line are told by `lone`.
-#[inline(always)] // by a call what the loop reads of the walk is read anew for each lexeme
-pub(crate) fn write_token_lines<S: Steps, W: Sink>(
-    steps: &mut S,
+/// Writes the lines of the tokens that a lexer finds in a text, with a last one where no rule matches. How the run over
+/// the text ends is known by then.
+#[inline(always)] // by a call what the loop reads of the lexer is read anew for each lexeme
+pub(crate) fn write_token_lines<W: Sink>(
+    lexer: &Lexer,
     text: &[u8],
     labels: &Labels<'_>,
-    lone: &LoneBytes,
     end: End,
     empty: TextWriter,
     writer: &mut W,
 ) -> Result<(), WriteFault>
     requires none { empty ≡ record { sent = 0; held = [] } }
-    requires ends { let scanner : Scanner = record { walk = S.walk steps.old; cut = S.cut_of steps.old } in
-        EndsSo scanner labels.now.actions.now text.now end }
+    requires passed { lexer.now.passed ≡ map is_passed labels.now.actions.now }
+    requires ends { EndsSo (scanner_of lexer.now.scanner) labels.now.actions.now text.now end }
     requires countable { AreCountable labels.now.actions.now (length text.now) }
-    requires lone { let scanner : Scanner = record { walk = S.walk steps.old; cut = S.cut_of steps.old } in
-        AreLone scanner (map is_passed labels.now.actions.now) lone.now }
-    ensures told { let scanner : Scanner = record { walk = S.walk steps.old; cut = S.cut_of steps.old } in
-        OnOk result ((lines : List ℕ) × AreLines scanner labels.now.actions.now (start_of text.now) end lines
+    ensures told { OnOk result ((lines : List ℕ)
+        × AreLines (scanner_of lexer.now.scanner) labels.now.actions.now (start_of text.now) end lines
         × Appends (W.contents writer.old) (W.contents writer.new) lines) }
-    ensures cut_short { let scanner : Scanner = record { walk = S.walk steps.old; cut = S.cut_of steps.old } in
-        IfErr result (λ fault. (lines : List ℕ)
-        × AreLines scanner labels.now.actions.now (start_of text.now) end lines
+    ensures cut_short { IfErr result (λ fault. (lines : List ℕ)
+        × AreLines (scanner_of lexer.now.scanner) labels.now.actions.now (start_of text.now) end lines
         × IsCutShort (W.contents writer.old) (W.contents writer.new) fault.written lines) }
     ensures no_failure { OnOk result (W.failures writer.new ≡ W.failures writer.old) }
     ensures failed { OnErr result (W.failures writer.new ≡ next_count (W.failures writer.old)) }
@@ -50,9 +44,8 @@ pub(crate) fn write_token_lines<S: Steps, W: Sink>(
     let mut lines = empty;
     let mut place = Place::start(text);
     loop {
-        pass_over(&mut place, lone);
-        match next_lexeme(steps, &place) {
-            Ok(lexeme) => {
+        match lexer.next(&mut place, true) {
+            Ok(Some(lexeme)) => {
                 let token = Front::new(place.rest(), lexeme.taken);
                 push_token(&mut lines, writer, labels, lexeme.rule, token)?;
                 let begin = condition_set(labels.actions, lexeme.rule);
@@ -63,38 +56,10 @@ pub(crate) fn write_token_lines<S: Steps, W: Sink>(
                 lines.finish(writer)?;
                 return Ok(());
             }
+            // the end decides
+            Ok(None) => unreachable!(),
         }
     }
-}
-
-/// Goes on behind a byte that is a lexeme of its own without a line, if one is told there.
-#[inline(always)] // so that no branch has to be guessed
-pub(crate) fn pass_over(place: &mut Place<'_>, lone: &LoneBytes)
-    ensures kept { (actions : List Acting) (scanner : Scanner) (start : Spot) (told : List ℕ)
-        → AreLone scanner (map is_passed actions) lone.now → SoFar actions scanner start place.old told
-        → SoFar actions scanner start place.new told }
-    ensures no_longer { length place.new.rest ≤ length place.old.rest }
-{
-    place.advance(usize::from(lone.at(place)), None);
-}
-
-/// For each rule whether its lexemes are passed over: its action returns nothing and sets no condition. It fails where
-/// memory runs out.
-pub(crate) fn passed_rules(alloc: Global, actions: &[Action]) -> Result<Vec<bool>, OutOfMemory>
-    ensures { IfOk result (λ passed. passed.items ≡ map is_passed actions.now) }
-{
-    let mut passed = Vec::with_capacity(alloc, actions.len())?;
-    for action in actions {
-        passed.push(is_passed(action))?;
-    }
-    Ok(passed)
-}
-
-/// Whether an action returns nothing and sets no condition.
-fn is_passed(action: &Action) -> bool
-    ensures { result ≡ is_passed action.now }
-{
-    action.begin.is_none() && matches!(action.returns, Returned::Nothing)
 }
 
 /// Whether the lines of so many bytes' tokens can be counted. It may say no where names are so long that none could be

@@ -1,4 +1,4 @@
-ghost use Rattle.std.specs.Prelude.{◌≡◌, ℕ, ◌<◌, ◌≤◌, List, length, take, Err, IfOk, IfErr, IsErrOf, OnOk};
+ghost use Rattle.std.specs.Prelude.{◌≡◌, ℕ, ◌<◌, ◌≤◌, List, length, map, take, Err, IfOk, IfErr, IsErrOf, OnOk};
 ghost use Rattle.std.specs.Io.KnownBytes.{Appends, IsAtEnd};
 ghost use Rattle.ly_ere.specs.Names.{defined};
 ghost use Rattle.ly_base.specs.Device.{next_count};
@@ -13,6 +13,7 @@ ghost use Rattle.ly_position.specs.declared.fault.PosFault.{PosFault};
 ghost use Rattle.ly_position.specs.declared.fault.PosFault.TheVariants.{TooManyPositions};
 ghost use Rattle.ly_subset.specs.declared.fault.SubsetFault.{SubsetFault};
 ghost use Rattle.ly_subset.specs.declared.fault.SubsetFault.TheVariants.{TooManyStates};
+ghost use Rattle.ly_scan.specs.Lexers.{scanner_of};
 ghost use Rattle.ly_tokens.specs.Agreement.{Agrees};
 ghost use Rattle.ly_tokens.specs.Answering.{IsAnswer};
 ghost use Rattle.ly_tokens.specs.Answers.{Answers, AreTooHeavy, HaveTooManyStates};
@@ -20,17 +21,17 @@ ghost use Rattle.ly_tokens.specs.Printing.{end_of, LeavesTokens};
 ghost use Rattle.ly_tokens.specs.TokensFault.{HasNoTokens, IsBeforeReading, IsBeforeWriting, IsOfOutput, IsWrite};
 ghost use Rattle.ly_tokens.specs.Private.FileAnswers.{FileAnswers};
 ghost use Rattle.ly_tokens.specs.Private.RunEnd.{AreSetBelow};
+ghost use Rattle.ly_tokens.specs.Private.TokenLines.{is_passed};
 
 use crate::fault::TokensFault;
+use crate::file_lexer::lexer_of;
 use crate::labels::Labels;
 use crate::outcome::TokenEnd;
-use crate::row_walk::RowWalk;
 use crate::run_end::run_end;
-use crate::scanner::smallest_automaton;
-use crate::token_lines::{are_countable, passed_rules, write_token_lines};
+use crate::token_lines::{are_countable, write_token_lines};
 use ly_base::{End, Limits, Sink, Source, TextWriter, read_whole};
 use ly_lexread::{LexFile, read_lex};
-use ly_scan::{LoneBytes, Steps};
+use ly_scan::Lexer;
 use std::alloc::Global;
 
 /// Writes the tokens of a text under a lex file (POSIX, XCU lex), a line for each, and a last line if no
@@ -98,22 +99,21 @@ fn write_answer<R: Source, W: Sink>(
     ensures unread { IfErr result (λ e. IsBeforeReading e → reader.new ≡ reader.old) }
     ensures untouched { IfErr result (λ e. IsBeforeWriting e → writer.new ≡ writer.old) }
 {
-    let dfa = smallest_automaton(alloc, file, limits)?;
-    let steps = RowWalk::new(alloc, &dfa, &file.rules)?;
+    let lexer = lexer_of(alloc, file, limits)?;
     let text = read_whole(alloc, reader)?;
-    write_answer_by(alloc, file, steps, &text, writer)
+    write_answer_by(alloc, file, &lexer, &text, writer)
 }
 
-/// Writes the answer to a text under a lex file, by any scanner that agrees with its rules.
-fn write_answer_by<S: Steps + Drop, W: Sink>(
+/// Writes the answer to a text under a lex file, by any lexer whose scanner agrees with its rules.
+fn write_answer_by<W: Sink>(
     alloc: Global,
     file: &LexFile,
-    steps: S,
+    lexer: &Lexer,
     text: &[u8],
     writer: &mut W,
 ) -> Result<TokenEnd, TokensFault>
-    requires agrees { Agrees (defined file.now.names) file.now.rules.items
-        (record { walk = S.walk steps; cut = S.cut_of steps }) }
+    requires agrees { Agrees (defined file.now.names) file.now.rules.items (scanner_of lexer.now.scanner) }
+    requires passed { lexer.now.passed ≡ map is_passed file.now.actions.items }
     requires below { AreSetBelow file.now.actions.items file.now.conditions }
     requires some { 0 < file.now.conditions }
     ensures answered { IfOk result (λ end. (answer : List ℕ)
@@ -132,11 +132,8 @@ fn write_answer_by<S: Steps + Drop, W: Sink>(
     }
     let labels = Labels::new(alloc, &file.actions)?;
     let lines = TextWriter::new(alloc)?;
-    let mut steps = steps;
-    let passed = passed_rules(alloc, &file.actions)?;
-    let lone = LoneBytes::find(alloc, &mut steps, &passed)?;
-    let end = run_end(&mut steps, text, file, &lone);
-    write_token_lines(&mut steps, text, &labels, &lone, end, lines, writer)?;
+    let end = run_end(lexer, text, file);
+    write_token_lines(lexer, text, &labels, end, lines, writer)?;
     Ok(token_end(end))
 }
 

@@ -33,5 +33,6 @@ pub record IsReadSoFar (s : TableSet) (given now : Option (List ℕ)) (f : Held)
   pub consumed : Consumes given now taken
   pub says : (more : List ℕ) (v : Verdict) → IsRestOf f more v → IsVerdict s (taken ++ more) v
   pub counted : seen f ≡ length taken
+  pub countable : seen f < 2 ^ 64
   pub set : f.set ≡ s
   pub goes_on : f.over ≡ false

@@ -1,5 +1,5 @@
 use Rattle.std.proofs.Common.{◌∙◌, ap}
-use Rattle.ly_drive.proofs.LexerOfLemmas.{leads, same_scanner}
+use Rattle.ly_drive.proofs.LexerOfLemmas.{leads, same}
 use Rattle.ly_scan.specs.Lexers.{scanner_of}
 use Rattle.ly_drive.proofs.lexer_of_set.scanner_of.Goals as goal
 
@@ -8,4 +8,4 @@ new-requires c = leads c.args.set.now c.machine-machine.ensures.within _ c.in_ok
 
 pub returns : goal.returns
 returns c = ap scanner_of c.new.ensures
-    ∙ same_scanner c.args.set.now c.machine-machine.ensures.within _ c.in_ok-parts_of.ensures
+    ∙ same c.args.set.now c.machine-machine.ensures.within _ c.in_ok-parts_of.ensures

@@ -1,10 +1,7 @@
-use Rattle.std.proofs.Common.{◌≡◌}
 use Rattle.ly_tokens.specs.Private.RunEnd.{BeginsEverywhere}
 use Rattle.ly_tokens.proofs.run_end.begins_everywhere.Given as goal
 
+-- so it is in the conditions so far
 abbrev pub invariant-loop-condition : goal.invariant-loop-condition
-invariant-loop-condition g l = record {
-  same_walk : g.S.Steps.walk l.steps ≡ g.S.Steps.walk l.fn.steps;
-  same_cuts : g.S.Steps.cut_of l.steps ≡ g.S.Steps.cut_of l.fn.steps;
-  all : BeginsEverywhere (record { walk = g.S.Steps.walk l.fn.steps; cut = g.S.Steps.cut_of l.fn.steps }) l.condition;
-}
+invariant-loop-condition g l
+    = BeginsEverywhere (record { walk = g.S.Steps.walk l.steps; cut = g.S.Steps.cut_of l.steps }) l.condition

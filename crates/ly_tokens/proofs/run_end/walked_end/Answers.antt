@@ -1,37 +1,55 @@
-use Rattle.std.proofs.Common.{◌∙◌, ◌++◌, [], ap, length, take, refl, arith}
-use Rattle.ly_base.specs.Lexed.{Place, start_of}
-use Rattle.ly_scan.specs.Lexer.{Scanner}
+use Rattle.std.proofs.Common.{◌++◌, [], ap, arith, length, length-drop, refl, take}
+use Rattle.std.specs.Prelude.{true}
+use Rattle.ly_base.specs.Lexed.{start_of}
+use Rattle.ly_scan.proofs.PieceLemmas.{answered, end_at, lexeme_at}
+use Rattle.ly_scan.specs.Lexers.{scanner_of}
 use Rattle.ly_tokens.specs.Printing.{line_if, naming}
-use Rattle.ly_tokens.proofs.PrintingLemmas.{one_more, scanner_of}
+use Rattle.ly_tokens.proofs.PrintingLemmas.{one_more, passes_lines}
 use Rattle.ly_tokens.proofs.RunEndLemmas.{ends_there}
 use Rattle.ly_tokens.proofs.run_end.walked_end.Goals as goal
 
-pub loop-lexeme-preserved : goal.loop-lexeme-preserved
-loop-lexeme-preserved g c =
-    let actions = c.args.actions.now in
-    let now = c.loop-lexeme in
-    let so_far = now.invariant.so_far in
-    let here = c.pass_over.new.place in
-    let led = c.pass_over.ensures.kept actions _ (start_of c.args.text.now) so_far.0 c.requires.lone so_far.1 in
-    let token = take c.in-Ok.lexeme.taken here.rest in
-    let line = line_if (naming actions c.in-Ok.lexeme.rule.0 token) token in
-    record {
-      same_walk = c.in-Ok.ensures.same_walk ∙ now.invariant.same_walk;
-      same_cuts = c.in-Ok.ensures.same_cuts ∙ now.invariant.same_cuts;
-      so_far = (
-        so_far.0 ++ line,
-        one_more actions _ _ (start_of c.args.text.now) here c.advance.new.self c.in-Ok.lexeme
-            c.condition_set.result token so_far.0 (so_far.0 ++ line)
-            (scanner_of _ _ _ _ now.invariant.same_walk now.invariant.same_cuts) c.in-Ok.ensures.lexeme
-            c.condition_set.ensures c.advance.ensures refl refl led,
-      );
-    }
+pub loop-lexeme-init : goal.loop-lexeme-init
+loop-lexeme-init c = ([], ([], c.start-place.ensures, refl))
 
-pub returns-in-Err-clause-ends : goal.returns-in-Err-clause-ends
-returns-in-Err-clause-ends g c =
-    let now = c.loop-lexeme in
-    let so_far = now.invariant.so_far in
-    let led = c.pass_over.ensures.kept c.args.actions.now _ (start_of c.args.text.now) so_far.0 c.requires.lone
-    so_far.1 in
-    ends_there c.args.actions.now _ _ c.args.text.now so_far.0 c.pass_over.new.place c.in-Err.end
-    (scanner_of _ _ _ _ now.invariant.same_walk now.invariant.same_cuts) c.in-Err.ensures.end led
+pub loop-lexeme-preserved : goal.loop-lexeme-preserved
+loop-lexeme-preserved c =
+    let actions = c.args.actions.now in
+    let s = scanner_of c.args.lexer.now.scanner in
+    let start = start_of c.args.text.now in
+    let so_far = c.loop-lexeme.invariant in
+    let here = c.next.new.place in
+    let lexeme = c.in-Ok-Some.lexeme in
+    let fast = answered true s here c.in-Ok-Some.field-0 lexeme c.in-Ok-Some.field-0-is c.in-Ok-Some.ensures.found in
+    let token = take lexeme.taken here.rest in
+    let line = line_if (naming actions lexeme.rule.0 token) token in (
+      so_far.0 ++ line,
+      one_more actions s start here c.advance.new.self lexeme c.condition_set.result token so_far.0 (so_far.0 ++ line)
+          (lexeme_at s here true lexeme fast) c.condition_set.ensures c.advance.ensures refl refl
+          (passes_lines actions s c.args.lexer.now.passed start c.loop-lexeme.place so_far.0 c.requires so_far.1
+          c.next.ensures.passed),
+    )
+
+pub loop-lexeme-smaller : goal.loop-lexeme-smaller
+loop-lexeme-smaller c =
+    let s = scanner_of c.args.lexer.now.scanner in
+    let here = c.next.new.place in
+    let lexeme = c.in-Ok-Some.lexeme in
+    let fast = answered true s here c.in-Ok-Some.field-0 lexeme c.in-Ok-Some.field-0-is c.in-Ok-Some.ensures.found in
+    omega (
+      arith,
+      fast.some,
+      fast.within,
+      c.next.ensures.left,
+      ap (λ p. length p.rest) c.advance.ensures,
+      length-drop lexeme.taken here.rest,
+    )
+
+pub returns-in-Err : goal.returns-in-Err
+returns-in-Err c =
+    let actions = c.args.actions.now in
+    let s = scanner_of c.args.lexer.now.scanner in
+    let so_far = c.loop-lexeme.invariant in
+    ends_there actions s c.args.text.now so_far.0 c.next.new.place c.in-Err.end
+    (end_at s c.next.new.place true c.in-Err.end c.in-Err.ensures.end)
+    (passes_lines actions s c.args.lexer.now.passed (start_of c.args.text.now) c.loop-lexeme.place so_far.0 c.requires
+    so_far.1 c.next.ensures.passed)

@@ -1,19 +1,20 @@
-use Rattle.std.proofs.Common.{◌∙◌, ◌++◌, [], Err, Ok, ap, append-nil, arith, length, refl, subst, sym, take, ◌*◌}
-use Rattle.ly_base.specs.TextWriter.{IsUnderway, bytes_of}
+use Rattle.std.proofs.Common.{◌∙◌, ◌*◌, ◌++◌, [], Err, Ok, ap, append-nil, arith, length, length-drop, refl, subst}
+use Rattle.std.proofs.Common.{sym, take}
+use Rattle.std.specs.Prelude.{true}
 use Rattle.std.proofs.Math.Nat.{mul-le-mul_right}
+use Rattle.ly_base.specs.TextWriter.{IsUnderway, bytes_of}
 use Rattle.ly_base.specs.Lexed.{Place, moved, start_of}
 use Rattle.ly_base.proofs.TextWriterLemmas.{appended_twice, cut_from, err_is, underway_from}
-use Rattle.ly_scan.specs.Lexer.{Scanner}
+use Rattle.ly_scan.proofs.PieceLemmas.{answered, end_at, lexeme_at}
+use Rattle.ly_scan.specs.Lexers.{scanner_of}
 use Rattle.ly_tokens.specs.Printing.{condition_set, end_line, line_if, naming}
 use Rattle.ly_tokens.specs.Private.TokenLines.{bytes_each}
 use Rattle.ly_tokens.proofs.LineLemmas.{line_left}
-use Rattle.ly_tokens.proofs.PrintingLemmas.{all_known, fails_at, one_more, scanner_of}
+use Rattle.ly_tokens.proofs.PrintingLemmas.{all_known, fails_at, one_more, passes_lines}
 use Rattle.ly_tokens.proofs.token_lines.write_token_lines.Goals as goal
 
 pub loop-lexeme-init : goal.loop-lexeme-init
 loop-lexeme-init g c = record {
-  same_walk = refl;
-  same_cuts = refl;
   so_far = (
     [],
     ([], c.start-place.ensures, refl),
@@ -31,77 +32,89 @@ pub push_token-requires-clause-countable : goal.push_token-requires-clause-count
 push_token-requires-clause-countable g c =
     let actions = c.args.labels.now.actions.now in
     let countable = c.requires.countable in
-    let now = c.loop-lexeme in
-    let here = c.pass_over.new.place in omega (
+    let here = c.next.new.place in
+    let lexeme = c.in-Ok-Some.lexeme in
+    let s = scanner_of c.args.lexer.now.scanner in
+    let fast = answered true s here c.in-Ok-Some.field-0 lexeme c.in-Ok-Some.field-0-is c.in-Ok-Some.ensures.found in omega (
       arith,
-      now.invariant.counted countable.0 countable.1,
-      line_left actions countable.0 c.in-Ok.lexeme.rule.0 c.in-Ok.lexeme.taken here.rest
-          c.new-token.result countable.1 c.in-Ok.ensures.within.0 c.in-Ok.ensures.within.1
-          (c.new-token.ensures
-          ∙ ap (take c.in-Ok.lexeme.taken) c.rest.ensures),
+      c.loop-lexeme.invariant.counted countable.0 countable.1,
+      line_left actions countable.0 lexeme.rule.0 lexeme.taken here.rest c.new-token.result countable.1 fast.some
+          fast.within (c.new-token.ensures ∙ ap (take lexeme.taken) c.rest.ensures),
       countable.2,
-      mul-le-mul_right (bytes_each countable.0) c.pass_over.ensures.no_longer,
+      mul-le-mul_right (bytes_each countable.0) c.next.ensures.left,
     )
 
-pub returns-in_err-push_token-in-Ok-clause-cut_short : goal.returns-in_err-push_token-in-Ok-clause-cut_short
-returns-in_err-push_token-in-Ok-clause-cut_short g c =
+pub returns-in_err-push_token-in-Ok-Some-clause-cut_short : goal.returns-in_err-push_token-in-Ok-Some-clause-cut_short
+returns-in_err-push_token-in-Ok-Some-clause-cut_short g c =
     let actions = c.args.labels.now.actions.now in
     let now = c.loop-lexeme in
     let so_far = now.invariant.so_far in
-    let here = c.pass_over.new.place in
-    let led = c.pass_over.ensures.kept actions _ (start_of c.args.text.now) so_far.0 c.requires.lone so_far.1 in
+    let here = c.next.new.place in
+    let lexeme = c.in-Ok-Some.lexeme in
+    let s = scanner_of c.args.lexer.now.scanner in
+    let fast = answered true s here c.in-Ok-Some.field-0 lexeme c.in-Ok-Some.field-0-is c.in-Ok-Some.ensures.found in
+    let led = passes_lines actions s c.args.lexer.now.passed (start_of c.args.text.now) now.place so_far.0
+    c.requires.passed so_far.1 c.next.ensures.passed in
     let token = c.new-token.result in
-    let line = line_if (naming actions c.in-Ok.lexeme.rule.0 token) token in
-    let begin = condition_set actions c.in-Ok.lexeme.rule.0 in
-    let fault = c.in_err-push_token-in-Ok.field-0.0 in
-    err_is c.from_residual.result fault _ c.from_residual.ensures.1 (fails_at actions (let s : Scanner
-    = record { walk = g.S.Steps.walk c.args.steps.now; cut = g.S.Steps.cut_of c.args.steps.now } in s)
-    c.args.text.now (moved here c.in-Ok.lexeme.taken begin) (so_far.0 ++ line) c.args.end c.args.empty
-    c.push_token.new.lines _ _ fault c.requires.ends c.requires.none
-    (one_more actions _ _ (start_of c.args.text.now) here
-    (moved here c.in-Ok.lexeme.taken begin) c.in-Ok.lexeme begin token so_far.0 (so_far.0 ++ line)
-    (scanner_of _ _ _ _ now.invariant.same_walk now.invariant.same_cuts) c.in-Ok.ensures.lexeme refl refl
-    (c.new-token.ensures
-    ∙ ap (take c.in-Ok.lexeme.taken) c.rest.ensures) refl led)
+    let line = line_if (naming actions lexeme.rule.0 token) token in
+    let begin = condition_set actions lexeme.rule.0 in
+    let fault = c.in_err-push_token-in-Ok-Some.field-0.0 in
+    err_is c.from_residual.result fault _ c.from_residual.ensures.1 (fails_at actions s c.args.text.now
+    (moved here lexeme.taken begin) (so_far.0 ++ line) c.args.end c.args.empty c.push_token.new.lines _ _ fault
+    c.requires.ends c.requires.none
+    (one_more actions s (start_of c.args.text.now) here (moved here lexeme.taken begin) lexeme begin token so_far.0
+    (so_far.0 ++ line) (lexeme_at s here true lexeme fast) refl refl
+    (c.new-token.ensures ∙ ap (take lexeme.taken) c.rest.ensures) refl led)
     (appended_twice c.args.empty now.lines c.push_token.new.lines _ _ _ so_far.0 line tt (Err fault) so_far.2
-    c.in_err-push_token-in-Ok.ensures.text))
+    c.in_err-push_token-in-Ok-Some.ensures.text))
 
 pub loop-lexeme-preserved : goal.loop-lexeme-preserved
 loop-lexeme-preserved g c =
     let actions = c.args.labels.now.actions.now in
     let now = c.loop-lexeme in
     let so_far = now.invariant.so_far in
-    let here = c.pass_over.new.place in
-    let led = c.pass_over.ensures.kept actions _ (start_of c.args.text.now) so_far.0 c.requires.lone so_far.1 in
-    let taken = c.in-Ok.lexeme.taken in
+    let here = c.next.new.place in
+    let lexeme = c.in-Ok-Some.lexeme in
+    let s = scanner_of c.args.lexer.now.scanner in
+    let fast = answered true s here c.in-Ok-Some.field-0 lexeme c.in-Ok-Some.field-0-is c.in-Ok-Some.ensures.found in
+    let led = passes_lines actions s c.args.lexer.now.passed (start_of c.args.text.now) now.place so_far.0
+    c.requires.passed so_far.1 c.next.ensures.passed in
     let token = c.new-token.result in
-    let line = line_if (naming actions c.in-Ok.lexeme.rule.0 token) token in
-    let is = c.new-token.ensures
-    ∙ ap (take taken) c.rest.ensures in
+    let line = line_if (naming actions lexeme.rule.0 token) token in
+    let is = c.new-token.ensures ∙ ap (take lexeme.taken) c.rest.ensures in
     let at = c.advance.ensures in
     record {
-      same_walk = c.in-Ok.ensures.same_walk ∙ now.invariant.same_walk;
-      same_cuts = c.in-Ok.ensures.same_cuts ∙ now.invariant.same_cuts;
       so_far = (
         so_far.0 ++ line,
-        one_more actions _ _ (start_of c.args.text.now) here c.advance.new.self c.in-Ok.lexeme
-            c.condition_set-begin.result token so_far.0 (so_far.0 ++ line)
-            (scanner_of _ _ _ _ now.invariant.same_walk now.invariant.same_cuts) c.in-Ok.ensures.lexeme
-            c.condition_set-begin.ensures at is refl led,
+        one_more actions s (start_of c.args.text.now) here c.advance.new.self lexeme c.condition_set-begin.result token
+            so_far.0 (so_far.0 ++ line) (lexeme_at s here true lexeme fast) c.condition_set-begin.ensures at is refl led,
         appended_twice c.args.empty now.lines c.push_token.new.lines _ _ _ so_far.0 line tt (Ok tt) so_far.2
-            c.in_ok-push_token-in-Ok.ensures.text,
+            c.in_ok-push_token-in-Ok-Some.ensures.text,
       );
       counted = λ longest named. omega (
         arith,
         now.invariant.counted longest named,
-        line_left actions longest c.in-Ok.lexeme.rule.0 taken here.rest token named
-            c.in-Ok.ensures.within.0 c.in-Ok.ensures.within.1 is,
+        line_left actions longest lexeme.rule.0 lexeme.taken here.rest token named fast.some fast.within is,
         ap (λ (p : Place). length p.rest * bytes_each longest) at,
-        c.in_ok-push_token-in-Ok.ensures.counted,
-        mul-le-mul_right (bytes_each longest) c.pass_over.ensures.no_longer,
+        c.in_ok-push_token-in-Ok-Some.ensures.counted,
+        mul-le-mul_right (bytes_each longest) c.next.ensures.left,
       );
-      no_failure = c.in_ok-push_token-in-Ok.ensures.no_failure ∙ now.invariant.no_failure;
+      no_failure = c.in_ok-push_token-in-Ok-Some.ensures.no_failure ∙ now.invariant.no_failure;
     }
+
+pub loop-lexeme-smaller : goal.loop-lexeme-smaller
+loop-lexeme-smaller g c =
+    let here = c.next.new.place in
+    let lexeme = c.in-Ok-Some.lexeme in
+    let s = scanner_of c.args.lexer.now.scanner in
+    let fast = answered true s here c.in-Ok-Some.field-0 lexeme c.in-Ok-Some.field-0-is c.in-Ok-Some.ensures.found in omega (
+      arith,
+      fast.some,
+      fast.within,
+      c.next.ensures.left,
+      ap (λ p. length p.rest) c.advance.ensures,
+      length-drop lexeme.taken here.rest,
+    )
 
 pub push_end-requires : goal.push_end-requires
 push_end-requires g c =
@@ -113,14 +126,16 @@ returns-in_err-push_end-in-Err-clause-cut_short g c =
     let actions = c.args.labels.now.actions.now in
     let now = c.loop-lexeme in
     let so_far = now.invariant.so_far in
-    let here = c.pass_over.new.place in
-    let led = c.pass_over.ensures.kept actions _ (start_of c.args.text.now) so_far.0 c.requires.lone so_far.1 in
+    let here = c.next.new.place in
+    let s = scanner_of c.args.lexer.now.scanner in
+    let led = passes_lines actions s c.args.lexer.now.passed (start_of c.args.text.now) now.place so_far.0
+    c.requires.passed so_far.1 c.next.ensures.passed in
     let lines = so_far.0 ++ end_line c.args.end in
     let fault = c.in_err-push_end-in-Err.field-0.0 in
     err_is c.from_residual-in_err-push_end-in-Err.result fault _ c.from_residual-in_err-push_end-in-Err.ensures.1 (
       lines,
-      all_known actions _ _ c.args.text.now here c.in-Err.field-0 c.args.end so_far.0 lines c.requires.ends
-          (scanner_of _ _ _ _ now.invariant.same_walk now.invariant.same_cuts) c.in-Err.ensures.end refl led,
+      all_known actions s c.args.text.now here c.in-Err.field-0 c.args.end so_far.0 lines c.requires.ends
+          (end_at s here true c.in-Err.field-0 c.in-Err.ensures.end) refl led,
       cut_from c.args.empty c.push_end.new.lines _ _ lines c.requires.none fault
           (appended_twice c.args.empty now.lines c.push_end.new.lines _ _ _ so_far.0 (end_line c.args.end) tt
           (Err fault) so_far.2 c.in_err-push_end-in-Err.ensures.text),
@@ -142,14 +157,16 @@ returns-in_err-finish-in-Err-clause-cut_short g c =
     let actions = c.args.labels.now.actions.now in
     let now = c.loop-lexeme in
     let so_far = now.invariant.so_far in
-    let here = c.pass_over.new.place in
-    let led = c.pass_over.ensures.kept actions _ (start_of c.args.text.now) so_far.0 c.requires.lone so_far.1 in
+    let here = c.next.new.place in
+    let s = scanner_of c.args.lexer.now.scanner in
+    let led = passes_lines actions s c.args.lexer.now.passed (start_of c.args.text.now) now.place so_far.0
+    c.requires.passed so_far.1 c.next.ensures.passed in
     let lines = so_far.0 ++ end_line c.args.end in
     let fault = c.in_err-finish-in-Err.field-0.0 in
     err_is c.from_residual-in_err-finish-in-Err.result fault _ c.from_residual-in_err-finish-in-Err.ensures.1 (
       lines,
-      all_known actions _ _ c.args.text.now here c.in-Err.field-0 c.args.end so_far.0 lines c.requires.ends
-          (scanner_of _ _ _ _ now.invariant.same_walk now.invariant.same_cuts) c.in-Err.ensures.end refl led,
+      all_known actions s c.args.text.now here c.in-Err.field-0 c.args.end so_far.0 lines c.requires.ends
+          (end_at s here true c.in-Err.field-0 c.in-Err.ensures.end) refl led,
       c.in_err-finish-in-Err.ensures.text _ lines (underway_from c.args.empty c.push_end.new.lines _ _ lines
           c.requires.none (appended_twice c.args.empty now.lines c.push_end.new.lines _ _ _ so_far.0
           (end_line c.args.end) tt (Ok tt) so_far.2 c.in_ok-push_end-in-Err.ensures.text)),
@@ -160,12 +177,14 @@ returns-in-Err-clause-told g c =
     let actions = c.args.labels.now.actions.now in
     let now = c.loop-lexeme in
     let so_far = now.invariant.so_far in
-    let here = c.pass_over.new.place in
-    let led = c.pass_over.ensures.kept actions _ (start_of c.args.text.now) so_far.0 c.requires.lone so_far.1 in
+    let here = c.next.new.place in
+    let s = scanner_of c.args.lexer.now.scanner in
+    let led = passes_lines actions s c.args.lexer.now.passed (start_of c.args.text.now) now.place so_far.0
+    c.requires.passed so_far.1 c.next.ensures.passed in
     let lines = so_far.0 ++ end_line c.args.end in (
       lines,
-      all_known actions _ _ c.args.text.now here c.in-Err.field-0 c.args.end so_far.0 lines c.requires.ends
-          (scanner_of _ _ _ _ now.invariant.same_walk now.invariant.same_cuts) c.in-Err.ensures.end refl led,
+      all_known actions s c.args.text.now here c.in-Err.field-0 c.args.end so_far.0 lines c.requires.ends
+          (end_at s here true c.in-Err.field-0 c.in-Err.ensures.end) refl led,
       c.in_ok-finish-in-Err.ensures.text _ lines (underway_from c.args.empty c.push_end.new.lines _ _ lines
           c.requires.none (appended_twice c.args.empty now.lines c.push_end.new.lines _ _ _ so_far.0
           (end_line c.args.end) tt (Ok tt) so_far.2 c.in_ok-push_end-in-Err.ensures.text)),

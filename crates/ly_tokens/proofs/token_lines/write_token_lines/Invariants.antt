@@ -2,6 +2,7 @@ use Rattle.std.proofs.Common.{◌≡◌, ◌≤◌, ◌+◌, ◌*◌, ℕ, List,
 use Rattle.ly_base.specs.Lexed.{start_of}
 use Rattle.ly_base.specs.TextWriter.{bytes_of, IsAppended}
 use Rattle.ly_lexread.specs.declared.action.Action.{Action}
+use Rattle.ly_scan.specs.Lexers.{scanner_of}
 use Rattle.ly_tokens.specs.Private.TokenLines.{bytes_each, name_len, SoFar}
 use Rattle.ly_tokens.proofs.token_lines.write_token_lines.Given as goal
 
@@ -9,13 +10,9 @@ use Rattle.ly_tokens.proofs.token_lines.write_token_lines.Given as goal
 -- be counted
 abbrev pub invariant-loop-lexeme : goal.invariant-loop-lexeme
 invariant-loop-lexeme g l =
-    let steps = g.S.Steps in
     let sink = g.W.Sink in
     let start = start_of l.text in record {
-      same_walk : steps.walk l.steps ≡ steps.walk l.fn.steps;
-      same_cuts : steps.cut_of l.steps ≡ steps.cut_of l.fn.steps;
-      so_far : (told : List ℕ) × SoFar l.labels.actions.now
-          (record { walk = steps.walk l.fn.steps; cut = steps.cut_of l.fn.steps }) start l.place told
+      so_far : (told : List ℕ) × SoFar l.labels.actions.now (scanner_of l.lexer.scanner) start l.place told
           × IsAppended l.fn.empty l.lines (sink.contents l.fn.writer) (sink.contents l.writer) told (Ok tt);
       counted : (longest : ℕ) → All (λ (a : Action). name_len a.returns ≤ longest) l.labels.actions.now
           → bytes_of l.lines + length l.place.rest * bytes_each longest ≤ length start.rest * bytes_each longest;

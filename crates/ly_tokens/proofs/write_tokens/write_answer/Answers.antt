@@ -1,22 +1,16 @@
-use Rattle.std.proofs.Common.{◌≡◌, ◌∙◌, ◌≤◌, ℕ, List, Option, ap, subst, sym}
+use Rattle.std.proofs.Common.{◌≡◌, ◌≤◌, ℕ, List, Option, subst}
 use Rattle.std.specs.Prelude.{IfSome}
 use Rattle.std.proofs.lemmas.Result.{IfOk-weaker}
 use Rattle.ly_base.specs.Limits.{Sizes}
 use Rattle.ly_base.specs.declared.lexeme.End.{End}
 use Rattle.ly_ere.specs.Names.{defined}
-use Rattle.ly_ere.specs.declared.pattern.Rule.{Rule}
 use Rattle.ly_lexread.specs.declared.file.LexFile.{LexFile}
 use Rattle.ly_position.specs.TotalWeight.{total_weight}
-use Rattle.ly_scan.specs.Lexer.{Scanner}
 use Rattle.ly_subset.specs.RuleSets.{HaveMoreSets}
-use Rattle.ly_subset.specs.Automaton.{Automaton}
-use Rattle.ly_tokens.specs.Agreement.{Agrees}
 use Rattle.ly_tokens.specs.Answering.{IsAnswer}
 use Rattle.ly_tokens.specs.Printing.{end_of}
 use Rattle.ly_tokens.specs.Private.FileAnswers.{FileAnswers}
-use Rattle.ly_tokens.specs.RowWalk.{cut_in, row_walk}
 use Rattle.ly_lexread.proofs.BeginLemmas.{begins_below, has_condition}
-use Rattle.ly_tokens.proofs.PrintingLemmas.{scanner_of}
 use Rattle.ly_tokens.proofs.RunEndLemmas.{set_below}
 use Rattle.ly_tokens.proofs.write_tokens.write_answer.Goals as goal
 
@@ -26,16 +20,6 @@ write_answer_by-requires-clause-below g c = set_below c.args.file.now.actions.it
 
 pub write_answer_by-requires-clause-some : goal.write_answer_by-requires-clause-some
 write_answer_by-requires-clause-some g c = has_condition c.requires.spelled.0 c.args.file.now c.requires.spelled.1
-
-pub write_answer_by-requires-clause-agrees : goal.write_answer_by-requires-clause-agrees
-write_answer_by-requires-clause-agrees g c =
-    let file = c.args.file.now in
-    let walk = c.in_ok-steps.steps in
-    subst (λ (s : Scanner). Agrees (defined file.names) file.rules.items s)
-    (sym (scanner_of (row_walk c.in_ok-dfa.dfa) (row_walk walk.dfa.now) (cut_in file.rules.items)
-    (cut_in walk.rules.now) (ap (λ (A : Automaton). row_walk A) c.in_ok-steps.ensures.dfa)
-    (ap (λ (rs : List Rule). cut_in rs) (c.in_ok-steps.ensures.rules ∙ c.deref.ensures.value))))
-    c.in_ok-dfa.ensures.agrees
 
 file_answers : (limits : Sizes) (file : LexFile) (left : Option (List ℕ)) (text given : List ℕ) (e : End)
     (answer : List ℕ) → (total_weight (defined file.names) file.rules.items ≤ limits.total_weight)
@@ -54,8 +38,8 @@ file_answers limits file left text given e answer within few is_text same is = r
 pub returns-clause-answered : goal.returns-clause-answered
 returns-clause-answered g c = IfOk-weaker c.write_answer_by.result _ _ (λ end a. (
   a.0,
-  file_answers c.args.limits.now c.args.file.now _ c.in_ok-text.text.items c.deref-2.result.now (end_of end) a.0
-      c.in_ok-dfa.ensures.within c.in_ok-dfa.ensures.few c.in_ok-text.ensures.bytes c.deref-2.ensures.value a.1,
+  file_answers c.args.limits.now c.args.file.now _ c.in_ok-text.text.items c.deref.result.now (end_of end) a.0
+      c.in_ok-lexer.ensures.within c.in_ok-lexer.ensures.few c.in_ok-text.ensures.bytes c.deref.ensures.value a.1,
   a.2,
 )) c.write_answer_by.ensures.answered
 
@@ -65,8 +49,8 @@ returns-clause-beginning g c = λ written is.
       short.0,
       (
         short.1.0,
-        file_answers c.args.limits.now c.args.file.now _ c.in_ok-text.text.items c.deref-2.result.now short.0 short.1.0
-            c.in_ok-dfa.ensures.within c.in_ok-dfa.ensures.few c.in_ok-text.ensures.bytes c.deref-2.ensures.value
+        file_answers c.args.limits.now c.args.file.now _ c.in_ok-text.text.items c.deref.result.now short.0 short.1.0
+            c.in_ok-lexer.ensures.within c.in_ok-lexer.ensures.few c.in_ok-text.ensures.bytes c.deref.ensures.value
             short.1.1,
         short.1.2,
       ),

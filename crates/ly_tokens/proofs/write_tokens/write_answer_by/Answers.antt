@@ -6,22 +6,27 @@ use Rattle.ly_base.specs.declared.lexeme.End.{End}
 use Rattle.ly_tokens.specs.Answering.{IsAnswer}
 use Rattle.ly_tokens.specs.declared.fault.TokensFault.{TokensFault}
 use Rattle.ly_tokens.specs.declared.fault.TokensFault.TheVariants.{Write}
+use Rattle.ly_tokens.specs.Private.RunEnd.{EndsSo}
 use Rattle.ly_tokens.proofs.AnswerLemmas.{answer_of, run_leaves_tokens}
-use Rattle.ly_tokens.proofs.PrintingLemmas.{scanner_of}
+use Rattle.ly_scan.specs.Lexers.{scanner_of}
 use Rattle.ly_tokens.proofs.write_tokens.write_answer_by.Goals as goal
 
 pub run_end-end-requires-clause-leaves : goal.run_end-end-requires-clause-leaves
 run_end-end-requires-clause-leaves g c = λ e run.
     let file = c.args.file.now in
-    run_leaves_tokens (defined file.names) file.rules.items file.actions.items _ _ c.args.text.now e
-    (scanner_of _ _ _ _ c.in_ok-lone.ensures.same_walk c.in_ok-lone.ensures.same_cuts) c.requires.agrees run
+    run_leaves_tokens (defined file.names) file.rules.items file.actions.items (scanner_of c.args.lexer.now.scanner)
+    c.args.text.now e c.requires.agrees run
+
+pub write_token_lines-requires-clause-ends : goal.write_token_lines-requires-clause-ends
+write_token_lines-requires-clause-ends g c = subst
+    (λ actions. EndsSo (scanner_of c.args.lexer.now.scanner) actions c.args.text.now c.run_end-end.result)
+    (sym (c.in_ok-labels.ensures ∙ c.deref-2.ensures.value)) c.run_end-end.ensures
 
 pub token_end-requires : goal.token_end-requires
 token_end-requires g c =
     let file = c.args.file.now in
-    run_leaves_tokens (defined file.names) file.rules.items file.actions.items _ _ c.args.text.now c.run_end-end.result
-    (scanner_of _ _ _ _ c.in_ok-lone.ensures.same_walk c.in_ok-lone.ensures.same_cuts) c.requires.agrees
-    c.run_end-end.ensures.ends
+    run_leaves_tokens (defined file.names) file.rules.items file.actions.items (scanner_of c.args.lexer.now.scanner)
+    c.args.text.now c.run_end-end.result c.requires.agrees c.run_end-end.ensures
 
 same_fault : {T : Type 0} (r : Result T TokensFault) (x y : TokensFault) → r ≡ Err x → r ≡ Err y → x ≡ y
 same_fault r x y a b = cc
@@ -40,9 +45,7 @@ returns-in_err-write_token_lines-clause-beginning g c = λ written is.
       (
         short.0,
         answer_of (defined file.names) file.rules.items file.actions.items c.in_ok-labels.labels.actions.now
-            _ _ c.args.text.now c.run_end-end.result short.0
-            (scanner_of _ _ _ _ (c.run_end-end.ensures.same_walk ∙ c.in_ok-lone.ensures.same_walk)
-            (c.run_end-end.ensures.same_cuts ∙ c.in_ok-lone.ensures.same_cuts)) c.requires.agrees
+            (scanner_of c.args.lexer.now.scanner) c.args.text.now c.run_end-end.result short.0 c.requires.agrees
             (c.in_ok-labels.ensures ∙ c.deref-2.ensures.value) short.1,
         subst (λ k. IsCutShort (g.W.Sink.contents c.args.writer.now)
             (g.W.Sink.contents c.write_token_lines.new.writer) k short.0) (sym same) short.2,
@@ -56,9 +59,7 @@ returns-clause-answered g c =
       told.0,
       subst (λ (e : End). IsAnswer (defined file.names) file.rules.items file.actions.items c.args.text.now e told.0)
           (sym c.token_end.ensures) (answer_of (defined file.names) file.rules.items file.actions.items
-          c.in_ok-labels.labels.actions.now _ _ c.args.text.now c.run_end-end.result told.0
-          (scanner_of _ _ _ _ (c.run_end-end.ensures.same_walk ∙ c.in_ok-lone.ensures.same_walk)
-          (c.run_end-end.ensures.same_cuts ∙ c.in_ok-lone.ensures.same_cuts)) c.requires.agrees
-          (c.in_ok-labels.ensures ∙ c.deref-2.ensures.value) told.1),
+          c.in_ok-labels.labels.actions.now (scanner_of c.args.lexer.now.scanner) c.args.text.now c.run_end-end.result
+          told.0 c.requires.agrees (c.in_ok-labels.ensures ∙ c.deref-2.ensures.value) told.1),
       told.2,
     )

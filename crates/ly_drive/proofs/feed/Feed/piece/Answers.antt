@@ -22,7 +22,8 @@ returns-then-goes_on c =
     (subst (λ q. IsOnward (held_from f.set.now f.window f.parser f.over) c.args.bytes.now
     (held_from f.set.now q f.parser false)) (sym c.in_ok-push.ensures.ok)
     (goes_onward f.set.now f.window f.parser f.over c.args.bytes.now (behind f.window c.args.bytes.now) f.parser none_yet
-    (subst (λ s. IsUndecided s (behind f.window c.args.bytes.now)) c.self.invariant.lexer.scanner next.1))))
+    (subst (λ s. IsUndecided s (behind f.window c.args.bytes.now)) c.self.invariant.lexer.scanner next.1)
+    c.in_ok-push.ensures.countable)))
 
 pub returns-in_err-flaw : goal.returns-in_err-flaw
 returns-in_err-flaw c =
@@ -109,4 +110,4 @@ returns c =
     c.at_line_start-line.ensures c.condition-condition.ensures))
     (goes_onward f.set.now f.window f.parser f.over c.args.bytes.now c.run_on.new.place c.run_on.new.parser
     (subst (λ q. Onward false (scan_part_of f.set.now) (machine_of f.set.now) (progress_of q f.parser)
-    (progress_of c.run_on.new.place c.run_on.new.parser)) at run.0) run.1)))
+    (progress_of c.run_on.new.place c.run_on.new.parser)) at run.0) run.1 c.in_ok-push.ensures.countable)))

@@ -2,7 +2,7 @@ use Rattle.std.proofs.Common.{◌≡◌, ◌<◌, ◌*◌, ℕ, Some, length}
 use Rattle.std.specs.Prelude.{IfSome}
 use Rattle.ly_scan.specs.StateRows.{row_entry}
 use Rattle.ly_subset.specs.Automaton.{next_of}
-use Rattle.ly_tokens.proofs.row_walk.spread.Given as goal
+use Rattle.ly_tokens.proofs.file_lexer.spread.Given as goal
 
 -- the entries of the rows before this one are there
 abbrev pub invariant-loop-state : goal.invariant-loop-state

@@ -1,5 +1,5 @@
 use Rattle.std.proofs.Common.{◌≡◌, map, option_map, take}
-use Rattle.ly_tokens.proofs.row_walk.accepted.Given as goal
+use Rattle.ly_tokens.proofs.file_lexer.rules_of.Given as goal
 
 -- the rules so far are those of the first states
 abbrev pub invariant-loop-state : goal.invariant-loop-state

@@ -1,0 +1,145 @@
+-- A text that a reader gives piece by piece.
+use Rattle.std.proofs.Common.{◌≡◌, ◌∙◌, ◌<◌, ◌≤◌, ◌+◌, ◌-◌, ℕ, List, [], ◌++◌, Option, Some, None, Ok, Err, Result, ap}
+use Rattle.std.proofs.Common.{append-nil, append_assoc, arith, length, length-append, refl, subst, sym}
+use Rattle.std.specs.Io.KnownBytes.{Appends, Consumes, IsAtEnd}
+use Rattle.std.specs.Prelude.{◌^◌, IfErr, IfOk, IfSome, false}
+use Rattle.std.proofs.KnownBytes.{Consumes-nil, Consumes-trans}
+use Rattle.ly_base.specs.TextWriter.{IsCutShort}
+use Rattle.ly_drive.proofs.OnwardLemmas.{from_start}
+use Rattle.ly_drive.specs.Answering.{IsAnsweredBy, IsBegunBy, IsFaultyOn, IsTooLong}
+use Rattle.ly_drive.specs.Held.{Held, IsOnward, IsRestOf, IsSettledBy, nothing_read, seen}
+use Rattle.ly_drive.specs.Private.Feeding.{IsAnswerOf}
+use Rattle.ly_drive.specs.Private.Reading.{IsReadInto, IsReadSoFar}
+use Rattle.ly_drive.specs.ScanPart.{scan_part_of}
+use Rattle.ly_drive.specs.TableAnswer.{IsVerdict, TableAnswer}
+use Rattle.ly_drive.specs.Verdict.{Verdict, faulty, printed}
+use Rattle.ly_drive.specs.Vocabularies.{vocabulary_of}
+use Rattle.ly_drive.specs.declared.fault.DriveFault.{DriveFault}
+use Rattle.ly_drive.specs.declared.fault.DriveFault.TheVariants as fault
+use Rattle.ly_drive.specs.declared.need.Need.{Need}
+use Rattle.ly_drive.specs.declared.outcome.Outcome.{Outcome}
+use Rattle.ly_tables.specs.TableSet.{TableSet, machine_of}
+
+-- what a reader is known to give still; nothing where that isn't known
+left : Option (List ℕ) → List ℕ
+left None = []
+left (Some bytes) = bytes
+
+-- what was taken, a piece, and what is left are all that a reader gave
+all_given : (given before after : Option (List ℕ)) (taken piece : List ℕ) → Consumes given before taken
+    → Consumes before after piece → IfSome given (λ bytes. taken ++ (piece ++ left after) ≡ bytes)
+unfolding left
+all_given None before after taken piece a b = tt
+all_given (Some g) None after taken piece a b = absurd a
+all_given (Some g) (Some x) None taken piece a b = absurd b
+all_given (Some g) (Some x) (Some y) taken piece a b = sym (a ∙ ap (λ l. taken ++ l) b)
+
+-- at the end nothing is left
+all_taken : (given before after : Option (List ℕ)) (taken : List ℕ) → Consumes given before taken
+    → Consumes before after [] → IsAtEnd after → IfSome given (λ bytes. taken ++ [] ≡ bytes)
+all_taken None before after taken a b end = tt
+all_taken (Some g) None after taken a b end = absurd a
+all_taken (Some g) (Some x) None taken a b end = absurd b
+all_taken (Some g) (Some x) (Some y) taken a b end = sym (a ∙ ap (λ l. taken ++ l) (b ∙ end))
+
+-- a text that is longer than its beginning
+long_given : (given : Option (List ℕ)) (taken rest : List ℕ) (n : ℕ) → n ≤ length taken
+    → IfSome given (λ bytes. taken ++ rest ≡ bytes) → IfSome given (λ bytes. n ≤ length bytes)
+long_given None taken rest n low all = tt
+long_given (Some g) taken rest n low all = omega (arith, low, sym (length-append taken rest) ∙ ap length all)
+
+-- a fault of which something is said
+pub if_fault : {A E : Type 0} (P : E → Type 0) (r : Result A E) → ((e : E) → P e) → IfErr r P
+if_fault P (Ok x) h = tt
+if_fault P (Err e) h = h e
+
+module _ (s : TableSet) (given : Option (List ℕ)) where
+  -- nothing has come yet
+  pub begins : (f : Held) → f ≡ nothing_read s → IsReadSoFar s given given f
+  begins f none = subst (IsReadSoFar s given given) (sym none) (record {
+    taken = [];
+    consumed = Consumes-nil given;
+    says = λ more v. (from_start (scan_part_of s) (machine_of s) more v).0;
+    counted = refl;
+    countable = omega arith;
+    set = refl;
+    goes_on = refl;
+  })
+
+  module _ (before after : Option (List ℕ)) (f : Held) (so_far : IsReadSoFar s given before f) where
+    -- a piece more
+    pub goes_on : (g : Held) (piece : List ℕ) → Consumes before after piece → IsOnward f piece g
+        → IsReadSoFar s given after g
+    goes_on g piece took on = record {
+      taken = so_far.taken ++ piece;
+      consumed = Consumes-trans given before after so_far.taken piece so_far.consumed took;
+      says = λ more v h. subst (λ text. IsVerdict s text v) (sym (append_assoc so_far.taken piece more))
+          (so_far.says (piece ++ more) v ((on.same_rest more v).1 h));
+      counted = omega (arith, on.counted, so_far.counted, length-append so_far.taken piece);
+      countable = omega (arith, on.counted, on.countable);
+      set = on.set ∙ so_far.set;
+      goes_on = on.goes_on;
+    }
+
+    -- fewer can come then
+    pub fewer : (g : Held) (piece : List ℕ) → 0 < length piece → IsOnward f piece g
+        → 2 ^ 64 - seen g < 2 ^ 64 - seen f
+    fewer g piece some on = omega (arith, some, on.counted, on.countable, so_far.countable)
+
+    -- the text is answered by now
+    pub settles : (o : Outcome) (answer piece : List ℕ) → Consumes before after piece → IsSettledBy f piece o answer
+        → (text : List ℕ) × IfSome given (λ bytes. text ≡ bytes) × TableAnswer s text o answer
+    settles o answer piece took h = (
+      so_far.taken ++ (piece ++ left after),
+      all_given given before after so_far.taken piece so_far.consumed took,
+      (
+        h.0,
+        so_far.says (piece ++ left after) h.0 (h.1 (left after)),
+        h.2,
+        h.4 ∙ ap (λ x. printed (vocabulary_of x) h.0) so_far.set,
+      ),
+    )
+
+    -- the tables are at fault by now
+    pub at_fault : (piece : List ℕ) → Consumes before after piece
+        → ((more : List ℕ) → IsRestOf f (piece ++ more) faulty) → IsFaultyOn s given
+    at_fault piece took h = (
+      so_far.taken ++ (piece ++ left after),
+      all_given given before after so_far.taken piece so_far.consumed took,
+      so_far.says (piece ++ left after) faulty (h (left after)),
+    )
+
+    -- the text is too long
+    pub too_long : (piece : List ℕ) → Consumes before after piece → 2 ^ 64 ≤ seen f + length piece → IsTooLong given
+    too_long piece took h = long_given given (so_far.taken ++ piece) (left after) (2 ^ 64)
+        (omega (arith, h, so_far.counted, length-append so_far.taken piece))
+        (subst (λ x. IfSome given (λ bytes. x ≡ bytes)) (sym (append_assoc so_far.taken piece (left after)))
+        (all_given given before after so_far.taken piece so_far.consumed took))
+
+    -- it has ended
+    pub ends : (v : Verdict) → Consumes before after [] → IsAtEnd after → IsRestOf f [] v
+        → (text : List ℕ) × IfSome given (λ bytes. text ≡ bytes) × IsVerdict s text v
+    ends v took end said = (
+      so_far.taken ++ [],
+      all_taken given before after so_far.taken so_far.consumed took end,
+      so_far.says [] v said,
+    )
+
+    -- and this is its answer
+    pub ended_so : (g : Held) (o : Outcome) (answer : List ℕ) → g ≡ f → Consumes before after [] → IsAtEnd after
+        → IsAnswerOf g o answer → (text : List ℕ) × IfSome given (λ bytes. text ≡ bytes) × TableAnswer s text o answer
+    ended_so g o answer same took end a =
+        let h = subst (λ x. IsAnswerOf x o answer) same a in
+        let text = ends h.0 took end h.1 in (
+          text.0,
+          text.1,
+          (h.0, text.2, h.2, h.3 ∙ ap (λ x. printed (vocabulary_of x) h.0) so_far.set),
+        )
+
+    pub all_ended : {E : Type 0} (g : Held) (b n : Option (List ℕ)) (result : Result Outcome E) → g ≡ f
+        → Consumes before after [] → IsAtEnd after
+        → IfOk result (λ o. (answer : List ℕ) × IsAnswerOf g o answer × Appends b n answer)
+        → IfOk result (IsAnsweredBy s given b n)
+    all_ended g b n (Ok o) same took end h =
+        let text = ended_so g o h.0 same took end h.1 in (text.0, h.0, text.1, text.2, h.2)
+    all_ended g b n (Err e) same took end h = tt
