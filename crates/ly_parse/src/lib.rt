@@ -22,6 +22,7 @@ mod level;
 mod listing;
 mod origin;
 mod parser;
+mod refusal;
 mod running;
 mod settled;
 mod shortcut;
@@ -29,8 +30,10 @@ mod shortcuts;
 mod step;
 mod token;
 
+pub use answer::Answer;
 pub use fault::ParseFault;
 pub use laws::a_token_is_fed_in_one_way;
 pub use parser::Parser;
+pub use refusal::Refusal;
 pub use step::Step;
 pub use token::Token;
