@@ -69,6 +69,7 @@ impl Before {
         ensures { IfOk result (λ states. states_in states.items ≡ before_of stack.now self.now) }
     {
         let mut states = Vec::new(alloc);
+        // behind a token that is read the stack may be lower than what is kept
         for place in 0..self.kept.min(stack.len()) {
             states.push(stack[place].state)?;
         }

@@ -4,6 +4,7 @@
 //! makes the turns of the tables on its token (`Feeds`): reductions, and then the token is read, accepted with a term
 //! or refused.
 //! It asks for steady tables, so that every call ends.
+//! `take` answers a token by a small value, and `refusal` then tells of one that is refused; `feed` does both.
 //! Where a token is refused, the terminals that are expected in its place are listed, by runs on a copy of the stack as
 //! it stood before the token.
 //! What runs of passes come to, reductions that change a state and no term, it keeps as shortcuts.
