@@ -1,12 +1,12 @@
 -- What feeding a token leads to.
-use Rattle.std.proofs.Common.{◌≡◌, ◌∙◌, ℕ, ◌≤◌, List, Option, Some, None, Ok}
+use Rattle.std.proofs.Common.{◌≡◌, ℕ, ◌≤◌, List, Option, Some, None}
 use Rattle.std.proofs.Common.{arith, refl, subst}
 use Rattle.std.specs.Prelude.{false}
 use Rattle.ly_base.specs.Lexed.{Token}
 use Rattle.ly_pack.specs.Machine.{Machine, TableAction, TableRule, accept, action_of, error, goto_at, reduce, shift}
 use Rattle.ly_pack.specs.Machine.{IsMachine}
 use Rattle.ly_pack.specs.Steady.{rule_at}
-use Rattle.ly_parse.specs.Feeding.{Feeds, Level, done, go_to, onward, perform, pop, pushed, reduce_by, settled, settles}
+use Rattle.ly_parse.specs.Feeding.{Feeds, Level, done, go_to, onward, perform, pop, reduce_by, settled, settles}
 use Rattle.ly_parse.specs.Feeding.{top_of, uncover}
 use Rattle.ly_parse.specs.Parse.{IsTake, Parse}
 use Rattle.ly_parse.specs.declared.answer.Answer.{Answer}

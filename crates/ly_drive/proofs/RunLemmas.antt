@@ -1,5 +1,5 @@
 -- A run over what has come of a text.
-use Rattle.std.proofs.Common.{◌≡◌, ◌∙◌, ℕ, List, [], ◌∷◌, ◌++◌, Option, Some, None, Ok, ap, append-nil, arith}
+use Rattle.std.proofs.Common.{◌≡◌, ◌∙◌, ℕ, [], ◌∷◌, Option, Some, None, Ok, ap, append-nil, arith}
 use Rattle.std.proofs.Common.{length, length-append, refl, subst, sym}
 use Rattle.std.specs.Prelude.{Bool, MatchOption, false, true}
 use Rattle.ly_base.specs.Lexed.{Place}

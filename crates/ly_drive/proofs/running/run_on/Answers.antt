@@ -1,4 +1,4 @@
-use Rattle.std.proofs.Common.{◌∙◌, Ok, ap, subst, sym}
+use Rattle.std.proofs.Common.{◌∙◌, ap, subst, sym}
 use Rattle.ly_base.specs.Lexed.{moved}
 use Rattle.ly_drive.proofs.OnwardLemmas.{onward_on}
 use Rattle.ly_drive.proofs.RunLemmas.{cut, fast_there, halts_at_end, over, settled_there, stuck, undecided_there}
