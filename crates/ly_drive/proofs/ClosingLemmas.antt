@@ -1,7 +1,7 @@
 -- What comes of a text that has ended.
-use Rattle.std.proofs.Common.{◌≡◌, ◌∙◌, ◌+◌, ℕ, List, [], Option, Some, Ok, Err, Result, ap, arith, length, refl, subst, sym}
+use Rattle.std.proofs.Common.{◌≡◌, ◌∙◌, ◌+◌, [], Option, Some, Ok, Err, Result, ap, arith, length, refl, subst, sym}
 use Rattle.std.specs.Prelude.{Bool, IsErrAnd, true}
-use Rattle.ly_base.specs.Lexed.{Place, Token}
+use Rattle.ly_base.specs.Lexed.{Place}
 use Rattle.ly_drive.proofs.OnwardLemmas.{settled_on}
 use Rattle.ly_drive.proofs.SettledLemmas.{nothing_more, settled_at_end}
 use Rattle.ly_drive.proofs.StopLemmas.{accepts_last, fails_last, refuses_last}

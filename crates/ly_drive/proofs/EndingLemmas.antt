@@ -10,7 +10,7 @@ use Rattle.ly_drive.specs.Private.Feeding.{IsAnswerOf, held_from}
 use Rattle.ly_drive.specs.Private.Running.{IsClosed, IsVerdictOf, progress_of}
 use Rattle.ly_drive.specs.ScanPart.{ScanPart, scan_part_of}
 use Rattle.ly_drive.specs.TableAnswer.{IsRest, Progress}
-use Rattle.ly_drive.specs.Verdict.{IsOutcome, Verdict, accepted, faulty, printed}
+use Rattle.ly_drive.specs.Verdict.{IsOutcome, Verdict, faulty, printed}
 use Rattle.ly_drive.specs.Vocabularies.{vocabulary_of}
 use Rattle.ly_drive.specs.declared.fault.DriveFault.{DriveFault}
 use Rattle.ly_drive.specs.declared.fault.DriveFault.TheVariants.{TableFault}

@@ -1,4 +1,4 @@
-use Rattle.std.proofs.Common.{◌≡◌, ◌∙◌, Err, Ok, ap, arith, length, refl, subst, sym}
+use Rattle.std.proofs.Common.{◌∙◌, Err, Ok, ap, arith, length, refl, subst, sym}
 use Rattle.std.specs.Prelude.{false, true}
 use Rattle.ly_drive.proofs.FeedLemmas.{IsFurther, further, given_up, goes_onward, is_faulty, is_piece, is_settled}
 use Rattle.ly_drive.proofs.RunLemmas.{halts_here}
@@ -6,10 +6,10 @@ use Rattle.ly_drive.specs.Held.{IsOnward, TakesPiece}
 use Rattle.ly_drive.specs.Onward.{Onward, none_yet}
 use Rattle.ly_drive.specs.Private.Feeding.{held_from}
 use Rattle.ly_drive.specs.Private.Running.{IsRunOn, progress_of}
-use Rattle.ly_drive.specs.ScanPart.{scan_part_of, scanner_in}
+use Rattle.ly_drive.specs.ScanPart.{scan_part_of}
 use Rattle.ly_drive.specs.declared.need.Need.TheVariants.{Settled}
 use Rattle.ly_drive.proofs.feed.Feed.piece.Goals as goal
-use Rattle.ly_scan.specs.Lexers.{IsUnderwayAt, scanner_of}
+use Rattle.ly_scan.specs.Lexers.{IsUnderwayAt}
 use Rattle.ly_scan.specs.Pieces.{IsUndecided, behind}
 use Rattle.ly_tables.specs.TableSet.{machine_of}
 
