@@ -146,7 +146,11 @@ fn refusal<'t>(
     let Refusal { number, expected } = parser.refusal()?;
     let at = place.at() as u64;
     let token = Token { terminal, at, text };
-    Ok(Flaw::Refused { number, token, expected })
+    Ok(Flaw::Refused {
+        number,
+        token,
+        expected,
+    })
 }
 
 /// What comes of a text that has ended.
@@ -180,10 +184,7 @@ pub(crate) fn run_to_end<'t>(
 }
 
 /// Feeds a parser with the end of the text, which stands at a place.
-fn close<'t>(
-    parser: &mut TableParser<'_>,
-    place: &Place<'t>,
-) -> Result<Ended<'t>, RunFault>
+fn close<'t>(parser: &mut TableParser<'_>, place: &Place<'t>) -> Result<Ended<'t>, RunFault>
     requires goes_on { parser.old.over ≡ false }
     requires terminals { 0 < parser.old.machine.terminals }
     requires ended { place.now.rest ≡ [] }
@@ -205,13 +206,11 @@ fn close<'t>(
                 at,
                 text: Front::new(place.rest(), 0),
             };
-            Ok(
-                Ended::Refused(Flaw::Refused {
-                    number,
-                    token,
-                    expected,
-                }),
-            )
+            Ok(Ended::Refused(Flaw::Refused {
+                number,
+                token,
+                expected,
+            }))
         }
         Err(ParseFault::TableFault) => Err(RunFault::TableFault),
         Err(ParseFault::OutOfMemory) => Err(RunFault::OutOfMemory),

@@ -56,12 +56,7 @@ impl Window {
     pub(crate) fn place(&self) -> Place<'_>
         ensures { result ≡ self.now }
     {
-        Place::behind(
-            &self.held,
-            self.given_up,
-            self.line,
-            self.condition,
-        )
+        Place::behind(&self.held, self.given_up, self.line, self.condition)
     }
 
     /// Takes the next bytes of the text. It fails with `TooLong` where they are more than can be counted, and else where

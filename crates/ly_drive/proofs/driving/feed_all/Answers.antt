@@ -84,8 +84,7 @@ returns-in-Some-Settled-clause-answered g c =
     let read = subst (λ o. IsReadInto f before after c.read_into.new.feed (Ok o))
     (c.in-Some-Settled.is ∙ ap Some c.in-Some-Settled.field-0-is) c.in_ok-read_into.ensures.is_read in
     let answer = c.in-Some-Settled.answer.items in
-    let text = settles s given before after f i.so_far c.in-Some-Settled.outcome answer read.0 read.1 read.2 in
-    (
+    let text = settles s given before after f i.so_far c.in-Some-Settled.outcome answer read.0 read.1 read.2 in (
       text.0,
       answer,
       text.1,

@@ -75,8 +75,14 @@ give_up-requires-clause-to c =
     let run = halts_here (scan_part_of f.set.now) (machine_of f.set.now) (progress_of c.place-place.result f.parser)
     c.run_on.new.place c.run_on.new.parser c.in_ok-flaw.flaw c.in_ok-flaw.ensures.runs c.in_default.is in
     let on = further run.0 in
-    omega (arith, on.at, on.within, c.at-at.ensures, ap (λ q. q.at) c.place-place.ensures,
-    ap (λ q. length q.rest) c.place-place.ensures)
+    omega (
+      arith,
+      on.at,
+      on.within,
+      c.at-at.ensures,
+      ap (λ q. q.at) c.place-place.ensures,
+      ap (λ q. length q.rest) c.place-place.ensures,
+    )
 
 pub invariant_of-self-2 : goal.invariant_of-self-2
 invariant_of-self-2 c =
@@ -88,9 +94,9 @@ invariant_of-self-2 c =
       runs = c.self.invariant.runs;
       parses = λ goes. run.2;
       waits = λ goes. subst (λ q. IsUnderwayAt f.lexer q c.matcher_at-self-inside.result) (sym (c.give_up.ensures
-    ∙ given_up c.push.new.self c.run_on.new.place c.at-at.result c.at_line_start-line.result c.condition-condition.result
-    (subst (λ q. IsFurther q c.run_on.new.place) c.place-place.ensures (further run.0)) c.at-at.ensures
-    c.at_line_start-line.ensures c.condition-condition.ensures))
+          ∙ given_up c.push.new.self c.run_on.new.place c.at-at.result c.at_line_start-line.result c.condition-condition.result
+          (subst (λ q. IsFurther q c.run_on.new.place) c.place-place.ensures (further run.0)) c.at-at.ensures
+          c.at_line_start-line.ensures c.condition-condition.ensures))
           c.matcher_at-self-inside.ensures;
     }
 
