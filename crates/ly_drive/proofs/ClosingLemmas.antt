@@ -31,7 +31,8 @@ settled_here ended p m w v settled = subst (λ x. IsRest p m x v) (nothing_more 
 
 module _ (p : ScanPart) (m : Machine) (w : Progress) where
   -- something is wrong before the end
-  pub closed_by : (q : Place) (r : Parse) (forest : Grown) (o : Option Flaw) (flaw : Flaw) → IsRunOn true p m w q r (Ok o)
+  pub closed_by : (q : Place) (r : Parse) (forest : Grown) (o : Option Flaw) (flaw : Flaw)
+      → IsRunOn true p m w q r (Ok o)
       → o ≡ Some flaw → IsClosed p m w forest (Ok (Refused flaw))
   closed_by q r forest o flaw run at = (
     verdict_of flaw,

@@ -107,7 +107,8 @@ module _ (set : TableSet) (q : Place) (s : Parse) (over : Bool) (piece : List �
   }
 
   -- something is wrong
-  pub is_settled : (g : Held) (flaw : Flaw) (o : Outcome) (lines : Vec ℕ Global) (r : Place) (t : Parse) (found : Option Flaw)
+  pub is_settled : (g : Held) (flaw : Flaw) (o : Outcome) (lines : Vec ℕ Global)
+      (r : Place) (t : Parse) (found : Option Flaw)
       → IsRunOn false p m (progress_of (behind q piece) s) r t (Ok found) → found ≡ Some flaw
       → IsOutcome (verdict_of flaw) o → lines.items ≡ printed (vocabulary_of set) (verdict_of flaw) → IsOver f g
       → seen f + length piece < 2 ^ 64 → TakesPiece f piece g (Ok (Settled o lines))

@@ -1,7 +1,8 @@
 ghost use Rattle.std.specs.Prelude.{◌≡◌, ◌<◌, ◌≤◌, ℕ, List, [], Bool, IfOk, length, false};
 ghost use Rattle.ly_drive.specs.Private.Flaw.{token_of};
 ghost use Rattle.ly_drive.specs.Private.LexerOf.{IsLexerOf};
-ghost use Rattle.ly_drive.specs.Private.Running.{progress_of, CanRun, HasToken, IsClosed, IsFed, IsLast, IsRefusalAt, IsRunOn};
+ghost use Rattle.ly_drive.specs.Private.Running.{progress_of, CanRun, HasToken, IsClosed, IsFed, IsLast, IsRefusalAt};
+ghost use Rattle.ly_drive.specs.Private.Running.{IsRunOn};
 ghost use Rattle.ly_drive.specs.Private.Running.{IsTaken};
 ghost use Rattle.ly_drive.specs.ScanPart.{scan_part_of, scanner_in, terminal_by, terminal_in};
 ghost use Rattle.ly_pack.specs.Machine.{IsMachine};
@@ -36,8 +37,8 @@ pub(crate) fn run_on<'t>(
     requires runs { CanRun (scan_part_of set.now) (machine_of set.now) }
     requires machine { parser.old.machine ≡ machine_of set.now }
     requires goes_on { parser.old.over ≡ false }
-    ensures runs { IsRunOn ended (scan_part_of set.now) (machine_of set.now) (progress_of place.old parser.old) place.new
-        parser.new result }
+    ensures runs { IsRunOn ended (scan_part_of set.now) (machine_of set.now) (progress_of place.old parser.old)
+        place.new parser.new result }
     ensures machine { parser.new.machine ≡ parser.old.machine }
 {
     loop {

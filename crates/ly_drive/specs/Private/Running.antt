@@ -1,5 +1,6 @@
 -- A run over what has come of a text, token by token.
-use Rattle.std.specs.Prelude.{◌≡◌, ◌<◌, ◌≤◌, ℕ, ◌+◌, Bool, List, [], false, true, map, Option, Some, None, Result, Ok, Err}
+use Rattle.std.specs.Prelude.{◌≡◌, ◌<◌, ◌≤◌, ℕ, ◌+◌, Bool, List, [], false, true, map, Option, Some, None}
+use Rattle.std.specs.Prelude.{Result, Ok, Err}
 use Rattle.ly_base.specs.Lexed.{Place, Token, place_after}
 use Rattle.ly_base.specs.declared.lexeme.Lexeme.{Lexeme}
 use Rattle.ly_drive.specs.Onward.{Onward, IsSettled, IsTokenAt}
@@ -67,12 +68,13 @@ HasToken p q t = (token : Token ℕ) × IsTokenAt p q t token
 abbrev pub IsTaken : Bool → ScanPart → Machine → Progress → Lexeme → Parse → Taken → Type 0
 IsTaken ended p m w t r Goes = Onward ended p m w (progress_of (place_after (condition_in p) w.place t) r)
     × (r.over ≡ false)
-IsTaken ended p m w t r take.Refused = (token : Token ℕ) × IsTokenAt p w.place t token × Feeds m token w.stack fed.refused
-    × (r.asked ≡ states_on w.stack) × (r.count ≡ w.count) × IsTellable r
+IsTaken ended p m w t r take.Refused = (token : Token ℕ) × IsTokenAt p w.place t token
+    × Feeds m token w.stack fed.refused × (r.asked ≡ states_on w.stack) × (r.count ≡ w.count) × IsTellable r
 IsTaken ended p m w t r take.TableFault = IsSettled ended p m w faulty
 IsTaken ended p m w t r take.OutOfMemory = Unit {0}
 
--- the flaw names the token of a lexeme, the number behind those that a parse has read, and what is expected in its place
+-- the flaw names the token of a lexeme, the number behind those that a parse has read, and what is expected in its
+-- place
 abbrev pub IsRefusalAt : ScanPart → Place → Lexeme → Parse → Flaw → Type 0
 IsRefusalAt p q t r flaw = (token : Token ℕ) × (ts : List ℕ) × IsTokenAt p q t token × AreExpected r.machine r.asked ts
     × (verdict_of flaw ≡ refused (r.count + 1) token ts)

@@ -21,7 +21,8 @@ returns-then-goes_on c =
     (subst (λ x. IsOnward x c.args.bytes.now (held_from f.set.now c.push.new.self f.parser false)) c.self.view_is
     (subst (λ q. IsOnward (held_from f.set.now f.window f.parser f.over) c.args.bytes.now
     (held_from f.set.now q f.parser false)) (sym c.in_ok-push.ensures.ok)
-    (goes_onward f.set.now f.window f.parser f.over c.args.bytes.now (behind f.window c.args.bytes.now) f.parser none_yet
+    (goes_onward f.set.now f.window f.parser f.over c.args.bytes.now (behind f.window c.args.bytes.now) f.parser
+    none_yet
     (subst (λ s. IsUndecided s (behind f.window c.args.bytes.now)) c.self.invariant.lexer.scanner next.1)
     c.in_ok-push.ensures.countable)))
 
@@ -94,7 +95,8 @@ invariant_of-self-2 c =
       runs = c.self.invariant.runs;
       parses = λ goes. run.2;
       waits = λ goes. subst (λ q. IsUnderwayAt f.lexer q c.matcher_at-self-inside.result) (sym (c.give_up.ensures
-          ∙ given_up c.push.new.self c.run_on.new.place c.at-at.result c.at_line_start-line.result c.condition-condition.result
+          ∙ given_up c.push.new.self c.run_on.new.place c.at-at.result c.at_line_start-line.result
+          c.condition-condition.result
           (subst (λ q. IsFurther q c.run_on.new.place) c.place-place.ensures (further run.0)) c.at-at.ensures
           c.at_line_start-line.ensures c.condition-condition.ensures))
           c.matcher_at-self-inside.ensures;
@@ -111,7 +113,8 @@ returns c =
     c.self.view_is
     (subst (λ q. IsOnward (held_from f.set.now f.window f.parser f.over) c.args.bytes.now
     (held_from f.set.now q c.run_on.new.parser false)) (sym (c.give_up.ensures
-    ∙ given_up c.push.new.self c.run_on.new.place c.at-at.result c.at_line_start-line.result c.condition-condition.result
+    ∙ given_up c.push.new.self c.run_on.new.place c.at-at.result c.at_line_start-line.result
+    c.condition-condition.result
     (subst (λ q. IsFurther q c.run_on.new.place) c.place-place.ensures (further run.0)) c.at-at.ensures
     c.at_line_start-line.ensures c.condition-condition.ensures))
     (goes_onward f.set.now f.window f.parser f.over c.args.bytes.now c.run_on.new.place c.run_on.new.parser
