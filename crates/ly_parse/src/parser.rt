@@ -1,4 +1,4 @@
-ghost use Rattle.std.specs.Prelude.{◌≡◌, ◌≢◌, ◌+◌, ◌<◌, [], ◌∷◌, Ok, false, map, IfErr, IfOk};
+ghost use Rattle.std.specs.Prelude.{◌≡◌, ◌≢◌, ◌+◌, ◌<◌, [], ◌∷◌, Ok, false, map, IfOk};
 ghost use Rattle.ly_pack.specs.Steady.{IsSteady};
 ghost use Rattle.ly_parse.specs.Expected.{AreExpected};
 ghost use Rattle.ly_parse.specs.Parse.{IsCall, IsTake, IsTellable};
@@ -80,7 +80,7 @@ impl<'a, A: Rows<TableAction> + Drop, G: Rows<StateNo> + Drop> Parser<'a, A, G> 
 
     /// Takes a token: makes the reductions before it, and then reads it or refuses it. After any other answer than
     /// `Reads` the parse is over. What there is to tell of a token that is refused is asked for by `refusal`.
-    #[inline(always)] // it hands on
+    #[inline(always)] // for it is one call
     pub fn take(&mut self, token: &Token<'_>) -> Answer
         requires not_end { token.now.terminal.0 ≢ 0 }
         requires terminal { token.now.terminal.0 < self.old.machine.terminals }
@@ -165,8 +165,7 @@ impl<'a, A: Rows<TableAction> + Drop, G: Rows<StateNo> + Drop> Parser<'a, A, G> 
     /// Refuses the last token, which stands at this byte.
     fn refuse(&self, at: u64) -> Result<Step, ParseFault>
         requires { IsTellable self.now }
-        ensures refusal { IsRefusal self.now at result }
-        ensures not_done { (root : TermRef) → result ≢ Ok (step.Done root) }
+        ensures { IsRefusal self.now at result }
     {
         let refusal = self.refusal()?;
         Ok(Step::Refused {
