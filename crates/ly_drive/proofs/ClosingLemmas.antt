@@ -1,7 +1,7 @@
 -- What comes of a text that has ended.
-use Rattle.std.proofs.Common.{◌≡◌, ◌∙◌, ◌+◌, ℕ, List, [], Option, Some, Ok, Err, Result, ap, arith, length, refl, subst, sym}
+use Rattle.std.proofs.Common.{◌≡◌, ◌∙◌, ◌+◌, [], Option, Some, Ok, Err, Result, ap, arith, length, refl, subst, sym}
 use Rattle.std.specs.Prelude.{Bool, IsErrAnd, true}
-use Rattle.ly_base.specs.Lexed.{Place, Token}
+use Rattle.ly_base.specs.Lexed.{Place}
 use Rattle.ly_drive.proofs.OnwardLemmas.{settled_on}
 use Rattle.ly_drive.proofs.SettledLemmas.{nothing_more, settled_at_end}
 use Rattle.ly_drive.proofs.StopLemmas.{accepts_last, fails_last, refuses_last}
@@ -31,7 +31,8 @@ settled_here ended p m w v settled = subst (λ x. IsRest p m x v) (nothing_more 
 
 module _ (p : ScanPart) (m : Machine) (w : Progress) where
   -- something is wrong before the end
-  pub closed_by : (q : Place) (r : Parse) (forest : Grown) (o : Option Flaw) (flaw : Flaw) → IsRunOn true p m w q r (Ok o)
+  pub closed_by : (q : Place) (r : Parse) (forest : Grown) (o : Option Flaw) (flaw : Flaw)
+      → IsRunOn true p m w q r (Ok o)
       → o ≡ Some flaw → IsClosed p m w forest (Ok (Refused flaw))
   closed_by q r forest o flaw run at = (
     verdict_of flaw,

@@ -10,7 +10,7 @@ use Rattle.ly_drive.specs.Private.Feeding.{IsAnswerOf, held_from}
 use Rattle.ly_drive.specs.Private.Running.{IsClosed, IsVerdictOf, progress_of}
 use Rattle.ly_drive.specs.ScanPart.{ScanPart, scan_part_of}
 use Rattle.ly_drive.specs.TableAnswer.{IsRest, Progress}
-use Rattle.ly_drive.specs.Verdict.{IsOutcome, Verdict, accepted, faulty, printed}
+use Rattle.ly_drive.specs.Verdict.{IsOutcome, Verdict, faulty, printed}
 use Rattle.ly_drive.specs.Vocabularies.{vocabulary_of}
 use Rattle.ly_drive.specs.declared.fault.DriveFault.{DriveFault}
 use Rattle.ly_drive.specs.declared.fault.DriveFault.TheVariants.{TableFault}
@@ -46,8 +46,10 @@ at_fault p m w forest run.OutOfMemory (Err x) closed is failed = absurd cc
 pub outcome_of : (forest : Grown) (ended : Ended) (v : Verdict) → IsVerdictOf forest ended v
     → (o : Outcome) × IsOutcome v o
 outcome_of forest (Accepted root) v is = (Tree, subst (λ x. IsOutcome x Tree) (sym is.1) refl)
-outcome_of forest (Refused (flaw.Refused number token expected)) v is =
-    (Syntax number token.at expected, subst (λ x. IsOutcome x (Syntax number token.at expected)) (sym is) (refl, refl, refl))
+outcome_of forest (Refused (flaw.Refused number token expected)) v is = (
+  Syntax number token.at expected,
+  subst (λ x. IsOutcome x (Syntax number token.at expected)) (sym is) (refl, refl, refl),
+)
 outcome_of forest (Refused (flaw.NoRule byte)) v is =
     (NoRule byte, subst (λ x. IsOutcome x (NoRule byte)) (sym is) refl)
 

@@ -1,5 +1,5 @@
 -- What a feed makes of a piece.
-use Rattle.std.proofs.Common.{◌≡◌, ◌∙◌, ◌<◌, ◌≤◌, ◌+◌, ◌-◌, ℕ, List, [], ◌++◌, Option, Some, None, Ok, Err, Result, ap, ap₂}
+use Rattle.std.proofs.Common.{◌≡◌, ◌∙◌, ◌<◌, ◌≤◌, ◌+◌, ◌-◌, ℕ, List, Option, Some, Ok, Err, Result, ap}
 use Rattle.std.proofs.Common.{arith, drop, length, length-append, length-drop, refl, subst, sym}
 use Rattle.std.specs.Global.{Global}
 use Rattle.std.specs.Prelude.{◌^◌, Bool, IsErrAnd, false, true}
@@ -8,20 +8,20 @@ use Rattle.std.proofs.lemmas.List.{drop-drop}
 use Rattle.ly_base.specs.Lexed.{Place, place_after}
 use Rattle.ly_base.specs.declared.lexeme.Lexeme.{Lexeme}
 use Rattle.ly_drive.proofs.PieceLemmas.{same_end, same_rest, settled_rest}
-use Rattle.ly_drive.specs.Held.{Held, IsOnward, IsOver, IsPiece, IsRestOf, IsSettledBy, TakesPiece, seen}
+use Rattle.ly_drive.specs.Held.{Held, IsOnward, IsOver, IsPiece, TakesPiece, seen}
 use Rattle.ly_drive.specs.Onward.{Onward, and_passes, and_reads, none_yet}
 use Rattle.ly_drive.specs.Private.Feeding.{held_from}
 use Rattle.ly_drive.specs.Private.Flaw.{verdict_of}
 use Rattle.ly_drive.specs.Private.Running.{IsRunOn, progress_of}
 use Rattle.ly_drive.specs.ScanPart.{ScanPart, condition_in, scan_part_of, scanner_in}
-use Rattle.ly_drive.specs.TableAnswer.{Progress, with_more}
+use Rattle.ly_drive.specs.TableAnswer.{Progress}
 use Rattle.ly_drive.specs.Verdict.{IsOutcome, faulty, printed}
 use Rattle.ly_drive.specs.Vocabularies.{vocabulary_of}
 use Rattle.ly_drive.specs.declared.feed_fault.FeedFault.{FeedFault}
 use Rattle.ly_drive.specs.declared.flaw.Flaw.{Flaw}
 use Rattle.ly_drive.specs.declared.flaw.Flaw.TheVariants.{NoRule, Refused}
 use Rattle.ly_drive.specs.declared.need.Need.{Need}
-use Rattle.ly_drive.specs.declared.need.Need.TheVariants.{More, Settled}
+use Rattle.ly_drive.specs.declared.need.Need.TheVariants.{Settled}
 use Rattle.ly_drive.specs.declared.outcome.Outcome.{Outcome}
 use Rattle.ly_drive.specs.declared.outcome.Outcome.TheVariants as out
 use Rattle.ly_drive.specs.declared.run_fault.RunFault.{RunFault}
@@ -107,7 +107,8 @@ module _ (set : TableSet) (q : Place) (s : Parse) (over : Bool) (piece : List �
   }
 
   -- something is wrong
-  pub is_settled : (g : Held) (flaw : Flaw) (o : Outcome) (lines : Vec ℕ Global) (r : Place) (t : Parse) (found : Option Flaw)
+  pub is_settled : (g : Held) (flaw : Flaw) (o : Outcome) (lines : Vec ℕ Global)
+      (r : Place) (t : Parse) (found : Option Flaw)
       → IsRunOn false p m (progress_of (behind q piece) s) r t (Ok found) → found ≡ Some flaw
       → IsOutcome (verdict_of flaw) o → lines.items ≡ printed (vocabulary_of set) (verdict_of flaw) → IsOver f g
       → seen f + length piece < 2 ^ 64 → TakesPiece f piece g (Ok (Settled o lines))

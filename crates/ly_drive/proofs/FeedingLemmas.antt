@@ -1,19 +1,18 @@
 -- What feeding a token leads to.
-use Rattle.std.proofs.Common.{◌≡◌, ◌∙◌, ℕ, ◌≤◌, List, Option, Some, None, Ok}
+use Rattle.std.proofs.Common.{◌≡◌, ℕ, ◌≤◌, List, Option, Some, None}
 use Rattle.std.proofs.Common.{arith, refl, subst}
 use Rattle.std.specs.Prelude.{false}
 use Rattle.ly_base.specs.Lexed.{Token}
 use Rattle.ly_pack.specs.Machine.{Machine, TableAction, TableRule, accept, action_of, error, goto_at, reduce, shift}
 use Rattle.ly_pack.specs.Machine.{IsMachine}
 use Rattle.ly_pack.specs.Steady.{rule_at}
-use Rattle.ly_parse.specs.Feeding.{Feeds, Level, done, go_to, onward, perform, pop, pushed, reduce_by, settled, settles}
+use Rattle.ly_parse.specs.Feeding.{Feeds, Level, done, go_to, onward, perform, pop, reduce_by, settled, settles}
 use Rattle.ly_parse.specs.Feeding.{top_of, uncover}
-use Rattle.ly_parse.specs.Parse.{IsCall, Parse}
-use Rattle.ly_parse.specs.declared.step.Step.{Step}
-use Rattle.ly_parse.specs.declared.step.Step.TheVariants.{Done}
+use Rattle.ly_parse.specs.Parse.{IsTake, Parse}
+use Rattle.ly_parse.specs.declared.answer.Answer.{Answer}
+use Rattle.ly_parse.specs.declared.answer.Answer.TheVariants.{Accepts}
 use Rattle.ly_parse.proofs.FeedingLemmas.{legal}
 use Rattle.ly_tree.specs.Term.{Term, Terms, none}
-use Rattle.ly_tree.specs.declared.forest.TermRef.{TermRef}
 
 -- a reduction accepts nothing
 no_reduction : (m : Machine) (p : ℕ) (stack : List Level) (d : Term) (o : Option TableRule)
@@ -43,9 +42,9 @@ accepts_end {m} {token} {stack} {d} h (settled e) = by_action (action_of m (top_
 accepts_end h (onward e fed) = accepts_end h fed
 
 -- no other token is
-pub not_accepted : (s r : Parse) (t : Token ℕ) (root : TermRef) (step : Step) → IsMachine s.machine → s.over ≡ false
-    → 1 ≤ t.terminal → step ≡ Done root → IsCall s t r (Ok step) → ⊥
-not_accepted s r t root step h goes low is call =
-    let fed = (subst (λ x. IsCall s t r (Ok x)) is call).before_end goes in
+pub not_accepted : (s r : Parse) (t : Token ℕ) (answer : Answer) → IsMachine s.machine → s.over ≡ false
+    → 1 ≤ t.terminal → answer ≡ Accepts → IsTake s t r answer → ⊥
+not_accepted s r t answer h goes low is call =
+    let fed = (subst (IsTake s t r) is call).before_end goes in
     let is_end = accepts_end h fed.1 in
     omega (arith, low, is_end)

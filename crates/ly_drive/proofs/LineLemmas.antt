@@ -1,15 +1,10 @@
 -- What is written of a text that has ended.
-use Rattle.std.proofs.Common.{◌≡◌, ◌∙◌, ◌++◌, ◌∷◌, ℕ, List, [], Err, Ok, Option, Result, ap, ap₂, refl, subst, sym}
-use Rattle.std.specs.Io.KnownBytes.{Appends}
+use Rattle.std.proofs.Common.{◌≡◌, ◌∙◌, ◌++◌, ◌∷◌, ℕ, List, [], Err, Ok, Result, ap, sym}
 use Rattle.std.specs.Global.{Global}
-use Rattle.std.specs.Prelude.{IfOk, IsErrAnd}
+use Rattle.std.specs.Prelude.{IfOk}
 use Rattle.std.specs.declared.vec.Vec.{Vec}
 use Rattle.ly_base.specs.Bytes.{newline}
-use Rattle.ly_base.specs.TextWriter.{IsCutShort}
-use Rattle.ly_drive.proofs.FaultLemmas.{same_fault}
 use Rattle.ly_drive.specs.Verdict.{Verdict, accepted, printed, syntax_line}
-use Rattle.ly_drive.specs.declared.fault.DriveFault.{DriveFault}
-use Rattle.ly_drive.specs.declared.fault.DriveFault.TheVariants.{Write}
 use Rattle.ly_tree.specs.Shown.{Vocabulary, shown}
 use Rattle.ly_tree.specs.Term.{Term}
 

@@ -30,7 +30,8 @@ anything_follows more e = absurd (let off : false ≡ true → ⊥ = λ z. cc in
 
 module _ (p : ScanPart) (m : Machine) where
   -- the same is said before a piece and behind the matches of it that are decided
-  pub same_rest : (w : Progress) (piece : List ℕ) {u : Progress} → FeedsInOneWay → Onward false p m (with_more w piece) u
+  pub same_rest : (w : Progress) (piece : List ℕ) {u : Progress} → FeedsInOneWay
+      → Onward false p m (with_more w piece) u
       → (more : List ℕ) (v : Verdict)
       → (IsRest p m (with_more w (piece ++ more)) v → IsRest p m (with_more u more) v)
       × (IsRest p m (with_more u more) v → IsRest p m (with_more w (piece ++ more)) v)

@@ -1,7 +1,7 @@
 -- A run over what has come of a text.
-use Rattle.std.proofs.Common.{◌≡◌, ◌∙◌, ℕ, List, [], ◌∷◌, ◌++◌, Option, Some, None, Ok, Err, Result, ap, append-nil, arith}
+use Rattle.std.proofs.Common.{◌≡◌, ◌∙◌, ℕ, [], ◌∷◌, Option, Some, None, Ok, ap, append-nil, arith}
 use Rattle.std.proofs.Common.{length, length-append, refl, subst, sym}
-use Rattle.std.specs.Prelude.{Bool, IsErrAnd, MatchOption, false, true}
+use Rattle.std.specs.Prelude.{Bool, MatchOption, false, true}
 use Rattle.ly_base.specs.Lexed.{Place}
 use Rattle.ly_base.specs.declared.lexeme.End.{End}
 use Rattle.ly_base.specs.declared.lexeme.End.TheVariants.{BadCut, Clean, Stuck}
@@ -10,15 +10,12 @@ use Rattle.ly_drive.proofs.OnwardLemmas.{onward_on, passed_onward, settled_on}
 use Rattle.ly_drive.proofs.PieceLemmas.{anything_follows}
 use Rattle.ly_drive.proofs.SettledLemmas.{settled_cut, settled_stuck}
 use Rattle.ly_drive.specs.Onward.{IsSettled, Onward}
-use Rattle.ly_drive.specs.Private.Flaw.{verdict_of}
 use Rattle.ly_drive.specs.Private.LexerOf.{IsLexerOf}
-use Rattle.ly_drive.specs.Private.Running.{Halts, IsRunOn, IsTaken, progress_of}
+use Rattle.ly_drive.specs.Private.Running.{Halts, IsRunOn, progress_of}
 use Rattle.ly_drive.specs.ScanPart.{ScanPart, scanner_in}
 use Rattle.ly_drive.specs.TableAnswer.{Progress}
-use Rattle.ly_drive.specs.Verdict.{faulty, unmatched}
+use Rattle.ly_drive.specs.Verdict.{Verdict, faulty, unmatched}
 use Rattle.ly_drive.specs.declared.flaw.Flaw.{Flaw}
-use Rattle.ly_drive.specs.declared.run_fault.RunFault.{RunFault}
-use Rattle.ly_drive.specs.declared.run_fault.RunFault.TheVariants as run
 use Rattle.ly_pack.specs.Machine.{Machine}
 use Rattle.ly_parse.proofs.FedOnceLemmas.{fed_in_one_way}
 use Rattle.ly_parse.specs.Parse.{Parse}
@@ -77,19 +74,10 @@ module _ (ended : Bool) (p : ScanPart) (m : Machine) (w : Progress) where
       (settled_cut ended p m (progress_of q s) b (subst (λ x. EndsFast ended (scanner_in p) q x) at
       (subst (λ x. EndsFast ended x q e) is.scanner ends)))
 
-  -- what is wrong behind decided matches
-  pub wrong : (q : Place) (s r : Parse) (t : Lexeme) (flaw : Flaw) → Onward ended p m w (progress_of q s)
-      → IsTaken ended p m (progress_of q s) t r (Ok (Some flaw)) → IsSettled ended p m w (verdict_of flaw)
-  wrong q s r t flaw on taken = settled_on ended p m (verdict_of flaw) fed_in_one_way on taken
-
-  -- a fault that is handed on
-  pub failed : (q : Place) (s r : Parse) (t : Lexeme) (e : RunFault) (result : Result (Option Flaw) RunFault)
-      → Onward ended p m w (progress_of q s) → IsTaken ended p m (progress_of q s) t r (Err e)
-      → IsErrAnd result (λ x. x ≡ e) → IsRunOn ended p m w q r result
-  failed q s r t e (Ok x) on taken is = absurd is
-  failed q s r t run.TableFault (Err x) on taken is = subst (λ y. IsRunOn ended p m w q r (Err y)) (sym is)
-      (settled_on ended p m faulty fed_in_one_way on taken)
-  failed q s r t run.OutOfMemory (Err x) on taken is = subst (λ y. IsRunOn ended p m w q r (Err y)) (sym is) tt
+  -- what is settled behind decided matches
+  pub settled_there : (q : Place) (s : Parse) (v : Verdict) → Onward ended p m w (progress_of q s)
+      → IsSettled ended p m (progress_of q s) v → IsSettled ended p m w v
+  settled_there q s v on settled = settled_on ended p m v fed_in_one_way on settled
 
 -- where a run halts before the end of the text
 pub halts_here : (p : ScanPart) (m : Machine) (w : Progress) (q : Place) (r : Parse) (o : Option Flaw)

@@ -1,22 +1,18 @@
 -- A text that a reader gives piece by piece.
 use Rattle.std.proofs.Common.{◌≡◌, ◌∙◌, ◌<◌, ◌≤◌, ◌+◌, ◌-◌, ℕ, List, [], ◌++◌, Option, Some, None, Ok, Err, Result, ap}
-use Rattle.std.proofs.Common.{append-nil, append_assoc, arith, length, length-append, refl, subst, sym}
+use Rattle.std.proofs.Common.{append_assoc, arith, length, length-append, refl, subst, sym}
 use Rattle.std.specs.Io.KnownBytes.{Appends, Consumes, IsAtEnd}
-use Rattle.std.specs.Prelude.{◌^◌, IfErr, IfOk, IfSome, false}
+use Rattle.std.specs.Prelude.{◌^◌, IfErr, IfOk, IfSome}
 use Rattle.std.proofs.KnownBytes.{Consumes-nil, Consumes-trans}
-use Rattle.ly_base.specs.TextWriter.{IsCutShort}
 use Rattle.ly_drive.proofs.OnwardLemmas.{from_start}
-use Rattle.ly_drive.specs.Answering.{IsAnsweredBy, IsBegunBy, IsFaultyOn, IsTooLong}
+use Rattle.ly_drive.specs.Answering.{IsAnsweredBy, IsFaultyOn, IsTooLong}
 use Rattle.ly_drive.specs.Held.{Held, IsOnward, IsRestOf, IsSettledBy, nothing_read, seen}
 use Rattle.ly_drive.specs.Private.Feeding.{IsAnswerOf}
-use Rattle.ly_drive.specs.Private.Reading.{IsReadInto, IsReadSoFar}
+use Rattle.ly_drive.specs.Private.Reading.{IsReadSoFar}
 use Rattle.ly_drive.specs.ScanPart.{scan_part_of}
 use Rattle.ly_drive.specs.TableAnswer.{IsVerdict, TableAnswer}
 use Rattle.ly_drive.specs.Verdict.{Verdict, faulty, printed}
 use Rattle.ly_drive.specs.Vocabularies.{vocabulary_of}
-use Rattle.ly_drive.specs.declared.fault.DriveFault.{DriveFault}
-use Rattle.ly_drive.specs.declared.fault.DriveFault.TheVariants as fault
-use Rattle.ly_drive.specs.declared.need.Need.{Need}
 use Rattle.ly_drive.specs.declared.outcome.Outcome.{Outcome}
 use Rattle.ly_tables.specs.TableSet.{TableSet, machine_of}
 

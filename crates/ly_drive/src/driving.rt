@@ -21,8 +21,8 @@ use ly_tables::{TableSet, read_tables};
 use std::alloc::Global;
 
 /// Answers the text that a reader gives by the bytes of a table file, and writes the answer. Nothing is read before the
-/// table file is read, and at most 4,096 bytes at a time; nothing is written before the outcome is known, and nothing is
-/// read after it is, so only at a tree the reader is known to be at its end.
+/// table file is read, and at most 4,096 bytes at a time; nothing is written before the outcome is known, and nothing
+/// is read after it is, so only at a tree the reader is known to be at its end.
 ///
 /// Its faults are those of `DriveFault`.
 pub fn drive<R: Source, W: Sink>(

@@ -104,13 +104,7 @@ impl<'a> Feed<'a> {
             return Ok(Need::More);
         }
         let mut place = self.window.place();
-        let flaw = run_on(
-            self.set,
-            &self.lexer,
-            &mut self.parser,
-            &mut place,
-            false,
-        )?;
+        let flaw = run_on(self.set, &self.lexer, &mut self.parser, &mut place, false)?;
         if let Some(flaw) = flaw {
             let (outcome, lines) = told(self.alloc, self.set, flaw)?;
             return Ok(Need::Settled(outcome, lines));
@@ -160,18 +154,7 @@ impl<'a> Feed<'a> {
     {
         self.over = true;
         let mut place = self.window.place();
-        let ended = run_to_end(
-            self.set,
-            &self.lexer,
-            &mut self.parser,
-            &mut place,
-        )?;
-        write_ended(
-            self.alloc,
-            self.set,
-            self.parser.forest(),
-            ended,
-            writer,
-        )
+        let ended = run_to_end(self.set, &self.lexer, &mut self.parser, &mut place)?;
+        write_ended(self.alloc, self.set, self.parser.forest(), ended, writer)
     }
 }

@@ -20,7 +20,7 @@ pub enum FeedFault {
     /// More than 2^64-1 bytes have come.
     #[error("the text is too long")]
     TooLong,
-    /// A growth was refused, or the text's tokens have 2^48 bytes or more, or its tree as many children.
+    /// A growth was refused, or the tree has more than 2^48 long leaves or nodes, which no memory holds.
     #[error("out of memory")]
     OutOfMemory,
 }

@@ -1,6 +1,7 @@
 //! The lexer of a table set.
 ghost use Rattle.std.specs.Int.{w16};
-ghost use Rattle.std.specs.Prelude.{◌≡◌, ◌<◌, ◌*◌, ℕ, length, map, slice_get, slice_index, slice_index_or, IfOk, IfSome};
+ghost use Rattle.std.specs.Prelude.{◌≡◌, ◌<◌, ◌*◌, ℕ, length, map, slice_get, slice_index, slice_index_or};
+ghost use Rattle.std.specs.Prelude.{IfOk, IfSome};
 ghost use Rattle.std.specs.Prelude.{None, Some};
 ghost use Rattle.ly_base.specs.declared.numbers.StateNo as number;
 ghost use Rattle.ly_drive.specs.ScanPart.{scan_part_of, scanner_in, states_from};

@@ -2,9 +2,9 @@
 //!
 //! `drive` reads a table file, and `run` takes a table set: the scanner of the set takes the text apart, its parser
 //! reads the tokens one by one, and the tree, or the lines that say what is wrong, are written once they are known
-//! (`TableAnswer`). Both read the text in pieces, into a `Feed`, which whoever has the pieces may feed as well: it holds
-//! the match that isn't decided yet, and gives up the rest. Scanner and parser run over the tables alone, so nothing here
-//! knows of lex and yacc files.
+//! (`TableAnswer`). Both read the text in pieces, into a `Feed`, which whoever has the pieces may feed as well: it
+//! holds the match that isn't decided yet, and gives up the rest. Scanner and parser run over the tables alone, so
+//! nothing here knows of lex and yacc files.
 //!
 //! Left out: what tables say of the files that they were generated from.
 #![tactic(auto)]

@@ -1,3 +1,8 @@
+ghost use Rattle.std.specs.Prelude.{◌≡◌};
+ghost use Rattle.ly_drive.specs.declared.run_fault.RunFault.TheVariants.{OutOfMemory};
+
+use ly_base::OutOfMemory as NoMemory;
+
 /// Why a run over what has come of a text has nothing to say.
 #[derive(Clone, Copy)]
 pub(crate) enum RunFault {
@@ -5,4 +10,12 @@ pub(crate) enum RunFault {
     TableFault,
     /// A growth was refused.
     OutOfMemory,
+}
+
+impl From<NoMemory> for RunFault {
+    ghost from_gives = { λ _ e. e ≡ OutOfMemory };
+
+    fn from(_error: NoMemory) -> RunFault {
+        RunFault::OutOfMemory
+    }
 }

@@ -1,18 +1,21 @@
-ghost use Rattle.std.specs.Prelude.{◌≡◌, ◌<◌, ◌≤◌, ℕ, List, [], Bool, length, false};
+ghost use Rattle.std.specs.Prelude.{◌≡◌, ◌<◌, ◌≤◌, ℕ, List, [], Bool, IfOk, length, false};
 ghost use Rattle.ly_drive.specs.Private.Flaw.{token_of};
 ghost use Rattle.ly_drive.specs.Private.LexerOf.{IsLexerOf};
-ghost use Rattle.ly_drive.specs.Private.Running.{progress_of, CanRun, IsClosed, IsFed, IsLast, IsRunOn, IsTaken};
+ghost use Rattle.ly_drive.specs.Private.Running.{progress_of, CanRun, HasToken, IsClosed, IsFed, IsLast, IsRefusalAt};
+ghost use Rattle.ly_drive.specs.Private.Running.{IsRunOn};
+ghost use Rattle.ly_drive.specs.Private.Running.{IsTaken};
 ghost use Rattle.ly_drive.specs.ScanPart.{scan_part_of, scanner_in, terminal_by, terminal_in};
 ghost use Rattle.ly_pack.specs.Machine.{IsMachine};
+ghost use Rattle.ly_parse.specs.Parse.{IsTellable};
 ghost use Rattle.ly_scan.specs.Pieces.{StandsFast};
 ghost use Rattle.ly_tables.specs.TableSet.{machine_of};
 
 use crate::flaw::Flaw;
 use crate::meaning::{action, terminal};
 use crate::run_fault::RunFault;
-use ly_base::{Emitted, End, Front, Lexeme, Place, ScanAction, StateNo, Sym};
+use ly_base::{Emitted, End, Front, Lexeme, OutOfMemory, Place, ScanAction, StateNo, Sym};
 use ly_pack::{Comb, TableAction};
-use ly_parse::{ParseFault, Parser, Step, Token};
+use ly_parse::{Answer, ParseFault, Parser, Refusal, Step, Token};
 use ly_scan::Lexer;
 use ly_tables::TableSet;
 use ly_tree::TermRef;
@@ -34,8 +37,8 @@ pub(crate) fn run_on<'t>(
     requires runs { CanRun (scan_part_of set.now) (machine_of set.now) }
     requires machine { parser.old.machine ≡ machine_of set.now }
     requires goes_on { parser.old.over ≡ false }
-    ensures runs { IsRunOn ended (scan_part_of set.now) (machine_of set.now) (progress_of place.old parser.old) place.new
-        parser.new result }
+    ensures runs { IsRunOn ended (scan_part_of set.now) (machine_of set.now) (progress_of place.old parser.old)
+        place.new parser.new result }
     ensures machine { parser.new.machine ≡ parser.old.machine }
 {
     loop {
@@ -48,23 +51,37 @@ pub(crate) fn run_on<'t>(
             Err(End::BadCut { .. }) => return Err(RunFault::TableFault),
         };
         let ScanAction { begin, emits } = action(set, lexeme.rule);
-        if let Some(flaw) = take(set, parser, place, lexeme, emits)? {
-            return Ok(Some(flaw));
+        match take(set, parser, place, lexeme, emits) {
+            Taken::Goes => place.advance(lexeme.taken, begin),
+            Taken::Refused => return Ok(Some(refusal(set, parser, place, lexeme, emits)?)),
+            Taken::TableFault => return Err(RunFault::TableFault),
+            Taken::OutOfMemory => return Err(RunFault::OutOfMemory),
         }
-        place.advance(lexeme.taken, begin);
     }
 }
 
-/// Takes a lexeme at a place: feeds the parser with its token, if its rule has one come of it. Answers what is wrong
-/// where the token is refused.
-#[inline(always)] // so that a token that is read isn't handed on in memory
-fn take<'t>(
+/// What becomes of a lexeme. It has no fields, so that it goes through a register.
+#[derive(Clone, Copy)]
+enum Taken {
+    /// The run goes on behind it: it has no token, or its token is read.
+    Goes,
+    /// Its token is refused.
+    Refused,
+    /// The tables are at fault on its token.
+    TableFault,
+    /// A growth was refused.
+    OutOfMemory,
+}
+
+/// Takes a lexeme at a place: feeds the parser with its token, if its rule has one come of it.
+#[inline(always)] // by a call a token takes a fifteenth more instructions
+fn take(
     set: &TableSet,
     parser: &mut TableParser<'_>,
-    place: &Place<'t>,
+    place: &Place<'_>,
     lexeme: Lexeme,
     emits: Emitted,
-) -> Result<Option<Flaw<'t>>, RunFault>
+) -> Taken
     requires runs { CanRun (scan_part_of set.now) (machine_of set.now) }
     requires machine { parser.old.machine ≡ machine_of set.now }
     requires goes_on { parser.old.over ≡ false }
@@ -79,46 +96,62 @@ fn take<'t>(
 {
     let text = Front::new(place.rest(), lexeme.taken);
     let Some(terminal) = terminal(set, emits, text.bytes()) else {
-        return Ok(None);
+        return Taken::Goes;
     };
     let at = place.at() as u64;
-    feed(parser, Token { terminal, at, text })
+    feed(parser, &Token { terminal, at, text })
 }
 
-/// Feeds a parser with a token of the text, and answers what is wrong where the token is refused.
+/// Feeds a parser with a token of the text.
 #[inline(always)] // likewise
-fn feed<'t>(
-    parser: &mut TableParser<'_>,
-    token: Token<'t>,
-) -> Result<Option<Flaw<'t>>, RunFault>
+fn feed(parser: &mut TableParser<'_>, token: &Token<'_>) -> Taken
     requires machine { IsMachine parser.old.machine }
     requires goes_on { parser.old.over ≡ false }
-    requires not_end { 1 ≤ token.terminal.0 }
-    requires terminal { token.terminal.0 < parser.old.machine.terminals }
-    ensures fed { IsFed parser.old (token_of token.entry) parser.new result }
+    requires not_end { 1 ≤ token.now.terminal.0 }
+    requires terminal { token.now.terminal.0 < parser.old.machine.terminals }
+    ensures fed { IsFed parser.old (token_of token.now) parser.new result }
     ensures machine { parser.new.machine ≡ parser.old.machine }
 {
-    match parser.feed(&token) {
-        Ok(Step::More) => Ok(None),
-        Ok(
-            Step::Refused {
-                token: number,
-                expected,
-                ..
-            },
-        ) => Ok(
-            Some(Flaw::Refused {
-                number,
-                token,
-                expected,
-            }),
-        ),
-        Err(ParseFault::TableFault) => Err(RunFault::TableFault),
-        Err(ParseFault::OutOfMemory) => Err(RunFault::OutOfMemory),
+    match parser.take(token) {
+        Answer::Reads => Taken::Goes,
+        Answer::Refuses => Taken::Refused,
+        Answer::TableFault => Taken::TableFault,
+        Answer::OutOfMemory => Taken::OutOfMemory,
         // the end alone is accepted
-        Ok(Step::Done(_)) => unreachable!(),
-        Err(ParseFault::Over) => unreachable!(),
+        Answer::Accepts => unreachable!(),
+        Answer::Over => unreachable!(),
     }
+}
+
+/// What is wrong where the token of a lexeme was refused.
+#[inline(never)] // so that a token that is read has the registers
+fn refusal<'t>(
+    set: &TableSet,
+    parser: &TableParser<'_>,
+    place: &Place<'t>,
+    lexeme: Lexeme,
+    emits: Emitted,
+) -> Result<Flaw<'t>, OutOfMemory>
+    requires some { 1 ≤ lexeme.taken }
+    requires within { lexeme.taken ≤ length place.now.rest }
+    requires emits { (bytes : List ℕ) → terminal_by (scan_part_of set.now) bytes emits
+        ≡ terminal_in (scan_part_of set.now) lexeme.rule.0 bytes }
+    requires token { HasToken (scan_part_of set.now) place.now lexeme }
+    requires tellable { IsTellable parser.now }
+    ensures { IfOk result (IsRefusalAt (scan_part_of set.now) place.now lexeme parser.now) }
+{
+    let text = Front::new(place.rest(), lexeme.taken);
+    let Some(terminal) = terminal(set, emits, text.bytes()) else {
+        unreachable!();
+    };
+    let Refusal { number, expected } = parser.refusal()?;
+    let at = place.at() as u64;
+    let token = Token { terminal, at, text };
+    Ok(Flaw::Refused {
+        number,
+        token,
+        expected,
+    })
 }
 
 /// What comes of a text that has ended.
@@ -152,10 +185,7 @@ pub(crate) fn run_to_end<'t>(
 }
 
 /// Feeds a parser with the end of the text, which stands at a place.
-fn close<'t>(
-    parser: &mut TableParser<'_>,
-    place: &Place<'t>,
-) -> Result<Ended<'t>, RunFault>
+fn close<'t>(parser: &mut TableParser<'_>, place: &Place<'t>) -> Result<Ended<'t>, RunFault>
     requires goes_on { parser.old.over ≡ false }
     requires terminals { 0 < parser.old.machine.terminals }
     requires ended { place.now.rest ≡ [] }
@@ -177,13 +207,11 @@ fn close<'t>(
                 at,
                 text: Front::new(place.rest(), 0),
             };
-            Ok(
-                Ended::Refused(Flaw::Refused {
-                    number,
-                    token,
-                    expected,
-                }),
-            )
+            Ok(Ended::Refused(Flaw::Refused {
+                number,
+                token,
+                expected,
+            }))
         }
         Err(ParseFault::TableFault) => Err(RunFault::TableFault),
         Err(ParseFault::OutOfMemory) => Err(RunFault::OutOfMemory),

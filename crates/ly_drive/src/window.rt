@@ -56,16 +56,11 @@ impl Window {
     pub(crate) fn place(&self) -> Place<'_>
         ensures { result ≡ self.now }
     {
-        Place::behind(
-            &self.held,
-            self.given_up,
-            self.line,
-            self.condition,
-        )
+        Place::behind(&self.held, self.given_up, self.line, self.condition)
     }
 
-    /// Takes the next bytes of the text. It fails with `TooLong` where they are more than can be counted, and else where
-    /// memory runs out.
+    /// Takes the next bytes of the text. It fails with `TooLong` where they are more than can be counted, and else
+    /// where memory runs out.
     pub(crate) fn push(&mut self, bytes: &[u8]) -> Result<(), FeedFault>
         ensures ok { OnOk result (self.new ≡ behind self.old bytes.now) }
         ensures countable { OnOk result (self.old.at + length self.old.rest + length bytes.now < 2 ^ 64) }

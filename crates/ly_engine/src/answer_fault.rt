@@ -21,7 +21,7 @@ pub enum AnswerFault {
         /// How many bytes went out.
         written: usize,
     },
-    /// A growth was refused, or the text's tokens have 2^32 bytes or more, or its tree as many nodes or children.
+    /// A growth was refused, or the tree has more than 2^48 long leaves or nodes, which no memory holds.
     /// Nothing was written.
     #[error("out of memory")]
     OutOfMemory,

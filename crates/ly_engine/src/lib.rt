@@ -3,8 +3,8 @@
 //! what these promise (`IsGenerated`), by a law (`tables_answer_as_specified`); without conflicts that is what the
 //! derivations of the text's tokens say (`sentences_are_answered`).
 //!
-//! What an embedder needs beside these is handed on: `tokens` for a lex file alone, `drive` for a table file, and `Feed`
-//! for a text that comes in pieces.
+//! What an embedder needs beside these is handed on: `tokens` for a lex file alone, `drive` for a table file, and
+//! `Feed` for a text that comes in pieces.
 //!
 //! Left out: files, words and lines of faults, which are the program's.
 #![tactic(auto)]

@@ -1,15 +1,17 @@
 -- What a call with a token does.
-use Rattle.std.proofs.Common.{◌≡◌, ℕ, ◌+◌, ◌<◌, List, ◌∷◌, refl, sym, ap, ◌∙◌, subst, Err, Ok}
+use Rattle.std.proofs.Common.{◌≡◌, ℕ, ◌+◌, ◌<◌, List, [], ◌∷◌, length, refl, sym, ap, ◌∙◌, arith, subst, Err, Ok}
 use Rattle.std.specs.Prelude.{Bool, false, true, All, Result, map}
 use Rattle.ly_base.specs.Lexed.{Token}
 use Rattle.ly_pack.specs.Machine.{Machine, accept, action_of, error, shift, states_of}
 use Rattle.ly_pack.specs.SteadyLaws.{IsStack}
 use Rattle.ly_parse.specs.Expected.{AreExpected}
-use Rattle.ly_parse.specs.Feeding.{done, faulty, pushed, refused, settles, states_on, top_of}
-use Rattle.ly_parse.specs.Parse.{IsCall, Parse}
-use Rattle.ly_parse.specs.Private.Answered.{IsRefusal, IsTellable}
+use Rattle.ly_parse.specs.Feeding.{Level, done, faulty, pushed, refused, settles, states_on, top_of}
+use Rattle.ly_parse.specs.Parse.{ends_by, is_last, Comes, IsCall, IsTake, IsTellable, Parse, Takes}
+use Rattle.ly_parse.specs.Private.Answered.{with_note, IsAcceptance, IsTold}
 use Rattle.ly_parse.specs.Private.Before.{before_on, IsNoteOf}
-use Rattle.ly_parse.specs.Private.Stack.{parse_from, stack_from, FeedAlike, IsAccepted, IsParse}
+use Rattle.ly_parse.specs.Private.Stack.{parse_from, stack_from, FeedAlike, IsParse}
+use Rattle.ly_parse.specs.declared.answer.Answer.{Answer}
+use Rattle.ly_parse.specs.declared.answer.Answer.TheVariants as answers
 use Rattle.ly_parse.specs.declared.before.Before.{Before}
 use Rattle.ly_parse.specs.declared.fault.ParseFault.{ParseFault}
 use Rattle.ly_parse.specs.declared.fault.ParseFault.TheVariants.{OutOfMemory, Over, TableFault}
@@ -18,91 +20,150 @@ use Rattle.ly_parse.specs.declared.step.Step as step
 use Rattle.ly_parse.specs.declared.step.Step.TheVariants.{Done, More, Refused}
 use Rattle.ly_parse.proofs.BeforeLemmas.{states_known}
 use Rattle.ly_parse.proofs.FeedingLemmas.{feeds_by}
-use Rattle.ly_tree.specs.Forest.{Grown}
+use Rattle.ly_parse.proofs.StackLemmas.{length-stack_from}
+use Rattle.ly_tree.specs.Forest.{Grown, StandsFor}
 use Rattle.ly_tree.specs.Term.{leaf}
 
 not_over : {A : Type 0} (b : Bool) → b ≡ false → b ≡ true → A
 not_over b e f = absurd (let no : true ≡ false = sym f ∙ e in cc)
 
--- A parse that isn't over, and the parse before the token is settled: a token becomes the same on both.
-module _ (m : Machine) (f : Grown) (levels : List code.Level) (p : Parse) (count : ℕ) (over : Bool) (token : Token ℕ)
-    (view : parse_from m f levels count over ≡ p) (goes : over ≡ false) (s : Parse)
-    (alike : FeedAlike m token.terminal s.stack (stack_from f levels)) (machine : s.machine ≡ m)
-    (counted : s.count ≡ count) where
-  -- the token is read
-  pub reads : (state : ℕ) (q : Parse) → action_of m (top_of s.stack) token.terminal ≡ shift state
-      → q.stack ≡ record { state = state; term = leaf token.terminal token.bytes } ∷ s.stack
-      → q.count ≡ s.count + 1 → q.machine ≡ s.machine → q.over ≡ false → IsCall p token q (Ok More)
-  reads state q action stack more same still =
-      let fed = alike token (pushed q.stack) refl (feeds_by m token s.stack (shift state) (pushed q.stack) action
-      (ap (λ w. settles (pushed w)) (sym stack))) in
-      subst (λ x. IsCall x token q (Ok More)) view (record {
-        after_end = not_over over goes;
-        before_end = λ _. (fed, more ∙ ap (λ n. n + 1) counted);
-        machine = same ∙ machine;
-        over = still;
-      })
+-- tables that accept where something stands on the bottom accept with a term
+some_accepts : (stack : List Level) → 0 < length stack → IsAcceptance stack answers.Accepts
+some_accepts [] some = absurd (omega (arith, some))
+some_accepts (l ∷ stack) some = (l.term, refl)
 
-  -- the tables accept
-  pub accepts_call : (r : Result step.Step ParseFault) → action_of m (top_of s.stack) token.terminal ≡ accept
-      → s.over ≡ true → IsAccepted s.forest s.stack r → IsCall p token s r
-  accepts_call (Ok (Done root)) action ended a =
-      let fed = alike token (done a.0) refl (feeds_by m token s.stack accept (done a.0) action a.1) in
-      subst (λ x. IsCall x token s (Ok (Done root))) view (record {
-        after_end = not_over over goes;
-        before_end = λ _. (a.0, fed, a.2);
-        machine = machine;
-        over = ended;
-      })
-  accepts_call (Err TableFault) action ended a =
-      let fed = alike token faulty refl (feeds_by m token s.stack accept faulty action a) in
-      subst (λ x. IsCall x token s (Err TableFault)) view (record {
-        after_end = not_over over goes;
-        before_end = λ _. fed;
-        machine = machine;
-        over = ended;
-      })
-  accepts_call (Ok More) action ended a = absurd a
-  accepts_call (Ok (Refused t b ts)) action ended a = absurd a
-  accepts_call (Err Over) action ended a = absurd a
-  accepts_call (Err OutOfMemory) action ended a = absurd a
-
-  -- they refuse the token, and list what is expected from the stack as it was
-  pub refuses_call : (r : Result step.Step ParseFault) (b : Before)
-      → action_of m (top_of s.stack) token.terminal ≡ error → s.over ≡ true
-      → IsNoteOf (states_on (stack_from f levels)) s.stack b → IsRefusal s b token.at r → IsCall p token s r
-  refuses_call (Ok (Refused k at ts)) b action ended note told =
-      let fed = alike token refused refl (feeds_by m token s.stack error refused action refl) in
-      let list = subst (λ w. AreExpected s.machine w (map (λ t. t.0) ts.items)) note.same told.0.2 in
-      subst (λ x. IsCall x token s (Ok (Refused k at ts))) view (record {
-        after_end = not_over over goes;
-        before_end = λ _. (
-          fed,
-          told.0.0 ∙ ap (λ n. n + 1) counted,
-          told.0.1,
-          subst (λ x. AreExpected x (states_on (stack_from f levels)) (map (λ t. t.0) ts.items)) machine list,
-        );
-        machine = machine;
-        over = ended;
-      })
-  refuses_call (Ok (Done root)) b action ended note told = absurd told.0
-  refuses_call (Ok More) b action ended note told = absurd told.0
-  refuses_call (Err e) b action ended note told =
-      subst (λ d. IsCall p token s (Err d)) (sym told.1)
-      (subst (λ x. IsCall x token s (Err OutOfMemory)) view (record {
-        after_end = not_over over goes;
-        before_end = λ _. tt;
-        machine = machine;
-        over = ended;
-      }))
+pub accepts_some : (m : Machine) (f : Grown) (levels : List code.Level) (p : Parse) (count : ℕ) (over : Bool)
+    → parse_from m f levels count over ≡ p → 0 < length levels → IsAcceptance p.stack answers.Accepts
+accepts_some m f levels p count over view some =
+    subst (λ q. IsAcceptance q.stack answers.Accepts) view
+    (some_accepts (stack_from f levels) (omega (arith, some, length-stack_from f levels)))
 
 -- A refusal can be told from the states that a stack had before: they are known, and neighbours were edges.
-pub tellable : (m : Machine) (f : Grown) (levels : List code.Level) (h : IsParse m f levels) (s : Parse)
+tellable : (m : Machine) (f : Grown) (levels : List code.Level) (h : IsParse m f levels) (s : Parse)
     (machine : s.machine ≡ m) (b : Before) (note : IsNoteOf (states_on (stack_from f levels)) s.stack b)
-    → IsTellable s b
+    → IsTellable (with_note s b)
 tellable m f levels h s machine b note = record {
-  kept = note.kept;
   states = subst (λ x. All (λ k. k < states_of x) (before_on s.stack b)) (sym machine)
       (subst (All (λ k. k < states_of m)) (sym note.same) (states_known m f levels h));
   edges = subst (λ x. IsStack x (before_on s.stack b)) (sym machine) (subst (IsStack m) (sym note.same) h.edges);
 }
+
+-- A parse that isn't over, with the note it has, and the parse before the token is settled: a token becomes the same on
+-- both.
+module _ (m : Machine) (f : Grown) (levels : List code.Level) (p : Parse) (count : ℕ) (over : Bool) (token : Token ℕ)
+    (view : parse_from m f levels count over ≡ p) (goes : over ≡ false) (a : Before) (s : Parse)
+    (alike : FeedAlike m token.terminal s.stack (stack_from f levels)) (machine : s.machine ≡ m)
+    (counted : s.count ≡ count) where
+  comes : (q : Parse) (b : Before) (answer : Answer)
+      → Comes (with_note (parse_from m f levels count over) a) token (with_note q b) answer → q.machine ≡ m
+      → q.over ≡ ends_by answer → IsTake (with_note p a) token (with_note q b) answer
+  comes q b answer took same ended =
+      subst (λ x. IsTake (with_note x a) token (with_note q b) answer) view (record {
+        after_end = not_over over goes;
+        before_end = λ _. took;
+        machine = same;
+        over = ended;
+      })
+
+  -- the token is read
+  pub reads : (state : ℕ) (q : Parse) (b : Before) → action_of m (top_of s.stack) token.terminal ≡ shift state
+      → q.stack ≡ record { state = state; term = leaf token.terminal token.bytes } ∷ s.stack
+      → q.count ≡ s.count + 1 → q.machine ≡ s.machine → q.over ≡ false
+      → IsTake (with_note p a) token (with_note q b) answers.Reads
+  reads state q b action stack more same still =
+      let fed = alike token (pushed q.stack) refl (feeds_by m token s.stack (shift state) (pushed q.stack) action
+      (ap (λ w. settles (pushed w)) (sym stack))) in
+      comes q b answers.Reads (fed, more ∙ ap (λ n. n + 1) counted) (same ∙ machine) still
+
+  -- the tables accept
+  pub accepts_token : (answer : Answer) (b : Before) → action_of m (top_of s.stack) token.terminal ≡ accept
+      → s.over ≡ true → IsAcceptance s.stack answer → IsTake (with_note p a) token (with_note s b) answer
+  accepts_token answers.Accepts b action ended x =
+      let fed = alike token (done x.0) refl (feeds_by m token s.stack accept (done x.0) action x.1) in
+      comes s b answers.Accepts (x.0, fed, x.1) machine ended
+  accepts_token answers.TableFault b action ended x =
+      let fed = alike token faulty refl (feeds_by m token s.stack accept faulty action x) in
+      comes s b answers.TableFault fed machine ended
+  accepts_token answers.Reads b action ended x = absurd x
+  accepts_token answers.Refuses b action ended x = absurd x
+  accepts_token answers.Over b action ended x = absurd x
+  accepts_token answers.OutOfMemory b action ended x = absurd x
+
+  -- they refuse the token, and what the stack was is noted
+  pub refuses_token : (b : Before) → IsParse m f levels → action_of m (top_of s.stack) token.terminal ≡ error
+      → s.over ≡ true → IsNoteOf (states_on (stack_from f levels)) s.stack b
+      → IsTake (with_note p a) token (with_note s b) answers.Refuses
+  refuses_token b h action ended note =
+      let fed = alike token refused refl (feeds_by m token s.stack error refused action refl) in
+      comes s b answers.Refuses (fed, note.same, counted, tellable m f levels h s machine b note) machine ended
+
+-- A call that came to an answer, and what is told of it.
+module _ (p : Parse) (t : Token ℕ) (q : Parse) where
+  -- a refusal can be told where a token was refused
+  pub refusal_told : (answer : Answer) → IsTake p t q answer → answer ≡ answers.Refuses → IsTellable q
+  refusal_told answer took is = by p.over refl (subst (IsTake p t q) is took)
+    where
+      by : (over : Bool) → p.over ≡ over → IsTake p t q answers.Refuses → IsTellable q
+      by true e h = absurd (let no : answers.Refuses ≡ answers.Over = (h.after_end e).0 in cc)
+      by false e h = (h.before_end e).3
+
+  told_of : (answer : Answer) (r : Result step.Step ParseFault) → (answer ≡ answers.Over → ⊥) → IsTake p t q answer
+      → (Comes p t q answer → Takes p t q r) → ends_by answer ≡ is_last r → IsCall p t q r
+  told_of answer r not_over h tells ended = record {
+    after_end = λ e. absurd (not_over (h.after_end e).0);
+    before_end = λ e. tells (h.before_end e);
+    machine = h.machine;
+    over = h.over ∙ ended;
+  }
+
+  -- the tables accept with the term that is told
+  accepted : (r : Result step.Step ParseFault) → IsTake p t q answers.Accepts → IsTold q t.at answers.Accepts r
+      → IsCall p t q r
+  accepted (Ok (Done root)) h told = told_of answers.Accepts (Ok (Done root)) (λ e. cc) h (λ x. (
+    x.0,
+    x.1,
+    (let one : settles (done told.0) ≡ settles (done x.0) = sym told.1 ∙ x.2 in
+        let same : told.0 ≡ x.0 = cc in
+        subst (StandsFor q.forest root) same told.2),
+  )) refl
+  accepted (Err TableFault) h told = told_of answers.Accepts (Err TableFault) (λ e. cc) h
+      (λ x. absurd (let no : settles faulty ≡ settles (done x.0) = sym told ∙ x.2 in cc)) refl
+  accepted (Ok More) h told = absurd told
+  accepted (Ok (Refused k at ts)) h told = absurd told
+  accepted (Err Over) h told = absurd told
+  accepted (Err OutOfMemory) h told = absurd told
+
+  -- they refuse the token, and what is expected is listed from the stack as it was
+  refused_call : (r : Result step.Step ParseFault) → IsTake p t q answers.Refuses → IsTold q t.at answers.Refuses r
+      → IsCall p t q r
+  refused_call (Ok (Refused k at ts)) h told = told_of answers.Refuses (Ok (Refused k at ts)) (λ e. cc) h (λ x. (
+    x.0,
+    told.0.0 ∙ ap (λ n. n + 1) x.2,
+    told.0.1,
+    subst (λ m. AreExpected m (states_on p.stack) (map (λ s. s.0) ts.items)) h.machine
+        (subst (λ w. AreExpected q.machine w (map (λ s. s.0) ts.items)) x.1 told.0.2),
+  )) refl
+  refused_call (Ok (Done root)) h told = absurd told.0
+  refused_call (Ok More) h told = absurd told.0
+  refused_call (Err e) h told =
+      subst (λ d. IsCall p t q (Err d)) (sym told.1)
+      (told_of answers.Refuses (Err OutOfMemory) (λ e. cc) h (λ x. tt) refl)
+
+  -- what is told of a call is an answer of the call
+  pub told_call : (answer : Answer) (r : Result step.Step ParseFault) → IsTake p t q answer → IsTold q t.at answer r
+      → IsCall p t q r
+  told_call answers.Reads r h told =
+      subst (IsCall p t q) (sym told) (told_of answers.Reads (Ok More) (λ e. cc) h (λ x. x) refl)
+  told_call answers.Accepts r h told = accepted r h told
+  told_call answers.Refuses r h told = refused_call r h told
+  told_call answers.TableFault r h told =
+      subst (IsCall p t q) (sym told) (told_of answers.TableFault (Err TableFault) (λ e. cc) h (λ x. x) refl)
+  told_call answers.Over r h told =
+      subst (IsCall p t q) (sym told) (record {
+        after_end = λ e. (refl, (h.after_end e).1);
+        before_end = λ e. h.before_end e;
+        machine = h.machine;
+        over = h.over;
+      })
+  told_call answers.OutOfMemory r h told =
+      subst (IsCall p t q) (sym told) (told_of answers.OutOfMemory (Err OutOfMemory) (λ e. cc) h (λ x. tt) refl)

@@ -1,9 +1,12 @@
 -- What a parser holds, and what a call of it does.
-use Rattle.std.specs.Prelude.{◌≡◌, ℕ, ◌+◌, List, Bool, true, false, Result, Ok, Err, map}
+use Rattle.std.specs.Prelude.{◌≡◌, ℕ, ◌+◌, ◌<◌, List, All, Bool, true, false, None, Option, Some, Result, Ok, Err, map}
 use Rattle.ly_base.specs.Lexed.{Token}
-use Rattle.ly_pack.specs.Machine.{Machine}
+use Rattle.ly_pack.specs.Machine.{Machine, states_of}
+use Rattle.ly_pack.specs.SteadyLaws.{IsStack}
 use Rattle.ly_parse.specs.Expected.{AreExpected}
-use Rattle.ly_parse.specs.Feeding.{Feeds, Level, done, faulty, pushed, refused, states_on}
+use Rattle.ly_parse.specs.Feeding.{Feeds, Level, accept_with, done, faulty, pushed, refused, settles, states_on}
+use Rattle.ly_parse.specs.declared.answer.Answer.{Answer}
+use Rattle.ly_parse.specs.declared.answer.Answer.TheVariants as answers
 use Rattle.ly_parse.specs.declared.fault.ParseFault.{ParseFault}
 use Rattle.ly_parse.specs.declared.fault.ParseFault.TheVariants.{OutOfMemory, Over, TableFault}
 use Rattle.ly_parse.specs.declared.step.Step as code
@@ -11,13 +14,16 @@ use Rattle.ly_parse.specs.declared.step.Step.TheVariants.{Done, More, Refused}
 use Rattle.ly_tree.specs.Forest.{Grown, StandsFor}
 use Rattle.ly_tree.specs.Term.{Term}
 
--- A parse: the tables, the forest, the stack, its top first, how many tokens were read, and whether it is over.
+-- A parse: the tables, the forest, the stack, its top first, how many tokens were read, and whether it is over. And the
+-- states that the stack had before the last token, the top's first and the bottom's last: they say something behind a
+-- refusal alone, where they are those before the token that was refused.
 pub record Parse : Type 0 where
   pub machine : Machine
   pub forest : Grown
   pub stack : List Level
   pub count : ℕ
   pub over : Bool
+  pub asked : List ℕ
 
 -- What a parse that isn't over does with a token, by what is answered: it goes on behind the token, it ends with a
 -- term, it refuses the token, which it counts, and lists the terminals that are expected in its place, from the stack
@@ -42,3 +48,39 @@ pub record IsCall (p : Parse) (t : Token ℕ) (q : Parse) (answer : Result code.
   pub before_end : p.over ≡ false → Takes p t q answer
   pub machine : q.machine ≡ p.machine
   pub over : q.over ≡ is_last answer
+
+-- A refusal can be told from the states that the stack had: they are states of the tables, and neighbours are edges.
+pub record IsTellable (q : Parse) : Type 0 where
+  pub states : All (λ s. s < states_of q.machine) q.asked
+  pub edges : IsStack q.machine q.asked
+
+-- What a parse that isn't over does with a token, by the small answer: it goes on behind the token; it accepts with the
+-- term on top of its stack; it refuses the token, of which a refusal can be told, from the stack as it stood before the
+-- call; or the tables are at fault. Want of memory says nothing.
+abbrev pub Comes : Parse → Token ℕ → Parse → Answer → Type 0
+Comes p t q answers.Reads = Feeds p.machine t p.stack (pushed q.stack) × (q.count ≡ p.count + 1)
+Comes p t q answers.Accepts = (d : Term) × Feeds p.machine t p.stack (done d) × (accept_with q.stack ≡ settles (done d))
+Comes p t q answers.Refuses = Feeds p.machine t p.stack refused × (q.asked ≡ states_on p.stack)
+    × (q.count ≡ p.count) × IsTellable q
+Comes p t q answers.TableFault = Feeds p.machine t p.stack faulty
+Comes p t q answers.Over = ⊥
+Comes p t q answers.OutOfMemory = Unit {0}
+
+-- whether a parse is over after a small answer
+abbrev pub ends_by : Answer → Bool
+ends_by answers.Reads = false
+ends_by _ = true
+
+-- What a call with a token comes to: a parse that is over stays as it is, and says so; any other takes the token.
+pub record IsTake (p : Parse) (t : Token ℕ) (q : Parse) (answer : Answer) : Type 0 where
+  pub after_end : p.over ≡ true → (answer ≡ answers.Over) × (q ≡ p)
+  pub before_end : p.over ≡ false → Comes p t q answer
+  pub machine : q.machine ≡ p.machine
+  pub over : q.over ≡ ends_by answer
+
+-- the fault that a call comes to, if it comes to one
+abbrev pub fault_in : Answer → Option ParseFault
+fault_in answers.TableFault = Some TableFault
+fault_in answers.Over = Some Over
+fault_in answers.OutOfMemory = Some OutOfMemory
+fault_in _ = None

@@ -2,26 +2,26 @@ ghost use Rattle.std.specs.Prelude.{◌≡◌, Some};
 
 use crate::fault::ParseFault;
 
-/// What a call comes to. It has no fields, so that it goes through a register: what is told of a term or of a refusal
-/// is asked for then.
-#[derive(Clone, Copy)]
-pub(crate) enum Answer {
+/// What becomes of a token. It has no fields, so that it goes through a register: what there is to tell of a refusal is
+/// asked for by `Parser::refusal`.
+#[derive(Clone, Copy, Debug, PartialEq, Eq)]
+pub enum Answer {
     /// The token is read, and the parse goes on.
     Reads,
-    /// The tables accept.
+    /// The tables accept with the term on top of the stack.
     Accepts,
     /// The token, or the end, is refused.
     Refuses,
-    /// The tables are at fault.
+    /// The tables are at fault, as `ParseFault::TableFault` says.
     TableFault,
     /// The parse was over before the call.
     Over,
-    /// A growth was refused.
+    /// A growth was refused, or the forest has no more numbers, as `ParseFault::OutOfMemory` says.
     OutOfMemory,
 }
 
 impl From<ParseFault> for Answer {
-    ghost use Rattle.ly_parse.specs.Private.Answered.{fault_in};
+    ghost use Rattle.ly_parse.specs.Parse.{fault_in};
 
     ghost from_gives = { λ fault answer. fault_in answer ≡ Some fault };
 

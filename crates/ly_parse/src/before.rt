@@ -1,6 +1,6 @@
 //! What a stack was before the token that a parse is at, while reductions take it down.
-ghost use Rattle.std.specs.Prelude.{◌≡◌, ◌≤◌, IfOk, None, OnOk, length};
-ghost use Rattle.ly_parse.specs.Private.Before.{before_of, levels_with_top, noted_before};
+ghost use Rattle.std.specs.Prelude.{◌≡◌, ◌≤◌, [], ◌∷◌, IfOk, None, OnOk, length};
+ghost use Rattle.ly_parse.specs.Private.Before.{before_of, before_on, levels_with_top, noted_before};
 ghost use Rattle.ly_parse.specs.Private.Copied.{states_in};
 
 use crate::level::Level;
@@ -19,7 +19,9 @@ pub(crate) struct Before {
 
 impl Before {
     /// Nothing is noted.
-    pub(crate) fn new(alloc: Global) -> Self {
+    pub(crate) fn new(alloc: Global) -> Self
+        ensures { before_on [] result ≡ 0 ∷ [] }
+    {
         Before {
             kept: 0,
             popped: Vec::new(alloc),
@@ -64,11 +66,11 @@ impl Before {
 
     /// The states that the stack had above the bottom, the top last.
     pub(crate) fn states(&self, alloc: Global, stack: &[Level]) -> Result<Vec<StateNo>, AllocError>
-        requires { self.now.kept ≤ length stack.now }
         ensures { IfOk result (λ states. states_in states.items ≡ before_of stack.now self.now) }
     {
         let mut states = Vec::new(alloc);
-        for place in 0..self.kept {
+        // behind a token that is read the stack may be lower than what is kept
+        for place in 0..self.kept.min(stack.len()) {
             states.push(stack[place].state)?;
         }
         let mut left = self.popped.len();

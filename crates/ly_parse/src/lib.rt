@@ -4,6 +4,7 @@
 //! makes the turns of the tables on its token (`Feeds`): reductions, and then the token is read, accepted with a term
 //! or refused.
 //! It asks for steady tables, so that every call ends.
+//! `take` answers a token by a small value, and `refusal` then tells of one that is refused; `feed` does both.
 //! Where a token is refused, the terminals that are expected in its place are listed, by runs on a copy of the stack as
 //! it stood before the token.
 //! What runs of passes come to, reductions that change a state and no term, it keeps as shortcuts.
@@ -22,6 +23,7 @@ mod level;
 mod listing;
 mod origin;
 mod parser;
+mod refusal;
 mod running;
 mod settled;
 mod shortcut;
@@ -29,8 +31,10 @@ mod shortcuts;
 mod step;
 mod token;
 
+pub use answer::Answer;
 pub use fault::ParseFault;
 pub use laws::a_token_is_fed_in_one_way;
 pub use parser::Parser;
+pub use refusal::Refusal;
 pub use step::Step;
 pub use token::Token;

@@ -1,17 +1,22 @@
-ghost use Rattle.std.specs.Prelude.{◌≡◌, ◌≢◌, ◌<◌, [], Ok, false};
+ghost use Rattle.std.specs.Prelude.{◌≡◌, ◌≢◌, ◌+◌, ◌<◌, [], ◌∷◌, Ok, false, map, IfOk};
 ghost use Rattle.ly_pack.specs.Steady.{IsSteady};
-ghost use Rattle.ly_parse.specs.Parse.{IsCall};
+ghost use Rattle.ly_parse.specs.Expected.{AreExpected};
+ghost use Rattle.ly_parse.specs.Parse.{IsCall, IsTake, IsTellable};
+ghost use Rattle.ly_parse.specs.Private.Answered.{IsRefusal, IsTold};
+ghost use Rattle.ly_parse.specs.declared.answer.Answer.TheVariants as answers;
 ghost use Rattle.ly_parse.specs.declared.step.Step.TheVariants as step;
 ghost use Rattle.ly_tree.specs.Costs.{IsPaid};
 ghost use Rattle.ly_tree.specs.Forest.{no_terms, StandsFor};
 ghost use Rattle.ly_tree.specs.Term.{Term};
 
+use crate::answer::Answer;
 use crate::before::Before;
 use crate::fault::ParseFault;
+use crate::refusal::Refusal;
 use crate::running::Running;
 use crate::step::Step;
 use crate::token::Token;
-use ly_base::StateNo;
+use ly_base::{OutOfMemory, StateNo};
 use ly_pack::{MachineView, Rows, TableAction};
 use ly_tree::{Forest, TermRef};
 use std::alloc::Global;
@@ -22,7 +27,7 @@ use std::marker::Model;
 pub struct Parser<'a, A: Rows<TableAction> + Drop, G: Rows<StateNo> + Drop> {
     /// The parse.
     running: Running<'a, A, G>,
-    /// What its stack was before the token that it is at.
+    /// What its stack was before the token that it refused last.
     before: Before,
 }
 
@@ -30,13 +35,14 @@ impl<'a, A: Rows<TableAction> + Drop, G: Rows<StateNo> + Drop> Model for Parser<
     ghost use Rattle.ly_parse.specs.Parse as value;
     ghost use Rattle.std.specs.Coded.{codes};
     ghost use Rattle.ly_parse.specs.ParseCode.{level_code};
+    ghost use Rattle.ly_parse.specs.Private.Answered.{with_note};
     ghost use Rattle.ly_tree.specs.GrownCode.{grown_code};
 
     ghost Value = { value.Parse };
 
     ghost coded = { Prim.hlevel (codes, level_code, grown_code) };
 
-    ghost view = { λ p. p.running };
+    ghost view = { λ p. with_note p.running p.before };
 }
 
 impl<'a, A: Rows<TableAction> + Drop, G: Rows<StateNo> + Drop> Parser<'a, A, G> {
@@ -49,6 +55,7 @@ impl<'a, A: Rows<TableAction> + Drop, G: Rows<StateNo> + Drop> Parser<'a, A, G> 
           stack = [];
           count = 0;
           over = false;
+          asked = 0 ∷ [];
         } }
     {
         Parser {
@@ -71,12 +78,43 @@ impl<'a, A: Rows<TableAction> + Drop, G: Rows<StateNo> + Drop> Parser<'a, A, G> 
         self.running.into_forest()
     }
 
-    /// Takes a token: makes the reductions before it, and then reads it or refuses it. A refusal lists the terminals
-    /// that would have been read in its place, or accepted with, as the stack stood before the call. After any other
-    /// answer than `More` the parse is over.
+    /// Takes a token: makes the reductions before it, and then reads it or refuses it. After any other answer than
+    /// `Reads` the parse is over. What there is to tell of a token that is refused is asked for by `refusal`.
+    #[inline(always)] // for it is one call
+    pub fn take(&mut self, token: &Token<'_>) -> Answer
+        requires not_end { token.now.terminal.0 ≢ 0 }
+        requires terminal { token.now.terminal.0 < self.old.machine.terminals }
+        ensures { IsTake self.old (record {
+          terminal = token.now.terminal.0;
+          at = token.now.at;
+          bytes = token.now.text;
+        }) self.new result }
+    {
+        self.running.feed(token, &mut self.before)
+    }
+
+    /// What there is to tell of the token that was refused last: its number, and the terminals that would have been
+    /// read in its place, or accepted with, as the stack stood before it.
+    ///
+    /// It fails where memory runs out, or tokens have no more numbers.
+    #[inline(never)] // so that the room of the list is made where a token is refused, and at no other
+    pub fn refusal(&self) -> Result<Refusal, OutOfMemory>
+        requires { IsTellable self.now }
+        ensures number { IfOk result (λ r. r.number ≡ self.now.count + 1) }
+        ensures expected { IfOk result (λ r. AreExpected self.now.machine self.now.asked
+            (map (λ s. s.0) r.expected.items)) }
+    {
+        Ok(Refusal {
+            number: self.running.number()?,
+            expected: self.running.expected(&self.before)?,
+        })
+    }
+
+    /// Takes a token, as `take` does, and tells what there is to tell. A refusal lists the terminals that would have
+    /// been read in its place, or accepted with, as the stack stood before the call. After any other answer than `More`
+    /// the parse is over.
     ///
     /// Its faults are those of `ParseFault`.
-    #[inline(always)] // so that a caller which looks at the step of a token that is read makes none
     pub fn feed(&mut self, token: &Token<'_>) -> Result<Step, ParseFault>
         requires not_end { token.now.terminal.0 ≢ 0 }
         requires terminal { token.now.terminal.0 < self.old.machine.terminals }
@@ -86,8 +124,8 @@ impl<'a, A: Rows<TableAction> + Drop, G: Rows<StateNo> + Drop> Parser<'a, A, G> 
           bytes = token.now.text;
         }) self.new result }
     {
-        let answer = self.running.feed(token, &mut self.before);
-        self.running.step(answer, token.at, &self.before)
+        let answer = self.take(token);
+        self.told(answer, token.at)
     }
 
     /// Takes the end of the text, which stands at this byte: makes the reductions before it, and then accepts or
@@ -103,6 +141,37 @@ impl<'a, A: Rows<TableAction> + Drop, G: Rows<StateNo> + Drop> Parser<'a, A, G> 
             → StandsFor self.new.forest root t → IsPaid self.new.forest t }
     {
         let answer = self.running.end(&mut self.before);
-        self.running.step(answer, at, &self.before)
+        self.told(answer, at)
+    }
+
+    /// What is told of a call that came to this answer, and whose token stands at this byte. A term that is accepted
+    /// uses no part of the forest twice.
+    fn told(&self, answer: Answer, at: u64) -> Result<Step, ParseFault>
+        requires { answer ≡ answers.Refuses → IsTellable self.now }
+        ensures told { IsTold self.now at answer result }
+        ensures paid { (root : TermRef) (t : Term) → result ≡ Ok (step.Done root)
+            → StandsFor self.now.forest root t → IsPaid self.now.forest t }
+    {
+        match answer {
+            Answer::Reads => Ok(Step::More),
+            Answer::Accepts => self.running.accept(),
+            Answer::Refuses => self.refuse(at),
+            Answer::TableFault => Err(ParseFault::TableFault),
+            Answer::Over => Err(ParseFault::Over),
+            Answer::OutOfMemory => Err(ParseFault::OutOfMemory),
+        }
+    }
+
+    /// Refuses the last token, which stands at this byte.
+    fn refuse(&self, at: u64) -> Result<Step, ParseFault>
+        requires { IsTellable self.now }
+        ensures { IsRefusal self.now at result }
+    {
+        let refusal = self.refusal()?;
+        Ok(Step::Refused {
+            token: refusal.number,
+            byte: at,
+            expected: refusal.expected,
+        })
     }
 }

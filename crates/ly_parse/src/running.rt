@@ -1,5 +1,5 @@
 ghost use Rattle.std.specs.Prelude.{◌≡◌, ◌≢◌, ◌<◌, ◌≤◌, ◌+◌, ◌-◌, ◌*◌, ℕ, [], ◌∷◌, Err, None, Ok, false, drop, length};
-ghost use Rattle.std.specs.Prelude.{map, take, IfErr, IfOk, List, OnErr, OnOk};
+ghost use Rattle.std.specs.Prelude.{map, take, IfOk, List, OnErr, OnOk};
 ghost use Rattle.ly_base.specs.Shape.{shape_of};
 ghost use Rattle.ly_pack.specs.Machine.{accept, action_of, error, reduce, shift, states_of, IsLegal};
 ghost use Rattle.ly_pack.specs.Machine.{IsRuleNumber, IsShapeFor};
@@ -7,11 +7,12 @@ ghost use Rattle.ly_pack.specs.Steady.{IsSteady};
 ghost use Rattle.ly_pack.specs.Values.{action_from};
 ghost use Rattle.ly_parse.specs.Expected.{AreExpected};
 ghost use Rattle.ly_parse.specs.Feeding.{faulty, states_on, top_of};
-ghost use Rattle.ly_parse.specs.Private.Answered.{IsAnswered, IsTellable, IsTold};
+ghost use Rattle.ly_parse.specs.Parse.{IsTake, IsTellable};
+ghost use Rattle.ly_parse.specs.Private.Answered.{with_note, IsAcceptance};
 ghost use Rattle.ly_parse.specs.Private.Before.{before_on, with_top, AreAlikeBelow, IsBefore, IsNoteOf, IsOpen};
 ghost use Rattle.ly_parse.specs.Private.Paying.{places_in};
 ghost use Rattle.ly_parse.specs.Private.Stack.{terms_onto, FailsByRule, FeedAlike, FeedAs, IsAccepted, Leads};
-ghost use Rattle.ly_parse.specs.Private.Stack.{IsRefusedWith, LeadsByRule};
+ghost use Rattle.ly_parse.specs.Private.Stack.{LeadsByRule};
 ghost use Rattle.ly_parse.specs.declared.answer.Answer.TheVariants as answers;
 ghost use Rattle.ly_parse.specs.declared.fault.ParseFault.TheVariants as fault;
 ghost use Rattle.ly_parse.specs.declared.settled.Settled.TheVariants as settled;
@@ -86,6 +87,7 @@ impl<'a, A: Rows<TableAction> + Drop, G: Rows<StateNo> + Drop> Running<'a, A, G>
           stack = [];
           count = 0;
           over = false;
+          asked = [];
         } }
     {
         // the call's contract says that all that the tables name is there
@@ -121,12 +123,11 @@ impl<'a, A: Rows<TableAction> + Drop, G: Rows<StateNo> + Drop> Running<'a, A, G>
     pub(crate) fn feed(&mut self, token: &Token<'_>, before: &mut Before) -> Answer
         requires not_end { token.now.terminal.0 ≢ 0 }
         requires terminal { token.now.terminal.0 < self.old.machine.terminals }
-        ensures call { IsAnswered self.old (record {
+        ensures { IsTake (with_note self.old before.old) (record {
           terminal = token.now.terminal.0;
           at = token.now.at;
           bytes = token.now.text;
-        }) self.new before.new result }
-        ensures tellable { result ≡ answers.Refuses → IsTellable self.new before.new }
+        }) (with_note self.new before.new) result }
     {
         if self.over {
             return Answer::Over;
@@ -137,7 +138,7 @@ impl<'a, A: Rows<TableAction> + Drop, G: Rows<StateNo> + Drop> Running<'a, A, G>
                 Ok(()) => Answer::Reads,
                 Err(OutOfMemory) => Answer::OutOfMemory,
             },
-            Ok(Settled::Accepts) => Answer::Accepts,
+            Ok(Settled::Accepts) => self.acceptance(),
             Ok(Settled::Refuses) => Answer::Refuses,
             Err(fault) => Answer::from(fault),
         }
@@ -147,9 +148,11 @@ impl<'a, A: Rows<TableAction> + Drop, G: Rows<StateNo> + Drop> Running<'a, A, G>
     /// then. Where the end is refused, what the stack was is noted.
     pub(crate) fn end(&mut self, before: &mut Before) -> Answer
         requires { 0 < self.old.machine.terminals }
-        ensures call { (at : ℕ) → IsAnswered self.old (record { terminal = 0; at = at; bytes = [] }) self.new
-            before.new result }
-        ensures tellable { result ≡ answers.Refuses → IsTellable self.new before.new }
+        ensures call { (at : ℕ) → IsTake (with_note self.old before.old) (record {
+          terminal = 0;
+          at = at;
+          bytes = [];
+        }) (with_note self.new before.new) result }
         ensures last { result ≢ answers.Reads }
     {
         if self.over {
@@ -157,7 +160,7 @@ impl<'a, A: Rows<TableAction> + Drop, G: Rows<StateNo> + Drop> Running<'a, A, G>
         }
         self.over = true;
         match self.settle(Sym(0), before) {
-            Ok(Settled::Accepts) => Answer::Accepts,
+            Ok(Settled::Accepts) => self.acceptance(),
             Ok(Settled::Refuses) => Answer::Refuses,
             // the end is never shifted
             Ok(Settled::Reads(_)) => unreachable!(),
@@ -165,23 +168,14 @@ impl<'a, A: Rows<TableAction> + Drop, G: Rows<StateNo> + Drop> Running<'a, A, G>
         }
     }
 
-    /// What is told of a call that came to this answer, and whose token stands at this byte. A term that is accepted
-    /// uses no part of the forest twice.
-    #[inline(always)] // so that a caller which looks at the step of a token that is read makes none
-    pub(crate) fn step(&self, answer: Answer, at: u64, before: &Before) -> Result<Step, ParseFault>
-        requires { answer ≡ answers.Refuses → IsTellable self.now before.now }
-        ensures told { IsTold self.now before.now at answer result }
-        ensures paid { (root : TermRef) (t : Term) → result ≡ Ok (step.Done root)
-            → StandsFor self.now.forest root t → IsPaid self.now.forest t }
+    /// What a call comes to where the tables accept: they are at fault without a term.
+    fn acceptance(&self) -> Answer
+        ensures { IsAcceptance self.now.stack result }
     {
-        match answer {
-            Answer::Reads => Ok(Step::More),
-            Answer::Accepts => self.accept(),
-            Answer::Refuses => self.refuse(at, before),
-            Answer::TableFault => Err(ParseFault::TableFault),
-            Answer::Over => Err(ParseFault::Over),
-            Answer::OutOfMemory => Err(ParseFault::OutOfMemory),
+        if self.stack.is_empty() {
+            return Answer::TableFault;
         }
+        Answer::Accepts
     }
 
     /// Makes the reductions before a terminal, and answers what is done then. Where it is refused, what the stack was
@@ -444,9 +438,8 @@ impl<'a, A: Rows<TableAction> + Drop, G: Rows<StateNo> + Drop> Running<'a, A, G>
         Ok(())
     }
 
-    /// Accepts with the term on top of the stack.
-    #[inline(always)] // so that a caller which looks at the step of a token that is read makes none
-    fn accept(&self) -> Result<Step, ParseFault>
+    /// Accepts with the term on top of the stack, which uses no part of the forest twice.
+    pub(crate) fn accept(&self) -> Result<Step, ParseFault>
         ensures accepted { IsAccepted self.now.forest self.now.stack result }
         ensures paid { (root : TermRef) (t : Term) → result ≡ Ok (step.Done root)
             → StandsFor self.now.forest root t → IsPaid self.now.forest t }
@@ -457,27 +450,9 @@ impl<'a, A: Rows<TableAction> + Drop, G: Rows<StateNo> + Drop> Running<'a, A, G>
         }
     }
 
-    /// Refuses the next token, which stands at this byte, and lists what is expected in its place, from the stack as it
-    /// was.
-    #[inline(always)] // so that the room of the list is made where a token is refused, and at no other
-    fn refuse(&self, at: u64, before: &Before) -> Result<Step, ParseFault>
-        requires { IsTellable self.now before.now }
-        ensures ok { IfOk result (IsRefusedWith self.now.machine (before_on self.now.stack before.now)
-            (self.now.count + 1) at) }
-        ensures err { IfErr result (λ e. e ≡ fault.OutOfMemory) }
-    {
-        let token = self.number()?;
-        Ok(Step::Refused {
-            token,
-            byte: at,
-            expected: self.expected(before)?,
-        })
-    }
-
     /// What is expected in place of the next token, from the stack as it was.
-    #[inline(never)] // so that a token that is read has the registers
-    fn expected(&self, before: &Before) -> Result<Vec<Sym>, OutOfMemory>
-        requires { IsTellable self.now before.now }
+    pub(crate) fn expected(&self, before: &Before) -> Result<Vec<Sym>, OutOfMemory>
+        requires { IsTellable (with_note self.now before.now) }
         ensures { IfOk result (λ ts. AreExpected self.now.machine (before_on self.now.stack before.now)
             (map (λ t. t.0) ts.items)) }
     {
@@ -486,7 +461,7 @@ impl<'a, A: Rows<TableAction> + Drop, G: Rows<StateNo> + Drop> Running<'a, A, G>
     }
 
     /// The number of the next token.
-    fn number(&self) -> Result<u64, OutOfMemory>
+    pub(crate) fn number(&self) -> Result<u64, OutOfMemory>
         ensures { IfOk result (λ n. n ≡ self.now.count + 1) }
     {
         self.count.checked_add(1).ok_or(OutOfMemory)

@@ -36,7 +36,8 @@ pub stands_at : (l : Lexer) (q : Place) (u : Underway RowStart) → IsUnderwayAt
 stands_at l q u h = by_place u.at h.there
   where
     by_place : (at : Option RowStart)
-        → StandsBehind ((scanner_of l.scanner).walk q.condition q.line) (ahead_at l.scanner) (StandsIn l.scanner) q.rest at
+        → StandsBehind ((scanner_of l.scanner).walk q.condition q.line) (ahead_at l.scanner) (StandsIn l.scanner)
+        q.rest at
         → IfSome at (StandsIn l.scanner)
     by_place None there = tt
     by_place (Some at) there = there.0

@@ -146,6 +146,8 @@ module _ {P : Type 0} (walk : Walk) (ahead : P → Walk) (stands : P → Type 0)
       (sym (append-nil seen) ∙ ap (λ t. seen ++ t) (sym (no_bytes bytes (grind (arith, nat_tests, empty))))) h
 
   -- a match under way isn't decided
-  pub not_ended : (seen : List ℕ) (at : Option P) → StandsBehind walk ahead stands seen at → seen ≢ [] → walk seen ≢ None
+  pub not_ended : (seen : List ℕ) (at : Option P) → StandsBehind walk ahead stands seen at → seen ≢ []
+      → walk seen ≢ None
   not_ended seen None there some = absurd (some there.0)
-  not_ended seen (Some at) there some = λ ended. (let no : is_some {T = Option ℕ} None ≡ true = ap is_some (sym ended) ∙ there.2 in cc)
+  not_ended seen (Some at) there some =
+      λ ended. (let no : is_some {T = Option ℕ} None ≡ true = ap is_some (sym ended) ∙ there.2 in cc)

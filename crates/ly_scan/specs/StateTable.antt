@@ -1,5 +1,6 @@
 -- A scanner as plain data.
-use Rattle.std.specs.Prelude.{◌≡◌, ◌<◌, ◌*◌, ℕ, List, length, Bool, Option, Some, None, IfSome, if◌then◌else◌, nat_lt, option_map}
+use Rattle.std.specs.Prelude.{◌≡◌, ◌<◌, ◌*◌, ℕ, List, length, Bool, Option, Some, None, IfSome, if◌then◌else◌}
+use Rattle.std.specs.Prelude.{nat_lt, option_map}
 use Rattle.std.specs.Prelude.{option_and_then, slice_get, slice_index_or, unwrap_or}
 use Rattle.ly_base.specs.declared.cut.Cut.{Cut}
 use Rattle.ly_base.specs.declared.cut.Cut.TheVariants.{Whole}

@@ -22,7 +22,8 @@ pub answer_of : (names : List Expression) (rules : List Rule) (actions given : L
     → AreLines s given (start_of text) e lines → IsAnswer names rules actions text e lines
 answer_of names rules actions given s text e lines agrees by h =
     let run : Lexed (IsLexemeAt s) (ScanEndsAt s) (condition_set actions) (start_of text) h.0 e =
-    subst (λ (xs : List Action). Lexed (IsLexemeAt s) (ScanEndsAt s) (condition_set xs) (start_of text) h.0 e) by h.1 in (
+    subst (λ (xs : List Action). Lexed (IsLexemeAt s) (ScanEndsAt s) (condition_set xs)
+    (start_of text) h.0 e) by h.1 in (
       h.0,
       lexing_of names rules s agrees (condition_set actions) (start_of text) h.0 e run,
       subst (λ (xs : List Action). lines ≡ printed (tokens_from (naming xs) 0 text h.0) ++ end_line e) by h.2,

@@ -1,5 +1,6 @@
 -- The rows of an automaton in memory say what the automaton does.
-use Rattle.std.proofs.Common.{◌≡◌, ◌∙◌, ◌<◌, ◌≤◌, ◌+◌, ◌*◌, ℕ, List, Bool, Option, Some, None, ap, arith, false, get_or, inl}
+use Rattle.std.proofs.Common.{◌≡◌, ◌∙◌, ◌<◌, ◌≤◌, ◌+◌, ◌*◌, ℕ, List, Bool, Option, Some, None, ap, arith, false}
+use Rattle.std.proofs.Common.{get_or, inl}
 use Rattle.std.proofs.Common.{inr, length, map, nat_lt, refl, slice_get, subst, sym, true}
 use Rattle.std.specs.List.{range_with_len}
 use Rattle.std.specs.Prelude.{IfSome, if◌then◌else◌, option_and_then, option_map, unwrap_or}

@@ -1,8 +1,9 @@
 -- A run over what has come of a text, token by token.
-use Rattle.std.specs.Prelude.{◌≡◌, ◌<◌, ◌≤◌, ℕ, ◌+◌, Bool, [], false, true, map, Option, Some, None, Result, Ok, Err}
+use Rattle.std.specs.Prelude.{◌≡◌, ◌<◌, ◌≤◌, ℕ, ◌+◌, Bool, List, [], false, true, map, Option, Some, None}
+use Rattle.std.specs.Prelude.{Result, Ok, Err}
 use Rattle.ly_base.specs.Lexed.{Place, Token, place_after}
 use Rattle.ly_base.specs.declared.lexeme.Lexeme.{Lexeme}
-use Rattle.ly_drive.specs.Onward.{Onward, IsSettled}
+use Rattle.ly_drive.specs.Onward.{Onward, IsSettled, IsTokenAt}
 use Rattle.ly_drive.specs.Private.Flaw.{verdict_of}
 use Rattle.ly_drive.specs.ScanPart.{ScanPart, condition_in, scanner_in, terminal_in}
 use Rattle.ly_drive.specs.TableAnswer.{Progress, IsRest}
@@ -12,6 +13,9 @@ use Rattle.ly_drive.specs.declared.run_fault.RunFault.{RunFault}
 use Rattle.ly_drive.specs.declared.run_fault.RunFault.TheVariants.{OutOfMemory, TableFault}
 use Rattle.ly_drive.specs.declared.flaw.Flaw.{Flaw}
 use Rattle.ly_drive.specs.declared.names.Names.{Names}
+use Rattle.ly_drive.specs.declared.running.Taken.{Taken}
+use Rattle.ly_drive.specs.declared.running.Taken.TheVariants.{Goes}
+use Rattle.ly_drive.specs.declared.running.Taken.TheVariants as take
 use Rattle.ly_drive.specs.declared.running.Ended.{Ended}
 use Rattle.ly_drive.specs.declared.running.Ended.TheVariants.{Accepted, Refused}
 use Rattle.ly_pack.specs.Machine.{Machine, IsMachine}
@@ -20,7 +24,7 @@ use Rattle.ly_pack.specs.Values.{rule_from}
 use Rattle.ly_parse.specs.Expected.{AreExpected}
 use Rattle.ly_parse.specs.Feeding.{Feeds, done, pushed, states_on}
 use Rattle.ly_parse.specs.Feeding as fed
-use Rattle.ly_parse.specs.Parse.{Parse}
+use Rattle.ly_parse.specs.Parse.{IsTellable, Parse}
 use Rattle.ly_scan.specs.Pieces.{IsUndecided}
 use Rattle.ly_tree.specs.Costs.{IsPaid}
 use Rattle.ly_tree.specs.Forest.{Grown, StandsFor}
@@ -46,23 +50,34 @@ pub record CanRun (p : ScanPart) (m : Machine) : Type 0 where
 abbrev pub progress_of : Place → Parse → Progress
 progress_of q s = record { place = q; stack = s.stack; count = s.count }
 
--- What a parse that isn't over does with a token of the text: it reads the token and goes on, or the token is refused,
--- or the tables are at fault. Want of memory says nothing.
-abbrev pub IsFed : Parse → Token ℕ → Parse → Result (Option Flaw) RunFault → Type 0
-IsFed s t r (Ok None) = Feeds s.machine t s.stack (pushed r.stack) × (r.count ≡ s.count + 1) × (r.over ≡ false)
-IsFed s t r (Ok (Some flaw)) = (ts : _) × Feeds s.machine t s.stack fed.refused
-    × AreExpected s.machine (states_on s.stack) ts × (verdict_of flaw ≡ refused (s.count + 1) t ts)
-IsFed s t r (Err TableFault) = Feeds s.machine t s.stack fed.faulty
-IsFed s t r (Err OutOfMemory) = Unit {0}
+-- What a parse that isn't over does with a token of the text: it reads the token and goes on; or it refuses the token,
+-- and a refusal can be told; or the tables are at fault. Want of memory says nothing.
+abbrev pub IsFed : Parse → Token ℕ → Parse → Taken → Type 0
+IsFed s t r Goes = Feeds s.machine t s.stack (pushed r.stack) × (r.count ≡ s.count + 1) × (r.over ≡ false)
+IsFed s t r take.Refused = Feeds s.machine t s.stack fed.refused × (r.asked ≡ states_on s.stack)
+    × (r.count ≡ s.count) × IsTellable r
+IsFed s t r take.TableFault = Feeds s.machine t s.stack fed.faulty
+IsFed s t r take.OutOfMemory = Unit {0}
 
--- What becomes of a lexeme: the run goes on behind it, or something is wrong, or the tables are at fault, whatever
--- comes. Want of memory says nothing.
-abbrev pub IsTaken : Bool → ScanPart → Machine → Progress → Lexeme → Parse → Result (Option Flaw) RunFault → Type 0
-IsTaken ended p m w t r (Ok None) = Onward ended p m w (progress_of (place_after (condition_in p) w.place t) r)
+-- a lexeme has a token
+abbrev pub HasToken : ScanPart → Place → Lexeme → Type 0
+HasToken p q t = (token : Token ℕ) × IsTokenAt p q t token
+
+-- What becomes of a lexeme: the run goes on behind it, whatever comes; or its token is refused, and a refusal can be
+-- told; or the tables are at fault, whatever comes. Want of memory says nothing.
+abbrev pub IsTaken : Bool → ScanPart → Machine → Progress → Lexeme → Parse → Taken → Type 0
+IsTaken ended p m w t r Goes = Onward ended p m w (progress_of (place_after (condition_in p) w.place t) r)
     × (r.over ≡ false)
-IsTaken ended p m w t r (Ok (Some flaw)) = IsSettled ended p m w (verdict_of flaw)
-IsTaken ended p m w t r (Err TableFault) = IsSettled ended p m w faulty
-IsTaken ended p m w t r (Err OutOfMemory) = Unit {0}
+IsTaken ended p m w t r take.Refused = (token : Token ℕ) × IsTokenAt p w.place t token
+    × Feeds m token w.stack fed.refused × (r.asked ≡ states_on w.stack) × (r.count ≡ w.count) × IsTellable r
+IsTaken ended p m w t r take.TableFault = IsSettled ended p m w faulty
+IsTaken ended p m w t r take.OutOfMemory = Unit {0}
+
+-- the flaw names the token of a lexeme, the number behind those that a parse has read, and what is expected in its
+-- place
+abbrev pub IsRefusalAt : ScanPart → Place → Lexeme → Parse → Flaw → Type 0
+IsRefusalAt p q t r flaw = (token : Token ℕ) × (ts : List ℕ) × IsTokenAt p q t token × AreExpected r.machine r.asked ts
+    × (verdict_of flaw ≡ refused (r.count + 1) token ts)
 
 -- a run halts at a place where the next match isn't decided, or at the end of the text
 abbrev pub Halts : Bool → ScanPart → Place → Type 0

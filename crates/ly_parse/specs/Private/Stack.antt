@@ -25,9 +25,10 @@ level_from f l = record { state = l.state.0; term = unwrap_or (term_of f l.term)
 abbrev pub stack_from : Grown → List code.Level → List Level
 stack_from f levels = map (level_from f) (reverse levels)
 
+-- the parse that stands on these, but for what its stack was
 abbrev pub parse_from : Machine → Grown → List code.Level → ℕ → Bool → Parse
 parse_from m f levels count over
-    = record { machine = m; forest = f; stack = stack_from f levels; count = count; over = over }
+    = record { machine = m; forest = f; stack = stack_from f levels; count = count; over = over; asked = [] }
 
 -- All that the tables name is there, they are steady, each level's state is one of theirs and its term is in the
 -- forest, neighbours on the stack are edges, and the forest pays for the terms.

@@ -28,7 +28,8 @@ returns-in_err-read_into-clause-faulty g c is =
     let f = c.loop-outcome.feed in
     let s = c.args.feed.now.set in
     let i = c.loop-outcome.invariant in
-    let fault = same_fault c.from_residual.result c.in_err-read_into.field-0.0 TableFault c.from_residual.ensures.1 is in
+    let fault = same_fault c.from_residual.result c.in_err-read_into.field-0.0 TableFault c.from_residual.ensures.1 is
+    in
     let read = subst (λ e. IsReadInto f before after c.read_into.new.feed (Err e)) fault
     c.in_err-read_into.ensures.is_read in
     at_fault s given before after f i.so_far read.0 read.1 read.2
@@ -84,8 +85,7 @@ returns-in-Some-Settled-clause-answered g c =
     let read = subst (λ o. IsReadInto f before after c.read_into.new.feed (Ok o))
     (c.in-Some-Settled.is ∙ ap Some c.in-Some-Settled.field-0-is) c.in_ok-read_into.ensures.is_read in
     let answer = c.in-Some-Settled.answer.items in
-    let text = settles s given before after f i.so_far c.in-Some-Settled.outcome answer read.0 read.1 read.2 in
-    (
+    let text = settles s given before after f i.so_far c.in-Some-Settled.outcome answer read.0 read.1 read.2 in (
       text.0,
       answer,
       text.1,

@@ -1,10 +1,13 @@
-use Rattle.std.proofs.Common.{◌∙◌, Ok, ap, subst, sym}
+use Rattle.std.proofs.Common.{◌∙◌, ap, subst, sym}
 use Rattle.ly_base.specs.Lexed.{moved}
 use Rattle.ly_drive.proofs.OnwardLemmas.{onward_on}
-use Rattle.ly_drive.proofs.RunLemmas.{cut, failed, fast_there, halts_at_end, over, stuck, undecided_there, wrong}
+use Rattle.ly_drive.proofs.RunLemmas.{cut, fast_there, halts_at_end, over, settled_there, stuck, undecided_there}
 use Rattle.ly_drive.specs.Onward.{Onward, none_yet}
-use Rattle.ly_drive.specs.Private.Running.{IsTaken, progress_of}
+use Rattle.ly_drive.proofs.TakingLemmas.{refused_there}
+use Rattle.ly_drive.specs.Private.Flaw.{verdict_of}
+use Rattle.ly_drive.specs.Private.Running.{progress_of}
 use Rattle.ly_drive.specs.ScanPart.{scan_part_of, scanner_in}
+use Rattle.ly_drive.specs.Verdict.{faulty}
 use Rattle.ly_drive.proofs.running.run_on.Goals as goal
 use Rattle.ly_scan.specs.Pieces.{EndsFast}
 use Rattle.ly_tables.specs.TableSet.{machine_of}
@@ -61,35 +64,54 @@ returns-in-Err-Clean-clause-runs c =
       c.loop-lexeme.invariant.goes_on,
     )
 
-pub returns-in_err-flaw-clause-runs : goal.returns-in_err-flaw-clause-runs
-returns-in_err-flaw-clause-runs c =
+pub refusal-requires-clause-token : goal.refusal-requires-clause-token
+refusal-requires-clause-token c =
     let p = scan_part_of c.args.set.now in
-    let m = machine_of c.args.set.now in
-    let w = progress_of c.args.place.now c.args.parser.now in
     let l = c.args.lexer.now in
     let q = c.next.new.place in
-    let s = c.loop-lexeme.parser in
-    let fast = fast_there c.args.ended p l q c.in-Ok-Some.field-0 c.in-Ok-Some.lexeme c.requires.lexer
-    c.in-Ok-Some.ensures.found c.in-Ok-Some.field-0-is in
-    failed c.args.ended p m w q s c.take.new.parser c.in-Ok-Some.lexeme c.in_err-flaw.field-0.0 c.from_residual.result
-    (over c.args.ended p m w l c.loop-lexeme.place q s c.requires.lexer c.loop-lexeme.invariant.onward
-    c.next.ensures.passed) (c.in_err-flaw.ensures.taken c.args.ended fast) c.from_residual.ensures.1
+    let t = c.in-Ok-Some.lexeme in
+    let fast = fast_there c.args.ended p l q c.in-Ok-Some.field-0 t c.requires.lexer c.in-Ok-Some.ensures.found
+    c.in-Ok-Some.field-0-is in
+    let taken = c.in-Refused.ensures.taken c.args.ended fast in
+    (taken.0, taken.1)
 
-pub returns-in-Some-clause-runs : goal.returns-in-Some-clause-runs
-returns-in-Some-clause-runs c =
+pub refusal-requires-clause-tellable : goal.refusal-requires-clause-tellable
+refusal-requires-clause-tellable c = (c.in-Refused.ensures.taken c.args.ended
+    (fast_there c.args.ended (scan_part_of c.args.set.now) c.args.lexer.now c.next.new.place c.in-Ok-Some.field-0
+    c.in-Ok-Some.lexeme c.requires.lexer c.in-Ok-Some.ensures.found c.in-Ok-Some.field-0-is)).5
+
+pub returns-in-Refused-clause-runs : goal.returns-in-Refused-clause-runs
+returns-in-Refused-clause-runs c =
     let p = scan_part_of c.args.set.now in
     let m = machine_of c.args.set.now in
     let w = progress_of c.args.place.now c.args.parser.now in
     let l = c.args.lexer.now in
     let q = c.next.new.place in
     let s = c.loop-lexeme.parser in
-    let fast = fast_there c.args.ended p l q c.in-Ok-Some.field-0 c.in-Ok-Some.lexeme c.requires.lexer
-    c.in-Ok-Some.ensures.found c.in-Ok-Some.field-0-is in
-    wrong c.args.ended p m w q s c.take.new.parser c.in-Ok-Some.lexeme c.in-Some.flaw
+    let t = c.in-Ok-Some.lexeme in
+    let flaw = c.in_ok-refusal-in-Refused.field-0 in
+    let fast = fast_there c.args.ended p l q c.in-Ok-Some.field-0 t c.requires.lexer c.in-Ok-Some.ensures.found
+    c.in-Ok-Some.field-0-is in
+    settled_there c.args.ended p m w q s (verdict_of flaw)
     (over c.args.ended p m w l c.loop-lexeme.place q s c.requires.lexer c.loop-lexeme.invariant.onward
     c.next.ensures.passed)
-    (subst (λ o. IsTaken c.args.ended p m (progress_of q s) c.in-Ok-Some.lexeme c.take.new.parser (Ok o)) c.in-Some.is
-    (c.in_ok-flaw.ensures.taken c.args.ended fast))
+    (refused_there c.args.ended p m (progress_of q s) t c.take.new.parser flaw
+    (c.take.ensures.machine ∙ c.loop-lexeme.invariant.machine) fast (c.in-Refused.ensures.taken c.args.ended fast)
+    c.in_ok-refusal-in-Refused.ensures)
+
+pub returns-in-TableFault-clause-runs : goal.returns-in-TableFault-clause-runs
+returns-in-TableFault-clause-runs c =
+    let p = scan_part_of c.args.set.now in
+    let m = machine_of c.args.set.now in
+    let w = progress_of c.args.place.now c.args.parser.now in
+    let l = c.args.lexer.now in
+    let q = c.next.new.place in
+    let s = c.loop-lexeme.parser in
+    let fast = fast_there c.args.ended p l q c.in-Ok-Some.field-0 c.in-Ok-Some.lexeme c.requires.lexer
+    c.in-Ok-Some.ensures.found c.in-Ok-Some.field-0-is in
+    settled_there c.args.ended p m w q s faulty
+    (over c.args.ended p m w l c.loop-lexeme.place q s c.requires.lexer c.loop-lexeme.invariant.onward
+    c.next.ensures.passed) (c.in-TableFault.ensures.taken c.args.ended fast)
 
 pub loop-lexeme-preserved : goal.loop-lexeme-preserved
 loop-lexeme-preserved c =
@@ -103,8 +125,7 @@ loop-lexeme-preserved c =
     let fast = fast_there c.args.ended p l q c.in-Ok-Some.field-0 t c.requires.lexer c.in-Ok-Some.ensures.found
     c.in-Ok-Some.field-0-is in
     let there = c.advance.ensures ∙ ap (moved q t.taken) c.action-begin.ensures.begin in
-    let taken = subst (λ o. IsTaken c.args.ended p m (progress_of q s) t c.take.new.parser (Ok o)) c.in_default.is
-    (c.in_ok-flaw.ensures.taken c.args.ended fast) in record {
+    let taken = c.in-Goes.ensures.taken c.args.ended fast in record {
       onward = subst (λ x. Onward c.args.ended p m w (progress_of x c.take.new.parser)) (sym there)
           (onward_on c.args.ended p m
           (over c.args.ended p m w l c.loop-lexeme.place q s c.requires.lexer c.loop-lexeme.invariant.onward

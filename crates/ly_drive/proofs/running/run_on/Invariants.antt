@@ -9,7 +9,8 @@ use Rattle.ly_tables.specs.TableSet.{machine_of}
 -- decided matches lead from where the run began to where it stands
 abbrev pub invariant-loop-lexeme : goal.invariant-loop-lexeme
 invariant-loop-lexeme l = record {
-  onward : Onward l.fn.ended (scan_part_of l.fn.set) (machine_of l.fn.set) (progress_of l.initial.place l.initial.parser) (progress_of l.place l.parser);
+  onward : Onward l.fn.ended (scan_part_of l.fn.set) (machine_of l.fn.set) (progress_of l.initial.place
+      l.initial.parser) (progress_of l.place l.parser);
   machine : l.parser.machine ≡ machine_of l.fn.set;
   goes_on : l.parser.over ≡ false;
 }

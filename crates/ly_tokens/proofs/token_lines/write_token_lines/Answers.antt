@@ -35,7 +35,8 @@ push_token-requires-clause-countable g c =
     let here = c.next.new.place in
     let lexeme = c.in-Ok-Some.lexeme in
     let s = scanner_of c.args.lexer.now.scanner in
-    let fast = answered true s here c.in-Ok-Some.field-0 lexeme c.in-Ok-Some.field-0-is c.in-Ok-Some.ensures.found in omega (
+    let fast = answered true s here c.in-Ok-Some.field-0 lexeme c.in-Ok-Some.field-0-is c.in-Ok-Some.ensures.found in
+    omega (
       arith,
       c.loop-lexeme.invariant.counted countable.0 countable.1,
       line_left actions countable.0 lexeme.rule.0 lexeme.taken here.rest c.new-token.result countable.1 fast.some
@@ -87,7 +88,8 @@ loop-lexeme-preserved g c =
       so_far = (
         so_far.0 ++ line,
         one_more actions s (start_of c.args.text.now) here c.advance.new.self lexeme c.condition_set-begin.result token
-            so_far.0 (so_far.0 ++ line) (lexeme_at s here true lexeme fast) c.condition_set-begin.ensures at is refl led,
+            so_far.0 (so_far.0 ++ line) (lexeme_at s here true lexeme fast) c.condition_set-begin.ensures at is refl
+            led,
         appended_twice c.args.empty now.lines c.push_token.new.lines _ _ _ so_far.0 line tt (Ok tt) so_far.2
             c.in_ok-push_token-in-Ok-Some.ensures.text,
       );
@@ -107,7 +109,8 @@ loop-lexeme-smaller g c =
     let here = c.next.new.place in
     let lexeme = c.in-Ok-Some.lexeme in
     let s = scanner_of c.args.lexer.now.scanner in
-    let fast = answered true s here c.in-Ok-Some.field-0 lexeme c.in-Ok-Some.field-0-is c.in-Ok-Some.ensures.found in omega (
+    let fast = answered true s here c.in-Ok-Some.field-0 lexeme c.in-Ok-Some.field-0-is c.in-Ok-Some.ensures.found in
+    omega (
       arith,
       fast.some,
       fast.within,

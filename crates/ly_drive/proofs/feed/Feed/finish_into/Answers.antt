@@ -21,7 +21,8 @@ pub returns-in_err-ended-clause-faulty : goal.returns-in_err-ended-clause-faulty
 returns-in_err-ended-clause-faulty g c failed =
     let f = c.self.inside in
     let set = f.set.now in
-    rest_of set f.window c.place-place.result f.parser f.over c.args.self.now faulty c.self.view_is c.place-place.ensures
+    rest_of set f.window c.place-place.result f.parser f.over c.args.self.now faulty c.self.view_is
+    c.place-place.ensures
     (at_fault (scan_part_of set) (machine_of set) (progress_of c.place-place.result f.parser)
     c.run_to_end.new.parser.forest c.in_err-ended.field-0.0 c.from_residual.result c.in_err-ended.ensures.closed
     c.from_residual.ensures.1 failed)

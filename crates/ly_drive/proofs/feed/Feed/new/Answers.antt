@@ -1,4 +1,4 @@
-use Rattle.std.proofs.Common.{◌≡◌, ◌∙◌, ap, subst, sym}
+use Rattle.std.proofs.Common.{◌∙◌, ap, subst, sym}
 use Rattle.ly_drive.proofs.ReturnedLemmas.{can_run}
 use Rattle.ly_drive.proofs.feed.Feed.new.Goals as goal
 use Rattle.ly_pack.specs.Steady.{IsSteady}

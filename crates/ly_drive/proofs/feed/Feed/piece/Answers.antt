@@ -1,4 +1,4 @@
-use Rattle.std.proofs.Common.{◌≡◌, ◌∙◌, Err, Ok, ap, arith, length, refl, subst, sym}
+use Rattle.std.proofs.Common.{◌∙◌, Err, Ok, ap, arith, length, refl, subst, sym}
 use Rattle.std.specs.Prelude.{false, true}
 use Rattle.ly_drive.proofs.FeedLemmas.{IsFurther, further, given_up, goes_onward, is_faulty, is_piece, is_settled}
 use Rattle.ly_drive.proofs.RunLemmas.{halts_here}
@@ -6,10 +6,10 @@ use Rattle.ly_drive.specs.Held.{IsOnward, TakesPiece}
 use Rattle.ly_drive.specs.Onward.{Onward, none_yet}
 use Rattle.ly_drive.specs.Private.Feeding.{held_from}
 use Rattle.ly_drive.specs.Private.Running.{IsRunOn, progress_of}
-use Rattle.ly_drive.specs.ScanPart.{scan_part_of, scanner_in}
+use Rattle.ly_drive.specs.ScanPart.{scan_part_of}
 use Rattle.ly_drive.specs.declared.need.Need.TheVariants.{Settled}
 use Rattle.ly_drive.proofs.feed.Feed.piece.Goals as goal
-use Rattle.ly_scan.specs.Lexers.{IsUnderwayAt, scanner_of}
+use Rattle.ly_scan.specs.Lexers.{IsUnderwayAt}
 use Rattle.ly_scan.specs.Pieces.{IsUndecided, behind}
 use Rattle.ly_tables.specs.TableSet.{machine_of}
 
@@ -21,7 +21,8 @@ returns-then-goes_on c =
     (subst (λ x. IsOnward x c.args.bytes.now (held_from f.set.now c.push.new.self f.parser false)) c.self.view_is
     (subst (λ q. IsOnward (held_from f.set.now f.window f.parser f.over) c.args.bytes.now
     (held_from f.set.now q f.parser false)) (sym c.in_ok-push.ensures.ok)
-    (goes_onward f.set.now f.window f.parser f.over c.args.bytes.now (behind f.window c.args.bytes.now) f.parser none_yet
+    (goes_onward f.set.now f.window f.parser f.over c.args.bytes.now (behind f.window c.args.bytes.now) f.parser
+    none_yet
     (subst (λ s. IsUndecided s (behind f.window c.args.bytes.now)) c.self.invariant.lexer.scanner next.1)
     c.in_ok-push.ensures.countable)))
 
@@ -75,8 +76,14 @@ give_up-requires-clause-to c =
     let run = halts_here (scan_part_of f.set.now) (machine_of f.set.now) (progress_of c.place-place.result f.parser)
     c.run_on.new.place c.run_on.new.parser c.in_ok-flaw.flaw c.in_ok-flaw.ensures.runs c.in_default.is in
     let on = further run.0 in
-    omega (arith, on.at, on.within, c.at-at.ensures, ap (λ q. q.at) c.place-place.ensures,
-    ap (λ q. length q.rest) c.place-place.ensures)
+    omega (
+      arith,
+      on.at,
+      on.within,
+      c.at-at.ensures,
+      ap (λ q. q.at) c.place-place.ensures,
+      ap (λ q. length q.rest) c.place-place.ensures,
+    )
 
 pub invariant_of-self-2 : goal.invariant_of-self-2
 invariant_of-self-2 c =
@@ -88,9 +95,10 @@ invariant_of-self-2 c =
       runs = c.self.invariant.runs;
       parses = λ goes. run.2;
       waits = λ goes. subst (λ q. IsUnderwayAt f.lexer q c.matcher_at-self-inside.result) (sym (c.give_up.ensures
-    ∙ given_up c.push.new.self c.run_on.new.place c.at-at.result c.at_line_start-line.result c.condition-condition.result
-    (subst (λ q. IsFurther q c.run_on.new.place) c.place-place.ensures (further run.0)) c.at-at.ensures
-    c.at_line_start-line.ensures c.condition-condition.ensures))
+          ∙ given_up c.push.new.self c.run_on.new.place c.at-at.result c.at_line_start-line.result
+          c.condition-condition.result
+          (subst (λ q. IsFurther q c.run_on.new.place) c.place-place.ensures (further run.0)) c.at-at.ensures
+          c.at_line_start-line.ensures c.condition-condition.ensures))
           c.matcher_at-self-inside.ensures;
     }
 
@@ -105,7 +113,8 @@ returns c =
     c.self.view_is
     (subst (λ q. IsOnward (held_from f.set.now f.window f.parser f.over) c.args.bytes.now
     (held_from f.set.now q c.run_on.new.parser false)) (sym (c.give_up.ensures
-    ∙ given_up c.push.new.self c.run_on.new.place c.at-at.result c.at_line_start-line.result c.condition-condition.result
+    ∙ given_up c.push.new.self c.run_on.new.place c.at-at.result c.at_line_start-line.result
+    c.condition-condition.result
     (subst (λ q. IsFurther q c.run_on.new.place) c.place-place.ensures (further run.0)) c.at-at.ensures
     c.at_line_start-line.ensures c.condition-condition.ensures))
     (goes_onward f.set.now f.window f.parser f.over c.args.bytes.now c.run_on.new.place c.run_on.new.parser

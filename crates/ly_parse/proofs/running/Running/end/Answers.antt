@@ -2,30 +2,25 @@ use Rattle.std.proofs.Common.{[], ap, arith, Ok}
 use Rattle.ly_pack.specs.Machine.{shift}
 use Rattle.ly_parse.specs.Feeding.{top_of}
 use Rattle.ly_parse.proofs.FeedingLemmas.{legal}
-use Rattle.ly_parse.proofs.TakeLemmas.{accepts_call, refuses_call, tellable}
+use Rattle.ly_parse.proofs.TakeLemmas.{accepts_token, refuses_token}
 use Rattle.ly_parse.proofs.running.Running.end.Goals as goal
 
 pub returns-in-Ok-Accepts-clause-call : goal.returns-in-Ok-Accepts-clause-call
-returns-in-Ok-Accepts-clause-call g c at r told =
-    accepts_call c.self.inside.machine c.self.inside.forest c.self.inside.stack.items c.args.self.now
+returns-in-Ok-Accepts-clause-call g c at =
+    accepts_token c.self.inside.machine c.self.inside.forest c.self.inside.stack.items c.args.self.now
     c.self.inside.count c.self.inside.over (record { terminal = 0; at = at; bytes = [] }) c.self.view_is
-    c.if-self.false c.settle.new.self c.in-Ok-Accepts.ensures.alike c.in-Ok-Accepts.ensures.machine
-    c.in-Ok-Accepts.ensures.count r (c.in-Ok-Accepts.ensures.accepts (ap Ok c.in-Ok-Accepts.field-0-is))
-    c.in-Ok-Accepts.ensures.over told
+    c.if-self.false c.args.before.now c.settle.new.self c.in-Ok-Accepts.ensures.alike c.in-Ok-Accepts.ensures.machine
+    c.in-Ok-Accepts.ensures.count c.acceptance.result c.settle.new.before
+    (c.in-Ok-Accepts.ensures.accepts (ap Ok c.in-Ok-Accepts.field-0-is)) c.in-Ok-Accepts.ensures.over
+    c.acceptance.ensures
 
 pub returns-in-Ok-Refuses-clause-call : goal.returns-in-Ok-Refuses-clause-call
-returns-in-Ok-Refuses-clause-call g c at r told =
-    refuses_call c.self.inside.machine c.self.inside.forest c.self.inside.stack.items c.args.self.now
+returns-in-Ok-Refuses-clause-call g c at =
+    refuses_token c.self.inside.machine c.self.inside.forest c.self.inside.stack.items c.args.self.now
     c.self.inside.count c.self.inside.over (record { terminal = 0; at = at; bytes = [] }) c.self.view_is
-    c.if-self.false c.settle.new.self c.in-Ok-Refuses.ensures.alike c.in-Ok-Refuses.ensures.machine
-    c.in-Ok-Refuses.ensures.count r c.settle.new.before
+    c.if-self.false c.args.before.now c.settle.new.self c.in-Ok-Refuses.ensures.alike c.in-Ok-Refuses.ensures.machine
+    c.in-Ok-Refuses.ensures.count c.settle.new.before c.self.invariant.0
     (c.in-Ok-Refuses.ensures.refuses (ap Ok c.in-Ok-Refuses.field-0-is)) c.in-Ok-Refuses.ensures.over
-    (c.in-Ok-Refuses.ensures.noted (ap Ok c.in-Ok-Refuses.field-0-is)) told
-
-pub returns-in-Ok-Refuses-clause-tellable : goal.returns-in-Ok-Refuses-clause-tellable
-returns-in-Ok-Refuses-clause-tellable g c same =
-    tellable c.self.inside.machine c.self.inside.forest c.self.inside.stack.items c.self.invariant.0
-    c.settle.new.self c.in-Ok-Refuses.ensures.machine c.settle.new.before
     (c.in-Ok-Refuses.ensures.noted (ap Ok c.in-Ok-Refuses.field-0-is))
 
 pub unreachable-requires : goal.unreachable-requires

@@ -16,7 +16,8 @@ loop-self-preserved c =
       passed = passes_one (scanner_of l.scanner) l.passed c.args.place.now c.loop-self.place c.advance.new.self
           c.loop-self.invariant.passed
           (c.loop-self-test.ensures.lone (scanner_of l.scanner) l.passed
-          (subst (λ l. AreLone (scanner_of l.scanner) l.passed lone) c.self.view_is c.self.invariant)) c.advance.ensures;
+          (subst (λ l. AreLone (scanner_of l.scanner) l.passed lone) c.self.view_is c.self.invariant))
+          c.advance.ensures;
       left = omega (
         arith,
         c.loop-self.invariant.left,
