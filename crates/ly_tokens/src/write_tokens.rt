@@ -2,7 +2,7 @@ ghost use Rattle.std.specs.Prelude.{◌≡◌, ℕ, ◌<◌, ◌≤◌, List, le
 ghost use Rattle.std.specs.Io.KnownBytes.{Appends, IsAtEnd};
 ghost use Rattle.ly_ere.specs.Names.{defined};
 ghost use Rattle.ly_base.specs.Device.{next_count};
-ghost use Rattle.ly_base.specs.Limits.{version_1};
+ghost use Rattle.ly_base.specs.Limits.{version_2};
 ghost use Rattle.ly_base.specs.TextWriter.{IsCutShort};
 ghost use Rattle.ly_base.specs.declared.lexeme.End.{End};
 ghost use Rattle.ly_lexread.specs.Faults.{IsOfText, IsTooHeavy};
@@ -46,22 +46,22 @@ pub fn tokens<R: Source, W: Sink>(
     writer: &mut W,
 ) -> Result<TokenEnd, TokensFault>
     ensures answered { IfOk result (λ end. (answer : List ℕ)
-        × Answers version_1 lex.now (R.remaining reader.old) (end_of end) answer
+        × Answers version_2 lex.now (R.remaining reader.old) (end_of end) answer
         × Appends (W.contents writer.old) (W.contents writer.new) answer) }
     ensures beginning { (written : ℕ) → result ≡ Err (TokensFault.Write written) → (e : End) × ((answer : List ℕ)
-        × Answers version_1 lex.now (R.remaining reader.old) e answer × (written < length answer)
+        × Answers version_2 lex.now (R.remaining reader.old) e answer × (written < length answer)
         × Appends (W.contents writer.old) (W.contents writer.new) (take written answer)) }
     ensures refused { (fault : LexFault) → result ≡ Err (TokensFault.Lex fault) → (IsTooHeavy fault → ⊥)
         → (file : LexFile) → LexText lex.now file → ⊥ }
     ensures heavy_pattern { (fault : LexFault) → result ≡ Err (TokensFault.Lex fault) → IsTooHeavy fault
-        → IsHeavyText version_1.pattern_weight lex.now }
+        → IsHeavyText version_2.pattern_weight lex.now }
     ensures none_light { (fault : LexFault) → result ≡ Err (TokensFault.Lex fault) → IsTooHeavy fault
-        → (file : LexFile) → LexText lex.now file → IsLight version_1.pattern_weight file → ⊥ }
+        → (file : LexFile) → LexText lex.now file → IsLight version_2.pattern_weight file → ⊥ }
     ensures of_text { (fault : LexFault) → result ≡ Err (TokensFault.Lex fault) → IsOfText fault }
     ensures heavy { (fault : PosFault) → result ≡ Err (TokensFault.Positions fault)
-        → (fault ≡ TooManyPositions) × AreTooHeavy version_1 lex.now }
+        → (fault ≡ TooManyPositions) × AreTooHeavy version_2 lex.now }
     ensures many { (fault : SubsetFault) → result ≡ Err (TokensFault.States fault)
-        → (fault ≡ TooManyStates) × HaveTooManyStates version_1 lex.now }
+        → (fault ≡ TooManyStates) × HaveTooManyStates version_2 lex.now }
     ensures ended { OnOk result (IsAtEnd (R.remaining reader.new)) }
     ensures read { IsErrOf result TokensFault.Read → R.failures reader.new ≡ next_count (R.failures reader.old) }
     ensures reader_held { (IsErrOf result TokensFault.Read → ⊥) → R.failures reader.new ≡ R.failures reader.old }
@@ -70,7 +70,7 @@ pub fn tokens<R: Source, W: Sink>(
     ensures unread { IfErr result (λ e. IsBeforeReading e → reader.new ≡ reader.old) }
     ensures untouched { IfErr result (λ e. IsBeforeWriting e → writer.new ≡ writer.old) }
 {
-    let limits = Limits::V1;
+    let limits = Limits::V2;
     let file = read_lex(alloc, lex, &limits)?;
     write_answer(alloc, &file, &limits, reader, writer)
 }

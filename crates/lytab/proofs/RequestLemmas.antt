@@ -1,13 +1,16 @@
 -- The words that ask for something are taken, and ask for just that.
 use Rattle.std.proofs.Common.{◌≡◌, ◌∙◌, ◌++◌, ◌∷◌, [], List, ℕ, zero, suc, Some, None, true, refl, sym, ap}
-use Rattle.std.proofs.Common.{Err, IsErrAnd, MatchResult, Ok, Result, append-nil, ap₂, codes, drop, false, find, map}
-use Rattle.std.proofs.Common.{option_and_then, subst, take, unwrap_or}
-use Rattle.std.proofs.lemmas.List.{take-append-drop}
+use Rattle.std.proofs.Common.{Err, IsErrAnd, MatchResult, Ok, Option, Result, ap₂, arith, codes, drop, false, find, inr, map}
+use Rattle.std.proofs.Common.{option_and_then, option_map, slice_index, subst, take, unwrap_or}
+use Rattle.std.specs.List.{flat_map, insert}
 use Rattle.clap.specs.Walk.{Text, answers_to, finished, nothing_held, walk_from}
 use Rattle.clap.specs.Simple.{Shape, built, help_shape, label_of}
 use Rattle.clap.proofs.OnLiterals.{clap_on_literals}
-use Rattle.lytab.specs.CommandLine.{line_app, line_takes, request_by, request_of, subcommand_in}
-use Rattle.lytab.specs.Paths.{ArePathWords, AskFor, IsPathWord, as_list, name_of, operands_of, option_of, report_of}
+use Rattle.ly_base.specs.declared.version.Version.{Version}
+use Rattle.ly_base.specs.declared.version.Version.TheVariants.{V1, V2}
+use Rattle.lytab.specs.CommandLine.{line_app, line_takes, request_by, request_of, subcommand_in, version_by}
+use Rattle.lytab.specs.Paths.{ArePathWords, AskFor, IsMeant, IsPathWord, as_list, name_of, number_of, operands_of}
+use Rattle.lytab.specs.Paths.{report_of, words_at}
 use Rattle.lytab.specs.Request.{Request, build, run, tokens, try}
 use Rattle.lytab.proofs.PathLemmas.{AreWords, IsLongName, Word, all_taken, held_after, level_taken, long, path}
 use Rattle.lytab.proofs.PathLemmas.{rest_passes, rows_are, text_of}
@@ -31,103 +34,252 @@ enters : (request : Request) → Enters line_app (name_of request) (shape_at (na
 unfolding clap_on_literals
 enters (tokens lex text) =
     record { simple = refl; has_name = refl; met = refl; passes = refl; found = refl; rest = refl }
-enters (build lex yacc table_file report) =
+enters (build lex yacc table_file report version) =
     record { simple = refl; has_name = refl; met = refl; passes = refl; found = refl; rest = refl }
 enters (run table_file text) =
     record { simple = refl; has_name = refl; met = refl; passes = refl; found = refl; rest = refl }
 enters (try lex yacc text) =
     record { simple = refl; has_name = refl; met = refl; passes = refl; found = refl; rest = refl }
 
--- the words behind the command's name, with the option behind so many operands
-abbrev words_at : ℕ → Request → List Text
-words_at place request =
-    take place (operands_of request) ++ option_of (report_of request) ++ drop place (operands_of request)
+-- the same words as `clap` meets them
+record Met (request : Request) (texts : List Text) : Type 0 where
+  words : List Word
+  texts_are : map text_of words ≡ texts
+  asks : Asks request words
 
--- where there is no option, its place says nothing
-no_option : (place : ℕ) (words : List Text) → take place words ++ [] ++ drop place words ≡ words
-no_option place words = rw (append-nil (take place words)) (take-append-drop place words)
+-- groups of words, as an option with its value
+abbrev AreGroups : List (List Word) → Type 0
+AreGroups [] = Unit {0}
+AreGroups (group ∷ groups) = AreWords group × AreGroups groups
 
-take_none : (place : ℕ) → take {A = Text} place [] ≡ []
+are_together : (xs ys : List Word) → AreWords xs → AreWords ys → AreWords (xs ++ ys)
+are_together [] ys a b = b
+are_together (x ∷ xs) ys a b = (a.0, are_together xs ys a.1 b)
+
+are_words : (groups : List (List Word)) → AreGroups groups → AreWords (flat_map (λ group. group) groups)
+are_words [] a = tt
+are_words (group ∷ groups) a = are_together group _ a.0 (are_words groups a.1)
+
+are_inserted : (groups : List (List Word)) (place : ℕ) (group : List Word) → AreGroups groups → AreWords group
+    → AreGroups (insert groups place group)
+are_inserted groups zero group a b = (b, a)
+are_inserted [] (suc place) group a b = (b, tt)
+are_inserted (first ∷ groups) (suc place) group a b = (a.0, are_inserted groups place group a.1 b)
+
+-- behind the last of three or of four stands what stands behind more
+abbrev within_three : ℕ → ℕ
+within_three zero = 0
+within_three (suc zero) = 1
+within_three (suc (suc zero)) = 2
+within_three (suc (suc (suc place))) = 3
+
+abbrev within_four : ℕ → ℕ
+within_four zero = 0
+within_four (suc place) = suc (within_three place)
+
+take_none : {X : Type 0} (place : ℕ) → take {A = X} place [] ≡ []
 take_none zero = refl
 take_none (suc place) = refl
 
-drop_none : (place : ℕ) → drop {A = Text} place [] ≡ []
+drop_none : {X : Type 0} (place : ℕ) → drop {A = X} place [] ≡ []
 drop_none zero = refl
 drop_none (suc place) = refl
 
--- the same words as `clap` meets them
-record Met (request : Request) (place : ℕ) : Type 0 where
-  words : List Word
-  texts : map text_of words ≡ words_at place request
-  asks : Asks request words
+behind_all : {X : Type 0} (place : ℕ) (x : X) → insert [] place x ≡ x ∷ []
+behind_all {X} place x = ap₂ (λ (front back : List X). front ++ x ∷ back) (take_none place) (drop_none place)
+
+insert_three : {X : Type 0} (a b c x : X) (place : ℕ)
+    → insert (a ∷ b ∷ c ∷ []) (within_three place) x ≡ insert (a ∷ b ∷ c ∷ []) place x
+insert_three a b c x zero = refl
+insert_three a b c x (suc zero) = refl
+insert_three a b c x (suc (suc zero)) = refl
+insert_three {X} a b c x (suc (suc (suc place))) = ap (λ (l : List X). a ∷ b ∷ c ∷ l) (sym (behind_all place x))
+
+insert_four : {X : Type 0} (a b c d x : X) (place : ℕ)
+    → insert (a ∷ b ∷ c ∷ d ∷ []) (within_four place) x ≡ insert (a ∷ b ∷ c ∷ d ∷ []) place x
+insert_four a b c d x zero = refl
+insert_four {X} a b c d x (suc place) = ap (λ (l : List X). a ∷ l) (insert_three b c d x place)
+
+-- the same of two that are put among three
+insert_both : {X : Type 0} (a b c x y : X) (i j : ℕ)
+    → insert (insert (a ∷ b ∷ c ∷ []) (within_three i) x) (within_four j) y ≡ insert (insert (a ∷ b ∷ c ∷ []) i x) j y
+insert_both a b c x y zero j = insert_four x a b c y j
+insert_both a b c x y (suc zero) j = insert_four a x b c y j
+insert_both a b c x y (suc (suc zero)) j = insert_four a b x c y j
+insert_both {X} a b c x y (suc (suc (suc i))) j =
+    insert_four a b c x y j ∙ ap (λ (l : List X). insert l j y) (insert_three a b c x (suc (suc (suc i))))
 
 report_name : IsLongName (codes "report")
 report_name = record { is_read = refl; no_dashes = refl }
 
--- a report is asked for behind so many operands
-met_report : (lex yacc table_file file : Text) (place : ℕ) → IsPathWord lex → IsPathWord yacc → IsPathWord table_file
-    → IsPathWord file → Met (build lex yacc table_file (Some file)) place
-met_report lex yacc table_file file zero l y t f = record {
-  words = long (codes "report") ∷ path file ∷ path lex ∷ path yacc ∷ path table_file ∷ [];
-  texts = refl;
-  asks = record { are = (report_name, (f, (l, (y, (t, tt))))); each = refl; rest = refl; found = refl };
-}
-met_report lex yacc table_file file (suc zero) l y t f = record {
-  words = path lex ∷ long (codes "report") ∷ path file ∷ path yacc ∷ path table_file ∷ [];
-  texts = refl;
-  asks = record { are = (l, (report_name, (f, (y, (t, tt))))); each = refl; rest = refl; found = refl };
-}
-met_report lex yacc table_file file (suc (suc zero)) l y t f = record {
-  words = path lex ∷ path yacc ∷ long (codes "report") ∷ path file ∷ path table_file ∷ [];
-  texts = refl;
-  asks = record { are = (l, (y, (report_name, (f, (t, tt))))); each = refl; rest = refl; found = refl };
-}
-met_report lex yacc table_file file (suc (suc (suc place))) l y t f = record {
-  words = path lex ∷ path yacc ∷ path table_file ∷ long (codes "report") ∷ path file ∷ [];
-  texts = sym (ap₂ (λ (front back : List Text).
-      (lex ∷ yacc ∷ table_file ∷ front) ++ option_of (Some file) ++ back) (take_none place) (drop_none place));
-  asks = record { are = (l, (y, (t, (report_name, (f, tt))))); each = refl; rest = refl; found = refl };
+format_name : IsLongName (codes "format")
+format_name = record { is_read = refl; no_dashes = refl }
+
+met : {request : Request} {texts : List Text} {words : List Word} → AreWords words → map text_of words ≡ texts
+    → all_taken (shape_at (name_of request)) (walk_from nothing_held) words ≡ true
+    → rest_passes (shape_at (name_of request)) (held_after (shape_at (name_of request)) words) false ≡ true
+    → request_by (
+      (shape_at (name_of request)).name,
+      finished (shape_at (name_of request)).rules (held_after (shape_at (name_of request)) words),
+    ) ≡ Some request → Met request texts
+met {words} are texts each rest found = record {
+  words = words;
+  texts_are = texts;
+  asks = record { are = are; each = each; rest = rest; found = found };
 }
 
-met_at : (request : Request) (place : ℕ) → ArePathWords (operands_of request)
-    → ArePathWords (as_list (report_of request)) → Met request place
-met_at (tokens lex None) place o r = record {
-  words = path lex ∷ [];
-  texts = sym (no_option place (lex ∷ []));
-  asks = record { are = o; each = refl; rest = refl; found = refl };
+-- The words of `build` with its options, wherever they stand.
+module _ (lex yacc table_file : Text) (paths : IsPathWord lex × IsPathWord yacc × IsPathWord table_file)
+    (version : Version) where
+  abbrev operands : List (List Text)
+  operands = (lex ∷ []) ∷ (yacc ∷ []) ∷ (table_file ∷ []) ∷ []
+
+  abbrev operand_words : List (List Word)
+  operand_words = (path lex ∷ []) ∷ (path yacc ∷ []) ∷ (path table_file ∷ []) ∷ []
+
+  operands_are : AreGroups operand_words
+  operands_are = ((paths.0, tt), ((paths.1, tt), ((paths.2, tt), tt)))
+
+  module _ (number : Text) (n : IsPathWord number) (is : version_by (Some number) ≡ Some version) where
+    abbrev formatted : ℕ → List (List Word) → List (List Word)
+    formatted place groups = insert groups place (long (codes "format") ∷ path number ∷ [])
+
+    formatted_are : (place : ℕ) (groups : List (List Word)) → AreGroups groups
+        → AreWords (flat_map (λ group. group) (formatted place groups))
+    formatted_are place groups a =
+        are_words (formatted place groups) (are_inserted groups place _ a (format_name, (n, tt)))
+
+    -- a version is said, and no report
+    format_met : (j : ℕ) → Met (build lex yacc table_file None version)
+        (flat_map (λ group. group) (insert operands (within_three j) (codes "--format" ∷ number ∷ [])))
+    format_met zero =
+        met (formatted_are 0 operand_words operands_are) refl refl refl (ap (option_map (build lex yacc table_file None)) is)
+    format_met (suc zero) =
+        met (formatted_are 1 operand_words operands_are) refl refl refl (ap (option_map (build lex yacc table_file None)) is)
+    format_met (suc (suc zero)) =
+        met (formatted_are 2 operand_words operands_are) refl refl refl (ap (option_map (build lex yacc table_file None)) is)
+    format_met (suc (suc (suc j))) =
+        met (formatted_are 3 operand_words operands_are) refl refl refl (ap (option_map (build lex yacc table_file None)) is)
+
+    -- both are said
+    module _ (file : Text) (f : IsPathWord file) where
+      abbrev reported : ℕ → List (List Word)
+      reported place = insert operand_words place (long (codes "report") ∷ path file ∷ [])
+
+      both_are : (i j : ℕ) → AreWords (flat_map (λ group. group) (formatted j (reported i)))
+      both_are i j = formatted_are j (reported i) (are_inserted operand_words i _ operands_are (report_name, (f, tt)))
+
+      found_too : option_map (build lex yacc table_file (Some file)) (version_by (Some number))
+          ≡ Some (build lex yacc table_file (Some file) version)
+      found_too = ap (option_map (build lex yacc table_file (Some file))) is
+
+      both_met : (i j : ℕ) → Met (build lex yacc table_file (Some file) version)
+          (flat_map (λ group. group) (insert (insert operands (within_three i) (codes "--report" ∷ file ∷ []))
+          (within_four j) (codes "--format" ∷ number ∷ [])))
+      both_met zero zero = met (both_are 0 0) refl refl refl found_too
+      both_met zero (suc zero) = met (both_are 0 1) refl refl refl found_too
+      both_met zero (suc (suc zero)) = met (both_are 0 2) refl refl refl found_too
+      both_met zero (suc (suc (suc zero))) = met (both_are 0 3) refl refl refl found_too
+      both_met zero (suc (suc (suc (suc j)))) = met (both_are 0 4) refl refl refl found_too
+      both_met (suc zero) zero = met (both_are 1 0) refl refl refl found_too
+      both_met (suc zero) (suc zero) = met (both_are 1 1) refl refl refl found_too
+      both_met (suc zero) (suc (suc zero)) = met (both_are 1 2) refl refl refl found_too
+      both_met (suc zero) (suc (suc (suc zero))) = met (both_are 1 3) refl refl refl found_too
+      both_met (suc zero) (suc (suc (suc (suc j)))) = met (both_are 1 4) refl refl refl found_too
+      both_met (suc (suc zero)) zero = met (both_are 2 0) refl refl refl found_too
+      both_met (suc (suc zero)) (suc zero) = met (both_are 2 1) refl refl refl found_too
+      both_met (suc (suc zero)) (suc (suc zero)) = met (both_are 2 2) refl refl refl found_too
+      both_met (suc (suc zero)) (suc (suc (suc zero))) = met (both_are 2 3) refl refl refl found_too
+      both_met (suc (suc zero)) (suc (suc (suc (suc j)))) = met (both_are 2 4) refl refl refl found_too
+      both_met (suc (suc (suc i))) zero = met (both_are 3 0) refl refl refl found_too
+      both_met (suc (suc (suc i))) (suc zero) = met (both_are 3 1) refl refl refl found_too
+      both_met (suc (suc (suc i))) (suc (suc zero)) = met (both_are 3 2) refl refl refl found_too
+      both_met (suc (suc (suc i))) (suc (suc (suc zero))) = met (both_are 3 3) refl refl refl found_too
+      both_met (suc (suc (suc i))) (suc (suc (suc (suc j)))) = met (both_are 3 4) refl refl refl found_too
+
+  -- a report is asked for, and no version said
+  module _ (file : Text) (f : IsPathWord file) (is : version_by None ≡ Some version) where
+    report_are : (i : ℕ) → AreWords (flat_map (λ group. group)
+        (insert operand_words i (long (codes "report") ∷ path file ∷ [])))
+    report_are i = are_words (insert operand_words i (long (codes "report") ∷ path file ∷ []))
+        (are_inserted operand_words i _ operands_are (report_name, (f, tt)))
+
+    report_met : (i : ℕ) → Met (build lex yacc table_file (Some file) version)
+        (flat_map (λ group. group) (insert operands (within_three i) (codes "--report" ∷ file ∷ [])))
+    report_met zero = met (report_are 0) refl refl refl (ap (option_map (build lex yacc table_file (Some file))) is)
+    report_met (suc zero) = met (report_are 1) refl refl refl (ap (option_map (build lex yacc table_file (Some file))) is)
+    report_met (suc (suc zero)) = met (report_are 2) refl refl refl (ap (option_map (build lex yacc table_file (Some file))) is)
+    report_met (suc (suc (suc i))) = met (report_are 3) refl refl refl (ap (option_map (build lex yacc table_file (Some file))) is)
+
+-- the numbers say the versions, and are no options
+number_says : (version : Version) → version_by (Some (number_of version)) ≡ Some version
+number_says V1 = refl
+number_says V2 = refl
+
+no_minus : (first : ℕ) → (first ≡ 45 → ⊥) → IsPathWord (first ∷ [])
+no_minus first other = inr (λ rest e. other (ap (λ (word : Text). slice_index word 0) e))
+
+number_is_word : (version : Version) → IsPathWord (number_of version)
+number_is_word V1 = no_minus 49 (λ e. absurd (omega arith))
+number_is_word V2 = no_minus 50 (λ e. absurd (omega arith))
+
+-- the words of `build`
+build_met : (lex yacc table_file : Text) (report : Option Text) (version : Version) (i j : ℕ) (format : Option Version)
+    → version ≡ unwrap_or format V2 → IsPathWord lex × IsPathWord yacc × IsPathWord table_file
+    → ArePathWords (as_list report)
+    → Met (build lex yacc table_file report version)
+    (words_at i j (build lex yacc table_file report version) format)
+build_met lex yacc table_file None version i j None e paths r =
+    met (paths.0, (paths.1, (paths.2, tt))) refl refl refl
+    (ap (λ v. Some (build lex yacc table_file None v)) (sym e))
+build_met lex yacc table_file None version i j (Some v) e paths r =
+    subst (λ groups. Met (build lex yacc table_file None version) (flat_map (λ group. group) groups))
+    (insert_three (lex ∷ []) (yacc ∷ []) (table_file ∷ []) (codes "--format" ∷ number_of v ∷ []) j)
+    (format_met lex yacc table_file paths version (number_of v) (number_is_word v)
+    (number_says v ∙ ap (λ w. Some w) (sym e)) j)
+build_met lex yacc table_file (Some file) version i j None e paths r =
+    subst (λ groups. Met (build lex yacc table_file (Some file) version) (flat_map (λ group. group) groups))
+    (insert_three (lex ∷ []) (yacc ∷ []) (table_file ∷ []) (codes "--report" ∷ file ∷ []) i)
+    (report_met lex yacc table_file paths version file r.0 (ap (λ w. Some w) (sym e)) i)
+build_met lex yacc table_file (Some file) version i j (Some v) e paths r =
+    subst (λ groups. Met (build lex yacc table_file (Some file) version) (flat_map (λ group. group) groups))
+    (insert_both (lex ∷ []) (yacc ∷ []) (table_file ∷ []) (codes "--report" ∷ file ∷ [])
+    (codes "--format" ∷ number_of v ∷ []) i j)
+    (both_met lex yacc table_file paths version (number_of v) (number_is_word v)
+    (number_says v ∙ ap (λ w. Some w) (sym e)) file r.0 i j)
+
+-- other commands have no options
+met_alone : (request : Request) (i j : ℕ) (format : Option Version) (words : List Word) → format ≡ None
+    → map text_of words ≡ words_at i j request None → Asks request words → Met request (words_at i j request format)
+met_alone request i j format words none texts asks = record {
+  words = words;
+  texts_are = texts ∙ ap (words_at i j request) (sym none);
+  asks = asks;
 }
-met_at (tokens lex (Some text)) place o r = record {
-  words = path lex ∷ path text ∷ [];
-  texts = sym (no_option place (lex ∷ text ∷ []));
-  asks = record { are = o; each = refl; rest = refl; found = refl };
-}
-met_at (build lex yacc table_file None) place o r = record {
-  words = path lex ∷ path yacc ∷ path table_file ∷ [];
-  texts = sym (no_option place (lex ∷ yacc ∷ table_file ∷ []));
-  asks = record { are = o; each = refl; rest = refl; found = refl };
-}
-met_at (build lex yacc table_file (Some file)) place o r =
-    met_report lex yacc table_file file place o.0 o.1.0 o.1.1.0 r.0
-met_at (run table_file None) place o r = record {
-  words = path table_file ∷ [];
-  texts = sym (no_option place (table_file ∷ []));
-  asks = record { are = o; each = refl; rest = refl; found = refl };
-}
-met_at (run table_file (Some text)) place o r = record {
-  words = path table_file ∷ path text ∷ [];
-  texts = sym (no_option place (table_file ∷ text ∷ []));
-  asks = record { are = o; each = refl; rest = refl; found = refl };
-}
-met_at (try lex yacc None) place o r = record {
-  words = path lex ∷ path yacc ∷ [];
-  texts = sym (no_option place (lex ∷ yacc ∷ []));
-  asks = record { are = o; each = refl; rest = refl; found = refl };
-}
-met_at (try lex yacc (Some text)) place o r = record {
-  words = path lex ∷ path yacc ∷ path text ∷ [];
-  texts = sym (no_option place (lex ∷ yacc ∷ text ∷ []));
-  asks = record { are = o; each = refl; rest = refl; found = refl };
-}
+
+met_at : (request : Request) (i j : ℕ) (format : Option Version) → IsMeant request format
+    → ArePathWords (operands_of request) → ArePathWords (as_list (report_of request))
+    → Met request (words_at i j request format)
+met_at (tokens lex None) i j format m o r =
+    met_alone (tokens lex None) i j format (path lex ∷ []) m refl
+    (record { are = o; each = refl; rest = refl; found = refl })
+met_at (tokens lex (Some text)) i j format m o r =
+    met_alone (tokens lex (Some text)) i j format (path lex ∷ path text ∷ []) m refl
+    (record { are = o; each = refl; rest = refl; found = refl })
+met_at (build lex yacc table_file report version) i j format m o r =
+    build_met lex yacc table_file report version i j format m (o.0, o.1.0, o.1.1.0) r
+met_at (run table_file None) i j format m o r =
+    met_alone (run table_file None) i j format (path table_file ∷ []) m refl
+    (record { are = o; each = refl; rest = refl; found = refl })
+met_at (run table_file (Some text)) i j format m o r =
+    met_alone (run table_file (Some text)) i j format (path table_file ∷ path text ∷ []) m refl
+    (record { are = o; each = refl; rest = refl; found = refl })
+met_at (try lex yacc None) i j format m o r =
+    met_alone (try lex yacc None) i j format (path lex ∷ path yacc ∷ []) m refl
+    (record { are = o; each = refl; rest = refl; found = refl })
+met_at (try lex yacc (Some text)) i j format m o r =
+    met_alone (try lex yacc (Some text)) i j format (path lex ∷ path yacc ∷ path text ∷ []) m refl
+    (record { are = o; each = refl; rest = refl; found = refl })
 
 -- these words behind the program's name and the command's
 both_asked : (program : Text) (request : Request) (words : List Word) → Asks request words
@@ -145,9 +297,9 @@ both_asked program request words a = (
 pub asked : (words : List Text) (request : Request) → AskFor words request
     → (line_takes words ≡ true) × (request_of words ≡ Some request)
 asked words request a =
-    let m = met_at request a.place a.operand_paths a.report_path in
+    let m = met_at request a.report_place a.format_place a.format a.format_is_meant a.operand_paths a.report_path in
     let words_are : words ≡ a.program ∷ name_of request ∷ map text_of m.words =
-    a.words_are ∙ ap (λ ws. a.program ∷ name_of request ∷ ws) (sym m.texts) in
+    a.words_are ∙ ap (λ ws. a.program ∷ name_of request ∷ ws) (sym m.texts_are) in
     let both = both_asked a.program request m.words m.asks in
     (ap line_takes words_are ∙ both.0, ap request_of words_are ∙ both.1)
 

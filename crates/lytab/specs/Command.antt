@@ -6,6 +6,7 @@ use Rattle.lytab.specs.declared.command.Command.TheVariants.{Build, Run, Tokens,
 
 abbrev pub said : Command → Request
 said (Tokens lex text) = tokens lex.now (option_map (λ s. s.now) text)
-said (Build paths) = build paths.lex.now paths.yacc.now paths.tables.now (option_map (λ s. s.now) paths.report)
+said (Build paths version) =
+    build paths.lex.now paths.yacc.now paths.tables.now (option_map (λ s. s.now) paths.report) version
 said (Run table_file text) = run table_file.now (option_map (λ s. s.now) text)
 said (Try lex yacc text) = try lex.now yacc.now (option_map (λ s. s.now) text)

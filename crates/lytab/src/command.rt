@@ -1,9 +1,10 @@
 ghost use Rattle.lytab.specs.declared.command.CommandFault.TheVariants.{OutOfMemory};
 ghost use Rattle.std.specs.Prelude.{◌≡◌};
 
+use ly_base::Version;
 use std::alloc::AllocError;
 
-/// What the words ask for. Each field is a path; standard input is read where there is no `text`.
+/// What the words ask for. Each `&str` is a path; standard input is read where there is no `text`.
 #[derive(Clone, Copy, Debug, PartialEq, Eq)]
 pub enum Command<'a> {
     /// Write the tokens of a text under a lex file.
@@ -14,7 +15,12 @@ pub enum Command<'a> {
         text: Option<&'a str>,
     },
     /// Write the table file of a lex file and a yacc file.
-    Build(Paths<'a>),
+    Build {
+        /// What is read and written.
+        paths: Paths<'a>,
+        /// The version of the table file.
+        version: Version,
+    },
     /// Answer a text by a table file.
     Run {
         /// The table file.

@@ -2,7 +2,7 @@ ghost use Rattle.std.specs.Prelude.{◌≡◌, IfErr, IfOk, IsSome, OnOk, Some, 
 ghost use Rattle.std.specs.Prelude.{MatchResult, string_bytes, true};
 ghost use Rattle.clap.specs.Words.{first_value, found_of, kind_of, subcommand_rows_of};
 ghost use Rattle.lytab.specs.CommandLine.{build_by, line_faults, line_takes, request_by, request_of, run_by};
-ghost use Rattle.lytab.specs.CommandLine.{subcommand_in, tokens_by, try_by};
+ghost use Rattle.lytab.specs.CommandLine.{subcommand_in, tokens_by, try_by, version_by};
 ghost use Rattle.lytab.specs.Command.{said};
 ghost use Rattle.lytab.specs.Paths.{AskFor};
 ghost use Rattle.lytab.specs.Request.{Request};
@@ -11,13 +11,17 @@ use crate::command::{Command, CommandFault, Paths};
 use crate::line::line;
 use clap::ArgMatches;
 use clap::error::ErrorKind;
+use ly_base::Version;
 use std::alloc::Global;
 
+/// Where `clap` takes the words, nothing else can be wrong with them.
+const NO_VERSION: &str = "error: invalid value for '--format <VERSION>': it must be 1 or 2\n";
+
 /// Reads the words of the line, of which the first is the program's name: `tokens LEX [TEXT]`,
-/// `build LEX YACC TABLES [--report FILE]`, `run TABLES [TEXT]` or `try LEX YACC [TEXT]`.
+/// `build LEX YACC TABLES [--report FILE] [--format 1|2]`, `run TABLES [TEXT]` or `try LEX YACC [TEXT]`.
 ///
-/// `Help` comes where a help text is asked for, `Bad` where `clap` refuses the words for another reason,
-/// `OutOfMemory` where a growth was refused.
+/// `Help` comes where a help text is asked for, `Bad` where `clap` refuses the words for another reason or they ask for
+/// another version, `OutOfMemory` where a growth was refused.
 pub fn command<'a>(alloc: Global, words: &'a [String]) -> Result<Command<'a>, CommandFault>
     ensures said { IfOk result (λ c. request_of (map string_bytes words.entry.now) ≡ Some (said c)) }
     ensures faultless { OnOk result (line_faults (map string_bytes words.entry.now) ≡ []) }
@@ -29,7 +33,7 @@ pub fn command<'a>(alloc: Global, words: &'a [String]) -> Result<Command<'a>, Co
     let matches = matched(alloc, words)?;
     match command_in(&matches) {
         Some(command) => Ok(command),
-        None => Err(CommandFault::Bad(String::new(alloc))),
+        None => Err(CommandFault::Bad(String::from_str(alloc, NO_VERSION)?)),
     }
 }
 
@@ -74,12 +78,30 @@ fn tokens_in<'a>(values: &ArgMatches<'a>) -> Option<Command<'a>>
 fn build_in<'a>(values: &ArgMatches<'a>) -> Option<Command<'a>>
     ensures { option_map said result ≡ build_by (first_value (found_of values.now)) }
 {
-    Some(Command::Build(Paths {
+    let paths = Paths {
         lex: values.get_str("LEX")?,
         yacc: values.get_str("YACC")?,
         tables: values.get_str("TABLES")?,
         report: values.get_str("FILE"),
-    }))
+    };
+    Some(Command::Build {
+        paths,
+        version: version_of(values.get_str("VERSION"))?,
+    })
+}
+
+/// The version that a number says, or the one that is meant where none is said. There are no others.
+fn version_of(number: Option<&str>) -> Option<Version>
+    ensures { result ≡ version_by (option_map (λ s. s.now) number.entry) }
+{
+    match number {
+        None => Some(Version::V2),
+        Some(number) => match number {
+            "1" => Some(Version::V1),
+            "2" => Some(Version::V2),
+            _ => None,
+        },
+    }
 }
 
 /// The command `run` with these values.

@@ -1,7 +1,7 @@
 ghost use Rattle.std.specs.Prelude.{◌≡◌, IfOk, false};
 ghost use Rattle.clap.specs.Words.{app_of, rule_of};
-ghost use Rattle.lytab.specs.CommandLine.{IsApp, build_app, line_app, path_rule, report_rule, run_app, text_rule};
-ghost use Rattle.lytab.specs.CommandLine.{tokens_app, try_app};
+ghost use Rattle.lytab.specs.CommandLine.{IsApp, build_app, format_rule, line_app, path_rule, report_rule};
+ghost use Rattle.lytab.specs.CommandLine.{run_app, text_rule, tokens_app, try_app};
 
 use clap::{Arg, Command};
 use std::alloc::{AllocError, Global};
@@ -38,7 +38,8 @@ fn build_line<'a>(alloc: Global) -> Result<Command<'a>, AllocError>
         .arg(path(alloc, "LEX", LEX))?
         .arg(path(alloc, "YACC", YACC))?
         .arg(path(alloc, "TABLES", "The table file, which is written"))?
-        .arg(report(alloc))
+        .arg(report(alloc))?
+        .arg(format(alloc))
 }
 
 /// The subcommand `run`.
@@ -90,4 +91,14 @@ fn report<'a>(alloc: Global) -> Arg<'a>
     Arg::new(alloc, "FILE")
         .long("report")
         .help("The report, which is written too")
+}
+
+/// The option of a version.
+fn format<'a>(alloc: Global) -> Arg<'a>
+    ensures rule { rule_of result ≡ format_rule }
+    ensures local { result.global ≡ false }
+{
+    Arg::new(alloc, "VERSION")
+        .long("format")
+        .help("The version of the table file: 1, or 2 if it is left out")
 }

@@ -71,8 +71,8 @@ fn carry_out<'a, F: Files, I: Read, O: Write>(
             let rules = Rules::Tokens(read_file(files, alloc, lex)?);
             answer_text(files, alloc, &rules, text, input, output)
         }
-        Command::Build(paths) => {
-            build_tables(files, alloc, paths, output)?;
+        Command::Build { paths, version } => {
+            build_tables(files, alloc, paths, version, output)?;
             Ok(true)
         }
         Command::Run { tables, text } => {

@@ -9,7 +9,7 @@ use Rattle.ly_lexread.specs.declared.fault.LexFault.TheVariants as lex
 use Rattle.ly_tokens.specs.declared.fault.TokensFault.{TokensFault}
 use Rattle.ly_tokens.specs.declared.fault.TokensFault.TheVariants.{Lex, OutOfMemory}
 use Rattle.ly_tokens.specs.TokensFault.{HasNoTokens, fault_of_lex}
-use Rattle.ly_base.specs.Limits.{Sizes, version_1}
+use Rattle.ly_base.specs.Limits.{Sizes, version_2}
 use Rattle.ly_base.specs.declared.lexeme.End.{End}
 use Rattle.ly_lexread.specs.LexText.{IsLight, LexText}
 use Rattle.ly_lexread.specs.declared.file.LexFile.{LexFile}
@@ -81,27 +81,27 @@ returns-clause-beginning g c = λ written is.
     )
 
 pub returns-clause-refused : goal.returns-clause-refused
-returns-clause-refused g c = λ fault is. absurd (subst (λ r. IfErr r (HasNoTokens version_1 c.in_ok-file.file)) is
+returns-clause-refused g c = λ fault is. absurd (subst (λ r. IfErr r (HasNoTokens version_2 c.in_ok-file.file)) is
     c.write_answer.ensures.refused)
 
 pub returns-clause-heavy_pattern : goal.returns-clause-heavy_pattern
-returns-clause-heavy_pattern g c = λ fault is. absurd (subst (λ r. IfErr r (HasNoTokens version_1 c.in_ok-file.file)) is
+returns-clause-heavy_pattern g c = λ fault is. absurd (subst (λ r. IfErr r (HasNoTokens version_2 c.in_ok-file.file)) is
     c.write_answer.ensures.refused)
 
 pub returns-clause-none_light : goal.returns-clause-none_light
-returns-clause-none_light g c = λ fault is. absurd (subst (λ r. IfErr r (HasNoTokens version_1 c.in_ok-file.file)) is
+returns-clause-none_light g c = λ fault is. absurd (subst (λ r. IfErr r (HasNoTokens version_2 c.in_ok-file.file)) is
     c.write_answer.ensures.refused)
 
 pub returns-clause-of_text : goal.returns-clause-of_text
-returns-clause-of_text g c = λ fault is. absurd (subst (λ r. IfErr r (HasNoTokens version_1 c.in_ok-file.file)) is
+returns-clause-of_text g c = λ fault is. absurd (subst (λ r. IfErr r (HasNoTokens version_2 c.in_ok-file.file)) is
     c.write_answer.ensures.refused)
 
 pub returns-clause-heavy : goal.returns-clause-heavy
 returns-clause-heavy g c = λ fault is.
-    let heavy = subst (λ r. IfErr r (HasNoTokens version_1 c.in_ok-file.file)) is c.write_answer.ensures.refused in
+    let heavy = subst (λ r. IfErr r (HasNoTokens version_2 c.in_ok-file.file)) is c.write_answer.ensures.refused in
     (heavy.0, (c.in_ok-file.file, c.in_ok-file.ensures.ok, c.in_ok-file.ensures.light, heavy.1))
 
 pub returns-clause-many : goal.returns-clause-many
 returns-clause-many g c = λ fault is.
-    let many = subst (λ r. IfErr r (HasNoTokens version_1 c.in_ok-file.file)) is c.write_answer.ensures.refused in
+    let many = subst (λ r. IfErr r (HasNoTokens version_2 c.in_ok-file.file)) is c.write_answer.ensures.refused in
     (many.0, (c.in_ok-file.file, c.in_ok-file.ensures.ok, c.in_ok-file.ensures.light, many.1, many.2))
