@@ -1,6 +1,8 @@
--- The numbers and the names of the faults of table files.
+-- The numbers and the names of the faults of table files, and of writing them.
 use Rattle.std.specs.Prelude.{ℕ, List, Option, Some, None, codes}
 use Rattle.ly_tables.specs.declared.fault.TableFault.{TableFault}
+use Rattle.ly_tables.specs.declared.format_fault.FormatFault.{FormatFault}
+use Rattle.ly_tables.specs.declared.format_fault.FormatFault.TheVariants as format
 use Rattle.ly_tables.specs.declared.fault.TableFault.TheVariants.{BadMagic, BadVersion, Endless, OutOfMemory}
 use Rattle.ly_tables.specs.declared.fault.TableFault.TheVariants.{OutOfRange, Trailing, Truncated}
 
@@ -23,3 +25,13 @@ table_name Trailing = codes "Trailing"
 table_name (OutOfRange section) = codes "OutOfRange"
 table_name Endless = codes "Endless"
 table_name OutOfMemory = codes "OutOfMemory"
+
+-- a fault's number; want of memory has none
+abbrev pub format_number : FormatFault → Option ℕ
+format_number format.TooLargeForVersion = Some 86
+format_number format.OutOfMemory = None
+
+-- a fault's name
+abbrev pub format_name : FormatFault → List ℕ
+format_name format.TooLargeForVersion = codes "TooLargeForVersion"
+format_name format.OutOfMemory = codes "OutOfMemory"

@@ -1,8 +1,10 @@
 -- Laws of table files.
 use Rattle.std.specs.Prelude.{◌≡◌, ◌++◌, ℕ, List}
-use Rattle.std.specs.Int.{Width, w16}
+use Rattle.std.specs.Int.{Width}
+use Rattle.ly_base.specs.declared.version.Version.{Version}
+use Rattle.ly_base.specs.declared.version.Version.TheVariants.{V2}
 use Rattle.ly_pack.specs.Steady.{IsSteady}
-use Rattle.ly_tables.specs.Ranges.{Counts, IsWithinRanges, version_1}
+use Rattle.ly_tables.specs.Ranges.{IsWithinVersion, counts_of, width_of}
 use Rattle.ly_tables.specs.RawOf.{raw_of}
 use Rattle.ly_tables.specs.RawSections.{AreSectionsWithin}
 use Rattle.ly_tables.specs.RawSet.{IsRawSet, RawSet, raw_spelling}
@@ -15,28 +17,32 @@ use Rattle.ly_tables.specs.declared.fault.TableFault.TheVariants.{OutOfMemory}
 
 -- two files of one set, in one version, are equal
 abbrev pub HasOneSpelling : Type 0
-HasOneSpelling = (a b : List ℕ) (w : Width) (version : ℕ) (counts : Counts) (s : TableSet)
-    → TableText a w version counts s → TableText b w version counts s → a ≡ b
+HasOneSpelling = (a b : List ℕ) (v : Version) (s : TableSet) → TableText a v s → TableText b v s → a ≡ b
 
 -- a set is spelled as its numbers are
 abbrev pub IsSpelledByNumbers : Type 0
 IsSpelledByNumbers = (w : Width) (version : ℕ) (s : TableSet)
     → spelling w version s ≡ raw_spelling w version (raw_of w s)
 
--- the numbers of a set that is within the ranges fit their fields, and are within the ranges of their sections
+-- the numbers of a set that is within a version's ranges fit their fields, and are within the ranges of their sections
 abbrev pub AreNumbersWithin : Type 0
-AreNumbersWithin = (s : TableSet) → IsWithinRanges w16 version_1 s
-    → IsRawSet w16 (raw_of w16 s) × AreSectionsWithin w16 version_1 (raw_of w16 s)
+AreNumbersWithin = (v : Version) (s : TableSet) → IsWithinVersion v s
+    → IsRawSet (width_of v) (raw_of (width_of v) s)
+    × AreSectionsWithin (width_of v) (counts_of v) (raw_of (width_of v) s)
 
--- two sets of one file are equal
+-- a set that is within a version's ranges is within those of version 2
+abbrev pub IsWithinVersion2 : Type 0
+IsWithinVersion2 = (v : Version) (s : TableSet) → IsWithinVersion v s → IsWithinVersion V2 s
+
+-- two sets of one file are equal, and so are their versions
 abbrev pub HasOneSet : Type 0
-HasOneSet = (bytes : List ℕ) (a b : TableSet) → TableText bytes w16 1 version_1 a → TableText bytes w16 1 version_1 b
-    → a ≡ b
+HasOneSet = (bytes : List ℕ) (v w : Version) (a b : TableSet) → TableText bytes v a → TableText bytes w b
+    → (v ≡ w) × (a ≡ b)
 
--- bytes that are refused, but for want of memory, are the file of no set whose tables are steady
+-- bytes that are refused, but for want of memory, are the file of no set whose tables are steady, in no version
 abbrev pub IsRefusalExact : Type 0
-IsRefusalExact = (bytes : List ℕ) (s : TableSet) (fault : TableFault) → IsRefusedAs w16 1 version_1 bytes fault
-    → (fault ≡ OutOfMemory → ⊥) → TableText bytes w16 1 version_1 s → IsSteady (machine_of s) → ⊥
+IsRefusalExact = (bytes : List ℕ) (v : Version) (s : TableSet) (fault : TableFault) → IsRefusedAs bytes fault
+    → (fault ≡ OutOfMemory → ⊥) → TableText bytes v s → IsSteady (machine_of s) → ⊥
 
 -- what stands behind a file's numbers tells neither apart: a file of some numbers is no beginning of one of others
 abbrev pub RawIsOne : Width → Type 0

@@ -1,12 +1,14 @@
 -- What a table set of a version may hold: every number fits, and what it names is there.
 use Rattle.std.specs.Prelude.{◌≡◌, ℕ, ◌+◌, ◌*◌, ◌^◌, ◌<◌, ◌≤◌, List, All, Some, length, slice_get, codes}
-use Rattle.std.specs.Int.{Width, byte_len}
+use Rattle.std.specs.Int.{Width, w16, w32, byte_len}
 use Rattle.ly_base.specs.Shape.{Shape, node}
 use Rattle.ly_base.specs.declared.cut.Cut.{Cut}
 use Rattle.ly_base.specs.declared.cut.Cut.TheVariants.{Whole, Head, Tail}
 use Rattle.ly_base.specs.declared.scan_action.Emitted.{Emitted}
 use Rattle.ly_base.specs.declared.scan_action.Emitted.TheVariants.{Terminal}
 use Rattle.ly_base.specs.declared.numbers.StateNo.{StateNo}
+use Rattle.ly_base.specs.declared.version.Version.{Version}
+use Rattle.ly_base.specs.declared.version.Version.TheVariants.{V1, V2}
 use Rattle.ly_pack.specs.Machine.{IsMachine, TableRule}
 use Rattle.ly_pack.specs.Rows.{Comb, IsComb, Used}
 use Rattle.ly_tables.specs.TableSet.{ScanRule, Starts, TableSet, machine_of}
@@ -18,8 +20,20 @@ pub record Counts : Type 0 where
   pub conditions : ℕ
   pub states : ℕ
 
-abbrev pub version_1 : Counts
-version_1 = record { symbols = 4095; rules = 8191; conditions = 255; states = 16383 }
+-- how wide the numbers of a version are
+abbrev pub width_of : Version → Width
+width_of V1 = w16
+width_of V2 = w32
+
+-- the number that a file has of its version
+abbrev pub number_of : Version → ℕ
+number_of V1 = 1
+number_of V2 = 2
+
+-- the greatest counts of a version
+abbrev pub counts_of : Version → Counts
+counts_of V1 = record { symbols = 4095; rules = 8191; conditions = 255; states = 16383 }
+counts_of V2 = record { symbols = 16383; rules = 131071; conditions = 255; states = 262143 }
 
 -- a name has one byte or more
 abbrev pub IsNameLong : List ℕ → Type 0
@@ -98,3 +112,7 @@ pub record IsWithinRanges (w : Width) (counts : Counts) (s : TableSet) : Type 0 
   pub actions : AreRows (length s.defaults) (length s.terminals) s.actions
   pub gotos : AreRows (length s.defaults) s.nonterminals s.gotos
   pub machine : IsMachine (machine_of s)
+
+-- a set is within the ranges of a version
+abbrev pub IsWithinVersion : Version → TableSet → Type 0
+IsWithinVersion v s = IsWithinRanges (width_of v) (counts_of v) s

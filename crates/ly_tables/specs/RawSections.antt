@@ -1,10 +1,10 @@
 -- The ranges of a table file, section by section: what its numbers may be.
-use Rattle.std.specs.Prelude.{◌≡◌, ◌≢◌, ◌⊎◌, ℕ, ◌+◌, ◌-◌, ◌*◌, ◌^◌, ◌<◌, ◌≤◌, [], length, All, AllPairs}
+use Rattle.std.specs.Prelude.{◌≡◌, ◌≢◌, ◌⊎◌, ℕ, ◌+◌, ◌<◌, ◌≤◌, [], length, All, AllPairs}
 use Rattle.std.specs.Prelude.{Some, slice_get, codes}
-use Rattle.std.specs.Int.{Width, byte_len}
+use Rattle.std.specs.Int.{Width}
 use Rattle.ly_tables.specs.Ranges.{Counts, IsNameLong}
 use Rattle.ly_tables.specs.RawSet.{RawComb, RawRule, RawScanRule, RawSet}
-use Rattle.ly_tables.specs.Spelling.{none_of}
+use Rattle.ly_tables.specs.Spelling.{least_reduction, least_shift, none_of}
 
 -- two or more terminals, the first two the end and that of no token; a nonterminal; and no more symbols than may be
 pub record AreSymbolsWithin (counts : Counts) (r : RawSet) : Type 0 where
@@ -92,8 +92,8 @@ pub record AreDefaultsWithin (counts : Counts) (r : RawSet) : Type 0 where
 -- An action: an error; accepting, before the end alone; a shift, never there; or a reduction.
 abbrev pub IsActionWithin : Width → RawSet → ℕ → ℕ → Type 0
 IsActionWithin w r column n = (n ≡ 0) ⊎ ((n ≡ 1) × (column ≡ 0))
-    ⊎ ((s : ℕ) × (n ≡ 2 ^ (8 * byte_len w - 1) + s) × (s < length r.defaults) × (1 ≤ column))
-    ⊎ ((p : ℕ) × (n ≡ 2 ^ (8 * byte_len w - 2) + p) × (1 ≤ p) × (p ≤ length r.rules))
+    ⊎ ((s : ℕ) × (n ≡ least_shift w + s) × (s < length r.defaults) × (1 ≤ column))
+    ⊎ ((p : ℕ) × (n ≡ least_reduction w + p) × (1 ≤ p) × (p ≤ length r.rules))
 
 -- the sections behind the header, in their order
 pub data Section : Type 0 where

@@ -1,42 +1,50 @@
 -- What bytes are refused for that are no table file, in this order.
 use Rattle.std.specs.Prelude.{◌≡◌, ◌≢◌, ◌⊎◌, ℕ, ◌<◌, List, [], ◌++◌, length, take, codes}
-use Rattle.std.specs.Int.{Width, w16, to_be_bytes}
+use Rattle.std.specs.Int.{w16, to_be_bytes}
+use Rattle.ly_base.specs.declared.version.Version.{Version}
 use Rattle.ly_pack.specs.Steady.{IsSteady}
-use Rattle.ly_tables.specs.Ranges.{Counts}
+use Rattle.ly_tables.specs.Ranges.{counts_of, number_of, width_of}
 use Rattle.ly_tables.specs.RawSections.{Section, IsFirstOut, section_number}
 use Rattle.ly_tables.specs.RawSet.{RawSet, IsRawSet, raw_spelling}
 use Rattle.ly_tables.specs.TableSet.{TableSet, machine_of}
 use Rattle.ly_tables.specs.TableText.{TableText}
 
+-- the bytes of numbers in a version
+abbrev pub raw_file : Version → RawSet → List ℕ
+raw_file v r = raw_spelling (width_of v) (number_of v) r
+
 -- the first four bytes, or the fewer that there are, don't begin `LYTB`
 abbrev pub HasOtherMagic : List ℕ → Type 0
 HasOtherMagic bytes = take 4 bytes ≢ take (length bytes) (codes "LYTB")
 
--- behind them another version stands
-abbrev pub HasOtherVersion : ℕ → List ℕ → Type 0
-HasOtherVersion version bytes = (other : ℕ) × (rest : List ℕ) × (other < 65536) × (other ≢ version)
+-- behind them stands what is the number of no version
+abbrev pub HasOtherVersion : List ℕ → Type 0
+HasOtherVersion bytes = (other : ℕ) × (rest : List ℕ) × (other < 65536) × ((v : Version) → other ≢ number_of v)
     × (bytes ≡ codes "LYTB" ++ to_be_bytes w16 other ++ rest)
 
 -- the version is missing: behind the first four bytes, or the fewer that there are, stands at most one
 abbrev pub LacksVersion : List ℕ → Type 0
 LacksVersion bytes = (length bytes < 6) × (take 4 bytes ≡ take (length bytes) (codes "LYTB"))
 
--- a field is missing: the version, or the bytes are a proper beginning of a file of some numbers
-abbrev pub IsTruncated : Width → ℕ → List ℕ → Type 0
-IsTruncated w version bytes = LacksVersion bytes ⊎ ((r : RawSet) × (missing : List ℕ) × IsRawSet w r × (missing ≢ [])
-    × (bytes ++ missing ≡ raw_spelling w version r))
+-- the bytes are a proper beginning of a file of some numbers, in some version
+abbrev pub IsBegun : List ℕ → Type 0
+IsBegun bytes = (v : Version) × (r : RawSet) × (missing : List ℕ) × IsRawSet (width_of v) r × (missing ≢ [])
+    × (bytes ++ missing ≡ raw_file v r)
 
--- bytes are left behind such a file
-abbrev pub HasTrailing : Width → ℕ → List ℕ → Type 0
-HasTrailing w version bytes = (r : RawSet) × (left : List ℕ) × IsRawSet w r × (left ≢ [])
-    × (bytes ≡ raw_spelling w version r ++ left)
+-- a field is missing: the version, or another
+abbrev pub IsTruncated : List ℕ → Type 0
+IsTruncated bytes = LacksVersion bytes ⊎ IsBegun bytes
+
+-- bytes are left behind a file of some numbers
+abbrev pub HasTrailing : List ℕ → Type 0
+HasTrailing bytes = (v : Version) × (r : RawSet) × (left : List ℕ) × IsRawSet (width_of v) r × (left ≢ [])
+    × (bytes ≡ raw_file v r ++ left)
 
 -- the numbers of the section of this number, which is the first, are out of its ranges
-abbrev pub IsOutOfRange : Width → ℕ → Counts → ℕ → List ℕ → Type 0
-IsOutOfRange w version counts number bytes = (r : RawSet) × (section : Section) × IsRawSet w r
-    × (bytes ≡ raw_spelling w version r) × IsFirstOut w counts r section × (number ≡ section_number section)
+abbrev pub IsOutOfRange : ℕ → List ℕ → Type 0
+IsOutOfRange number bytes = (v : Version) × (r : RawSet) × (section : Section) × IsRawSet (width_of v) r
+    × (bytes ≡ raw_file v r) × IsFirstOut (width_of v) (counts_of v) r section × (number ≡ section_number section)
 
 -- the file is that of a set whose parser's tables aren't steady
-abbrev pub IsEndlessSet : Width → ℕ → Counts → List ℕ → Type 0
-IsEndlessSet w version counts bytes = (s : TableSet) × TableText bytes w version counts s
-    × (IsSteady (machine_of s) → ⊥)
+abbrev pub IsEndlessSet : List ℕ → Type 0
+IsEndlessSet bytes = (v : Version) × (s : TableSet) × TableText bytes v s × (IsSteady (machine_of s) → ⊥)

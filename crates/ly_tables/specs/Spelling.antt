@@ -64,12 +64,20 @@ shape (node name places) = 2 ∷ string name ++ length places ∷ places
 abbrev pub rule : Width → TableRule → List ℕ
 rule w r = number w r.left ++ r.body_length ∷ shape r.shape
 
--- an action as a number: shifts have the greatest bit, reductions the next
+-- what a shift's number has besides that of its state: the greatest bit
+abbrev pub least_shift : Width → ℕ
+least_shift w = 2 ^ (8 * byte_len w - 1)
+
+-- what a reduction's has besides that of its rule: the next
+abbrev pub least_reduction : Width → ℕ
+least_reduction w = 2 ^ (8 * byte_len w - 2)
+
+-- an action as a number
 abbrev pub action_number : Width → TableAction → ℕ
 action_number w error = 0
 action_number w accept = 1
-action_number w (shift s) = 2 ^ (8 * byte_len w - 1) + s
-action_number w (reduce p) = 2 ^ (8 * byte_len w - 2) + p
+action_number w (shift s) = least_shift w + s
+action_number w (reduce p) = least_reduction w + p
 
 -- the entry of a slot as a number; 0 where it is free
 abbrev pub next_of : {E : Type 0} → (E → ℕ) → Option (Used E) → ℕ

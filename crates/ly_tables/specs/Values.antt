@@ -1,9 +1,9 @@
 -- What contracts see of table sets.
 use Rattle.std.specs.Prelude.{ℕ, List, Option, map}
-use Rattle.std.specs.Int.{w16}
 use Rattle.std.specs.Option.{option_map}
 use Rattle.ly_base.specs.declared.numbers.RuleNo.{RuleNo}
 use Rattle.ly_base.specs.declared.numbers.StateNo.{StateNo}
+use Rattle.ly_base.specs.declared.version.Version.TheVariants.{V2}
 use Rattle.std.specs.declared.alloc.Global.{Global}
 use Rattle.std.specs.declared.vec.Vec.{Vec}
 use Rattle.ly_base.specs.declared.numbers.Sym.{Sym}
@@ -12,7 +12,7 @@ use Rattle.ly_pack.specs.Steady.{IsSteady}
 use Rattle.ly_pack.specs.Values.{rule_from}
 use Rattle.ly_pack.specs.declared.action.TableAction as action
 use Rattle.ly_pack.specs.declared.rule.TableRule as rule
-use Rattle.ly_tables.specs.Ranges.{IsWithinRanges, version_1}
+use Rattle.ly_tables.specs.Ranges.{IsWithinVersion}
 use Rattle.ly_tables.specs.TableSet.{ScanRule, Starts, TableSet, machine_of}
 use Rattle.ly_tables.specs.declared.scan_rule.ScanRule as scan
 use Rattle.ly_tables.specs.declared.starts.Starts as start
@@ -49,6 +49,6 @@ abbrev pub set_of : parts.TableParts → TableSet
 set_of p = set_from p.terminals.items p.nonterminals p.literals.items p.scan_rules.items p.conditions.items
     p.class_count p.classes.items p.accepted.items p.scan_rows p.rules.items p.defaults.items p.actions p.gotos
 
--- what a set's type keeps: it is within the ranges of version 1, and each run of its parser's tables ends
+-- what a set's type keeps: it is within the ranges of version 2, and each run of its parser's tables ends
 abbrev pub IsWithinAndSteady : TableSet → Type 0
-IsWithinAndSteady s = IsWithinRanges w16 version_1 s × IsSteady (machine_of s)
+IsWithinAndSteady s = IsWithinVersion V2 s × IsSteady (machine_of s)

@@ -2,71 +2,67 @@
 ghost use Rattle.std.specs.Prelude.{◌≡◌, ◌++◌, ◌<◌, ◌^◌, ℕ, All, OnOk, length, map};
 ghost use Rattle.std.specs.List.{flat_map};
 ghost use Rattle.std.specs.Option.{option_map};
-ghost use Rattle.std.specs.Int.{w16, w32, to_be_bytes};
+ghost use Rattle.std.specs.Int.{w32, to_be_bytes};
 ghost use Rattle.ly_pack.specs.Combs.{slots_from, used_from};
-ghost use Rattle.ly_tables.specs.Private.Short.{IsShort, IsSlotShort};
+ghost use Rattle.ly_base.specs.declared.version.Version.{Version as AnyVersion};
+ghost use Rattle.ly_tables.specs.Private.Short.{IsSlotShort};
+ghost use Rattle.ly_tables.specs.Ranges.{width_of};
+ghost use Rattle.ly_tables.specs.RawSet.{Fits};
 ghost use Rattle.ly_tables.specs.Spelling.{check_of, comb, next_of, number};
 
-use crate::numbers::{NONE, push_number, push_wide};
-use ly_base::{RuleNo, StateNo};
+use crate::numbers::{none, push_number, push_wide, reduction, shift};
+use ly_base::{RuleNo, StateNo, Version};
 use ly_pack::{Comb, Slot, TableAction};
 use std::alloc::AllocError;
 
-/// An entry of rows, which a number stands for.
+/// An entry of rows, which a number of each version stands for.
 pub(crate) trait Entry: Copy {
-    /// Its number.
-    ghost code: { Self → ℕ };
+    /// Its number in a version.
+    ghost code: { AnyVersion → Self → ℕ };
 
-    /// What a number means that is one's.
-    ghost meant: { ℕ → Self };
+    /// What a number of a version means that is one's.
+    ghost meant: { AnyVersion → ℕ → Self };
 
-    /// The entry of a number.
-    fn of(number: u32) -> Self
-        ensures { result ≡ meant number };
+    /// The entry of a number of a version.
+    fn of(version: Version, number: u32) -> Self
+        ensures { result ≡ meant version number };
 
-    /// Its number.
-    fn number(self) -> u32
-        requires { IsShort (code self) }
-        ensures { result ≡ code self };
+    /// Its number in a version.
+    fn number(self, version: Version) -> u32
+        requires { Fits (width_of version) (code version self) }
+        ensures { result ≡ code version self };
 }
 
 impl Entry for StateNo {
     ghost use Rattle.ly_tables.specs.Private.Meaning.{state_meant};
 
-    ghost code = { λ s. s.0 };
+    ghost code = { λ v s. s.0 };
 
-    ghost meant = { state_meant };
+    ghost meant = { λ v. state_meant };
 
-    fn of(number: u32) -> StateNo {
+    fn of(_version: Version, number: u32) -> StateNo {
         StateNo(number)
     }
 
-    fn number(self) -> u32 {
+    fn number(self, _version: Version) -> u32 {
         self.0
     }
 }
 
-/// What a shift's number has besides that of its state.
-pub(crate) const SHIFT: u32 = 0x8000;
-
-/// What a reduction's has besides that of its rule.
-pub(crate) const REDUCE: u32 = 0x4000;
-
 impl Entry for TableAction {
-    ghost use Rattle.std.specs.Int.{w16};
     ghost use Rattle.ly_pack.specs.Values.{action_from};
     ghost use Rattle.ly_tables.specs.Private.Meaning.{action_meant};
     ghost use Rattle.ly_tables.specs.Spelling.{action_number};
 
-    ghost code = { λ a. action_number w16 (action_from a) };
+    ghost code = { λ v a. action_number (width_of v) (action_from a) };
 
-    ghost meant = { action_meant };
+    ghost meant = { λ v. action_meant (width_of v) };
 
-    fn of(number: u32) -> TableAction {
-        if number >= SHIFT {
-            TableAction::Shift(StateNo(number - SHIFT))
-        } else if number >= REDUCE {
-            TableAction::Reduce(RuleNo(number - REDUCE))
+    fn of(version: Version, number: u32) -> TableAction {
+        if number >= shift(version) {
+            TableAction::Shift(StateNo(number - shift(version)))
+        } else if number >= reduction(version) {
+            TableAction::Reduce(RuleNo(number - reduction(version)))
         } else if number == 0 {
             TableAction::Error
         } else {
@@ -74,27 +70,31 @@ impl Entry for TableAction {
         }
     }
 
-    fn number(self) -> u32 {
+    fn number(self, version: Version) -> u32 {
         match self {
             TableAction::Error => 0,
             TableAction::Accept => 1,
-            TableAction::Shift(state) => SHIFT + state.0,
-            TableAction::Reduce(rule) => REDUCE + rule.0,
+            TableAction::Shift(state) => shift(version) + state.0,
+            TableAction::Reduce(rule) => reduction(version) + rule.0,
         }
     }
 }
 
 /// Rows laid over one another: their bases, how many slots there are, the entries of these, and their rows.
-pub(crate) fn push_comb<E: Entry>(out: &mut Vec<u8>, rows: &Comb<E>) -> Result<(), AllocError>
+pub(crate) fn push_comb<E: Entry>(
+    out: &mut Vec<u8>,
+    version: Version,
+    rows: &Comb<E>,
+) -> Result<(), AllocError>
     requires count { length rows.now.slots < 2 ^ 32 }
-    requires slots { All (IsSlotShort E.code) rows.now.slots }
-    ensures { OnOk result (out.new.items ≡ out.old.items ++ comb w16 E.code rows.now) }
+    requires slots { All (IsSlotShort (width_of version) (E.code version)) rows.now.slots }
+    ensures { OnOk result (out.new.items ≡ out.old.items ++ comb (width_of version) (E.code version) rows.now) }
 {
     push_bases(out, rows.bases())?;
     let slots = rows.slots();
     push_wide(out, slots.len() as u32)?;
-    push_entries(out, slots)?;
-    push_checks(out, slots)
+    push_entries(out, version, slots)?;
+    push_checks(out, version, slots)
 }
 
 /// The bases of rows.
@@ -108,46 +108,54 @@ fn push_bases(out: &mut Vec<u8>, bases: &[u32]) -> Result<(), AllocError>
 }
 
 /// The entries of slots, 0 where one is free.
-fn push_entries<E: Entry>(out: &mut Vec<u8>, slots: &[Option<Slot<E>>]) -> Result<(), AllocError>
-    requires { All (IsSlotShort E.code) (slots_from slots.now) }
+fn push_entries<E: Entry>(
+    out: &mut Vec<u8>,
+    version: Version,
+    slots: &[Option<Slot<E>>],
+) -> Result<(), AllocError>
+    requires { All (IsSlotShort (width_of version) (E.code version)) (slots_from slots.now) }
     ensures { OnOk result (out.new.items ≡ out.old.items
-        ++ flat_map (λ u. number w16 (next_of E.code u)) (slots_from slots.now)) }
+        ++ flat_map (λ u. number (width_of version) (next_of (E.code version) u)) (slots_from slots.now)) }
 {
     for slot in slots {
-        push_number(out, entry_number(*slot))?;
+        push_number(out, version, entry_number(version, *slot))?;
     }
     Ok(())
 }
 
 /// The entry of a slot as a number.
-fn entry_number<E: Entry>(slot: Option<Slot<E>>) -> u32
-    requires { IsSlotShort E.code (option_map used_from slot) }
-    ensures { result ≡ next_of E.code (option_map used_from slot) }
+fn entry_number<E: Entry>(version: Version, slot: Option<Slot<E>>) -> u32
+    requires { IsSlotShort (width_of version) (E.code version) (option_map used_from slot) }
+    ensures { result ≡ next_of (E.code version) (option_map used_from slot) }
 {
     match slot {
-        Some(slot) => slot.entry.number(),
+        Some(slot) => slot.entry.number(version),
         None => 0,
     }
 }
 
 /// The rows of slots.
-fn push_checks<E: Entry>(out: &mut Vec<u8>, slots: &[Option<Slot<E>>]) -> Result<(), AllocError>
-    requires { All (IsSlotShort E.code) (slots_from slots.now) }
+fn push_checks<E: Entry>(
+    out: &mut Vec<u8>,
+    version: Version,
+    slots: &[Option<Slot<E>>],
+) -> Result<(), AllocError>
+    requires { All (IsSlotShort (width_of version) (E.code version)) (slots_from slots.now) }
     ensures { OnOk result (out.new.items ≡ out.old.items
-        ++ flat_map (λ u. number w16 (check_of w16 u)) (slots_from slots.now)) }
+        ++ flat_map (λ u. number (width_of version) (check_of (width_of version) u)) (slots_from slots.now)) }
 {
     for slot in slots {
-        push_number(out, row_number(*slot))?;
+        push_number(out, version, row_number(version, *slot))?;
     }
     Ok(())
 }
 
 /// The row of a slot as a number.
-fn row_number<E: Copy>(slot: Option<Slot<E>>) -> u32
-    ensures { result ≡ check_of w16 (option_map used_from slot) }
+fn row_number<E: Copy>(version: Version, slot: Option<Slot<E>>) -> u32
+    ensures { result ≡ check_of (width_of version) (option_map used_from slot) }
 {
     match slot {
         Some(slot) => slot.row.0,
-        None => NONE as u32,
+        None => none(version),
     }
 }

@@ -1,12 +1,10 @@
 //! From the numbers of a table file to the parts of a table set.
 ghost use Rattle.std.specs.Prelude.{◌≡◌, IfOk};
-ghost use Rattle.std.specs.Int.{w16};
 ghost use Rattle.ly_tables.specs.Private.Meaning.{set_meant};
 ghost use Rattle.ly_tables.specs.Private.RawValues.{raw_from};
-ghost use Rattle.ly_tables.specs.Ranges.{version_1, IsWithinRanges};
+ghost use Rattle.ly_tables.specs.Private.SectionOrder.{AreAllWithin, AreFileNumbers};
+ghost use Rattle.ly_tables.specs.Ranges.{width_of, IsWithinVersion};
 ghost use Rattle.ly_tables.specs.RawOf.{raw_of};
-ghost use Rattle.ly_tables.specs.RawSections.{AreSectionsWithin};
-ghost use Rattle.ly_tables.specs.RawSet.{IsRawSet};
 ghost use Rattle.ly_tables.specs.Values.{set_of};
 
 use crate::raw_tables::RawTables;
@@ -14,24 +12,28 @@ use crate::row_meaning::comb;
 use crate::rule_meaning::table_rules;
 use crate::scanner_meaning::{accepted, conditions, defaults, literals, scan_rules};
 use crate::table_parts::TableParts;
-use ly_base::OutOfMemory;
+use ly_base::{OutOfMemory, Version};
 use std::alloc::{AllocError, Global};
 
 /// The parts that numbers mean which are within their ranges. It fails where memory runs out.
-pub(crate) fn table_parts(alloc: Global, raw: RawTables) -> Result<TableParts, OutOfMemory>
-    requires fits { IsRawSet w16 (raw_from raw) }
-    requires within { AreSectionsWithin w16 version_1 (raw_from raw) }
-    ensures same { IfOk result (λ parts. raw_of w16 (set_of parts) ≡ raw_from raw) }
-    ensures within { IfOk result (λ parts. IsWithinRanges w16 version_1 (set_of parts)) }
+pub(crate) fn table_parts(
+    alloc: Global,
+    version: Version,
+    raw: RawTables,
+) -> Result<TableParts, OutOfMemory>
+    requires fits { AreFileNumbers version (raw_from raw) }
+    requires within { AreAllWithin version (raw_from raw) }
+    ensures same { IfOk result (λ parts. raw_of (width_of version) (set_of parts) ≡ raw_from raw) }
+    ensures within { IfOk result (λ parts. IsWithinVersion version (set_of parts)) }
 {
-    Ok(parts_meant(alloc, raw)?)
+    Ok(parts_meant(alloc, version, raw)?)
 }
 
 /// The parts that numbers mean.
-fn parts_meant(alloc: Global, raw: RawTables) -> Result<TableParts, AllocError>
-    requires fits { IsRawSet w16 (raw_from raw) }
-    requires within { AreSectionsWithin w16 version_1 (raw_from raw) }
-    ensures { IfOk result (λ parts. set_of parts ≡ set_meant (raw_from raw)) }
+fn parts_meant(alloc: Global, version: Version, raw: RawTables) -> Result<TableParts, AllocError>
+    requires fits { AreFileNumbers version (raw_from raw) }
+    requires within { AreAllWithin version (raw_from raw) }
+    ensures { IfOk result (λ parts. set_of parts ≡ set_meant (width_of version) (raw_from raw)) }
 {
     let terminals = raw.terminals.len();
     let nonterminals = raw.nonterminals as usize;
@@ -39,15 +41,15 @@ fn parts_meant(alloc: Global, raw: RawTables) -> Result<TableParts, AllocError>
     Ok(TableParts {
         nonterminals,
         literals: literals(alloc, &raw.literals)?,
-        scan_rules: scan_rules(alloc, &raw.scan_rules)?,
-        conditions: conditions(alloc, &raw.conditions)?,
+        scan_rules: scan_rules(alloc, version, &raw.scan_rules)?,
+        conditions: conditions(alloc, version, &raw.conditions)?,
         class_count,
         accepted: accepted(alloc, &raw.accepted)?,
-        scan_rows: comb(alloc, class_count, raw.scan_rows)?,
+        scan_rows: comb(alloc, version, class_count, raw.scan_rows)?,
         rules: table_rules(alloc, raw.rules)?,
         defaults: defaults(alloc, &raw.defaults)?,
-        actions: comb(alloc, terminals, raw.actions)?,
-        gotos: comb(alloc, nonterminals, raw.gotos)?,
+        actions: comb(alloc, version, terminals, raw.actions)?,
+        gotos: comb(alloc, version, nonterminals, raw.gotos)?,
         terminals: raw.terminals,
         classes: raw.classes,
     })

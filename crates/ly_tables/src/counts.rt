@@ -1,11 +1,8 @@
 //! The greatest counts of a table file, and lists of numbers below a bound.
-ghost use Rattle.std.specs.Prelude.{◌≤◌, ◌↔◌, All, IsTrue};
+ghost use Rattle.std.specs.Prelude.{◌≡◌, ◌≤◌, ◌↔◌, All, IsTrue};
+ghost use Rattle.ly_tables.specs.Ranges.{counts_of};
 
-/// The greatest count of symbols, `$accept` among them.
-pub(crate) const MOST_SYMBOLS: usize = 4095;
-
-/// The greatest count of rules.
-pub(crate) const MOST_RULES: usize = 8191;
+use ly_base::Version;
 
 /// The greatest count of conditions.
 pub(crate) const MOST_CONDITIONS: usize = 255;
@@ -13,8 +10,35 @@ pub(crate) const MOST_CONDITIONS: usize = 255;
 /// The greatest count of classes.
 pub(crate) const MOST_CLASSES: usize = 256;
 
-/// The greatest count of states.
-pub(crate) const MOST_STATES: usize = 16383;
+/// The greatest count of symbols of a version, `$accept` among them.
+pub(crate) fn most_symbols(version: Version) -> usize
+    ensures { result ≡ (counts_of version).symbols }
+{
+    match version {
+        Version::V1 => 4095,
+        Version::V2 => 16_383,
+    }
+}
+
+/// The greatest count of rules of a version.
+pub(crate) fn most_rules(version: Version) -> usize
+    ensures { result ≡ (counts_of version).rules }
+{
+    match version {
+        Version::V1 => 8191,
+        Version::V2 => 131_071,
+    }
+}
+
+/// The greatest count of states of a version.
+pub(crate) fn most_states(version: Version) -> usize
+    ensures { result ≡ (counts_of version).states }
+{
+    match version {
+        Version::V1 => 16_383,
+        Version::V2 => 262_143,
+    }
+}
 
 /// Whether a count is 1 or more, and not too great.
 pub(crate) fn is_count_within(count: usize, most: usize) -> bool

@@ -11,7 +11,7 @@ pub enum TableFault {
     /// The first four bytes, or the fewer that there are, don't begin `LYTB`.
     #[error("no table file")]
     BadMagic,
-    /// The version isn't 1.
+    /// The version is neither 1 nor 2.
     #[error("a table file of another version")]
     BadVersion,
     /// A field is missing.

@@ -1,13 +1,15 @@
 //! Fields of a table file, of which so many stand one behind another.
 ghost use Rattle.std.specs.Prelude.{◌≡◌, ◌++◌, ℕ, List, All, IfOk, IfErr, length};
 ghost use Rattle.std.specs.List.{flat_map};
-ghost use Rattle.std.specs.Int.{w16};
+ghost use Rattle.std.specs.Int.{Width};
 ghost use Rattle.ly_tables.specs.Private.Parts.{Counted, IsBeginning, Repeated, Stops};
+ghost use Rattle.ly_tables.specs.Ranges.{width_of};
 ghost use Rattle.ly_tables.specs.RawSet.{Fits};
 ghost use Rattle.ly_tables.specs.Spelling.{number};
 
 use crate::fault::TableFault;
-use crate::front::short;
+use crate::front::number;
+use ly_base::Version;
 use std::alloc::Global;
 
 /// A kind of field.
@@ -15,59 +17,67 @@ pub(crate) trait Field {
     /// What stands in one, as it is kept.
     type Value: Drop;
 
-    /// The bytes of a value.
-    ghost spelled: { Self.Value → List ℕ };
+    /// The bytes of a value, with numbers of a width.
+    ghost spelled: { Width → Self.Value → List ℕ };
 
     /// Which values fit.
-    ghost fits: { Self.Value → Type 0 };
+    ghost fits: { Width → Self.Value → Type 0 };
 
     /// Which bytes are those of a field.
-    ghost part: { List ℕ → Type 0 };
+    ghost part: { Width → List ℕ → Type 0 };
 
-    /// The field that comes first, and what is left behind it.
-    fn read(alloc: Global, left: &[u8]) -> Result<(Self::Value, &[u8]), TableFault>
-        ensures ok { IfOk result (λ r. fits r.0 × (left.now ≡ spelled r.0 ++ r.1.now)) }
-        ensures truncated { IfErr result (Stops (IsBeginning part left.now)) };
+    /// The field that comes first, in a version, and what is left behind it.
+    fn read(
+        alloc: Global,
+        version: Version,
+        left: &[u8],
+    ) -> Result<(Self::Value, &[u8]), TableFault>
+        ensures ok { IfOk result (λ r. fits (width_of version) r.0
+            × (left.now ≡ spelled (width_of version) r.0 ++ r.1.now)) }
+        ensures truncated { IfErr result (Stops (IsBeginning (part (width_of version)) left.now)) };
 
     /// What is spelled is a part.
-    ghost is_part: { (v : Self.Value) → fits v → part (spelled v) };
+    ghost is_part: { (w : Width) (v : Self.Value) → fits w v → part w (spelled w v) };
 
     /// There is a part.
-    ghost some_part: { (bytes : List ℕ) × part bytes };
+    ghost some_part: { (w : Width) → (bytes : List ℕ) × part w bytes };
 }
 
 /// So many fields, and what is left behind them.
 pub(crate) fn list<F: Field>(
     alloc: Global,
+    version: Version,
     left: &[u8],
     count: usize,
 ) -> Result<(Vec<F::Value>, &[u8]), TableFault>
     ensures count { IfOk result (λ r. length r.0.items ≡ count) }
-    ensures fits { IfOk result (λ r. All F.fits r.0.items) }
-    ensures ok { IfOk result (λ r. left.now ≡ flat_map F.spelled r.0.items ++ r.1.now) }
-    ensures truncated { IfErr result (Stops (IsBeginning (Repeated F.part count) left.now)) }
+    ensures fits { IfOk result (λ r. All (F.fits (width_of version)) r.0.items) }
+    ensures ok { IfOk result (λ r. left.now ≡ flat_map (F.spelled (width_of version)) r.0.items ++ r.1.now) }
+    ensures truncated { IfErr result (Stops (IsBeginning (Repeated (F.part (width_of version)) count) left.now)) }
 {
     let mut values = Vec::new(alloc);
     let mut behind = left;
     for _done in 0..count {
-        let (value, next) = F::read(alloc, behind)?;
+        let (value, next) = F::read(alloc, version, behind)?;
         values.push(value)?;
         behind = next;
     }
     Ok((values, behind))
 }
 
-/// How many fields there are, in two bytes, and these; and what is left behind them.
+/// How many fields there are, in a number of the version, and these; and what is left behind them.
 pub(crate) fn counted<F: Field>(
     alloc: Global,
+    version: Version,
     left: &[u8],
 ) -> Result<(Vec<F::Value>, &[u8]), TableFault>
-    ensures count { IfOk result (λ r. Fits w16 (length r.0.items)) }
-    ensures fits { IfOk result (λ r. All F.fits r.0.items) }
-    ensures ok { IfOk result (λ r. left.now
-        ≡ (number w16 (length r.0.items) ++ flat_map F.spelled r.0.items) ++ r.1.now) }
-    ensures truncated { IfErr result (Stops (IsBeginning (Counted F.part) left.now)) }
+    ensures count { IfOk result (λ r. Fits (width_of version) (length r.0.items)) }
+    ensures fits { IfOk result (λ r. All (F.fits (width_of version)) r.0.items) }
+    ensures ok { IfOk result (λ r. left.now ≡ (number (width_of version) (length r.0.items)
+        ++ flat_map (F.spelled (width_of version)) r.0.items) ++ r.1.now) }
+    ensures truncated { IfErr result (Stops (IsBeginning (Counted (width_of version) (F.part (width_of version)))
+        left.now)) }
 {
-    let (count, behind) = short(left)?;
-    list::<F>(alloc, behind, count as usize)
+    let (count, behind) = number(version, left)?;
+    list::<F>(alloc, version, behind, count as usize)
 }

@@ -1,12 +1,15 @@
 //! Fields at the front of what is left of a table file.
 ghost use Rattle.std.specs.Prelude.{◌≡◌, ◌++◌, IfOk, IfErr};
-ghost use Rattle.std.specs.Int.{w16, w32, to_be_bytes};
-ghost use Rattle.ly_tables.specs.Private.Parts.{AreBytes, IsByteText, IsBeginning, IsShortText, IsWideText, Stops};
+ghost use Rattle.std.specs.Int.{w16, w32};
+ghost use Rattle.ly_tables.specs.Private.Parts.{AreBytes, IsByteText, IsBeginning, IsNumberText, Stops};
 ghost use Rattle.ly_tables.specs.Private.Parts.{single};
+ghost use Rattle.ly_tables.specs.Ranges.{width_of};
 ghost use Rattle.ly_tables.specs.RawSet.{Fits, IsByte};
 ghost use Rattle.ly_tables.specs.Spelling.{number};
 
 use crate::fault::TableFault;
+use byteorder::{BigEndian, ByteOrder};
+use ly_base::Version;
 
 /// So many bytes, and what is left behind them.
 pub(crate) fn bytes(left: &[u8], count: usize) -> Result<(&[u8], &[u8]), TableFault>
@@ -30,26 +33,35 @@ pub(crate) fn byte(left: &[u8]) -> Result<(u8, &[u8]), TableFault>
     }
 }
 
-/// A number of two bytes, and what is left behind it.
-pub(crate) fn short(left: &[u8]) -> Result<(u32, &[u8]), TableFault>
-    ensures ok { IfOk result (λ r. Fits w16 r.0 × (left.now ≡ number w16 r.0 ++ r.1.now)) }
-    ensures truncated { IfErr result (Stops (IsBeginning IsShortText left.now)) }
+/// A number of a version, and what is left behind it.
+pub(crate) fn number(version: Version, left: &[u8]) -> Result<(u32, &[u8]), TableFault>
+    ensures ok { IfOk result (λ r. Fits (width_of version) r.0
+        × (left.now ≡ number (width_of version) r.0 ++ r.1.now)) }
+    ensures truncated { IfErr result (Stops (IsBeginning (IsNumberText (width_of version)) left.now)) }
 {
-    match left {
-        [high, low, behind @ ..] => Ok((u16::from_be_bytes([*high, *low]) as u32, behind)),
-        _ => Err(TableFault::Truncated),
+    match version {
+        Version::V1 => {
+            let (number, behind) = short(left)?;
+            Ok((number as u32, behind))
+        }
+        Version::V2 => wide(left),
     }
+}
+
+/// A number of two bytes, and what is left behind it.
+pub(crate) fn short(left: &[u8]) -> Result<(u16, &[u8]), TableFault>
+    ensures ok { IfOk result (λ r. Fits w16 r.0 × (left.now ≡ number w16 r.0 ++ r.1.now)) }
+    ensures truncated { IfErr result (Stops (IsBeginning (IsNumberText w16) left.now)) }
+{
+    let (text, behind) = bytes(left, 2)?;
+    Ok((BigEndian::read_u16(text), behind))
 }
 
 /// A number of four bytes, and what is left behind it.
 pub(crate) fn wide(left: &[u8]) -> Result<(u32, &[u8]), TableFault>
-    ensures ok { IfOk result (λ r. Fits w32 r.0 × (left.now ≡ to_be_bytes w32 r.0 ++ r.1.now)) }
-    ensures truncated { IfErr result (Stops (IsBeginning IsWideText left.now)) }
+    ensures ok { IfOk result (λ r. Fits w32 r.0 × (left.now ≡ number w32 r.0 ++ r.1.now)) }
+    ensures truncated { IfErr result (Stops (IsBeginning (IsNumberText w32) left.now)) }
 {
-    match left {
-        [first, second, third, last, behind @ ..] => {
-            Ok((u32::from_be_bytes([*first, *second, *third, *last]), behind))
-        }
-        _ => Err(TableFault::Truncated),
-    }
+    let (text, behind) = bytes(left, 4)?;
+    Ok((BigEndian::read_u32(text), behind))
 }

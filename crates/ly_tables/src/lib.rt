@@ -1,15 +1,17 @@
 //! Table sets, and the bytes of a table file.
 //!
 //! A `TableSet` is all that a driver needs to know of a lex file and a yacc file. Its type keeps its numbers within
-//! their ranges, and its parser's tables steady. It lends its parts, and gives them away. `write_tables` spells it, and
-//! `read_tables` reads it back (`TableText`); a set has one spelling, a file has one set, and only want of memory
-//! refuses a set's file.
+//! their ranges, and its parser's tables steady. It lends its parts, and gives them away. `write_tables` spells it in a
+//! version, and `read_tables` reads it back, and says the version (`TableText`); a set has one spelling in a version, a
+//! file has one set and one version, and only want of memory refuses a set's file.
+//!
+//! The two versions of the file differ in how wide its numbers are (`width_of`), and so in the greatest counts
+//! (`counts_of`). All that depends on them stands in `numbers`, `front` and `counts`; what is built on these is passed
+//! the version.
 //!
 //! A file is read in four steps: its fields as numbers, by counts alone (`raw_reading`); whether these are within the
 //! ranges of their sections (`sections`); what they mean (`conversion`); and whether the tables are steady
 //! (`steadiness`).
-//!
-//! Left out: any version but the first.
 #![tactic(auto)]
 
 mod comb_fields;
@@ -18,6 +20,8 @@ mod conversion;
 mod counts;
 mod fault;
 mod field;
+mod fitting;
+mod format_fault;
 mod front;
 mod laid_rows;
 mod laws;
@@ -50,9 +54,10 @@ mod table_set;
 mod writing;
 
 pub use fault::TableFault;
+pub use format_fault::FormatFault;
 pub use laws::{
     a_file_has_one_set, a_refusal_is_exact, a_set_has_one_spelling, a_set_is_spelled_by_numbers,
-    numbers_of_a_set_are_within, raw_files_are_told_apart,
+    a_set_is_within_version_2, numbers_of_a_set_are_within, raw_files_are_told_apart,
 };
 pub use reading::read_tables;
 pub use scan_rule::ScanRule;

@@ -1,53 +1,120 @@
-//! Numbers at the end of bytes, their greatest byte first.
+//! The numbers of a version, and numbers at the end of bytes, their greatest byte first.
 ghost use Rattle.std.specs.Prelude.{◌≡◌, ◌++◌, ◌∷◌, [], ◌<◌, OnOk, length};
 ghost use Rattle.std.specs.Int.{w16, w32, to_be_bytes};
-ghost use Rattle.ly_tables.specs.Private.Short.{IsShort, IsShortOption};
-ghost use Rattle.ly_tables.specs.Spelling.{or_none, string};
+ghost use Rattle.ly_tables.specs.Private.Short.{OptionFits};
+ghost use Rattle.ly_tables.specs.Ranges.{number_of, width_of};
+ghost use Rattle.ly_tables.specs.RawSet.{Fits};
+ghost use Rattle.ly_tables.specs.Spelling.{least_reduction, least_shift, none_of, number, or_none, string};
 
+use byteorder::{BigEndian, ByteOrder};
+use ly_base::Version;
 use std::alloc::AllocError;
 
-/// The greatest number of two bytes, which stands for none.
-pub(crate) const NONE: u16 = u16::MAX;
-
-/// Puts a number of two bytes at the end.
-pub(crate) fn push_number(out: &mut Vec<u8>, number: u32) -> Result<(), AllocError>
-    requires { IsShort number }
-    ensures { OnOk result (out.new.items ≡ out.old.items ++ to_be_bytes w16 number) }
+/// The number that a file has of its version.
+pub(crate) fn version_number(version: Version) -> u16
+    ensures { result ≡ number_of version }
 {
-    out.extend_from_slice(&(number as u16).to_be_bytes())
+    match version {
+        Version::V1 => 1,
+        Version::V2 => 2,
+    }
 }
 
-/// Puts a count, in two bytes, at the end.
-pub(crate) fn push_count(out: &mut Vec<u8>, count: usize) -> Result<(), AllocError>
-    requires { IsShort count }
-    ensures { OnOk result (out.new.items ≡ out.old.items ++ to_be_bytes w16 count) }
+/// The greatest number of a version, which stands for none.
+pub(crate) fn none(version: Version) -> u32
+    ensures { result ≡ none_of (width_of version) }
 {
-    out.extend_from_slice(&(count as u16).to_be_bytes())
+    match version {
+        Version::V1 => 0xffff,
+        Version::V2 => 0xffff_ffff,
+    }
+}
+
+/// What a shift's number has besides that of its state.
+pub(crate) fn shift(version: Version) -> u32
+    ensures { result ≡ least_shift (width_of version) }
+{
+    match version {
+        Version::V1 => 0x8000,
+        Version::V2 => 0x8000_0000,
+    }
+}
+
+/// What a reduction's number has besides that of its rule.
+pub(crate) fn reduction(version: Version) -> u32
+    ensures { result ≡ least_reduction (width_of version) }
+{
+    match version {
+        Version::V1 => 0x4000,
+        Version::V2 => 0x4000_0000,
+    }
+}
+
+/// Puts a number of a version at the end.
+pub(crate) fn push_number(
+    out: &mut Vec<u8>,
+    version: Version,
+    number: u32,
+) -> Result<(), AllocError>
+    requires { Fits (width_of version) number }
+    ensures { OnOk result (out.new.items ≡ out.old.items ++ number (width_of version) number) }
+{
+    match version {
+        Version::V1 => push_short(out, number as u16),
+        Version::V2 => push_wide(out, number),
+    }
+}
+
+/// Puts a count, in a number of a version, at the end.
+pub(crate) fn push_count(
+    out: &mut Vec<u8>,
+    version: Version,
+    count: usize,
+) -> Result<(), AllocError>
+    requires { Fits (width_of version) count }
+    ensures { OnOk result (out.new.items ≡ out.old.items ++ number (width_of version) count) }
+{
+    push_number(out, version, count as u32)
+}
+
+/// Puts a number of two bytes at the end.
+pub(crate) fn push_short(out: &mut Vec<u8>, number: u16) -> Result<(), AllocError>
+    ensures { OnOk result (out.new.items ≡ out.old.items ++ to_be_bytes w16 number) }
+{
+    let mut bytes = [0; 2];
+    BigEndian::write_u16(&mut bytes, number);
+    out.extend_from_slice(&bytes)
 }
 
 /// Puts a number of four bytes at the end.
 pub(crate) fn push_wide(out: &mut Vec<u8>, number: u32) -> Result<(), AllocError>
     ensures { OnOk result (out.new.items ≡ out.old.items ++ to_be_bytes w32 number) }
 {
-    out.extend_from_slice(&number.to_be_bytes())
+    let mut bytes = [0; 4];
+    BigEndian::write_u32(&mut bytes, number);
+    out.extend_from_slice(&bytes)
 }
 
-/// Puts a number, or what stands for none, at the end.
-pub(crate) fn push_or_none(out: &mut Vec<u8>, number: Option<u32>) -> Result<(), AllocError>
-    requires { IsShortOption number }
-    ensures { OnOk result (out.new.items ≡ out.old.items ++ or_none w16 number) }
+/// Puts a number of a version, or what stands for none, at the end.
+pub(crate) fn push_or_none(
+    out: &mut Vec<u8>,
+    version: Version,
+    number: Option<u32>,
+) -> Result<(), AllocError>
+    requires { OptionFits (width_of version) number }
+    ensures { OnOk result (out.new.items ≡ out.old.items ++ or_none (width_of version) number) }
 {
     match number {
-        Some(number) => push_number(out, number),
-        None => out.extend_from_slice(&NONE.to_be_bytes()),
+        Some(number) => push_number(out, version, number),
+        None => push_number(out, version, none(version)),
     }
 }
 
-/// Puts a text at the end: its length, and its bytes.
+/// Puts a text at the end: its length, in two bytes, and its bytes.
 pub(crate) fn push_string(out: &mut Vec<u8>, bytes: &[u8]) -> Result<(), AllocError>
     requires { length bytes.now < 65536 }
     ensures { OnOk result (out.new.items ≡ out.old.items ++ string bytes.now) }
 {
-    push_count(out, bytes.len())?;
+    push_short(out, bytes.len() as u16)?;
     out.extend_from_slice(bytes)
 }

@@ -1,15 +1,16 @@
 //! Reads the sections of the parser.
 ghost use Rattle.std.specs.Prelude.{◌≡◌, ◌++◌, IfOk, IfErr};
-ghost use Rattle.std.specs.Int.{w16};
 ghost use Rattle.ly_tables.specs.Private.Parts.{IsBeginning, Stops};
 ghost use Rattle.ly_tables.specs.Private.RawParts.{DoesParserFit, IsParserText, parser_raw};
+ghost use Rattle.ly_tables.specs.Ranges.{width_of};
 ghost use Rattle.ly_tables.specs.RawSet.{raw_parser_sections};
 
 use crate::comb_fields::read_comb;
 use crate::fault::TableFault;
 use crate::field::counted;
-use crate::plain_fields::Short;
+use crate::plain_fields::Number;
 use crate::raw_tables::{RawComb, RawRule};
+use ly_base::Version;
 use std::alloc::Global;
 
 /// The sections of the parser, as numbers.
@@ -26,15 +27,19 @@ pub(crate) struct RawParser {
 }
 
 /// The sections of the parser, and what is left behind them.
-pub(crate) fn read_parser(alloc: Global, left: &[u8]) -> Result<(RawParser, &[u8]), TableFault>
-    ensures fits { IfOk result (λ r. DoesParserFit (parser_raw r.0)) }
-    ensures ok { IfOk result (λ r. left.now ≡ raw_parser_sections w16 (parser_raw r.0) ++ r.1.now) }
-    ensures truncated { IfErr result (Stops (IsBeginning IsParserText left.now)) }
+pub(crate) fn read_parser(
+    alloc: Global,
+    version: Version,
+    left: &[u8],
+) -> Result<(RawParser, &[u8]), TableFault>
+    ensures fits { IfOk result (λ r. DoesParserFit (width_of version) (parser_raw r.0)) }
+    ensures ok { IfOk result (λ r. left.now ≡ raw_parser_sections (width_of version) (parser_raw r.0) ++ r.1.now) }
+    ensures truncated { IfErr result (Stops (IsBeginning (IsParserText (width_of version)) left.now)) }
 {
-    let (rules, left) = counted::<RawRule>(alloc, left)?;
-    let (defaults, left) = counted::<Short>(alloc, left)?;
-    let (actions, left) = read_comb(alloc, left, defaults.len())?;
-    let (gotos, left) = read_comb(alloc, left, defaults.len())?;
+    let (rules, left) = counted::<RawRule>(alloc, version, left)?;
+    let (defaults, left) = counted::<Number>(alloc, version, left)?;
+    let (actions, left) = read_comb(alloc, version, left, defaults.len())?;
+    let (gotos, left) = read_comb(alloc, version, left, defaults.len())?;
     let parser = RawParser {
         rules,
         defaults,

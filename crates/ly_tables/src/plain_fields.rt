@@ -1,17 +1,18 @@
 //! Numbers and texts as fields.
 ghost use Rattle.std.specs.Prelude.{◌++◌, ◌≡◌, [], refl, length};
-ghost use Rattle.std.specs.Int.{w16, w32, to_be_bytes};
-ghost use Rattle.ly_tables.specs.Private.Parts.{IsShortText, IsStringText, IsWideText};
+ghost use Rattle.std.specs.Int.{w32};
+ghost use Rattle.ly_tables.specs.Private.Parts.{IsNumberText, IsStringText};
 ghost use Rattle.ly_tables.specs.RawSet.{Fits, IsString};
 ghost use Rattle.ly_tables.specs.Spelling.{number, string};
 
 use crate::fault::TableFault;
 use crate::field::Field;
-use crate::front::{bytes, short, wide};
+use crate::front::{bytes, number, short, wide};
+use ly_base::Version;
 use std::alloc::Global;
 
-/// A number of two bytes.
-pub(crate) struct Short;
+/// A number of the version.
+pub(crate) struct Number;
 
 /// A number of four bytes.
 pub(crate) struct Wide;
@@ -19,44 +20,44 @@ pub(crate) struct Wide;
 /// A text: its length in two bytes, and its bytes.
 pub(crate) struct Text;
 
-impl Field for Short {
+impl Field for Number {
     type Value = u32;
 
-    ghost use Rattle.ly_tables.specs.Private.Found.{some_short};
+    ghost use Rattle.ly_tables.specs.Private.Found.{some_number};
 
-    ghost spelled = { number w16 };
+    ghost spelled = { number };
 
-    ghost fits = { Fits w16 };
+    ghost fits = { Fits };
 
-    ghost part = { IsShortText };
+    ghost part = { IsNumberText };
 
-    fn read(_alloc: Global, left: &[u8]) -> Result<(u32, &[u8]), TableFault> {
-        short(left)
+    fn read(_alloc: Global, version: Version, left: &[u8]) -> Result<(u32, &[u8]), TableFault> {
+        number(version, left)
     }
 
-    ghost is_part = { λ n fit. record { value = n; fit = fit; is = refl } };
+    ghost is_part = { λ w n fit. record { value = n; fit = fit; is = refl } };
 
-    ghost some_part = { some_short };
+    ghost some_part = { some_number };
 }
 
 impl Field for Wide {
     type Value = u32;
 
-    ghost use Rattle.ly_tables.specs.Private.Found.{some_wide};
+    ghost use Rattle.ly_tables.specs.Private.Found.{some_number};
 
-    ghost spelled = { to_be_bytes w32 };
+    ghost spelled = { λ w. number w32 };
 
-    ghost fits = { Fits w32 };
+    ghost fits = { λ w. Fits w32 };
 
-    ghost part = { IsWideText };
+    ghost part = { λ w. IsNumberText w32 };
 
-    fn read(_alloc: Global, left: &[u8]) -> Result<(u32, &[u8]), TableFault> {
+    fn read(_alloc: Global, _version: Version, left: &[u8]) -> Result<(u32, &[u8]), TableFault> {
         wide(left)
     }
 
-    ghost is_part = { λ n fit. record { value = n; fit = fit; is = refl } };
+    ghost is_part = { λ w n fit. record { value = n; fit = fit; is = refl } };
 
-    ghost some_part = { some_wide };
+    ghost some_part = { λ w. some_number w32 };
 }
 
 impl Field for Text {
@@ -64,19 +65,19 @@ impl Field for Text {
 
     ghost use Rattle.ly_tables.specs.Private.Found.{some_string};
 
-    ghost spelled = { λ text. string text.items };
+    ghost spelled = { λ w text. string text.items };
 
-    ghost fits = { λ text. IsString text.items };
+    ghost fits = { λ w text. IsString text.items };
 
-    ghost part = { IsStringText };
+    ghost part = { λ w. IsStringText };
 
-    fn read(alloc: Global, left: &[u8]) -> Result<(Vec<u8>, &[u8]), TableFault> {
+    fn read(alloc: Global, _version: Version, left: &[u8]) -> Result<(Vec<u8>, &[u8]), TableFault> {
         let (length, behind) = short(left)?;
         let (text, behind) = bytes(behind, length as usize)?;
         Ok((Vec::from_slice(alloc, text)?, behind))
     }
 
-    ghost is_part = { λ text fit. record { value = text.items; fit = fit; is = refl } };
+    ghost is_part = { λ w text fit. record { value = text.items; fit = fit; is = refl } };
 
-    ghost some_part = { some_string };
+    ghost some_part = { λ w. some_string };
 }

@@ -4,12 +4,14 @@
 //! reader takes what is left, and answers what stands at its front with what is left behind it. Where a part is only
 //! begun, its reader's contract says that the part can be completed; so the file can, and is a proper beginning of one.
 //! No count is trusted: room is asked for what has been read.
-ghost use Rattle.std.specs.Prelude.{◌≡◌, ◌≢◌, ◌++◌, IfOk, IfErr, MatchBool, codes, length, take};
+ghost use Rattle.std.specs.Prelude.{◌≡◌, ◌≢◌, ◌++◌, IfOk, IfErr, IfSome, MatchBool, None, codes, length, take};
 ghost use Rattle.std.specs.Int.{w16, to_be_bytes};
 ghost use Rattle.ly_tables.specs.Private.Parts.{IsEarly};
 ghost use Rattle.ly_tables.specs.Private.RawValues.{raw_from};
-ghost use Rattle.ly_tables.specs.Ranges.{version_1};
-ghost use Rattle.ly_tables.specs.RawSet.{IsRawSet, raw_spelling};
+ghost use Rattle.ly_base.specs.declared.version.Version.{Version as AnyVersion};
+ghost use Rattle.ly_tables.specs.Private.SectionOrder.{AreFileNumbers};
+ghost use Rattle.ly_tables.specs.Ranges.{number_of};
+ghost use Rattle.ly_tables.specs.Reading.{raw_file};
 ghost use Rattle.ly_tables.specs.Refusal.{IsRefusedAs};
 
 use crate::fault::TableFault;
@@ -17,29 +19,28 @@ use crate::parser_sections::read_parser;
 use crate::raw_tables::RawTables;
 use crate::scanner_sections::read_scanner;
 use crate::symbol_sections::read_symbols;
+use byteorder::{BigEndian, ByteOrder};
+use ly_base::Version;
 use std::alloc::Global;
 
 /// What a table file begins with.
 const MAGIC: [u8; 4] = *b"LYTB";
 
-/// The version that is read.
-const VERSION: u16 = 1;
-
-/// Takes a table file of version 1 apart: the numbers of its sections.
-pub(crate) fn read_raw(alloc: Global, bytes: &[u8]) -> Result<RawTables, TableFault>
-    ensures fits { IfOk result (λ r. IsRawSet w16 (raw_from r)) }
-    ensures spelled { IfOk result (λ r. bytes.now ≡ raw_spelling w16 1 (raw_from r)) }
-    ensures refused { IfErr result (IsRefusedAs w16 1 version_1 bytes.now) }
+/// Takes a table file apart: the numbers of its sections, and its version.
+pub(crate) fn read_raw(alloc: Global, bytes: &[u8]) -> Result<(RawTables, Version), TableFault>
+    ensures fits { IfOk result (λ r. AreFileNumbers r.1 (raw_from r.0)) }
+    ensures spelled { IfOk result (λ r. bytes.now ≡ raw_file r.1 (raw_from r.0)) }
+    ensures refused { IfErr result (IsRefusedAs bytes.now) }
     ensures before_ranges { IfErr result IsEarly }
 {
-    let left = header(bytes)?;
-    let (symbols, left) = read_symbols(alloc, left)?;
-    let (scanner, left) = read_scanner(alloc, left)?;
-    let (parser, left) = read_parser(alloc, left)?;
+    let (version, left) = header(bytes)?;
+    let (symbols, left) = read_symbols(alloc, version, left)?;
+    let (scanner, left) = read_scanner(alloc, version, left)?;
+    let (parser, left) = read_parser(alloc, version, left)?;
     if !left.is_empty() {
         return Err(TableFault::Trailing);
     }
-    Ok(RawTables {
+    let raw = RawTables {
         nonterminals: symbols.nonterminals,
         terminals: symbols.terminals,
         literals: symbols.literals,
@@ -53,13 +54,14 @@ pub(crate) fn read_raw(alloc: Global, bytes: &[u8]) -> Result<RawTables, TableFa
         defaults: parser.defaults,
         actions: parser.actions,
         gotos: parser.gotos,
-    })
+    };
+    Ok((raw, version))
 }
 
-/// What is left behind the header.
-fn header(bytes: &[u8]) -> Result<&[u8], TableFault>
-    ensures ok { IfOk result (λ left. bytes.now ≡ (codes "LYTB" ++ to_be_bytes w16 1) ++ left.now) }
-    ensures refused { IfErr result (IsRefusedAs w16 1 version_1 bytes.now) }
+/// The version, and what is left behind the header.
+fn header(bytes: &[u8]) -> Result<(Version, &[u8]), TableFault>
+    ensures ok { IfOk result (λ r. bytes.now ≡ (codes "LYTB" ++ to_be_bytes w16 (number_of r.0)) ++ r.1.now) }
+    ensures refused { IfErr result (IsRefusedAs bytes.now) }
     ensures before_ranges { IfErr result IsEarly }
 {
     if !has_magic(bytes) {
@@ -68,10 +70,22 @@ fn header(bytes: &[u8]) -> Result<&[u8], TableFault>
     let [_, _, _, _, high, low, left @ ..] = bytes else {
         return Err(TableFault::Truncated);
     };
-    if u16::from_be_bytes([*high, *low]) != VERSION {
-        return Err(TableFault::BadVersion);
+    match version_numbered(BigEndian::read_u16(&[*high, *low])) {
+        Some(version) => Ok((version, left)),
+        None => Err(TableFault::BadVersion),
     }
-    Ok(left)
+}
+
+/// The version of this number, if it is one's.
+fn version_numbered(number: u16) -> Option<Version>
+    ensures some { IfSome result (λ version. number ≡ number_of version) }
+    ensures none { result ≡ None → (version : AnyVersion) → number ≢ number_of version }
+{
+    match number {
+        1 => Some(Version::V1),
+        2 => Some(Version::V2),
+        _ => None,
+    }
 }
 
 /// Whether the first four bytes, or the fewer that there are, begin `LYTB`.

@@ -6,54 +6,57 @@ ghost use Rattle.ly_pack.specs.Combs.{slots_from, used_from};
 ghost use Rattle.ly_pack.specs.Rows.{IsComb};
 ghost use Rattle.ly_tables.specs.Private.Meaning.{comb_meant, slot_meant};
 ghost use Rattle.ly_tables.specs.Private.RawValues.{comb_raw};
+ghost use Rattle.ly_tables.specs.Ranges.{width_of};
 
 use crate::combs::Entry;
-use crate::numbers::NONE;
+use crate::numbers::none;
 use crate::raw_tables::RawComb;
-use ly_base::StateNo;
+use ly_base::{StateNo, Version};
 use ly_pack::{Comb, Slot};
 use std::alloc::{AllocError, Global};
 
 /// Rows of so many columns, laid over one another.
 pub(crate) fn comb<E: Entry>(
     alloc: Global,
-    width: usize,
+    version: Version,
+    columns: usize,
     raw: RawComb,
 ) -> Result<Comb<E>, AllocError>
     requires long { length raw.rows.items ≡ length raw.entries.items }
-    requires comb { IsComb (comb_meant E.meant width (comb_raw raw)) }
-    ensures { IfOk result (λ c. c ≡ comb_meant E.meant width (comb_raw raw)) }
+    requires comb { IsComb (comb_meant (width_of version) (E.meant version) columns (comb_raw raw)) }
+    ensures { IfOk result (λ c. c ≡ comb_meant (width_of version) (E.meant version) columns (comb_raw raw)) }
 {
-    let slots = slots(alloc, &raw.entries, &raw.rows)?;
-    Ok(Comb::new(width, raw.bases, slots))
+    let slots = slots(alloc, version, &raw.entries, &raw.rows)?;
+    Ok(Comb::new(columns, raw.bases, slots))
 }
 
 /// The slots of these entries and rows.
 fn slots<E: Entry>(
     alloc: Global,
+    version: Version,
     entries: &[u32],
     rows: &[u32],
 ) -> Result<Vec<Option<Slot<E>>>, AllocError>
     requires { length rows.now ≡ length entries.now }
     ensures { IfOk result (λ out. slots_from out.items
-        ≡ map (λ p. slot_meant E.meant p.0 p.1) (zip entries.now rows.now)) }
+        ≡ map (λ p. slot_meant (width_of version) (E.meant version) p.0 p.1) (zip entries.now rows.now)) }
 {
     let mut out = Vec::with_capacity(alloc, entries.len())?;
     for number in 0..entries.len() {
-        out.push(slot(entries[number], rows[number]))?;
+        out.push(slot(version, entries[number], rows[number]))?;
     }
     Ok(out)
 }
 
 /// A slot, free where its row is none.
-fn slot<E: Entry>(entry: u32, row: u32) -> Option<Slot<E>>
-    ensures { option_map used_from result ≡ slot_meant E.meant entry row }
+fn slot<E: Entry>(version: Version, entry: u32, row: u32) -> Option<Slot<E>>
+    ensures { option_map used_from result ≡ slot_meant (width_of version) (E.meant version) entry row }
 {
-    if row == NONE as u32 {
+    if row == none(version) {
         return None;
     }
     Some(Slot {
         row: StateNo(row),
-        entry: E::of(entry),
+        entry: E::of(version, entry),
     })
 }

@@ -1,13 +1,14 @@
 //! The ranges of the sections of rows.
 ghost use Rattle.std.specs.Prelude.{◌≡◌, ◌+◌, ◌<◌, ◌≤◌, ◌↔◌, ℕ, IsTrue, Some, length, slice_get, slice_index};
-ghost use Rattle.std.specs.Int.{w16};
 ghost use Rattle.ly_tables.specs.Private.RawValues.{comb_raw, raw_from};
+ghost use Rattle.ly_tables.specs.Ranges.{width_of};
 ghost use Rattle.ly_tables.specs.RawSections.{AreRowsWithin, IsActionWithin, IsSlotWithin};
+ghost use Rattle.ly_tables.specs.Spelling.{least_reduction, least_shift};
 
-use crate::combs::{REDUCE, SHIFT};
 use crate::counts::{are_at_most, is_count_within};
-use crate::numbers::NONE;
+use crate::numbers::{none, reduction, shift};
 use crate::raw_tables::{RawComb, RawTables};
+use ly_base::Version;
 
 /// What the entries of rows may be.
 trait Legal {
@@ -31,48 +32,52 @@ impl Legal for States {
     }
 }
 
-/// Entries are actions of these tables.
+/// Entries are actions of these tables, as a version has them.
 #[derive(Clone, Copy)]
-struct Actions<'a>(&'a RawTables);
+struct Actions<'a>(Version, &'a RawTables);
 
 impl<'a> Legal for Actions<'a> {
-    ghost IsLegal = { λ actions column entry. IsActionWithin w16 (raw_from actions.0.now) column entry };
+    ghost IsLegal = { λ actions column entry. IsActionWithin (width_of actions.0) (raw_from actions.1.now) column
+        entry };
 
     fn is_legal(&self, column: usize, entry: u32) -> bool {
         entry == 0
             || entry == 1 && column == 0
-            || is_shift(entry, column, self.0.defaults.len())
-            || is_reduction(entry, self.0.rules.len())
+            || is_shift(self.0, entry, column, self.1.defaults.len())
+            || is_reduction(self.0, entry, self.1.rules.len())
     }
 }
 
 /// Whether a number is a shift's, where it may stand, to a state that is there.
-fn is_shift(entry: u32, column: usize, states: usize) -> bool
-    ensures { IsTrue result ↔ ((s : ℕ) × (entry ≡ 32768 + s) × (s < states) × (1 ≤ column)) }
+fn is_shift(version: Version, entry: u32, column: usize, states: usize) -> bool
+    ensures { IsTrue result ↔ ((s : ℕ) × (entry ≡ least_shift (width_of version) + s) × (s < states)
+        × (1 ≤ column)) }
 {
-    match entry.checked_sub(SHIFT) {
+    match entry.checked_sub(shift(version)) {
         Some(state) => (state as usize) < states && 1 <= column,
         None => false,
     }
 }
 
 /// Whether a number is a reduction's, by a rule that is there.
-fn is_reduction(entry: u32, rules: usize) -> bool
-    ensures { IsTrue result ↔ ((p : ℕ) × (entry ≡ 16384 + p) × (1 ≤ p) × (p ≤ rules)) }
+fn is_reduction(version: Version, entry: u32, rules: usize) -> bool
+    ensures { IsTrue result ↔ ((p : ℕ) × (entry ≡ least_reduction (width_of version) + p) × (1 ≤ p)
+        × (p ≤ rules)) }
 {
-    match entry.checked_sub(REDUCE) {
+    match entry.checked_sub(reduction(version)) {
         Some(rule) => is_count_within(rule as usize, rules),
         None => false,
     }
 }
 
 /// Whether the scanner's rows are within their ranges.
-pub(crate) fn scan_rows_within(raw: &RawTables) -> bool
+pub(crate) fn scan_rows_within(version: Version, raw: &RawTables) -> bool
     requires { length raw.now.scan_rows.rows.items ≡ length raw.now.scan_rows.entries.items }
-    ensures { IsTrue result ↔ AreRowsWithin w16 raw.now.class_count (λ column s. s < length raw.now.accepted.items)
-        (comb_raw raw.now.scan_rows) }
+    ensures { IsTrue result ↔ AreRowsWithin (width_of version) raw.now.class_count
+        (λ column s. s < length raw.now.accepted.items) (comb_raw raw.now.scan_rows) }
 {
     are_rows_within(
+        version,
         &raw.scan_rows,
         raw.class_count as usize,
         &States(raw.accepted.len()),
@@ -80,21 +85,27 @@ pub(crate) fn scan_rows_within(raw: &RawTables) -> bool
 }
 
 /// Whether the actions are within their ranges.
-pub(crate) fn actions_within(raw: &RawTables) -> bool
+pub(crate) fn actions_within(version: Version, raw: &RawTables) -> bool
     requires { length raw.now.actions.rows.items ≡ length raw.now.actions.entries.items }
-    ensures { IsTrue result ↔ AreRowsWithin w16 (length (raw_from raw.now).terminals) (IsActionWithin w16
-        (raw_from raw.now)) (comb_raw raw.now.actions) }
+    ensures { IsTrue result ↔ AreRowsWithin (width_of version) (length (raw_from raw.now).terminals)
+        (IsActionWithin (width_of version) (raw_from raw.now)) (comb_raw raw.now.actions) }
 {
-    are_rows_within(&raw.actions, raw.terminals.len(), &Actions(raw))
+    are_rows_within(
+        version,
+        &raw.actions,
+        raw.terminals.len(),
+        &Actions(version, raw),
+    )
 }
 
 /// Whether the gotos are within their ranges.
-pub(crate) fn gotos_within(raw: &RawTables) -> bool
+pub(crate) fn gotos_within(version: Version, raw: &RawTables) -> bool
     requires { length raw.now.gotos.rows.items ≡ length raw.now.gotos.entries.items }
-    ensures { IsTrue result ↔ AreRowsWithin w16 raw.now.nonterminals (λ column s. s < length raw.now.defaults.items)
-        (comb_raw raw.now.gotos) }
+    ensures { IsTrue result ↔ AreRowsWithin (width_of version) raw.now.nonterminals
+        (λ column s. s < length raw.now.defaults.items) (comb_raw raw.now.gotos) }
 {
     are_rows_within(
+        version,
         &raw.gotos,
         raw.nonterminals as usize,
         &States(raw.defaults.len()),
@@ -102,22 +113,22 @@ pub(crate) fn gotos_within(raw: &RawTables) -> bool
 }
 
 /// Whether rows of so many columns are within their ranges.
-fn are_rows_within<L: Legal>(rows: &RawComb, columns: usize, legal: &L) -> bool
+fn are_rows_within<L: Legal>(version: Version, rows: &RawComb, columns: usize, legal: &L) -> bool
     requires { length rows.now.rows.items ≡ length rows.now.entries.items }
-    ensures { IsTrue result ↔ AreRowsWithin w16 columns (L.IsLegal legal.now) (comb_raw rows.now) }
+    ensures { IsTrue result ↔ AreRowsWithin (width_of version) columns (L.IsLegal legal.now) (comb_raw rows.now) }
 {
-    are_at_most(&rows.bases, rows.entries.len()) && are_slots_within(rows, columns, legal)
+    are_at_most(&rows.bases, rows.entries.len()) && are_slots_within(version, rows, columns, legal)
 }
 
 /// Whether each slot lies in its row, with an entry that may stand there, or is free.
-fn are_slots_within<L: Legal>(rows: &RawComb, columns: usize, legal: &L) -> bool
+fn are_slots_within<L: Legal>(version: Version, rows: &RawComb, columns: usize, legal: &L) -> bool
     requires { length rows.now.rows.items ≡ length rows.now.entries.items }
     ensures { IsTrue result ↔ ((slot : ℕ) → slot < length rows.now.entries.items
-        → IsSlotWithin w16 columns (L.IsLegal legal.now) (comb_raw rows.now) slot
+        → IsSlotWithin (width_of version) columns (L.IsLegal legal.now) (comb_raw rows.now) slot
         (slice_index rows.now.entries.items slot) (slice_index rows.now.rows.items slot)) }
 {
     for slot in 0..rows.entries.len() {
-        if !is_slot_within(rows, columns, legal, slot) {
+        if !is_slot_within(version, rows, columns, legal, slot) {
             return false;
         }
     }
@@ -125,14 +136,20 @@ fn are_slots_within<L: Legal>(rows: &RawComb, columns: usize, legal: &L) -> bool
 }
 
 /// Whether a slot lies in its row, with an entry that may stand there, or is free.
-fn is_slot_within<L: Legal>(rows: &RawComb, columns: usize, legal: &L, slot: usize) -> bool
+fn is_slot_within<L: Legal>(
+    version: Version,
+    rows: &RawComb,
+    columns: usize,
+    legal: &L,
+    slot: usize,
+) -> bool
     requires count { length rows.now.rows.items ≡ length rows.now.entries.items }
     requires slot { slot < length rows.now.entries.items }
-    ensures { IsTrue result ↔ IsSlotWithin w16 columns (L.IsLegal legal.now) (comb_raw rows.now) slot
-        (slice_index rows.now.entries.items slot) (slice_index rows.now.rows.items slot) }
+    ensures { IsTrue result ↔ IsSlotWithin (width_of version) columns (L.IsLegal legal.now) (comb_raw rows.now)
+        slot (slice_index rows.now.entries.items slot) (slice_index rows.now.rows.items slot) }
 {
     let (entry, row) = (rows.entries[slot], rows.rows[slot]);
-    let is_free = row == NONE as u32 && entry == 0;
+    let is_free = row == none(version) && entry == 0;
     is_free || is_in_row(rows, columns, legal, slot, entry, row)
 }
 

@@ -1,18 +1,19 @@
 //! The ranges of the sections of the parser, but for its rows.
 ghost use Rattle.std.specs.Prelude.{◌≡◌, ◌<◌, ◌≤◌, ◌↔◌, All, AllPairs, IsTrue, length};
 ghost use Rattle.ly_tables.specs.Private.RawValues.{raw_from, rule_raw};
-ghost use Rattle.ly_tables.specs.Ranges.{version_1};
+ghost use Rattle.ly_tables.specs.Ranges.{counts_of};
 ghost use Rattle.ly_tables.specs.RawSections.{AreDefaultsWithin, AreRulesWithin, IsRuleWithin, IsShapeWithin};
 
-use crate::counts::{MOST_RULES, MOST_STATES, are_at_most, is_count_within};
+use crate::counts::{are_at_most, is_count_within, most_rules, most_states};
 use crate::raw_tables::{RawRule, RawTables};
 use crate::symbol_ranges::is_name_long;
+use ly_base::Version;
 
 /// Whether the parser's rules are within their ranges.
-pub(crate) fn rules_within(raw: &RawTables) -> bool
-    ensures { IsTrue result ↔ AreRulesWithin version_1 (raw_from raw.now) }
+pub(crate) fn rules_within(version: Version, raw: &RawTables) -> bool
+    ensures { IsTrue result ↔ AreRulesWithin (counts_of version) (raw_from raw.now) }
 {
-    is_count_within(raw.rules.len(), MOST_RULES) && are_rules_within(&raw.rules, raw)
+    is_count_within(raw.rules.len(), most_rules(version)) && are_rules_within(&raw.rules, raw)
 }
 
 /// Whether each rule of the parser is within its ranges.
@@ -68,8 +69,9 @@ fn are_apart(places: &[u8]) -> bool
 }
 
 /// Whether the default rules of the parser's states are within their ranges.
-pub(crate) fn defaults_within(raw: &RawTables) -> bool
-    ensures { IsTrue result ↔ AreDefaultsWithin version_1 (raw_from raw.now) }
+pub(crate) fn defaults_within(version: Version, raw: &RawTables) -> bool
+    ensures { IsTrue result ↔ AreDefaultsWithin (counts_of version) (raw_from raw.now) }
 {
-    is_count_within(raw.defaults.len(), MOST_STATES) && are_at_most(&raw.defaults, raw.rules.len())
+    is_count_within(raw.defaults.len(), most_states(version))
+        && are_at_most(&raw.defaults, raw.rules.len())
 }

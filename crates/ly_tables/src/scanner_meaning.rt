@@ -4,13 +4,14 @@ ghost use Rattle.std.specs.Option.{option_map};
 ghost use Rattle.ly_tables.specs.Private.Meaning.{counted_meant, cut_meant, default_meant, emitted_meant};
 ghost use Rattle.ly_tables.specs.Private.Meaning.{number_meant, scan_rule_meant, starts_meant};
 ghost use Rattle.ly_tables.specs.Private.RawValues.{scan_rule_raw, starts_raw};
+ghost use Rattle.ly_tables.specs.Ranges.{width_of};
 ghost use Rattle.ly_tables.specs.Values.{scan_rule_from, starts_from};
 
-use crate::numbers::NONE;
+use crate::numbers::none;
 use crate::raw_tables::{RawScanRule, RawStarts};
 use crate::scan_rule::ScanRule;
 use crate::starts::Starts;
-use ly_base::{Cut, Emitted, RuleNo, ScanAction, StateNo, Sym};
+use ly_base::{Cut, Emitted, RuleNo, ScanAction, StateNo, Sym, Version};
 use std::alloc::{AllocError, Global};
 
 /// The terminals of these numbers.
@@ -25,23 +26,28 @@ pub(crate) fn literals(alloc: Global, numbers: &[u32]) -> Result<Vec<Sym>, Alloc
 }
 
 /// The rules of the scanner.
-pub(crate) fn scan_rules(alloc: Global, rules: &[RawScanRule]) -> Result<Vec<ScanRule>, AllocError>
-    ensures { IfOk result (λ out. map scan_rule_from out.items ≡ map scan_rule_meant (map scan_rule_raw rules.now)) }
+pub(crate) fn scan_rules(
+    alloc: Global,
+    version: Version,
+    rules: &[RawScanRule],
+) -> Result<Vec<ScanRule>, AllocError>
+    ensures { IfOk result (λ out. map scan_rule_from out.items
+        ≡ map (scan_rule_meant (width_of version)) (map scan_rule_raw rules.now)) }
 {
     let mut out = Vec::with_capacity(alloc, rules.len())?;
     for rule in rules {
-        out.push(scan_rule(*rule))?;
+        out.push(scan_rule(version, *rule))?;
     }
     Ok(out)
 }
 
 /// A rule of the scanner.
-fn scan_rule(rule: RawScanRule) -> ScanRule
-    ensures { scan_rule_from result ≡ scan_rule_meant (scan_rule_raw rule) }
+fn scan_rule(version: Version, rule: RawScanRule) -> ScanRule
+    ensures { scan_rule_from result ≡ scan_rule_meant (width_of version) (scan_rule_raw rule) }
 {
     ScanRule {
         action: ScanAction {
-            begin: number_or_none(rule.begin),
+            begin: number_or_none(version, rule.begin),
             emits: emitted(rule.kind, rule.terminal),
         },
         cut: cut(rule.cut, rule.len),
@@ -71,10 +77,10 @@ fn cut(kind: u8, len: u32) -> Cut
 }
 
 /// A number, or none.
-fn number_or_none(number: u32) -> Option<u32>
-    ensures { result ≡ number_meant number }
+fn number_or_none(version: Version, number: u32) -> Option<u32>
+    ensures { result ≡ number_meant (width_of version) number }
 {
-    if number == NONE as u32 {
+    if number == none(version) {
         None
     } else {
         Some(number)
@@ -82,23 +88,28 @@ fn number_or_none(number: u32) -> Option<u32>
 }
 
 /// Where the conditions begin.
-pub(crate) fn conditions(alloc: Global, conditions: &[RawStarts]) -> Result<Vec<Starts>, AllocError>
-    ensures { IfOk result (λ out. map starts_from out.items ≡ map starts_meant (map starts_raw conditions.now)) }
+pub(crate) fn conditions(
+    alloc: Global,
+    version: Version,
+    conditions: &[RawStarts],
+) -> Result<Vec<Starts>, AllocError>
+    ensures { IfOk result (λ out. map starts_from out.items
+        ≡ map (starts_meant (width_of version)) (map starts_raw conditions.now)) }
 {
     let mut out = Vec::with_capacity(alloc, conditions.len())?;
     for condition in conditions {
-        out.push(starts(*condition))?;
+        out.push(starts(version, *condition))?;
     }
     Ok(out)
 }
 
 /// Where a condition begins.
-fn starts(condition: RawStarts) -> Starts
-    ensures { starts_from result ≡ starts_meant (starts_raw condition) }
+fn starts(version: Version, condition: RawStarts) -> Starts
+    ensures { starts_from result ≡ starts_meant (width_of version) (starts_raw condition) }
 {
     Starts {
-        elsewhere: number_or_none(condition.elsewhere).map(StateNo),
-        at_line: number_or_none(condition.at_line).map(StateNo),
+        elsewhere: number_or_none(version, condition.elsewhere).map(StateNo),
+        at_line: number_or_none(version, condition.at_line).map(StateNo),
     }
 }
 

@@ -1,38 +1,42 @@
 //! The ranges of the sections of the scanner, but for its rows.
 ghost use Rattle.std.specs.Prelude.{◌≡◌, ◌≢◌, ◌⊎◌, ◌<◌, ◌≤◌, ◌↔◌, All, IsTrue, length};
-ghost use Rattle.std.specs.Int.{w16};
 ghost use Rattle.ly_tables.specs.Private.RawValues.{raw_from, scan_rule_raw};
-ghost use Rattle.ly_tables.specs.Ranges.{version_1};
+ghost use Rattle.ly_tables.specs.Ranges.{counts_of, width_of};
 ghost use Rattle.ly_tables.specs.RawSections.{AreAcceptedWithin, AreClassesWithin, AreConditionsWithin};
 ghost use Rattle.ly_tables.specs.RawSections.{AreScanRulesWithin, IsNoneOr, IsScanRuleWithin};
 
 use crate::counts::{
-    MOST_CLASSES, MOST_CONDITIONS, MOST_RULES, MOST_STATES, are_at_most, is_count_within,
+    MOST_CLASSES, MOST_CONDITIONS, are_at_most, is_count_within, most_rules, most_states,
 };
-use crate::numbers::NONE;
+use crate::numbers::none;
 use crate::raw_tables::{RawScanRule, RawStarts, RawTables};
 use crate::symbol_ranges::is_token;
+use ly_base::Version;
 
 /// Whether the scanner's rules are within their ranges.
-pub(crate) fn scan_rules_within(raw: &RawTables) -> bool
-    ensures { IsTrue result ↔ AreScanRulesWithin w16 version_1 (raw_from raw.now) }
+pub(crate) fn scan_rules_within(version: Version, raw: &RawTables) -> bool
+    ensures { IsTrue result ↔ AreScanRulesWithin (width_of version) (counts_of version) (raw_from raw.now) }
 {
-    raw.scan_rules.len() <= MOST_RULES && are_scan_rules_within(&raw.scan_rules, raw)
+    raw.scan_rules.len() <= most_rules(version)
+        && are_scan_rules_within(version, &raw.scan_rules, raw)
 }
 
 /// Whether each rule of the scanner is within its ranges.
-fn are_scan_rules_within(rules: &[RawScanRule], raw: &RawTables) -> bool
-    ensures { IsTrue result ↔ All (λ rule. IsScanRuleWithin w16 (raw_from raw.now) (scan_rule_raw rule)) rules.now }
+fn are_scan_rules_within(version: Version, rules: &[RawScanRule], raw: &RawTables) -> bool
+    ensures { IsTrue result ↔ All (λ rule. IsScanRuleWithin (width_of version) (raw_from raw.now)
+        (scan_rule_raw rule)) rules.now }
 {
-    rules.iter().all(|rule| is_scan_rule_within(*rule, raw))
+    rules
+        .iter()
+        .all(|rule| is_scan_rule_within(version, *rule, raw))
 }
 
 /// Whether a rule of the scanner is within its ranges.
-fn is_scan_rule_within(rule: RawScanRule, raw: &RawTables) -> bool
-    ensures { IsTrue result ↔ IsScanRuleWithin w16 (raw_from raw.now) (scan_rule_raw rule) }
+fn is_scan_rule_within(version: Version, rule: RawScanRule, raw: &RawTables) -> bool
+    ensures { IsTrue result ↔ IsScanRuleWithin (width_of version) (raw_from raw.now) (scan_rule_raw rule) }
 {
     is_emission_within(rule.kind, rule.terminal, raw.terminals.len())
-        && is_none_or(rule.begin, raw.conditions.len())
+        && is_none_or(version, rule.begin, raw.conditions.len())
         && is_cut_within(rule.cut, rule.len)
 }
 
@@ -62,27 +66,27 @@ fn is_cut_within(cut: u8, len: u32) -> bool
 }
 
 /// Whether a number is below a bound, or stands for none.
-fn is_none_or(number: u32, bound: usize) -> bool
-    ensures { IsTrue result ↔ IsNoneOr w16 bound number }
+fn is_none_or(version: Version, number: u32, bound: usize) -> bool
+    ensures { IsTrue result ↔ IsNoneOr (width_of version) bound number }
 {
-    number == NONE as u32 || (number as usize) < bound
+    number == none(version) || (number as usize) < bound
 }
 
 /// Whether the conditions are within their ranges.
-pub(crate) fn conditions_within(raw: &RawTables) -> bool
-    ensures { IsTrue result ↔ AreConditionsWithin w16 version_1 (raw_from raw.now) }
+pub(crate) fn conditions_within(version: Version, raw: &RawTables) -> bool
+    ensures { IsTrue result ↔ AreConditionsWithin (width_of version) (counts_of version) (raw_from raw.now) }
 {
     is_count_within(raw.conditions.len(), MOST_CONDITIONS)
-        && are_starts_within(&raw.conditions, raw.accepted.len())
+        && are_starts_within(version, &raw.conditions, raw.accepted.len())
 }
 
 /// Whether the states where each condition begins are there.
-fn are_starts_within(conditions: &[RawStarts], states: usize) -> bool
-    ensures { IsTrue result ↔ All (λ c. IsNoneOr w16 states c.elsewhere × IsNoneOr w16 states c.at_line)
-        conditions.now }
+fn are_starts_within(version: Version, conditions: &[RawStarts], states: usize) -> bool
+    ensures { IsTrue result ↔ All (λ c. IsNoneOr (width_of version) states c.elsewhere
+        × IsNoneOr (width_of version) states c.at_line) conditions.now }
 {
-    conditions.iter().all(|starts| is_none_or(starts.elsewhere, states)
-        && is_none_or(starts.at_line, states))
+    conditions.iter().all(|starts| is_none_or(version, starts.elsewhere, states)
+        && is_none_or(version, starts.at_line, states))
 }
 
 /// Whether the classes are within their ranges.
@@ -101,8 +105,8 @@ fn are_classes_below(classes: &[u8], count: u32) -> bool
 }
 
 /// Whether the scanner's states are within their ranges.
-pub(crate) fn accepted_within(raw: &RawTables) -> bool
-    ensures { IsTrue result ↔ AreAcceptedWithin version_1 (raw_from raw.now) }
+pub(crate) fn accepted_within(version: Version, raw: &RawTables) -> bool
+    ensures { IsTrue result ↔ AreAcceptedWithin (counts_of version) (raw_from raw.now) }
 {
-    raw.accepted.len() <= MOST_STATES && are_at_most(&raw.accepted, raw.scan_rules.len())
+    raw.accepted.len() <= most_states(version) && are_at_most(&raw.accepted, raw.scan_rules.len())
 }

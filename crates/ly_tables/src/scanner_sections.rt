@@ -1,16 +1,17 @@
 //! Reads the sections of the scanner.
 ghost use Rattle.std.specs.Prelude.{◌≡◌, ◌++◌, IfOk, IfErr};
-ghost use Rattle.std.specs.Int.{w16};
 ghost use Rattle.ly_tables.specs.Private.Parts.{IsBeginning, Stops};
 ghost use Rattle.ly_tables.specs.Private.RawParts.{DoesScannerFit, IsScannerText, scanner_raw};
+ghost use Rattle.ly_tables.specs.Ranges.{width_of};
 ghost use Rattle.ly_tables.specs.RawSet.{raw_scanner_sections};
 
 use crate::comb_fields::read_comb;
 use crate::fault::TableFault;
 use crate::field::counted;
-use crate::front::{bytes, short};
-use crate::plain_fields::Short;
+use crate::front::{bytes, number};
+use crate::plain_fields::Number;
 use crate::raw_tables::{RawComb, RawScanRule, RawStarts};
+use ly_base::Version;
 use std::alloc::Global;
 
 /// The sections of the scanner, as numbers.
@@ -31,17 +32,21 @@ pub(crate) struct RawScanner {
 }
 
 /// The sections of the scanner, and what is left behind them.
-pub(crate) fn read_scanner(alloc: Global, left: &[u8]) -> Result<(RawScanner, &[u8]), TableFault>
-    ensures fits { IfOk result (λ r. DoesScannerFit (scanner_raw r.0)) }
-    ensures ok { IfOk result (λ r. left.now ≡ raw_scanner_sections w16 (scanner_raw r.0) ++ r.1.now) }
-    ensures truncated { IfErr result (Stops (IsBeginning IsScannerText left.now)) }
+pub(crate) fn read_scanner(
+    alloc: Global,
+    version: Version,
+    left: &[u8],
+) -> Result<(RawScanner, &[u8]), TableFault>
+    ensures fits { IfOk result (λ r. DoesScannerFit (width_of version) (scanner_raw r.0)) }
+    ensures ok { IfOk result (λ r. left.now ≡ raw_scanner_sections (width_of version) (scanner_raw r.0) ++ r.1.now) }
+    ensures truncated { IfErr result (Stops (IsBeginning (IsScannerText (width_of version)) left.now)) }
 {
-    let (scan_rules, left) = counted::<RawScanRule>(alloc, left)?;
-    let (conditions, left) = counted::<RawStarts>(alloc, left)?;
-    let (class_count, left) = short(left)?;
+    let (scan_rules, left) = counted::<RawScanRule>(alloc, version, left)?;
+    let (conditions, left) = counted::<RawStarts>(alloc, version, left)?;
+    let (class_count, left) = number(version, left)?;
     let (class_bytes, left) = bytes(left, 256)?;
-    let (accepted, left) = counted::<Short>(alloc, left)?;
-    let (rows, left) = read_comb(alloc, left, accepted.len())?;
+    let (accepted, left) = counted::<Number>(alloc, version, left)?;
+    let (rows, left) = read_comb(alloc, version, left, accepted.len())?;
     let classes = Vec::from_slice(alloc, class_bytes)?;
     let scanner = RawScanner {
         scan_rules,

@@ -1,9 +1,9 @@
 //! From the parts of a table set to the set.
 ghost use Rattle.std.specs.Prelude.{◌≡◌, ◌⊎◌, IfErr, IfOk};
-ghost use Rattle.std.specs.Int.{w16};
+ghost use Rattle.ly_base.specs.declared.version.Version.TheVariants.{V2};
 ghost use Rattle.ly_pack.specs.Steady.{IsSteady};
 ghost use Rattle.ly_tables.specs.Private.Refused.{refusal_of, IsUnsteady};
-ghost use Rattle.ly_tables.specs.Ranges.{version_1, IsWithinRanges};
+ghost use Rattle.ly_tables.specs.Ranges.{IsWithinVersion};
 ghost use Rattle.ly_tables.specs.TableSet.{machine_of};
 ghost use Rattle.ly_tables.specs.Values.{set_of};
 
@@ -15,9 +15,9 @@ use ly_loop::{LoopFault, steady};
 use ly_pack::{Machine, MachineParts};
 use std::alloc::Global;
 
-/// The set of parts that are within the ranges, if their parser's tables are steady.
+/// The set of parts that are within the ranges of version 2, if their parser's tables are steady.
 pub(crate) fn steady_set(alloc: Global, parts: TableParts) -> Result<TableSet, TableFault>
-    requires { IsWithinRanges w16 version_1 (set_of parts) }
+    requires { IsWithinVersion V2 (set_of parts) }
     ensures same { IfOk result (λ s. s ≡ set_of parts) }
     ensures steady { IfOk result (λ s. IsSteady (machine_of s)) }
     ensures refused { IfErr result (IsUnsteady (machine_of (set_of parts))) }

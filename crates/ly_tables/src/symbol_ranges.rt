@@ -1,33 +1,31 @@
 //! The ranges of the sections of the symbols.
 ghost use Rattle.std.specs.Prelude.{◌≡◌, ◌+◌, ◌<◌, ◌≤◌, ◌↔◌, All, IsTrue, Some, length, map, slice_get};
-ghost use Rattle.std.specs.Int.{w16};
 ghost use Rattle.ly_tables.specs.Private.Names.{AreNamesWithin, BeginWithSpecials};
 ghost use Rattle.ly_tables.specs.Private.RawValues.{raw_from};
-ghost use Rattle.ly_tables.specs.Ranges.{version_1, IsNameLong};
+ghost use Rattle.ly_tables.specs.Ranges.{counts_of, IsNameLong};
 ghost use Rattle.ly_tables.specs.RawSections.{AreSymbolsWithin, IsToken};
 
-use crate::counts::{MOST_SYMBOLS, is_count_within};
+use crate::counts::{is_count_within, most_symbols};
 use crate::raw_tables::RawTables;
+use ly_base::Version;
 
 /// The greatest length of a name.
 const LONGEST_NAME: usize = 255;
 
 /// Whether the symbols are within their ranges.
-pub(crate) fn symbols_within(raw: &RawTables) -> bool
-    ensures { IsTrue result ↔ AreSymbolsWithin version_1 (raw_from raw.now) }
+pub(crate) fn symbols_within(version: Version, raw: &RawTables) -> bool
+    ensures { IsTrue result ↔ AreSymbolsWithin (counts_of version) (raw_from raw.now) }
 {
-    are_counts_within(raw.terminals.len(), raw.nonterminals as usize)
+    let most = most_symbols(version);
+    are_counts_within(most, raw.terminals.len(), raw.nonterminals as usize)
         && are_names_within(&raw.terminals)
 }
 
-/// Whether there may be so many terminals and nonterminals.
-fn are_counts_within(terminals: usize, nonterminals: usize) -> bool
-    ensures { IsTrue result ↔ (2 ≤ terminals) × (1 ≤ nonterminals) × (terminals + nonterminals + 1 ≤ 4095) }
+/// Whether there may be so many terminals and nonterminals, where no more than so many symbols may be.
+fn are_counts_within(most: usize, terminals: usize, nonterminals: usize) -> bool
+    ensures { IsTrue result ↔ (2 ≤ terminals) × (1 ≤ nonterminals) × (terminals + nonterminals + 1 ≤ most) }
 {
-    2 <= terminals
-        && 1 <= nonterminals
-        && nonterminals < MOST_SYMBOLS
-        && terminals < MOST_SYMBOLS - nonterminals
+    2 <= terminals && 1 <= nonterminals && nonterminals < most && terminals < most - nonterminals
 }
 
 /// Whether names have lengths that are allowed, and the first two are those of the end and of no token.

@@ -1,14 +1,15 @@
 //! Reads the sections of the symbols.
 ghost use Rattle.std.specs.Prelude.{◌≡◌, ◌++◌, IfOk, IfErr};
-ghost use Rattle.std.specs.Int.{w16};
 ghost use Rattle.ly_tables.specs.Private.Parts.{IsBeginning, Stops};
 ghost use Rattle.ly_tables.specs.Private.RawParts.{AreSymbolsText, DoSymbolsFit, symbols_raw};
+ghost use Rattle.ly_tables.specs.Ranges.{width_of};
 ghost use Rattle.ly_tables.specs.RawSet.{raw_symbol_sections};
 
 use crate::fault::TableFault;
 use crate::field::list;
-use crate::front::short;
-use crate::plain_fields::{Short, Text};
+use crate::front::number;
+use crate::plain_fields::{Number, Text};
+use ly_base::Version;
 use std::alloc::Global;
 
 /// The sections of the symbols, as numbers.
@@ -23,15 +24,19 @@ pub(crate) struct RawSymbols {
 }
 
 /// The sections of the symbols, and what is left behind them.
-pub(crate) fn read_symbols(alloc: Global, left: &[u8]) -> Result<(RawSymbols, &[u8]), TableFault>
-    ensures fits { IfOk result (λ r. DoSymbolsFit (symbols_raw r.0)) }
-    ensures ok { IfOk result (λ r. left.now ≡ raw_symbol_sections w16 (symbols_raw r.0) ++ r.1.now) }
-    ensures truncated { IfErr result (Stops (IsBeginning AreSymbolsText left.now)) }
+pub(crate) fn read_symbols(
+    alloc: Global,
+    version: Version,
+    left: &[u8],
+) -> Result<(RawSymbols, &[u8]), TableFault>
+    ensures fits { IfOk result (λ r. DoSymbolsFit (width_of version) (symbols_raw r.0)) }
+    ensures ok { IfOk result (λ r. left.now ≡ raw_symbol_sections (width_of version) (symbols_raw r.0) ++ r.1.now) }
+    ensures truncated { IfErr result (Stops (IsBeginning (AreSymbolsText (width_of version)) left.now)) }
 {
-    let (terminal_count, left) = short(left)?;
-    let (nonterminals, left) = short(left)?;
-    let (terminals, left) = list::<Text>(alloc, left, terminal_count as usize)?;
-    let (literals, left) = list::<Short>(alloc, left, 256)?;
+    let (terminal_count, left) = number(version, left)?;
+    let (nonterminals, left) = number(version, left)?;
+    let (terminals, left) = list::<Text>(alloc, version, left, terminal_count as usize)?;
+    let (literals, left) = list::<Number>(alloc, version, left, 256)?;
     let symbols = RawSymbols {
         nonterminals,
         terminals,

@@ -1,8 +1,8 @@
 ghost use Rattle.std.specs.Prelude.{◌≡◌, length, map, option_map};
-ghost use Rattle.std.specs.Int.{w16};
+ghost use Rattle.ly_base.specs.declared.version.Version.TheVariants.{V2};
 ghost use Rattle.ly_pack.specs.Steady.{IsSteady};
 ghost use Rattle.ly_pack.specs.Values.{rule_from};
-ghost use Rattle.ly_tables.specs.Ranges.{version_1, IsWithinRanges};
+ghost use Rattle.ly_tables.specs.Ranges.{IsWithinVersion};
 ghost use Rattle.ly_tables.specs.TableSet.{machine_of};
 ghost use Rattle.ly_tables.specs.Values.{scan_rule_from, set_of, starts_from};
 
@@ -13,8 +13,8 @@ use ly_base::{RuleNo, StateNo, Sym};
 use ly_pack::{Comb, MachineView, TableAction, TableRule};
 use std::marker::Model;
 
-/// What a driver needs to know of a lex file and a yacc file. Its numbers are within their ranges, and each run of its
-/// parser's tables ends.
+/// What a driver needs to know of a lex file and a yacc file. Its numbers are within the ranges of version 2 of the
+/// table file, and each run of its parser's tables ends.
 #[derive(Drop)]
 pub struct TableSet {
     /// The printed names of terminals, by their numbers.
@@ -60,12 +60,12 @@ impl Model for TableSet {
 }
 
 impl TableSet {
-    /// The set of these parts, which are within the ranges, and whose parser's tables are steady.
+    /// The set of these parts, which are within the ranges of version 2, and whose parser's tables are steady.
     pub fn new(parts: TableParts) -> TableSet
-        requires within { IsWithinRanges w16 version_1 (set_of parts) }
+        requires within { IsWithinVersion V2 (set_of parts) }
         requires steady { IsSteady (machine_of (set_of parts)) }
         ensures set { result ≡ set_of parts }
-        ensures within { IsWithinRanges w16 version_1 result }
+        ensures within { IsWithinVersion V2 result }
         ensures steady { IsSteady (machine_of result) }
     {
         TableSet {
@@ -88,7 +88,7 @@ impl TableSet {
     /// The parts of the set.
     pub fn into_parts(self) -> TableParts
         ensures same { set_of result ≡ self }
-        ensures within { IsWithinRanges w16 version_1 self }
+        ensures within { IsWithinVersion V2 self }
         ensures steady { IsSteady (machine_of self) }
     {
         TableParts {
@@ -111,7 +111,7 @@ impl TableSet {
     /// The parser's tables.
     pub fn machine(&self) -> MachineView<'_, Comb<TableAction>, Comb<StateNo>>
         ensures machine { result ≡ machine_of self.now }
-        ensures within { IsWithinRanges w16 version_1 self.now }
+        ensures within { IsWithinVersion V2 self.now }
         ensures steady { IsSteady (machine_of self.now) }
     {
         MachineView::new(

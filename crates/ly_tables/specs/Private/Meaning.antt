@@ -1,5 +1,7 @@
 -- What the numbers of a table file mean, where they are within their ranges.
-use Rattle.std.specs.Prelude.{ℕ, ◌-◌, List, length, map, Option, Some, None, nat_eq, nat_lt, if◌then◌else◌, slice_index}
+use Rattle.std.specs.Prelude.{ℕ, ◌-◌, List, length, map, Option, Some, None, nat_eq, nat_lt, if◌then◌else◌}
+use Rattle.std.specs.Prelude.{slice_index}
+use Rattle.std.specs.Int.{Width}
 use Rattle.std.specs.List.{zip}
 use Rattle.ly_base.specs.Shape.{Shape, nil, place, node}
 use Rattle.ly_base.specs.declared.cut.Cut.{Cut}
@@ -12,11 +14,12 @@ use Rattle.ly_pack.specs.Rows.{Comb, Used}
 use Rattle.ly_pack.specs.declared.action.TableAction as code
 use Rattle.ly_pack.specs.declared.action.TableAction.TheVariants.{Shift, Reduce, Accept, Error}
 use Rattle.ly_tables.specs.RawSet.{RawComb, RawRule, RawScanRule, RawSet, RawStarts}
+use Rattle.ly_tables.specs.Spelling.{least_reduction, least_shift, none_of}
 use Rattle.ly_tables.specs.TableSet.{ScanRule, Starts, TableSet}
 
--- the greatest number of two bytes means none
-abbrev pub number_meant : ℕ → Option ℕ
-number_meant n = if nat_eq n 65535 then None else Some n
+-- the greatest number of the width means none
+abbrev pub number_meant : Width → ℕ → Option ℕ
+number_meant w n = if nat_eq n (none_of w) then None else Some n
 
 -- 0 means none, and else it is counted from 1
 abbrev pub counted_meant : ℕ → Option ℕ
@@ -33,32 +36,32 @@ emitted_meant kind terminal = if nat_eq kind 0 then Nothing
 abbrev pub cut_meant : ℕ → ℕ → Cut
 cut_meant kind len = if nat_eq kind 0 then Whole else (if nat_eq kind 1 then Head len else Tail len)
 
-abbrev pub scan_rule_meant : RawScanRule → ScanRule
-scan_rule_meant r = record {
-  action = record { begin = number_meant r.begin; emits = emitted_meant r.kind r.terminal };
+abbrev pub scan_rule_meant : Width → RawScanRule → ScanRule
+scan_rule_meant w r = record {
+  action = record { begin = number_meant w r.begin; emits = emitted_meant r.kind r.terminal };
   cut = cut_meant r.cut r.len;
 }
 
-abbrev pub starts_meant : RawStarts → Starts
-starts_meant c = record { elsewhere = number_meant c.elsewhere; at_line = number_meant c.at_line }
+abbrev pub starts_meant : Width → RawStarts → Starts
+starts_meant w c = record { elsewhere = number_meant w c.elsewhere; at_line = number_meant w c.at_line }
 
 abbrev pub state_meant : ℕ → StateNo
 state_meant n = record { 0 = n }
 
 -- shifts have the greatest bit, reductions the next
-abbrev pub action_meant : ℕ → code.TableAction
-action_meant n = if nat_lt n 32768 then (if nat_lt n 16384 then (if nat_eq n 0 then Error else Accept)
-    else Reduce (record { 0 = n - 16384 })) else Shift (record { 0 = n - 32768 })
+abbrev pub action_meant : Width → ℕ → code.TableAction
+action_meant w n = if nat_lt n (least_shift w) then (if nat_lt n (least_reduction w) then (if nat_eq n 0 then Error
+    else Accept) else Reduce (record { 0 = n - least_reduction w })) else Shift (record { 0 = n - least_shift w })
 
 -- a slot of no row is free
-abbrev pub slot_meant : {E : Type 0} → (ℕ → E) → ℕ → ℕ → Option (Used E)
-slot_meant meant entry row = if nat_eq row 65535 then None else Some (record { row = row; entry = meant entry })
+abbrev pub slot_meant : {E : Type 0} → Width → (ℕ → E) → ℕ → ℕ → Option (Used E)
+slot_meant w meant entry row = if nat_eq row (none_of w) then None else Some (record { row = row; entry = meant entry })
 
-abbrev pub slots_meant : {E : Type 0} → (ℕ → E) → RawComb → List (Option (Used E))
-slots_meant meant c = map (λ p. slot_meant meant p.0 p.1) (zip c.entries c.rows)
+abbrev pub slots_meant : {E : Type 0} → Width → (ℕ → E) → RawComb → List (Option (Used E))
+slots_meant w meant c = map (λ p. slot_meant w meant p.0 p.1) (zip c.entries c.rows)
 
-abbrev pub comb_meant : {E : Type 0} → (ℕ → E) → ℕ → RawComb → Comb E
-comb_meant meant width c = record { width = width; bases = c.bases; slots = slots_meant meant c }
+abbrev pub comb_meant : {E : Type 0} → Width → (ℕ → E) → ℕ → RawComb → Comb E
+comb_meant w meant columns c = record { width = columns; bases = c.bases; slots = slots_meant w meant c }
 
 abbrev pub shape_meant : RawRule → Shape
 shape_meant x = if nat_eq x.kind 0 then nil
@@ -67,19 +70,19 @@ shape_meant x = if nat_eq x.kind 0 then nil
 abbrev pub rule_meant : RawRule → TableRule
 rule_meant x = record { left = x.left; body_length = x.body_length; shape = shape_meant x }
 
-abbrev pub set_meant : RawSet → TableSet
-set_meant r = record {
+abbrev pub set_meant : Width → RawSet → TableSet
+set_meant w r = record {
   terminals = r.terminals;
   nonterminals = r.nonterminals;
   literals = r.literals;
-  scan_rules = map scan_rule_meant r.scan_rules;
-  conditions = map starts_meant r.conditions;
+  scan_rules = map (scan_rule_meant w) r.scan_rules;
+  conditions = map (starts_meant w) r.conditions;
   class_count = r.class_count;
   classes = r.classes;
   accepted = map counted_meant r.accepted;
-  scan_rows = comb_meant state_meant r.class_count r.scan_rows;
+  scan_rows = comb_meant w state_meant r.class_count r.scan_rows;
   rules = map rule_meant r.rules;
   defaults = map default_meant r.defaults;
-  actions = comb_meant action_meant (length r.terminals) r.actions;
-  gotos = comb_meant state_meant r.nonterminals r.gotos;
+  actions = comb_meant w (action_meant w) (length r.terminals) r.actions;
+  gotos = comb_meant w state_meant r.nonterminals r.gotos;
 }

@@ -1,6 +1,6 @@
 -- Parts of a table file: which bytes are those of a kind, and what their beginnings are.
 use Rattle.std.specs.Prelude.{◌≡◌, ◌≢◌, ℕ, zero, suc, List, [], ◌∷◌, ◌++◌, length, All}
-use Rattle.std.specs.Int.{w16, w32, to_be_bytes}
+use Rattle.std.specs.Int.{Width}
 use Rattle.ly_tables.specs.RawSet.{Fits, IsByte, IsString, RuleFits, ScanRuleFits, StartsFit}
 use Rattle.ly_tables.specs.RawSet.{CombFits, raw_comb, raw_rule, raw_scan_rule, raw_starts}
 use Rattle.ly_tables.specs.Spelling.{number, string}
@@ -34,9 +34,9 @@ abbrev pub Repeated : (List ℕ → Type 0) → ℕ → List ℕ → Type 0
 Repeated part zero bytes = bytes ≡ []
 Repeated part (suc n) bytes = (first rest : List ℕ) × part first × Repeated part n rest × (bytes ≡ first ++ rest)
 
--- how many parts there are, and these
-abbrev pub Counted : (List ℕ → Type 0) → List ℕ → Type 0
-Counted part = Then (Fits w16) (number w16) (Repeated part)
+-- how many parts there are, in a number of the width, and these
+abbrev pub Counted : Width → (List ℕ → Type 0) → List ℕ → Type 0
+Counted w part = Then (Fits w) (number w) (Repeated part)
 
 -- why a part isn't read: it is only begun, or memory ran out
 abbrev pub Stops : Type 0 → TableFault → Type 0
@@ -56,33 +56,30 @@ single byte = byte ∷ []
 abbrev pub AreBytes : ℕ → List ℕ → Type 0
 AreBytes count bytes = (length bytes ≡ count) × All IsByte bytes
 
--- the bytes of numbers, of one, two and four bytes
+-- the bytes of numbers, of one byte and of a width
 abbrev pub IsByteText : List ℕ → Type 0
 IsByteText = Spells IsByte single
 
-abbrev pub IsShortText : List ℕ → Type 0
-IsShortText = Spells (Fits w16) (number w16)
-
-abbrev pub IsWideText : List ℕ → Type 0
-IsWideText = Spells (Fits w32) (to_be_bytes w32)
+abbrev pub IsNumberText : Width → List ℕ → Type 0
+IsNumberText w = Spells (Fits w) (number w)
 
 -- those of a text
 abbrev pub IsStringText : List ℕ → Type 0
 IsStringText = Spells IsString string
 
 -- those of a rule of the scanner, of the states of a condition, and of a rule of the parser
-abbrev pub IsScanRuleText : List ℕ → Type 0
-IsScanRuleText = Spells (ScanRuleFits w16) (raw_scan_rule w16)
+abbrev pub IsScanRuleText : Width → List ℕ → Type 0
+IsScanRuleText w = Spells (ScanRuleFits w) (raw_scan_rule w)
 
-abbrev pub AreStartsText : List ℕ → Type 0
-AreStartsText = Spells (StartsFit w16) (raw_starts w16)
+abbrev pub AreStartsText : Width → List ℕ → Type 0
+AreStartsText w = Spells (StartsFit w) (raw_starts w)
 
-abbrev pub IsRuleText : List ℕ → Type 0
-IsRuleText = Spells (RuleFits w16) (raw_rule w16)
+abbrev pub IsRuleText : Width → List ℕ → Type 0
+IsRuleText w = Spells (RuleFits w) (raw_rule w)
 
 -- those of the rows of so many states
-abbrev pub IsCombText : ℕ → List ℕ → Type 0
-IsCombText states = Spells (CombFits w16 states) (raw_comb w16)
+abbrev pub IsCombText : Width → ℕ → List ℕ → Type 0
+IsCombText w states = Spells (CombFits w states) (raw_comb w)
 
 -- a fault that comes before ranges are looked at
 abbrev pub IsEarly : TableFault → Type 0

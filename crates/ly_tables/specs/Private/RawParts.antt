@@ -1,6 +1,6 @@
 -- The sections of a table file in three parts: of the symbols, the scanner and the parser.
 use Rattle.std.specs.Prelude.{◌≡◌, ℕ, List, [], All, length, map}
-use Rattle.std.specs.Int.{w16}
+use Rattle.std.specs.Int.{Width}
 use Rattle.ly_tables.specs.Private.Parts.{Spells}
 use Rattle.ly_tables.specs.Private.RawValues.{comb_raw, rule_raw, scan_rule_raw, starts_raw}
 use Rattle.ly_tables.specs.RawSet.{CombFits, Fits, IsByte, IsString, RuleFits, ScanRuleFits, StartsFit}
@@ -98,41 +98,41 @@ abbrev pub parser_raw : parser.RawParser → RawSet
 parser_raw p = of_parser (map rule_raw p.rules.items) p.defaults.items (comb_raw p.actions) (comb_raw p.gotos)
 
 -- the numbers of the symbols fit
-pub record DoSymbolsFit (r : RawSet) : Type 0 where
-  pub terminal_count : Fits w16 (length r.terminals)
-  pub nonterminals : Fits w16 r.nonterminals
+pub record DoSymbolsFit (w : Width) (r : RawSet) : Type 0 where
+  pub terminal_count : Fits w (length r.terminals)
+  pub nonterminals : Fits w r.nonterminals
   pub terminals : All IsString r.terminals
   pub literal_count : length r.literals ≡ 256
-  pub literals : All (Fits w16) r.literals
+  pub literals : All (Fits w) r.literals
 
 -- those of the scanner do
-pub record DoesScannerFit (r : RawSet) : Type 0 where
-  pub scan_rule_count : Fits w16 (length r.scan_rules)
-  pub scan_rules : All (ScanRuleFits w16) r.scan_rules
-  pub condition_count : Fits w16 (length r.conditions)
-  pub conditions : All (StartsFit w16) r.conditions
-  pub class_count : Fits w16 r.class_count
+pub record DoesScannerFit (w : Width) (r : RawSet) : Type 0 where
+  pub scan_rule_count : Fits w (length r.scan_rules)
+  pub scan_rules : All (ScanRuleFits w) r.scan_rules
+  pub condition_count : Fits w (length r.conditions)
+  pub conditions : All (StartsFit w) r.conditions
+  pub class_count : Fits w r.class_count
   pub all_classes : length r.classes ≡ 256
   pub classes : All IsByte r.classes
-  pub scan_states : Fits w16 (length r.accepted)
-  pub accepted : All (Fits w16) r.accepted
-  pub scan_rows : CombFits w16 (length r.accepted) r.scan_rows
+  pub scan_states : Fits w (length r.accepted)
+  pub accepted : All (Fits w) r.accepted
+  pub scan_rows : CombFits w (length r.accepted) r.scan_rows
 
 -- those of the parser do
-pub record DoesParserFit (r : RawSet) : Type 0 where
-  pub rule_count : Fits w16 (length r.rules)
-  pub rules : All (RuleFits w16) r.rules
-  pub states : Fits w16 (length r.defaults)
-  pub defaults : All (Fits w16) r.defaults
-  pub actions : CombFits w16 (length r.defaults) r.actions
-  pub gotos : CombFits w16 (length r.defaults) r.gotos
+pub record DoesParserFit (w : Width) (r : RawSet) : Type 0 where
+  pub rule_count : Fits w (length r.rules)
+  pub rules : All (RuleFits w) r.rules
+  pub states : Fits w (length r.defaults)
+  pub defaults : All (Fits w) r.defaults
+  pub actions : CombFits w (length r.defaults) r.actions
+  pub gotos : CombFits w (length r.defaults) r.gotos
 
 -- the bytes of the three parts
-abbrev pub AreSymbolsText : List ℕ → Type 0
-AreSymbolsText = Spells DoSymbolsFit (raw_symbol_sections w16)
+abbrev pub AreSymbolsText : Width → List ℕ → Type 0
+AreSymbolsText w = Spells (DoSymbolsFit w) (raw_symbol_sections w)
 
-abbrev pub IsScannerText : List ℕ → Type 0
-IsScannerText = Spells DoesScannerFit (raw_scanner_sections w16)
+abbrev pub IsScannerText : Width → List ℕ → Type 0
+IsScannerText w = Spells (DoesScannerFit w) (raw_scanner_sections w)
 
-abbrev pub IsParserText : List ℕ → Type 0
-IsParserText = Spells DoesParserFit (raw_parser_sections w16)
+abbrev pub IsParserText : Width → List ℕ → Type 0
+IsParserText w = Spells (DoesParserFit w) (raw_parser_sections w)

@@ -1,14 +1,23 @@
 -- The sections of a table file, one behind another.
 use Rattle.std.specs.Prelude.{◌≡◌, ℕ, ◌<◌}
-use Rattle.std.specs.Int.{w16}
-use Rattle.ly_tables.specs.Ranges.{version_1}
-use Rattle.ly_tables.specs.RawSections.{IsFirstOut, IsSectionWithin, Section, section_number}
-use Rattle.ly_tables.specs.RawSet.{RawSet}
+use Rattle.ly_base.specs.declared.version.Version.{Version}
+use Rattle.ly_tables.specs.Ranges.{counts_of, width_of}
+use Rattle.ly_tables.specs.RawSections.{AreSectionsWithin, IsFirstOut, IsSectionWithin, Section, section_number}
+use Rattle.ly_tables.specs.RawSet.{IsRawSet, RawSet}
+
+-- the numbers fit those of the version
+abbrev pub AreFileNumbers : Version → RawSet → Type 0
+AreFileNumbers v r = IsRawSet (width_of v) r
+
+-- all sections are within the ranges of the version
+abbrev pub AreAllWithin : Version → RawSet → Type 0
+AreAllWithin v r = AreSectionsWithin (width_of v) (counts_of v) r
 
 -- the sections whose numbers are below a bound are within their ranges
-abbrev pub AreWithinBefore : RawSet → ℕ → Type 0
-AreWithinBefore r bound = (s : Section) → section_number s < bound → IsSectionWithin w16 version_1 r s
+abbrev pub AreWithinBefore : Version → RawSet → ℕ → Type 0
+AreWithinBefore v r bound = (s : Section) → section_number s < bound
+    → IsSectionWithin (width_of v) (counts_of v) r s
 
 -- the number is that of the first section out of its ranges
-abbrev pub IsFirstNumber : RawSet → ℕ → Type 0
-IsFirstNumber r n = (s : Section) × (n ≡ section_number s) × IsFirstOut w16 version_1 r s
+abbrev pub IsFirstNumber : Version → RawSet → ℕ → Type 0
+IsFirstNumber v r n = (s : Section) × (n ≡ section_number s) × IsFirstOut (width_of v) (counts_of v) r s

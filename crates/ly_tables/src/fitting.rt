@@ -1,0 +1,50 @@
+//! Whether a table set is within the ranges of a version.
+ghost use Rattle.std.specs.Prelude.{◌+◌, ◌≤◌, ◌↔◌, All, IsTrue, length};
+ghost use Rattle.ly_tables.specs.Private.Short.{CutFits};
+ghost use Rattle.ly_tables.specs.Ranges.{counts_of, width_of, IsWithinVersion};
+
+use crate::counts::{most_rules, most_states, most_symbols};
+use crate::numbers::none;
+use crate::scan_rule::ScanRule;
+use crate::table_set::TableSet;
+use ly_base::{Cut, Version};
+
+/// Whether a set is within the ranges of a version. All that its type keeps is the same in each, but for the greatest
+/// counts, and the lengths of cuts.
+pub(crate) fn is_within(set: &TableSet, version: Version) -> bool
+    ensures { IsTrue result ↔ IsWithinVersion version set.now }
+{
+    are_counts_within(set, version) && are_cuts_within(&set.scan_rules, version)
+}
+
+/// Whether a set has no more symbols, rules and states than a version.
+fn are_counts_within(set: &TableSet, version: Version) -> bool
+    ensures { IsTrue result ↔ (length set.now.terminals + set.now.nonterminals + 1 ≤ (counts_of version).symbols)
+        × (length set.now.scan_rules ≤ (counts_of version).rules)
+        × (length set.now.accepted ≤ (counts_of version).states)
+        × (length set.now.rules ≤ (counts_of version).rules)
+        × (length set.now.defaults ≤ (counts_of version).states) }
+{
+    set.terminals.len() + set.nonterminals < most_symbols(version)
+        && set.scan_rules.len() <= most_rules(version)
+        && set.accepted.len() <= most_states(version)
+        && set.rules.len() <= most_rules(version)
+        && set.defaults.len() <= most_states(version)
+}
+
+/// Whether the length of each cut is a number of a version.
+fn are_cuts_within(rules: &[ScanRule], version: Version) -> bool
+    ensures { IsTrue result ↔ All (λ rule. CutFits (width_of version) rule.cut) rules.now }
+{
+    rules.iter().all(|rule| is_cut_within(rule.cut, version))
+}
+
+/// Whether the length of a cut is a number of a version.
+fn is_cut_within(cut: Cut, version: Version) -> bool
+    ensures { IsTrue result ↔ CutFits (width_of version) cut }
+{
+    match cut {
+        Cut::Whole => true,
+        Cut::Head(len) | Cut::Tail(len) => len <= none(version) as usize,
+    }
+}
