@@ -1,8 +1,7 @@
--- The table set of what fits a file is within the ranges of the file.
-use Rattle.std.proofs.Common.{◌≡◌, ◌∙◌, ◌<◌, ◌≤◌, ◌+◌, ◌-◌, ℕ, zero, suc, List, Some, None, All, Bool}
+-- The table set of what fits a file of a version is within the ranges of that version.
+use Rattle.std.proofs.Common.{◌≡◌, ◌∙◌, ◌<◌, ◌≤◌, ◌+◌, ◌-◌, ◌*◌, ◌^◌, ℕ, zero, suc, List, Some, None, All, Bool}
 use Rattle.std.proofs.Common.{ap, arith, inl, inr, length, map, slice_get, subst, sym, true, false, option_map}
 use Rattle.std.specs.Prelude.{if◌then◌else◌, nat_lt}
-use Rattle.std.specs.Int.{w16}
 use Rattle.std.proofs.lemmas.Bool.{cases_lt}
 use Rattle.std.proofs.lemmas.List.{length-map}
 use Rattle.std.proofs.lemmas.List.Elements.{All-map}
@@ -11,6 +10,8 @@ use Rattle.std.proofs.lemmas.Option.{same_Some, slice_get-get_or, slice_get-map}
 use Rattle.std.proofs.lemmas.Option.{slice_get_within}
 use Rattle.ly_base.specs.Shape.{nil}
 use Rattle.ly_base.specs.declared.numbers.StateNo.{StateNo}
+use Rattle.ly_base.specs.declared.version.Version.{Version}
+use Rattle.ly_base.specs.declared.version.Version.TheVariants.{V1, V2}
 use Rattle.ly_base.proofs.ListLemmas.{All-at}
 use Rattle.ly_ere.specs.declared.pattern.Rule.{Rule}
 use Rattle.ly_join.specs.Joined.{Spec}
@@ -24,7 +25,7 @@ use Rattle.ly_report.specs.Report.{terminal_name}
 use Rattle.ly_subset.specs.Automaton.{IsAutomaton, entry_at, start_of, start_place}
 use Rattle.ly_subset.specs.Automaton as scanner
 use Rattle.ly_tables.specs.Ranges.{AreRows, AreStartsWithin, IsCutWithin, IsEmittedWithin, IsNameLong, IsRuleShort}
-use Rattle.ly_tables.specs.Ranges.{IsScanRule, IsWithinRanges, version_1}
+use Rattle.ly_tables.specs.Ranges.{IsScanRule, IsWithinVersion, counts_of, width_of}
 use Rattle.ly_tables.specs.TableSet.{ScanRule, Starts, TableSet, machine_of}
 use Rattle.ly_emit.specs.FitsFile.{FitsFile, IsActionWithin}
 use Rattle.ly_emit.specs.SetOf.{IsSetOf}
@@ -53,19 +54,33 @@ literal_within ts b t first second (inr none) = let one = none.1 in
     let two = slice_get_within ts 1 undefined second in
     (omega (arith, one), omega (arith, one, two))
 
--- the rows of a table that is no greater than those of a file are within the ranges
-rows_within : {E : Type 0} (states columns : ℕ) (c : Comb E) → IsFirstFit c → HasRows states columns c → states ≤ 16383
-    → columns ≤ 4095 → AreRows states columns c
-rows_within states columns c fit has few narrow = record {
+-- 32 bits count the slots of a table that is no greater than those of a version's file
+slots_fit : (v : Version) (rows width : ℕ) → rows ≤ (counts_of v).states → width ≤ (counts_of v).symbols
+    → (rows + 1) * width < 2 ^ 32
+slots_fit V1 rows width few narrow = let size = mul-le (rows + 1) width 16384 4095 (omega (arith, few)) narrow in
+    omega (arith, size)
+slots_fit V2 rows width few narrow = let size = mul-le (rows + 1) width 262144 16383 (omega (arith, few)) narrow in
+    omega (arith, size)
+
+-- and so are its rows within the ranges
+rows_within : {E : Type 0} (v : Version) (states columns : ℕ) (c : Comb E) → IsFirstFit c → HasRows states columns c
+    → states ≤ (counts_of v).states → columns ≤ (counts_of v).symbols → AreRows states columns c
+rows_within v states columns c fit has few narrow = record {
   is_comb = first_fit_comb c fit;
   rows = has.rows;
   width = has.width;
   slots =
-      let size = mul-le (length c.bases + 1) c.width 16384 4095 (let rows = has.rows in omega (arith, rows, few))
-      (let width = has.width in omega (arith, width, narrow)) in
+      let size = slots_fit v (length c.bases) c.width
+      (subst (λ n. n ≤ (counts_of v).states) (sym has.rows) few)
+      (subst (λ n. n ≤ (counts_of v).symbols) (sym has.width) narrow) in
       let short = first_fit_short c fit in
       omega (arith, size, short);
 }
+
+-- the classes of bytes are no more than the symbols that a version allows
+few_classes : (v : Version) (n : ℕ) → n ≤ 256 → n ≤ (counts_of v).symbols
+few_classes V1 n le = omega (arith, le)
+few_classes V2 n le = omega (arith, le)
 
 -- where an automaton's condition begins, a state is
 start_within : (A : scanner.Automaton) (c : ℕ) (line : Bool) (state : ℕ) → IsAutomaton A
@@ -77,8 +92,8 @@ start_within A c line state is = at (nat_lt (start_place c line) A.starts)
     at true e = is.within (start_place c line) state e
     at false e = absurd cc
 
-module _ (s : Spec) (M : parser.Automaton) (A : scanner.Automaton) (rules : List Rule) (set : TableSet)
-    (fits : FitsFile s rules A M) (is : IsSetOf s M rules A set) (lists : AreLists set) (sizes : HasSizes s)
+module _ (v : Version) (s : Spec) (M : parser.Automaton) (A : scanner.Automaton) (rules : List Rule) (set : TableSet)
+    (fits : FitsFile v s rules A M) (is : IsSetOf s M rules A set) (lists : AreLists set) (sizes : HasSizes s)
     (whole : IsAutomaton A) (many : length rules ≡ length s.scanner) (machine : IsMachine (machine_of set)) where
   terminal_count : length set.terminals ≡ length s.terminals
   terminal_count = ap length is.terminals ∙ length-map s.terminals terminal_name
@@ -95,12 +110,12 @@ module _ (s : Spec) (M : parser.Automaton) (A : scanner.Automaton) (rules : List
   scan_rule_count = sym (length-map set.scan_rules (λ r. r.action)) ∙ ap length is.scanner.actions
 
   scan_rule : (k : ℕ) (r : ScanRule) → slice_get set.scan_rules k ≡ Some r
-      → IsScanRule w16 (length set.terminals) (length set.conditions) r
+      → IsScanRule (width_of v) (length set.terminals) (length set.conditions) r
   scan_rule k r at =
       let does = All-at (IsActionWithin (length s.terminals) A.starts) s.scanner k r.action fits.scanner.actions
       (mapped_at (λ r. r.action) set.scan_rules s.scanner k r is.scanner.actions at) in
-      let cuts = All-at (IsCutWithin w16) (map (λ r. r.pattern.cut) rules) k r.cut
-      (All-map (IsCutWithin w16) (λ r. r.pattern.cut) rules fits.scanner.cuts)
+      let cuts = All-at (IsCutWithin (width_of v)) (map (λ r. r.pattern.cut) rules) k r.cut
+      (All-map (IsCutWithin (width_of v)) (λ r. r.pattern.cut) rules fits.scanner.cuts)
       (mapped_at (λ r. r.cut) set.scan_rules (map (λ r. r.pattern.cut) rules) k r is.scanner.cuts at) in
       record {
         emits = subst (λ n. IsEmittedWithin n r.action.emits) (sym terminal_count) does.emits;
@@ -166,10 +181,10 @@ module _ (s : Spec) (M : parser.Automaton) (A : scanner.Automaton) (rules : List
   state_count : length set.defaults ≡ length M.states
   state_count = is.machine.2.states ∙ is.machine.1.states
 
-  few_states : length set.defaults ≤ 16383
+  few_states : length set.defaults ≤ (counts_of v).states
   few_states = let same = state_count in let few = fits.grammar.states in omega (arith, same, few)
 
-  symbols : length set.terminals + set.nonterminals + 1 ≤ 4095
+  symbols : length set.terminals + set.nonterminals + 1 ≤ (counts_of v).symbols
   symbols = let count = terminal_count in let others = is.nonterminals in let few = fits.grammar.symbols in
       omega (arith, count, others, few)
 
@@ -181,7 +196,7 @@ module _ (s : Spec) (M : parser.Automaton) (A : scanner.Automaton) (rules : List
       let lt = (All-at (IsRuleWithin set.nonterminals) set.rules 0 _ machine.rules first).left in
       omega (arith, lt)
 
-  pub set_within : IsWithinRanges w16 version_1 set
+  pub set_within : IsWithinVersion v set
   set_within = record {
     terminals = two_terminals;
     nonterminals = some_nonterminal;
@@ -200,7 +215,7 @@ module _ (s : Spec) (M : parser.Automaton) (A : scanner.Automaton) (rules : List
         (λ b t at. token_within b t (is.literals b t at));
     scan_rule_count = let same = scan_rule_count in let few = fits.scanner.rule_count in
         omega (arith, same, many, few);
-    scan_rules = all_from (IsScanRule w16 (length set.terminals) (length set.conditions)) set.scan_rules scan_rule;
+    scan_rules = all_from (IsScanRule (width_of v) (length set.terminals) (length set.conditions)) set.scan_rules scan_rule;
     some_condition = let count = is.scanner.condition_count in let some = fits.scanner.some_condition in
         omega (arith, count, some);
     condition_count = let count = is.scanner.condition_count in let few = fits.scanner.conditions in
@@ -216,17 +231,17 @@ module _ (s : Spec) (M : parser.Automaton) (A : scanner.Automaton) (rules : List
         let lt = fits.scanner.accepted k p (ap (λ rs. slice_get rs k) (sym is.scanner.accepted) ∙ at) in
         let same = scan_rule_count in
         omega (arith, lt, same, many);
-    scan_rows = rows_within (length set.accepted) set.class_count set.scan_rows is.scan_rows lists.scan_rows
+    scan_rows = rows_within v (length set.accepted) set.class_count set.scan_rows is.scan_rows lists.scan_rows
         (let same = ap length is.scanner.accepted in let few = fits.scanner.states in omega (arith, same, few))
-        (let few = class_count in omega (arith, few));
+        (few_classes v set.class_count class_count);
     scan_targets = target_within;
     some_rule = let count = rule_count in let two = fits.grammar.some_rule in omega (arith, count, two);
     rule_count = let count = rule_count in let few = fits.grammar.rule_count in omega (arith, count, few);
     rules = all_from IsRuleShort set.rules rule_short;
     state_count = few_states;
-    actions = rows_within (length set.defaults) (length set.terminals) set.actions is.actions lists.actions few_states
+    actions = rows_within v (length set.defaults) (length set.terminals) set.actions is.actions lists.actions few_states
         (let few = symbols in omega (arith, few));
-    gotos = rows_within (length set.defaults) set.nonterminals set.gotos is.gotos lists.gotos few_states
+    gotos = rows_within v (length set.defaults) set.nonterminals set.gotos is.gotos lists.gotos few_states
         (let few = symbols in omega (arith, few));
     machine = machine;
   }

@@ -1,7 +1,8 @@
--- What a table file of version 1 can hold of a specification and of its automata.
+-- What a table file of a version can hold of a specification and of its automata.
 use Rattle.std.specs.Prelude.{◌≡◌, ℕ, ◌+◌, ◌*◌, ◌<◌, ◌≤◌, List, All, Some, length, slice_get}
-use Rattle.std.specs.Int.{w16}
+use Rattle.std.specs.Int.{Width}
 use Rattle.ly_base.specs.declared.scan_action.ScanAction.{ScanAction}
+use Rattle.ly_base.specs.declared.version.Version.{Version}
 use Rattle.ly_emit.specs.Tables.{shape_in}
 use Rattle.ly_ere.specs.declared.pattern.Rule as pattern
 use Rattle.ly_join.specs.Grammar.{IsRule, Rule}
@@ -10,7 +11,7 @@ use Rattle.ly_join.specs.Terminals.{end, undefined}
 use Rattle.ly_lr0.specs.Automaton as parser
 use Rattle.ly_report.specs.Report.{terminal_name}
 use Rattle.ly_subset.specs.Automaton as scanner
-use Rattle.ly_tables.specs.Ranges.{Counts, IsCutWithin, IsEmittedWithin, IsNameLong, IsShapeShort, version_1}
+use Rattle.ly_tables.specs.Ranges.{Counts, IsCutWithin, IsEmittedWithin, IsNameLong, IsShapeShort, counts_of, width_of}
 
 -- The first two terminals are the end and the one of no token; there are no more symbols, rules and states than these
 -- counts allow, and a rule; and bodies, names of terminals and names of constructors are no longer than a byte counts.
@@ -33,19 +34,19 @@ pub record IsActionWithin (terminals starts : ℕ) (a : ScanAction) : Type 0 whe
   pub begin : (c : ℕ) → a.begin ≡ Some c → 2 * c < starts
 
 -- There are no more rules, conditions and states than these counts allow, and a condition; what rules do, and what is
--- accepted, is there; and 16 bits count what is cut.
-pub record IsScannerWithin (counts : Counts) (s : Spec) (rules : List pattern.Rule) (A : scanner.Automaton) : Type 0
-  where
+-- accepted, is there; and a number of this width counts what is cut.
+pub record IsScannerWithin (w : Width) (counts : Counts) (s : Spec) (rules : List pattern.Rule) (A : scanner.Automaton)
+  : Type 0 where
     pub rule_count : length rules ≤ counts.rules
     pub actions : All (IsActionWithin (length s.terminals) A.starts) s.scanner
-    pub cuts : All (λ r. IsCutWithin w16 r.pattern.cut) rules
+    pub cuts : All (λ r. IsCutWithin w r.pattern.cut) rules
     pub some_condition : 0 < A.starts
     pub conditions : A.starts ≤ 2 * counts.conditions
     pub states : length A.rules ≤ counts.states
     pub accepted : (k p : ℕ) → slice_get A.rules k ≡ Some (Some p) → p < length rules
 
--- The grammar and the scanner of a specification, and the automata of both, are within the counts of version 1.
-pub record FitsFile (s : Spec) (rules : List pattern.Rule) (A : scanner.Automaton) (M : parser.Automaton) : Type 0
-  where
-    pub grammar : IsGrammarWithin version_1 s M
-    pub scanner : IsScannerWithin version_1 s rules A
+-- The grammar and the scanner of a specification, and the automata of both, are within the counts of the version.
+pub record FitsFile (v : Version) (s : Spec) (rules : List pattern.Rule) (A : scanner.Automaton) (M : parser.Automaton)
+  : Type 0 where
+    pub grammar : IsGrammarWithin (counts_of v) s M
+    pub scanner : IsScannerWithin (width_of v) (counts_of v) s rules A

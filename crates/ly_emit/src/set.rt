@@ -1,6 +1,7 @@
 //! The table set of a specification.
 ghost use Rattle.std.specs.Prelude.{◌≡◌, ◌*◌, ◌<◌, ℕ, All, IfOk, length, map};
-ghost use Rattle.std.specs.Int.{w16};
+ghost use Rattle.ly_base.specs.declared.version.Version.{Version};
+ghost use Rattle.ly_base.specs.declared.version.Version.TheVariants.{V2};
 ghost use Rattle.ly_emit.specs.FitsFile.{FitsFile};
 ghost use Rattle.ly_emit.specs.Private.Listing.{AreLiterals};
 ghost use Rattle.ly_emit.specs.SetOf.{IsSetOf};
@@ -9,7 +10,7 @@ ghost use Rattle.ly_join.specs.Sizes.{HasSizes};
 ghost use Rattle.ly_join.specs.Terminals.{terminal_from};
 ghost use Rattle.ly_pack.specs.Steady.{IsSteady};
 ghost use Rattle.ly_report.specs.Report.{terminal_name as printed};
-ghost use Rattle.ly_tables.specs.Ranges.{version_1, IsWithinRanges};
+ghost use Rattle.ly_tables.specs.Ranges.{IsWithinVersion};
 ghost use Rattle.ly_tables.specs.TableSet.{machine_of};
 ghost use Rattle.ly_tables.specs.Values.{set_of};
 
@@ -26,8 +27,8 @@ use std::alloc::{AllocError, Global};
 
 /// The table set of a specification: its parser's tables, and the automaton of its scanner.
 ///
-/// What is asked for fits a file, so that no number is past what a file holds: `OutOfMemory` comes where a growth was
-/// refused. (`ly_pack` looks whether a base has a `u32`, as those of rows within a file's counts always do.)
+/// What is asked for fits a file of version 2, so that no number is past what it holds, and where it fits one of version
+/// 1 so does the set: `OutOfMemory` comes where a growth was refused. (`ly_pack` looks whether a base has a `u32`, as those of rows within a file's counts always do.)
 pub fn table_set(
     alloc: Global,
     resolved: &Resolved<'_>,
@@ -37,11 +38,12 @@ pub fn table_set(
 ) -> Result<TableSet, OutOfMemory>
     requires tables { IsMachineOf resolved.now.spec resolved.now.automaton machine }
     requires steady { IsSteady machine }
-    requires fits { FitsFile resolved.now.spec rules.now dfa.now resolved.now.automaton }
+    requires fits { FitsFile V2 resolved.now.spec rules.now dfa.now resolved.now.automaton }
     requires rules { length rules.now ≡ length resolved.now.spec.scanner }
     requires starts { (conditions : ℕ) × (dfa.now.starts ≡ 2 * conditions) }
     ensures set { IfOk result (IsSetOf resolved.now.spec resolved.now.automaton rules.now dfa.now) }
-    ensures within { IfOk result (IsWithinRanges w16 version_1) }
+    ensures within { IfOk result (λ s. (v : Version)
+        → FitsFile v resolved.now.spec rules.now dfa.now resolved.now.automaton → IsWithinVersion v s) }
     ensures ends { IfOk result (λ s. IsSteady (machine_of s)) }
 {
     let parts = table_parts(alloc, resolved, machine, rules, dfa)?;
@@ -57,12 +59,13 @@ fn table_parts(
     dfa: &Dfa,
 ) -> Result<TableParts, OutOfMemory>
     requires tables { IsMachineOf resolved.now.spec resolved.now.automaton machine }
-    requires fits { FitsFile resolved.now.spec rules.now dfa.now resolved.now.automaton }
+    requires fits { FitsFile V2 resolved.now.spec rules.now dfa.now resolved.now.automaton }
     requires rules { length rules.now ≡ length resolved.now.spec.scanner }
     requires starts { (conditions : ℕ) × (dfa.now.starts ≡ 2 * conditions) }
     ensures set { IfOk result (λ parts. IsSetOf resolved.now.spec resolved.now.automaton rules.now dfa.now
         (set_of parts) × (machine_of (set_of parts) ≡ machine)) }
-    ensures within { IfOk result (λ parts. IsWithinRanges w16 version_1 (set_of parts)) }
+    ensures within { IfOk result (λ parts. (v : Version)
+        → FitsFile v resolved.now.spec rules.now dfa.now resolved.now.automaton → IsWithinVersion v (set_of parts)) }
 {
     let spec = resolved.spec();
     let parser = pack(alloc, machine)?.into_parts();

@@ -1,4 +1,4 @@
--- What two files say of a grammar within the limits, a table file can hold.
+-- What two files say of a grammar within the limits, a table file of a version can hold.
 use Rattle.std.proofs.Common.{◌≡◌, ◌∙◌, ◌<◌, ◌≤◌, ◌+◌, ℕ, zero, suc, List, [], ◌∷◌, ◌++◌, Option, Some, None, All, Bool}
 use Rattle.std.proofs.Common.{Contains, IsTrue, ap, arith, inl, inr, length, length-append, map, option_map, refl}
 use Rattle.std.proofs.Common.{slice_get, subst, sym, true, false}
@@ -16,7 +16,7 @@ use Rattle.ly_base.specs.Bytes.{backslash, newline, single_quote, tab}
 use Rattle.ly_base.specs.Escapes.{AllPass}
 use Rattle.ly_base.specs.Language.{IsName, continues_name, is_letter}
 use Rattle.ly_base.specs.Limits.{AreBounded, Sizes, sizes_in}
-use Rattle.ly_base.specs.declared.version.Version.TheVariants.{V1}
+use Rattle.ly_base.specs.declared.version.Version.{Version}
 use Rattle.ly_base.specs.Text.{escape_for, escaped_byte, is_plain}
 use Rattle.ly_base.specs.Trees.{Tree, leaf, node}
 use Rattle.ly_base.specs.declared.language.Language.{Language}
@@ -38,7 +38,7 @@ use Rattle.ly_join.proofs.ListLemmas.{mapped_in, member_at, zip_length}
 use Rattle.ly_join.proofs.RuleLemmas.{joined_length}
 use Rattle.ly_lr0.specs.Automaton.{Automaton, IsAutomaton}
 use Rattle.ly_report.specs.Report.{terminal_name}
-use Rattle.ly_tables.specs.Ranges.{IsNameLong, IsShapeShort, version_1}
+use Rattle.ly_tables.specs.Ranges.{IsNameLong, IsShapeShort, counts_of}
 use Rattle.ly_yaccread.specs.Actions.{Making, build, default, pass}
 use Rattle.ly_yaccread.specs.Declarations.{Declared}
 use Rattle.ly_yaccread.specs.File.{Written}
@@ -46,6 +46,7 @@ use Rattle.ly_yaccread.specs.Rules.{Ruling}
 use Rattle.ly_yaccread.specs.Words.{Word, block, braces, directive, literal, mark, name, number, other}
 use Rattle.ly_yaccread.specs.YaccText.{YaccText}
 use Rattle.ly_yaccread.proofs.NamedLemmas.{AreDeclaredNamed, AreNamed, IsBuiltOf, declared_named, made_built}
+use Rattle.ly_engine.proofs.VersionLemmas.{AreCounted, counted}
 
 -- a name has a byte
 pub name_long : (l : Language) (n : List ℕ) → IsName l n → 1 ≤ length n
@@ -174,9 +175,12 @@ shape_short default (X ∷ body) built short = tt
 shape_short (pass p) body built short = tt
 shape_short (build n ps) body built short = ((name_long Lex n built, short), name_bytes n built)
 
-module _ (limits : Sizes) (yacc : List ℕ) (x : Scanning) (w : Written) (s : Spec)
-    (bounded : AreBounded (sizes_in V1) limits) (text : YaccText yacc w) (joined : Joined x w s)
+module _ (v : Version) (limits : Sizes) (yacc : List ℕ) (x : Scanning) (w : Written) (s : Spec)
+    (bounded : AreBounded (sizes_in v) limits) (text : YaccText yacc w) (joined : Joined x w s)
     (within : IsWithin limits x w) where
+  counts : AreCounted v limits
+  counts = counted v limits bounded
+
   token_long : (n : List ℕ) → IsToken w n → IsNameLong n
   token_long n is =
       let there = mapped_in token_length (flat_map declared_terminals w.preamble.declarations) (token n)
@@ -185,7 +189,7 @@ module _ (limits : Sizes) (yacc : List ℕ) (x : Scanning) (w : Written) (s : Sp
       (map token_length (flat_map declared_terminals w.preamble.declarations))
       (map (λ r. max (length r.left) (constructor_length r.making)) w.rules) (length n) there) in
       let most : greatest (name_lengths w) ≤ limits.name_length = within limit.Name in
-      let bound : limits.name_length ≤ 255 = bounded.name_length in
+      let bound = counts.name_length in
       (name_long Yacc n (token_named yacc w text n is), omega (arith, le, most, bound))
 
   terminal_long : (t : Terminal) → Contains s.terminals t → IsNameLong (terminal_name t)
@@ -223,7 +227,7 @@ module _ (limits : Sizes) (yacc : List ℕ) (x : Scanning) (w : Written) (s : Sp
       let le = greatest_le (map (λ r. length r.body) w.rules) (length at.ruling.body)
       (mapped_in (λ r. length r.body) w.rules at.ruling (member_at w.rules k at.ruling at.is_ruling)) in
       let most : greatest (map (λ r. length r.body) w.rules) ≤ limits.body_length = within limit.Body in
-      let bound : limits.body_length ≤ 255 = bounded.body_length in (
+      let bound = counts.body_length in (
         found.0,
         ap (λ rs. slice_get rs (suc k)) rules_are ∙ slice_get-map Some joined.rules k ∙ ap (option_map Some) found.1,
         omega (arith, long, le, most, bound),
@@ -247,7 +251,7 @@ module _ (limits : Sizes) (yacc : List ℕ) (x : Scanning) (w : Written) (s : Sp
           (mapped_in (λ r. max (length r.left) (constructor_length r.making)) w.rules at.ruling
           (member_at w.rules k at.ruling at.is_ruling))) in
           let most : greatest (name_lengths w) ≤ limits.name_length = within limit.Name in
-          let bound : limits.name_length ≤ 255 = bounded.name_length in
+          let bound = counts.name_length in
           let same : n.shape ≡ shape_by made _ = ap (λ (m : Note). m.shape) (same_Some n at.note (sym e ∙ at.is_note))
           ∙ at.joined.shape in
           subst IsShapeShort (sym same) (shape_short made _ (made_built yacc w text k at.ruling at.is_ruling)
@@ -271,7 +275,7 @@ module _ (limits : Sizes) (yacc : List ℕ) (x : Scanning) (w : Written) (s : Sp
         by (leaf t) tree = absurd tree
         by (node p ts) tree = past p tree.0 tree.1 tree.2
 
-    pub grammar_within : IsGrammarWithin version_1 s M
+    pub grammar_within : IsGrammarWithin (counts_of v) s M
     grammar_within = record {
       end = ap (λ ts. slice_get ts 0) joined.terminals;
       undefined = ap (λ ts. slice_get ts 1) joined.terminals;
@@ -280,16 +284,16 @@ module _ (limits : Sizes) (yacc : List ℕ) (x : Scanning) (w : Written) (s : Sp
           let nonterminals = ap length joined.nonterminals in
           let most : length (terminals_of w) + length (nonterminals_of w) + 1 ≤ limits.symbols
           = within limit.Symbols in
-          let bound : limits.symbols ≤ 4095 = bounded.symbols in
+          let bound = counts.symbols in
           omega (arith, terminals, nonterminals, most, bound);
       names = λ k d lt. terminal_long _ (member_at s.terminals k _ (slice_get-get_or s.terminals k d lt));
       some_rule = some_rule;
       rule_count =
           let count = rule_count in
           let most : length w.rules ≤ limits.yacc_rules = within limit.Rules in
-          let bound : limits.yacc_rules ≤ 8191 = bounded.yacc_rules in
+          let bound = counts.yacc_rules in
           omega (arith, count, most, bound);
       rules = rule_short;
       constructors = constructor_short;
-      states = let bound : limits.parser_states ≤ 16383 = bounded.parser_states in omega (arith, few, bound);
+      states = let bound = counts.parser_states in omega (arith, few, bound);
     }

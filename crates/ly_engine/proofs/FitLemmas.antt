@@ -1,8 +1,8 @@
--- What two files say within the limits, and the automata that are made of it, a table file can hold.
+-- What two files say within the limits, and the automata that are made of it, a table file of a version can hold.
 use Rattle.std.proofs.Common.{◌≡◌, ◌∙◌, ◌<◌, ◌≤◌, ℕ, List, Some, None, ap, arith, length, slice_get, sym}
 use Rattle.std.proofs.lemmas.Option.{get_or_from_slice_get, slice_get_within}
 use Rattle.ly_base.specs.Limits.{AreBounded, Sizes, sizes_in}
-use Rattle.ly_base.specs.declared.version.Version.TheVariants.{V1}
+use Rattle.ly_base.specs.declared.version.Version.{Version}
 use Rattle.ly_emit.specs.FitsFile.{FitsFile}
 use Rattle.ly_engine.specs.Accepted.{Specifies}
 use Rattle.ly_tokens.specs.Agreement.{Agrees}
@@ -26,8 +26,8 @@ use Rattle.ly_subset.specs.Automaton.{Automaton, IsAutomaton, IsTrim}
 use Rattle.ly_subset.specs.Subsets.{AreSubsets}
 use Rattle.ly_subset.proofs.LawLemmas.{trim}
 
-module _ (limits : Sizes) (lex yacc : List ℕ) (s : Spec) (given : Specifies limits lex yacc s)
-    (bounded : AreBounded (sizes_in V1) limits) (nfa : Nfa) (A walk : Automaton)
+module _ (v : Version) (limits : Sizes) (lex yacc : List ℕ) (s : Spec) (given : Specifies limits lex yacc s)
+    (bounded : AreBounded (sizes_in v) limits) (nfa : Nfa) (A walk : Automaton)
     (positions : ArePositions (defined given.file.names) given.file.rules.items given.file.conditions nfa)
     (spots : HasPositions (defined given.file.names) given.file.rules.items given.file.conditions nfa)
     (subsets : AreSubsets nfa given.file.conditions A) (whole : IsAutomaton A)
@@ -56,10 +56,10 @@ module _ (limits : Sizes) (lex yacc : List ℕ) (s : Spec) (given : Specifies li
 
   -- so a table set of them can be made
   pub fits_file : (M : parser.Automaton) → parser.IsAutomaton M → KeepsUseful s.grammar M.grammar
-      → length M.states ≤ limits.parser_states → FitsFile s given.file.rules.items walk M
+      → length M.states ≤ limits.parser_states → FitsFile v s given.file.rules.items walk M
   fits_file M is useful few = record {
-    grammar = grammar_within limits yacc (scanning_of given.file) given.written s bounded given.yacc_text given.joined
-        given.within M is useful few;
-    scanner = scanner_within limits lex given.file given.written s bounded given.lex_text given.joined given.within
+    grammar = grammar_within v limits yacc (scanning_of given.file) given.written s bounded given.yacc_text
+        given.joined given.within M is useful few;
+    scanner = scanner_within v limits lex given.file given.written s bounded given.lex_text given.joined given.within
         given.weight walk (starts ∙ subsets.two_starts) few_states accepted_there;
   }

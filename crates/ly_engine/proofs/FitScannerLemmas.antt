@@ -1,15 +1,15 @@
--- What a lex file says of a scanner within the limits, a table file can hold.
-use Rattle.std.proofs.Common.{◌≡◌, ◌∙◌, ◌<◌, ◌≤◌, ◌*◌, ℕ, zero, suc, List, [], ◌∷◌, ◌++◌, Option, Some, None}
+-- What a lex file says of a scanner within the limits, a table file of a version can hold.
+use Rattle.std.proofs.Common.{◌≡◌, ◌∙◌, ◌<◌, ◌≤◌, ◌*◌, ◌^◌, ℕ, zero, suc, List, [], ◌∷◌, ◌++◌, Option, Some, None}
 use Rattle.std.proofs.Common.{Bool, true, false, ap, arith, inl, inr, length, length-append, map, option_map, refl}
 use Rattle.std.proofs.Common.{slice_get, subst, sym}
 use Rattle.std.specs.Prelude.{IsSome, if◌then◌else◌, nat_eq, slice_index_or}
-use Rattle.std.specs.Int.{w16}
+use Rattle.std.specs.Int.{Width, byte_len}
 use Rattle.std.specs.List.{AllZip}
 use Rattle.std.proofs.lemmas.Bool.Decides.{nat_tests}
 use Rattle.std.proofs.lemmas.Option.{get_or_from_slice_get, same_Some, slice_get-get_or, slice_get-map}
 use Rattle.std.proofs.lemmas.Option.{slice_get_within}
 use Rattle.ly_base.specs.Limits.{AreBounded, Sizes, sizes_in}
-use Rattle.ly_base.specs.declared.version.Version.TheVariants.{V1}
+use Rattle.ly_base.specs.declared.version.Version.{Version}
 use Rattle.ly_base.specs.declared.cut.Cut.{Cut}
 use Rattle.ly_base.specs.declared.scan_action.Emitted.{Emitted}
 use Rattle.ly_base.specs.declared.scan_action.ScanAction.{ScanAction}
@@ -36,8 +36,9 @@ use Rattle.ly_lexread.proofs.BeginLemmas.{begins_below, has_condition}
 use Rattle.ly_lexread.proofs.FileLemmas.{rules_of}
 use Rattle.ly_position.specs.TotalWeight.{total_weight}
 use Rattle.ly_subset.specs.Automaton.{Automaton}
-use Rattle.ly_tables.specs.Ranges.{IsCutWithin, IsEmittedWithin, version_1}
+use Rattle.ly_tables.specs.Ranges.{IsCutWithin, IsEmittedWithin, counts_of, width_of}
 use Rattle.ly_yaccread.specs.File.{Written}
+use Rattle.ly_engine.proofs.VersionLemmas.{AreCounted, below_too, counted}
 
 -- a string of L that is no longer than this
 abbrev HasShort : (List ℕ → Type 0) → ℕ → Type 0
@@ -142,19 +143,21 @@ some_length names e zero one some = absurd (some (subst (Matches names e) (none 
     none (b ∷ u) l = absurd (omega (arith, l))
 some_length names e (suc n) one some = omega arith
 
--- so 16 bits count what is cut
-cut_within : (names : List Expression) (head : Expression) (tail : Option Expression) (cut : Cut)
+-- so what is cut is counted by a number that has room for the weight
+cut_within : (width : Width) (names : List Expression) (head : Expression) (tail : Option Expression) (cut : Cut)
     → (IsSome tail → Matches names head [] → ⊥) → IsCutOf names head tail cut
-    → weight_of_both names head tail ≤ 65535 → IsCutWithin w16 cut
-cut_within names head None cut some is light = subst (IsCutWithin w16) (sym is) tt
-cut_within names head (Some tail) cut some (inl h) light =
+    → weight_of_both names head tail < 2 ^ (8 * byte_len width) → IsCutWithin width cut
+cut_within width names head None cut some is light = subst (IsCutWithin width) (sym is) tt
+cut_within width names head (Some tail) cut some (inl h) light =
     let le = length_light names head h.0 h.1 in
-    let lt : h.0 < 65536 = omega (arith, le, light) in
-    subst (IsCutWithin w16) (sym h.2) (some_length names head h.0 h.1 (some refl), lt)
-cut_within names head (Some tail) cut some (inr h) light =
+    let lt = below_too h.0 (weight_of names head) (2 ^ (8 * byte_len width)) le (below_too (weight_of names head)
+    (weight_of_both names head (Some tail)) (2 ^ (8 * byte_len width)) (omega arith) light) in
+    subst (IsCutWithin width) (sym h.2) (some_length names head h.0 h.1 (some refl), lt)
+cut_within width names head (Some tail) cut some (inr h) light =
     let le = length_light names tail h.1 h.2 in
-    let lt : h.1 < 65536 = omega (arith, le, light) in
-    subst (IsCutWithin w16) (sym h.3) lt
+    let lt = below_too h.1 (weight_of names tail) (2 ^ (8 * byte_len width)) le (below_too (weight_of names tail)
+    (weight_of_both names head (Some tail)) (2 ^ (8 * byte_len width)) (omega arith) light) in
+    subst (IsCutWithin width) (sym h.3) lt
 
 -- a pattern is no heavier than all together
 part_light : (names : List Expression) (rules : List Rule) (k : ℕ) (r : Rule) → slice_get rules k ≡ Some r
@@ -183,10 +186,13 @@ zip_at R (x ∷ xs) [] k y all at = absurd all
 zip_at R (x ∷ xs) (z ∷ ys) zero y all at = let same : z ≡ y = cc in (x, refl, subst (R x) same all.0)
 zip_at R (x ∷ xs) (z ∷ ys) (suc k) y all at = zip_at R xs ys k y all.1 at
 
-module _ (limits : Sizes) (lex : List ℕ) (file : LexFile) (w : Written) (s : Spec)
-    (bounded : AreBounded (sizes_in V1) limits) (text : LexText lex file) (joined : Joined (scanning_of file) w s)
+module _ (v : Version) (limits : Sizes) (lex : List ℕ) (file : LexFile) (w : Written) (s : Spec)
+    (bounded : AreBounded (sizes_in v) limits) (text : LexText lex file) (joined : Joined (scanning_of file) w s)
     (within : IsWithin limits (scanning_of file) w)
     (weight : total_weight (defined file.names) file.rules.items ≤ limits.total_weight) where
+  counts : AreCounted v limits
+  counts = counted v limits bounded
+
   action_within : (starts : ℕ) → starts ≡ 2 * file.conditions → (k : ℕ) (c : ScanAction)
       → slice_get s.scanner k ≡ Some c → IsActionWithin (length s.terminals) starts c
   action_within starts two k c at = by (slice_get file.actions.items k) refl
@@ -211,30 +217,30 @@ module _ (limits : Sizes) (lex : List ℕ) (file : LexFile) (w : Written) (s : S
                 omega (arith, lt, two);
           }
 
-  cut_short : (k : ℕ) (r : Rule) → slice_get file.rules.items k ≡ Some r → IsCutWithin w16 r.pattern.cut
+  cut_short : (k : ℕ) (r : Rule) → slice_get file.rules.items k ≡ Some r → IsCutWithin (width_of v) r.pattern.cut
   cut_short k r at =
       let of_file = rules_of lex file text k r at in
       let light = part_light (defined file.names) file.rules.items k r at in
-      let bound : limits.total_weight ≤ 65535 = bounded.total_weight in
-      cut_within (defined file.names) r.pattern.head r.pattern.tail r.pattern.cut of_file.some_head of_file.is_cut
-      (omega (arith, light, weight, bound))
+      cut_within (width_of v) (defined file.names) r.pattern.head r.pattern.tail r.pattern.cut of_file.some_head
+      of_file.is_cut (below_too _ limits.total_weight (2 ^ (8 * byte_len (width_of v))) (omega (arith, light, weight))
+      counts.total_weight)
 
   pub scanner_within : (walk : Automaton) → walk.starts ≡ 2 * file.conditions
       → length walk.rules ≤ limits.scanner_states
       → ((k p : ℕ) → slice_get walk.rules k ≡ Some (Some p) → p < length file.rules.items)
-      → IsScannerWithin version_1 s file.rules.items walk
+      → IsScannerWithin (width_of v) (counts_of v) s file.rules.items walk
   scanner_within walk two few accepted = record {
     rule_count =
         let most : length file.rules.items ≤ limits.lex_rules = within limit.LexRules in
-        let bound : limits.lex_rules ≤ 8191 = bounded.lex_rules in
+        let bound = counts.lex_rules in
         omega (arith, most, bound);
     actions = λ k d lt. action_within walk.starts two k _ (slice_get-get_or s.scanner k d lt);
     cuts = λ k d lt. cut_short k _ (slice_get-get_or file.rules.items k d lt);
     some_condition = let some = has_condition lex file text in omega (arith, two, some);
     conditions =
         let most : file.conditions ≤ limits.conditions = within limit.Conditions in
-        let bound : limits.conditions ≤ 255 = bounded.conditions in
+        let bound = counts.conditions in
         omega (arith, two, most, bound);
-    states = let bound : limits.scanner_states ≤ 16383 = bounded.scanner_states in omega (arith, few, bound);
+    states = let bound = counts.scanner_states in omega (arith, few, bound);
     accepted = accepted;
   }

@@ -1,10 +1,10 @@
 -- A table set that is made of what two files say is the one that they generate.
 use Rattle.std.proofs.Common.{◌≡◌, ◌∙◌, ◌≤◌, ℕ, List, length, subst, sym}
 use Rattle.ly_base.specs.Limits.{AreBounded, Sizes, sizes_in}
-use Rattle.ly_base.specs.declared.version.Version.TheVariants.{V1}
+use Rattle.ly_base.specs.declared.version.Version.{Version}
 use Rattle.ly_drive.specs.Verdict.{faulty}
 use Rattle.ly_emit.specs.FitsFile.{FitsFile}
-use Rattle.ly_engine.specs.Generated.{HasFormOf, IsGenerated, IsMadeOf, IsSpecification}
+use Rattle.ly_engine.specs.Generated.{FitsWith, HasFormOf, IsGenerated, IsMadeOf, IsSpecification}
 use Rattle.ly_tokens.specs.Scanner.{IsSubsetScanner}
 use Rattle.ly_engine.specs.Headline.{IsGeneratedSet}
 use Rattle.ly_engine.proofs.FitLemmas.{fits_file}
@@ -23,23 +23,24 @@ use Rattle.ly_subset.specs.Classes.{AreClasses}
 use Rattle.ly_subset.proofs.LawLemmas.{trim}
 use Rattle.ly_tables.specs.TableSet.{TableSet}
 
-module _ (limits : Sizes) (lex yacc : List ℕ) (given : LexFile) (s : Spec) (A walk : Automaton) (set : TableSet)
+module _ (v : Version) (limits : Sizes) (lex yacc : List ℕ) (given : LexFile) (s : Spec) (A walk : Automaton)
+    (set : TableSet)
     (says : IsSpecification limits lex yacc given s A) (same : HaveSameRules A walk)
     (reduced : IsTrim A → IsReduced walk) (order : IsBreadthFirst walk) (class_of : walk.class_of ≡ A.class_of)
-    (classes : walk.classes ≡ A.classes) (starts : walk.starts ≡ A.starts) (of_given : IsMadeOf limits given s walk set)
+    (classes : walk.classes ≡ A.classes) (starts : walk.starts ≡ A.starts) (of_given : IsMadeOf v limits given s walk set)
   where
     file : LexFile
     file = says.specifies.file
 
-    made : IsMadeOf limits file s walk set
+    made : IsMadeOf v limits file s walk set
     unfolding file
-    made = subst (λ f. IsMadeOf limits f s walk set) (sym says.same_file) of_given
+    made = subst (λ f. IsMadeOf v limits f s walk set) (sym says.same_file) of_given
 
     scanner : IsSubsetScanner file A
     unfolding file
     scanner = subst (λ f. IsSubsetScanner f A) (sym says.same_file) says.scanner
 
-    generated_set : IsGeneratedSet says.specifies.file says.specifies.written s set
+    generated_set : IsGeneratedSet v says.specifies.file says.specifies.written s set
     unfolding file
     generated_set = record {
       joined = says.specifies.joined;
@@ -66,7 +67,7 @@ module _ (limits : Sizes) (lex yacc : List ℕ) (given : LexFile) (s : Spec) (A 
       two_starts = starts ∙ scanner.subsets.two_starts;
     }
 
-    generated : IsGenerated limits lex yacc set
+    generated : IsGenerated v limits lex yacc set
     unfolding file generated_set
     generated = record {
       spec = s;
@@ -77,25 +78,23 @@ module _ (limits : Sizes) (lex yacc : List ℕ) (given : LexFile) (s : Spec) (A 
           (positions_live (defined file.names) file.rules.items file.conditions scanner.nfa scanner.spots));
       order = order;
       form = form;
-      answers = answers_follow says.specifies.file says.specifies.written s set generated_set;
-      never_faulty = λ text h. (tables_answer says.specifies.file says.specifies.written s set generated_set text faulty
-          h).3;
+      answers = answers_follow v says.specifies.file says.specifies.written s set generated_set;
+      never_faulty = λ text h. (tables_answer v says.specifies.file says.specifies.written s set generated_set text
+          faulty h).3;
     }
 
     pub generated_with : (report : List ℕ) → IsReport s report
-        → (is : IsGenerated limits lex yacc set) × IsReport is.spec report
+        → (is : IsGenerated v limits lex yacc set) × IsReport is.spec report
     unfolding generated
     generated_with report h = (generated, h)
 
--- and a table file can hold what is made of them
-pub fits_given : (limits : Sizes) (lex yacc : List ℕ) (given : LexFile) (s : Spec) (A walk : Automaton)
+-- and a table file of the version can hold what is made of them
+pub fits_given : (v : Version) (limits : Sizes) (lex yacc : List ℕ) (given : LexFile) (s : Spec) (A walk : Automaton)
     → IsSpecification limits lex yacc given s A → HaveSameRules A walk → (IsTrim A → IsReduced walk)
-    → walk.starts ≡ A.starts → AreBounded (sizes_in V1) limits → (M : parser.Automaton) → parser.IsAutomaton M
-    → KeepsUseful s.grammar M.grammar → length M.states ≤ limits.parser_states
-    → FitsFile s given.rules.items walk M
-fits_given limits lex yacc given s A walk says same reduced starts bounded M is useful few =
+    → walk.starts ≡ A.starts → AreBounded (sizes_in v) limits → FitsWith v limits s given.rules.items walk
+fits_given v limits lex yacc given s A walk says same reduced starts bounded M is useful few =
     let scanner : IsSubsetScanner says.specifies.file A
     = subst (λ f. IsSubsetScanner f A) (sym says.same_file) says.scanner in
-    subst (λ (f : LexFile). FitsFile s f.rules.items walk M) says.same_file
-    (fits_file limits lex yacc s says.specifies bounded scanner.nfa A walk scanner.positions scanner.spots
+    subst (λ (f : LexFile). FitsFile v s f.rules.items walk M) says.same_file
+    (fits_file v limits lex yacc s says.specifies bounded scanner.nfa A walk scanner.positions scanner.spots
     scanner.subsets scanner.whole says.few same reduced starts M is useful few)

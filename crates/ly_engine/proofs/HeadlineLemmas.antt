@@ -7,6 +7,7 @@ use Rattle.std.proofs.lemmas.List.Elements.{All-cons, All-head, All-tail}
 use Rattle.ly_base.specs.Lexed.{Token, start_of, tokens_from}
 use Rattle.ly_base.specs.declared.lexeme.End.{End}
 use Rattle.ly_base.specs.declared.lexeme.End.TheVariants.{BadCut, Clean, Stuck}
+use Rattle.ly_base.specs.declared.version.Version.{Version}
 use Rattle.ly_drive.specs.ScanPart.{condition_in, scan_part_of, scanner_in}
 use Rattle.ly_drive.specs.TableAnswer.{AreTokens, Comes, IsVerdict, begun, end_of, fed_with}
 use Rattle.ly_drive.specs.Verdict.{Verdict, accepted, faulty, refused, unmatched}
@@ -82,8 +83,8 @@ reads_keep : (m : Machine) {levels last : List Level} {tokens : List (Token ℕ)
 reads_keep m at_end edges = edges
 reads_keep m (onward {token = token} feeds rest) edges = reads_keep m rest (stack_kept m token feeds edges)
 
-module _ (file : LexFile) (w : Written) (s : Spec) (set : TableSet) (g : IsGeneratedSet file w s set)
-    (text : List ℕ) where
+module _ (version : Version) (file : LexFile) (w : Written) (s : Spec) (set : TableSet)
+    (g : IsGeneratedSet version file w s set) (text : List ℕ) where
   does : AllZip (IsScanAction s.terminals) (map acting_of file.actions.items) (map (λ r. r.action) set.scan_rules)
   does = subst (AllZip (IsScanAction s.terminals) (map acting_of file.actions.items)) (sym g.is_set.scanner.actions)
       g.joined.scanner
@@ -208,12 +209,12 @@ module _ (file : LexFile) (w : Written) (s : Spec) (set : TableSet) (g : IsGener
       (tokens_of r.tokens (BadCut byte) r.are_tokens).lexing)
 
 pub tables_answer : TablesAnswerAsSpecified
-tables_answer file w s set g text v h = verdict_follows file w s set g text v h
+tables_answer version file w s set g text v h = verdict_follows version file w s set g text v h
 
 pub answers_follow : AnswersAreOfSpecification
-answers_follow file w s set g text o answer (v, h, outcome, bytes) = (
+answers_follow version file w s set g text o answer (v, h, outcome, bytes) = (
   v,
-  verdict_follows file w s set g text v h,
+  verdict_follows version file w s set g text v h,
   outcome,
   bytes ∙ same_words (scanning_of file) w s g.automaton file.rules.items g.walk set g.joined g.is_set v,
 )

@@ -9,5 +9,6 @@ pub mod RefusalLaws
 pub mod ScannerLemmas
 pub mod SentenceLemmas
 pub mod TokenLemmas
+pub mod VersionLemmas
 pub mod WalkLemmas
 pub mod WordLemmas

@@ -17,6 +17,7 @@ use Rattle.ly_engine.specs.SentenceAnswer.{AnswersSentences, AreContinuing, IsOn
 use Rattle.ly_engine.specs.SentenceAnswer.{IsSentenceVerdict}
 use Rattle.ly_engine.specs.SpecAnswer.{AreNext, AreTokensOf, IsMachineVerdict, IsNumberOf, IsNumberedToken}
 use Rattle.ly_engine.specs.SpecAnswer.{IsSpecVerdict}
+use Rattle.ly_tables.specs.Ranges.{counts_of, width_of}
 use Rattle.ly_engine.proofs.HeadlineLemmas.{tables_answer}
 use Rattle.ly_grammar.specs.Derivations.{IsReduced}
 use Rattle.ly_join.specs.Grammar.{Grammar, IsAugmented}
@@ -116,13 +117,13 @@ module _ (G : Grammar) (judge : Judge) (augmented : IsAugmented G) (reduced : Is
 
 -- so does a set that two files generate
 pub answers_sentences : HasOneVerdict → HasSomeVerdict → AnswersSentences
-answers_sentences one some limits lex yacc set g free text =
-    let v = some _ _ set g.generated.within g.generated.steady text in
+answers_sentences one some version limits lex yacc set g free text =
+    let v = some (width_of version) (counts_of version) set g.generated.within g.generated.steady text in
     let file = g.specifies.file in
     let spec = g.spec in
     let useful = g.generated.automaton.grammar in
     let said : IsSpecVerdict file spec useful text v.0
-    = tables_answer file g.specifies.written spec set g.generated text v.0 v.1 in
+    = tables_answer version file g.specifies.written spec set g.generated text v.0 v.1 in
     let tokens = said.0 in
     let are : AreTokensOf file spec text tokens said.1 = said.2 in
     let ends = none_end spec.terminals _ tokens

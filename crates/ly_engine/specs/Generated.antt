@@ -1,16 +1,18 @@
 -- The table set that a lex file and a yacc file generate.
 use Rattle.std.specs.Prelude.{◌≡◌, ◌≤◌, ◌*◌, ℕ, List, length}
-use Rattle.std.specs.Int.{w16}
 use Rattle.ly_base.specs.Limits.{Sizes}
+use Rattle.ly_base.specs.declared.version.Version.{Version}
 use Rattle.ly_drive.specs.TableAnswer.{IsVerdict, TableAnswer}
 use Rattle.ly_drive.specs.Verdict.{faulty}
 use Rattle.ly_drive.specs.declared.outcome.Outcome.{Outcome}
+use Rattle.ly_emit.specs.FitsFile.{FitsFile}
 use Rattle.ly_emit.specs.SetOf.{IsSetOf}
 use Rattle.ly_engine.specs.Accepted.{IsFit, Specifies}
 use Rattle.ly_engine.specs.Headline.{IsGeneratedSet}
 use Rattle.ly_engine.specs.SpecAnswer.{SpecAnswer}
 use Rattle.ly_ere.specs.Names.{defined}
 use Rattle.ly_ere.specs.declared.pattern.Rule.{Rule}
+use Rattle.ly_grammar.specs.Reduction.{KeepsUseful}
 use Rattle.ly_join.specs.Joined.{Spec}
 use Rattle.ly_lexread.specs.declared.file.LexFile.{LexFile}
 use Rattle.ly_lr0.specs.Automaton as parser
@@ -21,25 +23,32 @@ use Rattle.ly_position.specs.Patterns.{ArePositions}
 use Rattle.ly_position.specs.Spots.{HasPositions}
 use Rattle.ly_subset.specs.Automaton.{Automaton, IsAutomaton, IsBreadthFirst}
 use Rattle.ly_subset.specs.Classes.{AreClasses}
-use Rattle.ly_tables.specs.Ranges.{version_1, IsWithinRanges}
+use Rattle.ly_tables.specs.Ranges.{IsWithinVersion}
 use Rattle.ly_tables.specs.TableSet.{TableSet, machine_of}
 use Rattle.ly_tokens.specs.Scanner.{IsSubsetScanner}
 
--- The set is that of a specification, of an automaton of its grammar and of a scanner's, is within the ranges of its
--- file, and its parser's runs end.
-pub record IsSteadySet (s : Spec) (M : parser.Automaton) (rules : List Rule) (A : Automaton) (set : TableSet) : Type 0
-  where
+-- The set is that of a specification, of an automaton of its grammar and of a scanner's, is within the ranges of a
+-- version, and its parser's runs end.
+pub record IsSteadySet (v : Version) (s : Spec) (M : parser.Automaton) (rules : List Rule) (A : Automaton)
+  (set : TableSet) : Type 0 where
     pub is_automaton : IsAutomaton A
     pub is_set : IsSetOf s M rules A set
-    pub within : IsWithinRanges w16 version_1 set
+    pub within : IsWithinVersion v set
     pub steady : IsSteady (machine_of set)
 
+-- a table file of the version can hold the specification, this scanner, and whatever automaton of its useful rules is
+-- within the limits
+abbrev pub FitsWith : Version → Sizes → Spec → List Rule → Automaton → Type 0
+FitsWith v limits s rules A = (M : parser.Automaton) → parser.IsAutomaton M → KeepsUseful s.grammar M.grammar
+    → length M.states ≤ limits.parser_states → FitsFile v s rules A M
+
 -- The set is that of the specification's useful rules, which are fit, and of a scanner.
-pub record IsMadeOf (limits : Sizes) (file : LexFile) (s : Spec) (A : Automaton) (set : TableSet) : Type 0 where
-  pub automaton : parser.Automaton
-  pub is_automaton : parser.IsAutomaton automaton
-  pub fit : IsFit limits s automaton.grammar
-  pub steady_set : IsSteadySet s automaton file.rules.items A set
+pub record IsMadeOf (v : Version) (limits : Sizes) (file : LexFile) (s : Spec) (A : Automaton) (set : TableSet) : Type 0
+  where
+    pub automaton : parser.Automaton
+    pub is_automaton : parser.IsAutomaton automaton
+    pub fit : IsFit limits s automaton.grammar
+    pub steady_set : IsSteadySet v s automaton file.rules.items A set
 
 -- The bytes of two files are these, and say this specification.
 pub record IsSpecification (limits : Sizes) (lex yacc : List ℕ) (file : LexFile) (s : Spec) (A : Automaton) : Type 0
@@ -58,13 +67,13 @@ pub record HasFormOf (file : LexFile) (A : Automaton) : Type 0 where
   pub classes : AreClasses nfa A.class_of A.classes
   pub two_starts : A.starts ≡ 2 * file.conditions
 
--- The files are accepted, and the set is theirs: its scanner is the smallest of the lex file's rules, its states
+-- The files are accepted, and the set is theirs, within the ranges of a version: its scanner is the smallest of the lex file's rules, its states
 -- numbered breadth first, its classes and conditions are the file's, and what it answers to any text is the
 -- specification's answer to it.
-pub record IsGenerated (limits : Sizes) (lex yacc : List ℕ) (set : TableSet) : Type 0 where
+pub record IsGenerated (v : Version) (limits : Sizes) (lex yacc : List ℕ) (set : TableSet) : Type 0 where
   pub spec : Spec
   pub specifies : Specifies limits lex yacc spec
-  pub generated : IsGeneratedSet specifies.file specifies.written spec set
+  pub generated : IsGeneratedSet v specifies.file specifies.written spec set
   pub fit : IsFit limits spec generated.automaton.grammar
   pub smallest : IsReduced generated.walk
   pub order : IsBreadthFirst generated.walk

@@ -4,6 +4,7 @@ use Rattle.ly_base.specs.Lexed.{Token}
 use Rattle.ly_base.specs.Limits.{Sizes}
 use Rattle.ly_base.specs.Shape.{Shape}
 use Rattle.ly_base.specs.Trees.{Tree, yield_of}
+use Rattle.ly_base.specs.declared.version.Version.{Version}
 use Rattle.ly_base.specs.declared.lexeme.End.{End}
 use Rattle.ly_base.specs.declared.lexeme.End.TheVariants.{Clean, Stuck}
 use Rattle.ly_drive.specs.TableAnswer.{IsVerdict, end_of, fed_with}
@@ -51,7 +52,7 @@ IsSaidBySentences file s useful text v = (tokens : List (Token ℕ)) × (e : End
 -- Of a text the set that two files generate whose grammar is without conflicts says one thing: what the derivations of
 -- the text's tokens say.
 abbrev pub AnswersSentences : Type 0
-AnswersSentences = (limits : Sizes) (lex yacc : List ℕ) (set : TableSet) (g : IsGenerated limits lex yacc set)
-    → IsConflictFree g.generated.automaton.grammar → (text : List ℕ)
+AnswersSentences = (version : Version) (limits : Sizes) (lex yacc : List ℕ) (set : TableSet)
+    (g : IsGenerated version limits lex yacc set) → IsConflictFree g.generated.automaton.grammar → (text : List ℕ)
     → (v : Verdict) × IsVerdict set text v × ((u : Verdict) → IsVerdict set text u → v ≡ u)
     × IsSaidBySentences g.specifies.file g.spec g.generated.automaton.grammar text v

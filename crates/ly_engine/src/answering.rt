@@ -1,7 +1,8 @@
 ghost use Rattle.std.specs.Prelude.{◌≡◌, ◌≢◌, ℕ, Err, IfErr, IfOk, IsErrOf, Ok, OnOk};
 ghost use Rattle.std.specs.Io.KnownBytes.{IsAtEnd};
 ghost use Rattle.ly_base.specs.Device.{next_count};
-ghost use Rattle.ly_base.specs.Limits.{version_1};
+ghost use Rattle.ly_base.specs.Limits.{version_2};
+ghost use Rattle.ly_base.specs.declared.version.Version.TheVariants.{V2};
 ghost use Rattle.ly_drive.specs.Answering.{IsAnsweredBy, IsBegunBy, IsTooLong};
 ghost use Rattle.ly_tables.specs.TableSet.{TableSet as Tables};
 ghost use Rattle.ly_engine.specs.Accepted.{IsRefusedFor};
@@ -28,13 +29,13 @@ pub fn answer<R: Source, W: Sink>(
     reader: &mut R,
     writer: &mut W,
 ) -> Result<Outcome, AnswerFault>
-    ensures answered { IfOk result (λ o. (s : Tables) × IsGenerated version_1 lex.now yacc.now s
+    ensures answered { IfOk result (λ o. (s : Tables) × IsGenerated V2 version_2 lex.now yacc.now s
         × IsAnsweredBy s (R.remaining reader.old) (W.contents writer.old) (W.contents writer.new) o) }
     ensures beginning { (written : ℕ) → result ≡ Err (AnswerFault.Write written) → (s : Tables)
-        × IsGenerated version_1 lex.now yacc.now s
+        × IsGenerated V2 version_2 lex.now yacc.now s
         × IsBegunBy s (R.remaining reader.old) (W.contents writer.old) (W.contents writer.new) written }
     ensures refused { (fault : code.GenFault) → result ≡ Err (AnswerFault.Refused fault)
-        → (fault ≢ gen.OutOfMemory) × IsRefusedFor version_1 lex.now yacc.now fault }
+        → (fault ≢ gen.OutOfMemory) × IsRefusedFor version_2 lex.now yacc.now fault }
     ensures long { result ≡ Err AnswerFault.TooLong → IsTooLong (R.remaining reader.old) }
     ensures unread { IfErr result (λ e. IsBeforeReading e → reader.new ≡ reader.old) }
     ensures ended { result ≡ Ok Outcome.Tree → IsAtEnd (R.remaining reader.new) }
@@ -44,7 +45,7 @@ pub fn answer<R: Source, W: Sink>(
     ensures writer_held { OnOk result (W.failures writer.new ≡ W.failures writer.old) }
     ensures untouched { IfErr result (λ e. IsBeforeWriting e → writer.new ≡ writer.old) }
 {
-    let generated = generated(alloc, lex, yacc, Limits::V1.within(Version::V1))?;
+    let generated = generated(alloc, lex, yacc, &Limits::V2, Version::V2)?;
     match run(alloc, &generated.set, reader, writer) {
         Ok(outcome) => Ok(outcome),
         Err(DriveFault::TooLong) => Err(AnswerFault::TooLong),

@@ -1,7 +1,7 @@
 ghost use Rattle.std.specs.Prelude.{◌≡◌, ◌*◌, ◌≤◌, ℕ, IfErr, IfOk, OnOk, length};
-ghost use Rattle.std.specs.Int.{w16};
-ghost use Rattle.ly_base.specs.Limits.{least_of, sizes_in, AreBounded, Sizes};
-ghost use Rattle.ly_base.specs.declared.version.Version.TheVariants.{V1};
+ghost use Rattle.ly_base.specs.Limits.{least_of, sizes_in, Sizes};
+ghost use Rattle.ly_base.specs.declared.version.Version.{Version};
+ghost use Rattle.ly_base.specs.declared.version.Version.TheVariants.{V2};
 ghost use Rattle.ly_emit.specs.FitsFile.{FitsFile};
 ghost use Rattle.ly_emit.specs.Tables.{AreShapesWithin, IsMachineOf};
 ghost use Rattle.ly_grammar.specs.Reduction.{KeepsUseful};
@@ -9,16 +9,16 @@ ghost use Rattle.ly_lr0.specs.Automaton as parser;
 ghost use Rattle.ly_pack.specs.Steady.{IsSteady};
 ghost use Rattle.ly_report.specs.Report.{IsReport};
 ghost use Rattle.ly_subset.specs.Automaton.{IsAutomaton};
-ghost use Rattle.ly_tables.specs.Ranges.{version_1};
+ghost use Rattle.ly_tables.specs.Ranges.{IsWithinVersion};
 ghost use Rattle.ly_tables.specs.TableSet.{TableSet as Tables};
 ghost use Rattle.ly_tables.specs.TableText.{TableText};
 ghost use Rattle.ly_engine.specs.Accepted.{HasSteadyTables, IsRefusedFor, IsUnfitFor};
-ghost use Rattle.ly_engine.specs.Generated.{IsGenerated, IsMadeOf, IsSteadySet};
+ghost use Rattle.ly_engine.specs.Generated.{FitsWith, IsGenerated, IsMadeOf, IsSteadySet};
 
 use crate::gen_fault::GenFault;
 use crate::reporting::settle;
 use crate::specification::read_specification;
-use ly_base::{Limits, StateNo, Version};
+use ly_base::{Limits, OutOfMemory, StateNo, Version};
 use ly_emit::{steady_machine, table_set};
 use ly_ere::Rule;
 use ly_grammar::reduce;
@@ -31,7 +31,7 @@ use ly_pack::{Dense, Machine, TableAction};
 use ly_report::{push_terminal, report_text};
 use ly_resolve::Resolved;
 use ly_subset::Dfa;
-use ly_tables::{TableSet, write_tables};
+use ly_tables::{FormatFault, TableSet, write_tables};
 use std::alloc::Global;
 
 /// What is built of a lex file and a yacc file.
@@ -52,54 +52,76 @@ pub(crate) struct Made {
     pub(crate) report: Vec<u8>,
 }
 
-/// The bytes of the table file of a lex file and a yacc file (POSIX, XCU lex and yacc): what a driver answers by it is
-/// what they say of a text.
+/// The bytes of the table file of a lex file and a yacc file (POSIX, XCU lex and yacc) in a version: what a driver
+/// answers by it is what they say of a text.
 ///
-/// A limit above that of version 1 of the table file counts as that. Its faults are those of `GenFault` but `Write`.
+/// A limit above that of the version counts as that. Its faults are those of `GenFault` but `Write`.
 pub fn generate(
     alloc: Global,
     lex: &[u8],
     yacc: &[u8],
     limits: &Limits,
+    version: Version,
 ) -> Result<Vec<u8>, GenFault>
     ensures generated { IfOk result (λ bytes. (s : Tables)
-        × IsGenerated (least_of limits.now (sizes_in V1)) lex.now yacc.now s
-        × TableText bytes.items w16 1 version_1 s) }
-    ensures refused { IfErr result (IsRefusedFor (least_of limits.now (sizes_in V1)) lex.now yacc.now) }
+        × IsGenerated version (least_of limits.now (sizes_in version)) lex.now yacc.now s
+        × TableText bytes.items version s) }
+    ensures refused { IfErr result (IsRefusedFor (least_of limits.now (sizes_in version)) lex.now yacc.now) }
 {
-    let generated = generated(alloc, lex, yacc, limits.within(Version::V1))?;
-    Ok(write_tables(alloc, &generated.set)?)
+    let generated = generated(alloc, lex, yacc, limits, version)?;
+    Ok(written(alloc, &generated.set, version)?)
 }
 
 /// The table file of a lex file and a yacc file, as `generate` gives it, together with their report, as
 /// `generate_report` writes it.
 ///
-/// A limit above that of version 1 of the table file counts as that. Its faults are those of `GenFault` but `Write`.
-pub fn build(alloc: Global, lex: &[u8], yacc: &[u8], limits: &Limits) -> Result<Built, GenFault>
+/// A limit above that of the version counts as that. Its faults are those of `GenFault` but `Write`.
+pub fn build(
+    alloc: Global,
+    lex: &[u8],
+    yacc: &[u8],
+    limits: &Limits,
+    version: Version,
+) -> Result<Built, GenFault>
     ensures built { IfOk result (λ b. (s : Tables)
-        × (g : IsGenerated (least_of limits.now (sizes_in V1)) lex.now yacc.now s)
-        × TableText b.tables.items w16 1 version_1 s × IsReport g.spec b.report.items) }
-    ensures refused { IfErr result (IsRefusedFor (least_of limits.now (sizes_in V1)) lex.now yacc.now) }
+        × (g : IsGenerated version (least_of limits.now (sizes_in version)) lex.now yacc.now s)
+        × TableText b.tables.items version s × IsReport g.spec b.report.items) }
+    ensures refused { IfErr result (IsRefusedFor (least_of limits.now (sizes_in version)) lex.now yacc.now) }
 {
-    let generated = generated(alloc, lex, yacc, limits.within(Version::V1))?;
+    let generated = generated(alloc, lex, yacc, limits, version)?;
     Ok(Built {
-        tables: write_tables(alloc, &generated.set)?,
+        tables: written(alloc, &generated.set, version)?,
         report: generated.report,
     })
 }
 
-/// What a lex file and a yacc file generate.
+/// The bytes of a table set that is within the ranges of the version.
+fn written(alloc: Global, set: &TableSet, version: Version) -> Result<Vec<u8>, OutOfMemory>
+    requires { IsWithinVersion version set.now }
+    ensures { IfOk result (λ bytes. TableText bytes.items version set.now) }
+{
+    match write_tables(alloc, set, version) {
+        Ok(bytes) => Ok(bytes),
+        Err(FormatFault::OutOfMemory) => Err(OutOfMemory),
+        // a set that is within the version's ranges is not too large for it
+        Err(FormatFault::TooLargeForVersion) => unreachable!(),
+    }
+}
+
+/// What a lex file and a yacc file generate within the limits, none of which is above that of the version.
 pub(crate) fn generated(
     alloc: Global,
     lex: &[u8],
     yacc: &[u8],
-    limits: Limits,
+    limits: &Limits,
+    version: Version,
 ) -> Result<Made, GenFault>
-    requires bounded { AreBounded (sizes_in V1) limits }
-    ensures generated { IfOk result (λ g. (is : IsGenerated limits lex.now yacc.now g.set)
+    ensures generated { IfOk result (λ g.
+        (is : IsGenerated version (least_of limits.now (sizes_in version)) lex.now yacc.now g.set)
         × IsReport is.spec g.report.items) }
-    ensures refused { IfErr result (IsRefusedFor limits lex.now yacc.now) }
+    ensures refused { IfErr result (IsRefusedFor (least_of limits.now (sizes_in version)) lex.now yacc.now) }
 {
+    let limits = limits.within(version);
     let given = read_specification(alloc, lex, yacc, &limits)?;
     let dfa = minimise(alloc, given.subsets)?;
     // by its contract each state has a row
@@ -119,9 +141,9 @@ fn made_of(
     requires actions { length file.now.rules.items ≡ length spec.now.scanner }
     requires starts { (conditions : ℕ) × (dfa.now.starts ≡ 2 * conditions) }
     requires whole { IsAutomaton dfa.now }
-    requires fits { (M : parser.Automaton) → parser.IsAutomaton M → KeepsUseful spec.now.grammar M.grammar
-        → length M.states ≤ limits.now.parser_states → FitsFile spec.now file.now.rules.items dfa.now M }
-    ensures made { IfOk result (λ m. IsMadeOf limits.now file.now spec.now dfa.now m.set) }
+    requires fits { FitsWith V2 limits.now spec.now file.now.rules.items dfa.now }
+    ensures made { IfOk result (λ m. (v : Version) → FitsWith v limits.now spec.now file.now.rules.items dfa.now
+        → IsMadeOf v limits.now file.now spec.now dfa.now m.set) }
     ensures reported { IfOk result (λ m. IsReport spec.now m.report.items) }
     ensures unfit { IfErr result (IsUnfitFor limits.now spec.now) }
 {
@@ -144,8 +166,10 @@ fn made_by(
     requires actions { length rules.now ≡ length resolved.now.spec.scanner }
     requires starts { (conditions : ℕ) × (dfa.now.starts ≡ 2 * conditions) }
     requires whole { IsAutomaton dfa.now }
-    requires fits { FitsFile resolved.now.spec rules.now dfa.now resolved.now.automaton }
-    ensures set { IfOk result (λ m. IsSteadySet resolved.now.spec resolved.now.automaton rules.now dfa.now m.set) }
+    requires fits { FitsFile V2 resolved.now.spec rules.now dfa.now resolved.now.automaton }
+    ensures set { IfOk result (λ m. (v : Version)
+        → FitsFile v resolved.now.spec rules.now dfa.now resolved.now.automaton
+        → IsSteadySet v resolved.now.spec resolved.now.automaton rules.now dfa.now m.set) }
     ensures tables { OnOk result (HasSteadyTables resolved.now.spec resolved.now.automaton.grammar) }
     ensures reported { IfOk result (λ m. IsReport resolved.now.spec m.report.items) }
     ensures unfit { IfErr result (λ fault. (limits : Sizes) → IsUnfitFor limits resolved.now.spec fault) }

@@ -1,5 +1,6 @@
 //! From the bytes of a lex file and a yacc file to their table file and their report: `generate`, `build` and
-//! `generate_report`; and to the answer to a text: `answer`. That tables so made answer what both files say is part of
+//! `generate_report`; and to the answer to a text: `answer`. A table file is made in one of two versions, and what has
+//! none goes by the second. That tables so made answer what both files say is part of
 //! what these promise (`IsGenerated`), by a law (`tables_answer_as_specified`); without conflicts that is what the
 //! derivations of the text's tokens say (`sentences_are_answered`).
 //!
@@ -24,6 +25,6 @@ pub use generating::{Built, build, generate};
 pub use laws::{refusal_is_exact, sentences_are_answered, tables_answer_as_specified};
 pub use ly_base::{Counted, Limits, MemSink, MemSource, Sink, Source, Version};
 pub use ly_drive::{DriveFault, Feed, FeedFault, Need, Outcome, drive};
-pub use ly_tables::{TableFault, TableSet, read_tables, write_tables};
+pub use ly_tables::{FormatFault, TableFault, TableSet, read_tables, write_tables};
 pub use ly_tokens::{TokenEnd, TokensFault, tokens};
 pub use reporting::generate_report;

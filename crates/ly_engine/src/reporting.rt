@@ -2,7 +2,7 @@ ghost use Rattle.std.specs.Prelude.{◌≡◌, ℕ, List, ◌<◌, ◌↔◌, le
 ghost use Rattle.std.specs.Io.KnownBytes.{Appends};
 ghost use Rattle.ly_base.specs.Device.{next_count};
 ghost use Rattle.ly_base.specs.Limits.{least_of, sizes_in};
-ghost use Rattle.ly_base.specs.declared.version.Version.TheVariants.{V1};
+ghost use Rattle.ly_base.specs.declared.version.Version.TheVariants.{V2};
 ghost use Rattle.ly_emit.specs.Tables.{AreShapesWithin};
 ghost use Rattle.ly_grammar.specs.Reduction.{KeepsUseful};
 ghost use Rattle.ly_join.specs.Grammar.{Grammar};
@@ -28,7 +28,7 @@ use std::alloc::Global;
 /// the rules that are removed, and the conflicts. It is true where nowhere two actions are asked for. Nothing is
 /// written before the whole report is known.
 ///
-/// A limit above that of version 1 of the table file counts as that. Its faults are those of `GenFault`.
+/// A limit above that of version 2 of the table file counts as that. Its faults are those of `GenFault`.
 pub fn generate_report<W: Sink>(
     alloc: Global,
     lex: &[u8],
@@ -37,22 +37,22 @@ pub fn generate_report<W: Sink>(
     writer: &mut W,
 ) -> Result<bool, GenFault>
     ensures reported { IfOk result (λ free. (s : spec.Spec)
-        × Specifies (least_of limits.now (sizes_in V1)) lex.now yacc.now s
-        × (useful : Grammar) × IsFit (least_of limits.now (sizes_in V1)) s useful
+        × Specifies (least_of limits.now (sizes_in V2)) lex.now yacc.now s
+        × (useful : Grammar) × IsFit (least_of limits.now (sizes_in V2)) s useful
         × (IsTrue free ↔ IsConflictFree useful)
         × (text : List ℕ) × IsReport s text × Appends (W.contents writer.old) (W.contents writer.new) text) }
     ensures beginning { (written : ℕ) → result ≡ Err (GenFault.Write written) → (s : spec.Spec)
-        × Specifies (least_of limits.now (sizes_in V1)) lex.now yacc.now s
+        × Specifies (least_of limits.now (sizes_in V2)) lex.now yacc.now s
         × (text : List ℕ) × IsReport s text × (written < length text)
         × Appends (W.contents writer.old) (W.contents writer.new) (take written text) }
     ensures refused { IfErr result (λ fault. (IsFailedWrite fault → ⊥)
-        → IsRefusedFor (least_of limits.now (sizes_in V1)) lex.now yacc.now fault) }
+        → IsRefusedFor (least_of limits.now (sizes_in V2)) lex.now yacc.now fault) }
     ensures failed { IfErr result (λ fault. IsFailedWrite fault
         → W.failures writer.new ≡ next_count (W.failures writer.old)) }
     ensures held { OnOk result (W.failures writer.new ≡ W.failures writer.old) }
     ensures untouched { IfErr result (λ fault. (IsFailedWrite fault → ⊥) → writer.new ≡ writer.old) }
 {
-    let limits = limits.within(Version::V1);
+    let limits = limits.within(Version::V2);
     let given = read_specification(alloc, lex, yacc, &limits)?;
     report_on(alloc, &given.spec, &limits, writer)
 }

@@ -40,7 +40,7 @@ fn letter(fault: &GenFault) -> u8 {
 #[test]
 fn a_report_is_written_whole(rt: HostRuntime) -> Result<(), Fail> {
     let mut sink = MemSink::new(rt.alloc());
-    match generate_report(rt.alloc(), LEX, YACC, &Limits::V1, &mut sink) {
+    match generate_report(rt.alloc(), LEX, YACC, &Limits::V2, &mut sink) {
         Ok(free) => assert!(rt; !free),
         Err(_) => return Err(Fail::from("two files were refused that are to be accepted")),
     }
@@ -51,7 +51,7 @@ fn a_report_is_written_whole(rt: HostRuntime) -> Result<(), Fail> {
 #[test]
 fn a_report_stops_where_its_writer_fails(rt: HostRuntime) -> Result<(), Fail> {
     let mut sink = MemSink::failing_after(rt.alloc(), 9);
-    match generate_report(rt.alloc(), LEX, YACC, &Limits::V1, &mut sink) {
+    match generate_report(rt.alloc(), LEX, YACC, &Limits::V2, &mut sink) {
         Err(GenFault::Write { written }) => assert!(rt; written == 9),
         _ => return Err(Fail::from("a failed write was not told")),
     }
@@ -73,7 +73,7 @@ const REFUSED: [(&[u8], &[u8], u8); 7] = [
 #[test]
 fn each_part_refuses_in_its_turn(rt: HostRuntime) -> Result<(), Fail> {
     for (lex, yacc, wanted) in &REFUSED {
-        assert_eq!(rt; refusal(rt.alloc(), lex, yacc, &Limits::V1), *wanted);
+        assert_eq!(rt; refusal(rt.alloc(), lex, yacc, &Limits::V2), *wanted);
     }
     Ok(())
 }
@@ -98,19 +98,19 @@ const LIMITED: [(&[u8], u32, u32, u8); 7] = [
 fn limits_are_met_exactly(rt: HostRuntime) -> Result<(), Fail> {
     let lex = b"%%\nx return 'x';\n".as_slice();
     for (yacc, scanner, parser, wanted) in LIMITED {
-        let limits = Limits::V1
+        let limits = Limits::V2
             .with_scanner_states(scanner)
             .with_parser_states(parser);
         assert_eq!(rt; refusal(rt.alloc(), lex, yacc, &limits), wanted);
     }
-    let light = Limits::V1.with_total_weight(0);
+    let light = Limits::V2.with_total_weight(0);
     assert_eq!(rt; refusal(rt.alloc(), lex, SMALL, &light), b'p');
     assert_eq!(rt;
-        refusal(rt.alloc(), lex, SMALL, &Limits::V1.with_symbols(5)),
+        refusal(rt.alloc(), lex, SMALL, &Limits::V2.with_symbols(5)),
         b'-'
     );
     assert_eq!(rt;
-        refusal(rt.alloc(), lex, SMALL, &Limits::V1.with_symbols(4)),
+        refusal(rt.alloc(), lex, SMALL, &Limits::V2.with_symbols(4)),
         b'j'
     );
     Ok(())

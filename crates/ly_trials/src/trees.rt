@@ -1,6 +1,6 @@
 //! Answers by two files: of a text at once, and by the bytes of the table file; and with devices that fail.
 
-use ly_base::{Limits, MemSink, MemSource};
+use ly_base::{Limits, MemSink, MemSource, Version};
 use ly_drive::{Outcome, drive};
 use ly_engine::{AnswerFault, answer, generate};
 use std::test::Fail;
@@ -26,17 +26,19 @@ fn a_text_is_answered(rt: HostRuntime) -> Result<(), Fail> {
 }
 
 #[test]
-fn a_generated_file_is_driven(rt: HostRuntime) -> Result<(), Fail> {
+fn a_generated_file_of_each_version_is_driven(rt: HostRuntime) -> Result<(), Fail> {
     let alloc = rt.alloc();
-    let Ok(tables) = generate(alloc, LEX, YACC, &Limits::V1) else {
-        return Err(Fail::from("two files were refused that are to be accepted"));
-    };
-    let mut sink = MemSink::new(alloc);
-    let Ok(outcome) = drive(alloc, &tables, &mut MemSource::new(TEXT), &mut sink) else {
-        return Err(Fail::from("a table file was refused that is to be driven"));
-    };
-    assert!(rt; matches!(outcome, Outcome::Tree));
-    assert!(rt; sink.bytes() == TREE);
+    for version in [Version::V1, Version::V2] {
+        let Ok(tables) = generate(alloc, LEX, YACC, &Limits::V2, version) else {
+            return Err(Fail::from("two files were refused that are to be accepted"));
+        };
+        let mut sink = MemSink::new(alloc);
+        let Ok(outcome) = drive(alloc, &tables, &mut MemSource::new(TEXT), &mut sink) else {
+            return Err(Fail::from("a table file was refused that is to be driven"));
+        };
+        assert!(rt; matches!(outcome, Outcome::Tree));
+        assert!(rt; sink.bytes() == TREE);
+    }
     Ok(())
 }
 

@@ -115,14 +115,14 @@ report_name = record { is_read = refl; no_dashes = refl }
 format_name : IsLongName (codes "format")
 format_name = record { is_read = refl; no_dashes = refl }
 
-met : {request : Request} {texts : List Text} {words : List Word} → AreWords words → map text_of words ≡ texts
+met : {request : Request} {texts : List Text} (words : List Word) → AreWords words → map text_of words ≡ texts
     → all_taken (shape_at (name_of request)) (walk_from nothing_held) words ≡ true
     → rest_passes (shape_at (name_of request)) (held_after (shape_at (name_of request)) words) false ≡ true
     → request_by (
       (shape_at (name_of request)).name,
       finished (shape_at (name_of request)).rules (held_after (shape_at (name_of request)) words),
     ) ≡ Some request → Met request texts
-met {words} are texts each rest found = record {
+met words are texts each rest found = record {
   words = words;
   texts_are = texts;
   asks = record { are = are; each = each; rest = rest; found = found };
@@ -150,66 +150,83 @@ module _ (lex yacc table_file : Text) (paths : IsPathWord lex × IsPathWord yacc
         are_words (formatted place groups) (are_inserted groups place _ a (format_name, (n, tt)))
 
     -- a version is said, and no report
+    abbrev format_words : ℕ → List Word
+    format_words j = flat_map (λ group. group) (formatted j operand_words)
+
+    format_are : (j : ℕ) → AreWords (format_words j)
+    format_are j = formatted_are j operand_words operands_are
+
+    format_found : option_map (build lex yacc table_file None) (version_by (Some number))
+        ≡ Some (build lex yacc table_file None version)
+    format_found = ap (option_map (build lex yacc table_file None)) is
+
     format_met : (j : ℕ) → Met (build lex yacc table_file None version)
         (flat_map (λ group. group) (insert operands (within_three j) (codes "--format" ∷ number ∷ [])))
-    format_met zero =
-        met (formatted_are 0 operand_words operands_are) refl refl refl (ap (option_map (build lex yacc table_file None)) is)
-    format_met (suc zero) =
-        met (formatted_are 1 operand_words operands_are) refl refl refl (ap (option_map (build lex yacc table_file None)) is)
-    format_met (suc (suc zero)) =
-        met (formatted_are 2 operand_words operands_are) refl refl refl (ap (option_map (build lex yacc table_file None)) is)
-    format_met (suc (suc (suc j))) =
-        met (formatted_are 3 operand_words operands_are) refl refl refl (ap (option_map (build lex yacc table_file None)) is)
+    format_met zero = met (format_words 0) (format_are 0) refl refl refl format_found
+    format_met (suc zero) = met (format_words 1) (format_are 1) refl refl refl format_found
+    format_met (suc (suc zero)) = met (format_words 2) (format_are 2) refl refl refl format_found
+    format_met (suc (suc (suc j))) = met (format_words 3) (format_are 3) refl refl refl format_found
 
     -- both are said
     module _ (file : Text) (f : IsPathWord file) where
       abbrev reported : ℕ → List (List Word)
       reported place = insert operand_words place (long (codes "report") ∷ path file ∷ [])
 
-      both_are : (i j : ℕ) → AreWords (flat_map (λ group. group) (formatted j (reported i)))
+      abbrev both_words : ℕ → ℕ → List Word
+      both_words i j = flat_map (λ group. group) (formatted j (reported i))
+
+      both_are : (i j : ℕ) → AreWords (both_words i j)
       both_are i j = formatted_are j (reported i) (are_inserted operand_words i _ operands_are (report_name, (f, tt)))
 
-      found_too : option_map (build lex yacc table_file (Some file)) (version_by (Some number))
+      both_found : option_map (build lex yacc table_file (Some file)) (version_by (Some number))
           ≡ Some (build lex yacc table_file (Some file) version)
-      found_too = ap (option_map (build lex yacc table_file (Some file))) is
+      both_found = ap (option_map (build lex yacc table_file (Some file))) is
 
       both_met : (i j : ℕ) → Met (build lex yacc table_file (Some file) version)
           (flat_map (λ group. group) (insert (insert operands (within_three i) (codes "--report" ∷ file ∷ []))
           (within_four j) (codes "--format" ∷ number ∷ [])))
-      both_met zero zero = met (both_are 0 0) refl refl refl found_too
-      both_met zero (suc zero) = met (both_are 0 1) refl refl refl found_too
-      both_met zero (suc (suc zero)) = met (both_are 0 2) refl refl refl found_too
-      both_met zero (suc (suc (suc zero))) = met (both_are 0 3) refl refl refl found_too
-      both_met zero (suc (suc (suc (suc j)))) = met (both_are 0 4) refl refl refl found_too
-      both_met (suc zero) zero = met (both_are 1 0) refl refl refl found_too
-      both_met (suc zero) (suc zero) = met (both_are 1 1) refl refl refl found_too
-      both_met (suc zero) (suc (suc zero)) = met (both_are 1 2) refl refl refl found_too
-      both_met (suc zero) (suc (suc (suc zero))) = met (both_are 1 3) refl refl refl found_too
-      both_met (suc zero) (suc (suc (suc (suc j)))) = met (both_are 1 4) refl refl refl found_too
-      both_met (suc (suc zero)) zero = met (both_are 2 0) refl refl refl found_too
-      both_met (suc (suc zero)) (suc zero) = met (both_are 2 1) refl refl refl found_too
-      both_met (suc (suc zero)) (suc (suc zero)) = met (both_are 2 2) refl refl refl found_too
-      both_met (suc (suc zero)) (suc (suc (suc zero))) = met (both_are 2 3) refl refl refl found_too
-      both_met (suc (suc zero)) (suc (suc (suc (suc j)))) = met (both_are 2 4) refl refl refl found_too
-      both_met (suc (suc (suc i))) zero = met (both_are 3 0) refl refl refl found_too
-      both_met (suc (suc (suc i))) (suc zero) = met (both_are 3 1) refl refl refl found_too
-      both_met (suc (suc (suc i))) (suc (suc zero)) = met (both_are 3 2) refl refl refl found_too
-      both_met (suc (suc (suc i))) (suc (suc (suc zero))) = met (both_are 3 3) refl refl refl found_too
-      both_met (suc (suc (suc i))) (suc (suc (suc (suc j)))) = met (both_are 3 4) refl refl refl found_too
+      both_met zero zero = met (both_words 0 0) (both_are 0 0) refl refl refl both_found
+      both_met zero (suc zero) = met (both_words 0 1) (both_are 0 1) refl refl refl both_found
+      both_met zero (suc (suc zero)) = met (both_words 0 2) (both_are 0 2) refl refl refl both_found
+      both_met zero (suc (suc (suc zero))) = met (both_words 0 3) (both_are 0 3) refl refl refl both_found
+      both_met zero (suc (suc (suc (suc j)))) = met (both_words 0 4) (both_are 0 4) refl refl refl both_found
+      both_met (suc zero) zero = met (both_words 1 0) (both_are 1 0) refl refl refl both_found
+      both_met (suc zero) (suc zero) = met (both_words 1 1) (both_are 1 1) refl refl refl both_found
+      both_met (suc zero) (suc (suc zero)) = met (both_words 1 2) (both_are 1 2) refl refl refl both_found
+      both_met (suc zero) (suc (suc (suc zero))) = met (both_words 1 3) (both_are 1 3) refl refl refl both_found
+      both_met (suc zero) (suc (suc (suc (suc j)))) = met (both_words 1 4) (both_are 1 4) refl refl refl both_found
+      both_met (suc (suc zero)) zero = met (both_words 2 0) (both_are 2 0) refl refl refl both_found
+      both_met (suc (suc zero)) (suc zero) = met (both_words 2 1) (both_are 2 1) refl refl refl both_found
+      both_met (suc (suc zero)) (suc (suc zero)) = met (both_words 2 2) (both_are 2 2) refl refl refl both_found
+      both_met (suc (suc zero)) (suc (suc (suc zero))) = met (both_words 2 3) (both_are 2 3) refl refl refl both_found
+      both_met (suc (suc zero)) (suc (suc (suc (suc j)))) = met (both_words 2 4) (both_are 2 4) refl refl refl both_found
+      both_met (suc (suc (suc i))) zero = met (both_words 3 0) (both_are 3 0) refl refl refl both_found
+      both_met (suc (suc (suc i))) (suc zero) = met (both_words 3 1) (both_are 3 1) refl refl refl both_found
+      both_met (suc (suc (suc i))) (suc (suc zero)) = met (both_words 3 2) (both_are 3 2) refl refl refl both_found
+      both_met (suc (suc (suc i))) (suc (suc (suc zero))) = met (both_words 3 3) (both_are 3 3) refl refl refl both_found
+      both_met (suc (suc (suc i))) (suc (suc (suc (suc j)))) = met (both_words 3 4) (both_are 3 4) refl refl refl both_found
 
   -- a report is asked for, and no version said
   module _ (file : Text) (f : IsPathWord file) (is : version_by None ≡ Some version) where
-    report_are : (i : ℕ) → AreWords (flat_map (λ group. group)
-        (insert operand_words i (long (codes "report") ∷ path file ∷ [])))
-    report_are i = are_words (insert operand_words i (long (codes "report") ∷ path file ∷ []))
-        (are_inserted operand_words i _ operands_are (report_name, (f, tt)))
+    abbrev report_groups : ℕ → List (List Word)
+    report_groups place = insert operand_words place (long (codes "report") ∷ path file ∷ [])
+
+    abbrev report_words : ℕ → List Word
+    report_words i = flat_map (λ group. group) (report_groups i)
+
+    report_are : (i : ℕ) → AreWords (report_words i)
+    report_are i = are_words (report_groups i) (are_inserted operand_words i _ operands_are (report_name, (f, tt)))
+
+    report_found : option_map (build lex yacc table_file (Some file)) (version_by None)
+        ≡ Some (build lex yacc table_file (Some file) version)
+    report_found = ap (option_map (build lex yacc table_file (Some file))) is
 
     report_met : (i : ℕ) → Met (build lex yacc table_file (Some file) version)
         (flat_map (λ group. group) (insert operands (within_three i) (codes "--report" ∷ file ∷ [])))
-    report_met zero = met (report_are 0) refl refl refl (ap (option_map (build lex yacc table_file (Some file))) is)
-    report_met (suc zero) = met (report_are 1) refl refl refl (ap (option_map (build lex yacc table_file (Some file))) is)
-    report_met (suc (suc zero)) = met (report_are 2) refl refl refl (ap (option_map (build lex yacc table_file (Some file))) is)
-    report_met (suc (suc (suc i))) = met (report_are 3) refl refl refl (ap (option_map (build lex yacc table_file (Some file))) is)
+    report_met zero = met (report_words 0) (report_are 0) refl refl refl report_found
+    report_met (suc zero) = met (report_words 1) (report_are 1) refl refl refl report_found
+    report_met (suc (suc zero)) = met (report_words 2) (report_are 2) refl refl refl report_found
+    report_met (suc (suc (suc i))) = met (report_words 3) (report_are 3) refl refl refl report_found
 
 -- the numbers say the versions, and are no options
 number_says : (version : Version) → version_by (Some (number_of version)) ≡ Some version
@@ -230,7 +247,7 @@ build_met : (lex yacc table_file : Text) (report : Option Text) (version : Versi
     → Met (build lex yacc table_file report version)
     (words_at i j (build lex yacc table_file report version) format)
 build_met lex yacc table_file None version i j None e paths r =
-    met (paths.0, (paths.1, (paths.2, tt))) refl refl refl
+    met (path lex ∷ path yacc ∷ path table_file ∷ []) (paths.0, (paths.1, (paths.2, tt))) refl refl refl
     (ap (λ v. Some (build lex yacc table_file None v)) (sym e))
 build_met lex yacc table_file None version i j (Some v) e paths r =
     subst (λ groups. Met (build lex yacc table_file None version) (flat_map (λ group. group) groups))

@@ -19,7 +19,7 @@ pub fn build_tables<'a, F: Files, O: Write>(
 ) -> Result<(), Failure<'a>> {
     let lex = read_file(files, alloc, paths.lex)?;
     let yacc = read_file(files, alloc, paths.yacc)?;
-    let built = build(alloc, &lex, &yacc, &Limits::V2)?;
+    let built = build(alloc, &lex, &yacc, &Limits::V2, version)?;
     write_file(files, paths.tables, &built.tables)?;
     if let Some(path) = paths.report {
         write_file(files, path, &built.report)?;

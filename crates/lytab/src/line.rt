@@ -1,7 +1,7 @@
 ghost use Rattle.std.specs.Prelude.{◌≡◌, IfOk, false};
 ghost use Rattle.clap.specs.Words.{app_of, rule_of};
-ghost use Rattle.lytab.specs.CommandLine.{IsApp, build_app, format_rule, line_app, path_rule, report_rule};
-ghost use Rattle.lytab.specs.CommandLine.{run_app, text_rule, tokens_app, try_app};
+ghost use Rattle.lytab.specs.CommandLine.{IsApp, build_app, build_paths_app, format_rule, line_app, path_rule};
+ghost use Rattle.lytab.specs.CommandLine.{report_rule, run_app, text_rule, tokens_app, try_app};
 
 use clap::{Arg, Command};
 use std::alloc::{AllocError, Global};
@@ -33,13 +33,18 @@ fn tokens_line<'a>(alloc: Global) -> Result<Command<'a>, AllocError>
 fn build_line<'a>(alloc: Global) -> Result<Command<'a>, AllocError>
     ensures { IfOk result (IsApp build_app) }
 {
+    build_paths(alloc)?.arg(report(alloc))?.arg(format(alloc))
+}
+
+/// The subcommand `build` with its paths alone.
+fn build_paths<'a>(alloc: Global) -> Result<Command<'a>, AllocError>
+    ensures { IfOk result (IsApp build_paths_app) }
+{
     Command::new(alloc, "build")
         .about("Writes the table file of a grammar")
         .arg(path(alloc, "LEX", LEX))?
         .arg(path(alloc, "YACC", YACC))?
-        .arg(path(alloc, "TABLES", "The table file, which is written"))?
-        .arg(report(alloc))?
-        .arg(format(alloc))
+        .arg(path(alloc, "TABLES", "The table file, which is written"))
 }
 
 /// The subcommand `run`.

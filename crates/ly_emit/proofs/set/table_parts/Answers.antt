@@ -94,6 +94,6 @@ returns c =
     let machine = subst IsMachine (c.in_ok-pack.ensures ∙ sym same) parser.ensures.whole in
     record {
       set = (set, same);
-      within = set_within s M c.args.dfa.now c.args.rules.now (set_of p) c.requires.fits set lists sizes made.whole
+      within = λ v fits. set_within v s M c.args.dfa.now c.args.rules.now (set_of p) fits set lists sizes made.whole
           c.requires.rules machine;
     }

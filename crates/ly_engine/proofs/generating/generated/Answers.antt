@@ -1,14 +1,18 @@
-use Rattle.std.proofs.Common.{◌≡◌, ◌∙◌, length, subst}
+use Rattle.std.proofs.Common.{◌≡◌, ◌∙◌, IfErr, IfOk, length, rules, subst}
+use Rattle.ly_base.specs.Limits.{Sizes}
+use Rattle.ly_base.specs.declared.version.Version.{Version}
+use Rattle.ly_base.specs.declared.version.Version.TheVariants.{V2}
 use Rattle.ly_emit.proofs.ShapeLemmas.{shapes_are_within}
 use Rattle.ly_join.specs.Scanning.{scanning_of}
 use Rattle.ly_lexread.specs.declared.file.LexFile.{LexFile}
 use Rattle.ly_report.specs.Report.{IsReport}
 use Rattle.ly_engine.specs.Accepted.{IsRefusedFor, IsUnfitFor}
-use Rattle.ly_engine.specs.Generated.{IsMadeOf}
+use Rattle.ly_engine.specs.Generated.{FitsWith, IsGenerated, IsMadeOf}
 use Rattle.ly_engine.specs.declared.gen_fault.GenFault.TheVariants.{OutOfMemory}
 use Rattle.ly_engine.proofs.CountLemmas.{rules_act}
 use Rattle.ly_engine.proofs.GenFaultLemmas.{err_weaker, ok_both, unfit_refused, when_same}
 use Rattle.ly_engine.proofs.GeneratedLemmas.{fits_given, generated_with}
+use Rattle.ly_engine.proofs.VersionLemmas.{bounded_in_2}
 use Rattle.ly_engine.proofs.generating.generated.Goals as goal
 
 pub made_of-requires-clause-shapes : goal.made_of-requires-clause-shapes
@@ -34,29 +38,45 @@ pub made_of-requires-clause-fits : goal.made_of-requires-clause-fits
 made_of-requires-clause-fits c =
     let given = c.in_ok-given.given in
     let dfa = c.in_ok-dfa.ensures in
-    fits_given c.args.limits c.args.lex.now c.args.yacc.now given.file given.spec given.subsets c.in_ok-dfa.dfa
-    c.in_ok-given.ensures.says dfa.same dfa.reduced dfa.starts c.requires.bounded
+    let limits = c.within-limits.result in
+    fits_given V2 limits c.args.lex.now c.args.yacc.now given.file given.spec given.subsets c.in_ok-dfa.dfa
+    c.in_ok-given.ensures.says dfa.same dfa.reduced dfa.starts
+    (bounded_in_2 c.args.version limits c.within-limits.ensures.bounded)
+
+pub returns-in_err-given-clause-refused : goal.returns-in_err-given-clause-refused
+returns-in_err-given-clause-refused c =
+    subst (λ (l : Sizes). IfErr c.from_residual.result (IsRefusedFor l c.args.lex.now c.args.yacc.now))
+    c.within-limits.ensures.least (search rules)
 
 pub returns-in_err-dfa-clause-refused : goal.returns-in_err-dfa-clause-refused
 returns-in_err-dfa-clause-refused c = when_same c.from_residual-in_err-dfa.result OutOfMemory
-    (IsRefusedFor c.args.limits c.args.lex.now c.args.yacc.now) c.from_residual-in_err-dfa.ensures.1 tt
+    (IsRefusedFor _ c.args.lex.now c.args.yacc.now) c.from_residual-in_err-dfa.ensures.1 tt
 
 pub returns-clause-generated : goal.returns-clause-generated
 returns-clause-generated c =
     let file = c.in_ok-given.given.file in
     let spec = c.in_ok-given.given.spec in
     let dfa = c.in_ok-dfa in
-    ok_both c.made_of.result (λ m. IsMadeOf c.args.limits file spec dfa.dfa m.set)
+    let limits = c.within-limits.result in
+    let fits = fits_given c.args.version limits c.args.lex.now c.args.yacc.now file spec c.in_ok-given.given.subsets
+    dfa.dfa c.in_ok-given.ensures.says dfa.ensures.same dfa.ensures.reduced dfa.ensures.starts
+    c.within-limits.ensures.bounded in
+    subst (λ (l : Sizes). IfOk c.made_of.result (λ m. (is : IsGenerated c.args.version l c.args.lex.now c.args.yacc.now
+    m.set) × IsReport is.spec m.report.items)) c.within-limits.ensures.least
+    (ok_both c.made_of.result
+    (λ m. (v : Version) → FitsWith v limits spec file.rules.items dfa.dfa → IsMadeOf v limits file spec dfa.dfa m.set)
     (λ m. IsReport spec m.report.items) _
-    (λ m made reported. generated_with c.args.limits c.args.lex.now c.args.yacc.now file spec
+    (λ m made reported. generated_with c.args.version limits c.args.lex.now c.args.yacc.now file spec
     c.in_ok-given.given.subsets dfa.dfa m.set c.in_ok-given.ensures.says dfa.ensures.same dfa.ensures.reduced
     dfa.ensures.order dfa.ensures.class_of dfa.ensures.classes dfa.ensures.starts
-    made m.report.items reported) c.made_of.ensures.made c.made_of.ensures.reported
+    (made c.args.version fits) m.report.items reported) c.made_of.ensures.made c.made_of.ensures.reported)
 
 pub returns-clause-refused : goal.returns-clause-refused
 returns-clause-refused c =
-    let limits = c.args.limits in
+    let limits = c.within-limits.result in
     let spec = c.in_ok-given.given.spec in
-    err_weaker c.made_of.result (IsUnfitFor limits spec) (IsRefusedFor limits c.args.lex.now c.args.yacc.now)
+    subst (λ (l : Sizes). IfErr c.made_of.result (IsRefusedFor l c.args.lex.now c.args.yacc.now))
+    c.within-limits.ensures.least
+    (err_weaker c.made_of.result (IsUnfitFor limits spec) (IsRefusedFor limits c.args.lex.now c.args.yacc.now)
     (unfit_refused limits c.args.lex.now c.args.yacc.now spec c.in_ok-given.ensures.says.specifies)
-    c.made_of.ensures.unfit
+    c.made_of.ensures.unfit)
