@@ -44,6 +44,7 @@ mod scanner_part;
 mod scanner_ranges;
 mod scanner_sections;
 mod sections;
+mod set_counts;
 mod starts;
 mod steadiness;
 mod symbol_part;
@@ -61,6 +62,7 @@ pub use laws::{
 };
 pub use reading::read_tables;
 pub use scan_rule::ScanRule;
+pub use set_counts::{SetCounts, counts};
 pub use starts::Starts;
 pub use table_parts::TableParts;
 pub use table_set::TableSet;

@@ -11,7 +11,7 @@ use Rattle.ly_base.specs.declared.version.Version.TheVariants.{V1, V2}
 use Rattle.lytab.specs.CommandLine.{line_app, line_takes, request_by, request_of, subcommand_in, version_by}
 use Rattle.lytab.specs.Paths.{ArePathWords, AskFor, IsMeant, IsPathWord, as_list, name_of, number_of, operands_of}
 use Rattle.lytab.specs.Paths.{report_of, words_at}
-use Rattle.lytab.specs.Request.{Request, build, run, tokens, try}
+use Rattle.lytab.specs.Request.{Request, build, check, run, tokens, try}
 use Rattle.lytab.proofs.PathLemmas.{AreWords, IsLongName, Word, all_taken, held_after, level_taken, long, path}
 use Rattle.lytab.proofs.PathLemmas.{rest_passes, rows_are, text_of}
 use Rattle.lytab.proofs.SubcommandLemmas.{Enters, line_passes, subcommand_rows_are}
@@ -39,6 +39,8 @@ enters (build lex yacc table_file report version) =
 enters (run table_file text) =
     record { simple = refl; has_name = refl; met = refl; passes = refl; found = refl; rest = refl }
 enters (try lex yacc text) =
+    record { simple = refl; has_name = refl; met = refl; passes = refl; found = refl; rest = refl }
+enters (check table_file) =
     record { simple = refl; has_name = refl; met = refl; passes = refl; found = refl; rest = refl }
 
 -- the same words as `clap` meets them
@@ -296,6 +298,9 @@ met_at (try lex yacc None) i j format m o r =
     (record { are = o; each = refl; rest = refl; found = refl })
 met_at (try lex yacc (Some text)) i j format m o r =
     met_alone (try lex yacc (Some text)) i j format (path lex ∷ path yacc ∷ path text ∷ []) m refl
+    (record { are = o; each = refl; rest = refl; found = refl })
+met_at (check table_file) i j format m o r =
+    met_alone (check table_file) i j format (path table_file ∷ []) m refl
     (record { are = o; each = refl; rest = refl; found = refl })
 
 -- these words behind the program's name and the command's

@@ -4,7 +4,7 @@ use Rattle.std.specs.List.{flat_map, insert}
 use Rattle.clap.specs.Words.{Text}
 use Rattle.ly_base.specs.declared.version.Version.{Version}
 use Rattle.ly_base.specs.declared.version.Version.TheVariants.{V1, V2}
-use Rattle.lytab.specs.Request.{Request, build, run, tokens, try}
+use Rattle.lytab.specs.Request.{Request, build, check, run, tokens, try}
 
 -- a word that is no option: a minus sign alone, or one that doesn't begin with it
 abbrev pub IsPathWord : Text → Type 0
@@ -23,6 +23,7 @@ name_of (tokens lex text) = codes "tokens"
 name_of (build lex yacc table_file report version) = codes "build"
 name_of (run table_file text) = codes "run"
 name_of (try lex yacc text) = codes "try"
+name_of (check table_file) = codes "check"
 
 -- the words that stand behind the command's name in this order
 abbrev pub operands_of : Request → List Text
@@ -30,6 +31,7 @@ operands_of (tokens lex text) = lex ∷ as_list text
 operands_of (build lex yacc table_file report version) = lex ∷ yacc ∷ table_file ∷ []
 operands_of (run table_file text) = table_file ∷ as_list text
 operands_of (try lex yacc text) = lex ∷ yacc ∷ as_list text
+operands_of (check table_file) = table_file ∷ []
 
 abbrev pub report_of : Request → Option Text
 report_of (build lex yacc table_file report version) = report

@@ -9,3 +9,4 @@ pub data Request : Type 0 where
   build : (lex yacc tables : Text) → (report : Option Text) → (version : Version) → Request
   run : (tables : Text) → (text : Option Text) → Request
   try : (lex yacc : Text) → (text : Option Text) → Request
+  check : (tables : Text) → Request

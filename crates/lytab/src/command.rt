@@ -37,6 +37,11 @@ pub enum Command<'a> {
         /// The text.
         text: Option<&'a str>,
     },
+    /// Count what a table file is made of.
+    Check {
+        /// The table file.
+        tables: &'a str,
+    },
 }
 
 /// The paths of what is read and written where tables are built.

@@ -1,7 +1,7 @@
 ghost use Rattle.std.specs.Prelude.{◌≡◌, IfErr, IfOk, IsSome, OnOk, Some, [], map, option_and_then, option_map};
 ghost use Rattle.std.specs.Prelude.{MatchResult, string_bytes, true};
 ghost use Rattle.clap.specs.Words.{first_value, found_of, kind_of, subcommand_rows_of};
-ghost use Rattle.lytab.specs.CommandLine.{build_by, line_faults, line_takes, request_by, request_of, run_by};
+ghost use Rattle.lytab.specs.CommandLine.{build_by, check_by, line_faults, line_takes, request_by, request_of, run_by};
 ghost use Rattle.lytab.specs.CommandLine.{subcommand_in, tokens_by, try_by, version_by};
 ghost use Rattle.lytab.specs.Command.{said};
 ghost use Rattle.lytab.specs.Paths.{AskFor};
@@ -18,7 +18,8 @@ use std::alloc::Global;
 const NO_VERSION: &str = "error: invalid value for '--format <VERSION>': it must be 1 or 2\n";
 
 /// Reads the words of the line, of which the first is the program's name: `tokens LEX [TEXT]`,
-/// `build LEX YACC TABLES [--report FILE] [--format 1|2]`, `run TABLES [TEXT]` or `try LEX YACC [TEXT]`.
+/// `build LEX YACC TABLES [--report FILE] [--format 1|2]`, `run TABLES [TEXT]`, `try LEX YACC [TEXT]` or
+/// `check TABLES`.
 ///
 /// `Help` comes where a help text is asked for, `Bad` where `clap` refuses the words for another reason or they ask for
 /// another version, `OutOfMemory` where a growth was refused.
@@ -60,6 +61,7 @@ fn command_in<'a>(matches: &ArgMatches<'a>) -> Option<Command<'a>>
         "build" => build_in(values),
         "run" => run_in(values),
         "try" => try_in(values),
+        "check" => check_in(values),
         _ => None,
     }
 }
@@ -122,6 +124,15 @@ fn try_in<'a>(values: &ArgMatches<'a>) -> Option<Command<'a>>
         lex: values.get_str("LEX")?,
         yacc: values.get_str("YACC")?,
         text: values.get_str("TEXT"),
+    })
+}
+
+/// The command `check` with these values.
+fn check_in<'a>(values: &ArgMatches<'a>) -> Option<Command<'a>>
+    ensures { option_map said result ≡ check_by (first_value (found_of values.now)) }
+{
+    Some(Command::Check {
+        tables: values.get_str("TABLES")?,
     })
 }
 

@@ -1,7 +1,7 @@
 ghost use Rattle.std.specs.Prelude.{◌≡◌, IfOk, false};
 ghost use Rattle.clap.specs.Words.{app_of, rule_of};
-ghost use Rattle.lytab.specs.CommandLine.{IsApp, build_app, build_paths_app, format_rule, line_app, path_rule};
-ghost use Rattle.lytab.specs.CommandLine.{report_rule, run_app, text_rule, tokens_app, try_app};
+ghost use Rattle.lytab.specs.CommandLine.{IsApp, build_app, build_paths_app, check_app, format_rule, line_app};
+ghost use Rattle.lytab.specs.CommandLine.{path_rule, report_rule, run_app, text_rule, tokens_app, try_app};
 
 use clap::{Arg, Command};
 use std::alloc::{AllocError, Global};
@@ -16,7 +16,8 @@ pub fn line<'a>(alloc: Global) -> Result<Command<'a>, AllocError>
     top.subcommand(tokens_line(alloc)?)?
         .subcommand(build_line(alloc)?)?
         .subcommand(run_line(alloc)?)?
-        .subcommand(try_line(alloc)?)
+        .subcommand(try_line(alloc)?)?
+        .subcommand(check_line(alloc)?)
 }
 
 /// The subcommand `tokens`.
@@ -53,7 +54,7 @@ fn run_line<'a>(alloc: Global) -> Result<Command<'a>, AllocError>
 {
     Command::new(alloc, "run")
         .about("Writes the tree of a text by a table file")
-        .arg(path(alloc, "TABLES", "The table file, as build writes it"))?
+        .arg(path(alloc, "TABLES", BUILT))?
         .arg(text(alloc))
 }
 
@@ -68,9 +69,20 @@ fn try_line<'a>(alloc: Global) -> Result<Command<'a>, AllocError>
         .arg(text(alloc))
 }
 
+/// The subcommand `check`.
+fn check_line<'a>(alloc: Global) -> Result<Command<'a>, AllocError>
+    ensures { IfOk result (IsApp check_app) }
+{
+    Command::new(alloc, "check")
+        .about("Reads a table file, and counts what it is made of")
+        .arg(path(alloc, "TABLES", BUILT))
+}
+
 const LEX: &str = "The lex file: definitions, %%, rules";
 
 const YACC: &str = "The yacc file: declarations, %%, rules";
+
+const BUILT: &str = "The table file, as build writes it";
 
 /// A path that must be there.
 fn path<'a>(alloc: Global, id: &'a str, help: &'a str) -> Arg<'a>

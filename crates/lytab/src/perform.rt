@@ -5,6 +5,7 @@ ghost use Rattle.lytab.specs.Request.{Request};
 
 use crate::answering::{Rules, answer_text};
 use crate::building::build_tables;
+use crate::checking::check_tables;
 use crate::command::{Command, CommandFault};
 use crate::command_line::command;
 use crate::failure::{Failure, told};
@@ -78,6 +79,10 @@ fn carry_out<'a, F: Files, I: Read, O: Write>(
         Command::Run { tables, text } => {
             let rules = Rules::Tables(read_file(files, alloc, tables)?);
             answer_text(files, alloc, &rules, text, input, output)
+        }
+        Command::Check { tables } => {
+            check_tables(files, alloc, tables, output)?;
+            Ok(true)
         }
         Command::Try { lex, yacc, text } => {
             let lex = read_file(files, alloc, lex)?;

@@ -17,3 +17,7 @@ returns-in-run c = c.run_in.ensures ∙ request_is _ _ c.in_ok-name.name.now c.i
 pub returns-in-try : goal.returns-in-try
 returns-in-try c = c.try_in.ensures ∙ request_is _ _ c.in_ok-name.name.now c.in_ok-name.values.now
     c.in_ok-name.ensures.name c.in_ok-name.ensures.rows c.in-try.is
+
+pub returns-in-check : goal.returns-in-check
+returns-in-check c = c.check_in.ensures ∙ request_is _ _ c.in_ok-name.name.now c.in_ok-name.values.now
+    c.in_ok-name.ensures.name c.in_ok-name.ensures.rows c.in-check.is

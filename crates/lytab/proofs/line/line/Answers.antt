@@ -11,9 +11,11 @@ returns c =
     let required : App → App = λ a. record a { top = record a.top { subcommand_required = true } } in
     let top : app_of c.subcommand_required-top.result ≡ required (app_of c.about.result)
     = ap app_of_fields c.subcommand_required-top.ensures in
-    IfOk-weaker c.subcommand-4.result _ _ (λ m h.
-    added _ _ _ _ _ (added _ _ _ _ _ (added _ _ _ _ _ (added _ _ _ _ _ (top ∙ ap required (about ∙ c.new.ensures.app))
+    IfOk-weaker c.subcommand-5.result _ _ (λ m h.
+    added _ _ _ _ _ (added _ _ _ _ _ (added _ _ _ _ _ (added _ _ _ _ _ (added _ _ _ _ _
+    (top ∙ ap required (about ∙ c.new.ensures.app))
     c.in_ok-tokens_line.ensures c.in_ok-subcommand.ensures)
     c.in_ok-build_line.ensures c.in_ok-subcommand-2.ensures)
     c.in_ok-run_line.ensures c.in_ok-subcommand-3.ensures)
-    c.in_ok-try_line.ensures h) c.subcommand-4.ensures
+    c.in_ok-try_line.ensures c.in_ok-subcommand-4.ensures)
+    c.in_ok-check_line.ensures h) c.subcommand-5.ensures

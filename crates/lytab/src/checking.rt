@@ -1,0 +1,39 @@
+//! The command `check`.
+use crate::failure::Failure;
+use crate::files::{STANDARD, read_file, write_to};
+use ly_tables::{SetCounts, counts, read_tables};
+use std::alloc::{AllocError, Global};
+use std::io::Write;
+use std::rt::Files;
+
+/// Reads a table file, and writes to standard output how many there are of what it is made of.
+pub fn check_tables<'a, F: Files, O: Write>(
+    files: &F,
+    alloc: Global,
+    path: &'a str,
+    output: &mut O,
+) -> Result<(), Failure<'a>> {
+    let bytes = read_file(files, alloc, path)?;
+    let counts = match read_tables(alloc, &bytes) {
+        Ok((set, _version)) => counts(&set),
+        Err(fault) => return Err(Failure::Tables(fault)),
+    };
+    match line_of(alloc, counts) {
+        Ok(line) => write_to(output, STANDARD, line.as_bytes()),
+        Err(_) => Err(Failure::OutOfMemory),
+    }
+}
+
+/// The line that says how many there are.
+fn line_of(alloc: Global, counts: SetCounts) -> Result<String, AllocError> {
+    let SetCounts {
+        terminals,
+        nonterminals,
+        scanner_rules,
+        scanner_states,
+        rules,
+        parser_states,
+    } = counts;
+    format!(in alloc; "tables: {terminals} terminals, {nonterminals} nonterminals, {scanner_rules} scanner rules, \
+        {scanner_states} scanner states, {rules} rules, {parser_states} parser states\n")
+}
