@@ -1,5 +1,6 @@
 use Rattle.std.proofs.Common.{ap, subst}
-use Rattle.ly_drive.specs.Answering.{IsBegunBy, IsFaultyOn}
+use Rattle.ly_drive.proofs.SoFarLemmas.{nothing_needed}
+use Rattle.ly_drive.specs.Answering.{IsBegunBy, IsFaultyOn, IsReadAsNeeded}
 use Rattle.ly_drive.proofs.driving.run.Goals as goal
 
 pub returns-clause-beginning : goal.returns-clause-beginning
