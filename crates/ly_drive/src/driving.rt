@@ -1,8 +1,6 @@
 ghost use Rattle.std.specs.Prelude.{◌≡◌, ◌≢◌, ◌<◌, ℕ, Err, IfErr, IfOk, IsErrOf, Ok, OnOk, length};
-ghost use Rattle.std.specs.Int.{w16};
 ghost use Rattle.std.specs.Io.KnownBytes.{IsAtEnd};
 ghost use Rattle.ly_base.specs.Device.{next_count};
-ghost use Rattle.ly_tables.specs.Ranges.{version_1};
 ghost use Rattle.ly_tables.specs.Refusal.{IsRefusedAs};
 ghost use Rattle.ly_tables.specs.TableSet.{TableSet as Tables};
 ghost use Rattle.ly_tables.specs.declared.fault.TableFault as file;
@@ -38,7 +36,7 @@ pub fn drive<R: Source, W: Sink>(
     ensures faulty { result ≡ Err DriveFault.TableFault → (s : Tables) × IsDriven tables.now s
         × IsFaultyOn s (R.remaining reader.old) }
     ensures refused { (fault : file.TableFault) → result ≡ Err (DriveFault.Tables fault)
-        → (fault ≢ OutOfMemory) × IsRefusedAs w16 1 version_1 tables.now fault }
+        → (fault ≢ OutOfMemory) × IsRefusedAs tables.now fault }
     ensures long { result ≡ Err DriveFault.TooLong → IsTooLong (R.remaining reader.old) }
     ensures unread { IfErr result (λ e. IsOfFile e → reader.new ≡ reader.old) }
     ensures ended { result ≡ Ok Outcome.Tree → IsAtEnd (R.remaining reader.new) }
@@ -51,7 +49,7 @@ pub fn drive<R: Source, W: Sink>(
     ensures untouched { IfErr result (λ e. IsBeforeWriting e → writer.new ≡ writer.old) }
 {
     a_file_has_one_set();
-    let set = read_tables(alloc, tables)?;
+    let (set, _version) = read_tables(alloc, tables)?;
     run(alloc, &set, reader, writer)
 }
 
