@@ -4,7 +4,7 @@
 use crate::memory::{TRIES, hog, small_blocks};
 use ly_base::{Counted, Limits, MemSink, MemSource, Source, read_whole};
 use ly_engine::{
-    DriveFault, Feed, FeedFault, Need, Outcome, TableSet, drive, generate, read_tables,
+    DriveFault, Feed, FeedFault, Need, Outcome, TableSet, Version, drive, generate, read_tables,
 };
 use std::alloc::{AllocError, Global};
 use std::io::{self, ErrorKind, Read};
@@ -74,7 +74,9 @@ fn are_same(one: &Answer, other: &Answer) -> bool {
 
 /// The table set of a lex file and a yacc file.
 fn table_set(alloc: Global, lex: &[u8], yacc: &[u8]) -> Result<TableSet, Fail> {
-    Ok(read_tables(alloc, &generate(alloc, lex, yacc, &Limits::V1)?)?)
+    let tables = generate(alloc, lex, yacc, &Limits::V2, Version::V2)?;
+    let (set, _version) = read_tables(alloc, &tables)?;
+    Ok(set)
 }
 
 /// What is answered to pieces, behind which the text ends.
@@ -104,20 +106,25 @@ fn driven(alloc: Global, tables: &[u8], text: &[u8]) -> Result<Answer, Fail> {
     Ok((outcome, sink.into_bytes()))
 }
 
+/// Whether a text in pieces of one byte, and in two, wherever it is cut, is answered by a table file as it is whole.
+fn is_one_answer(alloc: Global, tables: &[u8], text: &[u8]) -> Result<bool, Fail> {
+    let whole = driven(alloc, tables, text)?;
+    let (set, _version) = read_tables(alloc, tables)?;
+    let mut same = are_same(&fed(alloc, &set, &single_bytes(alloc, text)?)?, &whole);
+    for at in 0..=text.len() {
+        let (front, rest) = text.split_at(at);
+        same &= are_same(&fed(alloc, &set, &[front, rest])?, &whole);
+    }
+    Ok(same)
+}
+
 #[test]
 fn a_text_is_answered_however_it_is_cut(rt: HostRuntime) -> Result<(), Fail> {
-    let alloc = rt.alloc();
-    for (lex, yacc, texts) in &TEXTS {
-        let tables = generate(alloc, lex, yacc, &Limits::V1)?;
-        let set = read_tables(alloc, &tables)?;
-        for text in *texts {
-            let whole = driven(alloc, &tables, text)?;
-            let single = fed(alloc, &set, &single_bytes(alloc, text)?)?;
-            assert!(rt; are_same(&single, &whole), "{text:?}");
-            for at in 0..=text.len() {
-                let (front, rest) = text.split_at(at);
-                let cut = fed(alloc, &set, &[front, rest])?;
-                assert!(rt; are_same(&cut, &whole), "{text:?} cut at {at}");
+    for version in [Version::V1, Version::V2] {
+        for (lex, yacc, texts) in &TEXTS {
+            let tables = generate(rt.alloc(), lex, yacc, &Limits::V2, version)?;
+            for text in *texts {
+                assert!(rt; is_one_answer(rt.alloc(), &tables, text)?, "{text:?}");
             }
         }
     }
@@ -237,7 +244,7 @@ fn a_long_token_takes_a_step_for_each_byte(rt: HostRuntime) -> Result<(), Fail> 
 /// Reads of `1 a ` that end in a failure before the second token is refused.
 #[test]
 fn a_failed_read_before_the_answer_is_told(rt: HostRuntime) -> Result<(), Fail> {
-    let tables = generate(rt.alloc(), WORDS, SUMS, &Limits::V1)?;
+    let tables = generate(rt.alloc(), WORDS, SUMS, &Limits::V2, Version::V2)?;
     for count in 0..REFUSED.len() {
         let mut source = MemSource::failing_after(REFUSED, count);
         let mut sink = MemSink::new(rt.alloc());
@@ -271,7 +278,7 @@ impl Read for Failing {
 
 #[test]
 fn nothing_is_read_once_the_answer_is_known(rt: HostRuntime) -> Result<(), Fail> {
-    let tables = generate(rt.alloc(), WORDS, SUMS, &Limits::V1)?;
+    let tables = generate(rt.alloc(), WORDS, SUMS, &Limits::V2, Version::V2)?;
     let mut source = Counted::new(Failing { reads: 0 });
     let mut sink = MemSink::new(rt.alloc());
     let outcome = drive(rt.alloc(), &tables, &mut source, &mut sink)?;
@@ -301,7 +308,7 @@ fn finds_room(alloc: Global, tables: &[u8]) -> Result<bool, Fail> {
 /// With no room at first, and a small block more at each try, each growth of a run is refused once.
 #[test]
 fn want_of_memory_ends_a_run(rt: HostRuntime) -> Result<(), Fail> {
-    let tables = generate(rt.alloc(), WORDS, SUMS, &Limits::V1)?;
+    let tables = generate(rt.alloc(), WORDS, SUMS, &Limits::V2, Version::V2)?;
     let mut blocks = small_blocks(&rt)?;
     let _all_else = hog(&rt);
     for refused in 0..TRIES {
@@ -317,7 +324,7 @@ fn want_of_memory_ends_a_run(rt: HostRuntime) -> Result<(), Fail> {
 /// A text of many pieces, of which the first one has a byte that no rule matches.
 #[test]
 fn at_most_one_piece_is_read_ahead(rt: HostRuntime) -> Result<(), Fail> {
-    let tables = generate(rt.alloc(), FEWER_WORDS, SUMS, &Limits::V1)?;
+    let tables = generate(rt.alloc(), FEWER_WORDS, SUMS, &Limits::V2, Version::V2)?;
     let text = vec![in rt.alloc(); b'#'; 3 * SIZE]?;
     let mut source = MemSource::new(&text);
     let mut sink = MemSink::new(rt.alloc());
