@@ -1,6 +1,6 @@
 -- Decided matches change nothing of what is said, whatever comes.
 use Rattle.std.proofs.Common.{◌≡◌, ◌↔◌, ◌∙◌, ◌+◌, ◌≤◌, ℕ, List, [], ◌++◌, Option, ap, ap₂, append-nil, append_assoc}
-use Rattle.std.proofs.Common.{arith}
+use Rattle.std.proofs.Common.{None, arith}
 use Rattle.std.proofs.Common.{drop, length, length-append, length-drop, refl, subst, sym, take}
 use Rattle.std.specs.Prelude.{Bool, false, true}
 use Rattle.std.proofs.lemmas.List.{drop-append-le, take-append-le}

@@ -2,7 +2,7 @@
 use Rattle.std.proofs.Common.{◌≡◌, ◌∙◌, ◌<◌, ◌≤◌, ◌+◌, ◌-◌, ℕ, List, [], ◌++◌, Option, Some, None, Ok, Err, Result, ap}
 use Rattle.std.proofs.Common.{append_assoc, arith, length, length-append, refl, subst, sym}
 use Rattle.std.specs.Io.KnownBytes.{Appends, Consumes, IsAtEnd}
-use Rattle.std.specs.Prelude.{◌^◌, IfErr, IfOk, IfSome}
+use Rattle.std.specs.Prelude.{◌^◌, false, IfErr, IfOk, IfSome}
 use Rattle.std.proofs.KnownBytes.{Consumes-nil, Consumes-trans}
 use Rattle.ly_drive.proofs.OnwardLemmas.{from_start, onward_on, onward_with}
 use Rattle.ly_drive.specs.Answering.{IsAnsweredBy, IsFaultyOn, IsReadAsNeeded, IsTooLong}
