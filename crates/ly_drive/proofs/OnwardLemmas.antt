@@ -1,12 +1,14 @@
 -- Decided matches change nothing of what is said, whatever comes.
-use Rattle.std.proofs.Common.{◌≡◌, ◌↔◌, ◌∙◌, ◌+◌, ◌≤◌, ℕ, List, [], ◌++◌, Option, ap, ap₂, append-nil, arith}
+use Rattle.std.proofs.Common.{◌≡◌, ◌↔◌, ◌∙◌, ◌+◌, ◌≤◌, ℕ, List, [], ◌++◌, Option, ap, ap₂, append-nil, append_assoc}
+use Rattle.std.proofs.Common.{None, arith}
 use Rattle.std.proofs.Common.{drop, length, length-append, length-drop, refl, subst, sym, take}
 use Rattle.std.specs.Prelude.{Bool, false, true}
 use Rattle.std.proofs.lemmas.List.{drop-append-le, take-append-le}
 use Rattle.ly_base.specs.Lexed.{Place, after_line, moved, place_after, start_of, token_if}
 use Rattle.ly_base.specs.declared.lexeme.Lexeme.{Lexeme}
 use Rattle.ly_drive.proofs.RestLemmas.{IsStep, passing, reading, said_back, said_front, token_here}
-use Rattle.ly_drive.specs.Onward.{AreAlike, IsSettled, Onward, and_passes, and_reads, none_yet, passed_on, read_on}
+use Rattle.ly_drive.specs.Onward.{AreAlike, IsSettled, IsTokenAt, Onward, and_passes, and_reads, none_yet, passed_on}
+use Rattle.ly_drive.specs.Onward.{read_on}
 use Rattle.ly_drive.specs.Private.Passing.{ArePassedOver}
 use Rattle.ly_drive.specs.ScanPart.{ScanPart, condition_in, scanner_in, terminal_in}
 use Rattle.ly_drive.specs.TableAnswer.{IsRest, IsSaidFrom, IsVerdictBy, Progress, begun, end_at, end_of, with_more}
@@ -134,3 +136,43 @@ module _ (ended : Bool) (p : ScanPart) (m : Machine) where
       subst (λ q. Onward ended p m w (at q)) (ap₂ (moved s) one rule.condition)
       (and_passes t (passed_onward w passed nothing on) (fast_of ended (scanner_in p) s t fast)
       (rule.terminal (take t.taken s.rest)))
+
+-- a lexeme that stands, whatever comes, stands where more has come
+fast_with : (s : Scanner) (q : Place) (t : Lexeme) (more : List ℕ) → StandsFast false s q t
+    → StandsFast false s (behind q more) t
+fast_with s q t more fast = record {
+  is = λ rest can. subst (λ x. IsLexemeAt s x t)
+      (λ i. record { line = q.line; condition = q.condition; at = q.at; rest = sym (append_assoc q.rest more rest) i })
+      (fast.is (more ++ rest) (λ e. absurd (let off : false ≡ true → ⊥ = λ z. cc in off e)));
+  some = fast.some;
+  within = omega (arith, fast.within, length-append q.rest more);
+}
+
+module _ (p : ScanPart) (m : Machine) where
+  -- the bytes of a lexeme that stands are the same where more has come
+  same_bytes : (q : Place) (t : Lexeme) (more : List ℕ) → t.taken ≤ length q.rest
+      → take t.taken q.rest ≡ take t.taken (q.rest ++ more)
+  same_bytes q t more within = sym (take-append-le t.taken q.rest more within)
+
+  -- matches that are decided are decided where more has come
+  pub onward_with : {w u : Progress} (more : List ℕ) → Onward false p m w u
+      → Onward false p m (with_more w more) (with_more u more)
+  onward_with more none_yet = none_yet
+  onward_with {w} more (and_passes {u = r} t on fast none) =
+      let place = after_behind (condition_in p) r.place t more fast.within in
+      let there : passed_on p (with_more r more) t ≡ with_more (passed_on p r t) more
+      = λ i. record { place = place i; stack = r.stack; count = r.count } in
+      subst (Onward false p m (with_more w more)) there
+      (and_passes t (onward_with more on) (fast_with (scanner_in p) r.place t more fast)
+      (subst (λ bytes. terminal_in p t.rule.0 bytes ≡ None) (same_bytes r.place t more fast.within) none))
+  onward_with {w} more (and_reads {u = r} {next = next} t token on fast here fed) =
+      let place = after_behind (condition_in p) r.place t more fast.within in
+      let there : read_on p (with_more r more) t next ≡ with_more (read_on p r t next) more
+      = λ i. record { place = place i; stack = next; count = r.count + 1 } in
+      subst (Onward false p m (with_more w more)) there
+      (and_reads t token (onward_with more on) (fast_with (scanner_in p) r.place t more fast)
+      (record {
+        at = here.at;
+        bytes = here.bytes ∙ same_bytes r.place t more fast.within;
+        terminal = here.terminal;
+      }) fed)

@@ -2,18 +2,22 @@
 use Rattle.std.proofs.Common.{◌≡◌, ◌∙◌, ◌<◌, ◌≤◌, ◌+◌, ◌-◌, ℕ, List, [], ◌++◌, Option, Some, None, Ok, Err, Result, ap}
 use Rattle.std.proofs.Common.{append_assoc, arith, length, length-append, refl, subst, sym}
 use Rattle.std.specs.Io.KnownBytes.{Appends, Consumes, IsAtEnd}
-use Rattle.std.specs.Prelude.{◌^◌, IfErr, IfOk, IfSome}
+use Rattle.std.specs.Prelude.{◌^◌, false, IfErr, IfOk, IfSome}
 use Rattle.std.proofs.KnownBytes.{Consumes-nil, Consumes-trans}
-use Rattle.ly_drive.proofs.OnwardLemmas.{from_start}
-use Rattle.ly_drive.specs.Answering.{IsAnsweredBy, IsFaultyOn, IsTooLong}
+use Rattle.ly_drive.proofs.OnwardLemmas.{from_start, onward_on, onward_with}
+use Rattle.ly_drive.specs.Answering.{IsAnsweredBy, IsFaultyOn, IsReadAsNeeded, IsTooLong}
 use Rattle.ly_drive.specs.Held.{Held, IsOnward, IsRestOf, IsSettledBy, nothing_read, seen}
 use Rattle.ly_drive.specs.Private.Feeding.{IsAnswerOf}
-use Rattle.ly_drive.specs.Private.Reading.{IsReadSoFar}
-use Rattle.ly_drive.specs.ScanPart.{scan_part_of}
-use Rattle.ly_drive.specs.TableAnswer.{IsVerdict, TableAnswer}
+use Rattle.ly_drive.specs.Onward.{Onward, none_yet}
+use Rattle.ly_drive.specs.Private.Reading.{IsGiven, IsReadInto, IsReadSoFar}
+use Rattle.ly_drive.specs.ScanPart.{scan_part_of, scanner_in}
+use Rattle.ly_drive.specs.TableAnswer.{IsVerdict, Progress, TableAnswer, begun, with_more}
 use Rattle.ly_drive.specs.Verdict.{Verdict, faulty, printed}
 use Rattle.ly_drive.specs.Vocabularies.{vocabulary_of}
+use Rattle.ly_drive.specs.declared.fault.DriveFault.{DriveFault}
+use Rattle.ly_drive.specs.declared.fault.DriveFault.TheVariants.{OutOfMemory, Read, TableFault, Tables, TooLong, Write}
 use Rattle.ly_drive.specs.declared.outcome.Outcome.{Outcome}
+use Rattle.ly_scan.specs.Pieces.{IsUndecided}
 use Rattle.ly_tables.specs.TableSet.{TableSet, machine_of}
 
 -- what a reader is known to give still; nothing where that isn't known
@@ -44,6 +48,25 @@ long_given : (given : Option (List ℕ)) (taken rest : List ℕ) (n : ℕ) → n
 long_given None taken rest n low all = tt
 long_given (Some g) taken rest n low all = omega (arith, low, sym (length-append taken rest) ∙ ap length all)
 
+-- a read that didn't fail gave a piece
+pub given_by : (most : ℕ) (f g : Held) (before after : Option (List ℕ)) (e : DriveFault)
+    → IsReadInto most f before after g (Err e) → (e ≡ Read → ⊥)
+    → (piece : List ℕ) × IsGiven most before after piece
+given_by most f g before after TableFault is not = (is.0, is.1)
+given_by most f g before after TooLong is not = (is.0, is.1)
+given_by most f g before after OutOfMemory is not = is
+given_by most f g before after Read is not = absurd (not refl)
+given_by most f g before after (Tables fault) is not = absurd is
+given_by most f g before after (Write written) is not = absurd is
+
+-- where nothing is read yet the next match isn't decided
+none_undecided : (s : TableSet) → IsUndecided (scanner_in (scan_part_of s)) (begun []).place
+none_undecided s some = absurd (some refl)
+
+-- nothing was read
+pub nothing_needed : (most : ℕ) (s : TableSet) (given : Option (List ℕ)) → IsReadAsNeeded most s given given
+nothing_needed most s given = ([], [], Consumes-nil given, (begun [], none_yet, none_undecided s), omega arith)
+
 -- a fault of which something is said
 pub if_fault : {A E : Type 0} (P : E → Type 0) (r : Result A E) → ((e : E) → P e) → IfErr r P
 if_fault P (Ok x) h = tt
@@ -55,6 +78,8 @@ module _ (s : TableSet) (given : Option (List ℕ)) where
   begins f none = subst (IsReadSoFar s given given) (sym none) (record {
     taken = [];
     consumed = Consumes-nil given;
+    onward = none_yet;
+    undecided = none_undecided s;
     says = λ more v. (from_start (scan_part_of s) (machine_of s) more v).0;
     counted = refl;
     countable = omega arith;
@@ -63,12 +88,23 @@ module _ (s : TableSet) (given : Option (List ℕ)) where
   })
 
   module _ (before after : Option (List ℕ)) (f : Held) (so_far : IsReadSoFar s given before f) where
+    -- what is decided of a piece more
+    onward_by : (g : Held) (piece : List ℕ) → IsOnward f piece g
+        → Onward false (scan_part_of s) (machine_of s) (begun (so_far.taken ++ piece)) g.progress
+    onward_by g piece on =
+        onward_on false (scan_part_of s) (machine_of s)
+        (onward_with (scan_part_of s) (machine_of s) piece so_far.onward)
+        (subst (λ x. Onward false (scan_part_of x) (machine_of x) (with_more f.progress piece) g.progress) so_far.set
+        on.onward)
+
     -- a piece more
     pub goes_on : (g : Held) (piece : List ℕ) → Consumes before after piece → IsOnward f piece g
         → IsReadSoFar s given after g
     goes_on g piece took on = record {
       taken = so_far.taken ++ piece;
       consumed = Consumes-trans given before after so_far.taken piece so_far.consumed took;
+      onward = onward_by g piece on;
+      undecided = subst (λ x. IsUndecided (scanner_in (scan_part_of x)) g.progress.place) so_far.set on.undecided;
       says = λ more v h. subst (λ text. IsVerdict s text v) (sym (append_assoc so_far.taken piece more))
           (so_far.says (piece ++ more) v ((on.same_rest more v).1 h));
       counted = omega (arith, on.counted, so_far.counted, length-append so_far.taken piece);
@@ -76,6 +112,21 @@ module _ (s : TableSet) (given : Option (List ℕ)) where
       set = on.set ∙ so_far.set;
       goes_on = on.goes_on;
     }
+
+    -- no more was read than is asked for
+    pub as_needed : (most room : ℕ) (piece : List ℕ) → room ≡ most → IsGiven room before after piece
+        → IsReadAsNeeded most s given after
+    as_needed most room piece same is = (
+      so_far.taken,
+      piece,
+      Consumes-trans given before after so_far.taken piece so_far.consumed is.consumed,
+      (f.progress, so_far.onward, so_far.undecided),
+      omega (arith, is.few, same),
+    )
+
+    -- nor where the text has ended
+    pub ended_as_needed : (most : ℕ) → Consumes before after [] → IsReadAsNeeded most s given after
+    ended_as_needed most took = as_needed most most [] refl (record { consumed = took; few = omega arith })
 
     -- fewer can come then
     pub fewer : (g : Held) (piece : List ℕ) → 0 < length piece → IsOnward f piece g

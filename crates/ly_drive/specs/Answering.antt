@@ -1,12 +1,14 @@
 -- What is written for the text that a reader gives.
-use Rattle.std.specs.Prelude.{◌≡◌, ◌<◌, ◌≤◌, ◌^◌, ℕ, List, length, take, IfSome, Option}
-use Rattle.std.specs.Io.KnownBytes.{Appends}
-use Rattle.std.specs.Int.{w16}
-use Rattle.ly_drive.specs.TableAnswer.{IsVerdict, TableAnswer}
+use Rattle.std.specs.Prelude.{◌≡◌, ◌<◌, ◌≤◌, ◌^◌, ℕ, List, ◌++◌, length, take, false, IfSome, Option}
+use Rattle.std.specs.Io.KnownBytes.{Appends, Consumes}
+use Rattle.ly_base.specs.declared.version.Version.{Version}
+use Rattle.ly_drive.specs.Onward.{Onward}
+use Rattle.ly_drive.specs.ScanPart.{scan_part_of, scanner_in}
+use Rattle.ly_drive.specs.TableAnswer.{IsVerdict, Progress, TableAnswer, begun}
 use Rattle.ly_drive.specs.Verdict.{faulty}
 use Rattle.ly_drive.specs.declared.outcome.Outcome.{Outcome}
 use Rattle.ly_pack.specs.Steady.{IsSteady}
-use Rattle.ly_tables.specs.Ranges.{version_1}
+use Rattle.ly_scan.specs.Pieces.{IsUndecided}
 use Rattle.ly_tables.specs.TableSet.{TableSet, machine_of}
 use Rattle.ly_tables.specs.TableText.{TableText}
 
@@ -30,6 +32,17 @@ IsFaultyOn s given = (text : List ℕ) × IfSome given (λ bytes. text ≡ bytes
 abbrev pub IsTooLong : Option (List ℕ) → Type 0
 IsTooLong given = IfSome given (λ bytes. 2 ^ 64 ≤ length bytes)
 
--- the bytes of a table file spell the set, whose parser's runs end
+-- No answer is known after these bytes of a text: all matches that they decide were passed over, or their tokens read,
+-- and the next one isn't decided.
+abbrev pub IsOpenAfter : TableSet → List ℕ → Type 0
+IsOpenAfter s bytes = (w : Progress) × Onward false (scan_part_of s) (machine_of s) (begun bytes) w
+    × IsUndecided (scanner_in (scan_part_of s)) w.place
+
+-- A reader gave no more than an answer asks for: bytes after which none is known, and behind them at most so many.
+abbrev pub IsReadAsNeeded : ℕ → TableSet → Option (List ℕ) → Option (List ℕ) → Type 0
+IsReadAsNeeded most s before after = (open_bytes : List ℕ) × (last : List ℕ)
+    × Consumes before after (open_bytes ++ last) × IsOpenAfter s open_bytes × (length last ≤ most)
+
+-- the bytes of a table file, of whatever version, spell the set, whose parser's runs end
 abbrev pub IsDriven : List ℕ → TableSet → Type 0
-IsDriven tables s = TableText tables w16 1 version_1 s × IsSteady (machine_of s)
+IsDriven tables s = (v : Version) × TableText tables v s × IsSteady (machine_of s)

@@ -1,13 +1,11 @@
 ghost use Rattle.std.specs.Prelude.{◌≡◌, ◌≢◌, ◌<◌, ℕ, Err, IfErr, IfOk, IsErrOf, Ok, OnOk, length};
-ghost use Rattle.std.specs.Int.{w16};
 ghost use Rattle.std.specs.Io.KnownBytes.{IsAtEnd};
 ghost use Rattle.ly_base.specs.Device.{next_count};
-ghost use Rattle.ly_tables.specs.Ranges.{version_1};
 ghost use Rattle.ly_tables.specs.Refusal.{IsRefusedAs};
 ghost use Rattle.ly_tables.specs.TableSet.{TableSet as Tables};
 ghost use Rattle.ly_tables.specs.declared.fault.TableFault as file;
 ghost use Rattle.ly_tables.specs.declared.fault.TableFault.TheVariants.{OutOfMemory};
-ghost use Rattle.ly_drive.specs.Answering.{IsAnsweredBy, IsBegunBy, IsDriven, IsFaultyOn, IsTooLong};
+ghost use Rattle.ly_drive.specs.Answering.{IsAnsweredBy, IsBegunBy, IsDriven, IsFaultyOn, IsReadAsNeeded, IsTooLong};
 ghost use Rattle.ly_drive.specs.Held.{nothing_read};
 ghost use Rattle.ly_drive.specs.DriveFault.{IsBeforeWriting, IsOfFile, IsWrite};
 
@@ -17,7 +15,7 @@ use crate::need::Need;
 use crate::outcome::Outcome;
 use crate::reading::read_into;
 use ly_base::{Sink, Source, write_whole};
-use ly_tables::{TableSet, read_tables};
+use ly_tables::{TableSet, a_file_has_one_set, read_tables};
 use std::alloc::Global;
 
 /// Answers the text that a reader gives by the bytes of a table file, and writes the answer. Nothing is read before the
@@ -38,17 +36,20 @@ pub fn drive<R: Source, W: Sink>(
     ensures faulty { result ≡ Err DriveFault.TableFault → (s : Tables) × IsDriven tables.now s
         × IsFaultyOn s (R.remaining reader.old) }
     ensures refused { (fault : file.TableFault) → result ≡ Err (DriveFault.Tables fault)
-        → (fault ≢ OutOfMemory) × IsRefusedAs w16 1 version_1 tables.now fault }
+        → (fault ≢ OutOfMemory) × IsRefusedAs tables.now fault }
     ensures long { result ≡ Err DriveFault.TooLong → IsTooLong (R.remaining reader.old) }
     ensures unread { IfErr result (λ e. IsOfFile e → reader.new ≡ reader.old) }
     ensures ended { result ≡ Ok Outcome.Tree → IsAtEnd (R.remaining reader.new) }
+    ensures needed { (s : Tables) → IsDriven tables.now s → (IsErrOf result DriveFault.Read → ⊥)
+        → IsReadAsNeeded 4096 s (R.remaining reader.old) (R.remaining reader.new) }
     ensures read { IsErrOf result DriveFault.Read → R.failures reader.new ≡ next_count (R.failures reader.old) }
     ensures reader_held { (IsErrOf result DriveFault.Read → ⊥) → R.failures reader.new ≡ R.failures reader.old }
     ensures write { IfErr result (λ e. IsWrite e → W.failures writer.new ≡ next_count (W.failures writer.old)) }
     ensures writer_held { OnOk result (W.failures writer.new ≡ W.failures writer.old) }
     ensures untouched { IfErr result (λ e. IsBeforeWriting e → writer.new ≡ writer.old) }
 {
-    let set = read_tables(alloc, tables)?;
+    a_file_has_one_set();
+    let (set, _version) = read_tables(alloc, tables)?;
     run(alloc, &set, reader, writer)
 }
 
@@ -73,6 +74,8 @@ pub fn run<R: Source, W: Sink>(
     ensures long { result ≡ Err DriveFault.TooLong → IsTooLong (R.remaining reader.old) }
     ensures not_of_file { IfErr result (λ e. IsOfFile e → ⊥) }
     ensures ended { result ≡ Ok Outcome.Tree → IsAtEnd (R.remaining reader.new) }
+    ensures needed { (IsErrOf result DriveFault.Read → ⊥)
+        → IsReadAsNeeded 4096 set.now (R.remaining reader.old) (R.remaining reader.new) }
     ensures read { IsErrOf result DriveFault.Read → R.failures reader.new ≡ next_count (R.failures reader.old) }
     ensures reader_held { (IsErrOf result DriveFault.Read → ⊥) → R.failures reader.new ≡ R.failures reader.old }
     ensures write { IfErr result (λ e. IsWrite e → W.failures writer.new ≡ next_count (W.failures writer.old)) }
@@ -102,6 +105,8 @@ fn feed_all<R: Source, W: Sink>(
     ensures long { result ≡ Err DriveFault.TooLong → IsTooLong (R.remaining reader.old) }
     ensures not_of_file { IfErr result (λ e. IsOfFile e → ⊥) }
     ensures ended { result ≡ Ok Outcome.Tree → IsAtEnd (R.remaining reader.new) }
+    ensures needed { (IsErrOf result DriveFault.Read → ⊥)
+        → IsReadAsNeeded (length room.old) feed.old.set (R.remaining reader.old) (R.remaining reader.new) }
     ensures read { IsErrOf result DriveFault.Read → R.failures reader.new ≡ next_count (R.failures reader.old) }
     ensures reader_held { (IsErrOf result DriveFault.Read → ⊥) → R.failures reader.new ≡ R.failures reader.old }
     ensures write { IfErr result (λ e. IsWrite e → W.failures writer.new ≡ next_count (W.failures writer.old)) }

@@ -17,7 +17,8 @@ pub(crate) fn read_into<R: Source>(
 ) -> Result<Option<Need>, DriveFault>
     requires goes_on { feed.old.over ≡ false }
     requires room { 0 < length room.old }
-    ensures is_read { IsReadInto feed.old (R.remaining reader.old) (R.remaining reader.new) feed.new result }
+    ensures is_read { IsReadInto (length room.old) feed.old (R.remaining reader.old) (R.remaining reader.new) feed.new
+        result }
     ensures room { length room.new ≡ length room.old }
     ensures read { IsErrOf result DriveFault.Read → R.failures reader.new ≡ next_count (R.failures reader.old) }
     ensures held { (IsErrOf result DriveFault.Read → ⊥) → R.failures reader.new ≡ R.failures reader.old }

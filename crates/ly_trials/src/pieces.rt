@@ -75,7 +75,7 @@ fn are_same(one: &Answer, other: &Answer) -> bool {
 /// The table set of a lex file and a yacc file.
 fn table_set(alloc: Global, lex: &[u8], yacc: &[u8]) -> Result<TableSet, Fail> {
     let tables = generate(alloc, lex, yacc, &Limits::V2, Version::V2)?;
-    let (set, _) = read_tables(alloc, &tables)?;
+    let (set, _version) = read_tables(alloc, &tables)?;
     Ok(set)
 }
 
@@ -106,20 +106,25 @@ fn driven(alloc: Global, tables: &[u8], text: &[u8]) -> Result<Answer, Fail> {
     Ok((outcome, sink.into_bytes()))
 }
 
+/// Whether a text in pieces of one byte, and in two, wherever it is cut, is answered by a table file as it is whole.
+fn is_one_answer(alloc: Global, tables: &[u8], text: &[u8]) -> Result<bool, Fail> {
+    let whole = driven(alloc, tables, text)?;
+    let (set, _version) = read_tables(alloc, tables)?;
+    let mut same = are_same(&fed(alloc, &set, &single_bytes(alloc, text)?)?, &whole);
+    for at in 0..=text.len() {
+        let (front, rest) = text.split_at(at);
+        same &= are_same(&fed(alloc, &set, &[front, rest])?, &whole);
+    }
+    Ok(same)
+}
+
 #[test]
 fn a_text_is_answered_however_it_is_cut(rt: HostRuntime) -> Result<(), Fail> {
-    let alloc = rt.alloc();
-    for (lex, yacc, texts) in &TEXTS {
-        let tables = generate(alloc, lex, yacc, &Limits::V2, Version::V2)?;
-        let (set, _) = read_tables(alloc, &tables)?;
-        for text in *texts {
-            let whole = driven(alloc, &tables, text)?;
-            let single = fed(alloc, &set, &single_bytes(alloc, text)?)?;
-            assert!(rt; are_same(&single, &whole), "{text:?}");
-            for at in 0..=text.len() {
-                let (front, rest) = text.split_at(at);
-                let cut = fed(alloc, &set, &[front, rest])?;
-                assert!(rt; are_same(&cut, &whole), "{text:?} cut at {at}");
+    for version in [Version::V1, Version::V2] {
+        for (lex, yacc, texts) in &TEXTS {
+            let tables = generate(rt.alloc(), lex, yacc, &Limits::V2, version)?;
+            for text in *texts {
+                assert!(rt; is_one_answer(rt.alloc(), &tables, text)?, "{text:?}");
             }
         }
     }
@@ -282,6 +287,38 @@ fn nothing_is_read_once_the_answer_is_known(rt: HostRuntime) -> Result<(), Fail>
     // the failure is still to come
     assert!(rt; source.pull(&mut [0; 1]).is_err());
     Ok(())
+}
+
+/// What is written of `1+2*3` under `WORDS` and `SUMS`.
+const SUM: &[u8] = b"Add(NUM\"1\",Mul(NUM\"2\",NUM\"3\"))\n";
+
+/// Whether a run over `1+2*3` finds room. It is told where it finds none, and nothing is written then.
+fn finds_room(alloc: Global, tables: &[u8]) -> Result<bool, Fail> {
+    let mut room = [0u8; SUM.len() + 1];
+    let mut writer = Counted::new(&mut room[..]);
+    let result = drive(alloc, tables, &mut MemSource::new(b"1+2*3"), &mut writer);
+    let (written, left) = room.split_at(SUM.len());
+    match result {
+        Ok(Outcome::Tree) if written == SUM && left == [0].as_slice() => Ok(true),
+        Err(DriveFault::OutOfMemory) if room.iter().all(|byte| *byte == 0) => Ok(false),
+        _ => Err(Fail::from("neither the tree nor want of memory")),
+    }
+}
+
+/// With no room at first, and a small block more at each try, each growth of a run is refused once.
+#[test]
+fn want_of_memory_ends_a_run(rt: HostRuntime) -> Result<(), Fail> {
+    let tables = generate(rt.alloc(), WORDS, SUMS, &Limits::V2, Version::V2)?;
+    let mut blocks = small_blocks(&rt)?;
+    let _all_else = hog(&rt);
+    for refused in 0..TRIES {
+        if finds_room(rt.alloc(), &tables)? {
+            assert!(rt; refused > 0);
+            return Ok(());
+        }
+        let _ = blocks.pop();
+    }
+    Err(Fail::from("no room was enough"))
 }
 
 /// A text of many pieces, of which the first one has a byte that no rule matches.

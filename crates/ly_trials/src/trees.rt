@@ -1,8 +1,9 @@
 //! Answers by two files: of a text at once, and by the bytes of the table file; and with devices that fail.
 
-use ly_base::{Limits, MemSink, MemSource, Version};
+use ly_base::{Limits, MemSink, MemSource};
 use ly_drive::{Outcome, drive};
-use ly_engine::{AnswerFault, answer, generate};
+use ly_engine::{AnswerFault, FormatFault, Version, answer, generate, read_tables, write_tables};
+use std::alloc::Global;
 use std::test::Fail;
 
 const LEX: &[u8] = b"%%\nif return IF;\n[a-z]+ return X;\n\" \" ;\n";
@@ -27,18 +28,39 @@ fn a_text_is_answered(rt: HostRuntime) -> Result<(), Fail> {
 
 #[test]
 fn a_generated_file_of_each_version_is_driven(rt: HostRuntime) -> Result<(), Fail> {
-    let alloc = rt.alloc();
     for version in [Version::V1, Version::V2] {
-        let Ok(tables) = generate(alloc, LEX, YACC, &Limits::V2, version) else {
-            return Err(Fail::from("two files were refused that are to be accepted"));
-        };
-        let mut sink = MemSink::new(alloc);
-        let Ok(outcome) = drive(alloc, &tables, &mut MemSource::new(TEXT), &mut sink) else {
-            return Err(Fail::from("a table file was refused that is to be driven"));
-        };
+        let mut sink = MemSink::new(rt.alloc());
+        let tables = generate(rt.alloc(), LEX, YACC, &Limits::V2, version)?;
+        let outcome = drive(rt.alloc(), &tables, &mut MemSource::new(TEXT), &mut sink)?;
         assert!(rt; matches!(outcome, Outcome::Tree));
         assert!(rt; sink.bytes() == TREE);
     }
+    Ok(())
+}
+
+/// A yacc file that declares so many tokens.
+fn with_tokens(alloc: Global, count: u32) -> Result<Vec<u8>, Fail> {
+    let mut yacc = Vec::new(alloc);
+    yacc.extend_from_slice(b"%token")?;
+    for number in 0..count {
+        yacc.extend_from_slice(format!(in alloc; " T{number}")?.as_bytes())?;
+    }
+    yacc.extend_from_slice(b"\n%%s : ;")?;
+    Ok(yacc)
+}
+
+/// With `s`, `$end`, `$undef` and `$accept` these are one symbol more than version 1 has.
+#[test]
+fn a_set_is_too_large_for_version_1(rt: HostRuntime) -> Result<(), Fail> {
+    let yacc = with_tokens(rt.alloc(), 4_092)?;
+    let made = generate(rt.alloc(), b"%%", &yacc, &Limits::V2, Version::V1);
+    assert!(rt; made.is_err());
+    let tables = generate(rt.alloc(), b"%%", &yacc, &Limits::V2, Version::V2)?;
+    let (set, version) = read_tables(rt.alloc(), &tables)?;
+    assert!(rt; version == Version::V2);
+    let written = write_tables(rt.alloc(), &set, Version::V1);
+    assert!(rt; matches!(written, Err(FormatFault::TooLargeForVersion)));
+    assert!(rt; FormatFault::TooLargeForVersion.number() == Some(86));
     Ok(())
 }
 

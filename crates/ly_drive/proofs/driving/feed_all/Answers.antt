@@ -1,9 +1,10 @@
-use Rattle.std.proofs.Common.{◌≡◌, ◌∙◌, ◌<◌, List, [], Err, Ok, Some, ap, refl, subst, sym, take, ℕ}
+use Rattle.std.proofs.Common.{◌≡◌, ◌∙◌, ◌<◌, List, [], Err, Ok, Some, ap, length, refl, subst, sym, take, ℕ}
 use Rattle.std.specs.Io.KnownBytes.{Appends}
 use Rattle.std.specs.Prelude.{IfOk}
 use Rattle.ly_base.specs.TextWriter.{IsCutShort}
-use Rattle.ly_drive.proofs.FaultLemmas.{cut_short, same_count, same_fault}
-use Rattle.ly_drive.proofs.SoFarLemmas.{all_ended, at_fault, begins, ended_so, ends, goes_on, settles}
+use Rattle.ly_drive.proofs.FaultLemmas.{cut_short, other_fault, same_count, same_fault}
+use Rattle.ly_drive.proofs.SoFarLemmas.{all_ended, as_needed, at_fault, begins, ended_as_needed, ended_so, ends, given_by}
+use Rattle.ly_drive.proofs.SoFarLemmas.{goes_on, settles}
 use Rattle.ly_drive.specs.Held.{IsRestOf}
 use Rattle.ly_drive.specs.Private.Feeding.{IsAnswerOf}
 use Rattle.ly_drive.specs.Private.Reading.{IsReadInto}
@@ -18,6 +19,7 @@ loop-outcome-init g c =
       counted = refl;
       untouched = refl;
       room = c.requires.room;
+      same_room = refl;
     }
 
 pub returns-in_err-read_into-clause-faulty : goal.returns-in_err-read_into-clause-faulty
@@ -30,9 +32,9 @@ returns-in_err-read_into-clause-faulty g c is =
     let i = c.loop-outcome.invariant in
     let fault = same_fault c.from_residual.result c.in_err-read_into.field-0.0 TableFault c.from_residual.ensures.1 is
     in
-    let read = subst (λ e. IsReadInto f before after c.read_into.new.feed (Err e)) fault
+    let read = subst (λ e. IsReadInto (length c.loop-outcome.room) f before after c.read_into.new.feed (Err e)) fault
     c.in_err-read_into.ensures.is_read in
-    at_fault s given before after f i.so_far read.0 read.1 read.2
+    at_fault s given before after f i.so_far read.0 read.1.consumed read.2
 
 pub loop-outcome-preserved : goal.loop-outcome-preserved
 loop-outcome-preserved g c =
@@ -42,13 +44,14 @@ loop-outcome-preserved g c =
     let f = c.loop-outcome.feed in
     let s = c.args.feed.now.set in
     let i = c.loop-outcome.invariant in
-    let read = subst (λ o. IsReadInto f before after c.read_into.new.feed (Ok o))
+    let read = subst (λ o. IsReadInto (length c.loop-outcome.room) f before after c.read_into.new.feed (Ok o))
     (c.in-Some-More.is ∙ ap Some c.in-Some-More.field-0-is) c.in_ok-read_into.ensures.is_read in record {
-      so_far = goes_on s given before after f i.so_far c.read_into.new.feed read.0 read.1 read.3;
+      so_far = goes_on s given before after f i.so_far c.read_into.new.feed read.0 read.1.consumed read.3;
       counted = c.in_ok-read_into.ensures.held
           (λ z. let off : Ok c.in_ok-read_into.field-0 ≡ Err Read = z in cc) ∙ i.counted;
       untouched = i.untouched;
       room = subst (λ n. 0 < n) (sym c.read_into.ensures.room) i.room;
+      same_room = c.read_into.ensures.room ∙ i.same_room;
     }
 
 pub returns-in_err-write_whole-in-Some-Settled-clause-beginning :
@@ -60,10 +63,11 @@ returns-in_err-write_whole-in-Some-Settled-clause-beginning g c written is =
     let f = c.loop-outcome.feed in
     let s = c.args.feed.now.set in
     let i = c.loop-outcome.invariant in
-    let read = subst (λ o. IsReadInto f before after c.read_into.new.feed (Ok o))
+    let read = subst (λ o. IsReadInto (length c.loop-outcome.room) f before after c.read_into.new.feed (Ok o))
     (c.in-Some-Settled.is ∙ ap Some c.in-Some-Settled.field-0-is) c.in_ok-read_into.ensures.is_read in
     let answer = c.in-Some-Settled.answer.items in
-    let text = settles s given before after f i.so_far c.in-Some-Settled.outcome answer read.0 read.1 read.2 in
+    let text = settles s given before after f i.so_far c.in-Some-Settled.outcome answer read.0 read.1.consumed
+    read.2 in
     let failed = c.in_err-write_whole-in-Some-Settled in
     let count = failed.field-0.0.written in
     let same = same_count count written (same_fault c.from_residual-in_err-write_whole-in-Some-Settled.result
@@ -82,10 +86,11 @@ returns-in-Some-Settled-clause-answered g c =
     let f = c.loop-outcome.feed in
     let s = c.args.feed.now.set in
     let i = c.loop-outcome.invariant in
-    let read = subst (λ o. IsReadInto f before after c.read_into.new.feed (Ok o))
+    let read = subst (λ o. IsReadInto (length c.loop-outcome.room) f before after c.read_into.new.feed (Ok o))
     (c.in-Some-Settled.is ∙ ap Some c.in-Some-Settled.field-0-is) c.in_ok-read_into.ensures.is_read in
     let answer = c.in-Some-Settled.answer.items in
-    let text = settles s given before after f i.so_far c.in-Some-Settled.outcome answer read.0 read.1 read.2 in (
+    let text = settles s given before after f i.so_far c.in-Some-Settled.outcome answer read.0 read.1.consumed
+    read.2 in (
       text.0,
       answer,
       text.1,
@@ -104,7 +109,7 @@ returns-in-None-clause-answered g c =
     let f = c.loop-outcome.feed in
     let s = c.args.feed.now.set in
     let i = c.loop-outcome.invariant in
-    let read = subst (λ o. IsReadInto f before after c.read_into.new.feed (Ok o)) c.in-None.is
+    let read = subst (λ o. IsReadInto (length c.loop-outcome.room) f before after c.read_into.new.feed (Ok o)) c.in-None.is
     c.in_ok-read_into.ensures.is_read in
     all_ended s given before after f i.so_far c.read_into.new.feed (g.W.Sink.contents c.args.writer.now)
     (g.W.Sink.contents c.finish_into.new.writer) c.finish_into.result read.2 read.1 read.0
@@ -120,7 +125,7 @@ returns-in-None-clause-beginning g c written is =
     let f = c.loop-outcome.feed in
     let s = c.args.feed.now.set in
     let i = c.loop-outcome.invariant in
-    let read = subst (λ o. IsReadInto f before after c.read_into.new.feed (Ok o)) c.in-None.is
+    let read = subst (λ o. IsReadInto (length c.loop-outcome.room) f before after c.read_into.new.feed (Ok o)) c.in-None.is
     c.in_ok-read_into.ensures.is_read in
     let begun = c.finish_into.ensures.beginning written is in
     let text = ended_so s given before after f i.so_far c.read_into.new.feed begun.1 begun.0 read.2 read.1 read.0
@@ -137,7 +142,65 @@ returns-in-None-clause-faulty g c is =
     let f = c.loop-outcome.feed in
     let s = c.args.feed.now.set in
     let i = c.loop-outcome.invariant in
-    let read = subst (λ o. IsReadInto f before after c.read_into.new.feed (Ok o)) c.in-None.is
+    let read = subst (λ o. IsReadInto (length c.loop-outcome.room) f before after c.read_into.new.feed (Ok o)) c.in-None.is
     c.in_ok-read_into.ensures.is_read in
     ends s given before after f i.so_far faulty read.1 read.0
     (subst (λ x. IsRestOf x [] faulty) read.2 (c.finish_into.ensures.faulty is))
+
+pub returns-in_err-read_into-clause-needed : goal.returns-in_err-read_into-clause-needed
+returns-in_err-read_into-clause-needed g c not =
+    let before = g.R.Source.remaining c.loop-outcome.reader in
+    let after = g.R.Source.remaining c.read_into.new.reader in
+    let given = g.R.Source.remaining c.args.reader.now in
+    let f = c.loop-outcome.feed in
+    let s = c.args.feed.now.set in
+    let i = c.loop-outcome.invariant in
+    let most = length c.args.room.now in
+    let room = length c.loop-outcome.room in
+    let fault = c.in_err-read_into.field-0.0 in
+    let piece = given_by room f c.read_into.new.feed before after fault c.in_err-read_into.ensures.is_read
+    (other_fault c.from_residual.result fault Read c.from_residual.ensures.1 not) in
+    as_needed s given before after f i.so_far most room piece.0 i.same_room piece.1
+
+pub returns-in_err-write_whole-in-Some-Settled-clause-needed :
+    goal.returns-in_err-write_whole-in-Some-Settled-clause-needed
+returns-in_err-write_whole-in-Some-Settled-clause-needed g c not =
+    let before = g.R.Source.remaining c.loop-outcome.reader in
+    let after = g.R.Source.remaining c.read_into.new.reader in
+    let given = g.R.Source.remaining c.args.reader.now in
+    let f = c.loop-outcome.feed in
+    let s = c.args.feed.now.set in
+    let i = c.loop-outcome.invariant in
+    let most = length c.args.room.now in
+    let room = length c.loop-outcome.room in
+    let read = subst (λ o. IsReadInto room f before after c.read_into.new.feed (Ok o))
+    (c.in-Some-Settled.is ∙ ap Some c.in-Some-Settled.field-0-is) c.in_ok-read_into.ensures.is_read in
+    as_needed s given before after f i.so_far most room read.0 i.same_room read.1
+
+pub returns-in-Some-Settled-clause-needed : goal.returns-in-Some-Settled-clause-needed
+returns-in-Some-Settled-clause-needed g c not =
+    let before = g.R.Source.remaining c.loop-outcome.reader in
+    let after = g.R.Source.remaining c.read_into.new.reader in
+    let given = g.R.Source.remaining c.args.reader.now in
+    let f = c.loop-outcome.feed in
+    let s = c.args.feed.now.set in
+    let i = c.loop-outcome.invariant in
+    let most = length c.args.room.now in
+    let room = length c.loop-outcome.room in
+    let read = subst (λ o. IsReadInto room f before after c.read_into.new.feed (Ok o))
+    (c.in-Some-Settled.is ∙ ap Some c.in-Some-Settled.field-0-is) c.in_ok-read_into.ensures.is_read in
+    as_needed s given before after f i.so_far most room read.0 i.same_room read.1
+
+pub returns-in-None-clause-needed : goal.returns-in-None-clause-needed
+returns-in-None-clause-needed g c not =
+    let before = g.R.Source.remaining c.loop-outcome.reader in
+    let after = g.R.Source.remaining c.read_into.new.reader in
+    let given = g.R.Source.remaining c.args.reader.now in
+    let f = c.loop-outcome.feed in
+    let s = c.args.feed.now.set in
+    let i = c.loop-outcome.invariant in
+    let most = length c.args.room.now in
+    let room = length c.loop-outcome.room in
+    let read = subst (λ o. IsReadInto room f before after c.read_into.new.feed (Ok o)) c.in-None.is
+    c.in_ok-read_into.ensures.is_read in
+    ended_as_needed s given before after f i.so_far most read.1

@@ -11,6 +11,7 @@ invariant-loop-outcome g l = let source = g.R.Source in record {
   counted : source.failures l.reader ≡ source.failures l.initial.reader;
   untouched : l.writer ≡ l.initial.writer;
   room : 0 < length l.room;
+  same_room : length l.room ≡ length l.initial.room;
 }
 
 abbrev pub decreases-loop-outcome : goal.decreases-loop-outcome

@@ -1,5 +1,6 @@
-use Rattle.std.proofs.Common.{ap, subst}
-use Rattle.ly_drive.specs.Answering.{IsBegunBy, IsFaultyOn}
+use Rattle.std.proofs.Common.{◌≡◌, ap, arith, length, subst}
+use Rattle.ly_drive.proofs.SoFarLemmas.{nothing_needed}
+use Rattle.ly_drive.specs.Answering.{IsBegunBy, IsFaultyOn, IsReadAsNeeded}
 use Rattle.ly_drive.proofs.driving.run.Goals as goal
 
 pub returns-clause-beginning : goal.returns-clause-beginning
@@ -11,3 +12,21 @@ returns-clause-beginning g c written is =
 pub returns-clause-faulty : goal.returns-clause-faulty
 returns-clause-faulty g c is = subst (λ s. IsFaultyOn s (g.R.Source.remaining c.args.reader.now))
     (ap (λ f. f.set) c.in_ok-feed.ensures) (c.feed_all.ensures.faulty is)
+
+pub returns-in_err-feed-clause-needed : goal.returns-in_err-feed-clause-needed
+returns-in_err-feed-clause-needed g c not =
+    nothing_needed 4096 c.args.set.now (g.R.Source.remaining c.args.reader.now)
+
+pub returns-in_err-room-clause-needed : goal.returns-in_err-room-clause-needed
+returns-in_err-room-clause-needed g c not =
+    nothing_needed 4096 c.args.set.now (g.R.Source.remaining c.args.reader.now)
+
+pub returns-clause-needed : goal.returns-clause-needed
+returns-clause-needed g c not =
+    let before = g.R.Source.remaining c.args.reader.now in
+    let after = g.R.Source.remaining c.feed_all.new.reader in
+    let room = length c.deref_mut.result.now in
+    let size : room ≡ 4096 = omega (arith, c.deref_mut.ensures.len, c.in_ok-room.ensures.len) in
+    subst (λ n. IsReadAsNeeded n c.args.set.now before after) size
+    (subst (λ s. IsReadAsNeeded room s before after) (ap (λ f. f.set) c.in_ok-feed.ensures)
+    (c.feed_all.ensures.needed not))

@@ -1,0 +1,15 @@
+use Rattle.std.proofs.Common.{subst}
+use Rattle.ly_drive.proofs.SoFarLemmas.{nothing_needed}
+use Rattle.ly_drive.specs.Answering.{IsReadAsNeeded}
+use Rattle.ly_drive.proofs.driving.drive.Goals as goal
+
+pub returns-in_err-set-clause-needed : goal.returns-in_err-set-clause-needed
+returns-in_err-set-clause-needed g c s driven not = nothing_needed 4096 s (g.R.Source.remaining c.args.reader.now)
+
+pub returns-clause-needed : goal.returns-clause-needed
+returns-clause-needed g c s driven not =
+    let read = c.in_ok-set.field-0 in
+    let same = (c.a_file_has_one_set.ensures c.args.tables.now read.1 driven.0 read.0 s c.in_ok-set.ensures.spelled
+    driven.1).1 in
+    subst (λ x. IsReadAsNeeded 4096 x (g.R.Source.remaining c.args.reader.now) (g.R.Source.remaining c.run.new.reader))
+    same (c.run.ensures.needed not)
