@@ -1,24 +1,23 @@
 -- How often a rule stands among those by which a state reduces.
-use Rattle.std.proofs.Common.{◌≡◌, ◌≢◌, ◌∙◌, ◌<◌, ◌≤◌, ◌+◌, ◌-◌, ◌++◌, ◌∷◌, [], ℕ, min, zero, suc, List, length, take}
+use Rattle.std.proofs.Common.{◌≡◌, ◌≢◌, ◌∙◌, ◌<◌, ◌≤◌, ◌+◌, ◌++◌, ◌∷◌, [], ℕ, zero, suc, List, length, take, All}
 use Rattle.std.proofs.Common.{Option, Some, None}
-use Rattle.std.proofs.Common.{refl, sym, ap, subst, arith, inl, inr, get_or, nat_eq, Bool, true, false, not, ◌&&◌}
+use Rattle.std.proofs.Common.{refl, sym, ap, subst, arith, inl, inr, get_or, nat_eq, Bool, true, false, not}
 use Rattle.std.specs.Prelude.{filter, if◌then◌else◌, option_map}
 use Rattle.std.specs.List.{range_with_len}
-use Rattle.std.proofs.lemmas.Bool.{cases_Bool, cases_lt, eqb-true, eq-eqb, ne_eqb, cond-true, cond-false}
-use Rattle.std.proofs.lemmas.Bool.{and_from, and_left, and_right, true≢false}
-use Rattle.std.proofs.lemmas.List.{length-append, length-take, length_push}
+use Rattle.std.proofs.lemmas.Bool.{cases_Bool, eqb-true, eq-eqb}
+use Rattle.std.proofs.lemmas.List.{length-append, length-map, length-take, length_push}
 use Rattle.std.proofs.lemmas.List.Elements.{filter-append}
 use Rattle.std.proofs.lemmas.List.Filters.{length-filter_both}
-use Rattle.std.proofs.lemmas.Option.{same_Some, none-some, slice_get_within}
+use Rattle.std.proofs.lemmas.Option.{slice_get_within}
 use Rattle.ly_pack.specs.Defaults.{is_by}
-use Rattle.ly_pack.specs.Private.Tally.{HaveDefaults, IsChosen, left_out, out_by, reductions, rule_of}
-use Rattle.ly_pack.specs.Private.Tally.{times}
-use Rattle.ly_pack.specs.Rows.{Dense, Entries, IsDense, dense_entry}
+use Rattle.ly_pack.specs.Private.Tally.{HaveDefaults, IsChosen, cells_by, left_out, out_by, reductions, times}
+use Rattle.ly_pack.specs.Rows.{AreCellsOf, Dense, Entries, dense_entry}
 use Rattle.ly_pack.specs.Values.{action_from, actions_from}
 use Rattle.ly_pack.specs.declared.action.TableAction as code
 use Rattle.ly_pack.specs.declared.action.TableAction.TheVariants.{Accept, Error, Reduce, Shift}
+use Rattle.ly_pack.specs.declared.cell.Cell.{Cell}
 use Rattle.ly_base.specs.declared.numbers.RuleNo.{RuleNo}
-use Rattle.ly_pack.proofs.DenseLemmas.{dense_entry-past, dense_entry-past_row}
+use Rattle.ly_pack.proofs.CellLemmas.{columns_pass_of, kept}
 use Rattle.ly_pack.proofs.OrderLemmas.{range_from_none, slice_get-push_cases}
 
 abbrev one_if : Bool → ℕ
@@ -43,38 +42,6 @@ reductions-more entries n state p = ap (λ ts. length (filter (λ t. is_by p (ac
     ∙ length-append (filter (λ t. is_by p (actions_from entries state t)) (range_with_len 0 n))
     (filter (λ t. is_by p (actions_from entries state t)) (n ∷ []))
     ∙ ap (λ m. reductions entries n state p + m) (length-one (is_by p (actions_from entries state n)) n)
-
--- what an entry's rule says of it
-pub is_by-rule : (p q : ℕ) (a : Option code.TableAction) → Some q ≡ rule_of a
-    → is_by p (option_map action_from a) ≡ nat_eq p q
-is_by-rule p q None is = absurd (none-some q (sym is))
-is_by-rule p q (Some (Shift s)) is = absurd (none-some q (sym is))
-is_by-rule p q (Some (Reduce r)) is = ap (nat_eq p) (sym (same_Some q r.0 is))
-is_by-rule p q (Some Accept) is = absurd (none-some q (sym is))
-is_by-rule p q (Some Error) is = absurd (none-some q (sym is))
-
-pub is_by-none : (p : ℕ) (a : Option code.TableAction) → None ≡ rule_of a → is_by p (option_map action_from a) ≡ false
-is_by-none p None is = refl
-is_by-none p (Some (Shift s)) is = refl
-is_by-none p (Some (Reduce r)) is = absurd (none-some r.0 is)
-is_by-none p (Some Accept) is = refl
-is_by-none p (Some Error) is = refl
-
-pub left_out-rule : (p q : ℕ) (a : Option code.TableAction) → Some q ≡ rule_of a
-    → left_out p a ≡ (if nat_eq p q then None else a)
-left_out-rule p q None is = absurd (none-some q (sym is))
-left_out-rule p q (Some (Shift s)) is = absurd (none-some q (sym is))
-left_out-rule p q (Some (Reduce r)) is = ap (λ k. if nat_eq p k then None else Some (Reduce r)) (sym
-    (same_Some q r.0 is))
-left_out-rule p q (Some Accept) is = absurd (none-some q (sym is))
-left_out-rule p q (Some Error) is = absurd (none-some q (sym is))
-
-pub left_out-none : (p : ℕ) (a : Option code.TableAction) → None ≡ rule_of a → left_out p a ≡ a
-left_out-none p None is = refl
-left_out-none p (Some (Shift s)) is = refl
-left_out-none p (Some (Reduce r)) is = absurd (none-some r.0 is)
-left_out-none p (Some Accept) is = refl
-left_out-none p (Some Error) is = refl
 
 -- a rule that is counted stands there, and one that stands there is counted
 pub times_in : (rules : List ℕ) (p : ℕ) → 1 ≤ times p rules → (j : ℕ) × (j < length rules)
@@ -106,80 +73,6 @@ times_few p n rules = omega (
   length-take n rules,
 )
 
--- From the first columns of a row the reductions by a rule are taken out.
-pub record AreTakenOut (state p columns : ℕ) (old new : Dense code.TableAction) : Type 0 where
-  pub rows : new.rows ≡ old.rows
-  pub width : new.width ≡ old.width
-  pub done : (t : ℕ) → t < columns → dense_entry new state t ≡ left_out p (dense_entry old state t)
-  pub left : (t : ℕ) → columns ≤ t → dense_entry new state t ≡ dense_entry old state t
-  pub others : (r t : ℕ) → r ≢ state → dense_entry new r t ≡ dense_entry old r t
-
--- one column more is gone over
-module _ (state p n : ℕ) (old mid : Dense code.TableAction) (so : AreTakenOut state p n old mid) where
-  pub taken_same : left_out p (dense_entry old state n) ≡ dense_entry old state n → AreTakenOut state p (n + 1) old mid
-  taken_same same = record {
-    rows = so.rows;
-    width = so.width;
-    done = λ t lt. elim (cases_lt t n) [
-      | inl less ↦ so.done t less
-      | inr last ↦ let here : n ≡ t = omega (arith, lt, last) in
-          so.left t last ∙ sym (subst (λ k. left_out p (dense_entry old state k) ≡ dense_entry old state k) here same)
-    ];
-    left = λ t le. so.left t (omega (arith, le));
-    others = so.others;
-  }
-
-  pub taken_one : (new : Dense code.TableAction) → left_out p (dense_entry old state n) ≡ None
-      → new.rows ≡ mid.rows → new.width ≡ mid.width → ((r c : ℕ) → dense_entry new r c
-      ≡ (if nat_eq r state && nat_eq c n then None else dense_entry mid r c)) → AreTakenOut state p (n + 1) old new
-  taken_one new none rows width entries = record {
-    rows = rows ∙ so.rows;
-    width = width ∙ so.width;
-    done = λ t lt. elim (cases_lt t n) [
-      | inl less ↦ entries state t ∙ cond-false (nat_eq state state && nat_eq t n) None (dense_entry mid state t)
-          (and_right (nat_eq state state) (nat_eq t n) (ne_eqb t n (λ e. omega (arith, e, less)))) ∙ so.done t less
-      | inr last ↦ let here : t ≡ n = omega (arith, lt, last) in
-          entries state t ∙ cond-true (nat_eq state state && nat_eq t n) None (dense_entry mid state t)
-          (and_from (nat_eq state state) (nat_eq t n) (eq-eqb state state refl) (eq-eqb t n here))
-          ∙ sym (ap (λ k. left_out p (dense_entry old state k)) here ∙ none)
-    ];
-    left = λ t le. entries state t ∙ cond-false (nat_eq state state && nat_eq t n) None (dense_entry mid state t)
-        (and_right (nat_eq state state) (nat_eq t n) (ne_eqb t n (λ e. omega (arith, e, le))))
-        ∙ so.left t (omega (arith, le));
-    others = λ r t other. entries r t ∙ cond-false (nat_eq r state && nat_eq t n) None (dense_entry mid r t)
-        (and_left (nat_eq r state) (nat_eq t n) (ne_eqb r state other)) ∙ so.others r t other;
-  }
-
--- nothing is counted past the width
-pub reductions-past : (d : Dense code.TableAction) (state p k : ℕ) → reductions (dense_entry d) (d.width + k) state p
-    ≡ reductions (dense_entry d) d.width state p
-reductions-past d state p zero = ap (λ n. reductions (dense_entry d) n state p) (plus_none d.width)
-  where
-    plus_none : (n : ℕ) → n + 0 ≡ n
-    plus_none n = omega arith
-reductions-past d state p (suc k) = ap (λ n. reductions (dense_entry d) n state p) (next d.width k)
-    ∙ reductions-more (dense_entry d) (d.width + k) state p
-    ∙ ap (λ (a : Option code.TableAction). reductions (dense_entry d) (d.width + k) state p
-    + (if is_by p (option_map action_from a) then 1 else 0)) (dense_entry-past d state (d.width + k) (omega arith))
-    ∙ plus_none (reductions (dense_entry d) (d.width + k) state p) ∙ reductions-past d state p k
-  where
-    next : (w k : ℕ) → w + suc k ≡ w + k + 1
-    next w k = omega arith
-
-    plus_none : (n : ℕ) → n + 0 ≡ n
-    plus_none n = omega arith
-
-pub reductions-min : (d : Dense code.TableAction) (terminals state p : ℕ)
-    → reductions (dense_entry d) (min terminals d.width) state p ≡ reductions (dense_entry d) terminals state p
-reductions-min d terminals state p = elim (cases_lt terminals d.width) [
-  | inl less ↦ let is : min terminals d.width ≡ terminals = omega arith in
-      ap (λ n. reductions (dense_entry d) n state p) is
-  | inr past ↦ let is : min terminals d.width ≡ d.width = omega arith in
-      let whole : d.width + (terminals - d.width) ≡ terminals = omega arith in
-      ap (λ n. reductions (dense_entry d) n state p) is ∙ sym (reductions-past d state p (terminals - d.width))
-      ∙ ap (λ n. reductions (dense_entry d) n state p) whole
-]
-
 -- where something is counted there is an entry
 pub reductions_in : (entries : Entries code.TableAction) (state p n : ℕ) → 1 ≤ reductions entries n state p
     → (t : ℕ) × (t < n) × (is_by p (actions_from entries state t) ≡ true)
@@ -208,70 +101,96 @@ chosen_same f g (Some r) same is = record {
   ];
 }
 
--- a state that has no default yet is as it was
-pub counts_old : (terminals columns state : ℕ) (old mid : Dense code.TableAction) (defaults : List (Option RuleNo))
-    → HaveDefaults terminals old mid defaults → columns ≡ min terminals mid.width → length defaults ≤ state → (p : ℕ)
-    → reductions (dense_entry mid) columns state p ≡ reductions (dense_entry old) terminals state p
-counts_old terminals columns state old mid defaults so is later p =
-    ap (λ n. reductions (dense_entry mid) n state p) is ∙ reductions-min mid terminals state p
-    ∙ ap (λ (f : ℕ → Option code.TableAction). length (filter (λ t. is_by p (option_map action_from (f t)))
-    (range_with_len 0 terminals))) (λ i t. so.left state t later i)
+-- one cell more
+pub cells_by-push : (p : ℕ) (cells : List (Cell code.TableAction)) (c : Cell code.TableAction)
+    → cells_by p (cells ++ c ∷ []) ≡ cells_by p cells + (if is_by p (Some (action_from c.entry)) then 1 else 0)
+cells_by-push p cells c = ap length (filter-append (λ x. is_by p (Some (action_from x.entry))) cells (c ∷ []))
+    ∙ length-append (filter (λ x. is_by p (Some (action_from x.entry))) cells)
+    (filter (λ x. is_by p (Some (action_from x.entry))) (c ∷ []))
+    ∙ ap (λ n. cells_by p cells + n) (length-one_cell (is_by p (Some (action_from c.entry))) c)
+  where
+    length-one_cell : (b : Bool) (x : Cell code.TableAction) → length (if b then x ∷ [] else []) ≡ one_if b
+    length-one_cell true x = refl
+    length-one_cell false x = refl
 
--- a state that reduces is one of the rows
-pub state_in : (columns state p : ℕ) (old mid : Dense code.TableAction) (terminals : ℕ)
-    (defaults : List (Option RuleNo)) → IsDense old → HaveDefaults terminals old mid defaults → length defaults ≤ state
-    → 1 ≤ reductions (dense_entry mid) columns state p → state < mid.rows
-state_in columns state p old mid terminals defaults dense so later some = elim (cases_lt state mid.rows) [
-  | inl lt ↦ lt
-  | inr past ↦ let found = reductions_in (dense_entry mid) state p columns some in
-      let none = so.left state found.0 later
-      ∙ dense_entry-past_row old dense state found.0 (omega (arith, past, so.rows))
-      in absurd (true≢false (sym found.2
-      ∙ ap (λ (a : Option code.TableAction). is_by p (option_map action_from a)) none))
-]
+-- a cell that doesn't reduce, and one that does
+pub cells_by-other : (p : ℕ) (cells : List (Cell code.TableAction)) (c : Cell code.TableAction)
+    → ((q : RuleNo) → c.entry ≡ Reduce q → ⊥) → cells_by p (cells ++ c ∷ []) ≡ cells_by p cells
+cells_by-other p cells c other = cells_by-push p cells c
+    ∙ ap (λ (b : Bool). cells_by p cells + one_if b) (by_entry c.entry other) ∙ plus_none (cells_by p cells)
+  where
+    by_entry : (a : code.TableAction) → ((q : RuleNo) → a ≡ Reduce q → ⊥) → is_by p (Some (action_from a)) ≡ false
+    by_entry (Shift s) other = refl
+    by_entry (Reduce q) other = absurd (other q refl)
+    by_entry Accept other = refl
+    by_entry Error other = refl
+
+    plus_none : (n : ℕ) → n + 0 ≡ n
+    plus_none n = omega arith
+
+pub cells_by-rule : (p : ℕ) (cells : List (Cell code.TableAction)) (c : Cell code.TableAction) (q : RuleNo)
+    (rules : List ℕ) → c.entry ≡ Reduce q → times p rules ≡ cells_by p cells
+    → times p (rules ++ q.0 ∷ []) ≡ cells_by p (cells ++ c ∷ [])
+cells_by-rule p cells c q rules is so = times-push p q.0 rules
+    ∙ ap (λ n. n + (if nat_eq p q.0 then 1 else 0)) so
+    ∙ ap (λ (a : code.TableAction). cells_by p cells + (if is_by p (Some (action_from a)) then 1 else 0)) (sym is)
+    ∙ sym (cells_by-push p cells c)
+
+-- the cells of a state are its entries
+pub cells_by-all : (d : Dense code.TableAction) (state p : ℕ) (cells : List (Cell code.TableAction))
+    → AreCellsOf (dense_entry d state) cells → All (λ c. c.column < d.width) cells
+    → cells_by p cells ≡ reductions (dense_entry d) d.width state p
+cells_by-all d state p cells so within =
+    sym (length-map (filter (λ c. is_by p (Some (action_from c.entry))) cells) (λ (c : Cell code.TableAction). c.column))
+    ∙ ap length (sym (columns_pass_of (λ a. is_by p (option_map action_from a)) refl (dense_entry d state) d.width cells
+    so within))
+
+-- a state that has no default yet is as it was
+pub counts_old : (old mid : Dense code.TableAction) (defaults : List (Option RuleNo))
+    → HaveDefaults old.width old mid defaults → (state : ℕ) → length defaults ≤ state → (p : ℕ)
+    → reductions (dense_entry mid) mid.width state p ≡ reductions (dense_entry old) old.width state p
+counts_old old mid defaults so state later p = ap (λ n. reductions (dense_entry mid) n state p) so.width
+    ∙ ap (λ (f : ℕ → Option code.TableAction). length (filter (λ t. is_by p (option_map action_from (f t)))
+    (range_with_len 0 old.width))) (λ i t. so.left state t later i)
 
 -- one state more has its default
-module _ (terminals : ℕ) (old mid new : Dense code.TableAction) (defaults : List (Option RuleNo)) (d : Option RuleNo)
-    (so : HaveDefaults terminals old mid defaults) (rows : new.rows ≡ mid.rows) (width : new.width ≡ mid.width)
-    (columns : ℕ) (is : columns ≡ min terminals mid.width)
-    (row : (t : ℕ) → t < columns → dense_entry new (length defaults) t ≡ out_by d (dense_entry mid (length defaults) t))
-    (past : (t : ℕ) → columns ≤ t → dense_entry new (length defaults) t ≡ dense_entry mid (length defaults) t)
+module _ (old mid new : Dense code.TableAction) (defaults : List (Option RuleNo)) (d : Option RuleNo)
+    (so : HaveDefaults old.width old mid defaults) (rows : new.rows ≡ mid.rows) (width : new.width ≡ mid.width)
+    (row : (t : ℕ) → dense_entry new (length defaults) t ≡ out_by d (dense_entry mid (length defaults) t))
     (others : (r t : ℕ) → r ≢ length defaults → dense_entry new r t ≡ dense_entry mid r t)
-    (chosen : IsChosen (reductions (dense_entry mid) columns (length defaults)) d) where
-  out_none : (d : Option RuleNo) → out_by d None ≡ None
-  out_none None = refl
-  out_none (Some p) = refl
-
-  row_is : (t : ℕ) → t < terminals
-      → dense_entry new (length defaults) t ≡ out_by d (dense_entry old (length defaults) t)
-  row_is t lt = let from = so.left (length defaults) t (omega arith) in elim (cases_lt t columns) [
-    | inl less ↦ row t less ∙ ap (out_by d) from
-    | inr le ↦ let none = dense_entry-past mid (length defaults) t (omega (arith, is, le, lt)) in
-        past t le ∙ none ∙ sym (out_none d) ∙ ap (out_by d) (sym none ∙ from)
-  ]
-
-  count_is : (p : ℕ) → reductions (dense_entry mid) columns (length defaults) p
-      ≡ reductions (dense_entry old) terminals (length defaults) p
-  count_is p = counts_old terminals columns (length defaults) old mid defaults so is (omega arith) p
-
-  pub defaults_more : HaveDefaults terminals old new (defaults ++ d ∷ [])
+    (chosen : IsChosen (reductions (dense_entry mid) mid.width (length defaults)) d) where
+  pub defaults_more : HaveDefaults old.width old new (defaults ++ d ∷ [])
   defaults_more = record {
     rows = rows ∙ so.rows;
     width = width ∙ so.width;
     chosen = λ state e at. elim (slice_get-push_cases defaults d e state at) [
       | inl earlier ↦ so.chosen state e earlier
-      | inr last ↦ subst (λ s. IsChosen (reductions (dense_entry old) terminals s) e) (sym last.0)
-          (subst (IsChosen (reductions (dense_entry old) terminals (length defaults))) last.1
-          (chosen_same (reductions (dense_entry mid) columns (length defaults))
-          (reductions (dense_entry old) terminals (length defaults)) d count_is chosen))
+      | inr last ↦ subst (λ s. IsChosen (reductions (dense_entry old) old.width s) e) (sym last.0)
+          (subst (IsChosen (reductions (dense_entry old) old.width (length defaults))) last.1
+          (chosen_same (reductions (dense_entry mid) mid.width (length defaults))
+          (reductions (dense_entry old) old.width (length defaults)) d
+          (counts_old old mid defaults so (length defaults) (omega arith)) chosen))
     ];
     taken = λ state t e at lt. elim (slice_get-push_cases defaults d e state at) [
       | inl earlier ↦ let within = slice_get_within defaults state e earlier in
           others state t (λ same. omega (arith, within, same)) ∙ so.taken state t e earlier lt
-      | inr last ↦ ap (λ s. dense_entry new s t) last.0 ∙ row_is t lt
+      | inr last ↦ ap (λ s. dense_entry new s t) last.0 ∙ row t
+          ∙ ap (out_by d) (so.left (length defaults) t (omega arith))
           ∙ ap (λ f. out_by f (dense_entry old (length defaults) t)) last.1
           ∙ ap (λ s. out_by e (dense_entry old s t)) (sym last.0)
     ];
     left = λ state t le. let long = length_push defaults d in
         others state t (λ same. omega (arith, same, le)) ∙ so.left state t (omega (arith, le, long));
   }
+
+-- what is kept where reductions by a rule are left out
+pub kept_out : (p : ℕ) (o : Option code.TableAction) → kept (λ a. not (is_by p (Some (action_from a)))) o ≡ left_out p o
+kept_out p None = refl
+kept_out p (Some (Shift s)) = refl
+kept_out p (Some (Reduce q)) = by_test (nat_eq p q.0)
+  where
+    by_test : (b : Bool) → (if not b then Some (Reduce q) else None) ≡ (if b then None else Some (Reduce q))
+    by_test true = refl
+    by_test false = refl
+kept_out p (Some Accept) = refl
+kept_out p (Some Error) = refl

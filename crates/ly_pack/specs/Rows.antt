@@ -1,7 +1,9 @@
--- Rows of entries, as they are kept: as they stand, and laid over one another.
-use Rattle.std.specs.Prelude.{◌≡◌, ℕ, ◌+◌, ◌*◌, ◌<◌, ◌≤◌, List, Option, Some, None, slice_get}
-use Rattle.std.specs.Prelude.{length, map, option_and_then, nat_lt, nat_eq, if◌then◌else◌}
+-- Rows of entries, as they are kept: as lists, and laid over one another.
+use Rattle.std.specs.Prelude.{◌≡◌, ℕ, ◌+◌, ◌<◌, ◌≤◌, List, [], ◌∷◌, Option, Some, None, slice_get, Contains}
+use Rattle.std.specs.Prelude.{length, map, option_and_then, nat_lt, nat_eq, if◌then◌else◌, All, AllPairs}
+use Rattle.std.specs.Global.{Vec}
 use Rattle.std.specs.List.{range_with_len}
+use Rattle.ly_pack.specs.declared.cell.Cell.{Cell}
 
 -- for a row and a column the entry there, if there is one
 abbrev pub Entries : Type 0 → Type 0
@@ -19,20 +21,48 @@ cell g row column = option_and_then (λ cells. option_and_then (λ e. e) (slice_
 abbrev pub grid_of : {E : Type 0} → ℕ → ℕ → Entries E → Grid E
 grid_of rows width entries = map (λ row. map (entries row) (range_with_len 0 width)) (range_with_len 0 rows)
 
--- Rows as they stand, one behind another, each of the same width.
+-- each column is below those behind it
+abbrev pub AreRising : {E : Type 0} → List (Cell E) → Type 0
+AreRising cells = AllPairs (λ c d. c.column < d.column) cells
+
+-- the entry of a column, where it is among these
+abbrev pub entry_in : {E : Type 0} → List (Cell E) → ℕ → Option E
+entry_in [] column = None
+entry_in (c ∷ cells) column = if nat_eq column c.column then Some c.entry else entry_in cells column
+
+-- Rows as lists: for each of them its entries with their columns.
 pub record Dense (E : Type 0) : Type 0 where
   pub rows : ℕ
   pub width : ℕ
-  pub cells : List (Option E)
+  pub lists : List (List (Cell E))
+
+abbrev pub dense_of : {E : Type 0} → ℕ → List (Vec (Cell E)) → Dense E
+dense_of width lists = record { rows = length lists; width = width; lists = map (λ cells. cells.items) lists }
 
 -- the entry of a row and a column
 abbrev pub dense_entry : {E : Type 0} → Dense E → Entries E
-dense_entry d row column = if nat_lt column d.width
-    then option_and_then (λ cell. cell) (slice_get d.cells (row * d.width + column)) else None
+dense_entry d row column = option_and_then (λ cells. entry_in cells column) (slice_get d.lists row)
 
--- there are as many cells as rows of the width have
-abbrev pub IsDense : {E : Type 0} → Dense E → Type 0
-IsDense d = length d.cells ≡ d.rows * d.width
+-- There is a list for each row, in which columns rise and are below the width.
+pub record IsDense {E : Type 0} (d : Dense E) : Type 0 where
+  pub rows : length d.lists ≡ d.rows
+  pub rising : All AreRising d.lists
+  pub within : All (All (λ c. c.column < d.width)) d.lists
+
+-- The entries of a row with their columns, which rise, and no others.
+pub record AreCellsOf {E : Type 0} (entries : ℕ → Option E) (cells : List (Cell E)) : Type 0 where
+  pub rising : AreRising cells
+  pub sound : (c : Cell E) → Contains cells c → entries c.column ≡ Some c.entry
+  pub whole : (column : ℕ) (e : E) → entries column ≡ Some e → Contains cells (record { column = column; entry = e })
+
+-- Those of each row, whose columns are below the width.
+pub record AreAllCellsOf {E : Type 0} (entries : Entries E) (rows width : ℕ) (lists : List (Vec (Cell E))) : Type 0
+  where
+    pub count : length lists ≡ rows
+    pub each : (row : ℕ) (cells : Vec (Cell E)) → slice_get lists row ≡ Some cells
+        → AreCellsOf (entries row) cells.items
+    pub within : (row : ℕ) (cells : Vec (Cell E)) → slice_get lists row ≡ Some cells
+        → All (λ c. c.column < width) cells.items
 
 -- A slot that is used: its row, and the entry.
 pub record Used (E : Type 0) : Type 0 where

@@ -2,8 +2,11 @@ ghost use Rattle.std.specs.Prelude.{◌≡◌};
 ghost use Rattle.ly_pack.specs.Combs.{comb_from, slots_from};
 ghost use Rattle.ly_pack.specs.Rows.{IsComb};
 
+use crate::cell::Cell;
+use crate::dense::no_cells;
 use crate::rows::Rows;
-use ly_base::StateNo;
+use ly_base::{OutOfMemory, StateNo};
+use std::alloc::Global;
 use std::marker::Model;
 
 /// A slot that is used.
@@ -95,5 +98,20 @@ impl<E: Copy> Rows<E> for Comb<E> {
         } else {
             None
         }
+    }
+
+    fn cells(&self, alloc: Global) -> Result<Vec<Vec<Cell<E>>>, OutOfMemory> {
+        let mut lists = no_cells(alloc, self.bases.len())?;
+        for (place, slot) in self.slots.iter().enumerate() {
+            if let Some(slot) = slot {
+                let row = slot.row.0 as usize;
+                let Ok(column) = u32::try_from(place - self.bases[row] as usize) else {
+                    return Err(OutOfMemory);
+                };
+                let entry = slot.entry;
+                lists[row].push(Cell { column, entry })?;
+            }
+        }
+        Ok(lists)
     }
 }

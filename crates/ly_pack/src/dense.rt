@@ -1,31 +1,39 @@
-ghost use Rattle.std.specs.Prelude.{◌≡◌, ◌<◌, ◌+◌, ◌*◌, ℕ, nat_eq, ◌&&◌, if◌then◌else◌, None, IfOk};
-ghost use Rattle.ly_pack.specs.Rows.{dense_entry, IsDense};
+ghost use Rattle.std.specs.Prelude.{◌≡◌, ◌≢◌, ◌↔◌, ◌<◌, ◌≤◌, ℕ, [], length, map, replicate, nat_eq, ◌&&◌};
+ghost use Rattle.std.specs.Prelude.{if◌then◌else◌, Some, None, slice_get, All, IfOk, IsTrue, OnOk};
+ghost use Rattle.std.specs.List.Sorted.{IsPartitionPoint};
+ghost use Rattle.ly_pack.specs.Defaults.{is_by};
+ghost use Rattle.ly_pack.specs.Private.Cells.{AreCellsStill};
+ghost use Rattle.ly_pack.specs.Private.Tally.{left_out};
+ghost use Rattle.ly_pack.specs.Rows.{dense_entry, entry_in, AreCellsOf, AreRising, IsDense};
+ghost use Rattle.ly_pack.specs.Values.{action_from};
+ghost use Rattle.ly_pack.specs.declared.cell.Cell.{Cell};
 
+use crate::action::TableAction;
+use crate::cell::Cell;
 use crate::rows::Rows;
-use ly_base::{OutOfMemory, StateNo};
-use std::alloc::Global;
+use ly_base::{OutOfMemory, RuleNo, StateNo};
+use std::alloc::{AllocError, Global};
 use std::marker::Model;
 
-/// Rows as they stand, one behind another.
+/// Rows as lists: for each of them its entries, with their columns, which rise.
 #[derive(Drop)]
 pub struct Dense<E> {
-    /// How many there are.
-    rows: usize,
     /// How many columns each has.
     width: usize,
-    /// The entries, row after row.
-    cells: Vec<Option<E>>,
+    /// The entries of each.
+    lists: Vec<Vec<Cell<E>>>,
 }
 
 impl<E> Model for Dense<E> {
+    ghost use Rattle.std.specs.Prelude.{length, map};
     ghost use Rattle.ly_pack.specs.Rows as value;
-    ghost use Rattle.ly_pack.specs.Rows.{IsDense};
+    ghost use Rattle.ly_pack.specs.Rows.{dense_of, IsDense};
 
     ghost Value = { value.Dense E };
 
-    ghost view = { λ d. record { rows = d.rows; width = d.width; cells = d.cells.items } };
+    ghost view = { λ d. dense_of d.width d.lists.items };
 
-    ghost invariant = { λ d. IsDense (record { rows = d.rows; width = d.width; cells = d.cells.items }) };
+    ghost invariant = { λ d. IsDense (dense_of d.width d.lists.items) };
 }
 
 impl<E: Copy> Dense<E> {
@@ -35,13 +43,9 @@ impl<E: Copy> Dense<E> {
         ensures width { IfOk result (λ d. d.width ≡ width) }
         ensures none { IfOk result (λ d. (row column : ℕ) → dense_entry d row column ≡ None) }
     {
-        let Some(len) = rows.checked_mul(width) else {
-            return Err(OutOfMemory);
-        };
         Ok(Dense {
-            rows,
             width,
-            cells: vec![in alloc; None; len]?,
+            lists: no_cells(alloc, rows)?,
         })
     }
 
@@ -49,7 +53,7 @@ impl<E: Copy> Dense<E> {
     pub fn rows(&self) -> usize
         ensures { result ≡ self.now.rows }
     {
-        self.rows
+        self.lists.len()
     }
 
     /// How many columns each has.
@@ -60,16 +64,110 @@ impl<E: Copy> Dense<E> {
         self.width
     }
 
-    /// Puts an entry, or none, into a row and a column.
-    pub fn set(&mut self, row: StateNo, column: usize, entry: Option<E>)
+    /// The entries of a row, with their columns, which rise.
+    pub fn row(&self, row: StateNo) -> &[Cell<E>]
+        requires { row.0 < self.now.rows }
+        ensures these { AreCellsOf (dense_entry self.now row.0) result.now }
+        ensures within { All (λ c. c.column < self.now.width) result.now }
+    {
+        &self.lists[row.0 as usize]
+    }
+
+    /// Puts an entry, or none, into a row and a column. It fails where memory runs out, and where the column has no
+    /// `u32`.
+    pub fn set(&mut self, row: StateNo, column: usize, entry: Option<E>) -> Result<(), OutOfMemory>
         requires row { row.0 < self.old.rows }
         requires column { column < self.old.width }
         ensures rows { self.new.rows ≡ self.old.rows }
         ensures width { self.new.width ≡ self.old.width }
-        ensures entries { (r c : ℕ) → dense_entry self.new r c
-            ≡ (if nat_eq r row.0 && nat_eq c column then entry else dense_entry self.old r c) }
+        ensures entries { OnOk result ((r c : ℕ) → dense_entry self.new r c
+            ≡ (if nat_eq r row.0 && nat_eq c column then entry else dense_entry self.old r c)) }
     {
-        self.cells[row.0 as usize * self.width + column] = entry;
+        let Ok(column) = u32::try_from(column) else {
+            return Err(OutOfMemory);
+        };
+        Ok(put(&mut self.lists[row.0 as usize], column, entry)?)
+    }
+}
+
+/// A list without a cell for each of so many rows.
+pub(crate) fn no_cells<E: Copy>(alloc: Global, rows: usize) -> Result<Vec<Vec<Cell<E>>>, AllocError>
+    ensures { IfOk result (λ lists. map (λ cells. cells.items) lists.items ≡ replicate rows []) }
+{
+    let mut lists = Vec::with_capacity(alloc, rows)?;
+    for _row in 0..rows {
+        lists.push(Vec::new(alloc))?;
+    }
+    Ok(lists)
+}
+
+/// Puts an entry, or none, into a column of a row.
+fn put<E: Copy>(cells: &mut Vec<Cell<E>>, column: u32, entry: Option<E>) -> Result<(), AllocError>
+    requires { AreRising cells.old.items }
+    ensures kept { AreCellsStill column cells.old.items cells.new.items }
+    ensures entries { OnOk result ((t : ℕ) → entry_in cells.new.items t
+        ≡ (if nat_eq t column then entry else entry_in cells.old.items t)) }
+{
+    let place = place_of(cells, column as usize);
+    if is_at(cells, place, column as usize) {
+        cells.remove(place);
+    }
+    if let Some(entry) = entry {
+        cells.insert(place, Cell { column, entry })?;
+    }
+    Ok(())
+}
+
+/// Where the cell of a column stands, or where it would.
+fn place_of<E: Copy>(cells: &[Cell<E>], column: usize) -> usize
+    requires { AreRising cells.now }
+    ensures within { result ≤ length cells.now }
+    ensures parted { IsPartitionPoint (λ c. c.column < column) (λ c. column ≤ c.column) cells.now result }
+{
+    cells.partition_point(|cell| (cell.column as usize) < column)
+}
+
+/// Whether the cell of a column stands at a place.
+fn is_at<E: Copy>(cells: &[Cell<E>], place: usize, column: usize) -> bool
+    ensures { IsTrue result ↔ ((c : Cell E) × (slice_get cells.now place ≡ Some c) × (c.column ≡ column)) }
+{
+    match cells.get(place) {
+        Some(cell) => cell.column as usize == column,
+        None => false,
+    }
+}
+
+/// The entry of a column, if it is among these.
+fn entry_of<E: Copy>(cells: &[Cell<E>], column: usize) -> Option<E>
+    requires { AreRising cells.now }
+    ensures { result ≡ entry_in cells.now column }
+{
+    let place = place_of(cells, column);
+    if is_at(cells, place, column) {
+        Some(cells[place].entry)
+    } else {
+        None
+    }
+}
+
+/// Takes the reductions by a rule out of a row.
+pub(crate) fn leave_out(actions: &mut Dense<TableAction>, row: StateNo, rule: RuleNo)
+    requires { row.0 < actions.old.rows }
+    ensures rows { actions.new.rows ≡ actions.old.rows }
+    ensures width { actions.new.width ≡ actions.old.width }
+    ensures row { (t : ℕ) → dense_entry actions.new row.0 t ≡ left_out rule.0 (dense_entry actions.old row.0 t) }
+    ensures others { (r t : ℕ) → r ≢ row.0 → dense_entry actions.new r t ≡ dense_entry actions.old r t }
+{
+    actions.lists[row.0 as usize].retain(|cell| !reduces_by(cell.entry, rule));
+}
+
+/// Whether an entry is a reduction by a rule.
+fn reduces_by(entry: TableAction, rule: RuleNo) -> bool
+    ensures { result ≡ is_by rule.0 (Some (action_from entry)) }
+{
+    match entry {
+        TableAction::Reduce(other) => rule == other,
+        _ => false,
     }
 }
 
@@ -83,9 +181,17 @@ impl<E: Copy> Rows<E> for Dense<E> {
     ghost width = { λ d. d.width };
 
     fn entry(&self, row: StateNo, column: usize) -> Option<E> {
-        if self.width <= column || self.rows <= row.0 as usize {
-            return None;
+        match self.lists.get(row.0 as usize) {
+            Some(cells) => entry_of(cells, column),
+            None => None,
         }
-        self.cells[row.0 as usize * self.width + column]
+    }
+
+    fn cells(&self, alloc: Global) -> Result<Vec<Vec<Cell<E>>>, OutOfMemory> {
+        let mut lists = Vec::with_capacity(alloc, self.lists.len())?;
+        for cells in &self.lists {
+            lists.push(Vec::from_slice(alloc, cells)?)?;
+        }
+        Ok(lists)
     }
 }

@@ -12,6 +12,7 @@
 
 mod action;
 mod bit_row;
+mod cell;
 mod comb_rows;
 mod defaults;
 mod dense;
@@ -29,6 +30,7 @@ mod rule;
 mod tally;
 
 pub use action::TableAction;
+pub use cell::Cell;
 pub use comb_rows::{Comb, Slot};
 pub use defaults::choose_defaults;
 pub use dense::Dense;

@@ -1,9 +1,11 @@
 ghost use Rattle.std.specs.Prelude.{◌≡◌};
 ghost use Rattle.ly_pack.specs.Combs.{IsFirstFit};
 
+use crate::cell::Cell;
 use crate::comb_rows::Comb;
 use crate::rows::Rows;
-use ly_base::StateNo;
+use ly_base::{OutOfMemory, StateNo};
+use std::alloc::Global;
 use std::marker::Model;
 
 /// A comb whose rows are placed by first fit.
@@ -62,5 +64,9 @@ impl<E: Copy> Rows<E> for Packed<E> {
 
     fn entry(&self, row: StateNo, column: usize) -> Option<E> {
         self.comb.entry(row, column)
+    }
+
+    fn cells(&self, alloc: Global) -> Result<Vec<Vec<Cell<E>>>, OutOfMemory> {
+        self.comb.cells(alloc)
     }
 }

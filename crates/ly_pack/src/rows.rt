@@ -1,9 +1,11 @@
-ghost use Rattle.std.specs.Prelude.{◌≡◌, ℕ};
-ghost use Rattle.ly_pack.specs.Rows.{Entries};
+ghost use Rattle.std.specs.Prelude.{◌≡◌, ℕ, IfOk};
+ghost use Rattle.ly_pack.specs.Rows.{AreAllCellsOf, Entries};
 
-use ly_base::StateNo;
+use crate::cell::Cell;
+use ly_base::{OutOfMemory, StateNo};
+use std::alloc::Global;
 
-/// Rows of entries, however they are kept. No call takes memory.
+/// Rows of entries, however they are kept.
 pub trait Rows<E> {
     /// The entry of a row and a column, if there is one.
     ghost entries: { Self → Entries E };
@@ -14,7 +16,13 @@ pub trait Rows<E> {
     /// How many columns each row has.
     ghost width: { Self → ℕ };
 
-    /// The entry of a row and a column, if there is one.
+    /// The entry of a row and a column, if there is one. The call takes no memory.
     fn entry(&self, row: StateNo, column: usize) -> Option<E>
         ensures { result ≡ entries self.now row.0 column };
+
+    /// The entries of each row, with their columns, which rise. It fails where memory runs out, and where a column has
+    /// no `u32`.
+    fn cells(&self, alloc: Global) -> Result<Vec<Vec<Cell<E>>>, OutOfMemory>
+        ensures { IfOk result (λ lists. AreAllCellsOf (entries self.now) (rows self.now) (width self.now)
+            lists.items) };
 }

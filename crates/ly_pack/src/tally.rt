@@ -1,43 +1,32 @@
 //! The rule by which most entries of a state reduce. The counts are cleared by going over the state's rules again, so
 //! a state costs no more than its entries.
 ghost use Rattle.std.specs.Prelude.{◌≡◌, ◌≢◌, ◌<◌, ◌≤◌, ℕ, length, slice_index, All, Contains};
-ghost use Rattle.std.specs.Prelude.{MatchOption, OnOk, option_map};
-ghost use Rattle.ly_pack.specs.Private.Tally.{reductions, rule_of, times, IsBestOf, IsBetter, IsChosen};
+ghost use Rattle.std.specs.Prelude.{MatchOption, OnOk};
+ghost use Rattle.ly_pack.specs.Private.Tally.{reductions, times, IsBestOf, IsBetter, IsChosen};
 ghost use Rattle.ly_pack.specs.Rows.{dense_entry};
 
 use crate::action::TableAction;
 use crate::dense::Dense;
-use crate::rows::Rows;
 use ly_base::{RuleNo, StateNo};
 use std::alloc::AllocError;
 
-/// Lists the rules by which a state reduces in the first columns, one for each entry.
+/// Lists the rules by which a state reduces, one for each entry.
 pub(crate) fn list_rules(
     actions: &Dense<TableAction>,
     state: StateNo,
-    columns: usize,
     rules: &mut Vec<u32>,
 ) -> Result<(), AllocError>
+    requires { state.0 < actions.now.rows }
     ensures { OnOk result ((p : ℕ) → times p rules.new.items
-        ≡ reductions (dense_entry actions.now) columns state.0 p) }
+        ≡ reductions (dense_entry actions.now) actions.now.width state.0 p) }
 {
     rules.clear();
-    for column in 0..columns {
-        if let Some(rule) = rule_of(actions.entry(state, column)) {
+    for cell in actions.row(state) {
+        if let TableAction::Reduce(rule) = cell.entry {
             rules.push(rule.0)?;
         }
     }
     Ok(())
-}
-
-/// The rule by which an entry reduces.
-pub(crate) fn rule_of(entry: Option<TableAction>) -> Option<RuleNo>
-    ensures { option_map (λ p. p.0) result ≡ rule_of entry }
-{
-    match entry {
-        Some(TableAction::Reduce(rule)) => Some(rule),
-        _ => None,
-    }
 }
 
 /// The most frequent of the rules, and the least of those. The counts are 0 before and after.

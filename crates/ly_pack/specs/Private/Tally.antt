@@ -6,9 +6,10 @@ use Rattle.std.specs.List.{range_with_len}
 use Rattle.ly_base.specs.declared.numbers.RuleNo.{RuleNo}
 use Rattle.ly_pack.specs.Defaults.{is_by}
 use Rattle.ly_pack.specs.Rows.{Dense, Entries, dense_entry}
-use Rattle.ly_pack.specs.Values.{actions_from}
+use Rattle.ly_pack.specs.Values.{action_from, actions_from}
 use Rattle.ly_pack.specs.declared.action.TableAction as code
 use Rattle.ly_pack.specs.declared.action.TableAction.TheVariants.{Reduce}
+use Rattle.ly_pack.specs.declared.cell.Cell.{Cell}
 
 -- how often a number stands in a list
 abbrev pub times : ℕ → List ℕ → ℕ
@@ -34,10 +35,9 @@ pub record IsBestOf (rules counts : List ℕ) (n p : ℕ) : Type 0 where
   pub most : (j : ℕ) → j < n → (slice_index counts (slice_index rules j) < slice_index counts p)
       ⊎ ((slice_index counts (slice_index rules j) ≡ slice_index counts p) × (p ≤ slice_index rules j))
 
--- the rule by which an entry reduces
-abbrev pub rule_of : Option code.TableAction → Option ℕ
-rule_of (Some (Reduce q)) = Some q.0
-rule_of a = None
+-- how many of these entries reduce by the rule
+abbrev pub cells_by : ℕ → List (Cell code.TableAction) → ℕ
+cells_by p cells = length (filter (λ c. is_by p (Some (action_from c.entry))) cells)
 
 -- an entry, but for a reduction by this rule
 abbrev pub left_out : ℕ → Option code.TableAction → Option code.TableAction

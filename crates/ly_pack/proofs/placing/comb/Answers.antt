@@ -30,5 +30,5 @@ returns-clause-entries g c row column =
     ∙ entries_all (table_of c.args.dense.now) all.order all.ordered c.in_ok-bases.bases.items c.in_ok-bases.slots.items
     all.laid (λ r k out. elim out [
       | inl past ↦ dense_entry-past_row c.args.dense.now c.width-2.ensures.all r k past
-      | inr past ↦ dense_entry-past c.args.dense.now r k past
+      | inr past ↦ dense_entry-past c.args.dense.now c.width-2.ensures.all r k past
     ]) row column

@@ -1,26 +1,30 @@
-use Rattle.std.proofs.Common.{◌≡◌, ◌+◌, ◌∙◌, ℕ, Bool, ap, ap₂, sym, arith}
-use Rattle.std.specs.Prelude.{if◌then◌else◌}
-use Rattle.ly_pack.specs.Private.Tally.{reductions, rule_of, times}
-use Rattle.ly_pack.specs.Rows.{dense_entry}
-use Rattle.ly_pack.proofs.TallyLemmas.{is_by-none, is_by-rule, reductions-more, times-push}
+use Rattle.std.proofs.Common.{◌∙◌, ap, get_or, sym, take}
+use Rattle.std.proofs.lemmas.List.{take_all, take_more}
+use Rattle.ly_pack.specs.Private.Tally.{cells_by, times}
+use Rattle.ly_pack.specs.declared.action.TableAction as code
+use Rattle.ly_pack.specs.declared.action.TableAction.TheVariants.{Shift}
+use Rattle.ly_pack.specs.declared.cell.Cell.{Cell}
+use Rattle.ly_pack.proofs.TallyLemmas.{cells_by-all, cells_by-other, cells_by-rule}
 use Rattle.ly_pack.proofs.tally.list_rules.Goals as goal
-use Rattle.ly_pack.proofs.tally.list_rules.Goals.{in-Some+in_ok-push, in_default}
+use Rattle.ly_pack.proofs.tally.list_rules.Goals.{in-Reduce+in_ok-push, in_default}
 
-plus_none : (n : ℕ) → n ≡ n + 0
-plus_none n = omega arith
-
-pub loop-column-preserved : goal.loop-column-preserved
-loop-column-preserved c p =
-    let entry = dense_entry c.args.actions.now c.args.state.0 c.loop-column.column in
-    elim c.match-rule_of.branch [
-      | in-Some+in_ok-push w ↦ ap (λ v. times p v.items) w.rules-is ∙ ap (times p) w.in_ok-push.ensures.items
-          ∙ times-push p w.in-Some.rule.0 c.loop-column.rules.items
-          ∙ ap₂ (λ (n : ℕ) (b : Bool). n + (if b then 1 else 0)) (c.loop-column.invariant p) (sym (is_by-rule p
-          w.in-Some.rule.0 entry (w.in-Some.ensures ∙ ap rule_of c.entry.ensures)))
-          ∙ sym (reductions-more (dense_entry c.args.actions.now) c.loop-column.column c.args.state.0 p)
-      | in_default w ↦ ap (λ v. times p v.items) w.rules-is ∙ c.loop-column.invariant p
-          ∙ plus_none (reductions (dense_entry c.args.actions.now) c.loop-column.column c.args.state.0 p)
-          ∙ ap (λ (b : Bool). reductions (dense_entry c.args.actions.now) c.loop-column.column c.args.state.0 p
-          + (if b then 1 else 0)) (sym (is_by-none p entry (w.in_default.ensures ∙ ap rule_of c.entry.ensures)))
-          ∙ sym (reductions-more (dense_entry c.args.actions.now) c.loop-column.column c.args.state.0 p)
+pub loop-cell-preserved : goal.loop-cell-preserved
+loop-cell-preserved c p =
+    let none : Cell code.TableAction = record { column = 0; entry = Shift (record { 0 = 0 }) } in
+    let cells = c.row-cell-items.result.now in
+    let k = c.loop-cell.cell-index in
+    let e = get_or cells k none in
+    let more = ap (cells_by p) (sym (take_more cells k none c.loop-cell-test.true)) in
+    elim c.match-cell.branch [
+      | in-Reduce+in_ok-push w ↦ ap (λ v. times p v.items) w.rules-is ∙ ap (times p) w.in_ok-push.ensures.items
+          ∙ cells_by-rule p (take k cells) e w.in-Reduce.rule c.loop-cell.rules.items w.in-Reduce.is
+          (c.loop-cell.invariant p) ∙ more
+      | in_default w ↦ ap (λ v. times p v.items) w.rules-is ∙ c.loop-cell.invariant p
+          ∙ sym (cells_by-other p (take k cells) e w.in_default.not-Reduce) ∙ more
     ]
+
+pub returns : goal.returns
+returns c p = c.loop-cell.invariant p
+    ∙ ap (cells_by p) (take_all c.loop-cell.cell-index c.row-cell-items.result.now c.loop-cell-test.false)
+    ∙ cells_by-all c.args.actions.now c.args.state.0 p c.row-cell-items.result.now c.row-cell-items.ensures.these
+    c.row-cell-items.ensures.within

@@ -1,7 +1,7 @@
-use Rattle.std.proofs.Common.{◌≡◌, ℕ}
-use Rattle.ly_pack.specs.Private.Tally.{reductions, times}
-use Rattle.ly_pack.specs.Rows.{dense_entry}
+use Rattle.std.proofs.Common.{◌≡◌, ℕ, take}
+use Rattle.ly_pack.specs.Private.Tally.{cells_by, times}
 use Rattle.ly_pack.proofs.tally.list_rules.Given as goal
 
-abbrev pub invariant-loop-column : goal.invariant-loop-column
-invariant-loop-column l = (p : ℕ) → times p l.rules.items ≡ reductions (dense_entry l.actions) l.column l.state.0 p
+-- the rules of the cells so far
+abbrev pub invariant-loop-cell : goal.invariant-loop-cell
+invariant-loop-cell l = (p : ℕ) → times p l.rules.items ≡ cells_by p (take l.cell-index l.cell-items)

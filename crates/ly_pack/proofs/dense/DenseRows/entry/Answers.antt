@@ -1,28 +1,32 @@
-use Rattle.std.proofs.Common.{◌∙◌, sym, ap}
-use Rattle.ly_pack.specs.Rows.{dense_entry}
-use Rattle.ly_pack.proofs.DenseLemmas.{dense_entry-past, dense_entry-past_row, dense_entry-read}
+use Rattle.std.proofs.Common.{◌≡◌, ◌∙◌, ◌≤◌, Some, ap, length, refl, slice_get, subst, sym}
+use Rattle.std.proofs.lemmas.Bool.{ltb-true}
+use Rattle.std.proofs.lemmas.Option.{slice_get_read}
+use Rattle.ly_pack.specs.Rows.{AreRising, entry_in}
+use Rattle.ly_pack.proofs.DenseLemmas.{list_entry, list_none, list_rising}
 use Rattle.ly_pack.proofs.dense.DenseRows.entry.Goals as goal
-use Rattle.ly_pack.proofs.dense.DenseRows.entry.Goals.{then-self-column-via-then-self-column}
-use Rattle.ly_pack.proofs.dense.DenseRows.entry.Goals.{then-self-column-via-else-self-column+then-self-row}
 
-pub returns-then-self-column : goal.returns-then-self-column
-returns-then-self-column g c =
-    let shown = ap (λ d. dense_entry d c.args.row.0 c.args.column) c.self.view_is in
-    elim c.then-self-column.branch [
-      | then-self-column-via-then-self-column w ↦ sym (dense_entry-past (record {
-        rows = c.self.inside.rows;
-        width = c.self.inside.width;
-        cells = c.self.inside.cells.items;
-      }) c.args.row.0 c.args.column
-          w.if-self-column.true) ∙ shown
-      | then-self-column-via-else-self-column+then-self-row w ↦ sym (dense_entry-past_row (record {
-        rows = c.self.inside.rows;
-        width = c.self.inside.width;
-        cells = c.self.inside.cells.items;
-      }) c.self.invariant
-          c.args.row.0 c.args.column w.if-self-row.true) ∙ shown
-    ]
+pub entry_of-requires : goal.entry_of-requires
+entry_of-requires g c =
+    let found = c.in-Some.ensures.lookup in
+    let vecs = c.deref.result.now in
+    let at : slice_get c.self.inside.lists.items c.args.row.0 ≡ Some c.in-Some.cells.now
+    = ap (λ ls. slice_get ls c.args.row.0) (sym c.deref.ensures.value) ∙ slice_get_read vecs (length vecs) c.args.row.0
+    c.in-Some.cells.now refl (ltb-true c.args.row.0 (length vecs) (sym found.0)) found.1 in
+    subst AreRising (sym c.deref-in-Some.ensures.value) (list_rising c.self.inside.width c.self.inside.lists.items
+    c.args.self.now c.self.view_is c.self.invariant c.args.row.0 c.in-Some.cells.now at)
 
-pub returns : goal.returns
-returns g c = dense_entry-read _ c.self.invariant c.args.row.0 c.args.column _ c.if-self-row.false
-    c.if-self-column.false c.index.ensures ∙ ap (λ d. dense_entry d c.args.row.0 c.args.column) c.self.view_is
+pub returns-in-Some : goal.returns-in-Some
+returns-in-Some g c =
+    let found = c.in-Some.ensures.lookup in
+    let vecs = c.deref.result.now in
+    let at : slice_get c.self.inside.lists.items c.args.row.0 ≡ Some c.in-Some.cells.now
+    = ap (λ ls. slice_get ls c.args.row.0) (sym c.deref.ensures.value) ∙ slice_get_read vecs (length vecs) c.args.row.0
+    c.in-Some.cells.now refl (ltb-true c.args.row.0 (length vecs) (sym found.0)) found.1 in
+    c.entry_of.ensures ∙ ap (λ cs. entry_in cs c.args.column) c.deref-in-Some.ensures.value
+    ∙ list_entry c.self.inside.width c.self.inside.lists.items c.args.self.now c.self.view_is c.self.invariant
+    c.args.row.0 c.in-Some.cells.now at c.args.column
+
+pub returns-in-None : goal.returns-in-None
+returns-in-None g c = list_none c.self.inside.width c.self.inside.lists.items c.args.self.now c.self.view_is
+    c.self.invariant c.args.row.0
+    (subst (λ ls. length ls ≤ c.args.row.0) c.deref.ensures.value c.in-None.ensures.lookup.3) c.args.column

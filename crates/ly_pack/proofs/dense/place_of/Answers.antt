@@ -1,0 +1,14 @@
+use Rattle.std.proofs.Common.{rules, ◌<◌, ℕ, arith, get_or, inl, inr, nat_lt}
+use Rattle.std.proofs.lemmas.Bool.{cases_lt, ltb-false, ltb-true, lt-ltb}
+use Rattle.std.proofs.lemmas.List.Sorted.{IsPartitionPoint-from_clause}
+use Rattle.ly_pack.proofs.CellLemmas.{rising_parts}
+use Rattle.ly_pack.proofs.dense.place_of.Goals as goal
+
+pub returns-clause-parted : goal.returns-clause-parted
+returns-clause-parted g c =
+    let so = IsPartitionPoint-from_clause (λ x. nat_lt x.column c.args.column) c.args.cells.now
+    c.partition_point.result c.partition_point.ensures.partitioned
+    (rising_parts c.args.cells.now c.args.column c.requires) (λ a r f' k. search rules) in (
+      λ k d from lt. ltb-true (get_or c.args.cells.now k d).column c.args.column (so.0 k d from lt),
+      λ k d from lt. ltb-false (get_or c.args.cells.now k d).column c.args.column (so.1 k d from lt),
+    )
