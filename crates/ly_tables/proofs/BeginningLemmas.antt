@@ -11,7 +11,7 @@ use Rattle.std.proofs.lemmas.List.{length-replicate}
 use Rattle.std.proofs.lemmas.List.Elements.{All-append, All-replicate, All-from_get_or}
 use Rattle.std.proofs.lemmas.Nat.{be_bytes_2, be_bytes_4}
 use Rattle.std.proofs.lemmas.List.Elements.{All-cons, All-head, All-nil, All-tail}
-use Rattle.ly_tables.specs.Private.Parts.{AreBytes, IsByteText, IsBeginning, IsShortText, IsStringText, IsWideText}
+use Rattle.ly_tables.specs.Private.Parts.{AreBytes, IsByteText, IsBeginning, IsNumberText, IsStringText}
 use Rattle.ly_tables.specs.Private.Parts.{Repeated, Spells, Stops, Then}
 use Rattle.ly_tables.specs.RawSet.{Fits, IsByte}
 use Rattle.ly_tables.specs.Spelling.{number}
@@ -100,7 +100,7 @@ small (byte ∷ bytes) all zero = all 0 0 (omega arith)
 small (byte ∷ bytes) all (suc i) = small bytes (λ k d lt. all (suc k) d (omega arith)) i
 
 -- two bytes are a number
-pub short_part : (bytes : List ℕ) → AreBytes 2 bytes → IsShortText bytes
+pub short_part : (bytes : List ℕ) → AreBytes 2 bytes → IsNumberText w16 bytes
 short_part bytes (long, all) = record {
   value = from_be_bytes w16 bytes;
   fit = omega (arith, small bytes all 0, small bytes all 1);
@@ -108,7 +108,7 @@ short_part bytes (long, all) = record {
 }
 
 -- four bytes are a number
-pub wide_part : (bytes : List ℕ) → AreBytes 4 bytes → IsWideText bytes
+pub wide_part : (bytes : List ℕ) → AreBytes 4 bytes → IsNumberText w32 bytes
 wide_part bytes (long, all) = record {
   value = from_be_bytes w32 bytes;
   fit = omega (arith, small bytes all 0, small bytes all 1, small bytes all 2, small bytes all 3);

@@ -1,5 +1,6 @@
 //! Whether a table set is within the ranges of a version.
-ghost use Rattle.std.specs.Prelude.{◌+◌, ◌≤◌, ◌↔◌, All, IsTrue, length};
+ghost use Rattle.std.specs.Prelude.{◌↔◌, All, IsTrue};
+ghost use Rattle.ly_tables.specs.Private.Fitting.{AreCountsWithin};
 ghost use Rattle.ly_tables.specs.Private.Short.{CutFits};
 ghost use Rattle.ly_tables.specs.Ranges.{counts_of, width_of, IsWithinVersion};
 
@@ -19,11 +20,7 @@ pub(crate) fn is_within(set: &TableSet, version: Version) -> bool
 
 /// Whether a set has no more symbols, rules and states than a version.
 fn are_counts_within(set: &TableSet, version: Version) -> bool
-    ensures { IsTrue result ↔ (length set.now.terminals + set.now.nonterminals + 1 ≤ (counts_of version).symbols)
-        × (length set.now.scan_rules ≤ (counts_of version).rules)
-        × (length set.now.accepted ≤ (counts_of version).states)
-        × (length set.now.rules ≤ (counts_of version).rules)
-        × (length set.now.defaults ≤ (counts_of version).states) }
+    ensures { IsTrue result ↔ AreCountsWithin (counts_of version) set.now }
 {
     set.terminals.len() + set.nonterminals < most_symbols(version)
         && set.scan_rules.len() <= most_rules(version)
