@@ -27,6 +27,17 @@ pub some_number_then : (w : Width) {behind : List ℕ → Type 0} (some : IsTher
 some_number_then w some =
     (number w 0 ++ some.0, record { value = 0; rest = some.0; fit = zero_fits w; follows = some.1; is = refl })
 
+-- fields one behind another
+apart_scan_rule : {whole r1 r2 r3 r4 : List ℕ} (a b c d e : List ℕ) → whole ≡ a ++ r1 → r1 ≡ b ++ r2 → r2 ≡ c ++ r3
+    → r3 ≡ d ++ r4 → r4 ≡ e → whole ≡ ((a ++ b) ++ c) ++ (d ++ e)
+apart_scan_rule {whole} a b c d e first second third fourth last =
+    let all : whole ≡ a ++ (b ++ (c ++ (d ++ e))) = cc in all ∙ simp append_assoc
+
+apart_rule : {whole r1 r2 r3 r4 : List ℕ} (a b c d e f : List ℕ) → whole ≡ a ++ r1 → r1 ≡ b ++ r2 → r2 ≡ c ++ r3
+    → r3 ≡ d ++ r4 → r4 ≡ e ++ f → whole ≡ (a ++ ((b ++ c) ++ d)) ++ (e ++ f)
+apart_rule {whole} a b c d e f first second third fourth last =
+    let all : whole ≡ a ++ (b ++ (c ++ (d ++ (e ++ f)))) = cc in all ∙ simp append_assoc
+
 -- a rule of the scanner
 pub scan_rule_part : (w : Width) (whole : List ℕ)
     → ByteThen (NumberThen w (NumberThen w (ByteThen (IsNumberText w)))) whole → IsScanRuleText w whole
@@ -42,7 +53,8 @@ scan_rule_part w whole kind =
         len = len.value;
       };
       fit = record { kind = kind.fit; terminal = terminal.fit; begin = begin.fit; cut = cut.fit; len = len.fit };
-      is = cc;
+      is = apart_scan_rule (single kind.value) (number w terminal.value) (number w begin.value) (single cut.value)
+          (number w len.value) kind.is terminal.is begin.is cut.is len.is;
     }
 
 -- where a condition begins
@@ -108,7 +120,9 @@ rule_part w whole left =
         place_count = omega (arith, count.fit, count.follows.0);
         places = count.follows.1;
       };
-      is = cc;
+      is = apart_rule (number w left.value) (single body_length.value) (single kind.value) (string name.value)
+          (single (length count.rest)) count.rest left.is body_length.is kind.is name.is
+          (count.is ∙ ap (λ n. single n ++ count.rest) (sym count.follows.0));
     }
 
 -- so many numbers of the width

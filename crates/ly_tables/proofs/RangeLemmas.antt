@@ -16,6 +16,8 @@ use Rattle.std.proofs.lemmas.Map.Views.{Contains-from_any}
 use Rattle.std.proofs.lemmas.Option.{slice_get_within, slice_get-get_or}
 use Rattle.ly_base.specs.Shape.{Shape, nil, place, node}
 use Rattle.ly_base.specs.declared.numbers.StateNo.{StateNo}
+use Rattle.ly_base.specs.declared.scan_action.Emitted.{Emitted}
+use Rattle.ly_base.specs.declared.scan_action.Emitted.TheVariants.{Nothing, Terminal, FirstByte}
 use Rattle.ly_base.specs.declared.version.Version.{Version}
 use Rattle.ly_pack.specs.Machine.{TableAction, TableRule, IsLegal, IsRuleNumber, IsRuleWithin, IsShapeFor}
 use Rattle.ly_pack.specs.Machine.{shift, reduce, accept, error}
@@ -24,8 +26,10 @@ use Rattle.ly_pack.specs.Values.{action_from, actions_from, gotos_from}
 use Rattle.ly_pack.specs.declared.action.TableAction as code
 use Rattle.ly_pack.proofs.GridLemmas.{cell-grid_of}
 use Rattle.ly_tables.specs.Private.Found.{zero_fits}
-use Rattle.ly_tables.specs.Private.Short.{IsRuleWritten, IsShapeWritten, IsSlotShort, OptionFits, bound_of}
-use Rattle.ly_tables.specs.Ranges.{AreRows, IsRuleShort, IsShapeShort, IsWithinVersion, counts_of, width_of}
+use Rattle.ly_tables.specs.Private.Short.{AreStartsShort, IsCountable, IsRuleWritten, IsScanRuleShort, IsShapeWritten}
+use Rattle.ly_tables.specs.Private.Short.{IsSlotShort, OptionFits, bound_of}
+use Rattle.ly_tables.specs.Ranges.{AreRows, IsEmittedWithin, IsRuleShort, IsShapeShort, IsWithinVersion, counts_of}
+use Rattle.ly_tables.specs.Ranges.{width_of}
 use Rattle.ly_tables.specs.RawSet.{Fits}
 use Rattle.ly_tables.specs.Spelling.{action_number, check_of, next_of}
 use Rattle.ly_tables.specs.TableSet.{TableSet, machine_of}
@@ -97,6 +101,17 @@ pub check_short : {E : Type 0} (w : Width) (number : E → ℕ) (o : Option (Use
 check_short w number None short = let some = zero_fits w in omega (arith, some)
 check_short w number (Some u) short = short.0
 
+-- an option whose number is below a bound that fits
+option_countable : (w : Width) (bound : ℕ) (o : Option ℕ) → bound < bound_of w → ((p : ℕ) → o ≡ Some p → p < bound)
+    → IsCountable w o
+option_countable w bound None le below = tt
+option_countable w bound (Some p) le below = let lt : p < bound = below p refl in omega (arith, lt, le)
+
+emitted_short : (n m : ℕ) (e : Emitted) → n ≤ m → IsEmittedWithin n e → IsEmittedWithin m e
+emitted_short n m Nothing le within = tt
+emitted_short n m (Terminal t) le within = (within.0, omega (arith, within.1, le))
+emitted_short n m FirstByte le within = tt
+
 -- the slots of rows whose entries' numbers fit
 pub slots_short : {E : Type 0} (w : Width) (number : E → ℕ) (states columns : ℕ) (c : Comb E) → states < bound_of w
     → AreRows states columns c
@@ -138,7 +153,7 @@ module _ (v : Version) (s : TableSet) (r : IsWithinVersion v s) where
 
   pub few_conditions : length s.conditions < bound_of (width_of v)
   few_conditions =
-      let facts = of_version v in omega (arith, facts.half, facts.quarter, facts.conditions, r.condition_count)
+      let facts = of_version v in omega (arith, facts.half, facts.quarter, facts.conditions, facts.classes, r.condition_count)
 
   pub few_classes : s.class_count < bound_of (width_of v)
   few_classes = let facts = of_version v in omega (arith, facts.half, facts.quarter, facts.classes, r.class_count)
@@ -205,3 +220,28 @@ module _ (v : Version) (s : TableSet) (r : IsWithinVersion v s) where
   pub scan_rows_short : All (IsSlotShort (width_of v) (λ (n : StateNo). n.0)) s.scan_rows.slots
   scan_rows_short = slots_short (width_of v) (λ (n : StateNo). n.0) (length s.accepted) s.class_count s.scan_rows
       few_scan_states r.scan_rows (λ k u at. omega (arith, r.scan_targets k u at, few_scan_states))
+
+  pub names_short : All (λ name. length name < 65536) s.terminals
+  names_short = λ k d lt. omega (arith, (r.names k d lt).0.1)
+
+  pub literals_short : All (Fits (width_of v)) s.literals
+  literals_short = λ k d lt. omega (arith, (r.literals k d lt).1, few_symbols)
+
+  pub scan_rules_short : All (IsScanRuleShort (width_of v)) s.scan_rules
+  scan_rules_short = λ k d lt. let at = r.scan_rules k d lt in
+      record {
+        emits = emitted_short (length s.terminals) (bound_of (width_of v)) _ (omega (arith, few_symbols)) at.emits;
+        begin = λ c e. omega (arith, at.begin c e, few_conditions);
+        cut = at.cut;
+      }
+
+  pub conditions_short : All (AreStartsShort (width_of v)) s.conditions
+  conditions_short = λ k d lt. let at = r.conditions k d lt in
+      record {
+        elsewhere = λ n e. omega (arith, at.elsewhere n e, few_scan_states);
+        at_line = λ n e. omega (arith, at.at_line n e, few_scan_states);
+      }
+
+  pub accepted_short : All (IsCountable (width_of v)) s.accepted
+  accepted_short = λ k d lt. option_countable (width_of v) (length s.scan_rules) _ few_scan_rules
+      (λ p e. r.accepted k p (slice_get-get_or s.accepted k d lt ∙ ap Some e))

@@ -1,5 +1,5 @@
 -- What is read of a table file.
-use Rattle.std.proofs.Common.{◌≡◌, ◌∙◌, ℕ, List, ap, sym}
+use Rattle.std.proofs.Common.{◌≡◌, ◌∙◌, ℕ, List, Result, Ok, Err, IfErr, IsErrAnd, ap, subst, sym}
 use Rattle.ly_base.specs.declared.version.Version.{Version}
 use Rattle.ly_tables.specs.Private.Refused.{IsUnsteady}
 use Rattle.ly_tables.specs.Ranges.{IsWithinVersion, number_of, width_of}
@@ -30,3 +30,11 @@ refused_unsteady v bytes s text BadVersion said = absurd said
 refused_unsteady v bytes s text Truncated said = absurd said
 refused_unsteady v bytes s text Trailing said = absurd said
 refused_unsteady v bytes s text (OutOfRange section) said = absurd said
+
+-- and so it is where the fault is handed on
+pub handed_unsteady : {T : Type 0} (v : Version) (bytes : List ℕ) (s : TableSet) → TableText bytes v s
+    → (result : Result T TableFault) (fault : TableFault) → IsErrAnd result (λ other. other ≡ fault)
+    → IsUnsteady (machine_of s) fault → IfErr result (IsRefusedAs bytes)
+handed_unsteady v bytes s text (Ok x) fault same said = tt
+handed_unsteady {T} v bytes s text (Err other) fault same said =
+    subst (IsRefusedAs bytes) (sym same) (refused_unsteady v bytes s text fault said)

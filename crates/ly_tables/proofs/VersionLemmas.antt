@@ -1,5 +1,5 @@
 -- Table sets within the ranges of one version and of another.
-use Rattle.std.proofs.Common.{◌≤◌, ℕ, arith}
+use Rattle.std.proofs.Common.{◌≡◌, arith, refl}
 use Rattle.std.specs.Int.{Width, w16, w32}
 use Rattle.ly_base.specs.declared.cut.Cut.{Cut}
 use Rattle.ly_base.specs.declared.cut.Cut.TheVariants.{Whole, Head, Tail}
@@ -9,6 +9,7 @@ use Rattle.ly_tables.specs.Private.Fitting.{AreCountsWithin, DoCutsFit}
 use Rattle.ly_tables.specs.Private.Short.{CutFits}
 use Rattle.ly_tables.specs.Ranges.{IsCutWithin, IsWithinVersion, counts_of, width_of}
 use Rattle.ly_tables.specs.TableSet.{TableSet}
+use Rattle.ly_tables.proofs.WidthLemmas.{of_version}
 
 -- a cut that is within one width, and whose length is a number of another
 cut_in : (w u : Width) (c : Cut) → IsCutWithin w c → CutFits u c → IsCutWithin u c
@@ -20,13 +21,6 @@ cut_fits : (w : Width) (c : Cut) → IsCutWithin w c → CutFits w c
 cut_fits w Whole within = tt
 cut_fits w (Head n) within = within.1
 cut_fits w (Tail n) within = within
-
--- as many conditions may be in each version
-few_conditions : (v u : Version) (n : ℕ) → n ≤ (counts_of v).conditions → n ≤ (counts_of u).conditions
-few_conditions V1 V1 n few = few
-few_conditions V1 V2 n few = few
-few_conditions V2 V1 n few = few
-few_conditions V2 V2 n few = few
 
 -- a set is within another version whose counts and numbers suffice
 pub within_in : (v u : Version) (s : TableSet) → IsWithinVersion v s → AreCountsWithin (counts_of u) s
@@ -44,7 +38,7 @@ within_in v u s r counts cuts = record {
   scan_rules = λ k d lt. let at = r.scan_rules k d lt in
       record { emits = at.emits; begin = at.begin; cut = cut_in (width_of v) (width_of u) _ at.cut (cuts k d lt) };
   some_condition = r.some_condition;
-  condition_count = few_conditions v u _ r.condition_count;
+  condition_count = omega (arith, r.condition_count, (of_version v).conditions, (of_version u).conditions);
   conditions = r.conditions;
   some_class = r.some_class;
   class_count = r.class_count;
@@ -92,3 +86,9 @@ within_2 V1 s r =
       states = omega (arith, r.state_count);
     } (λ k d lt. wider _ (cuts_within V1 s r k d lt))
 within_2 V2 s r = r
+
+-- a set of version 2 that is beyond a version is beyond version 1
+pub beyond : (v : Version) (s : TableSet) → IsWithinVersion V2 s → (IsWithinVersion v s → ⊥)
+    → (v ≡ V1) × (IsWithinVersion V1 s → ⊥)
+beyond V1 s r out = (refl, out)
+beyond V2 s r out = absurd (out r)

@@ -13,7 +13,7 @@ pub record AreOfVersion (w : Width) (counts : Counts) : Type 0 where
   pub quarter : least_reduction w + least_reduction w ≡ least_shift w
   pub symbols : counts.symbols < least_reduction w
   pub rules : counts.rules < least_reduction w
-  pub conditions : counts.conditions < least_reduction w
+  pub conditions : counts.conditions ≡ 255
   pub states : counts.states < least_reduction w
   pub classes : 256 < least_reduction w
 
@@ -23,7 +23,7 @@ of_version V1 = record {
   quarter = refl;
   symbols = omega arith;
   rules = omega arith;
-  conditions = omega arith;
+  conditions = refl;
   states = omega arith;
   classes = omega arith;
 }
@@ -32,7 +32,7 @@ of_version V2 = record {
   quarter = refl;
   symbols = omega arith;
   rules = omega arith;
-  conditions = omega arith;
+  conditions = refl;
   states = omega arith;
   classes = omega arith;
 }

@@ -1,5 +1,6 @@
 //! Whether a table set is within the ranges of a version.
 ghost use Rattle.std.specs.Prelude.{◌↔◌, All, IsTrue};
+ghost use Rattle.ly_base.specs.declared.version.Version.TheVariants.{V2};
 ghost use Rattle.ly_tables.specs.Private.Fitting.{AreCountsWithin};
 ghost use Rattle.ly_tables.specs.Private.Short.{CutFits};
 ghost use Rattle.ly_tables.specs.Ranges.{counts_of, width_of, IsWithinVersion};
@@ -13,7 +14,8 @@ use ly_base::{Cut, Version};
 /// Whether a set is within the ranges of a version. All that its type keeps is the same in each, but for the greatest
 /// counts, and the lengths of cuts.
 pub(crate) fn is_within(set: &TableSet, version: Version) -> bool
-    ensures { IsTrue result ↔ IsWithinVersion version set.now }
+    ensures within { IsTrue result ↔ IsWithinVersion version set.now }
+    ensures kept { IsWithinVersion V2 set.now }
 {
     are_counts_within(set, version) && are_cuts_within(&set.scan_rules, version)
 }

@@ -10,23 +10,25 @@ use Rattle.ly_tables.specs.Spelling.{action_number, comb, parser_sections}
 use Rattle.ly_tables.specs.TableSet.{TableSet}
 use Rattle.ly_tables.proofs.JoinLemmas.{parser_joined}
 use Rattle.ly_tables.proofs.RangeLemmas.{actions_short, defaults_short, gotos_short, rules_written}
-use Rattle.ly_tables.specs.Ranges.{width_of}
+use Rattle.ly_tables.specs.Ranges.{IsWithinVersion, width_of}
 use Rattle.ly_tables.proofs.parser_part.push_parser.Goals as goal
 
 pub push_rules-requires-clause-short : goal.push_rules-requires-clause-short
 push_rules-requires-clause-short c = subst (λ (rules : List code.TableRule). All (IsRuleWritten (width_of c.args.version)) (map rule_from rules))
-    (sym c.deref.ensures.value) (rules_written c.args.version _ c.requires)
+    (sym c.deref.ensures.value) (rules_written c.args.version _ (subst (IsWithinVersion c.args.version) (sym c.set.view_is) c.requires))
 
 pub push_defaults-requires-clause-short : goal.push_defaults-requires-clause-short
 push_defaults-requires-clause-short c = subst (λ (defaults : List (Option RuleNo)).
     All (OptionFits (width_of c.args.version)) (map (option_map (λ p. p.0)) defaults)) (sym c.deref-2.ensures.value)
-    (defaults_short c.args.version _ c.requires)
+    (defaults_short c.args.version _ (subst (IsWithinVersion c.args.version) (sym c.set.view_is) c.requires))
 
 pub push_comb-requires-clause-slots : goal.push_comb-requires-clause-slots
-push_comb-requires-clause-slots c = actions_short c.args.version _ c.requires
+push_comb-requires-clause-slots c = actions_short c.args.version _
+    (subst (IsWithinVersion c.args.version) (sym c.set.view_is) c.requires)
 
 pub push_comb-requires-2-clause-slots : goal.push_comb-requires-2-clause-slots
-push_comb-requires-2-clause-slots c = gotos_short c.args.version _ c.requires
+push_comb-requires-2-clause-slots c = gotos_short c.args.version _
+    (subst (IsWithinVersion c.args.version) (sym c.set.view_is) c.requires)
 
 pub returns : goal.returns
 returns c =
