@@ -2,7 +2,7 @@
 use Rattle.std.proofs.Common.{◌≡◌, ◌∙◌, ◌++◌, ◌<◌, ◌≤◌, ◌+◌, ◌-◌, inl, inr, ℕ, List, []}
 use Rattle.std.proofs.Common.{◌∷◌, length, map, refl, sym, ap}
 use Rattle.std.proofs.Common.{subst, arith, All, Option, Some, None, slice_get, nat_eq}
-use Rattle.std.proofs.Common.{nat_lt, lt-ltb, true, false, codes}
+use Rattle.std.proofs.Common.{true, false, codes}
 use Rattle.std.proofs.Common.{append_assoc, take}
 use Rattle.std.specs.Int.{Width, w16, to_be_bytes}
 use Rattle.std.specs.List.{zip}

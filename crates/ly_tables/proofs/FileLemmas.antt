@@ -14,7 +14,7 @@ use Rattle.ly_tables.specs.Private.Parts.{IsBeginning, Stops, Then}
 use Rattle.ly_tables.specs.Private.RawParts.{DoSymbolsFit, DoesParserFit, DoesScannerFit, IsParserText, together}
 use Rattle.ly_tables.specs.Ranges.{number_of, width_of}
 use Rattle.ly_tables.specs.RawSet.{IsByte, RuleFits, ScanRuleFits, raw_rule, raw_scan_rule}
-use Rattle.ly_tables.specs.RawSet.{IsRawSet, RawSet, raw_parser_sections, raw_scanner_sections, raw_spelling}
+use Rattle.ly_tables.specs.RawSet.{IsRawSet, RawSet, raw_parser_sections, raw_scanner_sections}
 use Rattle.ly_tables.specs.RawSet.{raw_symbol_sections}
 use Rattle.ly_tables.specs.Reading.{IsTruncated, raw_file}
 use Rattle.ly_tables.specs.Refusal.{IsRefusedAs}

@@ -36,7 +36,6 @@ use Rattle.ly_tables.specs.TableSet.{TableSet, machine_of}
 use Rattle.ly_tables.proofs.RangeLemmas.{actions_short, check_short, few_classes, few_conditions, few_places, few_rules}
 use Rattle.ly_tables.proofs.RangeLemmas.{few_scan_rules, few_scan_states, few_states, few_symbols, gotos_short}
 use Rattle.ly_tables.proofs.RangeLemmas.{next_short, scan_rows_short, used_goto, used_legal}
-use Rattle.ly_tables.proofs.WidthLemmas.{of_version}
 
 emitted_raw : (terminals : ℕ) (e : Emitted) → IsEmittedWithin terminals e → (kind_of e ≤ 2)
     × (kind_of e ≡ 1 → (1 ≤ terminal_of e) × (terminal_of e < terminals)) × (kind_of e ≢ 1 → terminal_of e ≡ 0)

@@ -28,7 +28,7 @@ use Rattle.ly_pack.proofs.GridLemmas.{cell-grid_of}
 use Rattle.ly_tables.specs.Private.Found.{zero_fits}
 use Rattle.ly_tables.specs.Private.Short.{AreStartsShort, IsCountable, IsRuleWritten, IsScanRuleShort, IsShapeWritten}
 use Rattle.ly_tables.specs.Private.Short.{IsSlotShort, OptionFits, bound_of}
-use Rattle.ly_tables.specs.Ranges.{AreRows, IsEmittedWithin, IsRuleShort, IsShapeShort, IsWithinVersion, counts_of}
+use Rattle.ly_tables.specs.Ranges.{AreRows, IsEmittedWithin, IsRuleShort, IsShapeShort, IsWithinVersion}
 use Rattle.ly_tables.specs.Ranges.{width_of}
 use Rattle.ly_tables.specs.RawSet.{Fits}
 use Rattle.ly_tables.specs.Spelling.{action_number, check_of, next_of}

@@ -1,5 +1,5 @@
 -- What of a table set is not the same in each version.
-use Rattle.std.specs.Prelude.{ℕ, ◌+◌, ◌≤◌, All, length}
+use Rattle.std.specs.Prelude.{◌+◌, ◌≤◌, All, length}
 use Rattle.std.specs.Int.{Width}
 use Rattle.ly_tables.specs.Private.Short.{CutFits}
 use Rattle.ly_tables.specs.Ranges.{Counts}
