@@ -1,75 +1,73 @@
--- The entries of a state, as they are listed.
-use Rattle.std.proofs.Common.{◌≡◌, ◌⊎◌, inl, inr, ℕ, zero, suc, ◌+◌, ◌<◌, ◌≤◌, List, [], ◌∷◌, ◌++◌, length, Contains}
-use Rattle.std.proofs.Common.{None, Some, ap, arith, refl, slice_get, subst, sym, ◌∙◌}
-use Rattle.std.proofs.lemmas.Bool.{cases_lt}
-use Rattle.std.proofs.lemmas.List.Elements.{Contains-append_cases, Contains-append_left, Contains-append_right}
-use Rattle.ly_base.proofs.MemberLemmas.{Contains-first, Contains-one}
-use Rattle.ly_pack.specs.Machine.{Machine, TableAction, entry_at}
-use Rattle.ly_pack.specs.Values.{action_from}
+-- The entries and the gotos of states, as rows list them.
+use Rattle.std.proofs.Common.{◌≡◌, ◌∙◌, ◌<◌, ℕ, List, Some, ap, arith, refl, sym}
+use Rattle.std.specs.Prelude.{option_map}
+use Rattle.std.specs.Global.{Vec}
+use Rattle.std.proofs.lemmas.List.Elements.{All-contains}
+use Rattle.std.proofs.lemmas.Option.{slice_get_within}
+use Rattle.ly_base.proofs.ListLemmas.{option_map-some}
+use Rattle.ly_base.specs.declared.numbers.StateNo.{StateNo}
+use Rattle.ly_pack.specs.Machine.{Machine, states_of}
+use Rattle.ly_pack.specs.Rows.{AreAllCellsOf, Entries, cell, grid_of}
+use Rattle.ly_pack.specs.Values.{action_from, actions_from, gotos_from}
+use Rattle.ly_pack.specs.declared.action.TableAction as code
 use Rattle.ly_pack.specs.declared.action.TableAction.TheVariants.{Shift}
-use Rattle.ly_loop.specs.declared.entries.Entry.{Entry}
+use Rattle.ly_pack.specs.declared.cell.Cell.{Cell}
+use Rattle.ly_pack.proofs.GridLemmas.{cell-grid_of, cell-grid_of_some}
+use Rattle.ly_loop.specs.Private.Entries.{AreAllEntries, AreAllGotos}
 
--- The entries of a state before the first terminals.
-pub record AreEntriesBelow (m : Machine) (state n : ℕ) (row : List Entry) : Type 0 where
-  pub sound : (e : Entry) → Contains row e
-      → (e.terminal.0 < m.terminals) × (entry_at m state e.terminal.0 ≡ Some (action_from e.action))
-  pub whole : (t : ℕ) (a : TableAction) → t < n → entry_at m state t ≡ Some a
-      → (e : Entry) × Contains row e × (e.terminal.0 ≡ t) × (action_from e.action ≡ a)
-
-pub entries_push : (m : Machine) (state n : ℕ) (row : List Entry) (e : Entry) → AreEntriesBelow m state n row
-    → e.terminal.0 ≡ n → n < m.terminals → Some (action_from e.action) ≡ entry_at m state n
-    → AreEntriesBelow m state (n + 1) (row ++ e ∷ [])
-entries_push m state n row e was at known is = record {
-  sound = sound;
-  whole = λ t a lt some. whole t a some (cases_lt t n)
-      lt;
+pub entries_are : (m : Machine) (entries : Entries code.TableAction) (rows width : ℕ)
+    (lists : List (Vec (Cell code.TableAction)))
+    → m.actions ≡ grid_of (states_of m) m.terminals (actions_from entries) → rows ≡ states_of m → width ≡ m.terminals
+    → AreAllCellsOf entries rows width lists → AreAllEntries m lists
+entries_are m entries rows width lists grid many wide so = record {
+  count = so.count ∙ many;
+  each = λ state row at.
+      let row_lt = slice_get_within lists state row at in
+      let small : state < states_of m = omega (arith, row_lt, so.count, many) in
+      record {
+        sound = λ e has.
+            let lt = All-contains (λ (c : Cell code.TableAction). c.column < width) row.items e (so.within state row at)
+            has in
+            let column : e.column < m.terminals = omega (arith, lt, wide) in (
+              column,
+              ap (λ g. cell g state e.column) grid
+                  ∙ cell-grid_of (states_of m) m.terminals (actions_from entries) state e.column small column
+                  ∙ ap (option_map action_from) ((so.each state row at).sound e has),
+            );
+        whole = λ t a is.
+            let found = cell-grid_of_some (states_of m) m.terminals (actions_from entries) state t a
+            (sym (ap (λ g. cell g state t) grid) ∙ is) in
+            let e = option_map-some action_from (entries state t) a found.2 in
+            (record { column = t; entry = e.0 }, (so.each state row at).whole t e.0 e.1, refl, e.2);
+      };
 }
-  where
-    here : (e.terminal.0 < m.terminals) × (entry_at m state e.terminal.0 ≡ Some (action_from e.action))
-    here = (omega arith, ap (entry_at m state) at ∙ sym is)
 
-    sound : (x : Entry) → Contains (row ++ e ∷ []) x
-        → (x.terminal.0 < m.terminals) × (entry_at m state x.terminal.0 ≡ Some (action_from x.action))
-    sound x h = elim (Contains-append_cases row (e ∷ []) x h) [
-      | inl old ↦ was.sound x old
-      | inr new ↦ subst (λ y. (y.terminal.0 < m.terminals)
-          × (entry_at m state y.terminal.0 ≡ Some (action_from y.action))) (Contains-one e x new) here
-    ]
-
-    whole : (t : ℕ) (a : TableAction) → entry_at m state t ≡ Some a → (t < n) ⊎ (n ≤ t) → t < n + 1
-        → (x : Entry) × Contains (row ++ e ∷ []) x × (x.terminal.0 ≡ t) × (action_from x.action ≡ a)
-    whole t a some (inl less) lt =
-        let x = was.whole t a less some in (x.0, Contains-append_left row (e ∷ []) x.0 x.1, x.2, x.3)
-    whole t a some (inr more) lt =
-        let same : n ≡ t = omega arith in
-        let both : Some (action_from e.action) ≡ Some a = is ∙ (ap (entry_at m state) same ∙ some) in
-        (e, Contains-append_right row (e ∷ []) e (Contains-first e []), at ∙ same, cc)
-
-pub entries_skip : (m : Machine) (state n : ℕ) (row : List Entry) → AreEntriesBelow m state n row
-    → None ≡ entry_at m state n → AreEntriesBelow m state (n + 1) row
-entries_skip m state n row was none = record {
-  sound = was.sound;
-  whole = λ t a lt some. whole t a some (cases_lt t n) lt;
+pub gotos_are : (m : Machine) (entries : Entries StateNo) (rows width : ℕ) (lists : List (Vec (Cell StateNo)))
+    → m.gotos ≡ grid_of (states_of m) m.nonterminals (gotos_from entries) → rows ≡ states_of m
+    → width ≡ m.nonterminals → AreAllCellsOf entries rows width lists → AreAllGotos m lists
+gotos_are m entries rows width lists grid many wide so = record {
+  count = so.count ∙ many;
+  each = λ state row at.
+      let row_lt = slice_get_within lists state row at in
+      let small : state < states_of m = omega (arith, row_lt, so.count, many) in
+      record {
+        sound = λ e has.
+            let lt = All-contains (λ (c : Cell StateNo). c.column < width) row.items e (so.within state row at) has in
+            ap (λ g. cell g state e.column) grid
+            ∙ cell-grid_of (states_of m) m.nonterminals (gotos_from entries) state e.column small
+            (omega (arith, lt, wide))
+            ∙ ap (option_map (λ (s : StateNo). s.0)) ((so.each state row at).sound e has);
+        whole = λ left next is.
+            let found = cell-grid_of_some (states_of m) m.nonterminals (gotos_from entries) state left next
+            (sym (ap (λ g. cell g state left) grid) ∙ is) in
+            let e = option_map-some (λ (s : StateNo). s.0) (entries state left) next found.2 in
+            (record { column = left; entry = e.0 }, (so.each state row at).whole left e.0 e.1, e.2);
+      };
 }
-  where
-    whole : (t : ℕ) (a : TableAction) → entry_at m state t ≡ Some a → (t < n) ⊎ (n ≤ t) → t < n + 1
-        → (x : Entry) × Contains row x × (x.terminal.0 ≡ t) × (action_from x.action ≡ a)
-    whole t a some (inl less) lt = was.whole t a less some
-    whole t a some (inr more) lt =
-        let same : n ≡ t = omega arith in
-        absurd (let both : None ≡ Some a = none ∙ (ap (entry_at m state) same ∙ some) in cc)
-
--- a list with one more behind its last
-pub slice_get_push : {X : Type 0} (xs : List X) (x : X) (k : ℕ) (y : X) → slice_get (xs ++ x ∷ []) k ≡ Some y
-    → (slice_get xs k ≡ Some y) ⊎ ((k ≡ length xs) × (x ≡ y))
-slice_get_push [] x zero y e = inr (refl, cc)
-slice_get_push [] x (suc k) y e = absurd (cc)
-slice_get_push (z ∷ xs) x zero y e = inl e
-slice_get_push (z ∷ xs) x (suc k) y e = elim (slice_get_push xs x k y e) [
-  | inl old ↦ inl old
-  | inr new ↦ inr (ap suc new.0, new.1)
-]
 
 -- what indexing gives past the end
-abbrev pub no_entry : Entry
-no_entry = record { terminal = record { 0 = 0 }; action = Shift (record { 0 = 0 }) }
+abbrev pub no_entry : Cell code.TableAction
+no_entry = record { column = 0; entry = Shift (record { 0 = 0 }) }
+
+abbrev pub no_goto : Cell StateNo
+no_goto = record { column = 0; entry = record { 0 = 0 } }

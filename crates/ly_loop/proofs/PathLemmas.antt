@@ -24,7 +24,8 @@ use Rattle.ly_pack.proofs.Runs.{one_more}
 use Rattle.ly_loop.specs.Private.Entries.{AreAllEntries, AreEntries}
 use Rattle.ly_loop.specs.Private.Path.{AllEnd, AreActions, AreSettled, IsOnward, has_left}
 use Rattle.ly_loop.specs.Private.Run.{AreStates, stack_of}
-use Rattle.ly_loop.specs.declared.entries.Entry.{Entry}
+use Rattle.ly_pack.specs.declared.action.TableAction as code
+use Rattle.ly_pack.specs.declared.cell.Cell.{Cell}
 use Rattle.ly_loop.proofs.RunLemmas.{ended, move_by, stack_top, top_known}
 
 left_from : (left : List ℕ) (t : ℕ) → Contains left t → has_left left t ≡ true
@@ -62,25 +63,25 @@ settled_none m stack bound left = record {
   own = λ e h. absurd (omega (arith, h.1));
 }
 
-pub settled_more : (m : Machine) (stack : List ℕ) (bound : ℕ) (entries : List Entry) (old left : List ℕ) (e : Entry)
+pub settled_more : (m : Machine) (stack : List ℕ) (bound : ℕ) (entries : List (Cell code.TableAction)) (old left : List ℕ) (e : Cell code.TableAction)
     → AreSettled m stack bound entries old left
-    → (has_left left e.terminal.0 ≡ true) ⊎ EndsWithin m e.terminal.0 stack bound
-    → AreSettled m stack bound (entries ++ e ∷ []) old (with_member left e.terminal.0)
+    → (has_left left e.column ≡ true) ⊎ EndsWithin m e.column stack bound
+    → AreSettled m stack bound (entries ++ e ∷ []) old (with_member left e.column)
 settled_more m stack bound entries old left e was end = record {
-  kept = λ t h. left_kept left e.terminal.0 t (was.kept t h);
-  ended = λ t h. elim (left_cases left e.terminal.0 t h) [
+  kept = λ t h. left_kept left e.column t (was.kept t h);
+  ended = λ t h. elim (left_cases left e.column t h) [
     | inl before ↦ was.ended t before
     | inr same ↦ subst (λ n. (has_left old n ≡ true) ⊎ EndsWithin m n stack bound) same now
   ];
   own = λ x h. elim (Contains-push_cases entries e x h) [
-    | inl before ↦ left_kept left e.terminal.0 x.terminal.0 (was.own x before)
-    | inr same ↦ subst (λ (y : Entry). has_left (with_member left e.terminal.0) y.terminal.0 ≡ true) same
-        (left_new left e.terminal.0)
+    | inl before ↦ left_kept left e.column x.column (was.own x before)
+    | inr same ↦ subst (λ (y : Cell code.TableAction). has_left (with_member left e.column) y.column ≡ true) same
+        (left_new left e.column)
   ];
 }
   where
-    now : (has_left old e.terminal.0 ≡ true) ⊎ EndsWithin m e.terminal.0 stack bound
-    now = elim end [ inl before ↦ was.ended e.terminal.0 before | inr r ↦ inr r ]
+    now : (has_left old e.column ≡ true) ⊎ EndsWithin m e.column stack bound
+    now = elim end [ inl before ↦ was.ended e.column before | inr r ↦ inr r ]
 
 -- as many terminals as there are have left: all have
 pub all_left : (left : List ℕ) (n t : ℕ) → All (λ k. k < n) left → AllPairs (λ j k. j ≢ k) left → length left ≡ n
@@ -101,7 +102,7 @@ all_left left n t within once count lt = elim (cases_Bool (has_left left t)) [
     below q (inr same) = omega arith
 
 -- what a terminal that stays does: it has no entry
-pub stays : (m : Machine) (top t : ℕ) (entries : List Entry) (stack : List ℕ) (bound : ℕ) (old left : List ℕ)
+pub stays : (m : Machine) (top t : ℕ) (entries : List (Cell code.TableAction)) (stack : List ℕ) (bound : ℕ) (old left : List ℕ)
     → AreEntries m top entries → AreSettled m stack bound entries old left → has_left left t ≡ false
     → action_of m top t ≡ or_default None (slice_get m.defaults top)
 stays m top t entries stack bound old left all settled not = by_entry (entry_at m top t) refl
@@ -114,7 +115,7 @@ stays m top t entries stack bound old left all settled not = by_entry (entry_at 
         absurd (let yes : has_left left t ≡ true = subst (λ n. has_left left n ≡ true) e.2 (settled.own e.0 e.1) in cc)
 
 -- a terminal that stays hadn't left before
-pub stayed : (m : Machine) (t : ℕ) (entries : List Entry) (stack : List ℕ) (bound : ℕ) (old left : List ℕ)
+pub stayed : (m : Machine) (t : ℕ) (entries : List (Cell code.TableAction)) (stack : List ℕ) (bound : ℕ) (old left : List ℕ)
     → AreSettled m stack bound entries old left → has_left left t ≡ false → has_left old t ≡ false
 stayed m t entries stack bound old left settled not = elim (cases_Bool (has_left old t)) [
   | inl has ↦ absurd (let kept = settled.kept t has in cc)
@@ -127,7 +128,7 @@ pub ends_here : (m : Machine) (t : ℕ) (stack : List ℕ) (bound : ℕ) → (e 
 ends_here m t stack bound stop = ended m t stack stack 0 bound here (omega arith) stop
 
 -- where each terminal has left, or its run ends
-pub all_ended : (m : Machine) (stack : List ℕ) (bound : ℕ) (entries : List Entry) (old left : List ℕ)
+pub all_ended : (m : Machine) (stack : List ℕ) (bound : ℕ) (entries : List (Cell code.TableAction)) (old left : List ℕ)
     → AreSettled m stack bound entries old left
     → ((t : ℕ) → t < m.terminals → has_left left t ≡ false → EndsWithin m t stack bound) → (t : ℕ) → t < m.terminals
     → (has_left old t ≡ true) ⊎ EndsWithin m t stack bound
@@ -136,14 +137,14 @@ all_ended m stack bound entries old left settled end t known = elim (cases_Bool 
   | inr not ↦ inr (end t known not)
 ]
 
-pub row_at : (m : Machine) (rows : List (Vec Entry)) (k : ℕ) (row : Vec Entry) → AreAllEntries m rows
+pub row_at : (m : Machine) (rows : List (Vec (Cell code.TableAction))) (k : ℕ) (row : Vec (Cell code.TableAction)) → AreAllEntries m rows
     → k < states_of m → row ≡ get_or rows k row → AreEntries m k row.items
 row_at m rows k row all lt is =
     all.each k row (slice_get_read rows (length rows) k row refl (omega (arith, all.count)) is)
 
 -- The entries of the state on top of a stack.
-module _ (m : Machine) (rows : List (Vec Entry)) (xs : List StateNo) (top : StateNo) (row : Vec Entry)
-    (entries : List Entry) (all : AreAllEntries m rows) (states : AreStates m xs)
+module _ (m : Machine) (rows : List (Vec (Cell code.TableAction))) (xs : List StateNo) (top : StateNo) (row : Vec (Cell code.TableAction))
+    (entries : List (Cell code.TableAction)) (all : AreAllEntries m rows) (states : AreStates m xs)
     (last : Some top ≡ slice_get xs (length xs - 1)) (is : row ≡ get_or rows top.0 row) (so : entries ≡ row.items)
   where
     top_entries : AreEntries m top.0 entries
@@ -152,7 +153,7 @@ module _ (m : Machine) (rows : List (Vec Entry)) (xs : List StateNo) (top : Stat
     pub top_actions : AreActions m (stack_of xs) entries
     top_actions e h = let entry = top_entries.sound e h in (
       entry.0,
-      ap (action_on m e.terminal.0) (stack_top xs top last)
+      ap (action_on m e.column) (stack_top xs top last)
           ∙ ap (λ o. or_default o (slice_get m.defaults top.0)) entry.1,
     )
 

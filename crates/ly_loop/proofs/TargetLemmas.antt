@@ -1,102 +1,86 @@
 -- The targets of a state, as they are listed.
-use Rattle.std.proofs.Common.{◌≡◌, ◌⊎◌, inl, inr, ℕ, ◌+◌, ◌<◌, ◌≤◌, List, [], ◌∷◌, ◌++◌, Contains, Option, None, Some}
-use Rattle.std.proofs.Common.{ap, arith, refl, slice_get, subst, sym, ◌∙◌}
-use Rattle.std.proofs.lemmas.Bool.{cases_lt}
-use Rattle.std.proofs.lemmas.List.Elements.{Contains-append_cases, Contains-append_left, Contains-append_right}
-use Rattle.ly_base.proofs.MemberLemmas.{Contains-first, Contains-one}
+use Rattle.std.proofs.Common.{◌≡◌, ◌∙◌, inl, inr, ℕ, List, [], ◌∷◌, ◌++◌, Contains, Option, None, Some}
+use Rattle.std.proofs.Common.{◌<◌, ap, arith, get_or, length, refl, slice_get, subst, sym}
+use Rattle.std.specs.Global.{Vec}
+use Rattle.std.proofs.lemmas.Option.{slice_get_read}
+use Rattle.std.proofs.lemmas.List.Elements.{Contains-append_left, Contains-push, Contains-push_cases}
+use Rattle.ly_base.proofs.MemberLemmas.{Contains-none}
 use Rattle.ly_base.specs.declared.numbers.StateNo.{StateNo}
-use Rattle.ly_pack.specs.Machine.{IsWithin, Machine, TableAction, action_of, entry_at, goto_at, or_default, shift}
+use Rattle.ly_pack.specs.Machine.{Machine, TableAction, action_of, entry_at, or_default, shift, states_of}
 use Rattle.ly_pack.specs.Steady.{IsTableEdge, by_goto, by_shift}
 use Rattle.ly_pack.specs.Values.{action_from}
 use Rattle.ly_pack.specs.declared.action.TableAction as code
 use Rattle.ly_pack.specs.declared.action.TableAction.TheVariants.{Shift, Reduce, Accept, Error}
-use Rattle.ly_loop.specs.Private.Edges.{AreTargets}
-use Rattle.ly_loop.specs.Private.Entries.{AreEntries}
-use Rattle.ly_loop.specs.declared.entries.Entry.{Entry}
+use Rattle.ly_pack.specs.declared.cell.Cell.{Cell}
+use Rattle.ly_loop.specs.Private.Edges.{AreTargets, AreTargetsOf}
+use Rattle.ly_loop.specs.Private.Entries.{AreAllEntries, AreAllGotos, AreEntries, AreGotos}
 
--- The targets of some entries, and of the gotos by the first nonterminals.
-pub record AreTargetsOf (m : Machine) (below : ℕ) (entries : List Entry) (n : ℕ) (targets : List StateNo) : Type 0 where
-  pub sound : (s : StateNo) → Contains targets s → IsTableEdge m below s.0
-  pub shifts : (e : Entry) → Contains entries e → (s : StateNo) → e.action ≡ Shift s → Contains targets s
-  pub gotos : (left top : ℕ) → left < n → goto_at m below left ≡ Some top
-      → (s : StateNo) × Contains targets s × (s.0 ≡ top)
+pub targets_none : AreTargetsOf [] [] []
+targets_none = record {
+  sound = λ s has. Contains-none s has;
+  shifts = λ e s has is. Contains-none e has;
+  others = λ e has. Contains-none e has;
+}
 
 -- one more target
-sound_push : (m : Machine) (below : ℕ) (targets : List StateNo) (s : StateNo)
-    → ((x : StateNo) → Contains targets x → IsTableEdge m below x.0) → IsTableEdge m below s.0
-    → (x : StateNo) → Contains (targets ++ s ∷ []) x → IsTableEdge m below x.0
-sound_push m below targets s was edge x h = elim (Contains-append_cases targets (s ∷ []) x h) [
-  | inl old ↦ was x old
-  | inr new ↦ subst (λ (y : StateNo). IsTableEdge m below y.0) (Contains-one s x new) edge
-]
+module _ (entries : List (Cell code.TableAction)) (gotos : List (Cell StateNo)) (targets : List StateNo)
+    (was : AreTargetsOf entries gotos targets) where
+  pub targets_shift : (e : Cell code.TableAction) (s : StateNo) → e.entry ≡ Shift s
+      → AreTargetsOf (entries ++ e ∷ []) gotos (targets ++ s ∷ [])
+  targets_shift e s is = record {
+    sound = λ x has. elim (Contains-push_cases targets s x has) [
+      | inl old ↦ elim (was.sound x old) [
+        | inl from ↦ inl (from.0, Contains-append_left entries (e ∷ []) from.0 from.1, from.2)
+        | inr from ↦ inr from
+      ]
+      | inr new ↦ inl (e, Contains-push entries e, is ∙ ap Shift new)
+    ];
+    shifts = λ x r has eq. elim (Contains-push_cases entries e x has) [
+      | inl old ↦ Contains-append_left targets (s ∷ []) r (was.shifts x r old eq)
+      | inr new ↦
+          let both : Shift s ≡ Shift r = sym is ∙ (ap (λ (y : Cell code.TableAction). y.entry) new ∙ eq) in
+          let same : s ≡ r = cc in
+          subst (Contains (targets ++ s ∷ [])) same (Contains-push targets s)
+    ];
+    others = λ x has. Contains-append_left targets (s ∷ []) x.entry (was.others x has);
+  }
 
-gotos_push : (m : Machine) (below : ℕ) (targets : List StateNo) (s : StateNo) (top : ℕ)
-    → (x : StateNo) × Contains targets x × (x.0 ≡ top) → (x : StateNo) × Contains (targets ++ s ∷ []) x × (x.0 ≡ top)
-gotos_push m below targets s top x = (x.0, Contains-append_left targets (s ∷ []) x.0 x.1, x.2)
+  pub targets_other : (e : Cell code.TableAction) → ((s : StateNo) → e.entry ≡ Shift s → ⊥)
+      → AreTargetsOf (entries ++ e ∷ []) gotos targets
+  targets_other e other = record {
+    sound = λ x has. elim (was.sound x has) [
+      | inl from ↦ inl (from.0, Contains-append_left entries (e ∷ []) from.0 from.1, from.2)
+      | inr from ↦ inr from
+    ];
+    shifts = λ x r has eq. elim (Contains-push_cases entries e x has) [
+      | inl old ↦ was.shifts x r old eq
+      | inr new ↦ absurd (other r (ap (λ (y : Cell code.TableAction). y.entry) new ∙ eq))
+    ];
+    others = was.others;
+  }
 
-pub targets_shift : (m : Machine) (below : ℕ) (entries : List Entry) (n : ℕ) (targets : List StateNo) (e : Entry)
-    (s : StateNo) → AreTargetsOf m below entries n targets → e.action ≡ Shift s → IsTableEdge m below s.0
-    → AreTargetsOf m below (entries ++ e ∷ []) n (targets ++ s ∷ [])
-targets_shift m below entries n targets e s was is edge = record {
-  sound = sound_push m below targets s was.sound edge;
-  shifts = λ x h r eq. elim (Contains-append_cases entries (e ∷ []) x h) [
-    | inl old ↦ Contains-append_left targets (s ∷ []) r (was.shifts x old r eq)
-    | inr new ↦
-        let both : Shift s ≡ Shift r = sym is ∙ (ap (λ (y : Entry). y.action) (Contains-one e x new) ∙ eq) in
-        let same : s ≡ r = cc in
-        subst (Contains (targets ++ s ∷ [])) same (Contains-append_right targets (s ∷ []) s (Contains-first s []))
-  ];
-  gotos = λ left top lt goto. gotos_push m below targets s top (was.gotos left top lt goto);
-}
-
-pub targets_other : (m : Machine) (below : ℕ) (entries : List Entry) (n : ℕ) (targets : List StateNo) (e : Entry)
-    → AreTargetsOf m below entries n targets → ((s : StateNo) → e.action ≡ Shift s → ⊥)
-    → AreTargetsOf m below (entries ++ e ∷ []) n targets
-targets_other m below entries n targets e was other = record {
-  sound = was.sound;
-  shifts = λ x h r eq. elim (Contains-append_cases entries (e ∷ []) x h) [
-    | inl old ↦ was.shifts x old r eq
-    | inr new ↦ absurd (other r (ap (λ (y : Entry). y.action) (Contains-one e x new) ∙ eq))
-  ];
-  gotos = was.gotos;
-}
-
-pub targets_goto : (m : Machine) (below : ℕ) (entries : List Entry) (n : ℕ) (targets : List StateNo) (s : StateNo)
-    → AreTargetsOf m below entries n targets → Some s.0 ≡ goto_at m below n
-    → AreTargetsOf m below entries (n + 1) (targets ++ s ∷ [])
-targets_goto m below entries n targets s was is = record {
-  sound = sound_push m below targets s was.sound (by_goto n (sym is));
-  shifts = λ x h r eq. Contains-append_left targets (s ∷ []) r (was.shifts x h r eq);
-  gotos = λ left top lt goto. by_left left top goto lt (cases_lt left n);
-}
-  where
-    by_left : (left top : ℕ) → goto_at m below left ≡ Some top → left < n + 1 → (left < n) ⊎ (n ≤ left)
-        → (x : StateNo) × Contains (targets ++ s ∷ []) x × (x.0 ≡ top)
-    by_left left top goto lt (inl less) = gotos_push m below targets s top (was.gotos left top less goto)
-    by_left left top goto lt (inr more) =
-        let same : n ≡ left = omega arith in
-        let both : Some s.0 ≡ Some top = is ∙ (ap (goto_at m below) same ∙ goto) in
-        (s, Contains-append_right targets (s ∷ []) s (Contains-first s []), cc)
-
-pub targets_no_goto : (m : Machine) (below : ℕ) (entries : List Entry) (n : ℕ) (targets : List StateNo)
-    → AreTargetsOf m below entries n targets → None ≡ goto_at m below n → AreTargetsOf m below entries (n + 1) targets
-targets_no_goto m below entries n targets was none = record {
-  sound = was.sound;
-  shifts = was.shifts;
-  gotos = λ left top lt goto. by_left left top goto lt (cases_lt left n);
-}
-  where
-    by_left : (left top : ℕ) → goto_at m below left ≡ Some top → left < n + 1 → (left < n) ⊎ (n ≤ left)
-        → (x : StateNo) × Contains targets x × (x.0 ≡ top)
-    by_left left top goto lt (inl less) = was.gotos left top less goto
-    by_left left top goto lt (inr more) =
-        let same : n ≡ left = omega arith in
-        absurd (let both : None ≡ Some top = none ∙ (ap (goto_at m below) same ∙ goto) in cc)
+  pub targets_goto : (e : Cell StateNo) → AreTargetsOf entries (gotos ++ e ∷ []) (targets ++ e.entry ∷ [])
+  targets_goto e = record {
+    sound = λ x has. elim (Contains-push_cases targets e.entry x has) [
+      | inl old ↦ elim (was.sound x old) [
+        | inl from ↦ inl from
+        | inr from ↦ inr (from.0, Contains-append_left gotos (e ∷ []) from.0 from.1, from.2)
+      ]
+      | inr new ↦ inr (e, Contains-push gotos e, new)
+    ];
+    shifts = λ x r has eq. Contains-append_left targets (e.entry ∷ []) r (was.shifts x r has eq);
+    others = λ x has. elim (Contains-push_cases gotos e x has) [
+      | inl old ↦ Contains-append_left targets (e.entry ∷ []) x.entry (was.others x old)
+      | inr new ↦ subst (λ (y : Cell StateNo). Contains (targets ++ e.entry ∷ []) y.entry) new
+          (Contains-push targets e.entry)
+    ];
+  }
 
 -- what is listed first shifts to its target
-pub shift_edge : (m : Machine) (below : ℕ) (entries : List Entry) (e : Entry) (s : StateNo)
-    → AreEntries m below entries → Contains entries e → e.action ≡ Shift s → IsTableEdge m below s.0
-shift_edge m below entries e s all h is = by_shift e.terminal.0
+pub shift_edge : (m : Machine) (below : ℕ) (entries : List (Cell code.TableAction))
+    (e : Cell code.TableAction) (s : StateNo)
+    → AreEntries m below entries → Contains entries e → e.entry ≡ Shift s → IsTableEdge m below s.0
+shift_edge m below entries e s all h is = by_shift e.column
     (ap (λ o. or_default o (slice_get m.defaults below)) ((all.sound e h).1 ∙ ap (λ a. Some (action_from a)) is))
 
 -- a default shifts nothing
@@ -120,14 +104,36 @@ shift_from (Reduce p) top e = absurd (cc)
 shift_from Accept top e = absurd (cc)
 shift_from Error top e = absurd (cc)
 
-pub all_targets : (m : Machine) (below : ℕ) (entries : List Entry) (n : ℕ) (targets : List StateNo) → IsWithin m
-    → AreEntries m below entries → AreTargetsOf m below entries n targets → m.nonterminals ≤ n
-    → AreTargets m below targets
-all_targets m below entries n targets within all are past = record { sound = are.sound; whole = whole }
+pub all_targets : (m : Machine) (below : ℕ) (entries : List (Cell code.TableAction)) (gotos : List (Cell StateNo))
+    (targets : List StateNo) → AreEntries m below entries → AreGotos m below gotos
+    → AreTargetsOf entries gotos targets → AreTargets m below targets
+all_targets m below entries gotos targets all led are = record { sound = sound; whole = whole }
   where
+    sound : (s : StateNo) → Contains targets s → IsTableEdge m below s.0
+    sound s has = elim (are.sound s has) [
+      | inl from ↦ shift_edge m below entries from.0 s all from.1 from.2
+      | inr from ↦ by_goto from.0.column (led.sound from.0 from.1 ∙ ap (λ (x : StateNo). Some x.0) from.2)
+    ]
+
     whole : (top : ℕ) → IsTableEdge m below top → (s : StateNo) × Contains targets s × (s.0 ≡ top)
     whole top (by_shift t is) =
         let e = all.whole t (shift top) (shift_entry m below t top is) in
-        let s = shift_from e.0.action top e.3 in
-        (s.0, are.shifts e.0 e.1 s.0 s.1, s.2)
-    whole top (by_goto left is) = are.gotos left top (omega (arith, (within.gotos below left top is).1)) is
+        let s = shift_from e.0.entry top e.3 in
+        (s.0, are.shifts e.0 s.0 e.1 s.1, s.2)
+    whole top (by_goto left is) =
+        let e = led.whole left top is in
+        (e.0.entry, are.others e.0 e.1, e.2)
+
+-- the targets of the rows of a state
+pub targets_at : (m : Machine) (all : List (Vec (Cell code.TableAction))) (led : List (Vec (Cell StateNo))) (k : ℕ)
+    (row : Vec (Cell code.TableAction)) (gotos : Vec (Cell StateNo)) (es : List (Cell code.TableAction))
+    (gs : List (Cell StateNo)) (targets : List StateNo) → AreAllEntries m all → AreAllGotos m led → k < states_of m
+    → row ≡ get_or all k row → gotos ≡ get_or led k gotos → es ≡ row.items → gs ≡ gotos.items
+    → AreTargetsOf es gs targets → AreTargets m k targets
+targets_at m all led k row gotos es gs targets entries goes lt at_row at_gotos is_row is_gotos are =
+    all_targets m k es gs targets
+    (subst (AreEntries m k) (sym is_row)
+    (entries.each k row (slice_get_read all (length all) k row refl (omega (arith, entries.count)) at_row)))
+    (subst (AreGotos m k) (sym is_gotos)
+    (goes.each k gotos (slice_get_read led (length led) k gotos refl (omega (arith, goes.count)) at_gotos)))
+    are

@@ -4,7 +4,7 @@ ghost use Rattle.ly_loop.specs.Endless.{IsRefused};
 ghost use Rattle.ly_loop.specs.Private.Run.{IsCountable};
 
 use crate::edges::{first_above, targets};
-use crate::entries::all_entries;
+use crate::entries::{all_entries, all_gotos};
 use crate::fault::LoopFault;
 use crate::path::Path;
 use ly_base::StateNo;
@@ -24,11 +24,12 @@ pub fn steady<A: Rows<TableAction> + Drop, G: Rows<StateNo> + Drop>(
         return Err(LoopFault::OutOfMemory);
     }
     let entries = all_entries(alloc, machine)?;
+    let gotos = all_gotos(alloc, machine)?;
     let mut path = Path::new(alloc, machine.terminals())?;
     let mut tops = Vec::new(alloc);
     for number in 0..machine.states() {
         let below = StateNo(number as u32);
-        targets(machine, below, &entries[number], &mut tops)?;
+        targets(&entries[number], &gotos[number], &mut tops)?;
         if let Some(passing) = first_above(machine, &entries, below, &tops, &mut path)? {
             return Err(LoopFault::Endless {
                 below,

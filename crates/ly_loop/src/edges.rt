@@ -1,15 +1,14 @@
 ghost use Rattle.std.specs.Prelude.{◌<◌, ◌≡◌, [], ◌∷◌, IfOk, OnOk};
 ghost use Rattle.ly_pack.specs.Machine.{states_of};
 ghost use Rattle.ly_pack.specs.Steady.{run_bound};
-ghost use Rattle.ly_loop.specs.Private.Edges.{AreTargets, IsFirstAbove, IsFirstToken, IsLower};
-ghost use Rattle.ly_loop.specs.Private.Entries.{AreAllEntries, AreEntries};
+ghost use Rattle.ly_loop.specs.Private.Edges.{AreTargets, AreTargetsOf, IsFirstAbove, IsFirstToken, IsLower};
+ghost use Rattle.ly_loop.specs.Private.Entries.{AreAllEntries};
 ghost use Rattle.ly_loop.specs.Private.Run.{EndsAs, IsCountable};
 
-use crate::entries::Entry;
 use crate::path::{Path, all_end};
 use crate::run::{RUN_BOUND, ends_within};
 use ly_base::{OutOfMemory, StateNo, Sym};
-use ly_pack::{Machine, Rows, TableAction};
+use ly_pack::{Cell, Machine, Rows, TableAction};
 
 /// A run that makes too many reductions, above a state that is known.
 #[derive(Clone, Copy)]
@@ -21,27 +20,21 @@ pub(crate) struct Passing {
 }
 
 /// Lists the states to which a state leads, by its entries and gotos. A default shifts nothing.
-pub(crate) fn targets<A: Rows<TableAction> + Drop, G: Rows<StateNo> + Drop>(
-    machine: &Machine<A, G>,
-    below: StateNo,
-    entries: &[Entry],
+pub(crate) fn targets(
+    entries: &[Cell<TableAction>],
+    gotos: &[Cell<StateNo>],
     targets: &mut Vec<StateNo>,
 ) -> Result<(), OutOfMemory>
-    requires countable { IsCountable machine.now }
-    requires below { below.0 < states_of machine.now }
-    requires entries { AreEntries machine.now below.0 entries.now }
-    ensures { OnOk result (AreTargets machine.now below.0 targets.new.items) }
+    ensures { OnOk result (AreTargetsOf entries.now gotos.now targets.new.items) }
 {
     targets.clear();
-    for entry in entries {
-        if let TableAction::Shift(next) = entry.action {
+    for cell in entries {
+        if let TableAction::Shift(next) = cell.entry {
             targets.push(next)?;
         }
     }
-    for left in 0..machine.nonterminals() {
-        if let Some(next) = machine.goto(below, Sym(left as u32)) {
-            targets.push(next)?;
-        }
+    for led in gotos {
+        targets.push(led.entry)?;
     }
     Ok(())
 }
@@ -49,7 +42,7 @@ pub(crate) fn targets<A: Rows<TableAction> + Drop, G: Rows<StateNo> + Drop>(
 /// The first run above a state that makes too many reductions: by the least target, and then by the least terminal.
 pub(crate) fn first_above<A: Rows<TableAction> + Drop, G: Rows<StateNo> + Drop>(
     machine: &Machine<A, G>,
-    entries: &[Vec<Entry>],
+    entries: &[Vec<Cell<TableAction>>],
     below: StateNo,
     targets: &[StateNo],
     path: &mut Path,
@@ -86,7 +79,7 @@ fn is_lower(top: StateNo, found: Option<Passing>) -> bool
 /// The first terminal on which the run of an edge makes too many reductions, if there is one.
 fn first_token<A: Rows<TableAction> + Drop, G: Rows<StateNo> + Drop>(
     machine: &Machine<A, G>,
-    entries: &[Vec<Entry>],
+    entries: &[Vec<Cell<TableAction>>],
     below: StateNo,
     top: StateNo,
     path: &mut Path,

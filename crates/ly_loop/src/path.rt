@@ -5,10 +5,9 @@ ghost use Rattle.ly_loop.specs.Private.Entries.{AreAllEntries};
 ghost use Rattle.ly_loop.specs.Private.Path.{AllEnd, AreActions, AreSettled, IsAction, IsStep};
 ghost use Rattle.ly_loop.specs.Private.Run.{AreStates, EndsAs, IsCountable, stack_of};
 
-use crate::entries::Entry;
 use crate::run::{RUN_BOUND, ends_within, reduce};
-use ly_base::{OutOfMemory, SparseSet, StateNo};
-use ly_pack::{Machine, Rows, TableAction};
+use ly_base::{OutOfMemory, SparseSet, StateNo, Sym};
+use ly_pack::{Cell, Machine, Rows, TableAction};
 use std::alloc::Global;
 
 /// The path of an edge. Its room is used again from edge to edge.
@@ -49,7 +48,7 @@ impl Path {
 /// Whether the runs of an edge end on all terminals, as far as its path shows it.
 pub(crate) fn all_end<A: Rows<TableAction> + Drop, G: Rows<StateNo> + Drop>(
     machine: &Machine<A, G>,
-    entries: &[Vec<Entry>],
+    entries: &[Vec<Cell<TableAction>>],
     below: StateNo,
     top: StateNo,
     path: &mut Path,
@@ -79,7 +78,7 @@ pub(crate) fn all_end<A: Rows<TableAction> + Drop, G: Rows<StateNo> + Drop>(
 /// One step of a path: the terminals with entries of their own leave it, and the others reduce by the default.
 fn follow<A: Rows<TableAction> + Drop, G: Rows<StateNo> + Drop>(
     machine: &Machine<A, G>,
-    entries: &[Vec<Entry>],
+    entries: &[Vec<Cell<TableAction>>],
     bound: usize,
     path: &mut Path,
 ) -> Result<Step, OutOfMemory>
@@ -116,7 +115,7 @@ fn follow<A: Rows<TableAction> + Drop, G: Rows<StateNo> + Drop>(
 /// reductions.
 fn settle<A: Rows<TableAction> + Drop, G: Rows<StateNo> + Drop>(
     machine: &Machine<A, G>,
-    entries: &[Entry],
+    entries: &[Cell<TableAction>],
     bound: usize,
     path: &mut Path,
 ) -> Result<bool, OutOfMemory>
@@ -131,7 +130,7 @@ fn settle<A: Rows<TableAction> + Drop, G: Rows<StateNo> + Drop>(
         entries.now path.old.settled.members path.new.settled.members) }
 {
     for entry in entries {
-        if path.settled.insert(entry.terminal.0)
+        if path.settled.insert(entry.column)
             && !ends_alone(machine, *entry, bound, &path.stack, &mut path.alone)?
         {
             return Ok(false);
@@ -143,7 +142,7 @@ fn settle<A: Rows<TableAction> + Drop, G: Rows<StateNo> + Drop>(
 /// Whether the run of a terminal with an entry of its own on top of a stack makes at most so many reductions.
 fn ends_alone<A: Rows<TableAction> + Drop, G: Rows<StateNo> + Drop>(
     machine: &Machine<A, G>,
-    entry: Entry,
+    entry: Cell<TableAction>,
     bound: usize,
     stack: &[StateNo],
     alone: &mut Vec<StateNo>,
@@ -152,12 +151,12 @@ fn ends_alone<A: Rows<TableAction> + Drop, G: Rows<StateNo> + Drop>(
     requires entry { IsAction machine.now (stack_of stack.now) entry }
     requires bound { bound ≤ run_bound }
     requires states { AreStates machine.now stack.now }
-    ensures { IfOk result (EndsAs machine.now entry.terminal.0 (stack_of stack.now) bound) }
+    ensures { IfOk result (EndsAs machine.now entry.column (stack_of stack.now) bound) }
 {
-    if !matches!(entry.action, TableAction::Reduce(_)) {
+    if !matches!(entry.entry, TableAction::Reduce(_)) {
         return Ok(true);
     }
     alone.clear();
     alone.extend_from_slice(stack)?;
-    ends_within(machine, entry.terminal, bound, alone)
+    ends_within(machine, Sym(entry.column), bound, alone)
 }

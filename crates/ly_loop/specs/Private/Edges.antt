@@ -1,9 +1,12 @@
 -- The edges above a state, and the first run above them that makes too many reductions.
-use Rattle.std.specs.Prelude.{◌≡◌, ℕ, ◌<◌, ◌≤◌, Bool, true, false, List, Contains, Option, Some, None, MatchOption}
+use Rattle.std.specs.Prelude.{◌≡◌, ◌⊎◌, ℕ, ◌<◌, ◌≤◌, Bool, true, false, List, Contains, Option, Some, None, MatchOption}
 use Rattle.ly_base.specs.declared.numbers.StateNo.{StateNo}
 use Rattle.ly_base.specs.declared.numbers.Sym.{Sym}
 use Rattle.ly_pack.specs.Machine.{Machine}
 use Rattle.ly_pack.specs.Steady.{IsTableEdge}
+use Rattle.ly_pack.specs.declared.action.TableAction.{TableAction}
+use Rattle.ly_pack.specs.declared.action.TableAction.TheVariants.{Shift}
+use Rattle.ly_pack.specs.declared.cell.Cell.{Cell}
 use Rattle.ly_loop.specs.Endless.{EdgeEnds}
 use Rattle.ly_loop.specs.Private.Path.{AllEnd}
 use Rattle.ly_loop.specs.declared.edges.Passing.{Passing}
@@ -12,6 +15,14 @@ use Rattle.ly_loop.specs.declared.edges.Passing.{Passing}
 pub record AreTargets (m : Machine) (below : ℕ) (targets : List StateNo) : Type 0 where
   pub sound : (s : StateNo) → Contains targets s → IsTableEdge m below s.0
   pub whole : (top : ℕ) → IsTableEdge m below top → (s : StateNo) × Contains targets s × (s.0 ≡ top)
+
+-- The states to which some entries shift, and others.
+pub record AreTargetsOf (entries : List (Cell TableAction)) (gotos : List (Cell StateNo)) (targets : List StateNo)
+    : Type 0 where
+  pub sound : (s : StateNo) → Contains targets s → ((e : Cell TableAction) × Contains entries e × (e.entry ≡ Shift s))
+      ⊎ ((e : Cell StateNo) × Contains gotos e × (e.entry ≡ s))
+  pub shifts : (e : Cell TableAction) (s : StateNo) → Contains entries e → e.entry ≡ Shift s → Contains targets s
+  pub others : (e : Cell StateNo) → Contains gotos e → Contains targets e.entry
 
 -- The first terminal on which the run of an edge makes too many reductions.
 pub record IsPassing (m : Machine) (below top token : ℕ) : Type 0 where

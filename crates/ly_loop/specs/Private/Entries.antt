@@ -1,18 +1,32 @@
--- The entries of states, listed.
+-- The entries of states, and where these go, listed.
 use Rattle.std.specs.Prelude.{◌≡◌, ℕ, ◌<◌, List, length, Some, Contains, slice_get}
 use Rattle.std.specs.Global.{Vec}
-use Rattle.ly_pack.specs.Machine.{Machine, TableAction, entry_at, states_of}
+use Rattle.ly_base.specs.declared.numbers.StateNo.{StateNo}
+use Rattle.ly_pack.specs.Machine.{Machine, TableAction, entry_at, goto_at, states_of}
 use Rattle.ly_pack.specs.Values.{action_from}
-use Rattle.ly_loop.specs.declared.entries.Entry.{Entry}
+use Rattle.ly_pack.specs.declared.action.TableAction as code
+use Rattle.ly_pack.specs.declared.cell.Cell.{Cell}
 
 -- The entries of a state, each with its terminal.
-pub record AreEntries (m : Machine) (state : ℕ) (row : List Entry) : Type 0 where
-  pub sound : (e : Entry) → Contains row e
-      → (e.terminal.0 < m.terminals) × (entry_at m state e.terminal.0 ≡ Some (action_from e.action))
+pub record AreEntries (m : Machine) (state : ℕ) (row : List (Cell code.TableAction)) : Type 0 where
+  pub sound : (e : Cell code.TableAction) → Contains row e
+      → (e.column < m.terminals) × (entry_at m state e.column ≡ Some (action_from e.entry))
   pub whole : (t : ℕ) (a : TableAction) → entry_at m state t ≡ Some a
-      → (e : Entry) × Contains row e × (e.terminal.0 ≡ t) × (action_from e.action ≡ a)
+      → (e : Cell code.TableAction) × Contains row e × (e.column ≡ t) × (action_from e.entry ≡ a)
 
 -- The entries of all states.
-pub record AreAllEntries (m : Machine) (rows : List (Vec Entry)) : Type 0 where
+pub record AreAllEntries (m : Machine) (rows : List (Vec (Cell code.TableAction))) : Type 0 where
   pub count : length rows ≡ states_of m
-  pub each : (state : ℕ) (row : Vec Entry) → slice_get rows state ≡ Some row → AreEntries m state row.items
+  pub each : (state : ℕ) (row : Vec (Cell code.TableAction)) → slice_get rows state ≡ Some row
+      → AreEntries m state row.items
+
+-- Where a state goes, each with its nonterminal.
+pub record AreGotos (m : Machine) (state : ℕ) (row : List (Cell StateNo)) : Type 0 where
+  pub sound : (e : Cell StateNo) → Contains row e → goto_at m state e.column ≡ Some e.entry.0
+  pub whole : (left next : ℕ) → goto_at m state left ≡ Some next
+      → (e : Cell StateNo) × Contains row e × (e.entry.0 ≡ next)
+
+-- Where all states go.
+pub record AreAllGotos (m : Machine) (rows : List (Vec (Cell StateNo))) : Type 0 where
+  pub count : length rows ≡ states_of m
+  pub each : (state : ℕ) (row : Vec (Cell StateNo)) → slice_get rows state ≡ Some row → AreGotos m state row.items

@@ -4,7 +4,8 @@ use Rattle.std.specs.List.{list_any}
 use Rattle.ly_pack.specs.Machine.{Machine}
 use Rattle.ly_pack.specs.Steady.{EndsWithin, action_on, goes_on, move, run_bound}
 use Rattle.ly_pack.specs.Values.{action_from}
-use Rattle.ly_loop.specs.declared.entries.Entry.{Entry}
+use Rattle.ly_pack.specs.declared.action.TableAction as code
+use Rattle.ly_pack.specs.declared.cell.Cell.{Cell}
 use Rattle.ly_loop.specs.declared.path.Step.{Step}
 use Rattle.ly_loop.specs.declared.path.Step.TheVariants.{Onward, Ends, Passes}
 
@@ -13,22 +14,22 @@ abbrev pub AllEnd : Machine → ℕ → ℕ → Type 0
 AllEnd m below top = (t : ℕ) → t < m.terminals → EndsWithin m t (top ∷ below ∷ []) run_bound
 
 -- the entry is what is done on this stack before its terminal
-abbrev pub IsAction : Machine → List ℕ → Entry → Type 0
-IsAction m stack e = (e.terminal.0 < m.terminals) × (action_on m e.terminal.0 stack ≡ action_from e.action)
+abbrev pub IsAction : Machine → List ℕ → Cell code.TableAction → Type 0
+IsAction m stack e = (e.column < m.terminals) × (action_on m e.column stack ≡ action_from e.entry)
 
-abbrev pub AreActions : Machine → List ℕ → List Entry → Type 0
-AreActions m stack entries = (e : Entry) → Contains entries e → IsAction m stack e
+abbrev pub AreActions : Machine → List ℕ → List (Cell code.TableAction) → Type 0
+AreActions m stack entries = (e : Cell code.TableAction) → Contains entries e → IsAction m stack e
 
 -- whether a terminal has left the path
 abbrev pub has_left : List ℕ → ℕ → Bool
 has_left settled t = list_any (nat_eq t) settled
 
 -- The terminals of some entries have left the path as well, and the runs of those that left end.
-pub record AreSettled (m : Machine) (stack : List ℕ) (bound : ℕ) (entries : List Entry) (old new : List ℕ) : Type 0
+pub record AreSettled (m : Machine) (stack : List ℕ) (bound : ℕ) (entries : List (Cell code.TableAction)) (old new : List ℕ) : Type 0
   where
     pub kept : (t : ℕ) → has_left old t ≡ true → has_left new t ≡ true
     pub ended : (t : ℕ) → has_left new t ≡ true → (has_left old t ≡ true) ⊎ EndsWithin m t stack bound
-    pub own : (e : Entry) → Contains entries e → has_left new e.terminal.0 ≡ true
+    pub own : (e : Cell code.TableAction) → Contains entries e → has_left new e.column ≡ true
 
 -- Terminals leave the path, and those that stay on it make one reduction.
 pub record IsOnward (m : Machine) (bound : ℕ) (old left new left' : List ℕ) : Type 0 where

@@ -1,48 +1,46 @@
-use Rattle.std.proofs.Common.{arith, ap, get_or, subst, sym, take, ◌+◌, ◌∙◌}
-use Rattle.std.proofs.lemmas.List.{take_more}
-use Rattle.std.proofs.lemmas.List.Elements.{Contains-get_or}
-use Rattle.ly_loop.proofs.EntryLemmas.{no_entry}
-use Rattle.ly_loop.proofs.TargetLemmas.{AreTargetsOf, all_targets, shift_edge, targets_goto, targets_no_goto}
-use Rattle.ly_loop.proofs.TargetLemmas.{targets_other, targets_shift}
+use Rattle.std.proofs.Common.{[], ap, get_or, subst, sym, take, ◌+◌, ◌∙◌}
+use Rattle.std.proofs.lemmas.List.{take_all, take_more}
+use Rattle.ly_loop.specs.Private.Edges.{AreTargetsOf}
+use Rattle.ly_loop.proofs.EntryLemmas.{no_entry, no_goto}
+use Rattle.ly_loop.proofs.TargetLemmas.{targets_goto, targets_none, targets_other, targets_shift}
 use Rattle.ly_loop.proofs.edges.targets.Goals as goal
-use Rattle.ly_loop.proofs.edges.targets.Goals.{in-Shift+in_ok-push, in_default, in-Some+in_ok-push-2, in_default-goto}
+use Rattle.ly_loop.proofs.edges.targets.Goals.{in-Shift+in_ok-push, in_default}
 
-pub loop-entry-preserved : goal.loop-entry-preserved
-loop-entry-preserved g c =
-    let m = c.args.machine.now in
-    let below = c.args.below.0 in
+pub loop-cell-init : goal.loop-cell-init
+loop-cell-init c = subst (AreTargetsOf [] []) (sym c.clear.ensures.items) targets_none
+
+pub loop-cell-preserved : goal.loop-cell-preserved
+loop-cell-preserved c =
     let entries = c.args.entries.now in
-    let k = c.loop-entry.entry-index in
-    let lt = c.loop-entry-test.true in
+    let k = c.loop-cell.cell-index in
+    let lt = c.loop-cell-test.true in
     let e = get_or entries k no_entry in
-    let was = c.loop-entry.invariant in
-    let targets = c.loop-entry.targets.items in
-    subst (λ es. AreTargetsOf m below es 0 c.match-entry.targets.items) (sym (take_more entries k no_entry lt))
-    (elim c.match-entry.branch [
-      | in-Shift+in_ok-push w ↦ subst (AreTargetsOf m below _ 0)
+    let was = c.loop-cell.invariant in
+    let targets = c.loop-cell.targets.items in
+    subst (λ es. AreTargetsOf es [] c.match-cell.targets.items) (sym (take_more entries k no_entry lt))
+    (elim c.match-cell.branch [
+      | in-Shift+in_ok-push w ↦ subst (AreTargetsOf _ [])
           (sym (ap (λ v. v.items) w.targets-is ∙ w.in_ok-push.ensures.items))
-          (targets_shift m below (take k entries) 0 targets e w.in-Shift.next was w.in-Shift.is
-          (shift_edge m below entries e w.in-Shift.next c.requires.entries (Contains-get_or entries k no_entry lt)
-          w.in-Shift.is))
-      | in_default w ↦ subst (AreTargetsOf m below _ 0) (sym (ap (λ v. v.items) w.targets-is))
-          (targets_other m below (take k entries) 0 targets e was w.in_default.not-Shift)
+          (targets_shift (take k entries) [] targets was e w.in-Shift.next w.in-Shift.is)
+      | in_default w ↦ subst (AreTargetsOf _ []) (sym (ap (λ v. v.items) w.targets-is))
+          (targets_other (take k entries) [] targets was e w.in_default.not-Shift)
     ])
 
-pub loop-left-preserved : goal.loop-left-preserved
-loop-left-preserved g c =
-    let m = c.args.machine.now in
-    let below = c.args.below.0 in
-    let entries = c.args.entries.now in
-    let n = c.loop-left.left in
-    let targets = c.loop-left.targets.items in
-    elim c.match-goto.branch [
-      | in-Some+in_ok-push-2 w ↦ subst (AreTargetsOf m below entries (n + 1))
-          (sym (ap (λ v. v.items) w.targets-is ∙ w.in_ok-push-2.ensures.items))
-          (targets_goto m below entries n targets w.in-Some.next c.loop-left.invariant w.in-Some.ensures)
-      | in_default-goto w ↦ subst (AreTargetsOf m below entries (n + 1)) (sym (ap (λ v. v.items) w.targets-is))
-          (targets_no_goto m below entries n targets c.loop-left.invariant w.in_default-goto.ensures)
-    ]
+pub loop-led-init : goal.loop-led-init
+loop-led-init c = subst (λ es. AreTargetsOf es [] c.loop-cell.targets.items)
+    (take_all c.loop-cell.cell-index c.args.entries.now c.loop-cell-test.false) c.loop-cell.invariant
+
+pub loop-led-preserved : goal.loop-led-preserved
+loop-led-preserved c =
+    let gotos = c.args.gotos.now in
+    let k = c.loop-led.led-index in
+    let e = get_or gotos k no_goto in
+    let targets = c.loop-led.targets.items in
+    subst (λ gs. AreTargetsOf c.args.entries.now gs c.push-in-loop-led.new.self.items)
+    (sym (take_more gotos k no_goto c.loop-led-test.true))
+    (subst (AreTargetsOf c.args.entries.now _) (sym c.in_ok-push-2.ensures.items)
+    (targets_goto c.args.entries.now (take k gotos) targets c.loop-led.invariant e))
 
 pub returns : goal.returns
-returns g c = all_targets c.args.machine.now c.args.below.0 c.args.entries.now c.loop-left.left
-    c.loop-left.targets.items c.requires.countable.within c.requires.entries c.loop-left.invariant (omega arith)
+returns c = subst (λ gs. AreTargetsOf c.args.entries.now gs c.loop-led.targets.items)
+    (take_all c.loop-led.led-index c.args.gotos.now c.loop-led-test.false) c.loop-led.invariant

@@ -1,20 +1,13 @@
-use Rattle.std.proofs.Common.{arith, inl, inr, length, length-append, slice_get, subst, sym, ap, ◌∙◌, [], ◌∷◌}
-use Rattle.ly_loop.specs.Private.Entries.{AreEntries}
-use Rattle.ly_loop.proofs.EntryLemmas.{slice_get_push}
+use Rattle.std.specs.Global.{Vec}
+use Rattle.std.proofs.lemmas.Result.{IfOk-weaker}
+use Rattle.ly_pack.specs.Rows.{AreAllCellsOf}
+use Rattle.ly_loop.specs.Private.Entries.{AreAllEntries}
+use Rattle.ly_loop.proofs.EntryLemmas.{entries_are}
 use Rattle.ly_loop.proofs.entries.all_entries.Goals as goal
 
-pub loop-state-preserved : goal.loop-state-preserved
-loop-state-preserved g c =
+pub returns : goal.returns
+returns g c =
     let m = c.args.machine.now in
-    let rows = c.loop-state.rows.items in
-    let row = c.in_ok-entries.field-0 in
-    let pushed = c.in_ok-push.ensures.items in
-    let was = c.loop-state.invariant in
-    record {
-      count = omega (arith, ap length pushed, length-append rows (row ∷ []), was.count);
-      each = λ state r is. elim (slice_get_push rows row state r (ap (λ l. slice_get l state) (sym pushed) ∙ is)) [
-        | inl old ↦ was.each state r old
-        | inr new ↦ subst (λ s. AreEntries m s r.items) (sym (new.0 ∙ was.count))
-            (subst (λ v. AreEntries m c.loop-state.state v.items) new.1 c.in_ok-entries.ensures)
-      ];
-    }
+    let so = c.actions.ensures in
+    IfOk-weaker c.cells.result _ (λ rows. AreAllEntries m rows.items)
+    (λ rows are. entries_are m _ _ _ rows.items so.entries so.rows so.width are) c.cells.ensures

@@ -13,8 +13,8 @@ returns-then-not-matches g c =
     elim c.match-matches.branch [
       | in-Reduce w ↦ absurd (let is = w.matches-is in let not = c.if-not-matches.true in cc)
       | in_default w ↦
-          let stop = ends_by m stack c.args.entry.action w.in_default.not-Reduce in
-          ends_here m c.args.entry.terminal.0 stack c.args.bound (
+          let stop = ends_by m stack c.args.entry.entry w.in_default.not-Reduce in
+          ends_here m c.args.entry.column stack c.args.bound (
             stop.0,
             ap (perform m stack) c.requires.entry.1 ∙ stop.1,
           )

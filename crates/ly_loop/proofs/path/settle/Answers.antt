@@ -42,7 +42,7 @@ loop-entry-preserved g c =
     let left = c.loop-entry.path.settled.members in
     let next = c.else-insert.path in
     let added = c.insert.ensures.added in
-    let more = λ (end : (has_left left e.terminal.0 ≡ true) ⊎ EndsWithin m e.terminal.0 stack c.args.bound)
+    let more = λ (end : (has_left left e.column ≡ true) ⊎ EndsWithin m e.column stack c.args.bound)
     (is : next.settled ≡ c.insert.new.self).
     subst (λ es. AreSettled m stack c.args.bound es old next.settled.members)
     (sym (take_more entries k no_entry c.loop-entry-test.true))
@@ -53,9 +53,9 @@ loop-entry-preserved g c =
     elim c.else-insert.branch [
       | else-insert-via-then-insert+in_ok-ends_alone+else-not-branch w ↦
           let is = ap (λ (p : Path). p.settled) w.path-is in
-          let ran = subst (EndsAs m e.terminal.0 (stack_of w.deref.result.now) c.args.bound) w.if-not-branch.false
+          let ran = subst (EndsAs m e.column (stack_of w.deref.result.now) c.args.bound) w.if-not-branch.false
           w.in_ok-ends_alone.ensures in
-          let on = subst (λ xs. EndsWithin m e.terminal.0 (stack_of xs) c.args.bound)
+          let on = subst (λ xs. EndsWithin m e.column (stack_of xs) c.args.bound)
           (w.deref.ensures.value ∙ ap (λ v. v.items) was.stack) ran in
           record {
             settled = more (inr on) is;
@@ -64,7 +64,7 @@ loop-entry-preserved g c =
           }
       | else-insert-via-else-insert w ↦
           let is = ap (λ (p : Path). p.settled) w.path-is in
-          let had = not-false (has_left left e.terminal.0) (sym w.if-insert.ensures.new) in
+          let had = not-false (has_left left e.column) (sym w.if-insert.ensures.new) in
           record {
             settled = more (inl had) is;
             stack = ap (λ (p : Path). p.stack) w.path-is ∙ was.stack;

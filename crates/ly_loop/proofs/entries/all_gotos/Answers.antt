@@ -1,0 +1,13 @@
+use Rattle.std.specs.Global.{Vec}
+use Rattle.std.proofs.lemmas.Result.{IfOk-weaker}
+use Rattle.ly_pack.specs.Rows.{AreAllCellsOf}
+use Rattle.ly_loop.specs.Private.Entries.{AreAllGotos}
+use Rattle.ly_loop.proofs.EntryLemmas.{gotos_are}
+use Rattle.ly_loop.proofs.entries.all_gotos.Goals as goal
+
+pub returns : goal.returns
+returns g c =
+    let m = c.args.machine.now in
+    let so = c.gotos.ensures in
+    IfOk-weaker c.cells.result _ (λ rows. AreAllGotos m rows.items)
+    (λ rows are. gotos_are m _ _ _ rows.items so.entries so.rows so.width are) c.cells.ensures
