@@ -11,7 +11,8 @@ use Rattle.std.proofs.lemmas.List.{length-replicate}
 use Rattle.std.proofs.lemmas.List.Elements.{All-append, All-replicate, All-from_get_or}
 use Rattle.std.proofs.lemmas.Nat.{be_bytes_2, be_bytes_4}
 use Rattle.std.proofs.lemmas.List.Elements.{All-cons, All-head, All-nil, All-tail}
-use Rattle.ly_tables.specs.Private.Parts.{AreBytes, IsByteText, IsBeginning, IsShortText, IsStringText, IsWideText}
+use Rattle.byteorder.specs.Endian.{big_number}
+use Rattle.ly_tables.specs.Private.Parts.{AreBytes, IsByteText, IsBeginning, IsNumberText, IsStringText}
 use Rattle.ly_tables.specs.Private.Parts.{Repeated, Spells, Stops, Then}
 use Rattle.ly_tables.specs.RawSet.{Fits, IsByte}
 use Rattle.ly_tables.specs.Spelling.{number}
@@ -100,7 +101,7 @@ small (byte ∷ bytes) all zero = all 0 0 (omega arith)
 small (byte ∷ bytes) all (suc i) = small bytes (λ k d lt. all (suc k) d (omega arith)) i
 
 -- two bytes are a number
-pub short_part : (bytes : List ℕ) → AreBytes 2 bytes → IsShortText bytes
+pub short_part : (bytes : List ℕ) → AreBytes 2 bytes → IsNumberText w16 bytes
 short_part bytes (long, all) = record {
   value = from_be_bytes w16 bytes;
   fit = omega (arith, small bytes all 0, small bytes all 1);
@@ -108,12 +109,28 @@ short_part bytes (long, all) = record {
 }
 
 -- four bytes are a number
-pub wide_part : (bytes : List ℕ) → AreBytes 4 bytes → IsWideText bytes
+pub wide_part : (bytes : List ℕ) → AreBytes 4 bytes → IsNumberText w32 bytes
 wide_part bytes (long, all) = record {
   value = from_be_bytes w32 bytes;
   fit = omega (arith, small bytes all 0, small bytes all 1, small bytes all 2, small bytes all 3);
   is = sym (be_bytes_4 bytes (from_be_bytes w32 bytes) long (small bytes all) refl);
 }
+
+-- what is read of two bytes is the number that they spell
+pub short_read : (text behind : List ℕ) {left : List ℕ} (n : ℕ) → AreBytes 2 text × (left ≡ text ++ behind)
+    → n ≡ big_number 2 text → Fits w16 n × (left ≡ number w16 n ++ behind)
+short_read text behind n ((long, all), is) read = (
+  omega (arith, read, small text all 0, small text all 1),
+  is ∙ ap (λ x. x ++ behind) (sym (be_bytes_2 text n long (small text all) (omega (arith, read)))),
+)
+
+-- and of four bytes
+pub wide_read : (text behind : List ℕ) {left : List ℕ} (n : ℕ) → AreBytes 4 text × (left ≡ text ++ behind)
+    → n ≡ big_number 4 text → Fits w32 n × (left ≡ number w32 n ++ behind)
+wide_read text behind n ((long, all), is) read = (
+  omega (arith, read, small text all 0, small text all 1, small text all 2, small text all 3),
+  is ∙ ap (λ x. x ++ behind) (sym (be_bytes_4 text n long (small text all) (omega (arith, read)))),
+)
 
 -- parts of values that fit are a list of such
 pub repeated_part : {V : Type 0} (fits : V → Type 0) (spelled : V → List ℕ) (n : ℕ) (bytes : List ℕ)

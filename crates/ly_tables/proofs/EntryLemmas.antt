@@ -1,7 +1,7 @@
 -- The entries of rows, taken apart.
 use Rattle.std.proofs.Common.{◌≡◌, ◌∙◌, ◌+◌, inl, inr, ℕ, Option, Some, None, true, false}
 use Rattle.std.proofs.Common.{slice_index, refl, sym, ap, arith, slice_get, nat_eq, nat_lt, lt-ltb, subst}
-use Rattle.std.specs.Int.{w16}
+use Rattle.std.specs.Int.{Width}
 use Rattle.std.specs.Prelude.{length, option_and_then}
 use Rattle.std.proofs.lemmas.Bool.{cases_eq, cases_lt, eq-eqb, le-ltb, ne_eqb}
 use Rattle.std.proofs.lemmas.Option.{none-some, same_Some}
@@ -46,14 +46,14 @@ comb_entry_used {E} c row column e is = elim (cases_lt column c.width) [
     from_base (Some base) at is = from_slot base (slice_get c.slots (base + column)) refl at is
 
 -- the number of an entry may stand in its column
-pub entry_legal : {E : Type 0} (meant : ℕ → E) (c : RawComb) → length c.rows ≡ length c.entries → (columns : ℕ)
-    (legal : ℕ → ℕ → Type 0) → AreRowsWithin w16 columns legal c → (row column : ℕ) (e : E)
-    → comb_entry (comb_meant meant columns c) row column ≡ Some e → (n : ℕ) × legal column n × (e ≡ meant n)
-entry_legal {E} meant c long columns legal within row column e is =
-    let found = comb_entry_used (comb_meant meant columns c) row column e is in
+pub entry_legal : {E : Type 0} (w : Width) (meant : ℕ → E) (c : RawComb) → length c.rows ≡ length c.entries → (columns : ℕ)
+    (legal : ℕ → ℕ → Type 0) → AreRowsWithin w columns legal c → (row column : ℕ) (e : E)
+    → comb_entry (comb_meant w meant columns c) row column ≡ Some e → (n : ℕ) × legal column n × (e ≡ meant n)
+entry_legal {E} w meant c long columns legal within row column e is =
+    let found = comb_entry_used (comb_meant w meant columns c) row column e is in
     let base = found.0 in
     let u = found.1 in
-    let used = used_within meant c long columns legal within (base + column) u found.3 in
+    let used = used_within w meant c long columns legal within (base + column) u found.3 in
     let same : base ≡ used.0 = same_Some base used.0 (sym found.2 ∙ ap (slice_get c.bases) (sym found.4) ∙ used.2) in
     let there : used.1 ≡ column = omega (arith, used.4, same) in
     let n = slice_index c.entries (base + column) in

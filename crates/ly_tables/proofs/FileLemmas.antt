@@ -1,34 +1,35 @@
 -- A table file: its header and its three parts.
 use Rattle.std.proofs.Common.{◌≡◌, ◌∙◌, ◌++◌, ◌≤◌, ℕ, List, [], ◌∷◌, Result, Ok, Err, IfErr, IsErrAnd, ap}
 use Rattle.std.proofs.Common.{All, append-nil, append_assoc, arith, refl, codes, inr, length, subst, sym, take}
-use Rattle.std.specs.Int.{w16, to_be_bytes}
+use Rattle.std.specs.Int.{Width, w16, to_be_bytes}
 use Rattle.std.proofs.Common.{◌*◌, ◌+◌, ap₂, drop, get_or}
 use Rattle.std.proofs.lemmas.List.Elements.{All-cons, All-nil}
 use Rattle.std.proofs.lemmas.Nat.{be_bytes_2}
 use Rattle.ly_tables.proofs.BeginningLemmas.{small}
 use Rattle.ly_tables.proofs.SectionLemmas.{counted_bytes, ended, four_apart, parser_part, scanner_part, some_conditions}
 use Rattle.ly_tables.proofs.SectionLemmas.{some_states}
-use Rattle.ly_tables.specs.Private.Found.{IsThere}
+use Rattle.ly_base.specs.declared.version.Version.{Version}
+use Rattle.ly_tables.specs.Private.Found.{IsThere, zero_fits}
 use Rattle.ly_tables.specs.Private.Parts.{IsBeginning, Stops, Then}
 use Rattle.ly_tables.specs.Private.RawParts.{DoSymbolsFit, DoesParserFit, DoesScannerFit, IsParserText, together}
-use Rattle.ly_tables.specs.Ranges.{version_1}
+use Rattle.ly_tables.specs.Ranges.{number_of, width_of}
 use Rattle.ly_tables.specs.RawSet.{IsByte, RuleFits, ScanRuleFits, raw_rule, raw_scan_rule}
-use Rattle.ly_tables.specs.RawSet.{IsRawSet, RawSet, raw_parser_sections, raw_scanner_sections, raw_spelling}
+use Rattle.ly_tables.specs.RawSet.{IsRawSet, RawSet, raw_parser_sections, raw_scanner_sections}
 use Rattle.ly_tables.specs.RawSet.{raw_symbol_sections}
-use Rattle.ly_tables.specs.Reading.{IsTruncated}
+use Rattle.ly_tables.specs.Reading.{IsTruncated, raw_file}
 use Rattle.ly_tables.specs.Refusal.{IsRefusedAs}
 use Rattle.ly_tables.specs.declared.fault.TableFault.{TableFault}
 use Rattle.ly_tables.specs.declared.fault.TableFault.TheVariants.{BadMagic, BadVersion, Endless, OutOfMemory}
 use Rattle.ly_tables.specs.declared.fault.TableFault.TheVariants.{OutOfRange, Trailing, Truncated}
 
--- the header of a file of version 1
-abbrev pub heading : List ℕ
-heading = codes "LYTB" ++ to_be_bytes w16 1
+-- the header of a file of a version
+abbrev pub heading : Version → List ℕ
+heading v = codes "LYTB" ++ to_be_bytes w16 (number_of v)
 
 -- the numbers of the three parts fit together
-pub together_fit : (s c p : RawSet) → DoSymbolsFit s → DoesScannerFit c → DoesParserFit p
-    → IsRawSet w16 (together s c p)
-together_fit s c p symbols scanner parser = record {
+pub together_fit : (w : Width) (s c p : RawSet) → DoSymbolsFit w s → DoesScannerFit w c → DoesParserFit w p
+    → IsRawSet w (together s c p)
+together_fit w s c p symbols scanner parser = record {
   terminal_count = symbols.terminal_count;
   nonterminals = symbols.nonterminals;
   terminals = symbols.terminals;
@@ -53,38 +54,40 @@ together_fit s c p symbols scanner parser = record {
 }
 
 -- their bytes are those of the file
-pub together_is : (s c p : RawSet) {bytes l1 l2 l3 : List ℕ} (l4 : List ℕ) → bytes ≡ heading ++ l1
-    → l1 ≡ raw_symbol_sections w16 s ++ l2 → l2 ≡ raw_scanner_sections w16 c ++ l3
-    → l3 ≡ raw_parser_sections w16 p ++ l4 → bytes ≡ raw_spelling w16 1 (together s c p) ++ l4
-together_is s c p l4 first second third last =
-    four_apart l4 heading (raw_symbol_sections w16 s) (raw_scanner_sections w16 c) (raw_parser_sections w16 p)
-    first second third last
+pub together_is : (v : Version) (s c p : RawSet) {bytes l1 l2 l3 : List ℕ} (l4 : List ℕ) → bytes ≡ heading v ++ l1
+    → l1 ≡ raw_symbol_sections (width_of v) s ++ l2 → l2 ≡ raw_scanner_sections (width_of v) c ++ l3
+    → l3 ≡ raw_parser_sections (width_of v) p ++ l4 → bytes ≡ raw_file v (together s c p) ++ l4
+together_is v s c p l4 first second third last =
+    four_apart l4 (heading v) (raw_symbol_sections (width_of v) s) (raw_scanner_sections (width_of v) c)
+    (raw_parser_sections (width_of v) p) first second third last
 
 -- what follows the symbols
-abbrev pub ScannerText : List ℕ → Type 0
-ScannerText = Then DoesScannerFit (raw_scanner_sections w16) (λ scanner. IsParserText)
+abbrev pub ScannerText : Width → List ℕ → Type 0
+ScannerText w = Then (DoesScannerFit w) (raw_scanner_sections w) (λ scanner. IsParserText w)
 
 -- what follows the header
-abbrev pub FileText : List ℕ → Type 0
-FileText = Then DoSymbolsFit (raw_symbol_sections w16) (λ symbols. ScannerText)
+abbrev pub FileText : Width → List ℕ → Type 0
+FileText w = Then (DoSymbolsFit w) (raw_symbol_sections w) (λ symbols. ScannerText w)
 
 -- where what follows the header is only begun, the file is
-pub truncated : {bytes left : List ℕ} → bytes ≡ heading ++ left → IsBeginning FileText left → IsTruncated w16 1 bytes
-truncated {bytes} {left} is begun =
+pub truncated : (v : Version) {bytes left : List ℕ} → bytes ≡ heading v ++ left
+    → IsBeginning (FileText (width_of v)) left → IsTruncated bytes
+truncated v {bytes} {left} is begun =
     let symbols = begun.all in let scanner = symbols.follows in let parser = scanner.follows in
     inr (
+      v,
       together symbols.value scanner.value parser.value,
       begun.missing,
-      together_fit symbols.value scanner.value parser.value symbols.fit scanner.fit parser.fit,
+      together_fit (width_of v) symbols.value scanner.value parser.value symbols.fit scanner.fit parser.fit,
       begun.some,
-      together_is symbols.value scanner.value parser.value []
-          (ap (λ x. x ++ begun.missing) is ∙ append_assoc heading left begun.missing) symbols.is scanner.is (ended
+      together_is v symbols.value scanner.value parser.value []
+          (ap (λ x. x ++ begun.missing) is ∙ append_assoc (heading v) left begun.missing) symbols.is scanner.is (ended
           parser.is)
-          ∙ append-nil (raw_spelling w16 1 (together symbols.value scanner.value parser.value)),
+          ∙ append-nil (raw_file v (together symbols.value scanner.value parser.value)),
     )
 
-refused_as : {P : Type 0} (bytes : List ℕ) (fault : TableFault) → Stops P fault → (P → IsTruncated w16 1 bytes)
-    → IsRefusedAs w16 1 version_1 bytes fault
+refused_as : {P : Type 0} (bytes : List ℕ) (fault : TableFault) → Stops P fault → (P → IsTruncated bytes)
+    → IsRefusedAs bytes fault
 refused_as bytes Truncated begun all = all begun
 refused_as bytes OutOfMemory begun all = tt
 refused_as bytes BadMagic begun all = absurd begun
@@ -95,42 +98,45 @@ refused_as bytes Endless begun all = absurd begun
 
 -- a part that is only begun is why the file is refused
 pub refused : {T P : Type 0} (bytes : List ℕ) (result : Result T TableFault) (fault : TableFault)
-    → IsErrAnd result (λ other. other ≡ fault) → Stops P fault → (P → IsTruncated w16 1 bytes)
-    → IfErr result (IsRefusedAs w16 1 version_1 bytes)
+    → IsErrAnd result (λ other. other ≡ fault) → Stops P fault → (P → IsTruncated bytes)
+    → IfErr result (IsRefusedAs bytes)
 refused bytes (Ok x) fault same begun all = tt
 refused {T} {P} bytes (Err other) fault same begun all =
-    subst (IsRefusedAs w16 1 version_1 bytes) (sym same) (refused_as bytes fault begun all)
+    subst (IsRefusedAs bytes) (sym same) (refused_as bytes fault begun all)
 
-pub some_parser : IsThere IsParserText
-some_parser =
-    let bytes = counted_bytes (raw_rule w16) [] ++ some_states.0 in (
+pub some_parser : (w : Width) → IsThere (IsParserText w)
+some_parser w =
+    let states = some_states w in
+    let bytes = counted_bytes w (raw_rule w) [] ++ states.0 in (
       bytes,
-      parser_part bytes record {
+      parser_part w bytes record {
         value = [];
-        rest = some_states.0;
-        fit = (omega arith, All-nil (RuleFits w16));
-        follows = some_states.1;
+        rest = states.0;
+        fit = (zero_fits w, All-nil (RuleFits w));
+        follows = states.1;
         is = refl;
       },
     )
 
-pub some_scanner : IsThere ScannerText
-some_scanner =
-    let bytes = counted_bytes (raw_scan_rule w16) [] ++ some_conditions.0 in
-    let scanner = scanner_part bytes record {
+pub some_scanner : (w : Width) → IsThere (ScannerText w)
+some_scanner w =
+    let conditions = some_conditions w in
+    let parser = some_parser w in
+    let bytes = counted_bytes w (raw_scan_rule w) [] ++ conditions.0 in
+    let scanner = scanner_part w bytes record {
       value = [];
-      rest = some_conditions.0;
-      fit = (omega arith, All-nil (ScanRuleFits w16));
-      follows = some_conditions.1;
+      rest = conditions.0;
+      fit = (zero_fits w, All-nil (ScanRuleFits w));
+      follows = conditions.1;
       is = refl;
     } in (
-      bytes ++ some_parser.0,
+      bytes ++ parser.0,
       record {
         value = scanner.value;
-        rest = some_parser.0;
+        rest = parser.0;
         fit = scanner.fit;
-        follows = some_parser.1;
-        is = ap (λ x. x ++ some_parser.0) scanner.is;
+        follows = parser.1;
+        is = ap (λ x. x ++ parser.0) scanner.is;
       },
     )
 
@@ -151,9 +157,10 @@ version_found (a ∷ b ∷ c ∷ d ∷ h ∷ l ∷ rest) long magic all =
     (sym (be_bytes_2 (h ∷ l ∷ []) (h * 256 + l) refl (small (h ∷ l ∷ []) two) refl))
 
 -- nothing stands behind the three parts
-pub together_all : (s c p : RawSet) {bytes l1 l2 l3 : List ℕ} (l4 : List ℕ) → length l4 ≡ 0 → bytes ≡ heading ++ l1
-    → l1 ≡ raw_symbol_sections w16 s ++ l2 → l2 ≡ raw_scanner_sections w16 c ++ l3
-    → l3 ≡ raw_parser_sections w16 p ++ l4 → bytes ≡ raw_spelling w16 1 (together s c p)
-together_all s c p [] none first second third last =
-    together_is s c p [] first second third last ∙ append-nil (raw_spelling w16 1 (together s c p))
-together_all s c p (x ∷ l4) none first second third last = absurd (omega (arith, none))
+pub together_all : (v : Version) (s c p : RawSet) {bytes l1 l2 l3 : List ℕ} (l4 : List ℕ) → length l4 ≡ 0
+    → bytes ≡ heading v ++ l1 → l1 ≡ raw_symbol_sections (width_of v) s ++ l2
+    → l2 ≡ raw_scanner_sections (width_of v) c ++ l3 → l3 ≡ raw_parser_sections (width_of v) p ++ l4
+    → bytes ≡ raw_file v (together s c p)
+together_all v s c p [] none first second third last =
+    together_is v s c p [] first second third last ∙ append-nil (raw_file v (together s c p))
+together_all v s c p (x ∷ l4) none first second third last = absurd (omega (arith, none))

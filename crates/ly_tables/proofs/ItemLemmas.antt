@@ -1,7 +1,7 @@
 -- Numbers that are within their ranges are those of what they mean.
 use Rattle.std.proofs.Common.{◌≡◌, ◌≢◌, ◌≤◌, inl, inr, ℕ, zero, suc, List, [], ◌∷◌, length, map}
 use Rattle.std.proofs.Common.{refl, sym, arith, All, slice_index, nat_eq, true, false}
-use Rattle.std.specs.Int.{w16}
+use Rattle.std.specs.Int.{Width}
 use Rattle.std.proofs.lemmas.Bool.{cases_eq, eq-eqb, ne_eqb}
 use Rattle.std.proofs.lemmas.List.Elements.{All-head, All-tail}
 use Rattle.ly_tables.specs.Private.Meaning.{counted_meant, cut_meant, default_meant, emitted_meant, number_meant}
@@ -11,6 +11,7 @@ use Rattle.ly_tables.specs.RawOf.{raw_rule_of, raw_scan_rule_of, raw_starts_of, 
 use Rattle.ly_tables.specs.RawOf.{terminal_of}
 use Rattle.ly_tables.specs.RawSections.{IsRuleWithin, IsScanRuleWithin, IsShapeWithin}
 use Rattle.ly_tables.specs.RawSet.{RawRule, RawScanRule, RawSet, RawStarts}
+use Rattle.ly_tables.specs.Spelling.{none_of}
 
 -- a list that is mapped there and back
 pub map_back : {A B C : Type 0} (f : A → B) (g : B → C) (h : A → C) (xs : List A) → All (λ x. g (f x) ≡ h x) xs
@@ -35,10 +36,10 @@ cut_back (suc zero) n le whole = (refl, refl)
 cut_back (suc (suc zero)) n le whole = (refl, refl)
 cut_back (suc (suc (suc k))) n le whole = absurd (omega (arith, le))
 
-number_back : (n : ℕ) → number_or_none w16 (number_meant n) ≡ n
-number_back n = elim (cases_eq n 65535) [
-  | inl same ↦ let e : nat_eq n 65535 ≡ true = eq-eqb n 65535 same in rw e (sym same)
-  | inr other ↦ let e : nat_eq n 65535 ≡ false = ne_eqb n 65535 other in rw e refl
+number_back : (w : Width) (n : ℕ) → number_or_none w (number_meant w n) ≡ n
+number_back w n = elim (cases_eq n (none_of w)) [
+  | inl same ↦ let e : nat_eq n (none_of w) ≡ true = eq-eqb n (none_of w) same in rw e (sym same)
+  | inr other ↦ let e : nat_eq n (none_of w) ≡ false = ne_eqb n (none_of w) other in rw e refl
 ]
 
 pub counted_back : (n : ℕ) → from_one (counted_meant n) ≡ n
@@ -50,18 +51,18 @@ pub default_back : (n : ℕ) → number_or_zero (default_meant n) ≡ n
 default_back zero = refl
 default_back (suc n) = let e : nat_eq (suc n) 0 ≡ false = ne_eqb (suc n) 0 (λ h. omega (arith, h)) in rw e refl
 
-pub starts_back : (c : RawStarts) → raw_starts_of w16 (starts_meant c) ≡ c
-starts_back c = λ i. record { elsewhere = number_back c.elsewhere i; at_line = number_back c.at_line i }
+pub starts_back : (w : Width) (c : RawStarts) → raw_starts_of w (starts_meant w c) ≡ c
+starts_back w c = λ i. record { elsewhere = number_back w c.elsewhere i; at_line = number_back w c.at_line i }
 
-pub scan_rule_back : (r : RawSet) (x : RawScanRule) → IsScanRuleWithin w16 r x
-    → raw_scan_rule_of w16 (scan_rule_meant x) ≡ x
-scan_rule_back r x within =
+pub scan_rule_back : (w : Width) (r : RawSet) (x : RawScanRule) → IsScanRuleWithin w r x
+    → raw_scan_rule_of w (scan_rule_meant w x) ≡ x
+scan_rule_back w r x within =
     let emits = emitted_back x.kind x.terminal within.kind within.no_terminal in
     let cut = cut_back x.cut x.len within.cut within.whole in
     λ i. record {
       kind = emits.0 i;
       terminal = emits.1 i;
-      begin = number_back x.begin i;
+      begin = number_back w x.begin i;
       cut = cut.0 i;
       len = cut.1 i;
     }

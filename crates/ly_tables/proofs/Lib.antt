@@ -18,3 +18,5 @@ pub mod SetLemmas
 pub mod SlotLemmas
 pub mod SteadyLemmas
 pub mod ToldLemmas
+pub mod VersionLemmas
+pub mod WidthLemmas

@@ -1,25 +1,30 @@
 -- What numbers mean that are within their ranges, item by item.
 use Rattle.std.proofs.Common.{◌≡◌, ◌∙◌, ◌<◌, ◌≤◌, ◌+◌, ◌-◌, inl, inr, ℕ, zero, suc, List, length}
-use Rattle.std.proofs.Common.{refl, sym, subst, arith, map, All, Option, Some, true, false}
+use Rattle.std.proofs.Common.{refl, ap, sym, subst, arith, map, All, Option, Some, true, false}
 use Rattle.std.proofs.Common.{slice_get, nat_eq, nat_lt, lt-ltb}
-use Rattle.std.specs.Int.{w16}
+use Rattle.std.specs.Int.{Width}
 use Rattle.std.proofs.lemmas.Bool.{cases_eq, eq-eqb, le-ltb, ne_eqb}
 use Rattle.std.proofs.lemmas.Option.{get_or_from_slice_get, none-some, same_Some, slice_get-map, slice_get_within}
 use Rattle.ly_base.proofs.ListLemmas.{option_map-some}
 use Rattle.ly_pack.specs.Machine.{IsRuleWithin as IsTableRuleWithin, IsShapeFor}
+use Rattle.ly_base.specs.declared.version.Version.{Version}
 use Rattle.ly_pack.specs.Values.{action_from}
+use Rattle.ly_pack.specs.declared.action.TableAction as code
+use Rattle.ly_pack.specs.declared.action.TableAction.TheVariants.{Shift, Reduce, Accept, Error}
 use Rattle.ly_tables.specs.Private.Meaning.{action_meant, counted_meant, cut_meant, default_meant, emitted_meant}
 use Rattle.ly_tables.specs.Private.Meaning.{number_meant, rule_meant, scan_rule_meant, shape_meant, starts_meant}
 use Rattle.ly_tables.specs.Ranges.{AreStartsWithin, IsCutWithin, IsEmittedWithin, IsRuleShort, IsScanRule, IsShapeShort}
+use Rattle.ly_tables.specs.Ranges.{counts_of, width_of}
 use Rattle.ly_tables.specs.RawSections.{IsActionWithin, IsNoneOr, IsRuleWithin, IsScanRuleWithin, IsShapeWithin}
-use Rattle.ly_tables.specs.RawSet.{RawRule, RawScanRule, RawSet, RawStarts, RuleFits, ScanRuleFits}
-use Rattle.ly_tables.specs.Spelling.{action_number}
+use Rattle.ly_tables.specs.RawSet.{Fits, RawRule, RawScanRule, RawSet, RawStarts, RuleFits, ScanRuleFits}
+use Rattle.ly_tables.specs.Spelling.{action_number, least_reduction, least_shift, none_of}
+use Rattle.ly_tables.proofs.WidthLemmas.{of_version}
 
 -- a number that is there is below its bound
-number_below : (bound n c : ℕ) → IsNoneOr w16 bound n → number_meant n ≡ Some c → c < bound
-number_below bound n c within is = elim (cases_eq n 65535) [
-  | inl top ↦ let e : nat_eq n 65535 ≡ true = eq-eqb n 65535 top in absurd (none-some c (rw e at is))
-  | inr other ↦ let e : nat_eq n 65535 ≡ false = ne_eqb n 65535 other in
+number_below : (w : Width) (bound n c : ℕ) → IsNoneOr w bound n → number_meant w n ≡ Some c → c < bound
+number_below w bound n c within is = elim (cases_eq n (none_of w)) [
+  | inl top ↦ let e : nat_eq n (none_of w) ≡ true = eq-eqb n (none_of w) top in absurd (none-some c (rw e at is))
+  | inr other ↦ let e : nat_eq n (none_of w) ≡ false = ne_eqb n (none_of w) other in
       let same : n ≡ c = same_Some n c (rw e at is) in
       elim within [
         | inl top ↦ absurd (other top)
@@ -36,27 +41,28 @@ emitted_within (suc (suc k)) t terminals token =
     let f : nat_eq (suc (suc k)) 1 ≡ false = ne_eqb (suc (suc k)) 1 (λ h. omega (arith, h)) in
     rw (e, f) tt
 
-cut_within : (k n : ℕ) → n < 65536 → (k ≡ 1 → 1 ≤ n) → IsCutWithin w16 (cut_meant k n)
-cut_within zero n fits head = tt
-cut_within (suc zero) n fits head = (head refl, fits)
-cut_within (suc (suc k)) n fits head =
+cut_within : (w : Width) (k n : ℕ) → Fits w n → (k ≡ 1 → 1 ≤ n) → IsCutWithin w (cut_meant k n)
+cut_within w zero n fits head = tt
+cut_within w (suc zero) n fits head = (head refl, fits)
+cut_within w (suc (suc k)) n fits head =
     let e : nat_eq (suc (suc k)) 0 ≡ false = ne_eqb (suc (suc k)) 0 (λ h. omega (arith, h)) in
     let f : nat_eq (suc (suc k)) 1 ≡ false = ne_eqb (suc (suc k)) 1 (λ h. omega (arith, h)) in
     rw (e, f) fits
 
-pub scan_rule_within : (r : RawSet) (conditions : ℕ) (x : RawScanRule) → conditions ≡ length r.conditions
-    → IsScanRuleWithin w16 r x → ScanRuleFits w16 x → IsScanRule w16 (length r.terminals) conditions (scan_rule_meant x)
-scan_rule_within r conditions x same within fits = record {
+pub scan_rule_within : (w : Width) (r : RawSet) (conditions : ℕ) (x : RawScanRule) → conditions ≡ length r.conditions
+    → IsScanRuleWithin w r x → ScanRuleFits w x
+    → IsScanRule w (length r.terminals) conditions (scan_rule_meant w x)
+scan_rule_within w r conditions x same within fits = record {
   emits = emitted_within x.kind x.terminal (length r.terminals) within.terminal;
-  begin = λ c is. omega (arith, same, number_below (length r.conditions) x.begin c within.begin is);
-  cut = cut_within x.cut x.len fits.len within.head;
+  begin = λ c is. omega (arith, same, number_below w (length r.conditions) x.begin c within.begin is);
+  cut = cut_within w x.cut x.len fits.len within.head;
 }
 
-pub starts_within : (states : ℕ) (c : RawStarts) → IsNoneOr w16 states c.elsewhere × IsNoneOr w16 states c.at_line
-    → AreStartsWithin states (starts_meant c)
-starts_within states c within = record {
-  elsewhere = λ s is. number_below states c.elsewhere s within.0 is;
-  at_line = λ s is. number_below states c.at_line s within.1 is;
+pub starts_within : (w : Width) (states : ℕ) (c : RawStarts)
+    → IsNoneOr w states c.elsewhere × IsNoneOr w states c.at_line → AreStartsWithin states (starts_meant w c)
+starts_within w states c within = record {
+  elsewhere = λ s is. number_below w states c.elsewhere s within.0 is;
+  at_line = λ s is. number_below w states c.at_line s within.1 is;
 }
 
 counted_some : (n p : ℕ) → counted_meant n ≡ Some p → n ≡ p + 1
@@ -106,8 +112,8 @@ shape_for r x within (inl nothing) = rw nothing.0 nothing.1
 shape_for r x within (inr (inl pass)) = rw pass.0 (within.places 0 0 (omega (arith, pass.2)))
 shape_for r x within (inr (inr build)) = rw build.0 (build.1.0, within.places, within.apart)
 
-pub rule_short : (r : RawSet) (x : RawRule) → IsRuleWithin r x → RuleFits w16 x → IsRuleShort (rule_meant x)
-rule_short r x within fits = record {
+pub rule_short : (w : Width) (r : RawSet) (x : RawRule) → IsRuleWithin r x → RuleFits w x → IsRuleShort (rule_meant x)
+rule_short w r x within fits = record {
   body = omega (arith, fits.body_length);
   shape = shape_short x within.shape fits.name.1;
 }
@@ -115,13 +121,59 @@ rule_short r x within fits = record {
 pub rule_within : (r : RawSet) (x : RawRule) → IsRuleWithin r x → IsTableRuleWithin r.nonterminals (rule_meant x)
 rule_within r x within = record { left = within.left; shape = shape_for r x within within.shape }
 
--- the number of an action that may stand somewhere is that of what it means
-pub action_back : (r : RawSet) (column n : ℕ) → length r.rules ≤ 8191 → IsActionWithin w16 r column n
-    → action_number w16 (action_from (action_meant n)) ≡ n
-action_back r column n few (inl error) = rw error refl
-action_back r column n few (inr (inl accept)) = rw accept.0 refl
-action_back r column n few (inr (inr (inl (s, is, lt, one)))) =
-    let e : nat_lt n 32768 ≡ false = le-ltb n 32768 (omega (arith, is)) in rw e (omega (arith, is))
-action_back r column n few (inr (inr (inr (p, is, one, le)))) =
-    let e : nat_lt n 32768 ≡ true = lt-ltb n 32768 (omega (arith, is, le, few)) in
-    let f : nat_lt n 16384 ≡ false = le-ltb n 16384 (omega (arith, is)) in rw (e, f) (omega (arith, is))
+-- what the numbers of actions mean
+module _ (v : Version) where
+  pub error_meant : action_meant (width_of v) 0 ≡ Error
+  error_meant =
+      let facts = of_version v in
+      let e : nat_lt 0 (least_shift (width_of v)) ≡ true
+      = lt-ltb 0 (least_shift (width_of v)) (omega (arith, facts.quarter, facts.classes)) in
+      let f : nat_lt 0 (least_reduction (width_of v)) ≡ true
+      = lt-ltb 0 (least_reduction (width_of v)) (omega (arith, facts.classes)) in
+      rw (e, f) refl
+
+  pub accept_meant : action_meant (width_of v) 1 ≡ Accept
+  accept_meant =
+      let facts = of_version v in
+      let e : nat_lt 1 (least_shift (width_of v)) ≡ true
+      = lt-ltb 1 (least_shift (width_of v)) (omega (arith, facts.quarter, facts.classes)) in
+      let f : nat_lt 1 (least_reduction (width_of v)) ≡ true
+      = lt-ltb 1 (least_reduction (width_of v)) (omega (arith, facts.classes)) in
+      rw (e, f) refl
+
+  pub shift_meant : (s : ℕ) → action_meant (width_of v) (least_shift (width_of v) + s) ≡ Shift (record { 0 = s })
+  shift_meant s =
+      let least = least_shift (width_of v) in
+      let e : nat_lt (least + s) least ≡ false = le-ltb (least + s) least (omega arith) in
+      let same : least + s - least ≡ s = omega arith in
+      rw e (λ i. Shift (record { 0 = same i }))
+
+  pub reduction_meant : (p : ℕ) → p < least_reduction (width_of v)
+      → action_meant (width_of v) (least_reduction (width_of v) + p) ≡ Reduce (record { 0 = p })
+  reduction_meant p lt =
+      let facts = of_version v in
+      let least = least_reduction (width_of v) in
+      let e : nat_lt (least + p) (least_shift (width_of v)) ≡ true
+      = lt-ltb (least + p) (least_shift (width_of v)) (omega (arith, facts.quarter, lt)) in
+      let f : nat_lt (least + p) least ≡ false = le-ltb (least + p) least (omega arith) in
+      let same : least + p - least ≡ p = omega arith in
+      rw (e, f) (λ i. Reduce (record { 0 = same i }))
+
+  -- the number of an action that may stand somewhere is that of what it means
+  pub action_back : (r : RawSet) (column n : ℕ) → length r.rules ≤ (counts_of v).rules
+      → IsActionWithin (width_of v) r column n
+      → action_number (width_of v) (action_from (action_meant (width_of v) n)) ≡ n
+  action_back r column n few within = elim within [
+    | inl error ↦ from 0 error error_meant refl
+    | inr (inl accept) ↦ from 1 accept.0 accept_meant refl
+    | inr (inr (inl (s, is, lt, one))) ↦ from (least_shift (width_of v) + s) is (shift_meant s) refl
+    | inr (inr (inr (p, is, one, le))) ↦ from (least_reduction (width_of v) + p) is
+        (reduction_meant p (let facts = of_version v in omega (arith, facts.rules, few, le))) refl
+  ]
+    where
+      from : (m : ℕ) {a : code.TableAction} → n ≡ m → action_meant (width_of v) m ≡ a
+          → action_number (width_of v) (action_from a) ≡ m
+          → action_number (width_of v) (action_from (action_meant (width_of v) n)) ≡ n
+      from m is meant number =
+          ap (λ k. action_number (width_of v) (action_from (action_meant (width_of v) k))) is
+          ∙ ap (λ (a : code.TableAction). action_number (width_of v) (action_from a)) meant ∙ number ∙ sym is

@@ -1,10 +1,11 @@
 -- What is read of a table file.
-use Rattle.std.proofs.Common.{◌≡◌, ◌∙◌, ℕ, List, ap, sym}
-use Rattle.std.specs.Int.{w16}
+use Rattle.std.proofs.Common.{◌≡◌, ◌∙◌, ℕ, List, Result, Ok, Err, IfErr, IsErrAnd, ap, subst, sym}
+use Rattle.ly_base.specs.declared.version.Version.{Version}
 use Rattle.ly_tables.specs.Private.Refused.{IsUnsteady}
-use Rattle.ly_tables.specs.Ranges.{IsWithinRanges, version_1}
+use Rattle.ly_tables.specs.Ranges.{IsWithinVersion, number_of, width_of}
 use Rattle.ly_tables.specs.RawOf.{raw_of}
-use Rattle.ly_tables.specs.RawSet.{RawSet, raw_spelling}
+use Rattle.ly_tables.specs.RawSet.{RawSet}
+use Rattle.ly_tables.specs.Reading.{raw_file}
 use Rattle.ly_tables.specs.Refusal.{IsRefusedAs}
 use Rattle.ly_tables.specs.TableSet.{TableSet, machine_of}
 use Rattle.ly_tables.specs.TableText.{TableText}
@@ -14,18 +15,26 @@ use Rattle.ly_tables.specs.declared.fault.TableFault.TheVariants.{OutOfRange, Tr
 use Rattle.ly_tables.proofs.RawOfLemmas.{spelling_same}
 
 -- the file of a set's numbers is that of the set
-pub text_of_numbers : (bytes : List ℕ) (r : RawSet) (s : TableSet) → bytes ≡ raw_spelling w16 1 r → raw_of w16 s ≡ r
-    → IsWithinRanges w16 version_1 s → TableText bytes w16 1 version_1 s
-text_of_numbers bytes r s spelled same within =
-    (within, spelled ∙ ap (raw_spelling w16 1) (sym same) ∙ sym (spelling_same w16 1 s))
+pub text_of_numbers : (v : Version) (bytes : List ℕ) (r : RawSet) (s : TableSet) → bytes ≡ raw_file v r
+    → raw_of (width_of v) s ≡ r → IsWithinVersion v s → TableText bytes v s
+text_of_numbers v bytes r s spelled same within =
+    (within, spelled ∙ ap (raw_file v) (sym same) ∙ sym (spelling_same (width_of v) (number_of v) s))
 
 -- a file of tables that aren't steady is refused so
-pub refused_unsteady : (bytes : List ℕ) (s : TableSet) → TableText bytes w16 1 version_1 s → (f : TableFault)
-    → IsUnsteady (machine_of s) f → IsRefusedAs w16 1 version_1 bytes f
-refused_unsteady bytes s text Endless endless = (s, text, endless)
-refused_unsteady bytes s text OutOfMemory said = tt
-refused_unsteady bytes s text BadMagic said = absurd said
-refused_unsteady bytes s text BadVersion said = absurd said
-refused_unsteady bytes s text Truncated said = absurd said
-refused_unsteady bytes s text Trailing said = absurd said
-refused_unsteady bytes s text (OutOfRange section) said = absurd said
+pub refused_unsteady : (v : Version) (bytes : List ℕ) (s : TableSet) → TableText bytes v s → (f : TableFault)
+    → IsUnsteady (machine_of s) f → IsRefusedAs bytes f
+refused_unsteady v bytes s text Endless endless = (v, s, text, endless)
+refused_unsteady v bytes s text OutOfMemory said = tt
+refused_unsteady v bytes s text BadMagic said = absurd said
+refused_unsteady v bytes s text BadVersion said = absurd said
+refused_unsteady v bytes s text Truncated said = absurd said
+refused_unsteady v bytes s text Trailing said = absurd said
+refused_unsteady v bytes s text (OutOfRange section) said = absurd said
+
+-- and so it is where the fault is handed on
+pub handed_unsteady : {T : Type 0} (v : Version) (bytes : List ℕ) (s : TableSet) → TableText bytes v s
+    → (result : Result T TableFault) (fault : TableFault) → IsErrAnd result (λ other. other ≡ fault)
+    → IsUnsteady (machine_of s) fault → IfErr result (IsRefusedAs bytes)
+handed_unsteady v bytes s text (Ok x) fault same said = tt
+handed_unsteady {T} v bytes s text (Err other) fault same said =
+    subst (IsRefusedAs bytes) (sym same) (refused_unsteady v bytes s text fault said)

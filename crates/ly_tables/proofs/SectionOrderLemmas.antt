@@ -1,10 +1,10 @@
 -- The order of sections.
 use Rattle.std.proofs.Common.{◌≡◌, ◌∙◌, ◌<◌, ℕ, suc, nat_eq, if◌then◌else◌, true, false, refl}
 use Rattle.std.proofs.Common.{inl, inr, arith, sym, ap, subst}
-use Rattle.std.specs.Int.{w16}
+use Rattle.ly_base.specs.declared.version.Version.{Version}
 use Rattle.std.proofs.lemmas.Bool.{cases_eq, false≢true}
 use Rattle.ly_tables.specs.Private.SectionOrder.{AreWithinBefore, IsFirstNumber}
-use Rattle.ly_tables.specs.Ranges.{version_1}
+use Rattle.ly_tables.specs.Ranges.{counts_of, width_of}
 use Rattle.ly_tables.specs.RawSections.{IsSectionWithin, Section, section_number}
 use Rattle.ly_tables.specs.RawSections.{symbol_section, literal_section, scan_rule_section, condition_section}
 use Rattle.ly_tables.specs.RawSections.{class_section, scan_state_section}
@@ -58,21 +58,21 @@ to_twelve state_section = omega arith
 to_twelve action_section = omega arith
 to_twelve goto_section = omega arith
 
-module _ (r : RawSet) where
-  pub none_before : AreWithinBefore r 2
+module _ (v : Version) (r : RawSet) where
+  pub none_before : AreWithinBefore v r 2
   none_before = λ s lt. absurd (from_two s lt)
 
-  pub one_more : (s : Section) → IsSectionWithin w16 version_1 r s → AreWithinBefore r (section_number s)
-      → AreWithinBefore r (suc (section_number s))
+  pub one_more : (s : Section) → IsSectionWithin (width_of v) (counts_of v) r s → AreWithinBefore v r (section_number s)
+      → AreWithinBefore v r (suc (section_number s))
   one_more s within before = λ other lt. elim (cases_eq (section_number other) (section_number s)) [
-    | inl same ↦ subst (λ t. IsSectionWithin w16 version_1 r t)
+    | inl same ↦ subst (λ t. IsSectionWithin (width_of v) (counts_of v) r t)
         (sym (section_back s) ∙ ap section_at (sym same) ∙ section_back other) within
     | inr apart ↦ before other (omega (arith, lt, apart))
   ]
 
-  pub all_within : AreWithinBefore r 13 → (s : Section) → IsSectionWithin w16 version_1 r s
+  pub all_within : AreWithinBefore v r 13 → (s : Section) → IsSectionWithin (width_of v) (counts_of v) r s
   all_within before = λ s. before s (to_twelve s)
 
-  pub first_number : (s : Section) → AreWithinBefore r (section_number s)
-      → (IsSectionWithin w16 version_1 r s → false ≡ true) → IsFirstNumber r (section_number s)
+  pub first_number : (s : Section) → AreWithinBefore v r (section_number s)
+      → (IsSectionWithin (width_of v) (counts_of v) r s → false ≡ true) → IsFirstNumber v r (section_number s)
   first_number s before out = (s, refl, record { out = λ within. false≢true (out within); first = before })

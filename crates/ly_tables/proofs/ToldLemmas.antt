@@ -8,7 +8,10 @@ use Rattle.std.proofs.Common.{codes}
 use Rattle.std.proofs.lemmas.List.{append_cancel_left}
 use Rattle.std.proofs.lemmas.List.Elements.{All-head, All-tail}
 use Rattle.std.proofs.lemmas.Nat.{from_be_bytes-to_be_bytes_2, from_be_bytes-to_be_bytes_4}
+use Rattle.ly_base.specs.declared.version.Version.{Version}
+use Rattle.ly_base.specs.declared.version.Version.TheVariants.{V1, V2}
 use Rattle.ly_tables.specs.Laws.{RawIsOne}
+use Rattle.ly_tables.specs.Ranges.{width_of}
 use Rattle.ly_tables.specs.RawSet.{CombFits, Fits, IsRawSet, IsString, RawComb, RawRule, RawScanRule, RawSet}
 use Rattle.ly_tables.specs.RawSet.{RuleFits, ScanRuleFits, StartsFit, raw_comb, raw_parser_sections}
 use Rattle.ly_tables.specs.RawSet.{raw_rule}
@@ -39,6 +42,11 @@ wides_told a b x y fit other is =
       sym (from_be_bytes-to_be_bytes_4 a fit) ∙ ap (from_be_bytes w32) front ∙ from_be_bytes-to_be_bytes_4 b other,
       behind,
     )
+
+-- numbers of a version are
+pub numbers_told : (v : Version) → AreNumbersTold (width_of v)
+numbers_told V1 = shorts_told
+numbers_told V2 = wides_told
 
 -- a byte
 byte_told : (a b : ℕ) (x y : List ℕ) → a ∷ x ≡ b ∷ y → (a ≡ b) × (x ≡ y)

@@ -1,3 +1,4 @@
+pub mod Fitting
 pub mod Found
 pub mod Meaning
 pub mod Names

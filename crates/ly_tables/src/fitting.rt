@@ -1,5 +1,7 @@
 //! Whether a table set is within the ranges of a version.
-ghost use Rattle.std.specs.Prelude.{◌+◌, ◌≤◌, ◌↔◌, All, IsTrue, length};
+ghost use Rattle.std.specs.Prelude.{◌↔◌, All, IsTrue};
+ghost use Rattle.ly_base.specs.declared.version.Version.TheVariants.{V2};
+ghost use Rattle.ly_tables.specs.Private.Fitting.{AreCountsWithin};
 ghost use Rattle.ly_tables.specs.Private.Short.{CutFits};
 ghost use Rattle.ly_tables.specs.Ranges.{counts_of, width_of, IsWithinVersion};
 
@@ -12,18 +14,15 @@ use ly_base::{Cut, Version};
 /// Whether a set is within the ranges of a version. All that its type keeps is the same in each, but for the greatest
 /// counts, and the lengths of cuts.
 pub(crate) fn is_within(set: &TableSet, version: Version) -> bool
-    ensures { IsTrue result ↔ IsWithinVersion version set.now }
+    ensures within { IsTrue result ↔ IsWithinVersion version set.now }
+    ensures kept { IsWithinVersion V2 set.now }
 {
     are_counts_within(set, version) && are_cuts_within(&set.scan_rules, version)
 }
 
 /// Whether a set has no more symbols, rules and states than a version.
 fn are_counts_within(set: &TableSet, version: Version) -> bool
-    ensures { IsTrue result ↔ (length set.now.terminals + set.now.nonterminals + 1 ≤ (counts_of version).symbols)
-        × (length set.now.scan_rules ≤ (counts_of version).rules)
-        × (length set.now.accepted ≤ (counts_of version).states)
-        × (length set.now.rules ≤ (counts_of version).rules)
-        × (length set.now.defaults ≤ (counts_of version).states) }
+    ensures { IsTrue result ↔ AreCountsWithin (counts_of version) set.now }
 {
     set.terminals.len() + set.nonterminals < most_symbols(version)
         && set.scan_rules.len() <= most_rules(version)

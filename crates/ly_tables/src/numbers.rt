@@ -57,7 +57,7 @@ pub(crate) fn push_number(
     number: u32,
 ) -> Result<(), AllocError>
     requires { Fits (width_of version) number }
-    ensures { OnOk result (out.new.items ≡ out.old.items ++ number (width_of version) number) }
+    ensures { OnOk result (out.new.items ≡ out.old.items ++ to_be_bytes (width_of version) number) }
 {
     match version {
         Version::V1 => push_short(out, number as u16),

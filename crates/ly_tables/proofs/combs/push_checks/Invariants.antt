@@ -1,13 +1,13 @@
 use Rattle.std.proofs.Common.{◌≡◌, ◌++◌, drop, map}
 use Rattle.std.specs.List.{flat_map}
 use Rattle.std.specs.Option.{option_map}
-use Rattle.std.specs.Int.{w16}
 use Rattle.ly_pack.specs.Combs.{used_from}
 use Rattle.ly_tables.specs.Spelling.{check_of, number}
+use Rattle.ly_tables.specs.Ranges.{width_of}
 use Rattle.ly_tables.proofs.combs.push_checks.Given as goal
 
 -- what is written and what is left are all
 abbrev pub invariant-loop-slot : goal.invariant-loop-slot
-invariant-loop-slot g l = l.out.items ++ flat_map (λ u. number w16 (check_of w16 u))
+invariant-loop-slot g l = l.out.items ++ flat_map (λ u. number (width_of l.version) (check_of (width_of l.version) u))
     (map (option_map used_from) (drop l.slot-index l.slots))
-    ≡ l.initial.out.items ++ flat_map (λ u. number w16 (check_of w16 u)) (map (option_map used_from) l.slots)
+    ≡ l.initial.out.items ++ flat_map (λ u. number (width_of l.version) (check_of (width_of l.version) u)) (map (option_map used_from) l.slots)

@@ -1,11 +1,11 @@
 use Rattle.std.proofs.Common.{◌≡◌, ◌++◌, drop, map}
 use Rattle.std.specs.List.{flat_map}
-use Rattle.std.specs.Int.{w16}
 use Rattle.ly_pack.specs.Values.{rule_from}
 use Rattle.ly_tables.specs.Spelling.{rule}
+use Rattle.ly_tables.specs.Ranges.{width_of}
 use Rattle.ly_tables.proofs.parser_part.push_rules.Given as goal
 
 -- what is written and what is left are all
 abbrev pub invariant-loop-rule : goal.invariant-loop-rule
-invariant-loop-rule l = l.out.items ++ flat_map (rule w16) (map rule_from (drop l.rule-index l.rules))
-    ≡ l.initial.out.items ++ flat_map (rule w16) (map rule_from l.rules)
+invariant-loop-rule l = l.out.items ++ flat_map (rule (width_of l.version)) (map rule_from (drop l.rule-index l.rules))
+    ≡ l.initial.out.items ++ flat_map (rule (width_of l.version)) (map rule_from l.rules)

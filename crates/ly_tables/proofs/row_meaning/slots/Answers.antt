@@ -5,11 +5,12 @@ use Rattle.std.proofs.lemmas.List.{map-append}
 use Rattle.ly_pack.specs.Combs.{slots_from, used_from}
 use Rattle.ly_tables.specs.Private.Meaning.{slot_meant}
 use Rattle.ly_tables.proofs.SlotLemmas.{zip_more}
+use Rattle.ly_tables.specs.Ranges.{width_of}
 use Rattle.ly_tables.proofs.row_meaning.slots.Goals as goal
 
 pub loop-number-preserved : goal.loop-number-preserved
 loop-number-preserved g c =
-    let meant = λ (p : ℕ × ℕ). slot_meant g.E.Entry.meant p.0 p.1 in
+    let meant = λ (p : ℕ × ℕ). slot_meant (width_of c.args.version) (g.E.Entry.meant c.args.version) p.0 p.1 in
     let entries = c.args.entries.now in
     let rows = c.args.rows.now in
     let k = c.loop-number.number in
