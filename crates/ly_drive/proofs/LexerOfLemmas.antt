@@ -1,7 +1,6 @@
 -- The scanner of a table set in memory.
 use Rattle.std.proofs.Common.{◌≡◌, ◌∙◌, ◌<◌, ◌≤◌, ◌+◌, ℕ, List, Bool, Option, Some, None, ap, arith, false, get_or, inl}
 use Rattle.std.proofs.Common.{length, map, refl, slice_get, subst, sym, true}
-use Rattle.std.specs.Int.{w16}
 use Rattle.std.specs.Prelude.{IfSome, option_and_then, option_map, slice_index}
 use Rattle.std.specs.Prelude.{unwrap_or}
 use Rattle.std.proofs.lemmas.List.{length-map}
@@ -25,7 +24,8 @@ use Rattle.ly_scan.specs.Lexers.{scanner_of}
 use Rattle.ly_scan.specs.StateTable.{LeadsWithin, StateTable, start_at, start_by}
 use Rattle.ly_scan.specs.declared.scanner_parts.ConditionStart.{ConditionStart}
 use Rattle.ly_tables.proofs.EntryLemmas.{comb_entry_used}
-use Rattle.ly_tables.specs.Ranges.{AreStartsWithin, IsWithinRanges, version_1}
+use Rattle.ly_base.specs.declared.version.Version.TheVariants.{V2}
+use Rattle.ly_tables.specs.Ranges.{AreStartsWithin, IsWithinVersion}
 use Rattle.ly_tables.specs.TableSet.{ScanRule, Starts, TableSet}
 use Rattle.ly_tables.specs.Values.{scan_rule_from, starts_from}
 use Rattle.ly_tables.specs.declared.scan_rule.ScanRule as scan
@@ -109,7 +109,7 @@ cuts_same s rules cuts all made i =
     by_rule None = refl
     by_rule (Some r) = refl
 
-module _ (s : TableSet) (within : IsWithinRanges w16 version_1 s) (t : StateTable) (is : IsScannerOf s t) where
+module _ (s : TableSet) (within : IsWithinVersion V2 s) (t : StateTable) (is : IsScannerOf s t) where
   count : length t.rules ≡ length s.accepted
   count = sym (length-map t.rules (option_map (λ (r : RuleNo). r.0))) ∙ ap (λ xs. length xs) is.accepted
 

@@ -1,14 +1,16 @@
 -- What a table set's scanner returns, and that its tables can be run.
 use Rattle.std.proofs.Common.{◌≡◌, ◌<◌, ◌≤◌, ℕ, List, Option, Some, None, arith, length, refl, slice_get, subst}
-use Rattle.std.specs.Int.{Width, w16}
+use Rattle.std.specs.Int.{Width}
 use Rattle.std.specs.Prelude.{option_and_then, slice_index}
 use Rattle.ly_base.specs.declared.scan_action.Emitted.{Emitted}
 use Rattle.ly_base.specs.declared.scan_action.Emitted.TheVariants.{FirstByte, Nothing, Terminal}
+use Rattle.ly_base.specs.declared.version.Version.TheVariants.{V2}
 use Rattle.ly_base.proofs.ListLemmas.{All-at}
 use Rattle.ly_drive.specs.Private.Running.{CanRun}
 use Rattle.ly_drive.specs.ScanPart.{scan_part_of, terminal_by, terminal_in}
 use Rattle.ly_pack.specs.Steady.{IsSteady}
-use Rattle.ly_tables.specs.Ranges.{version_1, Counts, IsEmittedWithin, IsScanRule, IsWithinRanges}
+use Rattle.ly_tables.specs.Ranges.{Counts, IsEmittedWithin, IsScanRule, IsWithinRanges, IsWithinVersion, counts_of}
+use Rattle.ly_tables.specs.Ranges.{width_of}
 use Rattle.ly_tables.specs.TableSet.{ScanRule, TableSet, machine_of}
 
 -- a terminal that the scanner returns is one of the parser's, and not the end
@@ -35,11 +37,11 @@ returned w counts s h i bytes t e = by_rule (slice_get s.scan_rules i) refl e
         (All-at (IsScanRule w (length s.terminals) (length s.conditions)) s.scan_rules i r h.scan_rules found) e
 
 -- the tables of a set that is within the ranges, and steady, can be run
-pub can_run : (s : TableSet) → IsWithinRanges w16 version_1 s → IsSteady (machine_of s)
+pub can_run : (s : TableSet) → IsWithinVersion V2 s → IsSteady (machine_of s)
     → CanRun (scan_part_of s) (machine_of s)
 can_run s h steady = record {
   machine = h.machine;
   steady = steady;
   terminals = (let two = h.terminals in omega (arith, two));
-  returned = returned w16 version_1 s h;
+  returned = returned (width_of V2) (counts_of V2) s h;
 }

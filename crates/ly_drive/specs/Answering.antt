@@ -1,12 +1,11 @@
 -- What is written for the text that a reader gives.
 use Rattle.std.specs.Prelude.{◌≡◌, ◌<◌, ◌≤◌, ◌^◌, ℕ, List, length, take, IfSome, Option}
 use Rattle.std.specs.Io.KnownBytes.{Appends}
-use Rattle.std.specs.Int.{w16}
 use Rattle.ly_drive.specs.TableAnswer.{IsVerdict, TableAnswer}
 use Rattle.ly_drive.specs.Verdict.{faulty}
 use Rattle.ly_drive.specs.declared.outcome.Outcome.{Outcome}
 use Rattle.ly_pack.specs.Steady.{IsSteady}
-use Rattle.ly_tables.specs.Ranges.{version_1}
+use Rattle.ly_base.specs.declared.version.Version.{Version}
 use Rattle.ly_tables.specs.TableSet.{TableSet, machine_of}
 use Rattle.ly_tables.specs.TableText.{TableText}
 
@@ -32,4 +31,4 @@ IsTooLong given = IfSome given (λ bytes. 2 ^ 64 ≤ length bytes)
 
 -- the bytes of a table file spell the set, whose parser's runs end
 abbrev pub IsDriven : List ℕ → TableSet → Type 0
-IsDriven tables s = TableText tables w16 1 version_1 s × IsSteady (machine_of s)
+IsDriven tables s = (v : Version) × TableText tables v s × IsSteady (machine_of s)

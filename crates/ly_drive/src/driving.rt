@@ -1,8 +1,6 @@
 ghost use Rattle.std.specs.Prelude.{◌≡◌, ◌≢◌, ◌<◌, ℕ, Err, IfErr, IfOk, IsErrOf, Ok, OnOk, length};
-ghost use Rattle.std.specs.Int.{w16};
 ghost use Rattle.std.specs.Io.KnownBytes.{IsAtEnd};
 ghost use Rattle.ly_base.specs.Device.{next_count};
-ghost use Rattle.ly_tables.specs.Ranges.{version_1};
 ghost use Rattle.ly_tables.specs.Refusal.{IsRefusedAs};
 ghost use Rattle.ly_tables.specs.TableSet.{TableSet as Tables};
 ghost use Rattle.ly_tables.specs.declared.fault.TableFault as file;
@@ -20,9 +18,9 @@ use ly_base::{Sink, Source, write_whole};
 use ly_tables::{TableSet, read_tables};
 use std::alloc::Global;
 
-/// Answers the text that a reader gives by the bytes of a table file, and writes the answer. Nothing is read before the
-/// table file is read, and at most 4,096 bytes at a time; nothing is written before the outcome is known, and nothing
-/// is read after it is, so only at a tree the reader is known to be at its end.
+/// Answers the text that a reader gives by the bytes of a table file, of either version, and writes the answer. Nothing
+/// is read before the table file is read, and at most 4,096 bytes at a time; nothing is written before the outcome is
+/// known, and nothing is read after it is, so only at a tree the reader is known to be at its end.
 ///
 /// Its faults are those of `DriveFault`.
 pub fn drive<R: Source, W: Sink>(
@@ -38,7 +36,7 @@ pub fn drive<R: Source, W: Sink>(
     ensures faulty { result ≡ Err DriveFault.TableFault → (s : Tables) × IsDriven tables.now s
         × IsFaultyOn s (R.remaining reader.old) }
     ensures refused { (fault : file.TableFault) → result ≡ Err (DriveFault.Tables fault)
-        → (fault ≢ OutOfMemory) × IsRefusedAs w16 1 version_1 tables.now fault }
+        → (fault ≢ OutOfMemory) × IsRefusedAs tables.now fault }
     ensures long { result ≡ Err DriveFault.TooLong → IsTooLong (R.remaining reader.old) }
     ensures unread { IfErr result (λ e. IsOfFile e → reader.new ≡ reader.old) }
     ensures ended { result ≡ Ok Outcome.Tree → IsAtEnd (R.remaining reader.new) }
@@ -48,7 +46,7 @@ pub fn drive<R: Source, W: Sink>(
     ensures writer_held { OnOk result (W.failures writer.new ≡ W.failures writer.old) }
     ensures untouched { IfErr result (λ e. IsBeforeWriting e → writer.new ≡ writer.old) }
 {
-    let set = read_tables(alloc, tables)?;
+    let (set, _) = read_tables(alloc, tables)?;
     run(alloc, &set, reader, writer)
 }
 

@@ -1,9 +1,9 @@
 //! The lexer of a table set.
-ghost use Rattle.std.specs.Int.{w16};
 ghost use Rattle.std.specs.Prelude.{◌≡◌, ◌<◌, ◌*◌, ℕ, length, map, slice_get, slice_index, slice_index_or};
 ghost use Rattle.std.specs.Prelude.{IfOk, IfSome};
 ghost use Rattle.std.specs.Prelude.{None, Some};
 ghost use Rattle.ly_base.specs.declared.numbers.StateNo as number;
+ghost use Rattle.ly_base.specs.declared.version.Version.TheVariants.{V2};
 ghost use Rattle.ly_drive.specs.ScanPart.{scan_part_of, scanner_in, states_from};
 ghost use Rattle.ly_drive.specs.Private.LexerOf.{IsLexerOf};
 ghost use Rattle.ly_drive.specs.Private.ScannerOf.{is_passed, start_from, IsScannerOf};
@@ -11,7 +11,7 @@ ghost use Rattle.ly_pack.specs.Rows.{comb_entry, Used};
 ghost use Rattle.ly_scan.specs.Lexers.{scanner_of};
 ghost use Rattle.ly_scan.specs.StateRows.{row_entry};
 ghost use Rattle.ly_scan.specs.StateTable.{table_from};
-ghost use Rattle.ly_tables.specs.Ranges.{version_1, IsWithinRanges};
+ghost use Rattle.ly_tables.specs.Ranges.{IsWithinVersion};
 
 use ly_base::{Cut, Emitted, OutOfMemory, RuleNo, StateNo};
 use ly_pack::{Comb, Rows};
@@ -39,7 +39,7 @@ fn scanner_of(alloc: Global, set: &TableSet) -> Result<Scanner, OutOfMemory>
 
 /// What the scanner of a table set is made of.
 fn parts_of(alloc: Global, set: &TableSet) -> Result<ScannerParts, OutOfMemory>
-    requires { IsWithinRanges w16 version_1 set.now }
+    requires { IsWithinVersion V2 set.now }
     ensures { IfOk result (λ p. IsScannerOf set.now (table_from p)) }
 {
     let accepted = set.accepted();
