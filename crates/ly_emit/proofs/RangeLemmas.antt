@@ -215,7 +215,8 @@ module _ (v : Version) (s : Spec) (M : parser.Automaton) (A : scanner.Automaton)
         (λ b t at. token_within b t (is.literals b t at));
     scan_rule_count = let same = scan_rule_count in let few = fits.scanner.rule_count in
         omega (arith, same, many, few);
-    scan_rules = all_from (IsScanRule (width_of v) (length set.terminals) (length set.conditions)) set.scan_rules scan_rule;
+    scan_rules = all_from (IsScanRule (width_of v) (length set.terminals) (length set.conditions)) set.scan_rules
+        scan_rule;
     some_condition = let count = is.scanner.condition_count in let some = fits.scanner.some_condition in
         omega (arith, count, some);
     condition_count = let count = is.scanner.condition_count in let few = fits.scanner.conditions in

@@ -36,17 +36,17 @@ pub record IsActionWithin (terminals starts : ℕ) (a : ScanAction) : Type 0 whe
 -- There are no more rules, conditions and states than these counts allow, and a condition; what rules do, and what is
 -- accepted, is there; and a number of this width counts what is cut.
 pub record IsScannerWithin (w : Width) (counts : Counts) (s : Spec) (rules : List pattern.Rule) (A : scanner.Automaton)
-  : Type 0 where
-    pub rule_count : length rules ≤ counts.rules
-    pub actions : All (IsActionWithin (length s.terminals) A.starts) s.scanner
-    pub cuts : All (λ r. IsCutWithin w r.pattern.cut) rules
-    pub some_condition : 0 < A.starts
-    pub conditions : A.starts ≤ 2 * counts.conditions
-    pub states : length A.rules ≤ counts.states
-    pub accepted : (k p : ℕ) → slice_get A.rules k ≡ Some (Some p) → p < length rules
+    : Type 0 where
+  pub rule_count : length rules ≤ counts.rules
+  pub actions : All (IsActionWithin (length s.terminals) A.starts) s.scanner
+  pub cuts : All (λ r. IsCutWithin w r.pattern.cut) rules
+  pub some_condition : 0 < A.starts
+  pub conditions : A.starts ≤ 2 * counts.conditions
+  pub states : length A.rules ≤ counts.states
+  pub accepted : (k p : ℕ) → slice_get A.rules k ≡ Some (Some p) → p < length rules
 
 -- The grammar and the scanner of a specification, and the automata of both, are within the counts of the version.
 pub record FitsFile (v : Version) (s : Spec) (rules : List pattern.Rule) (A : scanner.Automaton) (M : parser.Automaton)
-  : Type 0 where
-    pub grammar : IsGrammarWithin (counts_of v) s M
-    pub scanner : IsScannerWithin (width_of v) (counts_of v) s rules A
+    : Type 0 where
+  pub grammar : IsGrammarWithin (counts_of v) s M
+  pub scanner : IsScannerWithin (width_of v) (counts_of v) s rules A

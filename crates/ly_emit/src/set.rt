@@ -27,8 +27,9 @@ use std::alloc::{AllocError, Global};
 
 /// The table set of a specification: its parser's tables, and the automaton of its scanner.
 ///
-/// What is asked for fits a file of version 2, so that no number is past what it holds, and where it fits one of version
-/// 1 so does the set: `OutOfMemory` comes where a growth was refused. (`ly_pack` looks whether a base has a `u32`, as those of rows within a file's counts always do.)
+/// What is asked for fits a file of version 2, so that no number is past what it holds; and where it fits one of
+/// version 1, so does the set. `OutOfMemory` comes where a growth was refused. (`ly_pack` looks whether a base has a
+/// `u32`, as those of rows within a file's counts always do.)
 pub fn table_set(
     alloc: Global,
     resolved: &Resolved<'_>,

@@ -27,7 +27,8 @@ module _ (v : Version) (limits : Sizes) (lex yacc : List ℕ) (given : LexFile) 
     (set : TableSet)
     (says : IsSpecification limits lex yacc given s A) (same : HaveSameRules A walk)
     (reduced : IsTrim A → IsReduced walk) (order : IsBreadthFirst walk) (class_of : walk.class_of ≡ A.class_of)
-    (classes : walk.classes ≡ A.classes) (starts : walk.starts ≡ A.starts) (of_given : IsMadeOf v limits given s walk set)
+    (classes : walk.classes ≡ A.classes) (starts : walk.starts ≡ A.starts)
+    (of_given : IsMadeOf v limits given s walk set)
   where
     file : LexFile
     file = says.specifies.file

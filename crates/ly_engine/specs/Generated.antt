@@ -30,11 +30,11 @@ use Rattle.ly_tokens.specs.Scanner.{IsSubsetScanner}
 -- The set is that of a specification, of an automaton of its grammar and of a scanner's, is within the ranges of a
 -- version, and its parser's runs end.
 pub record IsSteadySet (v : Version) (s : Spec) (M : parser.Automaton) (rules : List Rule) (A : Automaton)
-  (set : TableSet) : Type 0 where
-    pub is_automaton : IsAutomaton A
-    pub is_set : IsSetOf s M rules A set
-    pub within : IsWithinVersion v set
-    pub steady : IsSteady (machine_of set)
+    (set : TableSet) : Type 0 where
+  pub is_automaton : IsAutomaton A
+  pub is_set : IsSetOf s M rules A set
+  pub within : IsWithinVersion v set
+  pub steady : IsSteady (machine_of set)
 
 -- a table file of the version can hold the specification, this scanner, and whatever automaton of its useful rules is
 -- within the limits
@@ -67,9 +67,9 @@ pub record HasFormOf (file : LexFile) (A : Automaton) : Type 0 where
   pub classes : AreClasses nfa A.class_of A.classes
   pub two_starts : A.starts ≡ 2 * file.conditions
 
--- The files are accepted, and the set is theirs, within the ranges of a version: its scanner is the smallest of the lex file's rules, its states
--- numbered breadth first, its classes and conditions are the file's, and what it answers to any text is the
--- specification's answer to it.
+-- The files are accepted, and the set is theirs, within the ranges of a version: its scanner is the smallest of the lex
+-- file's rules, its states numbered breadth first, its classes and conditions are the file's, and what it answers to
+-- any text is the specification's answer to it.
 pub record IsGenerated (v : Version) (limits : Sizes) (lex yacc : List ℕ) (set : TableSet) : Type 0 where
   pub spec : Spec
   pub specifies : Specifies limits lex yacc spec

@@ -45,5 +45,5 @@ TablesAnswerAsSpecified = (version : Version) (file : LexFile) (w : Written) (s 
 -- So its answer to a text is the specification's.
 abbrev pub AnswersAreOfSpecification : Type 0
 AnswersAreOfSpecification = (version : Version) (file : LexFile) (w : Written) (s : Spec) (set : TableSet)
-    (g : IsGeneratedSet version file w s set) (text : List ℕ) (o : Outcome) (answer : List ℕ) → TableAnswer set text o answer
-    → SpecAnswer file s g.automaton.grammar text o answer
+    (g : IsGeneratedSet version file w s set) (text : List ℕ) (o : Outcome) (answer : List ℕ)
+    → TableAnswer set text o answer → SpecAnswer file s g.automaton.grammar text o answer

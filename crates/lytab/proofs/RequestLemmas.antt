@@ -1,7 +1,7 @@
 -- The words that ask for something are taken, and ask for just that.
 use Rattle.std.proofs.Common.{◌≡◌, ◌∙◌, ◌++◌, ◌∷◌, [], List, ℕ, zero, suc, Some, None, true, refl, sym, ap}
-use Rattle.std.proofs.Common.{Err, IsErrAnd, MatchResult, Ok, Option, Result, ap₂, arith, codes, drop, false, find, inr, map}
-use Rattle.std.proofs.Common.{option_and_then, option_map, slice_index, subst, take, unwrap_or}
+use Rattle.std.proofs.Common.{Err, IsErrAnd, MatchResult, Ok, Option, Result, ap₂, arith, codes, drop, false, find, inr}
+use Rattle.std.proofs.Common.{map, option_and_then, option_map, slice_index, subst, take, unwrap_or}
 use Rattle.std.specs.List.{flat_map, insert}
 use Rattle.clap.specs.Walk.{Text, answers_to, finished, nothing_held, walk_from}
 use Rattle.clap.specs.Simple.{Shape, built, help_shape, label_of}
@@ -158,55 +158,55 @@ module _ (lex yacc table_file : Text) (paths : IsPathWord lex × IsPathWord yacc
     format_are : (j : ℕ) → AreWords (format_words j)
     format_are j = formatted_are j operand_words operands_are
 
-    format_found : option_map (build lex yacc table_file None) (version_by (Some number))
+    format_asks : option_map (build lex yacc table_file None) (version_by (Some number))
         ≡ Some (build lex yacc table_file None version)
-    format_found = ap (option_map (build lex yacc table_file None)) is
+    format_asks = ap (option_map (build lex yacc table_file None)) is
 
     format_met : (j : ℕ) → Met (build lex yacc table_file None version)
         (flat_map (λ group. group) (insert operands (within_three j) (codes "--format" ∷ number ∷ [])))
-    format_met zero = met (format_words 0) (format_are 0) refl refl refl format_found
-    format_met (suc zero) = met (format_words 1) (format_are 1) refl refl refl format_found
-    format_met (suc (suc zero)) = met (format_words 2) (format_are 2) refl refl refl format_found
-    format_met (suc (suc (suc j))) = met (format_words 3) (format_are 3) refl refl refl format_found
+    format_met zero = met (format_words 0) (format_are 0) refl refl refl format_asks
+    format_met (suc zero) = met (format_words 1) (format_are 1) refl refl refl format_asks
+    format_met (suc (suc zero)) = met (format_words 2) (format_are 2) refl refl refl format_asks
+    format_met (suc (suc (suc j))) = met (format_words 3) (format_are 3) refl refl refl format_asks
 
     -- both are said
     module _ (file : Text) (f : IsPathWord file) where
       abbrev reported : ℕ → List (List Word)
       reported place = insert operand_words place (long (codes "report") ∷ path file ∷ [])
 
-      abbrev both_words : ℕ → ℕ → List Word
-      both_words i j = flat_map (λ group. group) (formatted j (reported i))
+      abbrev both : ℕ → ℕ → List Word
+      both i j = flat_map (λ group. group) (formatted j (reported i))
 
-      both_are : (i j : ℕ) → AreWords (both_words i j)
+      both_are : (i j : ℕ) → AreWords (both i j)
       both_are i j = formatted_are j (reported i) (are_inserted operand_words i _ operands_are (report_name, (f, tt)))
 
-      both_found : option_map (build lex yacc table_file (Some file)) (version_by (Some number))
+      both_ask : option_map (build lex yacc table_file (Some file)) (version_by (Some number))
           ≡ Some (build lex yacc table_file (Some file) version)
-      both_found = ap (option_map (build lex yacc table_file (Some file))) is
+      both_ask = ap (option_map (build lex yacc table_file (Some file))) is
 
       both_met : (i j : ℕ) → Met (build lex yacc table_file (Some file) version)
           (flat_map (λ group. group) (insert (insert operands (within_three i) (codes "--report" ∷ file ∷ []))
           (within_four j) (codes "--format" ∷ number ∷ [])))
-      both_met zero zero = met (both_words 0 0) (both_are 0 0) refl refl refl both_found
-      both_met zero (suc zero) = met (both_words 0 1) (both_are 0 1) refl refl refl both_found
-      both_met zero (suc (suc zero)) = met (both_words 0 2) (both_are 0 2) refl refl refl both_found
-      both_met zero (suc (suc (suc zero))) = met (both_words 0 3) (both_are 0 3) refl refl refl both_found
-      both_met zero (suc (suc (suc (suc j)))) = met (both_words 0 4) (both_are 0 4) refl refl refl both_found
-      both_met (suc zero) zero = met (both_words 1 0) (both_are 1 0) refl refl refl both_found
-      both_met (suc zero) (suc zero) = met (both_words 1 1) (both_are 1 1) refl refl refl both_found
-      both_met (suc zero) (suc (suc zero)) = met (both_words 1 2) (both_are 1 2) refl refl refl both_found
-      both_met (suc zero) (suc (suc (suc zero))) = met (both_words 1 3) (both_are 1 3) refl refl refl both_found
-      both_met (suc zero) (suc (suc (suc (suc j)))) = met (both_words 1 4) (both_are 1 4) refl refl refl both_found
-      both_met (suc (suc zero)) zero = met (both_words 2 0) (both_are 2 0) refl refl refl both_found
-      both_met (suc (suc zero)) (suc zero) = met (both_words 2 1) (both_are 2 1) refl refl refl both_found
-      both_met (suc (suc zero)) (suc (suc zero)) = met (both_words 2 2) (both_are 2 2) refl refl refl both_found
-      both_met (suc (suc zero)) (suc (suc (suc zero))) = met (both_words 2 3) (both_are 2 3) refl refl refl both_found
-      both_met (suc (suc zero)) (suc (suc (suc (suc j)))) = met (both_words 2 4) (both_are 2 4) refl refl refl both_found
-      both_met (suc (suc (suc i))) zero = met (both_words 3 0) (both_are 3 0) refl refl refl both_found
-      both_met (suc (suc (suc i))) (suc zero) = met (both_words 3 1) (both_are 3 1) refl refl refl both_found
-      both_met (suc (suc (suc i))) (suc (suc zero)) = met (both_words 3 2) (both_are 3 2) refl refl refl both_found
-      both_met (suc (suc (suc i))) (suc (suc (suc zero))) = met (both_words 3 3) (both_are 3 3) refl refl refl both_found
-      both_met (suc (suc (suc i))) (suc (suc (suc (suc j)))) = met (both_words 3 4) (both_are 3 4) refl refl refl both_found
+      both_met zero zero = met (both 0 0) (both_are 0 0) refl refl refl both_ask
+      both_met zero (suc zero) = met (both 0 1) (both_are 0 1) refl refl refl both_ask
+      both_met zero (suc (suc zero)) = met (both 0 2) (both_are 0 2) refl refl refl both_ask
+      both_met zero (suc (suc (suc zero))) = met (both 0 3) (both_are 0 3) refl refl refl both_ask
+      both_met zero (suc (suc (suc (suc j)))) = met (both 0 4) (both_are 0 4) refl refl refl both_ask
+      both_met (suc zero) zero = met (both 1 0) (both_are 1 0) refl refl refl both_ask
+      both_met (suc zero) (suc zero) = met (both 1 1) (both_are 1 1) refl refl refl both_ask
+      both_met (suc zero) (suc (suc zero)) = met (both 1 2) (both_are 1 2) refl refl refl both_ask
+      both_met (suc zero) (suc (suc (suc zero))) = met (both 1 3) (both_are 1 3) refl refl refl both_ask
+      both_met (suc zero) (suc (suc (suc (suc j)))) = met (both 1 4) (both_are 1 4) refl refl refl both_ask
+      both_met (suc (suc zero)) zero = met (both 2 0) (both_are 2 0) refl refl refl both_ask
+      both_met (suc (suc zero)) (suc zero) = met (both 2 1) (both_are 2 1) refl refl refl both_ask
+      both_met (suc (suc zero)) (suc (suc zero)) = met (both 2 2) (both_are 2 2) refl refl refl both_ask
+      both_met (suc (suc zero)) (suc (suc (suc zero))) = met (both 2 3) (both_are 2 3) refl refl refl both_ask
+      both_met (suc (suc zero)) (suc (suc (suc (suc j)))) = met (both 2 4) (both_are 2 4) refl refl refl both_ask
+      both_met (suc (suc (suc i))) zero = met (both 3 0) (both_are 3 0) refl refl refl both_ask
+      both_met (suc (suc (suc i))) (suc zero) = met (both 3 1) (both_are 3 1) refl refl refl both_ask
+      both_met (suc (suc (suc i))) (suc (suc zero)) = met (both 3 2) (both_are 3 2) refl refl refl both_ask
+      both_met (suc (suc (suc i))) (suc (suc (suc zero))) = met (both 3 3) (both_are 3 3) refl refl refl both_ask
+      both_met (suc (suc (suc i))) (suc (suc (suc (suc j)))) = met (both 3 4) (both_are 3 4) refl refl refl both_ask
 
   -- a report is asked for, and no version said
   module _ (file : Text) (f : IsPathWord file) (is : version_by None ≡ Some version) where
@@ -219,16 +219,16 @@ module _ (lex yacc table_file : Text) (paths : IsPathWord lex × IsPathWord yacc
     report_are : (i : ℕ) → AreWords (report_words i)
     report_are i = are_words (report_groups i) (are_inserted operand_words i _ operands_are (report_name, (f, tt)))
 
-    report_found : option_map (build lex yacc table_file (Some file)) (version_by None)
+    report_asks : option_map (build lex yacc table_file (Some file)) (version_by None)
         ≡ Some (build lex yacc table_file (Some file) version)
-    report_found = ap (option_map (build lex yacc table_file (Some file))) is
+    report_asks = ap (option_map (build lex yacc table_file (Some file))) is
 
     report_met : (i : ℕ) → Met (build lex yacc table_file (Some file) version)
         (flat_map (λ group. group) (insert operands (within_three i) (codes "--report" ∷ file ∷ [])))
-    report_met zero = met (report_words 0) (report_are 0) refl refl refl report_found
-    report_met (suc zero) = met (report_words 1) (report_are 1) refl refl refl report_found
-    report_met (suc (suc zero)) = met (report_words 2) (report_are 2) refl refl refl report_found
-    report_met (suc (suc (suc i))) = met (report_words 3) (report_are 3) refl refl refl report_found
+    report_met zero = met (report_words 0) (report_are 0) refl refl refl report_asks
+    report_met (suc zero) = met (report_words 1) (report_are 1) refl refl refl report_asks
+    report_met (suc (suc zero)) = met (report_words 2) (report_are 2) refl refl refl report_asks
+    report_met (suc (suc (suc i))) = met (report_words 3) (report_are 3) refl refl refl report_asks
 
 -- the numbers say the versions, and are no options
 number_says : (version : Version) → version_by (Some (number_of version)) ≡ Some version

@@ -8,8 +8,9 @@ use std::alloc::Global;
 use std::io::Write;
 use std::rt::Files;
 
-/// Writes the table file of a lex file and a yacc file in a version, their report if it is asked for, and to standard output how
-/// many conflicts there are. Both files are read before anything is judged, and nothing is written before it is known.
+/// Writes the table file of a lex file and a yacc file in a version, their report if it is asked for, and to standard
+/// output how many conflicts there are. Both files are read before anything is judged, and nothing is written before it
+/// is known.
 pub fn build_tables<'a, F: Files, O: Write>(
     files: &F,
     alloc: Global,
