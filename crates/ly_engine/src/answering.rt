@@ -1,9 +1,9 @@
-ghost use Rattle.std.specs.Prelude.{◌≡◌, ◌≢◌, ℕ, Err, IfErr, IfOk, IsErrOf, Ok, OnOk};
+ghost use Rattle.std.specs.Prelude.{◌≡◌, ◌≢◌, ◌⊎◌, ℕ, Err, IfErr, IfOk, IsErrOf, Ok, OnOk};
 ghost use Rattle.std.specs.Io.KnownBytes.{IsAtEnd};
 ghost use Rattle.ly_base.specs.Device.{next_count};
 ghost use Rattle.ly_base.specs.Limits.{version_2};
 ghost use Rattle.ly_base.specs.declared.version.Version.TheVariants.{V2};
-ghost use Rattle.ly_drive.specs.Answering.{IsAnsweredBy, IsBegunBy, IsTooLong};
+ghost use Rattle.ly_drive.specs.Answering.{IsAnsweredBy, IsBegunBy, IsReadAsNeeded, IsTooLong};
 ghost use Rattle.ly_tables.specs.TableSet.{TableSet as Tables};
 ghost use Rattle.ly_engine.specs.Accepted.{IsRefusedFor};
 ghost use Rattle.ly_engine.specs.AnswerFault.{IsBeforeReading, IsBeforeWriting, IsWrite};
@@ -39,6 +39,9 @@ pub fn answer<R: Source, W: Sink>(
     ensures long { result ≡ Err AnswerFault.TooLong → IsTooLong (R.remaining reader.old) }
     ensures unread { IfErr result (λ e. IsBeforeReading e → reader.new ≡ reader.old) }
     ensures ended { result ≡ Ok Outcome.Tree → IsAtEnd (R.remaining reader.new) }
+    ensures needed { (IsErrOf result AnswerFault.Read → ⊥) → (reader.new ≡ reader.old)
+        ⊎ ((s : Tables) × IsGenerated V2 version_2 lex.now yacc.now s
+        × IsReadAsNeeded 4096 s (R.remaining reader.old) (R.remaining reader.new)) }
     ensures read { IsErrOf result AnswerFault.Read → R.failures reader.new ≡ next_count (R.failures reader.old) }
     ensures reader_held { (IsErrOf result AnswerFault.Read → ⊥) → R.failures reader.new ≡ R.failures reader.old }
     ensures write { IfErr result (λ e. IsWrite e → W.failures writer.new ≡ next_count (W.failures writer.old)) }

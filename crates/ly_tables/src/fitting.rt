@@ -5,7 +5,7 @@ ghost use Rattle.ly_tables.specs.Private.Fitting.{AreCountsWithin};
 ghost use Rattle.ly_tables.specs.Private.Short.{CutFits};
 ghost use Rattle.ly_tables.specs.Ranges.{counts_of, width_of, IsWithinVersion};
 
-use crate::counts::{most_rules, most_states, most_symbols};
+use crate::bounds::{most_rules, most_states, most_symbols};
 use crate::numbers::none;
 use crate::scan_rule::ScanRule;
 use crate::table_set::TableSet;

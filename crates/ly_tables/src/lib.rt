@@ -6,7 +6,7 @@
 //! file has one set and one version, and only want of memory refuses a set's file.
 //!
 //! The two versions of the file differ in how wide its numbers are (`width_of`), and so in the greatest counts
-//! (`counts_of`). All that depends on them stands in `numbers`, `front` and `counts`; what is built on these is passed
+//! (`counts_of`). All that depends on them stands in `numbers`, `front` and `bounds`; what is built on these is passed
 //! the version.
 //!
 //! A file is read in four steps: its fields as numbers, by counts alone (`raw_reading`); whether these are within the
@@ -14,10 +14,10 @@
 //! (`steadiness`).
 #![tactic(auto)]
 
+mod bounds;
 mod comb_fields;
 mod combs;
 mod conversion;
-mod counts;
 mod fault;
 mod field;
 mod fitting;

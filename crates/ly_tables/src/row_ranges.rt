@@ -5,7 +5,7 @@ ghost use Rattle.ly_tables.specs.Ranges.{width_of};
 ghost use Rattle.ly_tables.specs.RawSections.{AreRowsWithin, IsActionWithin, IsSlotWithin};
 ghost use Rattle.ly_tables.specs.Spelling.{least_reduction, least_shift};
 
-use crate::counts::{are_at_most, is_count_within};
+use crate::bounds::{are_at_most, is_count_within};
 use crate::numbers::{none, reduction, shift};
 use crate::raw_tables::{RawComb, RawTables};
 use ly_base::Version;

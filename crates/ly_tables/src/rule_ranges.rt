@@ -4,7 +4,7 @@ ghost use Rattle.ly_tables.specs.Private.RawValues.{raw_from, rule_raw};
 ghost use Rattle.ly_tables.specs.Ranges.{counts_of};
 ghost use Rattle.ly_tables.specs.RawSections.{AreDefaultsWithin, AreRulesWithin, IsRuleWithin, IsShapeWithin};
 
-use crate::counts::{are_at_most, is_count_within, most_rules, most_states};
+use crate::bounds::{are_at_most, is_count_within, most_rules, most_states};
 use crate::raw_tables::{RawRule, RawTables};
 use crate::symbol_ranges::is_name_long;
 use ly_base::Version;

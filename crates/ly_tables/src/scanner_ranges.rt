@@ -5,7 +5,7 @@ ghost use Rattle.ly_tables.specs.Ranges.{counts_of, width_of};
 ghost use Rattle.ly_tables.specs.RawSections.{AreAcceptedWithin, AreClassesWithin, AreConditionsWithin};
 ghost use Rattle.ly_tables.specs.RawSections.{AreScanRulesWithin, IsNoneOr, IsScanRuleWithin};
 
-use crate::counts::{
+use crate::bounds::{
     MOST_CLASSES, MOST_CONDITIONS, are_at_most, is_count_within, most_rules, most_states,
 };
 use crate::numbers::none;

@@ -5,7 +5,7 @@ ghost use Rattle.ly_tables.specs.Private.RawValues.{raw_from};
 ghost use Rattle.ly_tables.specs.Ranges.{counts_of, IsNameLong};
 ghost use Rattle.ly_tables.specs.RawSections.{AreSymbolsWithin, IsToken};
 
-use crate::counts::{is_count_within, most_symbols};
+use crate::bounds::{is_count_within, most_symbols};
 use crate::raw_tables::RawTables;
 use ly_base::Version;
 
