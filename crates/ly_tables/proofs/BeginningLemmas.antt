@@ -176,7 +176,8 @@ sized_part size one (suc n) bytes (long, all) =
 -- bytes that are too few for so many numbers are a beginning of such
 pub numbers_begun : (v : Version) (count : ℕ) (left : List ℕ) → length left / byte_len (width_of v) < count
     → All IsByte left → IsBeginning (Repeated (IsNumberText (width_of v)) count) left
-numbers_begun V1 count left few all = begun_few (count * 2) left (omega (arith, few)) all (sized_part 2 short_part count)
+numbers_begun V1 count left few all = begun_few (count * 2) left (omega (arith, few)) all (sized_part 2 short_part
+    count)
 numbers_begun V2 count left few all = begun_few (count * 4) left (omega (arith, few)) all (sized_part 4 wide_part count)
 
 -- where one of several parts is only begun: before it are so many parts, and behind it so many more
