@@ -1,19 +1,23 @@
 -- Proper beginnings of parts.
 use Rattle.std.proofs.Common.{◌≡◌, ◌≢◌, ◌∙◌, ◌<◌, ◌≤◌, ◌+◌, ◌-◌, ◌*◌, ◌++◌, ◌^◌, ℕ, zero, suc, ap₂, List, [], ◌∷◌}
-use Rattle.std.proofs.Common.{length, get_or, ap, sym, subst}
+use Rattle.std.proofs.Common.{◌/◌, drop, length, get_or, ap, sym, subst, take}
 use Rattle.std.proofs.Common.{append_assoc, append-nil, All, arith, replicate, length-append, refl}
 use Rattle.std.proofs.Common as memory
 use Rattle.std.proofs.Common.{w8}
 use Rattle.std.proofs.Common.{Result, Ok, Err, IfErr, IsErrAnd}
-use Rattle.std.specs.Int.{w16, w32, from_be_bytes}
+use Rattle.std.specs.Int.{w16, w32, byte_len, from_be_bytes}
 use Rattle.std.specs.List.{flat_map}
-use Rattle.std.proofs.lemmas.List.{length-replicate}
-use Rattle.std.proofs.lemmas.List.Elements.{All-append, All-replicate, All-from_get_or}
+use Rattle.std.proofs.Math.Nat.{add-mul, one-mul}
+use Rattle.std.proofs.lemmas.List.{length-drop, length-replicate, length-take-le, nil_from_length, take-append-drop}
+use Rattle.std.proofs.lemmas.List.Elements.{All-append, All-drop, All-from_get_or, All-replicate, All-take}
 use Rattle.std.proofs.lemmas.Nat.{be_bytes_2, be_bytes_4}
 use Rattle.std.proofs.lemmas.List.Elements.{All-cons, All-head, All-nil, All-tail}
 use Rattle.byteorder.specs.Endian.{big_number}
 use Rattle.ly_tables.specs.Private.Parts.{AreBytes, IsByteText, IsBeginning, IsNumberText, IsStringText}
 use Rattle.ly_tables.specs.Private.Parts.{Repeated, Spells, Stops, Then}
+use Rattle.ly_base.specs.declared.version.Version.{Version}
+use Rattle.ly_base.specs.declared.version.Version.TheVariants.{V1, V2}
+use Rattle.ly_tables.specs.Ranges.{width_of}
 use Rattle.ly_tables.specs.RawSet.{Fits, IsByte}
 use Rattle.ly_tables.specs.Spelling.{number}
 use Rattle.ly_tables.specs.declared.fault.TableFault.{TableFault}
@@ -149,6 +153,32 @@ pub copies : (part : List ℕ → Type 0) (n : ℕ) (bytes : List ℕ) → part 
 copies part zero bytes is = ([], refl)
 copies part (suc n) bytes is =
     let more = copies part n bytes is in (bytes ++ more.0, (bytes, more.0, is, more.1, refl))
+
+-- bytes of the size of so many parts, of which each so many bytes are one, are these parts
+sized_part : {part : List ℕ → Type 0} (size : ℕ) → ((bytes : List ℕ) → AreBytes size bytes → part bytes) → (n : ℕ)
+    (bytes : List ℕ) → AreBytes (n * size) bytes → Repeated part n bytes
+sized_part size one zero bytes (long, all) = nil_from_length bytes (omega (arith, long))
+sized_part size one (suc n) bytes (long, all) =
+    let next : suc n ≡ n + 1 = omega arith in
+    let more : suc n * size ≡ n * size + size
+    = ap (λ k. k * size) next ∙ add-mul n 1 size ∙ ap (λ k. n * size + k) (one-mul size) in
+    let fits : size ≤ length bytes = omega (arith, long, more) in (
+      take size bytes,
+      drop size bytes,
+      one (take size bytes) (length-take-le size bytes fits, All-take IsByte size bytes all),
+      sized_part size one n (drop size bytes) (
+        omega (arith, length-drop size bytes, long, more),
+        All-drop IsByte size bytes all,
+      ),
+      sym (take-append-drop size bytes),
+    )
+
+-- bytes that are too few for so many numbers are a beginning of such
+pub numbers_begun : (v : Version) (count : ℕ) (left : List ℕ) → length left / byte_len (width_of v) < count
+    → All IsByte left → IsBeginning (Repeated (IsNumberText (width_of v)) count) left
+numbers_begun V1 count left few all = begun_few (count * 2) left (omega (arith, few)) all (sized_part 2 short_part
+    count)
+numbers_begun V2 count left few all = begun_few (count * 4) left (omega (arith, few)) all (sized_part 4 wide_part count)
 
 -- where one of several parts is only begun: before it are so many parts, and behind it so many more
 pub begun_repeated : (part : List ℕ → Type 0) (done more all : ℕ) (before bytes left : List ℕ) → all ≡ done + suc more

@@ -46,7 +46,8 @@ comb_entry_used {E} c row column e is = elim (cases_lt column c.width) [
     from_base (Some base) at is = from_slot base (slice_get c.slots (base + column)) refl at is
 
 -- the number of an entry may stand in its column
-pub entry_legal : {E : Type 0} (w : Width) (meant : ℕ → E) (c : RawComb) → length c.rows ≡ length c.entries → (columns : ℕ)
+pub entry_legal : {E : Type 0} (w : Width) (meant : ℕ → E) (c : RawComb) → length c.rows ≡ length c.entries → (columns :
+    ℕ)
     (legal : ℕ → ℕ → Type 0) → AreRowsWithin w columns legal c → (row column : ℕ) (e : E)
     → comb_entry (comb_meant w meant columns c) row column ≡ Some e → (n : ℕ) × legal column n × (e ≡ meant n)
 entry_legal {E} w meant c long columns legal within row column e is =

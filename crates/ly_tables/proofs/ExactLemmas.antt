@@ -163,7 +163,8 @@ set_again v s r =
     (length s.terminals) s.actions (omega (arith, few_states v s r)) r.actions (λ k u at.
     let lies = r.actions.is_comb.slots k u at in
     let legal = used_legal v s r k lies.0 u at lies.1 lies.2 lies.3 in
-    action_again v u.entry (λ p e. let there = subst (λ a. IsLegal (machine_of s) (k - lies.0) (action_from a)) e legal in
+    action_again v u.entry (λ p e. let there = subst (λ a. IsLegal (machine_of s) (k - lies.0) (action_from a)) e legal
+    in
     omega (arith, there.1, r.rule_count, facts.rules))) in
     let gotos = comb_again w state_meant (λ (n : StateNo). n.0) (length s.defaults) s.nonterminals s.gotos
     (omega (arith, few_states v s r)) r.gotos (λ k u at. refl) in

@@ -30,7 +30,8 @@ regrouped : (o n f m g c d : List ℕ)
 regrouped o n f m g c d = ap (λ x. o ++ ((x ++ c) ++ d)) (simp append_assoc)
 
 -- the sections of the parser, of lists that stand for those of the set
-pub parser_joined : (w : Width) (o : List ℕ) {o1 o2 o3 o4 : List ℕ} (rules : List code.TableRule) (defaults : List (Option RuleNo))
+pub parser_joined : (w : Width) (o : List ℕ) {o1 o2 o3 o4 : List ℕ} (rules : List code.TableRule) (defaults : List
+    (Option RuleNo))
     (c d : List ℕ) → o1 ≡ o ++ (number w (length rules) ++ flat_map (rule w) (map rule_from rules))
     → o2 ≡ o1 ++ (number w (length defaults) ++ flat_map (or_zero w) (map (option_map (λ p. p.0)) defaults))
     → o3 ≡ o2 ++ c → o4 ≡ o3 ++ d
@@ -89,7 +90,8 @@ scanner_joined w o {o1} {o2} {o3} {o4} rules conditions accepted c d f first sec
     (flat_map (counted_from_one w) (map (option_map number_of) accepted)) f
 
 -- rows laid over one another, of lists that stand for those of the value
-pub comb_joined : {E : Type 0} (w : Width) (code : E → ℕ) (o : List ℕ) {o1 o2 o3 o4 : List ℕ} (c : Comb E) (bases : List ℕ)
+pub comb_joined : {E : Type 0} (w : Width) (code : E → ℕ) (o : List ℕ) {o1 o2 o3 o4 : List ℕ} (c : Comb E) (bases : List
+    ℕ)
     (slots : List (Option (Slot E))) → bases ≡ c.bases → slots_from slots ≡ c.slots
     → o1 ≡ o ++ flat_map (to_be_bytes w32) bases → o2 ≡ o1 ++ to_be_bytes w32 (length slots)
     → o3 ≡ o2 ++ flat_map (λ u. number w (next_of code u)) (slots_from slots)

@@ -204,19 +204,23 @@ module _ (v : Version) (s : TableSet) (r : IsWithinVersion v s) where
     rules = All-map (RuleFits (width_of v)) raw_rule_of s.rules (λ k d lt.
         let short = r.rules k d lt in
         let within = r.machine.rules k d lt in
-        shape_fits (width_of v) _ _ _ (omega (arith, within.left, few_symbols v s r)) short.body short.shape within.shape);
+        shape_fits (width_of v) _ _ _ (omega (arith, within.left, few_symbols v s r)) short.body short.shape
+        within.shape);
     states = omega (arith, few_states v s r, length-map s.defaults number_or_zero);
     defaults = All-map (Fits (width_of v)) number_or_zero s.defaults (λ k d lt.
         let le = default_raw _ (length s.rules) (λ p e.
         (r.machine.defaults k p (slice_get-get_or s.defaults k d lt ∙ ap Some e)).1) in
         omega (arith, le, few_rules v s r));
-    actions = subst (λ n. CombFits (width_of v) n (raw_comb_of (width_of v) (λ a. action_number (width_of v) (action_from a)) s.actions))
+    actions = subst (λ n. CombFits (width_of v) n (raw_comb_of (width_of v) (λ a. action_number (width_of v)
+        (action_from a)) s.actions))
         (sym (length-map s.defaults number_or_zero))
-        (comb_fits (width_of v) (λ a. action_number (width_of v) (action_from a)) (length s.defaults) (length s.terminals) s.actions r.actions
+        (comb_fits (width_of v) (λ a. action_number (width_of v) (action_from a)) (length s.defaults) (length
+        s.terminals) s.actions r.actions
         (actions_short v s r));
     gotos = subst (λ n. CombFits (width_of v) n (raw_comb_of (width_of v) (λ (n : StateNo). n.0) s.gotos))
         (sym (length-map s.defaults number_or_zero))
-        (comb_fits (width_of v) (λ (n : StateNo). n.0) (length s.defaults) s.nonterminals s.gotos r.gotos (gotos_short v s r));
+        (comb_fits (width_of v) (λ (n : StateNo). n.0) (length s.defaults) s.nonterminals s.gotos r.gotos (gotos_short v
+        s r));
   }
 
   action_raw : (t : ℕ) (a : TableAction) → IsLegal (machine_of s) t a
@@ -252,7 +256,8 @@ module _ (v : Version) (s : TableSet) (r : IsWithinVersion v s) where
   by_section literal_section = r.literals
   by_section scan_rule_section = (
     omega (arith, r.scan_rule_count, length-map s.scan_rules (raw_scan_rule_of (width_of v))),
-    All-map (IsScanRuleWithin (width_of v) (raw_of (width_of v) s)) (raw_scan_rule_of (width_of v)) s.scan_rules (λ k d lt.
+    All-map (IsScanRuleWithin (width_of v) (raw_of (width_of v) s)) (raw_scan_rule_of (width_of v)) s.scan_rules (λ k d
+        lt.
         let at = r.scan_rules k d lt in
         let emits = emitted_raw (length s.terminals) _ at.emits in
         let cut = cut_raw (width_of v) _ at.cut in
@@ -260,7 +265,8 @@ module _ (v : Version) (s : TableSet) (r : IsWithinVersion v s) where
           kind = emits.0;
           terminal = emits.1;
           no_terminal = emits.2;
-          begin = subst (λ n. IsNoneOr (width_of v) n (number_or_none (width_of v) (get_or s.scan_rules k d).action.begin))
+          begin = subst (λ n. IsNoneOr (width_of v) n (number_or_none (width_of v) (get_or s.scan_rules k
+              d).action.begin))
               (sym (length-map s.conditions (raw_starts_of (width_of v))))
               (number_raw (width_of v) _ (length s.conditions) (few_conditions v s r) at.begin).0;
           cut = cut.0;
@@ -272,7 +278,8 @@ module _ (v : Version) (s : TableSet) (r : IsWithinVersion v s) where
     some = omega (arith, r.some_condition, length-map s.conditions (raw_starts_of (width_of v)));
     count = omega (arith, r.condition_count, length-map s.conditions (raw_starts_of (width_of v)));
     states = All-map (λ c. IsNoneOr (width_of v) (length (map from_one s.accepted)) c.elsewhere
-        × IsNoneOr (width_of v) (length (map from_one s.accepted)) c.at_line) (raw_starts_of (width_of v)) s.conditions (λ k d lt.
+        × IsNoneOr (width_of v) (length (map from_one s.accepted)) c.at_line) (raw_starts_of (width_of v)) s.conditions
+        (λ k d lt.
         let at = r.conditions k d lt in
         let few = few_scan_states v s r in
         let same = sym (length-map s.accepted from_one) in (
@@ -290,7 +297,8 @@ module _ (v : Version) (s : TableSet) (r : IsWithinVersion v s) where
         r.accepted k p (slice_get-get_or s.accepted k d lt ∙ ap Some e)) in
         omega (arith, le, length-map s.scan_rules (raw_scan_rule_of (width_of v)))),
   )
-  by_section scan_row_section = rows_raw (width_of v) (λ (n : StateNo). n.0) (length s.accepted) s.class_count s.scan_rows
+  by_section scan_row_section = rows_raw (width_of v) (λ (n : StateNo). n.0) (length s.accepted) s.class_count
+      s.scan_rows
       r.scan_rows (λ column n. n < length (map from_one s.accepted)) (λ k base u at starts le lt.
       omega (arith, r.scan_targets k u at, length-map s.accepted from_one))
   by_section rule_section = record {
@@ -314,10 +322,13 @@ module _ (v : Version) (s : TableSet) (r : IsWithinVersion v s) where
         (r.machine.defaults k p (slice_get-get_or s.defaults k d lt ∙ ap Some e)).1) in
         omega (arith, le, length-map s.rules raw_rule_of));
   }
-  by_section action_section = rows_raw (width_of v) (λ a. action_number (width_of v) (action_from a)) (length s.defaults)
-      (length s.terminals) s.actions r.actions (IsActionWithin (width_of v) (raw_of (width_of v) s)) (λ k base u at starts le lt.
+  by_section action_section = rows_raw (width_of v) (λ a. action_number (width_of v) (action_from a)) (length
+      s.defaults)
+      (length s.terminals) s.actions r.actions (IsActionWithin (width_of v) (raw_of (width_of v) s)) (λ k base u at
+      starts le lt.
       action_raw (k - base) (action_from u.entry) (used_legal v s r k base u at starts le lt))
-  by_section goto_section = rows_raw (width_of v) (λ (n : StateNo). n.0) (length s.defaults) s.nonterminals s.gotos r.gotos
+  by_section goto_section = rows_raw (width_of v) (λ (n : StateNo). n.0) (length s.defaults) s.nonterminals s.gotos
+      r.gotos
       (λ column n. n < length (map number_or_zero s.defaults)) (λ k base u at starts le lt.
       omega (arith, used_goto v s r k base u at starts le lt, length-map s.defaults number_or_zero))
 

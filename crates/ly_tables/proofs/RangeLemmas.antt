@@ -153,7 +153,14 @@ module _ (v : Version) (s : TableSet) (r : IsWithinVersion v s) where
 
   pub few_conditions : length s.conditions < bound_of (width_of v)
   few_conditions =
-      let facts = of_version v in omega (arith, facts.half, facts.quarter, facts.conditions, facts.classes, r.condition_count)
+      let facts = of_version v in omega (
+        arith,
+        facts.half,
+        facts.quarter,
+        facts.conditions,
+        facts.classes,
+        r.condition_count,
+      )
 
   pub few_classes : s.class_count < bound_of (width_of v)
   few_classes = let facts = of_version v in omega (arith, facts.half, facts.quarter, facts.classes, r.class_count)

@@ -97,7 +97,8 @@ symbols_fit w t n names literals count left all small = record {
   literals = small.1;
 }
 
-pub symbols_apart : (w : Width) (t n : ℕ) (names : List (List ℕ)) (literals : List ℕ) {whole l1 l2 l3 : List ℕ} (l4 : List ℕ)
+pub symbols_apart : (w : Width) (t n : ℕ) (names : List (List ℕ)) (literals : List ℕ) {whole l1 l2 l3 : List ℕ} (l4 :
+    List ℕ)
     → length names ≡ t → whole ≡ number w t ++ l1 → l1 ≡ number w n ++ l2 → l2 ≡ flat_map string names ++ l3
     → l3 ≡ flat_map (number w) literals ++ l4 → whole ≡ raw_symbol_sections w (of_symbols n names literals) ++ l4
 symbols_apart w t n names literals {whole} {l1} {l2} {l3} l4 count first second third last =
@@ -132,7 +133,8 @@ symbols_part w whole t =
     }
 
 -- those of the scanner
-pub scanner_fit : (w : Width) (rules : List RawScanRule) (conditions : List RawStarts) (n : ℕ) (classes accepted : List ℕ)
+pub scanner_fit : (w : Width) (rules : List RawScanRule) (conditions : List RawStarts) (n : ℕ) (classes accepted : List
+    ℕ)
     (rows : RawComb) → AreCounted w (ScanRuleFits w) rules → AreCounted w (StartsFit w) conditions → Fits w n
     → AreBytes 256 classes → AreCounted w (Fits w) accepted → CombFits w (length accepted) rows
     → DoesScannerFit w (of_scanner rules conditions n classes accepted rows)
@@ -149,7 +151,8 @@ scanner_fit w rules conditions n classes accepted rows first second third fourth
   scan_rows = last;
 }
 
-pub scanner_together : (w : Width) (rules : List RawScanRule) (conditions : List RawStarts) (n : ℕ) (classes accepted : List ℕ)
+pub scanner_together : (w : Width) (rules : List RawScanRule) (conditions : List RawStarts) (n : ℕ) (classes accepted :
+    List ℕ)
     (rows : RawComb) {whole l1 l2 l3 l4 l5 : List ℕ} (l6 : List ℕ)
     → whole ≡ counted_bytes w (raw_scan_rule w) rules ++ l1
     → l1 ≡ counted_bytes w (raw_starts w) conditions ++ l2 → l2 ≡ number w n ++ l3 → l3 ≡ classes ++ l4
@@ -246,7 +249,8 @@ parser_fit w rules defaults actions gotos first second third last = record {
   gotos = last;
 }
 
-pub parser_together : (w : Width) (rules : List RawRule) (defaults : List ℕ) (actions gotos : RawComb) {whole l1 l2 l3 : List ℕ}
+pub parser_together : (w : Width) (rules : List RawRule) (defaults : List ℕ) (actions gotos : RawComb) {whole l1 l2 l3 :
+    List ℕ}
     (l4 : List ℕ)
     → whole ≡ counted_bytes w (raw_rule w) rules ++ l1 → l1 ≡ counted_bytes w (number w) defaults ++ l2
     → l2 ≡ raw_comb w actions ++ l3 → l3 ≡ raw_comb w gotos ++ l4

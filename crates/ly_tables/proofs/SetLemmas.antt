@@ -93,7 +93,8 @@ module _ (v : Version) (r : RawSet) (fits : AreFileNumbers v r) (within : AreAll
   set_back =
       let scan_rules = there_and_back (scan_rule_meant (width_of v)) (raw_scan_rule_of (width_of v)) r.scan_rules
       (λ k d lt. scan_rule_back (width_of v) r _ ((within scan_rule_section).1 k d lt)) in
-      let conditions = there_and_back (starts_meant (width_of v)) (raw_starts_of (width_of v)) r.conditions (λ k d lt. starts_back (width_of v) _) in
+      let conditions = there_and_back (starts_meant (width_of v)) (raw_starts_of (width_of v)) r.conditions (λ k d lt.
+      starts_back (width_of v) _) in
       let accepted = there_and_back counted_meant from_one r.accepted (λ k d lt. counted_back _) in
       let scan_rows = comb_back (width_of v) state_meant r.scan_rows fits.scan_rows.row_count r.class_count
       (λ column s. s < length r.accepted) scan_comb (λ (s : StateNo). s.0) (λ column n lt. refl)
@@ -101,8 +102,10 @@ module _ (v : Version) (r : RawSet) (fits : AreFileNumbers v r) (within : AreAll
       let rules = there_and_back rule_meant raw_rule_of r.rules
       (λ k d lt. rule_back r _ ((within rule_section).rules k d lt)) in
       let defaults = there_and_back default_meant number_or_zero r.defaults (λ k d lt. default_back _) in
-      let actions = comb_back (width_of v) (action_meant (width_of v)) r.actions fits.actions.row_count (length r.terminals) (IsActionWithin (width_of v) r)
-      action_comb (λ a. action_number (width_of v) (action_from a)) (λ column n legal. action_back v r column n few_rules legal)
+      let actions = comb_back (width_of v) (action_meant (width_of v)) r.actions fits.actions.row_count (length
+      r.terminals) (IsActionWithin (width_of v) r)
+      action_comb (λ a. action_number (width_of v) (action_from a)) (λ column n legal. action_back v r column n
+      few_rules legal)
       (few_bases _ (length r.defaults) fits.actions.count (within state_section).count) in
       let gotos = comb_back (width_of v) state_meant r.gotos fits.gotos.row_count r.nonterminals
       (λ column s. s < length r.defaults) goto_comb (λ (s : StateNo). s.0) (λ column n lt. refl)
@@ -130,7 +133,8 @@ module _ (v : Version) (r : RawSet) (fits : AreFileNumbers v r) (within : AreAll
         let at = cell-grid_of_some (length (map default_meant r.defaults)) (length r.terminals)
         (actions_from (comb_entry (set_meant (width_of v) r).actions)) state t a is in
         let entry = option_map-some action_from (comb_entry (set_meant (width_of v) r).actions state t) a at.2 in
-        let legal = entry_legal (width_of v) (action_meant (width_of v)) r.actions fits.actions.row_count (length r.terminals)
+        let legal = entry_legal (width_of v) (action_meant (width_of v)) r.actions fits.actions.row_count (length
+        r.terminals)
         (IsActionWithin (width_of v) r) action_comb state t entry.0 entry.1 in
         subst (IsLegal (machine_of (set_meant (width_of v) r)) t) (ap action_from (sym legal.2) ∙ entry.2)
         (action_legal v r t legal.0 few_rules legal.1);
@@ -140,7 +144,8 @@ module _ (v : Version) (r : RawSet) (fits : AreFileNumbers v r) (within : AreAll
     gotos = λ state left next is.
         let at = cell-grid_of_some (length (map default_meant r.defaults)) r.nonterminals
         (gotos_from (comb_entry (set_meant (width_of v) r).gotos)) state left next is in
-        let entry = option_map-some (λ (s : StateNo). s.0) (comb_entry (set_meant (width_of v) r).gotos state left) next at.2 in
+        let entry = option_map-some (λ (s : StateNo). s.0) (comb_entry (set_meant (width_of v) r).gotos state left) next
+        at.2 in
         let legal = entry_legal (width_of v) state_meant r.gotos fits.gotos.row_count r.nonterminals
         (λ column s. s < length r.defaults) goto_comb state left entry.0 entry.1 in
         let same : legal.0 ≡ next = sym (ap (λ (s : StateNo). s.0) legal.2) ∙ entry.2 in
@@ -166,14 +171,23 @@ module _ (v : Version) (r : RawSet) (fits : AreFileNumbers v r) (within : AreAll
         undefined = symbols.undefined;
         all_literals = fits.literal_count;
         literals = within literal_section;
-        scan_rule_count = omega (arith, (within scan_rule_section).0, length-map r.scan_rules (scan_rule_meant (width_of v)));
-        scan_rules = All-map (IsScanRule (width_of v) (length r.terminals) (length (map (starts_meant (width_of v)) r.conditions)))
-            (scan_rule_meant (width_of v)) r.scan_rules (λ k d lt. scan_rule_within (width_of v) r (length (map (starts_meant (width_of v)) r.conditions)) _
-            (length-map r.conditions (starts_meant (width_of v))) ((within scan_rule_section).1 k d lt) (fits.scan_rules k d lt));
+        scan_rule_count = omega (
+          arith,
+          (within scan_rule_section).0,
+          length-map r.scan_rules (scan_rule_meant (width_of
+              v)),
+        );
+        scan_rules = All-map (IsScanRule (width_of v) (length r.terminals) (length (map (starts_meant (width_of v))
+            r.conditions)))
+            (scan_rule_meant (width_of v)) r.scan_rules (λ k d lt. scan_rule_within (width_of v) r (length (map
+            (starts_meant (width_of v)) r.conditions)) _
+            (length-map r.conditions (starts_meant (width_of v))) ((within scan_rule_section).1 k d lt) (fits.scan_rules
+            k d lt));
         some_condition = omega (arith, conditions.some, length-map r.conditions (starts_meant (width_of v)));
         condition_count = omega (arith, conditions.count, length-map r.conditions (starts_meant (width_of v)));
         conditions = subst (λ n. All (AreStartsWithin n) (map (starts_meant (width_of v)) r.conditions))
-            (sym (length-map r.accepted counted_meant)) (All-map (AreStartsWithin (length r.accepted)) (starts_meant (width_of v))
+            (sym (length-map r.accepted counted_meant)) (All-map (AreStartsWithin (length r.accepted)) (starts_meant
+            (width_of v))
             r.conditions (λ k d lt. starts_within (width_of v) (length r.accepted) _ (conditions.states k d lt)));
         some_class = classes.some;
         class_count = classes.count;
@@ -185,7 +199,8 @@ module _ (v : Version) (r : RawSet) (fits : AreFileNumbers v r) (within : AreAll
           length-map r.scan_rules (scan_rule_meant (width_of v)),
           accepted_within (length r.scan_rules) r.accepted k p accepted.1 is,
         );
-        scan_rows = rows_meant (width_of v) state_meant (length (map counted_meant r.accepted)) r.class_count (length r.accepted)
+        scan_rows = rows_meant (width_of v) state_meant (length (map counted_meant r.accepted)) r.class_count (length
+            r.accepted)
             (λ column s. s < length r.accepted) r.scan_rows fits.scan_rows (sym (length-map r.accepted counted_meant))
             scan_comb;
         scan_targets = λ k u is.
@@ -197,10 +212,12 @@ module _ (v : Version) (r : RawSet) (fits : AreFileNumbers v r) (within : AreAll
         rules = All-map IsRuleShort rule_meant r.rules
             (λ k d lt. rule_short (width_of v) r _ (rules.rules k d lt) (fits.rules k d lt));
         state_count = omega (arith, states.count, length-map r.defaults default_meant);
-        actions = rows_meant (width_of v) (action_meant (width_of v)) (length (map default_meant r.defaults)) (length r.terminals)
+        actions = rows_meant (width_of v) (action_meant (width_of v)) (length (map default_meant r.defaults)) (length
+            r.terminals)
             (length r.defaults) (IsActionWithin (width_of v) r) r.actions fits.actions
             (sym (length-map r.defaults default_meant)) action_comb;
-        gotos = rows_meant (width_of v) state_meant (length (map default_meant r.defaults)) r.nonterminals (length r.defaults)
+        gotos = rows_meant (width_of v) state_meant (length (map default_meant r.defaults)) r.nonterminals (length
+            r.defaults)
             (λ column s. s < length r.defaults) r.gotos fits.gotos (sym (length-map r.defaults default_meant))
             goto_comb;
         machine = machine_meant;

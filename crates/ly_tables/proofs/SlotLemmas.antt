@@ -29,7 +29,8 @@ zip_more (x ∷ xs) (y ∷ ys) (suc k) d e lt long = ap (λ ps. (x, y) ∷ ps)
     (zip_more xs ys k d e (omega (arith, lt)) (omega (arith, long)))
 
 -- a slot that is used, taken apart
-slot_used : {E : Type 0} (w : Width) (meant : ℕ → E) (entry row : ℕ) (u : Used E) → slot_meant w meant entry row ≡ Some u
+slot_used : {E : Type 0} (w : Width) (meant : ℕ → E) (entry row : ℕ) (u : Used E) → slot_meant w meant entry row ≡ Some
+    u
     → (row ≢ none_of w) × (u.row ≡ row) × (u.entry ≡ meant entry)
 slot_used {E} w meant entry row u is = elim (cases_eq row (none_of w)) [
   | inl none ↦ let e : nat_eq row (none_of w) ≡ true = eq-eqb row (none_of w) none in absurd (none-some u (rw e at is))
@@ -90,18 +91,21 @@ module _ {E : Type 0} (w : Width) (meant : ℕ → E) (c : RawComb) (long : leng
     module _ (code : E → ℕ) (back : (column n : ℕ) → legal column n → code (meant n) ≡ n)
         (few : length c.bases ≤ none_of w) where
       slot_back : (k : ℕ) (lt : k < length c.entries)
-          → (next_of code (slot_meant w meant (slice_index c.entries k) (slice_index c.rows k)) ≡ slice_index c.entries k)
+          → (next_of code (slot_meant w meant (slice_index c.entries k) (slice_index c.rows k)) ≡ slice_index c.entries
+          k)
           × (check_of w (slot_meant w meant (slice_index c.entries k) (slice_index c.rows k)) ≡ slice_index c.rows k)
       slot_back k lt =
           elim (within.slots k (slice_index c.entries k) (slice_index c.rows k)
           (slice_get-get_or c.entries k 0 lt) (slice_get-get_or c.rows k 0 (omega (arith, lt, long)))) [
             | inl free ↦
-                let e : nat_eq (slice_index c.rows k) (none_of w) ≡ true = eq-eqb (slice_index c.rows k) (none_of w) free.0 in
+                let e : nat_eq (slice_index c.rows k) (none_of w) ≡ true = eq-eqb (slice_index c.rows k) (none_of w)
+                free.0 in
                 rw e (sym free.1, sym free.0)
             | inr (base, column, at, lt, so, fits) ↦
                 let other : slice_index c.rows k ≢ none_of w
                 = λ same. omega (arith, same, few, slice_get_within c.bases (slice_index c.rows k) base at) in
-                let e : nat_eq (slice_index c.rows k) (none_of w) ≡ false = ne_eqb (slice_index c.rows k) (none_of w) other in
+                let e : nat_eq (slice_index c.rows k) (none_of w) ≡ false = ne_eqb (slice_index c.rows k) (none_of w)
+                other in
                 rw e (back column (slice_index c.entries k) fits, refl)
           ]
 

@@ -1,5 +1,5 @@
 //! Fields of a table file, of which so many stand one behind another.
-ghost use Rattle.std.specs.Prelude.{◌≡◌, ◌++◌, ℕ, List, All, IfOk, IfErr, length};
+ghost use Rattle.std.specs.Prelude.{◌≡◌, ◌++◌, ℕ, List, All, IfOk, IfErr, false, length};
 ghost use Rattle.std.specs.List.{flat_map};
 ghost use Rattle.std.specs.Int.{Width};
 ghost use Rattle.ly_tables.specs.Private.Parts.{Counted, IsBeginning, Repeated, Stops};
@@ -25,6 +25,13 @@ pub(crate) trait Field {
 
     /// Which bytes are those of a field.
     ghost part: { Width → List ℕ → Type 0 };
+
+    /// Whether the bytes of so many fields may be there, as far as that is known before they are read.
+    fn may_be_there(version: Version, left: &[u8], count: usize) -> bool
+        ensures { result ≡ false → IsBeginning (Repeated (part (width_of version)) count) left.now }
+    {
+        true
+    }
 
     /// The field that comes first, in a version, and what is left behind it.
     fn read(
@@ -55,6 +62,9 @@ pub(crate) fn list<F: Field>(
     ensures ok { IfOk result (λ r. left.now ≡ flat_map (F.spelled (width_of version)) r.0.items ++ r.1.now) }
     ensures truncated { IfErr result (Stops (IsBeginning (Repeated (F.part (width_of version)) count) left.now)) }
 {
+    if !F::may_be_there(version, left, count) {
+        return Err(TableFault::Truncated);
+    }
     let mut values = Vec::new(alloc);
     let mut behind = left;
     for _done in 0..count {

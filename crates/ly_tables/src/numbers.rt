@@ -1,6 +1,6 @@
 //! The numbers of a version, and numbers at the end of bytes, their greatest byte first.
-ghost use Rattle.std.specs.Prelude.{◌≡◌, ◌++◌, ◌∷◌, [], ◌<◌, OnOk, length};
-ghost use Rattle.std.specs.Int.{w16, w32, to_be_bytes};
+ghost use Rattle.std.specs.Prelude.{◌≡◌, ◌++◌, ◌∷◌, [], ◌<◌, ◌≤◌, OnOk, length};
+ghost use Rattle.std.specs.Int.{w16, w32, byte_len, to_be_bytes};
 ghost use Rattle.ly_tables.specs.Private.Short.{OptionFits};
 ghost use Rattle.ly_tables.specs.Ranges.{number_of, width_of};
 ghost use Rattle.ly_tables.specs.RawSet.{Fits};
@@ -17,6 +17,17 @@ pub(crate) fn version_number(version: Version) -> u16
     match version {
         Version::V1 => 1,
         Version::V2 => 2,
+    }
+}
+
+/// How many bytes a number of a version has.
+pub(crate) fn number_size(version: Version) -> usize
+    ensures size { result ≡ byte_len (width_of version) }
+    ensures some { 1 ≤ result }
+{
+    match version {
+        Version::V1 => 2,
+        Version::V2 => 4,
     }
 }
 

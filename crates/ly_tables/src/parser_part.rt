@@ -36,7 +36,8 @@ fn push_rules(out: &mut Vec<u8>, version: Version, rules: &[TableRule]) -> Resul
     requires count { Fits (width_of version) (length rules.now) }
     requires short { All (IsRuleWritten (width_of version)) (map rule_from rules.now) }
     ensures { OnOk result (out.new.items ≡ out.old.items
-        ++ (number (width_of version) (length rules.now) ++ flat_map (rule (width_of version)) (map rule_from rules.now))) }
+        ++ (number (width_of version) (length rules.now)
+        ++ flat_map (rule (width_of version)) (map rule_from rules.now))) }
 {
     push_count(out, version, rules.len())?;
     for rule in rules {

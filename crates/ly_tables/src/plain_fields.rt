@@ -8,6 +8,7 @@ ghost use Rattle.ly_tables.specs.Spelling.{number, string};
 use crate::fault::TableFault;
 use crate::field::Field;
 use crate::front::{bytes, number, short, wide};
+use crate::numbers::number_size;
 use ly_base::Version;
 use std::alloc::Global;
 
@@ -31,6 +32,10 @@ impl Field for Number {
 
     ghost part = { IsNumberText };
 
+    fn may_be_there(version: Version, left: &[u8], count: usize) -> bool {
+        left.len() / number_size(version) >= count
+    }
+
     fn read(_alloc: Global, version: Version, left: &[u8]) -> Result<(u32, &[u8]), TableFault> {
         number(version, left)
     }
@@ -50,6 +55,10 @@ impl Field for Wide {
     ghost fits = { λ w. Fits w32 };
 
     ghost part = { λ w. IsNumberText w32 };
+
+    fn may_be_there(_version: Version, left: &[u8], count: usize) -> bool {
+        left.len() / number_size(Version::V2) >= count
+    }
 
     fn read(_alloc: Global, _version: Version, left: &[u8]) -> Result<(u32, &[u8]), TableFault> {
         wide(left)

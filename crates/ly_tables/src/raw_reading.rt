@@ -3,7 +3,7 @@
 //! A file is a header and three parts, whose fields stand one behind another: counts alone say where each begins. Each
 //! reader takes what is left, and answers what stands at its front with what is left behind it. Where a part is only
 //! begun, its reader's contract says that the part can be completed; so the file can, and is a proper beginning of one.
-//! No count is trusted: room is asked for what has been read.
+//! No count is trusted: room is asked for what has been read, and for a list of numbers not before all are there.
 ghost use Rattle.std.specs.Prelude.{◌≡◌, ◌≢◌, ◌++◌, IfOk, IfErr, IfSome, MatchBool, None, codes, length, take};
 ghost use Rattle.std.specs.Int.{w16, to_be_bytes};
 ghost use Rattle.ly_tables.specs.Private.Parts.{IsEarly};

@@ -42,7 +42,8 @@ fn push_scan_rules(
     requires count { Fits (width_of version) (length rules.now) }
     requires short { All (IsScanRuleShort (width_of version)) (map scan_rule_from rules.now) }
     ensures { OnOk result (out.new.items ≡ out.old.items
-        ++ (number (width_of version) (length rules.now) ++ flat_map (scan_rule (width_of version)) (map scan_rule_from rules.now))) }
+        ++ (number (width_of version) (length rules.now)
+        ++ flat_map (scan_rule (width_of version)) (map scan_rule_from rules.now))) }
 {
     push_count(out, version, rules.len())?;
     for rule in rules {
@@ -98,7 +99,8 @@ fn push_conditions(
     requires count { Fits (width_of version) (length conditions.now) }
     requires short { All (AreStartsShort (width_of version)) (map starts_from conditions.now) }
     ensures { OnOk result (out.new.items ≡ out.old.items
-        ++ (number (width_of version) (length conditions.now) ++ flat_map (starts (width_of version)) (map starts_from conditions.now))) }
+        ++ (number (width_of version) (length conditions.now)
+        ++ flat_map (starts (width_of version)) (map starts_from conditions.now))) }
 {
     push_count(out, version, conditions.len())?;
     for condition in conditions {
@@ -137,7 +139,8 @@ fn push_accepted(
 /// A rule counted from 1, or 0 for none.
 fn push_counted(out: &mut Vec<u8>, version: Version, rule: Option<RuleNo>) -> Result<(), AllocError>
     requires { IsCountable (width_of version) (option_map (λ p. p.0) rule) }
-    ensures { OnOk result (out.new.items ≡ out.old.items ++ counted_from_one (width_of version) (option_map (λ p. p.0) rule)) }
+    ensures { OnOk result (out.new.items ≡ out.old.items
+        ++ counted_from_one (width_of version) (option_map (λ p. p.0) rule)) }
 {
     match rule {
         Some(rule) => push_number(out, version, rule.0 + 1),

@@ -8,7 +8,9 @@ use Rattle.ly_tables.specs.Ranges.{width_of}
 use Rattle.ly_tables.proofs.combs.push_checks.Goals as goal
 
 pub push_number-requires : goal.push_number-requires
-push_number-requires g c = subst (Fits (width_of c.args.version)) (sym c.row_number.ensures)
-    (check_short (width_of c.args.version) (g.E.Entry.code c.args.version) (option_map used_from c.slot-item.result)
-    (All-item (IsSlotShort (width_of c.args.version) (g.E.Entry.code c.args.version)) (option_map used_from) c.args.slots.now
+push_number-requires g c =
+    let w = width_of c.args.version in
+    subst (Fits w) (sym c.row_number.ensures)
+    (check_short w (g.E.Entry.code c.args.version) (option_map used_from c.slot-item.result)
+    (All-item (IsSlotShort w (g.E.Entry.code c.args.version)) (option_map used_from) c.args.slots.now
     c.loop-slot.slot-index c.slot-item.result c.loop-slot-test.true c.slot-item.is c.requires))

@@ -10,4 +10,5 @@ use Rattle.ly_tables.proofs.combs.push_checks.Given as goal
 abbrev pub invariant-loop-slot : goal.invariant-loop-slot
 invariant-loop-slot g l = l.out.items ++ flat_map (λ u. number (width_of l.version) (check_of (width_of l.version) u))
     (map (option_map used_from) (drop l.slot-index l.slots))
-    ≡ l.initial.out.items ++ flat_map (λ u. number (width_of l.version) (check_of (width_of l.version) u)) (map (option_map used_from) l.slots)
+    ≡ l.initial.out.items ++ flat_map (λ u. number (width_of l.version) (check_of (width_of l.version) u)) (map
+    (option_map used_from) l.slots)

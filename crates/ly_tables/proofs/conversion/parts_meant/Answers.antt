@@ -17,11 +17,13 @@ comb-requires-clause-comb c =
 
 pub comb-requires-2-clause-comb : goal.comb-requires-2-clause-comb
 comb-requires-2-clause-comb c =
+    let w = width_of c.args.version in
     let r = raw_from c.args.raw in
-    subst (λ n. IsComb (comb_meant (width_of c.args.version) (action_meant (width_of c.args.version)) n (comb_raw c.args.raw.actions)))
+    subst (λ n. IsComb (comb_meant w (action_meant w) n (comb_raw c.args.raw.actions)))
     (sym (c.len-terminals.ensures ∙ c.args.raw.terminals.ok.0
     ∙ sym (length-map c.args.raw.terminals.items (λ (name : Vec ℕ Global). name.items))))
-    (comb_within (width_of c.args.version) (action_meant (width_of c.args.version)) r.actions c.requires.fits.actions.row_count (length r.terminals) (IsActionWithin (width_of c.args.version) r)
+    (comb_within w (action_meant w) r.actions c.requires.fits.actions.row_count (length r.terminals) (IsActionWithin w
+    r)
     (action_comb c.args.version r c.requires.fits c.requires.within))
 
 pub comb-requires-3-clause-comb : goal.comb-requires-3-clause-comb

@@ -8,4 +8,5 @@ returns-in_err-text-clause-truncated c =
 
 pub returns-clause-ok : goal.returns-clause-ok
 returns-clause-ok c =
-    short_read c.in_ok-text.text.now c.in_ok-text.behind.now c.read_u16.result c.in_ok-text.ensures.ok c.read_u16.ensures
+    short_read c.in_ok-text.text.now c.in_ok-text.behind.now c.read_u16.result c.in_ok-text.ensures.ok
+    c.read_u16.ensures

@@ -14,8 +14,10 @@ use Rattle.ly_tables.specs.Ranges.{IsWithinVersion, width_of}
 use Rattle.ly_tables.proofs.parser_part.push_parser.Goals as goal
 
 pub push_rules-requires-clause-short : goal.push_rules-requires-clause-short
-push_rules-requires-clause-short c = subst (λ (rules : List code.TableRule). All (IsRuleWritten (width_of c.args.version)) (map rule_from rules))
-    (sym c.deref.ensures.value) (rules_written c.args.version _ (subst (IsWithinVersion c.args.version) (sym c.set.view_is) c.requires))
+push_rules-requires-clause-short c = subst (λ (rules : List code.TableRule). All (IsRuleWritten (width_of
+    c.args.version)) (map rule_from rules))
+    (sym c.deref.ensures.value) (rules_written c.args.version _ (subst (IsWithinVersion c.args.version) (sym
+    c.set.view_is) c.requires))
 
 pub push_defaults-requires-clause-short : goal.push_defaults-requires-clause-short
 push_defaults-requires-clause-short c = subst (λ (defaults : List (Option RuleNo)).
@@ -32,10 +34,11 @@ push_comb-requires-2-clause-slots c = gotos_short c.args.version _
 
 pub returns : goal.returns
 returns c =
+    let w = width_of c.args.version in
     let i = c.set.inside in
     subst (λ (s : TableSet). OnOk c.push_comb-2.result
-    (c.push_comb-2.new.out.items ≡ c.args.out.now.items ++ parser_sections (width_of c.args.version) s)) c.set.view_is
-    (on_ok_weaker c.push_comb-2.result (parser_joined (width_of c.args.version) c.args.out.now.items i.rules.items i.defaults.items
-    (comb (width_of c.args.version) (λ a. action_number (width_of c.args.version) (action_from a)) i.actions) (comb (width_of c.args.version) (λ (n : StateNo). n.0) i.gotos)
+    (c.push_comb-2.new.out.items ≡ c.args.out.now.items ++ parser_sections w s)) c.set.view_is
+    (on_ok_weaker c.push_comb-2.result (parser_joined w c.args.out.now.items i.rules.items i.defaults.items
+    (comb w (λ a. action_number w (action_from a)) i.actions) (comb w (λ (n : StateNo). n.0) i.gotos)
     (rw c.deref.ensures.value at c.in_ok-push_rules.ensures)
     (rw c.deref-2.ensures.value at c.in_ok-push_defaults.ensures) c.in_ok-push_comb.ensures) c.push_comb-2.ensures)

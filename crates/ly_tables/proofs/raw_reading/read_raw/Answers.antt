@@ -11,13 +11,15 @@ pub returns-in_err-symbols-clause-refused : goal.returns-in_err-symbols-clause-r
 returns-in_err-symbols-clause-refused c =
     let error = c.in_err-symbols in let handed = c.from_residual-in_err-symbols in
     refused c.args.bytes.now handed.result error.field-0.0 handed.ensures.1 error.ensures.truncated
-    (λ begun. truncated c.in_ok-version.version c.in_ok-version.ensures.ok (begun_first (λ v fit. some_scanner (width_of c.in_ok-version.version)) begun))
+    (λ begun. truncated c.in_ok-version.version c.in_ok-version.ensures.ok (begun_first (λ v fit. some_scanner (width_of
+    c.in_ok-version.version)) begun))
 
 pub returns-in_err-scanner-clause-refused : goal.returns-in_err-scanner-clause-refused
 returns-in_err-scanner-clause-refused c =
     let error = c.in_err-scanner in let handed = c.from_residual-in_err-scanner in
     refused c.args.bytes.now handed.result error.field-0.0 handed.ensures.1 error.ensures.truncated
-    (λ begun. truncated c.in_ok-version.version c.in_ok-version.ensures.ok (begun_behind (symbols_raw c.in_ok-symbols.symbols)
+    (λ begun. truncated c.in_ok-version.version c.in_ok-version.ensures.ok (begun_behind (symbols_raw
+    c.in_ok-symbols.symbols)
     c.in_ok-symbols.left.now (c.in_ok-symbols.ensures.fits, c.in_ok-symbols.ensures.ok)
     (begun_first (λ v fit. some_parser (width_of c.in_ok-version.version)) begun)))
 
@@ -25,7 +27,8 @@ pub returns-in_err-parser-clause-refused : goal.returns-in_err-parser-clause-ref
 returns-in_err-parser-clause-refused c =
     let error = c.in_err-parser in let handed = c.from_residual-in_err-parser in
     refused c.args.bytes.now handed.result error.field-0.0 handed.ensures.1 error.ensures.truncated
-    (λ begun. truncated c.in_ok-version.version c.in_ok-version.ensures.ok (begun_behind (symbols_raw c.in_ok-symbols.symbols)
+    (λ begun. truncated c.in_ok-version.version c.in_ok-version.ensures.ok (begun_behind (symbols_raw
+    c.in_ok-symbols.symbols)
     c.in_ok-symbols.left.now (c.in_ok-symbols.ensures.fits, c.in_ok-symbols.ensures.ok)
     (begun_behind (scanner_raw c.in_ok-scanner.scanner) c.in_ok-scanner.left.now
     (c.in_ok-scanner.ensures.fits, c.in_ok-scanner.ensures.ok) begun)))
@@ -38,9 +41,11 @@ returns-then-not-is_empty-clause-refused c =
       c.in_ok-version.version,
       together s n p,
       c.in_ok-parser.left.now,
-      together_fit (width_of c.in_ok-version.version) s n p c.in_ok-symbols.ensures.fits c.in_ok-scanner.ensures.fits c.in_ok-parser.ensures.fits,
+      together_fit (width_of c.in_ok-version.version) s n p c.in_ok-symbols.ensures.fits c.in_ok-scanner.ensures.fits
+          c.in_ok-parser.ensures.fits,
       (λ e. some (ap length e)),
-      together_is c.in_ok-version.version s n p c.in_ok-parser.left.now c.in_ok-version.ensures.ok c.in_ok-symbols.ensures.ok
+      together_is c.in_ok-version.version s n p c.in_ok-parser.left.now c.in_ok-version.ensures.ok
+          c.in_ok-symbols.ensures.ok
           c.in_ok-scanner.ensures.ok c.in_ok-parser.ensures.ok,
     )
 
@@ -48,5 +53,6 @@ pub returns-clause-spelled : goal.returns-clause-spelled
 returns-clause-spelled c =
     let none : length c.in_ok-parser.left.now ≡ 0 = grind (arith, common_steps) in
     together_all c.in_ok-version.version (symbols_raw c.in_ok-symbols.symbols) (scanner_raw c.in_ok-scanner.scanner)
-    (parser_raw c.in_ok-parser.parser) c.in_ok-parser.left.now none c.in_ok-version.ensures.ok c.in_ok-symbols.ensures.ok
+    (parser_raw c.in_ok-parser.parser) c.in_ok-parser.left.now none c.in_ok-version.ensures.ok
+    c.in_ok-symbols.ensures.ok
     c.in_ok-scanner.ensures.ok c.in_ok-parser.ensures.ok

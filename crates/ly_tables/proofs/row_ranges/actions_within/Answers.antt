@@ -6,7 +6,9 @@ use Rattle.ly_tables.specs.Ranges.{width_of}
 use Rattle.ly_tables.proofs.row_ranges.actions_within.Goals as goal
 
 pub returns : goal.returns
-returns c = subst (λ n. IsTrue c.are_rows_within.result ↔ AreRowsWithin (width_of c.args.version) n (IsActionWithin (width_of c.args.version)
+returns c =
+    let w = width_of c.args.version in
+    subst (λ n. IsTrue c.are_rows_within.result ↔ AreRowsWithin w n (IsActionWithin w
     (raw_from c.args.raw.now)) (comb_raw c.args.raw.now.actions)) (c.len.ensures
     ∙ c.args.raw.now.terminals.ok.0
     ∙ sym (length-map c.args.raw.now.terminals.items (λ (name : Vec ℕ Global). name.items))) c.are_rows_within.ensures

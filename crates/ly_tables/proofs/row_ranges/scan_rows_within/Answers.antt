@@ -5,6 +5,7 @@ use Rattle.ly_tables.specs.Ranges.{width_of}
 use Rattle.ly_tables.proofs.row_ranges.scan_rows_within.Goals as goal
 
 pub returns : goal.returns
-returns c = subst (λ n. IsTrue c.are_rows_within.result ↔ AreRowsWithin (width_of c.args.version) c.args.raw.now.class_count
+returns c = subst (λ n. IsTrue c.are_rows_within.result ↔ AreRowsWithin (width_of c.args.version)
+    c.args.raw.now.class_count
     (λ column s. s < n) (comb_raw c.args.raw.now.scan_rows)) (c.len.ensures
     ∙ c.args.raw.now.accepted.ok.0) c.are_rows_within.ensures

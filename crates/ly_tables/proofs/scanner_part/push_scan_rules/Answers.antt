@@ -5,5 +5,6 @@ use Rattle.ly_tables.specs.Ranges.{width_of}
 use Rattle.ly_tables.proofs.scanner_part.push_scan_rules.Goals as goal
 
 pub push_scan_rule-requires : goal.push_scan_rule-requires
-push_scan_rule-requires c = All-at (IsScanRuleShort (width_of c.args.version)) scan_rule_from c.args.rules.now c.loop-rule.rule-index _
+push_scan_rule-requires c = All-at (IsScanRuleShort (width_of c.args.version)) scan_rule_from c.args.rules.now
+    c.loop-rule.rule-index _
     c.loop-rule-test.true c.requires.short

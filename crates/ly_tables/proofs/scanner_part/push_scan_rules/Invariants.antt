@@ -7,5 +7,6 @@ use Rattle.ly_tables.proofs.scanner_part.push_scan_rules.Given as goal
 
 -- what is written and what is left are all
 abbrev pub invariant-loop-rule : goal.invariant-loop-rule
-invariant-loop-rule l = l.out.items ++ flat_map (scan_rule (width_of l.version)) (map scan_rule_from (drop l.rule-index l.rules))
+invariant-loop-rule l = l.out.items ++ flat_map (scan_rule (width_of l.version)) (map scan_rule_from (drop l.rule-index
+    l.rules))
     ≡ l.initial.out.items ++ flat_map (scan_rule (width_of l.version)) (map scan_rule_from l.rules)

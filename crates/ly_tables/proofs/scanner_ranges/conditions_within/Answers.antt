@@ -11,9 +11,10 @@ use Rattle.ly_tables.proofs.scanner_ranges.conditions_within.Goals as goal
 
 pub returns-then-is_count_within : goal.returns-then-is_count_within
 returns-then-is_count_within c =
+    let w = width_of c.args.version in
     let conditions = c.args.raw.now.conditions.items in
     let states = length c.args.raw.now.accepted.items in
-    let fits = λ (s : RawStarts). IsNoneOr (width_of c.args.version) states s.elsewhere × IsNoneOr (width_of c.args.version) states s.at_line in
+    let fits = λ (s : RawStarts). IsNoneOr w states s.elsewhere × IsNoneOr w states s.at_line in
     let each = rw (c.deref.ensures.value, c.len-then-is_count_within.ensures, c.args.raw.now.accepted.ok.0)
     at c.are_starts_within.ensures in
     let most = (of_version c.args.version).conditions in

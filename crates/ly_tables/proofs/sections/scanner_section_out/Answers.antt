@@ -13,20 +13,23 @@ returns-then-not-symbols_within-clause-some c =
 pub returns-then-not-literals_within-clause-some : goal.returns-then-not-literals_within-clause-some
 returns-then-not-literals_within-clause-some c =
     let r = raw_from c.args.raw.now in
-    let b3 = one_more c.args.version r symbol_section (c.if-not-symbols_within.ensures.0 refl) (none_before c.args.version r) in
+    let b3 = one_more c.args.version r symbol_section (c.if-not-symbols_within.ensures.0 refl) (none_before
+    c.args.version r) in
     first_number c.args.version r literal_section b3 c.if-not-literals_within.ensures.1
 
 pub returns-then-not-scan_rules_within-clause-some : goal.returns-then-not-scan_rules_within-clause-some
 returns-then-not-scan_rules_within-clause-some c =
     let r = raw_from c.args.raw.now in
-    let b3 = one_more c.args.version r symbol_section (c.if-not-symbols_within.ensures.0 refl) (none_before c.args.version r) in
+    let b3 = one_more c.args.version r symbol_section (c.if-not-symbols_within.ensures.0 refl) (none_before
+    c.args.version r) in
     let b4 = one_more c.args.version r literal_section (c.if-not-literals_within.ensures.0 refl) b3 in
     first_number c.args.version r scan_rule_section b4 c.if-not-scan_rules_within.ensures.1
 
 pub returns-then-not-conditions_within-clause-some : goal.returns-then-not-conditions_within-clause-some
 returns-then-not-conditions_within-clause-some c =
     let r = raw_from c.args.raw.now in
-    let b3 = one_more c.args.version r symbol_section (c.if-not-symbols_within.ensures.0 refl) (none_before c.args.version r) in
+    let b3 = one_more c.args.version r symbol_section (c.if-not-symbols_within.ensures.0 refl) (none_before
+    c.args.version r) in
     let b4 = one_more c.args.version r literal_section (c.if-not-literals_within.ensures.0 refl) b3 in
     let b5 = one_more c.args.version r scan_rule_section (c.if-not-scan_rules_within.ensures.0 refl) b4 in
     first_number c.args.version r condition_section b5 c.if-not-conditions_within.ensures.1
@@ -34,7 +37,8 @@ returns-then-not-conditions_within-clause-some c =
 pub returns-then-not-classes_within-clause-some : goal.returns-then-not-classes_within-clause-some
 returns-then-not-classes_within-clause-some c =
     let r = raw_from c.args.raw.now in
-    let b3 = one_more c.args.version r symbol_section (c.if-not-symbols_within.ensures.0 refl) (none_before c.args.version r) in
+    let b3 = one_more c.args.version r symbol_section (c.if-not-symbols_within.ensures.0 refl) (none_before
+    c.args.version r) in
     let b4 = one_more c.args.version r literal_section (c.if-not-literals_within.ensures.0 refl) b3 in
     let b5 = one_more c.args.version r scan_rule_section (c.if-not-scan_rules_within.ensures.0 refl) b4 in
     let b6 = one_more c.args.version r condition_section (c.if-not-conditions_within.ensures.0 refl) b5 in
@@ -43,7 +47,8 @@ returns-then-not-classes_within-clause-some c =
 pub returns-then-not-accepted_within-clause-some : goal.returns-then-not-accepted_within-clause-some
 returns-then-not-accepted_within-clause-some c =
     let r = raw_from c.args.raw.now in
-    let b3 = one_more c.args.version r symbol_section (c.if-not-symbols_within.ensures.0 refl) (none_before c.args.version r) in
+    let b3 = one_more c.args.version r symbol_section (c.if-not-symbols_within.ensures.0 refl) (none_before
+    c.args.version r) in
     let b4 = one_more c.args.version r literal_section (c.if-not-literals_within.ensures.0 refl) b3 in
     let b5 = one_more c.args.version r scan_rule_section (c.if-not-scan_rules_within.ensures.0 refl) b4 in
     let b6 = one_more c.args.version r condition_section (c.if-not-conditions_within.ensures.0 refl) b5 in
@@ -53,7 +58,8 @@ returns-then-not-accepted_within-clause-some c =
 pub returns-then-not-scan_rows_within-clause-some : goal.returns-then-not-scan_rows_within-clause-some
 returns-then-not-scan_rows_within-clause-some c =
     let r = raw_from c.args.raw.now in
-    let b3 = one_more c.args.version r symbol_section (c.if-not-symbols_within.ensures.0 refl) (none_before c.args.version r) in
+    let b3 = one_more c.args.version r symbol_section (c.if-not-symbols_within.ensures.0 refl) (none_before
+    c.args.version r) in
     let b4 = one_more c.args.version r literal_section (c.if-not-literals_within.ensures.0 refl) b3 in
     let b5 = one_more c.args.version r scan_rule_section (c.if-not-scan_rules_within.ensures.0 refl) b4 in
     let b6 = one_more c.args.version r condition_section (c.if-not-conditions_within.ensures.0 refl) b5 in
@@ -64,7 +70,8 @@ returns-then-not-scan_rows_within-clause-some c =
 pub returns-clause-none : goal.returns-clause-none
 returns-clause-none c =
     let r = raw_from c.args.raw.now in
-    let b3 = one_more c.args.version r symbol_section (c.if-not-symbols_within.ensures.0 refl) (none_before c.args.version r) in
+    let b3 = one_more c.args.version r symbol_section (c.if-not-symbols_within.ensures.0 refl) (none_before
+    c.args.version r) in
     let b4 = one_more c.args.version r literal_section (c.if-not-literals_within.ensures.0 refl) b3 in
     let b5 = one_more c.args.version r scan_rule_section (c.if-not-scan_rules_within.ensures.0 refl) b4 in
     let b6 = one_more c.args.version r condition_section (c.if-not-conditions_within.ensures.0 refl) b5 in
