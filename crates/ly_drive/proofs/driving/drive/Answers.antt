@@ -8,8 +8,8 @@ returns-in_err-set-clause-needed g c s driven not = nothing_needed 4096 s (g.R.S
 
 pub returns-clause-needed : goal.returns-clause-needed
 returns-clause-needed g c s driven not =
-    let read = c.in_ok-set.field-0 in
-    let same = (c.a_file_has_one_set.ensures c.args.tables.now read.1 driven.0 read.0 s c.in_ok-set.ensures.spelled
+    let read = c.in_ok-set in
+    let same = (c.a_file_has_one_set.ensures c.args.tables.now read._version driven.0 read.set s read.ensures.spelled
     driven.1).1 in
     subst (λ x. IsReadAsNeeded 4096 x (g.R.Source.remaining c.args.reader.now) (g.R.Source.remaining c.run.new.reader))
     same (c.run.ensures.needed not)
