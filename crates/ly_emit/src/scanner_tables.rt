@@ -137,22 +137,23 @@ fn dense_rows(alloc: Global, dfa: &Dfa, states: u32) -> Result<Dense<StateNo>, O
 {
     let mut rows = Dense::new(alloc, states as usize, dfa.classes())?;
     for state in 0..states {
-        fill_row(dfa, state, &mut rows);
+        fill_row(dfa, state, &mut rows)?;
     }
     Ok(rows)
 }
 
 /// Fills in where a state leads.
-fn fill_row(dfa: &Dfa, state: u32, rows: &mut Dense<StateNo>)
+fn fill_row(dfa: &Dfa, state: u32, rows: &mut Dense<StateNo>) -> Result<(), OutOfMemory>
     requires state { state < length dfa.now.rules }
     requires rows { rows.old.rows ≡ length dfa.now.rules }
     requires width { rows.old.width ≡ dfa.now.classes }
     requires before { AreNextTo dfa.now state (dense_entry rows.old) }
     ensures rows { rows.new.rows ≡ rows.old.rows }
     ensures width { rows.new.width ≡ rows.old.width }
-    ensures filled { AreNextTo dfa.now (state + 1) (dense_entry rows.new) }
+    ensures filled { OnOk result (AreNextTo dfa.now (state + 1) (dense_entry rows.new)) }
 {
     for class in 0..dfa.classes() {
-        rows.set(StateNo(state), class, dfa.next(state, class).map(StateNo));
+        rows.set(StateNo(state), class, dfa.next(state, class).map(StateNo))?;
     }
+    Ok(())
 }

@@ -90,7 +90,7 @@ fn fill_actions(
 {
     for entry in row {
         let action = table_action(resolved.lr0(), state, *entry)?;
-        actions.set(state, entry.terminal.0 as usize, Some(action));
+        actions.set(state, entry.terminal.0 as usize, Some(action))?;
     }
     Ok(())
 }
@@ -136,13 +136,13 @@ fn goto_rows(alloc: Global, lr0: &Lr0<'_>) -> Result<Dense<StateNo>, OutOfMemory
     let nonterminals = lr0.reduced().grammar().accept().0;
     let mut gotos = Dense::new(alloc, lr0.states(), nonterminals as usize)?;
     for state in 0..lr0.states() {
-        fill_gotos(lr0, StateNo(state as u32), &mut gotos);
+        fill_gotos(lr0, StateNo(state as u32), &mut gotos)?;
     }
     Ok(gotos)
 }
 
 /// Fills in where a state goes by nonterminals.
-fn fill_gotos(lr0: &Lr0<'_>, state: StateNo, gotos: &mut Dense<StateNo>)
+fn fill_gotos(lr0: &Lr0<'_>, state: StateNo, gotos: &mut Dense<StateNo>) -> Result<(), OutOfMemory>
     requires lawful { IsAutomaton lr0.now }
     requires state { state.0 < length lr0.now.states }
     requires rows { gotos.old.rows ≡ length lr0.now.states }
@@ -150,13 +150,14 @@ fn fill_gotos(lr0: &Lr0<'_>, state: StateNo, gotos: &mut Dense<StateNo>)
     requires before { AreGotosTo lr0.now state.0 (dense_entry gotos.old) }
     ensures rows { gotos.new.rows ≡ gotos.old.rows }
     ensures width { gotos.new.width ≡ gotos.old.width }
-    ensures filled { AreGotosTo lr0.now (state.0 + 1) (dense_entry gotos.new) }
+    ensures filled { OnOk result (AreGotosTo lr0.now (state.0 + 1) (dense_entry gotos.new)) }
 {
     for transition in lr0.transitions(state) {
         if let Symbol::Nonterminal(left) = transition.symbol {
-            gotos.set(state, left.0 as usize, Some(transition.target));
+            gotos.set(state, left.0 as usize, Some(transition.target))?;
         }
     }
+    Ok(())
 }
 
 /// The rules but rule 0.

@@ -1,7 +1,8 @@
 ghost use Rattle.std.specs.Prelude.{◌≡◌};
 
-use ly_base::StateNo;
-use ly_pack::{Comb, Rows};
+use ly_base::{OutOfMemory, StateNo};
+use ly_pack::{Cell, Comb, Rows};
+use std::alloc::Global;
 
 /// Rows laid over one another that stay with their owner.
 #[derive(Clone, Copy)]
@@ -19,5 +20,9 @@ impl<'a, E: Copy> Rows<E> for LaidRows<'a, E> {
 
     fn entry(&self, row: StateNo, column: usize) -> Option<E> {
         self.0.entry(row, column)
+    }
+
+    fn cells(&self, alloc: Global) -> Result<Vec<Vec<Cell<E>>>, OutOfMemory> {
+        self.0.cells(alloc)
     }
 }

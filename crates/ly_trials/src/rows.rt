@@ -15,7 +15,7 @@ fn dense_rows(alloc: Global) -> Result<Dense<u8>, OutOfMemory> {
     for row in 0..6u32 {
         for column in 0..4usize {
             if (row as usize) < dense.rows() && column < dense.width() {
-                dense.set(StateNo(row), column, entry(row as usize, column));
+                dense.set(StateNo(row), column, entry(row as usize, column))?;
             }
         }
     }
@@ -57,10 +57,10 @@ pub(crate) fn by_hand(
 ) -> Result<Machine<Dense<TableAction>, Dense<StateNo>>, OutOfMemory> {
     let defaults = Vec::from_slice(alloc, &[None, Some(RuleNo(1)), None])?;
     let mut actions = Dense::new(alloc, 3, 3)?;
-    actions.set(StateNo(0), 2, Some(TableAction::Shift(StateNo(1))));
-    actions.set(StateNo(2), 0, Some(TableAction::Accept));
+    actions.set(StateNo(0), 2, Some(TableAction::Shift(StateNo(1))))?;
+    actions.set(StateNo(2), 0, Some(TableAction::Accept))?;
     let mut gotos = Dense::new(alloc, 3, 1)?;
-    gotos.set(StateNo(0), 0, Some(StateNo(2)));
+    gotos.set(StateNo(0), 0, Some(StateNo(2)))?;
     let mut rules = Vec::new(alloc);
     rules.push(TableRule {
         left: Sym(0),

@@ -62,7 +62,7 @@ loop-entry-preserved c =
     let is_entry : IsEntryFor M k t (action_from x.action) (entry_action a)
     = subst (λ N. IsEntryFor N k t (action_from x.action) (entry_action a)) c.lr0.ensures.these
     c.in_ok-action.ensures in
-    let put = c.set.ensures.entries in
+    let put = c.in_ok-set.ensures.entries in
     record {
       rows = c.set.ensures.rows ∙ inv.rows;
       width = c.set.ensures.width ∙ inv.width;

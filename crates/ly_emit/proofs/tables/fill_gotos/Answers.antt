@@ -9,7 +9,7 @@ use Rattle.ly_emit.specs.Private.Filling.{AreGotosTo, IsGotoAt, IsLedAt}
 use Rattle.ly_emit.proofs.FillLemmas.{filled_more, put_filled, put_none}
 use Rattle.ly_emit.proofs.RowLemmas.{found_at, led_at, led_within}
 use Rattle.ly_emit.proofs.tables.fill_gotos.Goals as goal
-use Rattle.ly_emit.proofs.tables.fill_gotos.Goals.{in-Nonterminal, in_default}
+use Rattle.ly_emit.proofs.tables.fill_gotos.Goals.{in-Nonterminal+in_ok-set, in_default}
 
 pub set-requires-clause-column : goal.set-requires-clause-column
 set-requires-clause-column c =
@@ -34,11 +34,11 @@ loop-transition-preserved c =
     let old = dense_entry c.loop-transition.gotos in
     let new = dense_entry c.match-transition.gotos in
     elim c.match-transition.branch [
-      | in-Nonterminal w ↦
+      | in-Nonterminal+in_ok-set w ↦
           let A = w.in-Nonterminal.left.0 in
           let named : symbol_of t.symbol ≡ nonterminal A = ap symbol_of w.in-Nonterminal.is in
           let put : (r col : ℕ) → new r col ≡ (if nat_eq r k && nat_eq col A then Some t.target else old r col)
-          = λ r col. ap (λ d. dense_entry d r col) w.gotos-is ∙ w.set.ensures.entries r col in
+          = λ r col. ap (λ d. dense_entry d r col) w.gotos-is ∙ w.in_ok-set.ensures.entries r col in
           record {
             rows = ap (λ d. d.rows) w.gotos-is ∙ w.set.ensures.rows ∙ inv.rows;
             width = ap (λ d. d.width) w.gotos-is ∙ w.set.ensures.width ∙ inv.width;
