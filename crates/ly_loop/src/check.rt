@@ -7,6 +7,7 @@ use crate::edges::{first_above, targets};
 use crate::entries::{all_entries, all_gotos};
 use crate::fault::LoopFault;
 use crate::path::Path;
+use crate::reducing::reducing_states;
 use ly_base::StateNo;
 use ly_pack::{Machine, Rows, TableAction};
 use std::alloc::Global;
@@ -25,12 +26,13 @@ pub fn steady<A: Rows<TableAction> + Drop, G: Rows<StateNo> + Drop>(
     }
     let entries = all_entries(alloc, machine)?;
     let gotos = all_gotos(alloc, machine)?;
+    let reducing = reducing_states(alloc, machine, &entries)?;
     let mut path = Path::new(alloc, machine.terminals())?;
     let mut tops = Vec::new(alloc);
     for number in 0..machine.states() {
         let below = StateNo(number as u32);
         targets(&entries[number], &gotos[number], &mut tops)?;
-        if let Some(passing) = first_above(machine, &entries, below, &tops, &mut path)? {
+        if let Some(passing) = first_above(machine, &entries, &reducing, below, &tops, &mut path)? {
             return Err(LoopFault::Endless {
                 below,
                 top: passing.top,

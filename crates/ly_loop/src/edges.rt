@@ -1,8 +1,9 @@
-ghost use Rattle.std.specs.Prelude.{◌<◌, ◌≡◌, [], ◌∷◌, IfOk, OnOk};
+ghost use Rattle.std.specs.Prelude.{◌<◌, ◌≡◌, [], ◌∷◌, length, IfOk, OnOk};
 ghost use Rattle.ly_pack.specs.Machine.{states_of};
 ghost use Rattle.ly_pack.specs.Steady.{run_bound};
-ghost use Rattle.ly_loop.specs.Private.Edges.{AreTargets, AreTargetsOf, IsFirstAbove, IsFirstToken, IsLower};
+ghost use Rattle.ly_loop.specs.Private.Edges.{AreTargets, AreTargetsOf, IsAsked, IsFirstAbove, IsFirstToken, IsLower};
 ghost use Rattle.ly_loop.specs.Private.Entries.{AreAllEntries};
+ghost use Rattle.ly_loop.specs.Private.Reducing.{AreReducing};
 ghost use Rattle.ly_loop.specs.Private.Run.{EndsAs, IsCountable};
 
 use crate::path::{Path, all_end};
@@ -43,12 +44,14 @@ pub(crate) fn targets(
 pub(crate) fn first_above<A: Rows<TableAction> + Drop, G: Rows<StateNo> + Drop>(
     machine: &Machine<A, G>,
     entries: &[Vec<Cell<TableAction>>],
+    reducing: &[bool],
     below: StateNo,
     targets: &[StateNo],
     path: &mut Path,
 ) -> Result<Option<Passing>, OutOfMemory>
     requires countable { IsCountable machine.now }
     requires entries { AreAllEntries machine.now entries.now }
+    requires reducing { AreReducing machine.now reducing.now }
     requires below { below.0 < states_of machine.now }
     requires targets { AreTargets machine.now below.0 targets.now }
     requires room { path.old.settled.below ≡ machine.now.terminals }
@@ -57,13 +60,24 @@ pub(crate) fn first_above<A: Rows<TableAction> + Drop, G: Rows<StateNo> + Drop>(
 {
     let mut first: Option<Passing> = None;
     for top in targets {
-        if is_lower(*top, first) {
+        if is_asked(reducing, *top, first) {
             if let Some(token) = first_token(machine, entries, below, *top, path)? {
                 first = Some(Passing { top: *top, token });
             }
         }
     }
     Ok(first)
+}
+
+/// Whether the runs above a target are asked for: it reduces, and comes before that of a run that was found.
+fn is_asked(reducing: &[bool], top: StateNo, found: Option<Passing>) -> bool
+    requires { top.0 < length reducing.now }
+    ensures { IsAsked reducing.now top.0 found result }
+{
+    if !reducing[top.0 as usize] {
+        return false;
+    }
+    is_lower(top, found)
 }
 
 /// Whether a target comes before that of a run that was found, if there is one.

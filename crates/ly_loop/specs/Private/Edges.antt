@@ -1,5 +1,6 @@
 -- The edges above a state, and the first run above them that makes too many reductions.
 use Rattle.std.specs.Prelude.{◌≡◌, ◌⊎◌, ℕ, ◌<◌, ◌≤◌, Bool, true, false, List, Contains, Option, Some, None, MatchOption}
+use Rattle.std.specs.Prelude.{slice_get}
 use Rattle.ly_base.specs.declared.numbers.StateNo.{StateNo}
 use Rattle.ly_base.specs.declared.numbers.Sym.{Sym}
 use Rattle.ly_pack.specs.Machine.{Machine}
@@ -48,3 +49,8 @@ abbrev pub IsLower : ℕ → Option Passing → Bool → Type 0
 IsLower top None b = b ≡ true
 IsLower top (Some found) true = top < found.top.0
 IsLower top (Some found) false = found.top.0 ≤ top
+
+-- whether the runs above a target are asked for, by whether it reduces
+abbrev pub IsAsked : List Bool → ℕ → Option Passing → Bool → Type 0
+IsAsked reducing top found true = IsLower top found true
+IsAsked reducing top found false = (slice_get reducing top ≡ Some false) ⊎ IsLower top found false

@@ -11,11 +11,11 @@ pub first_above-requires-clause-targets : goal.first_above-requires-clause-targe
 first_above-requires-clause-targets g c =
     let m = c.args.machine.now in
     let n = c.loop-number.number in
-    subst (AreTargets m n) (sym c.deref-in-loop-number-3.ensures.value)
+    subst (AreTargets m n) (sym c.deref-in-loop-number-5.ensures.value)
     (targets_at m c.in_ok-entries.entries.items c.in_ok-gotos.gotos.items n c.index.result.now
-    c.index-in-loop-number.result.now c.deref.result.now c.deref-in-loop-number.result.now c.targets.new.targets.items
+    c.index-in-loop-number.result.now c.deref-in-loop-number.result.now c.deref-in-loop-number-2.result.now c.targets.new.targets.items
     c.in_ok-entries.ensures c.in_ok-gotos.ensures (omega arith) c.index.ensures c.index-in-loop-number.ensures
-    c.deref.ensures.value c.deref-in-loop-number.ensures.value c.in_ok-targets.ensures)
+    c.deref-in-loop-number.ensures.value c.deref-in-loop-number-2.ensures.value c.in_ok-targets.ensures)
 
 pub returns-in-Some-clause-fault : goal.returns-in-Some-clause-fault
 returns-in-Some-clause-fault g c =
@@ -23,11 +23,11 @@ returns-in-Some-clause-fault g c =
     let n = c.loop-number.number in
     let targets = c.targets.new.targets.items in
     let are = targets_at m c.in_ok-entries.entries.items c.in_ok-gotos.gotos.items n c.index.result.now
-    c.index-in-loop-number.result.now c.deref.result.now c.deref-in-loop-number.result.now targets
+    c.index-in-loop-number.result.now c.deref-in-loop-number.result.now c.deref-in-loop-number-2.result.now targets
     c.in_ok-entries.ensures c.in_ok-gotos.ensures (omega arith) c.index.ensures c.index-in-loop-number.ensures
-    c.deref.ensures.value c.deref-in-loop-number.ensures.value c.in_ok-targets.ensures in
+    c.deref-in-loop-number.ensures.value c.deref-in-loop-number-2.ensures.value c.in_ok-targets.ensures in
     let found = subst (IsFirstAbove m n targets) c.in-Some.is (subst (λ ts. IsFirstAbove m n ts c.in_ok-passing.field-0)
-    c.deref-in-loop-number-3.ensures.value c.in_ok-passing.ensures.first) in
+    c.deref-in-loop-number-5.ensures.value c.in_ok-passing.ensures.first) in
     first_endless m n targets c.in-Some.passing c.loop-number.invariant.ended are found
 
 pub loop-number-preserved : goal.loop-number-preserved
@@ -36,12 +36,12 @@ loop-number-preserved g c =
     let n = c.loop-number.number in
     let targets = c.targets.new.targets.items in
     let are = targets_at m c.in_ok-entries.entries.items c.in_ok-gotos.gotos.items n c.index.result.now
-    c.index-in-loop-number.result.now c.deref.result.now c.deref-in-loop-number.result.now targets
+    c.index-in-loop-number.result.now c.deref-in-loop-number.result.now c.deref-in-loop-number-2.result.now targets
     c.in_ok-entries.ensures c.in_ok-gotos.ensures (omega arith) c.index.ensures c.index-in-loop-number.ensures
-    c.deref.ensures.value c.deref-in-loop-number.ensures.value c.in_ok-targets.ensures in
+    c.deref-in-loop-number.ensures.value c.deref-in-loop-number-2.ensures.value c.in_ok-targets.ensures in
     let all = subst (IsFirstAbove m n targets) c.in_default.is
     (subst (λ ts. IsFirstAbove m n ts c.in_ok-passing.field-0)
-    c.deref-in-loop-number-3.ensures.value c.in_ok-passing.ensures.first) in
+    c.deref-in-loop-number-5.ensures.value c.in_ok-passing.ensures.first) in
     record {
       ended = λ below top lt edge. elim (cases_lt below n) [
         | inl less ↦ c.loop-number.invariant.ended below top less edge
