@@ -1,9 +1,6 @@
 -- Runs above states that don't reduce.
-use Rattle.std.proofs.Common.{◌≡◌, ◌⊎◌, ◌∙◌, ◌<◌, ◌+◌, ◌++◌, ◌∷◌, [], ℕ, Bool, true, false, List, length, Option, Some, None}
-use Rattle.std.proofs.Common.{Contains, ap, arith, inl, inr, is_some, refl, slice_get, subst, sym}
-use Rattle.std.specs.Option.{option_map}
-use Rattle.std.proofs.lemmas.List.{length_push}
-use Rattle.ly_base.proofs.ListLemmas.{slice_get-behind}
+use Rattle.std.proofs.Common.{◌≡◌, ◌∙◌, ◌++◌, ◌∷◌, [], ℕ, Bool, true, false, List, length, Option, Some, None}
+use Rattle.std.proofs.Common.{ap, inl, inr, is_some, refl, slice_get, subst, sym}
 use Rattle.ly_base.specs.declared.numbers.RuleNo.{RuleNo}
 use Rattle.ly_pack.specs.Machine.{Machine, TableAction, accept, action_of, entry_at, error, or_default, reduce, shift}
 use Rattle.ly_pack.specs.Steady.{RunEnd, accepts, ends, move, perform, reads, refuses, run_bound}

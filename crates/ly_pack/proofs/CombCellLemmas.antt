@@ -1,8 +1,8 @@
 -- The entries of each row of a comb, gathered slot by slot.
-use Rattle.std.proofs.Common.{◌≡◌, ◌≢◌, ◌∙◌, ◌⊎◌, ◌<◌, ◌≤◌, ◌+◌, ◌++◌, ◌∷◌, [], ℕ, List, length, map, Option, Some, None}
+use Rattle.std.proofs.Common.{◌≡◌, ◌∙◌, ◌<◌, ◌≤◌, ◌+◌, ◌++◌, ◌∷◌, [], ℕ, List, length, map, Option, Some, None}
 use Rattle.std.proofs.Common.{refl, sym, ap, subst, arith, inl, inr, Contains, nat_eq, nat_lt, slice_get, slice_set}
 use Rattle.std.proofs.Common.{lt-ltb, get_or}
-use Rattle.std.specs.Prelude.{AllPairs, option_and_then, replicate}
+use Rattle.std.specs.Prelude.{option_and_then, replicate}
 use Rattle.std.specs.Global.{Vec}
 use Rattle.std.proofs.lemmas.Bool.{cases_eq, cases_lt, cond-false, cond-true, eq-eqb, le-ltb, ne_eqb}
 use Rattle.std.proofs.lemmas.List.{get_or-replicate, length-map, length-replicate, length-set}
@@ -15,7 +15,7 @@ use Rattle.ly_base.proofs.CellLemmas.{slice_get-set_other, slice_get-set_same}
 use Rattle.ly_base.proofs.ListLemmas.{some_at}
 use Rattle.ly_base.proofs.MemberLemmas.{Contains-none}
 use Rattle.ly_pack.specs.Combs.{comb_from, used_from}
-use Rattle.ly_pack.specs.Rows.{AreAllCellsOf, AreCellsOf, AreRising, Comb, IsComb, Used, comb_entry, given_to}
+use Rattle.ly_pack.specs.Rows.{AreAllCellsOf, AreRising, Comb, IsComb, Used, comb_entry, given_to}
 use Rattle.ly_pack.specs.declared.cell.Cell.{Cell}
 use Rattle.ly_pack.specs.declared.comb_rows.Slot.{Slot}
 

@@ -1,11 +1,11 @@
 -- Rows as lists, and what a write to one of them changes.
-use Rattle.std.proofs.Common.{◌≡◌, ◌≢◌, ◌∙◌, ◌<◌, ◌≤◌, ◌++◌, ◌∷◌, [], ◌&&◌, ℕ, suc, List, length, map, Option, None, Some}
+use Rattle.std.proofs.Common.{◌≡◌, ◌≢◌, ◌∙◌, ◌<◌, ◌≤◌, ◌∷◌, [], ◌&&◌, ℕ, suc, List, length, map, Option, None, Some}
 use Rattle.std.proofs.Common.{slice_index_or, slice_set}
-use Rattle.std.proofs.Common.{refl, sym, ap, ap₂, subst, arith, inl, inr, slice_get, set, nat_eq, true, false, Bool, All}
+use Rattle.std.proofs.Common.{refl, sym, ap, ap₂, subst, arith, inl, inr, slice_get, set, nat_eq, Bool, All}
 use Rattle.std.specs.Prelude.{option_and_then, option_map, if◌then◌else◌, replicate}
 use Rattle.std.specs.Global.{Vec}
-use Rattle.std.proofs.lemmas.Bool.{and_left, and_right, cases_Bool, cases_lt, cond-true, cond-false, eqb-false, eqb-true}
-use Rattle.std.proofs.lemmas.Bool.{eq-eqb, ne_eqb}
+use Rattle.std.proofs.lemmas.Bool.{and_left, cases_Bool, cases_lt, cond-false, eqb-false, eqb-true}
+use Rattle.std.proofs.lemmas.Bool.{ne_eqb}
 use Rattle.std.proofs.lemmas.List.{get_or-replicate, length-map, length-replicate, length-set, map-set}
 use Rattle.std.proofs.lemmas.List.Elements.{All-set, All-replicate}
 use Rattle.std.proofs.lemmas.Option.{slice_get-get_or, slice_get-map, slice_get_past, slice_get_read}
@@ -13,7 +13,7 @@ use Rattle.ly_base.proofs.CellLemmas.{slice_get-set_other, slice_get-set_same}
 use Rattle.ly_base.proofs.ListLemmas.{All-at, some_at}
 use Rattle.ly_pack.specs.Rows.{AreAllCellsOf, AreCellsOf, AreRising, Dense, IsDense, dense_entry, dense_of, entry_in}
 use Rattle.ly_pack.specs.declared.cell.Cell.{Cell}
-use Rattle.ly_pack.proofs.CellLemmas.{cells_are, entry_in-before}
+use Rattle.ly_pack.proofs.CellLemmas.{cells_are}
 
 module _ {E : Type 0} (d : Dense E) where
   pub dense_entry-at : (row column : ℕ) (cells : List (Cell E)) → slice_get d.lists row ≡ Some cells

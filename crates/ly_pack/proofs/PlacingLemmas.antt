@@ -227,22 +227,6 @@ pub record IsPartFilled {E : Type 0} (entries : Entries E) (row base : ℕ) (col
 
 module _ {E : Type 0} (entries : Entries E) (row base : ℕ) (columns : List ℕ) (n : ℕ)
     (start before : List (Option (Slot E))) (so : IsPartFilled entries row base columns n start before) where
-  -- a column without an entry
-  pub part_none : entries row (get_or columns n 0) ≡ None → IsPartFilled entries row base columns (n + 1) start before
-  part_none none = record {
-    filled = λ j e lt is. elim (cases_lt j n) [
-      | inl less ↦ so.filled j e less is
-      | inr last ↦ let same : j ≡ n = omega (arith, lt, last) in
-          absurd (none-some e (sym none ∙ ap (λ i. entries row (get_or columns i 0)) (sym same) ∙ is))
-    ];
-    others = λ k miss. so.others k (λ j lt. miss j (omega (arith, lt)));
-    grows = so.grows;
-    short = λ k last. elim (so.short k last) [
-      | inl was ↦ inl was
-      | inr hit ↦ inr (hit.0, omega (arith, hit.1), hit.2)
-    ];
-  }
-
   -- one entry more is put into its slot
   module _ (after : List (Option (Slot E))) (e : E) (is : entries row (get_or columns n 0) ≡ Some e)
       (same : slot_at after (base + get_or columns n 0) ≡ Some (slot_of row e))

@@ -1,7 +1,7 @@
 //! From a parser's tables as rows to smaller ones that say the same: default reductions, and rows laid over one
 //! another.
 //!
-//! `Machine` is a parser as tables over any `Rows`: as they stand (`Dense`), or one over another with a check of the
+//! `Machine` is a parser as tables over any `Rows`: as lists (`Dense`), or one over another with a check of the
 //! row in each slot (`Comb`); `MachineView` is one whose tables are borrowed. `choose_defaults` finds each state's most
 //! frequent reduction and leaves out the entries that are equal to it; `comb` places rows by first fit, those with the
 //! most entries first (Tarjan and Yao 1979), and `pack` a machine's. A machine's value is the same over any rows, so a

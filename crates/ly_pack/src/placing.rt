@@ -1,4 +1,4 @@
-//! From rows as they stand to a comb: first fit, the rows with the most entries first (Tarjan and Yao 1979).
+//! From rows as lists to a comb: first fit, the rows with the most entries first (Tarjan and Yao 1979).
 //!
 //! Left out: anything that would make combs shorter than first fit does.
 ghost use Rattle.std.specs.Prelude.{◌≡◌, ◌≢◌, ◌⊎◌, ◌<◌, ◌≤◌, ◌^◌, ℕ, suc, length, IfOk, OnOk, Some};
@@ -11,7 +11,6 @@ use crate::bit_row::BitRow;
 use crate::comb_rows::{Comb, Slot};
 use crate::dense::Dense;
 use crate::order::{list_columns, rows_in_order};
-use crate::rows::Rows;
 use ly_base::{OutOfMemory, StateNo};
 use std::alloc::{AllocError, Global};
 
@@ -82,29 +81,22 @@ impl<E: Copy> Placing<E> {
         if base > u32::MAX as usize {
             return Err(OutOfMemory);
         }
-        self.fill(dense, row, columns, base)?;
+        self.fill(dense, row, base)?;
         Ok(base as u32)
     }
 
     /// Puts the entries of a row into the slots from a base on.
-    fn fill(
-        &mut self,
-        dense: &Dense<E>,
-        row: StateNo,
-        columns: &[u32],
-        base: usize,
-    ) -> Result<(), OutOfMemory>
-        requires columns { columns.now ≡ columns_of (dense_entry dense.now) dense.now.width row.0 }
+    fn fill(&mut self, dense: &Dense<E>, row: StateNo, base: usize) -> Result<(), OutOfMemory>
+        requires row { row.0 < dense.now.rows }
         requires base { base < 2 ^ 32 }
         requires tied { AreTied self.old.used.words.items self.old.slots.items }
         ensures filled { OnOk result (IsFilled (table_of dense.now) row.0 self.old.slots.items
             self.new.slots.items base) }
         ensures tied { OnOk result (AreTied self.new.used.words.items self.new.slots.items) }
     {
-        for column in columns {
-            if let Some(entry) = dense.entry(row, *column as usize) {
-                self.take(base + *column as usize, Slot { row, entry })?;
-            }
+        for cell in dense.row(row) {
+            let entry = cell.entry;
+            self.take(base + cell.column as usize, Slot { row, entry })?;
         }
         Ok(())
     }

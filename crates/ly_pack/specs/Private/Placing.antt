@@ -7,7 +7,7 @@ use Rattle.ly_pack.specs.Private.Order.{IsOrder}
 use Rattle.ly_pack.specs.Rows.{Dense, dense_entry}
 use Rattle.ly_pack.specs.declared.comb_rows.Slot.{Slot}
 
--- the table of rows as they stand
+-- the table of rows as lists
 abbrev pub table_of : {E : Type 0} → Dense E → Table E
 table_of d = record { entries = dense_entry d; rows = d.rows; width = d.width }
 

@@ -1,4 +1,3 @@
-use Rattle.std.proofs.Common.{inl}
 use Rattle.ly_loop.proofs.ReducingLemmas.{asked_lower}
 use Rattle.ly_loop.proofs.edges.is_asked.Goals as goal
 

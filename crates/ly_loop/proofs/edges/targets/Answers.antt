@@ -1,4 +1,4 @@
-use Rattle.std.proofs.Common.{[], ap, get_or, subst, sym, take, ◌+◌, ◌∙◌}
+use Rattle.std.proofs.Common.{[], ap, get_or, subst, sym, take, ◌∙◌}
 use Rattle.std.proofs.lemmas.List.{take_all, take_more}
 use Rattle.ly_loop.specs.Private.Edges.{AreTargetsOf}
 use Rattle.ly_loop.proofs.EntryLemmas.{no_entry, no_goto}

@@ -1,6 +1,4 @@
-use Rattle.std.specs.Global.{Vec}
 use Rattle.std.proofs.lemmas.Result.{IfOk-weaker}
-use Rattle.ly_pack.specs.Rows.{AreAllCellsOf}
 use Rattle.ly_loop.specs.Private.Entries.{AreAllEntries}
 use Rattle.ly_loop.proofs.EntryLemmas.{entries_are}
 use Rattle.ly_loop.proofs.entries.all_entries.Goals as goal

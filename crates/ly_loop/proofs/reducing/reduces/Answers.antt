@@ -1,4 +1,4 @@
-use Rattle.std.proofs.Common.{◌≡◌, ◌∙◌, Contains, ap, get_or, inl, inr, subst, sym, take}
+use Rattle.std.proofs.Common.{◌∙◌, Contains, ap, get_or, inl, inr, subst, sym, take}
 use Rattle.std.proofs.lemmas.List.{take_all, take_more}
 use Rattle.std.proofs.lemmas.List.Elements.{Contains-push_cases}
 use Rattle.ly_pack.specs.declared.action.TableAction as code

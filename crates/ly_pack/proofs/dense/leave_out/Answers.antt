@@ -1,11 +1,10 @@
-use Rattle.std.proofs.Common.{rules, ◌≡◌, ◌∙◌, ◌<◌, Option, Some, None, All, ap, not, subst, sym}
-use Rattle.std.specs.Prelude.{filter, if◌then◌else◌, Bool, true, false, nat_eq}
+use Rattle.std.proofs.Common.{rules, ◌∙◌, ◌<◌, Some, All, ap, not, subst, sym}
 use Rattle.std.proofs.lemmas.Fn.{filter_same}
 use Rattle.std.proofs.lemmas.List.Elements.{All-filter}
 use Rattle.std.proofs.lemmas.List.Kept.{AllPairs-filter}
 use Rattle.ly_pack.specs.Defaults.{is_by}
 use Rattle.ly_pack.specs.Private.Tally.{left_out}
-use Rattle.ly_pack.specs.Rows.{AreRising, dense_entry, entry_in}
+use Rattle.ly_pack.specs.Rows.{AreRising, entry_in}
 use Rattle.ly_pack.specs.Values.{action_from}
 use Rattle.ly_pack.specs.declared.action.TableAction as code
 use Rattle.ly_pack.specs.declared.cell.Cell.{Cell}

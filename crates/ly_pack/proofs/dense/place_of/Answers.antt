@@ -1,5 +1,5 @@
-use Rattle.std.proofs.Common.{rules, ◌<◌, ℕ, arith, get_or, inl, inr, nat_lt}
-use Rattle.std.proofs.lemmas.Bool.{cases_lt, ltb-false, ltb-true, lt-ltb}
+use Rattle.std.proofs.Common.{rules, get_or, nat_lt}
+use Rattle.std.proofs.lemmas.Bool.{ltb-false, ltb-true}
 use Rattle.std.proofs.lemmas.List.Sorted.{IsPartitionPoint-from_clause}
 use Rattle.ly_pack.proofs.CellLemmas.{rising_parts}
 use Rattle.ly_pack.proofs.dense.place_of.Goals as goal

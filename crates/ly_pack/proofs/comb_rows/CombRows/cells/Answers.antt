@@ -4,9 +4,8 @@ use Rattle.std.proofs.lemmas.List.{length-map}
 use Rattle.std.proofs.lemmas.Option.{get_or_from_slice_get, slice_get_read, slice_get_within}
 use Rattle.ly_pack.specs.Combs.{used_from}
 use Rattle.ly_pack.specs.Rows.{Comb}
-use Rattle.ly_pack.specs.declared.comb_rows.Slot.{Slot}
 use Rattle.ly_pack.proofs.CombCellLemmas.{AreAllBelow, below_all, below_none, below_push, below_skip}
-use Rattle.ly_pack.proofs.CombCellLemmas.{slot_base, slot_place, slot_seen, slot_used}
+use Rattle.ly_pack.proofs.CombCellLemmas.{slot_place, slot_seen, slot_used}
 use Rattle.ly_pack.proofs.comb_rows.CombRows.cells.Goals as goal
 use Rattle.ly_pack.proofs.comb_rows.CombRows.cells.Goals.{in-Some+in-Ok+in_ok-push, in_default}
 

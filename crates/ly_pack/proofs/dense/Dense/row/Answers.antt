@@ -1,4 +1,4 @@
-use Rattle.std.proofs.Common.{◌≡◌, ◌<◌, All, ap, subst, sym}
+use Rattle.std.proofs.Common.{◌<◌, All, subst, sym}
 use Rattle.ly_pack.specs.Rows.{AreCellsOf, Dense, dense_entry}
 use Rattle.ly_pack.specs.declared.cell.Cell.{Cell}
 use Rattle.ly_pack.proofs.DenseLemmas.{read_are, read_within}

@@ -1,4 +1,4 @@
-use Rattle.std.proofs.Common.{◌≡◌, ◌∙◌, ◌<◌, ◌&&◌, arith, ap, rules, subst, sym}
+use Rattle.std.proofs.Common.{◌≡◌, ◌∙◌, ◌<◌, ◌&&◌, ap, rules, subst, sym}
 use Rattle.std.specs.Prelude.{if◌then◌else◌, nat_eq}
 use Rattle.ly_pack.specs.Rows.{Dense, dense_entry}
 use Rattle.ly_pack.proofs.DenseLemmas.{dense_entry-put, is_dense-written, read_rising, read_within}

@@ -1,44 +1,52 @@
-use Rattle.std.proofs.Common.{◌≡◌, ◌+◌, arith, length, sym, subst}
-use Rattle.ly_pack.specs.Private.Placing.{table_of, AreTied}
+use Rattle.std.proofs.Common.{◌≡◌, ◌∙◌, ◌+◌, Some, ap, arith, get_or, inl, inr, length, refl, subst, sym}
+use Rattle.std.proofs.lemmas.List.{length-map}
+use Rattle.ly_pack.specs.Private.Order.{columns_of}
+use Rattle.ly_pack.specs.Private.Placing.{slot_at, table_of}
 use Rattle.ly_pack.specs.Rows.{dense_entry}
-use Rattle.ly_pack.specs.declared.placing.Placing.{Placing}
-use Rattle.ly_pack.proofs.PlacingLemmas.{IsPartFilled, part_none, part_more, filled_all}
+use Rattle.ly_pack.specs.declared.cell.Cell.{Cell}
+use Rattle.ly_pack.proofs.OrderLemmas.{column_listed, columns_listed}
+use Rattle.ly_pack.proofs.PlacingLemmas.{IsPartFilled, filled_all, part_more}
 use Rattle.ly_pack.proofs.placing.Placing.fill.Goals as goal
-use Rattle.ly_pack.proofs.placing.Placing.fill.Goals.{in-Some+in_ok-take, in_default}
 
-pub loop-column-preserved : goal.loop-column-preserved
-loop-column-preserved g c =
-    let so = c.loop-column.invariant.part in
-    elim c.match-entry.branch [
-      | in-Some+in_ok-take w ↦ record {
-        part = subst (λ (s : Placing g.row.E.Denot). IsPartFilled
-            (dense_entry c.args.dense.now) c.args.row.0 c.args.base
-            c.args.columns.now (c.loop-column.column-index + 1) c.args.self.now.slots.items s.slots.items)
-            (sym w.self-is)
-            (part_more (dense_entry c.args.dense.now) c.args.row.0 c.args.base c.args.columns.now
-            c.loop-column.column-index c.args.self.now.slots.items c.loop-column.self.slots.items so
-            w.take.new.self.slots.items w.in-Some.entry (sym w.in-Some.ensures) w.in_ok-take.ensures.same
-            w.in_ok-take.ensures.others w.in_ok-take.ensures.grows w.in_ok-take.ensures.short);
-        tied = subst (λ (s : Placing g.row.E.Denot). AreTied s.used.words.items s.slots.items) (sym w.self-is)
-            w.in_ok-take.ensures.tied;
-      }
-      | in_default w ↦ record {
-        part = subst (λ (s : Placing g.row.E.Denot). IsPartFilled
-            (dense_entry c.args.dense.now) c.args.row.0 c.args.base
-            c.args.columns.now (c.loop-column.column-index + 1) c.args.self.now.slots.items s.slots.items)
-            (sym w.self-is)
-            (part_none (dense_entry c.args.dense.now) c.args.row.0 c.args.base c.args.columns.now
-            c.loop-column.column-index c.args.self.now.slots.items c.loop-column.self.slots.items so
-            (sym w.in_default.ensures));
-        tied = subst (λ (s : Placing g.row.E.Denot). AreTied s.used.words.items s.slots.items) (sym w.self-is)
-            c.loop-column.invariant.tied;
-      }
-    ]
+pub loop-cell-preserved : goal.loop-cell-preserved
+loop-cell-preserved g c =
+    let d = c.args.dense.now in
+    let row = c.args.row.0 in
+    let base = c.args.base in
+    let columns = columns_of (dense_entry d) d.width row in
+    let these = c.row-cell-items.ensures.these in
+    let k = c.loop-cell.cell-index in
+    let lt = c.loop-cell-test.true in
+    let x = c.cell-item.result in
+    let at : get_or columns k 0 ≡ x.column = column_listed (dense_entry d) d.width row c.row-cell-items.result.now these
+    c.row-cell-items.ensures.within k x lt c.cell-item.is in
+    let is : dense_entry d row x.column ≡ Some x.entry = these.sound x (k, lt, sym c.cell-item.is) in
+    let there : base + x.column ≡ base + get_or columns k 0 = ap (λ n. base + n) (sym at) in
+    let new = c.take.new.self.slots.items in
+    record {
+      part = part_more (dense_entry d) row base columns k c.args.self.now.slots.items c.loop-cell.self.slots.items
+          c.loop-cell.invariant.part new x.entry (ap (dense_entry d row) at ∙ is)
+          (ap (slot_at new) (sym there) ∙ c.in_ok-take.ensures.same)
+          (λ j miss. c.in_ok-take.ensures.others j (λ e. miss (e ∙ there))) c.in_ok-take.ensures.grows
+          (λ j last. elim (c.in_ok-take.ensures.short j last) [
+            | inl here ↦ inl (here ∙ there)
+            | inr was ↦ inr was
+          ]);
+      tied = c.in_ok-take.ensures.tied;
+    }
 
 pub returns-clause-filled : goal.returns-clause-filled
 returns-clause-filled g c =
-    let all : c.loop-column.column-index ≡ length c.args.columns.now = omega arith in
-    filled_all (table_of c.args.dense.now) c.args.row.0 c.args.base c.args.columns.now c.args.self.now.slots.items
-    c.loop-column.self.slots.items c.requires.columns (subst (λ n. IsPartFilled (dense_entry c.args.dense.now)
-    c.args.row.0 c.args.base c.args.columns.now n c.args.self.now.slots.items c.loop-column.self.slots.items) all
-    c.loop-column.invariant.part)
+    let d = c.args.dense.now in
+    let row = c.args.row.0 in
+    let cells = c.row-cell-items.result.now in
+    let columns = columns_of (dense_entry d) d.width row in
+    let all : c.loop-cell.cell-index ≡ length columns = omega (
+      arith,
+      ap length (columns_listed (dense_entry d) d.width row cells c.row-cell-items.ensures.these
+          c.row-cell-items.ensures.within),
+      length-map cells (λ (x : Cell g.row.E.Denot). x.column),
+    ) in
+    filled_all (table_of d) row c.args.base columns c.args.self.now.slots.items c.loop-cell.self.slots.items refl
+    (subst (λ n. IsPartFilled (dense_entry d) row c.args.base columns n c.args.self.now.slots.items
+    c.loop-cell.self.slots.items) all c.loop-cell.invariant.part)
