@@ -14,14 +14,9 @@ pub fn check_tables<'a, F: Files, O: Write>(
     output: &mut O,
 ) -> Result<(), Failure<'a>> {
     let bytes = read_file(files, alloc, path)?;
-    let counts = match read_tables(alloc, &bytes) {
-        Ok((set, _version)) => counts(&set),
-        Err(fault) => return Err(Failure::Tables(fault)),
-    };
-    match line_of(alloc, counts) {
-        Ok(line) => write_to(output, STANDARD, line.as_bytes()),
-        Err(_) => Err(Failure::OutOfMemory),
-    }
+    let (set, _version) = read_tables(alloc, &bytes)?;
+    let line = line_of(alloc, counts(&set))?;
+    write_to(output, STANDARD, line.as_bytes())
 }
 
 /// The line that says how many there are.
@@ -34,6 +29,8 @@ fn line_of(alloc: Global, counts: SetCounts) -> Result<String, AllocError> {
         rules,
         parser_states,
     } = counts;
-    format!(in alloc; "tables: {terminals} terminals, {nonterminals} nonterminals, {scanner_rules} scanner rules, \
-        {scanner_states} scanner states, {rules} rules, {parser_states} parser states\n")
+    format!(in alloc;
+        "tables: {terminals} terminals, {nonterminals} nonterminals, {scanner_rules} scanner rules, \
+        {scanner_states} scanner states, {rules} rules, {parser_states} parser states\n"
+    )
 }

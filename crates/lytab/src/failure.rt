@@ -6,7 +6,7 @@ use ly_engine::GenFault;
 use ly_join::JoinFault;
 use ly_report::push_terminal;
 use ly_tables::TableFault;
-use std::alloc::Global;
+use std::alloc::{AllocError, Global};
 use std::io::{self, Write};
 
 const TEXT_REFUSED: u8 = 1;
@@ -37,6 +37,18 @@ pub enum Failure<'a> {
 impl From<GenFault> for Failure<'_> {
     fn from(fault: GenFault) -> Self {
         Failure::Refused(fault)
+    }
+}
+
+impl From<TableFault> for Failure<'_> {
+    fn from(fault: TableFault) -> Self {
+        Failure::Tables(fault)
+    }
+}
+
+impl From<AllocError> for Failure<'_> {
+    fn from(_error: AllocError) -> Self {
+        Failure::OutOfMemory
     }
 }
 

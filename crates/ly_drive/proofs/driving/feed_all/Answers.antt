@@ -3,8 +3,8 @@ use Rattle.std.specs.Io.KnownBytes.{Appends}
 use Rattle.std.specs.Prelude.{IfOk}
 use Rattle.ly_base.specs.TextWriter.{IsCutShort}
 use Rattle.ly_drive.proofs.FaultLemmas.{cut_short, other_fault, same_count, same_fault}
-use Rattle.ly_drive.proofs.SoFarLemmas.{all_ended, as_needed, at_fault, begins, ended_as_needed, ended_so, ends, given_by}
-use Rattle.ly_drive.proofs.SoFarLemmas.{goes_on, settles}
+use Rattle.ly_drive.proofs.SoFarLemmas.{all_ended, as_needed, at_fault, begins, ended_as_needed, ended_so, ends}
+use Rattle.ly_drive.proofs.SoFarLemmas.{given_by, goes_on, settles}
 use Rattle.ly_drive.specs.Held.{IsRestOf}
 use Rattle.ly_drive.specs.Private.Feeding.{IsAnswerOf}
 use Rattle.ly_drive.specs.Private.Reading.{IsReadInto}
@@ -109,8 +109,8 @@ returns-in-None-clause-answered g c =
     let f = c.loop-outcome.feed in
     let s = c.args.feed.now.set in
     let i = c.loop-outcome.invariant in
-    let read = subst (λ o. IsReadInto (length c.loop-outcome.room) f before after c.read_into.new.feed (Ok o)) c.in-None.is
-    c.in_ok-read_into.ensures.is_read in
+    let read = subst (λ o. IsReadInto (length c.loop-outcome.room) f before after c.read_into.new.feed (Ok o))
+    c.in-None.is c.in_ok-read_into.ensures.is_read in
     all_ended s given before after f i.so_far c.read_into.new.feed (g.W.Sink.contents c.args.writer.now)
     (g.W.Sink.contents c.finish_into.new.writer) c.finish_into.result read.2 read.1 read.0
     (subst (λ w. IfOk c.finish_into.result (λ o. (answer : List ℕ) × IsAnswerOf c.read_into.new.feed o answer
@@ -125,8 +125,8 @@ returns-in-None-clause-beginning g c written is =
     let f = c.loop-outcome.feed in
     let s = c.args.feed.now.set in
     let i = c.loop-outcome.invariant in
-    let read = subst (λ o. IsReadInto (length c.loop-outcome.room) f before after c.read_into.new.feed (Ok o)) c.in-None.is
-    c.in_ok-read_into.ensures.is_read in
+    let read = subst (λ o. IsReadInto (length c.loop-outcome.room) f before after c.read_into.new.feed (Ok o))
+    c.in-None.is c.in_ok-read_into.ensures.is_read in
     let begun = c.finish_into.ensures.beginning written is in
     let text = ended_so s given before after f i.so_far c.read_into.new.feed begun.1 begun.0 read.2 read.1 read.0
     begun.2 in
@@ -142,8 +142,8 @@ returns-in-None-clause-faulty g c is =
     let f = c.loop-outcome.feed in
     let s = c.args.feed.now.set in
     let i = c.loop-outcome.invariant in
-    let read = subst (λ o. IsReadInto (length c.loop-outcome.room) f before after c.read_into.new.feed (Ok o)) c.in-None.is
-    c.in_ok-read_into.ensures.is_read in
+    let read = subst (λ o. IsReadInto (length c.loop-outcome.room) f before after c.read_into.new.feed (Ok o))
+    c.in-None.is c.in_ok-read_into.ensures.is_read in
     ends s given before after f i.so_far faulty read.1 read.0
     (subst (λ x. IsRestOf x [] faulty) read.2 (c.finish_into.ensures.faulty is))
 
