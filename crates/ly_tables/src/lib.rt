@@ -6,8 +6,8 @@
 //! file has one set and one version, and only want of memory refuses a set's file.
 //!
 //! The two versions of the file differ in how wide its numbers are (`width_of`), and so in the greatest counts
-//! (`counts_of`). All that depends on them stands in `numbers`, `front` and `bounds`; what is built on these is passed
-//! the version.
+//! (`counts_of`). What either is stands in `numbers`, `front` and `bounds`; all that is built on these is passed the
+//! version.
 //!
 //! A file is read in four steps: its fields as numbers, by counts alone (`raw_reading`); whether these are within the
 //! ranges of their sections (`sections`); what they mean (`conversion`); and whether the tables are steady

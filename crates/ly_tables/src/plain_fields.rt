@@ -57,7 +57,7 @@ impl Field for Wide {
     ghost part = { λ w. IsNumberText w32 };
 
     fn may_be_there(_version: Version, left: &[u8], count: usize) -> bool {
-        left.len() / number_size(Version::V2) >= count
+        left.len() / 4 >= count
     }
 
     fn read(_alloc: Global, _version: Version, left: &[u8]) -> Result<(u32, &[u8]), TableFault> {

@@ -1,4 +1,4 @@
-use Rattle.std.proofs.Common.{◌<◌, ◌/◌, length, subst}
+use Rattle.std.proofs.Common.{◌/◌, length}
 use Rattle.std.proofs.lemmas.Bool.{leb-false}
 use Rattle.ly_base.specs.declared.version.Version.TheVariants.{V2}
 use Rattle.ly_tables.proofs.BeginningLemmas.{are_bytes, numbers_begun}
@@ -7,5 +7,4 @@ use Rattle.ly_tables.proofs.plain_fields.WideField.may_be_there.Goals as goal
 pub returns : goal.returns
 returns c = λ few.
     let left = c.args.left.now in
-    numbers_begun V2 c.args.count left (subst (λ size. length left / size < c.args.count) c.number_size.ensures.size
-    (leb-false c.args.count (length left / c.number_size.result) few)) (are_bytes left c.type_inv.left)
+    numbers_begun V2 c.args.count left (leb-false c.args.count (length left / 4) few) (are_bytes left c.type_inv.left)
