@@ -25,6 +25,8 @@ pub use generating::{Built, build, generate};
 pub use laws::{refusal_is_exact, sentences_are_answered, tables_answer_as_specified};
 pub use ly_base::{Counted, Limits, MemSink, MemSource, Sink, Source, Version};
 pub use ly_drive::{DriveFault, Feed, FeedFault, Need, Outcome, drive};
-pub use ly_tables::{FormatFault, SetCounts, TableFault, TableSet, counts, read_tables, write_tables};
+pub use ly_tables::{
+    FormatFault, SetCounts, TableFault, TableSet, counts, read_tables, write_tables,
+};
 pub use ly_tokens::{TokenEnd, TokensFault, tokens};
 pub use reporting::generate_report;

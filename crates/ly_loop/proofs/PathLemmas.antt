@@ -63,7 +63,8 @@ settled_none m stack bound left = record {
   own = λ e h. absurd (omega (arith, h.1));
 }
 
-pub settled_more : (m : Machine) (stack : List ℕ) (bound : ℕ) (entries : List (Cell code.TableAction)) (old left : List ℕ) (e : Cell code.TableAction)
+pub settled_more : (m : Machine) (stack : List ℕ) (bound : ℕ) (entries : List (Cell code.TableAction))
+    (old left : List ℕ) (e : Cell code.TableAction)
     → AreSettled m stack bound entries old left
     → (has_left left e.column ≡ true) ⊎ EndsWithin m e.column stack bound
     → AreSettled m stack bound (entries ++ e ∷ []) old (with_member left e.column)
@@ -102,7 +103,8 @@ all_left left n t within once count lt = elim (cases_Bool (has_left left t)) [
     below q (inr same) = omega arith
 
 -- what a terminal that stays does: it has no entry
-pub stays : (m : Machine) (top t : ℕ) (entries : List (Cell code.TableAction)) (stack : List ℕ) (bound : ℕ) (old left : List ℕ)
+pub stays : (m : Machine) (top t : ℕ) (entries : List (Cell code.TableAction)) (stack : List ℕ) (bound : ℕ)
+    (old left : List ℕ)
     → AreEntries m top entries → AreSettled m stack bound entries old left → has_left left t ≡ false
     → action_of m top t ≡ or_default None (slice_get m.defaults top)
 stays m top t entries stack bound old left all settled not = by_entry (entry_at m top t) refl
@@ -115,7 +117,8 @@ stays m top t entries stack bound old left all settled not = by_entry (entry_at 
         absurd (let yes : has_left left t ≡ true = subst (λ n. has_left left n ≡ true) e.2 (settled.own e.0 e.1) in cc)
 
 -- a terminal that stays hadn't left before
-pub stayed : (m : Machine) (t : ℕ) (entries : List (Cell code.TableAction)) (stack : List ℕ) (bound : ℕ) (old left : List ℕ)
+pub stayed : (m : Machine) (t : ℕ) (entries : List (Cell code.TableAction)) (stack : List ℕ) (bound : ℕ)
+    (old left : List ℕ)
     → AreSettled m stack bound entries old left → has_left left t ≡ false → has_left old t ≡ false
 stayed m t entries stack bound old left settled not = elim (cases_Bool (has_left old t)) [
   | inl has ↦ absurd (let kept = settled.kept t has in cc)
@@ -137,13 +140,15 @@ all_ended m stack bound entries old left settled end t known = elim (cases_Bool 
   | inr not ↦ inr (end t known not)
 ]
 
-pub row_at : (m : Machine) (rows : List (Vec (Cell code.TableAction))) (k : ℕ) (row : Vec (Cell code.TableAction)) → AreAllEntries m rows
+pub row_at : (m : Machine) (rows : List (Vec (Cell code.TableAction))) (k : ℕ) (row : Vec (Cell code.TableAction))
+    → AreAllEntries m rows
     → k < states_of m → row ≡ get_or rows k row → AreEntries m k row.items
 row_at m rows k row all lt is =
     all.each k row (slice_get_read rows (length rows) k row refl (omega (arith, all.count)) is)
 
 -- The entries of the state on top of a stack.
-module _ (m : Machine) (rows : List (Vec (Cell code.TableAction))) (xs : List StateNo) (top : StateNo) (row : Vec (Cell code.TableAction))
+module _ (m : Machine) (rows : List (Vec (Cell code.TableAction))) (xs : List StateNo) (top : StateNo)
+    (row : Vec (Cell code.TableAction))
     (entries : List (Cell code.TableAction)) (all : AreAllEntries m rows) (states : AreStates m xs)
     (last : Some top ≡ slice_get xs (length xs - 1)) (is : row ≡ get_or rows top.0 row) (so : entries ≡ row.items)
   where

@@ -1,12 +1,15 @@
 -- Lists of cells: what they have in a column, and what a change leaves there.
-use Rattle.std.proofs.Common.{◌≡◌, ◌∙◌, ◌<◌, ◌≤◌, ◌+◌, ◌++◌, ◌∷◌, [], ℕ, zero, suc, List, length, map, Option, Some, None}
-use Rattle.std.proofs.Common.{refl, sym, ap, ap₂, subst, arith, inl, inr, Bool, true, false, nat_eq, nat_lt, get_or, take, drop}
+use Rattle.std.proofs.Common.{◌≡◌, ◌∙◌, ◌<◌, ◌≤◌, ◌+◌, ◌++◌, ◌∷◌, [], ℕ, zero, suc, List, length, map, Option, Some}
+use Rattle.std.proofs.Common.{None}
+use Rattle.std.proofs.Common.{refl, sym, ap, ap₂, subst, arith, inl, inr, Bool, true, false, nat_eq, nat_lt, get_or}
+use Rattle.std.proofs.Common.{take, drop}
 use Rattle.std.proofs.Common.{Contains, All, slice_get}
 use Rattle.std.specs.Prelude.{filter, if◌then◌else◌, AllPairs}
 use Rattle.std.specs.List.{insert, range_with_len, remove}
 use Rattle.std.specs.List.Sorted.{IsPartitionPoint, IsPartitionedBy}
 use Rattle.std.proofs.Math.Seq.{drop-append_seam, drop-cons, take-append_seam}
-use Rattle.std.proofs.lemmas.Bool.{cases_Bool, cases_lt, cond-true, cond-false, eq-eqb, eqb-true, lt-ltb, ltb-true, ne_eqb}
+use Rattle.std.proofs.lemmas.Bool.{cases_Bool, cases_lt, cond-true, cond-false, eq-eqb, eqb-true, lt-ltb, ltb-true}
+use Rattle.std.proofs.lemmas.Bool.{ne_eqb}
 use Rattle.std.proofs.lemmas.List.{get_or-drop, get_or-take, length-drop, length-take, take-append-drop}
 use Rattle.std.proofs.lemmas.List.Elements.{Contains-get_or, All-append, All-cons, All-contains, All-head, All-tail}
 use Rattle.std.proofs.lemmas.List.Kept.{AllPairs-cons}
@@ -364,7 +367,8 @@ module _ {E : Type 0} where
           (subst (λ cs. AreCellsStill x.column cs (remove cells place)) (sym whole)
           (still_without (take place cells) x (drop (suc place) cells)));
       entries = λ t. subst (λ k. entry_in (remove cells place) t ≡ (if nat_eq t k then None else entry_in cells t)) same
-          (subst (λ cs. entry_in (remove cells place) t ≡ (if nat_eq t x.column then None else entry_in cs t)) (sym whole)
+          (subst (λ cs. entry_in (remove cells place) t ≡ (if nat_eq t x.column then None else entry_in cs t))
+          (sym whole)
           (entry_in-without (take place cells) x (drop (suc place) cells)
           (subst (λ k. All (λ (c : Cell E). c.column < k) (take place cells)) (sym same) low_below) above t));
     }

@@ -101,7 +101,11 @@ is_dense-none {E} rows width d is count = record {
 pub dense_entry-none : {E : Type 0} (rows row column : ℕ) (d : Dense E) → d.lists ≡ replicate rows []
     → dense_entry d row column ≡ None
 dense_entry-none {E} rows row column d is = elim (cases_lt row rows) [
-  | inl lt ↦ dense_entry-at d row column [] (ap (λ ls. slice_get ls row) is ∙ slice_get-get_or (replicate rows []) row [] (omega (arith, length-replicate rows (let n : List (Cell E) = [] in n), lt)) ∙ ap Some (get_or-replicate rows row [] [] lt))
+  | inl lt ↦ dense_entry-at d row column []
+      (ap (λ ls. slice_get ls row) is
+      ∙ slice_get-get_or (replicate rows []) row []
+      (omega (arith, length-replicate rows (let n : List (Cell E) = [] in n), lt))
+      ∙ ap Some (get_or-replicate rows row [] [] lt))
   | inr past ↦ ap (option_and_then (λ (cs : List (Cell E)). entry_in cs column))
       (slice_get_past d.lists row (omega (
         arith,

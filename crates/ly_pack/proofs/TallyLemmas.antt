@@ -141,7 +141,8 @@ pub cells_by-all : (d : Dense code.TableAction) (state p : ℕ) (cells : List (C
     → AreCellsOf (dense_entry d state) cells → All (λ c. c.column < d.width) cells
     → cells_by p cells ≡ reductions (dense_entry d) d.width state p
 cells_by-all d state p cells so within =
-    sym (length-map (filter (λ c. is_by p (Some (action_from c.entry))) cells) (λ (c : Cell code.TableAction). c.column))
+    sym (length-map (filter (λ c. is_by p (Some (action_from c.entry))) cells)
+    (λ (c : Cell code.TableAction). c.column))
     ∙ ap length (sym (columns_pass_of (λ a. is_by p (option_map action_from a)) refl (dense_entry d state) d.width cells
     so within))
 

@@ -25,7 +25,8 @@ abbrev pub has_left : List ℕ → ℕ → Bool
 has_left settled t = list_any (nat_eq t) settled
 
 -- The terminals of some entries have left the path as well, and the runs of those that left end.
-pub record AreSettled (m : Machine) (stack : List ℕ) (bound : ℕ) (entries : List (Cell code.TableAction)) (old new : List ℕ) : Type 0
+pub record AreSettled (m : Machine) (stack : List ℕ) (bound : ℕ) (entries : List (Cell code.TableAction))
+    (old new : List ℕ) : Type 0
   where
     pub kept : (t : ℕ) → has_left old t ≡ true → has_left new t ≡ true
     pub ended : (t : ℕ) → has_left new t ≡ true → (has_left old t ≡ true) ⊎ EndsWithin m t stack bound

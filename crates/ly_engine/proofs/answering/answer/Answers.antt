@@ -19,19 +19,31 @@ pub returns-in-Err-TooLong-clause-needed : goal.returns-in-Err-TooLong-clause-ne
 returns-in-Err-TooLong-clause-needed g c not =
     let set = c.in_ok-generated.generated.set in
     let told = sym (ap Err c.in-Err-TooLong.field-0-is) ∙ sym c.in-Err-TooLong.is in
-    inr (set, c.in_ok-generated.ensures.generated.0, c.run.ensures.needed
-    (λ e. let off : Err drive.TooLong ≡ Err drive.Read = told ∙ e in cc))
+    inr (
+      set,
+      c.in_ok-generated.ensures.generated.0,
+      c.run.ensures.needed
+          (λ e. let off : Err drive.TooLong ≡ Err drive.Read = told ∙ e in cc),
+    )
 
 pub returns-in-Err-Write-clause-needed : goal.returns-in-Err-Write-clause-needed
 returns-in-Err-Write-clause-needed g c not =
     let set = c.in_ok-generated.generated.set in
     let told = sym (ap Err c.in-Err-Write.field-0-is) ∙ sym c.in-Err-Write.is in
-    inr (set, c.in_ok-generated.ensures.generated.0, c.run.ensures.needed
-    (λ e. let off : Err (drive.Write c.in-Err-Write.written) ≡ Err drive.Read = told ∙ e in cc))
+    inr (
+      set,
+      c.in_ok-generated.ensures.generated.0,
+      c.run.ensures.needed
+          (λ e. let off : Err (drive.Write c.in-Err-Write.written) ≡ Err drive.Read = told ∙ e in cc),
+    )
 
 pub returns-in-Err-OutOfMemory-clause-needed : goal.returns-in-Err-OutOfMemory-clause-needed
 returns-in-Err-OutOfMemory-clause-needed g c not =
     let set = c.in_ok-generated.generated.set in
     let told = sym (ap Err c.in-Err-OutOfMemory.field-0-is) ∙ sym c.in-Err-OutOfMemory.is in
-    inr (set, c.in_ok-generated.ensures.generated.0, c.run.ensures.needed
-    (λ e. let off : Err drive.OutOfMemory ≡ Err drive.Read = told ∙ e in cc))
+    inr (
+      set,
+      c.in_ok-generated.ensures.generated.0,
+      c.run.ensures.needed
+          (λ e. let off : Err drive.OutOfMemory ≡ Err drive.Read = told ∙ e in cc),
+    )

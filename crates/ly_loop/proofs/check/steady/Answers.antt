@@ -13,7 +13,8 @@ first_above-requires-clause-targets g c =
     let n = c.loop-number.number in
     subst (AreTargets m n) (sym c.deref-in-loop-number-5.ensures.value)
     (targets_at m c.in_ok-entries.entries.items c.in_ok-gotos.gotos.items n c.index.result.now
-    c.index-in-loop-number.result.now c.deref-in-loop-number.result.now c.deref-in-loop-number-2.result.now c.targets.new.targets.items
+    c.index-in-loop-number.result.now c.deref-in-loop-number.result.now c.deref-in-loop-number-2.result.now
+    c.targets.new.targets.items
     c.in_ok-entries.ensures c.in_ok-gotos.ensures (omega arith) c.index.ensures c.index-in-loop-number.ensures
     c.deref-in-loop-number.ensures.value c.deref-in-loop-number-2.ensures.value c.in_ok-targets.ensures)
 

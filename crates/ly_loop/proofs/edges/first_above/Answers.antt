@@ -22,7 +22,8 @@ is_asked-requires g c =
     let none : StateNo = record { 0 = 0 } in
     let top = get_or c.args.targets.now c.loop-top.top-index none in
     let lt = edge_known c.args.machine.now c.args.below.0 top.0 c.requires.countable.machine
-    (c.requires.targets.sound top (Contains-get_or c.args.targets.now c.loop-top.top-index none c.loop-top-test.true)) in
+    (c.requires.targets.sound top
+    (Contains-get_or c.args.targets.now c.loop-top.top-index none c.loop-top-test.true)) in
     omega (arith, lt, c.requires.reducing.count)
 
 pub loop-top-preserved : goal.loop-top-preserved

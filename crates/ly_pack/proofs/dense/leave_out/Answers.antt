@@ -9,7 +9,8 @@ use Rattle.ly_pack.specs.Values.{action_from}
 use Rattle.ly_pack.specs.declared.action.TableAction as code
 use Rattle.ly_pack.specs.declared.cell.Cell.{Cell}
 use Rattle.ly_pack.proofs.CellLemmas.{entry_in-filter}
-use Rattle.ly_pack.proofs.DenseLemmas.{dense_entry-unwritten, dense_entry-written, entry_read, is_dense-written, read_rising}
+use Rattle.ly_pack.proofs.DenseLemmas.{dense_entry-unwritten, dense_entry-written, entry_read, is_dense-written}
+use Rattle.ly_pack.proofs.DenseLemmas.{read_rising}
 use Rattle.ly_pack.proofs.DenseLemmas.{read_within}
 use Rattle.ly_pack.proofs.TallyLemmas.{kept_out}
 use Rattle.ly_pack.proofs.dense.leave_out.Goals as goal
