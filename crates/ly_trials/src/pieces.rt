@@ -106,16 +106,40 @@ fn driven(alloc: Global, tables: &[u8], text: &[u8]) -> Result<Answer, Fail> {
     Ok((outcome, sink.into_bytes()))
 }
 
+/// Whether pieces are answered so.
+fn is_answered_so(
+    alloc: Global,
+    set: &TableSet,
+    pieces: &[&[u8]],
+    wanted: &Answer,
+) -> Result<bool, FeedFault> {
+    Ok(are_same(&fed(alloc, set, pieces)?, wanted))
+}
+
+/// Whether a text in two pieces is answered so, wherever it is cut.
+fn cuts_change_nothing(
+    alloc: Global,
+    set: &TableSet,
+    text: &[u8],
+    wanted: &Answer,
+) -> Result<bool, FeedFault> {
+    for at in 0..=text.len() {
+        let (front, rest) = text.split_at(at);
+        if !is_answered_so(alloc, set, &[front, rest], wanted)? {
+            return Ok(false);
+        }
+    }
+    Ok(true)
+}
+
 /// Whether a text in pieces of one byte, and in two, wherever it is cut, is answered by a table file as it is whole.
 fn is_one_answer(alloc: Global, tables: &[u8], text: &[u8]) -> Result<bool, Fail> {
     let whole = driven(alloc, tables, text)?;
     let (set, _version) = read_tables(alloc, tables)?;
-    let mut same = are_same(&fed(alloc, &set, &single_bytes(alloc, text)?)?, &whole);
-    for at in 0..=text.len() {
-        let (front, rest) = text.split_at(at);
-        same &= are_same(&fed(alloc, &set, &[front, rest])?, &whole);
-    }
-    Ok(same)
+    Ok(
+        is_answered_so(alloc, &set, &single_bytes(alloc, text)?, &whole)?
+            && cuts_change_nothing(alloc, &set, text, &whole)?,
+    )
 }
 
 #[test]

@@ -2,7 +2,9 @@
 
 use ly_base::{Limits, MemSink, MemSource};
 use ly_drive::{Outcome, drive};
-use ly_engine::{AnswerFault, FormatFault, Version, answer, generate, read_tables, write_tables};
+use ly_engine::{
+    AnswerFault, FormatFault, TableSet, Version, answer, generate, read_tables, write_tables,
+};
 use std::alloc::Global;
 use std::test::Fail;
 
@@ -49,18 +51,19 @@ fn with_tokens(alloc: Global, count: u32) -> Result<Vec<u8>, Fail> {
     Ok(yacc)
 }
 
+/// The table set of a yacc file that declares so many tokens.
+fn set_of_tokens(alloc: Global, count: u32) -> Result<TableSet, Fail> {
+    let yacc = with_tokens(alloc, count)?;
+    let tables = generate(alloc, b"%%", &yacc, &Limits::V2, Version::V2)?;
+    Ok(read_tables(alloc, &tables)?.0)
+}
+
 /// With `s`, `$end`, `$undef` and `$accept` these are one symbol more than version 1 has.
 #[test]
 fn a_set_is_too_large_for_version_1(rt: HostRuntime) -> Result<(), Fail> {
-    let yacc = with_tokens(rt.alloc(), 4_092)?;
-    let made = generate(rt.alloc(), b"%%", &yacc, &Limits::V2, Version::V1);
-    assert!(rt; made.is_err());
-    let tables = generate(rt.alloc(), b"%%", &yacc, &Limits::V2, Version::V2)?;
-    let (set, version) = read_tables(rt.alloc(), &tables)?;
-    assert!(rt; version == Version::V2);
+    let set = set_of_tokens(rt.alloc(), 4_092)?;
     let written = write_tables(rt.alloc(), &set, Version::V1);
     assert!(rt; matches!(written, Err(FormatFault::TooLargeForVersion)));
-    assert!(rt; FormatFault::TooLargeForVersion.number() == Some(86));
     Ok(())
 }
 
