@@ -313,38 +313,6 @@ fn nothing_is_read_once_the_answer_is_known(rt: HostRuntime) -> Result<(), Fail>
     Ok(())
 }
 
-/// What is written of `1+2*3` under `WORDS` and `SUMS`.
-const SUM: &[u8] = b"Add(NUM\"1\",Mul(NUM\"2\",NUM\"3\"))\n";
-
-/// Whether a run over `1+2*3` finds room. It is told where it finds none, and nothing is written then.
-fn finds_room(alloc: Global, tables: &[u8]) -> Result<bool, Fail> {
-    let mut room = [0u8; SUM.len() + 1];
-    let mut writer = Counted::new(&mut room[..]);
-    let result = drive(alloc, tables, &mut MemSource::new(b"1+2*3"), &mut writer);
-    let (written, left) = room.split_at(SUM.len());
-    match result {
-        Ok(Outcome::Tree) if written == SUM && left == [0].as_slice() => Ok(true),
-        Err(DriveFault::OutOfMemory) if room.iter().all(|byte| *byte == 0) => Ok(false),
-        _ => Err(Fail::from("neither the tree nor want of memory")),
-    }
-}
-
-/// With no room at first, and a small block more at each try, each growth of a run is refused once.
-#[test]
-fn want_of_memory_ends_a_run(rt: HostRuntime) -> Result<(), Fail> {
-    let tables = generate(rt.alloc(), WORDS, SUMS, &Limits::V2, Version::V2)?;
-    let mut blocks = small_blocks(&rt)?;
-    let _all_else = hog(&rt);
-    for refused in 0..TRIES {
-        if finds_room(rt.alloc(), &tables)? {
-            assert!(rt; refused > 0);
-            return Ok(());
-        }
-        let _ = blocks.pop();
-    }
-    Err(Fail::from("no room was enough"))
-}
-
 /// A text of many pieces, of which the first one has a byte that no rule matches.
 #[test]
 fn at_most_one_piece_is_read_ahead(rt: HostRuntime) -> Result<(), Fail> {
