@@ -38,64 +38,74 @@ accepts_some m f levels p count over view some =
     subst (λ q. IsAcceptance q.stack answers.Accepts) view
     (some_accepts (stack_from f levels) (omega (arith, some, length-stack_from f levels)))
 
--- A refusal can be told from the states that a stack had before: they are known, and neighbours were edges.
-tellable : (m : Machine) (f : Grown) (levels : List code.Level) (h : IsParse m f levels) (s : Parse)
-    (machine : s.machine ≡ m) (b : Before) (note : IsNoteOf (states_on (stack_from f levels)) s.stack b)
-    → IsTellable (with_note s b)
-tellable m f levels h s machine b note = record {
-  states = subst (λ x. All (λ k. k < states_of x) (before_on s.stack b)) (sym machine)
-      (subst (All (λ k. k < states_of m)) (sym note.same) (states_known m f levels h));
-  edges = subst (λ x. IsStack x (before_on s.stack b)) (sym machine) (subst (IsStack m) (sym note.same) h.edges);
-}
+-- The states on a parse's stack are states of its tables, and neighbours are edges.
+pub record HasStates (p : Parse) : Type 0 where
+  pub known : All (λ k. k < states_of p.machine) (states_on p.stack)
+  pub edges : IsStack p.machine (states_on p.stack)
 
--- A parse that isn't over, with the note it has, and the parse before the token is settled: a token becomes the same on
--- both.
-module _ (m : Machine) (f : Grown) (levels : List code.Level) (p : Parse) (count : ℕ) (over : Bool) (token : Token ℕ)
-    (view : parse_from m f levels count over ≡ p) (goes : over ≡ false) (a : Before) (s : Parse)
-    (alike : FeedAlike m token.terminal s.stack (stack_from f levels)) (machine : s.machine ≡ m)
-    (counted : s.count ≡ count) where
-  comes : (q : Parse) (b : Before) (answer : Answer)
-      → Comes (with_note (parse_from m f levels count over) a) token (with_note q b) answer → q.machine ≡ m
-      → q.over ≡ ends_by answer → IsTake (with_note p a) token (with_note q b) answer
-  comes q b answer took same ended =
-      subst (λ x. IsTake (with_note x a) token (with_note q b) answer) view (record {
-        after_end = not_over over goes;
-        before_end = λ _. took;
-        machine = same;
-        over = ended;
-      })
+pub has_states : (m : Machine) (f : Grown) (levels : List code.Level) (p : Parse) (count : ℕ) (over : Bool)
+    → parse_from m f levels count over ≡ p → IsParse m f levels → HasStates p
+has_states m f levels p count over view h =
+    subst HasStates view (record { known = states_known m f levels h; edges = h.edges })
 
+-- A parse with the note it has, and the parse before the token is settled: a token becomes the same on both.
+module _ (p : Parse) (token : Token ℕ) (a : Before) (s : Parse)
+    (alike : FeedAlike p.machine token.terminal s.stack p.stack) (machine : s.machine ≡ p.machine)
+    (counted : s.count ≡ p.count) where
   -- the token is read
-  pub reads : (state : ℕ) (q : Parse) (b : Before) → action_of m (top_of s.stack) token.terminal ≡ shift state
+  pub reads : (state : ℕ) (q : Parse) (b : Before) → action_of p.machine (top_of s.stack) token.terminal ≡ shift state
       → q.stack ≡ record { state = state; term = leaf token.terminal token.bytes } ∷ s.stack
-      → q.count ≡ s.count + 1 → q.machine ≡ s.machine → q.over ≡ false
-      → IsTake (with_note p a) token (with_note q b) answers.Reads
-  reads state q b action stack more same still =
-      let fed = alike token (pushed q.stack) refl (feeds_by m token s.stack (shift state) (pushed q.stack) action
+      → q.count ≡ s.count + 1 → Comes (with_note p a) token (with_note q b) answers.Reads
+  reads state q b action stack more =
+      let fed = alike token (pushed q.stack) refl (feeds_by p.machine token s.stack (shift state) (pushed q.stack) action
       (ap (λ w. settles (pushed w)) (sym stack))) in
-      comes q b answers.Reads (fed, more ∙ ap (λ n. n + 1) counted) (same ∙ machine) still
+      (fed, more ∙ ap (λ n. n + 1) counted)
 
   -- the tables accept
-  pub accepts_token : (answer : Answer) (b : Before) → action_of m (top_of s.stack) token.terminal ≡ accept
-      → s.over ≡ true → IsAcceptance s.stack answer → IsTake (with_note p a) token (with_note s b) answer
-  accepts_token answers.Accepts b action ended x =
-      let fed = alike token (done x.0) refl (feeds_by m token s.stack accept (done x.0) action x.1) in
-      comes s b answers.Accepts (x.0, fed, x.1) machine ended
-  accepts_token answers.TableFault b action ended x =
-      let fed = alike token faulty refl (feeds_by m token s.stack accept faulty action x) in
-      comes s b answers.TableFault fed machine ended
-  accepts_token answers.Reads b action ended x = absurd x
-  accepts_token answers.Refuses b action ended x = absurd x
-  accepts_token answers.Over b action ended x = absurd x
-  accepts_token answers.OutOfMemory b action ended x = absurd x
+  pub accepts_token : (answer : Answer) (b : Before) → action_of p.machine (top_of s.stack) token.terminal ≡ accept
+      → IsAcceptance s.stack answer → Comes (with_note p a) token (with_note s b) answer
+  accepts_token answers.Accepts b action x =
+      (x.0, alike token (done x.0) refl (feeds_by p.machine token s.stack accept (done x.0) action x.1), x.1)
+  accepts_token answers.TableFault b action x =
+      alike token faulty refl (feeds_by p.machine token s.stack accept faulty action x)
+  accepts_token answers.Reads b action x = absurd x
+  accepts_token answers.Refuses b action x = absurd x
+  accepts_token answers.Over b action x = absurd x
+  accepts_token answers.OutOfMemory b action x = absurd x
 
   -- they refuse the token, and what the stack was is noted
-  pub refuses_token : (b : Before) → IsParse m f levels → action_of m (top_of s.stack) token.terminal ≡ error
-      → s.over ≡ true → IsNoteOf (states_on (stack_from f levels)) s.stack b
-      → IsTake (with_note p a) token (with_note s b) answers.Refuses
-  refuses_token b h action ended note =
-      let fed = alike token refused refl (feeds_by m token s.stack error refused action refl) in
-      comes s b answers.Refuses (fed, note.same, counted, tellable m f levels h s machine b note) machine ended
+  pub refuses_token : (b : Before) → HasStates p → action_of p.machine (top_of s.stack) token.terminal ≡ error
+      → IsNoteOf (states_on p.stack) s.stack b → Comes (with_note p a) token (with_note s b) answers.Refuses
+  refuses_token b h action note = (
+    alike token refused refl (feeds_by p.machine token s.stack error refused action refl),
+    note.same,
+    counted,
+    record {
+      states = subst (λ m. All (λ k. k < states_of m) (before_on s.stack b)) (sym machine)
+          (subst (All (λ k. k < states_of p.machine)) (sym note.same) h.known);
+      edges = subst (λ m. IsStack m (before_on s.stack b)) (sym machine)
+          (subst (IsStack p.machine) (sym note.same) h.edges);
+    },
+  )
+
+-- a call of a parse that isn't over takes the token
+pub taken : (p : Parse) (token : Token ℕ) (q : Parse) (answer : Answer) → p.over ≡ false → Comes p token q answer
+    → q.machine ≡ p.machine → q.over ≡ ends_by answer → IsTake p token q answer
+taken p token q answer goes took same ended = record {
+  after_end = not_over p.over goes;
+  before_end = λ _. took;
+  machine = same;
+  over = ended;
+}
+
+-- where the tables accept, a parse is over
+pub acceptance_ends : (stack : List Level) (answer : Answer) → IsAcceptance stack answer → true ≡ ends_by answer
+acceptance_ends stack answers.Accepts x = refl
+acceptance_ends stack answers.TableFault x = refl
+acceptance_ends stack answers.Reads x = absurd x
+acceptance_ends stack answers.Refuses x = absurd x
+acceptance_ends stack answers.Over x = absurd x
+acceptance_ends stack answers.OutOfMemory x = absurd x
 
 -- A call that came to an answer, and what is told of it.
 module _ (p : Parse) (t : Token ℕ) (q : Parse) where

@@ -1,5 +1,5 @@
 -- What a parser holds, and what a call of it does.
-use Rattle.std.specs.Prelude.{◌≡◌, ℕ, ◌+◌, ◌<◌, List, All, Bool, true, false, None, Option, Some, Result, Ok, Err, map}
+use Rattle.std.specs.Prelude.{◌≡◌, ℕ, ◌+◌, ◌<◌, List, All, Bool, true, false, Result, Ok, Err, map}
 use Rattle.ly_base.specs.Lexed.{Token}
 use Rattle.ly_pack.specs.Machine.{Machine, states_of}
 use Rattle.ly_pack.specs.SteadyLaws.{IsStack}
@@ -77,10 +77,3 @@ pub record IsTake (p : Parse) (t : Token ℕ) (q : Parse) (answer : Answer) : Ty
   pub before_end : p.over ≡ false → Comes p t q answer
   pub machine : q.machine ≡ p.machine
   pub over : q.over ≡ ends_by answer
-
--- the fault that a call comes to, if it comes to one
-abbrev pub fault_in : Answer → Option ParseFault
-fault_in answers.TableFault = Some TableFault
-fault_in answers.Over = Some Over
-fault_in answers.OutOfMemory = Some OutOfMemory
-fault_in _ = None

@@ -1,6 +1,5 @@
-ghost use Rattle.std.specs.Prelude.{◌≡◌, Some};
-
-use crate::fault::ParseFault;
+ghost use Rattle.std.specs.Prelude.{◌≡◌};
+ghost use Rattle.ly_parse.specs.Parse.{ends_by};
 
 /// What becomes of a token. It has no fields, so that it goes through a register: what there is to tell of a refusal is
 /// asked for by `Parser::refusal`.
@@ -20,16 +19,11 @@ pub enum Answer {
     OutOfMemory,
 }
 
-impl From<ParseFault> for Answer {
-    ghost use Rattle.ly_parse.specs.Parse.{fault_in};
-
-    ghost from_gives = { λ fault answer. fault_in answer ≡ Some fault };
-
-    fn from(fault: ParseFault) -> Answer {
-        match fault {
-            ParseFault::TableFault => Answer::TableFault,
-            ParseFault::Over => Answer::Over,
-            ParseFault::OutOfMemory => Answer::OutOfMemory,
-        }
+impl Answer {
+    /// Whether the parse is over behind it.
+    pub(crate) fn is_last(self) -> bool
+        ensures { result ≡ ends_by self }
+    {
+        self != Answer::Reads
     }
 }

@@ -87,10 +87,12 @@ impl Shortcuts<Landing> {
         ensures not_over { result ≢ Err fault.Over }
         ensures kept { AreShortcuts landing_of (Lands machine.now) self.new }
     {
-        if let Some(shortcut) = self.get(from) {
-            return Ok(shortcut);
-        }
-        self.land_by_tables(machine, from)
+        let shortcut = match self.get(from) {
+            Some(shortcut) => shortcut,
+            // in a value of its own, so that its room isn't cleared for a shortcut that is kept
+            None => self.land_by_tables(machine, from)?,
+        };
+        Ok(shortcut)
     }
 
     /// The shortcut from a landing by the tables, which is kept then.

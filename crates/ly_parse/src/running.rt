@@ -1,21 +1,20 @@
-ghost use Rattle.std.specs.Prelude.{◌≡◌, ◌≢◌, ◌<◌, ◌≤◌, ◌+◌, ◌-◌, ◌*◌, ℕ, [], ◌∷◌, Err, None, Ok, false, drop, length};
-ghost use Rattle.std.specs.Prelude.{map, take, IfOk, List, OnErr, OnOk};
+ghost use Rattle.std.specs.Prelude.{◌≡◌, ◌≢◌, ◌<◌, ◌≤◌, ◌+◌, ◌-◌, ◌*◌, ℕ, [], ◌∷◌, Err, None, drop, false, length};
+ghost use Rattle.std.specs.Prelude.{map, take, IfOk, IfSome, List, OnOk};
 ghost use Rattle.ly_base.specs.Shape.{shape_of};
-ghost use Rattle.ly_pack.specs.Machine.{accept, action_of, error, reduce, shift, states_of, IsLegal};
+ghost use Rattle.ly_pack.specs.Machine.{action_of, reduce, shift, states_of, IsLegal};
 ghost use Rattle.ly_pack.specs.Machine.{IsRuleNumber, IsShapeFor};
 ghost use Rattle.ly_pack.specs.Steady.{IsSteady};
 ghost use Rattle.ly_pack.specs.Values.{action_from};
 ghost use Rattle.ly_parse.specs.Expected.{AreExpected};
 ghost use Rattle.ly_parse.specs.Feeding.{faulty, states_on, top_of};
-ghost use Rattle.ly_parse.specs.Parse.{IsTake, IsTellable};
-ghost use Rattle.ly_parse.specs.Private.Answered.{with_note, IsAcceptance};
+ghost use Rattle.ly_parse.specs.Parse.{Comes, IsTake, IsTellable};
+ghost use Rattle.ly_parse.specs.Private.Answered.{with_note, IsAcceptance, IsSettled};
 ghost use Rattle.ly_parse.specs.Private.Before.{before_on, with_top, AreAlikeBelow, IsBefore, IsNoteOf, IsOpen};
 ghost use Rattle.ly_parse.specs.Private.Paying.{places_in};
-ghost use Rattle.ly_parse.specs.Private.Stack.{terms_onto, FailsByRule, FeedAlike, FeedAs, IsAccepted, Leads};
+ghost use Rattle.ly_parse.specs.Private.Stack.{terms_onto, FailsByRule, FeedAs, IsAccepted, Leads};
 ghost use Rattle.ly_parse.specs.Private.Stack.{LeadsByRule};
 ghost use Rattle.ly_parse.specs.declared.answer.Answer.TheVariants as answers;
 ghost use Rattle.ly_parse.specs.declared.fault.ParseFault.TheVariants as fault;
-ghost use Rattle.ly_parse.specs.declared.settled.Settled.TheVariants as settled;
 ghost use Rattle.ly_parse.specs.declared.step.Step.TheVariants as step;
 ghost use Rattle.ly_tree.specs.Costs.{budget, IsPaid};
 ghost use Rattle.ly_tree.specs.Forest.{no_terms, StandsFor};
@@ -35,7 +34,7 @@ use crate::token::Token;
 use ly_base::{OutOfMemory, RuleNo, RuleTree, StateNo, Sym};
 use ly_pack::{MachineView, Rows, TableAction};
 use ly_tree::{Forest, TermRef};
-use std::alloc::Global;
+use std::alloc::{AllocError, Global};
 use std::marker::Model;
 
 /// A parse over tables of which every run ends, but for what its stack was before the token that it is at.
@@ -120,6 +119,7 @@ impl<'a, A: Rows<TableAction> + Drop, G: Rows<StateNo> + Drop> Running<'a, A, G>
 
     /// Takes a token: makes the reductions before it, and then reads it or refuses it. After any other answer than
     /// `Reads` the parse is over. Where the token is refused, what the stack was is noted.
+    #[inline(always)] // by a call a token takes a fifteenth more instructions
     pub(crate) fn feed(&mut self, token: &Token<'_>, before: &mut Before) -> Answer
         requires not_end { token.now.terminal.0 ≢ 0 }
         requires terminal { token.now.terminal.0 < self.old.machine.terminals }
@@ -132,15 +132,38 @@ impl<'a, A: Rows<TableAction> + Drop, G: Rows<StateNo> + Drop> Running<'a, A, G>
         if self.over {
             return Answer::Over;
         }
-        self.over = true;
+        let answer = self.come(token, before);
+        if answer.is_last() {
+            self.over = true;
+        }
+        answer
+    }
+
+    /// What a token comes to: reductions are made before it, and then it is read or refused. Where it is refused, what
+    /// the stack was is noted.
+    #[inline(always)] // likewise
+    fn come(&mut self, token: &Token<'_>, before: &mut Before) -> Answer
+        requires not_end { token.now.terminal.0 ≢ 0 }
+        requires terminal { token.now.terminal.0 < self.old.machine.terminals }
+        ensures comes { Comes (with_note self.old before.old) (record {
+          terminal = token.now.terminal.0;
+          at = token.now.at;
+          bytes = token.now.text;
+        }) (with_note self.new before.new) result }
+        ensures machine { self.new.machine ≡ self.old.machine }
+        ensures over { self.new.over ≡ self.old.over }
+    {
+        // the invariant says that what the stack was can be told
+        let _ = &self.machine;
         match self.settle(token.terminal, before) {
-            Ok(Settled::Reads(state)) => match self.read(state, token) {
+            Settled::Reads(state) => match self.read(state, token) {
                 Ok(()) => Answer::Reads,
                 Err(OutOfMemory) => Answer::OutOfMemory,
             },
-            Ok(Settled::Accepts) => self.acceptance(),
-            Ok(Settled::Refuses) => Answer::Refuses,
-            Err(fault) => Answer::from(fault),
+            Settled::Accepts => self.acceptance(),
+            Settled::Refuses => Answer::Refuses,
+            Settled::TableFault => Answer::TableFault,
+            Settled::OutOfMemory => Answer::OutOfMemory,
         }
     }
 
@@ -160,11 +183,12 @@ impl<'a, A: Rows<TableAction> + Drop, G: Rows<StateNo> + Drop> Running<'a, A, G>
         }
         self.over = true;
         match self.settle(Sym(0), before) {
-            Ok(Settled::Accepts) => self.acceptance(),
-            Ok(Settled::Refuses) => Answer::Refuses,
+            Settled::Accepts => self.acceptance(),
+            Settled::Refuses => Answer::Refuses,
+            Settled::TableFault => Answer::TableFault,
+            Settled::OutOfMemory => Answer::OutOfMemory,
             // the end is never shifted
-            Ok(Settled::Reads(_)) => unreachable!(),
-            Err(fault) => Answer::from(fault),
+            Settled::Reads(_) => unreachable!(),
         }
     }
 
@@ -180,91 +204,123 @@ impl<'a, A: Rows<TableAction> + Drop, G: Rows<StateNo> + Drop> Running<'a, A, G>
 
     /// Makes the reductions before a terminal, and answers what is done then. Where it is refused, what the stack was
     /// is noted.
-    #[inline(always)] // by a call a token takes a fifteenth more instructions
-    fn settle(&mut self, terminal: Sym, before: &mut Before) -> Result<Settled, ParseFault>
+    #[inline(always)] // likewise
+    fn settle(&mut self, terminal: Sym, before: &mut Before) -> Settled
         requires { terminal.0 < self.old.machine.terminals }
-        ensures alike { OnOk result (FeedAlike self.old.machine terminal.0 self.new.stack self.old.stack) }
-        ensures reads { (state : StateNo) → result ≡ Ok (settled.Reads state)
-            → action_of self.old.machine (top_of self.new.stack) terminal.0 ≡ shift state.0 }
-        ensures accepts { result ≡ Ok settled.Accepts
-            → action_of self.old.machine (top_of self.new.stack) terminal.0 ≡ accept }
-        ensures refuses { result ≡ Ok settled.Refuses
-            → action_of self.old.machine (top_of self.new.stack) terminal.0 ≡ error }
-        ensures noted { result ≡ Ok settled.Refuses
-            → IsNoteOf (states_on self.old.stack) self.new.stack before.new }
-        ensures faulty { result ≡ Err fault.TableFault → FeedAs self.old.machine terminal.0 self.old.stack faulty }
-        ensures not_over { result ≢ Err fault.Over }
+        ensures settled { IsSettled self.old.machine terminal.0 self.old.stack (states_on self.old.stack) self.new.stack
+            before.new result }
+        ensures machine { self.new.machine ≡ self.old.machine }
+        ensures count { self.new.count ≡ self.old.count }
+        ensures over { self.new.over ≡ self.old.over }
+    {
+        let Some((first, action)) = self.pass(terminal) else {
+            return self.settle_by_tables(terminal, before);
+        };
+        // most tokens are read at once, so it is looked for first
+        if let TableAction::Shift(state) = action {
+            return Settled::Reads(state);
+        }
+        self.settle_behind(action, terminal, first, before)
+    }
+
+    /// Makes the reductions before a terminal, the passes that come first by the tables, and answers what is done then.
+    /// Where it is refused, what the stack was is noted.
+    #[inline(never)] // so that a shortcut that is kept has the registers
+    fn settle_by_tables(&mut self, terminal: Sym, before: &mut Before) -> Settled
+        requires { terminal.0 < self.old.machine.terminals }
+        ensures settled { IsSettled self.old.machine terminal.0 self.old.stack (states_on self.old.stack) self.new.stack
+            before.new result }
         ensures machine { self.new.machine ≡ self.old.machine }
         ensures count { self.new.count ≡ self.old.count }
         ensures over { self.new.over ≡ self.old.over }
     {
         let first = self.top();
-        match self.pass(terminal)? {
-            TableAction::Shift(state) => Ok(Settled::Reads(state)),
-            TableAction::Reduce(rule) => self.settle_behind(rule, terminal, first, before),
-            TableAction::Accept => Ok(Settled::Accepts),
-            TableAction::Error => {
-                before.begin(&self.stack, first)?;
-                Ok(Settled::Refuses)
-            }
+        match self.pass_by_tables(terminal) {
+            Ok(action) => self.settle_behind(action, terminal, first, before),
+            Err(ParseFault::TableFault) => Settled::TableFault,
+            Err(ParseFault::OutOfMemory) => Settled::OutOfMemory,
+            Err(ParseFault::Over) => unreachable!(),
         }
     }
 
-    /// Makes a reduction and those behind it before a terminal, and answers what is done then. What the stack was, with
-    /// this state on top, is noted.
+    /// Does what the tables do before a terminal, as long as they reduce, and answers what is done then. Where the
+    /// terminal is refused, what the stack was, with this state on top, is noted.
     #[inline(never)] // so that a token that is read at once has the registers
     fn settle_behind(
         &mut self,
-        rule: RuleNo,
+        action: TableAction,
         terminal: Sym,
         first: StateNo,
         before: &mut Before,
-    ) -> Result<Settled, ParseFault>
+    ) -> Settled
         requires terminal { terminal.0 < self.old.machine.terminals }
-        requires rule { IsRuleNumber self.old.machine rule.0 }
-        requires action { action_of self.old.machine (top_of self.old.stack) terminal.0 ≡ reduce rule.0 }
-        ensures alike { OnOk result (FeedAlike self.old.machine terminal.0 self.new.stack self.old.stack) }
-        ensures reads { (state : StateNo) → result ≡ Ok (settled.Reads state)
-            → action_of self.old.machine (top_of self.new.stack) terminal.0 ≡ shift state.0 }
-        ensures accepts { result ≡ Ok settled.Accepts
-            → action_of self.old.machine (top_of self.new.stack) terminal.0 ≡ accept }
-        ensures refuses { result ≡ Ok settled.Refuses
-            → action_of self.old.machine (top_of self.new.stack) terminal.0 ≡ error }
-        ensures noted { result ≡ Ok settled.Refuses
-            → IsNoteOf (with_top first.0 self.old.stack) self.new.stack before.new }
-        ensures faulty { result ≡ Err fault.TableFault → FeedAs self.old.machine terminal.0 self.old.stack faulty }
-        ensures not_over { result ≢ Err fault.Over }
+        requires action { action_from action ≡ action_of self.old.machine (top_of self.old.stack) terminal.0 }
+        requires legal { IsLegal self.old.machine terminal.0 (action_from action) }
+        ensures settled { IsSettled self.old.machine terminal.0 self.old.stack (with_top first.0 self.old.stack)
+            self.new.stack before.new result }
         ensures machine { self.new.machine ≡ self.old.machine }
         ensures count { self.new.count ≡ self.old.count }
         ensures over { self.new.over ≡ self.old.over }
     {
+        let TableAction::Reduce(rule) = action else {
+            return self.settle_at_once(action, first, before);
+        };
         // the invariant says that the run on a token ends
         let _ = &self.machine;
         let mut number = rule;
         let mut first = Some(first);
         loop {
-            match self.reduce(number, terminal, first, before)? {
-                TableAction::Reduce(next) => {
+            match self.reduce(number, terminal, first, before) {
+                Ok(TableAction::Reduce(next)) => {
                     number = next;
                     first = None;
                 }
-                TableAction::Shift(state) => return Ok(Settled::Reads(state)),
-                TableAction::Accept => return Ok(Settled::Accepts),
-                TableAction::Error => return Ok(Settled::Refuses),
+                Ok(TableAction::Shift(state)) => return Settled::Reads(state),
+                Ok(TableAction::Accept) => return Settled::Accepts,
+                Ok(TableAction::Error) => return Settled::Refuses,
+                Err(ParseFault::TableFault) => return Settled::TableFault,
+                Err(ParseFault::OutOfMemory) => return Settled::OutOfMemory,
+                Err(ParseFault::Over) => unreachable!(),
             }
         }
     }
 
-    /// Makes the passes before a terminal, and answers what is done then.
-    fn pass(&mut self, terminal: Sym) -> Result<TableAction, ParseFault>
+    /// What is done before a terminal where no reduction is. Where the terminal is refused, what the stack was, with
+    /// this state on top, is noted.
+    #[inline(never)] // so that reductions have the registers
+    fn settle_at_once(
+        &self,
+        action: TableAction,
+        first: StateNo,
+        before: &mut Before,
+    ) -> Settled
+        requires settles { (number : ℕ) → action_from action ≢ reduce number }
+        ensures { (terminal : ℕ) → action_from action ≡ action_of self.now.machine (top_of self.now.stack) terminal
+            → IsSettled self.now.machine terminal self.now.stack (with_top first.0 self.now.stack) self.now.stack
+            before.new result }
+    {
+        match action {
+            TableAction::Shift(state) => Settled::Reads(state),
+            TableAction::Accept => Settled::Accepts,
+            TableAction::Error => match before.begin(&self.stack, first) {
+                Ok(()) => Settled::Refuses,
+                Err(AllocError) => Settled::OutOfMemory,
+            },
+            TableAction::Reduce(_) => unreachable!(),
+        }
+    }
+
+    /// Makes the passes before a terminal, if they are kept as a shortcut. Answers which state stood on top before, and
+    /// what is done then.
+    fn pass(&mut self, terminal: Sym) -> Option<(StateNo, TableAction)>
         requires { terminal.0 < self.old.machine.terminals }
-        ensures leads { OnOk result (Leads self.old.machine terminal.0 self.old.stack self.new.stack) }
-        ensures action { IfOk result (λ a. action_from a
+        ensures first { IfSome result (λ r. r.0.0 ≡ top_of self.old.stack) }
+        ensures leads { IfSome result (λ r. Leads self.old.machine terminal.0 self.old.stack self.new.stack) }
+        ensures action { IfSome result (λ r. action_from r.1
             ≡ action_of self.old.machine (top_of self.new.stack) terminal.0) }
-        ensures legal { IfOk result (λ a. IsLegal self.old.machine terminal.0 (action_from a)) }
-        ensures below { OnOk result (AreAlikeBelow self.old.stack self.new.stack) }
-        ensures faulty { result ≡ Err fault.TableFault → FeedAs self.old.machine terminal.0 self.old.stack faulty }
-        ensures not_over { result ≢ Err fault.Over }
+        ensures legal { IfSome result (λ r. IsLegal self.old.machine terminal.0 (action_from r.1)) }
+        ensures below { IfSome result (λ r. AreAlikeBelow self.old.stack self.new.stack) }
+        ensures none { result ≡ None → self.new ≡ self.old }
         ensures machine { self.new.machine ≡ self.old.machine }
         ensures count { self.new.count ≡ self.old.count }
         ensures over { self.new.over ≡ self.old.over }
@@ -279,10 +335,10 @@ impl<'a, A: Rows<TableAction> + Drop, G: Rows<StateNo> + Drop> Running<'a, A, G>
             };
             if let Some(shortcut) = self.shortcuts.get(from) {
                 self.stack[place].state = shortcut.state;
-                return Ok(shortcut.action);
+                return Some((from.top, shortcut.action));
             }
         }
-        self.pass_by_tables(terminal)
+        None
     }
 
     /// Makes the passes before a terminal by the tables, keeps what they come to as a shortcut, and answers what is
@@ -416,7 +472,7 @@ impl<'a, A: Rows<TableAction> + Drop, G: Rows<StateNo> + Drop> Running<'a, A, G>
         }
     }
 
-    /// Puts a token that is read onto the stack. The parse isn't over then.
+    /// Puts a token that is read onto the stack.
     fn read(&mut self, state: StateNo, token: &Token<'_>) -> Result<(), OutOfMemory>
         requires { action_of self.old.machine (top_of self.old.stack) token.now.terminal.0 ≡ shift state.0 }
         ensures stack { OnOk result (self.new.stack ≡ record {
@@ -424,9 +480,7 @@ impl<'a, A: Rows<TableAction> + Drop, G: Rows<StateNo> + Drop> Running<'a, A, G>
           term = leaf token.now.terminal.0 token.now.text;
         } ∷ self.old.stack) }
         ensures count { OnOk result (self.new.count ≡ self.old.count + 1) }
-        ensures not_end { OnOk result (token.now.terminal.0 ≢ 0) }
-        ensures goes_on { OnOk result (self.new.over ≡ false) }
-        ensures err { OnErr result (self.new.over ≡ self.old.over) }
+        ensures over { self.new.over ≡ self.old.over }
         ensures machine { self.new.machine ≡ self.old.machine }
     {
         let count = self.number()?;
@@ -434,7 +488,6 @@ impl<'a, A: Rows<TableAction> + Drop, G: Rows<StateNo> + Drop> Running<'a, A, G>
         self.stack.reserve(1)?;
         self.stack.push_reserved(Level { state, term });
         self.count = count;
-        self.over = false;
         Ok(())
     }
 

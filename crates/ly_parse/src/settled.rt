@@ -1,6 +1,7 @@
 use ly_base::StateNo;
 
-/// What is done with a token once no reduction is left before it.
+/// What is done with a token once no reduction is left before it, or what went wrong before that. It has one number at
+/// most, so that it goes through registers.
 #[derive(Clone, Copy)]
 pub(crate) enum Settled {
     /// It is read, and this is the state.
@@ -9,4 +10,8 @@ pub(crate) enum Settled {
     Accepts,
     /// It is refused.
     Refuses,
+    /// The tables are at fault.
+    TableFault,
+    /// A growth was refused.
+    OutOfMemory,
 }

@@ -1,8 +1,5 @@
-use Rattle.std.proofs.Common.{◌∙◌, ap, arith, subst, sym}
-use Rattle.ly_pack.specs.Machine.{shift, IsMachine}
-use Rattle.ly_parse.specs.Feeding.{top_of}
+use Rattle.std.proofs.Common.{◌∙◌, ap, subst, sym}
 use Rattle.ly_parse.specs.Private.Stack.{stack_from, IsParse}
-use Rattle.ly_parse.proofs.FeedingLemmas.{legal}
 use Rattle.ly_parse.proofs.StackLemmas.{kept, on_top, shifted, shifted_stack}
 use Rattle.ly_tree.specs.Term.{leaf}
 use Rattle.ly_parse.proofs.running.Running.read.Goals as goal
@@ -33,10 +30,3 @@ returns-clause-stack g c =
     c.args.self.now c.self.inside.count c.self.inside.over (record { state = c.args.state; term = c.in_ok-term.term })
     (leaf c.args.token.now.terminal.0 c.args.token.now.text) c.self.view_is c.self.invariant.0
     c.in_ok-term.ensures.keeps c.in_ok-term.ensures.stands
-
-pub returns-clause-not_end : goal.returns-clause-not_end
-returns-clause-not_end g c e =
-    let machine = subst IsMachine (ap (λ p. p.machine) c.self.view_is) c.self.invariant.0.machine in
-    let some = (legal c.args.self.now.machine (top_of c.args.self.now.stack) c.args.token.now.terminal.0
-    (shift c.args.state.0) machine c.requires).1 in
-    absurd (omega arith)
