@@ -1,5 +1,5 @@
 -- What comes of a text that has ended.
-use Rattle.std.proofs.Common.{◌≡◌, ◌∙◌, ◌+◌, [], Option, Some, Ok, Err, Result, ap, arith, length, refl, subst, sym}
+use Rattle.std.proofs.Common.{◌≡◌, ◌∙◌, ◌+◌, [], Ok, Err, Result, ap, arith, length, refl, subst, sym}
 use Rattle.std.specs.Prelude.{Bool, IsErrAnd, true}
 use Rattle.ly_base.specs.Lexed.{Place}
 use Rattle.ly_drive.proofs.OnwardLemmas.{settled_on}
@@ -14,6 +14,8 @@ use Rattle.ly_drive.specs.Verdict.{Verdict, accepted, faulty, refused}
 use Rattle.ly_drive.specs.declared.flaw.Flaw.{Flaw}
 use Rattle.ly_drive.specs.declared.run_fault.RunFault.{RunFault}
 use Rattle.ly_drive.specs.declared.run_fault.RunFault.TheVariants as run
+use Rattle.ly_drive.specs.declared.running.Halt.{Halt}
+use Rattle.ly_drive.specs.declared.running.Halt.TheVariants.{Flawed}
 use Rattle.ly_drive.specs.declared.running.Ended.{Ended}
 use Rattle.ly_drive.specs.declared.running.Ended.TheVariants.{Accepted, Refused}
 use Rattle.ly_pack.specs.Machine.{Machine}
@@ -31,23 +33,22 @@ settled_here ended p m w v settled = subst (λ x. IsRest p m x v) (nothing_more 
 
 module _ (p : ScanPart) (m : Machine) (w : Progress) where
   -- something is wrong before the end
-  pub closed_by : (q : Place) (r : Parse) (forest : Grown) (o : Option Flaw) (flaw : Flaw)
-      → IsRunOn true p m w q r (Ok o)
-      → o ≡ Some flaw → IsClosed p m w forest (Ok (Refused flaw))
-  closed_by q r forest o flaw run at = (
+  pub closed_by : (r : Parse) (forest : Grown) (h : Halt) (flaw : Flaw) → IsRunOn true p m w r (Ok h)
+      → h ≡ Flawed flaw → IsClosed p m w forest (Ok (Refused flaw))
+  closed_by r forest h flaw run at = (
     verdict_of flaw,
-    settled_here true p m w (verdict_of flaw) (subst (λ x. IsRunOn true p m w q r (Ok x)) at run),
+    settled_here true p m w (verdict_of flaw) (subst (λ x. IsRunOn true p m w r (Ok x)) at run),
     refl,
     tt,
   )
 
   -- a fault that is handed on
-  pub closed_fault : (q : Place) (r : Parse) (forest : Grown) (e : RunFault) (result : Result Ended RunFault)
-      → IsRunOn true p m w q r (Err e) → IsErrAnd result (λ x. x ≡ e) → IsClosed p m w forest result
-  closed_fault q r forest e (Ok x) run is = absurd is
-  closed_fault q r forest run.TableFault (Err x) run is = subst (λ y. IsClosed p m w forest (Err y)) (sym is)
+  pub closed_fault : (r : Parse) (forest : Grown) (e : RunFault) (result : Result Ended RunFault)
+      → IsRunOn true p m w r (Err e) → IsErrAnd result (λ x. x ≡ e) → IsClosed p m w forest result
+  closed_fault r forest e (Ok x) run is = absurd is
+  closed_fault r forest run.TableFault (Err x) run is = subst (λ y. IsClosed p m w forest (Err y)) (sym is)
       (settled_here true p m w faulty run)
-  closed_fault q r forest run.OutOfMemory (Err x) run is = subst (λ y. IsClosed p m w forest (Err y)) (sym is) tt
+  closed_fault r forest run.OutOfMemory (Err x) run is = subst (λ y. IsClosed p m w forest (Err y)) (sym is) tt
 
   module _ (q : Place) (r : Parse) (on : Onward true p m w (progress_of q r)) (ends : q.rest ≡ [])
       (machine : r.machine ≡ m) where

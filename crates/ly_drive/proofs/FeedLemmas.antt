@@ -1,5 +1,5 @@
 -- What a feed makes of a piece.
-use Rattle.std.proofs.Common.{◌≡◌, ◌∙◌, ◌<◌, ◌≤◌, ◌+◌, ◌-◌, ℕ, List, Option, Some, Ok, Err, Result, ap}
+use Rattle.std.proofs.Common.{◌≡◌, ◌∙◌, ◌<◌, ◌≤◌, ◌+◌, ◌-◌, ℕ, List, Option, Ok, Err, Result, ap}
 use Rattle.std.proofs.Common.{arith, drop, length, length-append, length-drop, refl, subst, sym}
 use Rattle.std.specs.Global.{Global}
 use Rattle.std.specs.Prelude.{◌^◌, Bool, IsErrAnd, false, true}
@@ -25,6 +25,8 @@ use Rattle.ly_drive.specs.declared.need.Need.TheVariants.{Settled}
 use Rattle.ly_drive.specs.declared.outcome.Outcome.{Outcome}
 use Rattle.ly_drive.specs.declared.outcome.Outcome.TheVariants as out
 use Rattle.ly_drive.specs.declared.run_fault.RunFault.{RunFault}
+use Rattle.ly_drive.specs.declared.running.Halt.{Halt}
+use Rattle.ly_drive.specs.declared.running.Halt.TheVariants.{Flawed}
 use Rattle.ly_drive.specs.declared.run_fault.RunFault.TheVariants as run
 use Rattle.ly_drive.specs.FeedFaultNames.{feed_fault_of}
 use Rattle.ly_pack.specs.Machine.{Machine}
@@ -108,17 +110,17 @@ module _ (set : TableSet) (q : Place) (s : Parse) (over : Bool) (piece : List �
 
   -- something is wrong
   pub is_settled : (g : Held) (flaw : Flaw) (o : Outcome) (lines : Vec ℕ Global)
-      (r : Place) (t : Parse) (found : Option Flaw)
-      → IsRunOn false p m (progress_of (behind q piece) s) r t (Ok found) → found ≡ Some flaw
+      (t : Parse) (h : Halt)
+      → IsRunOn false p m (progress_of (behind q piece) s) t (Ok h) → h ≡ Flawed flaw
       → IsOutcome (verdict_of flaw) o → lines.items ≡ printed (vocabulary_of set) (verdict_of flaw) → IsOver f g
       → seen f + length piece < 2 ^ 64 → TakesPiece f piece g (Ok (Settled o lines))
-  is_settled g flaw o lines r t found run at told written over few = (
+  is_settled g flaw o lines t h run at told written over few = (
     over,
     few,
     (
       verdict_of flaw,
       settled_rest p m (progress_of q s) piece (verdict_of flaw)
-          (subst (λ x. IsRunOn false p m (progress_of (behind q piece) s) r t (Ok x)) at run),
+          (subst (λ x. IsRunOn false p m (progress_of (behind q piece) s) t (Ok x)) at run),
       told,
       no_tree flaw o told,
       written,
@@ -126,13 +128,13 @@ module _ (set : TableSet) (q : Place) (s : Parse) (over : Bool) (piece : List �
   )
 
   -- a fault that is handed on
-  pub is_faulty : (g : Held) (e : RunFault) (result : Result Need FeedFault) (r : Place) (t : Parse)
-      → IsRunOn false p m (progress_of (behind q piece) s) r t (Err e) → IsErrAnd result (λ x. x ≡ feed_fault_of e)
+  pub is_faulty : (g : Held) (e : RunFault) (result : Result Need FeedFault) (t : Parse)
+      → IsRunOn false p m (progress_of (behind q piece) s) t (Err e) → IsErrAnd result (λ x. x ≡ feed_fault_of e)
       → IsOver f g → seen f + length piece < 2 ^ 64 → TakesPiece f piece g result
-  is_faulty g e (Ok x) r t run is over few = absurd is
-  is_faulty g run.TableFault (Err x) r t run is over few = subst (λ y. TakesPiece f piece g (Err y)) (sym is) (
+  is_faulty g e (Ok x) t run is over few = absurd is
+  is_faulty g run.TableFault (Err x) t run is over few = subst (λ y. TakesPiece f piece g (Err y)) (sym is) (
     over,
     few,
     settled_rest p m (progress_of q s) piece faulty run,
   )
-  is_faulty g run.OutOfMemory (Err x) r t run is over few = subst (λ y. TakesPiece f piece g (Err y)) (sym is) over
+  is_faulty g run.OutOfMemory (Err x) t run is over few = subst (λ y. TakesPiece f piece g (Err y)) (sym is) over

@@ -15,7 +15,8 @@ use Rattle.ly_drive.specs.Private.Running.{Halts, IsRunOn, progress_of}
 use Rattle.ly_drive.specs.ScanPart.{ScanPart, scanner_in}
 use Rattle.ly_drive.specs.TableAnswer.{Progress}
 use Rattle.ly_drive.specs.Verdict.{Verdict, faulty, unmatched}
-use Rattle.ly_drive.specs.declared.flaw.Flaw.{Flaw}
+use Rattle.ly_drive.specs.declared.running.Halt.{Halt}
+use Rattle.ly_drive.specs.declared.running.Halt.TheVariants.{At}
 use Rattle.ly_pack.specs.Machine.{Machine}
 use Rattle.ly_parse.proofs.FedOnceLemmas.{fed_in_one_way}
 use Rattle.ly_parse.specs.Parse.{Parse}
@@ -80,7 +81,7 @@ module _ (ended : Bool) (p : ScanPart) (m : Machine) (w : Progress) where
   settled_there q s v on settled = settled_on ended p m v fed_in_one_way on settled
 
 -- where a run halts before the end of the text
-pub halts_here : (p : ScanPart) (m : Machine) (w : Progress) (q : Place) (r : Parse) (o : Option Flaw)
-    → IsRunOn false p m w q r (Ok o) → o ≡ None
+pub halts_here : (p : ScanPart) (m : Machine) (w : Progress) (r : Parse) (h : Halt) (q : Place)
+    → IsRunOn false p m w r (Ok h) → h ≡ At q
     → Onward false p m w (progress_of q r) × IsUndecided (scanner_in p) q × (r.over ≡ false)
-halts_here p m w q r o run none = subst (λ x. IsRunOn false p m w q r (Ok x)) none run
+halts_here p m w r h q run is = subst (λ x. IsRunOn false p m w r (Ok x)) is run

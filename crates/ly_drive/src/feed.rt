@@ -14,7 +14,7 @@ use crate::lexer_of_set::lexer_of;
 use crate::lines::{told, write_ended};
 use crate::need::Need;
 use crate::outcome::Outcome;
-use crate::running::{TableParser, run_on, run_to_end};
+use crate::running::{Halt, TableParser, run_on, run_to_end};
 use crate::window::Window;
 use ly_base::{MemSink, OutOfMemory, Sink};
 use ly_parse::Parser;
@@ -103,12 +103,14 @@ impl<'a> Feed<'a> {
             self.over = false;
             return Ok(Need::More);
         }
-        let mut place = self.window.place();
-        let flaw = run_on(self.set, &self.lexer, &mut self.parser, &mut place, false)?;
-        if let Some(flaw) = flaw {
-            let (outcome, lines) = told(self.alloc, self.set, flaw)?;
-            return Ok(Need::Settled(outcome, lines));
-        }
+        let start = self.window.place();
+        let place = match run_on(self.set, &self.lexer, &mut self.parser, start, false)? {
+            Halt::At(place) => place,
+            Halt::Flawed(flaw) => {
+                let (outcome, lines) = told(self.alloc, self.set, flaw)?;
+                return Ok(Need::Settled(outcome, lines));
+            }
+        };
         self.matcher = self.lexer.matcher_at(&place);
         let (at, line, condition) = (place.at(), place.at_line_start(), place.condition());
         self.window.give_up(at, line, condition);
@@ -153,8 +155,8 @@ impl<'a> Feed<'a> {
         ensures untouched { IfErr result (λ e. IsBeforeWriting e → writer.new ≡ writer.old) }
     {
         self.over = true;
-        let mut place = self.window.place();
-        let ended = run_to_end(self.set, &self.lexer, &mut self.parser, &mut place)?;
+        let place = self.window.place();
+        let ended = run_to_end(self.set, &self.lexer, &mut self.parser, place)?;
         write_ended(self.alloc, self.set, self.parser.forest(), ended, writer)
     }
 }

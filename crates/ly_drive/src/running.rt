@@ -23,37 +23,46 @@ use ly_tree::TermRef;
 /// The parser of a table set.
 pub(crate) type TableParser<'a> = Parser<'a, Comb<TableAction>, Comb<StateNo>>;
 
-/// Runs scanner and parser on over the bytes that are left at a place, lexeme by lexeme, as long as it is decided which
-/// one comes next, whatever comes behind these bytes; where the text has ended behind them, to its end. Answers what
-/// is wrong with the text as soon as that is known.
+/// How far a run over what has come of a text gets.
+#[derive(Drop)]
+pub(crate) enum Halt<'t> {
+    /// To this place: the next match isn't decided there, or the text has ended.
+    At(Place<'t>),
+    /// This is wrong with the text.
+    Flawed(Flaw<'t>),
+}
+
+/// Runs scanner and parser on from a place over the bytes that are left there, lexeme by lexeme, as long as it is
+/// decided which one comes next, whatever comes behind these bytes; where the text has ended behind them, to its end.
+/// Answers what is wrong with the text as soon as that is known. The place is a value, so that it has registers.
 pub(crate) fn run_on<'t>(
     set: &TableSet,
     lexer: &Lexer,
     parser: &mut TableParser<'_>,
-    place: &mut Place<'t>,
+    mut place: Place<'t>,
     ended: bool,
-) -> Result<Option<Flaw<'t>>, RunFault>
+) -> Result<Halt<'t>, RunFault>
     requires lexer { IsLexerOf (scan_part_of set.now) lexer.now }
     requires runs { CanRun (scan_part_of set.now) (machine_of set.now) }
     requires machine { parser.old.machine ≡ machine_of set.now }
     requires goes_on { parser.old.over ≡ false }
-    ensures runs { IsRunOn ended (scan_part_of set.now) (machine_of set.now) (progress_of place.old parser.old)
-        place.new parser.new result }
+    ensures runs { IsRunOn ended (scan_part_of set.now) (machine_of set.now) (progress_of place.entry parser.old)
+        parser.new result }
     ensures machine { parser.new.machine ≡ parser.old.machine }
 {
     loop {
-        let lexeme = match lexer.next(place, ended) {
+        let lexeme = match lexer.next(&mut place, ended) {
             Ok(Some(lexeme)) => lexeme,
-            Ok(None) => return Ok(None),
+            Ok(None) => return Ok(Halt::At(place)),
             // the text has ended
-            Err(End::Clean) => return Ok(None),
-            Err(End::Stuck { byte }) => return Ok(Some(Flaw::NoRule { byte: byte as u64 })),
+            Err(End::Clean) => return Ok(Halt::At(place)),
+            Err(End::Stuck { byte }) => return Ok(Halt::Flawed(Flaw::NoRule { byte: byte as u64 })),
             Err(End::BadCut { .. }) => return Err(RunFault::TableFault),
         };
         let ScanAction { begin, emits } = action(set, lexeme.rule);
-        match take(set, parser, place, lexeme, emits) {
+        match take(set, parser, &place, lexeme, emits) {
             Taken::Goes => place.advance(lexeme.taken, begin),
-            Taken::Refused => return Ok(Some(refusal(set, parser, place, lexeme, emits)?)),
+            Taken::Refused => return Ok(Halt::Flawed(refusal(set, parser, place, lexeme)?)),
             Taken::TableFault => return Err(RunFault::TableFault),
             Taken::OutOfMemory => return Err(RunFault::OutOfMemory),
         }
@@ -128,20 +137,17 @@ fn feed(parser: &mut TableParser<'_>, token: &Token<'_>) -> Taken
 fn refusal<'t>(
     set: &TableSet,
     parser: &TableParser<'_>,
-    place: &Place<'t>,
+    place: Place<'t>,
     lexeme: Lexeme,
-    emits: Emitted,
 ) -> Result<Flaw<'t>, OutOfMemory>
     requires some { 1 ≤ lexeme.taken }
-    requires within { lexeme.taken ≤ length place.now.rest }
-    requires emits { (bytes : List ℕ) → terminal_by (scan_part_of set.now) bytes emits
-        ≡ terminal_in (scan_part_of set.now) lexeme.rule.0 bytes }
-    requires token { HasToken (scan_part_of set.now) place.now lexeme }
+    requires within { lexeme.taken ≤ length place.rest }
+    requires token { HasToken (scan_part_of set.now) place lexeme }
     requires tellable { IsTellable parser.now }
-    ensures { IfOk result (IsRefusalAt (scan_part_of set.now) place.now lexeme parser.now) }
+    ensures { IfOk result (IsRefusalAt (scan_part_of set.now) place.entry lexeme parser.now) }
 {
     let text = Front::new(place.rest(), lexeme.taken);
-    let Some(terminal) = terminal(set, emits, text.bytes()) else {
+    let Some(terminal) = terminal(set, action(set, lexeme.rule).emits, text.bytes()) else {
         unreachable!();
     };
     let Refusal { number, expected } = parser.refusal()?;
@@ -163,25 +169,25 @@ pub(crate) enum Ended<'t> {
     Refused(Flaw<'t>),
 }
 
-/// Runs scanner and parser to the end of the text, which stands behind the bytes that are left at a place.
+/// Runs scanner and parser from a place to the end of the text, which stands behind the bytes that are left there.
 pub(crate) fn run_to_end<'t>(
     set: &TableSet,
     lexer: &Lexer,
     parser: &mut TableParser<'_>,
-    place: &mut Place<'t>,
+    place: Place<'t>,
 ) -> Result<Ended<'t>, RunFault>
     requires lexer { IsLexerOf (scan_part_of set.now) lexer.now }
     requires runs { CanRun (scan_part_of set.now) (machine_of set.now) }
     requires machine { parser.old.machine ≡ machine_of set.now }
     requires goes_on { parser.old.over ≡ false }
-    ensures closed { IsClosed (scan_part_of set.now) (machine_of set.now) (progress_of place.old parser.old)
+    ensures closed { IsClosed (scan_part_of set.now) (machine_of set.now) (progress_of place.entry parser.old)
         parser.new.forest result }
     ensures machine { parser.new.machine ≡ parser.old.machine }
 {
-    if let Some(flaw) = run_on(set, lexer, parser, place, true)? {
-        return Ok(Ended::Refused(flaw));
+    match run_on(set, lexer, parser, place, true)? {
+        Halt::At(place) => close(parser, &place),
+        Halt::Flawed(flaw) => Ok(Ended::Refused(flaw)),
     }
-    close(parser, place)
 }
 
 /// Feeds a parser with the end of the text, which stands at a place.

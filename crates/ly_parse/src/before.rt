@@ -43,6 +43,7 @@ impl Before {
     }
 
     /// Notes the states above a height, which are popped next. Where a state is told that stood on top, it begins anew.
+    #[inline(never)] // so that reductions have the registers
     pub(crate) fn note(
         &mut self,
         stack: &[Level],
@@ -57,8 +58,11 @@ impl Before {
         if let Some(first) = first {
             self.begin(stack, first)?;
         }
+        if height < self.kept {
+            self.popped.reserve(self.kept - height)?;
+        }
         while height < self.kept {
-            self.popped.push(stack[self.kept - 1].state)?;
+            self.popped.push_reserved(stack[self.kept - 1].state);
             self.kept -= 1;
         }
         Ok(())

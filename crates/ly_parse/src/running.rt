@@ -288,12 +288,7 @@ impl<'a, A: Rows<TableAction> + Drop, G: Rows<StateNo> + Drop> Running<'a, A, G>
     /// What is done before a terminal where no reduction is. Where the terminal is refused, what the stack was, with
     /// this state on top, is noted.
     #[inline(never)] // so that reductions have the registers
-    fn settle_at_once(
-        &self,
-        action: TableAction,
-        first: StateNo,
-        before: &mut Before,
-    ) -> Settled
+    fn settle_at_once(&self, action: TableAction, first: StateNo, before: &mut Before) -> Settled
         requires settles { (number : ℕ) → action_from action ≢ reduce number }
         ensures { (terminal : ℕ) → action_from action ≡ action_of self.now.machine (top_of self.now.stack) terminal
             → IsSettled self.now.machine terminal self.now.stack (with_top first.0 self.now.stack) self.now.stack

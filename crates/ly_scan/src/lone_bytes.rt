@@ -56,7 +56,7 @@ impl LoneBytes {
         ensures some { OnTrue result (1 ≤ length place.now.rest) }
     {
         let rest = place.rest();
-        if rest.len() < 2 || place.condition() != 0 {
+        if place.condition() != 0 || rest.len() < 2 {
             return false;
         }
         self.begins[usize::from(rest[0])] & !self.goes_on[usize::from(rest[1])]

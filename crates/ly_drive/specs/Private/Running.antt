@@ -1,5 +1,5 @@
 -- A run over what has come of a text, token by token.
-use Rattle.std.specs.Prelude.{◌≡◌, ◌<◌, ◌≤◌, ℕ, ◌+◌, Bool, List, [], false, true, map, Option, Some, None}
+use Rattle.std.specs.Prelude.{◌≡◌, ◌<◌, ◌≤◌, ℕ, ◌+◌, Bool, List, [], false, true, map, Some}
 use Rattle.std.specs.Prelude.{Result, Ok, Err}
 use Rattle.ly_base.specs.Lexed.{Place, Token, place_after}
 use Rattle.ly_base.specs.declared.lexeme.Lexeme.{Lexeme}
@@ -16,6 +16,8 @@ use Rattle.ly_drive.specs.declared.names.Names.{Names}
 use Rattle.ly_drive.specs.declared.running.Taken.{Taken}
 use Rattle.ly_drive.specs.declared.running.Taken.TheVariants.{Goes}
 use Rattle.ly_drive.specs.declared.running.Taken.TheVariants as take
+use Rattle.ly_drive.specs.declared.running.Halt.{Halt}
+use Rattle.ly_drive.specs.declared.running.Halt.TheVariants.{At, Flawed}
 use Rattle.ly_drive.specs.declared.running.Ended.{Ended}
 use Rattle.ly_drive.specs.declared.running.Ended.TheVariants.{Accepted, Refused}
 use Rattle.ly_pack.specs.Machine.{Machine, IsMachine}
@@ -86,11 +88,11 @@ Halts false p q = IsUndecided (scanner_in p) q
 
 -- How far a run comes: to where it halts, the parse not being over; or something is wrong, or the tables are at fault,
 -- whatever comes. Want of memory says nothing.
-abbrev pub IsRunOn : Bool → ScanPart → Machine → Progress → Place → Parse → Result (Option Flaw) RunFault → Type 0
-IsRunOn ended p m w q r (Ok None) = Onward ended p m w (progress_of q r) × Halts ended p q × (r.over ≡ false)
-IsRunOn ended p m w q r (Ok (Some flaw)) = IsSettled ended p m w (verdict_of flaw)
-IsRunOn ended p m w q r (Err TableFault) = IsSettled ended p m w faulty
-IsRunOn ended p m w q r (Err OutOfMemory) = Unit {0}
+abbrev pub IsRunOn : Bool → ScanPart → Machine → Progress → Parse → Result Halt RunFault → Type 0
+IsRunOn ended p m w r (Ok (At q)) = Onward ended p m w (progress_of q r) × Halts ended p q × (r.over ≡ false)
+IsRunOn ended p m w r (Ok (Flawed flaw)) = IsSettled ended p m w (verdict_of flaw)
+IsRunOn ended p m w r (Err TableFault) = IsSettled ended p m w faulty
+IsRunOn ended p m w r (Err OutOfMemory) = Unit {0}
 
 -- the end as a token, where it stands at a byte
 abbrev pub end_token : ℕ → Token ℕ

@@ -19,7 +19,7 @@ pub returns-in-Err-Stuck-clause-runs : goal.returns-in-Err-Stuck-clause-runs
 returns-in-Err-Stuck-clause-runs c =
     let p = scan_part_of c.args.set.now in
     let m = machine_of c.args.set.now in
-    let w = progress_of c.args.place.now c.args.parser.now in
+    let w = progress_of c.args.place c.args.parser.now in
     let l = c.args.lexer.now in
     let q = c.next.new.place in
     let s = c.loop-lexeme.parser in
@@ -31,7 +31,7 @@ pub returns-in-Err-BadCut-clause-runs : goal.returns-in-Err-BadCut-clause-runs
 returns-in-Err-BadCut-clause-runs c =
     let p = scan_part_of c.args.set.now in
     let m = machine_of c.args.set.now in
-    let w = progress_of c.args.place.now c.args.parser.now in
+    let w = progress_of c.args.place c.args.parser.now in
     let l = c.args.lexer.now in
     let q = c.next.new.place in
     let s = c.loop-lexeme.parser in
@@ -43,7 +43,7 @@ pub returns-in-Ok-None-clause-runs : goal.returns-in-Ok-None-clause-runs
 returns-in-Ok-None-clause-runs c =
     let p = scan_part_of c.args.set.now in
     let q = c.next.new.place in (
-      over c.args.ended p (machine_of c.args.set.now) (progress_of c.args.place.now c.args.parser.now) c.args.lexer.now
+      over c.args.ended p (machine_of c.args.set.now) (progress_of c.args.place c.args.parser.now) c.args.lexer.now
           c.loop-lexeme.place q c.loop-lexeme.parser c.requires.lexer c.loop-lexeme.invariant.onward
           c.next.ensures.passed,
       undecided_there c.args.ended p c.args.lexer.now q c.in-Ok-None.field-0 c.requires.lexer
@@ -55,7 +55,7 @@ pub returns-in-Err-Clean-clause-runs : goal.returns-in-Err-Clean-clause-runs
 returns-in-Err-Clean-clause-runs c =
     let p = scan_part_of c.args.set.now in
     let q = c.next.new.place in (
-      over c.args.ended p (machine_of c.args.set.now) (progress_of c.args.place.now c.args.parser.now) c.args.lexer.now
+      over c.args.ended p (machine_of c.args.set.now) (progress_of c.args.place c.args.parser.now) c.args.lexer.now
           c.loop-lexeme.place q c.loop-lexeme.parser c.requires.lexer c.loop-lexeme.invariant.onward
           c.next.ensures.passed,
       halts_at_end c.args.ended p q (subst (λ e. EndsFast c.args.ended (scanner_in p) q e) c.in-Err-Clean.field-0-is
@@ -84,7 +84,7 @@ pub returns-in-Refused-clause-runs : goal.returns-in-Refused-clause-runs
 returns-in-Refused-clause-runs c =
     let p = scan_part_of c.args.set.now in
     let m = machine_of c.args.set.now in
-    let w = progress_of c.args.place.now c.args.parser.now in
+    let w = progress_of c.args.place c.args.parser.now in
     let l = c.args.lexer.now in
     let q = c.next.new.place in
     let s = c.loop-lexeme.parser in
@@ -103,7 +103,7 @@ pub returns-in-TableFault-clause-runs : goal.returns-in-TableFault-clause-runs
 returns-in-TableFault-clause-runs c =
     let p = scan_part_of c.args.set.now in
     let m = machine_of c.args.set.now in
-    let w = progress_of c.args.place.now c.args.parser.now in
+    let w = progress_of c.args.place c.args.parser.now in
     let l = c.args.lexer.now in
     let q = c.next.new.place in
     let s = c.loop-lexeme.parser in
@@ -117,7 +117,7 @@ pub loop-lexeme-preserved : goal.loop-lexeme-preserved
 loop-lexeme-preserved c =
     let p = scan_part_of c.args.set.now in
     let m = machine_of c.args.set.now in
-    let w = progress_of c.args.place.now c.args.parser.now in
+    let w = progress_of c.args.place c.args.parser.now in
     let l = c.args.lexer.now in
     let q = c.next.new.place in
     let s = c.loop-lexeme.parser in

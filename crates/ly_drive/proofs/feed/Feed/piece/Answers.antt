@@ -26,78 +26,78 @@ returns-then-goes_on c =
     (subst (λ s. IsUndecided s (behind f.window c.args.bytes.now)) c.self.invariant.lexer.scanner next.1)
     c.in_ok-push.ensures.countable)))
 
-pub returns-in_err-flaw : goal.returns-in_err-flaw
-returns-in_err-flaw c =
+pub returns-in_err-place : goal.returns-in_err-place
+returns-in_err-place c =
     let f = c.self.inside in
     let g = held_from f.set.now c.push.new.self c.run_on.new.parser true in
-    is_piece c.args.self.now g c.args.bytes.now c.from_residual-in_err-flaw.result
+    is_piece c.args.self.now g c.args.bytes.now c.from_residual-in_err-place.result
     (ap (λ x. x.over) (sym c.self.view_is) ∙ c.if-self.false)
-    (subst (λ x. TakesPiece x c.args.bytes.now g c.from_residual-in_err-flaw.result) c.self.view_is
-    (is_faulty f.set.now f.window f.parser f.over c.args.bytes.now g c.in_err-flaw.field-0.0
-    c.from_residual-in_err-flaw.result c.run_on.new.place c.run_on.new.parser
+    (subst (λ x. TakesPiece x c.args.bytes.now g c.from_residual-in_err-place.result) c.self.view_is
+    (is_faulty f.set.now f.window f.parser f.over c.args.bytes.now g c.in_err-place.field-0.0
+    c.from_residual-in_err-place.result c.run_on.new.parser
     (subst (λ q. IsRunOn false (scan_part_of f.set.now) (machine_of f.set.now) (progress_of q f.parser)
-    c.run_on.new.place c.run_on.new.parser (Err c.in_err-flaw.field-0.0))
-    (c.place-place.ensures ∙ c.in_ok-push.ensures.ok) c.in_err-flaw.ensures.runs)
-    c.from_residual-in_err-flaw.ensures.1 (record { set = refl; over = refl }) c.in_ok-push.ensures.countable))
+    c.run_on.new.parser (Err c.in_err-place.field-0.0))
+    (c.place-start.ensures ∙ c.in_ok-push.ensures.ok) c.in_err-place.ensures.runs)
+    c.from_residual-in_err-place.ensures.1 (record { set = refl; over = refl }) c.in_ok-push.ensures.countable))
 
-pub returns-in-Some : goal.returns-in-Some
-returns-in-Some c =
+pub returns-in-Flawed : goal.returns-in-Flawed
+returns-in-Flawed c =
     let f = c.self.inside in
     let g = held_from f.set.now c.push.new.self c.run_on.new.parser true in
     is_piece c.args.self.now g c.args.bytes.now _ (ap (λ x. x.over) (sym c.self.view_is) ∙ c.if-self.false)
-    (subst (λ x. TakesPiece x c.args.bytes.now g (Ok (Settled c.in_ok-outcome.outcome c.in_ok-outcome.lines)))
-    c.self.view_is
-    (is_settled f.set.now f.window f.parser f.over c.args.bytes.now g c.in-Some.flaw c.in_ok-outcome.outcome
-    c.in_ok-outcome.lines c.run_on.new.place c.run_on.new.parser c.in_ok-flaw.flaw
+    (subst (λ x. TakesPiece x c.args.bytes.now g
+    (Ok (Settled c.in_ok-outcome-in-Flawed.outcome c.in_ok-outcome-in-Flawed.lines))) c.self.view_is
+    (is_settled f.set.now f.window f.parser f.over c.args.bytes.now g c.in-Flawed.flaw
+    c.in_ok-outcome-in-Flawed.outcome c.in_ok-outcome-in-Flawed.lines c.run_on.new.parser c.in_ok-place.field-0
     (subst (λ q. IsRunOn false (scan_part_of f.set.now) (machine_of f.set.now) (progress_of q f.parser)
-    c.run_on.new.place c.run_on.new.parser (Ok c.in_ok-flaw.flaw))
-    (c.place-place.ensures ∙ c.in_ok-push.ensures.ok) c.in_ok-flaw.ensures.runs)
-    c.in-Some.is c.in_ok-outcome.ensures.0 c.in_ok-outcome.ensures.1 (record { set = refl; over = refl })
-    c.in_ok-push.ensures.countable))
+    c.run_on.new.parser (Ok c.in_ok-place.field-0))
+    (c.place-start.ensures ∙ c.in_ok-push.ensures.ok) c.in_ok-place.ensures.runs)
+    c.in-Flawed.is c.in_ok-outcome-in-Flawed.ensures.0 c.in_ok-outcome-in-Flawed.ensures.1
+    (record { set = refl; over = refl }) c.in_ok-push.ensures.countable))
 
 pub matcher_at-self-inside-requires : goal.matcher_at-self-inside-requires
 matcher_at-self-inside-requires c =
     let f = c.self.inside in
-    subst (λ s. IsUndecided s c.run_on.new.place) (sym c.self.invariant.lexer.scanner)
-    (halts_here (scan_part_of f.set.now) (machine_of f.set.now) (progress_of c.place-place.result f.parser)
-    c.run_on.new.place c.run_on.new.parser c.in_ok-flaw.flaw c.in_ok-flaw.ensures.runs c.in_default.is).1
+    subst (λ s. IsUndecided s c.in-At.place) (sym c.self.invariant.lexer.scanner)
+    (halts_here (scan_part_of f.set.now) (machine_of f.set.now) (progress_of c.place-start.result f.parser)
+    c.run_on.new.parser c.in_ok-place.field-0 c.in-At.place c.in_ok-place.ensures.runs c.in-At.is).1
 
 pub give_up-requires-clause-from : goal.give_up-requires-clause-from
 give_up-requires-clause-from c =
     let f = c.self.inside in
-    let run = halts_here (scan_part_of f.set.now) (machine_of f.set.now) (progress_of c.place-place.result f.parser)
-    c.run_on.new.place c.run_on.new.parser c.in_ok-flaw.flaw c.in_ok-flaw.ensures.runs c.in_default.is in
+    let run = halts_here (scan_part_of f.set.now) (machine_of f.set.now) (progress_of c.place-start.result f.parser)
+    c.run_on.new.parser c.in_ok-place.field-0 c.in-At.place c.in_ok-place.ensures.runs c.in-At.is in
     let on = further run.0 in
-    omega (arith, on.at, c.at-at.ensures, ap (λ q. q.at) c.place-place.ensures)
+    omega (arith, on.at, c.at-at.ensures, ap (λ q. q.at) c.place-start.ensures)
 
 pub give_up-requires-clause-to : goal.give_up-requires-clause-to
 give_up-requires-clause-to c =
     let f = c.self.inside in
-    let run = halts_here (scan_part_of f.set.now) (machine_of f.set.now) (progress_of c.place-place.result f.parser)
-    c.run_on.new.place c.run_on.new.parser c.in_ok-flaw.flaw c.in_ok-flaw.ensures.runs c.in_default.is in
+    let run = halts_here (scan_part_of f.set.now) (machine_of f.set.now) (progress_of c.place-start.result f.parser)
+    c.run_on.new.parser c.in_ok-place.field-0 c.in-At.place c.in_ok-place.ensures.runs c.in-At.is in
     let on = further run.0 in
     omega (
       arith,
       on.at,
       on.within,
       c.at-at.ensures,
-      ap (λ q. q.at) c.place-place.ensures,
-      ap (λ q. length q.rest) c.place-place.ensures,
+      ap (λ q. q.at) c.place-start.ensures,
+      ap (λ q. length q.rest) c.place-start.ensures,
     )
 
 pub invariant_of-self-2 : goal.invariant_of-self-2
 invariant_of-self-2 c =
     let f = c.self.inside in
-    let run = halts_here (scan_part_of f.set.now) (machine_of f.set.now) (progress_of c.place-place.result f.parser)
-    c.run_on.new.place c.run_on.new.parser c.in_ok-flaw.flaw c.in_ok-flaw.ensures.runs c.in_default.is in record {
+    let run = halts_here (scan_part_of f.set.now) (machine_of f.set.now) (progress_of c.place-start.result f.parser)
+    c.run_on.new.parser c.in_ok-place.field-0 c.in-At.place c.in_ok-place.ensures.runs c.in-At.is in record {
       lexer = c.self.invariant.lexer;
       machine = c.run_on.ensures.machine ∙ c.self.invariant.machine;
       runs = c.self.invariant.runs;
       parses = λ goes. run.2;
       waits = λ goes. subst (λ q. IsUnderwayAt f.lexer q c.matcher_at-self-inside.result) (sym (c.give_up.ensures
-          ∙ given_up c.push.new.self c.run_on.new.place c.at-at.result c.at_line_start-line.result
+          ∙ given_up c.push.new.self c.in-At.place c.at-at.result c.at_line_start-line.result
           c.condition-condition.result
-          (subst (λ q. IsFurther q c.run_on.new.place) c.place-place.ensures (further run.0)) c.at-at.ensures
+          (subst (λ q. IsFurther q c.in-At.place) c.place-start.ensures (further run.0)) c.at-at.ensures
           c.at_line_start-line.ensures c.condition-condition.ensures))
           c.matcher_at-self-inside.ensures;
     }
@@ -105,18 +105,18 @@ invariant_of-self-2 c =
 pub returns : goal.returns
 returns c =
     let f = c.self.inside in
-    let run = halts_here (scan_part_of f.set.now) (machine_of f.set.now) (progress_of c.place-place.result f.parser)
-    c.run_on.new.place c.run_on.new.parser c.in_ok-flaw.flaw c.in_ok-flaw.ensures.runs c.in_default.is in
-    let at = c.place-place.ensures ∙ c.in_ok-push.ensures.ok in
+    let run = halts_here (scan_part_of f.set.now) (machine_of f.set.now) (progress_of c.place-start.result f.parser)
+    c.run_on.new.parser c.in_ok-place.field-0 c.in-At.place c.in_ok-place.ensures.runs c.in-At.is in
+    let at = c.place-start.ensures ∙ c.in_ok-push.ensures.ok in
     is_piece c.args.self.now _ c.args.bytes.now _ (ap (λ x. x.over) (sym c.self.view_is) ∙ c.if-self.false)
     (subst (λ x. IsOnward x c.args.bytes.now (held_from f.set.now c.give_up.new.self c.run_on.new.parser false))
     c.self.view_is
     (subst (λ q. IsOnward (held_from f.set.now f.window f.parser f.over) c.args.bytes.now
     (held_from f.set.now q c.run_on.new.parser false)) (sym (c.give_up.ensures
-    ∙ given_up c.push.new.self c.run_on.new.place c.at-at.result c.at_line_start-line.result
+    ∙ given_up c.push.new.self c.in-At.place c.at-at.result c.at_line_start-line.result
     c.condition-condition.result
-    (subst (λ q. IsFurther q c.run_on.new.place) c.place-place.ensures (further run.0)) c.at-at.ensures
+    (subst (λ q. IsFurther q c.in-At.place) c.place-start.ensures (further run.0)) c.at-at.ensures
     c.at_line_start-line.ensures c.condition-condition.ensures))
-    (goes_onward f.set.now f.window f.parser f.over c.args.bytes.now c.run_on.new.place c.run_on.new.parser
+    (goes_onward f.set.now f.window f.parser f.over c.args.bytes.now c.in-At.place c.run_on.new.parser
     (subst (λ q. Onward false (scan_part_of f.set.now) (machine_of f.set.now) (progress_of q f.parser)
-    (progress_of c.run_on.new.place c.run_on.new.parser)) at run.0) run.1 c.in_ok-push.ensures.countable)))
+    (progress_of c.in-At.place c.run_on.new.parser)) at run.0) run.1 c.in_ok-push.ensures.countable)))

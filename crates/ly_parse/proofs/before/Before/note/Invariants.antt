@@ -1,4 +1,5 @@
-use Rattle.std.proofs.Common.{◌≡◌, ◌≤◌, length}
+use Rattle.std.proofs.Common.{◌≡◌, ◌+◌, ◌≤◌, length, vec_len}
+use Rattle.std.specs.Prelude.{vec_capacity}
 use Rattle.ly_parse.specs.Private.Before.{before_of, noted_before}
 use Rattle.ly_parse.proofs.before.Before.note.Given as goal
 
@@ -7,6 +8,7 @@ abbrev pub invariant-loop-self : goal.invariant-loop-self
 invariant-loop-self l = record {
   same : before_of l.stack l.self ≡ noted_before l.fn.first l.stack l.fn.self;
   kept : l.self.kept ≤ length l.stack;
+  room : vec_len l.self.popped + l.self.kept ≤ vec_capacity l.self.popped + l.height;
 }
 
 abbrev pub decreases-loop-self : goal.decreases-loop-self
