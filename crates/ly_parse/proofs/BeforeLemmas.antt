@@ -12,9 +12,8 @@ use Rattle.ly_pack.specs.Machine.{Machine, TableRule, states_of}
 use Rattle.ly_parse.specs.Parse.{Parse}
 use Rattle.ly_parse.proofs.ReduceLemmas.{IsCut}
 use Rattle.ly_parse.specs.Feeding.{Level, states_on, top_of}
-use Rattle.ly_parse.specs.Private.Before.{before_of, before_on, levels_with_top, noted_before, states_in_levels}
-use Rattle.ly_parse.specs.Private.Before.{with_top}
-use Rattle.ly_parse.specs.Private.Before.{AreAlikeBelow, IsBefore, IsNoteOf, IsOpen}
+use Rattle.ly_parse.specs.Private.Before.{before_of, before_on, levels_with_top, states_in_levels, top_in, with_top}
+use Rattle.ly_parse.specs.Private.Before.{AreAlikeBelow, IsNoteOf, IsOpen}
 use Rattle.ly_parse.specs.Private.Copied.{states_in, upward}
 use Rattle.ly_parse.specs.Private.Stack.{level_from, parse_from, stack_from, IsParse}
 use Rattle.ly_parse.specs.declared.before.Before.{Before}
@@ -45,7 +44,7 @@ states_levels f levels = sym (states_apart (stack_from f levels) ∙ ap (λ w. w
 pub before_levels : (f : Grown) (levels : List code.Level) (b : Before)
     → before_of levels b ≡ before_on (stack_from f levels) b
 before_levels f levels b =
-    ap (λ w. map (λ s. s.0) b.popped.items ++ w)
+    ap (λ w. top_in b.top ++ (map (λ s. s.0) b.popped.items ++ w))
     (states_levels f (take b.kept levels)
     ∙ sym (ap states_on (ap (λ n. drop (n - b.kept) (stack_from f levels)) (length-stack_from f levels)
     ∙ below f levels b.kept)))
@@ -103,22 +102,13 @@ alike_below p m f levels low under k l h term =
     (subst (AreAlikeBelow (level_from f k ∷ stack_from f (take low levels)))
     (sym (passed_stack f levels low k l h.size term)) refl)
 
--- what a stack was, as it is kept and as contracts see it
-was_before : (f : Grown) (levels : List code.Level) (stack : List Level) (first : Option StateNo) (b : Before)
-    (states : List ℕ) → stack_from f levels ≡ stack → IsBefore first states stack b
-    → noted_before first levels b ≡ states
-was_before f levels stack (Some top) b states same before =
-    with_top_levels f levels top.0 ∙ (ap (with_top top.0) same ∙ before)
-was_before f levels stack None b states same before =
-    before_levels f levels b ∙ (ap (λ w. before_on w b) same ∙ before.same)
-
 -- What a reduction pops is noted: the levels up to a height stay, and another stands on them.
 pub note_kept : (p : Parse) (n : ℕ) (r : TableRule) (low : ℕ) (m : Machine) (f : Grown)
-    (levels seen left after : List code.Level) (first : Option StateNo) (a b : Before) (l : code.Level)
+    (levels seen left after : List code.Level) (a b : Before) (l : code.Level)
     (states : List ℕ) → IsCut p n r low m f levels → seen ≡ levels → left ≡ take low levels → after ≡ left ++ l ∷ []
-    → before_of seen b ≡ noted_before first seen a → b.kept ≤ low → IsBefore first states p.stack a
+    → before_of seen b ≡ before_of seen a → b.kept ≤ low → IsNoteOf states p.stack a
     → IsNoteOf states (stack_from f after) b
-note_kept p n r low m f levels seen left after first a b l states h sees cut pushes same kept before =
+note_kept p n r low m f levels seen left after a b l states h sees cut pushes same kept before =
     let front = take low levels in
     let fits = h.size in
     let size = length-take-le low levels (omega (arith, fits)) in
@@ -128,9 +118,9 @@ note_kept p n r low m f levels seen left after first a b l states h sees cut pus
     = ap (take b.kept) whole ∙ (take-append-le b.kept front (l ∷ []) (omega (arith, size, kept))
     ∙ take-take b.kept low levels kept) in
     noted f after b states (omega (arith, kept, long))
-    (ap (λ w. map (λ s. s.0) b.popped.items ++ states_in_levels w) there
-    ∙ (subst (λ w. before_of w b ≡ noted_before first w a) sees same
-    ∙ was_before f levels p.stack first a states h.stack before))
+    (ap (λ w. top_in b.top ++ (map (λ s. s.0) b.popped.items ++ states_in_levels w)) there
+    ∙ (subst (λ w. before_of w b ≡ before_of w a) sees same
+    ∙ (before_levels f levels a ∙ (ap (λ w. before_on w a) h.stack ∙ before.same))))
 
 -- the states of a parse's stack are known, the bottom's among them
 pub states_known : (m : Machine) (f : Grown) (levels : List code.Level) → IsParse m f levels

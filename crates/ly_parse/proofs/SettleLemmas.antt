@@ -2,13 +2,13 @@
 use Rattle.std.proofs.Common.{◌≡◌, ℕ, ◌+◌, ◌*◌, ◌<◌, ◌≤◌, List, length, refl, sym, ap, ◌∙◌, arith, subst, Err, Ok}
 use Rattle.std.specs.Prelude.{Bool, IsErrAnd, Result}
 use Rattle.ly_pack.proofs.Runs.{reductions_fall, runs_end}
-use Rattle.ly_pack.specs.Machine.{Machine, TableAction, action_of, reduce}
+use Rattle.ly_pack.specs.Machine.{Machine, action_of, reduce}
 use Rattle.ly_pack.specs.Steady.{rule_at, run_bound, EndsWithin}
 use Rattle.ly_pack.specs.SteadyLaws.{reductions}
 use Rattle.ly_parse.specs.Feeding.{Fed, Level, Turn, faulty, goes_on, reduce_by, settles, states_on, top_of}
 use Rattle.ly_parse.specs.Parse.{Parse}
 use Rattle.ly_parse.specs.Private.Stack.{at_once, behind, parse_from, stack_from, FailsByRule, FeedAlike, FeedAs}
-use Rattle.ly_parse.specs.Private.Stack.{IsParse, Leads, LeadsByRule}
+use Rattle.ly_parse.specs.Private.Stack.{IsParse, Leads}
 use Rattle.ly_parse.specs.declared.fault.ParseFault.{ParseFault}
 use Rattle.ly_parse.specs.declared.level.Level as code
 use Rattle.ly_parse.proofs.FeedingLemmas.{feeds_alike, feeds_as, moves}
@@ -101,17 +101,6 @@ module _ (m by : Machine) (t number limit : ℕ) (first stack : List Level) (sam
         let less = passed.1 in
         let falls = reduced.1 in
         (passed.0, omega arith)
-
--- A reduction and passes, behind which no reduction is left: a token becomes what it would have become at first, and
--- the tables do what was answered.
-pub last_turn : (m by : Machine) (t number limit : ℕ) (first stack last : List Level) (a : TableAction) → by ≡ m
-    → action_of m (top_of stack) t ≡ reduce number → IsWithinRun m t limit first stack
-    → LeadsByRule by number t stack last → a ≡ action_of by (top_of last) t
-    → FeedAlike m t last first × (action_of m (top_of last) t ≡ a)
-last_turn m by t number limit first stack last a same action run led is = (
-  (behind_turn m by t number limit first stack same action run led.next led.makes by last refl led.leads).0.alike,
-  subst (λ k. action_of k (top_of last) t ≡ a) same (sym is),
-)
 
 -- A reduction that fails, or passes behind it that do.
 pub fails_by_rule : (m by : Machine) (t number limit : ℕ) (first stack : List Level) → by ≡ m

@@ -1,6 +1,6 @@
 //! What a stack was before the token that a parse is at, while reductions take it down.
-ghost use Rattle.std.specs.Prelude.{◌≡◌, ◌≤◌, [], ◌∷◌, IfOk, None, OnOk, length};
-ghost use Rattle.ly_parse.specs.Private.Before.{before_of, before_on, levels_with_top, noted_before};
+ghost use Rattle.std.specs.Prelude.{◌≡◌, ◌≤◌, [], ◌∷◌, IfOk, OnOk, length};
+ghost use Rattle.ly_parse.specs.Private.Before.{before_of, before_on, levels_with_top};
 ghost use Rattle.ly_parse.specs.Private.Copied.{states_in};
 
 use crate::level::Level;
@@ -13,7 +13,9 @@ use std::alloc::{AllocError, Global};
 pub(crate) struct Before {
     /// How many levels, from the bottom on, are still as they were.
     kept: usize,
-    /// The states that stood above them, the top first.
+    /// The state that stood on top, if one stood above the bottom.
+    top: Option<StateNo>,
+    /// The states that stood between, the uppermost first.
     popped: Vec<StateNo>,
 }
 
@@ -24,43 +26,52 @@ impl Before {
     {
         Before {
             kept: 0,
+            top: None,
             popped: Vec::new(alloc),
         }
     }
 
     /// Begins anew: the stack is as it was, but for the state that stood on top, if one stands there.
-    pub(crate) fn begin(&mut self, stack: &[Level], first: StateNo) -> Result<(), AllocError>
-        ensures kept { OnOk result (self.new.kept ≤ length stack.now) }
-        ensures before { OnOk result (before_of stack.now self.new ≡ levels_with_top first.0 stack.now) }
+    pub(crate) fn begin(&mut self, stack: &[Level], first: StateNo)
+        ensures kept { self.new.kept ≤ length stack.now }
+        ensures before { before_of stack.now self.new ≡ levels_with_top first.0 stack.now }
     {
         self.popped.clear();
-        self.kept = 0;
-        if let Some(kept) = stack.len().checked_sub(1) {
-            self.popped.push(first)?;
-            self.kept = kept;
+        match stack.len().checked_sub(1) {
+            Some(kept) => {
+                self.kept = kept;
+                self.top = Some(first);
+            }
+            None => {
+                self.kept = 0;
+                self.top = None;
+            }
+        }
+    }
+
+    /// Notes the states above a height, which are popped next.
+    pub(crate) fn note(&mut self, stack: &[Level], height: usize) -> Result<(), AllocError>
+        requires { self.old.kept ≤ length stack.now }
+        ensures before { OnOk result (before_of stack.now self.new ≡ before_of stack.now self.old) }
+        ensures low { OnOk result (self.new.kept ≤ height) }
+        ensures kept { OnOk result (self.new.kept ≤ length stack.now) }
+    {
+        if height < self.kept {
+            self.note_popped(stack, height)?;
         }
         Ok(())
     }
 
-    /// Notes the states above a height, which are popped next. Where a state is told that stood on top, it begins anew.
+    /// Notes the states above a height, some of which are still as they were.
     #[inline(never)] // so that reductions have the registers
-    pub(crate) fn note(
-        &mut self,
-        stack: &[Level],
-        height: usize,
-        first: Option<StateNo>,
-    ) -> Result<(), AllocError>
-        requires { first ≡ None → self.old.kept ≤ length stack.now }
-        ensures before { OnOk result (before_of stack.now self.new ≡ noted_before first stack.now self.old) }
+    fn note_popped(&mut self, stack: &[Level], height: usize) -> Result<(), AllocError>
+        requires kept { self.old.kept ≤ length stack.now }
+        requires some { height ≤ self.old.kept }
+        ensures before { OnOk result (before_of stack.now self.new ≡ before_of stack.now self.old) }
         ensures low { OnOk result (self.new.kept ≤ height) }
         ensures kept { OnOk result (self.new.kept ≤ length stack.now) }
     {
-        if let Some(first) = first {
-            self.begin(stack, first)?;
-        }
-        if height < self.kept {
-            self.popped.reserve(self.kept - height)?;
-        }
+        self.popped.reserve(self.kept - height)?;
         while height < self.kept {
             self.popped.push_reserved(stack[self.kept - 1].state);
             self.kept -= 1;
@@ -81,6 +92,9 @@ impl Before {
         while 0 < left {
             left -= 1;
             states.push(self.popped[left])?;
+        }
+        if let Some(top) = self.top {
+            states.push(top)?;
         }
         Ok(states)
     }

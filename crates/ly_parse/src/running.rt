@@ -1,7 +1,7 @@
 ghost use Rattle.std.specs.Prelude.{◌≡◌, ◌≢◌, ◌<◌, ◌≤◌, ◌+◌, ◌-◌, ◌*◌, ℕ, [], ◌∷◌, Err, None, drop, false, length};
 ghost use Rattle.std.specs.Prelude.{map, take, IfOk, IfSome, List, OnOk};
 ghost use Rattle.ly_base.specs.Shape.{shape_of};
-ghost use Rattle.ly_pack.specs.Machine.{action_of, reduce, shift, states_of, IsLegal};
+ghost use Rattle.ly_pack.specs.Machine.{action_of, shift, states_of, IsLegal};
 ghost use Rattle.ly_pack.specs.Machine.{IsRuleNumber, IsShapeFor};
 ghost use Rattle.ly_pack.specs.Steady.{IsSteady};
 ghost use Rattle.ly_pack.specs.Values.{action_from};
@@ -9,7 +9,7 @@ ghost use Rattle.ly_parse.specs.Expected.{AreExpected};
 ghost use Rattle.ly_parse.specs.Feeding.{faulty, states_on, top_of};
 ghost use Rattle.ly_parse.specs.Parse.{Comes, IsTake, IsTellable};
 ghost use Rattle.ly_parse.specs.Private.Answered.{with_note, IsAcceptance, IsSettled};
-ghost use Rattle.ly_parse.specs.Private.Before.{before_on, with_top, AreAlikeBelow, IsBefore, IsNoteOf, IsOpen};
+ghost use Rattle.ly_parse.specs.Private.Before.{before_on, with_top, AreAlikeBelow, IsNoteOf, IsOpen};
 ghost use Rattle.ly_parse.specs.Private.Paying.{places_in};
 ghost use Rattle.ly_parse.specs.Private.Stack.{terms_onto, FailsByRule, FeedAs, IsAccepted, Leads};
 ghost use Rattle.ly_parse.specs.Private.Stack.{LeadsByRule};
@@ -34,7 +34,7 @@ use crate::token::Token;
 use ly_base::{OutOfMemory, RuleNo, RuleTree, StateNo, Sym};
 use ly_pack::{MachineView, Rows, TableAction};
 use ly_tree::{Forest, TermRef};
-use std::alloc::{AllocError, Global};
+use std::alloc::Global;
 use std::marker::Model;
 
 /// A parse over tables of which every run ends, but for what its stack was before the token that it is at.
@@ -262,46 +262,23 @@ impl<'a, A: Rows<TableAction> + Drop, G: Rows<StateNo> + Drop> Running<'a, A, G>
         ensures count { self.new.count ≡ self.old.count }
         ensures over { self.new.over ≡ self.old.over }
     {
-        let TableAction::Reduce(rule) = action else {
-            return self.settle_at_once(action, first, before);
-        };
+        before.begin(&self.stack, first);
         // the invariant says that the run on a token ends
         let _ = &self.machine;
-        let mut number = rule;
-        let mut first = Some(first);
+        let mut next = action;
         loop {
-            match self.reduce(number, terminal, first, before) {
-                Ok(TableAction::Reduce(next)) => {
-                    number = next;
-                    first = None;
-                }
-                Ok(TableAction::Shift(state)) => return Settled::Reads(state),
-                Ok(TableAction::Accept) => return Settled::Accepts,
-                Ok(TableAction::Error) => return Settled::Refuses,
+            let number = match next {
+                TableAction::Reduce(number) => number,
+                TableAction::Shift(state) => return Settled::Reads(state),
+                TableAction::Accept => return Settled::Accepts,
+                TableAction::Error => return Settled::Refuses,
+            };
+            match self.reduce(number, terminal, before) {
+                Ok(action) => next = action,
                 Err(ParseFault::TableFault) => return Settled::TableFault,
                 Err(ParseFault::OutOfMemory) => return Settled::OutOfMemory,
                 Err(ParseFault::Over) => unreachable!(),
             }
-        }
-    }
-
-    /// What is done before a terminal where no reduction is. Where the terminal is refused, what the stack was, with
-    /// this state on top, is noted.
-    #[inline(never)] // so that reductions have the registers
-    fn settle_at_once(&self, action: TableAction, first: StateNo, before: &mut Before) -> Settled
-        requires settles { (number : ℕ) → action_from action ≢ reduce number }
-        ensures { (terminal : ℕ) → action_from action ≡ action_of self.now.machine (top_of self.now.stack) terminal
-            → IsSettled self.now.machine terminal self.now.stack (with_top first.0 self.now.stack) self.now.stack
-            before.new result }
-    {
-        match action {
-            TableAction::Shift(state) => Settled::Reads(state),
-            TableAction::Accept => Settled::Accepts,
-            TableAction::Error => match before.begin(&self.stack, first) {
-                Ok(()) => Settled::Refuses,
-                Err(AllocError) => Settled::OutOfMemory,
-            },
-            TableAction::Reduce(_) => unreachable!(),
         }
     }
 
@@ -378,24 +355,22 @@ impl<'a, A: Rows<TableAction> + Drop, G: Rows<StateNo> + Drop> Running<'a, A, G>
     }
 
     /// Makes a reduction and the passes behind it before a terminal, and answers what is done then. What it pops is
-    /// noted unless the terminal is read then. At the first reduction before the terminal it is told which
-    /// state stood on top before the passes.
+    /// noted unless the terminal is read then.
     fn reduce(
         &mut self,
         number: RuleNo,
         terminal: Sym,
-        first: Option<StateNo>,
         before: &mut Before,
     ) -> Result<TableAction, ParseFault>
         requires rule { IsRuleNumber self.old.machine number.0 }
         requires terminal { terminal.0 < self.old.machine.terminals }
-        requires kept { first ≡ None → before.old.kept ≤ length self.old.stack }
+        requires kept { before.old.kept ≤ length self.old.stack }
         ensures leads { OnOk result (LeadsByRule self.old.machine number.0 terminal.0 self.old.stack self.new.stack) }
         ensures action { IfOk result (λ a. action_from a
             ≡ action_of self.old.machine (top_of self.new.stack) terminal.0) }
         ensures legal { IfOk result (λ a. IsLegal self.old.machine terminal.0 (action_from a)) }
         ensures noted { IfOk result (λ a. IsOpen (action_from a) → (states : List ℕ)
-            → IsBefore first states self.old.stack before.old → IsNoteOf states self.new.stack before.new) }
+            → IsNoteOf states self.old.stack before.old → IsNoteOf states self.new.stack before.new) }
         ensures faulty { result ≡ Err fault.TableFault
             → FailsByRule self.old.machine number.0 terminal.0 self.old.stack }
         ensures not_over { result ≢ Err fault.Over }
@@ -417,7 +392,7 @@ impl<'a, A: Rows<TableAction> + Drop, G: Rows<StateNo> + Drop> Running<'a, A, G>
         let shortcut = self.landings.land(&self.machine, from)?;
         // where the terminal is read next, nobody asks what the stack was
         if !matches!(shortcut.action, TableAction::Shift(_)) {
-            before.note(&self.stack, below, first)?;
+            before.note(&self.stack, below)?;
         }
         self.stack.truncate(below);
         self.stack.reserve(1)?;

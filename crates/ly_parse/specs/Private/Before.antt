@@ -12,23 +12,28 @@ use Rattle.ly_parse.specs.declared.level.Level as code
 abbrev pub states_in_levels : List code.Level → List ℕ
 states_in_levels levels = states_in (map (λ l. l.state) levels)
 
+-- the state that stood on top, if one stood there
+abbrev pub top_in : Option StateNo → List ℕ
+top_in (Some top) = top.0 ∷ []
+top_in None = []
+
 -- the states that were popped, and those that are still there
+abbrev pub under_top : List code.Level → Before → List ℕ
+under_top levels b = map (λ s. s.0) b.popped.items ++ states_in_levels (take b.kept levels)
+
+-- what a stack was, by its note
 abbrev pub before_of : List code.Level → Before → List ℕ
-before_of levels b = map (λ s. s.0) b.popped.items ++ states_in_levels (take b.kept levels)
+before_of levels b = top_in b.top ++ under_top levels b
 
 -- the states of levels with another one on top; the bottom alone stays
 abbrev pub levels_with_top : ℕ → List code.Level → List ℕ
 levels_with_top top [] = states_in_levels []
 levels_with_top top (l ∷ levels) = top ∷ states_in_levels (take (length levels) (l ∷ levels))
 
--- what a stack was where a state is told that stood on top, or as a note says
-abbrev pub noted_before : Option StateNo → List code.Level → Before → List ℕ
-noted_before (Some top) levels b = levels_with_top top.0 levels
-noted_before None levels b = before_of levels b
-
 -- the same on a stack as contracts see it
 abbrev pub before_on : List Level → Before → List ℕ
-before_on stack b = map (λ s. s.0) b.popped.items ++ states_on (drop (length stack - b.kept) stack)
+before_on stack b = top_in b.top
+    ++ (map (λ s. s.0) b.popped.items ++ states_on (drop (length stack - b.kept) stack))
 
 -- the states of a stack with another one on top; the bottom alone stays
 abbrev pub with_top : ℕ → List Level → List ℕ
@@ -39,11 +44,6 @@ with_top top (l ∷ stack) = top ∷ states_on stack
 pub record IsNoteOf (states : List ℕ) (stack : List Level) (b : Before) : Type 0 where
   pub kept : b.kept ≤ length stack
   pub same : before_on stack b ≡ states
-
--- the stack had these states: with the state on top that is told, or as the note says
-abbrev pub IsBefore : Option StateNo → List ℕ → List Level → Before → Type 0
-IsBefore (Some top) states stack b = with_top top.0 stack ≡ states
-IsBefore None states stack b = IsNoteOf states stack b
 
 -- the terminal isn't read or accepted yet
 abbrev pub IsOpen : TableAction → Type 0

@@ -1,5 +1,5 @@
 use Rattle.std.proofs.Common.{◌≡◌, ◌++◌, ◌≤◌, length, map, take}
-use Rattle.ly_parse.specs.Private.Before.{before_of}
+use Rattle.ly_parse.specs.Private.Before.{under_top}
 use Rattle.ly_parse.specs.Private.Copied.{states_in}
 use Rattle.ly_parse.proofs.before.Before.states.Given as goal
 
@@ -10,7 +10,7 @@ invariant-loop-place l = l.states.items ≡ map (λ x. x.state) (take l.place l.
 -- those that are left, and what is there
 abbrev pub invariant-loop-left : goal.invariant-loop-left
 invariant-loop-left l = record {
-  same : map (λ s. s.0) (take l.left l.self.popped.items) ++ states_in l.states.items ≡ before_of l.stack l.self;
+  same : map (λ s. s.0) (take l.left l.self.popped.items) ++ states_in l.states.items ≡ under_top l.stack l.self;
   within : l.left ≤ length l.self.popped.items;
 }
 

@@ -205,7 +205,7 @@ returns-clause-noted g c later states before = elim c.if-not-matches.branch [
       subst (IsNoteOf states (stack_from c.self-2.inside.forest c.push_reserved.new.self.items)) (sym w.before-is)
       (note_kept c.args.self.now c.args.number.0 (rule_from c.rule-rule.result.now) c.in-Some.below
       c.self-2.inside.machine c.self-2.inside.forest c.self-2.inside.stack.items w.deref.result.now
-      c.truncate.new.self.items c.push_reserved.new.self.items c.args.first c.args.before.now w.note.new.self
+      c.truncate.new.self.items c.push_reserved.new.self.items c.args.before.now w.note.new.self
       (record { state = c.in_ok-shortcut.shortcut.state; term = c.in_ok-term.term }) states
       (is_cut c.self.inside.machine c.self-2.inside.machine c.self.inside.forest c.self-2.inside.forest
       c.self.inside.stack.items c.self-2.inside.stack.items c.args.self.now c.make.new.self c.self.inside.count

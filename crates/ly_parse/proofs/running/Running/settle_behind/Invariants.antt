@@ -1,9 +1,10 @@
 use Rattle.std.proofs.Common.{◌≡◌, ◌+◌, ◌*◌, length}
-use Rattle.ly_pack.specs.Machine.{action_of, reduce, IsRuleNumber}
+use Rattle.ly_pack.specs.Machine.{action_of, IsLegal}
 use Rattle.ly_pack.specs.Steady.{run_bound}
 use Rattle.ly_pack.specs.SteadyLaws.{reductions}
+use Rattle.ly_pack.specs.Values.{action_from}
 use Rattle.ly_parse.specs.Feeding.{states_on, top_of}
-use Rattle.ly_parse.specs.Private.Before.{with_top, IsBefore}
+use Rattle.ly_parse.specs.Private.Before.{with_top, IsNoteOf, IsOpen}
 use Rattle.ly_parse.proofs.SettleLemmas.{IsWithinRun}
 use Rattle.ly_parse.proofs.running.Running.settle_behind.Given as goal
 
@@ -12,11 +13,11 @@ invariant-loop-next g l = record {
   run : IsWithinRun l.fn.self.machine l.terminal.0 ((run_bound + 1) * length (states_on l.fn.self.stack))
       l.fn.self.stack l.self.stack;
   machine : l.self.machine ≡ l.fn.self.machine;
-  rule : IsRuleNumber l.fn.self.machine l.number.0;
-  action : action_of l.fn.self.machine (top_of l.self.stack) l.terminal.0 ≡ reduce l.number.0;
+  action : action_from l.next ≡ action_of l.fn.self.machine (top_of l.self.stack) l.terminal.0;
+  legal : IsLegal l.fn.self.machine l.terminal.0 (action_from l.next);
   count : l.self.count ≡ l.fn.self.count;
   over : l.self.over ≡ l.fn.self.over;
-  noted : IsBefore l.first (with_top l.fn.first.0 l.fn.self.stack) l.self.stack l.before;
+  noted : IsOpen (action_from l.next) → IsNoteOf (with_top l.fn.first.0 l.fn.self.stack) l.self.stack l.before;
 }
 
 abbrev pub decreases-loop-next : goal.decreases-loop-next

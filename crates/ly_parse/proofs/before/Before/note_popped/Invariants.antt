@@ -1,12 +1,13 @@
 use Rattle.std.proofs.Common.{◌≡◌, ◌+◌, ◌≤◌, length, vec_len}
 use Rattle.std.specs.Prelude.{vec_capacity}
-use Rattle.ly_parse.specs.Private.Before.{before_of, noted_before}
-use Rattle.ly_parse.proofs.before.Before.note.Given as goal
+use Rattle.ly_parse.specs.Private.Before.{under_top}
+use Rattle.ly_parse.proofs.before.Before.note_popped.Given as goal
 
 -- what the stack was stays
 abbrev pub invariant-loop-self : goal.invariant-loop-self
 invariant-loop-self l = record {
-  same : before_of l.stack l.self ≡ noted_before l.fn.first l.stack l.fn.self;
+  same : under_top l.stack l.self ≡ under_top l.stack l.fn.self;
+  top : l.self.top ≡ l.fn.self.top;
   kept : l.self.kept ≤ length l.stack;
   room : vec_len l.self.popped + l.self.kept ≤ vec_capacity l.self.popped + l.height;
 }
