@@ -87,32 +87,45 @@ impl Shortcuts<Landing> {
         ensures not_over { result ≢ Err fault.Over }
         ensures kept { AreShortcuts landing_of (Lands machine.now) self.new }
     {
-        let shortcut = match self.get(from) {
-            Some(shortcut) => shortcut,
-            // in a value of its own, so that its room isn't cleared for a shortcut that is kept
-            None => self.land_by_tables(machine, from)?,
-        };
-        Ok(shortcut)
+        match self.get(from) {
+            Some(shortcut) => Ok(shortcut),
+            None => self.land_by_tables(machine, from.below, from.left, from.terminal),
+        }
     }
 
-    /// The shortcut from a landing by the tables, which is kept then.
-    #[inline(never)] // so that a shortcut that is kept has the registers
+    /// The shortcut from the landing of a term of this left side above this state, by the tables; it is kept then.
+    #[inline(never)] // so that a shortcut that is kept has the registers, and the landing needs no room in memory
     fn land_by_tables<A: Rows<TableAction> + Drop, G: Rows<StateNo> + Drop>(
         &mut self,
         machine: &MachineView<'_, A, G>,
-        from: Landing,
+        below: StateNo,
+        left: Sym,
+        terminal: Sym,
     ) -> Result<Shortcut<Landing>, ParseFault>
         requires machine { IsMachine machine.now }
         requires steady { IsSteady machine.now }
-        requires below { from.below.0 < states_of machine.now }
-        requires left { from.left.0 < machine.now.nonterminals }
-        requires terminal { from.terminal.0 < machine.now.terminals }
+        requires below { below.0 < states_of machine.now }
+        requires left { left.0 < machine.now.nonterminals }
+        requires terminal { terminal.0 < machine.now.terminals }
         requires kept { AreShortcuts landing_of (Lands machine.now) self.old }
-        ensures ok { IfOk result (λ s. IsFrom (Lands machine.now) from s) }
-        ensures faulty { result ≡ Err fault.TableFault → Strands machine.now from }
+        ensures ok { IfOk result (λ s. IsFrom (Lands machine.now) (record {
+          below = below;
+          left = left;
+          terminal = terminal;
+        }) s) }
+        ensures faulty { result ≡ Err fault.TableFault → Strands machine.now (record {
+          below = below;
+          left = left;
+          terminal = terminal;
+        }) }
         ensures not_over { result ≢ Err fault.Over }
         ensures kept { AreShortcuts landing_of (Lands machine.now) self.new }
     {
+        let from = Landing {
+            below,
+            left,
+            terminal,
+        };
         let Some(shortcut) = Shortcut::behind(machine, from) else {
             return Err(ParseFault::TableFault);
         };
