@@ -12,7 +12,8 @@ use Rattle.ly_pack.specs.Machine.{Machine, TableRule, states_of}
 use Rattle.ly_parse.specs.Parse.{Parse}
 use Rattle.ly_parse.proofs.ReduceLemmas.{IsCut}
 use Rattle.ly_parse.specs.Feeding.{Level, states_on, top_of}
-use Rattle.ly_parse.specs.Private.Before.{before_of, before_on, levels_with_top, states_in_levels, top_in, with_top}
+use Rattle.ly_parse.specs.Private.Before.{before_of, before_on, levels_with_top, popped_in, states_in_levels}
+use Rattle.ly_parse.specs.Private.Before.{top_in, with_top}
 use Rattle.ly_parse.specs.Private.Before.{AreAlikeBelow, IsNoteOf, IsOpen}
 use Rattle.ly_parse.specs.Private.Copied.{states_in, upward}
 use Rattle.ly_parse.specs.Private.Stack.{level_from, parse_from, stack_from, IsParse}
@@ -44,7 +45,7 @@ states_levels f levels = sym (states_apart (stack_from f levels) ∙ ap (λ w. w
 pub before_levels : (f : Grown) (levels : List code.Level) (b : Before)
     → before_of levels b ≡ before_on (stack_from f levels) b
 before_levels f levels b =
-    ap (λ w. top_in b.top ++ (map (λ s. s.0) b.popped.items ++ w))
+    ap (λ w. top_in b.top ++ (popped_in b ++ w))
     (states_levels f (take b.kept levels)
     ∙ sym (ap states_on (ap (λ n. drop (n - b.kept) (stack_from f levels)) (length-stack_from f levels)
     ∙ below f levels b.kept)))
@@ -118,7 +119,7 @@ note_kept p n r low m f levels seen left after a b l states h sees cut pushes sa
     = ap (take b.kept) whole ∙ (take-append-le b.kept front (l ∷ []) (omega (arith, size, kept))
     ∙ take-take b.kept low levels kept) in
     noted f after b states (omega (arith, kept, long))
-    (ap (λ w. top_in b.top ++ (map (λ s. s.0) b.popped.items ++ states_in_levels w)) there
+    (ap (λ w. top_in b.top ++ (popped_in b ++ states_in_levels w)) there
     ∙ (subst (λ w. before_of w b ≡ before_of w a) sees same
     ∙ (before_levels f levels a ∙ (ap (λ w. before_on w a) h.stack ∙ before.same))))
 

@@ -15,8 +15,10 @@ pub(crate) struct Before {
     kept: usize,
     /// The state that stood on top, if one stood above the bottom.
     top: Option<StateNo>,
-    /// The states that stood between, the uppermost first.
+    /// The states that stood between, the uppermost first; left from another token, where this one has popped none.
     popped: Vec<StateNo>,
+    /// Whether this token has popped none.
+    fresh: bool,
 }
 
 impl Before {
@@ -28,6 +30,7 @@ impl Before {
             kept: 0,
             top: None,
             popped: Vec::new(alloc),
+            fresh: true,
         }
     }
 
@@ -36,7 +39,8 @@ impl Before {
         ensures kept { self.new.kept ≤ length stack.now }
         ensures before { before_of stack.now self.new ≡ levels_with_top first.0 stack.now }
     {
-        self.popped.clear();
+        // without a look at what was popped before, which a processor would have to guess
+        self.fresh = true;
         match stack.len().checked_sub(1) {
             Some(kept) => {
                 self.kept = kept;
@@ -71,6 +75,10 @@ impl Before {
         ensures low { OnOk result (self.new.kept ≤ height) }
         ensures kept { OnOk result (self.new.kept ≤ length stack.now) }
     {
+        if self.fresh {
+            self.popped.clear();
+            self.fresh = false;
+        }
         self.popped.reserve(self.kept - height)?;
         while height < self.kept {
             self.popped.push_reserved(stack[self.kept - 1].state);
@@ -88,7 +96,7 @@ impl Before {
         for place in 0..self.kept.min(stack.len()) {
             states.push(stack[place].state)?;
         }
-        let mut left = self.popped.len();
+        let mut left = if self.fresh { 0 } else { self.popped.len() };
         while 0 < left {
             left -= 1;
             states.push(self.popped[left])?;

@@ -1,5 +1,5 @@
 -- What a parser's stack was before a token.
-use Rattle.std.specs.Prelude.{◌≡◌, ℕ, ◌-◌, ◌≤◌, List, [], ◌∷◌, ◌++◌, Option, None, Some, drop}
+use Rattle.std.specs.Prelude.{◌≡◌, ℕ, ◌-◌, ◌≤◌, List, [], ◌∷◌, ◌++◌, Option, None, Some, drop, if◌then◌else◌}
 use Rattle.std.specs.Prelude.{length, map, take}
 use Rattle.ly_base.specs.declared.numbers.StateNo.{StateNo}
 use Rattle.ly_pack.specs.Machine.{TableAction, accept, shift}
@@ -17,9 +17,13 @@ abbrev pub top_in : Option StateNo → List ℕ
 top_in (Some top) = top.0 ∷ []
 top_in None = []
 
--- the states that were popped, and those that are still there
+-- the states that stood under it and were popped
+abbrev pub popped_in : Before → List ℕ
+popped_in b = if b.fresh then [] else map (λ s. s.0) b.popped.items
+
+-- these, and the states that are still there
 abbrev pub under_top : List code.Level → Before → List ℕ
-under_top levels b = map (λ s. s.0) b.popped.items ++ states_in_levels (take b.kept levels)
+under_top levels b = popped_in b ++ states_in_levels (take b.kept levels)
 
 -- what a stack was, by its note
 abbrev pub before_of : List code.Level → Before → List ℕ
@@ -33,7 +37,7 @@ levels_with_top top (l ∷ levels) = top ∷ states_in_levels (take (length leve
 -- the same on a stack as contracts see it
 abbrev pub before_on : List Level → Before → List ℕ
 before_on stack b = top_in b.top
-    ++ (map (λ s. s.0) b.popped.items ++ states_on (drop (length stack - b.kept) stack))
+    ++ (popped_in b ++ states_on (drop (length stack - b.kept) stack))
 
 -- the states of a stack with another one on top; the bottom alone stays
 abbrev pub with_top : ℕ → List Level → List ℕ
