@@ -57,8 +57,8 @@ module _ (p : Parse) (token : Token ℕ) (a : Before) (s : Parse)
       → q.stack ≡ record { state = state; term = leaf token.terminal token.bytes } ∷ s.stack
       → q.count ≡ s.count + 1 → Comes (with_note p a) token (with_note q b) answers.Reads
   reads state q b action stack more =
-      let fed = alike token (pushed q.stack) refl (feeds_by p.machine token s.stack (shift state) (pushed q.stack) action
-      (ap (λ w. settles (pushed w)) (sym stack))) in
+      let fed = alike token (pushed q.stack) refl (feeds_by p.machine token s.stack (shift state) (pushed q.stack)
+      action (ap (λ w. settles (pushed w)) (sym stack))) in
       (fed, more ∙ ap (λ n. n + 1) counted)
 
   -- the tables accept

@@ -35,8 +35,8 @@ returns-in-Refuses-clause-call g c at =
     c.self.inside.count true) (record { terminal = 0; at = at; bytes = [] })
     c.args.before.now c.settle.new.self c.in-Refuses.ensures.settled.0 c.in-Refuses.ensures.machine
     c.in-Refuses.ensures.count c.settle.new.before
-    (has_states c.self.inside.machine c.self.inside.forest c.self.inside.stack.items (parse_from c.self.inside.machine c.self.inside.forest c.self.inside.stack.items
-    c.self.inside.count true)
+    (has_states c.self.inside.machine c.self.inside.forest c.self.inside.stack.items
+    (parse_from c.self.inside.machine c.self.inside.forest c.self.inside.stack.items c.self.inside.count true)
     c.self.inside.count true refl c.self.invariant.0) c.in-Refuses.ensures.settled.1
     c.in-Refuses.ensures.settled.2)) (c.in-Refuses.ensures.machine ∙ ap (λ p. p.machine) c.self.view_is)
     c.in-Refuses.ensures.over
