@@ -1,7 +1,7 @@
 -- Lists that are packed and unpacked.
 use Rattle.std.proofs.Common.{◌≡◌, ◌≢◌, ◌<◌, ◌≤◌, ◌+◌, ◌*◌, ◌/◌, ◌%◌, ◌^◌, ◌∙◌, ◌==◌, ℕ, zero, suc, List, [], ◌∷◌, ◌++◌}
 use Rattle.std.proofs.Common.{bit_and, length-drop, Some, drop, get_or, false, refl, sym, ap, subst, arith, inl, inr}
-use Rattle.std.proofs.Common.{length, Contains, nat_eq}
+use Rattle.std.proofs.Common.{length, Contains, nat_eq, zero-add}
 use Rattle.std.proofs.Math.Seq.{drop-cons}
 use Rattle.std.specs.Prelude.{slice_get, AllPairs, ◌-◌, nat_le, if◌then◌else◌}
 use Rattle.std.specs.List.{range_with_len}
@@ -10,12 +10,14 @@ use Rattle.std.proofs.lemmas.Bool.{cases_eq, cases_lt, eq-eqb, le-leb}
 use Rattle.std.proofs.lemmas.List.{append-nil, append_assoc, drop_all, get_or-append-add, get_or_append_left}
 use Rattle.std.proofs.lemmas.List.{get_or_past}
 use Rattle.std.proofs.lemmas.List.Elements.{All-contains, All-from_get_or, Contains-append_left, Contains-append_right}
+use Rattle.std.proofs.lemmas.List.FromFn.{get_or-range_with_len, length-range_with_len}
 use Rattle.std.proofs.lemmas.Nat.Bits.{bit_at-lt, bit_at-zero, bit_at_set_same, bit_at_set_other, shr_and_one}
 use Rattle.ly_base.proofs.MemberLemmas.{Contains-first}
 use Rattle.ly_base.proofs.ListLemmas.{AllPairs-head, AllPairs-tail}
-use Rattle.ly_subset.specs.Private.Packed.{AreWords, breaks_from, breaks_of, members_below, members_of, pack}
+use Rattle.ly_subset.specs.Private.Packed.{AreWords, IsPacked, breaks_from, breaks_of, members_below, members_of, pack}
 use Rattle.ly_subset.specs.Private.Packed.{pack_blocks, pack_from, pack_runs, packed_with, run_of, run_with, runs_from}
 use Rattle.ly_subset.specs.Private.Packed.{unpack, unpack_by, with_number}
+use Rattle.ly_subset.specs.Private.Keys.{IsKeyOf}
 use Rattle.ly_subset.specs.declared.packed.Packing.{Packing}
 use Rattle.ly_subset.specs.declared.packed.Running.{Running}
 
@@ -329,11 +331,47 @@ pub words_of_blocks : (row pairs : List ℕ) (kind : ℕ) → row ≡ kind ∷ p
     → AreWords (unpack_by members_of pairs)
 words_of_blocks row pairs kind is by words = subst (λ r. AreWords (unpack r)) (is ∙ ap (λ k. k ∷ pairs) by) words
 
-pub unpack-blocks : (row pairs : List ℕ) (kind : ℕ) → row ≡ kind ∷ pairs → kind ≡ 0
-    → unpack row ≡ unpack_by members_of pairs
-unpack-blocks row pairs kind is by = ap unpack (is ∙ ap (λ k. k ∷ pairs) by)
+breaks_range : (p n : ℕ) → breaks_from p (range_with_len (p + 1) n) ≡ 0
+breaks_range p zero = refl
+breaks_range p (suc n) = rw (eq-eqb (p + 1) (p + 1) refl) (zero-add (breaks_from (p + 1) (range_with_len (p + 1 + 1) n))
+    ∙ breaks_range (p + 1) n)
 
-pub unpack-runs : (row pairs : List ℕ) (kind : ℕ) → row ≡ kind ∷ pairs → (kind ≡ 0 → ⊥)
-    → unpack row ≡ unpack_by run_of pairs
-unpack-runs row pairs zero is some = absurd (some refl)
-unpack-runs row pairs (suc k) is some = ap unpack is
+runs_range : (first last n : ℕ) → runs_from first last (range_with_len (last + 1) n) ≡ first ∷ (last + n) ∷ []
+runs_range first last zero = ap (λ k. first ∷ k ∷ []) (let same : last ≡ last + 0 = omega arith in same)
+runs_range first last (suc n) = rw (eq-eqb (last + 1) (last + 1) refl)
+    (runs_range first (last + 1) n ∙ ap (λ k. first ∷ k ∷ []) (let same : last + 1 + n ≡ last + suc n = omega arith in same))
+
+-- a span, packed
+pack-run : (first last : ℕ) → first ≤ last → pack (run_of first last) ≡ 1 ∷ first ∷ last ∷ []
+pack-run first last l = ap (λ n. pack (range_with_len first n))
+    (let some : last + 1 - first ≡ suc (last - first) = omega (arith, l) in some)
+    ∙ pack-by_runs (first ∷ range_with_len (first + 1) (last - first))
+    (let none = breaks_range first (last - first) in omega (arith, none))
+    ∙ ap (λ r. 1 ∷ r) (runs_range first first (last - first))
+    ∙ ap (λ k. 1 ∷ first ∷ k ∷ []) (let end : first + (last - first) ≡ last = omega (arith, l) in end)
+
+words_of_run : (first last : ℕ) → first ≤ last → last < 2 ^ 32 → AreWords (run_of first last)
+words_of_run first last l fits i = elim (cases_lt i (last + 1 - first)) [
+  | inl inner ↦ omega (arith, get_or-range_with_len first (last + 1 - first) i 0 inner, inner, fits, l)
+  | inr past ↦ omega (arith, get_or_past (run_of first last) i 0
+      (omega (arith, past, length-range_with_len first (last + 1 - first))))
+]
+
+rising_run : (first last : ℕ) → AllPairs (λ a b. a < b) (run_of first last)
+rising_run first last i j d l m =
+    let n = last + 1 - first in
+    let less : j < n = omega (arith, m, length-range_with_len first n) in
+    let at = get_or-range_with_len first n i d (omega (arith, l, less)) in
+    let next = get_or-range_with_len first n j d less in omega (arith, at, next, l)
+
+-- the key of a span
+pub span_packed : (first last : ℕ) (row : List ℕ) → first ≤ last → last < 2 ^ 32 → row ≡ 1 ∷ first ∷ last ∷ []
+    → IsKeyOf (run_of first last) (unpack row) × IsPacked row
+span_packed first last row l fits is =
+    let back : unpack row ≡ run_of first last = ap unpack is ∙ append-nil (run_of first last) in (
+      subst (IsKeyOf (run_of first last)) (sym back) (record {
+        same = λ q. (λ h. h, λ h. h);
+        rising = rising_run first last;
+      }),
+      (is ∙ sym (pack-run first last l) ∙ ap pack (sym back), subst AreWords (sym back) (words_of_run first last l fits)),
+    )

@@ -1,7 +1,8 @@
-ghost use Rattle.std.specs.Prelude.{◌≡◌, ◌+◌, ◌++◌, ◌∷◌, nat_eq, IfOk, List, OnOk, ℕ};
+ghost use Rattle.std.specs.Prelude.{◌≡◌, ◌+◌, ◌^◌, ◌<◌, ◌≤◌, ◌++◌, [], ◌∷◌, nat_eq, IfOk, List, OnOk, ℕ};
 ghost use Rattle.ly_subset.specs.Private.Packed.{AreWords, breaks_of, members_of, pack, pack_blocks, pack_runs, packed_with};
 ghost use Rattle.ly_subset.specs.Private.Packed.{run_of, run_with, unpack, unpack_by};
 
+use crate::chains::Span;
 use std::alloc::{AllocError, Global};
 
 /// How many numbers a block has: as many as a word has bits.
@@ -78,6 +79,16 @@ pub(crate) fn pack(alloc: Global, numbers: &[u32]) -> Result<Vec<u32>, AllocErro
     } else {
         pack_blocks(alloc, numbers)
     }
+}
+
+/// The packed list of the numbers from the first of a span to its last.
+pub(crate) fn pack_span(alloc: Global, span: Span) -> Result<Vec<u32>, AllocError>
+    requires { span.first ≤ span.last }
+    ensures packed { IfOk result (λ r. r.items ≡ 1 ∷ span.first ∷ span.last ∷ []) }
+    ensures fits { span.last < 2 ^ 32 }
+{
+    let row = vec![in alloc; 1, span.first, span.last]?;
+    Ok(row)
 }
 
 /// How often a number isn't the one after that before it.
