@@ -7,12 +7,15 @@ use Rattle.std.proofs.lemmas.Bool.{cases_eq, cases_lt}
 use Rattle.std.proofs.lemmas.List.{get_or_append_left, get_or_default, get_or_push}
 use Rattle.std.proofs.lemmas.List.Elements.{All-contains, Contains-get_or}
 use Rattle.std.proofs.lemmas.List.FromFn.{get_or-range_with_len, length-range_with_len}
+use Rattle.ly_base.proofs.MemberLemmas.{Contains-none}
 use Rattle.ly_position.specs.Nfa.{Nfa, BeginsChain, GoesOnChain, Follows, Reads, Stepped, follow_of, position_of}
 use Rattle.ly_position.specs.Position.{position_from}
 use Rattle.ly_position.specs.declared.nfa.Position.{Position}
 use Rattle.ly_subset.specs.Private.Chains.{AreChains, IsChain, IsLastReader, IsSpanAfter, ReadsNone}
 use Rattle.ly_subset.specs.Private.Classes.{reads_in}
+use Rattle.ly_subset.specs.Private.Found.{IsEntered, IsLed}
 use Rattle.ly_subset.specs.Private.Packed.{run_of}
+use Rattle.ly_subset.specs.declared.found.Found.{Found}
 use Rattle.ly_subset.proofs.ClassLemmas.{reads_as}
 
 contains_range : (a n q : ℕ) → Contains (range_with_len a n) q ↔ ((a ≤ q) × (q < a + n))
@@ -168,6 +171,15 @@ span_is n firsts ps b last chains within is_last some below =
             (contains_run (first - 1) (last - 1) q).1 (omega (arith, both.0), omega (arith, both.1, top)),
       );
     }
+
+-- where no position reads the byte, none may come
+pub led_none : (n : Nfa) (ps : List ℕ) (b : ℕ) (old new : Found) → ReadsNone n ps b → IsEntered old [] new
+    → IsLed n ps b old new
+led_none n ps b old new none entered = record {
+  members = [];
+  stepped = λ q. (λ h. Contains-none q h, λ s. absurd (none s.0 s.1 s.2));
+  entered = entered;
+}
 
 -- a run has a member, and its last is below a bound that all are below
 pub run_some : (first last : ℕ) → first ≤ last → (q : ℕ) × Contains (run_of first last) q

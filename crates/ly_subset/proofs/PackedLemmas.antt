@@ -353,8 +353,11 @@ pack-run first last l = ap (λ n. pack (range_with_len first n))
 words_of_run : (first last : ℕ) → first ≤ last → last < 2 ^ 32 → AreWords (run_of first last)
 words_of_run first last l fits i = elim (cases_lt i (last + 1 - first)) [
   | inl inner ↦ omega (arith, get_or-range_with_len first (last + 1 - first) i 0 inner, inner, fits, l)
-  | inr past ↦ omega (arith, get_or_past (run_of first last) i 0
-      (omega (arith, past, length-range_with_len first (last + 1 - first))))
+  | inr past ↦ omega (
+    arith,
+    get_or_past (run_of first last) i 0
+        (omega (arith, past, length-range_with_len first (last + 1 - first))),
+  )
 ]
 
 rising_run : (first last : ℕ) → AllPairs (λ a b. a < b) (run_of first last)

@@ -53,12 +53,7 @@ fn first_of(nfa: &PosNfa, before: u32, number: u32) -> u32
 }
 
 /// The last of some rising positions that reads the byte, if there is one. `unread` is a byte that no position reads.
-pub(crate) fn last_reader(
-    nfa: &PosNfa,
-    from: &[u32],
-    byte: u8,
-    unread: Option<u8>,
-) -> Option<u32>
+pub(crate) fn last_reader(nfa: &PosNfa, from: &[u32], byte: u8, unread: Option<u8>) -> Option<u32>
     requires unread { IfSome unread (λ b. (p : ℕ) → Reads nfa.now p b → ⊥) }
     requires from { All (λ p. p < length nfa.now.positions) from.now }
     requires rising { AllPairs (λ p q. p < q) from.now }

@@ -2,7 +2,7 @@ ghost use Rattle.std.specs.Prelude.{◌≡◌, ◌<◌, ◌≤◌, ◌+◌, ◌*
 ghost use Rattle.std.specs.Prelude.{IsErrOf, OnOk};
 ghost use Rattle.ly_position.specs.Nfa.{IsRoomFor, Reads};
 ghost use Rattle.ly_subset.specs.Automaton.{IsAutomaton, start_place};
-ghost use Rattle.ly_subset.specs.Private.Chains.{AreChains, IsLastReader};
+ghost use Rattle.ly_subset.specs.Private.Chains.{AreChains};
 ghost use Rattle.ly_subset.specs.Private.Found.{AreKept, IsFound, IsLed, IsLedPast, IsPast};
 ghost use Rattle.ly_subset.specs.Subsets.{AreSubsets, HasMoreSets};
 
@@ -139,28 +139,25 @@ fn row(
 {
     let from = found.keys.members(found.alloc, state)?;
     for byte in least {
-        match last_reader(nfa, &from, *byte, unread) {
-            None => found.enter_none()?,
-            Some(last) => lead(nfa, found, firsts, &from, *byte, last, into)?,
-        }
+        lead(nfa, found, firsts, &from, *byte, unread, into)?;
     }
     Ok(())
 }
 
-/// Enters what may come after some positions once the byte is read, of which the last one that reads it is known.
+/// Enters what may come after some rising positions once the byte is read. `unread` is a byte that no position reads.
 fn lead(
     nfa: &PosNfa,
     found: &mut Found,
     firsts: &[u32],
     from: &[u32],
     byte: u8,
-    last: u32,
+    unread: Option<u8>,
     into: &mut PositionSet,
 ) -> Result<(), SubsetFault>
     requires firsts { AreChains nfa.now firsts.now }
+    requires unread { IfSome unread (λ b. (p : ℕ) → Reads nfa.now p b → ⊥) }
     requires from { All (λ p. p < length nfa.now.positions) from.now }
     requires rising { AllPairs (λ p q. p < q) from.now }
-    requires last { IsLastReader nfa.now from.now byte last }
     requires room { IsRoomFor nfa.now into.old }
     requires kept { AreKept (length nfa.now.positions) found.old.limit found.old.keys }
     ensures room { IsRoomFor nfa.now into.new }
@@ -171,6 +168,9 @@ fn lead(
     ensures full { IsErrOf result SubsetFault.TooManyStates
         → IsLedPast nfa.now from.now byte found.old.limit found.old.keys }
 {
+    let Some(last) = last_reader(nfa, from, byte, unread) else {
+        return found.enter_none();
+    };
     if let Some(span) = span_after(nfa, firsts, from, byte, last) {
         return found.enter_span(span);
     }

@@ -1,5 +1,4 @@
-use Rattle.std.proofs.Common.{◌∙◌, sym}
-use Rattle.ly_subset.proofs.PackedLemmas.{unpack-blocks, unpack-runs, words_of_blocks}
+use Rattle.ly_subset.proofs.PackedLemmas.{words_of_blocks}
 use Rattle.ly_subset.proofs.packed.unpack.Goals as goal
 
 pub unpack_blocks-requires : goal.unpack_blocks-requires
