@@ -1,5 +1,6 @@
 -- Positions with their follow lists and start lists, and runs over them (McNaughton and Yamada 1960).
-use Rattle.std.specs.Prelude.{◌≡◌, ◌↔◌, ◌⊎◌, ℕ, ◌+◌, ◌-◌, ◌*◌, List, [], ◌∷◌, length, slice_get, slice_index_or, Bool, if◌then◌else◌}
+use Rattle.std.specs.Prelude.{◌≡◌, ◌↔◌, ◌⊎◌, ℕ, ◌+◌, ◌-◌, ◌*◌, List, [], ◌∷◌, length, slice_get, slice_index_or}
+use Rattle.std.specs.Prelude.{Bool, if◌then◌else◌}
 use Rattle.std.specs.Prelude.{Contains, Some}
 use Rattle.ly_position.specs.declared.set.PositionSet.{PositionSet}
 

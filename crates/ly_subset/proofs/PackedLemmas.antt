@@ -166,7 +166,8 @@ unpack_by-pack_runs [] = refl
 unpack_by-pack_runs (x ∷ xs) = unpack_runs_from x x xs (omega arith) ∙ ap (λ ns. ns ++ xs) (run_one x)
 
 pub pack-by_runs : (xs : List ℕ) → breaks_of xs ≤ length xs / 32 → pack xs ≡ 1 ∷ pack_runs xs
-pack-by_runs xs l = ap (λ t. if t then 1 ∷ pack_runs xs else (0 ∷ pack_blocks xs)) (le-leb (breaks_of xs) (length xs / 32) l)
+pack-by_runs xs l = ap (λ t. if t then 1 ∷ pack_runs xs else (0 ∷ pack_blocks xs))
+    (le-leb (breaks_of xs) (length xs / 32) l)
 
 pub pack-by_blocks : (xs : List ℕ) → (breaks_of xs ≤ length xs / 32 → ⊥) → pack xs ≡ 0 ∷ pack_blocks xs
 pack-by_blocks xs l = ap (λ t. if t then 1 ∷ pack_runs xs else (0 ∷ pack_blocks xs))
@@ -304,7 +305,8 @@ module _ (part : ℕ → ℕ → List ℕ) where
   pub unpacked_more : (row : List ℕ) (at : ℕ) (numbers more : List ℕ) → at + 1 < length row
       → more ≡ numbers ++ part (get_or row at 0) (get_or row (at + 1) 0)
       → (numbers ++ unpack_by part (drop at row) ≡ unpack_by part row) × AreWords (unpack_by part (drop at row))
-      → (more ++ unpack_by part (drop (at + 2) row) ≡ unpack_by part row) × AreWords (unpack_by part (drop (at + 2) row))
+      → (more ++ unpack_by part (drop (at + 2) row) ≡ unpack_by part row)
+      × AreWords (unpack_by part (drop (at + 2) row))
   unpacked_more row at numbers more l pushed so =
       let a = get_or row at 0 in
       let b = get_or row (at + 1) 0 in
@@ -339,7 +341,8 @@ breaks_range p (suc n) = rw (eq-eqb (p + 1) (p + 1) refl) (zero-add (breaks_from
 runs_range : (first last n : ℕ) → runs_from first last (range_with_len (last + 1) n) ≡ first ∷ (last + n) ∷ []
 runs_range first last zero = ap (λ k. first ∷ k ∷ []) (let same : last ≡ last + 0 = omega arith in same)
 runs_range first last (suc n) = rw (eq-eqb (last + 1) (last + 1) refl)
-    (runs_range first (last + 1) n ∙ ap (λ k. first ∷ k ∷ []) (let same : last + 1 + n ≡ last + suc n = omega arith in same))
+    (runs_range first (last + 1) n
+    ∙ ap (λ k. first ∷ k ∷ []) (let same : last + 1 + n ≡ last + suc n = omega arith in same))
 
 -- a span, packed
 pack-run : (first last : ℕ) → first ≤ last → pack (run_of first last) ≡ 1 ∷ first ∷ last ∷ []
@@ -376,5 +379,8 @@ span_packed first last row l fits is =
         same = λ q. (λ h. h, λ h. h);
         rising = rising_run first last;
       }),
-      (is ∙ sym (pack-run first last l) ∙ ap pack (sym back), subst AreWords (sym back) (words_of_run first last l fits)),
+      (
+        is ∙ sym (pack-run first last l) ∙ ap pack (sym back),
+        subst AreWords (sym back) (words_of_run first last l fits),
+      ),
     )

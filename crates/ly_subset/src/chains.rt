@@ -1,7 +1,7 @@
-// Where each part of a pattern may be left out, a set has most positions of the pattern, and the set that a byte leads to
-// has most of them again: to join these anew for each set and class takes the square of the positions for each class.
-// Where all that may come after positions is found along a chain, the last position of a set that reads a byte says it
-// at once: just those from before the chain's first up to before that position may come.
+// Where each part of a pattern may be left out, a set has most positions of the pattern, and so has the set that a byte
+// leads to. To join these anew for each set and class takes the square of the positions, for each class. But such
+// positions stand in a chain: after each, just those before it may come, down to where the chain begins. So the last
+// position of a set that reads a byte says at once what all that do lead to, which is kept as a run.
 ghost use Rattle.std.specs.Prelude.{◌≡◌, ◌<◌, ◌-◌, ◌≤◌, ℕ, length, false, All, AllPairs, Contains, IfOk, IfSome};
 ghost use Rattle.std.specs.Prelude.{MatchOption};
 ghost use Rattle.ly_position.specs.Nfa.{Reads};
@@ -25,27 +25,27 @@ pub(crate) struct Span {
 pub(crate) fn chains(alloc: Global, nfa: &PosNfa) -> Result<Vec<u32>, AllocError>
     ensures { IfOk result (λ f. AreChains nfa.now f.items) }
 {
-    let Ok(count) = u32::try_from(nfa.len()) else {
-        return Err(AllocError);
-    };
     let mut firsts = Vec::with_capacity(alloc, nfa.len())?;
     let mut first = 0;
-    for number in 0..count {
+    for number in 0..nfa.len() {
         first = first_of(nfa, first, number);
         firsts.push(first)?;
     }
     Ok(firsts)
 }
 
-/// The first of the chain that a position goes on, by that of the position before it.
-fn first_of(nfa: &PosNfa, before: u32, number: u32) -> u32
+/// The first of the chain that a position goes on, by that of the position before it, or 0 where it goes on none.
+fn first_of(nfa: &PosNfa, before: u32, number: usize) -> u32
     requires number { number < length nfa.now.positions }
     requires before { 0 < before → IsChain nfa.now before (number - 1) }
     ensures { 0 < result → IsChain nfa.now result number }
 {
-    if nfa.begins_chain(number) {
-        number
-    } else if before > 0 && nfa.goes_on_chain(number) {
+    let Ok(position) = u32::try_from(number) else {
+        return 0;
+    };
+    if nfa.begins_chain(position) {
+        position
+    } else if before > 0 && nfa.goes_on_chain(position) {
         before
     } else {
         0

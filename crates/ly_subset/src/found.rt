@@ -1,4 +1,5 @@
-ghost use Rattle.std.specs.Prelude.{◌≡◌, ◌<◌, ◌≤◌, ◌++◌, [], ◌∷◌, ℕ, length, map, All, Contains, IfOk, IsErrOf, OnOk, Ok};
+ghost use Rattle.std.specs.Prelude.{◌≡◌, ◌<◌, ◌≤◌, ◌++◌, [], ◌∷◌, ℕ, length, map, All, Contains, IfOk, IsErrOf, OnOk};
+ghost use Rattle.std.specs.Prelude.{Ok};
 ghost use Rattle.ly_position.specs.Nfa.{IsRoomFor};
 ghost use Rattle.ly_base.specs.Entry.{target_of};
 ghost use Rattle.ly_subset.specs.Private.Found.{AreKept, IsEntered, IsFull, IsKeptSet, IsNumbered, SomeKept};

@@ -1,6 +1,6 @@
 ghost use Rattle.std.specs.Prelude.{◌≡◌, ◌+◌, ◌^◌, ◌<◌, ◌≤◌, ◌++◌, [], ◌∷◌, nat_eq, IfOk, List, OnOk, ℕ};
-ghost use Rattle.ly_subset.specs.Private.Packed.{AreWords, breaks_of, members_of, pack, pack_blocks, pack_runs, packed_with};
-ghost use Rattle.ly_subset.specs.Private.Packed.{run_of, run_with, unpack, unpack_by};
+ghost use Rattle.ly_subset.specs.Private.Packed.{AreWords, breaks_of, members_of, pack, pack_blocks, pack_runs};
+ghost use Rattle.ly_subset.specs.Private.Packed.{packed_with, run_of, run_with, unpack, unpack_by};
 
 use crate::chains::Span;
 use std::alloc::{AllocError, Global};

@@ -9,7 +9,8 @@ returns-then-reads c = last_found c.args.nfa.now c.args.from.now c.args.byte c.r
     c.reads.ensures c.if-reads.true) c.loop-passed.invariant
 
 pub loop-passed-preserved : goal.loop-passed-preserved
-loop-passed-preserved c = passed_more c.args.nfa.now c.args.from.now c.args.byte c.requires.rising c.loop-passed.passed _
+loop-passed-preserved c = passed_more c.args.nfa.now c.args.from.now c.args.byte c.requires.rising
+    c.loop-passed.passed _
     (let l = c.loop-passed-test.true in omega (arith, l))
     (reads_not c.args.nfa.now _ c.position.result c.args.byte c.reads.result c.ranges.byte.fits c.position.ensures
     c.reads.ensures c.if-reads.false) c.loop-passed.invariant
