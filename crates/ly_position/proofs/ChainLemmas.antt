@@ -1,5 +1,5 @@
 -- What may come after the positions of a chain.
-use Rattle.std.proofs.Common.{◌≡◌, ◌⊎◌, inl, inr, ℕ, ◌+◌, ◌-◌, List, Option, Some, None, length}
+use Rattle.std.proofs.Common.{◌≡◌, ◌⊎◌, inl, inr, ℕ, ◌+◌, ◌-◌, List, Some, length}
 use Rattle.std.proofs.Common.{sym, subst, ◌∙◌, arith, refl, ap}
 use Rattle.std.specs.Prelude.{Contains, slice_get, ◌↔◌}
 use Rattle.std.proofs.lemmas.Option.{get_or_from_slice_get, slice_get_within}

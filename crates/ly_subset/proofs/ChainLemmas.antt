@@ -1,6 +1,6 @@
 -- What chains tell of the positions that may come after a set.
 use Rattle.std.proofs.Common.{◌≡◌, ◌<◌, ◌≤◌, ◌+◌, ◌∙◌, ℕ, List, [], ◌∷◌, ◌++◌, Bool, true, false, Some}
-use Rattle.std.proofs.Common.{refl, sym, ap, subst, arith, inl, inr, length, Contains, All, get_or, ◌⊎◌}
+use Rattle.std.proofs.Common.{sym, ap, subst, arith, inl, inr, length, Contains, All, get_or, ◌⊎◌}
 use Rattle.std.specs.Prelude.{AllPairs, ◌↔◌, ◌-◌, slice_get}
 use Rattle.std.specs.List.{range_with_len}
 use Rattle.std.proofs.lemmas.Bool.{cases_eq, cases_lt}
@@ -8,7 +8,7 @@ use Rattle.std.proofs.lemmas.List.{get_or_append_left, get_or_default, get_or_pu
 use Rattle.std.proofs.lemmas.List.Elements.{All-contains, Contains-get_or}
 use Rattle.std.proofs.lemmas.List.FromFn.{get_or-range_with_len, length-range_with_len}
 use Rattle.ly_base.proofs.MemberLemmas.{Contains-none}
-use Rattle.ly_position.specs.Nfa.{Nfa, BeginsChain, GoesOnChain, Follows, Reads, Stepped, follow_of, position_of}
+use Rattle.ly_position.specs.Nfa.{Nfa, BeginsChain, GoesOnChain, Follows, Reads, follow_of, position_of}
 use Rattle.ly_position.specs.Position.{position_from}
 use Rattle.ly_position.specs.declared.nfa.Position.{Position}
 use Rattle.ly_subset.specs.Private.Chains.{AreChains, IsChain, IsLastReader, IsSpanAfter, ReadsNone}

@@ -4,7 +4,7 @@ use Rattle.std.proofs.lemmas.Result.{err_from_is_err_and}
 use Rattle.ly_position.specs.Nfa.{Stepped}
 use Rattle.ly_subset.specs.declared.fault.SubsetFault.TheVariants.{TooManyStates}
 use Rattle.ly_subset.specs.Subsets.{set_at}
-use Rattle.ly_subset.specs.Private.Found.{AreKept, IsPast}
+use Rattle.ly_subset.specs.Private.Found.{IsPast}
 use Rattle.ly_subset.proofs.FoundLemmas.{both_ways, count_entered, entered_kept, entered_longer}
 use Rattle.ly_subset.proofs.FoundLemmas.{past_row, row_found, stepped_same}
 use Rattle.ly_subset.proofs.RuleLemmas.{set_within}

@@ -1,4 +1,4 @@
-use Rattle.std.proofs.Common.{◌<◌, ◌∙◌, ℕ, All, ap, arith, subst, sym, Some}
+use Rattle.std.proofs.Common.{◌∙◌, ap, arith, subst, sym, Some}
 use Rattle.ly_base.specs.Entry.{target_of}
 use Rattle.ly_subset.specs.Private.Found.{AreKept, IsNumbered}
 use Rattle.ly_base.specs.Keys.{IsAbsent}

@@ -1,6 +1,4 @@
-use Rattle.std.proofs.Common.{◌≡◌, ◌≤◌, ◌∙◌, ◌++◌, ap, arith}
-use Rattle.std.specs.Prelude.{◌-◌}
-use Rattle.std.specs.List.{range_with_len}
+use Rattle.std.proofs.Common.{arith}
 use Rattle.ly_subset.proofs.PackedLemmas.{run_ended, run_grown}
 use Rattle.ly_subset.proofs.packed.push_run.Goals as goal
 

@@ -1,4 +1,4 @@
-use Rattle.std.proofs.Common.{◌≡◌, ◌<◌, ◌∙◌, ℕ, All, Contains, subst, sym}
+use Rattle.std.proofs.Common.{◌<◌, All, subst}
 use Rattle.ly_subset.specs.Private.Keys.{IsKeyOf}
 use Rattle.ly_subset.specs.Private.Packed.{unpack}
 use Rattle.ly_subset.proofs.FoundLemmas.{entered_same, full_same, key_within, on_ok_one, set_of_key, some_member}

@@ -1,4 +1,3 @@
-use Rattle.std.proofs.Common.{arith}
 use Rattle.ly_subset.specs.Private.Packed.{run_of, unpack}
 use Rattle.ly_subset.proofs.FoundLemmas.{entered_same, full_same, key_within, on_ok_one, set_of_key}
 use Rattle.ly_subset.proofs.ChainLemmas.{run_some, run_within}
