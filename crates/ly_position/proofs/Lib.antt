@@ -1,4 +1,5 @@
 pub mod AutomatonLemmas
+pub mod ChainLemmas
 pub mod CodeLaws
 pub mod CodePlaces
 pub mod CompileLemmas

@@ -1,5 +1,6 @@
 -- Positions with their follow lists and start lists, and runs over them (McNaughton and Yamada 1960).
-use Rattle.std.specs.Prelude.{◌≡◌, ℕ, ◌+◌, ◌*◌, List, [], ◌∷◌, length, slice_get, slice_index_or, Bool, if◌then◌else◌}
+use Rattle.std.specs.Prelude.{◌≡◌, ◌↔◌, ◌⊎◌, ℕ, ◌+◌, ◌-◌, ◌*◌, List, [], ◌∷◌, length, slice_get, slice_index_or}
+use Rattle.std.specs.Prelude.{Bool, if◌then◌else◌}
 use Rattle.std.specs.Prelude.{Contains, Some}
 use Rattle.ly_position.specs.declared.set.PositionSet.{PositionSet}
 
@@ -36,6 +37,14 @@ Reads nfa p b = Contains (bytes_of (position_of nfa p)) b
 -- position q may come after p
 abbrev pub Follows : Nfa → ℕ → ℕ → Type 0
 Follows nfa p q = Contains (follow_of (position_of nfa p)) q
+
+-- just the position before p may come after p
+abbrev pub BeginsChain : Nfa → ℕ → Type 0
+BeginsChain nfa p = (q : ℕ) → Follows nfa p q ↔ (q + 1 ≡ p)
+
+-- just the position before p, and what may come after that one, may come after p
+abbrev pub GoesOnChain : Nfa → ℕ → Type 0
+GoesOnChain nfa p = (q : ℕ) → Follows nfa p q ↔ ((q + 1 ≡ p) ⊎ Follows nfa (p - 1) q)
 
 -- position q may come after one of the positions that reads b
 abbrev pub Stepped : Nfa → List ℕ → ℕ → ℕ → Type 0

@@ -1,5 +1,6 @@
 -- What contracts of private functions cite: the plan, the program and its links. No public contract rests on it.
 pub mod Assembled
+pub mod Chain
 pub mod Compile
 pub mod Link
 pub mod Plain

@@ -1,5 +1,6 @@
 ghost use Rattle.std.specs.Prelude.{◌≡◌, ℕ, ◌<◌, ◌↔◌, [], length, slice_get, Some, All, Contains, IfOk, IsTrue};
 ghost use Rattle.ly_position.specs.Private.Targets.{StepsTo, SameRoom, target_after};
+ghost use Rattle.ly_position.specs.Private.Chain.{BeginsAt, GoesOnAt, IsBefore, next_of};
 ghost use Rattle.ly_position.specs.Target.{GoOnWithin};
 
 use crate::lists::Lists;
@@ -78,7 +79,8 @@ impl Model for PosNfa {
 }
 
 impl PosNfa {
-    ghost use Rattle.ly_position.specs.Nfa.{Stepped, IsRoomFor, follow_of, position_of, starts_of};
+    ghost use Rattle.ly_position.specs.Nfa.{BeginsChain, GoesOnChain, Stepped, IsRoomFor};
+    ghost use Rattle.ly_position.specs.Nfa.{follow_of, position_of, starts_of};
     ghost use Rattle.ly_position.specs.Position.{nfa_of, position_from};
     ghost use Rattle.ly_position.specs.Target.{TargetsExist};
 
@@ -118,6 +120,23 @@ impl PosNfa {
             Slot::Reads { bytes, .. } => Position::Reads { bytes },
             Slot::Ends(rule) => Position::Ends(rule),
         }
+    }
+
+    /// Whether just the position before a position may come after it. It may say no where it is so.
+    pub fn begins_chain(&self, number: u32) -> bool
+        requires { number < length self.now.positions }
+        ensures { IsTrue result → BeginsChain self.now number }
+    {
+        begins_chain(&self.slots, number)
+    }
+
+    /// Whether just the position before a position, and what may come after that one, may come after it. It may say no
+    /// where it is so.
+    pub fn goes_on_chain(&self, number: u32) -> bool
+        requires { number < length self.now.positions }
+        ensures { IsTrue result → GoesOnChain self.now number }
+    {
+        goes_on_chain(&self.slots, &self.forks, number)
     }
 
     /// The positions that may come first in a condition, where a line begins or elsewhere, each
@@ -180,5 +199,70 @@ fn target_after(slot: &Slot, byte: u8) -> Option<Target>
     match slot {
         Slot::Reads { bytes, next } if bytes.contains(byte) => Some(*next),
         _ => None,
+    }
+}
+
+/// Whether a run goes on from a position at the one before it.
+fn begins_chain(slots: &[Slot], number: u32) -> bool
+    requires { number < length slots.now }
+    ensures { IsTrue result → BeginsAt slots.now number }
+{
+    match next_of(&slots[number as usize]) {
+        Some(next) => is_before(next, number),
+        None => false,
+    }
+}
+
+/// Whether a run goes on from a position at a fork whose sides are the position before it and where that one goes on.
+fn goes_on_chain(slots: &[Slot], forks: &[Fork], number: u32) -> bool
+    requires within { GoOnWithin slots.now forks.now }
+    requires number { number < length slots.now }
+    ensures { IsTrue result → GoesOnAt slots.now forks.now number }
+{
+    if number == 0 {
+        return false;
+    }
+    let lower = next_of(&slots[number as usize - 1]);
+    match (next_of(&slots[number as usize]), lower) {
+        (Some(Target::Fork(fork)), Some(next)) => is_chained(forks[fork as usize], number, next),
+        _ => false,
+    }
+}
+
+/// Whether the sides of a fork are the position before one, and another target.
+fn is_chained(fork: Fork, number: u32, next: Target) -> bool
+    ensures { IsTrue result → IsBefore fork.first number × (fork.second ≡ next) }
+{
+    is_before(fork.first, number) && is_same(fork.second, next)
+}
+
+/// Where a run goes on from a position, if it does.
+fn next_of(slot: &Slot) -> Option<Target>
+    ensures { result ≡ next_of slot.now }
+{
+    match slot {
+        Slot::Reads { next, .. } => Some(*next),
+        Slot::Ends(_) => None,
+    }
+}
+
+/// Whether a target is the position before one.
+fn is_before(target: Target, number: u32) -> bool
+    ensures { IsTrue result → IsBefore target number }
+{
+    match target {
+        Target::Position(before) => number > 0 && before == number - 1,
+        Target::Fork(_) => false,
+    }
+}
+
+/// Whether two targets are one.
+fn is_same(one: Target, other: Target) -> bool
+    ensures { IsTrue result → one ≡ other }
+{
+    match (one, other) {
+        (Target::Position(one), Target::Position(other)) => one == other,
+        (Target::Fork(one), Target::Fork(other)) => one == other,
+        _ => false,
     }
 }

@@ -18,7 +18,7 @@ use Rattle.ly_base.specs.Entry.{target_of}
 use Rattle.ly_subset.specs.declared.found.Found.{Found}
 use Rattle.ly_subset.specs.Automaton.{entry_at}
 use Rattle.ly_subset.specs.Subsets.{IsStateOf, set_at}
-use Rattle.ly_subset.specs.Private.Found.{AreFound, AreKept, IsEntered, IsFound, IsFull, IsNumbered, IsPast}
+use Rattle.ly_subset.specs.Private.Found.{AreFound, AreKept, IsEntered, IsFound, IsFull, IsKeptSet, IsNumbered, IsPast}
 use Rattle.ly_subset.specs.Private.Found.{targets_of}
 use Rattle.ly_base.specs.Keys.{IsAbsent}
 use Rattle.ly_base.proofs.ListLemmas.{rising_one}
@@ -321,6 +321,45 @@ filled_room nfa new old list is room = record {
   positions = ap (λ (s : PositionSet). s.positions.below) is ∙ room.positions;
   forks = ap (λ (s : PositionSet). s.forks.below) is ∙ room.forks;
 }
+
+-- a rising list that isn't empty is its own key
+pub key_of_itself : (set : List ℕ) → IsKeptSet set → IsKeyOf set set
+key_of_itself set so = record { same = λ q. (λ h. h, λ h. h); rising = so.rising }
+
+-- and a key that has a member is kept as a set
+pub set_of_key : (members key : List ℕ) → IsKeyOf members key → (q : ℕ) × Contains members q → IsKeptSet key
+set_of_key members key so some = record { some = (some.0, (so.same some.0).1 some.1); rising = so.rising }
+
+pub key_within : (below : ℕ) (members key : List ℕ) → IsKeyOf members key → All (λ p. p < below) members
+    → All (λ p. p < below) key
+key_within below members key so within i d l = All-contains (λ p. p < below) members (slice_index_or key i d) within
+    ((so.same (slice_index_or key i d)).0 (Contains-get_or key i d l))
+
+-- what was entered, and what was full, said of the same members otherwise
+pub entered_same : (old new : Found) (members others : List ℕ) → ((q : ℕ) → Contains members q ↔ Contains others q)
+    → IsEntered old members new → IsEntered old others new
+entered_same old new members others same so = record {
+  entry = so.entry;
+  numbered = record {
+    more = so.numbered.more;
+    grown = so.numbered.grown;
+    state = state_same new.keys (Contains members) (Contains others) so.entry same so.numbered.state;
+    fresh = so.numbered.fresh;
+  };
+  appended = so.appended;
+}
+
+pub full_same : (limit : ℕ) (sets : List (List ℕ)) (members others : List ℕ)
+    → ((q : ℕ) → Contains members q ↔ Contains others q) → IsFull limit sets members → IsFull limit sets others
+full_same limit sets members others same so = record {
+  full = so.full;
+  some = (so.some.0, (same so.some.0).0 so.some.1);
+  other = λ s l e. so.other s l (λ q. (λ h. (same q).1 ((e q).0 h), λ h. (e q).1 ((same q).0 h)));
+}
+
+pub on_ok_one : {T E : Type 0} (r : Result T E) {P Q : Type 0} → OnOk r P → (P → Q) → OnOk r Q
+on_ok_one (Ok x) p f = f p
+on_ok_one (Err x) p f = tt
 
 -- what follows from what holds at Ok
 pub on_ok_both : {T E : Type 0} (r : Result T E) {P Q R : Type 0} → OnOk r P → OnOk r Q → (P → Q → R) → OnOk r R

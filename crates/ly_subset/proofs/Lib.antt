@@ -1,3 +1,4 @@
+pub mod ChainLemmas
 pub mod ClassLemmas
 pub mod DfaLemmas
 pub mod FoundLemmas

@@ -1,4 +1,5 @@
 -- What the contracts of private functions cite.
+pub mod Chains
 pub mod Classes
 pub mod Found
 pub mod Keys

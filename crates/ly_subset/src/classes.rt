@@ -132,7 +132,7 @@ fn is_read(nfa: &PosNfa, byte: u8) -> bool
 }
 
 /// Whether a position reads the byte.
-fn reads(position: &Position, byte: u8) -> bool
+pub(crate) fn reads(position: &Position, byte: u8) -> bool
     ensures { result ≡ reads_in position.now byte }
 {
     match position {

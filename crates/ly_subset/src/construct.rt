@@ -1,10 +1,12 @@
-ghost use Rattle.std.specs.Prelude.{◌≡◌, ◌<◌, ◌≤◌, ◌+◌, ◌*◌, ◌↔◌, ℕ, List, length, All, Contains, IfOk, IfSome};
+ghost use Rattle.std.specs.Prelude.{◌≡◌, ◌<◌, ◌≤◌, ◌+◌, ◌*◌, ◌↔◌, ℕ, List, length, All, AllPairs, IfOk, IfSome};
 ghost use Rattle.std.specs.Prelude.{IsErrOf, OnOk};
-ghost use Rattle.ly_position.specs.Nfa.{IsRoomFor, Reads, Stepped};
+ghost use Rattle.ly_position.specs.Nfa.{IsRoomFor, Reads};
 ghost use Rattle.ly_subset.specs.Automaton.{IsAutomaton, start_place};
-ghost use Rattle.ly_subset.specs.Private.Found.{IsFound, IsPast};
+ghost use Rattle.ly_subset.specs.Private.Chains.{AreChains};
+ghost use Rattle.ly_subset.specs.Private.Found.{AreKept, IsFound, IsLed, IsLedPast, IsPast};
 ghost use Rattle.ly_subset.specs.Subsets.{AreSubsets, HasMoreSets};
 
+use crate::chains::{chains, last_reader, span_after};
 use crate::classes::{byte_classes, unread_byte};
 use crate::dfa::Dfa;
 use crate::fault::SubsetFault;
@@ -99,10 +101,11 @@ fn rows(nfa: &PosNfa, found: &mut Found, least: &[u8]) -> Result<(), SubsetFault
         IsPast nfa.now found.old.starts least.now found.old.limit }
 {
     let mut into = nfa.set(found.alloc)?;
+    let firsts = chains(found.alloc, nfa)?;
     let unread = unread_byte(nfa, least);
     let mut state = 0;
     while state < found.keys.len() {
-        row(nfa, found, least, unread, &mut into, state)?;
+        row(nfa, found, &firsts, least, unread, &mut into, state)?;
         state += 1;
     }
     Ok(())
@@ -112,12 +115,14 @@ fn rows(nfa: &PosNfa, found: &mut Found, least: &[u8]) -> Result<(), SubsetFault
 fn row(
     nfa: &PosNfa,
     found: &mut Found,
+    firsts: &[u32],
     least: &[u8],
     unread: Option<u8>,
     into: &mut PositionSet,
     state: usize,
 ) -> Result<(), SubsetFault>
     requires unread { IfSome unread (λ b. (p : ℕ) → Reads nfa.now p b → ⊥) }
+    requires firsts { AreChains nfa.now firsts.now }
     requires room { IsRoomFor nfa.now into.old }
     requires found { IsFound nfa.now least.now found.old }
     requires state { state < length found.old.keys }
@@ -134,24 +139,41 @@ fn row(
 {
     let from = found.keys.members(found.alloc, state)?;
     for byte in least {
-        come(nfa, &from, *byte, unread, into);
-        found.enter(into)?;
+        lead(nfa, found, firsts, &from, *byte, unread, into)?;
     }
     Ok(())
 }
 
-/// Makes a set that of the positions that may come after some, once the byte is read. `unread` is a byte that no
-/// position reads.
-fn come(nfa: &PosNfa, from: &[u32], byte: u8, unread: Option<u8>, into: &mut PositionSet)
+/// Enters what may come after some rising positions once the byte is read. `unread` is a byte that no position reads.
+fn lead(
+    nfa: &PosNfa,
+    found: &mut Found,
+    firsts: &[u32],
+    from: &[u32],
+    byte: u8,
+    unread: Option<u8>,
+    into: &mut PositionSet,
+) -> Result<(), SubsetFault>
+    requires firsts { AreChains nfa.now firsts.now }
     requires unread { IfSome unread (λ b. (p : ℕ) → Reads nfa.now p b → ⊥) }
     requires from { All (λ p. p < length nfa.now.positions) from.now }
-    requires into { IsRoomFor nfa.now into.old }
-    ensures members { (q : ℕ) → Contains into.new.positions.members q
-        ↔ Stepped nfa.now from.now byte q }
-    ensures into { IsRoomFor nfa.now into.new }
+    requires rising { AllPairs (λ p q. p < q) from.now }
+    requires room { IsRoomFor nfa.now into.old }
+    requires kept { AreKept (length nfa.now.positions) found.old.limit found.old.keys }
+    ensures room { IsRoomFor nfa.now into.new }
+    ensures led { OnOk result (IsLed nfa.now from.now byte found.old found.new) }
+    ensures kept { OnOk result (AreKept (length nfa.now.positions) found.new.limit found.new.keys) }
+    ensures starts { found.new.starts ≡ found.old.starts }
+    ensures limit { found.new.limit ≡ found.old.limit }
+    ensures full { IsErrOf result SubsetFault.TooManyStates
+        → IsLedPast nfa.now from.now byte found.old.limit found.old.keys }
 {
-    match unread {
-        Some(none) if none == byte => into.fill(&[]),
-        _ => nfa.step(from, byte, into),
+    let Some(last) = last_reader(nfa, from, byte, unread) else {
+        return found.enter_none();
+    };
+    if let Some(span) = span_after(nfa, firsts, from, byte, last) {
+        return found.enter_span(span);
     }
+    nfa.step(from, byte, into);
+    found.enter(into)
 }

@@ -1,10 +1,13 @@
-ghost use Rattle.std.specs.Prelude.{◌≡◌, ◌<◌, ◌++◌, [], ◌∷◌, length, map, Contains, IfOk, IsErrOf, OnOk, Ok};
+ghost use Rattle.std.specs.Prelude.{◌≡◌, ◌<◌, ◌≤◌, ◌++◌, [], ◌∷◌, ℕ, length, map, All, Contains, IfOk, IsErrOf, OnOk};
+ghost use Rattle.std.specs.Prelude.{Ok};
 ghost use Rattle.ly_position.specs.Nfa.{IsRoomFor};
 ghost use Rattle.ly_base.specs.Entry.{target_of};
-ghost use Rattle.ly_subset.specs.Private.Found.{AreKept, IsEntered, IsFull, IsNumbered};
+ghost use Rattle.ly_subset.specs.Private.Found.{AreKept, IsEntered, IsFull, IsKeptSet, IsNumbered, SomeKept};
+ghost use Rattle.ly_subset.specs.Private.Packed.{IsPacked, run_of, unpack};
 
+use crate::chains::Span;
 use crate::fault::SubsetFault;
-use crate::keys::key_of;
+use crate::keys::{key_of, span_key};
 use crate::sets::Sets;
 use ly_base::Entry;
 use ly_position::PositionSet;
@@ -52,29 +55,71 @@ impl Found {
         ensures full { IsErrOf result SubsetFault.TooManyStates →
             IsFull self.old.limit self.old.keys set.now.positions.members }
     {
-        let entry = number(self.alloc, &mut self.keys, self.limit, set)?;
+        let members = set.members();
+        if members.is_empty() {
+            return self.enter_none();
+        }
+        let key = key_of(self.alloc, members)?;
+        self.enter_key(key)
+    }
+
+    /// Appends the entry that leads to the set of a span.
+    pub(crate) fn enter_span(&mut self, span: Span) -> Result<(), SubsetFault>
+        requires rises { span.first ≤ span.last }
+        requires kept { SomeKept self.old.limit self.old.keys }
+        ensures entered { OnOk result (IsEntered self.old (run_of span.first span.last) self.new) }
+        ensures kept { OnOk result ((below : ℕ) → AreKept below self.old.limit self.old.keys → span.last < below
+            → AreKept below self.new.limit self.new.keys) }
+        ensures starts { self.new.starts ≡ self.old.starts }
+        ensures limit { self.new.limit ≡ self.old.limit }
+        ensures full { IsErrOf result SubsetFault.TooManyStates →
+            IsFull self.old.limit self.old.keys (run_of span.first span.last) }
+    {
+        let key = span_key(self.alloc, span)?;
+        self.enter_key(key)
+    }
+
+    /// Appends an entry that leads nowhere.
+    pub(crate) fn enter_none(&mut self) -> Result<(), SubsetFault>
+        ensures entered { OnOk result (IsEntered self.old [] self.new) }
+        ensures keys { self.new.keys ≡ self.old.keys }
+        ensures starts { self.new.starts ≡ self.old.starts }
+        ensures limit { self.new.limit ≡ self.old.limit }
+        ensures room { IsErrOf result SubsetFault.TooManyStates → ⊥ }
+    {
+        self.entries.push(Entry::none())?;
+        Ok(())
+    }
+
+    /// Appends the entry that leads to the set of a key.
+    fn enter_key(&mut self, key: Vec<u32>) -> Result<(), SubsetFault>
+        requires packed { IsPacked key.items }
+        requires set { IsKeptSet (unpack key.items) }
+        requires kept { SomeKept self.old.limit self.old.keys }
+        ensures entered { OnOk result (IsEntered self.old (unpack key.items) self.new) }
+        ensures kept { OnOk result ((below : ℕ) → AreKept below self.old.limit self.old.keys
+            → All (λ p. p < below) (unpack key.items) → AreKept below self.new.limit self.new.keys) }
+        ensures starts { self.new.starts ≡ self.old.starts }
+        ensures limit { self.new.limit ≡ self.old.limit }
+        ensures full { IsErrOf result SubsetFault.TooManyStates →
+            IsFull self.old.limit self.old.keys (unpack key.items) }
+    {
+        let entry = number(&mut self.keys, self.limit, key)?;
         self.entries.push(entry)?;
         Ok(())
     }
 }
 
-/// The entry that leads to a set, which is added where it is a new one.
-fn number(
-    alloc: Global,
-    keys: &mut Sets,
-    limit: u32,
-    set: &PositionSet,
-) -> Result<Entry, SubsetFault>
-    requires { AreKept set.now.positions.below limit keys.old }
-    ensures numbered { IfOk result (λ e. IsNumbered keys.old set.now.positions.members keys.new (target_of e)) }
-    ensures kept { OnOk result (AreKept set.now.positions.below limit keys.new) }
-    ensures full { IsErrOf result SubsetFault.TooManyStates → IsFull limit keys.old set.now.positions.members }
+/// The entry that leads to the set of a key, which is added where it is a new one.
+fn number(keys: &mut Sets, limit: u32, key: Vec<u32>) -> Result<Entry, SubsetFault>
+    requires packed { IsPacked key.items }
+    requires set { IsKeptSet (unpack key.items) }
+    requires kept { SomeKept limit keys.old }
+    ensures numbered { IfOk result (λ e. IsNumbered keys.old (unpack key.items) keys.new (target_of e)) }
+    ensures kept { OnOk result ((below : ℕ) → AreKept below limit keys.old
+        → All (λ p. p < below) (unpack key.items) → AreKept below limit keys.new) }
+    ensures full { IsErrOf result SubsetFault.TooManyStates → IsFull limit keys.old (unpack key.items) }
 {
-    let members = set.members();
-    if members.is_empty() {
-        return Ok(Entry::none());
-    }
-    let key = key_of(alloc, members)?;
     if let Some(known) = keys.find(&key) {
         return Ok(Entry::to(known as u32));
     }

@@ -10,6 +10,7 @@
 //! Left out: states that no string tells apart are still two.
 #![tactic(auto)]
 
+mod chains;
 mod classes;
 mod construct;
 mod dfa;

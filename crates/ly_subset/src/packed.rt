@@ -1,12 +1,14 @@
-ghost use Rattle.std.specs.Prelude.{◌≡◌, ◌++◌, ◌∷◌, IfOk, List, OnOk, ℕ};
-ghost use Rattle.ly_subset.specs.Private.Packed.{AreWords, members_below, pack, packed_with, unpack};
+ghost use Rattle.std.specs.Prelude.{◌≡◌, ◌+◌, ◌^◌, ◌<◌, ◌≤◌, ◌++◌, [], ◌∷◌, nat_eq, IfOk, List, OnOk, ℕ};
+ghost use Rattle.ly_subset.specs.Private.Packed.{AreWords, breaks_of, members_of, pack, pack_blocks, pack_runs};
+ghost use Rattle.ly_subset.specs.Private.Packed.{packed_with, run_of, run_with, unpack, unpack_by};
 
+use crate::chains::Span;
 use std::alloc::{AllocError, Global};
 
 /// How many numbers a block has: as many as a word has bits.
 const BLOCK: u32 = 32;
 
-/// A list that is being packed.
+/// A list that is being packed by blocks.
 #[derive(Drop)]
 struct Packing {
     /// The blocks that are done.
@@ -33,17 +35,108 @@ impl Packing {
     }
 }
 
-/// Packs a rising list: for each block that has members, its number and a bit for each. So the row is at most twice as
-/// long as the list, and takes at most two bits for each number that there is.
+/// A list whose runs are being packed.
+#[derive(Drop)]
+struct Running {
+    /// The runs that are done.
+    row: Vec<u32>,
+    /// The first number of the last run.
+    first: u32,
+    /// Its last number so far.
+    last: u32,
+}
+
+impl Running {
+    /// Adds the number that comes next.
+    fn add(&mut self, number: u32) -> Result<(), AllocError>
+        ensures { OnOk result ((ns : List ℕ) → run_with self.new ns ≡ run_with self.old (number ∷ ns)) }
+    {
+        if !is_next(self.last, number) {
+            self.row.push(self.first)?;
+            self.row.push(self.last)?;
+            self.first = number;
+        }
+        self.last = number;
+        Ok(())
+    }
+}
+
+/// Whether a number is the one after another.
+fn is_next(before: u32, number: u32) -> bool
+    ensures { result ≡ nat_eq number (before + 1) }
+{
+    number > 0 && number - 1 == before
+}
+
+/// Packs a rising list by its runs where these are long, else by blocks, and says first which it is. So the row is at
+/// most three words longer than twice the list, and takes little more than two bits for each number that there is.
 pub(crate) fn pack(alloc: Global, numbers: &[u32]) -> Result<Vec<u32>, AllocError>
     ensures packed { IfOk result (λ r. r.items ≡ pack numbers.now) }
     ensures words { AreWords numbers.now }
 {
+    if breaks(numbers) <= numbers.len() / BLOCK as usize {
+        pack_runs(alloc, numbers)
+    } else {
+        pack_blocks(alloc, numbers)
+    }
+}
+
+/// The packed list of the numbers from the first of a span to its last.
+pub(crate) fn pack_span(alloc: Global, span: Span) -> Result<Vec<u32>, AllocError>
+    requires { span.first ≤ span.last }
+    ensures packed { IfOk result (λ r. r.items ≡ 1 ∷ span.first ∷ span.last ∷ []) }
+    ensures fits { span.last < 2 ^ 32 }
+{
+    let row = vec![in alloc; 1, span.first, span.last]?;
+    Ok(row)
+}
+
+/// How often a number isn't the one after that before it.
+fn breaks(numbers: &[u32]) -> usize
+    ensures { result ≡ breaks_of numbers.now }
+{
+    let mut count = 0usize;
+    for at in 1..numbers.len() {
+        if !is_next(numbers[at - 1], numbers[at]) {
+            count += 1;
+        }
+    }
+    count
+}
+
+/// Packs by runs: for each its first and its last number.
+fn pack_runs(alloc: Global, numbers: &[u32]) -> Result<Vec<u32>, AllocError>
+    ensures { IfOk result (λ r. r.items ≡ 1 ∷ pack_runs numbers.now) }
+{
+    let mut row = Vec::new(alloc);
+    row.push(1)?;
     let Some(first) = numbers.first() else {
-        return Ok(Vec::new(alloc));
+        return Ok(row);
+    };
+    let mut running = Running {
+        row,
+        first: *first,
+        last: *first,
+    };
+    for at in 1..numbers.len() {
+        running.add(numbers[at])?;
+    }
+    running.row.push(running.first)?;
+    running.row.push(running.last)?;
+    Ok(running.row)
+}
+
+/// Packs by blocks: for each that has members, its number and a bit for each.
+fn pack_blocks(alloc: Global, numbers: &[u32]) -> Result<Vec<u32>, AllocError>
+    ensures { IfOk result (λ r. r.items ≡ 0 ∷ pack_blocks numbers.now) }
+{
+    let mut row = Vec::new(alloc);
+    row.push(0)?;
+    let Some(first) = numbers.first() else {
+        return Ok(row);
     };
     let mut packing = Packing {
-        row: Vec::new(alloc),
+        row,
         block: *first / BLOCK,
         bits: 0,
     };
@@ -60,6 +153,18 @@ pub(crate) fn unpack(alloc: Global, row: &[u32]) -> Result<Vec<u32>, AllocError>
     requires { AreWords (unpack row.now) }
     ensures { IfOk result (λ m. m.items ≡ unpack row.now) }
 {
+    match row.split_first() {
+        None => Ok(Vec::new(alloc)),
+        Some((kind, pairs)) if *kind == 0 => unpack_blocks(alloc, pairs),
+        Some((_, pairs)) => unpack_runs(alloc, pairs),
+    }
+}
+
+/// The numbers of blocks.
+fn unpack_blocks(alloc: Global, row: &[u32]) -> Result<Vec<u32>, AllocError>
+    requires { AreWords (unpack_by members_of row.now) }
+    ensures { IfOk result (λ m. m.items ≡ unpack_by members_of row.now) }
+{
     let mut numbers = Vec::new(alloc);
     for pair in 0..row.len() / 2 {
         push_members(&mut numbers, row[2 * pair], row[2 * pair + 1])?;
@@ -67,10 +172,32 @@ pub(crate) fn unpack(alloc: Global, row: &[u32]) -> Result<Vec<u32>, AllocError>
     Ok(numbers)
 }
 
+/// The numbers of runs.
+fn unpack_runs(alloc: Global, row: &[u32]) -> Result<Vec<u32>, AllocError>
+    requires { AreWords (unpack_by run_of row.now) }
+    ensures { IfOk result (λ m. m.items ≡ unpack_by run_of row.now) }
+{
+    let mut numbers = Vec::new(alloc);
+    for pair in 0..row.len() / 2 {
+        push_run(&mut numbers, row[2 * pair], row[2 * pair + 1])?;
+    }
+    Ok(numbers)
+}
+
+/// Appends the numbers of a run.
+fn push_run(numbers: &mut Vec<u32>, first: u32, last: u32) -> Result<(), AllocError>
+    ensures { OnOk result (numbers.new.items ≡ numbers.old.items ++ run_of first last) }
+{
+    for number in u64::from(first)..u64::from(last) + 1 {
+        numbers.push(number as u32)?;
+    }
+    Ok(())
+}
+
 /// Appends the members of a block.
 fn push_members(numbers: &mut Vec<u32>, block: u32, bits: u32) -> Result<(), AllocError>
-    requires { AreWords (members_below block bits 32) }
-    ensures { OnOk result (numbers.new.items ≡ numbers.old.items ++ members_below block bits 32) }
+    requires { AreWords (members_of block bits) }
+    ensures { OnOk result (numbers.new.items ≡ numbers.old.items ++ members_of block bits) }
 {
     for bit in 0..BLOCK {
         if bits >> bit & 1 == 1 {

@@ -14,6 +14,15 @@ pub record AreKept (below limit : ℕ) (sets : List (List ℕ)) : Type 0 where
   pub rising : (s : ℕ) → s < length sets → AllPairs (λ a b. a < b) (set_at sets s)
   pub few : length sets ≤ limit
 
+-- such are the sets, below some bound
+abbrev pub SomeKept : ℕ → List (List ℕ) → Type 0
+SomeKept limit sets = (below : ℕ) × AreKept below limit sets
+
+-- A set that is kept has a member, and its members rise.
+pub record IsKeptSet (set : List ℕ) : Type 0 where
+  pub some : (q : ℕ) × Contains set q
+  pub rising : AllPairs (λ a b. a < b) set
+
 -- The entry leads to the set of these members, which was added where it was a new one.
 pub record IsNumbered (old : List (List ℕ)) (members : List ℕ) (new : List (List ℕ)) (entry : Option ℕ) : Type 0 where
   pub more : List (List ℕ)
@@ -36,6 +45,18 @@ pub record IsFull (limit : ℕ) (sets : List (List ℕ)) (members : List ℕ) : 
   pub full : limit ≤ length sets
   pub some : (q : ℕ) × Contains members q
   pub other : (s : ℕ) → s < length sets → ((q : ℕ) → Contains (set_at sets s) q ↔ Contains members q) → ⊥
+
+-- The entry that was appended leads to the set of what may come after some positions once the byte is read.
+pub record IsLed (nfa : Nfa) (ps : List ℕ) (b : ℕ) (old new : Found) : Type 0 where
+  pub members : List ℕ
+  pub stepped : (q : ℕ) → Contains members q ↔ Stepped nfa ps b q
+  pub entered : IsEntered old members new
+
+-- There are as many sets as the limit allows, and that of what may come after some positions is another one.
+pub record IsLedPast (nfa : Nfa) (ps : List ℕ) (b limit : ℕ) (sets : List (List ℕ)) : Type 0 where
+  pub members : List ℕ
+  pub stepped : (q : ℕ) → Contains members q ↔ Stepped nfa ps b q
+  pub full : IsFull limit sets members
 
 -- The first entries lead to the start lists, and those after them to what the sets of the states come to by the bytes
 -- of the classes; numbers have appeared in their order, each before its row.

@@ -1,10 +1,10 @@
 use Rattle.std.proofs.Common.{◌≡◌, ◌<◌, ◌∙◌, ℕ, All, ap, arith, refl, subst, sym, Contains, length, Err}
-use Rattle.std.specs.Prelude.{◌↔◌}
+use Rattle.std.specs.Prelude.{AllPairs, ◌↔◌}
 use Rattle.std.proofs.lemmas.Result.{err_from_is_err_and}
 use Rattle.ly_position.specs.Nfa.{Stepped}
 use Rattle.ly_subset.specs.declared.fault.SubsetFault.TheVariants.{TooManyStates}
 use Rattle.ly_subset.specs.Subsets.{set_at}
-use Rattle.ly_subset.specs.Private.Found.{AreKept, IsPast}
+use Rattle.ly_subset.specs.Private.Found.{IsPast}
 use Rattle.ly_subset.proofs.FoundLemmas.{both_ways, count_entered, entered_kept, entered_longer}
 use Rattle.ly_subset.proofs.FoundLemmas.{past_row, row_found, stepped_same}
 use Rattle.ly_subset.proofs.RuleLemmas.{set_within}
@@ -23,57 +23,61 @@ loop-byte-init c = record {
   limit = refl;
 }
 
-pub come-requires-clause-from : goal.come-requires-clause-from
-come-requires-clause-from c = subst (λ ps. All (λ p. p < length c.args.nfa.now.positions) ps)
+pub lead-requires-clause-from : goal.lead-requires-clause-from
+lead-requires-clause-from c = subst (λ ps. All (λ p. p < length c.args.nfa.now.positions) ps)
     (sym (c.deref.ensures.value ∙ c.in_ok-from.ensures))
     (set_within (length c.args.nfa.now.positions) c.args.found.now.keys c.args.state c.requires.found.kept.are_sets)
 
-pub returns-in_err-enter-clause-past : goal.returns-in_err-enter-clause-past
-returns-in_err-enter-clause-past c = λ failed.
-    let p = err_from_is_err_and c.from_residual-in_err-enter.result c.from_residual-in_err-enter.ensures.1 in
+pub lead-requires-clause-rising : goal.lead-requires-clause-rising
+lead-requires-clause-rising c = subst (λ ps. AllPairs (λ p q. p < q) ps)
+    (sym (c.deref.ensures.value ∙ c.in_ok-from.ensures)) (c.requires.found.kept.rising c.args.state c.requires.state)
+
+pub returns-in_err-lead-clause-past : goal.returns-in_err-lead-clause-past
+returns-in_err-lead-clause-past c = λ failed.
+    let p = err_from_is_err_and c.from_residual-in_err-lead.result c.from_residual-in_err-lead.ensures.1 in
     let was = c.loop-byte.invariant in
     let nfa = c.args.nfa.now in
     let from = c.deref.result.now in
     let set = subst (λ xs. (q : ℕ) → Contains xs q ↔ Contains (set_at c.loop-byte.found.keys c.args.state) q)
     (sym c.deref.ensures.value) was.set in
-    let members = c.come.new.into.positions.members in
-    let same : c.in_err-enter.field-0.0 ≡ TooManyStates = let a = p.1 in let b = p.2 in cc in
+    let same : c.in_err-lead.field-0.0 ≡ TooManyStates = let a = p.1 in let b = p.2 in cc in
+    let past = c.in_err-lead.ensures.full (ap (λ e. Err e) same) in
     subst (λ n. IsPast nfa n c.args.least.now c.args.found.now.limit) was.starts
     (subst (λ n. IsPast nfa c.loop-byte.found.starts c.args.least.now n) was.limit
-    (past_row nfa c.args.least.now c.loop-byte.found members c.args.state c.loop-byte.byte-index was.found
-    (c.in_err-enter.ensures.full (ap (λ e. Err e) same)) was.state c.loop-byte-test.true
-    (both_ways (Contains members) (Stepped nfa from _) (Stepped nfa (set_at c.loop-byte.found.keys c.args.state) _)
-    c.come.ensures.members (stepped_same nfa from (set_at c.loop-byte.found.keys c.args.state) _ set))))
+    (past_row nfa c.args.least.now c.loop-byte.found past.members c.args.state c.loop-byte.byte-index was.found
+    past.full was.state c.loop-byte-test.true
+    (both_ways (Contains past.members) (Stepped nfa from _) (Stepped nfa (set_at c.loop-byte.found.keys c.args.state) _)
+    past.stepped (stepped_same nfa from (set_at c.loop-byte.found.keys c.args.state) _ set))))
 
 pub loop-byte-preserved : goal.loop-byte-preserved
 loop-byte-preserved c =
     let nfa = c.args.nfa.now in
     let least = c.args.least.now in
     let was = c.loop-byte.invariant in
-    let members = c.come.new.into.positions.members in
+    let led = c.in_ok-lead.ensures.led in
+    let members = led.members in
     let set = subst (λ xs. (q : ℕ) → Contains xs q ↔ Contains (set_at c.loop-byte.found.keys c.args.state) q)
     (sym c.deref.ensures.value) was.set in
-    let entered = c.in_ok-enter.ensures.entered in
-    let more = count_entered nfa least c.loop-byte.found c.enter.new.self members was.found entered
-    c.in_ok-enter.ensures.starts c.in_ok-enter.ensures.limit in
-    let longer = entered_longer nfa least c.loop-byte.found c.enter.new.self members was.found entered
-    c.in_ok-enter.ensures.starts c.in_ok-enter.ensures.limit in
+    let entered = led.entered in
+    let more = count_entered nfa least c.loop-byte.found c.lead.new.found members was.found entered
+    c.in_ok-lead.ensures.starts c.in_ok-lead.ensures.limit in
+    let longer = entered_longer nfa least c.loop-byte.found c.lead.new.found members was.found entered
+    c.in_ok-lead.ensures.starts c.in_ok-lead.ensures.limit in
     record {
-      room = c.come.ensures.into;
-      found = row_found nfa least c.loop-byte.found c.enter.new.self members was.found entered
-          c.in_ok-enter.ensures.starts c.in_ok-enter.ensures.limit c.args.state c.loop-byte.byte-index
-          (subst (λ n. AreKept n c.enter.new.self.limit c.enter.new.self.keys) c.come.ensures.into.positions
-          c.in_ok-enter.ensures.kept) was.state c.loop-byte-test.true was.at
+      room = c.in_ok-lead.ensures.room;
+      found = row_found nfa least c.loop-byte.found c.lead.new.found members was.found entered
+          c.in_ok-lead.ensures.starts c.in_ok-lead.ensures.limit c.args.state c.loop-byte.byte-index
+          c.in_ok-lead.ensures.kept was.state c.loop-byte-test.true was.at
           (both_ways (Contains members) (Stepped nfa c.deref.result.now _)
-          (Stepped nfa (set_at c.loop-byte.found.keys c.args.state) _) c.come.ensures.members
+          (Stepped nfa (set_at c.loop-byte.found.keys c.args.state) _) led.stepped
           (stepped_same nfa c.deref.result.now (set_at c.loop-byte.found.keys c.args.state) _
           set));
       state = let less = was.state in omega (arith, longer);
       set = subst (λ xs. (q : ℕ) → Contains c.in_ok-from.from.items q ↔ Contains xs q)
-          (sym (entered_kept nfa least c.loop-byte.found c.enter.new.self members was.found entered
-          c.in_ok-enter.ensures.starts c.in_ok-enter.ensures.limit c.args.state was.state)) was.set;
-      at = let at = was.at in let same = c.in_ok-enter.ensures.starts in omega (arith, more);
+          (sym (entered_kept nfa least c.loop-byte.found c.lead.new.found members was.found entered
+          c.in_ok-lead.ensures.starts c.in_ok-lead.ensures.limit c.args.state was.state)) was.set;
+      at = let at = was.at in let same = c.in_ok-lead.ensures.starts in omega (arith, more);
       longer = let before = was.longer in omega (arith, longer);
-      starts = c.in_ok-enter.ensures.starts ∙ was.starts;
-      limit = c.in_ok-enter.ensures.limit ∙ was.limit;
+      starts = c.in_ok-lead.ensures.starts ∙ was.starts;
+      limit = c.in_ok-lead.ensures.limit ∙ was.limit;
     }
