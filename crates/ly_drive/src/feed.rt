@@ -104,7 +104,7 @@ impl<'a> Feed<'a> {
             return Ok(Need::More);
         }
         let start = self.window.place();
-        let place = match run_on(self.set, &self.lexer, &mut self.parser, start, false)? {
+        let place = match run_on(self.alloc, self.set, &self.lexer, &mut self.parser, start, false)? {
             Halt::At(place) => place,
             Halt::Flawed(flaw) => {
                 let (outcome, lines) = told(self.alloc, self.set, flaw)?;
@@ -156,7 +156,7 @@ impl<'a> Feed<'a> {
     {
         self.over = true;
         let place = self.window.place();
-        let ended = run_to_end(self.set, &self.lexer, &mut self.parser, place)?;
+        let ended = run_to_end(self.alloc, self.set, &self.lexer, &mut self.parser, place)?;
         write_ended(self.alloc, self.set, self.parser.forest(), ended, writer)
     }
 }

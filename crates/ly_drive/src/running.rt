@@ -16,9 +16,10 @@ use crate::run_fault::RunFault;
 use ly_base::{Emitted, End, Front, Lexeme, OutOfMemory, Place, ScanAction, StateNo, Sym};
 use ly_pack::{Comb, TableAction};
 use ly_parse::{Answer, ParseFault, Parser, Refusal, Step, Token};
-use ly_scan::Lexer;
+use ly_scan::{KnownWalks, Lexer};
 use ly_tables::TableSet;
 use ly_tree::TermRef;
+use std::alloc::Global;
 
 /// The parser of a table set.
 pub(crate) type TableParser<'a> = Parser<'a, Comb<TableAction>, Comb<StateNo>>;
@@ -36,6 +37,7 @@ pub(crate) enum Halt<'t> {
 /// decided which one comes next, whatever comes behind these bytes; where the text has ended behind them, to its end.
 /// Answers what is wrong with the text as soon as that is known. The place is a value, so that it has registers.
 pub(crate) fn run_on<'t>(
+    alloc: Global,
     set: &TableSet,
     lexer: &Lexer,
     parser: &mut TableParser<'_>,
@@ -50,8 +52,9 @@ pub(crate) fn run_on<'t>(
         parser.new result }
     ensures machine { parser.new.machine ≡ parser.old.machine }
 {
+    let mut known = KnownWalks::new(alloc);
     loop {
-        let lexeme = match lexer.next(&mut place, ended) {
+        let lexeme = match lexer.next(&mut place, &mut known, ended) {
             Ok(Some(lexeme)) => lexeme,
             Ok(None) => return Ok(Halt::At(place)),
             // the text has ended
@@ -171,6 +174,7 @@ pub(crate) enum Ended<'t> {
 
 /// Runs scanner and parser from a place to the end of the text, which stands behind the bytes that are left there.
 pub(crate) fn run_to_end<'t>(
+    alloc: Global,
     set: &TableSet,
     lexer: &Lexer,
     parser: &mut TableParser<'_>,
@@ -184,7 +188,7 @@ pub(crate) fn run_to_end<'t>(
         parser.new.forest result }
     ensures machine { parser.new.machine ≡ parser.old.machine }
 {
-    match run_on(set, lexer, parser, place, true)? {
+    match run_on(alloc, set, lexer, parser, place, true)? {
         Halt::At(place) => close(parser, &place),
         Halt::Flawed(flaw) => Ok(Ended::Refused(flaw)),
     }

@@ -1,14 +1,17 @@
 -- A lexer over a text that comes in pieces.
-use Rattle.std.proofs.Common.{◌≡◌, ℕ, List, ◌++◌, Option, Some, None, false, is_some, subst, sym}
+use Rattle.std.proofs.Common.{◌≡◌, ℕ, List, ◌++◌, Option, Some, None, arith, false, is_some, subst, sym}
 use Rattle.std.specs.Prelude.{Bool, IfSome, MatchOption}
 use Rattle.ly_base.specs.Lexed.{Place, moved}
+use Rattle.ly_scan.proofs.KnownWalkLemmas.{known_on}
 use Rattle.ly_scan.proofs.MatcherLemmas.{not_ended}
+use Rattle.ly_scan.specs.KnownWalks.{AreKnown, Known}
 use Rattle.ly_scan.specs.Lexer.{Scanner}
 use Rattle.ly_scan.specs.LoneBytes.{IsLoneAt}
 use Rattle.ly_scan.specs.Matcher.{IsDecided, IsUnderway, StandsBehind, Underway}
 use Rattle.ly_scan.specs.Lexers.{IsUnderwayAt, Lexer, scanner_of}
-use Rattle.ly_scan.specs.Pieces.{IsUndecided, PassesOver, and_one, behind}
+use Rattle.ly_scan.specs.Pieces.{IsUndecided, PassesOver, and_one, behind, none_yet}
 use Rattle.ly_scan.specs.StateTable.{StandsIn, StateTable, ahead_at}
+use Rattle.ly_scan.specs.Walk.{Walk}
 use Rattle.ly_scan.specs.declared.matching.Match.{Match}
 use Rattle.ly_scan.specs.declared.state_rows.RowStart.{RowStart}
 
@@ -60,3 +63,12 @@ pub passes_one : (s : Scanner) (passed : List Bool) (p q r : Place) → PassesOv
     → r ≡ moved q 1 None → PassesOver s passed p r
 passes_one s passed p q r so_far one at = subst (PassesOver s passed p) (sym at)
     (and_one one.lexeme so_far one.stands one.one one.is_passed)
+
+-- what is known at a place is known behind lexemes of one byte that are passed over
+pub known_passed : (s : Scanner) (passed : List Bool) (ahead : ℕ → Walk) (ended : Bool) (known : Known) (q r : Place)
+    → PassesOver s passed q r → AreKnown ahead ended q.rest known → AreKnown ahead ended r.rest known
+known_passed s passed ahead ended known q r none_yet h = h
+known_passed s passed ahead ended known q r (and_one {r = m} t on stands one is_passed) h =
+    let some = stands.some in let within = stands.within in
+    known_on ahead ended m.rest known 1 (omega (arith, some, within))
+    (known_passed s passed ahead ended known q m on h)

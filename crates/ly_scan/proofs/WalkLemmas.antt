@@ -94,6 +94,16 @@ pub told : (o : Option (Option ℕ)) (a : Option ℕ) → true ≡ is_some o →
 told None a h k = search rules
 told (Some b) a h k = ap (λ z. Some z) (sym k)
 
+-- one more byte that a walk goes on over, and the best of the beginnings
+pub best_stepped : (walk here there : Walk) (text : List ℕ) (i : ℕ) (rule : Option RuleNo)
+    (best : Option (ℕ × RuleNo)) → i < length text → ((more : List ℕ) → here more ≡ walk (take i text ++ more))
+    → ((more : List ℕ) → there more ≡ here (get_or text i 0 ∷ more)) → is_some (there []) ≡ true
+    → IfSome (there []) (λ r. option_map (λ r. r.0) rule ≡ r) → IsBest walk text i best
+    → IsBest walk text (i + 1) (better_of best (i + 1) rule)
+best_stepped walk here there text i rule best lt stands on alive accepts h = best_next walk text i rule best
+    (ap walk (sym (append-nil (take (i + 1) text))) ∙ sym (stands_next walk here there text i lt stands on [])
+    ∙ told (there []) (option_map (λ r. r.0) rule) (sym alive) accepts) h
+
 -- a walk that has ended before its first byte has no rule anywhere
 pub none_from_start : (walk : Walk) (text : List ℕ) → ((t u : List ℕ) → walk t ≡ None → walk (t ++ u) ≡ None)
     → walk [] ≡ None → (m s : ℕ) → 1 ≤ m → m ≤ length text → walk (take m text) ≡ Some (Some s) → ⊥

@@ -1,4 +1,5 @@
 pub mod Cuts
+pub mod KnownWalks
 pub mod Lexer
 pub mod Lexers
 pub mod LoneBytes

@@ -1,3 +1,4 @@
+pub mod KnownWalks
 pub mod Matching
 pub mod Scanner
 pub mod StateRows

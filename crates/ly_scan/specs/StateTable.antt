@@ -46,6 +46,10 @@ cut_at t rule = unwrap_or (slice_get t.cuts rule) Whole
 abbrev pub ahead_at : StateTable → RowStart → Walk
 ahead_at t at = ahead_of (states_of t) (Some (state_at at))
 
+-- and from a state
+abbrev pub ahead_in : StateTable → ℕ → Walk
+ahead_in t state = ahead_of (states_of t) (Some state)
+
 -- a walk may stand there
 abbrev pub StandsIn : StateTable → RowStart → Type 0
 StandsIn t at = Begins at × (state_at at < length t.rules)

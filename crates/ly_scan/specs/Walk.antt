@@ -1,5 +1,5 @@
 -- The longest walk that has a rule.
-use Rattle.std.specs.Prelude.{◌≡◌, ◌<◌, ◌≤◌, ℕ, List, Option, Some, None, MatchOption, take}
+use Rattle.std.specs.Prelude.{◌≡◌, ◌<◌, ◌≤◌, ◌++◌, ℕ, List, [], Option, Some, None, MatchOption, is_some, take, true}
 use Rattle.ly_base.specs.declared.numbers.RuleNo.{RuleNo}
 
 -- what a walk says of a text: None where it has ended, else the rule there, if there is one
@@ -25,3 +25,13 @@ IsBest walk text bound best = MatchOption best (HasNone walk text bound) (λ p. 
 abbrev pub better_of : Option (ℕ × RuleNo) → ℕ → Option RuleNo → Option (ℕ × RuleNo)
 better_of best n (Some r) = Some (n, r)
 better_of best n None = best
+
+-- a walk that has ended stays so
+abbrev pub StaysEnded : Walk → Type 0
+StaysEnded walk = (text more : List ℕ) → walk text ≡ None → walk (text ++ more) ≡ None
+
+-- a walk may begin there, and hasn't ended
+pub record IsStart (stands : Type 0) (ahead : Walk) : Type 0 where
+  pub there : stands
+  pub alive : is_some (ahead []) ≡ true
+  pub ends : StaysEnded ahead

@@ -1,31 +1,37 @@
 ghost use Rattle.std.specs.Prelude.{◌≡◌, ℕ, false, IfErr, IfOk, MatchOption};
+ghost use Rattle.ly_scan.specs.KnownWalks.{AreKnown};
 ghost use Rattle.ly_scan.specs.Lexer.{Scanner};
 ghost use Rattle.ly_scan.specs.Pieces.{EndsFast, IsUndecided, StandsFast};
 
+use crate::known_walks::KnownWalks;
 use crate::matching::{Match, known_match};
 use crate::steps::Steps;
 use ly_base::{End, Lexeme, Place};
 
 /// What is taken at a place of a text: the longest match there, its rule, and the token that the rule's cut leaves. Or
 /// how a run over the text ends there. `ended` says that no more of the text comes: else the answer is what it is
-/// whatever comes behind the bytes that are left, and None where these don't decide.
+/// whatever comes behind the bytes that are left, and None where these don't decide. What is known of walks over these
+/// bytes is used, and grows.
 #[inline(always)] // as `known_match`
 pub fn next_lexeme<S: Steps>(
     steps: &S,
     place: &Place<'_>,
+    known: &mut KnownWalks,
     ended: bool,
 ) -> Result<Option<Lexeme>, End>
+    requires known { AreKnown (S.ahead_by steps.now) ended place.now.rest known.old }
     ensures found { let s : Scanner = record { walk = S.walk steps.now; cut = S.cut_of steps.now } in
         IfOk result (λ o. MatchOption o ((ended ≡ false) × IsUndecided s place.now) (StandsFast ended s place.now)) }
     ensures end { let s : Scanner = record { walk = S.walk steps.now; cut = S.cut_of steps.now } in
         IfErr result (EndsFast ended s place.now) }
+    ensures known { AreKnown (S.ahead_by steps.now) ended place.now.rest known.new }
 {
     let rest = place.rest();
     if rest.is_empty() {
         return if ended { Err(End::Clean) } else { Ok(None) };
     }
     let line = line_at(steps, place);
-    let Some(found) = known_match(steps, place.condition(), line, rest, ended) else {
+    let Some(found) = known_match(steps, known, place.condition(), line, rest, ended) else {
         return Ok(None);
     };
     match found {

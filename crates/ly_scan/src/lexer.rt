@@ -1,9 +1,11 @@
-ghost use Rattle.std.specs.Prelude.{◌≡◌, ◌<◌, ◌≤◌, ◌+◌, ◌^◌, false, true, length, IfErr, IfOk, IfSome, MatchOption};
+ghost use Rattle.std.specs.Prelude.{◌≡◌, ◌<◌, ◌≤◌, ◌+◌, ◌^◌, ℕ, drop, false, true, length, IfErr, IfOk, IfSome, MatchOption};
 ghost use Rattle.ly_base.specs.Lexed.{Place as Spot};
+ghost use Rattle.ly_scan.specs.KnownWalks.{AreKnown};
 ghost use Rattle.ly_scan.specs.Lexers.{scanner_of, IsUnderwayAt};
 ghost use Rattle.ly_scan.specs.Pieces.{behind, EndsFast, IsUndecided, PassesOver, StandsFast};
-ghost use Rattle.ly_scan.specs.StateTable.{StandsIn};
+ghost use Rattle.ly_scan.specs.StateTable.{ahead_in, StandsIn};
 
+use crate::known_walks::KnownWalks;
 use crate::lexeme::next_lexeme;
 use crate::lone_bytes::LoneBytes;
 use crate::matcher::Matcher;
@@ -59,18 +61,26 @@ impl Lexer {
 
     /// Passes over lexemes of one byte, and answers what is taken behind them, or how a run over the text ends there.
     /// `ended` says that no more of the text comes: else the answer is what it is whatever comes behind the bytes that
-    /// are left, and None where these don't decide.
+    /// are left, and None where these don't decide. What is known of walks over these bytes is used, and grows.
     #[inline(always)] // by a call what the loop reads of the scanner is read anew for each lexeme
-    pub fn next(&self, place: &mut Place<'_>, ended: bool) -> Result<Option<Lexeme>, End>
+    pub fn next(
+        &self,
+        place: &mut Place<'_>,
+        known: &mut KnownWalks,
+        ended: bool,
+    ) -> Result<Option<Lexeme>, End>
+        requires known { AreKnown (ahead_in self.now.scanner) ended place.old.rest known.old }
         ensures passed { PassesOver (scanner_of self.now.scanner) self.now.passed place.old place.new }
         ensures left { length place.new.rest ≤ length place.old.rest }
         ensures found { let s = scanner_of self.now.scanner in
             IfOk result (λ o. MatchOption o ((ended ≡ false) × IsUndecided s place.new)
             (StandsFast ended s place.new)) }
         ensures end { IfErr result (EndsFast ended (scanner_of self.now.scanner) place.new) }
+        ensures known { (taken : ℕ) → taken ≤ length place.new.rest
+            → AreKnown (ahead_in self.now.scanner) ended (drop taken place.new.rest) known.new }
     {
         self.pass_over(place);
-        next_lexeme(&self.scanner, place, ended)
+        next_lexeme(&self.scanner, place, known, ended)
     }
 
     /// The match at a place where the bytes that are left don't decide it: all of them have come.

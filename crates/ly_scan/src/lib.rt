@@ -6,10 +6,13 @@
 //! where its bytes come in pieces. `LoneBytes` tells some lexemes that are passed over by two bytes, without a walk.
 //! The program's one walk is that of a `Scanner`, which is plain rows (`StateTable`), and a `Lexer` runs it.
 //!
-//! Left out: what the rules mean, which a walk knows, and memory of walks that failed (a text on which a longer match
-//! fails again and again takes time by its square).
+//! What walks over a text have shown is kept where they went far (`KnownWalks`), so that a text takes no more time than
+//! it is long, whatever the rules.
+//!
+//! Left out: what the rules mean, which a walk knows.
 #![tactic(auto)]
 
+mod known_walks;
 mod lexeme;
 mod lexer;
 mod lone_bytes;
@@ -20,6 +23,7 @@ mod scanner_parts;
 mod state_rows;
 mod steps;
 
+pub use known_walks::KnownWalks;
 pub use lexeme::next_lexeme;
 pub use lexer::Lexer;
 pub use lone_bytes::LoneBytes;

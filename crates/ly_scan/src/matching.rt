@@ -1,13 +1,18 @@
 ghost use Rattle.std.specs.Prelude.{◌≡◌, ◌≢◌, ◌<◌, ◌≤◌, ◌+◌, ℕ, List, [], ◌++◌, length, take, true, false, is_some};
 ghost use Rattle.std.specs.Prelude.{IfSome, None};
 ghost use Rattle.ly_scan.specs.Cuts.{token_len};
+ghost use Rattle.ly_scan.specs.KnownWalks.{AreKnown};
 ghost use Rattle.ly_scan.specs.Matching.{IsMatch};
 ghost use Rattle.ly_scan.specs.Private.Matching.{found};
 ghost use Rattle.ly_scan.specs.Pieces.{CanFollow};
-ghost use Rattle.ly_scan.specs.Walk.{IsBest, Walk, better_of};
+ghost use Rattle.ly_scan.specs.Walk.{IsBest, IsStart, Walk, better_of};
 
+use crate::known_walks::{KnownWalks, Longest};
 use crate::steps::Steps;
 use ly_base::{Cut, RuleNo};
+
+/// A walk that goes on for so many bytes has gone far.
+const FAR: usize = 64;
 
 /// What was found at the front of a text.
 #[derive(Clone, Copy, Debug, PartialEq, Eq)]
@@ -33,30 +38,35 @@ pub enum Match {
 pub fn next_match<S: Steps>(steps: &S, condition: u32, at_line_start: bool, rest: &[u8]) -> Match
     ensures { IsMatch (S.walk steps.now condition at_line_start) (S.cut_of steps.now) rest.now result }
 {
-    match known_match(steps, condition, at_line_start, rest, true) {
-        Some(found) => found,
-        // the end decides
-        None => unreachable!(),
+    match steps.start(condition, at_line_start) {
+        Some(start) => match_of(steps, best_of_all(steps, start, rest)),
+        None => Match::Stuck,
     }
 }
 
 /// The match at the front of some bytes, whatever comes behind them; `ended` says that nothing does. None where it
-/// isn't decided.
+/// isn't decided. A walk that went far for a match that ends before is kept among those that are known.
 #[inline(always)] // by a call a lexeme takes a third more instructions
 pub(crate) fn known_match<S: Steps>(
     steps: &S,
+    known: &mut KnownWalks,
     condition: u32,
     at_line_start: bool,
     bytes: &[u8],
     ended: bool,
 ) -> Option<Match>
+    requires known { AreKnown (S.ahead_by steps.now) ended bytes.now known.old }
     ensures undecided { result ≡ None → (ended ≡ false) × (S.walk steps.now condition at_line_start bytes.now ≢ None) }
     ensures decided { IfSome result (λ m. (more : List ℕ) → CanFollow ended more
         → IsMatch (S.walk steps.now condition at_line_start) (S.cut_of steps.now) (bytes.now ++ more) m) }
+    ensures known { AreKnown (S.ahead_by steps.now) ended bytes.now known.new }
 {
     let Some(start) = steps.start(condition, at_line_start) else {
         return Some(Match::Stuck);
     };
+    if known.reaches(bytes.len()) {
+        return match_by_known(steps, known, start, bytes, ended);
+    }
     let (passed, at) = walk_on(steps, start, bytes);
     if passed == bytes.len() && !ended {
         return None;
@@ -64,13 +74,34 @@ pub(crate) fn known_match<S: Steps>(
     // most walks end where a rule matches, so it is looked for there first
     let found = match steps.accept(at) {
         Some(rule) if 0 < passed => Some((passed, rule)),
-        _ => best_passed(steps, condition, at_line_start, bytes).found(),
+        _ if passed < FAR => best_passed(steps, start, bytes).found(),
+        _ => return match_by_known(steps, known, start, bytes, ended),
     };
     Some(match_of(steps, found))
 }
 
+/// The match from where a walk starts, by what is known of others.
+#[inline(never)] // so that the walk that goes on has the registers
+fn match_by_known<S: Steps>(
+    steps: &S,
+    known: &mut KnownWalks,
+    start: S::At,
+    bytes: &[u8],
+    ended: bool,
+) -> Option<Match>
+    requires start { IsStart (S.stands steps.now start) (S.ahead steps.now start) }
+    requires known { AreKnown (S.ahead_by steps.now) ended bytes.now known.old }
+    ensures undecided { result ≡ None → (ended ≡ false) × (S.ahead steps.now start bytes.now ≢ None) }
+    ensures decided { IfSome result (λ m. (more : List ℕ) → CanFollow ended more
+        → IsMatch (S.ahead steps.now start) (S.cut_of steps.now) (bytes.now ++ more) m) }
+    ensures known { AreKnown (S.ahead_by steps.now) ended bytes.now known.new }
+{
+    let longest = known.find(steps, start, bytes, ended)?;
+    Some(match_of(steps, longest))
+}
+
 /// The match of the longest walk that has a rule, if there is one.
-pub(crate) fn match_of<S: Steps>(steps: &S, found: Option<(usize, RuleNo)>) -> Match
+pub(crate) fn match_of<S: Steps>(steps: &S, found: Longest) -> Match
     ensures { (walk : Walk) (text : List ℕ) → IsBest walk text (length text) found
         → IsMatch walk (S.cut_of steps.now) text result }
 {
@@ -110,25 +141,20 @@ fn walk_on<S: Steps>(steps: &S, start: S::At, bytes: &[u8]) -> (usize, S::At)
 
 /// The best of the places that a walk passes.
 #[inline(never)] // so that the walk that goes on has the registers
-fn best_passed<S: Steps>(steps: &S, condition: u32, at_line_start: bool, rest: &[u8]) -> Best
-    ensures { IsBest (S.walk steps.now condition at_line_start) rest.now (length rest.now) (found result) }
+fn best_passed<S: Steps>(steps: &S, start: S::At, rest: &[u8]) -> Best
+    requires start { IsStart (S.stands steps.now start) (S.ahead steps.now start) }
+    ensures { IsBest (S.ahead steps.now start) rest.now (length rest.now) (found result) }
 {
-    Best::of(best_of_all(steps, condition, at_line_start, rest))
+    Best::of(best_of_all(steps, start, rest))
 }
 
 /// The best of the places that a walk passes, place by place.
-fn best_of_all<S: Steps>(
-    steps: &S,
-    condition: u32,
-    at_line_start: bool,
-    rest: &[u8],
-) -> Option<(usize, RuleNo)>
-    ensures { IsBest (S.walk steps.now condition at_line_start) rest.now (length rest.now) result }
+fn best_of_all<S: Steps>(steps: &S, start: S::At, rest: &[u8]) -> Longest
+    requires start { IsStart (S.stands steps.now start) (S.ahead steps.now start) }
+    ensures { IsBest (S.ahead steps.now start) rest.now (length rest.now) result }
 {
+    let mut at = start;
     let mut best = None;
-    let Some(mut at) = steps.start(condition, at_line_start) else {
-        return best;
-    };
     for (passed, byte) in rest.iter().enumerate() {
         let Some(next) = steps.step(at, *byte) else {
             return best;
@@ -140,11 +166,7 @@ fn best_of_all<S: Steps>(
 }
 
 /// The better of two answers: the longer one, where it has a rule.
-pub(crate) fn better(
-    best: Option<(usize, RuleNo)>,
-    length: usize,
-    rule: Option<RuleNo>,
-) -> Option<(usize, RuleNo)>
+pub(crate) fn better(best: Longest, length: usize, rule: Option<RuleNo>) -> Longest
     ensures { result ≡ better_of best length rule }
 {
     match rule {
@@ -176,7 +198,7 @@ struct Best {
 
 impl Best {
     /// That of an answer.
-    fn of(best: Option<(usize, RuleNo)>) -> Best
+    fn of(best: Longest) -> Best
         requires { IfSome best (λ b. 0 < b.0) }
         ensures { found result ≡ best }
     {
@@ -190,7 +212,7 @@ impl Best {
     }
 
     /// The answer.
-    fn found(self) -> Option<(usize, RuleNo)>
+    fn found(self) -> Longest
         ensures { result ≡ found self }
     {
         if self.length == 0 {

@@ -2,7 +2,7 @@ ghost use Rattle.std.specs.Bool.{OnTrue};
 ghost use Rattle.std.specs.Prelude.{◌≡◌, ◌<◌, ℕ, Some, false, length, IfSome, All, option_map};
 ghost use Rattle.ly_base.specs.declared.cut.Cut.TheVariants.{Whole};
 ghost use Rattle.ly_scan.specs.StateRows.{state_at, Begins};
-ghost use Rattle.ly_scan.specs.StateTable.{ahead_at, cut_at, start_at, states_of, table_from};
+ghost use Rattle.ly_scan.specs.StateTable.{ahead_at, ahead_in, cut_at, start_at, states_of, table_from};
 ghost use Rattle.ly_scan.specs.StateTable.{LeadsWithin, StandsIn};
 ghost use Rattle.ly_scan.specs.StateWalk.{ahead_of-ended, state_walk, MindsNoLine};
 
@@ -80,6 +80,8 @@ impl Steps for Scanner {
 
     ghost stands = { StandsIn };
 
+    ghost ahead_by = { ahead_in };
+
     ghost cut_of = { cut_at };
 
     fn start(&self, condition: u32, at_line_start: bool) -> Option<RowStart> {
@@ -95,6 +97,10 @@ impl Steps for Scanner {
 
     fn step(&self, at: RowStart, byte: u8) -> Option<RowStart> {
         self.parts.rows.next(at, byte)
+    }
+
+    fn number(&self, at: RowStart) -> usize {
+        at.state()
     }
 
     fn accept(&self, at: RowStart) -> Option<RuleNo> {

@@ -20,6 +20,9 @@ pub trait Steps {
     /// Whether the walk may stand there.
     ghost stands: { Self → Self.At → Type 0 };
 
+    /// What the walk says of the bytes that come, from where one of this number stands.
+    ghost ahead_by: { Self → ℕ → Walk };
+
     /// What a rule's matches are cut down to.
     ghost cut_of: { Self → ℕ → Cut };
 
@@ -42,6 +45,11 @@ pub trait Steps {
         ensures stands { IfSome result (stands self.now) }
         ensures there { IfSome result (λ next. (text : List ℕ)
             → ahead self.now next text ≡ ahead self.now at (byte ∷ text)) };
+
+    /// The number of where the walk stands, which says all of what is ahead.
+    fn number(&self, at: Self::At) -> usize
+        requires { stands self.now at }
+        ensures { (text : List ℕ) → ahead self.now at text ≡ ahead_by self.now result text };
 
     /// The rule that matches the bytes so far, if there is one.
     fn accept(&self, at: Self::At) -> Option<RuleNo>

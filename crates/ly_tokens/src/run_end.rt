@@ -11,11 +11,12 @@ ghost use Rattle.ly_tokens.specs.Private.TokenLines.{is_passed};
 use crate::token_lines::condition_set;
 use ly_base::{End, Place};
 use ly_lexread::{Action, LexFile};
-use ly_scan::{Lexer, Steps};
+use ly_scan::{KnownWalks, Lexer, Steps};
+use std::alloc::Global;
 
 /// How the run over a text ends. Where each byte alone has a rule in every condition it is clean, whatever the text is;
 /// else the text is walked over once.
-pub(crate) fn run_end(lexer: &Lexer, text: &[u8], file: &LexFile) -> End
+pub(crate) fn run_end(alloc: Global, lexer: &Lexer, text: &[u8], file: &LexFile) -> End
     requires passed { lexer.now.passed ≡ map is_passed file.now.actions.items }
     requires below { AreSetBelow file.now.actions.items file.now.conditions }
     requires some { 0 < file.now.conditions }
@@ -26,7 +27,7 @@ pub(crate) fn run_end(lexer: &Lexer, text: &[u8], file: &LexFile) -> End
     if begins_everywhere(lexer.scanner(), file.conditions) {
         return End::Clean;
     }
-    walked_end(lexer, text, &file.actions)
+    walked_end(alloc, lexer, text, &file.actions)
 }
 
 /// Whether each byte alone has a rule, in each of so many conditions.
@@ -75,13 +76,14 @@ fn has_rule<S: Steps>(steps: &S, condition: u32, line: bool, byte: u8) -> bool
 }
 
 /// How the run over a text ends, by a walk over the text.
-fn walked_end(lexer: &Lexer, text: &[u8], actions: &[Action]) -> End
+fn walked_end(alloc: Global, lexer: &Lexer, text: &[u8], actions: &[Action]) -> End
     requires { lexer.now.passed ≡ map is_passed actions.now }
     ensures { EndsSo (scanner_of lexer.now.scanner) actions.now text.now result }
 {
     let mut place = Place::start(text);
+    let mut known = KnownWalks::new(alloc);
     loop {
-        match lexer.next(&mut place, true) {
+        match lexer.next(&mut place, &mut known, true) {
             Ok(Some(lexeme)) => place.advance(lexeme.taken, condition_set(actions, lexeme.rule)),
             Err(end) => return end,
             // the end decides

@@ -14,13 +14,14 @@ ghost use Rattle.ly_tokens.specs.Private.TokenLines.{is_passed, name_len, AreCou
 use crate::labels::Labels;
 use ly_base::{End, Front, Place, RuleNo, Sink, TextWriter, WriteFault};
 use ly_lexread::{Action, Returned};
-use ly_scan::Lexer;
+use ly_scan::{KnownWalks, Lexer};
 use std::alloc::Global;
 
 /// Writes the lines of the tokens that a lexer finds in a text, with a last one where no rule matches. How the run over
 /// the text ends is known by then.
 #[inline(always)] // by a call what the loop reads of the lexer is read anew for each lexeme
 pub(crate) fn write_token_lines<W: Sink>(
+    alloc: Global,
     lexer: &Lexer,
     text: &[u8],
     labels: &Labels<'_>,
@@ -43,8 +44,9 @@ pub(crate) fn write_token_lines<W: Sink>(
 {
     let mut lines = empty;
     let mut place = Place::start(text);
+    let mut known = KnownWalks::new(alloc);
     loop {
-        match lexer.next(&mut place, true) {
+        match lexer.next(&mut place, &mut known, true) {
             Ok(Some(lexeme)) => {
                 let token = Front::new(place.rest(), lexeme.taken);
                 push_token(&mut lines, writer, labels, lexeme.rule, token)?;

@@ -132,8 +132,8 @@ fn write_answer_by<W: Sink>(
     }
     let labels = Labels::new(alloc, &file.actions)?;
     let lines = TextWriter::new(alloc)?;
-    let end = run_end(lexer, text, file);
-    write_token_lines(lexer, text, &labels, end, lines, writer)?;
+    let end = run_end(alloc, lexer, text, file);
+    write_token_lines(alloc, lexer, text, &labels, end, lines, writer)?;
     Ok(token_end(end))
 }
 

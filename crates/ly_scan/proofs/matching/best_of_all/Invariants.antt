@@ -6,7 +6,7 @@ use Rattle.ly_scan.proofs.matching.best_of_all.Given as goal
 abbrev pub invariant-loop-passed : goal.invariant-loop-passed
 invariant-loop-passed g l = let steps = g.S.Steps in record {
   stands : steps.stands l.steps l.at;
-  ahead : (text : List ℕ) → steps.ahead l.steps l.at text ≡ steps.walk l.steps l.condition l.at_line_start
+  ahead : (text : List ℕ) → steps.ahead l.steps l.at text ≡ steps.ahead l.steps l.fn.start
       (take l.passed l.rest ++ text);
-  best : IsBest (steps.walk l.steps l.condition l.at_line_start) l.rest l.passed l.best;
+  best : IsBest (steps.ahead l.steps l.fn.start) l.rest l.passed l.best;
 }

@@ -1,5 +1,7 @@
 use Rattle.std.proofs.Common.{◌≡◌, ◌∙◌, ◌++◌, ◌+◌, None, arith, length, subst, sym}
 use Rattle.std.specs.Prelude.{false}
+use Rattle.ly_scan.proofs.KnownWalkLemmas.{best_along, fast_along}
+use Rattle.ly_scan.specs.Private.Matching.{found}
 use Rattle.ly_scan.proofs.WalkLemmas.{best_known, ends_best, ends_within, none_from_start, some_or_none}
 use Rattle.ly_scan.specs.Walk.{IsBest, Walk}
 use Rattle.ly_scan.proofs.matching.known_match.Goals as goal
@@ -11,6 +13,17 @@ pub returns-in_default-clause-decided : goal.returns-in_default-clause-decided
 returns-in_default-clause-decided g c more follows = none_from_start _ (c.args.bytes.now ++ more)
     (g.met.S.Steps.stays_ended c.args.steps.now c.args.condition c.args.at_line_start)
     (some_or_none _ c.in_default.ensures.alive)
+
+pub returns-then-reaches-clause-decided : goal.returns-then-reaches-clause-decided
+returns-then-reaches-clause-decided g c = fast_along (g.S.Steps.ahead c.args.steps.now c.in-Some.start)
+    (g.S.Steps.walk c.args.steps.now c.args.condition c.args.at_line_start) (g.S.Steps.cut_of c.args.steps.now)
+    c.args.bytes.now c.args.ended c.match_by_known.result c.in-Some.ensures.there c.match_by_known.ensures.decided
+
+pub returns-in_default-2-clause-decided : goal.returns-in_default-2-clause-decided
+returns-in_default-2-clause-decided g c = fast_along (g.S.Steps.ahead c.args.steps.now c.in-Some.start)
+    (g.S.Steps.walk c.args.steps.now c.args.condition c.args.at_line_start) (g.S.Steps.cut_of c.args.steps.now)
+    c.args.bytes.now c.args.ended c.match_by_known-in_default-2.result c.in-Some.ensures.there
+    c.match_by_known-in_default-2.ensures.decided
 
 pub returns-clause-decided : goal.returns-clause-decided
 returns-clause-decided g c more follows =
@@ -30,7 +43,8 @@ returns-clause-decided g c more follows =
           w.in-Some-accept.rule stays w.if-passed-gt0.true walked.ensures.within c.in-Some.ensures.there
           walked.ensures.ahead walked.ensures.alive w.in-Some-accept.ensures walked.ensures.ended)
       | in_default-accept w ↦ subst (IsBest walk bytes (length bytes)) (sym (w.found-is ∙ w.found-found.ensures))
-          w.best_passed.ensures
+          (best_along start walk bytes (length bytes) (found w.best_passed.result) c.in-Some.ensures.there
+          w.best_passed.ensures)
     ] in
     c.match_of.ensures walk (bytes ++ more) (best_known walk bytes more c.args.ended c.match-accept.found stays follows
     over best)

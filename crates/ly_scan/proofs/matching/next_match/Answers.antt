@@ -1,7 +1,7 @@
-use Rattle.std.specs.Prelude.{true}
-use Rattle.ly_scan.proofs.PieceLemmas.{whole_match}
+use Rattle.ly_scan.proofs.WalkLemmas.{none_from_start, some_or_none}
 use Rattle.ly_scan.proofs.matching.next_match.Goals as goal
 
-pub returns : goal.returns
-returns g c = whole_match (g.S.Steps.walk c.args.steps.now c.args.condition c.args.at_line_start)
-    (g.S.Steps.cut_of c.args.steps.now) c.args.rest.now true c.in-Some.found c.in-Some.ensures.decided
+pub returns-in-None : goal.returns-in-None
+returns-in-None g c = none_from_start _ c.args.rest.now
+    (g.met.S.Steps.stays_ended c.args.steps.now c.args.condition c.args.at_line_start)
+    (some_or_none _ c.in-None.ensures.alive)

@@ -1,0 +1,194 @@
+ghost use Rattle.std.specs.Prelude.{◌≡◌, ◌≢◌, ◌≤◌, ◌-◌, ℕ, List, [], Bool, All, IfSome, length};
+ghost use Rattle.std.specs.Prelude.{MatchOption, None, false};
+ghost use Rattle.ly_scan.specs.KnownWalks.{last, AreKnown, IsFound};
+ghost use Rattle.ly_scan.specs.Private.KnownWalks.{from_passed, joined, HasStood};
+ghost use Rattle.ly_scan.specs.Walk.{IsStart, Walk};
+
+use crate::matching::{Match, better, match_of};
+use crate::steps::Steps;
+use ly_base::RuleNo;
+use std::alloc::Global;
+use std::collections::HashMap;
+use std::marker::Model;
+
+/// Where a walk has stood: the number of that, and how many bytes of the text were left.
+type Stand = (usize, usize);
+
+/// The length of the longest match and its rule, if there is one.
+pub(crate) type Longest = Option<(usize, RuleNo)>;
+
+/// It is noted where a walk stands wherever a multiple of so many bytes is left.
+const STRIDE: usize = 32;
+
+/// The longest matches that are known over one text, from where walks have stood on: so no walk goes on where one has
+/// gone before, and a text on which longer matches fail again and again takes no more time than it is long (Reps 1998).
+///
+/// Where memory for it is refused, all is forgotten, and matches are found all the same.
+#[derive(Drop)]
+pub struct KnownWalks {
+    /// For each stand of which that is known the longest match from there.
+    found: HashMap<Stand, Longest>,
+    /// Where the last walk has stood.
+    trail: Vec<Stand>,
+    /// How many bytes are left at the last place of which something is known. Where nothing is, the greatest number.
+    reach: usize,
+}
+
+impl Model for KnownWalks {
+    ghost use Rattle.ly_scan.specs.KnownWalks.{Known};
+
+    ghost Value = { Known };
+
+    ghost view = { λ k. k.found.entries };
+}
+
+impl KnownWalks {
+    /// Nothing is known.
+    pub fn new(alloc: Global) -> KnownWalks
+        ensures { (ahead : ℕ → Walk) (ended : Bool) (text : List ℕ) → AreKnown ahead ended text result }
+    {
+        KnownWalks {
+            found: HashMap::new(alloc),
+            trail: Vec::new(alloc),
+            reach: usize::MAX,
+        }
+    }
+
+    /// Whether something is known of the places behind one where so many bytes are left.
+    #[inline(always)]
+    pub(crate) fn reaches(&self, left: usize) -> bool {
+        self.reach < left
+    }
+
+    /// The longest match of one or more bytes from where a walk starts, found by a walk that ends where one has gone
+    /// before. `ended` says that the text ends behind the bytes. None where they don't decide it.
+    pub(crate) fn find<S: Steps>(
+        &mut self,
+        steps: &S,
+        start: S::At,
+        bytes: &[u8],
+        ended: bool,
+    ) -> Option<Longest>
+        requires start { IsStart (S.stands steps.now start) (S.ahead steps.now start) }
+        requires known { AreKnown (S.ahead_by steps.now) ended bytes.now self.old }
+        ensures found { MatchOption result ((ended ≡ false) × (S.ahead steps.now start bytes.now ≢ None))
+            (IsFound (S.ahead steps.now start) ended bytes.now) }
+        ensures known { AreKnown (S.ahead_by steps.now) ended bytes.now self.new }
+    {
+        self.trail.clear();
+        let longest = walk_on_known(steps, &self.found, &mut self.trail, start, bytes, ended)?;
+        if bytes.len() <= self.reach {
+            // what is known is of places that have been passed
+            self.found.clear();
+            self.reach = usize::MAX;
+        }
+        let taken = taken_by(steps, longest, bytes.len());
+        let last = keep(&mut self.found, &self.trail, bytes.len(), taken, longest);
+        self.reach = self.reach.min(last);
+        Some(longest)
+    }
+}
+
+/// How many bytes are taken where a match is the longest one: all where none is, since a run ends there.
+fn taken_by<S: Steps>(steps: &S, longest: Longest, bytes: usize) -> usize {
+    match match_of(steps, longest) {
+        Match::Win { token_len, .. } => token_len,
+        Match::BadCut | Match::Stuck => bytes,
+    }
+}
+
+/// Walks on from where a walk starts to where one has gone before, or where it ends: the longest match that is found.
+/// The trail is where it has stood.
+fn walk_on_known<S: Steps>(
+    steps: &S,
+    found: &HashMap<Stand, Longest>,
+    trail: &mut Vec<Stand>,
+    start: S::At,
+    bytes: &[u8],
+    ended: bool,
+) -> Option<Longest>
+    requires start { IsStart (S.stands steps.now start) (S.ahead steps.now start) }
+    requires known { AreKnown (S.ahead_by steps.now) ended bytes.now found.now.entries }
+    requires no_trail { trail.old.items ≡ [] }
+    ensures found { MatchOption result ((ended ≡ false) × (S.ahead steps.now start bytes.now ≢ None))
+        (IsFound (S.ahead steps.now start) ended bytes.now) }
+    ensures trail { All (HasStood (S.ahead steps.now start) (S.ahead_by steps.now) bytes.now) trail.new.items }
+{
+    let mut at = start;
+    let mut longest = None;
+    for (count, byte) in bytes.iter().enumerate() {
+        let Some(next) = steps.step(at, *byte) else {
+            return Some(longest);
+        };
+        at = next;
+        let passed = count + 1;
+        longest = better(longest, passed, steps.accept(at));
+        let left = bytes.len() - passed;
+        if left % STRIDE == 0 {
+            let stand = (steps.number(at), left);
+            if let Some(ahead) = found.get(&stand) {
+                return Some(joined(longest, bytes.len(), left, *ahead));
+            }
+            // where it is not noted, a walk will go here again
+            let _ = trail.push(stand);
+        }
+    }
+    if ended { Some(longest) } else { None }
+}
+
+/// The longest match of so many bytes, by that of the bytes so far and that of those that are left.
+fn joined(longest: Longest, bytes: usize, left: usize, ahead: Longest) -> Longest
+    requires left { left ≤ bytes }
+    requires ahead { IfSome ahead (λ m. m.0 ≤ left) }
+    ensures { result ≡ joined longest (bytes - left) ahead }
+{
+    match ahead {
+        Some((length, rule)) => Some((bytes - (left - length), rule)),
+        None => longest,
+    }
+}
+
+/// The longest match from a place on that a walk has passed.
+fn from_passed(longest: Longest, passed: usize) -> Longest
+    ensures { result ≡ from_passed longest passed }
+{
+    match longest {
+        Some((length, rule)) if passed < length => Some((length - passed, rule)),
+        _ => None,
+    }
+}
+
+/// Keeps the longest match from where a walk over so many bytes has stood on, wherever a match may still begin. Answers
+/// how many bytes are left at the last of these places.
+fn keep(
+    found: &mut HashMap<Stand, Longest>,
+    trail: &[Stand],
+    bytes: usize,
+    taken: usize,
+    longest: Longest,
+) -> usize
+    ensures { (walk : Walk) (ahead : ℕ → Walk) (ended : Bool) (text : List ℕ) → bytes ≡ length text
+        → IsFound walk ended text longest → All (HasStood walk ahead text) trail.now
+        → AreKnown ahead ended text found.old.entries → AreKnown ahead ended text found.new.entries }
+{
+    let mut last = usize::MAX;
+    for stand in trail {
+        let passed = bytes.saturating_sub(stand.1);
+        if taken <= passed {
+            keep_one(found, *stand, from_passed(longest, passed));
+            last = stand.1;
+        }
+    }
+    last
+}
+
+/// Keeps one longest match. Where no more room is given, the rest is forgotten, which makes room.
+fn keep_one(found: &mut HashMap<Stand, Longest>, stand: Stand, longest: Longest)
+    ensures { (ahead : ℕ → Walk) (ended : Bool) (text : List ℕ)
+        → IsFound (ahead stand.0) ended (last stand.1 text) longest
+        → AreKnown ahead ended text found.old.entries → AreKnown ahead ended text found.new.entries }
+{
+    if found.insert(stand, longest).is_err() {
+        found.clear();
+    }
+}
