@@ -45,7 +45,7 @@ pub fn next_match<S: Steps>(steps: &S, condition: u32, at_line_start: bool, rest
 }
 
 /// The match at the front of some bytes, whatever comes behind them; `ended` says that nothing does. None where it
-/// isn't decided. A walk that went far for a match that ends before is kept among those that are known.
+/// isn't decided. What a walk has shown that went far behind its token is kept.
 #[inline(always)] // by a call a lexeme takes a third more instructions
 pub(crate) fn known_match<S: Steps>(
     steps: &S,
@@ -71,13 +71,26 @@ pub(crate) fn known_match<S: Steps>(
     if passed == bytes.len() && !ended {
         return None;
     }
+    if FAR <= passed && falls_short(steps, at) {
+        return match_by_known(steps, known, start, bytes, ended);
+    }
     // most walks end where a rule matches, so it is looked for there first
     let found = match steps.accept(at) {
         Some(rule) if 0 < passed => Some((passed, rule)),
-        _ if passed < FAR => best_passed(steps, start, bytes).found(),
-        _ => return match_by_known(steps, known, start, bytes, ended),
+        _ => best_passed(steps, start, bytes).found(),
     };
     Some(match_of(steps, found))
+}
+
+/// Whether the token falls short of where a walk stands at its end: no rule matches there, or a part is cut off.
+#[inline(never)] // as few walks go far
+fn falls_short<S: Steps>(steps: &S, at: S::At) -> bool
+    requires { S.stands steps.now at }
+{
+    match steps.accept(at) {
+        Some(rule) => steps.cut(rule) != Cut::Whole,
+        None => true,
+    }
 }
 
 /// The match from where a walk starts, by what is known of others.

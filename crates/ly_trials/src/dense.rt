@@ -35,6 +35,8 @@ impl Steps for Dense<'_> {
 
     ghost stands = { λ d at. ⊤ };
 
+    ghost ahead_by = { λ d. dense_ahead d.rows.now };
+
     ghost cut_of = { λ d. dense_cut d.cuts.now };
 
     fn start(&self, condition: u32, at_line_start: bool) -> Option<u16> {
@@ -47,6 +49,10 @@ impl Steps for Dense<'_> {
 
     fn step(&self, at: u16, byte: u8) -> Option<u16> {
         self.rows.get(usize::from(at))?.next[usize::from(byte)].checked_sub(1)
+    }
+
+    fn number(&self, at: u16) -> usize {
+        usize::from(at)
     }
 
     fn accept(&self, at: u16) -> Option<RuleNo> {

@@ -9,11 +9,18 @@ use Rattle.ly_drive.specs.Private.Running.{progress_of}
 use Rattle.ly_drive.specs.ScanPart.{scan_part_of, scanner_in}
 use Rattle.ly_drive.specs.Verdict.{faulty}
 use Rattle.ly_drive.proofs.running.run_on.Goals as goal
+use Rattle.ly_scan.specs.KnownWalks.{AreKnown}
 use Rattle.ly_scan.specs.Pieces.{EndsFast}
+use Rattle.ly_scan.specs.StateTable.{ahead_in}
 use Rattle.ly_tables.specs.TableSet.{machine_of}
 
 pub loop-lexeme-init : goal.loop-lexeme-init
-loop-lexeme-init c = record { onward = none_yet; machine = c.requires.machine; goes_on = c.requires.goes_on }
+loop-lexeme-init c = record {
+  onward = none_yet;
+  machine = c.requires.machine;
+  goes_on = c.requires.goes_on;
+  known = c.new-known.ensures (ahead_in c.args.lexer.now.scanner) c.args.ended c.args.place.rest;
+}
 
 pub returns-in-Err-Stuck-clause-runs : goal.returns-in-Err-Stuck-clause-runs
 returns-in-Err-Stuck-clause-runs c =
@@ -132,4 +139,6 @@ loop-lexeme-preserved c =
           c.next.ensures.passed) taken.0);
       machine = c.take.ensures.machine ∙ c.loop-lexeme.invariant.machine;
       goes_on = taken.1;
+      known = subst (λ x. AreKnown (ahead_in l.scanner) c.args.ended x.rest c.next.new.known) (sym there)
+          (c.next.ensures.known t.taken fast.within);
     }

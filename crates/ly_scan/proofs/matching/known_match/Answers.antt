@@ -19,11 +19,11 @@ returns-then-reaches-clause-decided g c = fast_along (g.S.Steps.ahead c.args.ste
     (g.S.Steps.walk c.args.steps.now c.args.condition c.args.at_line_start) (g.S.Steps.cut_of c.args.steps.now)
     c.args.bytes.now c.args.ended c.match_by_known.result c.in-Some.ensures.there c.match_by_known.ensures.decided
 
-pub returns-in_default-2-clause-decided : goal.returns-in_default-2-clause-decided
-returns-in_default-2-clause-decided g c = fast_along (g.S.Steps.ahead c.args.steps.now c.in-Some.start)
+pub returns-then-falls_short-clause-decided : goal.returns-then-falls_short-clause-decided
+returns-then-falls_short-clause-decided g c = fast_along (g.S.Steps.ahead c.args.steps.now c.in-Some.start)
     (g.S.Steps.walk c.args.steps.now c.args.condition c.args.at_line_start) (g.S.Steps.cut_of c.args.steps.now)
-    c.args.bytes.now c.args.ended c.match_by_known-in_default-2.result c.in-Some.ensures.there
-    c.match_by_known-in_default-2.ensures.decided
+    c.args.bytes.now c.args.ended c.match_by_known-then-falls_short.result c.in-Some.ensures.there
+    c.match_by_known-then-falls_short.ensures.decided
 
 pub returns-clause-decided : goal.returns-clause-decided
 returns-clause-decided g c more follows =

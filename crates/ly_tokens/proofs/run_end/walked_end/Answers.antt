@@ -1,33 +1,42 @@
-use Rattle.std.proofs.Common.{◌++◌, [], ap, arith, length, length-drop, refl, take}
+use Rattle.std.proofs.Common.{◌++◌, [], ap, arith, length, length-drop, refl, subst, sym, take}
 use Rattle.std.specs.Prelude.{true}
 use Rattle.ly_base.specs.Lexed.{start_of}
 use Rattle.ly_scan.proofs.PieceLemmas.{answered, end_at, lexeme_at}
+use Rattle.ly_scan.specs.KnownWalks.{AreKnown}
 use Rattle.ly_scan.specs.Lexers.{scanner_of}
+use Rattle.ly_scan.specs.StateTable.{ahead_in}
 use Rattle.ly_tokens.specs.Printing.{line_if, naming}
 use Rattle.ly_tokens.proofs.PrintingLemmas.{one_more, passes_lines}
 use Rattle.ly_tokens.proofs.RunEndLemmas.{ends_there}
 use Rattle.ly_tokens.proofs.run_end.walked_end.Goals as goal
 
 pub loop-lexeme-init : goal.loop-lexeme-init
-loop-lexeme-init c = ([], ([], c.start-place.ensures, refl))
+loop-lexeme-init c = record {
+  so_far = ([], ([], c.start-place.ensures, refl));
+  known = c.new-known.ensures (ahead_in c.args.lexer.now.scanner) true c.start-place.result.rest;
+}
 
 pub loop-lexeme-preserved : goal.loop-lexeme-preserved
 loop-lexeme-preserved c =
     let actions = c.args.actions.now in
     let s = scanner_of c.args.lexer.now.scanner in
     let start = start_of c.args.text.now in
-    let so_far = c.loop-lexeme.invariant in
+    let so_far = c.loop-lexeme.invariant.so_far in
     let here = c.next.new.place in
     let lexeme = c.in-Ok-Some.lexeme in
     let fast = answered true s here c.in-Ok-Some.field-0 lexeme c.in-Ok-Some.field-0-is c.in-Ok-Some.ensures.found in
     let token = take lexeme.taken here.rest in
-    let line = line_if (naming actions lexeme.rule.0 token) token in (
-      so_far.0 ++ line,
-      one_more actions s start here c.advance.new.self lexeme c.condition_set.result token so_far.0 (so_far.0 ++ line)
-          (lexeme_at s here true lexeme fast) c.condition_set.ensures c.advance.ensures refl refl
-          (passes_lines actions s c.args.lexer.now.passed start c.loop-lexeme.place so_far.0 c.requires so_far.1
-          c.next.ensures.passed),
-    )
+    let line = line_if (naming actions lexeme.rule.0 token) token in record {
+      so_far = (
+        so_far.0 ++ line,
+        one_more actions s start here c.advance.new.self lexeme c.condition_set.result token so_far.0
+            (so_far.0 ++ line) (lexeme_at s here true lexeme fast) c.condition_set.ensures c.advance.ensures refl refl
+            (passes_lines actions s c.args.lexer.now.passed start c.loop-lexeme.place so_far.0 c.requires so_far.1
+            c.next.ensures.passed),
+      );
+      known = subst (λ x. AreKnown (ahead_in c.args.lexer.now.scanner) true x.rest c.next.new.known)
+          (sym c.advance.ensures) (c.next.ensures.known lexeme.taken fast.within);
+    }
 
 pub loop-lexeme-smaller : goal.loop-lexeme-smaller
 loop-lexeme-smaller c =
@@ -48,7 +57,7 @@ pub returns-in-Err : goal.returns-in-Err
 returns-in-Err c =
     let actions = c.args.actions.now in
     let s = scanner_of c.args.lexer.now.scanner in
-    let so_far = c.loop-lexeme.invariant in
+    let so_far = c.loop-lexeme.invariant.so_far in
     ends_there actions s c.args.text.now so_far.0 c.next.new.place c.in-Err.end
     (end_at s c.next.new.place true c.in-Err.end c.in-Err.ensures.end)
     (passes_lines actions s c.args.lexer.now.passed (start_of c.args.text.now) c.loop-lexeme.place so_far.0 c.requires

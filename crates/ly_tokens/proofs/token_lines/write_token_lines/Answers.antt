@@ -6,7 +6,9 @@ use Rattle.ly_base.specs.TextWriter.{IsUnderway, bytes_of}
 use Rattle.ly_base.specs.Lexed.{Place, moved, start_of}
 use Rattle.ly_base.proofs.TextWriterLemmas.{appended_twice, cut_from, err_is, underway_from}
 use Rattle.ly_scan.proofs.PieceLemmas.{answered, end_at, lexeme_at}
+use Rattle.ly_scan.specs.KnownWalks.{AreKnown}
 use Rattle.ly_scan.specs.Lexers.{scanner_of}
+use Rattle.ly_scan.specs.StateTable.{ahead_in}
 use Rattle.ly_tokens.specs.Printing.{condition_set, end_line, line_if, naming}
 use Rattle.ly_tokens.specs.Private.TokenLines.{bytes_each}
 use Rattle.ly_tokens.proofs.LineLemmas.{line_left}
@@ -26,6 +28,7 @@ loop-lexeme-init g c = record {
     ap (λ (p : Place). length p.rest * bytes_each longest) c.start-place.ensures,
   );
   no_failure = refl;
+  known = c.new-known.ensures (ahead_in c.args.lexer.now.scanner) true c.start-place.result.rest;
 }
 
 pub push_token-requires-clause-countable : goal.push_token-requires-clause-countable
@@ -102,6 +105,8 @@ loop-lexeme-preserved g c =
         mul-le-mul_right (bytes_each longest) c.next.ensures.left,
       );
       no_failure = c.in_ok-push_token-in-Ok-Some.ensures.no_failure ∙ now.invariant.no_failure;
+      known = subst (λ (x : Place). AreKnown (ahead_in c.args.lexer.now.scanner) true x.rest c.next.new.known) (sym at)
+          (c.next.ensures.known lexeme.taken fast.within);
     }
 
 pub loop-lexeme-smaller : goal.loop-lexeme-smaller

@@ -1,13 +1,15 @@
-use Rattle.std.proofs.Common.{◌≡◌, ◌≤◌, ◌+◌, ◌*◌, ℕ, List, All, Ok, length}
+use Rattle.std.proofs.Common.{◌≡◌, ◌≤◌, ◌+◌, ◌*◌, ℕ, List, All, Ok, length, true}
 use Rattle.ly_base.specs.Lexed.{start_of}
 use Rattle.ly_base.specs.TextWriter.{bytes_of, IsAppended}
 use Rattle.ly_lexread.specs.declared.action.Action.{Action}
+use Rattle.ly_scan.specs.KnownWalks.{AreKnown}
 use Rattle.ly_scan.specs.Lexers.{scanner_of}
+use Rattle.ly_scan.specs.StateTable.{ahead_in}
 use Rattle.ly_tokens.specs.Private.TokenLines.{bytes_each, name_len, SoFar}
 use Rattle.ly_tokens.proofs.token_lines.write_token_lines.Given as goal
 
--- the lexemes so far lead to where the run stands, the lines of their tokens are on their way, and what is left can
--- be counted
+-- the lexemes so far lead to where the run stands, the lines of their tokens are on their way, what is left can be
+-- counted, and what is known of walks is so there
 abbrev pub invariant-loop-lexeme : goal.invariant-loop-lexeme
 invariant-loop-lexeme g l =
     let sink = g.W.Sink in
@@ -17,6 +19,7 @@ invariant-loop-lexeme g l =
       counted : (longest : ℕ) → All (λ (a : Action). name_len a.returns ≤ longest) l.labels.actions.now
           → bytes_of l.lines + length l.place.rest * bytes_each longest ≤ length start.rest * bytes_each longest;
       no_failure : sink.failures l.writer ≡ sink.failures l.fn.writer;
+      known : AreKnown (ahead_in l.lexer.scanner) true l.place.rest l.known;
     }
 
 abbrev pub decreases-loop-lexeme : goal.decreases-loop-lexeme
