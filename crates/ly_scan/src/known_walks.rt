@@ -1,6 +1,6 @@
 ghost use Rattle.std.specs.Prelude.{◌≡◌, ◌≢◌, ◌≤◌, ◌-◌, ℕ, List, [], Bool, All, IfSome, length};
-ghost use Rattle.std.specs.Prelude.{MatchOption, None, false};
-ghost use Rattle.ly_scan.specs.KnownWalks.{last, AreKnown, IsFound};
+ghost use Rattle.std.specs.Prelude.{MatchOption, None, false, option_copied};
+ghost use Rattle.ly_scan.specs.KnownWalks.{known_at, last, AreKnown, IsFound};
 ghost use Rattle.ly_scan.specs.Private.KnownWalks.{from_passed, joined, HasStood};
 ghost use Rattle.ly_scan.specs.Walk.{IsStart, Walk};
 
@@ -126,14 +126,30 @@ fn walk_on_known<S: Steps>(
         let left = bytes.len() - passed;
         if left % STRIDE == 0 {
             let stand = (steps.number(at), left);
-            if let Some(ahead) = found.get(&stand) {
+            if let Some(ahead) = known_at(found, stand) {
                 return Some(joined(longest, bytes.len(), left, *ahead));
             }
-            // where it is not noted, a walk will go here again
-            let _ = trail.push(stand);
+            note(trail, stand);
         }
     }
     if ended { Some(longest) } else { None }
+}
+
+/// The longest match from a stand on, if it is known.
+#[inline(never)] // so that the walk has the registers
+fn known_at(found: &HashMap<Stand, Longest>, stand: Stand) -> Option<&Longest>
+    ensures { option_copied result ≡ known_at found.now.entries stand }
+{
+    found.get(&stand)
+}
+
+/// Notes a stand in the trail. Where there is no room for it, a walk will go there again.
+#[inline(never)] // likewise
+fn note(trail: &mut Vec<Stand>, stand: Stand)
+    ensures { (walk : Walk) (ahead : ℕ → Walk) (text : List ℕ) → HasStood walk ahead text stand
+        → All (HasStood walk ahead text) trail.old.items → All (HasStood walk ahead text) trail.new.items }
+{
+    let _ = trail.push(stand);
 }
 
 /// The longest match of so many bytes, by that of the bytes so far and that of those that are left.

@@ -1,14 +1,14 @@
 use Rattle.std.proofs.Common.{◌≡◌, ◌∙◌, ◌+◌, ◌-◌, ◌++◌, [], None, ap, arith}
 use Rattle.std.proofs.Common.{is_some, length, refl, subst, sym, take, true}
 use Rattle.std.proofs.lemmas.List.{take_more}
-use Rattle.std.specs.Prelude.{All, is_ok, option_copied}
-use Rattle.ly_scan.proofs.KnownWalkLemmas.{all_noted, found_joined, found_there, found_within}
+use Rattle.std.specs.Prelude.{All, option_copied}
+use Rattle.ly_scan.proofs.KnownWalkLemmas.{found_joined, found_there, found_within}
 use Rattle.ly_scan.proofs.WalkLemmas.{best_ended, best_stepped, ends_within, some_or_none, stands_next}
 use Rattle.ly_scan.specs.KnownWalks.{IsFound}
 use Rattle.ly_scan.specs.Private.KnownWalks.{HasStood}
 use Rattle.ly_scan.specs.Walk.{IsBest, Walk}
 use Rattle.ly_scan.proofs.known_walks.walk_on_known.Goals as goal
-use Rattle.ly_scan.proofs.known_walks.walk_on_known.Goals.{else-left-eq0, then-left-eq0+in_default-get}
+use Rattle.ly_scan.proofs.known_walks.walk_on_known.Goals.{else-left-eq0, then-left-eq0+in_default-known_at}
 
 pub returns-in_default-clause-found : goal.returns-in_default-clause-found
 returns-in_default-clause-found g c =
@@ -26,14 +26,14 @@ pub joined-requires-clause-ahead : goal.joined-requires-clause-ahead
 joined-requires-clause-ahead g c =
     let bytes = c.args.bytes.now in
     let left = length bytes - (c.loop-count.count + 1) in
-    found_within (g.S.Steps.ahead_by c.args.steps.now c.number.result) c.args.ended bytes left c.in-Some-get.ahead.now
+    found_within (g.S.Steps.ahead_by c.args.steps.now c.number.result) c.args.ended bytes left c.in-Some-known_at.ahead.now
     (omega arith)
     (found_there (g.S.Steps.ahead_by c.args.steps.now) c.args.ended bytes c.args.found.now.entries c.number.result left
-    c.in-Some-get.ahead.now (omega arith) c.requires.known
-    (sym c.get.ensures.value ∙ ap option_copied c.in-Some-get.is))
+    c.in-Some-known_at.ahead.now (omega arith) c.requires.known
+    (sym c.known_at.ensures ∙ ap option_copied c.in-Some-known_at.is))
 
-pub returns-in-Some-get-clause-found : goal.returns-in-Some-get-clause-found
-returns-in-Some-get-clause-found g c =
+pub returns-in-Some-known_at-clause-found : goal.returns-in-Some-known_at-clause-found
+returns-in-Some-known_at-clause-found g c =
     let walk : Walk = g.S.Steps.ahead c.args.steps.now c.args.start in
     let here : Walk = g.S.Steps.ahead c.args.steps.now c.loop-count.at in
     let there : Walk = g.S.Steps.ahead c.args.steps.now c.in-Some.next in
@@ -48,13 +48,13 @@ returns-in-Some-get-clause-found g c =
     stands on (ap is_some (on []) ∙ sym c.in-Some.ensures.alive) c.accept.ensures c.loop-count.invariant.longest in
     subst (IsFound walk c.args.ended bytes) (sym c.joined.ensures)
     (found_joined walk (ahead c.number.result) c.args.ended bytes left c.better-longest.result
-    c.in-Some-get.ahead.now
+    c.in-Some-known_at.ahead.now
     (λ more. ap (λ k. walk (take k bytes ++ more)) passed
     ∙ sym (stands_next walk here there bytes count c.loop-count-test.true stands on more) ∙ c.number.ensures more)
     (subst (λ k. IsBest walk bytes k c.better-longest.result) (sym passed)
     (subst (IsBest walk bytes (count + 1)) (sym c.better-longest.ensures) so_far))
-    (found_there ahead c.args.ended bytes c.args.found.now.entries c.number.result left c.in-Some-get.ahead.now
-    (omega arith) c.requires.known (sym c.get.ensures.value ∙ ap option_copied c.in-Some-get.is)))
+    (found_there ahead c.args.ended bytes c.args.found.now.entries c.number.result left c.in-Some-known_at.ahead.now
+    (omega arith) c.requires.known (sym c.known_at.ensures ∙ ap option_copied c.in-Some-known_at.is)))
 
 pub loop-count-preserved : goal.loop-count-preserved
 loop-count-preserved g c =
@@ -74,17 +74,13 @@ loop-count-preserved g c =
           (best_stepped walk here there bytes count c.accept.result c.loop-count.longest c.loop-count-test.true stands
           on alive c.accept.ensures c.loop-count.invariant.longest);
       trail = elim c.if-left-eq0.branch [
-        | then-left-eq0+in_default-get w ↦
+        | then-left-eq0+in_default-known_at w ↦
             let left = length bytes - (count + 1) in
             let passed : length bytes - left ≡ count + 1 = omega (arith, c.loop-count-test.true) in
             subst (λ t. All (HasStood walk (g.S.Steps.ahead_by c.args.steps.now) bytes) t.items) (sym w.trail-is)
-            (all_noted (HasStood walk (g.S.Steps.ahead_by c.args.steps.now) bytes) c.loop-count.trail.items
-            w.push.new.self.items (w.number.result, left) (is_ok w.push.result) w.push.ensures.items
-            c.loop-count.invariant.trail (
-              omega arith,
-              λ more. ap (λ k. walk (take k bytes ++ more)) passed ∙ sym (further more)
-                  ∙ w.number.ensures more,
-            ))
+            (w.note.ensures walk (g.S.Steps.ahead_by c.args.steps.now) bytes
+            (omega arith, λ more. ap (λ k. walk (take k bytes ++ more)) passed ∙ sym (further more)
+            ∙ w.number.ensures more) c.loop-count.invariant.trail)
         | else-left-eq0 w ↦ subst (λ t. All (HasStood walk (g.S.Steps.ahead_by c.args.steps.now) bytes) t.items)
             (sym w.trail-is) c.loop-count.invariant.trail
       ];
