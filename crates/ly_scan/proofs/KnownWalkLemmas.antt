@@ -8,16 +8,13 @@ use Rattle.std.proofs.lemmas.List.{drop-drop, take-append-drop}
 use Rattle.std.proofs.lemmas.List.Elements.{All-push}
 use Rattle.std.proofs.lemmas.Map.Views.{exact_unsigned_eq}
 use Rattle.std.specs.Prelude.{[], ◌∷◌, All, Err, Ok, OnOk, Result, if◌then◌else◌, is_err, is_some, nat_lt}
-use Rattle.ly_base.specs.declared.cut.Cut.{Cut}
 use Rattle.ly_base.specs.declared.numbers.RuleNo.{RuleNo}
-use Rattle.ly_scan.proofs.PieceLemmas.{IsMatchFast}
 use Rattle.ly_scan.proofs.WalkLemmas.{best_stays}
 use Rattle.ly_scan.specs.KnownWalks.{AreKnown, IsFound, Known, known_at, last}
-use Rattle.ly_scan.specs.Matching.{IsMatch}
 use Rattle.ly_scan.specs.Private.KnownWalks.{HasStood, from_passed, joined}
+use Rattle.ly_scan.specs.Private.Matching.{found}
 use Rattle.ly_scan.specs.Walk.{IsBest, IsLongest, IsStart, StaysEnded, Walk}
-use Rattle.ly_scan.specs.declared.matching.Match.{Match}
-use Rattle.ly_scan.specs.declared.matching.Match.TheVariants.{BadCut, Stuck, Win}
+use Rattle.ly_scan.specs.declared.matching.Best.{Best}
 
 -- what holds where a call succeeds
 pub where_ok : {A E : Type 0} {P : Type 0} (r : Result A E) → is_err r ≡ false → OnOk r P → P
@@ -40,27 +37,23 @@ longest_along walk other text bound n r same h = record {
   longest = λ m s past within rule. h.longest m s past within (same (take m text) ∙ rule);
 }
 
-pub best_along : (walk other : Walk) (text : List ℕ) (n : ℕ) (best : Option (ℕ × RuleNo))
+best_along : (walk other : Walk) (text : List ℕ) (n : ℕ) (best : Option (ℕ × RuleNo))
     → ((t : List ℕ) → walk t ≡ other t) → IsBest walk text n best → IsBest other text n best
 best_along walk other text n None same h = λ m s some within rule. h m s some within (same (take m text) ∙ rule)
 best_along walk other text n (Some x) same h = longest_along walk other text n x.0 x.1.0 same h
 
-match_along : (walk other : Walk) (cut : ℕ → Cut) (text : List ℕ) (m : Match)
-    → ((t : List ℕ) → walk t ≡ other t) → IsMatch walk cut text m → IsMatch other cut text m
-match_along walk other cut text (Win rule matched len) same h =
-    (longest_along walk other text (length text) matched rule.0 same h.0, h.1)
-match_along walk other cut text BadCut same h =
-    (h.0, (h.1.0, longest_along walk other text (length text) h.0 h.1.0 same h.1.1, h.1.2))
-match_along walk other cut text Stuck same h =
-    best_along walk other text (length text) None same h
+-- what is found of the longest match is so of walks that say the same
+pub found_along : (walk other : Walk) (ended : Bool) (text : List ℕ) (longest : Option (ℕ × RuleNo))
+    → ((t : List ℕ) → walk t ≡ other t) → IsFound walk ended text longest → IsFound other ended text longest
+found_along walk other ended text longest same h = record {
+  best = best_along walk other text (length text) longest same h.best;
+  decided = λ e. sym (same text) ∙ h.decided e;
+}
 
--- so is the match of some bytes, whatever comes behind them
-pub fast_along : (walk other : Walk) (cut : ℕ → Cut) (bytes : List ℕ) (ended : Bool) (o : Option Match)
-    → ((t : List ℕ) → walk t ≡ other t) → IfSome o (IsMatchFast ended walk cut bytes)
-    → IfSome o (IsMatchFast ended other cut bytes)
-fast_along walk other cut bytes ended None same h = tt
-fast_along walk other cut bytes ended (Some m) same h =
-    λ more follows. match_along walk other cut (bytes ++ more) m same (h more follows)
+-- two numbers stand for an answer
+pub found_some : (b : Best) → 0 < b.length → found b ≡ Some (b.length, b.rule)
+found_some b some = ap (λ t. if t then None else Some (b.length, b.rule))
+    (let e : nat_eq b.length 0 ≡ false = grind (arith, nat_tests, some) in e)
 
 -- a walk that may begin somewhere stays ended as those of its condition do
 pub may_start : (stands : Type 0) (walk ahead : Walk) → stands → is_some (ahead []) ≡ true
@@ -160,6 +153,13 @@ pub none_known : (ahead : ℕ → Walk) (ended : Bool) (text : List ℕ) (known 
     → AreKnown ahead ended text known
 none_known ahead ended text known e number left within =
     subst (λ k. IfSome (known_at k (number, left)) (IsFound (ahead number) ended (last left text))) (sym e) tt
+
+-- what is known is so in any order
+pub known_again : (ahead : ℕ → Walk) (ended : Bool) (text : List ℕ) (old new : Known)
+    → ((q : ℕ × ℕ) → known_at new q ≡ known_at old q) → AreKnown ahead ended text old → AreKnown ahead ended text new
+known_again ahead ended text old new same known number left within =
+    subst (λ o. IfSome o (IsFound (ahead number) ended (last left text))) (sym (same (number, left)))
+    (known number left within)
 
 -- one more is known
 pub one_known : (ahead : ℕ → Walk) (ended : Bool) (text : List ℕ) (old new : Known) (stand : ℕ × ℕ)

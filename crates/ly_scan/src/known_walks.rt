@@ -18,7 +18,7 @@ type Stand = (usize, usize);
 pub(crate) type Longest = Option<(usize, RuleNo)>;
 
 /// It is noted where a walk stands wherever a multiple of so many bytes is left.
-const STRIDE: usize = 16;
+const STRIDE: usize = 8;
 
 /// The longest matches that are known over one text, from where walks have stood on: so no walk goes on where one has
 /// gone before, and a text on which longer matches fail again and again takes no more time than it is long (Reps 1998).
@@ -187,6 +187,7 @@ fn keep(
         → IsFound walk ended text longest → All (HasStood walk ahead text) trail.now
         → AreKnown ahead ended text found.old.entries → AreKnown ahead ended text found.new.entries }
 {
+    make_room(found, trail.len());
     let mut last = usize::MAX;
     for stand in trail {
         let passed = bytes.saturating_sub(stand.1);
@@ -196,6 +197,16 @@ fn keep(
         }
     }
     last
+}
+
+/// Makes room for so many longest matches at once. Where it isn't given, what is known is forgotten, which makes room.
+fn make_room(found: &mut HashMap<Stand, Longest>, count: usize)
+    ensures { (ahead : ℕ → Walk) (ended : Bool) (text : List ℕ) → AreKnown ahead ended text found.old.entries
+        → AreKnown ahead ended text found.new.entries }
+{
+    if found.reserve(count).is_err() {
+        found.clear();
+    }
 }
 
 /// Keeps one longest match. Where no more room is given, the rest is forgotten, which makes room.

@@ -1,9 +1,9 @@
 ghost use Rattle.std.specs.Prelude.{◌≡◌, ◌≢◌, ◌<◌, ◌≤◌, ◌+◌, ℕ, List, [], ◌++◌, length, take, true, false, is_some};
 ghost use Rattle.std.specs.Prelude.{IfSome, None};
 ghost use Rattle.ly_scan.specs.Cuts.{token_len};
-ghost use Rattle.ly_scan.specs.KnownWalks.{AreKnown};
+ghost use Rattle.ly_scan.specs.KnownWalks.{AreKnown, IsFound};
 ghost use Rattle.ly_scan.specs.Matching.{IsMatch};
-ghost use Rattle.ly_scan.specs.Private.Matching.{found};
+ghost use Rattle.ly_scan.specs.Private.Matching.{decided, found};
 ghost use Rattle.ly_scan.specs.Pieces.{CanFollow};
 ghost use Rattle.ly_scan.specs.Walk.{IsBest, IsStart, Walk, better_of};
 
@@ -64,22 +64,47 @@ pub(crate) fn known_match<S: Steps>(
     let Some(start) = steps.start(condition, at_line_start) else {
         return Some(Match::Stuck);
     };
-    if known.reaches(bytes.len()) {
-        return match_by_known(steps, known, start, bytes, ended);
-    }
-    let (passed, at) = walk_on(steps, start, bytes);
-    if passed == bytes.len() && !ended {
+    let best = if known.reaches(bytes.len()) {
+        best_by_known(steps, known, start, bytes, ended)
+    } else {
+        best_by_walk(steps, known, start, bytes, ended)
+    };
+    if !best.is_decided() {
         return None;
     }
+    Some(match_of(steps, best.found()))
+}
+
+/// The best of the places that a walk passes, by a walk to its end.
+#[inline(always)] // as `known_match`
+fn best_by_walk<S: Steps>(
+    steps: &S,
+    known: &mut KnownWalks,
+    start: S::At,
+    bytes: &[u8],
+    ended: bool,
+) -> Best
+    requires start { IsStart (S.stands steps.now start) (S.ahead steps.now start) }
+    requires known { AreKnown (S.ahead_by steps.now) ended bytes.now known.old }
+    ensures undecided { decided result ≡ false → (ended ≡ false) × (S.ahead steps.now start bytes.now ≢ None) }
+    ensures found { decided result ≡ true → IsFound (S.ahead steps.now start) ended bytes.now (found result) }
+    ensures known { AreKnown (S.ahead_by steps.now) ended bytes.now known.new }
+{
+    let (passed, at) = walk_on(steps, start, bytes);
+    if passed == bytes.len() && !ended {
+        return Best::undecided();
+    }
     if FAR <= passed && falls_short(steps, at) {
-        return match_by_known(steps, known, start, bytes, ended);
+        return best_by_known(steps, known, start, bytes, ended);
     }
     // most walks end where a rule matches, so it is looked for there first
-    let found = match steps.accept(at) {
-        Some(rule) if 0 < passed => Some((passed, rule)),
-        _ => best_passed(steps, start, bytes).found(),
-    };
-    Some(match_of(steps, found))
+    match steps.accept(at) {
+        Some(rule) if 0 < passed => Best {
+            length: passed,
+            rule,
+        },
+        _ => best_passed(steps, start, bytes),
+    }
 }
 
 /// Whether the token falls short of where a walk stands at its end: no rule matches there, or a part is cut off.
@@ -93,24 +118,25 @@ fn falls_short<S: Steps>(steps: &S, at: S::At) -> bool
     }
 }
 
-/// The match from where a walk starts, by what is known of others.
+/// The best of the places that a walk passes, by what is known of others.
 #[inline(never)] // so that the walk that goes on has the registers
-fn match_by_known<S: Steps>(
+fn best_by_known<S: Steps>(
     steps: &S,
     known: &mut KnownWalks,
     start: S::At,
     bytes: &[u8],
     ended: bool,
-) -> Option<Match>
+) -> Best
     requires start { IsStart (S.stands steps.now start) (S.ahead steps.now start) }
     requires known { AreKnown (S.ahead_by steps.now) ended bytes.now known.old }
-    ensures undecided { result ≡ None → (ended ≡ false) × (S.ahead steps.now start bytes.now ≢ None) }
-    ensures decided { IfSome result (λ m. (more : List ℕ) → CanFollow ended more
-        → IsMatch (S.ahead steps.now start) (S.cut_of steps.now) (bytes.now ++ more) m) }
+    ensures undecided { decided result ≡ false → (ended ≡ false) × (S.ahead steps.now start bytes.now ≢ None) }
+    ensures found { decided result ≡ true → IsFound (S.ahead steps.now start) ended bytes.now (found result) }
     ensures known { AreKnown (S.ahead_by steps.now) ended bytes.now known.new }
 {
-    let longest = known.find(steps, start, bytes, ended)?;
-    Some(match_of(steps, longest))
+    match known.find(steps, start, bytes, ended) {
+        Some(longest) => Best::of(longest),
+        None => Best::undecided(),
+    }
 }
 
 /// The match of the longest walk that has a rule, if there is one.
@@ -156,7 +182,8 @@ fn walk_on<S: Steps>(steps: &S, start: S::At, bytes: &[u8]) -> (usize, S::At)
 #[inline(never)] // so that the walk that goes on has the registers
 fn best_passed<S: Steps>(steps: &S, start: S::At, rest: &[u8]) -> Best
     requires start { IsStart (S.stands steps.now start) (S.ahead steps.now start) }
-    ensures { IsBest (S.ahead steps.now start) rest.now (length rest.now) (found result) }
+    ensures found { IsBest (S.ahead steps.now start) rest.now (length rest.now) (found result) }
+    ensures decided { decided result ≡ true }
 {
     Best::of(best_of_all(steps, start, rest))
 }
@@ -200,7 +227,8 @@ fn cut_down(cut: Cut, length: usize) -> Option<usize>
     }
 }
 
-/// The length of a match and its rule, as two registers hold them. Where nothing matches it has no byte.
+/// The length of a match and its rule, as two registers hold them. Where nothing matches, and where that isn't decided,
+/// it has no byte, and 0 or 1 in the place of the rule.
 #[derive(Clone, Copy)]
 struct Best {
     /// The length.
@@ -213,7 +241,8 @@ impl Best {
     /// That of an answer.
     fn of(best: Longest) -> Best
         requires { IfSome best (λ b. 0 < b.0) }
-        ensures { found result ≡ best }
+        ensures found { found result ≡ best }
+        ensures decided { decided result ≡ true }
     {
         match best {
             Some((length, rule)) => Best { length, rule },
@@ -222,6 +251,23 @@ impl Best {
                 rule: RuleNo(0),
             },
         }
+    }
+
+    /// That of a match that isn't decided.
+    fn undecided() -> Best
+        ensures { decided result ≡ false }
+    {
+        Best {
+            length: 0,
+            rule: RuleNo(1),
+        }
+    }
+
+    /// Whether the match is decided.
+    fn is_decided(self) -> bool
+        ensures { result ≡ decided self }
+    {
+        self.length != 0 || self.rule.0 == 0
     }
 
     /// The answer.

@@ -7,7 +7,7 @@ use Rattle.ly_scan.proofs.known_walks.keep.Goals as goal
 use Rattle.ly_scan.proofs.known_walks.keep.Goals.{else-taken-passed, then-taken-passed}
 
 pub loop-stand-init : goal.loop-stand-init
-loop-stand-init c = λ walk ahead ended text size is trail known. known
+loop-stand-init c = λ walk ahead ended text size is trail known. c.make_room.ensures ahead ended text known
 
 pub loop-stand-preserved : goal.loop-stand-preserved
 loop-stand-preserved c = λ walk ahead ended text size is trail known.
