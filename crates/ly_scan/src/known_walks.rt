@@ -18,7 +18,7 @@ type Stand = (usize, usize);
 pub(crate) type Longest = Option<(usize, RuleNo)>;
 
 /// It is noted where a walk stands wherever a multiple of so many bytes is left.
-const STRIDE: usize = 8;
+const STRIDE: usize = 16;
 
 /// The longest matches that are known over one text, from where walks have stood on: so no walk goes on where one has
 /// gone before, and a text on which longer matches fail again and again takes no more time than it is long (Reps 1998).
