@@ -104,7 +104,14 @@ impl<'a> Feed<'a> {
             return Ok(Need::More);
         }
         let start = self.window.place();
-        let place = match run_on(self.alloc, self.set, &self.lexer, &mut self.parser, start, false)? {
+        let place = match run_on(
+            self.alloc,
+            self.set,
+            &self.lexer,
+            &mut self.parser,
+            start,
+            false,
+        )? {
             Halt::At(place) => place,
             Halt::Flawed(flaw) => {
                 let (outcome, lines) = told(self.alloc, self.set, flaw)?;

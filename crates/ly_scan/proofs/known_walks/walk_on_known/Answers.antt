@@ -26,7 +26,8 @@ pub joined-requires-clause-ahead : goal.joined-requires-clause-ahead
 joined-requires-clause-ahead g c =
     let bytes = c.args.bytes.now in
     let left = length bytes - (c.loop-count.count + 1) in
-    found_within (g.S.Steps.ahead_by c.args.steps.now c.number.result) c.args.ended bytes left c.in-Some-known_at.ahead.now
+    found_within (g.S.Steps.ahead_by c.args.steps.now c.number.result) c.args.ended bytes left
+    c.in-Some-known_at.ahead.now
     (omega arith)
     (found_there (g.S.Steps.ahead_by c.args.steps.now) c.args.ended bytes c.args.found.now.entries c.number.result left
     c.in-Some-known_at.ahead.now (omega arith) c.requires.known
