@@ -1,5 +1,5 @@
-//! From rows as lists to a comb: first fit, the rows with the most entries first (Tarjan and Yao 1979). The search for a
-//! row begins at the base of the last one with the same columns, below which all are refused still.
+//! From rows as lists to a comb: first fit, the rows with the most entries first (Tarjan and Yao 1979). The search for
+//! a row begins at the base of the last one with the same columns: those below it are refused still.
 //!
 //! Left out: anything that would make combs shorter than first fit does.
 ghost use Rattle.std.specs.Prelude.{◌≡◌, ◌≢◌, ◌⊎◌, ◌<◌, ◌≤◌, ◌^◌, ℕ, suc, length, IfOk, OnOk, Some};
