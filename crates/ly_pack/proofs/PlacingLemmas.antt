@@ -1,12 +1,14 @@
 -- A row that is placed beside the earlier ones.
-use Rattle.std.proofs.Common.{◌≡◌, ◌≢◌, ◌∙◌, ◌<◌, ◌≤◌, ◌+◌, ◌-◌, ℕ, suc, List, length, Option, Some, None}
-use Rattle.std.proofs.Common.{refl, sym, ap, subst, arith, inl, inr, ◌⊎◌, slice_get, set, length-set, get_or}
+use Rattle.std.proofs.Common.{◌≡◌, ◌≢◌, ◌∙◌, ◌<◌, ◌≤◌, ◌+◌, ◌-◌, ℕ, suc, List, [], length, Option, Some, None}
+use Rattle.std.proofs.Common.{refl, sym, ap, subst, arith, inl, inr, ◌⊎◌, slice_get, set, length-set, get_or, replicate}
+use Rattle.std.specs.Global.{Vec}
 use Rattle.std.specs.Prelude.{option_and_then}
 use Rattle.std.proofs.lemmas.Bool.{cases_lt, cases_order, cases_eq}
-use Rattle.std.proofs.lemmas.Option.{same_Some, none-some, slice_get_past}
+use Rattle.std.proofs.lemmas.List.{get_or-replicate, length-replicate}
+use Rattle.std.proofs.lemmas.Option.{get_or_from_slice_get, same_Some, none-some, slice_get_past, slice_get_within}
 use Rattle.ly_pack.specs.Placement.{Fits, GoesBefore, Has, Table}
 use Rattle.ly_pack.specs.Private.Order.{IsOrder, columns_of}
-use Rattle.ly_pack.specs.Private.Bits.{taken, IsFreeAt, IsTakenAt}
+use Rattle.ly_pack.specs.Private.Bits.{taken, AreStillTaken, AreTakenBelow, IsFreeAt, IsTakenAt}
 use Rattle.ly_pack.specs.Private.Placing.{AreLaid, AreTied, IsFilled, IsRowPlaced, Uses, flag, slot_at}
 use Rattle.ly_pack.specs.Private.Placing.{slot_of}
 use Rattle.ly_pack.specs.Rows.{Entries}
@@ -316,3 +318,46 @@ placed_some {E} T row base columns words old new is some tied free least filled 
       has.1 has.0 has.2) in
       omega (arith, within);
 }
+
+-- a place that was taken still is behind a row that is placed
+pub placed_keeps : {E : Type 0} (T : Table E) (row base : ℕ) (before after : List ℕ) (old new : List (Option (Slot E)))
+    → AreTied before old → AreTied after new → IsRowPlaced T row old new base → AreStillTaken before after
+placed_keeps T row base before after old new was is placed k taken =
+    let used = flag-some (slot_at old k) (sym (was k) ∙ taken) in
+    let same : slot_at new k ≡ slot_at old k = placed.filled.others k (λ column has here.
+    none-some used.0 (sym (placed.free column has) ∙ ap (slot_at old) (sym here) ∙ used.1)) in
+    is k ∙ ap flag same ∙ sym (was k) ∙ taken
+
+-- and so a base that was refused still is
+pub still_taken : (before after columns : List ℕ) (base : ℕ) → AreStillTaken before after
+    → IsTakenAt before columns base → IsTakenAt after columns base
+still_taken before after columns base still hit = (hit.0, hit.1, still (base + get_or columns hit.0 0) hit.2)
+
+pub still_refused : (before after : List ℕ) (bases : List (Vec ℕ × ℕ)) → AreStillTaken before after
+    → AreTakenBelow before bases → AreTakenBelow after bases
+still_refused before after bases still refused columns base there lower lt =
+    still_taken before after columns.items lower still (refused columns base there lower lt)
+
+-- no row is placed yet
+pub laid_none : {E : Type 0} (T : Table E) (order bases : List ℕ) (slots : List (Option (Slot E)))
+    → bases ≡ replicate T.rows 0 → slots ≡ [] → AreLaid T order 0 bases slots
+laid_none {E} T order bases slots all none = record {
+  long = ap length all ∙ length-replicate T.rows 0;
+  near = λ row base at. omega (arith, first row base at);
+  uses = λ k row e. (
+    λ is. absurd (none-some (slot_of row e) (ap (λ s. slot_at s k) (sym none) ∙ is)),
+    λ u. absurd (omega (arith, u.3)),
+  );
+  fits = λ i row base lt. absurd (omega (arith, lt));
+  least = λ i row base lower column lt. absurd (omega (arith, lt));
+  empty = λ i row base lt. absurd (omega (arith, lt));
+  short = λ k last. absurd (omega (arith, last, ap length none));
+}
+  where
+    first : (row base : ℕ) → slice_get bases row ≡ Some base → base ≡ 0
+    first row base at = sym (get_or_from_slice_get bases row base 0 at) ∙ ap (λ b. get_or b row 0) all
+        ∙ get_or-replicate T.rows row 0 0 (omega (
+          arith,
+          slice_get_within bases row base at,
+          ap length all ∙ length-replicate T.rows 0,
+        ))

@@ -4,6 +4,7 @@ ghost use Rattle.std.specs.Int.{bit_at};
 ghost use Rattle.ly_pack.specs.Private.Bits.{taken, IsFreeAt, IsTakenAt};
 
 use std::alloc::{AllocError, Global};
+use std::cmp::max;
 
 /// How many bits a word has.
 const WORD_BITS: usize = 64;
@@ -56,14 +57,15 @@ impl BitRow {
         }
     }
 
-    /// The least base at which every column's place is free.
-    pub(crate) fn first_fit(&self, columns: &[u32]) -> usize
-        requires { 0 < length columns.now }
+    /// The least base at which every column's place is free, where none below a base that is given is one.
+    pub(crate) fn first_fit(&self, columns: &[u32], refused: usize) -> usize
+        requires some { 0 < length columns.now }
+        requires refused { (lower : ℕ) → lower < refused → IsTakenAt self.now.words.items columns.now lower }
         ensures free { IsFreeAt self.now.words.items columns.now result }
         ensures least { (lower : ℕ) → lower < result → IsTakenAt self.now.words.items columns.now lower }
     {
-        let start = (WORD_BITS * self.full).saturating_sub(columns[0] as usize) / WORD_BITS;
-        for word in start..self.words.len() {
+        let full = (WORD_BITS * self.full).saturating_sub(columns[0] as usize);
+        for word in max(full, refused) / WORD_BITS..self.words.len() {
             let taken = self.taken_bases(word, columns);
             if taken != u64::MAX {
                 return WORD_BITS * word + taken.trailing_ones() as usize;

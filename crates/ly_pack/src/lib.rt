@@ -16,6 +16,7 @@ mod cell;
 mod comb_rows;
 mod defaults;
 mod dense;
+mod earlier_rows;
 mod laws;
 mod machine;
 mod machine_parts;

@@ -1,8 +1,10 @@
-//! From rows as lists to a comb: first fit, the rows with the most entries first (Tarjan and Yao 1979).
+//! From rows as lists to a comb: first fit, the rows with the most entries first (Tarjan and Yao 1979). The search for
+//! a row begins at the base of the last one with the same columns: those below it are refused still.
 //!
 //! Left out: anything that would make combs shorter than first fit does.
 ghost use Rattle.std.specs.Prelude.{◌≡◌, ◌≢◌, ◌⊎◌, ◌<◌, ◌≤◌, ◌^◌, ℕ, suc, length, IfOk, OnOk, Some};
 ghost use Rattle.ly_pack.specs.Placement.{IsPlaced};
+ghost use Rattle.ly_pack.specs.Private.Bits.{AreStillTaken, IsTakenAt};
 ghost use Rattle.ly_pack.specs.Private.Order.{columns_of};
 ghost use Rattle.ly_pack.specs.Private.Placing.{slot_at, table_of, AreAllLaid, AreTied, IsFilled, IsRowPlaced};
 ghost use Rattle.ly_pack.specs.Rows.{comb_entry, dense_entry};
@@ -10,7 +12,8 @@ ghost use Rattle.ly_pack.specs.Rows.{comb_entry, dense_entry};
 use crate::bit_row::BitRow;
 use crate::comb_rows::{Comb, Slot};
 use crate::dense::Dense;
-use crate::order::{list_columns, rows_in_order};
+use crate::earlier_rows::EarlierRows;
+use crate::order::{columns_of_row, rows_in_order};
 use ly_base::{OutOfMemory, StateNo};
 use std::alloc::{AllocError, Global};
 
@@ -47,10 +50,13 @@ fn place_rows<E: Copy>(
         slots: Vec::new(alloc),
         used: BitRow::new(alloc),
     };
-    let mut columns = Vec::new(alloc);
+    let mut earlier = EarlierRows::new(alloc);
     for row in &order {
-        list_columns(dense, StateNo(*row), &mut columns)?;
-        bases[*row as usize] = placing.place(dense, StateNo(*row), &columns)?;
+        let columns = columns_of_row(alloc, dense, StateNo(*row))?;
+        let refused = earlier.base(&columns);
+        let base = placing.place(dense, StateNo(*row), &columns, refused)?;
+        bases[*row as usize] = base;
+        earlier.insert(columns, base)?;
     }
     Ok((bases, placing.slots))
 }
@@ -65,19 +71,30 @@ struct Placing<E> {
 }
 
 impl<E: Copy> Placing<E> {
-    /// Places a row, and tells its base.
-    fn place(&mut self, dense: &Dense<E>, row: StateNo, columns: &[u32]) -> Result<u32, OutOfMemory>
+    /// Places a row, which doesn't fit below some base, and tells its own.
+    fn place(
+        &mut self,
+        dense: &Dense<E>,
+        row: StateNo,
+        columns: &[u32],
+        refused: u32,
+    ) -> Result<u32, OutOfMemory>
         requires row { row.0 < dense.now.rows }
         requires columns { columns.now ≡ columns_of (dense_entry dense.now) dense.now.width row.0 }
         requires tied { AreTied self.old.used.words.items self.old.slots.items }
+        requires refused { (lower : ℕ) → lower < refused
+            → IsTakenAt self.old.used.words.items columns.now lower }
         ensures placed { IfOk result (λ base. IsRowPlaced (table_of dense.now) row.0 self.old.slots.items
             self.new.slots.items base) }
         ensures tied { OnOk result (AreTied self.new.used.words.items self.new.slots.items) }
+        ensures still { OnOk result (AreStillTaken self.old.used.words.items self.new.used.words.items) }
+        ensures refused { IfOk result (λ base. (lower : ℕ) → lower < base
+            → IsTakenAt self.old.used.words.items columns.now lower) }
     {
         if columns.is_empty() {
             return Ok(0);
         }
-        let base = self.used.first_fit(columns);
+        let base = self.used.first_fit(columns, refused as usize);
         if base > u32::MAX as usize {
             return Err(OutOfMemory);
         }

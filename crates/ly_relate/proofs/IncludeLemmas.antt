@@ -50,30 +50,49 @@ edges_none g n P never i j = ((λ has. inl has), back) where
   back (inl was) = was
   back (inr (e, is)) = absurd (never i is)
 
--- one more edge
+-- those of one more node
 pub edges_more : (old g new : Digraph) (n m : ℕ) (P Q : ℕ → Type 0) → ((i : ℕ) → Q i ↔ (P i ⊎ (i ≡ m)))
-    → new.edges ≡ g.edges ++ (m, n) ∷ [] → AreEdgesTo old g n P → AreEdgesTo old new n Q
-edges_more old g new n m P Q one e are i j = (to, back) where
+    → AreEdgesTo g new n (λ i. i ≡ m) → AreEdgesTo old g n P → AreEdgesTo old new n Q
+edges_more old g new n m P Q one added are i j = (to, back) where
   to : IsEdge new i j → IsEdge old i j ⊎ ((j ≡ n) × Q i)
-  to has = elim (Contains-append_cases g.edges ((m, n) ∷ []) (i, j) (subst (λ w. Contains w (i, j)) e has)) [
+  to has = elim ((added i j).0 has) [
     | inl here ↦ elim ((are i j).0 here) [
       | inl was ↦ inl was
       | inr (same, is) ↦ inr (same, (one i).1 (inl is))
     ]
-    | inr last ↦
-        let same = Contains-one (m, n) (i, j) last in
-        inr (sym (ap (λ p. p.1) same), (one i).1 (inr (sym (ap (λ p. p.0) same))))
+    | inr (same, is) ↦ inr (same, (one i).1 (inr is))
   ]
 
   back : IsEdge old i j ⊎ ((j ≡ n) × Q i) → IsEdge new i j
-  back (inl was) = subst (λ w. Contains w (i, j)) (sym e)
-      (Contains-append_left g.edges ((m, n) ∷ []) (i, j) ((are i j).1 (inl was)))
-  back (inr (same, is)) = subst (λ w. Contains w (i, j)) (sym e) (elim ((one i).0 is) [
-    | inl was ↦ Contains-append_left g.edges ((m, n) ∷ []) (i, j) ((are i j).1 (inr (same, was)))
-    | inr here ↦ subst (λ k. Contains (g.edges ++ (m, n) ∷ []) (k, j)) (sym here)
-        (subst (λ k. Contains (g.edges ++ (m, n) ∷ []) (m, k)) (sym same)
-        (Contains-append_right g.edges ((m, n) ∷ []) (m, n) (Contains-first (m, n) [])))
-  ])
+  back (inl was) = (added i j).1 (inl ((are i j).1 (inl was)))
+  back (inr (same, is)) = elim ((one i).0 is) [
+    | inl was ↦ (added i j).1 (inl ((are i j).1 (inr (same, was))))
+    | inr here ↦ (added i j).1 (inr (same, here))
+  ]
+
+-- a node that is led to another
+pub edges_one : (g new : Digraph) (n m : ℕ) → new.edges ≡ g.edges ++ (m, n) ∷ [] → AreEdgesTo g new n (λ i. i ≡ m)
+edges_one g new n m e i j = (to, back) where
+  to : IsEdge new i j → IsEdge g i j ⊎ ((j ≡ n) × (i ≡ m))
+  to has = elim (Contains-append_cases g.edges ((m, n) ∷ []) (i, j) (subst (λ w. Contains w (i, j)) e has)) [
+    | inl here ↦ inl here
+    | inr last ↦ let same = Contains-one (m, n) (i, j) last in
+        inr (sym (ap (λ p. p.1) same), sym (ap (λ p. p.0) same))
+  ]
+
+  back : IsEdge g i j ⊎ ((j ≡ n) × (i ≡ m)) → IsEdge new i j
+  back (inl was) = subst (λ w. Contains w (i, j)) (sym e) (Contains-append_left g.edges ((m, n) ∷ []) (i, j) was)
+  back (inr (same, here)) = subst (λ w. Contains w (i, j)) (sym e)
+      (subst (λ k. Contains (g.edges ++ (m, n) ∷ []) (k, j)) (sym here)
+      (subst (λ k. Contains (g.edges ++ (m, n) ∷ []) (m, k)) (sym same)
+      (Contains-append_right g.edges ((m, n) ∷ []) (m, n) (Contains-first (m, n) []))))
+
+-- and where it was led there already
+pub edges_still : (g : Digraph) (n m : ℕ) → IsEdge g m n → AreEdgesTo g g n (λ i. i ≡ m)
+edges_still g n m is i j = ((λ has. inl has), back) where
+  back : IsEdge g i j ⊎ ((j ≡ n) × (i ≡ m)) → IsEdge g i j
+  back (inl was) = was
+  back (inr (same, here)) = subst (λ k. IsEdge g k j) (sym here) (subst (IsEdge g m) (sym same) is)
 
 -- a transition is included from some place on
 abbrev pub IncludedFrom : Grammar → List Goto → List Symbol → List ℕ → ℕ → ℕ → Type 0
@@ -214,7 +233,7 @@ pub record IsAt (G : Grammar) (body : List Symbol) (path : List ℕ) (k A q : �
 -- the edges from a place on, where the transition that leaves there was found
 pub edges_found : (M : Automaton) (gotos : List Goto) (body : List Symbol) (path : List ℕ) (old g new : Digraph)
     (n k A q m : ℕ) (x : Goto) → AreGotos M gotos → IsAt M.grammar body path k A q → slice_get gotos m ≡ Some x
-    → x.from ≡ q → x.symbol ≡ A → new.edges ≡ g.edges ++ (m, n) ∷ []
+    → x.from ≡ q → x.symbol ≡ A → AreEdgesTo g new n (λ i. i ≡ m)
     → AreEdgesTo old g n (IncludedFrom M.grammar gotos body path (k + 1))
     → AreEdgesTo old new n (IncludedFrom M.grammar gotos body path k)
 edges_found M gotos body path old g new n k A q m x are place at from symbol e before =

@@ -1,6 +1,6 @@
 ghost use Rattle.std.specs.Prelude.{◌≡◌, ◌<◌, ◌≤◌, ◌↔◌, ◌++◌, ℕ, [], ◌∷◌, length, map, slice_get, IfOk, OnOk};
-ghost use Rattle.std.specs.Prelude.{MatchOption, None, Some};
-ghost use Rattle.ly_join.specs.Grammar.{nonterminal};
+ghost use Rattle.std.specs.Prelude.{MatchOption, None, Some, option_map};
+ghost use Rattle.ly_join.specs.Grammar.{nonterminal, symbol_of};
 ghost use Rattle.ly_lr0.specs.Automaton.{goto_of, state_at};
 ghost use Rattle.ly_relate.specs.Private.Gotos.{row_gotos, IsNumbering};
 ghost use Rattle.ly_relate.specs.Values.{goto_from};
@@ -98,6 +98,22 @@ impl<'a> Gotos<'a> {
         ensures lawful { IsNumbering self.now }
     {
         self.first[state.0 as usize]..self.first[state.0 as usize + 1]
+    }
+
+    /// Where a symbol leads from a state.
+    pub(crate) fn goto(&self, state: StateNo, symbol: Symbol) -> Option<StateNo>
+        requires { state.0 < length self.now.automaton.states }
+        ensures leads { option_map (λ s. s.0) result ≡ goto_of self.now.automaton state.0 (symbol_of symbol) }
+        ensures lawful { IsNumbering self.now }
+    {
+        match symbol {
+            Symbol::Terminal(_) => self.lr0.goto(state, symbol),
+            // a state may have thousands of terminals, and few nonterminals
+            Symbol::Nonterminal(part) => {
+                let number = self.find(state, part)?;
+                Some(self.gotos[number].target)
+            }
+        }
     }
 
     /// The number of the transition that leaves a state over a nonterminal, if there is one.

@@ -10,6 +10,7 @@
 
 mod direct;
 mod gotos;
+mod includes;
 mod pairs;
 mod reads;
 mod relate;

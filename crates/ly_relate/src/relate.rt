@@ -25,7 +25,7 @@ pub fn relations(alloc: Global, lr0: &Lr0<'_>) -> Result<Relations, OutOfMemory>
         gotos: gotos.into_list(),
         direct,
         reads,
-        includes: walks.includes,
+        includes: walks.includes.into_graph(),
         lookbacks: walks.lookbacks,
     })
 }

@@ -10,8 +10,8 @@ ghost use Rattle.ly_relate.specs.Related.{AreEdges, AreLookbacks, IsIncluding};
 ghost use Rattle.ly_relate.specs.Values.{lookback_from};
 
 use crate::gotos::Gotos;
+use crate::includes::Includes;
 use ly_base::{OutOfMemory, StateNo};
-use ly_digraph::Graph;
 use ly_join::Symbol;
 use std::alloc::Global;
 
@@ -30,7 +30,7 @@ pub struct Lookback {
 #[derive(Drop)]
 pub(crate) struct Walks {
     /// Which transitions include which.
-    pub(crate) includes: Graph,
+    pub(crate) includes: Includes,
     /// The transitions to which complete rules look back.
     pub(crate) lookbacks: Vec<Lookback>,
     /// The states before the symbols of the body that is walked.
@@ -46,7 +46,7 @@ impl Walks {
             (map lookback_from w.lookbacks.items)) }
     {
         let mut walks = Walks {
-            includes: Graph::new(alloc, gotos.len())?,
+            includes: Includes::new(alloc, gotos.len())?,
             lookbacks: Vec::new(alloc),
             path: Vec::new(alloc),
         };
@@ -113,7 +113,7 @@ impl Walks {
         let mut state = from;
         for symbol in body {
             self.path.push(state)?;
-            match gotos.lr0().goto(state, *symbol) {
+            match gotos.goto(state, *symbol) {
                 Some(next) => state = next,
                 None => return Ok(None),
             }

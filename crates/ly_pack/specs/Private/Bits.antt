@@ -1,5 +1,6 @@
 -- A row of bits: bit k is bit k % 64 of word k / 64, and 0 past the end.
-use Rattle.std.specs.Prelude.{◌≡◌, ℕ, ◌+◌, ◌/◌, ◌%◌, ◌<◌, List, length, slice_index}
+use Rattle.std.specs.Prelude.{◌≡◌, ℕ, ◌+◌, ◌/◌, ◌%◌, ◌<◌, List, length, slice_index, Contains}
+use Rattle.std.specs.Global.{Vec}
 use Rattle.std.specs.Int.{bit_at}
 
 -- 1 where the place is taken, else 0
@@ -13,3 +14,12 @@ IsFreeAt words columns base = (j : ℕ) → j < length columns → taken words (
 -- at a base some column's place is taken
 abbrev pub IsTakenAt : List ℕ → List ℕ → ℕ → Type 0
 IsTakenAt words columns base = (j : ℕ) × (j < length columns) × (taken words (base + slice_index columns j) ≡ 1)
+
+-- every place that was taken still is
+abbrev pub AreStillTaken : List ℕ → List ℕ → Type 0
+AreStillTaken old new = (k : ℕ) → taken old k ≡ 1 → taken new k ≡ 1
+
+-- for each of these lists of columns, at each base below that beside it, some column's place is taken
+abbrev pub AreTakenBelow : List ℕ → List (Vec ℕ × ℕ) → Type 0
+AreTakenBelow words bases = (columns : Vec ℕ) (base : ℕ) → Contains bases (columns, base) → (lower : ℕ) → lower < base
+    → IsTakenAt words columns.items lower

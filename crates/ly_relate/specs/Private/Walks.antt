@@ -1,6 +1,6 @@
 -- Walks over the bodies of rules.
-use Rattle.std.specs.Prelude.{◌≡◌, ◌↔◌, ◌⊎◌, ◌<◌, ◌≤◌, ◌+◌, ℕ, List, length, Some, None, drop, take, reverse, slice_get}
-use Rattle.std.specs.Prelude.{slice_index_or, Contains}
+use Rattle.std.specs.Prelude.{◌≡◌, ◌↔◌, ◌⊎◌, ◌<◌, ◌≤◌, ◌+◌, ℕ, List, length, Option, Some, None, drop, take, reverse}
+use Rattle.std.specs.Prelude.{slice_get, slice_index_or, Contains}
 use Rattle.ly_join.specs.Grammar.{Grammar, Symbol, nonterminal, terminal}
 use Rattle.ly_digraph.specs.Digraph.{Digraph, IsEdge}
 use Rattle.ly_grammar.specs.Derivations.{IsNullable}
@@ -15,6 +15,11 @@ AreEdgesFrom old new n P = (i j : ℕ) → IsEdge new i j ↔ (IsEdge old i j �
 -- edges to a node were added, from those nodes that meet a test
 abbrev pub AreEdgesTo : Digraph → Digraph → ℕ → (ℕ → Type 0) → Type 0
 AreEdgesTo old new n P = (i j : ℕ) → IsEdge new i j ↔ (IsEdge old i j ⊎ ((j ≡ n) × P i))
+
+-- For each node there is an edge to the one that it was last led to, if any.
+pub record AreLast (g : Digraph) (last : List (Option ℕ)) : Type 0 where
+  pub long : length last ≡ g.nodes
+  pub edges : (i j : ℕ) → slice_get last i ≡ Some (Some j) → IsEdge g i j
 
 -- lookbacks to a transition were added, of those states and rules that meet a test
 abbrev pub AreBack : List Lookback → List Lookback → ℕ → (ℕ → ℕ → Type 0) → Type 0

@@ -27,8 +27,9 @@ are_relations M gotos n direct reads includes lookbacks law same listed d r i l 
 pub returns : goal.returns
 returns c =
     are_relations c.args.lr0.now (map goto_from c.into_list.result.items) c.in_ok-gotos.gotos
-    (map direct_from c.in_ok-direct.direct.items) c.in_ok-reads.reads c.in_ok-walks.walks.includes
+    (map direct_from c.in_ok-direct.direct.items) c.in_ok-reads.reads c.into_graph.result
     (map lookback_from c.in_ok-walks.walks.lookbacks.items) (subst IsNumbering c.gotos.view_is c.gotos.invariant)
     c.in_ok-gotos.ensures c.into_list.ensures c.in_ok-direct.ensures c.in_ok-reads.ensures
-    c.in_ok-walks.ensures.includes
+    (subst (AreEdges c.in_ok-gotos.gotos.gotos (IsIncluding c.in_ok-gotos.gotos.automaton c.in_ok-gotos.gotos.gotos))
+    (sym c.into_graph.ensures) c.in_ok-walks.ensures.includes)
     c.in_ok-walks.ensures.lookbacks

@@ -1,7 +1,7 @@
 use Rattle.std.proofs.Common.{◌<◌, ◌∙◌, arith, length, sym}
 use Rattle.std.proofs.lemmas.Bool.{eqb-true, eqb-false}
 use Rattle.ly_pack.specs.Private.Placing.{table_of}
-use Rattle.ly_pack.proofs.PlacingLemmas.{placed_none, placed_some}
+use Rattle.ly_pack.proofs.PlacingLemmas.{placed_keeps, placed_none, placed_some}
 use Rattle.ly_pack.proofs.placing.Placing.place.Goals as goal
 
 pub returns-then-is_empty-clause-placed : goal.returns-then-is_empty-clause-placed
@@ -18,3 +18,8 @@ returns-clause-placed g c =
     some
     c.requires.tied c.first_fit-base.ensures.free c.first_fit-base.ensures.least
     c.in_ok-fill.ensures.filled
+
+pub returns-clause-still : goal.returns-clause-still
+returns-clause-still g c = placed_keeps (table_of c.args.dense.now) c.args.row.0 c.first_fit-base.result
+    c.args.self.now.used.words.items c.fill.new.self.used.words.items c.args.self.now.slots.items
+    c.fill.new.self.slots.items c.requires.tied c.in_ok-fill.ensures.tied (returns-clause-placed g c)

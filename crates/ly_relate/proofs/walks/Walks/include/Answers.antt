@@ -124,7 +124,8 @@ returns-then-not-is_nullable-clause-includes c =
           let found = w.in-Some.ensures in
           edges_found M gotos body path first c.loop-at.self.includes c.match-find.self.includes c.args.goto k
           c.in-Nonterminal.part.0 c.index.result.now.0 w.in-Some.inner found.0 are place found.1 found.2 found.3
-          (ap (λ v. v.includes.edges) w.self-is ∙ ap (λ g. g.edges) w.in_ok-add.ensures.ok) behind
+          (subst (λ v. AreEdgesTo c.loop-at.self.includes v.includes c.args.goto (λ i. i ≡ w.in-Some.inner))
+          (sym w.self-is) w.in_ok-add.ensures.edges) behind
       | in_default-find w ↦
           subst (λ v. AreEdgesTo first v.includes c.args.goto (IncludedFrom M.grammar gotos body path k))
           (sym w.self-is)
@@ -165,7 +166,8 @@ loop-at-preserved c =
           let found = w.in-Some.ensures in
           edges_found M gotos body path first c.loop-at.self.includes c.match-find.self.includes c.args.goto k
           c.in-Nonterminal.part.0 c.index.result.now.0 w.in-Some.inner found.0 are place found.1 found.2 found.3
-          (ap (λ v. v.includes.edges) w.self-is ∙ ap (λ g. g.edges) w.in_ok-add.ensures.ok) behind
+          (subst (λ v. AreEdgesTo c.loop-at.self.includes v.includes c.args.goto (λ i. i ≡ w.in-Some.inner))
+          (sym w.self-is) w.in_ok-add.ensures.edges) behind
       | in_default-find w ↦
           subst (λ v. AreEdgesTo first v.includes c.args.goto (IncludedFrom M.grammar gotos body path k))
           (sym w.self-is)
@@ -182,7 +184,7 @@ loop-at-preserved c =
       | in-Some+in_ok-add w ↦ (
         ap (λ v. v.path) w.self-is ∙ c.loop-at.invariant.path,
         ap (λ v. v.lookbacks) w.self-is ∙ c.loop-at.invariant.lookbacks,
-        ap (λ v. v.includes.nodes) w.self-is ∙ ap (λ g. g.nodes) w.in_ok-add.ensures.ok ∙ c.loop-at.invariant.nodes,
+        ap (λ v. v.includes.nodes) w.self-is ∙ w.in_ok-add.ensures.nodes ∙ c.loop-at.invariant.nodes,
       )
       | in_default-find w ↦ (
         ap (λ v. v.path) w.self-is ∙ c.loop-at.invariant.path,

@@ -27,11 +27,11 @@ loop-symbol-preserved c =
     let path = c.loop-symbol.self.path.items in
     let X = symbol_of (slice_index_or c.args.body.now k no_symbol) in
     let goes : goto_of M c.loop-symbol.state.0 X ≡ Some c.in-Some.next.0
-    = ap (λ A. goto_of A c.loop-symbol.state.0 X) (sym c.lr0.ensures.automaton) ∙ sym c.in-Some.ensures in
+    = sym c.in-Some.ensures.leads in
     record {
       includes = c.loop-symbol.invariant.includes;
       lookbacks = c.loop-symbol.invariant.lookbacks;
-      state = leads_to M c.lr0.ensures.lawful.lawful c.loop-symbol.state.0 X c.in-Some.next.0 goes;
+      state = leads_to M c.goto.ensures.lawful.lawful c.loop-symbol.state.0 X c.in-Some.next.0 goes;
       path = subst (All IsIn) (sym c.in_ok-push.ensures.items)
           (All-push IsIn path c.loop-symbol.state c.loop-symbol.invariant.path c.loop-symbol.invariant.state);
       passed = passed_more M c.args.from.0 (map symbol_of c.args.body.now) k (map (λ q. q.0) path)
