@@ -10,7 +10,7 @@ use std::test::Fail;
 const ROWS: [&[u8]; 6] = [b"1.2.", b"....", b".34.", b"5...", b"6789", b"..1."];
 
 /// A dense table with the entries of `ROWS`.
-pub(crate) fn dense_rows(alloc: Global) -> Result<Dense<u8>, OutOfMemory> {
+fn dense_rows(alloc: Global) -> Result<Dense<u8>, OutOfMemory> {
     let mut dense = Dense::new(alloc, 6, 4)?;
     for row in 0..6u32 {
         for column in 0..4usize {
@@ -31,7 +31,7 @@ fn entry(row: usize, column: usize) -> Option<u8> {
 }
 
 /// Whether rows have the entries of `ROWS`, and none beside them.
-pub(crate) fn have_entries<R: Rows<u8>>(rows: &R) -> bool {
+fn have_entries<R: Rows<u8>>(rows: &R) -> bool {
     let mut same = true;
     for row in 0..8u32 {
         for column in 0..6usize {

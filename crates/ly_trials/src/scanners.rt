@@ -109,18 +109,6 @@ fn rows_text(alloc: Global, dfa: &Dfa) -> Result<Vec<u8>, AllocError> {
     Ok(text)
 }
 
-/// The smallest automaton of a lex file as `AUTOMATA` write it, or the number of the fault, 0 for want of memory.
-pub(crate) fn smallest_text(alloc: Global, lex: &[u8]) -> Result<Vec<u8>, u8> {
-    let dfa = automaton(alloc, lex, &Limits::V1)?;
-    let Ok(smallest) = minimise(alloc, dfa) else {
-        return Err(0);
-    };
-    match rows_text(alloc, &smallest) {
-        Ok(text) => Ok(text),
-        Err(_) => Err(0),
-    }
-}
-
 #[test]
 fn automata_are_made_smallest(rt: HostRuntime) -> Result<(), Fail> {
     for (lex, found, smallest) in AUTOMATA {
