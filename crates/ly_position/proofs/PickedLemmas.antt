@@ -1,5 +1,6 @@
 -- Lists that are picked among others by their numbers.
-use Rattle.std.proofs.Common.{◌≡◌, inl, inr, ℕ, zero, suc, ◌+◌, ◌<◌, ◌≤◌, List, [], ◌∷◌, ◌++◌, length, get_or, replicate, set}
+use Rattle.std.proofs.Common.{◌≡◌, inl, inr, ℕ, zero, suc, ◌+◌, ◌<◌, ◌≤◌, List, [], ◌∷◌, ◌++◌, length, get_or}
+use Rattle.std.proofs.Common.{replicate, set}
 use Rattle.std.proofs.Common.{refl, sym, ap, ap₂, ◌∙◌, arith, length-append}
 use Rattle.std.specs.Prelude.{All}
 use Rattle.std.proofs.lemmas.List.{get_or-map, length-map, map-set, get_or_append_left, get_or_push, get_or_read}
@@ -19,7 +20,8 @@ picked_kept L M (n ∷ ns) kept within
     (picked_kept L M ns kept (later (λ n. n < length L) n ns within))
 
 -- one more
-pub picked_push : (L : List (List ℕ)) (ns : List ℕ) (n : ℕ) → picked L (ns ++ n ∷ []) ≡ picked L ns ++ get_or L n [] ∷ []
+pub picked_push : (L : List (List ℕ)) (ns : List ℕ) (n : ℕ) → picked L (ns ++ n ∷ [])
+    ≡ picked L ns ++ get_or L n [] ∷ []
 picked_push L [] n = refl
 picked_push L (m ∷ ns) n = ap (λ xs. get_or L m [] ∷ xs) (picked_push L ns n)
 

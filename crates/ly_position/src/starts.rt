@@ -91,9 +91,9 @@ fn roots(
     Ok(roots)
 }
 
-/// The numbers of all rules, first those with the list of conditions that is the commonest. A rule without `<..>` is
-/// active in conditions that take no room in the lex file; while these come first, their lists are alike, and all others
-/// are no longer than the file.
+/// The numbers of all rules, first those with the commonest list of conditions. That of a rule without `<..>` takes no
+/// room in the lex file: where such rules come first, their conditions' lists stay alike, and all that is put to lists
+/// behind them is no longer than the file.
 fn common_first(alloc: Global, rules: &[Rule]) -> Result<Vec<usize>, AllocError>
     ensures { IfOk result (λ numbers. AreBelow (length rules.now) numbers.items) }
 {

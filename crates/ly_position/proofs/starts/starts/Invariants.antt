@@ -10,5 +10,6 @@ invariant-loop-number l = record {
   forks : l.set.forks.below ≡ length l.linked.forks.items;
   count : length l.starts ≡ l.number;
   each : (k : ℕ) → k < l.number
-      → IsReachList (map step_of l.program.instructions.items) (get_or (picked l.roots-inside.lists l.roots-inside.numbers.items) k []) (get_or l.starts k []);
+      → IsReachList (map step_of l.program.instructions.items)
+      (get_or (picked l.roots-inside.lists l.roots-inside.numbers.items) k []) (get_or l.starts k []);
 }

@@ -5,7 +5,11 @@ use Rattle.ly_position.proofs.grown.Grown.read.Goals as goal
 
 pub index-list-requires : goal.index-list-requires
 index-list-requires c
-    = omega (arith, grown_count c.self.inside.extended.items c.args.self.now c.self.view_is, c.loop-left.invariant.within)
+    = omega (
+      arith,
+      grown_count c.self.inside.extended.items c.args.self.now c.self.view_is,
+      c.loop-left.invariant.within,
+    )
 
 pub loop-left-smaller : goal.loop-left-smaller
 loop-left-smaller c =
