@@ -5,6 +5,7 @@ pub mod CodePlaces
 pub mod CompileLemmas
 pub mod CountLemmas
 pub mod FullLemmas
+pub mod GrownLemmas
 pub mod HomeLemmas
 pub mod JoinedLemmas
 pub mod LabelLemmas
@@ -12,6 +13,7 @@ pub mod LinkLemmas
 pub mod ListsLemmas
 pub mod NumberLemmas
 pub mod NumberedLemmas
+pub mod PickedLemmas
 pub mod PlainLemmas
 pub mod PlanLemmas
 pub mod ProgramLemmas

@@ -5,14 +5,15 @@ use Rattle.std.proofs.Common.{get_or-set_same, get_or-set_other}
 use Rattle.std.specs.Prelude.{All, ◌↔◌, slice_get, Contains, IsTrue}
 use Rattle.std.proofs.lemmas.Bool.{cases_eq, cases_lt}
 use Rattle.std.proofs.lemmas.List.{get_or_push, get_or_append_left, get_or_default}
-use Rattle.std.proofs.lemmas.List.Elements.{All-push, All-set, All-nil, Contains-append_left, Contains-push}
+use Rattle.std.proofs.lemmas.List.Elements.{All-append, All-contains, All-push, All-set, All-nil}
+use Rattle.std.proofs.lemmas.List.Elements.{Contains-append_left, Contains-append_right, Contains-push}
 use Rattle.std.proofs.lemmas.List.Elements.{Contains-push_cases}
 use Rattle.ly_base.proofs.MemberLemmas.{Contains-none}
 use Rattle.ly_ere.specs.declared.pattern.Rule.{Rule}
 use Rattle.ly_position.specs.Private.Program.{Step}
 use Rattle.ly_position.specs.Private.Link.{IsReachList}
 use Rattle.ly_position.specs.Private.Starts.{key, root_list, PutsIn, AddsIn, AddsInEach, StaysWithin, BeginsBefore}
-use Rattle.ly_position.specs.Private.Starts.{AreRoots, StartsAt}
+use Rattle.ly_position.specs.Private.Starts.{AreBelow, AreRoots, BeginsIn, StartsAt}
 
 -- an entry in one list
 pub put_within : (L L' : List (List ℕ)) (k x : ℕ) → k < length L → PutsIn L L' k x → StaysWithin L L' x
@@ -166,46 +167,46 @@ empty_within L n none k d l = let e : get_or L k d ≡ [] = get_or_default L k d
     in rw e (All-nil (λ p. p < n))
 
 pub roots_none : (rules : List Rule) (entries : List (Option ℕ)) (conditions bound : ℕ) (L : List (List ℕ))
-    → length L ≡ 2 * conditions → ((k : ℕ) → get_or L k [] ≡ []) → AreRoots rules entries 0 conditions bound L
+    → length L ≡ 2 * conditions → ((k : ℕ) → get_or L k [] ≡ []) → AreRoots rules entries [] conditions bound L
 roots_none rules entries conditions bound L count none = record {
   count = count;
   within = empty_within L bound none;
   each = λ c line e l. (
     λ h. let at = none (key c line)
         in Contains-none e (subst (λ (xs : List ℕ). Contains xs e) at h),
-    λ h. absurd (omega (arith, h.2)),
+    λ h. Contains-none h.0 h.2,
   );
 }
 
-later : (rules : List Rule) (entries : List (Option ℕ)) (n c : ℕ) (line : Bool) (e : ℕ)
-    → BeginsBefore rules entries n c line e → BeginsBefore rules entries (n + 1) c line e
-later rules entries n c line e h = (h.0, h.1, omega (arith, h.2), h.3, h.4)
+later : (rules : List Rule) (entries : List (Option ℕ)) (done : List ℕ) (n c : ℕ) (line : Bool) (e : ℕ)
+    → BeginsIn rules entries done c line e → BeginsIn rules entries (done ++ n ∷ []) c line e
+later rules entries done n c line e h = (h.0, h.1, Contains-append_left done (n ∷ []) h.0 h.2, h.3, h.4)
 
-pub roots_skip : (rules : List Rule) (entries : List (Option ℕ)) (n conditions bound : ℕ) (L : List (List ℕ))
-    → AreRoots rules entries n conditions bound L → get_or entries n None ≡ None
-    → AreRoots rules entries (n + 1) conditions bound L
-roots_skip rules entries n conditions bound L h none = record {
+pub roots_skip : (rules : List Rule) (entries : List (Option ℕ)) (done : List ℕ) (n conditions bound : ℕ)
+    (L : List (List ℕ)) → AreRoots rules entries done conditions bound L → get_or entries n None ≡ None
+    → AreRoots rules entries (done ++ n ∷ []) conditions bound L
+roots_skip rules entries done n conditions bound L h none = record {
   count = h.count;
   within = h.within;
   each = λ c line e l. (
-    λ k. later rules entries n c line e ((h.each c line e l).0 k),
+    λ k. later rules entries done n c line e ((h.each c line e l).0 k),
     λ k. (h.each c line e l).1 (earlier c line e k),
   );
 }
   where
-    earlier : (c : ℕ) (line : Bool) (e : ℕ) → BeginsBefore rules entries (n + 1) c line e
-        → BeginsBefore rules entries n c line e
-    earlier c line e k = elim (cases_eq k.0 n) [
-      | inl same ↦ let at : get_or entries n None ≡ Some e = ap (λ i. get_or entries i None) (sym same) ∙ k.4 in cc
-      | inr other ↦ (k.0, k.1, omega (arith, k.2), k.3, k.4)
+    earlier : (c : ℕ) (line : Bool) (e : ℕ) → BeginsIn rules entries (done ++ n ∷ []) c line e
+        → BeginsIn rules entries done c line e
+    earlier c line e k = elim (Contains-push_cases done n k.0 k.2) [
+      | inl old ↦ (k.0, k.1, old, k.3, k.4)
+      | inr same ↦ let at : get_or entries n None ≡ Some e = ap (λ i. get_or entries i None) same ∙ k.4 in cc
     ]
 
-pub roots_more : (rules : List Rule) (entries : List (Option ℕ)) (n conditions bound : ℕ) (L M : List (List ℕ))
-    (r : Rule) (x : ℕ) → AreRoots rules entries n conditions bound L → slice_get rules n ≡ Some r
-    → get_or entries n None ≡ Some x → x < bound
+pub roots_more : (rules : List Rule) (entries : List (Option ℕ)) (done : List ℕ) (n conditions bound : ℕ)
+    (L M : List (List ℕ)) (r : Rule) (x : ℕ) → AreRoots rules entries done conditions bound L
+    → slice_get rules n ≡ Some r → get_or entries n None ≡ Some x → x < bound
     → length M ≡ length L → StaysWithin L M x → AddsInEach L M conditions r.active.items r.pattern.line_start x
-    → AreRoots rules entries (n + 1) conditions bound M
-roots_more rules entries n conditions bound L M r x h is at less count stays added = record {
+    → AreRoots rules entries (done ++ n ∷ []) conditions bound M
+roots_more rules entries done n conditions bound L M r x h is at less count stays added = record {
   count = count ∙ h.count;
   within = stays bound less h.within;
   each = λ c line e l. (λ k. there c line e ((added c line e l).0 k) l, λ k. (added c line e l).1 (back c line e l k));
@@ -213,32 +214,32 @@ roots_more rules entries n conditions bound L M r x h is at less count stays add
   where
     there : (c : ℕ) (line : Bool) (e : ℕ) → Contains (root_list L c line) e
         ⊎ (Contains r.active.items c × (IsTrue r.pattern.line_start → IsTrue line) × (e ≡ x)) → c < conditions
-        → BeginsBefore rules entries (n + 1) c line e
-    there c line e (inl k) l = later rules entries n c line e ((h.each c line e l).0 k)
+        → BeginsIn rules entries (done ++ n ∷ []) c line e
+    there c line e (inl k) l = later rules entries done n c line e ((h.each c line e l).0 k)
     there c line e (inr k) l = (
       n,
       r,
-      omega arith,
+      Contains-push done n,
       record { is_rule = is; in_condition = k.0; at_line = k.1 },
       at ∙ ap (λ z. Some z) (sym k.2),
     )
 
-    back : (c : ℕ) (line : Bool) (e : ℕ) → c < conditions → BeginsBefore rules entries (n + 1) c line e
+    back : (c : ℕ) (line : Bool) (e : ℕ) → c < conditions → BeginsIn rules entries (done ++ n ∷ []) c line e
         → Contains (root_list L c line) e ⊎ (Contains r.active.items c × (IsTrue r.pattern.line_start → IsTrue line)
         × (e ≡ x))
-    back c line e l k = elim (cases_eq k.0 n) [
-      | inl same ↦
-          let one : k.1 ≡ r = let a : slice_get rules n ≡ Some k.1 = ap (λ i. slice_get rules i) (sym same)
+    back c line e l k = elim (Contains-push_cases done n k.0 k.2) [
+      | inl old ↦ inl ((h.each c line e l).1 (k.0, k.1, old, k.3, k.4))
+      | inr same ↦
+          let one : k.1 ≡ r = let a : slice_get rules n ≡ Some k.1 = ap (λ i. slice_get rules i) same
           ∙ k.3.is_rule in cc
           in
-          let two : e ≡ x = let a : get_or entries n None ≡ Some e = ap (λ i. get_or entries i None) (sym same) ∙ k.4
+          let two : e ≡ x = let a : get_or entries n None ≡ Some e = ap (λ i. get_or entries i None) same ∙ k.4
           in cc in
           inr (
             subst (λ (q : Rule). Contains q.active.items c) one k.3.in_condition,
             subst (λ (q : Rule). (IsTrue q.pattern.line_start → IsTrue line)) one k.3.at_line,
             two,
           )
-      | inr other ↦ inl ((h.each c line e l).1 (k.0, k.1, omega (arith, k.2), k.3, k.4))
     ]
 
 -- one more list of positions
@@ -257,15 +258,54 @@ key_below : (c n : ℕ) (line : Bool) → c < n → key c line < 2 * n
 key_below c n true l = omega arith
 key_below c n false l = omega arith
 
-pub starts_all : (g : List Step) (rules : List Rule) (entries : List (Option ℕ)) (conditions bound : ℕ)
-    (L S : List (List ℕ)) → AreRoots rules entries (length rules) conditions bound L → length S ≡ length L
+-- of all rules, in whichever order they came
+all_begin : (rules : List Rule) (entries : List (Option ℕ)) (numbers : List ℕ) (c : ℕ) (line : Bool) (e : ℕ)
+    → AreBelow (length rules) numbers
+    → BeginsIn rules entries numbers c line e ↔ BeginsBefore rules entries (length rules) c line e
+all_begin rules entries numbers c line e are = (
+  λ h. (h.0, h.1, All-contains (λ i. i < length rules) numbers h.0 are.within h.2, h.3, h.4),
+  λ h. (h.0, h.1, are.all h.0 h.2, h.3, h.4),
+)
+
+pub starts_all : (g : List Step) (rules : List Rule) (entries : List (Option ℕ)) (numbers : List ℕ)
+    (conditions bound : ℕ) (L S : List (List ℕ)) → AreBelow (length rules) numbers
+    → AreRoots rules entries numbers conditions bound L → length S ≡ length L
     → ((k : ℕ) → k < length L → IsReachList g (get_or L k []) (get_or S k [])) → StartsAt g rules entries conditions S
-starts_all g rules entries conditions bound L S roots count each = record {
+starts_all g rules entries numbers conditions bound L S are roots count each = record {
   count = count ∙ roots.count;
   each = λ k l. (get_or L k [], each k (omega arith));
   begin = λ c line l. (
     root_list L c line,
     each (key c line) (omega (arith, key_below c conditions line l, roots.count)),
-    λ e. roots.each c line e l,
+    λ e. let all = all_begin rules entries numbers c line e are in let at = roots.each c line e l
+        in (λ k. all.0 (at.0 k), λ k. at.1 (all.1 k)),
   );
+}
+
+-- numbers that are in one of two lists
+abbrev pub EachIn : ℕ → List ℕ → List ℕ → Type 0
+EachIn n xs ys = (i : ℕ) → i < n → Contains xs i ⊎ Contains ys i
+
+pub each_left : (n : ℕ) (xs ys : List ℕ) → EachIn n xs ys → EachIn (n + 1) (xs ++ n ∷ []) ys
+each_left n xs ys each i l = elim (cases_lt i n) [
+  | inl less ↦ elim (each i less) [ inl a ↦ inl (Contains-append_left xs (n ∷ []) i a) | inr b ↦ inr b ]
+  | inr more ↦ let same : n ≡ i = omega arith
+      in inl (subst (λ k. Contains (xs ++ n ∷ []) k) same (Contains-push xs n))
+]
+
+pub each_right : (n : ℕ) (xs ys : List ℕ) → EachIn n xs ys → EachIn (n + 1) xs (ys ++ n ∷ [])
+each_right n xs ys each i l = elim (cases_lt i n) [
+  | inl less ↦ elim (each i less) [ inl a ↦ inl a | inr b ↦ inr (Contains-append_left ys (n ∷ []) i b) ]
+  | inr more ↦ let same : n ≡ i = omega arith
+      in inr (subst (λ k. Contains (ys ++ n ∷ []) k) same (Contains-push ys n))
+]
+
+pub all_below : (n : ℕ) (xs ys : List ℕ) → All (λ i. i < n) xs → All (λ i. i < n) ys → EachIn n xs ys
+    → AreBelow n (xs ++ ys)
+all_below n xs ys first others each = record {
+  within = All-append (λ i. i < n) xs ys first others;
+  all = λ i l. elim (each i l) [
+    | inl a ↦ Contains-append_left xs ys i a
+    | inr b ↦ Contains-append_right xs ys i b
+  ];
 }

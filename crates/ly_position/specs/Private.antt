@@ -2,6 +2,7 @@
 pub mod Assembled
 pub mod Chain
 pub mod Compile
+pub mod Grown
 pub mod Link
 pub mod Plain
 pub mod Plan

@@ -5,8 +5,8 @@
 // positions (McNaughton and Yamada 1960). What may follow one is what is reached from where it goes
 // on by forks alone. These lists aren't made: where parts may each be left out, their lengths add up
 // to a square. The forks are kept instead and followed at each step, each once, so room is linear in
-// the patterns that are written out. Start lists alone are made. Nothing recurses, so depth costs
-// memory alone.
+// the patterns that are written out. Start lists alone are made, and those that are alike are kept
+// once. Nothing recurses, so depth costs memory alone.
 ghost use Rattle.std.specs.Prelude.{◌≡◌, ◌<◌, ◌≤◌, length, All, IfOk, IsErrOf, OnOk};
 ghost use Rattle.ly_ere.specs.Names.{defined};
 ghost use Rattle.ly_position.specs.Private.Plain.{IsPlainPart};

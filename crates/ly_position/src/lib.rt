@@ -13,6 +13,7 @@
 
 mod build;
 mod fault;
+mod grown;
 mod laws;
 mod link;
 mod lists;
@@ -20,7 +21,9 @@ mod nfa;
 mod plain;
 mod plan;
 mod program;
+mod roots;
 mod set;
+mod shared_lists;
 mod starts;
 mod weight;
 

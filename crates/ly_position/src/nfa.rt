@@ -3,8 +3,8 @@ ghost use Rattle.ly_position.specs.Private.Targets.{StepsTo, SameRoom, target_af
 ghost use Rattle.ly_position.specs.Private.Chain.{BeginsAt, GoesOnAt, IsBefore, next_of};
 ghost use Rattle.ly_position.specs.Target.{GoOnWithin};
 
-use crate::lists::Lists;
 use crate::set::PositionSet;
+use crate::shared_lists::SharedLists;
 use ly_base::{ByteSet, RuleNo};
 use std::alloc::{AllocError, Global};
 use std::marker::Model;
@@ -62,7 +62,7 @@ pub struct PosNfa {
     /// The forks.
     forks: Vec<Fork>,
     /// For each condition the positions that may come first in the middle of a line, then those at its beginning.
-    starts: Lists,
+    starts: SharedLists,
 }
 
 impl Model for PosNfa {
@@ -85,7 +85,7 @@ impl PosNfa {
     ghost use Rattle.ly_position.specs.Target.{TargetsExist};
 
     /// The automaton of some positions, forks, and start lists.
-    pub(crate) fn of(slots: Vec<Slot>, forks: Vec<Fork>, starts: Lists) -> Self
+    pub(crate) fn of(slots: Vec<Slot>, forks: Vec<Fork>, starts: SharedLists) -> Self
         requires { TargetsExist slots.items forks.items starts }
         ensures { result ≡ nfa_of slots.items forks.items starts }
     {

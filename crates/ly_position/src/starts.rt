@@ -1,18 +1,19 @@
-ghost use Rattle.std.specs.Prelude.{◌≡◌, ℕ, ◌+◌, ◌*◌, ◌<◌, ◌↔◌, [], length, slice_index_or, All, Contains, IfOk, OnOk};
+ghost use Rattle.std.specs.Prelude.{◌≡◌, ℕ, ◌+◌, ◌*◌, ◌<◌, ◌↔◌, List, length, All, Contains, IfOk, OnOk};
 ghost use Rattle.ly_position.specs.Private.Plain.{IsPlainPart};
 ghost use Rattle.ly_position.specs.Private.Program.{steps_of};
 ghost use Rattle.ly_position.specs.Private.Reach.{StaysInside};
 ghost use Rattle.ly_position.specs.Private.Link.{IsLinkOf};
 ghost use Rattle.ly_position.specs.Private.Targets.{EntersTo, SameRoom};
 ghost use Rattle.ly_position.specs.Target.{ForkWithin, TargetWithin};
-ghost use Rattle.ly_position.specs.Private.Starts.{rows_of, AddsIn, AddsInEach, AreRoots, PutsIn, StartsAt};
+ghost use Rattle.ly_position.specs.Private.Starts.{AddsIn, AddsInEach, AreBelow, AreRoots, StartsAt};
 ghost use Rattle.ly_position.specs.Private.Starts.{StaysWithin};
 
 use crate::link::Linked;
-use crate::lists::Lists;
 use crate::nfa::{Fork, Target};
 use crate::program::Program;
+use crate::roots::Roots;
 use crate::set::PositionSet;
+use crate::shared_lists::SharedLists;
 use ly_ere::Rule;
 use std::alloc::{AllocError, Global};
 
@@ -23,7 +24,7 @@ pub fn starts(
     conditions: u32,
     program: &Program,
     linked: &Linked,
-) -> Result<Lists, AllocError>
+) -> Result<SharedLists, AllocError>
     requires closed { StaysInside (steps_of program.now.instructions.items) }
     requires linked { IsLinkOf (steps_of program.now.instructions.items) linked.now.targets.items
         linked.now.slots.items linked.now.forks.items }
@@ -34,11 +35,18 @@ pub fn starts(
         program.now.entries.items conditions) }
 {
     let roots = roots(alloc, rules, conditions, program)?;
+    let twins = roots.twins(alloc)?;
     let mut set = PositionSet::new(alloc, linked.slots.len(), linked.forks.len())?;
-    let mut starts = Lists::new(alloc);
-    for list in &roots {
-        fill_from(&mut set, list, &linked.targets, &linked.forks);
-        starts.push(set.members())?;
+    let mut list = Vec::new(alloc);
+    let mut starts = SharedLists::new(alloc);
+    for number in 0..twins.len() {
+        if twins[number] < number {
+            starts.push_again(twins[number])?;
+        } else {
+            roots.read(number, &mut list)?;
+            fill_from(&mut set, &list, &linked.targets, &linked.forks);
+            starts.push(set.members())?;
+        }
     }
     Ok(starts)
 }
@@ -66,49 +74,73 @@ fn roots(
     rules: &[Rule],
     conditions: u32,
     program: &Program,
-) -> Result<Vec<Vec<usize>>, AllocError>
+) -> Result<Roots, AllocError>
     requires within { All (IsPlainPart (length program.now.instructions.items))
         program.now.entries.items }
     requires count { length program.now.entries.items ≡ length rules.now }
-    ensures { IfOk result (λ rs. AreRoots rules.now program.now.entries.items
-        (length rules.now) conditions (length program.now.instructions.items) (rows_of rs.items)) }
+    ensures { IfOk result (λ rs. (numbers : List ℕ) × AreBelow (length rules.now) numbers
+        × AreRoots rules.now program.now.entries.items numbers conditions (length program.now.instructions.items) rs) }
 {
-    let mut roots = no_roots(alloc, conditions)?;
-    for (number, rule) in rules.iter().enumerate() {
-        if let Some(entry) = program.entries[number] {
-            add_rule(&mut roots, rule, conditions, entry)?;
+    let order = common_first(alloc, rules)?;
+    let mut roots = Roots::new(alloc, conditions)?;
+    for number in &order {
+        if let Some(entry) = program.entries[*number] {
+            add_rule(&mut roots, &rules[*number], conditions, entry)?;
         }
     }
     Ok(roots)
 }
 
-/// Two empty lists for each condition.
-fn no_roots(alloc: Global, conditions: u32) -> Result<Vec<Vec<usize>>, AllocError>
-    ensures count { IfOk result (λ rs. length rs.items ≡ 2 * conditions) }
-    ensures empty { IfOk result (λ rs. (k : ℕ) → slice_index_or (rows_of rs.items) k [] ≡ []) }
+/// The numbers of all rules, first those with the commonest list of conditions. That of a rule without `<..>` takes no
+/// room in the lex file: where such rules come first, their conditions' lists stay alike, and all that is put to lists
+/// behind them is no longer than the file.
+fn common_first(alloc: Global, rules: &[Rule]) -> Result<Vec<usize>, AllocError>
+    ensures { IfOk result (λ numbers. AreBelow (length rules.now) numbers.items) }
 {
-    let mut roots = Vec::new(alloc);
-    for _ in 0..2 * u64::from(conditions) {
-        roots.push(Vec::new(alloc))?;
+    let common = common_list(rules);
+    let mut numbers = Vec::new(alloc);
+    let mut others = Vec::new(alloc);
+    for (number, rule) in rules.iter().enumerate() {
+        if rule.active.as_slice() == common {
+            numbers.push(number)?;
+        } else {
+            others.push(number)?;
+        }
     }
-    Ok(roots)
+    numbers.extend_from_slice(&others)?;
+    Ok(numbers)
+}
+
+/// The list of conditions that has more than half of all that rules have, where one does: what is left of it when each
+/// of another list takes away as much (Boyer and Moore 1991).
+fn common_list(rules: &[Rule]) -> &[u32] {
+    let mut common: &[u32] = &[];
+    let mut left = 0;
+    for rule in rules {
+        let length = rule.active.len();
+        if rule.active.as_slice() == common {
+            left = length.saturating_add(left);
+        } else if length <= left {
+            left -= length;
+        } else {
+            common = &rule.active;
+            left = length - left;
+        }
+    }
+    common
 }
 
 /// Adds where a rule begins to the lists of its conditions.
-fn add_rule(
-    roots: &mut [Vec<usize>],
-    rule: &Rule,
-    conditions: u32,
-    entry: usize,
-) -> Result<(), AllocError>
+fn add_rule(roots: &mut Roots, rule: &Rule, conditions: u32, entry: usize) -> Result<(), AllocError>
     requires { length roots.old ≡ 2 * conditions }
-    ensures within { OnOk result (StaysWithin (rows_of roots.old) (rows_of roots.new) entry) }
-    ensures added { OnOk result (AddsInEach (rows_of roots.old)
-        (rows_of roots.new) conditions rule.now.active.items rule.now.pattern.line_start entry) }
+    ensures count { OnOk result (length roots.new ≡ length roots.old) }
+    ensures within { OnOk result (StaysWithin roots.old roots.new entry) }
+    ensures added { OnOk result (AddsInEach roots.old
+        roots.new conditions rule.now.active.items rule.now.pattern.line_start entry) }
 {
     for condition in &rule.active {
         if *condition < conditions {
-            add_root(roots, *condition as usize, rule.pattern.line_start, entry)?;
+            add_root(roots, *condition, rule.pattern.line_start, entry)?;
         }
     }
     Ok(())
@@ -116,27 +148,21 @@ fn add_rule(
 
 /// Adds where a rule begins to the lists of a condition.
 fn add_root(
-    roots: &mut [Vec<usize>],
-    condition: usize,
+    roots: &mut Roots,
+    condition: u32,
     line_start: bool,
     entry: usize,
 ) -> Result<(), AllocError>
     requires { 2 * condition + 1 < length roots.old }
-    ensures within { OnOk result (StaysWithin (rows_of roots.old) (rows_of roots.new) entry) }
-    ensures added { OnOk result (AddsIn (rows_of roots.old) (rows_of roots.new) condition
+    ensures count { OnOk result (length roots.new ≡ length roots.old) }
+    ensures within { OnOk result (StaysWithin roots.old roots.new entry) }
+    ensures added { OnOk result (AddsIn roots.old roots.new condition
         line_start entry) }
 {
+    let inside = 2 * condition as usize;
     if line_start {
-        return put(roots, 2 * condition + 1, entry);
+        return roots.put(inside + 1, entry);
     }
-    put(roots, 2 * condition, entry)?;
-    put(roots, 2 * condition + 1, entry)
-}
-
-fn put(lists: &mut [Vec<usize>], number: usize, entry: usize) -> Result<(), AllocError>
-    requires { number < length lists.old }
-    ensures { OnOk result (PutsIn (rows_of lists.old) (rows_of lists.new) number entry) }
-{
-    lists[number].push(entry)?;
-    Ok(())
+    roots.put(inside, entry)?;
+    roots.put(inside + 1, entry)
 }

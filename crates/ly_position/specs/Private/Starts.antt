@@ -1,16 +1,10 @@
 -- Where the patterns of rules begin, condition by condition.
-use Rattle.std.specs.Prelude.{◌≡◌, ◌↔◌, ◌⊎◌, ℕ, ◌+◌, ◌*◌, ◌<◌, List, [], ◌∷◌, ◌++◌, length, map, slice_set}
+use Rattle.std.specs.Prelude.{◌≡◌, ◌↔◌, ◌⊎◌, ℕ, ◌+◌, ◌*◌, ◌<◌, List, [], ◌∷◌, ◌++◌, length, slice_set}
 use Rattle.std.specs.Prelude.{slice_index_or, All, Bool, if◌then◌else◌, IsTrue, Contains, Option, Some, None}
-use Rattle.std.specs.declared.alloc.Global.{Global}
-use Rattle.std.specs.declared.vec.Vec.{Vec}
 use Rattle.ly_ere.specs.declared.pattern.Rule.{Rule}
 use Rattle.ly_ere.specs.Winner.{IsActive}
 use Rattle.ly_position.specs.Private.Program.{Step}
 use Rattle.ly_position.specs.Private.Link.{IsReachList}
-
--- lists in memory as lists
-abbrev pub rows_of : List (Vec ℕ Global) → List (List ℕ)
-rows_of rows = map (λ (v : Vec ℕ Global). v.items) rows
 
 -- the number of the list of a condition, where a line begins or elsewhere
 abbrev pub key : ℕ → Bool → ℕ
@@ -45,13 +39,23 @@ abbrev pub BeginsBefore : List Rule → List (Option ℕ) → ℕ → ℕ → Bo
 BeginsBefore rules entries n c line e =
     (i : ℕ) × (r : Rule) × (i < n) × IsActive rules c line i r × (slice_index_or entries i None ≡ Some e)
 
--- for each condition the entries of the first n rules that may begin there
-pub record AreRoots (rules : List Rule) (entries : List (Option ℕ)) (n conditions bound : ℕ)
+-- one of the rules of these numbers is active in the condition and may begin there, at this entry
+abbrev pub BeginsIn : List Rule → List (Option ℕ) → List ℕ → ℕ → Bool → ℕ → Type 0
+BeginsIn rules entries numbers c line e = (i : ℕ) × (r : Rule) × Contains numbers i × IsActive rules c line i r
+    × (slice_index_or entries i None ≡ Some e)
+
+-- the numbers below n, in any order
+pub record AreBelow (n : ℕ) (numbers : List ℕ) : Type 0 where
+  pub within : All (λ i. i < n) numbers
+  pub all : (i : ℕ) → i < n → Contains numbers i
+
+-- for each condition the entries of the rules of these numbers that may begin there
+pub record AreRoots (rules : List Rule) (entries : List (Option ℕ)) (numbers : List ℕ) (conditions bound : ℕ)
     (lists : List (List ℕ)) : Type 0 where
   pub count : length lists ≡ 2 * conditions
   pub within : All (All (λ p. p < bound)) lists
   pub each : (c : ℕ) (line : Bool) (e : ℕ) → c < conditions → Contains (root_list lists c line) e
-      ↔ BeginsBefore rules entries n c line e
+      ↔ BeginsIn rules entries numbers c line e
 
 -- for each condition the positions at which its rules may begin
 pub record StartsAt (g : List Step) (rules : List Rule) (entries : List (Option ℕ)) (conditions : ℕ)

@@ -1,4 +1,4 @@
-use Rattle.std.proofs.Common.{◌≡◌, ◌<◌, ℕ, List, length, ◌∙◌, ap, arith}
+use Rattle.std.proofs.Common.{◌<◌, ℕ, List, length, ◌∙◌, ap, arith}
 use Rattle.std.specs.Prelude.{min}
 use Rattle.ly_position.specs.Private.Program.{most_counted, node_size}
 use Rattle.ly_position.proofs.CompileLemmas.{sizes_more}

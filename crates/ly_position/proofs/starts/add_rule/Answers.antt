@@ -1,4 +1,4 @@
-use Rattle.std.proofs.Common.{◌≡◌, ◌+◌, ◌++◌, ◌∷◌, [], ℕ, List, Vec, Global, length, map, take, get_or, ap, subst}
+use Rattle.std.proofs.Common.{◌≡◌, ◌+◌, ◌++◌, ◌∷◌, [], ℕ, List, length, take, get_or, ap, subst, ◌∙◌}
 use Rattle.std.proofs.Common.{arith}
 use Rattle.std.proofs.lemmas.List.{take_more, take_all}
 use Rattle.ly_position.specs.Private.Starts.{AddsInEach}
@@ -9,9 +9,8 @@ use Rattle.ly_position.proofs.starts.add_rule.Goals.{else-condition-conditions}
 
 pub loop-condition-preserved : goal.loop-condition-preserved
 loop-condition-preserved c =
-    let items = λ (v : Vec ℕ Global). v.items in
-    let L = map items c.args.roots.now in
-    let M = map items c.loop-condition.roots in
+    let L = c.args.roots.now in
+    let M = c.loop-condition.roots in
     let n = c.args.conditions in
     let i = c.loop-condition.condition-index in
     let active = c.args.rule.now.active.items in
@@ -22,13 +21,15 @@ loop-condition-preserved c =
     (take_more c.deref-condition-items.result.now i 0 c.loop-condition-test.true) in
     elim c.if-condition-conditions.branch [
       | then-condition-conditions+in_ok-add_root w ↦ rw w.roots-is (record {
-        within = within_trans L M (map items w.add_root.new.roots) c.args.entry c.loop-condition.invariant.within
+        count = w.in_ok-add_root.ensures.count ∙ c.loop-condition.invariant.count;
+        within = within_trans L M w.add_root.new.roots c.args.entry c.loop-condition.invariant.within
             w.in_ok-add_root.ensures.within;
-        added = each_more L M (map items w.add_root.new.roots) n (take i active)
+        added = each_more L M w.add_root.new.roots n (take i active)
             (take (i + 1) active) d start c.args.entry c.loop-condition.invariant.added w.in_ok-add_root.ensures.added
             more;
       })
       | else-condition-conditions w ↦ rw w.roots-is (record {
+        count = c.loop-condition.invariant.count;
         within = c.loop-condition.invariant.within;
         added = each_skip L M n (take i active) (take (i + 1) active) d start c.args.entry
             c.loop-condition.invariant.added w.if-condition-conditions.false more;
@@ -37,9 +38,8 @@ loop-condition-preserved c =
 
 pub returns-clause-added : goal.returns-clause-added
 returns-clause-added c =
-    let items = λ (v : Vec ℕ Global). v.items in
     let active = c.args.rule.now.active.items in
     let all = take_all c.loop-condition.condition-index active (let t = c.loop-condition-test.false
     in let v = ap length c.deref-condition-items.ensures.value in omega arith) in
-    subst (λ (xs : List ℕ). AddsInEach (map items c.args.roots.now) (map items c.loop-condition.roots) c.args.conditions
+    subst (λ (xs : List ℕ). AddsInEach c.args.roots.now c.loop-condition.roots c.args.conditions
     xs c.args.rule.now.pattern.line_start c.args.entry) all c.loop-condition.invariant.added

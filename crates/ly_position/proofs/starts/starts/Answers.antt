@@ -1,110 +1,127 @@
-use Rattle.std.proofs.Common.{◌≡◌, ◌<◌, ◌∷◌, [], ℕ, List, Vec, Global, length, map, get_or, ap, ◌∙◌, sym, subst, arith}
+use Rattle.std.proofs.Common.{◌≡◌, ◌<◌, ◌∷◌, [], ℕ, List, length, map, get_or, ap, ◌∙◌, sym, subst, arith}
 use Rattle.std.proofs.Common.{le_antisymm, length-append}
 use Rattle.std.specs.Prelude.{All, Contains, ◌↔◌}
-use Rattle.std.proofs.lemmas.List.{length-map, get_or-map}
+use Rattle.std.proofs.lemmas.List.{length-map, get_or_read}
+use Rattle.ly_position.specs.Private.Grown.{picked}
 use Rattle.ly_position.specs.Private.Program.{step_of}
 use Rattle.ly_position.specs.Private.Link.{IsReachList}
-use Rattle.ly_position.specs.Private.Starts.{AreRoots}
 use Rattle.ly_position.specs.Private.Targets.{EntersTo}
 use Rattle.ly_position.proofs.LinkLemmas.{forks_within, leads_members, targets_within}
 use Rattle.ly_position.proofs.StartLemmas.{lists_more, starts_all}
 use Rattle.ly_position.proofs.starts.starts.Goals as goal
+use Rattle.ly_position.proofs.starts.starts.Goals.{then-index-number+in_ok-push_again}
+use Rattle.ly_position.proofs.starts.starts.Goals.{else-index-number+in_ok-read+in_ok-push}
 
--- the list of this turn is among the roots
-listed : (vs : List (Vec ℕ Global)) (i : ℕ) (v : Vec ℕ Global) (xs : List ℕ) → i < length vs → v ≡ get_or vs i v
-    → xs ≡ v.items → get_or (map (λ (x : Vec ℕ Global). x.items) vs) i [] ≡ xs
-listed vs i v xs l is same = let items = λ (x : Vec ℕ Global). x.items in get_or-map items vs i v [] l
-    ∙ (ap items (sym is) ∙ sym same)
-
-pub fill_from-requires : goal.fill_from-requires
-fill_from-requires c =
-    let items = λ (v : Vec ℕ Global). v.items in
+pub fill_from-requires-clause-forks : goal.fill_from-requires-clause-forks
+fill_from-requires-clause-forks c =
     let linked = c.args.linked.now in
     let g = map step_of c.args.program.now.instructions.items in
-    let vs = c.deref-list-items.result.now in
-    let i = c.loop-list.list-index in
-    let before = c.loop-list.invariant in
-    let at = listed vs i c.list-item.result c.deref.result.now c.loop-list-test.true c.list-item.is
-    c.deref.ensures.value in
-    let n = length c.args.program.now.instructions.items in
-    let all = subst (λ (ws : List (Vec ℕ Global)). All (All (λ p. p < n)) (map items ws))
-    (sym c.deref-list-items.ensures.value) c.in_ok-roots.ensures.within in
-    let here : i < length (map items vs) = let t = c.loop-list-test.true in let k = length-map vs items in omega arith
-    in
-    let within = subst (λ (xs : List ℕ). All (λ p. p < n) xs) at (all i [] here) in
+    let before = c.loop-number.invariant in
     let forks = forks_within g linked.targets.items linked.slots.items linked.forks.items c.requires.closed
     c.requires.linked in
+    rw (c.deref-else-index-number-2.ensures.value, before.positions, before.forks) forks
+
+pub fill_from-requires-clause-targets : goal.fill_from-requires-clause-targets
+fill_from-requires-clause-targets c =
+    let linked = c.args.linked.now in
+    let g = map step_of c.args.program.now.instructions.items in
+    let before = c.loop-number.invariant in
     let targets = targets_within g linked.targets.items linked.slots.items linked.forks.items c.requires.closed
     c.requires.linked in
-    record {
-      forks = rw (c.deref-in-loop-list-2.ensures.value, before.positions, before.forks) forks;
-      targets = rw (c.deref-in-loop-list.ensures.value, before.positions, before.forks) targets;
-      roots = λ k d l. let h = within k d l in
-          omega (
-            arith,
-            ap length c.deref-in-loop-list.ensures.value,
-            c.requires.linked.targets_are.count,
-            length-map c.args.program.now.instructions.items step_of,
-          );
-      room = before.forks ∙ sym (ap length c.deref-in-loop-list-2.ensures.value);
-    }
+    rw (c.deref-else-index-number.ensures.value, before.positions, before.forks) targets
 
-pub loop-list-preserved : goal.loop-list-preserved
-loop-list-preserved c =
-    let items = λ (v : Vec ℕ Global). v.items in
-    let linked = c.args.linked.now in
-    let vs = c.deref-list-items.result.now in
-    let i = c.loop-list.list-index in
-    let g = map step_of c.args.program.now.instructions.items in
-    let before = c.loop-list.invariant in
-    let roots = c.deref.result.now in
-    let at = listed vs i c.list-item.result roots c.loop-list-test.true c.list-item.is c.deref.ensures.value in
+pub fill_from-requires-clause-roots : goal.fill_from-requires-clause-roots
+fill_from-requires-clause-roots c =
+    let R = c.in_ok-roots.roots in
     let n = length c.args.program.now.instructions.items in
-    let all = subst (λ (ws : List (Vec ℕ Global)). All (All (λ p. p < n)) (map items ws))
-    (sym c.deref-list-items.ensures.value) c.in_ok-roots.ensures.within in
-    let here : i < length (map items vs) = let t = c.loop-list-test.true in let k = length-map vs items in omega arith
-    in
-    let within = subst (λ (xs : List ℕ). All (λ p. p < n) xs) at (all i [] here) in
-    let below : All (λ r. r < length g) roots = λ k d l. let h = within k d l in
-    omega (arith, length-map c.args.program.now.instructions.items step_of) in
-    let found = rw (c.deref-in-loop-list.ensures.value, c.deref-in-loop-list-2.ensures.value) at
-    c.fill_from.ensures.members in
-    let shown : (q : ℕ) → Contains c.members.result.now q
-    ↔ EntersTo linked.targets.items linked.forks.items roots q =
-    rw c.members.ensures.these found in
-    let list : IsReachList g roots c.members.result.now = record {
-      members = leads_members g linked.targets.items linked.slots.items linked.forks.items c.requires.closed
-          c.requires.linked roots c.members.result.now below shown;
-      once = c.members.ensures.once;
-    } in
-    record {
-      positions = c.fill_from.ensures.room.positions ∙ before.positions;
-      forks = c.fill_from.ensures.room.forks ∙ before.forks;
-      count = omega (
-        arith,
-        ap length c.in_ok-push.ensures.ok,
-        length-append c.loop-list.starts
-            (c.members.result.now ∷ []),
-        before.count,
-      );
-      each = lists_more g (map items vs) c.loop-list.starts c.push.new.self i c.members.result.now before.count
-          before.each (subst (λ (xs : List ℕ). IsReachList g xs c.members.result.now) (sym at) list)
-          c.in_ok-push.ensures.ok;
-    }
+    let here : c.loop-number.number < length R = omega (arith, c.loop-number-test.true, c.in_ok-twins.ensures.count) in
+    let at : get_or R c.loop-number.number [] ≡ c.deref.result.now
+    = sym (c.deref.ensures.value ∙ c.in_ok-read.ensures) in
+    let within = subst (λ (xs : List ℕ). All (λ p. p < n) xs) at (c.in_ok-roots.ensures.2.within c.loop-number.number []
+    here) in
+    λ k d l. let h = within k d l in
+    omega (
+      arith,
+      ap length c.deref-else-index-number.ensures.value,
+      c.requires.linked.targets_are.count,
+      length-map c.args.program.now.instructions.items step_of,
+    )
+
+pub loop-number-preserved : goal.loop-number-preserved
+loop-number-preserved c =
+    let linked = c.args.linked.now in
+    let g = map step_of c.args.program.now.instructions.items in
+    let before = c.loop-number.invariant in
+    let i = c.loop-number.number in
+    let S = c.loop-number.starts in
+    let R = c.in_ok-roots.roots in
+    let P = picked c.roots-2.inside.lists c.roots-2.inside.numbers.items in
+    let ts = c.in_ok-twins.twins.items in
+    let twins = c.in_ok-twins.ensures in
+    let listed : i < length ts = omega (arith, c.loop-number-test.true) in
+    let here : i < length R = omega (arith, twins.count) in
+    elim c.if-index-number.branch [
+      | then-index-number+in_ok-push_again w ↦
+          let t = w.index-then-index-number.result.now in
+          let is : t ≡ get_or ts i 0 = get_or_read ts i t listed w.index-then-index-number.ensures 0 in
+          let first : c.index.result.now ≡ get_or ts i 0
+          = get_or_read ts i c.index.result.now listed c.index.ensures 0 in
+          let less : t < i = omega (arith, w.if-index-number.true) in
+          let same : get_or P t [] ≡ get_or P i [] = rw (c.roots-2.view_is, is) (twins.same i here) in
+          let list : IsReachList g (get_or P i []) (get_or S t [])
+          = subst (λ (xs : List ℕ). IsReachList g xs (get_or S t [])) same (before.each t less) in
+          rw (w.set-is, w.starts-is) (record {
+            positions = before.positions;
+            forks = before.forks;
+            count = omega (
+              arith,
+              ap length w.in_ok-push_again.ensures,
+              length-append S (get_or S t [] ∷ []),
+              before.count,
+            );
+            each = lists_more g P S w.push_again.new.self i (get_or S t []) before.count before.each list
+                w.in_ok-push_again.ensures;
+          })
+      | else-index-number+in_ok-read+in_ok-push w ↦
+          let n = length c.args.program.now.instructions.items in
+          let roots = w.deref.result.now in
+          let at : get_or R i [] ≡ roots = sym (w.deref.ensures.value ∙ w.in_ok-read.ensures) in
+          let within = subst (λ (xs : List ℕ). All (λ p. p < n) xs) at (c.in_ok-roots.ensures.2.within i [] here) in
+          let below : All (λ r. r < length g) roots = λ k d l. let h = within k d l in
+          omega (arith, length-map c.args.program.now.instructions.items step_of) in
+          let found = rw (w.deref-else-index-number.ensures.value, w.deref-else-index-number-2.ensures.value) at
+          w.fill_from.ensures.members in
+          let shown : (q : ℕ) → Contains w.members.result.now q
+          ↔ EntersTo linked.targets.items linked.forks.items roots q =
+          rw w.members.ensures.these found in
+          let list : IsReachList g roots w.members.result.now = record {
+            members = leads_members g linked.targets.items linked.slots.items linked.forks.items c.requires.closed
+                c.requires.linked roots w.members.result.now below shown;
+            once = w.members.ensures.once;
+          } in
+          let new : IsReachList g (get_or P i []) w.members.result.now
+          = rw (c.roots-2.view_is, at) list in
+          rw (w.set-is, w.starts-is) (record {
+            positions = w.fill_from.ensures.room.positions ∙ before.positions;
+            forks = w.fill_from.ensures.room.forks ∙ before.forks;
+            count = omega (
+              arith,
+              ap length w.in_ok-push.ensures,
+              length-append S (w.members.result.now ∷ []),
+              before.count,
+            );
+            each = lists_more g P S w.push.new.self i w.members.result.now before.count before.each new
+                w.in_ok-push.ensures;
+          })
+    ]
 
 pub returns : goal.returns
 returns c =
-    let items = λ (v : Vec ℕ Global). v.items in
     let g = map step_of c.args.program.now.instructions.items in
-    let vs = c.deref-list-items.result.now in
-    let n = length c.args.rules.now in
-    let all : c.loop-list.list-index ≡ length vs = le_antisymm c.loop-list.auto.list-index-end c.loop-list-test.false in
-    let roots
-    = subst (λ (ws : List (Vec ℕ Global)). AreRoots c.args.rules.now c.args.program.now.entries.items n
-    c.args.conditions (length c.args.program.now.instructions.items) (map items ws))
-    (sym c.deref-list-items.ensures.value) c.in_ok-roots.ensures in
-    let count = length-map vs items in
-    let before = c.loop-list.invariant in
-    starts_all g c.args.rules.now c.args.program.now.entries.items c.args.conditions
-    (length c.args.program.now.instructions.items) (map items vs) c.loop-list.starts roots
-    (before.count ∙ (all ∙ sym count)) (λ k l. before.each k (omega arith))
+    let R = c.in_ok-roots.roots in
+    let before = c.loop-number.invariant in
+    let all : c.loop-number.number ≡ length R
+    = omega (arith, le_antisymm c.loop-number.auto.number-end c.loop-number-test.false, c.in_ok-twins.ensures.count) in
+    starts_all g c.args.rules.now c.args.program.now.entries.items c.in_ok-roots.ensures.0 c.args.conditions
+    (length c.args.program.now.instructions.items) R c.loop-number.starts c.in_ok-roots.ensures.1
+    c.in_ok-roots.ensures.2 (before.count ∙ all) (λ k l. rw (← c.roots-2.view_is) (before.each k (omega arith)))
