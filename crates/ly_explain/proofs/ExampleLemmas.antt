@@ -1,4 +1,5 @@
 -- The strings that meet the demand with which a search begins are the examples of its conflict.
+use Rattle.std.proofs.Common.{refl, length}
 use Rattle.std.proofs.Common.{◌≡◌, ◌∙◌, inl, inr, ℕ, ◌≤◌, List, ◌∷◌, sym, subst, Some, None}
 use Rattle.ly_join.specs.Grammar.{Grammar, IsRule, Rule, Symbol, terminal}
 use Rattle.ly_grammar.specs.Items.{IsNextSymbol, Merges}
@@ -8,9 +9,10 @@ use Rattle.ly_resolve.specs.Actions.{Action, IsAction, IsRaw, Judge, error, redu
 use Rattle.ly_resolve.specs.Actions.{to_reduce, to_shift, unsettled}
 use Rattle.ly_resolve.specs.Conflicts.{Conflict, CountsAs, IsConflict, Kind, reduce_reduce, shift_reduce}
 use Rattle.ly_explain.specs.Demands.{Follows, at_start, by_step}
-use Rattle.ly_explain.specs.Laws.{ExamplesFollow}
+use Rattle.ly_explain.specs.Laws.{ConflictsOpen, ExamplesFollow, ShiftsHaveExamples}
 use Rattle.ly_explain.specs.Examples.{IsExample, IsPossible, rival}
 use Rattle.ly_explain.specs.declared.claim.Claim.{Claim}
+use Rattle.ly_explain.specs.declared.claim.Claim.TheVariants.{Settled, With}
 use Rattle.ly_explain.specs.declared.claim.Demand.{Demand}
 use Rattle.ly_explain.specs.Openings.{ClaimsAction, ClaimsWhole, Opens}
 use Rattle.ly_explain.specs.Private.Met.{IsMet, IsProper, IsTrueIn}
@@ -155,3 +157,53 @@ examples_follow M c d is opens = (
       let back = follows_met M is c.terminal d e h follows met in
       (back.0, example_of_met M is c d back.0 opens back.1),
 )
+
+-- the claim that a rule, complete, is valid with the terminal
+whole_claims : (G : Grammar) (p : ℕ) (a : IsAskedRule G p) → (c : Claim) × ClaimsWhole G p c
+whole_claims G p a = (
+  With (record { rule = p; dot = length a.rule.body }),
+  record {
+    some = a.some;
+    rule = a.rule;
+    is_rule = a.is_rule;
+    dot = length a.rule.body;
+    end = refl;
+    claim = refl;
+  },
+)
+
+action_claims : (G : Grammar) (prefix : List Symbol) (t : ℕ) (a : Action) → IsAskedRival G prefix t a
+    → (c : Claim) × ClaimsAction G prefix t a c
+action_claims G prefix t shift asked = (Settled, (refl, asked))
+action_claims G prefix t (reduce p) asked = whole_claims G p asked
+action_claims G prefix t error asked = absurd asked
+
+-- each conflict has a demand on its examples
+pub conflicts_open : ConflictsOpen
+conflicts_open M judge c is conflict =
+    let there = is.cores.has c.prefix conflict.least.0 in
+    let first = whole_claims M.grammar c.rule (conflict_rule M.grammar judge c conflict) in
+    let second = action_claims M.grammar c.prefix c.terminal (rival c.kind c.choice)
+    (conflict_rival M.grammar judge c conflict) in (
+      record { state = record { 0 = there.0 }; first = first.0; second = second.0 },
+      record { leads = there.1; first = first.1; second = second.1 },
+    )
+
+-- a shift against a reduction has an example
+pub shifts_have_examples : ShiftsHaveExamples
+shifts_have_examples G judge c conflict kind = of_kind c.kind kind conflict.counted where
+  of_kind : (k : Kind) → k ≡ shift_reduce
+      → CountsAs (IsRaw G c.prefix c.terminal) (λ p. judge p c.terminal) k c.rule → (g : List Symbol) × IsExample G c g
+  of_kind reduce_reduce other counted = absurd (cc)
+  of_kind shift_reduce same counted =
+      let asked = counted.1.1 in
+      let i = counted.0 in
+      let next : IsNextSymbol G asked.at (terminal c.terminal)
+      = (i.0, i.1, i.2, (asked.merges.cores i.0 i.1 (terminal c.terminal ∷ i.2)).0 i.3) in (
+        asked.at,
+        record {
+          merges = asked.merges;
+          rule = (asked.before, asked.valid);
+          rival = subst (λ k. IsPossible G asked.at c.terminal (rival k c.choice)) (sym kind) next;
+        },
+      )

@@ -7,7 +7,8 @@
 //! state, over demands (`Demand`): a state, and two claims on items there. Popping a symbol moves the dots of both; a
 //! rule with nothing before its dot is valid because of an item that waits for its left side, and there the terminal
 //! begins what stands behind, or is handed up. `examples_follow` says that there is an example exactly where a demand
-//! follows that claims nothing more. Where there is none, only merging made the conflict.
+//! follows that claims nothing more. Where there is none, only merging made the conflict,
+//! which it never does of a shift (`shifts_have_examples`).
 //!
 //! Left out: the search, and what is told.
 #![tactic(auto)]
@@ -18,4 +19,4 @@ mod laws;
 
 pub use claim::{Claim, Demand};
 pub use item::Item;
-pub use laws::examples_follow;
+pub use laws::{examples_follow, shifts_have_examples};
