@@ -1,0 +1,3 @@
+pub mod AtLemmas
+pub mod ExampleLemmas
+pub mod StepLemmas

@@ -1,0 +1,5 @@
+pub mod Demands
+pub mod Examples
+pub mod Laws
+pub mod Openings
+pub mod Private

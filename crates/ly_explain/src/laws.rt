@@ -1,0 +1,13 @@
+ghost use Rattle.ly_explain.specs.Laws.{ConflictsOpen, ExamplesFollow, ShiftsHaveExamples};
+
+/// A conflict has an example exactly where from the demand on its examples one follows that claims nothing more, and
+/// each conflict has such a demand.
+pub fn examples_follow()
+    ensures follow { ExamplesFollow }
+    ensures opens { ConflictsOpen }
+{}
+
+/// A shift against a reduction has an example: merging makes no such conflict.
+pub fn shifts_have_examples()
+    ensures { ShiftsHaveExamples }
+{}
