@@ -7,7 +7,7 @@ use Rattle.std.proofs.lemmas.List.{drop-append-le, take-append-le}
 use Rattle.ly_base.specs.Lexed.{Place, after_line, moved, place_after, start_of, token_if}
 use Rattle.ly_base.specs.declared.lexeme.Lexeme.{Lexeme}
 use Rattle.ly_drive.proofs.RestLemmas.{IsStep, passing, reading, said_back, said_front, token_here}
-use Rattle.ly_drive.specs.Onward.{AreAlike, IsSettled, IsTokenAt, Onward, and_passes, and_reads, none_yet, passed_on}
+use Rattle.ly_drive.specs.Onward.{AreAlike, IsSettled, Onward, and_passes, and_reads, none_yet, passed_on}
 use Rattle.ly_drive.specs.Onward.{read_on}
 use Rattle.ly_drive.specs.Private.Passing.{ArePassedOver}
 use Rattle.ly_drive.specs.ScanPart.{ScanPart, condition_in, scanner_in, terminal_in}

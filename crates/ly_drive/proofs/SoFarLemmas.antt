@@ -11,7 +11,7 @@ use Rattle.ly_drive.specs.Private.Feeding.{IsAnswerOf}
 use Rattle.ly_drive.specs.Onward.{Onward, none_yet}
 use Rattle.ly_drive.specs.Private.Reading.{IsGiven, IsReadInto, IsReadSoFar}
 use Rattle.ly_drive.specs.ScanPart.{scan_part_of, scanner_in}
-use Rattle.ly_drive.specs.TableAnswer.{IsVerdict, Progress, TableAnswer, begun, with_more}
+use Rattle.ly_drive.specs.TableAnswer.{IsVerdict, TableAnswer, begun, with_more}
 use Rattle.ly_drive.specs.Verdict.{Verdict, faulty, printed}
 use Rattle.ly_drive.specs.Vocabularies.{vocabulary_of}
 use Rattle.ly_drive.specs.declared.fault.DriveFault.{DriveFault}

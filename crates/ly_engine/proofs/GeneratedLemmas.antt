@@ -1,5 +1,5 @@
 -- A table set that is made of what two files say is the one that they generate.
-use Rattle.std.proofs.Common.{◌≡◌, ◌∙◌, ◌≤◌, ℕ, List, length, subst, sym}
+use Rattle.std.proofs.Common.{◌≡◌, ◌∙◌, ℕ, List, subst, sym}
 use Rattle.ly_base.specs.Limits.{AreBounded, Sizes, sizes_in}
 use Rattle.ly_base.specs.declared.version.Version.{Version}
 use Rattle.ly_drive.specs.Verdict.{faulty}
@@ -11,10 +11,8 @@ use Rattle.ly_engine.proofs.FitLemmas.{fits_file}
 use Rattle.ly_engine.proofs.HeadlineLemmas.{answers_follow, tables_answer}
 use Rattle.ly_tokens.proofs.RowAgreementLemmas.{same_rules_agree}
 use Rattle.ly_ere.specs.Names.{defined}
-use Rattle.ly_grammar.specs.Reduction.{KeepsUseful}
 use Rattle.ly_join.specs.Joined.{Spec}
 use Rattle.ly_lexread.specs.declared.file.LexFile.{LexFile}
-use Rattle.ly_lr0.specs.Automaton as parser
 use Rattle.ly_minim.specs.Smallest.{HaveSameRules, IsReduced}
 use Rattle.ly_position.proofs.SpotLemmas.{positions_live}
 use Rattle.ly_report.specs.Report.{IsReport}

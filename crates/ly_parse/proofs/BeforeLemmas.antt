@@ -1,7 +1,7 @@
 -- What a parser's stack was before a token.
 use Rattle.std.proofs.Common.{◌≡◌, ℕ, ◌+◌, ◌-◌, ◌<◌, ◌≤◌, List, [], ◌∷◌, ◌++◌, length, drop, take, map}
 use Rattle.std.proofs.Common.{All, refl, sym, ap, ◌∙◌, arith, slice_set, subst}
-use Rattle.std.specs.Prelude.{Bool, Option, None, Some}
+use Rattle.std.specs.Prelude.{Bool}
 use Rattle.std.proofs.lemmas.List.{length-append, length-take-le, map-append, take-append-le, take-take}
 use Rattle.std.proofs.lemmas.List.Elements.{All-push, All-tail}
 use Rattle.ly_base.specs.declared.numbers.StateNo.{StateNo}

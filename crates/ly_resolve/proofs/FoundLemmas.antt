@@ -3,7 +3,7 @@ use Rattle.std.proofs.Common.{◌≡◌, ◌∙◌, ◌⊎◌, inl, inr, ◌↔�
 use Rattle.std.proofs.Common.{true}
 use Rattle.std.proofs.Common.{Contains, IsTrue, ap, arith, length, map, refl, slice_get, subst, sym, Some}
 use Rattle.std.specs.List.{AllPairs}
-use Rattle.std.proofs.lemmas.Bool.{cases_eq, cases_lt}
+use Rattle.std.proofs.lemmas.Bool.{cases_eq}
 use Rattle.std.proofs.lemmas.List.Elements.{Contains-append_cases, Contains-append_left, Contains-append_right}
 use Rattle.ly_base.proofs.MemberLemmas.{Contains-first, Contains-none, Contains-one}
 use Rattle.ly_base.proofs.ListLemmas.{AllPairs-append}
@@ -11,7 +11,7 @@ use Rattle.ly_join.specs.Grammar.{Grammar, Symbol}
 use Rattle.ly_grammar.specs.Items.{IsViable, Merges}
 use Rattle.ly_lr0.specs.Automaton.{Automaton, ComesBefore, IsAutomaton, Reaches, goto_of, prefix_of}
 use Rattle.ly_lr0.proofs.OrderLemmas.{before_trans, not_before_itself}
-use Rattle.ly_resolve.specs.Actions.{Action, Judge, Stays, Verdict, IsAction, IsConflictFree, IsDone, IsRaw, error}
+use Rattle.ly_resolve.specs.Actions.{Action, Judge, Verdict, IsAction, IsConflictFree, IsDone, IsRaw, error}
 use Rattle.ly_resolve.specs.Actions.{reduce}
 use Rattle.ly_resolve.specs.Actions.{shift}
 use Rattle.ly_resolve.specs.Conflicts.{AreConflicts, Conflict, CountsAs, IsBefore, IsConflict, IsCounted, IsLeast, Kind}

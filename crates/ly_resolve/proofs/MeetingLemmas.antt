@@ -1,10 +1,10 @@
 -- What is done and what is counted where some actions are asked for.
-use Rattle.std.proofs.Common.{◌≡◌, ◌∙◌, ◌⊎◌, inl, inr, ◌↔◌, ℕ, zero, suc, ◌<◌, ◌≤◌, List, [], ◌∷◌, ◌++◌, Bool, true}
+use Rattle.std.proofs.Common.{◌≡◌, ◌∙◌, inl, inr, ◌↔◌, ℕ, zero, suc, ◌<◌, ◌≤◌, List, [], ◌∷◌, ◌++◌, Bool, true}
 use Rattle.std.proofs.Common.{false}
 use Rattle.std.proofs.Common.{append-nil, slice_index_or, take, ◌+◌}
 use Rattle.std.proofs.Common.{Some, Contains, IsTrue, ap, arith, cond, length, map, not, nat_eq, refl, slice_get, subst}
 use Rattle.std.proofs.Common.{sym, ◌&&◌, ◌||◌}
-use Rattle.std.specs.List.{All, AllPairs, filter}
+use Rattle.std.specs.List.{AllPairs, filter}
 use Rattle.std.proofs.lemmas.Bool.{and_parts, cases_eq, cases_lt, cases_order, eq-eqb, ne_eqb}
 use Rattle.std.proofs.lemmas.List.{map-append, take_more}
 use Rattle.std.proofs.lemmas.List.Elements.{filter-append}
@@ -15,13 +15,13 @@ use Rattle.std.proofs.lemmas.Option.{get_or_from_slice_get, slice_get-get_or, sl
 use Rattle.ly_base.proofs.MemberLemmas.{Contains-cons_cases, Contains-first, Contains-later, Contains-none}
 use Rattle.ly_base.proofs.MemberLemmas.{Contains-one}
 use Rattle.ly_base.proofs.ListLemmas.{AllPairs-append, AllPairs-head, AllPairs-tail}
-use Rattle.ly_join.specs.Grammar.{Grammar, Symbol}
+use Rattle.ly_join.specs.Grammar.{Symbol}
 use Rattle.ly_join.proofs.ListLemmas.{in_mapped, mapped_in, member_at, placed}
-use Rattle.ly_resolve.specs.Actions.{Action, LeavesShift, Stays, Verdict, IsDone, IsRaw, error, reduce, shift, to_error}
+use Rattle.ly_resolve.specs.Actions.{Action, Stays, Verdict, IsDone, error, reduce, shift, to_error}
 use Rattle.ly_resolve.specs.Actions.{to_reduce, to_shift, unsettled}
 use Rattle.ly_resolve.specs.Conflicts.{Conflict, CountsAs, Kind, IsBefore, IsKindBefore, reduce_reduce, shift_reduce}
 use Rattle.ly_resolve.specs.Private.Meetings.{all_told, is_counted, is_for_reduction, is_unsettled, reduces_by, told}
-use Rattle.ly_resolve.specs.Private.Meetings.{AreAsked, AreMany, IsAskedBy}
+use Rattle.ly_resolve.specs.Private.Meetings.{AreMany, IsAskedBy}
 
 -- WHERE THE SAME ACTIONS ARE ASKED FOR
 

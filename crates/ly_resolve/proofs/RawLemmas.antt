@@ -1,6 +1,6 @@
 -- Actions that are asked for at strings of one core, and by what stands in an automaton.
 use Rattle.std.proofs.Common.{◌≡◌, ◌≢◌, ◌∙◌, ◌⊎◌, inl, inr, ◌↔◌, ℕ, zero, suc, ◌<◌, ◌≤◌, List, [], ◌∷◌, ◌++◌, Some}
-use Rattle.std.proofs.Common.{◌+◌, All, Contains, ap, arith, length, map, option_map, refl, slice_get, slice_index_or}
+use Rattle.std.proofs.Common.{◌+◌, All, Contains, ap, arith, length, map, option_map, refl, slice_get}
 use Rattle.std.proofs.Common.{subst, sym}
 use Rattle.std.proofs.Common.{Bool, IsTrue, None, Option, false, is_some, nat_eq, true}
 use Rattle.std.proofs.lemmas.Bool.{cases_eq, eq-eqb, ne_eqb}
@@ -13,21 +13,21 @@ use Rattle.std.proofs.lemmas.Option.{get_or_from_slice_get, slice_get-map, slice
 use Rattle.ly_base.specs.Lexed.{Token}
 use Rattle.ly_base.specs.Trees.{Tree, Trees, leaf, node, none, more, yield_of, yields_of}
 use Rattle.ly_base.proofs.ListLemmas.{AllPairs-append}
-use Rattle.ly_join.specs.Grammar.{Grammar, IsAugmented, IsRule, Rule, RuleWithin, Symbol, SymbolWithin, nonterminal}
+use Rattle.ly_join.specs.Grammar.{Grammar, IsAugmented, IsRule, Rule, Symbol, SymbolWithin, nonterminal}
 use Rattle.ly_join.specs.Grammar.{terminal}
 use Rattle.ly_join.specs.Grammar.{accept_rule}
-use Rattle.ly_join.proofs.ListLemmas.{member_at, placed}
-use Rattle.ly_grammar.specs.Derivations.{AreTrees, First, IsTree}
-use Rattle.ly_grammar.specs.Items.{InLookahead, IsComplete, IsNextSymbol, IsViable, Merges, SameCore, Valid, at_start}
+use Rattle.ly_join.proofs.ListLemmas.{placed}
+use Rattle.ly_grammar.specs.Derivations.{AreTrees, IsTree}
+use Rattle.ly_grammar.specs.Items.{InLookahead, IsComplete, IsViable, Merges, SameCore, Valid, at_start}
 use Rattle.ly_grammar.specs.Items.{closed}
 use Rattle.ly_grammar.specs.Items.{moved, onto}
-use Rattle.ly_grammar.proofs.ItemLemmas.{body_of, zero_item}
+use Rattle.ly_grammar.proofs.ItemLemmas.{body_of}
 use Rattle.ly_grammar.proofs.SearchLemmas.{rule_is_one}
 use Rattle.ly_sets.specs.NumberSet.{Member}
-use Rattle.ly_lr0.specs.Automaton.{Automaton, ComesBefore, IsAutomaton, Reaches, State, goto_of, prefix_of, state_at}
+use Rattle.ly_lr0.specs.Automaton.{Automaton, IsAutomaton, Reaches, State, goto_of, prefix_of, state_at}
 use Rattle.ly_lr0.proofs.StateLemmas.{state_there}
 use Rattle.ly_relate.specs.Relations.{Leaves}
-use Rattle.ly_relate.proofs.LeaveLemmas.{end_leaves, leaves_end, leaves_shift, shift_leaves, shift_some}
+use Rattle.ly_relate.proofs.LeaveLemmas.{end_leaves, leaves_end, leaves_shift, shift_leaves}
 use Rattle.ly_lookahead.specs.Lookaheads.{AreLookaheads, Lookaheads, set_at}
 use Rattle.ly_lookahead.proofs.LookaheadLemmas.{no_zero}
 use Rattle.ly_resolve.specs.Actions.{Action, IsRaw, error, reduce, shift}

@@ -1,5 +1,5 @@
 -- What precedence says of a shift against a reduction (POSIX, XCU yacc, "Conflicts"; Aho, Johnson and Ullman 1975).
-use Rattle.std.specs.Prelude.{ℕ, ltb, Option, Some, None, option_and_then, slice_get, if◌then◌else◌}
+use Rattle.std.specs.Prelude.{ℕ, ltb, Option, Some, option_and_then, slice_get, if◌then◌else◌}
 use Rattle.ly_join.specs.Joined.{Spec}
 use Rattle.ly_join.specs.declared.precedence.Associativity.{Associativity}
 use Rattle.ly_join.specs.declared.precedence.Associativity.TheVariants.{Left, Right, Nonassociative}

@@ -5,7 +5,7 @@ use Rattle.ly_sets.specs.NumberSet.{Member}
 use Rattle.ly_lookahead.specs.Lookaheads.{set_at}
 use Rattle.ly_lr0.specs.Automaton.{state_at}
 use Rattle.ly_lr0.proofs.StateLemmas.{state_there}
-use Rattle.ly_resolve.proofs.RawLemmas.{AreFoundTo, found_more, found_none, found_past, reduced_at, reduction_at}
+use Rattle.ly_resolve.proofs.RawLemmas.{AreFoundTo, found_more, found_past, reduced_at, reduction_at}
 use Rattle.ly_resolve.proofs.asking.find_reductions.Goals as goal
 use Rattle.ly_resolve.proofs.asking.find_reductions.Goals.{then-contains+in_ok-push, else-contains}
 

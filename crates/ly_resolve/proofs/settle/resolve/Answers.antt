@@ -1,4 +1,4 @@
-use Rattle.std.proofs.Common.{◌≡◌, ◌∙◌, ◌∷◌, [], ap, arith, length, map, slice_get, subst, sym}
+use Rattle.std.proofs.Common.{◌∙◌, ◌∷◌, [], ap, arith, length, map, slice_get, subst, sym}
 use Rattle.std.proofs.lemmas.List.{length-append}
 use Rattle.ly_lr0.specs.Automaton.{prefix_of}
 use Rattle.ly_resolve.specs.Precedence.{judge_of}

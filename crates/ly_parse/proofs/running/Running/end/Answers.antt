@@ -1,4 +1,4 @@
-use Rattle.std.proofs.Common.{◌≡◌, ◌∙◌, [], ap, arith, refl, subst, sym}
+use Rattle.std.proofs.Common.{◌∙◌, [], ap, arith, refl, subst, sym}
 use Rattle.std.specs.Prelude.{true}
 use Rattle.ly_pack.specs.Machine.{shift}
 use Rattle.ly_parse.specs.Feeding.{top_of}

@@ -1,6 +1,6 @@
 use Rattle.ly_resolve.specs.Precedence.{judge_of}
 use Rattle.ly_resolve.proofs.MeetingLemmas.{earliest_found, earliest_none}
-use Rattle.std.proofs.Common.{◌≡◌, ◌<◌, ◌≤◌, length, arith}
+use Rattle.std.proofs.Common.{arith}
 use Rattle.ly_resolve.proofs.meeting.Meeting.earliest.Goals as goal
 
 pub returns-then-stays : goal.returns-then-stays
