@@ -1,3 +1,12 @@
 pub mod AtLemmas
+pub mod BackLemmas
 pub mod ExampleLemmas
+pub mod FoundLemmas
+pub mod GroundLemmas
+pub mod KeptLemmas
+pub mod OpeningLemmas
+pub mod RestLemmas
+pub mod SearchLemmas
 pub mod StepLemmas
+pub mod UnderwayLemmas
+pub mod UseLemmas

@@ -1,9 +1,11 @@
 -- Demands on strings of symbols, which have their last symbol first: a state to which the string leads, and two claims
 -- on what is valid there. By which demands one is met.
-use Rattle.std.specs.Prelude.{◌≡◌, ◌⊎◌, ℕ, suc, List, ◌∷◌, Option, Some, None, drop}
+use Rattle.std.specs.Prelude.{◌≡◌, ◌≢◌, ◌⊎◌, ◌<◌, ℕ, suc, List, ◌∷◌, Option, Some, None, AllPairs, Contains}
+use Rattle.std.specs.Prelude.{drop, length}
 use Rattle.ly_join.specs.Grammar.{Grammar, IsRule, Rule, Symbol, nonterminal}
 use Rattle.ly_grammar.specs.Derivations.{BeginsYield, IsNullable}
-use Rattle.ly_lr0.specs.Automaton.{Automaton, goto_of}
+use Rattle.ly_lr0.specs.Automaton.{Automaton, goto_of, prefix_of}
+use Rattle.ly_resolve.specs.Conflicts.{Conflict}
 use Rattle.ly_explain.specs.declared.item.Item.{Item}
 use Rattle.ly_explain.specs.declared.claim.Claim.{Claim}
 use Rattle.ly_explain.specs.declared.claim.Claim.TheVariants.{InCore, Settled, With}
@@ -65,3 +67,16 @@ IsStep M t (Some X) d e = IsPop M X d e
 pub data Follows (M : Automaton) (t : ℕ) (from : Demand) : Demand → Type 0 where
   at_start : Follows M t from from
   by_step : {d e : Demand} (popped : Option Symbol) → Follows M t from d → IsStep M t popped d e → Follows M t from e
+
+-- More demands than n follow from one on strings with the core of the conflict's prefix, which claims of its rule that
+-- it is valid, complete, with the terminal.
+pub record HasMoreDemands (M : Automaton) (c : Conflict) (n : ℕ) : Type 0 where
+  pub from : Demand
+  pub state : prefix_of M from.state.0 ≡ c.prefix
+  pub item : Item
+  pub first : from.first ≡ With item
+  pub rule : item.rule ≡ c.rule
+  pub demands : List Demand
+  pub count : n < length demands
+  pub apart : AllPairs (λ d e. d ≢ e) demands
+  pub follow : (d : Demand) → Contains demands d → Follows M c.terminal from d

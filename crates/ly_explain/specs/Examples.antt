@@ -1,10 +1,14 @@
 -- Examples of conflicts: strings of symbols at which both actions are possible (Knuth 1965). Strings of symbols have
 -- their last symbol first.
-use Rattle.std.specs.Prelude.{ℕ, List, []}
-use Rattle.ly_join.specs.Grammar.{Grammar, Symbol, terminal}
+use Rattle.std.specs.Prelude.{ℕ, List, [], map, reverse}
+use Rattle.ly_join.specs.Grammar.{Grammar, Symbol, symbol_of, terminal}
 use Rattle.ly_grammar.specs.Items.{IsNextSymbol, Merges, Valid}
+use Rattle.ly_lr0.specs.Automaton.{Automaton}
 use Rattle.ly_resolve.specs.Actions.{Action, error, reduce, shift}
 use Rattle.ly_resolve.specs.Conflicts.{Conflict, Kind, reduce_reduce, shift_reduce}
+use Rattle.ly_explain.specs.Demands.{HasMoreDemands}
+use Rattle.ly_explain.specs.declared.example.Example as code
+use Rattle.ly_explain.specs.declared.example.Example.TheVariants.{At, Merged, Unknown}
 
 -- The action is possible at the very string before the terminal, no strings being merged: a shift where an item that is
 -- valid there has the terminal behind its dot, a reduction where the rule, complete, is valid there with it.
@@ -23,3 +27,10 @@ pub record IsExample (G : Grammar) (c : Conflict) (g : List Symbol) : Type 0 whe
   pub merges : Merges G c.prefix g
   pub rule : IsPossible G g c.terminal (reduce c.rule)
   pub rival : IsPossible G g c.terminal (rival c.kind c.choice)
+
+-- What is answered of a conflict: an example of it; or that there is none, since only strings that are merged ask for
+-- both actions; or that more demands follow from it than a number.
+abbrev pub IsAnswer : Automaton → Conflict → ℕ → code.Example → Type 0
+IsAnswer M c bound (At string) = IsExample M.grammar c (reverse (map symbol_of string.items))
+IsAnswer M c bound Merged = (g : List Symbol) → IsExample M.grammar c g → ⊥
+IsAnswer M c bound Unknown = HasMoreDemands M c bound

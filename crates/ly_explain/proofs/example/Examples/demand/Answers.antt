@@ -1,0 +1,15 @@
+use Rattle.std.proofs.Common.{subst}
+use Rattle.ly_lr0.specs.Automaton.{IsAutomaton}
+use Rattle.ly_explain.proofs.OpeningLemmas.{opens, rule_there}
+use Rattle.ly_explain.proofs.example.Examples.demand.Goals as goal
+
+pub reduced-requires : goal.reduced-requires
+reduced-requires c =
+    rule_there c.args.self.now c.spec-spec.ensures.resolved c.args.conflict.now c.requires.conflict
+
+pub returns-clause-opens : goal.returns-clause-opens
+returns-clause-opens c = opens c.args.self.now c.spec-spec.ensures.resolved c.args.conflict.now c.requires.conflict
+    (subst (λ v. IsAutomaton v.automaton) c.self.view_is
+    (subst IsAutomaton c.self.invariant.1 c.self.invariant.0.lawful))
+    c.requires.inside.state c.reduced.result c.rival.result c.reduced.ensures.rule c.reduced.ensures.end
+    c.rival.ensures

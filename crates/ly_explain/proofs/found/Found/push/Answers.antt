@@ -1,0 +1,9 @@
+use Rattle.std.proofs.Common.{◌∙◌, ◌++◌, [], ◌∷◌, ap, subst, sym, Contains}
+use Rattle.ly_explain.proofs.FoundLemmas.{pushed}
+use Rattle.ly_explain.proofs.found.Found.push.Goals as goal
+
+pub returns : goal.returns
+returns c = c.in_ok-insert.ensures.keys
+    ∙ pushed c.self.inside.demands.keys c.args.demand
+    (subst (λ ds. Contains ds c.args.demand → ⊥) (sym c.self.view_is) c.requires)
+    ∙ ap (λ ds. ds ++ c.args.demand ∷ []) c.self.view_is
