@@ -181,7 +181,9 @@ fn made_by(
 }
 
 /// The tables of a parser, of which every run ends.
-pub(crate) fn steady_tables(
+///
+/// Its faults are `Endless` and `OutOfMemory` of `GenFault`.
+pub fn steady_tables(
     alloc: Global,
     resolved: &Resolved<'_>,
 ) -> Result<Machine<Dense<TableAction>, Dense<StateNo>>, GenFault>

@@ -5,7 +5,8 @@
 //! derivations of the text's tokens say (`sentences_are_answered`).
 //!
 //! What an embedder needs beside these is handed on: `tokens` for a lex file alone, `drive` for a table file, and
-//! `Feed` for a text that comes in pieces.
+//! `Feed` for a text that comes in pieces. The steps of the way are public too, for whoever explains what two files
+//! say: `read_specification`, `settle` and `steady_tables`.
 //!
 //! Left out: files, words and lines of faults, which are the program's.
 #![tactic(auto)]
@@ -21,7 +22,7 @@ mod specification;
 pub use answer_fault::AnswerFault;
 pub use answering::answer;
 pub use gen_fault::GenFault;
-pub use generating::{Built, build, generate};
+pub use generating::{Built, build, generate, steady_tables};
 pub use laws::{refusal_is_exact, sentences_are_answered, tables_answer_as_specified};
 pub use ly_base::{Counted, Limits, MemSink, MemSource, Sink, Source, Version};
 pub use ly_drive::{DriveFault, Feed, FeedFault, Need, Outcome, drive};
@@ -29,4 +30,5 @@ pub use ly_tables::{
     FormatFault, SetCounts, TableFault, TableSet, counts, read_tables, write_tables,
 };
 pub use ly_tokens::{TokenEnd, TokensFault, tokens};
-pub use reporting::generate_report;
+pub use reporting::{generate_report, settle};
+pub use specification::{Specification, read_specification};

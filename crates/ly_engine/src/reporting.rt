@@ -86,7 +86,9 @@ fn report_on<W: Sink>(
 }
 
 /// Settles what is done in the states of a specification's automaton.
-pub(crate) fn settle<'a>(
+///
+/// `OutOfMemory` comes where a growth was refused.
+pub fn settle<'a>(
     alloc: Global,
     spec: &'a Spec,
     lr0: &'a Lr0<'a>,

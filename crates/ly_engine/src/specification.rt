@@ -13,17 +13,20 @@ use std::alloc::Global;
 
 /// What a lex file and a yacc file say together.
 #[derive(Drop)]
-pub(crate) struct Specification {
+pub struct Specification {
     /// The lex file.
-    pub(crate) file: LexFile,
+    pub file: LexFile,
     /// The grammar, and what the scanner's rules return.
-    pub(crate) spec: Spec,
+    pub spec: Spec,
     /// The scanner, whose states are the sets of positions.
-    pub(crate) subsets: Dfa,
+    pub subsets: Dfa,
 }
 
 /// The specification that a lex file and a yacc file say together, whose scanner is within the limits too.
-pub(crate) fn read_specification(
+///
+/// Its faults are those of `GenFault` that come before a parser is made: `Lex`, `Yacc`, `Join`, `Positions`, `States`
+/// and `OutOfMemory`.
+pub fn read_specification(
     alloc: Global,
     lex: &[u8],
     yacc: &[u8],

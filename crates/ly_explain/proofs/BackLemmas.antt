@@ -14,7 +14,7 @@ use Rattle.ly_grammar.proofs.SearchLemmas.{rule_is_one}
 use Rattle.ly_lr0.specs.Automaton.{Automaton, goto_of}
 use Rattle.ly_relate.proofs.WalkLemmas.{drop_at, slice_at_drop}
 use Rattle.ly_explain.specs.Demands.{IsAhead, IsBefore, IsBegun, PopsTo}
-use Rattle.ly_explain.specs.declared.item.Item.{Item}
+use Rattle.ly_lr0.specs.declared.item.Item.{Item}
 use Rattle.ly_explain.specs.declared.claim.Claim.{Claim}
 use Rattle.ly_explain.specs.declared.claim.Claim.TheVariants.{InCore, Settled, With}
 use Rattle.ly_explain.specs.Private.Met.{item_at}

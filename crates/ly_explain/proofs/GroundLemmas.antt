@@ -20,7 +20,7 @@ use Rattle.ly_lr0.proofs.GroupLemmas.{symbol_one}
 use Rattle.ly_lr0.proofs.StateLemmas.{state_there, target_some}
 use Rattle.ly_relate.specs.Private.Walks.{HasNumberTo}
 use Rattle.ly_relate.proofs.GotoLemmas.{has_target}
-use Rattle.ly_explain.specs.declared.item.Item.{Item}
+use Rattle.ly_lr0.specs.declared.item.Item.{Item}
 use Rattle.ly_explain.specs.declared.incoming.Incoming.{Incoming}
 use Rattle.ly_explain.specs.Private.Grounds.{AreIncoming, AreUses}
 use Rattle.ly_explain.specs.Private.Lists.{AreIncomingOf, AreLeavingAdded, AreUsesAdded, AreUsesOf, IsLeaving}

@@ -7,7 +7,7 @@ use Rattle.ly_join.specs.Grammar.{Grammar, Symbol}
 use Rattle.ly_lr0.specs.Automaton.{Automaton}
 use Rattle.ly_lr0.proofs.StateLemmas.{goto_some}
 use Rattle.ly_explain.specs.Demands.{ClimbsTo, IsAhead, IsStep, PopsTo}
-use Rattle.ly_explain.specs.declared.item.Item.{Item}
+use Rattle.ly_lr0.specs.declared.item.Item.{Item}
 use Rattle.ly_explain.specs.declared.claim.Claim.{Claim}
 use Rattle.ly_explain.specs.declared.claim.Claim.TheVariants.{InCore, Settled, With}
 use Rattle.ly_explain.specs.declared.claim.Demand.{Demand}

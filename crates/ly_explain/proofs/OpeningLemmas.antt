@@ -15,7 +15,7 @@ use Rattle.ly_resolve.specs.declared.conflict.ConflictKind as kind
 use Rattle.ly_resolve.specs.declared.conflict.ConflictKind.TheVariants.{ReduceReduce, ShiftReduce}
 use Rattle.ly_explain.specs.Examples.{rival}
 use Rattle.ly_explain.specs.Openings.{ClaimsAction, ClaimsWhole, Opens}
-use Rattle.ly_explain.specs.declared.item.Item.{Item}
+use Rattle.ly_lr0.specs.declared.item.Item.{Item}
 use Rattle.ly_explain.specs.declared.claim.Claim.{Claim}
 use Rattle.ly_explain.specs.declared.claim.Claim.TheVariants.{Settled, With}
 use Rattle.ly_explain.specs.declared.claim.Demand.{Demand}

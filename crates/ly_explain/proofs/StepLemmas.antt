@@ -10,7 +10,7 @@ use Rattle.ly_lr0.specs.Automaton.{Automaton, IsAutomaton, Reaches, goto_of}
 use Rattle.ly_relate.proofs.ReachLemmas.{Reaches_one, apart, back}
 use Rattle.ly_relate.proofs.WalkLemmas.{terminal_not_nullable}
 use Rattle.ly_explain.specs.Demands.{ClimbsTo, IsAhead, IsBefore, IsBegun, IsClimb, IsPop, IsStep, PopsTo}
-use Rattle.ly_explain.specs.declared.item.Item.{Item}
+use Rattle.ly_lr0.specs.declared.item.Item.{Item}
 use Rattle.ly_explain.specs.declared.claim.Claim.{Claim}
 use Rattle.ly_explain.specs.declared.claim.Claim.TheVariants.{InCore, Settled, With}
 use Rattle.ly_explain.specs.declared.claim.Demand.{Demand}

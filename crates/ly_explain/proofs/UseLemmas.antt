@@ -17,7 +17,7 @@ use Rattle.ly_lr0.specs.Automaton.{Automaton, goto_of}
 use Rattle.ly_relate.specs.Private.Walks.{HasNumberTo}
 use Rattle.ly_relate.proofs.WalkLemmas.{slice_at_drop}
 use Rattle.ly_explain.specs.Demands.{ClimbsTo, IsAhead, IsBegun, IsClimb, IsPop, PopsTo}
-use Rattle.ly_explain.specs.declared.item.Item.{Item}
+use Rattle.ly_lr0.specs.declared.item.Item.{Item}
 use Rattle.ly_explain.specs.declared.incoming.Incoming.{Incoming}
 use Rattle.ly_explain.specs.declared.steps.Pop.{Pop}
 use Rattle.ly_explain.specs.declared.claim.Claim.{Claim}

@@ -6,7 +6,7 @@ use Rattle.ly_join.specs.Grammar.{Grammar, IsRule, Rule, Symbol, nonterminal}
 use Rattle.ly_grammar.specs.Derivations.{BeginsYield, IsNullable}
 use Rattle.ly_lr0.specs.Automaton.{Automaton, goto_of, prefix_of}
 use Rattle.ly_resolve.specs.Conflicts.{Conflict}
-use Rattle.ly_explain.specs.declared.item.Item.{Item}
+use Rattle.ly_lr0.specs.declared.item.Item.{Item}
 use Rattle.ly_explain.specs.declared.claim.Claim.{Claim}
 use Rattle.ly_explain.specs.declared.claim.Claim.TheVariants.{InCore, Settled, With}
 use Rattle.ly_explain.specs.declared.claim.Demand.{Demand}

@@ -1,10 +1,16 @@
--- What follows from the definitions of demands.
-use Rattle.std.specs.Prelude.{◌≡◌, ◌↔◌, List}
+-- What follows from the definitions of demands and of rules that match.
+use Rattle.std.specs.Prelude.{◌≡◌, ◌↔◌, ℕ, List}
+use Rattle.ly_lexread.specs.LexText.{LexText}
+use Rattle.ly_lexread.specs.declared.file.LexFile.{LexFile}
+use Rattle.ly_subset.specs.Automaton.{Automaton as Scanner}
+use Rattle.ly_minim.specs.Smallest.{HaveSameRules}
+use Rattle.ly_tokens.specs.Scanner.{IsSubsetScanner}
 use Rattle.ly_join.specs.Grammar.{Grammar, Symbol}
 use Rattle.ly_lr0.specs.Automaton.{Automaton, IsAutomaton, Reaches, goto_of}
 use Rattle.ly_resolve.specs.Actions.{Judge}
 use Rattle.ly_resolve.specs.Conflicts.{Conflict, IsConflict, shift_reduce}
 use Rattle.ly_explain.specs.Demands.{Follows}
+use Rattle.ly_explain.specs.Doubts.{IsMatched, Wins}
 use Rattle.ly_explain.specs.Examples.{IsExample}
 use Rattle.ly_explain.specs.Openings.{Opens}
 use Rattle.ly_explain.specs.declared.claim.Claim.TheVariants.{Settled}
@@ -26,3 +32,9 @@ ConflictsOpen = (M : Automaton) (judge : Judge) (c : Conflict) → IsAutomaton M
 abbrev pub ShiftsHaveExamples : Type 0
 ShiftsHaveExamples = (G : Grammar) (judge : Judge) (c : Conflict) → IsConflict G judge c → c.kind ≡ shift_reduce
     → (g : List Symbol) × IsExample G c g
+
+-- In an automaton that has the rules of a lex file's scanner, some string of at least one byte leads to a rule exactly
+-- where the rule wins at some place of some text.
+abbrev pub MatchedWin : Type 0
+MatchedWin = (lex : List ℕ) (file : LexFile) (A B : Scanner) → LexText lex file → IsSubsetScanner file A
+    → HaveSameRules A B → (i : ℕ) → IsMatched B i ↔ Wins file i

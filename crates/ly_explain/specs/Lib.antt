@@ -1,4 +1,5 @@
 pub mod Demands
+pub mod Doubts
 pub mod Examples
 pub mod Laws
 pub mod Openings

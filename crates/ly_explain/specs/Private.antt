@@ -1,7 +1,12 @@
+pub mod FirstBytes
 pub mod Grounds
 pub mod Kept
 pub mod Lists
+pub mod Marks
+pub mod Matched
 pub mod Met
 pub mod Opening
+pub mod Reductions
 pub mod Searches
+pub mod Unmarked
 pub mod Uses

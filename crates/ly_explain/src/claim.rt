@@ -1,5 +1,5 @@
-use crate::item::Item;
 use ly_base::StateNo;
+use ly_lr0::Item;
 
 /// What is claimed of a string that leads to a state.
 #[derive(Clone, Copy, Debug, PartialEq, Eq, Hash)]

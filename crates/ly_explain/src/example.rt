@@ -9,10 +9,10 @@ ghost use Rattle.ly_explain.specs.Private.Opening.{ClaimsRival};
 use crate::claim::{Claim, Demand};
 use crate::ground::{Ground, ground_of};
 use crate::halt::Halt;
-use crate::item::Item;
 use crate::search::{Sought, shortest};
 use ly_base::OutOfMemory;
 use ly_join::{Spec, Symbol};
+use ly_lr0::Item;
 use ly_resolve::{Action, Conflict, ConflictKind, Resolved};
 use std::alloc::Global;
 use std::marker::Model;
@@ -60,6 +60,13 @@ impl<'a> Examples<'a> {
             resolved,
             ground: ground_of(alloc, resolved.lr0())?,
         })
+    }
+
+    /// The conflicts.
+    pub fn resolved(&self) -> &'a Resolved<'a>
+        ensures { result.now ≡ self.now }
+    {
+        self.resolved
     }
 
     /// An example of a conflict, which is sought over so many demands.

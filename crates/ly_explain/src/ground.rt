@@ -7,11 +7,10 @@ ghost use Rattle.ly_explain.specs.Private.Grounds.{AreIncoming, AreUses};
 ghost use Rattle.ly_explain.specs.Private.Lists.{AreIncomingOf, AreUsesAdded, IsGround};
 
 use crate::incoming::Incoming;
-use crate::item::Item;
 use crate::lists::{IncomingLists, UseLists};
 use ly_base::{OutOfMemory, StateNo};
 use ly_join::Symbol;
-use ly_lr0::Lr0;
+use ly_lr0::{Item, Lr0};
 use std::alloc::Global;
 
 /// An automaton, with what leads to its states and where its nonterminals stand.

@@ -1,7 +1,7 @@
 ghost use Rattle.std.specs.Prelude.{◌≡◌, ◌<◌, ◌++◌, [], ◌∷◌, length, replicate, slice_index_or, slice_set, IfOk, OnOk};
 
 use crate::incoming::Incoming;
-use crate::item::Item;
+use ly_lr0::Item;
 use std::alloc::{AllocError, Global};
 use std::marker::Model;
 
@@ -61,7 +61,7 @@ pub(crate) struct UseLists {
 
 impl Model for UseLists {
     ghost use Rattle.std.specs.Prelude.{List, map};
-    ghost use Rattle.ly_explain.specs.declared.item.Item as element;
+    ghost use Rattle.ly_lr0.specs.declared.item.Item as element;
 
     ghost Value = { List (List element.Item) };
 

@@ -9,17 +9,17 @@ ghost use Rattle.ly_explain.specs.Private.Uses.{HasAhead, IsPopBy, IsUseBy};
 ghost use Rattle.ly_explain.specs.declared.claim.Claim as claim_values;
 ghost use Rattle.ly_explain.specs.declared.claim.Claim.TheVariants.{With as TheTerminal};
 ghost use Rattle.ly_explain.specs.declared.claim.Demand as demands;
-ghost use Rattle.ly_explain.specs.declared.item.Item as items;
+ghost use Rattle.ly_lr0.specs.declared.item.Item as items;
 ghost use Rattle.ly_explain.specs.declared.steps.Pop as pops;
 
 use crate::claim::{Claim, Demand};
 use crate::ground::Ground;
 use crate::incoming::Incoming;
-use crate::item::Item;
 use crate::rest::{are_nullable, begins};
 use ly_base::{StateNo, Sym};
 use ly_grammar::Reduced;
 use ly_join::Symbol;
+use ly_lr0::Item;
 use std::alloc::{AllocError, Global};
 
 /// A demand on a string without its last symbol.

@@ -1,6 +1,7 @@
 -- What a reader answers.
 use Rattle.std.proofs.Common.{◌≡◌, ◌≢◌, ◌⊎◌, ℕ, List, [], ◌∷◌, Ok, Err, Option, Some, None, refl, sym, subst, ◌∙◌}
 use Rattle.std.proofs.Common.{inl, inr}
+use Rattle.std.specs.Prelude.{Result}
 use Rattle.std.specs.Option.{MatchOption}
 use Rattle.ly_ere.specs.Definitions.{AreLightNames, AreNames, AreRefused, DefinedText}
 use Rattle.ly_ere.specs.Names.{Definition}
@@ -61,6 +62,15 @@ module _ {T X : Type 0} (value : T → X) (Is Light : X → Type 0) (Heavy : Typ
     heavy = λ h. up (answer.heavy h);
     none_light = λ h x is light. let p = part x is in answer.none_light h p.0 p.1 (p.2 light);
   }
+
+-- the same values, said in another way
+pub answer_as : {T X : Type 0} (value : T → X) (Is Was Light : X → Type 0) (Heavy Part : Type 0)
+    (result : Result T LexFault) → ((x : X) → Was x → Is x) → ((x : X) → Is x → Was x) → (Part → Heavy)
+    → IsReadAs value Was Light Part result → IsReadAs value Is Light Heavy result
+answer_as value Is Was Light Heavy Part (Ok x) there back up answer
+    = answer_ok value Is Light Heavy x (there (value x) answer.ok) answer.light
+answer_as value Is Was Light Heavy Part (Err fault) there back up answer
+    = answer_up value Is Light Heavy fault answer up (λ x is. (x, back x is, λ light. light))
 
 -- the pattern of a rule is refused
 module _ {T : Type 0} (value : T → Rule × Saying × List ℕ) (most : ℕ) (cs : List Condition) (names : List Definition)

@@ -30,6 +30,7 @@ use Rattle.ly_lexread.specs.declared.kind.LineKind.{LineKind}
 use Rattle.ly_lexread.specs.declared.kind.LineKind.TheVariants.{Mark, Unused, Block, Comment, Directive, Plain}
 use Rattle.ly_lexread.specs.LexText.{AreSameActions, AreSameRules, LexText, LexTextIsOne}
 use Rattle.ly_lexread.specs.Names.{AreDefinitions}
+use Rattle.ly_lexread.specs.Private.File.{IsBehind, IsFileOf}
 use Rattle.ly_lexread.specs.Rules.{ActiveBefore, ConditionBefore, Listed, RuleBefore, Rules, end, rule, skip}
 use Rattle.ly_lexread.specs.Rules as listing
 use Rattle.ly_lexread.proofs.DefinitionLemmas.{definitions_one}
@@ -85,6 +86,27 @@ rules_under p q text rest names others rules sayings same behind are r =
     (subst (λ i. Rules q.conditions names i rules sayings) behind
     (subst (λ i. Rules i.conditions names text rules sayings) same r))
 
+-- a file behind definitions has their names, and rules under these
+pub behind_rules : (all : Preamble) (behind : List ℕ) (file : LexFile) (is : IsBehind all behind file)
+    (names : List Definition) → AreDefinitions all.definitions names
+    → (file.names ≡ names) × Rules all.conditions names behind file.rules.items is.sayings
+behind_rules all behind file is names are =
+    let one = definitions_are_one all.definitions file.names names is.names are in
+    (one, subst (λ i. Rules all.conditions i behind file.rules.items is.sayings) one is.rules)
+
+-- the file of definitions and rules that are read
+pub file_behind : (all : Preamble) (behind : List ℕ) (names : List Definition) (rules : List Rule)
+    (sayings : List Saying) (conditions : ℕ) (file : LexFile) → IsFileOf names rules sayings conditions file
+    → AreDefinitions all.definitions names → Rules all.conditions names behind rules sayings
+    → conditions ≡ length all.conditions → IsBehind all behind file
+file_behind all behind names rules sayings conditions file of are read count = record {
+  names = rw of.names_are are;
+  sayings = sayings;
+  rules = rw (of.names_are, of.rules_are) read;
+  effects = of.effects;
+  conditions = of.count ∙ count;
+}
+
 -- what definitions that are read say of the names of a text
 module _ (bytes : List ℕ) (all : Preamble) (behind : List ℕ) (definitions : Definitions at_first bytes all behind)
     (file : LexFile) (text : LexText bytes file) where
@@ -102,6 +124,16 @@ module _ (bytes : List ℕ) (all : Preamble) (behind : List ℕ) (definitions : 
         rules_under text.all all text.behind behind file.names names file.rules.items text.sayings same.0 same.1
             one text.rules,
       )
+
+  -- and of all else that it says
+  pub text_behind : IsBehind all behind file
+  text_behind = record {
+    names = text_names;
+    sayings = text.sayings;
+    rules = (text_rules file.names text_names).1;
+    effects = text.effects;
+    conditions = text.conditions ∙ ap (λ i. length i.conditions) same.0;
+  }
 
 pub lex_text_one : LexTextIsOne
 lex_text_one bytes f g a b =

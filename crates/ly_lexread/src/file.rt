@@ -12,4 +12,6 @@ pub struct LexFile {
     pub actions: Vec<Action>,
     /// How many conditions there are; the initial one is number 0.
     pub conditions: u32,
+    /// The line on which each rule begins, counted from 1.
+    pub lines: Vec<u64>,
 }

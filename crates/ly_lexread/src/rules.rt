@@ -28,8 +28,8 @@ pub(crate) struct Section {
     pub(crate) rules: Vec<Rule>,
     /// What each says of its action.
     pub(crate) said: Vec<Said>,
-    /// The line of the last rule.
-    pub(crate) last: u64,
+    /// The line on which each begins.
+    pub(crate) lines: Vec<u64>,
 }
 
 /// Reads the rules, up to a mark or the end.
@@ -47,16 +47,16 @@ pub(crate) fn read_rules(
 {
     let mut rules = Vec::new(alloc);
     let mut said = Vec::new(alloc);
-    let mut last = text.line;
+    let mut lines = Vec::new(alloc);
     let mut left = skip_unused(text)?;
     while begins_with_rule(left) {
         let (rule, saying, behind) = read_rule(alloc, left, conditions, names, limits)?;
         rules.push(rule)?;
         said.push(saying)?;
-        last = left.line;
+        lines.push(left.line)?;
         left = skip_unused(behind)?;
     }
-    Ok(Section { rules, said, last })
+    Ok(Section { rules, said, lines })
 }
 
 /// What is left behind the lines and blocks at the front that aren't used.

@@ -1,15 +1,19 @@
-ghost use Rattle.std.specs.Prelude.{IfErr, IsTrue, OnOk};
+ghost use Rattle.std.specs.Prelude.{◌≡◌, ◌<◌, IfErr, IfOk, IsTrue, OnOk};
+ghost use Rattle.ly_pack.specs.Machine.{states_of};
 ghost use Rattle.ly_pack.specs.Steady.{IsSteady};
 ghost use Rattle.ly_loop.specs.Endless.{IsRefused};
+ghost use Rattle.ly_loop.specs.Private.Edges.{IsFirstFrom};
+ghost use Rattle.ly_loop.specs.Private.Entries.{AreAllEntries, AreAllGotos};
+ghost use Rattle.ly_loop.specs.Private.Reducing.{AreReducing};
 ghost use Rattle.ly_loop.specs.Private.Run.{IsCountable};
 
-use crate::edges::{first_above, targets};
+use crate::edges::{Passing, first_above, targets};
 use crate::entries::{all_entries, all_gotos};
 use crate::fault::LoopFault;
 use crate::path::Path;
 use crate::reducing::reducing_states;
-use ly_base::StateNo;
-use ly_pack::{Machine, Rows, TableAction};
+use ly_base::{OutOfMemory, StateNo};
+use ly_pack::{Cell, Machine, Rows, TableAction};
 use std::alloc::Global;
 
 /// Whether a parser's tables are steady: above each edge, every terminal's run makes at most 100,000 reductions. The
@@ -31,8 +35,10 @@ pub fn steady<A: Rows<TableAction> + Drop, G: Rows<StateNo> + Drop>(
     let mut tops = Vec::new(alloc);
     for number in 0..machine.states() {
         let below = StateNo(number as u32);
-        targets(&entries[number], &gotos[number], &mut tops)?;
-        if let Some(passing) = first_above(machine, &entries, &reducing, below, &tops, &mut path)? {
+        let first = first_from(
+            machine, &entries, &gotos, &reducing, below, &mut tops, &mut path,
+        )?;
+        if let Some(passing) = first {
             return Err(LoopFault::Endless {
                 below,
                 top: passing.top,
@@ -41,6 +47,31 @@ pub fn steady<A: Rows<TableAction> + Drop, G: Rows<StateNo> + Drop>(
         }
     }
     Ok(())
+}
+
+/// The first run above a state that makes too many reductions: by the least state on top, and then by the least
+/// terminal. The states on top are listed in passing.
+fn first_from<A: Rows<TableAction> + Drop, G: Rows<StateNo> + Drop>(
+    machine: &Machine<A, G>,
+    entries: &[Vec<Cell<TableAction>>],
+    gotos: &[Vec<Cell<StateNo>>],
+    reducing: &[bool],
+    below: StateNo,
+    tops: &mut Vec<StateNo>,
+    path: &mut Path,
+) -> Result<Option<Passing>, OutOfMemory>
+    requires countable { IsCountable machine.now }
+    requires entries { AreAllEntries machine.now entries.now }
+    requires gotos { AreAllGotos machine.now gotos.now }
+    requires reducing { AreReducing machine.now reducing.now }
+    requires below { below.0 < states_of machine.now }
+    requires room { path.old.settled.below ≡ machine.now.terminals }
+    ensures room { OnOk result (path.new.settled.below ≡ machine.now.terminals) }
+    ensures first { IfOk result (IsFirstFrom machine.now below.0) }
+{
+    let number = below.0 as usize;
+    targets(&entries[number], &gotos[number], tops)?;
+    first_above(machine, entries, reducing, below, tops, path)
 }
 
 /// Whether the numbers of states and symbols can count them.

@@ -3,6 +3,7 @@ pub mod BuiltLemmas
 pub mod ByLeftLemmas
 pub mod ClosingLemmas
 pub mod ConstructLemmas
+pub mod CoreItemLemmas
 pub mod CoreLemmas
 pub mod FinalLemmas
 pub mod GotoLemmas

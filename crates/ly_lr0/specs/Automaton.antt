@@ -4,7 +4,7 @@ use Rattle.std.specs.Prelude.{◌≡◌, ◌↔◌, ◌⊎◌, ℕ, ◌<◌, Lis
 use Rattle.std.specs.Prelude.{length, map, nat_eq, slice_get, slice_index_or, AllPairs, Contains, if◌then◌else◌}
 use Rattle.ly_join.specs.Grammar.{Grammar, IsAugmented, Symbol, nonterminal, terminal}
 use Rattle.ly_grammar.specs.Derivations.{IsReduced}
-use Rattle.ly_grammar.specs.Items.{IsComplete, IsViable, SameCore}
+use Rattle.ly_grammar.specs.Items.{InCore, IsComplete, IsViable, SameCore}
 
 -- A transition of a state: by a symbol to a state.
 pub record Transition : Type 0 where
@@ -98,3 +98,7 @@ pub record IsAutomaton (M : Automaton) : Type 0 where
   pub cores : HasCores M.grammar (goto_of M)
   pub numbered : AreNumbered M
   pub each : (s : ℕ) (q : State) → slice_get M.states s ≡ Some q → IsState M.grammar (length M.states) q
+
+-- An item of the rule with its dot behind so many symbols is one of the string's core.
+abbrev pub HasInCore : Grammar → List Symbol → ℕ → ℕ → Type 0
+HasInCore G g p d = (before after : List Symbol) × InCore G g p before after × (length before ≡ d)

@@ -2,11 +2,11 @@ use ly_join::Symbol;
 
 /// A rule with a dot in its body.
 #[derive(Clone, Copy, Debug, PartialEq, Eq, PartialOrd, Ord, Hash)]
-pub(crate) struct Item {
+pub struct Item {
     /// The rule's number.
-    pub(crate) rule: usize,
+    pub rule: usize,
     /// How many symbols of the body stand before the dot.
-    pub(crate) dot: usize,
+    pub dot: usize,
 }
 
 /// The symbol behind the dot of an item, and the item with the dot behind that symbol.

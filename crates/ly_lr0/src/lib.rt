@@ -11,6 +11,7 @@
 mod by_left;
 mod closing;
 mod construct;
+mod core_items;
 mod fault;
 mod found;
 mod item;
@@ -21,6 +22,7 @@ mod transition;
 
 pub use construct::automaton;
 pub use fault::Lr0Fault;
+pub use item::Item;
 pub use laws::{automaton_is_one, no_more_cores_than_states};
 pub use lr0::Lr0;
 pub use transition::Transition;

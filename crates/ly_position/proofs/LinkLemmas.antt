@@ -13,7 +13,7 @@ use Rattle.ly_position.specs.Private.Link.{is_position, rank, target_of}
 use Rattle.ly_position.specs.Position.{reached_from}
 use Rattle.ly_position.specs.Private.Program.{Step, reads, fork, ends}
 use Rattle.ly_position.specs.Private.Reach.{LeadsBelow, Reached, StaysInside, at_root, to_first, to_second}
-use Rattle.ly_position.specs.Private.Targets.{IsSide, EntersTo, ForksTo, here, onward}
+use Rattle.ly_position.specs.Private.Targets.{IsEnteredList, IsSide, EntersTo, ForksTo, here, onward}
 use Rattle.ly_position.specs.Target.{ForkWithin, SlotWithin, TargetWithin}
 use Rattle.ly_position.specs.declared.nfa.Fork.{Fork}
 use Rattle.ly_position.specs.declared.nfa.Slot.{Slot}
@@ -163,6 +163,14 @@ module _ (g : List Step) (targets : List Target) (slots : List Slot) (forks : Li
           let e = reached_from_one g roots p r in
           let less = All-contains (λ y. y < length g) roots e.0 below e.1 in
           (e.0, target_of g e.0, e.1, linked.targets_are.each e.0 less, to_position e.0 p q e.2 n)
+
+  -- and so is a list of them
+  pub reach_list_of : (roots list : List ℕ) → All (λ r. r < length g) roots
+      → IsEnteredList targets forks roots list → IsReachList g roots list
+  reach_list_of roots list below entered = record {
+    members = leads_members roots list below entered.members;
+    once = entered.once;
+  }
 
   -- and the list of what the forks lead to from one is that of the program
   pub reach_list : (next : ℕ) → next < length g

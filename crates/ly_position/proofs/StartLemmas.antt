@@ -242,15 +242,14 @@ roots_more rules entries done n conditions bound L M r x h is at less count stay
           )
     ]
 
--- one more list of positions
-pub lists_more : (g : List Step) (L S S' : List (List ℕ)) (n : ℕ) (list : List ℕ) → length S ≡ n
-    → ((k : ℕ) → k < n → IsReachList g (get_or L k []) (get_or S k [])) → IsReachList g (get_or L n []) list
-    → S' ≡ S ++ list ∷ []
-    → (k : ℕ) → k < n + 1 → IsReachList g (get_or L k []) (get_or S' k [])
-lists_more g L S S' n list count old new is k l = rw is (elim (cases_lt k n) [
+-- one more list
+pub lists_more : (P : List ℕ → List ℕ → Type 0) (L S S' : List (List ℕ)) (n : ℕ) (list : List ℕ) → length S ≡ n
+    → ((k : ℕ) → k < n → P (get_or L k []) (get_or S k [])) → P (get_or L n []) list → S' ≡ S ++ list ∷ []
+    → (k : ℕ) → k < n + 1 → P (get_or L k []) (get_or S' k [])
+lists_more P L S S' n list count old new is k l = rw is (elim (cases_lt k n) [
   | inl m ↦ rw (get_or_append_left S (list ∷ []) [] k (omega arith)) (old k m)
   | inr m ↦ let same : n ≡ k = omega arith
-      in subst (λ i. IsReachList g (get_or L i []) (get_or (S ++ list ∷ []) i [])) same
+      in subst (λ i. P (get_or L i []) (get_or (S ++ list ∷ []) i [])) same
       (rw (get_or_push S list [] n count) new)
 ])
 

@@ -1,9 +1,10 @@
 ghost use Rattle.std.specs.Prelude.{◌≡◌, ℕ, ◌+◌, ◌*◌, ◌<◌, ◌↔◌, List, length, All, Contains, IfOk, OnOk};
+ghost use Rattle.ly_position.specs.Private.Grown.{AreTwins};
 ghost use Rattle.ly_position.specs.Private.Plain.{IsPlainPart};
 ghost use Rattle.ly_position.specs.Private.Program.{steps_of};
 ghost use Rattle.ly_position.specs.Private.Reach.{StaysInside};
 ghost use Rattle.ly_position.specs.Private.Link.{IsLinkOf};
-ghost use Rattle.ly_position.specs.Private.Targets.{EntersTo, SameRoom};
+ghost use Rattle.ly_position.specs.Private.Targets.{AreEnteredLists, EntersTo, SameRoom};
 ghost use Rattle.ly_position.specs.Target.{ForkWithin, TargetWithin};
 ghost use Rattle.ly_position.specs.Private.Starts.{AddsIn, AddsInEach, AreBelow, AreRoots, StartsAt};
 ghost use Rattle.ly_position.specs.Private.Starts.{StaysWithin};
@@ -36,19 +37,38 @@ pub fn starts(
 {
     let roots = roots(alloc, rules, conditions, program)?;
     let twins = roots.twins(alloc)?;
+    followed(alloc, &roots, &twins, linked)
+}
+
+/// For each list of instructions the positions that these lead to by forks alone. A list that is the same as an earlier
+/// one isn't followed again.
+fn followed(
+    alloc: Global,
+    roots: &Roots,
+    twins: &[usize],
+    linked: &Linked,
+) -> Result<SharedLists, AllocError>
+    requires twins { AreTwins roots.now twins.now }
+    requires within { All (All (λ p. p < length linked.now.targets.items)) roots.now }
+    requires targets { All (TargetWithin (length linked.now.slots.items) (length linked.now.forks.items))
+        linked.now.targets.items }
+    requires forks { All (ForkWithin (length linked.now.slots.items) (length linked.now.forks.items))
+        linked.now.forks.items }
+    ensures { IfOk result (AreEnteredLists linked.now.targets.items linked.now.forks.items roots.now) }
+{
     let mut set = PositionSet::new(alloc, linked.slots.len(), linked.forks.len())?;
     let mut list = Vec::new(alloc);
-    let mut starts = SharedLists::new(alloc);
+    let mut lists = SharedLists::new(alloc);
     for number in 0..twins.len() {
         if twins[number] < number {
-            starts.push_again(twins[number])?;
+            lists.push_again(twins[number])?;
         } else {
             roots.read(number, &mut list)?;
             fill_from(&mut set, &list, &linked.targets, &linked.forks);
-            starts.push(set.members())?;
+            lists.push(set.members())?;
         }
     }
-    Ok(starts)
+    Ok(lists)
 }
 
 /// Makes a set that of the positions that some instructions lead to by forks alone.

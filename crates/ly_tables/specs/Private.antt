@@ -1,5 +1,6 @@
 pub mod Fitting
 pub mod Found
+pub mod Lists
 pub mod Meaning
 pub mod Names
 pub mod Parts

@@ -1,6 +1,7 @@
 //! From the numbers of a table file to the parts of a table set.
 ghost use Rattle.std.specs.Prelude.{◌≡◌, IfOk};
 ghost use Rattle.ly_tables.specs.Private.Meaning.{set_meant};
+ghost use Rattle.ly_tables.specs.Private.Lists.{AreListsMeant};
 ghost use Rattle.ly_tables.specs.Private.RawValues.{raw_from};
 ghost use Rattle.ly_tables.specs.Private.SectionOrder.{AreAllWithin, AreFileNumbers};
 ghost use Rattle.ly_tables.specs.Ranges.{width_of, IsWithinVersion};
@@ -10,9 +11,11 @@ ghost use Rattle.ly_tables.specs.Values.{set_of};
 use crate::raw_tables::RawTables;
 use crate::row_meaning::comb;
 use crate::rule_meaning::table_rules;
+use crate::scan_rule::ScanRule;
 use crate::scanner_meaning::{accepted, conditions, defaults, literals, scan_rules};
+use crate::starts::Starts;
 use crate::table_parts::TableParts;
-use ly_base::{OutOfMemory, Version};
+use ly_base::{OutOfMemory, RuleNo, Sym, Version};
 use std::alloc::{AllocError, Global};
 
 /// The parts that numbers mean which are within their ranges. It fails where memory runs out.
@@ -38,19 +41,48 @@ fn parts_meant(alloc: Global, version: Version, raw: RawTables) -> Result<TableP
     let terminals = raw.terminals.len();
     let nonterminals = raw.nonterminals as usize;
     let class_count = raw.class_count as usize;
+    let lists = lists_meant(alloc, version, &raw)?;
     Ok(TableParts {
         nonterminals,
-        literals: literals(alloc, &raw.literals)?,
-        scan_rules: scan_rules(alloc, version, &raw.scan_rules)?,
-        conditions: conditions(alloc, version, &raw.conditions)?,
+        literals: lists.literals,
+        scan_rules: lists.scan_rules,
+        conditions: lists.conditions,
         class_count,
-        accepted: accepted(alloc, &raw.accepted)?,
+        accepted: lists.accepted,
         scan_rows: comb(alloc, version, class_count, raw.scan_rows)?,
         rules: table_rules(alloc, raw.rules)?,
-        defaults: defaults(alloc, &raw.defaults)?,
+        defaults: lists.defaults,
         actions: comb(alloc, version, terminals, raw.actions)?,
         gotos: comb(alloc, version, nonterminals, raw.gotos)?,
         terminals: raw.terminals,
         classes: raw.classes,
+    })
+}
+
+/// The parts of a table set that are lists of numbers, or of records of numbers.
+#[derive(Drop)]
+struct Lists {
+    /// The terminal of each byte as a literal.
+    literals: Vec<Sym>,
+    /// The rules of the scanner.
+    scan_rules: Vec<ScanRule>,
+    /// Where each condition begins.
+    conditions: Vec<Starts>,
+    /// The rules of scanner states.
+    accepted: Vec<Option<RuleNo>>,
+    /// The default reductions of parser states.
+    defaults: Vec<Option<RuleNo>>,
+}
+
+/// The lists that numbers mean.
+fn lists_meant(alloc: Global, version: Version, raw: &RawTables) -> Result<Lists, AllocError>
+    ensures { IfOk result (AreListsMeant (width_of version) (raw_from raw.now)) }
+{
+    Ok(Lists {
+        literals: literals(alloc, &raw.literals)?,
+        scan_rules: scan_rules(alloc, version, &raw.scan_rules)?,
+        conditions: conditions(alloc, version, &raw.conditions)?,
+        accepted: accepted(alloc, &raw.accepted)?,
+        defaults: defaults(alloc, &raw.defaults)?,
     })
 }

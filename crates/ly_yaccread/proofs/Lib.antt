@@ -5,6 +5,7 @@ pub mod PartLemmas
 pub mod PlaceLemmas
 pub mod ReadLemmas
 pub mod RuleLemmas
+pub mod SpanLemmas
 pub mod SymbolLemmas
 pub mod TextLemmas
 pub mod WordLemmas

@@ -7,42 +7,42 @@ use Rattle.ly_yaccread.specs.declared.fault.YaccFault.TheVariants.{MidRuleAction
 
 -- the number that a fault is printed with; want of memory has none
 abbrev pub yacc_number : YaccFault → Option ℕ
-yacc_number (NoRulesMark line) = Some 30
-yacc_number (BadDeclaration line) = Some 31
-yacc_number (BadRule line) = Some 32
-yacc_number (BadLiteral line) = Some 33
-yacc_number (BadAction line) = Some 34
-yacc_number (DollarRange line) = Some 35
-yacc_number (DollarTwice line) = Some 36
-yacc_number (ErrorToken line) = Some 37
-yacc_number (MidRuleAction line) = Some 38
-yacc_number (UnclosedComment line) = Some 39
+yacc_number (NoRulesMark line column) = Some 30
+yacc_number (BadDeclaration line column) = Some 31
+yacc_number (BadRule line column) = Some 32
+yacc_number (BadLiteral line column) = Some 33
+yacc_number (BadAction line column) = Some 34
+yacc_number (DollarRange line column) = Some 35
+yacc_number (DollarTwice line column) = Some 36
+yacc_number (ErrorToken line column) = Some 37
+yacc_number (MidRuleAction line column) = Some 38
+yacc_number (UnclosedComment line column) = Some 39
 yacc_number OutOfMemory = None
 
 -- the name that a fault is printed with
 abbrev pub yacc_name : YaccFault → List ℕ
-yacc_name (NoRulesMark line) = codes "NoRulesMark"
-yacc_name (BadDeclaration line) = codes "BadDeclaration"
-yacc_name (BadRule line) = codes "BadRule"
-yacc_name (BadLiteral line) = codes "BadLiteral"
-yacc_name (BadAction line) = codes "BadAction"
-yacc_name (DollarRange line) = codes "DollarRange"
-yacc_name (DollarTwice line) = codes "DollarTwice"
-yacc_name (ErrorToken line) = codes "ErrorToken"
-yacc_name (MidRuleAction line) = codes "MidRuleAction"
-yacc_name (UnclosedComment line) = codes "UnclosedComment"
+yacc_name (NoRulesMark line column) = codes "NoRulesMark"
+yacc_name (BadDeclaration line column) = codes "BadDeclaration"
+yacc_name (BadRule line column) = codes "BadRule"
+yacc_name (BadLiteral line column) = codes "BadLiteral"
+yacc_name (BadAction line column) = codes "BadAction"
+yacc_name (DollarRange line column) = codes "DollarRange"
+yacc_name (DollarTwice line column) = codes "DollarTwice"
+yacc_name (ErrorToken line column) = codes "ErrorToken"
+yacc_name (MidRuleAction line column) = codes "MidRuleAction"
+yacc_name (UnclosedComment line column) = codes "UnclosedComment"
 yacc_name OutOfMemory = codes "OutOfMemory"
 
 -- the line at fault; want of memory has none
 abbrev pub yacc_line : YaccFault → Option ℕ
-yacc_line (NoRulesMark line) = Some line
-yacc_line (BadDeclaration line) = Some line
-yacc_line (BadRule line) = Some line
-yacc_line (BadLiteral line) = Some line
-yacc_line (BadAction line) = Some line
-yacc_line (DollarRange line) = Some line
-yacc_line (DollarTwice line) = Some line
-yacc_line (ErrorToken line) = Some line
-yacc_line (MidRuleAction line) = Some line
-yacc_line (UnclosedComment line) = Some line
+yacc_line (NoRulesMark line column) = Some line
+yacc_line (BadDeclaration line column) = Some line
+yacc_line (BadRule line column) = Some line
+yacc_line (BadLiteral line column) = Some line
+yacc_line (BadAction line column) = Some line
+yacc_line (DollarRange line column) = Some line
+yacc_line (DollarTwice line column) = Some line
+yacc_line (ErrorToken line column) = Some line
+yacc_line (MidRuleAction line column) = Some line
+yacc_line (UnclosedComment line column) = Some line
 yacc_line OutOfMemory = None

@@ -124,8 +124,8 @@ fn more_places<'t>(
         };
         let (place, behind) = read_place(inside, symbols)?;
         if !places.insert(place) {
-            let line = inside.line();
-            return Err(YaccFault::DollarTwice { line });
+            let (line, column) = inside.line_and_column();
+            return Err(YaccFault::DollarTwice { line, column });
         }
         rest = behind;
     }

@@ -24,24 +24,31 @@ impl Cursor<'_> {
     /// The fault of a file whose first word of those that are left isn't what was to stand there. A word that is
     /// refused wherever it stands comes before what was expected.
     pub(crate) fn fault(self, expected: Expected) -> YaccFault {
-        let line = self.line();
+        let (line, column) = self.line_and_column();
         match self.next() {
-            None => at_end(expected, line),
-            Some((NextWord::Name(name), _)) if is(name, b"error") => YaccFault::ErrorToken { line },
-            Some((NextWord::Other, _)) => self.unread(expected, line),
-            Some((word, _)) => at_word(expected, word, line),
+            None => at_end(expected, line, column),
+            Some((NextWord::Name(name), _)) if is(name, b"error") => YaccFault::ErrorToken {
+                line,
+                column,
+            },
+            Some((NextWord::Other, _)) => self.unread(expected, line, column),
+            Some((word, _)) => at_word(expected, word, line, column),
         }
     }
 
-    /// The line of the first word that is left, or the last line.
-    pub(crate) fn line(self) -> u64 {
+    /// The line and the column of the first word that is left, or of the last byte.
+    pub(crate) fn line_and_column(self) -> (u64, u64) {
         let mut line: u64 = 1;
+        let mut column: u64 = 1;
         for byte in &self.text[..self.at()] {
             if *byte == b'\n' {
                 line = line.saturating_add(1);
+                column = 1;
+            } else {
+                column = column.saturating_add(1);
             }
         }
-        line
+        (line, column)
     }
 
     /// The place of the first word that is left, or of the last byte.
@@ -55,39 +62,39 @@ impl Cursor<'_> {
     }
 
     /// The fault at bytes that are no word.
-    fn unread(self, expected: Expected, line: u64) -> YaccFault {
+    fn unread(self, expected: Expected, line: u64, column: u64) -> YaccFault {
         let bytes = &self.text[self.at()..];
         if bytes.starts_with(b"'") {
-            return YaccFault::BadLiteral { line };
+            return YaccFault::BadLiteral { line, column };
         }
         let braces = matches!(expected, Expected::Braces) && bytes.starts_with(b"{");
         if braces || bytes.starts_with(b"/*") || bytes.starts_with(b"%{") {
-            return YaccFault::UnclosedComment { line };
+            return YaccFault::UnclosedComment { line, column };
         }
-        at_word(expected, NextWord::Other, line)
+        at_word(expected, NextWord::Other, line, column)
     }
 }
 
 /// The fault of a file that ends where something was to stand.
-fn at_end(expected: Expected, line: u64) -> YaccFault {
+fn at_end(expected: Expected, line: u64, column: u64) -> YaccFault {
     match expected {
-        Expected::Declaration | Expected::Braces => YaccFault::NoRulesMark { line },
-        Expected::Rule | Expected::RuleEnd => YaccFault::BadRule { line },
-        Expected::Action => YaccFault::BadAction { line },
+        Expected::Declaration | Expected::Braces => YaccFault::NoRulesMark { line, column },
+        Expected::Rule | Expected::RuleEnd => YaccFault::BadRule { line, column },
+        Expected::Action => YaccFault::BadAction { line, column },
     }
 }
 
 /// The fault of a file where this word stands in place of what was to stand.
-fn at_word(expected: Expected, word: NextWord<'_>, line: u64) -> YaccFault {
+fn at_word(expected: Expected, word: NextWord<'_>, line: u64, column: u64) -> YaccFault {
     match expected {
-        Expected::Declaration | Expected::Braces => YaccFault::BadDeclaration { line },
-        Expected::Rule => YaccFault::BadRule { line },
+        Expected::Declaration | Expected::Braces => YaccFault::BadDeclaration { line, column },
+        Expected::Rule => YaccFault::BadRule { line, column },
         Expected::RuleEnd => match word {
             NextWord::Mark(Mark::OpenBrace) | NextWord::Name(_) | NextWord::Literal(_) => {
-                YaccFault::MidRuleAction { line }
+                YaccFault::MidRuleAction { line, column }
             }
-            _ => YaccFault::BadRule { line },
+            _ => YaccFault::BadRule { line, column },
         },
-        Expected::Action => YaccFault::BadAction { line },
+        Expected::Action => YaccFault::BadAction { line, column },
     }
 }

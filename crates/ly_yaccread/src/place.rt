@@ -23,16 +23,17 @@ pub(crate) fn read_place(words: Cursor<'_>, symbols: usize) -> Result<(u32, Curs
     };
     match place_of(digits, symbols) {
         Some(place) => Ok((place, rest)),
-        None => Err(no_place(digits, inside.line())),
+        None => Err(no_place(digits, inside)),
     }
 }
 
-/// The fault at digits that spell no place: leading zeros are no part of one.
-fn no_place(digits: &[u8], line: u64) -> YaccFault {
+/// The fault at digits that spell no place and come first: leading zeros are no part of one.
+fn no_place(digits: &[u8], words: Cursor<'_>) -> YaccFault {
+    let (line, column) = words.line_and_column();
     if digits.len() > 1 && digits.starts_with(b"0") {
-        YaccFault::BadAction { line }
+        YaccFault::BadAction { line, column }
     } else {
-        YaccFault::DollarRange { line }
+        YaccFault::DollarRange { line, column }
     }
 }
 

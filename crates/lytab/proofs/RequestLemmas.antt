@@ -10,8 +10,8 @@ use Rattle.ly_base.specs.declared.version.Version.{Version}
 use Rattle.ly_base.specs.declared.version.Version.TheVariants.{V1, V2}
 use Rattle.lytab.specs.CommandLine.{line_app, line_takes, request_by, request_of, subcommand_in, version_by}
 use Rattle.lytab.specs.Paths.{ArePathWords, AskFor, IsMeant, IsPathWord, as_list, name_of, number_of, operands_of}
-use Rattle.lytab.specs.Paths.{report_of, words_at}
-use Rattle.lytab.specs.Request.{Request, build, check, run, tokens, try}
+use Rattle.lytab.specs.Paths.{words_at, written_of}
+use Rattle.lytab.specs.Request.{Request, build, check, explain, run, tokens, try}
 use Rattle.lytab.proofs.PathLemmas.{AreWords, IsLongName, Word, all_taken, held_after, level_taken, long, path}
 use Rattle.lytab.proofs.PathLemmas.{rest_passes, rows_are, text_of}
 use Rattle.lytab.proofs.SubcommandLemmas.{Enters, line_passes, subcommand_rows_are}
@@ -42,6 +42,8 @@ enters (try lex yacc text) =
     record { simple = refl; has_name = refl; met = refl; passes = refl; found = refl; rest = refl }
 enters (check table_file) =
     record { simple = refl; has_name = refl; met = refl; passes = refl; found = refl; rest = refl }
+enters (explain lex yacc states graph) =
+    record { simple = refl; has_name = refl; met = refl; passes = refl; found = refl; rest = refl }
 
 -- the same words as `clap` meets them
 record Met (request : Request) (texts : List Text) : Type 0 where
@@ -68,7 +70,12 @@ are_inserted groups zero group a b = (b, a)
 are_inserted [] (suc place) group a b = (b, tt)
 are_inserted (first ∷ groups) (suc place) group a b = (a.0, are_inserted groups place group a.1 b)
 
--- behind the last of three or of four stands what stands behind more
+-- behind the last of two, three or four stands what stands behind more
+abbrev within_two : ℕ → ℕ
+within_two zero = 0
+within_two (suc zero) = 1
+within_two (suc (suc place)) = 2
+
 abbrev within_three : ℕ → ℕ
 within_three zero = 0
 within_three (suc zero) = 1
@@ -89,6 +96,12 @@ drop_none (suc place) = refl
 
 behind_all : {X : Type 0} (place : ℕ) (x : X) → insert [] place x ≡ x ∷ []
 behind_all {X} place x = ap₂ (λ (front back : List X). front ++ x ∷ back) (take_none place) (drop_none place)
+
+insert_two : {X : Type 0} (a b x : X) (place : ℕ)
+    → insert (a ∷ b ∷ []) (within_two place) x ≡ insert (a ∷ b ∷ []) place x
+insert_two a b x zero = refl
+insert_two a b x (suc zero) = refl
+insert_two {X} a b x (suc (suc place)) = ap (λ (l : List X). a ∷ b ∷ l) (sym (behind_all place x))
 
 insert_three : {X : Type 0} (a b c x : X) (place : ℕ)
     → insert (a ∷ b ∷ c ∷ []) (within_three place) x ≡ insert (a ∷ b ∷ c ∷ []) place x
@@ -111,11 +124,25 @@ insert_both a b c x y (suc (suc zero)) j = insert_four a b x c y j
 insert_both {X} a b c x y (suc (suc (suc i))) j =
     insert_four a b c x y j ∙ ap (λ (l : List X). insert l j y) (insert_three a b c x (suc (suc (suc i))))
 
+-- the same of two that are put among two
+insert_both_in_two : {X : Type 0} (a b x y : X) (i j : ℕ)
+    → insert (insert (a ∷ b ∷ []) (within_two i) x) (within_three j) y ≡ insert (insert (a ∷ b ∷ []) i x) j y
+insert_both_in_two a b x y zero j = insert_three x a b y j
+insert_both_in_two a b x y (suc zero) j = insert_three a x b y j
+insert_both_in_two {X} a b x y (suc (suc i)) j =
+    insert_three a b x y j ∙ ap (λ (l : List X). insert l j y) (insert_two a b x (suc (suc i)))
+
 report_name : IsLongName (codes "report")
 report_name = record { is_read = refl; no_dashes = refl }
 
 format_name : IsLongName (codes "format")
 format_name = record { is_read = refl; no_dashes = refl }
+
+states_name : IsLongName (codes "states")
+states_name = record { is_read = refl; no_dashes = refl }
+
+graph_name : IsLongName (codes "graph")
+graph_name = record { is_read = refl; no_dashes = refl }
 
 met : {request : Request} {texts : List Text} (words : List Word) → AreWords words → map text_of words ≡ texts
     → all_taken (shape_at (name_of request)) (walk_from nothing_held) words ≡ true
@@ -267,6 +294,101 @@ build_met lex yacc table_file (Some file) version i j (Some v) e paths r =
     (both_met lex yacc table_file paths version (number_of v) (number_is_word v)
     (number_says v ∙ ap (λ w. Some w) (sym e)) file r.0 i j)
 
+-- The words of `explain` with its options, wherever they stand.
+module _ (lex yacc : Text) (paths : IsPathWord lex × IsPathWord yacc) where
+  abbrev file_names : List (List Text)
+  file_names = (lex ∷ []) ∷ (yacc ∷ []) ∷ []
+
+  abbrev file_words : List (List Word)
+  file_words = (path lex ∷ []) ∷ (path yacc ∷ []) ∷ []
+
+  files_are : AreGroups file_words
+  files_are = ((paths.0, tt), ((paths.1, tt), tt))
+
+  module _ (picture : Text) (p : IsPathWord picture) where
+    abbrev drawn : ℕ → List (List Word) → List (List Word)
+    drawn place groups = insert groups place (long (codes "graph") ∷ path picture ∷ [])
+
+    drawn_are : (place : ℕ) (groups : List (List Word)) → AreGroups groups
+        → AreWords (flat_map (λ group. group) (drawn place groups))
+    drawn_are place groups a = are_words (drawn place groups) (are_inserted groups place _ a (graph_name, (p, tt)))
+
+    -- a picture is asked for, and no states
+    abbrev graph_words : ℕ → List Word
+    graph_words j = flat_map (λ group. group) (drawn j file_words)
+
+    graph_are : (j : ℕ) → AreWords (graph_words j)
+    graph_are j = drawn_are j file_words files_are
+
+    graph_met : (j : ℕ) → Met (explain lex yacc None (Some picture))
+        (flat_map (λ group. group) (insert file_names (within_two j) (codes "--graph" ∷ picture ∷ [])))
+    graph_met zero = met (graph_words 0) (graph_are 0) refl refl refl refl
+    graph_met (suc zero) = met (graph_words 1) (graph_are 1) refl refl refl refl
+    graph_met (suc (suc j)) = met (graph_words 2) (graph_are 2) refl refl refl refl
+
+    -- both are asked for
+    module _ (file : Text) (f : IsPathWord file) where
+      abbrev listed : ℕ → List (List Word)
+      listed place = insert file_words place (long (codes "states") ∷ path file ∷ [])
+
+      abbrev all_words : ℕ → ℕ → List Word
+      all_words i j = flat_map (λ group. group) (drawn j (listed i))
+
+      all_are : (i j : ℕ) → AreWords (all_words i j)
+      all_are i j = drawn_are j (listed i) (are_inserted file_words i _ files_are (states_name, (f, tt)))
+
+      all_met : (i j : ℕ) → Met (explain lex yacc (Some file) (Some picture))
+          (flat_map (λ group. group) (insert (insert file_names (within_two i) (codes "--states" ∷ file ∷ []))
+          (within_three j) (codes "--graph" ∷ picture ∷ [])))
+      all_met zero zero = met (all_words 0 0) (all_are 0 0) refl refl refl refl
+      all_met zero (suc zero) = met (all_words 0 1) (all_are 0 1) refl refl refl refl
+      all_met zero (suc (suc zero)) = met (all_words 0 2) (all_are 0 2) refl refl refl refl
+      all_met zero (suc (suc (suc j))) = met (all_words 0 3) (all_are 0 3) refl refl refl refl
+      all_met (suc zero) zero = met (all_words 1 0) (all_are 1 0) refl refl refl refl
+      all_met (suc zero) (suc zero) = met (all_words 1 1) (all_are 1 1) refl refl refl refl
+      all_met (suc zero) (suc (suc zero)) = met (all_words 1 2) (all_are 1 2) refl refl refl refl
+      all_met (suc zero) (suc (suc (suc j))) = met (all_words 1 3) (all_are 1 3) refl refl refl refl
+      all_met (suc (suc i)) zero = met (all_words 2 0) (all_are 2 0) refl refl refl refl
+      all_met (suc (suc i)) (suc zero) = met (all_words 2 1) (all_are 2 1) refl refl refl refl
+      all_met (suc (suc i)) (suc (suc zero)) = met (all_words 2 2) (all_are 2 2) refl refl refl refl
+      all_met (suc (suc i)) (suc (suc (suc j))) = met (all_words 2 3) (all_are 2 3) refl refl refl refl
+
+  -- states are asked for, and no picture
+  module _ (file : Text) (f : IsPathWord file) where
+    abbrev states_groups : ℕ → List (List Word)
+    states_groups place = insert file_words place (long (codes "states") ∷ path file ∷ [])
+
+    abbrev states_words : ℕ → List Word
+    states_words i = flat_map (λ group. group) (states_groups i)
+
+    states_are : (i : ℕ) → AreWords (states_words i)
+    states_are i = are_words (states_groups i) (are_inserted file_words i _ files_are (states_name, (f, tt)))
+
+    states_met : (i : ℕ) → Met (explain lex yacc (Some file) None)
+        (flat_map (λ group. group) (insert file_names (within_two i) (codes "--states" ∷ file ∷ [])))
+    states_met zero = met (states_words 0) (states_are 0) refl refl refl refl
+    states_met (suc zero) = met (states_words 1) (states_are 1) refl refl refl refl
+    states_met (suc (suc i)) = met (states_words 2) (states_are 2) refl refl refl refl
+
+-- the words of `explain`
+explain_met : (lex yacc : Text) (states graph : Option Text) (i j : ℕ) (format : Option Version)
+    → IsPathWord lex × IsPathWord yacc → ArePathWords (as_list states ++ as_list graph)
+    → Met (explain lex yacc states graph) (words_at i j (explain lex yacc states graph) format)
+explain_met lex yacc None None i j format paths r =
+    met (path lex ∷ path yacc ∷ []) (paths.0, (paths.1, tt)) refl refl refl refl
+explain_met lex yacc None (Some picture) i j format paths r =
+    subst (λ groups. Met (explain lex yacc None (Some picture)) (flat_map (λ group. group) groups))
+    (insert_two (lex ∷ []) (yacc ∷ []) (codes "--graph" ∷ picture ∷ []) j)
+    (graph_met lex yacc paths picture r.0 j)
+explain_met lex yacc (Some file) None i j format paths r =
+    subst (λ groups. Met (explain lex yacc (Some file) None) (flat_map (λ group. group) groups))
+    (insert_two (lex ∷ []) (yacc ∷ []) (codes "--states" ∷ file ∷ []) i)
+    (states_met lex yacc paths file r.0 i)
+explain_met lex yacc (Some file) (Some picture) i j format paths r =
+    subst (λ groups. Met (explain lex yacc (Some file) (Some picture)) (flat_map (λ group. group) groups))
+    (insert_both_in_two (lex ∷ []) (yacc ∷ []) (codes "--states" ∷ file ∷ []) (codes "--graph" ∷ picture ∷ []) i j)
+    (all_met lex yacc paths picture r.1.0 file r.0 i j)
+
 -- other commands have no options
 met_alone : (request : Request) (i j : ℕ) (format : Option Version) (words : List Word) → format ≡ None
     → map text_of words ≡ words_at i j request None → Asks request words → Met request (words_at i j request format)
@@ -277,7 +399,7 @@ met_alone request i j format words none texts asks = record {
 }
 
 met_at : (request : Request) (i j : ℕ) (format : Option Version) → IsMeant request format
-    → ArePathWords (operands_of request) → ArePathWords (as_list (report_of request))
+    → ArePathWords (operands_of request) → ArePathWords (written_of request)
     → Met request (words_at i j request format)
 met_at (tokens lex None) i j format m o r =
     met_alone (tokens lex None) i j format (path lex ∷ []) m refl
@@ -302,6 +424,8 @@ met_at (try lex yacc (Some text)) i j format m o r =
 met_at (check table_file) i j format m o r =
     met_alone (check table_file) i j format (path table_file ∷ []) m refl
     (record { are = o; each = refl; rest = refl; found = refl })
+met_at (explain lex yacc states graph) i j format m o r =
+    explain_met lex yacc states graph i j format (o.0, o.1.0) r
 
 -- these words behind the program's name and the command's
 both_asked : (program : Text) (request : Request) (words : List Word) → Asks request words
@@ -319,7 +443,7 @@ both_asked program request words a = (
 pub asked : (words : List Text) (request : Request) → AskFor words request
     → (line_takes words ≡ true) × (request_of words ≡ Some request)
 asked words request a =
-    let m = met_at request a.report_place a.format_place a.format a.format_is_meant a.operand_paths a.report_path in
+    let m = met_at request a.first_place a.second_place a.format a.format_is_meant a.operand_paths a.written_paths in
     let words_are : words ≡ a.program ∷ name_of request ∷ map text_of m.words =
     a.words_are ∙ ap (λ ws. a.program ∷ name_of request ∷ ws) (sym m.texts_are) in
     let both = both_asked a.program request m.words m.asks in

@@ -1,8 +1,8 @@
 -- What a command asks for.
 use Rattle.std.specs.Prelude.{option_map}
-use Rattle.lytab.specs.Request.{Request, build, check, run, tokens, try}
+use Rattle.lytab.specs.Request.{Request, build, check, explain, run, tokens, try}
 use Rattle.lytab.specs.declared.command.Command.{Command}
-use Rattle.lytab.specs.declared.command.Command.TheVariants.{Build, Check, Run, Tokens, Try}
+use Rattle.lytab.specs.declared.command.Command.TheVariants.{Build, Check, Explain, Run, Tokens, Try}
 
 abbrev pub said : Command → Request
 said (Tokens lex text) = tokens lex.now (option_map (λ s. s.now) text)
@@ -11,3 +11,5 @@ said (Build paths version) =
 said (Run table_file text) = run table_file.now (option_map (λ s. s.now) text)
 said (Try lex yacc text) = try lex.now yacc.now (option_map (λ s. s.now) text)
 said (Check table_file) = check table_file.now
+said (Explain paths) = explain paths.lex.now paths.yacc.now (option_map (λ s. s.now) paths.states)
+    (option_map (λ s. s.now) paths.graph)

@@ -4,7 +4,7 @@ use Rattle.std.specs.List.{flat_map, insert}
 use Rattle.clap.specs.Words.{Text}
 use Rattle.ly_base.specs.declared.version.Version.{Version}
 use Rattle.ly_base.specs.declared.version.Version.TheVariants.{V1, V2}
-use Rattle.lytab.specs.Request.{Request, build, check, run, tokens, try}
+use Rattle.lytab.specs.Request.{Request, build, check, explain, run, tokens, try}
 
 -- a word that is no option: a minus sign alone, or one that doesn't begin with it
 abbrev pub IsPathWord : Text → Type 0
@@ -24,6 +24,7 @@ name_of (build lex yacc table_file report version) = codes "build"
 name_of (run table_file text) = codes "run"
 name_of (try lex yacc text) = codes "try"
 name_of (check table_file) = codes "check"
+name_of (explain lex yacc states graph) = codes "explain"
 
 -- the words that stand behind the command's name in this order
 abbrev pub operands_of : Request → List Text
@@ -32,10 +33,13 @@ operands_of (build lex yacc table_file report version) = lex ∷ yacc ∷ table_
 operands_of (run table_file text) = table_file ∷ as_list text
 operands_of (try lex yacc text) = lex ∷ yacc ∷ as_list text
 operands_of (check table_file) = table_file ∷ []
+operands_of (explain lex yacc states graph) = lex ∷ yacc ∷ []
 
-abbrev pub report_of : Request → Option Text
-report_of (build lex yacc table_file report version) = report
-report_of _ = None
+-- the files beside these that are written
+abbrev pub written_of : Request → List Text
+written_of (build lex yacc table_file report version) = as_list report
+written_of (explain lex yacc states graph) = as_list states ++ as_list graph
+written_of _ = []
 
 -- the version that is said is the one that is meant, which is the second where none is said
 abbrev pub IsMeant : Request → Option Version → Type 0
@@ -47,27 +51,44 @@ abbrev pub number_of : Version → Text
 number_of V1 = codes "1"
 number_of V2 = codes "2"
 
--- `OPTION VALUE` behind so many groups of words, or nothing
-abbrev pub with_option : Text → ℕ → Option Text → List (List Text) → List (List Text)
-with_option name place None groups = groups
-with_option name place (Some value) groups = insert groups place (name ∷ value ∷ [])
+-- an option with its value, if it has one
+abbrev pub option_words : Text → Option Text → Option (List Text)
+option_words name value = option_map (λ v. name ∷ v ∷ []) value
 
--- the words behind the command's name: the operands, `--report` in front of them, among them or behind them, and
--- `--format` in front of these, among them or behind them
+-- the first option of a command, if it is said
+abbrev pub first_option : Request → Option (List Text)
+first_option (build lex yacc table_file report version) = option_words (codes "--report") report
+first_option (explain lex yacc states graph) = option_words (codes "--states") states
+first_option _ = None
+
+-- the second option, where this version is said
+abbrev pub second_option : Request → Option Version → Option (List Text)
+second_option (build lex yacc table_file report version) format =
+    option_words (codes "--format") (option_map number_of format)
+second_option (explain lex yacc states graph) format = option_words (codes "--graph") graph
+second_option _ format = None
+
+-- the words of an option behind so many groups of words, or nothing
+abbrev pub with_option : ℕ → Option (List Text) → List (List Text) → List (List Text)
+with_option place None groups = groups
+with_option place (Some words) groups = insert groups place words
+
+-- the words behind the command's name: the operands, the first option in front of them, among them or behind them, and
+-- the second in front of these, among them or behind them
 abbrev pub words_at : ℕ → ℕ → Request → Option Version → List Text
-words_at report_place format_place request format = flat_map (λ group. group)
-    (with_option (codes "--format") format_place (option_map number_of format)
-    (with_option (codes "--report") report_place (report_of request) (map (λ word. word ∷ []) (operands_of request))))
+words_at first_place second_place request format = flat_map (λ group. group)
+    (with_option second_place (second_option request format)
+    (with_option first_place (first_option request) (map (λ word. word ∷ []) (operands_of request))))
 
 -- The words ask for this: they are the program's name, the command's, and the operands, with the options among them
 -- wherever; and all its paths are words of paths.
 pub record AskFor (words : List Text) (request : Request) : Type 0 where
   pub program : Text
-  pub report_place : ℕ
-  pub format_place : ℕ
+  pub first_place : ℕ
+  pub second_place : ℕ
   -- the version that is said, if one is
   pub format : Option Version
   pub format_is_meant : IsMeant request format
-  pub words_are : words ≡ program ∷ name_of request ∷ words_at report_place format_place request format
+  pub words_are : words ≡ program ∷ name_of request ∷ words_at first_place second_place request format
   pub operand_paths : ArePathWords (operands_of request)
-  pub report_path : ArePathWords (as_list (report_of request))
+  pub written_paths : ArePathWords (written_of request)

@@ -10,3 +10,4 @@ pub data Request : Type 0 where
   run : (tables : Text) → (text : Option Text) → Request
   try : (lex yacc : Text) → (text : Option Text) → Request
   check : (tables : Text) → Request
+  explain : (lex yacc : Text) → (states graph : Option Text) → Request

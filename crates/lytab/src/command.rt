@@ -42,6 +42,8 @@ pub enum Command<'a> {
         /// The table file.
         tables: &'a str,
     },
+    /// Say what is wrong with a lex file and a yacc file, or doubtful in them.
+    Explain(ExplainPaths<'a>),
 }
 
 /// The paths of what is read and written where tables are built.
@@ -57,10 +59,23 @@ pub struct Paths<'a> {
     pub report: Option<&'a str>,
 }
 
+/// The paths of what is read and written where two files are explained.
+#[derive(Clone, Copy, Debug, PartialEq, Eq)]
+pub struct ExplainPaths<'a> {
+    /// The lex file.
+    pub lex: &'a str,
+    /// The yacc file.
+    pub yacc: &'a str,
+    /// The states of the parser, if they are asked for.
+    pub states: Option<&'a str>,
+    /// Their picture, if it is asked for.
+    pub graph: Option<&'a str>,
+}
+
 /// Why there is no command.
 #[derive(Debug, Drop)]
 pub enum CommandFault {
-    /// A help text was asked for: the text.
+    /// A help text was asked for, or the version: the text.
     Help(String),
     /// Any other refusal of the words: what is wrong.
     Bad(String),

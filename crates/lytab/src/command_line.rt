@@ -1,13 +1,13 @@
 ghost use Rattle.std.specs.Prelude.{◌≡◌, IfErr, IfOk, IsSome, OnOk, Some, [], map, option_and_then, option_map};
 ghost use Rattle.std.specs.Prelude.{MatchResult, string_bytes, true};
 ghost use Rattle.clap.specs.Words.{first_value, found_of, kind_of, subcommand_rows_of};
-ghost use Rattle.lytab.specs.CommandLine.{build_by, check_by, line_faults, line_takes, request_by, request_of, run_by};
-ghost use Rattle.lytab.specs.CommandLine.{subcommand_in, tokens_by, try_by, version_by};
+ghost use Rattle.lytab.specs.CommandLine.{build_by, check_by, explain_by, line_faults, line_takes, request_by};
+ghost use Rattle.lytab.specs.CommandLine.{request_of, run_by, subcommand_in, tokens_by, try_by, version_by};
 ghost use Rattle.lytab.specs.Command.{said};
 ghost use Rattle.lytab.specs.Paths.{AskFor};
 ghost use Rattle.lytab.specs.Request.{Request};
 
-use crate::command::{Command, CommandFault, Paths};
+use crate::command::{Command, CommandFault, ExplainPaths, Paths};
 use crate::line::line;
 use clap::ArgMatches;
 use clap::error::ErrorKind;
@@ -18,11 +18,11 @@ use std::alloc::Global;
 const NO_VERSION: &str = "error: invalid value for '--format <VERSION>': it must be 1 or 2\n";
 
 /// Reads the words of the line, of which the first is the program's name: `tokens LEX [TEXT]`,
-/// `build LEX YACC TABLES [--report FILE] [--format 1|2]`, `run TABLES [TEXT]`, `try LEX YACC [TEXT]` or
-/// `check TABLES`.
+/// `build LEX YACC TABLES [--report FILE] [--format 1|2]`, `run TABLES [TEXT]`, `try LEX YACC [TEXT]`,
+/// `check TABLES` or `explain LEX YACC [--states FILE] [--graph FILE]`.
 ///
-/// `Help` comes where a help text is asked for, `Bad` where `clap` refuses the words for another reason or they ask for
-/// another version, `OutOfMemory` where a growth was refused.
+/// `Help` comes where a help text or the version is asked for, `Bad` where `clap` refuses the words for another reason
+/// or they ask for another version of a table file, `OutOfMemory` where a growth was refused.
 pub fn command<'a>(alloc: Global, words: &'a [String]) -> Result<Command<'a>, CommandFault>
     ensures said { IfOk result (λ c. request_of (map string_bytes words.entry.now) ≡ Some (said c)) }
     ensures faultless { OnOk result (line_faults (map string_bytes words.entry.now) ≡ []) }
@@ -62,6 +62,7 @@ fn command_in<'a>(matches: &ArgMatches<'a>) -> Option<Command<'a>>
         "run" => run_in(values),
         "try" => try_in(values),
         "check" => check_in(values),
+        "explain" => explain_in(values),
         _ => None,
     }
 }
@@ -136,6 +137,18 @@ fn check_in<'a>(values: &ArgMatches<'a>) -> Option<Command<'a>>
     })
 }
 
+/// The command `explain` with these values.
+fn explain_in<'a>(values: &ArgMatches<'a>) -> Option<Command<'a>>
+    ensures { option_map said result ≡ explain_by (first_value (found_of values.now)) }
+{
+    Some(Command::Explain(ExplainPaths {
+        lex: values.get_str("LEX")?,
+        yacc: values.get_str("YACC")?,
+        states: values.get_str("STATES"),
+        graph: values.get_str("GRAPH"),
+    }))
+}
+
 /// The fault that stands for `clap`'s error.
 fn refusal(alloc: Global, error: &clap::Error) -> CommandFault
     ensures { kind_of error.now ≡ ErrorKind.OutOfMemory → result ≡ CommandFault.OutOfMemory }
@@ -143,9 +156,9 @@ fn refusal(alloc: Global, error: &clap::Error) -> CommandFault
     if error.kind() == ErrorKind::OutOfMemory {
         return CommandFault::OutOfMemory;
     }
-    let is_help = error.kind() == ErrorKind::DisplayHelp;
+    let is_asked_for = !error.use_stderr();
     match error.to_string(alloc) {
-        Ok(text) if is_help => CommandFault::Help(text),
+        Ok(text) if is_asked_for => CommandFault::Help(text),
         Ok(text) => CommandFault::Bad(text),
         Err(_) => CommandFault::OutOfMemory,
     }

@@ -2,6 +2,7 @@
 ghost use Rattle.std.specs.Prelude.{◌≡◌, ◌≤◌};
 
 use crate::files::STANDARD;
+use ly_base::OutOfMemory;
 use ly_engine::GenFault;
 use ly_join::JoinFault;
 use ly_report::push_terminal;
@@ -43,6 +44,12 @@ impl From<GenFault> for Failure<'_> {
 impl From<TableFault> for Failure<'_> {
     fn from(fault: TableFault) -> Self {
         Failure::Tables(fault)
+    }
+}
+
+impl From<OutOfMemory> for Failure<'_> {
+    fn from(_error: OutOfMemory) -> Self {
+        Failure::OutOfMemory
     }
 }
 

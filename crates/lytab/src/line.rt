@@ -1,10 +1,14 @@
 ghost use Rattle.std.specs.Prelude.{◌≡◌, IfOk, false};
 ghost use Rattle.clap.specs.Words.{app_of, rule_of};
-ghost use Rattle.lytab.specs.CommandLine.{IsApp, build_app, build_paths_app, check_app, format_rule, line_app};
+ghost use Rattle.lytab.specs.CommandLine.{IsApp, build_app, build_paths_app, check_app, explain_app, explain_paths_app};
+ghost use Rattle.lytab.specs.CommandLine.{format_rule, graph_rule, line_app, states_rule};
 ghost use Rattle.lytab.specs.CommandLine.{path_rule, report_rule, run_app, text_rule, tokens_app, try_app};
 
 use clap::{Arg, Command};
 use std::alloc::{AllocError, Global};
+
+/// The version of the program. Table files have versions of their own.
+const VERSION: &str = "1.0";
 
 /// The line as `clap` has it.
 pub fn line<'a>(alloc: Global) -> Result<Command<'a>, AllocError>
@@ -12,12 +16,14 @@ pub fn line<'a>(alloc: Global) -> Result<Command<'a>, AllocError>
 {
     let top = Command::new(alloc, "lytab")
         .about("Lexical analysis and parsing by POSIX lex and yacc files, proved correct")
+        .version(VERSION)
         .subcommand_required(true);
     top.subcommand(tokens_line(alloc)?)?
         .subcommand(build_line(alloc)?)?
         .subcommand(run_line(alloc)?)?
         .subcommand(try_line(alloc)?)?
-        .subcommand(check_line(alloc)?)
+        .subcommand(check_line(alloc)?)?
+        .subcommand(explain_line(alloc)?)
 }
 
 /// The subcommand `tokens`.
@@ -78,6 +84,25 @@ fn check_line<'a>(alloc: Global) -> Result<Command<'a>, AllocError>
         .arg(path(alloc, "TABLES", BUILT))
 }
 
+/// The subcommand `explain`.
+fn explain_line<'a>(alloc: Global) -> Result<Command<'a>, AllocError>
+    ensures { IfOk result (IsApp explain_app) }
+{
+    explain_paths(alloc)?.arg(states(alloc))?.arg(graph(alloc))
+}
+
+/// The subcommand `explain` with its paths alone.
+fn explain_paths<'a>(alloc: Global) -> Result<Command<'a>, AllocError>
+    ensures { IfOk result (IsApp explain_paths_app) }
+{
+    Command::new(alloc, "explain")
+        .about(
+            "Says what is wrong with both files, or doubtful in them, and where their conflicts are",
+        )
+        .arg(path(alloc, "LEX", LEX))?
+        .arg(path(alloc, "YACC", YACC))
+}
+
 const LEX: &str = "The lex file: definitions, %%, rules";
 
 const YACC: &str = "The yacc file: declarations, %%, rules";
@@ -118,4 +143,24 @@ fn format<'a>(alloc: Global) -> Arg<'a>
     Arg::new(alloc, "VERSION")
         .long("format")
         .help("The version of the table file: 1, or 2 if it is left out")
+}
+
+/// The option of states.
+fn states<'a>(alloc: Global) -> Arg<'a>
+    ensures rule { rule_of result ≡ states_rule }
+    ensures local { result.global ≡ false }
+{
+    Arg::new(alloc, "STATES")
+        .long("states")
+        .help("The states of the parser, which are written too")
+}
+
+/// The option of a picture.
+fn graph<'a>(alloc: Global) -> Arg<'a>
+    ensures rule { rule_of result ≡ graph_rule }
+    ensures local { result.global ≡ false }
+{
+    Arg::new(alloc, "GRAPH").long("graph").help(
+        "A picture of the states for Graphviz's dot, which is written too",
+    )
 }

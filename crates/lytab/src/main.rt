@@ -1,8 +1,8 @@
 //! The program: reads its words, and does what they ask for.
 //!
 //! `command_line` finds the command in the words (`AskFor`), by the line as `clap` has it; `perform` carries it out:
-//! `answering` has the commands with a text, `building` and `checking` the others. `failure` tells why there is no
-//! answer.
+//! `answering` has the commands with a text, `building`, `checking` and `explaining` the others. `failure` tells why
+//! there is no answer.
 #![tactic(auto)]
 
 mod answering;
@@ -10,6 +10,7 @@ mod building;
 mod checking;
 mod command;
 mod command_line;
+mod explaining;
 mod failure;
 mod files;
 mod line;

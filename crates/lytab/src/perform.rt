@@ -8,6 +8,7 @@ use crate::building::build_tables;
 use crate::checking::check_tables;
 use crate::command::{Command, CommandFault};
 use crate::command_line::command;
+use crate::explaining::explain_files;
 use crate::failure::{Failure, told};
 use crate::files::{STANDARD, read_file};
 use std::alloc::Global;
@@ -16,14 +17,13 @@ use std::rt::Files;
 
 const DONE: u8 = 0;
 
-const TEXT_REFUSED: u8 = 1;
-
 const BAD_WORDS: u8 = 4;
 
-/// Does what the words ask for, and answers the exit status: 0 for clean tokens, a tree, a build or a help text, 1
-/// where the text is refused, 2 where a lex file, a yacc file or a table file is refused, 3 where a device fails or
-/// memory runs out, 4 where the words are wrong. The answer goes to `output`, and a line that says what failed to
-/// `faults`.
+/// Does what the words ask for, and answers the exit status: 0 for clean tokens, a tree, a build, files that are
+/// explained and accepted, or a help text, 1 where the text is refused, 2 where a lex file, a yacc file or a table file
+/// is refused, 3 where a device fails or memory runs out, 4 where the words are wrong. The answer goes to `output`, and
+/// a line that says what failed to `faults`. What is said of files that are explained is the answer, also where they
+/// are refused.
 ///
 /// Tests alone show which status below 4 comes, what is written, and that the engine gets the bytes of the files
 /// that the words name.
@@ -42,8 +42,7 @@ pub fn perform<F: Files, I: Read, O: Write, E: Write>(
 {
     match command(alloc, words) {
         Ok(command) => match carry_out(files, alloc, command, input, output) {
-            Ok(true) => DONE,
-            Ok(false) => TEXT_REFUSED,
+            Ok(end) => end.status(),
             Err(failure) => told(alloc, failure, faults),
         },
         Err(CommandFault::Help(text)) => match write!(output, "{text}") {
@@ -58,43 +57,75 @@ pub fn perform<F: Files, I: Read, O: Write, E: Write>(
     }
 }
 
+/// How a command ends where nothing fails.
+#[derive(Clone, Copy)]
+enum End {
+    /// What was asked for is done.
+    Done,
+    /// The text is refused.
+    TextRefused,
+    /// The files that are explained are refused.
+    FilesRefused,
+}
+
+impl End {
+    /// The end of a command that answers a text.
+    fn of_text(taken: bool) -> End {
+        if taken { End::Done } else { End::TextRefused }
+    }
+
+    /// The exit status.
+    fn status(self) -> u8
+        ensures { result ≤ 2 }
+    {
+        match self {
+            End::Done => 0,
+            End::TextRefused => 1,
+            End::FilesRefused => 2,
+        }
+    }
+}
+
 /// Does what a command says. The files that it reads are opened in the order of the words, all but the text read
-/// whole, before anything is judged. It is false where the text is refused.
+/// whole, before anything is judged.
 fn carry_out<'a, F: Files, I: Read, O: Write>(
     files: &F,
     alloc: Global,
     command: Command<'a>,
     input: &mut I,
     output: &mut O,
-) -> Result<bool, Failure<'a>> {
-    match command {
+) -> Result<End, Failure<'a>> {
+    let taken = match command {
         Command::Tokens { lex, text } => {
             let rules = Rules::Tokens(read_file(files, alloc, lex)?);
-            answer_text(files, alloc, &rules, text, input, output)
-        }
-        Command::Build { paths, version } => {
-            build_tables(files, alloc, paths, version, output)?;
-            Ok(true)
+            answer_text(files, alloc, &rules, text, input, output)?
         }
         Command::Run { tables, text } => {
             let rules = Rules::Tables(read_file(files, alloc, tables)?);
-            answer_text(files, alloc, &rules, text, input, output)
-        }
-        Command::Check { tables } => {
-            check_tables(files, alloc, tables, output)?;
-            Ok(true)
+            answer_text(files, alloc, &rules, text, input, output)?
         }
         Command::Try { lex, yacc, text } => {
             let lex = read_file(files, alloc, lex)?;
             let yacc = read_file(files, alloc, yacc)?;
-            answer_text(
-                files,
-                alloc,
-                &Rules::Both { lex, yacc },
-                text,
-                input,
-                output,
-            )
+            let rules = Rules::Both { lex, yacc };
+            answer_text(files, alloc, &rules, text, input, output)?
         }
-    }
+        Command::Build { paths, version } => {
+            build_tables(files, alloc, paths, version, output)?;
+            return Ok(End::Done);
+        }
+        Command::Check { tables } => {
+            check_tables(files, alloc, tables, output)?;
+            return Ok(End::Done);
+        }
+        Command::Explain(paths) => {
+            let accepted = explain_files(files, alloc, paths, output)?;
+            return Ok(if accepted {
+                End::Done
+            } else {
+                End::FilesRefused
+            });
+        }
+    };
+    Ok(End::of_text(taken))
 }

@@ -3,7 +3,7 @@ use Rattle.std.specs.Prelude.{◌≡◌, ◌↔◌, ◌<◌, ◌≤◌, ◌+◌,
 use Rattle.ly_join.specs.Grammar.{Grammar, Symbol, nonterminal, symbol_of}
 use Rattle.ly_lr0.specs.Automaton.{Automaton, goto_of}
 use Rattle.ly_explain.specs.Demands.{IsAhead}
-use Rattle.ly_explain.specs.declared.item.Item.{Item}
+use Rattle.ly_lr0.specs.declared.item.Item.{Item}
 use Rattle.ly_explain.specs.declared.incoming.Incoming.{Incoming}
 
 -- For each state the transitions that lead to it.

@@ -7,7 +7,7 @@ use Rattle.ly_lr0.specs.Automaton.{Automaton, IsAutomaton, goto_of}
 use Rattle.ly_lr0.specs.declared.transition.Transition.{Transition}
 use Rattle.ly_explain.specs.Demands.{IsAhead}
 use Rattle.ly_explain.specs.Private.Uses.{HasSource}
-use Rattle.ly_explain.specs.declared.item.Item.{Item}
+use Rattle.ly_lr0.specs.declared.item.Item.{Item}
 use Rattle.ly_explain.specs.declared.ground.Ground.{Ground}
 use Rattle.ly_explain.specs.declared.incoming.Incoming.{Incoming}
 use Rattle.ly_explain.specs.Private.Grounds.{AreIncoming, AreUses}

@@ -4,7 +4,7 @@ use Rattle.ly_join.specs.Grammar.{Grammar, IsRule, Rule, Symbol, nonterminal}
 use Rattle.ly_grammar.specs.Derivations.{First}
 use Rattle.ly_lr0.specs.Automaton.{Automaton, Reaches, goto_of}
 use Rattle.ly_explain.specs.Demands.{IsAhead}
-use Rattle.ly_explain.specs.declared.item.Item.{Item}
+use Rattle.ly_lr0.specs.declared.item.Item.{Item}
 use Rattle.ly_explain.specs.declared.claim.Claim.{Claim}
 use Rattle.ly_explain.specs.declared.claim.Claim.TheVariants.{InCore, Settled, With}
 use Rattle.ly_explain.specs.declared.claim.Demand.{Demand}

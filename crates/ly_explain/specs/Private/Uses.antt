@@ -7,7 +7,7 @@ use Rattle.ly_explain.specs.Demands.{ClimbsTo, IsAhead, PopsTo}
 use Rattle.ly_explain.specs.declared.incoming.Incoming.{Incoming}
 use Rattle.ly_explain.specs.declared.steps.Pop.{Pop}
 use Rattle.ly_explain.specs.declared.claim.Demand.{Demand}
-use Rattle.ly_explain.specs.declared.item.Item.{Item}
+use Rattle.ly_lr0.specs.declared.item.Item.{Item}
 use Rattle.ly_explain.specs.declared.claim.Claim.{Claim}
 use Rattle.ly_explain.specs.declared.claim.Claim.TheVariants.{InCore, Settled, With}
 

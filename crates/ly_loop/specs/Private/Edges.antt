@@ -44,6 +44,10 @@ abbrev pub IsFirstAbove : Machine → ℕ → List StateNo → Option Passing �
 IsFirstAbove m below targets found =
     MatchOption found ((s : StateNo) → Contains targets s → AllEnd m below s.0) (IsLeast m below targets)
 
+-- the same, of all states to which a state leads
+abbrev pub IsFirstFrom : Machine → ℕ → Option Passing → Type 0
+IsFirstFrom m below found = (targets : List StateNo) × AreTargets m below targets × IsFirstAbove m below targets found
+
 -- whether a target is lower than that of a run that was found
 abbrev pub IsLower : ℕ → Option Passing → Bool → Type 0
 IsLower top None b = b ≡ true

@@ -52,3 +52,8 @@ item_cmp i j = ordering_then (nat_cmp i.rule j.rule) (nat_cmp i.dot j.dot)
 -- items in rising order, so that equal sets are equal lists
 abbrev pub AreRising : List Item → Type 0
 AreRising items = AllPairs (λ i j. item_cmp i j ≡ Less) items
+
+-- an item of these moves to it over the symbol
+abbrev pub IsMovedOver : Grammar → List Item → Symbol → Item → Type 0
+IsMovedOver G items X i = (d : ℕ) × (i.dot ≡ suc d) × Contains items (record { rule = i.rule; dot = d })
+    × IsBehind G i.rule d X

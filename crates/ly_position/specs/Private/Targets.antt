@@ -1,5 +1,6 @@
 -- What runs come to by forks alone, and what sets of positions hold.
-use Rattle.std.specs.Prelude.{◌≡◌, ◌⊎◌, ◌↔◌, ℕ, List, slice_get, Contains, Option, Some, None, if◌then◌else◌}
+use Rattle.std.specs.Prelude.{◌≡◌, ◌≢◌, ◌⊎◌, ◌↔◌, ◌<◌, ℕ, List, [], length, slice_get, slice_index_or}
+use Rattle.std.specs.Prelude.{AllPairs, Contains, Option, Some, None, if◌then◌else◌}
 use Rattle.ly_base.specs.ByteSet.{has}
 use Rattle.ly_base.specs.SparseSet.{with_member}
 use Rattle.ly_position.specs.declared.nfa.Fork.{Fork}
@@ -37,6 +38,17 @@ StepsTo slots forks ps byte q = (p : ℕ) × (t : Target) × Contains ps p × Go
 abbrev pub EntersTo : List Target → List Fork → List ℕ → ℕ → Type 0
 EntersTo targets forks roots q = (r : ℕ) × (t : Target) × Contains roots r × (slice_get targets r ≡ Some t)
     × ForksTo forks t (target.Position q)
+
+-- the list has the positions that are so reached, each once
+pub record IsEnteredList (targets : List Target) (forks : List Fork) (roots list : List ℕ) : Type 0 where
+  pub members : (q : ℕ) → Contains list q ↔ EntersTo targets forks roots q
+  pub once : AllPairs (λ a b. a ≢ b) list
+
+-- so is each list, from the roots of its number
+pub record AreEnteredLists (targets : List Target) (forks : List Fork) (roots lists : List (List ℕ)) : Type 0 where
+  pub count : length lists ≡ length roots
+  pub each : (k : ℕ) → k < length roots
+      → IsEnteredList targets forks (slice_index_or roots k []) (slice_index_or lists k [])
 
 -- the set with one more target
 abbrev pub with_target : PositionSet → Target → PositionSet

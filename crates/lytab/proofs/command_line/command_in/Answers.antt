@@ -21,3 +21,7 @@ returns-in-try c = c.try_in.ensures ∙ request_is _ _ c.in_ok-name.name.now c.i
 pub returns-in-check : goal.returns-in-check
 returns-in-check c = c.check_in.ensures ∙ request_is _ _ c.in_ok-name.name.now c.in_ok-name.values.now
     c.in_ok-name.ensures.name c.in_ok-name.ensures.rows c.in-check.is
+
+pub returns-in-explain : goal.returns-in-explain
+returns-in-explain c = c.explain_in.ensures ∙ request_is _ _ c.in_ok-name.name.now c.in_ok-name.values.now
+    c.in_ok-name.ensures.name c.in_ok-name.ensures.rows c.in-explain.is

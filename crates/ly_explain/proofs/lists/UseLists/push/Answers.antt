@@ -2,7 +2,7 @@ use Rattle.std.proofs.Common.{◌≡◌, ◌<◌, ◌∙◌, sym, ap, subst, len
 use Rattle.std.proofs.Common.{slice_index_or, Vec}
 use Rattle.std.proofs.lemmas.List.{get_or-map, map-set, length-map}
 use Rattle.std.specs.declared.alloc.Global.{Global}
-use Rattle.ly_explain.specs.declared.item.Item.{Item}
+use Rattle.ly_lr0.specs.declared.item.Item.{Item}
 use Rattle.ly_explain.proofs.lists.UseLists.push.Goals as goal
 
 pub returns : goal.returns

@@ -1,0 +1,343 @@
+//! The conflicts: what is done, why precedence doesn't settle it, and an example at which both actions are possible.
+ghost use Rattle.std.specs.Prelude.{◌≡◌};
+
+use crate::drawing::{Drawing, behind_dot, core_of};
+use crate::explaining::Accepted;
+use crate::page::Page;
+use crate::yields::Yields;
+use ly_base::{OutOfMemory, Sym};
+use ly_explain::{Claim, Example, Examples};
+use ly_join::{Spec, Symbol};
+use ly_lr0::Item;
+use ly_resolve::{Action, Conflict, ConflictKind, Resolved};
+use std::alloc::Global;
+
+/// How many demands a search for an example looks at, at most.
+const BOUND: usize = 20_000;
+
+/// How many groups of conflicts get an example, at most.
+const EXAMPLES: usize = 500;
+
+/// How many terminals of a group are named, at most.
+const NAMED: usize = 12;
+
+/// What conflicts are told by.
+#[derive(Clone, Copy)]
+struct Teller<'a> {
+    /// The conflicts, and where examples of them are sought.
+    examples: &'a Examples<'a>,
+    /// The shortest yields of nonterminals.
+    yields: &'a Yields,
+}
+
+/// Says how many conflicts there are, and each with an example. Those of one state that differ in the terminal alone
+/// are a group, which is told together.
+pub(crate) fn say_conflicts(
+    alloc: Global,
+    page: &mut Page,
+    files: Accepted<'_>,
+) -> Result<(), OutOfMemory> {
+    let resolved = files.resolved;
+    let conflicts = resolved.conflicts();
+    page.say(b"\nConflicts: ")?;
+    page.say_number(count(conflicts, ConflictKind::ShiftReduce) as u64)?;
+    page.say(b" shift/reduce, ")?;
+    page.say_number(count(conflicts, ConflictKind::ReduceReduce) as u64)?;
+    page.say(b" reduce/reduce.\n")?;
+    if conflicts.is_empty() {
+        return Ok(());
+    }
+    let teller = Teller {
+        examples: &Examples::new(alloc, resolved)?,
+        yields: &Yields::of(alloc, resolved.lr0().reduced())?,
+    };
+    teller.say_all(alloc, page)
+}
+
+/// How many conflicts are of a kind.
+fn count(conflicts: &[Conflict], kind: ConflictKind) -> usize {
+    conflicts
+        .iter()
+        .filter(|conflict| conflict.kind == kind)
+        .count()
+}
+
+/// By what conflicts are put in order: the state, the kind and the rule.
+fn order_of(conflicts: &[Conflict], place: usize) -> (u32, bool, usize) {
+    match conflicts.get(place) {
+        Some(it) => (it.state.0, it.kind == ConflictKind::ReduceReduce, it.rule),
+        None => (0, false, 0),
+    }
+}
+
+/// Whether two conflicts differ in the terminal alone.
+fn are_alike(one: &Conflict, other: &Conflict) -> bool {
+    one.state == other.state
+        && one.kind == other.kind
+        && one.rule == other.rule
+        && one.choice == other.choice
+}
+
+impl<'a> Teller<'a> {
+    /// The conflicts, and what is done.
+    fn resolved(&self) -> &'a Resolved<'a>
+        ensures { result.now ≡ self.now.examples.now }
+    {
+        self.examples.resolved()
+    }
+
+    /// The specification.
+    fn spec(&self) -> &'a Spec {
+        self.resolved().spec()
+    }
+
+    /// Says all conflicts, group by group.
+    fn say_all(&self, alloc: Global, page: &mut Page) -> Result<(), OutOfMemory> {
+        let conflicts = self.resolved().conflicts();
+        let mut order = Vec::with_capacity(alloc, conflicts.len())?;
+        for place in 0..conflicts.len() {
+            order.push(place)?;
+        }
+        order.sort_by_key(|place| order_of(conflicts, *place))?;
+        let mut group: Vec<usize> = Vec::new(alloc);
+        let mut groups: usize = 0;
+        for place in &order {
+            if !goes_on(conflicts, &group, *place) {
+                self.say_group(alloc, page, &group, groups < EXAMPLES)?;
+                groups = groups.saturating_add(1);
+                group.clear();
+            }
+            group.push(*place)?;
+        }
+        self.say_group(alloc, page, &group, groups < EXAMPLES)
+    }
+
+    /// Says the conflicts at these places, which differ in the terminal alone; with an example if one is wanted.
+    fn say_group(
+        &self,
+        alloc: Global,
+        page: &mut Page,
+        group: &[usize],
+        wanted: bool,
+    ) -> Result<(), OutOfMemory> {
+        let conflicts = self.resolved().conflicts();
+        let Some(first) = group.first() else {
+            return Ok(());
+        };
+        let Some(conflict) = conflicts.get(*first) else {
+            return Ok(());
+        };
+        self.say_place(alloc, page, conflict)?;
+        self.say_terminals(page, group)?;
+        self.say_done(page, conflict)?;
+        self.say_reason(page, conflict, group.len())?;
+        if wanted {
+            self.say_example(alloc, page, *first, conflict)?;
+        }
+        Ok(())
+    }
+
+    /// Says the state of a conflict, by its number and its prefix.
+    fn say_place(
+        &self,
+        alloc: Global,
+        page: &mut Page,
+        conflict: &Conflict,
+    ) -> Result<(), OutOfMemory> {
+        let lr0 = self.resolved().lr0();
+        page.say(b"\nIn state ")?;
+        page.say_number(u64::from(conflict.state.0))?;
+        if (conflict.state.0 as usize) < lr0.states() {
+            let mut prefix = lr0.prefix(alloc, conflict.state)?;
+            prefix.reverse();
+            page.say(b", after")?;
+            page.say_symbols(self.spec(), &prefix)?;
+        }
+        page.say(b", before")
+    }
+
+    /// Says the terminals of a group.
+    fn say_terminals(&self, page: &mut Page, group: &[usize]) -> Result<(), OutOfMemory> {
+        let conflicts = self.resolved().conflicts();
+        for place in group.iter().take(NAMED) {
+            if let Some(conflict) = conflicts.get(*place) {
+                page.say(b" ")?;
+                page.say_terminal(self.spec(), conflict.terminal)?;
+            }
+        }
+        if group.len() > NAMED {
+            page.say(b" and ")?;
+            page.say_number((group.len() - NAMED) as u64)?;
+            page.say(b" more")?;
+        }
+        Ok(())
+    }
+
+    /// Says what is done, and what isn't.
+    fn say_done(&self, page: &mut Page, conflict: &Conflict) -> Result<(), OutOfMemory> {
+        match conflict.choice {
+            Action::Shift => page.say(b": the shift is taken")?,
+            Action::Reduce(rule) => {
+                page.say(b": rule ")?;
+                page.say_number(rule as u64)?;
+                page.say(b" is taken")?;
+            }
+            Action::Error => page.say(b": nothing is taken")?,
+        }
+        page.say(b", rule ")?;
+        page.say_number(conflict.rule as u64)?;
+        page.say(b" is not.\n")
+    }
+
+    /// Says why precedence doesn't settle a shift against a reduction, of which there are so many that are alike.
+    fn say_reason(
+        &self,
+        page: &mut Page,
+        conflict: &Conflict,
+        alike: usize,
+    ) -> Result<(), OutOfMemory> {
+        if conflict.kind == ConflictKind::ReduceReduce || conflict.terminal.0 == 0 {
+            return Ok(());
+        }
+        let spec = self.spec();
+        let ranked = spec
+            .notes()
+            .get(conflict.rule)
+            .is_some_and(|note| note.precedence.is_some());
+        let of_terminal = spec.precedences().get(conflict.terminal.0 as usize);
+        if ranked && alike > 1 {
+            return page.say(b"    These terminals have no precedence.\n");
+        }
+        if ranked {
+            page.say(b"    ")?;
+            page.say_terminal(spec, conflict.terminal)?;
+            return page.say(b" has no precedence.\n");
+        }
+        let neither = alike == 1 && !matches!(of_terminal, Some(Some(_)));
+        page.say(if neither {
+            b"    Neither rule "
+        } else {
+            b"    Rule "
+        })?;
+        page.say_number(conflict.rule as u64)?;
+        if neither {
+            page.say(b" nor ")?;
+            page.say_terminal(spec, conflict.terminal)?;
+            return page.say(b" has a precedence.\n");
+        }
+        page.say(b" has no precedence.\n")
+    }
+
+    /// Says an example of a conflict, or that there is none.
+    fn say_example(
+        &self,
+        alloc: Global,
+        page: &mut Page,
+        place: usize,
+        conflict: &Conflict,
+    ) -> Result<(), OutOfMemory> {
+        match self.example(alloc, place)? {
+            Example::At(string) => self.say_at(alloc, page, conflict, &string),
+            Example::Merged => page.say(
+                b"    No symbols lead to a place where both are possible: only merging the states of an LR(1)\n    \
+                parser makes this conflict.\n",
+            ),
+            Example::Unknown => page.say(
+                b"    No example was found within the bound of the search.\n",
+            ),
+        }
+    }
+
+    /// An example of the conflict at a place.
+    fn example(&self, alloc: Global, place: usize) -> Result<Example, OutOfMemory> {
+        let conflicts = self.resolved().conflicts();
+        if place >= conflicts.len() {
+            return Ok(Example::Unknown);
+        }
+        self.examples.of(alloc, &conflicts[place], BOUND)
+    }
+
+    /// Says how both actions come about behind a string of symbols.
+    fn say_at(
+        &self,
+        alloc: Global,
+        page: &mut Page,
+        conflict: &Conflict,
+        string: &[Symbol],
+    ) -> Result<(), OutOfMemory> {
+        let spec = self.spec();
+        let lr0 = self.resolved().lr0();
+        let drawing = Drawing::new(alloc, lr0, string, conflict.terminal)?;
+        page.say(b"    example:")?;
+        page.say_symbols(spec, string)?;
+        page.say(b" . ")?;
+        page.say_terminal(spec, conflict.terminal)?;
+        page.say(b"\n")?;
+        if string
+            .iter()
+            .any(|symbol| matches!(symbol, Symbol::Nonterminal(_)))
+        {
+            page.say(b"    tokens: ")?;
+            self.yields.say(alloc, page, spec, string)?;
+            page.say(b" . ")?;
+            page.say_terminal(spec, conflict.terminal)?;
+            page.say(b"\n")?;
+        }
+        match (conflict.kind, conflict.choice) {
+            (ConflictKind::ReduceReduce, Action::Reduce(rule)) => {
+                self.say_reduction(alloc, page, &drawing, rule)?;
+            }
+            _ => self.say_shift(alloc, page, &drawing, conflict)?,
+        }
+        self.say_reduction(alloc, page, &drawing, conflict.rule)
+    }
+
+    /// Says how a reduction by a rule comes about.
+    fn say_reduction(
+        &self,
+        alloc: Global,
+        page: &mut Page,
+        drawing: &Drawing<'_>,
+        rule: usize,
+    ) -> Result<(), OutOfMemory> {
+        let dot = match self.spec().grammar().rules().get(rule) {
+            Some(rule) => rule.body().len(),
+            None => 0,
+        };
+        page.say(b"    rule ")?;
+        page.say_number(rule as u64)?;
+        page.say(if rule < 10 { b": " } else { b":" })?;
+        drawing.say(alloc, page, self.spec(), Claim::With(Item { rule, dot }))?;
+        page.say(b"\n")
+    }
+
+    /// Says how the shift comes about, by the first item that has the terminal behind its dot.
+    fn say_shift(
+        &self,
+        alloc: Global,
+        page: &mut Page,
+        drawing: &Drawing<'_>,
+        conflict: &Conflict,
+    ) -> Result<(), OutOfMemory> {
+        let lr0 = self.resolved().lr0();
+        let core = core_of(alloc, lr0, conflict.state)?;
+        let shifted = core.iter().find(|item| behind_dot(lr0.reduced(), **item)
+            == Some(Symbol::Terminal(conflict.terminal)));
+        page.say(b"    shift:  ")?;
+        if let Some(item) = shifted {
+            drawing.say(alloc, page, self.spec(), Claim::InCore(*item))?;
+        }
+        page.say(b"\n")
+    }
+}
+
+/// Whether the conflict at a place belongs to a group.
+fn goes_on(conflicts: &[Conflict], group: &[usize], place: usize) -> bool {
+    let Some(first) = group.first() else {
+        return true;
+    };
+    match (conflicts.get(*first), conflicts.get(place)) {
+        (Some(one), Some(other)) => are_alike(one, other),
+        _ => false,
+    }
+}

@@ -1,0 +1,173 @@
+//! What is doubtful in files that are accepted.
+ghost use Rattle.ly_subset.specs.Automaton.{IsBreadthFirst};
+
+use crate::explaining::Accepted;
+use crate::page::Page;
+use crate::patterns::surprises;
+use crate::places::Places;
+use ly_base::{OutOfMemory, Sym};
+use ly_explain::{unmatched_rules, unreduced_rules, unreturned_terminals, unused_terminals};
+use ly_join::Spec;
+use std::alloc::Global;
+
+/// How many terminals of a kind are told, at most.
+const MOST: usize = 50;
+
+/// What doubts are told by.
+#[derive(Clone, Copy)]
+struct Teller<'a> {
+    /// The files.
+    files: Accepted<'a>,
+    /// Where symbols and rules stand.
+    places: &'a Places,
+}
+
+/// Says what is doubtful, a line each: first of the lex file, and then of the yacc file.
+pub(crate) fn say_doubts(
+    alloc: Global,
+    page: &mut Page,
+    files: Accepted<'_>,
+    places: &Places,
+) -> Result<(), OutOfMemory>
+    requires { IsBreadthFirst files.dfa.now }
+{
+    let teller = Teller { files, places };
+    let before = page.len();
+    teller.say_surprises(alloc, page)?;
+    teller.say_unmatched(alloc, page)?;
+    teller.say_removed(page)?;
+    teller.say_unreduced(alloc, page)?;
+    teller.say_terminals(alloc, page)?;
+    if page.len() == before {
+        page.say(b"No doubts.\n")?;
+    }
+    Ok(())
+}
+
+impl Teller<'_> {
+    /// The specification.
+    fn spec(&self) -> &Spec {
+        self.files.spec
+    }
+
+    /// Says the place of a rule of the lex file.
+    fn say_lex_rule(&self, page: &mut Page, rule: usize) -> Result<(), OutOfMemory> {
+        let line = self.files.file.lines.get(rule).copied().unwrap_or(1);
+        page.say_line_of(self.files.lex, line)
+    }
+
+    /// Says the place of a rule of the yacc file, and its number.
+    fn say_rule(&self, page: &mut Page, rule: usize) -> Result<(), OutOfMemory> {
+        page.say_line_of(self.files.yacc, self.places.line_of_rule(rule))?;
+        page.say(b"rule ")?;
+        page.say_number(rule as u64)
+    }
+
+    /// Says the place where a terminal is named first, and the terminal.
+    fn say_terminal(&self, page: &mut Page, terminal: Sym) -> Result<(), OutOfMemory> {
+        let line = self
+            .places
+            .line_of_terminal(self.spec(), self.files.yacc.bytes, terminal);
+        page.say_line_of(self.files.yacc, line)?;
+        page.say_terminal(self.spec(), terminal)
+    }
+
+    /// Says what in the patterns of the lex file means something else than it may seem to.
+    fn say_surprises(&self, alloc: Global, page: &mut Page) -> Result<(), OutOfMemory> {
+        for line in &self.files.file.lines {
+            let Some(bytes) = self.files.lex.line(*line) else {
+                continue;
+            };
+            let found = surprises(alloc, bytes)?;
+            if let Some(letter) = found.letter {
+                page.say_line_of(self.files.lex, *line)?;
+                page.say(b"\\")?;
+                page.say(&[letter])?;
+                page.say(b" is the letter ")?;
+                page.say(&[letter])?;
+                page.say(b" in a pattern; a class of bytes is written as [[:digit:]] or [0-9]\n")?;
+            }
+            if found.interval {
+                page.say_line_of(self.files.lex, *line)?;
+                page.say(
+                    b"the interval repeats all that stands before it, not its last piece alone, as POSIX has it; ",
+                )?;
+                page.say(b"write parentheses around what is to be repeated\n")?;
+            }
+        }
+        Ok(())
+    }
+
+    /// Says which rules of the lex file never match.
+    fn say_unmatched(&self, alloc: Global, page: &mut Page) -> Result<(), OutOfMemory>
+        requires { IsBreadthFirst self.now.files.dfa.now }
+    {
+        for rule in &unmatched_rules(alloc, self.files.file.rules.len(), self.files.dfa)? {
+            self.say_lex_rule(page, *rule)?;
+            page.say(b"this rule never matches: earlier rules take all that it could\n")?;
+        }
+        Ok(())
+    }
+
+    /// Says which rules of the grammar are removed.
+    fn say_removed(&self, page: &mut Page) -> Result<(), OutOfMemory> {
+        let reduced = self.files.resolved.lr0().reduced();
+        for rule in 0..reduced.grammar().rules().len() {
+            if !reduced.is_kept(rule) {
+                self.say_rule(page, rule)?;
+                page.say(b" is of no use: no text has it\n")?;
+            }
+        }
+        Ok(())
+    }
+
+    /// Says which rules of the grammar are never reduced.
+    fn say_unreduced(&self, alloc: Global, page: &mut Page) -> Result<(), OutOfMemory> {
+        for rule in &unreduced_rules(alloc, self.files.resolved)? {
+            self.say_rule(page, *rule)?;
+            page.say(b" is never reduced: conflicts and precedence leave it nothing\n")?;
+        }
+        Ok(())
+    }
+
+    /// Says which terminals stand in no rule, and which of the others no rule of the lex file returns.
+    fn say_terminals(&self, alloc: Global, page: &mut Page) -> Result<(), OutOfMemory>
+        requires { IsBreadthFirst self.now.files.dfa.now }
+    {
+        let mut unused = unused_terminals(alloc, self.spec())?;
+        unused.retain(|terminal| !self.gives_precedence(*terminal));
+        for terminal in unused.iter().take(MOST) {
+            self.say_terminal(page, *terminal)?;
+            page.say(b" stands in no rule\n")?;
+        }
+        self.say_more(page, unused.len(), b"stand in no rule\n")?;
+        let mut unreturned = unreturned_terminals(alloc, self.spec(), self.files.dfa)?;
+        unreturned.retain(|terminal| !unused.contains(terminal)
+            && !self.gives_precedence(*terminal));
+        for terminal in unreturned.iter().take(MOST) {
+            self.say_terminal(page, *terminal)?;
+            page.say(b" is returned by no rule of ")?;
+            page.say(self.files.lex.name.as_bytes())?;
+            page.say(b"\n")?;
+        }
+        self.say_more(page, unreturned.len(), b"are returned by no rule\n")
+    }
+
+    /// Whether a terminal stands behind a `%prec`.
+    fn gives_precedence(&self, terminal: Sym) -> bool {
+        let text = self.files.yacc.bytes;
+        self.places.gives_precedence(self.spec(), text, terminal)
+    }
+
+    /// Says of how many terminals more the same is so.
+    fn say_more(&self, page: &mut Page, count: usize, so: &[u8]) -> Result<(), OutOfMemory> {
+        if count > MOST {
+            page.say(self.files.yacc.name.as_bytes())?;
+            page.say(b": ")?;
+            page.say_number((count - MOST) as u64)?;
+            page.say(b" terminals more ")?;
+            page.say(so)?;
+        }
+        Ok(())
+    }
+}

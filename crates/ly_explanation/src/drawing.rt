@@ -1,0 +1,332 @@
+//! How an action comes about behind a string of symbols: the rules that are under way there, drawn with brackets.
+use crate::page::Page;
+use indexmap::IndexMap;
+use ly_base::{OutOfMemory, StateNo, Sym};
+use ly_explain::Claim;
+use ly_grammar::Reduced;
+use ly_join::{Spec, Symbol};
+use ly_lr0::{Item, Lr0};
+use std::alloc::Global;
+
+/// How many claims are looked at, at most, to find how an action comes about.
+const MOST: usize = 50_000;
+
+/// A string of symbols behind which an action is drawn.
+#[derive(Drop)]
+pub(crate) struct Drawing<'a> {
+    /// The automaton.
+    lr0: &'a Lr0<'a>,
+    /// The string, its first symbol first.
+    string: &'a [Symbol],
+    /// What stands next.
+    terminal: Sym,
+    /// For each beginning of the string, the empty one first, the items of its core.
+    cores: Vec<Vec<Item>>,
+}
+
+/// A claim on a beginning of the string.
+#[derive(Clone, Copy, Debug, PartialEq, Eq, Hash)]
+struct Claimed {
+    /// How many symbols the beginning has.
+    length: usize,
+    /// What is claimed of it.
+    claim: Claim,
+}
+
+impl<'a> Drawing<'a> {
+    /// What is drawn behind this string.
+    pub(crate) fn new(
+        alloc: Global,
+        lr0: &'a Lr0<'a>,
+        string: &'a [Symbol],
+        terminal: Sym,
+    ) -> Result<Drawing<'a>, OutOfMemory> {
+        let mut cores = Vec::new(alloc);
+        let mut state = StateNo(0);
+        cores.push(core_of(alloc, lr0, state)?)?;
+        for symbol in string {
+            let Some(next) = goto_of(lr0, state, *symbol) else {
+                break;
+            };
+            state = next;
+            cores.push(core_of(alloc, lr0, state)?)?;
+        }
+        Ok(Drawing {
+            lr0,
+            string,
+            terminal,
+            cores,
+        })
+    }
+
+    /// Draws the rules that are under way where an item is valid behind the string: each in brackets, with a dot where
+    /// the string ends. It is false, and nothing is said, where that isn't found.
+    pub(crate) fn say(
+        &self,
+        alloc: Global,
+        page: &mut Page,
+        spec: &Spec,
+        last: Claim,
+    ) -> Result<bool, OutOfMemory> {
+        let way = self.way(alloc, last)?;
+        if way.is_empty() {
+            return Ok(false);
+        }
+        say_way(alloc, page, spec, &way)?;
+        Ok(true)
+    }
+
+    /// The claims from that on the start to the last one, each of which is true by the one before it; none where that
+    /// isn't found.
+    fn way(&self, alloc: Global, last: Claim) -> Result<Vec<Item>, OutOfMemory> {
+        let mut found = IndexMap::new(alloc);
+        let first = Claimed {
+            length: self.string.len(),
+            claim: last,
+        };
+        found.insert(first, 0)?;
+        for place in 0..MOST {
+            let Some((claimed, _)) = found.get_index(place) else {
+                break;
+            };
+            let claimed = *claimed;
+            if claimed.is_start() {
+                return way_back(alloc, &found, place);
+            }
+            for before in &self.before(alloc, claimed)? {
+                if !found.contains_key(before) {
+                    found.insert(*before, place)?;
+                }
+            }
+        }
+        Ok(Vec::new(alloc))
+    }
+
+    /// The claims by which one is true.
+    fn before(&self, alloc: Global, claimed: Claimed) -> Result<Vec<Claimed>, OutOfMemory> {
+        let mut found = Vec::new(alloc);
+        let Some(item) = item_of(claimed.claim) else {
+            return Ok(found);
+        };
+        if let (Some(dot), Some(length)) = (
+            item.dot.checked_sub(1),
+            claimed.length.checked_sub(1),
+        ) {
+            let item = Item { dot, ..item };
+            if self.string.get(length).copied() == behind_dot(self.lr0.reduced(), item) {
+                let claim = with_item(claimed.claim, item);
+                found.push(Claimed { length, claim })?;
+            }
+        } else if let Some(core) = self.cores.get(claimed.length) {
+            self.push_waiting(&mut found, core, claimed, item)?;
+        }
+        Ok(found)
+    }
+
+    /// Adds the claims on the items of a core that wait for the left side of a rule with nothing before its dot.
+    fn push_waiting(
+        &self,
+        found: &mut Vec<Claimed>,
+        core: &[Item],
+        claimed: Claimed,
+        item: Item,
+    ) -> Result<(), OutOfMemory> {
+        let reduced = self.lr0.reduced();
+        let Some(rule) = reduced.grammar().rules().get(item.rule) else {
+            return Ok(());
+        };
+        let left = Symbol::Nonterminal(rule.left());
+        for waiting in core {
+            if behind_dot(reduced, *waiting) != Some(left) {
+                continue;
+            }
+            let in_core = Claimed {
+                claim: Claim::InCore(*waiting),
+                ..claimed
+            };
+            if let Claim::InCore(_) = claimed.claim {
+                found.push(in_core)?;
+                continue;
+            }
+            let (begins, nullable) = follows(reduced, *waiting, self.terminal);
+            if begins {
+                found.push(in_core)?;
+            }
+            if nullable {
+                found.push(Claimed {
+                    claim: Claim::With(*waiting),
+                    ..claimed
+                })?;
+            }
+        }
+        Ok(())
+    }
+}
+
+impl Claimed {
+    /// Whether it is the one on the start that is always true.
+    fn is_start(&self) -> bool {
+        self.length == 0 && self.claim == Claim::InCore(Item { rule: 0, dot: 0 })
+    }
+}
+
+/// The items of a state; none of a number that no state has.
+pub(crate) fn core_of(
+    alloc: Global,
+    lr0: &Lr0<'_>,
+    state: StateNo,
+) -> Result<Vec<Item>, OutOfMemory> {
+    if (state.0 as usize) < lr0.states() {
+        lr0.core(alloc, state)
+    } else {
+        Ok(Vec::new(alloc))
+    }
+}
+
+/// Where a symbol leads from a state; nowhere from a number that no state has.
+fn goto_of(lr0: &Lr0<'_>, state: StateNo, symbol: Symbol) -> Option<StateNo> {
+    if (state.0 as usize) < lr0.states() {
+        lr0.goto(state, symbol)
+    } else {
+        None
+    }
+}
+
+/// The item of a claim, if it has one.
+fn item_of(claim: Claim) -> Option<Item> {
+    match claim {
+        Claim::Settled => None,
+        Claim::InCore(item) | Claim::With(item) => Some(item),
+    }
+}
+
+/// The claim of the same kind on another item.
+fn with_item(claim: Claim, item: Item) -> Claim {
+    match claim {
+        Claim::Settled => Claim::Settled,
+        Claim::InCore(_) => Claim::InCore(item),
+        Claim::With(_) => Claim::With(item),
+    }
+}
+
+/// The symbol behind the dot of an item, if there is one.
+pub(crate) fn behind_dot(reduced: &Reduced<'_>, item: Item) -> Option<Symbol> {
+    let rule = reduced.grammar().rules().get(item.rule)?;
+    rule.body().get(item.dot).copied()
+}
+
+/// Whether a terminal begins what stands behind the symbol behind an item's dot, and whether that may be empty.
+fn follows(reduced: &Reduced<'_>, item: Item, terminal: Sym) -> (bool, bool) {
+    let grammar = reduced.grammar();
+    let Some(rule) = grammar.rules().get(item.rule) else {
+        return (false, false);
+    };
+    for symbol in rule.body().iter().skip(item.dot.saturating_add(1)) {
+        match symbol {
+            Symbol::Terminal(number) => return (*number == terminal, false),
+            Symbol::Nonterminal(number) => {
+                if number.0 > grammar.accept().0 || terminal.0 >= grammar.terminals() {
+                    return (false, false);
+                }
+                if reduced.begins(*number, terminal) {
+                    return (true, false);
+                }
+                if !reduced.is_nullable(*number) {
+                    return (false, false);
+                }
+            }
+        }
+    }
+    (false, true)
+}
+
+/// The items of the claims from the one at a place back to the first, each found from the next.
+fn way_back(
+    alloc: Global,
+    found: &IndexMap<Claimed, usize>,
+    place: usize,
+) -> Result<Vec<Item>, OutOfMemory> {
+    let mut way = Vec::new(alloc);
+    let mut place = place;
+    for _ in 0..found.len() {
+        let Some((claimed, from)) = found.get_index(place) else {
+            break;
+        };
+        if let Some(item) = item_of(claimed.claim) {
+            way.push(item)?;
+        }
+        if place == 0 {
+            break;
+        }
+        place = *from;
+    }
+    Ok(way)
+}
+
+/// Says the rules of a way: a bracket where one begins below another, the symbols before the dots, and at the end a dot
+/// and what stands behind it in each rule, from the inmost one on.
+fn say_way(alloc: Global, page: &mut Page, spec: &Spec, way: &[Item]) -> Result<(), OutOfMemory> {
+    let mut open: Vec<Item> = Vec::new(alloc);
+    let mut opened = false;
+    for item in way {
+        match open.last_mut() {
+            Some(top) if item.dot > 0 => {
+                if let Some(symbol) = symbol_at(spec, *top) {
+                    page.say(if opened { b"" } else { b" " })?;
+                    page.say_symbol(spec, symbol)?;
+                    opened = false;
+                }
+                *top = *item;
+            }
+            top => {
+                if top.is_some_and(|top| is_bracketed_in(spec, *top)) {
+                    page.say(if opened { b"[" } else { b" [" })?;
+                    opened = true;
+                }
+                open.push(*item)?;
+            }
+        }
+    }
+    page.say(if opened { b"." } else { b" ." })?;
+    say_rests(page, spec, &open)
+}
+
+/// Says what stands behind the dots of the rules under way, the inmost one first. In each but that one the symbol
+/// behind the dot is the rule within. Of rule 0 nothing is said.
+fn say_rests(page: &mut Page, spec: &Spec, open: &[Item]) -> Result<(), OutOfMemory> {
+    let mut inmost = true;
+    for (place, item) in open.iter().enumerate().rev() {
+        let passed = if inmost {
+            item.dot
+        } else {
+            item.dot.saturating_add(1)
+        };
+        inmost = false;
+        if let (Some(rule), true) = (spec.grammar().rules().get(item.rule), item.rule > 0) {
+            for symbol in rule.body().iter().skip(passed) {
+                page.say(b" ")?;
+                page.say_symbol(spec, *symbol)?;
+            }
+        }
+        let around = place.checked_sub(1).and_then(|around| open.get(around));
+        if around.is_some_and(|around| is_bracketed_in(spec, *around)) {
+            page.say(b"]")?;
+        }
+    }
+    Ok(())
+}
+
+/// Whether what stands behind the dot of an item gets brackets: it is a part of another rule than rule 0, and not all
+/// of it.
+fn is_bracketed_in(spec: &Spec, item: Item) -> bool {
+    match spec.grammar().rules().get(item.rule) {
+        Some(rule) => item.rule > 0 && rule.body().len() > 1,
+        None => false,
+    }
+}
+
+/// The symbol behind the dot of an item, if there is one.
+fn symbol_at(spec: &Spec, item: Item) -> Option<Symbol> {
+    let rule = spec.grammar().rules().get(item.rule)?;
+    rule.body().get(item.dot).copied()
+}

@@ -1,0 +1,76 @@
+//! How a fault of both files is mended in what the yacc file says, so that the others can be found.
+use ly_base::OutOfMemory;
+use ly_join::{JoinFault, TerminalName};
+use ly_yaccread::{Declaration, DeclarationKind, Symbol, YaccFile};
+use std::alloc::Global;
+
+/// Mends a fault: a name that is unknown is a token then, a left side is none, a precedence is given once, and a start
+/// symbol or a `%prec` that is unknown is left out.
+pub(crate) fn mend(
+    alloc: Global,
+    file: &mut YaccFile,
+    fault: &JoinFault,
+) -> Result<(), OutOfMemory> {
+    match fault {
+        JoinFault::UndefinedSymbol(name) | JoinFault::ReturnUndeclared(name) => {
+            let mut symbols = Vec::new(alloc);
+            symbols.push(Symbol::Name(Vec::from_slice(alloc, name)?))?;
+            file.declarations.push(Declaration {
+                kind: DeclarationKind::Token,
+                symbols,
+            })?;
+        }
+        JoinFault::TokenOnLeft(name) => {
+            for declaration in &mut file.declarations {
+                declaration.symbols.retain(|symbol| !is_name(symbol, name));
+            }
+        }
+        JoinFault::PrecedenceTwice(terminal) => give_once(file, terminal),
+        JoinFault::UnknownStart(_) => file.start = None,
+        JoinFault::PrecUnknown(name) => {
+            for rule in &mut file.rules {
+                if rule
+                    .precedence
+                    .as_ref()
+                    .is_some_and(|symbol| is_name(symbol, name))
+                {
+                    rule.precedence = None;
+                }
+            }
+        }
+        JoinFault::NoRules | JoinFault::LimitPassed { .. } | JoinFault::OutOfMemory => {}
+    }
+    Ok(())
+}
+
+/// Leaves a terminal out of all declarations that give it a precedence but the first.
+fn give_once(file: &mut YaccFile, terminal: &TerminalName) {
+    let mut given = false;
+    for declaration in &mut file.declarations {
+        if declaration.kind == DeclarationKind::Token {
+            continue;
+        }
+        declaration.symbols.retain(|symbol| {
+            let stays = !given || !is_terminal(symbol, terminal);
+            given = given || is_terminal(symbol, terminal);
+            stays
+        });
+    }
+}
+
+/// Whether a symbol is this name.
+fn is_name(symbol: &Symbol, name: &[u8]) -> bool {
+    match symbol {
+        Symbol::Name(found) => found.as_slice() == name,
+        Symbol::Literal(_) => false,
+    }
+}
+
+/// Whether a symbol is this terminal.
+fn is_terminal(symbol: &Symbol, terminal: &TerminalName) -> bool {
+    match (symbol, terminal) {
+        (Symbol::Name(name), TerminalName::Token(token)) => name.as_slice() == token.as_slice(),
+        (Symbol::Literal(byte), TerminalName::Literal(other)) => byte == other,
+        _ => false,
+    }
+}

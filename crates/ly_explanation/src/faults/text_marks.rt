@@ -1,0 +1,38 @@
+//! What editors of other systems leave in a text: a byte-order mark in front, and a CR before each newline.
+use ly_base::OutOfMemory;
+use std::alloc::Global;
+
+/// The byte-order mark of UTF-8.
+const BYTE_ORDER_MARK: &[u8] = b"\xef\xbb\xbf";
+
+/// Whether a text begins with a byte-order mark.
+pub(crate) fn has_byte_order_mark(text: &[u8]) -> bool {
+    text.starts_with(BYTE_ORDER_MARK)
+}
+
+/// The text with these bytes in place of a byte-order mark in front, and without each CR before a newline; none where
+/// it has neither.
+pub(crate) fn without_marks(
+    alloc: Global,
+    text: &[u8],
+    front: &[u8],
+) -> Result<Option<Vec<u8>>, OutOfMemory> {
+    let marked = text.strip_prefix(BYTE_ORDER_MARK);
+    if marked.is_none() && !text.windows(2).any(|pair| pair == b"\r\n".as_slice()) {
+        return Ok(None);
+    }
+    let mut plain = Vec::from_slice(alloc, if marked.is_some() { front } else { b"" })?;
+    for line in marked
+        .unwrap_or(text)
+        .split_inclusive(|byte| *byte == b'\n')
+    {
+        match line.strip_suffix(b"\r\n") {
+            Some(line) => {
+                plain.extend_from_slice(line)?;
+                plain.push(b'\n')?;
+            }
+            None => plain.extend_from_slice(line)?,
+        }
+    }
+    Ok(Some(plain))
+}

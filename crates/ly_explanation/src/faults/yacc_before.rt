@@ -1,0 +1,95 @@
+use ly_base::OutOfMemory;
+use ly_yaccread::{WordSpan, word_spans};
+use std::alloc::Global;
+
+/// What stands before a place of a yacc file, as far as it says what stands there.
+#[derive(Clone, Copy)]
+pub(crate) struct Before {
+    /// Whether the place is in the rules.
+    pub(crate) in_rules: bool,
+    /// Whether it is in a body of a rule.
+    pub(crate) in_body: bool,
+    /// How many braces are open.
+    depth: usize,
+    /// Where the last directive of the declarations begins.
+    pub(crate) directive: Option<usize>,
+    /// Where the last action of the body begins.
+    pub(crate) action: Option<usize>,
+    /// Where the last word stands.
+    pub(crate) last: Option<WordSpan>,
+}
+
+impl Before {
+    /// What stands before a place of a text.
+    pub(crate) fn of(alloc: Global, text: &[u8], place: usize) -> Result<Before, OutOfMemory> {
+        let mut before = Before {
+            in_rules: false,
+            in_body: false,
+            depth: 0,
+            directive: None,
+            action: None,
+            last: None,
+        };
+        for span in &word_spans(alloc, text)? {
+            if span.start >= place {
+                break;
+            }
+            before = before.with(span.word(text), *span);
+        }
+        Ok(before)
+    }
+
+    /// The same behind one word more.
+    fn with(self, word: &[u8], span: WordSpan) -> Before {
+        let before = if self.in_rules {
+            self.with_rule_word(word, span.start)
+        } else if word == b"%%".as_slice() {
+            Before {
+                in_rules: true,
+                ..self
+            }
+        } else if word.starts_with(b"%") {
+            Before {
+                directive: Some(span.start),
+                ..self
+            }
+        } else {
+            self
+        };
+        Before {
+            last: Some(span),
+            ..before
+        }
+    }
+
+    /// The same behind one word more of the rules.
+    fn with_rule_word(self, word: &[u8], start: usize) -> Before {
+        match word {
+            b":" | b"|" => Before {
+                in_body: true,
+                action: None,
+                depth: 0,
+                ..self
+            },
+            b";" if self.depth == 0 => Before {
+                in_body: false,
+                action: None,
+                ..self
+            },
+            b"{" => Before {
+                action: if self.depth == 0 {
+                    Some(start)
+                } else {
+                    self.action
+                },
+                depth: self.depth.saturating_add(1),
+                ..self
+            },
+            b"}" => Before {
+                depth: self.depth.saturating_sub(1),
+                ..self
+            },
+            _ => self,
+        }
+    }
+}

@@ -1,0 +1,99 @@
+//! The parser's automaton as a picture, in the language of Graphviz's `dot`.
+ghost use Rattle.std.specs.Prelude.{◌<◌, length};
+
+use crate::explaining::Accepted;
+use crate::page::Page;
+use ly_base::{OutOfMemory, StateNo};
+use ly_join::{Spec, Symbol};
+use ly_lr0::{Item, Lr0};
+use std::alloc::Global;
+
+/// Says the picture: a box a state, with the items that have something before their dots, and an arrow a transition,
+/// dashed by nonterminals.
+pub(crate) fn say_picture(
+    alloc: Global,
+    page: &mut Page,
+    files: Accepted<'_>,
+) -> Result<(), OutOfMemory> {
+    let spec = files.spec;
+    let lr0 = files.resolved.lr0();
+    page.say(
+        b"digraph parser {\n    rankdir=LR;\n    node [shape=box, fontname=\"monospace\"];\n",
+    )?;
+    for state in 0..lr0.states() {
+        say_box(alloc, page, spec, lr0, StateNo(state as u32))?;
+    }
+    for state in 0..lr0.states() {
+        say_arrows(alloc, page, spec, lr0, StateNo(state as u32))?;
+    }
+    page.say(b"}\n")
+}
+
+/// Says the box of a state.
+fn say_box(
+    alloc: Global,
+    page: &mut Page,
+    spec: &Spec,
+    lr0: &Lr0<'_>,
+    state: StateNo,
+) -> Result<(), OutOfMemory>
+    requires { state.0 < length lr0.now.states }
+{
+    page.say(b"    ")?;
+    page.say_number(u64::from(state.0))?;
+    page.say(b" [label=\"")?;
+    page.say_number(u64::from(state.0))?;
+    page.say(b"\\n")?;
+    for item in &lr0.core(alloc, state)? {
+        if is_kernel(*item) {
+            let mut text = Page::new(alloc);
+            text.say_rule(spec, item.rule, Some(item.dot))?;
+            say_escaped(page, &text.into_bytes())?;
+            page.say(b"\\l")?;
+        }
+    }
+    page.say(b"\"];\n")
+}
+
+/// Whether an item is in its state by a symbol before its dot, or begins all.
+fn is_kernel(item: Item) -> bool {
+    item.dot > 0 || item.rule == 0
+}
+
+/// Says the arrows that leave a state.
+fn say_arrows(
+    alloc: Global,
+    page: &mut Page,
+    spec: &Spec,
+    lr0: &Lr0<'_>,
+    state: StateNo,
+) -> Result<(), OutOfMemory>
+    requires { state.0 < length lr0.now.states }
+{
+    for transition in lr0.transitions(state) {
+        let mut text = Page::new(alloc);
+        text.say_symbol(spec, transition.symbol)?;
+        page.say(b"    ")?;
+        page.say_number(u64::from(state.0))?;
+        page.say(b" -> ")?;
+        page.say_number(u64::from(transition.target.0))?;
+        page.say(b" [label=\"")?;
+        say_escaped(page, &text.into_bytes())?;
+        page.say(match transition.symbol {
+            Symbol::Terminal(_) => b"\"];\n",
+            Symbol::Nonterminal(_) => b"\", style=dashed];\n",
+        })?;
+    }
+    Ok(())
+}
+
+/// Appends bytes as they stand in a string of `dot`.
+fn say_escaped(page: &mut Page, bytes: &[u8]) -> Result<(), OutOfMemory> {
+    for byte in bytes {
+        if *byte == b'"' || *byte == b'\\' {
+            page.say(b"\\")?;
+        }
+        page.say(&[*byte])?;
+    }
+    Ok(())
+}

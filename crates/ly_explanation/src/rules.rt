@@ -1,0 +1,24 @@
+//! The rules of the grammar, by the numbers that reports have for them.
+use crate::explaining::Accepted;
+use crate::page::Page;
+use crate::places::Places;
+use ly_base::OutOfMemory;
+
+/// Says each rule with its number and its line.
+pub(crate) fn say_rules(
+    page: &mut Page,
+    files: Accepted<'_>,
+    places: &Places,
+) -> Result<(), OutOfMemory> {
+    let spec = files.spec;
+    page.say(b"\nRules:\n")?;
+    for rule in 1..spec.grammar().rules().len() {
+        page.say(b"    ")?;
+        page.say_number(rule as u64)?;
+        page.say(b"  ")?;
+        page.say_line_of(files.yacc, places.line_of_rule(rule))?;
+        page.say_rule(spec, rule, None)?;
+        page.say(b"\n")?;
+    }
+    Ok(())
+}

@@ -1,0 +1,192 @@
+//! The states of the parser, as users of yacc read them: the items, what is done before each terminal, and gotos.
+ghost use Rattle.std.specs.Prelude.{◌≡◌, ◌<◌, IfSome, length};
+ghost use Rattle.ly_lookahead.specs.Lookaheads.{AreLookaheads, HasSet};
+
+use crate::explaining::Accepted;
+use crate::page::Page;
+use ly_base::{OutOfMemory, RuleNo, StateNo, Sym};
+use ly_join::{Spec, Symbol};
+use ly_lookahead::{Lookaheads, lookaheads};
+use ly_lr0::{Item, Lr0};
+use ly_pack::{Dense, Machine, TableAction};
+use ly_resolve::{Action, Entry, Resolved};
+use std::alloc::Global;
+
+/// The tables of a parser.
+pub(crate) type Tables = Machine<Dense<TableAction>, Dense<StateNo>>;
+
+/// What states are told by.
+#[derive(Clone, Copy)]
+struct Teller<'a> {
+    /// What is done in each state.
+    resolved: &'a Resolved<'a>,
+    /// The lookaheads of complete rules.
+    lookaheads: &'a Lookaheads,
+    /// The tables, for the default reductions.
+    tables: &'a Tables,
+}
+
+/// Says each state of the parser.
+pub(crate) fn say_states(
+    alloc: Global,
+    page: &mut Page,
+    files: Accepted<'_>,
+    tables: &Tables,
+) -> Result<(), OutOfMemory> {
+    let lr0 = files.resolved.lr0();
+    let teller = Teller {
+        resolved: files.resolved,
+        lookaheads: &lookaheads(alloc, lr0)?,
+        tables,
+    };
+    for state in 0..lr0.states() {
+        teller.say_state(alloc, page, StateNo(state as u32))?;
+    }
+    Ok(())
+}
+
+impl<'a> Teller<'a> {
+    /// The automaton.
+    fn lr0(&self) -> &'a Lr0<'a>
+        ensures { result.now ≡ self.now.resolved.now.automaton }
+    {
+        self.resolved.lr0()
+    }
+
+    /// The specification.
+    fn spec(&self) -> &'a Spec {
+        self.resolved.spec()
+    }
+
+    /// Says a state.
+    fn say_state(&self, alloc: Global, page: &mut Page, state: StateNo) -> Result<(), OutOfMemory>
+        requires state { state.0 < length self.now.resolved.now.automaton.states }
+        requires sets { AreLookaheads self.now.resolved.now.automaton self.now.lookaheads.now }
+    {
+        let lr0 = self.lr0();
+        let mut prefix = lr0.prefix(alloc, state)?;
+        prefix.reverse();
+        page.say(b"State ")?;
+        page.say_number(u64::from(state.0))?;
+        if !prefix.is_empty() {
+            page.say(b", after")?;
+            page.say_symbols(self.spec(), &prefix)?;
+        }
+        page.say(b"\n")?;
+        for item in &lr0.core(alloc, state)? {
+            self.say_item(page, state, *item)?;
+        }
+        self.say_actions(page, state)?;
+        self.say_gotos(page, state)?;
+        page.say(b"\n")
+    }
+
+    /// Says an item, with its lookaheads where its dot is at the end.
+    fn say_item(&self, page: &mut Page, state: StateNo, item: Item) -> Result<(), OutOfMemory>
+        requires state { state.0 < length self.now.resolved.now.automaton.states }
+        requires sets { AreLookaheads self.now.resolved.now.automaton self.now.lookaheads.now }
+    {
+        page.say(b"    ")?;
+        page.say_number(item.rule as u64)?;
+        page.say(b"  ")?;
+        page.say_rule(self.spec(), item.rule, Some(item.dot))?;
+        if let Some(place) = self.place_of(state, item) {
+            page.say(b"   with")?;
+            for terminal in 0..self.spec().grammar().terminals() {
+                if self.lookaheads.contains(state, place, Sym(terminal)) {
+                    page.say(b" ")?;
+                    page.say_terminal(self.spec(), Sym(terminal))?;
+                }
+            }
+        }
+        page.say(b"\n")
+    }
+
+    /// The place of an item with its dot at the end among the complete rules of a state.
+    fn place_of(&self, state: StateNo, item: Item) -> Option<usize>
+        requires state { state.0 < length self.now.resolved.now.automaton.states }
+        requires sets { AreLookaheads self.now.resolved.now.automaton self.now.lookaheads.now }
+        ensures { IfSome result (λ place. HasSet self.now.lookaheads.now state.0 place) }
+    {
+        let rule = self.spec().grammar().rules().get(item.rule)?;
+        if rule.body().len() != item.dot {
+            return None;
+        }
+        let complete = self.lr0().complete(state);
+        for place in 0..complete.len() {
+            if complete[place] == item.rule {
+                return Some(place);
+            }
+        }
+        None
+    }
+
+    /// Says what is done before each terminal: what isn't the default reduction by itself, and that behind it.
+    fn say_actions(&self, page: &mut Page, state: StateNo) -> Result<(), OutOfMemory>
+        requires { state.0 < length self.now.resolved.now.automaton.states }
+    {
+        let mut default = None;
+        if (state.0 as usize) < self.tables.states() {
+            default = self.tables.default(state);
+        }
+        let _spec = self.resolved.spec();
+        for entry in self.resolved.row(state) {
+            if !is_default(entry, default) {
+                self.say_action(page, state, entry)?;
+            }
+        }
+        if let Some(rule) = default {
+            page.say(b"    else rule ")?;
+            page.say_number(u64::from(rule.0))?;
+            page.say(b"\n")?;
+        }
+        Ok(())
+    }
+
+    /// Says what is done before a terminal.
+    fn say_action(&self, page: &mut Page, state: StateNo, entry: &Entry) -> Result<(), OutOfMemory>
+        requires { state.0 < length self.now.resolved.now.automaton.states }
+    {
+        page.say(b"    before ")?;
+        page.say_terminal(self.spec(), entry.terminal)?;
+        match entry.action {
+            Action::Shift => match self.lr0().goto(state, Symbol::Terminal(entry.terminal)) {
+                Some(target) => {
+                    page.say(b" shift, to state ")?;
+                    page.say_number(u64::from(target.0))?;
+                }
+                None => page.say(b" accept")?,
+            },
+            Action::Reduce(rule) => {
+                page.say(b" rule ")?;
+                page.say_number(rule as u64)?;
+            }
+            Action::Error => page.say(b" error, since it doesn't associate")?,
+        }
+        page.say(b"\n")
+    }
+
+    /// Says where a state goes by nonterminals.
+    fn say_gotos(&self, page: &mut Page, state: StateNo) -> Result<(), OutOfMemory>
+        requires { state.0 < length self.now.resolved.now.automaton.states }
+    {
+        for transition in self.lr0().transitions(state) {
+            if let Symbol::Nonterminal(_) = transition.symbol {
+                page.say(b"    ")?;
+                page.say_symbol(self.spec(), transition.symbol)?;
+                page.say(b" to state ")?;
+                page.say_number(u64::from(transition.target.0))?;
+                page.say(b"\n")?;
+            }
+        }
+        Ok(())
+    }
+}
+
+/// Whether an entry is the default reduction.
+fn is_default(entry: &Entry, default: Option<RuleNo>) -> bool {
+    match (entry.action, default) {
+        (Action::Reduce(rule), Some(default)) => rule == default.0 as usize,
+        _ => false,
+    }
+}

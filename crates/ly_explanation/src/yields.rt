@@ -1,0 +1,125 @@
+//! The shortest tokens that symbols yield.
+use crate::page::Page;
+use ly_base::{OutOfMemory, Sym};
+use ly_grammar::Reduced;
+use ly_join::{Spec, Symbol};
+use std::alloc::{AllocError, Global};
+
+/// How often the rules are gone through at most. A nonterminal that needs more has no yield here.
+const ROUNDS: usize = 64;
+
+/// How many symbols are looked at, at most, to say what symbols yield.
+const MOST: usize = 400;
+
+/// Of each nonterminal the rule with which its shortest yield begins.
+#[derive(Drop)]
+pub(crate) struct Yields {
+    /// The rules, with the lengths of the yields.
+    shortest: Vec<Option<Shortest>>,
+}
+
+/// How the shortest yield of a nonterminal begins.
+#[derive(Clone, Copy)]
+struct Shortest {
+    /// The rule.
+    rule: usize,
+    /// How many tokens there are.
+    length: u64,
+}
+
+impl Yields {
+    /// The shortest yields of a grammar's nonterminals.
+    pub(crate) fn of(alloc: Global, reduced: &Reduced<'_>) -> Result<Yields, AllocError> {
+        let nonterminals = reduced.grammar().accept().0 as usize + 1;
+        let mut yields = Yields {
+            shortest: vec![in alloc; None; nonterminals]?,
+        };
+        for _ in 0..ROUNDS {
+            if !yields.shorten(reduced) {
+                break;
+            }
+        }
+        Ok(yields)
+    }
+
+    /// Takes each rule by which a shorter yield begins, and answers whether there was one.
+    fn shorten(&mut self, reduced: &Reduced<'_>) -> bool {
+        let rules = reduced.grammar().rules();
+        let mut shortened = false;
+        for rule in 0..rules.len() {
+            if reduced.is_kept(rule) {
+                let length = self.length(rules[rule].body());
+                let left = rules[rule].left().0 as usize;
+                shortened |= self.take(left, rule, length);
+            }
+        }
+        shortened
+    }
+
+    /// Takes a rule for its left side, if the yield of this length is shorter.
+    fn take(&mut self, left: usize, rule: usize, length: Option<u64>) -> bool {
+        let (Some(length), Some(shortest)) = (length, self.shortest.get_mut(left)) else {
+            return false;
+        };
+        let shorter = shortest.is_none_or(|known| length < known.length);
+        if shorter {
+            *shortest = Some(Shortest { rule, length });
+        }
+        shorter
+    }
+
+    /// How many tokens the shortest yields of symbols have together, if they are known.
+    fn length(&self, symbols: &[Symbol]) -> Option<u64> {
+        let mut length: u64 = 0;
+        for symbol in symbols {
+            length = length.saturating_add(match symbol {
+                Symbol::Terminal(_) => 1,
+                Symbol::Nonterminal(number) => self.shortest_of(*number)?.length,
+            });
+        }
+        Some(length)
+    }
+
+    /// How the shortest yield of a nonterminal begins.
+    fn shortest_of(&self, symbol: Sym) -> Option<Shortest> {
+        *self.shortest.get(symbol.0 as usize)?
+    }
+
+    /// Says the shortest yield of symbols, a space before each token. Of a long one nothing is said behind three dots.
+    pub(crate) fn say(
+        &self,
+        alloc: Global,
+        page: &mut Page,
+        spec: &Spec,
+        symbols: &[Symbol],
+    ) -> Result<(), OutOfMemory> {
+        let mut ahead = Vec::new(alloc);
+        push_reversed(&mut ahead, symbols)?;
+        for _ in 0..MOST {
+            match ahead.pop() {
+                None => return Ok(()),
+                Some(Symbol::Terminal(number)) => {
+                    page.say(b" ")?;
+                    page.say_terminal(spec, number)?;
+                }
+                Some(Symbol::Nonterminal(number)) => {
+                    let rule = self
+                        .shortest_of(number)
+                        .and_then(|it| spec.grammar().rules().get(it.rule));
+                    if let Some(rule) = rule {
+                        push_reversed(&mut ahead, rule.body())?;
+                    }
+                }
+            }
+        }
+        page.say(b" ..")
+    }
+}
+
+/// Adds symbols, the last one first.
+fn push_reversed(list: &mut Vec<Symbol>, symbols: &[Symbol]) -> Result<(), AllocError> {
+    for symbol in symbols.iter().rev() {
+        list.push(*symbol)?;
+    }
+    Ok(())
+}

@@ -1,0 +1,48 @@
+ghost use Rattle.std.specs.Prelude.{◌≤◌, ◌+◌, length, IfOk};
+ghost use Rattle.std.specs.List.{All, AllPairs};
+
+use crate::part::Part;
+use ly_base::{Language, after_gap};
+use std::alloc::{AllocError, Global};
+
+/// Where a word stands in a file.
+#[derive(Clone, Copy, Debug, PartialEq, Eq)]
+pub struct WordSpan {
+    /// The place of its first byte, counted from 0.
+    pub start: usize,
+    /// How many bytes it has.
+    pub length: usize,
+}
+
+impl WordSpan {
+    /// The word, in the text where it stands; nothing of one that is shorter.
+    pub fn word(self, text: &[u8]) -> &[u8] {
+        text.get(self.start..self.start.saturating_add(self.length))
+            .unwrap_or(b"")
+    }
+}
+
+/// Where each word of a yacc file stands, up to the second `%%`, to the end, or to the first place where no word
+/// stands. Reading a file doesn't ask for it.
+pub fn word_spans(alloc: Global, text: &[u8]) -> Result<Vec<WordSpan>, AllocError>
+    ensures within { IfOk result (λ spans. All (λ s. s.start + s.length ≤ length text.now) spans.items) }
+    ensures rising { IfOk result (λ spans. AllPairs (λ s t. s.start + s.length ≤ t.start) spans.items) }
+{
+    let mut spans = Vec::new(alloc);
+    let mut part = Part::Declarations;
+    let mut rest = text;
+    while !part.is_free() {
+        let front = after_gap(rest, Language::Yacc);
+        let (word, behind) = part.word(front);
+        if word.is_end() || word.is_other() {
+            return Ok(spans);
+        }
+        spans.push(WordSpan {
+            start: text.len() - front.len(),
+            length: front.len() - behind.len(),
+        })?;
+        part = part.behind(word);
+        rest = behind;
+    }
+    Ok(spans)
+}
