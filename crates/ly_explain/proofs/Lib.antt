@@ -12,6 +12,7 @@ pub mod ReductionLemmas
 pub mod RestLemmas
 pub mod RisingLemmas
 pub mod SearchLemmas
+pub mod SentenceLemmas
 pub mod StepLemmas
 pub mod UnderwayLemmas
 pub mod UnmarkedLemmas

@@ -61,11 +61,6 @@ body_marked body n old new past added = added_as (ByStepBefore (StandsAt (map sy
     contained : (w : List Symbol) (k : ℕ) (X : Symbol) → slice_get w k ≡ Some X → Contains w X
     contained w k X at = (k, slice_get_within w k X at, get_or_from_slice_get w k X X at)
 
--- the rules of the grammar
-pub rule_at : (s : Spec) (rules : List Rule) → map (λ r. Some r) rules ≡ s.grammar.rules → (k : ℕ) (d r : Rule)
-    → k < length rules → slice_index_or rules k d ≡ r → IsRule s.grammar k r
-rule_at s rules these k d r lt e = ap (λ rs. slice_get rs k) (sym these) ∙ shown (λ x. Some x) rules k d r lt e
-
 pub stands_in : (s : Spec) (k : ℕ) (r : Rule) → IsRule s.grammar k r → (body : List Symbol) → body ≡ r.body → (t : ℕ)
     → Contains body (terminal t) ↔ StandsIn s k t
 stands_in s k r rule body e t = (

@@ -4,3 +4,4 @@ pub mod Examples
 pub mod Laws
 pub mod Openings
 pub mod Private
+pub mod Sentences

@@ -1,6 +1,7 @@
 pub mod FirstBytes
 pub mod Grounds
 pub mod Kept
+pub mod Leftmost
 pub mod Lists
 pub mod Marks
 pub mod Matched

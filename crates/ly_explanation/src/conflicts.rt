@@ -1,9 +1,11 @@
 //! The conflicts: what is done, why precedence doesn't settle it, and an example at which both actions are possible.
 ghost use Rattle.std.specs.Prelude.{◌≡◌};
 
-use crate::drawing::{Drawing, behind_dot, core_of};
+use crate::ambiguity::Finder;
+use crate::drawing::{Drawing, behind_dot, core_of, say_way};
 use crate::explaining::Accepted;
 use crate::page::Page;
+use crate::trees::say_ambiguity;
 use crate::yields::Yields;
 use ly_base::{OutOfMemory, Sym};
 use ly_explain::{Claim, Example, Examples};
@@ -28,6 +30,8 @@ struct Teller<'a> {
     examples: &'a Examples<'a>,
     /// The shortest yields of nonterminals.
     yields: &'a Yields,
+    /// What sentences with two trees are sought by.
+    finder: Finder<'a>,
 }
 
 /// Says how many conflicts there are, and each with an example. Those of one state that differ in the terminal alone
@@ -47,9 +51,15 @@ pub(crate) fn say_conflicts(
     if conflicts.is_empty() {
         return Ok(());
     }
+    let lr0 = resolved.lr0();
+    let yields = Yields::of(alloc, lr0.reduced())?;
     let teller = Teller {
         examples: &Examples::new(alloc, resolved)?,
-        yields: &Yields::of(alloc, resolved.lr0().reduced())?,
+        yields: &yields,
+        finder: Finder {
+            lr0,
+            yields: &yields,
+        },
     };
     teller.say_all(alloc, page)
 }
@@ -283,52 +293,59 @@ impl<'a> Teller<'a> {
             page.say_terminal(spec, conflict.terminal)?;
             page.say(b"\n")?;
         }
+        let claims = (self.rival(alloc, conflict)?, self.reduction(conflict.rule));
+        let ways = (drawing.way(alloc, claims.0)?, drawing.way(alloc, claims.1)?);
         match (conflict.kind, conflict.choice) {
-            (ConflictKind::ReduceReduce, Action::Reduce(rule)) => {
-                self.say_reduction(alloc, page, &drawing, rule)?;
-            }
-            _ => self.say_shift(alloc, page, &drawing, conflict)?,
+            (ConflictKind::ReduceReduce, Action::Reduce(rule)) => say_label(page, rule)?,
+            _ => page.say(b"    shift:  ")?,
         }
-        self.say_reduction(alloc, page, &drawing, conflict.rule)
+        say_way(alloc, page, spec, &ways.0)?;
+        page.say(b"\n")?;
+        say_label(page, conflict.rule)?;
+        say_way(alloc, page, spec, &ways.1)?;
+        page.say(b"\n")?;
+        match self.finder.find(alloc, &ways.0, &ways.1)? {
+            Some(ambiguity) => say_ambiguity(alloc, page, spec, &ambiguity),
+            None => page.say(
+                b"    No sentence with two trees was found within the bound of the search.\n",
+            ),
+        }
     }
 
-    /// Says how a reduction by a rule comes about.
-    fn say_reduction(
-        &self,
-        alloc: Global,
-        page: &mut Page,
-        drawing: &Drawing<'_>,
-        rule: usize,
-    ) -> Result<(), OutOfMemory> {
+    /// What is claimed where a reduction by a rule is possible.
+    fn reduction(&self, rule: usize) -> Claim {
         let dot = match self.spec().grammar().rules().get(rule) {
             Some(rule) => rule.body().len(),
             None => 0,
         };
-        page.say(b"    rule ")?;
-        page.say_number(rule as u64)?;
-        page.say(if rule < 10 { b": " } else { b":" })?;
-        drawing.say(alloc, page, self.spec(), Claim::With(Item { rule, dot }))?;
-        page.say(b"\n")
+        Claim::With(Item { rule, dot })
     }
 
-    /// Says how the shift comes about, by the first item that has the terminal behind its dot.
-    fn say_shift(
-        &self,
-        alloc: Global,
-        page: &mut Page,
-        drawing: &Drawing<'_>,
-        conflict: &Conflict,
-    ) -> Result<(), OutOfMemory> {
+    /// What is claimed for what stands against the rule of a conflict: of a shift, by the first item that has the
+    /// terminal behind its dot.
+    fn rival(&self, alloc: Global, conflict: &Conflict) -> Result<Claim, OutOfMemory> {
+        if let (ConflictKind::ReduceReduce, Action::Reduce(rule)) = (
+            conflict.kind,
+            conflict.choice,
+        ) {
+            return Ok(self.reduction(rule));
+        }
         let lr0 = self.resolved().lr0();
         let core = core_of(alloc, lr0, conflict.state)?;
         let shifted = core.iter().find(|item| behind_dot(lr0.reduced(), **item)
             == Some(Symbol::Terminal(conflict.terminal)));
-        page.say(b"    shift:  ")?;
-        if let Some(item) = shifted {
-            drawing.say(alloc, page, self.spec(), Claim::InCore(*item))?;
-        }
-        page.say(b"\n")
+        Ok(match shifted {
+            Some(item) => Claim::InCore(*item),
+            None => Claim::Settled,
+        })
     }
+}
+
+/// Says which rule it is that a reduction is drawn of.
+fn say_label(page: &mut Page, rule: usize) -> Result<(), OutOfMemory> {
+    page.say(b"    rule ")?;
+    page.say_number(rule as u64)?;
+    page.say(if rule < 10 { b": " } else { b":" })
 }
 
 /// Whether the conflict at a place belongs to a group.

@@ -1,10 +1,13 @@
 //! What is doubtful in files that are accepted.
 ghost use Rattle.ly_subset.specs.Automaton.{IsBreadthFirst};
 
+use crate::decided::Decided;
 use crate::explaining::Accepted;
+use crate::faults::lex_units::indented_lines;
 use crate::page::Page;
 use crate::patterns::surprises;
 use crate::places::Places;
+use crate::scanner::say_other_bytes;
 use ly_base::{OutOfMemory, Sym};
 use ly_explain::{unmatched_rules, unreduced_rules, unreturned_terminals, unused_terminals};
 use ly_join::Spec;
@@ -34,14 +37,17 @@ pub(crate) fn say_doubts(
     let teller = Teller { files, places };
     let before = page.len();
     teller.say_surprises(alloc, page)?;
+    teller.say_indented(alloc, page)?;
     teller.say_unmatched(alloc, page)?;
     teller.say_removed(page)?;
     teller.say_unreduced(alloc, page)?;
     teller.say_terminals(alloc, page)?;
+    teller.say_declared_again(alloc, page)?;
+    teller.say_undecided(alloc, page)?;
     if page.len() == before {
         page.say(b"No doubts.\n")?;
     }
-    Ok(())
+    say_other_bytes(alloc, page, files)
 }
 
 impl Teller<'_> {
@@ -65,11 +71,16 @@ impl Teller<'_> {
 
     /// Says the place where a terminal is named first, and the terminal.
     fn say_terminal(&self, page: &mut Page, terminal: Sym) -> Result<(), OutOfMemory> {
+        self.say_terminal_line(page, terminal)?;
+        page.say_terminal(self.spec(), terminal)
+    }
+
+    /// Says the place where a terminal is named first.
+    fn say_terminal_line(&self, page: &mut Page, terminal: Sym) -> Result<(), OutOfMemory> {
         let line = self
             .places
             .line_of_terminal(self.spec(), self.files.yacc.bytes, terminal);
-        page.say_line_of(self.files.yacc, line)?;
-        page.say_terminal(self.spec(), terminal)
+        page.say_line_of(self.files.yacc, line)
     }
 
     /// Says what in the patterns of the lex file means something else than it may seem to.
@@ -151,6 +162,55 @@ impl Teller<'_> {
             page.say(b"\n")?;
         }
         self.say_more(page, unreturned.len(), b"are returned by no rule\n")
+    }
+
+    /// Says which lines among the rules of the lex file aren't used.
+    fn say_indented(&self, alloc: Global, page: &mut Page) -> Result<(), OutOfMemory> {
+        for line in indented_lines(alloc, self.files.lex.bytes)?
+            .iter()
+            .take(MOST)
+        {
+            page.say_line_of(self.files.lex, *line)?;
+            page.say(b"this line begins with a blank, and so is no rule: it is not used\n")?;
+        }
+        Ok(())
+    }
+
+    /// Says which tokens are declared more than once.
+    fn say_declared_again(&self, alloc: Global, page: &mut Page) -> Result<(), OutOfMemory> {
+        let again = self.places.declared_again(alloc, self.files.yacc.bytes)?;
+        for (line, word) in again.iter().take(MOST) {
+            page.say_line_of(self.files.yacc, *line)?;
+            page.say(word)?;
+            page.say(b" is declared before\n")?;
+        }
+        Ok(())
+    }
+
+    /// Says which precedences decide nothing: those of terminals, and those that a `%prec` gives.
+    fn say_undecided(&self, alloc: Global, page: &mut Page) -> Result<(), OutOfMemory> {
+        let decided = Decided::of(alloc, self.files.resolved)?;
+        let spec = self.spec();
+        let mut said = 0;
+        for number in 0..spec.grammar().terminals() {
+            let ranked = matches!(spec.precedences().get(number as usize), Some(Some(_)));
+            if ranked && said < MOST && !decided.by_terminal(spec, Sym(number)) {
+                self.say_terminal_line(page, Sym(number))?;
+                page.say(b"the precedence of ")?;
+                page.say_terminal(spec, Sym(number))?;
+                page.say(b" decides nothing\n")?;
+                said = said.saturating_add(1);
+            }
+        }
+        for rule in self.places.ranked_rules().iter().take(MOST) {
+            if !decided.by_rule(*rule) {
+                page.say_line_of(self.files.yacc, self.places.line_of_rule(*rule))?;
+                page.say(b"the %prec of rule ")?;
+                page.say_number(*rule as u64)?;
+                page.say(b" decides nothing\n")?;
+            }
+        }
+        Ok(())
     }
 
     /// Whether a terminal stands behind a `%prec`.

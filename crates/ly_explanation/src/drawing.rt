@@ -59,26 +59,9 @@ impl<'a> Drawing<'a> {
         })
     }
 
-    /// Draws the rules that are under way where an item is valid behind the string: each in brackets, with a dot where
-    /// the string ends. It is false, and nothing is said, where that isn't found.
-    pub(crate) fn say(
-        &self,
-        alloc: Global,
-        page: &mut Page,
-        spec: &Spec,
-        last: Claim,
-    ) -> Result<bool, OutOfMemory> {
-        let way = self.way(alloc, last)?;
-        if way.is_empty() {
-            return Ok(false);
-        }
-        say_way(alloc, page, spec, &way)?;
-        Ok(true)
-    }
-
-    /// The claims from that on the start to the last one, each of which is true by the one before it; none where that
-    /// isn't found.
-    fn way(&self, alloc: Global, last: Claim) -> Result<Vec<Item>, OutOfMemory> {
+    /// The way to a claim behind the string: the items of the claims from that on the start to this one, each of which
+    /// is true by the one before it; none where that isn't found.
+    pub(crate) fn way(&self, alloc: Global, last: Claim) -> Result<Vec<Item>, OutOfMemory> {
         let mut found = IndexMap::new(alloc);
         let first = Claimed {
             length: self.string.len(),
@@ -148,7 +131,7 @@ impl<'a> Drawing<'a> {
                 found.push(in_core)?;
                 continue;
             }
-            let (begins, nullable) = follows(reduced, *waiting, self.terminal);
+            let (begins, nullable) = begin(reduced, rest_of(reduced, *waiting), self.terminal);
             if begins {
                 found.push(in_core)?;
             }
@@ -215,13 +198,10 @@ pub(crate) fn behind_dot(reduced: &Reduced<'_>, item: Item) -> Option<Symbol> {
     rule.body().get(item.dot).copied()
 }
 
-/// Whether a terminal begins what stands behind the symbol behind an item's dot, and whether that may be empty.
-fn follows(reduced: &Reduced<'_>, item: Item, terminal: Sym) -> (bool, bool) {
+/// Whether a terminal begins what symbols yield, and whether that may be empty.
+pub(crate) fn begin(reduced: &Reduced<'_>, symbols: &[Symbol], terminal: Sym) -> (bool, bool) {
     let grammar = reduced.grammar();
-    let Some(rule) = grammar.rules().get(item.rule) else {
-        return (false, false);
-    };
-    for symbol in rule.body().iter().skip(item.dot.saturating_add(1)) {
+    for symbol in symbols {
         match symbol {
             Symbol::Terminal(number) => return (*number == terminal, false),
             Symbol::Nonterminal(number) => {
@@ -238,6 +218,17 @@ fn follows(reduced: &Reduced<'_>, item: Item, terminal: Sym) -> (bool, bool) {
         }
     }
     (false, true)
+}
+
+/// What stands behind the symbol behind an item's dot.
+fn rest_of<'a>(reduced: &Reduced<'a>, item: Item) -> &'a [Symbol] {
+    match reduced.grammar().rules().get(item.rule) {
+        Some(rule) => rule
+            .body()
+            .get(item.dot.saturating_add(1)..)
+            .unwrap_or_default(),
+        None => &[],
+    }
 }
 
 /// The items of the claims from the one at a place back to the first, each found from the next.
@@ -263,9 +254,17 @@ fn way_back(
     Ok(way)
 }
 
-/// Says the rules of a way: a bracket where one begins below another, the symbols before the dots, and at the end a dot
-/// and what stands behind it in each rule, from the inmost one on.
-fn say_way(alloc: Global, page: &mut Page, spec: &Spec, way: &[Item]) -> Result<(), OutOfMemory> {
+/// Draws the rules of a way: a bracket where one begins below another, the symbols before the dots, and at the end a dot
+/// and what stands behind it in each rule, from the inmost one on. Of no way nothing is said.
+pub(crate) fn say_way(
+    alloc: Global,
+    page: &mut Page,
+    spec: &Spec,
+    way: &[Item],
+) -> Result<(), OutOfMemory> {
+    if way.is_empty() {
+        return Ok(());
+    }
     let mut open: Vec<Item> = Vec::new(alloc);
     let mut opened = false;
     for item in way {

@@ -188,7 +188,7 @@ fn told(
     let mut states = None;
     if wish.states {
         let mut page = Page::new(alloc);
-        say_scanner(&mut page, files)?;
+        say_scanner(alloc, &mut page, files)?;
         say_states(alloc, &mut page, files, tables)?;
         states = Some(page.into_bytes());
     }

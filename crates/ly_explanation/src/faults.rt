@@ -12,7 +12,7 @@ mod lex_advice;
 mod lex_faults;
 mod lex_mending;
 mod lex_places;
-mod lex_units;
+pub(crate) mod lex_units;
 mod location;
 mod nearest;
 mod pieces;

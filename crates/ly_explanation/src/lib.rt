@@ -11,7 +11,10 @@
 //! Left out: files and devices, which are the program's.
 #![tactic(auto)]
 
+mod ambiguity;
+mod conditions;
 mod conflicts;
+mod decided;
 mod doubts;
 mod drawing;
 mod explaining;
@@ -24,6 +27,7 @@ mod places;
 mod rules;
 mod scanner;
 mod states;
+mod trees;
 mod yields;
 
 pub use explaining::{Explanation, Wish, explain};

@@ -1,4 +1,5 @@
 //! Where the rules and the terminals of a yacc file stand.
+use indexmap::IndexSet;
 use ly_base::{OutOfMemory, Sym, literal};
 use ly_join::{Spec, TerminalName};
 use ly_yaccread::{WordSpan, word_spans};
@@ -13,6 +14,8 @@ pub(crate) struct Places {
     words: Vec<PlacedWord>,
     /// The first of the words behind a `%prec`.
     ranks: Vec<WordSpan>,
+    /// The rules that have a `%prec`.
+    ranked: Vec<usize>,
 }
 
 /// How many words behind a `%prec` are looked at.
@@ -33,10 +36,12 @@ impl Places {
         let words = placed_words(alloc, text)?;
         let rules = rule_lines(alloc, text, &words)?;
         let ranks = ranks(alloc, text, &words)?;
+        let ranked = ranked_rules(alloc, text, &words)?;
         Ok(Places {
             rules,
             words,
             ranks,
+            ranked,
         })
     }
 
@@ -44,6 +49,41 @@ impl Places {
     pub(crate) fn line_of_rule(&self, rule: usize) -> u64 {
         let place = rule.checked_sub(1).and_then(|place| self.rules.get(place));
         place.copied().unwrap_or(1)
+    }
+
+    /// The rules that have a `%prec`, rising.
+    pub(crate) fn ranked_rules(&self) -> &[usize] {
+        &self.ranked
+    }
+
+    /// The words that a `%token` declares, and another one before them, with their lines.
+    pub(crate) fn declared_again<'t>(
+        &self,
+        alloc: Global,
+        text: &'t [u8],
+    ) -> Result<Vec<(u64, &'t [u8])>, OutOfMemory> {
+        let mut known = IndexSet::new(alloc);
+        let mut found = Vec::new(alloc);
+        let mut in_tokens = false;
+        for word in &self.words {
+            let bytes = word.span.word(text);
+            if bytes == b"%%".as_slice() {
+                break;
+            }
+            if bytes.starts_with(b"%") {
+                in_tokens = bytes == b"%token".as_slice();
+                continue;
+            }
+            if !in_tokens || !is_symbol(bytes) {
+                continue;
+            }
+            if known.contains(bytes) {
+                found.push((word.line, bytes))?;
+            } else {
+                known.insert(Vec::from_slice(alloc, bytes)?)?;
+            }
+        }
+        Ok(found)
     }
 
     /// Whether a terminal stands behind a `%prec`, and so is there to give a rule its precedence.
@@ -78,6 +118,17 @@ fn ranks(alloc: Global, text: &[u8], words: &[PlacedWord]) -> Result<Vec<WordSpa
     Ok(ranks)
 }
 
+/// Whether a word of a declaration is a name or a literal.
+fn is_symbol(word: &[u8]) -> bool {
+    match word.first() {
+        Some(first) => *first == b'\''
+            || *first == b'_'
+            || *first == b'.'
+            || first.is_ascii_alphabetic(),
+        None => false,
+    }
+}
+
 /// Whether a word names a terminal.
 fn names(word: &[u8], terminal: &TerminalName) -> bool {
     match terminal {
@@ -102,21 +153,55 @@ fn placed_words(alloc: Global, text: &[u8]) -> Result<Vec<PlacedWord>, OutOfMemo
     Ok(words)
 }
 
-/// The lines of the rules: a rule begins with a name before a colon, or with a bar.
+/// The lines of the rules.
 fn rule_lines(alloc: Global, text: &[u8], words: &[PlacedWord]) -> Result<Vec<u64>, OutOfMemory> {
     let mut lines = Vec::new(alloc);
-    let mut declared = false;
-    for (place, word) in words.iter().enumerate() {
-        let bytes = word.span.word(text);
-        if !declared {
-            declared = bytes == b"%%".as_slice();
-            continue;
-        }
-        let next = words.get(place.saturating_add(1));
-        let named = next.is_some_and(|next| next.span.word(text) == b":".as_slice());
-        if named || bytes == b"|".as_slice() {
+    let behind = behind_mark(text, words);
+    for (place, word) in behind.iter().enumerate() {
+        if begins_rule(text, behind, place) {
             lines.push(word.line)?;
         }
     }
     Ok(lines)
+}
+
+/// The rules that have a `%prec`.
+fn ranked_rules(
+    alloc: Global,
+    text: &[u8],
+    words: &[PlacedWord],
+) -> Result<Vec<usize>, OutOfMemory> {
+    let mut ranked = Vec::new(alloc);
+    let behind = behind_mark(text, words);
+    let mut rule: usize = 0;
+    for (place, word) in behind.iter().enumerate() {
+        if begins_rule(text, behind, place) {
+            rule = rule.saturating_add(1);
+        }
+        if word.span.word(text) == b"%prec".as_slice() {
+            ranked.push(rule)?;
+        }
+    }
+    Ok(ranked)
+}
+
+/// The words behind the first mark, which are those of the rules and of what stands behind them.
+fn behind_mark<'w>(text: &[u8], words: &'w [PlacedWord]) -> &'w [PlacedWord] {
+    let mark = words
+        .iter()
+        .position(|word| word.span.word(text) == b"%%".as_slice());
+    match mark {
+        Some(place) => words.get(place.saturating_add(1)..).unwrap_or_default(),
+        None => &[],
+    }
+}
+
+/// Whether a rule begins at a word: a name before a colon, or a bar.
+fn begins_rule(text: &[u8], words: &[PlacedWord], place: usize) -> bool {
+    let is = |place: usize, sought: &[u8]| {
+        words
+            .get(place)
+            .is_some_and(|word| word.span.word(text) == sought)
+    };
+    is(place.saturating_add(1), b":") || is(place, b"|")
 }

@@ -1,20 +1,30 @@
 //! The states of the scanner: which bytes it tells apart, where each condition begins, and where each state leads.
 ghost use Rattle.std.specs.Prelude.{◌<◌, length};
 
+use crate::conditions::known_conditions;
 use crate::explaining::Accepted;
 use crate::page::Page;
 use ly_base::OutOfMemory;
 use ly_subset::Dfa;
+use std::alloc::Global;
 
 /// Says the classes of bytes, the conditions and the states of the smallest scanner.
-pub(crate) fn say_scanner(page: &mut Page, files: Accepted<'_>) -> Result<(), OutOfMemory> {
+pub(crate) fn say_scanner(
+    alloc: Global,
+    page: &mut Page,
+    files: Accepted<'_>,
+) -> Result<(), OutOfMemory> {
     let dfa = files.dfa;
     page.say(b"Classes of bytes of the scanner:\n")?;
     for class in 0..dfa.classes() {
         page.say(b"    ")?;
         page.say_number(class as u64)?;
         page.say(b" ")?;
-        say_bytes(page, dfa, class)?;
+        let mut bytes: Vec<bool> = Vec::new(alloc);
+        for byte in 0..=255u8 {
+            bytes.push(usize::from(dfa.class(byte)) == class)?;
+        }
+        say_bytes(page, &bytes)?;
         page.say(b"\n")?;
     }
     page.say(b"\nConditions:\n")?;
@@ -29,26 +39,67 @@ pub(crate) fn say_scanner(page: &mut Page, files: Accepted<'_>) -> Result<(), Ou
     page.say(b"\n")
 }
 
-/// Says the bytes of a class, those that follow one another together.
-fn say_bytes(page: &mut Page, dfa: &Dfa, class: usize) -> Result<(), OutOfMemory> {
-    let mut last: Option<u8> = None;
+/// Says the bytes that are marked, those that follow one another together.
+fn say_bytes(page: &mut Page, marks: &[bool]) -> Result<(), OutOfMemory> {
+    let is_marked = |byte: Option<u8>| {
+        byte.is_some_and(|byte| marks.get(usize::from(byte)) == Some(&true))
+    };
     for byte in 0..=255u8 {
-        if usize::from(dfa.class(byte)) != class {
+        if !is_marked(Some(byte)) {
             continue;
         }
-        let goes_on = last.is_some() && last == byte.checked_sub(1);
-        let next = byte.checked_add(1);
-        let ends = next.is_none_or(|next| usize::from(dfa.class(next)) != class);
+        let goes_on = is_marked(byte.checked_sub(1));
         if !goes_on {
             page.say(b" ")?;
             page.say_byte(byte)?;
-        } else if ends {
+        } else if !is_marked(byte.checked_add(1)) {
             page.say(b"-")?;
             page.say_byte(byte)?;
         }
-        last = Some(byte);
     }
     Ok(())
+}
+
+/// Says with which bytes no match begins, in each condition.
+pub(crate) fn say_other_bytes(
+    alloc: Global,
+    page: &mut Page,
+    files: Accepted<'_>,
+) -> Result<(), OutOfMemory> {
+    let names = known_conditions(alloc, files.lex.bytes)?;
+    for condition in 0..files.file.conditions {
+        let mut others: Vec<bool> = Vec::new(alloc);
+        for byte in 0..=255u8 {
+            others.push(!begins(files.dfa, condition, byte))?;
+        }
+        if others.contains(&true) {
+            page.say(b"In ")?;
+            say_name(page, &names, condition)?;
+            page.say(b" no match begins with")?;
+            say_bytes(page, &others)?;
+            page.say(b"\n")?;
+        }
+    }
+    Ok(())
+}
+
+/// Whether a match may begin with a byte in a condition, where a line begins or elsewhere.
+fn begins(dfa: &Dfa, condition: u32, byte: u8) -> bool {
+    let class = usize::from(dfa.class(byte));
+    [false, true].iter().any(|line| dfa
+        .start(condition, *line)
+        .is_some_and(|state| dfa.next(state, class).is_some()))
+}
+
+/// Says the name of a condition, or its number where that isn't known.
+fn say_name(page: &mut Page, names: &[&[u8]], condition: u32) -> Result<(), OutOfMemory> {
+    match names.get(condition as usize) {
+        Some(name) => page.say(name),
+        None => {
+            page.say(b"condition ")?;
+            page.say_number(u64::from(condition))
+        }
+    }
 }
 
 /// Says where a condition begins.

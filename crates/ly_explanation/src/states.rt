@@ -90,7 +90,7 @@ impl<'a> Teller<'a> {
         page.say_number(item.rule as u64)?;
         page.say(b"  ")?;
         page.say_rule(self.spec(), item.rule, Some(item.dot))?;
-        if let Some(place) = self.place_of(state, item) {
+        if let Some(place) = place_of(self.lr0(), self.lookaheads, state, item) {
             page.say(b"   with")?;
             for terminal in 0..self.spec().grammar().terminals() {
                 if self.lookaheads.contains(state, place, Sym(terminal)) {
@@ -100,25 +100,6 @@ impl<'a> Teller<'a> {
             }
         }
         page.say(b"\n")
-    }
-
-    /// The place of an item with its dot at the end among the complete rules of a state.
-    fn place_of(&self, state: StateNo, item: Item) -> Option<usize>
-        requires state { state.0 < length self.now.resolved.now.automaton.states }
-        requires sets { AreLookaheads self.now.resolved.now.automaton self.now.lookaheads.now }
-        ensures { IfSome result (λ place. HasSet self.now.lookaheads.now state.0 place) }
-    {
-        let rule = self.spec().grammar().rules().get(item.rule)?;
-        if rule.body().len() != item.dot {
-            return None;
-        }
-        let complete = self.lr0().complete(state);
-        for place in 0..complete.len() {
-            if complete[place] == item.rule {
-                return Some(place);
-            }
-        }
-        None
     }
 
     /// Says what is done before each terminal: what isn't the default reduction by itself, and that behind it.
@@ -181,6 +162,30 @@ impl<'a> Teller<'a> {
         }
         Ok(())
     }
+}
+
+/// The place of an item with its dot at the end among the complete rules of a state.
+pub(crate) fn place_of(
+    lr0: &Lr0<'_>,
+    lookaheads: &Lookaheads,
+    state: StateNo,
+    item: Item,
+) -> Option<usize>
+    requires state { state.0 < length lr0.now.states }
+    requires sets { AreLookaheads lr0.now lookaheads.now }
+    ensures { IfSome result (λ place. HasSet lookaheads.now state.0 place) }
+{
+    let rule = lr0.reduced().grammar().rules().get(item.rule)?;
+    if rule.body().len() != item.dot {
+        return None;
+    }
+    let complete = lr0.complete(state);
+    for place in 0..complete.len() {
+        if complete[place] == item.rule {
+            return Some(place);
+        }
+    }
+    None
 }
 
 /// Whether an entry is the default reduction.

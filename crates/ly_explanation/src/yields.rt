@@ -2,7 +2,7 @@
 use crate::page::Page;
 use ly_base::{OutOfMemory, Sym};
 use ly_grammar::Reduced;
-use ly_join::{Spec, Symbol};
+use ly_join::{Grammar, Spec, Symbol};
 use std::alloc::{AllocError, Global};
 
 /// How often the rules are gone through at most. A nonterminal that needs more has no yield here.
@@ -25,6 +25,17 @@ struct Shortest {
     rule: usize,
     /// How many tokens there are.
     length: u64,
+}
+
+/// Trees of symbols.
+#[derive(Drop)]
+pub(crate) struct Derived {
+    /// Their rules, each in front of those below it.
+    pub(crate) rules: Vec<usize>,
+    /// Their tokens.
+    pub(crate) tokens: Vec<Sym>,
+    /// Whether that is all of them, and not only how they begin.
+    pub(crate) whole: bool,
 }
 
 impl Yields {
@@ -85,6 +96,39 @@ impl Yields {
         *self.shortest.get(symbol.0 as usize)?
     }
 
+    /// The trees of symbols by which they yield so few tokens.
+    pub(crate) fn derive(
+        &self,
+        alloc: Global,
+        grammar: &Grammar,
+        symbols: &[Symbol],
+    ) -> Result<Derived, AllocError> {
+        let mut derived = Derived {
+            rules: Vec::new(alloc),
+            tokens: Vec::new(alloc),
+            whole: false,
+        };
+        let mut ahead = Vec::new(alloc);
+        push_reversed(&mut ahead, symbols)?;
+        for _ in 0..MOST {
+            match ahead.pop() {
+                None => {
+                    derived.whole = true;
+                    break;
+                }
+                Some(Symbol::Terminal(number)) => derived.tokens.push(number)?,
+                Some(Symbol::Nonterminal(number)) => {
+                    let rule = self.shortest_of(number).map_or(0, |it| it.rule);
+                    derived.rules.push(rule)?;
+                    if let Some(rule) = grammar.rules().get(rule) {
+                        push_reversed(&mut ahead, rule.body())?;
+                    }
+                }
+            }
+        }
+        Ok(derived)
+    }
+
     /// Says the shortest yield of symbols, a space before each token. Of a long one nothing is said behind three dots.
     pub(crate) fn say(
         &self,
@@ -93,31 +137,21 @@ impl Yields {
         spec: &Spec,
         symbols: &[Symbol],
     ) -> Result<(), OutOfMemory> {
-        let mut ahead = Vec::new(alloc);
-        push_reversed(&mut ahead, symbols)?;
-        for _ in 0..MOST {
-            match ahead.pop() {
-                None => return Ok(()),
-                Some(Symbol::Terminal(number)) => {
-                    page.say(b" ")?;
-                    page.say_terminal(spec, number)?;
-                }
-                Some(Symbol::Nonterminal(number)) => {
-                    let rule = self
-                        .shortest_of(number)
-                        .and_then(|it| spec.grammar().rules().get(it.rule));
-                    if let Some(rule) = rule {
-                        push_reversed(&mut ahead, rule.body())?;
-                    }
-                }
-            }
+        let derived = self.derive(alloc, spec.grammar(), symbols)?;
+        for token in &derived.tokens {
+            page.say(b" ")?;
+            page.say_terminal(spec, *token)?;
         }
-        page.say(b" ..")
+        if derived.whole {
+            Ok(())
+        } else {
+            page.say(b" ..")
+        }
     }
 }
 
 /// Adds symbols, the last one first.
-fn push_reversed(list: &mut Vec<Symbol>, symbols: &[Symbol]) -> Result<(), AllocError> {
+pub(crate) fn push_reversed(list: &mut Vec<Symbol>, symbols: &[Symbol]) -> Result<(), AllocError> {
     for symbol in symbols.iter().rev() {
         list.push(*symbol)?;
     }

@@ -5,7 +5,8 @@ use crate::files::{STANDARD, read_file, write_file, write_to};
 use ly_base::Limits;
 use ly_explanation::{Named, Wish, explain};
 use std::alloc::Global;
-use std::io::Write;
+use std::fs;
+use std::io::{self, Read, Write};
 use std::rt::Files;
 
 /// Writes to standard output what there is to say of a lex file and a yacc file, and, where they are accepted, the
@@ -17,8 +18,8 @@ pub fn explain_files<'a, F: Files, O: Write>(
     paths: ExplainPaths<'a>,
     output: &mut O,
 ) -> Result<bool, Failure<'a>> {
-    let lex = read_file(files, alloc, paths.lex)?;
-    let yacc = read_file(files, alloc, paths.yacc)?;
+    let lex = read_or_say_why(files, alloc, paths.lex)?;
+    let yacc = read_or_say_why(files, alloc, paths.yacc)?;
     let wish = Wish {
         states: paths.states.is_some(),
         picture: paths.graph.is_some(),
@@ -40,4 +41,27 @@ pub fn explain_files<'a, F: Files, O: Write>(
     }
     write_to(output, STANDARD, &explanation.text)?;
     Ok(explanation.accepted)
+}
+
+/// Reads a file whole. A failure has the system's reason, where a second look at the file finds one.
+fn read_or_say_why<'a, F: Files>(
+    files: &F,
+    alloc: Global,
+    path: &'a str,
+) -> Result<Vec<u8>, Failure<'a>> {
+    match read_file(files, alloc, path) {
+        Err(Failure::CannotRead(path)) => Err(match reason(files, path) {
+            Some(reason) => Failure::Unreadable(path, reason),
+            None => Failure::CannotRead(path),
+        }),
+        read => read,
+    }
+}
+
+/// Why a file can't be opened, or its first byte can't be read.
+fn reason<F: Files>(files: &F, path: &str) -> Option<io::Error> {
+    match fs::open(files, path) {
+        Ok(mut file) => file.read(&mut [0]).err(),
+        Err(reason) => Some(reason),
+    }
 }

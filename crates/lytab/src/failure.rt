@@ -21,6 +21,8 @@ const DEVICE_OR_MEMORY: u8 = 3;
 pub enum Failure<'a> {
     /// The file of this path, or standard input, can't be read.
     CannotRead(&'a str),
+    /// The file of this path can't be read, for this reason.
+    Unreadable(&'a str, io::Error),
     /// The file of this path, or standard output, can't be written.
     CannotWrite(&'a str),
     /// The lex file, the yacc file, or both together are refused.
@@ -79,6 +81,7 @@ fn status_of(failure: &Failure<'_>) -> u8
 {
     match failure {
         Failure::CannotRead(_)
+        | Failure::Unreadable(..)
         | Failure::CannotWrite(_)
         | Failure::Refused(GenFault::Write { .. } | GenFault::OutOfMemory)
         | Failure::Tables(TableFault::OutOfMemory)
@@ -93,6 +96,7 @@ fn push_line(out: &mut Vec<u8>, failure: &Failure<'_>) -> io::Result<()> {
     out.write_all(b"lytab: ")?;
     match failure {
         Failure::CannotRead(path) => writeln!(out, "cannot read {path}"),
+        Failure::Unreadable(path, reason) => writeln!(out, "cannot read {path}: {reason}"),
         Failure::CannotWrite(path) => writeln!(out, "cannot write {path}"),
         Failure::Refused(fault) => push_refusal(out, fault),
         Failure::Tables(fault) => push_table_fault(out, fault),

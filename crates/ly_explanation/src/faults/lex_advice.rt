@@ -1,6 +1,6 @@
 //! What to write in place of what a lex file is refused for.
+use crate::conditions::known_conditions;
 use crate::faults::advice::Advice;
-use crate::faults::lex_mending::known_conditions;
 use crate::faults::lex_places::{defined_names, place_of};
 use crate::faults::lex_units::{Kind, Unit, action_start, first_line};
 use crate::faults::location::{Location, from_place, line_start};

@@ -1,9 +1,10 @@
 //! How a fault of a lex file is mended, so that what stands behind it can be read.
+use crate::conditions::{known_conditions, words};
 use crate::faults::lex_places::defined_names;
 use crate::faults::lex_units::{Kind, Unit, first_line};
 use crate::faults::location::{from_place, line_start};
 use crate::faults::nearest::MOST_NAMES;
-use ly_base::{Language, OutOfMemory, is_blank, leading_name};
+use ly_base::{Language, OutOfMemory, leading_name};
 use ly_lexread::LexFault;
 use std::alloc::Global;
 
@@ -63,32 +64,6 @@ fn new_conditions(alloc: Global, text: &[u8], unit: Unit) -> Result<Vec<u8>, Out
         declaration.clear();
     }
     Ok(declaration)
-}
-
-/// The names of conditions that lines declare, and that of the initial one, as far as there are not too many.
-pub(crate) fn known_conditions(alloc: Global, text: &[u8]) -> Result<Vec<&[u8]>, OutOfMemory> {
-    let mut known: Vec<&[u8]> = Vec::new(alloc);
-    known.push(b"INITIAL")?;
-    for line in text.split(|byte| *byte == b'\n') {
-        if matches!(line, [b'%', b's' | b'S' | b'x' | b'X', ..]) {
-            let room = MOST_NAMES.saturating_sub(known.len());
-            for word in words(alloc, line)?.iter().skip(1).take(room) {
-                known.push(*word)?;
-            }
-        }
-    }
-    Ok(known)
-}
-
-/// The words of a line, with blanks between them.
-fn words(alloc: Global, line: &[u8]) -> Result<Vec<&[u8]>, OutOfMemory> {
-    let mut words: Vec<&[u8]> = Vec::new(alloc);
-    for word in line.split(|byte| is_blank(*byte)) {
-        if !word.is_empty() {
-            words.push(word)?;
-        }
-    }
-    Ok(words)
 }
 
 /// The number of the last line before the next one that begins with `%%`, from a line on; of the last line where none

@@ -2,6 +2,7 @@
 use crate::faults::location::{from_place, line_length};
 use crate::faults::pieces::braces_length;
 use ly_base::{after_comment, is_blank};
+use std::alloc::{AllocError, Global};
 
 /// What lines stand for together.
 #[derive(Clone, Copy, Debug, PartialEq, Eq)]
@@ -35,6 +36,14 @@ pub(crate) struct Unit {
     pub(crate) open: bool,
 }
 
+/// No lines, in front of a text.
+const NO_LINES: Unit = Unit {
+    kind: Kind::Unused,
+    first: 1,
+    last: 0,
+    open: false,
+};
+
 /// How many bytes of an action are looked at for the brace that closes it.
 const LONGEST: usize = 4096;
 
@@ -42,12 +51,7 @@ const LONGEST: usize = 4096;
 pub(crate) fn unit_at(text: &[u8], line: u64) -> Unit {
     let mut rest = text;
     let mut in_rules = false;
-    let mut unit = Unit {
-        kind: Kind::Unused,
-        first: 1,
-        last: 0,
-        open: false,
-    };
+    let mut unit = NO_LINES;
     for _ in 0..=text.len() {
         unit = unit_behind(unit, rest, in_rules);
         let last = unit.last.saturating_add(u64::from(unit.open));
@@ -58,6 +62,33 @@ pub(crate) fn unit_at(text: &[u8], line: u64) -> Unit {
         rest = behind_lines(rest, unit.last.saturating_sub(unit.first).saturating_add(1));
     }
     unit
+}
+
+/// The lines among the rules that begin with a blank, and hold something else than blanks and comments.
+pub(crate) fn indented_lines(alloc: Global, text: &[u8]) -> Result<Vec<u64>, AllocError> {
+    let mut found = Vec::new(alloc);
+    let mut rest = text;
+    let mut in_rules = false;
+    let mut in_comment = false;
+    let mut unit = NO_LINES;
+    for _ in 0..=text.len() {
+        unit = unit_behind(unit, rest, in_rules);
+        let ends = in_rules && unit.kind == Kind::Mark;
+        if ends || rest.is_empty() {
+            break;
+        }
+        if in_rules && unit.kind == Kind::Unused {
+            let line = first_line(rest).trim_ascii();
+            in_comment = in_comment || line.starts_with(b"/*");
+            if !in_comment && !line.is_empty() {
+                found.push(unit.first)?;
+            }
+            in_comment = in_comment && !line.ends_with(b"*/");
+        }
+        in_rules = in_rules || unit.kind == Kind::Mark;
+        rest = behind_lines(rest, unit.last.saturating_sub(unit.first).saturating_add(1));
+    }
+    Ok(found)
 }
 
 /// The lines at the front of a text that stand for one thing, behind those of another.
@@ -118,7 +149,10 @@ fn lines_to_block_end(text: &[u8]) -> u64 {
 /// How many lines behind the first one it takes to the end of a comment; none where it isn't closed.
 fn lines_to_comment_end(text: &[u8]) -> u64 {
     match after_comment(from_place(text, 2)) {
-        Some(rest) => newlines(text).saturating_sub(newlines(rest)),
+        Some(rest) => {
+            let length = text.len().saturating_sub(rest.len());
+            newlines(text.get(..length).unwrap_or_default())
+        }
         None => 0,
     }
 }

@@ -8,7 +8,8 @@ use Rattle.ly_explain.specs.Private.Marks.{AreMarked}
 use Rattle.ly_explain.specs.Private.Unmarked.{IsUnmarked, StandsIn}
 use Rattle.ly_explain.proofs.MarkLemmas.{added_as, step_added}
 use Rattle.ly_explain.proofs.RisingLemmas.{rising_as}
-use Rattle.ly_explain.proofs.UnmarkedLemmas.{rule_at, stands_in, unmarked_as, used_marked}
+use Rattle.ly_explain.proofs.SentenceLemmas.{rule_kept}
+use Rattle.ly_explain.proofs.UnmarkedLemmas.{stands_in, unmarked_as, used_marked}
 use Rattle.ly_explain.proofs.unused.unused_terminals.Goals as goal
 
 pub loop-rule-preserved : goal.loop-rule-preserved
@@ -19,7 +20,7 @@ loop-rule-preserved c =
     let old = c.loop-rule.used in
     let new = c.mark_body.new.used in
     let these = c.rules-rule-items.ensures.these ∙ ap (λ g. g.rules) c.grammar.ensures.grammar in
-    let rule = rule_at s c.rules-rule-items.result.now these k r r c.loop-rule-test.true (sym c.rule-item.is) in
+    let rule = rule_kept s.grammar c.rules-rule-items.result.now these k r c.loop-rule-test.true c.rule-item.is in
     let body = map symbol_of c.body.result.now in
     step_added (StandsIn s) k c.in_ok-used.used old new c.loop-rule.invariant
     (added_as (λ t. Contains body (terminal t)) (StandsIn s k) old new

@@ -1,0 +1,267 @@
+//! A sentence with two trees, sought behind a string of symbols at which two actions are possible: both derivations
+//! go on at once, until they have come to the same tokens. What is found is asked of `ly_explain` before it is said.
+use crate::drawing::{begin, behind_dot};
+use crate::yields::{Derived, Yields, push_reversed};
+use ly_base::{OutOfMemory, Sym};
+use ly_explain::ambiguous_sentence;
+use ly_join::{Grammar, Symbol};
+use ly_lr0::{Item, Lr0};
+use std::alloc::{AllocError, Global};
+
+/// How many pairs of derivations are looked at, at most.
+const MOST: usize = 2_000;
+
+/// How many symbols a derivation has ahead, and how many rules it has behind it, at most.
+const LONGEST: usize = 300;
+
+/// A sentence with two trees.
+#[derive(Drop)]
+pub(crate) struct Ambiguity {
+    /// Its tokens.
+    pub(crate) sentence: Vec<Sym>,
+    /// The rules of the first tree, each in front of those below it.
+    pub(crate) one: Vec<usize>,
+    /// Those of the second one.
+    pub(crate) other: Vec<usize>,
+}
+
+/// A derivation that is under way.
+#[derive(Drop)]
+struct Half {
+    /// The rules so far.
+    rules: Vec<usize>,
+    /// The symbols that are ahead, the next one last.
+    ahead: Vec<Symbol>,
+}
+
+/// Two derivations that have come to the same tokens.
+#[derive(Drop)]
+struct Pair {
+    /// The first one.
+    one: Half,
+    /// The second one.
+    other: Half,
+}
+
+/// How far two derivations go on together.
+#[derive(Clone, Copy, Debug, PartialEq, Eq)]
+enum Course {
+    /// To their ends.
+    Ended,
+    /// To where one of them has to replace a nonterminal.
+    Open,
+    /// To where they can't come to the same tokens.
+    Parted,
+}
+
+/// What sentences are sought by.
+#[derive(Clone, Copy)]
+pub(crate) struct Finder<'a> {
+    /// The automaton, which knows the rules of each nonterminal.
+    pub(crate) lr0: &'a Lr0<'a>,
+    /// The shortest yields of nonterminals.
+    pub(crate) yields: &'a Yields,
+}
+
+impl<'a> Finder<'a> {
+    /// The grammar.
+    fn grammar(&self) -> &'a Grammar {
+        self.lr0.reduced().grammar()
+    }
+
+    /// A sentence with two trees, which begin as two ways to the same string do.
+    pub(crate) fn find(
+        &self,
+        alloc: Global,
+        one: &[Item],
+        other: &[Item],
+    ) -> Result<Option<Ambiguity>, OutOfMemory> {
+        let mut pairs = Vec::new(alloc);
+        let one = self.begun(alloc, one)?;
+        let other = self.begun(alloc, other)?;
+        pairs.push(Pair { one, other })?;
+        for place in 0..MOST {
+            if place >= pairs.len() {
+                break;
+            }
+            match self.go_on(alloc, &mut pairs[place])? {
+                Course::Ended => return self.checked(alloc, &pairs[place]),
+                Course::Open => self.push_next(alloc, &mut pairs, place)?,
+                Course::Parted => {}
+            }
+        }
+        Ok(None)
+    }
+
+    /// The derivation that a way begins, with the shortest yields of what it has passed.
+    fn begun(&self, alloc: Global, way: &[Item]) -> Result<Half, AllocError> {
+        let grammar = self.grammar();
+        let mut rules: Vec<usize> = Vec::new(alloc);
+        let mut open: Vec<Item> = Vec::new(alloc);
+        for item in way {
+            match open.last_mut() {
+                Some(top) if item.dot > 0 => {
+                    if let Some(symbol) = behind_dot(self.lr0.reduced(), *top) {
+                        let passed = self.yields.derive(alloc, grammar, &[symbol])?;
+                        rules.extend_from_slice(&passed.rules)?;
+                    }
+                    *top = *item;
+                }
+                _ => {
+                    if item.rule > 0 {
+                        rules.push(item.rule)?;
+                    }
+                    open.push(*item)?;
+                }
+            }
+        }
+        let mut ahead = Vec::new(alloc);
+        for (place, item) in open.iter().enumerate() {
+            let inmost = place.saturating_add(1) == open.len();
+            let passed = if inmost {
+                item.dot
+            } else {
+                item.dot.saturating_add(1)
+            };
+            if let Some(rule) = grammar.rules().get(item.rule) {
+                push_reversed(&mut ahead, rule.body().get(passed..).unwrap_or_default())?;
+            }
+        }
+        Ok(Half { rules, ahead })
+    }
+
+    /// Goes on with two derivations as long as they have the same symbol ahead.
+    fn go_on(&self, alloc: Global, pair: &mut Pair) -> Result<Course, AllocError> {
+        for _ in 0..LONGEST {
+            let (Some(symbol), Some(same)) = (pair.one.next(), pair.other.next()) else {
+                break;
+            };
+            if symbol != same {
+                return Ok(match (symbol, same) {
+                    (Symbol::Terminal(_), Symbol::Terminal(_)) => Course::Parted,
+                    _ => Course::Open,
+                });
+            }
+            pair.one.ahead.pop();
+            pair.other.ahead.pop();
+            let passed = self.yielded(alloc, &[symbol])?;
+            pair.one.rules.extend_from_slice(&passed.rules)?;
+            pair.other.rules.extend_from_slice(&passed.rules)?;
+        }
+        Ok(if self.end(alloc, &mut pair.one)? && self.end(alloc, &mut pair.other)? {
+            Course::Ended
+        } else {
+            Course::Parted
+        })
+    }
+
+    /// Ends a derivation without further tokens, and answers whether it can end so.
+    fn end(&self, alloc: Global, half: &mut Half) -> Result<bool, AllocError> {
+        half.ahead.reverse();
+        let rest = self.yielded(alloc, &half.ahead)?;
+        half.ahead.clear();
+        half.rules.extend_from_slice(&rest.rules)?;
+        Ok(rest.whole && rest.tokens.is_empty())
+    }
+
+    /// The trees of symbols that have the fewest tokens.
+    fn yielded(&self, alloc: Global, symbols: &[Symbol]) -> Result<Derived, AllocError> {
+        self.yields.derive(alloc, self.grammar(), symbols)
+    }
+
+    /// Adds the pairs that a pair becomes where one of its derivations replaces the nonterminal that is ahead.
+    fn push_next(
+        &self,
+        alloc: Global,
+        pairs: &mut Vec<Pair>,
+        place: usize,
+    ) -> Result<(), AllocError> {
+        let (Some(pair), true) = (pairs.get(place), pairs.len() < MOST) else {
+            return Ok(());
+        };
+        let ones = self.replaced(alloc, &pair.one, &pair.other)?;
+        let others = self.replaced(alloc, &pair.other, &pair.one)?;
+        for (one, other) in ones {
+            pairs.push(Pair { one, other })?;
+        }
+        for (other, one) in others {
+            pairs.push(Pair { one, other })?;
+        }
+        Ok(())
+    }
+
+    /// What a derivation becomes where it replaces the nonterminal that is ahead, each with the one beside it.
+    fn replaced(
+        &self,
+        alloc: Global,
+        half: &Half,
+        beside: &Half,
+    ) -> Result<Vec<(Half, Half)>, AllocError> {
+        let mut found = Vec::new(alloc);
+        let Some(Symbol::Nonterminal(left)) = half.next() else {
+            return Ok(found);
+        };
+        if left > self.grammar().accept() {
+            return Ok(found);
+        }
+        for number in self.lr0.rules_of(left) {
+            let Some(rule) = self.grammar().rules().get(*number) else {
+                continue;
+            };
+            if self.may_meet(rule.body(), beside) && !half.is_long() && !beside.is_long() {
+                let mut next = half.copy(alloc)?;
+                next.ahead.pop();
+                next.rules.push(*number)?;
+                push_reversed(&mut next.ahead, rule.body())?;
+                found.push((next, beside.copy(alloc)?))?;
+            }
+        }
+        Ok(found)
+    }
+
+    /// Whether symbols may begin with the terminal that is ahead beside them, if one is.
+    fn may_meet(&self, symbols: &[Symbol], beside: &Half) -> bool {
+        match beside.next() {
+            Some(Symbol::Terminal(terminal)) => {
+                let (begins, nullable) = begin(self.lr0.reduced(), symbols, terminal);
+                begins || nullable
+            }
+            _ => true,
+        }
+    }
+
+    /// What was found, if it is a sentence with two trees.
+    fn checked(&self, alloc: Global, pair: &Pair) -> Result<Option<Ambiguity>, OutOfMemory> {
+        let one = pair.one.copy(alloc)?.rules;
+        let other = pair.other.copy(alloc)?.rules;
+        let found = ambiguous_sentence(alloc, self.grammar(), &one, &other)?;
+        Ok(found.map(|sentence| Ambiguity {
+            sentence,
+            one,
+            other,
+        }))
+    }
+}
+
+impl Half {
+    /// The symbol that is ahead next.
+    fn next(&self) -> Option<Symbol> {
+        self.ahead.last().copied()
+    }
+
+    /// Whether it isn't gone on with.
+    fn is_long(&self) -> bool {
+        self.ahead.len() > LONGEST || self.rules.len() > LONGEST
+    }
+
+    /// The same derivation once more.
+    fn copy(&self, alloc: Global) -> Result<Half, AllocError> {
+        let mut half = Half {
+            rules: Vec::new(alloc),
+            ahead: Vec::new(alloc),
+        };
+        half.rules.extend_from_slice(&self.rules)?;
+        half.ahead.extend_from_slice(&self.ahead)?;
+        Ok(half)
+    }
+}

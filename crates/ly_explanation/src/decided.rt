@@ -1,0 +1,100 @@
+//! Which precedences decide something: where a shift meets a reduction, and both have one.
+ghost use Rattle.std.specs.Prelude.{◌<◌, length};
+ghost use Rattle.ly_lookahead.specs.Lookaheads.{AreLookaheads};
+
+use crate::states::place_of;
+use ly_base::{OutOfMemory, StateNo, Sym};
+use ly_join::{Spec, Symbol};
+use ly_lookahead::{Lookaheads, lookaheads};
+use ly_lr0::{Item, Lr0};
+use ly_resolve::Resolved;
+use std::alloc::Global;
+
+/// What precedences decide.
+#[derive(Drop)]
+pub(crate) struct Decided {
+    /// Whether the precedence of each terminal meets that of a rule.
+    terminals: Vec<bool>,
+    /// Whether that of each rule meets that of a terminal.
+    rules: Vec<bool>,
+    /// Whether a rule whose precedence is declared at each place does so.
+    levels: Vec<bool>,
+}
+
+impl Decided {
+    /// What the precedences of a specification decide.
+    pub(crate) fn of(alloc: Global, resolved: &Resolved<'_>) -> Result<Decided, OutOfMemory> {
+        let (lr0, spec) = (resolved.lr0(), resolved.spec());
+        let mut levels = 0;
+        for ranked in spec.precedences() {
+            levels = ranked.map_or(levels, |it| it.level.saturating_add(1).max(levels));
+        }
+        let mut decided = Decided {
+            terminals: vec![in alloc; false; spec.precedences().len()]?,
+            rules: vec![in alloc; false; spec.notes().len()]?,
+            levels: vec![in alloc; false; levels]?,
+        };
+        let sets = lookaheads(alloc, lr0)?;
+        for state in 0..lr0.states() {
+            decided.mark_state(spec, lr0, &sets, StateNo(state as u32));
+        }
+        Ok(decided)
+    }
+
+    /// Whether the precedence of a terminal decides something, or that of a rule that has it from the same declaration.
+    pub(crate) fn by_terminal(&self, spec: &Spec, terminal: Sym) -> bool {
+        let number = terminal.0 as usize;
+        let level = match spec.precedences().get(number) {
+            Some(Some(ranked)) => self.levels.get(ranked.level),
+            _ => None,
+        };
+        self.terminals.get(number) == Some(&true) || level == Some(&true)
+    }
+
+    /// Whether the precedence of a rule decides something.
+    pub(crate) fn by_rule(&self, rule: usize) -> bool {
+        self.rules.get(rule) == Some(&true)
+    }
+
+    /// Marks what meets in a state.
+    fn mark_state(&mut self, spec: &Spec, lr0: &Lr0<'_>, sets: &Lookaheads, state: StateNo)
+        requires state { state.0 < length lr0.now.states }
+        requires sets { AreLookaheads lr0.now sets.now }
+    {
+        for rule in lr0.complete(state) {
+            let dot = match spec.grammar().rules().get(*rule) {
+                Some(rule) => rule.body().len(),
+                None => 0,
+            };
+            let item = Item { rule: *rule, dot };
+            let Some(place) = place_of(lr0, sets, state, item) else {
+                continue;
+            };
+            for transition in lr0.transitions(state) {
+                if let Symbol::Terminal(terminal) = transition.symbol {
+                    if sets.contains(state, place, terminal) {
+                        self.mark_meeting(spec, terminal, *rule);
+                    }
+                }
+            }
+        }
+    }
+
+    /// Marks a terminal and a rule that meet, if both have a precedence.
+    fn mark_meeting(&mut self, spec: &Spec, terminal: Sym, rule: usize) {
+        let of_rule = spec.notes().get(rule).and_then(|note| note.precedence);
+        let of_terminal = spec.precedences().get(terminal.0 as usize);
+        if let (Some(ranked), Some(Some(_))) = (of_rule, of_terminal) {
+            mark(&mut self.terminals, terminal.0 as usize);
+            mark(&mut self.rules, rule);
+            mark(&mut self.levels, ranked.level);
+        }
+    }
+}
+
+/// Marks a number. One that has no mark is passed over.
+fn mark(marks: &mut Vec<bool>, number: usize) {
+    if let Some(place) = marks.get_mut(number) {
+        *place = true;
+    }
+}

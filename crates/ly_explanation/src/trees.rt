@@ -1,0 +1,160 @@
+//! A sentence with two trees, as it is said.
+use crate::ambiguity::Ambiguity;
+use crate::page::Page;
+use ly_base::{OutOfMemory, Sym};
+use ly_join::{Spec, Symbol};
+use std::alloc::Global;
+
+/// How many symbols of a tree are said, at most.
+const MOST: usize = 2_000;
+
+/// How trees are said: with brackets around the rules that have more than one symbol, or with brackets around all
+/// rules, and the names of their left sides before them.
+#[derive(Clone, Copy, Debug, PartialEq, Eq)]
+enum Style {
+    /// With brackets alone.
+    Brackets,
+    /// With names.
+    Names,
+}
+
+/// Says a sentence, and its two trees. They have names where brackets alone don't tell them apart.
+pub(crate) fn say_ambiguity(
+    alloc: Global,
+    page: &mut Page,
+    spec: &Spec,
+    ambiguity: &Ambiguity,
+) -> Result<(), OutOfMemory> {
+    page.say(b"    This sentence has two trees:")?;
+    for token in &ambiguity.sentence {
+        page.say(b" ")?;
+        page.say_terminal(spec, *token)?;
+    }
+    page.say(b"\n")?;
+    let mut one = tree_of(alloc, spec, &ambiguity.one, Style::Brackets)?;
+    let mut other = tree_of(alloc, spec, &ambiguity.other, Style::Brackets)?;
+    if one == other {
+        one = tree_of(alloc, spec, &ambiguity.one, Style::Names)?;
+        other = tree_of(alloc, spec, &ambiguity.other, Style::Names)?;
+    }
+    page.say(b"       ")?;
+    page.say(&one)?;
+    page.say(b"\n       ")?;
+    page.say(&other)?;
+    page.say(b"\n")
+}
+
+/// A part of a tree that is to be said.
+#[derive(Clone, Copy, Debug, PartialEq, Eq)]
+enum Part {
+    /// A symbol, with what is below it.
+    Symbol(Below),
+    /// The end of a rule.
+    Close,
+}
+
+/// A symbol in a tree.
+#[derive(Clone, Copy, Debug, PartialEq, Eq)]
+struct Below {
+    /// The symbol.
+    symbol: Symbol,
+    /// Whether it isn't all that stands below the root.
+    beside: bool,
+}
+
+/// What says a tree.
+#[derive(Drop)]
+struct Teller<'a> {
+    /// The specification.
+    spec: &'a Spec,
+    /// How trees are said.
+    style: Style,
+    /// What was said.
+    page: Page,
+    /// Whether a bracket was said last.
+    opened: bool,
+    /// What is to be said, the next part last.
+    parts: Vec<Part>,
+}
+
+/// The tree that has these rules, each in front of those below it, a space before each symbol.
+fn tree_of(
+    alloc: Global,
+    spec: &Spec,
+    rules: &[usize],
+    style: Style,
+) -> Result<Vec<u8>, OutOfMemory> {
+    let mut teller = Teller {
+        spec,
+        style,
+        page: Page::new(alloc),
+        opened: false,
+        parts: Vec::new(alloc),
+    };
+    teller.parts.push(Part::Symbol(Below {
+        symbol: Symbol::Nonterminal(spec.grammar().start()),
+        beside: false,
+    }))?;
+    let mut rules = rules.iter();
+    for _ in 0..MOST {
+        match teller.parts.pop() {
+            None => break,
+            Some(Part::Close) => teller.close()?,
+            Some(Part::Symbol(below)) => match below.symbol {
+                Symbol::Terminal(number) => teller.say_terminal(number)?,
+                Symbol::Nonterminal(left) => {
+                    let rule = rules
+                        .next()
+                        .and_then(|number| spec.grammar().rules().get(*number));
+                    if let Some(rule) = rule {
+                        teller.say_rule(left, rule.body(), below.beside)?;
+                    }
+                }
+            },
+        }
+    }
+    Ok(teller.page.into_bytes())
+}
+
+impl Teller<'_> {
+    /// Says the space before a symbol, if it needs one.
+    fn say_space(&mut self) -> Result<(), OutOfMemory> {
+        self.page.say(if self.opened { b"" } else { b" " })?;
+        self.opened = false;
+        Ok(())
+    }
+
+    /// Says a terminal.
+    fn say_terminal(&mut self, number: Sym) -> Result<(), OutOfMemory> {
+        self.say_space()?;
+        self.page.say_terminal(self.spec, number)
+    }
+
+    /// Says how a rule begins, and notes what is below it.
+    fn say_rule(&mut self, left: Sym, body: &[Symbol], beside: bool) -> Result<(), OutOfMemory> {
+        let one_of_many = body.len() > 1;
+        let named = self.style == Style::Names;
+        if named || beside && one_of_many {
+            self.say_space()?;
+            if named {
+                self.page.say_symbol(self.spec, Symbol::Nonterminal(left))?;
+            }
+            self.page.say(b"[")?;
+            self.opened = true;
+            self.parts.push(Part::Close)?;
+        }
+        for symbol in body.iter().rev() {
+            self.parts.push(Part::Symbol(Below {
+                symbol: *symbol,
+                beside: beside || one_of_many,
+            }))?;
+        }
+        Ok(())
+    }
+
+    /// Says the end of a rule.
+    fn close(&mut self) -> Result<(), OutOfMemory> {
+        self.opened = false;
+        self.page.say(b"]")
+    }
+}
