@@ -14,6 +14,9 @@ const MOST: usize = 2_000;
 /// How many symbols a derivation has ahead, and how many rules it has behind it, at most.
 const LONGEST: usize = 300;
 
+/// How many symbols are derived for all sentences together, at most.
+const STEPS: usize = 10_000_000;
+
 /// A sentence with two trees.
 #[derive(Drop)]
 pub(crate) struct Ambiguity {
@@ -55,15 +58,26 @@ enum Course {
 }
 
 /// What sentences are sought by.
-#[derive(Clone, Copy)]
+#[derive(Drop)]
 pub(crate) struct Finder<'a> {
     /// The automaton, which knows the rules of each nonterminal.
-    pub(crate) lr0: &'a Lr0<'a>,
+    lr0: &'a Lr0<'a>,
     /// The shortest yields of nonterminals.
-    pub(crate) yields: &'a Yields,
+    yields: &'a Yields,
+    /// How many symbols may still be derived.
+    steps: usize,
 }
 
 impl<'a> Finder<'a> {
+    /// What sentences of an automaton's grammar are sought by.
+    pub(crate) fn new(lr0: &'a Lr0<'a>, yields: &'a Yields) -> Finder<'a> {
+        Finder {
+            lr0,
+            yields,
+            steps: STEPS,
+        }
+    }
+
     /// The grammar.
     fn grammar(&self) -> &'a Grammar {
         self.lr0.reduced().grammar()
@@ -71,7 +85,7 @@ impl<'a> Finder<'a> {
 
     /// A sentence with two trees, which begin as two ways to the same string do.
     pub(crate) fn find(
-        &self,
+        &mut self,
         alloc: Global,
         one: &[Item],
         other: &[Item],
@@ -81,7 +95,7 @@ impl<'a> Finder<'a> {
         let other = self.begun(alloc, other)?;
         pairs.push(Pair { one, other })?;
         for place in 0..MOST {
-            if place >= pairs.len() {
+            if place >= pairs.len() || self.steps == 0 {
                 break;
             }
             match self.go_on(alloc, &mut pairs[place])? {
@@ -131,7 +145,7 @@ impl<'a> Finder<'a> {
     }
 
     /// Goes on with two derivations as long as they have the same symbol ahead.
-    fn go_on(&self, alloc: Global, pair: &mut Pair) -> Result<Course, AllocError> {
+    fn go_on(&mut self, alloc: Global, pair: &mut Pair) -> Result<Course, AllocError> {
         for _ in 0..LONGEST {
             let (Some(symbol), Some(same)) = (pair.one.next(), pair.other.next()) else {
                 break;
@@ -156,7 +170,7 @@ impl<'a> Finder<'a> {
     }
 
     /// Ends a derivation without further tokens, and answers whether it can end so.
-    fn end(&self, alloc: Global, half: &mut Half) -> Result<bool, AllocError> {
+    fn end(&mut self, alloc: Global, half: &mut Half) -> Result<bool, AllocError> {
         half.ahead.reverse();
         let rest = self.yielded(alloc, &half.ahead)?;
         half.ahead.clear();
@@ -165,8 +179,11 @@ impl<'a> Finder<'a> {
     }
 
     /// The trees of symbols that have the fewest tokens.
-    fn yielded(&self, alloc: Global, symbols: &[Symbol]) -> Result<Derived, AllocError> {
-        self.yields.derive(alloc, self.grammar(), symbols)
+    fn yielded(&mut self, alloc: Global, symbols: &[Symbol]) -> Result<Derived, AllocError> {
+        let derived = self.yields.derive(alloc, self.grammar(), symbols)?;
+        let steps = derived.rules.len().saturating_add(derived.tokens.len());
+        self.steps = self.steps.saturating_sub(steps);
+        Ok(derived)
     }
 
     /// Adds the pairs that a pair becomes where one of its derivations replaces the nonterminal that is ahead.

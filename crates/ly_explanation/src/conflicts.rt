@@ -30,8 +30,6 @@ struct Teller<'a> {
     examples: &'a Examples<'a>,
     /// The shortest yields of nonterminals.
     yields: &'a Yields,
-    /// What sentences with two trees are sought by.
-    finder: Finder<'a>,
 }
 
 /// Says how many conflicts there are, and each with an example. Those of one state that differ in the terminal alone
@@ -56,12 +54,8 @@ pub(crate) fn say_conflicts(
     let teller = Teller {
         examples: &Examples::new(alloc, resolved)?,
         yields: &yields,
-        finder: Finder {
-            lr0,
-            yields: &yields,
-        },
     };
-    teller.say_all(alloc, page)
+    teller.say_all(alloc, page, &mut Finder::new(lr0, &yields))
 }
 
 /// How many conflicts are of a kind.
@@ -102,7 +96,12 @@ impl<'a> Teller<'a> {
     }
 
     /// Says all conflicts, group by group.
-    fn say_all(&self, alloc: Global, page: &mut Page) -> Result<(), OutOfMemory> {
+    fn say_all(
+        &self,
+        alloc: Global,
+        page: &mut Page,
+        finder: &mut Finder<'_>,
+    ) -> Result<(), OutOfMemory> {
         let conflicts = self.resolved().conflicts();
         let mut order = Vec::with_capacity(alloc, conflicts.len())?;
         for place in 0..conflicts.len() {
@@ -113,22 +112,28 @@ impl<'a> Teller<'a> {
         let mut groups: usize = 0;
         for place in &order {
             if !goes_on(conflicts, &group, *place) {
-                self.say_group(alloc, page, &group, groups < EXAMPLES)?;
+                self.say_group(alloc, page, &group)?;
+                if groups < EXAMPLES {
+                    self.say_example(alloc, page, &group, finder)?;
+                }
                 groups = groups.saturating_add(1);
                 group.clear();
             }
             group.push(*place)?;
         }
-        self.say_group(alloc, page, &group, groups < EXAMPLES)
+        self.say_group(alloc, page, &group)?;
+        if groups < EXAMPLES {
+            self.say_example(alloc, page, &group, finder)?;
+        }
+        Ok(())
     }
 
-    /// Says the conflicts at these places, which differ in the terminal alone; with an example if one is wanted.
+    /// Says the conflicts at these places, which differ in the terminal alone.
     fn say_group(
         &self,
         alloc: Global,
         page: &mut Page,
         group: &[usize],
-        wanted: bool,
     ) -> Result<(), OutOfMemory> {
         let conflicts = self.resolved().conflicts();
         let Some(first) = group.first() else {
@@ -140,11 +145,7 @@ impl<'a> Teller<'a> {
         self.say_place(alloc, page, conflict)?;
         self.say_terminals(page, group)?;
         self.say_done(page, conflict)?;
-        self.say_reason(page, conflict, group.len())?;
-        if wanted {
-            self.say_example(alloc, page, *first, conflict)?;
-        }
-        Ok(())
+        self.say_reason(page, conflict, group.len())
     }
 
     /// Says the state of a conflict, by its number and its prefix.
@@ -238,16 +239,27 @@ impl<'a> Teller<'a> {
         page.say(b" has no precedence.\n")
     }
 
-    /// Says an example of a conflict, or that there is none.
+    /// Says an example of the first of the conflicts at these places, or that there is none.
     fn say_example(
         &self,
         alloc: Global,
         page: &mut Page,
-        place: usize,
-        conflict: &Conflict,
+        group: &[usize],
+        finder: &mut Finder<'_>,
     ) -> Result<(), OutOfMemory> {
-        match self.example(alloc, place)? {
-            Example::At(string) => self.say_at(alloc, page, conflict, &string),
+        let conflicts = self.resolved().conflicts();
+        let Some(place) = group.first() else {
+            return Ok(());
+        };
+        if *place >= conflicts.len() {
+            return Ok(());
+        }
+        let conflict = &conflicts[*place];
+        match self.examples.of(alloc, conflict, BOUND)? {
+            Example::At(string) => {
+                self.say_string(alloc, page, conflict, &string)?;
+                self.say_ways(alloc, page, conflict, &string, finder)
+            }
             Example::Merged => page.say(
                 b"    No symbols lead to a place where both are possible: only merging the states of an LR(1)\n    \
                 parser makes this conflict.\n",
@@ -258,17 +270,8 @@ impl<'a> Teller<'a> {
         }
     }
 
-    /// An example of the conflict at a place.
-    fn example(&self, alloc: Global, place: usize) -> Result<Example, OutOfMemory> {
-        let conflicts = self.resolved().conflicts();
-        if place >= conflicts.len() {
-            return Ok(Example::Unknown);
-        }
-        self.examples.of(alloc, &conflicts[place], BOUND)
-    }
-
-    /// Says how both actions come about behind a string of symbols.
-    fn say_at(
+    /// Says a string of symbols at which both actions are possible, and the shortest tokens of it.
+    fn say_string(
         &self,
         alloc: Global,
         page: &mut Page,
@@ -276,35 +279,43 @@ impl<'a> Teller<'a> {
         string: &[Symbol],
     ) -> Result<(), OutOfMemory> {
         let spec = self.spec();
-        let lr0 = self.resolved().lr0();
-        let drawing = Drawing::new(alloc, lr0, string, conflict.terminal)?;
         page.say(b"    example:")?;
         page.say_symbols(spec, string)?;
         page.say(b" . ")?;
         page.say_terminal(spec, conflict.terminal)?;
         page.say(b"\n")?;
-        if string
-            .iter()
-            .any(|symbol| matches!(symbol, Symbol::Nonterminal(_)))
-        {
+        let mut symbols = string.iter();
+        if symbols.any(|symbol| matches!(symbol, Symbol::Nonterminal(_))) {
             page.say(b"    tokens: ")?;
             self.yields.say(alloc, page, spec, string)?;
             page.say(b" . ")?;
             page.say_terminal(spec, conflict.terminal)?;
             page.say(b"\n")?;
         }
-        let claims = (self.rival(alloc, conflict)?, self.reduction(conflict.rule));
-        let ways = (drawing.way(alloc, claims.0)?, drawing.way(alloc, claims.1)?);
+        Ok(())
+    }
+
+    /// Says how both actions come about behind a string of symbols, and a sentence that has two trees by them.
+    fn say_ways(
+        &self,
+        alloc: Global,
+        page: &mut Page,
+        conflict: &Conflict,
+        string: &[Symbol],
+        finder: &mut Finder<'_>,
+    ) -> Result<(), OutOfMemory> {
+        let spec = self.spec();
+        let drawing = Drawing::new(alloc, self.resolved().lr0(), string, conflict.terminal)?;
+        let one = drawing.way(alloc, self.rival(alloc, conflict)?)?;
+        let other = drawing.way(alloc, self.reduction(conflict.rule))?;
         match (conflict.kind, conflict.choice) {
             (ConflictKind::ReduceReduce, Action::Reduce(rule)) => say_label(page, rule)?,
             _ => page.say(b"    shift:  ")?,
         }
-        say_way(alloc, page, spec, &ways.0)?;
-        page.say(b"\n")?;
+        say_way(alloc, page, spec, &one)?;
         say_label(page, conflict.rule)?;
-        say_way(alloc, page, spec, &ways.1)?;
-        page.say(b"\n")?;
-        match self.finder.find(alloc, &ways.0, &ways.1)? {
+        say_way(alloc, page, spec, &other)?;
+        match finder.find(alloc, &one, &other)? {
             Some(ambiguity) => say_ambiguity(alloc, page, spec, &ambiguity),
             None => page.say(
                 b"    No sentence with two trees was found within the bound of the search.\n",

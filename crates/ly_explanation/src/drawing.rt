@@ -73,13 +73,17 @@ impl<'a> Drawing<'a> {
                 break;
             };
             let claimed = *claimed;
-            if claimed.is_start() {
-                return way_back(alloc, &found, place);
-            }
             for before in &self.before(alloc, claimed)? {
-                if !found.contains_key(before) {
-                    found.insert(*before, place)?;
+                if found.contains_key(before) {
+                    continue;
                 }
+                found.insert(*before, place)?;
+                if before.is_start() {
+                    return way_back(alloc, &found, found.len().saturating_sub(1));
+                }
+            }
+            if found.len() > MOST {
+                break;
             }
         }
         Ok(Vec::new(alloc))
@@ -255,7 +259,7 @@ fn way_back(
 }
 
 /// Draws the rules of a way: a bracket where one begins below another, the symbols before the dots, and at the end a dot
-/// and what stands behind it in each rule, from the inmost one on. Of no way nothing is said.
+/// and what stands behind it in each rule, from the inmost one on; then the line ends. Of no way nothing is said.
 pub(crate) fn say_way(
     alloc: Global,
     page: &mut Page,
@@ -263,7 +267,7 @@ pub(crate) fn say_way(
     way: &[Item],
 ) -> Result<(), OutOfMemory> {
     if way.is_empty() {
-        return Ok(());
+        return page.say(b"\n");
     }
     let mut open: Vec<Item> = Vec::new(alloc);
     let mut opened = false;
@@ -287,7 +291,8 @@ pub(crate) fn say_way(
         }
     }
     page.say(if opened { b"." } else { b" ." })?;
-    say_rests(page, spec, &open)
+    say_rests(page, spec, &open)?;
+    page.say(b"\n")
 }
 
 /// Says what stands behind the dots of the rules under way, the inmost one first. In each but that one the symbol

@@ -6,7 +6,7 @@ use Rattle.ly_resolve.specs.Values.{conflict_from}
 use Rattle.ly_resolve.specs.declared.action.Action.TheVariants.{Shift}
 use Rattle.ly_resolve.specs.declared.conflict.Conflict.{Conflict}
 use Rattle.ly_resolve.specs.declared.conflict.ConflictKind.TheVariants.{ShiftReduce}
-use Rattle.ly_explanation.proofs.conflicts.Teller.example.Goals as goal
+use Rattle.ly_explanation.proofs.conflicts.Teller.say_example.Goals as goal
 
 -- what no place has
 no_conflict : Conflict
@@ -20,13 +20,13 @@ no_conflict = record {
 
 pub of-requires-clause-inside : goal.of-requires-clause-inside
 of-requires-clause-inside c = rw (← c.resolved.ensures)
-    (c.conflicts-conflicts.ensures.inside c.args.place _ c.if-place-conflicts.false)
+    (c.conflicts-conflicts.ensures.inside c.in-Some.place.now _ c.if-place-conflicts.false)
 
 pub of-requires-clause-conflict : goal.of-requires-clause-conflict
 unfolding no_conflict
 of-requires-clause-conflict c = rw (← c.resolved.ensures)
     (let conflicts = c.conflicts-conflicts.result.now in
     let told = conflict_from c.resolved.result.now.automaton in
-    let conflict = get_or conflicts c.args.place no_conflict in
+    let conflict = get_or conflicts c.in-Some.place.now no_conflict in
     subst (λ xs. Contains xs (told conflict)) c.conflicts-conflicts.ensures.these
-    (mapped_in told conflicts conflict (Contains-get_or conflicts c.args.place no_conflict c.if-place-conflicts.false)))
+    (mapped_in told conflicts conflict (Contains-get_or conflicts c.in-Some.place.now no_conflict c.if-place-conflicts.false)))
