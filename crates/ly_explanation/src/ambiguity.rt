@@ -47,7 +47,7 @@ struct Pair {
 }
 
 /// How far two derivations go on together.
-#[derive(Clone, Copy, Debug, PartialEq, Eq)]
+#[derive(Clone, Copy)]
 enum Course {
     /// To their ends.
     Ended,
@@ -218,11 +218,12 @@ impl<'a> Finder<'a> {
         let Some(Symbol::Nonterminal(left)) = half.next() else {
             return Ok(found);
         };
-        if left > self.grammar().accept() {
+        let reduced = self.lr0.reduced();
+        if left.0 > reduced.grammar().accept().0 {
             return Ok(found);
         }
         for number in self.lr0.rules_of(left) {
-            let Some(rule) = self.grammar().rules().get(*number) else {
+            let Some(rule) = reduced.grammar().rules().get(*number) else {
                 continue;
             };
             if self.may_meet(rule.body(), beside) && !half.is_long() && !beside.is_long() {

@@ -1,6 +1,6 @@
 //! How an action comes about behind a string of symbols: the rules that are under way there, drawn with brackets.
 use crate::page::Page;
-use indexmap::IndexMap;
+use indexmap::{IndexMap, IndexSet};
 use ly_base::{OutOfMemory, StateNo, Sym};
 use ly_explain::Claim;
 use ly_grammar::Reduced;
@@ -25,12 +25,23 @@ pub(crate) struct Drawing<'a> {
 }
 
 /// A claim on a beginning of the string.
-#[derive(Clone, Copy, Debug, PartialEq, Eq, Hash)]
+#[derive(Clone, Copy, PartialEq, Eq, Hash)]
 struct Claimed {
     /// How many symbols the beginning has.
     length: usize,
     /// What is claimed of it.
     claim: Claim,
+}
+
+/// A rule that begins behind a beginning of the string.
+#[derive(Clone, Copy, PartialEq, Eq, Hash)]
+struct Opening {
+    /// How many symbols the beginning has.
+    length: usize,
+    /// The left side of the rule.
+    left: Sym,
+    /// Whether it is claimed with any terminal.
+    in_core: bool,
 }
 
 impl<'a> Drawing<'a> {
@@ -63,6 +74,7 @@ impl<'a> Drawing<'a> {
     /// is true by the one before it; none where that isn't found.
     pub(crate) fn way(&self, alloc: Global, last: Claim) -> Result<Vec<Item>, OutOfMemory> {
         let mut found = IndexMap::new(alloc);
+        let mut opened = IndexSet::new(alloc);
         let first = Claimed {
             length: self.string.len(),
             claim: last,
@@ -73,6 +85,12 @@ impl<'a> Drawing<'a> {
                 break;
             };
             let claimed = *claimed;
+            if let Some(opening) = self.opening(claimed) {
+                if opened.contains(&opening) {
+                    continue;
+                }
+                opened.insert(opening)?;
+            }
             for before in &self.before(alloc, claimed)? {
                 if found.contains_key(before) {
                     continue;
@@ -87,6 +105,20 @@ impl<'a> Drawing<'a> {
             }
         }
         Ok(Vec::new(alloc))
+    }
+
+    /// What a claim on a rule with nothing before its dot is true by depends on alone.
+    fn opening(&self, claimed: Claimed) -> Option<Opening> {
+        let item = item_of(claimed.claim)?;
+        if item.dot > 0 {
+            return None;
+        }
+        let rule = self.lr0.reduced().grammar().rules().get(item.rule)?;
+        Some(Opening {
+            length: claimed.length,
+            left: rule.left(),
+            in_core: matches!(claimed.claim, Claim::InCore(_)),
+        })
     }
 
     /// The claims by which one is true.

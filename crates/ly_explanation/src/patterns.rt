@@ -3,7 +3,7 @@
 use std::alloc::{AllocError, Global};
 
 /// What is found in the pattern at the front of a line.
-#[derive(Clone, Copy, Debug, Default, PartialEq, Eq)]
+#[derive(Clone, Copy, Default)]
 pub(crate) struct Surprise {
     /// A letter behind a backslash that elsewhere stands for a class of bytes, if there is one.
     pub(crate) letter: Option<u8>,
@@ -12,7 +12,7 @@ pub(crate) struct Surprise {
 }
 
 /// Where a sketch stands.
-#[derive(Clone, Copy, Debug, PartialEq, Eq)]
+#[derive(Clone, Copy, PartialEq, Eq)]
 enum Inside {
     /// Outside of quotes, brackets and braces.
     Pattern,

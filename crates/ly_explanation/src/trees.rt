@@ -10,7 +10,7 @@ const MOST: usize = 2_000;
 
 /// How trees are said: with brackets around the rules that have more than one symbol, or with brackets around all
 /// rules, and the names of their left sides before them.
-#[derive(Clone, Copy, Debug, PartialEq, Eq)]
+#[derive(Clone, Copy, PartialEq, Eq)]
 enum Style {
     /// With brackets alone.
     Brackets,
@@ -45,7 +45,7 @@ pub(crate) fn say_ambiguity(
 }
 
 /// A part of a tree that is to be said.
-#[derive(Clone, Copy, Debug, PartialEq, Eq)]
+#[derive(Clone, Copy)]
 enum Part {
     /// A symbol, with what is below it.
     Symbol(Below),
@@ -54,7 +54,7 @@ enum Part {
 }
 
 /// A symbol in a tree.
-#[derive(Clone, Copy, Debug, PartialEq, Eq)]
+#[derive(Clone, Copy)]
 struct Below {
     /// The symbol.
     symbol: Symbol,

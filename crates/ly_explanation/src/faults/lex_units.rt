@@ -5,7 +5,7 @@ use ly_base::{after_comment, is_blank};
 use std::alloc::{AllocError, Global};
 
 /// What lines stand for together.
-#[derive(Clone, Copy, Debug, PartialEq, Eq)]
+#[derive(Clone, Copy, PartialEq, Eq)]
 pub(crate) enum Kind {
     /// A line that begins with `%%`.
     Mark,

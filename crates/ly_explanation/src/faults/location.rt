@@ -1,5 +1,5 @@
 /// Where something stands in a file. Lines and columns are counted from 1, columns by bytes.
-#[derive(Clone, Copy, Debug, PartialEq, Eq)]
+#[derive(Clone, Copy)]
 pub(crate) struct Location {
     /// The line.
     pub(crate) line: u64,
