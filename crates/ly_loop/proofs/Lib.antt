@@ -1,6 +1,9 @@
+pub mod ByRuleLemmas
 pub mod EdgeLemmas
 pub mod EntryLemmas
+pub mod KnownLemmas
 pub mod PathLemmas
-pub mod ReducingLemmas
+pub mod ReductionLemmas
 pub mod RunLemmas
+pub mod SummaryLemmas
 pub mod TargetLemmas

@@ -178,7 +178,7 @@ pub record IsPath (m : Machine) (start : List ℕ) (n : ℕ) (stack left : List 
 pub path_start : (m : Machine) (start : List ℕ) → IsPath m start 0 start []
 path_start m start = record { led = λ t known not. here; ended = λ t known has. absurd (cc) }
 
-reduces_on : {m : Machine} {t n k : ℕ} {start stack last : List ℕ} → ReducesTo m t start n stack
+pub reduces_on : {m : Machine} {t n k : ℕ} {start stack last : List ℕ} → ReducesTo m t start n stack
     → ReducesTo m t stack k last → ReducesTo m t start (n + k) last
 reduces_on {m} {t} {k = k} {start = start} {last = last} here r =
     subst (λ i. ReducesTo m t start i last) (omega arith) r

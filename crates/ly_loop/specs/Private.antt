@@ -1,5 +1,7 @@
 pub mod Edges
 pub mod Entries
+pub mod Known
 pub mod Path
-pub mod Reducing
+pub mod Reductions
 pub mod Run
+pub mod Summary

@@ -2,17 +2,18 @@ ghost use Rattle.std.specs.Prelude.{◌≡◌, ◌<◌, IfErr, IfOk, IsTrue, OnO
 ghost use Rattle.ly_pack.specs.Machine.{states_of};
 ghost use Rattle.ly_pack.specs.Steady.{IsSteady};
 ghost use Rattle.ly_loop.specs.Endless.{IsRefused};
-ghost use Rattle.ly_loop.specs.Private.Edges.{IsFirstFrom};
+ghost use Rattle.ly_loop.specs.Private.Edges.{IsFirstFrom, IsWork};
 ghost use Rattle.ly_loop.specs.Private.Entries.{AreAllEntries, AreAllGotos};
-ghost use Rattle.ly_loop.specs.Private.Reducing.{AreReducing};
+ghost use Rattle.ly_loop.specs.Private.Reductions.{AreAllReductions};
 ghost use Rattle.ly_loop.specs.Private.Run.{IsCountable};
 
-use crate::edges::{Passing, first_above, targets};
+use crate::edges::{Passing, Work, first_above, targets};
 use crate::entries::{all_entries, all_gotos};
 use crate::fault::LoopFault;
+use crate::known::Known;
 use crate::path::Path;
-use crate::reducing::reducing_states;
-use ly_base::{OutOfMemory, StateNo};
+use crate::reductions::all_reductions;
+use ly_base::{OutOfMemory, RuleNo, StateNo};
 use ly_pack::{Cell, Machine, Rows, TableAction};
 use std::alloc::Global;
 
@@ -30,13 +31,22 @@ pub fn steady<A: Rows<TableAction> + Drop, G: Rows<StateNo> + Drop>(
     }
     let entries = all_entries(alloc, machine)?;
     let gotos = all_gotos(alloc, machine)?;
-    let reducing = reducing_states(alloc, machine, &entries)?;
-    let mut path = Path::new(alloc, machine.terminals())?;
+    let reductions = all_reductions(alloc, machine, &entries)?;
+    let mut work = Work {
+        known: Known::new(alloc),
+        path: Path::new(alloc, machine.terminals())?,
+    };
     let mut tops = Vec::new(alloc);
     for number in 0..machine.states() {
         let below = StateNo(number as u32);
         let first = first_from(
-            machine, &entries, &gotos, &reducing, below, &mut tops, &mut path,
+            machine,
+            &entries,
+            &gotos,
+            &reductions,
+            below,
+            &mut tops,
+            &mut work,
         )?;
         if let Some(passing) = first {
             return Err(LoopFault::Endless {
@@ -55,23 +65,23 @@ fn first_from<A: Rows<TableAction> + Drop, G: Rows<StateNo> + Drop>(
     machine: &Machine<A, G>,
     entries: &[Vec<Cell<TableAction>>],
     gotos: &[Vec<Cell<StateNo>>],
-    reducing: &[bool],
+    reductions: &[Vec<RuleNo>],
     below: StateNo,
     tops: &mut Vec<StateNo>,
-    path: &mut Path,
+    work: &mut Work,
 ) -> Result<Option<Passing>, OutOfMemory>
     requires countable { IsCountable machine.now }
     requires entries { AreAllEntries machine.now entries.now }
     requires gotos { AreAllGotos machine.now gotos.now }
-    requires reducing { AreReducing machine.now reducing.now }
+    requires reductions { AreAllReductions machine.now reductions.now }
     requires below { below.0 < states_of machine.now }
-    requires room { path.old.settled.below ≡ machine.now.terminals }
-    ensures room { OnOk result (path.new.settled.below ≡ machine.now.terminals) }
+    requires work { IsWork machine.now work.old }
+    ensures work { OnOk result (IsWork machine.now work.new) }
     ensures first { IfOk result (IsFirstFrom machine.now below.0) }
 {
     let number = below.0 as usize;
     targets(&entries[number], &gotos[number], tops)?;
-    first_above(machine, entries, reducing, below, tops, path)
+    first_above(machine, entries, reductions, below, tops, work)
 }
 
 /// Whether the numbers of states and symbols can count them.

@@ -1,14 +1,15 @@
 ghost use Rattle.std.specs.Prelude.{◌<◌, ◌≡◌, [], ◌∷◌, length, IfOk, OnOk};
 ghost use Rattle.ly_pack.specs.Machine.{states_of};
 ghost use Rattle.ly_pack.specs.Steady.{run_bound};
-ghost use Rattle.ly_loop.specs.Private.Edges.{AreTargets, AreTargetsOf, IsAsked, IsFirstAbove, IsFirstToken, IsLower};
+ghost use Rattle.ly_loop.specs.Private.Edges.{AreTargets, AreTargetsOf, IsFirstAbove, IsFirstToken, IsLower, IsWork};
 ghost use Rattle.ly_loop.specs.Private.Entries.{AreAllEntries};
-ghost use Rattle.ly_loop.specs.Private.Reducing.{AreReducing};
+ghost use Rattle.ly_loop.specs.Private.Reductions.{AreAllReductions};
 ghost use Rattle.ly_loop.specs.Private.Run.{EndsAs, IsCountable};
 
+use crate::known::{Edge, Known, summary_of};
 use crate::path::{Path, all_end};
 use crate::run::{RUN_BOUND, ends_within};
-use ly_base::{OutOfMemory, StateNo, Sym};
+use ly_base::{OutOfMemory, RuleNo, StateNo, Sym};
 use ly_pack::{Cell, Machine, Rows, TableAction};
 
 /// A run that makes too many reductions, above a state that is known.
@@ -18,6 +19,15 @@ pub(crate) struct Passing {
     pub(crate) top: StateNo,
     /// Its terminal.
     pub(crate) token: Sym,
+}
+
+/// What is known of edges, and room for the path of one.
+#[derive(Drop)]
+pub(crate) struct Work {
+    /// What is known of edges.
+    pub(crate) known: Known,
+    /// Room for the path of an edge.
+    pub(crate) path: Path,
 }
 
 /// Lists the states to which a state leads, by its entries and gotos. A default shifts nothing.
@@ -44,40 +54,29 @@ pub(crate) fn targets(
 pub(crate) fn first_above<A: Rows<TableAction> + Drop, G: Rows<StateNo> + Drop>(
     machine: &Machine<A, G>,
     entries: &[Vec<Cell<TableAction>>],
-    reducing: &[bool],
+    reductions: &[Vec<RuleNo>],
     below: StateNo,
     targets: &[StateNo],
-    path: &mut Path,
+    work: &mut Work,
 ) -> Result<Option<Passing>, OutOfMemory>
     requires countable { IsCountable machine.now }
     requires entries { AreAllEntries machine.now entries.now }
-    requires reducing { AreReducing machine.now reducing.now }
+    requires reductions { AreAllReductions machine.now reductions.now }
     requires below { below.0 < states_of machine.now }
     requires targets { AreTargets machine.now below.0 targets.now }
-    requires room { path.old.settled.below ≡ machine.now.terminals }
-    ensures room { OnOk result (path.new.settled.below ≡ machine.now.terminals) }
+    requires work { IsWork machine.now work.old }
+    ensures work { OnOk result (IsWork machine.now work.new) }
     ensures first { IfOk result (IsFirstAbove machine.now below.0 targets.now) }
 {
     let mut first: Option<Passing> = None;
     for top in targets {
-        if is_asked(reducing, *top, first) {
-            if let Some(token) = first_token(machine, entries, below, *top, path)? {
+        if is_lower(*top, first) {
+            if let Some(token) = first_token(machine, entries, reductions, below, *top, work)? {
                 first = Some(Passing { top: *top, token });
             }
         }
     }
     Ok(first)
-}
-
-/// Whether the runs above a target are asked for: it reduces, and comes before that of a run that was found.
-fn is_asked(reducing: &[bool], top: StateNo, found: Option<Passing>) -> bool
-    requires { top.0 < length reducing.now }
-    ensures { IsAsked reducing.now top.0 found result }
-{
-    if !reducing[top.0 as usize] {
-        return false;
-    }
-    is_lower(top, found)
 }
 
 /// Whether a target comes before that of a run that was found, if there is one.
@@ -94,24 +93,29 @@ fn is_lower(top: StateNo, found: Option<Passing>) -> bool
 fn first_token<A: Rows<TableAction> + Drop, G: Rows<StateNo> + Drop>(
     machine: &Machine<A, G>,
     entries: &[Vec<Cell<TableAction>>],
+    reductions: &[Vec<RuleNo>],
     below: StateNo,
     top: StateNo,
-    path: &mut Path,
+    work: &mut Work,
 ) -> Result<Option<Sym>, OutOfMemory>
     requires countable { IsCountable machine.now }
     requires entries { AreAllEntries machine.now entries.now }
+    requires reductions { AreAllReductions machine.now reductions.now }
     requires below { below.0 < states_of machine.now }
     requires top { top.0 < states_of machine.now }
-    requires room { path.old.settled.below ≡ machine.now.terminals }
-    ensures room { OnOk result (path.new.settled.below ≡ machine.now.terminals) }
+    requires work { IsWork machine.now work.old }
+    ensures work { OnOk result (IsWork machine.now work.new) }
     ensures first { IfOk result (IsFirstToken machine.now below.0 top.0) }
 {
-    if all_end(machine, entries, below, top, path)? {
+    if summary_of(machine, reductions, Edge { below, top }, &mut work.known)?.is_some() {
+        return Ok(None);
+    }
+    if all_end(machine, entries, below, top, &mut work.path)? {
         return Ok(None);
     }
     for number in 0..machine.terminals() {
         let token = Sym(number as u32);
-        if !edge_ends(machine, below, top, token, &mut path.alone)? {
+        if !edge_ends(machine, below, top, token, &mut work.path.alone)? {
             return Ok(Some(token));
         }
     }

@@ -3,22 +3,29 @@
 //!
 //! `steady` answers so, or names the first edge and the first terminal whose run makes more. A run begins with the two
 //! states of an edge alone, and ends where the terminal is read or refused, where a goto is missing, or where a
-//! reduction would take the state below away. Runs on different terminals differ only from where one of them has an
-//! entry of its own, so each edge is checked along its path: the reductions that the states on top make by default.
-//! A terminal leaves the path where it has an entry, and is followed alone from there. An edge whose state on top
-//! doesn't reduce at all is passed over. Only where a path or a run passes the bound are the terminals run one by one,
-//! from the edge on.
+//! reduction would take the state below away. Behind a reduction of one symbol or none the run of an edge goes on as
+//! that of another edge: so an edge has a summary, which says how many reductions its runs make at most, on whatever
+//! terminal, and how they end. It is made out of those of the edges to which the rules of the state on top lead, and
+//! kept for each edge that such a rule leads to (summaries of procedures: Sharir and Pnueli 1981).
+//!
+//! A summary says nothing where runs go on in more than one way behind the same edge, or might make too many
+//! reductions. Such an edge is checked along its path, the reductions that the states on top make by default: a
+//! terminal leaves the path where it has an entry of its own, and is followed alone from there. Only where a path or a
+//! run passes the bound are the terminals run one by one, from the edge on.
 //!
 //! Left out: runs that pass the bound and would still end. They are refused as well.
 #![tactic(auto)]
 
+mod by_rule;
 mod check;
 mod edges;
 mod entries;
 mod fault;
+mod known;
 mod path;
-mod reducing;
+mod reductions;
 mod run;
+mod summary;
 
 pub use check::steady;
 pub use fault::LoopFault;

@@ -1,6 +1,5 @@
 -- The edges above a state, and the first run above them that makes too many reductions.
 use Rattle.std.specs.Prelude.{◌≡◌, ◌⊎◌, ℕ, ◌<◌, ◌≤◌, Bool, true, false, List, Contains, Option, Some, None, MatchOption}
-use Rattle.std.specs.Prelude.{slice_get}
 use Rattle.ly_base.specs.declared.numbers.StateNo.{StateNo}
 use Rattle.ly_base.specs.declared.numbers.Sym.{Sym}
 use Rattle.ly_pack.specs.Machine.{Machine}
@@ -9,8 +8,10 @@ use Rattle.ly_pack.specs.declared.action.TableAction.{TableAction}
 use Rattle.ly_pack.specs.declared.action.TableAction.TheVariants.{Shift}
 use Rattle.ly_pack.specs.declared.cell.Cell.{Cell}
 use Rattle.ly_loop.specs.Endless.{EdgeEnds}
+use Rattle.ly_loop.specs.Private.Known.{AreKnown}
 use Rattle.ly_loop.specs.Private.Path.{AllEnd}
 use Rattle.ly_loop.specs.declared.edges.Passing.{Passing}
+use Rattle.ly_loop.specs.declared.edges.Work.{Work}
 
 -- The states to which a state leads.
 pub record AreTargets (m : Machine) (below : ℕ) (targets : List StateNo) : Type 0 where
@@ -54,7 +55,7 @@ IsLower top None b = b ≡ true
 IsLower top (Some found) true = top < found.top.0
 IsLower top (Some found) false = found.top.0 ≤ top
 
--- whether the runs above a target are asked for, by whether it reduces
-abbrev pub IsAsked : List Bool → ℕ → Option Passing → Bool → Type 0
-IsAsked reducing top found true = IsLower top found true
-IsAsked reducing top found false = (slice_get reducing top ≡ Some false) ⊎ IsLower top found false
+-- What is known is true, and there is room for the terminals.
+pub record IsWork (m : Machine) (work : Work) : Type 0 where
+  pub known : AreKnown m work.known.summaries
+  pub room : work.path.settled.below ≡ m.terminals

@@ -28,7 +28,7 @@ loop-number-preserved g c =
             let P : ℕ → Type 0 = λ b. IsTableEdge m b top → AllEnd m b top in
             subst P same (ends_above m n top above.0 above.1 all) edge
       ];
-      room = c.in_ok-first.ensures.room;
+      work = c.in_ok-first.ensures.work;
     }
 
 pub returns-clause-ok : goal.returns-clause-ok

@@ -1,5 +1,6 @@
-use Rattle.std.proofs.Common.{◌≡◌, ℕ, ◌<◌}
+use Rattle.std.proofs.Common.{ℕ, ◌<◌}
 use Rattle.ly_pack.specs.Steady.{IsTableEdge}
+use Rattle.ly_loop.specs.Private.Edges.{IsWork}
 use Rattle.ly_loop.specs.Private.Path.{AllEnd}
 use Rattle.ly_loop.proofs.check.steady.Given as goal
 
@@ -7,5 +8,5 @@ use Rattle.ly_loop.proofs.check.steady.Given as goal
 abbrev pub invariant-loop-number : goal.invariant-loop-number
 invariant-loop-number g l = record {
   ended : (below top : ℕ) → below < l.number → IsTableEdge l.machine below top → AllEnd l.machine below top;
-  room : l.path.settled.below ≡ l.machine.terminals;
+  work : IsWork l.machine l.work;
 }

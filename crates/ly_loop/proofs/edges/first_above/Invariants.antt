@@ -1,10 +1,10 @@
-use Rattle.std.proofs.Common.{◌≡◌, take}
-use Rattle.ly_loop.specs.Private.Edges.{IsFirstAbove}
+use Rattle.std.proofs.Common.{take}
+use Rattle.ly_loop.specs.Private.Edges.{IsFirstAbove, IsWork}
 use Rattle.ly_loop.proofs.edges.first_above.Given as goal
 
 -- of the targets so far the least is found
 abbrev pub invariant-loop-top : goal.invariant-loop-top
 invariant-loop-top g l = record {
   first : IsFirstAbove l.machine l.below.0 (take l.top-index l.targets) l.first;
-  room : l.path.settled.below ≡ l.machine.terminals;
+  work : IsWork l.machine l.work;
 }

@@ -1,0 +1,216 @@
+-- What the runs of an edge come to, by the rules of its state on top.
+use Rattle.std.proofs.Common.{◌≡◌, ◌∙◌, inl, inr, ℕ, ◌+◌, ◌<◌, ◌≤◌, List, [], ◌∷◌, ◌++◌, Some, None}
+use Rattle.std.proofs.Common.{Contains, ap, arith, refl, subst, sym}
+use Rattle.std.specs.Global.{Vec}
+use Rattle.ly_base.proofs.ListLemmas.{All-at}
+use Rattle.ly_base.specs.declared.numbers.RuleNo.{RuleNo}
+use Rattle.std.proofs.lemmas.List.Elements.{Contains-push_cases}
+use Rattle.ly_base.specs.declared.numbers.Sym.{Sym}
+use Rattle.ly_pack.specs.Machine.{IsMachine, IsRuleWithin, IsTableRule, Machine, TableAction, TableRule, accept}
+use Rattle.ly_pack.specs.Machine.{action_of, error, goto_at, reduce, shift}
+use Rattle.ly_pack.specs.Steady.{accepts, here, onward, perform, reads, refuses, run_bound}
+use Rattle.ly_pack.proofs.Runs.{reduces_above}
+use Rattle.ly_pack.proofs.WithinLemmas.{rule_known}
+use Rattle.ly_loop.specs.Private.Known.{AreKnown, IsKept, IsLonger, IsLookup, IsWithinStates}
+use Rattle.ly_loop.specs.Private.Known.{Summaries}
+use Rattle.ly_loop.specs.Private.Summary.{ComesTo, EndsSo, IsAllowed, IsBehind, IsGone, IsLeaving, IsLeft, IsSummary}
+use Rattle.ly_loop.specs.Private.Summary.{IsJoined, IsSummaryBy, IsSummaryByAll, IsOver}
+use Rattle.ly_loop.specs.Private.Reductions.{AreAllReductions, AreReductions}
+use Rattle.ly_loop.specs.declared.known.Edge.{Edge}
+use Rattle.ly_loop.specs.declared.known.Lookup.{Lookup}
+use Rattle.ly_loop.specs.declared.known.Lookup.TheVariants.{Known, Unknown, Wanted}
+use Rattle.ly_loop.specs.declared.summary.Ending.TheVariants.{Over, Leaves}
+use Rattle.ly_loop.specs.declared.summary.Summary.{Summary}
+use Rattle.ly_loop.proofs.SummaryLemmas.{comes_after, comes_over, leaving_on, leaving_pops, over_on, over_so}
+use Rattle.ly_loop.proofs.SummaryLemmas.{popping_on, popping_over}
+
+-- what is no reduction ends the run, whatever lies below
+pub unreduced_over : (m : Machine) (t top : ℕ) (rest : List ℕ) (a : TableAction) → action_of m top t ≡ a
+    → ((p : ℕ) → a ≡ reduce p → ⊥) → IsOver m t (top ∷ rest)
+unreduced_over m t top rest (shift s) is not = (reads s, λ more. ap (perform m ((top ∷ rest) ++ more)) is)
+unreduced_over m t top rest (reduce p) is not = absurd (not p refl)
+unreduced_over m t top rest accept is not = (accepts, λ more. ap (perform m ((top ∷ rest) ++ more)) is)
+unreduced_over m t top rest error is not = (refuses, λ more. ap (perform m ((top ∷ rest) ++ more)) is)
+
+-- above a state that doesn't reduce
+unreduced_summary : (m : Machine) (below top : ℕ) (row : List RuleNo) (o : Summary) → AreReductions m top row → row ≡ []
+    → o.most ≡ 0 → o.ending ≡ Over → IsSummary m below top o
+unreduced_summary m below top row o are none most ending = record {
+  allowed = record { low = omega (arith, most); left = subst (IsLeft m) (sym ending) tt };
+  runs = λ t known. comes_over m t (top ∷ below ∷ []) o
+      (unreduced_over m t top (below ∷ []) (action_of m top t) refl (λ p is.
+      let r = are.whole t p is in
+      let has : Contains [] r.0 = subst (λ rs. Contains rs r.0) none r.1 in absurd (omega (arith, has.1))));
+}
+
+-- what is looked up is true
+pub kept_is : (m : Machine) (reductions : List (Vec RuleNo)) (summaries : Summaries) (edge : Edge) (found : Lookup)
+    → AreAllReductions m reductions → AreKnown m summaries → IsWithinStates m edge
+    → IsKept reductions summaries edge found → IsLookup m (IsSummary m edge.below.0 edge.top.0) found
+kept_is m reductions summaries edge (Known o) all known within (inl none) =
+    unreduced_summary m edge.below.0 edge.top.0 none.0.items o (all.each edge.top.0 none.0 none.1) none.2 none.3 none.4
+kept_is m reductions summaries edge (Known o) all known within (inr kept) = known edge.below.0 edge.top.0 o kept
+kept_is m reductions summaries edge Unknown all known within kept = tt
+kept_is m reductions summaries edge (Wanted wanted) all known within kept = subst (IsWithinStates m) (sym kept) within
+
+-- with reductions before
+pub longer_is : (m : Machine) (P Q : Summary → Type 0) (made : ℕ) (found longer : Lookup)
+    → ((o p : Summary) → p.most ≡ made + o.most → p.most ≤ run_bound → p.ending ≡ o.ending → P o → Q p)
+    → IsLookup m P found → IsLonger made found longer → IsLookup m Q longer
+longer_is m P Q made (Known o) (Known p) onto is so = onto o p so.0 so.1 so.2 is
+longer_is m P Q made (Known o) Unknown onto is so = tt
+longer_is m P Q made (Known o) (Wanted edge) onto is so = absurd so
+longer_is m P Q made Unknown longer onto is so = subst (IsLookup m Q) (sym so) tt
+longer_is m P Q made (Wanted edge) longer onto is so = subst (IsLookup m Q) (sym so) is
+
+-- what isn't known isn't afterwards
+pub longer_other : (m : Machine) (P Q : Summary → Type 0) (made : ℕ) (found longer : Lookup) → IsLookup m P found
+    → ((o : Summary) → found ≡ Known o → ⊥) → IsLonger made found longer → IsLookup m Q longer
+longer_other m P Q made (Known o) longer is not so = absurd (not o refl)
+longer_other m P Q made Unknown longer is not so = subst (IsLookup m Q) (sym so) tt
+longer_other m P Q made (Wanted edge) longer is not so = subst (IsLookup m Q) (sym so) is
+
+-- with reductions before, a summary that is low enough is allowed
+allowed_longer : (m : Machine) (o p : Summary) → p.most ≤ run_bound → p.ending ≡ o.ending → IsAllowed m o
+    → IsAllowed m p
+allowed_longer m o p low ending is = record { low = low; left = subst (IsLeft m) (sym ending) is.left }
+
+-- one reduction that takes all above a state away
+pub beside_is : (m : Machine) (under left next : ℕ) → Some next ≡ goto_at m under left → (o p : Summary)
+    → p.most ≡ 1 + o.most → p.most ≤ run_bound → p.ending ≡ o.ending → IsSummary m under next o
+    → IsGone m under [] left p
+beside_is m under left next goto o p most low ending is = record {
+  allowed = allowed_longer m o p low ending is.allowed;
+  runs = λ t stack known pops. comes_after m t stack (next ∷ under ∷ []) 1 1 o p
+      (onward (popping_on m t stack under [] left pops next goto) here) (omega arith) most ending (is.runs t known);
+}
+
+-- one reduction of nothing
+pub above_is : (m : Machine) (below top left next : ℕ) (inner : Summary) → Some next ≡ goto_at m top left
+    → IsSummary m top next inner → (o p : Summary) → p.most ≡ 1 + o.most → p.most ≤ run_bound → p.ending ≡ o.ending
+    → IsBehind m below inner o → IsGone m top (below ∷ []) left p
+above_is m below top left next inner goto was o p most low ending is = record {
+  allowed = allowed_longer m o p low ending is.allowed;
+  runs = λ t stack known pops. comes_after m t stack (next ∷ top ∷ below ∷ []) 1 1 o p
+      (onward (popping_on m t stack top (below ∷ []) left pops next goto) here) (omega arith) most ending
+      (is.runs t (next ∷ top ∷ []) known (was.runs t known));
+}
+
+-- above one more state, where the reduction takes away what lies above that
+pub behind_none : (m : Machine) (below left : ℕ) (inner : Summary) (rest : ℕ) (side : Sym)
+    → inner.ending ≡ Leaves rest side → rest ≡ 0 → side.0 ≡ left → (o p : Summary) → p.most ≡ inner.most + o.most → p.most ≤ run_bound
+    → p.ending ≡ o.ending → IsGone m below [] left o → IsBehind m below inner p
+behind_none m below left inner rest side is_so none same o p most low ending is = record {
+  allowed = allowed_longer m o p low ending is.allowed;
+  runs = λ t stack known c. onto t stack known c (subst (EndsSo m t c.last) is_so c.ending);
+}
+  where
+    onto : (t : ℕ) (stack : List ℕ) → t < m.terminals → (c : ComesTo m t stack inner)
+        → EndsSo m t c.last (Leaves rest side) → ComesTo m t (stack ++ below ∷ []) p
+    onto t stack known c (inl over) = record {
+      count = c.count;
+      last = c.last ++ below ∷ [];
+      leads = reduces_above m t (below ∷ []) c.leads;
+      within = omega (arith, c.within, most);
+      ending = over_so m t (c.last ++ below ∷ []) p.ending (over_on m t c.last below over);
+    }
+    onto t stack known c (inr leaves) =
+        let leaves' = subst (λ n. IsLeaving m t c.last n left) none
+        (subst (λ n. IsLeaving m t c.last rest n) same leaves) in
+        comes_after m t (stack ++ below ∷ []) (c.last ++ below ∷ []) c.count inner.most o p
+        (reduces_above m t (below ∷ []) c.leads) c.within most ending
+        (is.runs t (c.last ++ below ∷ []) known (leaving_pops m t c.last below left leaves'))
+
+-- where it takes away others as well
+pub behind_more : (m : Machine) (below : ℕ) (inner : Summary) (rest more : ℕ) (side : Sym)
+    → inner.ending ≡ Leaves rest side → rest ≡ more + 1 → IsAllowed m inner
+    → IsBehind m below inner (record { most = inner.most; ending = Leaves more side })
+behind_more m below inner rest more side is_so one allowed = record {
+  allowed = record { low = allowed.low; left = subst (IsLeft m) is_so allowed.left };
+  runs = λ t stack known c. record {
+    count = c.count;
+    last = c.last ++ below ∷ [];
+    leads = reduces_above m t (below ∷ []) c.leads;
+    within = c.within;
+    ending = onto t c.last (subst (EndsSo m t c.last) is_so c.ending);
+  };
+}
+  where
+    onto : (t : ℕ) (last : List ℕ) → EndsSo m t last (Leaves rest side)
+        → EndsSo m t (last ++ below ∷ []) (Leaves more side)
+    onto t last (inl over) = inl (over_on m t last below over)
+    onto t last (inr leaves) = inr (leaving_on m t last below rest more side.0 (omega (arith, one)) leaves)
+
+-- where a goto is missing
+pub missing_is : (m : Machine) (under : ℕ) (below : List ℕ) (left : ℕ) → None ≡ goto_at m under left
+    → IsGone m under below left (record { most = 0; ending = Over })
+missing_is m under below left none = record {
+  allowed = record { low = omega arith; left = tt };
+  runs = λ t stack known pops. comes_over m t stack (record { most = 0; ending = Over })
+      (popping_over m t stack under below left pops none);
+}
+
+-- a rule's left side is there
+rule_left : (m : Machine) (p : ℕ) (r : TableRule) → IsMachine m → IsTableRule m p r → r.left < m.nonterminals
+rule_left m p r ok is = (All-at (IsRuleWithin m.nonterminals) m.rules is.0 r ok.rules is.2).left
+
+-- a reduction of two symbols or more takes the state below away
+pub leaves_by : (m : Machine) (below top p : ℕ) (r : TableRule) (rest : ℕ) (side : Sym) → IsMachine m
+    → IsTableRule m p r → r.left ≡ side.0 → r.body_length ≡ 2 + rest
+    → IsSummaryBy m below top p (record { most = 0; ending = Leaves rest side })
+leaves_by m below top p r rest side ok is left size = record {
+  allowed = record {
+    low = omega arith;
+    left = subst (λ n. n < m.nonterminals) left (rule_left m p r ok is);
+  };
+  runs = λ t known by. record {
+    count = 0;
+    last = top ∷ below ∷ [];
+    leads = here;
+    within = omega arith;
+    ending = inr (record {
+      number = p;
+      rule = r;
+      reduces = by;
+      is_rule = rule_known m p r is;
+      left_side = left;
+      size = size;
+    });
+  };
+}
+
+-- one rule more
+pub more_is : (m : Machine) (below top : ℕ) (rules : List RuleNo) (r : RuleNo) (all one joined : Summary)
+    → IsSummaryByAll m below top rules all → IsSummaryBy m below top r.0 one → IsJoined m all one joined
+    → IsSummaryByAll m below top (rules ++ r ∷ []) joined
+more_is m below top rules r all one joined was is both = record {
+  allowed = both.allowed was.allowed is.allowed;
+  runs = λ t q known has by. elim (Contains-push_cases rules r q has) [
+    | inl old ↦ both.first t (top ∷ below ∷ []) (was.runs t q known old by)
+    | inr same ↦ both.second t (top ∷ below ∷ []) (is.runs t known (by ∙ ap (λ (x : RuleNo). reduce x.0) (sym same)))
+  ];
+}
+
+-- all the rules by which a state reduces
+pub all_is : (m : Machine) (below top : ℕ) (rules : List RuleNo) (o : Summary) → AreReductions m top rules
+    → IsSummaryByAll m below top rules o → IsSummary m below top o
+all_is m below top rules o are is = record {
+  allowed = is.allowed;
+  runs = λ t known. by_action t known (action_of m top t) refl;
+}
+  where
+    by_action : (t : ℕ) → t < m.terminals → (a : TableAction) → action_of m top t ≡ a
+        → ComesTo m t (top ∷ below ∷ []) o
+    by_action t known (shift s) a =
+        comes_over m t (top ∷ below ∷ []) o (unreduced_over m t top (below ∷ []) (shift s) a (λ p e. absurd (cc)))
+    by_action t known (reduce p) a =
+        let r = are.whole t p a in
+        is.runs t r.0 known r.1 (a ∙ ap reduce (sym r.2))
+    by_action t known accept a =
+        comes_over m t (top ∷ below ∷ []) o (unreduced_over m t top (below ∷ []) accept a (λ p e. absurd (cc)))
+    by_action t known error a =
+        comes_over m t (top ∷ below ∷ []) o (unreduced_over m t top (below ∷ []) error a (λ p e. absurd (cc)))
+
+-- what indexing gives past the end
+abbrev pub no_rule : RuleNo
+no_rule = record { 0 = 0 }

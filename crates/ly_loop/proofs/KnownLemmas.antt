@@ -1,0 +1,81 @@
+-- What is known of edges, and the edges that are sought.
+use Rattle.std.proofs.Common.{◌≡◌, ◌∙◌, ℕ, List, [], ◌∷◌, ◌++◌, Option, Some, None}
+use Rattle.std.proofs.Common.{Bool, false, is_some, true, arith, length, refl, subst, sym}
+use Rattle.std.specs.BTreeMap.{is_at}
+use Rattle.std.specs.Ordering.{is_eq, nat_cmp}
+use Rattle.std.specs.Prelude.{IfSome, cond}
+use Rattle.std.specs.declared.cmp.Ordering.{Ordering}
+use Rattle.std.specs.declared.cmp.Ordering.TheVariants.{Equal, Greater, Less}
+use Rattle.std.proofs.lemmas.Map.Lookups.{exact_pairs, exact_unsigned}
+use Rattle.std.proofs.lemmas.List.Elements.{All-contains, All-push, All-take, Contains-push}
+use Rattle.std.proofs.Math.Seq.{take-append_seam}
+use Rattle.ly_pack.specs.Machine.{Machine}
+use Rattle.ly_loop.specs.Private.Known.{AreKnown, ArePending, IsLookup, IsSummaryOf, IsWithinStates}
+use Rattle.ly_loop.specs.Private.Known.{Summaries, edge_cmp, kept_at}
+use Rattle.ly_loop.specs.declared.known.Pending.{Pending}
+use Rattle.ly_loop.specs.Private.Summary.{IsSummary}
+use Rattle.ly_loop.specs.Private.Path.{AllEnd}
+use Rattle.ly_loop.specs.declared.known.Edge.{Edge}
+use Rattle.ly_loop.specs.declared.known.Lookup.{Lookup}
+use Rattle.ly_loop.specs.declared.known.Lookup.TheVariants.{Known, Unknown, Wanted}
+use Rattle.ly_loop.specs.declared.summary.Summary.{Summary}
+use Rattle.ly_loop.proofs.SummaryLemmas.{summary_ends}
+
+-- keys that are equal in order are the same edge
+equal_from : (o : Ordering) → is_eq o ≡ true → o ≡ Equal
+equal_from Less is = absurd (cc)
+equal_from Equal is = refl
+equal_from Greater is = absurd (cc)
+
+same_edge : (x y : ℕ × ℕ) → is_eq (edge_cmp x y) ≡ true → x ≡ y
+same_edge x y is = exact_pairs nat_cmp nat_cmp exact_unsigned exact_unsigned x y (equal_from (edge_cmp x y) is)
+
+-- an edge of which something is kept that is true
+pub put_is : (m : Machine) (old new : Summaries) (below top : ℕ) (w : Option Summary)
+    → ((q : ℕ × ℕ) → kept_at new q ≡ cond (is_at (edge_cmp (below, top)) q) (Some w) (kept_at old q))
+    → IfSome w (IsSummary m below top) → AreKnown m old → AreKnown m new
+put_is m old new below top w put is known b t o kept =
+    by_test (is_at (edge_cmp (below, top)) (b, t)) refl (sym (put (b, t)) ∙ kept)
+  where
+    by_test : (r : Bool) → is_at (edge_cmp (below, top)) (b, t) ≡ r
+        → cond r (Some w) (kept_at old (b, t)) ≡ Some (Some o) → IsSummary m b t o
+    by_test true at same =
+        let pair = same_edge (below, top) (b, t) at in
+        let that : w ≡ Some o = cc in
+        let so : IsSummary m below top o = subst (λ x. IfSome x (IsSummary m below top)) that is in
+        subst (λ (x : ℕ × ℕ). IsSummary m x.0 x.1 o) pair so
+    by_test false at same = known b t o same
+
+-- the first edge that is sought
+pub pending_one : (m : Machine) (last none : List Pending) (edge : Edge) → none ≡ []
+    → last ≡ none ++ record { edge = edge; passed = 0 } ∷ [] → IsWithinStates m edge → ArePending m last
+pending_one m last none edge e0 e1 within = subst (ArePending m) (sym e1)
+    (All-push (λ (p : Pending). IsWithinStates m p.edge) none (record { edge = edge; passed = 0 })
+    (subst (ArePending m) (sym e0) (λ k d lt. absurd (omega arith))) within)
+
+-- the last one again, and one that is sought for it
+pub pending_two : (m : Machine) (old popped pushed last : List Pending) (p : Pending) (passed : ℕ) (wanted : Edge)
+    → ArePending m old → old ≡ popped ++ p ∷ [] → pushed ≡ popped ++ record { edge = p.edge; passed = passed } ∷ []
+    → last ≡ pushed ++ record { edge = wanted; passed = 0 } ∷ [] → IsWithinStates m wanted → ArePending m last
+pending_two m old popped pushed last p passed wanted all e0 e1 e2 within =
+    let P : Pending → Type 0 = λ x. IsWithinStates m x.edge in
+    let whole : ArePending m (popped ++ p ∷ []) = subst (ArePending m) e0 all in
+    let rest : ArePending m popped = subst (ArePending m) (take-append_seam popped (p ∷ []))
+    (All-take P (length popped) (popped ++ p ∷ []) whole) in
+    let here : IsWithinStates m p.edge = All-contains P (popped ++ p ∷ []) p whole (Contains-push popped p) in
+    let again : ArePending m pushed = subst (ArePending m) (sym e1)
+    (All-push P popped (record { edge = p.edge; passed = passed }) rest here) in
+    subst (ArePending m) (sym e2) (All-push P pushed (record { edge = wanted; passed = 0 }) again within)
+
+-- where a summary can be said, all runs end
+pub some_ends : (m : Machine) (below top : ℕ) (found : Option Summary) → IfSome found (IsSummary m below top)
+    → is_some found ≡ true → AllEnd m below top
+some_ends m below top None is some = absurd (cc)
+some_ends m below top (Some o) is some = summary_ends m below top o is
+
+-- a summary that is known is true
+pub summary_is : (m : Machine) (P : Summary → Type 0) (found : Lookup) (o : Option Summary) → IsLookup m P found
+    → IsSummaryOf found o → IfSome o P
+summary_is m P (Known p) o is so = subst (λ (x : Option Summary). IfSome x P) (sym so) is
+summary_is m P Unknown o is so = subst (λ (x : Option Summary). IfSome x P) (sym so) tt
+summary_is m P (Wanted edge) o is so = subst (λ (x : Option Summary). IfSome x P) (sym so) tt

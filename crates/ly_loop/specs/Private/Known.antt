@@ -1,0 +1,78 @@
+-- What is known of the runs of edges.
+use Rattle.std.specs.Prelude.{◌≡◌, ◌⊎◌, ℕ, ◌+◌, ◌<◌, ◌≤◌, List, [], Option, None, Some, All, slice_get}
+use Rattle.std.specs.BTreeMap.{BTreeMap}
+use Rattle.std.specs.BTreeMap as tree
+use Rattle.std.specs.Global.{Vec}
+use Rattle.std.specs.Ordering.{nat_cmp, ordering_then}
+use Rattle.std.specs.declared.cmp.Ordering.{Ordering}
+use Rattle.ly_base.specs.declared.numbers.RuleNo.{RuleNo}
+use Rattle.ly_pack.specs.Machine.{Machine, states_of}
+use Rattle.ly_pack.specs.Steady.{run_bound}
+use Rattle.ly_loop.specs.Private.Summary.{IsSummary}
+use Rattle.ly_loop.specs.declared.known.Edge.{Edge}
+use Rattle.ly_loop.specs.declared.known.Lookup.{Lookup}
+use Rattle.ly_loop.specs.declared.known.Lookup.TheVariants.{Known, Unknown, Wanted}
+use Rattle.ly_loop.specs.declared.known.Pending.{Pending}
+use Rattle.ly_loop.specs.declared.summary.Ending.TheVariants.{Over}
+use Rattle.ly_loop.specs.declared.summary.Summary.{Summary}
+
+-- summaries, by the states of their edges
+abbrev pub Summaries : Type 0
+Summaries = BTreeMap (ℕ × ℕ) (Option Summary)
+
+-- edges in order
+abbrev pub edge_cmp : ℕ × ℕ → ℕ × ℕ → Ordering
+edge_cmp x y = ordering_then (nat_cmp x.0 y.0) (nat_cmp x.1 y.1)
+
+-- what is kept for an edge, if anything is
+abbrev pub kept_at : Summaries → ℕ × ℕ → Option (Option Summary)
+kept_at summaries edge = tree.get edge_cmp summaries edge
+
+-- the summaries that are kept are true
+abbrev pub AreKnown : Machine → Summaries → Type 0
+AreKnown m summaries = (below top : ℕ) (o : Summary) → kept_at summaries (below, top) ≡ Some (Some o)
+    → IsSummary m below top o
+
+-- summaries that were true are so with those that are kept now
+abbrev pub IsNoMore : Summaries → Summaries → Type 0
+IsNoMore old new = (m : Machine) → AreKnown m old → AreKnown m new
+
+-- the states of an edge are there
+abbrev pub IsWithinStates : Machine → Edge → Type 0
+IsWithinStates m edge = (edge.below.0 < states_of m) × (edge.top.0 < states_of m)
+
+-- the edges that are sought are there
+abbrev pub ArePending : Machine → List Pending → Type 0
+ArePending m agenda = All (λ p. IsWithinStates m p.edge) agenda
+
+-- what is looked up: a summary of which something is true, or an edge that is wanted first
+abbrev pub IsLookup : Machine → (Summary → Type 0) → Lookup → Type 0
+IsLookup m P (Known o) = P o
+IsLookup m P Unknown = Unit {0}
+IsLookup m P (Wanted edge) = IsWithinStates m edge
+
+-- a known summary makes no more reductions than are allowed
+abbrev pub IsLow : Lookup → Type 0
+IsLow (Known o) = o.most ≤ run_bound
+IsLow _ = Unit {0}
+
+-- the same with so many reductions before, where it is known
+abbrev pub IsLonger : ℕ → Lookup → Lookup → Type 0
+IsLonger made (Known o) (Known p) = (p.most ≡ made + o.most) × (p.most ≤ run_bound) × (p.ending ≡ o.ending)
+IsLonger made (Known o) Unknown = Unit {0}
+IsLonger made (Known o) (Wanted edge) = ⊥
+IsLonger made Unknown found = found ≡ Unknown
+IsLonger made (Wanted edge) found = found ≡ Wanted edge
+
+-- what is looked up: runs that end at once, above a state that doesn't reduce, or what is kept
+abbrev pub IsKept : List (Vec RuleNo) → Summaries → Edge → Lookup → Type 0
+IsKept reductions summaries edge (Known o) =
+    ((row : Vec RuleNo) × (slice_get reductions edge.top.0 ≡ Some row) × (row.items ≡ []) × (o.most ≡ 0)
+    × (o.ending ≡ Over)) ⊎ (kept_at summaries (edge.below.0, edge.top.0) ≡ Some (Some o))
+IsKept reductions summaries edge Unknown = Unit {0}
+IsKept reductions summaries edge (Wanted wanted) = wanted ≡ edge
+
+-- the summary, if it is known
+abbrev pub IsSummaryOf : Lookup → Option Summary → Type 0
+IsSummaryOf (Known o) found = found ≡ Some o
+IsSummaryOf _ found = found ≡ None

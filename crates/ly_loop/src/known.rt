@@ -1,0 +1,201 @@
+//! What is known of the runs of edges, each worked out once.
+ghost use Rattle.std.specs.Prelude.{◌≡◌, ◌++◌, [], ◌∷◌, IfOk, IfSome, OnOk};
+ghost use Rattle.std.specs.BTreeMap.{IsEmpty};
+ghost use Rattle.ly_loop.specs.Private.Known.{AreKnown, ArePending, IsNoMore, IsSummaryOf, IsWithinStates};
+ghost use Rattle.ly_loop.specs.Private.Summary.{IsSummary};
+ghost use Rattle.ly_loop.specs.Private.Reductions.{AreAllReductions, AreReductions};
+ghost use Rattle.ly_loop.specs.Private.Run.{IsCountable};
+
+use crate::by_rule::{all_by_rules, by_rule, look_up};
+use crate::summary::Summary;
+use ly_base::{OutOfMemory, RuleNo, StateNo};
+use ly_pack::{Machine, Rows, TableAction};
+use std::alloc::Global;
+use std::collections::BTreeMap;
+
+/// The two states of an edge.
+#[derive(Clone, Copy)]
+pub(crate) struct Edge {
+    /// The state below.
+    pub(crate) below: StateNo,
+    /// The state on top.
+    pub(crate) top: StateNo,
+}
+
+/// What is known of some runs.
+#[derive(Clone, Copy)]
+pub(crate) enum Lookup {
+    /// What they come to.
+    Known(Summary),
+    /// Nothing, and it isn't sought.
+    Unknown,
+    /// What the runs of this edge come to has to be known first.
+    Wanted(Edge),
+}
+
+impl Lookup {
+    /// The summary, if it is known.
+    fn summary(self) -> Option<Summary>
+        ensures { IsSummaryOf self result }
+    {
+        match self {
+            Lookup::Known(summary) => Some(summary),
+            _ => None,
+        }
+    }
+}
+
+/// An edge whose summary is sought.
+#[derive(Clone, Copy)]
+pub(crate) struct Pending {
+    /// The edge.
+    pub(crate) edge: Edge,
+    /// So many of the rules of its state on top want no other edge.
+    pub(crate) passed: usize,
+}
+
+/// What is known of edges.
+#[derive(Drop)]
+pub(crate) struct Known {
+    /// What the runs of an edge come to, by the numbers of its states. Nothing where it is sought, or can't be said.
+    pub(crate) summaries: BTreeMap<(u32, u32), Option<Summary>>,
+    /// The edges whose summaries are sought, each for the one before it.
+    pub(crate) agenda: Vec<Pending>,
+}
+
+impl Known {
+    /// Nothing is known.
+    pub(crate) fn new(alloc: Global) -> Known
+        ensures { IsEmpty result.summaries }
+    {
+        Known {
+            summaries: BTreeMap::new(alloc),
+            agenda: Vec::new(alloc),
+        }
+    }
+}
+
+/// What the runs of an edge come to, if it can be said. The edges that this takes are worked out before.
+pub(crate) fn summary_of<A: Rows<TableAction> + Drop, G: Rows<StateNo> + Drop>(
+    machine: &Machine<A, G>,
+    reductions: &[Vec<RuleNo>],
+    edge: Edge,
+    known: &mut Known,
+) -> Result<Option<Summary>, OutOfMemory>
+    requires countable { IsCountable machine.now }
+    requires reductions { AreAllReductions machine.now reductions.now }
+    requires edge { IsWithinStates machine.now edge }
+    requires known { AreKnown machine.now known.old.summaries }
+    ensures known { OnOk result (AreKnown machine.now known.new.summaries) }
+    ensures summary { IfOk result (λ found. IfSome found (IsSummary machine.now edge.below.0 edge.top.0)) }
+{
+    let rules = &reductions[edge.top.0 as usize];
+    let found = all_by_rules(machine, reductions, rules, edge, &known.summaries);
+    match found {
+        Lookup::Known(summary) => Ok(Some(summary)),
+        Lookup::Unknown => Ok(None),
+        Lookup::Wanted(_) => {
+            seek(machine, reductions, edge, known)?;
+            Ok(look_up(reductions, &known.summaries, edge).summary())
+        }
+    }
+}
+
+/// Works out an edge, and before it those that this takes.
+fn seek<A: Rows<TableAction> + Drop, G: Rows<StateNo> + Drop>(
+    machine: &Machine<A, G>,
+    reductions: &[Vec<RuleNo>],
+    edge: Edge,
+    known: &mut Known,
+) -> Result<(), OutOfMemory>
+    requires countable { IsCountable machine.now }
+    requires reductions { AreAllReductions machine.now reductions.now }
+    requires edge { IsWithinStates machine.now edge }
+    requires known { AreKnown machine.now known.old.summaries }
+    ensures { OnOk result (AreKnown machine.now known.new.summaries) }
+{
+    known.agenda.clear();
+    begin(edge, known)?;
+    for _turn in 0..u64::MAX {
+        if !work(machine, reductions, known)? {
+            break;
+        }
+    }
+    Ok(())
+}
+
+/// Puts an edge on the agenda.
+fn begin(edge: Edge, known: &mut Known) -> Result<(), OutOfMemory>
+    ensures known { OnOk result (IsNoMore known.old.summaries known.new.summaries) }
+    ensures agenda { OnOk result
+        (known.new.agenda.items ≡ known.old.agenda.items ++ record { edge = edge; passed = 0 } ∷ []) }
+{
+    known.summaries.insert((edge.below.0, edge.top.0), None)?;
+    known.agenda.push(Pending { edge, passed: 0 })?;
+    Ok(())
+}
+
+/// Works out the last edge on the agenda, or puts one on it that has to be known first. False where none is left.
+fn work<A: Rows<TableAction> + Drop, G: Rows<StateNo> + Drop>(
+    machine: &Machine<A, G>,
+    reductions: &[Vec<RuleNo>],
+    known: &mut Known,
+) -> Result<bool, OutOfMemory>
+    requires countable { IsCountable machine.now }
+    requires reductions { AreAllReductions machine.now reductions.now }
+    requires known { AreKnown machine.now known.old.summaries }
+    requires agenda { ArePending machine.now known.old.agenda.items }
+    ensures known { OnOk result (AreKnown machine.now known.new.summaries) }
+    ensures agenda { OnOk result (ArePending machine.now known.new.agenda.items) }
+{
+    let Some(pending) = known.agenda.pop() else {
+        return Ok(false);
+    };
+    let edge = pending.edge;
+    let rules = &reductions[edge.top.0 as usize];
+    if let Some((passed, wanted)) = first_wanted(
+        machine,
+        reductions,
+        rules,
+        pending,
+        &known.summaries,
+    ) {
+        known.agenda.push(Pending { edge, passed })?;
+        begin(wanted, known)?;
+    } else {
+        let found = all_by_rules(machine, reductions, rules, edge, &known.summaries);
+        known
+            .summaries
+            .insert((edge.below.0, edge.top.0), found.summary())?;
+    }
+    Ok(true)
+}
+
+/// The first rule, behind those that are passed, by which the runs of an edge come to one that has to be known first.
+fn first_wanted<A: Rows<TableAction> + Drop, G: Rows<StateNo> + Drop>(
+    machine: &Machine<A, G>,
+    reductions: &[Vec<RuleNo>],
+    rules: &[RuleNo],
+    pending: Pending,
+    summaries: &BTreeMap<(u32, u32), Option<Summary>>,
+) -> Option<(usize, Edge)>
+    requires countable { IsCountable machine.now }
+    requires reductions { AreAllReductions machine.now reductions.now }
+    requires rules { AreReductions machine.now pending.edge.top.0 rules.now }
+    requires edge { IsWithinStates machine.now pending.edge }
+    requires known { AreKnown machine.now summaries.now }
+    ensures { IfSome result (λ found. IsWithinStates machine.now found.1) }
+{
+    for place in pending.passed..rules.len() {
+        if let Lookup::Wanted(edge) = by_rule(
+            machine,
+            reductions,
+            rules[place],
+            pending.edge,
+            summaries,
+        ) {
+            return Some((place, edge));
+        }
+    }
+    None
+}
