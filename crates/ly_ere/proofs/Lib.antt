@@ -21,6 +21,7 @@ pub mod NameLaws
 pub mod NameLemmas
 pub mod NamedLemmas
 pub mod NamedLengthLemmas
+pub mod NamesLemmas
 pub mod NextElementLemmas
 pub mod NumberLemmas
 pub mod NumberedLemmas
