@@ -3,6 +3,7 @@ use Rattle.std.proofs.Common.{◌≡◌, ◌≢◌, ℕ, List, [], refl, sym, ap
 use Rattle.ly_base.proofs.GapLemmas.{comment_one}
 use Rattle.ly_lexread.specs.Definitions.{CommentEnds, Definitions, LineSays, Preamble, Says, mark, more}
 use Rattle.ly_lexread.specs.Lines.{BlockEnds, LineBefore, kind_of}
+use Rattle.ly_lexread.specs.Private.Definitions.{Adds, Ends}
 use Rattle.ly_lexread.specs.declared.kind.LineKind.{LineKind}
 use Rattle.ly_lexread.specs.declared.kind.LineKind.TheVariants.{Mark, Unused, Block, Comment, Directive, Plain}
 use Rattle.ly_lexread.proofs.DirectiveLemmas.{directive_one}
@@ -47,6 +48,34 @@ says_back p q text line behind rest k b e h =
     subst (λ i. LineSays i p text line behind q rest) e
     (subst (λ i. LineSays (kind_of line) p text line i q rest) same.1
     (subst (λ i. LineSays (kind_of i) p text i h.1 q rest) same.0 h.3))
+
+-- what a line says, by what is said behind it and what is left
+pub says_both : (k : LineKind) (p q : Preamble) (text line behind rest : List ℕ) → Ends k text behind rest
+    → Adds k p line q → LineSays k p text line behind q rest
+says_both Mark p q text line behind rest e a = absurd e
+says_both Unused p q text line behind rest e a = (a, e)
+says_both Block p q text line behind rest e a = (a, e)
+says_both Comment p q text line behind rest e a = (a, e)
+says_both Directive p q text line behind rest e a = (e, a.0, a.1)
+says_both Plain p q text line behind rest e a = (e, a.0, a.1)
+
+pub says_ends : (k : LineKind) (p q : Preamble) (text line behind rest : List ℕ)
+    → LineSays k p text line behind q rest → Ends k text behind rest
+says_ends Mark p q text line behind rest h = h
+says_ends Unused p q text line behind rest h = h.1
+says_ends Block p q text line behind rest h = h.1
+says_ends Comment p q text line behind rest h = h.1
+says_ends Directive p q text line behind rest h = h.0
+says_ends Plain p q text line behind rest h = h.0
+
+pub says_adds : (k : LineKind) (p q : Preamble) (text line behind rest : List ℕ)
+    → LineSays k p text line behind q rest → Adds k p line q
+says_adds Mark p q text line behind rest h = absurd h
+says_adds Unused p q text line behind rest h = h.0
+says_adds Block p q text line behind rest h = h.0
+says_adds Comment p q text line behind rest h = h.0
+says_adds Directive p q text line behind rest h = (h.1, h.2)
+says_adds Plain p q text line behind rest h = (h.1, h.2)
 
 pub says_one : (p q r : Preamble) (text u v : List ℕ) → Says p text q u → Says p text r v → (q ≡ r) × (u ≡ v)
 says_one p q r text u v a b = line_says_one (kind_of a.0) p q r text a.0 a.1 u v a.3

@@ -1,7 +1,7 @@
-ghost use Rattle.std.specs.Prelude.{◌≡◌, ◌≢◌, ◌<◌, length, IfOk, IfSome};
+ghost use Rattle.std.specs.Prelude.{◌≡◌, ◌≢◌, ◌<◌, ℕ, length, IfOk, IfSome, List, MatchOption};
 ghost use Rattle.ly_lexread.specs.Definitions.{at_first, DefinitionLine, Definitions, DirectiveLine, Says};
 ghost use Rattle.ly_lexread.specs.Faults.{IsOfText, IsTooHeavy};
-ghost use Rattle.ly_lexread.specs.Private.Definitions.{IsDirected, IsFound, preamble_of};
+ghost use Rattle.ly_lexread.specs.Private.Definitions.{preamble_of, Adds, Ends, IsDirected, IsFound};
 ghost use Rattle.ly_lexread.specs.declared.fault.LexFault.TheVariants.{OutOfMemory};
 
 use crate::conditions::Conditions;
@@ -33,6 +33,23 @@ impl<'t> Preamble<'t> {
             conditions: Conditions::new(alloc)?,
             definitions: NameLines::new(alloc),
         })
+    }
+
+    /// What is said behind a line of this kind.
+    fn with_line(
+        self,
+        alloc: Global,
+        kind: LineKind,
+        line: &'t [u8],
+        number: u64,
+    ) -> Result<Self, LexFault>
+        ensures { IsDirected (λ preamble. Adds kind (preamble_of self.entry) line.now (preamble_of preamble)) result }
+    {
+        match kind {
+            LineKind::Directive => self.directed(alloc, line, number),
+            LineKind::Plain => self.with_name(alloc, line, number),
+            LineKind::Mark | LineKind::Unused | LineKind::Block | LineKind::Comment => Ok(self),
+        }
     }
 
     /// What is said behind a line that begins with `%`.
@@ -104,20 +121,11 @@ fn read_definition_line<'t>(
     let Some((line, behind)) = text.first_line() else {
         return Err(fault);
     };
-    match kind_of(line) {
-        LineKind::Unused => Ok((preamble, behind)),
-        LineKind::Block => match behind_block(behind) {
-            Some(rest) => Ok((preamble, rest)),
-            None => Err(fault),
-        },
-        LineKind::Comment => match behind_comment(text) {
-            Some(rest) => Ok((preamble, rest)),
-            None => Err(fault),
-        },
-        LineKind::Directive => Ok((preamble.directed(alloc, line, text.line)?, behind)),
-        LineKind::Plain => Ok((preamble.with_name(alloc, line, text.line)?, behind)),
-        LineKind::Mark => Err(fault),
-    }
+    let kind = kind_of(line);
+    let Some(rest) = behind_definition(kind, text, behind) else {
+        return Err(fault);
+    };
+    Ok((preamble.with_line(alloc, kind, line, text.line)?, rest))
 }
 
 /// The fault that is answered where a line of the definitions, or the lack of a mark, has this one: the text of a
@@ -161,7 +169,10 @@ fn named_lines<'t>(alloc: Global, text: Rest<'t>) -> Result<NameLines<'t>, Alloc
 /// What is left behind a line of the definitions and those that go with it; `None` where it is a mark, or isn't closed.
 fn behind_definition<'t>(kind: LineKind, text: Rest<'t>, behind: Rest<'t>) -> Option<Rest<'t>>
     requires { length behind.bytes.now < length text.bytes.now }
-    ensures { IfSome result (λ rest. length rest.bytes.now < length text.entry.bytes.now) }
+    ensures these { MatchOption result
+        ((rest : List ℕ) → Ends kind text.entry.bytes.now behind.entry.bytes.now rest → ⊥)
+        (λ rest. Ends kind text.entry.bytes.now behind.entry.bytes.now rest.bytes.now) }
+    ensures shorter { IfSome result (λ rest. length rest.bytes.now < length text.entry.bytes.now) }
 {
     match kind {
         LineKind::Mark => None,

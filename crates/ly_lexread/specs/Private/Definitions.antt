@@ -1,10 +1,13 @@
 -- The definitions, as they are read.
-use Rattle.std.specs.Prelude.{◌≢◌, ℕ, List, Result, Ok, Err}
-use Rattle.ly_lexread.specs.Definitions.{Preamble}
+use Rattle.std.specs.Prelude.{◌≡◌, ◌≢◌, ℕ, List, Result, Ok, Err}
+use Rattle.ly_lexread.specs.Definitions.{CommentEnds, DefinitionLine, DirectiveLine, Preamble}
 use Rattle.ly_lexread.specs.Faults.{IsOfText, IsTooHeavy}
 use Rattle.ly_lexread.specs.declared.definitions.Preamble.{Preamble as ReadPreamble}
 use Rattle.ly_lexread.specs.declared.fault.LexFault.{LexFault}
 use Rattle.ly_lexread.specs.declared.fault.LexFault.TheVariants.{OutOfMemory}
+use Rattle.ly_lexread.specs.Lines.{BlockEnds}
+use Rattle.ly_lexread.specs.declared.kind.LineKind.{LineKind}
+use Rattle.ly_lexread.specs.declared.kind.LineKind.TheVariants.{Mark, Unused, Block, Comment, Directive, Plain}
 
 -- Is says what the text says: an answer is that, and a fault says that there is nothing.
 abbrev pub IsDirected : {T : Type 0} → (T → Type 0) → Result T LexFault → Type 0
@@ -20,3 +23,21 @@ IsFound {T} {X} Is value rest (Err fault) = (IsTooHeavy fault → ⊥)
 -- what was read of the definitions
 abbrev pub preamble_of : ReadPreamble → Preamble
 preamble_of p = record { conditions = p.conditions; definitions = p.definitions }
+
+-- what is left behind a line of a kind, and those that go with it
+abbrev pub Ends : LineKind → List ℕ → List ℕ → List ℕ → Type 0
+Ends Mark text behind rest = ⊥
+Ends Unused text behind rest = rest ≡ behind
+Ends Block text behind rest = BlockEnds behind rest
+Ends Comment text behind rest = CommentEnds text rest
+Ends Directive text behind rest = rest ≡ behind
+Ends Plain text behind rest = rest ≡ behind
+
+-- what is said behind such a line, from what was said before it
+abbrev pub Adds : LineKind → Preamble → List ℕ → Preamble → Type 0
+Adds Mark p line q = q ≡ p
+Adds Unused p line q = q ≡ p
+Adds Block p line q = q ≡ p
+Adds Comment p line q = q ≡ p
+Adds Directive p line q = (q.definitions ≡ p.definitions) × DirectiveLine p.conditions line q.conditions
+Adds Plain p line q = (q.conditions ≡ p.conditions) × DefinitionLine p.definitions line q.definitions
