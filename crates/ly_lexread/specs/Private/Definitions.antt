@@ -2,10 +2,10 @@
 use Rattle.std.specs.Prelude.{◌≡◌, ◌≢◌, ℕ, List, Result, Ok, Err}
 use Rattle.ly_lexread.specs.Definitions.{CommentEnds, DefinitionLine, DirectiveLine, Preamble}
 use Rattle.ly_lexread.specs.Faults.{IsOfText, IsTooHeavy}
+use Rattle.ly_lexread.specs.Lines.{BlockEnds}
 use Rattle.ly_lexread.specs.declared.definitions.Preamble.{Preamble as ReadPreamble}
 use Rattle.ly_lexread.specs.declared.fault.LexFault.{LexFault}
 use Rattle.ly_lexread.specs.declared.fault.LexFault.TheVariants.{OutOfMemory}
-use Rattle.ly_lexread.specs.Lines.{BlockEnds}
 use Rattle.ly_lexread.specs.declared.kind.LineKind.{LineKind}
 use Rattle.ly_lexread.specs.declared.kind.LineKind.TheVariants.{Mark, Unused, Block, Comment, Directive, Plain}
 
