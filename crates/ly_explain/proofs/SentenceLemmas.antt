@@ -1,6 +1,7 @@
 -- Leftmost derivations that are under way: what passes a terminal, what takes a rule, and where they end.
 use Rattle.std.proofs.Common.{◌≡◌, ◌∙◌, ◌↔◌, ℕ, ◌+◌, List, [], ◌∷◌, ◌++◌, refl, Option, Some, None}
-use Rattle.std.proofs.Common.{sym, ap, arith, subst, length, map, reverse, append-nil, slice_get, slice_index_or, ◌<◌, ◌≤◌}
+use Rattle.std.proofs.Common.{sym, ap, arith, subst, length, map, reverse, append-nil, slice_get, slice_index_or}
+use Rattle.std.proofs.Common.{◌<◌, ◌≤◌}
 use Rattle.std.proofs.lemmas.Option.{slice_get-get_or, slice_get-map, slice_get_within}
 use Rattle.std.specs.Option.{option_map}
 use Rattle.std.proofs.Common.{drop, suc}
@@ -187,7 +188,8 @@ pub way_on : (G : Grammar) (rules : List ℕ) (old new : List Symbol) (before be
 way_on G rules old new before behind o n left way passed e =
     let (us, front, back) = subst (IsPassed old new before behind) e passed in
     subst (λ w. IsUnderWay G rules w (nonterminal n.0 ∷ new) left) (sym back)
-    (way_passed G rules before (nonterminal n.0 ∷ new) us left (subst (λ w. IsUnderWay G rules before w left) front way))
+    (way_passed G rules before (nonterminal n.0 ∷ new) us left
+    (subst (λ w. IsUnderWay G rules before w left) front way))
 
 pub way_out : (G : Grammar) (rules : List ℕ) (old new : List Symbol) (before behind : List ℕ) (o : Option Sym)
     (left : List ℕ) → IsUnderWay G rules before old left → IsPassed old new before behind o → o ≡ None
@@ -282,7 +284,8 @@ no_rule_kept G rules these k past r is =
     absurd (omega (arith, lt, past, ap length these, length-map rules (λ x. Some x)))
 
 -- one rule has one left side
-pub rule_left_same : (G : Grammar) (p : ℕ) (q r : Rule) → IsRule G p q → IsRule G p r → {A : ℕ} → q.left ≡ A → r.left ≡ A
+pub rule_left_same : (G : Grammar) (p : ℕ) (q r : Rule) → IsRule G p q → IsRule G p r → {A : ℕ} → q.left ≡ A
+    → r.left ≡ A
 rule_left_same G p q r is_q is_r e =
     let one : Some (Some q) ≡ Some (Some r) = sym is_q ∙ is_r in
     let same : q ≡ r = cc in
@@ -293,3 +296,11 @@ pub next_rule : (rules : List ℕ) (k : ℕ) → k < length rules
     → drop k rules ≡ slice_index_or rules k 0 ∷ drop (k + 1) rules
 next_rule rules k lt = drop-cons rules k 0 lt
     ∙ ap (λ n. slice_index_or rules k 0 ∷ drop n rules) (let e : suc k ≡ k + 1 = omega arith in e)
+
+-- where rules are left, behind the terminals that are ahead: the next one is that of the nonterminal behind them
+pub way_next : (G : Grammar) (rules : List ℕ) (k : ℕ) (old new : List Symbol) (before behind : List ℕ) (o : Option Sym)
+    (n : Sym) → k < length rules → IsUnderWay G rules before old (drop k rules) → IsPassed old new before behind o
+    → o ≡ Some n
+    → IsUnderWay G rules behind (nonterminal n.0 ∷ new) (slice_index_or rules k 0 ∷ drop (k + 1) rules)
+way_next G rules k old new before behind o n lt way = way_on G rules old new before behind o n
+    (slice_index_or rules k 0 ∷ drop (k + 1) rules) (subst (IsUnderWay G rules before old) (next_rule rules k lt) way)

@@ -290,8 +290,8 @@ fn way_back(
     Ok(way)
 }
 
-/// Draws the rules of a way: a bracket where one begins below another, the symbols before the dots, and at the end a dot
-/// and what stands behind it in each rule, from the inmost one on; then the line ends. Of no way nothing is said.
+/// Draws the rules of a way: a bracket where one begins below another, the symbols before the dots, and at the end a
+/// dot and what stands behind it in each rule, from the inmost one on; then the line ends. Of no way nothing is said.
 pub(crate) fn say_way(
     alloc: Global,
     page: &mut Page,

@@ -98,7 +98,8 @@ above_is m below top left next inner goto was o p most low ending is = record {
 
 -- above one more state, where the reduction takes away what lies above that
 pub behind_none : (m : Machine) (below left : ℕ) (inner : Summary) (rest : ℕ) (side : Sym)
-    → inner.ending ≡ Leaves rest side → rest ≡ 0 → side.0 ≡ left → (o p : Summary) → p.most ≡ inner.most + o.most → p.most ≤ run_bound
+    → inner.ending ≡ Leaves rest side → rest ≡ 0 → side.0 ≡ left → (o p : Summary) → p.most ≡ inner.most + o.most
+    → p.most ≤ run_bound
     → p.ending ≡ o.ending → IsGone m below [] left o → IsBehind m below inner p
 behind_none m below left inner rest side is_so none same o p most low ending is = record {
   allowed = allowed_longer m o p low ending is.allowed;

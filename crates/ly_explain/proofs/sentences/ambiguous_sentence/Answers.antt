@@ -12,7 +12,8 @@ use Rattle.ly_explain.proofs.sentences.ambiguous_sentence.Goals as goal
 
 -- what is answered of the rules of a tree
 abbrev IsAnswered : Grammar → List ℕ → Option (Vec Sym) → Type 0
-IsAnswered G rules o = MatchOption o (AreOfNone G rules) (λ sentence. IsOnlySentence G rules (numbers_of sentence.items))
+IsAnswered G rules o = MatchOption o (AreOfNone G rules)
+    (λ sentence. IsOnlySentence G rules (numbers_of sentence.items))
 
 pub returns-in_default : goal.returns-in_default
 returns-in_default c w two =
@@ -32,9 +33,9 @@ returns-then-ne c w two =
     let sentence = c.in-Some.sentence.items in
     let other : false ≡ pointwise nat_eq (numbers_of same) (numbers_of sentence)
     = sym (not-true _ (sym c.ne.ensures ∙ c.if-ne.true)) ∙ sym (pointwise-map (λ t. t.0) nat_eq same sentence) in
-    let first = (subst (IsAnswered c.args.grammar.now c.args.one.now) c.in-Some.is c.in_ok-sentence.ensures).1 w two.first in
-    let second = (subst (IsAnswered c.args.grammar.now c.args.other.now) c.in-Some-2.is c.in_ok-same.ensures).1 w two.second in
-    other_text (numbers_of same) (numbers_of sentence) other (sym second ∙ first)
+    let first = subst (IsAnswered c.args.grammar.now c.args.one.now) c.in-Some.is c.in_ok-sentence.ensures in
+    let second = subst (IsAnswered c.args.grammar.now c.args.other.now) c.in-Some-2.is c.in_ok-same.ensures in
+    other_text (numbers_of same) (numbers_of sentence) other (sym (second.1 w two.second) ∙ first.1 w two.first)
 
 pub returns : goal.returns
 returns c =

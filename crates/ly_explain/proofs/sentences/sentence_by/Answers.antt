@@ -6,7 +6,8 @@ use Rattle.ly_join.specs.Grammar.{nonterminal}
 use Rattle.ly_join.specs.declared.symbol.Symbol.TheVariants.{Nonterminal}
 use Rattle.ly_explain.specs.Sentences.{numbers_of}
 use Rattle.ly_explain.specs.Private.Leftmost.{ahead_of, IsUnderWay}
-use Rattle.ly_explain.proofs.SentenceLemmas.{at_start, next_rule, no_rule_kept, one_sentence, rule_left_same, rule_kept, way_end, way_on, way_other, way_out}
+use Rattle.ly_explain.proofs.SentenceLemmas.{at_start, next_rule, no_rule_kept, one_sentence, rule_kept, rule_left_same}
+use Rattle.ly_explain.proofs.SentenceLemmas.{way_end, way_next, way_on, way_other, way_out}
 use Rattle.ly_explain.proofs.SentenceLemmas.{way_over, way_short, way_taken}
 use Rattle.ly_explain.proofs.sentences.sentence_by.Goals as goal
 
@@ -40,15 +41,13 @@ returns-in_default-get c =
     let rules = c.args.rules.now in
     let l = c.loop-number in
     let p = slice_index_or rules l.number-index 0 in
-    let rest = drop (l.number-index + 1) rules in
-    let on = subst (IsUnderWay G rules (numbers_of l.sentence.items) (ahead_of l.ahead.items))
-    (next_rule rules l.number-index (omega arith)) l.invariant in
-    way_other G rules (numbers_of c.next_left.new.sentence.items) c.in-Some.left.0 (ahead_of c.next_left.new.ahead.items)
-    p rest
-    (λ r is same. no_rule_kept G c.rules.result.now c.rules.ensures.these p (omega (arith, c.in_default-get.ensures.lookup)) r is)
-    (way_on G rules (ahead_of l.ahead.items) (ahead_of c.next_left.new.ahead.items) (numbers_of l.sentence.items)
-    (numbers_of c.next_left.new.sentence.items) c.in_ok-left.field-0 c.in-Some.left
-    (p ∷ rest) on c.in_ok-left.ensures c.in-Some.is)
+    let behind = numbers_of c.next_left.new.sentence.items in
+    let new = ahead_of c.next_left.new.ahead.items in
+    way_other G rules behind c.in-Some.left.0 new p (drop (l.number-index + 1) rules)
+    (λ r is same. no_rule_kept G c.rules.result.now c.rules.ensures.these p
+    (omega (arith, c.in_default-get.ensures.lookup)) r is)
+    (way_next G rules l.number-index (ahead_of l.ahead.items) new (numbers_of l.sentence.items) behind
+    c.in_ok-left.field-0 c.in-Some.left (omega arith) l.invariant c.in_ok-left.ensures c.in-Some.is)
 
 pub returns-then-ne : goal.returns-then-ne
 returns-then-ne c =
@@ -56,21 +55,18 @@ returns-then-ne c =
     let rules = c.args.rules.now in
     let l = c.loop-number in
     let p = slice_index_or rules l.number-index 0 in
-    let rest = drop (l.number-index + 1) rules in
     let r = c.in-Some-get.rule.now in
+    let behind = numbers_of c.next_left.new.sentence.items in
+    let new = ahead_of c.next_left.new.ahead.items in
     let is = rule_kept G c.rules.result.now c.rules.ensures.these p r c.in-Some-get.ensures.lookup.3.0
     c.in-Some-get.ensures.lookup.1 in
-    let on = subst (IsUnderWay G rules (numbers_of l.sentence.items) (ahead_of l.ahead.items))
-    (next_rule rules l.number-index (omega arith)) l.invariant in
     let differ : not (eqb c.left.result.0 c.in-Some.left.0) ≡ true = sym c.ne.ensures ∙ c.if-ne.true in
     let apart : r.left ≢ c.in-Some.left.0
     = λ e. (let one = ap not (eq-eqb c.left.result.0 c.in-Some.left.0 (c.left.ensures ∙ e)) in cc) in
-    way_other G rules (numbers_of c.next_left.new.sentence.items) c.in-Some.left.0 (ahead_of c.next_left.new.ahead.items)
-    p rest
+    way_other G rules behind c.in-Some.left.0 new p (drop (l.number-index + 1) rules)
     (λ q is_q same. apart (rule_left_same G p q r is_q is same))
-    (way_on G rules (ahead_of l.ahead.items) (ahead_of c.next_left.new.ahead.items) (numbers_of l.sentence.items)
-    (numbers_of c.next_left.new.sentence.items) c.in_ok-left.field-0 c.in-Some.left
-    (p ∷ rest) on c.in_ok-left.ensures c.in-Some.is)
+    (way_next G rules l.number-index (ahead_of l.ahead.items) new (numbers_of l.sentence.items) behind
+    c.in_ok-left.field-0 c.in-Some.left (omega arith) l.invariant c.in_ok-left.ensures c.in-Some.is)
 
 pub loop-number-preserved : goal.loop-number-preserved
 loop-number-preserved c =
@@ -82,12 +78,10 @@ loop-number-preserved c =
     let r = c.in-Some-get.rule.now in
     let behind = numbers_of c.next_left.new.sentence.items in
     let new = ahead_of c.next_left.new.ahead.items in
-    let on = subst (IsUnderWay G rules (numbers_of l.sentence.items) (ahead_of l.ahead.items))
-    (next_rule rules l.number-index (omega arith)) l.invariant in
-    let way = way_on G rules (ahead_of l.ahead.items) new (numbers_of l.sentence.items) behind c.in_ok-left.field-0
-    c.in-Some.left (p ∷ rest) on c.in_ok-left.ensures c.in-Some.is in
-    let is = rule_kept G c.rules.result.now c.rules.ensures.these p r
-    c.in-Some-get.ensures.lookup.3.0 c.in-Some-get.ensures.lookup.1 in
+    let way = way_next G rules l.number-index (ahead_of l.ahead.items) new (numbers_of l.sentence.items) behind
+    c.in_ok-left.field-0 c.in-Some.left (omega arith) l.invariant c.in_ok-left.ensures c.in-Some.is in
+    let is = rule_kept G c.rules.result.now c.rules.ensures.these p r c.in-Some-get.ensures.lookup.3.0
+    c.in-Some-get.ensures.lookup.1 in
     let same : r.left ≡ c.in-Some.left.0
     = sym c.left.ensures ∙ eqb-true c.left.result.0 c.in-Some.left.0
     (not-false (eqb c.left.result.0 c.in-Some.left.0) (sym c.ne.ensures ∙ c.if-ne.false)) in

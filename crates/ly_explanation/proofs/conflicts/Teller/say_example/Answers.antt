@@ -29,4 +29,5 @@ of-requires-clause-conflict c = rw (← c.resolved.ensures)
     let told = conflict_from c.resolved.result.now.automaton in
     let conflict = get_or conflicts c.in-Some.place.now no_conflict in
     subst (λ xs. Contains xs (told conflict)) c.conflicts-conflicts.ensures.these
-    (mapped_in told conflicts conflict (Contains-get_or conflicts c.in-Some.place.now no_conflict c.if-place-conflicts.false)))
+    (mapped_in told conflicts conflict
+    (Contains-get_or conflicts c.in-Some.place.now no_conflict c.if-place-conflicts.false)))
