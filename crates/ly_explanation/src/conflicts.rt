@@ -41,11 +41,11 @@ pub(crate) fn say_conflicts(
 ) -> Result<(), OutOfMemory> {
     let resolved = files.resolved;
     let conflicts = resolved.conflicts();
-    page.say(b"\nConflicts: ")?;
-    page.say_number(count(conflicts, ConflictKind::ShiftReduce) as u64)?;
-    page.say(b" shift/reduce, ")?;
-    page.say_number(count(conflicts, ConflictKind::ReduceReduce) as u64)?;
-    page.say(b" reduce/reduce.\n")?;
+    page.say(b"\nConflicts: ");
+    page.say_number(count(conflicts, ConflictKind::ShiftReduce) as u64);
+    page.say(b" shift/reduce, ");
+    page.say_number(count(conflicts, ConflictKind::ReduceReduce) as u64);
+    page.say(b" reduce/reduce.\n");
     if conflicts.is_empty() {
         return Ok(());
     }
@@ -143,9 +143,10 @@ impl<'a> Teller<'a> {
             return Ok(());
         };
         self.say_place(alloc, page, conflict)?;
-        self.say_terminals(page, group)?;
-        self.say_done(page, conflict)?;
-        self.say_reason(page, conflict, group.len())
+        self.say_terminals(page, group);
+        self.say_done(page, conflict);
+        self.say_reason(page, conflict, group.len());
+        Ok(())
     }
 
     /// Says the state of a conflict, by its number and its prefix.
@@ -156,59 +157,54 @@ impl<'a> Teller<'a> {
         conflict: &Conflict,
     ) -> Result<(), OutOfMemory> {
         let lr0 = self.resolved().lr0();
-        page.say(b"\nIn state ")?;
-        page.say_number(u64::from(conflict.state.0))?;
+        page.say(b"\nIn state ");
+        page.say_number(u64::from(conflict.state.0));
         if (conflict.state.0 as usize) < lr0.states() {
             let mut prefix = lr0.prefix(alloc, conflict.state)?;
             prefix.reverse();
-            page.say(b", after")?;
-            page.say_symbols(self.spec(), &prefix)?;
+            page.say(b", after");
+            page.say_symbols(self.spec(), &prefix);
         }
-        page.say(b", before")
-    }
-
-    /// Says the terminals of a group.
-    fn say_terminals(&self, page: &mut Page, group: &[usize]) -> Result<(), OutOfMemory> {
-        let conflicts = self.resolved().conflicts();
-        for place in group.iter().take(NAMED) {
-            if let Some(conflict) = conflicts.get(*place) {
-                page.say(b" ")?;
-                page.say_terminal(self.spec(), conflict.terminal)?;
-            }
-        }
-        if group.len() > NAMED {
-            page.say(b" and ")?;
-            page.say_number((group.len() - NAMED) as u64)?;
-            page.say(b" more")?;
-        }
+        page.say(b", before");
         Ok(())
     }
 
-    /// Says what is done, and what isn't.
-    fn say_done(&self, page: &mut Page, conflict: &Conflict) -> Result<(), OutOfMemory> {
-        match conflict.choice {
-            Action::Shift => page.say(b": the shift is taken")?,
-            Action::Reduce(rule) => {
-                page.say(b": rule ")?;
-                page.say_number(rule as u64)?;
-                page.say(b" is taken")?;
+    /// Says the terminals of a group.
+    fn say_terminals(&self, page: &mut Page, group: &[usize]) {
+        let conflicts = self.resolved().conflicts();
+        for place in group.iter().take(NAMED) {
+            if let Some(conflict) = conflicts.get(*place) {
+                page.say(b" ");
+                page.say_terminal(self.spec(), conflict.terminal);
             }
-            Action::Error => page.say(b": nothing is taken")?,
         }
-        page.say(b", rule ")?;
-        page.say_number(conflict.rule as u64)?;
-        page.say(b" is not.\n")
+        if group.len() > NAMED {
+            page.say(b" and ");
+            page.say_number((group.len() - NAMED) as u64);
+            page.say(b" more");
+        }
+    }
+
+    /// Says what is done, and what isn't.
+    fn say_done(&self, page: &mut Page, conflict: &Conflict) {
+        match conflict.choice {
+            Action::Shift => page.say(b": the shift is taken"),
+            Action::Reduce(rule) => {
+                page.say(b": rule ");
+                page.say_number(rule as u64);
+                page.say(b" is taken");
+            }
+            Action::Error => page.say(b": nothing is taken"),
+        }
+        page.say(b", rule ");
+        page.say_number(conflict.rule as u64);
+        page.say(b" is not.\n");
     }
 
     /// Says why precedence doesn't settle a shift against a reduction, of which there are so many that are alike.
-    fn say_reason(
-        &self,
-        page: &mut Page,
-        conflict: &Conflict,
-        alike: usize,
-    ) -> Result<(), OutOfMemory> {
+    fn say_reason(&self, page: &mut Page, conflict: &Conflict, alike: usize) {
         if conflict.kind == ConflictKind::ReduceReduce || conflict.terminal.0 == 0 {
-            return Ok(());
+            return;
         }
         let spec = self.spec();
         let ranked = spec
@@ -217,26 +213,29 @@ impl<'a> Teller<'a> {
             .is_some_and(|note| note.precedence.is_some());
         let of_terminal = spec.precedences().get(conflict.terminal.0 as usize);
         if ranked && alike > 1 {
-            return page.say(b"    These terminals have no precedence.\n");
+            page.say(b"    These terminals have no precedence.\n");
+            return;
         }
         if ranked {
-            page.say(b"    ")?;
-            page.say_terminal(spec, conflict.terminal)?;
-            return page.say(b" has no precedence.\n");
+            page.say(b"    ");
+            page.say_terminal(spec, conflict.terminal);
+            page.say(b" has no precedence.\n");
+            return;
         }
         let neither = alike == 1 && !matches!(of_terminal, Some(Some(_)));
         page.say(if neither {
             b"    Neither rule "
         } else {
             b"    Rule "
-        })?;
-        page.say_number(conflict.rule as u64)?;
+        });
+        page.say_number(conflict.rule as u64);
         if neither {
-            page.say(b" nor ")?;
-            page.say_terminal(spec, conflict.terminal)?;
-            return page.say(b" has a precedence.\n");
+            page.say(b" nor ");
+            page.say_terminal(spec, conflict.terminal);
+            page.say(b" has a precedence.\n");
+            return;
         }
-        page.say(b" has no precedence.\n")
+        page.say(b" has no precedence.\n");
     }
 
     /// Says an example of the first of the conflicts at these places, or that there is none.
@@ -258,7 +257,7 @@ impl<'a> Teller<'a> {
         match self.examples.of(alloc, conflict, BOUND)? {
             Example::At(string) => {
                 self.say_string(alloc, page, conflict, &string)?;
-                self.say_ways(alloc, page, conflict, &string, finder)
+                self.say_ways(alloc, page, conflict, &string, finder)?;
             }
             Example::Merged => page.say(
                 b"    No symbols lead to a place where both are possible: only merging the states of an LR(1)\n    \
@@ -268,6 +267,7 @@ impl<'a> Teller<'a> {
                 b"    No example was found within the bound of the search.\n",
             ),
         }
+        Ok(())
     }
 
     /// Says a string of symbols at which both actions are possible, and the shortest tokens of it.
@@ -279,18 +279,18 @@ impl<'a> Teller<'a> {
         string: &[Symbol],
     ) -> Result<(), OutOfMemory> {
         let spec = self.spec();
-        page.say(b"    example:")?;
-        page.say_symbols(spec, string)?;
-        page.say(b" . ")?;
-        page.say_terminal(spec, conflict.terminal)?;
-        page.say(b"\n")?;
+        page.say(b"    example:");
+        page.say_symbols(spec, string);
+        page.say(b" . ");
+        page.say_terminal(spec, conflict.terminal);
+        page.say(b"\n");
         let mut symbols = string.iter();
         if symbols.any(|symbol| matches!(symbol, Symbol::Nonterminal(_))) {
-            page.say(b"    tokens: ")?;
+            page.say(b"    tokens: ");
             self.yields.say(alloc, page, spec, string)?;
-            page.say(b" . ")?;
-            page.say_terminal(spec, conflict.terminal)?;
-            page.say(b"\n")?;
+            page.say(b" . ");
+            page.say_terminal(spec, conflict.terminal);
+            page.say(b"\n");
         }
         Ok(())
     }
@@ -309,18 +309,19 @@ impl<'a> Teller<'a> {
         let one = drawing.way(alloc, self.rival(alloc, conflict)?)?;
         let other = drawing.way(alloc, self.reduction(conflict.rule))?;
         match (conflict.kind, conflict.choice) {
-            (ConflictKind::ReduceReduce, Action::Reduce(rule)) => say_label(page, rule)?,
-            _ => page.say(b"    shift:  ")?,
+            (ConflictKind::ReduceReduce, Action::Reduce(rule)) => say_label(page, rule),
+            _ => page.say(b"    shift:  "),
         }
         say_way(alloc, page, spec, &one)?;
-        say_label(page, conflict.rule)?;
+        say_label(page, conflict.rule);
         say_way(alloc, page, spec, &other)?;
         match finder.find(alloc, &one, &other)? {
-            Some(ambiguity) => say_ambiguity(alloc, page, spec, &ambiguity),
+            Some(ambiguity) => say_ambiguity(alloc, page, spec, &ambiguity)?,
             None => page.say(
                 b"    No sentence with two trees was found within the bound of the search.\n",
             ),
         }
+        Ok(())
     }
 
     /// What is claimed where a reduction by a rule is possible.
@@ -353,10 +354,10 @@ impl<'a> Teller<'a> {
 }
 
 /// Says which rule it is that a reduction is drawn of.
-fn say_label(page: &mut Page, rule: usize) -> Result<(), OutOfMemory> {
-    page.say(b"    rule ")?;
-    page.say_number(rule as u64)?;
-    page.say(if rule < 10 { b": " } else { b":" })
+fn say_label(page: &mut Page, rule: usize) {
+    page.say(b"    rule ");
+    page.say_number(rule as u64);
+    page.say(if rule < 10 { b": " } else { b":" });
 }
 
 /// Whether the conflict at a place belongs to a group.

@@ -39,13 +39,13 @@ pub(crate) fn say_doubts(
     teller.say_surprises(alloc, page)?;
     teller.say_indented(alloc, page)?;
     teller.say_unmatched(alloc, page)?;
-    teller.say_removed(page)?;
+    teller.say_removed(page);
     teller.say_unreduced(alloc, page)?;
     teller.say_terminals(alloc, page)?;
     teller.say_declared_again(alloc, page)?;
     teller.say_undecided(alloc, page)?;
     if page.len() == before {
-        page.say(b"No doubts.\n")?;
+        page.say(b"No doubts.\n");
     }
     say_other_bytes(alloc, page, files)
 }
@@ -57,30 +57,30 @@ impl Teller<'_> {
     }
 
     /// Says the place of a rule of the lex file.
-    fn say_lex_rule(&self, page: &mut Page, rule: usize) -> Result<(), OutOfMemory> {
+    fn say_lex_rule(&self, page: &mut Page, rule: usize) {
         let line = self.files.file.lines.get(rule).copied().unwrap_or(1);
-        page.say_line_of(self.files.lex, line)
+        page.say_line_of(self.files.lex, line);
     }
 
     /// Says the place of a rule of the yacc file, and its number.
-    fn say_rule(&self, page: &mut Page, rule: usize) -> Result<(), OutOfMemory> {
-        page.say_line_of(self.files.yacc, self.places.line_of_rule(rule))?;
-        page.say(b"rule ")?;
-        page.say_number(rule as u64)
+    fn say_rule(&self, page: &mut Page, rule: usize) {
+        page.say_line_of(self.files.yacc, self.places.line_of_rule(rule));
+        page.say(b"rule ");
+        page.say_number(rule as u64);
     }
 
     /// Says the place where a terminal is named first, and the terminal.
-    fn say_terminal(&self, page: &mut Page, terminal: Sym) -> Result<(), OutOfMemory> {
-        self.say_terminal_line(page, terminal)?;
-        page.say_terminal(self.spec(), terminal)
+    fn say_terminal(&self, page: &mut Page, terminal: Sym) {
+        self.say_terminal_line(page, terminal);
+        page.say_terminal(self.spec(), terminal);
     }
 
     /// Says the place where a terminal is named first.
-    fn say_terminal_line(&self, page: &mut Page, terminal: Sym) -> Result<(), OutOfMemory> {
+    fn say_terminal_line(&self, page: &mut Page, terminal: Sym) {
         let line = self
             .places
             .line_of_terminal(self.spec(), self.files.yacc.bytes, terminal);
-        page.say_line_of(self.files.yacc, line)
+        page.say_line_of(self.files.yacc, line);
     }
 
     /// Says what in the patterns of the lex file means something else than it may seem to.
@@ -91,19 +91,19 @@ impl Teller<'_> {
             };
             let found = surprises(alloc, bytes)?;
             if let Some(letter) = found.letter {
-                page.say_line_of(self.files.lex, *line)?;
-                page.say(b"\\")?;
-                page.say(&[letter])?;
-                page.say(b" is the letter ")?;
-                page.say(&[letter])?;
-                page.say(b" in a pattern; a class of bytes is written as [[:digit:]] or [0-9]\n")?;
+                page.say_line_of(self.files.lex, *line);
+                page.say(b"\\");
+                page.say(&[letter]);
+                page.say(b" is the letter ");
+                page.say(&[letter]);
+                page.say(b" in a pattern; a class of bytes is written as [[:digit:]] or [0-9]\n");
             }
             if found.interval {
-                page.say_line_of(self.files.lex, *line)?;
+                page.say_line_of(self.files.lex, *line);
                 page.say(
                     b"the interval repeats all that stands before it, not its last piece alone, as POSIX has it; ",
-                )?;
-                page.say(b"write parentheses around what is to be repeated\n")?;
+                );
+                page.say(b"write parentheses around what is to be repeated\n");
             }
         }
         Ok(())
@@ -114,29 +114,28 @@ impl Teller<'_> {
         requires { IsBreadthFirst self.now.files.dfa.now }
     {
         for rule in &unmatched_rules(alloc, self.files.file.rules.len(), self.files.dfa)? {
-            self.say_lex_rule(page, *rule)?;
-            page.say(b"this rule never matches: earlier rules take all that it could\n")?;
+            self.say_lex_rule(page, *rule);
+            page.say(b"this rule never matches: earlier rules take all that it could\n");
         }
         Ok(())
     }
 
     /// Says which rules of the grammar are removed.
-    fn say_removed(&self, page: &mut Page) -> Result<(), OutOfMemory> {
+    fn say_removed(&self, page: &mut Page) {
         let reduced = self.files.resolved.lr0().reduced();
         for rule in 0..reduced.grammar().rules().len() {
             if !reduced.is_kept(rule) {
-                self.say_rule(page, rule)?;
-                page.say(b" is of no use: no text has it\n")?;
+                self.say_rule(page, rule);
+                page.say(b" is of no use: no text has it\n");
             }
         }
-        Ok(())
     }
 
     /// Says which rules of the grammar are never reduced.
     fn say_unreduced(&self, alloc: Global, page: &mut Page) -> Result<(), OutOfMemory> {
         for rule in &unreduced_rules(alloc, self.files.resolved)? {
-            self.say_rule(page, *rule)?;
-            page.say(b" is never reduced: conflicts and precedence leave it nothing\n")?;
+            self.say_rule(page, *rule);
+            page.say(b" is never reduced: conflicts and precedence leave it nothing\n");
         }
         Ok(())
     }
@@ -148,20 +147,21 @@ impl Teller<'_> {
         let mut unused = unused_terminals(alloc, self.spec())?;
         unused.retain(|terminal| !self.gives_precedence(*terminal));
         for terminal in unused.iter().take(MOST) {
-            self.say_terminal(page, *terminal)?;
-            page.say(b" stands in no rule\n")?;
+            self.say_terminal(page, *terminal);
+            page.say(b" stands in no rule\n");
         }
-        self.say_more(page, unused.len(), b"stand in no rule\n")?;
+        self.say_more(page, unused.len(), b"stand in no rule\n");
         let mut unreturned = unreturned_terminals(alloc, self.spec(), self.files.dfa)?;
         unreturned.retain(|terminal| !unused.contains(terminal)
             && !self.gives_precedence(*terminal));
         for terminal in unreturned.iter().take(MOST) {
-            self.say_terminal(page, *terminal)?;
-            page.say(b" is returned by no rule of ")?;
-            page.say(self.files.lex.name.as_bytes())?;
-            page.say(b"\n")?;
+            self.say_terminal(page, *terminal);
+            page.say(b" is returned by no rule of ");
+            page.say(self.files.lex.name.as_bytes());
+            page.say(b"\n");
         }
-        self.say_more(page, unreturned.len(), b"are returned by no rule\n")
+        self.say_more(page, unreturned.len(), b"are returned by no rule\n");
+        Ok(())
     }
 
     /// Says which lines among the rules of the lex file aren't used.
@@ -170,8 +170,8 @@ impl Teller<'_> {
             .iter()
             .take(MOST)
         {
-            page.say_line_of(self.files.lex, *line)?;
-            page.say(b"this line begins with a blank, and so is no rule: it is not used\n")?;
+            page.say_line_of(self.files.lex, *line);
+            page.say(b"this line begins with a blank, and so is no rule: it is not used\n");
         }
         Ok(())
     }
@@ -180,9 +180,9 @@ impl Teller<'_> {
     fn say_declared_again(&self, alloc: Global, page: &mut Page) -> Result<(), OutOfMemory> {
         let again = self.places.declared_again(alloc, self.files.yacc.bytes)?;
         for (line, word) in again.iter().take(MOST) {
-            page.say_line_of(self.files.yacc, *line)?;
-            page.say(word)?;
-            page.say(b" is declared before\n")?;
+            page.say_line_of(self.files.yacc, *line);
+            page.say(word);
+            page.say(b" is declared before\n");
         }
         Ok(())
     }
@@ -195,19 +195,19 @@ impl Teller<'_> {
         for number in 0..spec.grammar().terminals() {
             let ranked = matches!(spec.precedences().get(number as usize), Some(Some(_)));
             if ranked && said < MOST && !decided.by_terminal(spec, Sym(number)) {
-                self.say_terminal_line(page, Sym(number))?;
-                page.say(b"the precedence of ")?;
-                page.say_terminal(spec, Sym(number))?;
-                page.say(b" decides nothing\n")?;
+                self.say_terminal_line(page, Sym(number));
+                page.say(b"the precedence of ");
+                page.say_terminal(spec, Sym(number));
+                page.say(b" decides nothing\n");
                 said = said.saturating_add(1);
             }
         }
         for rule in self.places.ranked_rules().iter().take(MOST) {
             if !decided.by_rule(*rule) {
-                page.say_line_of(self.files.yacc, self.places.line_of_rule(*rule))?;
-                page.say(b"the %prec of rule ")?;
-                page.say_number(*rule as u64)?;
-                page.say(b" decides nothing\n")?;
+                page.say_line_of(self.files.yacc, self.places.line_of_rule(*rule));
+                page.say(b"the %prec of rule ");
+                page.say_number(*rule as u64);
+                page.say(b" decides nothing\n");
             }
         }
         Ok(())
@@ -220,14 +220,13 @@ impl Teller<'_> {
     }
 
     /// Says of how many terminals more the same is so.
-    fn say_more(&self, page: &mut Page, count: usize, so: &[u8]) -> Result<(), OutOfMemory> {
+    fn say_more(&self, page: &mut Page, count: usize, so: &[u8]) {
         if count > MOST {
-            page.say(self.files.yacc.name.as_bytes())?;
-            page.say(b": ")?;
-            page.say_number((count - MOST) as u64)?;
-            page.say(b" terminals more ")?;
-            page.say(so)?;
+            page.say(self.files.yacc.name.as_bytes());
+            page.say(b": ");
+            page.say_number((count - MOST) as u64);
+            page.say(b" terminals more ");
+            page.say(so);
         }
-        Ok(())
     }
 }

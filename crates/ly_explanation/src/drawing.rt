@@ -299,7 +299,8 @@ pub(crate) fn say_way(
     way: &[Item],
 ) -> Result<(), OutOfMemory> {
     if way.is_empty() {
-        return page.say(b"\n");
+        page.say(b"\n");
+        return Ok(());
     }
     let mut open: Vec<Item> = Vec::new(alloc);
     let mut opened = false;
@@ -307,29 +308,30 @@ pub(crate) fn say_way(
         match open.last_mut() {
             Some(top) if item.dot > 0 => {
                 if let Some(symbol) = symbol_at(spec, *top) {
-                    page.say(if opened { b"" } else { b" " })?;
-                    page.say_symbol(spec, symbol)?;
+                    page.say(if opened { b"" } else { b" " });
+                    page.say_symbol(spec, symbol);
                     opened = false;
                 }
                 *top = *item;
             }
             top => {
                 if top.is_some_and(|top| is_bracketed_in(spec, *top)) {
-                    page.say(if opened { b"[" } else { b" [" })?;
+                    page.say(if opened { b"[" } else { b" [" });
                     opened = true;
                 }
                 open.push(*item)?;
             }
         }
     }
-    page.say(if opened { b"." } else { b" ." })?;
-    say_rests(page, spec, &open)?;
-    page.say(b"\n")
+    page.say(if opened { b"." } else { b" ." });
+    say_rests(page, spec, &open);
+    page.say(b"\n");
+    Ok(())
 }
 
 /// Says what stands behind the dots of the rules under way, the inmost one first. In each but that one the symbol
 /// behind the dot is the rule within. Of rule 0 nothing is said.
-fn say_rests(page: &mut Page, spec: &Spec, open: &[Item]) -> Result<(), OutOfMemory> {
+fn say_rests(page: &mut Page, spec: &Spec, open: &[Item]) {
     let mut inmost = true;
     for (place, item) in open.iter().enumerate().rev() {
         let passed = if inmost {
@@ -340,16 +342,15 @@ fn say_rests(page: &mut Page, spec: &Spec, open: &[Item]) -> Result<(), OutOfMem
         inmost = false;
         if let (Some(rule), true) = (spec.grammar().rules().get(item.rule), item.rule > 0) {
             for symbol in rule.body().iter().skip(passed) {
-                page.say(b" ")?;
-                page.say_symbol(spec, *symbol)?;
+                page.say(b" ");
+                page.say_symbol(spec, *symbol);
             }
         }
         let around = place.checked_sub(1).and_then(|around| open.get(around));
         if around.is_some_and(|around| is_bracketed_in(spec, *around)) {
-            page.say(b"]")?;
+            page.say(b"]");
         }
     }
-    Ok(())
 }
 
 /// Whether what stands behind the dot of an item gets brackets: it is a part of another rule than rule 0, and not all

@@ -103,7 +103,7 @@ pub fn explain(
             let mut page = Page::new(alloc);
             say_faults(alloc, &mut page, lex, yacc, &limits, &fault)?;
             Ok(Explanation {
-                text: page.into_bytes(),
+                text: page.finish()?,
                 states: None,
                 picture: None,
                 accepted: false,
@@ -181,25 +181,25 @@ fn told(
 {
     let mut text = Page::new(alloc);
     let places = Places::of(alloc, files.yacc.bytes)?;
-    say_sizes(&mut text, files)?;
+    say_sizes(&mut text, files);
     say_doubts(alloc, &mut text, files, &places)?;
     say_conflicts(alloc, &mut text, files)?;
-    say_rules(&mut text, files, &places)?;
+    say_rules(&mut text, files, &places);
     let mut states = None;
     if wish.states {
         let mut page = Page::new(alloc);
         say_scanner(alloc, &mut page, files)?;
         say_states(alloc, &mut page, files, tables)?;
-        states = Some(page.into_bytes());
+        states = Some(page.finish()?);
     }
     let mut picture = None;
     if wish.picture {
         let mut page = Page::new(alloc);
         say_picture(alloc, &mut page, files)?;
-        picture = Some(page.into_bytes());
+        picture = Some(page.finish()?);
     }
     Ok(Explanation {
-        text: text.into_bytes(),
+        text: text.finish()?,
         states,
         picture,
         accepted: true,
@@ -207,19 +207,19 @@ fn told(
 }
 
 /// Says that two files are accepted, and how large their parser is.
-fn say_sizes(page: &mut Page, files: Accepted<'_>) -> Result<(), OutOfMemory> {
+fn say_sizes(page: &mut Page, files: Accepted<'_>) {
     let grammar = files.spec.grammar();
     let rules = grammar.rules().len().saturating_sub(1);
-    page.say(files.lex.name.as_bytes())?;
-    page.say(b" and ")?;
-    page.say(files.yacc.name.as_bytes())?;
-    page.say(b" are accepted: ")?;
-    page.say_count(rules, b"rule", b"rules")?;
-    page.say(b", ")?;
-    page.say_count(grammar.terminals() as usize, b"terminal", b"terminals")?;
-    page.say(b", ")?;
-    page.say_count(grammar.accept().0 as usize, b"nonterminal", b"nonterminals")?;
-    page.say(b", ")?;
-    page.say_count(files.resolved.lr0().states(), b"state", b"states")?;
-    page.say(b".\n")
+    page.say(files.lex.name.as_bytes());
+    page.say(b" and ");
+    page.say(files.yacc.name.as_bytes());
+    page.say(b" are accepted: ");
+    page.say_count(rules, b"rule", b"rules");
+    page.say(b", ");
+    page.say_count(grammar.terminals() as usize, b"terminal", b"terminals");
+    page.say(b", ");
+    page.say_count(grammar.accept().0 as usize, b"nonterminal", b"nonterminals");
+    page.say(b", ");
+    page.say_count(files.resolved.lr0().states(), b"state", b"states");
+    page.say(b".\n");
 }

@@ -54,11 +54,13 @@ pub(crate) fn say_faults(
         find_join_faults(alloc, &mut findings, &lex_file, yacc_file, limits)?;
     }
     if !findings.is_empty() {
-        return say_findings(page, lex, yacc, &findings);
+        say_findings(page, lex, yacc, &findings);
+        return Ok(());
     }
     let at = match fault {
         GenFault::Grammar(_) => start_location(alloc, yacc.bytes)?,
         _ => None,
     };
-    say_fault(page, lex, yacc, fault, at, &Advice::of_whole(fault))
+    say_fault(page, lex, yacc, fault, at, &Advice::of_whole(fault));
+    Ok(())
 }

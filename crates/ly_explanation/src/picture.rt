@@ -17,16 +17,15 @@ pub(crate) fn say_picture(
 ) -> Result<(), OutOfMemory> {
     let spec = files.spec;
     let lr0 = files.resolved.lr0();
-    page.say(
-        b"digraph parser {\n    rankdir=LR;\n    node [shape=box, fontname=\"monospace\"];\n",
-    )?;
+    page.say(b"digraph parser {\n    rankdir=LR;\n    node [shape=box, fontname=\"monospace\"];\n");
     for state in 0..lr0.states() {
         say_box(alloc, page, spec, lr0, StateNo(state as u32))?;
     }
     for state in 0..lr0.states() {
         say_arrows(alloc, page, spec, lr0, StateNo(state as u32))?;
     }
-    page.say(b"}\n")
+    page.say(b"}\n");
+    Ok(())
 }
 
 /// Says the box of a state.
@@ -39,20 +38,21 @@ fn say_box(
 ) -> Result<(), OutOfMemory>
     requires { state.0 < length lr0.now.states }
 {
-    page.say(b"    ")?;
-    page.say_number(u64::from(state.0))?;
-    page.say(b" [label=\"")?;
-    page.say_number(u64::from(state.0))?;
-    page.say(b"\\n")?;
+    page.say(b"    ");
+    page.say_number(u64::from(state.0));
+    page.say(b" [label=\"");
+    page.say_number(u64::from(state.0));
+    page.say(b"\\n");
     for item in &lr0.core(alloc, state)? {
         if is_kernel(*item) {
             let mut text = Page::new(alloc);
-            text.say_rule(spec, item.rule, Some(item.dot))?;
-            say_escaped(page, &text.into_bytes())?;
-            page.say(b"\\l")?;
+            text.say_rule(spec, item.rule, Some(item.dot));
+            say_escaped(page, &text.finish()?);
+            page.say(b"\\l");
         }
     }
-    page.say(b"\"];\n")
+    page.say(b"\"];\n");
+    Ok(())
 }
 
 /// Whether an item is in its state by a symbol before its dot, or begins all.
@@ -72,28 +72,27 @@ fn say_arrows(
 {
     for transition in lr0.transitions(state) {
         let mut text = Page::new(alloc);
-        text.say_symbol(spec, transition.symbol)?;
-        page.say(b"    ")?;
-        page.say_number(u64::from(state.0))?;
-        page.say(b" -> ")?;
-        page.say_number(u64::from(transition.target.0))?;
-        page.say(b" [label=\"")?;
-        say_escaped(page, &text.into_bytes())?;
+        text.say_symbol(spec, transition.symbol);
+        page.say(b"    ");
+        page.say_number(u64::from(state.0));
+        page.say(b" -> ");
+        page.say_number(u64::from(transition.target.0));
+        page.say(b" [label=\"");
+        say_escaped(page, &text.finish()?);
         page.say(match transition.symbol {
             Symbol::Terminal(_) => b"\"];\n",
             Symbol::Nonterminal(_) => b"\", style=dashed];\n",
-        })?;
+        });
     }
     Ok(())
 }
 
 /// Appends bytes as they stand in a string of `dot`.
-fn say_escaped(page: &mut Page, bytes: &[u8]) -> Result<(), OutOfMemory> {
+fn say_escaped(page: &mut Page, bytes: &[u8]) {
     for byte in bytes {
         if *byte == b'"' || *byte == b'\\' {
-            page.say(b"\\")?;
+            page.say(b"\\");
         }
-        page.say(&[*byte])?;
+        page.say(&[*byte]);
     }
-    Ok(())
 }

@@ -5,20 +5,15 @@ use crate::places::Places;
 use ly_base::OutOfMemory;
 
 /// Says each rule with its number and its line.
-pub(crate) fn say_rules(
-    page: &mut Page,
-    files: Accepted<'_>,
-    places: &Places,
-) -> Result<(), OutOfMemory> {
+pub(crate) fn say_rules(page: &mut Page, files: Accepted<'_>, places: &Places) {
     let spec = files.spec;
-    page.say(b"\nRules:\n")?;
+    page.say(b"\nRules:\n");
     for rule in 1..spec.grammar().rules().len() {
-        page.say(b"    ")?;
-        page.say_number(rule as u64)?;
-        page.say(b"  ")?;
-        page.say_line_of(files.yacc, places.line_of_rule(rule))?;
-        page.say_rule(spec, rule, None)?;
-        page.say(b"\n")?;
+        page.say(b"    ");
+        page.say_number(rule as u64);
+        page.say(b"  ");
+        page.say_line_of(files.yacc, places.line_of_rule(rule));
+        page.say_rule(spec, rule, None);
+        page.say(b"\n");
     }
-    Ok(())
 }

@@ -15,32 +15,33 @@ pub(crate) fn say_scanner(
     files: Accepted<'_>,
 ) -> Result<(), OutOfMemory> {
     let dfa = files.dfa;
-    page.say(b"Classes of bytes of the scanner:\n")?;
+    page.say(b"Classes of bytes of the scanner:\n");
     for class in 0..dfa.classes() {
-        page.say(b"    ")?;
-        page.say_number(class as u64)?;
-        page.say(b" ")?;
+        page.say(b"    ");
+        page.say_number(class as u64);
+        page.say(b" ");
         let mut bytes: Vec<bool> = Vec::new(alloc);
         for byte in 0..=255u8 {
             bytes.push(usize::from(dfa.class(byte)) == class)?;
         }
-        say_bytes(page, &bytes)?;
-        page.say(b"\n")?;
+        say_bytes(page, &bytes);
+        page.say(b"\n");
     }
-    page.say(b"\nConditions:\n")?;
+    page.say(b"\nConditions:\n");
     for condition in 0..files.file.conditions {
-        say_condition(page, dfa, condition)?;
+        say_condition(page, dfa, condition);
     }
     for state in 0..dfa.len() {
         if let Ok(state) = u32::try_from(state) {
-            say_state(page, files, state)?;
+            say_state(page, files, state);
         }
     }
-    page.say(b"\n")
+    page.say(b"\n");
+    Ok(())
 }
 
 /// Says the bytes that are marked, those that follow one another together.
-fn say_bytes(page: &mut Page, marks: &[bool]) -> Result<(), OutOfMemory> {
+fn say_bytes(page: &mut Page, marks: &[bool]) {
     let is_marked = |byte: Option<u8>| {
         byte.is_some_and(|byte| marks.get(usize::from(byte)) == Some(&true))
     };
@@ -50,14 +51,13 @@ fn say_bytes(page: &mut Page, marks: &[bool]) -> Result<(), OutOfMemory> {
         }
         let goes_on = is_marked(byte.checked_sub(1));
         if !goes_on {
-            page.say(b" ")?;
-            page.say_byte(byte)?;
+            page.say(b" ");
+            page.say_byte(byte);
         } else if !is_marked(byte.checked_add(1)) {
-            page.say(b"-")?;
-            page.say_byte(byte)?;
+            page.say(b"-");
+            page.say_byte(byte);
         }
     }
-    Ok(())
 }
 
 /// Says with which bytes no match begins, in each condition.
@@ -73,11 +73,11 @@ pub(crate) fn say_other_bytes(
             others.push(!begins(files.dfa, condition, byte))?;
         }
         if others.contains(&true) {
-            page.say(b"In ")?;
-            say_name(page, &names, condition)?;
-            page.say(b" no match begins with")?;
-            say_bytes(page, &others)?;
-            page.say(b"\n")?;
+            page.say(b"In ");
+            say_name(page, &names, condition);
+            page.say(b" no match begins with");
+            say_bytes(page, &others);
+            page.say(b"\n");
         }
     }
     Ok(())
@@ -92,61 +92,60 @@ fn begins(dfa: &Dfa, condition: u32, byte: u8) -> bool {
 }
 
 /// Says the name of a condition, or its number where that isn't known.
-fn say_name(page: &mut Page, names: &[&[u8]], condition: u32) -> Result<(), OutOfMemory> {
+fn say_name(page: &mut Page, names: &[&[u8]], condition: u32) {
     match names.get(condition as usize) {
         Some(name) => page.say(name),
         None => {
-            page.say(b"condition ")?;
-            page.say_number(u64::from(condition))
+            page.say(b"condition ");
+            page.say_number(u64::from(condition));
         }
     }
 }
 
 /// Says where a condition begins.
-fn say_condition(page: &mut Page, dfa: &Dfa, condition: u32) -> Result<(), OutOfMemory> {
-    page.say(b"    ")?;
-    page.say_number(u64::from(condition))?;
-    say_start(page, b"  begins", dfa.start(condition, false))?;
-    say_start(page, b", where a line begins", dfa.start(condition, true))?;
-    page.say(b"\n")
+fn say_condition(page: &mut Page, dfa: &Dfa, condition: u32) {
+    page.say(b"    ");
+    page.say_number(u64::from(condition));
+    say_start(page, b"  begins", dfa.start(condition, false));
+    say_start(page, b", where a line begins", dfa.start(condition, true));
+    page.say(b"\n");
 }
 
 /// Says a start, if there is one.
-fn say_start(page: &mut Page, where_it_is: &[u8], start: Option<u32>) -> Result<(), OutOfMemory> {
-    page.say(where_it_is)?;
+fn say_start(page: &mut Page, where_it_is: &[u8], start: Option<u32>) {
+    page.say(where_it_is);
     match start {
         Some(state) => {
-            page.say(b" in state ")?;
-            page.say_number(u64::from(state))
+            page.say(b" in state ");
+            page.say_number(u64::from(state));
         }
         None => page.say(b" nowhere"),
     }
 }
 
 /// Says a state: its rule, and where classes of bytes lead from it.
-fn say_state(page: &mut Page, files: Accepted<'_>, state: u32) -> Result<(), OutOfMemory>
+fn say_state(page: &mut Page, files: Accepted<'_>, state: u32)
     requires { state < length files.dfa.now.rules }
 {
     let dfa = files.dfa;
-    page.say(b"\nScanner state ")?;
-    page.say_number(u64::from(state))?;
-    page.say(b"\n")?;
+    page.say(b"\nScanner state ");
+    page.say_number(u64::from(state));
+    page.say(b"\n");
     if let Some(rule) = dfa.rule(state) {
         let line = files.file.lines.get(rule.0 as usize).copied().unwrap_or(1);
-        page.say(b"    rule of ")?;
-        page.say(files.lex.name.as_bytes())?;
-        page.say(b":")?;
-        page.say_number(line)?;
-        page.say(b"\n")?;
+        page.say(b"    rule of ");
+        page.say(files.lex.name.as_bytes());
+        page.say(b":");
+        page.say_number(line);
+        page.say(b"\n");
     }
     for class in 0..dfa.classes() {
         if let Some(next) = dfa.next(state, class) {
-            page.say(b"    class ")?;
-            page.say_number(class as u64)?;
-            page.say(b" to state ")?;
-            page.say_number(u64::from(next))?;
-            page.say(b"\n")?;
+            page.say(b"    class ");
+            page.say_number(class as u64);
+            page.say(b" to state ");
+            page.say_number(u64::from(next));
+            page.say(b"\n");
         }
     }
-    Ok(())
 }

@@ -66,44 +66,45 @@ impl<'a> Teller<'a> {
         let lr0 = self.lr0();
         let mut prefix = lr0.prefix(alloc, state)?;
         prefix.reverse();
-        page.say(b"State ")?;
-        page.say_number(u64::from(state.0))?;
+        page.say(b"State ");
+        page.say_number(u64::from(state.0));
         if !prefix.is_empty() {
-            page.say(b", after")?;
-            page.say_symbols(self.spec(), &prefix)?;
+            page.say(b", after");
+            page.say_symbols(self.spec(), &prefix);
         }
-        page.say(b"\n")?;
+        page.say(b"\n");
         for item in &lr0.core(alloc, state)? {
-            self.say_item(page, state, *item)?;
+            self.say_item(page, state, *item);
         }
-        self.say_actions(page, state)?;
-        self.say_gotos(page, state)?;
-        page.say(b"\n")
+        self.say_actions(page, state);
+        self.say_gotos(page, state);
+        page.say(b"\n");
+        Ok(())
     }
 
     /// Says an item, with its lookaheads where its dot is at the end.
-    fn say_item(&self, page: &mut Page, state: StateNo, item: Item) -> Result<(), OutOfMemory>
+    fn say_item(&self, page: &mut Page, state: StateNo, item: Item)
         requires state { state.0 < length self.now.resolved.now.automaton.states }
         requires sets { AreLookaheads self.now.resolved.now.automaton self.now.lookaheads.now }
     {
-        page.say(b"    ")?;
-        page.say_number(item.rule as u64)?;
-        page.say(b"  ")?;
-        page.say_rule(self.spec(), item.rule, Some(item.dot))?;
+        page.say(b"    ");
+        page.say_number(item.rule as u64);
+        page.say(b"  ");
+        page.say_rule(self.spec(), item.rule, Some(item.dot));
         if let Some(place) = place_of(self.lr0(), self.lookaheads, state, item) {
-            page.say(b"   with")?;
+            page.say(b"   with");
             for terminal in 0..self.spec().grammar().terminals() {
                 if self.lookaheads.contains(state, place, Sym(terminal)) {
-                    page.say(b" ")?;
-                    page.say_terminal(self.spec(), Sym(terminal))?;
+                    page.say(b" ");
+                    page.say_terminal(self.spec(), Sym(terminal));
                 }
             }
         }
-        page.say(b"\n")
+        page.say(b"\n");
     }
 
     /// Says what is done before each terminal: what isn't the default reduction by itself, and that behind it.
-    fn say_actions(&self, page: &mut Page, state: StateNo) -> Result<(), OutOfMemory>
+    fn say_actions(&self, page: &mut Page, state: StateNo)
         requires { state.0 < length self.now.resolved.now.automaton.states }
     {
         let mut default = None;
@@ -113,54 +114,52 @@ impl<'a> Teller<'a> {
         let _spec = self.resolved.spec();
         for entry in self.resolved.row(state) {
             if !is_default(entry, default) {
-                self.say_action(page, state, entry)?;
+                self.say_action(page, state, entry);
             }
         }
         if let Some(rule) = default {
-            page.say(b"    else rule ")?;
-            page.say_number(u64::from(rule.0))?;
-            page.say(b"\n")?;
+            page.say(b"    else rule ");
+            page.say_number(u64::from(rule.0));
+            page.say(b"\n");
         }
-        Ok(())
     }
 
     /// Says what is done before a terminal.
-    fn say_action(&self, page: &mut Page, state: StateNo, entry: &Entry) -> Result<(), OutOfMemory>
+    fn say_action(&self, page: &mut Page, state: StateNo, entry: &Entry)
         requires { state.0 < length self.now.resolved.now.automaton.states }
     {
-        page.say(b"    before ")?;
-        page.say_terminal(self.spec(), entry.terminal)?;
+        page.say(b"    before ");
+        page.say_terminal(self.spec(), entry.terminal);
         match entry.action {
             Action::Shift => match self.lr0().goto(state, Symbol::Terminal(entry.terminal)) {
                 Some(target) => {
-                    page.say(b" shift, to state ")?;
-                    page.say_number(u64::from(target.0))?;
+                    page.say(b" shift, to state ");
+                    page.say_number(u64::from(target.0));
                 }
-                None => page.say(b" accept")?,
+                None => page.say(b" accept"),
             },
             Action::Reduce(rule) => {
-                page.say(b" rule ")?;
-                page.say_number(rule as u64)?;
+                page.say(b" rule ");
+                page.say_number(rule as u64);
             }
-            Action::Error => page.say(b" error, since it doesn't associate")?,
+            Action::Error => page.say(b" error, since it doesn't associate"),
         }
-        page.say(b"\n")
+        page.say(b"\n");
     }
 
     /// Says where a state goes by nonterminals.
-    fn say_gotos(&self, page: &mut Page, state: StateNo) -> Result<(), OutOfMemory>
+    fn say_gotos(&self, page: &mut Page, state: StateNo)
         requires { state.0 < length self.now.resolved.now.automaton.states }
     {
         for transition in self.lr0().transitions(state) {
             if let Symbol::Nonterminal(_) = transition.symbol {
-                page.say(b"    ")?;
-                page.say_symbol(self.spec(), transition.symbol)?;
-                page.say(b" to state ")?;
-                page.say_number(u64::from(transition.target.0))?;
-                page.say(b"\n")?;
+                page.say(b"    ");
+                page.say_symbol(self.spec(), transition.symbol);
+                page.say(b" to state ");
+                page.say_number(u64::from(transition.target.0));
+                page.say(b"\n");
             }
         }
-        Ok(())
     }
 }
 

@@ -25,23 +25,24 @@ pub(crate) fn say_ambiguity(
     spec: &Spec,
     ambiguity: &Ambiguity,
 ) -> Result<(), OutOfMemory> {
-    page.say(b"    This sentence has two trees:")?;
+    page.say(b"    This sentence has two trees:");
     for token in &ambiguity.sentence {
-        page.say(b" ")?;
-        page.say_terminal(spec, *token)?;
+        page.say(b" ");
+        page.say_terminal(spec, *token);
     }
-    page.say(b"\n")?;
+    page.say(b"\n");
     let mut one = tree_of(alloc, spec, &ambiguity.one, Style::Brackets)?;
     let mut other = tree_of(alloc, spec, &ambiguity.other, Style::Brackets)?;
     if one == other {
         one = tree_of(alloc, spec, &ambiguity.one, Style::Names)?;
         other = tree_of(alloc, spec, &ambiguity.other, Style::Names)?;
     }
-    page.say(b"       ")?;
-    page.say(&one)?;
-    page.say(b"\n       ")?;
-    page.say(&other)?;
-    page.say(b"\n")
+    page.say(b"       ");
+    page.say(&one);
+    page.say(b"\n       ");
+    page.say(&other);
+    page.say(b"\n");
+    Ok(())
 }
 
 /// A part of a tree that is to be said.
@@ -99,9 +100,9 @@ fn tree_of(
     for _ in 0..MOST {
         match teller.parts.pop() {
             None => break,
-            Some(Part::Close) => teller.close()?,
+            Some(Part::Close) => teller.close(),
             Some(Part::Symbol(below)) => match below.symbol {
-                Symbol::Terminal(number) => teller.say_terminal(number)?,
+                Symbol::Terminal(number) => teller.say_terminal(number),
                 Symbol::Nonterminal(left) => {
                     let rule = rules
                         .next()
@@ -113,21 +114,20 @@ fn tree_of(
             },
         }
     }
-    Ok(teller.page.into_bytes())
+    teller.page.finish()
 }
 
 impl Teller<'_> {
     /// Says the space before a symbol, if it needs one.
-    fn say_space(&mut self) -> Result<(), OutOfMemory> {
-        self.page.say(if self.opened { b"" } else { b" " })?;
+    fn say_space(&mut self) {
+        self.page.say(if self.opened { b"" } else { b" " });
         self.opened = false;
-        Ok(())
     }
 
     /// Says a terminal.
-    fn say_terminal(&mut self, number: Sym) -> Result<(), OutOfMemory> {
-        self.say_space()?;
-        self.page.say_terminal(self.spec, number)
+    fn say_terminal(&mut self, number: Sym) {
+        self.say_space();
+        self.page.say_terminal(self.spec, number);
     }
 
     /// Says how a rule begins, and notes what is below it.
@@ -135,11 +135,11 @@ impl Teller<'_> {
         let one_of_many = body.len() > 1;
         let named = self.style == Style::Names;
         if named || beside && one_of_many {
-            self.say_space()?;
+            self.say_space();
             if named {
-                self.page.say_symbol(self.spec, Symbol::Nonterminal(left))?;
+                self.page.say_symbol(self.spec, Symbol::Nonterminal(left));
             }
-            self.page.say(b"[")?;
+            self.page.say(b"[");
             self.opened = true;
             self.parts.push(Part::Close)?;
         }
@@ -153,8 +153,8 @@ impl Teller<'_> {
     }
 
     /// Says the end of a rule.
-    fn close(&mut self) -> Result<(), OutOfMemory> {
+    fn close(&mut self) {
         self.opened = false;
-        self.page.say(b"]")
+        self.page.say(b"]");
     }
 }

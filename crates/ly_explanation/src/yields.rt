@@ -139,14 +139,13 @@ impl Yields {
     ) -> Result<(), OutOfMemory> {
         let derived = self.derive(alloc, spec.grammar(), symbols)?;
         for token in &derived.tokens {
-            page.say(b" ")?;
-            page.say_terminal(spec, *token)?;
+            page.say(b" ");
+            page.say_terminal(spec, *token);
         }
-        if derived.whole {
-            Ok(())
-        } else {
-            page.say(b" ..")
+        if !derived.whole {
+            page.say(b" ..");
         }
+        Ok(())
     }
 }
 
