@@ -20,6 +20,8 @@ mod devices;
 #[cfg(test)]
 mod examples;
 #[cfg(test)]
+mod grammars;
+#[cfg(test)]
 mod memory;
 #[cfg(test)]
 mod parses;

@@ -130,7 +130,7 @@ fn is_wanted(answer: &Result<Step, ParseFault>, wanted: Wanted) -> bool {
 }
 
 /// Feeds a parser with a token of one byte, or with the end, which is terminal 0; both stand at byte 5.
-fn call<A: Rows<TableAction> + Drop, G: Rows<StateNo> + Drop>(
+pub(crate) fn call<A: Rows<TableAction> + Drop, G: Rows<StateNo> + Drop>(
     parser: &mut Parser<'_, A, G>,
     terminal: u32,
 ) -> Result<Step, ParseFault>

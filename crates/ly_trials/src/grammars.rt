@@ -1,0 +1,112 @@
+//! Parsers of worked grammars, over rows that stand apart and over those that are laid over one another: to each short
+//! string of terminals they answer alike.
+
+use crate::parses::call;
+use ly_base::{Limits, StateNo};
+use ly_engine::{read_specification, settle, steady_tables};
+use ly_grammar::reduce;
+use ly_loop::steady;
+use ly_lr0::automaton;
+use ly_pack::{Dense, Machine, Packed, Rows, TableAction, pack};
+use ly_parse::{ParseFault, Parser, Step};
+use std::alloc::Global;
+use std::test::Fail;
+
+/// Tables whose rows stand apart.
+type Apart = Machine<Dense<TableAction>, Dense<StateNo>>;
+
+/// The same, laid over one another.
+type Laid = Machine<Packed<TableAction>, Packed<StateNo>>;
+
+/// A lex file without rules: strings of terminals are made without a text.
+const LEX: &[u8] = b"%%\n";
+
+/// Yacc files: precedence that settles a conflict, and one that leaves an error; a shift and a rule that are taken;
+/// what SLR can't tell apart; what only merging makes a conflict; an empty text; and a rule that is never taken.
+const GRAMMARS: [&[u8]; 8] = [
+    b"%token NUM\n%left '+'\n%left '*'\n%%e : e '+' e | e '*' e | '(' e ')' | NUM ;",
+    b"%token ID\n%nonassoc '<'\n%%e : e '<' e | ID ;",
+    b"%token IF ELSE X\n%%s : IF s | IF s ELSE s | X ;",
+    b"%%s : a | b ; a : 'x' ; b : 'x' ;",
+    b"%token ID\n%%s : l '=' r | r ; l : '*' r | ID ; r : l ;",
+    b"%%s : 'a' A 'd' | 'b' B 'd' | 'a' B 'e' | 'b' A 'e' ; A : 'c' ; B : 'c' ;",
+    b"%%s : ;",
+    b"%%s : a ; a : a | 'x' ;",
+];
+
+/// How many terminals a string has.
+const LENGTH: u32 = 4;
+
+/// The tables of a yacc file.
+fn tables_of(alloc: Global, yacc: &[u8]) -> Result<Apart, Fail> {
+    let given = read_specification(alloc, LEX, yacc, &Limits::V2)?;
+    let reduced = reduce(alloc, given.spec.grammar())?;
+    let lr0 = automaton(alloc, &reduced, &Limits::V2)?;
+    let resolved = settle(alloc, &given.spec, &lr0)?;
+    Ok(steady_tables(alloc, &resolved)?)
+}
+
+/// Whether two answers are the same.
+fn are_same(one: &Result<Step, ParseFault>, other: &Result<Step, ParseFault>) -> bool {
+    match (one, other) {
+        (Ok(Step::More), Ok(Step::More)) => true,
+        (Ok(Step::Done(root)), Ok(Step::Done(other))) => root == other,
+        (
+            Ok(
+                Step::Refused {
+                    token,
+                    byte,
+                    expected,
+                },
+            ),
+            Ok(
+                Step::Refused {
+                    token: number,
+                    byte: at,
+                    expected: listed,
+                },
+            ),
+        ) => token == number && byte == at && expected.as_slice() == listed.as_slice(),
+        (Err(ParseFault::Over), Err(ParseFault::Over)) => true,
+        _ => false,
+    }
+}
+
+/// Whether parsers over both kinds of rows answer alike to a string of terminals: the digits of its number.
+fn are_alike(alloc: Global, apart: &Apart, laid: &Laid, number: u32) -> Result<bool, Fail> {
+    let terminals = apart.terminals();
+    let (Ok(()), Ok(()), true) = (
+        steady(alloc, apart),
+        steady(alloc, laid),
+        terminals == laid.terminals(),
+    ) else {
+        return Err(Fail::from("tables were refused that are steady, or aren't alike"));
+    };
+    let mut one = Parser::new(alloc, apart.view());
+    let mut other = Parser::new(alloc, laid.view());
+    let mut left = number as usize;
+    for _ in 0..LENGTH {
+        let terminal = left % terminals.max(1);
+        left /= terminals.max(1);
+        if terminals <= terminal {
+            return Err(Fail::from("there is no terminal"));
+        }
+        if !are_same(&call(&mut one, terminal as u32), &call(&mut other, terminal as u32)) {
+            return Ok(false);
+        }
+    }
+    Ok(true)
+}
+
+#[test]
+fn grammars_are_parsed_alike_over_both_kinds_of_rows(rt: HostRuntime) -> Result<(), Fail> {
+    for yacc in &GRAMMARS {
+        let apart = tables_of(rt.alloc(), yacc)?;
+        let laid = pack(rt.alloc(), tables_of(rt.alloc(), yacc)?)?;
+        let strings = (apart.terminals() as u32).saturating_pow(LENGTH);
+        for number in 0..strings {
+            assert!(rt; are_alike(rt.alloc(), &apart, &laid, number)?, "{yacc:?}, {number}");
+        }
+    }
+    Ok(())
+}
