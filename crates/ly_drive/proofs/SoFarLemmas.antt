@@ -4,19 +4,18 @@ use Rattle.std.proofs.Common.{append_assoc, arith, length, length-append, refl, 
 use Rattle.std.specs.Io.KnownBytes.{Appends, Consumes, IsAtEnd}
 use Rattle.std.specs.Prelude.{◌^◌, false, IfErr, IfOk, IfSome}
 use Rattle.std.proofs.KnownBytes.{Consumes-nil, Consumes-trans}
-use Rattle.ly_drive.proofs.OnwardLemmas.{from_start, onward_on, onward_with}
 use Rattle.ly_drive.specs.Answering.{IsAnsweredBy, IsFaultyOn, IsReadAsNeeded, IsTooLong}
-use Rattle.ly_drive.specs.Held.{Held, IsOnward, IsRestOf, IsSettledBy, nothing_read, seen}
-use Rattle.ly_drive.specs.Private.Feeding.{IsAnswerOf}
-use Rattle.ly_drive.specs.Onward.{Onward, none_yet}
 use Rattle.ly_drive.specs.Private.Reading.{IsGiven, IsReadInto, IsReadSoFar}
-use Rattle.ly_drive.specs.ScanPart.{scan_part_of, scanner_in}
-use Rattle.ly_drive.specs.TableAnswer.{IsVerdict, TableAnswer, begun, with_more}
-use Rattle.ly_drive.specs.Verdict.{Verdict, faulty, printed}
-use Rattle.ly_drive.specs.Vocabularies.{vocabulary_of}
 use Rattle.ly_drive.specs.declared.fault.DriveFault.{DriveFault}
 use Rattle.ly_drive.specs.declared.fault.DriveFault.TheVariants.{OutOfMemory, Read, TableFault, Tables, TooLong, Write}
-use Rattle.ly_drive.specs.declared.outcome.Outcome.{Outcome}
+use Rattle.ly_feed.proofs.OnwardLemmas.{from_start, onward_on, onward_with}
+use Rattle.ly_feed.specs.Held.{Held, IsAnswerOf, IsOnward, IsRestOf, IsSettledBy, nothing_read, seen}
+use Rattle.ly_feed.specs.Onward.{Onward, none_yet}
+use Rattle.ly_feed.specs.ScanPart.{scan_part_of, scanner_in}
+use Rattle.ly_feed.specs.TableAnswer.{IsVerdict, TableAnswer, begun, with_more}
+use Rattle.ly_feed.specs.Verdict.{Verdict, faulty, printed}
+use Rattle.ly_feed.specs.Vocabularies.{vocabulary_of}
+use Rattle.ly_feed.specs.declared.outcome.Outcome.{Outcome}
 use Rattle.ly_scan.specs.Pieces.{IsUndecided}
 use Rattle.ly_tables.specs.TableSet.{TableSet, machine_of}
 

@@ -2,15 +2,15 @@ use Rattle.std.proofs.Common.{◌≡◌, ◌∙◌, ◌<◌, List, [], Err, Ok, 
 use Rattle.std.specs.Io.KnownBytes.{Appends}
 use Rattle.std.specs.Prelude.{IfOk}
 use Rattle.ly_base.specs.TextWriter.{IsCutShort}
-use Rattle.ly_drive.proofs.FaultLemmas.{cut_short, other_fault, same_count, same_fault}
+use Rattle.ly_drive.proofs.FaultLemmas.{cut_short, other_fault, same_count, tables_of, write_of}
 use Rattle.ly_drive.proofs.SoFarLemmas.{all_ended, as_needed, at_fault, begins, ended_as_needed, ended_so, ends}
 use Rattle.ly_drive.proofs.SoFarLemmas.{given_by, goes_on, settles}
-use Rattle.ly_drive.specs.Held.{IsRestOf}
-use Rattle.ly_drive.specs.Private.Feeding.{IsAnswerOf}
 use Rattle.ly_drive.specs.Private.Reading.{IsReadInto}
-use Rattle.ly_drive.specs.Verdict.{faulty}
 use Rattle.ly_drive.specs.declared.fault.DriveFault.TheVariants.{Read, TableFault, Write}
 use Rattle.ly_drive.proofs.driving.feed_all.Goals as goal
+use Rattle.ly_feed.proofs.FaultLemmas.{same_fault}
+use Rattle.ly_feed.specs.Held.{IsAnswerOf, IsRestOf}
+use Rattle.ly_feed.specs.Verdict.{faulty}
 
 pub loop-outcome-init : goal.loop-outcome-init
 loop-outcome-init g c =
