@@ -136,11 +136,11 @@ impl<'a> Feed<'a> {
         let mut sink = MemSink::new(self.alloc);
         match self.finish_into(&mut sink) {
             Ok(outcome) => Ok((outcome, sink.into_bytes())),
-            Err(FinishFault::TableFault) => Err(FeedFault::TableFault),
-            // memory takes all bytes, while there is room
-            Err(FinishFault::OutOfMemory | FinishFault::Write { .. }) => {
-                Err(FeedFault::OutOfMemory)
-            }
+            Err(fault) => Err(match fault {
+                FinishFault::TableFault => FeedFault::TableFault,
+                // memory takes all bytes, while there is room
+                FinishFault::OutOfMemory | FinishFault::Write { .. } => FeedFault::OutOfMemory,
+            }),
         }
     }
 
