@@ -1,22 +1,21 @@
 -- A text that a reader gives piece by piece.
 use Rattle.std.proofs.Common.{◌≡◌, ◌∙◌, ◌<◌, ◌≤◌, ◌+◌, ◌-◌, ℕ, List, [], ◌++◌, Option, Some, None, Ok, Err, Result, ap}
 use Rattle.std.proofs.Common.{append_assoc, arith, length, length-append, refl, subst, sym}
-use Rattle.std.specs.Io.KnownBytes.{Appends, Consumes, IsAtEnd}
-use Rattle.std.specs.Prelude.{◌^◌, false, IfErr, IfOk, IfSome}
+use Rattle.std.specs.Io.KnownBytes.{Consumes, IsAtEnd}
+use Rattle.std.specs.Prelude.{◌^◌, false, IfErr, IfSome}
 use Rattle.std.proofs.KnownBytes.{Consumes-nil, Consumes-trans}
-use Rattle.ly_drive.proofs.OnwardLemmas.{from_start, onward_on, onward_with}
-use Rattle.ly_drive.specs.Answering.{IsAnsweredBy, IsFaultyOn, IsReadAsNeeded, IsTooLong}
-use Rattle.ly_drive.specs.Held.{Held, IsOnward, IsRestOf, IsSettledBy, nothing_read, seen}
-use Rattle.ly_drive.specs.Private.Feeding.{IsAnswerOf}
-use Rattle.ly_drive.specs.Onward.{Onward, none_yet}
+use Rattle.ly_drive.specs.Answering.{IsFaultyOn, IsReadAsNeeded, IsTooLong}
 use Rattle.ly_drive.specs.Private.Reading.{IsGiven, IsReadInto, IsReadSoFar}
-use Rattle.ly_drive.specs.ScanPart.{scan_part_of, scanner_in}
-use Rattle.ly_drive.specs.TableAnswer.{IsVerdict, TableAnswer, begun, with_more}
-use Rattle.ly_drive.specs.Verdict.{Verdict, faulty, printed}
-use Rattle.ly_drive.specs.Vocabularies.{vocabulary_of}
 use Rattle.ly_drive.specs.declared.fault.DriveFault.{DriveFault}
 use Rattle.ly_drive.specs.declared.fault.DriveFault.TheVariants.{OutOfMemory, Read, TableFault, Tables, TooLong, Write}
-use Rattle.ly_drive.specs.declared.outcome.Outcome.{Outcome}
+use Rattle.ly_feed.proofs.OnwardLemmas.{from_start, onward_on, onward_with}
+use Rattle.ly_feed.specs.Held.{Held, IsAnswerOf, IsOnward, IsRestOf, IsSettledBy, nothing_read, seen}
+use Rattle.ly_feed.specs.Onward.{Onward, none_yet}
+use Rattle.ly_feed.specs.ScanPart.{scan_part_of, scanner_in}
+use Rattle.ly_feed.specs.TableAnswer.{IsVerdict, TableAnswer, begun, with_more}
+use Rattle.ly_feed.specs.Verdict.{Verdict, faulty, printed}
+use Rattle.ly_feed.specs.Vocabularies.{vocabulary_of}
+use Rattle.ly_feed.specs.declared.outcome.Outcome.{Outcome}
 use Rattle.ly_scan.specs.Pieces.{IsUndecided}
 use Rattle.ly_tables.specs.TableSet.{TableSet, machine_of}
 
@@ -182,11 +181,3 @@ module _ (s : TableSet) (given : Option (List ℕ)) where
           text.1,
           (h.0, text.2, h.2, h.3 ∙ ap (λ x. printed (vocabulary_of x) h.0) so_far.set),
         )
-
-    pub all_ended : {E : Type 0} (g : Held) (b n : Option (List ℕ)) (result : Result Outcome E) → g ≡ f
-        → Consumes before after [] → IsAtEnd after
-        → IfOk result (λ o. (answer : List ℕ) × IsAnswerOf g o answer × Appends b n answer)
-        → IfOk result (IsAnsweredBy s given b n)
-    all_ended g b n (Ok o) same took end h =
-        let text = ended_so g o h.0 same took end h.1 in (text.0, h.0, text.1, text.2, h.2)
-    all_ended g b n (Err e) same took end h = tt

@@ -2,11 +2,11 @@
 use Rattle.std.specs.Prelude.{◌≡◌, ◌<◌, ◌≤◌, ◌^◌, ℕ, List, ◌++◌, length, take, false, IfSome, Option}
 use Rattle.std.specs.Io.KnownBytes.{Appends, Consumes}
 use Rattle.ly_base.specs.declared.version.Version.{Version}
-use Rattle.ly_drive.specs.Onward.{Onward}
-use Rattle.ly_drive.specs.ScanPart.{scan_part_of, scanner_in}
-use Rattle.ly_drive.specs.TableAnswer.{IsVerdict, Progress, TableAnswer, begun}
-use Rattle.ly_drive.specs.Verdict.{faulty}
-use Rattle.ly_drive.specs.declared.outcome.Outcome.{Outcome}
+use Rattle.ly_feed.specs.Onward.{Onward}
+use Rattle.ly_feed.specs.ScanPart.{scan_part_of, scanner_in}
+use Rattle.ly_feed.specs.TableAnswer.{IsVerdict, Progress, TableAnswer, begun}
+use Rattle.ly_feed.specs.Verdict.{faulty}
+use Rattle.ly_feed.specs.declared.outcome.Outcome.{Outcome}
 use Rattle.ly_pack.specs.Steady.{IsSteady}
 use Rattle.ly_scan.specs.Pieces.{IsUndecided}
 use Rattle.ly_tables.specs.TableSet.{TableSet, machine_of}

@@ -1,8 +1,8 @@
 -- The faults of the parts as faults of driving.
 use Rattle.ly_drive.specs.declared.fault.DriveFault.{DriveFault}
 use Rattle.ly_drive.specs.declared.fault.DriveFault.TheVariants.{OutOfMemory, TableFault, Tables, Write}
-use Rattle.ly_drive.specs.declared.run_fault.RunFault.{RunFault}
-use Rattle.ly_drive.specs.declared.run_fault.RunFault.TheVariants as run
+use Rattle.ly_feed.specs.declared.finish_fault.FinishFault.{FinishFault}
+use Rattle.ly_feed.specs.declared.finish_fault.FinishFault.TheVariants as finish
 use Rattle.ly_tables.specs.declared.fault.TableFault as code
 use Rattle.ly_tables.specs.declared.fault.TableFault.TheVariants as file
 
@@ -15,10 +15,11 @@ fault_of_tables (file.OutOfRange section) = Tables (file.OutOfRange section)
 fault_of_tables file.Endless = Tables file.Endless
 fault_of_tables file.OutOfMemory = OutOfMemory
 
--- a fault of a run, as it is told
-abbrev pub drive_fault_of : RunFault → DriveFault
-drive_fault_of run.TableFault = TableFault
-drive_fault_of run.OutOfMemory = OutOfMemory
+-- a fault of answering a text that has ended, as it is told
+abbrev pub drive_fault_of : FinishFault → DriveFault
+drive_fault_of finish.TableFault = TableFault
+drive_fault_of (finish.Write written) = Write written
+drive_fault_of finish.OutOfMemory = OutOfMemory
 
 -- a write failed
 abbrev pub IsWrite : DriveFault → Type 0
@@ -34,16 +35,3 @@ IsBeforeWriting _ = Unit {0}
 abbrev pub IsOfFile : DriveFault → Type 0
 IsOfFile (Tables fault) = Unit {0}
 IsOfFile _ = ⊥
-
--- a fault of writing an answer
-abbrev pub IsOfWriting : DriveFault → Type 0
-IsOfWriting (Write written) = Unit {0}
-IsOfWriting OutOfMemory = Unit {0}
-IsOfWriting _ = ⊥
-
--- a fault of answering a text that has ended
-abbrev pub IsOfAnswering : DriveFault → Type 0
-IsOfAnswering TableFault = Unit {0}
-IsOfAnswering (Write written) = Unit {0}
-IsOfAnswering OutOfMemory = Unit {0}
-IsOfAnswering _ = ⊥

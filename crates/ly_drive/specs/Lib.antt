@@ -1,11 +1,3 @@
 pub mod Answering
 pub mod DriveFault
-pub mod FeedFaultNames
-pub mod Held
-pub mod Laws
-pub mod Onward
 pub mod Private
-pub mod ScanPart
-pub mod TableAnswer
-pub mod Verdict
-pub mod Vocabularies

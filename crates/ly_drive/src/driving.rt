@@ -6,15 +6,13 @@ ghost use Rattle.ly_tables.specs.TableSet.{TableSet as Tables};
 ghost use Rattle.ly_tables.specs.declared.fault.TableFault as file;
 ghost use Rattle.ly_tables.specs.declared.fault.TableFault.TheVariants.{OutOfMemory};
 ghost use Rattle.ly_drive.specs.Answering.{IsAnsweredBy, IsBegunBy, IsDriven, IsFaultyOn, IsReadAsNeeded, IsTooLong};
-ghost use Rattle.ly_drive.specs.Held.{nothing_read};
 ghost use Rattle.ly_drive.specs.DriveFault.{IsBeforeWriting, IsOfFile, IsWrite};
+ghost use Rattle.ly_feed.specs.Held.{nothing_read};
 
 use crate::fault::DriveFault;
-use crate::feed::Feed;
-use crate::need::Need;
-use crate::outcome::Outcome;
 use crate::reading::read_into;
 use ly_base::{Sink, Source, write_whole};
+use ly_feed::{Feed, Need, Outcome};
 use ly_tables::{TableSet, a_file_has_one_set, read_tables};
 use std::alloc::Global;
 
@@ -120,7 +118,7 @@ fn feed_all<R: Source, W: Sink>(
                 write_whole(writer, &answer)?;
                 return Ok(outcome);
             }
-            None => return feed.finish_into(writer),
+            None => return Ok(feed.finish_into(writer)?),
         }
     }
 }

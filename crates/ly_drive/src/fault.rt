@@ -2,8 +2,8 @@ ghost use Rattle.std.specs.Prelude.{◌≡◌};
 ghost use Rattle.ly_drive.specs.DriveFault.{drive_fault_of, fault_of_tables};
 ghost use Rattle.ly_drive.specs.declared.fault.DriveFault.TheVariants.{OutOfMemory, Write};
 
-use crate::run_fault::RunFault;
 use ly_base::{OutOfMemory as NoMemory, WriteFault};
+use ly_feed::FinishFault;
 use ly_tables::TableFault as FileFault;
 use std::alloc::AllocError;
 use thiserror::Error;
@@ -64,13 +64,14 @@ impl From<FileFault> for DriveFault {
     }
 }
 
-impl From<RunFault> for DriveFault {
+impl From<FinishFault> for DriveFault {
     ghost from_gives = { λ fault e. e ≡ drive_fault_of fault };
 
-    fn from(fault: RunFault) -> DriveFault {
+    fn from(fault: FinishFault) -> DriveFault {
         match fault {
-            RunFault::TableFault => DriveFault::TableFault,
-            RunFault::OutOfMemory => DriveFault::OutOfMemory,
+            FinishFault::TableFault => DriveFault::TableFault,
+            FinishFault::Write { written } => DriveFault::Write { written },
+            FinishFault::OutOfMemory => DriveFault::OutOfMemory,
         }
     }
 }

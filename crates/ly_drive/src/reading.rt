@@ -3,10 +3,8 @@ ghost use Rattle.ly_base.specs.Device.{next_count};
 ghost use Rattle.ly_drive.specs.Private.Reading.{IsReadInto};
 
 use crate::fault::DriveFault;
-use crate::feed::Feed;
-use crate::feed_fault::FeedFault;
-use crate::need::Need;
 use ly_base::Source;
+use ly_feed::{Feed, FeedFault, Need};
 
 /// Reads what a reader gives at once, at most so much as there is room for, into a feed, and says what that wants next.
 /// None where the text has ended.

@@ -2,7 +2,7 @@
 use Rattle.std.proofs.Common.{◌≡◌, ◌∙◌, ℕ, List, subst, sym}
 use Rattle.ly_base.specs.Limits.{AreBounded, Sizes, sizes_in}
 use Rattle.ly_base.specs.declared.version.Version.{Version}
-use Rattle.ly_drive.specs.Verdict.{faulty}
+use Rattle.ly_feed.specs.Verdict.{faulty}
 use Rattle.ly_emit.specs.FitsFile.{FitsFile}
 use Rattle.ly_engine.specs.Generated.{FitsWith, HasFormOf, IsGenerated, IsMadeOf, IsSpecification}
 use Rattle.ly_tokens.specs.Scanner.{IsSubsetScanner}

@@ -8,9 +8,9 @@ use Rattle.ly_base.specs.Lexed.{Token, start_of, tokens_from}
 use Rattle.ly_base.specs.declared.lexeme.End.{End}
 use Rattle.ly_base.specs.declared.lexeme.End.TheVariants.{BadCut, Clean, Stuck}
 use Rattle.ly_base.specs.declared.version.Version.{Version}
-use Rattle.ly_drive.specs.ScanPart.{condition_in, scan_part_of, scanner_in}
-use Rattle.ly_drive.specs.TableAnswer.{AreTokens, Comes, IsVerdict, begun, end_of, fed_with}
-use Rattle.ly_drive.specs.Verdict.{Verdict, accepted, faulty, refused, unmatched}
+use Rattle.ly_feed.specs.ScanPart.{condition_in, scan_part_of, scanner_in}
+use Rattle.ly_feed.specs.TableAnswer.{AreTokens, Comes, IsVerdict, begun, end_of, fed_with}
+use Rattle.ly_feed.specs.Verdict.{Verdict, accepted, faulty, refused, unmatched}
 use Rattle.ly_emit.specs.Following.{bottom}
 use Rattle.ly_emit.specs.Laws.{AreOf}
 use Rattle.ly_emit.specs.Tables.{IsMachineOf}

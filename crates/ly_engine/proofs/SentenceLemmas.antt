@@ -9,9 +9,9 @@ use Rattle.ly_base.specs.Shape.{Shape}
 use Rattle.ly_base.specs.Text.{Named, literal, token}
 use Rattle.ly_base.specs.Trees.{Tree, yield_of}
 use Rattle.ly_base.specs.declared.lexeme.End.{End}
-use Rattle.ly_drive.specs.Laws.{HasOneVerdict, HasSomeVerdict}
-use Rattle.ly_drive.specs.TableAnswer.{end_of}
-use Rattle.ly_drive.specs.Verdict.{Verdict, accepted, faulty, refused, unmatched}
+use Rattle.ly_feed.specs.Laws.{HasOneVerdict, HasSomeVerdict}
+use Rattle.ly_feed.specs.TableAnswer.{end_of}
+use Rattle.ly_feed.specs.Verdict.{Verdict, accepted, faulty, refused, unmatched}
 use Rattle.ly_emit.specs.Tables.{shape_in}
 use Rattle.ly_engine.specs.SentenceAnswer.{AnswersSentences, AreContinuing, IsOnlyDerivation}
 use Rattle.ly_engine.specs.SentenceAnswer.{IsSentenceVerdict}

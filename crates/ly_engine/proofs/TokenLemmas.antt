@@ -10,8 +10,8 @@ use Rattle.ly_base.specs.Text.{Named, literal, token}
 use Rattle.ly_base.specs.declared.lexeme.End.{End}
 use Rattle.ly_base.specs.declared.lexeme.Lexeme.{Lexeme}
 use Rattle.ly_base.specs.declared.scan_action.Emitted.{Emitted}
-use Rattle.ly_drive.specs.ScanPart.{ScanPart, condition_in, next_in, scanner_in, start_in, states_in, terminal_by}
-use Rattle.ly_drive.specs.ScanPart.{terminal_in}
+use Rattle.ly_feed.specs.ScanPart.{ScanPart, condition_in, next_in, scanner_in, start_in, states_in, terminal_by}
+use Rattle.ly_feed.specs.ScanPart.{terminal_in}
 use Rattle.ly_tokens.specs.Printing.{condition_set, naming, terminal_for}
 use Rattle.ly_engine.specs.SpecAnswer.{IsNumberOf, IsNumberedToken}
 use Rattle.ly_join.specs.Scanning.{IsEmitted, IsScanAction, acting_of, returning_of}

@@ -5,7 +5,7 @@ use Rattle.std.specs.Prelude.{nat_lt, option_and_then, unwrap_or, if◌then◌el
 use Rattle.std.proofs.lemmas.Bool.{cases_lt, le-ltb}
 use Rattle.std.proofs.lemmas.Option.{slice_get-get_or, slice_get-map, slice_get_past}
 use Rattle.ly_base.specs.declared.cut.Cut.TheVariants.{Whole}
-use Rattle.ly_drive.specs.ScanPart.{cut_in, next_in, scan_part_of, start_by, start_in, states_from, states_in}
+use Rattle.ly_feed.specs.ScanPart.{cut_in, next_in, scan_part_of, start_by, start_in, states_from, states_in}
 use Rattle.ly_emit.specs.SetOf.{IsScannerOf}
 use Rattle.ly_tokens.specs.RowWalk as patterns
 use Rattle.ly_tokens.specs.RowWalk.{row_walk, rows_of}

@@ -8,8 +8,8 @@ use Rattle.std.proofs.lemmas.Option.{slice_get-map, slice_get_past}
 use Rattle.ly_base.specs.Bytes.{newline}
 use Rattle.ly_base.specs.Lexed.{Token}
 use Rattle.ly_base.specs.Text.{leaf_of, token}
-use Rattle.ly_drive.specs.Verdict.{Verdict, accepted, expected_line, faulty, printed, refused, syntax_line, unmatched}
-use Rattle.ly_drive.specs.Vocabularies.{constructor_in, constructor_of, name_in, vocabulary_of}
+use Rattle.ly_feed.specs.Verdict.{Verdict, accepted, expected_line, faulty, printed, refused, syntax_line, unmatched}
+use Rattle.ly_feed.specs.Vocabularies.{constructor_in, constructor_of, name_in, vocabulary_of}
 use Rattle.ly_emit.specs.SetOf.{IsSetOf}
 use Rattle.ly_emit.specs.Tables.{AreTables, shape_from, shape_in}
 use Rattle.ly_ere.specs.declared.pattern.Rule as pattern

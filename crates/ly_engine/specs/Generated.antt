@@ -2,9 +2,9 @@
 use Rattle.std.specs.Prelude.{◌≡◌, ◌≤◌, ◌*◌, ℕ, List, length}
 use Rattle.ly_base.specs.Limits.{Sizes}
 use Rattle.ly_base.specs.declared.version.Version.{Version}
-use Rattle.ly_drive.specs.TableAnswer.{IsVerdict, TableAnswer}
-use Rattle.ly_drive.specs.Verdict.{faulty}
-use Rattle.ly_drive.specs.declared.outcome.Outcome.{Outcome}
+use Rattle.ly_feed.specs.TableAnswer.{IsVerdict, TableAnswer}
+use Rattle.ly_feed.specs.Verdict.{faulty}
+use Rattle.ly_feed.specs.declared.outcome.Outcome.{Outcome}
 use Rattle.ly_emit.specs.FitsFile.{FitsFile}
 use Rattle.ly_emit.specs.SetOf.{IsSetOf}
 use Rattle.ly_engine.specs.Accepted.{IsFit, Specifies}

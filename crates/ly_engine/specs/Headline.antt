@@ -1,9 +1,9 @@
 -- What tables that are generated answer.
 use Rattle.std.specs.Prelude.{ℕ, List}
 use Rattle.ly_base.specs.declared.version.Version.{Version}
-use Rattle.ly_drive.specs.TableAnswer.{IsVerdict, TableAnswer}
-use Rattle.ly_drive.specs.Verdict.{Verdict}
-use Rattle.ly_drive.specs.declared.outcome.Outcome.{Outcome}
+use Rattle.ly_feed.specs.TableAnswer.{IsVerdict, TableAnswer}
+use Rattle.ly_feed.specs.Verdict.{Verdict}
+use Rattle.ly_feed.specs.declared.outcome.Outcome.{Outcome}
 use Rattle.ly_emit.specs.SetOf.{IsSetOf}
 use Rattle.ly_tokens.specs.Agreement.{Agrees}
 use Rattle.ly_tokens.specs.RowWalk.{cut_in, row_walk}

@@ -7,8 +7,8 @@ use Rattle.ly_base.specs.Trees.{Tree, yield_of}
 use Rattle.ly_base.specs.declared.version.Version.{Version}
 use Rattle.ly_base.specs.declared.lexeme.End.{End}
 use Rattle.ly_base.specs.declared.lexeme.End.TheVariants.{Clean, Stuck}
-use Rattle.ly_drive.specs.TableAnswer.{IsVerdict, end_of, fed_with}
-use Rattle.ly_drive.specs.Verdict.{Verdict, accepted, faulty, refused, unmatched}
+use Rattle.ly_feed.specs.TableAnswer.{IsVerdict, end_of, fed_with}
+use Rattle.ly_feed.specs.Verdict.{Verdict, accepted, faulty, refused, unmatched}
 use Rattle.ly_emit.specs.Tables.{shape_in}
 use Rattle.ly_engine.specs.Generated.{IsGenerated}
 use Rattle.ly_engine.specs.SpecAnswer.{AreTokensOf}

@@ -8,10 +8,10 @@ use Rattle.ly_base.specs.Trees.{Tree}
 use Rattle.ly_base.specs.declared.lexeme.End.{End}
 use Rattle.ly_base.specs.declared.lexeme.End.TheVariants.{Clean, Stuck}
 use Rattle.ly_base.specs.declared.lexeme.Lexeme.{Lexeme}
-use Rattle.ly_drive.specs.TableAnswer.{end_of, fed_with}
-use Rattle.ly_drive.specs.Verdict.{Verdict, IsOutcome, accepted, faulty, printed, refused, unmatched}
-use Rattle.ly_drive.specs.Vocabularies.{constructor_of}
-use Rattle.ly_drive.specs.declared.outcome.Outcome.{Outcome}
+use Rattle.ly_feed.specs.TableAnswer.{end_of, fed_with}
+use Rattle.ly_feed.specs.Verdict.{Verdict, IsOutcome, accepted, faulty, printed, refused, unmatched}
+use Rattle.ly_feed.specs.Vocabularies.{constructor_of}
+use Rattle.ly_feed.specs.declared.outcome.Outcome.{Outcome}
 use Rattle.ly_emit.specs.Tables.{shape_in}
 use Rattle.ly_engine.specs.Accepted.{terminal_name_in}
 use Rattle.ly_tokens.specs.Printing.{condition_set, naming}

@@ -2,7 +2,7 @@ ghost use Rattle.ly_engine.specs.Headline.{AnswersAreOfSpecification, TablesAnsw
 ghost use Rattle.ly_engine.specs.Laws.{RefusalIsExact};
 ghost use Rattle.ly_engine.specs.SentenceAnswer.{AnswersSentences};
 
-use ly_drive::{a_text_has_a_verdict, a_text_has_one_verdict};
+use ly_feed::{a_text_has_a_verdict, a_text_has_one_verdict};
 
 /// What a refusal says of a lex file and a yacc file is never so of files that are accepted.
 pub fn refusal_is_exact()

@@ -25,7 +25,7 @@ pub use gen_fault::GenFault;
 pub use generating::{Built, build, generate, steady_tables};
 pub use laws::{refusal_is_exact, sentences_are_answered, tables_answer_as_specified};
 pub use ly_base::{Counted, Limits, MemSink, MemSource, Sink, Source, Version};
-pub use ly_drive::{DriveFault, Feed, FeedFault, Need, Outcome, drive};
+pub use ly_drive::{DriveFault, Feed, FeedFault, FinishFault, Need, Outcome, drive};
 pub use ly_tables::{
     FormatFault, SetCounts, TableFault, TableSet, counts, read_tables, write_tables,
 };

@@ -2,15 +2,15 @@
 use Rattle.std.specs.Prelude.{◌≡◌, ◌<◌, ◌≤◌, ◌^◌, ℕ, ◌+◌, List, [], ◌++◌, Option, Some, None, Result, Ok, Err, false}
 use Rattle.std.specs.Prelude.{length}
 use Rattle.std.specs.Io.KnownBytes.{Consumes, IsAtEnd}
-use Rattle.ly_drive.specs.Held.{Held, IsOnward, IsRestOf, IsSettledBy, seen}
-use Rattle.ly_drive.specs.Onward.{Onward}
-use Rattle.ly_drive.specs.ScanPart.{scan_part_of, scanner_in}
-use Rattle.ly_drive.specs.TableAnswer.{IsVerdict, begun}
-use Rattle.ly_drive.specs.Verdict.{Verdict, faulty}
 use Rattle.ly_drive.specs.declared.fault.DriveFault.{DriveFault}
 use Rattle.ly_drive.specs.declared.fault.DriveFault.TheVariants.{OutOfMemory, Read, TableFault, TooLong}
-use Rattle.ly_drive.specs.declared.need.Need.{Need}
-use Rattle.ly_drive.specs.declared.need.Need.TheVariants.{More, Settled}
+use Rattle.ly_feed.specs.Held.{Held, IsOnward, IsRestOf, IsSettledBy, seen}
+use Rattle.ly_feed.specs.Onward.{Onward}
+use Rattle.ly_feed.specs.ScanPart.{scan_part_of, scanner_in}
+use Rattle.ly_feed.specs.TableAnswer.{IsVerdict, begun}
+use Rattle.ly_feed.specs.Verdict.{Verdict, faulty}
+use Rattle.ly_feed.specs.declared.need.Need.{Need}
+use Rattle.ly_feed.specs.declared.need.Need.TheVariants.{More, Settled}
 use Rattle.ly_scan.specs.Pieces.{IsUndecided}
 use Rattle.ly_tables.specs.TableSet.{TableSet, machine_of}
 

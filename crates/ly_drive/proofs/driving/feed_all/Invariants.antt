@@ -1,8 +1,8 @@
 use Rattle.std.proofs.Common.{◌≡◌, ◌-◌, ◌<◌, length}
 use Rattle.std.specs.Prelude.{◌^◌}
-use Rattle.ly_drive.specs.Held.{seen}
 use Rattle.ly_drive.specs.Private.Reading.{IsReadSoFar}
 use Rattle.ly_drive.proofs.driving.feed_all.Given as goal
+use Rattle.ly_feed.specs.Held.{seen}
 
 -- what came so far is in the feed, and nothing failed or was written
 abbrev pub invariant-loop-outcome : goal.invariant-loop-outcome

@@ -1,5 +1,0 @@
-use Rattle.ly_drive.proofs.SomeVerdictLemmas.{has_some_verdict}
-use Rattle.ly_drive.proofs.laws.a_text_has_a_verdict.Goals as goal
-
-pub returns : goal.returns
-returns c = has_some_verdict

@@ -1,0 +1,67 @@
+-- How a feed answers a text that has ended.
+use Rattle.std.proofs.Common.{◌≡◌, ℕ, List, [], Err, Ok, Option, Result, ap, refl, subst, sym}
+use Rattle.std.specs.Io.KnownBytes.{Appends}
+use Rattle.std.specs.Prelude.{Bool, IfOk, IsErrAnd}
+use Rattle.ly_base.specs.Lexed.{Place}
+use Rattle.ly_feed.proofs.SettledLemmas.{nothing_more}
+use Rattle.ly_feed.specs.FinishFault.{finish_fault_of}
+use Rattle.ly_feed.specs.Held.{Held, IsAnswerOf, IsRestOf}
+use Rattle.ly_feed.specs.Private.Feeding.{held_from}
+use Rattle.ly_feed.specs.Private.Running.{IsClosed, IsVerdictOf, progress_of}
+use Rattle.ly_feed.specs.ScanPart.{ScanPart, scan_part_of}
+use Rattle.ly_feed.specs.TableAnswer.{IsRest, Progress}
+use Rattle.ly_feed.specs.Verdict.{IsOutcome, Verdict, faulty, printed}
+use Rattle.ly_feed.specs.Vocabularies.{vocabulary_of}
+use Rattle.ly_feed.specs.declared.finish_fault.FinishFault.{FinishFault}
+use Rattle.ly_feed.specs.declared.finish_fault.FinishFault.TheVariants.{TableFault}
+use Rattle.ly_feed.specs.declared.flaw.Flaw.TheVariants as flaw
+use Rattle.ly_feed.specs.declared.outcome.Outcome.{Outcome}
+use Rattle.ly_feed.specs.declared.outcome.Outcome.TheVariants.{NoRule, Syntax, Tree}
+use Rattle.ly_feed.specs.declared.run_fault.RunFault.{RunFault}
+use Rattle.ly_feed.specs.declared.run_fault.RunFault.TheVariants as run
+use Rattle.ly_feed.specs.declared.running.Ended.{Ended}
+use Rattle.ly_feed.specs.declared.running.Ended.TheVariants.{Accepted, Refused}
+use Rattle.ly_pack.specs.Machine.{Machine}
+use Rattle.ly_parse.specs.Parse.{Parse}
+use Rattle.ly_tables.specs.TableSet.{TableSet, machine_of}
+use Rattle.ly_tree.specs.Forest.{Grown}
+
+-- what is said where the run stands is said of what the feed holds
+pub rest_of : (set : TableSet) (q z : Place) (s : Parse) (over : Bool) (f : Held) (v : Verdict)
+    → held_from set q s over ≡ f → z ≡ q → IsRest (scan_part_of set) (machine_of set) (progress_of z s) v
+    → IsRestOf f [] v
+rest_of set q z s over f v view at said = subst (λ x. IsRestOf x [] v) view
+    (subst (λ w. IsRest (scan_part_of set) (machine_of set) w v) (sym (nothing_more (progress_of q s) [] refl))
+    (subst (λ x. IsRest (scan_part_of set) (machine_of set) (progress_of x s) v) at said))
+
+-- the tables' fault
+pub at_fault : {A : Type 0} (p : ScanPart) (m : Machine) (w : Progress) (forest : Grown) (e : RunFault)
+    (result : Result A FinishFault) → IsClosed p m w forest (Err e) → IsErrAnd result (λ x. x ≡ finish_fault_of e)
+    → result ≡ Err TableFault → IsRest p m w faulty
+at_fault p m w forest e (Ok x) closed is failed = absurd is
+at_fault p m w forest run.TableFault (Err x) closed is failed = closed
+at_fault p m w forest run.OutOfMemory (Err x) closed is failed = absurd cc
+
+-- a verdict that a value stands for has an outcome
+pub outcome_of : (forest : Grown) (ended : Ended) (v : Verdict) → IsVerdictOf forest ended v
+    → (o : Outcome) × IsOutcome v o
+outcome_of forest (Accepted root) v is = (Tree, subst (λ x. IsOutcome x Tree) (sym is.1) refl)
+outcome_of forest (Refused (flaw.Refused number token expected)) v is = (
+  Syntax number token.at expected,
+  subst (λ x. IsOutcome x (Syntax number token.at expected)) (sym is) (refl, refl, refl),
+)
+outcome_of forest (Refused (flaw.NoRule byte)) v is =
+    (NoRule byte, subst (λ x. IsOutcome x (NoRule byte)) (sym is) refl)
+
+-- what was written is the answer
+pub answered : {E : Type 0} (f : Held) (set : TableSet) (v : Verdict) (forest : Grown) (ended : Ended)
+    (before after : Option (List ℕ)) (result : Result Outcome E) → f.set ≡ set → IsRestOf f [] v
+    → IsVerdictOf forest ended v → IfOk result (λ o. (v : Verdict) → IsVerdictOf forest ended v → IsOutcome v o
+    × Appends before after (printed (vocabulary_of set) v))
+    → IfOk result (λ o. (answer : List ℕ) × IsAnswerOf f o answer × Appends before after answer)
+answered f set v forest ended before after (Ok o) same rest said h = (
+  printed (vocabulary_of set) v,
+  (v, rest, (h v said).0, ap (λ s. printed (vocabulary_of s) v) (sym same)),
+  (h v said).1,
+)
+answered f set v forest ended before after (Err e) same rest said h = tt

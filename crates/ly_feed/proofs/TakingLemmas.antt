@@ -1,0 +1,76 @@
+-- What becomes of a lexeme, and of the end of a text.
+use Rattle.std.proofs.Common.{◌≡◌, ◌∙◌, ◌+◌, ℕ, [], ◌∷◌, Option, Some, None, ap, subst, sym}
+use Rattle.std.proofs.Common.{take as first}
+use Rattle.std.specs.Prelude.{Bool, option_map}
+use Rattle.ly_base.specs.Lexed.{Place, Token, place_after}
+use Rattle.ly_base.specs.declared.lexeme.Lexeme.{Lexeme}
+use Rattle.ly_base.specs.declared.numbers.Sym.{Sym}
+use Rattle.ly_feed.proofs.RestLemmas.{one_token}
+use Rattle.ly_feed.proofs.SettledLemmas.{settled_fault, settled_refused}
+use Rattle.ly_feed.specs.Onward.{Onward, IsSettled, IsTokenAt, and_passes, and_reads, none_yet}
+use Rattle.ly_feed.specs.Private.Flaw.{verdict_of}
+use Rattle.ly_feed.specs.Private.Running.{IsFed, IsRefusalAt, IsTaken, progress_of}
+use Rattle.ly_feed.specs.ScanPart.{ScanPart, condition_in, scanner_in, terminal_in}
+use Rattle.ly_feed.specs.TableAnswer.{Progress}
+use Rattle.ly_feed.specs.declared.flaw.Flaw.{Flaw}
+use Rattle.ly_feed.specs.Verdict.{refused}
+use Rattle.ly_feed.specs.declared.running.Taken.{Taken}
+use Rattle.ly_feed.specs.declared.running.Taken.TheVariants.{Goes}
+use Rattle.ly_feed.specs.declared.running.Taken.TheVariants as take
+use Rattle.ly_pack.specs.Machine.{Machine}
+use Rattle.ly_parse.specs.Expected.{AreExpected}
+use Rattle.ly_parse.specs.Feeding.{Feeds, pushed, states_on}
+use Rattle.ly_parse.specs.Feeding as fed
+use Rattle.ly_parse.specs.Parse.{Parse}
+use Rattle.ly_scan.specs.Pieces.{StandsFast}
+
+-- a terminal that is there, as the scanner's part says
+pub terminal_is : (o : Option Sym) (t : Sym) (x : Option ℕ) → option_map (λ (s : Sym). s.0) o ≡ x → o ≡ Some t
+    → x ≡ Some t.0
+terminal_is o t x e is = sym e ∙ ap (option_map (λ (s : Sym). s.0)) is
+
+pub no_terminal : (o : Option Sym) (x : Option ℕ) → option_map (λ (s : Sym). s.0) o ≡ x → o ≡ None → x ≡ None
+no_terminal o x e is = sym e ∙ ap (option_map (λ (s : Sym). s.0)) is
+
+module _ (ended : Bool) (p : ScanPart) (m : Machine) where
+  -- a lexeme without a token is passed over
+  pub passes_on : (q : Place) (s : Parse) (t : Lexeme) → StandsFast ended (scanner_in p) q t
+      → terminal_in p t.rule.0 (first t.taken q.rest) ≡ None
+      → Onward ended p m (progress_of q s) (progress_of (place_after (condition_in p) q t) s)
+  passes_on q s t fast none = and_passes t none_yet fast none
+
+  -- what becomes of one with a token
+  pub taken : (q : Place) (s r : Parse) (t : Lexeme) (token : Token ℕ) (result : Taken)
+      → s.machine ≡ m → StandsFast ended (scanner_in p) q t → IsTokenAt p q t token → IsFed s token r result
+      → IsTaken ended p m (progress_of q s) t r result
+  taken q s r t token Goes machine fast here f = (
+    subst (λ k. Onward ended p m (progress_of q s) (record {
+      place = place_after (condition_in p) q t;
+      stack = r.stack;
+      count = k;
+    })) (sym f.1)
+        (and_reads t token none_yet fast here (subst (λ k. Feeds k token s.stack (pushed r.stack)) machine f.0)),
+    f.2,
+  )
+  taken q s r t token take.Refused machine fast here f =
+      (token, here, subst (λ k. Feeds k token s.stack fed.refused) machine f.0, f.1, f.2, f.3)
+  taken q s r t token take.TableFault machine fast here f = settled_fault ended p m (progress_of q s) t token fast
+      here (subst (λ k. Feeds k token s.stack fed.faulty) machine f)
+  taken q s r t token take.OutOfMemory machine fast here f = tt
+
+  -- the token of a lexeme is one
+  same_token : (q : Place) (t : Lexeme) (a b : Token ℕ) → IsTokenAt p q t a → IsTokenAt p q t b → a ≡ b
+  same_token q t a b f g =
+      let both : a ∷ [] ≡ b ∷ [] = sym (one_token p m q t a f) ∙ one_token p m q t b g in cc
+
+  -- what is wrong where it is refused
+  pub refused_there : (w : Progress) (t : Lexeme) (r : Parse) (flaw : Flaw) → r.machine ≡ m
+      → StandsFast ended (scanner_in p) w.place t → IsTaken ended p m w t r take.Refused
+      → IsRefusalAt p w.place t r flaw → IsSettled ended p m w (verdict_of flaw)
+  refused_there w t r flaw machine fast f told =
+      let same = same_token w.place t told.0 f.0 told.2 f.1 in
+      subst (IsSettled ended p m w)
+      (sym (told.4 ∙ (ap (λ n. refused (n + 1) told.0 told.1) f.4 ∙ ap (λ x. refused (w.count + 1) x told.1) same)))
+      (settled_refused ended p m w t f.0 told.1 fast f.1 f.2
+      (subst (λ k. AreExpected k (states_on w.stack) told.1) machine
+      (subst (λ xs. AreExpected r.machine xs told.1) f.3 told.3)))

@@ -1,0 +1,18 @@
+use Rattle.std.proofs.Common.{◌∙◌, ap, subst, sym}
+use Rattle.ly_feed.proofs.ReturnedLemmas.{can_run}
+use Rattle.ly_feed.proofs.feed.Feed.new.Goals as goal
+use Rattle.ly_pack.specs.Steady.{IsSteady}
+use Rattle.ly_scan.specs.Lexers.{IsUnderwayAt}
+
+pub new-requires : goal.new-requires
+new-requires c = subst IsSteady (sym c.machine.ensures.machine) c.machine.ensures.steady
+
+pub invariant_of-result : goal.invariant_of-result
+invariant_of-result c = record {
+  lexer = c.in_ok-lexer.ensures;
+  machine = ap (λ x. x.machine) c.new.ensures ∙ c.machine.ensures.machine;
+  runs = can_run c.args.set.now c.machine.ensures.within c.machine.ensures.steady;
+  parses = λ goes. ap (λ x. x.over) c.new.ensures;
+  waits = λ goes. subst (λ q. IsUnderwayAt c.in_ok-lexer.lexer q c.matcher_at-matcher.result) c.place.ensures
+      c.matcher_at-matcher.ensures;
+}

@@ -1,0 +1,144 @@
+use Rattle.std.proofs.Common.{◌∙◌, ap, subst, sym}
+use Rattle.ly_base.specs.Lexed.{moved}
+use Rattle.ly_feed.proofs.OnwardLemmas.{onward_on}
+use Rattle.ly_feed.proofs.RunLemmas.{cut, fast_there, halts_at_end, over, settled_there, stuck, undecided_there}
+use Rattle.ly_feed.specs.Onward.{Onward, none_yet}
+use Rattle.ly_feed.proofs.TakingLemmas.{refused_there}
+use Rattle.ly_feed.specs.Private.Flaw.{verdict_of}
+use Rattle.ly_feed.specs.Private.Running.{progress_of}
+use Rattle.ly_feed.specs.ScanPart.{scan_part_of, scanner_in}
+use Rattle.ly_feed.specs.Verdict.{faulty}
+use Rattle.ly_feed.proofs.running.run_on.Goals as goal
+use Rattle.ly_scan.specs.KnownWalks.{AreKnown}
+use Rattle.ly_scan.specs.Pieces.{EndsFast}
+use Rattle.ly_scan.specs.StateTable.{ahead_in}
+use Rattle.ly_tables.specs.TableSet.{machine_of}
+
+pub loop-lexeme-init : goal.loop-lexeme-init
+loop-lexeme-init c = record {
+  onward = none_yet;
+  machine = c.requires.machine;
+  goes_on = c.requires.goes_on;
+  known = c.new-known.ensures (ahead_in c.args.lexer.now.scanner) c.args.ended c.args.place.rest;
+}
+
+pub returns-in-Err-Stuck-clause-runs : goal.returns-in-Err-Stuck-clause-runs
+returns-in-Err-Stuck-clause-runs c =
+    let p = scan_part_of c.args.set.now in
+    let m = machine_of c.args.set.now in
+    let w = progress_of c.args.place c.args.parser.now in
+    let l = c.args.lexer.now in
+    let q = c.next.new.place in
+    let s = c.loop-lexeme.parser in
+    stuck c.args.ended p m w l q s c.in-Err-Stuck.field-0 c.in-Err-Stuck.byte c.requires.lexer
+    (over c.args.ended p m w l c.loop-lexeme.place q s c.requires.lexer c.loop-lexeme.invariant.onward
+    c.next.ensures.passed) c.in-Err-Stuck.ensures.end c.in-Err-Stuck.field-0-is
+
+pub returns-in-Err-BadCut-clause-runs : goal.returns-in-Err-BadCut-clause-runs
+returns-in-Err-BadCut-clause-runs c =
+    let p = scan_part_of c.args.set.now in
+    let m = machine_of c.args.set.now in
+    let w = progress_of c.args.place c.args.parser.now in
+    let l = c.args.lexer.now in
+    let q = c.next.new.place in
+    let s = c.loop-lexeme.parser in
+    cut c.args.ended p m w l q s c.in-Err-BadCut.field-0 c.in-Err-BadCut.field-0-0 c.requires.lexer
+    (over c.args.ended p m w l c.loop-lexeme.place q s c.requires.lexer c.loop-lexeme.invariant.onward
+    c.next.ensures.passed) c.in-Err-BadCut.ensures.end c.in-Err-BadCut.field-0-is
+
+pub returns-in-Ok-None-clause-runs : goal.returns-in-Ok-None-clause-runs
+returns-in-Ok-None-clause-runs c =
+    let p = scan_part_of c.args.set.now in
+    let q = c.next.new.place in (
+      over c.args.ended p (machine_of c.args.set.now) (progress_of c.args.place c.args.parser.now) c.args.lexer.now
+          c.loop-lexeme.place q c.loop-lexeme.parser c.requires.lexer c.loop-lexeme.invariant.onward
+          c.next.ensures.passed,
+      undecided_there c.args.ended p c.args.lexer.now q c.in-Ok-None.field-0 c.requires.lexer
+          c.in-Ok-None.ensures.found c.in-Ok-None.field-0-is,
+      c.loop-lexeme.invariant.goes_on,
+    )
+
+pub returns-in-Err-Clean-clause-runs : goal.returns-in-Err-Clean-clause-runs
+returns-in-Err-Clean-clause-runs c =
+    let p = scan_part_of c.args.set.now in
+    let q = c.next.new.place in (
+      over c.args.ended p (machine_of c.args.set.now) (progress_of c.args.place c.args.parser.now) c.args.lexer.now
+          c.loop-lexeme.place q c.loop-lexeme.parser c.requires.lexer c.loop-lexeme.invariant.onward
+          c.next.ensures.passed,
+      halts_at_end c.args.ended p q (subst (λ e. EndsFast c.args.ended (scanner_in p) q e) c.in-Err-Clean.field-0-is
+          (subst (λ x. EndsFast c.args.ended x q c.in-Err-Clean.field-0) c.requires.lexer.scanner
+          c.in-Err-Clean.ensures.end)),
+      c.loop-lexeme.invariant.goes_on,
+    )
+
+pub refusal-requires-clause-token : goal.refusal-requires-clause-token
+refusal-requires-clause-token c =
+    let p = scan_part_of c.args.set.now in
+    let l = c.args.lexer.now in
+    let q = c.next.new.place in
+    let t = c.in-Ok-Some.lexeme in
+    let fast = fast_there c.args.ended p l q c.in-Ok-Some.field-0 t c.requires.lexer c.in-Ok-Some.ensures.found
+    c.in-Ok-Some.field-0-is in
+    let taken = c.in-Refused.ensures.taken c.args.ended fast in
+    (taken.0, taken.1)
+
+pub refusal-requires-clause-tellable : goal.refusal-requires-clause-tellable
+refusal-requires-clause-tellable c = (c.in-Refused.ensures.taken c.args.ended
+    (fast_there c.args.ended (scan_part_of c.args.set.now) c.args.lexer.now c.next.new.place c.in-Ok-Some.field-0
+    c.in-Ok-Some.lexeme c.requires.lexer c.in-Ok-Some.ensures.found c.in-Ok-Some.field-0-is)).5
+
+pub returns-in-Refused-clause-runs : goal.returns-in-Refused-clause-runs
+returns-in-Refused-clause-runs c =
+    let p = scan_part_of c.args.set.now in
+    let m = machine_of c.args.set.now in
+    let w = progress_of c.args.place c.args.parser.now in
+    let l = c.args.lexer.now in
+    let q = c.next.new.place in
+    let s = c.loop-lexeme.parser in
+    let t = c.in-Ok-Some.lexeme in
+    let flaw = c.in_ok-refusal-in-Refused.field-0 in
+    let fast = fast_there c.args.ended p l q c.in-Ok-Some.field-0 t c.requires.lexer c.in-Ok-Some.ensures.found
+    c.in-Ok-Some.field-0-is in
+    settled_there c.args.ended p m w q s (verdict_of flaw)
+    (over c.args.ended p m w l c.loop-lexeme.place q s c.requires.lexer c.loop-lexeme.invariant.onward
+    c.next.ensures.passed)
+    (refused_there c.args.ended p m (progress_of q s) t c.take.new.parser flaw
+    (c.take.ensures.machine ∙ c.loop-lexeme.invariant.machine) fast (c.in-Refused.ensures.taken c.args.ended fast)
+    c.in_ok-refusal-in-Refused.ensures)
+
+pub returns-in-TableFault-clause-runs : goal.returns-in-TableFault-clause-runs
+returns-in-TableFault-clause-runs c =
+    let p = scan_part_of c.args.set.now in
+    let m = machine_of c.args.set.now in
+    let w = progress_of c.args.place c.args.parser.now in
+    let l = c.args.lexer.now in
+    let q = c.next.new.place in
+    let s = c.loop-lexeme.parser in
+    let fast = fast_there c.args.ended p l q c.in-Ok-Some.field-0 c.in-Ok-Some.lexeme c.requires.lexer
+    c.in-Ok-Some.ensures.found c.in-Ok-Some.field-0-is in
+    settled_there c.args.ended p m w q s faulty
+    (over c.args.ended p m w l c.loop-lexeme.place q s c.requires.lexer c.loop-lexeme.invariant.onward
+    c.next.ensures.passed) (c.in-TableFault.ensures.taken c.args.ended fast)
+
+pub loop-lexeme-preserved : goal.loop-lexeme-preserved
+loop-lexeme-preserved c =
+    let p = scan_part_of c.args.set.now in
+    let m = machine_of c.args.set.now in
+    let w = progress_of c.args.place c.args.parser.now in
+    let l = c.args.lexer.now in
+    let q = c.next.new.place in
+    let s = c.loop-lexeme.parser in
+    let t = c.in-Ok-Some.lexeme in
+    let fast = fast_there c.args.ended p l q c.in-Ok-Some.field-0 t c.requires.lexer c.in-Ok-Some.ensures.found
+    c.in-Ok-Some.field-0-is in
+    let there = c.advance.ensures ∙ ap (moved q t.taken) c.action-begin.ensures.begin in
+    let taken = c.in-Goes.ensures.taken c.args.ended fast in record {
+      onward = subst (λ x. Onward c.args.ended p m w (progress_of x c.take.new.parser)) (sym there)
+          (onward_on c.args.ended p m
+          (over c.args.ended p m w l c.loop-lexeme.place q s c.requires.lexer c.loop-lexeme.invariant.onward
+          c.next.ensures.passed) taken.0);
+      machine = c.take.ensures.machine ∙ c.loop-lexeme.invariant.machine;
+      goes_on = taken.1;
+      known = subst (λ x. AreKnown (ahead_in l.scanner) c.args.ended x.rest c.next.new.known) (sym there)
+          (c.next.ensures.known t.taken fast.within);
+    }

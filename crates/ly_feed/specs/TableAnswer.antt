@@ -1,0 +1,100 @@
+-- What a table set says of a text, and of the rest of one from wherever a run over it has come to.
+use Rattle.std.specs.Prelude.{◌≡◌, ◌⊎◌, ℕ, ◌+◌, List, [], ◌∷◌, ◌++◌, length}
+use Rattle.ly_base.specs.Lexed.{Lexed, Place, Token, start_of, tokens_from}
+use Rattle.ly_base.specs.declared.lexeme.End.{End}
+use Rattle.ly_base.specs.declared.lexeme.End.TheVariants.{BadCut, Clean, Stuck}
+use Rattle.ly_base.specs.declared.lexeme.Lexeme.{Lexeme}
+use Rattle.ly_feed.specs.ScanPart.{ScanPart, condition_in, scan_part_of, scanner_in, terminal_in}
+use Rattle.ly_feed.specs.Vocabularies.{vocabulary_of}
+use Rattle.ly_feed.specs.Verdict.{Verdict, IsOutcome, accepted, faulty, printed, refused, unmatched}
+use Rattle.ly_feed.specs.declared.outcome.Outcome.{Outcome}
+use Rattle.ly_pack.specs.Machine.{Machine}
+use Rattle.ly_parse.specs.Expected.{AreExpected}
+use Rattle.ly_parse.specs.Feeding.{Feeds, Level, states_on}
+use Rattle.ly_parse.specs.Feeding as fed
+use Rattle.ly_parse.specs.Reading.{Reads}
+use Rattle.ly_scan.specs.Lexer.{IsLexemeAt, ScanEndsAt}
+use Rattle.ly_scan.specs.Pieces.{behind}
+use Rattle.ly_tables.specs.TableSet.{TableSet, machine_of}
+
+-- How far a run over a text has come: where the scanner stands, with the bytes that are left, the parser's stack, and
+-- how many tokens it has read.
+pub record Progress : Type 0 where
+  pub place : Place
+  pub stack : List Level
+  pub count : ℕ
+
+-- nothing of the text is read yet
+abbrev pub begun : List ℕ → Progress
+begun text = record { place = start_of text; stack = []; count = 0 }
+
+-- more has come behind the bytes that are left
+abbrev pub with_more : Progress → List ℕ → Progress
+with_more w more = record { place = behind w.place more; stack = w.stack; count = w.count }
+
+-- The scanner takes what is left at a place apart into lexemes, of which these tokens come, and its run ends so.
+pub record AreTokens (p : ScanPart) (q : Place) (tokens : List (Token ℕ)) (e : End) : Type 0 where
+  pub lexemes : List Lexeme
+  pub lexed : Lexed (IsLexemeAt (scanner_in p)) (ScanEndsAt (scanner_in p)) (condition_in p) q lexemes e
+  pub are_of_lexemes : tokens ≡ tokens_from (terminal_in p) q.at q.rest lexemes
+
+-- the end of a text as a token
+abbrev pub end_of : List ℕ → Token ℕ
+end_of text = record { terminal = 0; at = length text; bytes = [] }
+
+-- as it is seen from a place
+abbrev pub end_at : Place → Token ℕ
+end_at q = record { terminal = 0; at = q.at + length q.rest; bytes = [] }
+
+-- what a parser is fed with: the tokens, and then the end of the text, where the scanner came to it
+abbrev pub fed_with : Token ℕ → List (Token ℕ) → End → List (Token ℕ)
+fed_with end tokens Clean = tokens ++ end ∷ []
+fed_with end tokens _ = tokens
+
+-- Of what a parser is fed with it reads the tokens before one, and this becomes of that.
+pub record Comes (p : ScanPart) (m : Machine) (w : Progress) (end : Token ℕ) (before : List (Token ℕ)) (t : Token ℕ)
+    (out : fed.Fed) : Type 0 where
+  pub tokens : List (Token ℕ)
+  pub e : End
+  pub are_tokens : AreTokens p w.place tokens e
+  pub behind : List (Token ℕ)
+  pub split : fed_with end tokens e ≡ before ++ t ∷ behind
+  pub last : List Level
+  pub reads : Reads m w.stack before last
+  pub feeds : Feeds m t last out
+
+-- A parser reads all tokens of what is left, and the scanner's run ends so.
+pub record ReadsAll (p : ScanPart) (m : Machine) (w : Progress) (e : End) : Type 0 where
+  pub tokens : List (Token ℕ)
+  pub are_tokens : AreTokens p w.place tokens e
+  pub last : List Level
+  pub reads : Reads m w.stack tokens last
+
+-- What the scanner and the parser say of what is left of a text that ends so, by what comes first in it. What is
+-- expected in place of a refused token is asked of the stack on which the token came. The tables are at fault where a
+-- goto is missing, a body goes past the bottom, they accept without a term, or a cut leaves no byte or more than the
+-- match has.
+abbrev pub IsSaidFrom : ScanPart → Machine → Progress → Token ℕ → Verdict → Type 0
+IsSaidFrom p m w end (accepted d) = (r : ReadsAll p m w Clean) × Feeds m end r.last (fed.done d)
+IsSaidFrom p m w end (refused k t ts) = (before : List (Token ℕ)) × (c : Comes p m w end before t fed.refused)
+    × (k ≡ w.count + length before + 1) × AreExpected m (states_on c.last) ts
+IsSaidFrom p m w end (unmatched byte) = ReadsAll p m w (Stuck byte)
+IsSaidFrom p m w end faulty = ((before : List (Token ℕ)) × (t : Token ℕ) × Comes p m w end before t fed.faulty)
+    ⊎ ((byte : ℕ) × ReadsAll p m w (BadCut byte))
+
+-- what they say of what is left where the text ends behind it
+abbrev pub IsRest : ScanPart → Machine → Progress → Verdict → Type 0
+IsRest p m w v = IsSaidFrom p m w (end_at w.place) v
+
+-- what they say of a whole text
+abbrev pub IsVerdictBy : ScanPart → Machine → List ℕ → Verdict → Type 0
+IsVerdictBy p m text v = IsSaidFrom p m (begun text) (end_of text) v
+
+-- what a table set says
+abbrev pub IsVerdict : TableSet → List ℕ → Verdict → Type 0
+IsVerdict s text v = IsVerdictBy (scan_part_of s) (machine_of s) text v
+
+-- the text is answered with this outcome and these bytes
+abbrev pub TableAnswer : TableSet → List ℕ → Outcome → List ℕ → Type 0
+TableAnswer s text outcome answer = (v : Verdict) × IsVerdict s text v × IsOutcome v outcome
+    × (answer ≡ printed (vocabulary_of s) v)

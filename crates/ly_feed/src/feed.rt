@@ -1,0 +1,169 @@
+ghost use Rattle.std.specs.Prelude.{◌≡◌, ℕ, List, [], Err, false, IfErr, IfOk, OnOk};
+ghost use Rattle.std.specs.Io.KnownBytes.{Appends};
+ghost use Rattle.ly_base.specs.Device.{next_count};
+ghost use Rattle.ly_base.specs.TextWriter.{IsCutShort};
+ghost use Rattle.ly_feed.specs.FinishFault.{IsBeforeWriting, IsWrite};
+ghost use Rattle.ly_feed.specs.Held.{bytes_held, nothing_read, IsAnswerOf, IsFinish, IsOver, IsPiece, IsRestOf};
+ghost use Rattle.ly_feed.specs.Verdict.{faulty};
+ghost use Rattle.ly_feed.specs.declared.outcome.Outcome.{Outcome as Answered};
+
+use crate::feed_fault::FeedFault;
+use crate::finish_fault::FinishFault;
+use crate::lexer_of_set::lexer_of;
+use crate::lines::{told, write_ended};
+use crate::need::Need;
+use crate::outcome::Outcome;
+use crate::running::{Halt, TableParser, run_on, run_to_end};
+use crate::window::Window;
+use ly_base::{MemSink, OutOfMemory, Sink};
+use ly_parse::Parser;
+use ly_scan::{Lexer, Matcher, RowStart};
+use ly_tables::TableSet;
+use std::alloc::Global;
+use std::marker::Model;
+
+/// The answer to a text that comes in pieces, by a table set. Of the text it keeps the bytes of the match that isn't
+/// decided yet, and gives up the rest; of the tree it keeps what is on the parser's stack.
+///
+/// The text is answered as it is whole, however it is cut.
+#[derive(Drop)]
+pub struct Feed<'a> {
+    /// Where room is taken from.
+    alloc: Global,
+    /// The table set.
+    set: &'a TableSet,
+    /// Its scanner.
+    lexer: Lexer,
+    /// Its parser, with what it has read.
+    parser: TableParser<'a>,
+    /// The bytes that are held, which are those of the match that isn't decided, and where it begins.
+    window: Window,
+    /// The walk over the bytes that are held.
+    matcher: Matcher<RowStart>,
+    /// Whether no more is said of the text.
+    over: bool,
+}
+
+impl<'a> Model for Feed<'a> {
+    ghost use Rattle.std.specs.Coded.{codes};
+    ghost use Rattle.ly_feed.specs.Held as value;
+    ghost use Rattle.ly_feed.specs.Private.Feeding.{held_from, IsFeed};
+    ghost use Rattle.ly_parse.specs.ParseCode.{level_code};
+
+    ghost Value = { value.Held };
+
+    ghost coded = { Prim.hlevel (codes, level_code) };
+
+    ghost view = { λ f. held_from f.set.now f.window f.parser f.over };
+
+    ghost invariant = { λ f. IsFeed f };
+}
+
+impl<'a> Feed<'a> {
+    /// A feed to which nothing has come. It fails where memory runs out.
+    pub fn new(alloc: Global, set: &'a TableSet) -> Result<Feed<'a>, OutOfMemory>
+        ensures { IfOk result (λ f. f ≡ nothing_read set.now) }
+    {
+        let lexer = lexer_of(alloc, set)?;
+        let window = Window::new(alloc);
+        let matcher = lexer.matcher_at(&window.place());
+        Ok(Feed {
+            alloc,
+            set,
+            lexer,
+            parser: Parser::new(alloc, set.machine()),
+            window,
+            matcher,
+            over: false,
+        })
+    }
+
+    /// How many bytes are held: behind `Need::More` those from the start of the match that isn't decided, and none once
+    /// no more is said of the text.
+    pub fn held(&self) -> usize
+        ensures { result ≡ bytes_held self.now }
+    {
+        if self.over { 0 } else { self.window.len() }
+    }
+
+    /// Takes the next bytes of the text: settles all matches that they decide, and says whether the text is answered by
+    /// now, whatever comes. After any other answer than `Need::More` the feed is over.
+    ///
+    /// Its faults are those of `FeedFault`.
+    pub fn piece(&mut self, bytes: &[u8]) -> Result<Need, FeedFault>
+        ensures { IsPiece self.old bytes.now self.new result }
+    {
+        if self.over {
+            return Err(FeedFault::Over);
+        }
+        self.over = true;
+        self.window.push(bytes)?;
+        if self.lexer.goes_on(&mut self.matcher, bytes) {
+            self.over = false;
+            return Ok(Need::More);
+        }
+        let start = self.window.place();
+        let place = match run_on(
+            self.alloc,
+            self.set,
+            &self.lexer,
+            &mut self.parser,
+            start,
+            false,
+        )? {
+            Halt::At(place) => place,
+            Halt::Flawed(flaw) => {
+                let (outcome, lines) = told(self.alloc, self.set, flaw)?;
+                return Ok(Need::Settled(outcome, lines));
+            }
+        };
+        self.matcher = self.lexer.matcher_at(&place);
+        let (at, line, condition) = (place.at(), place.at_line_start(), place.condition());
+        self.window.give_up(at, line, condition);
+        self.over = false;
+        Ok(Need::More)
+    }
+
+    /// Tells that the text has ended, and answers how it is answered. The feed is over then.
+    ///
+    /// Its faults are those of `FeedFault` but `TooLong`.
+    pub fn finish(&mut self) -> Result<(Outcome, Vec<u8>), FeedFault>
+        ensures { IsFinish self.old self.new result }
+    {
+        if self.over {
+            return Err(FeedFault::Over);
+        }
+        let mut sink = MemSink::new(self.alloc);
+        match self.finish_into(&mut sink) {
+            Ok(outcome) => Ok((outcome, sink.into_bytes())),
+            Err(fault) => Err(match fault {
+                FinishFault::TableFault => FeedFault::TableFault,
+                // memory takes all bytes, while there is room
+                FinishFault::OutOfMemory | FinishFault::Write { .. } => FeedFault::OutOfMemory,
+            }),
+        }
+    }
+
+    /// Tells that the text has ended, and writes its answer: nothing before the outcome is known, and then nothing but
+    /// a write can fail. A tree is written while it is printed. The feed is over then.
+    ///
+    /// Its faults are those of `FinishFault`.
+    pub fn finish_into<W: Sink>(&mut self, writer: &mut W) -> Result<Outcome, FinishFault>
+        requires { self.old.over ≡ false }
+        ensures over { IsOver self.old self.new }
+        ensures answered { IfOk result (λ o. (answer : List ℕ) × IsAnswerOf self.old o answer
+            × Appends (W.contents writer.old) (W.contents writer.new) answer) }
+        ensures beginning { (written : ℕ) → result ≡ Err (FinishFault.Write written)
+            → (answer : List ℕ) × (o : Answered) × IsAnswerOf self.old o answer
+            × IsCutShort (W.contents writer.old) (W.contents writer.new) written answer }
+        ensures faulty { result ≡ Err FinishFault.TableFault → IsRestOf self.old [] faulty }
+        ensures write { IfErr result (λ e. IsWrite e → W.failures writer.new ≡ next_count (W.failures writer.old)) }
+        ensures writer_held { OnOk result (W.failures writer.new ≡ W.failures writer.old) }
+        ensures untouched { IfErr result (λ e. IsBeforeWriting e → writer.new ≡ writer.old) }
+    {
+        self.over = true;
+        let place = self.window.place();
+        let ended = run_to_end(self.alloc, self.set, &self.lexer, &mut self.parser, place)?;
+        write_ended(self.alloc, self.set, self.parser.forest(), ended, writer)
+    }
+}

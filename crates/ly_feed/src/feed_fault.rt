@@ -1,0 +1,79 @@
+ghost use Rattle.std.specs.Prelude.{◌≡◌};
+ghost use Rattle.ly_feed.specs.FeedFaultNames.{feed_fault_name, feed_fault_number, feed_fault_of};
+ghost use Rattle.ly_feed.specs.declared.feed_fault.FeedFault.TheVariants.{OutOfMemory};
+
+use crate::run_fault::RunFault;
+use ly_base::OutOfMemory as NoMemory;
+use std::alloc::AllocError;
+use thiserror::Error;
+
+/// Why a feed has no answer to a piece, or to the end of the text. It is over then.
+#[derive(Clone, Copy, Debug, PartialEq, Eq, Error)]
+pub enum FeedFault {
+    /// The tables are at fault on the text: a goto is missing, a body goes past the bottom of the stack, they accept
+    /// without a tree, or a cut leaves no byte or more than its match has. Never for tables that were generated.
+    #[error("the tables are at fault")]
+    TableFault,
+    /// The feed was over before the call, which changed nothing.
+    #[error("the text is answered")]
+    Over,
+    /// More than 2^64-1 bytes have come.
+    #[error("the text is too long")]
+    TooLong,
+    /// A growth was refused, or the tree has more than 2^48 long leaves or nodes, which no memory holds.
+    #[error("out of memory")]
+    OutOfMemory,
+}
+
+impl FeedFault {
+    /// The fault's number; want of memory has none.
+    pub fn number(&self) -> Option<u8>
+        ensures { result ≡ feed_fault_number self.now }
+    {
+        match self {
+            FeedFault::TableFault => Some(90),
+            FeedFault::Over => Some(91),
+            FeedFault::TooLong => Some(92),
+            FeedFault::OutOfMemory => None,
+        }
+    }
+
+    /// The fault's name.
+    pub fn name(&self) -> &'static str
+        ensures { result.now ≡ feed_fault_name self.now }
+    {
+        match self {
+            FeedFault::TableFault => "TableFault",
+            FeedFault::Over => "Over",
+            FeedFault::TooLong => "TooLong",
+            FeedFault::OutOfMemory => "OutOfMemory",
+        }
+    }
+}
+
+impl From<AllocError> for FeedFault {
+    ghost from_gives = { λ _ e. e ≡ OutOfMemory };
+
+    fn from(_error: AllocError) -> FeedFault {
+        FeedFault::OutOfMemory
+    }
+}
+
+impl From<NoMemory> for FeedFault {
+    ghost from_gives = { λ _ e. e ≡ OutOfMemory };
+
+    fn from(_error: NoMemory) -> FeedFault {
+        FeedFault::OutOfMemory
+    }
+}
+
+impl From<RunFault> for FeedFault {
+    ghost from_gives = { λ fault e. e ≡ feed_fault_of fault };
+
+    fn from(fault: RunFault) -> FeedFault {
+        match fault {
+            RunFault::TableFault => FeedFault::TableFault,
+            RunFault::OutOfMemory => FeedFault::OutOfMemory,
+        }
+    }
+}

@@ -1,0 +1,45 @@
+ghost use Rattle.ly_feed.specs.Private.Flaw.{verdict_of};
+ghost use Rattle.ly_feed.specs.Verdict.{IsOutcome};
+
+use crate::outcome::Outcome;
+use ly_base::Sym;
+use ly_parse::Token;
+
+/// The first thing that is wrong with a text.
+#[derive(Drop)]
+pub(crate) enum Flaw<'t> {
+    /// A token is refused, or the end, which is a token of terminal 0.
+    Refused {
+        /// Its number, counted from 1; at the end the number of tokens and 1.
+        number: u64,
+        /// The token.
+        token: Token<'t>,
+        /// The terminals that would have been read in its place, or accepted with, by rising number.
+        expected: Vec<Sym>,
+    },
+    /// No rule matches.
+    NoRule {
+        /// At this byte, counted from 0.
+        byte: u64,
+    },
+}
+
+impl Flaw<'_> {
+    /// The outcome that says so.
+    pub(crate) fn into_outcome(self) -> Outcome
+        ensures { IsOutcome (verdict_of self.entry) result }
+    {
+        match self {
+            Flaw::Refused {
+                number,
+                token,
+                expected,
+            } => Outcome::Syntax {
+                token: number,
+                byte: token.at,
+                expected,
+            },
+            Flaw::NoRule { byte } => Outcome::NoRule { byte },
+        }
+    }
+}

@@ -1,0 +1,36 @@
+//! From a table set and a text in pieces to the printed answer.
+//!
+//! A `Feed` takes the text piece by piece: the scanner of the set takes it apart, its parser reads the tokens one by
+//! one, and the tree, or the lines that say what is wrong, are printed once they are known (`TableAnswer`). A feed
+//! holds the match that isn't decided yet, and gives up the rest; the text is answered as it is whole, however it is
+//! cut (`IsPiece`, `IsFinish`). Scanner and parser run over the tables alone, so nothing here knows of lex and yacc
+//! files.
+//!
+//! Left out: where the pieces come from, and what tables say of the files that they were generated from.
+#![tactic(auto)]
+
+mod feed;
+mod feed_fault;
+mod finish_fault;
+mod flaw;
+mod labels;
+mod laws;
+mod lexer_of_set;
+mod lines;
+mod meaning;
+mod names;
+mod need;
+mod outcome;
+mod run_fault;
+mod running;
+mod window;
+
+pub use feed::Feed;
+pub use feed_fault::FeedFault;
+pub use finish_fault::FinishFault;
+pub use laws::{
+    a_beginning_says_it, a_text_has_a_verdict, a_text_has_one_verdict,
+    decided_matches_change_nothing,
+};
+pub use need::Need;
+pub use outcome::Outcome;

@@ -1,0 +1,192 @@
+ghost use Rattle.std.specs.Prelude.{◌≡◌, ◌≢◌, ℕ, List, [], ◌∷◌, ◌++◌, Err, IfErr, IfOk, IsSome, OnOk, map};
+ghost use Rattle.std.specs.Io.KnownBytes.{Appends};
+ghost use Rattle.ly_base.specs.Bytes.{newline};
+ghost use Rattle.ly_base.specs.Device.{next_count};
+ghost use Rattle.ly_base.specs.Text.{no_rule_line};
+ghost use Rattle.ly_base.specs.TextWriter.{IsCutShort};
+ghost use Rattle.ly_feed.specs.FinishFault.{IsBeforeWriting, IsOfWriting, IsWrite};
+ghost use Rattle.ly_feed.specs.Private.Flaw.{token_of, verdict_of};
+ghost use Rattle.ly_feed.specs.Private.Running.{words_of, IsThere, IsVerdictOf};
+ghost use Rattle.ly_feed.specs.Verdict.{expected_line, printed, syntax_line, IsOutcome, Verdict};
+ghost use Rattle.ly_feed.specs.Vocabularies.{vocabulary_of};
+ghost use Rattle.ly_tree.specs.Costs.{IsPaid};
+ghost use Rattle.ly_tree.specs.Forest.{term_of, StandsFor};
+ghost use Rattle.ly_tree.specs.Shown.{shown, Vocabulary};
+ghost use Rattle.ly_tree.specs.Term.{Term};
+
+use crate::finish_fault::FinishFault;
+use crate::flaw::Flaw;
+use crate::labels::Labels;
+use crate::names::Names;
+use crate::outcome::Outcome;
+use crate::running::Ended;
+use ly_base::{OutOfMemory, Sink, Sym, Terminal, push_leaf, push_no_rule_line, write_whole};
+use ly_parse::Token;
+use ly_tables::TableSet;
+use ly_tree::{Forest, TermRef};
+use std::alloc::Global;
+use std::io::Write;
+
+/// Writes what a text that has ended is answered with, and says what it is. Nothing is written where memory runs out. A
+/// term is written while it is printed.
+pub(crate) fn write_ended<W: Sink>(
+    alloc: Global,
+    set: &TableSet,
+    forest: &Forest,
+    ended: Ended<'_>,
+    writer: &mut W,
+) -> Result<Outcome, FinishFault>
+    requires { IsThere forest.now ended }
+    ensures ok { IfOk result (λ o. (v : Verdict) → IsVerdictOf forest.now ended.entry v → IsOutcome v o
+        × Appends (W.contents writer.old) (W.contents writer.new) (printed (vocabulary_of set.now) v)) }
+    ensures beginning { (written : ℕ) (v : Verdict) → result ≡ Err (FinishFault.Write written)
+        → IsVerdictOf forest.now ended.entry v
+        → IsCutShort (W.contents writer.old) (W.contents writer.new) written (printed (vocabulary_of set.now) v) }
+    ensures of_writing { IfErr result IsOfWriting }
+    ensures write { IfErr result (λ e. IsWrite e → W.failures writer.new ≡ next_count (W.failures writer.old)) }
+    ensures writer_held { OnOk result (W.failures writer.new ≡ W.failures writer.old) }
+    ensures untouched { IfErr result (λ e. IsBeforeWriting e → writer.new ≡ writer.old) }
+{
+    match ended {
+        Ended::Accepted(root) => {
+            write_term(alloc, &Names::of(set), forest, root, writer)?;
+            Ok(Outcome::Tree)
+        }
+        Ended::Refused(flaw) => {
+            let (outcome, lines) = told(alloc, set, flaw)?;
+            write_whole(writer, &lines)?;
+            Ok(outcome)
+        }
+    }
+}
+
+/// Writes the line of a term of a forest. Nothing is written where memory runs out.
+fn write_term<W: Sink>(
+    alloc: Global,
+    names: &Names<'_>,
+    forest: &Forest,
+    root: TermRef,
+    writer: &mut W,
+) -> Result<(), FinishFault>
+    requires known { IsSome (term_of forest.now root) }
+    requires paid { (t : Term) → StandsFor forest.now root t → IsPaid forest.now t }
+    ensures ok { OnOk result ((t : Term) → StandsFor forest.now root t → Appends (W.contents writer.old)
+        (W.contents writer.new) (shown (words_of names.now) t ++ newline ∷ [])) }
+    ensures beginning { (written : ℕ) (t : Term) → result ≡ Err (FinishFault.Write written)
+        → StandsFor forest.now root t
+        → IsCutShort (W.contents writer.old) (W.contents writer.new) written
+        (shown (words_of names.now) t ++ newline ∷ []) }
+    ensures of_writing { IfErr result IsOfWriting }
+    ensures write { IfErr result (λ e. IsWrite e → W.failures writer.new ≡ next_count (W.failures writer.old)) }
+    ensures writer_held { OnOk result (W.failures writer.new ≡ W.failures writer.old) }
+    ensures untouched { IfErr result (λ e. IsBeforeWriting e → writer.new ≡ writer.old) }
+{
+    let labels = Labels::new(alloc, *names)?;
+    let line = forest.line(alloc, &labels, root)?;
+    line.write(writer)?;
+    Ok(())
+}
+
+/// What a text is answered with where something is wrong with it: the outcome, and the lines that say so.
+#[inline(never)] // so that a token that is read has the registers
+pub(crate) fn told(
+    alloc: Global,
+    set: &TableSet,
+    flaw: Flaw<'_>,
+) -> Result<(Outcome, Vec<u8>), OutOfMemory>
+    ensures { IfOk result (λ told. IsOutcome (verdict_of flaw.entry) told.0
+        × (told.1.items ≡ printed (vocabulary_of set.now) (verdict_of flaw.entry))) }
+{
+    let lines = flaw_lines(alloc, &Names::of(set), &flaw)?;
+    Ok((flaw.into_outcome(), lines))
+}
+
+/// The lines that say what is wrong with a text.
+fn flaw_lines(alloc: Global, names: &Names<'_>, flaw: &Flaw<'_>) -> Result<Vec<u8>, OutOfMemory>
+    ensures { IfOk result (λ lines. lines.items ≡ printed (words_of names.now) (verdict_of flaw.now)) }
+{
+    match flaw {
+        Flaw::Refused {
+            number,
+            token,
+            expected,
+        } => {
+            let mut lines = syntax_line(alloc, names, *number, token)?;
+            push_expected_line(&mut lines, names, expected)?;
+            Ok(lines)
+        }
+        Flaw::NoRule { byte } => unmatched_line(alloc, *byte),
+    }
+}
+
+/// The line that says that a token is refused, or the end, by its number, which counts from 1.
+fn syntax_line(
+    alloc: Global,
+    names: &Names<'_>,
+    number: u64,
+    token: &Token<'_>,
+) -> Result<Vec<u8>, OutOfMemory>
+    ensures { IfOk result (λ line. line.items ≡ syntax_line (words_of names.now) number (token_of token.now)) }
+{
+    if token.terminal.0 == 0 {
+        end_line(alloc, number, token.at)
+    } else {
+        token_line(alloc, names, number, token)
+    }
+}
+
+/// That of a token of the text.
+fn token_line(
+    alloc: Global,
+    names: &Names<'_>,
+    number: u64,
+    token: &Token<'_>,
+) -> Result<Vec<u8>, OutOfMemory>
+    requires { token.now.terminal.0 ≢ 0 }
+    ensures { IfOk result (λ line. line.items ≡ syntax_line (words_of names.now) number (token_of token.now)) }
+{
+    let mut line = Vec::new(alloc);
+    let byte = token.at;
+    write!(line, "syntax error at token {number}, byte {byte}: ").map_err(|_| OutOfMemory)?;
+    let name = Terminal::Token(names.of_terminal(token.terminal));
+    push_leaf(&mut line, name, token.text.bytes())?;
+    line.push(b'\n')?;
+    Ok(line)
+}
+
+/// That of the end, which stands at this byte.
+fn end_line(alloc: Global, number: u64, byte: u64) -> Result<Vec<u8>, OutOfMemory>
+    ensures { IfOk result (λ line. (v : Vocabulary) (bytes : List ℕ) → line.items
+        ≡ syntax_line v number (record { terminal = 0; at = byte; bytes = bytes })) }
+{
+    let mut line = Vec::new(alloc);
+    writeln!(line, "syntax error at end, token {number}, byte {byte}").map_err(|_| OutOfMemory)?;
+    Ok(line)
+}
+
+/// Adds the line that names the terminals that are expected.
+fn push_expected_line(
+    line: &mut Vec<u8>,
+    names: &Names<'_>,
+    expected: &[Sym],
+) -> Result<(), OutOfMemory>
+    ensures { OnOk result (line.new.items
+        ≡ line.old.items ++ expected_line (words_of names.now) (map (λ t. t.0) expected.now)) }
+{
+    line.extend_from_slice(b"expected:")?;
+    for &terminal in expected {
+        line.push(b' ')?;
+        line.extend_from_slice(names.of_terminal(terminal))?;
+    }
+    line.push(b'\n')?;
+    Ok(())
+}
+
+/// The line that says at which byte no rule matches.
+fn unmatched_line(alloc: Global, byte: u64) -> Result<Vec<u8>, OutOfMemory>
+    ensures { IfOk result (λ line. line.items ≡ no_rule_line byte) }
+{
+    let mut line = Vec::new(alloc);
+    push_no_rule_line(&mut line, byte)?;
+    Ok(line)
+}

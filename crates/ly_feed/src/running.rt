@@ -1,0 +1,231 @@
+ghost use Rattle.std.specs.Prelude.{◌≡◌, ◌<◌, ◌≤◌, ℕ, List, [], Bool, IfOk, length, false};
+ghost use Rattle.ly_feed.specs.Private.Flaw.{token_of};
+ghost use Rattle.ly_feed.specs.Private.LexerOf.{IsLexerOf};
+ghost use Rattle.ly_feed.specs.Private.Running.{progress_of, CanRun, HasToken, IsClosed, IsFed, IsLast, IsRefusalAt};
+ghost use Rattle.ly_feed.specs.Private.Running.{IsRunOn};
+ghost use Rattle.ly_feed.specs.Private.Running.{IsTaken};
+ghost use Rattle.ly_feed.specs.ScanPart.{scan_part_of, scanner_in, terminal_by, terminal_in};
+ghost use Rattle.ly_pack.specs.Machine.{IsMachine};
+ghost use Rattle.ly_parse.specs.Parse.{IsTellable};
+ghost use Rattle.ly_scan.specs.Pieces.{StandsFast};
+ghost use Rattle.ly_tables.specs.TableSet.{machine_of};
+
+use crate::flaw::Flaw;
+use crate::meaning::{action, terminal};
+use crate::run_fault::RunFault;
+use ly_base::{Emitted, End, Front, Lexeme, OutOfMemory, Place, ScanAction, StateNo, Sym};
+use ly_pack::{Comb, TableAction};
+use ly_parse::{Answer, ParseFault, Parser, Refusal, Step, Token};
+use ly_scan::{KnownWalks, Lexer};
+use ly_tables::TableSet;
+use ly_tree::TermRef;
+use std::alloc::Global;
+
+/// The parser of a table set.
+pub(crate) type TableParser<'a> = Parser<'a, Comb<TableAction>, Comb<StateNo>>;
+
+/// How far a run over what has come of a text gets.
+#[derive(Drop)]
+pub(crate) enum Halt<'t> {
+    /// To this place: the next match isn't decided there, or the text has ended.
+    At(Place<'t>),
+    /// This is wrong with the text.
+    Flawed(Flaw<'t>),
+}
+
+/// Runs scanner and parser on from a place over the bytes that are left there, lexeme by lexeme, as long as it is
+/// decided which one comes next, whatever comes behind these bytes; where the text has ended behind them, to its end.
+/// Answers what is wrong with the text as soon as that is known. The place is a value, so that it has registers.
+pub(crate) fn run_on<'t>(
+    alloc: Global,
+    set: &TableSet,
+    lexer: &Lexer,
+    parser: &mut TableParser<'_>,
+    mut place: Place<'t>,
+    ended: bool,
+) -> Result<Halt<'t>, RunFault>
+    requires lexer { IsLexerOf (scan_part_of set.now) lexer.now }
+    requires runs { CanRun (scan_part_of set.now) (machine_of set.now) }
+    requires machine { parser.old.machine ≡ machine_of set.now }
+    requires goes_on { parser.old.over ≡ false }
+    ensures runs { IsRunOn ended (scan_part_of set.now) (machine_of set.now) (progress_of place.entry parser.old)
+        parser.new result }
+    ensures machine { parser.new.machine ≡ parser.old.machine }
+{
+    let mut known = KnownWalks::new(alloc);
+    loop {
+        let lexeme = match lexer.next(&mut place, &mut known, ended) {
+            Ok(Some(lexeme)) => lexeme,
+            Ok(None) => return Ok(Halt::At(place)),
+            // the text has ended
+            Err(End::Clean) => return Ok(Halt::At(place)),
+            Err(End::Stuck { byte }) => return Ok(Halt::Flawed(Flaw::NoRule { byte: byte as u64 })),
+            Err(End::BadCut { .. }) => return Err(RunFault::TableFault),
+        };
+        let ScanAction { begin, emits } = action(set, lexeme.rule);
+        match take(set, parser, &place, lexeme, emits) {
+            Taken::Goes => place.advance(lexeme.taken, begin),
+            Taken::Refused => return Ok(Halt::Flawed(refusal(set, parser, place, lexeme)?)),
+            Taken::TableFault => return Err(RunFault::TableFault),
+            Taken::OutOfMemory => return Err(RunFault::OutOfMemory),
+        }
+    }
+}
+
+/// What becomes of a lexeme. It has no fields, so that it goes through a register.
+#[derive(Clone, Copy)]
+enum Taken {
+    /// The run goes on behind it: it has no token, or its token is read.
+    Goes,
+    /// Its token is refused.
+    Refused,
+    /// The tables are at fault on its token.
+    TableFault,
+    /// A growth was refused.
+    OutOfMemory,
+}
+
+/// Takes a lexeme at a place: feeds the parser with its token, if its rule has one come of it.
+#[inline(always)] // by a call a token takes a fifteenth more instructions
+fn take(
+    set: &TableSet,
+    parser: &mut TableParser<'_>,
+    place: &Place<'_>,
+    lexeme: Lexeme,
+    emits: Emitted,
+) -> Taken
+    requires runs { CanRun (scan_part_of set.now) (machine_of set.now) }
+    requires machine { parser.old.machine ≡ machine_of set.now }
+    requires goes_on { parser.old.over ≡ false }
+    requires some { 1 ≤ lexeme.taken }
+    requires within { lexeme.taken ≤ length place.now.rest }
+    requires emits { (bytes : List ℕ) → terminal_by (scan_part_of set.now) bytes emits
+        ≡ terminal_in (scan_part_of set.now) lexeme.rule.0 bytes }
+    ensures taken { (ended : Bool) → StandsFast ended (scanner_in (scan_part_of set.now)) place.now lexeme
+        → IsTaken ended (scan_part_of set.now) (machine_of set.now) (progress_of place.now parser.old) lexeme parser.new
+        result }
+    ensures machine { parser.new.machine ≡ parser.old.machine }
+{
+    let text = Front::new(place.rest(), lexeme.taken);
+    let Some(terminal) = terminal(set, emits, text.bytes()) else {
+        return Taken::Goes;
+    };
+    let at = place.at() as u64;
+    feed(parser, &Token { terminal, at, text })
+}
+
+/// Feeds a parser with a token of the text.
+#[inline(always)] // likewise
+fn feed(parser: &mut TableParser<'_>, token: &Token<'_>) -> Taken
+    requires machine { IsMachine parser.old.machine }
+    requires goes_on { parser.old.over ≡ false }
+    requires not_end { 1 ≤ token.now.terminal.0 }
+    requires terminal { token.now.terminal.0 < parser.old.machine.terminals }
+    ensures fed { IsFed parser.old (token_of token.now) parser.new result }
+    ensures machine { parser.new.machine ≡ parser.old.machine }
+{
+    match parser.take(token) {
+        Answer::Reads => Taken::Goes,
+        Answer::Refuses => Taken::Refused,
+        Answer::TableFault => Taken::TableFault,
+        Answer::OutOfMemory => Taken::OutOfMemory,
+        // the end alone is accepted
+        Answer::Accepts => unreachable!(),
+        Answer::Over => unreachable!(),
+    }
+}
+
+/// What is wrong where the token of a lexeme was refused.
+#[inline(never)] // so that a token that is read has the registers
+fn refusal<'t>(
+    set: &TableSet,
+    parser: &TableParser<'_>,
+    place: Place<'t>,
+    lexeme: Lexeme,
+) -> Result<Flaw<'t>, OutOfMemory>
+    requires some { 1 ≤ lexeme.taken }
+    requires within { lexeme.taken ≤ length place.rest }
+    requires token { HasToken (scan_part_of set.now) place lexeme }
+    requires tellable { IsTellable parser.now }
+    ensures { IfOk result (IsRefusalAt (scan_part_of set.now) place.entry lexeme parser.now) }
+{
+    let text = Front::new(place.rest(), lexeme.taken);
+    let Some(terminal) = terminal(set, action(set, lexeme.rule).emits, text.bytes()) else {
+        unreachable!();
+    };
+    let Refusal { number, expected } = parser.refusal()?;
+    let at = place.at() as u64;
+    let token = Token { terminal, at, text };
+    Ok(Flaw::Refused {
+        number,
+        token,
+        expected,
+    })
+}
+
+/// What comes of a text that has ended.
+#[derive(Drop)]
+pub(crate) enum Ended<'t> {
+    /// It has this term in the parser's forest.
+    Accepted(TermRef),
+    /// This is wrong with it.
+    Refused(Flaw<'t>),
+}
+
+/// Runs scanner and parser from a place to the end of the text, which stands behind the bytes that are left there.
+pub(crate) fn run_to_end<'t>(
+    alloc: Global,
+    set: &TableSet,
+    lexer: &Lexer,
+    parser: &mut TableParser<'_>,
+    place: Place<'t>,
+) -> Result<Ended<'t>, RunFault>
+    requires lexer { IsLexerOf (scan_part_of set.now) lexer.now }
+    requires runs { CanRun (scan_part_of set.now) (machine_of set.now) }
+    requires machine { parser.old.machine ≡ machine_of set.now }
+    requires goes_on { parser.old.over ≡ false }
+    ensures closed { IsClosed (scan_part_of set.now) (machine_of set.now) (progress_of place.entry parser.old)
+        parser.new.forest result }
+    ensures machine { parser.new.machine ≡ parser.old.machine }
+{
+    match run_on(alloc, set, lexer, parser, place, true)? {
+        Halt::At(place) => close(parser, &place),
+        Halt::Flawed(flaw) => Ok(Ended::Refused(flaw)),
+    }
+}
+
+/// Feeds a parser with the end of the text, which stands at a place.
+fn close<'t>(parser: &mut TableParser<'_>, place: &Place<'t>) -> Result<Ended<'t>, RunFault>
+    requires goes_on { parser.old.over ≡ false }
+    requires terminals { 0 < parser.old.machine.terminals }
+    requires ended { place.now.rest ≡ [] }
+    ensures last { IsLast parser.old place.now.at parser.new.forest result }
+    ensures machine { parser.new.machine ≡ parser.old.machine }
+{
+    let at = place.at() as u64;
+    match parser.end(at) {
+        Ok(Step::Done(root)) => Ok(Ended::Accepted(root)),
+        Ok(
+            Step::Refused {
+                token: number,
+                expected,
+                ..
+            },
+        ) => {
+            let token = Token {
+                terminal: Sym(0),
+                at,
+                text: Front::new(place.rest(), 0),
+            };
+            Ok(Ended::Refused(Flaw::Refused {
+                number,
+                token,
+                expected,
+            }))
+        }
+        Err(ParseFault::TableFault) => Err(RunFault::TableFault),
+        Err(ParseFault::OutOfMemory) => Err(RunFault::OutOfMemory),
+        // the end is never read, and the parse isn't over
+        Ok(Step::More) | Err(ParseFault::Over) => unreachable!(),
+    }
+}
