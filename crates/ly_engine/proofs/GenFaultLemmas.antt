@@ -1,9 +1,7 @@
 -- A fault of the whole is that of a part.
-use Rattle.std.proofs.Common.{◌≡◌, ◌≢◌, ◌∙◌, ℕ, Err, IfErr, IfOk, List, Ok, Result, ap, inl, inr, refl, subst, sym}
+use Rattle.std.proofs.Common.{◌≡◌, ◌≢◌, ◌∙◌, ℕ, Err, IfErr, IfOk, List, Ok, Result, inl, inr, subst, sym}
 use Rattle.ly_base.specs.Limits.{Sizes}
 use Rattle.ly_join.specs.Joined.{Spec}
-use Rattle.ly_report.specs.declared.fault.ReportFault.{ReportFault}
-use Rattle.ly_report.specs.declared.fault.ReportFault.TheVariants as report
 use Rattle.ly_engine.specs.Accepted.{IsFailedWrite, IsRefusedFor, IsUnfitFor, Specifies}
 use Rattle.std.specs.Result.{IsErrAnd}
 use Rattle.ly_lexread.specs.LexText.{IsLight, LexText}
@@ -11,7 +9,7 @@ use Rattle.ly_lexread.specs.declared.file.LexFile.{LexFile}
 use Rattle.ly_tokens.specs.ScannerFault.{HasNoScanner}
 use Rattle.ly_tokens.specs.declared.scanner_fault.ScannerFault.{ScannerFault}
 use Rattle.ly_tokens.specs.declared.scanner_fault.ScannerFault.TheVariants as scanner
-use Rattle.ly_engine.specs.GenFault.{gen_of_report, gen_of_scanner, Becomes}
+use Rattle.ly_engine.specs.GenFault.{gen_of_scanner, Becomes}
 use Rattle.ly_engine.specs.declared.gen_fault.GenFault.{GenFault}
 use Rattle.ly_engine.specs.declared.gen_fault.GenFault.TheVariants.{Automaton, Endless, Grammar as NoGrammar, Join, Lex}
 use Rattle.ly_engine.specs.declared.gen_fault.GenFault.TheVariants.{OutOfMemory}
@@ -39,19 +37,15 @@ pub when_same : {T : Type 0} (r : Result T GenFault) (f : GenFault) (P : GenFaul
 when_same (Ok x) f P h p = tt
 when_same (Err e) f P h p = subst P (sym h) p
 
--- a failed write is that of the report
-pub wrote : {T : Type 0} (r : Result T GenFault) (f : ReportFault) (written : ℕ) → IsErrAnd r (λ e. e ≡ gen_of_report f)
-    → r ≡ Err (Write written) → f ≡ report.Write written
-wrote (Ok x) f written h is = absurd h
-wrote (Err e) (report.Write w) written h is =
-    let same : e ≡ Write written = cc in
-    let one : Write w ≡ Write written = sym h ∙ same in
-    let n : w ≡ written = cc in
-    ap report.Write n
-wrote (Err e) report.OutOfMemory written h is =
-    let same : e ≡ Write written = cc in
-    let no : OutOfMemory ≡ Write written = sym h ∙ same in
-    absurd cc
+-- a fault that is handed on is the one that is answered
+pub gave_same : {T : Type 0} (r : Result T GenFault) (f g : GenFault) → IsErrAnd r (λ e. e ≡ f) → r ≡ Err g → f ≡ g
+gave_same (Ok x) f g h is = absurd h
+gave_same (Err e) f g h is = let same : e ≡ g = cc in sym h ∙ same
+
+-- a failed write that is handed on went as far
+pub wrote : {T : Type 0} (r : Result T GenFault) (n written : ℕ) → IsErrAnd r (λ e. e ≡ Write n)
+    → r ≡ Err (Write written) → n ≡ written
+wrote r n written h is = let same : Write n ≡ Write written = gave_same r (Write n) (Write written) h is in cc
 
 -- what follows from what holds at Ok, or at a fault
 pub ok_weaker : {T E : Type 0} (r : Result T E) (P Q : T → Type 0) → ((x : T) → P x → Q x) → IfOk r P → IfOk r Q
@@ -81,32 +75,16 @@ unfit_refused limits lex yacc s specifies (Endless below top t name) unfit = (s,
 unfit_refused limits lex yacc s specifies (Write written) unfit = absurd unfit
 unfit_refused limits lex yacc s specifies OutOfMemory unfit = tt
 
--- nor is it a failed write
-pub unfit_is_no_write : (limits : Sizes) (s : Spec) (fault : GenFault) → IsUnfitFor limits s fault
+-- files are refused by no failed write
+pub refused_is_no_write : (limits : Sizes) (lex yacc : List ℕ) (fault : GenFault) → IsRefusedFor limits lex yacc fault
     → IsFailedWrite fault → ⊥
-unfit_is_no_write limits s (Lex f) unfit is = is
-unfit_is_no_write limits s (Yacc f) unfit is = is
-unfit_is_no_write limits s (Join f) unfit is = is
-unfit_is_no_write limits s (Positions f) unfit is = is
-unfit_is_no_write limits s (States f) unfit is = is
-unfit_is_no_write limits s (NoGrammar f) unfit is = is
-unfit_is_no_write limits s (Automaton f) unfit is = is
-unfit_is_no_write limits s (Endless below top t name) unfit is = is
-unfit_is_no_write limits s (Write written) unfit is = unfit
-unfit_is_no_write limits s OutOfMemory unfit is = is
-
--- a fault that is handed on is the one that is answered
-pub gave_same : {T : Type 0} (r : Result T GenFault) (f g : GenFault) → IsErrAnd r (λ e. e ≡ f) → r ≡ Err g → f ≡ g
-gave_same (Ok x) f g h is = absurd h
-gave_same (Err e) f g h is = let same : e ≡ g = cc in sym h ∙ same
-
--- what a report that isn't written whole says of the specification: nothing
-pub report_unfit : (limits : Sizes) (s : Spec) (f : ReportFault) → (IsFailedWrite (gen_of_report f) → ⊥)
-    → IsUnfitFor limits s (gen_of_report f)
-report_unfit limits s (report.Write written) other = absurd (other tt)
-report_unfit limits s report.OutOfMemory other = tt
-
--- and without a failed write memory ran out
-pub report_memory : (f : ReportFault) → (IsFailedWrite (gen_of_report f) → ⊥) → f ≡ report.OutOfMemory
-report_memory (report.Write written) other = absurd (other tt)
-report_memory report.OutOfMemory other = refl
+refused_is_no_write limits lex yacc (Lex f) refused is = is
+refused_is_no_write limits lex yacc (Yacc f) refused is = is
+refused_is_no_write limits lex yacc (Join f) refused is = is
+refused_is_no_write limits lex yacc (Positions f) refused is = is
+refused_is_no_write limits lex yacc (States f) refused is = is
+refused_is_no_write limits lex yacc (NoGrammar f) refused is = is
+refused_is_no_write limits lex yacc (Automaton f) refused is = is
+refused_is_no_write limits lex yacc (Endless below top t name) refused is = is
+refused_is_no_write limits lex yacc (Write written) refused is = refused
+refused_is_no_write limits lex yacc OutOfMemory refused is = is

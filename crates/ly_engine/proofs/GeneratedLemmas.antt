@@ -4,7 +4,8 @@ use Rattle.ly_base.specs.Limits.{AreBounded, Sizes, sizes_in}
 use Rattle.ly_base.specs.declared.version.Version.{Version}
 use Rattle.ly_drive.specs.Verdict.{faulty}
 use Rattle.ly_emit.specs.FitsFile.{FitsFile}
-use Rattle.ly_engine.specs.Generated.{FitsWith, HasFormOf, IsGenerated, IsMadeOf, IsSpecification}
+use Rattle.ly_engine.specs.Generated.{HasFormOf, IsGenerated, IsSpecification}
+use Rattle.ly_engine.specs.Private.Making.{FitsWith, IsMadeOf}
 use Rattle.ly_tokens.specs.Scanner.{IsSubsetScanner}
 use Rattle.ly_engine.specs.Headline.{IsGeneratedSet}
 use Rattle.ly_engine.proofs.FitLemmas.{fits_file}
@@ -15,7 +16,6 @@ use Rattle.ly_join.specs.Joined.{Spec}
 use Rattle.ly_lexread.specs.declared.file.LexFile.{LexFile}
 use Rattle.ly_minim.specs.Smallest.{HaveSameRules, IsReduced}
 use Rattle.ly_position.proofs.SpotLemmas.{positions_live}
-use Rattle.ly_report.specs.Report.{IsReport}
 use Rattle.ly_subset.specs.Automaton.{Automaton, IsBreadthFirst, IsTrim}
 use Rattle.ly_subset.specs.Classes.{AreClasses}
 use Rattle.ly_subset.proofs.LawLemmas.{trim}
@@ -47,12 +47,12 @@ module _ (v : Version) (limits : Sizes) (lex yacc : List ℕ) (given : LexFile) 
       is_automaton = made.is_automaton;
       useful = made.fit.useful_rules;
       walk = walk;
-      is_walk = made.steady_set.is_automaton;
+      is_walk = made.is_walk;
       agrees = same_rules_agree lex file says.specifies.lex_text scanner.nfa A scanner.positions scanner.subsets walk
           same;
-      is_set = made.steady_set.is_set;
-      within = made.steady_set.within;
-      steady = made.steady_set.steady;
+      is_set = made.is_set;
+      within = made.within;
+      steady = made.steady;
     }
 
     form : HasFormOf file walk
@@ -82,10 +82,11 @@ module _ (v : Version) (limits : Sizes) (lex yacc : List ℕ) (given : LexFile) 
           faulty h).3;
     }
 
-    pub generated_with : (report : List ℕ) → IsReport s report
-        → (is : IsGenerated v limits lex yacc set) × IsReport is.spec report
+    -- with what else holds of the specification
+    pub generated_with : (P Q : Spec → Type 0) → P s → Q s
+        → (g : IsGenerated v limits lex yacc set) × P g.spec × Q g.spec
     unfolding generated
-    generated_with report h = (generated, h)
+    generated_with P Q p q = (generated, p, q)
 
 -- and a table file of the version can hold what is made of them
 pub fits_given : (v : Version) (limits : Sizes) (lex yacc : List ℕ) (given : LexFile) (s : Spec) (A walk : Automaton)

@@ -6,6 +6,7 @@ pub mod GenFaultLemmas
 pub mod GeneratedLemmas
 pub mod HeadlineLemmas
 pub mod RefusalLaws
+pub mod ReportLemmas
 pub mod ScannerLemmas
 pub mod SentenceLemmas
 pub mod TokenLemmas

@@ -1,9 +1,7 @@
 -- The faults of the parts as faults of generating.
 use Rattle.std.specs.Prelude.{◌≡◌, ◌≢◌, ◌⊎◌}
 use Rattle.ly_engine.specs.declared.gen_fault.GenFault.{GenFault}
-use Rattle.ly_engine.specs.declared.gen_fault.GenFault.TheVariants.{OutOfMemory, Positions, States, Write}
-use Rattle.ly_report.specs.declared.fault.ReportFault.{ReportFault}
-use Rattle.ly_report.specs.declared.fault.ReportFault.TheVariants as report
+use Rattle.ly_engine.specs.declared.gen_fault.GenFault.TheVariants.{OutOfMemory, Positions, States}
 use Rattle.ly_tokens.specs.declared.scanner_fault.ScannerFault.{ScannerFault}
 use Rattle.ly_tokens.specs.declared.scanner_fault.ScannerFault.TheVariants as scanner
 
@@ -11,12 +9,7 @@ use Rattle.ly_tokens.specs.declared.scanner_fault.ScannerFault.TheVariants as sc
 abbrev pub Becomes : {F : Type 0} → F → (F → GenFault) → F → GenFault → Type 0
 Becomes memory wrap fault e = ((fault ≡ memory) × (e ≡ OutOfMemory)) ⊎ ((fault ≢ memory) × (e ≡ wrap fault))
 
--- so does a fault of the report, but that a failed write stays one
-abbrev pub gen_of_report : ReportFault → GenFault
-gen_of_report (report.Write written) = Write written
-gen_of_report report.OutOfMemory = OutOfMemory
-
--- and one of the scanner
+-- so does one of the scanner
 abbrev pub gen_of_scanner : ScannerFault → GenFault
 gen_of_scanner (scanner.Positions fault) = Positions fault
 gen_of_scanner (scanner.States fault) = States fault

@@ -5,50 +5,20 @@ use Rattle.ly_base.specs.declared.version.Version.{Version}
 use Rattle.ly_drive.specs.TableAnswer.{IsVerdict, TableAnswer}
 use Rattle.ly_drive.specs.Verdict.{faulty}
 use Rattle.ly_drive.specs.declared.outcome.Outcome.{Outcome}
-use Rattle.ly_emit.specs.FitsFile.{FitsFile}
-use Rattle.ly_emit.specs.SetOf.{IsSetOf}
 use Rattle.ly_engine.specs.Accepted.{IsFit, Specifies}
 use Rattle.ly_engine.specs.Headline.{IsGeneratedSet}
 use Rattle.ly_engine.specs.SpecAnswer.{SpecAnswer}
 use Rattle.ly_ere.specs.Names.{defined}
-use Rattle.ly_ere.specs.declared.pattern.Rule.{Rule}
-use Rattle.ly_grammar.specs.Reduction.{KeepsUseful}
 use Rattle.ly_join.specs.Joined.{Spec}
 use Rattle.ly_lexread.specs.declared.file.LexFile.{LexFile}
-use Rattle.ly_lr0.specs.Automaton as parser
 use Rattle.ly_minim.specs.Smallest.{IsReduced}
-use Rattle.ly_pack.specs.Steady.{IsSteady}
 use Rattle.ly_position.specs.Nfa.{Nfa}
 use Rattle.ly_position.specs.Patterns.{ArePositions}
 use Rattle.ly_position.specs.Spots.{HasPositions}
-use Rattle.ly_subset.specs.Automaton.{Automaton, IsAutomaton, IsBreadthFirst}
+use Rattle.ly_subset.specs.Automaton.{Automaton, IsBreadthFirst}
 use Rattle.ly_subset.specs.Classes.{AreClasses}
-use Rattle.ly_tables.specs.Ranges.{IsWithinVersion}
-use Rattle.ly_tables.specs.TableSet.{TableSet, machine_of}
+use Rattle.ly_tables.specs.TableSet.{TableSet}
 use Rattle.ly_tokens.specs.Scanner.{IsSubsetScanner}
-
--- The set is that of a specification, of an automaton of its grammar and of a scanner's, is within the ranges of a
--- version, and its parser's runs end.
-pub record IsSteadySet (v : Version) (s : Spec) (M : parser.Automaton) (rules : List Rule) (A : Automaton)
-    (set : TableSet) : Type 0 where
-  pub is_automaton : IsAutomaton A
-  pub is_set : IsSetOf s M rules A set
-  pub within : IsWithinVersion v set
-  pub steady : IsSteady (machine_of set)
-
--- a table file of the version can hold the specification, this scanner, and whatever automaton of its useful rules is
--- within the limits
-abbrev pub FitsWith : Version → Sizes → Spec → List Rule → Automaton → Type 0
-FitsWith v limits s rules A = (M : parser.Automaton) → parser.IsAutomaton M → KeepsUseful s.grammar M.grammar
-    → length M.states ≤ limits.parser_states → FitsFile v s rules A M
-
--- The set is that of the specification's useful rules, which are fit, and of a scanner.
-pub record IsMadeOf (v : Version) (limits : Sizes) (file : LexFile) (s : Spec) (A : Automaton) (set : TableSet) : Type 0
-  where
-    pub automaton : parser.Automaton
-    pub is_automaton : parser.IsAutomaton automaton
-    pub fit : IsFit limits s automaton.grammar
-    pub steady_set : IsSteadySet v s automaton file.rules.items A set
 
 -- The bytes of two files are these, and say this specification.
 pub record IsSpecification (limits : Sizes) (lex yacc : List ℕ) (file : LexFile) (s : Spec) (A : Automaton) : Type 0

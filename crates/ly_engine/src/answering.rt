@@ -13,6 +13,7 @@ ghost use Rattle.ly_engine.specs.declared.gen_fault.GenFault.TheVariants as gen;
 
 use crate::answer_fault::AnswerFault;
 use crate::generating::generated;
+use crate::report::Report;
 use ly_base::{Limits, Sink, Source, Version};
 use ly_drive::{DriveFault, Outcome, run};
 use std::alloc::Global;
@@ -48,7 +49,7 @@ pub fn answer<R: Source, W: Sink>(
     ensures writer_held { OnOk result (W.failures writer.new ≡ W.failures writer.old) }
     ensures untouched { IfErr result (λ e. IsBeforeWriting e → writer.new ≡ writer.old) }
 {
-    let generated = generated(alloc, lex, yacc, &Limits::V2, Version::V2)?;
+    let generated = generated(alloc, lex, yacc, &Limits::V2, Version::V2, Report::Unwanted)?;
     match run(alloc, &generated.set, reader, writer) {
         Ok(outcome) => Ok(outcome),
         Err(DriveFault::TooLong) => Err(AnswerFault::TooLong),

@@ -1,5 +1,5 @@
 ghost use Rattle.std.specs.Prelude.{◌≡◌};
-ghost use Rattle.ly_engine.specs.GenFault.{gen_of_report, gen_of_scanner, Becomes};
+ghost use Rattle.ly_engine.specs.GenFault.{gen_of_scanner, Becomes};
 ghost use Rattle.ly_engine.specs.declared.gen_fault.GenFault.TheVariants as fault;
 ghost use Rattle.ly_grammar.specs.declared.fault.GrammarFault.TheVariants as grammar;
 ghost use Rattle.ly_join.specs.declared.fault.JoinFault.TheVariants as join;
@@ -7,13 +7,12 @@ ghost use Rattle.ly_lexread.specs.declared.fault.LexFault.TheVariants as lex;
 ghost use Rattle.ly_lr0.specs.declared.fault.Lr0Fault.TheVariants as automaton;
 ghost use Rattle.ly_yaccread.specs.declared.fault.YaccFault.TheVariants as yacc;
 
-use ly_base::{OutOfMemory as NoMemory, StateNo, Sym};
+use ly_base::{OutOfMemory as NoMemory, StateNo, Sym, WriteFault};
 use ly_grammar::GrammarFault;
 use ly_join::JoinFault;
 use ly_lexread::LexFault;
 use ly_lr0::Lr0Fault;
 use ly_position::PosFault;
-use ly_report::ReportFault;
 use ly_subset::SubsetFault;
 use ly_tokens::ScannerFault;
 use ly_yaccread::YaccFault;
@@ -151,13 +150,12 @@ impl From<Lr0Fault> for GenFault {
     }
 }
 
-impl From<ReportFault> for GenFault {
-    ghost from_gives = { λ f e. e ≡ gen_of_report f };
+impl From<WriteFault> for GenFault {
+    ghost from_gives = { λ f e. e ≡ fault.Write f.written };
 
-    fn from(fault: ReportFault) -> GenFault {
-        match fault {
-            ReportFault::Write { written } => GenFault::Write { written },
-            ReportFault::OutOfMemory => GenFault::OutOfMemory,
+    fn from(fault: WriteFault) -> GenFault {
+        GenFault::Write {
+            written: fault.written,
         }
     }
 }

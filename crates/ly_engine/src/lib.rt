@@ -16,19 +16,24 @@ mod answering;
 mod gen_fault;
 mod generating;
 mod laws;
+mod parser;
+mod report;
 mod reporting;
 mod specification;
 
 pub use answer_fault::AnswerFault;
 pub use answering::answer;
 pub use gen_fault::GenFault;
-pub use generating::{Built, build, generate, steady_tables};
+pub use generating::{Built, build, generate};
 pub use laws::{refusal_is_exact, sentences_are_answered, tables_answer_as_specified};
 pub use ly_base::{Counted, Limits, MemSink, MemSource, Sink, Source, Version};
 pub use ly_drive::{DriveFault, Feed, FeedFault, Need, Outcome, drive};
+pub use ly_report::ConflictCounts;
 pub use ly_tables::{
     FormatFault, SetCounts, TableFault, TableSet, counts, read_tables, write_tables,
 };
 pub use ly_tokens::{TokenEnd, TokensFault, tokens};
-pub use reporting::{generate_report, settle};
+pub use parser::{settle, steady_tables};
+pub use report::Report;
+pub use reporting::generate_report;
 pub use specification::{Specification, read_specification};

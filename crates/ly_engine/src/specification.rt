@@ -1,4 +1,5 @@
 ghost use Rattle.std.specs.Prelude.{IfErr, IfOk};
+ghost use Rattle.ly_emit.specs.Tables.{AreShapesWithin};
 ghost use Rattle.ly_engine.specs.Accepted.{IsRefusedFor};
 ghost use Rattle.ly_engine.specs.Generated.{IsSpecification};
 
@@ -34,6 +35,7 @@ pub fn read_specification(
 ) -> Result<Specification, GenFault>
     ensures says { IfOk result (λ given. IsSpecification limits.now lex.now yacc.now given.file given.spec
         given.subsets) }
+    ensures shapes { IfOk result (λ given. AreShapesWithin given.spec) }
     ensures refused { IfErr result (IsRefusedFor limits.now lex.now yacc.now) }
 {
     let file = read_lex(alloc, lex, limits)?;

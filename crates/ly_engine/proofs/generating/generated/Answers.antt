@@ -2,12 +2,12 @@ use Rattle.std.proofs.Common.{◌≡◌, ◌∙◌, IfErr, IfOk, length, rules, 
 use Rattle.ly_base.specs.Limits.{Sizes}
 use Rattle.ly_base.specs.declared.version.Version.{Version}
 use Rattle.ly_base.specs.declared.version.Version.TheVariants.{V2}
-use Rattle.ly_emit.proofs.ShapeLemmas.{shapes_are_within}
-use Rattle.ly_join.specs.Scanning.{scanning_of}
 use Rattle.ly_lexread.specs.declared.file.LexFile.{LexFile}
-use Rattle.ly_report.specs.Report.{IsReport}
+use Rattle.ly_report.specs.Counts.{AreCounts}
 use Rattle.ly_engine.specs.Accepted.{IsRefusedFor, IsUnfitFor}
-use Rattle.ly_engine.specs.Generated.{FitsWith, IsGenerated, IsMadeOf}
+use Rattle.ly_engine.specs.Generated.{IsGenerated}
+use Rattle.ly_engine.specs.Parser.{IsReportIf}
+use Rattle.ly_engine.specs.Private.Making.{FitsWith, IsMadeOf}
 use Rattle.ly_engine.specs.declared.gen_fault.GenFault.TheVariants.{OutOfMemory}
 use Rattle.ly_engine.proofs.CountLemmas.{rules_act}
 use Rattle.ly_engine.proofs.GenFaultLemmas.{err_weaker, ok_both, unfit_refused, when_same}
@@ -15,14 +15,8 @@ use Rattle.ly_engine.proofs.GeneratedLemmas.{fits_given, generated_with}
 use Rattle.ly_engine.proofs.VersionLemmas.{bounded_in_2}
 use Rattle.ly_engine.proofs.generating.generated.Goals as goal
 
-pub made_of-requires-clause-shapes : goal.made_of-requires-clause-shapes
-made_of-requires-clause-shapes c =
-    let says = c.in_ok-given.ensures.says.specifies in
-    shapes_are_within c.args.yacc.now (scanning_of says.file) says.written c.in_ok-given.given.spec says.yacc_text
-    says.joined
-
-pub made_of-requires-clause-actions : goal.made_of-requires-clause-actions
-made_of-requires-clause-actions c =
+pub made_of-requires-clause-rules : goal.made_of-requires-clause-rules
+made_of-requires-clause-rules c =
     let spec = c.in_ok-given.given.spec in
     let says = c.in_ok-given.ensures.says.specifies in
     subst (λ (f : LexFile). length f.rules.items ≡ length spec.scanner) c.in_ok-given.ensures.says.same_file
@@ -61,15 +55,18 @@ returns-clause-generated c =
     let fits = fits_given c.args.version limits c.args.lex.now c.args.yacc.now file spec c.in_ok-given.given.subsets
     dfa.dfa c.in_ok-given.ensures.says dfa.ensures.same dfa.ensures.reduced dfa.ensures.starts
     c.within-limits.ensures.bounded in
-    subst (λ (l : Sizes). IfOk c.made_of.result (λ m. (is : IsGenerated c.args.version l c.args.lex.now c.args.yacc.now
-    m.set) × IsReport is.spec m.report.items)) c.within-limits.ensures.least
+    subst (λ (l : Sizes). IfOk c.made_of.result (λ m. (g : IsGenerated c.args.version l c.args.lex.now c.args.yacc.now
+    m.set) × AreCounts g.spec m.conflicts × IsReportIf c.args.report g.spec m.report)) c.within-limits.ensures.least
     (ok_both c.made_of.result
     (λ m. (v : Version) → FitsWith v limits spec file.rules.items dfa.dfa → IsMadeOf v limits file spec dfa.dfa m.set)
-    (λ m. IsReport spec m.report.items) _
-    (λ m made reported. generated_with c.args.version limits c.args.lex.now c.args.yacc.now file spec
+    (λ m. AreCounts spec m.conflicts × IsReportIf c.args.report spec m.report) _
+    (λ m made told. generated_with c.args.version limits c.args.lex.now c.args.yacc.now file spec
     c.in_ok-given.given.subsets dfa.dfa m.set c.in_ok-given.ensures.says dfa.ensures.same dfa.ensures.reduced
     dfa.ensures.order dfa.ensures.class_of dfa.ensures.classes dfa.ensures.starts
-    (made c.args.version fits) m.report.items reported) c.made_of.ensures.made c.made_of.ensures.reported)
+    (made c.args.version fits) (λ s. AreCounts s m.conflicts) (λ s. IsReportIf c.args.report s m.report) told.0 told.1)
+    c.made_of.ensures.made
+    (ok_both c.made_of.result (λ m. AreCounts spec m.conflicts) (λ m. IsReportIf c.args.report spec m.report) _
+    (λ m counted reported. (counted, reported)) c.made_of.ensures.counted c.made_of.ensures.reported))
 
 pub returns-clause-refused : goal.returns-clause-refused
 returns-clause-refused c =

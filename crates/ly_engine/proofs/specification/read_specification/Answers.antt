@@ -1,4 +1,6 @@
 use Rattle.std.proofs.Common.{refl}
+use Rattle.ly_emit.proofs.ShapeLemmas.{shapes_are_within}
+use Rattle.ly_join.specs.Scanning.{scanning_of}
 use Rattle.ly_join.specs.declared.fault.JoinFault.TheVariants as join
 use Rattle.ly_lexread.specs.declared.fault.LexFault.TheVariants as lex
 use Rattle.ly_yaccread.specs.File.{written_of}
@@ -66,3 +68,7 @@ returns-clause-says c = record {
   scanner = c.in_ok-subsets.ensures.scanner;
   few = c.in_ok-subsets.ensures.states;
 }
+
+pub returns-clause-shapes : goal.returns-clause-shapes
+returns-clause-shapes c = shapes_are_within c.args.yacc.now (scanning_of c.in_ok-file.file) (written_of c.in_ok-yacc.yacc)
+    c.in_ok-spec.spec c.in_ok-yacc.ensures.ok c.in_ok-spec.ensures.ok
