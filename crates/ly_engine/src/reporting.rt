@@ -7,12 +7,10 @@ ghost use Rattle.ly_join.specs.Grammar.{Grammar};
 ghost use Rattle.ly_join.specs.Joined as spec;
 ghost use Rattle.ly_report.specs.Report.{IsReport};
 ghost use Rattle.ly_resolve.specs.Actions.{IsConflictFree};
-ghost use Rattle.ly_engine.specs.Accepted.{IsFailedWrite, IsFit, IsRefusedFor, Specifies};
+ghost use Rattle.ly_generate.specs.Accepted.{IsFailedWrite, IsFit, IsRefusedFor, Specifies};
 
-use crate::gen_fault::GenFault;
-use crate::parser::parser_of_files;
-use crate::report::Report;
 use ly_base::{Limits, Sink, write_whole};
+use ly_generate::{GenFault, Report, parser_of_files};
 use std::alloc::Global;
 
 /// Writes the report of the specification that a lex file and a yacc file say together (POSIX, XCU yacc, "Conflicts"):
