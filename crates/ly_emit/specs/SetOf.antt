@@ -2,16 +2,22 @@
 use Rattle.std.specs.Prelude.{◌≡◌, ℕ, ◌*◌, ◌<◌, List, length, map, slice_get, Some, true, false}
 use Rattle.ly_emit.specs.Tables.{IsMachineOf}
 use Rattle.ly_ere.specs.declared.pattern.Rule.{Rule}
+use Rattle.ly_grammar.specs.Reduction.{KeepsUseful}
 use Rattle.ly_join.specs.Joined.{Spec}
 use Rattle.ly_join.specs.Terminals.{IsOfByte}
 use Rattle.ly_lr0.specs.Automaton as parser
 use Rattle.ly_pack.specs.Combs.{IsFirstFit}
+use Rattle.ly_pack.specs.Machine.{Machine}
 use Rattle.ly_pack.specs.Rows.{comb_entry}
 use Rattle.ly_pack.specs.Values.{gotos_from}
 use Rattle.ly_report.specs.Report.{terminal_name}
 use Rattle.ly_subset.specs.Automaton as scanner
 use Rattle.ly_subset.specs.Automaton.{next_by_class, start_of}
 use Rattle.ly_tables.specs.TableSet.{Starts, TableSet, machine_of}
+
+-- the machine is that of the specification, by this automaton of its useful rules
+abbrev pub IsMachineBy : Spec → parser.Automaton → Machine → Type 0
+IsMachineBy s M m = KeepsUseful s.grammar M.grammar × IsMachineOf s M m
 
 -- The rules, conditions, classes and states of the scanner: rules do what the specification says and cut as their
 -- patterns, conditions begin and states lead where the automaton says.

@@ -4,10 +4,10 @@ ghost use Rattle.ly_base.specs.declared.version.Version.{Version};
 ghost use Rattle.ly_base.specs.declared.version.Version.TheVariants.{V2};
 ghost use Rattle.ly_emit.specs.FitsFile.{FitsFile};
 ghost use Rattle.ly_emit.specs.Private.Listing.{AreLiterals};
-ghost use Rattle.ly_emit.specs.SetOf.{IsSetOf};
-ghost use Rattle.ly_emit.specs.Tables.{IsMachineOf};
+ghost use Rattle.ly_emit.specs.SetOf.{IsMachineBy, IsSetOf};
 ghost use Rattle.ly_join.specs.Sizes.{HasSizes};
 ghost use Rattle.ly_join.specs.Terminals.{terminal_from};
+ghost use Rattle.ly_lr0.specs.Automaton.{Automaton};
 ghost use Rattle.ly_pack.specs.Steady.{IsSteady};
 ghost use Rattle.ly_report.specs.Report.{terminal_name as printed};
 ghost use Rattle.ly_tables.specs.Ranges.{IsWithinVersion};
@@ -20,60 +20,59 @@ use ly_ere::Rule;
 use ly_join::{Spec, TerminalName};
 use ly_pack::{Dense, Machine, TableAction, pack};
 use ly_report::push_terminal;
-use ly_resolve::Resolved;
 use ly_subset::Dfa;
 use ly_tables::{TableParts, TableSet};
 use std::alloc::{AllocError, Global};
 
-/// The table set of a specification: its parser's tables, and the automaton of its scanner.
+/// The table set of a specification: its parser's tables, by whatever automaton of its useful rules they are its tables,
+/// and the automaton of its scanner.
 ///
 /// What is asked for fits a file of version 2, so that no number is past what it holds; and where it fits one of
 /// version 1, so does the set. `OutOfMemory` comes where a growth was refused. (`ly_pack` looks whether a base has a
 /// `u32`, as those of rows within a file's counts always do.)
 pub fn table_set(
     alloc: Global,
-    resolved: &Resolved<'_>,
+    spec: &Spec,
     machine: Machine<Dense<TableAction>, Dense<StateNo>>,
     rules: &[Rule],
     dfa: &Dfa,
 ) -> Result<TableSet, OutOfMemory>
-    requires tables { IsMachineOf resolved.now.spec resolved.now.automaton machine }
+    requires fits { (M : Automaton) × IsMachineBy spec.now M machine × FitsFile V2 spec.now rules.now dfa.now M }
     requires steady { IsSteady machine }
-    requires fits { FitsFile V2 resolved.now.spec rules.now dfa.now resolved.now.automaton }
-    requires rules { length rules.now ≡ length resolved.now.spec.scanner }
+    requires rules { length rules.now ≡ length spec.now.scanner }
     requires starts { (conditions : ℕ) × (dfa.now.starts ≡ 2 * conditions) }
-    ensures set { IfOk result (IsSetOf resolved.now.spec resolved.now.automaton rules.now dfa.now) }
-    ensures within { IfOk result (λ s. (v : Version)
-        → FitsFile v resolved.now.spec rules.now dfa.now resolved.now.automaton → IsWithinVersion v s) }
+    ensures set { IfOk result (λ s. (M : Automaton) → IsMachineBy spec.now M machine
+        → IsSetOf spec.now M rules.now dfa.now s) }
+    ensures within { IfOk result (λ s. (v : Version) (M : Automaton) → IsMachineBy spec.now M machine
+        → FitsFile v spec.now rules.now dfa.now M → IsWithinVersion v s) }
     ensures ends { IfOk result (λ s. IsSteady (machine_of s)) }
 {
-    let parts = table_parts(alloc, resolved, machine, rules, dfa)?;
+    let parts = table_parts(alloc, spec, machine, rules, dfa)?;
     Ok(TableSet::new(parts))
 }
 
 /// The parts of the table set of a specification.
 fn table_parts(
     alloc: Global,
-    resolved: &Resolved<'_>,
+    spec: &Spec,
     machine: Machine<Dense<TableAction>, Dense<StateNo>>,
     rules: &[Rule],
     dfa: &Dfa,
 ) -> Result<TableParts, OutOfMemory>
-    requires tables { IsMachineOf resolved.now.spec resolved.now.automaton machine }
-    requires fits { FitsFile V2 resolved.now.spec rules.now dfa.now resolved.now.automaton }
-    requires rules { length rules.now ≡ length resolved.now.spec.scanner }
+    requires fits { (M : Automaton) × IsMachineBy spec.now M machine × FitsFile V2 spec.now rules.now dfa.now M }
+    requires rules { length rules.now ≡ length spec.now.scanner }
     requires starts { (conditions : ℕ) × (dfa.now.starts ≡ 2 * conditions) }
-    ensures set { IfOk result (λ parts. IsSetOf resolved.now.spec resolved.now.automaton rules.now dfa.now
-        (set_of parts) × (machine_of (set_of parts) ≡ machine)) }
-    ensures within { IfOk result (λ parts. (v : Version)
-        → FitsFile v resolved.now.spec rules.now dfa.now resolved.now.automaton → IsWithinVersion v (set_of parts)) }
+    ensures same { IfOk result (λ parts. machine_of (set_of parts) ≡ machine) }
+    ensures set { IfOk result (λ parts. (M : Automaton) → IsMachineBy spec.now M machine
+        → IsSetOf spec.now M rules.now dfa.now (set_of parts)) }
+    ensures within { IfOk result (λ parts. (v : Version) (M : Automaton) → IsMachineBy spec.now M machine
+        → FitsFile v spec.now rules.now dfa.now M → IsWithinVersion v (set_of parts)) }
 {
-    let spec = resolved.spec();
     let parser = pack(alloc, machine)?.into_parts();
     let scanner = scanner_tables(alloc, spec.scanner(), rules, dfa)?;
     Ok(TableParts {
         terminals: terminal_names(alloc, spec)?,
-        nonterminals: resolved.lr0().reduced().grammar().accept().0 as usize,
+        nonterminals: spec.grammar().accept().0 as usize,
         literals: literals(alloc, spec)?,
         scan_rules: scanner.rules,
         conditions: scanner.conditions,

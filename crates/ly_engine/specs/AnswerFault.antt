@@ -2,8 +2,8 @@
 use Rattle.std.specs.Prelude.{◌≡◌, ◌≢◌, ◌⊎◌}
 use Rattle.ly_engine.specs.declared.answer_fault.AnswerFault.{AnswerFault}
 use Rattle.ly_engine.specs.declared.answer_fault.AnswerFault.TheVariants.{OutOfMemory, Refused, Write}
-use Rattle.ly_engine.specs.declared.gen_fault.GenFault.{GenFault}
-use Rattle.ly_engine.specs.declared.gen_fault.GenFault.TheVariants as gen
+use Rattle.ly_generate.specs.declared.gen_fault.GenFault.{GenFault}
+use Rattle.ly_generate.specs.declared.gen_fault.GenFault.TheVariants as gen
 
 -- want of memory stays so, and any other fault refuses the files
 abbrev pub Becomes : GenFault → AnswerFault → Type 0

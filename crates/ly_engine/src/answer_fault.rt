@@ -1,6 +1,6 @@
 ghost use Rattle.ly_engine.specs.AnswerFault.{Becomes};
 
-use crate::gen_fault::GenFault;
+use ly_generate::GenFault;
 use thiserror::Error;
 
 /// Why there is no answer to a text under a lex file and a yacc file.

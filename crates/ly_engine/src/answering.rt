@@ -5,16 +5,16 @@ ghost use Rattle.ly_base.specs.Limits.{version_2};
 ghost use Rattle.ly_base.specs.declared.version.Version.TheVariants.{V2};
 ghost use Rattle.ly_drive.specs.Answering.{IsAnsweredBy, IsBegunBy, IsReadAsNeeded, IsTooLong};
 ghost use Rattle.ly_tables.specs.TableSet.{TableSet as Tables};
-ghost use Rattle.ly_engine.specs.Accepted.{IsRefusedFor};
+ghost use Rattle.ly_generate.specs.Accepted.{IsRefusedFor};
 ghost use Rattle.ly_engine.specs.AnswerFault.{IsBeforeReading, IsBeforeWriting, IsWrite};
-ghost use Rattle.ly_engine.specs.Generated.{IsGenerated};
-ghost use Rattle.ly_engine.specs.declared.gen_fault.GenFault as code;
-ghost use Rattle.ly_engine.specs.declared.gen_fault.GenFault.TheVariants as gen;
+ghost use Rattle.ly_generate.specs.Generated.{IsGenerated};
+ghost use Rattle.ly_generate.specs.declared.gen_fault.GenFault as code;
+ghost use Rattle.ly_generate.specs.declared.gen_fault.GenFault.TheVariants as gen;
 
 use crate::answer_fault::AnswerFault;
-use crate::generating::generated;
 use ly_base::{Limits, Sink, Source, Version};
 use ly_drive::{DriveFault, Outcome, run};
+use ly_generate::{Report, generated};
 use std::alloc::Global;
 
 /// Answers the text that a reader gives by a lex file and a yacc file (POSIX, XCU lex and yacc), and writes the answer.
@@ -48,7 +48,7 @@ pub fn answer<R: Source, W: Sink>(
     ensures writer_held { OnOk result (W.failures writer.new ≡ W.failures writer.old) }
     ensures untouched { IfErr result (λ e. IsBeforeWriting e → writer.new ≡ writer.old) }
 {
-    let generated = generated(alloc, lex, yacc, &Limits::V2, Version::V2)?;
+    let generated = generated(alloc, lex, yacc, &Limits::V2, Version::V2, Report::Unwanted)?;
     match run(alloc, &generated.set, reader, writer) {
         Ok(outcome) => Ok(outcome),
         Err(DriveFault::TooLong) => Err(AnswerFault::TooLong),

@@ -1,34 +1,32 @@
-//! From the bytes of a lex file and a yacc file to their table file and their report: `generate`, `build` and
-//! `generate_report`; and to the answer to a text: `answer`. A table file is made in one of two versions, and what has
-//! none goes by the second. That tables so made answer what both files say is part of
-//! what these promise (`IsGenerated`), by a law (`tables_answer_as_specified`); without conflicts that is what the
-//! derivations of the text's tokens say (`sentences_are_answered`).
+//! What an embedder names: from the bytes of a lex file and a yacc file to their table file and their report, `generate`,
+//! `build` and `generate_report`; and to the answer to a text, `answer`. A table file is made in one of two versions, and
+//! what has none goes by the second. That tables so made answer what both files say is part of what these promise
+//! (`IsGenerated` of `ly_generate`).
 //!
 //! What an embedder needs beside these is handed on: `tokens` for a lex file alone, `drive` for a table file, and
-//! `Feed` for a text that comes in pieces. The steps of the way are public too, for whoever explains what two files
-//! say: `read_specification`, `settle` and `steady_tables`.
+//! `Feed` for a text that comes in pieces; and of `ly_generate` its laws, and the steps of the way, for whoever explains
+//! what two files say.
 //!
 //! Left out: files, words and lines of faults, which are the program's.
 #![tactic(auto)]
 
 mod answer_fault;
 mod answering;
-mod gen_fault;
 mod generating;
-mod laws;
 mod reporting;
-mod specification;
 
 pub use answer_fault::AnswerFault;
 pub use answering::answer;
-pub use gen_fault::GenFault;
-pub use generating::{Built, build, generate, steady_tables};
-pub use laws::{refusal_is_exact, sentences_are_answered, tables_answer_as_specified};
+pub use generating::{Built, build, generate};
 pub use ly_base::{Counted, Limits, MemSink, MemSource, Sink, Source, Version};
 pub use ly_drive::{DriveFault, Feed, FeedFault, FinishFault, Need, Outcome, drive};
+pub use ly_generate::{
+    GenFault, Report, Specification, read_specification, refusal_is_exact, sentences_are_answered,
+    settle, steady_tables, tables_answer_as_specified,
+};
+pub use ly_report::ConflictCounts;
 pub use ly_tables::{
     FormatFault, SetCounts, TableFault, TableSet, counts, read_tables, write_tables,
 };
 pub use ly_tokens::{TokenEnd, TokensFault, tokens};
-pub use reporting::{generate_report, settle};
-pub use specification::{Specification, read_specification};
+pub use reporting::generate_report;

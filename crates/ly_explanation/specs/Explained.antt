@@ -3,9 +3,9 @@ use Rattle.std.specs.Prelude.{◌≢◌, ℕ, List, MatchBool}
 use Rattle.ly_base.specs.Limits.{Sizes}
 use Rattle.ly_join.specs.Grammar.{Grammar}
 use Rattle.ly_join.specs.Joined.{Spec}
-use Rattle.ly_engine.specs.Accepted.{IsFit, IsRefusedFor, Specifies}
-use Rattle.ly_engine.specs.declared.gen_fault.GenFault.{GenFault}
-use Rattle.ly_engine.specs.declared.gen_fault.GenFault.TheVariants.{OutOfMemory}
+use Rattle.ly_generate.specs.Accepted.{IsFit, IsRefusedFor, Specifies}
+use Rattle.ly_generate.specs.declared.gen_fault.GenFault.{GenFault}
+use Rattle.ly_generate.specs.declared.gen_fault.GenFault.TheVariants.{OutOfMemory}
 use Rattle.ly_explanation.specs.declared.explaining.Explanation.{Explanation}
 
 -- The bytes of both files say a specification within the limits, whose tables can be made.

@@ -2,7 +2,7 @@ ghost use Rattle.std.specs.Prelude.{◌≡◌, IfErr, IfOk, true};
 ghost use Rattle.ly_base.specs.Limits.{least_of, sizes_in};
 ghost use Rattle.ly_base.specs.declared.version.Version.TheVariants.{V2};
 ghost use Rattle.ly_emit.specs.Tables.{AreShapesWithin};
-ghost use Rattle.ly_engine.specs.Accepted.{IsFit, IsRefusedFor, IsUnfitFor};
+ghost use Rattle.ly_generate.specs.Accepted.{IsFit, IsRefusedFor, IsUnfitFor};
 ghost use Rattle.ly_join.specs.Grammar.{Grammar};
 ghost use Rattle.ly_subset.specs.Automaton.{IsBreadthFirst};
 ghost use Rattle.ly_explanation.specs.Explained.{IsExplained, IsWellFormed};

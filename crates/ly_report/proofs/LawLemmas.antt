@@ -1,17 +1,18 @@
 -- A specification has one report: its removed rules and its conflicts have one order.
 use Rattle.std.proofs.Common.{◌≡◌, ◌∙◌, inl, inr, ℕ, suc, ◌<◌, List, [], ◌∷◌, ◌++◌, Option, Some, None, refl, sym, ap}
-use Rattle.std.proofs.Common.{subst, arith, length, slice_get}
-use Rattle.std.specs.Prelude.{◌↔◌}
+use Rattle.std.proofs.Common.{subst, arith, length, map, slice_get}
+use Rattle.std.specs.Prelude.{◌↔◌, flat_map}
 use Rattle.ly_base.proofs.ListLemmas.{rising_one}
 use Rattle.ly_join.specs.Grammar.{Grammar, Rule}
+use Rattle.ly_join.specs.Joined.{Spec}
 use Rattle.ly_grammar.specs.Reduction.{KeepsUseful}
 use Rattle.ly_lr0.specs.Automaton.{ComesBefore}
 use Rattle.ly_lr0.proofs.OrderLemmas.{before_trans, not_before_itself}
 use Rattle.ly_resolve.specs.Conflicts.{AreConflicts, Conflict, IsBefore, IsKindBefore, Kind, reduce_reduce}
 use Rattle.ly_resolve.specs.Conflicts.{shift_reduce}
 use Rattle.ly_resolve.specs.Precedence.{judge_of}
-use Rattle.ly_report.specs.Laws.{ReportIsOne}
-use Rattle.ly_report.specs.Report.{conflicts_text, removed_text}
+use Rattle.ly_report.specs.Laws.{CountsAreOne, ReportIsOne, ReportTellsCounts}
+use Rattle.ly_report.specs.Report.{conflict_line, conflicts_text, count_of, counts_line, removed_text}
 
 kind_off : (k l : Kind) → IsKindBefore k l → IsKindBefore l k → ⊥
 kind_off shift_reduce shift_reduce a b = a
@@ -75,21 +76,56 @@ useful_one G R Q a b = λ i. record {
       λ is. (a.rules p r).1 ((b.rules p r).0 is),
     ))
 
+-- a specification has one list of conflicts
+conflicts_one : (s : Spec) (R Q : Grammar) (cs ds : List Conflict) → KeepsUseful s.grammar R → KeepsUseful s.grammar Q
+    → AreConflicts R (judge_of s) cs → AreConflicts Q (judge_of s) ds → cs ≡ ds
+conflicts_one s R Q cs ds a b first second =
+    rising_one IsBefore conflict_off cs ds mine.ordered second.ordered
+    (λ c has. (second.are c).1 ((mine.are c).0 has)) (λ c has. (mine.are c).1 ((second.are c).0 has))
+  where
+    mine : AreConflicts Q (judge_of s) cs
+    mine = subst (λ (G : Grammar). AreConflicts G (judge_of s) cs) (useful_one s.grammar R Q a b) first
+
 pub one_report : ReportIsOne
 one_report s a b x y =
     x.are ∙ ap (λ l. removed_text s l ++ conflicts_text s x.conflicts) removed
-    ∙ ap (λ l. removed_text s y.removed ++ conflicts_text s l) conflicts ∙ sym y.are
+    ∙ ap (λ l. removed_text s y.removed ++ conflicts_text s l)
+    (conflicts_one s x.useful y.useful x.conflicts y.conflicts x.are_useful y.are_useful x.are_conflicts
+    y.are_conflicts) ∙ sym y.are
   where
     removed : x.removed ≡ y.removed
     removed = rising_one (λ p q. p < q) (λ p q l m. omega (arith, l, m)) x.removed y.removed x.are_removed.rising
         y.are_removed.rising (λ p has. (y.are_removed.are p).1 ((x.are_removed.are p).0 has))
         (λ p has. (x.are_removed.are p).1 ((y.are_removed.are p).0 has))
 
-    mine : AreConflicts y.useful (judge_of s) x.conflicts
-    mine = subst (λ (G : Grammar). AreConflicts G (judge_of s) x.conflicts)
-        (useful_one s.grammar x.useful y.useful x.are_useful y.are_useful) x.are_conflicts
+pub one_counts : CountsAreOne
+one_counts s a b x y = λ i. record {
+  shift_reduce = (x.shifts ∙ ap (λ l. count_of shift_reduce (map (λ c. c.kind) l)) same ∙ sym y.shifts) i;
+  reduce_reduce = (x.reductions ∙ ap (λ l. count_of reduce_reduce (map (λ c. c.kind) l)) same ∙ sym y.reductions) i;
+}
+  where
+    same : x.conflicts ≡ y.conflicts
+    same = conflicts_one s x.useful y.useful x.conflicts y.conflicts x.are_useful y.are_useful x.are_conflicts
+        y.are_conflicts
 
-    conflicts : x.conflicts ≡ y.conflicts
-    conflicts = rising_one IsBefore conflict_off x.conflicts y.conflicts mine.ordered y.are_conflicts.ordered
-        (λ c has. (y.are_conflicts.are c).1 ((mine.are c).0 has))
-        (λ c has. (mine.are c).1 ((y.are_conflicts.are c).0 has))
+pub report_has_counts : ReportTellsCounts
+report_has_counts s text counts x y = (
+  removed_text s x.removed,
+  flat_map (conflict_line s) x.conflicts,
+  x.are
+      ∙ ap (λ n. told n (count_of reduce_reduce (map (λ c. c.kind) x.conflicts))) shifts
+      ∙ ap (told counts.shift_reduce) reductions,
+)
+  where
+    told : ℕ → ℕ → List ℕ
+    told n m = removed_text s x.removed ++ (counts_line n m ++ flat_map (conflict_line s) x.conflicts)
+
+    same : x.conflicts ≡ y.conflicts
+    same = conflicts_one s x.useful y.useful x.conflicts y.conflicts x.are_useful y.are_useful x.are_conflicts
+        y.are_conflicts
+
+    shifts : count_of shift_reduce (map (λ c. c.kind) x.conflicts) ≡ counts.shift_reduce
+    shifts = ap (λ l. count_of shift_reduce (map (λ c. c.kind) l)) same ∙ sym y.shifts
+
+    reductions : count_of reduce_reduce (map (λ c. c.kind) x.conflicts) ≡ counts.reduce_reduce
+    reductions = ap (λ l. count_of reduce_reduce (map (λ c. c.kind) l)) same ∙ sym y.reductions

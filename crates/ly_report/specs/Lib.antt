@@ -1,3 +1,4 @@
+pub mod Counts
 pub mod Laws
 pub mod Private
 pub mod Report

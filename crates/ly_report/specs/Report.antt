@@ -89,10 +89,14 @@ place_text s kind w t = kind_name kind ++ codes " after [" ++ spaced (map (symbo
 abbrev pub conflict_line : Spec → Conflict → List ℕ
 conflict_line s c = place_text s c.kind (reverse c.prefix) c.terminal ++ choice_text c.choice c.rule
 
+-- the line that says that there are so many of each kind
+abbrev pub counts_line : ℕ → ℕ → List ℕ
+counts_line shifts reductions = codes "conflicts: " ++ (decimal shifts ++ (codes " shift/reduce, "
+    ++ (decimal reductions ++ (codes " reduce/reduce" ++ newline ∷ []))))
+
 -- how many there are of each kind
 abbrev pub counts_text : List Kind → List ℕ
-counts_text kinds = codes "conflicts: " ++ (decimal (count_of shift_reduce kinds) ++ (codes " shift/reduce, "
-    ++ (decimal (count_of reduce_reduce kinds) ++ (codes " reduce/reduce" ++ newline ∷ []))))
+counts_text kinds = counts_line (count_of shift_reduce kinds) (count_of reduce_reduce kinds)
 
 -- how many conflicts there are, and a line for each
 abbrev pub conflicts_text : Spec → List Conflict → List ℕ

@@ -3,18 +3,18 @@ ghost use Rattle.std.specs.Io.KnownBytes.{Appends};
 ghost use Rattle.ly_base.specs.Device.{next_count};
 ghost use Rattle.ly_grammar.specs.Reduction.{KeepsUseful};
 ghost use Rattle.ly_join.specs.Grammar.{IsGrammar};
-ghost use Rattle.ly_resolve.specs.Values.{conflict_from, kind_from};
-ghost use Rattle.ly_report.specs.Report.{conflicts_text, count_of, counts_text, removed_count, removed_text};
-ghost use Rattle.ly_report.specs.Report.{AreRemoved, IsReport};
+ghost use Rattle.ly_resolve.specs.Values.{conflict_from};
+ghost use Rattle.ly_report.specs.Report.{conflicts_text, removed_count, removed_text, AreRemoved, IsReport};
 ghost use Rattle.ly_report.specs.Private.Symbols.{IsTellable};
 
+use crate::counts::{ConflictCounts, push_counts};
 use crate::fault::ReportFault;
 use crate::line::{push_conflict, push_decimal, push_removed};
 use ly_base::{OutOfMemory, Sink, write_whole};
 use ly_grammar::Reduced;
 use ly_join::{Grammar, Spec};
 use ly_lr0::Lr0;
-use ly_resolve::{Conflict, ConflictKind, Resolved};
+use ly_resolve::{Conflict, Resolved};
 use std::alloc::{AllocError, Global};
 
 /// Writes the report of a specification: the rules that are removed, the counts of conflicts, and the conflicts by
@@ -107,34 +107,9 @@ fn push_conflicts(
     ensures { OnOk result (out.new.items
         ≡ out.old.items ++ conflicts_text spec.now (map (conflict_from lr0.now) conflicts.now)) }
 {
-    push_counts(out, conflicts)?;
+    push_counts(out, &ConflictCounts::among(conflicts))?;
     for conflict in conflicts {
         push_conflict(alloc, out, spec, lr0, conflict)?;
     }
     Ok(())
-}
-
-/// Appends how many conflicts there are of each kind.
-fn push_counts(out: &mut Vec<u8>, conflicts: &[Conflict]) -> Result<(), AllocError>
-    ensures { OnOk result
-        (out.new.items ≡ out.old.items ++ counts_text (map (λ c. kind_from c.kind) conflicts.now)) }
-{
-    let shifts = count(conflicts, ConflictKind::ShiftReduce);
-    let reductions = count(conflicts, ConflictKind::ReduceReduce);
-    out.extend_from_slice(b"conflicts: ")?;
-    push_decimal(out, shifts)?;
-    out.extend_from_slice(b" shift/reduce, ")?;
-    push_decimal(out, reductions)?;
-    out.extend_from_slice(b" reduce/reduce\n")?;
-    Ok(())
-}
-
-/// How many conflicts are of a kind.
-fn count(conflicts: &[Conflict], kind: ConflictKind) -> usize
-    ensures { result ≡ count_of (kind_from kind) (map (λ c. kind_from c.kind) conflicts.now) }
-{
-    conflicts
-        .iter()
-        .filter(|conflict| conflict.kind == kind)
-        .count()
 }

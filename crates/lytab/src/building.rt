@@ -3,7 +3,8 @@ use crate::command::Paths;
 use crate::failure::Failure;
 use crate::files::{STANDARD, read_file, write_file, write_to};
 use ly_base::{Limits, Version};
-use ly_engine::build;
+use ly_engine::{Report, build};
+use ly_report::push_counts;
 use std::alloc::Global;
 use std::io::Write;
 use std::rt::Files;
@@ -20,18 +21,16 @@ pub fn build_tables<'a, F: Files, O: Write>(
 ) -> Result<(), Failure<'a>> {
     let lex = read_file(files, alloc, paths.lex)?;
     let yacc = read_file(files, alloc, paths.yacc)?;
-    let built = build(alloc, &lex, &yacc, &Limits::V2, version)?;
+    let report = match paths.report {
+        Some(_) => Report::Wanted,
+        None => Report::Unwanted,
+    };
+    let built = build(alloc, &lex, &yacc, &Limits::V2, version, report)?;
+    let mut line = Vec::new(alloc);
+    push_counts(&mut line, &built.conflicts)?;
     write_file(files, paths.tables, &built.tables)?;
-    if let Some(path) = paths.report {
-        write_file(files, path, &built.report)?;
+    if let (Some(path), Some(report)) = (paths.report, &built.report) {
+        write_file(files, path, report)?;
     }
-    write_to(output, STANDARD, conflicts_line(&built.report))
-}
-
-/// The line of a report that says how many conflicts there are.
-fn conflicts_line(report: &[u8]) -> &[u8] {
-    report
-        .split_inclusive(|byte| *byte == b'\n')
-        .find(|line| line.starts_with(b"conflicts:"))
-        .unwrap_or_default()
+    write_to(output, STANDARD, &line)
 }

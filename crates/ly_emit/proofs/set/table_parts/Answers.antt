@@ -1,13 +1,12 @@
 use Rattle.std.proofs.Common.{◌≡◌, ◌∙◌, ◌<◌, ◌*◌, All, ap, length, map, option_map, subst, sym}
 use Rattle.std.proofs.lemmas.List.{length-map}
 use Rattle.std.proofs.lemmas.List.Elements.{All-map}
-use Rattle.ly_emit.specs.Private.Listing.{AreLiterals}
 use Rattle.ly_emit.specs.Private.Lists.{AreLists}
-use Rattle.ly_emit.specs.SetOf.{IsSetOf}
+use Rattle.ly_emit.specs.SetOf.{IsMachineBy, IsSetOf}
 use Rattle.ly_emit.specs.Tables.{IsMachineOf}
 use Rattle.ly_emit.proofs.RangeLemmas.{set_within}
 use Rattle.ly_emit.proofs.SetLemmas.{set_machine}
-use Rattle.ly_join.specs.Sizes.{HasSizes}
+use Rattle.ly_lr0.specs.Automaton.{Automaton}
 use Rattle.ly_pack.specs.Combs.{IsFirstFit}
 use Rattle.ly_pack.specs.Machine.{IsMachine}
 use Rattle.ly_report.specs.Report.{terminal_name}
@@ -18,9 +17,8 @@ use Rattle.ly_emit.proofs.set.table_parts.Goals as goal
 
 pub returns : goal.returns
 returns c =
-    let s = c.args.resolved.now.spec in
-    let M = c.args.resolved.now.automaton in
-    let spec = c.spec-spec.ensures.these in
+    let s = c.args.spec.now in
+    let given = c.requires.fits in
     let parser = c.into_parts-parser in
     let scanner = c.in_ok-scanner.scanner in
     let made = c.in_ok-scanner.ensures in
@@ -39,24 +37,22 @@ returns c =
       actions = c.into_comb.result;
       gotos = c.into_comb-2.result;
     } in
-    let sizes = subst HasSizes spec c.in_ok-terminal_names.ensures.sizes in
+    let sizes = c.in_ok-terminal_names.ensures.sizes in
     let names : map (λ name. name.items) p.terminals.items ≡ map terminal_name s.terminals
-    = c.in_ok-terminal_names.ensures.names ∙ ap (λ x. map terminal_name x.terminals) spec in
-    let accept : p.nonterminals ≡ M.grammar.accept
-    = c.accept.ensures ∙ sym c.grammar.ensures.keeps.accept ∙ ap (λ g. g.accept) c.reduced.ensures
-    ∙ ap (λ m. m.grammar.accept) c.lr0.ensures.these in
+    = c.in_ok-terminal_names.ensures.names in
+    let accept : p.nonterminals ≡ s.grammar.accept = c.accept.ensures ∙ ap (λ g. g.accept) c.grammar.ensures.grammar in
     let packed = parser.ensures.same ∙ c.in_ok-pack.ensures in
     let same : machine_of (set_of p) ≡ c.args.machine
     = set_machine p parser.result.terminals parser.result.nonterminals parser.result.actions parser.result.gotos
-    c.into_comb.ensures.same c.into_comb-2.ensures.same s M c.args.machine sizes c.lr0.ensures.useful
-    c.requires.tables names accept packed in
-    let set : IsSetOf s M c.args.rules.now c.args.dfa.now (set_of p) = record {
+    c.into_comb.ensures.same c.into_comb-2.ensures.same s given.0 c.args.machine sizes given.1.0 given.1.1 names
+    (accept ∙ sym given.1.0.accept) packed in
+    let set : (M : Automaton) → IsMachineBy s M c.args.machine
+    → IsSetOf s M c.args.rules.now c.args.dfa.now (set_of p) = λ M by. record {
       terminals = names;
-      nonterminals = accept ∙ c.lr0.ensures.useful.accept ∙ sizes.nonterminals;
-      literals = subst (λ x. AreLiterals x.terminals (map (λ t. t.0) p.literals.items)) spec
-          c.in_ok-literals.ensures.literals;
+      nonterminals = accept ∙ sizes.nonterminals;
+      literals = c.in_ok-literals.ensures.literals;
       scanner = record {
-        actions = made.actions ∙ c.scanner.ensures ∙ ap (λ x. x.scanner) spec;
+        actions = made.actions ∙ c.scanner.ensures;
         cuts = made.cuts;
         condition_count = ap (λ n. 2 * n) (length-map scanner.conditions.items starts_from) ∙ made.count;
         conditions = made.starts;
@@ -65,7 +61,7 @@ returns c =
         accepted = made.accepted;
         rows = made.rows;
       };
-      machine = subst (IsMachineOf s M) (sym same) c.requires.tables;
+      machine = subst (IsMachineOf s M) (sym same) by.1;
       scan_rows = made.placed;
       actions = subst IsFirstFit (sym c.into_comb.ensures.same) c.into_comb.ensures.placed;
       gotos = subst IsFirstFit (sym c.into_comb-2.ensures.same) c.into_comb-2.ensures.placed;
@@ -93,7 +89,8 @@ returns c =
     } in
     let machine = subst IsMachine (c.in_ok-pack.ensures ∙ sym same) parser.ensures.whole in
     record {
-      set = (set, same);
-      within = λ v fits. set_within v s M c.args.dfa.now c.args.rules.now (set_of p) fits set lists sizes made.whole
-          c.requires.rules machine;
+      same = same;
+      set = set;
+      within = λ v M by fits. set_within v s M c.args.dfa.now c.args.rules.now (set_of p) fits (set M by) lists sizes
+          made.whole c.requires.rules machine;
     }

@@ -1,8 +1,8 @@
 use Rattle.ly_emit.proofs.ShapeLemmas.{shapes_are_within}
 use Rattle.ly_join.specs.Scanning.{scanning_of}
-use Rattle.ly_engine.specs.Accepted.{IsRefusedFor, IsUnfitFor}
-use Rattle.ly_engine.proofs.GenFaultLemmas.{err_weaker, ok_weaker, unfit_refused, when_same}
-use Rattle.ly_engine.specs.declared.gen_fault.GenFault.TheVariants.{OutOfMemory}
+use Rattle.ly_generate.specs.Accepted.{IsRefusedFor, IsUnfitFor}
+use Rattle.ly_generate.proofs.GenFaultLemmas.{err_weaker, ok_weaker, unfit_refused, when_same}
+use Rattle.ly_generate.specs.declared.gen_fault.GenFault.TheVariants.{OutOfMemory}
 use Rattle.ly_explanation.proofs.explaining.of_accepted.Goals as goal
 
 pub of_read-requires-clause-shapes : goal.of_read-requires-clause-shapes

@@ -5,8 +5,8 @@ use Rattle.ly_join.specs.Grammar.{Grammar}
 use Rattle.ly_join.specs.Joined.{Spec}
 use Rattle.ly_lr0.proofs.LawLemmas.{no_more}
 use Rattle.ly_lr0.specs.Automaton.{Automaton}
-use Rattle.ly_engine.specs.Accepted.{IsUnfitFor}
-use Rattle.ly_engine.proofs.GenFaultLemmas.{when_same}
+use Rattle.ly_generate.specs.Accepted.{IsUnfitFor}
+use Rattle.ly_generate.proofs.GenFaultLemmas.{when_same}
 use Rattle.ly_explanation.proofs.explaining.of_read.Goals as goal
 
 pub steady_tables-requires-clause-shapes : goal.steady_tables-requires-clause-shapes

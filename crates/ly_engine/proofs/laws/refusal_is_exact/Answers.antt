@@ -1,5 +1,0 @@
-use Rattle.ly_engine.proofs.RefusalLaws.{refusal_exact}
-use Rattle.ly_engine.proofs.laws.refusal_is_exact.Goals as goal
-
-pub returns : goal.returns
-returns c = refusal_exact

@@ -1,0 +1,15 @@
+pub mod CountLemmas
+pub mod FitGrammarLemmas
+pub mod FitLemmas
+pub mod FitScannerLemmas
+pub mod GenFaultLemmas
+pub mod GeneratedLemmas
+pub mod HeadlineLemmas
+pub mod RefusalLaws
+pub mod ReportLemmas
+pub mod ScannerLemmas
+pub mod SentenceLemmas
+pub mod TokenLemmas
+pub mod VersionLemmas
+pub mod WalkLemmas
+pub mod WordLemmas

@@ -1,0 +1,53 @@
+-- The table set that a lex file and a yacc file generate.
+use Rattle.std.specs.Prelude.{◌≡◌, ◌≤◌, ◌*◌, ℕ, List, length}
+use Rattle.ly_base.specs.Limits.{Sizes}
+use Rattle.ly_base.specs.declared.version.Version.{Version}
+use Rattle.ly_feed.specs.TableAnswer.{IsVerdict, TableAnswer}
+use Rattle.ly_feed.specs.Verdict.{faulty}
+use Rattle.ly_feed.specs.declared.outcome.Outcome.{Outcome}
+use Rattle.ly_generate.specs.Accepted.{IsFit, Specifies}
+use Rattle.ly_generate.specs.Headline.{IsGeneratedSet}
+use Rattle.ly_generate.specs.SpecAnswer.{SpecAnswer}
+use Rattle.ly_ere.specs.Names.{defined}
+use Rattle.ly_join.specs.Joined.{Spec}
+use Rattle.ly_lexread.specs.declared.file.LexFile.{LexFile}
+use Rattle.ly_minim.specs.Smallest.{IsReduced}
+use Rattle.ly_position.specs.Nfa.{Nfa}
+use Rattle.ly_position.specs.Patterns.{ArePositions}
+use Rattle.ly_position.specs.Spots.{HasPositions}
+use Rattle.ly_subset.specs.Automaton.{Automaton, IsBreadthFirst}
+use Rattle.ly_subset.specs.Classes.{AreClasses}
+use Rattle.ly_tables.specs.TableSet.{TableSet}
+use Rattle.ly_tokens.specs.Scanner.{IsSubsetScanner}
+
+-- The bytes of two files are these, and say this specification.
+pub record IsSpecification (limits : Sizes) (lex yacc : List ℕ) (file : LexFile) (s : Spec) (A : Automaton) : Type 0
+  where
+    pub specifies : Specifies limits lex yacc s
+    pub same_file : specifies.file ≡ file
+    pub scanner : IsSubsetScanner file A
+    pub few : length A.rules ≤ limits.scanner_states
+
+-- The automaton's classes are those of the bytes that the same positions of the file's patterns read, numbered by their
+-- least byte, and each condition of the file has its two starts: elsewhere, and where a line begins.
+pub record HasFormOf (file : LexFile) (A : Automaton) : Type 0 where
+  pub nfa : Nfa
+  pub positions : ArePositions (defined file.names) file.rules.items file.conditions nfa
+  pub spots : HasPositions (defined file.names) file.rules.items file.conditions nfa
+  pub classes : AreClasses nfa A.class_of A.classes
+  pub two_starts : A.starts ≡ 2 * file.conditions
+
+-- The files are accepted, and the set is theirs, within the ranges of a version: its scanner is the smallest of the lex
+-- file's rules, its states numbered breadth first, its classes and conditions are the file's, and what it answers to
+-- any text is the specification's answer to it.
+pub record IsGenerated (v : Version) (limits : Sizes) (lex yacc : List ℕ) (set : TableSet) : Type 0 where
+  pub spec : Spec
+  pub specifies : Specifies limits lex yacc spec
+  pub generated : IsGeneratedSet v specifies.file specifies.written spec set
+  pub fit : IsFit limits spec generated.automaton.grammar
+  pub smallest : IsReduced generated.walk
+  pub order : IsBreadthFirst generated.walk
+  pub form : HasFormOf specifies.file generated.walk
+  pub answers : (text : List ℕ) (o : Outcome) (answer : List ℕ) → TableAnswer set text o answer
+      → SpecAnswer specifies.file spec generated.automaton.grammar text o answer
+  pub never_faulty : (text : List ℕ) → IsVerdict set text faulty → ⊥

@@ -1,0 +1,9 @@
+pub mod Accepted
+pub mod GenFault
+pub mod Generated
+pub mod Headline
+pub mod Laws
+pub mod Parser
+pub mod Private
+pub mod SentenceAnswer
+pub mod SpecAnswer

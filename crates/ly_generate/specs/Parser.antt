@@ -1,0 +1,35 @@
+-- The parser of a specification, and what is said of its conflicts.
+use Rattle.std.specs.Prelude.{◌≤◌, ◌↔◌, ℕ, List, Option, Some, None, IsTrue, length}
+use Rattle.std.specs.declared.alloc.Global.{Global}
+use Rattle.std.specs.declared.vec.Vec.{Vec}
+use Rattle.ly_base.specs.Limits.{Sizes}
+use Rattle.ly_emit.specs.Tables.{IsMachineOf}
+use Rattle.ly_join.specs.Joined.{Spec}
+use Rattle.ly_lr0.specs.Automaton.{Automaton, IsAutomaton}
+use Rattle.ly_pack.specs.Steady.{IsSteady}
+use Rattle.ly_report.specs.Counts.{AreCounts}
+use Rattle.ly_report.specs.Report.{IsReport}
+use Rattle.ly_resolve.specs.Actions.{IsConflictFree}
+use Rattle.ly_generate.specs.Accepted.{IsFit}
+use Rattle.ly_generate.specs.declared.parser.SpecParser.{SpecParser}
+use Rattle.ly_generate.specs.declared.report.Report.{Report}
+use Rattle.ly_generate.specs.declared.report.Report.TheVariants.{Wanted, Unwanted}
+
+-- the report of the specification is there exactly where it is wanted
+abbrev pub IsReportIf : Report → Spec → Option (Vec ℕ Global) → Type 0
+IsReportIf Wanted s (Some text) = IsReport s text.items
+IsReportIf Unwanted s None = Unit {0}
+IsReportIf _ s _ = ⊥
+
+-- The tables are those of the specification's useful rules, which are fit, and every run of theirs ends; the conflicts
+-- are counted, it is said whether nowhere two actions are asked for, and the report is there where it is wanted.
+pub record IsParserOf (limits : Sizes) (s : Spec) (report : Report) (p : SpecParser) : Type 0 where
+  pub automaton : Automaton
+  pub is_automaton : IsAutomaton automaton
+  pub few : length automaton.states ≤ limits.parser_states
+  pub fit : IsFit limits s automaton.grammar
+  pub is_machine : IsMachineOf s automaton p.machine
+  pub steady : IsSteady p.machine
+  pub counts : AreCounts s p.conflicts
+  pub free : IsTrue p.conflict_free ↔ IsConflictFree automaton.grammar
+  pub reported : IsReportIf report s p.report

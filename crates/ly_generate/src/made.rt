@@ -1,0 +1,89 @@
+ghost use Rattle.std.specs.Prelude.{◌≡◌, ◌*◌, ℕ, IfErr, IfOk, length};
+ghost use Rattle.ly_base.specs.Limits.{least_of, sizes_in};
+ghost use Rattle.ly_base.specs.declared.version.Version.{Version};
+ghost use Rattle.ly_base.specs.declared.version.Version.TheVariants.{V2};
+ghost use Rattle.ly_emit.specs.Tables.{AreShapesWithin};
+ghost use Rattle.ly_report.specs.Counts.{AreCounts};
+ghost use Rattle.ly_subset.specs.Automaton.{IsAutomaton};
+ghost use Rattle.ly_generate.specs.Accepted.{IsRefusedFor, IsUnfitFor};
+ghost use Rattle.ly_generate.specs.Generated.{IsGenerated};
+ghost use Rattle.ly_generate.specs.Parser.{IsReportIf};
+ghost use Rattle.ly_generate.specs.Private.Making.{FitsWith, IsMadeOf};
+
+use crate::gen_fault::GenFault;
+use crate::parser::parser_of;
+use crate::report::Report;
+use crate::specification::read_specification;
+use ly_base::{Limits, Version};
+use ly_emit::table_set;
+use ly_join::Spec;
+use ly_lexread::LexFile;
+use ly_minim::minimise;
+use ly_report::ConflictCounts;
+use ly_subset::Dfa;
+use ly_tables::TableSet;
+use std::alloc::Global;
+
+/// What two files generate.
+#[derive(Drop)]
+pub struct Made {
+    /// The table set.
+    pub set: TableSet,
+    /// How many conflicts there are of each kind.
+    pub conflicts: ConflictCounts,
+    /// The bytes of the report, where it is wanted.
+    pub report: Option<Vec<u8>>,
+}
+
+/// What a lex file and a yacc file generate (POSIX, XCU lex and yacc), for a table file of a version.
+///
+/// A limit above that of the version counts as that. Its faults are those of `GenFault` but `Write`.
+pub fn generated(
+    alloc: Global,
+    lex: &[u8],
+    yacc: &[u8],
+    limits: &Limits,
+    version: Version,
+    report: Report,
+) -> Result<Made, GenFault>
+    ensures generated { IfOk result (λ m.
+        (g : IsGenerated version (least_of limits.now (sizes_in version)) lex.now yacc.now m.set)
+        × AreCounts g.spec m.conflicts × IsReportIf report g.spec m.report) }
+    ensures refused { IfErr result (IsRefusedFor (least_of limits.now (sizes_in version)) lex.now yacc.now) }
+{
+    let limits = limits.within(version);
+    let given = read_specification(alloc, lex, yacc, &limits)?;
+    let dfa = minimise(alloc, given.subsets)?;
+    // by its contract each state has a row
+    let _states = dfa.len();
+    made_of(alloc, &given.file, &given.spec, &dfa, &limits, report)
+}
+
+/// What is made of a specification and of the smallest automaton of its scanner.
+fn made_of(
+    alloc: Global,
+    file: &LexFile,
+    spec: &Spec,
+    dfa: &Dfa,
+    limits: &Limits,
+    report: Report,
+) -> Result<Made, GenFault>
+    requires shapes { AreShapesWithin spec.now }
+    requires rules { length file.now.rules.items ≡ length spec.now.scanner }
+    requires starts { (conditions : ℕ) × (dfa.now.starts ≡ 2 * conditions) }
+    requires whole { IsAutomaton dfa.now }
+    requires fits { FitsWith V2 limits.now spec.now file.now.rules.items dfa.now }
+    ensures made { IfOk result (λ m. (v : Version) → FitsWith v limits.now spec.now file.now.rules.items dfa.now
+        → IsMadeOf v limits.now file.now spec.now dfa.now m.set) }
+    ensures counted { IfOk result (λ m. AreCounts spec.now m.conflicts) }
+    ensures reported { IfOk result (λ m. IsReportIf report spec.now m.report) }
+    ensures unfit { IfErr result (IsUnfitFor limits.now spec.now) }
+{
+    let parser = parser_of(alloc, spec, limits, report)?;
+    let set = table_set(alloc, spec, parser.machine, &file.rules, dfa)?;
+    Ok(Made {
+        set,
+        conflicts: parser.conflicts,
+        report: parser.report,
+    })
+}

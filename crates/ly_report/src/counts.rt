@@ -1,0 +1,69 @@
+//! How many conflicts there are of each kind.
+ghost use Rattle.std.specs.Prelude.{◌≡◌, ◌++◌, map, OnOk};
+ghost use Rattle.ly_resolve.specs.Conflicts.{reduce_reduce, shift_reduce};
+ghost use Rattle.ly_resolve.specs.Values.{kind_from};
+ghost use Rattle.ly_report.specs.Counts.{AreCounts};
+ghost use Rattle.ly_report.specs.Report.{count_of, counts_line};
+
+use crate::line::push_decimal;
+use ly_resolve::{Conflict, ConflictKind, Resolved};
+use std::alloc::AllocError;
+
+/// How many conflicts a specification has of each kind.
+#[derive(Clone, Copy, Debug, PartialEq, Eq)]
+pub struct ConflictCounts {
+    /// How many are between a shift and a reduction.
+    pub shift_reduce: usize,
+    /// How many are between two reductions.
+    pub reduce_reduce: usize,
+}
+
+impl ConflictCounts {
+    /// The counts of a specification's conflicts.
+    pub fn of(resolved: &Resolved<'_>) -> ConflictCounts
+        ensures { AreCounts resolved.now.spec result }
+    {
+        // by the contracts of both the conflicts are those of the specification's useful rules
+        let _spec = resolved.spec();
+        let _lr0 = resolved.lr0();
+        ConflictCounts::among(resolved.conflicts())
+    }
+
+    /// The counts of these conflicts.
+    pub(crate) fn among(conflicts: &[Conflict]) -> ConflictCounts
+        ensures shifts { result.shift_reduce
+            ≡ count_of shift_reduce (map (λ c. kind_from c.kind) conflicts.now) }
+        ensures reductions { result.reduce_reduce
+            ≡ count_of reduce_reduce (map (λ c. kind_from c.kind) conflicts.now) }
+    {
+        ConflictCounts {
+            shift_reduce: count(conflicts, ConflictKind::ShiftReduce),
+            reduce_reduce: count(conflicts, ConflictKind::ReduceReduce),
+        }
+    }
+}
+
+/// How many conflicts are of a kind.
+fn count(conflicts: &[Conflict], kind: ConflictKind) -> usize
+    ensures { result ≡ count_of (kind_from kind) (map (λ c. kind_from c.kind) conflicts.now) }
+{
+    conflicts
+        .iter()
+        .filter(|conflict| conflict.kind == kind)
+        .count()
+}
+
+/// Appends the line of a report that says how many conflicts there are of each kind.
+///
+/// It fails where memory runs out. How much was appended by then is left open.
+pub fn push_counts(out: &mut Vec<u8>, counts: &ConflictCounts) -> Result<(), AllocError>
+    ensures { OnOk result
+        (out.new.items ≡ out.old.items ++ counts_line counts.now.shift_reduce counts.now.reduce_reduce) }
+{
+    out.extend_from_slice(b"conflicts: ")?;
+    push_decimal(out, counts.shift_reduce)?;
+    out.extend_from_slice(b" shift/reduce, ")?;
+    push_decimal(out, counts.reduce_reduce)?;
+    out.extend_from_slice(b" reduce/reduce\n")?;
+    Ok(())
+}
