@@ -145,7 +145,8 @@ first_end end text rest n some h before e =
           some,
         )
 
-heads : (a b : ℕ) (s t : List ℕ) → a ∷ s ≡ b ∷ t → a ≡ b
+-- lists that are the same begin alike
+pub heads : (a b : ℕ) (s t : List ℕ) → a ∷ s ≡ b ∷ t → a ≡ b
 heads a b s t e = cc
 
 tails : (a b : ℕ) (s t : List ℕ) → a ∷ s ≡ b ∷ t → s ≡ t

@@ -1,3 +1,4 @@
+pub mod BeforeLemmas
 mod BlockLemmas
 pub mod ByteSetLemmas
 pub mod CellLemmas

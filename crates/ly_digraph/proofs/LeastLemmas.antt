@@ -14,7 +14,7 @@ use Rattle.ly_digraph.specs.declared.walk.Frame.{Frame}
 use Rattle.ly_digraph.proofs.WalkLemmas.{begin-past}
 
 -- a solution holds what the nodes hold that it reaches
-along_way : {g : Digraph} {other : List NumberSet} {i j : ℕ} → GrowsAlong g other → Reaches g i j → (n : ℕ)
+pub along_way : {g : Digraph} {other : List NumberSet} {i j : ℕ} → GrowsAlong g other → Reaches g i j → (n : ℕ)
     → Member (row other j) n → Member (row other i) n
 along_way grows (here i) n h = h
 along_way grows (along i j k e way) n h = grows.grows _ _ n e (along_way grows way n h)

@@ -235,12 +235,6 @@ uses_below names text e is i d l =
     let found = alternation_found names is.2 (get_or (uses_of e) i d) (Contains-get_or (uses_of e) i d l) in
     (number_is names found.0 (get_or (uses_of e) i d) no_definition found.1).0
 
--- the last of a list with one more
-pub last_is : (list : List DefinedText) (d : DefinedText) (n : ℕ) → n ≡ length list → slice_get (list ++ d ∷ []) n
-    ≡ Some d
-last_is list d n is = slice_get-get_or (list ++ d ∷ []) n no_text (omega (arith, is, length-append list (d ∷ [])))
-    ∙ ap Some (ap (λ k. get_or (list ++ d ∷ []) k no_text) is ∙ get_or-append_seam list d [] no_text)
-
 -- texts so far, and one more
 pub texts_more : (list : List NamedText) (i : ℕ) (d : NamedText) → i < length list
     → named_texts (take (i + 1) list) ≡ named_texts (take i list) ++ named_text (get_or list i d) ∷ []

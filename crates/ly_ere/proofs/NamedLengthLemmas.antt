@@ -4,8 +4,9 @@ use Rattle.std.proofs.Common.{subst, ◌∙◌, arith, inl, inr, length-append, 
 use Rattle.std.proofs.Math.ListN.{get_or-append}
 use Rattle.std.proofs.Math.Seq.{get_or-append_seam}
 use Rattle.std.proofs.lemmas.Bool.{cases_lt}
-use Rattle.std.proofs.lemmas.Option.{get_or_from_slice_get, slice_get-get_or}
-use Rattle.ly_ere.specs.Expression.{Expression, Matches, MatchesUnder, NamedUpTo, empty, name}
+use Rattle.ly_base.proofs.ListLemmas.{slice_get-append, slice_get-behind}
+use Rattle.ly_base.proofs.BeforeLemmas.{slice_get-before}
+use Rattle.ly_ere.specs.Expression.{Expression, Matches, MatchesUnder, NamedUpTo, name}
 use Rattle.ly_ere.specs.Lengths.{AreLengths, AreNamedLengths, far, lengths_at}
 use Rattle.ly_ere.specs.Names.{AreOrdered, UsesBelow}
 use Rattle.ly_ere.specs.Weight.{named_weight, weight_of}
@@ -17,13 +18,11 @@ use Rattle.ly_ere.proofs.WeightLemmas.{weight_of_last, weight_of_earlier}
 module _ (names : List Expression) (e : Expression) where
   earlier : (n : ℕ) (d : Expression) → n < length names → slice_get names n ≡ Some d
       → slice_get (names ++ e ∷ []) n ≡ Some d
-  earlier n d less is = slice_get-get_or (names ++ e ∷ []) n empty (omega (arith, less, length-append names (e ∷ [])))
-      ∙ ap Some (get_or-append names (e ∷ []) empty n less ∙ get_or_from_slice_get names n d empty is)
+  earlier n d less is = slice_get-append names (e ∷ []) n d is
 
   there : (n : ℕ) (d : Expression) → n < length names → slice_get (names ++ e ∷ []) n ≡ Some d
       → slice_get names n ≡ Some d
-  there n d less is = slice_get-get_or names n empty less
-      ∙ ap Some (sym (get_or-append names (e ∷ []) empty n less) ∙ get_or_from_slice_get (names ++ e ∷ []) n d empty is)
+  there n d less is = slice_get-before names (e ∷ []) n d less is
 
   module _ (ordered : AreOrdered names) where
     grown : (n x : ℕ) (w : List ℕ) → n ≤ length names → NamedUpTo names n x w → NamedUpTo (names ++ e ∷ []) n x w
@@ -50,8 +49,7 @@ module _ (names : List Expression) (e : Expression) where
     shrunk (suc n) x w le (inr h) = inr (h.0, shrunk n x w (omega arith) h.1)
 
     last_is : slice_get (names ++ e ∷ []) (length names) ≡ Some e
-    last_is = slice_get-get_or (names ++ e ∷ []) (length names) empty (omega (arith, length-append names (e ∷ [])))
-        ∙ ap Some (get_or-append_seam names e [] empty)
+    last_is = slice_get-behind names [] (length names) e refl
 
     module _ (uses : UsesBelow (length names) e) where
       -- the last definition

@@ -6,25 +6,13 @@ use Rattle.std.proofs.lemmas.List.Folds.{list_any_at}
 use Rattle.ly_base.proofs.MemberLemmas.{Contains-first, Contains-later, Contains-one}
 use Rattle.ly_base.proofs.ListLemmas.{AllPairs-append, AllPairs-one}
 use Rattle.std.proofs.lemmas.Bool.{and_parts, cases_Bool, eq-eqb, eqb-true}
-use Rattle.ly_lr0.specs.declared.item.Item.{Item}
+use Rattle.ly_lr0.proofs.ItemLemmas.{item_same, item_self}
 use Rattle.ly_explain.specs.declared.claim.Claim.{Claim}
 use Rattle.ly_explain.specs.declared.claim.Claim.TheVariants.{InCore, Settled, With}
 use Rattle.ly_explain.specs.declared.claim.Demand.{Demand}
 use Rattle.ly_base.specs.declared.numbers.StateNo.{StateNo}
 use Rattle.ly_explain.specs.contracts.claim.ClaimPartialEq.TheImpl as claim
 use Rattle.ly_explain.specs.contracts.claim.DemandPartialEq.TheImpl as demand
-
-abbrev pub same_item : Item → Item → Bool
-same_item i j = nat_eq i.rule j.rule && nat_eq i.dot j.dot
-
-pub item_same : (i j : Item) → same_item i j ≡ true → i ≡ j
-item_same i j e =
-    let p = and_parts (nat_eq i.rule j.rule) (nat_eq i.dot j.dot) e in
-    ap (λ n. record { rule = n; dot = i.dot }) (eqb-true i.rule j.rule p.0)
-    ∙ ap (λ n. record { rule = j.rule; dot = n }) (eqb-true i.dot j.dot p.1)
-
-pub item_self : (i : Item) → same_item i i ≡ true
-item_self i = rw (eq-eqb i.rule i.rule refl, eq-eqb i.dot i.dot refl) refl
 
 abbrev pub same_claim : Claim → Claim → Bool
 same_claim a b = (claim.eq-value).it a b

@@ -6,7 +6,8 @@ use Rattle.std.proofs.lemmas.Bool.{cases_lt}
 use Rattle.std.proofs.lemmas.List.{append_assoc, length-append}
 use Rattle.std.proofs.lemmas.List.Elements.{Contains-append_left, Contains-push_cases}
 use Rattle.std.proofs.lemmas.Option.{slice_get_within}
-use Rattle.ly_base.proofs.ListLemmas.{slice_get-append, slice_get-behind, some_at}
+use Rattle.ly_base.proofs.ListLemmas.{slice_get-append, slice_get-behind}
+use Rattle.ly_base.proofs.BeforeLemmas.{slice_get-before}
 use Rattle.ly_join.specs.Grammar.{symbol_of}
 use Rattle.ly_join.proofs.ListLemmas.{member_at}
 use Rattle.ly_lr0.specs.Automaton.{Automaton}
@@ -18,13 +19,7 @@ use Rattle.ly_explain.specs.Private.Kept.{IsKeptDemand}
 use Rattle.ly_explain.specs.Private.Searches.{AreFound, AreMoreFound, HasMore, IsLinked, automaton_of}
 use Rattle.ly_explain.proofs.FoundLemmas.{pushed_apart}
 
--- what is there before more is added
-before_more : {X : Type 0} (xs : List X) (y : X) (k : ℕ) (x : X) → k < length xs → slice_get (xs ++ y ∷ []) k ≡ Some x
-    → slice_get xs k ≡ Some x
-before_more xs y k x lt at =
-    let there = some_at xs k lt in
-    there.1 ∙ (sym (slice_get-append xs (y ∷ []) k there.0 there.1) ∙ at)
-
+-- what is added stands at the end
 at_end : {X : Type 0} (xs : List X) (y : X) (k : ℕ) (x : X) → k ≡ length xs → slice_get (xs ++ y ∷ []) k ≡ Some x
     → y ≡ x
 at_end xs y k x end at =
@@ -39,10 +34,11 @@ module _ (M : Automaton) (t : ℕ) (found : List Demand) (links : List Link) (e 
       → (k : ℕ) (m : Link) → slice_get (links ++ l ∷ []) k ≡ Some m → IsLinked M t (found ++ e ∷ []) k m
   linked_more linked k m at = elim (cases_lt k (length links)) [
     | inl before ↦
-        let was = linked k m (before_more links l k m before at) in (
+        let was = linked k m (slice_get-before links (l ∷ []) k m before at) in (
           was.0,
-          λ x y here there. was.1 x y (before_more found e m.from x (omega (arith, before, was.0, count)) here)
-              (before_more found e (suc k) y (omega (arith, before, count)) there),
+          λ x y here there. was.1 x y
+              (slice_get-before found (e ∷ []) m.from x (omega (arith, before, was.0, count)) here)
+              (slice_get-before found (e ∷ []) (suc k) y (omega (arith, before, count)) there),
         )
     | inr past ↦
         let within = slice_get_within (links ++ l ∷ []) k m at in
@@ -53,7 +49,7 @@ module _ (M : Automaton) (t : ℕ) (found : List Demand) (links : List Link) (e 
           omega (arith, below, count, end),
           λ x y here there.
               let first : d ≡ x
-              = let f : Some d ≡ Some x = sym from_is ∙ before_more found e l.from x below here in cc in
+              = let f : Some d ≡ Some x = sym from_is ∙ slice_get-before found (e ∷ []) l.from x below here in cc in
               let last : e ≡ y = at_end found e (suc k) y (omega (arith, end, count)) there in
               subst (λ z. IsStep M t (option_map symbol_of l.symbol) z y) first
               (subst (λ z. IsStep M t (option_map symbol_of l.symbol) d z) last step),

@@ -9,11 +9,12 @@ use Rattle.std.proofs.lemmas.Option.{get_or_from_slice_get, slice_get-get_or, sl
 use Rattle.indexmap.proofs.ReorderLemmas.{map-reverse}
 use Rattle.ly_base.proofs.ListLemmas.{AllPairs-one, some_at}
 use Rattle.ly_base.proofs.MemberLemmas.{Contains-one}
-use Rattle.ly_join.specs.Grammar.{Symbol, nonterminal, symbol_of, terminal}
+use Rattle.ly_join.specs.Grammar.{Symbol, symbol_of}
 use Rattle.ly_join.specs.declared.symbol.Symbol as code
-use Rattle.ly_join.specs.declared.symbol.Symbol.TheVariants.{Nonterminal, Terminal}
+use Rattle.ly_join.specs.declared.symbol.Symbol.TheVariants.{Terminal}
 use Rattle.ly_join.proofs.ListLemmas.{member_at, placed}
 use Rattle.ly_lr0.specs.Automaton.{Automaton, prefix_of}
+use Rattle.ly_lr0.proofs.SuccessorLemmas.{kept_symbol}
 use Rattle.ly_explain.specs.Demands.{Follows, IsClimb, IsPop, IsStep, at_start}
 use Rattle.ly_explain.specs.declared.claim.Claim.{Claim}
 use Rattle.ly_explain.specs.declared.claim.Claim.TheVariants.{Settled}
@@ -279,11 +280,6 @@ prefix_meets w s p underway is d at =
     claims_nothing : (M : Automaton) (t : ℕ) (g : List Symbol) (c : Claim) → c ≡ Settled
         → (n : ℕ) × IsTrueIn M.grammar t n g c
     claims_nothing M t g c nothing = subst (λ x. (n : ℕ) × IsTrueIn M.grammar t n g x) (sym nothing) (0, tt)
-
--- each symbol is one that is kept
-kept_symbol : (X : Symbol) → (x : code.Symbol) × (symbol_of x ≡ X)
-kept_symbol (terminal t) = (Terminal (record { 0 = t }), refl)
-kept_symbol (nonterminal A) = (Nonterminal (record { 0 = A }), refl)
 
 -- where all was gone through and nothing was found that claims nothing more, no string meets a demand
 pub none_meets : (w : Sought) (found : List Demand) (links : List Link) (climbed popped : ℕ) → AreFound w found links

@@ -11,12 +11,11 @@ use Rattle.ly_ere.specs.declared.pattern.Pattern.{Pattern}
 use Rattle.ly_ere.specs.declared.pattern.Rule.{Rule}
 use Rattle.ly_scan.specs.Cuts.{token_len}
 use Rattle.ly_scan.specs.Lexer.{IsLongestAt, Scanner}
-use Rattle.ly_scan.specs.StateWalk.{says}
-use Rattle.ly_subset.specs.Automaton.{Automaton, rule_after, rule_of, start_of, state_after}
+use Rattle.ly_subset.specs.Automaton.{Automaton, rule_after, start_of, state_after}
 use Rattle.ly_tokens.specs.Agreement.{Agrees}
-use Rattle.ly_tokens.specs.RowWalk.{cut_in, row_walk, rows_of}
+use Rattle.ly_tokens.specs.RowWalk.{cut_in, row_walk}
 use Rattle.ly_tokens.proofs.AgreementLemmas.{no_bad_cut, winner_of}
-use Rattle.ly_tokens.proofs.RowAgreementLemmas.{row_walk-says, same_rules_agree}
+use Rattle.ly_tokens.proofs.RowAgreementLemmas.{row_walk-says, rule_said, said_rule, same_rules_agree}
 use Rattle.ly_explain.specs.Doubts.{IsMatched, Wins}
 use Rattle.ly_explain.specs.Laws.{MatchedWin}
 
@@ -37,15 +36,6 @@ fits_on names p rest n m within f =
       in_tail = subst (InTail names p.tail)
           (ap (take (n - m)) behind ∙ take-take (n - m) (n - m) (drop m rest) least) f.in_tail;
     }
-
--- a walk has a rule where its state has one
-said_rule : (A : Automaton) (s : Option ℕ) (i : ℕ) → rule_of A s ≡ Some i → says (rows_of A) s ≡ Some (Some i)
-said_rule A None i e = absurd cc
-said_rule A (Some s) i e = ap (λ o. Some o) e
-
-rule_said : (A : Automaton) (s : Option ℕ) (i : ℕ) → says (rows_of A) s ≡ Some (Some i) → rule_of A s ≡ Some i
-rule_said A None i e = absurd cc
-rule_said A (Some s) i e = cc
 
 -- a string of at least one byte has a first one
 leads_first : (B : Automaton) (o : Option ℕ) (i : ℕ) (w : List ℕ) → 1 ≤ length w → rule_after B o w ≡ Some i

@@ -1,13 +1,14 @@
 -- Names in a set that keeps their order.
 use Rattle.std.proofs.Common.{◌≡◌, ◌∙◌, ℕ, List, [], ◌∷◌, ◌++◌, Bool, true, false, Some, None, refl, sym, ap}
-use Rattle.std.proofs.Common.{map, slice_get, position, get_or, rules, Contains, cond, true≢false, ◌+◌}
+use Rattle.std.proofs.Common.{map, slice_get, position, get_or, rules, Contains, true≢false, ◌+◌}
 use Rattle.std.proofs.lemmas.Iterator.Adapters.{position_from-zero}
 use Rattle.std.proofs.lemmas.List.{map-append}
 use Rattle.std.proofs.lemmas.List.Quantifiers.{position-Some}
 use Rattle.std.proofs.lemmas.Option.{slice_get-get_or, slice_get-map}
 use Rattle.std.specs.Prelude.{◌||◌, if◌then◌else◌, option_map}
-use Rattle.std.specs.List.{list_any, position_from}
+use Rattle.std.specs.List.{list_any}
 use Rattle.std.specs.Str.{bytes_eq}
+use Rattle.ly_base.proofs.KeyLemmas.{none_from}
 use Rattle.ly_join.specs.Private.Numbering.{with_one}
 use Rattle.ly_join.proofs.NumberingLemmas.{any_member}
 use Rattle.ly_join.proofs.TableLemmas.{bytes_itself, same_bytes}
@@ -38,15 +39,6 @@ found_name f (k ∷ ks) name n h =
     let at = position-Some (λ x. bytes_eq name (f x)) (k ∷ ks) n k h in
     slice_get-map f (k ∷ ks) n ∙ (ap (option_map f) (slice_get-get_or (k ∷ ks) n k at.0)
     ∙ ap Some (sym (same_bytes name (f (get_or (k ∷ ks) n k)) at.1)))
-
-none_from : {K : Type 0} (t : K → Bool) (n : ℕ) (ks : List K) → position_from t n ks ≡ None → list_any t ks ≡ false
-none_from t n [] e = refl
-none_from t n (k ∷ ks) e = by (t k) e (none_from t (n + 1) ks)
-  where
-    by : (b : Bool) → cond b (Some n) (position_from t (n + 1) ks) ≡ None
-        → (position_from t (n + 1) ks ≡ None → list_any t ks ≡ false) → (b || list_any t ks) ≡ false
-    by true e f = absurd (cc)
-    by false e f = f e
 
 -- a name that no test finds isn't there
 pub absent_name : {K : Type 0} (f : K → List ℕ) (ks : List K) (name : List ℕ)

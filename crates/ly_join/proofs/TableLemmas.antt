@@ -1,5 +1,5 @@
 -- Terminals that are the same, and the tables of their numbers.
-use Rattle.std.proofs.Common.{◌≡◌, ◌<◌, ◌+◌, ◌^◌, ℕ, zero, suc, List, [], ◌∷◌, ◌++◌, Bool, true, false, cond, rules}
+use Rattle.std.proofs.Common.{◌≡◌, ◌<◌, ◌+◌, ◌^◌, ℕ, List, [], ◌∷◌, ◌++◌, Bool, true, false, cond, rules}
 use Rattle.std.proofs.Common.{Contains, Option, Some, None, refl, sym, ap, subst, ◌∙◌, arith, inl, inr, ◌⊎◌, true≢false}
 use Rattle.std.proofs.Common.{length, slice_get, slice_index_or, length-set, lit<}
 use Rattle.std.specs.Prelude.{is_some, replicate, slice_set}
@@ -7,14 +7,14 @@ use Rattle.std.specs.Map.{lookup}
 use Rattle.std.specs.Str.{bytes_eq}
 use Rattle.std.proofs.lemmas.Bool.{cases_eq, eq-eqb, eqb-true}
 use Rattle.std.proofs.lemmas.Grind.{common_steps}
-use Rattle.std.proofs.lemmas.List.{get_or-replicate, get_or_push, get_or-set_same, get_or-set_other, length_push}
+use Rattle.std.proofs.lemmas.List.{get_or-replicate, get_or-set_same, get_or-set_other, length_push}
 use Rattle.std.proofs.lemmas.List.{length-replicate}
 use Rattle.std.proofs.lemmas.List.Elements.{Contains-push_cases}
-use Rattle.std.proofs.lemmas.Option.{slice_get-get_or}
 use Rattle.ly_base.specs.declared.numbers.Sym.{Sym}
 use Rattle.ly_join.specs.Terminals.{Terminal, end, undefined, token, byte, same_terminal}
 use Rattle.ly_join.specs.Private.Tables.{AreTables, IsFoundAs}
 use Rattle.ly_base.proofs.MemberLemmas.{Contains-cons_cases, Contains-one}
+use Rattle.ly_base.proofs.ListLemmas.{slice_get-append, slice_get-behind}
 use Rattle.ly_join.proofs.ListLemmas.{member_at}
 
 -- texts that pass the test are one, and a text passes it with itself
@@ -50,23 +50,11 @@ pub unfound_there : (ts : List Terminal) (x : Terminal) (found : Option Sym) →
 unfound_there ts x None h is = h
 unfound_there ts x (Some t) h is = absurd (true≢false is)
 
--- what stands at a place stands there before more
-pub place_before : {X : Type 0} (xs ys : List X) (k : ℕ) (x : X) → slice_get xs k ≡ Some x
-    → slice_get (xs ++ ys) k ≡ Some x
-place_before [] ys k x here = absurd (cc)
-place_before (z ∷ xs) ys zero x here = here
-place_before (z ∷ xs) ys (suc k) x here = place_before xs ys k x here
-
--- the last of a list
-pub place_last : {X : Type 0} (xs : List X) (x : X) → slice_get (xs ++ x ∷ []) (length xs) ≡ Some x
-place_last xs x = slice_get-get_or (xs ++ x ∷ []) (length xs) x (omega (arith, length_push xs x))
-    ∙ ap Some (get_or_push xs x x (length xs) refl)
-
 -- what is found stays where it is when another one comes
 pub found_later : (ts : List Terminal) (y x : Terminal) (found : Option Sym) → (y ≡ x → ⊥) → IsFoundAs ts x found
     → IsFoundAs (ts ++ y ∷ []) x found
 found_later ts y x None other h = λ there. elim (Contains-push_cases ts y x there) [ inl old ↦ h old | inr e ↦ other e ]
-found_later ts y x (Some t) other h = place_before ts (y ∷ []) t.0 x h
+found_later ts y x (Some t) other h = slice_get-append ts (y ∷ []) t.0 x h
 
 -- what isn't there isn't found
 pub not_found : (ts : List Terminal) (x : Terminal) (found : Option Sym) → (Contains ts x → ⊥) → IsFoundAs ts x found
@@ -112,7 +100,7 @@ module _ {K : Type 0} (name_of : K → List ℕ) (ts : List Terminal) (by_name :
   shorter x = omega (arith, small, length_push ts x)
 
   here : (x : Terminal) → slice_get (ts ++ x ∷ []) s.0 ≡ Some x
-  here x = subst (λ n. slice_get (ts ++ x ∷ []) n ≡ Some x) (sym next) (place_last ts x)
+  here x = subst (λ n. slice_get (ts ++ x ∷ []) n ≡ Some x) (sym next) (slice_get-behind ts [] (length ts) x refl)
 
   -- the tables with one token more
   pub tables_token : (k : K) → (Contains ts (token (name_of k)) → ⊥)

@@ -8,6 +8,7 @@ use Rattle.std.proofs.lemmas.Bool.{false≢true}
 use Rattle.ly_base.specs.Language.{NameBefore, starts_name}
 use Rattle.ly_base.specs.declared.language.Language.TheVariants.{Lex}
 use Rattle.ly_base.proofs.NameLemmas.{name_one}
+use Rattle.ly_base.proofs.GapLemmas.{heads}
 use Rattle.ly_lexread.specs.Conditions.{Condition, condition_of}
 use Rattle.ly_lexread.specs.Rules.{ActiveBefore, ConditionBefore, Listed, last, more}
 
@@ -47,9 +48,6 @@ pub listed_more : (cs : List Condition) (ns text behind all rest : List ℕ) (n 
     → (u : List ℕ) → behind ≡ codes "," ++ u → Listed cs (ns ++ n ∷ []) u all rest → Listed cs ns text all rest
 listed_more cs ns text behind all rest n first u e d
     = more ns text u all rest n (subst (ConditionBefore cs text n) e first) d
-
-heads : (a b : ℕ) (s t : List ℕ) → a ∷ s ≡ b ∷ t → a ≡ b
-heads a b s t g = cc
 
 comma_no_end : (u r : List ℕ) → codes "," ++ u ≡ codes ">" ++ r → ⊥
 comma_no_end u r f = omega (arith, heads 44 62 u r f)

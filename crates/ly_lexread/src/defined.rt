@@ -57,7 +57,7 @@ impl<'t> Model for NameLines<'t> {
 }
 
 impl<'t> NameLines<'t> {
-    /// None.
+    /// No lines, and so no names.
     pub(crate) fn new(alloc: Global) -> Self
         ensures { result ≡ [] }
     {

@@ -10,7 +10,7 @@ use ly_base::{Language, after_gap, leading_name, literal};
 /// What stands at the front of an action.
 #[derive(Clone, Copy)]
 pub(crate) enum NextWord<'t> {
-    /// Nothing.
+    /// The end of the action.
     End,
     /// A mark of one byte, as `;`.
     Mark(u8),

@@ -5,19 +5,14 @@ use Rattle.ly_sets.specs.NumberSet.{NumberSet, Member}
 use Rattle.ly_sets.specs.SetMatrix.{row}
 use Rattle.ly_digraph.specs.Digraph.{Digraph, Reaches}
 use Rattle.ly_digraph.specs.Digraph.Reaches.{here, along}
-use Rattle.ly_digraph.specs.Least.{GrowsAlong, IsBetween, IsLeast}
+use Rattle.ly_digraph.specs.Least.{IsBetween, IsLeast}
+use Rattle.ly_digraph.proofs.LeastLemmas.{along_way}
 use Rattle.ly_lr0.specs.Automaton.{Automaton, goto_of}
 use Rattle.ly_relate.specs.Related.{AreEdges, AreRelated, AreRelations, Goto, Relations}
 use Rattle.ly_relate.specs.Relations.{DirectlyReads, Follow, Includes, Read, Reads, along_includes, along_reads}
 use Rattle.ly_relate.specs.Relations.{by_read}
 use Rattle.ly_relate.specs.Relations.{directly}
 use Rattle.ly_lookahead.specs.Private.Sets.{AreDirectSets, AreFollowSets}
-
--- a solution holds what the nodes hold that it reaches
-along_way : {g : Digraph} {sets : List NumberSet} {i j : ℕ} → GrowsAlong g sets → Reaches g i j → (t : ℕ)
-    → Member (row sets j) t → Member (row sets i) t
-along_way grows (here i) t m = m
-along_way grows (along i j k e way) t m = grows.grows i j t e (along_way grows way t m)
 
 -- what the least rows hold was in a row that they reach
 least_reached : {g : Digraph} {old new : List NumberSet} → IsLeast g old new → IsBetween g old new → (i t : ℕ)

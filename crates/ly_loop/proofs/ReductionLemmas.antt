@@ -16,9 +16,9 @@ use Rattle.ly_pack.specs.declared.action.TableAction as code
 use Rattle.ly_pack.specs.declared.action.TableAction.TheVariants.{Shift, Reduce, Accept, Error}
 use Rattle.ly_pack.specs.declared.cell.Cell.{Cell}
 use Rattle.ly_pack.proofs.OrderLemmas.{slice_get-push_cases}
+use Rattle.ly_pack.proofs.LegalLemmas.{legal_reduction}
 use Rattle.ly_loop.specs.Private.Entries.{AreEntries}
 use Rattle.ly_loop.specs.Private.Reductions.{AreReductions, AreSeen, IsIn, IsNoted}
-use Rattle.ly_loop.proofs.RunLemmas.{legal_reduction}
 
 in_push : (row : List RuleNo) (r : RuleNo) (n : ℕ) → IsIn row n → IsIn (row ++ r ∷ []) n
 in_push row r n is = (is.0, Contains-append_left row (r ∷ []) is.0 is.1, is.2)

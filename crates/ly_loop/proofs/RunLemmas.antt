@@ -9,8 +9,8 @@ use Rattle.std.proofs.lemmas.List.{take-append-drop, take_all, take_more}
 use Rattle.std.proofs.lemmas.Option.{get_or_from_slice_get, slice_get-get_or, slice_get_within}
 use Rattle.ly_base.specs.declared.numbers.StateNo.{StateNo}
 use Rattle.ly_base.specs.declared.numbers.RuleNo.{RuleNo}
-use Rattle.ly_pack.specs.Machine.{IsLegal, IsMachine, IsRuleNumber, IsTableRule, Machine, TableAction, TableRule}
-use Rattle.ly_pack.specs.Machine.{action_of, entry_at, goto_at, or_default, reduce, states_of}
+use Rattle.ly_pack.specs.Machine.{IsTableRule, Machine, TableAction, TableRule}
+use Rattle.ly_pack.specs.Machine.{action_of, goto_at, reduce, states_of}
 use Rattle.ly_pack.specs.Steady.{EndsWithin, ReducesTo, RunEnd, accepts, action_on, ends, go_to, move, perform, push}
 use Rattle.ly_pack.specs.Steady.{reads, reduce_by, refuses}
 use Rattle.ly_pack.specs.Values.{action_from}
@@ -77,20 +77,6 @@ reduce_to m p r xs left under o is e last goto =
     ap (reduce_by m (stack_of xs)) (rule_known m p r is)
     ∙ (ap (go_to m r.left) (sym (stack_take xs left r.body_length e) ∙ top)
     ∙ (ap (push (under.0 ∷ rest)) (sym goto) ∙ ap (λ w. push w o) (sym top)))
-
--- what is reduced by is a rule
-pub legal_reduction : (m : Machine) (s t p : ℕ) → IsMachine m → action_of m s t ≡ reduce p → IsRuleNumber m p
-legal_reduction m s t p ok e = by_entry (entry_at m s t) refl e
-  where
-    by_default : (d : Option (Option ℕ)) → slice_get m.defaults s ≡ d → or_default None d ≡ reduce p → IsRuleNumber m p
-    by_default None i e = absurd (cc)
-    by_default (Some None) i e = absurd (cc)
-    by_default (Some (Some q)) i e = let same : q ≡ p = cc in subst (IsRuleNumber m) same (ok.defaults s q i)
-
-    by_entry : (o : Option TableAction) → entry_at m s t ≡ o → or_default o (slice_get m.defaults s) ≡ reduce p
-        → IsRuleNumber m p
-    by_entry None i e = by_default (slice_get m.defaults s) refl e
-    by_entry (Some a) i e = subst (IsLegal m t) e (ok.actions s t a i)
 
 -- a move by what the state on top does
 pub move_by : (m : Machine) (t : ℕ) (xs : List StateNo) (top : StateNo) (a : TableAction)

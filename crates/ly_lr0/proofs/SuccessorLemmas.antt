@@ -107,7 +107,7 @@ kernel_kept kernels links kernel link kernels' links' n s (inr k) l = (
 )
 
 -- a symbol as it is kept
-kept_symbol : (X : Symbol) → (x : code.Symbol) × (symbol_of x ≡ X)
+pub kept_symbol : (X : Symbol) → (x : code.Symbol) × (symbol_of x ≡ X)
 kept_symbol (terminal t) = (Terminal (record { 0 = t }), refl)
 kept_symbol (nonterminal A) = (Nonterminal (record { 0 = A }), refl)
 

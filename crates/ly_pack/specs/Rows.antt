@@ -55,7 +55,7 @@ pub record AreCellsOf {E : Type 0} (entries : ℕ → Option E) (cells : List (C
   pub sound : (c : Cell E) → Contains cells c → entries c.column ≡ Some c.entry
   pub whole : (column : ℕ) (e : E) → entries column ≡ Some e → Contains cells (record { column = column; entry = e })
 
--- Those of each row, whose columns are below the width.
+-- For each row its entries with their columns, which are below the width.
 pub record AreAllCellsOf {E : Type 0} (entries : Entries E) (rows width : ℕ) (lists : List (Vec (Cell E))) : Type 0
   where
     pub count : length lists ≡ rows

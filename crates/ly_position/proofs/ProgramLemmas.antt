@@ -6,8 +6,9 @@ use Rattle.std.specs.Prelude.{slice_get}
 use Rattle.std.proofs.lemmas.Bool.{cases_eq, cases_lt}
 use Rattle.std.proofs.lemmas.List.{get_or_push, get_or_append_left}
 use Rattle.std.proofs.lemmas.List.Elements.{All-push, All-weaker}
-use Rattle.std.proofs.lemmas.Option.{get_or_from_slice_get, slice_get-get_or, slice_get_within}
+use Rattle.std.proofs.lemmas.Option.{slice_get_within}
 use Rattle.ly_base.proofs.ListLemmas.{slice_get-append, slice_get-behind}
+use Rattle.ly_base.proofs.BeforeLemmas.{slice_get-before}
 use Rattle.ly_ere.specs.Expression.{Expression}
 use Rattle.ly_position.specs.Private.Plain.{IsPlainPart}
 use Rattle.ly_position.specs.Private.Program.{Step, reads, fork, ends, size, entry, code, HasCode}
@@ -74,11 +75,6 @@ part_further : (n m : ℕ) (p : Option ℕ) → n ≤ m → IsPlainPart n p → 
 part_further n m None l h = h
 part_further n m (Some a) l h = omega (arith, h)
 
-get_front : {A : Type 0} (xs ys : List A) (p : ℕ) (x : A) → p < length xs → slice_get (xs ++ ys) p ≡ Some x
-    → slice_get xs p ≡ Some x
-get_front xs ys p x l e = slice_get-get_or xs p x l ∙ ap (λ y. Some y) (sym (get_or_append_left xs ys x p l)
-    ∙ get_or_from_slice_get (xs ++ ys) p x x e)
-
 -- one more rule
 module _ (rule : ℕ → Option Expression) (g : List Step) (entries : List (Option ℕ)) (n : ℕ) (e : Expression)
     (h : IsProgram rule n g entries) (is : rule n ≡ Some e) where
@@ -106,7 +102,7 @@ module _ (rule : ℕ → Option Expression) (g : List Step) (entries : List (Opt
   closed_more : StaysInside (g ++ more)
   closed_more p s at = elim (cases_lt p base) [
     | inl l ↦ leads_further base (length (g ++ more)) s (omega (arith, count_more))
-        (h.closed p s (get_front g more p s l at))
+        (h.closed p s (slice_get-before g more p s l at))
     | inr l ↦ elim (cases_eq base p) [
       | inl same ↦
           let one : ends n ≡ s = let a = at_base in let b : slice_get (g ++ more) base ≡ Some s

@@ -15,7 +15,7 @@ pub(crate) enum Verdict {
     Reduce,
     /// That neither is.
     Error,
-    /// Nothing.
+    /// Nothing, since the rule or the terminal has no precedence.
     Unsettled,
 }
 

@@ -29,7 +29,7 @@ impl Model for LoneBytes {
 }
 
 impl LoneBytes {
-    /// Those of a walk, by which of its rules are passed over. It fails where memory runs out.
+    /// The lone bytes of a walk, by which of its rules are passed over. It fails where memory runs out.
     pub fn find<S: Steps>(
         alloc: Global,
         steps: &S,

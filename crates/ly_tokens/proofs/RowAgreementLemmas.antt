@@ -43,11 +43,11 @@ pub row_walk-says : (A : Automaton) (c : ℕ) (line : Bool) (w : List ℕ)
 row_walk-says A c line w = ap (says (rows_of A)) (same_states A (start_of A c line) w)
 
 -- a walk has a rule where its state has one
-rule_said : (A : Automaton) (s : Option ℕ) (i : ℕ) → says (rows_of A) s ≡ Some (Some i) → rule_of A s ≡ Some i
+pub rule_said : (A : Automaton) (s : Option ℕ) (i : ℕ) → says (rows_of A) s ≡ Some (Some i) → rule_of A s ≡ Some i
 rule_said A None i e = absurd cc
 rule_said A (Some s) i e = cc
 
-said_rule : (A : Automaton) (s : Option ℕ) (i : ℕ) → rule_of A s ≡ Some i → says (rows_of A) s ≡ Some (Some i)
+pub said_rule : (A : Automaton) (s : Option ℕ) (i : ℕ) → rule_of A s ≡ Some i → says (rows_of A) s ≡ Some (Some i)
 said_rule A None i e = absurd cc
 said_rule A (Some s) i e = ap (λ o. Some o) e
 

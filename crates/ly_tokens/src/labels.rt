@@ -32,7 +32,7 @@ pub(crate) struct Labels<'a> {
 }
 
 impl<'a> Labels<'a> {
-    /// Those of the tokens that these actions return. It fails where memory runs out.
+    /// The labels of the tokens that these actions return. It fails where memory runs out.
     pub(crate) fn new(alloc: Global, actions: &'a [Action]) -> Result<Labels<'a>, OutOfMemory>
         ensures { IfOk result (λ l. l.actions.now ≡ actions.now) }
     {

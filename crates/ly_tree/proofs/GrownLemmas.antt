@@ -13,13 +13,10 @@ use Rattle.ly_tree.specs.Forest.{Grown, Keeps, Lists, StandsFor, StandForAll}
 use Rattle.ly_tree.specs.Private.Grown.{child_term, grown, lists_from, long_leaf, terms_from, AllKnown, AreKnown}
 use Rattle.ly_tree.specs.Term.{Term, Terms, built, leaf, more, nothing}
 use Rattle.ly_base.specs.declared.numbers.Sym.{Sym}
+use Rattle.ly_base.proofs.ListLemmas.{slice_get-behind}
 use Rattle.ly_tree.specs.declared.forest.TermRef.{TermRef}
 use Rattle.ly_tree.specs.declared.forest.TermRef.TheVariants.{LongLeaf, LongNode, Node, ShortLeaf}
 use Rattle.ly_tree.specs.declared.span.Span.{Span}
-
-slice_get_end : {A : Type 0} (xs : List A) (x : A) → slice_get (xs ++ x ∷ []) (length xs) ≡ Some x
-slice_get_end [] x = refl
-slice_get_end (y ∷ xs) x = slice_get_end xs x
 
 slice_get_inside : {A : Type 0} (xs : List A) (k : ℕ) → IsSome (slice_get xs k) → k < length xs
 slice_get_inside [] k h = absurd cc
@@ -270,7 +267,7 @@ long_stands texts long ls spans bs l high low e n =
     ap (λ i. slice_get (map long_leaf ls) i) n
     ∙ (ap (λ xs. slice_get (map long_leaf xs) (length long)) e
     ∙ (slice_get-map long_leaf (long ++ l ∷ []) (length long)
-    ∙ ap (option_map long_leaf) (slice_get_end long l)))
+    ∙ ap (option_map long_leaf) (slice_get-behind long [] (length long) l refl)))
 
 -- a node more
 pub node_known : (ls : Lists) (rs cs qs : List TermRef) (f : Grown) → AreKnown ls [] rs → grown ls rs ≡ f
@@ -349,7 +346,7 @@ module _ (texts : List ℕ) (long : List (Sym × List ℕ)) (spans longer : List
   long_node_stands high low ts start count number stand =
       let there : slice_get longer (number_of high low) ≡ Some s
       = ap (λ xs. slice_get xs (number_of high low)) last
-      ∙ (ap (slice_get (spans ++ s ∷ [])) number ∙ slice_get_end spans s) in
+      ∙ (ap (slice_get (spans ++ s ∷ [])) number ∙ slice_get-behind spans [] (length spans) s refl) in
       long_node_is texts long longer cs (grown (lists_from texts long longer) cs) high low s refl there
       ∙ span_keeps (stand_all_known f qs ts stand) (Node s.count s.rule.0 s.start) (built s.rule.0 ts)
       (node_stands before rs cs qs f s.count s.rule.0 s.start ts known view children start count stand)

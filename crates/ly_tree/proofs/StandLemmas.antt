@@ -1,6 +1,7 @@
 -- What references stand for, and that it stays.
 use Rattle.std.proofs.Common.{◌≡◌, ℕ, zero, suc, List, [], ◌∷◌, ◌++◌, get_or, arith, refl, ap, ◌∙◌}
 use Rattle.std.specs.Prelude.{slice_get, is_some, IsSome, None, Option, Some, option_map, unwrap_or}
+use Rattle.ly_base.proofs.ListLemmas.{slice_get-append}
 use Rattle.ly_tree.proofs.PieceLemmas.{piece-append}
 use Rattle.ly_tree.specs.Forest.{all_of, node_by, node_over, number_of, piece, term_of, terms_of, Grown, Keeps, Lists}
 use Rattle.ly_tree.specs.Forest.{StandsFor, StandForAll}
@@ -15,12 +16,6 @@ made-append : {A : Type 0} (make : List A → Term) (o p : Option (List A)) (t :
     → ((xs : List A) → o ≡ Some xs → p ≡ Some xs) → option_map make o ≡ Some t → option_map make p ≡ Some t
 made-append make None p t h e = cc
 made-append make (Some xs) p t h e = ap (option_map make) (h xs refl) ∙ e
-
-slice_get-append : {A : Type 0} (xs ys : List A) (k : ℕ) (x : A) → slice_get xs k ≡ Some x
-    → slice_get (xs ++ ys) k ≡ Some x
-slice_get-append [] ys k x e = cc
-slice_get-append (y ∷ xs) ys zero x e = e
-slice_get-append (y ∷ xs) ys (suc k) x e = slice_get-append xs ys k x e
 
 -- a node stays when more children come behind
 node_kept : (ts us : List Term) (n rule start : ℕ) (t : Term) → node_over ts n rule start ≡ Some t

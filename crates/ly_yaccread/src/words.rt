@@ -43,7 +43,7 @@ pub enum Mark {
 /// What stands at the front of a yacc file.
 #[derive(Clone, Copy)]
 pub(crate) enum NextWord<'t> {
-    /// Nothing.
+    /// The end of the file.
     End,
     /// A mark.
     Mark(Mark),

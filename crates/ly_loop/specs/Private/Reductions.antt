@@ -10,7 +10,7 @@ pub record AreReductions (m : Machine) (state : ℕ) (row : List RuleNo) : Type 
   pub rules : (r : RuleNo) → Contains row r → IsRuleNumber m r.0
   pub whole : (t p : ℕ) → action_of m state t ≡ reduce p → (r : RuleNo) × Contains row r × (r.0 ≡ p)
 
--- Those of all states.
+-- For each state the rules by which it reduces.
 pub record AreAllReductions (m : Machine) (rows : List (Vec RuleNo)) : Type 0 where
   pub count : length rows ≡ states_of m
   pub each : (state : ℕ) (row : Vec RuleNo) → slice_get rows state ≡ Some row → AreReductions m state row.items

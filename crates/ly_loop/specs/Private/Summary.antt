@@ -58,12 +58,12 @@ pub record IsSummary (m : Machine) (below top : ℕ) (o : Summary) : Type 0 wher
   pub allowed : IsAllowed m o
   pub runs : (t : ℕ) → t < m.terminals → ComesTo m t (top ∷ below ∷ []) o
 
--- Those do that begin with a reduction by a rule.
+-- The runs of an edge that begin with a reduction by a rule come to this.
 pub record IsSummaryBy (m : Machine) (below top rule : ℕ) (o : Summary) : Type 0 where
   pub allowed : IsAllowed m o
   pub runs : (t : ℕ) → t < m.terminals → action_of m top t ≡ reduce rule → ComesTo m t (top ∷ below ∷ []) o
 
--- Those do that begin with a reduction by some rules.
+-- The runs of an edge that begin with a reduction by one of some rules come to this.
 pub record IsSummaryByAll (m : Machine) (below top : ℕ) (rules : List RuleNo) (o : Summary) : Type 0 where
   pub allowed : IsAllowed m o
   pub runs : (t : ℕ) (r : RuleNo) → t < m.terminals → Contains rules r → action_of m top t ≡ reduce r.0

@@ -3,8 +3,9 @@ use Rattle.ly_pack.specs.Machine.{reduce}
 use Rattle.ly_pack.specs.Steady.{ReducesTo, here}
 use Rattle.ly_pack.specs.Values.{action_from}
 use Rattle.ly_pack.proofs.Runs.{one_more}
+use Rattle.ly_pack.proofs.LegalLemmas.{legal_reduction}
 use Rattle.ly_loop.specs.Private.Run.{IsReduced, stack_of}
-use Rattle.ly_loop.proofs.RunLemmas.{ended, ends_by, legal_reduction, move_by, passed}
+use Rattle.ly_loop.proofs.RunLemmas.{ended, ends_by, move_by, passed}
 use Rattle.ly_loop.proofs.run.ends_within.Goals as goal
 
 pub loop-made-init : goal.loop-made-init

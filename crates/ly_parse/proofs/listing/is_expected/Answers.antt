@@ -2,9 +2,10 @@ use Rattle.std.proofs.Common.{◌≡◌, ◌∙◌, ◌<◌, ◌+◌, ◌*◌, A
 use Rattle.ly_pack.proofs.Runs.{reductions_fall, runs_end}
 use Rattle.ly_pack.specs.Machine.{accept, error, reduce, shift, states_of}
 use Rattle.ly_pack.specs.Steady.{EndsWithin, goes_on, move, refuses, run_bound}
+use Rattle.ly_pack.proofs.LegalLemmas.{legal_reduction}
 use Rattle.ly_parse.specs.Private.Copied.{IsMade}
 use Rattle.ly_parse.specs.Expected.{IsExpected, onward, read}
-use Rattle.ly_parse.proofs.ExpectedRunLemmas.{accepting, behind, ended_fine, faulty, legal_reduction, move_by}
+use Rattle.ly_parse.proofs.ExpectedRunLemmas.{accepting, behind, ended_fine, faulty, move_by}
 use Rattle.ly_parse.proofs.listing.is_expected.Goals as goal
 
 pub loop-copied-init : goal.loop-copied-init

@@ -1,10 +1,11 @@
 use Rattle.std.proofs.Common.{◌≡◌, ◌++◌, ◌∷◌, [], Option, Some, None, true, subst, sym, ◌∙◌}
 use Rattle.std.specs.Option.{is_some}
+use Rattle.ly_base.proofs.ListLemmas.{slice_get-behind}
 use Rattle.ly_ere.proofs.PlaceLemmas.{none_some, some_one}
 use Rattle.ly_ere.specs.declared.definitions.Refusal.{Refusal}
 use Rattle.ly_ere.specs.declared.definitions.Texts.{Texts}
 use Rattle.ly_ere.specs.Private.Definitions.{IsTextRefusal}
-use Rattle.ly_ere.proofs.DefinitionLemmas.{last_is, read_none, refusals_later}
+use Rattle.ly_ere.proofs.DefinitionLemmas.{read_none, refusals_later}
 use Rattle.ly_ere.proofs.definitions.Texts.push_fault.Goals as goal
 
 pub returns-then-is_none : goal.returns-then-is_none
@@ -13,7 +14,8 @@ returns-then-is_none c known list d a none =
     let refusal : (r : Refusal) → Some new ≡ Some r → IsTextRefusal known (list ++ d ∷ []) r
     = λ r is. subst (IsTextRefusal known (list ++ d ∷ [])) (some_one is) (record {
       text = d;
-      is = last_is list d c.len-place.result (c.len-place.ensures ∙ (c.args.self.now.uses.ok.0 ∙ a.counted));
+      is = slice_get-behind list [] c.len-place.result d
+          (sym (c.len-place.ensures ∙ (c.args.self.now.uses.ok.0 ∙ a.counted)));
       none = none;
       memory = c.requires.memory;
       weight = c.requires.weight;
