@@ -5,7 +5,7 @@ use Rattle.std.specs.Fmt.{decimal}
 use Rattle.std.proofs.lemmas.Fmt.{length-decimal-le}
 use Rattle.ly_base.specs.Bytes.{double_quote, newline, single_quote, tab}
 use Rattle.ly_base.specs.Text.{escape_for, escaped, escaped_byte, is_plain, leaf_line, name_of, no_rule_line}
-use Rattle.ly_base.specs.Text.{Named, literal, token}
+use Rattle.ly_base.specs.Text.{Terminal, literal, token}
 use Rattle.ly_base.specs.Private.Room.{name_room}
 use Rattle.std.specs.Prelude.{nat_eq, nat_le, ◌&&◌, if◌then◌else◌, Bool}
 
@@ -34,7 +34,7 @@ escaped_len quote (b ∷ bs) = omega (
 )
 
 -- a name
-name_len : (n : Named) → length (name_of n) ≤ name_room n
+name_len : (n : Terminal) → length (name_of n) ≤ name_room n
 name_len (token name) = omega arith
 name_len (literal b) = omega (
   arith,
@@ -43,7 +43,7 @@ name_len (literal b) = omega (
 )
 
 -- a line of a leaf
-pub line_len : (n : Named) (text : List ℕ) → length (leaf_line n text) ≤ name_room n + 4 * length text + 3
+pub line_len : (n : Terminal) (text : List ℕ) → length (leaf_line n text) ≤ name_room n + 4 * length text + 3
 line_len n text =
     let quoted = escaped double_quote text ++ double_quote ∷ [] in
     omega (

@@ -9,7 +9,7 @@ use Rattle.std.proofs.lemmas.List.{flat_map_more, take_more}
 use Rattle.ly_base.specs.Bytes.{double_quote}
 use Rattle.ly_base.proofs.EscapeLemmas.{whole_slice}
 use Rattle.ly_base.specs.Text.{before_leaf, escape_for, escaped, escaped_byte, is_plain, leaf_of, name_of, quoted}
-use Rattle.ly_base.specs.Text.{Named}
+use Rattle.ly_base.specs.Text.{Terminal}
 
 -- a run with one more byte
 run_more : (bytes : List ℕ) (start at : ℕ) → start ≤ at → at < length bytes
@@ -57,7 +57,7 @@ escaped_within quote bytes at within =
     )
 
 -- a leaf's text behind what stands before it
-pub quoted_leaf : (n : Named) (text : List ℕ) → quoted (before_leaf n) text ≡ leaf_of n text
+pub quoted_leaf : (n : Terminal) (text : List ℕ) → quoted (before_leaf n) text ≡ leaf_of n text
 quoted_leaf n text = append_assoc (name_of n) (double_quote ∷ []) (escaped double_quote text ++ double_quote ∷ [])
 
 module _ (quote : ℕ) (bytes before out : List ℕ) (start at : ℕ) (behind : start ≤ at) (within : at < length bytes)

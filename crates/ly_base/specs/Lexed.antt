@@ -43,9 +43,9 @@ Lexed Is Ends next p [] e = Ends p e
 Lexed Is Ends next p (t ∷ ts) e = Is p t × Lexed Is Ends next (place_after next p t) ts e
 
 -- a beginning of a run: from p these lexemes lead to q
-abbrev pub Leads : (Place → Lexeme → Type 0) → (ℕ → Option ℕ) → Place → List Lexeme → Place → Type 0
-Leads Is next p [] q = q ≡ p
-Leads Is next p (t ∷ ts) q = Is p t × Leads Is next (place_after next p t) ts q
+abbrev pub LexedTo : (Place → Lexeme → Type 0) → (ℕ → Option ℕ) → Place → List Lexeme → Place → Type 0
+LexedTo Is next p [] q = q ≡ p
+LexedTo Is next p (t ∷ ts) q = Is p t × LexedTo Is next (place_after next p t) ts q
 
 -- A token: its terminal, where it stands in the text, and its bytes.
 pub record Token (T : Type 0) : Type 0 where

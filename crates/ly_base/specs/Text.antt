@@ -4,7 +4,7 @@ use Rattle.std.specs.Prelude.{if◌then◌else◌}
 use Rattle.std.specs.Fmt.{decimal, digit_glyph}
 use Rattle.std.specs.List.{flat_map}
 use Rattle.ly_base.specs.Bytes.{backslash, double_quote, newline, single_quote, tab}
-use Rattle.ly_base.specs.declared.text.Terminal.{Terminal}
+use Rattle.ly_base.specs.declared.text.Terminal as code
 use Rattle.ly_base.specs.declared.text.Terminal.TheVariants.{Token, Literal}
 
 -- bytes 32 to 126 stand for themselves, but not `\` and the quote in use
@@ -28,21 +28,21 @@ abbrev pub escaped : ℕ → List ℕ → List ℕ
 escaped quote bytes = flat_map (escaped_byte quote) bytes
 
 -- a terminal as it is printed: a token by its name, or a literal by its byte
-pub data Named : Type 0 where
-  token : List ℕ → Named
-  literal : ℕ → Named
+pub data Terminal : Type 0 where
+  token : List ℕ → Terminal
+  literal : ℕ → Terminal
 
-abbrev pub named : Terminal → Named
+abbrev pub named : code.Terminal → Terminal
 named (Token name) = token name.now
 named (Literal b) = literal b
 
 -- a terminal's printed name: a token's as it is, a literal's byte in single quotes
-abbrev pub name_of : Named → List ℕ
+abbrev pub name_of : Terminal → List ℕ
 name_of (token name) = name
 name_of (literal b) = single_quote ∷ (escaped_byte single_quote b ++ single_quote ∷ [])
 
 -- what stands before a leaf's text: the terminal's name and a double quote
-abbrev pub before_leaf : Named → List ℕ
+abbrev pub before_leaf : Terminal → List ℕ
 before_leaf terminal = name_of terminal ++ double_quote ∷ []
 
 -- a text behind a label, as it stands between double quotes, with the quote that closes it
@@ -54,11 +54,11 @@ abbrev pub quoted_line : List ℕ → List ℕ → List ℕ
 quoted_line label text = quoted label text ++ newline ∷ []
 
 -- a leaf: the terminal's name, then the text in double quotes
-abbrev pub leaf_of : Named → List ℕ → List ℕ
+abbrev pub leaf_of : Terminal → List ℕ → List ℕ
 leaf_of terminal text = name_of terminal ++ double_quote ∷ (escaped double_quote text ++ double_quote ∷ [])
 
 -- a line of a leaf alone
-abbrev pub leaf_line : Named → List ℕ → List ℕ
+abbrev pub leaf_line : Terminal → List ℕ → List ℕ
 leaf_line terminal text = leaf_of terminal text ++ newline ∷ []
 
 -- the line that says where no rule matches

@@ -20,9 +20,9 @@ pub struct Place<'t> {
 }
 
 impl<'t> Model for Place<'t> {
-    ghost use Rattle.ly_base.specs.Lexed.{Place as Spot};
+    ghost use Rattle.ly_base.specs.Lexed as lexed;
 
-    ghost Value = { Spot };
+    ghost Value = { lexed.Place };
 
     ghost use Rattle.ly_base.specs.Place.{spot_of, EndsText};
 

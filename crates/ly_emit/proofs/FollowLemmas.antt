@@ -22,7 +22,7 @@ use Rattle.ly_pack.specs.Machine as table
 use Rattle.ly_pack.specs.Steady.{rule_at}
 use Rattle.ly_parse.specs.Feeding.{Fed, Feeds, Level, done, faulty, go_to, goes_on, onward, perform, pop, pushed}
 use Rattle.ly_parse.specs.Feeding.{reduce_by, refused, settled, settles, top_of, turn, uncover}
-use Rattle.ly_resolve.specs.Actions.{Action, IsAction, IsDone, IsRaw, IsRefused, Verdict, error, reduce, shift}
+use Rattle.ly_resolve.specs.Actions.{Action, IsAction, IsDone, IsRaw, IsTerminalRefused, Verdict, error, reduce, shift}
 use Rattle.ly_resolve.specs.Laws.{Reduces}
 use Rattle.ly_resolve.specs.Laws as default
 use Rattle.ly_resolve.specs.Machine.{Configuration, Leads, Moves, Pushed, symbols_of, trees_onto}
@@ -230,8 +230,8 @@ module _ (s : Spec) (M : Automaton) (m n : Machine) (is : IsAutomaton M) (useful
           (IsRaw M.grammar (symbols_of stack) token.terminal) (λ p. judge_of s p token.terminal)
           (raw_too merges token.terminal) (raw_too (merges_back merges) token.terminal) a taken
 
-      refused_here : IsRefused M.grammar (prefix_of M (top_of levels)) token.terminal
-          → IsRefused M.grammar (symbols_of stack) token.terminal
+      refused_here : IsTerminalRefused M.grammar (prefix_of M (top_of levels)) token.terminal
+          → IsTerminalRefused M.grammar (symbols_of stack) token.terminal
       refused_here nothing a raw = nothing a (raw_too (merges_back merges) token.terminal a raw)
 
       -- an entry is taken, also where the default stands for it
@@ -392,7 +392,7 @@ module _ (s : Spec) (M : Automaton) (m n : Machine) (is : IsAutomaton M) (useful
         ]
 
     strays_from : {stack : List Pushed} {levels : List Level} (mirrors : Mirrors M (shape_in s) stack levels)
-        → IsRefused M.grammar (symbols_of stack) token.terminal → (r : Reduced mirrors)
+        → IsTerminalRefused M.grammar (symbols_of stack) token.terminal → (r : Reduced mirrors)
         → Strays (record {
           symbol = nonterminal r.made.rule.left;
           tree = node r.number (trees_onto r.made.popped none);
@@ -414,7 +414,8 @@ module _ (s : Spec) (M : Automaton) (m n : Machine) (is : IsAutomaton M) (useful
 
     -- a token before which nothing is asked for is refused
     refused_first : {levels : List Level} {out : Fed} → Feeds n token levels out → (stack : List Pushed)
-        → Mirrors M (shape_in s) stack levels → IsRefused M.grammar (symbols_of stack) token.terminal → out ≡ refused
+        → Mirrors M (shape_in s) stack levels → IsTerminalRefused M.grammar (symbols_of stack) token.terminal → out
+        ≡ refused
     refused_first (settled {out = out} e) stack mirrors nothing = elim (without_shift mirrors (nothing shift)) [
       | inl r ↦ let same : settles out ≡ settles refused = sym e ∙ r in cc
       | inr r ↦ absurd (let off : settles out ≡ goes_on r.made.next = sym e ∙ r.turns in cc)
@@ -456,7 +457,7 @@ module _ (s : Spec) (M : Automaton) (m n : Machine) (is : IsAutomaton M) (useful
               } ∷ r.made.below;
               rest = token ∷ behind;
             }) → Step mirrors
-        as_refused : IsRefused M.grammar (symbols_of stack) token.terminal → Step mirrors
+        as_refused : IsTerminalRefused M.grammar (symbols_of stack) token.terminal → Step mirrors
 
       -- what is on top of a stack of one symbol
       record Topped (stack : List Pushed) (levels : List Level) : Type 0 where

@@ -15,7 +15,8 @@ use Rattle.ly_lr0.proofs.OneLemmas.{automaton_is_one}
 use Rattle.ly_relate.proofs.WalkLemmas.{leads_to}
 use Rattle.ly_loop.proofs.TargetLemmas.{shift_entry}
 use Rattle.ly_pack.specs.Defaults.{HasDefaultsOf, IsDefaultOf, count_by, is_by, without}
-use Rattle.ly_pack.specs.Machine.{IsWithin, Machine, TableAction, TableRule, action_of, entry_at, goto_at, or_default}
+use Rattle.ly_pack.specs.Machine.{AreEntriesWithin, Machine, TableAction, TableRule, action_of, entry_at, goto_at}
+use Rattle.ly_pack.specs.Machine.{or_default}
 use Rattle.ly_pack.specs.Machine.{states_of}
 use Rattle.ly_pack.specs.Machine as table
 use Rattle.ly_pack.specs.Rows.{cell}
@@ -220,7 +221,7 @@ module _ (s : Spec) (M : Automaton) (is : IsAutomaton M) (useful : KeepsUseful s
         to : top < length M.states
         edge : IsTableEdge m below top
 
-      edge_too : IsWithin n → (below top : ℕ) → IsTableEdge n below top → IsEdgeToo below top
+      edge_too : AreEntriesWithin n → (below top : ℕ) → IsTableEdge n below top → IsEdgeToo below top
       edge_too within below top (by_shift t e) =
           let entry = shift_entry n below t top e in
           let inside = within.actions below t (table.shift top) entry in
@@ -244,7 +245,7 @@ module _ (s : Spec) (M : Automaton) (is : IsAutomaton M) (useful : KeepsUseful s
             edge = by_goto left (goto_left a one m has below left from low ∙ sym goes ∙ e);
           }
 
-      pub steady_too : IsWithin n → IsSteady m → IsSteady n
+      pub steady_too : AreEntriesWithin n → IsSteady m → IsSteady n
       steady_too within calm below top t known edge =
           let x = edge_too within below top edge in
           let same : m.terminals ≡ n.terminals

@@ -16,7 +16,7 @@ use Rattle.ly_base.proofs.ListLemmas.{All-at}
 use Rattle.ly_ere.specs.declared.pattern.Rule.{Rule}
 use Rattle.ly_join.specs.Joined.{Spec}
 use Rattle.ly_join.specs.Sizes.{HasSizes}
-use Rattle.ly_join.specs.Terminals.{IsOfByte, Terminal, byte, end, undefined}
+use Rattle.ly_join.specs.Terminals.{IsOfByte, TerminalName, byte, end, undefined}
 use Rattle.ly_lr0.specs.Automaton as parser
 use Rattle.ly_pack.specs.Combs.{IsFirstFit}
 use Rattle.ly_pack.specs.Machine.{IsMachine, IsRuleWithin}
@@ -40,13 +40,13 @@ mapped_at : {X Y : Type 0} (f : X → Y) (xs : List X) (ys : List Y) (k : ℕ) (
 mapped_at f xs ys k x same at = ap (λ l. slice_get l k) (sym same) ∙ slice_get-map f xs k ∙ ap (option_map f) at
 
 -- a terminal that isn't the end has a number above 0
-pub past_end : (ts : List Terminal) (t : ℕ) (x : Terminal) → slice_get ts 0 ≡ Some end → slice_get ts t ≡ Some x
+pub past_end : (ts : List TerminalName) (t : ℕ) (x : TerminalName) → slice_get ts 0 ≡ Some end → slice_get ts t ≡ Some x
     → (end ≡ x → ⊥) → 1 ≤ t
 past_end ts zero x first at other = absurd (other (same_Some end x (sym first ∙ at)))
 past_end ts (suc t) x first at other = omega arith
 
 -- the terminal of a byte is there, and not the end
-pub literal_within : (ts : List Terminal) (b t : ℕ) → slice_get ts 0 ≡ Some end → slice_get ts 1 ≡ Some undefined
+pub literal_within : (ts : List TerminalName) (b t : ℕ) → slice_get ts 0 ≡ Some end → slice_get ts 1 ≡ Some undefined
     → IsOfByte ts b t → (1 ≤ t) × (t < length ts)
 literal_within ts b t first second (inl there)
     = (past_end ts t (byte b) first there (λ e. absurd cc), slice_get_within ts t (byte b) there)

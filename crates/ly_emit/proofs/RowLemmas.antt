@@ -22,8 +22,8 @@ use Rattle.ly_pack.specs.declared.rule.TableRule as rule
 use Rattle.ly_resolve.proofs.RawLemmas.{raw_within}
 use Rattle.ly_resolve.specs.Actions.{Action, IsAction, IsRaw, Judge, error, reduce, shift}
 use Rattle.ly_resolve.specs.Resolved.{IsRow}
-use Rattle.ly_resolve.specs.Values.{action_from, entry_from}
-use Rattle.ly_resolve.specs.declared.action.Entry as entry
+use Rattle.ly_resolve.specs.Values.{action_from, terminal_action_from}
+use Rattle.ly_resolve.specs.declared.action.TerminalAction as entry
 use Rattle.ly_emit.specs.Private.Filling.{AreRulesTo}
 use Rattle.ly_emit.specs.Tables.{shape_from, shape_in}
 
@@ -88,16 +88,17 @@ pub done_within : (G : Grammar) (judge : Judge) (g : List Symbol) (t : ℕ) (a :
 done_within G judge g t a augmented taken =
     let raw = asked_for G judge g t a taken in raw_within G augmented g t raw.0 raw.1
 
-module _ (row : List entry.Entry) (i : ℕ) (d : entry.Entry) (lt : i < length row) where
+module _ (row : List entry.TerminalAction) (i : ℕ) (d : entry.TerminalAction) (lt : i < length row) where
   -- the entry of a place
-  pub entry_there : slice_get (map entry_from row) i ≡ Some (entry_from (slice_index_or row i d))
-  entry_there = slice_get-map entry_from row i ∙ ap (option_map entry_from) (slice_get-get_or row i d lt)
+  pub entry_there : slice_get (map terminal_action_from row) i ≡ Some (terminal_action_from (slice_index_or row i d))
+  entry_there = slice_get-map terminal_action_from row i
+      ∙ ap (option_map terminal_action_from) (slice_get-get_or row i d lt)
 
   -- is what is done
-  pub done_there : (G : Grammar) (judge : Judge) (g : List Symbol) → IsRow G judge g (map entry_from row)
+  pub done_there : (G : Grammar) (judge : Judge) (g : List Symbol) → IsRow G judge g (map terminal_action_from row)
       → IsAction G judge g (slice_index_or row i d).terminal.0 (action_from (slice_index_or row i d).action)
-  done_there G judge g is = (is.are (entry_from (slice_index_or row i d))).0
-      (member_at (map entry_from row) i (entry_from (slice_index_or row i d)) entry_there)
+  done_there G judge g is = (is.are (terminal_action_from (slice_index_or row i d))).0
+      (member_at (map terminal_action_from row) i (terminal_action_from (slice_index_or row i d)) entry_there)
 
 -- RULES
 

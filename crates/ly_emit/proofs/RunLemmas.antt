@@ -12,7 +12,7 @@ use Rattle.ly_resolve.specs.Machine as machine
 use Rattle.ly_resolve.specs.Precedence.{judge_of}
 use Rattle.ly_resolve.proofs.AcceptLemmas.{Leads-append}
 use Rattle.ly_emit.specs.Following.{Mirrors, bottom}
-use Rattle.ly_parse.specs.Reading.{Reads, at_end, onward}
+use Rattle.ly_parse.specs.Reading.{ReadsTokens, at_end, onward}
 use Rattle.ly_emit.specs.Laws.{AcceptedFollow, AreOf, RefusedFollow}
 use Rattle.ly_emit.specs.Tables.{IsMachineOf, shape_in}
 use Rattle.ly_emit.proofs.FollowLemmas.{tables_follow}
@@ -20,7 +20,7 @@ use Rattle.ly_emit.proofs.FollowLemmas.{tables_follow}
 module _ (s : Spec) (M : Automaton) (n : Machine) (is : IsAutomaton M) (useful : KeepsUseful s.grammar M.grammar)
     (of : IsMachineOf s M n) where
   -- tokens that are read, whatever stands behind them
-  pub reads_follow : {levels last : List Level} {tokens : List (Token ℕ)} → Reads n levels tokens last
+  pub reads_follow : {levels last : List Level} {tokens : List (Token ℕ)} → ReadsTokens n levels tokens last
       → (stack : List Pushed) (behind : List (Token ℕ)) → AreOf M tokens → Mirrors M (shape_in s) stack levels
       → (next : List Pushed)
       × Leads M.grammar (judge_of s) (record { stack = stack; rest = tokens ++ behind })

@@ -7,13 +7,13 @@ use Rattle.ly_join.specs.Joined.{Joined, Spec}
 use Rattle.ly_join.specs.Scanning.{Scanning}
 use Rattle.ly_loop.specs.Endless.{IsFirstEndless}
 use Rattle.ly_lr0.specs.Automaton.{Automaton, IsAutomaton}
-use Rattle.ly_pack.specs.Machine.{Machine, IsMachine, IsWithin, entry_at, goto_at, states_of}
+use Rattle.ly_pack.specs.Machine.{Machine, IsMachine, AreEntriesWithin, entry_at, goto_at, states_of}
 use Rattle.ly_pack.specs.Steady.{IsSteady, rule_at}
 use Rattle.ly_pack.specs.SteadyLaws.{IsStack}
 use Rattle.ly_base.specs.Trees.{Tree}
 use Rattle.ly_parse.specs.Expected.{AreExpected}
 use Rattle.ly_parse.specs.Feeding.{Fed, Feeds, Level, done, refused, states_on}
-use Rattle.ly_parse.specs.Reading.{Reads}
+use Rattle.ly_parse.specs.Reading.{ReadsTokens}
 use Rattle.ly_resolve.specs.Machine.{AcceptsWith, Ends, Next, Pushed, RefusesAfter}
 use Rattle.ly_resolve.specs.Precedence.{judge_of}
 use Rattle.ly_tree.specs.Term.{Term, build}
@@ -39,14 +39,14 @@ AreOf M tokens = All (λ t. t.terminal < M.grammar.terminals) tokens
 abbrev pub AcceptedFollow : Type 0
 AcceptedFollow = (s : Spec) (M : Automaton) (n : Machine) → IsAutomaton M → KeepsUseful s.grammar M.grammar
     → IsMachineOf s M n → (tokens : List (Token ℕ)) (end : Token ℕ) (last : List Level) (term : Term)
-    → AreOf M (tokens ++ end ∷ []) → Reads n [] tokens last → Feeds n end last (done term)
+    → AreOf M (tokens ++ end ∷ []) → ReadsTokens n [] tokens last → Feeds n end last (done term)
     → (d : Tree) × AcceptsWith M.grammar (judge_of s) (tokens ++ end ∷ []) d × (term ≡ build (shape_in s) d)
 
 -- Where tables read some tokens and refuse the next, so does the reference machine, whatever stands behind it.
 abbrev pub RefusedFollow : Type 0
 RefusedFollow = (s : Spec) (M : Automaton) (n : Machine) → IsAutomaton M → KeepsUseful s.grammar M.grammar
     → IsMachineOf s M n → (before behind : List (Token ℕ)) (t : Token ℕ) (last : List Level)
-    → AreOf M (before ++ t ∷ []) → Reads n [] before last → Feeds n t last refused
+    → AreOf M (before ++ t ∷ []) → ReadsTokens n [] before last → Feeds n t last refused
     → RefusesAfter M.grammar (judge_of s) (before ++ t ∷ behind) before
 
 -- On steady tables each run of the reference machine on tokens with the end behind them ends.
@@ -89,10 +89,10 @@ TablesAreOne = (s : Spec) (M N : Automaton) (m n : Machine) → IsAutomaton M �
 abbrev pub SteadyTogether : Type 0
 SteadyTogether = (s : Spec) (M N : Automaton) (m n : Machine) → IsAutomaton M → IsAutomaton N
     → KeepsUseful s.grammar M.grammar → KeepsUseful s.grammar N.grammar → IsMachineOf s M m → IsMachineOf s N n
-    → IsWithin n → IsSteady m → IsSteady n
+    → AreEntriesWithin n → IsSteady m → IsSteady n
 
 -- A run of a specification's tables that is too long excludes that any tables of it are steady.
 abbrev pub EndlessExcludesSteady : Type 0
 EndlessExcludesSteady = (s : Spec) (M N : Automaton) (m n : Machine) → IsAutomaton M → IsAutomaton N
     → KeepsUseful s.grammar M.grammar → KeepsUseful s.grammar N.grammar → IsMachineOf s M m → IsMachineOf s N n
-    → IsWithin n → IsSteady m → (below top token : ℕ) → IsFirstEndless n below top token → ⊥
+    → AreEntriesWithin n → IsSteady m → (below top token : ℕ) → IsFirstEndless n below top token → ⊥

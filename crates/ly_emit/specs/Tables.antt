@@ -9,7 +9,7 @@ use Rattle.ly_pack.specs.Machine.{Machine, TableAction, IsShapeFor, accept, entr
 use Rattle.ly_pack.specs.Machine.{states_of}
 use Rattle.ly_pack.specs.Machine as table
 use Rattle.ly_pack.specs.Steady.{rule_at}
-use Rattle.ly_resolve.specs.Actions.{Action, IsAction, IsRefused, error, reduce, shift}
+use Rattle.ly_resolve.specs.Actions.{Action, IsAction, IsTerminalRefused, error, reduce, shift}
 use Rattle.ly_resolve.specs.Precedence.{judge_of}
 
 -- The entry of a state before a terminal has this done: a shift goes where the state's transition leads, and before the
@@ -46,7 +46,7 @@ pub record AreTables (s : Spec) (M : Automaton) (m : Machine) : Type 0 where
   pub some : (k t : ℕ) (a : TableAction) → k < length M.states → entry_at m k t ≡ Some a
       → (b : Action) × IsAction M.grammar (judge_of s) (prefix_of M k) t b × IsEntryFor M k t b a
   pub none : (k t : ℕ) → k < length M.states → t < M.grammar.terminals → entry_at m k t ≡ None
-      → IsRefused M.grammar (prefix_of M k) t
+      → IsTerminalRefused M.grammar (prefix_of M k) t
   pub gotos : (k A : ℕ) → k < length M.states → A < M.grammar.accept
       → goto_at m k A ≡ goto_of M k (nonterminal A)
   pub rules : (p : ℕ) (r : Rule) → 1 ≤ p → IsRule s.grammar p r

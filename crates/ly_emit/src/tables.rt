@@ -7,7 +7,7 @@ ghost use Rattle.ly_pack.specs.Values.{action_from as entry_action, rule_from};
 ghost use Rattle.ly_resolve.specs.Actions.{shift, IsRaw};
 ghost use Rattle.ly_resolve.specs.Precedence.{judge_of};
 ghost use Rattle.ly_resolve.specs.Resolved.{IsRow};
-ghost use Rattle.ly_resolve.specs.Values.{action_from, entry_from};
+ghost use Rattle.ly_resolve.specs.Values.{action_from, terminal_action_from};
 ghost use Rattle.ly_emit.specs.Private.Filling.{AreActionsTo, AreGotosTo, AreRulesTo};
 ghost use Rattle.ly_emit.specs.Tables.{AreShapesWithin, AreTables, IsEntryFor};
 
@@ -15,7 +15,7 @@ use ly_base::{OutOfMemory, RuleNo, StateNo, Sym};
 use ly_join::{Spec, Symbol};
 use ly_lr0::Lr0;
 use ly_pack::{Dense, Machine, MachineParts, TableAction, TableRule};
-use ly_resolve::{Action, Entry, Resolved};
+use ly_resolve::{Action, Resolved, TerminalAction};
 use std::alloc::Global;
 
 /// The tables of what a parser does in each state, without defaults.
@@ -72,13 +72,13 @@ fn action_rows(alloc: Global, resolved: &Resolved<'_>) -> Result<Dense<TableActi
 fn fill_actions(
     resolved: &Resolved<'_>,
     state: StateNo,
-    row: &[Entry],
+    row: &[TerminalAction],
     actions: &mut Dense<TableAction>,
 ) -> Result<(), OutOfMemory>
     requires lawful { IsAutomaton resolved.now.automaton }
     requires state { state.0 < length resolved.now.automaton.states }
     requires row { IsRow resolved.now.automaton.grammar (judge_of resolved.now.spec)
-        (prefix_of resolved.now.automaton state.0) (map entry_from row.now) }
+        (prefix_of resolved.now.automaton state.0) (map terminal_action_from row.now) }
     requires rows { actions.old.rows ≡ length resolved.now.automaton.states }
     requires width { actions.old.width ≡ resolved.now.automaton.grammar.terminals }
     requires before { AreActionsTo resolved.now.automaton (judge_of resolved.now.spec) state.0
@@ -96,7 +96,11 @@ fn fill_actions(
 }
 
 /// What the table has where this is done.
-fn table_action(lr0: &Lr0<'_>, state: StateNo, entry: Entry) -> Result<TableAction, OutOfMemory>
+fn table_action(
+    lr0: &Lr0<'_>,
+    state: StateNo,
+    entry: TerminalAction,
+) -> Result<TableAction, OutOfMemory>
     requires lawful { IsAutomaton lr0.now }
     requires state { state.0 < length lr0.now.states }
     requires shifted { action_from entry.action ≡ shift

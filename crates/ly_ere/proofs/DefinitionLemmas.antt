@@ -33,7 +33,7 @@ use Rattle.ly_ere.specs.Private.Turns.{AreInTurn, AreThere, IsLastTurn, HasAllTa
 use Rattle.ly_ere.specs.Private.Turns.{uses_at}
 use Rattle.ly_ere.specs.Private.Uses.{number_for, renumbered, uses_of}
 use Rattle.ly_ere.specs.Weight.{named_weight, weight_of}
-use Rattle.ly_ere.specs.declared.definitions.Texts.{Texts}
+use Rattle.ly_ere.specs.declared.definitions.DefinitionTexts.{DefinitionTexts}
 use Rattle.ly_ere.specs.declared.fault.EreFault.{EreFault}
 use Rattle.ly_ere.specs.declared.fault.EreFault.TheVariants.{NameCycle, OutOfMemory, TooHeavy}
 use Rattle.ly_ere.proofs.NumberedLemmas.{alternation_found}
@@ -94,7 +94,8 @@ last_cases list d n c is = by (cases_lt n (length list))
               ∙ at),
         )
 
-module _ (known : List Definition) (list : List DefinedText) (d : DefinedText) (t u : Texts) (a : AreRead known list t)
+module _ (known : List Definition) (list : List DefinedText) (d : DefinedText) (t u : DefinitionTexts)
+    (a : AreRead known list t)
     (v : Vec ℕ Global) (uses : u.uses.items ≡ t.uses.items ++ v ∷ []) where
   long : length (text_uses t) ≡ length list
   long = length-map t.uses.items (λ (v : Vec ℕ Global). v.items) ∙ a.counted
@@ -335,7 +336,7 @@ turn_at uses order (in_turn before n turns less apart ready first) i l
         (subst (Turn before) (sym (ap (λ k. get_or (before ++ n ∷ []) k 0) last ∙ get_or-append_seam before n [] 0))
         (less, apart, ready, first))
 
-module _ (list : List DefinedText) (distinct : AreDistinct list) (t : Texts) (a : AreRead
+module _ (list : List DefinedText) (distinct : AreDistinct list) (t : DefinitionTexts) (a : AreRead
     (known_names list) list t) where
   -- what an expression of a text uses stands in the list
   used_there : (n y : ℕ) → Contains (uses_at (text_uses t) n) y → (d : DefinedText) × (slice_get list y ≡ Some d)
@@ -569,7 +570,7 @@ placing_none list numbers long = record {
   only = λ n d is some. absurd (some refl);
 }
 
-module _ (codes : List NamedText) (distinct : AreDistinct (named_texts codes)) (t : Texts)
+module _ (codes : List NamedText) (distinct : AreDistinct (named_texts codes)) (t : DefinitionTexts)
     (a : AreRead (known_names (named_texts codes)) (named_texts codes) t) (whole : t.refusal ≡ None) (order : List ℕ)
     (turns : AreInTurn (text_uses t) order) (i : ℕ) (l : i < length order) where
   -- the thing in turn is a text
@@ -651,7 +652,7 @@ refused_heavy most list order names numbers n d e fault p step only heavy spelle
 }
 
 -- texts that are read have elements
-pub read_spelled : (known : List Definition) (list : List DefinedText) (t : Texts) → AreRead known list t
+pub read_spelled : (known : List Definition) (list : List DefinedText) (t : DefinitionTexts) → AreRead known list t
     → t.refusal ≡ None → AreSpelled list
 read_spelled known list t a whole n d is = let e = a.expressions whole n d is in (e.0, e.1)
 
@@ -718,7 +719,7 @@ module _ (most : ℕ) (list : List DefinedText) (distinct : AreDistinct list) wh
           in absurd (is.none read.0 read.1)
 
   -- one that leads into a cycle
-  pub refused_cycle : (t : Texts) → AreRead (known_names list) list t → (order : List ℕ) → IsLastTurn
+  pub refused_cycle : (t : DefinitionTexts) → AreRead (known_names list) list t → (order : List ℕ) → IsLastTurn
       (text_uses t) order
       → (n : ℕ) → n < length list → (Contains order n → ⊥) → AreRefused most list n NameCycle
   refused_cycle t a order last n l apart = record {
@@ -757,7 +758,8 @@ module _ (most : ℕ) (list : List DefinedText) (distinct : AreDistinct list) wh
           (λ i d lt. absurd (omega (arith, lt, ap length none))))
 
 -- what is used is there
-pub uses_there : (list : List DefinedText) (t : Texts) → AreRead (known_names list) list t → AreThere (text_uses t)
+pub uses_there : (list : List DefinedText) (t : DefinitionTexts) → AreRead (known_names list) list t
+    → AreThere (text_uses t)
 uses_there list t a n i d l = omega (
   arith,
   a.there n i d l,

@@ -5,7 +5,7 @@ use Rattle.std.proofs.Common.{refl, sym, ap, ◌∙◌, arith, inl, inr, length-
 use Rattle.std.specs.Prelude.{Contains, max, min}
 use Rattle.std.proofs.lemmas.Bool.{cases_lt}
 use Rattle.ly_base.proofs.MemberLemmas.{Contains-first}
-use Rattle.ly_ere.specs.Expression.{IsAtMost, Joined}
+use Rattle.ly_ere.specs.Expression.{IsAtMost, Concatenated}
 use Rattle.ly_ere.specs.Lengths.{AreLengthsUpTo}
 use Rattle.ly_ere.specs.Weight.{repeated_weight}
 use Rattle.ly_ere.specs.declared.length.Lengths.{Lengths}
@@ -19,7 +19,7 @@ copies_length : (k : ℕ) (s : List ℕ) → length (copies k s) ≡ k * length 
 copies_length zero s = omega arith
 copies_length (suc k) s = omega (arith, copies_length k s, length-append s (copies k s))
 
-pub copies_joined : (L : List ℕ → Type 0) (k : ℕ) (s : List ℕ) → L s → Joined L k (copies k s)
+pub copies_joined : (L : List ℕ → Type 0) (k : ℕ) (s : List ℕ) → L s → Concatenated L k (copies k s)
 copies_joined L zero s h = refl
 copies_joined L (suc k) s h = (s, copies k s, refl, h, copies_joined L k s h)
 
@@ -146,7 +146,7 @@ module _ (c : ℕ) where
       not_above = λ u h. elim h [ inl k ↦ omega (arith, ap length k) | inr k ↦ a.not_above u k ];
     }
 
-    joined_least : (k : ℕ) (u : List ℕ) → Joined L k u → min (k * l.least) c ≤ min (length u) c
+    joined_least : (k : ℕ) (u : List ℕ) → Concatenated L k u → min (k * l.least) c ≤ min (length u) c
     joined_least zero u h = omega arith
     joined_least (suc k) u h = omega (
       arith,
@@ -156,7 +156,7 @@ module _ (c : ℕ) where
       joined_least k h.1 h.4,
     )
 
-    joined_most : (k : ℕ) (u : List ℕ) → Joined L k u → min (length u) c ≤ min (k * l.most) c
+    joined_most : (k : ℕ) (u : List ℕ) → Concatenated L k u → min (length u) c ≤ min (k * l.most) c
     joined_most zero u h = omega (arith, ap length h)
     joined_most (suc k) u h = omega (
       arith,
@@ -174,7 +174,7 @@ module _ (c : ℕ) where
         (bounded : (k : ℕ) → n ≡ Some k → most ≡ min (k * l.most) c)
         (unbounded : n ≡ None → 0 < l.most → most ≡ c) where
       abbrev pub Repeated : List ℕ → Type 0
-      Repeated x = (k : ℕ) × (m ≤ k) × IsAtMost k n × Joined L k x
+      Repeated x = (k : ℕ) × (m ≤ k) × IsAtMost k n × Concatenated L k x
 
       -- a longest one
       longest : IsAtMost m n → (s : List ℕ) × Repeated s × (min (length s) c ≡ most)

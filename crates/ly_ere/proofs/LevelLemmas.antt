@@ -10,13 +10,13 @@ use Rattle.ly_ere.specs.Arena.{part_of}
 use Rattle.ly_ere.specs.Expression.{Expression, empty}
 use Rattle.ly_ere.specs.Private.Groups.{Group, Reading, new_group, whole, with_atom, closed, inside}
 use Rattle.ly_ere.specs.declared.level.Level.{Level}
-use Rattle.ly_ere.specs.Private.Levels.{IsWithin, IsExtended, seen, group_of, groups_of, reading_of}
+use Rattle.ly_ere.specs.Private.Levels.{ArePartsBelow, IsExtended, seen, group_of, groups_of, reading_of}
 
 part_more : (n m : ℕ) (o : Option ℕ) → n ≤ m → ForSome o (λ k. k < n) → ForSome o (λ k. k < m)
 part_more n m o le h = λ k e. let less : k < n = h k e in omega arith
 
 -- the parts are below a greater number too
-within_more : (n m : ℕ) (l : Level) → n ≤ m → IsWithin n l → IsWithin m l
+within_more : (n m : ℕ) (l : Level) → n ≤ m → ArePartsBelow n l → ArePartsBelow m l
 within_more n m l le h = record {
   either = part_more n m l.either le h.either;
   branch = part_more n m l.branch le h.branch;
@@ -33,9 +33,10 @@ pub grows_length : (a b : List Expression) → IsExtended a b → length a ≤ l
 grows_length a b g = omega (arith, ap length g.1, length-append a g.0)
 
 -- the parts are there still
-pub within_grown : (a b : List Expression) (levels : List Level) → IsExtended a b → All (IsWithin (length a)) levels
-    → All (IsWithin (length b)) levels
-within_grown a b levels g = All-weaker (IsWithin (length a)) (IsWithin (length b))
+pub within_grown : (a b : List Expression) (levels : List Level) → IsExtended a b
+    → All (ArePartsBelow (length a)) levels
+    → All (ArePartsBelow (length b)) levels
+within_grown a b levels g = All-weaker (ArePartsBelow (length a)) (ArePartsBelow (length b))
     (λ l. within_more (length a) (length b) l (grows_length a b g)) levels
 
 -- a part stays what it is
@@ -51,7 +52,7 @@ pub seen_same : (a b : List Expression) (o : Option ℕ) → IsExtended a b → 
 seen_same a b None g h = refl
 seen_same a b (Some k) g h = ap Some (part_same a b k g (h k refl))
 
-pub group_same : (a b : List Expression) (l : Level) → IsExtended a b → IsWithin (length a) l
+pub group_same : (a b : List Expression) (l : Level) → IsExtended a b → ArePartsBelow (length a) l
     → group_of b l ≡ group_of a l
 group_same a b l g h = let p = seen_same a b l.either g h.either in let q = seen_same a b l.branch g h.branch
     in let r = seen_same a b l.piece g h.piece in cc
@@ -61,20 +62,23 @@ pub groups_push : (a : List Expression) (ls : List Level) (l : Level)
 groups_push a [] l = refl
 groups_push a (m ∷ ls) l = ap (λ gs. gs ++ group_of a m ∷ []) (groups_push a ls l)
 
-pub groups_same : (a b : List Expression) (ls : List Level) → IsExtended a b → All (IsWithin (length a)) ls
+pub groups_same : (a b : List Expression) (ls : List Level) → IsExtended a b → All (ArePartsBelow (length a)) ls
     → groups_of b ls ≡ groups_of a ls
 groups_same a b [] g h = refl
 groups_same a b (l ∷ ls) g h
-    = rw (groups_same a b ls g (All-tail (IsWithin (length a)) l ls h), group_same a b l g (h 0 l (omega arith))) refl
+    = rw (
+      groups_same a b ls g (All-tail (ArePartsBelow (length a)) l ls h),
+      group_same a b l g (h 0 l (omega arith)),
+    ) refl
 
 same_reading : (o p : List Group) (g h : Group) → o ≡ p → g ≡ h
     → ◌≡◌ {A = Option Reading} (Some (record { outer = o; group = g })) (Some (record { outer = p; group = h }))
 same_reading o p g h a b = cc
 
 module _ (old mid new : List Expression) (items : List Level) (level : Level) (one : IsExtended old mid)
-    (two : IsExtended mid new) (outer_parts : All (IsWithin (length old)) items) where
+    (two : IsExtended mid new) (outer_parts : All (ArePartsBelow (length old)) items) where
   -- an atom was added to a group
-  pub atom_step : (l : Level) (atom : ℕ) (e : Expression) → IsWithin (length old) level → part_of mid atom ≡ e
+  pub atom_step : (l : Level) (atom : ℕ) (e : Expression) → ArePartsBelow (length old) level → part_of mid atom ≡ e
       → group_of new l ≡ with_atom (group_of mid level) (part_of mid atom)
       → Some (record { outer = groups_of old items; group = with_atom (group_of old level) e })
       ≡ Some (reading_of new items l)
@@ -85,7 +89,7 @@ module _ (old mid new : List Expression) (items : List Level) (level : Level) (o
 
   -- a group was closed
   pub close_step : (all : List Level) (around l : Level) (atom : ℕ) → all ≡ items ++ around ∷ []
-      → IsWithin (length old) around → whole (group_of old level) ≡ Some (part_of mid atom)
+      → ArePartsBelow (length old) around → whole (group_of old level) ≡ Some (part_of mid atom)
       → group_of new l ≡ with_atom (group_of mid around) (part_of mid atom)
       → closed (groups_of old all) (whole (group_of old level)) ≡ Some (reading_of new items l)
   close_step all around l atom is parts w q = rw (is, groups_push, w)
@@ -100,6 +104,6 @@ open_step old items level l e = rw groups_push (same_reading _ _ _ _ refl (sym e
 
 -- the innermost group was changed
 pub inside_step : (old new : List Expression) (items : List Level) (l : Level) (o : Option Group) → IsExtended old new
-    → All (IsWithin (length old)) items → o ≡ Some (group_of new l)
+    → All (ArePartsBelow (length old)) items → o ≡ Some (group_of new l)
     → inside (groups_of old items) o ≡ Some (reading_of new items l)
 inside_step old new items l o g parts e = rw e (same_reading _ _ _ _ (sym (groups_same old new items g parts)) refl)

@@ -8,7 +8,7 @@ use Rattle.std.proofs.Math.Seq.{get_or-append_seam}
 use Rattle.std.proofs.lemmas.Bool.{cases_lt}
 use Rattle.ly_ere.specs.Arena.{part_of}
 use Rattle.ly_ere.specs.Expression.{Expression, IsAtMost, Matches, concat, either, empty, name, optional, plus, repeat}
-use Rattle.ly_ere.specs.Expression.{Joined, star}
+use Rattle.ly_ere.specs.Expression.{Concatenated, star}
 use Rattle.ly_ere.specs.Lengths.{AreLengths, AreNamedLengths, IsSound, far, lengths_at}
 use Rattle.ly_ere.specs.Private.Lengths.{AreNear, IsNear, IsRepeated, Measures}
 use Rattle.ly_ere.specs.Weight.{weight_of}
@@ -83,7 +83,8 @@ module _ (names done : List Expression) (ls : List Lengths) (m : Measures names 
     module _ (k : ℕ) (n : Option ℕ) (v : ℕ) (sound : IsSound (length names) (part_of done a)) (within : IsAtMost k n)
         (light : (lengths_at ls a).least ≤ weight_of names (part_of done a) → k * (lengths_at ls a).least ≤ v)
         (is : IsRepeated k n (lengths_at ls a) r) where
-      measured : AreLengths v (λ x. (j : ℕ) × (k ≤ j) × IsAtMost j n × Joined (Matches names (part_of done a)) j x) r
+      measured : AreLengths v
+          (λ x. (j : ℕ) × (k ≤ j) × IsAtMost j n × Concatenated (Matches names (part_of done a)) j x) r
       measured =
           let here = part a fits sound in
           lengths_as v _ (record { least = min (k * (lengths_at ls a).least) far; most = r.most }) r (sym is.least) refl

@@ -3,12 +3,12 @@ use Rattle.std.proofs.lemmas.Option.{slice_get_within}
 use Rattle.std.proofs.Common.{slice_get, Some, ◌↔◌, ◌<◌, length, ◌≡◌, inl, inr, ℕ, zero, suc, ◌+◌, ◌-◌, ◌<◌, ◌≤◌, List}
 use Rattle.std.proofs.Common.{length, refl, subst, arith}
 use Rattle.ly_ere.specs.Expression.{Expression, set, empty, concat, either, star, plus, optional, repeat, name}
-use Rattle.ly_ere.specs.Expression.{MatchesUnder, Joined, NamedUpTo, Matches}
+use Rattle.ly_ere.specs.Expression.{MatchesUnder, Concatenated, NamedUpTo, Matches}
 use Rattle.ly_ere.specs.Names.{AreOrdered, UsesBelow, NameIsDefinition}
 
 -- each string of one set is of the other
-pub joined_map : (L M : List ℕ → Type 0) → ((w : List ℕ) → L w → M w) → (k : ℕ) (w : List ℕ) → Joined L k w
-    → Joined M k w
+pub joined_map : (L M : List ℕ → Type 0) → ((w : List ℕ) → L w → M w) → (k : ℕ) (w : List ℕ) → Concatenated L k w
+    → Concatenated M k w
 joined_map L M f zero w j = j
 joined_map L M f (suc k) w j = (j.0, j.1, j.2, f j.0 j.3, joined_map L M f k j.1 j.4)
 

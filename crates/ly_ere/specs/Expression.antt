@@ -15,9 +15,9 @@ pub data Expression : Type 0 where
   name : ℕ → Expression
 
 -- w is k members of L, one after another
-abbrev pub Joined : (List ℕ → Type 0) → ℕ → List ℕ → Type 0
-Joined L zero w = w ≡ []
-Joined L (suc k) w = (u : List ℕ) × (v : List ℕ) × (w ≡ u ++ v) × L u × Joined L k v
+abbrev pub Concatenated : (List ℕ → Type 0) → ℕ → List ℕ → Type 0
+Concatenated L zero w = w ≡ []
+Concatenated L (suc k) w = (u : List ℕ) × (v : List ℕ) × (w ≡ u ++ v) × L u × Concatenated L k v
 
 -- k is at most the bound, if there is one
 abbrev pub IsAtMost : ℕ → Option ℕ → Type 0
@@ -30,10 +30,10 @@ MatchesUnder N (set bytes) w = (b : ℕ) × Contains bytes b × (w ≡ b ∷ [])
 MatchesUnder N empty w = w ≡ []
 MatchesUnder N (concat r s) w = (u : List ℕ) × (v : List ℕ) × (w ≡ u ++ v) × MatchesUnder N r u × MatchesUnder N s v
 MatchesUnder N (either r s) w = MatchesUnder N r w ⊎ MatchesUnder N s w
-MatchesUnder N (star r) w = (k : ℕ) × Joined (MatchesUnder N r) k w
-MatchesUnder N (plus r) w = (k : ℕ) × (1 ≤ k) × Joined (MatchesUnder N r) k w
+MatchesUnder N (star r) w = (k : ℕ) × Concatenated (MatchesUnder N r) k w
+MatchesUnder N (plus r) w = (k : ℕ) × (1 ≤ k) × Concatenated (MatchesUnder N r) k w
 MatchesUnder N (optional r) w = (w ≡ []) ⊎ MatchesUnder N r w
-MatchesUnder N (repeat m n r) w = (k : ℕ) × (m ≤ k) × IsAtMost k n × Joined (MatchesUnder N r) k w
+MatchesUnder N (repeat m n r) w = (k : ℕ) × (m ≤ k) × IsAtMost k n × Concatenated (MatchesUnder N r) k w
 MatchesUnder N (name x) w = N x w
 
 -- The strings of name x, by the first n definitions: each uses earlier ones only.

@@ -108,7 +108,7 @@ fn first_refusal(text: Option<Refusal>, cyclic: Option<usize>) -> Option<Refusal
 
 /// Texts that are read, where a name has the number of its place in the list.
 #[derive(Drop)]
-pub(crate) struct Texts {
+pub(crate) struct DefinitionTexts {
     /// The expressions of those that are one.
     expressions: Vec<Re>,
     /// What each uses; nothing where it is no expression.
@@ -118,7 +118,7 @@ pub(crate) struct Texts {
 }
 
 /// Reads the texts, each under the names of all.
-fn read_texts(alloc: Global, list: &[NamedText<'_>]) -> Result<Texts, AllocError>
+fn read_texts(alloc: Global, list: &[NamedText<'_>]) -> Result<DefinitionTexts, AllocError>
     requires distinct { AreDistinct (named_texts list.now) }
     ensures { IfOk result (AreRead (known_names (named_texts list.now)) (named_texts list.now)) }
 {
@@ -127,10 +127,14 @@ fn read_texts(alloc: Global, list: &[NamedText<'_>]) -> Result<Texts, AllocError
 }
 
 /// Reads the texts under names.
-fn read_each(alloc: Global, list: &[NamedText<'_>], known: &Names) -> Result<Texts, AllocError>
+fn read_each(
+    alloc: Global,
+    list: &[NamedText<'_>],
+    known: &Names,
+) -> Result<DefinitionTexts, AllocError>
     ensures { IfOk result (AreRead known.now (named_texts list.now)) }
 {
-    let mut texts = Texts {
+    let mut texts = DefinitionTexts {
         expressions: Vec::new(alloc),
         uses: Vec::new(alloc),
         refusal: None,
@@ -141,7 +145,7 @@ fn read_each(alloc: Global, list: &[NamedText<'_>], known: &Names) -> Result<Tex
     Ok(texts)
 }
 
-impl Texts {
+impl DefinitionTexts {
     /// Reads a text behind those that are read.
     fn read_one(&mut self, alloc: Global, text: &[u8], known: &Names) -> Result<(), AllocError>
         ensures { (list : List DefinedText) (d : DefinedText) → AreRead known.now list self.old → d.text ≡ text.now
@@ -213,7 +217,7 @@ fn read_text(alloc: Global, text: &[u8], names: &Names) -> Result<Re, ReadFault>
 fn place(
     alloc: Global,
     list: &[NamedText<'_>],
-    texts: &Texts,
+    texts: &DefinitionTexts,
     order: &[usize],
     limits: &Limits,
 ) -> Result<Names, Refusal>

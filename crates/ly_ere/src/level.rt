@@ -3,7 +3,7 @@ ghost use Rattle.std.specs.Option.{ForSome};
 ghost use Rattle.ly_ere.specs.Arena.{part_of};
 ghost use Rattle.ly_ere.specs.Private.Groups.{new_group, open_branch, with_atom, with_postfix, with_interval};
 ghost use Rattle.ly_ere.specs.Private.Groups.{with_bar, whole};
-ghost use Rattle.ly_ere.specs.Private.Levels.{IsWithin, IsExtended, seen, group_of, operated};
+ghost use Rattle.ly_ere.specs.Private.Levels.{ArePartsBelow, IsExtended, seen, group_of, operated};
 ghost use Rattle.ly_ere.specs.declared.fault.ReadFault.TheVariants.{OutOfMemory};
 
 use crate::arena::Arena;
@@ -27,7 +27,7 @@ pub(crate) struct Level {
 impl Level {
     /// A group of which nothing is read.
     pub(crate) fn new() -> Self
-        ensures parts { (n : ℕ) → IsWithin n result }
+        ensures parts { (n : ℕ) → ArePartsBelow n result }
         ensures empty { (arena : _) → group_of arena result ≡ new_group }
     {
         Level {
@@ -39,9 +39,9 @@ impl Level {
 
     /// The group with one more atom.
     pub(crate) fn with_atom(self, arena: &mut Arena, atom: usize) -> Result<Level, AllocError>
-        requires parts { IsWithin (length arena.old) self }
+        requires parts { ArePartsBelow (length arena.old) self }
         requires within { atom < length arena.old }
-        ensures parts { IfOk result (IsWithin (length arena.new)) }
+        ensures parts { IfOk result (ArePartsBelow (length arena.new)) }
         ensures atom { IfOk result (λ l. group_of arena.new l ≡ with_atom (group_of arena.old self)
             (part_of arena.old atom)) }
         ensures grown { IsExtended arena.old arena.new }
@@ -60,8 +60,8 @@ impl Level {
         arena: &mut Arena,
         postfix: Postfix,
     ) -> Result<Level, ReadFault>
-        requires parts { IsWithin (length arena.old) self }
-        ensures parts { IfOk result (IsWithin (length arena.new)) }
+        requires parts { ArePartsBelow (length arena.old) self }
+        ensures parts { IfOk result (ArePartsBelow (length arena.new)) }
         ensures operator { IfOk result (λ l. with_postfix (group_of arena.old self) (operated postfix)
             ≡ Some (group_of arena.new l)) }
         ensures refused { IfErr result (λ e. e ≢ OutOfMemory → with_postfix (group_of arena.old self) (operated postfix)
@@ -84,8 +84,8 @@ impl Level {
         least: u8,
         most: Option<u8>,
     ) -> Result<Level, ReadFault>
-        requires parts { IsWithin (length arena.old) self }
-        ensures parts { IfOk result (IsWithin (length arena.new)) }
+        requires parts { ArePartsBelow (length arena.old) self }
+        ensures parts { IfOk result (ArePartsBelow (length arena.new)) }
         ensures interval { IfOk result (λ l. with_interval (group_of arena.old self) least most
             ≡ Some (group_of arena.new l)) }
         ensures refused { IfErr result (λ e. e ≢ OutOfMemory → with_interval (group_of arena.old self) least most
@@ -107,8 +107,8 @@ impl Level {
 
     /// The group with its open branch finished, and a new one begun.
     pub(crate) fn with_bar(self, arena: &mut Arena) -> Result<Level, ReadFault>
-        requires parts { IsWithin (length arena.old) self }
-        ensures parts { IfOk result (IsWithin (length arena.new)) }
+        requires parts { ArePartsBelow (length arena.old) self }
+        ensures parts { IfOk result (ArePartsBelow (length arena.new)) }
         ensures bar { IfOk result (λ l. with_bar (group_of arena.old self) ≡ Some (group_of arena.new l)) }
         ensures refused { IfErr result (λ e. e ≢ OutOfMemory → with_bar (group_of arena.old self) ≡ None) }
         ensures grown { IsExtended arena.old arena.new }
@@ -123,7 +123,7 @@ impl Level {
 
     /// The expression of the whole group.
     pub(crate) fn whole(self, arena: &mut Arena) -> Result<usize, ReadFault>
-        requires parts { IsWithin (length arena.old) self }
+        requires parts { ArePartsBelow (length arena.old) self }
         ensures within { IfOk result (λ n. n < length arena.new) }
         ensures whole { IfOk result (λ n. whole (group_of arena.old self) ≡ Some (part_of arena.new n)) }
         ensures refused { IfErr result (λ e. e ≢ OutOfMemory → whole (group_of arena.old self) ≡ None) }
@@ -138,7 +138,7 @@ impl Level {
 
     /// The open branch with its last piece, if it has any.
     fn open_branch(self, arena: &mut Arena) -> Result<Option<usize>, AllocError>
-        requires parts { IsWithin (length arena.old) self }
+        requires parts { ArePartsBelow (length arena.old) self }
         ensures within { IfOk result (λ branch. ForSome branch (λ n. n < length arena.new)) }
         ensures branch { IfOk result (λ branch. seen arena.new branch ≡ open_branch (group_of arena.old self)) }
         ensures grown { IsExtended arena.old arena.new }

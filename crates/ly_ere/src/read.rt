@@ -9,7 +9,7 @@ ghost use Rattle.ly_ere.specs.Patterns.{SpellsSides};
 ghost use Rattle.ly_ere.specs.Private.Elements.{IsWellFormed, LeadsOn, LeadsNowhere};
 ghost use Rattle.ly_ere.specs.Private.Front.{BeginsNo, CanEnd, IsFrontExpression};
 ghost use Rattle.ly_ere.specs.Private.Groups.{closed, whole};
-ghost use Rattle.ly_ere.specs.Private.Levels.{IsExtended, IsWithin, group_of, groups_of, reading_of};
+ghost use Rattle.ly_ere.specs.Private.Levels.{IsExtended, ArePartsBelow, group_of, groups_of, reading_of};
 ghost use Rattle.ly_ere.specs.declared.fault.ReadFault.TheVariants.{OutOfMemory};
 
 use crate::arena::Arena;
@@ -128,11 +128,11 @@ fn with_element(
     element: Element<'_>,
     names: &Names,
 ) -> Result<Level, ReadFault>
-    requires parts { IsWithin (length arena.old) level }
-    requires outer_parts { All (IsWithin (length arena.old)) outer.old.items }
+    requires parts { ArePartsBelow (length arena.old) level }
+    requires outer_parts { All (ArePartsBelow (length arena.old)) outer.old.items }
     requires formed { IsWellFormed element }
-    ensures parts { IfOk result (IsWithin (length arena.new)) }
-    ensures outer_parts { OnOk result (All (IsWithin (length arena.new)) outer.new.items) }
+    ensures parts { IfOk result (ArePartsBelow (length arena.new)) }
+    ensures outer_parts { OnOk result (All (ArePartsBelow (length arena.new)) outer.new.items) }
     ensures step { IfOk result (λ l. LeadsOn names.now element.entry (reading_of arena.old outer.old.items level)
         (reading_of arena.new outer.new.items l)) }
     ensures refused { IfErr result (λ e. e ≢ OutOfMemory
@@ -174,10 +174,10 @@ fn mark_fault(mark: Mark) -> SyntaxFault {
 
 /// The group round a group that ends, with that group as its next atom.
 fn close(arena: &mut Arena, outer: &mut Vec<Level>, level: Level) -> Result<Level, ReadFault>
-    requires parts { IsWithin (length arena.old) level }
-    requires outer_parts { All (IsWithin (length arena.old)) outer.old.items }
-    ensures parts { IfOk result (IsWithin (length arena.new)) }
-    ensures outer_parts { OnOk result (All (IsWithin (length arena.new)) outer.new.items) }
+    requires parts { ArePartsBelow (length arena.old) level }
+    requires outer_parts { All (ArePartsBelow (length arena.old)) outer.old.items }
+    ensures parts { IfOk result (ArePartsBelow (length arena.new)) }
+    ensures outer_parts { OnOk result (All (ArePartsBelow (length arena.new)) outer.new.items) }
     ensures closed { IfOk result (λ l. closed (groups_of arena.old outer.old.items) (whole (group_of arena.old level))
         ≡ Some (reading_of arena.new outer.new.items l)) }
     ensures refused { IfErr result (λ e. e ≢ OutOfMemory

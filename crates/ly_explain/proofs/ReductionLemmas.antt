@@ -13,11 +13,11 @@ use Rattle.ly_lr0.proofs.LawLemmas.{reached_within}
 use Rattle.ly_lr0.proofs.StateLemmas.{state_there}
 use Rattle.ly_resolve.specs.Actions.{IsAction, IsRaw, reduce}
 use Rattle.ly_resolve.specs.Precedence.{judge_of}
-use Rattle.ly_resolve.specs.Resolved.{AreResolved, Entry, IsRow, Resolved}
-use Rattle.ly_resolve.specs.Values.{action_from, entry_from}
+use Rattle.ly_resolve.specs.Resolved.{AreResolved, TerminalAction, IsRow, Resolved}
+use Rattle.ly_resolve.specs.Values.{action_from, terminal_action_from}
 use Rattle.ly_resolve.specs.declared.action.Action as action
 use Rattle.ly_resolve.specs.declared.action.Action.TheVariants.{Error, Reduce, Shift}
-use Rattle.ly_resolve.specs.declared.action.Entry as code
+use Rattle.ly_resolve.specs.declared.action.TerminalAction as code
 use Rattle.ly_resolve.proofs.MeetingLemmas.{done_too}
 use Rattle.ly_resolve.proofs.RawLemmas.{merges_back, prefix_at, raw_too, reached_merges}
 use Rattle.ly_explain.specs.Doubts.{IsReducedBy, NeverReduces}
@@ -27,7 +27,7 @@ use Rattle.ly_explain.proofs.MarkLemmas.{added_as, all_added, marked_as}
 
 -- THE ENTRIES OF A ROW
 
-pub entry_reduces : (row : List code.Entry) (k : ℕ) (d : code.Entry) → k < length row → (q : ℕ)
+pub entry_reduces : (row : List code.TerminalAction) (k : ℕ) (d : code.TerminalAction) → k < length row → (q : ℕ)
     → (slice_index_or row k d).action ≡ Reduce q → (p : ℕ) → (p ≡ q) ↔ ReducesAt row k p
 entry_reduces row k d lt q e p =
     let at = slice_get-get_or row k d lt in (
@@ -39,14 +39,14 @@ entry_reduces row k d lt q e p =
           cc,
     )
 
-pub no_entry_reduces : (row : List code.Entry) (k : ℕ) (d : code.Entry) → k < length row
+pub no_entry_reduces : (row : List code.TerminalAction) (k : ℕ) (d : code.TerminalAction) → k < length row
     → ((q : ℕ) → (slice_index_or row k d).action ≡ Reduce q → ⊥) → (p : ℕ) → ReducesAt row k p → ⊥
 no_entry_reduces row k d lt none p (x, is, reduces) =
     let one : Some x ≡ Some (slice_index_or row k d) = sym is ∙ slice_get-get_or row k d lt in
     let there : x ≡ slice_index_or row k d = cc in
     none p (ap (λ y. y.action) (sym there) ∙ reduces)
 
-pub row_marked : (row : List code.Entry) (n : ℕ) → length row ≤ n → (old new : List Bool)
+pub row_marked : (row : List code.TerminalAction) (n : ℕ) → length row ≤ n → (old new : List Bool)
     → AreAdded (ByStepBefore (ReducesAt row) n) old new → AreAdded (ReducesIn row) old new
 row_marked row n past old new added = added_as (ByStepBefore (ReducesAt row) n) (ReducesIn row) old new (λ p. (
   λ (k, less, (x, is, reduces)). (k, slice_get_within row k x is, (x, is, reduces)),
@@ -59,27 +59,29 @@ reduces_by Shift p e = absurd cc
 reduces_by (Reduce q) p e = let same : q ≡ p = cc in ap (λ n. Reduce n) same
 reduces_by Error p e = absurd cc
 
-pub state_reduces : (r : Resolved) (s : ℕ) (row : List code.Entry)
-    → slice_get r.rows s ≡ Some (map entry_from row) → (p : ℕ) → ReducesIn row p ↔ StateReduces r s p
+pub state_reduces : (r : Resolved) (s : ℕ) (row : List code.TerminalAction)
+    → slice_get r.rows s ≡ Some (map terminal_action_from row) → (p : ℕ) → ReducesIn row p ↔ StateReduces r s p
 state_reduces r s row at p = (to, back) where
   to : ReducesIn row p → StateReduces r s p
   to (k, less, (x, is, reduces)) =
       let has : Contains row x = (k, less, get_or_from_slice_get row k x x is) in
-      let shown : Contains (map entry_from row) (record { terminal = x.terminal.0; action = action_from x.action })
-      = mapped_in entry_from row x has in (
-        map entry_from row,
+      let shown : Contains (map terminal_action_from row)
+      (record { terminal = x.terminal.0; action = action_from x.action })
+      = mapped_in terminal_action_from row x has in (
+        map terminal_action_from row,
         at,
         x.terminal.0,
-        subst (λ a. Contains (map entry_from row) (record { terminal = x.terminal.0; action = action_from a })) reduces
+        subst (λ a. Contains (map terminal_action_from row)
+            (record { terminal = x.terminal.0; action = action_from a })) reduces
             shown,
       )
 
   back : StateReduces r s p → ReducesIn row p
   back (entries, is, t, has) =
-      let one : Some entries ≡ Some (map entry_from row) = sym is ∙ at in
-      let same : entries ≡ map entry_from row = cc in
-      let e : Entry = record { terminal = t; action = reduce p } in
-      let from = in_mapped entry_from row e (subst (λ es. Contains es e) same has) in
+      let one : Some entries ≡ Some (map terminal_action_from row) = sym is ∙ at in
+      let same : entries ≡ map terminal_action_from row = cc in
+      let e : TerminalAction = record { terminal = t; action = reduce p } in
+      let from = in_mapped terminal_action_from row e (subst (λ es. Contains es e) same has) in
       let x = from.0 in
       let k = placed row x from.1 in
       (k.0, slice_get_within row k.0 x k.1, (x, k.1, reduces_by x.action p (ap (λ y. y.action) from.2)))
@@ -87,7 +89,7 @@ state_reduces r s row at p = (to, back) where
 -- THE STATES
 
 module _ (r : Resolved) (is : IsAutomaton r.automaton) (are : AreResolved r.spec r.automaton r) where
-  row_of : (s : ℕ) (row : List Entry) → s < length r.automaton.states → slice_get r.rows s ≡ Some row
+  row_of : (s : ℕ) (row : List TerminalAction) → s < length r.automaton.states → slice_get r.rows s ≡ Some row
       → IsRow r.automaton.grammar (judge_of r.spec) (state_at r.automaton s).prefix row
   row_of s row lt at = are.rows s (state_at r.automaton s) row (state_there r.automaton s lt) at
 
@@ -110,7 +112,7 @@ module _ (r : Resolved) (is : IsAutomaton r.automaton) (are : AreResolved r.spec
       (λ a. (raw_too (merges_back merges) t a, raw_too merges t a)) (reduce p) done in
       let same = prefix_at M s (state_at M s) (state_there M s lt) in
       let row = some_at r.rows s (subst (λ n. s < n) (sym are.states) lt) in
-      let x : Entry = record { terminal = t; action = reduce p } in (
+      let x : TerminalAction = record { terminal = t; action = reduce p } in (
         s,
         lt,
         (

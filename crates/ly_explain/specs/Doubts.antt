@@ -9,7 +9,7 @@ use Rattle.ly_lexread.specs.declared.file.LexFile.{LexFile}
 use Rattle.ly_subset.specs.Automaton.{Automaton, rule_after, start_of}
 use Rattle.ly_join.specs.Grammar.{IsRule, Rule, Symbol, terminal}
 use Rattle.ly_join.specs.Joined.{Spec}
-use Rattle.ly_join.specs.Terminals.{Terminal, byte, token, IsNumbered}
+use Rattle.ly_join.specs.Terminals.{TerminalName, byte, token, IsNumbered}
 use Rattle.ly_grammar.specs.Derivations.{IsUseful}
 use Rattle.ly_resolve.specs.Actions.{IsAction, reduce}
 use Rattle.ly_resolve.specs.Precedence.{judge_of}
@@ -44,14 +44,14 @@ NeverReduces r p = (1 ≤ p) × (q : Rule) × IsRule r.spec.grammar p q × IsUse
     × (IsReducedBy r p → ⊥)
 
 -- the terminal is a token or a literal, and so neither the end nor what stands for the bytes without a literal
-abbrev pub IsNamed : Terminal → Type 0
+abbrev pub IsNamed : TerminalName → Type 0
 IsNamed (token name) = Unit {0}
 IsNamed (byte b) = Unit {0}
 IsNamed _ = ⊥
 
 -- the number is that of a token or a literal
 abbrev pub IsTokenOrLiteral : Spec → ℕ → Type 0
-IsTokenOrLiteral s t = (x : Terminal) × IsNumbered s.terminals x t × IsNamed x
+IsTokenOrLiteral s t = (x : TerminalName) × IsNumbered s.terminals x t × IsNamed x
 
 -- the terminal stands in the body of a rule
 abbrev pub IsUsed : Spec → ℕ → Type 0

@@ -6,7 +6,7 @@ ghost use Rattle.ly_explain.specs.Private.Reductions.{ReducesIn};
 
 use crate::marks::Marks;
 use ly_base::{OutOfMemory, StateNo};
-use ly_resolve::{Action, Entry, Resolved};
+use ly_resolve::{Action, Resolved, TerminalAction};
 use std::alloc::Global;
 
 /// The useful rules by which nothing is reduced at any string of symbols before any terminal, rising: precedence and
@@ -40,7 +40,7 @@ fn reduced_rules(alloc: Global, resolved: &Resolved<'_>) -> Result<Marks, OutOfM
 }
 
 /// Marks the rules by which entries of a row reduce.
-fn mark_reductions(reduced: &mut Marks, row: &[Entry])
+fn mark_reductions(reduced: &mut Marks, row: &[TerminalAction])
     ensures { AreAdded (ReducesIn row.now) reduced.old reduced.new }
 {
     for entry in row {

@@ -9,7 +9,7 @@ use ly_join::{Spec, Symbol};
 use ly_lookahead::{Lookaheads, lookaheads};
 use ly_lr0::{Item, Lr0};
 use ly_pack::{Dense, Machine, TableAction};
-use ly_resolve::{Action, Entry, Resolved};
+use ly_resolve::{Action, Resolved, TerminalAction};
 use std::alloc::Global;
 
 /// The tables of a parser.
@@ -125,7 +125,7 @@ impl<'a> Teller<'a> {
     }
 
     /// Says what is done before a terminal.
-    fn say_action(&self, page: &mut Page, state: StateNo, entry: &Entry)
+    fn say_action(&self, page: &mut Page, state: StateNo, entry: &TerminalAction)
         requires { state.0 < length self.now.resolved.now.automaton.states }
     {
         page.say(b"    before ");
@@ -188,7 +188,7 @@ pub(crate) fn place_of(
 }
 
 /// Whether an entry is the default reduction.
-fn is_default(entry: &Entry, default: Option<RuleNo>) -> bool {
+fn is_default(entry: &TerminalAction, default: Option<RuleNo>) -> bool {
     match (entry.action, default) {
         (Action::Reduce(rule), Some(default)) => rule == default.0 as usize,
         _ => false,

@@ -15,7 +15,7 @@ use Rattle.ly_feed.specs.TableAnswer.{IsRest, IsSaidFrom, IsVerdictBy, Progress,
 use Rattle.ly_feed.specs.Verdict.{Verdict}
 use Rattle.ly_pack.specs.Machine.{Machine}
 use Rattle.ly_parse.specs.FeedingLaws.{FeedsInOneWay}
-use Rattle.ly_parse.specs.Reading.{Reads}
+use Rattle.ly_parse.specs.Reading.{ReadsTokens}
 use Rattle.ly_scan.specs.Lexer.{IsLexemeAt, Scanner}
 use Rattle.ly_scan.specs.Pieces.{CanFollow, PassesOver, StandsFast, behind}
 use Rattle.ly_scan.specs.Pieces as pieces
@@ -88,7 +88,7 @@ module _ (ended : Bool) (p : ScanPart) (m : Machine) where
         is = fast.is more can;
         place = ap (λ q. behind q more) step.place
             ∙ sym (after_behind (condition_in p) w.place t more fast.within);
-        reads = subst (λ ts. Reads m w.stack ts u.stack) same step.reads;
+        reads = subst (λ ts. ReadsTokens m w.stack ts u.stack) same step.reads;
         count = step.count ∙ ap (λ ts. w.count + length ts) same;
       }
 

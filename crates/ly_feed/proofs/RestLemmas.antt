@@ -15,7 +15,7 @@ use Rattle.ly_parse.specs.Expected.{AreExpected}
 use Rattle.ly_parse.specs.Feeding.{Fed, Feeds, Level, pushed, states_on}
 use Rattle.ly_parse.specs.Feeding as fed
 use Rattle.ly_parse.specs.FeedingLaws.{FeedsInOneWay}
-use Rattle.ly_parse.specs.Reading.{Reads, at_end, onward}
+use Rattle.ly_parse.specs.Reading.{ReadsTokens, at_end, onward}
 use Rattle.ly_scan.proofs.OneLexingLemmas.{no_end, one_lexeme}
 use Rattle.ly_scan.specs.Lexer.{IsLexemeAt, ScanEndsAt}
 
@@ -44,7 +44,7 @@ module _ (p : ScanPart) (m : Machine) where
   pub record IsStep (w : Progress) (t : Lexeme) (u : Progress) : Type 0 where
     pub is : IsLexemeAt (scanner_in p) w.place t
     pub place : u.place ≡ place_after (condition_in p) w.place t
-    pub reads : Reads m w.stack (token_here w.place t) u.stack
+    pub reads : ReadsTokens m w.stack (token_here w.place t) u.stack
     pub count : u.count ≡ w.count + length (token_here w.place t)
 
   -- it has none
@@ -55,7 +55,7 @@ module _ (p : ScanPart) (m : Machine) where
       record {
         is = is;
         place = refl;
-        reads = subst (λ ts. Reads m w.stack ts w.stack) (sym nothing) at_end;
+        reads = subst (λ ts. ReadsTokens m w.stack ts w.stack) (sym nothing) at_end;
         count = omega (arith, ap length nothing);
       }
 
@@ -68,7 +68,7 @@ module _ (p : ScanPart) (m : Machine) where
       record {
         is = is;
         place = refl;
-        reads = subst (λ ts. Reads m w.stack ts next) (sym one) (onward fed at_end);
+        reads = subst (λ ts. ReadsTokens m w.stack ts next) (sym one) (onward fed at_end);
         count = omega (arith, ap length one);
       }
 
@@ -158,7 +158,7 @@ module _ (p : ScanPart) (m : Machine) where
           tokens = on.ts;
           are_tokens = on.are;
           last = r.last;
-          reads = reads_behind on.ts way step.reads (subst (λ ts. Reads m w.stack ts r.last) on.whole r.reads);
+          reads = reads_behind on.ts way step.reads (subst (λ ts. ReadsTokens m w.stack ts r.last) on.whole r.reads);
         }
 
     -- Where the tables stop at a token, they have read the lexeme's before.

@@ -20,7 +20,7 @@ use Rattle.ly_pack.specs.Steady.{IsSteady}
 use Rattle.ly_pack.specs.SteadyLaws.{IsStack, bottom}
 use Rattle.ly_parse.specs.Feeding.{Fed, Feeds, Level, pushed, states_on}
 use Rattle.ly_parse.specs.Feeding as fed
-use Rattle.ly_parse.specs.Reading.{Reads, at_end, onward}
+use Rattle.ly_parse.specs.Reading.{ReadsTokens, at_end, onward}
 use Rattle.ly_parse.proofs.ExpectedListLemmas.{are_listed}
 use Rattle.ly_parse.proofs.SettlingLemmas.{end_not_read, settles_on_steady, stack_kept}
 use Rattle.ly_tables.specs.TableSet.{machine_of}
@@ -49,7 +49,7 @@ module _ (m : Machine) where
   -- All tokens are read.
   record AreRead (levels : List Level) (tokens : List (Token ℕ)) : Type 0 where
     last : List Level
-    reads : Reads m levels tokens last
+    reads : ReadsTokens m levels tokens last
     edges : IsStack m (states_on last)
 
   -- What becomes of a token that isn't read: it is refused, or the tables are at fault.
@@ -65,7 +65,7 @@ module _ (m : Machine) where
     behind : List (Token ℕ)
     split : tokens ≡ before ++ token ∷ behind
     last : List Level
-    reads : Reads m levels before last
+    reads : ReadsTokens m levels before last
     out : Fed
     edges : IsStack m (states_on last)
     feeds : Feeds m token last out

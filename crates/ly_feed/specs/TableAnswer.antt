@@ -12,7 +12,7 @@ use Rattle.ly_pack.specs.Machine.{Machine}
 use Rattle.ly_parse.specs.Expected.{AreExpected}
 use Rattle.ly_parse.specs.Feeding.{Feeds, Level, states_on}
 use Rattle.ly_parse.specs.Feeding as fed
-use Rattle.ly_parse.specs.Reading.{Reads}
+use Rattle.ly_parse.specs.Reading.{ReadsTokens}
 use Rattle.ly_scan.specs.Lexer.{IsLexemeAt, ScanEndsAt}
 use Rattle.ly_scan.specs.Pieces.{behind}
 use Rattle.ly_tables.specs.TableSet.{TableSet, machine_of}
@@ -60,7 +60,7 @@ pub record Comes (p : ScanPart) (m : Machine) (w : Progress) (end : Token ℕ) (
   pub behind : List (Token ℕ)
   pub split : fed_with end tokens e ≡ before ++ t ∷ behind
   pub last : List Level
-  pub reads : Reads m w.stack before last
+  pub reads : ReadsTokens m w.stack before last
   pub feeds : Feeds m t last out
 
 -- A parser reads all tokens of what is left, and the scanner's run ends so.
@@ -68,7 +68,7 @@ pub record ReadsAll (p : ScanPart) (m : Machine) (w : Progress) (e : End) : Type
   pub tokens : List (Token ℕ)
   pub are_tokens : AreTokens p w.place tokens e
   pub last : List Level
-  pub reads : Reads m w.stack tokens last
+  pub reads : ReadsTokens m w.stack tokens last
 
 -- What the scanner and the parser say of what is left of a text that ends so, by what comes first in it. What is
 -- expected in place of a refused token is asked of the stack on which the token came. The tables are at fault where a

@@ -13,7 +13,7 @@ use std::alloc::Global;
 
 /// What stands before the texts of leaves and the children of nodes, made once from the names of a table set.
 #[derive(Drop)]
-pub(crate) struct Labels<'a> {
+pub(crate) struct TermLabels<'a> {
     /// The names.
     names: Names<'a>,
     /// The label of each terminal's leaves.
@@ -30,12 +30,12 @@ pub(crate) struct Labels<'a> {
     ghost nameless_node_is: { nameless_node ≡ node_label [] } by { Prim.hlevel props },
 }
 
-impl<'a> Labels<'a> {
-    /// Those of these names. It fails where memory runs out.
-    pub(crate) fn new(alloc: Global, names: Names<'a>) -> Result<Labels<'a>, OutOfMemory>
+impl<'a> TermLabels<'a> {
+    /// The labels of these names. It fails where memory runs out.
+    pub(crate) fn new(alloc: Global, names: Names<'a>) -> Result<TermLabels<'a>, OutOfMemory>
         ensures { IfOk result (λ labels. labels.names ≡ names.entry) }
     {
-        Ok(Labels {
+        Ok(TermLabels {
             names,
             leaves: leaf_labels(alloc, names.terminals)?,
             nodes: node_labels(alloc, names.rules)?,
@@ -94,7 +94,7 @@ fn constructor_of(rule: &TableRule) -> &[u8]
     }
 }
 
-impl Words for Labels<'_> {
+impl Words for TermLabels<'_> {
     ghost terminals = { λ w t. name_in (map (λ name. name.items) w.names.terminals.now) t };
 
     ghost constructors = { λ w p. constructor_in (map rule_from w.names.rules.now) p };

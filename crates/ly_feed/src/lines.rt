@@ -16,7 +16,7 @@ ghost use Rattle.ly_tree.specs.Term.{Term};
 
 use crate::finish_fault::FinishFault;
 use crate::flaw::Flaw;
-use crate::labels::Labels;
+use crate::labels::TermLabels;
 use crate::names::Names;
 use crate::outcome::Outcome;
 use crate::running::Ended;
@@ -81,7 +81,7 @@ fn write_term<W: Sink>(
     ensures writer_held { OnOk result (W.failures writer.new ≡ W.failures writer.old) }
     ensures untouched { IfErr result (λ e. IsBeforeWriting e → writer.new ≡ writer.old) }
 {
-    let labels = Labels::new(alloc, *names)?;
+    let labels = TermLabels::new(alloc, *names)?;
     let line = forest.line(alloc, &labels, root)?;
     line.write(writer)?;
     Ok(())

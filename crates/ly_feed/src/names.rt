@@ -16,7 +16,7 @@ pub(crate) struct Names<'a> {
 }
 
 impl<'a> Names<'a> {
-    /// Those of a table set.
+    /// The names of a table set.
     pub(crate) fn of(set: &'a TableSet) -> Names<'a>
         ensures { words_of result ≡ vocabulary_of set.now }
     {

@@ -22,10 +22,10 @@ pub(crate) struct Window {
 
 impl Model for Window {
     ghost use Rattle.std.specs.Prelude.{◌<◌, ◌+◌, ◌^◌, length};
-    ghost use Rattle.ly_base.specs.Lexed.{Place as Spot};
+    ghost use Rattle.ly_base.specs.Lexed as lexed;
     ghost use Rattle.ly_feed.specs.Private.Window.{place_from};
 
-    ghost Value = { Spot };
+    ghost Value = { lexed.Place };
 
     ghost view = { λ w. place_from w.line w.condition w.given_up w.held.items };
 

@@ -31,7 +31,7 @@ use Rattle.ly_join.specs.Grammar.{IsRule, Rule, Symbol, accept_rule, nonterminal
 use Rattle.ly_join.specs.Joined.{AreJoined, Joined, Note, Spec, SymbolTable, shape_by, table_of}
 use Rattle.ly_join.specs.Numbering.{IsToken, declared_terminals, nonterminals_of, rule_literals, terminals_of}
 use Rattle.ly_join.specs.Scanning.{Scanning}
-use Rattle.ly_join.specs.Terminals.{Terminal, byte, end, literal_in, terminal_in, token, undefined}
+use Rattle.ly_join.specs.Terminals.{TerminalName, byte, end, literal_in, terminal_in, token, undefined}
 use Rattle.ly_join.specs.declared.limit.Limit.TheVariants as limit
 use Rattle.ly_join.proofs.JoinLemmas.{token_there}
 use Rattle.ly_join.proofs.ListLemmas.{mapped_in, member_at, zip_length}
@@ -192,7 +192,7 @@ module _ (v : Version) (limits : Sizes) (yacc : List ℕ) (x : Scanning) (w : Wr
       let bound = counts.name_length in
       (name_long Yacc n (token_named yacc w text n is), omega (arith, le, most, bound))
 
-  terminal_long : (t : Terminal) → Contains s.terminals t → IsNameLong (terminal_name t)
+  terminal_long : (t : TerminalName) → Contains s.terminals t → IsNameLong (terminal_name t)
   terminal_long end there = (omega arith, omega arith)
   terminal_long undefined there = (omega arith, omega arith)
   terminal_long (token n) there = token_long n (token_there w n (subst (λ ts. Contains ts (token n)) joined.terminals

@@ -15,7 +15,7 @@ use Rattle.ly_grammar.specs.Reduction.{KeepsUseful}
 use Rattle.ly_join.specs.Joined.{Spec}
 use Rattle.ly_join.specs.Scanning.{scanning_of}
 use Rattle.ly_lr0.specs.Automaton as parser
-use Rattle.ly_minim.specs.Smallest.{HaveSameRules, IsReduced}
+use Rattle.ly_minim.specs.Smallest.{HaveSameRules, IsReducedAutomaton}
 use Rattle.ly_minim.proofs.WalkLemmas.{smallest}
 use Rattle.ly_position.specs.Nfa.{Nfa}
 use Rattle.ly_position.specs.Patterns.{ArePositions}
@@ -32,8 +32,8 @@ module _ (v : Version) (limits : Sizes) (lex yacc : List ℕ) (s : Spec) (given 
     (spots : HasPositions (defined given.file.names) given.file.rules.items given.file.conditions nfa)
     (subsets : AreSubsets nfa given.file.conditions A) (whole : IsAutomaton A)
     (few_sets : length A.rules ≤ limits.scanner_states) (same : HaveSameRules A walk)
-    (reduced : IsTrim A → IsReduced walk) (starts : walk.starts ≡ A.starts) where
-  smallest_walk : IsReduced walk
+    (reduced : IsTrim A → IsReducedAutomaton walk) (starts : walk.starts ≡ A.starts) where
+  smallest_walk : IsReducedAutomaton walk
   smallest_walk = reduced (trim nfa given.file.conditions A subsets whole
       (positions_live (defined given.file.names) given.file.rules.items given.file.conditions nfa spots))
 

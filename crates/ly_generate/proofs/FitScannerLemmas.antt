@@ -15,7 +15,7 @@ use Rattle.ly_base.specs.declared.scan_action.Emitted.{Emitted}
 use Rattle.ly_base.specs.declared.scan_action.ScanAction.{ScanAction}
 use Rattle.ly_emit.specs.FitsFile.{IsActionWithin, IsScannerWithin}
 use Rattle.ly_emit.proofs.RangeLemmas.{literal_within, past_end}
-use Rattle.ly_ere.specs.Expression.{Expression, IsAtMost, Joined as Repeated, Matches, MatchesUnder, NamedUpTo}
+use Rattle.ly_ere.specs.Expression.{Expression, IsAtMost, Concatenated, Matches, MatchesUnder, NamedUpTo}
 use Rattle.ly_ere.specs.Expression.{concat, either, empty, name, optional, plus, repeat, set, star}
 use Rattle.ly_ere.specs.Names.{defined}
 use Rattle.ly_ere.specs.Patterns.{HasOneLength, IsCutOf}
@@ -25,10 +25,10 @@ use Rattle.ly_ere.proofs.LengthLemmas.{copies, copies_joined, repeated_light}
 use Rattle.ly_join.specs.Counts.{IsWithin}
 use Rattle.ly_join.specs.Joined.{Joined, Spec}
 use Rattle.ly_join.specs.Scanning.{Acting, IsEmitted, IsScanAction, acting_of, returning_of, scanning_of}
-use Rattle.ly_join.specs.Terminals.{Terminal, end, token, undefined}
+use Rattle.ly_join.specs.Terminals.{TerminalName, end, token, undefined}
 use Rattle.ly_join.specs.declared.limit.Limit.TheVariants as limit
 use Rattle.ly_lexread.specs.LexText.{LexText}
-use Rattle.ly_lexread.specs.declared.action.Action.{Action}
+use Rattle.ly_lexread.specs.declared.action.LexAction.{LexAction}
 use Rattle.ly_lexread.specs.declared.action.Returned.{Returned}
 use Rattle.ly_lexread.specs.declared.action.Returned.TheVariants as lex
 use Rattle.ly_lexread.specs.declared.file.LexFile.{LexFile}
@@ -59,14 +59,15 @@ at_most_less m k (Some n) le most = omega (arith, le, most)
 -- an expression with a string has one that is no longer than its weight
 module _ (N : ℕ → List ℕ → Type 0) (named : ℕ → ℕ)
     (of_name : (x : ℕ) (u : List ℕ) → N x u → HasShort (N x) (named x)) where
-  one_of : (L : List ℕ → Type 0) (k : ℕ) (u : List ℕ) → 1 ≤ k → Repeated L k u → (v : List ℕ) × L v
+  one_of : (L : List ℕ → Type 0) (k : ℕ) (u : List ℕ) → 1 ≤ k → Concatenated L k u → (v : List ℕ) × L v
   one_of L zero u some all = absurd (omega (arith, some))
   one_of L (suc k) u some all = (all.0, all.3)
 
   -- copies of the shortest
   repeated_short : (m : ℕ) (n : Option ℕ) (r : Expression) → ((u : List ℕ) → MatchesUnder N r u
       → HasShort (MatchesUnder N r) (weight_under named r)) → (k : ℕ) (u : List ℕ) → m ≤ k → IsAtMost k n
-      → Repeated (MatchesUnder N r) k u → HasShort (MatchesUnder N (repeat m n r)) (weight_under named (repeat m n r))
+      → Concatenated (MatchesUnder N r) k u
+      → HasShort (MatchesUnder N (repeat m n r)) (weight_under named (repeat m n r))
   repeated_short zero n r short k u le most all = ([], (0, omega arith, at_most_none n, refl), omega arith)
   repeated_short (suc m) n r short k u le most all =
       let one = one_of (MatchesUnder N r) k u (omega (arith, le)) all in
@@ -169,7 +170,7 @@ part_light names (q ∷ rules) zero r at = let same : q ≡ r = cc in
 part_light names (q ∷ rules) (suc k) r at = let le = part_light names rules k r at in omega (arith, le)
 
 -- what actions emit is there
-emits_within : (ts : List Terminal) (returns : Returned) (e : Emitted) → slice_get ts 0 ≡ Some end
+emits_within : (ts : List TerminalName) (returns : Returned) (e : Emitted) → slice_get ts 0 ≡ Some end
     → slice_get ts 1 ≡ Some undefined → IsEmitted ts (returning_of returns) e → IsEmittedWithin (length ts) e
 emits_within ts lex.Nothing e first second is = subst (IsEmittedWithin (length ts)) (sym is) tt
 emits_within ts (lex.Token n) e first second is = subst (IsEmittedWithin (length ts)) (sym is.1)
@@ -204,7 +205,7 @@ module _ (v : Version) (limits : Sizes) (lex : List ℕ) (file : LexFile) (w : W
       mapped : option_map acting_of (slice_get file.actions.items k) ≡ Some partner.0
       mapped = sym (slice_get-map acting_of file.actions.items k) ∙ partner.1
 
-      by : (o : Option Action) → slice_get file.actions.items k ≡ o → IsActionWithin (length s.terminals) starts c
+      by : (o : Option LexAction) → slice_get file.actions.items k ≡ o → IsActionWithin (length s.terminals) starts c
       by None e = let none : None ≡ Some partner.0 = ap (option_map acting_of) (sym e) ∙ mapped in absurd cc
       by (Some a) e =
           let one : Some (acting_of a) ≡ Some partner.0 = ap (option_map acting_of) (sym e) ∙ mapped in

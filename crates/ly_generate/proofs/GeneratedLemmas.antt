@@ -14,7 +14,7 @@ use Rattle.ly_tokens.proofs.RowAgreementLemmas.{same_rules_agree}
 use Rattle.ly_ere.specs.Names.{defined}
 use Rattle.ly_join.specs.Joined.{Spec}
 use Rattle.ly_lexread.specs.declared.file.LexFile.{LexFile}
-use Rattle.ly_minim.specs.Smallest.{HaveSameRules, IsReduced}
+use Rattle.ly_minim.specs.Smallest.{HaveSameRules, IsReducedAutomaton}
 use Rattle.ly_position.proofs.SpotLemmas.{positions_live}
 use Rattle.ly_subset.specs.Automaton.{Automaton, IsBreadthFirst, IsTrim}
 use Rattle.ly_subset.specs.Classes.{AreClasses}
@@ -24,7 +24,7 @@ use Rattle.ly_tables.specs.TableSet.{TableSet}
 module _ (v : Version) (limits : Sizes) (lex yacc : List ℕ) (given : LexFile) (s : Spec) (A walk : Automaton)
     (set : TableSet)
     (says : IsSpecification limits lex yacc given s A) (same : HaveSameRules A walk)
-    (reduced : IsTrim A → IsReduced walk) (order : IsBreadthFirst walk) (class_of : walk.class_of ≡ A.class_of)
+    (reduced : IsTrim A → IsReducedAutomaton walk) (order : IsBreadthFirst walk) (class_of : walk.class_of ≡ A.class_of)
     (classes : walk.classes ≡ A.classes) (starts : walk.starts ≡ A.starts)
     (of_given : IsMadeOf v limits given s walk set)
   where
@@ -90,7 +90,7 @@ module _ (v : Version) (limits : Sizes) (lex yacc : List ℕ) (given : LexFile) 
 
 -- and a table file of the version can hold what is made of them
 pub fits_given : (v : Version) (limits : Sizes) (lex yacc : List ℕ) (given : LexFile) (s : Spec) (A walk : Automaton)
-    → IsSpecification limits lex yacc given s A → HaveSameRules A walk → (IsTrim A → IsReduced walk)
+    → IsSpecification limits lex yacc given s A → HaveSameRules A walk → (IsTrim A → IsReducedAutomaton walk)
     → walk.starts ≡ A.starts → AreBounded (sizes_in v) limits → FitsWith v limits s given.rules.items walk
 fits_given v limits lex yacc given s A walk says same reduced starts bounded M is useful few =
     let scanner : IsSubsetScanner says.specifies.file A

@@ -37,7 +37,7 @@ use Rattle.ly_pack.specs.SteadyLaws.{IsStack, bottom as alone}
 use Rattle.ly_parse.specs.Expected.{AreExpected}
 use Rattle.ly_parse.specs.Feeding.{Level, states_on}
 use Rattle.ly_parse.specs.Feeding as fed
-use Rattle.ly_parse.specs.Reading.{Reads, at_end, onward}
+use Rattle.ly_parse.specs.Reading.{ReadsTokens, at_end, onward}
 use Rattle.ly_parse.proofs.SettlingLemmas.{stack_kept}
 use Rattle.ly_resolve.specs.Machine.{Leads, begin}
 use Rattle.ly_resolve.specs.Precedence.{judge_of}
@@ -78,7 +78,7 @@ one_more M (x ∷ tokens) t all lt = All-cons (λ x. x.terminal < M.grammar.term
     (one_more M tokens t (All-tail (λ x. x.terminal < M.grammar.terminals) x tokens all) lt)
 
 -- tokens that are read keep the neighbours on the stack edges
-reads_keep : (m : Machine) {levels last : List Level} {tokens : List (Token ℕ)} → Reads m levels tokens last
+reads_keep : (m : Machine) {levels last : List Level} {tokens : List (Token ℕ)} → ReadsTokens m levels tokens last
     → IsStack m (states_on levels) → IsStack m (states_on last)
 reads_keep m at_end edges = edges
 reads_keep m (onward {token = token} feeds rest) edges = reads_keep m rest (stack_kept m token feeds edges)
@@ -146,7 +146,7 @@ module _ (version : Version) (file : LexFile) (w : Written) (s : Spec) (set : Ta
 
   -- what the tables expect behind tokens that they read, the reference machine would read
   next_of : (before : List (Token ℕ)) (last : List Level) (ts : List ℕ) → AreOf g.automaton before
-      → Reads (machine_of set) [] before last → AreExpected (machine_of set) (states_on last) ts
+      → ReadsTokens (machine_of set) [] before last → AreExpected (machine_of set) (states_on last) ts
       → AreNext g.automaton.grammar (judge_of s) before ts
   next_of before last ts all reads expected =
       let run = reads_follow s g.automaton (machine_of set) g.is_automaton g.useful g.is_set.machine reads [] [] all

@@ -21,7 +21,7 @@ use Rattle.ly_join.proofs.LawLemmas.{joined_one}
 use Rattle.ly_lexread.specs.Action.{Meaning, nothing, literal_of, first_byte, meaning_of}
 use Rattle.ly_lexread.specs.Action as meaning
 use Rattle.ly_lexread.specs.LexText.{AreSame, AreSameActions, AreSameRules, LexText}
-use Rattle.ly_lexread.specs.declared.action.Action.{Action}
+use Rattle.ly_lexread.specs.declared.action.LexAction.{LexAction}
 use Rattle.ly_lexread.specs.declared.action.Returned.{Returned}
 use Rattle.ly_lexread.specs.declared.action.Returned.TheVariants.{Nothing, Token, Literal, FirstByte}
 use Rattle.ly_lexread.specs.declared.file.LexFile.{LexFile}
@@ -100,7 +100,7 @@ returning_by_meaning (Literal b) = refl
 returning_by_meaning FirstByte = refl
 
 -- files that say the same say the same to the grammar
-actings_same : (xs ys : List Action) → AreSameActions xs ys → map acting_of xs ≡ map acting_of ys
+actings_same : (xs ys : List LexAction) → AreSameActions xs ys → map acting_of xs ≡ map acting_of ys
 actings_same [] [] h = refl
 actings_same [] (y ∷ ys) h = absurd h
 actings_same (x ∷ xs) [] h = absurd h

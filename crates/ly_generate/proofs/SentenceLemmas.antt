@@ -6,7 +6,7 @@ use Rattle.std.specs.Prelude.{Contains}
 use Rattle.std.proofs.lemmas.List.Elements.{All-cons}
 use Rattle.ly_base.specs.Lexed.{Token}
 use Rattle.ly_base.specs.Shape.{Shape}
-use Rattle.ly_base.specs.Text.{Named, literal, token}
+use Rattle.ly_base.specs.Text.{Terminal, literal, token}
 use Rattle.ly_base.specs.Trees.{Tree, yield_of}
 use Rattle.ly_base.specs.declared.lexeme.End.{End}
 use Rattle.ly_feed.specs.Laws.{HasOneVerdict, HasSomeVerdict}
@@ -23,7 +23,7 @@ use Rattle.ly_grammar.specs.Derivations.{IsReduced}
 use Rattle.ly_join.specs.Grammar.{Grammar, IsAugmented}
 use Rattle.ly_join.specs.Joined.{Joined, Spec}
 use Rattle.ly_join.specs.Scanning.{Scanning}
-use Rattle.ly_join.specs.Terminals.{Terminal, end}
+use Rattle.ly_join.specs.Terminals.{TerminalName, end}
 use Rattle.ly_join.specs.Terminals as joined
 use Rattle.ly_resolve.specs.Actions.{IsConflictFree, Judge}
 use Rattle.ly_resolve.specs.Laws.{Continues}
@@ -37,7 +37,7 @@ use Rattle.ly_resolve.proofs.RunLemmas.{unambiguous}
 use Rattle.ly_yaccread.specs.File.{Written}
 
 -- no named terminal is the end's
-not_end : (terminals : List Terminal) (n : Named) (t : ℕ) → slice_get terminals 0 ≡ Some end
+not_end : (terminals : List TerminalName) (n : Terminal) (t : ℕ) → slice_get terminals 0 ≡ Some end
     → IsNumberOf terminals n t → t ≢ 0
 not_end terminals (token name) t first is zero =
     let no : Some end ≡ Some (joined.token name) = sym first ∙ (ap (slice_get terminals) (sym zero) ∙ is) in cc
@@ -46,7 +46,7 @@ not_end terminals (literal b) t first (inl is) zero =
 not_end terminals (literal b) t first (inr other) zero = let one = other.1 in omega (arith, one, zero)
 
 -- so no numbered token is the end
-none_end : (terminals : List Terminal) (ts : List (Token Named)) (us : List (Token ℕ))
+none_end : (terminals : List TerminalName) (ts : List (Token Terminal)) (us : List (Token ℕ))
     → slice_get terminals 0 ≡ Some end → AllZip (IsNumberedToken terminals) ts us → All (λ u. u.terminal ≢ 0) us
 none_end terminals [] [] first zip = λ k d lt. absurd (omega (arith, lt))
 none_end terminals [] (u ∷ us) first zip = absurd zip

@@ -6,7 +6,7 @@ use Rattle.std.specs.List.{AllZip}
 use Rattle.std.proofs.lemmas.List.Elements.{All-cons}
 use Rattle.std.proofs.lemmas.Option.{slice_get-get_or, slice_get_within}
 use Rattle.ly_base.specs.Lexed.{Lexed, Place, Token, place_after, token_if, tokens_from}
-use Rattle.ly_base.specs.Text.{Named, literal, token}
+use Rattle.ly_base.specs.Text.{Terminal, literal, token}
 use Rattle.ly_base.specs.declared.lexeme.End.{End}
 use Rattle.ly_base.specs.declared.lexeme.Lexeme.{Lexeme}
 use Rattle.ly_base.specs.declared.scan_action.Emitted.{Emitted}
@@ -15,8 +15,8 @@ use Rattle.ly_feed.specs.ScanPart.{terminal_in}
 use Rattle.ly_tokens.specs.Printing.{condition_set, naming, terminal_for}
 use Rattle.ly_generate.specs.SpecAnswer.{IsNumberOf, IsNumberedToken}
 use Rattle.ly_join.specs.Scanning.{IsEmitted, IsScanAction, acting_of, returning_of}
-use Rattle.ly_join.specs.Terminals.{Terminal, IsOfByte}
-use Rattle.ly_lexread.specs.declared.action.Action.{Action}
+use Rattle.ly_join.specs.Terminals.{TerminalName, IsOfByte}
+use Rattle.ly_lexread.specs.declared.action.LexAction.{LexAction}
 use Rattle.ly_lexread.specs.declared.action.Returned.{Returned}
 use Rattle.ly_lexread.specs.declared.action.Returned.TheVariants as lex
 use Rattle.ly_scan.specs.Lexer.{IsLexemeAt, ScanEndsAt}
@@ -40,10 +40,10 @@ both_at R (x ∷ xs) (y ∷ ys) h zero = h.0
 both_at R (x ∷ xs) (y ∷ ys) h (suc i) = both_at R xs ys h.1 i
 
 -- a rule of a table set does what the action of a lex file says
-DoesAs : List Terminal → Action → ScanRule → Type 0
+DoesAs : List TerminalName → LexAction → ScanRule → Type 0
 DoesAs terminals a r = IsScanAction terminals (acting_of a) r.action
 
-zip_back : (terminals : List Terminal) (xs : List Action) (rs : List ScanRule)
+zip_back : (terminals : List TerminalName) (xs : List LexAction) (rs : List ScanRule)
     → AllZip (IsScanAction terminals) (map acting_of xs) (map (λ r. r.action) rs) → AllZip (DoesAs terminals) xs rs
 unfolding DoesAs
 zip_back terminals [] [] h = tt
@@ -51,7 +51,7 @@ zip_back terminals [] (r ∷ rs) h = absurd h
 zip_back terminals (x ∷ xs) [] h = absurd h
 zip_back terminals (x ∷ xs) (r ∷ rs) h = (h.0, zip_back terminals xs rs h.1)
 
-same_begin : (terminals : List Terminal) (x : Option Action) (y : Option ScanRule) → Both (DoesAs terminals) x y
+same_begin : (terminals : List TerminalName) (x : Option LexAction) (y : Option ScanRule) → Both (DoesAs terminals) x y
     → option_and_then (λ r. r.action.begin) y ≡ option_and_then (λ a. a.begin) x
 unfolding Both DoesAs
 same_begin terminals None None h = refl
@@ -63,7 +63,7 @@ first_below : (n b : ℕ) (rest : List ℕ) → b < 256 → slice_index (take n 
 first_below zero b rest lt = omega arith
 first_below (suc n) b rest lt = lt
 
-module _ (terminals : List Terminal) (p : ScanPart) (actions : List Action)
+module _ (terminals : List TerminalName) (p : ScanPart) (actions : List LexAction)
     (does : AllZip (IsScanAction terminals) (map acting_of actions) (map (λ r. r.action) p.rules))
     (all_literals : length p.literals ≡ 256) (all_classes : length p.classes ≡ 256)
     (literals : (b t : ℕ) → slice_get p.literals b ≡ Some t → IsOfByte terminals b t) where
@@ -89,7 +89,7 @@ module _ (terminals : List Terminal) (p : ScanPart) (actions : List Action)
   by_action (lex.Literal b) e bytes h lt = rw h.1 h.2
   by_action lex.FirstByte e bytes h lt = rw h (of_first bytes lt)
 
-  by_rule : (x : Option Action) (y : Option ScanRule) (bytes : List ℕ) → Both (DoesAs terminals) x y
+  by_rule : (x : Option LexAction) (y : Option ScanRule) (bytes : List ℕ) → Both (DoesAs terminals) x y
       → slice_index bytes 0 < 256
       → Both (IsNumberOf terminals) (option_and_then (λ a. terminal_for a.returns bytes) x)
       (option_and_then (λ r. terminal_by p bytes r.action.emits) y)
@@ -129,7 +129,8 @@ module _ (terminals : List Terminal) (p : ScanPart) (actions : List Action)
   lexeme_below (b ∷ rest) o (suc m) n r some le e
       = first_below n b rest (byte_below b (take m rest) o r (slice_get p.classes b) refl e)
 
-  join : (at : ℕ) (bytes : List ℕ) (x : Option Named) (y : Option ℕ) (xs : List (Token Named)) (ys : List (Token ℕ))
+  join : (at : ℕ) (bytes : List ℕ) (x : Option Terminal) (y : Option ℕ) (xs : List (Token Terminal))
+      (ys : List (Token ℕ))
       → Both (IsNumberOf terminals) x y → AllZip (IsNumberedToken terminals) xs ys
       → AllZip (IsNumberedToken terminals) (token_if x at bytes ++ xs) (token_if y at bytes ++ ys)
   unfolding Both
@@ -155,14 +156,15 @@ module _ (terminals : List Terminal) (p : ScanPart) (actions : List Action)
       h.0.0.has_rule))
       (numbered next (place_after next q t) ts e h.1)
 
-below_terminals : (terminals : List Terminal) (n : Named) (t : ℕ) → 2 ≤ length terminals → IsNumberOf terminals n t
+below_terminals : (terminals : List TerminalName) (n : Terminal) (t : ℕ) → 2 ≤ length terminals
+    → IsNumberOf terminals n t
     → t < length terminals
 below_terminals terminals (token name) t two h = slice_get_within terminals t _ h
 below_terminals terminals (literal b) t two (inl at) = slice_get_within terminals t _ at
 below_terminals terminals (literal b) t two (inr none) = omega (arith, two, none.1)
 
 -- and their terminals are the grammar's
-pub all_below : (terminals : List Terminal) (named : List (Token Named)) (tokens : List (Token ℕ))
+pub all_below : (terminals : List TerminalName) (named : List (Token Terminal)) (tokens : List (Token ℕ))
     → 2 ≤ length terminals → AllZip (IsNumberedToken terminals) named tokens
     → All (λ t. t.terminal < length terminals) tokens
 all_below terminals [] [] two h = λ k d lt. absurd (omega (arith, lt))

@@ -26,7 +26,7 @@ use Rattle.ly_yaccread.specs.YaccText.{YaccText}
 use Rattle.ly_emit.specs.Tables.{IsMachineOf}
 use Rattle.ly_loop.specs.Endless.{IsFirstEndless}
 use Rattle.ly_lr0.specs.Automaton as parser
-use Rattle.ly_pack.specs.Machine.{Machine, IsWithin as IsWithinRows}
+use Rattle.ly_pack.specs.Machine.{Machine, AreEntriesWithin}
 use Rattle.ly_pack.specs.Steady.{IsSteady}
 use Rattle.ly_report.specs.Report.{terminal_name}
 use Rattle.ly_tokens.specs.Answers.{AreTooHeavy, HaveTooManyStates}
@@ -72,7 +72,7 @@ pub record HasEndlessRun (s : Spec) (below top token : ℕ) : Type 0 where
   pub useful : KeepsUseful s.grammar automaton.grammar
   pub machine : Machine
   pub is_machine : IsMachineOf s automaton machine
-  pub within : IsWithinRows machine
+  pub within : AreEntriesWithin machine
   pub first : IsFirstEndless machine below top token
 
 -- the printed name of a terminal

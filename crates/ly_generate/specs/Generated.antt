@@ -11,7 +11,7 @@ use Rattle.ly_generate.specs.SpecAnswer.{SpecAnswer}
 use Rattle.ly_ere.specs.Names.{defined}
 use Rattle.ly_join.specs.Joined.{Spec}
 use Rattle.ly_lexread.specs.declared.file.LexFile.{LexFile}
-use Rattle.ly_minim.specs.Smallest.{IsReduced}
+use Rattle.ly_minim.specs.Smallest.{IsReducedAutomaton}
 use Rattle.ly_position.specs.Nfa.{Nfa}
 use Rattle.ly_position.specs.Patterns.{ArePositions}
 use Rattle.ly_position.specs.Spots.{HasPositions}
@@ -45,7 +45,7 @@ pub record IsGenerated (v : Version) (limits : Sizes) (lex yacc : List ℕ) (set
   pub specifies : Specifies limits lex yacc spec
   pub generated : IsGeneratedSet v specifies.file specifies.written spec set
   pub fit : IsFit limits spec generated.automaton.grammar
-  pub smallest : IsReduced generated.walk
+  pub smallest : IsReducedAutomaton generated.walk
   pub order : IsBreadthFirst generated.walk
   pub form : HasFormOf specifies.file generated.walk
   pub answers : (text : List ℕ) (o : Outcome) (answer : List ℕ) → TableAnswer set text o answer

@@ -3,7 +3,7 @@ use Rattle.std.specs.Prelude.{◌≡◌, ◌↔◌, ℕ, ◌+◌, ◌<◌, List,
 use Rattle.std.specs.List.{AllZip}
 use Rattle.ly_base.specs.Lexed.{Token, start_of, tokens_from}
 use Rattle.ly_base.specs.Shape.{Shape}
-use Rattle.ly_base.specs.Text.{Named, literal, token}
+use Rattle.ly_base.specs.Text.{Terminal, literal, token}
 use Rattle.ly_base.specs.Trees.{Tree}
 use Rattle.ly_base.specs.declared.lexeme.End.{End}
 use Rattle.ly_base.specs.declared.lexeme.End.TheVariants.{Clean, Stuck}
@@ -18,7 +18,7 @@ use Rattle.ly_tokens.specs.Printing.{condition_set, naming}
 use Rattle.ly_ere.specs.Names.{defined}
 use Rattle.ly_join.specs.Grammar.{Grammar}
 use Rattle.ly_join.specs.Joined.{Spec}
-use Rattle.ly_join.specs.Terminals.{Terminal, IsNumbered, IsOfByte}
+use Rattle.ly_join.specs.Terminals.{TerminalName, IsNumbered, IsOfByte}
 use Rattle.ly_join.specs.Terminals as joined
 use Rattle.ly_lexread.specs.Lexing.{Lexing}
 use Rattle.ly_lexread.specs.declared.file.LexFile.{LexFile}
@@ -30,12 +30,12 @@ use Rattle.ly_tree.specs.Shown.{Vocabulary}
 use Rattle.ly_tree.specs.Term.{build}
 
 -- the number of a terminal that an action returns; a literal that the grammar doesn't name is undefined
-abbrev pub IsNumberOf : List Terminal → Named → ℕ → Type 0
+abbrev pub IsNumberOf : List TerminalName → Terminal → ℕ → Type 0
 IsNumberOf terminals (token name) t = IsNumbered terminals (joined.token name) t
 IsNumberOf terminals (literal b) t = IsOfByte terminals b t
 
 -- The token is another whose terminal has its number.
-pub record IsNumberedToken (terminals : List Terminal) (t : Token Named) (u : Token ℕ) : Type 0 where
+pub record IsNumberedToken (terminals : List TerminalName) (t : Token Terminal) (u : Token ℕ) : Type 0 where
   pub terminal : IsNumberOf terminals t.terminal u.terminal
   pub same_place : u.at ≡ t.at
   pub same_bytes : u.bytes ≡ t.bytes

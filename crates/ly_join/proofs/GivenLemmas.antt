@@ -25,15 +25,15 @@ use Rattle.ly_join.specs.declared.fault.JoinFault.TheVariants.{LimitPassed, OutO
 use Rattle.ly_join.proofs.CountLemmas.{declared_words}
 use Rattle.ly_join.specs.Precedences.{associativity_of, given, given_by, given_from, HasPrecedence, IsGivenTwice}
 use Rattle.ly_join.specs.Private.Rules.{AreGiven, IsGivingFault}
-use Rattle.ly_join.specs.Terminals.{terminal_from, Terminal}
+use Rattle.ly_join.specs.Terminals.{terminal_from, TerminalName}
 use Rattle.ly_join.specs.declared.precedence.Precedence.{Precedence}
 use Rattle.ly_join.proofs.ListLemmas.{map_twice, mapped_more, mapped_split, one_place}
 
-module _ (all : List (Terminal × Precedence)) (ts : List Terminal) (ps : List (Option Precedence)) (t : ℕ)
-    (x : Terminal)
+module _ (all : List (TerminalName × Precedence)) (ts : List TerminalName) (ps : List (Option Precedence)) (t : ℕ)
+    (x : TerminalName)
     (so_far : AreGiven all ts ps) (here : slice_get ts t ≡ Some x) where
   -- a terminal that has a precedence is given one again
-  pub given_again : (p : Precedence) (back : List (Terminal × Precedence))
+  pub given_again : (p : Precedence) (back : List (TerminalName × Precedence))
       → is_some (slice_index_or ps t None) ≡ true → IsGivenTwice (all ++ (x, p) ∷ back) x
   given_again p back is = by (slice_index_or ps t None) (so_far.each t x here) is
     where
@@ -54,7 +54,7 @@ module _ (all : List (Terminal × Precedence)) (ts : List Terminal) (ps : List (
     none : (q : Precedence) → Contains all (x, q) → ⊥
     none = subst (HasPrecedence all x) free (so_far.each t x here)
 
-    later : (y : Terminal) (o : Option Precedence) → (x ≡ y → ⊥) → HasPrecedence all y o
+    later : (y : TerminalName) (o : Option Precedence) → (x ≡ y → ⊥) → HasPrecedence all y o
         → HasPrecedence (all ++ (x, p) ∷ []) y o
     later y None other has = λ q there. elim (Contains-push_cases all (x, p) (y, q) there) [
       | inl old ↦ has q old
@@ -62,7 +62,7 @@ module _ (all : List (Terminal × Precedence)) (ts : List Terminal) (ps : List (
     ]
     later y (Some q) other has = Contains-append_left all ((x, p) ∷ []) (y, q) has
 
-    each : (u : ℕ) (y : Terminal) → slice_get ts u ≡ Some y → (u ≡ t) ⊎ (u ≡ t → ⊥)
+    each : (u : ℕ) (y : TerminalName) → slice_get ts u ≡ Some y → (u ≡ t) ⊎ (u ≡ t → ⊥)
         → HasPrecedence (all ++ (x, p) ∷ []) y (slice_index_or (slice_set ps t (Some p)) u None)
     each u y at (inl e) =
         let same : x ≡ y = same_Some x y (sym here ∙ (ap (slice_get ts) (sym e) ∙ at)) in
@@ -99,14 +99,14 @@ pub given_split : (ds es : List Declared) → given (ds ++ es) ≡ given ds ++ g
 given_split ds es = given_from_split 0 ds es ∙ ap (λ k. given ds ++ given_from k es) (omega arith)
 
 -- given twice among some is given twice among more
-pub twice_more : (all back : List (Terminal × Precedence)) (x : Terminal) → IsGivenTwice all x
+pub twice_more : (all back : List (TerminalName × Precedence)) (x : TerminalName) → IsGivenTwice all x
     → IsGivenTwice (all ++ back) x
 twice_more all back x (front, rest, p, q, e, there) =
     (front, rest ++ back, p, q, ap (λ xs. xs ++ back) e ∙ append_assoc front ((x, q) ∷ rest) back, there)
 
 -- the precedences of terminals one by one
-pub given_zip : (all : List (Terminal × Precedence)) (ts : List Terminal) (ps : List (Option Precedence))
-    → length ps ≡ length ts → ((t : ℕ) (x : Terminal) → slice_get ts t ≡ Some x
+pub given_zip : (all : List (TerminalName × Precedence)) (ts : List TerminalName) (ps : List (Option Precedence))
+    → length ps ≡ length ts → ((t : ℕ) (x : TerminalName) → slice_get ts t ≡ Some x
     → HasPrecedence all x (slice_index_or ps t None)) → AllZip (HasPrecedence all) ts ps
 given_zip all [] [] long each = tt
 given_zip all [] (p ∷ ps) long each = absurd (omega (arith, long))
@@ -128,7 +128,7 @@ pub given_symbols : (n : ℕ) (d : Declaration) (a : Associativity) → associat
     → given_by n (declared_of d)
     ≡ map (λ s. let p : Precedence = record { level = n; associativity = a } in (terminal_of s, p)) d.symbols.items
 given_symbols n d a is =
-    let pair : Terminal → Terminal × Precedence
+    let pair : TerminalName → TerminalName × Precedence
     = λ x. let p : Precedence = record { level = n; associativity = a } in (x, p) in
     ap (λ o. option_map_or (λ b. map (λ x. let p : Precedence = record { level = n; associativity = b } in (x, p))
     (declared_terminals (declared_of d))) o []) is
@@ -142,7 +142,7 @@ given_nothing n d is = ap (λ o. option_map_or (λ b. map (λ x. let p : Precede
 } in (x, p)) (declared_terminals d)) o []) is
 
 -- a fault of what is given so far is one of all
-pub giving_more : (all back : List (Terminal × Precedence)) (f : JoinFault) → IsGivingFault all f
+pub giving_more : (all back : List (TerminalName × Precedence)) (f : JoinFault) → IsGivingFault all f
     → IsGivingFault (all ++ back) f
 giving_more all back (PrecedenceTwice t) h = twice_more all back (terminal_from t) h
 giving_more all back OutOfMemory h = tt

@@ -20,7 +20,7 @@ use Rattle.ly_join.specs.Numbering.{appearing, left_sides, nonterminals_of, star
 use Rattle.ly_join.specs.Numbering.{IsToken}
 use Rattle.ly_join.specs.Precedences.{given, AreGivenOnce, HasPrecedence, IsGivenTwice}
 use Rattle.ly_join.specs.Scanning.{Acting, IsEmitted, IsScanAction, Scanning}
-use Rattle.ly_join.specs.Terminals.{Terminal, end, same_terminal, terminal_from, token, undefined}
+use Rattle.ly_join.specs.Terminals.{TerminalName, end, same_terminal, terminal_from, token, undefined}
 use Rattle.ly_join.specs.Private.Joining.{spec_from, AreNumbered, IsReady, IsStart, IsStartFault}
 use Rattle.ly_join.specs.Private.Rules.{AreCovered, RulesJoined}
 use Rattle.ly_join.specs.Private.Rules.{IsFaultOfActions, IsFaultOfRules, IsGivingFault, IsTokenOnLeft}
@@ -38,7 +38,7 @@ use Rattle.ly_join.proofs.TableLemmas.{bytes_itself, same_bytes, same_itself, sa
 use Rattle.std.specs.Str.{bytes_eq}
 
 -- what appears is a terminal
-pub terminal_there : (w : Written) (x : Terminal) → Contains (appearing w) x → Contains (terminals_of w) x
+pub terminal_there : (w : Written) (x : TerminalName) → Contains (appearing w) x → Contains (terminals_of w) x
 terminal_there w x there = first_in same_terminal same_sound same_itself (end ∷ undefined ∷ appearing w) x
     (Contains-later end (undefined ∷ appearing w) x (Contains-later undefined (appearing w) x there))
 
@@ -204,9 +204,9 @@ giving_at_fault sizes x w NoRules h = absurd h
 giving_at_fault sizes x w (LimitPassed which) h = absurd h
 
 -- what is given twice isn't given once
-not_once : (all : List (Terminal × Precedence)) (x : Terminal) → IsGivenTwice all x → AreGivenOnce all → ⊥
+not_once : (all : List (TerminalName × Precedence)) (x : TerminalName) → IsGivenTwice all x → AreGivenOnce all → ⊥
 not_once all x (front, back, p, q, e, (k, lt, at)) once =
-    let d : Terminal × Precedence = (x, p) in
+    let d : TerminalName × Precedence = (x, p) in
     let first : slice_index_or all k d ≡ (x, p)
     = ap (λ xs. slice_index_or xs k d) e ∙ (get_or_append_left front ((x, q) ∷ back) d k lt ∙ at) in
     let second : slice_index_or all (length front) d ≡ (x, q)

@@ -19,7 +19,7 @@ use Rattle.ly_join.specs.Numbering.{appearing, first_appearances, left_sides}
 use Rattle.ly_join.specs.Precedences.{given, AreGivenOnce, HasPrecedence}
 use Rattle.ly_join.specs.Scanning.{Acting, Returning, nothing, returns, first_byte, IsEmitted}
 use Rattle.ly_join.specs.Scanning.{IsReturned, IsScanAction, Scanning}
-use Rattle.ly_join.specs.Terminals.{Terminal, end, undefined, byte, same_terminal, token, IsNumbered, IsOfByte}
+use Rattle.ly_join.specs.Terminals.{TerminalName, end, undefined, byte, same_terminal, token, IsNumbered, IsOfByte}
 use Rattle.ly_join.specs.declared.precedence.Precedence.{Precedence}
 use Rattle.ly_base.specs.declared.scan_action.Emitted.{Emitted}
 use Rattle.ly_base.specs.declared.scan_action.Emitted.TheVariants as emitted
@@ -70,7 +70,8 @@ module _ {X : Type 0} (same : X → X → Bool) (sound : (x y : X) → same x y 
   }
 
 -- a precedence is one where each is given once
-precedence_one : (all : List (Terminal × Precedence)) → AreGivenOnce all → (x : Terminal) (o q : Option Precedence)
+precedence_one : (all : List (TerminalName × Precedence)) → AreGivenOnce all
+    → (x : TerminalName) (o q : Option Precedence)
     → HasPrecedence all x o → HasPrecedence all x q → o ≡ q
 precedence_one all once x None None h g = refl
 precedence_one all once x None (Some q) h g = absurd (h q g)
@@ -84,7 +85,7 @@ precedence_one all once x (Some p) (Some q) h g =
 module _ (m : SymbolTable) (tokens : AllPairs (λ x y. x ≢ y) m.terminals)
     (names : AllPairs (λ x y. x ≢ y) m.nonterminals)
     (apart : (n : List ℕ) → Contains m.terminals (token n) → Contains m.nonterminals n → ⊥) where
-  terminal_one : (x : Terminal) (t u : ℕ) → IsNumbered m.terminals x t → IsNumbered m.terminals x u → t ≡ u
+  terminal_one : (x : TerminalName) (t u : ℕ) → IsNumbered m.terminals x t → IsNumbered m.terminals x u → t ≡ u
   terminal_one x t u h g = one_place (λ z. z) m.terminals t u x x tokens h g refl
 
   word_one : (w : Word) (t u : ℕ) → IsTerminal m.terminals w t → IsTerminal m.terminals w u → t ≡ u
@@ -169,7 +170,7 @@ module _ (m : SymbolTable) (tokens : AllPairs (λ x y. x ≢ y) m.terminals)
   of_byte_one b t u (inr h) (inl g) = absurd (h.0 (member_at m.terminals u (byte b) g))
   of_byte_one b t u (inr h) (inr g) = h.1 ∙ sym g.1
 
-  returned_one : (x : Terminal) (t u : ℕ) → IsReturned m.terminals x t → IsReturned m.terminals x u → t ≡ u
+  returned_one : (x : TerminalName) (t u : ℕ) → IsReturned m.terminals x t → IsReturned m.terminals x u → t ≡ u
   returned_one (byte b) t u h g = of_byte_one b t u h g
   returned_one (token n) t u h g = terminal_one (token n) t u h g
   returned_one end t u h g = terminal_one end t u h g
@@ -186,7 +187,7 @@ module _ (m : SymbolTable) (tokens : AllPairs (λ x y. x ≢ y) m.terminals)
       (h.begin ∙ sym g.begin) (emitted_one a.returning c.emits d.emits h.emits g.emits)
 
 -- the parts of a specification
-make : Grammar → List Terminal → List (List ℕ) → List (Option Precedence) → List Note → List ScanAction → Spec
+make : Grammar → List TerminalName → List (List ℕ) → List (Option Precedence) → List Note → List ScanAction → Spec
 make g ts ns ps notes scanner = record {
   grammar = g;
   terminals = ts;
@@ -248,7 +249,7 @@ module _ (x : Scanning) (w : Written) (s t : Spec) (h : Joined x w s) (g : Joine
   rules_same = rules_one (table_of s) tokens_once names_once kept_apart w.rules h.rules g.rules h.notes g.notes h.joined
       (subst (λ m. AreJoined m w.rules g.rules g.notes) (sym table_same) g.joined)
 
-  grammar_of : List Terminal → List (List ℕ) → ℕ → List Rule → Grammar
+  grammar_of : List TerminalName → List (List ℕ) → ℕ → List Rule → Grammar
   grammar_of ts ns start rules
       = grammar_from (length ts) (length ns) start (accept_rule (length ns) start ∷ rules)
 

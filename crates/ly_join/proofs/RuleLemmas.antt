@@ -20,7 +20,7 @@ use Rattle.ly_join.specs.Joined.{last_terminal, later, number_in, AreJoined, IsJ
 use Rattle.ly_base.specs.declared.numbers.Sym.{Sym}
 use Rattle.ly_join.specs.Joined.{IsTerminal, SymbolTable}
 use Rattle.ly_join.specs.Numbering.{rule_literals}
-use Rattle.ly_join.specs.Terminals.{Terminal, byte, end, literal_in, token}
+use Rattle.ly_join.specs.Terminals.{TerminalName, byte, end, literal_in, token}
 use Rattle.ly_join.specs.Private.Rules.{AreCovered, HasAll, HasLiteral, IsBelow}
 use Rattle.ly_join.specs.Private.Rules.{IsUndefinedIn, RulesJoined}
 use Rattle.ly_join.specs.declared.symbol.Symbol as code
@@ -64,7 +64,8 @@ filter_map_in h (z ∷ xs) x y there is = elim (Contains-cons_cases z xs x there
   behind (Some w) ys y g = Contains-later w ys y g
 
 -- a word of which the literals have numbers
-has_literal : (ts : List Terminal) (ws : List Word) (w : Word) → HasAll ts (filter_map literal_in ws) → Contains ws w
+has_literal : (ts : List TerminalName) (ws : List Word) (w : Word) → HasAll ts (filter_map literal_in ws)
+    → Contains ws w
     → HasLiteral ts w
 has_literal ts ws (literal b) all there = all (byte b) (filter_map_in literal_in ws (literal b) (byte b) there refl)
 has_literal ts ws (mark m) all there = tt
@@ -75,7 +76,8 @@ has_literal ts ws block all there = tt
 has_literal ts ws braces all there = tt
 has_literal ts ws other all there = tt
 
-have_literals : (ts : List Terminal) (ws : List Word) → HasAll ts (filter_map literal_in ws) → All (HasLiteral ts) ws
+have_literals : (ts : List TerminalName) (ws : List Word) → HasAll ts (filter_map literal_in ws)
+    → All (HasLiteral ts) ws
 have_literals ts ws all = All-weaker (Contains ws) (HasLiteral ts) (λ w there. has_literal ts ws w all there) ws
     (All-contains_itself ws)
 
@@ -182,7 +184,7 @@ rules_more m rs rules notes r rule note so_far one apart = record {
 }
 
 -- the terminal of a word is below the number of terminals
-pub terminal_within : (ts : List Terminal) (w : Word) (t : ℕ) → IsTerminal ts w t → t < length ts
+pub terminal_within : (ts : List TerminalName) (w : Word) (t : ℕ) → IsTerminal ts w t → t < length ts
 terminal_within ts (name n) t is = slice_get_within ts t (token n) is
 terminal_within ts (literal b) t is = slice_get_within ts t (byte b) is
 terminal_within ts (mark k) t is = absurd is
@@ -199,7 +201,7 @@ found_below n None h = tt
 found_below n (Some s) h = h
 
 -- a numbered symbol is one that rules may name
-numbered_within : (ts : List Terminal) (t : ℕ) (x : Terminal) → (x ≡ end → ⊥) → slice_get ts 0 ≡ Some end
+numbered_within : (ts : List TerminalName) (t : ℕ) (x : TerminalName) → (x ≡ end → ⊥) → slice_get ts 0 ≡ Some end
     → slice_get ts t ≡ Some x → (0 < t) × (t < length ts)
 numbered_within ts zero x apart first is = absurd (apart (cc))
 numbered_within ts (suc t) x apart first is = (omega arith, slice_get_within ts (suc t) x is)

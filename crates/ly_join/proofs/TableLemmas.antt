@@ -11,7 +11,7 @@ use Rattle.std.proofs.lemmas.List.{get_or-replicate, get_or-set_same, get_or-set
 use Rattle.std.proofs.lemmas.List.{length-replicate}
 use Rattle.std.proofs.lemmas.List.Elements.{Contains-push_cases}
 use Rattle.ly_base.specs.declared.numbers.Sym.{Sym}
-use Rattle.ly_join.specs.Terminals.{Terminal, end, undefined, token, byte, same_terminal}
+use Rattle.ly_join.specs.Terminals.{TerminalName, end, undefined, token, byte, same_terminal}
 use Rattle.ly_join.specs.Private.Tables.{AreTables, IsFoundAs}
 use Rattle.ly_base.proofs.MemberLemmas.{Contains-cons_cases, Contains-one}
 use Rattle.ly_base.proofs.ListLemmas.{slice_get-append, slice_get-behind}
@@ -26,38 +26,40 @@ bytes_itself [] = refl
 bytes_itself (x ∷ s) = rw (eq-eqb x x refl, bytes_itself s)
 
 -- terminals that pass the test are one, and a terminal passes it with itself
-pub same_sound : (x y : Terminal) → same_terminal x y ≡ true → x ≡ y
+pub same_sound : (x y : TerminalName) → same_terminal x y ≡ true → x ≡ y
 same_sound end end h = refl
 same_sound undefined undefined h = refl
 same_sound (token m) (token n) h = ap token (same_bytes m n h)
 same_sound (byte b) (byte c) h = ap byte (eqb-true b c h)
 same_sound x y h = absurd (true≢false (sym h))
 
-pub same_itself : (x : Terminal) → same_terminal x x ≡ true
+pub same_itself : (x : TerminalName) → same_terminal x x ≡ true
 same_itself end = refl
 same_itself undefined = refl
 same_itself (token n) = bytes_itself n
 same_itself (byte b) = eq-eqb b b refl
 
 -- what is found is there, and what isn't found isn't
-pub found_there : (ts : List Terminal) (x : Terminal) (found : Option Sym) → IsFoundAs ts x found
+pub found_there : (ts : List TerminalName) (x : TerminalName) (found : Option Sym) → IsFoundAs ts x found
     → is_some found ≡ true → Contains ts x
 found_there ts x None h is = absurd (true≢false (sym is))
 found_there ts x (Some t) h is = member_at ts t.0 x h
 
-pub unfound_there : (ts : List Terminal) (x : Terminal) (found : Option Sym) → IsFoundAs ts x found
+pub unfound_there : (ts : List TerminalName) (x : TerminalName) (found : Option Sym) → IsFoundAs ts x found
     → is_some found ≡ false → Contains ts x → ⊥
 unfound_there ts x None h is = h
 unfound_there ts x (Some t) h is = absurd (true≢false is)
 
 -- what is found stays where it is when another one comes
-pub found_later : (ts : List Terminal) (y x : Terminal) (found : Option Sym) → (y ≡ x → ⊥) → IsFoundAs ts x found
+pub found_later : (ts : List TerminalName) (y x : TerminalName) (found : Option Sym) → (y ≡ x → ⊥)
+    → IsFoundAs ts x found
     → IsFoundAs (ts ++ y ∷ []) x found
 found_later ts y x None other h = λ there. elim (Contains-push_cases ts y x there) [ inl old ↦ h old | inr e ↦ other e ]
 found_later ts y x (Some t) other h = slice_get-append ts (y ∷ []) t.0 x h
 
 -- what isn't there isn't found
-pub not_found : (ts : List Terminal) (x : Terminal) (found : Option Sym) → (Contains ts x → ⊥) → IsFoundAs ts x found
+pub not_found : (ts : List TerminalName) (x : TerminalName) (found : Option Sym) → (Contains ts x → ⊥)
+    → IsFoundAs ts x found
     → found ≡ None
 not_found ts x None new h = refl
 not_found ts x (Some t) new h = absurd (new (member_at ts t.0 x h))
@@ -93,13 +95,13 @@ module _ {K V : Type 0} (test : K → Bool) where
       by None g = lookup_last es e g ∙ ap (λ b. cond b (Some e.1) None) off
       by (Some v) g = lookup_kept es e v g
 
-module _ {K : Type 0} (name_of : K → List ℕ) (ts : List Terminal) (by_name : List (K × Sym))
+module _ {K : Type 0} (name_of : K → List ℕ) (ts : List TerminalName) (by_name : List (K × Sym))
     (by_byte : List (Option Sym)) (s : Sym) (tables : AreTables name_of ts by_name by_byte) (next : s.0 ≡ length ts)
     (small : length ts + 1 < 2 ^ 32) where
-  shorter : (x : Terminal) → length (ts ++ x ∷ []) < 2 ^ 32
+  shorter : (x : TerminalName) → length (ts ++ x ∷ []) < 2 ^ 32
   shorter x = omega (arith, small, length_push ts x)
 
-  here : (x : Terminal) → slice_get (ts ++ x ∷ []) s.0 ≡ Some x
+  here : (x : TerminalName) → slice_get (ts ++ x ∷ []) s.0 ≡ Some x
   here x = subst (λ n. slice_get (ts ++ x ∷ []) n ≡ Some x) (sym next) (slice_get-behind ts [] (length ts) x refl)
 
   -- the tables with one token more

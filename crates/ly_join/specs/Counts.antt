@@ -6,7 +6,7 @@ use Rattle.ly_yaccread.specs.Actions.{Making, build}
 use Rattle.ly_yaccread.specs.File.{Written}
 use Rattle.ly_join.specs.Numbering.{declared_terminals, nonterminals_of, terminals_of}
 use Rattle.ly_join.specs.Scanning.{Scanning}
-use Rattle.ly_join.specs.Terminals.{Terminal, token}
+use Rattle.ly_join.specs.Terminals.{TerminalName, token}
 use Rattle.ly_join.specs.declared.limit.Limit.{Limit}
 use Rattle.ly_join.specs.declared.limit.Limit.TheVariants.{Symbols, Rules, LexRules, Body, Conditions, Name}
 
@@ -16,7 +16,7 @@ greatest [] = 0
 greatest (n ∷ ns) = max n (greatest ns)
 
 -- how many bytes the name of a terminal has, if it has one
-abbrev pub token_length : Terminal → ℕ
+abbrev pub token_length : TerminalName → ℕ
 token_length (token n) = length n
 token_length _ = 0
 

@@ -10,7 +10,7 @@ use Rattle.ly_join.specs.Grammar.{Grammar, Rule, Symbol, terminal, nonterminal, 
 use Rattle.ly_join.specs.Numbering.{nonterminals_of, start_name, terminals_of, IsNonterminal, IsToken}
 use Rattle.ly_join.specs.Precedences.{given, AreGivenOnce, HasPrecedence}
 use Rattle.ly_join.specs.Scanning.{Scanning, IsScanAction}
-use Rattle.ly_join.specs.Terminals.{Terminal, token, byte, IsNumbered}
+use Rattle.ly_join.specs.Terminals.{TerminalName, token, byte, IsNumbered}
 use Rattle.ly_join.specs.declared.precedence.Precedence.{Precedence}
 use Rattle.ly_join.specs.declared.rule.RuleNote as code
 use Rattle.ly_base.specs.declared.scan_action.ScanAction.{ScanAction}
@@ -27,7 +27,7 @@ note_of n = record { precedence = n.precedence; shape = shape_of n.tree }
 -- rule says beside its symbols, and what each rule of the lex file does.
 pub record Spec : Type 0 where
   pub grammar : Grammar
-  pub terminals : List Terminal
+  pub terminals : List TerminalName
   pub nonterminals : List (List ℕ)
   pub precedences : List (Option Precedence)
   pub notes : List Note
@@ -35,12 +35,12 @@ pub record Spec : Type 0 where
 
 -- What the numbers of symbols mean: the terminals, the nonterminals, and the precedence of each terminal.
 pub record SymbolTable : Type 0 where
-  pub terminals : List Terminal
+  pub terminals : List TerminalName
   pub nonterminals : List (List ℕ)
   pub precedences : List (Option Precedence)
 
 -- the terminal that a word of a rule is
-abbrev pub IsTerminal : List Terminal → Word → ℕ → Type 0
+abbrev pub IsTerminal : List TerminalName → Word → ℕ → Type 0
 IsTerminal terminals (name n) t = IsNumbered terminals (token n) t
 IsTerminal terminals (literal b) t = IsNumbered terminals (byte b) t
 IsTerminal terminals _ t = ⊥

@@ -6,7 +6,7 @@ use Rattle.std.specs.Str.{bytes_eq}
 use Rattle.ly_yaccread.specs.Declarations.{Declared}
 use Rattle.ly_yaccread.specs.File.{Written}
 use Rattle.ly_yaccread.specs.Rules.{Ruling}
-use Rattle.ly_join.specs.Terminals.{Terminal, end, undefined, token, literal_in, same_terminal, terminal_in}
+use Rattle.ly_join.specs.Terminals.{TerminalName, end, undefined, token, literal_in, same_terminal, terminal_in}
 
 -- the members of a list, each once, in the order of their first appearance: the first, and then those of the rest that
 -- aren't the first
@@ -15,20 +15,20 @@ first_appearances same [] = []
 first_appearances same (x ∷ xs) = x ∷ filter (λ y. not (same x y)) (first_appearances same xs)
 
 -- what a declaration names
-abbrev pub declared_terminals : Declared → List Terminal
+abbrev pub declared_terminals : Declared → List TerminalName
 declared_terminals d = filter_map terminal_in d.symbols
 
 -- the literals of a rule: of its body, and the one behind its `%prec`
-abbrev pub rule_literals : Ruling → List Terminal
+abbrev pub rule_literals : Ruling → List TerminalName
 rule_literals r = filter_map literal_in (r.body ++ option_to_list r.precedence)
 
 -- The terminals as they stand in the text: those of the declarations, and the literals of the rules. A name that a
 -- rule uses is a token only where a declaration names it.
-abbrev pub appearing : Written → List Terminal
+abbrev pub appearing : Written → List TerminalName
 appearing w = flat_map declared_terminals w.preamble.declarations ++ flat_map rule_literals w.rules
 
 -- the terminals by number: the end of the text, what the grammar doesn't name, and the others by first appearance
-abbrev pub terminals_of : Written → List Terminal
+abbrev pub terminals_of : Written → List TerminalName
 terminals_of w = first_appearances same_terminal (end ∷ undefined ∷ appearing w)
 
 -- the left sides as they stand in the text

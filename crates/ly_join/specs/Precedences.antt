@@ -5,7 +5,7 @@ use Rattle.ly_yaccread.specs.Declarations.{Declared}
 use Rattle.ly_yaccread.specs.declared.file.DeclarationKind.{DeclarationKind}
 use Rattle.ly_yaccread.specs.declared.file.DeclarationKind.TheVariants as kind
 use Rattle.ly_join.specs.Numbering.{declared_terminals}
-use Rattle.ly_join.specs.Terminals.{Terminal}
+use Rattle.ly_join.specs.Terminals.{TerminalName}
 use Rattle.ly_join.specs.declared.precedence.Associativity.{Associativity}
 use Rattle.ly_join.specs.declared.precedence.Associativity.TheVariants.{Left, Right, Nonassociative}
 use Rattle.ly_join.specs.declared.precedence.Precedence.{Precedence}
@@ -18,30 +18,30 @@ associativity_of kind.Right = Some Right
 associativity_of kind.Nonassociative = Some Nonassociative
 
 -- what the n-th declaration gives: each terminal that it names, with the precedence
-abbrev pub given_by : ℕ → Declared → List (Terminal × Precedence)
+abbrev pub given_by : ℕ → Declared → List (TerminalName × Precedence)
 given_by n d = option_map_or
     (λ a. map (λ x. let p : Precedence = record { level = n; associativity = a } in (x, p)) (declared_terminals d))
     (associativity_of d.kind) []
 
 -- what declarations from the n-th on give
-abbrev pub given_from : ℕ → List Declared → List (Terminal × Precedence)
+abbrev pub given_from : ℕ → List Declared → List (TerminalName × Precedence)
 given_from n [] = []
 given_from n (d ∷ ds) = given_by n d ++ given_from (n + 1) ds
 
 -- all that declarations give
-abbrev pub given : List Declared → List (Terminal × Precedence)
+abbrev pub given : List Declared → List (TerminalName × Precedence)
 given ds = given_from 0 ds
 
 -- the terminal has this precedence, or none
-abbrev pub HasPrecedence : List (Terminal × Precedence) → Terminal → Option Precedence → Type 0
+abbrev pub HasPrecedence : List (TerminalName × Precedence) → TerminalName → Option Precedence → Type 0
 HasPrecedence all x None = (p : Precedence) → Contains all (x, p) → ⊥
 HasPrecedence all x (Some p) = Contains all (x, p)
 
 -- no terminal is given a precedence twice
-abbrev pub AreGivenOnce : List (Terminal × Precedence) → Type 0
+abbrev pub AreGivenOnce : List (TerminalName × Precedence) → Type 0
 AreGivenOnce all = AllPairs (λ a b. a.0 ≢ b.0) all
 
 -- the terminal is given a precedence twice
-abbrev pub IsGivenTwice : List (Terminal × Precedence) → Terminal → Type 0
-IsGivenTwice all x = (front back : List (Terminal × Precedence)) × (p q : Precedence)
+abbrev pub IsGivenTwice : List (TerminalName × Precedence) → TerminalName → Type 0
+IsGivenTwice all x = (front back : List (TerminalName × Precedence)) × (p q : Precedence)
     × (all ≡ front ++ (x, q) ∷ back) × Contains front (x, p)

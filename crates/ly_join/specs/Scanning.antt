@@ -1,10 +1,10 @@
 -- What a lex file says to the grammar.
 use Rattle.std.specs.Prelude.{◌≡◌, ℕ, List, map, length, Option}
-use Rattle.ly_lexread.specs.declared.action.Action.{Action}
+use Rattle.ly_lexread.specs.declared.action.LexAction.{LexAction}
 use Rattle.ly_lexread.specs.declared.action.Returned.{Returned}
 use Rattle.ly_lexread.specs.declared.action.Returned.TheVariants as lex
 use Rattle.ly_lexread.specs.declared.file.LexFile.{LexFile}
-use Rattle.ly_join.specs.Terminals.{Terminal, token, byte, IsNumbered, IsOfByte}
+use Rattle.ly_join.specs.Terminals.{TerminalName, token, byte, IsNumbered, IsOfByte}
 use Rattle.ly_base.specs.declared.scan_action.Emitted.{Emitted}
 use Rattle.ly_base.specs.declared.scan_action.Emitted.TheVariants as emitted
 use Rattle.ly_base.specs.declared.scan_action.ScanAction.{ScanAction}
@@ -12,7 +12,7 @@ use Rattle.ly_base.specs.declared.scan_action.ScanAction.{ScanAction}
 -- What an action returns: nothing, this token or literal, or the literal of the first byte.
 pub data Returning : Type 0 where
   nothing : Returning
-  returns : Terminal → Returning
+  returns : TerminalName → Returning
   first_byte : Returning
 
 -- what is returned, whatever room its name has
@@ -34,7 +34,7 @@ pub record Scanning : Type 0 where
   pub conditions : ℕ
   pub actions : List Acting
 
-abbrev pub acting_of : Action → Acting
+abbrev pub acting_of : LexAction → Acting
 acting_of a = record { begin = a.begin; returning = returning_of a.returns }
 
 -- what the value of a lex file says
@@ -46,17 +46,17 @@ scanning_of f = record {
 }
 
 -- the number of what is returned; a literal that the grammar doesn't name is undefined
-abbrev pub IsReturned : List Terminal → Terminal → ℕ → Type 0
+abbrev pub IsReturned : List TerminalName → TerminalName → ℕ → Type 0
 IsReturned terminals (byte b) t = IsOfByte terminals b t
 IsReturned terminals x t = IsNumbered terminals x t
 
 -- the token that comes of what an action returns
-abbrev pub IsEmitted : List Terminal → Returning → Emitted → Type 0
+abbrev pub IsEmitted : List TerminalName → Returning → Emitted → Type 0
 IsEmitted terminals nothing e = e ≡ emitted.Nothing
 IsEmitted terminals (returns x) e = (t : ℕ) × (e ≡ emitted.Terminal (record { 0 = t })) × IsReturned terminals x t
 IsEmitted terminals first_byte e = e ≡ emitted.FirstByte
 
 -- What an action does, over numbered terminals.
-pub record IsScanAction (terminals : List Terminal) (a : Acting) (c : ScanAction) : Type 0 where
+pub record IsScanAction (terminals : List TerminalName) (a : Acting) (c : ScanAction) : Type 0 where
   pub begin : c.begin ≡ a.begin
   pub emits : IsEmitted terminals a.returning c.emits

@@ -1,7 +1,7 @@
 ghost use Rattle.std.specs.Prelude.{◌≡◌, ◌<◌, ◌≤◌, length, map, max, MatchResult};
 ghost use Rattle.ly_yaccread.specs.File.{making_of, ruling_of, written_of};
 ghost use Rattle.ly_join.specs.Scanning.{scanning_of};
-ghost use Rattle.ly_join.specs.Terminals.{Terminal};
+ghost use Rattle.ly_join.specs.Terminals.{TerminalName};
 ghost use Rattle.ly_join.specs.Private.Tables.{terminal_of};
 ghost use Rattle.ly_join.specs.declared.limit.Limit as spec;
 ghost use Rattle.ly_join.specs.declared.limit.Limit.TheVariants as limit;
@@ -13,7 +13,7 @@ ghost use Rattle.ly_join.specs.FaultNames.{limit_name};
 use crate::fault::JoinFault;
 use ly_base::Limits;
 use ly_lexread::LexFile;
-use ly_yaccread::{Action, Production, Symbol, YaccFile};
+use ly_yaccread::{Production, SymbolName, TreeAction, YaccFile};
 
 /// A count that has a limit.
 #[derive(Clone, Copy, Debug, PartialEq, Eq)]
@@ -113,7 +113,7 @@ fn longest_name(yacc: &YaccFile) -> usize
 }
 
 /// How many bytes the longest name among symbols has.
-fn longest_token(symbols: &[Symbol]) -> usize
+fn longest_token(symbols: &[SymbolName]) -> usize
     ensures { result ≡ greatest (map token_length (map terminal_of symbols.now)) }
 {
     let mut longest = 0;
@@ -124,21 +124,21 @@ fn longest_token(symbols: &[Symbol]) -> usize
 }
 
 /// How many bytes the name of a symbol has; 0 of a literal.
-fn token_length(symbol: &Symbol) -> usize
+fn token_length(symbol: &SymbolName) -> usize
     ensures { result ≡ token_length (terminal_of symbol.now) }
 {
     match symbol {
-        Symbol::Name(name) => name.len(),
-        Symbol::Literal(_) => 0,
+        SymbolName::Name(name) => name.len(),
+        SymbolName::Literal(_) => 0,
     }
 }
 
 /// How many bytes the constructor of an action has; 0 where it has none.
-fn constructor_length(action: &Action) -> usize
+fn constructor_length(action: &TreeAction) -> usize
     ensures { result ≡ constructor_length (making_of action.now) }
 {
     match action {
-        Action::Build { name, .. } => name.len(),
-        Action::Default | Action::Pass(_) => 0,
+        TreeAction::Build { name, .. } => name.len(),
+        TreeAction::Default | TreeAction::Pass(_) => 0,
     }
 }

@@ -11,7 +11,7 @@ ghost use Rattle.ly_join.specs.Private.Tables.{terminal_of};
 use crate::nonterminals::Nonterminals;
 use crate::terminal::Terminals;
 use ly_base::OutOfMemory;
-use ly_yaccread::{Production, Symbol, YaccFile};
+use ly_yaccread::{Production, SymbolName, YaccFile};
 use std::alloc::Global;
 
 /// Numbers the terminals: `$end`, `$undef`, and the tokens and literals of declarations, bodies and `%prec`.
@@ -32,7 +32,7 @@ pub(crate) fn number_terminals(alloc: Global, yacc: &YaccFile) -> Result<Termina
 fn with_symbols(
     alloc: Global,
     mut terminals: Terminals,
-    symbols: &[Symbol],
+    symbols: &[SymbolName],
 ) -> Result<Terminals, OutOfMemory>
     ensures { IfOk result (λ t. t ≡ with_all same_terminal terminals (map terminal_of symbols.now)) }
 {
@@ -63,14 +63,14 @@ fn with_rule(
 fn with_literal(
     alloc: Global,
     terminals: Terminals,
-    symbol: &Symbol,
+    symbol: &SymbolName,
 ) -> Result<Terminals, OutOfMemory>
     ensures { IfOk result (λ t. t ≡ with_all same_terminal terminals
         (option_to_list (literal_in (symbol_word symbol.now)))) }
 {
     match symbol {
-        Symbol::Name(_) => Ok(terminals),
-        Symbol::Literal(_) => terminals.with_symbol(alloc, symbol),
+        SymbolName::Name(_) => Ok(terminals),
+        SymbolName::Literal(_) => terminals.with_symbol(alloc, symbol),
     }
 }
 

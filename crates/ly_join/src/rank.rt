@@ -4,7 +4,8 @@ ghost use Rattle.std.specs.List.{flat_map};
 ghost use Rattle.ly_yaccread.specs.File.{declared_of};
 ghost use Rattle.ly_join.specs.Numbering.{declared_terminals};
 ghost use Rattle.ly_join.specs.Precedences.{associativity_of, given as given_all};
-ghost use Rattle.ly_join.specs.Terminals.{terminal_from, Terminal};
+ghost use Rattle.ly_join.specs.Terminals as value;
+ghost use Rattle.ly_join.specs.Terminals.{terminal_from};
 ghost use Rattle.ly_join.specs.Private.Rules.{AreGiven, HasAll, IsGivingFault};
 ghost use Rattle.ly_join.specs.Private.Tables.{terminal_of};
 ghost use Rattle.ly_join.specs.declared.precedence.Precedence as spec;
@@ -12,7 +13,7 @@ ghost use Rattle.ly_join.specs.declared.precedence.Precedence as spec;
 use crate::fault::JoinFault;
 use crate::precedence::{Associativity, Precedence};
 use crate::terminal::{TerminalName, Terminals};
-use ly_yaccread::{Declaration, DeclarationKind, Symbol};
+use ly_yaccread::{Declaration, DeclarationKind, SymbolName};
 use std::alloc::{AllocError, Global};
 
 /// For each terminal its precedence, if a declaration gives it one.
@@ -62,15 +63,16 @@ fn give(
     alloc: Global,
     given: &mut [Option<Precedence>],
     terminals: &Terminals,
-    symbols: &[Symbol],
+    symbols: &[SymbolName],
     precedence: Precedence,
 ) -> Result<(), JoinFault>
     requires once { AllPairs (λ x y. x ≢ y) terminals.now }
     requires all { HasAll terminals.now (map terminal_of symbols.now) }
     requires long { length given.old ≡ length terminals.now }
-    ensures ok { OnOk result ((before : List (Terminal × spec.Precedence)) → AreGiven before terminals.now given.old
+    ensures ok { OnOk result
+        ((before : List (value.TerminalName × spec.Precedence)) → AreGiven before terminals.now given.old
         → AreGiven (before ++ map (λ s. (terminal_of s, precedence)) symbols.now) terminals.now given.new) }
-    ensures fault { IfErr result (λ f. (before : List (Terminal × spec.Precedence))
+    ensures fault { IfErr result (λ f. (before : List (value.TerminalName × spec.Precedence))
         → AreGiven before terminals.now given.old
         → IsGivingFault (before ++ map (λ s. (terminal_of s, precedence)) symbols.now) f) }
 {
@@ -85,11 +87,11 @@ fn give(
 }
 
 /// What a symbol is as a terminal, with room of its own.
-fn name_of(alloc: Global, symbol: &Symbol) -> Result<TerminalName, AllocError>
+fn name_of(alloc: Global, symbol: &SymbolName) -> Result<TerminalName, AllocError>
     ensures { IfOk result (λ name. terminal_from name ≡ terminal_of symbol.now) }
 {
     match symbol {
-        Symbol::Name(name) => Ok(TerminalName::Token(Vec::from_slice(alloc, name)?)),
-        Symbol::Literal(byte) => Ok(TerminalName::Literal(*byte)),
+        SymbolName::Name(name) => Ok(TerminalName::Token(Vec::from_slice(alloc, name)?)),
+        SymbolName::Literal(byte) => Ok(TerminalName::Literal(*byte)),
     }
 }

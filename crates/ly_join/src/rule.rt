@@ -20,7 +20,7 @@ use crate::precedence::Precedence;
 use crate::symbol::Symbol;
 use crate::terminal::Terminals;
 use ly_base::{RuleTree, Sym};
-use ly_yaccread::{Action, Production, Symbol as SymbolName};
+use ly_yaccread::{Production, SymbolName, TreeAction};
 use std::alloc::{AllocError, Global};
 
 /// What a rule says beside its symbols.
@@ -199,13 +199,13 @@ fn last_terminal(body: &[Symbol]) -> Option<Sym>
 }
 
 /// What a rule's tree is, by its action and its body.
-fn rule_tree(alloc: Global, action: &Action, body: &[Symbol]) -> Result<RuleTree, AllocError>
+fn rule_tree(alloc: Global, action: &TreeAction, body: &[Symbol]) -> Result<RuleTree, AllocError>
     ensures { IfOk result (λ tree. shape_of tree ≡ shape_by (making_of action.now) (map symbol_of body.now)) }
 {
     match action {
-        Action::Default => Ok(default_tree(body)),
-        Action::Pass(place) => Ok(RuleTree::Pass(*place)),
-        Action::Build { name, places } => Ok(RuleTree::Build {
+        TreeAction::Default => Ok(default_tree(body)),
+        TreeAction::Pass(place) => Ok(RuleTree::Pass(*place)),
+        TreeAction::Build { name, places } => Ok(RuleTree::Build {
             name: Vec::from_slice(alloc, name)?,
             places: Vec::from_slice(alloc, places)?,
         }),

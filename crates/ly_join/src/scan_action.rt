@@ -7,14 +7,14 @@ ghost use Rattle.ly_join.specs.Private.Rules.{IsFaultOfActions, IsUndeclaredIn};
 use crate::fault::JoinFault;
 use crate::terminal::Terminals;
 use ly_base::{Emitted, ScanAction};
-use ly_lexread::{Action, Returned};
+use ly_lexread::{LexAction, Returned};
 use std::alloc::Global;
 
 /// What the actions of a lex file do.
 pub(crate) fn scan_actions(
     alloc: Global,
     terminals: &Terminals,
-    actions: &[Action],
+    actions: &[LexAction],
 ) -> Result<Vec<ScanAction>, JoinFault>
     ensures ok { IfOk result (λ joined.
         AllZip (IsScanAction terminals.now) (map acting_of actions.now) joined.items) }

@@ -6,7 +6,7 @@ ghost use Rattle.ly_join.specs.Private.Tables.{terminal_of, IsFoundAs};
 
 use indexmap::IndexMap;
 use ly_base::{OutOfMemory, Sym};
-use ly_yaccread::Symbol;
+use ly_yaccread::SymbolName;
 use std::alloc::Global;
 use std::marker::Model;
 
@@ -36,10 +36,11 @@ pub(crate) struct Terminals {
 
 impl Model for Terminals {
     ghost use Rattle.std.specs.Prelude.{List, map};
-    ghost use Rattle.ly_join.specs.Terminals.{Terminal, terminal_from};
+    ghost use Rattle.ly_join.specs.Terminals as value;
+    ghost use Rattle.ly_join.specs.Terminals.{terminal_from};
     ghost use Rattle.ly_join.specs.Private.Tables.{AreTables};
 
-    ghost Value = { List Terminal };
+    ghost Value = { List value.TerminalName };
 
     ghost view = { λ t. map terminal_from t.names.items };
 
@@ -103,17 +104,17 @@ impl Terminals {
     }
 
     /// The number of a symbol, if it is a terminal.
-    pub(crate) fn find(&self, symbol: &Symbol) -> Option<Sym>
+    pub(crate) fn find(&self, symbol: &SymbolName) -> Option<Sym>
         ensures { IsFoundAs self.now (terminal_of symbol.now) result }
     {
         match symbol {
-            Symbol::Name(name) => self.token(name),
-            Symbol::Literal(byte) => self.literal(*byte),
+            SymbolName::Name(name) => self.token(name),
+            SymbolName::Literal(byte) => self.literal(*byte),
         }
     }
 
     /// The number of a symbol that is a terminal.
-    pub(crate) fn number(&self, symbol: &Symbol) -> Sym
+    pub(crate) fn number(&self, symbol: &SymbolName) -> Sym
         requires { Contains self.now (terminal_of symbol.now) }
         ensures { IsNumbered self.now (terminal_of symbol.now) result.0 }
     {
@@ -124,13 +125,13 @@ impl Terminals {
     pub(crate) fn with_symbol(
         self,
         alloc: Global,
-        symbol: &Symbol,
+        symbol: &SymbolName,
     ) -> Result<Terminals, OutOfMemory>
         ensures { IfOk result (λ t. t ≡ with_one same_terminal self (terminal_of symbol.now)) }
     {
         match symbol {
-            Symbol::Name(name) => self.with_token(alloc, name),
-            Symbol::Literal(byte) => self.with_literal(*byte),
+            SymbolName::Name(name) => self.with_token(alloc, name),
+            SymbolName::Literal(byte) => self.with_literal(*byte),
         }
     }
 

@@ -14,7 +14,7 @@ use Rattle.ly_lexread.specs.Rules.{Rules, end, rule, skip}
 use Rattle.ly_lexread.specs.Statements.{Follows, NamesCondition, SaysAction, Statement, StatementFirst, Statements}
 use Rattle.ly_lexread.specs.Statements.{begins, done, empty, ends, in_braces, more, of_next, on_line, returns}
 use Rattle.ly_lexread.specs.Words.{Word, literal, mark, name, text_byte}
-use Rattle.ly_lexread.specs.declared.action.Action.{Action}
+use Rattle.ly_lexread.specs.declared.action.LexAction.{LexAction}
 use Rattle.ly_lexread.specs.declared.file.LexFile.{LexFile}
 use Rattle.ly_lexread.specs.declared.statement.Extent.{Extent}
 use Rattle.ly_lexread.proofs.FileLemmas.{some_condition, within_length}
@@ -101,7 +101,7 @@ module _ (bytes : List ℕ) (file : LexFile) (text : LexText bytes file) where
   has_condition = let some = some_there in let count = text.conditions in omega (arith, some, count)
 
   -- and what an action sets is one
-  pub begins_below : (k : ℕ) (a : Action) (c : ℕ) → slice_get file.actions.items k ≡ Some a → a.begin ≡ Some c
+  pub begins_below : (k : ℕ) (a : LexAction) (c : ℕ) → slice_get file.actions.items k ≡ Some a → a.begin ≡ Some c
       → c < file.conditions
   begins_below k a c at is =
       let below = effects_below (length text.all.conditions) text.sayings (map effect_of file.actions.items)

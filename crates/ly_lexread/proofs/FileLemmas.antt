@@ -12,7 +12,7 @@ use Rattle.ly_ere.specs.Patterns.{IsCutOf}
 use Rattle.ly_ere.specs.Winner.{AreCut}
 use Rattle.ly_ere.specs.declared.pattern.Rule.{Rule}
 use Rattle.ly_ere.proofs.PatternLaws.{cut_is_true}
-use Rattle.ly_lexread.specs.declared.action.Action.{Action}
+use Rattle.ly_lexread.specs.declared.action.LexAction.{LexAction}
 use Rattle.ly_lexread.specs.declared.file.LexFile.{LexFile}
 use Rattle.ly_lexread.specs.Action.{Effect, Saying, effect_of}
 use Rattle.ly_base.proofs.MemberLemmas.{Contains-none, Contains-one}
@@ -39,7 +39,7 @@ use Rattle.ly_lexread.proofs.RuleLemmas.{in_front, over_none, rule_one, rules_be
 use Rattle.ly_lexread.proofs.SharedLemmas.{effects_one}
 
 -- equal effects are those of actions that say the same
-same_actions : (as' bs : List Action) → map effect_of as' ≡ map effect_of bs → AreSameActions as' bs
+same_actions : (as' bs : List LexAction) → map effect_of as' ≡ map effect_of bs → AreSameActions as' bs
 same_actions [] [] e = tt
 same_actions [] (b ∷ bs) e = absurd (cc)
 same_actions (a ∷ as') [] e = absurd (cc)

@@ -29,7 +29,7 @@ use Rattle.ly_ere.proofs.PlaceLemmas.{names_one}
 use Rattle.ly_lexread.specs.Definitions.{BlanksBefore, DefinesName, DefinitionLine, defined_names}
 use Rattle.ly_lexread.specs.Names.{AreDefinitions, AreTextsOf, IsTextOf}
 use Rattle.ly_lexread.specs.Private.Names.{AreApart, AreCut, AreExtents, IsExtentOf, parts_of}
-use Rattle.ly_lexread.specs.declared.names.Texts.{Texts}
+use Rattle.ly_lexread.specs.declared.names.NameTexts.{NameTexts}
 use Rattle.ly_lexread.specs.declared.defined.NameLine.{NameLine}
 use Rattle.ly_lexread.proofs.BlankLemmas.{blanks_one}
 
@@ -267,7 +267,7 @@ where_some A B None some h = absurd (some refl)
 where_some A B (Some x) some h = h
 
 -- one more line is cut
-pub cut_push : (ds : List (List ℕ × List ℕ)) (t : Texts) (list : List NamedText) (n : NamedText) (flaw : Option ℕ)
+pub cut_push : (ds : List (List ℕ × List ℕ)) (t : NameTexts) (list : List NamedText) (n : NamedText) (flaw : Option ℕ)
     (d : List ℕ × List ℕ) (whole : Bool) → AreCut ds t → list ≡ t.list.items ++ n ∷ [] → n.name.now ≡ d.0
     → MatchBool whole (IsExtentOf d.1 n.text.now) ((u : List ℕ) → IsTextOf d.1 u → ⊥)
     → (flaw ≡ None → (t.flaw ≡ None) × (whole ≡ true)) → (flaw ≢ None → (t.flaw ≢ None) ⊎ (whole ≡ false))
@@ -319,7 +319,7 @@ parts_more lines i l less = ap (map parts_of) (ap (λ k. take k lines) (one_more
     one_more i = omega arith
 
 -- the texts of all lines
-pub cut_of : (lines : List NameLine) (ds : List (List ℕ × List ℕ)) (t : Texts) (list : List NamedText)
+pub cut_of : (lines : List NameLine) (ds : List (List ℕ × List ℕ)) (t : NameTexts) (list : List NamedText)
     → map parts_of lines ≡ ds → list ≡ t.list.items → AreCut (map parts_of lines) t
     → (map (λ d. d.name) (named_texts list) ≡ defined_names ds) × MatchOption t.flaw (AreExtents ds (named_texts list))
     (λ _. (texts : List DefinedText) → AreTextsOf ds texts → ⊥)
@@ -331,14 +331,14 @@ cut_of lines ds t list these is a = subst (λ l. (map (λ d. d.name) (named_text
     (λ _. (texts : List DefinedText) → AreTextsOf i texts → ⊥)) these (a.names, a.texts))
 
 -- they are distinct
-pub cut_distinct : (lines : List NameLine) (ds : List (List ℕ × List ℕ)) (t : Texts) (list : List NamedText)
+pub cut_distinct : (lines : List NameLine) (ds : List (List ℕ × List ℕ)) (t : NameTexts) (list : List NamedText)
     → map parts_of lines ≡ ds → list ≡ t.list.items → AreCut (map parts_of lines) t → AreApart (defined_names ds)
     → AreDistinct (named_texts list)
 cut_distinct lines ds t list these is a apart
     = apart_distinct (named_texts list) (subst AreApart (sym (cut_of lines ds t list these is a).0) apart)
 
 -- they are the definitions
-pub cut_defined : (lines : List NameLine) (ds : List (List ℕ × List ℕ)) (t : Texts) (list : List NamedText)
+pub cut_defined : (lines : List NameLine) (ds : List (List ℕ × List ℕ)) (t : NameTexts) (list : List NamedText)
     (names : List Definition) → map parts_of lines ≡ ds → list ≡ t.list.items → AreCut (map parts_of lines) t
     → AreApart (defined_names ds) → t.flaw ≡ None → AreNames (named_texts list) names → AreDefinitions ds names
 cut_defined lines ds t list names these is a apart whole are =

@@ -8,7 +8,7 @@ use Rattle.std.proofs.lemmas.List.{map-append, reverse-append, take_all}
 use Rattle.std.proofs.lemmas.Option.{get_or_from_slice_get, slice_get_within, slice_get-get_or}
 use Rattle.ly_lexread.specs.Action.{AreEffects, Effect, Saying, effect_of, next, own}
 use Rattle.ly_lexread.specs.Private.Statements.{saying_of}
-use Rattle.ly_lexread.specs.declared.action.Action.{Action}
+use Rattle.ly_lexread.specs.declared.action.LexAction.{LexAction}
 use Rattle.ly_lexread.specs.declared.action.Said.{Said}
 use Rattle.ly_lexread.specs.declared.action.Said.TheVariants.{Own, Next}
 
@@ -67,12 +67,12 @@ last_some (x ∷ xs) l e =
       sym all ∙ take-suc (x ∷ xs) n x (omega arith) ∙ ap (λ i. take n (x ∷ xs) ++ i ∷ []) is,
     )
 
-pub turned_push : (actions : List Action) (a : Action) → reverse (map effect_of (actions ++ a ∷ []))
+pub turned_push : (actions : List LexAction) (a : LexAction) → reverse (map effect_of (actions ++ a ∷ []))
     ≡ effect_of a ∷ reverse (map effect_of actions)
 turned_push actions a = ap reverse (map-append effect_of actions (a ∷ []))
     ∙ reverse-append (map effect_of actions) (effect_of a ∷ [])
 
-module _ (all items front : List Said) (done : List Saying) (actions : List Action)
+module _ (all items front : List Said) (done : List Saying) (actions : List LexAction)
     (whole : map saying_of all ≡ map saying_of items ++ done)
     (effects : AreEffects done (reverse (map effect_of actions))) where
   parts : (s : Said) → items ≡ front ++ s ∷ [] → map saying_of all ≡ map saying_of front ++ saying_of s ∷ done
@@ -88,7 +88,7 @@ module _ (all items front : List Said) (done : List Saying) (actions : List Acti
       ∙ ap (λ i. map saying_of front ++ next ∷ i) over in
       no_next (map saying_of front) es (subst (λ i. AreEffects i es) last h)
 
-  pub own_on : (s : Said) (a b : Action) (more : List Action) → items ≡ front ++ s ∷ [] → s ≡ Own a → b ≡ a
+  pub own_on : (s : Said) (a b : LexAction) (more : List LexAction) → items ≡ front ++ s ∷ [] → s ≡ Own a → b ≡ a
       → more ≡ actions ++ b ∷ []
       → (ss : List Saying) × (map saying_of all ≡ map saying_of front ++ ss)
       × AreEffects ss (reverse (map effect_of more))
@@ -98,7 +98,7 @@ module _ (all items front : List Said) (done : List Saying) (actions : List Acti
     rw (f, turned_push actions b, is) (ap effect_of same, effects),
   )
 
-  pub next_on : (s : Said) (a l : Action) (more : List Action) → items ≡ front ++ s ∷ [] → s ≡ Next
+  pub next_on : (s : Said) (a l : LexAction) (more : List LexAction) → items ≡ front ++ s ∷ [] → s ≡ Next
       → slice_get actions (length actions - 1) ≡ Some l → effect_of a ≡ effect_of l → more ≡ actions ++ a ∷ []
       → (ss : List Saying) × (map saying_of all ≡ map saying_of front ++ ss)
       × AreEffects ss (reverse (map effect_of more))
@@ -111,12 +111,12 @@ module _ (all items front : List Said) (done : List Saying) (actions : List Acti
         rw (f, turned_push actions a, is, turned_back) (same, subst (AreEffects done) turned_back effects),
       )
 
-pub last_is : (xs ys : List Action) (l : Action) → ys ≡ xs → Some l ≡ slice_get ys (length ys - 1)
+pub last_is : (xs ys : List LexAction) (l : LexAction) → ys ≡ xs → Some l ≡ slice_get ys (length ys - 1)
     → slice_get xs (length xs - 1) ≡ Some l
 last_is xs ys l e f = subst (λ i. slice_get i (length i - 1) ≡ Some l) e (sym f)
 
 -- nothing is left
-pub all_shared : (all items : List Said) (done : List Saying) (actions turned : List Action)
+pub all_shared : (all items : List Said) (done : List Saying) (actions turned : List LexAction)
     → map saying_of all ≡ map saying_of items ++ done → AreEffects done (reverse (map effect_of actions))
     → items ≡ [] → turned ≡ reverse actions → AreEffects (map saying_of all) (map effect_of turned)
 all_shared all items done actions turned whole effects none e =

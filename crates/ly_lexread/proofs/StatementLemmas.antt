@@ -17,7 +17,7 @@ use Rattle.ly_lexread.specs.Private.Words.{IsFound, IsFront, word_of}
 use Rattle.ly_lexread.specs.Statements.{Closed, Ends, Follows, Given, LineEnds, NamesCondition, Opens, StandsFor}
 use Rattle.ly_lexread.specs.Statements.{SaysAction, Statement, in_braces, of_next, on_line}
 use Rattle.ly_lexread.specs.Statements.{StatementFirst, Statements, begins, done, empty, ends, gaps, more, returns}
-use Rattle.ly_lexread.specs.Words.{Front, Word, Wording, bar, close_brace, close_parenthesis, literal, mark, name}
+use Rattle.ly_lexread.specs.Words.{HasInFront, Word, Wording, bar, close_brace, close_parenthesis, literal, mark, name}
 use Rattle.ly_lexread.specs.Words.{open_parenthesis}
 use Rattle.ly_lexread.specs.Words.{open_brace, semicolon, text_byte}
 use Rattle.ly_lexread.specs.declared.action.Said.{Said}
@@ -45,24 +45,25 @@ opens_one l text i j false false a b = (refl, a.0 ∙ sym b.0)
 
 -- no `)` or `;` where one has to stand
 pub closed_bare : (l : Language) (text : List ℕ) (t : Bool) (r : Result (Bor (List ℕ)) ActionFault) → t ≡ false
-    → MatchResult r (λ rest. Front l text semicolon rest.now) (λ _. (rest : List ℕ) → Front l text semicolon rest → ⊥)
+    → MatchResult r (λ rest. HasInFront l text semicolon rest.now)
+    (λ _. (rest : List ℕ) → HasInFront l text semicolon rest → ⊥)
     → MatchResult r (λ rest. Closed l t text rest.now) (λ _. (rest : List ℕ) → Closed l t text rest → ⊥)
 closed_bare l text t r e h = rw e h
 
 pub not_closed : (l : Language) (text rest : List ℕ) (t : Bool) → t ≡ true
-    → ((s : List ℕ) → Front l text close_parenthesis s → ⊥) → Closed l t text rest → ⊥
+    → ((s : List ℕ) → HasInFront l text close_parenthesis s → ⊥) → Closed l t text rest → ⊥
 not_closed l text rest true e none h = none h.0 h.1
 not_closed l text rest false e none h = cc e
 
 pub closed_open : (l : Language) (text behind : List ℕ) (t : Bool) (r : Result (Bor (List ℕ)) ActionFault) → t ≡ true
-    → Front l text close_parenthesis behind
-    → MatchResult r (λ rest. Front l behind semicolon rest.now)
-    (λ _. (rest : List ℕ) → Front l behind semicolon rest → ⊥)
+    → HasInFront l text close_parenthesis behind
+    → MatchResult r (λ rest. HasInFront l behind semicolon rest.now)
+    (λ _. (rest : List ℕ) → HasInFront l behind semicolon rest → ⊥)
     → MatchResult r (λ rest. Closed l t text rest.now) (λ _. (rest : List ℕ) → Closed l t text rest → ⊥)
 closed_open l text behind false r e f h = cc e
 closed_open l text behind true (Ok rest) e f h = (behind, f, h)
 closed_open l text behind true (Err fault) e f h = λ rest k. h rest
-    (subst (λ i. Front l i semicolon rest)
+    (subst (λ i. HasInFront l i semicolon rest)
     (word_one words l text close_parenthesis close_parenthesis k.0 behind k.1 f).1 k.2)
 
 -- the word that is given, and what closes behind it
@@ -71,7 +72,7 @@ pub given_word : (l : Language) (text inside behind rest : List ℕ) (t : Bool) 
     → (x ≡ word_of w) × Closed l t behind rest
 given_word l text inside behind rest t w x o f g =
     let e = opens_one l text g.inside inside g.is_open t g.opens o in
-    let word : Front l inside x g.behind = subst (λ i. Front l i x g.behind) e.1 g.word in
+    let word : HasInFront l inside x g.behind = subst (λ i. HasInFront l i x g.behind) e.1 g.word in
     let same = front_is l inside w behind x g.behind f word in
     (same.0, subst (λ u. Closed l u behind rest) e.0 (subst (λ i. Closed l g.is_open i rest) same.1 g.closed))
 
@@ -115,7 +116,7 @@ begin_is_return : codes "BEGIN" ≡ codes "return" → ⊥
 begin_is_return e = omega (arith, ap (λ l. get_or l 0 0) e)
 
 -- a name is no end
-name_ends : (e : Extent) (text n behind rest : List ℕ) → Front (gaps e) text (name n) behind → Ends e text rest → ⊥
+name_ends : (e : Extent) (text n behind rest : List ℕ) → HasInFront (gaps e) text (name n) behind → Ends e text rest → ⊥
 name_ends Line text n behind rest f h = word_none words Lex text (name n) behind h.0 f
 name_ends Braces text n behind rest f h = no_name_mark n 125 (word_one words Yacc text
     (name n) close_brace behind rest f h).0
@@ -129,7 +130,7 @@ pub record Begun (cs : List Condition) (l : Language) (behind : List ℕ) (s : S
   pub named : NamesCondition cs word condition
 
 pub begin_first : (cs : List Condition) (e : Extent) (text behind rest : List ℕ) (s : Statement)
-    → Front (gaps e) text (name (codes "BEGIN")) behind → StatementFirst cs e text s rest
+    → HasInFront (gaps e) text (name (codes "BEGIN")) behind → StatementFirst cs e text s rest
     → Begun cs (gaps e) behind s rest
 begin_first cs e text behind rest ends f h = absurd (name_ends e text (codes "BEGIN") behind rest f h)
 begin_first cs e text behind rest empty f h
@@ -155,7 +156,7 @@ pub record Told (l : Language) (behind : List ℕ) (s : Statement) (rest : List 
   pub stands : StandsFor word meaning
 
 pub return_first : (cs : List Condition) (e : Extent) (text behind rest : List ℕ) (s : Statement)
-    → Front (gaps e) text (name (codes "return")) behind → StatementFirst cs e text s rest
+    → HasInFront (gaps e) text (name (codes "return")) behind → StatementFirst cs e text s rest
     → Told (gaps e) behind s rest
 return_first cs e text behind rest ends f h = absurd (name_ends e text (codes "return") behind rest f h)
 return_first cs e text behind rest empty f h = absurd
@@ -216,7 +217,7 @@ pub given_one : (l : Language) (text r s : List ℕ) (x y : Word) → Given l te
     → (x ≡ y) × (r ≡ s)
 given_one l text r s x y a b =
     let e = opens_one l text b.inside a.inside b.is_open a.is_open b.opens a.opens in
-    let word : Front l a.inside y b.behind = subst (λ i. Front l i y b.behind) e.1 b.word in
+    let word : HasInFront l a.inside y b.behind = subst (λ i. HasInFront l i y b.behind) e.1 b.word in
     let same = word_one words l a.inside x y a.behind b.behind a.word word in
     let closed : Closed l a.is_open a.behind s
     = subst (λ u. Closed l u a.behind s) e.0 (subst (λ i. Closed l b.is_open i s) (sym same.1) b.closed) in
@@ -225,7 +226,7 @@ given_one l text r s x y a b =
     closed_one : (t : Bool) (u : List ℕ) → Closed l t u r → Closed l t u s → r ≡ s
     closed_one true u c d =
         let e = (word_one words l u close_parenthesis close_parenthesis c.0 d.0 c.1 d.1).1 in
-        (word_one words l c.0 semicolon semicolon r s c.2 (subst (λ i. Front l i semicolon s) (sym e) d.2)).1
+        (word_one words l c.0 semicolon semicolon r s c.2 (subst (λ i. HasInFront l i semicolon s) (sym e) d.2)).1
     closed_one false u c d = (word_one words l u semicolon semicolon r s c d).1
 
 some_one : (a b : ℕ) (o : Option ℕ) → o ≡ Some a → o ≡ Some b → a ≡ b
@@ -247,7 +248,7 @@ ends_one : (e : Extent) (text r s : List ℕ) → Ends e text r → Ends e text 
 ends_one Line text r s a b = a.1 ∙ sym b.1
 ends_one Braces text r s a b = (word_one words Yacc text close_brace close_brace r s a b).1
 
-no_semicolon_end : (e : Extent) (text r s : List ℕ) → Front (gaps e) text semicolon r → Ends e text s → ⊥
+no_semicolon_end : (e : Extent) (text r s : List ℕ) → HasInFront (gaps e) text semicolon r → Ends e text s → ⊥
 no_semicolon_end Line text r s f h = word_none words Lex text semicolon r h.0 f
 no_semicolon_end Braces text r s f h
     = absurd (omega (arith, same_mark 59 125 (word_one words Yacc text semicolon close_brace r s f h).0))
@@ -346,7 +347,7 @@ statements_to_end cs d f text rest (done _ _ _ i) = i.1
 statements_to_end cs d f text rest (more _ j _ t _ u _ i l m) = statements_to_end cs j f u rest m
 
 -- a mark but `;` begins no statement of a line
-mark_no_statement : (cs : List Condition) (line inside : List ℕ) (m : ℕ) → Front Lex line (mark m) inside → m ≢ 59
+mark_no_statement : (cs : List Condition) (line inside : List ℕ) (m : ℕ) → HasInFront Lex line (mark m) inside → m ≢ 59
     → (s : Statement) (r : List ℕ) → StatementFirst cs Line line s r → ⊥
 mark_no_statement cs line inside m f other ends r h = word_none words Lex line (mark m) inside h.0 f
 mark_no_statement cs line inside m f other empty r h
@@ -357,7 +358,7 @@ mark_no_statement cs line inside m f other (returns v) r h
     = no_name_mark (codes "return") m (word_one words Lex line (name (codes "return")) (mark m) h.1.0 inside h.1.1 f).0
 
 -- an action with a `{` in front
-pub braced_refused : (cs : List Condition) (line end inside : List ℕ) → Front Lex line open_brace inside
+pub braced_refused : (cs : List Condition) (line end inside : List ℕ) → HasInFront Lex line open_brace inside
     → ((e : Effect) (behind rest : List ℕ) → Statements cs Braces no_effect (inside ++ end) e behind
     → LineEnds behind rest → ⊥) → (s : Saying) (rest : List ℕ) → SaysAction cs line end s rest → ⊥
 braced_refused cs line end inside f none s rest (on_line e h)
@@ -370,7 +371,8 @@ braced_refused cs line end inside f none s rest (in_braces e i behind r g h k) =
     (word_one words Lex line open_brace open_brace i inside g f).1 h) k
 
 -- an action with a `|` in front and more behind it
-pub bar_refused : (cs : List Condition) (line end inside : List ℕ) → Front Lex line bar inside → (Gap Lex inside → ⊥)
+pub bar_refused : (cs : List Condition) (line end inside : List ℕ) → HasInFront Lex line bar inside
+    → (Gap Lex inside → ⊥)
     → (s : Saying) (rest : List ℕ) → SaysAction cs line end s rest → ⊥
 bar_refused cs line end inside f none s rest (on_line e h)
     = none_first cs Line no_effect e line []
@@ -398,7 +400,7 @@ rest_of_line text line end inside p e f =
     let many : length line - length inside ≡ length p = omega (arith, ap length f, length-append p inside) in
     rw (whole, many) (drop-append_seam p (inside ++ end))
 
-pub mark_suffix : (l : Language) (text rest : List ℕ) (m : ℕ) → Front l text (mark m) rest
+pub mark_suffix : (l : Language) (text rest : List ℕ) (m : ℕ) → HasInFront l text (mark m) rest
     → (p : List ℕ) × (text ≡ p ++ rest)
 mark_suffix l text rest m (u, before, h) = (
   before.0 ++ m ∷ [],
@@ -410,12 +412,12 @@ pub on_line_said : (cs : List Condition) (line end behind rest : List ℕ) (e : 
 on_line_said cs line end behind rest e h f = subst (SaysAction cs line end (own e)) (sym f)
     (on_line e (subst (Statements cs Line no_effect line e) (statements_to_end cs no_effect e line behind h) h))
 
-pub next_said : (cs : List Condition) (line end inside rest : List ℕ) → Front Lex line bar inside → Gap Lex inside
+pub next_said : (cs : List Condition) (line end inside rest : List ℕ) → HasInFront Lex line bar inside → Gap Lex inside
     → rest ≡ drop 1 end → SaysAction cs line end next rest
 next_said cs line end inside rest f g e = subst (SaysAction cs line end next) (sym e) (of_next (inside, f, g))
 
 pub braced_said : (cs : List Condition) (line end inside : List ℕ) (r : Result (Said × Rest) LexFault)
-    → Front Lex line open_brace inside
+    → HasInFront Lex line open_brace inside
     → IfOk r (λ read. (e : Effect) × ((behind : List ℕ) × (saying_of read.0 ≡ own e)
     × Statements cs Braces no_effect (inside ++ end) e behind × LineEnds behind read.1.bytes.now))
     → IfOk r (λ read. SaysAction cs line end (saying_of read.0) read.1.bytes.now)
@@ -454,7 +456,7 @@ says_one cs line end r q s t (in_braces e i b _ g h l) (in_braces f j c _ v k m)
     (ap own one.0, line_ends_one b r q l (subst (λ u. LineEnds u q) (sym one.1) m))
 
 pub braced_fault : (cs : List Condition) (line end inside : List ℕ) (r : Result (Said × Rest) LexFault)
-    → Front Lex line open_brace inside
+    → HasInFront Lex line open_brace inside
     → IfErr r (λ fault. fault ≢ OutOfMemory → (e : Effect) (behind rest : List ℕ)
     → Statements cs Braces no_effect (inside ++ end) e behind → LineEnds behind rest → ⊥)
     → IfErr r (λ fault. fault ≢ OutOfMemory → (s : Saying) (rest : List ℕ) → SaysAction cs line end s rest → ⊥)

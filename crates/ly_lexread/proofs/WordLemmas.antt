@@ -13,7 +13,8 @@ use Rattle.ly_base.proofs.LiteralLemmas.{literal_one, literal_shorter}
 use Rattle.ly_base.proofs.NameLemmas.{name_one}
 use Rattle.ly_base.proofs.WordBeforeLemmas.{AreWords, IsSolid, name_solid, nothing_behind, word_at, word_none, word_one}
 use Rattle.ly_lexread.specs.Private.Words.{IsFound, IsFront, word_of}
-use Rattle.ly_lexread.specs.Words.{Word, mark, text_byte, name, literal, Begins, Front, IsNoTextByte, TextByteBefore}
+use Rattle.ly_lexread.specs.Words.{Word, mark, text_byte, name, literal, Begins, HasInFront, IsNoTextByte}
+use Rattle.ly_lexread.specs.Words.{TextByteBefore}
 use Rattle.ly_lexread.specs.Words.{Wording, is_mark}
 use Rattle.ly_lexread.specs.declared.words.NextWord.{NextWord}
 use Rattle.ly_lexread.specs.declared.words.NextWord.TheVariants as next
@@ -153,7 +154,7 @@ words = record {
 
 -- whatever word stands in front is the one that was found there
 pub front_is : (l : Language) (text : List ℕ) (w : NextWord) (rest : List ℕ) (x : Word) (s : List ℕ)
-    → IsFront l text w rest → Front l text x s → (x ≡ word_of w) × (s ≡ rest)
+    → IsFront l text w rest → HasInFront l text x s → (x ≡ word_of w) × (s ≡ rest)
 front_is l text next.End rest x s h f = absurd (word_none words l text x s h.0 f)
 front_is l text next.Other rest x s h f = absurd (h.1 x s f)
 front_is l text (next.Mark b) rest x s h f = word_one words l text x (mark b) s rest f h
@@ -162,7 +163,7 @@ front_is l text (next.Name n) rest x s h f = word_one words l text x (name n.now
 front_is l text (next.Literal b) rest x s h f = word_one words l text x (literal b) s rest f h
 
 pub found_front : (l : Language) (text : List ℕ) (w : NextWord) (rest : List ℕ) → IsFront l text w rest → IsFound w
-    → Front l text (word_of w) rest
+    → HasInFront l text (word_of w) rest
 found_front l text next.End rest h f = absurd f
 found_front l text next.Other rest h f = absurd f
 found_front l text (next.Mark b) rest h f = h
@@ -186,8 +187,8 @@ end_gap l text w rest h e = subst (λ i. IsFront l text i rest) e h
 
 -- the mark that was found
 pub mark_front : (l : Language) (text : List ℕ) (w : NextWord) (rest : List ℕ) (m : ℕ) → IsFront l text w rest
-    → word_of w ≡ mark m → 0 < m → Front l text (mark m) rest
-mark_front l text w rest m h e some = subst (λ x. Front l text x rest) e (found_front l text w rest h (at w e))
+    → word_of w ≡ mark m → 0 < m → HasInFront l text (mark m) rest
+mark_front l text w rest m h e some = subst (λ x. HasInFront l text x rest) e (found_front l text w rest h (at w e))
   where
     zero_mark : (k : ℕ) → mark 0 ≡ mark k → k ≡ 0
     zero_mark k f = cc
@@ -201,8 +202,8 @@ mark_front l text w rest m h e some = subst (λ x. Front l text x rest) e (found
     at (next.Literal b) f = tt
 
 pub name_front : (l : Language) (text : List ℕ) (w : NextWord) (rest n : List ℕ) → IsFront l text w rest
-    → word_of w ≡ name n → Front l text (name n) rest
-name_front l text w rest n h e = subst (λ x. Front l text x rest) e (found_front l text w rest h (at w e))
+    → word_of w ≡ name n → HasInFront l text (name n) rest
+name_front l text w rest n h e = subst (λ x. HasInFront l text x rest) e (found_front l text w rest h (at w e))
   where
     at : (w : NextWord) → word_of w ≡ name n → IsFound w
     at next.End f = absurd (cc)
@@ -217,7 +218,7 @@ pub other_front : (l : Language) (text word : List ℕ) → GapBefore l text wor
     → ((b : ℕ) (s : List ℕ) → Literal word b s → ⊥) → ((n s : List ℕ) → NameBefore Lex word n s → ⊥)
     → ((behind s : List ℕ) → word ≡ codes "*" ++ behind → NameBefore Lex behind (codes "yytext") s → ⊥)
     → (b : ℕ) (t : List ℕ) → word ≡ b ∷ t → is_mark b ≡ false
-    → (Gap l text → ⊥) × ((x : Word) (s : List ℕ) → Front l text x s → ⊥)
+    → (Gap l text → ⊥) × ((x : Word) (s : List ℕ) → HasInFront l text x s → ⊥)
 other_front l text word before stops a n f b t e m
     = (no_gap, λ x s k. none_at x s (word_at words l text word x s before stops k))
   where

@@ -1,6 +1,6 @@
 -- What an action does.
 use Rattle.std.specs.Prelude.{◌≡◌, ℕ, List, [], ◌∷◌, Option, None}
-use Rattle.ly_lexread.specs.declared.action.Action.{Action}
+use Rattle.ly_lexread.specs.declared.action.LexAction.{LexAction}
 use Rattle.ly_lexread.specs.declared.action.Returned.{Returned}
 use Rattle.ly_lexread.specs.declared.action.Returned.TheVariants.{Nothing, Token, Literal, FirstByte}
 
@@ -27,7 +27,7 @@ pub record Effect : Type 0 where
 abbrev pub no_effect : Effect
 no_effect = record { begin = None; returns = nothing }
 
-abbrev pub effect_of : Action → Effect
+abbrev pub effect_of : LexAction → Effect
 effect_of a = record { begin = a.begin; returns = meaning_of a.returns }
 
 -- What a rule says of its action: it is its own, or that of the next rule.

@@ -1,6 +1,6 @@
 -- What holds of lexings, as statements.
 use Rattle.std.specs.Prelude.{◌≡◌, ℕ, List, ◌++◌, Option}
-use Rattle.ly_base.specs.Lexed.{Leads, Place}
+use Rattle.ly_base.specs.Lexed.{LexedTo, Place}
 use Rattle.ly_base.specs.declared.lexeme.End.{End}
 use Rattle.ly_base.specs.declared.lexeme.Lexeme.{Lexeme}
 use Rattle.ly_ere.specs.Expression.{Expression}
@@ -17,5 +17,5 @@ LexingIsOne = (names : List Expression) (rules : List Rule) (next : ℕ → Opti
 -- a lexing goes on from where it stands
 abbrev pub LexingGoesOn : Type 0
 LexingGoesOn = (names : List Expression) (rules : List Rule) (next : ℕ → Option ℕ) (p q : Place) (ts us : List Lexeme)
-    (e : End) → Leads (IsWinnerAt names rules) next p ts q → Lexing names rules next q us e
+    (e : End) → LexedTo (IsWinnerAt names rules) next p ts q → Lexing names rules next q us e
     → Lexing names rules next p (ts ++ us) e

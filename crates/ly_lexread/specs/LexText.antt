@@ -3,7 +3,7 @@ use Rattle.std.specs.Prelude.{◌≡◌, ◌≢◌, ◌⊎◌, ℕ, List, [], �
 use Rattle.ly_ere.specs.Definitions.{AreLightNames}
 use Rattle.ly_ere.specs.Names.{Definition}
 use Rattle.ly_ere.specs.declared.pattern.Rule.{Rule}
-use Rattle.ly_lexread.specs.declared.action.Action.{Action}
+use Rattle.ly_lexread.specs.declared.action.LexAction.{LexAction}
 use Rattle.ly_lexread.specs.declared.file.LexFile.{LexFile}
 use Rattle.ly_lexread.specs.declared.fault.LexFault.{LexFault}
 use Rattle.ly_lexread.specs.declared.fault.LexFault.TheVariants.{OutOfMemory}
@@ -61,7 +61,7 @@ AreSameRules (r ∷ rs) (s ∷ ss) = (r.pattern ≡ s.pattern) × (r.active.item
 AreSameRules _ _ = ⊥
 
 -- actions that say the same
-abbrev pub AreSameActions : List Action → List Action → Type 0
+abbrev pub AreSameActions : List LexAction → List LexAction → Type 0
 AreSameActions [] [] = Unit {0}
 AreSameActions (a ∷ as') (b ∷ bs) = (a.begin ≡ b.begin) × (meaning_of a.returns ≡ meaning_of b.returns)
     × AreSameActions as' bs

@@ -7,7 +7,7 @@ use Rattle.ly_lexread.specs.Action.{Effect, Meaning, Saying, first_byte, literal
 use Rattle.ly_lexread.specs.Action.{token}
 use Rattle.ly_lexread.specs.Conditions.{Condition, condition_of}
 use Rattle.ly_lexread.specs.Lines.{LineOf}
-use Rattle.ly_lexread.specs.Words.{Front, Word, Wording, bar, close_brace, close_parenthesis, literal, mark, name}
+use Rattle.ly_lexread.specs.Words.{HasInFront, Word, Wording, bar, close_brace, close_parenthesis, literal, mark, name}
 use Rattle.ly_lexread.specs.Words.{open_brace, open_parenthesis, semicolon, text_byte, zero_digit}
 use Rattle.ly_lexread.specs.declared.statement.Extent.{Extent}
 use Rattle.ly_lexread.specs.declared.statement.Extent.TheVariants.{Line, Braces}
@@ -39,13 +39,14 @@ StandsFor (literal b) m = m ≡ literal_of b
 
 -- a `(` may stand in front, and then comes the rest
 abbrev pub Opens : Language → List ℕ → Bool → List ℕ → Type 0
-Opens l text true rest = Front l text open_parenthesis rest
-Opens l text false rest = (rest ≡ text) × ((s : List ℕ) → Front l text open_parenthesis s → ⊥)
+Opens l text true rest = HasInFront l text open_parenthesis rest
+Opens l text false rest = (rest ≡ text) × ((s : List ℕ) → HasInFront l text open_parenthesis s → ⊥)
 
 -- a `)` where one was opened, a `;`, and then the rest
 abbrev pub Closed : Language → Bool → List ℕ → List ℕ → Type 0
-Closed l true text rest = (behind : List ℕ) × Front l text close_parenthesis behind × Front l behind semicolon rest
-Closed l false text rest = Front l text semicolon rest
+Closed l true text rest = (behind : List ℕ) × HasInFront l text close_parenthesis behind
+    × HasInFront l behind semicolon rest
+Closed l false text rest = HasInFront l text semicolon rest
 
 -- What stands behind a keyword: a word, perhaps in parentheses, a `;`, and then the rest.
 pub record Given (l : Language) (text : List ℕ) (x : Word) (rest : List ℕ) : Type 0 where
@@ -53,23 +54,25 @@ pub record Given (l : Language) (text : List ℕ) (x : Word) (rest : List ℕ) :
   pub inside : List ℕ
   pub opens : Opens l text is_open inside
   pub behind : List ℕ
-  pub word : Front l inside x behind
+  pub word : HasInFront l inside x behind
   pub closed : Closed l is_open behind rest
 
 -- the statements are over: with the line, or by a `}`
 abbrev pub Ends : Extent → List ℕ → List ℕ → Type 0
 Ends Line text rest = Gap Lex text × (rest ≡ [])
-Ends Braces text rest = Front Yacc text close_brace rest
+Ends Braces text rest = HasInFront Yacc text close_brace rest
 
 -- the text is a statement, or the end of the statements, and then the rest
 abbrev pub StatementFirst : List Condition → Extent → List ℕ → Statement → List ℕ → Type 0
 StatementFirst cs e text ends rest = Ends e text rest
-StatementFirst cs e text empty rest = Front (gaps e) text semicolon rest
+StatementFirst cs e text empty rest = HasInFront (gaps e) text semicolon rest
 StatementFirst cs e text (begins n) rest =
-    (x : Word) × ((behind : List ℕ) × Front (gaps e) text (name (codes "BEGIN")) behind × Given (gaps e) behind x rest
+    (x : Word)
+    × ((behind : List ℕ) × HasInFront (gaps e) text (name (codes "BEGIN")) behind × Given (gaps e) behind x rest
     × NamesCondition cs x n)
 StatementFirst cs e text (returns m) rest =
-    (x : Word) × ((behind : List ℕ) × Front (gaps e) text (name (codes "return")) behind × Given (gaps e) behind x rest
+    (x : Word)
+    × ((behind : List ℕ) × HasInFront (gaps e) text (name (codes "return")) behind × Given (gaps e) behind x rest
     × StandsFor x m)
 
 -- What a further statement makes of an effect: there is at most one BEGIN, at most one return, and no BEGIN behind it.
@@ -94,6 +97,6 @@ LineEnds text rest = (line end : List ℕ) × LineOf text line end × Gap Lex li
 pub data SaysAction (cs : List Condition) (line end : List ℕ) : Saying → List ℕ → Type 0 where
   on_line : (e : Effect) → Statements cs Line no_effect line e [] → SaysAction cs line end (own e) (drop 1 end)
   of_next : Wording Lex line (bar ∷ []) → SaysAction cs line end next (drop 1 end)
-  in_braces : (e : Effect) (inside behind rest : List ℕ) → Front Lex line open_brace inside
+  in_braces : (e : Effect) (inside behind rest : List ℕ) → HasInFront Lex line open_brace inside
       → Statements cs Braces no_effect (inside ++ end) e behind → LineEnds behind rest
       → SaysAction cs line end (own e) rest

@@ -57,10 +57,10 @@ Begins text (name n) rest = NameBefore Lex text n rest × IsNoTextByte n rest
 Begins text (literal b) rest = Literal text b rest
 
 -- the text is a gap, a word and the rest
-abbrev pub Front : Language → List ℕ → Word → List ℕ → Type 0
-Front l text x rest = WordBefore Begins l text x rest
+abbrev pub HasInFront : Language → List ℕ → Word → List ℕ → Type 0
+HasInFront l text x rest = WordBefore Begins l text x rest
 
 -- the text is these words, with gaps before, between and behind them
 abbrev pub Wording : Language → List ℕ → List Word → Type 0
 Wording l text [] = Gap l text
-Wording l text (x ∷ xs) = (rest : List ℕ) × Front l text x rest × Wording l rest xs
+Wording l text (x ∷ xs) = (rest : List ℕ) × HasInFront l text x rest × Wording l rest xs

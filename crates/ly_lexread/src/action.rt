@@ -21,7 +21,7 @@ use std::alloc::{AllocError, Global};
 
 /// What a rule's action does.
 #[derive(Drop)]
-pub struct Action {
+pub struct LexAction {
     /// The condition that it sets, if it sets one.
     pub begin: Option<u32>,
     /// The token that it returns.
@@ -45,7 +45,7 @@ pub enum Returned {
 #[derive(Drop)]
 pub(crate) enum Said {
     /// It is this one.
-    Own(Action),
+    Own(LexAction),
     /// It is that of the next rule: `|`.
     Next,
 }
@@ -84,29 +84,29 @@ impl Value<'_> {
     }
 }
 
-impl Action {
+impl LexAction {
     /// That of a rule whose text is passed over.
-    fn none() -> Action
+    fn none() -> LexAction
         ensures { effect_of result ≡ no_effect }
     {
-        Action {
+        LexAction {
             begin: None,
             returns: Returned::Nothing,
         }
     }
 
     /// The same, with room of its own.
-    pub(crate) fn copy(&self, alloc: Global) -> Result<Action, AllocError>
+    pub(crate) fn copy(&self, alloc: Global) -> Result<LexAction, AllocError>
         ensures { IfOk result (λ action. effect_of action ≡ effect_of self.now) }
     {
-        Ok(Action {
+        Ok(LexAction {
             begin: self.begin,
             returns: self.returns.copy(alloc)?,
         })
     }
 
     /// What a further statement makes of it; `None` where that statement can't follow.
-    fn with(self, alloc: Global, statement: Statement<'_>) -> Result<Option<Action>, AllocError>
+    fn with(self, alloc: Global, statement: Statement<'_>) -> Result<Option<LexAction>, AllocError>
         ensures { IfOk result (λ made. MatchOption made
             ((e : Effect) → Follows (effect_of self) (statement_of statement.entry) e → ⊥)
             (λ action. Follows (effect_of self) (statement_of statement.entry) (effect_of action))) }
@@ -120,7 +120,7 @@ impl Action {
     }
 
     /// The action with a condition that it sets, where it did nothing.
-    fn with_begin(self, condition: u32) -> Option<Action>
+    fn with_begin(self, condition: u32) -> Option<LexAction>
         ensures { MatchOption result (effect_of self ≢ no_effect)
             (λ action. (effect_of self ≡ no_effect)
             × (effect_of action ≡ record { begin = Some condition; returns = nothing })) }
@@ -128,14 +128,14 @@ impl Action {
         if self.begin.is_some() || !self.returns.is_nothing() {
             return None;
         }
-        Some(Action {
+        Some(LexAction {
             begin: Some(condition),
             returns: Returned::Nothing,
         })
     }
 
     /// The action with a token that it returns, where it returned none.
-    fn with_return(self, alloc: Global, value: Value<'_>) -> Result<Option<Action>, AllocError>
+    fn with_return(self, alloc: Global, value: Value<'_>) -> Result<Option<LexAction>, AllocError>
         ensures { IfOk result (λ made. MatchOption made ((effect_of self).returns ≢ nothing)
             (λ action. ((effect_of self).returns ≡ nothing)
             × (effect_of action ≡ record { begin = self.begin; returns = value_meaning value.entry }))) }
@@ -144,7 +144,7 @@ impl Action {
             return Ok(None);
         }
         let returns = value.returned(alloc)?;
-        Ok(Some(Action {
+        Ok(Some(LexAction {
             begin: self.begin,
             returns,
         }))
@@ -226,13 +226,13 @@ fn read_statements<'t>(
     text: &'t [u8],
     extent: Extent,
     conditions: &Conditions,
-) -> Result<(Action, &'t [u8]), ActionFault<'t>>
+) -> Result<(LexAction, &'t [u8]), ActionFault<'t>>
     ensures ok { IfOk result (λ read. Statements conditions.now extent no_effect text.now
         (effect_of read.0) read.1.now) }
     ensures refused { IfErr result (λ fault. fault ≢ refusal.OutOfMemory → (e : Effect) (rest : List ℕ)
         → Statements conditions.now extent no_effect text.now e rest → ⊥) }
 {
-    let mut action = Action::none();
+    let mut action = LexAction::none();
     let mut left = text;
     loop {
         let (statement, behind) = read_statement(left, extent, conditions)?;

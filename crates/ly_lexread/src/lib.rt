@@ -29,7 +29,7 @@ mod skipped;
 mod statement;
 mod words;
 
-pub use action::{Action, Returned};
+pub use action::{LexAction, Returned};
 pub use fault::LexFault;
 pub use file::LexFile;
 pub use laws::{lex_text_is_one, lexing_goes_on, lexing_is_one};

@@ -51,7 +51,7 @@ fn number_at(lines: &[NameLine<'_>], place: usize) -> u64 {
 
 /// The names of definitions, each with the text of its expression.
 #[derive(Drop)]
-pub(crate) struct Texts<'t> {
+pub(crate) struct NameTexts<'t> {
     /// They, in the order of the lines.
     list: Vec<NamedText<'t>>,
     /// The number of the first line where more than blanks stands behind the expression.
@@ -59,10 +59,10 @@ pub(crate) struct Texts<'t> {
 }
 
 /// The texts of the expressions on these lines.
-fn texts_of<'t>(alloc: Global, lines: &[NameLine<'t>]) -> Result<Texts<'t>, AllocError>
+fn texts_of<'t>(alloc: Global, lines: &[NameLine<'t>]) -> Result<NameTexts<'t>, AllocError>
     ensures { IfOk result (AreCut (map parts_of lines.now)) }
 {
-    let mut texts = Texts {
+    let mut texts = NameTexts {
         list: Vec::new(alloc),
         flaw: None,
     };
@@ -72,7 +72,7 @@ fn texts_of<'t>(alloc: Global, lines: &[NameLine<'t>]) -> Result<Texts<'t>, Allo
     Ok(texts)
 }
 
-impl<'t> Texts<'t> {
+impl<'t> NameTexts<'t> {
     /// That of one more line.
     fn push(&mut self, line: NameLine<'t>) -> Result<(), AllocError>
         ensures { (ds : List (List ℕ × List ℕ)) → AreCut ds self.old

@@ -2,7 +2,7 @@ ghost use Rattle.std.specs.Prelude.{ℕ, List, map, IfOk, MatchOption};
 ghost use Rattle.ly_lexread.specs.Action.{AreEffects, Effect, effect_of};
 ghost use Rattle.ly_lexread.specs.Private.Statements.{saying_of};
 
-use crate::action::{Action, Said};
+use crate::action::{LexAction, Said};
 use std::alloc::{AllocError, Global};
 
 /// The action of each rule, by what the rules say: one that says `|` has that of the next rule. `None` where the last
@@ -10,12 +10,12 @@ use std::alloc::{AllocError, Global};
 pub(crate) fn share_actions(
     alloc: Global,
     mut said: Vec<Said>,
-) -> Result<Option<Vec<Action>>, AllocError>
+) -> Result<Option<Vec<LexAction>>, AllocError>
     ensures { IfOk result (λ shared. MatchOption shared
         ((es : List Effect) → AreEffects (map saying_of said.items) es → ⊥)
         (λ actions. AreEffects (map saying_of said.items) (map effect_of actions.items))) }
 {
-    let mut actions: Vec<Action> = Vec::new(alloc);
+    let mut actions: Vec<LexAction> = Vec::new(alloc);
     while let Some(last) = said.pop() {
         let action = match last {
             Said::Own(action) => action,

@@ -4,7 +4,7 @@ ghost use Rattle.ly_lexread.specs.Private.Words.{word_of};
 ghost use Rattle.ly_lexread.specs.Action.{Meaning};
 ghost use Rattle.ly_lexread.specs.Statements.{gaps, Closed, Given, NamesCondition, Opens, StandsFor, StatementFirst};
 ghost use Rattle.ly_lexread.specs.Statements.{Statement as SaidStatement};
-ghost use Rattle.ly_lexread.specs.Words.{Front, Word, mark as mark_word};
+ghost use Rattle.ly_lexread.specs.Words.{HasInFront, Word, mark as mark_word};
 ghost use Rattle.ly_lexread.specs.declared.statement.Statement.TheVariants.{Ends};
 
 use crate::action_fault::ActionFault;
@@ -171,8 +171,8 @@ fn close<'t>(text: &'t [u8], is_open: bool, gaps: Language) -> Result<&'t [u8], 
 /// What stands behind this mark, which has to come first.
 fn behind_mark<'t>(text: &'t [u8], mark: u8, gaps: Language) -> Result<&'t [u8], ActionFault<'t>>
     requires { 0 < mark }
-    ensures these { MatchResult result (λ rest. Front gaps text.now (mark_word mark) rest.now)
-        (λ _. (rest : List ℕ) → Front gaps text.now (mark_word mark) rest → ⊥) }
+    ensures these { MatchResult result (λ rest. HasInFront gaps text.now (mark_word mark) rest.now)
+        (λ _. (rest : List ℕ) → HasInFront gaps text.now (mark_word mark) rest → ⊥) }
     ensures within { IfOk result (λ rest. length rest.now ≤ length text.now) }
 {
     let (word, rest) = next_word(text, gaps);

@@ -4,7 +4,7 @@ use Rattle.std.proofs.Common.{inl, inr, sym}
 use Rattle.std.proofs.lemmas.List.Elements.{Contains-append_left, Contains-push, Contains-push_cases}
 use Rattle.ly_base.specs.declared.numbers.StateNo.{StateNo}
 use Rattle.ly_base.specs.declared.numbers.Sym.{Sym}
-use Rattle.ly_pack.specs.Machine.{IsMachine, IsWithin, Machine, shift, states_of}
+use Rattle.ly_pack.specs.Machine.{IsMachine, AreEntriesWithin, Machine, shift, states_of}
 use Rattle.ly_pack.specs.Steady.{IsTableEdge, by_goto, by_shift}
 use Rattle.ly_loop.specs.Endless.{ComesBefore, EdgeEnds, IsFirstEndless}
 use Rattle.ly_loop.specs.Private.Edges.{AreTargets, IsFirstAbove, IsLeast, IsLower, IsPassing}
@@ -67,7 +67,7 @@ module _ (m : Machine) (below : ℕ) (targets : List StateNo) (top : StateNo) wh
   }
 
 -- edges begin at states
-pub edge_below : (m : Machine) (below top : ℕ) → IsWithin m → IsTableEdge m below top → below < states_of m
+pub edge_below : (m : Machine) (below top : ℕ) → AreEntriesWithin m → IsTableEdge m below top → below < states_of m
 edge_below m below top within (by_shift t is) = (within.actions below t (shift top) (shift_entry m below t top is)).0
 edge_below m below top within (by_goto left is) = (within.gotos below left top is).0
 

@@ -22,6 +22,6 @@ pub record IsFirstEndless (m : Machine) (below top token : ℕ) : Type 0 where
   pub first : (b s t : ℕ) → ComesBefore b s t below top token → t < m.terminals → IsTableEdge m b s → EdgeEnds m b s t
 
 -- what a fault says of tables
-abbrev pub IsRefused : Machine → LoopFault → Type 0
-IsRefused m (Endless below top token) = IsFirstEndless m below.0 top.0 token.0
-IsRefused m OutOfMemory = Unit {0}
+abbrev pub AreTablesRefused : Machine → LoopFault → Type 0
+AreTablesRefused m (Endless below top token) = IsFirstEndless m below.0 top.0 token.0
+AreTablesRefused m OutOfMemory = Unit {0}

@@ -1,7 +1,7 @@
 ghost use Rattle.std.specs.Prelude.{◌≡◌, ◌<◌, IfErr, IfOk, IsTrue, OnOk};
 ghost use Rattle.ly_pack.specs.Machine.{states_of};
 ghost use Rattle.ly_pack.specs.Steady.{IsSteady};
-ghost use Rattle.ly_loop.specs.Endless.{IsRefused};
+ghost use Rattle.ly_loop.specs.Endless.{AreTablesRefused};
 ghost use Rattle.ly_loop.specs.Private.Edges.{IsFirstFrom, IsWork};
 ghost use Rattle.ly_loop.specs.Private.Entries.{AreAllEntries, AreAllGotos};
 ghost use Rattle.ly_loop.specs.Private.Reductions.{AreAllReductions};
@@ -24,7 +24,7 @@ pub fn steady<A: Rows<TableAction> + Drop, G: Rows<StateNo> + Drop>(
     machine: &Machine<A, G>,
 ) -> Result<(), LoopFault>
     ensures ok { OnOk result (IsSteady machine.now) }
-    ensures fault { IfErr result (IsRefused machine.now) }
+    ensures fault { IfErr result (AreTablesRefused machine.now) }
 {
     if !is_countable(machine) {
         return Err(LoopFault::OutOfMemory);

@@ -23,7 +23,7 @@ pub(crate) struct Path {
 
 /// What one step shows of the terminals of a path.
 #[derive(Clone, Copy)]
-pub(crate) enum Step {
+pub(crate) enum PathStep {
     /// Those that are left reduce by the default.
     Onward,
     /// The runs of all of them end.
@@ -67,9 +67,9 @@ pub(crate) fn all_end<A: Rows<TableAction> + Drop, G: Rows<StateNo> + Drop>(
     path.stack.push(top)?;
     for made in 0..RUN_BOUND + 1 {
         match follow(machine, entries, RUN_BOUND - made, path)? {
-            Step::Onward => {}
-            Step::Ends => return Ok(true),
-            Step::Passes => return Ok(false),
+            PathStep::Onward => {}
+            PathStep::Ends => return Ok(true),
+            PathStep::Passes => return Ok(false),
         }
     }
     Ok(false)
@@ -81,7 +81,7 @@ fn follow<A: Rows<TableAction> + Drop, G: Rows<StateNo> + Drop>(
     entries: &[Vec<Cell<TableAction>>],
     bound: usize,
     path: &mut Path,
-) -> Result<Step, OutOfMemory>
+) -> Result<PathStep, OutOfMemory>
     requires countable { IsCountable machine.now }
     requires entries { AreAllEntries machine.now entries.now }
     requires bound { bound ≤ run_bound }
@@ -93,21 +93,21 @@ fn follow<A: Rows<TableAction> + Drop, G: Rows<StateNo> + Drop>(
         path.old.settled.members step (stack_of path.new.stack.items) path.new.settled.members) }
 {
     let Some(&top) = path.stack.last() else {
-        return Ok(Step::Ends);
+        return Ok(PathStep::Ends);
     };
     if !settle(machine, &entries[top.0 as usize], bound, path)? {
-        return Ok(Step::Passes);
+        return Ok(PathStep::Passes);
     }
     if path.settled.members().len() == machine.terminals() {
-        return Ok(Step::Ends);
+        return Ok(PathStep::Ends);
     }
     let Some(rule) = machine.default(top) else {
-        return Ok(Step::Ends);
+        return Ok(PathStep::Ends);
     };
     if reduce(machine, rule, &mut path.stack)? {
-        Ok(Step::Onward)
+        Ok(PathStep::Onward)
     } else {
-        Ok(Step::Ends)
+        Ok(PathStep::Ends)
     }
 }
 

@@ -1,7 +1,7 @@
 ghost use Rattle.std.specs.Prelude.{◌≤◌, ◌<◌, ◌≡◌, IfOk, OnOk};
 ghost use Rattle.ly_pack.specs.Machine.{IsRuleNumber};
 ghost use Rattle.ly_pack.specs.Steady.{run_bound};
-ghost use Rattle.ly_loop.specs.Private.Run.{AreStates, EndsAs, IsCountable, IsReduced, stack_of};
+ghost use Rattle.ly_loop.specs.Private.Run.{AreStates, EndsAs, IsCountable, MakesReduction, stack_of};
 
 use ly_base::{OutOfMemory, RuleNo, StateNo, Sym};
 use ly_pack::{Machine, Rows, TableAction};
@@ -20,7 +20,7 @@ pub(crate) fn reduce<A: Rows<TableAction> + Drop, G: Rows<StateNo> + Drop>(
     requires rule { IsRuleNumber machine.now rule.0 }
     requires states { AreStates machine.now stack.old.items }
     ensures made { IfOk result (λ made.
-        IsReduced machine.now rule.0 (stack_of stack.old.items) made (stack_of stack.new.items)) }
+        MakesReduction machine.now rule.0 (stack_of stack.old.items) made (stack_of stack.new.items)) }
     ensures states { OnOk result (AreStates machine.now stack.new.items) }
 {
     let rule = machine.rule(rule);

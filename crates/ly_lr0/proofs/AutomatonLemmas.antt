@@ -8,7 +8,7 @@ use Rattle.ly_grammar.specs.Derivations.{IsReduced}
 use Rattle.ly_grammar.specs.Items.{HasNoEnd, SameCore}
 use Rattle.ly_lr0.specs.Automaton.{ComesBefore, Gotos, HasCores, Reaches, Transition}
 use Rattle.ly_lr0.specs.declared.item.Item.{Item}
-use Rattle.ly_lr0.specs.Private.Built.{AreFound, Leads, Link, link_at}
+use Rattle.ly_lr0.specs.Private.Built.{AreFound, HasTransition, Link, link_at}
 use Rattle.ly_lr0.specs.Private.Items.{HasItem, IsBehind, IsClosed, IsKernel, at_start, moved}
 use Rattle.ly_lr0.specs.Private.Kernels.{kernel_at}
 use Rattle.ly_lr0.proofs.CoreLemmas.{item_of_viable, same_core, same_items, viable_of}
@@ -17,14 +17,15 @@ use Rattle.ly_lr0.proofs.OrderLemmas.{before_trans, kernels_one}
 
 -- where states lead is what their rows say
 pub record IsGoto (rows : List (List Transition)) (goto : Gotos) : Type 0 where
-  pub leads : (s : ℕ) (X : Symbol) (t : ℕ) → goto s X ≡ Some t → Leads rows s (record { symbol = X; target = t })
-  pub goes : (s : ℕ) (t : Transition) → Leads rows s t → goto s t.symbol ≡ Some t.target
+  pub leads : (s : ℕ) (X : Symbol) (t : ℕ) → goto s X ≡ Some t
+      → HasTransition rows s (record { symbol = X; target = t })
+  pub goes : (s : ℕ) (t : Transition) → HasTransition rows s t → goto s t.symbol ≡ Some t.target
 
 -- each row has all transitions of its kernel
 pub record AreWhole (G : Grammar) (kernels : List (List Item)) (rows : List (List Transition)) : Type 0 where
   pub all : (s : ℕ) → s < length kernels → (X : Symbol) → X ≢ terminal 0 → (p d : ℕ)
       → IsClosed G (kernel_at kernels s) p d
-      → IsBehind G p d X → (t : Transition) × Leads rows s t × (t.symbol ≡ X)
+      → IsBehind G p d X → (t : Transition) × HasTransition rows s t × (t.symbol ≡ X)
 
 -- the prefixes are those of the links
 pub record ArePrefixes (links : List Link) (prefix : ℕ → List Symbol) : Type 0 where

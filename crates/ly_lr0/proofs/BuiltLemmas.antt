@@ -9,7 +9,8 @@ use Rattle.ly_base.specs.Keys.{IsAbsent}
 use Rattle.ly_join.specs.Grammar.{Grammar, Symbol, terminal}
 use Rattle.ly_lr0.specs.Automaton.{IsLess, Transition}
 use Rattle.ly_lr0.specs.declared.item.Item.{Item}
-use Rattle.ly_lr0.specs.Private.Built.{AreFound, AreInOrder, IsLed, IsNumbered, Leads, Link, LinkIsLess, link_at}
+use Rattle.ly_lr0.specs.Private.Built.{AreFound, AreInOrder, IsLed, IsNumbered, HasTransition, Link, LinkIsLess}
+use Rattle.ly_lr0.specs.Private.Built.{link_at}
 use Rattle.ly_lr0.specs.Private.Closing.{AreKept}
 use Rattle.ly_lr0.specs.Private.Items.{AreRising, IsMoved}
 use Rattle.ly_lr0.specs.Private.Kernels.{kernel_at}
@@ -26,7 +27,8 @@ each_more xs x d P all one k l = elim (cases_lt k (length xs)) [
 ]
 
 module _ (rows : List (List Transition)) (part : List Transition) (t : Transition) where
-  leads_keep : (s : ℕ) (u : Transition) → Leads (rows ++ part ∷ []) s u → Leads (rows ++ (part ++ t ∷ []) ∷ []) s u
+  leads_keep : (s : ℕ) (u : Transition) → HasTransition (rows ++ part ∷ []) s u
+      → HasTransition (rows ++ (part ++ t ∷ []) ∷ []) s u
   leads_keep s u l = (
     omega (arith, l.0, length_push rows part, length_push rows (part ++ t ∷ [])),
     elim (cases_lt s (length rows)) [
@@ -40,14 +42,14 @@ module _ (rows : List (List Transition)) (part : List Transition) (t : Transitio
     ],
   )
 
-  leads_new : Leads (rows ++ (part ++ t ∷ []) ∷ []) (length rows) t
+  leads_new : HasTransition (rows ++ (part ++ t ∷ []) ∷ []) (length rows) t
   leads_new = (
     omega (arith, length_push rows (part ++ t ∷ [])),
     subst (λ r. Contains r t) (sym (get_or_push rows (part ++ t ∷ []) [] (length rows) refl)) (Contains-push part t),
   )
 
-  leads_more : (s : ℕ) (u : Transition) → Leads (rows ++ (part ++ t ∷ []) ∷ []) s u
-      → Leads (rows ++ part ∷ []) s u ⊎ ((s ≡ length rows) × (t ≡ u))
+  leads_more : (s : ℕ) (u : Transition) → HasTransition (rows ++ (part ++ t ∷ []) ∷ []) s u
+      → HasTransition (rows ++ part ∷ []) s u ⊎ ((s ≡ length rows) × (t ≡ u))
   leads_more s u l = elim (cases_lt s (length rows)) [
     | inl less ↦ inl (
       omega (arith, less, length_push rows part),
@@ -227,14 +229,15 @@ module _ (G : Grammar) (kernels : List (List Item)) (links : List Link) (rows : 
         | inr e ↦ subst (IsLed G more s) e.1 (subst (λ m. IsLed G more m last) (sym e.0) led_last)
       ];
       linked = λ k l. elim (cases_lt k (length links)) [
-        | inl less ↦ subst (λ j. Leads (rows ++ (part ++ last ∷ []) ∷ []) j.from
+        | inl less ↦ subst (λ j. HasTransition (rows ++ (part ++ last ∷ []) ∷ []) j.from
             (record { symbol = j.symbol; target = suc k }))
             (sym (link_old k less)) (leads_keep rows part last _ _ (found.linked k less))
         | inr past ↦
             let end : length links ≡ k = omega (arith, l, past, length_push links here) in
             let target : length kernels ≡ suc k = let c = found.count in omega (arith, end) in
-            subst (λ j. Leads (rows ++ (part ++ last ∷ []) ∷ []) j.from (record { symbol = j.symbol; target = suc k }))
-            (sym (link_new k end)) (subst (λ n. Leads (rows ++ (part ++ last ∷ []) ∷ []) (length rows)
+            subst (λ j. HasTransition (rows ++ (part ++ last ∷ []) ∷ []) j.from
+            (record { symbol = j.symbol; target = suc k }))
+            (sym (link_new k end)) (subst (λ n. HasTransition (rows ++ (part ++ last ∷ []) ∷ []) (length rows)
             (record { symbol = X; target = n })) target (leads_new rows part last))
       ];
       back = λ k l. elim (cases_lt k (length links)) [

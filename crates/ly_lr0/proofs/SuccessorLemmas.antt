@@ -14,7 +14,7 @@ use Rattle.ly_grammar.specs.Items.{HasMoreCores}
 use Rattle.ly_lr0.specs.Automaton.{Transition}
 use Rattle.ly_lr0.specs.declared.item.Item.{Item}
 use Rattle.ly_lr0.specs.declared.item.Move.{Move}
-use Rattle.ly_lr0.specs.Private.Built.{AreFound, AreInOrder, IsNumbered, IsWholeRow, Leads, Link, link_at}
+use Rattle.ly_lr0.specs.Private.Built.{AreFound, AreInOrder, IsNumbered, IsWholeRow, HasTransition, Link, link_at}
 use Rattle.ly_lr0.specs.Private.Closing.{AreMoves, IsGroupEnd}
 use Rattle.ly_lr0.specs.Private.Items.{IsBehind, IsMoved}
 use Rattle.ly_lr0.specs.Private.Kernels.{kernel_at}
@@ -71,7 +71,7 @@ found_row G kernels links rows less found = record {
   first = λ s t k h e. found.first s t k (old s t h) e;
 }
   where
-    old : (s : ℕ) (t : Transition) → Leads (rows ++ [] ∷ []) s t → Leads rows s t
+    old : (s : ℕ) (t : Transition) → HasTransition (rows ++ [] ∷ []) s t → HasTransition rows s t
     old s t h = elim (cases_lt s (length rows)) [
       | inl low ↦ (low, subst (λ r. Contains r t) (get_or_append_left rows ([] ∷ []) [] s low) h.1)
       | inr past ↦

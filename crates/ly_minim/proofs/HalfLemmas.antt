@@ -5,7 +5,7 @@ use Rattle.std.specs.Prelude.{option_map}
 use Rattle.std.proofs.lemmas.Bool.{cases_eq}
 use Rattle.ly_subset.specs.Automaton.{Automaton, IsAutomaton, IsTrim, next_by_class}
 use Rattle.ly_minim.specs.Private.Blocks.{AreApart, AreBlocks}
-use Rattle.ly_minim.specs.Private.Halves.{IsWithin}
+use Rattle.ly_minim.specs.Private.Halves.{IsRefinedBy}
 use Rattle.ly_minim.specs.Private.Partition.{AreSplitBy, ExactlyOne, IsFiner, IsKeyed, IsPartition, IsUnion, home}
 use Rattle.ly_minim.specs.Private.Signature.{block_after, block_of}
 use Rattle.ly_minim.specs.declared.partition.Partition.{Partition}
@@ -20,8 +20,8 @@ keyed_alike key keys s t e (inr x) = x.0 (x.1.0, x.1.1, e ∙ x.1.2)
 
 -- what is split by blocks is in different ones
 pub within_more : (n : ℕ) (start keys : List ℕ) (old new : Partition) → length old.of.items ≡ n
-    → IsWithin n old.of.items start → AreSplitBy (λ s. Some (block_of start s)) keys old new
-    → IsWithin n new.of.items start
+    → IsRefinedBy n old.of.items start → AreSplitBy (λ s. Some (block_of start s)) keys old new
+    → IsRefinedBy n new.of.items start
 within_more n start keys old new count within split s t l m ne = elim (cases_eq (home old s) (home old t)) [
   | inr other ↦ within s t l m other
   | inl same ↦ λ e. keyed_alike (λ u. Some (block_of start u)) keys s t (ap (λ x. Some x) e)

@@ -19,7 +19,7 @@ use Rattle.ly_base.specs.Entry.{target_of}
 use Rattle.ly_base.specs.declared.entry.Entry.{Entry}
 use Rattle.ly_base.proofs.PigeonholeLemmas.{pigeonhole}
 use Rattle.ly_subset.proofs.OrderLemmas.{each_entry, order_more, order_none}
-use Rattle.ly_minim.specs.Smallest.{HaveSameRules, IsReduced}
+use Rattle.ly_minim.specs.Smallest.{HaveSameRules, IsReducedAutomaton}
 use Rattle.ly_minim.specs.Private.Blocks.{AreApart, IsStable}
 use Rattle.ly_minim.specs.Private.Quotient.{AreNumberedBy, IsEntered, IsMet, IsNumberOf, IsQuotient}
 use Rattle.ly_minim.specs.Private.Quotient.{pick_of, targets_of}
@@ -388,7 +388,7 @@ module _ (A B : Automaton) (of picked : List ℕ) (is : IsAutomaton A) (so : IsQ
         (arith, so.states n l, same))
 
     -- and it is reduced
-    pub quotient_reduced : IsTrim A → AreApart A of → IsReduced B
+    pub quotient_reduced : IsTrim A → AreApart A of → IsReducedAutomaton B
     quotient_reduced trim apart = record {
       trim = record {
         reached = λ n l.

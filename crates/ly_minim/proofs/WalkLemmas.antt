@@ -11,7 +11,7 @@ use Rattle.ly_subset.specs.Automaton.{Automaton, IsAutomaton, next_by_class, rul
 use Rattle.ly_subset.specs.Automaton.{start_of}
 use Rattle.ly_subset.specs.Automaton.{state_after}
 use Rattle.ly_subset.proofs.LawLemmas.{state-append}
-use Rattle.ly_minim.specs.Smallest.{HaveSameRules, IsReduced, Smallest}
+use Rattle.ly_minim.specs.Smallest.{HaveSameRules, IsReducedAutomaton, Smallest}
 
 -- an ended walk stays so
 pub ended : (A : Automaton) (w : List ℕ) → rule_after A None w ≡ None
@@ -44,7 +44,8 @@ onward A B c line u w same = sym (ap (rule_of A) (state-append A (start_of A c l
     ∙ ap (rule_of B) (state-append B (start_of B c line) u w)
 
 -- the other automaton's state after the string that reaches a state
-counterpart : (A B : Automaton) → IsReduced A → IsAutomaton B → HaveSameRules A B → (s : ℕ) → s < length A.rules
+counterpart : (A B : Automaton) → IsReducedAutomaton A → IsAutomaton B → HaveSameRules A B → (s : ℕ)
+    → s < length A.rules
     → (t : ℕ) × (t < length B.rules) × ((w : List ℕ) → rule_after A (Some s) w ≡ rule_after B (Some t) w)
 counterpart A B reduced is same s lt =
     let r = reduced.trim.reached s lt in

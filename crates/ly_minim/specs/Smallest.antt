@@ -7,7 +7,7 @@ abbrev pub Distinguished : Automaton → Option ℕ → Option ℕ → Type 0
 Distinguished A s t = (w : List ℕ) × (rule_after A s w ≢ rule_after A t w)
 
 -- a trim automaton in which any two states are distinguished (a reduced automaton)
-pub record IsReduced (A : Automaton) : Type 0 where
+pub record IsReducedAutomaton (A : Automaton) : Type 0 where
   pub trim : IsTrim A
   pub distinguished : (s t : ℕ) → s < length A.rules → t < length A.rules → s ≢ t → Distinguished A (Some s) (Some t)
 
@@ -18,4 +18,5 @@ HaveSameRules A B = (c : ℕ) (line : Bool) (w : List ℕ)
 
 -- a reduced automaton is smallest: none that gives every start and string the same rule has fewer states
 abbrev pub Smallest : Type 0
-Smallest = (A B : Automaton) → IsReduced A → IsAutomaton B → HaveSameRules A B → length A.rules ≤ length B.rules
+Smallest = (A B : Automaton) → IsReducedAutomaton A → IsAutomaton B → HaveSameRules A B
+    → length A.rules ≤ length B.rules

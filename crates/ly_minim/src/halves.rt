@@ -2,7 +2,7 @@ ghost use Rattle.std.specs.Prelude.{◌≡◌, ◌<◌, length, All, IfOk};
 ghost use Rattle.ly_subset.specs.Automaton.{IsAutomaton, IsTrim};
 ghost use Rattle.ly_minim.specs.Private.Blocks.{AreApart, AreBlocks};
 ghost use Rattle.ly_minim.specs.Private.Groups.{AreChains, AreGrouped};
-ghost use Rattle.ly_minim.specs.Private.Halves.{AreGroupsOf, AreUnions, IsByClass, IsWithin};
+ghost use Rattle.ly_minim.specs.Private.Halves.{AreGroupsOf, AreUnions, IsByClass, IsRefinedBy};
 ghost use Rattle.ly_minim.specs.Private.Partition.{AreClear, IsPartition};
 ghost use Rattle.ly_minim.specs.Private.Signature.{block_of};
 
@@ -59,7 +59,7 @@ fn start_partition(
     ensures laid { IfOk result IsPartition }
     ensures clear { IfOk result AreClear }
     ensures count { IfOk result (λ p. length p.of.items ≡ states) }
-    ensures within { IfOk result (λ p. IsWithin states p.of.items start.now.of.items) }
+    ensures within { IfOk result (λ p. IsRefinedBy states p.of.items start.now.of.items) }
     ensures halves { IfOk result (λ p. AreUnions p.of.items halves.new.items) }
 {
     let mut partition = Partition::whole(alloc, states)?;

@@ -5,8 +5,8 @@
 //! all states (Moore 1956) follow until one splits nothing; that the halves leave nothing to them is not proved.
 //!
 //! Of an automaton whose states are reached and lead to rules, as a subset automaton's do, `minimise` gives a reduced
-//! one: its states are so too, and any two are told apart by a string (`IsReduced`); so none with the same rules has
-//! fewer states (`Smallest`). States are numbered breadth first again, and classes stay.
+//! one: its states are so too, and any two are told apart by a string (`IsReducedAutomaton`); so none with the same
+//! rules has fewer states (`Smallest`). States are numbered breadth first again, and classes stay.
 //!
 //! Left out: bytes that no state tells apart any more keep classes of their own.
 #![tactic(auto)]

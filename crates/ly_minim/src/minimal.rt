@@ -1,6 +1,6 @@
 ghost use Rattle.std.specs.Prelude.{◌≡◌, ◌<◌, length, All, IfOk, map, option_map};
 ghost use Rattle.ly_subset.specs.Automaton.{IsBreadthFirst, IsTrim};
-ghost use Rattle.ly_minim.specs.Smallest.{HaveSameRules, IsReduced};
+ghost use Rattle.ly_minim.specs.Smallest.{HaveSameRules, IsReducedAutomaton};
 ghost use Rattle.ly_minim.specs.Private.Rules.{HaveRules};
 
 use crate::blocks::coarsest;
@@ -13,7 +13,7 @@ use std::alloc::{AllocError, Global};
 /// and leads to a rule. It fails where memory runs out.
 pub fn minimise(alloc: Global, dfa: Dfa) -> Result<Dfa, OutOfMemory>
     ensures same { IfOk result (HaveSameRules dfa) }
-    ensures reduced { IsTrim dfa → IfOk result IsReduced }
+    ensures reduced { IsTrim dfa → IfOk result IsReducedAutomaton }
     ensures order { IfOk result IsBreadthFirst }
     ensures class_of { IfOk result (λ d. d.class_of ≡ dfa.class_of) }
     ensures classes { IfOk result (λ d. d.classes ≡ dfa.classes) }

@@ -92,7 +92,7 @@ pub record HaveSizes (states terminals nonterminals action_rows action_width got
   pub gotos_wide : goto_width ≡ nonterminals
 
 -- Entries and gotos stand in rows and columns that are there.
-pub record IsWithin (m : Machine) : Type 0 where
+pub record AreEntriesWithin (m : Machine) : Type 0 where
   pub actions : (state t : ℕ) (a : TableAction) → entry_at m state t ≡ Some a
       → (state < states_of m) × (t < m.terminals)
   pub gotos : (state left next : ℕ) → goto_at m state left ≡ Some next

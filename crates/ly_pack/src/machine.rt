@@ -1,6 +1,6 @@
 ghost use Rattle.std.specs.Prelude.{◌≡◌, ◌<◌, length, map, slice_get, Some, option_map};
 ghost use Rattle.ly_pack.specs.Machine.{action_of, entry_at, goto_at, states_of, IsMachine, IsRuleNumber, IsTableRule};
-ghost use Rattle.ly_pack.specs.Machine.{HaveSizes, IsWithin};
+ghost use Rattle.ly_pack.specs.Machine.{HaveSizes, AreEntriesWithin};
 ghost use Rattle.ly_pack.specs.Rows.{grid_of};
 ghost use Rattle.ly_pack.specs.Values.{action_from, actions_from, gotos_from, machine_of_parts, rule_from};
 
@@ -74,7 +74,7 @@ impl<A: Rows<TableAction> + Drop, G: Rows<StateNo> + Drop> Machine<A, G> {
     pub fn states(&self) -> usize
         ensures count { result ≡ states_of self.now }
         ensures all { IsMachine self.now }
-        ensures within { IsWithin self.now }
+        ensures within { AreEntriesWithin self.now }
     {
         self.view().states()
     }

@@ -11,7 +11,7 @@ use Rattle.ly_parse.specs.Private.Paying.{places_in, IsStackPaid}
 use Rattle.ly_parse.specs.Private.Shortcuts as run
 use Rattle.ly_parse.specs.Private.Shortcuts.{GoesTo, IsFrom, IsSituation, LacksGoto, Lands, Passes, Strands}
 use Rattle.ly_parse.specs.Private.Stack.{at_once, behind, level_from, stack_from, terms_onto, FailsByRule, FeedAs}
-use Rattle.ly_parse.specs.Private.Stack.{IsParse, Leads, LeadsByRule}
+use Rattle.ly_parse.specs.Private.Stack.{IsParse, LeadsByReductions, LeadsByRule}
 use Rattle.ly_parse.specs.declared.landing.Landing.{Landing}
 use Rattle.ly_parse.specs.declared.level.Level as code
 use Rattle.ly_parse.specs.declared.shortcut.Shortcut.{Shortcut}
@@ -150,10 +150,12 @@ module _ (p : Parse) (n : ℕ) (r : TableRule) (low : ℕ) (m : Machine) (f : Gr
       leads_on = let start = first lands.0 lands.1 in record {
         next = stack_from f (kept ++ start ∷ []);
         makes = reduces lands.0 lands.1;
-        leads = subst (λ w. Leads p.machine l.terminal.0 w (stack_from f more)) (sym (stack_from-push f kept start))
-            (subst (Leads p.machine l.terminal.0 (level_from f start ∷ rest)) (sym all)
-            (subst (λ k. Leads k l.terminal.0 (level_from f start ∷ rest) (level_from f x ∷ rest)) (sym h.cut.machine)
-            (subst (λ t. Leads m t.0 (level_from f start ∷ rest) (level_from f x ∷ rest)) lands.1.terminal
+        leads = subst (λ w. LeadsByReductions p.machine l.terminal.0 w (stack_from f more))
+            (sym (stack_from-push f kept start))
+            (subst (LeadsByReductions p.machine l.terminal.0 (level_from f start ∷ rest)) (sym all)
+            (subst (λ k. LeadsByReductions k l.terminal.0 (level_from f start ∷ rest) (level_from f x ∷ rest))
+            (sym h.cut.machine)
+            (subst (λ t. LeadsByReductions m t.0 (level_from f start ∷ rest) (level_from f x ∷ rest)) lands.1.terminal
             (leads m lands.0.terminal.0 lands.0.top.0 term rest x.state.0
             (subst (λ b. Passes m lands.0.terminal.0 b lands.0.top.0 x.state.0) (sym (under lands.0 lands.1))
             passes)))));

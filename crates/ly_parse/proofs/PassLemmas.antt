@@ -14,7 +14,7 @@ use Rattle.ly_parse.specs.Feeding.{faulty, states_on, top_of}
 use Rattle.ly_parse.specs.Parse.{Parse}
 use Rattle.ly_parse.specs.Private.Paying.{IsStackPaid}
 use Rattle.ly_parse.specs.Private.Shortcuts.{passing, ArePasses, IsFrom, IsPass, IsSituation, LacksGoto, Passes}
-use Rattle.ly_parse.specs.Private.Stack.{level_from, parse_from, stack_from, FeedAs, IsParse, Leads}
+use Rattle.ly_parse.specs.Private.Stack.{level_from, parse_from, stack_from, FeedAs, IsParse, LeadsByReductions}
 use Rattle.ly_parse.specs.declared.level.Level as code
 use Rattle.ly_parse.specs.declared.shortcut.Shortcut.{Shortcut}
 use Rattle.ly_parse.specs.declared.shortcut.Situation.{Situation}
@@ -175,16 +175,16 @@ acts_on p m f levels low below k l from s h is state term =
 pub passes_lead : (p : Parse) (m : Machine) (f : Grown) (levels : List code.Level) (low : ℕ) (k l : code.Level)
     (s : Situation) → HasTop p m f levels low s.below.0 k → s.top.0 ≡ k.state.0
     → Passes m s.terminal.0 s.below.0 s.top.0 l.state.0 → l.term ≡ k.term
-    → Leads p.machine s.terminal.0 p.stack (stack_from f (slice_set levels low l))
+    → LeadsByReductions p.machine s.terminal.0 p.stack (stack_from f (slice_set levels low l))
 passes_lead p m f levels low k l s h top passes term =
     let rest = stack_from f (take low levels) in
     let x = (level_from f k).term in
     let led = leads m s.terminal.0 s.top.0 x rest l.state.0
     (subst (λ b. Passes m s.terminal.0 b s.top.0 l.state.0) (sym h.under) passes) in
-    subst (λ q. Leads q s.terminal.0 p.stack (stack_from f (slice_set levels low l))) h.machine
-    (subst (λ w. Leads m s.terminal.0 w (stack_from f (slice_set levels low l)))
+    subst (λ q. LeadsByReductions q s.terminal.0 p.stack (stack_from f (slice_set levels low l))) h.machine
+    (subst (λ w. LeadsByReductions m s.terminal.0 w (stack_from f (slice_set levels low l)))
     (ap (λ n. record { state = n; term = x } ∷ rest) top ∙ h.stack)
-    (subst (Leads m s.terminal.0 (record { state = s.top.0; term = x } ∷ rest))
+    (subst (LeadsByReductions m s.terminal.0 (record { state = s.top.0; term = x } ∷ rest))
     (sym (passed_stack f levels low k l h.size term)) led))
 
 -- where a goto is missing the token is settled so

@@ -8,7 +8,7 @@ use Rattle.ly_pack.specs.SteadyLaws.{reductions}
 use Rattle.ly_parse.specs.Feeding.{Fed, Level, Turn, faulty, goes_on, reduce_by, settles, states_on, top_of}
 use Rattle.ly_parse.specs.Parse.{Parse}
 use Rattle.ly_parse.specs.Private.Stack.{at_once, behind, parse_from, stack_from, FailsByRule, FeedAlike, FeedAs}
-use Rattle.ly_parse.specs.Private.Stack.{IsParse, Leads}
+use Rattle.ly_parse.specs.Private.Stack.{IsParse, LeadsByReductions}
 use Rattle.ly_parse.specs.declared.fault.ParseFault.{ParseFault}
 use Rattle.ly_parse.specs.declared.level.Level as code
 use Rattle.ly_parse.proofs.FeedingLemmas.{feeds_alike, feeds_as, moves}
@@ -36,12 +36,12 @@ pub record IsWithinRun (m : Machine) (t limit : ℕ) (first stack : List Level) 
   pub ends : EndsWithin m t (states_on stack) limit
 
 -- so is the stack behind passes, and no more is left of the run
-behind_passes : (m k : Machine) (t limit : ℕ) (first stack next : List Level) → k ≡ m → Leads k t stack next
+behind_passes : (m k : Machine) (t limit : ℕ) (first stack next : List Level) → k ≡ m → LeadsByReductions k t stack next
     → IsWithinRun m t limit first stack
     → IsWithinRun m t limit first next
     × (reductions m t limit (states_on next) ≤ reductions m t limit (states_on stack))
 behind_passes m k t limit first stack next same led h =
-    let here = subst (λ q. Leads q t stack next) same led in
+    let here = subst (λ q. LeadsByReductions q t stack next) same led in
     let less = still_ends m t limit here.count (states_on stack) (states_on next) here.moves h.ends in (
       record {
         alike = λ token out is fed. h.alike token out is (here.alike token out is fed);
@@ -93,7 +93,7 @@ module _ (m by : Machine) (t number limit : ℕ) (first stack : List Level) (sam
         (subst (λ q. FeedAs q t next out) (still ∙ same) fed token is_its)
 
     -- or passes follow: their last stack is within the run, and less is left
-    pub behind_turn : (k : Machine) (last : List Level) → k ≡ by → Leads k t next last
+    pub behind_turn : (k : Machine) (last : List Level) → k ≡ by → LeadsByReductions k t next last
         → IsWithinRun m t limit first last
         × (reductions m t limit (states_on last) < reductions m t limit (states_on stack))
     behind_turn k last still led =

@@ -11,7 +11,7 @@ use Rattle.ly_parse.specs.Feeding.{Level, faulty, go_to, goes_on, reduce_by, set
 use Rattle.ly_parse.specs.Private.Shortcuts as run
 use Rattle.ly_parse.specs.Private.Shortcuts.{further, passing, ArePasses, IsFrom, IsPass, IsSituation, LacksGoto}
 use Rattle.ly_parse.specs.Private.Shortcuts.{Passes}
-use Rattle.ly_parse.specs.Private.Stack.{FeedAs, Leads}
+use Rattle.ly_parse.specs.Private.Stack.{FeedAs, LeadsByReductions}
 use Rattle.ly_parse.specs.declared.shortcut.Shortcut.{Shortcut}
 use Rattle.ly_parse.specs.declared.shortcut.Situation.{Situation}
 use Rattle.ly_parse.proofs.FeedingLemmas.{feeds_alike, feeds_as, moves}
@@ -41,7 +41,7 @@ pass_reduces m p low left next x rest rule goto =
 -- passes lead from a stack to that with another state on top
 pub leads : (m : Machine) (t first : ℕ) (x : Term) (rest : List Level) (last : ℕ)
     → Passes m t (top_of rest) first last
-    → Leads m t (record { state = first; term = x } ∷ rest) (record { state = last; term = x } ∷ rest)
+    → LeadsByReductions m t (record { state = first; term = x } ∷ rest) (record { state = last; term = x } ∷ rest)
 leads m t first x rest last run.here = record {
   alike = λ token out same fed. fed;
   count = 0;

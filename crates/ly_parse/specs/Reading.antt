@@ -5,7 +5,7 @@ use Rattle.ly_pack.specs.Machine.{Machine}
 use Rattle.ly_parse.specs.Feeding.{Feeds, Level, pushed}
 
 -- Each token leaves the stack that the next is fed from.
-pub data Reads (m : Machine) : List Level → List (Token ℕ) → List Level → Type 0 where
-  at_end : {levels : List Level} → Reads m levels [] levels
+pub data ReadsTokens (m : Machine) : List Level → List (Token ℕ) → List Level → Type 0 where
+  at_end : {levels : List Level} → ReadsTokens m levels [] levels
   onward : {levels next last : List Level} {token : Token ℕ} {tokens : List (Token ℕ)}
-      → Feeds m token levels (pushed next) → Reads m next tokens last → Reads m levels (token ∷ tokens) last
+      → Feeds m token levels (pushed next) → ReadsTokens m next tokens last → ReadsTokens m levels (token ∷ tokens) last

@@ -11,7 +11,7 @@ ghost use Rattle.ly_parse.specs.Parse.{Comes, IsTake, IsTellable};
 ghost use Rattle.ly_parse.specs.Private.Answered.{with_note, IsAcceptance, IsSettled};
 ghost use Rattle.ly_parse.specs.Private.Before.{before_on, with_top, AreAlikeBelow, IsNoteOf, IsOpen};
 ghost use Rattle.ly_parse.specs.Private.Paying.{places_in};
-ghost use Rattle.ly_parse.specs.Private.Stack.{terms_onto, FailsByRule, FeedAs, IsAccepted, Leads};
+ghost use Rattle.ly_parse.specs.Private.Stack.{terms_onto, FailsByRule, FeedAs, IsAccepted, LeadsByReductions};
 ghost use Rattle.ly_parse.specs.Private.Stack.{LeadsByRule};
 ghost use Rattle.ly_parse.specs.declared.answer.Answer.TheVariants as answers;
 ghost use Rattle.ly_parse.specs.declared.fault.ParseFault.TheVariants as fault;
@@ -287,7 +287,8 @@ impl<'a, A: Rows<TableAction> + Drop, G: Rows<StateNo> + Drop> Running<'a, A, G>
     fn pass(&mut self, terminal: Sym) -> Option<(StateNo, TableAction)>
         requires { terminal.0 < self.old.machine.terminals }
         ensures first { IfSome result (λ r. r.0.0 ≡ top_of self.old.stack) }
-        ensures leads { IfSome result (λ r. Leads self.old.machine terminal.0 self.old.stack self.new.stack) }
+        ensures leads { IfSome result
+            (λ r. LeadsByReductions self.old.machine terminal.0 self.old.stack self.new.stack) }
         ensures action { IfSome result (λ r. action_from r.1
             ≡ action_of self.old.machine (top_of self.new.stack) terminal.0) }
         ensures legal { IfSome result (λ r. IsLegal self.old.machine terminal.0 (action_from r.1)) }
@@ -318,7 +319,7 @@ impl<'a, A: Rows<TableAction> + Drop, G: Rows<StateNo> + Drop> Running<'a, A, G>
     #[inline(never)] // so that a shortcut that is kept has the registers
     fn pass_by_tables(&mut self, terminal: Sym) -> Result<TableAction, ParseFault>
         requires { terminal.0 < self.old.machine.terminals }
-        ensures leads { OnOk result (Leads self.old.machine terminal.0 self.old.stack self.new.stack) }
+        ensures leads { OnOk result (LeadsByReductions self.old.machine terminal.0 self.old.stack self.new.stack) }
         ensures action { IfOk result (λ a. action_from a
             ≡ action_of self.old.machine (top_of self.new.stack) terminal.0) }
         ensures legal { IfOk result (λ a. IsLegal self.old.machine terminal.0 (action_from a)) }

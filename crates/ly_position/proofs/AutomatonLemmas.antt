@@ -12,7 +12,7 @@ use Rattle.ly_ere.specs.Expression.{Expression}
 use Rattle.ly_ere.specs.Winner.{IsActive}
 use Rattle.ly_ere.specs.declared.pattern.Rule.{Rule}
 use Rattle.ly_position.specs.Nfa.{Nfa, Position, reading, ending, bytes_of, follow_of, position_of, starts_of, IsEnd}
-use Rattle.ly_position.specs.Nfa.{Reads, Follows}
+use Rattle.ly_position.specs.Nfa.{ReadsByte, Follows}
 use Rattle.ly_position.specs.Numbered.{numbered, set_at, set_count, sets, IsPosition, ComesFirst, ComesAfter}
 use Rattle.ly_position.specs.Patterns.{ArePositions}
 use Rattle.ly_position.specs.Position.{nfa_of, position_in}
@@ -23,7 +23,7 @@ use Rattle.ly_position.specs.Private.Compile.{IsProgram, RuleStands, base_of, ru
 use Rattle.ly_position.specs.Private.Link.{IsLinkOf, IsNumber, IsReachList, is_position, rank}
 use Rattle.ly_position.specs.Private.Plain.{listed}
 use Rattle.ly_position.specs.Private.Plan.{IsPlan}
-use Rattle.ly_position.specs.Private.Program.{Step, reads, fork, ends, size, entry, HasCode}
+use Rattle.ly_position.specs.Private.Program.{ProgramStep, reads, fork, ends, size, entry, HasCode}
 use Rattle.ly_position.specs.Private.Reach.{Reached, at_root, to_first, to_second}
 use Rattle.ly_position.specs.Private.Slim.{slim}
 use Rattle.ly_position.specs.Private.Starts.{StartsAt}
@@ -49,7 +49,7 @@ use Rattle.ly_position.proofs.SpotLemmas.{same_spot, spells, lives}
 use Rattle.ly_position.proofs.StepLemmas.{position_at, position_past}
 
 -- two steps of one rank among those that pass a test are one
-rank_once : (test : Step → Bool) (g : List Step) (p q : ℕ) (s t : Step) → slice_get g p ≡ Some s
+rank_once : (test : ProgramStep → Bool) (g : List ProgramStep) (p q : ℕ) (s t : ProgramStep) → slice_get g p ≡ Some s
     → slice_get g q ≡ Some t → test s ≡ true → test t ≡ true → rank test g p ≡ rank test g q → p ≡ q
 rank_once test [] p q s t a b x y e = cc
 rank_once test (z ∷ g) zero zero s t a b x y e = refl
@@ -73,7 +73,7 @@ rank_once test (z ∷ g) (suc p) (suc q) s t a b x y e = elim (cases_Bool (test 
 ]
 
 -- one place has one number
-pub number_place : (g : List Step) (p x q : ℕ) → IsNumber g p q → IsNumber g x q → p ≡ x
+pub number_place : (g : List ProgramStep) (p x q : ℕ) → IsNumber g p q → IsNumber g x q → p ≡ x
 number_place g p x q a b = rank_once is_position g p x a.step b.step a.is_step b.is_step a.reads_or_ends b.reads_or_ends
     (a.is_rank ∙ sym b.is_rank)
 
@@ -85,7 +85,8 @@ plain_of names (Some r) = pattern_written names r.pattern
 abbrev pattern_at : List Expression → List Rule → ℕ → Plain
 pattern_at names rules i = plain_of names (slice_get rules i)
 
-module _ (names : List Expression) (rules : List Rule) (es : List Expression) (parts : List (Option ℕ)) (g : List Step)
+module _ (names : List Expression) (rules : List Rule) (es : List Expression) (parts : List (Option ℕ))
+    (g : List ProgramStep)
     (entries : List (Option ℕ)) (conditions : ℕ) (targets : List Target) (slots : List Slot) (forks : List Fork)
     (starts : List (List ℕ)) (plan : IsPlan names rules es parts)
     (program : IsProgram (listed es parts) (length parts) g entries)
@@ -121,7 +122,7 @@ module _ (names : List Expression) (rules : List Rule) (es : List Expression) (p
   twins : SomeProgram other (length parts)
   twins = some_program other (length parts)
 
-  abbrev h : List Step
+  abbrev h : List ProgramStep
   h = twins.program
 
   long : length g ≡ length h
@@ -209,13 +210,15 @@ module _ (names : List Expression) (rules : List Rule) (es : List Expression) (p
         d.stands.has d.stands.byte_has (omega (arith, d.low)) (omega (arith, d.high))
   ]
 
-  fork_twin : (t : Step) (p a b : ℕ) (S : ℕ → List ℕ) → slice_get h p ≡ Some t → slice_get g p ≡ Some (fill_step S t)
+  fork_twin : (t : ProgramStep) (p a b : ℕ) (S : ℕ → List ℕ) → slice_get h p ≡ Some t → slice_get g p
+      ≡ Some (fill_step S t)
       → slice_get g p ≡ Some (fork a b) → slice_get h p ≡ Some (fork a b)
   fork_twin (reads ns q) p a b S x y z = cc
   fork_twin (fork c d) p a b S x y z = x ∙ sym y ∙ z
   fork_twin (ends j) p a b S x y z = cc
 
-  fork_back : (t : Step) (p a b : ℕ) (S : ℕ → List ℕ) → slice_get h p ≡ Some t → slice_get g p ≡ Some (fill_step S t)
+  fork_back : (t : ProgramStep) (p a b : ℕ) (S : ℕ → List ℕ) → slice_get h p ≡ Some t → slice_get g p
+      ≡ Some (fill_step S t)
       → slice_get h p ≡ Some (fork a b) → slice_get g p ≡ Some (fork a b)
   fork_back (reads ns q) p a b S x y z = cc
   fork_back (fork c d) p a b S x y z = y ∙ sym x ∙ z
@@ -264,7 +267,7 @@ module _ (names : List Expression) (rules : List Rule) (es : List Expression) (p
     number : ℕ
     numbers : Numbers at.of at.stands place number
 
-  position-fill : (S : ℕ → List ℕ) (t : Step) → is_position (fill_step S t) ≡ is_position t
+  position-fill : (S : ℕ → List ℕ) (t : ProgramStep) → is_position (fill_step S t) ≡ is_position t
   position-fill S (reads ns x) = refl
   position-fill S (fork a b) = refl
   position-fill S (ends j) = refl
@@ -403,7 +406,7 @@ module _ (names : List Expression) (rules : List Rule) (es : List Expression) (p
 
   -- the number of a place
   position_step : (i : ℕ) (s : Stands i) (p k : ℕ) → Numbers i s p k
-      → (t : Step) × (slice_get h p ≡ Some t) × (is_position t ≡ true)
+      → (t : ProgramStep) × (slice_get h p ≡ Some t) × (is_position t ≡ true)
   position_step i s p k (inl a) = (ends i, subst (λ x. slice_get h x ≡ Some (ends i)) (sym a.0) s.stop, refl)
   position_step i s p k (inr a) = (reads (k ∷ []) a.2, a.3, refl)
 
@@ -459,20 +462,20 @@ module _ (names : List Expression) (rules : List Rule) (es : List Expression) (p
   shape_is : (q : ℕ) (k : Known q) → position_of made q ≡ (show q k).shape
   shape_is q k = get_or_from_slice_get made.positions q (show q k).shape (reading [] []) (show q k).at
 
-  ends_step : (s : Step) (pl : Position) (i : ℕ) → Shows g s pl → pl ≡ ending i → s ≡ ends i
+  ends_step : (s : ProgramStep) (pl : Position) (i : ℕ) → Shows g s pl → pl ≡ ending i → s ≡ ends i
   ends_step (reads bytes x) (reading bs f) i a e = cc
   ends_step (reads bytes x) (ending j) i a e = absurd a
   ends_step (fork x y) pl i a e = absurd a
   ends_step (ends j) (reading bs f) i a e = absurd a
   ends_step (ends j) (ending k) i a e = let one : k ≡ i = cc in ap ends (a ∙ one)
 
-  ends_shape : (s : Step) (pl : Position) (i : ℕ) → Shows g s pl → s ≡ ends i → pl ≡ ending i
+  ends_shape : (s : ProgramStep) (pl : Position) (i : ℕ) → Shows g s pl → s ≡ ends i → pl ≡ ending i
   ends_shape (reads bytes x) pl i a e = cc
   ends_shape (fork x y) pl i a e = absurd a
   ends_shape (ends j) (reading bs f) i a e = absurd a
   ends_shape (ends j) (ending k) i a e = let one : j ≡ i = cc in ap ending (sym a ∙ one)
 
-  unfilled : (S : ℕ → List ℕ) (t : Step) (i : ℕ) → fill_step S t ≡ ends i → t ≡ ends i
+  unfilled : (S : ℕ → List ℕ) (t : ProgramStep) (i : ℕ) → fill_step S t ≡ ends i → t ≡ ends i
   unfilled S (reads ns x) i e = cc
   unfilled S (fork a b) i e = cc
   unfilled S (ends j) i e = e
@@ -523,7 +526,7 @@ module _ (names : List Expression) (rules : List Rule) (es : List Expression) (p
       let same : k.both.step ≡ reads (k.number ∷ []) x = let a = k.both.numbers in cc in
       k.both.bytes ∙ ap (λ t. Some (fill_step (bytes_at k.at.of) t)) same
 
-  reads_shape : (s : Step) (pl : Position) (bytes : List ℕ) (x : ℕ) → Shows g s pl → s ≡ reads bytes x
+  reads_shape : (s : ProgramStep) (pl : Position) (bytes : List ℕ) (x : ℕ) → Shows g s pl → s ≡ reads bytes x
       → (bytes_of pl ≡ bytes) × IsReachList g (x ∷ []) (follow_of pl)
   reads_shape (reads bs y) (reading cs f) bytes x a e =
       let one : bs ≡ bytes = cc in
@@ -737,7 +740,7 @@ module _ (names : List Expression) (rules : List Rule) (es : List Expression) (p
       )
 
   spot_reads : (p b : ℕ) (r : Rule) → p < length made.positions → slice_get rules (spot p).rule ≡ Some r
-      → Reads made p b ↔ Contains (set_at (pattern_written names r.pattern) (spot p).number) b
+      → ReadsByte made p b ↔ Contains (set_at (pattern_written names r.pattern) (spot p).number) b
   spot_reads p b r l e =
       let k = spotted p l in
       let same = bytes_known p k.it ∙ ap (λ z. set_at z k.it.number) (pattern_is p k r e)
@@ -834,7 +837,8 @@ module _ (names : List Expression) (rules : List Rule) (es : List Expression) (p
   }
 
 -- what was put together from the program of a plan
-module _ (names : List Expression) (rules : List Rule) (es : List Expression) (parts : List (Option ℕ)) (g : List Step)
+module _ (names : List Expression) (rules : List Rule) (es : List Expression) (parts : List (Option ℕ))
+    (g : List ProgramStep)
     (entries : List (Option ℕ)) (conditions : ℕ) (nfa : Nfa) (plan : IsPlan names rules es parts)
     (program : IsProgram (listed es parts) (length parts) g entries)
     (a : Assembled g rules entries conditions nfa) where

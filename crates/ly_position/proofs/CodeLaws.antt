@@ -3,8 +3,9 @@ use Rattle.std.proofs.Common.{◌≡◌, inl, inr, ◌⊎◌, ℕ, zero, suc, �
 use Rattle.std.proofs.Common.{subst, ◌∙◌, arith, Some, append_assoc, add-zero, zero-add}
 use Rattle.std.specs.Prelude.{slice_get, Contains}
 use Rattle.ly_ere.specs.Expression.{Expression, set, empty, concat, either, star, plus, optional, repeat, name}
-use Rattle.ly_ere.specs.Expression.{MatchesUnder, Joined}
-use Rattle.ly_position.specs.Private.Program.{Step, reads, fork, ends, Runs, at_end, by_read, by_first, by_second, size}
+use Rattle.ly_ere.specs.Expression.{MatchesUnder, Concatenated}
+use Rattle.ly_position.specs.Private.Program.{ProgramStep, reads, fork, ends, Runs, at_end, by_read, by_first}
+use Rattle.ly_position.specs.Private.Program.{by_second, size}
 use Rattle.ly_position.specs.Private.Program.{entry, HasCode, IsPlainExpression}
 
 -- where code begins
@@ -31,7 +32,7 @@ pub entry_from : (base n next lo : ℕ) → lo ≤ base → lo ≤ next → lo �
 entry_from base zero next lo l h = h
 entry_from base (suc n) next lo l h = omega arith
 
-module _ (g : List Step) (i : ℕ) where
+module _ (g : List ProgramStep) (i : ℕ) where
   -- a run that begins at a fork goes on at one of its sides
   pub at_fork : (n p a b : ℕ) (w : List ℕ) → slice_get g p ≡ Some (fork a b) → Runs g i n p w → (m : ℕ) × (n ≡ suc m)
       × (Runs g i m a w ⊎ Runs g i m b w)
@@ -104,15 +105,15 @@ module _ (g : List Step) (i : ℕ) where
   -- a run of w that comes to next after k strings of L
   pub record Repeats (L : List ℕ → Type 0) (next n : ℕ) (w : List ℕ) : Type 0 where
     pub times : ℕ
-    pub split : Split (Joined L times) next n w
+    pub split : Split (Concatenated L times) next n w
 
   once_more : (L : List ℕ → Type 0) (p next m n : ℕ) (w : List ℕ) → m ≤ n → (x : Split L p m w)
       → Repeats L next x.moves x.back → Repeats L next n w
   once_more L p next m n w le x y
       = record {
         times = suc y.times;
-        split = weaker (Then L (Joined L y.times)) (Joined L (suc y.times)) next m n w
-            (λ u h. h) le (both L (Joined L y.times) p next m w x y.split);
+        split = weaker (Then L (Concatenated L y.times)) (Concatenated L (suc y.times)) next m n w
+            (λ u h. h) le (both L (Concatenated L y.times) p next m w x y.split);
       }
 
   -- round a fork whose first side reads a string of L and comes back
@@ -128,7 +129,7 @@ module _ (g : List Step) (i : ℕ) where
       next_move again (m, e, inl q) = let s : Split L p m w = inner m w q
           in once_more L p next m n w (omega arith) s (again s.moves s.back (omega (arith, s.fewer)) s.goes)
       next_move again (m, e, inr q)
-          = record { times = zero; split = none (Joined L zero) next m n w refl (omega arith) q }
+          = record { times = zero; split = none (Concatenated L zero) next m n w refl (omega arith) q }
 
   module _ (N : ℕ → List ℕ → Type 0) where
     -- the code reads only strings of the expression
@@ -171,7 +172,7 @@ module _ (g : List Step) (i : ℕ) where
         = around (MatchesUnder N r) (base + size r) (entry base (size r) (base + size r)) next h.1
         (λ m v q. sound r base (base + size r) m v plain h.0 q) n n w (omega arith)
         (subst (λ q. Runs g i n q w) (entry_last base (size r) next) run) in
-        weaker (Joined (MatchesUnder N r) x.times) (MatchesUnder N (star r)) next n n w (λ u h. (x.times, h))
+        weaker (Concatenated (MatchesUnder N r) x.times) (MatchesUnder N (star r)) next n n w (λ u h. (x.times, h))
         (omega arith) x.split
     sound (plus r) base next n w plain h run =
         let first : Split (MatchesUnder N r) base n w
@@ -183,9 +184,10 @@ module _ (g : List Step) (i : ℕ) where
         (omega arith) first.goes in
         let all : Repeats (MatchesUnder N r) next n w
         = once_more (MatchesUnder N r) base next n n w (omega arith) first more in
-        weaker (Then (MatchesUnder N r) (Joined (MatchesUnder N r) more.times)) (MatchesUnder N (plus r)) next n n w
+        weaker (Then (MatchesUnder N r) (Concatenated (MatchesUnder N r) more.times))
+        (MatchesUnder N (plus r)) next n n w
         (λ u h. (suc more.times, omega arith, h)) (omega arith)
-        (both (MatchesUnder N r) (Joined (MatchesUnder N r) more.times) base next n w first more.split)
+        (both (MatchesUnder N r) (Concatenated (MatchesUnder N r) more.times) base next n w first more.split)
     sound (optional r) base next n w plain h run =
         side (λ m q. sound r base next m w plain h.0 q) (at_fork n (base + size r) (entry base (size r) next) next w h.1
         (subst (λ q. Runs g i n q w) (entry_last base (size r) next) run))
@@ -214,7 +216,8 @@ module _ (g : List Step) (i : ℕ) where
 
   -- round a fork as often as needed
   round : (L : List ℕ → Type 0) (p a next : ℕ) → slice_get g p ≡ Some (fork a next)
-      → ((u v : List ℕ) → L u → CanRun p v → CanRun a (u ++ v)) → (k : ℕ) (u v : List ℕ) → Joined L k u → CanRun next v
+      → ((u v : List ℕ) → L u → CanRun p v → CanRun a (u ++ v)) → (k : ℕ) (u v : List ℕ) → Concatenated L k u
+      → CanRun next v
       → CanRun p (u ++ v)
   round L p a next h inner zero u v j r
       = subst (λ z. CanRun p z) (ap (λ z. z ++ v) (sym j)) (second_side p a next v h r)

@@ -6,7 +6,8 @@ use Rattle.std.proofs.lemmas.Bool.{cases_eq, cases_lt}
 use Rattle.ly_base.proofs.MemberLemmas.{Contains-first}
 use Rattle.ly_base.proofs.ListLemmas.{slice_get-append, slice_get-behind}
 use Rattle.ly_ere.specs.Expression.{Expression, set, empty, concat, either, star, plus, optional, repeat, name}
-use Rattle.ly_position.specs.Private.Program.{Step, reads, fork, ends, Runs, at_end, by_read, by_first, by_second, size}
+use Rattle.ly_position.specs.Private.Program.{ProgramStep, reads, fork, ends, Runs, at_end, by_read, by_first}
+use Rattle.ly_position.specs.Private.Program.{by_second, size}
 use Rattle.ly_position.specs.Private.Program.{entry}
 use Rattle.ly_position.specs.Private.Program.{code, HasCode, IsPlainExpression}
 use Rattle.ly_position.specs.Private.Reach.{LeadsBelow, LeadsFrom}
@@ -18,7 +19,7 @@ some_member [] h = absurd (h refl)
 some_member (x ∷ xs) h = (x, Contains-first x xs)
 
 -- code stays as the program grows
-pub HasCode-append : (g more : List Step) (e : Expression) (base next : ℕ) → HasCode g e base next
+pub HasCode-append : (g more : List ProgramStep) (e : Expression) (base next : ℕ) → HasCode g e base next
     → HasCode (g ++ more) e base next
 HasCode-append g more (set bytes) base next h = slice_get-append g more base (reads bytes next) h
 HasCode-append g more empty base next h = h
@@ -53,7 +54,7 @@ HasCode-append g more (repeat m n r) base next h = h
 HasCode-append g more (name x) base next h = h
 
 -- runs stay as the program grows
-pub Runs-append : (g more : List Step) (i n p : ℕ) (w : List ℕ) → Runs g i n p w → Runs (g ++ more) i n p w
+pub Runs-append : (g more : List ProgramStep) (i n p : ℕ) (w : List ℕ) → Runs g i n p w → Runs (g ++ more) i n p w
 Runs-append g more i n p w (at_end k) = at_end (slice_get-append g more p (ends i) k)
 Runs-append g more i n p w (by_read {n = m} {b = b} {q = q} {bytes = bytes} {w = v} k c r)
     = by_read (slice_get-append g more p (reads bytes q) k) c (Runs-append g more i m q v r)
@@ -73,7 +74,7 @@ length-code (concat r s) base next
       length-code r (base + size s) (entry base (size s) next),
     )
 length-code (either r s) base next =
-    let f : Step = fork (entry base (size r) next) (entry (base + size r) (size s) next) in
+    let f : ProgramStep = fork (entry base (size r) next) (entry (base + size r) (size s) next) in
     omega (
       arith,
       length-append (code r base next) (code s (base + size r) next ++ f ∷ []),
@@ -98,7 +99,7 @@ length-code (repeat m n r) base next = refl
 length-code (name x) base next = refl
 
 -- code that stands in a program
-pub HasCode-of : (e : Expression) (pre post g : List Step) (base next : ℕ) → length pre ≡ base
+pub HasCode-of : (e : Expression) (pre post g : List ProgramStep) (base next : ℕ) → length pre ≡ base
     → g ≡ pre ++ (code e base next ++ post) → HasCode g e base next
 HasCode-of (set bytes) pre post g base next l e = rw e (slice_get-behind pre post base (reads bytes next) l)
 HasCode-of empty pre post g base next l e = tt
@@ -112,10 +113,10 @@ HasCode-of (concat r s) pre post g base next l e = (
     middle : ℕ
     middle = entry base (size s) next
 
-    left : List Step
+    left : List ProgramStep
     left = code s base next
 
-    right : List Step
+    right : List ProgramStep
     right = code r (base + size s) (entry base (size s) next)
 HasCode-of (either r s) pre post g base next l e = (
   HasCode-of r pre ((right ++ f ∷ []) ++ post) g base next l
@@ -133,13 +134,13 @@ HasCode-of (either r s) pre post g base next l e = (
       ))),
 )
   where
-    f : Step
+    f : ProgramStep
     f = fork (entry base (size r) next) (entry (base + size r) (size s) next)
 
-    left : List Step
+    left : List ProgramStep
     left = code r base next
 
-    right : List Step
+    right : List ProgramStep
     right = code s (base + size r) next
 
     split : g ≡ (pre ++ left) ++ (right ++ (f ∷ post))
@@ -153,10 +154,10 @@ HasCode-of (star r) pre post g base next l e = (
       (omega (arith, length-append pre left, length-code r base (base + size r)))),
 )
   where
-    f : Step
+    f : ProgramStep
     f = fork (entry base (size r) (base + size r)) next
 
-    left : List Step
+    left : List ProgramStep
     left = code r base (base + size r)
 HasCode-of (plus r) pre post g base next l e = (
   rw e (slice_get-behind pre (code r (base + 1) base ++ post) base f l),
@@ -164,7 +165,7 @@ HasCode-of (plus r) pre post g base next l e = (
       (e ∙ sym (append_assoc pre (f ∷ []) (code r (base + 1) base ++ post))),
 )
   where
-    f : Step
+    f : ProgramStep
     f = fork (entry (base + 1) (size r) base) next
 HasCode-of (optional r) pre post g base next l e = (
   HasCode-of r pre (f ∷ post) g base next l (e ∙ ap (λ z. pre ++ z) (append_assoc left (f ∷ []) post)),
@@ -173,26 +174,27 @@ HasCode-of (optional r) pre post g base next l e = (
       (omega (arith, length-append pre left, length-code r base next))),
 )
   where
-    f : Step
+    f : ProgramStep
     f = fork (entry base (size r) next) next
 
-    left : List Step
+    left : List ProgramStep
     left = code r base next
 HasCode-of (repeat m n r) pre post g base next l e = tt
 HasCode-of (name x) pre post g base next l e = tt
 
 -- the step is no end
-abbrev pub IsMove : Step → Type 0
+abbrev pub IsMove : ProgramStep → Type 0
 IsMove (reads bytes q) = Unit {0}
 IsMove (fork a b) = Unit {0}
 IsMove (ends i) = ⊥
 
 -- a step that is there, is no end and leads to steps below n and not before lo
-abbrev pub Stands : List Step → ℕ → ℕ → ℕ → Type 0
-Stands g lo n p = (s : Step) × (slice_get g p ≡ Some s) × LeadsBelow n s × LeadsFrom lo s × IsMove s
+abbrev pub Stands : List ProgramStep → ℕ → ℕ → ℕ → Type 0
+Stands g lo n p = (s : ProgramStep) × (slice_get g p ≡ Some s) × LeadsBelow n s × LeadsFrom lo s × IsMove s
 
 -- each step of code is there and leads to steps between these
-pub stands : (g : List Step) (e : Expression) (base next lo n p : ℕ) → HasCode g e base next → lo ≤ base → lo ≤ next
+pub stands : (g : List ProgramStep) (e : Expression) (base next lo n p : ℕ) → HasCode g e base next → lo ≤ base
+    → lo ≤ next
     → base + size e ≤ n → next < n → base ≤ p → p < base + size e → Stands g lo n p
 stands g (set bytes) base next lo n p h from on le less l m = let same : p ≡ base = omega arith
     in rw same (reads bytes next, h, less, on, tt)
@@ -257,7 +259,7 @@ stands g (optional r) base next lo n p h from on le less l m = elim (cases_lt p 
 stands g (repeat a b r) base next lo n p h from on le less l m = absurd (omega arith)
 stands g (name x) base next lo n p h from on le less l m = absurd (omega arith)
 
-module _ (g : List Step) (i : ℕ) where
+module _ (g : List ProgramStep) (i : ℕ) where
   -- whatever runs from q, a string before it runs from p
   abbrev pub StepsTo : ℕ → ℕ → Type 0
   StepsTo p q = (u : List ℕ) × ((v : List ℕ) → CanRun g i q v → CanRun g i p (u ++ v))

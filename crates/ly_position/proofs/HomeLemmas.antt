@@ -4,7 +4,7 @@ use Rattle.std.proofs.Common.{subst, arith, get_or}
 use Rattle.std.specs.Prelude.{option_map, slice_get}
 use Rattle.std.proofs.lemmas.Bool.{cases_lt}
 use Rattle.ly_ere.specs.Expression.{Expression}
-use Rattle.ly_position.specs.Private.Program.{Step, ends, size, entry, HasCode}
+use Rattle.ly_position.specs.Private.Program.{ProgramStep, ends, size, entry, HasCode}
 use Rattle.ly_position.specs.Private.Compile.{IsProgram, RuleStands, base_of, rule_size}
 use Rattle.ly_position.proofs.LabelLemmas.{size-fill}
 use Rattle.ly_position.proofs.SlimNumbers.{fill}
@@ -50,7 +50,7 @@ module _ (rule : ℕ → Option Expression) where
       of (Some x) e = (x, e)
 
 -- a rule that has an expression stands in the program
-pub rule_stands : (rule : ℕ → Option Expression) (n : ℕ) (g : List Step) (entries : List (Option ℕ)) (i : ℕ)
+pub rule_stands : (rule : ℕ → Option Expression) (n : ℕ) (g : List ProgramStep) (entries : List (Option ℕ)) (i : ℕ)
     (e : Expression) → IsProgram rule n g entries → i < n → rule i ≡ Some e
     → (slice_get g (base_of rule i) ≡ Some (ends i)) × HasCode g e (base_of rule i + 1) (base_of rule i)
     × (get_or entries i None ≡ Some (entry (base_of rule i + 1) (size e) (base_of rule i)))

@@ -2,7 +2,7 @@
 use Rattle.std.proofs.Common.{◌≡◌, inl, inr, ◌⊎◌, ℕ, zero, suc, ◌+◌, ◌-◌, ◌<◌, ◌≤◌, List, [], ◌++◌, refl, sym, ap}
 use Rattle.std.proofs.Common.{subst, ◌∙◌, arith, append_assoc, append-nil, add-one}
 use Rattle.std.specs.Prelude.{◌↔◌}
-use Rattle.ly_ere.specs.Expression.{Joined}
+use Rattle.ly_ere.specs.Expression.{Concatenated}
 use Rattle.ly_ere.proofs.NameLaws.{joined_map}
 
 -- a string of L and then one of M
@@ -17,16 +17,17 @@ pub same_trans : (L M K : List ℕ → Type 0) → Same L M → Same M K → Sam
 same_trans L M K f g w = (λ a. (g w).0 ((f w).0 a), λ c. (f w).1 ((g w).1 c))
 
 module _ (L : List ℕ → Type 0) where
-  pub joined_one : (w : List ℕ) → L w → Joined L 1 w
+  pub joined_one : (w : List ℕ) → L w → Concatenated L 1 w
   joined_one w h = (w, [], sym (append-nil w), h, refl)
 
-  pub joined_append : (j k : ℕ) (u v : List ℕ) → Joined L j u → Joined L k v → Joined L (j + k) (u ++ v)
+  pub joined_append : (j k : ℕ) (u v : List ℕ) → Concatenated L j u → Concatenated L k v
+      → Concatenated L (j + k) (u ++ v)
   joined_append zero k u v a b =
       let e : k ≡ zero + k = omega arith in
-      subst (λ n. Joined L n (u ++ v)) e (subst (λ z. Joined L k (z ++ v)) (sym a) b)
+      subst (λ n. Concatenated L n (u ++ v)) e (subst (λ z. Concatenated L k (z ++ v)) (sym a) b)
   joined_append (suc j) k u v a b =
       let e : suc (j + k) ≡ suc j + k = omega arith in
-      subst (λ n. Joined L n (u ++ v)) e (
+      subst (λ n. Concatenated L n (u ++ v)) e (
         a.0,
         a.1 ++ v,
         ap (λ z. z ++ v) a.2 ∙ append_assoc a.0 a.1 v,
@@ -34,14 +35,16 @@ module _ (L : List ℕ → Type 0) where
         joined_append j k a.1 v a.4 b,
       )
 
-  pub joined_split : (j k : ℕ) (w : List ℕ) → Joined L (j + k) w → InTurn (Joined L j) (Joined L k) w
-  joined_split zero k w h = let e : zero + k ≡ k = omega arith in ([], w, refl, refl, subst (λ n. Joined L n w) e h)
+  pub joined_split : (j k : ℕ) (w : List ℕ) → Concatenated L (j + k) w → InTurn (Concatenated L j) (Concatenated L k) w
+  joined_split zero k w h = let e : zero + k ≡ k
+      = omega arith in ([], w, refl, refl, subst (λ n. Concatenated L n w) e h)
   joined_split (suc j) k w h =
-      more (let e : suc j + k ≡ suc (j + k) = omega arith in subst (λ n. Joined L n w) e h)
+      more (let e : suc j + k ≡ suc (j + k) = omega arith in subst (λ n. Concatenated L n w) e h)
       (λ v g. joined_split j k v g)
     where
-      more : Joined L (suc (j + k)) w → ((v : List ℕ) → Joined L (j + k) v → InTurn (Joined L j) (Joined L k) v)
-          → InTurn (Joined L (suc j)) (Joined L k) w
+      more : Concatenated L (suc (j + k)) w
+          → ((v : List ℕ) → Concatenated L (j + k) v → InTurn (Concatenated L j) (Concatenated L k) v)
+          → InTurn (Concatenated L (suc j)) (Concatenated L k) w
       more g f = let s = f g.1 g.4
           in (
             g.0 ++ s.0,
@@ -52,44 +55,45 @@ module _ (L : List ℕ → Type 0) where
           )
 
   -- where nothing is in L
-  pub joined_none : ((w : List ℕ) → L w → ⊥) → (k : ℕ) (w : List ℕ) → Joined L k w → (k ≡ 0) × (w ≡ [])
+  pub joined_none : ((w : List ℕ) → L w → ⊥) → (k : ℕ) (w : List ℕ) → Concatenated L k w → (k ≡ 0) × (w ≡ [])
   joined_none f zero w j = (refl, j)
   joined_none f (suc k) w j = absurd (f j.0 j.3)
 
   -- where only the empty string is in L
-  pub joined_empty : ((w : List ℕ) → L w → w ≡ []) → (k : ℕ) (w : List ℕ) → Joined L k w → w ≡ []
+  pub joined_empty : ((w : List ℕ) → L w → w ≡ []) → (k : ℕ) (w : List ℕ) → Concatenated L k w → w ≡ []
   joined_empty f zero w j = j
   joined_empty f (suc k) w j = j.2 ∙ (ap (λ z. z ++ j.1) (f j.0 j.3) ∙ joined_empty f k j.1 j.4)
 
 module _ (L M : List ℕ → Type 0) where
   -- where each string of L is made of strings of M
-  pub joined_flat : ((w : List ℕ) → L w → (j : ℕ) × Joined M j w) → (k : ℕ) (w : List ℕ) → Joined L k w
-      → (m : ℕ) × Joined M m w
+  pub joined_flat : ((w : List ℕ) → L w → (j : ℕ) × Concatenated M j w) → (k : ℕ) (w : List ℕ) → Concatenated L k w
+      → (m : ℕ) × Concatenated M m w
   joined_flat f zero w j = (zero, j)
   joined_flat f (suc k) w j =
       let a = f j.0 j.3 in
-      let b : (m : ℕ) × Joined M m j.1 = joined_flat f k j.1 j.4 in
-      (a.0 + b.0, subst (λ z. Joined M (a.0 + b.0) z) (sym j.2) (joined_append M a.0 b.0 j.0 j.1 a.1 b.1))
+      let b : (m : ℕ) × Concatenated M m j.1 = joined_flat f k j.1 j.4 in
+      (a.0 + b.0, subst (λ z. Concatenated M (a.0 + b.0) z) (sym j.2) (joined_append M a.0 b.0 j.0 j.1 a.1 b.1))
 
   -- the same where each is made of one or more
-  pub joined_flat_some : ((w : List ℕ) → L w → (j : ℕ) × (1 ≤ j) × Joined M j w) → (k : ℕ) (w : List ℕ) → Joined L k w
-      → (m : ℕ) × (k ≤ m) × Joined M m w
+  pub joined_flat_some : ((w : List ℕ) → L w → (j : ℕ) × (1 ≤ j) × Concatenated M j w) → (k : ℕ) (w : List ℕ)
+      → Concatenated L k w
+      → (m : ℕ) × (k ≤ m) × Concatenated M m w
   joined_flat_some f zero w j = (zero, omega arith, j)
   joined_flat_some f (suc k) w j =
       let a = f j.0 j.3 in
-      let b : (m : ℕ) × (k ≤ m) × Joined M m j.1 = joined_flat_some f k j.1 j.4 in (
+      let b : (m : ℕ) × (k ≤ m) × Concatenated M m j.1 = joined_flat_some f k j.1 j.4 in (
         a.0 + b.0,
         omega (arith, a.1, b.1),
-        subst (λ z. Joined M (a.0 + b.0) z) (sym j.2)
+        subst (λ z. Concatenated M (a.0 + b.0) z) (sym j.2)
             (joined_append M a.0 b.0 j.0 j.1 a.2 b.2),
       )
 
 -- the sets of `*`, `+` and `?`
 abbrev pub Star : (List ℕ → Type 0) → List ℕ → Type 0
-Star L w = (k : ℕ) × Joined L k w
+Star L w = (k : ℕ) × Concatenated L k w
 
 abbrev pub Plus : (List ℕ → Type 0) → List ℕ → Type 0
-Plus L w = (k : ℕ) × (1 ≤ k) × Joined L k w
+Plus L w = (k : ℕ) × (1 ≤ k) × Concatenated L k w
 
 abbrev pub Optional : (List ℕ → Type 0) → List ℕ → Type 0
 Optional L w = (w ≡ []) ⊎ L w
@@ -212,7 +216,7 @@ or_same L M P Q f g w = (there, back)
     back (inl h) = inl ((f w).1 h)
     back (inr h) = inr ((g w).1 h)
 
-pub joined_same : (L M : List ℕ → Type 0) → Same L M → (k : ℕ) → Same (Joined L k) (Joined M k)
+pub joined_same : (L M : List ℕ → Type 0) → Same L M → (k : ℕ) → Same (Concatenated L k) (Concatenated M k)
 joined_same L M f k w = (joined_map L M (λ v. (f v).0) k w, joined_map M L (λ v. (f v).1) k w)
 
 pub star_same : (L M : List ℕ → Type 0) → Same L M → Same (Star L) (Star M)
@@ -224,14 +228,14 @@ plus_same L M f w
 
 -- at most n strings
 abbrev pub AtMost : (List ℕ → Type 0) → ℕ → List ℕ → Type 0
-AtMost L n w = (k : ℕ) × (k ≤ n) × Joined L k w
+AtMost L n w = (k : ℕ) × (k ≤ n) × Concatenated L k w
 
 module _ (L M : List ℕ → Type 0) where
   -- one more in front
-  pub joined_more : (i : ℕ) → Same (InTurn L (InTurn (Joined L i) M)) (InTurn (Joined L (i + 1)) M)
+  pub joined_more : (i : ℕ) → Same (InTurn L (InTurn (Concatenated L i) M)) (InTurn (Concatenated L (i + 1)) M)
   joined_more i w = rw add-one (there, back)
     where
-      there : InTurn L (InTurn (Joined L i) M) w → InTurn (Joined L (suc i)) M w
+      there : InTurn L (InTurn (Concatenated L i) M) w → InTurn (Concatenated L (suc i)) M w
       there h = (
         h.0 ++ h.4.0,
         h.4.1,
@@ -240,7 +244,7 @@ module _ (L M : List ℕ → Type 0) where
         h.4.4,
       )
 
-      back : InTurn (Joined L (suc i)) M w → InTurn L (InTurn (Joined L i) M) w
+      back : InTurn (Concatenated L (suc i)) M w → InTurn L (InTurn (Concatenated L i) M) w
       back h = (
         h.3.0,
         h.3.1 ++ h.1,
@@ -262,41 +266,42 @@ module _ (L : List ℕ → Type 0) where
       back (suc k, l, j) = inr (j.0, j.1, j.2, j.3, (k, omega (arith, l), j.4))
 
   -- from m to n strings: m, and then at most n - m
-  pub between : (m n : ℕ) → m ≤ n → Same (InTurn (Joined L m) (AtMost L (n - m))) (λ w. (k : ℕ) × (m ≤ k) × (k ≤ n)
-      × Joined L k w)
+  pub between : (m n : ℕ) → m ≤ n
+      → Same (InTurn (Concatenated L m) (AtMost L (n - m))) (λ w. (k : ℕ) × (m ≤ k) × (k ≤ n)
+      × Concatenated L k w)
   between m n le w = (there, back)
     where
-      there : InTurn (Joined L m) (AtMost L (n - m)) w → (k : ℕ) × (m ≤ k) × (k ≤ n) × Joined L k w
+      there : InTurn (Concatenated L m) (AtMost L (n - m)) w → (k : ℕ) × (m ≤ k) × (k ≤ n) × Concatenated L k w
       there h = (
         m + h.4.0,
         omega arith,
         omega (arith, h.4.1),
-        subst (λ z. Joined L (m + h.4.0) z) (sym h.2)
+        subst (λ z. Concatenated L (m + h.4.0) z) (sym h.2)
             (joined_append L m h.4.0 h.0 h.1 h.3 h.4.2),
       )
 
-      back : (k : ℕ) × (m ≤ k) × (k ≤ n) × Joined L k w → InTurn (Joined L m) (AtMost L (n - m)) w
+      back : (k : ℕ) × (m ≤ k) × (k ≤ n) × Concatenated L k w → InTurn (Concatenated L m) (AtMost L (n - m)) w
       back h =
           let s = joined_split L m (h.0 - m) w (let e : h.0 ≡ m + (h.0 - m) = omega (arith, h.1)
-          in subst (λ k. Joined L k w) e h.3) in
+          in subst (λ k. Concatenated L k w) e h.3) in
           (s.0, s.1, s.2, s.3, (h.0 - m, omega (arith, h.2), s.4))
 
   -- m strings or more: m - 1, and then one or more
-  pub or_more : (m : ℕ) → 0 < m → Same (InTurn (Joined L (m - 1)) (Plus L)) (λ w. (k : ℕ) × (m ≤ k) × Unit {0}
-      × Joined L k w)
+  pub or_more : (m : ℕ) → 0 < m → Same (InTurn (Concatenated L (m - 1)) (Plus L)) (λ w. (k : ℕ) × (m ≤ k) × Unit {0}
+      × Concatenated L k w)
   or_more m pos w = (there, back)
     where
-      there : InTurn (Joined L (m - 1)) (Plus L) w → (k : ℕ) × (m ≤ k) × Unit {0} × Joined L k w
+      there : InTurn (Concatenated L (m - 1)) (Plus L) w → (k : ℕ) × (m ≤ k) × Unit {0} × Concatenated L k w
       there h = (
         (m - 1) + h.4.0,
         omega (arith, h.4.1),
         tt,
-        subst (λ z. Joined L ((m - 1) + h.4.0) z) (sym h.2)
+        subst (λ z. Concatenated L ((m - 1) + h.4.0) z) (sym h.2)
             (joined_append L (m - 1) h.4.0 h.0 h.1 h.3 h.4.2),
       )
 
-      back : (k : ℕ) × (m ≤ k) × Unit {0} × Joined L k w → InTurn (Joined L (m - 1)) (Plus L) w
+      back : (k : ℕ) × (m ≤ k) × Unit {0} × Concatenated L k w → InTurn (Concatenated L (m - 1)) (Plus L) w
       back h =
           let s = joined_split L (m - 1) (h.0 - (m - 1)) w (let e : h.0 ≡ (m - 1) + (h.0 - (m - 1)) = omega (arith, h.1)
-          in subst (λ k. Joined L k w) e h.3) in
+          in subst (λ k. Concatenated L k w) e h.3) in
           (s.0, s.1, s.2, s.3, (h.0 - (m - 1), omega (arith, h.1), s.4))

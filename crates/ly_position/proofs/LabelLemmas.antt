@@ -3,7 +3,7 @@ use Rattle.std.proofs.Common.{◌≡◌, inl, inr, ℕ, ◌+◌, ◌<◌, ◌≤
 use Rattle.std.specs.Prelude.{slice_get}
 use Rattle.std.proofs.lemmas.Bool.{cases_eq, cases_lt}
 use Rattle.ly_ere.specs.Expression.{Expression, set, empty, concat, either, star, plus, optional, repeat, name}
-use Rattle.ly_position.specs.Private.Program.{Step, reads, fork, ends, size, entry, HasCode}
+use Rattle.ly_position.specs.Private.Program.{ProgramStep, reads, fork, ends, size, entry, HasCode}
 use Rattle.ly_position.proofs.SlimNumbers.{IsLinear, fill, fill_set}
 
 -- the number at a place of code
@@ -17,7 +17,7 @@ label_wider : (lo hi low high : ℕ) (bytes : List ℕ) → low ≤ lo → hi �
 label_wider lo hi low high bytes a b l
     = record { number = l.number; is = l.is; low = omega (arith, l.low); high = omega (arith, l.high) }
 
-module _ (g : List Step) where
+module _ (g : List ProgramStep) where
   -- what is read in code of an expression of numbers is one of its numbers
   pub label : (e : Expression) (base next lo hi p q : ℕ) (bytes : List ℕ) → HasCode g e base next → IsLinear e lo hi
       → base ≤ p → p < base + size e → slice_get g p ≡ Some (reads bytes q) → Label lo hi bytes
@@ -162,7 +162,7 @@ module _ (g : List Step) where
   label_once (name n) base next lo hi k p q x y h z l m l' m' at at' = absurd z
 
 -- a step with bytes for numbers
-abbrev pub fill_step : (ℕ → List ℕ) → Step → Step
+abbrev pub fill_step : (ℕ → List ℕ) → ProgramStep → ProgramStep
 fill_step S (reads numbers q) = reads (fill_set S numbers) q
 fill_step S (fork a b) = fork a b
 fill_step S (ends i) = ends i
@@ -179,12 +179,12 @@ size-fill S (repeat m n r) = refl
 size-fill S (name x) = refl
 
 -- two programs have the same step, one with numbers and one with bytes
-pub record Twin (S : ℕ → List ℕ) (g g' : List Step) (p : ℕ) : Type 0 where
-  pub step : Step
+pub record Twin (S : ℕ → List ℕ) (g g' : List ProgramStep) (p : ℕ) : Type 0 where
+  pub step : ProgramStep
   pub numbers : slice_get g p ≡ Some step
   pub bytes : slice_get g' p ≡ Some (fill_step S step)
 
-module _ (S : ℕ → List ℕ) (g g' : List Step) where
+module _ (S : ℕ → List ℕ) (g g' : List ProgramStep) where
   pub twin : (e : Expression) (base next p : ℕ) → HasCode g e base next → HasCode g' (fill S e) base next → base ≤ p
       → p < base + size e → Twin S g g' p
   twin (set numbers) base next p h k l m =

@@ -11,7 +11,7 @@ use Rattle.ly_position.specs.Private.Link.{IsForkOf, IsLinkOf, IsNumber, IsReach
 use Rattle.ly_position.specs.Private.Link.{is_fork}
 use Rattle.ly_position.specs.Private.Link.{is_position, rank, target_of}
 use Rattle.ly_position.specs.Position.{reached_from}
-use Rattle.ly_position.specs.Private.Program.{Step, reads, fork, ends}
+use Rattle.ly_position.specs.Private.Program.{ProgramStep, reads, fork, ends}
 use Rattle.ly_position.specs.Private.Reach.{LeadsBelow, Reached, StaysInside, at_root, to_first, to_second}
 use Rattle.ly_position.specs.Private.Targets.{IsEnteredList, IsSide, EntersTo, ForksTo, here, onward}
 use Rattle.ly_position.specs.Target.{ForkWithin, SlotWithin, TargetWithin}
@@ -24,33 +24,35 @@ use Rattle.ly_position.proofs.NumberLemmas.{position_target, rank_each, rank_get
 use Rattle.ly_position.proofs.ReachLemmas.{reached_from-members, reached_from-once}
 
 -- a wider list of roots reaches more
-pub reached_wider : (g : List Step) (e : ℕ) (roots : List ℕ) (p : ℕ) → Contains roots e → Reached g (e ∷ []) p
+pub reached_wider : (g : List ProgramStep) (e : ℕ) (roots : List ℕ) (p : ℕ) → Contains roots e → Reached g (e ∷ []) p
     → Reached g roots p
 reached_wider g e roots p h (at_root k) = at_root (subst (λ x. Contains roots x) (Contains-one e p k) h)
 reached_wider g e roots p h (to_first r k) = to_first (reached_wider g e roots _ h r) k
 reached_wider g e roots p h (to_second r k) = to_second (reached_wider g e roots _ h r) k
 
 -- and what is reached is reached from one of them
-pub reached_from_one : (g : List Step) (roots : List ℕ) (p : ℕ) → Reached g roots p
+pub reached_from_one : (g : List ProgramStep) (roots : List ℕ) (p : ℕ) → Reached g roots p
     → (e : ℕ) × Contains roots e × Reached g (e ∷ []) p
 reached_from_one g roots p (at_root k) = (p, k, at_root (Contains-first p []))
 reached_from_one g roots p (to_first {p = q} r e) = let s = reached_from_one g roots q r in (s.0, s.1, to_first s.2 e)
 reached_from_one g roots p (to_second {p = q} r e) = let s = reached_from_one g roots q r in (s.0, s.1, to_second s.2 e)
 
 -- a step that is a fork, as a target
-fork_target : (g : List Step) (p a b : ℕ) → slice_get g p ≡ Some (fork a b)
+fork_target : (g : List ProgramStep) (p a b : ℕ) → slice_get g p ≡ Some (fork a b)
     → target_of g p ≡ target.Fork (rank is_fork g p)
 fork_target g p a b e = rw e refl
 
 -- a target that is a fork is a step that is one
-target_fork : (g : List Step) (p k : ℕ) (s : Step) → slice_get g p ≡ Some s → target_of g p ≡ target.Fork k
+target_fork : (g : List ProgramStep) (p k : ℕ) (s : ProgramStep) → slice_get g p ≡ Some s → target_of g p
+    ≡ target.Fork k
     → (a : ℕ) × (b : ℕ) × (slice_get g p ≡ Some (fork a b)) × (rank is_fork g p ≡ k)
 target_fork g p k (reads bytes q) e t = let is = position_target g p (reads bytes q) e refl in absurd cc
 target_fork g p k (fork a b) e t = let is = fork_target g p a b e in (a, b, e, cc)
 target_fork g p k (ends i) e t = let is = position_target g p (ends i) e refl in absurd cc
 
 -- a target that is a position is the step of that number
-pub target_number : (g : List Step) (p q : ℕ) (s : Step) → slice_get g p ≡ Some s → target_of g p ≡ target.Position q
+pub target_number : (g : List ProgramStep) (p q : ℕ) (s : ProgramStep) → slice_get g p ≡ Some s → target_of g p
+    ≡ target.Position q
     → IsNumber g p q
 target_number g p q (reads bytes x) e t = let is = position_target g p (reads bytes x) e refl in
     record { step = reads bytes x; is_step = e; reads_or_ends = refl; is_rank = cc }
@@ -58,10 +60,10 @@ target_number g p q (fork a b) e t = let is = fork_target g p a b e in absurd cc
 target_number g p q (ends i) e t = let is = position_target g p (ends i) e refl in
     record { step = ends i; is_step = e; reads_or_ends = refl; is_rank = cc }
 
-pub number_target : (g : List Step) (p q : ℕ) → IsNumber g p q → target_of g p ≡ target.Position q
+pub number_target : (g : List ProgramStep) (p q : ℕ) → IsNumber g p q → target_of g p ≡ target.Position q
 number_target g p q n = position_target g p n.step n.is_step n.reads_or_ends ∙ ap target.Position n.is_rank
 
-module _ (g : List Step) (targets : List Target) (slots : List Slot) (forks : List Fork) (inside : StaysInside g)
+module _ (g : List ProgramStep) (targets : List Target) (slots : List Slot) (forks : List Fork) (inside : StaysInside g)
     (linked : IsLinkOf g targets slots forks) where
   -- the sides of a fork
   record Sides (p a b : ℕ) : Type 0 where
@@ -185,17 +187,17 @@ module _ (g : List Step) (targets : List Target) (slots : List Slot) (forks : Li
   }
 
 -- all targets of a linked program are there
-target_within : (g : List Step) (targets : List Target) (slots : List Slot) (forks : List Fork)
-    → IsLinkOf g targets slots forks → (p : ℕ) (s : Step) → slice_get g p ≡ Some s
+target_within : (g : List ProgramStep) (targets : List Target) (slots : List Slot) (forks : List Fork)
+    → IsLinkOf g targets slots forks → (p : ℕ) (s : ProgramStep) → slice_get g p ≡ Some s
     → TargetWithin (length slots) (length forks) (target_of g p)
 target_within g targets slots forks linked p s e = of s e (is_one s)
   where
-    is_one : (s : Step) → (is_position s ≡ true) ⊎ (is_fork s ≡ true)
+    is_one : (s : ProgramStep) → (is_position s ≡ true) ⊎ (is_fork s ≡ true)
     is_one (reads bytes q) = inl refl
     is_one (fork a b) = inr refl
     is_one (ends i) = inl refl
 
-    of : (s : Step) → slice_get g p ≡ Some s → (is_position s ≡ true) ⊎ (is_fork s ≡ true)
+    of : (s : ProgramStep) → slice_get g p ≡ Some s → (is_position s ≡ true) ⊎ (is_fork s ≡ true)
         → TargetWithin (length slots) (length forks) (target_of g p)
     of s e (inl passes) = rw (position_target g p s e passes) (omega (
       arith,
@@ -210,7 +212,7 @@ target_within g targets slots forks linked p s e = of s e (is_one s)
     ))
     of (ends i) e (inr passes) = cc
 
-module _ (g : List Step) (targets : List Target) (slots : List Slot) (forks : List Fork) (inside : StaysInside g)
+module _ (g : List ProgramStep) (targets : List Target) (slots : List Slot) (forks : List Fork) (inside : StaysInside g)
     (linked : IsLinkOf g targets slots forks) where
   below_within : (p : ℕ) → p < length g → TargetWithin (length slots) (length forks) (target_of g p)
   below_within p less = let s = some_at g p less in target_within g targets slots forks linked p s.0 s.1
@@ -220,7 +222,7 @@ module _ (g : List Step) (targets : List Target) (slots : List Slot) (forks : Li
       let below : k < length g = omega (arith, linked.targets_are.count) in
       rw (get_or_from_slice_get targets k (target_of g k) d (linked.targets_are.each k below)) (below_within k below)
 
-  slot_within : (s : Step) (x : Slot) → LeadsBelow (length g) s → IsSlotOf g s x
+  slot_within : (s : ProgramStep) (x : Slot) → LeadsBelow (length g) s → IsSlotOf g s x
       → SlotWithin (length slots) (length forks) x
   slot_within (reads bytes next) (slot.Reads b t) below is = rw is.1 (below_within next below)
   slot_within (reads bytes next) (slot.Ends r) below is = absurd is
@@ -228,7 +230,7 @@ module _ (g : List Step) (targets : List Target) (slots : List Slot) (forks : Li
   slot_within (ends i) (slot.Reads b t) below is = absurd is
   slot_within (ends i) (slot.Ends r) below is = tt
 
-  fork_within : (s : Step) (f : Fork) → LeadsBelow (length g) s → IsForkOf g s f
+  fork_within : (s : ProgramStep) (f : Fork) → LeadsBelow (length g) s → IsForkOf g s f
       → ForkWithin (length slots) (length forks) f
   fork_within (reads bytes next) f below is = absurd is
   fork_within (fork a b) f below is = (rw is.0 (below_within a below.0), rw is.1 (below_within b below.1))

@@ -11,7 +11,7 @@ use Rattle.std.proofs.lemmas.List.Filters.{length-filter_more}
 use Rattle.std.proofs.lemmas.Option.{get_or_from_slice_get, slice_get-get_or, slice_get-map, slice_get_within}
 use Rattle.ly_base.specs.declared.byte_set.ByteSet.{ByteSet}
 use Rattle.ly_position.specs.Private.Link.{AreTargets, IsForkOf, IsSlotOf, is_fork, is_position, rank, target_of}
-use Rattle.ly_position.specs.Private.Program.{Step, reads, fork, ends, step_of}
+use Rattle.ly_position.specs.Private.Program.{ProgramStep, reads, fork, ends, step_of}
 use Rattle.ly_position.specs.declared.nfa.Fork as nfa
 use Rattle.ly_position.specs.declared.nfa.Slot.{Slot}
 use Rattle.ly_position.specs.declared.nfa.Target.{Target}
@@ -25,9 +25,9 @@ pub get-map_at : {A B : Type 0} (f : A → B) (xs : List A) (i : ℕ) (d x : A) 
     → slice_get (map f xs) i ≡ Some (f x)
 get-map_at f xs i d x l e = slice_get-map f xs i ∙ ap (option_map f) (slice_get-get_or xs i d l ∙ ap (λ y. Some y) e)
 
-module _ (test : Step → Bool) where
+module _ (test : ProgramStep → Bool) where
   -- a step that passes stands at its rank among those that do
-  pub rank_get : (g : List Step) (p : ℕ) (s : Step) → slice_get g p ≡ Some s → test s ≡ true
+  pub rank_get : (g : List ProgramStep) (p : ℕ) (s : ProgramStep) → slice_get g p ≡ Some s → test s ≡ true
       → slice_get (filter test g) (rank test g p) ≡ Some s
   rank_get [] p s e passes = cc
   rank_get (x ∷ g) zero s e passes =
@@ -40,7 +40,7 @@ module _ (test : Step → Bool) where
   ]
 
   -- and what stands among these is a step of that rank
-  pub rank_each : (g : List Step) (n : ℕ) (s : Step) → slice_get (filter test g) n ≡ Some s
+  pub rank_each : (g : List ProgramStep) (n : ℕ) (s : ProgramStep) → slice_get (filter test g) n ≡ Some s
       → (p : ℕ) × (slice_get g p ≡ Some s) × (test s ≡ true) × (rank test g p ≡ n)
   rank_each [] n s e = cc
   rank_each (x ∷ g) zero s e = elim (cases_Bool (test x)) [
@@ -54,25 +54,26 @@ module _ (test : Step → Bool) where
     | inr not ↦ let r = rank_each g (suc n) s (rw not at e) in (suc r.0, r.1, r.2, rw not r.3)
   ]
 
-  pub rank_more : (g : List Step) (p : ℕ) (s : Step) → slice_get g p ≡ Some s
+  pub rank_more : (g : List ProgramStep) (p : ℕ) (s : ProgramStep) → slice_get g p ≡ Some s
       → rank test g (p + 1) ≡ rank test g p + (if test s then 1 else 0)
   rank_more g p s e = length-filter_more test g p s (slice_get_within g p s e)
       ∙ ap (λ x. rank test g p + (if test x then 1 else 0)) (get_or_from_slice_get g p s s e)
 
-  pub kept_push : (g h : List Step) (s : Step) → h ≡ g ++ s ∷ [] → test s ≡ true
+  pub kept_push : (g h : List ProgramStep) (s : ProgramStep) → h ≡ g ++ s ∷ [] → test s ≡ true
       → filter test h ≡ filter test g ++ s ∷ []
   kept_push g h s is passes = rw (is, filter-append test g (s ∷ []), passes) refl
 
-  pub kept_skip : (g h : List Step) (s : Step) → h ≡ g ++ s ∷ [] → test s ≡ false → filter test h ≡ filter test g
+  pub kept_skip : (g h : List ProgramStep) (s : ProgramStep) → h ≡ g ++ s ∷ [] → test s ≡ false → filter test h
+      ≡ filter test g
   kept_skip g h s is fails = rw (is, filter-append test g (s ∷ []), fails) (append-nil (filter test g))
 
-no_fork : (s : Step) → is_position s ≡ true → is_fork s ≡ false
+no_fork : (s : ProgramStep) → is_position s ≡ true → is_fork s ≡ false
 no_fork (reads bytes q) e = refl
 no_fork (fork a b) e = cc
 no_fork (ends i) e = refl
 
 -- a step that is a position, as a target
-pub position_target : (g : List Step) (p : ℕ) (s : Step) → slice_get g p ≡ Some s → is_position s ≡ true
+pub position_target : (g : List ProgramStep) (p : ℕ) (s : ProgramStep) → slice_get g p ≡ Some s → is_position s ≡ true
     → target_of g p ≡ target.Position (rank is_position g p)
 position_target g p (reads bytes q) e passes = rw e refl
 position_target g p (fork a b) e passes = cc
@@ -84,13 +85,13 @@ not_fork (Fork a b) h = absurd (h a b refl)
 not_fork (End r) h = refl
 
 -- what the first steps are, and how many of them are positions and forks
-pub record Numbered (g : List Step) (n : ℕ) (targets : List Target) (positions forks : ℕ) : Type 0 where
+pub record Numbered (g : List ProgramStep) (n : ℕ) (targets : List Target) (positions forks : ℕ) : Type 0 where
   pub count : length targets ≡ n
   pub each : (p : ℕ) → p < n → slice_get targets p ≡ Some (target_of g p)
   pub position_count : positions ≡ rank is_position g n
   pub fork_count : forks ≡ rank is_fork g n
 
-module _ (g : List Step) (n : ℕ) (ts : List Target) (ps fs : ℕ) (h : Numbered g n ts ps fs) where
+module _ (g : List ProgramStep) (n : ℕ) (ts : List Target) (ps fs : ℕ) (h : Numbered g n ts ps fs) where
   each_more : (t : Target) → t ≡ target_of g n → (p : ℕ) → p < n + 1 → slice_get (ts ++ t ∷ []) p ≡ Some (target_of g p)
   each_more t is p less = elim (cases_lt p n) [
     | inl below ↦
@@ -115,7 +116,8 @@ module _ (g : List Step) (n : ℕ) (ts : List Target) (ps fs : ℕ) (h : Numbere
     fork_count = more ∙ (let k = rank_more is_fork g n (fork a b) e in omega (arith, h.fork_count));
   })
 
-  pub numbered_position : (ts' : List Target) (ps' : ℕ) (s : Step) → slice_get g n ≡ Some s → is_position s ≡ true
+  pub numbered_position : (ts' : List Target) (ps' : ℕ) (s : ProgramStep) → slice_get g n ≡ Some s → is_position s
+      ≡ true
       → ts' ≡ ts ++ target.Position ps ∷ [] → ps' ≡ ps + 1 → Numbered g (n + 1) ts' ps' fs
   numbered_position ts' ps' s e passes is more = rw is (record {
     count = length-append ts (target.Position ps ∷ []) ∙ omega (arith, h.count);
@@ -128,7 +130,7 @@ module _ (g : List Step) (n : ℕ) (ts : List Target) (ps fs : ℕ) (h : Numbere
         (no_fork s passes) in omega arith);
   })
 
-pub numbered_all : (g : List Step) (n : ℕ) (ts : List Target) (ps fs : ℕ) → Numbered g n ts ps fs → n ≡ length g
+pub numbered_all : (g : List ProgramStep) (n : ℕ) (ts : List Target) (ps fs : ℕ) → Numbered g n ts ps fs → n ≡ length g
     → AreTargets g ts
 numbered_all g n ts ps fs h all = record {
   count = h.count ∙ all;
@@ -155,11 +157,11 @@ module _ {A B : Type 0} (R : A → B → Type 0) where
   zip_get (a ∷ xs) (b ∷ ys) (suc i) x h e = zip_get xs ys i x h.1 e
 
 -- the slots and the forks of the first steps
-pub record LinkedBefore (g h : List Step) (slots : List Slot) (forks : List nfa.Fork) : Type 0 where
+pub record LinkedBefore (g h : List ProgramStep) (slots : List Slot) (forks : List nfa.Fork) : Type 0 where
   pub slots_are : AllZip (IsSlotOf g) (filter is_position h) slots
   pub forks_are : AllZip (IsForkOf g) (filter is_fork h) forks
 
-module _ (g h h' : List Step) (slots slots' : List Slot) (forks forks' : List nfa.Fork) (s : Step)
+module _ (g h h' : List ProgramStep) (slots slots' : List Slot) (forks forks' : List nfa.Fork) (s : ProgramStep)
     (before : LinkedBefore g h slots forks) (more : h' ≡ h ++ s ∷ []) where
   pub linked_position : (x : Slot) → is_position s ≡ true → is_fork s ≡ false → slots' ≡ slots ++ x ∷ []
       → forks' ≡ forks → IsSlotOf g s x → LinkedBefore g h' slots' forks'
@@ -178,7 +180,7 @@ module _ (g h h' : List Step) (slots slots' : List Slot) (forks forks' : List nf
   })
 
 -- what a step is, as it is looked up
-pub target_there : (g : List Step) (ts : List Target) (p : ℕ) (d : Target) → AreTargets g ts → p < length g
+pub target_there : (g : List ProgramStep) (ts : List Target) (p : ℕ) (d : Target) → AreTargets g ts → p < length g
     → get_or ts p d ≡ target_of g p
 target_there g ts p d h less = get_or_from_slice_get ts p (target_of g p) d (h.each p less)
 

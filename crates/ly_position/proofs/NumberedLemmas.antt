@@ -5,7 +5,7 @@ use Rattle.std.specs.Prelude.{Contains}
 use Rattle.std.specs.List.{AllZip}
 use Rattle.std.proofs.lemmas.List.{get_or_at}
 use Rattle.ly_base.proofs.MemberLemmas.{Contains-first, Contains-none, Contains-one}
-use Rattle.ly_ere.specs.Expression.{Joined}
+use Rattle.ly_ere.specs.Expression.{Concatenated}
 use Rattle.ly_position.specs.Written.{Plain, one_of, empty_string, in_turn, or, any_times, some_times, maybe, Member}
 use Rattle.ly_position.specs.Numbered.{sets, set_at, set_count, numbered, Path}
 use Rattle.ly_position.proofs.SplitLemmas.{split, no_end, alone, in_one_of, change_in}
@@ -153,11 +153,11 @@ module _ (S : ℕ → List ℕ) where
   Numbering r base w = (ks : List ℕ) × Member (numbered r base) ks × Along ks w
 
   joined_numbering : (r : Plain) (base : ℕ) → ((w : List ℕ) → Member r w → Numbering r base w) → (k : ℕ) (w : List ℕ)
-      → Joined (Member r) k w → (ks : List ℕ) × Joined (Member (numbered r base)) k ks × Along ks w
+      → Concatenated (Member r) k w → (ks : List ℕ) × Concatenated (Member (numbered r base)) k ks × Along ks w
   joined_numbering r base f zero w j = ([], refl, subst (λ z. Along [] z) (sym j) tt)
   joined_numbering r base f (suc k) w j =
       let a = f j.0 j.3 in
-      let b : (ks : List ℕ) × Joined (Member (numbered r base)) k ks × Along ks j.1
+      let b : (ks : List ℕ) × Concatenated (Member (numbered r base)) k ks × Along ks j.1
       = joined_numbering r base f k j.1 j.4 in (
         a.0 ++ b.0,
         (a.0, b.0, refl, a.1, b.1),
@@ -196,7 +196,7 @@ module _ (S : ℕ → List ℕ) where
 
   joined_unnumbered : (r : Plain) (base : ℕ)
       → ((ks w : List ℕ) → Member (numbered r base) ks → Along ks w → Member r w) → (k : ℕ) (ks w : List ℕ)
-      → Joined (Member (numbered r base)) k ks → Along ks w → Joined (Member r) k w
+      → Concatenated (Member (numbered r base)) k ks → Along ks w → Concatenated (Member r) k w
   joined_unnumbered r base f zero ks w j z = nothing_along ks w j z
   joined_unnumbered r base f (suc k) ks w j z =
       let p = zip_parts (λ k b. Contains (S k) b) j.0 j.1 w (subst (λ x. Along x w) j.2 z) in
@@ -232,7 +232,7 @@ module _ (S : ℕ → List ℕ) where
   unnumbered (maybe r) base ks w g (inr h) z = inr (unnumbered r base ks w g h z)
 
   joined_bytes : (r : Plain) (base : ℕ) → ((ks : List ℕ) → Member (numbered r base) ks → (w : List ℕ) × Along ks w)
-      → (k : ℕ) (ks : List ℕ) → Joined (Member (numbered r base)) k ks → (w : List ℕ) × Along ks w
+      → (k : ℕ) (ks : List ℕ) → Concatenated (Member (numbered r base)) k ks → (w : List ℕ) × Along ks w
   joined_bytes r base f zero ks j = ([], subst (λ z. Along z []) (sym j) tt)
   joined_bytes r base f (suc k) ks j =
       let a = f j.0 j.3 in

@@ -11,7 +11,7 @@ use Rattle.ly_base.proofs.ListLemmas.{slice_get-append, slice_get-behind}
 use Rattle.ly_base.proofs.BeforeLemmas.{slice_get-before}
 use Rattle.ly_ere.specs.Expression.{Expression}
 use Rattle.ly_position.specs.Private.Plain.{IsPlainPart}
-use Rattle.ly_position.specs.Private.Program.{Step, reads, fork, ends, size, entry, code, HasCode}
+use Rattle.ly_position.specs.Private.Program.{ProgramStep, reads, fork, ends, size, entry, code, HasCode}
 use Rattle.ly_position.specs.Private.Reach.{LeadsBelow, StaysInside}
 use Rattle.ly_position.specs.Private.Compile.{IsProgram, RuleStands, base_of, rule_size}
 use Rattle.ly_position.proofs.CodeLaws.{entry_below}
@@ -19,14 +19,14 @@ use Rattle.ly_position.proofs.CodePlaces.{HasCode-append, HasCode-of, length-cod
 use Rattle.ly_position.proofs.CodePlaces.{stands}
 
 -- a rule stays as the program grows
-rule_stays : (g more : List Step) (rule : Option Expression) (begin : Option ℕ) (k base : ℕ)
+rule_stays : (g more : List ProgramStep) (rule : Option Expression) (begin : Option ℕ) (k base : ℕ)
     → RuleStands g rule begin k base → RuleStands (g ++ more) rule begin k base
 rule_stays g more None begin k base h = h
 rule_stays g more (Some e) begin k base h
     = (slice_get-append g more base (ends k) h.0, HasCode-append g more e (base + 1) base h.1, h.2)
 
 -- the entries so far and one more
-standing_more : (rule : ℕ → Option Expression) (entries : List (Option ℕ)) (g more : List Step) (n : ℕ)
+standing_more : (rule : ℕ → Option Expression) (entries : List (Option ℕ)) (g more : List ProgramStep) (n : ℕ)
     (begin : Option ℕ) → length entries ≡ n
     → ((k : ℕ) → k < n → RuleStands g (rule k) (get_or entries k None) k (base_of rule k))
     → RuleStands (g ++ more) (rule n) begin n (base_of rule n)
@@ -49,24 +49,24 @@ program_none rule = record {
   standing = λ k l. absurd (omega arith);
 }
 
-pub program_start : (rule : ℕ → Option Expression) (g : List Step) (entries : List (Option ℕ)) → g ≡ []
+pub program_start : (rule : ℕ → Option Expression) (g : List ProgramStep) (entries : List (Option ℕ)) → g ≡ []
     → entries ≡ [] → IsProgram rule 0 g entries
 program_start rule g entries a b = rw (a, b) (program_none rule)
 
 -- a rule with nothing to match
-pub program_skip : (rule : ℕ → Option Expression) (g : List Step) (entries : List (Option ℕ)) (n : ℕ)
+pub program_skip : (rule : ℕ → Option Expression) (g : List ProgramStep) (entries : List (Option ℕ)) (n : ℕ)
     → IsProgram rule n g entries → rule n ≡ None → IsProgram rule (suc n) g (entries ++ None ∷ [])
 program_skip rule g entries n h e = record {
   closed = h.closed;
   within = All-push (IsPlainPart (length g)) entries None h.within tt;
   count = omega (arith, h.count, length-append entries (None ∷ []));
   long = omega (arith, h.long, ap rule_size e);
-  standing = subst (λ (x : List Step). (k : ℕ) → k < suc n
+  standing = subst (λ (x : List ProgramStep). (k : ℕ) → k < suc n
       → RuleStands x (rule k) (get_or (entries ++ None ∷ []) k None) k (base_of rule k)) (append-nil g)
       (standing_more rule entries g [] n None h.count h.standing (rw e refl));
 }
 
-leads_further : (n m : ℕ) (s : Step) → n ≤ m → LeadsBelow n s → LeadsBelow m s
+leads_further : (n m : ℕ) (s : ProgramStep) → n ≤ m → LeadsBelow n s → LeadsBelow m s
 leads_further n m (reads bytes q) l h = omega (arith, h)
 leads_further n m (fork a b) l h = (omega (arith, h.0), omega (arith, h.1))
 leads_further n m (ends i) l h = h
@@ -76,12 +76,12 @@ part_further n m None l h = h
 part_further n m (Some a) l h = omega (arith, h)
 
 -- one more rule
-module _ (rule : ℕ → Option Expression) (g : List Step) (entries : List (Option ℕ)) (n : ℕ) (e : Expression)
+module _ (rule : ℕ → Option Expression) (g : List ProgramStep) (entries : List (Option ℕ)) (n : ℕ) (e : Expression)
     (h : IsProgram rule n g entries) (is : rule n ≡ Some e) where
   abbrev base : ℕ
   base = length g
 
-  abbrev more : List Step
+  abbrev more : List ProgramStep
   more = ends n ∷ code e (base + 1) base
 
   abbrev first : Option ℕ
@@ -135,7 +135,8 @@ module _ (rule : ℕ → Option Expression) (g : List Step) (entries : List (Opt
   }
 
 -- one more rule, as it was appended
-pub program_step : (rule : ℕ → Option Expression) (g g' : List Step) (entries fs : List (Option ℕ)) (n base begin : ℕ)
+pub program_step : (rule : ℕ → Option Expression) (g g' : List ProgramStep) (entries fs : List (Option ℕ))
+    (n base begin : ℕ)
     (e : Expression) → IsProgram rule n g entries → rule n ≡ Some e → base ≡ length g
     → begin ≡ entry (base + 1) (size e) base → g' ≡ g ++ ends n ∷ code e (base + 1) base
     → fs ≡ entries ++ Some begin ∷ [] → IsProgram rule (n + 1) g' fs
@@ -145,13 +146,13 @@ program_step rule g g' entries fs n base begin e h is at first grown is_fs =
     let start : begin ≡ entry (length g + 1) (size e) (length g) = first ∙ ap (λ b. entry (b + 1) (size e) b) at in
     rw (add-one, same, is_fs, start) (program_rule rule g entries n e h is)
 
-pub program_next : (rule : ℕ → Option Expression) (g : List Step) (entries fs : List (Option ℕ)) (n : ℕ)
+pub program_next : (rule : ℕ → Option Expression) (g : List ProgramStep) (entries fs : List (Option ℕ)) (n : ℕ)
     → IsProgram rule n g entries → rule n ≡ None → fs ≡ entries ++ None ∷ [] → IsProgram rule (n + 1) g fs
 program_next rule g entries fs n h e is_fs = rw (add-one, is_fs) (program_skip rule g entries n h e)
 
 -- there is such a program
 pub record SomeProgram (rule : ℕ → Option Expression) (n : ℕ) : Type 0 where
-  pub program : List Step
+  pub program : List ProgramStep
   pub entries : List (Option ℕ)
   pub is : IsProgram rule n program entries
 

@@ -8,7 +8,8 @@ use Rattle.ly_ere.specs.Expression.{Expression, MatchesUnder}
 use Rattle.ly_position.specs.Written.{Plain, Member}
 use Rattle.ly_position.specs.Numbered.{set_count, numbered, Path, IsPosition, ComesFirst, ComesAfter}
 use Rattle.ly_position.specs.Private.Link.{is_position}
-use Rattle.ly_position.specs.Private.Program.{Step, reads, fork, ends, Runs, at_end, by_read, by_first, by_second, size}
+use Rattle.ly_position.specs.Private.Program.{ProgramStep, reads, fork, ends, Runs, at_end, by_read, by_first}
+use Rattle.ly_position.specs.Private.Program.{by_second, size}
 use Rattle.ly_position.specs.Private.Program.{entry, HasCode, IsPlainExpression}
 use Rattle.ly_position.specs.Private.Reach.{LeadsBelow, LeadsFrom, Reached, at_root, to_first, to_second}
 use Rattle.ly_position.specs.Private.Slim.{slim}
@@ -22,12 +23,12 @@ use Rattle.ly_position.proofs.SlimNumbers.{IsLinear, Strings, linear_plain, slim
 use Rattle.ly_position.proofs.SplitLemmas.{split, alone, no_end}
 
 -- The number of a step between base and top: that of the end mark at base, and behind it what is read.
-abbrev pub IsNumberOf : List Step → ℕ → ℕ → ℕ → ℕ → ℕ → Type 0
+abbrev pub IsNumberOf : List ProgramStep → ℕ → ℕ → ℕ → ℕ → ℕ → Type 0
 IsNumberOf g base top count p k = ((p ≡ base) × (k ≡ count))
     ⊎ ((base < p) × (p < top) × (next : ℕ) × (slice_get g p ≡ Some (reads (k ∷ []) next)))
 
 -- a step has one number
-pub number_one : (g : List Step) (base top count p k l : ℕ) → IsNumberOf g base top count p k
+pub number_one : (g : List ProgramStep) (base top count p k l : ℕ) → IsNumberOf g base top count p k
     → IsNumberOf g base top count p l → k ≡ l
 number_one g base top count p k l (inl a) (inl b) = a.1 ∙ sym b.1
 number_one g base top count p k l (inl a) (inr b) = absurd (omega (arith, a.0, b.0))
@@ -35,13 +36,13 @@ number_one g base top count p k l (inr a) (inl b) = absurd (omega (arith, a.0, b
 number_one g base top count p k l (inr a) (inr b) = let x = a.3 in let y = b.3 in cc
 
 -- the same between the same steps
-pub number_moved : (g : List Step) (base top count base' top' count' p k : ℕ) → base ≡ base' → top ≡ top'
+pub number_moved : (g : List ProgramStep) (base top count base' top' count' p k : ℕ) → base ≡ base' → top ≡ top'
     → count ≡ count' → IsNumberOf g base top count p k → IsNumberOf g base' top' count' p k
 number_moved g base top count base' top' count' p k a b c (inl h) = inl (h.0 ∙ a, h.1 ∙ c)
 number_moved g base top count base' top' count' p k a b c (inr h)
     = inr (omega (arith, h.0), omega (arith, h.1), h.2, h.3)
 
-module _ (g : List Step) (i base : ℕ) (e : Expression) (r : Plain) (is : slim (numbered r 0) ≡ Some e)
+module _ (g : List ProgramStep) (i base : ℕ) (e : Expression) (r : Plain) (is : slim (numbered r 0) ≡ Some e)
     (stop : slice_get g base ≡ Some (ends i)) (has : HasCode g e (base + 1) base) where
   abbrev start : ℕ
   start = entry (base + 1) (size e) base
@@ -84,11 +85,11 @@ module _ (g : List Step) (i base : ℕ) (e : Expression) (r : Plain) (is : slim 
 
   -- a step of the code
   code_stands : (p : ℕ) → (base ≡ p → ⊥) → IsInside p
-      → (s : Step) × (slice_get g p ≡ Some s) × LeadsBelow top s × LeadsFrom base s × IsMove s
+      → (s : ProgramStep) × (slice_get g p ≡ Some s) × LeadsBelow top s × LeadsFrom base s × IsMove s
   code_stands p other h = stands g e (base + 1) base base top p has (omega arith) (omega arith) (omega arith)
       (omega arith) (omega (arith, h.0)) (omega (arith, h.1))
 
-  leads_inside : (p : ℕ) (s : Step) → IsInside p → slice_get g p ≡ Some s → LeadsBelow top s × LeadsFrom base s
+  leads_inside : (p : ℕ) (s : ProgramStep) → IsInside p → slice_get g p ≡ Some s → LeadsBelow top s × LeadsFrom base s
   leads_inside p s h at = elim (cases_eq base p) [
     | inl same ↦
         let here = subst (λ x. slice_get g x ≡ Some (ends i)) same stop in
@@ -147,7 +148,7 @@ module _ (g : List Step) (i base : ℕ) (e : Expression) (r : Plain) (is : slim 
   ]
 
   -- each step that is no fork has a number
-  pub number_at : (p : ℕ) (s : Step) → IsInside p → slice_get g p ≡ Some s → is_position s ≡ true
+  pub number_at : (p : ℕ) (s : ProgramStep) → IsInside p → slice_get g p ≡ Some s → is_position s ≡ true
       → (k : ℕ) × Numbers p k
   number_at p (ends j) h at passes = (set_count r, inl ((end_at p j h at).0, refl))
   number_at p (fork a b) h at passes = cc
@@ -219,7 +220,7 @@ module _ (g : List Step) (i base : ℕ) (e : Expression) (r : Plain) (is : slim 
       (u.0, o.rest, path_of u.0 o.numbers (k ∷ o.rest) (u.1 o.numbers o.goes) o.path)
 
   -- what a run that is the end of a path comes to first
-  at_number : (p m : ℕ) (zs rest : List ℕ) (l : ℕ) (s : Step) → IsInside p → slice_get g p ≡ Some s
+  at_number : (p m : ℕ) (zs rest : List ℕ) (l : ℕ) (s : ProgramStep) → IsInside p → slice_get g p ≡ Some s
       → is_position s ≡ true → Runs g i m p zs → zs ++ set_count r ∷ [] ≡ l ∷ rest → Numbers p l
   at_number p m zs rest l (ends j) h at passes run eq = elim (cases_eq base p) [
     | inl same ↦

@@ -8,7 +8,8 @@ use Rattle.std.proofs.lemmas.Option.{slice_get-map}
 use Rattle.std.proofs.lemmas.Slice.Zip.{AllZip-long}
 use Rattle.ly_base.proofs.MemberLemmas.{Contains-first, Contains-one}
 use Rattle.ly_ere.specs.declared.pattern.Rule.{Rule}
-use Rattle.ly_position.specs.Private.Program.{Step, reads, fork, ends, Runs, at_end, by_read, by_first, by_second}
+use Rattle.ly_position.specs.Private.Program.{ProgramStep, reads, fork, ends, Runs, at_end, by_read, by_first}
+use Rattle.ly_position.specs.Private.Program.{by_second}
 use Rattle.ly_position.specs.Private.Reach.{LeadsBelow, Reached, StaysInside, at_root, to_first, to_second}
 use Rattle.ly_position.specs.Private.Link.{IsLinkOf, IsNumber, IsReachList, IsSlotOf, is_position}
 use Rattle.ly_position.specs.Private.Starts.{StartsAt}
@@ -25,7 +26,7 @@ use Rattle.ly_position.proofs.LinkLemmas.{slots_within}
 use Rattle.ly_position.proofs.NumberLemmas.{rank_get, zip_get}
 
 -- a position shows its step
-abbrev pub Shows : List Step → Step → Position → Type 0
+abbrev pub Shows : List ProgramStep → ProgramStep → Position → Type 0
 Shows g (reads bytes next) (reading bs f) = (bytes ≡ bs) × IsReachList g (next ∷ []) f
 Shows g (reads bytes next) (ending j) = ⊥
 Shows g (fork a b) pl = ⊥
@@ -33,7 +34,7 @@ Shows g (ends i) (reading bs f) = ⊥
 Shows g (ends i) (ending j) = i ≡ j
 
 -- runs at a step that is reached are runs at a root
-module _ (g : List Step) (i : ℕ) where
+module _ (g : List ProgramStep) (i : ℕ) where
   pub from_root : (roots : List ℕ) (p : ℕ) (w : List ℕ) → Reached g roots p → CanRun g i p w
       → (e : ℕ) × Contains roots e × CanRun g i e w
   from_root roots p w (at_root k) r = (p, k, r)
@@ -43,7 +44,7 @@ module _ (g : List Step) (i : ℕ) where
   -- a run that begins anywhere comes to a position without reading
   pub record Settles (e n : ℕ) (w : List ℕ) : Type 0 where
     pub place : ℕ
-    pub step : Step
+    pub step : ProgramStep
     pub moves : ℕ
     pub reached : Reached g (e ∷ []) place
     pub is : slice_get g place ≡ Some step
@@ -110,12 +111,12 @@ module _ (g : List Step) (i : ℕ) where
         goes = s.goes;
       }
 
-module _ (g : List Step) (targets : List Target) (slots : List Slot) (forks : List Fork) (starts : List (List ℕ))
+module _ (g : List ProgramStep) (targets : List Target) (slots : List Slot) (forks : List Fork) (starts : List (List ℕ))
     (inside : StaysInside g) (linked : IsLinkOf g targets slots forks) where
   abbrev pub nfa : Nfa
   nfa = nfa_of slots forks starts
 
-  slot_shows : (s : Step) (x : Slot) → LeadsBelow (length g) s → IsSlotOf g s x
+  slot_shows : (s : ProgramStep) (x : Slot) → LeadsBelow (length g) s → IsSlotOf g s x
       → Shows g s (position_in (length slots) forks x)
   slot_shows (reads bytes next) (slot.Reads b t) below is = (
     is.0,
@@ -129,7 +130,7 @@ module _ (g : List Step) (targets : List Target) (slots : List Slot) (forks : Li
 
   -- what a number shows
   pub record Shown (p q : ℕ) : Type 0 where
-    pub step : Step
+    pub step : ProgramStep
     pub shape : Position
     pub is : slice_get g p ≡ Some step
     pub at : slice_get nfa.positions q ≡ Some shape

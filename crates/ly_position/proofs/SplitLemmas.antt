@@ -2,7 +2,7 @@
 use Rattle.std.proofs.Common.{◌≡◌, ◌⊎◌, inl, inr, ℕ, zero, suc, ◌≤◌, List, [], ◌∷◌, ◌++◌, refl, sym, ◌∙◌, ap, subst}
 use Rattle.std.proofs.Common.{arith, append_assoc, append-nil}
 use Rattle.std.specs.List.{AllZip}
-use Rattle.ly_ere.specs.Expression.{Joined}
+use Rattle.ly_ere.specs.Expression.{Concatenated}
 
 -- an element of two lists stands in the first
 pub record InFirst {A : Type 0} (us vs xs ys : List A) (m : A) : Type 0 where
@@ -46,18 +46,18 @@ pub record InOne (L : List ℕ → Type 0) (xs ys : List ℕ) (m : ℕ) : Type 0
   pub left : List ℕ
   pub right : List ℕ
   pub back : List ℕ
-  pub in_front : Joined L before front
+  pub in_front : Concatenated L before front
   pub in_one : L (left ++ m ∷ right)
-  pub in_back : Joined L after back
+  pub in_back : Concatenated L after back
   pub left_is : xs ≡ front ++ left
   pub right_is : ys ≡ right ++ back
 
 module _ (L : List ℕ → Type 0) where
-  pub in_one_of : (k : ℕ) (xs ys : List ℕ) (m : ℕ) → Joined L k (xs ++ m ∷ ys) → InOne L xs ys m
+  pub in_one_of : (k : ℕ) (xs ys : List ℕ) (m : ℕ) → Concatenated L k (xs ++ m ∷ ys) → InOne L xs ys m
   in_one_of zero xs ys m j = absurd (no_end xs ys m j)
   in_one_of (suc k) xs ys m j = by (λ t h. in_one_of k t ys m h) (split j.0 j.1 xs ys m j.2)
     where
-      by : ((t : List ℕ) → Joined L k (t ++ m ∷ ys) → InOne L t ys m)
+      by : ((t : List ℕ) → Concatenated L k (t ++ m ∷ ys) → InOne L t ys m)
           → InFirst j.0 j.1 xs ys m ⊎ InSecond j.0 j.1 xs ys m → InOne L xs ys m
       by f (inl h) = record {
         before = 0;
@@ -73,7 +73,7 @@ module _ (L : List ℕ → Type 0) where
         right_is = h.rest;
       }
       by f (inr h) =
-          let o = f h.less (subst (λ z. Joined L k z) h.second j.4) in
+          let o = f h.less (subst (λ z. Concatenated L k z) h.second j.4) in
           record {
             before = suc o.before;
             after = o.after;
@@ -88,8 +88,8 @@ module _ (L : List ℕ → Type 0) where
             right_is = o.right_is;
           }
 
-  put_in : (i j : ℕ) (p u q : List ℕ) → Joined L i p → L u → Joined L j q
-      → (k : ℕ) × (1 ≤ k) × Joined L k (p ++ (u ++ q))
+  put_in : (i j : ℕ) (p u q : List ℕ) → Concatenated L i p → L u → Concatenated L j q
+      → (k : ℕ) × (1 ≤ k) × Concatenated L k (p ++ (u ++ q))
   put_in zero j p u q a h b = (suc j, omega arith, (u, q, ap (λ z. z ++ (u ++ q)) a, h, b))
   put_in (suc i) j p u q a h b =
       let f = put_in i j a.1 u q a.4 h b in (
@@ -98,13 +98,13 @@ module _ (L : List ℕ → Type 0) where
         (a.0, a.1 ++ (u ++ q), ap (λ z. z ++ (u ++ q)) a.2 ∙ append_assoc a.0 a.1 (u ++ q), a.3, f.2),
       )
 
-  pub once_in : (u : List ℕ) → L u → Joined L 1 u
+  pub once_in : (u : List ℕ) → L u → Concatenated L 1 u
   once_in u h = (u, [], sym (append-nil u), h, refl)
 
   pub change_in : (m : ℕ)
       → ((xs ys us vs : List ℕ) → L (xs ++ m ∷ ys) → L (us ++ m ∷ vs) → L (xs ++ m ∷ vs)) → (i j : ℕ)
-      (xs ys us vs : List ℕ) → Joined L i (xs ++ m ∷ ys) → Joined L j (us ++ m ∷ vs)
-      → (k : ℕ) × (1 ≤ k) × Joined L k (xs ++ m ∷ vs)
+      (xs ys us vs : List ℕ) → Concatenated L i (xs ++ m ∷ ys) → Concatenated L j (us ++ m ∷ vs)
+      → (k : ℕ) × (1 ≤ k) × Concatenated L k (xs ++ m ∷ vs)
   change_in m f i j xs ys us vs a b =
       let s = in_one_of i xs ys m a in
       let t = in_one_of j us vs m b in
@@ -112,7 +112,7 @@ module _ (L : List ℕ → Type 0) where
       (f s.left s.right t.left t.right s.in_one t.in_one) t.in_back in
       let e : xs ++ m ∷ vs ≡ s.front ++ ((s.left ++ m ∷ t.right) ++ t.back) = ap (λ z. z ++ m ∷ vs) s.left_is
       ∙ (ap (λ z. (s.front ++ s.left) ++ m ∷ z) t.right_is ∙ regroup s.front s.left t.right t.back m) in
-      (p.0, p.1, subst (λ z. Joined L p.0 z) (sym e) p.2)
+      (p.0, p.1, subst (λ z. Concatenated L p.0 z) (sym e) p.2)
 
 -- lists side by side, in parts
 module _ {A B : Type 0} (R : A → B → Type 0) where

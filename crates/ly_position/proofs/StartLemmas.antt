@@ -10,7 +10,7 @@ use Rattle.std.proofs.lemmas.List.Elements.{Contains-append_left, Contains-appen
 use Rattle.std.proofs.lemmas.List.Elements.{Contains-push_cases}
 use Rattle.ly_base.proofs.MemberLemmas.{Contains-none}
 use Rattle.ly_ere.specs.declared.pattern.Rule.{Rule}
-use Rattle.ly_position.specs.Private.Program.{Step}
+use Rattle.ly_position.specs.Private.Program.{ProgramStep}
 use Rattle.ly_position.specs.Private.Link.{IsReachList}
 use Rattle.ly_position.specs.Private.Starts.{key, root_list, PutsIn, AddsIn, AddsInEach, StaysWithin, BeginsBefore}
 use Rattle.ly_position.specs.Private.Starts.{AreBelow, AreRoots, BeginsIn, StartsAt}
@@ -266,7 +266,7 @@ all_begin rules entries numbers c line e are = (
   λ h. (h.0, h.1, are.all h.0 h.2, h.3, h.4),
 )
 
-pub starts_all : (g : List Step) (rules : List Rule) (entries : List (Option ℕ)) (numbers : List ℕ)
+pub starts_all : (g : List ProgramStep) (rules : List Rule) (entries : List (Option ℕ)) (numbers : List ℕ)
     (conditions bound : ℕ) (L S : List (List ℕ)) → AreBelow (length rules) numbers
     → AreRoots rules entries numbers conditions bound L → length S ≡ length L
     → ((k : ℕ) → k < length L → IsReachList g (get_or L k []) (get_or S k [])) → StartsAt g rules entries conditions S

@@ -4,7 +4,8 @@ use Rattle.std.proofs.Common.{false, Option, Some, None, refl, sym, ◌∙◌, a
 use Rattle.std.specs.Prelude.{slice_get, nat_eq, nat_le, ◌↔◌}
 use Rattle.std.proofs.lemmas.Bool.{cases_Bool, eqb-true, eq-eqb, leb-true, le-leb}
 use Rattle.ly_base.proofs.MemberLemmas.{Contains-none}
-use Rattle.ly_ere.specs.Expression.{Expression, set, empty, concat, either, star, plus, optional, repeat, name, Joined}
+use Rattle.ly_ere.specs.Expression.{Expression, set, empty, concat, either, star, plus, optional, repeat, name}
+use Rattle.ly_ere.specs.Expression.{Concatenated}
 use Rattle.ly_ere.specs.Expression.{IsAtMost, MatchesUnder, NamedUpTo}
 use Rattle.ly_position.specs.Written.{Plain, one_of, some_times, Member, copies, up_to, times, written_under}
 use Rattle.ly_position.specs.Written.{definition_under, named_up_to}
@@ -12,15 +13,16 @@ use Rattle.ly_position.specs.Laws.{WrittenMatches}
 use Rattle.ly_position.proofs.JoinedLemmas.{InTurn, Same, AtMost, Plus, same_trans, in_turn_same, or_same, joined_same}
 use Rattle.ly_position.proofs.JoinedLemmas.{star_same, plus_same, joined_more, at_most_more, between, or_more}
 
-copies_strings : (m : ℕ) (r s : Plain) → Same (Member (copies m r s)) (InTurn (Joined (Member r) m) (Member s))
+copies_strings : (m : ℕ) (r s : Plain) → Same (Member (copies m r s)) (InTurn (Concatenated (Member r) m) (Member s))
 copies_strings zero r s w
     = (λ h. ([], w, refl, refl, h), λ h. subst (Member s) (sym (h.2 ∙ ap (λ z. z ++ h.1) h.3)) h.4)
 copies_strings (suc m) r s w = same_trans (Member (copies (suc m) r s))
-    (InTurn (Member r) (InTurn (Joined (Member r) m) (Member s))) (InTurn (Joined (Member r) (suc m)) (Member s))
-    (in_turn_same (Member r) (Member r) (Member (copies m r s)) (InTurn (Joined (Member r) m) (Member s))
+    (InTurn (Member r) (InTurn (Concatenated (Member r) m) (Member s)))
+    (InTurn (Concatenated (Member r) (suc m)) (Member s))
+    (in_turn_same (Member r) (Member r) (Member (copies m r s)) (InTurn (Concatenated (Member r) m) (Member s))
     (λ w. (λ h. h, λ h. h)) (copies_strings m r s))
-    (let P : ℕ → Type 0 = λ n. Same (InTurn (Member r) (InTurn (Joined (Member r) m) (Member s)))
-    (InTurn (Joined (Member r) n) (Member s)) in
+    (let P : ℕ → Type 0 = λ n. Same (InTurn (Member r) (InTurn (Concatenated (Member r) m) (Member s)))
+    (InTurn (Concatenated (Member r) n) (Member s)) in
     let e : m + 1 ≡ suc m = omega arith in subst P e (joined_more (Member r) (Member s) m)) w
 
 up_to_strings : (n : ℕ) (r : Plain) → Same (Member (up_to n r)) (AtMost (Member r) n)
@@ -41,22 +43,25 @@ up_to_strings (suc n) r w = same_trans (Member (up_to (suc n) r))
 
 -- how often an interval repeats
 abbrev Times : ℕ → Option ℕ → (List ℕ → Type 0) → List ℕ → Type 0
-Times m n L w = (k : ℕ) × (m ≤ k) × IsAtMost k n × Joined L k w
+Times m n L w = (k : ℕ) × (m ≤ k) × IsAtMost k n × Concatenated L k w
 
 times_strings : (m : ℕ) (n : Option ℕ) (r : Plain) → Same (Member (times m n r)) (Times m n (Member r))
 times_strings zero None r w = (λ h. (h.0, omega arith, tt, h.1), λ h. (h.0, h.3))
 times_strings (suc m) None r w =
     let e : suc m - 1 ≡ m = omega arith in
-    same_trans (Member (copies m r (some_times r))) (InTurn (Joined (Member r) m) (Plus (Member r)))
+    same_trans (Member (copies m r (some_times r))) (InTurn (Concatenated (Member r) m) (Plus (Member r)))
     (Times (suc m) None (Member r)) (copies_strings m r (some_times r))
-    (let P : ℕ → Type 0 = λ k. Same (InTurn (Joined (Member r) k) (Plus (Member r))) (Times (suc m) None (Member r)) in
+    (let P : ℕ
+    → Type 0 = λ k. Same (InTurn (Concatenated (Member r) k) (Plus (Member r))) (Times (suc m) None (Member r)) in
     subst P e (or_more (Member r) (suc m) (omega arith))) w
 times_strings m (Some n) r w = elim (cases_Bool (nat_le m n)) [
   | inl fits ↦ rw fits (same_trans (Member (copies m r (up_to (n - m) r)))
-      (InTurn (Joined (Member r) m) (AtMost (Member r) (n - m))) (Times m (Some n) (Member r))
-      (same_trans (Member (copies m r (up_to (n - m) r))) (InTurn (Joined (Member r) m) (Member (up_to (n - m) r)))
-      (InTurn (Joined (Member r) m) (AtMost (Member r) (n - m))) (copies_strings m r (up_to (n - m) r))
-      (in_turn_same (Joined (Member r) m) (Joined (Member r) m) (Member (up_to (n - m) r)) (AtMost (Member r) (n - m))
+      (InTurn (Concatenated (Member r) m) (AtMost (Member r) (n - m))) (Times m (Some n) (Member r))
+      (same_trans (Member (copies m r (up_to (n - m) r)))
+      (InTurn (Concatenated (Member r) m) (Member (up_to (n - m) r)))
+      (InTurn (Concatenated (Member r) m) (AtMost (Member r) (n - m))) (copies_strings m r (up_to (n - m) r))
+      (in_turn_same (Concatenated (Member r) m) (Concatenated (Member r) m) (Member (up_to (n - m) r))
+      (AtMost (Member r) (n - m))
       (λ w. (λ h. h, λ h. h)) (up_to_strings (n - m) r)))
       (between (Member r) m n (leb-true m n fits)) w)
   | inr past ↦ rw past (

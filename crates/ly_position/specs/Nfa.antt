@@ -31,8 +31,8 @@ abbrev pub position_of : Nfa → ℕ → Position
 position_of nfa p = slice_index_or nfa.positions p (reading [] [])
 
 -- position p may read b
-abbrev pub Reads : Nfa → ℕ → ℕ → Type 0
-Reads nfa p b = Contains (bytes_of (position_of nfa p)) b
+abbrev pub ReadsByte : Nfa → ℕ → ℕ → Type 0
+ReadsByte nfa p b = Contains (bytes_of (position_of nfa p)) b
 
 -- position q may come after p
 abbrev pub Follows : Nfa → ℕ → ℕ → Type 0
@@ -48,7 +48,7 @@ GoesOnChain nfa p = (q : ℕ) → Follows nfa p q ↔ ((q + 1 ≡ p) ⊎ Follows
 
 -- position q may come after one of the positions that reads b
 abbrev pub Stepped : Nfa → List ℕ → ℕ → ℕ → Type 0
-Stepped nfa ps b q = (p : ℕ) × Contains ps p × Reads nfa p b × Follows nfa p q
+Stepped nfa ps b q = (p : ℕ) × Contains ps p × ReadsByte nfa p b × Follows nfa p q
 
 -- the set has room for the positions of the automaton, and for its forks
 pub record IsRoomFor (nfa : Nfa) (set : PositionSet) : Type 0 where
@@ -62,12 +62,12 @@ IsEnd nfa p i = slice_get nfa.positions p ≡ Some (ending i)
 -- a run from position p reads w and comes to the end mark of rule i
 abbrev pub RunsTo : Nfa → ℕ → ℕ → List ℕ → Type 0
 RunsTo nfa i p [] = IsEnd nfa p i
-RunsTo nfa i p (b ∷ w) = (q : ℕ) × Reads nfa p b × Follows nfa p q × RunsTo nfa i q w
+RunsTo nfa i p (b ∷ w) = (q : ℕ) × ReadsByte nfa p b × Follows nfa p q × RunsTo nfa i q w
 
 -- a run from position p reads w and comes to position q
 abbrev pub ComesTo : Nfa → ℕ → List ℕ → ℕ → Type 0
 ComesTo nfa p [] q = p ≡ q
-ComesTo nfa p (b ∷ w) q = (n : ℕ) × Reads nfa p b × Follows nfa p n × ComesTo nfa n w q
+ComesTo nfa p (b ∷ w) q = (n : ℕ) × ReadsByte nfa p b × Follows nfa p n × ComesTo nfa n w q
 
 -- the positions that may come first in a condition, where a line begins or elsewhere
 abbrev pub starts_of : Nfa → ℕ → Bool → List ℕ

@@ -3,7 +3,7 @@ use Rattle.std.specs.Prelude.{◌≡◌, ◌↔◌, ℕ, ◌<◌, List, length, 
 use Rattle.ly_ere.specs.Expression.{Expression}
 use Rattle.ly_ere.specs.Winner.{IsActive}
 use Rattle.ly_ere.specs.declared.pattern.Rule.{Rule}
-use Rattle.ly_position.specs.Nfa.{Nfa, Reads, Follows, IsEnd, starts_of}
+use Rattle.ly_position.specs.Nfa.{Nfa, ReadsByte, Follows, IsEnd, starts_of}
 use Rattle.ly_position.specs.Written.{pattern_written}
 use Rattle.ly_position.specs.Numbered.{set_count, set_at, IsPosition, ComesFirst, ComesAfter, ComesNext}
 
@@ -32,7 +32,7 @@ pub record ArePositionsOf (names : List Expression) (rules : List Rule) (conditi
   pub ends : (p i : ℕ) (r : Rule) → p < length nfa.positions → slice_get rules (spot p).rule ≡ Some r
       → IsEnd nfa p i ↔ (((spot p).rule ≡ i) × ((spot p).number ≡ set_count (pattern_written names r.pattern)))
   pub reads : (p b : ℕ) (r : Rule) → p < length nfa.positions → slice_get rules (spot p).rule ≡ Some r
-      → Reads nfa p b ↔ Contains (set_at (pattern_written names r.pattern) (spot p).number) b
+      → ReadsByte nfa p b ↔ Contains (set_at (pattern_written names r.pattern) (spot p).number) b
   pub follows : (p q : ℕ) (r : Rule) → p < length nfa.positions → q < length nfa.positions
       → slice_get rules (spot p).rule ≡ Some r → Follows nfa p q
       ↔ (((spot q).rule ≡ (spot p).rule)

@@ -1,7 +1,8 @@
 -- Expressions written out, without names and intervals.
 use Rattle.std.specs.Prelude.{◌≡◌, ℕ, zero, suc, ◌-◌, ◌≤◌, List, [], ◌∷◌, ◌++◌, length, slice_get, Contains, Option}
 use Rattle.std.specs.Prelude.{Some, None, ◌⊎◌, if◌then◌else◌, nat_eq, nat_le}
-use Rattle.ly_ere.specs.Expression.{Expression, set, empty, concat, either, star, plus, optional, repeat, name, Joined}
+use Rattle.ly_ere.specs.Expression.{Expression, set, empty, concat, either, star, plus, optional, repeat, name}
+use Rattle.ly_ere.specs.Expression.{Concatenated}
 use Rattle.ly_ere.specs.declared.pattern.Pattern.{Pattern}
 
 -- An expression without names and intervals. A set is the list of its bytes.
@@ -20,8 +21,8 @@ Member (one_of bytes) w = (b : ℕ) × Contains bytes b × (w ≡ b ∷ [])
 Member empty_string w = w ≡ []
 Member (in_turn r s) w = (u : List ℕ) × (v : List ℕ) × (w ≡ u ++ v) × Member r u × Member s v
 Member (or r s) w = Member r w ⊎ Member s w
-Member (any_times r) w = (k : ℕ) × Joined (Member r) k w
-Member (some_times r) w = (k : ℕ) × (1 ≤ k) × Joined (Member r) k w
+Member (any_times r) w = (k : ℕ) × Concatenated (Member r) k w
+Member (some_times r) w = (k : ℕ) × (1 ≤ k) × Concatenated (Member r) k w
 Member (maybe r) w = (w ≡ []) ⊎ Member r w
 
 -- m copies of r, and then s

@@ -8,7 +8,7 @@ use Rattle.ly_base.specs.Bytes.{newline, space}
 use Rattle.ly_base.specs.Text as text
 use Rattle.ly_join.specs.Grammar.{Grammar, IsRule, Rule, Symbol, nonterminal, terminal}
 use Rattle.ly_join.specs.Joined.{Spec}
-use Rattle.ly_join.specs.Terminals.{Terminal, byte, end, token, undefined}
+use Rattle.ly_join.specs.Terminals.{TerminalName, byte, end, token, undefined}
 use Rattle.ly_grammar.specs.Derivations.{IsUseful}
 use Rattle.ly_grammar.specs.Reduction.{KeepsUseful}
 use Rattle.ly_resolve.specs.Actions.{Action, error, reduce, shift}
@@ -16,7 +16,7 @@ use Rattle.ly_resolve.specs.Conflicts.{AreConflicts, Conflict, Kind, reduce_redu
 use Rattle.ly_resolve.specs.Precedence.{judge_of}
 
 -- a terminal as it is printed
-abbrev pub terminal_name : Terminal → List ℕ
+abbrev pub terminal_name : TerminalName → List ℕ
 terminal_name end = codes "$end"
 terminal_name undefined = codes "$undef"
 terminal_name (token name) = text.name_of (text.token name)

@@ -21,9 +21,9 @@ use Rattle.ly_resolve.specs.Private.Meetings.{all_told, AreAsked, AreMany, IsAsk
 use Rattle.ly_join.specs.Joined.{Spec}
 use Rattle.ly_lr0.proofs.LawLemmas.{reached_within}
 use Rattle.ly_resolve.specs.Precedence.{judge_of}
-use Rattle.ly_resolve.specs.Resolved.{AreResolved, Entry, IsRow}
-use Rattle.ly_resolve.specs.Values.{conflict_from, entry_from, resolved_from}
-use Rattle.ly_resolve.specs.declared.action.Entry as code
+use Rattle.ly_resolve.specs.Resolved.{AreResolved, TerminalAction, IsRow}
+use Rattle.ly_resolve.specs.Values.{conflict_from, terminal_action_from, resolved_from}
+use Rattle.ly_resolve.specs.declared.action.TerminalAction as code
 use Rattle.ly_resolve.specs.declared.conflict.Conflict as conflict
 use Rattle.std.specs.declared.alloc.Global.{Global}
 use Rattle.std.specs.declared.vec.Vec.{Vec}
@@ -239,7 +239,7 @@ module _ (M : Automaton) (is : IsAutomaton M) (judge : Judge) (s t : ℕ) (lt : 
       );
     }
 
-    pub entries_nothing : (row : List Entry) → AreEntries M judge s t row → AreEntries M judge s (t + 1) row
+    pub entries_nothing : (row : List TerminalAction) → AreEntries M judge s t row → AreEntries M judge s (t + 1) row
     entries_nothing row before = record {
       ordered = before.ordered;
       are = λ x. (
@@ -258,7 +258,7 @@ module _ (M : Automaton) (is : IsAutomaton M) (judge : Judge) (s t : ℕ) (lt : 
     }
 
   -- with its action one more entry is there
-  pub entries_more : (row : List Entry) (a : Action) → IsAction M.grammar judge (prefix_of M s) t a
+  pub entries_more : (row : List TerminalAction) (a : Action) → IsAction M.grammar judge (prefix_of M s) t a
       → AreEntries M judge s t row
       → AreEntries M judge s (t + 1) (row ++ record { terminal = t; action = a } ∷ [])
   entries_more row a action before = record {
@@ -284,14 +284,15 @@ module _ (M : Automaton) (is : IsAutomaton M) (judge : Judge) (s t : ℕ) (lt : 
     ];
   }
     where
-      last : Entry
+      last : TerminalAction
       last = record { terminal = t; action = a }
 
-      is_last : (x : Entry) → x.terminal ≡ t → IsAction M.grammar judge (prefix_of M s) x.terminal x.action → last ≡ x
+      is_last : (x : TerminalAction) → x.terminal ≡ t → IsAction M.grammar judge (prefix_of M s) x.terminal x.action
+          → last ≡ x
       is_last x e other =
           let same : a ≡ x.action = done_once (IsRaw M.grammar (prefix_of M s) t) (λ p. judge p t) a x.action action
           (subst (λ n. IsAction M.grammar judge (prefix_of M s) n x.action) e other) in
-          let made : ℕ → Action → Entry = λ n b. record { terminal = n; action = b } in
+          let made : ℕ → Action → TerminalAction = λ n b. record { terminal = n; action = b } in
           ap (λ n. made n a) (sym e) ∙ ap (made x.terminal) same
 
 pub entries_start : (M : Automaton) (judge : Judge) (s : ℕ) → AreEntries M judge s 0 []
@@ -303,7 +304,7 @@ entries_start M judge s = record {
 
 module _ (M : Automaton) (is : IsAutomaton M) (judge : Judge) where
   -- past the terminals the row is whole
-  pub entries_all : (s n : ℕ) (row : List Entry) → M.grammar.terminals ≤ n → AreEntries M judge s n row
+  pub entries_all : (s n : ℕ) (row : List TerminalAction) → M.grammar.terminals ≤ n → AreEntries M judge s n row
       → IsRow M.grammar judge (prefix_of M s) row
   entries_all s n row le before = record {
     ordered = before.ordered;
@@ -433,10 +434,10 @@ rows_more f P (z ∷ xs) x all last (suc k) y at
     = rows_more f (λ n. P (suc n)) xs x (λ n w e. all (suc n) w e) last k y at
 
 -- once all states are gone through, all is resolved
-pub all_resolved : (s : Spec) (M : Automaton) (n : ℕ) (rows : List (Vec code.Entry Global))
+pub all_resolved : (s : Spec) (M : Automaton) (n : ℕ) (rows : List (Vec code.TerminalAction Global))
     (cs : List conflict.Conflict)
     (free : Bool) → IsAutomaton M → n ≡ length M.states → length rows ≡ n
-    → ((k : ℕ) (row : List Entry) → slice_get (map (λ r. map entry_from r.items) rows) k ≡ Some row
+    → ((k : ℕ) (row : List TerminalAction) → slice_get (map (λ r. map terminal_action_from r.items) rows) k ≡ Some row
     → IsRow M.grammar (judge_of s) (prefix_of M k) row)
     → AreTold M (judge_of s) n 0 (map (conflict_from M) cs) free → AreResolved s M (resolved_from s M rows cs free)
 all_resolved s M n rows cs free is count long each told =
@@ -445,7 +446,7 @@ all_resolved s M n rows cs free is count long each told =
     record {
       spec = refl;
       automaton = refl;
-      states = length-map rows (λ r. map entry_from r.items) ∙ (long ∙ count);
+      states = length-map rows (λ r. map terminal_action_from r.items) ∙ (long ∙ count);
       rows = λ k q row at there. subst (λ g. IsRow M.grammar (judge_of s) g row) (prefix_at M k q at)
           (each k row there);
       conflicts = all.0;

@@ -9,7 +9,7 @@ use Rattle.ly_grammar.specs.Derivations.{AreTrees, Derives, IsReduced, IsSentenc
 use Rattle.ly_grammar.specs.Items.{HasNoEnd, IsNextSymbol, IsViable, Valid, at_start, closed, moved, onto}
 use Rattle.ly_grammar.proofs.ItemLemmas.{First_trees, body_of, length-onto, trees_of_end, trees_to_come}
 use Rattle.ly_grammar.proofs.SearchLemmas.{rule_is_one}
-use Rattle.ly_resolve.specs.Actions.{IsAction, IsRefused, Judge, error}
+use Rattle.ly_resolve.specs.Actions.{IsAction, IsTerminalRefused, Judge, error}
 use Rattle.ly_resolve.specs.Laws.{ReadsPrefixes, RefusesFirst}
 use Rattle.ly_resolve.specs.Machine.{Accepts, Configuration, Leads, Moves, Pushed, Reduces, Refuses, begin, here}
 use Rattle.ly_resolve.specs.Machine.{onward, symbols_of}
@@ -260,7 +260,7 @@ refused_first G judge augmented reduced free before behind t (c, l, r, split) = 
           behind = prefix.0;
           is_next = refl;
           action = subst (λ x. IsAction G judge (symbols_of c.stack) x.terminal error
-              ⊎ IsRefused G (symbols_of c.stack) x.terminal) token r.action;
+              ⊎ IsTerminalRefused G (symbols_of c.stack) x.terminal) token r.action;
         } in
         let same = end_is_one G judge run other.2 (accepts_halts G judge a.0 w.sentence a.2)
         (refuses_halts G judge there refused) in

@@ -6,7 +6,8 @@ use Rattle.ly_base.specs.Trees.{Tree, leaf, node, none, yield_of}
 use Rattle.ly_join.specs.Grammar.{Grammar, IsRule, Symbol, nonterminal, terminal}
 use Rattle.ly_grammar.proofs.ItemLemmas.{length-onto}
 use Rattle.ly_grammar.proofs.SearchLemmas.{rule_is_one}
-use Rattle.ly_resolve.specs.Actions.{Action, IsAction, IsRefused, Judge, Verdict, error, reduce, shift, to_error}
+use Rattle.ly_resolve.specs.Actions.{Action, IsAction, IsTerminalRefused, Judge, Verdict, error, reduce, shift}
+use Rattle.ly_resolve.specs.Actions.{to_error}
 use Rattle.ly_resolve.specs.Actions.{to_reduce, to_shift, unsettled}
 use Rattle.ly_resolve.specs.Laws.{IsUnambiguous}
 use Rattle.ly_resolve.specs.Machine.{Accepts, AcceptsWith, Configuration, Leads, Moves, Pushed, Refuses, here, onward}
@@ -42,7 +43,7 @@ action_is_one G judge g t error error x y = refl
 
 -- where something is done, an action is asked for
 done_is_asked : (G : Grammar) (judge : Judge) (g : List Symbol) (t : ℕ) (a : Action) → IsAction G judge g t a
-    → IsRefused G g t → ⊥
+    → IsTerminalRefused G g t → ⊥
 done_is_asked G judge g t shift x refused = refused shift x.0
 done_is_asked G judge g t (reduce p) x refused = refused (reduce p) x.0.0
 done_is_asked G judge g t error x refused = refused shift x.0
@@ -136,12 +137,12 @@ module _ (G : Grammar) (judge : Judge) where
 
   -- where a token is refused, no other action is done
   pub shift_refused : (g : List Symbol) (t : ℕ) → IsAction G judge g t shift
-      → IsAction G judge g t error ⊎ IsRefused G g t → ⊥
+      → IsAction G judge g t error ⊎ IsTerminalRefused G g t → ⊥
   shift_refused g t x (inl y) = let off = action_is_one G judge g t shift error x y in cc
   shift_refused g t x (inr y) = done_is_asked G judge g t shift x y
 
   reduce_refused : (g : List Symbol) (t p : ℕ) → IsAction G judge g t (reduce p)
-      → IsAction G judge g t error ⊎ IsRefused G g t → ⊥
+      → IsAction G judge g t error ⊎ IsTerminalRefused G g t → ⊥
   reduce_refused g t p x (inl y) = let off = action_is_one G judge g t (reduce p) error x y in cc
   reduce_refused g t p x (inr y) = done_is_asked G judge g t (reduce p) x y
 

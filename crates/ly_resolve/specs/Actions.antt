@@ -56,5 +56,5 @@ abbrev pub IsAction : Grammar → Judge → List Symbol → ℕ → Action → T
 IsAction G judge g t = IsDone (IsRaw G g t) (λ p. judge p t)
 
 -- no action is asked for at the string before the terminal
-abbrev pub IsRefused : Grammar → List Symbol → ℕ → Type 0
-IsRefused G g t = (a : Action) → IsRaw G g t a → ⊥
+abbrev pub IsTerminalRefused : Grammar → List Symbol → ℕ → Type 0
+IsTerminalRefused G g t = (a : Action) → IsRaw G g t a → ⊥

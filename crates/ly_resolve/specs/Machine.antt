@@ -5,7 +5,7 @@ use Rattle.ly_base.specs.Lexed.{Token}
 use Rattle.ly_base.specs.Trees.{Tree, Trees, leaf, node, none, more}
 use Rattle.ly_join.specs.Grammar.{Grammar, IsRule, Rule, Symbol, nonterminal, terminal}
 use Rattle.ly_grammar.specs.Items.{onto}
-use Rattle.ly_resolve.specs.Actions.{IsAction, IsRefused, Judge, error, reduce, shift}
+use Rattle.ly_resolve.specs.Actions.{IsAction, IsTerminalRefused, Judge, error, reduce, shift}
 
 -- A symbol on the stack, with its tree.
 pub record Pushed : Type 0 where
@@ -78,7 +78,7 @@ pub record Refuses (G : Grammar) (judge : Judge) (c : Configuration) : Type 0 wh
   pub behind : List (Token ℕ)
   pub is_next : c.rest ≡ token ∷ behind
   pub action : IsAction G judge (symbols_of c.stack) token.terminal error
-      ⊎ IsRefused G (symbols_of c.stack) token.terminal
+      ⊎ IsTerminalRefused G (symbols_of c.stack) token.terminal
 
 -- where a run begins: an empty stack, and all tokens left
 abbrev pub begin : List (Token ℕ) → Configuration

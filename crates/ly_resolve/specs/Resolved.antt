@@ -8,7 +8,7 @@ use Rattle.ly_resolve.specs.Conflicts.{Conflict, AreConflicts}
 use Rattle.ly_resolve.specs.Precedence.{judge_of}
 
 -- What is done before a terminal.
-pub record Entry : Type 0 where
+pub record TerminalAction : Type 0 where
   pub terminal : ℕ
   pub action : Action
 
@@ -17,15 +17,15 @@ pub record Entry : Type 0 where
 pub record Resolved : Type 0 where
   pub spec : Spec
   pub automaton : Automaton
-  pub rows : List (List Entry)
+  pub rows : List (List TerminalAction)
   pub conflicts : List Conflict
   pub conflict_free : Bool
 
 -- The entries are what is done at a string, in the order of the terminals: one where an action is asked for, and none
 -- elsewhere.
-pub record IsRow (G : Grammar) (judge : Judge) (g : List Symbol) (row : List Entry) : Type 0 where
+pub record IsRow (G : Grammar) (judge : Judge) (g : List Symbol) (row : List TerminalAction) : Type 0 where
   pub ordered : AllPairs (λ x y. x.terminal < y.terminal) row
-  pub are : (x : Entry) → Contains row x ↔ IsAction G judge g x.terminal x.action
+  pub are : (x : TerminalAction) → Contains row x ↔ IsAction G judge g x.terminal x.action
   pub whole : (t : ℕ) (a : Action) → IsRaw G g t a → (b : Action) × IsAction G judge g t b
 
 -- The rows are what is done in each state, the conflicts are those of the grammar, and it is said whether there is no
@@ -34,7 +34,8 @@ pub record AreResolved (s : Spec) (M : Automaton) (r : Resolved) : Type 0 where
   pub spec : r.spec ≡ s
   pub automaton : r.automaton ≡ M
   pub states : length r.rows ≡ length M.states
-  pub rows : (k : ℕ) (q : State) (row : List Entry) → slice_get M.states k ≡ Some q → slice_get r.rows k ≡ Some row
+  pub rows : (k : ℕ) (q : State) (row : List TerminalAction) → slice_get M.states k ≡ Some q → slice_get r.rows k
+      ≡ Some row
       → IsRow M.grammar (judge_of s) q.prefix row
   pub conflicts : AreConflicts M.grammar (judge_of s) r.conflicts
   pub free : IsTrue r.conflict_free ↔ IsConflictFree M.grammar

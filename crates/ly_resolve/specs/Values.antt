@@ -6,10 +6,10 @@ use Rattle.ly_join.specs.Joined.{Spec}
 use Rattle.ly_lr0.specs.Automaton.{Automaton, prefix_of}
 use Rattle.ly_resolve.specs.Actions.{Action, error, reduce, shift}
 use Rattle.ly_resolve.specs.Conflicts.{Conflict, Kind, reduce_reduce, shift_reduce}
-use Rattle.ly_resolve.specs.Resolved.{Entry, Resolved}
+use Rattle.ly_resolve.specs.Resolved.{TerminalAction, Resolved}
 use Rattle.ly_resolve.specs.declared.action.Action as action
 use Rattle.ly_resolve.specs.declared.action.Action.TheVariants.{Shift, Reduce, Error}
-use Rattle.ly_resolve.specs.declared.action.Entry as entry
+use Rattle.ly_resolve.specs.declared.action.TerminalAction as entry
 use Rattle.ly_resolve.specs.declared.conflict.Conflict as conflict
 use Rattle.ly_resolve.specs.declared.conflict.ConflictKind as kind
 use Rattle.ly_resolve.specs.declared.conflict.ConflictKind.TheVariants.{ShiftReduce, ReduceReduce}
@@ -19,8 +19,8 @@ action_from Shift = shift
 action_from (Reduce p) = reduce p
 action_from Error = error
 
-abbrev pub entry_from : entry.Entry → Entry
-entry_from x = record { terminal = x.terminal.0; action = action_from x.action }
+abbrev pub terminal_action_from : entry.TerminalAction → TerminalAction
+terminal_action_from x = record { terminal = x.terminal.0; action = action_from x.action }
 
 abbrev pub kind_from : kind.ConflictKind → Kind
 kind_from ShiftReduce = shift_reduce
@@ -41,11 +41,12 @@ pub record IsInside (M : Automaton) (c : conflict.Conflict) : Type 0 where
   pub state : c.state.0 < length M.states
   pub terminal : c.terminal.0 < M.grammar.terminals
 
-abbrev pub resolved_from : Spec → Automaton → List (Vec entry.Entry Global) → List conflict.Conflict → Bool → Resolved
+abbrev pub resolved_from : Spec → Automaton → List (Vec entry.TerminalAction Global) → List conflict.Conflict → Bool
+    → Resolved
 resolved_from s M rows conflicts free = record {
   spec = s;
   automaton = M;
-  rows = map (λ row. map entry_from row.items) rows;
+  rows = map (λ row. map terminal_action_from row.items) rows;
   conflicts = map (conflict_from M) conflicts;
   conflict_free = free;
 }

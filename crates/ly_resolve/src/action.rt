@@ -13,7 +13,7 @@ pub enum Action {
 
 /// What is done in a state before a terminal.
 #[derive(Clone, Copy, Debug, PartialEq, Eq)]
-pub struct Entry {
+pub struct TerminalAction {
     /// The terminal.
     pub terminal: Sym,
     /// What is done.

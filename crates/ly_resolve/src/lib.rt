@@ -19,7 +19,7 @@ mod resolved;
 mod settle;
 mod verdict;
 
-pub use action::{Action, Entry};
+pub use action::{Action, TerminalAction};
 pub use conflict::{Conflict, ConflictKind};
 pub use laws::{
     accepts_sentences, accepts_trees_only, defaults_never_mislead, is_unambiguous, reads_prefixes,

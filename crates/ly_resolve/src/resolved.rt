@@ -1,9 +1,9 @@
 ghost use Rattle.std.specs.Prelude.{◌≡◌, ◌<◌, length, map, slice_get, Some, All};
 ghost use Rattle.ly_grammar.specs.Reduction.{KeepsUseful};
 ghost use Rattle.ly_resolve.specs.Resolved.{AreResolved};
-ghost use Rattle.ly_resolve.specs.Values.{conflict_from, entry_from, IsInside};
+ghost use Rattle.ly_resolve.specs.Values.{conflict_from, terminal_action_from, IsInside};
 
-use crate::action::Entry;
+use crate::action::TerminalAction;
 use crate::conflict::Conflict;
 use ly_base::StateNo;
 use ly_join::Spec;
@@ -18,7 +18,7 @@ pub struct Resolved<'a> {
     /// Its automaton.
     pub(crate) lr0: &'a Lr0<'a>,
     /// For each state what is done in it, in the order of the terminals.
-    pub(crate) rows: Vec<Vec<Entry>>,
+    pub(crate) rows: Vec<Vec<TerminalAction>>,
     /// The conflicts, in their order.
     pub(crate) conflicts: Vec<Conflict>,
     /// Whether no two actions are asked for anywhere.
@@ -30,7 +30,7 @@ impl<'a> Model for Resolved<'a> {
     ghost use Rattle.ly_grammar.specs.Reduction.{KeepsUseful};
     ghost use Rattle.ly_resolve.specs.Resolved as value;
     ghost use Rattle.ly_resolve.specs.Resolved.{AreResolved};
-    ghost use Rattle.ly_resolve.specs.Values.{conflict_from, entry_from, resolved_from, IsInside};
+    ghost use Rattle.ly_resolve.specs.Values.{conflict_from, terminal_action_from, resolved_from, IsInside};
 
     ghost Value = { value.Resolved };
 
@@ -60,9 +60,9 @@ impl<'a> Resolved<'a> {
     }
 
     /// What is done in a state, in the order of the terminals. Before any other terminal nothing is.
-    pub fn row(&self, state: StateNo) -> &[Entry]
+    pub fn row(&self, state: StateNo) -> &[TerminalAction]
         requires { state.0 < length self.now.rows }
-        ensures { slice_get self.now.rows state.0 ≡ Some (map entry_from result.now) }
+        ensures { slice_get self.now.rows state.0 ≡ Some (map terminal_action_from result.now) }
     {
         &self.rows[state.0 as usize]
     }

@@ -7,9 +7,9 @@ ghost use Rattle.ly_resolve.specs.Precedence.{judge_of};
 ghost use Rattle.ly_resolve.specs.Private.Found.{AreTold};
 ghost use Rattle.ly_resolve.specs.Private.Meetings.{all_told, AreMany, IsAskedBy};
 ghost use Rattle.ly_resolve.specs.Resolved.{AreResolved, IsRow};
-ghost use Rattle.ly_resolve.specs.Values.{action_from, conflict_from, entry_from, IsInside};
+ghost use Rattle.ly_resolve.specs.Values.{action_from, conflict_from, terminal_action_from, IsInside};
 
-use crate::action::{Action, Entry};
+use crate::action::{Action, TerminalAction};
 use crate::asking::{asks_shift, find_reductions};
 use crate::conflict::Conflict;
 use crate::meeting::Meeting;
@@ -82,7 +82,7 @@ fn resolve_state(
     sources: &Sources<'_>,
     state: StateNo,
     told: &mut Told,
-) -> Result<Vec<Entry>, OutOfMemory>
+) -> Result<Vec<TerminalAction>, OutOfMemory>
     requires lawful { IsAutomaton sources.now.lr0.now }
     requires state { state.0 < length sources.now.lr0.now.states }
     requires lookaheads { AreLookaheads sources.now.lr0.now sources.now.lookaheads.now }
@@ -90,7 +90,7 @@ fn resolve_state(
         (map (conflict_from sources.now.lr0.now) told.old.conflicts.items) told.old.conflict_free }
     requires inside { All (IsInside sources.now.lr0.now) told.old.conflicts.items }
     ensures row { IfOk result (λ row. IsRow sources.now.lr0.now.grammar (judge_of sources.now.spec.now)
-        (prefix_of sources.now.lr0.now state.0) (map entry_from row.items)) }
+        (prefix_of sources.now.lr0.now state.0) (map terminal_action_from row.items)) }
     ensures told { OnOk result (AreTold sources.now.lr0.now (judge_of sources.now.spec.now) (state.0 + 1) 0
         (map (conflict_from sources.now.lr0.now) told.new.conflicts.items) told.new.conflict_free) }
     ensures inside { OnOk result (All (IsInside sources.now.lr0.now) told.new.conflicts.items) }
@@ -113,7 +113,7 @@ fn resolve_state(
             reductions: &reductions,
         };
         if let Some(action) = meeting.action() {
-            row.push(Entry { terminal, action })?;
+            row.push(TerminalAction { terminal, action })?;
             told.tell(&meeting, state, action)?;
         }
     }

@@ -4,7 +4,7 @@ use Rattle.std.proofs.Common.{◌⊎◌, inl, inr, Bool, true, false, append_ass
 use Rattle.std.proofs.Common.{arith, drop, length, length-drop, refl, subst, sym, take}
 use Rattle.std.specs.Prelude.{if◌then◌else◌, nat_le, nat_lt}
 use Rattle.std.proofs.lemmas.Bool.Decides.{nat_tests}
-use Rattle.ly_base.specs.Lexed.{Leads, Lexed, Place, place_after, token_if, tokens_from}
+use Rattle.ly_base.specs.Lexed.{LexedTo, Lexed, Place, place_after, token_if, tokens_from}
 use Rattle.ly_base.specs.declared.cut.Cut.{Cut}
 use Rattle.ly_base.specs.declared.cut.Cut.TheVariants.{Head, Tail, Whole}
 use Rattle.ly_base.specs.declared.lexeme.End.{End}
@@ -103,7 +103,7 @@ lexes s next (suc fuel) q within = elim (stands_or_ends s q) [
 
 -- the tokens of a beginning, and those behind it
 pub tokens_on : {T : Type 0} (naming : ℕ → List ℕ → Option T) (Is : Place → Lexeme → Type 0) (next : ℕ → Option ℕ)
-    (p q : Place) (ts us : List Lexeme) → Leads Is next p ts q
+    (p q : Place) (ts us : List Lexeme) → LexedTo Is next p ts q
     → tokens_from naming p.at p.rest (ts ++ us)
     ≡ tokens_from naming p.at p.rest ts ++ tokens_from naming q.at q.rest us
 tokens_on naming Is next p q [] us h = ap (λ (x : Place). tokens_from naming x.at x.rest us) (sym h)

@@ -1,6 +1,6 @@
 ghost use Rattle.std.specs.Prelude.{◌≡◌, ◌<◌, ◌≤◌, ◌+◌, ◌^◌, ℕ, drop, false, true, length, IfErr, IfOk, IfSome};
 ghost use Rattle.std.specs.Prelude.{MatchOption};
-ghost use Rattle.ly_base.specs.Lexed.{Place as Spot};
+ghost use Rattle.ly_base.specs.Lexed as lexed;
 ghost use Rattle.ly_scan.specs.KnownWalks.{AreKnown};
 ghost use Rattle.ly_scan.specs.Lexers.{scanner_of, IsUnderwayAt};
 ghost use Rattle.ly_scan.specs.Pieces.{behind, EndsFast, IsUndecided, PassesOver, StandsFast};
@@ -99,7 +99,7 @@ impl Lexer {
     pub fn goes_on(&self, matcher: &mut Matcher<RowStart>, bytes: &[u8]) -> bool
         requires countable { matcher.old.passed + length bytes.now < 2 ^ 64 }
         requires stands { IfSome matcher.old.at (StandsIn self.now.scanner) }
-        ensures { (q : Spot) → IsUnderwayAt self.now q matcher.old → result ≡ true
+        ensures { (q : lexed.Place) → IsUnderwayAt self.now q matcher.old → result ≡ true
             → IsUnderwayAt self.now (behind q bytes.now) matcher.new
             × IsUndecided (scanner_of self.now.scanner) (behind q bytes.now) }
     {

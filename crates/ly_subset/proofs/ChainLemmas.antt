@@ -8,7 +8,7 @@ use Rattle.std.proofs.lemmas.List.{get_or_append_left, get_or_default, get_or_pu
 use Rattle.std.proofs.lemmas.List.Elements.{All-contains, Contains-get_or}
 use Rattle.std.proofs.lemmas.List.FromFn.{get_or-range_with_len, length-range_with_len}
 use Rattle.ly_base.proofs.MemberLemmas.{Contains-none}
-use Rattle.ly_position.specs.Nfa.{Nfa, BeginsChain, GoesOnChain, Follows, Reads, follow_of, position_of}
+use Rattle.ly_position.specs.Nfa.{Nfa, BeginsChain, GoesOnChain, Follows, ReadsByte, follow_of, position_of}
 use Rattle.ly_position.specs.Position.{position_from}
 use Rattle.ly_position.specs.declared.nfa.Position.{Position}
 use Rattle.ly_subset.specs.Private.Chains.{AreChains, IsChain, IsLastReader, IsSpanAfter, ReadsNone}
@@ -87,12 +87,12 @@ chain_more n firsts first number count so one p l = elim (cases_lt p number) [
 -- what the test of a byte tells of a position
 pub reads_one : (n : Nfa) (p : ℕ) (place : Position) (b : ℕ) (test : Bool) → b < 256
     → slice_get n.positions p ≡ Some (position_from place (follow_of (position_of n p))) → test ≡ reads_in place b
-    → test ≡ true → Reads n p b
+    → test ≡ true → ReadsByte n p b
 reads_one n p place b test l at is passed = (reads_as n p place b l at).1 (sym is ∙ passed)
 
 pub reads_not : (n : Nfa) (p : ℕ) (place : Position) (b : ℕ) (test : Bool) → b < 256
     → slice_get n.positions p ≡ Some (position_from place (follow_of (position_of n p))) → test ≡ reads_in place b
-    → test ≡ false → Reads n p b → ⊥
+    → test ≡ false → ReadsByte n p b → ⊥
 reads_not n p place b test l at is failed h = let off : true ≡ false = sym ((reads_as n p place b l at).0 h) ∙ sym is
     ∙ failed in cc
 
@@ -109,47 +109,49 @@ module _ (n : Nfa) (ps : List ℕ) (b : ℕ) (rising : AllPairs (λ p q. p < q) 
 
   -- no member reads the byte that none did in turn
   pub none_found : (passed : ℕ) → length ps ≤ passed
-      → ((k : ℕ) → k < length ps → length ps ≤ k + passed → Reads n (get_or ps k 0) b → ⊥) → ReadsNone n ps b
-  none_found passed all none p c r = none c.0 c.1 (omega (arith, all)) (subst (λ x. Reads n x b) (sym (at_place p c)) r)
+      → ((k : ℕ) → k < length ps → length ps ≤ k + passed → ReadsByte n (get_or ps k 0) b → ⊥) → ReadsNone n ps b
+  none_found passed all none p c r
+      = none c.0 c.1 (omega (arith, all)) (subst (λ x. ReadsByte n x b) (sym (at_place p c)) r)
 
   -- the first one from the back that does is the last
-  pub last_found : (passed k : ℕ) → k + passed + 1 ≡ length ps → Reads n (get_or ps k 0) b
-      → ((j : ℕ) → j < length ps → length ps ≤ j + passed → Reads n (get_or ps j 0) b → ⊥)
+  pub last_found : (passed k : ℕ) → k + passed + 1 ≡ length ps → ReadsByte n (get_or ps k 0) b
+      → ((j : ℕ) → j < length ps → length ps ≤ j + passed → ReadsByte n (get_or ps j 0) b → ⊥)
       → IsLastReader n ps b (get_or ps k 0)
   last_found passed k at reads none = record {
     is_one = Contains-get_or ps k 0 (omega (arith, at));
     reads = reads;
     above = λ p c r. elim (cases_lt k c.0) [
-      | inl after ↦ absurd (none c.0 c.1 (omega (arith, after, at)) (subst (λ x. Reads n x b) (sym (at_place p c)) r))
+      | inl after ↦ absurd
+          (none c.0 c.1 (omega (arith, after, at)) (subst (λ x. ReadsByte n x b) (sym (at_place p c)) r))
       | inr before ↦ omega (arith, no_less c.0 k before (omega (arith, at)), at_place p c)
     ];
   }
 
-  pub passed_more : (passed k : ℕ) → k + passed + 1 ≡ length ps → (Reads n (get_or ps k 0) b → ⊥)
-      → ((j : ℕ) → j < length ps → length ps ≤ j + passed → Reads n (get_or ps j 0) b → ⊥)
-      → (j : ℕ) → j < length ps → length ps ≤ j + (passed + 1) → Reads n (get_or ps j 0) b → ⊥
+  pub passed_more : (passed k : ℕ) → k + passed + 1 ≡ length ps → (ReadsByte n (get_or ps k 0) b → ⊥)
+      → ((j : ℕ) → j < length ps → length ps ≤ j + passed → ReadsByte n (get_or ps j 0) b → ⊥)
+      → (j : ℕ) → j < length ps → length ps ≤ j + (passed + 1) → ReadsByte n (get_or ps j 0) b → ⊥
   passed_more passed k at not none j l m r = elim (cases_eq j k) [
-    | inl same ↦ not (subst (λ i. Reads n (get_or ps i 0) b) same r)
+    | inl same ↦ not (subst (λ i. ReadsByte n (get_or ps i 0) b) same r)
     | inr ne ↦ none j l (omega (arith, m, at, ne)) r
   ]
 
   -- no member below a bound reads the byte that none before the first above it does
   pub none_below : (bound i : ℕ) → i < length ps → bound ≤ get_or ps i 0
-      → ((k : ℕ) → k < i → Reads n (get_or ps k 0) b → ⊥) → (p : ℕ) → Contains ps p → Reads n p b → bound ≤ p
+      → ((k : ℕ) → k < i → ReadsByte n (get_or ps k 0) b → ⊥) → (p : ℕ) → Contains ps p → ReadsByte n p b → bound ≤ p
   none_below bound i l up none p c r = elim (cases_lt c.0 i) [
-    | inl before ↦ absurd (none c.0 before (subst (λ x. Reads n x b) (sym (at_place p c)) r))
+    | inl before ↦ absurd (none c.0 before (subst (λ x. ReadsByte n x b) (sym (at_place p c)) r))
     | inr past ↦ omega (arith, no_less i c.0 past c.1, at_place p c, up)
   ]
 
-  pub none_at_all : (bound i : ℕ) → length ps ≤ i → ((k : ℕ) → k < i → Reads n (get_or ps k 0) b → ⊥) → (p : ℕ)
-      → Contains ps p → Reads n p b → bound ≤ p
+  pub none_at_all : (bound i : ℕ) → length ps ≤ i → ((k : ℕ) → k < i → ReadsByte n (get_or ps k 0) b → ⊥) → (p : ℕ)
+      → Contains ps p → ReadsByte n p b → bound ≤ p
   none_at_all bound i all none p c r = absurd (none c.0 (omega (arith, all, c.1))
-      (subst (λ x. Reads n x b) (sym (at_place p c)) r))
+      (subst (λ x. ReadsByte n x b) (sym (at_place p c)) r))
 
 -- what the chain of the last position that reads a byte tells of all that do
 pub span_is : (n : Nfa) (firsts ps : List ℕ) (b last : ℕ) → AreChains n firsts → All (λ p. p < length n.positions) ps
     → IsLastReader n ps b last → (get_or firsts last 0 ≡ 0 → ⊥)
-    → ((p : ℕ) → Contains ps p → Reads n p b → get_or firsts last 0 ≤ p)
+    → ((p : ℕ) → Contains ps p → ReadsByte n p b → get_or firsts last 0 ≤ p)
     → IsSpanAfter n ps b (record { first = get_or firsts last 0 - 1; last = last - 1 })
 span_is n firsts ps b last chains within is_last some below =
     let first = get_or firsts last 0 in

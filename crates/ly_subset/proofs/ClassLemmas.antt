@@ -11,7 +11,7 @@ use Rattle.std.proofs.lemmas.List.{get_or_append_left, get_or_push, get_or_read,
 use Rattle.std.proofs.lemmas.List.{length-map}
 use Rattle.ly_base.proofs.ByteSetLemmas.{members_contain}
 use Rattle.ly_base.proofs.MemberLemmas.{Contains-none}
-use Rattle.ly_position.specs.Nfa.{Nfa, Reads, bytes_of, follow_of, position_of}
+use Rattle.ly_position.specs.Nfa.{Nfa, ReadsByte, bytes_of, follow_of, position_of}
 use Rattle.ly_position.specs.Nfa as nfa
 use Rattle.ly_position.specs.Position.{position_from}
 use Rattle.ly_position.specs.declared.nfa.Position.{Position}
@@ -180,7 +180,7 @@ split_none old bytes = record {
 -- a position in memory reads what its position does
 pub reads_as : (n : Nfa) (p : ℕ) (place : Position) (b : ℕ) → b < 256
     → slice_get n.positions p ≡ Some (position_from place (follow_of (position_of n p)))
-    → Reads n p b ↔ (reads_in place b ≡ true)
+    → ReadsByte n p b ↔ (reads_in place b ≡ true)
 reads_as n p place b l e
     = subst (λ (x : nfa.Position). Contains (bytes_of x) b ↔ (reads_in place b ≡ true)) (sym there) (by place)
   where
@@ -193,8 +193,8 @@ reads_as n p place b l e
     by (position.Ends rule) = (λ h. Contains-none b h, λ h. absurd (cc))
 
 -- no position reads the byte: not of those that there are, and there are no others
-pub read_by_none : (n : Nfa) (count b : ℕ) → length n.positions ≤ count → ((p : ℕ) → p < count → Reads n p b → ⊥)
-    → (p : ℕ) → Reads n p b → ⊥
+pub read_by_none : (n : Nfa) (count b : ℕ) → length n.positions ≤ count → ((p : ℕ) → p < count → ReadsByte n p b → ⊥)
+    → (p : ℕ) → ReadsByte n p b → ⊥
 read_by_none n count b all none p h = elim (cases_lt p count) [
   | inl less ↦ none p less h
   | inr past ↦ Contains-none b (subst (λ (x : nfa.Position). Contains (bytes_of x) b)
@@ -208,7 +208,7 @@ same_tests false false h = refl
 
 -- a position reads bytes
 reads_byte : (n : Nfa) (p : ℕ) (place : Position) (b : ℕ)
-    → slice_get n.positions p ≡ Some (position_from place (follow_of (position_of n p))) → Reads n p b → b < 256
+    → slice_get n.positions p ≡ Some (position_from place (follow_of (position_of n p))) → ReadsByte n p b → b < 256
 reads_byte n p place b e h = by place (subst (λ (x : nfa.Position). Contains (bytes_of x) b)
     (get_or_from_slice_get n.positions p (position_from place (follow_of (position_of n p))) (nfa.reading [] []) e) h)
   where
@@ -235,7 +235,7 @@ split_by_more n p old new place there before split = record {
   bytes = split.bytes;
   same = λ a b l m. (
     λ e. let both = (split.same a b l m).0 e in
-        below_more (λ q. Reads n q a ↔ Reads n q b) p ((before.same a b l m).0 both.0)
+        below_more (λ q. ReadsByte n q a ↔ ReadsByte n q b) p ((before.same a b l m).0 both.0)
         (let ra = reads_as n p place a l there in let rb = reads_as n p place b m there in
         (λ h. rb.1 (sym both.1 ∙ ra.0 h), λ h. ra.1 (both.1 ∙ rb.0 h))),
     λ h. let ra = reads_as n p place a l there in let rb = reads_as n p place b m there in
@@ -245,13 +245,13 @@ split_by_more n p old new place there before split = record {
         ),
   );
   in_order = split.in_order before.in_order;
-  read = λ q b l. below_more (λ r. Reads n r b → b < 256) p (λ r less. before.read r b less)
+  read = λ q b l. below_more (λ r. ReadsByte n r b → b < 256) p (λ r less. before.read r b less)
       (reads_byte n p place b there)
       q l;
 }
 
 -- no position past the last reads a byte
-reads_none : {A : Type 0} (n : Nfa) (p b : ℕ) → length n.positions ≤ p → Reads n p b → A
+reads_none : {A : Type 0} (n : Nfa) (p b : ℕ) → length n.positions ≤ p → ReadsByte n p b → A
 reads_none n p b l h = let past : position_of n p ≡ nfa.reading [] [] = get_or_past n.positions p
     (nfa.reading [] []) l in
     Contains-none b (subst (λ (x : nfa.Position). Contains (bytes_of x) b) past h)

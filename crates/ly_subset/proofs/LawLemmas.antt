@@ -5,7 +5,7 @@ use Rattle.std.proofs.Common.{None, true, refl, sym, ap, subst, arith, inl, inr,
 use Rattle.std.specs.Prelude.{if◌then◌else◌, option_and_then, nat_lt}
 use Rattle.std.proofs.lemmas.Bool.{cases_lt}
 use Rattle.std.proofs.lemmas.Nat.{div-add-mod', div_below}
-use Rattle.ly_position.specs.Nfa.{Nfa, ComesTo, Reads, Follows, Stepped, IsEnd, RunsTo, starts_of}
+use Rattle.ly_position.specs.Nfa.{Nfa, ComesTo, ReadsByte, Follows, Stepped, IsEnd, RunsTo, starts_of}
 use Rattle.ly_subset.specs.Automaton.{Automaton, IsAutomaton, IsBreadthFirst, IsReached, LeadsToRule, entry_at}
 use Rattle.ly_subset.specs.Automaton.{next_by_class}
 use Rattle.ly_subset.specs.Automaton.{next_of, rule_after, rule_of, start_of, start_place, state_after}
@@ -71,16 +71,16 @@ ends_run nfa i p (b ∷ w) q c h = (c.0, c.1, c.2, ends_run nfa i c.0 w q c.3 h)
 module _ (nfa : Nfa) (conditions : ℕ) (A : Automaton) (so : AreSubsets nfa conditions A) where
   -- what positions come to by a byte
   By : (ℕ → Type 0) → ℕ → ℕ → Type 0
-  By P b r = (p : ℕ) × P p × Reads nfa p b × Follows nfa p r
+  By P b r = (p : ℕ) × P p × ReadsByte nfa p b × Follows nfa p r
 
   After : (ℕ → Type 0) → List ℕ → ℕ → Type 0
   After P w q = (p : ℕ) × P p × ComesTo nfa p w q
 
   step : (P : ℕ → Type 0) (o : Option ℕ) (b : ℕ) → IsStateOf so.sets o P → IsStateOf so.sets (next_of A o b)
-      (λ r. (p : ℕ) × P p × Reads nfa p b × Follows nfa p r)
+      (λ r. (p : ℕ) × P p × ReadsByte nfa p b × Follows nfa p r)
   step P None b h = λ r x. h x.0 x.1
   step P (Some s) b h = state_same so.sets (Stepped nfa (set_at so.sets s) b)
-      (λ r. (p : ℕ) × P p × Reads nfa p b × Follows nfa p r) (next_of A (Some s) b)
+      (λ r. (p : ℕ) × P p × ReadsByte nfa p b × Follows nfa p r) (next_of A (Some s) b)
       (λ r. (λ x. (x.0, (h.1 x.0).0 x.1, x.2, x.3), λ x. (x.0, (h.1 x.0).1 x.1, x.2, x.3))) (so.nexts s b h.0)
 
   pub follow : (P : ℕ → Type 0) (o : Option ℕ) (w : List ℕ) → IsStateOf so.sets o P
@@ -88,10 +88,10 @@ module _ (nfa : Nfa) (conditions : ℕ) (A : Automaton) (so : AreSubsets nfa con
   follow P o [] h = state_same so.sets P (λ q. (p : ℕ) × P p × (p ≡ q)) o
       (λ q. (λ x. (q, x, refl), λ x. subst P x.2 x.1)) h
   follow P o (b ∷ w) h = state_same so.sets
-      (λ q. (r : ℕ) × ((p : ℕ) × P p × Reads nfa p b × Follows nfa p r) × ComesTo nfa r w q)
+      (λ q. (r : ℕ) × ((p : ℕ) × P p × ReadsByte nfa p b × Follows nfa p r) × ComesTo nfa r w q)
       (λ q. (p : ℕ) × P p × ComesTo nfa p (b ∷ w) q) (state_after A (next_of A o b) w)
       (λ q. (λ x. (x.1.0, x.1.1, (x.0, x.1.2, x.1.3, x.2)), λ x. (x.2.0, (x.0, x.1, x.2.1, x.2.2), x.2.3)))
-      (follow (λ r. (p : ℕ) × P p × Reads nfa p b × Follows nfa p r) (next_of A o b) w (step P o b h))
+      (follow (λ r. (p : ℕ) × P p × ReadsByte nfa p b × Follows nfa p r) (next_of A o b) w (step P o b h))
 
   ends : (P : ℕ → Type 0) (o : Option ℕ) → IsStateOf so.sets o P
       → IsLeastRule (λ i. (q : ℕ) × P q × IsEnd nfa q i) (rule_of A o)

@@ -7,7 +7,7 @@ use Rattle.ly_ere.specs.Expression.{Expression}
 use Rattle.ly_ere.specs.declared.pattern.Rule.{Rule}
 use Rattle.std.proofs.lemmas.List.{get_or_past}
 use Rattle.ly_base.proofs.MemberLemmas.{Contains-none}
-use Rattle.ly_position.specs.Nfa.{Nfa, ComesTo, Reads, bytes_of, reading, starts_of}
+use Rattle.ly_position.specs.Nfa.{Nfa, ComesTo, ReadsByte, bytes_of, reading, starts_of}
 use Rattle.ly_position.specs.Spots.{Spot, IsNext, IsSpot, ArePositionsOf}
 use Rattle.ly_base.proofs.PigeonholeLemmas.{pigeonhole}
 use Rattle.ly_position.proofs.SpotLemmas.{come_next}
@@ -218,14 +218,14 @@ no_more_sets_than_states names rules conditions A n so l h
 -- the bytes of a position are those of its spot
 module _ (names : List Expression) (rules : List Rule) (conditions : ℕ) (nfa : Nfa) (spot : ℕ → Spot)
     (all : ArePositionsOf names rules conditions nfa spot) where
-  read_at : (p b : ℕ) → p < length nfa.positions → Reads nfa p b ↔ IsReadAt names rules (spot p) b
+  read_at : (p b : ℕ) → p < length nfa.positions → ReadsByte nfa p b ↔ IsReadAt names rules (spot p) b
   read_at p b l =
       let s = all.is_spot p l in (
         λ h. (s.0, s.1, (all.reads p b s.0 l s.1).0 h),
         λ h. (all.reads p b h.0 l h.1).1 h.2,
       )
 
-  past_reads : (p b : ℕ) → length nfa.positions ≤ p → Reads nfa p b → ⊥
+  past_reads : (p b : ℕ) → length nfa.positions ≤ p → ReadsByte nfa p b → ⊥
   past_reads p b l h = Contains-none b (subst (λ x. Contains (bytes_of x) b)
       (get_or_past nfa.positions p (reading [] []) l) h)
 

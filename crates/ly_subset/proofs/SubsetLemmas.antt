@@ -11,7 +11,7 @@ use Rattle.std.proofs.lemmas.List.Elements.{All-from_get_or}
 use Rattle.std.proofs.lemmas.Nat.{div-add-mod', div_below, mul-add-lt}
 use Rattle.std.proofs.lemmas.Option.{slice_get-get_or, slice_get_past, slice_get_within, get_or_from_slice_get}
 use Rattle.std.proofs.Math.Nat.{mul_comm}
-use Rattle.ly_position.specs.Nfa.{Nfa, ComesTo, Reads, Follows, Stepped, starts_of}
+use Rattle.ly_position.specs.Nfa.{Nfa, ComesTo, ReadsByte, Follows, Stepped, starts_of}
 use Rattle.ly_subset.specs.Automaton.{AreInOrder, Automaton, IsAutomaton, entry_at, next_by_class, next_of, start_of}
 use Rattle.ly_subset.specs.Automaton.{start_place}
 use Rattle.ly_subset.specs.Classes.{AreClasses, class_at}
@@ -23,14 +23,14 @@ use Rattle.ly_subset.proofs.FoundLemmas.{each_more, state_same}
 use Rattle.ly_subset.proofs.OrderLemmas.{entry_within}
 
 -- a run and one byte more
-comes_more : (nfa : Nfa) (p : ℕ) (w : List ℕ) (q b r : ℕ) → ComesTo nfa p w q → Reads nfa q b → Follows nfa q r
+comes_more : (nfa : Nfa) (p : ℕ) (w : List ℕ) (q b r : ℕ) → ComesTo nfa p w q → ReadsByte nfa q b → Follows nfa q r
     → ComesTo nfa p (w ++ b ∷ []) r
 comes_more nfa p [] q b r e reads follows
-    = (r, subst (λ x. Reads nfa x b) (sym e) reads, subst (λ x. Follows nfa x r) (sym e) follows, refl)
+    = (r, subst (λ x. ReadsByte nfa x b) (sym e) reads, subst (λ x. Follows nfa x r) (sym e) follows, refl)
 comes_more nfa p (a ∷ w) q b r h reads follows = (h.0, h.1, h.2, comes_more nfa h.0 w q b r h.3 reads follows)
 
 comes_back : (nfa : Nfa) (p : ℕ) (w : List ℕ) (b r : ℕ) → ComesTo nfa p (w ++ b ∷ []) r
-    → (q : ℕ) × ComesTo nfa p w q × Reads nfa q b × Follows nfa q r
+    → (q : ℕ) × ComesTo nfa p w q × ReadsByte nfa q b × Follows nfa q r
 comes_back nfa p [] b r h = (p, refl, h.1, subst (λ x. Follows nfa p x) h.3 h.2)
 comes_back nfa p (a ∷ w) b r h = let back = comes_back nfa h.0 w b r h.3 in
     (back.0, (h.0, h.1, h.2, back.1), back.2, back.3)

@@ -4,7 +4,7 @@
 // position of a set that reads a byte says at once what all that do lead to, which is kept as a run.
 ghost use Rattle.std.specs.Prelude.{◌≡◌, ◌<◌, ◌-◌, ◌≤◌, ℕ, length, false, All, AllPairs, Contains, IfOk, IfSome};
 ghost use Rattle.std.specs.Prelude.{MatchOption};
-ghost use Rattle.ly_position.specs.Nfa.{Reads};
+ghost use Rattle.ly_position.specs.Nfa.{ReadsByte};
 ghost use Rattle.ly_subset.specs.Private.Chains.{AreChains, IsChain, IsLastReader, IsSpanAfter, ReadsNone};
 
 use crate::classes::reads;
@@ -54,7 +54,7 @@ fn first_of(nfa: &PosNfa, before: u32, number: usize) -> u32
 
 /// The last of some rising positions that reads the byte, if there is one. `unread` is a byte that no position reads.
 pub(crate) fn last_reader(nfa: &PosNfa, from: &[u32], byte: u8, unread: Option<u8>) -> Option<u32>
-    requires unread { IfSome unread (λ b. (p : ℕ) → Reads nfa.now p b → ⊥) }
+    requires unread { IfSome unread (λ b. (p : ℕ) → ReadsByte nfa.now p b → ⊥) }
     requires from { All (λ p. p < length nfa.now.positions) from.now }
     requires rising { AllPairs (λ p q. p < q) from.now }
     ensures { MatchOption result (ReadsNone nfa.now from.now byte) (IsLastReader nfa.now from.now byte) }
@@ -109,7 +109,7 @@ pub(crate) fn span_after(
 fn reads_below(nfa: &PosNfa, from: &[u32], byte: u8, bound: u32) -> bool
     requires from { All (λ p. p < length nfa.now.positions) from.now }
     requires rising { AllPairs (λ p q. p < q) from.now }
-    ensures { result ≡ false → (p : ℕ) → Contains from.now p → Reads nfa.now p byte → bound ≤ p }
+    ensures { result ≡ false → (p : ℕ) → Contains from.now p → ReadsByte nfa.now p byte → bound ≤ p }
 {
     for number in from {
         if *number >= bound {

@@ -1,6 +1,6 @@
 ghost use Rattle.std.specs.Prelude.{◌≡◌, ◌<◌, ℕ, length, false, IfOk, IfSome};
 ghost use Rattle.ly_base.specs.ByteSet.{has};
-ghost use Rattle.ly_position.specs.Nfa.{Reads};
+ghost use Rattle.ly_position.specs.Nfa.{ReadsByte};
 ghost use Rattle.ly_subset.specs.Classes.{AreClasses};
 ghost use Rattle.ly_subset.specs.Private.Classes.{AreOrdered, AreUnnamed, AreLeast, IsSplit, IsSplitBy, reads_in};
 
@@ -106,7 +106,7 @@ fn least_bytes(alloc: Global, class_of: &[u8]) -> Result<Vec<u8>, AllocError>
 
 /// The first of some bytes that no position reads, if there is one.
 pub(crate) fn unread_byte(nfa: &PosNfa, bytes: &[u8]) -> Option<u8>
-    ensures { IfSome result (λ b. (p : ℕ) → Reads nfa.now p b → ⊥) }
+    ensures { IfSome result (λ b. (p : ℕ) → ReadsByte nfa.now p b → ⊥) }
 {
     for byte in bytes {
         if !is_read(nfa, *byte) {
@@ -118,7 +118,7 @@ pub(crate) fn unread_byte(nfa: &PosNfa, bytes: &[u8]) -> Option<u8>
 
 /// Whether a position reads the byte. It may say so where none does.
 fn is_read(nfa: &PosNfa, byte: u8) -> bool
-    ensures { result ≡ false → (p : ℕ) → Reads nfa.now p byte → ⊥ }
+    ensures { result ≡ false → (p : ℕ) → ReadsByte nfa.now p byte → ⊥ }
 {
     let Ok(count) = u32::try_from(nfa.len()) else {
         return true;

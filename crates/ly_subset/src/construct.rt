@@ -1,6 +1,6 @@
 ghost use Rattle.std.specs.Prelude.{◌≡◌, ◌<◌, ◌≤◌, ◌+◌, ◌*◌, ◌↔◌, ℕ, List, length, All, AllPairs, IfOk, IfSome};
 ghost use Rattle.std.specs.Prelude.{IsErrOf, OnOk};
-ghost use Rattle.ly_position.specs.Nfa.{IsRoomFor, Reads};
+ghost use Rattle.ly_position.specs.Nfa.{IsRoomFor, ReadsByte};
 ghost use Rattle.ly_subset.specs.Automaton.{IsAutomaton, start_place};
 ghost use Rattle.ly_subset.specs.Private.Chains.{AreChains};
 ghost use Rattle.ly_subset.specs.Private.Found.{AreKept, IsFound, IsLed, IsLedPast, IsPast};
@@ -121,7 +121,7 @@ fn row(
     into: &mut PositionSet,
     state: usize,
 ) -> Result<(), SubsetFault>
-    requires unread { IfSome unread (λ b. (p : ℕ) → Reads nfa.now p b → ⊥) }
+    requires unread { IfSome unread (λ b. (p : ℕ) → ReadsByte nfa.now p b → ⊥) }
     requires firsts { AreChains nfa.now firsts.now }
     requires room { IsRoomFor nfa.now into.old }
     requires found { IsFound nfa.now least.now found.old }
@@ -155,7 +155,7 @@ fn lead(
     into: &mut PositionSet,
 ) -> Result<(), SubsetFault>
     requires firsts { AreChains nfa.now firsts.now }
-    requires unread { IfSome unread (λ b. (p : ℕ) → Reads nfa.now p b → ⊥) }
+    requires unread { IfSome unread (λ b. (p : ℕ) → ReadsByte nfa.now p b → ⊥) }
     requires from { All (λ p. p < length nfa.now.positions) from.now }
     requires rising { AllPairs (λ p q. p < q) from.now }
     requires room { IsRoomFor nfa.now into.old }

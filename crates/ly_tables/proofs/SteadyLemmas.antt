@@ -3,7 +3,7 @@ use Rattle.std.proofs.Common.{◌≡◌, ◌∙◌, ℕ, List, ap, length, map, 
 use Rattle.std.specs.Prelude.{option_map}
 use Rattle.std.proofs.lemmas.List.{length-map}
 use Rattle.ly_base.specs.declared.numbers.RuleNo.{RuleNo}
-use Rattle.ly_loop.specs.Endless.{IsRefused}
+use Rattle.ly_loop.specs.Endless.{AreTablesRefused}
 use Rattle.ly_loop.specs.declared.fault.LoopFault.{LoopFault}
 use Rattle.ly_loop.specs.declared.fault.LoopFault.TheVariants.{Endless, OutOfMemory}
 use Rattle.ly_pack.specs.Machine.{Machine}
@@ -48,7 +48,7 @@ set_again p rules defaults same_rules same_defaults =
     λ i. record (set_of p) { rules = same_rules i; defaults = same_defaults i }
 
 -- a machine that the check refuses isn't steady
-pub unsteady : (m : Machine) (f : LoopFault) → IsRefused m f → IsUnsteady m (refusal_of f)
+pub unsteady : (m : Machine) (f : LoopFault) → AreTablesRefused m f → IsUnsteady m (refusal_of f)
 unsteady m (Endless below top token) first =
     λ steady. first.endless (steady below.0 top.0 token.0 first.known first.edge)
 unsteady m OutOfMemory first = tt

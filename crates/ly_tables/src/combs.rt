@@ -16,7 +16,7 @@ use ly_pack::{Comb, Slot, TableAction};
 use std::alloc::AllocError;
 
 /// An entry of rows, which a number of each version stands for.
-pub(crate) trait Entry: Copy {
+pub(crate) trait CombEntry: Copy {
     /// Its number in a version.
     ghost code: { AnyVersion → Self → ℕ };
 
@@ -33,7 +33,7 @@ pub(crate) trait Entry: Copy {
         ensures { result ≡ code version self };
 }
 
-impl Entry for StateNo {
+impl CombEntry for StateNo {
     ghost use Rattle.ly_tables.specs.Private.Meaning.{state_meant};
 
     ghost code = { λ v s. s.0 };
@@ -49,7 +49,7 @@ impl Entry for StateNo {
     }
 }
 
-impl Entry for TableAction {
+impl CombEntry for TableAction {
     ghost use Rattle.ly_pack.specs.Values.{action_from};
     ghost use Rattle.ly_tables.specs.Private.Meaning.{action_meant};
     ghost use Rattle.ly_tables.specs.Spelling.{action_number};
@@ -81,7 +81,7 @@ impl Entry for TableAction {
 }
 
 /// Rows laid over one another: their bases, how many slots there are, the entries of these, and their rows.
-pub(crate) fn push_comb<E: Entry>(
+pub(crate) fn push_comb<E: CombEntry>(
     out: &mut Vec<u8>,
     version: Version,
     rows: &Comb<E>,
@@ -108,7 +108,7 @@ fn push_bases(out: &mut Vec<u8>, bases: &[u32]) -> Result<(), AllocError>
 }
 
 /// The entries of slots, 0 where one is free.
-fn push_entries<E: Entry>(
+fn push_entries<E: CombEntry>(
     out: &mut Vec<u8>,
     version: Version,
     slots: &[Option<Slot<E>>],
@@ -124,7 +124,7 @@ fn push_entries<E: Entry>(
 }
 
 /// The entry of a slot as a number.
-fn entry_number<E: Entry>(version: Version, slot: Option<Slot<E>>) -> u32
+fn entry_number<E: CombEntry>(version: Version, slot: Option<Slot<E>>) -> u32
     requires { IsSlotShort (width_of version) (E.code version) (option_map used_from slot) }
     ensures { result ≡ next_of (E.code version) (option_map used_from slot) }
 {
@@ -135,7 +135,7 @@ fn entry_number<E: Entry>(version: Version, slot: Option<Slot<E>>) -> u32
 }
 
 /// The rows of slots.
-fn push_checks<E: Entry>(
+fn push_checks<E: CombEntry>(
     out: &mut Vec<u8>,
     version: Version,
     slots: &[Option<Slot<E>>],

@@ -8,7 +8,7 @@ ghost use Rattle.ly_tables.specs.Private.Meaning.{comb_meant, slot_meant};
 ghost use Rattle.ly_tables.specs.Private.RawValues.{comb_raw};
 ghost use Rattle.ly_tables.specs.Ranges.{width_of};
 
-use crate::combs::Entry;
+use crate::combs::CombEntry;
 use crate::numbers::none;
 use crate::raw_tables::RawComb;
 use ly_base::{StateNo, Version};
@@ -16,7 +16,7 @@ use ly_pack::{Comb, Slot};
 use std::alloc::{AllocError, Global};
 
 /// Rows of so many columns, laid over one another.
-pub(crate) fn comb<E: Entry>(
+pub(crate) fn comb<E: CombEntry>(
     alloc: Global,
     version: Version,
     columns: usize,
@@ -31,7 +31,7 @@ pub(crate) fn comb<E: Entry>(
 }
 
 /// The slots of these entries and rows.
-fn slots<E: Entry>(
+fn slots<E: CombEntry>(
     alloc: Global,
     version: Version,
     entries: &[u32],
@@ -49,7 +49,7 @@ fn slots<E: Entry>(
 }
 
 /// A slot, free where its row is none.
-fn slot<E: Entry>(version: Version, entry: u32, row: u32) -> Option<Slot<E>>
+fn slot<E: CombEntry>(version: Version, entry: u32, row: u32) -> Option<Slot<E>>
     ensures { option_map used_from result ≡ slot_meant (width_of version) (E.meant version) entry row }
 {
     if row == none(version) {

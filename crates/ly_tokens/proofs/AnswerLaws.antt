@@ -4,12 +4,12 @@ use Rattle.std.proofs.Common.{◌+◌, subst, take, drop}
 use Rattle.std.specs.Prelude.{slice_index}
 use Rattle.ly_ere.specs.Names.{defined}
 use Rattle.ly_base.specs.Lexed.{start_of, token_if, tokens_from}
-use Rattle.ly_base.specs.Text.{Named}
+use Rattle.ly_base.specs.Text.{Terminal}
 use Rattle.ly_base.specs.Text as text
 use Rattle.ly_base.specs.declared.lexeme.Lexeme.{Lexeme}
 use Rattle.ly_lexread.specs.Action.{Meaning, nothing, token, literal_of, first_byte, meaning_of}
 use Rattle.ly_lexread.specs.LexText.{AreSameActions}
-use Rattle.ly_lexread.specs.declared.action.Action.{Action}
+use Rattle.ly_lexread.specs.declared.action.LexAction.{LexAction}
 use Rattle.ly_lexread.specs.declared.action.Returned.{Returned}
 use Rattle.ly_lexread.specs.declared.action.Returned.TheVariants.{Nothing, Token, Literal, FirstByte}
 use Rattle.ly_lexread.proofs.FileLemmas.{lex_text_one, rules_cut}
@@ -20,7 +20,7 @@ use Rattle.ly_tokens.specs.Laws.{AnswerIsOne}
 use Rattle.ly_tokens.specs.Printing.{condition_set, end_line, naming, printed, terminal_for}
 
 -- the terminal of what a token means
-terminal_meant : Meaning → List ℕ → Option Named
+terminal_meant : Meaning → List ℕ → Option Terminal
 terminal_meant nothing bytes = None
 terminal_meant (token name) bytes = Some (text.token name)
 terminal_meant (literal_of b) bytes = Some (text.literal b)
@@ -34,14 +34,14 @@ terminal_by_meaning (Literal b) bytes = refl
 terminal_by_meaning FirstByte bytes = refl
 
 -- actions that say the same set the same conditions, and name the same terminals
-conditions_same : (xs ys : List Action) → AreSameActions xs ys → (i : ℕ) → condition_set xs i ≡ condition_set ys i
+conditions_same : (xs ys : List LexAction) → AreSameActions xs ys → (i : ℕ) → condition_set xs i ≡ condition_set ys i
 conditions_same [] [] h i = refl
 conditions_same [] (y ∷ ys) h i = absurd h
 conditions_same (x ∷ xs) [] h i = absurd h
 conditions_same (x ∷ xs) (y ∷ ys) h zero = h.0
 conditions_same (x ∷ xs) (y ∷ ys) h (suc i) = conditions_same xs ys h.2 i
 
-naming_same : (xs ys : List Action) → AreSameActions xs ys → (i : ℕ) (bytes : List ℕ)
+naming_same : (xs ys : List LexAction) → AreSameActions xs ys → (i : ℕ) (bytes : List ℕ)
     → naming xs i bytes ≡ naming ys i bytes
 naming_same [] [] h i bytes = refl
 naming_same [] (y ∷ ys) h i bytes = absurd h
@@ -50,7 +50,7 @@ naming_same (x ∷ xs) (y ∷ ys) h zero bytes = terminal_by_meaning x.returns b
     ∙ (ap (λ m. terminal_meant m bytes) h.1 ∙ sym (terminal_by_meaning y.returns bytes))
 naming_same (x ∷ xs) (y ∷ ys) h (suc i) bytes = naming_same xs ys h.2 i bytes
 
-tokens_same : (xs ys : List Action) → AreSameActions xs ys → (at : ℕ) (rest : List ℕ) (ts : List Lexeme)
+tokens_same : (xs ys : List LexAction) → AreSameActions xs ys → (at : ℕ) (rest : List ℕ) (ts : List Lexeme)
     → tokens_from (naming xs) at rest ts ≡ tokens_from (naming ys) at rest ts
 tokens_same xs ys h at rest [] = refl
 tokens_same xs ys h at rest (t ∷ ts) = ap₂ ◌++◌

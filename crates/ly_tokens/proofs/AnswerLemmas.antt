@@ -6,7 +6,7 @@ use Rattle.ly_base.specs.declared.lexeme.End.TheVariants.{Clean, Stuck, BadCut}
 use Rattle.ly_base.specs.declared.lexeme.Lexeme.{Lexeme}
 use Rattle.ly_ere.specs.Expression.{Expression}
 use Rattle.ly_ere.specs.declared.pattern.Rule.{Rule}
-use Rattle.ly_lexread.specs.declared.action.Action.{Action}
+use Rattle.ly_lexread.specs.declared.action.LexAction.{LexAction}
 use Rattle.ly_lexread.specs.Lexing.{Lexing}
 use Rattle.ly_scan.specs.Lexer.{Scanner, IsLexemeAt, ScanEndsAt}
 use Rattle.ly_tokens.specs.Agreement.{Agrees}
@@ -17,16 +17,16 @@ use Rattle.ly_tokens.specs.Private.TokenLines.{AreLines}
 use Rattle.ly_tokens.proofs.AgreementLemmas.{lexing_of}
 
 -- the lines that a scanner's run gives are the answer
-pub answer_of : (names : List Expression) (rules : List Rule) (actions given : List Action) (s : Scanner)
+pub answer_of : (names : List Expression) (rules : List Rule) (actions given : List LexAction) (s : Scanner)
     (text : List ℕ) (e : End) (lines : List ℕ) → Agrees names rules s → given ≡ actions
     → AreLines s given (start_of text) e lines → IsAnswer names rules actions text e lines
 answer_of names rules actions given s text e lines agrees by h =
     let run : Lexed (IsLexemeAt s) (ScanEndsAt s) (condition_set actions) (start_of text) h.0 e =
-    subst (λ (xs : List Action). Lexed (IsLexemeAt s) (ScanEndsAt s) (condition_set xs)
+    subst (λ (xs : List LexAction). Lexed (IsLexemeAt s) (ScanEndsAt s) (condition_set xs)
     (start_of text) h.0 e) by h.1 in (
       h.0,
       lexing_of names rules s agrees (condition_set actions) (start_of text) h.0 e run,
-      subst (λ (xs : List Action). lines ≡ printed (tokens_from (naming xs) 0 text h.0) ++ end_line e) by h.2,
+      subst (λ (xs : List LexAction). lines ≡ printed (tokens_from (naming xs) 0 text h.0) ++ end_line e) by h.2,
     )
 
 -- each cut of a lexing leaves a token
@@ -39,7 +39,7 @@ leaves_tokens names rules next p (t ∷ ts) (BadCut b) h
     = leaves_tokens names rules next (place_after next p t) ts (BadCut b) h.1
 
 -- so each cut of a run leaves one, by a scanner that agrees with the rules
-pub run_leaves_tokens : (names : List Expression) (rules : List Rule) (actions : List Action) (s : Scanner)
+pub run_leaves_tokens : (names : List Expression) (rules : List Rule) (actions : List LexAction) (s : Scanner)
     (text : List ℕ) (e : End) → Agrees names rules s → EndsSo s actions text e → LeavesTokens e
 run_leaves_tokens names rules actions s text e agrees run =
     leaves_tokens names rules (condition_set actions) (start_of text) run.0 e

@@ -5,7 +5,7 @@ use Rattle.std.specs.Prelude.{slice_index}
 use Rattle.std.proofs.Math.Nat.{add-mul}
 use Rattle.ly_base.proofs.RoomLemmas.{line_len}
 use Rattle.ly_base.specs.Text.{literal, token}
-use Rattle.ly_lexread.specs.declared.action.Action.{Action}
+use Rattle.ly_lexread.specs.declared.action.LexAction.{LexAction}
 use Rattle.ly_lexread.specs.declared.action.Returned.{Returned}
 use Rattle.ly_lexread.specs.declared.action.Returned.TheVariants.{Nothing, Token, Literal, FirstByte}
 use Rattle.ly_tokens.specs.Printing.{line_if, naming, terminal_for}
@@ -45,8 +45,8 @@ returned_len FirstByte longest bytes named some = omega (
 )
 
 -- the line of a lexeme's token, if there is one
-line_within : (actions : List Action) (longest i : ℕ) (bytes : List ℕ)
-    → All (λ (a : Action). name_len a.returns ≤ longest) actions → 0 < length bytes
+line_within : (actions : List LexAction) (longest i : ℕ) (bytes : List ℕ)
+    → All (λ (a : LexAction). name_len a.returns ≤ longest) actions → 0 < length bytes
     → length (line_if (naming actions i bytes) bytes) ≤ length bytes * bytes_each longest
 line_within [] longest i bytes named some = omega arith
 line_within (a ∷ actions) longest zero bytes named some = returned_len a.returns longest bytes
@@ -55,8 +55,8 @@ line_within (a ∷ actions) longest (suc i) bytes named some = line_within actio
     (λ k d less. named (suc k) d (omega (arith, less))) some
 
 -- the line of a lexeme and those of the bytes behind it
-pub line_left : (actions : List Action) (longest i taken : ℕ) (rest bytes : List ℕ)
-    → All (λ (a : Action). name_len a.returns ≤ longest) actions → 0 < taken → taken ≤ length rest
+pub line_left : (actions : List LexAction) (longest i taken : ℕ) (rest bytes : List ℕ)
+    → All (λ (a : LexAction). name_len a.returns ≤ longest) actions → 0 < taken → taken ≤ length rest
     → bytes ≡ take taken rest
     → length (line_if (naming actions i bytes) bytes) + length (drop taken rest) * bytes_each longest
     ≤ length rest * bytes_each longest

@@ -2,15 +2,15 @@
 use Rattle.std.proofs.Common.{◌≡◌, ◌∙◌, ℕ, List, [], ◌∷◌, ◌++◌, take, Bool, Option, Some, None, refl, sym, ap, subst}
 use Rattle.std.proofs.Common.{◌≤◌, Err, append_assoc, append-nil, arith, length}
 use Rattle.std.proofs.Common.{zero, suc, false, true, map, slice_get}
-use Rattle.ly_base.specs.Lexed.{Place, Leads, Lexed, Token, moved, start_of, token_if, tokens_from}
-use Rattle.ly_base.specs.Text.{Named, leaf_line}
+use Rattle.ly_base.specs.Lexed.{Place, LexedTo, Lexed, Token, moved, start_of, token_if, tokens_from}
+use Rattle.ly_base.specs.Text.{Terminal, leaf_line}
 use Rattle.ly_base.specs.declared.lexeme.End.{End}
 use Rattle.ly_base.specs.declared.lexeme.Lexeme.{Lexeme}
 use Rattle.ly_base.specs.TextWriter.{IsAppended, IsCutShort, Outgoing}
 use Rattle.ly_base.specs.declared.whole.WriteFault.{WriteFault}
 use Rattle.ly_base.proofs.TextWriterLemmas.{cut_from, cut_more}
 use Rattle.ly_base.proofs.LexedLemmas.{leads_more, leads_on, tokens_more}
-use Rattle.ly_lexread.specs.declared.action.Action.{Action}
+use Rattle.ly_lexread.specs.declared.action.LexAction.{LexAction}
 use Rattle.ly_lexread.specs.declared.action.Returned.{Returned}
 use Rattle.ly_lexread.specs.declared.action.Returned.TheVariants.{Nothing, Token as TokenOf, Literal, FirstByte}
 use Rattle.ly_scan.specs.Lexer.{ScanEndsAt, IsLexemeAt, Scanner}
@@ -23,18 +23,18 @@ use Rattle.ly_tokens.specs.Private.TokenLines.{AreLines, SoFar, is_no_effect, is
 use Rattle.ly_tokens.specs.Printing.{condition_set, end_line, line_if, naming, printed, terminal_for}
 
 -- the line of one token
-printed_one : (o : Option Named) (at : ℕ) (bytes : List ℕ) → printed (token_if o at bytes) ≡ line_if o bytes
+printed_one : (o : Option Terminal) (at : ℕ) (bytes : List ℕ) → printed (token_if o at bytes) ≡ line_if o bytes
 printed_one None at bytes = refl
 printed_one (Some n) at bytes = append-nil (leaf_line n bytes)
 
-printed_append : (xs ys : List (Token Named)) → printed (xs ++ ys) ≡ printed xs ++ printed ys
+printed_append : (xs ys : List (Token Terminal)) → printed (xs ++ ys) ≡ printed xs ++ printed ys
 printed_append [] ys = refl
 printed_append (x ∷ xs) ys = ap (λ z. leaf_line x.terminal x.bytes ++ z) (printed_append xs ys)
     ∙ sym (append_assoc (leaf_line x.terminal x.bytes) (printed xs) (printed ys))
 
 -- one more lexeme, and its line
-pub printed_more : (actions : List Action) (Is : Place → Lexeme → Type 0) (next : ℕ → Option ℕ) (p q : Place)
-    (ts : List Lexeme) (t : Lexeme) → Leads Is next p ts q
+pub printed_more : (actions : List LexAction) (Is : Place → Lexeme → Type 0) (next : ℕ → Option ℕ) (p q : Place)
+    (ts : List Lexeme) (t : Lexeme) → LexedTo Is next p ts q
     → printed (tokens_from (naming actions) p.at p.rest (ts ++ t ∷ []))
     ≡ printed (tokens_from (naming actions) p.at p.rest ts)
     ++ line_if (naming actions t.rule.0 (take t.taken q.rest)) (take t.taken q.rest)
@@ -45,7 +45,7 @@ printed_more actions Is next p q ts t h = ap printed (tokens_more (naming action
     (printed_one (naming actions t.rule.0 (take t.taken q.rest)) q.at (take t.taken q.rest))
 
 -- one lexeme more
-pub one_more : (actions : List Action) (s : Scanner) (p q r : Place) (t : Lexeme) (begin : Option ℕ)
+pub one_more : (actions : List LexAction) (s : Scanner) (p q r : Place) (t : Lexeme) (begin : Option ℕ)
     (token lines more : List ℕ) → IsLexemeAt s q t → begin ≡ condition_set actions t.rule.0
     → r ≡ moved q t.taken begin → token ≡ take t.taken q.rest
     → more ≡ lines ++ line_if (naming actions t.rule.0 token) token → SoFar actions s p q lines
@@ -53,7 +53,7 @@ pub one_more : (actions : List Action) (s : Scanner) (p q r : Place) (t : Lexeme
 one_more actions s p q r t begin token lines more is b e k n f =
     let there : moved q t.taken (condition_set actions t.rule.0) ≡ r = ap (moved q t.taken) (sym b) ∙ sym e in (
       f.0 ++ t ∷ [],
-      subst (λ x. Leads (IsLexemeAt s) (condition_set actions) p (f.0 ++ t ∷ []) x) there
+      subst (λ x. LexedTo (IsLexemeAt s) (condition_set actions) p (f.0 ++ t ∷ []) x) there
           (leads_more (IsLexemeAt s) (condition_set actions) p q f.0 t f.1 is),
       n ∙ ap (λ z. lines ++ line_if (naming actions t.rule.0 z) z) k
           ∙ ap (λ z. z ++ line_if (naming actions t.rule.0 (take t.taken q.rest)) (take t.taken q.rest)) f.2
@@ -70,14 +70,14 @@ no_effect None FirstByte h = absurd cc
 no_effect (Some c) r h = absurd cc
 
 -- a rule that is passed over sets no condition, and its lexemes have no line
-nothing_said : (actions : List Action) (i : ℕ) → slice_get (map is_passed actions) i ≡ Some true
+nothing_said : (actions : List LexAction) (i : ℕ) → slice_get (map is_passed actions) i ≡ Some true
     → (condition_set actions i ≡ None) × ((bytes : List ℕ) → naming actions i bytes ≡ None)
 nothing_said [] i h = absurd cc
 nothing_said (a ∷ actions) zero h = no_effect a.begin a.returns cc
 nothing_said (a ∷ actions) (suc i) h = nothing_said actions i h
 
 -- behind lexemes that are passed over the lines so far are the same
-pub passes_lines : (actions : List Action) (s : Scanner) (passed : List Bool) (start p : Place) (told : List ℕ)
+pub passes_lines : (actions : List LexAction) (s : Scanner) (passed : List Bool) (start p : Place) (told : List ℕ)
     → passed ≡ map is_passed actions → SoFar actions s start p told → {r : Place} → PassesOver s passed p r
     → SoFar actions s start r told
 passes_lines actions s passed start p told same f none_yet = f
@@ -89,7 +89,7 @@ passes_lines actions s passed start p told same f (and_one {r = q} t before fast
     (sym (none.1 token))) (passes_lines actions s passed start p told same f before)
 
 -- the end
-all_told : (actions : List Action) (s : Scanner) (p q : Place) (e : End) (lines more : List ℕ)
+all_told : (actions : List LexAction) (s : Scanner) (p q : Place) (e : End) (lines more : List ℕ)
     → ScanEndsAt s q e → more ≡ lines ++ end_line e → SoFar actions s p q lines
     → (ts : List Lexeme) × Lexed (IsLexemeAt s) (ScanEndsAt s) (condition_set actions) p ts e
     × (more ≡ printed (tokens_from (naming actions) p.at p.rest ts) ++ end_line e)
@@ -101,7 +101,7 @@ all_told actions s p q e lines more ends n f = (
 )
 
 -- the lines of a beginning go on to some end
-pub begins : (actions : List Action) (s : Scanner) (p q : Place) (told : List ℕ) → SoFar actions s p q told
+pub begins : (actions : List LexAction) (s : Scanner) (p q : Place) (told : List ℕ) → SoFar actions s p q told
     → (e : End) × (more : List ℕ) × AreLines s actions p e (told ++ more)
 begins actions s p q told f =
     let all : length q.rest ≤ length q.rest = omega arith in
@@ -121,7 +121,7 @@ begins actions s p q told f =
     )
 
 -- the writer failed at the lines of a beginning: what went out is a beginning of the lines to the end that is known
-pub fails_at : (actions : List Action) (s : Scanner) (text : List ℕ) (q : Place) (told : List ℕ) (known : End)
+pub fails_at : (actions : List LexAction) (s : Scanner) (text : List ℕ) (q : Place) (told : List ℕ) (known : End)
     (o o' : Outgoing) (before now : Option (List ℕ)) (fault : WriteFault) → EndsSo s actions text known
     → o ≡ record { sent = 0; held = [] } → SoFar actions s (start_of text) q told
     → IsAppended o o' before now told (Err fault)
@@ -136,7 +136,7 @@ fails_at actions s text q told known o o' before now fault ends none f failed =
     )
 
 -- where a run comes to an end, that is the one that is known, and with its line all is told
-pub all_known : (actions : List Action) (s : Scanner) (text : List ℕ) (q : Place) (found known : End)
+pub all_known : (actions : List LexAction) (s : Scanner) (text : List ℕ) (q : Place) (found known : End)
     (lines more : List ℕ) → EndsSo s actions text known → ScanEndsAt s q found
     → more ≡ lines ++ end_line known → SoFar actions s (start_of text) q lines
     → AreLines s actions (start_of text) known more

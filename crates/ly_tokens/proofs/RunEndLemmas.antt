@@ -9,7 +9,7 @@ use Rattle.ly_base.specs.Lexed.{Lexed, Place, place_after, start_of}
 use Rattle.ly_base.specs.declared.lexeme.End.{End}
 use Rattle.ly_base.specs.declared.lexeme.End.TheVariants.{BadCut, Clean, Stuck}
 use Rattle.ly_base.specs.declared.lexeme.Lexeme.{Lexeme}
-use Rattle.ly_lexread.specs.declared.action.Action.{Action}
+use Rattle.ly_lexread.specs.declared.action.LexAction.{LexAction}
 use Rattle.ly_scan.proofs.LexingLemmas.{lexes}
 use Rattle.ly_scan.proofs.OneLexingLemmas.{one_lexing}
 use Rattle.ly_scan.specs.Lexer.{IsLexemeAt, ScanEndsAt, Scanner}
@@ -43,7 +43,7 @@ clean_from s next n all below (t ∷ ts) p e low bytes run leaves =
     by_set None e = rw e low
     by_set (Some c) e = rw e (below t.rule.0 c e)
 
-pub clean_everywhere : (s : Scanner) (actions : List Action) (n : ℕ) (text : List ℕ) → BeginsEverywhere s n
+pub clean_everywhere : (s : Scanner) (actions : List LexAction) (n : ℕ) (text : List ℕ) → BeginsEverywhere s n
     → AreSetBelow actions n → 0 < n → All (λ b. b < 256) text
     → ((e : End) → EndsSo s actions text e → LeavesTokens e) → EndsSo s actions text Clean
 clean_everywhere s actions n text all below some bytes leaves =
@@ -76,17 +76,19 @@ conditions_below s n all elsewhere at_line c b line lt byte = elim (cases_lt c n
     by_line true = at_line b byte
 
 -- conditions that each action sets are below a number
-pub set_below : (actions : List Action) (n : ℕ)
-    → ((k : ℕ) (a : Action) (c : ℕ) → slice_get actions k ≡ Some a → a.begin ≡ Some c → c < n) → AreSetBelow actions n
+pub set_below : (actions : List LexAction) (n : ℕ)
+    → ((k : ℕ) (a : LexAction) (c : ℕ) → slice_get actions k ≡ Some a → a.begin ≡ Some c → c < n)
+    → AreSetBelow actions n
 set_below actions n all i c e = by_action (slice_get actions i) refl e
   where
-    by_action : (o : Option Action) → slice_get actions i ≡ o → option_and_then (λ (a : Action). a.begin) o ≡ Some c
+    by_action : (o : Option LexAction) → slice_get actions i ≡ o → option_and_then (λ (a : LexAction). a.begin) o
+        ≡ Some c
         → c < n
     by_action None at is = absurd cc
     by_action (Some a) at is = all i a c at is
 
 -- where a run so far ends, the text's does
-pub ends_there : (actions : List Action) (s : Scanner) (text told : List ℕ) (q : Place) (e : End) → ScanEndsAt s q e
+pub ends_there : (actions : List LexAction) (s : Scanner) (text told : List ℕ) (q : Place) (e : End) → ScanEndsAt s q e
     → SoFar actions s (start_of text) q told → EndsSo s actions text e
 ends_there actions s text told q e ends f = (
   f.0 ++ [],
@@ -94,7 +96,7 @@ ends_there actions s text told q e ends f = (
 )
 
 -- a run ends in one way
-pub one_run_end : (actions : List Action) (s : Scanner) (text : List ℕ) (e d : End) → EndsSo s actions text e
+pub one_run_end : (actions : List LexAction) (s : Scanner) (text : List ℕ) (e d : End) → EndsSo s actions text e
     → EndsSo s actions text d → e ≡ d
 one_run_end actions s text e d a b
     = (one_lexing s (condition_set actions) (start_of text) a.0 b.0 e d a.1 b.1).1

@@ -1,36 +1,36 @@
 -- What `tokens` writes: a line for each token, and a last one where no rule matches.
 use Rattle.std.specs.Prelude.{ℕ, List, [], slice_get, slice_index, Option, Some, None, option_and_then, flat_map}
 use Rattle.ly_base.specs.Lexed.{Token}
-use Rattle.ly_base.specs.Text.{Named, token, literal, leaf_line, no_rule_line}
+use Rattle.ly_base.specs.Text.{Terminal, token, literal, leaf_line, no_rule_line}
 use Rattle.ly_base.specs.declared.lexeme.End.{End}
 use Rattle.ly_base.specs.declared.lexeme.End.TheVariants.{Clean, Stuck, BadCut}
-use Rattle.ly_lexread.specs.declared.action.Action.{Action}
+use Rattle.ly_lexread.specs.declared.action.LexAction.{LexAction}
 use Rattle.ly_lexread.specs.declared.action.Returned.{Returned}
 use Rattle.ly_lexread.specs.declared.action.Returned.TheVariants.{Nothing, Token as TokenOf, Literal, FirstByte}
 use Rattle.ly_tokens.specs.declared.outcome.TokenEnd.{TokenEnd}
 use Rattle.ly_tokens.specs.declared.outcome.TokenEnd.TheVariants as token_end
 
 -- the terminal that is returned for these bytes, if one is
-abbrev pub terminal_for : Returned → List ℕ → Option Named
+abbrev pub terminal_for : Returned → List ℕ → Option Terminal
 terminal_for Nothing bytes = None
 terminal_for (TokenOf name) bytes = Some (token name.items)
 terminal_for (Literal b) bytes = Some (literal b)
 terminal_for FirstByte bytes = Some (literal (slice_index bytes 0))
 
 -- the terminal that the action of a rule returns for these bytes, if it returns one
-abbrev pub naming : List Action → ℕ → List ℕ → Option Named
+abbrev pub naming : List LexAction → ℕ → List ℕ → Option Terminal
 naming actions i bytes = option_and_then (λ a. terminal_for a.returns bytes) (slice_get actions i)
 
 -- which condition the action of a rule sets
-abbrev pub condition_set : List Action → ℕ → Option ℕ
+abbrev pub condition_set : List LexAction → ℕ → Option ℕ
 condition_set actions i = option_and_then (λ a. a.begin) (slice_get actions i)
 
 -- the lines of tokens
-abbrev pub printed : List (Token Named) → List ℕ
-printed tokens = flat_map (λ (t : Token Named). leaf_line t.terminal t.bytes) tokens
+abbrev pub printed : List (Token Terminal) → List ℕ
+printed tokens = flat_map (λ (t : Token Terminal). leaf_line t.terminal t.bytes) tokens
 
 -- the line of a token, if there is one
-abbrev pub line_if : Option Named → List ℕ → List ℕ
+abbrev pub line_if : Option Terminal → List ℕ → List ℕ
 line_if None bytes = []
 line_if (Some terminal) bytes = leaf_line terminal bytes
 

@@ -17,7 +17,7 @@ use crate::scanner::smallest_automaton;
 use crate::scanner_fault::ScannerFault;
 use ly_base::{Cut, Limits, OutOfMemory, RuleNo};
 use ly_ere::Rule;
-use ly_lexread::{Action, LexFile, Returned};
+use ly_lexread::{LexAction, LexFile, Returned};
 use ly_scan::{ConditionStart, Lexer, Scanner, ScannerParts, StateRows};
 use ly_subset::Dfa;
 use std::alloc::Global;
@@ -134,14 +134,14 @@ fn spread(alloc: Global, dfa: &Dfa, states: u32) -> Result<StateRows, OutOfMemor
 }
 
 /// For each rule whether its lexemes are passed over: its action returns nothing and sets no condition.
-fn passed_rules(alloc: Global, actions: &[Action]) -> Result<Vec<bool>, OutOfMemory>
+fn passed_rules(alloc: Global, actions: &[LexAction]) -> Result<Vec<bool>, OutOfMemory>
     ensures { IfOk result (λ passed. passed.items ≡ map is_passed actions.now) }
 {
     Ok(actions.iter().map(is_passed).collect(alloc)?)
 }
 
 /// Whether an action returns nothing and sets no condition.
-fn is_passed(action: &Action) -> bool
+fn is_passed(action: &LexAction) -> bool
     ensures { result ≡ is_passed action.now }
 {
     action.begin.is_none() && matches!(action.returns, Returned::Nothing)

@@ -5,7 +5,7 @@ ghost use Rattle.ly_tokens.specs.Printing.{naming};
 ghost use Rattle.ly_tokens.specs.Private.Labels.{label_for, AreLabels, AreLiteralLabels, AreRuleLabels};
 
 use ly_base::{Label, OutOfMemory, RuleNo, Terminal};
-use ly_lexread::{Action, Returned};
+use ly_lexread::{LexAction, Returned};
 use std::alloc::Global;
 
 /// How the lines of a rule's tokens begin.
@@ -21,9 +21,9 @@ pub(crate) enum RuleLabel {
 
 /// What stands before the texts of tokens in their lines, made once: so a line is two copies.
 #[derive(Drop)]
-pub(crate) struct Labels<'a> {
+pub(crate) struct RuleLabels<'a> {
     /// The actions that return the tokens, by rules.
-    pub(crate) actions: &'a [Action],
+    pub(crate) actions: &'a [LexAction],
     /// How the lines of each rule's tokens begin.
     rules: Vec<RuleLabel>,
     /// The label of each byte's literal.
@@ -31,12 +31,15 @@ pub(crate) struct Labels<'a> {
     ghost made: { AreLabels actions.now rules.items literals.items } by { Prim.hlevel props },
 }
 
-impl<'a> Labels<'a> {
+impl<'a> RuleLabels<'a> {
     /// The labels of the tokens that these actions return. It fails where memory runs out.
-    pub(crate) fn new(alloc: Global, actions: &'a [Action]) -> Result<Labels<'a>, OutOfMemory>
+    pub(crate) fn new(
+        alloc: Global,
+        actions: &'a [LexAction],
+    ) -> Result<RuleLabels<'a>, OutOfMemory>
         ensures { IfOk result (λ l. l.actions.now ≡ actions.now) }
     {
-        Ok(Labels {
+        Ok(RuleLabels {
             actions,
             rules: rule_labels(alloc, actions)?,
             literals: literal_labels(alloc)?,
@@ -58,7 +61,7 @@ impl<'a> Labels<'a> {
 }
 
 /// How the lines of the tokens begin that actions return.
-fn rule_labels(alloc: Global, actions: &[Action]) -> Result<Vec<RuleLabel>, OutOfMemory>
+fn rule_labels(alloc: Global, actions: &[LexAction]) -> Result<Vec<RuleLabel>, OutOfMemory>
     ensures { IfOk result (λ labels. AreRuleLabels actions.now labels.items) }
 {
     let mut labels = Vec::with_capacity(alloc, actions.len())?;

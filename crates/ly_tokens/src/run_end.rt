@@ -10,7 +10,7 @@ ghost use Rattle.ly_tokens.specs.Private.TokenLines.{is_passed};
 
 use crate::token_lines::condition_set;
 use ly_base::{End, Place};
-use ly_lexread::{Action, LexFile};
+use ly_lexread::{LexAction, LexFile};
 use ly_scan::{KnownWalks, Lexer, Steps};
 use std::alloc::Global;
 
@@ -76,7 +76,7 @@ fn has_rule<S: Steps>(steps: &S, condition: u32, line: bool, byte: u8) -> bool
 }
 
 /// How the run over a text ends, by a walk over the text.
-fn walked_end(alloc: Global, lexer: &Lexer, text: &[u8], actions: &[Action]) -> End
+fn walked_end(alloc: Global, lexer: &Lexer, text: &[u8], actions: &[LexAction]) -> End
     requires { lexer.now.passed ≡ map is_passed actions.now }
     ensures { EndsSo (scanner_of lexer.now.scanner) actions.now text.now result }
 {

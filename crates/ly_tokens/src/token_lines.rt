@@ -11,9 +11,9 @@ ghost use Rattle.ly_tokens.specs.Printing.{condition_set, end_line, line_if, nam
 ghost use Rattle.ly_tokens.specs.Private.RunEnd.{EndsSo};
 ghost use Rattle.ly_tokens.specs.Private.TokenLines.{is_passed, name_len, AreCountable, AreLines};
 
-use crate::labels::Labels;
+use crate::labels::RuleLabels;
 use ly_base::{End, Front, Place, RuleNo, Sink, TextWriter, WriteFault};
-use ly_lexread::{Action, Returned};
+use ly_lexread::{LexAction, Returned};
 use ly_scan::{KnownWalks, Lexer};
 use std::alloc::Global;
 
@@ -24,7 +24,7 @@ pub(crate) fn write_token_lines<W: Sink>(
     alloc: Global,
     lexer: &Lexer,
     text: &[u8],
-    labels: &Labels<'_>,
+    labels: &RuleLabels<'_>,
     end: End,
     empty: TextWriter,
     writer: &mut W,
@@ -66,7 +66,7 @@ pub(crate) fn write_token_lines<W: Sink>(
 
 /// Whether the lines of so many bytes' tokens can be counted. It may say no where names are so long that none could be
 /// held.
-pub(crate) fn are_countable(actions: &[Action], bytes: usize) -> bool
+pub(crate) fn are_countable(actions: &[LexAction], bytes: usize) -> bool
     ensures { OnTrue result (AreCountable actions.now bytes) }
 {
     let Some(each) = longest_name(actions).checked_add(16) else {
@@ -79,7 +79,7 @@ pub(crate) fn are_countable(actions: &[Action], bytes: usize) -> bool
 }
 
 /// The length of the longest name of a token that an action returns.
-fn longest_name(actions: &[Action]) -> usize
+fn longest_name(actions: &[LexAction]) -> usize
     ensures { All (λ a. name_len a.returns ≤ result) actions.now }
 {
     let mut longest = 0;
@@ -95,7 +95,7 @@ fn longest_name(actions: &[Action]) -> usize
 fn push_token<W: Sink>(
     lines: &mut TextWriter,
     writer: &mut W,
-    labels: &Labels<'_>,
+    labels: &RuleLabels<'_>,
     rule: RuleNo,
     token: Front<'_>,
 ) -> Result<(), WriteFault>
@@ -116,7 +116,7 @@ fn push_token<W: Sink>(
 }
 
 /// The condition that a rule's action sets, if it sets one.
-pub(crate) fn condition_set(actions: &[Action], rule: RuleNo) -> Option<u32>
+pub(crate) fn condition_set(actions: &[LexAction], rule: RuleNo) -> Option<u32>
     ensures { result ≡ condition_set actions.now rule.0 }
 {
     actions.get(rule.0 as usize)?.begin

@@ -25,7 +25,7 @@ ghost use Rattle.ly_tokens.specs.Private.TokenLines.{is_passed};
 
 use crate::fault::TokensFault;
 use crate::file_lexer::lexer_of;
-use crate::labels::Labels;
+use crate::labels::RuleLabels;
 use crate::outcome::TokenEnd;
 use crate::run_end::run_end;
 use crate::token_lines::{are_countable, write_token_lines};
@@ -130,7 +130,7 @@ fn write_answer_by<W: Sink>(
     if !are_countable(&file.actions, text.len()) {
         return Err(TokensFault::OutOfMemory);
     }
-    let labels = Labels::new(alloc, &file.actions)?;
+    let labels = RuleLabels::new(alloc, &file.actions)?;
     let lines = TextWriter::new(alloc)?;
     let end = run_end(alloc, lexer, text, file);
     write_token_lines(alloc, lexer, text, &labels, end, lines, writer)?;

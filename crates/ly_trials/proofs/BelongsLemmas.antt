@@ -8,7 +8,7 @@ use Rattle.std.proofs.Math.Seq.{drop-append_seam, take-append_seam}
 use Rattle.std.proofs.lemmas.Bool.{cases_eq, cases_lt, eq-eqb, ne_eqb}
 use Rattle.std.proofs.lemmas.Nat.{mul-le}
 use mir.Val.{bool_byte}
-use Rattle.ly_ere.specs.Expression.{Expression, star, plus, repeat, name, Joined, IsAtMost, Matches}
+use Rattle.ly_ere.specs.Expression.{Expression, star, plus, repeat, name, Concatenated, IsAtMost, Matches}
 
 -- the room of a measure: more for a later node, and then for a longer string
 pub room : ℕ → ℕ → ℕ
@@ -44,7 +44,7 @@ module _ (L M : List ℕ → Type 0) where
 module _ (L : List ℕ → Type 0) where
   -- from least to most strings of L
   abbrev pub Times : ℕ → Option ℕ → List ℕ → Type 0
-  Times least most w = (k : ℕ) × (least ≤ k) × IsAtMost k most × Joined L k w
+  Times least most w = (k : ℕ) × (least ≤ k) × IsAtMost k most × Concatenated L k w
 
   within_zero : (most : Option ℕ) → IsAtMost zero most
   within_zero None = tt
@@ -82,12 +82,12 @@ module _ (L : List ℕ → Type 0) where
   by_first least rest w (b ∷ u) v e a t again = found least rest w (b ∷ u) v e (λ z. omega arith) a t
 
   first_of : (k least : ℕ) (most rest : Option ℕ) (w : List ℕ) → ((i : ℕ) → IsAtMost i rest ↔ IsAtMost (suc i) most)
-      → (least ≡ zero → w ≡ [] → ⊥) → least ≤ k → IsAtMost k most → Joined L k w → First least rest w
+      → (least ≡ zero → w ≡ [] → ⊥) → least ≤ k → IsAtMost k most → Concatenated L k w → First least rest w
   first_of zero least most rest w fewer some enough within e = absurd (some (omega arith) e)
   first_of (suc k) least most rest w fewer some enough within j =
       by_first least rest w j.0 j.1 j.2 j.3 (k, omega arith, (fewer k).1 within, j.4)
       (λ z same. first_of k least most rest w fewer some (omega arith) (within_less k most within)
-      (subst (Joined L k) (sym same) j.4))
+      (subst (Concatenated L k) (sym same) j.4))
 
   -- where none is too few, some first string is there
   pub times_first : (least : ℕ) (most rest : Option ℕ) (w : List ℕ)

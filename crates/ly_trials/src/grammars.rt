@@ -91,7 +91,10 @@ fn are_alike(alloc: Global, apart: &Apart, laid: &Laid, number: u32) -> Result<b
         if terminals <= terminal {
             return Err(Fail::from("there is no terminal"));
         }
-        if !are_same(&call(&mut one, terminal as u32), &call(&mut other, terminal as u32)) {
+        if !are_same(
+            &call(&mut one, terminal as u32),
+            &call(&mut other, terminal as u32),
+        ) {
             return Ok(false);
         }
     }
@@ -105,7 +108,10 @@ fn grammars_are_parsed_alike_over_both_kinds_of_rows(rt: HostRuntime) -> Result<
         let laid = pack(rt.alloc(), tables_of(rt.alloc(), yacc)?)?;
         let strings = (apart.terminals() as u32).saturating_pow(LENGTH);
         for number in 0..strings {
-            assert!(rt; are_alike(rt.alloc(), &apart, &laid, number)?, "{yacc:?}, {number}");
+            assert!(rt;
+                are_alike(rt.alloc(), &apart, &laid, number)?,
+                "{yacc:?}, {number}"
+            );
         }
     }
     Ok(())

@@ -6,7 +6,8 @@ use Rattle.ly_base.specs.declared.language.Language.TheVariants.{Yacc}
 use Rattle.ly_base.proofs.GapLemmas.{block_one, closes_one}
 use Rattle.ly_base.proofs.WordBeforeLemmas.{word_none, word_one, word_shorter}
 use Rattle.ly_yaccread.specs.Private.Words.{IsFront, IsPartWord, word_of}
-use Rattle.ly_yaccread.specs.Words.{Word, mark, directive, name, number, literal, block, braces, other, Front, Takes}
+use Rattle.ly_yaccread.specs.Words.{Word, mark, directive, name, number, literal, block, braces, other, HasInFront}
+use Rattle.ly_yaccread.specs.Words.{Takes}
 use Rattle.ly_yaccread.specs.Words.{IsPlain}
 use Rattle.ly_yaccread.specs.declared.part.Part.{Part}
 use Rattle.ly_yaccread.specs.declared.part.Part.TheVariants.{Declarations}
@@ -18,7 +19,7 @@ use Rattle.ly_yaccread.proofs.WordLemmas.{words}
 
 -- a word of a part begins with a word of one piece
 pub takes_front : (p : Part) (text : List ℕ) (x : Word) (s : List ℕ) → Takes p text x s
-    → (y : Word) × (t : List ℕ) × Front text y t
+    → (y : Word) × (t : List ℕ) × HasInFront text y t
 takes_front p text (mark m) s h = (mark m, s, h.0)
 takes_front p text (directive n) s h = (directive n, s, h)
 takes_front p text (name n) s h = (name n, s, h)
@@ -48,7 +49,7 @@ no_mark p text rest next.Braces f n = absurd (at f)
 no_mark p text rest next.Other f n = (f.0, λ x s h. let g = takes_front p text x s h in f.1 g.0 g.1 g.2)
 
 -- a word that isn't a mark, and another word of the same text
-plain_one : (p : Part) (text : List ℕ) (x y : Word) (r s : List ℕ) → ((m : Mark) → x ≢ mark m) → Front text x r
+plain_one : (p : Part) (text : List ℕ) (x y : Word) (r s : List ℕ) → ((m : Mark) → x ≢ mark m) → HasInFront text x r
     → Takes p text y s → (x ≡ y) × (r ≡ s)
 plain_one p text x (mark m) r s differs a b = word_one words Yacc text x (mark m) r s a b.0
 plain_one p text x (directive n) r s differs a b = word_one words Yacc text x (directive n) r s a b
@@ -76,7 +77,8 @@ data TakesMark (p : Part) (m : Mark) (inside : List ℕ) : Word → List ℕ →
   a_block : (s : List ℕ) → p ≡ Declarations → m ≡ Block → EndBefore (codes "%}") inside s → TakesMark p m inside block s
   a_brace : (s : List ℕ) → p ≡ Declarations → m ≡ OpenBrace → Closes 0 inside s → TakesMark p m inside braces s
 
-at_mark : (p : Part) (text : List ℕ) (m : Mark) (inside : List ℕ) (y : Word) (s : List ℕ) → Front text (mark m) inside
+at_mark : (p : Part) (text : List ℕ) (m : Mark) (inside : List ℕ) (y : Word) (s : List ℕ)
+    → HasInFront text (mark m) inside
     → Takes p text y s → TakesMark p m inside y s
 at_mark p text m inside (mark k) s f t =
     let e = word_one words Yacc text (mark m) (mark k) inside s f t.0 in
@@ -143,7 +145,7 @@ abbrev Nothing : Part → List ℕ → Type 0
 Nothing p text = (Gap Yacc text → ⊥) × ((x : Word) (s : List ℕ) → Takes p text x s → ⊥)
 
 -- a block that isn't closed
-pub open_block : (p : Part) (text inside : List ℕ) → Front text (mark Block) inside → p ≡ Declarations
+pub open_block : (p : Part) (text inside : List ℕ) → HasInFront text (mark Block) inside → p ≡ Declarations
     → HasNo (codes "%}") inside → Nothing p text
 open_block p text inside f d h = (
   λ g. word_none words Yacc text (mark Block) inside g f,
@@ -152,7 +154,7 @@ open_block p text inside f d h = (
 )
 
 -- a brace that isn't closed
-pub open_brace : (p : Part) (text inside : List ℕ) → Front text (mark OpenBrace) inside → p ≡ Declarations
+pub open_brace : (p : Part) (text inside : List ℕ) → HasInFront text (mark OpenBrace) inside → p ≡ Declarations
     → ((rest : List ℕ) → Closes 0 inside rest → ⊥) → Nothing p text
 open_brace p text inside f d h = (
   λ g. word_none words Yacc text (mark OpenBrace) inside g f,

@@ -6,7 +6,7 @@ use Rattle.ly_yaccread.specs.File.{symbol_word, symbol_words}
 use Rattle.ly_yaccread.specs.Symbols.{NoSymbol, NumberPassed, SymbolFirst, SymbolList, Symbols}
 use Rattle.ly_yaccread.specs.Symbols.{TagPassed, end, more}
 use Rattle.ly_yaccread.specs.Words.{Word, mark, directive, name, number, literal, block, braces, other}
-use Rattle.ly_yaccread.specs.declared.file.Symbol.{Symbol}
+use Rattle.ly_yaccread.specs.declared.file.SymbolName.{SymbolName}
 use Rattle.ly_yaccread.specs.declared.listing.Listing.{Listing}
 use Rattle.ly_yaccread.specs.declared.listing.Listing.TheVariants.{Plain, Numbered}
 
@@ -71,17 +71,18 @@ symbols_within l ws xs rest (more u behind left q x ys f g h)
     = omega (arith, symbols_shorter l u behind left x f g, symbols_within l left ys q h)
 
 -- the symbols so far and those that are left are all symbols
-abbrev pub SymbolsGoOn : Listing → List Word → List Symbol → List Word → Type 0
+abbrev pub SymbolsGoOn : Listing → List Word → List SymbolName → List Word → Type 0
 SymbolsGoOn l ws symbols at = (xs rest : List Word) → Symbols l at xs rest
     → Symbols l ws (symbol_words symbols ++ xs) rest
 
-words_snoc : (symbols : List Symbol) (s : Symbol) (xs : List Word)
+words_snoc : (symbols : List SymbolName) (s : SymbolName) (xs : List Word)
     → symbol_words (symbols ++ s ∷ []) ++ xs ≡ symbol_words symbols ++ symbol_word s ∷ xs
 words_snoc [] s xs = refl
 words_snoc (t ∷ symbols) s xs = ap (λ ys. symbol_word t ∷ ys) (words_snoc symbols s xs)
 
 -- a symbol more
-pub symbols_more : (l : Listing) (ws at behind left : List Word) (symbols longer : List Symbol) (s : Symbol) (x : Word)
+pub symbols_more : (l : Listing) (ws at behind left : List Word) (symbols longer : List SymbolName) (s : SymbolName)
+    (x : Word)
     → SymbolsGoOn l ws symbols at → SymbolFirst at x behind → symbol_word s ≡ x → NumberPassed l behind left
     → longer ≡ symbols ++ s ∷ [] → SymbolsGoOn l ws longer left
 symbols_more l ws at behind left symbols longer s x so_far here e passed f xs rest h =
@@ -91,7 +92,8 @@ symbols_more l ws at behind left symbols longer s x so_far here e passed f xs re
     (subst (λ y. SymbolFirst at y behind) (sym e) here) passed h)))
 
 -- no symbol more
-pub symbols_end : (l : Listing) (ws at : List Word) (symbols : List Symbol) → SymbolsGoOn l ws symbols at → NoSymbol at
+pub symbols_end : (l : Listing) (ws at : List Word) (symbols : List SymbolName) → SymbolsGoOn l ws symbols at
+    → NoSymbol at
     → Symbols l ws (symbol_words symbols) at
 symbols_end l ws at symbols so_far stops
     = subst (λ ys. Symbols l ws ys at) (append-nil (symbol_words symbols)) (so_far [] at (end at stops))
@@ -109,7 +111,7 @@ list_one l ws xs ys r s a b = symbols_one l b.behind xs ys r s
     (subst (λ i. Symbols l i xs r) (tag_one ws a.behind b.behind a.tag b.tag) a.symbols) b.symbols
 
 -- no symbol stands behind the tag
-pub no_list : (l : Listing) (ws behind rest : List Word) (symbols : List Symbol) → TagPassed ws behind
+pub no_list : (l : Listing) (ws behind rest : List Word) (symbols : List SymbolName) → TagPassed ws behind
     → Symbols l behind (symbol_words symbols) rest → symbols ≡ [] → (xs s : List Word) → SymbolList l ws xs s → ⊥
 no_list l ws behind rest symbols tag read e xs s list =
     let same = tag_one ws list.behind behind list.tag tag in

@@ -3,14 +3,14 @@ use Rattle.std.proofs.Common.{◌≡◌, ℕ, List, None, ap₂, subst, sym}
 use Rattle.ly_yaccread.specs.Declarations.{Declarations, Preamble, no_preamble}
 use Rattle.ly_yaccread.specs.File.{Written}
 use Rattle.ly_yaccread.specs.Rules.{YaccRules, Ruling}
-use Rattle.ly_yaccread.specs.Words.{Word, Words}
+use Rattle.ly_yaccread.specs.Words.{Word, AreWordsOf}
 use Rattle.ly_yaccread.specs.YaccText.{YaccText, YaccTextIsOne}
 use Rattle.ly_yaccread.specs.declared.part.Part.TheVariants.{Declarations as in_declarations}
 use Rattle.ly_yaccread.proofs.DeclarationLemmas.{declarations_one}
 use Rattle.ly_yaccread.proofs.RuleLemmas.{rules_one}
 use Rattle.ly_yaccread.proofs.WordingLemmas.{wording_one}
 
-module _ (bytes : List ℕ) (ws : List Word) (spelled : Words bytes ws) where
+module _ (bytes : List ℕ) (ws : List Word) (spelled : AreWordsOf bytes ws) where
   -- the declarations of the words of the text
   pub declarations_of : (w : Written) (t : YaccText bytes w) → Declarations no_preamble ws w.preamble t.behind
   declarations_of w t = subst (λ u. Declarations no_preamble u w.preamble t.behind)

@@ -5,7 +5,7 @@ use Rattle.ly_base.specs.Gap.{Gap}
 use Rattle.ly_base.specs.declared.language.Language.TheVariants.{Yacc}
 use Rattle.ly_base.proofs.WordBeforeLemmas.{word_none}
 use Rattle.ly_yaccread.specs.Private.Words.{IsPartWord, word_of, words_of}
-use Rattle.ly_yaccread.specs.Words.{Word, other, Takes, Wording, Words, free, end, stuck, more}
+use Rattle.ly_yaccread.specs.Words.{Word, other, Takes, Wording, AreWordsOf, free, end, stuck, more}
 use Rattle.ly_yaccread.specs.Words.{part_behind}
 use Rattle.ly_yaccread.specs.declared.part.Part.{Part}
 use Rattle.ly_yaccread.specs.declared.part.Part.TheVariants.{Programs}
@@ -21,36 +21,37 @@ words_push (q ∷ before) p ws = ap (λ xs. word_of q ∷ xs) (words_push before
 
 -- the words so far and those of the rest are all words
 abbrev pub GoesOn : List ℕ → List NextWord → Part → List ℕ → Type 0
-GoesOn text before p rest = (ws : List Word) → Wording p rest ws → Words text (words_of before ++ ws)
+GoesOn text before p rest = (ws : List Word) → Wording p rest ws → AreWordsOf text (words_of before ++ ws)
 
 module _ (text rest behind : List ℕ) (before longer : List NextWord) (p : Part) (w : NextWord)
     (so_far : GoesOn text before p rest) (goes : p ≢ Programs) (pushed : longer ≡ before ++ w ∷ [])
     (found : IsPartWord p rest w behind) where
   -- a word more
   pub one_more : w ≢ next.End → w ≢ next.Other → GoesOn text longer (part_behind p (word_of w)) behind
-  one_more a b ws h = subst (λ l. Words text (words_of l ++ ws)) (sym pushed)
-      (subst (λ xs. Words text xs) (sym (words_push before w ws))
+  one_more a b ws h = subst (λ l. AreWordsOf text (words_of l ++ ws)) (sym pushed)
+      (subst (λ xs. AreWordsOf text xs) (sym (words_push before w ws))
       (so_far (word_of w ∷ ws) (more p rest behind (word_of w) ws goes (taken p rest behind w a b found)
       h)))
 
   -- no word stands there
-  pub one_last : w ≡ next.Other → Words text (words_of longer)
+  pub one_last : w ≡ next.Other → AreWordsOf text (words_of longer)
   one_last e =
       let none = subst (λ x. IsPartWord p rest x behind) e found in
       let all = so_far (other ∷ []) (stuck p rest goes none.0 none.1) in
-      subst (λ l. Words text (words_of l)) (sym pushed)
-      (subst (λ xs. Words text xs) (append-nil (words_of (before ++ w ∷ [])))
-      (subst (λ xs. Words text xs) (sym (words_push before w [] ∙ ap (λ x. words_of before ++ word_of x ∷ []) e)) all))
+      subst (λ l. AreWordsOf text (words_of l)) (sym pushed)
+      (subst (λ xs. AreWordsOf text xs) (append-nil (words_of (before ++ w ∷ [])))
+      (subst (λ xs. AreWordsOf text xs)
+      (sym (words_push before w [] ∙ ap (λ x. words_of before ++ word_of x ∷ []) e)) all))
 
 pub at_end : (text rest : List ℕ) (before : List NextWord) (p : Part) → GoesOn text before p rest → Gap Yacc rest
-    → Words text (words_of before)
+    → AreWordsOf text (words_of before)
 at_end text rest before p so_far g
-    = subst (λ xs. Words text xs) (append-nil (words_of before)) (so_far [] (end p rest g))
+    = subst (λ xs. AreWordsOf text xs) (append-nil (words_of before)) (so_far [] (end p rest g))
 
 pub at_programs : (text rest : List ℕ) (before : List NextWord) (p : Part) → GoesOn text before p rest
-    → p ≡ Programs → Words text (words_of before)
+    → p ≡ Programs → AreWordsOf text (words_of before)
 at_programs text rest before p so_far e
-    = subst (λ xs. Words text xs) (append-nil (words_of before)) (so_far [] (subst (λ q. Wording q rest []) (sym e)
+    = subst (λ xs. AreWordsOf text xs) (append-nil (words_of before)) (so_far [] (subst (λ q. Wording q rest []) (sym e)
     (free rest)))
 
 -- a gap has no word of any part

@@ -5,24 +5,24 @@ use Rattle.ly_yaccread.specs.Actions.{Making, default, pass, build}
 use Rattle.ly_yaccread.specs.Declarations.{Declared, Preamble}
 use Rattle.ly_yaccread.specs.Rules.{Ruling}
 use Rattle.ly_yaccread.specs.Words.{Word, name, literal}
-use Rattle.ly_yaccread.specs.declared.file.Action.{Action}
-use Rattle.ly_yaccread.specs.declared.file.Action.TheVariants.{Default, Pass, Build}
+use Rattle.ly_yaccread.specs.declared.file.TreeAction.{TreeAction}
+use Rattle.ly_yaccread.specs.declared.file.TreeAction.TheVariants.{Default, Pass, Build}
 use Rattle.ly_yaccread.specs.declared.file.Declaration.{Declaration}
 use Rattle.ly_yaccread.specs.declared.file.Production.{Production}
-use Rattle.ly_yaccread.specs.declared.file.Symbol.{Symbol}
-use Rattle.ly_yaccread.specs.declared.file.Symbol.TheVariants.{Name, Literal}
+use Rattle.ly_yaccread.specs.declared.file.SymbolName.{SymbolName}
+use Rattle.ly_yaccread.specs.declared.file.SymbolName.TheVariants.{Name, Literal}
 use Rattle.ly_yaccread.specs.declared.file.YaccFile.{YaccFile}
 
 -- the word that names a symbol
-abbrev pub symbol_word : Symbol → Word
+abbrev pub symbol_word : SymbolName → Word
 symbol_word (Name n) = name n.items
 symbol_word (Literal b) = literal b
 
-abbrev pub symbol_words : List Symbol → List Word
+abbrev pub symbol_words : List SymbolName → List Word
 symbol_words symbols = map symbol_word symbols
 
 -- what an action makes
-abbrev pub making_of : Action → Making
+abbrev pub making_of : TreeAction → Making
 making_of Default = default
 making_of (Pass p) = pass p
 making_of (Build n ps) = build n.items ps.items

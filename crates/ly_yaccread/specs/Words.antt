@@ -66,8 +66,8 @@ Begins text (literal b) rest = Literal text b rest
 Begins text _ rest = ⊥
 
 -- the text is a gap, a word and the rest
-abbrev pub Front : List ℕ → Word → List ℕ → Type 0
-Front text x rest = WordBefore Begins Yacc text x rest
+abbrev pub HasInFront : List ℕ → Word → List ℕ → Type 0
+HasInFront text x rest = WordBefore Begins Yacc text x rest
 
 -- A mark that stands for itself: in the declarations `%{` begins a block, and `{` what stands between braces.
 abbrev pub IsPlain : Part → Mark → Type 0
@@ -77,12 +77,12 @@ IsPlain p m = Unit {0}
 -- The text is a gap, a word of this part of a file, and the rest. A block goes to its first `%}`; braces are counted as
 -- plain bytes.
 abbrev pub Takes : Part → List ℕ → Word → List ℕ → Type 0
-Takes p text (mark m) rest = Front text (mark m) rest × IsPlain p m
-Takes p text block rest = (p ≡ Declarations) × (inside : List ℕ) × Front text (mark Block) inside
+Takes p text (mark m) rest = HasInFront text (mark m) rest × IsPlain p m
+Takes p text block rest = (p ≡ Declarations) × (inside : List ℕ) × HasInFront text (mark Block) inside
     × EndBefore (codes "%}") inside rest
-Takes p text braces rest = (p ≡ Declarations) × (inside : List ℕ) × Front text (mark OpenBrace) inside
+Takes p text braces rest = (p ≡ Declarations) × (inside : List ℕ) × HasInFront text (mark OpenBrace) inside
     × Closes 0 inside rest
-Takes p text x rest = Front text x rest
+Takes p text x rest = HasInFront text x rest
 
 -- the part of a file that a word leads to: each `%%` ends one
 abbrev pub part_behind : Part → Word → Part
@@ -101,5 +101,5 @@ pub data Wording : Part → List ℕ → List Word → Type 0 where
       → Wording (part_behind p x) rest xs → Wording p text (x ∷ xs)
 
 -- the words of a whole file
-abbrev pub Words : List ℕ → List Word → Type 0
-Words bytes ws = Wording Declarations bytes ws
+abbrev pub AreWordsOf : List ℕ → List Word → Type 0
+AreWordsOf bytes ws = Wording Declarations bytes ws

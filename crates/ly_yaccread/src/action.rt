@@ -9,7 +9,7 @@ ghost use Rattle.ly_yaccread.specs.Words.{Word, mark as mark_word};
 use crate::cursor::Cursor;
 use crate::expected::Expected;
 use crate::fault::YaccFault;
-use crate::file::Action;
+use crate::file::TreeAction;
 use crate::place::read_place;
 use crate::words::Mark;
 use ly_base::{Language, SparseSet, leading_name};
@@ -21,12 +21,12 @@ pub(crate) fn read_action(
     alloc: Global,
     words: Cursor<'_>,
     symbols: usize,
-) -> Result<(Action, Cursor<'_>), YaccFault>
+) -> Result<(TreeAction, Cursor<'_>), YaccFault>
     ensures { IsFound (ActionPassed symbols (words_left words.entry)) (λ found. making_of found.0)
         (λ found. words_left found.1) result }
 {
     let Some(inside) = words.after(Mark::OpenBrace) else {
-        return Ok((Action::Default, words));
+        return Ok((TreeAction::Default, words));
     };
     let value = after_both(inside, Mark::Whole, Mark::Equals)?;
     let (action, behind) = read_value(alloc, value, symbols)?;
@@ -54,13 +54,13 @@ fn read_value(
     alloc: Global,
     words: Cursor<'_>,
     symbols: usize,
-) -> Result<(Action, Cursor<'_>), YaccFault>
+) -> Result<(TreeAction, Cursor<'_>), YaccFault>
     ensures { IsFound (ValueFirst symbols (words_left words.entry)) (λ found. making_of found.0)
         (λ found. words_left found.1) result }
 {
     let Some((name, behind)) = words.name() else {
         let (place, rest) = read_place(words, symbols)?;
-        return Ok((Action::Pass(place), rest));
+        return Ok((TreeAction::Pass(place), rest));
     };
     if !is_constructor(name) {
         return Err(words.fault(Expected::Action));
@@ -70,7 +70,7 @@ fn read_value(
     };
     let (places, rest) = read_places(alloc, inside, symbols)?;
     let name = Vec::from_slice(alloc, name)?;
-    Ok((Action::Build { name, places }, rest))
+    Ok((TreeAction::Build { name, places }, rest))
 }
 
 /// Whether the name is one of a lex file.

@@ -15,7 +15,7 @@ pub struct Declaration {
     /// What it says of them.
     pub kind: DeclarationKind,
     /// The symbols that it names, in the order of the text.
-    pub symbols: Vec<Symbol>,
+    pub symbols: Vec<SymbolName>,
 }
 
 /// What a declaration says of its tokens.
@@ -33,7 +33,7 @@ pub enum DeclarationKind {
 
 /// A symbol, as a yacc file names it.
 #[derive(Drop)]
-pub enum Symbol {
+pub enum SymbolName {
     /// A name.
     Name(Vec<u8>),
     /// A literal of this byte.
@@ -46,16 +46,16 @@ pub struct Production {
     /// The name on the left.
     pub left: Vec<u8>,
     /// The symbols of the body.
-    pub body: Vec<Symbol>,
+    pub body: Vec<SymbolName>,
     /// The symbol behind `%prec`, where it stands.
-    pub precedence: Option<Symbol>,
+    pub precedence: Option<SymbolName>,
     /// What the rule's tree is.
-    pub action: Action,
+    pub action: TreeAction,
 }
 
 /// What the tree of a rule is. Places count the symbols of its body from 1.
 #[derive(Drop)]
-pub enum Action {
+pub enum TreeAction {
     /// No action stands.
     Default,
     /// The tree at this place.

@@ -10,7 +10,7 @@ use crate::action::read_action;
 use crate::cursor::{Cursor, is};
 use crate::expected::Expected;
 use crate::fault::YaccFault;
-use crate::file::{Action, Production, Symbol};
+use crate::file::{Production, SymbolName, TreeAction};
 use crate::listing::Listing;
 use crate::symbols::{read_symbols, symbol_first};
 use std::alloc::Global;
@@ -19,9 +19,9 @@ use std::alloc::Global;
 #[derive(Drop)]
 pub(crate) struct BodyEnd {
     /// The symbol behind `%prec`, where it stands.
-    precedence: Option<Symbol>,
+    precedence: Option<SymbolName>,
     /// The action.
-    action: Action,
+    action: TreeAction,
 }
 
 /// Reads a body, and answers the rule of this left side that it makes, and what is left behind it.
@@ -70,17 +70,17 @@ fn read_body_end(
 }
 
 /// Whether no action stood.
-pub(crate) fn is_default(action: &Action) -> bool
+pub(crate) fn is_default(action: &TreeAction) -> bool
     ensures { MatchBool result (making_of action.now ≡ default) (making_of action.now ≢ default) }
 {
-    matches!(action, Action::Default)
+    matches!(action, TreeAction::Default)
 }
 
 /// Reads the `%prec` that comes first and its symbol; none, and all is left, where no `%prec` does.
 fn read_precedence(
     alloc: Global,
     words: Cursor<'_>,
-) -> Result<(Option<Symbol>, Cursor<'_>), YaccFault>
+) -> Result<(Option<SymbolName>, Cursor<'_>), YaccFault>
     ensures { IsFound (PrecedencePassed (words_left words.entry)) (λ found. option_map symbol_word found.0)
         (λ found. words_left found.1) result }
 {

@@ -7,7 +7,7 @@ ghost use Rattle.ly_yaccread.specs.Words.{Word};
 use crate::cursor::Cursor;
 use crate::expected::Expected;
 use crate::fault::YaccFault;
-use crate::file::Symbol;
+use crate::file::SymbolName;
 use crate::listing::Listing;
 use crate::words::Mark;
 use std::alloc::{AllocError, Global};
@@ -23,12 +23,12 @@ pub(crate) enum NextSymbol<'t> {
 
 impl NextSymbol<'_> {
     /// The symbol with room of its own.
-    pub(crate) fn owned(self, alloc: Global) -> Result<Symbol, AllocError>
+    pub(crate) fn owned(self, alloc: Global) -> Result<SymbolName, AllocError>
         ensures { IfOk result (λ symbol. symbol_word symbol ≡ next_symbol self.entry) }
     {
         match self {
-            NextSymbol::Name(name) => Ok(Symbol::Name(Vec::from_slice(alloc, name)?)),
-            NextSymbol::Literal(byte) => Ok(Symbol::Literal(byte)),
+            NextSymbol::Name(name) => Ok(SymbolName::Name(Vec::from_slice(alloc, name)?)),
+            NextSymbol::Literal(byte) => Ok(SymbolName::Literal(byte)),
         }
     }
 }
@@ -38,7 +38,7 @@ pub(crate) fn read_symbols(
     alloc: Global,
     words: Cursor<'_>,
     listing: Listing,
-) -> Result<(Vec<Symbol>, Cursor<'_>), AllocError>
+) -> Result<(Vec<SymbolName>, Cursor<'_>), AllocError>
     ensures { IfOk result
         (λ found. Symbols listing (words_left words.entry) (symbol_words found.0.items) (words_left found.1)) }
 {
@@ -56,7 +56,7 @@ pub(crate) fn read_symbol_list(
     alloc: Global,
     words: Cursor<'_>,
     listing: Listing,
-) -> Result<(Vec<Symbol>, Cursor<'_>), YaccFault>
+) -> Result<(Vec<SymbolName>, Cursor<'_>), YaccFault>
     ensures { IsFound (SymbolList listing (words_left words.entry)) (λ found. symbol_words found.0.items)
         (λ found. words_left found.1) result }
 {

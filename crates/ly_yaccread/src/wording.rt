@@ -1,6 +1,6 @@
 ghost use Rattle.std.specs.Prelude.{◌≤◌, length, IfOk};
 ghost use Rattle.ly_yaccread.specs.Private.Words.{words_of};
-ghost use Rattle.ly_yaccread.specs.Words.{Words};
+ghost use Rattle.ly_yaccread.specs.Words.{AreWordsOf};
 
 use crate::part::Part;
 use crate::words::NextWord;
@@ -10,7 +10,7 @@ use std::alloc::{AllocError, Global};
 /// Takes a file apart into its words, up to the second `%%`, to the end, or to the first place where no word
 /// stands: there the last one is `Other`.
 pub(crate) fn words(alloc: Global, text: &[u8]) -> Result<Vec<NextWord<'_>>, AllocError>
-    ensures { IfOk result (λ words. Words text.now (words_of words.items)) }
+    ensures { IfOk result (λ words. AreWordsOf text.now (words_of words.items)) }
 {
     let mut words = Vec::new(alloc);
     let mut part = Part::Declarations;

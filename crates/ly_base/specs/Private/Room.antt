@@ -1,9 +1,9 @@
 -- How much room printed text takes at most.
 use Rattle.std.specs.Prelude.{ℕ, ◌+◌, ◌*◌, length}
-use Rattle.ly_base.specs.Text.{Named, literal, token}
+use Rattle.ly_base.specs.Text.{Terminal, literal, token}
 
 -- a name: a literal's byte may be escaped
-abbrev pub name_room : Named → ℕ
+abbrev pub name_room : Terminal → ℕ
 name_room (token name) = length name
 name_room (literal b) = 6
 

@@ -1,14 +1,14 @@
 -- What the sections of a table set list.
 use Rattle.std.specs.Prelude.{◌≡◌, ℕ, ◌<◌, List, slice_get, Some, true, false}
 use Rattle.ly_base.specs.declared.numbers.StateNo.{StateNo}
-use Rattle.ly_join.specs.Terminals.{Terminal, IsOfByte}
+use Rattle.ly_join.specs.Terminals.{TerminalName, IsOfByte}
 use Rattle.ly_pack.specs.Rows.{Entries}
 use Rattle.ly_pack.specs.Values.{gotos_from}
 use Rattle.ly_subset.specs.Automaton.{Automaton, next_by_class, start_of}
 use Rattle.ly_tables.specs.TableSet.{Starts}
 
 -- each byte's terminal is that of its literal
-abbrev pub AreLiterals : List Terminal → List ℕ → Type 0
+abbrev pub AreLiterals : List TerminalName → List ℕ → Type 0
 AreLiterals terminals literals = (b t : ℕ) → slice_get literals b ≡ Some t → IsOfByte terminals b t
 
 -- the condition begins where the automaton says

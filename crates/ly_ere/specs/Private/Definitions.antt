@@ -8,7 +8,7 @@ use Rattle.ly_ere.specs.Names.{Definition, number_of}
 use Rattle.ly_ere.specs.Patterns.{IsExpression}
 use Rattle.ly_ere.specs.Private.Uses.{uses_of}
 use Rattle.ly_ere.specs.declared.definitions.Refusal.{Refusal}
-use Rattle.ly_ere.specs.declared.definitions.Texts.{Texts}
+use Rattle.ly_ere.specs.declared.definitions.DefinitionTexts.{DefinitionTexts}
 use Rattle.ly_ere.specs.declared.fault.EreFault.TheVariants.{NameCycle, OutOfMemory, TooHeavy}
 
 -- Text place of the list is no expression, and the fault is one of its text.
@@ -21,15 +21,15 @@ pub record IsTextRefusal (known : List Definition) (list : List DefinedText) (re
   pub cycle : refusal.fault ≢ NameCycle
 
 -- what each text uses
-abbrev pub text_uses : Texts → List (List ℕ)
+abbrev pub text_uses : DefinitionTexts → List (List ℕ)
 text_uses t = map (λ v. v.items) t.uses.items
 
 -- expression n of those that are read
-abbrev pub expression_at : Texts → ℕ → Expression
+abbrev pub expression_at : DefinitionTexts → ℕ → Expression
 expression_at t n = slice_index_or t.expressions.items n empty
 
 -- Texts of the list are read under the known names.
-pub record AreRead (known : List Definition) (list : List DefinedText) (t : Texts) : Type 0 where
+pub record AreRead (known : List Definition) (list : List DefinedText) (t : DefinitionTexts) : Type 0 where
   pub counted : length t.uses.items ≡ length list
   pub there : (n : ℕ) → All (λ u. u < length known) (slice_index_or (text_uses t) n [])
   pub uses : (n : ℕ) (d : DefinedText) (e : Expression) → slice_get list n ≡ Some d → IsExpression known d.text e

@@ -9,7 +9,7 @@ use Rattle.ly_ere.specs.declared.element.Postfix.{Postfix}
 use Rattle.ly_ere.specs.declared.element.Postfix.TheVariants.{Asterisk, PlusSign, QuestionMark}
 
 -- the parts of the group are below n
-pub record IsWithin (n : ℕ) (l : Level) : Type 0 where
+pub record ArePartsBelow (n : ℕ) (l : Level) : Type 0 where
   pub either : ForSome l.either (λ k. k < n)
   pub branch : ForSome l.branch (λ k. k < n)
   pub piece : ForSome l.piece (λ k. k < n)

@@ -5,7 +5,7 @@ use Rattle.ly_base.specs.declared.scan_action.Emitted.TheVariants.{Terminal as O
 use Rattle.ly_base.specs.declared.scan_action.ScanAction.{ScanAction}
 use Rattle.ly_join.specs.Grammar.{IsRule, Rule, Symbol, terminal}
 use Rattle.ly_join.specs.Joined.{Spec}
-use Rattle.ly_join.specs.Terminals.{Terminal, byte, IsNumbered}
+use Rattle.ly_join.specs.Terminals.{TerminalName, byte, IsNumbered}
 use Rattle.ly_explain.specs.Doubts.{IsTokenOrLiteral}
 use Rattle.ly_explain.specs.Private.Marks.{IsMarked}
 
@@ -19,11 +19,11 @@ ReturnsItself actions marks i t = IsMarked marks i
     × (a : ScanAction) × (slice_get actions i ≡ Some a) × (own : Sym) × (a.emits ≡ Own own) × (own.0 ≡ t)
 
 -- the number is that of the literal of a marked byte
-abbrev pub IsLiteralOf : List Terminal → List Bool → ℕ → Type 0
+abbrev pub IsLiteralOf : List TerminalName → List Bool → ℕ → Type 0
 IsLiteralOf terminals marks t = (b : ℕ) × IsNumbered terminals (byte b) t × IsMarked marks b
 
 -- it is, and so the number of this step
-abbrev pub IsLiteralAt : List Terminal → List Bool → ℕ → ℕ → Type 0
+abbrev pub IsLiteralAt : List TerminalName → List Bool → ℕ → ℕ → Type 0
 IsLiteralAt terminals marks k t = (t ≡ k) × IsLiteralOf terminals marks k
 
 -- the terminal stands in the body of the rule

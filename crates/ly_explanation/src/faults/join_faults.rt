@@ -10,7 +10,7 @@ use ly_base::{Language, Limits, OutOfMemory};
 use ly_engine::GenFault;
 use ly_join::{JoinFault, join};
 use ly_lexread::Returned;
-use ly_yaccread::{Symbol, YaccFile};
+use ly_yaccread::{SymbolName, YaccFile};
 use std::alloc::Global;
 
 /// Finds the faults of both files together: each is mended in what the yacc file says, and the files are joined again.
@@ -74,7 +74,7 @@ fn join_location(
 
 /// Where the first rule of a lex file that returns a name has it.
 fn returned_location(lex: &MendedLex, name: &[u8]) -> Option<Location> {
-    let returns = |action: &ly_lexread::Action| match &action.returns {
+    let returns = |action: &ly_lexread::LexAction| match &action.returns {
         Returned::Token(token) => token.as_slice() == name,
         _ => false,
     };
@@ -131,7 +131,7 @@ fn join_advice(
 fn push_tokens<'t>(names: &mut Vec<&'t [u8]>, file: &'t YaccFile) -> Result<(), OutOfMemory> {
     for declaration in &file.declarations {
         for symbol in &declaration.symbols {
-            if let Symbol::Name(name) = symbol {
+            if let SymbolName::Name(name) = symbol {
                 names.push(name)?;
             }
         }

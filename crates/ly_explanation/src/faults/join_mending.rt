@@ -1,7 +1,7 @@
 //! How a fault of both files is mended in what the yacc file says, so that the others can be found.
 use ly_base::OutOfMemory;
 use ly_join::{JoinFault, TerminalName};
-use ly_yaccread::{Declaration, DeclarationKind, Symbol, YaccFile};
+use ly_yaccread::{Declaration, DeclarationKind, SymbolName, YaccFile};
 use std::alloc::Global;
 
 /// Mends a fault: a name that is unknown is a token then, a left side is none, a precedence is given once, and a start
@@ -14,7 +14,7 @@ pub(crate) fn mend(
     match fault {
         JoinFault::UndefinedSymbol(name) | JoinFault::ReturnUndeclared(name) => {
             let mut symbols = Vec::new(alloc);
-            symbols.push(Symbol::Name(Vec::from_slice(alloc, name)?))?;
+            symbols.push(SymbolName::Name(Vec::from_slice(alloc, name)?))?;
             file.declarations.push(Declaration {
                 kind: DeclarationKind::Token,
                 symbols,
@@ -59,18 +59,18 @@ fn give_once(file: &mut YaccFile, terminal: &TerminalName) {
 }
 
 /// Whether a symbol is this name.
-fn is_name(symbol: &Symbol, name: &[u8]) -> bool {
+fn is_name(symbol: &SymbolName, name: &[u8]) -> bool {
     match symbol {
-        Symbol::Name(found) => found.as_slice() == name,
-        Symbol::Literal(_) => false,
+        SymbolName::Name(found) => found.as_slice() == name,
+        SymbolName::Literal(_) => false,
     }
 }
 
 /// Whether a symbol is this terminal.
-fn is_terminal(symbol: &Symbol, terminal: &TerminalName) -> bool {
+fn is_terminal(symbol: &SymbolName, terminal: &TerminalName) -> bool {
     match (symbol, terminal) {
-        (Symbol::Name(name), TerminalName::Token(token)) => name.as_slice() == token.as_slice(),
-        (Symbol::Literal(byte), TerminalName::Literal(other)) => byte == other,
+        (SymbolName::Name(name), TerminalName::Token(token)) => name.as_slice() == token.as_slice(),
+        (SymbolName::Literal(byte), TerminalName::Literal(other)) => byte == other,
         _ => false,
     }
 }

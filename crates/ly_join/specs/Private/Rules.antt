@@ -9,7 +9,7 @@ use Rattle.ly_join.specs.Joined.{accept_note, AreJoined, Note, SymbolTable}
 use Rattle.ly_join.specs.Numbering.{rule_literals}
 use Rattle.ly_join.specs.Precedences.{AreGivenOnce, HasPrecedence, IsGivenTwice}
 use Rattle.ly_join.specs.Scanning.{Acting, Returning, returns}
-use Rattle.ly_join.specs.Terminals.{Terminal, byte, terminal_from, token}
+use Rattle.ly_join.specs.Terminals.{TerminalName, byte, terminal_from, token}
 use Rattle.ly_join.specs.declared.fault.JoinFault.{JoinFault}
 use Rattle.ly_join.specs.declared.fault.JoinFault.TheVariants.{UndefinedSymbol, TokenOnLeft, PrecedenceTwice}
 use Rattle.ly_join.specs.declared.fault.JoinFault.TheVariants.{ReturnUndeclared, PrecUnknown, OutOfMemory}
@@ -21,15 +21,15 @@ abbrev pub HasAll : {X : Type 0} → List X → List X → Type 0
 HasAll {X} all xs = (x : X) → Contains xs x → Contains all x
 
 -- The terminals have the precedences that were given so far, none of them twice.
-pub record AreGiven (all : List (Terminal × Precedence)) (terminals : List Terminal)
+pub record AreGiven (all : List (TerminalName × Precedence)) (terminals : List TerminalName)
     (precedences : List (Option Precedence)) : Type 0 where
   pub long : length precedences ≡ length terminals
-  pub each : (t : ℕ) (x : Terminal) → slice_get terminals t ≡ Some x
+  pub each : (t : ℕ) (x : TerminalName) → slice_get terminals t ≡ Some x
       → HasPrecedence all x (slice_index_or precedences t None)
   pub once : AreGivenOnce all
 
 -- a terminal is given a precedence twice, or memory is refused
-abbrev pub IsGivingFault : List (Terminal × Precedence) → JoinFault → Type 0
+abbrev pub IsGivingFault : List (TerminalName × Precedence) → JoinFault → Type 0
 IsGivingFault all (PrecedenceTwice t) = IsGivenTwice all (terminal_from t)
 IsGivingFault all OutOfMemory = Unit {0}
 IsGivingFault all _ = ⊥
@@ -43,7 +43,7 @@ table_from t = record {
 }
 
 -- a word of a body that is a literal has a number
-abbrev pub HasLiteral : List Terminal → Word → Type 0
+abbrev pub HasLiteral : List TerminalName → Word → Type 0
 HasLiteral terminals (literal b) = Contains terminals (byte b)
 HasLiteral terminals _ = Unit {0}
 
@@ -96,13 +96,13 @@ pub record RulesJoined (m : SymbolTable) (rulings : List Ruling) (rules : List R
   pub apart : HaveNoTokenLeft m rulings
 
 -- what a fault says of what is returned; want of memory says nothing
-abbrev pub IsUndeclaredIn : List Terminal → Returning → JoinFault → Type 0
+abbrev pub IsUndeclaredIn : List TerminalName → Returning → JoinFault → Type 0
 IsUndeclaredIn terminals x (ReturnUndeclared n) = (x ≡ returns (token n.items))
     × (Contains terminals (token n.items) → ⊥)
 IsUndeclaredIn terminals x OutOfMemory = Unit {0}
 IsUndeclaredIn terminals x _ = ⊥
 
 -- a fault of one of some actions, or want of memory
-abbrev pub IsFaultOfActions : List Terminal → List Acting → JoinFault → Type 0
+abbrev pub IsFaultOfActions : List TerminalName → List Acting → JoinFault → Type 0
 IsFaultOfActions terminals actions f
     = (f ≡ OutOfMemory) ⊎ ((a : Acting) × Contains actions a × IsUndeclaredIn terminals a.returning f)

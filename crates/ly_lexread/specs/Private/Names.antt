@@ -6,7 +6,7 @@ use Rattle.ly_ere.specs.Definitions.{DefinedText, named_texts}
 use Rattle.ly_lexread.specs.Definitions.{defined_names}
 use Rattle.ly_lexread.specs.Names.{AreTextsOf, IsTextOf}
 use Rattle.ly_lexread.specs.declared.defined.NameLine.{NameLine}
-use Rattle.ly_lexread.specs.declared.names.Texts.{Texts}
+use Rattle.ly_lexread.specs.declared.names.NameTexts.{NameTexts}
 
 -- a name and what stands behind its blanks
 abbrev pub parts_of : NameLine → List ℕ × List ℕ
@@ -29,7 +29,7 @@ AreExtents (d ∷ ds) (t ∷ ts) = (t.name ≡ d.0) × IsExtentOf d.1 t.text × 
 AreExtents _ _ = ⊥
 
 -- Texts behind these names. Where there is a flaw, not all of them are texts of expressions.
-pub record AreCut (ds : List (List ℕ × List ℕ)) (t : Texts) : Type 0 where
+pub record AreCut (ds : List (List ℕ × List ℕ)) (t : NameTexts) : Type 0 where
   pub names : map (λ d. d.name) (named_texts t.list.items) ≡ defined_names ds
   pub texts : MatchOption t.flaw (AreExtents ds (named_texts t.list.items))
       (λ _. (texts : List DefinedText) → AreTextsOf ds texts → ⊥)

@@ -3,7 +3,7 @@ use Rattle.std.specs.Prelude.{◌≡◌, ℕ, List, [], ◌++◌, codes}
 use Rattle.std.specs.Borrow.{Bor}
 use Rattle.ly_base.specs.Gap.{Gap}
 use Rattle.ly_base.specs.declared.language.Language.{Language}
-use Rattle.ly_lexread.specs.Words.{Word, mark, text_byte, name, literal, Front, IsNoTextByte}
+use Rattle.ly_lexread.specs.Words.{Word, mark, text_byte, name, literal, HasInFront, IsNoTextByte}
 use Rattle.ly_lexread.specs.declared.words.NextWord.{NextWord}
 use Rattle.ly_lexread.specs.declared.words.NextWord.TheVariants.{End, Mark, TextByte, Name, Literal, Other}
 
@@ -24,8 +24,8 @@ IsFound _ = Unit {0}
 -- what stands at the front of a text, and the rest behind it
 abbrev pub IsFront : Language → List ℕ → NextWord → List ℕ → Type 0
 IsFront l text End rest = Gap l text × (rest ≡ [])
-IsFront l text Other rest = (Gap l text → ⊥) × ((x : Word) (s : List ℕ) → Front l text x s → ⊥)
-IsFront l text w rest = Front l text (word_of w) rest
+IsFront l text Other rest = (Gap l text → ⊥) × ((x : Word) (s : List ℕ) → HasInFront l text x s → ⊥)
+IsFront l text w rest = HasInFront l text (word_of w) rest
 
 -- the word that a name and what is behind it begin with
 abbrev pub IsNamedWord : Bor (List ℕ) → List ℕ → NextWord → List ℕ → Type 0

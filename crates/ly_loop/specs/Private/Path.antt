@@ -6,8 +6,8 @@ use Rattle.ly_pack.specs.Steady.{EndsWithin, action_on, goes_on, move, run_bound
 use Rattle.ly_pack.specs.Values.{action_from}
 use Rattle.ly_pack.specs.declared.action.TableAction as code
 use Rattle.ly_pack.specs.declared.cell.Cell.{Cell}
-use Rattle.ly_loop.specs.declared.path.Step.{Step}
-use Rattle.ly_loop.specs.declared.path.Step.TheVariants.{Onward, Ends, Passes}
+use Rattle.ly_loop.specs.declared.path.PathStep.{PathStep}
+use Rattle.ly_loop.specs.declared.path.PathStep.TheVariants.{Onward, Ends, Passes}
 
 -- the runs of an edge end on all terminals
 abbrev pub AllEnd : Machine → ℕ → ℕ → Type 0
@@ -40,7 +40,7 @@ pub record IsOnward (m : Machine) (bound : ℕ) (old left new left' : List ℕ) 
       → (has_left left t ≡ false) × (move m t old ≡ goes_on new)
 
 -- what a step shows of the terminals of a path
-abbrev pub IsStep : Machine → ℕ → List ℕ → List ℕ → Step → List ℕ → List ℕ → Type 0
+abbrev pub IsStep : Machine → ℕ → List ℕ → List ℕ → PathStep → List ℕ → List ℕ → Type 0
 IsStep m bound old left Onward new left' = IsOnward m bound old left new left'
 IsStep m bound old left Ends new left' = (t : ℕ) → t < m.terminals
     → (has_left left t ≡ true) ⊎ EndsWithin m t old bound

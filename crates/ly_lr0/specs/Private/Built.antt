@@ -28,8 +28,8 @@ abbrev pub AreInOrder : List Transition → Type 0
 AreInOrder row = AllPairs (λ t u. IsLess t.symbol u.symbol) row
 
 -- the transition is one of the state's
-abbrev pub Leads : List (List Transition) → ℕ → Transition → Type 0
-Leads rows s t = (s < length rows) × Contains (slice_index_or rows s []) t
+abbrev pub HasTransition : List (List Transition) → ℕ → Transition → Type 0
+HasTransition rows s t = (s < length rows) × Contains (slice_index_or rows s []) t
 
 -- the link of a number; past the last it says nothing
 abbrev pub link_at : List Link → ℕ → Link
@@ -57,12 +57,12 @@ pub record AreFound (G : Grammar) (kernels : List (List Item)) (links : List Lin
     pub apart : (s t : ℕ) → s < length kernels → t < length kernels → kernel_at kernels s ≡ kernel_at kernels t → s ≡ t
     pub within : length rows ≤ length kernels
     pub sorted : (s : ℕ) → s < length rows → AreInOrder (slice_index_or rows s [])
-    pub led : (s : ℕ) (t : Transition) → Leads rows s t → IsLed G kernels s t
+    pub led : (s : ℕ) (t : Transition) → HasTransition rows s t → IsLed G kernels s t
     pub linked : (k : ℕ) → k < length links
-        → Leads rows (link_at links k).from (record { symbol = (link_at links k).symbol; target = suc k })
+        → HasTransition rows (link_at links k).from (record { symbol = (link_at links k).symbol; target = suc k })
     pub back : (k : ℕ) → k < length links → (link_at links k).from ≤ k
     pub ordered : (k l : ℕ) → k < l → l < length links → LinkIsLess (link_at links k) (link_at links l)
-    pub first : (s : ℕ) (t : Transition) (k : ℕ) → Leads rows s t → t.target ≡ suc k
+    pub first : (s : ℕ) (t : Transition) (k : ℕ) → HasTransition rows s t → t.target ≡ suc k
         → (link_at links k ≡ record { from = s; symbol = t.symbol })
         ⊎ LinkIsLess (link_at links k) (record { from = s; symbol = t.symbol })
 

@@ -23,6 +23,6 @@ abbrev pub IsByClass : Automaton → Groups → Type 0
 IsByClass A groups = (class : ℕ) × (class < A.classes) × AreGroupsOf A class groups
 
 -- states of one block of the second partition are in one block of the first
-abbrev pub IsWithin : ℕ → List ℕ → List ℕ → Type 0
-IsWithin n first second = (s t : ℕ) → s < n → t < n → block_of first s ≢ block_of first t
+abbrev pub IsRefinedBy : ℕ → List ℕ → List ℕ → Type 0
+IsRefinedBy n first second = (s t : ℕ) → s < n → t < n → block_of first s ≢ block_of first t
     → block_of second s ≢ block_of second t

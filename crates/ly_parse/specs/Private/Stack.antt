@@ -55,7 +55,7 @@ abbrev pub FeedAs : Machine → ℕ → List Level → Fed → Type 0
 FeedAs m t stack out = (token : Token ℕ) → token.terminal ≡ t → Feeds m token stack out
 
 -- Reductions before the terminal lead from the one stack to the other, so a token becomes the same on both.
-pub record Leads (m : Machine) (t : ℕ) (stack last : List Level) : Type 0 where
+pub record LeadsByReductions (m : Machine) (t : ℕ) (stack last : List Level) : Type 0 where
   pub alike : FeedAlike m t last stack
   pub count : ℕ
   pub moves : ReducesTo m t (states_on stack) count (states_on last)
@@ -64,7 +64,7 @@ pub record Leads (m : Machine) (t : ℕ) (stack last : List Level) : Type 0 wher
 pub record LeadsByRule (m : Machine) (number t : ℕ) (stack last : List Level) : Type 0 where
   pub next : List Level
   pub makes : reduce_by m number stack (rule_at m number) ≡ goes_on next
-  pub leads : Leads m t next last
+  pub leads : LeadsByReductions m t next last
 
 -- a reduction before the terminal fails, or leads to a stack from which each token of the terminal does
 pub data FailsByRule (m : Machine) (number t : ℕ) (stack : List Level) : Type 0 where

@@ -1,7 +1,7 @@
 -- An automaton that was put together from a program.
 use Rattle.std.specs.Prelude.{◌≡◌, ℕ, List, Option}
 use Rattle.ly_ere.specs.declared.pattern.Rule.{Rule}
-use Rattle.ly_position.specs.Private.Program.{Step}
+use Rattle.ly_position.specs.Private.Program.{ProgramStep}
 use Rattle.ly_position.specs.Private.Link.{IsLinkOf}
 use Rattle.ly_position.specs.Private.Starts.{StartsAt}
 use Rattle.ly_position.specs.Nfa.{Nfa}
@@ -11,7 +11,7 @@ use Rattle.ly_position.specs.declared.nfa.Slot.{Slot}
 use Rattle.ly_position.specs.declared.nfa.Target.{Target}
 
 -- its positions and forks are those of the program, its start lists those of rules
-pub record Assembled (g : List Step) (rules : List Rule) (entries : List (Option ℕ)) (conditions : ℕ)
+pub record Assembled (g : List ProgramStep) (rules : List Rule) (entries : List (Option ℕ)) (conditions : ℕ)
     (nfa : Nfa) : Type 0 where
   pub targets : List Target
   pub slots : List Slot

@@ -4,13 +4,13 @@ use Rattle.std.specs.Prelude.{Option, Some, None}
 use Rattle.ly_ere.specs.Expression.{Expression, set, empty, concat, either, star, plus, optional, repeat, name}
 use Rattle.ly_ere.specs.Arena.{part_of}
 use Rattle.ly_position.specs.Private.Plain.{IsPlainPart}
-use Rattle.ly_position.specs.Private.Program.{Step, ends, fork, size, entry, code, HasCode}
+use Rattle.ly_position.specs.Private.Program.{ProgramStep, ends, fork, size, entry, code, HasCode}
 use Rattle.ly_position.specs.Private.Reach.{StaysInside}
 use Rattle.ly_position.specs.declared.program.Task.{Task}
 use Rattle.ly_position.specs.declared.program.Task.TheVariants as task
 
 -- the steps of a task at a place
-abbrev pub task_steps : List Expression → Task → ℕ → List Step
+abbrev pub task_steps : List Expression → Task → ℕ → List ProgramStep
 task_steps es (task.Code p next) base = code (part_of es p) base next
 task_steps es (task.Fork a b) base = fork a b ∷ []
 
@@ -20,7 +20,7 @@ task_size es (task.Code p next) = size (part_of es p)
 task_size es (task.Fork a b) = 1
 
 -- the steps of tasks, one after another
-abbrev pub planned : List Expression → List Task → ℕ → List Step
+abbrev pub planned : List Expression → List Task → ℕ → List ProgramStep
 planned es [] base = []
 planned es (t ∷ ts) base = task_steps es t base ++ planned es ts (base + task_size es t)
 
@@ -57,13 +57,13 @@ base_of rule zero = 0
 base_of rule (suc n) = base_of rule n + rule_size (rule n)
 
 -- the end of rule k stands at base, its code behind it, and this is where it begins
-abbrev pub RuleStands : List Step → Option Expression → Option ℕ → ℕ → ℕ → Type 0
+abbrev pub RuleStands : List ProgramStep → Option Expression → Option ℕ → ℕ → ℕ → Type 0
 RuleStands g None begin k base = begin ≡ None
 RuleStands g (Some e) begin k base = (slice_get g base ≡ Some (ends k)) × HasCode g e (base + 1) base
     × (begin ≡ Some (entry (base + 1) (size e) base))
 
 -- The program of the expressions of n rules, one after another, and where each begins.
-pub record IsProgram (rule : ℕ → Option Expression) (n : ℕ) (program : List Step) (entries : List (Option ℕ))
+pub record IsProgram (rule : ℕ → Option Expression) (n : ℕ) (program : List ProgramStep) (entries : List (Option ℕ))
     : Type 0 where
   pub closed : StaysInside program
   pub within : All (IsPlainPart (length program)) entries

@@ -9,23 +9,23 @@ use Rattle.ly_position.specs.declared.program.Instruction.{Instruction}
 use Rattle.ly_position.specs.declared.program.Instruction.TheVariants.{Read, Fork, End}
 
 -- a step: one of some bytes and then a step, either of two steps, or the end of a rule
-pub data Step : Type 0 where
-  reads : List ℕ → ℕ → Step
-  fork : ℕ → ℕ → Step
-  ends : ℕ → Step
+pub data ProgramStep : Type 0 where
+  reads : List ℕ → ℕ → ProgramStep
+  fork : ℕ → ℕ → ProgramStep
+  ends : ℕ → ProgramStep
 
 -- the step of an instruction
-abbrev pub step_of : Instruction → Step
+abbrev pub step_of : Instruction → ProgramStep
 step_of (Read bytes next) = reads (members bytes) next
 step_of (Fork a b) = fork a b
 step_of (End rule) = ends rule.0
 
 -- the steps of a program in memory
-abbrev pub steps_of : List Instruction → List Step
+abbrev pub steps_of : List Instruction → List ProgramStep
 steps_of code = map step_of code
 
 -- from step p the program reads w to an end of rule i, in n moves
-pub data Runs (program : List Step) (i : ℕ) : ℕ → ℕ → List ℕ → Type 0 where
+pub data Runs (program : List ProgramStep) (i : ℕ) : ℕ → ℕ → List ℕ → Type 0 where
   at_end : {p : ℕ} → slice_get program p ≡ Some (ends i) → Runs program i zero p []
   by_read : {n p b q : ℕ} {bytes w : List ℕ} → slice_get program p ≡ Some (reads bytes q) → Contains bytes b
       → Runs program i n q w → Runs program i (suc n) p (b ∷ w)
@@ -52,7 +52,7 @@ entry base zero next = next
 entry base (suc n) next = base + n
 
 -- the code of an expression without names and intervals that stands at base and goes on at next
-abbrev pub code : Expression → ℕ → ℕ → List Step
+abbrev pub code : Expression → ℕ → ℕ → List ProgramStep
 code (set bytes) base next = reads bytes next ∷ []
 code empty base next = []
 code (concat r s) base next = code s base next ++ code r (base + size s) (entry base (size s) next)
@@ -66,7 +66,7 @@ code (repeat m n r) base next = []
 code (name x) base next = []
 
 -- the program has the code of the expression at base
-abbrev pub HasCode : List Step → Expression → ℕ → ℕ → Type 0
+abbrev pub HasCode : List ProgramStep → Expression → ℕ → ℕ → Type 0
 HasCode g (set bytes) base next = slice_get g base ≡ Some (reads bytes next)
 HasCode g empty base next = Unit {0}
 HasCode g (concat r s) base next = HasCode g s base next × HasCode g r (base + size s) (entry base (size s) next)

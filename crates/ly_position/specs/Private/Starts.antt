@@ -3,7 +3,7 @@ use Rattle.std.specs.Prelude.{◌≡◌, ◌↔◌, ◌⊎◌, ℕ, ◌+◌, ◌
 use Rattle.std.specs.Prelude.{slice_index_or, All, Bool, if◌then◌else◌, IsTrue, Contains, Option, Some, None}
 use Rattle.ly_ere.specs.declared.pattern.Rule.{Rule}
 use Rattle.ly_ere.specs.Winner.{IsActive}
-use Rattle.ly_position.specs.Private.Program.{Step}
+use Rattle.ly_position.specs.Private.Program.{ProgramStep}
 use Rattle.ly_position.specs.Private.Link.{IsReachList}
 
 -- the number of the list of a condition, where a line begins or elsewhere
@@ -58,7 +58,7 @@ pub record AreRoots (rules : List Rule) (entries : List (Option ℕ)) (numbers :
       ↔ BeginsIn rules entries numbers c line e
 
 -- for each condition the positions at which its rules may begin
-pub record StartsAt (g : List Step) (rules : List Rule) (entries : List (Option ℕ)) (conditions : ℕ)
+pub record StartsAt (g : List ProgramStep) (rules : List Rule) (entries : List (Option ℕ)) (conditions : ℕ)
     (starts : List (List ℕ)) : Type 0 where
   pub count : length starts ≡ 2 * conditions
   pub each : (k : ℕ) → k < length starts → (roots : List ℕ) × IsReachList g roots (slice_index_or starts k [])

@@ -3,7 +3,7 @@ use Rattle.std.specs.Prelude.{◌≡◌, ◌↔◌, ◌⊎◌, ℕ, ◌<◌, Lis
 use Rattle.ly_lr0.specs.Automaton.{Automaton, prefix_of}
 use Rattle.ly_resolve.specs.Actions.{Action, Judge, IsAction, IsRaw}
 use Rattle.ly_resolve.specs.Conflicts.{Conflict, IsBefore, IsCounted}
-use Rattle.ly_resolve.specs.Resolved.{Entry}
+use Rattle.ly_resolve.specs.Resolved.{TerminalAction}
 
 -- the entry of state k before terminal u comes before that of state s before terminal t
 abbrev pub IsPast : ℕ → ℕ → ℕ → ℕ → Type 0
@@ -30,9 +30,9 @@ pub record AreTold (M : Automaton) (judge : Judge) (s t : ℕ) (cs : List Confli
   pub free : IsTrue single ↔ AreSingle M s t
 
 -- The entries of a state before the first terminals.
-pub record AreEntries (M : Automaton) (judge : Judge) (s t : ℕ) (row : List Entry) : Type 0 where
+pub record AreEntries (M : Automaton) (judge : Judge) (s t : ℕ) (row : List TerminalAction) : Type 0 where
   pub ordered : AllPairs (λ x y. x.terminal < y.terminal) row
-  pub are : (x : Entry) → Contains row x
+  pub are : (x : TerminalAction) → Contains row x
       ↔ ((x.terminal < t) × IsAction M.grammar judge (prefix_of M s) x.terminal x.action)
   pub whole : (u : ℕ) (a : Action) → u < t → IsRaw M.grammar (prefix_of M s) u a
       → (b : Action) × IsAction M.grammar judge (prefix_of M s) u b

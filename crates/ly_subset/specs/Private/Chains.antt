@@ -1,6 +1,6 @@
 -- Chains of positions: after each, just the ones before it may come, down to where the chain begins.
 use Rattle.std.specs.Prelude.{◌≡◌, ◌↔◌, ℕ, ◌+◌, ◌<◌, ◌≤◌, List, length, slice_index_or, Contains}
-use Rattle.ly_position.specs.Nfa.{Nfa, Follows, Reads, Stepped}
+use Rattle.ly_position.specs.Nfa.{Nfa, Follows, ReadsByte, Stepped}
 use Rattle.ly_subset.specs.Private.Packed.{run_of}
 use Rattle.ly_subset.specs.declared.chains.Span.{Span}
 
@@ -17,13 +17,13 @@ pub record AreChains (nfa : Nfa) (firsts : List ℕ) : Type 0 where
 
 -- none of the positions reads the byte
 abbrev pub ReadsNone : Nfa → List ℕ → ℕ → Type 0
-ReadsNone nfa ps b = (p : ℕ) → Contains ps p → Reads nfa p b → ⊥
+ReadsNone nfa ps b = (p : ℕ) → Contains ps p → ReadsByte nfa p b → ⊥
 
 -- the position is one of some, reads the byte, and is the last of them that does
 pub record IsLastReader (nfa : Nfa) (ps : List ℕ) (b last : ℕ) : Type 0 where
   pub is_one : Contains ps last
-  pub reads : Reads nfa last b
-  pub above : (p : ℕ) → Contains ps p → Reads nfa p b → p ≤ last
+  pub reads : ReadsByte nfa last b
+  pub above : (p : ℕ) → Contains ps p → ReadsByte nfa p b → p ≤ last
 
 -- the span is that of the positions that may come after some once the byte is read
 pub record IsSpanAfter (nfa : Nfa) (ps : List ℕ) (b : ℕ) (span : Span) : Type 0 where

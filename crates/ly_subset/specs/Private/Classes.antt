@@ -2,7 +2,7 @@
 use Rattle.std.specs.Prelude.{◌≡◌, ◌↔◌, ℕ, suc, ◌+◌, ◌*◌, ◌<◌, ◌≤◌, List, length, slice_index_or, Bool, false, Option}
 use Rattle.std.specs.Prelude.{Some, None, if◌then◌else◌}
 use Rattle.ly_base.specs.ByteSet.{has}
-use Rattle.ly_position.specs.Nfa.{Nfa, Reads}
+use Rattle.ly_position.specs.Nfa.{Nfa, ReadsByte}
 use Rattle.ly_position.specs.declared.nfa.Position.{Position}
 use Rattle.ly_position.specs.declared.nfa.Position.TheVariants as position
 use Rattle.ly_subset.specs.Automaton.{entry_at}
@@ -33,9 +33,9 @@ pub record IsSplit (old : List ℕ) (test : ℕ → Bool) (new : List ℕ) : Typ
 pub record IsSplitBy (nfa : Nfa) (n : ℕ) (class_of : List ℕ) : Type 0 where
   pub bytes : length class_of ≡ 256
   pub same : (a b : ℕ) → a < 256 → b < 256
-      → (class_at class_of a ≡ class_at class_of b) ↔ ((p : ℕ) → p < n → Reads nfa p a ↔ Reads nfa p b)
+      → (class_at class_of a ≡ class_at class_of b) ↔ ((p : ℕ) → p < n → ReadsByte nfa p a ↔ ReadsByte nfa p b)
   pub in_order : AreOrdered class_of
-  pub read : (p b : ℕ) → p < n → Reads nfa p b → b < 256
+  pub read : (p b : ℕ) → p < n → ReadsByte nfa p b → b < 256
 
 -- what a byte is renamed by: its class, and whether it passes the test
 abbrev pub key_by : List ℕ → (ℕ → Bool) → ℕ → ℕ

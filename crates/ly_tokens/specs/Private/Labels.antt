@@ -2,7 +2,7 @@
 use Rattle.std.specs.Prelude.{◌≡◌, ◌<◌, ℕ, List, slice_get, slice_index, Option, Some, None}
 use Rattle.std.specs.Prelude.{map, option_and_then, option_map}
 use Rattle.ly_base.specs.Text.{before_leaf, literal, token}
-use Rattle.ly_lexread.specs.declared.action.Action.{Action}
+use Rattle.ly_lexread.specs.declared.action.LexAction.{LexAction}
 use Rattle.ly_lexread.specs.declared.action.Returned.{Returned}
 use Rattle.ly_lexread.specs.declared.action.Returned.TheVariants as returned
 use Rattle.ly_tokens.specs.Printing.{naming}
@@ -17,8 +17,8 @@ label_for (returned.Literal b) = Own (before_leaf (literal b))
 label_for returned.FirstByte = OfFirstByte
 
 -- the labels are those of these actions, one by one
-abbrev pub AreRuleLabels : List Action → List RuleLabel → Type 0
-AreRuleLabels actions labels = labels ≡ map (λ (a : Action). label_for a.returns) actions
+abbrev pub AreRuleLabels : List LexAction → List RuleLabel → Type 0
+AreRuleLabels actions labels = labels ≡ map (λ (a : LexAction). label_for a.returns) actions
 
 -- the labels are those of the bytes' literals, in the order of the bytes
 abbrev pub AreLiteralLabels : List (List ℕ) → Type 0
@@ -31,7 +31,7 @@ label_by literals bytes (Own label) = Some label
 label_by literals bytes OfFirstByte = slice_get literals (slice_index bytes 0)
 
 -- the label that is found for a rule's token is what stands before its text
-abbrev pub AreLabels : List Action → List RuleLabel → List (List ℕ) → Type 0
+abbrev pub AreLabels : List LexAction → List RuleLabel → List (List ℕ) → Type 0
 AreLabels actions rules literals = (rule : ℕ) (bytes : List ℕ) → slice_index bytes 0 < 256
     → option_and_then (label_by literals bytes) (slice_get rules rule)
     ≡ option_map before_leaf (naming actions rule bytes)

@@ -3,12 +3,12 @@ use Rattle.std.specs.Prelude.{◌≡◌, ◌<◌, ℕ, List, [], ◌∷◌, Bool
 use Rattle.ly_base.specs.Lexed.{Lexed, start_of}
 use Rattle.ly_base.specs.declared.lexeme.End.{End}
 use Rattle.ly_base.specs.declared.lexeme.Lexeme.{Lexeme}
-use Rattle.ly_lexread.specs.declared.action.Action.{Action}
+use Rattle.ly_lexread.specs.declared.action.LexAction.{LexAction}
 use Rattle.ly_scan.specs.Lexer.{IsLexemeAt, ScanEndsAt, Scanner}
 use Rattle.ly_tokens.specs.Printing.{condition_set}
 
 -- the run over a text ends so
-abbrev pub EndsSo : Scanner → List Action → List ℕ → End → Type 0
+abbrev pub EndsSo : Scanner → List LexAction → List ℕ → End → Type 0
 EndsSo s actions text e = (ts : List Lexeme)
     × Lexed (IsLexemeAt s) (ScanEndsAt s) (condition_set actions) (start_of text) ts e
 
@@ -22,5 +22,5 @@ BeginsEverywhere s conditions = (condition b : ℕ) (line : Bool) → condition 
     → HasRule s condition line b
 
 -- the actions set conditions below a number
-abbrev pub AreSetBelow : List Action → ℕ → Type 0
+abbrev pub AreSetBelow : List LexAction → ℕ → Type 0
 AreSetBelow actions conditions = (i c : ℕ) → condition_set actions i ≡ Some c → c < conditions

@@ -1,24 +1,24 @@
 -- The lines of a run from a place on, and how many bytes they have at most.
 use Rattle.std.specs.Prelude.{◌≡◌, ◌<◌, ◌≤◌, ◌+◌, ◌*◌, ◌^◌, ℕ, List, ◌++◌, All, Bool, Option, None, true, false, length}
-use Rattle.ly_base.specs.Lexed.{Leads, Lexed, Place, tokens_from}
+use Rattle.ly_base.specs.Lexed.{LexedTo, Lexed, Place, tokens_from}
 use Rattle.ly_base.specs.declared.lexeme.End.{End}
 use Rattle.ly_base.specs.declared.lexeme.Lexeme.{Lexeme}
-use Rattle.ly_lexread.specs.declared.action.Action.{Action}
+use Rattle.ly_lexread.specs.declared.action.LexAction.{LexAction}
 use Rattle.ly_lexread.specs.declared.action.Returned.{Returned}
 use Rattle.ly_lexread.specs.declared.action.Returned.TheVariants.{Nothing, Token}
 use Rattle.ly_scan.specs.Lexer.{IsLexemeAt, ScanEndsAt, Scanner}
 use Rattle.ly_tokens.specs.Printing.{condition_set, end_line, naming, printed}
 
 -- from the place the text is lexed to this end, and these are the lines of its tokens, the last one included
-abbrev pub AreLines : Scanner → List Action → Place → End → List ℕ → Type 0
+abbrev pub AreLines : Scanner → List LexAction → Place → End → List ℕ → Type 0
 AreLines s actions p e lines =
     (ts : List Lexeme) × Lexed (IsLexemeAt s) (ScanEndsAt s) (condition_set actions) p ts e
     × (lines ≡ printed (tokens_from (naming actions) p.at p.rest ts) ++ end_line e)
 
 -- the lexemes from p lead to q, and the lines of their tokens are these
-abbrev pub SoFar : List Action → Scanner → Place → Place → List ℕ → Type 0
+abbrev pub SoFar : List LexAction → Scanner → Place → Place → List ℕ → Type 0
 SoFar actions s p q lines =
-    (ts : List Lexeme) × Leads (IsLexemeAt s) (condition_set actions) p ts q
+    (ts : List Lexeme) × LexedTo (IsLexemeAt s) (condition_set actions) p ts q
     × (lines ≡ printed (tokens_from (naming actions) p.at p.rest ts))
 
 -- no condition is set, and nothing is returned
@@ -27,7 +27,7 @@ is_no_effect None Nothing = true
 is_no_effect _ _ = false
 
 -- the lexemes of a rule with this action are passed over
-abbrev pub is_passed : Action → Bool
+abbrev pub is_passed : LexAction → Bool
 is_passed a = is_no_effect a.begin a.returns
 
 -- how long the name of a token is that an action returns
@@ -40,7 +40,7 @@ abbrev pub bytes_each : ℕ → ℕ
 bytes_each longest = longest + 16
 
 -- the lines of so many bytes can be counted
-abbrev pub AreCountable : List Action → ℕ → Type 0
+abbrev pub AreCountable : List LexAction → ℕ → Type 0
 AreCountable actions bytes =
-    (longest : ℕ) × All (λ (a : Action). name_len a.returns ≤ longest) actions
+    (longest : ℕ) × All (λ (a : LexAction). name_len a.returns ≤ longest) actions
     × (bytes * bytes_each longest + 64 < 2 ^ 64)

@@ -2,7 +2,8 @@
 use Rattle.std.specs.Prelude.{◌≡◌, ◌≢◌, ℕ, List, [], map}
 use Rattle.ly_base.specs.Gap.{Gap}
 use Rattle.ly_base.specs.declared.language.Language.TheVariants.{Yacc}
-use Rattle.ly_yaccread.specs.Words.{Word, mark, directive, name, number, literal, block, braces, other, Begins, Front}
+use Rattle.ly_yaccread.specs.Words.{Word, mark, directive, name, number, literal, block, braces, other, Begins}
+use Rattle.ly_yaccread.specs.Words.{HasInFront}
 use Rattle.ly_yaccread.specs.Words.{Takes}
 use Rattle.ly_yaccread.specs.declared.part.Part.{Part}
 use Rattle.ly_yaccread.specs.declared.words.NextWord.{NextWord}
@@ -29,8 +30,8 @@ IsWordAt text w rest = Begins text (word_of w) rest
 -- what stands at the front of a text
 abbrev pub IsFront : List ℕ → NextWord → List ℕ → Type 0
 IsFront text End rest = Gap Yacc text
-IsFront text Other rest = (Gap Yacc text → ⊥) × ((x : Word) (s : List ℕ) → Front text x s → ⊥)
-IsFront text w rest = Front text (word_of w) rest
+IsFront text Other rest = (Gap Yacc text → ⊥) × ((x : Word) (s : List ℕ) → HasInFront text x s → ⊥)
+IsFront text w rest = HasInFront text (word_of w) rest
 
 -- what stands at the front of a text in this part of a file
 abbrev pub IsPartWord : Part → List ℕ → NextWord → List ℕ → Type 0

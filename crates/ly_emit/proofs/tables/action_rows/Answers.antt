@@ -3,7 +3,7 @@ use Rattle.ly_lr0.specs.Automaton.{state_at}
 use Rattle.ly_lr0.proofs.StateLemmas.{state_there}
 use Rattle.ly_resolve.specs.Precedence.{judge_of}
 use Rattle.ly_resolve.specs.Resolved.{IsRow}
-use Rattle.ly_resolve.specs.Values.{entry_from}
+use Rattle.ly_resolve.specs.Values.{terminal_action_from}
 use Rattle.ly_resolve.proofs.RawLemmas.{prefix_at}
 use Rattle.ly_emit.proofs.tables.action_rows.Goals as goal
 
@@ -16,6 +16,6 @@ fill_actions-requires-clause-row c =
     let test = c.loop-state-test.true in
     let lt : k < length M.states = omega (arith, test, count, same) in
     let there = state_there M k lt in
-    subst (λ g. IsRow M.grammar (judge_of c.args.resolved.now.spec) g (map entry_from c.row.result.now))
+    subst (λ g. IsRow M.grammar (judge_of c.args.resolved.now.spec) g (map terminal_action_from c.row.result.now))
     (sym (prefix_at M k (state_at M k) there))
-    (c.spec.ensures.resolved.rows k (state_at M k) (map entry_from c.row.result.now) there c.row.ensures)
+    (c.spec.ensures.resolved.rows k (state_at M k) (map terminal_action_from c.row.result.now) there c.row.ensures)

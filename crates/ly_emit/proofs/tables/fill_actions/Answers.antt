@@ -9,7 +9,7 @@ use Rattle.ly_pack.specs.Rows.{dense_entry}
 use Rattle.ly_pack.specs.Values.{action_from as entry_action}
 use Rattle.ly_resolve.specs.Actions.{IsRaw, shift}
 use Rattle.ly_resolve.specs.Precedence.{judge_of}
-use Rattle.ly_resolve.specs.Values.{action_from, entry_from}
+use Rattle.ly_resolve.specs.Values.{action_from, terminal_action_from}
 use Rattle.ly_resolve.specs.declared.action.Action.TheVariants.{Shift}
 use Rattle.ly_emit.specs.Private.Filling.{IsActionAt, IsAskedAt}
 use Rattle.ly_emit.specs.Tables.{IsEntryFor}
@@ -71,10 +71,10 @@ loop-entry-preserved c =
       seen = λ j y lt at none. let before = put_none old new k t a put k y.terminal none in
           elim (cases_eq j i) [
             | inl same ↦
-                let one : Some y ≡ Some (entry_from x)
-                = sym at ∙ (ap (slice_get (map entry_from row)) same
+                let one : Some y ≡ Some (terminal_action_from x)
+                = sym at ∙ (ap (slice_get (map terminal_action_from row)) same
                 ∙ entry_there row i (record { terminal = record { 0 = 0 }; action = Shift }) c.loop-entry-test.true) in
-                let is : y ≡ entry_from x = cc in
+                let is : y ≡ terminal_action_from x = cc in
                 before.1 refl (ap (λ z. z.terminal) is)
             | inr off ↦ inv.seen j y (omega (arith, lt, off)) at before.0
           ];
@@ -90,8 +90,9 @@ returns-clause-filled c =
     let past = c.loop-entry-test.false in
     filled_more (IsActionAt M judge) (IsAskedAt M) (dense_entry c.loop-entry.actions) k inv.filled (λ t none asked.
     let b = c.requires.row.whole t asked.0 asked.1 in
-    let place = placed (map entry_from row) (record { terminal = t; action = b.0 })
+    let place = placed (map terminal_action_from row) (record { terminal = t; action = b.0 })
     ((c.requires.row.are (record { terminal = t; action = b.0 })).1 b.1) in
-    let within = slice_get_within (map entry_from row) place.0 (record { terminal = t; action = b.0 }) place.1 in
-    let long = length-map row entry_from in
+    let within
+    = slice_get_within (map terminal_action_from row) place.0 (record { terminal = t; action = b.0 }) place.1 in
+    let long = length-map row terminal_action_from in
     inv.seen place.0 (record { terminal = t; action = b.0 }) (omega (arith, within, long, past)) place.1 none)

@@ -7,7 +7,7 @@ use Rattle.ly_ere.specs.Private.Definitions.{ArePlacing, expression_at}
 use Rattle.ly_ere.specs.Private.Uses.{number_for, renumbered}
 use Rattle.ly_ere.specs.Names.{defined}
 use Rattle.ly_ere.specs.Weight.{weight_of}
-use Rattle.ly_ere.specs.declared.definitions.Texts.{Texts}
+use Rattle.ly_ere.specs.declared.definitions.DefinitionTexts.{DefinitionTexts}
 use Rattle.ly_ere.proofs.DefinitionLemmas.{light_more, place_there, placed_all, placed_next, placed_step}
 use Rattle.ly_ere.proofs.DefinitionLemmas.{placing_none, read_spelled, refused_heavy}
 use Rattle.ly_ere.proofs.SoundLemmas.{expression_sound}
@@ -52,7 +52,8 @@ bounds-list-place c = place_there c.args.list.now c.requires.distinct c.args.tex
     c.args.order.now c.requires.in_turn c.loop-number.number c.loop-number-test.true
 
 -- the expression has the numbers of those that are placed
-numbered : (t : Texts) (n : ℕ) (e : Expression) (r : Expression) (ns ms : List ℕ) → n < length t.expressions.items
+numbered : (t : DefinitionTexts) (n : ℕ) (e : Expression) (r : Expression) (ns ms : List ℕ)
+    → n < length t.expressions.items
     → e ≡ get_or t.expressions.items n e → ms ≡ ns → r ≡ renumbered (number_for ms) e
     → r ≡ renumbered (number_for ns) (expression_at t n)
 numbered t n e r ns ms l at numbers is = is ∙ ap₂ (λ ks f. renumbered (number_for ks) f) numbers

@@ -7,18 +7,19 @@ use Rattle.ly_ere.specs.Private.Definitions.{AreRead, text_uses}
 use Rattle.ly_ere.specs.Definitions.{known_names}
 use Rattle.ly_ere.specs.Private.Turns.{ArePut}
 use Rattle.ly_ere.specs.declared.definitions.Refusal.{Refusal}
-use Rattle.ly_ere.specs.declared.definitions.Texts.{Texts}
+use Rattle.ly_ere.specs.declared.definitions.DefinitionTexts.{DefinitionTexts}
 use Rattle.ly_ere.specs.declared.fault.EreFault.TheVariants.{NameCycle}
 use Rattle.ly_ere.specs.declared.turns.InTurn.{InTurn}
 use Rattle.ly_ere.proofs.DefinitionLemmas.{refused_cycle, refused_text}
 use Rattle.ly_ere.proofs.definitions.read_and_place.Goals as goal
 
 -- the lists as they are put in order
-put : (t : Texts) (us : List (Vec ℕ Global)) (p : InTurn) → us ≡ t.uses.items
+put : (t : DefinitionTexts) (us : List (Vec ℕ Global)) (p : InTurn) → us ≡ t.uses.items
     → ArePut (map (λ (v : Vec ℕ Global). v.items) us) p → ArePut (text_uses t) p
 put t us p is h = subst (λ (vs : List (Vec ℕ Global)). ArePut (map (λ (v : Vec ℕ Global). v.items) vs) p) is h
 
-refused : (most : ℕ) (list : List DefinedText) → AreDistinct list → (t : Texts) → AreRead (known_names list) list t
+refused : (most : ℕ) (list : List DefinedText) → AreDistinct list → (t : DefinitionTexts)
+    → AreRead (known_names list) list t
     → (p : InTurn) → ArePut (text_uses t) p → (r : Refusal)
     → (t.refusal ≡ Some r) ⊎ ((p.left ≡ Some r.place) × (r.fault ≡ NameCycle)) → AreRefused most list r.place r.fault
 refused most list distinct t a p h r (inl is) = refused_text most list distinct r (a.refusal r is)
@@ -34,7 +35,8 @@ returns-in-Some-clause-refused c = refused c.args.limits.now.pattern_weight (nam
     (put c.in_ok-texts.texts c.deref.result.now c.in_ok-turns.turns c.deref.ensures.value c.in_ok-turns.ensures)
     c.in-Some.refusal (c.first_refusal.ensures.some c.in-Some.refusal c.in-Some.is)
 
-all : (list : List DefinedText) (t : Texts) → AreRead (known_names list) list t → (p : InTurn) → ArePut (text_uses t) p
+all : (list : List DefinedText) (t : DefinitionTexts) → AreRead (known_names list) list t → (p : InTurn)
+    → ArePut (text_uses t) p
     → p.left ≡ None → (n : ℕ) → n < length list → Contains p.order.items n
 all list t a p h is n l =
     let left = subst (λ o. MatchOption o ((n : ℕ) → n < length (text_uses t) → Contains p.order.items n)

@@ -1,14 +1,14 @@
 use Rattle.std.proofs.Common.{Some, length}
 use Rattle.std.specs.Prelude.{All}
 use Rattle.std.proofs.lemmas.List.Elements.{All-pop}
-use Rattle.ly_ere.specs.Private.Levels.{IsWithin}
+use Rattle.ly_ere.specs.Private.Levels.{ArePartsBelow}
 use Rattle.ly_ere.proofs.LevelLemmas.{close_step, grows_trans, within_grown}
 use Rattle.ly_ere.proofs.read.close.Goals as goal
 
 -- the parts of the groups round the last one, and of that one
-around : (c : goal.In_ok-with_atom) → All (IsWithin (length c.args.arena.now)) c.pop.new.self.items
-    × IsWithin (length c.args.arena.now) c.in-Some.around
-around c = All-pop (IsWithin (length c.args.arena.now)) c.args.outer.now.items c.pop.new.self.items
+around : (c : goal.In_ok-with_atom) → All (ArePartsBelow (length c.args.arena.now)) c.pop.new.self.items
+    × ArePartsBelow (length c.args.arena.now) c.in-Some.around
+around c = All-pop (ArePartsBelow (length c.args.arena.now)) c.args.outer.now.items c.pop.new.self.items
     (Some c.in-Some.around) c.in-Some.ensures.items c.requires.outer_parts
 
 pub returns-clause-outer_parts : goal.returns-clause-outer_parts

@@ -1,6 +1,6 @@
 use Rattle.std.proofs.Common.{◌≤◌, ◌-◌, drop, length}
 use Rattle.std.specs.Prelude.{All}
-use Rattle.ly_ere.specs.Private.Levels.{IsWithin, reading_of}
+use Rattle.ly_ere.specs.Private.Levels.{ArePartsBelow, reading_of}
 use Rattle.ly_ere.proofs.ReadLemmas.{IsRead}
 use Rattle.ly_ere.proofs.read.read_expression.Given as goal
 
@@ -8,8 +8,8 @@ use Rattle.ly_ere.proofs.read.read_expression.Given as goal
 abbrev pub invariant-loop-arena : goal.invariant-loop-arena
 invariant-loop-arena l = record {
   within : l.at ≤ length l.line;
-  parts : IsWithin (length l.arena) l.level;
-  outer_parts : All (IsWithin (length l.arena)) l.outer.items;
+  parts : ArePartsBelow (length l.arena) l.level;
+  outer_parts : All (ArePartsBelow (length l.arena)) l.outer.items;
   read : IsRead l.names l.line (drop l.at l.line) (reading_of l.arena l.outer.items l.level);
 }
 

@@ -11,7 +11,7 @@ use Rattle.ly_ere.specs.Expression.{Expression, name, set}
 use Rattle.ly_ere.specs.Grammar.{in_order}
 use Rattle.ly_ere.specs.Names.{Definition, number_of}
 use Rattle.ly_ere.specs.Private.Groups.{Reading, inside, step, with_bar, with_interval, with_name, with_postfix}
-use Rattle.ly_ere.specs.Private.Levels.{IsExtended, IsWithin, group_of, operated, reading_of}
+use Rattle.ly_ere.specs.Private.Levels.{IsExtended, ArePartsBelow, group_of, operated, reading_of}
 use Rattle.ly_ere.specs.Private.Elements.{operator_element}
 use Rattle.ly_ere.specs.Elements.{one_of, string, named, interval, opening, closing, bar}
 use Rattle.ly_ere.proofs.LevelLemmas.{atom_step, grows_push, grows_trans, inside_step, open_step, part_last}
@@ -26,7 +26,7 @@ step_postfix names QuestionMark r = refl
 
 operator_step : (names : List Definition) (p : Postfix) (old new : List Expression) (items : List Level)
     (level l : Level) → IsExtended old new
-    → All (IsWithin (length old)) items → with_postfix (group_of old level) (operated p) ≡ Some (group_of new l)
+    → All (ArePartsBelow (length old)) items → with_postfix (group_of old level) (operated p) ≡ Some (group_of new l)
     → step names (operator_element p) (reading_of old items level) ≡ Some (reading_of new items l)
 operator_step names p old new items level l g parts e = step_postfix names p (reading_of old items level)
     ∙ inside_step old new items l (with_postfix (group_of old level) (operated p)) g parts e
@@ -97,7 +97,7 @@ returns-in_ok-push-in-Opening-clause-parts c = c.new.ensures.parts _
 pub returns-in_ok-push-in-Opening-clause-outer_parts : goal.returns-in_ok-push-in-Opening-clause-outer_parts
 returns-in_ok-push-in-Opening-clause-outer_parts c
     = rw c.in_ok-push-in-Opening.ensures.items
-    (All-push (IsWithin (length c.args.arena.now)) c.args.outer.now.items c.args.level c.requires.outer_parts
+    (All-push (ArePartsBelow (length c.args.arena.now)) c.args.outer.now.items c.args.level c.requires.outer_parts
     c.requires.parts)
 
 pub returns-in_ok-push-in-Opening-clause-step : goal.returns-in_ok-push-in-Opening-clause-step

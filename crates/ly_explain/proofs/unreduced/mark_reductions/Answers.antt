@@ -1,6 +1,6 @@
 use Rattle.std.proofs.Common.{◌≡◌}
 use Rattle.ly_resolve.specs.declared.action.Action.TheVariants.{Shift}
-use Rattle.ly_resolve.specs.declared.action.Entry as code
+use Rattle.ly_resolve.specs.declared.action.TerminalAction as code
 use Rattle.ly_explain.specs.Private.Reductions.{ReducesAt}
 use Rattle.ly_explain.proofs.MarkLemmas.{added_as, step_added, step_nothing}
 use Rattle.ly_explain.proofs.ReductionLemmas.{entry_reduces, no_entry_reduces, row_marked}
@@ -8,7 +8,7 @@ use Rattle.ly_explain.proofs.unreduced.mark_reductions.Goals as goal
 use Rattle.ly_explain.proofs.unreduced.mark_reductions.Goals.{in-Reduce, in_default}
 
 -- what stands where no entry does
-abbrev no_entry : code.Entry
+abbrev no_entry : code.TerminalAction
 no_entry = record { terminal = record { 0 = 0 }; action = Shift }
 
 pub loop-entry-preserved : goal.loop-entry-preserved

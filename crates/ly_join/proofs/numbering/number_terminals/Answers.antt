@@ -4,7 +4,7 @@ use Rattle.ly_yaccread.specs.File.{declared_of, ruling_of}
 use Rattle.ly_join.specs.Numbering.{declared_terminals, first_appearances, rule_literals}
 use Rattle.ly_join.specs.Private.Numbering.{with_all}
 use Rattle.ly_join.specs.Private.Tables.{terminal_of}
-use Rattle.ly_join.specs.Terminals.{Terminal, end, undefined, same_terminal}
+use Rattle.ly_join.specs.Terminals.{TerminalName, end, undefined, same_terminal}
 use Rattle.ly_join.proofs.CountLemmas.{declared_words}
 use Rattle.ly_join.proofs.ListLemmas.{flat_more, mapped_all}
 use Rattle.ly_join.proofs.NumberingLemmas.{all_append, first_append}
@@ -12,7 +12,7 @@ use Rattle.ly_join.proofs.TableLemmas.{same_itself, same_sound}
 use Rattle.ly_join.proofs.numbering.number_terminals.Goals as goal
 
 -- the end of the text and what the grammar doesn't name
-abbrev two : List Terminal
+abbrev two : List TerminalName
 two = end ∷ undefined ∷ []
 
 pub loop-declaration-preserved : goal.loop-declaration-preserved

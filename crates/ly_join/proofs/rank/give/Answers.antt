@@ -5,7 +5,7 @@ use Rattle.std.proofs.lemmas.Option.{slice_get_within}
 use Rattle.ly_join.specs.Precedences.{IsGivenTwice}
 use Rattle.ly_join.specs.Private.Rules.{AreGiven}
 use Rattle.ly_join.specs.Private.Tables.{terminal_of}
-use Rattle.ly_join.specs.Terminals.{terminal_from, Terminal}
+use Rattle.ly_join.specs.Terminals.{terminal_from, TerminalName}
 use Rattle.ly_join.specs.declared.precedence.Precedence.{Precedence}
 use Rattle.ly_join.proofs.GivenLemmas.{free_place, given_again, given_more}
 use Rattle.ly_join.proofs.ListLemmas.{mapped_all, mapped_in, mapped_more, mapped_split, read_in}
@@ -22,7 +22,7 @@ returns-then-is_some-clause-fault c = λ before given.
     let at = c.loop-symbol.symbol-index in
     let ts = c.args.terminals.now in
     let p = c.args.precedence in
-    let all : List (Terminal × Precedence) = map (λ s. (terminal_of s, p)) c.args.symbols.now in
+    let all : List (TerminalName × Precedence) = map (λ s. (terminal_of s, p)) c.args.symbols.now in
     let done = before ++ take at all in
     let back = drop (at + 1) all in
     let whole : before ++ all ≡ done ++ (terminal_of symbol, p) ∷ back
@@ -50,7 +50,7 @@ loop-symbol-preserved c = λ before given.
     let at = c.loop-symbol.symbol-index in
     let ts = c.args.terminals.now in
     let p = c.args.precedence in
-    let all : List (Terminal × Precedence) = map (λ s. (terminal_of s, p)) c.args.symbols.now in
+    let all : List (TerminalName × Precedence) = map (λ s. (terminal_of s, p)) c.args.symbols.now in
     let more : before ++ take (at + 1) all ≡ (before ++ take at all) ++ (terminal_of symbol, p) ∷ []
     = ap (λ xs. before ++ xs) (mapped_more (λ s. (terminal_of s, p)) c.args.symbols.now at symbol
     c.loop-symbol-test.true c.symbol-item.is)

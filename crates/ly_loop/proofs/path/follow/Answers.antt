@@ -1,7 +1,7 @@
 use Rattle.std.proofs.Common.{◌≡◌, ◌<◌, ◌-◌, All, ap, inr, length, true, None, Some, slice_get, subst, ◌∙◌}
 use Rattle.ly_pack.specs.Steady.{move, refuses}
 use Rattle.ly_loop.specs.Private.Path.{has_left}
-use Rattle.ly_loop.specs.Private.Run.{IsReduced, stack_of}
+use Rattle.ly_loop.specs.Private.Run.{MakesReduction, stack_of}
 use Rattle.ly_loop.proofs.PathLemmas.{all_ended, all_left, ends_here, stayed, top_actions, top_stays}
 use Rattle.ly_loop.proofs.RunLemmas.{stack_none}
 use Rattle.ly_loop.proofs.path.follow.Goals as goal
@@ -58,8 +58,9 @@ returns-then-branch-clause-step g c =
     c.requires.entries c.requires.states
     (c.in-Some.ensures.value ∙ ap (λ w. slice_get w (length w - 1)) c.deref.ensures.value) c.index-entries-top.is
     c.deref-2.ensures.value c.args.bound old left (Some c.in-Some-default.rule.0) settled c.in-Some-default.ensures in
-    let made = subst (λ b. IsReduced m c.in-Some-default.rule.0 (stack_of xs) b (stack_of c.reduce.new.stack.items))
-    c.if-branch.true (subst (λ v. IsReduced m c.in-Some-default.rule.0 (stack_of v.items) c.in_ok-reduce.field-0
+    let made = subst
+    (λ b. MakesReduction m c.in-Some-default.rule.0 (stack_of xs) b (stack_of c.reduce.new.stack.items))
+    c.if-branch.true (subst (λ v. MakesReduction m c.in-Some-default.rule.0 (stack_of v.items) c.in_ok-reduce.field-0
     (stack_of c.reduce.new.stack.items)) c.in_ok-settle.ensures.stack c.in_ok-reduce.ensures.made) in
     record {
       ended = λ t known has. settled.ended t has;
@@ -78,8 +79,9 @@ returns-else-branch-clause-step g c =
     c.requires.entries c.requires.states
     (c.in-Some.ensures.value ∙ ap (λ w. slice_get w (length w - 1)) c.deref.ensures.value) c.index-entries-top.is
     c.deref-2.ensures.value c.args.bound old left (Some c.in-Some-default.rule.0) settled c.in-Some-default.ensures in
-    let made = subst (λ b. IsReduced m c.in-Some-default.rule.0 (stack_of xs) b (stack_of c.reduce.new.stack.items))
-    c.if-branch.false (subst (λ v. IsReduced m c.in-Some-default.rule.0 (stack_of v.items) c.in_ok-reduce.field-0
+    let made = subst
+    (λ b. MakesReduction m c.in-Some-default.rule.0 (stack_of xs) b (stack_of c.reduce.new.stack.items))
+    c.if-branch.false (subst (λ v. MakesReduction m c.in-Some-default.rule.0 (stack_of v.items) c.in_ok-reduce.field-0
     (stack_of c.reduce.new.stack.items)) c.in_ok-settle.ensures.stack c.in_ok-reduce.ensures.made) in
     all_ended m (stack_of xs) c.args.bound entries old left settled
     (λ t known not. ends_here m t (stack_of xs) c.args.bound (made.0, stays t not ∙ made.1))

@@ -4,7 +4,7 @@ use Rattle.ly_pack.specs.Steady.{ReducesTo, here}
 use Rattle.ly_pack.specs.Values.{action_from}
 use Rattle.ly_pack.proofs.Runs.{one_more}
 use Rattle.ly_pack.proofs.LegalLemmas.{legal_reduction}
-use Rattle.ly_loop.specs.Private.Run.{IsReduced, stack_of}
+use Rattle.ly_loop.specs.Private.Run.{MakesReduction, stack_of}
 use Rattle.ly_loop.proofs.RunLemmas.{ended, ends_by, move_by, passed}
 use Rattle.ly_loop.proofs.run.ends_within.Goals as goal
 
@@ -33,7 +33,7 @@ returns-then-not-branch g c =
     let xs = c.loop-made.stack.items in
     let step = move_by m t xs c.in-Some.field-0.now (reduce c.in-Reduce.rule.0)
     (c.in-Some.ensures.value ∙ ap (λ w. slice_get w (length w - 1)) c.deref.ensures.value) c.in-Reduce.ensures in
-    let stop = subst (λ b. IsReduced m c.in-Reduce.rule.0 (stack_of xs) b (stack_of c.reduce.new.stack.items))
+    let stop = subst (λ b. MakesReduction m c.in-Reduce.rule.0 (stack_of xs) b (stack_of c.reduce.new.stack.items))
     c.if-not-branch.true c.in_ok-reduce.ensures.made in
     ended m t (stack_of c.args.stack.now.items) (stack_of xs) c.loop-made._made c.args.bound c.loop-made.invariant.led
     (omega arith) (stop.0, step ∙ stop.1)
@@ -46,7 +46,7 @@ loop-made-preserved g c =
     let next = stack_of c.reduce.new.stack.items in
     let step = move_by m t xs c.in-Some.field-0.now (reduce c.in-Reduce.rule.0)
     (c.in-Some.ensures.value ∙ ap (λ w. slice_get w (length w - 1)) c.deref.ensures.value) c.in-Reduce.ensures in
-    let on = subst (λ b. IsReduced m c.in-Reduce.rule.0 (stack_of xs) b next)
+    let on = subst (λ b. MakesReduction m c.in-Reduce.rule.0 (stack_of xs) b next)
     c.if-not-branch.false c.in_ok-reduce.ensures.made in
     record {
       led = subst (λ n. ReducesTo m t (stack_of c.args.stack.now.items) n next) (omega arith)

@@ -2,7 +2,7 @@ use Rattle.std.proofs.Common.{refl, subst, sym, map}
 use Rattle.std.specs.Prelude.{option_map}
 use Rattle.ly_subset.specs.Automaton.{Automaton, IsAutomaton, IsBreadthFirst}
 use Rattle.ly_subset.specs.Dfa.{with_states}
-use Rattle.ly_minim.specs.Smallest.{HaveSameRules, IsReduced}
+use Rattle.ly_minim.specs.Smallest.{HaveSameRules, IsReducedAutomaton}
 use Rattle.ly_minim.specs.Private.Rules.{HaveRules}
 use Rattle.ly_minim.proofs.QuotientLemmas.{quotient_automaton, quotient_of, quotient_order, quotient_reduced}
 use Rattle.ly_minim.proofs.QuotientLemmas.{quotient_same}
@@ -46,7 +46,7 @@ returns-clause-reduced c =
     (subst (λ ps. HaveRules A ps (map (option_map (λ i. i.0)) c.in_ok-rules.rules.items)) c.deref.ensures.value
     c.in_ok-rules.ensures) c.in_ok-quotient.ensures.quotient c.in_ok-quotient.ensures.numbered.by
     c.in_ok-blocks.ensures.blocks.states c.in_ok-quotient.ensures.whole in
-    λ trim. subst (λ (D : Automaton). IsReduced D) (sym c.with_states.ensures)
+    λ trim. subst (λ (D : Automaton). IsReducedAutomaton D) (sym c.with_states.ensures)
     (quotient_reduced A B of q.picked.items is so c.in_ok-blocks.ensures.stable trim
     (c.in_ok-blocks.ensures.apart trim))
 

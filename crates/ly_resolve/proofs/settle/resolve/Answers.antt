@@ -3,7 +3,7 @@ use Rattle.std.proofs.lemmas.List.{length-append}
 use Rattle.ly_lr0.specs.Automaton.{prefix_of}
 use Rattle.ly_resolve.specs.Precedence.{judge_of}
 use Rattle.ly_resolve.specs.Resolved.{IsRow}
-use Rattle.ly_resolve.specs.Values.{entry_from}
+use Rattle.ly_resolve.specs.Values.{terminal_action_from}
 use Rattle.ly_resolve.proofs.FoundLemmas.{all_resolved, rows_more}
 use Rattle.ly_resolve.proofs.settle.resolve.Goals as goal
 
@@ -20,11 +20,11 @@ loop-state-preserved c =
           let count = inv.count in
           let same = ap length pushed in
           omega (arith, long, count, same);
-      rows = λ k r at. rows_more (λ v. map entry_from v.items)
+      rows = λ k r at. rows_more (λ v. map terminal_action_from v.items)
           (λ n y. IsRow M.grammar (judge_of c.args.spec.now) (prefix_of M n) y) old row inv.rows
-          (subst (λ n. IsRow M.grammar (judge_of c.args.spec.now) (prefix_of M n) (map entry_from row.items))
+          (subst (λ n. IsRow M.grammar (judge_of c.args.spec.now) (prefix_of M n) (map terminal_action_from row.items))
           (sym inv.count) c.in_ok-resolve_state.ensures.row) k r
-          (ap (λ w. slice_get (map (λ v. map entry_from v.items) w) k) (sym pushed) ∙ at);
+          (ap (λ w. slice_get (map (λ v. map terminal_action_from v.items) w) k) (sym pushed) ∙ at);
       told = c.in_ok-resolve_state.ensures.told;
       inside = c.in_ok-resolve_state.ensures.inside;
     }

@@ -6,8 +6,8 @@ use Rattle.ly_resolve.specs.Actions.{Action, IsDone, IsRaw, reduce}
 use Rattle.ly_resolve.specs.Precedence.{judge_of}
 use Rattle.ly_resolve.specs.Private.Found.{AreEntries, AreTold}
 use Rattle.ly_resolve.specs.Private.Meetings.{AreAsked, IsAskedBy}
-use Rattle.ly_resolve.specs.Values.{action_from, conflict_from, entry_from, IsInside}
-use Rattle.ly_resolve.specs.declared.action.Entry as code
+use Rattle.ly_resolve.specs.Values.{action_from, conflict_from, terminal_action_from, IsInside}
+use Rattle.ly_resolve.specs.declared.action.TerminalAction as code
 use Rattle.ly_resolve.proofs.FoundLemmas.{asked_same, entries_all, entries_more, entries_nothing, told_more}
 use Rattle.ly_resolve.proofs.FoundLemmas.{told_nothing, told_row}
 use Rattle.ly_resolve.proofs.MeetingLemmas.{done_too}
@@ -37,14 +37,15 @@ loop-terminal-preserved c =
       | in-Some+in_ok-push+in_ok-tell w ↦
           let a = action_from w.in-Some.action in
           let done : IsDone (IsAskedBy sh rs) (λ p. judge p t) a = w.in-Some.ensures in
-          let entry : code.Entry = record { terminal = record { 0 = t }; action = w.in-Some.action } in
+          let entry : code.TerminalAction = record { terminal = record { 0 = t }; action = w.in-Some.action } in
           let end : t < M.grammar.terminals = subst (λ n. t < n)
           (c.terminals-terminal-end.ensures ∙ sym c.grammar.ensures.keeps.terminals
           ∙ ap (λ g. g.terminals) c.reduced.ensures) c.loop-terminal-test.true in
           record {
-            row = subst (AreEntries M judge s (t + 1)) (sym (ap (λ r. map entry_from r.items) w.row-is
-                ∙ ap (map entry_from) w.in_ok-push.ensures.items ∙ map-append entry_from old (entry ∷ [])))
-                (entries_more M is judge s t lt (map entry_from old) a (done_too (IsAskedBy sh rs)
+            row = subst (AreEntries M judge s (t + 1)) (sym (ap (λ r. map terminal_action_from r.items) w.row-is
+                ∙ ap (map terminal_action_from) w.in_ok-push.ensures.items
+                ∙ map-append terminal_action_from old (entry ∷ [])))
+                (entries_more M is judge s t lt (map terminal_action_from old) a (done_too (IsAskedBy sh rs)
                 (IsRaw M.grammar (prefix_of M s) t) (λ p. judge p t) (asked_same asked) a done) inv.row);
             told = subst (λ x. AreTold M judge s (t + 1) (map (conflict_from M) x.conflicts.items) x.conflict_free)
                 (sym w.told-is) (subst (λ cs. AreTold M judge s (t + 1) cs w.tell.new.self.conflict_free)
@@ -59,8 +60,8 @@ loop-terminal-preserved c =
           let nothing : (a : Action) → IsRaw M.grammar (prefix_of M s) t a → ⊥
           = λ a raw. w.in_default.ensures a ((asked_same asked a).1 raw) in
           record {
-            row = subst (λ r. AreEntries M judge s (t + 1) (map entry_from r.items)) (sym w.row-is)
-                (entries_nothing M is judge s t lt nothing (map entry_from old) inv.row);
+            row = subst (λ r. AreEntries M judge s (t + 1) (map terminal_action_from r.items)) (sym w.row-is)
+                (entries_nothing M is judge s t lt nothing (map terminal_action_from old) inv.row);
             told = subst (λ x. AreTold M judge s (t + 1) (map (conflict_from M) x.conflicts.items) x.conflict_free)
                 (sym w.told-is) (told_nothing M is judge s t lt nothing
                 (map (conflict_from M) c.loop-terminal.told.conflicts.items) c.loop-terminal.told.conflict_free
@@ -73,7 +74,7 @@ pub returns-clause-row : goal.returns-clause-row
 returns-clause-row c =
     let M = c.args.sources.now.lr0.now in
     entries_all M c.requires.lawful (judge_of c.args.sources.now.spec.now) c.args.state.0 c.loop-terminal.terminal
-    (map entry_from c.loop-terminal.row.items)
+    (map terminal_action_from c.loop-terminal.row.items)
     (subst (λ n. n ≤ c.loop-terminal.terminal)
     (c.terminals-terminal-end.ensures ∙ sym c.grammar.ensures.keeps.terminals ∙ ap (λ g. g.terminals) c.reduced.ensures)
     c.loop-terminal-test.false) c.loop-terminal.invariant.row

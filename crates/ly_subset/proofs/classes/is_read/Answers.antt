@@ -1,10 +1,10 @@
 use Rattle.std.proofs.Common.{arith, below_more}
-use Rattle.ly_position.specs.Nfa.{Reads}
+use Rattle.ly_position.specs.Nfa.{ReadsByte}
 use Rattle.ly_subset.proofs.ClassLemmas.{read_by_none, reads_as}
 use Rattle.ly_subset.proofs.classes.is_read.Goals as goal
 
 pub loop-number-preserved : goal.loop-number-preserved
-loop-number-preserved c = below_more (λ p. Reads c.args.nfa.now p c.args.byte → ⊥) c.loop-number.number
+loop-number-preserved c = below_more (λ p. ReadsByte c.args.nfa.now p c.args.byte → ⊥) c.loop-number.number
     c.loop-number.invariant (λ h.
     let reads = (reads_as c.args.nfa.now c.loop-number.number c.position.result c.args.byte c.ranges.byte.fits
     c.position.ensures).0 h in

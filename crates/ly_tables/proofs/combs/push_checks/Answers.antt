@@ -11,6 +11,6 @@ pub push_number-requires : goal.push_number-requires
 push_number-requires g c =
     let w = width_of c.args.version in
     subst (Fits w) (sym c.row_number.ensures)
-    (check_short w (g.E.Entry.code c.args.version) (option_map used_from c.slot-item.result)
-    (All-item (IsSlotShort w (g.E.Entry.code c.args.version)) (option_map used_from) c.args.slots.now
+    (check_short w (g.E.CombEntry.code c.args.version) (option_map used_from c.slot-item.result)
+    (All-item (IsSlotShort w (g.E.CombEntry.code c.args.version)) (option_map used_from) c.args.slots.now
     c.loop-slot.slot-index c.slot-item.result c.loop-slot-test.true c.slot-item.is c.requires))

@@ -8,7 +8,8 @@ use Rattle.ly_tables.specs.Ranges.{width_of}
 use Rattle.ly_tables.proofs.combs.push_entries.Goals as goal
 
 pub entry_number-requires : goal.entry_number-requires
-entry_number-requires g c = All-item (IsSlotShort (width_of c.args.version) (g.E.Entry.code c.args.version)) (option_map
+entry_number-requires g c
+    = All-item (IsSlotShort (width_of c.args.version) (g.E.CombEntry.code c.args.version)) (option_map
     used_from) c.args.slots.now
     c.loop-slot.slot-index c.slot-item.result c.loop-slot-test.true c.slot-item.is c.requires
 
@@ -16,6 +17,6 @@ pub push_number-requires : goal.push_number-requires
 push_number-requires g c =
     let w = width_of c.args.version in
     subst (Fits w) (sym c.entry_number.ensures)
-    (next_short w (g.E.Entry.code c.args.version) (option_map used_from c.slot-item.result)
-    (All-item (IsSlotShort w (g.E.Entry.code c.args.version)) (option_map used_from) c.args.slots.now
+    (next_short w (g.E.CombEntry.code c.args.version) (option_map used_from c.slot-item.result)
+    (All-item (IsSlotShort w (g.E.CombEntry.code c.args.version)) (option_map used_from) c.args.slots.now
     c.loop-slot.slot-index c.slot-item.result c.loop-slot-test.true c.slot-item.is c.requires))

@@ -8,8 +8,9 @@ use Rattle.ly_tables.proofs.combs.push_entries.Given as goal
 
 -- what is written and what is left are all
 abbrev pub invariant-loop-slot : goal.invariant-loop-slot
-invariant-loop-slot g l = l.out.items ++ flat_map (λ u. number (width_of l.version) (next_of (g.E.Entry.code l.version)
+invariant-loop-slot g l
+    = l.out.items ++ flat_map (λ u. number (width_of l.version) (next_of (g.E.CombEntry.code l.version)
     u))
     (map (option_map used_from) (drop l.slot-index l.slots))
-    ≡ l.initial.out.items ++ flat_map (λ u. number (width_of l.version) (next_of (g.E.Entry.code l.version) u)) (map
+    ≡ l.initial.out.items ++ flat_map (λ u. number (width_of l.version) (next_of (g.E.CombEntry.code l.version) u)) (map
     (option_map used_from) l.slots)

@@ -10,7 +10,7 @@ use Rattle.ly_tables.proofs.row_meaning.slots.Goals as goal
 
 pub loop-number-preserved : goal.loop-number-preserved
 loop-number-preserved g c =
-    let meant = λ (p : ℕ × ℕ). slot_meant (width_of c.args.version) (g.E.Entry.meant c.args.version) p.0 p.1 in
+    let meant = λ (p : ℕ × ℕ). slot_meant (width_of c.args.version) (g.E.CombEntry.meant c.args.version) p.0 p.1 in
     let entries = c.args.entries.now in
     let rows = c.args.rows.now in
     let k = c.loop-number.number in

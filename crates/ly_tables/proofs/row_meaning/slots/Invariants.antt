@@ -8,5 +8,5 @@ use Rattle.ly_tables.proofs.row_meaning.slots.Given as goal
 -- those so far
 abbrev pub invariant-loop-number : goal.invariant-loop-number
 invariant-loop-number g l = slots_from l.out.items
-    ≡ map (λ p. slot_meant (width_of l.version) (g.E.Entry.meant l.version) p.0 p.1) (zip (take l.number l.entries)
+    ≡ map (λ p. slot_meant (width_of l.version) (g.E.CombEntry.meant l.version) p.0 p.1) (zip (take l.number l.entries)
     (take l.number l.rows))

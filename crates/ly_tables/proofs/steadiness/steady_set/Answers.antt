@@ -1,5 +1,5 @@
 use Rattle.std.proofs.Common.{◌∙◌, ap, subst, sym}
-use Rattle.ly_loop.specs.Endless.{IsRefused}
+use Rattle.ly_loop.specs.Endless.{AreTablesRefused}
 use Rattle.ly_pack.specs.Machine.{Machine}
 use Rattle.ly_pack.specs.Steady.{IsSteady}
 use Rattle.ly_tables.specs.Private.Refused.{IsUnsteady}
@@ -15,7 +15,7 @@ returns-in-Err-clause-refused c =
     let same = c.new-machine.ensures ∙ machine_same p c.len.result (c.len.ensures ∙ p.terminals.ok.0) in
     subst (λ (f : TableFault). IsUnsteady (machine_of (set_of p)) f) (sym c.refusal.ensures)
     (unsteady (machine_of (set_of p)) c.in-Err.fault
-    (subst (λ (m : Machine). IsRefused m c.in-Err.fault) same c.in-Err.ensures.fault))
+    (subst (λ (m : Machine). AreTablesRefused m c.in-Err.fault) same c.in-Err.ensures.fault))
 
 pub new-requires-clause-steady : goal.new-requires-clause-steady
 new-requires-clause-steady c =

@@ -1,7 +1,7 @@
 use Rattle.std.proofs.Common.{◌≡◌, ◌≤◌, ◌+◌, ◌*◌, ℕ, List, All, Ok, length, true}
 use Rattle.ly_base.specs.Lexed.{start_of}
 use Rattle.ly_base.specs.TextWriter.{bytes_of, IsAppended}
-use Rattle.ly_lexread.specs.declared.action.Action.{Action}
+use Rattle.ly_lexread.specs.declared.action.LexAction.{LexAction}
 use Rattle.ly_scan.specs.KnownWalks.{AreKnown}
 use Rattle.ly_scan.specs.Lexers.{scanner_of}
 use Rattle.ly_scan.specs.StateTable.{ahead_in}
@@ -16,7 +16,7 @@ invariant-loop-lexeme g l =
     let start = start_of l.text in record {
       so_far : (told : List ℕ) × SoFar l.labels.actions.now (scanner_of l.lexer.scanner) start l.place told
           × IsAppended l.fn.empty l.lines (sink.contents l.fn.writer) (sink.contents l.writer) told (Ok tt);
-      counted : (longest : ℕ) → All (λ (a : Action). name_len a.returns ≤ longest) l.labels.actions.now
+      counted : (longest : ℕ) → All (λ (a : LexAction). name_len a.returns ≤ longest) l.labels.actions.now
           → bytes_of l.lines + length l.place.rest * bytes_each longest ≤ length start.rest * bytes_each longest;
       no_failure : sink.failures l.writer ≡ sink.failures l.fn.writer;
       known : AreKnown (ahead_in l.lexer.scanner) true l.place.rest l.known;

@@ -1,7 +1,7 @@
 use Rattle.std.proofs.Common.{refl}
 use Rattle.ly_lexread.specs.Private.Names.{parts_of}
 use Rattle.ly_lexread.proofs.NameLemmas.{cut_push}
-use Rattle.ly_lexread.proofs.names.Texts.push.Goals as goal
+use Rattle.ly_lexread.proofs.names.NameTexts.push.Goals as goal
 
 pub returns : goal.returns
 returns c ds a =

@@ -2,7 +2,7 @@ use Rattle.std.proofs.Common.{◌≡◌, subst, sym, ◌∙◌}
 use Rattle.ly_ere.specs.declared.fault.ReadFault.TheVariants.{Syntax, OutOfMemory}
 use Rattle.ly_ere.specs.declared.fault.SyntaxFault.{SyntaxFault}
 use Rattle.ly_ere.specs.Definitions.{IsNoText}
-use Rattle.ly_ere.proofs.definitions.Texts.read_one.Goals as goal
+use Rattle.ly_ere.proofs.definitions.DefinitionTexts.read_one.Goals as goal
 
 no_memory : (fault : SyntaxFault) → Syntax fault ≡ OutOfMemory → ⊥
 no_memory fault e = cc

@@ -3,10 +3,10 @@ use Rattle.std.specs.Option.{is_some}
 use Rattle.ly_base.proofs.ListLemmas.{slice_get-behind}
 use Rattle.ly_ere.proofs.PlaceLemmas.{none_some, some_one}
 use Rattle.ly_ere.specs.declared.definitions.Refusal.{Refusal}
-use Rattle.ly_ere.specs.declared.definitions.Texts.{Texts}
+use Rattle.ly_ere.specs.declared.definitions.DefinitionTexts.{DefinitionTexts}
 use Rattle.ly_ere.specs.Private.Definitions.{IsTextRefusal}
 use Rattle.ly_ere.proofs.DefinitionLemmas.{read_none, refusals_later}
-use Rattle.ly_ere.proofs.definitions.Texts.push_fault.Goals as goal
+use Rattle.ly_ere.proofs.definitions.DefinitionTexts.push_fault.Goals as goal
 
 pub returns-then-is_none : goal.returns-then-is_none
 returns-then-is_none c known list d a none =
@@ -31,7 +31,8 @@ none_is_none (Some r) some e = none_some (sym e)
 pub returns-else-is_none : goal.returns-else-is_none
 returns-else-is_none c known list d a none =
     let self = c.args.self.now in
-    let u : Texts = record { expressions = self.expressions; uses = c.push.new.self; refusal = self.refusal } in
+    let u : DefinitionTexts
+    = record { expressions = self.expressions; uses = c.push.new.self; refusal = self.refusal } in
     let some : is_some c.args.self.now.refusal ≡ true = c.if-is_none.ensures in
     read_none known list d c.args.self.now _ a _ c.in_ok-push.ensures.items none c.new.ensures.items
     (λ e. none_is_none _ some e) (refusals_later known list d c.args.self.now u a _ c.in_ok-push.ensures.items)
