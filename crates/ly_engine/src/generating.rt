@@ -45,9 +45,9 @@ pub fn generate(
     Ok(written(alloc, &generated.set, version)?)
 }
 
-/// The table file of a lex file and a yacc file, as `generate` gives it; how many conflicts there are; and their report,
-/// as `generate_report` writes it, where it is wanted. A report has a line for each conflict, so it can be much longer
-/// than the table file.
+/// The table file of a lex file and a yacc file, as `generate` gives it; how many conflicts there are; and their
+/// report, as `generate_report` writes it, where it is wanted. A report has a line for each conflict, so it can be much
+/// longer than the table file.
 ///
 /// A limit above that of the version counts as that. Its faults are those of `GenFault` but `Write`.
 pub fn build(

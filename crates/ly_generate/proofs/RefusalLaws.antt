@@ -39,9 +39,8 @@ use Rattle.ly_grammar.proofs.OneLemmas.{useful_rules_are_one}
 use Rattle.ly_generate.specs.Accepted.{IsFit, IsRefusedFor, IsUnfitFor, Specifies}
 use Rattle.ly_generate.specs.Laws.{RefusalIsExact}
 use Rattle.ly_generate.specs.declared.gen_fault.GenFault.{GenFault}
-use Rattle.ly_generate.specs.declared.gen_fault.GenFault.TheVariants.{Automaton, Endless, Grammar as NoGrammar, Join, Lex}
-use Rattle.ly_generate.specs.declared.gen_fault.GenFault.TheVariants.{OutOfMemory}
-use Rattle.ly_generate.specs.declared.gen_fault.GenFault.TheVariants.{Positions, States, Write, Yacc}
+use Rattle.ly_generate.specs.declared.gen_fault.GenFault.TheVariants.{Automaton, Endless, Grammar as NoGrammar, Join}
+use Rattle.ly_generate.specs.declared.gen_fault.GenFault.TheVariants.{Lex, OutOfMemory, Positions, States, Write, Yacc}
 
 -- rules that say the same weigh the same
 weight_same : (names : List Expression) (rs ss : List Rule) → AreSameRules rs ss
