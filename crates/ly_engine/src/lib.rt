@@ -3,9 +3,9 @@
 //! versions, and what has none goes by the second. That tables so made answer what both files say is part of what these
 //! promise (`IsGenerated` of `ly_generate`).
 //!
-//! What an embedder needs beside these is handed on: `tokens` for a lex file alone, `drive` for a table file, and `Feed`
-//! for a text that comes in pieces; and of `ly_generate` its laws, and the steps of the way, for whoever explains what
-//! two files say.
+//! What an embedder needs beside these is handed on: `tokens` for a lex file alone, `drive` for a table file, and
+//! `Feed` for a text that comes in pieces; and of `ly_generate` its laws, and the steps of the way, for whoever
+//! explains what two files say.
 //!
 //! Left out: files, words and lines of faults, which are the program's.
 #![tactic(auto)]

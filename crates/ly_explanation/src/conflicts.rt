@@ -11,6 +11,7 @@ use ly_base::{OutOfMemory, Sym};
 use ly_explain::{Claim, Example, Examples};
 use ly_join::{Spec, Symbol};
 use ly_lr0::Item;
+use ly_report::ConflictCounts;
 use ly_resolve::{Action, Conflict, ConflictKind, Resolved};
 use std::alloc::Global;
 
@@ -40,13 +41,13 @@ pub(crate) fn say_conflicts(
     files: Accepted<'_>,
 ) -> Result<(), OutOfMemory> {
     let resolved = files.resolved;
-    let conflicts = resolved.conflicts();
+    let counts = ConflictCounts::of(resolved);
     page.say(b"\nConflicts: ");
-    page.say_number(count(conflicts, ConflictKind::ShiftReduce) as u64);
+    page.say_number(counts.shift_reduce as u64);
     page.say(b" shift/reduce, ");
-    page.say_number(count(conflicts, ConflictKind::ReduceReduce) as u64);
+    page.say_number(counts.reduce_reduce as u64);
     page.say(b" reduce/reduce.\n");
-    if conflicts.is_empty() {
+    if resolved.conflicts().is_empty() {
         return Ok(());
     }
     let lr0 = resolved.lr0();
@@ -56,14 +57,6 @@ pub(crate) fn say_conflicts(
         yields: &yields,
     };
     teller.say_all(alloc, page, &mut Finder::new(lr0, &yields))
-}
-
-/// How many conflicts are of a kind.
-fn count(conflicts: &[Conflict], kind: ConflictKind) -> usize {
-    conflicts
-        .iter()
-        .filter(|conflict| conflict.kind == kind)
-        .count()
 }
 
 /// By what conflicts are put in order: the state, the kind and the rule.

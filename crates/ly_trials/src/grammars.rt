@@ -3,10 +3,9 @@
 
 use crate::parses::call;
 use ly_base::{Limits, StateNo};
-use ly_engine::{read_specification, settle, steady_tables};
-use ly_grammar::reduce;
+use ly_engine::Report;
+use ly_generate::parser_of_files;
 use ly_loop::steady;
-use ly_lr0::automaton;
 use ly_pack::{Dense, Machine, Packed, Rows, TableAction, pack};
 use ly_parse::{ParseFault, Parser, Step};
 use std::alloc::Global;
@@ -39,11 +38,8 @@ const LENGTH: u32 = 4;
 
 /// The tables of a yacc file.
 fn tables_of(alloc: Global, yacc: &[u8]) -> Result<Apart, Fail> {
-    let given = read_specification(alloc, LEX, yacc, &Limits::V2)?;
-    let reduced = reduce(alloc, given.spec.grammar())?;
-    let lr0 = automaton(alloc, &reduced, &Limits::V2)?;
-    let resolved = settle(alloc, &given.spec, &lr0)?;
-    Ok(steady_tables(alloc, &resolved)?)
+    let parser = parser_of_files(alloc, LEX, yacc, &Limits::V2, Report::Unwanted)?;
+    Ok(parser.machine)
 }
 
 /// Whether two answers are the same.
