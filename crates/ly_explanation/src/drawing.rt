@@ -6,7 +6,7 @@ use ly_explain::Claim;
 use ly_grammar::Reduced;
 use ly_join::{Spec, Symbol};
 use ly_lr0::{Item, Lr0};
-use std::alloc::Global;
+use std::alloc::{AllocError, Global};
 
 /// How many claims are looked at, at most, to find how an action comes about.
 const MOST: usize = 50_000;
@@ -44,6 +44,15 @@ struct Opening {
     in_core: bool,
 }
 
+/// The claims that were found on the way back to the start.
+#[derive(Drop)]
+struct Search {
+    /// Each with the place of the one that is true by it.
+    found: IndexMap<Claimed, usize>,
+    /// The openings of those that were looked at.
+    opened: IndexSet<Opening>,
+}
+
 impl<'a> Drawing<'a> {
     /// What is drawn behind this string.
     pub(crate) fn new(
@@ -73,35 +82,24 @@ impl<'a> Drawing<'a> {
     /// The way to a claim behind the string: the items of the claims from that on the start to this one, each of which
     /// is true by the one before it; none where that isn't found.
     pub(crate) fn way(&self, alloc: Global, last: Claim) -> Result<Vec<Item>, OutOfMemory> {
-        let mut found = IndexMap::new(alloc);
-        let mut opened = IndexSet::new(alloc);
+        let mut search = Search {
+            found: IndexMap::new(alloc),
+            opened: IndexSet::new(alloc),
+        };
         let first = Claimed {
             length: self.string.len(),
             claim: last,
         };
-        found.insert(first, 0)?;
+        search.found.insert(first, 0)?;
         for place in 0..MOST {
-            let Some((claimed, _)) = found.get_index(place) else {
+            let Some(claimed) = search.claimed(place) else {
                 break;
             };
-            let claimed = *claimed;
-            if let Some(opening) = self.opening(claimed) {
-                if opened.contains(&opening) {
-                    continue;
-                }
-                opened.insert(opening)?;
+            if search.opens_again(self.opening(claimed))? {
+                continue;
             }
-            for before in &self.before(alloc, claimed)? {
-                if found.contains_key(before) {
-                    continue;
-                }
-                found.insert(*before, place)?;
-                if before.is_start() {
-                    return way_back(alloc, &found, found.len().saturating_sub(1));
-                }
-            }
-            if found.len() > MOST {
-                break;
+            if search.has_start(&self.before(alloc, claimed)?, place)? {
+                return search.way_back(alloc);
             }
         }
         Ok(Vec::new(alloc))
@@ -179,6 +177,63 @@ impl<'a> Drawing<'a> {
             }
         }
         Ok(())
+    }
+}
+
+impl Search {
+    /// The claim at a place; none behind so many that the search ends.
+    fn claimed(&self, place: usize) -> Option<Claimed> {
+        if self.found.len() > MOST {
+            return None;
+        }
+        let (claimed, _) = self.found.get_index(place)?;
+        Some(*claimed)
+    }
+
+    /// Whether a claim depends on an opening that was met before. A new one is met here.
+    fn opens_again(&mut self, opening: Option<Opening>) -> Result<bool, AllocError> {
+        let Some(opening) = opening else {
+            return Ok(false);
+        };
+        let again = self.opened.contains(&opening);
+        if !again {
+            self.opened.insert(opening)?;
+        }
+        Ok(again)
+    }
+
+    /// Adds claims by which the one at a place is true, up to the one on the start, and answers whether that is among
+    /// them and new.
+    fn has_start(&mut self, claims: &[Claimed], place: usize) -> Result<bool, AllocError> {
+        for before in claims {
+            if self.found.contains_key(before) {
+                continue;
+            }
+            self.found.insert(*before, place)?;
+            if before.is_start() {
+                return Ok(true);
+            }
+        }
+        Ok(false)
+    }
+
+    /// The items of the claims from the last one back to the first, each found from the next.
+    fn way_back(&self, alloc: Global) -> Result<Vec<Item>, OutOfMemory> {
+        let mut way = Vec::new(alloc);
+        let mut place = self.found.len().saturating_sub(1);
+        for _ in 0..self.found.len() {
+            let Some((claimed, from)) = self.found.get_index(place) else {
+                break;
+            };
+            if let Some(item) = item_of(claimed.claim) {
+                way.push(item)?;
+            }
+            if place == 0 {
+                break;
+            }
+            place = *from;
+        }
+        Ok(way)
     }
 }
 
@@ -265,29 +320,6 @@ fn rest_of<'a>(reduced: &Reduced<'a>, item: Item) -> &'a [Symbol] {
             .unwrap_or_default(),
         None => &[],
     }
-}
-
-/// The items of the claims from the one at a place back to the first, each found from the next.
-fn way_back(
-    alloc: Global,
-    found: &IndexMap<Claimed, usize>,
-    place: usize,
-) -> Result<Vec<Item>, OutOfMemory> {
-    let mut way = Vec::new(alloc);
-    let mut place = place;
-    for _ in 0..found.len() {
-        let Some((claimed, from)) = found.get_index(place) else {
-            break;
-        };
-        if let Some(item) = item_of(claimed.claim) {
-            way.push(item)?;
-        }
-        if place == 0 {
-            break;
-        }
-        place = *from;
-    }
-    Ok(way)
 }
 
 /// Draws the rules of a way: a bracket where one begins below another, the symbols before the dots, and at the end a

@@ -185,25 +185,42 @@ fn told(
     say_doubts(alloc, &mut text, files, &places)?;
     say_conflicts(alloc, &mut text, files)?;
     say_rules(&mut text, files, &places);
-    let mut states = None;
-    if wish.states {
-        let mut page = Page::new(alloc);
-        say_scanner(alloc, &mut page, files)?;
-        say_states(alloc, &mut page, files, tables)?;
-        states = Some(page.finish()?);
-    }
-    let mut picture = None;
-    if wish.picture {
-        let mut page = Page::new(alloc);
-        say_picture(alloc, &mut page, files)?;
-        picture = Some(page.finish()?);
-    }
     Ok(Explanation {
         text: text.finish()?,
-        states,
-        picture,
+        states: states_if(alloc, files, tables, wish.states)?,
+        picture: picture_if(alloc, files, wish.picture)?,
         accepted: true,
     })
+}
+
+/// The states of the scanner and of the parser, where they are asked for.
+fn states_if(
+    alloc: Global,
+    files: Accepted<'_>,
+    tables: &Tables,
+    asked: bool,
+) -> Result<Option<Vec<u8>>, OutOfMemory> {
+    if !asked {
+        return Ok(None);
+    }
+    let mut page = Page::new(alloc);
+    say_scanner(alloc, &mut page, files)?;
+    say_states(alloc, &mut page, files, tables)?;
+    Ok(Some(page.finish()?))
+}
+
+/// The picture of the parser's states, where it is asked for.
+fn picture_if(
+    alloc: Global,
+    files: Accepted<'_>,
+    asked: bool,
+) -> Result<Option<Vec<u8>>, OutOfMemory> {
+    if !asked {
+        return Ok(None);
+    }
+    let mut page = Page::new(alloc);
+    say_picture(alloc, &mut page, files)?;
+    Ok(Some(page.finish()?))
 }
 
 /// Says that two files are accepted, and how large their parser is.

@@ -47,12 +47,7 @@ pub(crate) fn say_faults(
     limits: &Limits,
     fault: &GenFault,
 ) -> Result<(), OutOfMemory> {
-    let mut findings = Findings::new(alloc);
-    let lex_file = find_lex_faults(alloc, &mut findings, lex.bytes, limits)?;
-    let yacc_file = find_yacc_faults(alloc, &mut findings, yacc.bytes)?;
-    if let (Some(lex_file), Some(yacc_file)) = (lex_file, yacc_file) {
-        find_join_faults(alloc, &mut findings, &lex_file, yacc_file, limits)?;
-    }
+    let findings = findings_in(alloc, lex.bytes, yacc.bytes, limits)?;
     if !findings.is_empty() {
         say_findings(page, lex, yacc, &findings);
         return Ok(());
@@ -63,4 +58,20 @@ pub(crate) fn say_faults(
     };
     say_fault(page, lex, yacc, fault, at, &Advice::of_whole(fault));
     Ok(())
+}
+
+/// What is found in the bytes of both files.
+fn findings_in(
+    alloc: Global,
+    lex: &[u8],
+    yacc: &[u8],
+    limits: &Limits,
+) -> Result<Findings, OutOfMemory> {
+    let mut findings = Findings::new(alloc);
+    let lex_file = find_lex_faults(alloc, &mut findings, lex, limits)?;
+    let yacc_file = find_yacc_faults(alloc, &mut findings, yacc)?;
+    if let (Some(lex_file), Some(yacc_file)) = (lex_file, yacc_file) {
+        find_join_faults(alloc, &mut findings, &lex_file, yacc_file, limits)?;
+    }
+    Ok(findings)
 }

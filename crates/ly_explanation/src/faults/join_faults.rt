@@ -13,6 +13,19 @@ use ly_lexread::Returned;
 use ly_yaccread::{SymbolName, YaccFile};
 use std::alloc::Global;
 
+/// Two files that are joined again each time that a fault is mended in the second.
+#[derive(Drop)]
+struct Joining<'a> {
+    /// What the lex file says.
+    lex: &'a MendedLex,
+    /// The text of the yacc file.
+    text: Vec<u8>,
+    /// What it says, as far as it is mended.
+    file: YaccFile,
+    /// The names of which a fault was said.
+    said: Vec<Vec<u8>>,
+}
+
 /// Finds the faults of both files together: each is mended in what the yacc file says, and the files are joined again.
 /// Of a name the first fault alone is said.
 pub(crate) fn find_join_faults(
@@ -22,28 +35,56 @@ pub(crate) fn find_join_faults(
     yacc: MendedYacc,
     limits: &Limits,
 ) -> Result<(), OutOfMemory> {
-    let MendedYacc { text, mut file } = yacc;
-    let mut said = Vec::new(alloc);
+    let MendedYacc { text, file } = yacc;
+    let mut joining = Joining {
+        lex,
+        text,
+        file,
+        said: Vec::new(alloc),
+    };
     for _ in 0..MOST {
-        let fault = match join(alloc, &lex.file, &file, limits) {
-            Ok(_) | Err(JoinFault::LimitPassed { .. }) => return Ok(()),
-            Err(JoinFault::OutOfMemory) => return Err(OutOfMemory),
-            Err(fault) => fault,
-        };
-        if matches!(fault, JoinFault::NoRules) && !findings.is_empty() {
-            return Ok(());
+        match joining.next_fault(alloc, limits, findings.is_empty())? {
+            Some(fault) => joining.take(alloc, findings, fault)?,
+            None => break,
         }
+    }
+    Ok(())
+}
+
+impl Joining<'_> {
+    /// The first fault that is left. That there are no rules is one only where no other was found.
+    fn next_fault(
+        &self,
+        alloc: Global,
+        limits: &Limits,
+        alone: bool,
+    ) -> Result<Option<JoinFault>, OutOfMemory> {
+        match join(alloc, &self.lex.file, &self.file, limits) {
+            Ok(_) | Err(JoinFault::LimitPassed { .. }) => Ok(None),
+            Err(JoinFault::OutOfMemory) => Err(OutOfMemory),
+            Err(JoinFault::NoRules) if !alone => Ok(None),
+            Err(fault) => Ok(Some(fault)),
+        }
+    }
+
+    /// Adds a fault to what is found, if none of its name was, and mends it.
+    fn take(
+        &mut self,
+        alloc: Global,
+        findings: &mut Findings,
+        fault: JoinFault,
+    ) -> Result<(), OutOfMemory> {
         let name = Vec::from_slice(alloc, name_of(&fault))?;
-        let advice = join_advice(alloc, &fault, &file, &said)?;
-        mend(alloc, &mut file, &fault)?;
-        if !said.contains(&name) {
-            let at = join_location(alloc, lex, &text, &fault)?;
+        let advice = join_advice(alloc, &fault, &self.file, &self.said)?;
+        mend(alloc, &mut self.file, &fault)?;
+        if !self.said.contains(&name) {
+            let at = join_location(alloc, self.lex, &self.text, &fault)?;
             let fault = GenFault::Join(fault);
             findings.add(Finding { fault, at, advice })?;
         }
-        said.push(name)?;
+        self.said.push(name)?;
+        Ok(())
     }
-    Ok(())
 }
 
 /// The name of a symbol that a fault names; nothing where it names none.

@@ -49,27 +49,39 @@ fn declaration_advice(before: &Before, rest: &[u8]) -> &'static str {
     }
 }
 
+/// Directives whose declarations name symbols.
+const DECLARING: [&[u8]; 6] = [b"token", b"left", b"right", b"nonassoc", b"type", b"union"];
+
+/// Other directives, and the advice for each.
+const DIRECTIVES: [(&[u8], &str); 4] = [
+    (b"precedence", "write `%nonassoc` for bison's `%precedence`"),
+    (
+        b"nterm",
+        "write `%type` for bison's `%nterm`, or nothing: left sides need no declaration",
+    ),
+    (b"start", "a file has one `%start`, with one name"),
+    (b"option", "`%option` is flex's: leave it out"),
+];
+
 /// The advice for a directive that can't stand there.
 fn directive_advice(before: &Before, rest: &[u8]) -> &'static str {
-    match rest
-        .strip_prefix(b"%")
-        .and_then(|name| leading_name(name, Language::Yacc))
-    {
-        Some((b"precedence", _)) => "write `%nonassoc` for bison's `%precedence`",
-        Some((b"nterm", _)) =>
-            "write `%type` for bison's `%nterm`, or nothing: left sides need no declaration",
-        Some((b"start", _)) => "a file has one `%start`, with one name",
-        Some((b"token" | b"left" | b"right" | b"nonassoc" | b"type" | b"union", _)) => {
-            if before.last.is_some() {
-                "the declaration before this one names no symbol"
-            } else {
-                "a declaration names symbols"
-            }
-        }
-        Some((b"option", _)) => "`%option` is flex's: leave it out",
-        Some(_) => "POSIX has no such declaration: leave it out",
-        None => "write `%{` and `%}` round C code, or leave it out",
+    let behind = rest.strip_prefix(b"%").unwrap_or(rest);
+    let Some((name, _)) = leading_name(behind, Language::Yacc) else {
+        return "write `%{` and `%}` round C code, or leave it out";
+    };
+    if DECLARING.contains(&name) {
+        return if before.last.is_some() {
+            "the declaration before this one names no symbol"
+        } else {
+            "a declaration names symbols"
+        };
     }
+    for (directive, advice) in &DIRECTIVES {
+        if name == *directive {
+            return advice;
+        }
+    }
+    "POSIX has no such declaration: leave it out"
 }
 
 /// The advice for what can't stand in the rules.
