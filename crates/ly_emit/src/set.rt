@@ -24,8 +24,8 @@ use ly_subset::Dfa;
 use ly_tables::{TableParts, TableSet};
 use std::alloc::{AllocError, Global};
 
-/// The table set of a specification: its parser's tables, by whatever automaton of its useful rules they are its tables,
-/// and the automaton of its scanner.
+/// The table set of a specification: its parser's tables, whatever automaton of its useful rules they are made of, and
+/// the automaton of its scanner.
 ///
 /// What is asked for fits a file of version 2, so that no number is past what it holds; and where it fits one of
 /// version 1, so does the set. `OutOfMemory` comes where a growth was refused. (`ly_pack` looks whether a base has a

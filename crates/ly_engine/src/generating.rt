@@ -45,7 +45,7 @@ pub fn generate(
     Ok(written(alloc, &generated.set, version)?)
 }
 
-/// The table file of a lex file and a yacc file, as `generate` gives it; how many conflicts there are; and their report,
+/// The table file of a lex file and a yacc file, as `generate` gives it, how many conflicts there are, and the report,
 /// as `generate_report` writes it, where it is wanted. A report has a line for each conflict, so it can be much longer
 /// than the table file.
 ///

@@ -1,10 +1,10 @@
-//! What an embedder names: from the bytes of a lex file and a yacc file to their table file and their report, `generate`,
-//! `build` and `generate_report`; and to the answer to a text, `answer`. A table file is made in one of two versions, and
-//! what has none goes by the second. That tables so made answer what both files say is part of what these promise
-//! (`IsGenerated` of `ly_generate`).
+//! What an embedder names: from the bytes of a lex file and a yacc file to their table file and their report by
+//! `generate`, `build` and `generate_report`; and to the answer to a text by `answer`. A table file is made in one of
+//! two versions, and what has none goes by the second. That tables so made answer what both files say is part of what
+//! these promise (`IsGenerated` of `ly_generate`).
 //!
 //! What an embedder needs beside these is handed on: `tokens` for a lex file alone, `drive` for a table file, and
-//! `Feed` for a text that comes in pieces; and of `ly_generate` its laws, and the steps of the way, for whoever explains
+//! `Feed` for a text that comes in pieces; and of `ly_generate` its laws, and the steps of the way for whoever explains
 //! what two files say.
 //!
 //! Left out: files, words and lines of faults, which are the program's.

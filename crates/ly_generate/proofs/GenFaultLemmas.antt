@@ -11,8 +11,8 @@ use Rattle.ly_tokens.specs.declared.scanner_fault.ScannerFault.{ScannerFault}
 use Rattle.ly_tokens.specs.declared.scanner_fault.ScannerFault.TheVariants as scanner
 use Rattle.ly_generate.specs.GenFault.{gen_of_scanner, Becomes}
 use Rattle.ly_generate.specs.declared.gen_fault.GenFault.{GenFault}
-use Rattle.ly_generate.specs.declared.gen_fault.GenFault.TheVariants.{Automaton, Endless, Grammar as NoGrammar, Join, Lex}
-use Rattle.ly_generate.specs.declared.gen_fault.GenFault.TheVariants.{OutOfMemory}
+use Rattle.ly_generate.specs.declared.gen_fault.GenFault.TheVariants.{Automaton, Endless, Grammar as NoGrammar}
+use Rattle.ly_generate.specs.declared.gen_fault.GenFault.TheVariants.{Join, Lex, OutOfMemory}
 use Rattle.ly_generate.specs.declared.gen_fault.GenFault.TheVariants.{Positions, States, Write, Yacc}
 
 -- what holds of want of memory and of a wrapped fault holds of what a fault becomes

@@ -39,8 +39,8 @@ use Rattle.ly_grammar.proofs.OneLemmas.{useful_rules_are_one}
 use Rattle.ly_generate.specs.Accepted.{IsFit, IsRefusedFor, IsUnfitFor, Specifies}
 use Rattle.ly_generate.specs.Laws.{RefusalIsExact}
 use Rattle.ly_generate.specs.declared.gen_fault.GenFault.{GenFault}
-use Rattle.ly_generate.specs.declared.gen_fault.GenFault.TheVariants.{Automaton, Endless, Grammar as NoGrammar, Join, Lex}
-use Rattle.ly_generate.specs.declared.gen_fault.GenFault.TheVariants.{OutOfMemory}
+use Rattle.ly_generate.specs.declared.gen_fault.GenFault.TheVariants.{Automaton, Endless, Grammar as NoGrammar}
+use Rattle.ly_generate.specs.declared.gen_fault.GenFault.TheVariants.{Join, Lex, OutOfMemory}
 use Rattle.ly_generate.specs.declared.gen_fault.GenFault.TheVariants.{Positions, States, Write, Yacc}
 
 -- rules that say the same weigh the same

@@ -31,8 +31,8 @@ use Rattle.ly_pack.specs.Steady.{IsSteady}
 use Rattle.ly_report.specs.Report.{terminal_name}
 use Rattle.ly_tokens.specs.Answers.{AreTooHeavy, HaveTooManyStates}
 use Rattle.ly_generate.specs.declared.gen_fault.GenFault.{GenFault}
-use Rattle.ly_generate.specs.declared.gen_fault.GenFault.TheVariants.{Automaton, Endless, Grammar as NoGrammar, Join, Lex}
-use Rattle.ly_generate.specs.declared.gen_fault.GenFault.TheVariants.{OutOfMemory}
+use Rattle.ly_generate.specs.declared.gen_fault.GenFault.TheVariants.{Automaton, Endless, Grammar as NoGrammar}
+use Rattle.ly_generate.specs.declared.gen_fault.GenFault.TheVariants.{Join, Lex, OutOfMemory}
 use Rattle.ly_generate.specs.declared.gen_fault.GenFault.TheVariants.{Positions, States, Write, Yacc}
 
 -- The bytes of a lex file and of a yacc file say this specification, and are within the limits of files and scanners.

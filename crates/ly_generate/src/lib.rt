@@ -1,6 +1,6 @@
-//! From a lex file and a yacc file to their table set: `generated`. That tables so made answer what both files say is part
-//! of what it promises (`IsGenerated`), by a law (`tables_answer_as_specified`); without conflicts that is what the
-//! derivations of the text's tokens say (`sentences_are_answered`).
+//! From a lex file and a yacc file to their table set: `generated`. That tables so made answer what both files say is
+//! part of what it promises (`IsGenerated`), by a law (`tables_answer_as_specified`); without conflicts that is what
+//! the derivations of the text's tokens say (`sentences_are_answered`).
 //!
 //! The steps of the way are public too: `read_specification` says what both files say together, `parser_of` makes the
 //! parser of a specification, counts the conflicts and reports them where that is wanted (`parser_of_files` begins with

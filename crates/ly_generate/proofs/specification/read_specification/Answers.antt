@@ -70,5 +70,5 @@ returns-clause-says c = record {
 }
 
 pub returns-clause-shapes : goal.returns-clause-shapes
-returns-clause-shapes c = shapes_are_within c.args.yacc.now (scanning_of c.in_ok-file.file) (written_of c.in_ok-yacc.yacc)
-    c.in_ok-spec.spec c.in_ok-yacc.ensures.ok c.in_ok-spec.ensures.ok
+returns-clause-shapes c = shapes_are_within c.args.yacc.now (scanning_of c.in_ok-file.file)
+    (written_of c.in_ok-yacc.yacc) c.in_ok-spec.spec c.in_ok-yacc.ensures.ok c.in_ok-spec.ensures.ok
