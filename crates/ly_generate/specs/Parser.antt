@@ -1,5 +1,5 @@
 -- The parser of a specification, and what is said of its conflicts.
-use Rattle.std.specs.Prelude.{◌≤◌, ◌↔◌, ℕ, List, Option, Some, None, IsTrue, length}
+use Rattle.std.specs.Prelude.{◌≤◌, ◌↔◌, ℕ, Option, Some, None, IsTrue, length}
 use Rattle.std.specs.declared.alloc.Global.{Global}
 use Rattle.std.specs.declared.vec.Vec.{Vec}
 use Rattle.ly_base.specs.Limits.{Sizes}

@@ -1,8 +1,6 @@
-use Rattle.std.proofs.Common.{◌≡◌, ◌∙◌, ◌↔◌, IsTrue, ap, subst}
-use Rattle.ly_generate.specs.Accepted.{IsFailedWrite, IsRefusedFor}
 use Rattle.ly_generate.specs.declared.gen_fault.GenFault.TheVariants.{Write}
 use Rattle.ly_generate.proofs.GenFaultLemmas.{refused_is_no_write, when_same}
-use Rattle.ly_generate.proofs.ReportLemmas.{wanted_is_report, wanted_is_there}
+use Rattle.ly_generate.proofs.ReportLemmas.{wanted_is_there}
 use Rattle.ly_engine.proofs.reporting.generate_report.Goals as goal
 
 pub returns-in_err-parser-clause-refused : goal.returns-in_err-parser-clause-refused
