@@ -1,7 +1,7 @@
 use Rattle.std.proofs.Common.{◌∙◌, ap, arith, length, map}
 use Rattle.ly_feed.proofs.LabelLemmas.{all_more, leaf_within, node_within}
 use Rattle.ly_pack.specs.Values.{rule_from}
-use Rattle.ly_feed.proofs.labels.LabelsWords.longest.Goals as goal
+use Rattle.ly_feed.proofs.labels.TermLabelsWords.longest.Goals as goal
 
 pub returns-clause-leaves : goal.returns-clause-leaves
 returns-clause-leaves c t =

@@ -1,7 +1,7 @@
 use Rattle.std.proofs.Common.{◌∙◌, map}
 use Rattle.ly_pack.specs.Values.{rule_from}
 use Rattle.ly_feed.proofs.LabelLemmas.{label_missing, label_there}
-use Rattle.ly_feed.proofs.labels.LabelsWords.node_label.Goals as goal
+use Rattle.ly_feed.proofs.labels.TermLabelsWords.node_label.Goals as goal
 
 pub returns-in-Some : goal.returns-in-Some
 returns-in-Some c =
