@@ -1,6 +1,8 @@
 //! Parsers of worked grammars, over rows that stand apart and over those that are laid over one another: to each short
 //! string of terminals they answer alike.
 
+ghost use Rattle.ly_pack.specs.Steady.{IsSteady};
+
 use crate::parses::call;
 use ly_base::{Limits, StateNo};
 use ly_engine::Report;
@@ -75,13 +77,10 @@ fn are_same(one: &Result<Step, ParseFault>, other: &Result<Step, ParseFault>) ->
 }
 
 /// Whether parsers over both kinds of rows answer alike to a string of terminals: the digits of its number.
-fn are_alike(alloc: Global, apart: &Apart, laid: &Laid, number: u32) -> Result<bool, Fail> {
-    let Ok(()) = steady(alloc, apart) else {
-        return Err(Fail::from("tables were refused that are steady"));
-    };
-    let Ok(()) = steady(alloc, laid) else {
-        return Err(Fail::from("tables were refused that are steady"));
-    };
+fn are_alike(alloc: Global, apart: &Apart, laid: &Laid, number: u32) -> bool
+    requires apart { IsSteady apart.now }
+    requires laid { IsSteady laid.now }
+{
     let mut one = Parser::new(alloc, apart.view());
     let mut other = Parser::new(alloc, laid.view());
     let mut left = number;
@@ -89,9 +88,25 @@ fn are_alike(alloc: Global, apart: &Apart, laid: &Laid, number: u32) -> Result<b
         let terminal = left % TERMINALS;
         left /= TERMINALS;
         if apart.terminals() <= terminal as usize || laid.terminals() <= terminal as usize {
-            return Ok(true);
+            break;
         }
         if !are_same(&call(&mut one, terminal), &call(&mut other, terminal)) {
+            return false;
+        }
+    }
+    true
+}
+
+/// Whether they do so to every string.
+fn all_are_alike(alloc: Global, apart: &Apart, laid: &Laid) -> Result<bool, Fail> {
+    let Ok(()) = steady(alloc, apart) else {
+        return Err(Fail::from("tables were refused that are steady"));
+    };
+    let Ok(()) = steady(alloc, laid) else {
+        return Err(Fail::from("tables were refused that are steady"));
+    };
+    for number in 0..STRINGS {
+        if !are_alike(alloc, apart, laid, number) {
             return Ok(false);
         }
     }
@@ -103,12 +118,7 @@ fn grammars_are_parsed_alike_over_both_kinds_of_rows(rt: HostRuntime) -> Result<
     for yacc in &GRAMMARS {
         let apart = tables_of(rt.alloc(), yacc)?;
         let laid = pack(rt.alloc(), tables_of(rt.alloc(), yacc)?)?;
-        for number in 0..STRINGS {
-            assert!(rt;
-                are_alike(rt.alloc(), &apart, &laid, number)?,
-                "{yacc:?}, {number}"
-            );
-        }
+        assert!(rt; all_are_alike(rt.alloc(), &apart, &laid)?, "{yacc:?}");
     }
     Ok(())
 }
