@@ -73,10 +73,10 @@ fn start_partition(
 /// The states by their blocks.
 fn groups_of_blocks(alloc: Global, blocks: &Blocks, states: u32) -> Result<Groups, AllocError>
     requires { AreBlocks states blocks.now.of.items blocks.now.count }
-    ensures keys { IfOk result (λ g. length g.last.items ≡ blocks.now.count) }
-    ensures chains { IfOk result (λ g. AreChains states g.last.items g.before.items) }
-    ensures grouped { IfOk result (λ g. AreGrouped states (λ s. Some (block_of blocks.now.of.items s)) g.last.items
-        g.before.items) }
+    ensures keys { IfOk result (λ g. length g.last ≡ blocks.now.count) }
+    ensures chains { IfOk result (λ g. AreChains states g.last g.before) }
+    ensures grouped { IfOk result (λ g. AreGrouped states (λ s. Some (block_of blocks.now.of.items s)) g.last
+        g.before) }
 {
     let mut groups = Groups::new(alloc, blocks.count)?;
     for state in 0..states {

@@ -15,6 +15,7 @@ mod blocks;
 mod groups;
 mod halves;
 mod laws;
+mod links;
 mod minimal;
 mod partition;
 mod quotient;

@@ -71,15 +71,15 @@ impl Partition {
     ) -> Result<(), AllocError>
         requires laid { IsPartition self.old }
         requires clear { AreClear self.old }
-        requires chains { AreChains (length self.old.of.items) groups.now.last.items groups.now.before.items }
-        requires keys { All (λ k. k < length groups.now.last.items) keys.now }
+        requires chains { AreChains (length self.old.of.items) groups.now.last groups.now.before }
+        requires keys { All (λ k. k < length groups.now.last) keys.now }
         requires halves { AreUnions self.old.of.items halves.old.items }
         ensures laid { OnOk result (IsPartition self.new) }
         ensures clear { OnOk result (AreClear self.new) }
         ensures count { OnOk result (length self.new.of.items ≡ length self.old.of.items) }
         ensures finer { OnOk result (IsFiner self.old self.new) }
         ensures apart { OnOk result ((key : ℕ → Option ℕ)
-            → AreGrouped (length self.old.of.items) key groups.now.last.items groups.now.before.items
+            → AreGrouped (length self.old.of.items) key groups.now.last groups.now.before
             → AreSplitBy key keys.now self.old self.new) }
         ensures halves { OnOk result (AreUnions self.new.of.items halves.new.items) }
         ensures more { OnOk result (length self.old.first.items ≤ length self.new.first.items) }
@@ -104,25 +104,25 @@ impl Partition {
         touched: &mut Vec<u32>,
     ) -> Result<(), AllocError>
         requires laid { IsPartition self.old }
-        requires chains { AreChains (length self.old.of.items) groups.now.last.items groups.now.before.items }
-        requires key { key < length groups.now.last.items }
+        requires chains { AreChains (length self.old.of.items) groups.now.last groups.now.before }
+        requires key { key < length groups.now.last }
         requires touched { AreTouched self.old 0 touched.old.items }
         ensures laid { OnOk result (IsPartition self.new) }
         ensures same { OnOk result (HasSameBlocks self.old self.new) }
         ensures touched { OnOk result (AreTouched self.new 0 touched.new.items) }
         ensures marked { OnOk result ((of : ℕ → Option ℕ)
-            → AreGrouped (length self.old.of.items) of groups.now.last.items groups.now.before.items
+            → AreGrouped (length self.old.of.items) of groups.now.last groups.now.before
             → (s : ℕ) → s < length self.old.of.items
             → (IsMarked self.new s ↔ (IsMarked self.old s ⊎ (of s ≡ Some key)))) }
     {
-        let mut next = groups.last[key as usize];
+        let mut next = groups.last.get(key as usize);
         while let Some(state) = next {
             let block = self.of[state as usize];
             if self.middle[block as usize] == self.first[block as usize] {
                 touched.push(block)?;
             }
             self.mark(state);
-            next = groups.before[state as usize];
+            next = groups.before.get(state as usize);
         }
         Ok(())
     }

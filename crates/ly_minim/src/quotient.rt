@@ -5,6 +5,7 @@ ghost use Rattle.ly_subset.specs.Automaton.{entry_at};
 ghost use Rattle.ly_minim.specs.Private.Quotient.{AreNumbered, IsEntered, IsMet, IsQuotient};
 
 use crate::blocks::Blocks;
+use crate::links::Links;
 use ly_base::{Entry, OutOfMemory};
 use ly_subset::Dfa;
 use std::alloc::{AllocError, Global};
@@ -13,7 +14,7 @@ use std::alloc::{AllocError, Global};
 #[derive(Drop)]
 pub(crate) struct Quotient {
     /// For each block the state's number, if it was met.
-    numbers: Vec<Option<u32>>,
+    numbers: Links,
     /// For each number a state of its block.
     pub(crate) picked: Vec<u32>,
     /// The entries so far: starts, and then rows.
@@ -29,7 +30,7 @@ pub(crate) fn blocks_met(alloc: Global, dfa: &Dfa, blocks: &Blocks) -> Result<Qu
         ≡ dfa.now.starts + length q.picked.items * dfa.now.classes) }
 {
     let mut quotient = Quotient {
-        numbers: unmet(alloc, blocks.count)?,
+        numbers: Links::none(alloc, blocks.count)?,
         picked: Vec::new(alloc),
         entries: Vec::new(alloc),
     };
@@ -42,18 +43,6 @@ pub(crate) fn blocks_met(alloc: Global, dfa: &Dfa, blocks: &Blocks) -> Result<Qu
         state += 1;
     }
     Ok(quotient)
-}
-
-/// No number for each of some blocks.
-fn unmet(alloc: Global, blocks: usize) -> Result<Vec<Option<u32>>, AllocError>
-    ensures count { IfOk result (λ n. length n.items ≡ blocks) }
-    ensures none { IfOk result (λ n. (b : ℕ) → entry_at n.items b ≡ None) }
-{
-    let mut numbers = Vec::with_capacity(alloc, blocks)?;
-    for _block in 0..blocks {
-        numbers.push(None)?;
-    }
-    Ok(numbers)
 }
 
 impl Quotient {
@@ -102,12 +91,12 @@ impl Quotient {
         ensures fits { IfOk result (λ n. n < u32.MAX) }
     {
         let block = blocks.of[state as usize] as usize;
-        if let Some(number) = self.numbers[block] {
+        if let Some(number) = self.numbers.get(block) {
             return Ok(number);
         }
         let number = self.picked.len() as u32;
         self.picked.push(state)?;
-        self.numbers[block] = Some(number);
+        self.numbers.set(block, number);
         Ok(number)
     }
 }

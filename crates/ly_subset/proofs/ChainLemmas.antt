@@ -1,9 +1,10 @@
 -- What chains tell of the positions that may come after a set.
 use Rattle.std.proofs.Common.{◌≡◌, ◌<◌, ◌≤◌, ◌+◌, ◌∙◌, ℕ, List, [], ◌∷◌, ◌++◌, Bool, true, false, Some}
 use Rattle.std.proofs.Common.{sym, ap, subst, arith, inl, inr, length, Contains, All, get_or, ◌⊎◌}
-use Rattle.std.specs.Prelude.{AllPairs, ◌↔◌, ◌-◌, slice_get}
+use Rattle.std.specs.Prelude.{AllPairs, ◌↔◌, ◌-◌, MatchBool, slice_get}
 use Rattle.std.specs.List.{range_with_len}
-use Rattle.std.proofs.lemmas.Bool.{cases_eq, cases_lt}
+use Rattle.std.proofs.lemmas.Bool.{cases_eq, cases_lt, le-leb, lt-leb}
+use Rattle.std.proofs.Math.Dec.{leb}
 use Rattle.std.proofs.lemmas.List.{get_or_append_left, get_or_default, get_or_push}
 use Rattle.std.proofs.lemmas.List.Elements.{All-contains, Contains-get_or}
 use Rattle.std.proofs.lemmas.List.FromFn.{get_or-range_with_len, length-range_with_len}
@@ -36,6 +37,18 @@ contains_run first last q = let so = contains_range first (last + 1 - first) q i
   λ h. let both = so.0 h in (both.0, omega (arith, both.0, both.1)),
   λ h. so.1 (h.0, omega (arith, h.0, h.1)),
 )
+
+-- what the tests of both ends tell
+pub run_if : (first last q : ℕ) → first ≤ q → MatchBool (leb q last) (Contains (run_of first last) q)
+    (Contains (run_of first last) q → ⊥)
+run_if first last q low = elim (cases_lt last q) [
+  | inl past ↦ rw (lt-leb q last past) (λ h. omega (arith, past, ((contains_run first last q).0 h).1))
+  | inr within ↦ rw (le-leb q last within) ((contains_run first last q).1 (low, within))
+]
+
+pub run_if_not : (first last q : ℕ) → q < first → MatchBool (leb first q) (Contains (run_of first last) q)
+    (Contains (run_of first last) q → ⊥)
+run_if_not first last q below = rw (lt-leb first q below) (λ h. omega (arith, below, ((contains_run first last q).0 h).0))
 
 -- a position that only the one before it follows begins a chain
 pub chain_begins : (n : Nfa) (p : ℕ) → BeginsChain n p → IsChain n p p

@@ -384,3 +384,13 @@ span_packed first last row l fits is =
         subst AreWords (sym back) (words_of_run first last l fits),
       ),
     )
+
+-- a packed list of one run
+pub unpack-one_run : (row : List ℕ) → length row ≡ 3 → 0 < get_or row 0 0
+    → run_of (get_or row 1 0) (get_or row 2 0) ≡ unpack row
+unpack-one_run [] three some = absurd (cc)
+unpack-one_run (a ∷ []) three some = absurd (cc)
+unpack-one_run (a ∷ b ∷ []) three some = absurd (cc)
+unpack-one_run (zero ∷ b ∷ c ∷ []) three some = absurd (omega (arith, some))
+unpack-one_run (suc k ∷ b ∷ c ∷ []) three some = sym (append-nil (run_of b c))
+unpack-one_run (a ∷ b ∷ c ∷ d ∷ row) three some = absurd (cc)

@@ -3,5 +3,6 @@ pub mod Chains
 pub mod Classes
 pub mod Found
 pub mod Keys
+pub mod Members
 pub mod Packed
 pub mod Rules

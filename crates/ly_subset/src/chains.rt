@@ -2,12 +2,15 @@
 // leads to. To join these anew for each set and class takes the square of the positions, for each class. But such
 // positions stand in a chain: after each, just those before it may come, down to where the chain begins. So the last
 // position of a set that reads a byte says at once what all that do lead to, which is kept as a run.
-ghost use Rattle.std.specs.Prelude.{◌≡◌, ◌<◌, ◌-◌, ◌≤◌, ℕ, length, false, All, AllPairs, Contains, IfOk, IfSome};
-ghost use Rattle.std.specs.Prelude.{MatchOption};
+ghost use Rattle.std.specs.Prelude.{◌≡◌, ◌<◌, ◌-◌, ◌≤◌, ◌^◌, ℕ, length, false, All, AllPairs, Contains, IfOk, IfSome, slice_index_or};
+ghost use Rattle.std.specs.Prelude.{MatchBool, MatchOption};
 ghost use Rattle.ly_position.specs.Nfa.{ReadsByte};
 ghost use Rattle.ly_subset.specs.Private.Chains.{AreChains, IsChain, IsLastReader, IsSpanAfter, ReadsNone};
+ghost use Rattle.ly_subset.specs.Private.Members.{listed};
+ghost use Rattle.ly_subset.specs.Private.Packed.{run_of};
 
 use crate::classes::reads;
+use crate::members::Members;
 use ly_position::PosNfa;
 use std::alloc::{AllocError, Global};
 
@@ -18,6 +21,48 @@ pub(crate) struct Span {
     pub(crate) first: u32,
     /// The last.
     pub(crate) last: u32,
+}
+
+impl Span {
+    /// How many there are.
+    pub(crate) fn len(self) -> usize
+        ensures count { result ≡ length (run_of self.first self.last) }
+        ensures fits { self.last < 2 ^ 32 }
+    {
+        run_length(self.first, self.last)
+    }
+
+    /// The one at a place.
+    pub(crate) fn at(self, place: usize) -> u32
+        requires { place < length (run_of self.first self.last) }
+        ensures { result ≡ slice_index_or (run_of self.first self.last) place 0 }
+    {
+        run_number(self.first, self.last, place)
+    }
+
+    /// Whether a position is one of them.
+    pub(crate) fn contains(self, number: u32) -> bool
+        ensures { MatchBool result (Contains (run_of self.first self.last) number)
+            (Contains (run_of self.first self.last) number → ⊥) }
+    {
+        self.first <= number && number <= self.last
+    }
+}
+
+/// How many numbers there are from the first to the last.
+fn run_length(first: u32, last: u32) -> usize
+    ensures count { result ≡ length (run_of first last) }
+    ensures fits { last < 2 ^ 32 }
+{
+    (last as usize + 1).saturating_sub(first as usize)
+}
+
+/// The number at a place of those from the first to the last.
+fn run_number(first: u32, last: u32, place: usize) -> u32
+    requires { place < length (run_of first last) }
+    ensures { result ≡ slice_index_or (run_of first last) place 0 }
+{
+    first + place as u32
 }
 
 /// For each position the first of the chain that it goes on, or 0 where it goes on none: after each position of a
@@ -53,11 +98,11 @@ fn first_of(nfa: &PosNfa, before: u32, number: usize) -> u32
 }
 
 /// The last of some rising positions that reads the byte, if there is one. `unread` is a byte that no position reads.
-pub(crate) fn last_reader(nfa: &PosNfa, from: &[u32], byte: u8, unread: Option<u8>) -> Option<u32>
+pub(crate) fn last_reader(nfa: &PosNfa, from: &Members, byte: u8, unread: Option<u8>) -> Option<u32>
     requires unread { IfSome unread (λ b. (p : ℕ) → ReadsByte nfa.now p b → ⊥) }
-    requires from { All (λ p. p < length nfa.now.positions) from.now }
-    requires rising { AllPairs (λ p q. p < q) from.now }
-    ensures { MatchOption result (ReadsNone nfa.now from.now byte) (IsLastReader nfa.now from.now byte) }
+    requires from { All (λ p. p < length nfa.now.positions) (listed from.now) }
+    requires rising { AllPairs (λ p q. p < q) (listed from.now) }
+    ensures { MatchOption result (ReadsNone nfa.now (listed from.now) byte) (IsLastReader nfa.now (listed from.now) byte) }
 {
     match unread {
         Some(none) if none == byte => None,
@@ -66,13 +111,13 @@ pub(crate) fn last_reader(nfa: &PosNfa, from: &[u32], byte: u8, unread: Option<u
 }
 
 /// The last of some rising positions that reads the byte, if there is one.
-fn last_of(nfa: &PosNfa, from: &[u32], byte: u8) -> Option<u32>
-    requires from { All (λ p. p < length nfa.now.positions) from.now }
-    requires rising { AllPairs (λ p q. p < q) from.now }
-    ensures { MatchOption result (ReadsNone nfa.now from.now byte) (IsLastReader nfa.now from.now byte) }
+fn last_of(nfa: &PosNfa, from: &Members, byte: u8) -> Option<u32>
+    requires from { All (λ p. p < length nfa.now.positions) (listed from.now) }
+    requires rising { AllPairs (λ p q. p < q) (listed from.now) }
+    ensures { MatchOption result (ReadsNone nfa.now (listed from.now) byte) (IsLastReader nfa.now (listed from.now) byte) }
 {
     for passed in 0..from.len() {
-        let number = from[from.len() - 1 - passed];
+        let number = from.at(from.len() - 1 - passed);
         if reads(&nfa.position(number), byte) {
             return Some(number);
         }
@@ -85,15 +130,15 @@ fn last_of(nfa: &PosNfa, from: &[u32], byte: u8) -> Option<u32>
 pub(crate) fn span_after(
     nfa: &PosNfa,
     firsts: &[u32],
-    from: &[u32],
+    from: &Members,
     byte: u8,
     last: u32,
 ) -> Option<Span>
     requires firsts { AreChains nfa.now firsts.now }
-    requires from { All (λ p. p < length nfa.now.positions) from.now }
-    requires rising { AllPairs (λ p q. p < q) from.now }
-    requires last { IsLastReader nfa.now from.now byte last }
-    ensures { IfSome result (IsSpanAfter nfa.now from.now byte) }
+    requires from { All (λ p. p < length nfa.now.positions) (listed from.now) }
+    requires rising { AllPairs (λ p q. p < q) (listed from.now) }
+    requires last { IsLastReader nfa.now (listed from.now) byte last }
+    ensures { IfSome result (IsSpanAfter nfa.now (listed from.now) byte) }
 {
     let first = firsts[last as usize];
     if first == 0 || reads_below(nfa, from, byte, first) {
@@ -106,16 +151,17 @@ pub(crate) fn span_after(
 }
 
 /// Whether one of some rising positions that are below a bound reads the byte.
-fn reads_below(nfa: &PosNfa, from: &[u32], byte: u8, bound: u32) -> bool
-    requires from { All (λ p. p < length nfa.now.positions) from.now }
-    requires rising { AllPairs (λ p q. p < q) from.now }
-    ensures { result ≡ false → (p : ℕ) → Contains from.now p → ReadsByte nfa.now p byte → bound ≤ p }
+fn reads_below(nfa: &PosNfa, from: &Members, byte: u8, bound: u32) -> bool
+    requires from { All (λ p. p < length nfa.now.positions) (listed from.now) }
+    requires rising { AllPairs (λ p q. p < q) (listed from.now) }
+    ensures { result ≡ false → (p : ℕ) → Contains (listed from.now) p → ReadsByte nfa.now p byte → bound ≤ p }
 {
-    for number in from {
-        if *number >= bound {
+    for place in 0..from.len() {
+        let number = from.at(place);
+        if number >= bound {
             return false;
         }
-        if reads(&nfa.position(*number), byte) {
+        if reads(&nfa.position(number), byte) {
             return true;
         }
     }

@@ -3,6 +3,7 @@ ghost use Rattle.std.specs.Prelude.{IsErrOf, OnOk};
 ghost use Rattle.ly_position.specs.Nfa.{IsRoomFor, ReadsByte};
 ghost use Rattle.ly_subset.specs.Automaton.{IsAutomaton, start_place};
 ghost use Rattle.ly_subset.specs.Private.Chains.{AreChains};
+ghost use Rattle.ly_subset.specs.Private.Members.{listed};
 ghost use Rattle.ly_subset.specs.Private.Found.{AreKept, IsFound, IsLed, IsLedPast, IsPast};
 ghost use Rattle.ly_subset.specs.Subsets.{AreSubsets, HasMoreSets};
 
@@ -11,6 +12,7 @@ use crate::classes::{byte_classes, unread_byte};
 use crate::dfa::Dfa;
 use crate::fault::SubsetFault;
 use crate::found::Found;
+use crate::members::Members;
 use crate::rules::rules_of;
 use ly_base::Limits;
 use ly_position::{PosNfa, PositionSet};
@@ -149,24 +151,24 @@ fn lead(
     nfa: &PosNfa,
     found: &mut Found,
     firsts: &[u32],
-    from: &[u32],
+    from: &Members,
     byte: u8,
     unread: Option<u8>,
     into: &mut PositionSet,
 ) -> Result<(), SubsetFault>
     requires firsts { AreChains nfa.now firsts.now }
     requires unread { IfSome unread (λ b. (p : ℕ) → ReadsByte nfa.now p b → ⊥) }
-    requires from { All (λ p. p < length nfa.now.positions) from.now }
-    requires rising { AllPairs (λ p q. p < q) from.now }
+    requires from { All (λ p. p < length nfa.now.positions) (listed from.now) }
+    requires rising { AllPairs (λ p q. p < q) (listed from.now) }
     requires room { IsRoomFor nfa.now into.old }
     requires kept { AreKept (length nfa.now.positions) found.old.limit found.old.keys }
     ensures room { IsRoomFor nfa.now into.new }
-    ensures led { OnOk result (IsLed nfa.now from.now byte found.old found.new) }
+    ensures led { OnOk result (IsLed nfa.now (listed from.now) byte found.old found.new) }
     ensures kept { OnOk result (AreKept (length nfa.now.positions) found.new.limit found.new.keys) }
     ensures starts { found.new.starts ≡ found.old.starts }
     ensures limit { found.new.limit ≡ found.old.limit }
     ensures full { IsErrOf result SubsetFault.TooManyStates
-        → IsLedPast nfa.now from.now byte found.old.limit found.old.keys }
+        → IsLedPast nfa.now (listed from.now) byte found.old.limit found.old.keys }
 {
     let Some(last) = last_reader(nfa, from, byte, unread) else {
         return found.enter_none();
@@ -174,6 +176,6 @@ fn lead(
     if let Some(span) = span_after(nfa, firsts, from, byte, last) {
         return found.enter_span(span);
     }
-    nfa.step(from, byte, into);
+    from.step(found.alloc, nfa, byte, into)?;
     found.enter(into)
 }

@@ -18,6 +18,7 @@ mod fault;
 mod found;
 mod keys;
 mod laws;
+mod members;
 mod packed;
 mod rules;
 mod sets;

@@ -1,4 +1,4 @@
-ghost use Rattle.std.specs.Prelude.{◌≡◌, ◌+◌, ◌^◌, ◌<◌, ◌≤◌, ◌++◌, [], ◌∷◌, nat_eq, IfOk, List, OnOk, ℕ};
+ghost use Rattle.std.specs.Prelude.{◌≡◌, ◌+◌, ◌^◌, ◌<◌, ◌≤◌, ◌++◌, [], ◌∷◌, nat_eq, IfOk, IfSome, List, OnOk, ℕ};
 ghost use Rattle.ly_subset.specs.Private.Packed.{AreWords, breaks_of, members_of, pack, pack_blocks, pack_runs};
 ghost use Rattle.ly_subset.specs.Private.Packed.{packed_with, run_of, run_with, unpack, unpack_by};
 
@@ -158,6 +158,29 @@ pub(crate) fn unpack(alloc: Global, row: &[u32]) -> Result<Vec<u32>, AllocError>
         Some((kind, pairs)) if *kind == 0 => unpack_blocks(alloc, pairs),
         Some((_, pairs)) => unpack_runs(alloc, pairs),
     }
+}
+
+/// The span of a packed list that is one run.
+pub(crate) fn unpack_run(row: &[u32]) -> Option<Span>
+    ensures { IfSome result (λ s. run_of s.first s.last ≡ unpack row.now) }
+{
+    if row.len() == 3 && row[0] > 0 {
+        Some(Span {
+            first: row[1],
+            last: row[2],
+        })
+    } else {
+        None
+    }
+}
+
+/// The numbers of a span.
+pub(crate) fn numbers(alloc: Global, span: Span) -> Result<Vec<u32>, AllocError>
+    ensures { IfOk result (λ n. n.items ≡ run_of span.first span.last) }
+{
+    let mut numbers = Vec::new(alloc);
+    push_run(&mut numbers, span.first, span.last)?;
+    Ok(numbers)
 }
 
 /// The numbers of blocks.

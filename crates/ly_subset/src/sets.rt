@@ -1,9 +1,11 @@
 ghost use Rattle.std.specs.Prelude.{◌≡◌, ◌<◌, ◌++◌, [], ◌∷◌, length, slice_index_or, IfOk, MatchOption, OnOk};
 ghost use Rattle.ly_base.specs.Keys.{IsAbsent};
+ghost use Rattle.ly_subset.specs.Private.Members.{listed};
 ghost use Rattle.ly_subset.specs.Private.Packed.{IsPacked, unpack};
 
 use crate::keys::Keys;
-use crate::packed::unpack;
+use crate::members::Members;
+use crate::packed::{unpack, unpack_run};
 use std::alloc::{AllocError, Global};
 use std::marker::Model;
 
@@ -45,11 +47,15 @@ impl Sets {
     }
 
     /// The list of a number.
-    pub(crate) fn members(&self, alloc: Global, number: usize) -> Result<Vec<u32>, AllocError>
+    pub(crate) fn members(&self, alloc: Global, number: usize) -> Result<Members, AllocError>
         requires { number < length self.now }
-        ensures { IfOk result (λ m. m.items ≡ slice_index_or self.now number []) }
+        ensures { IfOk result (λ m. listed m ≡ slice_index_or self.now number []) }
     {
-        unpack(alloc, self.rows.key(number))
+        let row = self.rows.key(number);
+        match unpack_run(row) {
+            Some(span) => Ok(Members::Run(span)),
+            None => Ok(Members::List(unpack(alloc, row)?)),
+        }
     }
 
     /// The number of a packed list, if it is there.

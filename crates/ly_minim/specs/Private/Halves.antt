@@ -14,9 +14,9 @@ AreUnions of halves = All (λ (half : Vec ℕ Global). IsUnion of half.items) ha
 
 -- the states by where a class leads
 pub record AreGroupsOf (A : Automaton) (class : ℕ) (groups : Groups) : Type 0 where
-  pub keys : length groups.last.items ≡ length A.rules
-  pub chains : AreChains (length A.rules) groups.last.items groups.before.items
-  pub grouped : AreGrouped (length A.rules) (λ s. next_by_class A s class) groups.last.items groups.before.items
+  pub keys : length groups.last ≡ length A.rules
+  pub chains : AreChains (length A.rules) groups.last groups.before
+  pub grouped : AreGrouped (length A.rules) (λ s. next_by_class A s class) groups.last groups.before
 
 -- so it is for some class
 abbrev pub IsByClass : Automaton → Groups → Type 0

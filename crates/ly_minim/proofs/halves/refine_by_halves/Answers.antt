@@ -43,7 +43,7 @@ split_by-requires-clause-chains c =
     (sym (c.groups-item.is ∙ ap (λ gs. get_or gs i g) value))
     (c.in_ok-by_class.ensures i g (let less = c.loop-groups-test.true in omega (arith, ap length value))) in
     let was = c.loop-groups.invariant in
-    subst (λ n. AreChains n g.last.items g.before.items) (sym was.count) by.2.chains
+    subst (λ n. AreChains n g.last g.before) (sym was.count) by.2.chains
 
 pub split_by-requires-clause-keys : goal.split_by-requires-clause-keys
 split_by-requires-clause-keys c =
@@ -79,9 +79,9 @@ loop-groups-preserved c =
     let old = c.loop-groups.partition in
     let new = c.split_by.new.self in
     let done = c.in_ok-split_by.ensures in
-    let grouped : AreGrouped (length old.of.items) (λ s. next_by_class c.args.dfa.now s by.0) g.last.items
-    g.before.items
-    = subst (λ n. AreGrouped n (λ s. next_by_class c.args.dfa.now s by.0) g.last.items g.before.items) (sym was.count)
+    let grouped : AreGrouped (length old.of.items) (λ s. next_by_class c.args.dfa.now s by.0) g.last
+    g.before
+    = subst (λ n. AreGrouped n (λ s. next_by_class c.args.dfa.now s by.0) g.last g.before) (sym was.count)
     by.2.grouped in
     record {
       laid = done.laid;

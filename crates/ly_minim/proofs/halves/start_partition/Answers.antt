@@ -17,7 +17,7 @@ loop-block-preserved c =
       within = within_more c.args.states start (c.loop-block.block ∷ []) c.loop-block.partition
           c.split_by.new.self was.count was.within
           (done.apart (λ s. Some (block_of start s)) (subst
-          (λ n. AreGrouped n (λ s. Some (block_of start s)) groups.last.items groups.before.items) (sym was.count)
+          (λ n. AreGrouped n (λ s. Some (block_of start s)) groups.last groups.before) (sym was.count)
           c.in_ok-groups.ensures.grouped));
       halves = done.halves;
     }

@@ -1,20 +1,41 @@
-use Rattle.std.proofs.Common.{arith}
+use Rattle.std.proofs.Common.{◌≡◌, ◌+◌, arith, length, subst, sym}
+use Rattle.std.specs.Prelude.{◌-◌}
+use Rattle.ly_position.specs.Nfa.{ReadsByte}
+use Rattle.ly_subset.specs.Private.Chains.{IsLastReader}
+use Rattle.ly_subset.specs.Private.Members.{listed}
 use Rattle.ly_subset.proofs.ChainLemmas.{last_found, none_found, passed_more, reads_not, reads_one}
 use Rattle.ly_subset.proofs.chains.last_of.Goals as goal
 
 pub returns-then-reads : goal.returns-then-reads
-returns-then-reads c = last_found c.args.nfa.now c.args.from.now c.args.byte c.requires.rising c.loop-passed.passed _
-    (let l = c.loop-passed-test.true in omega (arith, l))
-    (reads_one c.args.nfa.now _ c.position.result c.args.byte c.reads.result c.ranges.byte.fits c.position.ensures
-    c.reads.ensures c.if-reads.true) c.loop-passed.invariant
+returns-then-reads c =
+    let nfa = c.args.nfa.now in
+    let ps = listed c.args.from.now in
+    let passed = c.loop-passed.passed in
+    let k = c.len.result - 1 - passed in
+    let at : k + passed + 1 ≡ length ps = (let all = c.len.ensures in let end = c.len-passed-end.ensures in
+    let l = c.loop-passed-test.true in omega arith) in
+    subst (IsLastReader nfa ps c.args.byte) (sym c.at-number.ensures)
+    (last_found nfa ps c.args.byte c.requires.rising passed k at
+    (subst (λ q. ReadsByte nfa q c.args.byte) c.at-number.ensures
+    (reads_one nfa _ c.position.result c.args.byte c.reads.result c.ranges.byte.fits c.position.ensures
+    c.reads.ensures c.if-reads.true))
+    c.loop-passed.invariant)
 
 pub loop-passed-preserved : goal.loop-passed-preserved
-loop-passed-preserved c = passed_more c.args.nfa.now c.args.from.now c.args.byte c.requires.rising
-    c.loop-passed.passed _
-    (let l = c.loop-passed-test.true in omega (arith, l))
-    (reads_not c.args.nfa.now _ c.position.result c.args.byte c.reads.result c.ranges.byte.fits c.position.ensures
-    c.reads.ensures c.if-reads.false) c.loop-passed.invariant
+loop-passed-preserved c =
+    let nfa = c.args.nfa.now in
+    let ps = listed c.args.from.now in
+    let passed = c.loop-passed.passed in
+    let k = c.len.result - 1 - passed in
+    let at : k + passed + 1 ≡ length ps = (let all = c.len.ensures in let end = c.len-passed-end.ensures in
+    let l = c.loop-passed-test.true in omega arith) in
+    passed_more nfa ps c.args.byte c.requires.rising passed k at
+    (subst (λ q. ReadsByte nfa q c.args.byte → ⊥) c.at-number.ensures
+    (reads_not nfa _ c.position.result c.args.byte c.reads.result c.ranges.byte.fits c.position.ensures
+    c.reads.ensures c.if-reads.false))
+    c.loop-passed.invariant
 
 pub returns : goal.returns
-returns c = none_found c.args.nfa.now c.args.from.now c.args.byte c.requires.rising c.loop-passed.passed
-    c.loop-passed-test.false c.loop-passed.invariant
+returns c = let all = c.len-passed-end.ensures in let past = c.loop-passed-test.false in
+    none_found c.args.nfa.now (listed c.args.from.now) c.args.byte c.requires.rising c.loop-passed.passed (omega arith)
+    c.loop-passed.invariant

@@ -15,8 +15,8 @@ loop-byte-init c = record {
   room = c.requires.room;
   found = c.requires.found;
   state = c.requires.state;
-  set = subst (λ xs. (q : ℕ) → Contains c.in_ok-from.from.items q ↔ Contains xs q)
-      c.in_ok-from.ensures (λ q. (λ h. h, λ h. h));
+  from = c.in_ok-from.ensures;
+  kept = refl;
   at = let next = c.requires.next in omega arith;
   longer = omega arith;
   starts = refl;
@@ -25,29 +25,28 @@ loop-byte-init c = record {
 
 pub lead-requires-clause-from : goal.lead-requires-clause-from
 lead-requires-clause-from c = subst (λ ps. All (λ p. p < length c.args.nfa.now.positions) ps)
-    (sym (c.deref.ensures.value ∙ c.in_ok-from.ensures))
+    (sym c.loop-byte.invariant.from)
     (set_within (length c.args.nfa.now.positions) c.args.found.now.keys c.args.state c.requires.found.kept.are_sets)
 
 pub lead-requires-clause-rising : goal.lead-requires-clause-rising
 lead-requires-clause-rising c = subst (λ ps. AllPairs (λ p q. p < q) ps)
-    (sym (c.deref.ensures.value ∙ c.in_ok-from.ensures)) (c.requires.found.kept.rising c.args.state c.requires.state)
+    (sym c.loop-byte.invariant.from) (c.requires.found.kept.rising c.args.state c.requires.state)
 
 pub returns-in_err-lead-clause-past : goal.returns-in_err-lead-clause-past
 returns-in_err-lead-clause-past c = λ failed.
     let p = err_from_is_err_and c.from_residual-in_err-lead.result c.from_residual-in_err-lead.ensures.1 in
     let was = c.loop-byte.invariant in
     let nfa = c.args.nfa.now in
-    let from = c.deref.result.now in
     let set = subst (λ xs. (q : ℕ) → Contains xs q ↔ Contains (set_at c.loop-byte.found.keys c.args.state) q)
-    (sym c.deref.ensures.value) was.set in
+    (was.kept ∙ sym was.from) (λ q. (λ h. h, λ h. h)) in
     let same : c.in_err-lead.field-0.0 ≡ TooManyStates = let a = p.1 in let b = p.2 in cc in
     let past = c.in_err-lead.ensures.full (ap (λ e. Err e) same) in
     subst (λ n. IsPast nfa n c.args.least.now c.args.found.now.limit) was.starts
     (subst (λ n. IsPast nfa c.loop-byte.found.starts c.args.least.now n) was.limit
     (past_row nfa c.args.least.now c.loop-byte.found past.members c.args.state c.loop-byte.byte-index was.found
     past.full was.state c.loop-byte-test.true
-    (both_ways (Contains past.members) (Stepped nfa from _) (Stepped nfa (set_at c.loop-byte.found.keys c.args.state) _)
-    past.stepped (stepped_same nfa from (set_at c.loop-byte.found.keys c.args.state) _ set))))
+    (both_ways (Contains past.members) (Stepped nfa _ _) (Stepped nfa (set_at c.loop-byte.found.keys c.args.state) _)
+    past.stepped (stepped_same nfa _ (set_at c.loop-byte.found.keys c.args.state) _ set))))
 
 pub loop-byte-preserved : goal.loop-byte-preserved
 loop-byte-preserved c =
@@ -57,7 +56,7 @@ loop-byte-preserved c =
     let led = c.in_ok-lead.ensures.led in
     let members = led.members in
     let set = subst (λ xs. (q : ℕ) → Contains xs q ↔ Contains (set_at c.loop-byte.found.keys c.args.state) q)
-    (sym c.deref.ensures.value) was.set in
+    (was.kept ∙ sym was.from) (λ q. (λ h. h, λ h. h)) in
     let entered = led.entered in
     let more = count_entered nfa least c.loop-byte.found c.lead.new.found members was.found entered
     c.in_ok-lead.ensures.starts c.in_ok-lead.ensures.limit in
@@ -68,14 +67,14 @@ loop-byte-preserved c =
       found = row_found nfa least c.loop-byte.found c.lead.new.found members was.found entered
           c.in_ok-lead.ensures.starts c.in_ok-lead.ensures.limit c.args.state c.loop-byte.byte-index
           c.in_ok-lead.ensures.kept was.state c.loop-byte-test.true was.at
-          (both_ways (Contains members) (Stepped nfa c.deref.result.now _)
+          (both_ways (Contains members) (Stepped nfa _ _)
           (Stepped nfa (set_at c.loop-byte.found.keys c.args.state) _) led.stepped
-          (stepped_same nfa c.deref.result.now (set_at c.loop-byte.found.keys c.args.state) _
+          (stepped_same nfa _ (set_at c.loop-byte.found.keys c.args.state) _
           set));
       state = let less = was.state in omega (arith, longer);
-      set = subst (λ xs. (q : ℕ) → Contains c.in_ok-from.from.items q ↔ Contains xs q)
-          (sym (entered_kept nfa least c.loop-byte.found c.lead.new.found members was.found entered
-          c.in_ok-lead.ensures.starts c.in_ok-lead.ensures.limit c.args.state was.state)) was.set;
+      from = was.from;
+      kept = entered_kept nfa least c.loop-byte.found c.lead.new.found members was.found entered
+          c.in_ok-lead.ensures.starts c.in_ok-lead.ensures.limit c.args.state was.state ∙ was.kept;
       at = let at = was.at in let same = c.in_ok-lead.ensures.starts in omega (arith, more);
       longer = let before = was.longer in omega (arith, longer);
       starts = c.in_ok-lead.ensures.starts ∙ was.starts;

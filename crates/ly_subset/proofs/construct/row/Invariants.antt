@@ -1,7 +1,7 @@
-use Rattle.std.proofs.Common.{◌≡◌, ◌<◌, ◌≤◌, ◌+◌, ◌*◌, ℕ, length, Contains}
-use Rattle.std.specs.Prelude.{◌↔◌}
+use Rattle.std.proofs.Common.{◌≡◌, ◌<◌, ◌≤◌, ◌+◌, ◌*◌, length}
 use Rattle.ly_position.specs.Nfa.{IsRoomFor}
 use Rattle.ly_subset.specs.Private.Found.{IsFound}
+use Rattle.ly_subset.specs.Private.Members.{listed}
 use Rattle.ly_subset.specs.Subsets.{set_at}
 use Rattle.ly_subset.proofs.construct.row.Given as goal
 
@@ -11,7 +11,8 @@ invariant-loop-byte l = record {
   room : IsRoomFor l.nfa l.into;
   found : IsFound l.nfa l.least l.found;
   state : l.state < length l.found.keys;
-  set : (q : ℕ) → Contains l.from.items q ↔ Contains (set_at l.found.keys l.state) q;
+  from : listed l.from ≡ set_at l.initial.found.keys l.state;
+  kept : set_at l.found.keys l.state ≡ set_at l.initial.found.keys l.state;
   at : length l.found.entries.items ≡ l.found.starts + (l.state * length l.least + l.byte-index);
   longer : length l.initial.found.keys ≤ length l.found.keys;
   starts : l.found.starts ≡ l.initial.found.starts;

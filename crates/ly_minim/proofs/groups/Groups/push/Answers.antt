@@ -7,11 +7,11 @@ use Rattle.ly_minim.proofs.groups.Groups.push.Goals as goal
 
 pub returns-in_ok-push-in-Some-clause-chains : goal.returns-in_ok-push-in-Some-clause-chains
 returns-in_ok-push-in-Some-clause-chains c =
-    let last = c.args.self.now.last.items in
+    let last = c.args.self.now.last in
     let less : c.in-Some.key < length last
     = subst (λ o. IfSome o (λ k. k < length last)) c.in-Some.is c.requires.key in
     let at : c.index.result.now ≡ entry_at last c.in-Some.key = c.index.ensures
     ∙ get_or_default last c.in-Some.key c.index.result.now None less in
     subst (λ bs. AreChains (c.args.state + 1) (set last c.in-Some.key (Some c.args.state)) bs)
-    (ap (λ o. c.args.self.now.before.items ++ o ∷ []) (sym at) ∙ sym c.in_ok-push-in-Some.ensures.items)
-    (chains_key c.args.state last c.args.self.now.before.items c.requires.chains c.in-Some.key less)
+    (ap (λ o. c.args.self.now.before ++ o ∷ []) (sym at) ∙ sym c.in_ok-push-in-Some.ensures.items)
+    (chains_key c.args.state last c.args.self.now.before c.requires.chains c.in-Some.key less)

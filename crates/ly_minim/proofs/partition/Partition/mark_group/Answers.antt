@@ -8,7 +8,7 @@ use Rattle.ly_minim.proofs.partition.Partition.mark_group.Goals.{then-index+in_o
 
 pub loop-next-init : goal.loop-next-init
 loop-next-init c =
-    let last = c.args.groups.now.last.items in
+    let last = c.args.groups.now.last in
     let at : c.index-next.result.now ≡ entry_at last c.args.key = c.index-next.ensures
     ∙ get_or_default last c.args.key c.index-next.result.now None c.requires.key in
     record {
@@ -17,12 +17,12 @@ loop-next-init c =
       touched = c.requires.touched;
       within = λ s e. c.requires.chains.within c.args.key s (sym at ∙ e);
       marked = λ of grouped. subst (λ o. IsMarkedTo of c.args.key o c.args.self.now c.args.self.now) (sym at)
-          (chain_start of c.args.key last c.args.groups.now.before.items c.args.self.now c.requires.chains grouped);
+          (chain_start of c.args.key last c.args.groups.now.before c.args.self.now c.requires.chains grouped);
     }
 
 pub loop-next-smaller : goal.loop-next-smaller
 loop-next-smaller c =
-    let before = c.args.groups.now.before.items in
+    let before = c.args.groups.now.before in
     let t = c.in-Some.state in
     let less : t < length c.args.self.now.of.items = c.loop-next.invariant.within t c.in-Some.is in
     let at : c.index-next-in-Some.result.now ≡ entry_at before t = c.index-next-in-Some.ensures
@@ -33,7 +33,7 @@ loop-next-smaller c =
 
 pub loop-next-preserved : goal.loop-next-preserved
 loop-next-preserved c =
-    let before = c.args.groups.now.before.items in
+    let before = c.args.groups.now.before in
     let t = c.in-Some.state in
     let was = c.loop-next.invariant in
     let less : t < length c.args.self.now.of.items = was.within t c.in-Some.is in
@@ -71,7 +71,7 @@ loop-next-preserved c =
       ];
       within = λ s e. omega (arith, c.requires.chains.falls s t (sym at ∙ e), less);
       marked = λ of grouped. subst (λ o. IsMarkedTo of c.args.key o c.args.self.now c.mark.new.self) (sym at)
-          (chain_more of c.args.key c.args.groups.now.last.items before c.args.self.now c.requires.chains grouped t
+          (chain_more of c.args.key c.args.groups.now.last before c.args.self.now c.requires.chains grouped t
           c.loop-next.self c.mark.new.self less
           (subst (λ o. IsMarkedTo of c.args.key o c.args.self.now c.loop-next.self) c.in-Some.is
           (was.marked of grouped))

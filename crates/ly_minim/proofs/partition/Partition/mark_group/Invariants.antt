@@ -12,7 +12,7 @@ invariant-loop-next l = record {
   touched : AreTouched l.self 0 l.touched.items;
   within : (s : ℕ) → l.next ≡ Some s → s < length l.initial.self.of.items;
   marked : (of : ℕ → Option ℕ)
-      → AreGrouped (length l.initial.self.of.items) of l.groups.last.items l.groups.before.items
+      → AreGrouped (length l.initial.self.of.items) of l.groups.last l.groups.before
       → IsMarkedTo of l.key l.next l.initial.self l.self;
 }
 

@@ -17,7 +17,7 @@ loop-key-preserved c =
       touched = done.touched;
       marked = λ key grouped s l. marks_more c.loop-key.self c.mark_group.new.self key c.args.keys.now
           c.loop-key.key-index (get_or c.args.keys.now c.loop-key.key-index 0) s (was.marked key grouped s l)
-          (done.marked key (subst (λ n. AreGrouped n key c.args.groups.now.last.items c.args.groups.now.before.items)
+          (done.marked key (subst (λ n. AreGrouped n key c.args.groups.now.last c.args.groups.now.before)
           (sym size) grouped) s (omega (arith, l, size))) refl;
     }
 

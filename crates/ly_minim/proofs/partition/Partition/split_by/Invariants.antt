@@ -11,7 +11,7 @@ invariant-loop-key l = record {
   laid : IsPartition l.self;
   same : HasSameBlocks l.fn.self l.self;
   touched : AreTouched l.self 0 l.touched.items;
-  marked : (key : ℕ → Option ℕ) → AreGrouped (length l.fn.self.of.items) key l.groups.last.items l.groups.before.items
+  marked : (key : ℕ → Option ℕ) → AreGrouped (length l.fn.self.of.items) key l.groups.last l.groups.before
       → (s : ℕ) → s < length l.fn.self.of.items → (IsMarked l.self s ↔ HasKeyBelow key l.keys l.key-index s);
 }
 
@@ -27,6 +27,6 @@ invariant-loop-block l = record {
   balance : length l.halves.items + length l.fn.self.first.items
       ≡ length l.fn.halves.items + length l.self.first.items;
   splitting : (key : ℕ → Option ℕ)
-      → AreGrouped (length l.fn.self.of.items) key l.fn.groups.last.items l.fn.groups.before.items
+      → AreGrouped (length l.fn.self.of.items) key l.fn.groups.last l.fn.groups.before
       → IsSplitting key l.fn.keys l.fn.self l.self;
 }
