@@ -33,7 +33,7 @@ pub record AreNumberedBy (of : List ℕ) (count : ℕ) (numbers : List (Option �
 
 -- so it is with the blocks that were met, which a u32 counts
 pub record AreNumbered (blocks : Blocks) (q : Quotient) : Type 0 where
-  pub by : AreNumberedBy blocks.of.items blocks.count q.numbers.items q.picked.items
+  pub by : AreNumberedBy blocks.of.items blocks.count q.numbers q.picked.items
   pub fits : blocks.count < 2 ^ 32
 
 -- The number is that of the state's block, which was added where it wasn't met.

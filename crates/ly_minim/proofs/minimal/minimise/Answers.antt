@@ -16,7 +16,7 @@ with_states-requires c =
     let B = with_states A c.in_ok-rules.rules.items q.entries.items in
     let is = subst (λ (D : Automaton). IsAutomaton D) c.dfa.view_is c.dfa.invariant in
     quotient_automaton A B of q.picked.items is
-    (quotient_of A B of c.in_ok-blocks.blocks.count q q.numbers.items refl refl refl refl
+    (quotient_of A B of c.in_ok-blocks.blocks.count q q.numbers refl refl refl refl
     (subst (λ ps. HaveRules A ps (map (option_map (λ i. i.0)) c.in_ok-rules.rules.items)) c.deref.ensures.value
     c.in_ok-rules.ensures) c.in_ok-quotient.ensures.quotient c.in_ok-quotient.ensures.numbered.by
     c.in_ok-blocks.ensures.blocks.states c.in_ok-quotient.ensures.whole)
@@ -28,7 +28,7 @@ returns-clause-same c =
     let q = c.in_ok-quotient.quotient in
     let B = with_states A c.in_ok-rules.rules.items q.entries.items in
     let is = subst (λ (D : Automaton). IsAutomaton D) c.dfa.view_is c.dfa.invariant in
-    let so = quotient_of A B of c.in_ok-blocks.blocks.count q q.numbers.items refl refl refl refl
+    let so = quotient_of A B of c.in_ok-blocks.blocks.count q q.numbers refl refl refl refl
     (subst (λ ps. HaveRules A ps (map (option_map (λ i. i.0)) c.in_ok-rules.rules.items)) c.deref.ensures.value
     c.in_ok-rules.ensures) c.in_ok-quotient.ensures.quotient c.in_ok-quotient.ensures.numbered.by
     c.in_ok-blocks.ensures.blocks.states c.in_ok-quotient.ensures.whole in
@@ -42,7 +42,7 @@ returns-clause-reduced c =
     let q = c.in_ok-quotient.quotient in
     let B = with_states A c.in_ok-rules.rules.items q.entries.items in
     let is = subst (λ (D : Automaton). IsAutomaton D) c.dfa.view_is c.dfa.invariant in
-    let so = quotient_of A B of c.in_ok-blocks.blocks.count q q.numbers.items refl refl refl refl
+    let so = quotient_of A B of c.in_ok-blocks.blocks.count q q.numbers refl refl refl refl
     (subst (λ ps. HaveRules A ps (map (option_map (λ i. i.0)) c.in_ok-rules.rules.items)) c.deref.ensures.value
     c.in_ok-rules.ensures) c.in_ok-quotient.ensures.quotient c.in_ok-quotient.ensures.numbered.by
     c.in_ok-blocks.ensures.blocks.states c.in_ok-quotient.ensures.whole in
@@ -57,7 +57,7 @@ returns-clause-order c =
     let q = c.in_ok-quotient.quotient in
     let B = with_states A c.in_ok-rules.rules.items q.entries.items in
     let is = subst (λ (D : Automaton). IsAutomaton D) c.dfa.view_is c.dfa.invariant in
-    let so = quotient_of A B of c.in_ok-blocks.blocks.count q q.numbers.items refl refl refl refl
+    let so = quotient_of A B of c.in_ok-blocks.blocks.count q q.numbers refl refl refl refl
     (subst (λ ps. HaveRules A ps (map (option_map (λ i. i.0)) c.in_ok-rules.rules.items)) c.deref.ensures.value
     c.in_ok-rules.ensures) c.in_ok-quotient.ensures.quotient c.in_ok-quotient.ensures.numbered.by
     c.in_ok-blocks.ensures.blocks.states c.in_ok-quotient.ensures.whole in

@@ -10,11 +10,11 @@ loop-place-init c =
     record {
       quotient = quotient_none c.args.dfa.now of _ c.new.ensures.items c.new-2.ensures.items;
       numbered = record {
-        by = subst (λ ps. AreNumberedBy of c.args.blocks.now.count c.in_ok-unmet.field-0.items ps)
+        by = subst (λ ps. AreNumberedBy of c.args.blocks.now.count c.in_ok-none.field-0 ps)
             (sym c.new.ensures.items)
-            (unnumbered of c.args.blocks.now.count c.in_ok-unmet.field-0.items c.in_ok-unmet.ensures.count
+            (unnumbered of c.args.blocks.now.count c.in_ok-none.field-0 c.in_ok-none.ensures.count
             (λ s l. c.requires.within s (let states = c.requires.states in omega arith))
-            c.in_ok-unmet.ensures.none);
+            c.in_ok-none.ensures.none);
         fits = let few = c.requires.few in let fits = c.requires.fits in omega arith;
       };
       at = ap length c.new-2.ensures.items;
@@ -39,7 +39,7 @@ loop-place-preserved c =
 pub loop-state-smaller : goal.loop-state-smaller
 loop-state-smaller c =
     let by = c.loop-state.invariant.numbered.by in
-    let few = picked_few c.args.blocks.now.of.items c.args.blocks.now.count c.loop-state.quotient.numbers.items
+    let few = picked_few c.args.blocks.now.of.items c.args.blocks.now.count c.loop-state.quotient.numbers
     c.loop-state.quotient.picked.items by in
     let less = c.loop-state-test.true in let len = c.len.ensures in let same = c.loop-state.quotient.picked.ok.0 in
     omega (arith, few)

@@ -1,4 +1,4 @@
-use Rattle.std.proofs.Common.{◌≡◌, ◌<◌, ◌++◌, ◌∷◌, ◌∙◌, [], ap, arith, get_or, length, sym, subst, refl, None}
+use Rattle.std.proofs.Common.{◌≡◌, ◌<◌, ◌++◌, ◌∷◌, ◌∙◌, [], ap, arith, get_or, length, sym, subst, refl}
 use Rattle.std.proofs.lemmas.List.{get_or_default}
 use Rattle.ly_subset.specs.Automaton.{entry_at}
 use Rattle.ly_minim.specs.Private.Partition.{AreTouched, home}
@@ -9,8 +9,7 @@ use Rattle.ly_minim.proofs.partition.Partition.mark_group.Goals.{then-index+in_o
 pub loop-next-init : goal.loop-next-init
 loop-next-init c =
     let last = c.args.groups.now.last in
-    let at : c.index-next.result.now ≡ entry_at last c.args.key = c.index-next.ensures
-    ∙ get_or_default last c.args.key c.index-next.result.now None c.requires.key in
+    let at : c.get-next.result ≡ entry_at last c.args.key = c.get-next.ensures in
     record {
       laid = c.requires.laid;
       same = record { of = refl; first = refl };
@@ -25,10 +24,8 @@ loop-next-smaller c =
     let before = c.args.groups.now.before in
     let t = c.in-Some.state in
     let less : t < length c.args.self.now.of.items = c.loop-next.invariant.within t c.in-Some.is in
-    let at : c.index-next-in-Some.result.now ≡ entry_at before t = c.index-next-in-Some.ensures
-    ∙ get_or_default before t c.index-next-in-Some.result.now None
-    (let states = c.requires.chains.states in omega (arith, less)) in
-    past_falls c.loop-next.next t c.index-next-in-Some.result.now c.in-Some.is
+    let at : c.get-next-in-Some.result ≡ entry_at before t = c.get-next-in-Some.ensures in
+    past_falls c.loop-next.next t c.get-next-in-Some.result c.in-Some.is
     (λ s e. c.requires.chains.falls s t (sym at ∙ e))
 
 pub loop-next-preserved : goal.loop-next-preserved
@@ -37,9 +34,7 @@ loop-next-preserved c =
     let t = c.in-Some.state in
     let was = c.loop-next.invariant in
     let less : t < length c.args.self.now.of.items = was.within t c.in-Some.is in
-    let at : c.index-next-in-Some.result.now ≡ entry_at before t = c.index-next-in-Some.ensures
-    ∙ get_or_default before t c.index-next-in-Some.result.now None
-    (let states = c.requires.chains.states in omega (arith, less)) in
+    let at : c.get-next-in-Some.result ≡ entry_at before t = c.get-next-in-Some.ensures in
     let here : t < length c.loop-next.self.of.items = omega (arith, less, ap length was.same.of) in
     let block : c.index-block.result.now ≡ home c.loop-next.self t = c.index-block.ensures
     ∙ get_or_default c.loop-next.self.of.items t c.index-block.result.now 0 here in

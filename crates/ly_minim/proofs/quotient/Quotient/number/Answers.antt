@@ -1,4 +1,4 @@
-use Rattle.std.proofs.Common.{◌≡◌, ◌∙◌, ◌∷◌, [], ap, arith, length, sym, None}
+use Rattle.std.proofs.Common.{◌≡◌, ◌∙◌, ◌∷◌, [], ap, arith, length, sym}
 use Rattle.std.proofs.lemmas.List.{append-nil, get_or_push, get_or_read, length_push}
 use Rattle.ly_subset.specs.Automaton.{entry_at}
 use Rattle.ly_minim.specs.Private.Quotient.{pick_of}
@@ -8,20 +8,18 @@ use Rattle.ly_minim.proofs.quotient.Quotient.number.Goals as goal
 
 pub overflow_cast-number : goal.overflow_cast-number
 overflow_cast-number c = let few = picked_few c.args.blocks.now.of.items c.args.blocks.now.count
-    c.args.self.now.numbers.items c.args.self.now.picked.items c.requires.numbered.by in
+    c.args.self.now.numbers c.args.self.now.picked.items c.requires.numbered.by in
     let fits = c.requires.numbered.fits in let len = c.len-number.ensures in let same = c.args.self.now.picked.ok.0 in
     omega (arith, few)
 
 pub returns-in-Some-clause-met : goal.returns-in-Some-clause-met
 returns-in-Some-clause-met c =
     let of = c.args.blocks.now.of.items in
-    let numbers = c.args.self.now.numbers.items in
+    let numbers = c.args.self.now.numbers in
     let by = c.requires.numbered.by in
     let block : c.index.result.now ≡ block_of of c.args.state
     = get_or_read of c.args.state c.index.result.now c.requires.state c.index.ensures 0 in
-    let read : c.index-2.result.now ≡ entry_at numbers c.index.result.now = get_or_read numbers c.index.result.now
-    c.index-2.result.now (let room = by.room in omega (arith, block, by.blocks_within c.args.state c.requires.state))
-    c.index-2.ensures None in
+    let read : c.get.result ≡ entry_at numbers c.index.result.now = c.get.ensures in
     let met = by.met c.index.result.now c.in-Some.number (sym read ∙ c.in-Some.is) in
     record {
       more = [];
@@ -33,13 +31,11 @@ returns-in-Some-clause-met c =
 pub returns-in-Some-clause-fits : goal.returns-in-Some-clause-fits
 returns-in-Some-clause-fits c =
     let of = c.args.blocks.now.of.items in
-    let numbers = c.args.self.now.numbers.items in
+    let numbers = c.args.self.now.numbers in
     let by = c.requires.numbered.by in
     let block : c.index.result.now ≡ block_of of c.args.state
     = get_or_read of c.args.state c.index.result.now c.requires.state c.index.ensures 0 in
-    let read : c.index-2.result.now ≡ entry_at numbers c.index.result.now = get_or_read numbers c.index.result.now
-    c.index-2.result.now (let room = by.room in omega (arith, block, by.blocks_within c.args.state c.requires.state))
-    c.index-2.ensures None in
+    let read : c.get.result ≡ entry_at numbers c.index.result.now = c.get.ensures in
     let met = by.met c.index.result.now c.in-Some.number (sym read ∙ c.in-Some.is) in
     let few = picked_few of c.args.blocks.now.count numbers c.args.self.now.picked.items by in
     let fits = c.requires.numbered.fits in omega (arith, met.0, few)
@@ -47,17 +43,15 @@ returns-in-Some-clause-fits c =
 pub returns-clause-numbered : goal.returns-clause-numbered
 returns-clause-numbered c =
     let of = c.args.blocks.now.of.items in
-    let numbers = c.args.self.now.numbers.items in
+    let numbers = c.args.self.now.numbers in
     let by = c.requires.numbered.by in
     let block : c.index.result.now ≡ block_of of c.args.state
     = get_or_read of c.args.state c.index.result.now c.requires.state c.index.ensures 0 in
-    let read : c.index-2.result.now ≡ entry_at numbers c.index.result.now = get_or_read numbers c.index.result.now
-    c.index-2.result.now (let room = by.room in omega (arith, block, by.blocks_within c.args.state c.requires.state))
-    c.index-2.ensures None in
+    let read : c.get.result ≡ entry_at numbers c.index.result.now = c.get.ensures in
     let len : c.len-number.result ≡ length c.args.self.now.picked.items
     = c.len-number.ensures ∙ c.args.self.now.picked.ok.0 in
     record {
-      by = rw (c.in_ok-push.ensures.items, block, len) (numbered_more of c.args.blocks.now.count numbers
+      by = rw (c.in_ok-push.ensures.items, c.set.ensures, block, len) (numbered_more of c.args.blocks.now.count numbers
           c.args.self.now.picked.items c.args.state by c.requires.state
           (ap (entry_at numbers) (sym block) ∙ sym read ∙ c.in_default.is));
       fits = c.requires.numbered.fits;
@@ -89,13 +83,24 @@ returns-clause-met c =
 pub returns-clause-fits : goal.returns-clause-fits
 returns-clause-fits c =
     let of = c.args.blocks.now.of.items in
-    let numbers = c.args.self.now.numbers.items in
+    let numbers = c.args.self.now.numbers in
     let by = c.requires.numbered.by in
     let block : c.index.result.now ≡ block_of of c.args.state
     = get_or_read of c.args.state c.index.result.now c.requires.state c.index.ensures 0 in
-    let read : c.index-2.result.now ≡ entry_at numbers c.index.result.now = get_or_read numbers c.index.result.now
-    c.index-2.result.now (let room = by.room in omega (arith, block, by.blocks_within c.args.state c.requires.state))
-    c.index-2.ensures None in
+    let read : c.get.result ≡ entry_at numbers c.index.result.now = c.get.ensures in
+    let room = room_for of c.args.blocks.now.count numbers c.args.self.now.picked.items c.args.state by c.requires.state
+    (ap (entry_at numbers) (sym block) ∙ sym read ∙ c.in_default.is) in
+    let fits = c.requires.numbered.fits in let len = c.len-number.ensures in let same = c.args.self.now.picked.ok.0 in
+    omega (arith, room)
+
+pub set-requires-clause-number : goal.set-requires-clause-number
+set-requires-clause-number c =
+    let of = c.args.blocks.now.of.items in
+    let numbers = c.args.self.now.numbers in
+    let by = c.requires.numbered.by in
+    let block : c.index.result.now ≡ block_of of c.args.state
+    = get_or_read of c.args.state c.index.result.now c.requires.state c.index.ensures 0 in
+    let read : c.get.result ≡ entry_at numbers c.index.result.now = c.get.ensures in
     let room = room_for of c.args.blocks.now.count numbers c.args.self.now.picked.items c.args.state by c.requires.state
     (ap (entry_at numbers) (sym block) ∙ sym read ∙ c.in_default.is) in
     let fits = c.requires.numbered.fits in let len = c.len-number.ensures in let same = c.args.self.now.picked.ok.0 in
