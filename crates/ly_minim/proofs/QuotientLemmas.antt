@@ -411,22 +411,6 @@ module _ (A B : Automaton) (of picked : List ℕ) (is : IsAutomaton A) (so : IsQ
           (d.0, λ e. d.1 (sym (own i a d.0) ∙ e ∙ own j b d.0));
     }
 
--- no numbers and one more place
-pub none_more : (xs : List (Option ℕ)) → ((b : ℕ) → entry_at xs b ≡ None) → (b : ℕ)
-    → entry_at (xs ++ None ∷ []) b ≡ None
-none_more xs none b = elim (cases_lt b (length xs)) [
-  | inl less ↦ get_or_append_left xs (None ∷ []) None b less ∙ none b
-  | inr past ↦ elim (cases_lt (length xs) b) [
-    | inl beyond ↦ get_or_past (xs ++ None ∷ []) b None (omega (
-      arith,
-      length_push xs
-          (let n : Option ℕ = None in n),
-      beyond,
-    ))
-    | inr last ↦ let same : length xs ≡ b = omega arith in get_or_push xs None None b same
-  ]
-]
-
 -- what was met is the automaton of the numbers
 pub quotient_of : (A B : Automaton) (of : List ℕ) (count : ℕ) (q : Quotient) (numbers : List (Option ℕ))
     → B.classes ≡ A.classes → B.class_of ≡ A.class_of → B.starts ≡ A.starts → B.entries ≡ targets_of q
