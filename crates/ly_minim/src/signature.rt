@@ -17,7 +17,8 @@ pub(crate) fn signature(
     requires states { length of.now ≡ length dfa.now.rules }
     ensures { IfOk result (λ key. key.items ≡ signature_of dfa.now of.now state) }
 {
-    let mut key = Vec::with_capacity(alloc, dfa.classes())?;
+    let length = dfa.classes().saturating_mul(2).saturating_add(3);
+    let mut key = Vec::with_capacity(alloc, length)?;
     key.push(of[state as usize])?;
     push_marked(&mut key, dfa.rule(state).map(|rule| rule.0))?;
     for class in 0..dfa.classes() {

@@ -143,7 +143,7 @@ ends_all nfa n bound ends so reach = record {
   all = λ p i l is. so.all p i (reach p (slice_get_within nfa.positions p (ending i) is) l) is;
 }
 
--- of a run only the ends need to be looked at
+-- of a span only the ends need to be looked at
 pub least_of_ends : (nfa : Nfa) (bound : ℕ) (ends : List ℕ) (span : Span) (o : Option ℕ) → AreEnds nfa bound ends
     → span.last < bound → IsLeastRule (HasEndIn nfa (Some span) ends) o
     → IsLeastRule (HasEnd nfa (run_of span.first span.last)) o

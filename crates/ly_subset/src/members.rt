@@ -7,11 +7,11 @@ use crate::packed::numbers;
 use ly_position::{PosNfa, PositionSet};
 use std::alloc::{AllocError, Global};
 
-/// The positions of a set, in rising order. Those of a run aren't written out, since it may be as long as a pattern.
+/// The positions of a set, in rising order. Those of a span aren't written out, since it may be as long as a pattern.
 #[derive(Drop)]
 pub(crate) enum Members {
     /// Those of a span.
-    Run(Span),
+    Span(Span),
     /// These.
     List(Vec<u32>),
 }
@@ -22,7 +22,7 @@ impl Members {
         ensures { result ≡ length (listed self.now) }
     {
         match self {
-            Members::Run(span) => span.len(),
+            Members::Span(span) => span.len(),
             Members::List(numbers) => numbers.len(),
         }
     }
@@ -33,7 +33,7 @@ impl Members {
         ensures { result ≡ slice_index_or (listed self.now) place 0 }
     {
         match self {
-            Members::Run(span) => span.at(place),
+            Members::Span(span) => span.at(place),
             Members::List(numbers) => numbers[place],
         }
     }
@@ -53,7 +53,7 @@ impl Members {
         ensures room { IsRoomFor nfa.now into.new }
     {
         match self {
-            Members::Run(span) => nfa.step(&numbers(alloc, *span)?, byte, into),
+            Members::Span(span) => nfa.step(&numbers(alloc, *span)?, byte, into),
             Members::List(numbers) => nfa.step(numbers, byte, into),
         }
         Ok(())

@@ -43,13 +43,13 @@ fn ends(alloc: Global, nfa: &PosNfa) -> Result<Members, AllocError>
     Ok(Members::List(ends))
 }
 
-/// The least rule whose pattern ends at one of some positions. Of a long run only the ends are looked at.
+/// The least rule whose pattern ends at one of some positions. Of a long span only the ends are looked at.
 fn rule_of(nfa: &PosNfa, ends: &Members, positions: &Members) -> Option<RuleNo>
     requires ends { AreEnds nfa.now (2 ^ 32) (listed ends.now) }
     requires positions { All (λ p. p < length nfa.now.positions) (listed positions.now) }
     ensures { IsLeastRule (HasEnd nfa.now (listed positions.now)) (option_map (λ r. r.0) result) }
 {
-    if let Members::Run(span) = positions {
+    if let Members::Span(span) = positions {
         let long = span.len();
         if ends.len() < long {
             return least_end(nfa, ends, Some(*span));

@@ -53,7 +53,7 @@ impl Sets {
     {
         let row = self.rows.key(number);
         match unpack_run(row) {
-            Some(span) => Ok(Members::Run(span)),
+            Some(span) => Ok(Members::Span(span)),
             None => Ok(Members::List(unpack(alloc, row)?)),
         }
     }

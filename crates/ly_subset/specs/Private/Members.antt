@@ -2,9 +2,9 @@
 use Rattle.std.specs.Prelude.{ℕ, List}
 use Rattle.ly_subset.specs.Private.Packed.{run_of}
 use Rattle.ly_subset.specs.declared.members.Members.{Members}
-use Rattle.ly_subset.specs.declared.members.Members.TheVariants.{Run, List as Listing}
+use Rattle.ly_subset.specs.declared.members.Members.TheVariants.{Span, List as Listing}
 
 -- in rising order
 abbrev pub listed : Members → List ℕ
-listed (Run span) = run_of span.first span.last
+listed (Span span) = run_of span.first span.last
 listed (Listing numbers) = numbers.items
