@@ -1,5 +1,5 @@
 -- What a yacc file says, whatever room its lists have.
-use Rattle.std.specs.Prelude.{List, Option, map}
+use Rattle.std.specs.Prelude.{List, map}
 use Rattle.std.specs.Option.{option_map}
 use Rattle.std.specs.Rc.{rc_slice_items}
 use Rattle.ly_yaccread.specs.Actions.{Making, default, pass, build}
