@@ -44,8 +44,8 @@ pub(crate) struct SymbolTable {
     pub(crate) precedences: Vec<Option<Precedence>>,
 }
 
-/// The rules over numbered symbols, and what each says beside them, rule 0 among these. Behind the first `most` none is
-/// kept, since so many are refused in the end: they are joined for their faults alone.
+/// The rules over numbered symbols, and what each says beside them, rule 0 among these. Of more than `most`, which are
+/// refused in the end, no more than `most` are kept: the others are joined for their faults alone.
 pub(crate) fn join_rules(
     alloc: Global,
     table: &SymbolTable,

@@ -57,8 +57,8 @@ fn read_body_end(
     symbols: usize,
 ) -> Result<(BodyEnd, Cursor<'_>), YaccFault>
     ensures { IsFound (λ (x : Option Word × Making). EndsBody symbols (words_left words.entry) x.0 x.1)
-        (λ found. (option_map (λ x. symbol_word x.value) found.0.precedence, making_of found.0.action)) (λ found. words_left found.1)
-        result }
+        (λ found. (option_map (λ x. symbol_word x.value) found.0.precedence, making_of found.0.action))
+        (λ found. words_left found.1) result }
 {
     let (early, behind) = read_action(alloc, words, symbols)?;
     let (precedence, left) = read_precedence(alloc, behind)?;
@@ -82,8 +82,8 @@ fn read_precedence(
     alloc: Global,
     words: Cursor<'_>,
 ) -> Result<(Option<Box<SymbolName>>, Cursor<'_>), YaccFault>
-    ensures { IsFound (PrecedencePassed (words_left words.entry)) (λ found. option_map (λ x. symbol_word x.value) found.0)
-        (λ found. words_left found.1) result }
+    ensures { IsFound (PrecedencePassed (words_left words.entry))
+        (λ found. option_map (λ x. symbol_word x.value) found.0) (λ found. words_left found.1) result }
 {
     let Some(behind) = after_prec(words) else {
         return Ok((None, words));
