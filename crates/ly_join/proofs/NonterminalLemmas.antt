@@ -1,6 +1,6 @@
 -- Names in a set that keeps their order.
 use Rattle.std.proofs.Common.{◌≡◌, ◌∙◌, ℕ, List, [], ◌∷◌, ◌++◌, Bool, true, false, Some, None, refl, sym, ap}
-use Rattle.std.proofs.Common.{map, slice_get, position, get_or, rules, Contains, true≢false, ◌+◌}
+use Rattle.std.proofs.Common.{map, slice_get, position, get_or, rules, Contains, true≢false}
 use Rattle.std.proofs.lemmas.Iterator.Adapters.{position_from-zero}
 use Rattle.std.proofs.lemmas.List.{map-append}
 use Rattle.std.proofs.lemmas.List.Quantifiers.{position-Some}

@@ -1,10 +1,10 @@
 -- Rules over numbered symbols.
 use Rattle.std.proofs.Common.{◌≡◌, ◌∙◌, ◌<◌, inl, inr, ℕ, List, [], ◌∷◌, ◌++◌, Option, Some, None, refl, sym, ap, subst}
-use Rattle.std.proofs.Common.{All, Contains, length, map, arith, take, slice_index_or, ◌+◌, zero, suc}
+use Rattle.std.proofs.Common.{All, Contains, length, map, arith, take, slice_index_or, ◌+◌, ◌≤◌, zero, suc}
 use Rattle.std.specs.Prelude.{IfSome, option_map, slice_get}
 use Rattle.std.specs.List.{AllZip, cons_option, filter_map}
 use Rattle.std.specs.Option.{option_to_list}
-use Rattle.std.proofs.lemmas.List.{map_more, map_push, take-map}
+use Rattle.std.proofs.lemmas.List.{length-append, map_more, map_push, take-map}
 use Rattle.std.proofs.lemmas.List.Elements.{All-cons, All-contains_itself, All-head, All-nil, All-tail}
 use Rattle.std.proofs.lemmas.List.Elements.{All-weaker, Contains-append_cases}
 use Rattle.std.proofs.lemmas.List.Elements.{Contains-append_left}
@@ -21,7 +21,7 @@ use Rattle.ly_base.specs.declared.numbers.Sym.{Sym}
 use Rattle.ly_join.specs.Joined.{IsTerminal, SymbolTable}
 use Rattle.ly_join.specs.Numbering.{rule_literals}
 use Rattle.ly_join.specs.Terminals.{TerminalName, byte, end, literal_in, token}
-use Rattle.ly_join.specs.Private.Rules.{AreCovered, HasAll, HasLiteral, IsBelow}
+use Rattle.ly_join.specs.Private.Rules.{AreCovered, AreJoinedWithin, HasAll, HasLiteral, IsBelow}
 use Rattle.ly_join.specs.Private.Rules.{IsUndefinedIn, RulesJoined}
 use Rattle.ly_join.specs.declared.symbol.Symbol as code
 use Rattle.ly_join.specs.declared.fault.JoinFault.{JoinFault}
@@ -182,6 +182,33 @@ rules_more m rs rules notes r rule note so_far one apart = record {
         | inr e ↦ apart (subst (λ k. Contains m.terminals (token k)) (sym e) is)
       ];
 }
+
+-- as many rules as in the file
+as_many : (m : SymbolTable) (rs : List Ruling) (rules : List Rule) (notes : List Note) → AreJoined m rs rules notes
+    → length rules ≡ length rs
+as_many m [] [] [] all = refl
+as_many m [] [] (n ∷ notes) all = absurd all
+as_many m [] (g ∷ rules) notes all = absurd all
+as_many m (s ∷ rs) [] notes all = absurd all
+as_many m (s ∷ rs) (g ∷ rules) [] all = absurd all
+as_many m (s ∷ rs) (g ∷ rules) (n ∷ notes) all = omega (arith, as_many m rs rules notes all.1)
+
+-- rules that may be no more than some, with one more that is kept
+pub within_more : (most : ℕ) (m : SymbolTable) (rs : List Ruling) (rules : List Rule) (notes : List Note) (r : Ruling)
+    (rule : Rule) (note : Note) → AreJoinedWithin most m rs rules notes → IsJoinedRule m r rule note
+    → (Contains m.terminals (token r.left) → ⊥)
+    → AreJoinedWithin most m (rs ++ r ∷ []) (rules ++ rule ∷ []) (notes ++ note ∷ [])
+within_more most m rs rules notes r rule note so_far one apart few =
+    rules_more m rs rules notes r rule note (so_far (omega (arith, few, length-append rs (r ∷ [])))) one apart
+
+-- and with one more where as many are kept as may be
+pub within_full : (most : ℕ) (m : SymbolTable) (rs : List Ruling) (rules : List Rule) (notes : List Note) (r : Ruling)
+    → AreJoinedWithin most m rs rules notes → most ≤ length rules
+    → AreJoinedWithin most m (rs ++ r ∷ []) rules notes
+within_full most m rs rules notes r so_far full few =
+    let longer = length-append rs (r ∷ []) in
+    let joined = so_far (omega (arith, few, longer)) in
+    absurd (omega (arith, few, longer, full, as_many m rs rules joined.rest joined.joined))
 
 -- the terminal of a word is below the number of terminals
 pub terminal_within : (ts : List TerminalName) (w : Word) (t : ℕ) → IsTerminal ts w t → t < length ts

@@ -68,7 +68,7 @@ fn specify(
     ensures fault { IfErr result (IsAtFault limits.now (scanning_of lex.now) (written_of yacc.now)) }
 {
     let start = start_symbol(alloc, &table, yacc)?;
-    let joined = join_rules(alloc, &table, &yacc.rules)?;
+    let joined = join_rules(alloc, &table, &yacc.rules, limits.yacc_rules() as usize)?;
     let scanner = scan_actions(alloc, &table.terminals, &lex.actions)?;
     let symbols = table.terminals.count() as usize + table.nonterminals.count() as usize + 1;
     check_limits(limits, lex, yacc, symbols)?;

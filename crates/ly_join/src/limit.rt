@@ -138,7 +138,7 @@ fn constructor_length(action: &TreeAction) -> usize
     ensures { result ≡ constructor_length (making_of action.now) }
 {
     match action {
-        TreeAction::Build { name, .. } => name.len(),
+        TreeAction::Build(node) => node.name.len(),
         TreeAction::Default | TreeAction::Pass(_) => 0,
     }
 }

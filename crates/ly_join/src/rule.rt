@@ -10,8 +10,9 @@ ghost use Rattle.ly_join.specs.Grammar.{symbol_of};
 ghost use Rattle.ly_join.specs.Terminals.{token as token_terminal};
 ghost use Rattle.ly_join.specs.Joined.{last_terminal, note_of, shape_by, IsJoinedRule, IsPrecedenceOf};
 ghost use Rattle.ly_join.specs.Joined.{IsRulePrecedence, IsSymbol, IsTerminal};
-ghost use Rattle.ly_join.specs.Private.Rules.{table_from, AreCovered, HasLiteral, IsBelow, IsFaultOfRules};
-ghost use Rattle.ly_join.specs.Private.Rules.{IsRuleFault, IsTokenOnLeft, IsUndefinedIn, IsUnknownPrecIn, RulesJoined};
+ghost use Rattle.ly_join.specs.Private.Rules.{table_from, AreCovered, AreJoinedWithin, HasLiteral, IsBelow};
+ghost use Rattle.ly_join.specs.Private.Rules.{IsFaultOfRules, IsRuleFault, IsTokenOnLeft, IsUndefinedIn};
+ghost use Rattle.ly_join.specs.Private.Rules.{IsUnknownPrecIn};
 
 use crate::fault::JoinFault;
 use crate::grammar::GrammarRule;
@@ -43,14 +44,16 @@ pub(crate) struct SymbolTable {
     pub(crate) precedences: Vec<Option<Precedence>>,
 }
 
-/// The rules over numbered symbols, and what each says beside them, rule 0 among these.
+/// The rules over numbered symbols, and what each says beside them, rule 0 among these. Of more than `most`, which are
+/// refused in the end, no more than `most` are kept: the others are joined for their faults alone.
 pub(crate) fn join_rules(
     alloc: Global,
     table: &SymbolTable,
     productions: &[Production],
+    most: usize,
 ) -> Result<(Vec<GrammarRule>, Vec<RuleNote>), JoinFault>
     requires { AreCovered (table_from table.now) (map ruling_of productions.now) }
-    ensures ok { IfOk result (λ found. RulesJoined (table_from table.now) (map ruling_of productions.now)
+    ensures ok { IfOk result (λ found. AreJoinedWithin most (table_from table.now) (map ruling_of productions.now)
         found.0.items (map note_of found.1.items)) }
     ensures fault { IfErr result (IsFaultOfRules (table_from table.now) (map ruling_of productions.now)) }
 {
@@ -62,8 +65,10 @@ pub(crate) fn join_rules(
     })?;
     for production in productions {
         let (rule, note) = join_rule(alloc, table, production)?;
-        rules.push(rule)?;
-        notes.push(note)?;
+        if rules.len() < most {
+            rules.push(rule)?;
+            notes.push(note)?;
+        }
     }
     Ok((rules, notes))
 }
@@ -77,7 +82,8 @@ fn join_rule(
     requires { AreCovered (table_from table.now) (ruling_of production.now ∷ []) }
     ensures ok { IfOk result (λ found.
         IsJoinedRule (table_from table.now) (ruling_of production.now) found.0 (note_of found.1)) }
-    ensures apart { IfOk result (λ found. Contains table.now.terminals (token_terminal production.now.left.items) → ⊥) }
+    ensures apart { IfOk result (λ found.
+        Contains table.now.terminals (token_terminal (ruling_of production.now).left) → ⊥) }
     ensures fault { IfErr result (IsRuleFault (table_from table.now) (ruling_of production.now)) }
 {
     let left = left_side(alloc, table, &production.left)?;
@@ -205,9 +211,9 @@ fn rule_tree(alloc: Global, action: &TreeAction, body: &[Symbol]) -> Result<Rule
     match action {
         TreeAction::Default => Ok(default_tree(body)),
         TreeAction::Pass(place) => Ok(RuleTree::Pass(*place)),
-        TreeAction::Build { name, places } => Ok(RuleTree::Build {
-            name: Vec::from_slice(alloc, name)?,
-            places: Vec::from_slice(alloc, places)?,
+        TreeAction::Build(node) => Ok(RuleTree::Build {
+            name: Vec::from_slice(alloc, &node.name)?,
+            places: Vec::from_slice(alloc, &node.places)?,
         }),
     }
 }

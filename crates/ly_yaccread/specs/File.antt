@@ -1,6 +1,7 @@
 -- What a yacc file says, whatever room its lists have.
 use Rattle.std.specs.Prelude.{List, map}
 use Rattle.std.specs.Option.{option_map}
+use Rattle.std.specs.Rc.{rc_slice_items}
 use Rattle.ly_yaccread.specs.Actions.{Making, default, pass, build}
 use Rattle.ly_yaccread.specs.Declarations.{Declared, Preamble}
 use Rattle.ly_yaccread.specs.Rules.{Ruling}
@@ -25,14 +26,14 @@ symbol_words symbols = map symbol_word symbols
 abbrev pub making_of : TreeAction → Making
 making_of Default = default
 making_of (Pass p) = pass p
-making_of (Build n ps) = build n.items ps.items
+making_of (Build node) = build node.value.name.items node.value.places.items
 
 -- a rule
 abbrev pub ruling_of : Production → Ruling
 ruling_of p = record {
-  left = p.left.items;
+  left = rc_slice_items p.left;
   body = symbol_words p.body.items;
-  precedence = option_map symbol_word p.precedence;
+  precedence = option_map (λ x. symbol_word x.value) p.precedence;
   making = making_of p.action;
 }
 

@@ -9,7 +9,7 @@ ghost use Rattle.ly_yaccread.specs.Words.{Word, mark as mark_word};
 use crate::cursor::Cursor;
 use crate::expected::Expected;
 use crate::fault::YaccFault;
-use crate::file::TreeAction;
+use crate::file::{Node, TreeAction};
 use crate::place::read_place;
 use crate::words::Mark;
 use ly_base::{Language, SparseSet, leading_name};
@@ -70,7 +70,8 @@ fn read_value(
     };
     let (places, rest) = read_places(alloc, inside, symbols)?;
     let name = Vec::from_slice(alloc, name)?;
-    Ok((TreeAction::Build { name, places }, rest))
+    let node = Box::new(alloc, Node { name, places })?;
+    Ok((TreeAction::Build(node), rest))
 }
 
 /// Whether the name is one of a lex file.

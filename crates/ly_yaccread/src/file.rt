@@ -1,3 +1,5 @@
+use std::rc::RcSlice;
+
 /// What a yacc file says. Tags, numbers, `%type`, `%union` and blocks leave nothing behind.
 #[derive(Drop)]
 pub struct YaccFile {
@@ -43,12 +45,12 @@ pub enum SymbolName {
 /// A rule of the grammar: a left side and one body.
 #[derive(Drop)]
 pub struct Production {
-    /// The name on the left.
-    pub left: Vec<u8>,
+    /// The name on the left, which is held once for all rules in a row that have it.
+    pub left: RcSlice<u8>,
     /// The symbols of the body.
     pub body: Vec<SymbolName>,
     /// The symbol behind `%prec`, where it stands.
-    pub precedence: Option<SymbolName>,
+    pub precedence: Option<Box<SymbolName>>,
     /// What the rule's tree is.
     pub action: TreeAction,
 }
@@ -61,10 +63,14 @@ pub enum TreeAction {
     /// The tree at this place.
     Pass(u32),
     /// A node.
-    Build {
-        /// Its constructor.
-        name: Vec<u8>,
-        /// The places of its children, no two the same.
-        places: Vec<u32>,
-    },
+    Build(Box<Node>),
+}
+
+/// A node, as an action says it.
+#[derive(Drop)]
+pub struct Node {
+    /// Its constructor.
+    pub name: Vec<u8>,
+    /// The places of its children, no two the same.
+    pub places: Vec<u32>,
 }

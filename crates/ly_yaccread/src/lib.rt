@@ -26,7 +26,7 @@ mod wording;
 mod words;
 
 pub use fault::YaccFault;
-pub use file::{Declaration, DeclarationKind, Production, SymbolName, TreeAction, YaccFile};
+pub use file::{Declaration, DeclarationKind, Node, Production, SymbolName, TreeAction, YaccFile};
 pub use laws::yacc_text_is_one;
 pub use read::read_yacc;
 pub use spans::{WordSpan, word_spans};

@@ -1,5 +1,6 @@
 ghost use Rattle.std.specs.Prelude.{◌≡◌, ◌≢◌, ◌∷◌, List, Option, codes, MatchBool, MatchOption};
 ghost use Rattle.std.specs.Option.{option_map};
+ghost use Rattle.std.specs.Rc.{rc_slice_items};
 ghost use Rattle.ly_yaccread.specs.Actions.{default, Making};
 ghost use Rattle.ly_yaccread.specs.File.{making_of, ruling_of, symbol_word};
 ghost use Rattle.ly_yaccread.specs.Private.Read.{IsFound, left as words_left};
@@ -14,12 +15,13 @@ use crate::file::{Production, SymbolName, TreeAction};
 use crate::listing::Listing;
 use crate::symbols::{read_symbols, symbol_first};
 use std::alloc::Global;
+use std::rc::RcSlice;
 
 /// What stands behind the symbols of a body.
 #[derive(Drop)]
 pub(crate) struct BodyEnd {
     /// The symbol behind `%prec`, where it stands.
-    precedence: Option<SymbolName>,
+    precedence: Option<Box<SymbolName>>,
     /// The action.
     action: TreeAction,
 }
@@ -27,15 +29,14 @@ pub(crate) struct BodyEnd {
 /// Reads a body, and answers the rule of this left side that it makes, and what is left behind it.
 pub(crate) fn read_rule<'t>(
     alloc: Global,
-    left: &[u8],
+    left: RcSlice<u8>,
     words: Cursor<'t>,
 ) -> Result<(Production, Cursor<'t>), YaccFault>
-    ensures { IsFound (Body left.now (words_left words.entry)) (λ found. ruling_of found.0)
+    ensures { IsFound (Body (rc_slice_items left) (words_left words.entry)) (λ found. ruling_of found.0)
         (λ found. words_left found.1) result }
 {
     let (body, behind) = read_symbols(alloc, words, Listing::Plain)?;
     let (end, rest) = read_body_end(alloc, behind, body.len())?;
-    let left = Vec::from_slice(alloc, left)?;
     let BodyEnd { precedence, action } = end;
     Ok((
         Production {
@@ -56,8 +57,8 @@ fn read_body_end(
     symbols: usize,
 ) -> Result<(BodyEnd, Cursor<'_>), YaccFault>
     ensures { IsFound (λ (x : Option Word × Making). EndsBody symbols (words_left words.entry) x.0 x.1)
-        (λ found. (option_map symbol_word found.0.precedence, making_of found.0.action)) (λ found. words_left found.1)
-        result }
+        (λ found. (option_map (λ x. symbol_word x.value) found.0.precedence, making_of found.0.action))
+        (λ found. words_left found.1) result }
 {
     let (early, behind) = read_action(alloc, words, symbols)?;
     let (precedence, left) = read_precedence(alloc, behind)?;
@@ -80,15 +81,18 @@ pub(crate) fn is_default(action: &TreeAction) -> bool
 fn read_precedence(
     alloc: Global,
     words: Cursor<'_>,
-) -> Result<(Option<SymbolName>, Cursor<'_>), YaccFault>
-    ensures { IsFound (PrecedencePassed (words_left words.entry)) (λ found. option_map symbol_word found.0)
-        (λ found. words_left found.1) result }
+) -> Result<(Option<Box<SymbolName>>, Cursor<'_>), YaccFault>
+    ensures { IsFound (PrecedencePassed (words_left words.entry))
+        (λ found. option_map (λ x. symbol_word x.value) found.0) (λ found. words_left found.1) result }
 {
     let Some(behind) = after_prec(words) else {
         return Ok((None, words));
     };
     match symbol_first(behind) {
-        Some((symbol, rest)) => Ok((Some(symbol.owned(alloc)?), rest)),
+        Some((symbol, rest)) => {
+            let symbol = Box::new(alloc, symbol.owned(alloc)?)?;
+            Ok((Some(symbol), rest))
+        }
         None => Err(behind.fault(Expected::Rule)),
     }
 }

@@ -1,5 +1,6 @@
 ghost use Rattle.std.specs.Prelude.{◌≡◌, ◌≢◌, ◌∷◌, ℕ, List, Some, None, map, MatchBool, MatchOption};
-ghost use Rattle.std.specs.Prelude.{MatchResult};
+ghost use Rattle.std.specs.Prelude.{IfOk, MatchResult};
+ghost use Rattle.std.specs.Rc.{rc_slice_items};
 ghost use Rattle.ly_yaccread.specs.File.{ruling_of};
 ghost use Rattle.ly_yaccread.specs.Private.Read.{last_of, left as words_left};
 ghost use Rattle.ly_yaccread.specs.Rules.{AreRulesOver, BodyFollows, Ruling, YaccRules};
@@ -7,13 +8,14 @@ ghost use Rattle.ly_yaccread.specs.Words.{Word, mark as mark_word};
 ghost use Rattle.ly_yaccread.specs.declared.fault.YaccFault.TheVariants.{OutOfMemory};
 ghost use Rattle.ly_yaccread.specs.declared.words.Mark.TheVariants.{Semicolon};
 
-use crate::cursor::Cursor;
+use crate::cursor::{Cursor, is};
 use crate::expected::Expected;
 use crate::fault::YaccFault;
 use crate::file::Production;
 use crate::rule::{is_default, read_rule};
 use crate::words::Mark;
-use std::alloc::Global;
+use std::alloc::{AllocError, Global};
+use std::rc::RcSlice;
 
 /// Reads the rules.
 pub(crate) fn read_rules(alloc: Global, words: Cursor<'_>) -> Result<Vec<Production>, YaccFault>
@@ -33,7 +35,8 @@ pub(crate) fn read_rules(alloc: Global, words: Cursor<'_>) -> Result<Vec<Product
         let Some((left, inside)) = body_follows(rest, last) else {
             return Err(rest.fault(expected));
         };
-        let (rule, behind) = read_rule(alloc, left, inside)?;
+        let shared = shared_left(alloc, left, &rules)?;
+        let (rule, behind) = read_rule(alloc, shared, inside)?;
         expected = Expected::behind(&rule);
         rules.push(rule)?;
         last = Some(left);
@@ -50,6 +53,16 @@ impl Expected {
         } else {
             Expected::RuleEnd
         }
+    }
+}
+
+/// A left side to be kept: that of the last rule, where it is the same, and else one with room of its own.
+fn shared_left(alloc: Global, left: &[u8], rules: &[Production]) -> Result<RcSlice<u8>, AllocError>
+    ensures { IfOk result (λ shared. rc_slice_items shared ≡ left.now) }
+{
+    match rules.last() {
+        Some(rule) if is(&rule.left, left) => rule.left.clone(),
+        _ => RcSlice::from_slice(alloc, left),
     }
 }
 

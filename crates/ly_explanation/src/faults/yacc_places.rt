@@ -115,11 +115,10 @@ pub(crate) fn start_location(alloc: Global, text: &[u8]) -> Result<Option<Locati
         Err(YaccFault::OutOfMemory) => return Err(OutOfMemory),
         Err(_) => return Ok(None),
     };
-    let Some(name) = file
-        .start
-        .or(file.rules.into_iter().next().map(|rule| rule.left))
-    else {
+    let first = file.rules.first().map(|rule| rule.left.as_slice());
+    let Some(name) = file.start.as_deref().or(first) else {
         return Ok(None);
     };
+    let name = Vec::from_slice(alloc, name)?;
     symbol_location(alloc, text, &JoinFault::TokenOnLeft(name))
 }

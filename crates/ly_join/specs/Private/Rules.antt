@@ -1,5 +1,5 @@
 -- What is known while precedences, rules and actions are joined.
-use Rattle.std.specs.Prelude.{◌≡◌, ◌<◌, ◌⊎◌, ℕ, List, ◌∷◌, map, length, Option, Some, None, Contains, slice_get}
+use Rattle.std.specs.Prelude.{◌≡◌, ◌<◌, ◌≤◌, ◌⊎◌, ℕ, List, ◌∷◌, map, length, Option, Some, None, Contains, slice_get}
 use Rattle.std.specs.Prelude.{slice_index_or}
 use Rattle.std.specs.List.{flat_map}
 use Rattle.ly_yaccread.specs.Rules.{Ruling}
@@ -94,6 +94,10 @@ pub record RulesJoined (m : SymbolTable) (rulings : List Ruling) (rules : List R
   pub all_notes : notes ≡ accept_note ∷ rest
   pub joined : AreJoined m rulings rules rest
   pub apart : HaveNoTokenLeft m rulings
+
+-- The rules are joined, where there are no more than this. What is kept of more is not said.
+abbrev pub AreJoinedWithin : ℕ → SymbolTable → List Ruling → List Rule → List Note → Type 0
+AreJoinedWithin most m rulings rules notes = length rulings ≤ most → RulesJoined m rulings rules notes
 
 -- what a fault says of what is returned; want of memory says nothing
 abbrev pub IsUndeclaredIn : List TerminalName → Returning → JoinFault → Type 0

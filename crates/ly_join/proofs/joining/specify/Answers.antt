@@ -4,7 +4,8 @@ use Rattle.std.specs.List.{AllZip}
 use Rattle.ly_yaccread.specs.File.{ruling_of, written_of}
 use Rattle.ly_join.specs.Joined.{note_of}
 use Rattle.ly_join.specs.Scanning.{acting_of, scanning_of, IsScanAction}
-use Rattle.ly_join.specs.Private.Rules.{table_from, IsFaultOfActions, IsFaultOfRules, RulesJoined}
+use Rattle.ly_join.specs.declared.limit.Limit.TheVariants.{Rules}
+use Rattle.ly_join.specs.Private.Rules.{table_from, AreJoinedWithin, IsFaultOfActions, IsFaultOfRules}
 use Rattle.ly_join.proofs.JoinLemmas.{actions_at_fault, all_covered, joined_from, ready, rules_at_fault, start_at_fault}
 use Rattle.ly_join.proofs.joining.specify.Goals as goal
 
@@ -36,18 +37,28 @@ returns-in_err-scanner-clause-fault c =
 
 pub specification-requires : goal.specification-requires
 specification-requires c =
-    ready (written_of c.args.yacc.now) (table_from c.args.table) c.requires.numbered c.in_ok-start.start.0
-    c.in_ok-joined.joined.0.items (map note_of c.in_ok-joined.joined.1.items) c.in_ok-start.ensures.ok
-    (subst (λ rs. RulesJoined (table_from c.args.table) (map ruling_of rs) c.in_ok-joined.joined.0.items
-    (map note_of c.in_ok-joined.joined.1.items)) c.deref.ensures.value c.in_ok-joined.ensures.ok)
+    let m = table_from c.args.table in
+    let rules = c.in_ok-joined.joined.0.items in
+    let notes = map note_of c.in_ok-joined.joined.1.items in
+    let kept : AreJoinedWithin c.args.limits.now.yacc_rules m (written_of c.args.yacc.now).rules rules notes
+    = subst (λ n. AreJoinedWithin n m (written_of c.args.yacc.now).rules rules notes) c.yacc_rules.ensures
+    (subst (λ rs. AreJoinedWithin c.yacc_rules.result m (map ruling_of rs) rules notes) c.deref.ensures.value
+    c.in_ok-joined.ensures.ok) in
+    ready (written_of c.args.yacc.now) m c.requires.numbered c.in_ok-start.start.0 rules notes c.in_ok-start.ensures.ok
+    (kept (c.in_ok-check_limits.ensures Rules))
 
 pub returns-clause-ok : goal.returns-clause-ok
 returns-clause-ok c =
+    let m = table_from c.args.table in
+    let rules = c.in_ok-joined.joined.0.items in
+    let notes = map note_of c.in_ok-joined.joined.1.items in
+    let kept : AreJoinedWithin c.args.limits.now.yacc_rules m (written_of c.args.yacc.now).rules rules notes
+    = subst (λ n. AreJoinedWithin n m (written_of c.args.yacc.now).rules rules notes) c.yacc_rules.ensures
+    (subst (λ rs. AreJoinedWithin c.yacc_rules.result m (map ruling_of rs) rules notes) c.deref.ensures.value
+    c.in_ok-joined.ensures.ok) in
     rw c.in_ok-specification.ensures
-    (joined_from (written_of c.args.yacc.now) (table_from c.args.table) c.requires.numbered
-    (scanning_of c.args.lex.now) c.in_ok-start.start.0 c.in_ok-joined.joined.0.items
-    (map note_of c.in_ok-joined.joined.1.items) c.in_ok-scanner.scanner.items c.in_ok-start.ensures.ok
-    (subst (λ rs. RulesJoined (table_from c.args.table) (map ruling_of rs) c.in_ok-joined.joined.0.items
-    (map note_of c.in_ok-joined.joined.1.items)) c.deref.ensures.value c.in_ok-joined.ensures.ok)
+    (joined_from (written_of c.args.yacc.now) m c.requires.numbered (scanning_of c.args.lex.now)
+    c.in_ok-start.start.0 rules notes c.in_ok-scanner.scanner.items c.in_ok-start.ensures.ok
+    (kept (c.in_ok-check_limits.ensures Rules))
     (subst (λ as'. AllZip (IsScanAction c.args.table.terminals) (map acting_of as') c.in_ok-scanner.scanner.items)
     c.deref-2.ensures.value c.in_ok-scanner.ensures.ok))

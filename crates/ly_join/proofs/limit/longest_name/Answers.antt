@@ -1,5 +1,6 @@
 use Rattle.std.proofs.Common.{◌≡◌, ◌∙◌, ◌+◌, ◌++◌, ◌∷◌, [], List, ℕ, ap, arith, sym, length, map, max, take}
 use Rattle.std.specs.List.{flat_map}
+use Rattle.std.specs.Rc.{rc_slice_items}
 use Rattle.std.proofs.lemmas.List.{append-nil, map-append}
 use Rattle.std.proofs.lemmas.List.Concat.{flat_map-append}
 use Rattle.ly_yaccread.specs.File.{declared_of, making_of, ruling_of}
@@ -40,7 +41,7 @@ loop-rule-preserved c =
     let at = c.loop-rule.rule-index in
     let all = c.deref-rule-items.result.now in
     let sizes = map (λ r. max (length r.left) (constructor_length r.making)) (map ruling_of all) in
-    let size = max (length rule.left.items) (constructor_length (making_of rule.action)) in
+    let size = max (length (rc_slice_items rule.left)) (constructor_length (making_of rule.action)) in
     let more : greatest (take (at + 1) sizes) ≡ max size (greatest (take at sizes))
     = ap greatest (twice_more (λ r. max (length r.left) (constructor_length r.making)) ruling_of all at rule
     c.loop-rule-test.true c.rule-item.is) ∙ greatest_push (take at sizes) size in
@@ -49,7 +50,6 @@ loop-rule-preserved c =
       c.max-longest-in-loop-rule.ensures,
       c.max.ensures,
       c.len.ensures,
-      rule.left.ok.0,
       c.constructor_length.ensures,
       c.loop-rule.invariant,
       more,

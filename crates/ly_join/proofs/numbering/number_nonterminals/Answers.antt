@@ -1,4 +1,5 @@
 use Rattle.std.proofs.Common.{◌∙◌, ap, [], map, sym, take}
+use Rattle.std.specs.Rc.{rc_slice_items}
 use Rattle.std.specs.Str.{bytes_eq}
 use Rattle.ly_yaccread.specs.File.{ruling_of}
 use Rattle.ly_join.specs.Numbering.{first_appearances}
@@ -16,9 +17,9 @@ loop-production-preserved c =
     let lefts = map (λ r. r.left) (map ruling_of all) in
     c.in_ok-nonterminals.ensures
     ∙ (ap (with_one bytes_eq c.loop-production.nonterminals) c.deref.ensures.value
-    ∙ (ap (λ ns. with_one bytes_eq ns production.left.items) c.loop-production.invariant
+    ∙ (ap (λ ns. with_one bytes_eq ns (rc_slice_items production.left)) c.loop-production.invariant
     ∙ sym (ap (with_all bytes_eq []) (twice_more (λ r. r.left) ruling_of all at production c.loop-production-test.true
-    c.production-item.is) ∙ all_push bytes_eq [] (take at lefts) production.left.items)))
+    c.production-item.is) ∙ all_push bytes_eq [] (take at lefts) (rc_slice_items production.left))))
 
 pub returns : goal.returns
 returns c =

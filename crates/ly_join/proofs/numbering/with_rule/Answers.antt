@@ -31,7 +31,7 @@ loop-symbol-preserved c =
 
 pub returns-in-Some : goal.returns-in-Some
 returns-in-Some c =
-    let word = symbol_word c.in-Some.symbol in
+    let word = symbol_word c.deref.result.now in
     let body = map symbol_word c.args.production.now.body.items in
     let ts = c.args.terminals in
     let literals = filter_map literal_in body in
@@ -42,8 +42,9 @@ returns-in-Some c =
     ∙ ap (λ xs. with_all same_terminal ts (filter_map literal_in (map symbol_word xs)))
     c.deref-symbol-items.ensures.value) in
     let whole : rule_literals (ruling_of c.args.production.now) ≡ literals ++ last
-    = ap (λ p. filter_map literal_in (body ++ option_to_list (option_map symbol_word p))) c.in-Some.is
-    ∙ (filter_map-append literal_in body (word ∷ []) ∙ ap (λ xs. literals ++ xs) (filter_one literal_in word)) in
+    = ap (λ p. filter_map literal_in (body ++ option_to_list (option_map (λ x. symbol_word x.value) p))) c.in-Some.is
+    ∙ (ap (λ s. filter_map literal_in (body ++ symbol_word s ∷ [])) (sym c.deref.ensures)
+    ∙ (filter_map-append literal_in body (word ∷ []) ∙ ap (λ xs. literals ++ xs) (filter_one literal_in word))) in
     IfOk-weaker c.with_literal-in-Some.result _ _
     (λ t is. is ∙ (ap (λ xs. with_all same_terminal xs last) before
     ∙ sym (ap (with_all same_terminal ts) whole ∙ all_append same_terminal ts literals last)))

@@ -1,12 +1,13 @@
-use Rattle.std.proofs.Common.{◌∙◌, ap, inr, map, take}
+use Rattle.std.proofs.Common.{◌∙◌, ap, arith, inr, map, take}
 use Rattle.std.proofs.lemmas.List.{map_push}
 use Rattle.std.proofs.lemmas.Result.{err_from_is_err_and}
 use Rattle.ly_yaccread.specs.File.{ruling_of}
 use Rattle.ly_join.specs.Joined.{note_of}
 use Rattle.ly_join.specs.Private.Rules.{table_from}
 use Rattle.ly_join.proofs.ListLemmas.{mapped_in, mapped_more, read_in}
-use Rattle.ly_join.proofs.RuleLemmas.{covered_one, rules_more}
+use Rattle.ly_join.proofs.RuleLemmas.{covered_one, within_full, within_more}
 use Rattle.ly_join.proofs.rule.join_rules.Goals as goal
+use Rattle.ly_join.proofs.rule.join_rules.Goals.{then-len-most+in_ok-push-2+in_ok-push-3, else-len-most}
 
 pub join_rule-requires : goal.join_rule-requires
 join_rule-requires c = covered_one (table_from c.args.table.now) (map ruling_of c.args.productions.now)
@@ -27,15 +28,30 @@ returns-in_err-rule-clause-fault c =
 
 pub loop-production-preserved : goal.loop-production-preserved
 loop-production-preserved c =
+    let m = table_from c.args.table.now in
     let at = c.loop-production.production-index in
+    let before = take at (map ruling_of c.args.productions.now) in
+    let ruling = ruling_of c.production-item.result in
+    let rules = c.loop-production.rules.items in
+    let notes = c.loop-production.notes.items in
     let rule = c.in_ok-rule.rule in
     let note = c.in_ok-rule.note in
-    rw (
-      mapped_more ruling_of c.args.productions.now at c.production-item.result c.loop-production-test.true
-          c.production-item.is,
-      c.in_ok-push-2.ensures.items,
-      ap (map note_of) c.in_ok-push-3.ensures.items ∙ map_push note_of c.loop-production.notes.items note,
-    )
-    (rules_more (table_from c.args.table.now) (take at (map ruling_of c.args.productions.now))
-    c.loop-production.rules.items (map note_of c.loop-production.notes.items) (ruling_of c.production-item.result) rule
-    (note_of note) c.loop-production.invariant c.in_ok-rule.ensures.ok c.in_ok-rule.ensures.apart)
+    let more = mapped_more ruling_of c.args.productions.now at c.production-item.result c.loop-production-test.true
+    c.production-item.is in
+    elim c.if-len-most.branch [
+      | then-len-most+in_ok-push-2+in_ok-push-3 w ↦ rw (
+        more,
+        ap (λ v. v.items) w.rules-is ∙ w.in_ok-push-2.ensures.items,
+        ap (λ v. map note_of v.items) w.notes-is
+            ∙ (ap (map note_of) w.in_ok-push-3.ensures.items ∙ map_push note_of notes note),
+      )
+          (within_more c.args.most m before rules (map note_of notes) ruling rule (note_of note)
+          c.loop-production.invariant c.in_ok-rule.ensures.ok c.in_ok-rule.ensures.apart)
+      | else-len-most w ↦ rw (
+        more,
+        ap (λ v. v.items) w.rules-is,
+        ap (λ v. map note_of v.items) w.notes-is,
+      )
+          (within_full c.args.most m before rules (map note_of notes) ruling c.loop-production.invariant
+          (omega (arith, w.if-len-most.false, c.len.ensures, c.loop-production.rules.ok.0)))
+    ]

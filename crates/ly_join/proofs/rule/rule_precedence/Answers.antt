@@ -10,16 +10,18 @@ use Rattle.ly_join.proofs.rule.rule_precedence.Goals as goal
 
 pub prec_terminal-requires : goal.prec_terminal-requires
 prec_terminal-requires c =
-    let literal : All (HasLiteral c.args.table.now.terminals) (symbol_word c.in-Some.symbol ∷ [])
-    = subst (λ o. All (HasLiteral c.args.table.now.terminals) (option_to_list (option_map symbol_word o))) c.in-Some.is
+    let terminals = c.args.table.now.terminals in
+    let literal : All (HasLiteral terminals) (symbol_word c.in-Some.symbol.value ∷ [])
+    = subst (λ o. All (HasLiteral terminals) (option_to_list (option_map (λ x. symbol_word x.value) o))) c.in-Some.is
     c.requires.literal in
-    All-head (HasLiteral c.args.table.now.terminals) (symbol_word c.in-Some.symbol) [] literal
+    subst (λ s. HasLiteral terminals (symbol_word s)) (sym c.deref.ensures)
+    (All-head (HasLiteral terminals) (symbol_word c.in-Some.symbol.value) [] literal)
 
 pub precedence_at-requires : goal.precedence_at-requires
 precedence_at-requires c =
-    let within = terminal_within c.args.table.now.terminals (symbol_word c.in-Some.symbol)
+    let within = terminal_within c.args.table.now.terminals (symbol_word c.deref.result.now)
     c.in_ok-terminal-in-Some.terminal.0 c.in_ok-terminal-in-Some.ensures.ok in
-    omega (arith, within, c.requires.long, ap length c.deref.ensures.value)
+    omega (arith, within, c.requires.long, ap length c.deref-in-Some.ensures.value)
 
 pub precedence_at-requires-in-None : goal.precedence_at-requires-in-None
 precedence_at-requires-in-None c =

@@ -16,6 +16,7 @@ pub returns-in_default : goal.returns-in_default
 returns-in_default c = passes c.in_ok-place.place (left c.args.words) (left c.in_ok-place.rest) c.in_ok-place.ensures
 
 pub returns : goal.returns
-returns c = value_built c.args.symbols (left c.args.words) (left c.in-Some.behind) (left c.in-Some-after.inside)
+returns c = rw c.in_ok-node.ensures.ok
+    (value_built c.args.symbols (left c.args.words) (left c.in-Some.behind) (left c.in-Some-after.inside)
     (left c.in_ok-places.rest) c.in-Some.name.now c.in_ok-name.name.items c.in_ok-places.places.items c.in-Some.ensures
-    c.if-not-is_constructor.ensures c.in-Some-after.ensures c.in_ok-places.ensures c.in_ok-name.ensures.items
+    c.if-not-is_constructor.ensures c.in-Some-after.ensures c.in_ok-places.ensures c.in_ok-name.ensures.items)

@@ -1,4 +1,5 @@
 use Rattle.std.proofs.Common.{arith, length, subst, ◌≡◌}
+use Rattle.std.specs.Rc.{rc_slice_items}
 use Rattle.std.proofs.lemmas.List.{length-map}
 use Rattle.std.proofs.lemmas.Result.{err_from_is_err_and}
 use Rattle.ly_yaccread.specs.File.{symbol_word, symbol_words}
@@ -17,8 +18,8 @@ returns-in_err-end c =
     let count : length (symbol_words body) ≡ c.len.result
     = omega (arith, length-map body symbol_word, c.in_ok-body.body.ok)
     in
-    refused (Body c.args.left.now ws) _ _ _ _ _ p.1 p.2
+    refused (Body (rc_slice_items c.args.left) ws) _ _ _ _ _ p.1 p.2
     (λ n r rest b.
-    let d = body_behind c.args.left.now ws (symbol_words body) behind r rest c.in_ok-body.ensures b in
+    let d = body_behind (rc_slice_items c.args.left) ws (symbol_words body) behind r rest c.in_ok-body.ensures b in
     c.in_err-end.ensures n (r.precedence, r.making) rest
     (subst (λ k. BodyEnd k behind r.precedence r.making rest) count d.1))

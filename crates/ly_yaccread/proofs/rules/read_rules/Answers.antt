@@ -1,6 +1,9 @@
+use Rattle.std.proofs.Common.{List, subst}
 use Rattle.std.proofs.lemmas.Result.{err_from_is_err_and}
 use Rattle.ly_yaccread.specs.File.{ruling_of}
 use Rattle.ly_yaccread.specs.Private.Read.{last_of, left}
+use Rattle.ly_yaccread.specs.Rules.{Body, Ruling}
+use Rattle.ly_yaccread.specs.Words.{Word}
 use Rattle.ly_yaccread.proofs.RuleLemmas.{bad_body, no_rule, one_rule, one_semicolon, rule_shorter, rules_end}
 use Rattle.ly_yaccread.proofs.rules.read_rules.Goals as goal
 
@@ -15,21 +18,29 @@ returns-in_default-body_follows c = λ n all h.
 
 pub returns-in_err-rule : goal.returns-in_err-rule
 returns-in_err-rule c =
-    let p = err_from_is_err_and c.from_residual.result c.from_residual.ensures.1 in
+    let p = err_from_is_err_and c.from_residual-in_err-rule.result c.from_residual-in_err-rule.ensures.1 in
+    let inside = left c.in-Some-body_follows.inside in
     rw (p.1, p.2) (λ n all h. bad_body (left c.args.words) c.loop-last.rules.items (last_of c.loop-last.last)
-    (left c.loop-last.rest) c.loop-last.invariant c.in-Some-body_follows.left.now (left c.in-Some-body_follows.inside)
-    c.in-Some-body_follows.ensures (c.in_err-rule.ensures n) all h)
+    (left c.loop-last.rest) c.loop-last.invariant c.in-Some-body_follows.left.now inside c.in-Some-body_follows.ensures
+    (subst (λ name. (r : Ruling) (rest : List Word) → Body name inside r rest → ⊥) c.in_ok-shared.ensures
+    (c.in_err-rule.ensures n)) all h)
 
 pub loop-last-smaller : goal.loop-last-smaller
-loop-last-smaller c = rule_shorter (last_of c.loop-last.last) (left c.loop-last.rest) c.in-Some-body_follows.left.now
-    (left c.in-Some-body_follows.inside) (ruling_of c.in_ok-rule.rule) (left c.in_ok-rule.behind)
-    c.in-Some-body_follows.ensures c.in_ok-rule.ensures
+loop-last-smaller c =
+    let inside = left c.in-Some-body_follows.inside in
+    rule_shorter (last_of c.loop-last.last) (left c.loop-last.rest) c.in-Some-body_follows.left.now inside
+    (ruling_of c.in_ok-rule.rule) (left c.in_ok-rule.behind) c.in-Some-body_follows.ensures
+    (subst (λ name. Body name inside (ruling_of c.in_ok-rule.rule) (left c.in_ok-rule.behind)) c.in_ok-shared.ensures
+    c.in_ok-rule.ensures)
 
 pub loop-last-preserved : goal.loop-last-preserved
-loop-last-preserved c = one_rule (left c.args.words) c.loop-last.rules.items (last_of c.loop-last.last)
-    (left c.loop-last.rest) c.loop-last.invariant c.in-Some-body_follows.left.now (left c.in-Some-body_follows.inside)
-    (left c.in_ok-rule.behind) c.in_ok-rule.rule c.push.new.self.items c.in-Some-body_follows.ensures
-    c.in_ok-rule.ensures c.in_ok-push.ensures.items
+loop-last-preserved c =
+    let inside = left c.in-Some-body_follows.inside in
+    one_rule (left c.args.words) c.loop-last.rules.items (last_of c.loop-last.last) (left c.loop-last.rest)
+    c.loop-last.invariant c.in-Some-body_follows.left.now inside (left c.in_ok-rule.behind) c.in_ok-rule.rule
+    c.push.new.self.items c.in-Some-body_follows.ensures
+    (subst (λ name. Body name inside (ruling_of c.in_ok-rule.rule) (left c.in_ok-rule.behind)) c.in_ok-shared.ensures
+    c.in_ok-rule.ensures) c.in_ok-push.ensures.items
 
 pub returns : goal.returns
 returns c = rules_end (left c.args.words) c.loop-last.rules.items (last_of c.loop-last.last) (left c.loop-last.rest)
