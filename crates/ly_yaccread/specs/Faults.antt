@@ -46,3 +46,17 @@ yacc_line (ErrorToken line column) = Some line
 yacc_line (MidRuleAction line column) = Some line
 yacc_line (UnclosedComment line column) = Some line
 yacc_line OutOfMemory = None
+
+-- the column at fault; want of memory has none
+abbrev pub yacc_column : YaccFault → Option ℕ
+yacc_column (NoRulesMark line column) = Some column
+yacc_column (BadDeclaration line column) = Some column
+yacc_column (BadRule line column) = Some column
+yacc_column (BadLiteral line column) = Some column
+yacc_column (BadAction line column) = Some column
+yacc_column (DollarRange line column) = Some column
+yacc_column (DollarTwice line column) = Some column
+yacc_column (ErrorToken line column) = Some column
+yacc_column (MidRuleAction line column) = Some column
+yacc_column (UnclosedComment line column) = Some column
+yacc_column OutOfMemory = None

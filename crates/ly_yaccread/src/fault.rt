@@ -1,5 +1,5 @@
 ghost use Rattle.std.specs.Prelude.{◌≡◌};
-ghost use Rattle.ly_yaccread.specs.Faults.{yacc_line, yacc_name, yacc_number};
+ghost use Rattle.ly_yaccread.specs.Faults.{yacc_column, yacc_line, yacc_name, yacc_number};
 ghost use Rattle.ly_yaccread.specs.declared.fault.YaccFault.TheVariants.{OutOfMemory};
 
 use std::alloc::{AllocError, AllocFailed};
@@ -154,7 +154,9 @@ impl YaccFault {
     }
 
     /// The column at fault, by bytes; want of memory has none.
-    pub fn column(&self) -> Option<u64> {
+    pub fn column(&self) -> Option<u64>
+        ensures { result ≡ yacc_column self.now }
+    {
         match self {
             YaccFault::NoRulesMark { column, .. }
             | YaccFault::BadDeclaration { column, .. }

@@ -1,4 +1,4 @@
-ghost use Rattle.std.specs.Prelude.{◌≤◌, ◌+◌, length, IfOk};
+ghost use Rattle.std.specs.Prelude.{◌≡◌, ◌<◌, ◌≤◌, ◌+◌, [], length, IfOk, slice_range};
 ghost use Rattle.std.specs.List.{All, AllPairs};
 
 use crate::part::Part;
@@ -16,7 +16,11 @@ pub struct WordSpan {
 
 impl WordSpan {
     /// The word, in the text where it stands; nothing of one that is shorter.
-    pub fn word(self, text: &[u8]) -> &[u8] {
+    pub fn word(self, text: &[u8]) -> &[u8]
+        ensures there { self.start + self.length ≤ length text.now
+            → result.now ≡ slice_range text.now self.start (self.start + self.length) }
+        ensures past { length text.now < self.start + self.length → result.now ≡ [] }
+    {
         text.get(self.start..self.start.saturating_add(self.length))
             .unwrap_or(b"")
     }
