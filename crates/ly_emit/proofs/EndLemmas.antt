@@ -5,7 +5,7 @@ use Rattle.std.proofs.lemmas.List.Elements.{All-head, All-tail}
 use Rattle.ly_base.specs.Lexed.{Token}
 use Rattle.ly_join.specs.Joined.{Spec}
 use Rattle.ly_grammar.specs.Reduction.{KeepsUseful}
-use Rattle.ly_lr0.specs.Automaton.{Automaton, IsAutomaton}
+use Rattle.ly_lr0.specs.Automaton.{Lr0Automaton, IsLr0Automaton}
 use Rattle.ly_pack.specs.Machine.{Machine, IsMachine}
 use Rattle.ly_pack.specs.Steady.{IsSteady}
 use Rattle.ly_pack.specs.SteadyLaws.{IsStack, bottom as alone}
@@ -20,7 +20,7 @@ use Rattle.ly_emit.specs.Laws.{AreOf, RunsEndOnSteady}
 use Rattle.ly_emit.specs.Tables.{IsMachineOf, shape_in}
 use Rattle.ly_emit.proofs.FollowLemmas.{tables_follow}
 
-module _ (s : Spec) (M : Automaton) (n : Machine) (is : IsAutomaton M) (useful : KeepsUseful s.grammar M.grammar)
+module _ (s : Spec) (M : Lr0Automaton) (n : Machine) (is : IsLr0Automaton M) (useful : KeepsUseful s.grammar M.grammar)
     (of : IsMachineOf s M n) (tables : IsMachine n) (calm : IsSteady n) (same : n.terminals ≡ M.grammar.terminals) where
   -- each token is settled
   fed : (token : Token ℕ) (levels : List Level) → token.terminal < M.grammar.terminals → IsStack n (states_on levels)

@@ -6,7 +6,7 @@ use Rattle.ly_join.specs.Joined.{Spec}
 use Rattle.ly_grammar.specs.Items.{IsNextSymbol}
 use Rattle.ly_grammar.specs.Reduction.{KeepsUseful}
 use Rattle.ly_grammar.proofs.ItemLemmas.{body_of, zero_item}
-use Rattle.ly_lr0.specs.Automaton.{Automaton, IsAutomaton}
+use Rattle.ly_lr0.specs.Automaton.{Lr0Automaton, IsLr0Automaton}
 use Rattle.ly_pack.specs.Machine.{Machine}
 use Rattle.ly_pack.specs.Steady.{IsSteady}
 use Rattle.ly_pack.specs.SteadyLaws.{IsStack}
@@ -39,7 +39,7 @@ next_within {G} {t = t} augmented (suc p, before, after, (u, v)) =
     = symbol_within before after (terminal t) augmented body.1 (omega arith) body.2 in
     within.1
 
-module _ (s : Spec) (M : Automaton) (n : Machine) (is : IsAutomaton M) (useful : KeepsUseful s.grammar M.grammar)
+module _ (s : Spec) (M : Lr0Automaton) (n : Machine) (is : IsLr0Automaton M) (useful : KeepsUseful s.grammar M.grammar)
     (of : IsMachineOf s M n) (calm : IsSteady n) (stack : List Pushed) (levels : List Level)
     (mirrors : Mirrors M (shape_in s) stack levels) (edges : IsStack n (states_on levels)) where
   -- a token of a terminal

@@ -14,7 +14,7 @@ use Rattle.ly_join.specs.Grammar.{IsGrammar, nonterminal, terminal}
 use Rattle.ly_join.specs.Joined.{Spec}
 use Rattle.ly_grammar.specs.Reduction.{KeepsUseful}
 use Rattle.ly_grammar.proofs.ItemLemmas.{body_of}
-use Rattle.ly_lr0.specs.Automaton.{Automaton, IsAutomaton, goto_of, prefix_of}
+use Rattle.ly_lr0.specs.Automaton.{Lr0Automaton, IsLr0Automaton, goto_of, prefix_of}
 use Rattle.ly_relate.proofs.WalkLemmas.{leads_to}
 use Rattle.ly_pack.specs.Machine.{IsLegal, IsMachine, IsRuleWithin, Machine, TableAction, TableRule, entry_at, goto_at}
 use Rattle.ly_pack.specs.Machine.{states_of}
@@ -96,7 +96,7 @@ no_default zero k p e = cc
 no_default (suc n) zero p e = cc
 no_default (suc n) (suc k) p e = no_default n k p e
 
-module _ (s : Spec) (M : Automaton) (is : IsAutomaton M) (useful : KeepsUseful s.grammar M.grammar)
+module _ (s : Spec) (M : Lr0Automaton) (is : IsLr0Automaton M) (useful : KeepsUseful s.grammar M.grammar)
     (terminals nonterminals : ℕ) (actions : Entries code.TableAction) (gotos : Entries StateNo)
     (defaults : List (Option RuleNo)) (rules : List rule.TableRule) (is_terminals : terminals ≡ s.grammar.terminals)
     (is_nonterminals : nonterminals ≡ s.grammar.accept) (are_none : defaults ≡ replicate (length M.states) None)

@@ -8,12 +8,12 @@ use Rattle.std.specs.Prelude.{slice_index_or}
 use Rattle.ly_base.specs.Lexed.{Token}
 use Rattle.ly_base.specs.Shape.{Shape}
 use Rattle.ly_base.specs.Trees.{Trees, leaf, node, none, more}
-use Rattle.ly_join.specs.Grammar.{Grammar, IsRule, Rule, Symbol, nonterminal, terminal}
+use Rattle.ly_join.specs.Grammar.{Grammar, IsRule, GrammarRule, Symbol, nonterminal, terminal}
 use Rattle.ly_join.specs.Joined.{Spec}
 use Rattle.ly_grammar.specs.Items.{InLookahead, IsNextSymbol, IsViable, Merges, Valid, moved, onto}
 use Rattle.ly_grammar.specs.Reduction.{KeepsUseful}
 use Rattle.ly_grammar.proofs.ItemLemmas.{body_of, length-onto}
-use Rattle.ly_lr0.specs.Automaton.{Automaton, IsAutomaton, Reaches, goto_of, prefix_of}
+use Rattle.ly_lr0.specs.Automaton.{Lr0Automaton, IsLr0Automaton, Reaches, goto_of, prefix_of}
 use Rattle.ly_lr0.proofs.LawLemmas.{reached_within}
 use Rattle.ly_relate.proofs.ReachLemmas.{Reaches_one}
 use Rattle.ly_pack.specs.Defaults.{HasDefaultsOf, IsDefaultOf, is_by, without}
@@ -106,7 +106,7 @@ split_stack (x ∷ stack) (X ∷ before) under e =
       parts.4,
     )
 
-module _ (M : Automaton) (shape : ℕ → Shape) where
+module _ (M : Lr0Automaton) (shape : ℕ → Shape) where
   -- the terms that are popped off are built of the trees
   popped_terms : (popped below : List Pushed) {levels : List Level} (us : Trees)
       → Mirrors M shape (popped ++ below) levels
@@ -122,19 +122,19 @@ module _ (M : Automaton) (shape : ℕ → Shape) where
   reached bottom = refl
   reached (above {levels = levels} mirrors e) = (top_of levels, reached mirrors, e)
 
-Reduces-last : {G : Grammar} {g h : List Symbol} {q t : ℕ} {r : Rule} {before under : List Symbol} → Reduces G g h
+Reduces-last : {G : Grammar} {g h : List Symbol} {q t : ℕ} {r : GrammarRule} {before under : List Symbol} → Reduces G g h
     → IsRule G q r → Valid G h q before [] t → h ≡ before ++ under → Reduces G g (nonterminal r.left ∷ under)
 Reduces-last default.here is v split = default.onward is v split default.here
 Reduces-last (default.onward is' v' split' l) is v split = default.onward is' v' split' (Reduces-last l is v split)
 
-module _ (s : Spec) (M : Automaton) (m n : Machine) (is : IsAutomaton M) (useful : KeepsUseful s.grammar M.grammar)
+module _ (s : Spec) (M : Lr0Automaton) (m n : Machine) (is : IsLr0Automaton M) (useful : KeepsUseful s.grammar M.grammar)
     (are : AreTables s M m) (has : HasDefaultsOf m n) where
   states : states_of n ≡ length M.states
   states = has.states ∙ are.states
 
   -- A reduction that the tables make is one of the reference machine.
   record Made (stack : List Pushed) (levels : List Level) (p : ℕ) (before : List Symbol) : Type 0 where
-    rule : Rule
+    rule : GrammarRule
     is_rule : IsRule M.grammar p rule
     popped : List Pushed
     below : List Pushed
@@ -332,7 +332,7 @@ module _ (s : Spec) (M : Automaton) (m n : Machine) (is : IsAutomaton M) (useful
       before : List Symbol
       number : ℕ
       lookahead : ℕ
-      rule : Rule
+      rule : GrammarRule
       is_rule : IsRule M.grammar number rule
       viable : IsViable M.grammar from
       valid : Valid M.grammar from number before [] lookahead

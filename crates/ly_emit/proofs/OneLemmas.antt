@@ -5,12 +5,12 @@ use Rattle.std.specs.List.{range_with_len}
 use Rattle.std.proofs.lemmas.List.{same_lists}
 use Rattle.std.proofs.lemmas.List.Elements.{All-cons, All-nil}
 use Rattle.std.proofs.lemmas.Option.{same_Some, slice_get-get_or}
-use Rattle.ly_join.specs.Grammar.{IsRule, Rule, nonterminal, terminal}
+use Rattle.ly_join.specs.Grammar.{IsRule, GrammarRule, nonterminal, terminal}
 use Rattle.ly_join.specs.Joined.{Spec}
 use Rattle.ly_grammar.specs.Reduction.{KeepsUseful}
 use Rattle.ly_grammar.proofs.ItemLemmas.{body_of}
 use Rattle.ly_grammar.proofs.OneLemmas.{useful_rules_are_one}
-use Rattle.ly_lr0.specs.Automaton.{Automaton, IsAutomaton, goto_of, prefix_of}
+use Rattle.ly_lr0.specs.Automaton.{Lr0Automaton, IsLr0Automaton, goto_of, prefix_of}
 use Rattle.ly_lr0.proofs.OneLemmas.{automaton_is_one}
 use Rattle.ly_relate.proofs.WalkLemmas.{leads_to}
 use Rattle.ly_loop.proofs.TargetLemmas.{shift_entry}
@@ -42,7 +42,7 @@ entry_for shift (suc t) (Some state) = table.shift state
 entry_for (reduce p) t o = table.reduce p
 entry_for error t o = table.error
 
-entry_is : (M : Automaton) (k t : ℕ) (b : Action) (a : TableAction) → IsEntryFor M k t b a
+entry_is : (M : Lr0Automaton) (k t : ℕ) (b : Action) (a : TableAction) → IsEntryFor M k t b a
     → a ≡ entry_for b t (goto_of M k (terminal t))
 entry_is M k zero shift (table.shift state) is = absurd (omega (arith, is.0))
 entry_is M k (suc t) shift (table.shift state) is = sym (ap (entry_for shift (suc t)) is.1)
@@ -59,7 +59,7 @@ entry_is M k t error table.accept is = absurd is
 entry_is M k t error (table.reduce q) is = absurd is
 entry_is M k t error table.error is = refl
 
-module _ (s : Spec) (M : Automaton) (is : IsAutomaton M) (useful : KeepsUseful s.grammar M.grammar) where
+module _ (s : Spec) (M : Lr0Automaton) (is : IsLr0Automaton M) (useful : KeepsUseful s.grammar M.grammar) where
   -- what a shift's entry leads to is a state
   shift_within : (k t top : ℕ) (b : Action) → IsEntryFor M k t b (table.shift top) → top < length M.states
   shift_within k t top shift e = leads_to M is k (terminal t) top e.1
@@ -68,7 +68,7 @@ module _ (s : Spec) (M : Automaton) (is : IsAutomaton M) (useful : KeepsUseful s
 
   -- what is reduced by is a rule of the grammar, and not rule 0
   abbrev IsReduced : ℕ → Type 0
-  IsReduced p = (1 ≤ p) × (r : Rule) × IsRule M.grammar p r
+  IsReduced p = (1 ≤ p) × (r : GrammarRule) × IsRule M.grammar p r
 
   module _ (a : Machine) (are : AreTables s M a) where
     entry_rule : (k t p : ℕ) → k < length M.states → entry_at a k t ≡ Some (table.reduce p) → IsReduced p
@@ -97,7 +97,7 @@ module _ (s : Spec) (M : Automaton) (is : IsAutomaton M) (useful : KeepsUseful s
       goto_left : (k A : ℕ) → k < length M.states → A < M.grammar.accept → goto_at m k A ≡ goto_of M k (nonterminal A)
       goto_left k A lt within = ap (λ g. cell g k A) has.gotos ∙ are.gotos k A lt within
 
-      rule_left : (p : ℕ) (r : Rule) → 1 ≤ p → IsRule s.grammar p r
+      rule_left : (p : ℕ) (r : GrammarRule) → 1 ≤ p → IsRule s.grammar p r
           → rule_at m p ≡ Some (record { left = r.left; body_length = length r.body; shape = shape_in s p })
       rule_left p r some rule = ap (λ rs. slice_get rs (p - 1)) has.rules ∙ are.rules p r some rule
 
@@ -258,7 +258,7 @@ module _ (s : Spec) (M : Automaton) (is : IsAutomaton M) (useful : KeepsUseful s
 -- BY ANY AUTOMATON
 
 -- the automaton of a specification is one
-spec_automaton : (s : Spec) (M N : Automaton) → IsAutomaton M → IsAutomaton N → KeepsUseful s.grammar M.grammar
+spec_automaton : (s : Spec) (M N : Lr0Automaton) → IsLr0Automaton M → IsLr0Automaton N → KeepsUseful s.grammar M.grammar
     → KeepsUseful s.grammar N.grammar → M ≡ N
 spec_automaton s M N one two left right =
     automaton_is_one M N one two (useful_rules_are_one s.grammar M.grammar N.grammar left right)

@@ -7,11 +7,11 @@ use Rattle.std.proofs.lemmas.List.{length-append, map-append}
 use Rattle.std.proofs.lemmas.Option.{get_or_from_slice_get, slice_get-get_or, slice_get-map, slice_get_within}
 use Rattle.ly_base.specs.Shape.{shape_of}
 use Rattle.ly_base.proofs.ListLemmas.{option_map-some, slice_get-append, slice_get-behind}
-use Rattle.ly_join.specs.Grammar.{Grammar, IsAugmented, IsRule, Rule, Symbol, nonterminal, symbol_of}
+use Rattle.ly_join.specs.Grammar.{Grammar, IsAugmented, IsRule, GrammarRule, Symbol, nonterminal, symbol_of}
 use Rattle.ly_join.specs.Joined.{Spec, note_of}
 use Rattle.ly_join.specs.declared.rule.RuleNote.{RuleNote}
 use Rattle.ly_join.proofs.ListLemmas.{member_at, placed}
-use Rattle.ly_lr0.specs.Automaton.{Automaton, IsAutomaton, goto_of, state_at, target_of}
+use Rattle.ly_lr0.specs.Automaton.{Lr0Automaton, IsLr0Automaton, goto_of, state_at, target_of}
 use Rattle.ly_lr0.specs.Transitions.{transition_of}
 use Rattle.ly_lr0.specs.declared.transition.Transition as code
 use Rattle.ly_lr0.proofs.StateLemmas.{state_there, target_some}
@@ -29,7 +29,7 @@ use Rattle.ly_emit.specs.Tables.{shape_from, shape_in}
 
 -- TRANSITIONS
 
-module _ (M : Automaton) (is : IsAutomaton M) (k : ℕ) (lt : k < length M.states) where
+module _ (M : Lr0Automaton) (is : IsLr0Automaton M) (k : ℕ) (lt : k < length M.states) where
   module _ (ts : List code.Transition) (e : map transition_of ts ≡ (state_at M k).transitions) where
     -- a transition over a nonterminal leads where the state goes
     pub led_at : (i A : ℕ) → i < length ts → symbol_of (slice_index_or ts i nowhere).symbol ≡ nonterminal A
@@ -103,7 +103,7 @@ module _ (row : List entry.TerminalAction) (i : ℕ) (d : entry.TerminalAction) 
 -- RULES
 
 -- one more rule
-pub rules_more : (s : Spec) (n : ℕ) (old new : List rule.TableRule) (v : rule.TableRule) (r : Rule) → 1 ≤ n
+pub rules_more : (s : Spec) (n : ℕ) (old new : List rule.TableRule) (v : rule.TableRule) (r : GrammarRule) → 1 ≤ n
     → AreRulesTo s n (map rule_from old) → IsRule s.grammar n r
     → rule_from v ≡ record { left = r.left; body_length = length r.body; shape = shape_in s n } → new ≡ old ++ v ∷ []
     → AreRulesTo s (n + 1) (map rule_from new)

@@ -4,7 +4,7 @@ use Rattle.std.proofs.lemmas.List.Elements.{All-cons, All-head, All-tail}
 use Rattle.ly_base.specs.Lexed.{Token}
 use Rattle.ly_join.specs.Joined.{Spec}
 use Rattle.ly_grammar.specs.Reduction.{KeepsUseful}
-use Rattle.ly_lr0.specs.Automaton.{Automaton, IsAutomaton}
+use Rattle.ly_lr0.specs.Automaton.{Lr0Automaton, IsLr0Automaton}
 use Rattle.ly_pack.specs.Machine.{Machine}
 use Rattle.ly_parse.specs.Feeding.{Level, done, pushed, refused}
 use Rattle.ly_resolve.specs.Machine.{Leads, Pushed}
@@ -17,7 +17,7 @@ use Rattle.ly_emit.specs.Laws.{AcceptedFollow, AreOf, RefusedFollow}
 use Rattle.ly_emit.specs.Tables.{IsMachineOf, shape_in}
 use Rattle.ly_emit.proofs.FollowLemmas.{tables_follow}
 
-module _ (s : Spec) (M : Automaton) (n : Machine) (is : IsAutomaton M) (useful : KeepsUseful s.grammar M.grammar)
+module _ (s : Spec) (M : Lr0Automaton) (n : Machine) (is : IsLr0Automaton M) (useful : KeepsUseful s.grammar M.grammar)
     (of : IsMachineOf s M n) where
   -- tokens that are read, whatever stands behind them
   pub reads_follow : {levels last : List Level} {tokens : List (Token ℕ)} → ReadsTokens n levels tokens last
@@ -35,14 +35,14 @@ module _ (s : Spec) (M : Automaton) (n : Machine) (is : IsAutomaton M) (useful :
       (later.0, Leads-append step.1 later.1, later.2)
 
 -- those before the last
-before_last : (M : Automaton) (tokens : List (Token ℕ)) (t : Token ℕ) → AreOf M (tokens ++ t ∷ []) → AreOf M tokens
+before_last : (M : Lr0Automaton) (tokens : List (Token ℕ)) (t : Token ℕ) → AreOf M (tokens ++ t ∷ []) → AreOf M tokens
 before_last M [] t all = λ k d lt. absurd (omega (arith, lt))
 before_last M (x ∷ tokens) t all = All-cons (λ x. x.terminal < M.grammar.terminals) x tokens
     (All-head (λ x. x.terminal < M.grammar.terminals) x (tokens ++ t ∷ []) all)
     (before_last M tokens t (All-tail (λ x. x.terminal < M.grammar.terminals) x (tokens ++ t ∷ []) all))
 
 -- the last of them
-last_of : (M : Automaton) (tokens : List (Token ℕ)) (t : Token ℕ) → AreOf M (tokens ++ t ∷ [])
+last_of : (M : Lr0Automaton) (tokens : List (Token ℕ)) (t : Token ℕ) → AreOf M (tokens ++ t ∷ [])
     → t.terminal < M.grammar.terminals
 last_of M [] t all = All-head (λ x. x.terminal < M.grammar.terminals) t [] all
 last_of M (x ∷ tokens) t all = last_of M tokens t

@@ -6,7 +6,7 @@ use Rattle.ly_base.specs.declared.numbers.StateNo.{StateNo}
 use Rattle.ly_grammar.specs.Reduction.{KeepsUseful}
 use Rattle.ly_join.specs.Joined.{Spec}
 use Rattle.ly_join.specs.Sizes.{HasSizes}
-use Rattle.ly_lr0.specs.Automaton.{Automaton}
+use Rattle.ly_lr0.specs.Automaton.{Lr0Automaton}
 use Rattle.ly_pack.specs.Machine.{Machine}
 use Rattle.ly_pack.specs.Rows.{Comb, comb_entry, grid_of}
 use Rattle.ly_pack.specs.Values.{actions_from, gotos_from, machine_from, rule_from}
@@ -36,7 +36,7 @@ module _ (p : TableParts) (terminals nonterminals : ℕ) (actions : Comb code.Ta
       states = length-map p.defaults.items (option_map (λ p. p.0))
 
   -- where the symbols are those of a specification, and the tables a machine of it, the set's are this machine
-  pub set_machine : (s : Spec) (M : Automaton) (machine : Machine) → HasSizes s → KeepsUseful s.grammar M.grammar
+  pub set_machine : (s : Spec) (M : Lr0Automaton) (machine : Machine) → HasSizes s → KeepsUseful s.grammar M.grammar
       → IsMachineOf s M machine → map (λ name. name.items) p.terminals.items ≡ map terminal_name s.terminals
       → p.nonterminals ≡ M.grammar.accept
       → machine_from terminals nonterminals (comb_entry actions) (comb_entry gotos) p.defaults.items p.rules.items

@@ -15,7 +15,7 @@ use Rattle.ly_yaccread.specs.Actions.{ActionPassed, IsPlace, Making, MorePlaces,
 use Rattle.ly_yaccread.specs.Actions.{default, last, more, none, pass, passes, some}
 use Rattle.ly_yaccread.specs.Rules.{BodyEnd, LateAction, Ruling, YaccRules, end, rule, semicolon}
 use Rattle.ly_yaccread.specs.Words.{Word}
-use Rattle.ly_join.specs.Grammar.{Rule, Symbol}
+use Rattle.ly_join.specs.Grammar.{GrammarRule, Symbol}
 use Rattle.ly_join.specs.Joined.{AreJoined, IsJoinedRule, Note, SymbolTable, shape_by, table_of}
 use Rattle.ly_join.proofs.NumberingLemmas.{any_member}
 use Rattle.ly_pack.specs.Machine.{IsShapeFor}
@@ -102,15 +102,15 @@ rules_fit (rule before n ws behind rest x rs follows body h) (suc k) r at w long
 rules_fit (semicolon n ws rs h) k r at w long = rules_fit h k r at w long
 
 -- what a rule of the grammar is joined from
-pub record IsJoinedAt (m : SymbolTable) (rs : List Ruling) (notes : List Note) (k : ℕ) (x : Rule) : Type 0 where
+pub record IsJoinedAt (m : SymbolTable) (rs : List Ruling) (notes : List Note) (k : ℕ) (x : GrammarRule) : Type 0 where
   pub ruling : Ruling
   pub note : Note
   pub is_ruling : slice_get rs k ≡ Some ruling
   pub is_note : slice_get notes k ≡ Some note
   pub joined : IsJoinedRule m ruling x note
 
-pub joined_at : (m : SymbolTable) (rs : List Ruling) (rules : List Rule) (notes : List Note)
-    → AreJoined m rs rules notes → (k : ℕ) (x : Rule) → slice_get rules k ≡ Some x → IsJoinedAt m rs notes k x
+pub joined_at : (m : SymbolTable) (rs : List Ruling) (rules : List GrammarRule) (notes : List Note)
+    → AreJoined m rs rules notes → (k : ℕ) (x : GrammarRule) → slice_get rules k ≡ Some x → IsJoinedAt m rs notes k x
 joined_at m [] [] [] all k x at = absurd cc
 joined_at m [] [] (n ∷ notes) all k x at = absurd all
 joined_at m [] (g ∷ rules) notes all k x at = absurd all
@@ -149,6 +149,6 @@ shapes_are_within bytes x w s text joined (suc k) r le is =
     subst (IsShapeFor (length r.body)) (sym (ap shape_from note ∙ from.joined.shape))
     (rules_fit text.rules k from.ruling from.is_ruling r.body long)
   where
-    there : (o : Option Rule) → option_map Some o ≡ Some (Some r) → o ≡ Some r
+    there : (o : Option GrammarRule) → option_map Some o ≡ Some (Some r) → o ≡ Some r
     there None e = absurd cc
     there (Some y) e = cc

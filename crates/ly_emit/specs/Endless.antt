@@ -4,12 +4,12 @@ use Rattle.ly_join.specs.Joined.{Spec}
 use Rattle.ly_loop.specs.Endless.{IsFirstEndless}
 use Rattle.ly_loop.specs.declared.fault.LoopFault.{LoopFault}
 use Rattle.ly_loop.specs.declared.fault.LoopFault.TheVariants.{Endless, OutOfMemory}
-use Rattle.ly_lr0.specs.Automaton.{Automaton}
+use Rattle.ly_lr0.specs.Automaton.{Lr0Automaton}
 use Rattle.ly_pack.specs.Machine.{Machine, AreEntriesWithin}
 
 -- the fault names the first endless run of the specification's tables with default reductions; want of memory says
 -- nothing
-abbrev pub IsRefusedFor : Spec → Automaton → LoopFault → Type 0
+abbrev pub IsRefusedFor : Spec → Lr0Automaton → LoopFault → Type 0
 IsRefusedFor s M (Endless below top token) = (n : Machine) × IsMachineOf s M n × AreEntriesWithin n
     × IsFirstEndless n below.0 top.0 token.0
 IsRefusedFor s M OutOfMemory = Unit {0}

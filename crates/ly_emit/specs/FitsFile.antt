@@ -5,7 +5,7 @@ use Rattle.ly_base.specs.declared.scan_action.ScanAction.{ScanAction}
 use Rattle.ly_base.specs.declared.version.Version.{Version}
 use Rattle.ly_emit.specs.Tables.{shape_in}
 use Rattle.ly_ere.specs.declared.pattern.Rule as pattern
-use Rattle.ly_join.specs.Grammar.{IsRule, Rule}
+use Rattle.ly_join.specs.Grammar.{IsRule, GrammarRule}
 use Rattle.ly_join.specs.Joined.{Spec}
 use Rattle.ly_join.specs.Terminals.{end, undefined}
 use Rattle.ly_lr0.specs.Automaton as parser
@@ -23,7 +23,7 @@ pub record IsGrammarWithin (counts : Counts) (s : Spec) (M : parser.Automaton) :
   pub some_rule : 2 ≤ length s.grammar.rules
   pub rule_count : length s.grammar.rules ≤ counts.rules + 1
   pub rules : (p : ℕ) → 1 ≤ p → p < length s.grammar.rules
-      → (r : Rule) × IsRule s.grammar p r × (length r.body ≤ 255)
+      → (r : GrammarRule) × IsRule s.grammar p r × (length r.body ≤ 255)
   pub constructors : (p : ℕ) → IsShapeShort (shape_in s p)
   pub states : length M.states ≤ counts.states
 

@@ -3,7 +3,7 @@ use Rattle.std.specs.Prelude.{◌≡◌, ℕ, List, [], ◌∷◌, Some}
 use Rattle.ly_base.specs.Lexed.{Token}
 use Rattle.ly_base.specs.Shape.{Shape}
 use Rattle.ly_base.specs.Trees.{Tree}
-use Rattle.ly_lr0.specs.Automaton.{Automaton, goto_of}
+use Rattle.ly_lr0.specs.Automaton.{Lr0Automaton, goto_of}
 use Rattle.ly_parse.specs.Feeding.{Fed, Level, done, faulty, pushed, refused, top_of}
 use Rattle.ly_resolve.specs.Actions.{Judge}
 use Rattle.ly_resolve.specs.Machine.{Accepts, Configuration, Leads, Pushed, Refuses}
@@ -11,7 +11,7 @@ use Rattle.ly_tree.specs.Term.{build}
 
 -- The levels mirror a stack of the reference machine: each state is where the symbols up to it lead, and each term is
 -- what the rules build of its tree.
-pub data Mirrors (M : Automaton) (shape : ℕ → Shape) : List Pushed → List Level → Type 0 where
+pub data Mirrors (M : Lr0Automaton) (shape : ℕ → Shape) : List Pushed → List Level → Type 0 where
   bottom : Mirrors M shape [] []
   above : {x : Pushed} {state : ℕ} {stack : List Pushed} {levels : List Level} → Mirrors M shape stack levels
       → goto_of M (top_of levels) x.symbol ≡ Some state
@@ -19,7 +19,7 @@ pub data Mirrors (M : Automaton) (shape : ℕ → Shape) : List Pushed → List 
 
 -- What becomes of a token that is next, by what the tables do with it: the machine goes on behind it, accepts, or
 -- refuses it, and the tables are never at fault.
-abbrev pub Follows : Automaton → (ℕ → Shape) → Judge → List Pushed → Token ℕ → List (Token ℕ) → Fed → Type 0
+abbrev pub Follows : Lr0Automaton → (ℕ → Shape) → Judge → List Pushed → Token ℕ → List (Token ℕ) → Fed → Type 0
 Follows M shape judge stack token behind (pushed levels) = (next : List Pushed)
     × Leads M.grammar judge (record { stack = stack; rest = token ∷ behind })
     (record { stack = next; rest = behind }) × Mirrors M shape next levels

@@ -2,11 +2,11 @@
 use Rattle.std.specs.Prelude.{◌≡◌, ◌↔◌, ℕ, ◌<◌, ◌≤◌, List, [], ◌∷◌, ◌++◌, All, Contains, length}
 use Rattle.ly_base.specs.Lexed.{Token}
 use Rattle.ly_grammar.specs.Reduction.{KeepsUseful}
-use Rattle.ly_join.specs.Grammar.{IsRule, Rule}
+use Rattle.ly_join.specs.Grammar.{IsRule, GrammarRule}
 use Rattle.ly_join.specs.Joined.{Joined, Spec}
 use Rattle.ly_join.specs.Scanning.{Scanning}
 use Rattle.ly_loop.specs.Endless.{IsFirstEndless}
-use Rattle.ly_lr0.specs.Automaton.{Automaton, IsAutomaton}
+use Rattle.ly_lr0.specs.Automaton.{Lr0Automaton, IsLr0Automaton}
 use Rattle.ly_pack.specs.Machine.{Machine, IsMachine, AreEntriesWithin, entry_at, goto_at, states_of}
 use Rattle.ly_pack.specs.Steady.{IsSteady, rule_at}
 use Rattle.ly_pack.specs.SteadyLaws.{IsStack}
@@ -25,40 +25,40 @@ use Rattle.ly_emit.specs.Tables.{AreShapesWithin, IsMachineOf, shape_in}
 -- What tables with defaults do with a token, the reference machine does too: a default stands for a reduction that is
 -- done, or leads to no token.
 abbrev pub TablesFollow : Type 0
-TablesFollow = (s : Spec) (M : Automaton) (n : Machine) → IsAutomaton M → KeepsUseful s.grammar M.grammar
+TablesFollow = (s : Spec) (M : Lr0Automaton) (n : Machine) → IsLr0Automaton M → KeepsUseful s.grammar M.grammar
     → IsMachineOf s M n → (stack : List Pushed) (levels : List Level) (token : Token ℕ) (behind : List (Token ℕ))
     (out : Fed) → token.terminal < M.grammar.terminals → Mirrors M (shape_in s) stack levels → Feeds n token levels out
     → Follows M (shape_in s) (judge_of s) stack token behind out
 
 -- the terminal of each token is one of the grammar's
-abbrev pub AreOf : Automaton → List (Token ℕ) → Type 0
+abbrev pub AreOf : Lr0Automaton → List (Token ℕ) → Type 0
 AreOf M tokens = All (λ t. t.terminal < M.grammar.terminals) tokens
 
 -- Where tables read all tokens and then accept the end with a term, the reference machine accepts them with a tree of
 -- which that term is built.
 abbrev pub AcceptedFollow : Type 0
-AcceptedFollow = (s : Spec) (M : Automaton) (n : Machine) → IsAutomaton M → KeepsUseful s.grammar M.grammar
+AcceptedFollow = (s : Spec) (M : Lr0Automaton) (n : Machine) → IsLr0Automaton M → KeepsUseful s.grammar M.grammar
     → IsMachineOf s M n → (tokens : List (Token ℕ)) (end : Token ℕ) (last : List Level) (term : Term)
     → AreOf M (tokens ++ end ∷ []) → ReadsTokens n [] tokens last → Feeds n end last (done term)
     → (d : Tree) × AcceptsWith M.grammar (judge_of s) (tokens ++ end ∷ []) d × (term ≡ build (shape_in s) d)
 
 -- Where tables read some tokens and refuse the next, so does the reference machine, whatever stands behind it.
 abbrev pub RefusedFollow : Type 0
-RefusedFollow = (s : Spec) (M : Automaton) (n : Machine) → IsAutomaton M → KeepsUseful s.grammar M.grammar
+RefusedFollow = (s : Spec) (M : Lr0Automaton) (n : Machine) → IsLr0Automaton M → KeepsUseful s.grammar M.grammar
     → IsMachineOf s M n → (before behind : List (Token ℕ)) (t : Token ℕ) (last : List Level)
     → AreOf M (before ++ t ∷ []) → ReadsTokens n [] before last → Feeds n t last refused
     → RefusesAfter M.grammar (judge_of s) (before ++ t ∷ behind) before
 
 -- On steady tables each run of the reference machine on tokens with the end behind them ends.
 abbrev pub RunsEndOnSteady : Type 0
-RunsEndOnSteady = (s : Spec) (M : Automaton) (n : Machine) → IsAutomaton M → KeepsUseful s.grammar M.grammar
+RunsEndOnSteady = (s : Spec) (M : Lr0Automaton) (n : Machine) → IsLr0Automaton M → KeepsUseful s.grammar M.grammar
     → IsMachineOf s M n → IsMachine n → IsSteady n → (tokens : List (Token ℕ)) (end : Token ℕ) → end.terminal ≡ 0
     → AreOf M (tokens ++ end ∷ []) → Ends M.grammar (judge_of s) (tokens ++ end ∷ [])
 
 -- On steady tables, whose levels mirror a stack of the reference machine, the terminals that are expected are those
 -- that it would read next.
 abbrev pub ExpectedFollow : Type 0
-ExpectedFollow = (s : Spec) (M : Automaton) (n : Machine) → IsAutomaton M → KeepsUseful s.grammar M.grammar
+ExpectedFollow = (s : Spec) (M : Lr0Automaton) (n : Machine) → IsLr0Automaton M → KeepsUseful s.grammar M.grammar
     → IsMachineOf s M n → IsSteady n → (stack : List Pushed) (levels : List Level)
     → Mirrors M (shape_in s) stack levels → IsStack n (states_on levels) → (ts : List ℕ)
     → AreExpected n (states_on levels) ts → (t : ℕ) → Contains ts t ↔ Next M.grammar (judge_of s) stack t
@@ -76,23 +76,23 @@ pub record AreSameTables (s : Spec) (m n : Machine) : Type 0 where
   pub defaults : m.defaults ≡ n.defaults
   pub entries : (k t : ℕ) → k < states_of m → entry_at m k t ≡ entry_at n k t
   pub gotos : (k A : ℕ) → k < states_of m → A < m.nonterminals → goto_at m k A ≡ goto_at n k A
-  pub rules : (p : ℕ) (r : Rule) → 1 ≤ p → IsRule s.grammar p r → rule_at m p ≡ rule_at n p
+  pub rules : (p : ℕ) (r : GrammarRule) → 1 ≤ p → IsRule s.grammar p r → rule_at m p ≡ rule_at n p
   pub numbers : length m.rules ≡ length n.rules
 
 -- The tables of a specification, with default reductions, are one, by whatever automata of its useful rules.
 abbrev pub TablesAreOne : Type 0
-TablesAreOne = (s : Spec) (M N : Automaton) (m n : Machine) → IsAutomaton M → IsAutomaton N
+TablesAreOne = (s : Spec) (M N : Lr0Automaton) (m n : Machine) → IsLr0Automaton M → IsLr0Automaton N
     → KeepsUseful s.grammar M.grammar → KeepsUseful s.grammar N.grammar → IsMachineOf s M m → IsMachineOf s N n
     → AreSameTables s m n
 
 -- so they are steady together, where the others have nothing outside of their rows and columns
 abbrev pub SteadyTogether : Type 0
-SteadyTogether = (s : Spec) (M N : Automaton) (m n : Machine) → IsAutomaton M → IsAutomaton N
+SteadyTogether = (s : Spec) (M N : Lr0Automaton) (m n : Machine) → IsLr0Automaton M → IsLr0Automaton N
     → KeepsUseful s.grammar M.grammar → KeepsUseful s.grammar N.grammar → IsMachineOf s M m → IsMachineOf s N n
     → AreEntriesWithin n → IsSteady m → IsSteady n
 
 -- A run of a specification's tables that is too long excludes that any tables of it are steady.
 abbrev pub EndlessExcludesSteady : Type 0
-EndlessExcludesSteady = (s : Spec) (M N : Automaton) (m n : Machine) → IsAutomaton M → IsAutomaton N
+EndlessExcludesSteady = (s : Spec) (M N : Lr0Automaton) (m n : Machine) → IsLr0Automaton M → IsLr0Automaton N
     → KeepsUseful s.grammar M.grammar → KeepsUseful s.grammar N.grammar → IsMachineOf s M m → IsMachineOf s N n
     → AreEntriesWithin n → IsSteady m → (below top token : ℕ) → IsFirstEndless n below top token → ⊥

@@ -1,9 +1,9 @@
 -- What a parser does in each state of an automaton, as tables.
 use Rattle.std.specs.Prelude.{◌≡◌, ◌≢◌, ℕ, ◌+◌, ◌<◌, ◌≤◌, Option, Some, None, length, slice_get}
 use Rattle.ly_base.specs.Shape.{Shape, nil}
-use Rattle.ly_join.specs.Grammar.{IsRule, Rule, nonterminal, terminal}
+use Rattle.ly_join.specs.Grammar.{IsRule, GrammarRule, nonterminal, terminal}
 use Rattle.ly_join.specs.Joined.{Note, Spec}
-use Rattle.ly_lr0.specs.Automaton.{Automaton, goto_of, prefix_of}
+use Rattle.ly_lr0.specs.Automaton.{Lr0Automaton, goto_of, prefix_of}
 use Rattle.ly_pack.specs.Defaults.{HasDefaultsOf}
 use Rattle.ly_pack.specs.Machine.{Machine, TableAction, IsShapeFor, accept, entry_at, goto_at}
 use Rattle.ly_pack.specs.Machine.{states_of}
@@ -14,7 +14,7 @@ use Rattle.ly_resolve.specs.Precedence.{judge_of}
 
 -- The entry of a state before a terminal has this done: a shift goes where the state's transition leads, and before the
 -- end it accepts.
-abbrev pub IsEntryFor : Automaton → ℕ → ℕ → Action → TableAction → Type 0
+abbrev pub IsEntryFor : Lr0Automaton → ℕ → ℕ → Action → TableAction → Type 0
 IsEntryFor M k t shift (table.shift s) = (1 ≤ t) × (goto_of M k (terminal t) ≡ Some s)
 IsEntryFor M k t shift table.accept = t ≡ 0
 IsEntryFor M k t shift (table.reduce q) = ⊥
@@ -39,7 +39,7 @@ shape_in s p = shape_from (slice_get s.notes p)
 
 -- The tables have what is done in each state of the automaton before each terminal, and nowhere a default; where states
 -- go by nonterminals; and the specification's rules, those that are removed too.
-pub record AreTables (s : Spec) (M : Automaton) (m : Machine) : Type 0 where
+pub record AreTables (s : Spec) (M : Lr0Automaton) (m : Machine) : Type 0 where
   pub terminals : m.terminals ≡ M.grammar.terminals
   pub nonterminals : m.nonterminals ≡ M.grammar.accept
   pub states : states_of m ≡ length M.states
@@ -49,15 +49,15 @@ pub record AreTables (s : Spec) (M : Automaton) (m : Machine) : Type 0 where
       → IsTerminalRefused M.grammar (prefix_of M k) t
   pub gotos : (k A : ℕ) → k < length M.states → A < M.grammar.accept
       → goto_at m k A ≡ goto_of M k (nonterminal A)
-  pub rules : (p : ℕ) (r : Rule) → 1 ≤ p → IsRule s.grammar p r
+  pub rules : (p : ℕ) (r : GrammarRule) → 1 ≤ p → IsRule s.grammar p r
       → rule_at m p ≡ Some (record { left = r.left; body_length = length r.body; shape = shape_in s p })
   pub numbers : length m.rules + 1 ≡ length s.grammar.rules
   pub no_default : (k p : ℕ) → slice_get m.defaults k ≢ Some (Some p)
 
 -- What each rule but rule 0 makes of the trees of its body speaks of places of the body alone, and of each once.
 abbrev pub AreShapesWithin : Spec → Type 0
-AreShapesWithin s = (p : ℕ) (r : Rule) → 1 ≤ p → IsRule s.grammar p r → IsShapeFor (length r.body) (shape_in s p)
+AreShapesWithin s = (p : ℕ) (r : GrammarRule) → 1 ≤ p → IsRule s.grammar p r → IsShapeFor (length r.body) (shape_in s p)
 
 -- The machine is that of the specification: its tables, with default reductions.
-abbrev pub IsMachineOf : Spec → Automaton → Machine → Type 0
+abbrev pub IsMachineOf : Spec → Lr0Automaton → Machine → Type 0
 IsMachineOf s M n = (m : Machine) × AreTables s M m × HasDefaultsOf m n

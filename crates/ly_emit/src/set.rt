@@ -7,7 +7,7 @@ ghost use Rattle.ly_emit.specs.Private.Listing.{AreLiterals};
 ghost use Rattle.ly_emit.specs.SetOf.{IsMachineBy, IsSetOf};
 ghost use Rattle.ly_join.specs.Sizes.{HasSizes};
 ghost use Rattle.ly_join.specs.Terminals.{terminal_from};
-ghost use Rattle.ly_lr0.specs.Automaton.{Automaton};
+ghost use Rattle.ly_lr0.specs.Automaton.{Lr0Automaton};
 ghost use Rattle.ly_pack.specs.Steady.{IsSteady};
 ghost use Rattle.ly_report.specs.Report.{terminal_name as printed};
 ghost use Rattle.ly_tables.specs.Ranges.{IsWithinVersion};
@@ -37,13 +37,13 @@ pub fn table_set(
     rules: &[Rule],
     dfa: &Dfa,
 ) -> Result<TableSet, OutOfMemory>
-    requires fits { (M : Automaton) × IsMachineBy spec.now M machine × FitsFile V2 spec.now rules.now dfa.now M }
+    requires fits { (M : Lr0Automaton) × IsMachineBy spec.now M machine × FitsFile V2 spec.now rules.now dfa.now M }
     requires steady { IsSteady machine }
     requires rules { length rules.now ≡ length spec.now.scanner }
     requires starts { (conditions : ℕ) × (dfa.now.starts ≡ 2 * conditions) }
-    ensures set { IfOk result (λ s. (M : Automaton) → IsMachineBy spec.now M machine
+    ensures set { IfOk result (λ s. (M : Lr0Automaton) → IsMachineBy spec.now M machine
         → IsSetOf spec.now M rules.now dfa.now s) }
-    ensures within { IfOk result (λ s. (v : Version) (M : Automaton) → IsMachineBy spec.now M machine
+    ensures within { IfOk result (λ s. (v : Version) (M : Lr0Automaton) → IsMachineBy spec.now M machine
         → FitsFile v spec.now rules.now dfa.now M → IsWithinVersion v s) }
     ensures ends { IfOk result (λ s. IsSteady (machine_of s)) }
 {
@@ -59,13 +59,13 @@ fn table_parts(
     rules: &[Rule],
     dfa: &Dfa,
 ) -> Result<TableParts, OutOfMemory>
-    requires fits { (M : Automaton) × IsMachineBy spec.now M machine × FitsFile V2 spec.now rules.now dfa.now M }
+    requires fits { (M : Lr0Automaton) × IsMachineBy spec.now M machine × FitsFile V2 spec.now rules.now dfa.now M }
     requires rules { length rules.now ≡ length spec.now.scanner }
     requires starts { (conditions : ℕ) × (dfa.now.starts ≡ 2 * conditions) }
     ensures same { IfOk result (λ parts. machine_of (set_of parts) ≡ machine) }
-    ensures set { IfOk result (λ parts. (M : Automaton) → IsMachineBy spec.now M machine
+    ensures set { IfOk result (λ parts. (M : Lr0Automaton) → IsMachineBy spec.now M machine
         → IsSetOf spec.now M rules.now dfa.now (set_of parts)) }
-    ensures within { IfOk result (λ parts. (v : Version) (M : Automaton) → IsMachineBy spec.now M machine
+    ensures within { IfOk result (λ parts. (v : Version) (M : Lr0Automaton) → IsMachineBy spec.now M machine
         → FitsFile v spec.now rules.now dfa.now M → IsWithinVersion v (set_of parts)) }
 {
     let parser = pack(alloc, machine)?.into_parts();

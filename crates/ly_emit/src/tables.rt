@@ -1,7 +1,7 @@
 //! The tables of a parser, without defaults.
 ghost use Rattle.std.specs.Prelude.{◌≡◌, ◌+◌, ◌<◌, length, map, replicate, IfOk, None, OnOk};
 ghost use Rattle.ly_join.specs.Grammar.{IsGrammar};
-ghost use Rattle.ly_lr0.specs.Automaton.{prefix_of, IsAutomaton};
+ghost use Rattle.ly_lr0.specs.Automaton.{prefix_of, IsLr0Automaton};
 ghost use Rattle.ly_pack.specs.Rows.{dense_entry};
 ghost use Rattle.ly_pack.specs.Values.{action_from as entry_action, rule_from};
 ghost use Rattle.ly_resolve.specs.Actions.{shift, IsRaw};
@@ -75,7 +75,7 @@ fn fill_actions(
     row: &[TerminalAction],
     actions: &mut Dense<TableAction>,
 ) -> Result<(), OutOfMemory>
-    requires lawful { IsAutomaton resolved.now.automaton }
+    requires lawful { IsLr0Automaton resolved.now.automaton }
     requires state { state.0 < length resolved.now.automaton.states }
     requires row { IsRow resolved.now.automaton.grammar (judge_of resolved.now.spec)
         (prefix_of resolved.now.automaton state.0) (map terminal_action_from row.now) }
@@ -101,7 +101,7 @@ fn table_action(
     state: StateNo,
     entry: TerminalAction,
 ) -> Result<TableAction, OutOfMemory>
-    requires lawful { IsAutomaton lr0.now }
+    requires lawful { IsLr0Automaton lr0.now }
     requires state { state.0 < length lr0.now.states }
     requires shifted { action_from entry.action ≡ shift
         → IsRaw lr0.now.grammar (prefix_of lr0.now state.0) entry.terminal.0 shift }
@@ -120,7 +120,7 @@ fn table_action(
 
 /// Where a terminal is shifted to; the end is accepted.
 fn shift_action(lr0: &Lr0<'_>, state: StateNo, terminal: Sym) -> TableAction
-    requires lawful { IsAutomaton lr0.now }
+    requires lawful { IsLr0Automaton lr0.now }
     requires state { state.0 < length lr0.now.states }
     requires shifted { IsRaw lr0.now.grammar (prefix_of lr0.now state.0) terminal.0 shift }
     ensures { IsEntryFor lr0.now state.0 terminal.0 shift (entry_action result) }
@@ -147,7 +147,7 @@ fn goto_rows(alloc: Global, lr0: &Lr0<'_>) -> Result<Dense<StateNo>, OutOfMemory
 
 /// Fills in where a state goes by nonterminals.
 fn fill_gotos(lr0: &Lr0<'_>, state: StateNo, gotos: &mut Dense<StateNo>) -> Result<(), OutOfMemory>
-    requires lawful { IsAutomaton lr0.now }
+    requires lawful { IsLr0Automaton lr0.now }
     requires state { state.0 < length lr0.now.states }
     requires rows { gotos.old.rows ≡ length lr0.now.states }
     requires width { gotos.old.width ≡ lr0.now.grammar.accept }

@@ -1,7 +1,7 @@
 -- Valid items by rules and dots, and how many steps their derivations take.
 use Rattle.std.proofs.Common.{◌≡◌, ◌∙◌, ℕ, suc, List, [], ◌∷◌}
 use Rattle.std.proofs.Common.{refl, sym, ap, subst, arith, length, drop}
-use Rattle.ly_join.specs.Grammar.{Grammar, IsAugmented, IsRule, Rule, Symbol, accept_rule, nonterminal}
+use Rattle.ly_join.specs.Grammar.{Grammar, IsAugmented, IsRule, GrammarRule, Symbol, accept_rule, nonterminal}
 use Rattle.ly_grammar.specs.Derivations.{First}
 use Rattle.ly_grammar.specs.Items.{Valid, at_start, closed, moved, onto}
 use Rattle.ly_grammar.proofs.ItemLemmas.{body_of, length-onto}
@@ -11,7 +11,7 @@ use Rattle.ly_explain.specs.Demands.{IsAhead}
 use Rattle.ly_explain.specs.Private.Met.{At, added, begun, item_at, passed}
 
 -- what stands behind the dot of an item that is split there
-pub ahead_of : (G : Grammar) (p : ℕ) (r : Rule) (before after : List Symbol) (X : Symbol) → IsRule G p r
+pub ahead_of : (G : Grammar) (p : ℕ) (r : GrammarRule) (before after : List Symbol) (X : Symbol) → IsRule G p r
     → onto before (X ∷ after) ≡ r.body → IsAhead G (item_at p (length before)) X after
 ahead_of G p r before after X is e =
     record { rule = r; is_rule = is; ahead = sym (parted before (X ∷ after) r.body e).1 }
@@ -66,7 +66,7 @@ valid_of_at {G} augmented (passed {g = g} {p = p} {t = t} {X = X} {rest = rest} 
     record { before = X ∷ s.before; after = rest; valid = moved v; dot = ap suc s.dot }
 
 -- a rule that is complete has its dot at the end
-pub complete_of_at : {G : Grammar} {n : ℕ} {g : List Symbol} {t : ℕ} (p d : ℕ) (r : Rule) → IsAugmented G → IsRule G p r
+pub complete_of_at : {G : Grammar} {n : ℕ} {g : List Symbol} {t : ℕ} (p d : ℕ) (r : GrammarRule) → IsAugmented G → IsRule G p r
     → d ≡ length r.body → At G n g p d t → (before : List Symbol) × Valid G g p before [] t
 complete_of_at {G} {g = g} {t = t} p d r augmented is end i =
     let s = valid_of_at augmented i in
@@ -79,7 +79,7 @@ complete_of_at {G} {g = g} {t = t} p d r augmented is end i =
     empty [] e = refl
     empty (X ∷ w) e = absurd (omega (arith, e))
 
-pub at_of_complete : {G : Grammar} {g : List Symbol} {t : ℕ} (p d : ℕ) (r : Rule) → IsRule G p r
+pub at_of_complete : {G : Grammar} {g : List Symbol} {t : ℕ} (p d : ℕ) (r : GrammarRule) → IsRule G p r
     → d ≡ length r.body → (before : List Symbol) × Valid G g p before [] t → (n : ℕ) × At G n g p d t
 at_of_complete {G} {g} {t} p d r is end (before, v) =
     let b = body_of v in
@@ -91,7 +91,7 @@ at_of_complete {G} {g} {t} p d r is end (before, v) =
 -- How an item comes to be valid.
 pub data Comes (G : Grammar) (n : ℕ) (g : List Symbol) (p d t : ℕ) : Type 0 where
   at_first : n ≡ 1 → p ≡ 0 → d ≡ 0 → g ≡ [] → Comes G n g p d t
-  by_item : (m q e u : ℕ) (r : Rule) (rest : List Symbol) → n ≡ suc m → d ≡ 0 → At G m g q e u → IsRule G p r
+  by_item : (m q e u : ℕ) (r : GrammarRule) (rest : List Symbol) → n ≡ suc m → d ≡ 0 → At G m g q e u → IsRule G p r
       → IsAhead G (item_at q e) (nonterminal r.left) rest → First G rest u t → Comes G n g p d t
   by_symbol : (m e : ℕ) (X : Symbol) (h rest : List Symbol) → n ≡ suc m → d ≡ suc e → g ≡ X ∷ h → At G m h p e t
       → IsAhead G (item_at p e) X rest → Comes G n g p d t

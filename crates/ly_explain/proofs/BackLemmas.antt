@@ -8,10 +8,10 @@ use Rattle.std.proofs.lemmas.List.Elements.{Contains-append_cases, Contains-appe
 use Rattle.std.proofs.lemmas.Option.{slice_get_within}
 use Rattle.ly_base.specs.declared.numbers.StateNo.{StateNo}
 use Rattle.ly_base.proofs.MemberLemmas.{Contains-first, Contains-none, Contains-one}
-use Rattle.ly_join.specs.Grammar.{Grammar, IsRule, Rule, Symbol, nonterminal}
+use Rattle.ly_join.specs.Grammar.{Grammar, IsRule, GrammarRule, Symbol, nonterminal}
 use Rattle.ly_grammar.specs.Reduction.{KeepsUseful}
 use Rattle.ly_grammar.proofs.SearchLemmas.{rule_is_one}
-use Rattle.ly_lr0.specs.Automaton.{Automaton, goto_of}
+use Rattle.ly_lr0.specs.Automaton.{Lr0Automaton, goto_of}
 use Rattle.ly_relate.proofs.WalkLemmas.{drop_at, slice_at_drop}
 use Rattle.ly_explain.specs.Demands.{IsAhead, IsBefore, IsBegun, PopsTo}
 use Rattle.ly_lr0.specs.declared.item.Item.{Item}
@@ -21,26 +21,26 @@ use Rattle.ly_explain.specs.Private.Met.{item_at}
 use Rattle.ly_explain.specs.Private.Uses.{HasSource}
 
 -- the rule of a number in the whole grammar is the one that is kept
-pub kept_is : (H R G : Grammar) (p : ℕ) (s r : Rule) → KeepsUseful H R → R ≡ G → IsRule H p s → IsRule G p r → s ≡ r
+pub kept_is : (H R G : Grammar) (p : ℕ) (s r : GrammarRule) → KeepsUseful H R → R ≡ G → IsRule H p s → IsRule G p r → s ≡ r
 kept_is H R G p s r keeps same whole kept =
     rule_is_one H p s r whole ((keeps.rules p r).0 (subst (λ A. IsRule A p r) (sym same) kept)).0
 
-pub kept_number : (H R G : Grammar) (p : ℕ) (r : Rule) → KeepsUseful H R → R ≡ G → IsRule G p r → p < length H.rules
+pub kept_number : (H R G : Grammar) (p : ℕ) (r : GrammarRule) → KeepsUseful H R → R ≡ G → IsRule G p r → p < length H.rules
 kept_number H R G p r keeps same kept =
     slice_get_within H.rules p (Some r) ((keeps.rules p r).0 (subst (λ A. IsRule A p r) (sym same) kept)).0
 
 -- what stands at the dot is ahead of it
-pub ahead_at : (G : Grammar) (i : Item) (X : Symbol) (r : Rule) → IsRule G i.rule r → slice_get r.body i.dot ≡ Some X
+pub ahead_at : (G : Grammar) (i : Item) (X : Symbol) (r : GrammarRule) → IsRule G i.rule r → slice_get r.body i.dot ≡ Some X
     → IsAhead G i X (drop (i.dot + 1) r.body)
 ahead_at G i X r is at = record { rule = r; is_rule = is; ahead = drop_at r.body i.dot X at }
 
-pub at_ahead : (G : Grammar) (i : Item) (X : Symbol) (rest : List Symbol) (r : Rule) → IsRule G i.rule r
+pub at_ahead : (G : Grammar) (i : Item) (X : Symbol) (rest : List Symbol) (r : GrammarRule) → IsRule G i.rule r
     → IsAhead G i X rest → (slice_get r.body i.dot ≡ Some X) × (rest ≡ drop (i.dot + 1) r.body)
 at_ahead G i X rest r is a = slice_at_drop r.body i.dot X rest
     (ap (λ x. drop i.dot x.body) (rule_is_one G i.rule r a.rule is a.is_rule) ∙ a.ahead)
 
 -- The item whose dot is one symbol before that of another.
-module _ (G : Grammar) (i : Item) (r : Rule) (is : IsRule G i.rule r) where
+module _ (G : Grammar) (i : Item) (r : GrammarRule) (is : IsRule G i.rule r) where
   -- the two items are apart by that symbol
   before_of : (X : Symbol) (j : Item) → IsBefore G X i j
       → (item_at i.rule (i.dot - 1) ≡ j) × (slice_get r.body (i.dot - 1) ≡ Some X)
@@ -105,7 +105,7 @@ popped_with G X i (Some k) one (With j) = (
 )
 
 -- a rule is begun where its left side leaves the state
-pub leaves : (M : Automaton) (s q : ℕ) (r : Rule) (o : Option StateNo) (b : Bool) → IsRule M.grammar q r
+pub leaves : (M : Lr0Automaton) (s q : ℕ) (r : GrammarRule) (o : Option StateNo) (b : Bool) → IsRule M.grammar q r
     → option_map (λ x. x.0) o ≡ goto_of M s (nonterminal r.left) → (q ≡ 0 → s ≡ 0 → ⊥) → b ≡ is_some o
     → (b ≡ true) ↔ IsBegun M s q
 leaves M s q r None b is goes never test = (

@@ -1,10 +1,10 @@
 -- The strings that meet the demand with which a search begins are the examples of its conflict.
 use Rattle.std.proofs.Common.{refl, length}
 use Rattle.std.proofs.Common.{◌≡◌, ◌∙◌, inl, inr, ℕ, ◌≤◌, List, ◌∷◌, sym, subst, Some, None}
-use Rattle.ly_join.specs.Grammar.{Grammar, IsRule, Rule, Symbol, terminal}
+use Rattle.ly_join.specs.Grammar.{Grammar, IsRule, GrammarRule, Symbol, terminal}
 use Rattle.ly_grammar.specs.Items.{IsNextSymbol, Merges}
 use Rattle.ly_grammar.proofs.ItemLemmas.{body_of}
-use Rattle.ly_lr0.specs.Automaton.{Automaton, IsAutomaton, Reaches, goto_of}
+use Rattle.ly_lr0.specs.Automaton.{Lr0Automaton, IsLr0Automaton, Reaches, goto_of}
 use Rattle.ly_resolve.specs.Actions.{Action, IsAction, IsRaw, Judge, error, reduce, shift}
 use Rattle.ly_resolve.specs.Actions.{to_reduce, to_shift, unsettled}
 use Rattle.ly_resolve.specs.Conflicts.{Conflict, CountsAs, IsConflict, Kind, reduce_reduce, shift_reduce}
@@ -19,7 +19,7 @@ use Rattle.ly_explain.specs.Private.Met.{IsMet, IsProper, IsTrueIn}
 use Rattle.ly_explain.proofs.AtLemmas.{at_of_complete, complete_of_at}
 use Rattle.ly_explain.proofs.StepLemmas.{settles, step_met}
 
-module _ (M : Automaton) (is : IsAutomaton M) (t : ℕ) where
+module _ (M : Lr0Automaton) (is : IsLr0Automaton M) (t : ℕ) where
   whole_proper : (p : ℕ) (c : Claim) → ClaimsWhole M.grammar p c → IsProper c
   whole_proper p c whole = subst (IsProper) (sym whole.claim) whole.some
 
@@ -57,7 +57,7 @@ module _ (M : Automaton) (is : IsAutomaton M) (t : ℕ) where
   possible_action prefix g error c claims possible = absurd claims
 
 -- what meets the demand is an example
-pub example_of_met : (M : Automaton) → IsAutomaton M → (c : Conflict) (d : Demand) (g : List Symbol) → Opens M c d
+pub example_of_met : (M : Lr0Automaton) → IsLr0Automaton M → (c : Conflict) (d : Demand) (g : List Symbol) → Opens M c d
     → IsMet M c.terminal g d → IsExample M.grammar c g
 example_of_met M is c d g opens met =
     let merges : Merges M.grammar c.prefix g = record {
@@ -73,7 +73,7 @@ example_of_met M is c d g opens met =
     }
 
 -- and an example meets it
-pub met_of_example : (M : Automaton) → IsAutomaton M → (c : Conflict) (d : Demand) (g : List Symbol) → Opens M c d
+pub met_of_example : (M : Lr0Automaton) → IsLr0Automaton M → (c : Conflict) (d : Demand) (g : List Symbol) → Opens M c d
     → IsExample M.grammar c g → IsMet M c.terminal g d
 met_of_example M is c d g opens example =
     let there = is.cores.has g example.merges.right in
@@ -85,7 +85,7 @@ met_of_example M is c d g opens example =
       second = possible_action M is c.terminal c.prefix g (rival c.kind c.choice) d.second opens.second example.rival;
     }
 
-pub opening_proper : (M : Automaton) → IsAutomaton M → (c : Conflict) (d : Demand) → Opens M c d
+pub opening_proper : (M : Lr0Automaton) → IsLr0Automaton M → (c : Conflict) (d : Demand) → Opens M c d
     → IsProper d.first × IsProper d.second
 opening_proper M is c d opens = (
   whole_proper M is c.terminal c.rule d.first opens.first,
@@ -95,7 +95,7 @@ opening_proper M is c d opens = (
 -- A rule that is asked for is one of the grammar's.
 pub record IsAskedRule (G : Grammar) (p : ℕ) : Type 0 where
   pub some : 1 ≤ p
-  pub rule : Rule
+  pub rule : GrammarRule
   pub is_rule : IsRule G p rule
 
 pub asked_rule : (G : Grammar) (g : List Symbol) (t p : ℕ) → IsRaw G g t (reduce p) → IsAskedRule G p
@@ -133,7 +133,7 @@ conflict_rival G judge c is = of_kind c.kind c.choice is.counted is.choice where
   of_kind reduce_reduce error counted done = absurd (done.1 c.rule counted.0.0 (counted.0.1 done.0))
 
 -- what follows from a demand, and the string that meets it, meet the first demand
-follows_met : (M : Automaton) (is : IsAutomaton M) (t : ℕ) (from d : Demand) (g : List Symbol) → Follows M t from d
+follows_met : (M : Lr0Automaton) (is : IsLr0Automaton M) (t : ℕ) (from d : Demand) (g : List Symbol) → Follows M t from d
     → IsMet M t g d → (h : List Symbol) × IsMet M t h from
 follows_met M is t from d g at_start met = (g, met)
 follows_met M is t from d g (by_step {d = e} popped follows step) met =

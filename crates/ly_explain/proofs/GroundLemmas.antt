@@ -9,11 +9,11 @@ use Rattle.std.proofs.lemmas.List.Elements.{Contains-get_or}
 use Rattle.std.proofs.lemmas.Bool.{cases_order}
 use Rattle.std.proofs.lemmas.Option.{slice_get_past, slice_get_within}
 use Rattle.ly_base.specs.declared.numbers.StateNo.{StateNo}
-use Rattle.ly_join.specs.Grammar.{Grammar, IsAugmented, IsRule, Rule, Symbol, nonterminal, symbol_of, terminal}
+use Rattle.ly_join.specs.Grammar.{Grammar, IsAugmented, IsRule, GrammarRule, Symbol, nonterminal, symbol_of, terminal}
 use Rattle.ly_join.proofs.ListLemmas.{in_mapped, mapped_in}
 use Rattle.ly_grammar.specs.Private.Search.{HasNumberBelow}
 use Rattle.ly_grammar.proofs.SearchLemmas.{same_or_not}
-use Rattle.ly_lr0.specs.Automaton.{Automaton, IsAutomaton, IsLess, goto_of, state_at, target_of}
+use Rattle.ly_lr0.specs.Automaton.{Lr0Automaton, IsLr0Automaton, IsLess, goto_of, state_at, target_of}
 use Rattle.ly_lr0.specs.Transitions.{transition_of}
 use Rattle.ly_lr0.specs.declared.transition.Transition as code
 use Rattle.ly_lr0.proofs.GroupLemmas.{symbol_one}
@@ -129,7 +129,7 @@ module _ (old mid : List (List Item)) (body : List Symbol) (rule n : ℕ) (X : S
       ))
 
 -- the symbols of a body have lists
-pub body_below : (G : Grammar) → IsAugmented G → (p : ℕ) (r : Rule) → IsRule G p r
+pub body_below : (G : Grammar) → IsAugmented G → (p : ℕ) (r : GrammarRule) → IsRule G p r
     → All (HasNumberBelow (G.accept + 1)) r.body
 body_below G augmented p r is = λ k d lt.
     below (slice_index_or r.body k d) (body_within G augmented p r is k d lt)
@@ -139,7 +139,7 @@ body_below G augmented p r is = λ k d lt.
     below (nonterminal A) within = omega (arith, within)
 
 module _ (G : Grammar) (rule : ℕ) (old : List (List Item)) (are : AreUsesOf G old rule) where
-  pub rule_added : (r : Rule) (new : List (List Item)) → IsRule G rule r
+  pub rule_added : (r : GrammarRule) (new : List (List Item)) → IsRule G rule r
       → AreUsesAdded old new r.body rule (length r.body) → AreUsesOf G new (rule + 1)
   rule_added r new is added = record {
     count = added.count ∙ are.count;
@@ -164,7 +164,7 @@ module _ (G : Grammar) (rule : ℕ) (old : List (List Item)) (are : AreUsesOf G 
     );
   }
 
-  pub rule_removed : ((r : Rule) × IsRule G rule r → ⊥) → AreUsesOf G old (rule + 1)
+  pub rule_removed : ((r : GrammarRule) × IsRule G rule r → ⊥) → AreUsesOf G old (rule + 1)
   rule_removed none = record {
     count = are.count;
     exact = λ A i le. (
@@ -216,7 +216,7 @@ leaving_more old mid new from ts k t lt within e are = record {
       (record { from = from; symbol = (slice_index_or ts k t).symbol }) within e s) (are.exact s);
 }
 
-module _ (M : Automaton) (is : IsAutomaton M) (from : StateNo) (lt : from.0 < length M.states)
+module _ (M : Lr0Automaton) (is : IsLr0Automaton M) (from : StateNo) (lt : from.0 < length M.states)
     (ts : List code.Transition) (shown : map transition_of ts ≡ (state_at M from.0).transitions) where
   -- a transition leads to a state
   pub target_within : (k : ℕ) (t : code.Transition) → k < length ts
@@ -270,7 +270,7 @@ module _ (M : Automaton) (is : IsAutomaton M) (from : StateNo) (lt : from.0 < le
     );
   }
 
-pub incoming_all : (M : Automaton) (lists : List (List Incoming)) (n : ℕ) → length M.states ≤ n
+pub incoming_all : (M : Lr0Automaton) (lists : List (List Incoming)) (n : ℕ) → length M.states ≤ n
     → AreIncomingOf M lists n → AreIncoming M lists
 incoming_all M lists n past are = record {
   count = are.count;
@@ -293,7 +293,7 @@ incoming_all M lists n past are = record {
           cc
 
 -- a state leads to states
-pub goto_within : (M : Automaton) → IsAutomaton M → (s : ℕ) (X : Symbol) (t : ℕ) → s < length M.states
+pub goto_within : (M : Lr0Automaton) → IsLr0Automaton M → (s : ℕ) (X : Symbol) (t : ℕ) → s < length M.states
     → goto_of M s X ≡ Some t → t < length M.states
 goto_within M is s X t lt e =
     let there = state_there M s lt in

@@ -4,7 +4,7 @@ use Rattle.std.proofs.Common.{sym, ap, subst, arith, length}
 use Rattle.std.proofs.lemmas.List.{length-drop}
 use Rattle.std.proofs.lemmas.Option.{slice_get_within}
 use Rattle.ly_join.specs.Grammar.{Grammar, Symbol}
-use Rattle.ly_lr0.specs.Automaton.{Automaton}
+use Rattle.ly_lr0.specs.Automaton.{Lr0Automaton}
 use Rattle.ly_lr0.proofs.StateLemmas.{goto_some}
 use Rattle.ly_explain.specs.Demands.{ClimbsTo, IsAhead, IsStep, PopsTo}
 use Rattle.ly_lr0.specs.declared.item.Item.{Item}
@@ -18,7 +18,7 @@ ahead_kept : (G : Grammar) (i : Item) (X : Symbol) (rest : List Symbol) → IsAh
 ahead_kept G i X rest a =
     (a.rule, a.is_rule, omega (arith, ap length a.ahead, length-drop i.dot a.rule.body))
 
-climbs_kept : (M : Automaton) (t s : ℕ) (c e : Claim) → ClimbsTo M t s c e → IsKeptClaim M.grammar e
+climbs_kept : (M : Lr0Automaton) (t s : ℕ) (c e : Claim) → ClimbsTo M t s c e → IsKeptClaim M.grammar e
 climbs_kept M t s c Settled climbs = tt
 climbs_kept M t s (With q) (InCore i) (dot, rest, (r, rule, ahead), begins) = ahead_kept M.grammar i _ rest ahead
 climbs_kept M t s (With q) (With i) (dot, rest, (r, rule, ahead), null) = ahead_kept M.grammar i _ rest ahead
@@ -36,7 +36,7 @@ pops_kept G X Settled (With j) pops = absurd pops
 pops_kept G X (InCore i) (With j) pops = absurd pops
 pops_kept G X (With i) (InCore j) pops = absurd pops
 
-pub step_kept : (M : Automaton) (t : ℕ) (popped : Option Symbol) (d e : Demand) → IsStep M t popped d e
+pub step_kept : (M : Lr0Automaton) (t : ℕ) (popped : Option Symbol) (d e : Demand) → IsStep M t popped d e
     → IsKeptDemand M d → IsKeptDemand M e
 step_kept M t None d e (state, inl (climbs, second)) kept = record {
   state = subst (λ s. s.0 < length M.states) (sym state) kept.state;

@@ -1,8 +1,8 @@
 -- The demand on the examples of a conflict, and what is answered of the conflict.
 use Rattle.std.proofs.Common.{◌≡◌, ℕ, ◌<◌, ◌≤◌, List, refl, sym, ap, subst, length}
 use Rattle.std.specs.Prelude.{Contains}
-use Rattle.ly_join.specs.Grammar.{Grammar, IsRule, Rule, Symbol}
-use Rattle.ly_lr0.specs.Automaton.{Automaton, IsAutomaton, prefix_of}
+use Rattle.ly_join.specs.Grammar.{Grammar, IsRule, GrammarRule, Symbol}
+use Rattle.ly_lr0.specs.Automaton.{Lr0Automaton, IsLr0Automaton, prefix_of}
 use Rattle.ly_grammar.specs.Reduction.{KeepsUseful}
 use Rattle.ly_resolve.specs.Conflicts.{Conflict, IsConflict}
 use Rattle.ly_resolve.specs.Precedence.{judge_of}
@@ -27,7 +27,7 @@ use Rattle.ly_explain.proofs.ExampleLemmas.{example_of_met, met_of_example}
 
 -- the item of a rule with its dot at the end
 pub whole_claim : (G : Grammar) (p : ℕ) → 1 ≤ p → (i : Item) → i.rule ≡ p
-    → (x : Rule) × IsRule G p x × (i.dot ≡ length x.body) → ClaimsWhole G p (With i)
+    → (x : GrammarRule) × IsRule G p x × (i.dot ≡ length x.body) → ClaimsWhole G p (With i)
 whole_claim G p some i rule (x, is, end) = record {
   some = some;
   rule = x;
@@ -38,7 +38,7 @@ whole_claim G p some i rule (x, is, end) = record {
 }
 
 -- a rule that is kept is the specification's
-pub rule_within : (G R : Grammar) → KeepsUseful G R → (p : ℕ) (x : Rule) → IsRule R p x → IsRule G p x
+pub rule_within : (G R : Grammar) → KeepsUseful G R → (p : ℕ) (x : GrammarRule) → IsRule R p x → IsRule G p x
 rule_within G R keeps p x is = ((keeps.rules p x).0 is).0
 
 -- what stands against a rule, by what is counted and what is chosen
@@ -81,18 +81,18 @@ module _ (r : Resolved) (are : AreResolved r.spec r.automaton r) (c : conflict.C
       (rival (kind_from c.kind) (action_from c.choice))
   asked_rival_of = conflict_rival r.automaton.grammar (judge_of r.spec) (conflict_from r.automaton c) is_conflict
 
-  pub rule_there : (x : Rule) × IsRule r.automaton.grammar c.rule x
+  pub rule_there : (x : GrammarRule) × IsRule r.automaton.grammar c.rule x
   rule_there = (asked_rule_of.rule, asked_rule_of.is_rule)
 
   pub rival_there : (p : ℕ) → c.kind ≡ ReduceReduce → c.choice ≡ Reduce p
-      → (x : Rule) × IsRule r.automaton.grammar p x
+      → (x : GrammarRule) × IsRule r.automaton.grammar p x
   rival_there p e f =
       let a = rival_rule_of r.automaton.grammar (prefix_of r.automaton c.state.0) c.terminal.0 p c.kind c.choice e f
       asked_rival_of in
       (a.rule, a.is_rule)
 
   pub rival_whole : (p : ℕ) (i : Item) → c.kind ≡ ReduceReduce → c.choice ≡ Reduce p → i.rule ≡ p
-      → (x : Rule) × IsRule r.automaton.grammar p x × (i.dot ≡ length x.body)
+      → (x : GrammarRule) × IsRule r.automaton.grammar p x × (i.dot ≡ length x.body)
       → ClaimsRival r.automaton (conflict_from r.automaton c) (With i)
   rival_whole p i e f rule end =
       let a = rival_rule_of r.automaton.grammar (prefix_of r.automaton c.state.0) c.terminal.0 p c.kind c.choice e f
@@ -105,8 +105,8 @@ module _ (r : Resolved) (are : AreResolved r.spec r.automaton r) (c : conflict.C
   rival_settled none = settled_of r.automaton.grammar (prefix_of r.automaton c.state.0) c.terminal.0 c.kind c.choice
       none asked_rival_of
 
-  pub opens : IsAutomaton r.automaton → c.state.0 < length r.automaton.states → (i : Item) (second : Claim)
-      → i.rule ≡ c.rule → (x : Rule) × IsRule r.automaton.grammar c.rule x × (i.dot ≡ length x.body)
+  pub opens : IsLr0Automaton r.automaton → c.state.0 < length r.automaton.states → (i : Item) (second : Claim)
+      → i.rule ≡ c.rule → (x : GrammarRule) × IsRule r.automaton.grammar c.rule x × (i.dot ≡ length x.body)
       → ClaimsRival r.automaton (conflict_from r.automaton c) second
       → Opens r.automaton (conflict_from r.automaton c)
       (record { state = c.state; first = With i; second = second })
@@ -117,12 +117,12 @@ module _ (r : Resolved) (are : AreResolved r.spec r.automaton r) (c : conflict.C
   }
 
 -- a string that was found is an example, and there is none where no string is found
-pub found_example : (M N : Automaton) → N ≡ M → IsAutomaton N → (c : Conflict) (d : Demand) (g : List Symbol)
+pub found_example : (M N : Lr0Automaton) → N ≡ M → IsLr0Automaton N → (c : Conflict) (d : Demand) (g : List Symbol)
     → Opens M c d → IsMet N c.terminal g d → IsExample M.grammar c g
 found_example M N e is c d g opens met =
-    example_of_met M (subst IsAutomaton e is) c d g opens (subst (λ A. IsMet A c.terminal g d) e met)
+    example_of_met M (subst IsLr0Automaton e is) c d g opens (subst (λ A. IsMet A c.terminal g d) e met)
 
-pub no_example : (M N : Automaton) → N ≡ M → IsAutomaton N → (c : Conflict) (d : Demand) → Opens M c d
+pub no_example : (M N : Lr0Automaton) → N ≡ M → IsLr0Automaton N → (c : Conflict) (d : Demand) → Opens M c d
     → ((g : List Symbol) → IsMet N c.terminal g d → ⊥) → (g : List Symbol) → IsExample M.grammar c g → ⊥
 no_example M N e is c d opens none g example =
-    none g (subst (λ A. IsMet A c.terminal g d) (sym e) (met_of_example M (subst IsAutomaton e is) c d g opens example))
+    none g (subst (λ A. IsMet A c.terminal g d) (sym e) (met_of_example M (subst IsLr0Automaton e is) c d g opens example))

@@ -3,12 +3,12 @@ use Rattle.std.proofs.Common.{◌≡◌, ◌∙◌, ◌↔◌, ◌⊎◌, inl, i
 use Rattle.std.proofs.Common.{length, map, slice_get, slice_index_or, Contains}
 use Rattle.std.proofs.lemmas.Option.{get_or_from_slice_get, slice_get-get_or, slice_get_within}
 use Rattle.ly_base.proofs.ListLemmas.{some_at}
-use Rattle.ly_join.specs.Grammar.{IsRule, Rule}
+use Rattle.ly_join.specs.Grammar.{IsRule, GrammarRule}
 use Rattle.ly_join.proofs.ListLemmas.{in_mapped, mapped_in, placed}
 use Rattle.ly_grammar.specs.Derivations.{IsUseful}
 use Rattle.ly_grammar.specs.Items.{Merges}
 use Rattle.ly_grammar.specs.Reduction.{KeepsUseful}
-use Rattle.ly_lr0.specs.Automaton.{IsAutomaton, prefix_of, state_at}
+use Rattle.ly_lr0.specs.Automaton.{IsLr0Automaton, prefix_of, state_at}
 use Rattle.ly_lr0.proofs.LawLemmas.{reached_within}
 use Rattle.ly_lr0.proofs.StateLemmas.{state_there}
 use Rattle.ly_resolve.specs.Actions.{IsAction, IsRaw, reduce}
@@ -88,7 +88,7 @@ state_reduces r s row at p = (to, back) where
 
 -- THE STATES
 
-module _ (r : Resolved) (is : IsAutomaton r.automaton) (are : AreResolved r.spec r.automaton r) where
+module _ (r : Resolved) (is : IsLr0Automaton r.automaton) (are : AreResolved r.spec r.automaton r) where
   row_of : (s : ℕ) (row : List TerminalAction) → s < length r.automaton.states → slice_get r.rows s ≡ Some row
       → IsRow r.automaton.grammar (judge_of r.spec) (state_at r.automaton s).prefix row
   row_of s row lt at = are.rows s (state_at r.automaton s) row (state_there r.automaton s lt) at
@@ -124,7 +124,7 @@ module _ (r : Resolved) (is : IsAutomaton r.automaton) (are : AreResolved r.spec
         ),
       )
 
-pub all_reduced : (r : Resolved) → IsAutomaton r.automaton → AreResolved r.spec r.automaton r → (n rules : ℕ)
+pub all_reduced : (r : Resolved) → IsLr0Automaton r.automaton → AreResolved r.spec r.automaton r → (n rules : ℕ)
     → n ≡ length r.automaton.states → (none marks : List Bool) → AreMarked rules (λ p. ⊥) none
     → AreAdded (ByStepBefore (StateReduces r) n) none marks → AreMarked rules (IsReducedBy r) marks
 all_reduced r is are n rules all none marks empty added = marked_as (ByStepBefore (StateReduces r) n) (IsReducedBy r)
@@ -137,15 +137,15 @@ all_reduced r is are n rules all none marks empty added = marked_as (ByStepBefor
 -- THE RULES THAT ARE KEPT
 
 pub useful_kept : (r : Resolved) → KeepsUseful r.spec.grammar r.automaton.grammar → (p : ℕ) → 1 ≤ p
-    → ((q : Rule) × IsRule r.automaton.grammar p q)
-    ↔ ((q : Rule) × IsRule r.spec.grammar p q × IsUseful r.spec.grammar p)
+    → ((q : GrammarRule) × IsRule r.automaton.grammar p q)
+    ↔ ((q : GrammarRule) × IsRule r.spec.grammar p q × IsUseful r.spec.grammar p)
 useful_kept r keeps p some = (to, λ (q, is, useful). (q, (keeps.rules p q).1 (is, inr useful))) where
   useful : (p ≡ 0) ⊎ IsUseful r.spec.grammar p → IsUseful r.spec.grammar p
   useful (inl zero) = absurd (omega (arith, zero, some))
   useful (inr is) = is
 
-  to : ((q : Rule) × IsRule r.automaton.grammar p q)
-      → (q : Rule) × IsRule r.spec.grammar p q × IsUseful r.spec.grammar p
+  to : ((q : GrammarRule) × IsRule r.automaton.grammar p q)
+      → (q : GrammarRule) × IsRule r.spec.grammar p q × IsUseful r.spec.grammar p
   to (q, kept) = let both = (keeps.rules p q).0 kept in (q, both.0, useful both.1)
 
 pub never_below : (r : Resolved) (p : ℕ) → NeverReduces r p → p < length r.spec.grammar.rules

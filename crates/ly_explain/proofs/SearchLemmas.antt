@@ -10,7 +10,7 @@ use Rattle.ly_base.proofs.ListLemmas.{slice_get-append, slice_get-behind}
 use Rattle.ly_base.proofs.BeforeLemmas.{slice_get-before}
 use Rattle.ly_join.specs.Grammar.{symbol_of}
 use Rattle.ly_join.proofs.ListLemmas.{member_at}
-use Rattle.ly_lr0.specs.Automaton.{Automaton}
+use Rattle.ly_lr0.specs.Automaton.{Lr0Automaton}
 use Rattle.ly_explain.specs.Demands.{Follows, IsStep, by_step}
 use Rattle.ly_explain.specs.declared.claim.Demand.{Demand}
 use Rattle.ly_explain.specs.declared.found.Link.{Link}
@@ -27,7 +27,7 @@ at_end xs y k x end at =
     ∙ (ap (slice_get (xs ++ y ∷ [])) (sym end) ∙ at) in cc
 
 -- A demand that wasn't found, with the link by which it is found now.
-module _ (M : Automaton) (t : ℕ) (found : List Demand) (links : List Link) (e : Demand) (l : Link)
+module _ (M : Lr0Automaton) (t : ℕ) (found : List Demand) (links : List Link) (e : Demand) (l : Link)
     (count : length found ≡ suc (length links)) (d : Demand) (from_is : slice_get found l.from ≡ Some d)
     (step : IsStep M t (option_map symbol_of l.symbol) d e) where
   pub linked_more : ((k : ℕ) (m : Link) → slice_get links k ≡ Some m → IsLinked M t found k m)

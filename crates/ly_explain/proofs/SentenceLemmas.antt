@@ -10,7 +10,7 @@ use Rattle.std.proofs.lemmas.List.{append_assoc, length-map, map-append, reverse
 use Rattle.ly_base.specs.Lexed.{Token}
 use Rattle.ly_base.specs.Trees.{Trees, leaf, node, none, more, yield_of, yields_of}
 use Rattle.ly_base.specs.declared.numbers.Sym.{Sym}
-use Rattle.ly_join.specs.Grammar.{Grammar, IsRule, Rule, Symbol, nonterminal, symbol_of, terminal}
+use Rattle.ly_join.specs.Grammar.{Grammar, IsRule, GrammarRule, Symbol, nonterminal, symbol_of, terminal}
 use Rattle.ly_grammar.specs.Derivations.{AreTrees}
 use Rattle.ly_explain.specs.Sentences.{IsSentenceBy, rules_among, rules_of}
 use Rattle.ly_join.specs.declared.symbol.Symbol as code
@@ -97,7 +97,7 @@ passes_all G (u ∷ us) S rules w = (
 -- a nonterminal in front takes the next rule, which is one of its own
 pub takes_rule : (G : Grammar) (A : ℕ) (S : List Symbol) (p : ℕ) (rules w : List ℕ)
     → Derive G (nonterminal A ∷ S) (p ∷ rules) w
-    → (r : Rule) × IsRule G p r × (r.left ≡ A) × Derive G (r.body ++ S) rules w
+    → (r : GrammarRule) × IsRule G p r × (r.left ≡ A) × Derive G (r.body ++ S) rules w
 takes_rule G A S p rules w (none, are, has, yields) = absurd are
 takes_rule G A S p rules w (more (leaf x) ts, are, has, yields) = absurd are.0
 takes_rule G A S p rules w (more (node q us) ts, ((r, is, left, those), are), has, yields) =
@@ -114,7 +114,7 @@ takes_rule G A S p rules w (more (node q us) ts, ((r, is, left, those), are), ha
       ),
     )
 
-pub by_rule : (G : Grammar) (A : ℕ) (S : List Symbol) (p : ℕ) (r : Rule) (rules w : List ℕ) → IsRule G p r
+pub by_rule : (G : Grammar) (A : ℕ) (S : List Symbol) (p : ℕ) (r : GrammarRule) (rules w : List ℕ) → IsRule G p r
     → r.left ≡ A → Derive G (r.body ++ S) rules w → Derive G (nonterminal A ∷ S) (p ∷ rules) w
 by_rule G A S p r rules w is left (ts, are, has, yields) =
     let (us, vs, those, behind, same) = parted G r.body S ts are in (
@@ -200,7 +200,7 @@ way_out G rules old new before behind o left way passed e =
     (subst (λ w. IsUnderWay G rules before w left) (front ∙ sym (append-nil (map terminal us))) way))
 
 -- behind a rule that is taken
-pub way_taken : (G : Grammar) (rules done : List ℕ) (A : ℕ) (S : List Symbol) (p : ℕ) (r : Rule) (left : List ℕ)
+pub way_taken : (G : Grammar) (rules done : List ℕ) (A : ℕ) (S : List Symbol) (p : ℕ) (r : GrammarRule) (left : List ℕ)
     → IsRule G p r → r.left ≡ A → IsUnderWay G rules done (nonterminal A ∷ S) (p ∷ left)
     → IsUnderWay G rules done (r.body ++ S) left
 way_taken G rules done A S p r left is same way w = (
@@ -215,7 +215,7 @@ way_taken G rules done A S p r left is same way w = (
 
 -- no sentence has a rule that isn't one of the nonterminal in front
 pub way_other : (G : Grammar) (rules done : List ℕ) (A : ℕ) (S : List Symbol) (p : ℕ) (left : List ℕ)
-    → ((r : Rule) → IsRule G p r → r.left ≡ A → ⊥) → IsUnderWay G rules done (nonterminal A ∷ S) (p ∷ left)
+    → ((r : GrammarRule) → IsRule G p r → r.left ≡ A → ⊥) → IsUnderWay G rules done (nonterminal A ∷ S) (p ∷ left)
     → (w : List ℕ) → IsSentenceBy G rules w → ⊥
 way_other G rules done A S p left never way w s =
     let (v, e, d) = (way w).0 s in
@@ -271,20 +271,20 @@ passed_more S old next t us before done behind front first back last = (
 -- THE RULES OF A GRAMMAR
 
 -- a rule that is kept at a number
-pub rule_kept : (G : Grammar) (rules : List Rule) → map Some rules ≡ G.rules → (k : ℕ) (r : Rule) → k < length rules
+pub rule_kept : (G : Grammar) (rules : List GrammarRule) → map Some rules ≡ G.rules → (k : ℕ) (r : GrammarRule) → k < length rules
     → r ≡ slice_index_or rules k r → IsRule G k r
 rule_kept G rules these k r lt e = ap (λ rs. slice_get rs k) (sym these) ∙ slice_get-map Some rules k
     ∙ ap (option_map Some) (slice_get-get_or rules k r lt ∙ ap Some (sym e))
 
 -- no number past them has one
-pub no_rule_kept : (G : Grammar) (rules : List Rule) → map Some rules ≡ G.rules → (k : ℕ) → length rules ≤ k
-    → (r : Rule) → IsRule G k r → ⊥
+pub no_rule_kept : (G : Grammar) (rules : List GrammarRule) → map Some rules ≡ G.rules → (k : ℕ) → length rules ≤ k
+    → (r : GrammarRule) → IsRule G k r → ⊥
 no_rule_kept G rules these k past r is =
     let lt = slice_get_within G.rules k (Some r) is in
     absurd (omega (arith, lt, past, ap length these, length-map rules (λ x. Some x)))
 
 -- one rule has one left side
-pub rule_left_same : (G : Grammar) (p : ℕ) (q r : Rule) → IsRule G p q → IsRule G p r → {A : ℕ} → q.left ≡ A
+pub rule_left_same : (G : Grammar) (p : ℕ) (q r : GrammarRule) → IsRule G p q → IsRule G p r → {A : ℕ} → q.left ≡ A
     → r.left ≡ A
 rule_left_same G p q r is_q is_r e =
     let one : Some (Some q) ≡ Some (Some r) = sym is_q ∙ is_r in

@@ -1,12 +1,12 @@
 -- A demand is met by the demands that it leads to, and by nothing else.
 use Rattle.std.proofs.Common.{◌≡◌, ◌∙◌, inl, inr, ℕ, zero, suc, ◌+◌, ◌<◌, ◌≤◌, List, [], ◌∷◌, Option, Some, None}
 use Rattle.std.proofs.Common.{refl, sym, ap, subst, arith, drop}
-use Rattle.ly_join.specs.Grammar.{IsRule, Rule, Symbol, accept_rule, nonterminal, terminal}
+use Rattle.ly_join.specs.Grammar.{IsRule, GrammarRule, Symbol, accept_rule, nonterminal, terminal}
 use Rattle.ly_grammar.specs.Derivations.{IsNullable}
 use Rattle.ly_grammar.specs.Items.{InCore as IsInCore, at_start}
 use Rattle.ly_grammar.proofs.ItemLemmas.{closes}
 use Rattle.ly_grammar.proofs.SearchLemmas.{rule_is_one}
-use Rattle.ly_lr0.specs.Automaton.{Automaton, IsAutomaton, Reaches, goto_of}
+use Rattle.ly_lr0.specs.Automaton.{Lr0Automaton, IsLr0Automaton, Reaches, goto_of}
 use Rattle.ly_relate.proofs.ReachLemmas.{Reaches_one, apart, back}
 use Rattle.ly_relate.proofs.WalkLemmas.{terminal_not_nullable}
 use Rattle.ly_explain.specs.Demands.{ClimbsTo, IsAhead, IsBefore, IsBegun, IsClimb, IsPop, IsStep, PopsTo}
@@ -22,7 +22,7 @@ abbrev pub with_popped : Option Symbol → List Symbol → List Symbol
 with_popped None g = g
 with_popped (Some X) g = X ∷ g
 
-module _ (M : Automaton) (is : IsAutomaton M) (t : ℕ) where
+module _ (M : Lr0Automaton) (is : IsLr0Automaton M) (t : ℕ) where
   -- rule 0 is valid where state 0 is led to
   zero_at : (g : List Symbol) → Reaches (goto_of M) 0 g 0 → (n : ℕ) × (u : ℕ) × At M.grammar n g 0 0 u
   zero_at g leads =
@@ -34,7 +34,7 @@ module _ (M : Automaton) (is : IsAutomaton M) (t : ℕ) where
       (i.0, there.0, i.1)
 
   -- a rule is valid where its left side leaves the state
-  begun_at : (g : List Symbol) (s q x : ℕ) (r : Rule) → Reaches (goto_of M) 0 g s → IsRule M.grammar q r
+  begun_at : (g : List Symbol) (s q x : ℕ) (r : GrammarRule) → Reaches (goto_of M) 0 g s → IsRule M.grammar q r
       → goto_of M s (nonterminal r.left) ≡ Some x → (n : ℕ) × (u : ℕ) × At M.grammar n g q 0 u
   begun_at g s q x r leads rule goes =
       let viable = is.cores.only (nonterminal r.left ∷ g) x (s, leads, goes) in
@@ -111,7 +111,7 @@ module _ (M : Automaton) (is : IsAutomaton M) (t : ℕ) where
   }
 
   -- what stands behind a nonterminal of rule 0 isn't nullable
-  zero_ends : (i : Item) (r : Rule) (rest : List Symbol) → i.rule ≡ 0
+  zero_ends : (i : Item) (r : GrammarRule) (rest : List Symbol) → i.rule ≡ 0
       → IsAhead M.grammar i (nonterminal r.left) rest → IsNullable M.grammar rest → ⊥
   zero_ends i r rest zero_rule a null =
       let one : a.rule ≡ accept_rule M.grammar.accept M.grammar.start = rule_is_one M.grammar 0 a.rule
@@ -135,7 +135,7 @@ module _ (M : Automaton) (is : IsAutomaton M) (t : ℕ) where
         → IsProper e → IsTrueIn M.grammar t m h e → Onward s n g c
 
   -- a rule in the core is begun
-  begun_in : (g : List Symbol) (s q m p d u : ℕ) (r : Rule) (rest : List Symbol) → Reaches (goto_of M) 0 g s
+  begun_in : (g : List Symbol) (s q m p d u : ℕ) (r : GrammarRule) (rest : List Symbol) → Reaches (goto_of M) 0 g s
       → IsRule M.grammar q r → At M.grammar m g p d u → IsAhead M.grammar (item_at p d) (nonterminal r.left) rest
       → IsBegun M s q
   begun_in g s q m p d u r rest leads rule at ahead =

@@ -13,7 +13,7 @@ use Rattle.ly_join.specs.Grammar.{Symbol, symbol_of}
 use Rattle.ly_join.specs.declared.symbol.Symbol as code
 use Rattle.ly_join.specs.declared.symbol.Symbol.TheVariants.{Terminal}
 use Rattle.ly_join.proofs.ListLemmas.{member_at, placed}
-use Rattle.ly_lr0.specs.Automaton.{Automaton, prefix_of}
+use Rattle.ly_lr0.specs.Automaton.{Lr0Automaton, prefix_of}
 use Rattle.ly_lr0.proofs.SuccessorLemmas.{kept_symbol}
 use Rattle.ly_explain.specs.Demands.{Follows, IsClimb, IsPop, IsStep, at_start}
 use Rattle.ly_explain.specs.declared.claim.Claim.{Claim}
@@ -34,7 +34,7 @@ use Rattle.ly_explain.proofs.SearchLemmas.{stays, stays_among}
 use Rattle.ly_explain.proofs.StepLemmas.{settles, step_met, with_popped}
 
 -- where no demand is allowed one is too many
-pub one_follows : (M : Automaton) (t n : ℕ) (d : Demand) → n ≡ 0 → HasMore M t n d
+pub one_follows : (M : Lr0Automaton) (t n : ℕ) (d : Demand) → n ≡ 0 → HasMore M t n d
 one_follows M t n d none = record {
   demands = d ∷ [];
   count = omega (arith, none);
@@ -277,7 +277,7 @@ prefix_meets w s p underway is d at =
       second = claims_nothing M w.terminal.0 (prefix_of M d.state.0) d.second (ap (λ x. x.second) (sym same) ∙ b.3);
     }
   where
-    claims_nothing : (M : Automaton) (t : ℕ) (g : List Symbol) (c : Claim) → c ≡ Settled
+    claims_nothing : (M : Lr0Automaton) (t : ℕ) (g : List Symbol) (c : Claim) → c ≡ Settled
         → (n : ℕ) × IsTrueIn M.grammar t n g c
     claims_nothing M t g c nothing = subst (λ x. (n : ℕ) × IsTrueIn M.grammar t n g x) (sym nothing) (0, tt)
 

@@ -7,7 +7,7 @@ use Rattle.ly_base.specs.declared.numbers.Sym.{Sym}
 use Rattle.ly_base.specs.declared.scan_action.Emitted.{Emitted}
 use Rattle.ly_base.specs.declared.scan_action.Emitted.TheVariants.{FirstByte, Nothing, Terminal as Own}
 use Rattle.ly_base.specs.declared.scan_action.ScanAction.{ScanAction}
-use Rattle.ly_join.specs.Grammar.{IsRule, Rule, Symbol, nonterminal, symbol_of, terminal}
+use Rattle.ly_join.specs.Grammar.{IsRule, GrammarRule, Symbol, nonterminal, symbol_of, terminal}
 use Rattle.ly_join.specs.Joined.{Spec}
 use Rattle.ly_join.specs.Terminals.{byte, terminal_from}
 use Rattle.ly_join.specs.declared.symbol.Symbol as code
@@ -61,7 +61,7 @@ body_marked body n old new past added = added_as (ByStepBefore (StandsAt (map sy
     contained : (w : List Symbol) (k : ℕ) (X : Symbol) → slice_get w k ≡ Some X → Contains w X
     contained w k X at = (k, slice_get_within w k X at, get_or_from_slice_get w k X X at)
 
-pub stands_in : (s : Spec) (k : ℕ) (r : Rule) → IsRule s.grammar k r → (body : List Symbol) → body ≡ r.body → (t : ℕ)
+pub stands_in : (s : Spec) (k : ℕ) (r : GrammarRule) → IsRule s.grammar k r → (body : List Symbol) → body ≡ r.body → (t : ℕ)
     → Contains body (terminal t) ↔ StandsIn s k t
 stands_in s k r rule body e t = (
   λ has. (r, rule, subst (λ w. Contains w (terminal t)) e has),

@@ -7,13 +7,13 @@ use Rattle.std.proofs.lemmas.Option.{slice_get_within}
 use Rattle.ly_base.specs.declared.numbers.StateNo.{StateNo}
 use Rattle.ly_base.specs.Lexed.{Token}
 use Rattle.ly_base.specs.Trees.{Trees, leaf, none, more}
-use Rattle.ly_join.specs.Grammar.{Grammar, IsAugmented, IsRule, Rule, Symbol, SymbolWithin, accept_rule}
+use Rattle.ly_join.specs.Grammar.{Grammar, IsAugmented, IsRule, GrammarRule, Symbol, SymbolWithin, accept_rule}
 use Rattle.ly_join.specs.Grammar.{nonterminal, symbol_of, terminal}
 use Rattle.ly_join.specs.declared.symbol.Symbol as code
 use Rattle.ly_grammar.specs.Derivations.{AreTrees, BeginsYield, IsNullable, IsReduced}
 use Rattle.ly_grammar.proofs.ReduceLemmas.{occurs_body}
 use Rattle.ly_grammar.proofs.SearchLemmas.{rule_is_one}
-use Rattle.ly_lr0.specs.Automaton.{Automaton, goto_of}
+use Rattle.ly_lr0.specs.Automaton.{Lr0Automaton, goto_of}
 use Rattle.ly_relate.specs.Private.Walks.{HasNumberTo}
 use Rattle.ly_relate.proofs.WalkLemmas.{slice_at_drop}
 use Rattle.ly_explain.specs.Demands.{ClimbsTo, IsAhead, IsBegun, IsClimb, IsPop, PopsTo}
@@ -37,7 +37,7 @@ number_to terminals accept (nonterminal A) within = omega (arith, within)
 
 module _ (G : Grammar) (augmented : IsAugmented G) where
   -- the symbols of a body have numbers
-  pub body_within : (p : ℕ) (r : Rule) → IsRule G p r → All (HasNumberTo G.accept) r.body
+  pub body_within : (p : ℕ) (r : GrammarRule) → IsRule G p r → All (HasNumberTo G.accept) r.body
   body_within zero r is = subst (λ x. All (HasNumberTo G.accept) x.body)
       (rule_is_one G 0 (accept_rule G.accept G.start) r augmented.rule_0 is) start
     where
@@ -49,7 +49,7 @@ module _ (G : Grammar) (augmented : IsAugmented G) where
       ((augmented.within (suc p) r is (omega arith)).body k d lt)
 
   -- a body has trees
-  body_trees : IsReduced G → (p : ℕ) (r : Rule) → IsRule G p r → (ts : Trees) × AreTrees G r.body ts
+  body_trees : IsReduced G → (p : ℕ) (r : GrammarRule) → IsRule G p r → (ts : Trees) × AreTrees G r.body ts
   body_trees reduced zero r is =
       let start = reduced.start_tree in
       let end : Token ℕ = record { terminal = 0; at = 0; bytes = [] } in
@@ -77,7 +77,7 @@ module _ (G : Grammar) (i : Item) (X : Symbol) (rest : List Symbol) (a : IsAhead
       (trees_from G a.rule.body (i.dot + 1) (body_trees G augmented reduced i.rule a.rule a.is_rule))
 
   -- as the code has it
-  module _ (body : List code.Symbol) (s : Rule) (is : map symbol_of body ≡ s.body) (same : s ≡ a.rule) where
+  module _ (body : List code.Symbol) (s : GrammarRule) (is : map symbol_of body ≡ s.body) (same : s ≡ a.rule) where
     pub rest_room : i.dot < length body
     rest_room =
         let lt = slice_get_within a.rule.body i.dot X (slice_at_drop a.rule.body i.dot X rest a.ahead).0 in
@@ -165,7 +165,7 @@ module _ (G : Grammar) (i : Item) (X : Symbol) (rest : List Symbol) (a : IsAhead
       )
 
 -- the claims on the items that wait for the left side of a rule are those that it climbs to
-pub uses_climb : (M : Automaton) (t q : ℕ) (r : Rule) (is : List Item) → IsRule M.grammar q r
+pub uses_climb : (M : Lr0Automaton) (t q : ℕ) (r : GrammarRule) (is : List Item) → IsRule M.grammar q r
     → ((i : Item) → Contains is i ↔ ((rest : List Symbol) × IsAhead M.grammar i (nonterminal r.left) rest))
     → (c : Claim) → HasSource (IsUseBy M.grammar t) is c ↔ ClimbsTo M t 0 (With (item_at q 0)) c
 uses_climb M t q r is rule exact Settled = ((λ (i, among, by_item). absurd by_item), (λ climbs. absurd climbs))
@@ -193,7 +193,7 @@ uses_climb M t q r is rule exact (With j) = (
 )
 
 -- the items that wait for the left side of a rule, as they are looked up
-pub uses_exact : (G : Grammar) (lists : List (List Item)) (q n : ℕ) (r : Rule) (xs : List Item) → IsAugmented G
+pub uses_exact : (G : Grammar) (lists : List (List Item)) (q n : ℕ) (r : GrammarRule) (xs : List Item) → IsAugmented G
     → AreUses G lists → IsRule G q r → n ≡ r.left → xs ≡ slice_index_or lists n [] → (i : Item)
     → Contains xs i ↔ ((rest : List Symbol) × IsAhead G i (nonterminal r.left) rest)
 uses_exact G lists q n r xs augmented are rule left e i =
@@ -207,7 +207,7 @@ uses_exact G lists q n r xs augmented are rule left e i =
     within (suc p) is = omega (arith, (augmented.within (suc p) r is (omega arith)).left)
 
 -- what a rule with nothing before its dot climbs to doesn't depend on the state
-pub climb_anywhere : (M : Automaton) (t s : ℕ) (i : Item) → i.dot ≡ 0 → (c : Claim)
+pub climb_anywhere : (M : Lr0Automaton) (t s : ℕ) (i : Item) → i.dot ≡ 0 → (c : Claim)
     → ClimbsTo M t 0 (With (item_at i.rule 0)) c ↔ ClimbsTo M t s (With i) c
 climb_anywhere M t s i dot Settled = ((λ no_climb. absurd no_climb), (λ no_climb. absurd no_climb))
 climb_anywhere M t s i dot (InCore j) = (
@@ -220,24 +220,24 @@ climb_anywhere M t s i dot (With j) = (
 )
 
 -- a rule in the core climbs to nothing more where it is begun
-pub climb_core : (M : Automaton) (t s : ℕ) (i : Item) → i.dot ≡ 0 → IsBegun M s i.rule → (c : Claim)
+pub climb_core : (M : Lr0Automaton) (t s : ℕ) (i : Item) → i.dot ≡ 0 → IsBegun M s i.rule → (c : Claim)
     → (Settled ≡ c) ↔ ClimbsTo M t s (InCore i) c
 climb_core M t s i dot begun Settled = ((λ e. (dot, begun)), (λ climbs. refl))
 climb_core M t s i dot begun (InCore j) = ((λ e. absurd (cc)), (λ climbs. absurd climbs))
 climb_core M t s i dot begun (With j) = ((λ e. absurd (cc)), (λ climbs. absurd climbs))
 
 -- what climbs nowhere
-pub climb_settled : (M : Automaton) (t s : ℕ) (c : Claim) → ClimbsTo M t s Settled c → ⊥
+pub climb_settled : (M : Lr0Automaton) (t s : ℕ) (c : Claim) → ClimbsTo M t s Settled c → ⊥
 climb_settled M t s Settled climbs = climbs
 climb_settled M t s (InCore j) climbs = climbs
 climb_settled M t s (With j) climbs = climbs
 
-pub climb_far : (M : Automaton) (t s : ℕ) (i : Item) → (i.dot ≡ 0 → ⊥) → (c : Claim) → ClimbsTo M t s (With i) c → ⊥
+pub climb_far : (M : Lr0Automaton) (t s : ℕ) (i : Item) → (i.dot ≡ 0 → ⊥) → (c : Claim) → ClimbsTo M t s (With i) c → ⊥
 climb_far M t s i far Settled climbs = climbs
 climb_far M t s i far (InCore j) climbs = far climbs.0
 climb_far M t s i far (With j) climbs = far climbs.0
 
-pub climb_not_begun : (M : Automaton) (t s : ℕ) (i : Item) → (i.dot ≡ 0 → IsBegun M s i.rule → ⊥) → (c : Claim)
+pub climb_not_begun : (M : Lr0Automaton) (t s : ℕ) (i : Item) → (i.dot ≡ 0 → IsBegun M s i.rule → ⊥) → (c : Claim)
     → ClimbsTo M t s (InCore i) c → ⊥
 climb_not_begun M t s i never Settled climbs = never climbs.0 climbs.1
 climb_not_begun M t s i never (InCore j) climbs = climbs
@@ -264,7 +264,7 @@ with_second d c e = (
   λ same. subst (IsWithSecond d c) same (refl, refl, refl),
 )
 
-module _ (M : Automaton) (t : ℕ) (d : Demand) (cs : List Claim) where
+module _ (M : Lr0Automaton) (t : ℕ) (d : Demand) (cs : List Claim) where
   pub firsts_are : ((c : Claim) → Contains cs c ↔ ClimbsTo M t d.state.0 d.first c) → (e : Demand)
       → HasSource (IsWithFirst d) cs e ↔ IsClimbOfFirst M t d e
   firsts_are exact e = (
@@ -324,7 +324,7 @@ module _ (G : Grammar) (d : Demand) (x : Incoming) (first second : Option Claim)
   )
 
 -- those by way of all transitions to the state are the demands that are popped to
-pub pops_are : (M : Automaton) (d : Demand) (xs : List Incoming)
+pub pops_are : (M : Lr0Automaton) (d : Demand) (xs : List Incoming)
     → ((x : Incoming) → Contains xs x ↔ (goto_of M x.from.0 (symbol_of x.symbol) ≡ Some d.state.0))
     → (p : Pop) → HasSource (IsPopBy M.grammar d) xs p ↔ IsPop M (symbol_of p.symbol) d p.demand
 pops_are M d xs exact p = (

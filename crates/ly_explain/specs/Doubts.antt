@@ -7,7 +7,7 @@ use Rattle.ly_ere.specs.Names.{defined}
 use Rattle.ly_ere.specs.Winner.{Winner}
 use Rattle.ly_lexread.specs.declared.file.LexFile.{LexFile}
 use Rattle.ly_subset.specs.Automaton.{Automaton, rule_after, start_of}
-use Rattle.ly_join.specs.Grammar.{IsRule, Rule, Symbol, terminal}
+use Rattle.ly_join.specs.Grammar.{IsRule, GrammarRule, Symbol, terminal}
 use Rattle.ly_join.specs.Joined.{Spec}
 use Rattle.ly_join.specs.Terminals.{TerminalName, byte, token, IsNumbered}
 use Rattle.ly_grammar.specs.Derivations.{IsUseful}
@@ -40,7 +40,7 @@ IsReducedBy r p = (g : List Symbol) × (t : ℕ) × IsAction r.automaton.grammar
 
 -- a useful rule, and not rule 0, is never what is reduced by
 abbrev pub NeverReduces : Resolved → ℕ → Type 0
-NeverReduces r p = (1 ≤ p) × (q : Rule) × IsRule r.spec.grammar p q × IsUseful r.spec.grammar p
+NeverReduces r p = (1 ≤ p) × (q : GrammarRule) × IsRule r.spec.grammar p q × IsUseful r.spec.grammar p
     × (IsReducedBy r p → ⊥)
 
 -- the terminal is a token or a literal, and so neither the end nor what stands for the bytes without a literal
@@ -55,7 +55,7 @@ IsTokenOrLiteral s t = (x : TerminalName) × IsNumbered s.terminals x t × IsNam
 
 -- the terminal stands in the body of a rule
 abbrev pub IsUsed : Spec → ℕ → Type 0
-IsUsed s t = (p : ℕ) × (r : Rule) × IsRule s.grammar p r × Contains r.body (terminal t)
+IsUsed s t = (p : ℕ) × (r : GrammarRule) × IsRule s.grammar p r × Contains r.body (terminal t)
 
 -- a token or a literal stands in no body of a rule
 abbrev pub IsUnused : Spec → ℕ → Type 0

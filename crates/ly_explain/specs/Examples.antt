@@ -3,7 +3,7 @@
 use Rattle.std.specs.Prelude.{ℕ, List, [], map, reverse}
 use Rattle.ly_join.specs.Grammar.{Grammar, Symbol, symbol_of, terminal}
 use Rattle.ly_grammar.specs.Items.{IsNextSymbol, Merges, Valid}
-use Rattle.ly_lr0.specs.Automaton.{Automaton}
+use Rattle.ly_lr0.specs.Automaton.{Lr0Automaton}
 use Rattle.ly_resolve.specs.Actions.{Action, error, reduce, shift}
 use Rattle.ly_resolve.specs.Conflicts.{Conflict, Kind, reduce_reduce, shift_reduce}
 use Rattle.ly_explain.specs.Demands.{HasMoreDemands}
@@ -30,7 +30,7 @@ pub record IsExample (G : Grammar) (c : Conflict) (g : List Symbol) : Type 0 whe
 
 -- What is answered of a conflict: an example of it; or that there is none, since only strings that are merged ask for
 -- both actions; or that more demands follow from it than a number.
-abbrev pub IsAnswer : Automaton → Conflict → ℕ → code.Example → Type 0
+abbrev pub IsAnswer : Lr0Automaton → Conflict → ℕ → code.Example → Type 0
 IsAnswer M c bound (At string) = IsExample M.grammar c (reverse (map symbol_of string.items))
 IsAnswer M c bound Merged = (g : List Symbol) → IsExample M.grammar c g → ⊥
 IsAnswer M c bound Unknown = HasMoreDemands M c bound

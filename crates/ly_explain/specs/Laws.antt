@@ -2,11 +2,11 @@
 use Rattle.std.specs.Prelude.{◌≡◌, ◌↔◌, ℕ, List}
 use Rattle.ly_lexread.specs.LexText.{LexText}
 use Rattle.ly_lexread.specs.declared.file.LexFile.{LexFile}
-use Rattle.ly_subset.specs.Automaton.{Automaton as Scanner}
+use Rattle.ly_subset.specs.Automaton.{Lr0Automaton as Scanner}
 use Rattle.ly_minim.specs.Smallest.{HaveSameRules}
 use Rattle.ly_tokens.specs.Scanner.{IsSubsetScanner}
 use Rattle.ly_join.specs.Grammar.{Grammar, Symbol}
-use Rattle.ly_lr0.specs.Automaton.{Automaton, IsAutomaton, Reaches, goto_of}
+use Rattle.ly_lr0.specs.Automaton.{Lr0Automaton, IsLr0Automaton, Reaches, goto_of}
 use Rattle.ly_resolve.specs.Actions.{Judge}
 use Rattle.ly_resolve.specs.Conflicts.{Conflict, IsConflict, shift_reduce}
 use Rattle.ly_explain.specs.Demands.{Follows}
@@ -18,14 +18,14 @@ use Rattle.ly_explain.specs.declared.claim.Demand.{Demand}
 
 -- a conflict has an example exactly where from the demand on its examples one follows that claims nothing more
 abbrev pub ExamplesFollow : Type 0
-ExamplesFollow = (M : Automaton) (c : Conflict) (d : Demand) → IsAutomaton M → Opens M c d
+ExamplesFollow = (M : Lr0Automaton) (c : Conflict) (d : Demand) → IsLr0Automaton M → Opens M c d
     → ((g : List Symbol) × IsExample M.grammar c g)
     ↔ ((e : Demand) × Follows M c.terminal d e × (e.first ≡ Settled) × (e.second ≡ Settled)
     × (h : List Symbol) × Reaches (goto_of M) 0 h e.state.0)
 
 -- each conflict has a demand on its examples
 abbrev pub ConflictsOpen : Type 0
-ConflictsOpen = (M : Automaton) (judge : Judge) (c : Conflict) → IsAutomaton M → IsConflict M.grammar judge c
+ConflictsOpen = (M : Lr0Automaton) (judge : Judge) (c : Conflict) → IsLr0Automaton M → IsConflict M.grammar judge c
     → (d : Demand) × Opens M c d
 
 -- a shift against a reduction has an example: merging makes no such conflict

@@ -1,5 +1,5 @@
 ghost use Rattle.std.specs.Prelude.{◌≡◌, Contains, IfOk, length};
-ghost use Rattle.ly_join.specs.Grammar.{IsRule, Rule};
+ghost use Rattle.ly_join.specs.Grammar.{IsRule, GrammarRule};
 ghost use Rattle.ly_resolve.specs.Resolved.{AreResolved};
 ghost use Rattle.ly_resolve.specs.Values.{conflict_from, IsInside};
 ghost use Rattle.ly_explain.specs.Examples.{IsAnswer};
@@ -99,9 +99,9 @@ impl<'a> Examples<'a> {
 
     /// The item of the rule of a conflict, with its dot at the end.
     fn reduced(&self, conflict: &Conflict) -> Item
-        requires { (r : Rule) × IsRule self.now.automaton.grammar conflict.now.rule r }
+        requires { (r : GrammarRule) × IsRule self.now.automaton.grammar conflict.now.rule r }
         ensures rule { result.rule ≡ conflict.now.rule }
-        ensures end { (r : Rule) × IsRule self.now.automaton.grammar conflict.now.rule r
+        ensures end { (r : GrammarRule) × IsRule self.now.automaton.grammar conflict.now.rule r
             × (result.dot ≡ length r.body) }
     {
         self.whole(conflict.rule)
@@ -146,9 +146,9 @@ impl<'a> Examples<'a> {
 
     /// The item of a rule with its dot at the end.
     fn whole(&self, rule: usize) -> Item
-        requires { (r : Rule) × IsRule self.now.automaton.grammar rule r }
+        requires { (r : GrammarRule) × IsRule self.now.automaton.grammar rule r }
         ensures rule { result.rule ≡ rule }
-        ensures end { (r : Rule) × IsRule self.now.automaton.grammar rule r × (result.dot ≡ length r.body) }
+        ensures end { (r : GrammarRule) × IsRule self.now.automaton.grammar rule r × (result.dot ≡ length r.body) }
     {
         let grammar = self.ground.lr0.reduced().grammar();
         let dot = grammar.rule(rule).body().len();

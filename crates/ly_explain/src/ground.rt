@@ -2,7 +2,7 @@
 ghost use Rattle.std.specs.Prelude.{◌≡◌, ◌<◌, ◌+◌, length, map, All, IfOk, OnOk};
 ghost use Rattle.ly_join.specs.Grammar.{symbol_of};
 ghost use Rattle.ly_grammar.specs.Private.Search.{HasNumberBelow};
-ghost use Rattle.ly_lr0.specs.Automaton.{IsAutomaton};
+ghost use Rattle.ly_lr0.specs.Automaton.{IsLr0Automaton};
 ghost use Rattle.ly_explain.specs.Private.Grounds.{AreIncoming, AreUses};
 ghost use Rattle.ly_explain.specs.Private.Lists.{AreIncomingOf, AreUsesAdded, IsGround};
 
@@ -42,7 +42,7 @@ pub(crate) fn ground_of<'a>(alloc: Global, lr0: &'a Lr0<'a>) -> Result<Ground<'a
 /// For each state the transitions that lead to it.
 fn incoming_of(alloc: Global, lr0: &Lr0<'_>) -> Result<IncomingLists, OutOfMemory>
     ensures incoming { IfOk result (AreIncoming lr0.now) }
-    ensures lawful { IsAutomaton lr0.now }
+    ensures lawful { IsLr0Automaton lr0.now }
 {
     let mut incoming = IncomingLists::new(alloc, lr0.states())?;
     for state in 0..lr0.states() {
@@ -57,7 +57,7 @@ fn push_leaving(
     lr0: &Lr0<'_>,
     from: StateNo,
 ) -> Result<(), OutOfMemory>
-    requires lawful { IsAutomaton lr0.now }
+    requires lawful { IsLr0Automaton lr0.now }
     requires state { from.0 < length lr0.now.states }
     requires before { AreIncomingOf lr0.now incoming.old from.0 }
     ensures { OnOk result (AreIncomingOf lr0.now incoming.new (from.0 + 1)) }

@@ -1,6 +1,6 @@
 //! From demands to those that meet them.
 ghost use Rattle.std.specs.Prelude.{◌≡◌, ◌↔◌, ◌⊎◌, ◌+◌, ◌<◌, drop, length, Contains, IfOk, IsTrue, OnOk, Some};
-ghost use Rattle.ly_join.specs.Grammar.{symbol_of, IsRule, Rule};
+ghost use Rattle.ly_join.specs.Grammar.{symbol_of, IsRule, GrammarRule};
 ghost use Rattle.ly_explain.specs.Demands.{ClimbsTo, IsBefore, IsBegun, IsClimb, IsPop, PopsTo};
 ghost use Rattle.ly_explain.specs.Private.Kept.{IsKeptClaim, IsKeptDemand, IsKeptItem};
 ghost use Rattle.ly_explain.specs.Private.Lists.{IsGround};
@@ -99,7 +99,7 @@ fn push_uses(
 ) -> Result<(), AllocError>
     requires ground { IsGround ground.now }
     requires terminal { terminal.0 < ground.now.lr0.now.grammar.terminals }
-    requires kept { (r : Rule) × IsRule ground.now.lr0.now.grammar rule r }
+    requires kept { (r : GrammarRule) × IsRule ground.now.lr0.now.grammar rule r }
     ensures { OnOk result ((c : claim_values.Claim) → Contains claims.new.items c ↔ (Contains claims.old.items c
         ⊎ ClimbsTo ground.now.lr0.now terminal.0 0 (TheTerminal (item_at rule 0)) c)) }
 {
@@ -145,7 +145,7 @@ fn behind(body: &[Symbol], place: usize) -> &[Symbol]
 /// Whether a rule with nothing before its dot is in the core of a state.
 pub(crate) fn is_begun(ground: &Ground<'_>, state: StateNo, rule: usize) -> bool
     requires state { state.0 < length ground.now.lr0.now.states }
-    requires kept { (r : Rule) × IsRule ground.now.lr0.now.grammar rule r }
+    requires kept { (r : GrammarRule) × IsRule ground.now.lr0.now.grammar rule r }
     ensures { IsTrue result ↔ IsBegun ground.now.lr0.now state.0 rule }
 {
     let left = ground.lr0.reduced().grammar().rule(rule).left();

@@ -27,7 +27,7 @@ use Rattle.ly_emit.proofs.ShapeLemmas.{IsJoinedAt, joined_at}
 use Rattle.ly_grammar.specs.Derivations.{IsTree}
 use Rattle.ly_grammar.specs.Reduction.{KeepsUseful}
 use Rattle.ly_join.specs.Counts.{IsWithin, constructor_length, greatest, name_lengths, token_length}
-use Rattle.ly_join.specs.Grammar.{IsRule, Rule, Symbol, accept_rule, nonterminal}
+use Rattle.ly_join.specs.Grammar.{IsRule, GrammarRule, Symbol, accept_rule, nonterminal}
 use Rattle.ly_join.specs.Joined.{AreJoined, Joined, Note, Spec, SymbolTable, shape_by, table_of}
 use Rattle.ly_join.specs.Numbering.{IsToken, declared_terminals, nonterminals_of, rule_literals, terminals_of}
 use Rattle.ly_join.specs.Scanning.{Scanning}
@@ -36,7 +36,7 @@ use Rattle.ly_join.specs.declared.limit.Limit.TheVariants as limit
 use Rattle.ly_join.proofs.JoinLemmas.{token_there}
 use Rattle.ly_join.proofs.ListLemmas.{mapped_in, member_at, zip_length}
 use Rattle.ly_join.proofs.RuleLemmas.{joined_length}
-use Rattle.ly_lr0.specs.Automaton.{Automaton, IsAutomaton}
+use Rattle.ly_lr0.specs.Automaton.{Lr0Automaton, IsLr0Automaton}
 use Rattle.ly_report.specs.Report.{terminal_name}
 use Rattle.ly_tables.specs.Ranges.{IsNameLong, IsShapeShort, counts_of}
 use Rattle.ly_yaccread.specs.Actions.{Making, build, default, pass}
@@ -159,7 +159,7 @@ greatest_le (m ∷ ns) n there = elim (Contains-cons_cases m ns n there) [
 ]
 
 -- as many rules as there are in the file
-joined_rules : (m : SymbolTable) (rs : List Ruling) (rules : List Rule) (notes : List Note)
+joined_rules : (m : SymbolTable) (rs : List Ruling) (rules : List GrammarRule) (notes : List Note)
     → AreJoined m rs rules notes → length rules ≡ length rs
 joined_rules m [] [] [] all = refl
 joined_rules m [] [] (n ∷ notes) all = absurd all
@@ -211,12 +211,12 @@ module _ (v : Version) (limits : Sizes) (yacc : List ℕ) (x : Scanning) (w : Wr
       omega (arith, all, same, count)
 
   joined_from : (k : ℕ) → k < length joined.rules
-      → (g : Rule) × (slice_get joined.rules k ≡ Some g) × IsJoinedAt (table_of s) w.rules joined.notes k g
+      → (g : GrammarRule) × (slice_get joined.rules k ≡ Some g) × IsJoinedAt (table_of s) w.rules joined.notes k g
   joined_from k lt =
       let at = slice_get-get_or joined.rules k (accept_rule 0 0) lt in
       (_, at, joined_at (table_of s) w.rules joined.rules joined.notes joined.joined k _ at)
 
-  rule_short : (p : ℕ) → 1 ≤ p → p < length s.grammar.rules → (r : Rule) × IsRule s.grammar p r × (length r.body ≤ 255)
+  rule_short : (p : ℕ) → 1 ≤ p → p < length s.grammar.rules → (r : GrammarRule) × IsRule s.grammar p r × (length r.body ≤ 255)
   rule_short zero some lt = absurd (omega (arith, some))
   rule_short (suc k) some lt =
       let count = rule_count in
@@ -257,12 +257,12 @@ module _ (v : Version) (limits : Sizes) (yacc : List ℕ) (x : Scanning) (w : Wr
           subst IsShapeShort (sym same) (shape_short made _ (made_built yacc w text k at.ruling at.is_ruling)
           (omega (arith, le, most, bound)))
 
-  module _ (M : Automaton) (is : IsAutomaton M) (useful : KeepsUseful s.grammar M.grammar)
+  module _ (M : Lr0Automaton) (is : IsLr0Automaton M) (useful : KeepsUseful s.grammar M.grammar)
       (few : length M.states ≤ limits.parser_states) where
     some_rule : 2 ≤ length s.grammar.rules
     some_rule = by is.reduced.start_tree.0 is.reduced.start_tree.1
       where
-        past : (p : ℕ) (r : Rule) → IsRule M.grammar p r → r.left ≡ M.grammar.start → 2 ≤ length s.grammar.rules
+        past : (p : ℕ) (r : GrammarRule) → IsRule M.grammar p r → r.left ≡ M.grammar.start → 2 ≤ length s.grammar.rules
         past zero r at left =
             let same = same_Some _ r (same_Some _ (Some r) (sym is.augmented.rule_0 ∙ at)) in
             let accept : M.grammar.accept ≡ M.grammar.start = ap (λ g. g.left) same ∙ left in

@@ -31,7 +31,7 @@ use Rattle.ly_generate.proofs.WordLemmas.{same_words}
 use Rattle.ly_join.specs.Joined.{Spec}
 use Rattle.ly_join.specs.Scanning.{IsScanAction, acting_of, scanning_of}
 use Rattle.ly_lexread.specs.declared.file.LexFile.{LexFile}
-use Rattle.ly_lr0.specs.Automaton.{Automaton}
+use Rattle.ly_lr0.specs.Automaton.{Lr0Automaton}
 use Rattle.ly_pack.specs.Machine.{Machine}
 use Rattle.ly_pack.specs.SteadyLaws.{IsStack, bottom as alone}
 use Rattle.ly_parse.specs.Expected.{AreExpected}
@@ -46,7 +46,7 @@ use Rattle.ly_tables.specs.TableSet.{TableSet, machine_of}
 use Rattle.ly_yaccread.specs.File.{Written}
 
 -- what holds of all members holds of those up to one
-up_to : (M : Automaton) (before behind : List (Token ℕ)) (t : Token ℕ) → AreOf M (before ++ t ∷ behind)
+up_to : (M : Lr0Automaton) (before behind : List (Token ℕ)) (t : Token ℕ) → AreOf M (before ++ t ∷ behind)
     → AreOf M (before ++ t ∷ [])
 up_to M [] behind t all = All-cons (λ x. x.terminal < M.grammar.terminals) t []
     (All-head (λ x. x.terminal < M.grammar.terminals) t behind all) (λ k d lt. absurd (omega (arith, lt)))
@@ -55,7 +55,7 @@ up_to M (x ∷ before) behind t all = All-cons (λ x. x.terminal < M.grammar.ter
     (up_to M before behind t (All-tail (λ x. x.terminal < M.grammar.terminals) x (before ++ t ∷ behind) all))
 
 -- those before one
-before_it : (M : Automaton) (before behind : List (Token ℕ)) (t : Token ℕ) → AreOf M (before ++ t ∷ behind)
+before_it : (M : Lr0Automaton) (before behind : List (Token ℕ)) (t : Token ℕ) → AreOf M (before ++ t ∷ behind)
     → AreOf M before
 before_it M [] behind t all = λ k d lt. absurd (omega (arith, lt))
 before_it M (x ∷ before) behind t all = All-cons (λ x. x.terminal < M.grammar.terminals) x before
@@ -63,14 +63,14 @@ before_it M (x ∷ before) behind t all = All-cons (λ x. x.terminal < M.grammar
     (before_it M before behind t (All-tail (λ x. x.terminal < M.grammar.terminals) x (before ++ t ∷ behind) all))
 
 -- and it
-it_self : (M : Automaton) (before behind : List (Token ℕ)) (t : Token ℕ) → AreOf M (before ++ t ∷ behind)
+it_self : (M : Lr0Automaton) (before behind : List (Token ℕ)) (t : Token ℕ) → AreOf M (before ++ t ∷ behind)
     → t.terminal < M.grammar.terminals
 it_self M [] behind t all = All-head (λ x. x.terminal < M.grammar.terminals) t behind all
 it_self M (x ∷ before) behind t all = it_self M before behind t
     (All-tail (λ x. x.terminal < M.grammar.terminals) x (before ++ t ∷ behind) all)
 
 -- one more behind them
-one_more : (M : Automaton) (tokens : List (Token ℕ)) (t : Token ℕ) → AreOf M tokens
+one_more : (M : Lr0Automaton) (tokens : List (Token ℕ)) (t : Token ℕ) → AreOf M tokens
     → t.terminal < M.grammar.terminals → AreOf M (tokens ++ t ∷ [])
 one_more M [] t all lt = All-cons (λ x. x.terminal < M.grammar.terminals) t [] lt (λ k d lt. absurd (omega (arith, lt)))
 one_more M (x ∷ tokens) t all lt = All-cons (λ x. x.terminal < M.grammar.terminals) x (tokens ++ t ∷ [])

@@ -18,7 +18,7 @@ use Rattle.ly_join.specs.Grammar as grammar
 use Rattle.ly_join.specs.Grammar.{accept_rule}
 use Rattle.ly_join.specs.Joined.{AreJoined, Joined, Note, Spec, SymbolTable, table_of}
 use Rattle.ly_join.specs.Scanning.{Scanning}
-use Rattle.ly_lr0.specs.Automaton.{Automaton}
+use Rattle.ly_lr0.specs.Automaton.{Lr0Automaton}
 use Rattle.ly_pack.specs.Machine.{TableRule}
 use Rattle.ly_report.specs.Report.{terminal_name}
 use Rattle.ly_subset.specs.Automaton as scanner
@@ -80,7 +80,7 @@ notes_of_rules m (r ∷ rs) [] notes h = absurd h
 notes_of_rules m (r ∷ rs) (rule ∷ rules) [] h = absurd h
 notes_of_rules m (r ∷ rs) (rule ∷ rules) (n ∷ notes) h = ap suc (notes_of_rules m rs rules notes h.1)
 
-module _ (x : Scanning) (w : Written) (s : Spec) (M : Automaton) (patterns : List pattern.Rule) (A : scanner.Automaton)
+module _ (x : Scanning) (w : Written) (s : Spec) (M : Lr0Automaton) (patterns : List pattern.Rule) (A : scanner.Automaton)
     (set : TableSet) (joined : Joined x w s) (of : IsSetOf s M patterns A set) where
   same_terminals : (t : ℕ) → name_in set.terminals t ≡ unwrap_or (option_map terminal_name (slice_get s.terminals t)) []
   same_terminals t = ap (λ names. name_in names t) of.terminals

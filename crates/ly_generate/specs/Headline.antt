@@ -13,7 +13,7 @@ use Rattle.ly_generate.specs.SpecAnswer.{IsSpecVerdict, SpecAnswer}
 use Rattle.ly_join.specs.Joined.{Joined, Spec}
 use Rattle.ly_join.specs.Scanning.{scanning_of}
 use Rattle.ly_lexread.specs.declared.file.LexFile.{LexFile}
-use Rattle.ly_lr0.specs.Automaton.{Automaton, IsAutomaton}
+use Rattle.ly_lr0.specs.Automaton.{Lr0Automaton, IsLr0Automaton}
 use Rattle.ly_subset.specs.Automaton as scanner
 use Rattle.ly_tables.specs.TableSet.{TableSet}
 use Rattle.ly_yaccread.specs.File.{Written}
@@ -25,8 +25,8 @@ use Rattle.ly_tables.specs.TableSet.{machine_of}
 -- with the rules of the lex file; and it is within the ranges of a version.
 pub record IsGeneratedSet (v : Version) (file : LexFile) (w : Written) (s : Spec) (set : TableSet) : Type 0 where
   pub joined : Joined (scanning_of file) w s
-  pub automaton : Automaton
-  pub is_automaton : IsAutomaton automaton
+  pub automaton : Lr0Automaton
+  pub is_automaton : IsLr0Automaton automaton
   pub useful : KeepsUseful s.grammar automaton.grammar
   pub walk : scanner.Automaton
   pub is_walk : scanner.IsAutomaton walk

@@ -5,7 +5,7 @@ use Rattle.std.specs.declared.vec.Vec.{Vec}
 use Rattle.ly_base.specs.Limits.{Sizes}
 use Rattle.ly_emit.specs.Tables.{IsMachineOf}
 use Rattle.ly_join.specs.Joined.{Spec}
-use Rattle.ly_lr0.specs.Automaton.{Automaton, IsAutomaton}
+use Rattle.ly_lr0.specs.Automaton.{Lr0Automaton, IsLr0Automaton}
 use Rattle.ly_pack.specs.Steady.{IsSteady}
 use Rattle.ly_report.specs.Counts.{AreCounts}
 use Rattle.ly_report.specs.Report.{IsReport}
@@ -24,8 +24,8 @@ IsReportIf _ s _ = ⊥
 -- The tables are those of the specification's useful rules, which are fit, and every run of theirs ends; the conflicts
 -- are counted, it is said whether nowhere two actions are asked for, and the report is there where it is wanted.
 pub record IsParserOf (limits : Sizes) (s : Spec) (report : Report) (p : SpecParser) : Type 0 where
-  pub automaton : Automaton
-  pub is_automaton : IsAutomaton automaton
+  pub automaton : Lr0Automaton
+  pub is_automaton : IsLr0Automaton automaton
   pub few : length automaton.states ≤ limits.parser_states
   pub fit : IsFit limits s automaton.grammar
   pub is_machine : IsMachineOf s automaton p.machine

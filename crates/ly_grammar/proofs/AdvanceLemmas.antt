@@ -10,7 +10,7 @@ use denote.Ref.{Bor}
 use Rattle.std.proofs.lemmas.Option.{slice_get_past, slice_get-get_or, slice_get_cases, slice_get_within}
 use Rattle.std.proofs.lemmas.Option.{slice_get-map, get_or_from_slice_get}
 use Rattle.std.proofs.lemmas.List.Elements.{All-contains, Contains-get_or}
-use Rattle.ly_join.specs.Grammar.{Grammar, Rule, IsRule, Symbol, symbol_of, nonterminal}
+use Rattle.ly_join.specs.Grammar.{Grammar, GrammarRule, IsRule, Symbol, symbol_of, nonterminal}
 use Rattle.ly_join.specs.declared.symbol.Symbol as code
 use Rattle.ly_grammar.specs.Private.Search.{Progress, IsSearch, HasPlaces, SymbolsPass, HasNumberBelow, Advances}
 use Rattle.ly_grammar.specs.Private.Search.{SearchGoesOn}
@@ -21,7 +21,7 @@ use Rattle.ly_grammar.proofs.SearchLemmas.{HavePassed, on_passed, on_found, on_w
 use Rattle.ly_grammar.proofs.SearchLemmas.{waits_now, through}
 
 -- what one call has read: the body of a rule, what was found, how far the body was known to pass, and how far it passes
-pub record IsRead (s : Progress) (p : ℕ) (r : Rule) (symbols : List code.Symbol) (marks : List Bool) (before at : ℕ)
+pub record IsRead (s : Progress) (p : ℕ) (r : GrammarRule) (symbols : List code.Symbol) (marks : List Bool) (before at : ℕ)
     : Type 0 where
   pub body : map symbol_of symbols ≡ r.body
   pub found : marks ≡ s.found
@@ -32,7 +32,7 @@ pub record IsRead (s : Progress) (p : ℕ) (r : Rule) (symbols : List code.Symbo
   pub stops : (X : Symbol) → slice_get (map symbol_of symbols) at ≡ Some X → passes marks s.terminals X ≡ false
 
 -- then so many symbols of the rule's body pass
-pub passed_now : (G : Grammar) (s : Progress) (p : ℕ) (r : Rule) (symbols : List code.Symbol) (marks : List Bool)
+pub passed_now : (G : Grammar) (s : Progress) (p : ℕ) (r : GrammarRule) (symbols : List code.Symbol) (marks : List Bool)
     (before at : ℕ) → IsRead s p r symbols marks before at → HasPlaces s p r → IsSearch G s → IsRule G p r
     → HavePassed s r at
 passed_now G s p r symbols marks before at is places search rule =
@@ -60,7 +60,7 @@ ended xs at none = elim (slice_get_cases xs at).1 [
 ]
 
 -- what stands at a place of them is in the body
-in_body : (s : Progress) (p : ℕ) (r : Rule) (symbols : List code.Symbol) (marks : List Bool) (before at : ℕ)
+in_body : (s : Progress) (p : ℕ) (r : GrammarRule) (symbols : List code.Symbol) (marks : List Bool) (before at : ℕ)
     (X : code.Symbol) → IsRead s p r symbols marks before at → slice_get symbols at ≡ Some X
     → (slice_get (map symbol_of symbols) at ≡ Some (symbol_of X)) × Contains r.body (symbol_of X)
 in_body s p r symbols marks before at X is e =
@@ -69,7 +69,7 @@ in_body s p r symbols marks before at X is e =
     (here, at_place r.body at (symbol_of X) (subst (λ w. slice_get w at ≡ Some (symbol_of X)) is.body here))
 
 -- what stands behind them stops the rule
-pub stop_of : (G : Grammar) (s : Progress) (p : ℕ) (r : Rule) (symbols : List code.Symbol) (marks : List Bool)
+pub stop_of : (G : Grammar) (s : Progress) (p : ℕ) (r : GrammarRule) (symbols : List code.Symbol) (marks : List Bool)
     (before at : ℕ) (stop : Option code.Symbol) → IsRead s p r symbols marks before at → HasPlaces s p r
     → IsSearch G s → IsRule G p r → stop ≡ slice_get symbols at → StopsAt (with_passed s p at) r stop
 stop_of G s p r symbols marks before at None is places search rule e =
@@ -82,7 +82,7 @@ stop_of G s p r symbols marks before at (Some X) is places search rule e =
     (here.1, subst (λ bs. passes bs s.terminals (symbol_of X) ≡ false) is.found (is.stops (symbol_of X) here.0))
 
 -- all of the body passes: the left side is found
-pub all_passed : (G : Grammar) (s : Progress) (p : ℕ) (r : Rule) → r.left < length s.found → IsSearch G s
+pub all_passed : (G : Grammar) (s : Progress) (p : ℕ) (r : GrammarRule) → r.left < length s.found → IsSearch G s
     → IsRule G p r → SymbolsPass s.found s.terminals r.body → Advances G s (with_found s r.left) p r
 all_passed G s p r lt search rule all = record {
   on = on_found G s r.left search lt
@@ -91,7 +91,7 @@ all_passed G s p r lt search rule all = record {
 }
 
 -- a nonterminal that wasn't found stands in the way: the rule waits
-pub nonterminal_stops : (G : Grammar) (s : Progress) (p : ℕ) (r : Rule) (A : ℕ) → IsSearch G s → IsRule G p r
+pub nonterminal_stops : (G : Grammar) (s : Progress) (p : ℕ) (r : GrammarRule) (A : ℕ) → IsSearch G s → IsRule G p r
     → Contains r.body (nonterminal A) → was_found s A ≡ false → A < length s.waiting
     → Advances G s (with_waiting s A p) p r
 nonterminal_stops G s p r A search rule member not lt = record {
@@ -100,7 +100,7 @@ nonterminal_stops G s p r A search rule member not lt = record {
 }
 
 -- a step that settles a rule, after one that passed some of it
-pub then_advances : (G : Grammar) (s t u : Progress) (p : ℕ) (r : Rule) → SearchGoesOn G s t → Advances G t u p r
+pub then_advances : (G : Grammar) (s t u : Progress) (p : ℕ) (r : GrammarRule) → SearchGoesOn G s t → Advances G t u p r
     → Advances G s u p r
 then_advances G s t u p r on is = record { on = through G s t u on is.on; settled = is.settled }
 
@@ -109,7 +109,7 @@ pub numbered_in : (n : ℕ) (w : List Symbol) (A : ℕ) → All (HasNumberBelow 
 numbered_in n w A all member = All-contains (HasNumberBelow n) w (nonterminal A) all member
 
 -- so a rule's body was passed as far as that
-pub has_passed : (s : Progress) (p : ℕ) (r : Rule) (symbols : List code.Symbol) (marks : List Bool) (before at : ℕ)
+pub has_passed : (s : Progress) (p : ℕ) (r : GrammarRule) (symbols : List code.Symbol) (marks : List Bool) (before at : ℕ)
     (stop : Option code.Symbol) → IsRead s p r symbols marks before at → HasPlaces s p r
     → stop ≡ slice_get symbols at → HasPassed s (with_passed s p at) p r stop
 has_passed s p r symbols marks before at stop is places e = record {

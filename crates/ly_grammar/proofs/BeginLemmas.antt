@@ -5,7 +5,7 @@ use Rattle.std.proofs.lemmas.List.{append-nil}
 use Rattle.ly_base.proofs.MemberLemmas.{Contains-none, Contains-first, Contains-later, Contains-cons_cases}
 use Rattle.ly_base.specs.Lexed.{Token}
 use Rattle.ly_base.specs.Trees.{Tree, Trees, leaf, node, none, more, yield_of, yields_of}
-use Rattle.ly_join.specs.Grammar.{Grammar, Rule, IsRule, Symbol, terminal, nonterminal}
+use Rattle.ly_join.specs.Grammar.{Grammar, GrammarRule, IsRule, Symbol, terminal, nonterminal}
 use Rattle.ly_grammar.specs.Derivations.{IsTree, AreTrees, BeginsYield}
 use Rattle.ly_grammar.specs.Private.First.{Starts, at_once, by_part, opening}
 use Rattle.ly_grammar.specs.Private.Search.{HasTree, HaveTrees, passes}
@@ -75,7 +75,7 @@ module _ (G : Grammar) (marks : List Bool)
         behind false pass there recur = Contains-none X there
 
   -- one that starts with a terminal by rules has a tree whose string begins with it, where all bodies have trees
-  pub starts_begins : ((p : ℕ) (r : Rule) → IsRule G p r → HaveTrees G true r.body) → (A t : ℕ) → Starts G marks A t
+  pub starts_begins : ((p : ℕ) (r : GrammarRule) → IsRule G p r → HaveTrees G true r.body) → (A t : ℕ) → Starts G marks A t
       → BeginsYield G (nonterminal A ∷ []) t
   starts_begins trees A t (at_once p r u rule member) =
       let b = opening_begins r.body (trees p r rule).0 (terminal u) u (trees p r rule).1 member (terminal_begins G u) in
@@ -86,7 +86,7 @@ module _ (G : Grammar) (marks : List Bool)
       (more (node p b.0) none, ((r, rule, refl, b.1), tt), b.2, b.3, append-nil (yields_of b.0) ∙ b.4, b.5)
 
   -- the rule of a tree starts with what its body does
-  rule_starts : (p : ℕ) (r : Rule) (A t : ℕ) → IsRule G p r → r.left ≡ A → IsOpened G marks r.body t
+  rule_starts : (p : ℕ) (r : GrammarRule) (A t : ℕ) → IsRule G p r → r.left ≡ A → IsOpened G marks r.body t
       → Starts G marks A t
   rule_starts p r A t rule left is = subst (λ B. Starts G marks B t) left
       (by_symbol is.symbol is.member is.starts) where
@@ -135,7 +135,7 @@ module _ (G : Grammar) (marks : List Bool)
         (λ ys h. tree_starts Y d are.0 x ys h) (λ h. trees_start w ts are.1 x rest h) (yield_of d) refl e
 
   -- so what a nonterminal starts with is what begins its strings
-  pub starts_are_begun : ((p : ℕ) (r : Rule) → IsRule G p r → HaveTrees G true r.body) → (A t : ℕ)
+  pub starts_are_begun : ((p : ℕ) (r : GrammarRule) → IsRule G p r → HaveTrees G true r.body) → (A t : ℕ)
       → Starts G marks A t ↔ BeginsYield G (nonterminal A ∷ []) t
   starts_are_begun trees A t = (starts_begins trees A t, back) where
     back : BeginsYield G (nonterminal A ∷ []) t → Starts G marks A t

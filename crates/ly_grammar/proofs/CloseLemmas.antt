@@ -6,7 +6,7 @@ use Rattle.std.proofs.lemmas.List.Elements.{Contains-append_cases, Contains-appe
 use Rattle.std.proofs.lemmas.Bool.{cases_lt}
 use Rattle.ly_base.proofs.MemberLemmas.{Contains-none, Contains-one, Contains-cons_cases}
 use Rattle.ly_base.specs.Trees.{Tree, Trees, leaf, node, none, more, yield_of, yields_of}
-use Rattle.ly_join.specs.Grammar.{Grammar, Rule, IsRule, Symbol, terminal, nonterminal}
+use Rattle.ly_join.specs.Grammar.{Grammar, GrammarRule, IsRule, Symbol, terminal, nonterminal}
 use Rattle.ly_grammar.specs.Derivations.{IsTree, AreTrees}
 use Rattle.ly_grammar.specs.Private.Search.{Progress, HasTree, HaveTrees, IsSearch, Advances, SymbolsPass, Settled}
 use Rattle.ly_grammar.specs.Private.Search.{IsTakenNext}
@@ -15,7 +15,7 @@ use Rattle.ly_grammar.specs.Private.Search.{passes, was_found, waits_for, left_t
 use Rattle.ly_grammar.proofs.SearchLemmas.{member_tree, nothing_together, rule_is_one, same_or_not}
 
 -- what the rules that are settled come to where nothing is left to be done: a rule whose body passes has a found left
-pub closed : (s : Progress) (p : ℕ) (r : Rule) → s.queue ≡ [] → Settled s [] p r
+pub closed : (s : Progress) (p : ℕ) (r : GrammarRule) → s.queue ≡ [] → Settled s [] p r
     → SymbolsPass s.found s.terminals r.body → was_found s r.left ≡ true
 closed s p r empty is all = elim is [
   | found e ↦ e
@@ -28,7 +28,7 @@ closed s p r empty is all = elim is [
 ]
 
 module _ (G : Grammar) (s : Progress)
-    (close : (p : ℕ) (r : Rule) → IsRule G p r → SymbolsPass s.found s.terminals r.body → was_found s r.left
+    (close : (p : ℕ) (r : GrammarRule) → IsRule G p r → SymbolsPass s.found s.terminals r.body → was_found s r.left
     ≡ true) where
   mutual
     -- what has a tree passes
@@ -59,8 +59,8 @@ module _ (G : Grammar) (s : Progress)
 pub record IsTaken (G : Grammar) (s next : Progress) (rules : List ℕ) : Type 0 where
   pub search : IsSearch G next
   pub terminals : next.terminals ≡ s.terminals
-  pub settled : (p : ℕ) (r : Rule) → Settled s [] p r → Settled next rules p r
-  pub known : (p : ℕ) → Contains rules p → (r : Rule) × IsRule G p r
+  pub settled : (p : ℕ) (r : GrammarRule) → Settled s [] p r → Settled next rules p r
+  pub known : (p : ℕ) → Contains rules p → (r : GrammarRule) × IsRule G p r
   pub work : left_to_do next + 1 ≡ left_to_do s
 
 -- its rules no longer wait, and the others' do
@@ -100,7 +100,7 @@ taken G s next rules is (A, queue, these, same) = subst (λ n. IsTaken G s n rul
   later : Progress
   later = record s { waiting = slice_set s.waiting A []; queue = next.queue }
 
-  settled : (p : ℕ) (r : Rule) → Settled s [] p r
+  settled : (p : ℕ) (r : GrammarRule) → Settled s [] p r
       → Settled (record s { waiting = slice_set s.waiting A []; queue = next.queue }) rules p r
   settled p r was = elim was [
     | found e ↦ found e
@@ -121,8 +121,8 @@ taken G s next rules is (A, queue, these, same) = subst (λ n. IsTaken G s n rul
   ]
 
 -- the first of those to be looked at is settled
-pub one_less : (G : Grammar) (s : Progress) (p : ℕ) (rest : List ℕ) (r : Rule) → IsRule G p r → Settled s rest p r
-    → (q : ℕ) (r2 : Rule) → IsRule G q r2 → Settled s (p ∷ rest) q r2 → Settled s rest q r2
+pub one_less : (G : Grammar) (s : Progress) (p : ℕ) (rest : List ℕ) (r : GrammarRule) → IsRule G p r → Settled s rest p r
+    → (q : ℕ) (r2 : GrammarRule) → IsRule G q r2 → Settled s (p ∷ rest) q r2 → Settled s rest q r2
 one_less G s p rest r rule here q r2 rule2 was = elim was [
   | found e ↦ found e
   | stopped t m e ↦ stopped t m e
@@ -137,10 +137,10 @@ one_less G s p rest r rule here q r2 rule2 was = elim was [
 -- So far all rules are settled that are below a number.
 pub record AreSettledBelow (G : Grammar) (s : Progress) (n : ℕ) : Type 0 where
   pub search : IsSearch G s
-  pub settled : (p : ℕ) (r : Rule) → IsRule G p r → p < n → Settled s [] p r
+  pub settled : (p : ℕ) (r : GrammarRule) → IsRule G p r → p < n → Settled s [] p r
 
 -- one more, if its number has a rule
-pub settled_to : (G : Grammar) (s next : Progress) (n : ℕ) (r : Rule) → AreSettledBelow G s n → IsRule G n r
+pub settled_to : (G : Grammar) (s next : Progress) (n : ℕ) (r : GrammarRule) → AreSettledBelow G s n → IsRule G n r
     → Advances G s next n r → AreSettledBelow G next (n + 1)
 settled_to G s next n r is rule step = record {
   search = step.on.search;
@@ -154,7 +154,7 @@ settled_to G s next n r is rule step = record {
 }
 
 pub settled_past : (G : Grammar) (s : Progress) (n : ℕ) → AreSettledBelow G s n
-    → ((r : Rule) → IsRule G n r → ⊥) → AreSettledBelow G s (n + 1)
+    → ((r : GrammarRule) → IsRule G n r → ⊥) → AreSettledBelow G s (n + 1)
 settled_past G s n is never = record {
   search = is.search;
   settled = λ p r rule lt. elim (cases_lt p n) [

@@ -16,7 +16,7 @@ use Rattle.ly_base.proofs.MemberLemmas.{Contains-none, Contains-first, Contains-
 use Rattle.ly_base.proofs.MemberLemmas.{Contains-one}
 use Rattle.ly_digraph.specs.Digraph.{Digraph, Reaches, here, along}
 use Rattle.ly_digraph.specs.Least.{IsLeast, IsBetween}
-use Rattle.ly_join.specs.Grammar.{Grammar, Rule, IsRule, Symbol, symbol_of, terminal, nonterminal}
+use Rattle.ly_join.specs.Grammar.{Grammar, GrammarRule, IsRule, Symbol, symbol_of, terminal, nonterminal}
 use Rattle.ly_sets.specs.NumberSet.{NumberSet, Member}
 use Rattle.ly_sets.specs.SetMatrix.{Matrix, row, with_row}
 use Rattle.ly_sets.proofs.NumberSetLemmas.{contains-insert_nat}
@@ -109,7 +109,7 @@ pub record AreFirsts (G : Grammar) (marks : List Bool) (g : Digraph) (sets : Mat
   pub width : sets.width ≡ G.terminals
   pub rows : length sets.sets ≡ G.accept + 1
   pub exact : (j t : ℕ) → Member (row sets.sets j) t
-      ↔ ((p : ℕ) × (r : Rule) × (p < n) × IsRule G p r × (r.left ≡ j) × Contains (opening marks r.body) (terminal t))
+      ↔ ((p : ℕ) × (r : GrammarRule) × (p < n) × IsRule G p r × (r.left ≡ j) × Contains (opening marks r.body) (terminal t))
 
 -- an edge of parts is one to a nonterminal
 pub part_of : (left : ℕ) (w : List Symbol) (A B : ℕ) → Contains (parts left w) (A, B)
@@ -167,7 +167,7 @@ start_rows G marks graph old new n firsts past least between A t = (to, back A) 
       way_starts G marks A from.0 t (subst (λ g. Reaches g A from.0) all from.1)
       (subst (λ B. Starts G marks B t) it.4 (at_once it.0 it.1 t it.3 it.5))
 
-  below : (p : ℕ) (r : Rule) → IsRule G p r → p < n
+  below : (p : ℕ) (r : GrammarRule) → IsRule G p r → p < n
   below p r rule = let lt = slice_get_within G.rules p (Some r) rule in omega (arith, lt, past)
 
   back : (B : ℕ) → Starts G marks B t → Member (row new B) t
@@ -245,7 +245,7 @@ inserted m left t lt = record {
       ∙ get_or-set_same m.sets left (set.insert (row m.sets left) t) set.empty lt
 
 -- the edges of openings
-abbrev pub opening_edges : List Bool → Rule → List (ℕ × ℕ)
+abbrev pub opening_edges : List Bool → GrammarRule → List (ℕ × ℕ)
 opening_edges marks r = parts r.left (opening marks r.body)
 
 -- no rule was looked at
@@ -266,7 +266,7 @@ firsts_none G marks g sets graph width empty = record {
 }
 
 -- one rule more was
-pub firsts_more : (G : Grammar) (marks : List Bool) (g now : Digraph) (sets new : Matrix) (n : ℕ) (r : Rule)
+pub firsts_more : (G : Grammar) (marks : List Bool) (g now : Digraph) (sets new : Matrix) (n : ℕ) (r : GrammarRule)
     → AreFirsts G marks g sets n → IsRule G n r → now ≡ record g { edges = g.edges ++ opening_edges marks r }
     → AreAdded sets new r.left (opening marks r.body) → AreFirsts G marks now new (n + 1)
 firsts_more G marks g now sets new n r are rule graph added = record {

@@ -4,7 +4,7 @@ use Rattle.std.proofs.Common.{All, subst, arith, length}
 use Rattle.std.proofs.lemmas.List.Elements.{All-tail}
 use Rattle.ly_base.specs.Lexed.{Token}
 use Rattle.ly_base.specs.Trees.{Tree, Trees, leaf, none, more, yield_of, yields_of}
-use Rattle.ly_join.specs.Grammar.{Grammar, IsAugmented, IsRule, Rule, Symbol, accept_rule, nonterminal, terminal}
+use Rattle.ly_join.specs.Grammar.{Grammar, IsAugmented, IsRule, GrammarRule, Symbol, accept_rule, nonterminal, terminal}
 use Rattle.ly_grammar.specs.Derivations.{AreTrees, First, IsReduced, IsTree}
 use Rattle.ly_grammar.specs.Items.{Valid, at_start, closed, moved, onto}
 use Rattle.ly_grammar.proofs.ReduceLemmas.{occurs_body}
@@ -12,7 +12,7 @@ use Rattle.ly_grammar.proofs.SearchLemmas.{rule_is_one}
 
 -- The body of an item's rule is what stands before the dot, and what stands behind it.
 pub body_of : {G : Grammar} {g : List Symbol} {p : ℕ} {before after : List Symbol} {t : ℕ}
-    → Valid G g p before after t → (r : Rule) × IsRule G p r × (onto before after ≡ r.body)
+    → Valid G g p before after t → (r : GrammarRule) × IsRule G p r × (onto before after ≡ r.body)
 body_of (at_start {r = r} a e) = (r, a, e)
 body_of (closed {r = r} v a b e f) = (r, a, e)
 body_of (moved v) = body_of v
@@ -105,7 +105,7 @@ trees_behind {G} {p = zero} {after = after} augmented reduced v = elim (zero_ite
 trees_behind {G} {p = suc p} augmented reduced v = trees_of_tail (trees_to_come reduced (omega arith) v)
 
 -- the rules of a nonterminal at an item's dot are valid too
-pub closes : {G : Grammar} {g : List Symbol} {p : ℕ} {before after : List Symbol} {B t : ℕ} (q : ℕ) (r : Rule)
+pub closes : {G : Grammar} {g : List Symbol} {p : ℕ} {before after : List Symbol} {B t : ℕ} (q : ℕ) (r : GrammarRule)
     → IsAugmented G → IsReduced G → Valid G g p before (nonterminal B ∷ after) t → IsRule G q r → r.left ≡ B
     → (u : ℕ) × Valid G g q [] r.body u
 closes {t = t} q r augmented reduced v is left =

@@ -5,16 +5,16 @@ use Rattle.std.proofs.Common.{true, false, slice_index_or, ◌-◌}
 use Rattle.std.proofs.lemmas.Bool.{cases_lt}
 use Rattle.std.proofs.lemmas.List.{length-append, get_or_append_left}
 use Rattle.std.proofs.Math.Seq.{get_or-append_right}
-use Rattle.ly_join.specs.Grammar.{Grammar, Rule, IsRule}
+use Rattle.ly_join.specs.Grammar.{Grammar, GrammarRule, IsRule}
 
 -- The marks of the first n numbers say of their rules what P says.
-pub record AreMarks (G : Grammar) (P : ℕ → Rule → Type 0) (marks : List Bool) (n : ℕ) : Type 0 where
+pub record AreMarks (G : Grammar) (P : ℕ → GrammarRule → Type 0) (marks : List Bool) (n : ℕ) : Type 0 where
   pub long : length marks ≡ n
-  pub exact : (p : ℕ) (r : Rule) → IsRule G p r → p < n → (slice_index_or marks p false ≡ true) ↔ P p r
+  pub exact : (p : ℕ) (r : GrammarRule) → IsRule G p r → p < n → (slice_index_or marks p false ≡ true) ↔ P p r
 
 -- one more mark
-pub marked_more : (G : Grammar) (P : ℕ → Rule → Type 0) (marks : List Bool) (n : ℕ) (b : Bool) → AreMarks G P marks n
-    → ((r : Rule) → IsRule G n r → (b ≡ true) ↔ P n r) → AreMarks G P (marks ++ b ∷ []) (n + 1)
+pub marked_more : (G : Grammar) (P : ℕ → GrammarRule → Type 0) (marks : List Bool) (n : ℕ) (b : Bool) → AreMarks G P marks n
+    → ((r : GrammarRule) → IsRule G n r → (b ≡ true) ↔ P n r) → AreMarks G P (marks ++ b ∷ []) (n + 1)
 marked_more G P marks n b are here = record {
   long = (let e = length-append marks (b ∷ []) in let l = are.long in omega (arith, e, l));
   exact = λ p r rule lt. elim (cases_lt p n) [

@@ -13,7 +13,7 @@ use Rattle.std.proofs.lemmas.List.Elements.{Contains-append_cases, Contains-appe
 use Rattle.ly_base.proofs.MemberLemmas.{Contains-none, Contains-first, Contains-later, Contains-cons_cases}
 use Rattle.ly_digraph.specs.Digraph.{Digraph, Reaches, here, along}
 use Rattle.ly_digraph.specs.Least.{IsLeast, IsBetween}
-use Rattle.ly_join.specs.Grammar.{Grammar, Rule, IsRule, Symbol, symbol_of, terminal, nonterminal}
+use Rattle.ly_join.specs.Grammar.{Grammar, GrammarRule, IsRule, Symbol, symbol_of, terminal, nonterminal}
 use Rattle.ly_join.specs.declared.symbol.Symbol as code
 use Rattle.ly_sets.specs.NumberSet.{NumberSet, Member}
 use Rattle.ly_sets.specs.SetMatrix.{row}
@@ -69,7 +69,7 @@ is_use left (nonterminal C ∷ w) A member = elim (Contains-cons_cases (nontermi
 ]
 
 -- what a function makes of rules one after another
-pub of_rules_append : {X : Type 0} (f : Rule → List X) (v w : List (Option Rule))
+pub of_rules_append : {X : Type 0} (f : GrammarRule → List X) (v w : List (Option GrammarRule))
     → of_rules f (v ++ w) ≡ of_rules f v ++ of_rules f w
 of_rules_append f [] w = refl
 of_rules_append f (None ∷ v) w = of_rules_append f v w
@@ -77,7 +77,7 @@ of_rules_append f (Some r ∷ v) w
     = ap (λ xs. f r ++ xs) (of_rules_append f v w) ∙ sym (append_assoc (f r) (of_rules f v) (of_rules f w))
 
 -- what it makes of one rule more, and of a number without one
-pub of_rules_more : {X : Type 0} (f : Rule → List X) (rules : List (Option Rule)) (n : ℕ) (o : Option Rule)
+pub of_rules_more : {X : Type 0} (f : GrammarRule → List X) (rules : List (Option GrammarRule)) (n : ℕ) (o : Option GrammarRule)
     → slice_get rules n ≡ Some o → of_rules f (take (n + 1) rules) ≡ of_rules f (take n rules) ++ of_rules f (o ∷ [])
 of_rules_more f rules n o there =
     ap (λ k. of_rules f (take k rules)) (add-one n)
@@ -86,8 +86,8 @@ of_rules_more f rules n o there =
     ∙ of_rules_append f (take n rules) (o ∷ [])
 
 -- what comes of some rule
-pub of_rule : {X : Type 0} (f : Rule → List X) (rules : List (Option Rule)) (x : X) → Contains (of_rules f rules) x
-    → (p : ℕ) × (r : Rule) × (slice_get rules p ≡ Some (Some r)) × Contains (f r) x
+pub of_rule : {X : Type 0} (f : GrammarRule → List X) (rules : List (Option GrammarRule)) (x : X) → Contains (of_rules f rules) x
+    → (p : ℕ) × (r : GrammarRule) × (slice_get rules p ≡ Some (Some r)) × Contains (f r) x
 of_rule f [] x member = Contains-none x member
 of_rule f (None ∷ rules) x member = let it = of_rule f rules x member in (suc it.0, it.1, it.2, it.3)
 of_rule f (Some r ∷ rules) x member = elim (Contains-append_cases (f r) (of_rules f rules) x member) [
@@ -95,7 +95,7 @@ of_rule f (Some r ∷ rules) x member = elim (Contains-append_cases (f r) (of_ru
   | inr later ↦ let it = of_rule f rules x later in (suc it.0, it.1, it.2, it.3)
 ]
 
-pub by_rule : {X : Type 0} (f : Rule → List X) (rules : List (Option Rule)) (p : ℕ) (r : Rule) (x : X)
+pub by_rule : {X : Type 0} (f : GrammarRule → List X) (rules : List (Option GrammarRule)) (p : ℕ) (r : GrammarRule) (x : X)
     → slice_get rules p ≡ Some (Some r) → Contains (f r) x → Contains (of_rules f rules) x
 by_rule f [] p r x there member = absurd (cc)
 by_rule f (None ∷ rules) zero r x there member = absurd (cc)
@@ -132,14 +132,14 @@ way_grows g given sets i j n least (along a b c edge way) member
     = least.grows.grows a b n edge (way_grows g given sets b c n least way member)
 
 -- what the rules of a grammar are made to is known of them up to a number, and one rule more is kept or not
-pub kept_more : {X : Type 0} (f : Rule → List X) (G : Grammar) (kept : List Bool) (n : ℕ) (r : Rule) → IsRule G n r
+pub kept_more : {X : Type 0} (f : GrammarRule → List X) (G : Grammar) (kept : List Bool) (n : ℕ) (r : GrammarRule) → IsRule G n r
     → slice_index_or kept n false ≡ true → of_rules f (take (n + 1) (kept_rules kept G.rules))
     ≡ of_rules f (take n (kept_rules kept G.rules)) ++ f r
 kept_more f G kept n r rule on = of_rules_more f (kept_rules kept G.rules) n (Some r)
     (at_marked kept G.rules n r rule on)
     ∙ ap (λ xs. of_rules f (take n (kept_rules kept G.rules)) ++ xs) (append-nil (f r))
 
-pub dropped_more : {X : Type 0} (f : Rule → List X) (G : Grammar) (kept : List Bool) (n : ℕ) → n < length G.rules
+pub dropped_more : {X : Type 0} (f : GrammarRule → List X) (G : Grammar) (kept : List Bool) (n : ℕ) → n < length G.rules
     → length kept ≡ length G.rules → slice_index_or kept n false ≡ false
     → of_rules f (take (n + 1) (kept_rules kept G.rules)) ≡ of_rules f (take n (kept_rules kept G.rules))
 dropped_more f G kept n lt long off = of_rules_more f (kept_rules kept G.rules) n None

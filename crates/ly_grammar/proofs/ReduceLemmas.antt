@@ -3,7 +3,7 @@ use Rattle.std.proofs.Common.{◌≡◌, ◌∙◌, ◌⊎◌, ◌↔◌, ◌∷
 use Rattle.std.proofs.Common.{inl, inr, refl, length, slice_index_or}
 use Rattle.std.proofs.lemmas.List.{append-nil}
 use Rattle.ly_base.specs.Trees.{Tree, Trees, leaf, node, none, more, yield_of, Occurs, OccursAmong}
-use Rattle.ly_join.specs.Grammar.{Grammar, Rule, IsAugmented, IsRule, IsGrammar, Symbol, accept_rule, terminal}
+use Rattle.ly_join.specs.Grammar.{Grammar, GrammarRule, IsAugmented, IsRule, IsGrammar, Symbol, accept_rule, terminal}
 use Rattle.ly_join.specs.Grammar.{nonterminal}
 use Rattle.ly_grammar.specs.Derivations.{IsTree, AreTrees, IsNullable, IsReduced, IsUseful}
 use Rattle.ly_sets.specs.NumberSet.{Member}
@@ -20,7 +20,7 @@ use Rattle.ly_grammar.proofs.UsefulLemmas.{whole_trees}
 mutual
   -- a tree whose rules another grammar has too is one of that grammar
   pub tree_into : (G R : Grammar) (X : Symbol) (d : Tree) → IsTree G X d
-      → ((p : ℕ) (r : Rule) → Occurs p d → IsRule G p r → IsRule R p r) → IsTree R X d
+      → ((p : ℕ) (r : GrammarRule) → Occurs p d → IsRule G p r → IsRule R p r) → IsTree R X d
   tree_into G R (terminal k) (leaf t) is has = is
   tree_into G R (nonterminal A) (leaf t) is has = absurd is
   tree_into G R (terminal k) (node p ts) is has = absurd is
@@ -28,7 +28,7 @@ mutual
       = (r, has p r (inl refl) rule, left, trees_into G R r.body ts are (λ q s m. has q s (inr m)))
 
   pub trees_into : (G R : Grammar) (w : List Symbol) (ts : Trees) → AreTrees G w ts
-      → ((p : ℕ) (r : Rule) → OccursAmong p ts → IsRule G p r → IsRule R p r) → AreTrees R w ts
+      → ((p : ℕ) (r : GrammarRule) → OccursAmong p ts → IsRule G p r → IsRule R p r) → AreTrees R w ts
   trees_into G R [] none are has = tt
   trees_into G R (X ∷ w) none are has = absurd are
   trees_into G R [] (more t ts) are has = absurd are
@@ -37,7 +37,7 @@ mutual
 
 -- The trees of a rule's body, where it occurs.
 pub record HasBody (G : Grammar) (p : ℕ) : Type 0 where
-  pub rule : Rule
+  pub rule : GrammarRule
   pub is : IsRule G p rule
   pub trees : Trees
   pub are : AreTrees G rule.body trees
@@ -59,7 +59,7 @@ mutual
 
 -- the marks are those of rule 0 and of the useful rules
 abbrev pub MarkUseful : Grammar → List Bool → Type 0
-MarkUseful G marks = (p : ℕ) (r : Rule) → IsRule G p r
+MarkUseful G marks = (p : ℕ) (r : GrammarRule) → IsRule G p r
     → (slice_index_or marks p false ≡ true) ↔ ((p ≡ 0) ⊎ IsUseful G p)
 
 module _ (G : Grammar) (marks : List Bool) (lawful : IsGrammar G) (long : length marks ≡ length G.rules)
@@ -102,7 +102,7 @@ module _ (G : Grammar) (marks : List Bool) (lawful : IsGrammar G) (long : length
   }
 
   -- all bodies of its rules have trees
-  pub bodies_have_trees : (d : Tree) × IsTree G (nonterminal G.start) d → (p : ℕ) (r : Rule)
+  pub bodies_have_trees : (d : Tree) × IsTree G (nonterminal G.start) d → (p : ℕ) (r : GrammarRule)
       → IsRule (restricted marks G) p r → HaveTrees (restricted marks G) true r.body
   bodies_have_trees tree zero r rule =
       let there = marked_at marks G.rules zero r rule in

@@ -9,7 +9,7 @@ use Rattle.std.proofs.lemmas.List.Elements.{Contains-append_cases, Contains-appe
 use Rattle.ly_base.proofs.MemberLemmas.{Contains-none, Contains-first, Contains-later, Contains-one}
 use Rattle.ly_base.proofs.MemberLemmas.{Contains-cons_cases}
 use Rattle.ly_base.specs.Trees.{leaf, node, none, more, yield_of, yields_of}
-use Rattle.ly_join.specs.Grammar.{Grammar, Rule, IsRule, Symbol, terminal, nonterminal}
+use Rattle.ly_join.specs.Grammar.{Grammar, GrammarRule, IsRule, Symbol, terminal, nonterminal}
 use Rattle.ly_grammar.specs.Private.Search.{Progress, IsSearch, HasTree, HaveTrees, SymbolsPass, SearchGoesOn}
 use Rattle.ly_grammar.specs.Private.Search.{Settled, found, stopped, waiting, to_come, was_found, waits_for}
 use Rattle.ly_grammar.specs.Private.Search.{with_found, with_passed, with_waiting, unfound}
@@ -28,7 +28,7 @@ nothing_together [] ys e = (refl, e)
 nothing_together (x ∷ xs) ys e = absurd (cc)
 
 -- a number has one rule
-pub rule_is_one : (G : Grammar) (p : ℕ) (r q : Rule) → IsRule G p r → IsRule G p q → r ≡ q
+pub rule_is_one : (G : Grammar) (p : ℕ) (r q : GrammarRule) → IsRule G p r → IsRule G p q → r ≡ q
 rule_is_one G p r q a b = let e : Some (Some r) ≡ Some (Some q) = sym a ∙ b in cc
 
 -- symbols that pass have trees, where what was found has
@@ -61,7 +61,7 @@ member_tree G allowed (Y ∷ w) X (more t ts, are, empty) member = elim (Contain
 ]
 
 -- and so has the left side of a rule whose body has
-pub rule_tree : (G : Grammar) (allowed : Bool) (p : ℕ) (r : Rule) → IsRule G p r → HaveTrees G allowed r.body
+pub rule_tree : (G : Grammar) (allowed : Bool) (p : ℕ) (r : GrammarRule) → IsRule G p r → HaveTrees G allowed r.body
     → HasTree G allowed (nonterminal r.left)
 rule_tree G allowed p r is trees = (node p trees.0, (r, is, refl, trees.1), trees.2)
 
@@ -84,12 +84,12 @@ through G s t u a b = record {
 }
 
 -- so many symbols of a rule's body are there, and pass
-abbrev pub HavePassed : Progress → Rule → ℕ → Type 0
+abbrev pub HavePassed : Progress → GrammarRule → ℕ → Type 0
 HavePassed s r n = (n ≤ length r.body) × SymbolsPass s.found s.terminals (take n r.body)
 
 -- what is known to have passed of each rule, where it is newly known of one
-pub now_passed : (G : Grammar) (s : Progress) (p at : ℕ) (r : Rule) → IsSearch G s → IsRule G p r
-    → p < length s.passed → HavePassed s r at → (q : ℕ) (r2 : Rule) → IsRule G q r2
+pub now_passed : (G : Grammar) (s : Progress) (p at : ℕ) (r : GrammarRule) → IsSearch G s → IsRule G p r
+    → p < length s.passed → HavePassed s r at → (q : ℕ) (r2 : GrammarRule) → IsRule G q r2
     → HavePassed s r2 (slice_index_or (slice_set s.passed p at) q 0)
 now_passed G s p at r is rule lt all q r2 is2 = elim (same_or_not q p) [
   | inl same ↦
@@ -102,7 +102,7 @@ now_passed G s p at r is rule lt all q r2 is2 = elim (same_or_not q p) [
 ]
 
 -- more of a rule's body passes
-pub on_passed : (G : Grammar) (s : Progress) (p at : ℕ) (r : Rule) → IsSearch G s → IsRule G p r → p < length s.passed
+pub on_passed : (G : Grammar) (s : Progress) (p at : ℕ) (r : GrammarRule) → IsSearch G s → IsRule G p r → p < length s.passed
     → HavePassed s r at → SearchGoesOn G s (with_passed s p at)
 on_passed G s p at r is rule lt all = record {
   search = record {
@@ -151,7 +151,7 @@ search_found G s A is lt tree = record {
 }
 
 -- a rule that is settled stays so
-settled_found : (s : Progress) (A : ℕ) → A < length s.found → (pending : List ℕ) (q : ℕ) (r : Rule)
+settled_found : (s : Progress) (A : ℕ) → A < length s.found → (pending : List ℕ) (q : ℕ) (r : GrammarRule)
     → Settled s pending q r → Settled (newly_found s A) pending q r
 settled_found s A lt pending q r was = elim was [
   | found e ↦ found (stay_found s.found A lt r.left e)
@@ -211,8 +211,8 @@ still_waits s A p lt B q w = elim (same_or_not B A) [
 ]
 
 -- one that waits is a rule
-waiting_rule : (G : Grammar) (s : Progress) (A p : ℕ) (r : Rule) → IsSearch G s → IsRule G p r → A < length s.waiting
-    → (B q : ℕ) → Contains (waits_for (with_waiting s A p) B) q → (r2 : Rule) × IsRule G q r2
+waiting_rule : (G : Grammar) (s : Progress) (A p : ℕ) (r : GrammarRule) → IsSearch G s → IsRule G p r → A < length s.waiting
+    → (B q : ℕ) → Contains (waits_for (with_waiting s A p) B) q → (r2 : GrammarRule) × IsRule G q r2
 waiting_rule G s A p r is rule lt B q w = elim (same_or_not B A) [
   | inl same ↦ elim (Contains-append_cases (waits_for s A) (p ∷ []) q
       (subst (λ ps. Contains ps q) (ap (λ C. waits_for (with_waiting s A p) C) same
@@ -225,7 +225,7 @@ waiting_rule G s A p r is rule lt B q w = elim (same_or_not B A) [
 ]
 
 -- a rule waits
-pub on_waiting : (G : Grammar) (s : Progress) (A p : ℕ) (r : Rule) → IsSearch G s → IsRule G p r
+pub on_waiting : (G : Grammar) (s : Progress) (A p : ℕ) (r : GrammarRule) → IsSearch G s → IsRule G p r
     → A < length s.waiting → SearchGoesOn G s (with_waiting s A p)
 on_waiting G s A p r is rule lt = record {
   search = record {

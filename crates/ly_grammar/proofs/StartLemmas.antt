@@ -5,7 +5,7 @@ use Rattle.std.proofs.lemmas.List.{length-replicate, get_or-replicate, get_or_pa
 use Rattle.std.proofs.lemmas.Bool.{cases_lt}
 use Rattle.std.proofs.lemmas.Option.{slice_get_within}
 use Rattle.ly_base.proofs.MemberLemmas.{Contains-none}
-use Rattle.ly_join.specs.Grammar.{Grammar, Rule, IsRule, IsGrammar}
+use Rattle.ly_join.specs.Grammar.{Grammar, GrammarRule, IsRule, IsGrammar}
 use Rattle.ly_grammar.specs.Reduction.{kept_rules, restricted}
 use Rattle.ly_grammar.specs.Private.Search.{Progress, IsSearch, HasPlaces, RuleNumbered}
 use Rattle.ly_grammar.proofs.MarkedLemmas.{at_marked, marked_at, rule_numbered}
@@ -42,7 +42,7 @@ is_begun G terminals = record {
 }
 
 -- the rules that are kept have their places
-pub places_of : (G : Grammar) (kept : List Bool) (s : Progress) (p : ℕ) (r : Rule) → IsGrammar G
+pub places_of : (G : Grammar) (kept : List Bool) (s : Progress) (p : ℕ) (r : GrammarRule) → IsGrammar G
     → IsSearch (restricted kept G) s → IsRule (restricted kept G) p r → HasPlaces s p r
 places_of G kept s p r is search rule = record {
   rule = subst (λ n. p < n) (sym search.passed_long) (slice_get_within (kept_rules kept G.rules) p (Some r) rule);
@@ -53,6 +53,6 @@ places_of G kept s p r is search rule = record {
 }
 
 -- a rule that is there and kept
-pub kept_rule : (G : Grammar) (kept : List Bool) (p : ℕ) (r : Rule) → IsRule G p r
-    → (q : Rule) × IsRule (restricted kept G) p q → IsRule (restricted kept G) p r
+pub kept_rule : (G : Grammar) (kept : List Bool) (p : ℕ) (r : GrammarRule) → IsRule G p r
+    → (q : GrammarRule) × IsRule (restricted kept G) p q → IsRule (restricted kept G) p r
 kept_rule G kept p r rule (q, there) = at_marked kept G.rules p r rule (marked_at kept G.rules p q there).1

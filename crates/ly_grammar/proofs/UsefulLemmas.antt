@@ -3,7 +3,7 @@ use Rattle.std.proofs.Common.{◌≡◌, ◌↔◌, ℕ, List, [], ◌∷◌, Bo
 use Rattle.std.proofs.Common.{slice_index_or}
 use Rattle.ly_base.proofs.MemberLemmas.{Contains-none, Contains-first, Contains-later, Contains-cons_cases}
 use Rattle.ly_base.specs.Trees.{Tree, Trees, leaf, node, none, more, Occurs, OccursAmong}
-use Rattle.ly_join.specs.Grammar.{Grammar, Rule, IsRule, Symbol, accept_rule, terminal, nonterminal}
+use Rattle.ly_join.specs.Grammar.{Grammar, GrammarRule, IsRule, Symbol, accept_rule, terminal, nonterminal}
 use Rattle.ly_grammar.specs.Derivations.{IsTree, AreTrees, IsUseful}
 use Rattle.ly_grammar.specs.Reduction.{restricted}
 use Rattle.ly_grammar.specs.Laws.{IsLed, at_start, by_rule}
@@ -14,7 +14,7 @@ use Rattle.ly_grammar.proofs.SearchLemmas.{rule_is_one}
 
 -- the marks say which rules have trees for their bodies
 abbrev pub AreProductive : Grammar → List Bool → Type 0
-AreProductive G marks = (p : ℕ) (r : Rule) → IsRule G p r
+AreProductive G marks = (p : ℕ) (r : GrammarRule) → IsRule G p r
     → (slice_index_or marks p false ≡ true) ↔ HaveTrees G true r.body
 
 -- A tree in the place of one of a nonterminal's among trees: all that occurs in it occurs among them.
@@ -55,7 +55,7 @@ in_start G A (by_rule p r B rule ts led member) d is =
     record { tree = up.tree; is = up.is; occurs = λ q here. up.occurs q (inr (put.occurs q here)) }
 
 -- so a rule with trees for its body, whose left side is led to, is useful
-pub led_to_useful : (G : Grammar) (p : ℕ) (r : Rule) → IsRule G p r → (ts : Trees) × AreTrees G r.body ts
+pub led_to_useful : (G : Grammar) (p : ℕ) (r : GrammarRule) → IsRule G p r → (ts : Trees) × AreTrees G r.body ts
     → IsLed G r.left → IsUseful G p
 led_to_useful G p r rule ts led =
     let up = in_start G r.left led (node p ts.0) (r, rule, refl, ts.1) in
@@ -63,7 +63,7 @@ led_to_useful G p r rule ts led =
 
 -- A rule that occurs in a tree.
 pub record IsLedTo (G : Grammar) (p : ℕ) : Type 0 where
-  pub rule : Rule
+  pub rule : GrammarRule
   pub is : IsRule G p rule
   pub trees : (ts : Trees) × AreTrees G rule.body ts
   pub left : IsLed G rule.left
@@ -96,7 +96,7 @@ mutual
       = among_led G w ts p (λ B member. all B (Contains-later X w (nonterminal B) member)) are.1 later
 
 -- useful rules are those with trees for their bodies whose left sides are led to
-pub useful_led : (G : Grammar) (p : ℕ) (r : Rule) → IsRule G p r
+pub useful_led : (G : Grammar) (p : ℕ) (r : GrammarRule) → IsRule G p r
     → IsUseful G p ↔ (((ts : Trees) × AreTrees G r.body ts) × IsLed G r.left)
 useful_led G p r rule = (to, λ is. led_to_useful G p r rule is.0 is.1) where
   to : IsUseful G p → ((ts : Trees) × AreTrees G r.body ts) × IsLed G r.left
@@ -121,7 +121,7 @@ module _ (G : Grammar) (marks : List Bool) (productive : AreProductive G marks) 
       (led_reached r.left led) member
 
   -- so a useful rule is one that is marked and reached
-  pub useful_reached : (p : ℕ) (r : Rule) → IsRule G p r
+  pub useful_reached : (p : ℕ) (r : GrammarRule) → IsRule G p r
       → IsUseful G p ↔ ((slice_index_or marks p false ≡ true) × IsReachedBy (restricted marks G) r.left)
   useful_reached p r rule = (
     λ is.

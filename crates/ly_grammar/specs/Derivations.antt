@@ -2,7 +2,7 @@
 use Rattle.std.specs.Prelude.{◌≡◌, ℕ, ◌≤◌, List, [], ◌∷◌, ◌++◌, ◌⊎◌}
 use Rattle.ly_base.specs.Lexed.{Token}
 use Rattle.ly_base.specs.Trees.{Tree, Trees, leaf, node, none, more, yield_of, yields_of, Occurs}
-use Rattle.ly_join.specs.Grammar.{Grammar, Rule, IsRule, Symbol, terminal, nonterminal}
+use Rattle.ly_join.specs.Grammar.{Grammar, GrammarRule, IsRule, Symbol, terminal, nonterminal}
 
 abbrev mutual
   -- the tree is a derivation from the symbol
@@ -10,7 +10,7 @@ abbrev mutual
   IsTree G (terminal k) (leaf t) = t.terminal ≡ k
   IsTree G (nonterminal A) (leaf t) = ⊥
   IsTree G (terminal k) (node p ts) = ⊥
-  IsTree G (nonterminal A) (node p ts) = (r : Rule) × IsRule G p r × (r.left ≡ A) × AreTrees G r.body ts
+  IsTree G (nonterminal A) (node p ts) = (r : GrammarRule) × IsRule G p r × (r.left ≡ A) × AreTrees G r.body ts
 
   -- the trees are derivations from the symbols, in order
   pub AreTrees : Grammar → List Symbol → Trees → Type 0
@@ -51,4 +51,4 @@ First G w u t = BeginsYield G w t ⊎ (IsNullable G w × (t ≡ u))
 -- the start symbol has a tree, and every rule but rule 0 is useful
 pub record IsReduced (G : Grammar) : Type 0 where
   pub start_tree : (d : Tree) × IsTree G (nonterminal G.start) d
-  pub useful : (p : ℕ) (r : Rule) → IsRule G p r → 1 ≤ p → IsUseful G p
+  pub useful : (p : ℕ) (r : GrammarRule) → IsRule G p r → 1 ≤ p → IsUseful G p

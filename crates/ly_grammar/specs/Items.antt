@@ -1,7 +1,7 @@
 -- Items of rules, and where they are valid (Knuth 1965; Aho, Sethi and Ullman 1986, 4.7). Strings of symbols have their
 -- last symbol first, as stacks have.
 use Rattle.std.specs.Prelude.{◌≡◌, ◌≢◌, ◌↔◌, ℕ, suc, List, [], ◌∷◌, length, All, AllPairs}
-use Rattle.ly_join.specs.Grammar.{Grammar, IsRule, Rule, Symbol, nonterminal, terminal}
+use Rattle.ly_join.specs.Grammar.{Grammar, IsRule, GrammarRule, Symbol, nonterminal, terminal}
 use Rattle.ly_grammar.specs.Derivations.{First}
 
 -- symbols, last first, in front of others, as they stand in the text
@@ -12,8 +12,8 @@ onto (X ∷ before) w = onto before (X ∷ w)
 -- The item of rule p with a dot behind the symbols before, last first, and in front of those after is valid at the
 -- string with a terminal as its lookahead.
 pub data Valid (G : Grammar) : List Symbol → ℕ → List Symbol → List Symbol → ℕ → Type 0 where
-  at_start : {r : Rule} {w : List Symbol} → IsRule G 0 r → w ≡ r.body → Valid G [] 0 [] w 0
-  closed : {g : List Symbol} {p : ℕ} {before after : List Symbol} {B t : ℕ} {q : ℕ} {r : Rule} {w : List Symbol} {u : ℕ}
+  at_start : {r : GrammarRule} {w : List Symbol} → IsRule G 0 r → w ≡ r.body → Valid G [] 0 [] w 0
+  closed : {g : List Symbol} {p : ℕ} {before after : List Symbol} {B t : ℕ} {q : ℕ} {r : GrammarRule} {w : List Symbol} {u : ℕ}
       → Valid G g p before (nonterminal B ∷ after) t → IsRule G q r → r.left ≡ B → w ≡ r.body → First G after t u
       → Valid G g q [] w u
   moved : {g : List Symbol} {p : ℕ} {before after : List Symbol} {X : Symbol} {t : ℕ}

@@ -2,7 +2,7 @@
 use Rattle.std.specs.Prelude.{◌≡◌, ◌↔◌, ℕ, List, Contains}
 use Rattle.ly_base.specs.Lexed.{Token}
 use Rattle.ly_base.specs.Trees.{Tree, Trees}
-use Rattle.ly_join.specs.Grammar.{Grammar, Rule, IsRule, nonterminal}
+use Rattle.ly_join.specs.Grammar.{Grammar, GrammarRule, IsRule, nonterminal}
 use Rattle.ly_grammar.specs.Derivations.{AreTrees, IsSentence, IsTree, IsUseful}
 use Rattle.ly_grammar.specs.Reduction.{KeepsUseful}
 
@@ -10,12 +10,12 @@ use Rattle.ly_grammar.specs.Reduction.{KeepsUseful}
 -- has it in its body
 pub data IsLed (G : Grammar) : ℕ → Type 0 where
   at_start : IsLed G G.start
-  by_rule : (p : ℕ) (r : Rule) (A : ℕ) → IsRule G p r → (ts : Trees) × AreTrees G r.body ts → IsLed G r.left
+  by_rule : (p : ℕ) (r : GrammarRule) (A : ℕ) → IsRule G p r → (ts : Trees) × AreTrees G r.body ts → IsLed G r.left
       → Contains r.body (nonterminal A) → IsLed G A
 
 -- a rule is useful exactly where its body has trees and its left side is led to
 abbrev pub UsefulIsLed : Type 0
-UsefulIsLed = (G : Grammar) (p : ℕ) (r : Rule) → IsRule G p r
+UsefulIsLed = (G : Grammar) (p : ℕ) (r : GrammarRule) → IsRule G p r
     → IsUseful G p ↔ (((ts : Trees) × AreTrees G r.body ts) × IsLed G r.left)
 
 -- without its other rules a grammar has the same trees of the start symbol, and so the same sentences

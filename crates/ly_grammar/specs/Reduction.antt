@@ -7,11 +7,11 @@ use Rattle.std.specs.FinSet as set
 use Rattle.ly_join.specs.GrammarCode.{grammar_code}
 use Rattle.ly_sets.specs.NumberSet.{NumberSet, Member}
 use Rattle.ly_sets.specs.SetMatrix.{Matrix, row}
-use Rattle.ly_join.specs.Grammar.{Grammar, Rule, IsAugmented, IsRule, nonterminal}
+use Rattle.ly_join.specs.Grammar.{Grammar, GrammarRule, IsAugmented, IsRule, nonterminal}
 use Rattle.ly_grammar.specs.Derivations.{BeginsYield, IsNullable, IsReduced, IsUseful}
 
 -- the rules whose number is marked; the others are removed
-abbrev pub kept_rules : List Bool → List (Option Rule) → List (Option Rule)
+abbrev pub kept_rules : List Bool → List (Option GrammarRule) → List (Option GrammarRule)
 kept_rules [] rules = []
 kept_rules (k ∷ kept) [] = []
 kept_rules (true ∷ kept) (r ∷ rules) = r ∷ kept_rules kept rules
@@ -33,7 +33,7 @@ pub record KeepsUseful (G R : Grammar) : Type 0 where
   pub accept : R.accept ≡ G.accept
   pub start : R.start ≡ G.start
   pub numbers : length R.rules ≡ length G.rules
-  pub rules : (p : ℕ) (r : Rule) → IsRule R p r ↔ (IsRule G p r × ((p ≡ 0) ⊎ IsUseful G p))
+  pub rules : (p : ℕ) (r : GrammarRule) → IsRule R p r ↔ (IsRule G p r × ((p ≡ 0) ⊎ IsUseful G p))
 
 -- The grammar is reduced, and its nonterminals derive what the reduction says.
 pub record IsReduction (G : Grammar) (r : Reduction) : Type 0 where

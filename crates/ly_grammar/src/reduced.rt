@@ -2,7 +2,7 @@ ghost use Rattle.std.specs.Prelude.{◌≡◌, ◌<◌, ◌≤◌, ◌↔◌, �
 ghost use Rattle.ly_base.specs.Trees.{Tree};
 ghost use Rattle.ly_sets.specs.NumberSet.{Member};
 ghost use Rattle.ly_sets.specs.SetMatrix.{row};
-ghost use Rattle.ly_join.specs.Grammar.{nonterminal, IsRule, Rule};
+ghost use Rattle.ly_join.specs.Grammar.{nonterminal, IsRule, GrammarRule};
 ghost use Rattle.ly_grammar.specs.Derivations.{BeginsYield, IsNullable, IsReduced, IsTree};
 ghost use Rattle.ly_grammar.specs.Reduction.{reduction_of, IsReduction, KeepsUseful};
 
@@ -78,7 +78,7 @@ impl<'a> Reduced<'a> {
     /// Whether the rule of a number is left: rule 0, or a useful rule.
     pub fn is_kept(&self, number: usize) -> bool
         requires { number < length self.now.grammar.rules }
-        ensures { IsTrue result ↔ ((r : Rule) × IsRule self.now.grammar number r) }
+        ensures { IsTrue result ↔ ((r : GrammarRule) × IsRule self.now.grammar number r) }
     {
         self.kept[number]
     }

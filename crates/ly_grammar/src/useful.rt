@@ -6,7 +6,7 @@ ghost use Rattle.std.specs.Prelude.{slice_index_or, Err};
 ghost use Rattle.ly_base.specs.Trees.{Tree};
 ghost use Rattle.ly_sets.specs.NumberSet.{Member};
 ghost use Rattle.ly_sets.specs.SetMatrix.{row};
-ghost use Rattle.ly_join.specs.Grammar.{IsGrammar, IsRule, Rule, nonterminal, symbol_of};
+ghost use Rattle.ly_join.specs.Grammar.{IsGrammar, IsRule, GrammarRule, nonterminal, symbol_of};
 ghost use Rattle.ly_grammar.specs.Derivations.{IsTree, IsUseful};
 ghost use Rattle.ly_grammar.specs.Reduction.{restricted};
 ghost use Rattle.ly_grammar.specs.Private.Reach.{IsReachedBy, uses};
@@ -23,7 +23,7 @@ use std::alloc::Global;
 /// For each rule whether it is rule 0 or useful.
 pub(crate) fn useful_rules(alloc: Global, grammar: &Grammar) -> Result<Vec<bool>, GrammarFault>
     ensures long { IfOk result (λ kept. length kept.items ≡ length grammar.now.rules) }
-    ensures exact { IfOk result (λ kept. (p : ℕ) (r : Rule) → IsRule grammar.now p r
+    ensures exact { IfOk result (λ kept. (p : ℕ) (r : GrammarRule) → IsRule grammar.now p r
         → (slice_index_or kept.items p false ≡ true) ↔ ((p ≡ 0) ⊎ IsUseful grammar.now p)) }
     ensures productive { OnOk result ((d : Tree) × IsTree grammar.now (nonterminal grammar.now.start) d) }
     ensures unproductive { result ≡ Err GrammarFault.StartUnproductive
@@ -46,7 +46,7 @@ pub(crate) fn useful_rules(alloc: Global, grammar: &Grammar) -> Result<Vec<bool>
 /// For each rule whether its body has trees.
 fn productive_rules(alloc: Global, grammar: &Grammar) -> Result<Vec<bool>, OutOfMemory>
     ensures long { IfOk result (λ found. length found.items ≡ length grammar.now.rules) }
-    ensures exact { IfOk result (λ found. (p : ℕ) (r : Rule) → IsRule grammar.now p r
+    ensures exact { IfOk result (λ found. (p : ℕ) (r : GrammarRule) → IsRule grammar.now p r
         → (slice_index_or found.items p false ≡ true) ↔ HaveTrees grammar.now true r.body) }
     ensures lawful { OnOk result (IsGrammar grammar.now) }
 {

@@ -12,7 +12,7 @@ use Rattle.ly_yaccread.specs.Rules.{Ruling}
 use Rattle.ly_yaccread.specs.Words.{name}
 use Rattle.ly_join.specs.Counts.{IsWithin}
 use Rattle.ly_join.specs.Faults.{IsAtFault, IsOfFiles, IsUndeclared, IsUndefined, IsUnknownPrec, IsUnknownStart}
-use Rattle.ly_join.specs.Grammar.{Rule, Symbol, terminal, nonterminal}
+use Rattle.ly_join.specs.Grammar.{GrammarRule, Symbol, terminal, nonterminal}
 use Rattle.ly_join.specs.Joined.{table_of, IsRulePrecedence, IsSymbol, Joined, Note, Spec}
 use Rattle.ly_join.specs.Joined.{SymbolTable}
 use Rattle.ly_join.specs.Numbering.{declared_terminals, rule_literals}
@@ -159,7 +159,7 @@ module _ (w : Written) (m : SymbolTable) (numbered : AreNumbered w m) where
   }
 
   -- what is made of joined rules and actions is the specification
-  pub joined_from : (x : Scanning) (start : ℕ) (rules : List Rule) (notes : List Note) (scanner : List ScanAction)
+  pub joined_from : (x : Scanning) (start : ℕ) (rules : List GrammarRule) (notes : List Note) (scanner : List ScanAction)
       → IsStart w m start → RulesJoined m w.rules rules notes → AllZip (IsScanAction m.terminals) x.actions scanner
       → Joined x w (spec_from m start rules notes scanner)
   joined_from x start rules notes scanner is joined actions = record {
@@ -180,7 +180,7 @@ module _ (w : Written) (m : SymbolTable) (numbered : AreNumbered w m) where
   }
 
   -- all is there that a specification is made of
-  pub ready : (start : ℕ) (rules : List Rule) (notes : List Note) → IsStart w m start
+  pub ready : (start : ℕ) (rules : List GrammarRule) (notes : List Note) → IsStart w m start
       → RulesJoined m w.rules rules notes → IsReady m start rules notes
   ready start rules notes is joined = record {
     first = ap (λ ts. slice_get ts 0) numbered.terminals;

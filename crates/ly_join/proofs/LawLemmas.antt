@@ -10,7 +10,7 @@ use Rattle.ly_base.proofs.MemberLemmas.{Contains-cons_cases, Contains-one}
 use Rattle.ly_yaccread.specs.File.{Written}
 use Rattle.ly_yaccread.specs.Rules.{Ruling}
 use Rattle.ly_yaccread.specs.Words.{Word, mark, directive, name, number, literal, block, braces, other}
-use Rattle.ly_join.specs.Grammar.{Grammar, Rule, Symbol, accept_rule, grammar_from, terminal, nonterminal}
+use Rattle.ly_join.specs.Grammar.{Grammar, GrammarRule, Symbol, accept_rule, grammar_from, terminal, nonterminal}
 use Rattle.ly_join.specs.Joined.{accept_note, last_terminal, shape_by, table_of}
 use Rattle.ly_join.specs.Joined.{AreJoined, IsJoinedRule, IsPrecedenceOf}
 use Rattle.ly_join.specs.Joined.{IsRulePrecedence, IsSymbol, IsTerminal, Joined, Note, Spec, SymbolTable}
@@ -135,7 +135,7 @@ module _ (m : SymbolTable) (tokens : AllPairs (λ x y. x ≢ y) m.terminals)
   rule_precedence_one (Some x) w p q (t, is, h) (u, also, g) =
       precedence_of_one (Some t) p q h (subst (λ k. IsPrecedenceOf m.precedences (Some k) q) (word_one x u t also is) g)
 
-  rule_one : (r : Ruling) (a b : Rule) (n o : Note) → IsJoinedRule m r a n → IsJoinedRule m r b o → (a ≡ b) × (n ≡ o)
+  rule_one : (r : Ruling) (a b : GrammarRule) (n o : Note) → IsJoinedRule m r a n → IsJoinedRule m r b o → (a ≡ b) × (n ≡ o)
   rule_one r a b n o h g =
       let left : a.left ≡ b.left
       = one_place (λ z. z) m.nonterminals a.left b.left r.left r.left names h.left g.left refl in
@@ -144,11 +144,11 @@ module _ (m : SymbolTable) (tokens : AllPairs (λ x y. x ≢ y) m.terminals)
       let precedence : n.precedence ≡ o.precedence
       = rule_precedence_one r.precedence a.body n.precedence o.precedence h.precedence
       (subst (λ w. IsRulePrecedence m r.precedence w o.precedence) (sym body) g.precedence) in (
-        ap₂ (λ l w. let x : Rule = record { left = l; body = w } in x) left body,
+        ap₂ (λ l w. let x : GrammarRule = record { left = l; body = w } in x) left body,
         ap₂ (λ p s. let x : Note = record { precedence = p; shape = s } in x) precedence shape,
       )
 
-  rules_one : (rs : List Ruling) (as' bs : List Rule) (ns os : List Note) → AreJoined m rs as' ns → AreJoined m rs bs os
+  rules_one : (rs : List Ruling) (as' bs : List GrammarRule) (ns os : List Note) → AreJoined m rs as' ns → AreJoined m rs bs os
       → (as' ≡ bs) × (ns ≡ os)
   rules_one [] [] [] [] [] h g = (refl, refl)
   rules_one [] [] [] [] (o ∷ os) h g = absurd g
@@ -249,7 +249,7 @@ module _ (x : Scanning) (w : Written) (s t : Spec) (h : Joined x w s) (g : Joine
   rules_same = rules_one (table_of s) tokens_once names_once kept_apart w.rules h.rules g.rules h.notes g.notes h.joined
       (subst (λ m. AreJoined m w.rules g.rules g.notes) (sym table_same) g.joined)
 
-  grammar_of : List TerminalName → List (List ℕ) → ℕ → List Rule → Grammar
+  grammar_of : List TerminalName → List (List ℕ) → ℕ → List GrammarRule → Grammar
   grammar_of ts ns start rules
       = grammar_from (length ts) (length ns) start (accept_rule (length ns) start ∷ rules)
 

@@ -15,7 +15,7 @@ use Rattle.ly_base.proofs.MemberLemmas.{Contains-later, Contains-none}
 use Rattle.ly_base.proofs.MemberLemmas.{Contains-one}
 use Rattle.ly_yaccread.specs.Rules.{Ruling}
 use Rattle.ly_yaccread.specs.Words.{Word, mark, directive, name, number, literal, block, braces, other}
-use Rattle.ly_join.specs.Grammar.{Rule, Symbol, RuleWithin, SymbolWithin, symbol_of, terminal, nonterminal}
+use Rattle.ly_join.specs.Grammar.{GrammarRule, Symbol, RuleWithin, SymbolWithin, symbol_of, terminal, nonterminal}
 use Rattle.ly_join.specs.Joined.{last_terminal, later, number_in, AreJoined, IsJoinedRule, IsSymbol, Note}
 use Rattle.ly_base.specs.declared.numbers.Sym.{Sym}
 use Rattle.ly_join.specs.Joined.{IsTerminal, SymbolTable}
@@ -157,7 +157,7 @@ undefined_in m ws w NoRules there h = absurd h
 undefined_in m ws w (LimitPassed which) there h = absurd h
 
 -- rules that are joined, with one more
-joined_push : (m : SymbolTable) (rs : List Ruling) (rules : List Rule) (notes : List Note) (r : Ruling) (rule : Rule)
+joined_push : (m : SymbolTable) (rs : List Ruling) (rules : List GrammarRule) (notes : List Note) (r : Ruling) (rule : GrammarRule)
     (note : Note) → AreJoined m rs rules notes → IsJoinedRule m r rule note
     → AreJoined m (rs ++ r ∷ []) (rules ++ rule ∷ []) (notes ++ note ∷ [])
 joined_push m [] [] [] r rule note all one = (one, tt)
@@ -168,7 +168,7 @@ joined_push m (s ∷ rs) (g ∷ rules) [] r rule note all one = absurd all
 joined_push m (s ∷ rs) (g ∷ rules) (n ∷ notes) r rule note all one =
     (all.0, joined_push m rs rules notes r rule note all.1 one)
 
-pub rules_more : (m : SymbolTable) (rs : List Ruling) (rules : List Rule) (notes : List Note) (r : Ruling) (rule : Rule)
+pub rules_more : (m : SymbolTable) (rs : List Ruling) (rules : List GrammarRule) (notes : List Note) (r : Ruling) (rule : GrammarRule)
     (note : Note) → RulesJoined m rs rules notes → IsJoinedRule m r rule note
     → (Contains m.terminals (token r.left) → ⊥)
     → RulesJoined m (rs ++ r ∷ []) (rules ++ rule ∷ []) (notes ++ note ∷ [])
@@ -184,7 +184,7 @@ rules_more m rs rules notes r rule note so_far one apart = record {
 }
 
 -- as many rules as in the file
-as_many : (m : SymbolTable) (rs : List Ruling) (rules : List Rule) (notes : List Note) → AreJoined m rs rules notes
+as_many : (m : SymbolTable) (rs : List Ruling) (rules : List GrammarRule) (notes : List Note) → AreJoined m rs rules notes
     → length rules ≡ length rs
 as_many m [] [] [] all = refl
 as_many m [] [] (n ∷ notes) all = absurd all
@@ -194,15 +194,15 @@ as_many m (s ∷ rs) (g ∷ rules) [] all = absurd all
 as_many m (s ∷ rs) (g ∷ rules) (n ∷ notes) all = omega (arith, as_many m rs rules notes all.1)
 
 -- rules that may be no more than some, with one more that is kept
-pub within_more : (most : ℕ) (m : SymbolTable) (rs : List Ruling) (rules : List Rule) (notes : List Note) (r : Ruling)
-    (rule : Rule) (note : Note) → AreJoinedWithin most m rs rules notes → IsJoinedRule m r rule note
+pub within_more : (most : ℕ) (m : SymbolTable) (rs : List Ruling) (rules : List GrammarRule) (notes : List Note) (r : Ruling)
+    (rule : GrammarRule) (note : Note) → AreJoinedWithin most m rs rules notes → IsJoinedRule m r rule note
     → (Contains m.terminals (token r.left) → ⊥)
     → AreJoinedWithin most m (rs ++ r ∷ []) (rules ++ rule ∷ []) (notes ++ note ∷ [])
 within_more most m rs rules notes r rule note so_far one apart few =
     rules_more m rs rules notes r rule note (so_far (omega (arith, few, length-append rs (r ∷ [])))) one apart
 
 -- and with one more where as many are kept as may be
-pub within_full : (most : ℕ) (m : SymbolTable) (rs : List Ruling) (rules : List Rule) (notes : List Note) (r : Ruling)
+pub within_full : (most : ℕ) (m : SymbolTable) (rs : List Ruling) (rules : List GrammarRule) (notes : List Note) (r : Ruling)
     → AreJoinedWithin most m rs rules notes → most ≤ length rules
     → AreJoinedWithin most m (rs ++ r ∷ []) rules notes
 within_full most m rs rules notes r so_far full few =
@@ -253,7 +253,7 @@ symbol_within m braces (nonterminal A) first is = absurd is
 symbol_within m other (nonterminal A) first is = absurd is
 
 -- joined rules name symbols that there are
-rule_within : (m : SymbolTable) (r : Ruling) (rule : Rule) (note : Note) → slice_get m.terminals 0 ≡ Some end
+rule_within : (m : SymbolTable) (r : Ruling) (rule : GrammarRule) (note : Note) → slice_get m.terminals 0 ≡ Some end
     → IsJoinedRule m r rule note → RuleWithin (length m.terminals) (length m.nonterminals) rule
 rule_within m r rule note first joined = record {
   left = slice_get_within m.nonterminals rule.left r.left joined.left;
@@ -262,7 +262,7 @@ rule_within m r rule note first joined = record {
       symbol_within m found.0 X first found.2) rule.body (All-contains_itself rule.body);
 }
 
-pub rules_within : (m : SymbolTable) (rs : List Ruling) (rules : List Rule) (notes : List Note)
+pub rules_within : (m : SymbolTable) (rs : List Ruling) (rules : List GrammarRule) (notes : List Note)
     → slice_get m.terminals 0 ≡ Some end → AreJoined m rs rules notes
     → All (RuleWithin (length m.terminals) (length m.nonterminals)) rules
 rules_within m [] [] [] first all = All-nil (RuleWithin (length m.terminals) (length m.nonterminals))
@@ -275,7 +275,7 @@ rules_within m (r ∷ rs) (g ∷ rules) (n ∷ notes) first all =
     (rules_within m rs rules notes first all.1)
 
 -- as many notes as rules
-pub joined_length : (m : SymbolTable) (rs : List Ruling) (rules : List Rule) (notes : List Note)
+pub joined_length : (m : SymbolTable) (rs : List Ruling) (rules : List GrammarRule) (notes : List Note)
     → AreJoined m rs rules notes → length notes ≡ length rules
 joined_length m [] [] [] all = refl
 joined_length m [] [] (n ∷ notes) all = absurd all
@@ -285,8 +285,8 @@ joined_length m (r ∷ rs) (g ∷ rules) [] all = absurd all
 joined_length m (r ∷ rs) (g ∷ rules) (n ∷ notes) all = omega (arith, joined_length m rs rules notes all.1)
 
 -- each rule of the file is joined
-pub joined_member : (m : SymbolTable) (rs : List Ruling) (rules : List Rule) (notes : List Note) (r : Ruling)
-    → AreJoined m rs rules notes → Contains rs r → (rule : Rule) × (note : Note) × IsJoinedRule m r rule note
+pub joined_member : (m : SymbolTable) (rs : List Ruling) (rules : List GrammarRule) (notes : List Note) (r : Ruling)
+    → AreJoined m rs rules notes → Contains rs r → (rule : GrammarRule) × (note : Note) × IsJoinedRule m r rule note
 joined_member m [] [] [] r all there = Contains-none r there
 joined_member m [] [] (n ∷ notes) r all there = absurd all
 joined_member m [] (g ∷ rules) notes r all there = absurd all

@@ -9,7 +9,7 @@ pub data Symbol : Type 0 where
   nonterminal : ℕ → Symbol
 
 -- A rule: the nonterminal on its left side may be replaced by its body.
-pub record Rule : Type 0 where
+pub record GrammarRule : Type 0 where
   pub left : ℕ
   pub body : List Symbol
 
@@ -19,14 +19,14 @@ pub record Grammar : Type 0 where
   pub terminals : ℕ
   pub accept : ℕ
   pub start : ℕ
-  pub rules : List (Option Rule)
+  pub rules : List (Option GrammarRule)
 
 -- rule p of the grammar is r
-abbrev pub IsRule : Grammar → ℕ → Rule → Type 0
+abbrev pub IsRule : Grammar → ℕ → GrammarRule → Type 0
 IsRule G p r = slice_get G.rules p ≡ Some (Some r)
 
 -- the rule of the whole text: the start symbol, and the end
-abbrev pub accept_rule : ℕ → ℕ → Rule
+abbrev pub accept_rule : ℕ → ℕ → GrammarRule
 accept_rule accept start = record { left = accept; body = nonterminal start ∷ terminal 0 ∷ [] }
 
 -- a symbol that rules may name: not the end, and not the whole text
@@ -35,7 +35,7 @@ SymbolWithin terminals accept (terminal t) = (0 < t) × (t < terminals)
 SymbolWithin terminals accept (nonterminal A) = A < accept
 
 -- all symbols of a rule are such
-pub record RuleWithin (terminals accept : ℕ) (r : Rule) : Type 0 where
+pub record RuleWithin (terminals accept : ℕ) (r : GrammarRule) : Type 0 where
   pub left : r.left < accept
   pub body : All (SymbolWithin terminals accept) r.body
 
@@ -44,12 +44,12 @@ pub record IsAugmented (G : Grammar) : Type 0 where
   pub end_within : 0 < G.terminals
   pub start_within : G.start < G.accept
   pub rule_0 : IsRule G 0 (accept_rule G.accept G.start)
-  pub within : (p : ℕ) (r : Rule) → IsRule G p r → 1 ≤ p → RuleWithin G.terminals G.accept r
+  pub within : (p : ℕ) (r : GrammarRule) → IsRule G p r → 1 ≤ p → RuleWithin G.terminals G.accept r
 
 -- The grammar is augmented, and none of its rules is removed.
 pub record IsGrammar (G : Grammar) : Type 0 where
   pub augmented : IsAugmented G
-  pub whole : (p : ℕ) → p < length G.rules → (r : Rule) × IsRule G p r
+  pub whole : (p : ℕ) → p < length G.rules → (r : GrammarRule) × IsRule G p r
 
 -- a symbol as it is kept
 abbrev pub symbol_of : code.Symbol → Symbol
@@ -57,6 +57,6 @@ symbol_of (Terminal t) = terminal t.0
 symbol_of (Nonterminal A) = nonterminal A.0
 
 -- the grammar of rules none of which is removed
-abbrev pub grammar_from : ℕ → ℕ → ℕ → List Rule → Grammar
+abbrev pub grammar_from : ℕ → ℕ → ℕ → List GrammarRule → Grammar
 grammar_from terminals accept start rules
     = record { terminals = terminals; accept = accept; start = start; rules = map Some rules }

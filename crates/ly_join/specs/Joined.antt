@@ -6,7 +6,7 @@ use Rattle.ly_yaccread.specs.Actions.{Making, default, pass, build}
 use Rattle.ly_yaccread.specs.File.{Written}
 use Rattle.ly_yaccread.specs.Rules.{Ruling}
 use Rattle.ly_yaccread.specs.Words.{Word, name, literal}
-use Rattle.ly_join.specs.Grammar.{Grammar, Rule, Symbol, terminal, nonterminal, accept_rule, grammar_from}
+use Rattle.ly_join.specs.Grammar.{Grammar, GrammarRule, Symbol, terminal, nonterminal, accept_rule, grammar_from}
 use Rattle.ly_join.specs.Numbering.{nonterminals_of, start_name, terminals_of, IsNonterminal, IsToken}
 use Rattle.ly_join.specs.Precedences.{given, AreGivenOnce, HasPrecedence}
 use Rattle.ly_join.specs.Scanning.{Scanning, IsScanAction}
@@ -84,14 +84,14 @@ shape_by (pass p) w = place p
 shape_by (build n ps) w = node n ps
 
 -- A rule of the file is this rule over numbered symbols, with this note.
-pub record IsJoinedRule (m : SymbolTable) (r : Ruling) (rule : Rule) (note : Note) : Type 0 where
+pub record IsJoinedRule (m : SymbolTable) (r : Ruling) (rule : GrammarRule) (note : Note) : Type 0 where
   pub left : slice_get m.nonterminals rule.left ≡ Some r.left
   pub body : AllZip (IsSymbol m) r.body rule.body
   pub precedence : IsRulePrecedence m r.precedence rule.body note.precedence
   pub shape : note.shape ≡ shape_by r.making rule.body
 
 -- rules of the file are these, one by one
-abbrev pub AreJoined : SymbolTable → List Ruling → List Rule → List Note → Type 0
+abbrev pub AreJoined : SymbolTable → List Ruling → List GrammarRule → List Note → Type 0
 AreJoined m [] [] [] = Unit {0}
 AreJoined m (r ∷ rs) (rule ∷ rules) (n ∷ notes) = IsJoinedRule m r rule n × AreJoined m rs rules notes
 AreJoined m _ _ _ = ⊥
@@ -116,7 +116,7 @@ pub record Joined (x : Scanning) (w : Written) (s : Spec) : Type 0 where
   pub start : List ℕ
   pub starts : start_name w.preamble.start w.rules ≡ Some start
   pub start_number : slice_get s.nonterminals s.grammar.start ≡ Some start
-  pub rules : List Rule
+  pub rules : List GrammarRule
   pub notes : List Note
   pub joined : AreJoined (table_of s) w.rules rules notes
   pub grammar : s.grammar ≡ grammar_from (length s.terminals) (length s.nonterminals) s.grammar.start

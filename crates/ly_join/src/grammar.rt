@@ -17,9 +17,9 @@ pub struct GrammarRule {
 
 impl Model for GrammarRule {
     ghost use Rattle.std.specs.Prelude.{map};
-    ghost use Rattle.ly_join.specs.Grammar.{Rule, symbol_of};
+    ghost use Rattle.ly_join.specs.Grammar.{GrammarRule, symbol_of};
 
-    ghost Value = { Rule };
+    ghost Value = { GrammarRule };
 
     ghost view = { λ r. record { left = r.left.0; body = map symbol_of r.body.items } };
 }

@@ -6,14 +6,14 @@ use Rattle.std.specs.List.{AllPairs}
 use Rattle.std.proofs.lemmas.Bool.{cases_order}
 use Rattle.std.proofs.lemmas.List.Elements.{All-weaker, All-contains_itself}
 use Rattle.std.proofs.lemmas.Option.{get_or_from_slice_get, slice_get_within}
-use Rattle.ly_join.specs.Grammar.{Grammar, IsAugmented, IsRule, Rule, Symbol, accept_rule, nonterminal, terminal}
+use Rattle.ly_join.specs.Grammar.{Grammar, IsAugmented, IsRule, GrammarRule, Symbol, accept_rule, nonterminal, terminal}
 use Rattle.ly_join.proofs.ListLemmas.{member_at}
 use Rattle.ly_grammar.specs.Items.{HasNoEnd, Valid, at_start, closed, moved}
 use Rattle.ly_grammar.proofs.ItemLemmas.{body_of, zero_item, zero_split}
 use Rattle.ly_grammar.proofs.SearchLemmas.{rule_is_one}
 use Rattle.ly_sets.specs.NumberSet.{NumberSet, Member}
 use Rattle.ly_sets.specs.SetMatrix.{row}
-use Rattle.ly_lr0.specs.Automaton.{Automaton, IsAutomaton, Reaches, State, goto_of, state_at}
+use Rattle.ly_lr0.specs.Automaton.{Lr0Automaton, IsLr0Automaton, Reaches, State, goto_of, state_at}
 use Rattle.ly_lr0.proofs.StateLemmas.{target_some}
 use Rattle.ly_relate.specs.Related.{AreRelations, DirectRead, Goto, Lookback, Relations}
 use Rattle.ly_relate.specs.Relations.{DirectlyReads, LookaheadBy, LooksBack}
@@ -28,7 +28,7 @@ use Rattle.ly_lookahead.proofs.RowLemmas.{past_gotos, rises, row_once}
 use Rattle.ly_lookahead.proofs.ToRelations.{lookahead_to}
 
 -- the body of rule 0
-zero_body : {G : Grammar} {p : ℕ} {r : Rule} → IsAugmented G → p ≡ 0 → IsRule G p r
+zero_body : {G : Grammar} {p : ℕ} {r : GrammarRule} → IsAugmented G → p ≡ 0 → IsRule G p r
     → r.body ≡ nonterminal G.start ∷ terminal 0 ∷ []
 zero_body {G} {p} {r} augmented z is = ap (λ x. x.body)
     (rule_is_one G 0 r (accept_rule G.accept G.start) (subst (λ k. IsRule G k r) z is) augmented.rule_0)
@@ -91,7 +91,7 @@ map_at f d [] i x at = absurd (cc)
 map_at f d (y ∷ xs) zero x at = let e : y ≡ x = cc in ap f e
 map_at f d (y ∷ xs) (suc i) x at = map_at f d xs i x at
 
-module _ (M : Automaton) (is : IsAutomaton M) where
+module _ (M : Lr0Automaton) (is : IsLr0Automaton M) where
   -- the state of a number is what stands at its place
   pub state_is : (s : ℕ) (q : State) → slice_get M.states s ≡ Some q → state_at M s ≡ q
   state_is s q at = get_or_from_slice_get M.states s q (record { prefix = []; transitions = []; complete = [] }) at

@@ -7,7 +7,7 @@ use Rattle.ly_digraph.specs.Digraph.{Digraph, Reaches}
 use Rattle.ly_digraph.specs.Digraph.Reaches.{here, along}
 use Rattle.ly_digraph.specs.Least.{IsBetween, IsLeast}
 use Rattle.ly_digraph.proofs.LeastLemmas.{along_way}
-use Rattle.ly_lr0.specs.Automaton.{Automaton, goto_of}
+use Rattle.ly_lr0.specs.Automaton.{Lr0Automaton, goto_of}
 use Rattle.ly_relate.specs.Related.{AreEdges, AreRelated, AreRelations, Goto, Relations}
 use Rattle.ly_relate.specs.Relations.{DirectlyReads, Follow, Includes, Read, Reads, along_includes, along_reads}
 use Rattle.ly_relate.specs.Relations.{by_read}
@@ -33,7 +33,7 @@ edge_within {gotos} R are (along i j k e way) past =
     let lt = slice_get_within gotos i r.0 r.2 in
     absurd (omega (arith, lt, past))
 
-module _ (M : Automaton) (R : Relations) (are : AreRelations M R) where
+module _ (M : Lr0Automaton) (R : Relations) (are : AreRelations M R) where
   read_from : {i j t : ℕ} → Reaches R.reads i j → (x : Goto) → slice_get R.gotos i ≡ Some x
       → Contains R.direct (record { goto = j; terminal = t }) → Read M.grammar (goto_of M) x.from x.symbol t
   read_from {t = t} (here i) x at has =

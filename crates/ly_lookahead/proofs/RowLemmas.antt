@@ -3,10 +3,10 @@ use Rattle.std.proofs.Common.{◌≡◌, ◌∙◌, ◌⊎◌, inl, inr, ℕ, ze
 use Rattle.std.proofs.Common.{slice_index_or}
 use Rattle.std.proofs.Common.{subst, sym}
 use Rattle.std.proofs.lemmas.Bool.{cases_order}
-use Rattle.ly_lr0.specs.Automaton.{Automaton, state_at}
+use Rattle.ly_lr0.specs.Automaton.{Lr0Automaton, state_at}
 use Rattle.ly_lookahead.specs.Private.Rows.{AreRows}
 
-module _ {M : Automaton} {gotos n : ℕ} {first : List ℕ} (are : AreRows M gotos n first) where
+module _ {M : Lr0Automaton} {gotos n : ℕ} {first : List ℕ} (are : AreRows M gotos n first) where
   -- the rows of a state end before those of a later one begin
   pub rises : (s m : ℕ) → s < m → m ≤ n
       → slice_index_or first s 0 + length (state_at M s).complete ≤ slice_index_or first m 0

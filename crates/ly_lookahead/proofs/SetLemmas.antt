@@ -19,7 +19,7 @@ use Rattle.ly_sets.specs.SetMatrix.{row}
 use Rattle.ly_sets.proofs.NumberSetLemmas.{contains-insert_nat}
 use Rattle.ly_sets.proofs.MatrixLemmas.{row-empty}
 use Rattle.ly_digraph.proofs.UnionLemmas.{Member-union_cases, Member-union_left, Member-union_right}
-use Rattle.ly_lr0.specs.Automaton.{Automaton, state_at}
+use Rattle.ly_lr0.specs.Automaton.{Lr0Automaton, state_at}
 use Rattle.ly_relate.specs.Related.{DirectRead, Lookback}
 use Rattle.ly_relate.specs.Values.{direct_from, lookback_from}
 use Rattle.ly_relate.specs.declared.direct.DirectRead as code
@@ -166,7 +166,7 @@ lookback_seen ls items i e lt =
     (subst (λ m. i < m) (sym (length-map items lookback_from)) lt)
     ∙ ap (λ x. Some x) (get_or-map lookback_from items i no_lookback))
 
-module _ (M : Automaton) (first : List ℕ) (ls : List Lookback) (i : ℕ) (l : Lookback)
+module _ (M : Lr0Automaton) (first : List ℕ) (ls : List Lookback) (i : ℕ) (l : Lookback)
     (at : slice_get ls i ≡ Some l) where
   -- what comes along one more lookback
   come_more : (sets : List NumberSet) (r t : ℕ) → ComesBack M first (take (i + 1) ls) sets r t

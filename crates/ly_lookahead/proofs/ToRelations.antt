@@ -3,7 +3,7 @@ use Rattle.std.proofs.Common.{◌≡◌, ◌⊎◌, inl, inr, ℕ, ◌≤◌, Li
 use Rattle.std.proofs.Common.{subst, arith, append-nil}
 use Rattle.ly_base.specs.Lexed.{Token}
 use Rattle.ly_base.specs.Trees.{Tree, Trees, leaf, node, none, more, yield_of, yields_of}
-use Rattle.ly_join.specs.Grammar.{Grammar, IsAugmented, IsRule, Rule, Symbol, accept_rule, nonterminal, terminal}
+use Rattle.ly_join.specs.Grammar.{Grammar, IsAugmented, IsRule, GrammarRule, Symbol, accept_rule, nonterminal, terminal}
 use Rattle.ly_grammar.specs.Derivations.{AreTrees, First, IsNullable, IsTree}
 use Rattle.ly_grammar.specs.Items.{HasNoEnd, InCore, InLookahead, IsNextSymbol, Valid, at_start, closed, moved, onto}
 use Rattle.ly_grammar.proofs.ItemLemmas.{First_some, body_of, zero_split}
@@ -84,7 +84,7 @@ module _ (G : Grammar) (goto : Gotos) (augmented : IsAugmented G) (automaton : H
 
   -- the lookahead follows the left side of rule p at the state where the item began
   abbrev FollowsFrom : List Symbol → ℕ → ℕ → Type 0
-  FollowsFrom under p t = (q : ℕ) → Reaches goto 0 under q → (r : Rule) → IsRule G p r
+  FollowsFrom under p t = (q : ℕ) → Reaches goto 0 under q → (r : GrammarRule) → IsRule G p r
       → Follow G goto q r.left t × IsTransition G goto q r.left
 
   -- Where an item began, and that its lookahead follows its left side there.
@@ -94,7 +94,7 @@ module _ (G : Grammar) (goto : Gotos) (augmented : IsAugmented G) (automaton : H
     follows : (p ≡ 0) ⊎ FollowsFrom under p t
 
   -- the item of rule 0 before a nonterminal has the end behind that
-  zero_full : (p : ℕ) (r : Rule) (before after : List Symbol) (B : ℕ) → p ≡ 0 → IsRule G p r
+  zero_full : (p : ℕ) (r : GrammarRule) (before after : List Symbol) (B : ℕ) → p ≡ 0 → IsRule G p r
       → onto before (nonterminal B ∷ after) ≡ r.body → IsNullable G after → ⊥
   zero_full p r before after B z is e n =
       let whole : onto before (nonterminal B ∷ after) ≡ nonterminal G.start ∷ terminal 0 ∷ []

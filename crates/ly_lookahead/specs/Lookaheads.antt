@@ -5,7 +5,7 @@ use Rattle.std.specs.FinSet as set
 use Rattle.ly_sets.specs.NumberSet.{NumberSet, Member}
 use Rattle.ly_sets.specs.SetMatrix.{row}
 use Rattle.ly_grammar.specs.Items.{InLookahead}
-use Rattle.ly_lr0.specs.Automaton.{Automaton, State}
+use Rattle.ly_lr0.specs.Automaton.{Lr0Automaton, State}
 
 -- Sets by rows, and for each state the row of the first rule that is complete in it.
 pub record Lookaheads : Type 0 where
@@ -25,7 +25,7 @@ abbrev pub HasSet : Lookaheads → ℕ → ℕ → Type 0
 HasSet L s k = (s < length L.first) × (slice_index_or L.first s 0 + k < length L.sets)
 
 -- Each rule that is complete in a state has a set: that of the canonical LR(1) automaton, sets of equal cores merged.
-pub record AreLookaheads (M : Automaton) (L : Lookaheads) : Type 0 where
+pub record AreLookaheads (M : Lr0Automaton) (L : Lookaheads) : Type 0 where
   pub has : (s k p : ℕ) (q : State) → slice_get M.states s ≡ Some q → slice_get q.complete k ≡ Some p → HasSet L s k
   pub are : (s k p t : ℕ) (q : State) → slice_get M.states s ≡ Some q → slice_get q.complete k ≡ Some p
       → Member (set_at L s k) t ↔ InLookahead M.grammar q.prefix p t

@@ -1,6 +1,6 @@
 //! Read and Follow: the least sets that hold the direct reads and grow along reads, and then along includes.
 ghost use Rattle.std.specs.Prelude.{◌≡◌, ◌≤◌, length, map, All, IfOk};
-ghost use Rattle.ly_lr0.specs.Automaton.{IsAutomaton};
+ghost use Rattle.ly_lr0.specs.Automaton.{IsLr0Automaton};
 ghost use Rattle.ly_relate.specs.Related.{AreRelations};
 ghost use Rattle.ly_relate.specs.Values.{direct_from};
 ghost use Rattle.ly_lookahead.specs.Private.Sets.{AreDirectSets, AreFollowSets, IsInside};
@@ -19,7 +19,7 @@ pub(crate) fn follow_sets(
     relations: &Relations,
     rows: usize,
 ) -> Result<SetMatrix, OutOfMemory>
-    requires lawful { IsAutomaton lr0.now }
+    requires lawful { IsLr0Automaton lr0.now }
     requires relations { AreRelations lr0.now relations.now }
     requires room { length relations.now.gotos ≤ rows }
     ensures rows { IfOk result (λ m. length m.sets ≡ rows) }

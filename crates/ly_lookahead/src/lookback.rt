@@ -1,6 +1,6 @@
 ghost use Rattle.std.specs.Prelude.{◌≡◌, ◌<◌, ◌^◌, length, slice_get, slice_index_or, AllPairs, Contains};
 ghost use Rattle.std.specs.Prelude.{MatchOption, Some};
-ghost use Rattle.ly_lr0.specs.Automaton.{IsAutomaton};
+ghost use Rattle.ly_lr0.specs.Automaton.{IsLr0Automaton};
 ghost use Rattle.ly_relate.specs.Related.{AreRelations};
 ghost use Rattle.ly_lookahead.specs.Private.Rows.{AreRows};
 ghost use Rattle.ly_lookahead.specs.Private.Sets.{AreLookedBack};
@@ -11,7 +11,7 @@ use ly_sets::SetMatrix;
 
 /// Puts what follows transitions into the rows of the rules that look back to them.
 pub(crate) fn look_back(lr0: &Lr0<'_>, relations: &Relations, first: &[usize], sets: &mut SetMatrix)
-    requires lawful { IsAutomaton lr0.now }
+    requires lawful { IsLr0Automaton lr0.now }
     requires relations { AreRelations lr0.now relations.now }
     requires rows { AreRows lr0.now (length relations.now.gotos) (length lr0.now.states) first.now }
     requires long { length sets.old.sets ≡ slice_index_or first.now (length lr0.now.states) 0 }

@@ -6,7 +6,7 @@ use Rattle.std.proofs.lemmas.Bool.{cases_eq, cases_lt}
 use Rattle.std.proofs.lemmas.List.{get_or-set_other, get_or-set_same, length-set}
 use Rattle.std.proofs.lemmas.List.Elements.{Contains-append_left, Contains-push, Contains-push_cases}
 use Rattle.std.proofs.lemmas.Option.{slice_get_within}
-use Rattle.ly_join.specs.Grammar.{Grammar, IsRule, Rule, accept_rule}
+use Rattle.ly_join.specs.Grammar.{Grammar, IsRule, GrammarRule, accept_rule}
 use Rattle.ly_grammar.specs.Reduction.{IsReduction, Reduction}
 use Rattle.ly_grammar.proofs.SearchLemmas.{rule_is_one}
 use Rattle.ly_lr0.specs.Private.Closing.{AreByLeft, IsKept}
@@ -15,11 +15,11 @@ use Rattle.ly_lr0.proofs.ClosingLemmas.{kept_one}
 -- the rules below a number stand in their lists
 abbrev pub HasRulesBelow : Grammar → List (List ℕ) → ℕ → Type 0
 HasRulesBelow G lists n = (A q : ℕ) → A ≤ G.accept → Contains (slice_index_or lists A []) q
-    ↔ ((q < n) × ((r : Rule) × IsRule G q r × (r.left ≡ A)))
+    ↔ ((q < n) × ((r : GrammarRule) × IsRule G q r × (r.left ≡ A)))
 
 module _ (F : Grammar) (R : Reduction) (lists : List (List ℕ)) (n : ℕ) (is : IsReduction F R)
     (count : length lists ≡ R.grammar.accept + 1) (was : HasRulesBelow R.grammar lists n) where
-  pub by_left_more : (lists' : List (List ℕ)) (s : Rule) (left : ℕ) → IsKept R.grammar n → IsRule F n s → left ≡ s.left
+  pub by_left_more : (lists' : List (List ℕ)) (s : GrammarRule) (left : ℕ) → IsKept R.grammar n → IsRule F n s → left ≡ s.left
       → lists' ≡ slice_set lists left (slice_index_or lists left [] ++ n ∷ []) → left < length lists
       → (length lists' ≡ R.grammar.accept + 1) × HasRulesBelow R.grammar lists' (n + 1)
   by_left_more lists' s left kept here same set less = (
@@ -91,7 +91,7 @@ module _ (F : Grammar) (R : Reduction) (lists : List (List ℕ)) (n : ℕ) (is :
   }
 
 -- a rule's left side has a list
-pub left_within : (F : Grammar) (R : Reduction) (n : ℕ) (s : Rule) (left : ℕ) → IsReduction F R → IsKept R.grammar n
+pub left_within : (F : Grammar) (R : Reduction) (n : ℕ) (s : GrammarRule) (left : ℕ) → IsReduction F R → IsKept R.grammar n
     → IsRule F n s → left ≡ s.left → (size : ℕ) → size ≡ R.grammar.accept + 1 → left < size
 left_within F R zero s left is kept here same size count =
     let one : s ≡ accept_rule R.grammar.accept R.grammar.start

@@ -4,7 +4,7 @@ use Rattle.std.proofs.Common.{drop}
 use Rattle.std.specs.Prelude.{◌↔◌, Contains}
 use Rattle.std.proofs.lemmas.List.Elements.{Contains-append_left, Contains-push, Contains-push_cases}
 use Rattle.ly_base.proofs.MemberLemmas.{Contains-first, Contains-one}
-use Rattle.ly_join.specs.Grammar.{Grammar, IsAugmented, IsRule, Rule, Symbol, symbol_of}
+use Rattle.ly_join.specs.Grammar.{Grammar, IsAugmented, IsRule, GrammarRule, Symbol, symbol_of}
 use Rattle.ly_grammar.specs.Derivations.{IsReduced}
 use Rattle.ly_lr0.specs.Automaton.{HasInCore}
 use Rattle.ly_lr0.specs.Private.Closing.{AreKept, IsMove}
@@ -84,7 +84,7 @@ module _ (G : Grammar) (augmented : IsAugmented G) where
   -- the rules of a kernel's items are the grammar's
   pub kernel_kept : (g : List Symbol) (ks : List Item) → IsKernel G g ks → AreKept G ks
   kernel_kept [] ks k i c = let h = (k i).0 c in
-      subst (λ p. (r : Rule) × IsRule G p r) (sym h.0) (_, augmented.rule_0)
+      subst (λ p. (r : GrammarRule) × IsRule G p r) (sym h.0) (_, augmented.rule_0)
   kernel_kept (X ∷ g) ks k i c = let h = (k i).0 c in (h.3.0, h.3.1)
 
   -- what the items of a string move to is the kernel of a longer one

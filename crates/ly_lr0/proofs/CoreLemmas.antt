@@ -4,7 +4,7 @@ use Rattle.std.proofs.Common.{refl, sym, ◌∙◌, ap, subst, arith, length}
 use Rattle.std.specs.Prelude.{slice_get}
 use Rattle.ly_base.specs.Lexed.{Token}
 use Rattle.ly_base.specs.Trees.{Tree, Trees, leaf, node, none, more, Occurs, OccursAmong}
-use Rattle.ly_join.specs.Grammar.{Grammar, IsAugmented, IsRule, Rule, Symbol, accept_rule, nonterminal, terminal}
+use Rattle.ly_join.specs.Grammar.{Grammar, IsAugmented, IsRule, GrammarRule, Symbol, accept_rule, nonterminal, terminal}
 use Rattle.ly_grammar.specs.Derivations.{AreTrees, First, IsReduced, IsTree}
 use Rattle.ly_grammar.specs.Items.{HasNoEnd, InCore, IsComplete, IsViable, SameCore, Valid, at_start, closed, moved}
 use Rattle.ly_grammar.specs.Items.{onto}
@@ -56,7 +56,7 @@ item_of_valid {G = G} (moved {before = before} {after = after} {X = X} v) =
 
 mutual
   -- a rule that occurs in a tree has trees for its body
-  body_trees : (d : Tree) (G : Grammar) (X : Symbol) (p : ℕ) (r : Rule) → IsRule G p r → IsTree G X d → Occurs p d
+  body_trees : (d : Tree) (G : Grammar) (X : Symbol) (p : ℕ) (r : GrammarRule) → IsRule G p r → IsTree G X d → Occurs p d
       → (ts : Trees) × AreTrees G r.body ts
   body_trees (leaf t) G X p r e h o = absurd o
   body_trees (node q ts) G (terminal k) p r e h o = absurd h
@@ -66,7 +66,7 @@ mutual
   )
   body_trees (node q ts) G (nonterminal A) p r e h (inr o) = body_trees_among ts G h.0.body p r e h.3 o
 
-  body_trees_among : (ts : Trees) (G : Grammar) (w : List Symbol) (p : ℕ) (r : Rule) → IsRule G p r → AreTrees G w ts
+  body_trees_among : (ts : Trees) (G : Grammar) (w : List Symbol) (p : ℕ) (r : GrammarRule) → IsRule G p r → AreTrees G w ts
       → OccursAmong p ts → (us : Trees) × AreTrees G r.body us
   body_trees_among none G w p r e h o = absurd o
   body_trees_among (more d ts) G [] p r e h o = absurd h
@@ -75,7 +75,7 @@ mutual
 
 module _ (G : Grammar) (augmented : IsAugmented G) (reduced : IsReduced G) where
   -- every rule has trees for its body
-  rule_trees : (p : ℕ) (r : Rule) → IsRule G p r → (ts : Trees) × AreTrees G r.body ts
+  rule_trees : (p : ℕ) (r : GrammarRule) → IsRule G p r → (ts : Trees) × AreTrees G r.body ts
   rule_trees zero r is =
       let same : accept_rule G.accept G.start ≡ r
       = rule_is_one G 0 (accept_rule G.accept G.start) r augmented.rule_0 is in
@@ -162,14 +162,14 @@ module _ (G : Grammar) (augmented : IsAugmented G) (reduced : IsReduced G) where
           )
 
   -- a rule is complete where its item with all symbols before the dot is there
-  pub item_of_complete : (g : List Symbol) (p : ℕ) → IsComplete G g p → (r : Rule) × IsRule G p r
+  pub item_of_complete : (g : List Symbol) (p : ℕ) → IsComplete G g p → (r : GrammarRule) × IsRule G p r
       × HasItem G g p (length r.body)
   item_of_complete g p c =
       let b = body_of c.1.1 in
       let long : length c.0 ≡ length b.0.body = omega (arith, length-onto c.0 [], ap length b.2) in
       (b.0, b.1, subst (λ n. HasItem G g p n) long (item_of_valid c.1.1))
 
-  pub complete_of_item : (g : List Symbol) (p d : ℕ) (r : Rule) → IsRule G p r → length r.body ≤ d → HasItem G g p d
+  pub complete_of_item : (g : List Symbol) (p d : ℕ) (r : GrammarRule) → IsRule G p r → length r.body ≤ d → HasItem G g p d
       → IsComplete G g p
   complete_of_item g p d r is long i =
       let s = valid_of_item i in
@@ -183,7 +183,7 @@ module _ (G : Grammar) (augmented : IsAugmented G) (reduced : IsReduced G) where
       empty (X ∷ w) e = absurd (omega (arith, e))
 
   -- the dot of an item isn't past the body
-  pub item_within : {g : List Symbol} {p d : ℕ} → HasItem G g p d → (r : Rule) × IsRule G p r × (d ≤ length r.body)
+  pub item_within : {g : List Symbol} {p d : ℕ} → HasItem G g p d → (r : GrammarRule) × IsRule G p r × (d ≤ length r.body)
   item_within i =
       let s = valid_of_item i in
       let b = body_of s.valid in

@@ -10,7 +10,7 @@ use Rattle.ly_base.specs.Keys.{IsAbsent}
 use Rattle.ly_join.specs.Grammar.{Grammar, IsAugmented, Symbol, terminal}
 use Rattle.ly_grammar.specs.Derivations.{IsReduced}
 use Rattle.ly_grammar.specs.Items.{HasMoreCores, IsComplete, IsViable, SameCore}
-use Rattle.ly_lr0.specs.Automaton.{AreNumbered, Automaton, ComesBefore, HasCores, IsAutomaton, IsLess, IsState, Reaches}
+use Rattle.ly_lr0.specs.Automaton.{AreNumbered, Lr0Automaton, ComesBefore, HasCores, IsLr0Automaton, IsLess, IsState, Reaches}
 use Rattle.ly_lr0.specs.Automaton.{State, Transition, goto_of, prefix_of}
 use Rattle.ly_lr0.specs.declared.item.Item.{Item}
 use Rattle.ly_lr0.specs.declared.transition.Row.{Row}
@@ -29,7 +29,7 @@ module _ (G : Grammar) (augmented : IsAugmented G) (reduced : IsReduced G) (kern
     (links : List Link)
     (rs : List Row) (found : AreFound G kernels links (map transitions_of rs)) (full : length rs ≡ length kernels)
     (each : (s : ℕ) (r : Row) → slice_get rs s ≡ Some r → IsRowOf G (kernel_at kernels s) r) where
-  abbrev M : Automaton
+  abbrev M : Lr0Automaton
   M = record { grammar = G; states = states_of (prefixes_of links) rs }
 
   abbrev prefix : ℕ → List Symbol
@@ -123,7 +123,7 @@ module _ (G : Grammar) (augmented : IsAugmented G) (reduced : IsReduced G) (kern
         rising = subst (λ ps. AllPairs (λ p q. p < q) ps) (sym parts.complete) done.rising;
       }
 
-  pub is_automaton : IsAutomaton M
+  pub is_automaton : IsLr0Automaton M
   is_automaton = record {
     augmented = augmented;
     reduced = reduced;

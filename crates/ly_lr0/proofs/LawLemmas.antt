@@ -4,12 +4,12 @@ use Rattle.std.specs.Prelude.{length, slice_index_or}
 use Rattle.std.proofs.lemmas.Bool.{cases_eq, cases_lt}
 use Rattle.ly_base.proofs.PigeonholeLemmas.{pigeonhole}
 use Rattle.ly_join.specs.Grammar.{Symbol}
-use Rattle.ly_lr0.specs.Automaton.{Automaton, IsAutomaton, Reaches, goto_of}
+use Rattle.ly_lr0.specs.Automaton.{Lr0Automaton, IsLr0Automaton, Reaches, goto_of}
 use Rattle.ly_lr0.specs.Laws.{NoMoreCoresThanStates}
 use Rattle.ly_lr0.proofs.StateLemmas.{goto_some, target_some}
 
 -- strings lead to states that are there
-pub reached_within : (M : Automaton) → IsAutomaton M → (g : List Symbol) (s : ℕ) → Reaches (goto_of M) 0 g s
+pub reached_within : (M : Lr0Automaton) → IsLr0Automaton M → (g : List Symbol) (s : ℕ) → Reaches (goto_of M) 0 g s
     → s < length M.states
 reached_within M is [] s r = let some = is.some in omega (arith, r)
 reached_within M is (X ∷ g) s r =

@@ -7,7 +7,7 @@ use Rattle.std.proofs.lemmas.List.Elements.{Contains-get_or}
 use Rattle.ly_base.proofs.ListLemmas.{rising_one}
 use Rattle.ly_join.specs.Grammar.{Grammar, Symbol}
 use Rattle.ly_grammar.specs.Items.{IsComplete, SameCore}
-use Rattle.ly_lr0.specs.Automaton.{Automaton, ComesBefore, HasCores, IsAutomaton, IsLess, Reaches}
+use Rattle.ly_lr0.specs.Automaton.{Lr0Automaton, ComesBefore, HasCores, IsLr0Automaton, IsLess, Reaches}
 use Rattle.ly_lr0.specs.Automaton.{Transition, goto_of, prefix_of, state_at, target_of}
 use Rattle.ly_lr0.specs.Laws.{AutomatonIsOne}
 use Rattle.ly_lr0.proofs.LawLemmas.{reached_within}
@@ -19,18 +19,18 @@ same_itself : (G : Grammar) (g : List Symbol) → SameCore G g g
 same_itself G g p before after = (λ c. c, λ c. c)
 
 -- where it leads is what its transitions say, and its prefix is its own
-goes_by : (M : Automaton) (s : ℕ) (X : Symbol) → s < length M.states
+goes_by : (M : Lr0Automaton) (s : ℕ) (X : Symbol) → s < length M.states
     → goto_of M s X ≡ target_of (state_at M s).transitions X
 goes_by M s X lt = ap (option_and_then (λ q. target_of q.transitions X)) (state_there M s lt)
 
-prefix_at : (M : Automaton) (s : ℕ) → s < length M.states → prefix_of M s ≡ (state_at M s).prefix
+prefix_at : (M : Lr0Automaton) (s : ℕ) → s < length M.states → prefix_of M s ≡ (state_at M s).prefix
 prefix_at M s lt = get_or-map (λ q. q.prefix) M.states s (record { prefix = []; transitions = []; complete = [] }) [] lt
 
 -- the prefixes of all states
-abbrev prefixes : Automaton → List (List Symbol)
+abbrev prefixes : Lr0Automaton → List (List Symbol)
 prefixes M = map (λ q. q.prefix) M.states
 
-rising_prefixes : (M : Automaton) → IsAutomaton M → AllPairs ComesBefore (prefixes M)
+rising_prefixes : (M : Lr0Automaton) → IsLr0Automaton M → AllPairs ComesBefore (prefixes M)
 rising_prefixes M is i j d less within =
     let count = length-map M.states (λ q. q.prefix) in
     let a = get_or_default (prefixes M) i d [] (omega (arith, less, within)) in
@@ -38,7 +38,7 @@ rising_prefixes M is i j d less within =
     subst (λ g. ComesBefore g (get_or (prefixes M) j d)) (sym a)
     (subst (ComesBefore (prefix_of M i)) (sym b) (is.numbered.rising i j less (omega (arith, within, count))))
 
-module _ (M N : Automaton) (one : IsAutomaton M) (two : IsAutomaton N) (cores : HasCores M.grammar (goto_of N)) where
+module _ (M N : Lr0Automaton) (one : IsLr0Automaton M) (two : IsLr0Automaton N) (cores : HasCores M.grammar (goto_of N)) where
   -- the prefix of a state of the one is that of a state of the other
   prefix_too : (s : ℕ) → s < length M.states → (t : ℕ) × (t < length N.states) × (prefix_of N t ≡ prefix_of M s)
   prefix_too s lt =

@@ -8,7 +8,7 @@ use Rattle.std.proofs.lemmas.List.{length_push}
 use Rattle.std.proofs.lemmas.Option.{slice_get-get_or}
 use Rattle.ly_base.proofs.MemberLemmas.{Contains-none, Contains-cons_cases, Contains-first, Contains-later}
 use Rattle.ly_join.specs.Grammar.{Grammar, Symbol, nonterminal, symbol_of, terminal}
-use Rattle.ly_lr0.specs.Automaton.{Automaton, IsLess, State, Transition, goto_of, prefix_of, state_at, symbol_eq}
+use Rattle.ly_lr0.specs.Automaton.{Lr0Automaton, IsLess, State, Transition, goto_of, prefix_of, state_at, symbol_eq}
 use Rattle.ly_lr0.specs.Automaton.{target_of}
 use Rattle.ly_lr0.specs.declared.transition.Row.{Row}
 use Rattle.ly_lr0.specs.declared.transition.Link as link
@@ -98,7 +98,7 @@ state_parts (p ∷ ps) (r ∷ rs) (suc s) q e =
     record { row = t.row; is_row = t.is_row; prefix = t.prefix; transitions = t.transitions; complete = t.complete }
 
 -- the state of a number is there
-pub state_there : (M : Automaton) (s : ℕ) → s < length M.states → slice_get M.states s ≡ Some (state_at M s)
+pub state_there : (M : Lr0Automaton) (s : ℕ) → s < length M.states → slice_get M.states s ≡ Some (state_at M s)
 state_there M s lt = slice_get-get_or M.states s (record { prefix = []; transitions = []; complete = [] }) lt
 
 pub symbol_same : (X Y : Symbol) → symbol_eq X Y ≡ true → X ≡ Y

@@ -18,7 +18,7 @@ pub record State : Type 0 where
   pub complete : List ℕ
 
 -- The states of a grammar, by their numbers. The first is that of the empty string.
-pub record Automaton : Type 0 where
+pub record Lr0Automaton : Type 0 where
   pub grammar : Grammar
   pub states : List State
 
@@ -38,7 +38,7 @@ target_of [] X = None
 target_of (t ∷ ts) X = if symbol_eq t.symbol X then Some t.target else target_of ts X
 
 -- where the states of an automaton lead
-abbrev pub goto_of : Automaton → Gotos
+abbrev pub goto_of : Lr0Automaton → Gotos
 goto_of M q X = option_and_then (λ s. target_of s.transitions X) (slice_get M.states q)
 
 -- the string leads from one state to another
@@ -69,15 +69,15 @@ ComesBefore [] (Y ∷ h) = Unit {0}
 ComesBefore (X ∷ g) (Y ∷ h) = ComesBefore g h ⊎ ((g ≡ h) × IsLess X Y)
 
 -- the state of a number
-abbrev pub state_at : Automaton → ℕ → State
+abbrev pub state_at : Lr0Automaton → ℕ → State
 state_at M s = slice_index_or M.states s (record { prefix = []; transitions = []; complete = [] })
 
 -- the least string that leads to a state
-abbrev pub prefix_of : Automaton → ℕ → List Symbol
+abbrev pub prefix_of : Lr0Automaton → ℕ → List Symbol
 prefix_of M s = slice_index_or (map (λ q. q.prefix) M.states) s []
 
 -- Each state has the least string that leads to it as its prefix, and states are numbered by their prefixes.
-pub record AreNumbered (M : Automaton) : Type 0 where
+pub record AreNumbered (M : Lr0Automaton) : Type 0 where
   pub leads : (s : ℕ) → s < length M.states → Reaches (goto_of M) 0 (prefix_of M s) s
   pub least : (s : ℕ) (g : List Symbol) → Reaches (goto_of M) 0 g s
       → (g ≡ prefix_of M s) ⊎ ComesBefore (prefix_of M s) g
@@ -91,7 +91,7 @@ pub record IsState (G : Grammar) (count : ℕ) (s : State) : Type 0 where
   pub rising : AllPairs (λ p q. p < q) s.complete
 
 -- The states are the LR(0) automaton of the grammar, which is augmented and reduced.
-pub record IsAutomaton (M : Automaton) : Type 0 where
+pub record IsLr0Automaton (M : Lr0Automaton) : Type 0 where
   pub augmented : IsAugmented M.grammar
   pub reduced : IsReduced M.grammar
   pub some : 0 < length M.states

@@ -1,6 +1,6 @@
 ghost use Rattle.std.specs.Prelude.{◌≡◌, ◌≤◌, length, IfOk, IsErrOf};
 ghost use Rattle.ly_grammar.specs.Items.{HasMoreCores};
-ghost use Rattle.ly_lr0.specs.Automaton.{IsAutomaton};
+ghost use Rattle.ly_lr0.specs.Automaton.{IsLr0Automaton};
 
 use crate::by_left::rules_by_left;
 use crate::closing::{close, complete_rules, list_items, list_moves};
@@ -22,7 +22,7 @@ pub fn automaton<'a>(
     limits: &Limits,
 ) -> Result<Lr0<'a>, Lr0Fault>
     ensures grammar { IfOk result (λ a. a.grammar ≡ reduced.now.grammar) }
-    ensures automaton { IfOk result IsAutomaton }
+    ensures automaton { IfOk result IsLr0Automaton }
     ensures few { IfOk result (λ a. length a.states ≤ limits.now.parser_states) }
     ensures many { IsErrOf result Lr0Fault.TooManyStates
         → HasMoreCores reduced.now.grammar limits.now.parser_states }

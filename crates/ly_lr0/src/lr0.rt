@@ -26,9 +26,9 @@ pub struct Lr0<'a> {
 }
 
 impl<'a> Model for Lr0<'a> {
-    ghost use Rattle.ly_lr0.specs.Automaton.{Automaton};
+    ghost use Rattle.ly_lr0.specs.Automaton.{Lr0Automaton};
 
-    ghost Value = { Automaton };
+    ghost Value = { Lr0Automaton };
 
     ghost use Rattle.ly_lr0.specs.Private.Built.{automaton_from, IsBuilt};
 
@@ -38,8 +38,8 @@ impl<'a> Model for Lr0<'a> {
 }
 
 impl<'a> Lr0<'a> {
-    ghost use Rattle.ly_join.specs.Grammar.{IsRule, Rule};
-    ghost use Rattle.ly_lr0.specs.Automaton.{goto_of, prefix_of, state_at, IsAutomaton};
+    ghost use Rattle.ly_join.specs.Grammar.{IsRule, GrammarRule};
+    ghost use Rattle.ly_lr0.specs.Automaton.{goto_of, prefix_of, state_at, IsLr0Automaton};
 
     /// The grammar whose automaton it is.
     pub fn reduced(&self) -> &'a Reduced<'a>
@@ -52,7 +52,7 @@ impl<'a> Lr0<'a> {
     pub fn states(&self) -> usize
         ensures count { result ≡ length self.now.states }
         ensures few { result ≤ 4294967295 }
-        ensures lawful { IsAutomaton self.now }
+        ensures lawful { IsLr0Automaton self.now }
     {
         self.rows.len()
     }
@@ -85,7 +85,7 @@ impl<'a> Lr0<'a> {
     pub fn rules_of(&self, symbol: Sym) -> &[usize]
         requires { symbol.0 ≤ self.now.grammar.accept }
         ensures { (q : ℕ) → Contains result.now q
-            ↔ ((r : Rule) × IsRule self.now.grammar q r × (r.left ≡ symbol.0)) }
+            ↔ ((r : GrammarRule) × IsRule self.now.grammar q r × (r.left ≡ symbol.0)) }
     {
         self.by_left.of(symbol)
     }

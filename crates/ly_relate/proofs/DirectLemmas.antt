@@ -6,7 +6,7 @@ use Rattle.std.proofs.lemmas.List.Elements.{Contains-append_cases, Contains-appe
 use Rattle.ly_base.proofs.MemberLemmas.{Contains-none, Contains-one, Contains-first, Contains-later}
 use Rattle.ly_base.proofs.MemberLemmas.{Contains-cons_cases}
 use Rattle.ly_join.specs.Grammar.{Symbol, nonterminal, symbol_of, terminal}
-use Rattle.ly_lr0.specs.Automaton.{Automaton, IsAutomaton, Transition, goto_of, state_at}
+use Rattle.ly_lr0.specs.Automaton.{Lr0Automaton, IsLr0Automaton, Transition, goto_of, state_at}
 use Rattle.ly_lr0.specs.Transitions.{transition_of}
 use Rattle.ly_lr0.specs.declared.transition.Transition as code
 use Rattle.ly_lr0.proofs.StateLemmas.{target_some}
@@ -79,7 +79,7 @@ AreShifted n direct k = (m t : ℕ) → Contains direct (record { goto = m; term
     ↔ ((m < k) × IsShiftedBehind n.automaton n.gotos m t)
 
 -- where a state leads, by the transitions that stand in it
-pub state_leads : (M : Automaton) → IsAutomaton M → (s : ℕ) → s < length M.states → (X : Symbol) (r : ℕ)
+pub state_leads : (M : Lr0Automaton) → IsLr0Automaton M → (s : ℕ) → s < length M.states → (X : Symbol) (r : ℕ)
     → Contains (state_at M s).transitions (record { symbol = X; target = r }) ↔ (goto_of M s X ≡ Some r)
 state_leads M is s lt X r =
     let here = slice_get-get_or M.states s (record { prefix = []; transitions = []; complete = [] }) lt in

@@ -15,7 +15,7 @@ use Rattle.ly_base.proofs.ListLemmas.{AllPairs-append, AllPairs-head, AllPairs-n
 use Rattle.ly_join.specs.Grammar.{Symbol, nonterminal, symbol_of, terminal}
 use Rattle.ly_join.specs.declared.symbol.Symbol.TheVariants.{Terminal}
 use Rattle.ly_join.proofs.ListLemmas.{member_at, placed}
-use Rattle.ly_lr0.specs.Automaton.{Automaton, IsAutomaton, IsLess, State, Transition, goto_of, state_at, symbol_eq}
+use Rattle.ly_lr0.specs.Automaton.{Lr0Automaton, IsLr0Automaton, IsLess, State, Transition, goto_of, state_at, symbol_eq}
 use Rattle.ly_lr0.specs.Automaton.{target_of}
 use Rattle.std.proofs.Math.Seq.{get_or-append_seam}
 use Rattle.std.proofs.Math.ListN.{get_or-map}
@@ -226,7 +226,7 @@ from-append k (q ∷ xs) ys =
     (let e : suc k + length xs ≡ k + length (q ∷ xs) = omega arith in e))
     ∙ sym (append_assoc (row_gotos k q.transitions) (gotos_from (suc k) xs) (gotos_from (k + length (q ∷ xs)) ys))
 
-module _ (M : Automaton) (s : ℕ) (q : State) (is : slice_get M.states s ≡ Some q) where
+module _ (M : Lr0Automaton) (s : ℕ) (q : State) (is : slice_get M.states s ≡ Some q) where
   abbrev pub before : List Goto
   before = gotos_from 0 (take s M.states)
 
@@ -290,7 +290,7 @@ module _ (M : Automaton) (s : ℕ) (q : State) (is : slice_get M.states s ≡ So
         ((λ e. absurd (omega (arith, e, lt))), (λ b. let less = b.1 in absurd (omega (arith, le, more, less))))
 
 -- the states before one have no more transitions than those before the next, and all have
-pub counts_rise : (M : Automaton) (s : ℕ) (q : State) → slice_get M.states s ≡ Some q
+pub counts_rise : (M : Lr0Automaton) (s : ℕ) (q : State) → slice_get M.states s ≡ Some q
     → (count_before M s ≤ count_before M (suc s)) × (count_before M (suc s) ≤ length (gotos_from 0 M.states))
 counts_rise M s q is =
     let more = count_more M s q is in
@@ -299,16 +299,16 @@ counts_rise M s q is =
     (omega (arith, more), omega (arith, more, all))
 
 -- each state's transitions are ordered
-pub are_ordered : (M : Automaton) → IsAutomaton M → AreOrdered M.states
+pub are_ordered : (M : Lr0Automaton) → IsLr0Automaton M → AreOrdered M.states
 are_ordered M is n q at = (is.each n q at).ordered
 
 -- where a state leads
-pub goto_at : (M : Automaton) (s : ℕ) (q : State) (X : Symbol) → slice_get M.states s ≡ Some q
+pub goto_at : (M : Lr0Automaton) (s : ℕ) (q : State) (X : Symbol) → slice_get M.states s ≡ Some q
     → goto_of M s X ≡ target_of q.transitions X
 goto_at M s q X at = rw at refl
 
 -- what leads somewhere is a state
-pub leads_from : (M : Automaton) (s : ℕ) (X : Symbol) (r : ℕ) → goto_of M s X ≡ Some r
+pub leads_from : (M : Lr0Automaton) (s : ℕ) (X : Symbol) (r : ℕ) → goto_of M s X ≡ Some r
     → (q : State) × (slice_get M.states s ≡ Some q) × (target_of q.transitions X ≡ Some r)
 leads_from M s X r e = at (slice_get M.states s) refl e where
   at : (o : Option State) → slice_get M.states s ≡ o → option_and_then (λ q. target_of q.transitions X) o ≡ Some r
@@ -317,7 +317,7 @@ leads_from M s X r e = at (slice_get M.states s) refl e where
   at (Some q) here e = (q, here, e)
 
 -- the numbered transitions are the automaton's, each once
-pub are_gotos : (M : Automaton) → IsAutomaton M → AreGotos M (gotos_from 0 M.states)
+pub are_gotos : (M : Lr0Automaton) → IsLr0Automaton M → AreGotos M (gotos_from 0 M.states)
 are_gotos M is = record { are = are; all = all; once = λ n m x. once_in (gotos_from 0 M.states) n m x pairs } where
   pairs : AllPairs GotoIsLess (gotos_from 0 M.states)
   pairs = from_pairs 0 M.states (are_ordered M is)
@@ -341,7 +341,7 @@ are_gotos M is = record { are = are; all = all; once = λ n m x. once_in (gotos_
       (from_has 0 M.states p of.0 A r of.1 (target_some of.0.transitions (nonterminal A) r of.2)))
 
 -- a transition leads to a state, from one
-pub goto_states : (M : Automaton) → IsAutomaton M → (n : ℕ) (x : Goto) → slice_get (gotos_from 0 M.states) n ≡ Some x
+pub goto_states : (M : Lr0Automaton) → IsLr0Automaton M → (n : ℕ) (x : Goto) → slice_get (gotos_from 0 M.states) n ≡ Some x
     → (x.from < length M.states) × (x.target < length M.states)
 goto_states M is n x at =
     let of = from_member 0 M.states x (member_at (gotos_from 0 M.states) n x at) in
@@ -353,7 +353,7 @@ goto_states M is n x at =
     )
 
 -- what a numbering has: transitions between states, over nonterminals that rules name
-pub are_named : (M : Automaton) → IsAutomaton M → (n : ℕ) (x : Goto) → slice_get (gotos_from 0 M.states) n ≡ Some x
+pub are_named : (M : Lr0Automaton) → IsLr0Automaton M → (n : ℕ) (x : Goto) → slice_get (gotos_from 0 M.states) n ≡ Some x
     → x.symbol ≤ M.grammar.accept
 are_named M is n x at = symbol_named M.grammar (goto_of M) is.augmented is.cores ((are_gotos M is).are n x at)
 
@@ -424,7 +424,7 @@ range_of n s start end law lt at_start at_end =
     nothing = record { prefix = []; transitions = []; complete = [] }
 
 -- the transitions of one more state
-pub gotos_more : (M : Automaton) (k : ℕ) → k < length M.states
+pub gotos_more : (M : Lr0Automaton) (k : ℕ) → k < length M.states
     → gotos_from 0 (take (k + 1) M.states) ≡ gotos_from 0 (take k M.states) ++ row_gotos k (state_at M k).transitions
 gotos_more M k lt =
     let q = state_at M k in
@@ -438,7 +438,7 @@ gotos_more M k lt =
     ∙ ap (λ w. gotos_from 0 (take k M.states) ++ w) (append-nil (row_gotos k q.transitions))
 
 -- one more count of transitions
-pub firsts_more : (M : Automaton) (k : ℕ) (items new : List ℕ) (n : ℕ) → new ≡ items ++ n ∷ [] → length items ≡ k
+pub firsts_more : (M : Lr0Automaton) (k : ℕ) (items new : List ℕ) (n : ℕ) → new ≡ items ++ n ∷ [] → length items ≡ k
     → n ≡ count_before M k → ((s : ℕ) → s < k → slice_index_or items s 0 ≡ count_before M s)
     → (s : ℕ) → s < k + 1 → slice_index_or new s 0 ≡ count_before M s
 firsts_more M k items new n e long count known s lt = at (cases_order s k) where

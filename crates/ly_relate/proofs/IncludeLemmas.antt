@@ -7,7 +7,7 @@ use Rattle.ly_base.proofs.MemberLemmas.{Contains-first, Contains-one}
 use Rattle.ly_join.specs.Grammar.{Grammar, Symbol, nonterminal, terminal}
 use Rattle.ly_digraph.specs.Digraph.{Digraph, IsEdge}
 use Rattle.ly_grammar.specs.Derivations.{IsNullable}
-use Rattle.ly_lr0.specs.Automaton.{Automaton, goto_of}
+use Rattle.ly_lr0.specs.Automaton.{Lr0Automaton, goto_of}
 use Rattle.ly_relate.specs.Private.Walks.{AreEdgesTo, IsIncludedAt}
 use Rattle.ly_relate.specs.Related.{AreGotos, Goto}
 use Rattle.ly_relate.proofs.DirectLemmas.{goto_is}
@@ -18,7 +18,7 @@ use Rattle.ly_relate.proofs.WalkLemmas.{turned_more}
 use Rattle.std.proofs.Common.{take, append-nil}
 use Rattle.std.specs.Prelude.{reverse}
 use Rattle.std.proofs.lemmas.List.{reverse-reverse, take_all}
-use Rattle.ly_join.specs.Grammar.{IsRule, Rule}
+use Rattle.ly_join.specs.Grammar.{IsRule, GrammarRule}
 use Rattle.ly_grammar.specs.Items.{onto}
 use Rattle.ly_grammar.proofs.ItemLemmas.{length-onto}
 use Rattle.ly_grammar.proofs.SearchLemmas.{rule_is_one}
@@ -107,7 +107,7 @@ pub included_past : (G : Grammar) (gotos : List Goto) (body : List Symbol) (path
 included_past G gotos body path i (place, le, is) = let lt = is.within in omega (arith, le, lt)
 
 -- two transitions of one state over one symbol have one number
-one_goto : (M : Automaton) (gotos : List Goto) → AreGotos M gotos → (i j : ℕ) (x y : Goto) → slice_get gotos i ≡ Some x
+one_goto : (M : Lr0Automaton) (gotos : List Goto) → AreGotos M gotos → (i j : ℕ) (x y : Goto) → slice_get gotos i ≡ Some x
     → slice_get gotos j ≡ Some y → x.from ≡ y.from → x.symbol ≡ y.symbol → i ≡ j
 one_goto M gotos are i j x y at_x at_y from symbol =
     let same : Some x.target ≡ Some y.target
@@ -117,7 +117,7 @@ one_goto M gotos are i j x y at_x at_y from symbol =
     are.once i j y (subst (λ z. slice_get gotos i ≡ Some z) (goto_is x y from symbol target) at_x) at_y
 
 -- those from a place on are those behind it, and the one there
-pub included_more : (M : Automaton) (gotos : List Goto) (body : List Symbol) (path : List ℕ) (k A m : ℕ) (x : Goto)
+pub included_more : (M : Lr0Automaton) (gotos : List Goto) (body : List Symbol) (path : List ℕ) (k A m : ℕ) (x : Goto)
     → AreGotos M gotos → k < length body → slice_get body k ≡ Some (nonterminal A) → slice_get gotos m ≡ Some x
     → x.from ≡ slice_index_or path k 0 → x.symbol ≡ A → IsNullable M.grammar (drop (k + 1) body)
     → (i : ℕ) → IncludedFrom M.grammar gotos body path k i
@@ -152,7 +152,7 @@ included_more M gotos body path k A m x are lt is at from symbol null i = (to, b
   )
 
 -- where nothing leaves by the nonterminal, none is there
-pub included_none : (M : Automaton) (gotos : List Goto) (body : List Symbol) (path : List ℕ) (k A : ℕ)
+pub included_none : (M : Lr0Automaton) (gotos : List Goto) (body : List Symbol) (path : List ℕ) (k A : ℕ)
     → AreGotos M gotos
     → slice_get body k ≡ Some (nonterminal A) → goto_of M (slice_index_or path k 0) (nonterminal A) ≡ None
     → (i : ℕ) → IncludedFrom M.grammar gotos body path (k + 1) i ↔ IncludedFrom M.grammar gotos body path k i
@@ -231,7 +231,7 @@ pub record IsAt (G : Grammar) (body : List Symbol) (path : List ℕ) (k A q : �
   pub nullable : IsNullable G (drop (k + 1) body)
 
 -- the edges from a place on, where the transition that leaves there was found
-pub edges_found : (M : Automaton) (gotos : List Goto) (body : List Symbol) (path : List ℕ) (old g new : Digraph)
+pub edges_found : (M : Lr0Automaton) (gotos : List Goto) (body : List Symbol) (path : List ℕ) (old g new : Digraph)
     (n k A q m : ℕ) (x : Goto) → AreGotos M gotos → IsAt M.grammar body path k A q → slice_get gotos m ≡ Some x
     → x.from ≡ q → x.symbol ≡ A → AreEdgesTo g new n (λ i. i ≡ m)
     → AreEdgesTo old g n (IncludedFrom M.grammar gotos body path (k + 1))
@@ -243,7 +243,7 @@ edges_found M gotos body path old g new n k A q m x are place at from symbol e b
     e before
 
 -- and where there was none
-pub edges_lacking : (M : Automaton) (gotos : List Goto) (body : List Symbol) (path : List ℕ) (old g : Digraph)
+pub edges_lacking : (M : Lr0Automaton) (gotos : List Goto) (body : List Symbol) (path : List ℕ) (old g : Digraph)
     (n k A q : ℕ) → AreGotos M gotos → IsAt M.grammar body path k A q → goto_of M q (nonterminal A) ≡ None
     → AreEdgesTo old g n (IncludedFrom M.grammar gotos body path (k + 1))
     → AreEdgesTo old g n (IncludedFrom M.grammar gotos body path k)
@@ -255,7 +255,7 @@ edges_lacking M gotos body path old g n k A q are place lacks before =
 -- WALKS
 
 -- Where the symbols of a rule's body lead from where a transition begins, its lookback and what it includes are known.
-module _ (n : Numbering) (law : IsNumbering n) (m rule : ℕ) (y : Goto) (r : Rule) (at : slice_get n.gotos m ≡ Some y)
+module _ (n : Numbering) (law : IsNumbering n) (m rule : ℕ) (y : Goto) (r : GrammarRule) (at : slice_get n.gotos m ≡ Some y)
     (is_rule : IsRule n.automaton.grammar rule r) (is_left : r.left ≡ y.symbol) (path : List ℕ) (s : ℕ)
     (passed : IsPassed n.automaton y.from r.body (length r.body) path s) where
   -- a whole body, last symbol first
@@ -357,7 +357,7 @@ module _ (n : Numbering) (law : IsNumbering n) (m rule : ℕ) (y : Goto) (r : Ru
         )
 
 -- the body of a transition's rule leads on to its end
-pub never_stopped : (n : Numbering) → IsNumbering n → (m rule : ℕ) (y : Goto) (r : Rule) → slice_get n.gotos m ≡ Some y
+pub never_stopped : (n : Numbering) → IsNumbering n → (m rule : ℕ) (y : Goto) (r : GrammarRule) → slice_get n.gotos m ≡ Some y
     → IsRule n.automaton.grammar rule r → r.left ≡ y.symbol → IsStopped n.automaton y.from r.body → ⊥
 never_stopped n law m rule y r at is_rule is_left stop =
     let goes = (numbered_are n law).are m y at in

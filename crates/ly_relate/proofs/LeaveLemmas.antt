@@ -2,7 +2,7 @@
 use Rattle.std.proofs.Common.{◌≡◌, ◌≢◌, ◌∙◌, inl, inr, ℕ, zero, suc, List, [], ◌∷◌, ◌++◌, All, Some, arith}
 use Rattle.std.proofs.Common.{refl, sym, ap, subst, ◌≤◌, ◌<◌}
 use Rattle.std.proofs.lemmas.List.Elements.{All-head}
-use Rattle.ly_join.specs.Grammar.{Grammar, IsAugmented, IsRule, Rule, Symbol, SymbolWithin, accept_rule, nonterminal}
+use Rattle.ly_join.specs.Grammar.{Grammar, IsAugmented, IsRule, GrammarRule, Symbol, SymbolWithin, accept_rule, nonterminal}
 use Rattle.ly_join.specs.Grammar.{terminal}
 use Rattle.ly_grammar.specs.Derivations.{IsReduced}
 use Rattle.ly_grammar.specs.Items.{HasNoEnd, IsNextSymbol, Valid, at_start, closed, moved, onto}
@@ -13,7 +13,7 @@ use Rattle.ly_relate.specs.Relations.{Leaves}
 use Rattle.ly_relate.proofs.ReachLemmas.{Reaches-split, Reaches_one, apart, back}
 
 -- a symbol of a rule, but of rule 0, is one that rules may name
-pub symbol_within : {G : Grammar} {p : ℕ} {r : Rule} (before after : List Symbol) (X : Symbol) → IsAugmented G
+pub symbol_within : {G : Grammar} {p : ℕ} {r : GrammarRule} (before after : List Symbol) (X : Symbol) → IsAugmented G
     → IsRule G p r → 1 ≤ p → onto before (X ∷ after) ≡ r.body → SymbolWithin G.terminals G.accept X
 symbol_within {G} {p} {r} before after X augmented is le e =
     let all = (augmented.within p r is le).body in
@@ -148,7 +148,7 @@ module _ (G : Grammar) (goto : Gotos) (augmented : IsAugmented G) (automaton : H
           omega (arith, lt)
 
   -- a rule of a transition's nonterminal isn't rule 0
-  pub rule_past_zero : {s r : ℕ} (p : ℕ) (rule : Rule) → IsRule G p rule → goto s (nonterminal rule.left) ≡ Some r
+  pub rule_past_zero : {s r : ℕ} (p : ℕ) (rule : GrammarRule) → IsRule G p rule → goto s (nonterminal rule.left) ≡ Some r
       → 1 ≤ p
   rule_past_zero {s} {r} zero rule is e =
       let zeroth = rule_is_one G 0 rule (accept_rule G.accept G.start) is augmented.rule_0 in
@@ -156,7 +156,7 @@ module _ (G : Grammar) (goto : Gotos) (augmented : IsAugmented G) (automaton : H
   rule_past_zero {s} {r} (suc p) rule is e = omega arith
 
   -- what stands before another in a rule has no end in it
-  no_end_before : (p : ℕ) (r : Rule) (w rest : List Symbol) → IsRule G p r → 1 ≤ p → onto w rest ≡ r.body → HasNoEnd w
+  no_end_before : (p : ℕ) (r : GrammarRule) (w rest : List Symbol) → IsRule G p r → 1 ≤ p → onto w rest ≡ r.body → HasNoEnd w
   no_end_before p r [] rest is le e = tt
   no_end_before p r (X ∷ w) rest is le e = (
     (λ z. let within = symbol_within w rest X augmented is le e in
@@ -171,7 +171,7 @@ module _ (G : Grammar) (goto : Gotos) (augmented : IsAugmented G) (automaton : H
   no_end_both (X ∷ w) g a b = (a.0, no_end_both w g a.1 b)
 
   -- the body of a rule leads on from where a transition over its left side begins
-  pub body_leads : IsReduced G → (q : ℕ) (rule : Rule) → IsRule G q rule → (w rest : List Symbol)
+  pub body_leads : IsReduced G → (q : ℕ) (rule : GrammarRule) → IsRule G q rule → (w rest : List Symbol)
       → onto w rest ≡ rule.body → (p r : ℕ) → goto p (nonterminal rule.left) ≡ Some r → (s : ℕ) × Reaches goto p w s
   body_leads reduced q rule is w rest e p r goes =
       let waits = waits_for goes in

@@ -2,7 +2,7 @@
 use Rattle.std.proofs.Common.{◌≡◌, ◌≢◌, ◌∙◌, inl, inr, ℕ, List, [], ◌∷◌, ◌++◌, Some}
 use Rattle.std.proofs.Common.{refl, sym, ap, subst}
 use Rattle.ly_base.specs.Trees.{Tree, node, none, more, yield_of, yields_of}
-use Rattle.ly_join.specs.Grammar.{Grammar, IsRule, Rule, Symbol, nonterminal, terminal}
+use Rattle.ly_join.specs.Grammar.{Grammar, IsRule, GrammarRule, Symbol, nonterminal, terminal}
 use Rattle.ly_grammar.specs.Derivations.{First, IsNullable, IsTree}
 use Rattle.ly_grammar.specs.Items.{Valid, closed, moved}
 use Rattle.ly_grammar.proofs.ItemLemmas.{First-skip, First_trees}
@@ -58,7 +58,7 @@ pub record Waits (G : Grammar) (g : List Symbol) (X : Symbol) (after : List Symb
   pub takes_in : (v : ℕ) → First G after t v → First G rest behind v
 
 -- what begins a rule's body begins its left side
-First_of_body : (G : Grammar) (q : ℕ) (r : Rule) (B : ℕ) (after : List Symbol) (t u v : ℕ) → IsRule G q r → r.left ≡ B
+First_of_body : (G : Grammar) (q : ℕ) (r : GrammarRule) (B : ℕ) (after : List Symbol) (t u v : ℕ) → IsRule G q r → r.left ≡ B
     → First G after t u → First G r.body u v → First G (nonterminal B ∷ after) t v
 First_of_body G q r B after t u v e l f (inl b) =
     let us = First_trees f in

@@ -4,7 +4,7 @@ use Rattle.std.proofs.Common.{sym, ap, subst, length, slice_get, Contains}
 use Rattle.std.proofs.lemmas.List.Elements.{Contains-append_cases, Contains-append_left, Contains-append_right}
 use Rattle.ly_base.proofs.MemberLemmas.{Contains-first, Contains-one}
 use Rattle.ly_digraph.specs.Digraph.{Digraph}
-use Rattle.ly_join.specs.Grammar.{Grammar, IsRule, Rule, Symbol}
+use Rattle.ly_join.specs.Grammar.{Grammar, IsRule, GrammarRule, Symbol}
 use Rattle.ly_grammar.specs.Reduction.{KeepsUseful}
 use Rattle.ly_grammar.proofs.SearchLemmas.{rule_is_one}
 use Rattle.ly_relate.specs.Private.Gotos.{IsNumbering, Numbering}
@@ -18,15 +18,15 @@ use Rattle.ly_relate.proofs.IncludeLemmas.{Included, edges_same, includes_by, lo
 pub record IsWalked (n : Numbering) (m rule : ℕ) (body : List Symbol) (from : ℕ) : Type 0 where
   pub goto : Goto
   pub at : slice_get n.gotos m ≡ Some goto
-  pub own : Rule
+  pub own : GrammarRule
   pub is_rule : IsRule n.automaton.grammar rule own
   pub is_left : own.left ≡ goto.symbol
   pub is_body : body ≡ own.body
   pub begins : from ≡ goto.from
 
-pub walked : (n : Numbering) (m rule : ℕ) (g : goto.Goto) (G R : Grammar) (q : Rule) (body : List Symbol)
+pub walked : (n : Numbering) (m rule : ℕ) (g : goto.Goto) (G R : Grammar) (q : GrammarRule) (body : List Symbol)
     → slice_get n.gotos m ≡ Some (goto_from g)
-    → (x : Goto) × (slice_get n.gotos m ≡ Some x) × (r : Rule) × IsRule n.automaton.grammar rule r × (r.left ≡ x.symbol)
+    → (x : Goto) × (slice_get n.gotos m ≡ Some x) × (r : GrammarRule) × IsRule n.automaton.grammar rule r × (r.left ≡ x.symbol)
     → KeepsUseful G R → R ≡ n.automaton.grammar → IsRule G rule q → body ≡ q.body → IsWalked n m rule body g.from.0
 walked n m rule g G R q body here (x, at, r, is_rule, is_left) keeps same is e =
     let one : Some (goto_from g) ≡ Some x = sym here ∙ at in

@@ -14,7 +14,7 @@ use Rattle.ly_join.specs.declared.symbol.Symbol.TheVariants.{Terminal}
 use Rattle.ly_join.specs.Grammar.{Grammar, Symbol, symbol_of, terminal}
 use Rattle.ly_grammar.specs.Derivations.{IsNullable}
 use Rattle.ly_grammar.specs.Items.{onto}
-use Rattle.ly_lr0.specs.Automaton.{Automaton, IsAutomaton, Reaches, goto_of}
+use Rattle.ly_lr0.specs.Automaton.{Lr0Automaton, IsLr0Automaton, Reaches, goto_of}
 use Rattle.ly_relate.specs.Private.Walks.{IsPassed}
 use Rattle.std.proofs.lemmas.Bool.{cases_order}
 use Rattle.std.proofs.Math.Seq.{get_or-append_seam}
@@ -59,7 +59,7 @@ turned_more body k X is =
     ∙ (ap reverse (split_at body k X is).1 ∙ reverse-append (take k body) (X ∷ []))
 
 -- one more symbol that is passed
-pub passed_more : (M : Automaton) (from : ℕ) (body : List Symbol) (k : ℕ) (path new : List ℕ) (X : Symbol) (s t : ℕ)
+pub passed_more : (M : Lr0Automaton) (from : ℕ) (body : List Symbol) (k : ℕ) (path new : List ℕ) (X : Symbol) (s t : ℕ)
     → slice_get body k ≡ Some X → new ≡ path ++ s ∷ [] → goto_of M s X ≡ Some t → IsPassed M from body k path s
     → IsPassed M from body (k + 1) new t
 passed_more M from body k path new X s t is e goes before = record {
@@ -84,7 +84,7 @@ passed_more M from body k path new X s t is e goes before = record {
   at j lt (inr (inr above)) = absurd (omega (arith, lt, above))
 
 -- nothing is passed yet
-pub passed_none : (M : Automaton) (from : ℕ) (body : List Symbol) (path : List ℕ) → path ≡ []
+pub passed_none : (M : Lr0Automaton) (from : ℕ) (body : List Symbol) (path : List ℕ) → path ≡ []
     → IsPassed M from body 0 path from
 passed_none M from body path e = record {
   long = ap length e;
@@ -93,7 +93,7 @@ passed_none M from body path e = record {
 }
 
 -- where a symbol leads is a state
-pub leads_to : (M : Automaton) → IsAutomaton M → (s : ℕ) (X : Symbol) (t : ℕ) → goto_of M s X ≡ Some t
+pub leads_to : (M : Lr0Automaton) → IsLr0Automaton M → (s : ℕ) (X : Symbol) (t : ℕ) → goto_of M s X ≡ Some t
     → t < length M.states
 leads_to M is s X t e =
     let of = leads_from M s X t e in

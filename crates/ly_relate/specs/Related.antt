@@ -2,7 +2,7 @@
 use Rattle.std.specs.Prelude.{◌≡◌, ◌↔◌, ℕ, List, Some, slice_get, length, Contains}
 use Rattle.ly_join.specs.Grammar.{nonterminal}
 use Rattle.ly_digraph.specs.Digraph.{Digraph, IsEdge}
-use Rattle.ly_lr0.specs.Automaton.{Automaton, goto_of}
+use Rattle.ly_lr0.specs.Automaton.{Lr0Automaton, goto_of}
 use Rattle.ly_relate.specs.Relations.{DirectlyReads, Includes, LooksBack, Reads}
 
 -- A nonterminal transition: from a state by a nonterminal to a state.
@@ -31,7 +31,7 @@ pub record Relations : Type 0 where
   pub lookbacks : List Lookback
 
 -- the nonterminal transitions, each once
-pub record AreGotos (M : Automaton) (gotos : List Goto) : Type 0 where
+pub record AreGotos (M : Lr0Automaton) (gotos : List Goto) : Type 0 where
   pub are : (n : ℕ) (x : Goto) → slice_get gotos n ≡ Some x → goto_of M x.from (nonterminal x.symbol) ≡ Some x.target
   pub all : (p A r : ℕ) → goto_of M p (nonterminal A) ≡ Some r
       → (n : ℕ) × (slice_get gotos n ≡ Some (record { from = p; symbol = A; target = r }))
@@ -43,15 +43,15 @@ AreRelated gotos R i j = (x : Goto) × (y : Goto) × (slice_get gotos i ≡ Some
     × R x.from x.symbol y.from y.symbol
 
 -- transition i reads transition j
-abbrev pub IsRead : Automaton → List Goto → ℕ → ℕ → Type 0
+abbrev pub IsRead : Lr0Automaton → List Goto → ℕ → ℕ → Type 0
 IsRead M gotos = AreRelated gotos (Reads M.grammar (goto_of M))
 
 -- transition i includes transition j
-abbrev pub IsIncluding : Automaton → List Goto → ℕ → ℕ → Type 0
+abbrev pub IsIncluding : Lr0Automaton → List Goto → ℕ → ℕ → Type 0
 IsIncluding M gotos = AreRelated gotos (Includes M.grammar (goto_of M))
 
 -- exactly the terminals that each transition directly reads
-abbrev pub AreDirect : Automaton → List Goto → List DirectRead → Type 0
+abbrev pub AreDirect : Lr0Automaton → List Goto → List DirectRead → Type 0
 AreDirect M gotos direct = (n t : ℕ) → Contains direct (record { goto = n; terminal = t })
     ↔ ((x : Goto) × (slice_get gotos n ≡ Some x) × DirectlyReads M.grammar (goto_of M) x.from x.symbol t)
 
@@ -61,12 +61,12 @@ pub record AreEdges (gotos : List Goto) (R : ℕ → ℕ → Type 0) (g : Digrap
   pub edges : (i j : ℕ) → IsEdge g i j ↔ R i j
 
 -- exactly the transitions to which complete rules look back
-abbrev pub AreLookbacks : Automaton → List Goto → List Lookback → Type 0
+abbrev pub AreLookbacks : Lr0Automaton → List Goto → List Lookback → Type 0
 AreLookbacks M gotos lookbacks = (s p n : ℕ) → Contains lookbacks (record { state = s; rule = p; goto = n })
     ↔ ((x : Goto) × (slice_get gotos n ≡ Some x) × LooksBack M.grammar (goto_of M) s p x.from x.symbol)
 
 -- The pairs are exactly those of the relations of the automaton.
-pub record AreRelations (M : Automaton) (R : Relations) : Type 0 where
+pub record AreRelations (M : Lr0Automaton) (R : Relations) : Type 0 where
   pub gotos : AreGotos M R.gotos
   pub direct : AreDirect M R.gotos R.direct
   pub reads : AreEdges R.gotos (IsRead M R.gotos) R.reads

@@ -1,7 +1,7 @@
 -- The relations between nonterminal transitions (DeRemer and Pennello 1982, 4). A transition is a state and a
 -- nonterminal that leaves it.
 use Rattle.std.specs.Prelude.{◌≡◌, ℕ, List, [], ◌∷◌, Some}
-use Rattle.ly_join.specs.Grammar.{Grammar, IsRule, Rule, Symbol, nonterminal, terminal}
+use Rattle.ly_join.specs.Grammar.{Grammar, IsRule, GrammarRule, Symbol, nonterminal, terminal}
 use Rattle.ly_grammar.specs.Derivations.{IsNullable}
 use Rattle.ly_grammar.specs.Items.{IsNextSymbol, onto}
 use Rattle.ly_lr0.specs.Automaton.{Gotos, Reaches}
@@ -26,7 +26,7 @@ module _ (G : Grammar) (goto : Gotos) where
   -- (p, A) includes (q, B): in a rule of B, symbols that lead from q to p stand before A, and nullable ones behind it.
   pub record Includes (p A q B : ℕ) : Type 0 where
     pub number : ℕ
-    pub rule : Rule
+    pub rule : GrammarRule
     pub is_rule : IsRule G number rule
     pub is_left : rule.left ≡ B
     pub before : List Symbol
@@ -39,7 +39,7 @@ module _ (G : Grammar) (goto : Gotos) where
 
   -- (s, rule) looks back to (p, A): the body of the rule, which is one of A, leads from p to s.
   pub record LooksBack (s number p A : ℕ) : Type 0 where
-    pub rule : Rule
+    pub rule : GrammarRule
     pub is_rule : IsRule G number rule
     pub is_left : rule.left ≡ A
     pub before : List Symbol

@@ -2,7 +2,7 @@
 //! state to state, and back from its end, as long as what was passed is nullable.
 ghost use Rattle.std.specs.Prelude.{◌≡◌, ◌<◌, ◌≤◌, ℕ, length, map, slice_get, slice_index_or, All, IfOk, MatchOption};
 ghost use Rattle.std.specs.Prelude.{OnOk, Some};
-ghost use Rattle.ly_join.specs.Grammar.{symbol_of, IsRule, Rule, Symbol as symbols};
+ghost use Rattle.ly_join.specs.Grammar.{symbol_of, IsRule, GrammarRule, Symbol as symbols};
 ghost use Rattle.ly_relate.specs.Private.Walks.{AreBack, AreEdgesTo, IsIncludedAt, IsIncludingBy, IsLookingBack};
 ghost use Rattle.ly_relate.specs.Private.Walks.{IsPassed, IsStopped, HasNumberTo};
 ghost use Rattle.ly_relate.specs.Related as spec;
@@ -76,7 +76,7 @@ impl Walks {
     /// Walks a rule from where a transition begins.
     fn walk(&mut self, gotos: &Gotos<'_>, goto: usize, rule: usize) -> Result<(), OutOfMemory>
         requires rule { (x : spec.Goto) × (slice_get gotos.now.gotos goto ≡ Some x)
-            × (r : Rule) × IsRule gotos.now.automaton.grammar rule r × (r.left ≡ x.symbol) }
+            × (r : GrammarRule) × IsRule gotos.now.automaton.grammar rule r × (r.left ≡ x.symbol) }
         requires nodes { self.old.includes.nodes ≡ length gotos.now.gotos }
         ensures nodes { OnOk result (self.new.includes.nodes ≡ self.old.includes.nodes) }
         ensures includes { OnOk result (AreEdgesTo self.old.includes self.new.includes goto

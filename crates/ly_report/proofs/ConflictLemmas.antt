@@ -10,7 +10,7 @@ use Rattle.ly_join.specs.Sizes.{HasSizes}
 use Rattle.ly_grammar.specs.Items.{Valid, at_start, closed, moved}
 use Rattle.ly_grammar.specs.Reduction.{KeepsUseful}
 use Rattle.ly_grammar.proofs.ItemLemmas.{All-onto, body_of}
-use Rattle.ly_lr0.specs.Automaton.{Automaton}
+use Rattle.ly_lr0.specs.Automaton.{Lr0Automaton}
 use Rattle.ly_resolve.specs.Actions.{Judge}
 use Rattle.ly_resolve.specs.Conflicts as spec
 use Rattle.ly_resolve.specs.Conflicts.{AreConflicts, Kind}
@@ -34,7 +34,7 @@ module _ (s : Spec) (sizes : HasSizes s) (is : IsGrammar s.grammar) (R : Grammar
         (valid_named v)
 
 -- the conflicts of a specification can be printed
-pub are_tellable : (s : Spec) (M : Automaton) (judge : Judge) (conflicts : List Conflict) (told : List spec.Conflict)
+pub are_tellable : (s : Spec) (M : Lr0Automaton) (judge : Judge) (conflicts : List Conflict) (told : List spec.Conflict)
     → HasSizes s → IsGrammar s.grammar → KeepsUseful s.grammar M.grammar → AreConflicts M.grammar judge told
     → map (conflict_from M) conflicts ≡ told → All (IsInside M) conflicts → All (IsTellable s M) conflicts
 are_tellable s M judge conflicts told sizes is keeps are these inside k d lt = record {
@@ -60,7 +60,7 @@ are_tellable s M judge conflicts told sizes is keeps are these inside k d lt = r
     conflict = (are.are (conflict_from M (get_or conflicts k d))).0 there
 
 -- the kinds of conflicts
-pub kinds_same : (M : Automaton) (conflicts : List Conflict)
+pub kinds_same : (M : Lr0Automaton) (conflicts : List Conflict)
     → map (λ c. kind_from c.kind) conflicts ≡ map (λ c. c.kind) (map (conflict_from M) conflicts)
 kinds_same M [] = refl
 kinds_same M (c ∷ cs) = ap (λ l. kind_from c.kind ∷ l) (kinds_same M cs)

@@ -3,7 +3,7 @@ use Rattle.std.proofs.Common.{◌≡◌, ◌∙◌, inl, inr, ℕ, suc, ◌<◌,
 use Rattle.std.proofs.Common.{subst, arith, length, map, slice_get}
 use Rattle.std.specs.Prelude.{◌↔◌, flat_map}
 use Rattle.ly_base.proofs.ListLemmas.{rising_one}
-use Rattle.ly_join.specs.Grammar.{Grammar, Rule}
+use Rattle.ly_join.specs.Grammar.{Grammar, GrammarRule}
 use Rattle.ly_join.specs.Joined.{Spec}
 use Rattle.ly_grammar.specs.Reduction.{KeepsUseful}
 use Rattle.ly_lr0.specs.Automaton.{ComesBefore}
@@ -39,15 +39,15 @@ conflict_off c d (inr (_, inr (_, inr (same, a)))) (inr (_, inr (_, inl b))) =
 conflict_off c d (inr (_, inr (_, inr (_, a)))) (inr (_, inr (_, inr (_, b)))) = omega (arith, a, b)
 
 -- lists with the same rules under the same numbers are one
-rules_one : (xs ys : List (Option Rule)) → length xs ≡ length ys
-    → ((p : ℕ) (r : Rule) → slice_get xs p ≡ Some (Some r) ↔ slice_get ys p ≡ Some (Some r)) → xs ≡ ys
+rules_one : (xs ys : List (Option GrammarRule)) → length xs ≡ length ys
+    → ((p : ℕ) (r : GrammarRule) → slice_get xs p ≡ Some (Some r) ↔ slice_get ys p ≡ Some (Some r)) → xs ≡ ys
 rules_one [] [] long same = refl
 rules_one [] (y ∷ ys) long same = absurd (omega (arith, long))
 rules_one (x ∷ xs) [] long same = absurd (omega (arith, long))
 rules_one (x ∷ xs) (y ∷ ys) long same =
     ap (λ z. z ∷ xs) (head x y (same 0)) ∙ ap (λ zs. y ∷ zs) (rules_one xs ys (omega (arith, long)) (λ p. same (suc p)))
   where
-    head : (x y : Option Rule) → ((r : Rule) → Some x ≡ Some (Some r) ↔ Some y ≡ Some (Some r)) → x ≡ y
+    head : (x y : Option GrammarRule) → ((r : GrammarRule) → Some x ≡ Some (Some r) ↔ Some y ≡ Some (Some r)) → x ≡ y
     head None None same = refl
     head None (Some r) same = absurd (let e = (same r).1 refl in let off : None ≡ Some r → ⊥ = λ e. cc in off cc)
     head (Some r) y same = let e = (same r).0 refl in cc

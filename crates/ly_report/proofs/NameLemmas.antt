@@ -4,7 +4,7 @@ use Rattle.std.proofs.Common.{reverse, refl, sym, ap}
 use Rattle.std.proofs.Common.{subst, arith}
 use Rattle.std.proofs.lemmas.List.{map-append, reverse-append}
 use Rattle.std.proofs.lemmas.List.Elements.{All-cons, All-head, All-nil, All-push, All-tail}
-use Rattle.ly_join.specs.Grammar.{IsGrammar, IsRule, Rule, Symbol, SymbolWithin, nonterminal}
+use Rattle.ly_join.specs.Grammar.{IsGrammar, IsRule, GrammarRule, Symbol, SymbolWithin, nonterminal}
 use Rattle.ly_join.specs.Grammar.{symbol_of, terminal}
 use Rattle.ly_join.specs.Joined.{Spec}
 use Rattle.ly_join.specs.Sizes.{HasSizes}
@@ -52,14 +52,14 @@ all_within_named s sizes (X ∷ w) all =
     (all_within_named s sizes w (All-tail Within X w all))
 
 -- the symbols of rules have names
-pub left_named : (s : Spec) → HasSizes s → IsGrammar s.grammar → (p : ℕ) (r : Rule) → IsRule s.grammar p r → 1 ≤ p
+pub left_named : (s : Spec) → HasSizes s → IsGrammar s.grammar → (p : ℕ) (r : GrammarRule) → IsRule s.grammar p r → 1 ≤ p
     → IsNamed s (nonterminal r.left)
 left_named s sizes is p r rule le =
     let long = sizes.nonterminals in
     let lt = (is.augmented.within p r rule le).left in
     omega (arith, lt, long)
 
-pub body_named : (s : Spec) → HasSizes s → IsGrammar s.grammar → (p : ℕ) (r : Rule) → IsRule s.grammar p r
+pub body_named : (s : Spec) → HasSizes s → IsGrammar s.grammar → (p : ℕ) (r : GrammarRule) → IsRule s.grammar p r
     → All (IsNamed s) r.body
 body_named s sizes is zero r rule = named
   where

@@ -8,7 +8,7 @@ use Rattle.std.proofs.lemmas.Option.{slice_get_within}
 use Rattle.std.proofs.lemmas.List.Elements.{Contains-append_left, Contains-get_or, Contains-push, Contains-push_cases}
 use Rattle.std.proofs.lemmas.List.Quantifiers.{all_pairs_push}
 use Rattle.ly_base.proofs.MemberLemmas.{Contains-none}
-use Rattle.ly_join.specs.Grammar.{Grammar, IsGrammar, IsRule, Rule}
+use Rattle.ly_join.specs.Grammar.{Grammar, IsGrammar, IsRule, GrammarRule}
 use Rattle.ly_grammar.specs.Reduction.{KeepsUseful}
 use Rattle.ly_report.specs.Report.{AreRemoved, IsRemoved}
 
@@ -25,9 +25,9 @@ none_below G removed e = subst (AreRemovedBelow G 0) (sym e) (record {
 
 -- a rule that isn't kept is removed
 pub removed_one : (G R : Grammar) → IsGrammar G → KeepsUseful G R → (n : ℕ) → n < length G.rules
-    → ((r : Rule) × IsRule R n r → ⊥) → IsRemoved G n
+    → ((r : GrammarRule) × IsRule R n r → ⊥) → IsRemoved G n
 removed_one G R is keeps zero lt off = absurd (off (first.0, (keeps.rules 0 first.0).1 (first.1, inl refl))) where
-  first : (r : Rule) × IsRule G 0 r
+  first : (r : GrammarRule) × IsRule G 0 r
   first = is.whole 0 lt
 removed_one G R is keeps (suc n) lt off = (
   rule.0,
@@ -40,11 +40,11 @@ removed_one G R is keeps (suc n) lt off = (
   ),
 )
   where
-    rule : (r : Rule) × IsRule G (suc n) r
+    rule : (r : GrammarRule) × IsRule G (suc n) r
     rule = is.whole (suc n) lt
 
 -- and one that is kept isn't
-pub kept_one : (G R : Grammar) → KeepsUseful G R → (n : ℕ) → (r : Rule) × IsRule R n r → IsRemoved G n → ⊥
+pub kept_one : (G R : Grammar) → KeepsUseful G R → (n : ℕ) → (r : GrammarRule) × IsRule R n r → IsRemoved G n → ⊥
 kept_one G R keeps n (r, rule) (q, there, le, off) = elim ((keeps.rules n r).0 rule).1 [
   | inl z ↦ omega (arith, z, le)
   | inr useful ↦ off useful

@@ -6,7 +6,7 @@ use Rattle.std.specs.List.{count_by}
 use Rattle.std.specs.Fmt.{decimal}
 use Rattle.ly_base.specs.Bytes.{newline, space}
 use Rattle.ly_base.specs.Text as text
-use Rattle.ly_join.specs.Grammar.{Grammar, IsRule, Rule, Symbol, nonterminal, terminal}
+use Rattle.ly_join.specs.Grammar.{Grammar, IsRule, GrammarRule, Symbol, nonterminal, terminal}
 use Rattle.ly_join.specs.Joined.{Spec}
 use Rattle.ly_join.specs.Terminals.{TerminalName, byte, end, token, undefined}
 use Rattle.ly_grammar.specs.Derivations.{IsUseful}
@@ -37,7 +37,7 @@ spaced [] = []
 spaced (name ∷ names) = name ++ behind_spaces names
 
 -- a rule as it is printed
-abbrev pub rule_text : Spec → Option (Option Rule) → List ℕ
+abbrev pub rule_text : Spec → Option (Option GrammarRule) → List ℕ
 rule_text s (Some (Some r)) = symbol_name s (nonterminal r.left) ++ codes " :" ++ behind_spaces
     (map (symbol_name s) r.body)
 rule_text s _ = []
@@ -104,7 +104,7 @@ conflicts_text s conflicts = counts_text (map (λ c. c.kind) conflicts) ++ flat_
 
 -- rule p, and not rule 0, occurs in no tree of the start symbol
 abbrev pub IsRemoved : Grammar → ℕ → Type 0
-IsRemoved G p = (r : Rule) × IsRule G p r × (1 ≤ p) × (IsUseful G p → ⊥)
+IsRemoved G p = (r : GrammarRule) × IsRule G p r × (1 ≤ p) × (IsUseful G p → ⊥)
 
 -- All rules that are removed, rising.
 pub record AreRemoved (G : Grammar) (removed : List ℕ) : Type 0 where

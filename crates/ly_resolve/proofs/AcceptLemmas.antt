@@ -4,7 +4,7 @@ use Rattle.std.proofs.Common.{subst, arith, append_assoc, le_of_eq}
 use Rattle.std.proofs.lemmas.List.Elements.{All-head, All-tail}
 use Rattle.ly_base.specs.Lexed.{Token}
 use Rattle.ly_base.specs.Trees.{Tree, Trees, leaf, node, none, more, yield_of, yields_of}
-use Rattle.ly_join.specs.Grammar.{Grammar, IsAugmented, IsRule, Rule, Symbol, SymbolWithin, accept_rule, nonterminal}
+use Rattle.ly_join.specs.Grammar.{Grammar, IsAugmented, IsRule, GrammarRule, Symbol, SymbolWithin, accept_rule, nonterminal}
 use Rattle.ly_join.specs.Grammar.{terminal}
 use Rattle.ly_grammar.specs.Derivations.{AreTrees, First, IsTree}
 use Rattle.ly_grammar.specs.Items.{HasNoEnd, IsViable, Merges, Valid, at_start, closed, moved, onto}
@@ -100,7 +100,7 @@ module _ (G : Grammar) (judge : Judge) (augmented : IsAugmented G) (free : IsCon
   )
 
   -- a rule whose left side stands behind a dot isn't rule 0
-  past_zero : {g : List Symbol} {p : ℕ} {before after : List Symbol} {A t : ℕ} (q : ℕ) (r : Rule)
+  past_zero : {g : List Symbol} {p : ℕ} {before after : List Symbol} {A t : ℕ} (q : ℕ) (r : GrammarRule)
       → Valid G g p before (nonterminal A ∷ after) t → IsRule G q r → r.left ≡ A → 1 ≤ q
   past_zero {g} {p} {before} {after} {A} {t} zero r v is left =
       let zeroth = rule_is_one G 0 r (accept_rule G.accept G.start) is augmented.rule_0 in

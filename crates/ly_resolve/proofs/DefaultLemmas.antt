@@ -2,7 +2,7 @@
 use Rattle.std.proofs.Common.{◌≡◌, ℕ, List, [], ◌∷◌, ◌++◌, refl, sym, ◌∙◌, ap, subst, inl, inr}
 use Rattle.ly_base.specs.Lexed.{Token}
 use Rattle.ly_base.specs.Trees.{leaf, more, none, yields_of}
-use Rattle.ly_join.specs.Grammar.{Grammar, IsAugmented, IsRule, Rule, Symbol, nonterminal, terminal}
+use Rattle.ly_join.specs.Grammar.{Grammar, IsAugmented, IsRule, GrammarRule, Symbol, nonterminal, terminal}
 use Rattle.ly_grammar.specs.Derivations.{First, IsReduced}
 use Rattle.ly_grammar.specs.Items.{IsNextSymbol, Valid, closed, onto}
 use Rattle.ly_grammar.proofs.ItemLemmas.{body_of, read_on, trees_behind}
@@ -21,14 +21,14 @@ record Expects (G : Grammar) (g : List Symbol) (t : ℕ) : Type 0 where
   first : First G after behind t
 
 -- a rule is complete with a terminal that can come next behind its left side
-completes : {G : Grammar} {under : List Symbol} {t q : ℕ} (r : Rule) (before : List Symbol) → IsRule G q r
+completes : {G : Grammar} {under : List Symbol} {t q : ℕ} (r : GrammarRule) (before : List Symbol) → IsRule G q r
     → onto before [] ≡ r.body → Expects G (nonterminal r.left ∷ under) t → Valid G (before ++ under) q before [] t
 completes {t = t} r before is body e =
     let w = back e.item in
     read_on before [] (closed w.valid is refl body (w.takes_in t e.first))
 
 -- the body of a complete rule
-complete_body : {G : Grammar} {g before : List Symbol} {q t : ℕ} (r : Rule) → IsRule G q r → Valid G g q before [] t
+complete_body : {G : Grammar} {g before : List Symbol} {q t : ℕ} (r : GrammarRule) → IsRule G q r → Valid G g q before [] t
     → onto before [] ≡ r.body
 complete_body {G} {q = q} r is v =
     let body = body_of v in

@@ -9,7 +9,7 @@ use Rattle.ly_base.proofs.MemberLemmas.{Contains-first, Contains-none, Contains-
 use Rattle.ly_base.proofs.ListLemmas.{AllPairs-append}
 use Rattle.ly_join.specs.Grammar.{Grammar, Symbol}
 use Rattle.ly_grammar.specs.Items.{IsViable, Merges}
-use Rattle.ly_lr0.specs.Automaton.{Automaton, ComesBefore, IsAutomaton, Reaches, goto_of, prefix_of}
+use Rattle.ly_lr0.specs.Automaton.{Lr0Automaton, ComesBefore, IsLr0Automaton, Reaches, goto_of, prefix_of}
 use Rattle.ly_lr0.proofs.OrderLemmas.{before_trans, not_before_itself}
 use Rattle.ly_resolve.specs.Actions.{Action, Judge, Verdict, IsAction, IsConflictFree, IsDone, IsRaw, error}
 use Rattle.ly_resolve.specs.Actions.{reduce}
@@ -75,14 +75,14 @@ later_state : (s t k u : ℕ) → IsPast s t k u → IsPast (s + 1) 0 k u
 later_state s t k u (inl lt) = inl (omega (arith, lt))
 later_state s t k u (inr (e, lt)) = inl (omega (arith, e))
 
-pub told_start : (M : Automaton) (judge : Judge) → AreTold M judge 0 0 [] true
+pub told_start : (M : Lr0Automaton) (judge : Judge) → AreTold M judge 0 0 [] true
 told_start M judge = record {
   are = λ c. ((λ has. Contains-none c has), λ told. absurd (none_past told.state c.terminal told.past));
   ordered = λ i j d l m. absurd (omega (arith, m));
   free = ((λ e k u a b lt past x y. absurd (none_past k u past)), λ h. refl);
 }
 
-module _ (M : Automaton) (is : IsAutomaton M) (judge : Judge) (s t : ℕ) (lt : s < length M.states) where
+module _ (M : Lr0Automaton) (is : IsLr0Automaton M) (judge : Judge) (s t : ℕ) (lt : s < length M.states) where
   -- told of an entry before
   told_before : {c : Conflict} → IsToldOf M judge s t c → IsToldOf M judge s (t + 1) c
   told_before {c} told = record {
@@ -295,14 +295,14 @@ module _ (M : Automaton) (is : IsAutomaton M) (judge : Judge) (s t : ℕ) (lt : 
           let made : ℕ → Action → TerminalAction = λ n b. record { terminal = n; action = b } in
           ap (λ n. made n a) (sym e) ∙ ap (made x.terminal) same
 
-pub entries_start : (M : Automaton) (judge : Judge) (s : ℕ) → AreEntries M judge s 0 []
+pub entries_start : (M : Lr0Automaton) (judge : Judge) (s : ℕ) → AreEntries M judge s 0 []
 entries_start M judge s = record {
   ordered = λ i j d l m. absurd (omega (arith, m));
   are = λ x. ((λ has. Contains-none x has), λ w. absurd (let less = w.0 in omega (arith, less)));
   whole = λ u a less raw. absurd (omega (arith, less));
 }
 
-module _ (M : Automaton) (is : IsAutomaton M) (judge : Judge) where
+module _ (M : Lr0Automaton) (is : IsLr0Automaton M) (judge : Judge) where
   -- past the terminals the row is whole
   pub entries_all : (s n : ℕ) (row : List TerminalAction) → M.grammar.terminals ≤ n → AreEntries M judge s n row
       → IsRow M.grammar judge (prefix_of M s) row
@@ -434,9 +434,9 @@ rows_more f P (z ∷ xs) x all last (suc k) y at
     = rows_more f (λ n. P (suc n)) xs x (λ n w e. all (suc n) w e) last k y at
 
 -- once all states are gone through, all is resolved
-pub all_resolved : (s : Spec) (M : Automaton) (n : ℕ) (rows : List (Vec code.TerminalAction Global))
+pub all_resolved : (s : Spec) (M : Lr0Automaton) (n : ℕ) (rows : List (Vec code.TerminalAction Global))
     (cs : List conflict.Conflict)
-    (free : Bool) → IsAutomaton M → n ≡ length M.states → length rows ≡ n
+    (free : Bool) → IsLr0Automaton M → n ≡ length M.states → length rows ≡ n
     → ((k : ℕ) (row : List TerminalAction) → slice_get (map (λ r. map terminal_action_from r.items) rows) k ≡ Some row
     → IsRow M.grammar (judge_of s) (prefix_of M k) row)
     → AreTold M (judge_of s) n 0 (map (conflict_from M) cs) free → AreResolved s M (resolved_from s M rows cs free)

@@ -13,7 +13,7 @@ use Rattle.std.proofs.lemmas.Option.{get_or_from_slice_get, slice_get-map, slice
 use Rattle.ly_base.specs.Lexed.{Token}
 use Rattle.ly_base.specs.Trees.{Tree, Trees, leaf, node, none, more, yield_of, yields_of}
 use Rattle.ly_base.proofs.ListLemmas.{AllPairs-append}
-use Rattle.ly_join.specs.Grammar.{Grammar, IsAugmented, IsRule, Rule, Symbol, SymbolWithin, nonterminal}
+use Rattle.ly_join.specs.Grammar.{Grammar, IsAugmented, IsRule, GrammarRule, Symbol, SymbolWithin, nonterminal}
 use Rattle.ly_join.specs.Grammar.{terminal}
 use Rattle.ly_join.specs.Grammar.{accept_rule}
 use Rattle.ly_join.proofs.ListLemmas.{placed}
@@ -24,7 +24,7 @@ use Rattle.ly_grammar.specs.Items.{moved, onto}
 use Rattle.ly_grammar.proofs.ItemLemmas.{body_of}
 use Rattle.ly_grammar.proofs.SearchLemmas.{rule_is_one}
 use Rattle.ly_sets.specs.NumberSet.{Member}
-use Rattle.ly_lr0.specs.Automaton.{Automaton, IsAutomaton, Reaches, State, goto_of, prefix_of, state_at}
+use Rattle.ly_lr0.specs.Automaton.{Lr0Automaton, IsLr0Automaton, Reaches, State, goto_of, prefix_of, state_at}
 use Rattle.ly_lr0.proofs.StateLemmas.{state_there}
 use Rattle.ly_relate.specs.Relations.{Leaves}
 use Rattle.ly_relate.proofs.LeaveLemmas.{end_leaves, leaves_end, leaves_shift, shift_leaves}
@@ -81,7 +81,7 @@ all_below G (X ∷ w) all = below_cons X w (symbol X (All-head (SymbolWithin G.t
     below_cons X w x all zero d l = x
     below_cons X w x all (suc k) d l = all k d (omega (arith, l))
 
-rule_below : (G : Grammar) → IsAugmented G → (p : ℕ) (r : Rule) → IsRule G p r → All (IsBelow G.terminals) r.body
+rule_below : (G : Grammar) → IsAugmented G → (p : ℕ) (r : GrammarRule) → IsRule G p r → All (IsBelow G.terminals) r.body
 rule_below G augmented zero r is =
     subst (λ x. All (IsBelow G.terminals) x.body)
     (sym (rule_is_one G 0 r (accept_rule G.accept G.start) is augmented.rule_0))
@@ -151,11 +151,11 @@ module _ (G : Grammar) (augmented : IsAugmented G) where
 
 -- BY WHAT STANDS IN AN AUTOMATON
 
-pub prefix_at : (M : Automaton) (s : ℕ) (q : State) → slice_get M.states s ≡ Some q → prefix_of M s ≡ q.prefix
+pub prefix_at : (M : Lr0Automaton) (s : ℕ) (q : State) → slice_get M.states s ≡ Some q → prefix_of M s ≡ q.prefix
 prefix_at M s q at = get_or_from_slice_get (map (λ q. q.prefix) M.states) s q.prefix []
     (slice_get-map (λ q. q.prefix) M.states s ∙ ap (option_map (λ q. q.prefix)) at)
 
-module _ (M : Automaton) (is : IsAutomaton M) where
+module _ (M : Lr0Automaton) (is : IsLr0Automaton M) where
   -- the prefix of a state is viable
   pub viable : (s : ℕ) → s < length M.states → IsViable M.grammar (prefix_of M s)
   viable s lt = is.cores.only (prefix_of M s) s (is.numbered.leads s lt)

@@ -4,7 +4,7 @@ use Rattle.std.proofs.Common.{ap, subst, arith, append_assoc, append-nil}
 use Rattle.std.proofs.lemmas.List.{append_cancel_left, append_cancel_right}
 use Rattle.ly_base.specs.Lexed.{Token}
 use Rattle.ly_base.specs.Trees.{Tree, Trees, leaf, node, none, more, yield_of, yields_of}
-use Rattle.ly_join.specs.Grammar.{Grammar, IsAugmented, IsRule, Rule, Symbol, accept_rule, nonterminal, terminal}
+use Rattle.ly_join.specs.Grammar.{Grammar, IsAugmented, IsRule, GrammarRule, Symbol, accept_rule, nonterminal, terminal}
 use Rattle.ly_grammar.specs.Derivations.{AreTrees, Derives, IsReduced, IsSentencePrefix, IsTree}
 use Rattle.ly_grammar.specs.Items.{HasNoEnd, IsNextSymbol, IsViable, Valid, at_start, closed, moved, onto}
 use Rattle.ly_grammar.proofs.ItemLemmas.{First_trees, body_of, length-onto, trees_of_end, trees_to_come}
@@ -63,7 +63,7 @@ unread [] under w v = v
 unread (X ∷ before) under w v = unread before under (X ∷ w) (one_back v)
 
 -- an item whose rule begins waits for its left side
-pub waits : {G : Grammar} {g : List Symbol} {q t : ℕ} {w : List Symbol} → Valid G g q [] w t → 1 ≤ q → (r : Rule)
+pub waits : {G : Grammar} {g : List Symbol} {q t : ℕ} {w : List Symbol} → Valid G g q [] w t → 1 ≤ q → (r : GrammarRule)
     → IsRule G q r → IsNextSymbol G g (nonterminal r.left)
 waits (at_start is e) le r rule = absurd (omega arith)
 waits {G} (closed {g = g} {p = p} {before = before} {after = after} {B = B} {t = t} {q = q} {r = s} v is left e f) le r
@@ -195,7 +195,7 @@ pub record IsWhole (G : Grammar) (d : Tree) : Type 0 where
   pub yields : yield_of d ≡ yield_of sentence ++ end ∷ []
 
 -- rule 0 is that of the whole text alone
-only_zero : (G : Grammar) → IsAugmented G → (p : ℕ) (r : Rule) → IsRule G p r → r.left ≡ G.accept
+only_zero : (G : Grammar) → IsAugmented G → (p : ℕ) (r : GrammarRule) → IsRule G p r → r.left ≡ G.accept
     → r ≡ accept_rule G.accept G.start
 only_zero G augmented zero r is left = rule_is_one G 0 r (accept_rule G.accept G.start) is augmented.rule_0
 only_zero G augmented (suc p) r is left =

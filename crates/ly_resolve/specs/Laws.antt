@@ -2,7 +2,7 @@
 use Rattle.std.specs.Prelude.{◌≡◌, ◌≢◌, ◌↔◌, ℕ, List, [], ◌∷◌, ◌++◌, All}
 use Rattle.ly_base.specs.Lexed.{Token}
 use Rattle.ly_base.specs.Trees.{Tree, yield_of}
-use Rattle.ly_join.specs.Grammar.{Grammar, IsAugmented, IsRule, Rule, Symbol, nonterminal}
+use Rattle.ly_join.specs.Grammar.{Grammar, IsAugmented, IsRule, GrammarRule, Symbol, nonterminal}
 use Rattle.ly_grammar.specs.Derivations.{IsReduced, IsSentencePrefix, IsTree}
 use Rattle.ly_grammar.specs.Items.{InLookahead, IsViable, Valid}
 use Rattle.ly_resolve.specs.Actions.{IsConflictFree, IsRaw, Judge, shift}
@@ -83,12 +83,12 @@ ReadsToOne = (G : Grammar) (judge : Judge) (before : List (Token ℕ)) (a b : Li
 -- Reductions by rules that are complete, whatever terminal is next, lead from a string to another.
 pub data Reduces (G : Grammar) : List Symbol → List Symbol → Type 0 where
   here : {g : List Symbol} → Reduces G g g
-  onward : {g h : List Symbol} {q t : ℕ} {r : Rule} {before under : List Symbol} → IsRule G q r
+  onward : {g h : List Symbol} {q t : ℕ} {r : GrammarRule} {before under : List Symbol} → IsRule G q r
       → Valid G g q before [] t → g ≡ before ++ under → Reduces G (nonterminal r.left ∷ under) h → Reduces G g h
 
 -- Where reductions that begin with a rule end where a terminal is shifted, it is in the first one's lookahead. So a
 -- reduction by default, where no action is asked for, leads to no shift.
 abbrev pub DefaultsNeverMislead : Type 0
 DefaultsNeverMislead = (G : Grammar) → IsAugmented G → IsReduced G
-    → (g under h before : List Symbol) (q k t : ℕ) (r : Rule) → IsRule G q r → IsViable G g → Valid G g q before [] k
+    → (g under h before : List Symbol) (q k t : ℕ) (r : GrammarRule) → IsRule G q r → IsViable G g → Valid G g q before [] k
     → g ≡ before ++ under → Reduces G (nonterminal r.left ∷ under) h → IsRaw G h t shift → InLookahead G g q t

@@ -3,7 +3,7 @@
 use Rattle.std.specs.Prelude.{◌≡◌, ◌≢◌, ℕ, List, [], ◌∷◌, ◌++◌, ◌⊎◌, map}
 use Rattle.ly_base.specs.Lexed.{Token}
 use Rattle.ly_base.specs.Trees.{Tree, Trees, leaf, node, none, more}
-use Rattle.ly_join.specs.Grammar.{Grammar, IsRule, Rule, Symbol, nonterminal, terminal}
+use Rattle.ly_join.specs.Grammar.{Grammar, IsRule, GrammarRule, Symbol, nonterminal, terminal}
 use Rattle.ly_grammar.specs.Items.{onto}
 use Rattle.ly_resolve.specs.Actions.{IsAction, IsTerminalRefused, Judge, error, reduce, shift}
 
@@ -42,7 +42,7 @@ pub record Reduces (G : Grammar) (judge : Judge) (c d : Configuration) : Type 0 
   pub is_next : c.rest ≡ token ∷ behind
   pub kept : d.rest ≡ c.rest
   pub number : ℕ
-  pub rule : Rule
+  pub rule : GrammarRule
   pub is_rule : IsRule G number rule
   pub action : IsAction G judge (symbols_of c.stack) token.terminal (reduce number)
   pub popped : List Pushed

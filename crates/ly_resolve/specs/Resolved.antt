@@ -2,7 +2,7 @@
 use Rattle.std.specs.Prelude.{◌≡◌, ◌↔◌, ℕ, ◌<◌, List, Bool, Some, slice_get, length, AllPairs, Contains, IsTrue}
 use Rattle.ly_join.specs.Grammar.{Grammar, Symbol}
 use Rattle.ly_join.specs.Joined.{Spec}
-use Rattle.ly_lr0.specs.Automaton.{Automaton, State}
+use Rattle.ly_lr0.specs.Automaton.{Lr0Automaton, State}
 use Rattle.ly_resolve.specs.Actions.{Action, Judge, IsAction, IsConflictFree, IsRaw}
 use Rattle.ly_resolve.specs.Conflicts.{Conflict, AreConflicts}
 use Rattle.ly_resolve.specs.Precedence.{judge_of}
@@ -16,7 +16,7 @@ pub record TerminalAction : Type 0 where
 -- asked for anywhere.
 pub record Resolved : Type 0 where
   pub spec : Spec
-  pub automaton : Automaton
+  pub automaton : Lr0Automaton
   pub rows : List (List TerminalAction)
   pub conflicts : List Conflict
   pub conflict_free : Bool
@@ -30,7 +30,7 @@ pub record IsRow (G : Grammar) (judge : Judge) (g : List Symbol) (row : List Ter
 
 -- The rows are what is done in each state, the conflicts are those of the grammar, and it is said whether there is no
 -- conflict even before precedence is asked.
-pub record AreResolved (s : Spec) (M : Automaton) (r : Resolved) : Type 0 where
+pub record AreResolved (s : Spec) (M : Lr0Automaton) (r : Resolved) : Type 0 where
   pub spec : r.spec ≡ s
   pub automaton : r.automaton ≡ M
   pub states : length r.rows ≡ length M.states

@@ -3,7 +3,7 @@ use Rattle.std.specs.Prelude.{◌<◌, List, Bool, length, map}
 use Rattle.std.specs.declared.alloc.Global.{Global}
 use Rattle.std.specs.declared.vec.Vec.{Vec}
 use Rattle.ly_join.specs.Joined.{Spec}
-use Rattle.ly_lr0.specs.Automaton.{Automaton, prefix_of}
+use Rattle.ly_lr0.specs.Automaton.{Lr0Automaton, prefix_of}
 use Rattle.ly_resolve.specs.Actions.{Action, error, reduce, shift}
 use Rattle.ly_resolve.specs.Conflicts.{Conflict, Kind, reduce_reduce, shift_reduce}
 use Rattle.ly_resolve.specs.Resolved.{TerminalAction, Resolved}
@@ -27,7 +27,7 @@ kind_from ShiftReduce = shift_reduce
 kind_from ReduceReduce = reduce_reduce
 
 -- a conflict in a state is one at its prefix
-abbrev pub conflict_from : Automaton → conflict.Conflict → Conflict
+abbrev pub conflict_from : Lr0Automaton → conflict.Conflict → Conflict
 conflict_from M c = record {
   prefix = prefix_of M c.state.0;
   terminal = c.terminal.0;
@@ -37,11 +37,11 @@ conflict_from M c = record {
 }
 
 -- the conflict is in one of the states, before one of the terminals
-pub record IsInside (M : Automaton) (c : conflict.Conflict) : Type 0 where
+pub record IsInside (M : Lr0Automaton) (c : conflict.Conflict) : Type 0 where
   pub state : c.state.0 < length M.states
   pub terminal : c.terminal.0 < M.grammar.terminals
 
-abbrev pub resolved_from : Spec → Automaton → List (Vec entry.TerminalAction Global) → List conflict.Conflict → Bool
+abbrev pub resolved_from : Spec → Lr0Automaton → List (Vec entry.TerminalAction Global) → List conflict.Conflict → Bool
     → Resolved
 resolved_from s M rows conflicts free = record {
   spec = s;

@@ -1,7 +1,7 @@
 //! What is asked for in the states of an automaton.
 ghost use Rattle.std.specs.Prelude.{◌<◌, ◌↔◌, ℕ, length, AllPairs, Contains, IsTrue, OnOk};
 ghost use Rattle.ly_lookahead.specs.Lookaheads.{AreLookaheads};
-ghost use Rattle.ly_lr0.specs.Automaton.{prefix_of, IsAutomaton};
+ghost use Rattle.ly_lr0.specs.Automaton.{prefix_of, IsLr0Automaton};
 ghost use Rattle.ly_resolve.specs.Actions.{reduce, shift, IsRaw};
 
 use ly_base::{StateNo, Sym};
@@ -12,7 +12,7 @@ use std::alloc::AllocError;
 
 /// Whether a shift is asked for in a state before a terminal. Behind the start symbol that of the end is.
 pub(crate) fn asks_shift(lr0: &Lr0<'_>, state: StateNo, terminal: Sym) -> bool
-    requires lawful { IsAutomaton lr0.now }
+    requires lawful { IsLr0Automaton lr0.now }
     requires state { state.0 < length lr0.now.states }
     ensures { IsTrue result ↔ IsRaw lr0.now.grammar (prefix_of lr0.now state.0) terminal.0 shift }
 {
@@ -35,7 +35,7 @@ pub(crate) fn find_reductions(
     terminal: Sym,
     found: &mut Vec<usize>,
 ) -> Result<(), AllocError>
-    requires lawful { IsAutomaton lr0.now }
+    requires lawful { IsLr0Automaton lr0.now }
     requires state { state.0 < length lr0.now.states }
     requires lookaheads { AreLookaheads lr0.now lookaheads.now }
     ensures these { OnOk result ((p : ℕ) → Contains found.new.items p

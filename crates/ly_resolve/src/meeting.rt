@@ -1,6 +1,6 @@
 ghost use Rattle.std.specs.Prelude.{◌≡◌, ◌<◌, ◌++◌, ◌↔◌, ℕ, length, map, All, AllPairs, Contains, IsTrue, MatchOption};
 ghost use Rattle.std.specs.Prelude.{OnOk};
-ghost use Rattle.ly_lr0.specs.Automaton.{Automaton, prefix_of};
+ghost use Rattle.ly_lr0.specs.Automaton.{Lr0Automaton, prefix_of};
 ghost use Rattle.ly_resolve.specs.Actions as spec;
 ghost use Rattle.ly_resolve.specs.Actions.{Stays, IsDone, reduce, to_error, to_reduce};
 ghost use Rattle.ly_resolve.specs.Precedence.{judge_of};
@@ -109,11 +109,11 @@ impl<'a> Meeting<'a> {
         choice: Action,
         conflicts: &mut Vec<Conflict>,
     ) -> Result<(), AllocError>
-        ensures told { OnOk result ((M : Automaton) → map (conflict_from M) conflicts.new.items
+        ensures told { OnOk result ((M : Lr0Automaton) → map (conflict_from M) conflicts.new.items
             ≡ map (conflict_from M) conflicts.old.items ++ all_told (prefix_of M state.0) self.now.terminal.0
             self.now.shift self.now.reductions.now (λ p. judge_of self.now.spec.now p self.now.terminal.0)
             (action_from choice)) }
-        ensures inside { OnOk result ((M : Automaton) → state.0 < length M.states
+        ensures inside { OnOk result ((M : Lr0Automaton) → state.0 < length M.states
             → self.now.terminal.0 < M.grammar.terminals → All (IsInside M) conflicts.old.items
             → All (IsInside M) conflicts.new.items) }
     {
@@ -129,11 +129,11 @@ impl<'a> Meeting<'a> {
         choice: Action,
         conflicts: &mut Vec<Conflict>,
     ) -> Result<(), AllocError>
-        ensures told { OnOk result ((M : Automaton) → map (conflict_from M) conflicts.new.items
+        ensures told { OnOk result ((M : Lr0Automaton) → map (conflict_from M) conflicts.new.items
             ≡ map (conflict_from M) conflicts.old.items ++ told (prefix_of M state.0) self.now.terminal.0
             self.now.shift self.now.reductions.now (λ p. judge_of self.now.spec.now p self.now.terminal.0)
             (action_from choice) (kind_from kind)) }
-        ensures inside { OnOk result ((M : Automaton) → state.0 < length M.states
+        ensures inside { OnOk result ((M : Lr0Automaton) → state.0 < length M.states
             → self.now.terminal.0 < M.grammar.terminals → All (IsInside M) conflicts.old.items
             → All (IsInside M) conflicts.new.items) }
     {

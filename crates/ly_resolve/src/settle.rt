@@ -1,7 +1,7 @@
 ghost use Rattle.std.specs.Prelude.{◌≡◌, ◌<◌, ◌+◌, ◌↔◌, ◌++◌, length, map, All, AllPairs, IfOk, IsTrue, OnOk};
 ghost use Rattle.ly_grammar.specs.Reduction.{KeepsUseful};
 ghost use Rattle.ly_lookahead.specs.Lookaheads.{AreLookaheads};
-ghost use Rattle.ly_lr0.specs.Automaton.{prefix_of, Automaton, IsAutomaton};
+ghost use Rattle.ly_lr0.specs.Automaton.{prefix_of, Lr0Automaton, IsLr0Automaton};
 ghost use Rattle.ly_resolve.specs.Actions.{IsDone};
 ghost use Rattle.ly_resolve.specs.Precedence.{judge_of};
 ghost use Rattle.ly_resolve.specs.Private.Found.{AreTold};
@@ -83,7 +83,7 @@ fn resolve_state(
     state: StateNo,
     told: &mut Told,
 ) -> Result<Vec<TerminalAction>, OutOfMemory>
-    requires lawful { IsAutomaton sources.now.lr0.now }
+    requires lawful { IsLr0Automaton sources.now.lr0.now }
     requires state { state.0 < length sources.now.lr0.now.states }
     requires lookaheads { AreLookaheads sources.now.lr0.now sources.now.lookaheads.now }
     requires told { AreTold sources.now.lr0.now (judge_of sources.now.spec.now) state.0 0
@@ -131,11 +131,11 @@ impl Told {
         requires rising { AllPairs (λ p q. p < q) meeting.now.reductions.now }
         requires choice { IsDone (IsAskedBy meeting.now.shift meeting.now.reductions.now)
             (λ p. judge_of meeting.now.spec.now p meeting.now.terminal.0) (action_from choice) }
-        ensures told { OnOk result ((M : Automaton) → map (conflict_from M) self.new.conflicts.items
+        ensures told { OnOk result ((M : Lr0Automaton) → map (conflict_from M) self.new.conflicts.items
             ≡ map (conflict_from M) self.old.conflicts.items ++ all_told (prefix_of M state.0) meeting.now.terminal.0
             meeting.now.shift meeting.now.reductions.now
             (λ p. judge_of meeting.now.spec.now p meeting.now.terminal.0) (action_from choice)) }
-        ensures inside { OnOk result ((M : Automaton) → state.0 < length M.states
+        ensures inside { OnOk result ((M : Lr0Automaton) → state.0 < length M.states
             → meeting.now.terminal.0 < M.grammar.terminals → All (IsInside M) self.old.conflicts.items
             → All (IsInside M) self.new.conflicts.items) }
         ensures free { OnOk result (IsTrue self.new.conflict_free ↔ (IsTrue self.old.conflict_free

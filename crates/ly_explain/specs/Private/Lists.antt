@@ -3,7 +3,7 @@ use Rattle.std.specs.Prelude.{◌≡◌, ◌↔◌, ◌⊎◌, ◌<◌, ◌≤�
 use Rattle.std.specs.Prelude.{List, [], Some, length, slice_get, slice_index_or, Contains}
 use Rattle.ly_base.specs.declared.numbers.StateNo.{StateNo}
 use Rattle.ly_join.specs.Grammar.{Grammar, Symbol, nonterminal, symbol_of}
-use Rattle.ly_lr0.specs.Automaton.{Automaton, IsAutomaton, goto_of}
+use Rattle.ly_lr0.specs.Automaton.{Lr0Automaton, IsLr0Automaton, goto_of}
 use Rattle.ly_lr0.specs.declared.transition.Transition.{Transition}
 use Rattle.ly_explain.specs.Demands.{IsAhead}
 use Rattle.ly_explain.specs.Private.Uses.{HasSource}
@@ -13,7 +13,7 @@ use Rattle.ly_explain.specs.declared.incoming.Incoming.{Incoming}
 use Rattle.ly_explain.specs.Private.Grounds.{AreIncoming, AreUses}
 
 -- the transitions that leave the first n states, as those to which they lead have them
-pub record AreIncomingOf (M : Automaton) (lists : List (List Incoming)) (n : ℕ) : Type 0 where
+pub record AreIncomingOf (M : Lr0Automaton) (lists : List (List Incoming)) (n : ℕ) : Type 0 where
   pub count : length lists ≡ length M.states
   pub exact : (s : ℕ) (x : Incoming) → s < length M.states → Contains (slice_index_or lists s []) x
       ↔ ((x.from.0 < n) × (goto_of M x.from.0 (symbol_of x.symbol) ≡ Some s))
@@ -27,7 +27,7 @@ pub record AreUsesAdded (old new : List (List Item)) (body : List Symbol) (rule 
 
 -- an automaton, what leads to its states, what waits for its nonterminals, and a length for each state
 pub record IsGround (g : Ground) : Type 0 where
-  pub lawful : IsAutomaton g.lr0.now
+  pub lawful : IsLr0Automaton g.lr0.now
   pub incoming : AreIncoming g.lr0.now g.incoming
   pub uses : AreUses g.lr0.now.grammar g.uses
   pub lengths : length g.lengths.items ≡ length g.lr0.now.states

@@ -3,7 +3,7 @@ use Rattle.std.specs.Prelude.{◌≡◌, ◌≢◌, ◌⊎◌, ◌<◌, ◌≤�
 use Rattle.std.specs.Prelude.{AllPairs, Contains, option_map}
 use Rattle.ly_join.specs.Grammar.{symbol_of}
 use Rattle.ly_join.specs.declared.symbol.Symbol as code
-use Rattle.ly_lr0.specs.Automaton.{Automaton}
+use Rattle.ly_lr0.specs.Automaton.{Lr0Automaton}
 use Rattle.ly_explain.specs.Demands.{Follows, IsClimb, IsPop, IsStep}
 use Rattle.ly_explain.specs.declared.claim.Claim.TheVariants.{Settled}
 use Rattle.ly_explain.specs.declared.claim.Demand.{Demand}
@@ -13,11 +13,11 @@ use Rattle.ly_explain.specs.declared.search.Sought.{Sought}
 use Rattle.ly_explain.specs.Private.Kept.{IsKeptDemand}
 use Rattle.ly_explain.specs.Private.Lists.{IsGround}
 
-abbrev pub automaton_of : Sought → Automaton
+abbrev pub automaton_of : Sought → Lr0Automaton
 automaton_of w = w.ground.now.lr0.now
 
 -- the demand at a place was found by a step from that of its link, which stands before it
-abbrev pub IsLinked : Automaton → ℕ → List Demand → ℕ → Link → Type 0
+abbrev pub IsLinked : Lr0Automaton → ℕ → List Demand → ℕ → Link → Type 0
 IsLinked M t found k l = (l.from ≤ k) × ((d e : Demand) → slice_get found l.from ≡ Some d
     → slice_get found (suc k) ≡ Some e → IsStep M t (option_map symbol_of l.symbol) d e)
 
@@ -83,7 +83,7 @@ abbrev pub measure_of : Sought → Search → ℕ
 measure_of w s = (w.bound - s.climbed) + (w.bound - s.popped)
 
 -- more demands than a number follow from one
-pub record HasMore (M : Automaton) (t n : ℕ) (from : Demand) : Type 0 where
+pub record HasMore (M : Lr0Automaton) (t n : ℕ) (from : Demand) : Type 0 where
   pub demands : List Demand
   pub count : n < length demands
   pub apart : AllPairs (λ d e. d ≢ e) demands

@@ -3,7 +3,7 @@ use Rattle.std.specs.Prelude.{◌≡◌, ℕ, List, Bool, Some, slice_get, Conta
 use Rattle.ly_base.specs.declared.numbers.Sym.{Sym}
 use Rattle.ly_base.specs.declared.scan_action.Emitted.TheVariants.{Terminal as Own}
 use Rattle.ly_base.specs.declared.scan_action.ScanAction.{ScanAction}
-use Rattle.ly_join.specs.Grammar.{IsRule, Rule, Symbol, terminal}
+use Rattle.ly_join.specs.Grammar.{IsRule, GrammarRule, Symbol, terminal}
 use Rattle.ly_join.specs.Joined.{Spec}
 use Rattle.ly_join.specs.Terminals.{TerminalName, byte, IsNumbered}
 use Rattle.ly_explain.specs.Doubts.{IsTokenOrLiteral}
@@ -28,7 +28,7 @@ IsLiteralAt terminals marks k t = (t ≡ k) × IsLiteralOf terminals marks k
 
 -- the terminal stands in the body of the rule
 abbrev pub StandsIn : Spec → ℕ → ℕ → Type 0
-StandsIn s p t = (r : Rule) × IsRule s.grammar p r × Contains r.body (terminal t)
+StandsIn s p t = (r : GrammarRule) × IsRule s.grammar p r × Contains r.body (terminal t)
 
 -- the terminal stands at the place of a body
 abbrev pub StandsAt : List Symbol → ℕ → ℕ → Type 0

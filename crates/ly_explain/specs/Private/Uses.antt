@@ -2,7 +2,7 @@
 use Rattle.std.specs.Prelude.{◌≡◌, ℕ, List, Contains}
 use Rattle.ly_join.specs.Grammar.{Grammar, Symbol, symbol_of}
 use Rattle.ly_grammar.specs.Derivations.{BeginsYield, IsNullable}
-use Rattle.ly_lr0.specs.Automaton.{Automaton}
+use Rattle.ly_lr0.specs.Automaton.{Lr0Automaton}
 use Rattle.ly_explain.specs.Demands.{ClimbsTo, IsAhead, PopsTo}
 use Rattle.ly_explain.specs.declared.incoming.Incoming.{Incoming}
 use Rattle.ly_explain.specs.declared.steps.Pop.{Pop}
@@ -33,7 +33,7 @@ abbrev pub IsWithSecond : Demand → Claim → Demand → Type 0
 IsWithSecond d c e = (e.state ≡ d.state) × (e.second ≡ c) × (e.first ≡ d.first)
 
 -- the demand is climbed to by another claim for the rule of the conflict
-abbrev pub IsClimbOfFirst : Automaton → ℕ → Demand → Demand → Type 0
+abbrev pub IsClimbOfFirst : Lr0Automaton → ℕ → Demand → Demand → Type 0
 IsClimbOfFirst M t d e = (e.state ≡ d.state) × ClimbsTo M t d.state.0 d.first e.first × (e.second ≡ d.second)
 
 -- the demand is popped to by way of the transition

@@ -1,7 +1,7 @@
 -- What begins the strings of nonterminals, by rules.
 use Rattle.std.specs.Prelude.{◌≡◌, ◌↔◌, ◌⊎◌, ◌<◌, ℕ, List, [], ◌∷◌, Bool, if◌then◌else◌, false, Contains, length, map}
 use Rattle.std.specs.Prelude.{All}
-use Rattle.ly_join.specs.Grammar.{Grammar, Rule, IsRule, Symbol, terminal, nonterminal}
+use Rattle.ly_join.specs.Grammar.{Grammar, GrammarRule, IsRule, Symbol, terminal, nonterminal}
 use Rattle.ly_sets.specs.NumberSet.{Member}
 use Rattle.ly_sets.specs.SetMatrix.{Matrix, row}
 use Rattle.ly_grammar.specs.Private.Reach.{uses}
@@ -23,9 +23,9 @@ parts left w = map turned (uses left w)
 -- a string of the nonterminal may begin with the terminal: the opening of a rule's body has it, or has a nonterminal of
 -- which that is true
 pub data Starts (G : Grammar) (marks : List Bool) : ℕ → ℕ → Type 0 where
-  at_once : (p : ℕ) (r : Rule) (t : ℕ) → IsRule G p r → Contains (opening marks r.body) (terminal t)
+  at_once : (p : ℕ) (r : GrammarRule) (t : ℕ) → IsRule G p r → Contains (opening marks r.body) (terminal t)
       → Starts G marks r.left t
-  by_part : (p : ℕ) (r : Rule) (A t : ℕ) → IsRule G p r → Contains (opening marks r.body) (nonterminal A)
+  by_part : (p : ℕ) (r : GrammarRule) (A t : ℕ) → IsRule G p r → Contains (opening marks r.body) (nonterminal A)
       → Starts G marks A t → Starts G marks r.left t
 
 -- The terminals of a string were added to a row.
@@ -41,6 +41,6 @@ HasPlace width n (terminal t) = t < width
 HasPlace width n (nonterminal A) = A < n
 
 -- The symbols of a rule have places.
-pub record RuleHasPlaces (width n : ℕ) (r : Rule) : Type 0 where
+pub record RuleHasPlaces (width n : ℕ) (r : GrammarRule) : Type 0 where
   pub left : r.left < n
   pub body : All (HasPlace width n) r.body

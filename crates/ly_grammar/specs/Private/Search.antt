@@ -2,7 +2,7 @@
 use Rattle.std.specs.Prelude.{◌≡◌, ℕ, ◌<◌, ◌≤◌, ◌+◌, ◌*◌, List, [], ◌∷◌, ◌++◌, ◌⊎◌, Bool, true, false, slice_index_or}
 use Rattle.std.specs.Prelude.{slice_set, if◌then◌else◌, Contains, length, take, All, Option, Some, None, IfSome}
 use Rattle.ly_base.specs.Trees.{Tree, Trees, yield_of, yields_of}
-use Rattle.ly_join.specs.Grammar.{Grammar, Rule, IsRule, Symbol, symbol_of, terminal, nonterminal}
+use Rattle.ly_join.specs.Grammar.{Grammar, GrammarRule, IsRule, Symbol, symbol_of, terminal, nonterminal}
 use Rattle.ly_join.specs.declared.symbol.Symbol as code
 use Rattle.ly_grammar.specs.Derivations.{IsTree, AreTrees}
 
@@ -29,7 +29,7 @@ HasNumberBelow n (terminal t) = Unit {0}
 HasNumberBelow n (nonterminal A) = A < n
 
 -- the symbols of a rule are
-pub record RuleNumbered (n : ℕ) (r : Rule) : Type 0 where
+pub record RuleNumbered (n : ℕ) (r : GrammarRule) : Type 0 where
   pub left : r.left < n
   pub body : All (HasNumberBelow n) r.body
 
@@ -64,7 +64,7 @@ with_waiting s A p = record s { waiting = slice_set s.waiting A (waits_for s A +
 
 -- What is known of a rule: its left side was found; or a terminal stands in its way; or it waits for a nonterminal that
 -- wasn't found, or whose rules are still to be looked at; or it is itself to be looked at.
-pub data Settled (s : Progress) (pending : List ℕ) (p : ℕ) (r : Rule) : Type 0 where
+pub data Settled (s : Progress) (pending : List ℕ) (p : ℕ) (r : GrammarRule) : Type 0 where
   found : was_found s r.left ≡ true → Settled s pending p r
   stopped : (t : ℕ) → Contains r.body (terminal t) → s.terminals ≡ false → Settled s pending p r
   waiting : (A : ℕ) → Contains r.body (nonterminal A) → Contains (waits_for s A) p
@@ -72,7 +72,7 @@ pub data Settled (s : Progress) (pending : List ℕ) (p : ℕ) (r : Rule) : Type
   to_come : Contains pending p → Settled s pending p r
 
 -- the symbols and the rule have their places
-pub record HasPlaces (s : Progress) (p : ℕ) (r : Rule) : Type 0 where
+pub record HasPlaces (s : Progress) (p : ℕ) (r : GrammarRule) : Type 0 where
   pub rule : p < length s.passed
   pub waiting : length s.waiting ≡ length s.found
   pub numbered : RuleNumbered (length s.found) r
@@ -84,10 +84,10 @@ pub record IsSearch (G : Grammar) (s : Progress) : Type 0 where
   pub passed_long : length s.passed ≡ length G.rules
   pub waiting_long : length s.waiting ≡ G.accept + 1
   pub sound : (A : ℕ) → was_found s A ≡ true → HasTree G s.terminals (nonterminal A)
-  pub within : (p : ℕ) (r : Rule) → IsRule G p r → slice_index_or s.passed p 0 ≤ length r.body
-  pub passed : (p : ℕ) (r : Rule) → IsRule G p r
+  pub within : (p : ℕ) (r : GrammarRule) → IsRule G p r → slice_index_or s.passed p 0 ≤ length r.body
+  pub passed : (p : ℕ) (r : GrammarRule) → IsRule G p r
       → SymbolsPass s.found s.terminals (take (slice_index_or s.passed p 0) r.body)
-  pub rules_wait : (A p : ℕ) → Contains (waits_for s A) p → (r : Rule) × IsRule G p r
+  pub rules_wait : (A p : ℕ) → Contains (waits_for s A) p → (r : GrammarRule) × IsRule G p r
   pub queue_within : (A : ℕ) → Contains s.queue A → A < G.accept + 1
 
 -- how many weren't found
@@ -104,21 +104,21 @@ left_to_do s = 2 * unfound s.found + length s.queue
 pub record SearchGoesOn (G : Grammar) (s next : Progress) : Type 0 where
   pub search : IsSearch G next
   pub terminals : next.terminals ≡ s.terminals
-  pub others : (pending : List ℕ) (p : ℕ) (r : Rule) → Settled s pending p r → Settled next pending p r
+  pub others : (pending : List ℕ) (p : ℕ) (r : GrammarRule) → Settled s pending p r → Settled next pending p r
   pub work : left_to_do next ≤ left_to_do s
 
 -- it goes on, and rule p is settled
-pub record Advances (G : Grammar) (s next : Progress) (p : ℕ) (r : Rule) : Type 0 where
+pub record Advances (G : Grammar) (s next : Progress) (p : ℕ) (r : GrammarRule) : Type 0 where
   pub on : SearchGoesOn G s next
   pub settled : (pending : List ℕ) → Settled next pending p r
 
 -- all symbols of the rule's body pass, or this one stands in the way
-abbrev pub StopsAt : Progress → Rule → Option code.Symbol → Type 0
+abbrev pub StopsAt : Progress → GrammarRule → Option code.Symbol → Type 0
 StopsAt s r None = SymbolsPass s.found s.terminals r.body
 StopsAt s r (Some X) = Contains r.body (symbol_of X) × (passes s.found s.terminals (symbol_of X) ≡ false)
 
 -- More of the body of rule p passes than before, up to this symbol.
-pub record HasPassed (s next : Progress) (p : ℕ) (r : Rule) (stop : Option code.Symbol) : Type 0 where
+pub record HasPassed (s next : Progress) (p : ℕ) (r : GrammarRule) (stop : Option code.Symbol) : Type 0 where
   pub rest : next ≡ record s { passed = next.passed }
   pub inside : IfSome stop (λ X. Contains r.body (symbol_of X))
   pub on : (G : Grammar) → IsSearch G s → IsRule G p r → SearchGoesOn G s next

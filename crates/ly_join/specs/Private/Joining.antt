@@ -3,7 +3,7 @@ use Rattle.std.specs.Prelude.{◌≡◌, ◌<◌, ℕ, List, ◌∷◌, length, 
 use Rattle.std.specs.List.{AllZip}
 use Rattle.ly_yaccread.specs.File.{Written}
 use Rattle.ly_yaccread.specs.Rules.{Ruling}
-use Rattle.ly_join.specs.Grammar.{Rule, accept_rule, grammar_from}
+use Rattle.ly_join.specs.Grammar.{GrammarRule, accept_rule, grammar_from}
 use Rattle.ly_join.specs.Joined.{Note, Spec, SymbolTable}
 use Rattle.ly_join.specs.Numbering.{nonterminals_of, start_name, terminals_of}
 use Rattle.ly_join.specs.Precedences.{given, AreGivenOnce, HasPrecedence}
@@ -34,7 +34,7 @@ IsStartFault w m _ = ⊥
 
 -- All that a specification is made of is there: the end is terminal 0, every terminal has its precedence or none, the
 -- start symbol is a nonterminal, and the rules are those of a file.
-pub record IsReady (m : SymbolTable) (start : ℕ) (rules : List Rule) (notes : List Note) : Type 0 where
+pub record IsReady (m : SymbolTable) (start : ℕ) (rules : List GrammarRule) (notes : List Note) : Type 0 where
   pub first : slice_get m.terminals 0 ≡ Some end
   pub long : length m.precedences ≡ length m.terminals
   pub start_within : start < length m.nonterminals
@@ -42,7 +42,7 @@ pub record IsReady (m : SymbolTable) (start : ℕ) (rules : List Rule) (notes : 
   pub joined : RulesJoined m rulings rules notes
 
 -- the specification that is made of these
-abbrev pub spec_from : SymbolTable → ℕ → List Rule → List Note → List ScanAction → Spec
+abbrev pub spec_from : SymbolTable → ℕ → List GrammarRule → List Note → List ScanAction → Spec
 spec_from m start rules notes scanner = record {
   grammar = grammar_from (length m.terminals) (length m.nonterminals) start
       (accept_rule (length m.nonterminals) start ∷ rules);

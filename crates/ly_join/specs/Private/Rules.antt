@@ -4,7 +4,7 @@ use Rattle.std.specs.Prelude.{slice_index_or}
 use Rattle.std.specs.List.{flat_map}
 use Rattle.ly_yaccread.specs.Rules.{Ruling}
 use Rattle.ly_yaccread.specs.Words.{Word, name, literal}
-use Rattle.ly_join.specs.Grammar.{Rule, Symbol, terminal, nonterminal}
+use Rattle.ly_join.specs.Grammar.{GrammarRule, Symbol, terminal, nonterminal}
 use Rattle.ly_join.specs.Joined.{accept_note, AreJoined, Note, SymbolTable}
 use Rattle.ly_join.specs.Numbering.{rule_literals}
 use Rattle.ly_join.specs.Precedences.{AreGivenOnce, HasPrecedence, IsGivenTwice}
@@ -89,14 +89,14 @@ abbrev pub HaveNoTokenLeft : SymbolTable → List Ruling → Type 0
 HaveNoTokenLeft m rules = (n : List ℕ) → Contains (map (λ r. r.left) rules) n → Contains m.terminals (token n) → ⊥
 
 -- The rules are joined, and with them the note of rule 0.
-pub record RulesJoined (m : SymbolTable) (rulings : List Ruling) (rules : List Rule) (notes : List Note) : Type 0 where
+pub record RulesJoined (m : SymbolTable) (rulings : List Ruling) (rules : List GrammarRule) (notes : List Note) : Type 0 where
   pub rest : List Note
   pub all_notes : notes ≡ accept_note ∷ rest
   pub joined : AreJoined m rulings rules rest
   pub apart : HaveNoTokenLeft m rulings
 
 -- The rules are joined, where there are no more than this. What is kept of more is not said.
-abbrev pub AreJoinedWithin : ℕ → SymbolTable → List Ruling → List Rule → List Note → Type 0
+abbrev pub AreJoinedWithin : ℕ → SymbolTable → List Ruling → List GrammarRule → List Note → Type 0
 AreJoinedWithin most m rulings rules notes = length rulings ≤ most → RulesJoined m rulings rules notes
 
 -- what a fault says of what is returned; want of memory says nothing

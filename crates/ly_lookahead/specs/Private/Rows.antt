@@ -1,10 +1,10 @@
 -- The rows of lookahead sets: one for each transition over a nonterminal, and then one for each rule that is complete
 -- in a state, state by state.
 use Rattle.std.specs.Prelude.{◌≡◌, ◌<◌, ◌+◌, ℕ, suc, List, length, slice_index_or}
-use Rattle.ly_lr0.specs.Automaton.{Automaton, state_at}
+use Rattle.ly_lr0.specs.Automaton.{Lr0Automaton, state_at}
 
 -- for each of the first n states the row of the first rule that is complete in it, and at last how many rows there are
-pub record AreRows (M : Automaton) (gotos n : ℕ) (first : List ℕ) : Type 0 where
+pub record AreRows (M : Lr0Automaton) (gotos n : ℕ) (first : List ℕ) : Type 0 where
   pub long : length first ≡ suc n
   pub start : slice_index_or first 0 0 ≡ gotos
   pub next : (s : ℕ) → s < n

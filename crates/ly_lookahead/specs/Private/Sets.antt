@@ -2,7 +2,7 @@
 use Rattle.std.specs.Prelude.{◌≡◌, ◌↔◌, ◌⊎◌, ◌<◌, ◌≤◌, ◌+◌, ℕ, List, Contains, Some, length, slice_get, slice_index_or}
 use Rattle.ly_sets.specs.NumberSet.{NumberSet, Member}
 use Rattle.ly_sets.specs.SetMatrix.{row}
-use Rattle.ly_lr0.specs.Automaton.{Automaton, goto_of, state_at}
+use Rattle.ly_lr0.specs.Automaton.{Lr0Automaton, goto_of, state_at}
 use Rattle.ly_relate.specs.Related.{DirectRead, Goto, Lookback}
 use Rattle.ly_relate.specs.Relations.{Follow}
 
@@ -15,22 +15,22 @@ abbrev pub AreDirectSets : List DirectRead → List NumberSet → Type 0
 AreDirectSets direct sets = (i t : ℕ) → Member (row sets i) t ↔ Contains direct (record { goto = i; terminal = t })
 
 -- Each transition's row has what follows the transition, and the rows past them are empty.
-pub record AreFollowSets (M : Automaton) (gotos : List Goto) (sets : List NumberSet) : Type 0 where
+pub record AreFollowSets (M : Lr0Automaton) (gotos : List Goto) (sets : List NumberSet) : Type 0 where
   pub follows : (n t : ℕ) (x : Goto) → slice_get gotos n ≡ Some x
       → Member (row sets n) t ↔ Follow M.grammar (goto_of M) x.from x.symbol t
   pub fresh : (i t : ℕ) → length gotos ≤ i → Member (row sets i) t → ⊥
 
 -- the row is that of the rule that looks back, in the state where it is complete
-abbrev pub IsRowOf : Automaton → List ℕ → Lookback → ℕ → Type 0
+abbrev pub IsRowOf : Lr0Automaton → List ℕ → Lookback → ℕ → Type 0
 IsRowOf M first l r = (k : ℕ) × (slice_get (state_at M l.state).complete k ≡ Some l.rule)
     × (r ≡ slice_index_or first l.state 0 + k)
 
 -- a number comes to a row from one of the transitions to which its rule looks back
-abbrev pub ComesBack : Automaton → List ℕ → List Lookback → List NumberSet → ℕ → ℕ → Type 0
+abbrev pub ComesBack : Lr0Automaton → List ℕ → List Lookback → List NumberSet → ℕ → ℕ → Type 0
 ComesBack M first lookbacks sets r t =
     (l : Lookback) × Contains lookbacks l × IsRowOf M first l r × Member (row sets l.goto) t
 
 -- the rows after what comes to them along lookbacks
-abbrev pub AreLookedBack : Automaton → List ℕ → List Lookback → List NumberSet → List NumberSet → Type 0
+abbrev pub AreLookedBack : Lr0Automaton → List ℕ → List Lookback → List NumberSet → List NumberSet → Type 0
 AreLookedBack M first lookbacks old new = (r t : ℕ)
     → Member (row new r) t ↔ (Member (row old r) t ⊎ ComesBack M first lookbacks old r t)

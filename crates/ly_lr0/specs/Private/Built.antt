@@ -3,7 +3,7 @@ use Rattle.std.specs.Prelude.{◌≡◌, ◌≢◌, ◌↔◌, ◌⊎◌, ◌<�
 use Rattle.std.specs.Prelude.{Contains, AllPairs, fold}
 use Rattle.ly_base.specs.Keys.{IsAbsent}
 use Rattle.ly_join.specs.Grammar.{Grammar, Symbol, symbol_of, terminal}
-use Rattle.ly_lr0.specs.Automaton.{Automaton, IsAutomaton, IsLess, State, Transition}
+use Rattle.ly_lr0.specs.Automaton.{Lr0Automaton, IsLr0Automaton, IsLess, State, Transition}
 use Rattle.ly_lr0.specs.Transitions.{transition_of}
 use Rattle.ly_lr0.specs.declared.item.Item.{Item}
 use Rattle.ly_lr0.specs.declared.transition.Link as link
@@ -93,12 +93,12 @@ states_of (g ∷ prefixes) (r ∷ rows)
     = record { prefix = g; transitions = transitions_of r; complete = r.complete.items } ∷ states_of prefixes rows
 
 -- the automaton of a grammar, its links and its rows
-abbrev pub automaton_from : Grammar → List link.Link → List row.Row → Automaton
+abbrev pub automaton_from : Grammar → List link.Link → List row.Row → Lr0Automaton
 automaton_from G links rows = record { grammar = G; states = states_of (prefixes_of (map link_of links)) rows }
 
 -- It is an automaton, with a row for each state, links lead from states before, and rules stand by their left sides.
 pub record IsBuilt (G : Grammar) (links : List link.Link) (rows : List row.Row) (lists : List (List ℕ)) : Type 0 where
-  pub automaton : IsAutomaton (automaton_from G links rows)
+  pub automaton : IsLr0Automaton (automaton_from G links rows)
   pub count : length rows ≡ suc (length links)
   pub few : length rows ≤ 4294967295
   pub by_left : AreByLeft G lists

@@ -2,7 +2,7 @@
 use Rattle.std.specs.Prelude.{◌≡◌, ◌≢◌, ◌↔◌, ◌⊎◌, ◌<◌, ◌≤◌, ◌+◌, ◌++◌, ℕ, suc, List, [], length, slice_index_or}
 use Rattle.std.specs.Prelude.{AllPairs, Contains}
 use Rattle.ly_base.specs.SparseSet.{Chosen}
-use Rattle.ly_join.specs.Grammar.{Grammar, IsAugmented, IsRule, Rule, nonterminal, symbol_of, terminal}
+use Rattle.ly_join.specs.Grammar.{Grammar, IsAugmented, IsRule, GrammarRule, nonterminal, symbol_of, terminal}
 use Rattle.ly_lr0.specs.Automaton.{IsLess}
 use Rattle.ly_lr0.specs.Private.Items.{IsBehind, IsClosed, IsMoved, item_cmp}
 use Rattle.ly_lr0.specs.declared.item.Item.{Item}
@@ -14,11 +14,11 @@ pub record AreByLeft (G : Grammar) (lists : List (List ℕ)) : Type 0 where
   pub augmented : IsAugmented G
   pub count : length lists ≡ G.accept + 1
   pub rules : (A q : ℕ) → A ≤ G.accept
-      → Contains (slice_index_or lists A []) q ↔ ((r : Rule) × IsRule G q r × (r.left ≡ A))
+      → Contains (slice_index_or lists A []) q ↔ ((r : GrammarRule) × IsRule G q r × (r.left ≡ A))
 
 -- the rule is one of the grammar's
 abbrev pub IsKept : Grammar → ℕ → Type 0
-IsKept G p = (r : Rule) × IsRule G p r
+IsKept G p = (r : GrammarRule) × IsRule G p r
 
 -- the rules of all items are
 abbrev pub AreKept : Grammar → List Item → Type 0
@@ -26,7 +26,7 @@ AreKept G items = (i : Item) → Contains items i → IsKept G i.rule
 
 -- the dot of the item stands behind its whole rule
 abbrev pub IsAtEnd : Grammar → Item → Type 0
-IsAtEnd G i = (r : Rule) × IsRule G i.rule r × (length r.body ≤ i.dot)
+IsAtEnd G i = (r : GrammarRule) × IsRule G i.rule r × (length r.body ≤ i.dot)
 
 -- what the item moves to
 pub record IsMove (G : Grammar) (i : Item) (m : Move) : Type 0 where
@@ -67,7 +67,7 @@ pub record AreMoves (G : Grammar) (kernel : List Item) (moves : List Move) : Typ
 -- The rules whose dots stand behind them among the items that a kernel closes to, rising.
 pub record AreComplete (G : Grammar) (kernel : List Item) (rules : List ℕ) : Type 0 where
   pub each : (p : ℕ) → Contains rules p
-      ↔ ((r : Rule) × (d : ℕ) × IsRule G p r × IsClosed G kernel p d × (length r.body ≤ d))
+      ↔ ((r : GrammarRule) × (d : ℕ) × IsRule G p r × IsClosed G kernel p d × (length r.body ≤ d))
   pub rising : AllPairs (λ p q. p < q) rules
 
 -- the item is one of the kernel, or a rule of an entered nonterminal with nothing before its dot

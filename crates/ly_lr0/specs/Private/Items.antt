@@ -3,24 +3,24 @@ use Rattle.std.specs.Prelude.{◌≡◌, ◌↔◌, ℕ, suc, ◌<◌, List, [],
 use Rattle.std.specs.declared.cmp.Ordering.{Ordering}
 use Rattle.std.specs.declared.cmp.Ordering.TheVariants.{Less}
 use Rattle.std.specs.Ordering.{nat_cmp, ordering_then}
-use Rattle.ly_join.specs.Grammar.{Grammar, IsRule, Rule, Symbol, nonterminal}
+use Rattle.ly_join.specs.Grammar.{Grammar, IsRule, GrammarRule, Symbol, nonterminal}
 use Rattle.ly_lr0.specs.declared.item.Item.{Item}
 
 -- the symbol stands behind the first d of the body of rule p
 abbrev pub IsBehind : Grammar → ℕ → ℕ → Symbol → Type 0
-IsBehind G p d X = (r : Rule) × IsRule G p r × (slice_get r.body d ≡ Some X)
+IsBehind G p d X = (r : GrammarRule) × IsRule G p r × (slice_get r.body d ≡ Some X)
 
 -- the item is one of the string's core
 pub data HasItem (G : Grammar) : List Symbol → ℕ → ℕ → Type 0 where
   at_start : HasItem G [] 0 0
-  closed : {g : List Symbol} {p d B q : ℕ} {r : Rule} → HasItem G g p d → IsBehind G p d (nonterminal B)
+  closed : {g : List Symbol} {p d B q : ℕ} {r : GrammarRule} → HasItem G g p d → IsBehind G p d (nonterminal B)
       → IsRule G q r → r.left ≡ B → HasItem G g q 0
   moved : {g : List Symbol} {p d : ℕ} {X : Symbol} → HasItem G g p d → IsBehind G p d X → HasItem G (X ∷ g) p (suc d)
 
 -- the item is one of those that the kernel closes to
 pub data IsClosed (G : Grammar) (kernel : List Item) : ℕ → ℕ → Type 0 where
   given : {p d : ℕ} → Contains kernel (record { rule = p; dot = d }) → IsClosed G kernel p d
-  added : {p d B q : ℕ} {r : Rule} → IsClosed G kernel p d → IsBehind G p d (nonterminal B) → IsRule G q r
+  added : {p d B q : ℕ} {r : GrammarRule} → IsClosed G kernel p d → IsBehind G p d (nonterminal B) → IsRule G q r
       → r.left ≡ B → IsClosed G kernel q 0
 
 -- the nonterminal stands behind the dot of one of those
@@ -43,7 +43,7 @@ SameItems G g h = (p d : ℕ) → HasItem G g p d ↔ HasItem G h p d
 
 -- the item is a rule's, which is kept, and its dot isn't past the body
 abbrev pub IsItem : Grammar → Item → Type 0
-IsItem G i = (r : Rule) × IsRule G i.rule r × (i.dot < suc (length r.body))
+IsItem G i = (r : GrammarRule) × IsRule G i.rule r × (i.dot < suc (length r.body))
 
 -- items by rules and then by dots
 abbrev pub item_cmp : Item → Item → Ordering

@@ -1,7 +1,7 @@
 -- The terminals that leave states by transitions.
 use Rattle.std.specs.Prelude.{◌≡◌, ◌++◌, ℕ, List, [], ◌∷◌, Some, slice_get}
 use Rattle.ly_join.specs.Grammar.{Symbol, nonterminal, terminal}
-use Rattle.ly_lr0.specs.Automaton.{Automaton, Transition, goto_of}
+use Rattle.ly_lr0.specs.Automaton.{Lr0Automaton, Transition, goto_of}
 use Rattle.ly_relate.specs.Related.{DirectRead, Goto}
 
 -- what a transition over a terminal adds to what another one directly reads
@@ -15,6 +15,6 @@ row_reads n [] = []
 row_reads n (t ∷ ts) = read_over n t.symbol ++ row_reads n ts
 
 -- a terminal leaves, by a transition of the automaton, the state to which transition n leads
-abbrev pub IsShiftedBehind : Automaton → List Goto → ℕ → ℕ → Type 0
+abbrev pub IsShiftedBehind : Lr0Automaton → List Goto → ℕ → ℕ → Type 0
 IsShiftedBehind M gotos n t =
     (x : Goto) × (slice_get gotos n ≡ Some x) × (r : ℕ) × (goto_of M x.target (terminal t) ≡ Some r)

@@ -1,12 +1,12 @@
 -- Transitions over nonterminals as they are numbered: state by state.
 use Rattle.std.specs.Prelude.{◌≡◌, ◌≤◌, ◌++◌, ℕ, suc, List, [], ◌∷◌, length, slice_index_or, take}
 use Rattle.ly_join.specs.Grammar.{Symbol, nonterminal, terminal}
-use Rattle.ly_lr0.specs.Automaton.{Automaton, IsAutomaton, State, Transition}
+use Rattle.ly_lr0.specs.Automaton.{Lr0Automaton, IsLr0Automaton, State, Transition}
 use Rattle.ly_relate.specs.Related.{Goto}
 
 -- the numbered transitions of an automaton, and for each state the number of its first, and at last their count
 pub record Numbering : Type 0 where
-  pub automaton : Automaton
+  pub automaton : Lr0Automaton
   pub gotos : List Goto
   pub first : List ℕ
 
@@ -26,12 +26,12 @@ gotos_from s [] = []
 gotos_from s (q ∷ states) = row_gotos s q.transitions ++ gotos_from (suc s) states
 
 -- how many transitions over nonterminals the states before one have
-abbrev pub count_before : Automaton → ℕ → ℕ
+abbrev pub count_before : Lr0Automaton → ℕ → ℕ
 count_before M s = length (gotos_from 0 (take s M.states))
 
 -- The transitions are those of the automaton, state by state.
 pub record IsNumbering (n : Numbering) : Type 0 where
-  pub lawful : IsAutomaton n.automaton
+  pub lawful : IsLr0Automaton n.automaton
   pub gotos : n.gotos ≡ gotos_from 0 n.automaton.states
   pub long : length n.first ≡ suc (length n.automaton.states)
   pub first : (s : ℕ) → s ≤ length n.automaton.states → slice_index_or n.first s 0 ≡ count_before n.automaton s

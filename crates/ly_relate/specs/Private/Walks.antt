@@ -4,7 +4,7 @@ use Rattle.std.specs.Prelude.{slice_get, slice_index_or, Contains}
 use Rattle.ly_join.specs.Grammar.{Grammar, Symbol, nonterminal, terminal}
 use Rattle.ly_digraph.specs.Digraph.{Digraph, IsEdge}
 use Rattle.ly_grammar.specs.Derivations.{IsNullable}
-use Rattle.ly_lr0.specs.Automaton.{Automaton, Reaches, goto_of}
+use Rattle.ly_lr0.specs.Automaton.{Lr0Automaton, Reaches, goto_of}
 use Rattle.ly_relate.specs.Relations.{Includes, LooksBack}
 use Rattle.ly_relate.specs.Related.{Goto, Lookback}
 
@@ -27,13 +27,13 @@ AreBack old new n P = (s p m : ℕ) → Contains new (record { state = s; rule =
     ↔ (Contains old (record { state = s; rule = p; goto = m }) ⊎ ((m ≡ n) × P s p))
 
 -- From a state the first symbols of a body lead to another, over these states, one before each of them.
-pub record IsPassed (M : Automaton) (from : ℕ) (body : List Symbol) (count : ℕ) (path : List ℕ) (s : ℕ) : Type 0 where
+pub record IsPassed (M : Lr0Automaton) (from : ℕ) (body : List Symbol) (count : ℕ) (path : List ℕ) (s : ℕ) : Type 0 where
   pub long : length path ≡ count
   pub states : (k : ℕ) → k < count → Reaches (goto_of M) from (reverse (take k body)) (slice_index_or path k 0)
   pub end : Reaches (goto_of M) from (reverse (take count body)) s
 
 -- From a state the first of the symbols lead to one that the next doesn't leave.
-pub record IsStopped (M : Automaton) (from : ℕ) (body : List Symbol) : Type 0 where
+pub record IsStopped (M : Lr0Automaton) (from : ℕ) (body : List Symbol) : Type 0 where
   pub place : ℕ
   pub state : ℕ
   pub symbol : Symbol
@@ -54,12 +54,12 @@ pub record IsIncludedAt (G : Grammar) (gotos : List Goto) (body : List Symbol) (
     pub nullable : IsNullable G (drop (place + 1) body)
 
 -- transition i includes transition j by a rule
-abbrev pub IsIncludingBy : Automaton → List Goto → ℕ → ℕ → ℕ → Type 0
+abbrev pub IsIncludingBy : Lr0Automaton → List Goto → ℕ → ℕ → ℕ → Type 0
 IsIncludingBy M gotos p i j = (x : Goto) × (y : Goto) × (slice_get gotos i ≡ Some x) × (slice_get gotos j ≡ Some y)
     × (is : Includes M.grammar (goto_of M) x.from x.symbol y.from y.symbol) × (is.number ≡ p)
 
 -- the rule, complete in the state, looks back to transition n
-abbrev pub IsLookingBack : Automaton → List Goto → ℕ → ℕ → ℕ → Type 0
+abbrev pub IsLookingBack : Lr0Automaton → List Goto → ℕ → ℕ → ℕ → Type 0
 IsLookingBack M gotos n s p =
     (x : Goto) × (slice_get gotos n ≡ Some x) × LooksBack M.grammar (goto_of M) s p x.from x.symbol
 

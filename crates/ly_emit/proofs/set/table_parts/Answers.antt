@@ -6,7 +6,7 @@ use Rattle.ly_emit.specs.SetOf.{IsMachineBy, IsSetOf}
 use Rattle.ly_emit.specs.Tables.{IsMachineOf}
 use Rattle.ly_emit.proofs.RangeLemmas.{set_within}
 use Rattle.ly_emit.proofs.SetLemmas.{set_machine}
-use Rattle.ly_lr0.specs.Automaton.{Automaton}
+use Rattle.ly_lr0.specs.Automaton.{Lr0Automaton}
 use Rattle.ly_pack.specs.Combs.{IsFirstFit}
 use Rattle.ly_pack.specs.Machine.{IsMachine}
 use Rattle.ly_report.specs.Report.{terminal_name}
@@ -46,7 +46,7 @@ returns c =
     = set_machine p parser.result.terminals parser.result.nonterminals parser.result.actions parser.result.gotos
     c.into_comb.ensures.same c.into_comb-2.ensures.same s given.0 c.args.machine sizes given.1.0 given.1.1 names
     (accept ∙ sym given.1.0.accept) packed in
-    let set : (M : Automaton) → IsMachineBy s M c.args.machine
+    let set : (M : Lr0Automaton) → IsMachineBy s M c.args.machine
     → IsSetOf s M c.args.rules.now c.args.dfa.now (set_of p) = λ M by. record {
       terminals = names;
       nonterminals = accept ∙ sizes.nonterminals;

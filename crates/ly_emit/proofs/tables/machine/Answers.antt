@@ -1,7 +1,7 @@
 use Rattle.std.proofs.Common.{◌≡◌, ◌∙◌, None, ap, length, map, subst, sym}
 use Rattle.std.specs.Prelude.{replicate}
 use Rattle.ly_join.specs.Grammar.{IsGrammar}
-use Rattle.ly_lr0.specs.Automaton.{IsAutomaton}
+use Rattle.ly_lr0.specs.Automaton.{IsLr0Automaton}
 use Rattle.ly_pack.specs.Rows.{dense_entry}
 use Rattle.ly_pack.specs.Values.{rule_from}
 use Rattle.ly_emit.specs.Private.Filling.{AreGotosTo, AreRulesTo}
@@ -21,7 +21,7 @@ new-requires-clause-whole c =
     c.in_ok-gotos.ensures.filled in
     let rules = subst (λ x. AreRulesTo x (length x.grammar.rules) (map rule_from c.in_ok-rules.rules.items))
     c.spec-spec.ensures.these c.in_ok-rules.ensures.rules in
-    is_machine s M (subst IsAutomaton c.lr0-lr0.ensures.these c.states.ensures.lawful)
+    is_machine s M (subst IsLr0Automaton c.lr0-lr0.ensures.these c.states.ensures.lawful)
     c.lr0-lr0.ensures.useful c.terminals.result c.accept.result.0 (dense_entry c.in_ok-actions.actions)
     (dense_entry c.in_ok-gotos.gotos) c.in_ok-defaults.defaults.items c.in_ok-rules.rules.items
     (c.terminals.ensures ∙ ap (λ g. g.terminals) (c.grammar.ensures.grammar ∙ spec))
@@ -42,7 +42,7 @@ returns c =
     let rules = subst (λ x. AreRulesTo x (length x.grammar.rules) (map rule_from c.in_ok-rules.rules.items))
     c.spec-spec.ensures.these c.in_ok-rules.ensures.rules in
     subst (AreTables s M) (sym c.new.ensures) (are_tables s M
-    (subst IsAutomaton c.lr0-lr0.ensures.these c.states.ensures.lawful)
+    (subst IsLr0Automaton c.lr0-lr0.ensures.these c.states.ensures.lawful)
     c.lr0-lr0.ensures.useful c.terminals.result c.accept.result.0 (dense_entry c.in_ok-actions.actions)
     (dense_entry c.in_ok-gotos.gotos) c.in_ok-defaults.defaults.items c.in_ok-rules.rules.items
     (c.terminals.ensures ∙ ap (λ g. g.terminals) (c.grammar.ensures.grammar ∙ spec))

@@ -1,6 +1,6 @@
 use Rattle.std.proofs.Common.{◌≡◌, ◌∙◌, Some, ap, arith, length, subst, sym}
 use Rattle.std.proofs.lemmas.List.{length-map}
-use Rattle.ly_lr0.specs.Automaton.{IsAutomaton}
+use Rattle.ly_lr0.specs.Automaton.{IsLr0Automaton}
 use Rattle.ly_explain.specs.Private.Marks.{AreMarked}
 use Rattle.ly_explain.specs.Private.Reductions.{ReducesIn, StateReduces}
 use Rattle.ly_explain.proofs.MarkLemmas.{added_as, step_added}
@@ -27,7 +27,7 @@ returns c =
     let long : length rules ≡ length r.spec.grammar.rules = sym (length-map rules (λ x. Some x)) ∙ ap length these in
     let count = c.states-state-end.ensures.count ∙ ap (λ m. length m.states) c.lr0.ensures.these in
     let past = c.loop-state-test.false in
-    all_reduced r (subst IsAutomaton c.lr0.ensures.these c.states-state-end.ensures.lawful) c.spec.ensures.resolved
+    all_reduced r (subst IsLr0Automaton c.lr0.ensures.these c.states-state-end.ensures.lawful) c.spec.ensures.resolved
     c.loop-state.state (length r.spec.grammar.rules) (omega (arith, count, past)) c.in_ok-reduced.reduced
     c.loop-state.reduced
     (subst (λ n. AreMarked n (λ p. ⊥) c.in_ok-reduced.reduced) long c.in_ok-reduced.ensures)

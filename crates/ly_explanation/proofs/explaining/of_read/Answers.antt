@@ -4,7 +4,7 @@ use Rattle.ly_grammar.specs.Reduction.{KeepsUseful}
 use Rattle.ly_join.specs.Grammar.{Grammar}
 use Rattle.ly_join.specs.Joined.{Spec}
 use Rattle.ly_lr0.proofs.LawLemmas.{no_more}
-use Rattle.ly_lr0.specs.Automaton.{Automaton}
+use Rattle.ly_lr0.specs.Automaton.{Lr0Automaton}
 use Rattle.ly_generate.specs.Accepted.{IsUnfitFor}
 use Rattle.ly_generate.proofs.GenFaultLemmas.{when_same}
 use Rattle.ly_explanation.proofs.explaining.of_read.Goals as goal
@@ -36,7 +36,7 @@ returns-clause-fit c =
           is_automaton = c.in_ok-lr0.ensures.automaton;
           same = refl;
           machine = c.in_ok-tables.tables;
-          is_machine = subst (λ (N : Automaton). IsMachineOf c.args.read.spec.now N c.in_ok-tables.tables)
+          is_machine = subst (λ (N : Lr0Automaton). IsMachineOf c.args.read.spec.now N c.in_ok-tables.tables)
               c.in_ok-resolved.ensures.automaton
               (subst (λ (s : Spec). IsMachineOf s c.in_ok-resolved.resolved.automaton c.in_ok-tables.tables)
               c.in_ok-resolved.ensures.spec c.in_ok-tables.ensures.tables);

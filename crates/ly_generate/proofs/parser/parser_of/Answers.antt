@@ -4,7 +4,7 @@ use Rattle.ly_grammar.specs.Reduction.{KeepsUseful}
 use Rattle.ly_join.specs.Grammar.{Grammar}
 use Rattle.ly_join.specs.Joined.{Spec}
 use Rattle.ly_lr0.proofs.LawLemmas.{no_more}
-use Rattle.ly_lr0.specs.Automaton.{Automaton}
+use Rattle.ly_lr0.specs.Automaton.{Lr0Automaton}
 use Rattle.ly_report.specs.Counts.{AreCounts}
 use Rattle.ly_resolve.specs.Actions.{IsConflictFree}
 use Rattle.ly_generate.specs.Accepted.{IsUnfitFor}
@@ -32,7 +32,7 @@ returns-clause-parser c =
     let is = c.in_ok-resolved.ensures in
     let machine = c.in_ok-machine.machine in
     let is_machine : IsMachineOf s M machine
-    = subst (λ (N : Automaton). IsMachineOf s N machine) is.automaton
+    = subst (λ (N : Lr0Automaton). IsMachineOf s N machine) is.automaton
     (subst (λ (x : Spec). IsMachineOf x c.in_ok-resolved.resolved.automaton machine) is.spec
     c.in_ok-machine.ensures.tables) in
     record {

@@ -1,7 +1,7 @@
 use Rattle.std.proofs.Common.{◌<◌, ◌≤◌, ◌+◌, ◌∙◌, sym, ap, subst, arith, length, replicate, []}
 use Rattle.std.specs.FinSet as set
 use Rattle.ly_digraph.specs.Digraph.{Digraph}
-use Rattle.ly_join.specs.Grammar.{Grammar, Rule, IsRule}
+use Rattle.ly_join.specs.Grammar.{Grammar, GrammarRule, IsRule}
 use Rattle.ly_sets.specs.SetMatrix.{Matrix}
 use Rattle.ly_grammar.specs.Reduction.{restricted}
 use Rattle.ly_grammar.proofs.FirstLemmas.{AreFirsts, firsts_none, firsts_more, firsts_past, start_rows}
@@ -29,7 +29,7 @@ loop-number-preserved c =
     let Firsts : Digraph → Matrix → Type 0 = λ g m. AreFirsts R marks g m (n + 1) in
     elim c.if-kept-number.branch [
       | then-kept-number+in_ok-add_firsts w ↦
-          let r : Rule = w.rule.result.now in
+          let r : GrammarRule = w.rule.result.now in
           let rule : IsRule R n r = at_marked kept G.rules n r w.rule.ensures.there w.if-kept-number.true in
           subst (λ g. Firsts g c.if-kept-number.sets) (sym w.graph-is)
           (subst (λ m. Firsts w.add_firsts.new.graph m) (sym w.sets-is)

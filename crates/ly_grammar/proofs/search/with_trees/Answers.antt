@@ -3,7 +3,7 @@ use Rattle.std.proofs.Common.{slice_index_or, true, false, drop, map, Some, ◌�
 use Rattle.std.proofs.lemmas.List.{drop_more, drop_all, length-map}
 use Rattle.std.proofs.lemmas.Option.{slice_get_within}
 use Rattle.std.proofs.lemmas.List.Elements.{Contains-get_or}
-use Rattle.ly_join.specs.Grammar.{Grammar, Rule, IsRule, nonterminal}
+use Rattle.ly_join.specs.Grammar.{Grammar, GrammarRule, IsRule, nonterminal}
 use Rattle.ly_grammar.specs.Reduction.{restricted}
 use Rattle.ly_grammar.specs.Private.Search.{Progress, IsSearch, HasTree, Advances, SymbolsPass, Settled, was_found}
 use Rattle.ly_grammar.proofs.MarkedLemmas.{at_marked, marked_at, length-marked}
@@ -27,7 +27,7 @@ loop-number-init c =
     }
 
 -- a number below that of the rules
-rule_within : (G : Grammar) (rules : List Rule) (p : ℕ) → map Some rules ≡ G.rules → p < length rules
+rule_within : (G : Grammar) (rules : List GrammarRule) (p : ℕ) → map Some rules ≡ G.rules → p < length rules
     → p < length G.rules
 rule_within G rules p these lt = subst (λ n. p < n) (sym (length-map rules Some) ∙ ap length these) lt
 
@@ -40,7 +40,7 @@ advance-requires c =
     let G : Grammar = c.args.grammar.now in
     let kept = c.args.kept.now in
     let p = c.loop-number.number in
-    let r : Rule = c.rule.result.now in
+    let r : GrammarRule = c.rule.result.now in
     places_of G kept c.loop-number.search p r c.rules-number-end.ensures.lawful c.loop-number.invariant.search
     (at_marked kept G.rules p r c.rule.ensures.there c.if-kept-number.true)
 
@@ -56,7 +56,7 @@ loop-number-preserved c =
     let After : Progress → Type 0 = λ t. AreSettledBelow R t (n + 1) × (t.terminals ≡ c.args.terminals) in
     elim c.if-kept-number.branch [
       | then-kept-number+in_ok-advance w ↦
-          let r : Rule = w.rule.result.now in
+          let r : GrammarRule = w.rule.result.now in
           let rule : IsRule R n r = at_marked kept G.rules n r w.rule.ensures.there w.if-kept-number.true in
           let next : Advances R s w.advance.new.self n r = w.in_ok-advance.ensures R known.search rule in
           let now = settled_to R s w.advance.new.self n r below rule next in
@@ -111,7 +111,7 @@ loop-number-2-init c =
 
 -- a member of a list at a place below its length
 here : (G : Grammar) (s next : Progress) (rules items : List ℕ) (at : ℕ) → IsTaken G s next rules → items ≡ rules
-    → at < length items → (r : Rule) × IsRule G (slice_index_or items at 0) r
+    → at < length items → (r : GrammarRule) × IsRule G (slice_index_or items at 0) r
 here G s next rules items at is same lt
     = is.known (slice_index_or items at 0) (subst (λ ps. Contains ps (slice_index_or items at 0)) same
     (Contains-get_or items at 0 lt))
@@ -141,7 +141,7 @@ advance-requires-in-loop-number-2 c =
     let known = here R c.loop-waiting.search c.next.new.self rules items at t c.deref-number-items.ensures.value
     c.loop-number-2-test.true in
     let p = slice_index_or items at 0 in
-    let r : Rule = c.rule-in-loop-number-2.result.now in
+    let r : GrammarRule = c.rule-in-loop-number-2.result.now in
     places_of G kept c.loop-number-2.search p r c.rules-number-end.ensures.lawful c.loop-number-2.invariant.search
     (kept_rule G kept p r c.rule-in-loop-number-2.ensures.there known)
 
@@ -160,7 +160,7 @@ loop-number-2-preserved c =
     let s : Progress = c.loop-number-2.search in
     let next : Progress = c.advance-in-loop-number-2.new.self in
     let was = c.loop-number-2.invariant in
-    let r : Rule = c.rule-in-loop-number-2.result.now in
+    let r : GrammarRule = c.rule-in-loop-number-2.result.now in
     let rule : IsRule R p r = kept_rule G kept p r c.rule-in-loop-number-2.ensures.there known in
     let step : Advances R s next p r = c.in_ok-advance-2.ensures R was.search rule in
     let rest = drop (at + 1) items in
@@ -192,7 +192,7 @@ returns-clause-exact c =
     let known = c.loop-waiting.invariant in
     let over = c.in_default.ensures in
     let same : c.search-2.inside.found.items ≡ s.found = ap (λ n. n.found) (c.search-2.view_is ∙ over.1) in
-    let close : (p : ℕ) (r : Rule) → IsRule R p r → SymbolsPass s.found s.terminals r.body
+    let close : (p : ℕ) (r : GrammarRule) → IsRule R p r → SymbolsPass s.found s.terminals r.body
     → was_found s r.left ≡ true
     = λ p r rule. closed s p r over.0 (known.settled p r rule) in
     let exact : (A : ℕ) → (was_found s A ≡ true) ↔ HasTree R s.terminals (nonterminal A)

@@ -2,7 +2,7 @@ use Rattle.std.proofs.Common.{◌≡◌, ◌+◌, ◌∙◌, ◌↔◌, ℕ, sym
 use Rattle.std.proofs.Common.{slice_index_or, replicate}
 use Rattle.std.proofs.lemmas.List.{length-map}
 use Rattle.std.proofs.lemmas.Option.{slice_get_within}
-use Rattle.ly_join.specs.Grammar.{Grammar, Rule, IsRule, nonterminal}
+use Rattle.ly_join.specs.Grammar.{Grammar, GrammarRule, IsRule, nonterminal}
 use Rattle.ly_grammar.specs.Reduction.{restricted}
 use Rattle.ly_grammar.specs.Private.Search.{SymbolsPass, HasTree}
 use Rattle.ly_grammar.proofs.CloseLemmas.{found_passes}
@@ -15,8 +15,8 @@ pub loop-number-preserved : goal.loop-number-preserved
 loop-number-preserved c =
     let G : Grammar = c.args.grammar.now in
     let n = c.loop-number.number in
-    let P : ℕ → Rule → Type 0 = λ p r. SymbolsPass c.in_ok-found.found.items true r.body in
-    let here : (r : Rule) → IsRule G n r → (c.body_passes.result ≡ true) ↔ P n r
+    let P : ℕ → GrammarRule → Type 0 = λ p r. SymbolsPass c.in_ok-found.found.items true r.body in
+    let here : (r : GrammarRule) → IsRule G n r → (c.body_passes.result ≡ true) ↔ P n r
     = λ r rule. subst (λ x. (c.body_passes.result ≡ true) ↔ P n x)
     (rule_is_one G n c.rule.result.now r c.rule.ensures.there rule)
     (subst (λ found. (c.body_passes.result ≡ true) ↔ SymbolsPass found true c.rule.result.now.body)

@@ -3,7 +3,7 @@ use Rattle.std.specs.FinSet as set
 use Rattle.std.proofs.lemmas.List.{length-replicate, take_all}
 use Rattle.ly_digraph.specs.Digraph.{Digraph}
 use Rattle.ly_digraph.specs.Least.{IsLeast, IsBetween}
-use Rattle.ly_join.specs.Grammar.{Grammar, Rule}
+use Rattle.ly_join.specs.Grammar.{Grammar, GrammarRule}
 use Rattle.ly_sets.specs.SetMatrix.{row}
 use Rattle.ly_grammar.specs.Reduction.{restricted}
 use Rattle.ly_grammar.specs.Private.Reach.{uses, use_edges}
@@ -29,7 +29,7 @@ loop-number-preserved c =
     let lt : n < length G.rules = subst (λ k. n < k) c.requires c.loop-number-test.true in
     elim c.if-productive-number.branch [
       | then-productive-number+in_ok-add_uses w ↦
-          let r : Rule = w.rule.result.now in
+          let r : GrammarRule = w.rule.result.now in
           w.graph-is ∙ w.in_ok-add_uses.ensures
           ∙ ap (λ g. let it : Digraph = record g { edges = g.edges ++ uses r.left r.body } in
           it) c.loop-number.invariant

@@ -4,7 +4,7 @@ use Rattle.std.proofs.lemmas.List.{get_or_default}
 use Rattle.std.proofs.lemmas.Option.{slice_get_within}
 use Rattle.std.specs.FinSet as set
 use Rattle.std.proofs.lemmas.Bool.{eq-eqb}
-use Rattle.ly_join.specs.Grammar.{Grammar, Rule, IsGrammar, IsRule, accept_rule}
+use Rattle.ly_join.specs.Grammar.{Grammar, GrammarRule, IsGrammar, IsRule, accept_rule}
 use Rattle.ly_sets.specs.NumberSet.{Member}
 use Rattle.ly_sets.specs.SetMatrix.{row}
 use Rattle.ly_grammar.specs.Reduction.{restricted}
@@ -45,9 +45,9 @@ loop-number-preserved c =
     let G : Grammar = c.args.grammar.now in
     let marks = c.in_ok-productive.productive.items in
     let n = c.loop-number.number in
-    let P : ℕ → Rule → Type 0 = λ p r. (p ≡ 0) ⊎ ((slice_index_or marks p false ≡ true)
+    let P : ℕ → GrammarRule → Type 0 = λ p r. (p ≡ 0) ⊎ ((slice_index_or marks p false ≡ true)
     × IsReachedBy (restricted marks G) r.left) in
-    let r : Rule = c.rule.result.now in
+    let r : GrammarRule = c.rule.result.now in
     let lt : n < length marks = (let e = c.in_ok-productive.productive.ok.0 in let l = c.len-number-end.ensures in
     let t = c.loop-number-test.true in omega (arith, e, l, t)) in
     let exact : (A : ℕ) → Member (row c.in_ok-sets.sets.sets A) 0 ↔ IsReachedBy (restricted marks G) A
@@ -80,7 +80,7 @@ loop-number-preserved c =
             ],
           )
     ] in
-    let each : (q : Rule) → IsRule G n q → (c.if-number-eq0.push ≡ true) ↔ P n q
+    let each : (q : GrammarRule) → IsRule G n q → (c.if-number-eq0.push ≡ true) ↔ P n q
     = λ q rule. subst (λ x. (c.if-number-eq0.push ≡ true) ↔ P n x)
     (rule_is_one G n r q c.rule.ensures.there rule) here in
     subst (λ ms. AreMarks G P ms (n + 1)) (sym c.in_ok-push.ensures.items)

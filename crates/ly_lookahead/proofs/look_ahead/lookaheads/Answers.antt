@@ -1,7 +1,7 @@
 use Rattle.std.proofs.Common.{◌≡◌, ◌∙◌, ℕ, List, ap, arith, length, map, slice_index_or, subst, sym}
 use Rattle.std.proofs.lemmas.List.{length-map}
 use Rattle.ly_digraph.proofs.StepLemmas.{read_is}
-use Rattle.ly_lr0.specs.Automaton.{Automaton}
+use Rattle.ly_lr0.specs.Automaton.{Lr0Automaton}
 use Rattle.ly_relate.specs.Related.{Goto}
 use Rattle.ly_relate.specs.Values.{goto_from}
 use Rattle.ly_relate.specs.declared.gotos.Goto as goto
@@ -11,13 +11,13 @@ use Rattle.ly_lookahead.proofs.LookaheadLemmas.{are_lookaheads, rows_count}
 use Rattle.ly_lookahead.proofs.look_ahead.lookaheads.Goals as goal
 
 -- the rows behind those of the transitions as they are counted
-rows_of : (M : Automaton) (gotos : List Goto) (items : List goto.Goto) (n : ℕ) (first : List ℕ)
+rows_of : (M : Lr0Automaton) (gotos : List Goto) (items : List goto.Goto) (n : ℕ) (first : List ℕ)
     → map goto_from items ≡ gotos → AreRows M (length items) n first → AreRows M (length gotos) n first
 rows_of M gotos items n first e rows =
     subst (λ k. AreRows M k n first) (sym (length-map items goto_from) ∙ ap length e) rows
 
 -- the last of the numbers is how many rows there are
-last_is : (M : Automaton) (gotos n : ℕ) (first : List ℕ) (i x : ℕ) → AreRows M gotos n first → i ≡ n
+last_is : (M : Lr0Automaton) (gotos n : ℕ) (first : List ℕ) (i x : ℕ) → AreRows M gotos n first → i ≡ n
     → x ≡ slice_index_or first i x → slice_index_or first n 0 ≡ x
 last_is M gotos n first i x rows e is =
     let long = rows.long in

@@ -6,7 +6,7 @@ use Rattle.std.proofs.Math.ListN.{length-set}
 use Rattle.std.specs.FinSet as set
 use Rattle.ly_join.proofs.ListLemmas.{member_at}
 use Rattle.ly_sets.specs.SetMatrix.{row}
-use Rattle.ly_lr0.specs.Automaton.{Automaton, IsAutomaton}
+use Rattle.ly_lr0.specs.Automaton.{Lr0Automaton, IsLr0Automaton}
 use Rattle.ly_relate.specs.Related.{AreRelations, Relations}
 use Rattle.ly_relate.specs.declared.walks.Lookback as lookback
 use Rattle.ly_relate.specs.Values.{lookback_from}
@@ -18,7 +18,7 @@ use Rattle.ly_lookahead.proofs.lookback.look_back.Goals as goal
 use Rattle.ly_lookahead.proofs.lookback.look_back.Goals.{in-Some, in_default}
 
 -- the lookback of a number is of a state and of a transition
-seen_within : (M : Automaton) → IsAutomaton M → (R : Relations) → AreRelations M R
+seen_within : (M : Lr0Automaton) → IsLr0Automaton M → (R : Relations) → AreRelations M R
     → (items : List lookback.Lookback) (i : ℕ) → map lookback_from items ≡ R.lookbacks → i < length items
     → ((slice_index_or items i no_lookback).state.0 < length M.states)
     × ((slice_index_or items i no_lookback).goto < length R.gotos)

@@ -1,7 +1,7 @@
 use Rattle.std.proofs.Common.{◌≡◌, ◌<◌, ◌+◌, ◌∙◌, ap, arith, length, subst, sym, true}
 use Rattle.std.specs.Prelude.{Some}
 use Rattle.std.proofs.lemmas.List.{length-map}
-use Rattle.ly_join.specs.Grammar.{Rule}
+use Rattle.ly_join.specs.Grammar.{GrammarRule}
 use Rattle.ly_lr0.proofs.ByLeftLemmas.{HasRulesBelow, by_left_done, by_left_more, by_left_same, left_within}
 use Rattle.ly_lr0.proofs.by_left.rules_by_left.Goals as goal
 use Rattle.ly_lr0.proofs.by_left.rules_by_left.Goals.{then-is_kept+in_ok-add, else-is_kept}
@@ -43,5 +43,5 @@ returns c = by_left_done c.grammar-grammar.result.now c.args.reduced.now c.loop-
       end,
       ap length c.rules-number-end.ensures.these,
       length-map c.rules-number-end.result.now
-          (λ (r : Rule). Some r),
+          (λ (r : GrammarRule). Some r),
     ))

@@ -13,7 +13,7 @@ use Rattle.ly_lr0.specs.Private.Items.{IsClosed, IsEntered}
 use Rattle.ly_lr0.specs.Private.Kernels.{kernel_at}
 use Rattle.ly_lr0.proofs.ClosingLemmas.{entered_within, listed_closed}
 use Rattle.ly_lr0.proofs.ConstructLemmas.{are_complete, are_moves, built_of, items_kept, rows_more}
-use Rattle.ly_lr0.specs.Automaton.{IsAutomaton}
+use Rattle.ly_lr0.specs.Automaton.{IsLr0Automaton}
 use Rattle.ly_lr0.proofs.FinalLemmas.{is_automaton}
 use Rattle.ly_lr0.proofs.StateLemmas.{count_of}
 use Rattle.ly_lr0.proofs.construct.automaton.Goals as goal
@@ -200,7 +200,7 @@ returns-clause-automaton c =
     let full : length f.rows.items ≡ length f.kernels = let a = c.len.ensures in let b = c.len-in-loop-alloc.ensures in
     let ok = f.rows.ok.0 in let w = inv.found.found.within in
     omega (arith, w, length-map f.rows.items transitions_of) in
-    subst (λ r. IsAutomaton (automaton_from r.grammar f.links.items f.rows.items)) inv.reduced
+    subst (λ r. IsLr0Automaton (automaton_from r.grammar f.links.items f.rows.items)) inv.reduced
     (is_automaton f.reduced.now.grammar inv.found.augmented inv.found.reduced f.kernels (links_of f) f.rows.items
     inv.found.found full inv.found.rows)
 

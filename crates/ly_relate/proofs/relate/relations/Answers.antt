@@ -1,6 +1,6 @@
 use Rattle.std.proofs.Common.{◌≡◌, List, map, sym, subst}
 use Rattle.ly_digraph.specs.Digraph.{Digraph}
-use Rattle.ly_lr0.specs.Automaton.{Automaton}
+use Rattle.ly_lr0.specs.Automaton.{Lr0Automaton}
 use Rattle.ly_relate.specs.Private.Gotos.{IsNumbering, Numbering}
 use Rattle.ly_relate.specs.Related.{AreDirect, AreEdges, AreLookbacks, AreRelations, DirectRead, Goto, IsIncluding}
 use Rattle.ly_relate.specs.Related.{IsRead}
@@ -10,7 +10,7 @@ use Rattle.ly_relate.proofs.GotoLemmas.{numbered_are}
 use Rattle.ly_relate.proofs.relate.relations.Goals as goal
 
 -- what was found over a numbering is an automaton's, where the numbering is
-are_relations : (M : Automaton) (gotos : List Goto) (n : Numbering) (direct : List DirectRead)
+are_relations : (M : Lr0Automaton) (gotos : List Goto) (n : Numbering) (direct : List DirectRead)
     (reads includes : Digraph)
     (lookbacks : List Lookback) → IsNumbering n → n.automaton ≡ M → gotos ≡ n.gotos
     → AreDirect n.automaton n.gotos direct → AreEdges n.gotos (IsRead n.automaton n.gotos) reads

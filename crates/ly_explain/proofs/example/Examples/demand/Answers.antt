@@ -1,5 +1,5 @@
 use Rattle.std.proofs.Common.{subst}
-use Rattle.ly_lr0.specs.Automaton.{IsAutomaton}
+use Rattle.ly_lr0.specs.Automaton.{IsLr0Automaton}
 use Rattle.ly_explain.proofs.OpeningLemmas.{opens, rule_there}
 use Rattle.ly_explain.proofs.example.Examples.demand.Goals as goal
 
@@ -9,7 +9,7 @@ reduced-requires c =
 
 pub returns-clause-opens : goal.returns-clause-opens
 returns-clause-opens c = opens c.args.self.now c.spec-spec.ensures.resolved c.args.conflict.now c.requires.conflict
-    (subst (λ v. IsAutomaton v.automaton) c.self.view_is
-    (subst IsAutomaton c.self.invariant.1 c.self.invariant.0.lawful))
+    (subst (λ v. IsLr0Automaton v.automaton) c.self.view_is
+    (subst IsLr0Automaton c.self.invariant.1 c.self.invariant.0.lawful))
     c.requires.inside.state c.reduced.result c.rival.result c.reduced.ensures.rule c.reduced.ensures.end
     c.rival.ensures

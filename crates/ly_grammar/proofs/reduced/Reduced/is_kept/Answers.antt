@@ -1,6 +1,6 @@
 use Rattle.std.proofs.Common.{◌≡◌, ◌<◌, ◌↔◌, ◌∙◌, sym, subst, arith, true, false, length}
 use Rattle.std.proofs.lemmas.List.{get_or_default}
-use Rattle.ly_join.specs.Grammar.{Rule, IsRule}
+use Rattle.ly_join.specs.Grammar.{GrammarRule, IsRule}
 use Rattle.ly_grammar.specs.Reduction.{Reduction}
 use Rattle.ly_grammar.proofs.MarkedLemmas.{at_marked, marked_at, length-marked}
 use Rattle.ly_grammar.proofs.reduced.Reduced.is_kept.Goals as goal
@@ -19,7 +19,7 @@ returns c =
     let G = c.self.inside.grammar.now in
     let kept = c.self.inside.kept.items in
     let p = c.args.number in
-    let Test : Reduction → Type 0 = λ r. (c.index.result.now ≡ true) ↔ ((q : Rule) × IsRule r.grammar p q) in
+    let Test : Reduction → Type 0 = λ r. (c.index.result.now ≡ true) ↔ ((q : GrammarRule) × IsRule r.grammar p q) in
     let View : Reduction → Type 0 = λ r. p < length r.grammar.rules in
     let lt = subst View (sym c.self.view_is) c.requires in
     let long = c.self.invariant.1.marks in

@@ -1,7 +1,7 @@
 use Rattle.std.proofs.Common.{◌<◌, ◌∙◌, sym, ap, subst, length, Some, All, Contains}
 use Rattle.std.specs.Option.{IfSome}
 use Rattle.std.proofs.lemmas.Result.{on_ok_weaker}
-use Rattle.ly_join.specs.Grammar.{Rule, symbol_of}
+use Rattle.ly_join.specs.Grammar.{GrammarRule, symbol_of}
 use Rattle.ly_grammar.specs.Private.Search.{Progress, HasNumberBelow, Advances, StopsAt, stopped, with_found}
 use Rattle.ly_grammar.specs.Private.Search.{with_waiting}
 use Rattle.ly_join.specs.declared.symbol.Symbol.TheVariants.{Terminal, Nonterminal}
@@ -10,7 +10,7 @@ use Rattle.ly_grammar.proofs.search.Search.advance.Goals as goal
 
 pub wait-requires : goal.wait-requires
 wait-requires c =
-    let r : Rule = c.args.rule.now in
+    let r : GrammarRule = c.args.rule.now in
     let s : Progress = c.args.self.now in
     let A = c.in-Some-Nonterminal.symbol.0 in
     let inside : IfSome (Some (Nonterminal c.in-Some-Nonterminal.symbol)) (λ X. Contains r.body (symbol_of X))
@@ -28,7 +28,7 @@ find-requires c =
 pub returns-in-None : goal.returns-in-None
 returns-in-None c =
     let p = c.args.number in
-    let r : Rule = c.args.rule.now in
+    let r : GrammarRule = c.args.rule.now in
     let s : Progress = c.args.self.now in
     let t : Progress = c.pass.new.self in
     on_ok_weaker c.find.result (λ e G search rule.
@@ -43,7 +43,7 @@ returns-in-None c =
 pub returns-in-Some-Nonterminal : goal.returns-in-Some-Nonterminal
 returns-in-Some-Nonterminal c =
     let p = c.args.number in
-    let r : Rule = c.args.rule.now in
+    let r : GrammarRule = c.args.rule.now in
     let s : Progress = c.args.self.now in
     let t : Progress = c.pass.new.self in
     let A = c.in-Some-Nonterminal.symbol.0 in
@@ -64,7 +64,7 @@ returns-in-Some-Nonterminal c =
 
 pub returns-in-Some-Terminal : goal.returns-in-Some-Terminal
 returns-in-Some-Terminal c G search rule =
-    let r : Rule = c.args.rule.now in
+    let r : GrammarRule = c.args.rule.now in
     let t : Progress = c.pass.new.self in
     let stop : StopsAt t r (Some (Terminal c.in-Some-Terminal.field-0-0))
     = subst (StopsAt t r) (c.in-Some-Terminal.is ∙ ap (λ X. Some X) c.in-Some-Terminal.field-0-is)

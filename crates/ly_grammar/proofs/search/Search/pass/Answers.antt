@@ -1,5 +1,5 @@
 use Rattle.std.proofs.Common.{◌∙◌, sym, subst}
-use Rattle.ly_join.specs.Grammar.{Rule}
+use Rattle.ly_join.specs.Grammar.{GrammarRule}
 use Rattle.ly_grammar.specs.Private.Search.{Progress, HasPlaces, HasPassed, with_passed}
 use Rattle.ly_grammar.proofs.AdvanceLemmas.{IsRead, copied_get, has_passed}
 use Rattle.ly_grammar.proofs.search.Search.pass.Goals as goal
@@ -14,7 +14,7 @@ returns c =
       queue = c.self.inside.queue.items;
     } in
     let p = c.args.number in
-    let r : Rule = c.args.rule.now in
+    let r : GrammarRule = c.args.rule.now in
     let symbols = c.body-body.result.now in
     let at = c.passing_until-at.result in
     let read : IsRead s p r symbols c.deref.result.now c.index.result.now at = record {

@@ -1,5 +1,5 @@
 use Rattle.std.proofs.Common.{◌≡◌, subst, sym, ap, ◌∙◌, List, [], ◌∷◌, ◌++◌, map}
-use Rattle.ly_join.specs.Grammar.{Rule, accept_rule, grammar_from, symbol_of, IsGrammar}
+use Rattle.ly_join.specs.Grammar.{GrammarRule, accept_rule, grammar_from, symbol_of, IsGrammar}
 use Rattle.ly_join.specs.declared.symbol.Symbol.{Symbol}
 use Rattle.ly_join.specs.declared.symbol.Symbol.TheVariants.{Terminal, Nonterminal}
 use Rattle.ly_join.proofs.GrammarLemmas.{grammar_of}
@@ -15,7 +15,7 @@ invariant_of-result c =
     ∙ ap (λ xs. pushed xs end) (c.in_ok-push.ensures.items
     ∙ ap (λ xs. pushed xs (Nonterminal start)) c.new-body.ensures.items) in
     let rule : c.new.result ≡ accept_rule accept start.0 = c.new.ensures
-    ∙ ap (λ xs. let r : Rule = record { left = accept; body = map symbol_of xs } in r) body in
+    ∙ ap (λ xs. let r : GrammarRule = record { left = accept; body = map symbol_of xs } in r) body in
     let rules = c.in_ok-insert.ensures.items ∙ ap (λ r. r ∷ c.args.rules.items) rule in
     subst (λ rs. IsGrammar (grammar_from c.args.terminals accept start.0 rs)) (sym rules)
     (grammar_of c.args.terminals accept start.0 c.args.rules.items c.requires.start c.requires.some c.requires.within)

@@ -1,11 +1,11 @@
 use Rattle.std.proofs.Common.{◌<◌, ◌∙◌, ap, arith, length, sym}
-use Rattle.ly_lr0.specs.Automaton.{Automaton, state_at}
+use Rattle.ly_lr0.specs.Automaton.{Lr0Automaton, state_at}
 use Rattle.ly_lr0.proofs.StateLemmas.{count_of, state_of}
 use Rattle.ly_lr0.proofs.lr0.Lr0.complete.Goals as goal
 
 pub index-requires : goal.index-requires
 index-requires c =
-    let view = ap (λ (M : Automaton). length M.states) c.self.view_is in
+    let view = ap (λ (M : Lr0Automaton). length M.states) c.self.view_is in
     let many = count_of c.self.inside.links.items c.self.inside.rows.items c.self.invariant.count in
     let ok = c.self.inside.rows.ok.0 in
     let less = c.requires in
@@ -13,7 +13,7 @@ index-requires c =
 
 pub returns : goal.returns
 returns c =
-    let view = ap (λ (M : Automaton). length M.states) c.self.view_is in
+    let view = ap (λ (M : Lr0Automaton). length M.states) c.self.view_is in
     let links = c.self.inside.links.items in
     let rows = c.self.inside.rows.items in
     let s = c.args.state.0 in

@@ -3,7 +3,7 @@ use Rattle.std.specs.Prelude.{◌↔◌, Contains}
 use Rattle.std.proofs.lemmas.List.{get_or-map, length-map}
 use Rattle.std.proofs.Math.Seq.{drop-cons}
 use Rattle.ly_join.specs.Grammar.{Grammar, symbol_of}
-use Rattle.ly_lr0.specs.Automaton.{Automaton, HasInCore, prefix_of}
+use Rattle.ly_lr0.specs.Automaton.{Lr0Automaton, HasInCore, prefix_of}
 use Rattle.ly_lr0.specs.Private.Closing.{AreKept}
 use Rattle.ly_lr0.specs.Private.Items.{IsClosed, IsKernel, IsMovedOver}
 use Rattle.ly_lr0.specs.declared.item.Item.{Item}
@@ -77,7 +77,7 @@ returns c =
     let closed : (i : Item) → Contains items i ↔ IsClosed R K i.rule i.dot
     = subst (λ ls. (i : Item) → Contains items i ↔ IsClosed R ls i.rule i.dot)
     c.deref-2.ensures.value c.in_ok-closed.ensures in
-    let same : R ≡ c.args.self.now.grammar = ap (λ (M : Automaton). M.grammar) c.self.view_is in
+    let same : R ≡ c.args.self.now.grammar = ap (λ (M : Lr0Automaton). M.grammar) c.self.view_is in
     subst (λ g. (i : Item) → Contains items i ↔ HasInCore c.args.self.now.grammar g i.rule i.dot)
     c.in_ok-prefix.ensures
     (subst (λ G. (i : Item) → Contains items i ↔ HasInCore G P i.rule i.dot) same

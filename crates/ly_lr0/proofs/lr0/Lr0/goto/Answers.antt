@@ -1,6 +1,6 @@
 use Rattle.std.proofs.Common.{◌<◌, ◌∙◌, ap, arith, length, map, subst, sym}
 use Rattle.ly_join.specs.Grammar.{symbol_of}
-use Rattle.ly_lr0.specs.Automaton.{Automaton, goto_of, target_of}
+use Rattle.ly_lr0.specs.Automaton.{Lr0Automaton, goto_of, target_of}
 use Rattle.ly_lr0.specs.Private.Built.{AreInOrder}
 use Rattle.ly_lr0.specs.Transitions.{transition_of}
 use Rattle.ly_lr0.proofs.GotoLemmas.{row_leads, row_ordered}
@@ -9,7 +9,7 @@ use Rattle.ly_lr0.proofs.lr0.Lr0.goto.Goals as goal
 
 pub index-requires : goal.index-requires
 index-requires c =
-    let view = ap (λ (M : Automaton). length M.states) c.self.view_is in
+    let view = ap (λ (M : Lr0Automaton). length M.states) c.self.view_is in
     let many = count_of c.self.inside.links.items c.self.inside.rows.items c.self.invariant.count in
     let ok = c.self.inside.rows.ok.0 in
     let less = c.requires in
@@ -17,7 +17,7 @@ index-requires c =
 
 pub target-requires : goal.target-requires
 target-requires c =
-    let view = ap (λ (M : Automaton). length M.states) c.self.view_is in
+    let view = ap (λ (M : Lr0Automaton). length M.states) c.self.view_is in
     let links = c.self.inside.links.items in
     let rows = c.self.inside.rows.items in
     let s = c.args.state.0 in
@@ -29,7 +29,7 @@ target-requires c =
 
 pub returns : goal.returns
 returns c =
-    let view = ap (λ (M : Automaton). length M.states) c.self.view_is in
+    let view = ap (λ (M : Lr0Automaton). length M.states) c.self.view_is in
     let links = c.self.inside.links.items in
     let rows = c.self.inside.rows.items in
     let s = c.args.state.0 in

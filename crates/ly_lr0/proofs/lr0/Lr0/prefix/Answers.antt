@@ -1,14 +1,14 @@
 use Rattle.std.proofs.Common.{◌≡◌, ◌<◌, ◌-◌, ◌∙◌, suc, ap, arith, length, map, sym, slice_index_or, [], ◌++◌}
 use Rattle.std.proofs.lemmas.List.{append-nil}
 use Rattle.ly_join.specs.Grammar.{symbol_of}
-use Rattle.ly_lr0.specs.Automaton.{Automaton, prefix_of}
+use Rattle.ly_lr0.specs.Automaton.{Lr0Automaton, prefix_of}
 use Rattle.ly_lr0.specs.Private.Built.{link_of, prefixes_of}
 use Rattle.ly_lr0.proofs.StateLemmas.{count_of, link_back, no_links_prefix, prefix_of_built, prefix_step}
 use Rattle.ly_lr0.proofs.lr0.Lr0.prefix.Goals as goal
 
 pub loop-state-init : goal.loop-state-init
 loop-state-init c =
-    let view = ap (λ (M : Automaton). length M.states) c.self.view_is in
+    let view = ap (λ (M : Lr0Automaton). length M.states) c.self.view_is in
     let many = count_of c.self.inside.links.items c.self.inside.rows.items c.self.invariant.count in
     let count = c.self.invariant.count in
     let less = c.requires in

@@ -1,6 +1,6 @@
 use Rattle.std.proofs.Common.{◌≡◌, ◌∙◌, ◌≤◌, ◌↔◌, ◌+◌, ℕ, List, map, take, sym, ap, subst, slice_index_or, Contains}
 use Rattle.std.proofs.lemmas.List.Elements.{Contains-get_or}
-use Rattle.ly_join.specs.Grammar.{Grammar, IsRule, Rule}
+use Rattle.ly_join.specs.Grammar.{Grammar, IsRule, GrammarRule}
 use Rattle.ly_relate.specs.Private.Walks.{IsIncludingBy, IsLookingBack}
 use Rattle.ly_relate.specs.Related.{IsIncluding}
 use Rattle.ly_relate.specs.Values.{goto_from, lookback_from}
@@ -12,9 +12,9 @@ use Rattle.ly_relate.proofs.walks.Walks.walk_rules.Goals as goal
 
 -- the rules of a nonterminal, by those of the automaton's grammar
 known_rules : (rules : List ℕ) (A : ℕ) (G H : Grammar) → G ≡ H
-    → ((q : ℕ) → Contains rules q ↔ ((r : Rule) × IsRule G q r × (r.left ≡ A)))
-    → (q : ℕ) → Contains rules q ↔ ((r : Rule) × IsRule H q r × (r.left ≡ A))
-known_rules rules A G H e known q = subst (λ K. Contains rules q ↔ ((r : Rule) × IsRule K q r × (r.left ≡ A))) e
+    → ((q : ℕ) → Contains rules q ↔ ((r : GrammarRule) × IsRule G q r × (r.left ≡ A)))
+    → (q : ℕ) → Contains rules q ↔ ((r : GrammarRule) × IsRule H q r × (r.left ≡ A))
+known_rules rules A G H e known q = subst (λ K. Contains rules q ↔ ((r : GrammarRule) × IsRule K q r × (r.left ≡ A))) e
     (known q)
 
 pub rules_of-rule-items-requires : goal.rules_of-rule-items-requires

@@ -2,7 +2,7 @@ use Rattle.std.proofs.Common.{◌∙◌, ◌++◌, ◌∷◌, [], ℕ, ap, appen
 use Rattle.std.proofs.Common.{sym, take, All}
 use Rattle.std.proofs.lemmas.List.{map-append}
 use Rattle.std.proofs.lemmas.List.Elements.{All-push}
-use Rattle.ly_lr0.specs.Automaton.{Automaton, prefix_of}
+use Rattle.ly_lr0.specs.Automaton.{Lr0Automaton, prefix_of}
 use Rattle.ly_resolve.specs.Actions.{Verdict}
 use Rattle.ly_resolve.specs.Precedence.{judge_of}
 use Rattle.ly_resolve.specs.Private.Meetings.{told}
@@ -21,7 +21,7 @@ loop-rule-preserved c =
     let v : ℕ → Verdict = λ p. judge_of m.spec.now p m.terminal.0 in
     let a = action_from c.args.choice in
     let k = kind_from c.args.kind in
-    let g : Automaton → _ = λ M. prefix_of M c.args.state.0 in
+    let g : Lr0Automaton → _ = λ M. prefix_of M c.args.state.0 in
     let old = c.loop-rule.conflicts.items in
     let new : Conflict = record {
       state = c.args.state;
