@@ -122,12 +122,14 @@ module _ (M : Lr0Automaton) (shape : ℕ → Shape) where
   reached bottom = refl
   reached (above {levels = levels} mirrors e) = (top_of levels, reached mirrors, e)
 
-Reduces-last : {G : Grammar} {g h : List Symbol} {q t : ℕ} {r : GrammarRule} {before under : List Symbol} → Reduces G g h
+Reduces-last : {G : Grammar} {g h : List Symbol} {q t : ℕ} {r : GrammarRule} {before under : List Symbol}
+    → Reduces G g h
     → IsRule G q r → Valid G h q before [] t → h ≡ before ++ under → Reduces G g (nonterminal r.left ∷ under)
 Reduces-last default.here is v split = default.onward is v split default.here
 Reduces-last (default.onward is' v' split' l) is v split = default.onward is' v' split' (Reduces-last l is v split)
 
-module _ (s : Spec) (M : Lr0Automaton) (m n : Machine) (is : IsLr0Automaton M) (useful : KeepsUseful s.grammar M.grammar)
+module _ (s : Spec) (M : Lr0Automaton) (m n : Machine) (is : IsLr0Automaton M)
+    (useful : KeepsUseful s.grammar M.grammar)
     (are : AreTables s M m) (has : HasDefaultsOf m n) where
   states : states_of n ≡ length M.states
   states = has.states ∙ are.states

@@ -66,7 +66,8 @@ valid_of_at {G} augmented (passed {g = g} {p = p} {t = t} {X = X} {rest = rest} 
     record { before = X ∷ s.before; after = rest; valid = moved v; dot = ap suc s.dot }
 
 -- a rule that is complete has its dot at the end
-pub complete_of_at : {G : Grammar} {n : ℕ} {g : List Symbol} {t : ℕ} (p d : ℕ) (r : GrammarRule) → IsAugmented G → IsRule G p r
+pub complete_of_at : {G : Grammar} {n : ℕ} {g : List Symbol} {t : ℕ} (p d : ℕ) (r : GrammarRule) → IsAugmented G
+    → IsRule G p r
     → d ≡ length r.body → At G n g p d t → (before : List Symbol) × Valid G g p before [] t
 complete_of_at {G} {g = g} {t = t} p d r augmented is end i =
     let s = valid_of_at augmented i in

@@ -21,16 +21,19 @@ use Rattle.ly_explain.specs.Private.Met.{item_at}
 use Rattle.ly_explain.specs.Private.Uses.{HasSource}
 
 -- the rule of a number in the whole grammar is the one that is kept
-pub kept_is : (H R G : Grammar) (p : ℕ) (s r : GrammarRule) → KeepsUseful H R → R ≡ G → IsRule H p s → IsRule G p r → s ≡ r
+pub kept_is : (H R G : Grammar) (p : ℕ) (s r : GrammarRule) → KeepsUseful H R → R ≡ G → IsRule H p s → IsRule G p r
+    → s ≡ r
 kept_is H R G p s r keeps same whole kept =
     rule_is_one H p s r whole ((keeps.rules p r).0 (subst (λ A. IsRule A p r) (sym same) kept)).0
 
-pub kept_number : (H R G : Grammar) (p : ℕ) (r : GrammarRule) → KeepsUseful H R → R ≡ G → IsRule G p r → p < length H.rules
+pub kept_number : (H R G : Grammar) (p : ℕ) (r : GrammarRule) → KeepsUseful H R → R ≡ G → IsRule G p r
+    → p < length H.rules
 kept_number H R G p r keeps same kept =
     slice_get_within H.rules p (Some r) ((keeps.rules p r).0 (subst (λ A. IsRule A p r) (sym same) kept)).0
 
 -- what stands at the dot is ahead of it
-pub ahead_at : (G : Grammar) (i : Item) (X : Symbol) (r : GrammarRule) → IsRule G i.rule r → slice_get r.body i.dot ≡ Some X
+pub ahead_at : (G : Grammar) (i : Item) (X : Symbol) (r : GrammarRule) → IsRule G i.rule r
+    → slice_get r.body i.dot ≡ Some X
     → IsAhead G i X (drop (i.dot + 1) r.body)
 ahead_at G i X r is at = record { rule = r; is_rule = is; ahead = drop_at r.body i.dot X at }
 

@@ -133,7 +133,8 @@ conflict_rival G judge c is = of_kind c.kind c.choice is.counted is.choice where
   of_kind reduce_reduce error counted done = absurd (done.1 c.rule counted.0.0 (counted.0.1 done.0))
 
 -- what follows from a demand, and the string that meets it, meet the first demand
-follows_met : (M : Lr0Automaton) (is : IsLr0Automaton M) (t : ℕ) (from d : Demand) (g : List Symbol) → Follows M t from d
+follows_met : (M : Lr0Automaton) (is : IsLr0Automaton M) (t : ℕ) (from d : Demand) (g : List Symbol)
+    → Follows M t from d
     → IsMet M t g d → (h : List Symbol) × IsMet M t h from
 follows_met M is t from d g at_start met = (g, met)
 follows_met M is t from d g (by_step {d = e} popped follows step) met =

@@ -125,4 +125,5 @@ found_example M N e is c d g opens met =
 pub no_example : (M N : Lr0Automaton) → N ≡ M → IsLr0Automaton N → (c : Conflict) (d : Demand) → Opens M c d
     → ((g : List Symbol) → IsMet N c.terminal g d → ⊥) → (g : List Symbol) → IsExample M.grammar c g → ⊥
 no_example M N e is c d opens none g example =
-    none g (subst (λ A. IsMet A c.terminal g d) (sym e) (met_of_example M (subst IsLr0Automaton e is) c d g opens example))
+    none g (subst (λ A. IsMet A c.terminal g d) (sym e)
+    (met_of_example M (subst IsLr0Automaton e is) c d g opens example))

@@ -271,7 +271,8 @@ passed_more S old next t us before done behind front first back last = (
 -- THE RULES OF A GRAMMAR
 
 -- a rule that is kept at a number
-pub rule_kept : (G : Grammar) (rules : List GrammarRule) → map Some rules ≡ G.rules → (k : ℕ) (r : GrammarRule) → k < length rules
+pub rule_kept : (G : Grammar) (rules : List GrammarRule) → map Some rules ≡ G.rules → (k : ℕ) (r : GrammarRule)
+    → k < length rules
     → r ≡ slice_index_or rules k r → IsRule G k r
 rule_kept G rules these k r lt e = ap (λ rs. slice_get rs k) (sym these) ∙ slice_get-map Some rules k
     ∙ ap (option_map Some) (slice_get-get_or rules k r lt ∙ ap Some (sym e))

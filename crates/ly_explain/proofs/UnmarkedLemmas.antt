@@ -61,7 +61,8 @@ body_marked body n old new past added = added_as (ByStepBefore (StandsAt (map sy
     contained : (w : List Symbol) (k : ℕ) (X : Symbol) → slice_get w k ≡ Some X → Contains w X
     contained w k X at = (k, slice_get_within w k X at, get_or_from_slice_get w k X X at)
 
-pub stands_in : (s : Spec) (k : ℕ) (r : GrammarRule) → IsRule s.grammar k r → (body : List Symbol) → body ≡ r.body → (t : ℕ)
+pub stands_in : (s : Spec) (k : ℕ) (r : GrammarRule) → IsRule s.grammar k r → (body : List Symbol) → body ≡ r.body
+    → (t : ℕ)
     → Contains body (terminal t) ↔ StandsIn s k t
 stands_in s k r rule body e t = (
   λ has. (r, rule, subst (λ w. Contains w (terminal t)) e has),

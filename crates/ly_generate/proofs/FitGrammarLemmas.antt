@@ -216,7 +216,8 @@ module _ (v : Version) (limits : Sizes) (yacc : List ℕ) (x : Scanning) (w : Wr
       let at = slice_get-get_or joined.rules k (accept_rule 0 0) lt in
       (_, at, joined_at (table_of s) w.rules joined.rules joined.notes joined.joined k _ at)
 
-  rule_short : (p : ℕ) → 1 ≤ p → p < length s.grammar.rules → (r : GrammarRule) × IsRule s.grammar p r × (length r.body ≤ 255)
+  rule_short : (p : ℕ) → 1 ≤ p → p < length s.grammar.rules
+      → (r : GrammarRule) × IsRule s.grammar p r × (length r.body ≤ 255)
   rule_short zero some lt = absurd (omega (arith, some))
   rule_short (suc k) some lt =
       let count = rule_count in

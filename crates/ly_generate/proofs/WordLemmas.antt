@@ -80,7 +80,8 @@ notes_of_rules m (r ∷ rs) [] notes h = absurd h
 notes_of_rules m (r ∷ rs) (rule ∷ rules) [] h = absurd h
 notes_of_rules m (r ∷ rs) (rule ∷ rules) (n ∷ notes) h = ap suc (notes_of_rules m rs rules notes h.1)
 
-module _ (x : Scanning) (w : Written) (s : Spec) (M : Lr0Automaton) (patterns : List pattern.Rule) (A : scanner.Automaton)
+module _ (x : Scanning) (w : Written) (s : Spec) (M : Lr0Automaton) (patterns : List pattern.Rule)
+    (A : scanner.Automaton)
     (set : TableSet) (joined : Joined x w s) (of : IsSetOf s M patterns A set) where
   same_terminals : (t : ℕ) → name_in set.terminals t ≡ unwrap_or (option_map terminal_name (slice_get s.terminals t)) []
   same_terminals t = ap (λ names. name_in names t) of.terminals

@@ -21,7 +21,8 @@ use Rattle.ly_grammar.proofs.SearchLemmas.{HavePassed, on_passed, on_found, on_w
 use Rattle.ly_grammar.proofs.SearchLemmas.{waits_now, through}
 
 -- what one call has read: the body of a rule, what was found, how far the body was known to pass, and how far it passes
-pub record IsRead (s : Progress) (p : ℕ) (r : GrammarRule) (symbols : List code.Symbol) (marks : List Bool) (before at : ℕ)
+pub record IsRead (s : Progress) (p : ℕ) (r : GrammarRule) (symbols : List code.Symbol) (marks : List Bool)
+    (before at : ℕ)
     : Type 0 where
   pub body : map symbol_of symbols ≡ r.body
   pub found : marks ≡ s.found
@@ -109,7 +110,8 @@ pub numbered_in : (n : ℕ) (w : List Symbol) (A : ℕ) → All (HasNumberBelow 
 numbered_in n w A all member = All-contains (HasNumberBelow n) w (nonterminal A) all member
 
 -- so a rule's body was passed as far as that
-pub has_passed : (s : Progress) (p : ℕ) (r : GrammarRule) (symbols : List code.Symbol) (marks : List Bool) (before at : ℕ)
+pub has_passed : (s : Progress) (p : ℕ) (r : GrammarRule) (symbols : List code.Symbol) (marks : List Bool)
+    (before at : ℕ)
     (stop : Option code.Symbol) → IsRead s p r symbols marks before at → HasPlaces s p r
     → stop ≡ slice_get symbols at → HasPassed s (with_passed s p at) p r stop
 has_passed s p r symbols marks before at stop is places e = record {

@@ -75,7 +75,8 @@ module _ (G : Grammar) (marks : List Bool)
         behind false pass there recur = Contains-none X there
 
   -- one that starts with a terminal by rules has a tree whose string begins with it, where all bodies have trees
-  pub starts_begins : ((p : ℕ) (r : GrammarRule) → IsRule G p r → HaveTrees G true r.body) → (A t : ℕ) → Starts G marks A t
+  pub starts_begins : ((p : ℕ) (r : GrammarRule) → IsRule G p r → HaveTrees G true r.body) → (A t : ℕ)
+      → Starts G marks A t
       → BeginsYield G (nonterminal A ∷ []) t
   starts_begins trees A t (at_once p r u rule member) =
       let b = opening_begins r.body (trees p r rule).0 (terminal u) u (trees p r rule).1 member (terminal_begins G u) in

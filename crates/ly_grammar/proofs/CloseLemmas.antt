@@ -121,7 +121,8 @@ taken G s next rules is (A, queue, these, same) = subst (λ n. IsTaken G s n rul
   ]
 
 -- the first of those to be looked at is settled
-pub one_less : (G : Grammar) (s : Progress) (p : ℕ) (rest : List ℕ) (r : GrammarRule) → IsRule G p r → Settled s rest p r
+pub one_less : (G : Grammar) (s : Progress) (p : ℕ) (rest : List ℕ) (r : GrammarRule) → IsRule G p r
+    → Settled s rest p r
     → (q : ℕ) (r2 : GrammarRule) → IsRule G q r2 → Settled s (p ∷ rest) q r2 → Settled s rest q r2
 one_less G s p rest r rule here q r2 rule2 was = elim was [
   | found e ↦ found e

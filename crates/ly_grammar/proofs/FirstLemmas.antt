@@ -109,7 +109,8 @@ pub record AreFirsts (G : Grammar) (marks : List Bool) (g : Digraph) (sets : Mat
   pub width : sets.width ≡ G.terminals
   pub rows : length sets.sets ≡ G.accept + 1
   pub exact : (j t : ℕ) → Member (row sets.sets j) t
-      ↔ ((p : ℕ) × (r : GrammarRule) × (p < n) × IsRule G p r × (r.left ≡ j) × Contains (opening marks r.body) (terminal t))
+      ↔ ((p : ℕ) × (r : GrammarRule) × (p < n) × IsRule G p r × (r.left ≡ j)
+      × Contains (opening marks r.body) (terminal t))
 
 -- an edge of parts is one to a nonterminal
 pub part_of : (left : ℕ) (w : List Symbol) (A B : ℕ) → Contains (parts left w) (A, B)

@@ -41,7 +41,8 @@ length-marked (true ∷ kept) (x ∷ rules) e = ap suc (length-marked kept rules
 length-marked (false ∷ kept) (x ∷ rules) e = ap suc (length-marked kept rules (omega (arith, e)))
 
 -- the rules of a grammar, as a list of rules that are all there
-pub listed_rule : (G : Grammar) (rules : List GrammarRule) (p : ℕ) (d : GrammarRule) → map Some rules ≡ G.rules → p < length rules
+pub listed_rule : (G : Grammar) (rules : List GrammarRule) (p : ℕ) (d : GrammarRule) → map Some rules ≡ G.rules
+    → p < length rules
     → IsRule G p (slice_index_or rules p d)
 listed_rule G rules p d e lt = subst (λ rs. slice_get rs p ≡ Some (Some (slice_index_or rules p d))) e
     (slice_get-map Some rules p ∙ ap (λ o. option_map Some o) (slice_get-get_or rules p d lt))

@@ -13,7 +13,8 @@ pub record AreMarks (G : Grammar) (P : ℕ → GrammarRule → Type 0) (marks : 
   pub exact : (p : ℕ) (r : GrammarRule) → IsRule G p r → p < n → (slice_index_or marks p false ≡ true) ↔ P p r
 
 -- one more mark
-pub marked_more : (G : Grammar) (P : ℕ → GrammarRule → Type 0) (marks : List Bool) (n : ℕ) (b : Bool) → AreMarks G P marks n
+pub marked_more : (G : Grammar) (P : ℕ → GrammarRule → Type 0) (marks : List Bool) (n : ℕ) (b : Bool)
+    → AreMarks G P marks n
     → ((r : GrammarRule) → IsRule G n r → (b ≡ true) ↔ P n r) → AreMarks G P (marks ++ b ∷ []) (n + 1)
 marked_more G P marks n b are here = record {
   long = (let e = length-append marks (b ∷ []) in let l = are.long in omega (arith, e, l));

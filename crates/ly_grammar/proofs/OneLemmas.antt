@@ -7,7 +7,8 @@ use Rattle.ly_grammar.specs.Laws.{UsefulRulesAreOne}
 use Rattle.ly_grammar.specs.Reduction.{KeepsUseful}
 
 -- what is a rule wherever the other is, and the other way round, is the same
-both_ways : (x y : Option GrammarRule) → ((r : GrammarRule) → x ≡ Some r → y ≡ Some r) → ((r : GrammarRule) → y ≡ Some r → x ≡ Some r)
+both_ways : (x y : Option GrammarRule) → ((r : GrammarRule) → x ≡ Some r → y ≡ Some r)
+    → ((r : GrammarRule) → y ≡ Some r → x ≡ Some r)
     → x ≡ y
 both_ways None None to from = refl
 both_ways None (Some q) to from = from q refl

@@ -77,7 +77,8 @@ of_rules_append f (Some r ∷ v) w
     = ap (λ xs. f r ++ xs) (of_rules_append f v w) ∙ sym (append_assoc (f r) (of_rules f v) (of_rules f w))
 
 -- what it makes of one rule more, and of a number without one
-pub of_rules_more : {X : Type 0} (f : GrammarRule → List X) (rules : List (Option GrammarRule)) (n : ℕ) (o : Option GrammarRule)
+pub of_rules_more : {X : Type 0} (f : GrammarRule → List X) (rules : List (Option GrammarRule)) (n : ℕ)
+    (o : Option GrammarRule)
     → slice_get rules n ≡ Some o → of_rules f (take (n + 1) rules) ≡ of_rules f (take n rules) ++ of_rules f (o ∷ [])
 of_rules_more f rules n o there =
     ap (λ k. of_rules f (take k rules)) (add-one n)
@@ -86,7 +87,8 @@ of_rules_more f rules n o there =
     ∙ of_rules_append f (take n rules) (o ∷ [])
 
 -- what comes of some rule
-pub of_rule : {X : Type 0} (f : GrammarRule → List X) (rules : List (Option GrammarRule)) (x : X) → Contains (of_rules f rules) x
+pub of_rule : {X : Type 0} (f : GrammarRule → List X) (rules : List (Option GrammarRule)) (x : X)
+    → Contains (of_rules f rules) x
     → (p : ℕ) × (r : GrammarRule) × (slice_get rules p ≡ Some (Some r)) × Contains (f r) x
 of_rule f [] x member = Contains-none x member
 of_rule f (None ∷ rules) x member = let it = of_rule f rules x member in (suc it.0, it.1, it.2, it.3)
@@ -95,7 +97,8 @@ of_rule f (Some r ∷ rules) x member = elim (Contains-append_cases (f r) (of_ru
   | inr later ↦ let it = of_rule f rules x later in (suc it.0, it.1, it.2, it.3)
 ]
 
-pub by_rule : {X : Type 0} (f : GrammarRule → List X) (rules : List (Option GrammarRule)) (p : ℕ) (r : GrammarRule) (x : X)
+pub by_rule : {X : Type 0} (f : GrammarRule → List X) (rules : List (Option GrammarRule)) (p : ℕ) (r : GrammarRule)
+    (x : X)
     → slice_get rules p ≡ Some (Some r) → Contains (f r) x → Contains (of_rules f rules) x
 by_rule f [] p r x there member = absurd (cc)
 by_rule f (None ∷ rules) zero r x there member = absurd (cc)
@@ -132,7 +135,8 @@ way_grows g given sets i j n least (along a b c edge way) member
     = least.grows.grows a b n edge (way_grows g given sets b c n least way member)
 
 -- what the rules of a grammar are made to is known of them up to a number, and one rule more is kept or not
-pub kept_more : {X : Type 0} (f : GrammarRule → List X) (G : Grammar) (kept : List Bool) (n : ℕ) (r : GrammarRule) → IsRule G n r
+pub kept_more : {X : Type 0} (f : GrammarRule → List X) (G : Grammar) (kept : List Bool) (n : ℕ) (r : GrammarRule)
+    → IsRule G n r
     → slice_index_or kept n false ≡ true → of_rules f (take (n + 1) (kept_rules kept G.rules))
     ≡ of_rules f (take n (kept_rules kept G.rules)) ++ f r
 kept_more f G kept n r rule on = of_rules_more f (kept_rules kept G.rules) n (Some r)

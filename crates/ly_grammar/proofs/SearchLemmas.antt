@@ -102,7 +102,8 @@ now_passed G s p at r is rule lt all q r2 is2 = elim (same_or_not q p) [
 ]
 
 -- more of a rule's body passes
-pub on_passed : (G : Grammar) (s : Progress) (p at : ℕ) (r : GrammarRule) → IsSearch G s → IsRule G p r → p < length s.passed
+pub on_passed : (G : Grammar) (s : Progress) (p at : ℕ) (r : GrammarRule) → IsSearch G s → IsRule G p r
+    → p < length s.passed
     → HavePassed s r at → SearchGoesOn G s (with_passed s p at)
 on_passed G s p at r is rule lt all = record {
   search = record {
@@ -211,7 +212,8 @@ still_waits s A p lt B q w = elim (same_or_not B A) [
 ]
 
 -- one that waits is a rule
-waiting_rule : (G : Grammar) (s : Progress) (A p : ℕ) (r : GrammarRule) → IsSearch G s → IsRule G p r → A < length s.waiting
+waiting_rule : (G : Grammar) (s : Progress) (A p : ℕ) (r : GrammarRule) → IsSearch G s → IsRule G p r
+    → A < length s.waiting
     → (B q : ℕ) → Contains (waits_for (with_waiting s A p) B) q → (r2 : GrammarRule) × IsRule G q r2
 waiting_rule G s A p r is rule lt B q w = elim (same_or_not B A) [
   | inl same ↦ elim (Contains-append_cases (waits_for s A) (p ∷ []) q

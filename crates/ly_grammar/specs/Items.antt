@@ -13,7 +13,8 @@ onto (X ∷ before) w = onto before (X ∷ w)
 -- string with a terminal as its lookahead.
 pub data Valid (G : Grammar) : List Symbol → ℕ → List Symbol → List Symbol → ℕ → Type 0 where
   at_start : {r : GrammarRule} {w : List Symbol} → IsRule G 0 r → w ≡ r.body → Valid G [] 0 [] w 0
-  closed : {g : List Symbol} {p : ℕ} {before after : List Symbol} {B t : ℕ} {q : ℕ} {r : GrammarRule} {w : List Symbol} {u : ℕ}
+  closed : {g : List Symbol} {p : ℕ} {before after : List Symbol} {B t : ℕ} {q : ℕ} {r : GrammarRule} {w : List Symbol}
+      {u : ℕ}
       → Valid G g p before (nonterminal B ∷ after) t → IsRule G q r → r.left ≡ B → w ≡ r.body → First G after t u
       → Valid G g q [] w u
   moved : {g : List Symbol} {p : ℕ} {before after : List Symbol} {X : Symbol} {t : ℕ}

@@ -20,12 +20,14 @@ grammar_of terminals accept start rules within some all = record {
   augmented = record { end_within = some; start_within = within; rule_0 = refl; within = within_at };
   whole = there (accept_rule accept start ∷ rules);
 } where
-  there : (rs : List GrammarRule) (p : ℕ) → p < length (map Some rs) → (r : GrammarRule) × (slice_get (map Some rs) p ≡ Some (Some r))
+  there : (rs : List GrammarRule) (p : ℕ) → p < length (map Some rs)
+      → (r : GrammarRule) × (slice_get (map Some rs) p ≡ Some (Some r))
   there [] p lt = absurd (omega (arith, lt))
   there (r ∷ rs) zero lt = (r, refl)
   there (r ∷ rs) (suc p) lt = there rs p (omega (arith, lt))
 
-  within_at : (p : ℕ) (r : GrammarRule) → IsRule (grammar_from terminals accept start (accept_rule accept start ∷ rules)) p r
+  within_at : (p : ℕ) (r : GrammarRule) → IsRule
+      (grammar_from terminals accept start (accept_rule accept start ∷ rules)) p r
       → 1 ≤ p → RuleWithin terminals accept r
   within_at zero r here le = absurd (omega arith)
   within_at (suc k) r here le = all_at (RuleWithin terminals accept) rules k r all here

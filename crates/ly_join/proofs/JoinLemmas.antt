@@ -159,7 +159,8 @@ module _ (w : Written) (m : SymbolTable) (numbered : AreNumbered w m) where
   }
 
   -- what is made of joined rules and actions is the specification
-  pub joined_from : (x : Scanning) (start : ℕ) (rules : List GrammarRule) (notes : List Note) (scanner : List ScanAction)
+  pub joined_from : (x : Scanning) (start : ℕ) (rules : List GrammarRule) (notes : List Note)
+      (scanner : List ScanAction)
       → IsStart w m start → RulesJoined m w.rules rules notes → AllZip (IsScanAction m.terminals) x.actions scanner
       → Joined x w (spec_from m start rules notes scanner)
   joined_from x start rules notes scanner is joined actions = record {

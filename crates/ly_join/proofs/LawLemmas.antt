@@ -135,7 +135,8 @@ module _ (m : SymbolTable) (tokens : AllPairs (λ x y. x ≢ y) m.terminals)
   rule_precedence_one (Some x) w p q (t, is, h) (u, also, g) =
       precedence_of_one (Some t) p q h (subst (λ k. IsPrecedenceOf m.precedences (Some k) q) (word_one x u t also is) g)
 
-  rule_one : (r : Ruling) (a b : GrammarRule) (n o : Note) → IsJoinedRule m r a n → IsJoinedRule m r b o → (a ≡ b) × (n ≡ o)
+  rule_one : (r : Ruling) (a b : GrammarRule) (n o : Note) → IsJoinedRule m r a n → IsJoinedRule m r b o
+      → (a ≡ b) × (n ≡ o)
   rule_one r a b n o h g =
       let left : a.left ≡ b.left
       = one_place (λ z. z) m.nonterminals a.left b.left r.left r.left names h.left g.left refl in
@@ -148,7 +149,8 @@ module _ (m : SymbolTable) (tokens : AllPairs (λ x y. x ≢ y) m.terminals)
         ap₂ (λ p s. let x : Note = record { precedence = p; shape = s } in x) precedence shape,
       )
 
-  rules_one : (rs : List Ruling) (as' bs : List GrammarRule) (ns os : List Note) → AreJoined m rs as' ns → AreJoined m rs bs os
+  rules_one : (rs : List Ruling) (as' bs : List GrammarRule) (ns os : List Note) → AreJoined m rs as' ns
+      → AreJoined m rs bs os
       → (as' ≡ bs) × (ns ≡ os)
   rules_one [] [] [] [] [] h g = (refl, refl)
   rules_one [] [] [] [] (o ∷ os) h g = absurd g

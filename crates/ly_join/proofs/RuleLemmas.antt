@@ -157,7 +157,8 @@ undefined_in m ws w NoRules there h = absurd h
 undefined_in m ws w (LimitPassed which) there h = absurd h
 
 -- rules that are joined, with one more
-joined_push : (m : SymbolTable) (rs : List Ruling) (rules : List GrammarRule) (notes : List Note) (r : Ruling) (rule : GrammarRule)
+joined_push : (m : SymbolTable) (rs : List Ruling) (rules : List GrammarRule) (notes : List Note) (r : Ruling)
+    (rule : GrammarRule)
     (note : Note) → AreJoined m rs rules notes → IsJoinedRule m r rule note
     → AreJoined m (rs ++ r ∷ []) (rules ++ rule ∷ []) (notes ++ note ∷ [])
 joined_push m [] [] [] r rule note all one = (one, tt)
@@ -168,7 +169,8 @@ joined_push m (s ∷ rs) (g ∷ rules) [] r rule note all one = absurd all
 joined_push m (s ∷ rs) (g ∷ rules) (n ∷ notes) r rule note all one =
     (all.0, joined_push m rs rules notes r rule note all.1 one)
 
-pub rules_more : (m : SymbolTable) (rs : List Ruling) (rules : List GrammarRule) (notes : List Note) (r : Ruling) (rule : GrammarRule)
+pub rules_more : (m : SymbolTable) (rs : List Ruling) (rules : List GrammarRule) (notes : List Note) (r : Ruling)
+    (rule : GrammarRule)
     (note : Note) → RulesJoined m rs rules notes → IsJoinedRule m r rule note
     → (Contains m.terminals (token r.left) → ⊥)
     → RulesJoined m (rs ++ r ∷ []) (rules ++ rule ∷ []) (notes ++ note ∷ [])
@@ -184,7 +186,8 @@ rules_more m rs rules notes r rule note so_far one apart = record {
 }
 
 -- as many rules as in the file
-as_many : (m : SymbolTable) (rs : List Ruling) (rules : List GrammarRule) (notes : List Note) → AreJoined m rs rules notes
+as_many : (m : SymbolTable) (rs : List Ruling) (rules : List GrammarRule) (notes : List Note)
+    → AreJoined m rs rules notes
     → length rules ≡ length rs
 as_many m [] [] [] all = refl
 as_many m [] [] (n ∷ notes) all = absurd all
@@ -194,7 +197,8 @@ as_many m (s ∷ rs) (g ∷ rules) [] all = absurd all
 as_many m (s ∷ rs) (g ∷ rules) (n ∷ notes) all = omega (arith, as_many m rs rules notes all.1)
 
 -- rules that may be no more than some, with one more that is kept
-pub within_more : (most : ℕ) (m : SymbolTable) (rs : List Ruling) (rules : List GrammarRule) (notes : List Note) (r : Ruling)
+pub within_more : (most : ℕ) (m : SymbolTable) (rs : List Ruling) (rules : List GrammarRule) (notes : List Note)
+    (r : Ruling)
     (rule : GrammarRule) (note : Note) → AreJoinedWithin most m rs rules notes → IsJoinedRule m r rule note
     → (Contains m.terminals (token r.left) → ⊥)
     → AreJoinedWithin most m (rs ++ r ∷ []) (rules ++ rule ∷ []) (notes ++ note ∷ [])
@@ -202,7 +206,8 @@ within_more most m rs rules notes r rule note so_far one apart few =
     rules_more m rs rules notes r rule note (so_far (omega (arith, few, length-append rs (r ∷ [])))) one apart
 
 -- and with one more where as many are kept as may be
-pub within_full : (most : ℕ) (m : SymbolTable) (rs : List Ruling) (rules : List GrammarRule) (notes : List Note) (r : Ruling)
+pub within_full : (most : ℕ) (m : SymbolTable) (rs : List Ruling) (rules : List GrammarRule) (notes : List Note)
+    (r : Ruling)
     → AreJoinedWithin most m rs rules notes → most ≤ length rules
     → AreJoinedWithin most m (rs ++ r ∷ []) rules notes
 within_full most m rs rules notes r so_far full few =

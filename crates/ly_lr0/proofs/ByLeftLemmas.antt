@@ -19,7 +19,8 @@ HasRulesBelow G lists n = (A q : ℕ) → A ≤ G.accept → Contains (slice_ind
 
 module _ (F : Grammar) (R : Reduction) (lists : List (List ℕ)) (n : ℕ) (is : IsReduction F R)
     (count : length lists ≡ R.grammar.accept + 1) (was : HasRulesBelow R.grammar lists n) where
-  pub by_left_more : (lists' : List (List ℕ)) (s : GrammarRule) (left : ℕ) → IsKept R.grammar n → IsRule F n s → left ≡ s.left
+  pub by_left_more : (lists' : List (List ℕ)) (s : GrammarRule) (left : ℕ) → IsKept R.grammar n → IsRule F n s
+      → left ≡ s.left
       → lists' ≡ slice_set lists left (slice_index_or lists left [] ++ n ∷ []) → left < length lists
       → (length lists' ≡ R.grammar.accept + 1) × HasRulesBelow R.grammar lists' (n + 1)
   by_left_more lists' s left kept here same set less = (
@@ -91,7 +92,8 @@ module _ (F : Grammar) (R : Reduction) (lists : List (List ℕ)) (n : ℕ) (is :
   }
 
 -- a rule's left side has a list
-pub left_within : (F : Grammar) (R : Reduction) (n : ℕ) (s : GrammarRule) (left : ℕ) → IsReduction F R → IsKept R.grammar n
+pub left_within : (F : Grammar) (R : Reduction) (n : ℕ) (s : GrammarRule) (left : ℕ) → IsReduction F R
+    → IsKept R.grammar n
     → IsRule F n s → left ≡ s.left → (size : ℕ) → size ≡ R.grammar.accept + 1 → left < size
 left_within F R zero s left is kept here same size count =
     let one : s ≡ accept_rule R.grammar.accept R.grammar.start

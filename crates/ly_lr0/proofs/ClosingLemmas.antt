@@ -11,7 +11,8 @@ use Rattle.std.proofs.lemmas.Option.{get_or_from_slice_get, slice_get-get_or, sl
 use Rattle.ly_base.proofs.MemberLemmas.{Contains-none}
 use Rattle.ly_base.proofs.SparseSetLemmas.{inserted_new, inserted_old}
 use Rattle.ly_base.specs.SparseSet.{Chosen, with_member}
-use Rattle.ly_join.specs.Grammar.{Grammar, IsAugmented, IsRule, GrammarRule, Symbol, SymbolWithin, accept_rule, nonterminal}
+use Rattle.ly_join.specs.Grammar.{Grammar, IsAugmented, IsRule, GrammarRule, Symbol, SymbolWithin, accept_rule}
+use Rattle.ly_join.specs.Grammar.{nonterminal}
 use Rattle.ly_join.specs.Grammar.{symbol_of}
 use Rattle.ly_join.specs.declared.symbol.Symbol as code
 use Rattle.ly_grammar.specs.Reduction.{IsReduction, Reduction}
@@ -21,7 +22,8 @@ use Rattle.ly_lr0.specs.Private.Closing.{AreAdded, AreByLeft, IsAdded, IsAtEnd, 
 use Rattle.ly_lr0.specs.Private.Items.{IsBehind, IsClosed, IsEntered, added, given}
 
 -- a rule that is kept is the grammar's
-pub kept_one : (F : Grammar) (R : Reduction) (p : ℕ) (s : GrammarRule) → IsReduction F R → IsKept R.grammar p → IsRule F p s
+pub kept_one : (F : Grammar) (R : Reduction) (p : ℕ) (s : GrammarRule) → IsReduction F R → IsKept R.grammar p
+    → IsRule F p s
     → IsRule R.grammar p s
 kept_one F R p s is kept here =
     let there = (is.keeps.rules p kept.0).0 kept.1 in

@@ -56,7 +56,8 @@ item_of_valid {G = G} (moved {before = before} {after = after} {X = X} v) =
 
 mutual
   -- a rule that occurs in a tree has trees for its body
-  body_trees : (d : Tree) (G : Grammar) (X : Symbol) (p : ℕ) (r : GrammarRule) → IsRule G p r → IsTree G X d → Occurs p d
+  body_trees : (d : Tree) (G : Grammar) (X : Symbol) (p : ℕ) (r : GrammarRule) → IsRule G p r → IsTree G X d
+      → Occurs p d
       → (ts : Trees) × AreTrees G r.body ts
   body_trees (leaf t) G X p r e h o = absurd o
   body_trees (node q ts) G (terminal k) p r e h o = absurd h
@@ -66,7 +67,8 @@ mutual
   )
   body_trees (node q ts) G (nonterminal A) p r e h (inr o) = body_trees_among ts G h.0.body p r e h.3 o
 
-  body_trees_among : (ts : Trees) (G : Grammar) (w : List Symbol) (p : ℕ) (r : GrammarRule) → IsRule G p r → AreTrees G w ts
+  body_trees_among : (ts : Trees) (G : Grammar) (w : List Symbol) (p : ℕ) (r : GrammarRule) → IsRule G p r
+      → AreTrees G w ts
       → OccursAmong p ts → (us : Trees) × AreTrees G r.body us
   body_trees_among none G w p r e h o = absurd o
   body_trees_among (more d ts) G [] p r e h o = absurd h
@@ -169,7 +171,8 @@ module _ (G : Grammar) (augmented : IsAugmented G) (reduced : IsReduced G) where
       let long : length c.0 ≡ length b.0.body = omega (arith, length-onto c.0 [], ap length b.2) in
       (b.0, b.1, subst (λ n. HasItem G g p n) long (item_of_valid c.1.1))
 
-  pub complete_of_item : (g : List Symbol) (p d : ℕ) (r : GrammarRule) → IsRule G p r → length r.body ≤ d → HasItem G g p d
+  pub complete_of_item : (g : List Symbol) (p d : ℕ) (r : GrammarRule) → IsRule G p r → length r.body ≤ d
+      → HasItem G g p d
       → IsComplete G g p
   complete_of_item g p d r is long i =
       let s = valid_of_item i in
@@ -183,7 +186,8 @@ module _ (G : Grammar) (augmented : IsAugmented G) (reduced : IsReduced G) where
       empty (X ∷ w) e = absurd (omega (arith, e))
 
   -- the dot of an item isn't past the body
-  pub item_within : {g : List Symbol} {p d : ℕ} → HasItem G g p d → (r : GrammarRule) × IsRule G p r × (d ≤ length r.body)
+  pub item_within : {g : List Symbol} {p d : ℕ} → HasItem G g p d
+      → (r : GrammarRule) × IsRule G p r × (d ≤ length r.body)
   item_within i =
       let s = valid_of_item i in
       let b = body_of s.valid in

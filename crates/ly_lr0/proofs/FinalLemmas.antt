@@ -10,7 +10,8 @@ use Rattle.ly_base.specs.Keys.{IsAbsent}
 use Rattle.ly_join.specs.Grammar.{Grammar, IsAugmented, Symbol, terminal}
 use Rattle.ly_grammar.specs.Derivations.{IsReduced}
 use Rattle.ly_grammar.specs.Items.{HasMoreCores, IsComplete, IsViable, SameCore}
-use Rattle.ly_lr0.specs.Automaton.{AreNumbered, Lr0Automaton, ComesBefore, HasCores, IsLr0Automaton, IsLess, IsState, Reaches}
+use Rattle.ly_lr0.specs.Automaton.{AreNumbered, Lr0Automaton, ComesBefore, HasCores, IsLr0Automaton, IsLess, IsState}
+use Rattle.ly_lr0.specs.Automaton.{Reaches}
 use Rattle.ly_lr0.specs.Automaton.{State, Transition, goto_of, prefix_of}
 use Rattle.ly_lr0.specs.declared.item.Item.{Item}
 use Rattle.ly_lr0.specs.declared.transition.Row.{Row}

@@ -38,7 +38,8 @@ rising_prefixes M is i j d less within =
     subst (λ g. ComesBefore g (get_or (prefixes M) j d)) (sym a)
     (subst (ComesBefore (prefix_of M i)) (sym b) (is.numbered.rising i j less (omega (arith, within, count))))
 
-module _ (M N : Lr0Automaton) (one : IsLr0Automaton M) (two : IsLr0Automaton N) (cores : HasCores M.grammar (goto_of N)) where
+module _ (M N : Lr0Automaton) (one : IsLr0Automaton M) (two : IsLr0Automaton N)
+    (cores : HasCores M.grammar (goto_of N)) where
   -- the prefix of a state of the one is that of a state of the other
   prefix_too : (s : ℕ) → s < length M.states → (t : ℕ) × (t < length N.states) × (prefix_of N t ≡ prefix_of M s)
   prefix_too s lt =

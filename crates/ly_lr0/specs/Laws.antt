@@ -5,7 +5,8 @@ use Rattle.ly_lr0.specs.Automaton.{Lr0Automaton, IsLr0Automaton}
 
 -- there are no more cores of viable strings than states
 abbrev pub NoMoreCoresThanStates : Type 0
-NoMoreCoresThanStates = (M : Lr0Automaton) (n : ℕ) → IsLr0Automaton M → length M.states ≤ n → HasMoreCores M.grammar n → ⊥
+NoMoreCoresThanStates = (M : Lr0Automaton) (n : ℕ) → IsLr0Automaton M → length M.states ≤ n
+    → HasMoreCores M.grammar n → ⊥
 
 -- a grammar has one automaton
 abbrev pub AutomatonIsOne : Type 0

@@ -15,7 +15,8 @@ use Rattle.ly_base.proofs.ListLemmas.{AllPairs-append, AllPairs-head, AllPairs-n
 use Rattle.ly_join.specs.Grammar.{Symbol, nonterminal, symbol_of, terminal}
 use Rattle.ly_join.specs.declared.symbol.Symbol.TheVariants.{Terminal}
 use Rattle.ly_join.proofs.ListLemmas.{member_at, placed}
-use Rattle.ly_lr0.specs.Automaton.{Lr0Automaton, IsLr0Automaton, IsLess, State, Transition, goto_of, state_at, symbol_eq}
+use Rattle.ly_lr0.specs.Automaton.{Lr0Automaton, IsLr0Automaton, IsLess, State, Transition, goto_of, state_at}
+use Rattle.ly_lr0.specs.Automaton.{symbol_eq}
 use Rattle.ly_lr0.specs.Automaton.{target_of}
 use Rattle.std.proofs.Math.Seq.{get_or-append_seam}
 use Rattle.std.proofs.Math.ListN.{get_or-map}
@@ -341,7 +342,8 @@ are_gotos M is = record { are = are; all = all; once = λ n m x. once_in (gotos_
       (from_has 0 M.states p of.0 A r of.1 (target_some of.0.transitions (nonterminal A) r of.2)))
 
 -- a transition leads to a state, from one
-pub goto_states : (M : Lr0Automaton) → IsLr0Automaton M → (n : ℕ) (x : Goto) → slice_get (gotos_from 0 M.states) n ≡ Some x
+pub goto_states : (M : Lr0Automaton) → IsLr0Automaton M → (n : ℕ) (x : Goto)
+    → slice_get (gotos_from 0 M.states) n ≡ Some x
     → (x.from < length M.states) × (x.target < length M.states)
 goto_states M is n x at =
     let of = from_member 0 M.states x (member_at (gotos_from 0 M.states) n x at) in
@@ -353,7 +355,8 @@ goto_states M is n x at =
     )
 
 -- what a numbering has: transitions between states, over nonterminals that rules name
-pub are_named : (M : Lr0Automaton) → IsLr0Automaton M → (n : ℕ) (x : Goto) → slice_get (gotos_from 0 M.states) n ≡ Some x
+pub are_named : (M : Lr0Automaton) → IsLr0Automaton M → (n : ℕ) (x : Goto)
+    → slice_get (gotos_from 0 M.states) n ≡ Some x
     → x.symbol ≤ M.grammar.accept
 are_named M is n x at = symbol_named M.grammar (goto_of M) is.augmented is.cores ((are_gotos M is).are n x at)
 

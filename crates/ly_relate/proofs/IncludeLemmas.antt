@@ -107,7 +107,8 @@ pub included_past : (G : Grammar) (gotos : List Goto) (body : List Symbol) (path
 included_past G gotos body path i (place, le, is) = let lt = is.within in omega (arith, le, lt)
 
 -- two transitions of one state over one symbol have one number
-one_goto : (M : Lr0Automaton) (gotos : List Goto) → AreGotos M gotos → (i j : ℕ) (x y : Goto) → slice_get gotos i ≡ Some x
+one_goto : (M : Lr0Automaton) (gotos : List Goto) → AreGotos M gotos → (i j : ℕ) (x y : Goto)
+    → slice_get gotos i ≡ Some x
     → slice_get gotos j ≡ Some y → x.from ≡ y.from → x.symbol ≡ y.symbol → i ≡ j
 one_goto M gotos are i j x y at_x at_y from symbol =
     let same : Some x.target ≡ Some y.target
@@ -255,7 +256,8 @@ edges_lacking M gotos body path old g n k A q are place lacks before =
 -- WALKS
 
 -- Where the symbols of a rule's body lead from where a transition begins, its lookback and what it includes are known.
-module _ (n : Numbering) (law : IsNumbering n) (m rule : ℕ) (y : Goto) (r : GrammarRule) (at : slice_get n.gotos m ≡ Some y)
+module _ (n : Numbering) (law : IsNumbering n) (m rule : ℕ) (y : Goto) (r : GrammarRule)
+    (at : slice_get n.gotos m ≡ Some y)
     (is_rule : IsRule n.automaton.grammar rule r) (is_left : r.left ≡ y.symbol) (path : List ℕ) (s : ℕ)
     (passed : IsPassed n.automaton y.from r.body (length r.body) path s) where
   -- a whole body, last symbol first
@@ -357,7 +359,8 @@ module _ (n : Numbering) (law : IsNumbering n) (m rule : ℕ) (y : Goto) (r : Gr
         )
 
 -- the body of a transition's rule leads on to its end
-pub never_stopped : (n : Numbering) → IsNumbering n → (m rule : ℕ) (y : Goto) (r : GrammarRule) → slice_get n.gotos m ≡ Some y
+pub never_stopped : (n : Numbering) → IsNumbering n → (m rule : ℕ) (y : Goto) (r : GrammarRule)
+    → slice_get n.gotos m ≡ Some y
     → IsRule n.automaton.grammar rule r → r.left ≡ y.symbol → IsStopped n.automaton y.from r.body → ⊥
 never_stopped n law m rule y r at is_rule is_left stop =
     let goes = (numbered_are n law).are m y at in

@@ -2,7 +2,8 @@
 use Rattle.std.proofs.Common.{◌≡◌, ◌≢◌, ◌∙◌, inl, inr, ℕ, zero, suc, List, [], ◌∷◌, ◌++◌, All, Some, arith}
 use Rattle.std.proofs.Common.{refl, sym, ap, subst, ◌≤◌, ◌<◌}
 use Rattle.std.proofs.lemmas.List.Elements.{All-head}
-use Rattle.ly_join.specs.Grammar.{Grammar, IsAugmented, IsRule, GrammarRule, Symbol, SymbolWithin, accept_rule, nonterminal}
+use Rattle.ly_join.specs.Grammar.{Grammar, IsAugmented, IsRule, GrammarRule, Symbol, SymbolWithin, accept_rule}
+use Rattle.ly_join.specs.Grammar.{nonterminal}
 use Rattle.ly_join.specs.Grammar.{terminal}
 use Rattle.ly_grammar.specs.Derivations.{IsReduced}
 use Rattle.ly_grammar.specs.Items.{HasNoEnd, IsNextSymbol, Valid, at_start, closed, moved, onto}
@@ -148,7 +149,8 @@ module _ (G : Grammar) (goto : Gotos) (augmented : IsAugmented G) (automaton : H
           omega (arith, lt)
 
   -- a rule of a transition's nonterminal isn't rule 0
-  pub rule_past_zero : {s r : ℕ} (p : ℕ) (rule : GrammarRule) → IsRule G p rule → goto s (nonterminal rule.left) ≡ Some r
+  pub rule_past_zero : {s r : ℕ} (p : ℕ) (rule : GrammarRule) → IsRule G p rule
+      → goto s (nonterminal rule.left) ≡ Some r
       → 1 ≤ p
   rule_past_zero {s} {r} zero rule is e =
       let zeroth = rule_is_one G 0 rule (accept_rule G.accept G.start) is augmented.rule_0 in
@@ -156,7 +158,8 @@ module _ (G : Grammar) (goto : Gotos) (augmented : IsAugmented G) (automaton : H
   rule_past_zero {s} {r} (suc p) rule is e = omega arith
 
   -- what stands before another in a rule has no end in it
-  no_end_before : (p : ℕ) (r : GrammarRule) (w rest : List Symbol) → IsRule G p r → 1 ≤ p → onto w rest ≡ r.body → HasNoEnd w
+  no_end_before : (p : ℕ) (r : GrammarRule) (w rest : List Symbol) → IsRule G p r → 1 ≤ p → onto w rest ≡ r.body
+      → HasNoEnd w
   no_end_before p r [] rest is le e = tt
   no_end_before p r (X ∷ w) rest is le e = (
     (λ z. let within = symbol_within w rest X augmented is le e in

@@ -58,7 +58,8 @@ pub record Waits (G : Grammar) (g : List Symbol) (X : Symbol) (after : List Symb
   pub takes_in : (v : ℕ) → First G after t v → First G rest behind v
 
 -- what begins a rule's body begins its left side
-First_of_body : (G : Grammar) (q : ℕ) (r : GrammarRule) (B : ℕ) (after : List Symbol) (t u v : ℕ) → IsRule G q r → r.left ≡ B
+First_of_body : (G : Grammar) (q : ℕ) (r : GrammarRule) (B : ℕ) (after : List Symbol) (t u v : ℕ) → IsRule G q r
+    → r.left ≡ B
     → First G after t u → First G r.body u v → First G (nonterminal B ∷ after) t v
 First_of_body G q r B after t u v e l f (inl b) =
     let us = First_trees f in

@@ -26,7 +26,8 @@ pub record IsWalked (n : Numbering) (m rule : ℕ) (body : List Symbol) (from : 
 
 pub walked : (n : Numbering) (m rule : ℕ) (g : goto.Goto) (G R : Grammar) (q : GrammarRule) (body : List Symbol)
     → slice_get n.gotos m ≡ Some (goto_from g)
-    → (x : Goto) × (slice_get n.gotos m ≡ Some x) × (r : GrammarRule) × IsRule n.automaton.grammar rule r × (r.left ≡ x.symbol)
+    → (x : Goto) × (slice_get n.gotos m ≡ Some x) × (r : GrammarRule) × IsRule n.automaton.grammar rule r ×
+    (r.left ≡ x.symbol)
     → KeepsUseful G R → R ≡ n.automaton.grammar → IsRule G rule q → body ≡ q.body → IsWalked n m rule body g.from.0
 walked n m rule g G R q body here (x, at, r, is_rule, is_left) keeps same is e =
     let one : Some (goto_from g) ≡ Some x = sym here ∙ at in

@@ -130,7 +130,8 @@ looks_rules_more n rules k d m lt s p = (to, back) where
 -- by all rules of the nonterminal
 pub includes_rules_all : (n : Numbering) (rules : List ℕ) (k m : ℕ) (y : Goto) → length rules ≤ k
     → slice_get n.gotos m ≡ Some y
-    → ((q : ℕ) → Contains rules q ↔ ((r : GrammarRule) × IsRule n.automaton.grammar q r × (r.left ≡ y.symbol))) → (i : ℕ)
+    → ((q : ℕ) → Contains rules q ↔ ((r : GrammarRule) × IsRule n.automaton.grammar q r × (r.left ≡ y.symbol)))
+    → (i : ℕ)
     → IncludesByOne n (take k rules) m i ↔ IsIncluding n.automaton n.gotos i m
 includes_rules_all n rules k m y all at known i = (to, back) where
   to : IncludesByOne n (take k rules) m i → IsIncluding n.automaton n.gotos i m
@@ -148,7 +149,8 @@ includes_rules_all n rules k m y all at known i = (to, back) where
 
 pub looks_rules_all : (n : Numbering) (rules : List ℕ) (k m : ℕ) (y : Goto) → length rules ≤ k
     → slice_get n.gotos m ≡ Some y
-    → ((q : ℕ) → Contains rules q ↔ ((r : GrammarRule) × IsRule n.automaton.grammar q r × (r.left ≡ y.symbol))) → (s p : ℕ)
+    → ((q : ℕ) → Contains rules q ↔ ((r : GrammarRule) × IsRule n.automaton.grammar q r × (r.left ≡ y.symbol)))
+    → (s p : ℕ)
     → LooksBackByOne n (take k rules) m s p ↔ IsLookingBack n.automaton n.gotos m s p
 looks_rules_all n rules k m y all at known s p = (to, back) where
   to : LooksBackByOne n (take k rules) m s p → IsLookingBack n.automaton n.gotos m s p

@@ -52,7 +52,8 @@ all_within_named s sizes (X ∷ w) all =
     (all_within_named s sizes w (All-tail Within X w all))
 
 -- the symbols of rules have names
-pub left_named : (s : Spec) → HasSizes s → IsGrammar s.grammar → (p : ℕ) (r : GrammarRule) → IsRule s.grammar p r → 1 ≤ p
+pub left_named : (s : Spec) → HasSizes s → IsGrammar s.grammar → (p : ℕ) (r : GrammarRule) → IsRule s.grammar p r
+    → 1 ≤ p
     → IsNamed s (nonterminal r.left)
 left_named s sizes is p r rule le =
     let long = sizes.nonterminals in

@@ -56,7 +56,8 @@ report_told r s M G conflicts removed before mid text of are these nothing first
   are = joined before (removed_text s removed) (conflicts_text s (map (conflict_from M) conflicts)) second first
       ∙ ap (λ l. l ++ (removed_text s removed ++ conflicts_text s (map (conflict_from M) conflicts))) nothing
       ∙ ap (λ (x : Spec). removed_text x removed ++ conflicts_text x (map (conflict_from M) conflicts)) of.spec
-      ∙ ap (λ (A : Lr0Automaton). removed_text r.spec removed ++ conflicts_text r.spec (map (conflict_from A) conflicts))
+      ∙ ap (λ (A : Lr0Automaton). removed_text r.spec removed
+      ++ conflicts_text r.spec (map (conflict_from A) conflicts))
       of.automaton
       ∙ ap (λ told. removed_text r.spec removed ++ conflicts_text r.spec told) these;
 }

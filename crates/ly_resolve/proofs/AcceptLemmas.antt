@@ -4,7 +4,8 @@ use Rattle.std.proofs.Common.{subst, arith, append_assoc, le_of_eq}
 use Rattle.std.proofs.lemmas.List.Elements.{All-head, All-tail}
 use Rattle.ly_base.specs.Lexed.{Token}
 use Rattle.ly_base.specs.Trees.{Tree, Trees, leaf, node, none, more, yield_of, yields_of}
-use Rattle.ly_join.specs.Grammar.{Grammar, IsAugmented, IsRule, GrammarRule, Symbol, SymbolWithin, accept_rule, nonterminal}
+use Rattle.ly_join.specs.Grammar.{Grammar, IsAugmented, IsRule, GrammarRule, Symbol, SymbolWithin, accept_rule}
+use Rattle.ly_join.specs.Grammar.{nonterminal}
 use Rattle.ly_join.specs.Grammar.{terminal}
 use Rattle.ly_grammar.specs.Derivations.{AreTrees, First, IsTree}
 use Rattle.ly_grammar.specs.Items.{HasNoEnd, IsViable, Merges, Valid, at_start, closed, moved, onto}

@@ -28,7 +28,8 @@ completes {t = t} r before is body e =
     read_on before [] (closed w.valid is refl body (w.takes_in t e.first))
 
 -- the body of a complete rule
-complete_body : {G : Grammar} {g before : List Symbol} {q t : ℕ} (r : GrammarRule) → IsRule G q r → Valid G g q before [] t
+complete_body : {G : Grammar} {g before : List Symbol} {q t : ℕ} (r : GrammarRule) → IsRule G q r
+    → Valid G g q before [] t
     → onto before [] ≡ r.body
 complete_body {G} {q = q} r is v =
     let body = body_of v in

@@ -90,5 +90,6 @@ pub data Reduces (G : Grammar) : List Symbol → List Symbol → Type 0 where
 -- reduction by default, where no action is asked for, leads to no shift.
 abbrev pub DefaultsNeverMislead : Type 0
 DefaultsNeverMislead = (G : Grammar) → IsAugmented G → IsReduced G
-    → (g under h before : List Symbol) (q k t : ℕ) (r : GrammarRule) → IsRule G q r → IsViable G g → Valid G g q before [] k
+    → (g under h before : List Symbol) (q k t : ℕ) (r : GrammarRule) → IsRule G q r → IsViable G g
+    → Valid G g q before [] k
     → g ≡ before ++ under → Reduces G (nonterminal r.left ∷ under) h → IsRaw G h t shift → InLookahead G g q t

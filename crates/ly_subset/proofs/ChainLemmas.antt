@@ -48,7 +48,8 @@ run_if first last q low = elim (cases_lt last q) [
 
 pub run_if_not : (first last q : ℕ) → q < first → MatchBool (leb first q) (Contains (run_of first last) q)
     (Contains (run_of first last) q → ⊥)
-run_if_not first last q below = rw (lt-leb first q below) (λ h. omega (arith, below, ((contains_run first last q).0 h).0))
+run_if_not first last q below = rw (lt-leb first q below)
+    (λ h. omega (arith, below, ((contains_run first last q).0 h).0))
 
 -- a position that only the one before it follows begins a chain
 pub chain_begins : (n : Nfa) (p : ℕ) → BeginsChain n p → IsChain n p p

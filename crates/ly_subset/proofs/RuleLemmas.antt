@@ -6,7 +6,8 @@ use Rattle.std.specs.Prelude.{slice_index_or, option_map}
 use Rattle.std.proofs.lemmas.Bool.{cases_lt}
 use Rattle.std.proofs.lemmas.List.{get_or_append_left, get_or_push, length_push, length-map, map_push, take_more}
 use Rattle.std.proofs.lemmas.Option.{slice_get_within}
-use Rattle.std.proofs.lemmas.List.Elements.{All-from_get_or, All-push, Contains-append_left, Contains-get_or, Contains-push}
+use Rattle.std.proofs.lemmas.List.Elements.{All-from_get_or, All-push, Contains-append_left, Contains-get_or}
+use Rattle.std.proofs.lemmas.List.Elements.{Contains-push}
 use Rattle.std.proofs.lemmas.List.Elements.{Contains-push_cases}
 use Rattle.ly_base.proofs.MemberLemmas.{Contains-none}
 use Rattle.ly_base.specs.declared.numbers.RuleNo.{RuleNo}
@@ -104,7 +105,8 @@ module _ (nfa : Nfa) (span : Option Span) where
 
 -- no rule ends at a position that reads
 pub reads_no_end : (nfa : Nfa) (p : ℕ) (place : Position) → ((rule : RuleNo) → place ≡ position.Ends rule → ⊥)
-    → slice_get nfa.positions p ≡ Some (position_from place (follow_of (position_of nfa p))) → (j : ℕ) → IsEnd nfa p j → ⊥
+    → slice_get nfa.positions p ≡ Some (position_from place (follow_of (position_of nfa p))) → (j : ℕ) → IsEnd nfa p j
+    → ⊥
 reads_no_end nfa p place none at j is = off place none (sym at ∙ is)
   where
     off : (place : Position) → ((rule : RuleNo) → place ≡ position.Ends rule → ⊥)

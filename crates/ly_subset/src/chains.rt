@@ -2,7 +2,8 @@
 // leads to. To join these anew for each set and class takes the square of the positions, for each class. But such
 // positions stand in a chain: after each, just those before it may come, down to where the chain begins. So the last
 // position of a set that reads a byte says at once what all that do lead to, which is kept as a run.
-ghost use Rattle.std.specs.Prelude.{◌≡◌, ◌<◌, ◌-◌, ◌≤◌, ◌^◌, ℕ, length, false, All, AllPairs, Contains, IfOk, IfSome, slice_index_or};
+ghost use Rattle.std.specs.Prelude.{◌≡◌, ◌<◌, ◌-◌, ◌≤◌, ◌^◌, ℕ, length, false, All, AllPairs, Contains, IfOk, IfSome};
+ghost use Rattle.std.specs.Prelude.{slice_index_or};
 ghost use Rattle.std.specs.Prelude.{MatchBool, MatchOption};
 ghost use Rattle.ly_position.specs.Nfa.{ReadsByte};
 ghost use Rattle.ly_subset.specs.Private.Chains.{AreChains, IsChain, IsLastReader, IsSpanAfter, ReadsNone};
@@ -102,7 +103,8 @@ pub(crate) fn last_reader(nfa: &PosNfa, from: &Members, byte: u8, unread: Option
     requires unread { IfSome unread (λ b. (p : ℕ) → ReadsByte nfa.now p b → ⊥) }
     requires from { All (λ p. p < length nfa.now.positions) (listed from.now) }
     requires rising { AllPairs (λ p q. p < q) (listed from.now) }
-    ensures { MatchOption result (ReadsNone nfa.now (listed from.now) byte) (IsLastReader nfa.now (listed from.now) byte) }
+    ensures { MatchOption result (ReadsNone nfa.now (listed from.now) byte)
+        (IsLastReader nfa.now (listed from.now) byte) }
 {
     match unread {
         Some(none) if none == byte => None,
@@ -114,7 +116,8 @@ pub(crate) fn last_reader(nfa: &PosNfa, from: &Members, byte: u8, unread: Option
 fn last_of(nfa: &PosNfa, from: &Members, byte: u8) -> Option<u32>
     requires from { All (λ p. p < length nfa.now.positions) (listed from.now) }
     requires rising { AllPairs (λ p q. p < q) (listed from.now) }
-    ensures { MatchOption result (ReadsNone nfa.now (listed from.now) byte) (IsLastReader nfa.now (listed from.now) byte) }
+    ensures { MatchOption result (ReadsNone nfa.now (listed from.now) byte)
+        (IsLastReader nfa.now (listed from.now) byte) }
 {
     for passed in 0..from.len() {
         let number = from.at(from.len() - 1 - passed);

@@ -89,7 +89,8 @@ abbrev pub HaveNoTokenLeft : SymbolTable → List Ruling → Type 0
 HaveNoTokenLeft m rules = (n : List ℕ) → Contains (map (λ r. r.left) rules) n → Contains m.terminals (token n) → ⊥
 
 -- The rules are joined, and with them the note of rule 0.
-pub record RulesJoined (m : SymbolTable) (rulings : List Ruling) (rules : List GrammarRule) (notes : List Note) : Type 0 where
+pub record RulesJoined (m : SymbolTable) (rulings : List Ruling) (rules : List GrammarRule) (notes : List Note) : Type
+    0 where
   pub rest : List Note
   pub all_notes : notes ≡ accept_note ∷ rest
   pub joined : AreJoined m rulings rules rest

@@ -9,7 +9,8 @@ abbrev pub invariant-loop-number : goal.invariant-loop-number
 invariant-loop-number l = record {
   search : IsSearch (restricted l.kept l.grammar) l.search;
   terminals : l.search.terminals ≡ l.terminals;
-  settled : (p : ℕ) (r : GrammarRule) → IsRule (restricted l.kept l.grammar) p r → p < l.number → Settled l.search [] p r;
+  settled : (p : ℕ) (r : GrammarRule) → IsRule (restricted l.kept l.grammar) p r → p < l.number
+      → Settled l.search [] p r;
 }
 
 -- all rules are settled

@@ -11,7 +11,8 @@ returns-then-number-bound c = λ no. none_below c.args.nfa.now (listed c.args.fr
     (let at = c.at-number.ensures in let up = c.if-number-bound.true in omega arith) c.loop-place.invariant
 
 pub loop-place-preserved : goal.loop-place-preserved
-loop-place-preserved c = below_more (λ k. ReadsByte c.args.nfa.now (get_or (listed c.args.from.now) k 0) c.args.byte → ⊥)
+loop-place-preserved c = below_more
+    (λ k. ReadsByte c.args.nfa.now (get_or (listed c.args.from.now) k 0) c.args.byte → ⊥)
     c.loop-place.place c.loop-place.invariant
     (subst (λ q. ReadsByte c.args.nfa.now q c.args.byte → ⊥) c.at-number.ensures
     (reads_not c.args.nfa.now _ c.position.result c.args.byte c.reads.result c.ranges.byte.fits c.position.ensures

@@ -18,7 +18,8 @@ loop-number-preserved c =
     let less : n < length nfa.positions = (let all = c.len.ensures in let few = c.min-number-end.ensures in
     let l = c.loop-number-test.true in omega arith) in
     elim c.match-position.branch [
-      | in-Ends+in_ok-push w ↦ subst (AreEnds nfa (n + 1)) (sym (ap (λ v. v.items) w.ends-is ∙ w.in_ok-push.ensures.items))
+      | in-Ends+in_ok-push w ↦ subst (AreEnds nfa (n + 1))
+          (sym (ap (λ v. v.items) w.ends-is ∙ w.in_ok-push.ensures.items))
           (ends_more nfa n c.loop-number.ends.items c.loop-number.invariant less)
       | in_default w ↦ subst (AreEnds nfa (n + 1)) (sym (ap (λ v. v.items) w.ends-is))
           (ends_same nfa n c.loop-number.ends.items c.loop-number.invariant

@@ -38,8 +38,8 @@ loop-place-preserved c =
       | else-lies_in w ↦ subst (λ o. IsLeastRule (HasEndIn nfa span (take (k + 1) ps)) o)
           (sym (ap (option_map (λ r. r.0)) w.least-is))
           (least_end_same nfa span ps k p less c.at-number.ensures least
-          (λ j inside _. subst (λ b. MatchBool b (LiesIn span p) (LiesIn span p → ⊥)) w.if-lies_in.false c.lies_in.ensures
-          inside)
+          (λ j inside _. subst (λ b. MatchBool b (LiesIn span p) (LiesIn span p → ⊥)) w.if-lies_in.false
+          c.lies_in.ensures inside)
           c.loop-place.invariant)
     ]
 
