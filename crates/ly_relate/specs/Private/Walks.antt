@@ -28,10 +28,10 @@ AreBack old new n P = (s p m : ℕ) → Contains new (record { state = s; rule =
 
 -- From a state the first symbols of a body lead to another, over these states, one before each of them.
 pub record IsPassed (M : Lr0Automaton) (from : ℕ) (body : List Symbol) (count : ℕ) (path : List ℕ) (s : ℕ) : Type 0
-    where
-  pub long : length path ≡ count
-  pub states : (k : ℕ) → k < count → Reaches (goto_of M) from (reverse (take k body)) (slice_index_or path k 0)
-  pub end : Reaches (goto_of M) from (reverse (take count body)) s
+  where
+    pub long : length path ≡ count
+    pub states : (k : ℕ) → k < count → Reaches (goto_of M) from (reverse (take k body)) (slice_index_or path k 0)
+    pub end : Reaches (goto_of M) from (reverse (take count body)) s
 
 -- From a state the first of the symbols lead to one that the next doesn't leave.
 pub record IsStopped (M : Lr0Automaton) (from : ℕ) (body : List Symbol) : Type 0 where
