@@ -1,4 +1,5 @@
 ghost use Rattle.std.specs.Prelude.{◌≡◌, ℕ, ◌<◌, ◌↔◌, [], length, slice_get, Some, All, Contains, IfOk, IsTrue};
+ghost use Rattle.std.specs.Prelude.{MatchBool};
 ghost use Rattle.ly_position.specs.Private.Targets.{StepsTo, SameRoom, target_after};
 ghost use Rattle.ly_position.specs.Private.Chain.{BeginsAt, GoesOnAt, IsBefore, next_of};
 ghost use Rattle.ly_position.specs.Target.{GoOnWithin};
@@ -79,7 +80,7 @@ impl Model for PosNfa {
 }
 
 impl PosNfa {
-    ghost use Rattle.ly_position.specs.Nfa.{BeginsChain, GoesOnChain, Stepped, IsRoomFor};
+    ghost use Rattle.ly_position.specs.Nfa.{BeginsChain, GoesOnChain, ReadsByte, Stepped, IsRoomFor};
     ghost use Rattle.ly_position.specs.Nfa.{follow_of, position_of, starts_of};
     ghost use Rattle.ly_position.specs.Position.{nfa_of, position_from};
     ghost use Rattle.ly_position.specs.Target.{TargetsExist};
@@ -119,6 +120,17 @@ impl PosNfa {
         match self.slots[number as usize] {
             Slot::Reads { bytes, .. } => Position::Reads { bytes },
             Slot::Ends(rule) => Position::Ends(rule),
+        }
+    }
+
+    /// Whether a position reads the byte.
+    pub fn reads(&self, number: u32, byte: u8) -> bool
+        requires { number < length self.now.positions }
+        ensures { MatchBool result (ReadsByte self.now number byte) (ReadsByte self.now number byte → ⊥) }
+    {
+        match &self.slots[number as usize] {
+            Slot::Reads { bytes, .. } => bytes.contains(byte),
+            Slot::Ends(_) => false,
         }
     }
 

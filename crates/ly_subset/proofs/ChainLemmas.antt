@@ -98,18 +98,6 @@ chain_more n firsts first number count so one p l = elim (cases_lt p number) [
       (subst (λ k. 0 < first → IsChain n first k) same one)
 ]
 
--- what the test of a byte tells of a position
-pub reads_one : (n : Nfa) (p : ℕ) (place : Position) (b : ℕ) (test : Bool) → b < 256
-    → slice_get n.positions p ≡ Some (position_from place (follow_of (position_of n p))) → test ≡ reads_in place b
-    → test ≡ true → ReadsByte n p b
-reads_one n p place b test l at is passed = (reads_as n p place b l at).1 (sym is ∙ passed)
-
-pub reads_not : (n : Nfa) (p : ℕ) (place : Position) (b : ℕ) (test : Bool) → b < 256
-    → slice_get n.positions p ≡ Some (position_from place (follow_of (position_of n p))) → test ≡ reads_in place b
-    → test ≡ false → ReadsByte n p b → ⊥
-reads_not n p place b test l at is failed h = let off : true ≡ false = sym ((reads_as n p place b l at).0 h) ∙ sym is
-    ∙ failed in cc
-
 module _ (n : Nfa) (ps : List ℕ) (b : ℕ) (rising : AllPairs (λ p q. p < q) ps) where
   -- a later member is no less
   no_less : (i j : ℕ) → i ≤ j → j < length ps → get_or ps i 0 ≤ get_or ps j 0

@@ -10,7 +10,6 @@ ghost use Rattle.ly_subset.specs.Private.Chains.{AreChains, IsChain, IsLastReade
 ghost use Rattle.ly_subset.specs.Private.Members.{listed};
 ghost use Rattle.ly_subset.specs.Private.Packed.{run_of};
 
-use crate::classes::reads;
 use crate::members::Members;
 use ly_position::PosNfa;
 use std::alloc::{AllocError, Global};
@@ -121,7 +120,7 @@ fn last_of(nfa: &PosNfa, from: &Members, byte: u8) -> Option<u32>
 {
     for passed in 0..from.len() {
         let number = from.at(from.len() - 1 - passed);
-        if reads(&nfa.position(number), byte) {
+        if nfa.reads(number, byte) {
             return Some(number);
         }
     }
@@ -164,7 +163,7 @@ fn reads_below(nfa: &PosNfa, from: &Members, byte: u8, bound: u32) -> bool
         if number >= bound {
             return false;
         }
-        if reads(&nfa.position(number), byte) {
+        if nfa.reads(number, byte) {
             return true;
         }
     }

@@ -124,19 +124,9 @@ fn is_read(nfa: &PosNfa, byte: u8) -> bool
         return true;
     };
     for number in 0..count {
-        if reads(&nfa.position(number), byte) {
+        if nfa.reads(number, byte) {
             return true;
         }
     }
     false
-}
-
-/// Whether a position reads the byte.
-pub(crate) fn reads(position: &Position, byte: u8) -> bool
-    ensures { result ≡ reads_in position.now byte }
-{
-    match position {
-        Position::Reads { bytes } => bytes.contains(byte),
-        Position::Ends(_) => false,
-    }
 }

@@ -111,7 +111,7 @@ impl Found {
 }
 
 /// The entry that leads to the set of a key, which is added where it is a new one.
-fn number(keys: &mut Sets, limit: u32, key: Vec<u32>) -> Result<Entry, SubsetFault>
+fn number(keys: &mut Sets, limit: u32, mut key: Vec<u32>) -> Result<Entry, SubsetFault>
     requires packed { IsPacked key.items }
     requires set { IsKeptSet (unpack key.items) }
     requires kept { SomeKept limit keys.old }
@@ -127,6 +127,7 @@ fn number(keys: &mut Sets, limit: u32, key: Vec<u32>) -> Result<Entry, SubsetFau
     if count >= limit as usize {
         return Err(SubsetFault::TooManyStates);
     }
+    key.shrink_to_fit();
     keys.push(key)?;
     Ok(Entry::to(count as u32))
 }

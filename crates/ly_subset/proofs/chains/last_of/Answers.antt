@@ -3,7 +3,7 @@ use Rattle.std.specs.Prelude.{◌-◌}
 use Rattle.ly_position.specs.Nfa.{ReadsByte}
 use Rattle.ly_subset.specs.Private.Chains.{IsLastReader}
 use Rattle.ly_subset.specs.Private.Members.{listed}
-use Rattle.ly_subset.proofs.ChainLemmas.{last_found, none_found, passed_more, reads_not, reads_one}
+use Rattle.ly_subset.proofs.ChainLemmas.{last_found, none_found, passed_more}
 use Rattle.ly_subset.proofs.chains.last_of.Goals as goal
 
 pub returns-then-reads : goal.returns-then-reads
@@ -16,9 +16,7 @@ returns-then-reads c =
     let l = c.loop-passed-test.true in omega arith) in
     subst (IsLastReader nfa ps c.args.byte) (sym c.at-number.ensures)
     (last_found nfa ps c.args.byte c.requires.rising passed k at
-    (subst (λ q. ReadsByte nfa q c.args.byte) c.at-number.ensures
-    (reads_one nfa _ c.position.result c.args.byte c.reads.result c.ranges.byte.fits c.position.ensures
-    c.reads.ensures c.if-reads.true))
+    (subst (λ q. ReadsByte nfa q c.args.byte) c.at-number.ensures c.if-reads.ensures)
     c.loop-passed.invariant)
 
 pub loop-passed-preserved : goal.loop-passed-preserved
@@ -30,9 +28,7 @@ loop-passed-preserved c =
     let at : k + passed + 1 ≡ length ps = (let all = c.len.ensures in let end = c.len-passed-end.ensures in
     let l = c.loop-passed-test.true in omega arith) in
     passed_more nfa ps c.args.byte c.requires.rising passed k at
-    (subst (λ q. ReadsByte nfa q c.args.byte → ⊥) c.at-number.ensures
-    (reads_not nfa _ c.position.result c.args.byte c.reads.result c.ranges.byte.fits c.position.ensures
-    c.reads.ensures c.if-reads.false))
+    (subst (λ q. ReadsByte nfa q c.args.byte → ⊥) c.at-number.ensures c.if-reads.ensures)
     c.loop-passed.invariant
 
 pub returns : goal.returns

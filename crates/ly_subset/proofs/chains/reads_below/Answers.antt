@@ -1,7 +1,7 @@
 use Rattle.std.proofs.Common.{arith, below_more, get_or, subst}
 use Rattle.ly_position.specs.Nfa.{ReadsByte}
 use Rattle.ly_subset.specs.Private.Members.{listed}
-use Rattle.ly_subset.proofs.ChainLemmas.{none_at_all, none_below, reads_not}
+use Rattle.ly_subset.proofs.ChainLemmas.{none_at_all, none_below}
 use Rattle.ly_subset.proofs.chains.reads_below.Goals as goal
 
 pub returns-then-number-bound : goal.returns-then-number-bound
@@ -14,9 +14,7 @@ pub loop-place-preserved : goal.loop-place-preserved
 loop-place-preserved c = below_more
     (λ k. ReadsByte c.args.nfa.now (get_or (listed c.args.from.now) k 0) c.args.byte → ⊥)
     c.loop-place.place c.loop-place.invariant
-    (subst (λ q. ReadsByte c.args.nfa.now q c.args.byte → ⊥) c.at-number.ensures
-    (reads_not c.args.nfa.now _ c.position.result c.args.byte c.reads.result c.ranges.byte.fits c.position.ensures
-    c.reads.ensures c.if-reads.false))
+    (subst (λ q. ReadsByte c.args.nfa.now q c.args.byte → ⊥) c.at-number.ensures c.if-reads.ensures)
 
 pub returns : goal.returns
 returns c = λ no. none_at_all c.args.nfa.now (listed c.args.from.now) c.args.byte c.requires.rising c.args.bound

@@ -1,14 +1,11 @@
 use Rattle.std.proofs.Common.{arith, below_more}
 use Rattle.ly_position.specs.Nfa.{ReadsByte}
-use Rattle.ly_subset.proofs.ClassLemmas.{read_by_none, reads_as}
+use Rattle.ly_subset.proofs.ClassLemmas.{read_by_none}
 use Rattle.ly_subset.proofs.classes.is_read.Goals as goal
 
 pub loop-number-preserved : goal.loop-number-preserved
 loop-number-preserved c = below_more (λ p. ReadsByte c.args.nfa.now p c.args.byte → ⊥) c.loop-number.number
-    c.loop-number.invariant (λ h.
-    let reads = (reads_as c.args.nfa.now c.loop-number.number c.position.result c.args.byte c.ranges.byte.fits
-    c.position.ensures).0 h in
-    let said = c.reads.ensures in let not = c.if-reads.false in cc)
+    c.loop-number.invariant c.if-reads.ensures
 
 pub returns : goal.returns
 returns c = λ _. read_by_none c.args.nfa.now c.loop-number.number c.args.byte
