@@ -101,23 +101,45 @@ fn are_rows(sets: &SetMatrix, rows: &[u16]) -> bool {
     same
 }
 
-/// Whether the least sets of a graph are those by going round, found by few changes.
-fn is_solved(alloc: Global, nodes: usize, edges: &[u8], given: &[u8]) -> Result<bool, OutOfMemory> {
+/// The graph of edges.
+fn graph_of(alloc: Global, nodes: usize, edges: &[u8]) -> Result<Graph, OutOfMemory> {
     let mut graph = Graph::new(alloc, nodes)?;
     for pair in edges.chunks_exact(2) {
         if let [from, to] = pair {
             add(&mut graph, place(*from, b'a'), place(*to, b'a'))?;
         }
     }
+    Ok(graph)
+}
+
+/// The sets of the digits that nodes are given.
+fn sets_of(alloc: Global, nodes: usize, given: &[u8]) -> Result<SetMatrix, OutOfMemory> {
     let mut sets = SetMatrix::new(alloc, nodes, WIDTH as usize)?;
     for pair in given.chunks_exact(2) {
         if let [node, digit] = pair {
             insert(&mut sets, place(*node, b'a') as usize, place(*digit, b'0'));
         }
     }
+    Ok(sets)
+}
+
+/// Whether the least sets of a graph are those by going round, found by few changes.
+fn is_solved(alloc: Global, nodes: usize, edges: &[u8], given: &[u8]) -> Result<bool, OutOfMemory> {
+    let graph = graph_of(alloc, nodes, edges)?;
+    let mut sets = sets_of(alloc, nodes, given)?;
     let rise = solve(alloc, &graph, &mut sets)?;
     let most = nodes.saturating_add(edges.len() / 2) as u64;
     Ok(rise <= most && are_rows(&sets, &by_rounds(edges, given)))
+}
+
+/// The number of the first of `EXAMPLES` for which it isn't so.
+fn solved_otherwise(alloc: Global) -> Result<Option<usize>, OutOfMemory> {
+    for (number, (nodes, edges, given)) in EXAMPLES.iter().enumerate() {
+        if !is_solved(alloc, *nodes, edges, given)? {
+            return Ok(Some(number));
+        }
+    }
+    Ok(None)
 }
 
 /// Each node leads to the next, and the last one of a ring to the first.
@@ -160,12 +182,7 @@ fn is_ring_solved(alloc: Global, nodes: u32) -> Result<bool, OutOfMemory> {
 
 #[test]
 fn least_sets_are_found(rt: HostRuntime) -> Result<(), Fail> {
-    for (number, (nodes, edges, given)) in EXAMPLES.iter().enumerate() {
-        assert!(rt;
-            is_solved(rt.alloc(), *nodes, edges, given)?,
-            "graph {number}"
-        );
-    }
+    assert_eq!(rt; solved_otherwise(rt.alloc())?, None);
     assert!(rt; is_chain_solved(rt.alloc(), 200_000)?);
     assert!(rt; is_ring_solved(rt.alloc(), 1_000)?);
     Ok(())
