@@ -1,7 +1,7 @@
 -- What chains tell of the positions that may come after a set.
-use Rattle.std.proofs.Common.{◌≡◌, ◌<◌, ◌≤◌, ◌+◌, ◌∙◌, ℕ, List, [], ◌∷◌, ◌++◌, Bool, true, false, Some}
+use Rattle.std.proofs.Common.{◌≡◌, ◌<◌, ◌≤◌, ◌+◌, ◌∙◌, ℕ, List, [], ◌∷◌, ◌++◌}
 use Rattle.std.proofs.Common.{sym, ap, subst, arith, inl, inr, length, Contains, All, get_or, ◌⊎◌}
-use Rattle.std.specs.Prelude.{AllPairs, ◌↔◌, ◌-◌, MatchBool, slice_get}
+use Rattle.std.specs.Prelude.{AllPairs, ◌↔◌, ◌-◌, MatchBool}
 use Rattle.std.specs.List.{range_with_len}
 use Rattle.std.proofs.lemmas.Bool.{cases_eq, cases_lt, le-leb, lt-leb}
 use Rattle.std.proofs.Math.Dec.{leb}
@@ -9,15 +9,11 @@ use Rattle.std.proofs.lemmas.List.{get_or_append_left, get_or_default, get_or_pu
 use Rattle.std.proofs.lemmas.List.Elements.{All-contains, Contains-get_or}
 use Rattle.std.proofs.lemmas.List.FromFn.{get_or-range_with_len, length-range_with_len}
 use Rattle.ly_base.proofs.MemberLemmas.{Contains-none}
-use Rattle.ly_position.specs.Nfa.{Nfa, BeginsChain, GoesOnChain, Follows, ReadsByte, follow_of, position_of}
-use Rattle.ly_position.specs.Position.{position_from}
-use Rattle.ly_position.specs.declared.nfa.Position.{Position}
+use Rattle.ly_position.specs.Nfa.{Nfa, BeginsChain, GoesOnChain, Follows, ReadsByte}
 use Rattle.ly_subset.specs.Private.Chains.{AreChains, IsChain, IsLastReader, IsSpanAfter, ReadsNone}
-use Rattle.ly_subset.specs.Private.Classes.{reads_in}
 use Rattle.ly_subset.specs.Private.Found.{IsEntered, IsLed}
 use Rattle.ly_subset.specs.Private.Packed.{run_of}
 use Rattle.ly_subset.specs.declared.found.Found.{Found}
-use Rattle.ly_subset.proofs.ClassLemmas.{reads_as}
 
 contains_range : (a n q : ℕ) → Contains (range_with_len a n) q ↔ ((a ≤ q) × (q < a + n))
 contains_range a n q = (

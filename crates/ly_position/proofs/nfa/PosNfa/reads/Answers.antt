@@ -5,8 +5,8 @@ use Rattle.ly_base.specs.ByteSet.{has, members}
 use Rattle.ly_base.specs.declared.byte_set.ByteSet.{ByteSet}
 use Rattle.ly_base.proofs.ByteSetLemmas.{members_contain}
 use Rattle.ly_base.proofs.MemberLemmas.{Contains-none}
-use Rattle.ly_position.specs.Nfa.{Nfa, ReadsByte, bytes_of, position_of, reading}
-use Rattle.ly_position.specs.Position.{nfa_of, position_in}
+use Rattle.ly_position.specs.Nfa.{Nfa, ReadsByte, bytes_of, reading}
+use Rattle.ly_position.specs.Position.{position_in}
 use Rattle.ly_position.proofs.nfa.PosNfa.reads.Goals as goal
 
 told : (s : ByteSet) (b : ℕ) (test : Bool) → b < 256 → test ≡ has s b
