@@ -3,14 +3,14 @@ ghost use Rattle.ly_subset.specs.Automaton.{IsBreadthFirst};
 
 use crate::decided::Decided;
 use crate::explaining::Accepted;
-use crate::faults::lex_units::indented_lines;
-use crate::page::Page;
 use crate::patterns::surprises;
 use crate::places::Places;
 use crate::scanner::say_other_bytes;
 use ly_base::{OutOfMemory, Sym};
 use ly_explain::{unmatched_rules, unreduced_rules, unreturned_terminals, unused_terminals};
+use ly_findings::indented_lines;
 use ly_join::Spec;
+use ly_page::Page;
 use std::alloc::Global;
 
 /// How many terminals of a kind are told, at most.

@@ -1,11 +1,11 @@
 //! How an action comes about behind a string of symbols: the rules that are under way there, drawn with brackets.
-use crate::page::Page;
 use indexmap::{IndexMap, IndexSet};
 use ly_base::{OutOfMemory, StateNo, Sym};
 use ly_explain::Claim;
 use ly_grammar::Reduced;
 use ly_join::{Spec, Symbol};
 use ly_lr0::{Item, Lr0};
+use ly_page::Page;
 use std::alloc::{AllocError, Global};
 
 /// How many claims are looked at, at most, to find how an action comes about.

@@ -8,19 +8,15 @@
 //! strings both actions of a conflict are possible. `explain` says whether the files are accepted (`IsExplained`). How
 //! things are worded is tested alone.
 //!
-//! Left out: files and devices, which are the program's.
+//! Left out: which faults refused files have, which is `ly_findings`'s; files and devices, which are the program's.
 #![tactic(auto)]
 
 mod ambiguity;
-mod conditions;
 mod conflicts;
 mod decided;
 mod doubts;
 mod drawing;
 mod explaining;
-mod faults;
-mod named;
-mod page;
 mod patterns;
 mod picture;
 mod places;
@@ -31,4 +27,4 @@ mod trees;
 mod yields;
 
 pub use explaining::{Explanation, Wish, explain};
-pub use named::Named;
+pub use ly_page::Named;

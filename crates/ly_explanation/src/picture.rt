@@ -2,10 +2,10 @@
 ghost use Rattle.std.specs.Prelude.{◌<◌, length};
 
 use crate::explaining::Accepted;
-use crate::page::Page;
 use ly_base::{OutOfMemory, StateNo};
 use ly_join::{Spec, Symbol};
 use ly_lr0::{Item, Lr0};
+use ly_page::Page;
 use std::alloc::Global;
 
 /// Says the picture: a box a state, with the items that have something before their dots, and an arrow a transition,

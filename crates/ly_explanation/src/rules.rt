@@ -1,8 +1,8 @@
 //! The rules of the grammar, by the numbers that reports have for them.
 use crate::explaining::Accepted;
-use crate::page::Page;
 use crate::places::Places;
 use ly_base::OutOfMemory;
+use ly_page::Page;
 
 /// Says each rule with its number and its line.
 pub(crate) fn say_rules(page: &mut Page, files: Accepted<'_>, places: &Places) {

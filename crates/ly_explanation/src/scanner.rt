@@ -1,10 +1,10 @@
 //! The states of the scanner: which bytes it tells apart, where each condition begins, and where each state leads.
 ghost use Rattle.std.specs.Prelude.{◌<◌, length};
 
-use crate::conditions::known_conditions;
 use crate::explaining::Accepted;
-use crate::page::Page;
 use ly_base::OutOfMemory;
+use ly_findings::known_conditions;
+use ly_page::Page;
 use ly_subset::Dfa;
 use std::alloc::Global;
 

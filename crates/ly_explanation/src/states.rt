@@ -3,12 +3,12 @@ ghost use Rattle.std.specs.Prelude.{◌≡◌, ◌<◌, IfSome, length};
 ghost use Rattle.ly_lookahead.specs.Lookaheads.{AreLookaheads, HasSet};
 
 use crate::explaining::Accepted;
-use crate::page::Page;
 use ly_base::{OutOfMemory, RuleNo, StateNo, Sym};
 use ly_join::{Spec, Symbol};
 use ly_lookahead::{Lookaheads, lookaheads};
 use ly_lr0::{Item, Lr0};
 use ly_pack::{Dense, Machine, TableAction};
+use ly_page::Page;
 use ly_resolve::{Action, Resolved, TerminalAction};
 use std::alloc::Global;
 

@@ -1,8 +1,8 @@
 //! A sentence with two trees, as it is said.
 use crate::ambiguity::Ambiguity;
-use crate::page::Page;
 use ly_base::{OutOfMemory, Sym};
 use ly_join::{Spec, Symbol};
+use ly_page::Page;
 use std::alloc::Global;
 
 /// How many symbols of a tree are said, at most.

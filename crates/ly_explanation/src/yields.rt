@@ -1,8 +1,8 @@
 //! The shortest tokens that symbols yield.
-use crate::page::Page;
 use ly_base::{OutOfMemory, Sym};
 use ly_grammar::Reduced;
 use ly_join::{Grammar, Spec, Symbol};
+use ly_page::Page;
 use std::alloc::{AllocError, Global};
 
 /// How often the rules are gone through at most. A nonterminal that needs more has no yield here.

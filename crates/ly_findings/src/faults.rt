@@ -1,0 +1,71 @@
+ghost use Rattle.std.specs.Prelude.{◌≡◌, OnOk, OnErr};
+ghost use Rattle.ly_page.specs.Page.{SaysMore};
+
+use crate::advice::Advice;
+use crate::finding::Findings;
+use crate::join_faults::find_join_faults;
+use crate::lex_faults::find_lex_faults;
+use crate::telling::{say_fault, say_findings};
+use crate::yacc_faults::find_yacc_faults;
+use crate::yacc_places::start_location;
+use ly_base::{Limits, OutOfMemory};
+use ly_generate::GenFault;
+use ly_page::{Named, Page};
+use std::alloc::Global;
+
+/// Says the faults of two files that are refused for this one: all that can be told apart, or else this one.
+///
+/// `OutOfMemory` comes where a growth was refused that wasn't the page's; the page stays as it was then.
+pub fn say_faults(
+    alloc: Global,
+    page: &mut Page,
+    lex: Named<'_>,
+    yacc: Named<'_>,
+    limits: &Limits,
+    fault: &GenFault,
+) -> Result<(), OutOfMemory>
+    ensures ok { OnOk result (SaysMore page.old page.new) }
+    ensures refused { OnErr result (page.new ≡ page.old) }
+{
+    let told = told_faults(alloc, lex, yacc, limits, fault)?;
+    page.say(&told);
+    Ok(())
+}
+
+/// The faults of two files, as they are said.
+fn told_faults(
+    alloc: Global,
+    lex: Named<'_>,
+    yacc: Named<'_>,
+    limits: &Limits,
+    fault: &GenFault,
+) -> Result<Vec<u8>, OutOfMemory> {
+    let findings = findings_in(alloc, lex.bytes, yacc.bytes, limits)?;
+    let mut page = Page::new(alloc);
+    if findings.is_empty() {
+        let at = match fault {
+            GenFault::Grammar(_) => start_location(alloc, yacc.bytes)?,
+            _ => None,
+        };
+        say_fault(&mut page, lex, yacc, fault, at, &Advice::of_whole(fault));
+    } else {
+        say_findings(&mut page, lex, yacc, &findings);
+    }
+    page.finish()
+}
+
+/// What is found in the bytes of both files.
+fn findings_in(
+    alloc: Global,
+    lex: &[u8],
+    yacc: &[u8],
+    limits: &Limits,
+) -> Result<Findings, OutOfMemory> {
+    let mut findings = Findings::new(alloc);
+    let lex_file = find_lex_faults(alloc, &mut findings, lex, limits)?;
+    let yacc_file = find_yacc_faults(alloc, &mut findings, yacc)?;
+    if let (Some(lex_file), Some(yacc_file)) = (lex_file, yacc_file) {
+        find_join_faults(alloc, &mut findings, &lex_file, yacc_file, limits)?;
+    }
+    Ok(findings)
+}

@@ -1,0 +1,79 @@
+use crate::advice::Advice;
+use crate::location::Location;
+use ly_base::OutOfMemory;
+use ly_generate::GenFault;
+use std::alloc::Global;
+
+/// How many faults are said, and how often a file is read to find them.
+pub(crate) const MOST: usize = 20;
+
+/// A fault that is found, as it is said.
+#[derive(Drop)]
+pub(crate) struct Finding {
+    /// The fault.
+    pub(crate) fault: GenFault,
+    /// Where it stands.
+    pub(crate) at: Location,
+    /// What to write instead.
+    pub(crate) advice: Advice,
+}
+
+/// The faults that are found, in the order of the files and their lines.
+#[derive(Drop)]
+pub(crate) struct Findings {
+    /// The faults.
+    list: Vec<Finding>,
+}
+
+impl Findings {
+    /// None so far.
+    pub(crate) fn new(alloc: Global) -> Findings {
+        Findings {
+            list: Vec::new(alloc),
+        }
+    }
+
+    /// Whether none is found.
+    pub(crate) fn is_empty(&self) -> bool {
+        self.list.is_empty()
+    }
+
+    /// Whether as many are found as are said.
+    pub(crate) fn is_full(&self) -> bool {
+        self.list.len() >= MOST
+    }
+
+    /// The faults.
+    pub(crate) fn list(&self) -> &[Finding] {
+        &self.list
+    }
+
+    /// Adds a fault, but none for which the same has been said on its line, and none behind the most.
+    pub(crate) fn add(&mut self, finding: Finding) -> Result<(), OutOfMemory> {
+        let known = self.list.iter().any(|found| found.is_like(&finding));
+        if !known && !self.is_full() {
+            self.list.push(finding)?;
+        }
+        Ok(())
+    }
+}
+
+impl Finding {
+    /// Whether the same fault of one file is said of the same line.
+    fn is_like(&self, other: &Finding) -> bool {
+        let number = number_in_file(&self.fault);
+        self.at.line == other.at.line
+            && number.is_some()
+            && number == number_in_file(&other.fault)
+            && self.advice.is_like(&other.advice)
+    }
+}
+
+/// The number of a fault that one of both files has; none of any other.
+fn number_in_file(fault: &GenFault) -> Option<u8> {
+    match fault {
+        GenFault::Lex(fault) => fault.number(),
+        GenFault::Yacc(fault) => fault.number(),
+        _ => None,
+    }
+}

@@ -1,0 +1,196 @@
+use crate::advice::Advice;
+use crate::finding::{Finding, Findings, MOST};
+use crate::join_mending::mend;
+use crate::lex_faults::MendedLex;
+use crate::location::{Location, from_place, line_start};
+use crate::nearest::nearest;
+use crate::yacc_faults::MendedYacc;
+use crate::yacc_places::symbol_location;
+use ly_base::{Language, Limits, OutOfMemory};
+use ly_generate::GenFault;
+use ly_join::{JoinFault, join};
+use ly_lexread::Returned;
+use ly_yaccread::{SymbolName, YaccFile};
+use std::alloc::Global;
+
+/// Two files that are joined again each time that a fault is mended in the second.
+#[derive(Drop)]
+struct Joining<'a> {
+    /// What the lex file says.
+    lex: &'a MendedLex,
+    /// The text of the yacc file.
+    text: Vec<u8>,
+    /// What it says, as far as it is mended.
+    file: YaccFile,
+    /// The names of which a fault was said.
+    said: Vec<Vec<u8>>,
+}
+
+/// Finds the faults of both files together: each is mended in what the yacc file says, and the files are joined again.
+/// Of a name the first fault alone is said.
+pub(crate) fn find_join_faults(
+    alloc: Global,
+    findings: &mut Findings,
+    lex: &MendedLex,
+    yacc: MendedYacc,
+    limits: &Limits,
+) -> Result<(), OutOfMemory> {
+    let MendedYacc { text, file } = yacc;
+    let mut joining = Joining {
+        lex,
+        text,
+        file,
+        said: Vec::new(alloc),
+    };
+    for _ in 0..MOST {
+        match joining.next_fault(alloc, limits, findings.is_empty())? {
+            Some(fault) => joining.take(alloc, findings, fault)?,
+            None => break,
+        }
+    }
+    Ok(())
+}
+
+impl Joining<'_> {
+    /// The first fault that is left. That there are no rules is one only where no other was found.
+    fn next_fault(
+        &self,
+        alloc: Global,
+        limits: &Limits,
+        alone: bool,
+    ) -> Result<Option<JoinFault>, OutOfMemory> {
+        match join(alloc, &self.lex.file, &self.file, limits) {
+            Ok(_) | Err(JoinFault::LimitPassed { .. }) => Ok(None),
+            Err(JoinFault::OutOfMemory) => Err(OutOfMemory),
+            Err(JoinFault::NoRules) if !alone => Ok(None),
+            Err(fault) => Ok(Some(fault)),
+        }
+    }
+
+    /// Adds a fault to what is found, if none of its name was, and mends it.
+    fn take(
+        &mut self,
+        alloc: Global,
+        findings: &mut Findings,
+        fault: JoinFault,
+    ) -> Result<(), OutOfMemory> {
+        let name = Vec::from_slice(alloc, name_of(&fault))?;
+        let advice = join_advice(alloc, &fault, &self.file, &self.said)?;
+        mend(alloc, &mut self.file, &fault)?;
+        if !self.said.contains(&name) {
+            let at = join_location(alloc, self.lex, &self.text, &fault)?;
+            let fault = GenFault::Join(fault);
+            findings.add(Finding { fault, at, advice })?;
+        }
+        self.said.push(name)?;
+        Ok(())
+    }
+}
+
+/// The name of a symbol that a fault names; nothing where it names none.
+fn name_of(fault: &JoinFault) -> &[u8] {
+    match fault {
+        JoinFault::UndefinedSymbol(name)
+        | JoinFault::TokenOnLeft(name)
+        | JoinFault::UnknownStart(name)
+        | JoinFault::ReturnUndeclared(name)
+        | JoinFault::PrecUnknown(name) => name,
+        _ => b"",
+    }
+}
+
+/// Where a fault stands: in front of the file where what it names is not found.
+fn join_location(
+    alloc: Global,
+    lex: &MendedLex,
+    yacc: &[u8],
+    fault: &JoinFault,
+) -> Result<Location, OutOfMemory> {
+    let found = match fault {
+        JoinFault::ReturnUndeclared(name) => returned_location(lex, name),
+        _ => symbol_location(alloc, yacc, fault)?,
+    };
+    Ok(found.unwrap_or(Location { line: 1, column: 1 }))
+}
+
+/// Where the first rule of a lex file that returns a name has it.
+fn returned_location(lex: &MendedLex, name: &[u8]) -> Option<Location> {
+    let returns = |action: &ly_lexread::LexAction| match &action.returns {
+        Returned::Token(token) => token.as_slice() == name,
+        _ => false,
+    };
+    let rule = lex.file.actions.iter().position(returns)?;
+    let start = line_start(&lex.text, *lex.file.lines.get(rule)?);
+    let before = word_place(from_place(&lex.text, start), name)?;
+    Some(Location::of(&lex.text, start.saturating_add(before)))
+}
+
+/// Where a name stands first in a text by itself.
+fn word_place(text: &[u8], name: &[u8]) -> Option<usize> {
+    let goes_on = |byte: &u8| Language::Lex.continues_name(*byte);
+    (0..text.len()).find(|place| {
+        let before = place.checked_sub(1).and_then(|before| text.get(before));
+        match from_place(text, *place).strip_prefix(name) {
+            Some(behind) => !before.is_some_and(goes_on) && !behind.first().is_some_and(goes_on),
+            None => false,
+        }
+    })
+}
+
+/// The advice behind a fault of both files.
+fn join_advice(
+    alloc: Global,
+    fault: &JoinFault,
+    file: &YaccFile,
+    said: &[Vec<u8>],
+) -> Result<Advice, OutOfMemory> {
+    let (tokens, left_sides) = match fault {
+        JoinFault::UndefinedSymbol(_) => (true, true),
+        JoinFault::ReturnUndeclared(_) | JoinFault::PrecUnknown(_) => (true, false),
+        JoinFault::UnknownStart(_) => (false, true),
+        _ => (false, false),
+    };
+    let mut names: Vec<&[u8]> = Vec::new(alloc);
+    if tokens {
+        push_tokens(&mut names, file)?;
+    }
+    if left_sides {
+        for rule in &file.rules {
+            if names.last() != Some(&rule.left.as_slice()) {
+                names.push(&rule.left)?;
+            }
+        }
+    }
+    names.retain(|name| !said.iter().any(|other| other.as_slice() == *name));
+    match nearest(alloc, name_of(fault), &names)? {
+        Some(near) => Ok(Advice::Near(Vec::from_slice(alloc, near)?)),
+        None => Ok(words_for(fault)),
+    }
+}
+
+/// Adds the names that the declarations of a yacc file name.
+fn push_tokens<'t>(names: &mut Vec<&'t [u8]>, file: &'t YaccFile) -> Result<(), OutOfMemory> {
+    for declaration in &file.declarations {
+        for symbol in &declaration.symbols {
+            if let SymbolName::Name(name) = symbol {
+                names.push(name)?;
+            }
+        }
+    }
+    Ok(())
+}
+
+/// The advice where no name is near.
+fn words_for(fault: &JoinFault) -> Advice {
+    Advice::Words(match fault {
+        JoinFault::UndefinedSymbol(_) => "declare it by `%token`, or write a rule for it",
+        JoinFault::TokenOnLeft(_) =>
+            "leave it out of the declarations, or give the rule another name",
+        JoinFault::PrecedenceTwice(_) => "leave it out of one declaration",
+        JoinFault::UnknownStart(_) => "name a left side behind `%start`",
+        JoinFault::ReturnUndeclared(_) => "declare it in the yacc file: `%token` and the name",
+        JoinFault::PrecUnknown(_) => "declare it by `%left`, `%right` or `%nonassoc`",
+        JoinFault::NoRules => "write a rule behind the `%%`: `name : symbols ;`",
+        JoinFault::LimitPassed { .. } | JoinFault::OutOfMemory => return Advice::Nothing,
+    })
+}

@@ -1,0 +1,122 @@
+use crate::advice::Advice;
+use crate::finding::{Finding, Findings, MOST};
+use crate::lex_advice::lex_advice;
+use crate::lex_mending::mended;
+use crate::lex_places::lex_location;
+use crate::lex_units::unit_at;
+use crate::text_marks::{has_byte_order_mark, without_marks};
+use ly_base::{Limits, OutOfMemory};
+use ly_generate::GenFault;
+use ly_lexread::{LexFault, LexFile, read_lex};
+use std::alloc::Global;
+
+/// A lex file that is read, its faults mended.
+#[derive(Drop)]
+pub(crate) struct MendedLex {
+    /// Its bytes, line by line as in the file.
+    pub(crate) text: Vec<u8>,
+    /// What they say.
+    pub(crate) file: LexFile,
+}
+
+/// Finds the faults of a lex file, and answers it mended, if it can be.
+pub(crate) fn find_lex_faults(
+    alloc: Global,
+    findings: &mut Findings,
+    bytes: &[u8],
+    limits: &Limits,
+) -> Result<Option<MendedLex>, OutOfMemory> {
+    let mut text = match without_marks(alloc, bytes, b"")? {
+        Some(plain) => {
+            find_mark_fault(alloc, findings, bytes, &plain, limits)?;
+            plain
+        }
+        None => Vec::from_slice(alloc, bytes)?,
+    };
+    for _ in 0..MOST {
+        let fault = match read_lex(alloc, &text, limits) {
+            Ok(file) => return Ok(Some(MendedLex { text, file })),
+            Err(LexFault::OutOfMemory) => return Err(OutOfMemory),
+            Err(fault) => fault,
+        };
+        let Some(next) = mend_fault(alloc, findings, &text, fault, limits)? else {
+            return Ok(None);
+        };
+        text = next;
+    }
+    Ok(None)
+}
+
+/// Adds a fault, and answers the text in which it is mended; none where nothing mends it.
+fn mend_fault(
+    alloc: Global,
+    findings: &mut Findings,
+    text: &[u8],
+    fault: LexFault,
+    limits: &Limits,
+) -> Result<Option<Vec<u8>>, OutOfMemory> {
+    let unit = unit_at(text, fault.line().unwrap_or(1));
+    let at = lex_location(alloc, text, unit, &fault, limits)?;
+    let advice = if has_rules(text) {
+        lex_advice(alloc, text, unit, &fault, at)?
+    } else {
+        Advice::Words("no line begins with `%%`: write one before the first rule")
+    };
+    findings.add(Finding {
+        fault: GenFault::Lex(fault),
+        at,
+        advice,
+    })?;
+    if !has_rules(text) {
+        return Ok(None);
+    }
+    let next = mended(alloc, text, unit, &fault)?;
+    Ok(if next.as_slice() == text {
+        None
+    } else {
+        Some(next)
+    })
+}
+
+/// Whether a line begins with `%%`.
+fn has_rules(text: &[u8]) -> bool {
+    text.split(|byte| *byte == b'\n')
+        .any(|line| line.starts_with(b"%%"))
+}
+
+/// Adds the fault of a file that it hasn't without its marks.
+fn find_mark_fault(
+    alloc: Global,
+    findings: &mut Findings,
+    bytes: &[u8],
+    plain: &[u8],
+    limits: &Limits,
+) -> Result<(), OutOfMemory> {
+    let Some(fault) = refusal(alloc, bytes, limits)? else {
+        return Ok(());
+    };
+    if refusal(alloc, plain, limits)? == Some(fault) {
+        return Ok(());
+    }
+    let at = lex_location(
+        alloc,
+        bytes,
+        unit_at(bytes, fault.line().unwrap_or(1)),
+        &fault,
+        limits,
+    )?;
+    findings.add(Finding {
+        fault: GenFault::Lex(fault),
+        at,
+        advice: Advice::of_marks(has_byte_order_mark(bytes)),
+    })
+}
+
+/// Why a text is refused, if it is.
+fn refusal(alloc: Global, text: &[u8], limits: &Limits) -> Result<Option<LexFault>, OutOfMemory> {
+    match read_lex(alloc, text, limits) {
+        Ok(_) => Ok(None),
+        Err(LexFault::OutOfMemory) => Err(OutOfMemory),
+        Err(fault) => Ok(Some(fault)),
+    }
+}

@@ -1,0 +1,102 @@
+//! How a fault of a lex file is mended, so that what stands behind it can be read.
+use crate::conditions::{known_conditions, words};
+use crate::lex_places::defined_names;
+use crate::lex_units::{Kind, Unit, first_line};
+use crate::location::{from_place, line_start};
+use crate::nearest::MOST_NAMES;
+use ly_base::{Language, OutOfMemory, leading_name};
+use ly_lexread::LexFault;
+use std::alloc::Global;
+
+/// The text in which a fault is mended, by the lines that it stands in: a rule becomes one that does nothing, a
+/// definition that of one byte, and anything else is left out.
+pub(crate) fn mended(
+    alloc: Global,
+    text: &[u8],
+    unit: Unit,
+    fault: &LexFault,
+) -> Result<Vec<u8>, OutOfMemory> {
+    let by = match unit.kind {
+        Kind::Rule => Vec::from_slice(alloc, b"x ;")?,
+        Kind::Definition => plain_definition(alloc, text, unit)?,
+        Kind::Directive if matches!(fault, LexFault::ConditionTwice { .. }) => {
+            new_conditions(alloc, text, unit)?
+        }
+        _ => Vec::new(alloc),
+    };
+    let last = if unit.kind == Kind::Block {
+        last_before_mark(text, unit.first)
+    } else {
+        unit.last
+    };
+    with_lines(alloc, text, unit.first, last, &by)
+}
+
+/// A line that defines the name of a line as one byte; nothing where it has none, or an earlier line defines it.
+fn plain_definition(alloc: Global, text: &[u8], unit: Unit) -> Result<Vec<u8>, OutOfMemory> {
+    let (before, rest) = text.split_at(line_start(text, unit.first).min(text.len()));
+    let mut definition = Vec::new(alloc);
+    if let Some((name, _)) = leading_name(first_line(rest), Language::Lex)
+        && !defined_names(alloc, before)?.contains(&name)
+    {
+        definition.extend_from_slice(name)?;
+        definition.extend_from_slice(b" x")?;
+    }
+    Ok(definition)
+}
+
+/// A line that declares the conditions of a line that are new ones; nothing where it has none.
+fn new_conditions(alloc: Global, text: &[u8], unit: Unit) -> Result<Vec<u8>, OutOfMemory> {
+    let (before, rest) = text.split_at(line_start(text, unit.first).min(text.len()));
+    let mut known = known_conditions(alloc, before)?;
+    let mut declaration = Vec::new(alloc);
+    let words = words(alloc, first_line(rest))?;
+    for (place, word) in words.iter().copied().enumerate().take(MOST_NAMES) {
+        if place == 0 {
+            declaration.extend_from_slice(word)?;
+        } else if !known.contains(&word) {
+            known.push(word)?;
+            declaration.push(b' ')?;
+            declaration.extend_from_slice(word)?;
+        }
+    }
+    if !declaration.contains(&b' ') {
+        declaration.clear();
+    }
+    Ok(declaration)
+}
+
+/// The number of the last line before the next one that begins with `%%`, from a line on; of the last line where none
+/// does.
+fn last_before_mark(text: &[u8], first: u64) -> u64 {
+    let behind = from_place(text, line_start(text, first));
+    let lines = behind
+        .split(|byte| *byte == b'\n')
+        .take_while(|line| !line.starts_with(b"%%"))
+        .count() as u64;
+    first.saturating_add(lines.saturating_sub(1))
+}
+
+/// The text with this in place of lines from one to another: on the first, and the others empty.
+fn with_lines(
+    alloc: Global,
+    text: &[u8],
+    first: u64,
+    last: u64,
+    by: &[u8],
+) -> Result<Vec<u8>, OutOfMemory> {
+    let mut edited = Vec::new(alloc);
+    let mut number: u64 = 0;
+    for line in text.split_inclusive(|byte| *byte == b'\n') {
+        number = number.saturating_add(1);
+        if number < first || number > last {
+            edited.extend_from_slice(line)?;
+            continue;
+        }
+        if number == first {
+            edited.extend_from_slice(by)?;
+        }
+        edited.push(b'\n')?;
+    }
+    Ok(edited)
+}

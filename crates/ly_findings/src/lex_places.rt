@@ -1,0 +1,141 @@
+//! The columns of the faults of a lex file, of which its reader says the lines.
+use crate::lex_units::{Kind, Unit, action_start, first_line, pattern_start};
+use crate::location::{Location, from_place, line_start};
+use crate::nearest::MOST_NAMES;
+use ly_base::{Language, Limits, OutOfMemory, is_blank, leading_name};
+use ly_ere::{EreFault, Names, expression_length, read_pattern};
+use ly_lexread::{LexFault, read_lex};
+use std::alloc::Global;
+
+/// The length of the longest beginning of a pattern that is tried.
+const LONGEST: usize = 300;
+
+/// Where a fault of a text stands, by the line that it has and what that line belongs to.
+pub(crate) fn lex_location(
+    alloc: Global,
+    text: &[u8],
+    unit: Unit,
+    fault: &LexFault,
+    limits: &Limits,
+) -> Result<Location, OutOfMemory> {
+    let number = fault.line().unwrap_or(1);
+    let line = first_line(from_place(text, line_start(text, number)));
+    let before = match fault {
+        LexFault::Pattern { inner, .. } => {
+            let start = expression_start(line, unit.kind);
+            let inside = from_place(line, start);
+            start.saturating_add(pattern_column(alloc, text, inside, inner, limits)?)
+        }
+        LexFault::BadDefinition { .. } if unit.kind == Kind::Definition => definition_column(line),
+        LexFault::BadAction { .. } | LexFault::BarAtEnd { .. } if number == unit.first => {
+            action_start(line)
+        }
+        LexFault::UnknownCondition { .. } if !line.starts_with(b"<") => {
+            place_of(line, b"BEGIN").unwrap_or(leading_blanks(line))
+        }
+        _ => leading_blanks(line),
+    };
+    Ok(Location::on_line(number, before.min(line.len())))
+}
+
+/// How many bytes stand before the expression of a definition, or before the pattern of a rule.
+fn expression_start(line: &[u8], kind: Kind) -> usize {
+    if kind == Kind::Rule {
+        return pattern_start(line);
+    }
+    let name = name_length(line);
+    name.saturating_add(leading_blanks(from_place(line, name)))
+}
+
+/// How many bytes at the front are a name.
+fn name_length(line: &[u8]) -> usize {
+    leading_name(line, Language::Lex).map_or(0, |(name, _)| name.len())
+}
+
+/// How many blanks stand in front.
+fn leading_blanks(line: &[u8]) -> usize {
+    line.iter().take_while(|byte| is_blank(**byte)).count()
+}
+
+/// How many bytes of the line of a definition stand before what is at fault: all up to what stands behind its
+/// expression, or nothing.
+fn definition_column(line: &[u8]) -> usize {
+    let start = expression_start(line, Kind::Definition);
+    let expression = from_place(line, start);
+    if name_length(line) == 0 || expression.is_empty() {
+        return 0;
+    }
+    let length = expression_length(expression);
+    let behind = from_place(expression, length);
+    if behind.iter().all(|byte| is_blank(*byte)) {
+        return 0;
+    }
+    start
+        .saturating_add(length)
+        .saturating_add(leading_blanks(behind))
+}
+
+/// How many bytes of a pattern stand before what is at fault: the longest beginning that is a pattern by itself, where
+/// that isn't all of it.
+fn pattern_column(
+    alloc: Global,
+    text: &[u8],
+    pattern: &[u8],
+    fault: &EreFault,
+    limits: &Limits,
+) -> Result<usize, OutOfMemory> {
+    if matches!(fault, EreFault::NameCycle | EreFault::TooHeavy) || pattern.len() > LONGEST {
+        return Ok(0);
+    }
+    let names = known_names(alloc, text, limits)?;
+    let mut longest = 0;
+    for length in 1..=pattern.len() {
+        let front = pattern.get(..length).unwrap_or(pattern);
+        match read_pattern(alloc, front, &names, limits) {
+            Ok(_) => longest = length,
+            Err(EreFault::OutOfMemory) => return Err(OutOfMemory),
+            Err(_) => {}
+        }
+    }
+    let whole = from_place(pattern, longest)
+        .first()
+        .is_none_or(|byte| is_blank(*byte));
+    Ok(if whole { 0 } else { longest })
+}
+
+/// The names that the lines of a text define, each as an expression that is none of its own.
+fn known_names(alloc: Global, text: &[u8], limits: &Limits) -> Result<Names, OutOfMemory> {
+    let mut definitions = Vec::new(alloc);
+    for name in defined_names(alloc, text)? {
+        definitions.extend_from_slice(name)?;
+        definitions.extend_from_slice(b" x\n")?;
+    }
+    definitions.extend_from_slice(b"%%\n")?;
+    match read_lex(alloc, &definitions, limits) {
+        Ok(file) => Ok(file.names),
+        Err(LexFault::OutOfMemory) => Err(OutOfMemory),
+        Err(_) => Ok(Names::new(alloc)),
+    }
+}
+
+/// The names in front of the lines before the rules, each once, as far as there are not too many.
+pub(crate) fn defined_names(alloc: Global, text: &[u8]) -> Result<Vec<&[u8]>, OutOfMemory> {
+    let mut names: Vec<&[u8]> = Vec::new(alloc);
+    for line in text.split(|byte| *byte == b'\n') {
+        if line.starts_with(b"%%") {
+            break;
+        }
+        match leading_name(line, Language::Lex) {
+            Some((name, _)) if names.len() < MOST_NAMES && !names.contains(&name) => {
+                names.push(name)?;
+            }
+            _ => {}
+        }
+    }
+    Ok(names)
+}
+
+/// The place where bytes stand in a line first.
+pub(crate) fn place_of(line: &[u8], bytes: &[u8]) -> Option<usize> {
+    (0..line.len()).find(|place| from_place(line, *place).starts_with(bytes))
+}

@@ -1,0 +1,199 @@
+use crate::advice::Advice;
+use crate::finding::Findings;
+use crate::location::Location;
+use ly_base::OutOfMemory;
+use ly_generate::GenFault;
+use ly_join::{JoinFault, Limit};
+use ly_page::{Named, Page};
+use std::fmt::Display;
+
+/// What stands before each line of a file and what is said under it.
+const MARGIN: &[u8] = b"    ";
+
+/// How many bytes of a line are said.
+const WIDEST: usize = 160;
+
+/// Says the faults that are found.
+pub(crate) fn say_findings(page: &mut Page, lex: Named<'_>, yacc: Named<'_>, findings: &Findings) {
+    for found in findings.list() {
+        say_fault(page, lex, yacc, &found.fault, Some(found.at), &found.advice);
+    }
+    if findings.is_full() {
+        page.say(b"there may be more faults behind these\n");
+    }
+}
+
+/// Says a fault: the file, the place, its number, its name and what it is, the line with a caret under the place, and
+/// what to write instead.
+pub(crate) fn say_fault(
+    page: &mut Page,
+    lex: Named<'_>,
+    yacc: Named<'_>,
+    fault: &GenFault,
+    at: Option<Location>,
+    advice: &Advice,
+) {
+    let file = if is_of_lex(fault) { lex } else { yacc };
+    page.say(file.name.as_bytes());
+    if let Some(at) = at {
+        page.say(b":");
+        page.say_number(at.line);
+        page.say(b":");
+        page.say_number(at.column);
+    }
+    page.say(b": ");
+    say_heading(page, fault);
+    page.say(b"\n");
+    if let Some(at) = at {
+        say_line(page, file, at);
+    }
+    say_advice(page, advice)
+}
+
+/// Whether a fault is one of the lex file.
+fn is_of_lex(fault: &GenFault) -> bool {
+    matches!(
+        fault,
+        GenFault::Lex(_)
+            | GenFault::Positions(_)
+            | GenFault::States(_)
+            | GenFault::Join(
+                JoinFault::ReturnUndeclared(_)
+                    | JoinFault::LimitPassed {
+                        which: Limit::LexRules | Limit::Conditions,
+                    }
+            )
+    )
+}
+
+/// Says a fault by its number, its name, what it names and what it is.
+fn say_heading(page: &mut Page, fault: &GenFault) {
+    match fault {
+        GenFault::Lex(fault) => say_words(page, fault.number(), fault.name(), fault),
+        GenFault::Yacc(fault) => say_words(page, fault.number(), fault.name(), fault),
+        GenFault::Join(fault) => say_join_heading(page, fault),
+        GenFault::Positions(fault) => say_words(page, fault.number(), fault.name(), fault),
+        GenFault::States(fault) => say_words(page, fault.number(), fault.name(), fault),
+        GenFault::Grammar(fault) => say_words(page, fault.number(), fault.name(), fault),
+        GenFault::Automaton(fault) => say_words(page, fault.number(), fault.name(), fault),
+        GenFault::Endless { name, .. } => {
+            page.say(b"70 Endless before ");
+            page.say(name);
+            page.say(b": ");
+            page.say_words(fault);
+        }
+        GenFault::Write { .. } | GenFault::OutOfMemory => page.say_words(fault),
+    }
+}
+
+/// Says a fault by its number, its name and what it is.
+fn say_words<F: Display>(page: &mut Page, number: Option<u8>, name: &str, fault: &F) {
+    say_name(page, number, name);
+    page.say(b": ");
+    page.say_words(fault);
+}
+
+/// Says the number and the name of a fault.
+fn say_name(page: &mut Page, number: Option<u8>, name: &str) {
+    if let Some(number) = number {
+        page.say_number(u64::from(number));
+        page.say(b" ");
+    }
+    page.say(name.as_bytes());
+}
+
+/// Says a fault of both files by its number, its name, what it names and what it is.
+fn say_join_heading(page: &mut Page, fault: &JoinFault) {
+    say_name(page, fault.number(), fault.name());
+    match fault {
+        JoinFault::UndefinedSymbol(name)
+        | JoinFault::TokenOnLeft(name)
+        | JoinFault::UnknownStart(name)
+        | JoinFault::ReturnUndeclared(name)
+        | JoinFault::PrecUnknown(name) => {
+            page.say(b" ");
+            page.say(name);
+        }
+        JoinFault::PrecedenceTwice(terminal) => {
+            page.say(b" ");
+            page.say_terminal_name(terminal);
+        }
+        JoinFault::LimitPassed { which } => {
+            page.say(b" ");
+            page.say(which.name().as_bytes());
+        }
+        JoinFault::NoRules | JoinFault::OutOfMemory => {}
+    }
+    page.say(b": ");
+    page.say_words(fault);
+}
+
+/// Says the line of a place, or the part of it round the place where it is long, and under it a caret.
+fn say_line(page: &mut Page, file: Named<'_>, at: Location) {
+    let Some(line) = file.line(at.line) else {
+        return;
+    };
+    let line = line.strip_suffix(b"\r").unwrap_or(line);
+    if line.is_empty() {
+        return;
+    }
+    let start = if line.len() > WIDEST {
+        at.before().saturating_sub(WIDEST / 2).min(line.len())
+    } else {
+        0
+    };
+    let (shown, cut) = shown_part(line, start);
+    page.say(MARGIN);
+    page.say(if start > 0 { b"..." } else { b"" });
+    for byte in shown {
+        page.say(&[if is_shown(*byte) { *byte } else { b'?' }]);
+    }
+    page.say(if cut { b"...\n" } else { b"\n" });
+    page.say(MARGIN);
+    page.say(if start > 0 { b"   " } else { b"" });
+    say_distance(page, shown, at.before().saturating_sub(start));
+    page.say(b"^\n");
+}
+
+/// The part of a line that is said, and whether something stands behind it.
+fn shown_part(line: &[u8], start: usize) -> (&[u8], bool) {
+    let behind = line.get(start..).unwrap_or(b"");
+    match behind.get(..WIDEST) {
+        Some(shown) => (shown, behind.len() > WIDEST),
+        None => (behind, false),
+    }
+}
+
+/// Whether a byte is said as it stands.
+fn is_shown(byte: u8) -> bool {
+    byte == b'\t' || byte >= b' ' && byte != 127
+}
+
+/// Says as many blanks as so many bytes are wide: tabs stay, and of a character of several bytes the first counts.
+fn say_distance(page: &mut Page, line: &[u8], bytes: usize) {
+    for byte in line.iter().take(bytes) {
+        match byte {
+            b'\t' => page.say(b"\t"),
+            0x80..=0xBF => {}
+            _ => page.say(b" "),
+        }
+    }
+}
+
+/// Says what to write instead.
+fn say_advice(page: &mut Page, advice: &Advice) {
+    match advice {
+        Advice::Nothing => {}
+        Advice::Words(words) => {
+            page.say(MARGIN);
+            page.say(words.as_bytes());
+            page.say(b"\n");
+        }
+        Advice::Near(name) => {
+            page.say(MARGIN);
+            page.say(b"did you mean ");
+            page.say(name);
+            page.say(b"?\n");
+        }
+    }
+}

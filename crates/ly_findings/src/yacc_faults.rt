@@ -1,0 +1,111 @@
+use crate::advice::Advice;
+use crate::finding::{Finding, Findings, MOST};
+use crate::location::{Location, from_place};
+use crate::text_marks::{has_byte_order_mark, without_marks};
+use crate::yacc_advice::yacc_advice;
+use crate::yacc_before::Before;
+use crate::yacc_mending::mending;
+use ly_base::OutOfMemory;
+use ly_generate::GenFault;
+use ly_yaccread::{YaccFault, YaccFile, read_yacc};
+use std::alloc::Global;
+
+/// A yacc file that is read, its faults mended.
+#[derive(Drop)]
+pub(crate) struct MendedYacc {
+    /// Its bytes. Words stand where they stand in the file, but on a line where bytes were added.
+    pub(crate) text: Vec<u8>,
+    /// What they say.
+    pub(crate) file: YaccFile,
+}
+
+/// Finds the faults of a yacc file, and answers it mended, if it can be.
+pub(crate) fn find_yacc_faults(
+    alloc: Global,
+    findings: &mut Findings,
+    bytes: &[u8],
+) -> Result<Option<MendedYacc>, OutOfMemory> {
+    let mut text = match without_marks(alloc, bytes, b"   ")? {
+        Some(plain) => {
+            find_mark_fault(alloc, findings, bytes, &plain)?;
+            plain
+        }
+        None => Vec::from_slice(alloc, bytes)?,
+    };
+    for mended in 0..MOST {
+        let fault = match read_yacc(alloc, &text) {
+            Ok(file) => return Ok(Some(MendedYacc { text, file })),
+            Err(YaccFault::OutOfMemory) => return Err(OutOfMemory),
+            Err(fault) => fault,
+        };
+        let Some(next) = mend_fault(alloc, findings, &text, fault, mended)? else {
+            return Ok(None);
+        };
+        text = next;
+    }
+    Ok(None)
+}
+
+/// Where a fault stands; in front of the file where it has no place.
+fn location_of(fault: &YaccFault) -> Location {
+    Location {
+        line: fault.line().unwrap_or(1),
+        column: fault.column().unwrap_or(1),
+    }
+}
+
+/// Adds a fault, and answers the text in which it is mended; none where nothing mends it.
+fn mend_fault(
+    alloc: Global,
+    findings: &mut Findings,
+    text: &[u8],
+    fault: YaccFault,
+    mended: usize,
+) -> Result<Option<Vec<u8>>, OutOfMemory> {
+    let at = location_of(&fault);
+    let place = at.place(text);
+    let before = Before::of(alloc, text, place)?;
+    findings.add(Finding {
+        fault: GenFault::Yacc(fault),
+        at,
+        advice: yacc_advice(&before, &fault, from_place(text, place)),
+    })?;
+    let Some(edit) = mending(text, &before, &fault, place, mended) else {
+        return Ok(None);
+    };
+    let next = edit.applied(alloc, text)?;
+    Ok(if next.as_slice() == text {
+        None
+    } else {
+        Some(next)
+    })
+}
+
+/// Adds the fault of a file that it hasn't without its marks.
+fn find_mark_fault(
+    alloc: Global,
+    findings: &mut Findings,
+    bytes: &[u8],
+    plain: &[u8],
+) -> Result<(), OutOfMemory> {
+    let Some(fault) = refusal(alloc, bytes)? else {
+        return Ok(());
+    };
+    if refusal(alloc, plain)? == Some(fault) {
+        return Ok(());
+    }
+    findings.add(Finding {
+        fault: GenFault::Yacc(fault),
+        at: location_of(&fault),
+        advice: Advice::of_marks(has_byte_order_mark(bytes)),
+    })
+}
+
+/// Why a text is refused, if it is.
+fn refusal(alloc: Global, text: &[u8]) -> Result<Option<YaccFault>, OutOfMemory> {
+    match read_yacc(alloc, text) {
+        Ok(_) => Ok(None),
+        Err(YaccFault::OutOfMemory) => Err(OutOfMemory),
+        Err(fault) => Ok(Some(fault)),
+    }
+}

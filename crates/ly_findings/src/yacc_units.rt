@@ -1,0 +1,120 @@
+//! What a word of a yacc file stands in, where it is refused: so its words needn't be those of a yacc file.
+use crate::location::line_length;
+use crate::pieces::behind_piece;
+use ly_base::{Language, after_gap, is_blank, leading_name};
+
+/// How much of a file is mended together.
+#[derive(Clone, Copy, PartialEq, Eq)]
+pub(crate) enum Unit {
+    /// A body of a rule, or the rest of one: up to a `|` or a `;`.
+    Body,
+    /// All bodies of a left side: up to and with a `;`.
+    Rule,
+}
+
+impl Unit {
+    /// How many bytes at the front of a text of the rules belong to it. It ends also where a line begins with `%%`,
+    /// with a `|` or a `;`, or with a name and a `:`, whichever braces are open there.
+    pub(crate) fn length(self, text: &[u8]) -> usize {
+        let mut rest = text;
+        let mut depth: usize = 0;
+        let mut begins_line = false;
+        for _ in 0..text.len() {
+            let Some(first) = rest.first() else {
+                break;
+            };
+            if begins_line && begins_unit(self, rest) || depth == 0 && self.ends_before(*first) {
+                break;
+            }
+            if depth == 0 && *first == b';' {
+                return text.len().saturating_sub(rest.len()).saturating_add(1);
+            }
+            depth = depth_behind(depth, *first);
+            let stays = is_blank(*first) || rest.starts_with(b"/*");
+            begins_line = *first == b'\n' || begins_line && stays;
+            rest = behind_piece(rest);
+        }
+        text.len().saturating_sub(rest.len())
+    }
+
+    /// Whether it ends before this byte, where no brace is open.
+    fn ends_before(self, byte: u8) -> bool {
+        self == Unit::Body && matches!(byte, b'|' | b';')
+    }
+}
+
+/// How many braces are open behind a byte.
+fn depth_behind(depth: usize, byte: u8) -> usize {
+    match byte {
+        b'{' => depth.saturating_add(1),
+        b'}' => depth.saturating_sub(1),
+        _ => depth,
+    }
+}
+
+/// Whether a line whose blanks are passed over begins with what ends a unit before it.
+fn begins_unit(unit: Unit, line: &[u8]) -> bool {
+    let bar = unit == Unit::Body && line.starts_with(b"|") && !line.starts_with(b"||");
+    let semicolon = unit == Unit::Body && line.starts_with(b";");
+    bar || semicolon || line.starts_with(b"%%") || begins_rule(line)
+}
+
+/// Whether a text begins with a name and a `:`.
+pub(crate) fn begins_rule(text: &[u8]) -> bool {
+    match leading_name(text, Language::Yacc) {
+        Some((name, rest)) => {
+            let behind = after_gap(rest, Language::Yacc);
+            behind.starts_with(b":") && !behind.starts_with(b"::") && name != b"default".as_slice()
+        }
+        None => false,
+    }
+}
+
+/// How many bytes of a declaration stand at the front: up to the next line that begins with `%` where no brace is open.
+pub(crate) fn declaration_length(text: &[u8]) -> usize {
+    let mut rest = text;
+    let mut depth: usize = 0;
+    let mut begins_line = false;
+    for _ in 0..text.len() {
+        let Some(first) = rest.first() else {
+            break;
+        };
+        if begins_line && (rest.starts_with(b"%%") || depth == 0 && *first == b'%') {
+            break;
+        }
+        depth = depth_behind(depth, *first);
+        begins_line = *first == b'\n' || begins_line && is_blank(*first);
+        rest = behind_piece(rest);
+    }
+    text.len().saturating_sub(rest.len())
+}
+
+/// How many bytes stand before the first line behind this one that begins with `%`, but not with `%}`; all where none
+/// does.
+pub(crate) fn length_to_percent(text: &[u8]) -> usize {
+    let mut length: usize = 0;
+    for (place, line) in text.split(|byte| *byte == b'\n').enumerate() {
+        if place > 0 && line.starts_with(b"%") && !line.starts_with(b"%}") {
+            return length.saturating_sub(1);
+        }
+        length = length.saturating_add(line.len()).saturating_add(1);
+    }
+    text.len()
+}
+
+/// How many bytes the word at the front has: a name, digits, or one byte.
+pub(crate) fn word_length(text: &[u8]) -> usize {
+    let plain = |byte: &u8| Language::Yacc.continues_name(*byte);
+    text.iter()
+        .position(|byte| !plain(byte))
+        .unwrap_or(text.len())
+        .max(1)
+}
+
+/// How many bytes stand before the first blank of the line at the front.
+pub(crate) fn length_to_blank(text: &[u8]) -> usize {
+    let line = text.get(..line_length(text)).unwrap_or(text);
+    line.iter()
+        .position(|byte| is_blank(*byte))
+        .unwrap_or(line.len())
+}

@@ -1,0 +1,22 @@
+ghost use Rattle.std.specs.Prelude.{◌≡◌};
+ghost use Rattle.std.specs.Option.{option_copied};
+ghost use Rattle.ly_page.specs.Named.{line_at};
+
+/// A file, by the name that its user has for it.
+#[derive(Clone, Copy)]
+pub struct Named<'t> {
+    /// The name.
+    pub name: &'t str,
+    /// The bytes.
+    pub bytes: &'t [u8],
+}
+
+impl<'t> Named<'t> {
+    /// The bytes of the line of a number, counted from 1, without its end; none where there is no such line.
+    pub fn line(&self, number: u64) -> Option<&'t [u8]>
+        ensures { option_copied result ≡ line_at self.now.bytes.now number }
+    {
+        let before = usize::try_from(number).ok()?.checked_sub(1)?;
+        self.bytes.split(|byte| *byte == b'\n').nth(before)
+    }
+}

@@ -1,0 +1,205 @@
+ghost use Rattle.std.specs.Prelude.{◌≡◌, ℕ, List, [], ◌++◌, length, map};
+ghost use Rattle.std.specs.Prelude.{IfOk, OnOk, OnErr, IfSome};
+ghost use Rattle.std.specs.Fmt.{decimal};
+ghost use Rattle.ly_base.specs.Text.{literal, name_of};
+ghost use Rattle.ly_join.specs.Grammar.{symbol_of, terminal as symbol_at};
+ghost use Rattle.ly_join.specs.Terminals.{terminal_from};
+ghost use Rattle.ly_report.specs.Report.{symbol_name, terminal_name};
+ghost use Rattle.ly_page.specs.Page.{body_words, counted, line_of, numbered_words, Says, SaysPrinted, spaced_words, symbol_words};
+
+use crate::named::Named;
+use ly_base::{OutOfMemory, Sym, Terminal, push_name};
+use ly_join::{Spec, Symbol, TerminalName};
+use ly_report::push_terminal;
+use std::alloc::{AllocError, Global};
+use std::fmt::Display;
+use std::io::Write;
+use std::marker::Model;
+
+/// What is said to people, while it is put together. Each method appends what it says of. Once a growth is refused
+/// nothing more is appended, and `finish` tells of it: so whoever says many things asks once.
+#[derive(Drop)]
+pub struct Page {
+    /// The bytes so far.
+    text: Vec<u8>,
+    /// Whether all that was said stands there.
+    said: Result<(), OutOfMemory>,
+}
+
+// The bytes so far; nothing where a growth was refused.
+impl Model for Page {
+    ghost use Rattle.std.specs.Prelude.{ℕ, List, Option, Some, None, if◌then◌else◌, is_ok};
+
+    ghost Value = { Option (List ℕ) };
+
+    ghost view = { λ p. (if is_ok p.said then Some p.text.items else None) };
+}
+
+impl Page {
+    /// An empty page.
+    pub fn new(alloc: Global) -> Page
+        ensures { result ≡ Some [] }
+    {
+        Page {
+            text: Vec::new(alloc),
+            said: Ok(()),
+        }
+    }
+
+    /// The bytes of the page. `OutOfMemory` comes where a growth was refused.
+    pub fn finish(self) -> Result<Vec<u8>, OutOfMemory>
+        ensures ok { IfOk result (λ text. self ≡ Some text.items) }
+        ensures refused { OnErr result (self ≡ None) }
+    {
+        let Page { text, said } = self;
+        said?;
+        Ok(text)
+    }
+
+    /// How many bytes there are, where no growth was refused.
+    pub fn len(&self) -> usize
+        ensures { IfSome self.now (λ text. result ≡ length text) }
+    {
+        self.text.len()
+    }
+
+    /// Notes a growth that was refused.
+    fn note(&mut self, said: Result<(), AllocError>)
+        ensures ok { OnOk said (self.new ≡ self.old) }
+        ensures refused { OnErr said (self.new ≡ None) }
+    {
+        if let Err(refused) = said {
+            self.said = Err(OutOfMemory::from(refused));
+        }
+    }
+
+    /// Bytes as they are.
+    pub fn say(&mut self, bytes: &[u8])
+        ensures { Says self.old bytes.now self.new }
+    {
+        if self.said.is_ok() {
+            let said = self.text.extend_from_slice(bytes);
+            self.note(said);
+        }
+    }
+
+    /// A number.
+    pub fn say_number(&mut self, number: u64)
+        ensures { Says self.old (decimal number) self.new }
+    {
+        if self.said.is_ok() {
+            self.said = write!(self.text, "{number}").map_err(|_| OutOfMemory);
+        }
+    }
+
+    /// A value as it is printed.
+    pub fn say_words<T: Display>(&mut self, value: &T)
+        ensures { SaysPrinted self.old (T.output value.now) self.new }
+    {
+        match value.to_string(*self.text.allocator()) {
+            Ok(words) => self.say(words.as_bytes()),
+            Err(refused) => self.note(Err(refused)),
+        }
+    }
+
+    /// A number and what it counts, by its singular or its plural.
+    pub fn say_count(&mut self, count: usize, one: &[u8], many: &[u8])
+        ensures { Says self.old (counted count one.now many.now) self.new }
+    {
+        self.say_number(count as u64);
+        self.say(b" ");
+        self.say(if count == 1 { one } else { many });
+    }
+
+    /// A byte as a literal of it is printed.
+    pub fn say_byte(&mut self, byte: u8)
+        ensures { Says self.old (name_of (literal byte)) self.new }
+    {
+        if self.said.is_ok() {
+            let said = push_name(&mut self.text, Terminal::Literal(byte));
+            self.note(said);
+        }
+    }
+
+    /// The name of a file, and a line of it.
+    pub fn say_line_of(&mut self, file: Named<'_>, line: u64)
+        ensures { Says self.old (line_of file.entry.name.now line) self.new }
+    {
+        self.say(file.name.as_bytes());
+        self.say(b":");
+        self.say_number(line);
+        self.say(b": ");
+    }
+
+    /// The name of a terminal, as reports have it. A number that no terminal has says nothing.
+    pub fn say_terminal(&mut self, spec: &Spec, terminal: Sym)
+        ensures { Says self.old (symbol_name spec.now (symbol_at terminal.0)) self.new }
+    {
+        if let Some(name) = spec.terminals().get(terminal.0 as usize) {
+            self.say_terminal_name(name);
+        }
+    }
+
+    /// The name of a terminal that is known by it, as reports have it.
+    pub fn say_terminal_name(&mut self, name: &TerminalName)
+        ensures { Says self.old (terminal_name (terminal_from name.now)) self.new }
+    {
+        if self.said.is_ok() {
+            let said = push_terminal(&mut self.text, name);
+            self.note(said);
+        }
+    }
+
+    /// The name of a symbol, as reports have it.
+    pub fn say_symbol(&mut self, spec: &Spec, symbol: Symbol)
+        ensures { Says self.old (symbol_words spec.now (symbol_of symbol)) self.new }
+    {
+        match symbol {
+            Symbol::Terminal(number) => self.say_terminal(spec, number),
+            Symbol::Nonterminal(number) => {
+                if number.0 < spec.grammar().accept().0 {
+                    self.say(spec.nonterminal(number));
+                } else {
+                    self.say(b"$accept");
+                }
+            }
+        }
+    }
+
+    /// The names of symbols, a space before each.
+    pub fn say_symbols(&mut self, spec: &Spec, symbols: &[Symbol])
+        ensures { Says self.old (spaced_words spec.now (map symbol_of symbols.now)) self.new }
+    {
+        for symbol in symbols {
+            self.say(b" ");
+            self.say_symbol(spec, *symbol);
+        }
+    }
+
+    /// The rule of a number, and a dot behind so many symbols of its body if a number of them is given. A number that
+    /// no rule has says nothing.
+    pub fn say_rule(&mut self, spec: &Spec, rule: usize, dot: Option<usize>)
+        ensures { Says self.old (numbered_words spec.now rule dot) self.new }
+    {
+        if let Some(rule) = spec.grammar().rules().get(rule) {
+            self.say_symbol(spec, Symbol::Nonterminal(rule.left()));
+            self.say(b" :");
+            self.say_body(spec, rule.body(), dot);
+        }
+    }
+
+    /// The body of a rule, and a dot behind so many symbols of it if a number of them is given.
+    fn say_body(&mut self, spec: &Spec, body: &[Symbol], dot: Option<usize>)
+        ensures { Says self.old (body_words spec.now (map symbol_of body.now) dot) self.new }
+    {
+        match dot {
+            None => self.say_symbols(spec, body),
+            Some(dot) => {
+                let (before, behind) = body.split_at(dot.min(body.len()));
+                self.say_symbols(spec, before);
+                self.say(b" .");
+                self.say_symbols(spec, behind);
+            }
+        }
+    }
+}
