@@ -4,7 +4,7 @@ use Rattle.std.specs.Prelude.{option_map, unwrap_or, slice_get, OnSome, IfSome, 
 use Rattle.std.specs.Fmt.{decimal}
 use Rattle.std.specs.Option.{option_and_then}
 use Rattle.ly_base.specs.Bytes.{space}
-use Rattle.ly_join.specs.Grammar.{Rule, Symbol, nonterminal, terminal}
+use Rattle.ly_join.specs.Grammar.{GrammarRule, Symbol, nonterminal, terminal}
 use Rattle.ly_join.specs.Joined.{Spec}
 use Rattle.ly_report.specs.Report.{behind_spaces, symbol_name}
 
@@ -49,7 +49,7 @@ body_words s body None = spaced_words s body
 body_words s body (Some dot) = spaced_words s (take dot body) ++ codes " ." ++ spaced_words s (drop dot body)
 
 -- a rule, and where its dot is
-abbrev pub rule_words : Spec → Option ℕ → Rule → List ℕ
+abbrev pub rule_words : Spec → Option ℕ → GrammarRule → List ℕ
 rule_words s dot r = symbol_words s (nonterminal r.left) ++ codes " :" ++ body_words s r.body dot
 
 -- the rule of a number; nothing where no rule has it
