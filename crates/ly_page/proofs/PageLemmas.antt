@@ -19,7 +19,8 @@ said_behind None (Some u) (Some v) x y one other = cc
 said_behind a None (Some v) x y one other = cc
 
 -- rules of which none is removed, by their numbers
-pub numbered : (rules : List GrammarRule) (kept : List (Option GrammarRule)) (p : ℕ) (found : Option GrammarRule) → map Some rules ≡ kept
+pub numbered : (rules : List GrammarRule) (kept : List (Option GrammarRule)) (p : ℕ) (found : Option GrammarRule)
+    → map Some rules ≡ kept
     → slice_get rules p ≡ found → slice_get kept p ≡ option_map Some found
 numbered rules kept p found these here =
     subst (λ xs. slice_get xs p ≡ option_map Some found) these (rw (slice_get-map Some rules p, here) refl)

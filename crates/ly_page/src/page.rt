@@ -5,7 +5,8 @@ ghost use Rattle.ly_base.specs.Text.{literal, name_of};
 ghost use Rattle.ly_join.specs.Grammar.{symbol_of, terminal as symbol_at};
 ghost use Rattle.ly_join.specs.Terminals.{terminal_from};
 ghost use Rattle.ly_report.specs.Report.{symbol_name, terminal_name};
-ghost use Rattle.ly_page.specs.Page.{body_words, counted, line_of, numbered_words, Says, SaysPrinted, spaced_words, symbol_words};
+ghost use Rattle.ly_page.specs.Page.{body_words, counted, line_of, numbered_words, Says, SaysPrinted, spaced_words};
+ghost use Rattle.ly_page.specs.Page.{symbol_words};
 
 use crate::named::Named;
 use ly_base::{OutOfMemory, Sym, Terminal, push_name};

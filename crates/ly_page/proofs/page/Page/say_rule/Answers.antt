@@ -22,7 +22,8 @@ returns-in-Some c =
     grind (arith, common_steps) in
     let body : Says c.say.new.self (body_words s rule.body dot) c.say_body.new.self = grind (arith, common_steps) in
     rw found
-    (said_behind c.args.self.now c.say.new.self c.say_body.new.self (symbol_words s (nonterminal rule.left) ++ codes " :")
+    (said_behind c.args.self.now c.say.new.self c.say_body.new.self
+    (symbol_words s (nonterminal rule.left) ++ codes " :")
     (body_words s rule.body dot)
     (said_behind c.args.self.now c.say_symbol.new.self c.say.new.self (symbol_words s (nonterminal rule.left))
     (codes " :") left c.say.ensures) body)
