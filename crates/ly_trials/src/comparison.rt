@@ -30,21 +30,43 @@ const STRINGS: u32 = 364;
 
 #[test]
 fn tokens_are_the_longest_strings_that_belong(rt: HostRuntime) -> Result<(), Fail> {
-    for patterns in &FILES {
-        let lex = lex_file(rt.alloc(), patterns)?;
-        let expressions = expressions(rt.alloc(), patterns)?;
-        for number in 0..STRINGS {
-            let text = string(rt.alloc(), number)?;
-            let (end, lines) = answer(rt.alloc(), &lex, &text)?;
-            let (wanted_end, wanted) = by_definition(rt.alloc(), &expressions, &text)?;
-            assert!(rt;
-                lines.as_slice() == wanted.as_slice(),
-                "patterns {patterns:?}, text {text:?}"
-            );
-            assert!(rt; end == wanted_end, "patterns {patterns:?}, text {text:?}");
+    assert_eq!(rt; different(rt.alloc())?, None);
+    Ok(())
+}
+
+/// The number of the first file with a string whose tokens aren't those of the definitions, and of that string.
+fn different(alloc: Global) -> Result<Option<(usize, u32)>, Fail> {
+    for (file, patterns) in FILES.iter().enumerate() {
+        if let Some(number) = different_string(alloc, patterns)? {
+            return Ok(Some((file, number)));
         }
     }
-    Ok(())
+    Ok(None)
+}
+
+/// The number of the first such string.
+fn different_string(alloc: Global, patterns: &[&str]) -> Result<Option<u32>, Fail> {
+    let lex = lex_file(alloc, patterns)?;
+    let expressions = expressions(alloc, patterns)?;
+    different_under(alloc, &lex, &expressions)
+}
+
+/// The same by a lex file, and what its patterns mean.
+fn different_under(alloc: Global, lex: &[u8], expressions: &[Re]) -> Result<Option<u32>, Fail> {
+    for number in 0..STRINGS {
+        if !is_as_defined(alloc, lex, expressions, number)? {
+            return Ok(Some(number));
+        }
+    }
+    Ok(None)
+}
+
+/// Whether the tokens of a string are those of the definitions.
+fn is_as_defined(alloc: Global, lex: &[u8], expressions: &[Re], number: u32) -> Result<bool, Fail> {
+    let text = string(alloc, number)?;
+    let (end, lines) = answer(alloc, lex, &text)?;
+    let (wanted_end, wanted) = by_definition(alloc, expressions, &text)?;
+    Ok(lines.as_slice() == wanted.as_slice() && end == wanted_end)
 }
 
 /// The lex file of patterns.
@@ -65,12 +87,17 @@ fn name(rule: usize) -> u8 {
     if rule == 0 { b'A' } else { b'B' }
 }
 
+/// What a pattern means.
+fn expression(alloc: Global, pattern: &str) -> Result<Re, Fail> {
+    let names = Names::new(alloc);
+    Ok(read_pattern(alloc, pattern.as_bytes(), &names, &Limits::V1)?.head)
+}
+
 /// What the patterns mean.
 fn expressions(alloc: Global, patterns: &[&str]) -> Result<Vec<Re>, Fail> {
-    let names = Names::new(alloc);
     let mut expressions = Vec::new(alloc);
     for pattern in patterns {
-        expressions.push(read_pattern(alloc, pattern.as_bytes(), &names, &Limits::V1)?.head)?;
+        expressions.push(expression(alloc, pattern)?)?;
     }
     Ok(expressions)
 }
@@ -95,15 +122,12 @@ fn by_definition(
     alloc: Global,
     expressions: &[Re],
     text: &[u8],
-) -> Result<(TokenEnd, Vec<u8>), Fail> {
+) -> Result<(TokenEnd, Vec<u8>), AllocError> {
     let mut lines = Vec::new(alloc);
     let mut rest = text;
     for _ in 0..text.len() {
         if let Some((rule, token)) = winner(expressions, rest) {
-            lines.push(name(rule))?;
-            lines.push(b'"')?;
-            lines.extend_from_slice(token)?;
-            lines.extend_from_slice(b"\"\n")?;
+            push_line(&mut lines, rule, token)?;
             rest = rest.get(token.len()..).unwrap_or(b"");
         }
     }
@@ -111,9 +135,22 @@ fn by_definition(
         return Ok((TokenEnd::Clean, lines));
     }
     let byte = text.len().saturating_sub(rest.len());
-    let last = format!(in alloc; "no rule matches at byte {byte}\n")?;
-    lines.extend_from_slice(last.as_bytes())?;
+    push_stuck(alloc, &mut lines, byte)?;
     Ok((TokenEnd::Stuck { byte: byte as u64 }, lines))
+}
+
+/// Adds the line of a token.
+fn push_line(lines: &mut Vec<u8>, rule: usize, token: &[u8]) -> Result<(), AllocError> {
+    lines.push(name(rule))?;
+    lines.push(b'"')?;
+    lines.extend_from_slice(token)?;
+    lines.extend_from_slice(b"\"\n")
+}
+
+/// Adds the line of a byte at which no rule matches.
+fn push_stuck(alloc: Global, lines: &mut Vec<u8>, byte: usize) -> Result<(), AllocError> {
+    let last = format!(in alloc; "no rule matches at byte {byte}\n")?;
+    lines.extend_from_slice(last.as_bytes())
 }
 
 /// The rule of the longest match at the front of a text, and what it matches.

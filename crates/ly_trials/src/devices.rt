@@ -1,28 +1,55 @@
 //! Reading all of a source and writing all of an answer, with devices that fail, that are slow and that don't.
 
 use ly_base::{Counted, MemSink, MemSource, ReadFault, WriteFault, read_whole, write_whole};
+use std::alloc::{AllocError, Global};
 use std::io::{self, Read};
 use std::test::Fail;
 
 const BYTES: &[u8] = b"1+2*3";
 
+/// Whether a source that doesn't fail is read to its end, and a sink takes all.
+fn are_whole(alloc: Global) -> Result<bool, ReadFault> {
+    let read = read_whole(alloc, &mut MemSource::new(BYTES))?;
+    let mut sink = MemSink::new(alloc);
+    let written = write_whole(&mut sink, BYTES);
+    Ok(read.as_slice() == BYTES && written == Ok(()) && sink.bytes() == BYTES)
+}
+
+/// Whether a sink that was made with room for all bytes takes them.
+fn has_room(alloc: Global) -> Result<bool, AllocError> {
+    let mut sink = MemSink::with_room(alloc, BYTES.len())?;
+    let written = write_whole(&mut sink, BYTES);
+    Ok(written == Ok(()) && sink.bytes() == BYTES)
+}
+
+/// Whether a failure of the source behind so many bytes is told.
+fn tells_of_a_failed_read(alloc: Global, count: usize) -> bool {
+    let read = read_whole(alloc, &mut MemSource::failing_after(BYTES, count));
+    matches!(read, Err(ReadFault::Read))
+}
+
+/// Whether a failure of the sink behind so many bytes is told, and these went out.
+fn tells_of_a_failed_write(alloc: Global, count: usize) -> bool {
+    let mut sink = MemSink::failing_after(alloc, count);
+    let written = write_whole(&mut sink, BYTES);
+    written == Err(WriteFault { written: count }) && Some(sink.bytes()) == BYTES.get(..count)
+}
+
+/// The first number of bytes below five behind which a failure isn't told.
+fn untold(alloc: Global) -> Option<usize> {
+    for count in 0..5usize {
+        if !tells_of_a_failed_read(alloc, count) || !tells_of_a_failed_write(alloc, count) {
+            return Some(count);
+        }
+    }
+    None
+}
+
 /// Each device fails after a number of bytes below five, or has no failure before its end.
 #[test]
 fn devices_to_their_end_or_their_failure(rt: HostRuntime) -> Result<(), Fail> {
-    let read = read_whole(rt.alloc(), &mut MemSource::new(BYTES))?;
-    assert!(rt; read.as_slice() == BYTES);
-    let mut sink = MemSink::new(rt.alloc());
-    assert!(rt; write_whole(&mut sink, BYTES) == Ok(()));
-    assert!(rt; sink.bytes() == BYTES);
-    for count in 0..5usize {
-        match read_whole(rt.alloc(), &mut MemSource::failing_after(BYTES, count)) {
-            Ok(_) => return Err(Fail::from("a failed read was taken as the end")),
-            Err(fault) => assert!(rt; fault == ReadFault::Read),
-        }
-        let mut sink = MemSink::failing_after(rt.alloc(), count);
-        assert!(rt; write_whole(&mut sink, BYTES) == Err(WriteFault { written: count }));
-        assert!(rt; sink.bytes() == &BYTES[..count]);
-    }
+    assert!(rt; are_whole(rt.alloc())? && has_room(rt.alloc())?);
+    assert_eq!(rt; untold(rt.alloc()), None);
     Ok(())
 }
 
@@ -43,10 +70,14 @@ impl Read for Slow {
     }
 }
 
+/// Whether so many bytes are read, one a read.
+fn are_read(alloc: Global, count: usize) -> Result<bool, ReadFault> {
+    let read = read_whole(alloc, &mut Counted::new(Slow { left: count }))?;
+    Ok(read.len() == count && read.iter().all(|byte| *byte == b'a'))
+}
+
 #[test]
 fn five_thousand_reads_of_one_byte(rt: HostRuntime) -> Result<(), Fail> {
-    let read = read_whole(rt.alloc(), &mut Counted::new(Slow { left: 5_000 }))?;
-    assert!(rt; read.len() == 5_000);
-    assert!(rt; read.iter().all(|byte| *byte == b'a'));
+    assert!(rt; are_read(rt.alloc(), 5_000)?);
     Ok(())
 }

@@ -2,7 +2,7 @@
 
 use ly_base::{Counted, MemSource};
 use ly_engine::{TokenEnd, TokensFault, tokens};
-use std::alloc::AllocError;
+use std::alloc::{AllocError, Global};
 use std::test::Fail;
 
 const LEX: &[u8] = b"%%\nif return IF;\n[a-z]+ return ID;\n\" \" ;\n";
@@ -15,21 +15,21 @@ const LINES: &[u8] = b"IF\"if\"\nID\"ifx\"\n";
 pub(crate) const TRIES: u32 = 4_000;
 
 /// Small blocks, one behind the other.
-pub(crate) fn small_blocks(rt: &HostRuntime) -> Result<Vec<Vec<u8>>, AllocError> {
-    let mut blocks = Vec::new(rt.alloc());
+pub(crate) fn small_blocks(alloc: Global) -> Result<Vec<Vec<u8>>, AllocError> {
+    let mut blocks = Vec::new(alloc);
     for _ in 0..TRIES {
-        blocks.push(Vec::with_capacity(rt.alloc(), 256)?)?;
+        blocks.push(Vec::with_capacity(alloc, 256)?)?;
     }
     Ok(blocks)
 }
 
 /// Takes all the room that there is, the smallest blocks last.
-pub(crate) fn hog(rt: &HostRuntime) -> Vec<Vec<u8>> {
-    let mut held = Vec::new(rt.alloc());
+pub(crate) fn hog(alloc: Global) -> Vec<Vec<u8>> {
+    let mut held = Vec::new(alloc);
     let _ = held.reserve(60_000);
     let mut size = 1usize << 46;
     for _ in 0..60_000u32 {
-        match Vec::with_capacity(rt.alloc(), size) {
+        match Vec::with_capacity(alloc, size) {
             Ok(block) => {
                 if held.push(block).is_err() {
                     return held;
@@ -46,40 +46,69 @@ pub(crate) fn hog(rt: &HostRuntime) -> Vec<Vec<u8>> {
     held
 }
 
+/// How a try ends.
+#[derive(Clone, Copy)]
+enum Trial {
+    /// With the right lines.
+    Answered,
+    /// With that memory ran out, and nothing written.
+    Refused,
+    /// Otherwise.
+    Wrong,
+}
+
+/// Writes the tokens of `TEXT` into some room.
+fn tokens_into(alloc: Global, room: &mut [u8]) -> Result<TokenEnd, TokensFault> {
+    let mut writer = Counted::new(room);
+    tokens(alloc, LEX, &mut MemSource::new(TEXT), &mut writer)
+}
+
+/// How a try ends, with room for one byte more than the lines have.
+fn try_once(alloc: Global) -> Trial {
+    let mut room = [0u8; LINES.len() + 1];
+    let result = tokens_into(alloc, &mut room);
+    let (written, left) = room.split_at(LINES.len());
+    if left != [0].as_slice() {
+        return Trial::Wrong;
+    }
+    match result {
+        Ok(TokenEnd::Clean) if written == LINES => Trial::Answered,
+        Err(TokensFault::OutOfMemory) if written == [0; LINES.len()].as_slice() => Trial::Refused,
+        _ => Trial::Wrong,
+    }
+}
+
+/// How many tries are refused, and how many are answered, with a block given back at each.
+fn trials(alloc: Global, blocks: &mut Vec<Vec<u8>>) -> Result<(u32, u32), Fail> {
+    let mut refused = 0u32;
+    let mut answered = 0u32;
+    for _ in 0..TRIES {
+        match try_once(alloc) {
+            Trial::Answered => answered = answered.wrapping_add(1),
+            Trial::Refused => refused = refused.wrapping_add(1),
+            Trial::Wrong => return Err(Fail::from("neither the lines nor a want of memory")),
+        }
+        let _ = blocks.pop();
+    }
+    Ok((refused, answered))
+}
+
+/// The same, with no room at first.
+fn trials_of_all_room(alloc: Global) -> Result<(u32, u32), Fail> {
+    let mut blocks = small_blocks(alloc)?;
+    let _held = hog(alloc);
+    trials(alloc, &mut blocks)
+}
+
 /// With no room at first, and a small block more at each try. (All room can be taken where a process has a
 /// limit of it, or its addresses end.) That memory never runs out where it is ample the worked examples
 /// show.
 #[test]
 fn want_of_memory_is_told(rt: HostRuntime) -> Result<(), Fail> {
-    let mut blocks = small_blocks(&rt)?;
-    let held = hog(&rt);
-    let mut refused = 0u32;
-    let mut answered = 0u32;
-    for _ in 0..TRIES {
-        let mut room = [0u8; LINES.len() + 1];
-        let mut writer = Counted::new(&mut room[..]);
-        let result = tokens(rt.alloc(), LEX, &mut MemSource::new(TEXT), &mut writer);
-        let (written, left) = room.split_at(LINES.len());
-        assert!(rt; left == [0].as_slice());
-        match result {
-            Ok(end) => {
-                answered = answered.wrapping_add(1);
-                assert!(rt; end == TokenEnd::Clean);
-                assert!(rt; written == LINES);
-            }
-            Err(fault) => {
-                refused = refused.wrapping_add(1);
-                assert!(rt; fault == TokensFault::OutOfMemory);
-                assert!(rt;
-                    written.iter().all(|byte| *byte == 0),
-                    "something was written"
-                );
-            }
-        }
-        let _ = blocks.pop();
-    }
-    drop(held);
-    assert!(rt; refused > 0, "{refused} refused, {answered} answered");
-    assert!(rt; answered > 0, "{refused} refused, {answered} answered");
+    let (refused, answered) = trials_of_all_room(rt.alloc())?;
+    assert!(rt;
+        refused > 0 && answered > 0,
+        "{refused} refused, {answered} answered"
+    );
     Ok(())
 }

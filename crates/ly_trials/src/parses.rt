@@ -7,10 +7,10 @@
 
 ghost use Rattle.std.specs.Prelude.{◌≡◌, ◌<◌};
 
-use crate::rows::by_hand;
+use crate::rows::{by_hand, laid_by_hand};
 use ly_base::{Front, StateNo, Sym};
 use ly_loop::steady;
-use ly_pack::{Machine, Rows, TableAction, pack};
+use ly_pack::{Machine, Rows, TableAction};
 use ly_parse::{ParseFault, Parser, Step, Token};
 use ly_tree::TermRef;
 use std::alloc::Global;
@@ -169,7 +169,7 @@ fn apart_so(alloc: Global, runs: &[Calls<'_>]) -> Result<bool, Fail> {
 
 /// Whether it does so over rows that are laid over one another.
 fn laid_so(alloc: Global, runs: &[Calls<'_>]) -> Result<bool, Fail> {
-    let machine = pack(alloc, by_hand(alloc)?)?;
+    let machine = laid_by_hand(alloc)?;
     answers_all_so(alloc, &machine, runs)
 }
 

@@ -1,11 +1,10 @@
 //! Texts in pieces: how they are cut changes no answer, what is held is the match that isn't decided, and nothing is
 //! read once the answer is known.
 
+use crate::answers::{outcome, set_of, table_file, table_set};
 use crate::memory::{TRIES, hog, small_blocks};
-use ly_base::{Counted, Limits, MemSink, MemSource, Source, read_whole};
-use ly_engine::{
-    DriveFault, Feed, FeedFault, Need, Outcome, TableSet, Version, drive, generate, read_tables,
-};
+use ly_base::{Counted, MemSink, MemSource, OutOfMemory, Source, read_whole};
+use ly_engine::{DriveFault, Feed, FeedFault, Need, Outcome, TableSet, Version};
 use std::alloc::{AllocError, Global};
 use std::io::{self, ErrorKind, Read};
 use std::test::Fail;
@@ -72,22 +71,38 @@ fn are_same(one: &Answer, other: &Answer) -> bool {
     same_outcome && one.1.as_slice() == other.1.as_slice()
 }
 
-/// The table set of a lex file and a yacc file.
-fn table_set(alloc: Global, lex: &[u8], yacc: &[u8]) -> Result<TableSet, Fail> {
-    let tables = generate(alloc, lex, yacc, &Limits::V2, Version::V2)?;
-    let (set, _version) = read_tables(alloc, &tables)?;
-    Ok(set)
+/// A feed to which nothing has come.
+fn new_feed<'a>(alloc: Global, set: &'a TableSet) -> Result<Feed<'a>, OutOfMemory> {
+    Feed::new(alloc, set)
 }
 
-/// What is answered to pieces, behind which the text ends.
-fn fed(alloc: Global, set: &TableSet, pieces: &[&[u8]]) -> Result<Answer, FeedFault> {
-    let mut feed = Feed::new(alloc, set)?;
+/// The answer to a piece that settles the text, if it does.
+fn settled(feed: &mut Feed<'_>, piece: &[u8]) -> Result<Option<Answer>, FeedFault> {
+    match feed.piece(piece)? {
+        Need::Settled(outcome, lines) => Ok(Some((outcome, lines))),
+        Need::More => Ok(None),
+    }
+}
+
+/// The answer to a text that has ended.
+fn finished(feed: &mut Feed<'_>) -> Result<Answer, FeedFault> {
+    feed.finish()
+}
+
+/// What a feed answers to pieces, behind which the text ends.
+fn fed_on(feed: &mut Feed<'_>, pieces: &[&[u8]]) -> Result<Answer, FeedFault> {
     for piece in pieces {
-        if let Need::Settled(outcome, lines) = feed.piece(piece)? {
-            return Ok((outcome, lines));
+        if let Some(answer) = settled(feed, piece)? {
+            return Ok(answer);
         }
     }
-    feed.finish()
+    finished(feed)
+}
+
+/// The same of a new feed.
+fn fed(alloc: Global, set: &TableSet, pieces: &[&[u8]]) -> Result<Answer, FeedFault> {
+    let mut feed = new_feed(alloc, set)?;
+    fed_on(&mut feed, pieces)
 }
 
 /// A text in pieces of one byte.
@@ -100,9 +115,9 @@ fn single_bytes<'t>(alloc: Global, text: &'t [u8]) -> Result<Vec<&'t [u8]>, Allo
 }
 
 /// What is answered to a whole text by a table file.
-fn driven(alloc: Global, tables: &[u8], text: &[u8]) -> Result<Answer, Fail> {
+fn driven(alloc: Global, tables: &[u8], text: &[u8]) -> Result<Answer, DriveFault> {
     let mut sink = MemSink::new(alloc);
-    let outcome = drive(alloc, tables, &mut MemSource::new(text), &mut sink)?;
+    let outcome = outcome(alloc, tables, &mut MemSource::new(text), &mut sink)?;
     Ok((outcome, sink.into_bytes()))
 }
 
@@ -132,38 +147,72 @@ fn cuts_change_nothing(
     Ok(true)
 }
 
-/// Whether a text in pieces of one byte, and in two, wherever it is cut, is answered by a table file as it is whole.
-fn is_one_answer(alloc: Global, tables: &[u8], text: &[u8]) -> Result<bool, Fail> {
-    let whole = driven(alloc, tables, text)?;
-    let (set, _version) = read_tables(alloc, tables)?;
+/// Whether a text in pieces of one byte is answered so.
+fn bytes_change_nothing(
+    alloc: Global,
+    set: &TableSet,
+    text: &[u8],
+    wanted: &Answer,
+) -> Result<bool, Fail> {
+    let pieces = single_bytes(alloc, text)?;
+    Ok(is_answered_so(alloc, set, &pieces, wanted)?)
+}
+
+/// Whether a text in pieces of one byte, and in two, wherever it is cut, is answered so.
+fn pieces_change_nothing(
+    alloc: Global,
+    set: &TableSet,
+    text: &[u8],
+    wanted: &Answer,
+) -> Result<bool, Fail> {
     Ok(
-        is_answered_so(alloc, &set, &single_bytes(alloc, text)?, &whole)?
-            && cuts_change_nothing(alloc, &set, text, &whole)?,
+        bytes_change_nothing(alloc, set, text, wanted)?
+            && cuts_change_nothing(alloc, set, text, wanted)?,
     )
 }
 
-/// The first text that isn't answered so by the table file in a version of some files.
-fn answered_otherwise<'t>(
+/// The same by the set of a table file.
+fn is_answered_in_pieces(
     alloc: Global,
-    files: &(&[u8], &[u8], &[&'t [u8]]),
-    version: Version,
-) -> Result<Option<&'t [u8]>, Fail> {
-    let (lex, yacc, texts) = files;
-    let tables = generate(alloc, lex, yacc, &Limits::V2, version)?;
-    for text in *texts {
-        if !is_one_answer(alloc, &tables, text)? {
-            return Ok(Some(text));
+    tables: &[u8],
+    text: &[u8],
+    wanted: &Answer,
+) -> Result<bool, Fail> {
+    let set = set_of(alloc, tables)?;
+    pieces_change_nothing(alloc, &set, text, wanted)
+}
+
+/// Whether a text in pieces is answered by a table file as it is whole.
+fn is_one_answer(alloc: Global, tables: &[u8], text: &[u8]) -> Result<bool, Fail> {
+    let whole = driven(alloc, tables, text)?;
+    is_answered_in_pieces(alloc, tables, text, &whole)
+}
+
+/// Whether each text is answered so.
+fn are_one_answer(alloc: Global, tables: &[u8], texts: &[&[u8]]) -> Result<bool, Fail> {
+    for text in texts {
+        if !is_one_answer(alloc, tables, text)? {
+            return Ok(false);
         }
     }
-    Ok(None)
+    Ok(true)
+}
+
+/// Whether each of `TEXTS` is, by the table file in a version of its files.
+fn all_are_one_answer(alloc: Global, version: Version) -> Result<bool, Fail> {
+    for (lex, yacc, texts) in &TEXTS {
+        let tables = table_file(alloc, lex, yacc, version)?;
+        if !are_one_answer(alloc, &tables, texts)? {
+            return Ok(false);
+        }
+    }
+    Ok(true)
 }
 
 #[test]
 fn a_text_is_answered_however_it_is_cut(rt: HostRuntime) -> Result<(), Fail> {
-    for files in &TEXTS {
-        assert!(rt; answered_otherwise(rt.alloc(), files, Version::V1)?.is_none());
-        assert!(rt; answered_otherwise(rt.alloc(), files, Version::V2)?.is_none());
-    }
+    assert!(rt; all_are_one_answer(rt.alloc(), Version::V1)?);
+    assert!(rt; all_are_one_answer(rt.alloc(), Version::V2)?);
     Ok(())
 }
 
@@ -181,17 +230,27 @@ fn holds(feed: &mut Feed<'_>, piece: &[u8], held: usize) -> bool {
 const REFUSED_END: &[u8] = b"syntax error at end, token 3, byte 4\nexpected: NUM '('\n";
 
 /// Whether a feed of `WORDS` and `SUMS` holds what isn't decided of `12` and `3+`, and then refuses the end.
-fn holds_what_is_not_decided(alloc: Global, set: &TableSet) -> Result<bool, FeedFault> {
-    let mut feed = Feed::new(alloc, set)?;
-    let held = feed.held() == 0 && holds(&mut feed, b"12", 2) && holds(&mut feed, b"3+", 1);
-    let (outcome, lines) = feed.finish()?;
+fn holds_what_is_not_decided(feed: &mut Feed<'_>) -> Result<bool, Fail> {
+    let held = feed.held() == 0 && holds(feed, b"12", 2) && holds(feed, b"3+", 1);
+    let (outcome, lines) = finished(feed)?;
     Ok(held && refuses(&outcome, 3, 4) && lines.as_slice() == REFUSED_END)
+}
+
+/// The same of a new feed.
+fn is_held(alloc: Global, set: &TableSet) -> Result<bool, Fail> {
+    let mut feed = new_feed(alloc, set)?;
+    holds_what_is_not_decided(&mut feed)
+}
+
+/// The same of the set of both files.
+fn sums_are_held(alloc: Global) -> Result<bool, Fail> {
+    let set = table_set(alloc, WORDS, SUMS)?;
+    is_held(alloc, &set)
 }
 
 #[test]
 fn what_is_not_decided_is_held(rt: HostRuntime) -> Result<(), Fail> {
-    let set = table_set(rt.alloc(), WORDS, SUMS)?;
-    assert!(rt; holds_what_is_not_decided(rt.alloc(), &set)?);
+    assert!(rt; sums_are_held(rt.alloc())?);
     Ok(())
 }
 
@@ -200,29 +259,43 @@ const REFUSED: &[u8] = b"1 a ";
 
 const REFUSAL: &[u8] = b"syntax error at token 2, byte 2: $undef\"a\"\nexpected: $end '+' '*'\n";
 
-/// Whether a feed says that the second token of `REFUSED` is.
-fn tells_of_the_refusal(feed: &mut Feed<'_>) -> Result<bool, FeedFault> {
-    match feed.piece(REFUSED)? {
-        Need::Settled(outcome, lines) => {
-            Ok(refuses(&outcome, 2, 2) && lines.as_slice() == REFUSAL)
-        }
-        Need::More => Ok(false),
+/// Whether an answer says that the second token of `REFUSED` is refused.
+fn is_refusal(answer: &Answer) -> bool {
+    let (outcome, lines) = answer;
+    refuses(outcome, 2, 2) && lines.as_slice() == REFUSAL
+}
+
+/// Whether a feed says so.
+fn tells_of_the_refusal(feed: &mut Feed<'_>) -> bool {
+    match settled(feed, REFUSED) {
+        Ok(Some(answer)) => is_refusal(&answer),
+        _ => false,
     }
 }
 
 /// Whether each call of a feed is answered with that it is over, and nothing is held.
 fn is_over(feed: &mut Feed<'_>) -> bool {
     feed.held() == 0
-        && matches!(feed.piece(b"+"), Err(FeedFault::Over))
-        && matches!(feed.finish(), Err(FeedFault::Over))
+        && matches!(settled(feed, b"+"), Err(FeedFault::Over))
+        && matches!(finished(feed), Err(FeedFault::Over))
         && feed.held() == 0
+}
+
+/// Whether a new feed is over once it has told of the refusal.
+fn is_over_behind_the_refusal(alloc: Global, set: &TableSet) -> Result<bool, Fail> {
+    let mut feed = new_feed(alloc, set)?;
+    Ok(tells_of_the_refusal(&mut feed) && is_over(&mut feed))
+}
+
+/// The same of the set of `WORDS` and `SUMS`.
+fn sums_are_over(alloc: Global) -> Result<bool, Fail> {
+    let set = table_set(alloc, WORDS, SUMS)?;
+    is_over_behind_the_refusal(alloc, &set)
 }
 
 #[test]
 fn a_settled_feed_is_over(rt: HostRuntime) -> Result<(), Fail> {
-    let set = table_set(rt.alloc(), WORDS, SUMS)?;
-    let mut feed = Feed::new(rt.alloc(), &set)?;
-    assert!(rt; tells_of_the_refusal(&mut feed)? && is_over(&mut feed));
+    assert!(rt; sums_are_over(rt.alloc())?);
     assert!(rt; FeedFault::Over.number() == Some(91));
     Ok(())
 }
@@ -232,75 +305,171 @@ const PIECES: u32 = 102;
 
 const SIZE: usize = 4_096;
 
-/// How many of the pieces of blanks a new feed takes, as long as memory lasts; none where it isn't even made. After
-/// each the last blank alone is held.
-fn taken(alloc: Global, set: &TableSet, blanks: &[u8]) -> Result<Option<u32>, Fail> {
-    let Ok(mut feed) = Feed::new(alloc, set) else {
-        return Ok(None);
-    };
+/// What a feed does with a piece.
+#[derive(Clone, Copy)]
+enum Taking {
+    /// It takes it, wants more, and then holds one byte.
+    Whole,
+    /// Memory runs out.
+    NoRoom,
+    /// Anything else.
+    Otherwise,
+}
+
+/// What a feed does with a piece of blanks, of which it has to hold the last one alone.
+fn take(feed: &mut Feed<'_>, blanks: &[u8]) -> Taking {
+    match feed.piece(blanks) {
+        Ok(Need::More) if feed.held() == 1 => Taking::Whole,
+        Err(FeedFault::OutOfMemory) => Taking::NoRoom,
+        _ => Taking::Otherwise,
+    }
+}
+
+/// How many of the pieces of blanks a feed takes, as long as memory lasts.
+fn taken(feed: &mut Feed<'_>, blanks: &[u8]) -> Result<Option<u32>, Fail> {
     for count in 0..PIECES {
-        match feed.piece(blanks) {
-            Ok(Need::More) if feed.held() == 1 => {}
-            Err(FeedFault::OutOfMemory) => return Ok(Some(count)),
-            _ => return Err(Fail::from("a piece of blanks was not taken")),
+        match take(feed, blanks) {
+            Taking::Whole => {}
+            Taking::NoRoom => return Ok(Some(count)),
+            Taking::Otherwise => return Err(Fail::from("a piece of blanks was not taken")),
         }
     }
     Ok(Some(PIECES))
 }
 
-/// With no room at first, and a small block more at each try: a feed that has taken two pieces has all the room that
-/// it needs, as what it gave up is used again.
-#[test]
-fn room_for_pieces_is_used_again(rt: HostRuntime) -> Result<(), Fail> {
-    let set = table_set(rt.alloc(), X, b"%%s : 'x' ;")?;
-    let blanks = vec![in rt.alloc(); b' '; SIZE]?;
-    let mut blocks = small_blocks(&rt)?;
-    let _all_else = hog(&rt);
+/// How many a new feed takes; none where it isn't even made.
+fn taken_by_new(alloc: Global, set: &TableSet, blanks: &[u8]) -> Result<Option<u32>, Fail> {
+    match new_feed(alloc, set) {
+        Ok(mut feed) => taken(&mut feed, blanks),
+        Err(_) => Ok(None),
+    }
+}
+
+/// How many pieces a new feed takes, the first time that it takes more than one, with a block given back at each try;
+/// and whether memory ran out before it was made, at its first piece, and at its second one.
+fn first_taken(
+    alloc: Global,
+    set: &TableSet,
+    blanks: &[u8],
+    blocks: &mut Vec<Vec<u8>>,
+) -> Result<(u32, [bool; 3]), Fail> {
     let mut refused = [false; 3];
     for _ in 0..TRIES {
-        match taken(rt.alloc(), &set, &blanks)? {
+        match taken_by_new(alloc, set, blanks)? {
             None => refused[0] = true,
             Some(0) => refused[1] = true,
             Some(1) => refused[2] = true,
-            Some(count) => {
-                assert!(rt; count == PIECES, "piece {count} found no room");
-                assert!(rt; refused == [true; 3], "{refused:?}");
-                return Ok(());
-            }
+            Some(count) => return Ok((count, refused)),
         }
         let _ = blocks.pop();
     }
     Err(Fail::from("no room was enough"))
 }
 
+/// The same, with no room at first.
+fn taken_of_all_room(
+    alloc: Global,
+    set: &TableSet,
+    blanks: &[u8],
+) -> Result<(u32, [bool; 3]), Fail> {
+    let mut blocks = small_blocks(alloc)?;
+    let _all_else = hog(alloc);
+    first_taken(alloc, set, blanks, &mut blocks)
+}
+
+/// The same of pieces of `SIZE` bytes.
+fn pieces_taken(alloc: Global, set: &TableSet) -> Result<(u32, [bool; 3]), Fail> {
+    let blanks = vec![in alloc; b' '; SIZE]?;
+    taken_of_all_room(alloc, set, &blanks)
+}
+
+/// The same by a set that passes over blanks.
+fn blanks_taken(alloc: Global) -> Result<(u32, [bool; 3]), Fail> {
+    let set = table_set(alloc, X, b"%%s : 'x' ;")?;
+    pieces_taken(alloc, &set)
+}
+
+/// With no room at first, and a small block more at each try: a feed that has taken two pieces has all the room that
+/// it needs, as what it gave up is used again.
+#[test]
+fn room_for_pieces_is_used_again(rt: HostRuntime) -> Result<(), Fail> {
+    let (count, refused) = blanks_taken(rt.alloc())?;
+    assert!(rt; count == PIECES, "piece {count} found no room");
+    assert!(rt; refused == [true; 3], "{refused:?}");
+    Ok(())
+}
+
 /// How many bytes a long token has. A walk from its start for each of them would take minutes.
 const LONG: usize = 1_000_000;
 
+/// Whether a feed takes a long token byte by byte, and holds all of it.
+fn holds_each_byte(feed: &mut Feed<'_>) -> bool {
+    for count in 0..LONG {
+        if !holds(feed, b"7", count + 1) {
+            return false;
+        }
+    }
+    true
+}
+
+/// Whether an answer is the tree of a long token.
+fn is_long_leaf(answer: &Answer) -> bool {
+    let (outcome, lines) = answer;
+    matches!(outcome, Outcome::Tree) && lines.starts_with(b"NUM\"7") && lines.len() == LONG + 6
+}
+
+/// Whether a feed holds all of a long token, and then answers with its tree.
+fn takes_a_long_token(feed: &mut Feed<'_>) -> bool {
+    if !holds_each_byte(feed) {
+        return false;
+    }
+    match finished(feed) {
+        Ok(answer) => is_long_leaf(&answer),
+        Err(_) => false,
+    }
+}
+
+/// The same of a new feed.
+fn is_long_token_taken(alloc: Global, set: &TableSet) -> Result<bool, Fail> {
+    let mut feed = new_feed(alloc, set)?;
+    Ok(takes_a_long_token(&mut feed))
+}
+
+/// The same of the set of `WORDS` and `SUMS`.
+fn sums_take_a_long_token(alloc: Global) -> Result<bool, Fail> {
+    let set = table_set(alloc, WORDS, SUMS)?;
+    is_long_token_taken(alloc, &set)
+}
+
 #[test]
 fn a_long_token_takes_a_step_for_each_byte(rt: HostRuntime) -> Result<(), Fail> {
-    let set = table_set(rt.alloc(), WORDS, SUMS)?;
-    let mut feed = Feed::new(rt.alloc(), &set)?;
-    for count in 0..LONG {
-        assert!(rt; holds(&mut feed, b"7", count + 1));
-    }
-    let (outcome, lines) = feed.finish()?;
-    assert!(rt; matches!(outcome, Outcome::Tree));
-    assert!(rt; lines.starts_with(b"NUM\"7") && lines.len() == LONG + 6);
+    assert!(rt; sums_take_a_long_token(rt.alloc())?);
     Ok(())
+}
+
+/// Whether a failure of the reader behind so many bytes of `REFUSED` is told, and nothing is written.
+fn tells_of_a_failed_read(alloc: Global, tables: &[u8], count: usize) -> bool {
+    let mut source = MemSource::failing_after(REFUSED, count);
+    let mut sink = MemSink::new(alloc);
+    let answer = outcome(alloc, tables, &mut source, &mut sink);
+    matches!(answer, Err(DriveFault::Read)) && sink.bytes().is_empty()
+}
+
+/// The first number of bytes behind which a failure isn't told so.
+fn untold(alloc: Global) -> Result<Option<usize>, Fail> {
+    let tables = table_file(alloc, WORDS, SUMS, Version::V2)?;
+    for count in 0..REFUSED.len() {
+        if !tells_of_a_failed_read(alloc, &tables, count) {
+            return Ok(Some(count));
+        }
+    }
+    Ok(None)
 }
 
 /// Reads of `1 a ` that end in a failure before the second token is refused.
 #[test]
 fn a_failed_read_before_the_answer_is_told(rt: HostRuntime) -> Result<(), Fail> {
-    let tables = generate(rt.alloc(), WORDS, SUMS, &Limits::V2, Version::V2)?;
-    for count in 0..REFUSED.len() {
-        let mut source = MemSource::failing_after(REFUSED, count);
-        let mut sink = MemSink::new(rt.alloc());
-        match drive(rt.alloc(), &tables, &mut source, &mut sink) {
-            Err(DriveFault::Read) => assert!(rt; sink.bytes().is_empty()),
-            _ => return Err(Fail::from("a failed read was not told")),
-        }
-    }
+    assert!(rt; untold(rt.alloc())?.is_none());
     Ok(())
 }
 
@@ -324,28 +493,50 @@ impl Read for Failing {
     }
 }
 
+/// The answer to what `Failing` gives, and whether its failure is still to come.
+fn answered_before_the_failure(alloc: Global, tables: &[u8]) -> Result<(Answer, bool), DriveFault> {
+    let mut source = Counted::new(Failing { reads: 0 });
+    let mut sink = MemSink::new(alloc);
+    let outcome = outcome(alloc, tables, &mut source, &mut sink)?;
+    let fails = source.pull(&mut [0; 1]).is_err();
+    Ok(((outcome, sink.into_bytes()), fails))
+}
+
+/// The same by the table file of `WORDS` and `SUMS`: whether it is the refusal, and whether the failure is to come.
+fn sums_before_the_failure(alloc: Global) -> Result<(bool, bool), Fail> {
+    let tables = table_file(alloc, WORDS, SUMS, Version::V2)?;
+    let (answer, fails) = answered_before_the_failure(alloc, &tables)?;
+    Ok((is_refusal(&answer), fails))
+}
+
 #[test]
 fn nothing_is_read_once_the_answer_is_known(rt: HostRuntime) -> Result<(), Fail> {
-    let tables = generate(rt.alloc(), WORDS, SUMS, &Limits::V2, Version::V2)?;
-    let mut source = Counted::new(Failing { reads: 0 });
-    let mut sink = MemSink::new(rt.alloc());
-    let outcome = drive(rt.alloc(), &tables, &mut source, &mut sink)?;
-    assert!(rt; refuses(&outcome, 2, 2));
-    assert!(rt; sink.bytes() == REFUSAL);
-    // the failure is still to come
-    assert!(rt; source.pull(&mut [0; 1]).is_err());
+    let (refused, fails) = sums_before_the_failure(rt.alloc())?;
+    assert!(rt; refused && fails);
     Ok(())
 }
 
-/// A text of many pieces, of which the first one has a byte that no rule matches.
+/// The answer to a text of three pieces, of which the first one has a byte that no rule matches, and how much of it is
+/// left.
+fn answered_at_once(alloc: Global, tables: &[u8]) -> Result<(Vec<u8>, usize), Fail> {
+    let text = vec![in alloc; b'#'; 3 * SIZE]?;
+    let mut source = MemSource::new(&text);
+    let mut sink = MemSink::new(alloc);
+    outcome(alloc, tables, &mut source, &mut sink)?;
+    let left = read_whole(alloc, &mut source)?;
+    Ok((sink.into_bytes(), left.len()))
+}
+
+/// The same by the table file of `FEWER_WORDS` and `SUMS`.
+fn sums_at_once(alloc: Global) -> Result<(Vec<u8>, usize), Fail> {
+    let tables = table_file(alloc, FEWER_WORDS, SUMS, Version::V2)?;
+    answered_at_once(alloc, &tables)
+}
+
 #[test]
 fn at_most_one_piece_is_read_ahead(rt: HostRuntime) -> Result<(), Fail> {
-    let tables = generate(rt.alloc(), FEWER_WORDS, SUMS, &Limits::V2, Version::V2)?;
-    let text = vec![in rt.alloc(); b'#'; 3 * SIZE]?;
-    let mut source = MemSource::new(&text);
-    let mut sink = MemSink::new(rt.alloc());
-    drive(rt.alloc(), &tables, &mut source, &mut sink)?;
-    assert!(rt; sink.bytes() == b"no rule matches at byte 0\n".as_slice());
-    assert!(rt; read_whole(rt.alloc(), &mut source)?.len() == 2 * SIZE);
+    let (lines, left) = sums_at_once(rt.alloc())?;
+    assert!(rt; lines.as_slice() == b"no rule matches at byte 0\n".as_slice());
+    assert!(rt; left == 2 * SIZE);
     Ok(())
 }

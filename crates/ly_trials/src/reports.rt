@@ -3,7 +3,6 @@
 use ly_base::{Limits, MemSink};
 use ly_engine::{GenFault, generate_report};
 use std::alloc::Global;
-use std::test::Fail;
 
 const LEX: &[u8] = b"%%\n[a-z]+ return X;\n";
 
@@ -12,10 +11,21 @@ const YACC: &[u8] = b"%token IF ELSE X\n%%s : IF s | IF s ELSE s | X ;";
 const REPORT: &[u8] = b"removed rules: 0\nconflicts: 1 shift/reduce, 0 reduce/reduce\n\
     shift/reduce after [IF s] before ELSE: shift, not rule 1\n";
 
+/// Writes the report of two files, and answers whether they are free of conflicts.
+fn report_into(
+    alloc: Global,
+    lex: &[u8],
+    yacc: &[u8],
+    limits: &Limits,
+    sink: &mut MemSink,
+) -> Result<bool, GenFault> {
+    generate_report(alloc, lex, yacc, limits, sink)
+}
+
 /// What refuses two files, by a letter; `-` where nothing does.
 fn refusal(alloc: Global, lex: &[u8], yacc: &[u8], limits: &Limits) -> u8 {
     let mut sink = MemSink::new(alloc);
-    match generate_report(alloc, lex, yacc, limits, &mut sink) {
+    match report_into(alloc, lex, yacc, limits, &mut sink) {
         Ok(_) => b'-',
         Err(fault) => letter(&fault),
     }
@@ -37,26 +47,28 @@ fn letter(fault: &GenFault) -> u8 {
     }
 }
 
-#[test]
-fn a_report_is_written_whole(rt: HostRuntime) -> Result<(), Fail> {
-    let mut sink = MemSink::new(rt.alloc());
-    match generate_report(rt.alloc(), LEX, YACC, &Limits::V2, &mut sink) {
-        Ok(free) => assert!(rt; !free),
-        Err(_) => return Err(Fail::from("two files were refused that are to be accepted")),
-    }
-    assert!(rt; sink.bytes() == REPORT);
-    Ok(())
+/// Whether the report of files with a conflict is written.
+fn is_written_whole(alloc: Global) -> bool {
+    let mut sink = MemSink::new(alloc);
+    let free = report_into(alloc, LEX, YACC, &Limits::V2, &mut sink);
+    matches!(free, Ok(false)) && sink.bytes() == REPORT
 }
 
 #[test]
-fn a_report_stops_where_its_writer_fails(rt: HostRuntime) -> Result<(), Fail> {
-    let mut sink = MemSink::failing_after(rt.alloc(), 9);
-    match generate_report(rt.alloc(), LEX, YACC, &Limits::V2, &mut sink) {
-        Err(GenFault::Write { written }) => assert!(rt; written == 9),
-        _ => return Err(Fail::from("a failed write was not told")),
-    }
-    assert!(rt; sink.bytes() == b"removed r".as_slice());
-    Ok(())
+fn a_report_is_written_whole(rt: HostRuntime) {
+    assert!(rt; is_written_whole(rt.alloc()));
+}
+
+/// Whether a failed write is told, with how much of the report went out.
+fn tells_of_a_failed_write(alloc: Global) -> bool {
+    let mut sink = MemSink::failing_after(alloc, 9);
+    let free = report_into(alloc, LEX, YACC, &Limits::V2, &mut sink);
+    matches!(free, Err(GenFault::Write { written: 9 })) && sink.bytes() == b"removed r".as_slice()
+}
+
+#[test]
+fn a_report_stops_where_its_writer_fails(rt: HostRuntime) {
+    assert!(rt; tells_of_a_failed_write(rt.alloc()));
 }
 
 /// Lex files and yacc files, and what refuses them. Where several would, it is the first of this order.
@@ -70,12 +82,19 @@ const REFUSED: [(&[u8], &[u8], u8); 7] = [
     (LEX, YACC, b'-'),
 ];
 
-#[test]
-fn each_part_refuses_in_its_turn(rt: HostRuntime) -> Result<(), Fail> {
-    for (lex, yacc, wanted) in &REFUSED {
-        assert_eq!(rt; refusal(rt.alloc(), lex, yacc, &Limits::V2), *wanted);
+/// The number of the first of `REFUSED` that something else refuses.
+fn refused_otherwise(alloc: Global) -> Option<usize> {
+    for (number, (lex, yacc, wanted)) in REFUSED.iter().enumerate() {
+        if refusal(alloc, lex, yacc, &Limits::V2) != *wanted {
+            return Some(number);
+        }
     }
-    Ok(())
+    None
+}
+
+#[test]
+fn each_part_refuses_in_its_turn(rt: HostRuntime) {
+    assert_eq!(rt; refused_otherwise(rt.alloc()), None);
 }
 
 const SMALL: &[u8] = b"%%s : 'x' ;";
@@ -94,24 +113,34 @@ const LIMITED: [(&[u8], u32, u32, u8); 7] = [
     (b"%%s : ;", 2, 0, b'a'),
 ];
 
-#[test]
-fn limits_are_met_exactly(rt: HostRuntime) -> Result<(), Fail> {
-    let lex = b"%%\nx return 'x';\n".as_slice();
-    for (yacc, scanner, parser, wanted) in LIMITED {
-        let limits = Limits::V2
-            .with_scanner_states(scanner)
-            .with_parser_states(parser);
-        assert_eq!(rt; refusal(rt.alloc(), lex, yacc, &limits), wanted);
+/// A lex file with the literal of `SMALL`.
+const LITERAL: &[u8] = b"%%\nx return 'x';\n";
+
+/// What refuses a yacc file under limits of the scanner's and of the parser's states.
+fn refusal_by_states(alloc: Global, yacc: &[u8], scanner: u32, parser: u32) -> u8 {
+    let limits = Limits::V2
+        .with_scanner_states(scanner)
+        .with_parser_states(parser);
+    refusal(alloc, LITERAL, yacc, &limits)
+}
+
+/// The number of the first of `LIMITED` that something else refuses.
+fn limited_otherwise(alloc: Global) -> Option<usize> {
+    for (number, (yacc, scanner, parser, wanted)) in LIMITED.iter().enumerate() {
+        if refusal_by_states(alloc, yacc, *scanner, *parser) != *wanted {
+            return Some(number);
+        }
     }
+    None
+}
+
+#[test]
+fn limits_are_met_exactly(rt: HostRuntime) {
+    assert_eq!(rt; limited_otherwise(rt.alloc()), None);
     let light = Limits::V2.with_total_weight(0);
-    assert_eq!(rt; refusal(rt.alloc(), lex, SMALL, &light), b'p');
-    assert_eq!(rt;
-        refusal(rt.alloc(), lex, SMALL, &Limits::V2.with_symbols(5)),
-        b'-'
-    );
-    assert_eq!(rt;
-        refusal(rt.alloc(), lex, SMALL, &Limits::V2.with_symbols(4)),
-        b'j'
-    );
-    Ok(())
+    assert_eq!(rt; refusal(rt.alloc(), LITERAL, SMALL, &light), b'p');
+    let five = Limits::V2.with_symbols(5);
+    assert_eq!(rt; refusal(rt.alloc(), LITERAL, SMALL, &five), b'-');
+    let four = Limits::V2.with_symbols(4);
+    assert_eq!(rt; refusal(rt.alloc(), LITERAL, SMALL, &four), b'j');
 }

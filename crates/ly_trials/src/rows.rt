@@ -2,7 +2,9 @@
 
 use ly_base::{OutOfMemory, RuleNo, RuleTree, StateNo, Sym};
 use ly_loop::steady;
-use ly_pack::{Dense, Machine, MachineParts, Rows, TableAction, TableRule, comb, pack};
+use ly_pack::{
+    Comb, Dense, Machine, MachineParts, Packed, Rows, TableAction, TableRule, comb, pack,
+};
 use std::alloc::Global;
 use std::test::Fail;
 
@@ -41,13 +43,22 @@ fn have_entries<R: Rows<u8>>(rows: &R) -> bool {
     same
 }
 
+/// The same rows, laid over one another.
+fn laid_rows(alloc: Global, dense: &Dense<u8>) -> Result<Comb<u8>, OutOfMemory> {
+    comb(alloc, dense)
+}
+
+/// Whether rows keep their entries, also where they are laid over one another, with one base each.
+fn are_kept(alloc: Global) -> Result<bool, OutOfMemory> {
+    let dense = dense_rows(alloc)?;
+    let laid = laid_rows(alloc, &dense)?;
+    let sizes = laid.width() == 4 && laid.bases().len() == 6;
+    Ok(sizes && have_entries(&dense) && have_entries(&laid))
+}
+
 #[test]
 fn rows_keep_their_entries(rt: HostRuntime) -> Result<(), Fail> {
-    let dense = dense_rows(rt.alloc())?;
-    assert!(rt; have_entries(&dense));
-    let laid = comb(rt.alloc(), &dense)?;
-    assert!(rt; have_entries(&laid));
-    assert!(rt; laid.width() == 4 && laid.bases().len() == 6);
+    assert!(rt; are_kept(rt.alloc())?);
     Ok(())
 }
 
@@ -77,11 +88,36 @@ pub(crate) fn by_hand(
     }))
 }
 
+/// The same tables over rows that are laid over one another.
+pub(crate) fn laid_by_hand(
+    alloc: Global,
+) -> Result<Machine<Packed<TableAction>, Packed<StateNo>>, OutOfMemory> {
+    pack(alloc, by_hand(alloc)?)
+}
+
+/// Whether tables are accepted as steady.
+fn is_steady<A: Rows<TableAction> + Drop, G: Rows<StateNo> + Drop>(
+    alloc: Global,
+    machine: &Machine<A, G>,
+) -> bool {
+    steady(alloc, machine).is_ok()
+}
+
+/// Whether those over rows that stand apart are.
+fn apart_are_steady(alloc: Global) -> Result<bool, OutOfMemory> {
+    let machine = by_hand(alloc)?;
+    Ok(is_steady(alloc, &machine))
+}
+
+/// Whether those over rows that are laid over one another are.
+fn laid_are_steady(alloc: Global) -> Result<bool, OutOfMemory> {
+    let machine = laid_by_hand(alloc)?;
+    Ok(is_steady(alloc, &machine))
+}
+
 #[test]
 fn machines_are_steady(rt: HostRuntime) -> Result<(), Fail> {
-    let apart = by_hand(rt.alloc())?;
-    let laid = pack(rt.alloc(), by_hand(rt.alloc())?)?;
-    assert!(rt; steady(rt.alloc(), &apart).is_ok());
-    assert!(rt; steady(rt.alloc(), &laid).is_ok());
+    assert!(rt; apart_are_steady(rt.alloc())?);
+    assert!(rt; laid_are_steady(rt.alloc())?);
     Ok(())
 }

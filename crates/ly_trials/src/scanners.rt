@@ -1,7 +1,7 @@
 //! The automaton of a lex file: its classes and states, before and after it is made smallest, and the limits that are
 //! met on the way.
 
-use ly_base::Limits;
+use ly_base::{Limits, OutOfMemory};
 use ly_lexread::read_lex;
 use ly_minim::minimise;
 use ly_position::positions;
@@ -48,11 +48,19 @@ fn states(alloc: Global, lex: &[u8], weight: u32, most: u32) -> usize {
     }
 }
 
+/// The number of the first of `LIMITED` for which it is otherwise.
+fn limited_otherwise(alloc: Global) -> Option<usize> {
+    for (number, (lex, weight, most, wanted)) in LIMITED.iter().enumerate() {
+        if states(alloc, lex, *weight, *most) != *wanted {
+            return Some(number);
+        }
+    }
+    None
+}
+
 #[test]
 fn limits_of_weight_and_of_states_are_exact(rt: HostRuntime) {
-    for (lex, weight, most, wanted) in LIMITED {
-        assert_eq!(rt; states(rt.alloc(), lex, weight, most), wanted);
-    }
+    assert_eq!(rt; limited_otherwise(rt.alloc()), None);
 }
 
 /// Lex files, and their automata before and after they are made smallest: of each state the states to which the bytes
@@ -109,17 +117,51 @@ fn rows_text(alloc: Global, dfa: &Dfa) -> Result<Vec<u8>, AllocError> {
     Ok(text)
 }
 
+/// The automaton of a lex file that has one.
+fn accepted(alloc: Global, lex: &[u8]) -> Result<Dfa, Fail> {
+    match automaton(alloc, lex, &Limits::V1) {
+        Ok(dfa) => Ok(dfa),
+        Err(_) => Err(Fail::from("a lex file was refused that has an automaton")),
+    }
+}
+
+/// The smallest automaton with the same rules.
+fn smallest(alloc: Global, dfa: Dfa) -> Result<Dfa, OutOfMemory> {
+    minimise(alloc, dfa)
+}
+
+/// The automaton of a lex file as it is found.
+fn found_text(alloc: Global, lex: &[u8]) -> Result<Vec<u8>, Fail> {
+    let dfa = accepted(alloc, lex)?;
+    Ok(rows_text(alloc, &dfa)?)
+}
+
+/// The same once it is made smallest.
+fn smallest_text(alloc: Global, lex: &[u8]) -> Result<Vec<u8>, Fail> {
+    let dfa = smallest(alloc, accepted(alloc, lex)?)?;
+    Ok(rows_text(alloc, &dfa)?)
+}
+
+/// Whether the automaton of a lex file is so before it is made smallest, and afterwards.
+fn is_made_smallest(alloc: Global, lex: &[u8], found: &[u8], wanted: &[u8]) -> Result<bool, Fail> {
+    let before = found_text(alloc, lex)?;
+    let after = smallest_text(alloc, lex)?;
+    Ok(before.as_slice() == found && after.as_slice() == wanted)
+}
+
+/// The number of the first of `AUTOMATA` for which it is otherwise.
+fn made_otherwise(alloc: Global) -> Result<Option<usize>, Fail> {
+    for (number, (lex, found, wanted)) in AUTOMATA.iter().enumerate() {
+        if !is_made_smallest(alloc, lex, found, wanted)? {
+            return Ok(Some(number));
+        }
+    }
+    Ok(None)
+}
+
 #[test]
 fn automata_are_made_smallest(rt: HostRuntime) -> Result<(), Fail> {
-    for (lex, found, smallest) in AUTOMATA {
-        let Ok(dfa) = automaton(rt.alloc(), lex, &Limits::V1) else {
-            return Err(Fail::from("a lex file was refused that has an automaton"));
-        };
-        let text = rows_text(rt.alloc(), &dfa)?;
-        assert!(rt; text.as_slice() == found, "{text:?}");
-        let text = rows_text(rt.alloc(), &minimise(rt.alloc(), dfa)?)?;
-        assert!(rt; text.as_slice() == smallest, "{text:?}");
-    }
+    assert_eq!(rt; made_otherwise(rt.alloc())?, None);
     Ok(())
 }
 
@@ -134,14 +176,29 @@ const CLASSES: [(u8, u8); 7] = [
     (b'z', 0),
 ];
 
+/// Whether bytes have these classes.
+fn are_classes(dfa: &Dfa) -> bool {
+    for (byte, class) in &CLASSES {
+        if dfa.class(*byte) != *class {
+            return false;
+        }
+    }
+    true
+}
+
+/// Whether there are four classes, two starts, and the second of these is the first state.
+fn has_sizes(dfa: &Dfa) -> bool {
+    dfa.classes() == 4 && dfa.starts() == 2 && dfa.start(0, true) == Some(0)
+}
+
+/// Whether all that is so in the first of `AUTOMATA`.
+fn has_classes(alloc: Global) -> Result<bool, Fail> {
+    let dfa = accepted(alloc, AUTOMATA[0].0)?;
+    Ok(has_sizes(&dfa) && are_classes(&dfa))
+}
+
 #[test]
 fn bytes_have_their_classes(rt: HostRuntime) -> Result<(), Fail> {
-    let Ok(dfa) = automaton(rt.alloc(), AUTOMATA[0].0, &Limits::V1) else {
-        return Err(Fail::from("a lex file was refused that has an automaton"));
-    };
-    assert!(rt; dfa.classes() == 4 && dfa.starts() == 2 && dfa.start(0, true) == Some(0));
-    for (byte, class) in CLASSES {
-        assert_eq!(rt; dfa.class(byte), class);
-    }
+    assert!(rt; has_classes(rt.alloc())?);
     Ok(())
 }

@@ -1,10 +1,9 @@
 //! Answers by two files: of a text at once, and by the bytes of the table file; and with devices that fail.
 
-use ly_base::{Limits, MemSink, MemSource};
-use ly_drive::{Outcome, drive};
-use ly_engine::{
-    AnswerFault, FormatFault, TableSet, Version, answer, generate, read_tables, write_tables,
-};
+use crate::answers::{outcome, set_of, table_file};
+use ly_base::{MemSink, MemSource};
+use ly_drive::Outcome;
+use ly_engine::{AnswerFault, FormatFault, TableSet, Version, answer, write_tables};
 use std::alloc::Global;
 use std::test::Fail;
 
@@ -16,27 +15,39 @@ const TEXT: &[u8] = b"if if x";
 
 const TREE: &[u8] = b"If(If(X\"x\"))\n";
 
-#[test]
-fn a_text_is_answered(rt: HostRuntime) -> Result<(), Fail> {
-    let alloc = rt.alloc();
+/// The outcome of a text under both files.
+fn answered(
+    alloc: Global,
+    source: &mut MemSource<'_>,
+    sink: &mut MemSink,
+) -> Result<Outcome, AnswerFault> {
+    answer(alloc, LEX, YACC, source, sink)
+}
+
+/// Whether the text is answered with its tree.
+fn is_answered(alloc: Global) -> bool {
     let mut sink = MemSink::new(alloc);
-    let Ok(outcome) = answer(alloc, LEX, YACC, &mut MemSource::new(TEXT), &mut sink) else {
-        return Err(Fail::from("a text was refused that is to be answered"));
-    };
-    assert!(rt; matches!(outcome, Outcome::Tree));
-    assert!(rt; sink.bytes() == TREE);
-    Ok(())
+    let outcome = answered(alloc, &mut MemSource::new(TEXT), &mut sink);
+    matches!(outcome, Ok(Outcome::Tree)) && sink.bytes() == TREE
+}
+
+#[test]
+fn a_text_is_answered(rt: HostRuntime) {
+    assert!(rt; is_answered(rt.alloc()));
+}
+
+/// Whether it is so by the table file in a version.
+fn is_answered_by_file(alloc: Global, version: Version) -> Result<bool, Fail> {
+    let tables = table_file(alloc, LEX, YACC, version)?;
+    let mut sink = MemSink::new(alloc);
+    let outcome = outcome(alloc, &tables, &mut MemSource::new(TEXT), &mut sink)?;
+    Ok(matches!(outcome, Outcome::Tree) && sink.bytes() == TREE)
 }
 
 #[test]
 fn a_generated_file_of_each_version_is_driven(rt: HostRuntime) -> Result<(), Fail> {
-    for version in [Version::V1, Version::V2] {
-        let mut sink = MemSink::new(rt.alloc());
-        let tables = generate(rt.alloc(), LEX, YACC, &Limits::V2, version)?;
-        let outcome = drive(rt.alloc(), &tables, &mut MemSource::new(TEXT), &mut sink)?;
-        assert!(rt; matches!(outcome, Outcome::Tree));
-        assert!(rt; sink.bytes() == TREE);
-    }
+    assert!(rt; is_answered_by_file(rt.alloc(), Version::V1)?);
+    assert!(rt; is_answered_by_file(rt.alloc(), Version::V2)?);
     Ok(())
 }
 
@@ -54,33 +65,43 @@ fn with_tokens(alloc: Global, count: u32) -> Result<Vec<u8>, Fail> {
 /// The table set of a yacc file that declares so many tokens.
 fn set_of_tokens(alloc: Global, count: u32) -> Result<TableSet, Fail> {
     let yacc = with_tokens(alloc, count)?;
-    let tables = generate(alloc, b"%%", &yacc, &Limits::V2, Version::V2)?;
-    Ok(read_tables(alloc, &tables)?.0)
+    set_of(alloc, &table_file(alloc, b"%%", &yacc, Version::V2)?)
+}
+
+/// Whether a set is too large for version 1.
+fn is_too_large(alloc: Global, set: &TableSet) -> bool {
+    matches!(write_tables(alloc, set, Version::V1), Err(FormatFault::TooLargeForVersion))
+}
+
+/// The same of the set of a yacc file that declares so many tokens.
+fn are_too_many(alloc: Global, count: u32) -> Result<bool, Fail> {
+    let set = set_of_tokens(alloc, count)?;
+    Ok(is_too_large(alloc, &set))
 }
 
 /// With `s`, `$end`, `$undef` and `$accept` these are one symbol more than version 1 has.
 #[test]
 fn a_set_is_too_large_for_version_1(rt: HostRuntime) -> Result<(), Fail> {
-    let set = set_of_tokens(rt.alloc(), 4_092)?;
-    let written = write_tables(rt.alloc(), &set, Version::V1);
-    assert!(rt; matches!(written, Err(FormatFault::TooLargeForVersion)));
+    assert!(rt; are_too_many(rt.alloc(), 4_092)?);
     Ok(())
 }
 
-#[test]
-fn answers_stop_where_a_device_fails(rt: HostRuntime) -> Result<(), Fail> {
-    let alloc = rt.alloc();
+/// Whether a failed read is told, and nothing is written.
+fn tells_of_a_failed_read(alloc: Global) -> bool {
     let mut sink = MemSink::new(alloc);
-    let mut source = MemSource::failing_after(TEXT, 3);
-    match answer(alloc, LEX, YACC, &mut source, &mut sink) {
-        Err(AnswerFault::Read) => assert!(rt; sink.bytes().is_empty()),
-        _ => return Err(Fail::from("a failed read was not told")),
-    }
+    let outcome = answered(alloc, &mut MemSource::failing_after(TEXT, 3), &mut sink);
+    matches!(outcome, Err(AnswerFault::Read)) && sink.bytes().is_empty()
+}
+
+/// Whether a failed write is told, with how much of the answer went out.
+fn tells_of_a_failed_write(alloc: Global) -> bool {
     let mut sink = MemSink::failing_after(alloc, 4);
-    match answer(alloc, LEX, YACC, &mut MemSource::new(TEXT), &mut sink) {
-        Err(AnswerFault::Write { written }) => assert!(rt; written == 4),
-        _ => return Err(Fail::from("a failed write was not told")),
-    }
-    assert!(rt; sink.bytes() == &TREE[..4]);
-    Ok(())
+    let outcome = answered(alloc, &mut MemSource::new(TEXT), &mut sink);
+    matches!(outcome, Err(AnswerFault::Write { written: 4 })) && sink.bytes() == &TREE[..4]
+}
+
+#[test]
+fn answers_stop_where_a_device_fails(rt: HostRuntime) {
+    assert!(rt; tells_of_a_failed_read(rt.alloc()));
+    assert!(rt; tells_of_a_failed_write(rt.alloc()));
 }

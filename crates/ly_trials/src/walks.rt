@@ -3,6 +3,7 @@
 use crate::dense::{Dense, Row};
 use ly_base::{Cut, RuleNo};
 use ly_scan::{Match, next_match};
+use std::alloc::{AllocError, Global};
 use std::test::Fail;
 
 /// The bytes that lead on from each state, one more than the states that they lead to, and the rule that
@@ -128,26 +129,38 @@ fn row(edges: &[(u8, u16)], rule: Option<u32>) -> Row {
     }
 }
 
-#[test]
-fn longest_matches_and_their_cuts(rt: HostRuntime) -> Result<(), Fail> {
-    let mut rows = Vec::new(rt.alloc());
+/// The rows of `STATES`.
+fn rows(alloc: Global) -> Result<Vec<Row>, AllocError> {
+    let mut rows = Vec::new(alloc);
     for (edges, rule) in &STATES {
         rows.push(row(edges, *rule))?;
     }
-    for (text, line, cut, wanted) in &MATCHES {
-        let dense = Dense {
-            rows: &rows,
-            starts: &[[1, 0]],
-            cuts: &[Cut::Whole, *cut],
-        };
-        assert!(rt;
-            next_match(&dense, 0, *line, text) == *wanted,
-            "{text:?} {cut:?}"
-        );
-        assert!(rt;
-            next_match(&dense, 1, *line, text) == Match::Stuck,
-            "{text:?}"
-        );
+    Ok(rows)
+}
+
+/// Whether the match at the front of a text is so over rows, and none is found from a condition that there isn't.
+fn is_matched_so(rows: &[Row], text: &[u8], line: bool, cut: Cut, wanted: Match) -> bool {
+    let dense = Dense {
+        rows,
+        starts: &[[1, 0]],
+        cuts: &[Cut::Whole, cut],
+    };
+    next_match(&dense, 0, line, text) == wanted && next_match(&dense, 1, line, text) == Match::Stuck
+}
+
+/// The number of the first of `MATCHES` that isn't so.
+fn matched_otherwise(alloc: Global) -> Result<Option<usize>, AllocError> {
+    let rows = rows(alloc)?;
+    for (number, (text, line, cut, wanted)) in MATCHES.iter().enumerate() {
+        if !is_matched_so(&rows, text, *line, *cut, *wanted) {
+            return Ok(Some(number));
+        }
     }
+    Ok(None)
+}
+
+#[test]
+fn longest_matches_and_their_cuts(rt: HostRuntime) -> Result<(), Fail> {
+    assert_eq!(rt; matched_otherwise(rt.alloc())?, None);
     Ok(())
 }

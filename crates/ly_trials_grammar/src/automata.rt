@@ -5,6 +5,7 @@ use crate::knuth::merged;
 use crate::specifications::specification;
 use ly_base::{Limits, OutOfMemory};
 use ly_grammar::{Reduced, reduce};
+use ly_join::Grammar;
 use ly_lr0::{Lr0, automaton};
 use ly_relate::relations;
 use std::alloc::Global;
@@ -59,19 +60,24 @@ fn knuths_automaton(alloc: Global, reduced: &Reduced<'_>) -> Result<[usize; 5], 
     Ok(counts(alloc, &lr0)?)
 }
 
-/// The same of the grammar of a yacc file.
-fn automaton_of(alloc: Global, yacc: &[u8]) -> Result<[usize; 5], Fail> {
-    let spec = specification(alloc, yacc)?;
-    match reduce(alloc, spec.grammar()) {
+/// The same of a grammar.
+fn automaton_of(alloc: Global, grammar: &Grammar) -> Result<[usize; 5], Fail> {
+    match reduce(alloc, grammar) {
         Ok(reduced) => knuths_automaton(alloc, &reduced),
         Err(_) => Err(Fail::from("a grammar was refused that is to be reduced")),
     }
 }
 
+/// The same of the grammar of a yacc file.
+fn automaton_of_file(alloc: Global, yacc: &[u8]) -> Result<[usize; 5], Fail> {
+    let spec = specification(alloc, yacc)?;
+    automaton_of(alloc, spec.grammar())
+}
+
 /// The number of the first of `EXAMPLES` for which it is otherwise.
 fn related_otherwise(alloc: Global) -> Result<Option<usize>, Fail> {
     for (number, (yacc, wanted)) in EXAMPLES.iter().enumerate() {
-        if automaton_of(alloc, yacc)? != *wanted {
+        if automaton_of_file(alloc, yacc)? != *wanted {
             return Ok(Some(number));
         }
     }
@@ -105,7 +111,7 @@ const GRAMMARS: [&[u8]; 10] = [
 #[test]
 fn automata_are_knuths_with_equal_cores_merged(rt: HostRuntime) -> Result<(), Fail> {
     for yacc in GRAMMARS {
-        automaton_of(rt.alloc(), yacc)?;
+        automaton_of_file(rt.alloc(), yacc)?;
     }
     Ok(())
 }

@@ -180,9 +180,19 @@ fn is_ring_solved(alloc: Global, nodes: u32) -> Result<bool, OutOfMemory> {
     Ok(solved)
 }
 
+/// Whether each node of a ring whose edges are listed gets the number of one.
+fn is_listed_ring_solved(alloc: Global) -> Result<bool, OutOfMemory> {
+    let graph = Graph::from_edges(alloc, 3, &[(0, 1), (1, 2), (2, 0)])?;
+    let mut sets = SetMatrix::new(alloc, 3, 1)?;
+    insert(&mut sets, 1, 0);
+    let solved = solve(alloc, &graph, &mut sets)? <= 6 && graph.edges() == 3;
+    Ok(solved && holds(&sets, 0, 0) && holds(&sets, 1, 0) && holds(&sets, 2, 0))
+}
+
 #[test]
 fn least_sets_are_found(rt: HostRuntime) -> Result<(), Fail> {
     assert_eq!(rt; solved_otherwise(rt.alloc())?, None);
+    assert!(rt; is_listed_ring_solved(rt.alloc())?);
     assert!(rt; is_chain_solved(rt.alloc(), 200_000)?);
     assert!(rt; is_ring_solved(rt.alloc(), 1_000)?);
     Ok(())

@@ -20,16 +20,37 @@ pub(crate) fn merged(alloc: Global, reduced: &Reduced<'_>) -> Result<Facts, Allo
     let sets = sets(alloc, reduced, &mut moves)?;
     let numbers = numbers(alloc, &sets)?;
     let mut facts = Facts::new(alloc);
-    for (from, symbol, to) in &moves {
+    push_moves(&mut facts, &moves, &numbers)?;
+    push_all_aheads(&mut facts, reduced, &sets, &numbers)?;
+    facts.sort();
+    Ok(facts)
+}
+
+/// Adds moves between sets, by the numbers of their cores.
+fn push_moves(
+    facts: &mut Facts,
+    moves: &[(usize, Symbol, usize)],
+    numbers: &[usize],
+) -> Result<(), AllocError> {
+    for (from, symbol, to) in moves {
         if let (Some(from), Some(to)) = (numbers.get(*from), numbers.get(*to)) {
             facts.moves.push((*from, *symbol, *to))?;
         }
     }
+    Ok(())
+}
+
+/// Adds the terminals that may follow the rules that are complete in sets, by the numbers of their cores.
+fn push_all_aheads(
+    facts: &mut Facts,
+    reduced: &Reduced<'_>,
+    sets: &[Vec<Item>],
+    numbers: &[usize],
+) -> Result<(), AllocError> {
     for (set, state) in sets.iter().zip(numbers.iter()) {
-        push_aheads(&mut facts, reduced, set, *state)?;
+        push_aheads(facts, reduced, set, *state)?;
     }
-    facts.sort();
-    Ok(facts)
+    Ok(())
 }
 
 /// The sets of items: that of the start, and breadth first those to which symbols lead.

@@ -75,11 +75,16 @@ const REPORTS: [(&[u8], bool, &[u8]); 7] = [
     ),
 ];
 
-/// Whether the report of a yacc file is this one, and it is so free of conflicts.
+/// Whether the report of a specification is this one, and it is so free of conflicts.
+fn is_report(alloc: Global, spec: &Spec, free: bool, wanted: &[u8]) -> Result<bool, Fail> {
+    let mut writer = MemSink::new(alloc);
+    Ok(write_report(alloc, spec, &mut writer)? == free && writer.bytes() == wanted)
+}
+
+/// The same of a yacc file.
 fn is_reported_so(alloc: Global, yacc: &[u8], free: bool, wanted: &[u8]) -> Result<bool, Fail> {
     let spec = specification(alloc, yacc)?;
-    let mut writer = MemSink::new(alloc);
-    Ok(write_report(alloc, &spec, &mut writer)? == free && writer.bytes() == wanted)
+    is_report(alloc, &spec, free, wanted)
 }
 
 /// The number of the first of `REPORTS` for which it is otherwise.

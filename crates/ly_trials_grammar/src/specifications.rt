@@ -128,11 +128,16 @@ fn push_beginnings(
     Ok(())
 }
 
+/// Whether this is said of a grammar.
+fn is_reduction(alloc: Global, grammar: &Grammar, wanted: &[u8]) -> Result<bool, Fail> {
+    let text = reduction(alloc, grammar)?;
+    Ok(text.as_slice() == wanted)
+}
+
 /// Whether this is said of the grammar of a yacc file.
 fn is_reduced_so(alloc: Global, yacc: &[u8], wanted: &[u8]) -> Result<bool, Fail> {
     let spec = specification(alloc, yacc)?;
-    let text = reduction(alloc, spec.grammar())?;
-    Ok(text.as_slice() == wanted)
+    is_reduction(alloc, spec.grammar(), wanted)
 }
 
 /// The number of the first of `REDUCED` of which something else is said.
