@@ -70,7 +70,10 @@ fn set_of_tokens(alloc: Global, count: u32) -> Result<TableSet, Fail> {
 
 /// Whether a set is too large for version 1.
 fn is_too_large(alloc: Global, set: &TableSet) -> bool {
-    matches!(write_tables(alloc, set, Version::V1), Err(FormatFault::TooLargeForVersion))
+    matches!(
+        write_tables(alloc, set, Version::V1),
+        Err(FormatFault::TooLargeForVersion)
+    )
 }
 
 /// The same of the set of a yacc file that declares so many tokens.
