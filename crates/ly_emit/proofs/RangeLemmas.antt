@@ -92,7 +92,7 @@ start_within A c line state is = at (nat_lt (start_place c line) A.starts)
     at true e = is.within (start_place c line) state e
     at false e = absurd cc
 
-module _ (v : Version) (s : Spec) (M : parser.Automaton) (A : scanner.Automaton) (rules : List Rule) (set : TableSet)
+module _ (v : Version) (s : Spec) (M : parser.Lr0Automaton) (A : scanner.Automaton) (rules : List Rule) (set : TableSet)
     (fits : FitsFile v s rules A M) (is : IsSetOf s M rules A set) (lists : AreLists set) (sizes : HasSizes s)
     (whole : IsAutomaton A) (many : length rules ≡ length s.scanner) (machine : IsMachine (machine_of set)) where
   terminal_count : length set.terminals ≡ length s.terminals

@@ -15,7 +15,7 @@ use Rattle.ly_tables.specs.Ranges.{Counts, IsCutWithin, IsEmittedWithin, IsNameL
 
 -- The first two terminals are the end and the one of no token; there are no more symbols, rules and states than these
 -- counts allow, and a rule; and bodies, names of terminals and names of constructors are no longer than a byte counts.
-pub record IsGrammarWithin (counts : Counts) (s : Spec) (M : parser.Automaton) : Type 0 where
+pub record IsGrammarWithin (counts : Counts) (s : Spec) (M : parser.Lr0Automaton) : Type 0 where
   pub end : slice_get s.terminals 0 ≡ Some end
   pub undefined : slice_get s.terminals 1 ≡ Some undefined
   pub symbols : length s.terminals + length s.nonterminals + 1 ≤ counts.symbols
@@ -46,7 +46,8 @@ pub record IsScannerWithin (w : Width) (counts : Counts) (s : Spec) (rules : Lis
   pub accepted : (k p : ℕ) → slice_get A.rules k ≡ Some (Some p) → p < length rules
 
 -- The grammar and the scanner of a specification, and the automata of both, are within the counts of the version.
-pub record FitsFile (v : Version) (s : Spec) (rules : List pattern.Rule) (A : scanner.Automaton) (M : parser.Automaton)
+pub record FitsFile (v : Version) (s : Spec) (rules : List pattern.Rule) (A : scanner.Automaton)
+    (M : parser.Lr0Automaton)
     : Type 0 where
   pub grammar : IsGrammarWithin (counts_of v) s M
   pub scanner : IsScannerWithin (width_of v) (counts_of v) s rules A

@@ -16,7 +16,7 @@ use Rattle.ly_subset.specs.Automaton.{next_by_class, start_of}
 use Rattle.ly_tables.specs.TableSet.{Starts, TableSet, machine_of}
 
 -- the machine is that of the specification, by this automaton of its useful rules
-abbrev pub IsMachineBy : Spec → parser.Automaton → Machine → Type 0
+abbrev pub IsMachineBy : Spec → parser.Lr0Automaton → Machine → Type 0
 IsMachineBy s M m = KeepsUseful s.grammar M.grammar × IsMachineOf s M m
 
 -- The rules, conditions, classes and states of the scanner: rules do what the specification says and cut as their
@@ -36,7 +36,7 @@ pub record IsScannerOf (s : Spec) (rules : List Rule) (A : scanner.Automaton) (s
 -- The names of terminals are those of the specification, printed; a byte stands for its literal; the scanner is that of
 -- the rules, and the parser's tables are the specification's, with default reductions; and rows are placed by first
 -- fit.
-pub record IsSetOf (s : Spec) (M : parser.Automaton) (rules : List Rule) (A : scanner.Automaton) (set : TableSet)
+pub record IsSetOf (s : Spec) (M : parser.Lr0Automaton) (rules : List Rule) (A : scanner.Automaton) (set : TableSet)
     : Type 0 where
   pub terminals : set.terminals ≡ map terminal_name s.terminals
   pub nonterminals : set.nonterminals ≡ length s.nonterminals

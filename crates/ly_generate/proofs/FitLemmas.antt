@@ -55,7 +55,7 @@ module _ (v : Version) (limits : Sizes) (lex yacc : List ℕ) (s : Spec) (given 
       slice_get_within given.file.rules.items p string.rule string.is_active.is_rule
 
   -- so a table set of them can be made
-  pub fits_file : (M : parser.Automaton) → parser.IsAutomaton M → KeepsUseful s.grammar M.grammar
+  pub fits_file : (M : parser.Lr0Automaton) → parser.IsLr0Automaton M → KeepsUseful s.grammar M.grammar
       → length M.states ≤ limits.parser_states → FitsFile v s given.file.rules.items walk M
   fits_file M is useful few = record {
     grammar = grammar_within v limits yacc (scanning_of given.file) given.written s bounded given.yacc_text

@@ -71,7 +71,7 @@ before_next : (p : ℕ) → p ≡ suc p - 1
 before_next p = omega arith
 
 -- each rule has its note
-notes_of_rules : (m : SymbolTable) (rs : List Ruling) (rules : List grammar.Rule) (notes : List Note)
+notes_of_rules : (m : SymbolTable) (rs : List Ruling) (rules : List grammar.GrammarRule) (notes : List Note)
     → AreJoined m rs rules notes → length notes ≡ length rules
 notes_of_rules m [] [] [] h = refl
 notes_of_rules m [] [] (n ∷ notes) h = absurd h
@@ -87,14 +87,15 @@ module _ (x : Scanning) (w : Written) (s : Spec) (M : Lr0Automaton) (patterns : 
   same_terminals t = ap (λ names. name_in names t) of.terminals
       ∙ ap (λ o. unwrap_or o []) (slice_get-map terminal_name s.terminals t)
 
-  all_rules : List grammar.Rule
+  all_rules : List grammar.GrammarRule
   all_rules = accept_rule (length s.nonterminals) s.grammar.start ∷ joined.rules
 
   rules_are : s.grammar.rules ≡ map Some all_rules
   unfolding all_rules
   rules_are = ap (λ g. g.rules) joined.grammar
 
-  rule_there : (p : ℕ) (r : grammar.Rule) → slice_get all_rules p ≡ Some r → slice_get s.grammar.rules p ≡ Some (Some r)
+  rule_there : (p : ℕ) (r : grammar.GrammarRule) → slice_get all_rules p ≡ Some r
+      → slice_get s.grammar.rules p ≡ Some (Some r)
   rule_there p r at = ap (λ rs. slice_get rs p) rules_are ∙ slice_get-map Some all_rules p ∙ ap (option_map Some) at
 
   count_rules : length s.grammar.rules ≡ suc (length joined.rules)
@@ -105,7 +106,7 @@ module _ (x : Scanning) (w : Written) (s : Spec) (M : Lr0Automaton) (patterns : 
   count_notes = ap length joined.all_notes
       ∙ ap suc (notes_of_rules (table_of s) w.rules joined.rules joined.notes joined.joined)
 
-  named_rule : (p : ℕ) (r : grammar.Rule) → slice_get all_rules (suc p) ≡ Some r
+  named_rule : (p : ℕ) (r : grammar.GrammarRule) → slice_get all_rules (suc p) ≡ Some r
       → constructor_in set.rules (suc p) ≡ constructor_of (shape_in s (suc p))
   named_rule p r at =
       let tables : AreTables s M of.machine.0 = of.machine.1 in
@@ -126,7 +127,7 @@ module _ (x : Scanning) (w : Written) (s : Spec) (M : Lr0Automaton) (patterns : 
       ∙ sym (ap (λ o. constructor_of (shape_from o))
       (slice_get_past s.notes (suc p) (omega (arith, past, count_notes))))
 
-  by_place : (p : ℕ) (o : Option grammar.Rule) → slice_get all_rules (suc p) ≡ o
+  by_place : (p : ℕ) (o : Option grammar.GrammarRule) → slice_get all_rules (suc p) ≡ o
       → constructor_in set.rules (suc p) ≡ constructor_of (shape_in s (suc p))
   unfolding all_rules
   by_place p (Some r) at = named_rule p r at

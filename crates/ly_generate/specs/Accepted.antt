@@ -48,8 +48,8 @@ pub record Specifies (limits : Sizes) (lex yacc : List ℕ) (s : Spec) : Type 0 
 
 -- Each run of the tables of these rules ends.
 pub record HasSteadyTables (s : Spec) (useful : Grammar) : Type 0 where
-  pub automaton : parser.Automaton
-  pub is_automaton : parser.IsAutomaton automaton
+  pub automaton : parser.Lr0Automaton
+  pub is_automaton : parser.IsLr0Automaton automaton
   pub same : automaton.grammar ≡ useful
   pub machine : Machine
   pub is_machine : IsMachineOf s automaton machine
@@ -66,8 +66,8 @@ pub record IsFit (limits : Sizes) (s : Spec) (useful : Grammar) : Type 0 where
 -- The run of the specification's tables on these two states makes too many reductions before this terminal, as the
 -- first of all such runs.
 pub record HasEndlessRun (s : Spec) (below top token : ℕ) : Type 0 where
-  pub automaton : parser.Automaton
-  pub is_automaton : parser.IsAutomaton automaton
+  pub automaton : parser.Lr0Automaton
+  pub is_automaton : parser.IsLr0Automaton automaton
   pub useful : KeepsUseful s.grammar automaton.grammar
   pub machine : Machine
   pub is_machine : IsMachineOf s automaton machine

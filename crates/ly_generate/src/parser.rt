@@ -121,7 +121,7 @@ pub fn steady_tables(
     resolved: &Resolved<'_>,
 ) -> Result<Machine<Dense<TableAction>, Dense<StateNo>>, GenFault>
     requires shapes { AreShapesWithin resolved.now.spec }
-    requires lawful { parser.IsAutomaton resolved.now.automaton }
+    requires lawful { parser.IsLr0Automaton resolved.now.automaton }
     requires useful { KeepsUseful resolved.now.spec.grammar resolved.now.automaton.grammar }
     ensures tables { IfOk result (IsMachineOf resolved.now.spec resolved.now.automaton) }
     ensures steady { IfOk result IsSteady }

@@ -18,15 +18,15 @@ use Rattle.ly_generate.specs.Accepted.{IsFit}
 -- a table file of the version can hold the specification, this scanner, and whatever automaton of its useful rules is
 -- within the limits
 abbrev pub FitsWith : Version → Sizes → Spec → List Rule → Automaton → Type 0
-FitsWith v limits s rules A = (M : parser.Automaton) → parser.IsAutomaton M → KeepsUseful s.grammar M.grammar
+FitsWith v limits s rules A = (M : parser.Lr0Automaton) → parser.IsLr0Automaton M → KeepsUseful s.grammar M.grammar
     → length M.states ≤ limits.parser_states → FitsFile v s rules A M
 
 -- The set is that of the specification's useful rules, which are fit, and of a scanner, within the ranges of a version,
 -- and its parser's runs end.
 pub record IsMadeOf (v : Version) (limits : Sizes) (file : LexFile) (s : Spec) (A : Automaton) (set : TableSet) : Type 0
   where
-    pub automaton : parser.Automaton
-    pub is_automaton : parser.IsAutomaton automaton
+    pub automaton : parser.Lr0Automaton
+    pub is_automaton : parser.IsLr0Automaton automaton
     pub fit : IsFit limits s automaton.grammar
     pub is_walk : IsAutomaton A
     pub is_set : IsSetOf s automaton file.rules.items A set
