@@ -2,7 +2,7 @@
 use Rattle.std.specs.Prelude.{◌≡◌, ◌↔◌, ℕ, List}
 use Rattle.ly_lexread.specs.LexText.{LexText}
 use Rattle.ly_lexread.specs.declared.file.LexFile.{LexFile}
-use Rattle.ly_subset.specs.Automaton.{Lr0Automaton as Scanner}
+use Rattle.ly_subset.specs.Automaton.{Automaton as Scanner}
 use Rattle.ly_minim.specs.Smallest.{HaveSameRules}
 use Rattle.ly_tokens.specs.Scanner.{IsSubsetScanner}
 use Rattle.ly_join.specs.Grammar.{Grammar, Symbol}
