@@ -6,7 +6,7 @@ use Rattle.ly_resolve.specs.Values.{conflict_from}
 use Rattle.ly_resolve.specs.declared.action.Action.TheVariants.{Shift}
 use Rattle.ly_resolve.specs.declared.conflict.Conflict.{Conflict}
 use Rattle.ly_resolve.specs.declared.conflict.ConflictKind.TheVariants.{ShiftReduce}
-use Rattle.ly_explanation.proofs.conflicts.Teller.say_example.Goals as goal
+use Rattle.ly_survey.proofs.conflicts.Teller.say_example.Goals as goal
 
 -- what no place has
 no_conflict : Conflict

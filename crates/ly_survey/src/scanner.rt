@@ -1,9 +1,8 @@
 //! The states of the scanner: which bytes it tells apart, where each condition begins, and where each state leads.
 ghost use Rattle.std.specs.Prelude.{◌<◌, length};
 
-use crate::explaining::Accepted;
+use crate::survey::Accepted;
 use ly_base::OutOfMemory;
-use ly_findings::known_conditions;
 use ly_page::Page;
 use ly_subset::Dfa;
 use std::alloc::Global;
@@ -66,7 +65,6 @@ pub(crate) fn say_other_bytes(
     page: &mut Page,
     files: Accepted<'_>,
 ) -> Result<(), OutOfMemory> {
-    let names = known_conditions(alloc, files.lex.bytes)?;
     for condition in 0..files.file.conditions {
         let mut others: Vec<bool> = Vec::new(alloc);
         for byte in 0..=255u8 {
@@ -74,7 +72,7 @@ pub(crate) fn say_other_bytes(
         }
         if others.contains(&true) {
             page.say(b"In ");
-            say_name(page, &names, condition);
+            say_name(page, files.conditions, condition);
             page.say(b" no match begins with");
             say_bytes(page, &others);
             page.say(b"\n");

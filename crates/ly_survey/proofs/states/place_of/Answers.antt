@@ -1,7 +1,7 @@
 use Rattle.std.proofs.Common.{◌≡◌, Some, [], slice_get, slice_index_or, subst}
 use Rattle.std.proofs.lemmas.Option.{slice_get-get_or}
 use Rattle.ly_lr0.specs.Automaton.{state_at}
-use Rattle.ly_explanation.proofs.states.place_of.Goals as goal
+use Rattle.ly_survey.proofs.states.place_of.Goals as goal
 
 pub returns-then-complete-place : goal.returns-then-complete-place
 returns-then-complete-place c =

@@ -2,7 +2,7 @@
 ghost use Rattle.std.specs.Prelude.{◌≡◌, ◌<◌, IfSome, length};
 ghost use Rattle.ly_lookahead.specs.Lookaheads.{AreLookaheads, HasSet};
 
-use crate::explaining::Accepted;
+use crate::survey::Accepted;
 use ly_base::{OutOfMemory, RuleNo, StateNo, Sym};
 use ly_join::{Spec, Symbol};
 use ly_lookahead::{Lookaheads, lookaheads};
@@ -13,7 +13,7 @@ use ly_resolve::{Action, Resolved, TerminalAction};
 use std::alloc::Global;
 
 /// The tables of a parser.
-pub(crate) type Tables = Machine<Dense<TableAction>, Dense<StateNo>>;
+pub type Tables = Machine<Dense<TableAction>, Dense<StateNo>>;
 
 /// What states are told by.
 #[derive(Clone, Copy)]

@@ -2,13 +2,12 @@
 ghost use Rattle.ly_subset.specs.Automaton.{IsBreadthFirst};
 
 use crate::decided::Decided;
-use crate::explaining::Accepted;
 use crate::patterns::surprises;
 use crate::places::Places;
 use crate::scanner::say_other_bytes;
+use crate::survey::Accepted;
 use ly_base::{OutOfMemory, Sym};
 use ly_explain::{unmatched_rules, unreduced_rules, unreturned_terminals, unused_terminals};
-use ly_findings::indented_lines;
 use ly_join::Spec;
 use ly_page::Page;
 use std::alloc::Global;
@@ -37,7 +36,7 @@ pub(crate) fn say_doubts(
     let teller = Teller { files, places };
     let before = page.len();
     teller.say_surprises(alloc, page)?;
-    teller.say_indented(alloc, page)?;
+    teller.say_indented(page);
     teller.say_unmatched(alloc, page)?;
     teller.say_removed(page);
     teller.say_unreduced(alloc, page)?;
@@ -165,15 +164,11 @@ impl Teller<'_> {
     }
 
     /// Says which lines among the rules of the lex file aren't used.
-    fn say_indented(&self, alloc: Global, page: &mut Page) -> Result<(), OutOfMemory> {
-        for line in indented_lines(alloc, self.files.lex.bytes)?
-            .iter()
-            .take(MOST)
-        {
+    fn say_indented(&self, page: &mut Page) {
+        for line in self.files.indented.iter().take(MOST) {
             page.say_line_of(self.files.lex, *line);
             page.say(b"this line begins with a blank, and so is no rule: it is not used\n");
         }
-        Ok(())
     }
 
     /// Says which tokens are declared more than once.

@@ -1,0 +1,135 @@
+ghost use Rattle.std.specs.Prelude.{◌≡◌, IfOk, true};
+ghost use Rattle.ly_subset.specs.Automaton.{IsBreadthFirst};
+
+use crate::conflicts::say_conflicts;
+use crate::doubts::say_doubts;
+use crate::picture::say_picture;
+use crate::places::Places;
+use crate::rules::say_rules;
+use crate::scanner::say_scanner;
+use crate::states::{Tables, say_states};
+use ly_base::OutOfMemory;
+use ly_join::Spec;
+use ly_lexread::LexFile;
+use ly_page::{Named, Page};
+use ly_resolve::Resolved;
+use ly_subset::Dfa;
+use std::alloc::Global;
+
+/// What is asked for beside the text.
+#[derive(Clone, Copy, Debug, Default, PartialEq, Eq)]
+pub struct Wish {
+    /// Whether the states of the parser are.
+    pub states: bool,
+    /// Whether their picture is.
+    pub picture: bool,
+}
+
+/// What is said of two files.
+#[derive(Debug, Drop)]
+pub struct Explanation {
+    /// The text, in English.
+    pub text: Vec<u8>,
+    /// The states of the parser, where they are asked for and the files are accepted.
+    pub states: Option<Vec<u8>>,
+    /// Their picture, in the language of Graphviz's `dot`, likewise.
+    pub picture: Option<Vec<u8>>,
+    /// Whether the files are accepted.
+    pub accepted: bool,
+}
+
+/// Two files that are accepted, and what is known of them.
+#[derive(Clone, Copy)]
+pub struct Accepted<'a> {
+    /// The lex file.
+    pub lex: Named<'a>,
+    /// The yacc file.
+    pub yacc: Named<'a>,
+    /// What the lex file says.
+    pub file: &'a LexFile,
+    /// What both say together.
+    pub spec: &'a Spec,
+    /// The smallest scanner.
+    pub dfa: &'a Dfa,
+    /// What the parser does in each state, and the conflicts.
+    pub resolved: &'a Resolved<'a>,
+    /// The names of the start conditions by their numbers, as far as they are known.
+    pub conditions: &'a [&'a [u8]],
+    /// The lines among the rules of the lex file that begin with a blank and aren't empty.
+    pub indented: &'a [u64],
+}
+
+/// Says of two files that are accepted what is doubtful, where their conflicts are, and which rule has which number; and
+/// the states and their picture, where they are asked for.
+///
+/// `OutOfMemory` comes where a growth was refused.
+pub fn survey(
+    alloc: Global,
+    files: Accepted<'_>,
+    tables: &Tables,
+    wish: Wish,
+) -> Result<Explanation, OutOfMemory>
+    requires { IsBreadthFirst files.dfa.now }
+    ensures { IfOk result (λ e. e.accepted ≡ true) }
+{
+    let mut text = Page::new(alloc);
+    let places = Places::of(alloc, files.yacc.bytes)?;
+    say_sizes(&mut text, files);
+    say_doubts(alloc, &mut text, files, &places)?;
+    say_conflicts(alloc, &mut text, files)?;
+    say_rules(&mut text, files, &places);
+    Ok(Explanation {
+        text: text.finish()?,
+        states: states_if(alloc, files, tables, wish.states)?,
+        picture: picture_if(alloc, files, wish.picture)?,
+        accepted: true,
+    })
+}
+
+/// The states of the scanner and of the parser, where they are asked for.
+fn states_if(
+    alloc: Global,
+    files: Accepted<'_>,
+    tables: &Tables,
+    asked: bool,
+) -> Result<Option<Vec<u8>>, OutOfMemory> {
+    if !asked {
+        return Ok(None);
+    }
+    let mut page = Page::new(alloc);
+    say_scanner(alloc, &mut page, files)?;
+    say_states(alloc, &mut page, files, tables)?;
+    Ok(Some(page.finish()?))
+}
+
+/// The picture of the parser's states, where it is asked for.
+fn picture_if(
+    alloc: Global,
+    files: Accepted<'_>,
+    asked: bool,
+) -> Result<Option<Vec<u8>>, OutOfMemory> {
+    if !asked {
+        return Ok(None);
+    }
+    let mut page = Page::new(alloc);
+    say_picture(alloc, &mut page, files)?;
+    Ok(Some(page.finish()?))
+}
+
+/// Says that two files are accepted, and how large their parser is.
+fn say_sizes(page: &mut Page, files: Accepted<'_>) {
+    let grammar = files.spec.grammar();
+    let rules = grammar.rules().len().saturating_sub(1);
+    page.say(files.lex.name.as_bytes());
+    page.say(b" and ");
+    page.say(files.yacc.name.as_bytes());
+    page.say(b" are accepted: ");
+    page.say_count(rules, b"rule", b"rules");
+    page.say(b", ");
+    page.say_count(grammar.terminals() as usize, b"terminal", b"terminals");
+    page.say(b", ");
+    page.say_count(grammar.accept().0 as usize, b"nonterminal", b"nonterminals");
+    page.say(b", ");
+    page.say_count(files.resolved.lr0().states(), b"state", b"states");
+    page.say(b".\n");
+}
