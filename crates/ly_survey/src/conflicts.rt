@@ -3,7 +3,7 @@ ghost use Rattle.std.specs.Prelude.{◌≡◌};
 
 use crate::ambiguity::Finder;
 use crate::drawing::{Drawing, behind_dot, core_of, say_way};
-use crate::survey::Accepted;
+use crate::surveying::Accepted;
 use crate::trees::say_ambiguity;
 use crate::yields::Yields;
 use ly_base::{OutOfMemory, Sym};

@@ -5,7 +5,7 @@ use crate::decided::Decided;
 use crate::patterns::surprises;
 use crate::places::Places;
 use crate::scanner::say_other_bytes;
-use crate::survey::Accepted;
+use crate::surveying::Accepted;
 use ly_base::{OutOfMemory, Sym};
 use ly_explain::{unmatched_rules, unreduced_rules, unreturned_terminals, unused_terminals};
 use ly_join::Spec;

@@ -20,9 +20,9 @@ mod places;
 mod rules;
 mod scanner;
 mod states;
-mod survey;
+mod surveying;
 mod trees;
 mod yields;
 
 pub use states::Tables;
-pub use survey::{Accepted, Explanation, Wish, survey};
+pub use surveying::{Accepted, Explanation, Wish, survey};

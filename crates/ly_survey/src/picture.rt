@@ -1,7 +1,7 @@
 //! The parser's automaton as a picture, in the language of Graphviz's `dot`.
 ghost use Rattle.std.specs.Prelude.{◌<◌, length};
 
-use crate::survey::Accepted;
+use crate::surveying::Accepted;
 use ly_base::{OutOfMemory, StateNo};
 use ly_join::{Spec, Symbol};
 use ly_lr0::{Item, Lr0};

@@ -1,6 +1,6 @@
 //! The rules of the grammar, by the numbers that reports have for them.
 use crate::places::Places;
-use crate::survey::Accepted;
+use crate::surveying::Accepted;
 use ly_base::OutOfMemory;
 use ly_page::Page;
 

@@ -1,7 +1,7 @@
 //! The states of the scanner: which bytes it tells apart, where each condition begins, and where each state leads.
 ghost use Rattle.std.specs.Prelude.{◌<◌, length};
 
-use crate::survey::Accepted;
+use crate::surveying::Accepted;
 use ly_base::OutOfMemory;
 use ly_page::Page;
 use ly_subset::Dfa;
