@@ -6,7 +6,7 @@ use Rattle.ly_join.specs.Joined.{Spec}
 use Rattle.ly_generate.specs.Accepted.{IsFit, IsRefusedFor, Specifies}
 use Rattle.ly_generate.specs.declared.gen_fault.GenFault.{GenFault}
 use Rattle.ly_generate.specs.declared.gen_fault.GenFault.TheVariants.{OutOfMemory}
-use Rattle.ly_explanation.specs.declared.explaining.Explanation.{Explanation}
+use Rattle.ly_survey.specs.declared.surveying.Explanation.{Explanation}
 
 -- The bytes of both files say a specification within the limits, whose tables can be made.
 pub record IsWellFormed (limits : Sizes) (lex yacc : List ℕ) : Type 0 where

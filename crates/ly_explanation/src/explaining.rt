@@ -135,8 +135,7 @@ fn told(
         spec: read.spec,
         dfa: read.dfa,
         resolved,
-        conditions: &conditions,
         indented: &indented,
     };
-    survey(alloc, files, tables, wish)
+    survey(alloc, files, &conditions, tables, wish)
 }

@@ -90,10 +90,7 @@ impl<'a> Finder<'a> {
         one: &[Item],
         other: &[Item],
     ) -> Result<Option<Ambiguity>, OutOfMemory> {
-        let mut pairs = Vec::new(alloc);
-        let one = self.begun(alloc, one)?;
-        let other = self.begun(alloc, other)?;
-        pairs.push(Pair { one, other })?;
+        let mut pairs = self.first_pair(alloc, one, other)?;
         for place in 0..MOST {
             if place >= pairs.len() || self.steps == 0 {
                 break;
@@ -107,29 +104,60 @@ impl<'a> Finder<'a> {
         Ok(None)
     }
 
+    /// The pair of the derivations that two ways begin.
+    fn first_pair(
+        &self,
+        alloc: Global,
+        one: &[Item],
+        other: &[Item],
+    ) -> Result<Vec<Pair>, AllocError> {
+        let mut pairs = Vec::new(alloc);
+        let one = self.begun(alloc, one)?;
+        let other = self.begun(alloc, other)?;
+        pairs.push(Pair { one, other })?;
+        Ok(pairs)
+    }
+
     /// The derivation that a way begins, with the shortest yields of what it has passed.
     fn begun(&self, alloc: Global, way: &[Item]) -> Result<Half, AllocError> {
-        let grammar = self.grammar();
-        let mut rules: Vec<usize> = Vec::new(alloc);
-        let mut open: Vec<Item> = Vec::new(alloc);
+        let mut half = Half::new(alloc);
+        let mut open = Vec::new(alloc);
         for item in way {
-            match open.last_mut() {
-                Some(top) if item.dot > 0 => {
-                    if let Some(symbol) = behind_dot(self.lr0.reduced(), *top) {
-                        let passed = self.yields.derive(alloc, grammar, &[symbol])?;
-                        rules.extend_from_slice(&passed.rules)?;
-                    }
-                    *top = *item;
+            self.pass(alloc, *item, &mut open, &mut half.rules)?;
+        }
+        self.push_ahead(&open, &mut half.ahead)?;
+        Ok(half)
+    }
+
+    /// Goes on to an item of a way: the inmost open rule has passed a symbol, which is derived, or another one is opened.
+    fn pass(
+        &self,
+        alloc: Global,
+        item: Item,
+        open: &mut Vec<Item>,
+        rules: &mut Vec<usize>,
+    ) -> Result<(), AllocError> {
+        match open.last_mut() {
+            Some(top) if item.dot > 0 => {
+                if let Some(symbol) = behind_dot(self.lr0.reduced(), *top) {
+                    let passed = self.yields.derive(alloc, self.grammar(), &[symbol])?;
+                    rules.extend_from_slice(&passed.rules)?;
                 }
-                _ => {
-                    if item.rule > 0 {
-                        rules.push(item.rule)?;
-                    }
-                    open.push(*item)?;
+                *top = item;
+            }
+            _ => {
+                if item.rule > 0 {
+                    rules.push(item.rule)?;
                 }
+                open.push(item)?;
             }
         }
-        let mut ahead = Vec::new(alloc);
+        Ok(())
+    }
+
+    /// Adds what is ahead in open rules, the outmost first: of the inmost what stands behind its dot, and of each other
+    /// what stands behind the rule within it.
+    fn push_ahead(&self, open: &[Item], ahead: &mut Vec<Symbol>) -> Result<(), AllocError> {
         for (place, item) in open.iter().enumerate() {
             let inmost = place.saturating_add(1) == open.len();
             let passed = if inmost {
@@ -137,11 +165,11 @@ impl<'a> Finder<'a> {
             } else {
                 item.dot.saturating_add(1)
             };
-            if let Some(rule) = grammar.rules().get(item.rule) {
-                push_reversed(&mut ahead, rule.body().get(passed..).unwrap_or_default())?;
+            if let Some(rule) = self.grammar().rules().get(item.rule) {
+                push_reversed(ahead, rule.body().get(passed..).unwrap_or_default())?;
             }
         }
-        Ok(Half { rules, ahead })
+        Ok(())
     }
 
     /// Goes on with two derivations as long as they have the same symbol ahead.
@@ -227,10 +255,7 @@ impl<'a> Finder<'a> {
                 continue;
             };
             if self.may_meet(rule.body(), beside) && !half.is_long() && !beside.is_long() {
-                let mut next = half.copy(alloc)?;
-                next.ahead.pop();
-                next.rules.push(*number)?;
-                push_reversed(&mut next.ahead, rule.body())?;
+                let next = half.with_rule(alloc, *number, rule.body())?;
                 found.push((next, beside.copy(alloc)?))?;
             }
         }
@@ -272,12 +297,26 @@ impl Half {
         self.ahead.len() > LONGEST || self.rules.len() > LONGEST
     }
 
-    /// The same derivation once more.
-    fn copy(&self, alloc: Global) -> Result<Half, AllocError> {
-        let mut half = Half {
+    /// A derivation with nothing ahead.
+    fn new(alloc: Global) -> Half {
+        Half {
             rules: Vec::new(alloc),
             ahead: Vec::new(alloc),
-        };
+        }
+    }
+
+    /// The derivation with the body of a rule in place of the symbol that is ahead next.
+    fn with_rule(&self, alloc: Global, rule: usize, body: &[Symbol]) -> Result<Half, AllocError> {
+        let mut half = self.copy(alloc)?;
+        half.ahead.pop();
+        half.rules.push(rule)?;
+        push_reversed(&mut half.ahead, body)?;
+        Ok(half)
+    }
+
+    /// The same derivation once more.
+    fn copy(&self, alloc: Global) -> Result<Half, AllocError> {
+        let mut half = Half::new(alloc);
         half.rules.extend_from_slice(&self.rules)?;
         half.ahead.extend_from_slice(&self.ahead)?;
         Ok(half)

@@ -1,7 +1,7 @@
 //! The conflicts: what is done, why precedence doesn't settle it, and an example at which both actions are possible.
 ghost use Rattle.std.specs.Prelude.{◌≡◌};
 
-use crate::ambiguity::Finder;
+use crate::ambiguity::{Ambiguity, Finder};
 use crate::drawing::{Drawing, behind_dot, core_of, say_way};
 use crate::surveying::Accepted;
 use crate::trees::say_ambiguity;
@@ -101,22 +101,12 @@ impl<'a> Teller<'a> {
             order.push(place)?;
         }
         order.sort_by_key(|place| order_of(conflicts, *place))?;
-        let mut group: Vec<usize> = Vec::new(alloc);
-        let mut groups: usize = 0;
-        for place in &order {
-            if !goes_on(conflicts, &group, *place) {
-                self.say_group(alloc, page, &group)?;
-                if groups < EXAMPLES {
-                    self.say_example(alloc, page, &group, finder)?;
-                }
-                groups = groups.saturating_add(1);
-                group.clear();
+        let groups = order.chunk_by(|one, other| are_of_one_group(conflicts, *one, *other));
+        for (number, group) in groups.enumerate() {
+            self.say_group(alloc, page, group)?;
+            if number < EXAMPLES {
+                self.say_example(alloc, page, group, finder)?;
             }
-            group.push(*place)?;
-        }
-        self.say_group(alloc, page, &group)?;
-        if groups < EXAMPLES {
-            self.say_example(alloc, page, &group, finder)?;
         }
         Ok(())
     }
@@ -297,19 +287,40 @@ impl<'a> Teller<'a> {
         string: &[Symbol],
         finder: &mut Finder<'_>,
     ) -> Result<(), OutOfMemory> {
-        let spec = self.spec();
-        let drawing = Drawing::new(alloc, self.resolved().lr0(), string, conflict.terminal)?;
-        let one = drawing.way(alloc, self.rival(alloc, conflict)?)?;
-        let other = drawing.way(alloc, self.reduction(conflict.rule))?;
+        let (one, other) = self.ways(alloc, conflict, string)?;
         match (conflict.kind, conflict.choice) {
             (ConflictKind::ReduceReduce, Action::Reduce(rule)) => say_label(page, rule),
             _ => page.say(b"    shift:  "),
         }
-        say_way(alloc, page, spec, &one)?;
+        say_way(alloc, page, self.spec(), &one)?;
         say_label(page, conflict.rule);
-        say_way(alloc, page, spec, &other)?;
-        match finder.find(alloc, &one, &other)? {
-            Some(ambiguity) => say_ambiguity(alloc, page, spec, &ambiguity)?,
+        say_way(alloc, page, self.spec(), &other)?;
+        self.say_sentence(alloc, page, &finder.find(alloc, &one, &other)?)
+    }
+
+    /// How both actions come about behind a string of symbols.
+    fn ways(
+        &self,
+        alloc: Global,
+        conflict: &Conflict,
+        string: &[Symbol],
+    ) -> Result<(Vec<Item>, Vec<Item>), OutOfMemory> {
+        let rival = self.rival(alloc, conflict)?;
+        let drawing = Drawing::new(alloc, self.resolved().lr0(), string, conflict.terminal)?;
+        let one = drawing.way(alloc, rival)?;
+        let other = drawing.way(alloc, self.reduction(conflict.rule))?;
+        Ok((one, other))
+    }
+
+    /// Says a sentence with two trees, or that none was found.
+    fn say_sentence(
+        &self,
+        alloc: Global,
+        page: &mut Page,
+        ambiguity: &Option<Ambiguity>,
+    ) -> Result<(), OutOfMemory> {
+        match ambiguity {
+            Some(ambiguity) => say_ambiguity(alloc, page, self.spec(), ambiguity)?,
             None => page.say(
                 b"    No sentence with two trees was found within the bound of the search.\n",
             ),
@@ -353,12 +364,9 @@ fn say_label(page: &mut Page, rule: usize) {
     page.say(if rule < 10 { b": " } else { b":" });
 }
 
-/// Whether the conflict at a place belongs to a group.
-fn goes_on(conflicts: &[Conflict], group: &[usize], place: usize) -> bool {
-    let Some(first) = group.first() else {
-        return true;
-    };
-    match (conflicts.get(*first), conflicts.get(place)) {
+/// Whether the conflicts at two places belong to one group.
+fn are_of_one_group(conflicts: &[Conflict], one: usize, other: usize) -> bool {
+    match (conflicts.get(one), conflicts.get(other)) {
         (Some(one), Some(other)) => are_alike(one, other),
         _ => false,
     }

@@ -29,6 +29,7 @@ pub(crate) fn say_doubts(
     alloc: Global,
     page: &mut Page,
     files: Accepted<'_>,
+    conditions: &[&[u8]],
     places: &Places,
 ) -> Result<(), OutOfMemory>
     requires { IsBreadthFirst files.dfa.now }
@@ -46,7 +47,7 @@ pub(crate) fn say_doubts(
     if page.len() == before {
         page.say(b"No doubts.\n");
     }
-    say_other_bytes(alloc, page, files)
+    say_other_bytes(alloc, page, files, conditions)
 }
 
 impl Teller<'_> {

@@ -95,14 +95,25 @@ impl<'a> Drawing<'a> {
             let Some(claimed) = search.claimed(place) else {
                 break;
             };
-            if search.opens_again(self.opening(claimed))? {
-                continue;
-            }
-            if search.has_start(&self.before(alloc, claimed)?, place)? {
+            if self.reaches_start(alloc, &mut search, claimed, place)? {
                 return search.way_back(alloc);
             }
         }
         Ok(Vec::new(alloc))
+    }
+
+    /// Adds the claims by which the one at a place is true, and answers whether that on the start is among them.
+    fn reaches_start(
+        &self,
+        alloc: Global,
+        search: &mut Search,
+        claimed: Claimed,
+        place: usize,
+    ) -> Result<bool, OutOfMemory> {
+        if search.opens_again(self.opening(claimed))? {
+            return Ok(false);
+        }
+        Ok(search.has_start(&self.before(alloc, claimed)?, place)?)
     }
 
     /// What a claim on a rule with nothing before its dot is true by depends on alone.

@@ -72,15 +72,8 @@ impl Places {
             }
             if bytes.starts_with(b"%") {
                 in_tokens = bytes == b"%token".as_slice();
-                continue;
-            }
-            if !in_tokens || !is_symbol(bytes) {
-                continue;
-            }
-            if known.contains(bytes) {
+            } else if in_tokens && is_symbol(bytes) && !is_new(alloc, &mut known, bytes)? {
                 found.push((word.line, bytes))?;
-            } else {
-                known.insert(Vec::from_slice(alloc, bytes)?)?;
             }
         }
         Ok(found)
@@ -103,6 +96,15 @@ impl Places {
         let first = words.find(|word| names(word.span.word(text), name));
         first.map_or(1, |word| word.line)
     }
+}
+
+/// Whether a word isn't known yet. Then it is from now on.
+fn is_new(alloc: Global, known: &mut IndexSet<Vec<u8>>, word: &[u8]) -> Result<bool, OutOfMemory> {
+    let new = !known.contains(word);
+    if new {
+        known.insert(Vec::from_slice(alloc, word)?)?;
+    }
+    Ok(new)
 }
 
 /// The first of the words behind a `%prec`.

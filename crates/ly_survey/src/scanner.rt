@@ -5,7 +5,7 @@ use crate::surveying::Accepted;
 use ly_base::OutOfMemory;
 use ly_page::Page;
 use ly_subset::Dfa;
-use std::alloc::Global;
+use std::alloc::{AllocError, Global};
 
 /// Says the classes of bytes, the conditions and the states of the smallest scanner.
 pub(crate) fn say_scanner(
@@ -19,11 +19,7 @@ pub(crate) fn say_scanner(
         page.say(b"    ");
         page.say_number(class as u64);
         page.say(b" ");
-        let mut bytes: Vec<bool> = Vec::new(alloc);
-        for byte in 0..=255u8 {
-            bytes.push(usize::from(dfa.class(byte)) == class)?;
-        }
-        say_bytes(page, &bytes);
+        say_bytes(page, &bytes_of_class(alloc, dfa, class)?);
         page.say(b"\n");
     }
     page.say(b"\nConditions:\n");
@@ -37,6 +33,15 @@ pub(crate) fn say_scanner(
     }
     page.say(b"\n");
     Ok(())
+}
+
+/// The marks of the bytes of a class.
+fn bytes_of_class(alloc: Global, dfa: &Dfa, class: usize) -> Result<Vec<bool>, AllocError> {
+    let mut bytes = Vec::new(alloc);
+    for byte in 0..=255u8 {
+        bytes.push(usize::from(dfa.class(byte)) == class)?;
+    }
+    Ok(bytes)
 }
 
 /// Says the bytes that are marked, those that follow one another together.
@@ -64,21 +69,28 @@ pub(crate) fn say_other_bytes(
     alloc: Global,
     page: &mut Page,
     files: Accepted<'_>,
+    names: &[&[u8]],
 ) -> Result<(), OutOfMemory> {
     for condition in 0..files.file.conditions {
-        let mut others: Vec<bool> = Vec::new(alloc);
-        for byte in 0..=255u8 {
-            others.push(!begins(files.dfa, condition, byte))?;
-        }
+        let others = other_bytes(alloc, files.dfa, condition)?;
         if others.contains(&true) {
             page.say(b"In ");
-            say_name(page, files.conditions, condition);
+            say_name(page, names, condition);
             page.say(b" no match begins with");
             say_bytes(page, &others);
             page.say(b"\n");
         }
     }
     Ok(())
+}
+
+/// The marks of the bytes with which no match begins in a condition.
+fn other_bytes(alloc: Global, dfa: &Dfa, condition: u32) -> Result<Vec<bool>, AllocError> {
+    let mut others = Vec::new(alloc);
+    for byte in 0..=255u8 {
+        others.push(!begins(dfa, condition, byte))?;
+    }
+    Ok(others)
 }
 
 /// Whether a match may begin with a byte in a condition, where a line begins or elsewhere.

@@ -53,19 +53,19 @@ pub struct Accepted<'a> {
     pub dfa: &'a Dfa,
     /// What the parser does in each state, and the conflicts.
     pub resolved: &'a Resolved<'a>,
-    /// The names of the start conditions by their numbers, as far as they are known.
-    pub conditions: &'a [&'a [u8]],
     /// The lines among the rules of the lex file that begin with a blank and aren't empty.
     pub indented: &'a [u64],
 }
 
 /// Says of two files that are accepted what is doubtful, where their conflicts are, and which rule has which number; and
-/// the states and their picture, where they are asked for.
+/// the states and their picture, where they are asked for. Start conditions are named by their numbers, as far as names
+/// are given.
 ///
 /// `OutOfMemory` comes where a growth was refused.
 pub fn survey(
     alloc: Global,
     files: Accepted<'_>,
+    conditions: &[&[u8]],
     tables: &Tables,
     wish: Wish,
 ) -> Result<Explanation, OutOfMemory>
@@ -75,7 +75,7 @@ pub fn survey(
     let mut text = Page::new(alloc);
     let places = Places::of(alloc, files.yacc.bytes)?;
     say_sizes(&mut text, files);
-    say_doubts(alloc, &mut text, files, &places)?;
+    say_doubts(alloc, &mut text, files, conditions, &places)?;
     say_conflicts(alloc, &mut text, files)?;
     say_rules(&mut text, files, &places);
     Ok(Explanation {

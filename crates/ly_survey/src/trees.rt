@@ -31,18 +31,39 @@ pub(crate) fn say_ambiguity(
         page.say_terminal(spec, *token);
     }
     page.say(b"\n");
-    let mut one = tree_of(alloc, spec, &ambiguity.one, Style::Brackets)?;
-    let mut other = tree_of(alloc, spec, &ambiguity.other, Style::Brackets)?;
-    if one == other {
-        one = tree_of(alloc, spec, &ambiguity.one, Style::Names)?;
-        other = tree_of(alloc, spec, &ambiguity.other, Style::Names)?;
-    }
+    let (one, other) = told_apart(alloc, spec, ambiguity)?;
     page.say(b"       ");
     page.say(&one);
     page.say(b"\n       ");
     page.say(&other);
     page.say(b"\n");
     Ok(())
+}
+
+/// Two trees, with names where brackets alone don't tell them apart.
+fn told_apart(
+    alloc: Global,
+    spec: &Spec,
+    ambiguity: &Ambiguity,
+) -> Result<(Vec<u8>, Vec<u8>), OutOfMemory> {
+    let (one, other) = trees_of(alloc, spec, ambiguity, Style::Brackets)?;
+    if one == other {
+        trees_of(alloc, spec, ambiguity, Style::Names)
+    } else {
+        Ok((one, other))
+    }
+}
+
+/// Two trees in one style.
+fn trees_of(
+    alloc: Global,
+    spec: &Spec,
+    ambiguity: &Ambiguity,
+    style: Style,
+) -> Result<(Vec<u8>, Vec<u8>), OutOfMemory> {
+    let one = tree_of(alloc, spec, &ambiguity.one, style)?;
+    let other = tree_of(alloc, spec, &ambiguity.other, style)?;
+    Ok((one, other))
 }
 
 /// A part of a tree that is to be said.
@@ -70,6 +91,8 @@ struct Teller<'a> {
     spec: &'a Spec,
     /// How trees are said.
     style: Style,
+    /// The rules that weren't said yet.
+    rules: &'a [usize],
     /// What was said.
     page: Page,
     /// Whether a bracket was said last.
@@ -88,6 +111,7 @@ fn tree_of(
     let mut teller = Teller {
         spec,
         style,
+        rules,
         page: Page::new(alloc),
         opened: false,
         parts: Vec::new(alloc),
@@ -96,28 +120,40 @@ fn tree_of(
         symbol: Symbol::Nonterminal(spec.grammar().start()),
         beside: false,
     }))?;
-    let mut rules = rules.iter();
     for _ in 0..MOST {
-        match teller.parts.pop() {
-            None => break,
-            Some(Part::Close) => teller.close(),
-            Some(Part::Symbol(below)) => match below.symbol {
-                Symbol::Terminal(number) => teller.say_terminal(number),
-                Symbol::Nonterminal(left) => {
-                    let rule = rules
-                        .next()
-                        .and_then(|number| spec.grammar().rules().get(*number));
-                    if let Some(rule) = rule {
-                        teller.say_rule(left, rule.body(), below.beside)?;
-                    }
-                }
-            },
-        }
+        let Some(part) = teller.parts.pop() else {
+            break;
+        };
+        teller.say_part(part)?;
     }
     teller.page.finish()
 }
 
-impl Teller<'_> {
+impl<'a> Teller<'a> {
+    /// Says a part.
+    fn say_part(&mut self, part: Part) -> Result<(), OutOfMemory> {
+        let Part::Symbol(below) = part else {
+            self.close();
+            return Ok(());
+        };
+        match below.symbol {
+            Symbol::Terminal(number) => self.say_terminal(number),
+            Symbol::Nonterminal(left) => {
+                if let Some(body) = self.next_body() {
+                    self.say_rule(left, body, below.beside)?;
+                }
+            }
+        }
+        Ok(())
+    }
+
+    /// The body of the next rule, if there is one.
+    fn next_body(&mut self) -> Option<&'a [Symbol]> {
+        let (rule, rest) = self.rules.split_first()?;
+        self.rules = rest;
+        Some(self.spec.grammar().rules().get(*rule)?.body())
+    }
+
     /// Says the space before a symbol, if it needs one.
     fn say_space(&mut self) {
         self.page.say(if self.opened { b"" } else { b" " });

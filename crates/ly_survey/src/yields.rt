@@ -111,20 +111,11 @@ impl Yields {
         let mut ahead = Vec::new(alloc);
         push_reversed(&mut ahead, symbols)?;
         for _ in 0..MOST {
-            match ahead.pop() {
-                None => {
-                    derived.whole = true;
-                    break;
-                }
-                Some(Symbol::Terminal(number)) => derived.tokens.push(number)?,
-                Some(Symbol::Nonterminal(number)) => {
-                    let rule = self.shortest_of(number).map_or(0, |it| it.rule);
-                    derived.rules.push(rule)?;
-                    if let Some(rule) = grammar.rules().get(rule) {
-                        push_reversed(&mut ahead, rule.body())?;
-                    }
-                }
-            }
+            let Some(symbol) = ahead.pop() else {
+                derived.whole = true;
+                break;
+            };
+            derived.derive(self, grammar, symbol, &mut ahead)?;
         }
         Ok(derived)
     }
@@ -144,6 +135,29 @@ impl Yields {
         }
         if !derived.whole {
             page.say(b" ..");
+        }
+        Ok(())
+    }
+}
+
+impl Derived {
+    /// Takes a symbol on: a terminal is a token, and of a nonterminal the body of the shortest rule is ahead now.
+    fn derive(
+        &mut self,
+        yields: &Yields,
+        grammar: &Grammar,
+        symbol: Symbol,
+        ahead: &mut Vec<Symbol>,
+    ) -> Result<(), AllocError> {
+        match symbol {
+            Symbol::Terminal(number) => self.tokens.push(number)?,
+            Symbol::Nonterminal(number) => {
+                let rule = yields.shortest_of(number).map_or(0, |it| it.rule);
+                self.rules.push(rule)?;
+                if let Some(rule) = grammar.rules().get(rule) {
+                    push_reversed(ahead, rule.body())?;
+                }
+            }
         }
         Ok(())
     }
