@@ -45,3 +45,12 @@ impl Edit {
         Ok(edited)
     }
 }
+
+/// A text that another one became; none where it is the same.
+pub(crate) fn if_changed(text: &[u8], next: Vec<u8>) -> Option<Vec<u8>> {
+    if next.as_slice() == text {
+        None
+    } else {
+        Some(next)
+    }
+}

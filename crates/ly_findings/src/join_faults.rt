@@ -78,12 +78,23 @@ impl Joining<'_> {
         let advice = join_advice(alloc, &fault, &self.file, &self.said)?;
         mend(alloc, &mut self.file, &fault)?;
         if !self.said.contains(&name) {
-            let at = join_location(alloc, self.lex, &self.text, &fault)?;
-            let fault = GenFault::Join(fault);
-            findings.add(Finding { fault, at, advice })?;
+            self.add(alloc, findings, fault, advice)?;
         }
         self.said.push(name)?;
         Ok(())
+    }
+
+    /// Adds a fault to what is found.
+    fn add(
+        &self,
+        alloc: Global,
+        findings: &mut Findings,
+        fault: JoinFault,
+        advice: Advice,
+    ) -> Result<(), OutOfMemory> {
+        let at = join_location(alloc, self.lex, &self.text, &fault)?;
+        let fault = GenFault::Join(fault);
+        findings.add(Finding { fault, at, advice })
     }
 }
 
@@ -144,28 +155,44 @@ fn join_advice(
     file: &YaccFile,
     said: &[Vec<u8>],
 ) -> Result<Advice, OutOfMemory> {
+    let mut names = names_for(alloc, fault, file)?;
+    names.retain(|name| !said.iter().any(|other| other.as_slice() == *name));
+    match nearest(alloc, name_of(fault), &names)? {
+        Some(near) => Ok(Advice::Near(Vec::from_slice(alloc, near)?)),
+        None => Ok(words_for(fault)),
+    }
+}
+
+/// The names of which one may be meant where a fault names another.
+fn names_for<'t>(
+    alloc: Global,
+    fault: &JoinFault,
+    file: &'t YaccFile,
+) -> Result<Vec<&'t [u8]>, OutOfMemory> {
     let (tokens, left_sides) = match fault {
         JoinFault::UndefinedSymbol(_) => (true, true),
         JoinFault::ReturnUndeclared(_) | JoinFault::PrecUnknown(_) => (true, false),
         JoinFault::UnknownStart(_) => (false, true),
         _ => (false, false),
     };
-    let mut names: Vec<&[u8]> = Vec::new(alloc);
+    let mut names = Vec::new(alloc);
     if tokens {
         push_tokens(&mut names, file)?;
     }
     if left_sides {
-        for rule in &file.rules {
-            if names.last() != Some(&rule.left.as_slice()) {
-                names.push(&rule.left)?;
-            }
+        push_left_sides(&mut names, file)?;
+    }
+    Ok(names)
+}
+
+/// Adds the left sides of the rules of a yacc file.
+fn push_left_sides<'t>(names: &mut Vec<&'t [u8]>, file: &'t YaccFile) -> Result<(), OutOfMemory> {
+    for rule in &file.rules {
+        if names.last() != Some(&rule.left.as_slice()) {
+            names.push(&rule.left)?;
         }
     }
-    names.retain(|name| !said.iter().any(|other| other.as_slice() == *name));
-    match nearest(alloc, name_of(fault), &names)? {
-        Some(near) => Ok(Advice::Near(Vec::from_slice(alloc, near)?)),
-        None => Ok(words_for(fault)),
-    }
+    Ok(())
 }
 
 /// Adds the names that the declarations of a yacc file name.

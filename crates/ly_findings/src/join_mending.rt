@@ -13,34 +13,46 @@ pub(crate) fn mend(
 ) -> Result<(), OutOfMemory> {
     match fault {
         JoinFault::UndefinedSymbol(name) | JoinFault::ReturnUndeclared(name) => {
-            let mut symbols = Vec::new(alloc);
-            symbols.push(SymbolName::Name(Vec::from_slice(alloc, name)?))?;
-            file.declarations.push(Declaration {
-                kind: DeclarationKind::Token,
-                symbols,
-            })?;
+            declare(alloc, file, name)?
         }
-        JoinFault::TokenOnLeft(name) => {
-            for declaration in &mut file.declarations {
-                declaration.symbols.retain(|symbol| !is_name(symbol, name));
-            }
-        }
+        JoinFault::TokenOnLeft(name) => undeclare(file, name),
         JoinFault::PrecedenceTwice(terminal) => give_once(file, terminal),
         JoinFault::UnknownStart(_) => file.start = None,
-        JoinFault::PrecUnknown(name) => {
-            for rule in &mut file.rules {
-                if rule
-                    .precedence
-                    .as_ref()
-                    .is_some_and(|symbol| is_name(symbol, name))
-                {
-                    rule.precedence = None;
-                }
-            }
-        }
+        JoinFault::PrecUnknown(name) => leave_out_precedence(file, name),
         JoinFault::NoRules | JoinFault::LimitPassed { .. } | JoinFault::OutOfMemory => {}
     }
     Ok(())
+}
+
+/// Declares a name as a token.
+fn declare(alloc: Global, file: &mut YaccFile, name: &[u8]) -> Result<(), OutOfMemory> {
+    let mut symbols = Vec::new(alloc);
+    symbols.push(SymbolName::Name(Vec::from_slice(alloc, name)?))?;
+    file.declarations.push(Declaration {
+        kind: DeclarationKind::Token,
+        symbols,
+    })?;
+    Ok(())
+}
+
+/// Leaves a name out of all declarations.
+fn undeclare(file: &mut YaccFile, name: &[u8]) {
+    for declaration in &mut file.declarations {
+        declaration.symbols.retain(|symbol| !is_name(symbol, name));
+    }
+}
+
+/// Leaves out each `%prec` that names a name.
+fn leave_out_precedence(file: &mut YaccFile, name: &[u8]) {
+    for rule in &mut file.rules {
+        if rule
+            .precedence
+            .as_ref()
+            .is_some_and(|symbol| is_name(symbol, name))
+        {
+            rule.precedence = None;
+        }
+    }
 }
 
 /// Leaves a terminal out of all declarations that give it a precedence but the first.

@@ -1,4 +1,5 @@
 use crate::advice::Advice;
+use crate::edit::if_changed;
 use crate::finding::{Finding, Findings, MOST};
 use crate::lex_advice::lex_advice;
 use crate::lex_mending::mended;
@@ -26,25 +27,34 @@ pub(crate) fn find_lex_faults(
     bytes: &[u8],
     limits: &Limits,
 ) -> Result<Option<MendedLex>, OutOfMemory> {
-    let mut text = match without_marks(alloc, bytes, b"")? {
-        Some(plain) => {
-            find_mark_fault(alloc, findings, bytes, &plain, limits)?;
-            plain
-        }
-        None => Vec::from_slice(alloc, bytes)?,
-    };
+    let mut text = plain_text(alloc, findings, bytes, limits)?;
     for _ in 0..MOST {
-        let fault = match read_lex(alloc, &text, limits) {
+        match read_lex(alloc, &text, limits) {
             Ok(file) => return Ok(Some(MendedLex { text, file })),
             Err(LexFault::OutOfMemory) => return Err(OutOfMemory),
-            Err(fault) => fault,
-        };
-        let Some(next) = mend_fault(alloc, findings, &text, fault, limits)? else {
-            return Ok(None);
-        };
-        text = next;
+            Err(fault) => match mend_fault(alloc, findings, &text, fault, limits)? {
+                Some(next) => text = next,
+                None => break,
+            },
+        }
     }
     Ok(None)
+}
+
+/// The text without its marks, of which a fault is added if they are at fault.
+fn plain_text(
+    alloc: Global,
+    findings: &mut Findings,
+    bytes: &[u8],
+    limits: &Limits,
+) -> Result<Vec<u8>, OutOfMemory> {
+    match without_marks(alloc, bytes, b"")? {
+        Some(plain) => {
+            find_mark_fault(alloc, findings, bytes, &plain, limits)?;
+            Ok(plain)
+        }
+        None => Ok(Vec::from_slice(alloc, bytes)?),
+    }
 }
 
 /// Adds a fault, and answers the text in which it is mended; none where nothing mends it.
@@ -57,7 +67,8 @@ fn mend_fault(
 ) -> Result<Option<Vec<u8>>, OutOfMemory> {
     let unit = unit_at(text, fault.line().unwrap_or(1));
     let at = lex_location(alloc, text, unit, &fault, limits)?;
-    let advice = if has_rules(text) {
+    let has_rules = has_rules(text);
+    let advice = if has_rules {
         lex_advice(alloc, text, unit, &fault, at)?
     } else {
         Advice::Words("no line begins with `%%`: write one before the first rule")
@@ -67,15 +78,10 @@ fn mend_fault(
         at,
         advice,
     })?;
-    if !has_rules(text) {
+    if !has_rules {
         return Ok(None);
     }
-    let next = mended(alloc, text, unit, &fault)?;
-    Ok(if next.as_slice() == text {
-        None
-    } else {
-        Some(next)
-    })
+    Ok(if_changed(text, mended(alloc, text, unit, &fault)?))
 }
 
 /// Whether a line begins with `%%`.

@@ -49,21 +49,29 @@ fn plain_definition(alloc: Global, text: &[u8], unit: Unit) -> Result<Vec<u8>, O
 fn new_conditions(alloc: Global, text: &[u8], unit: Unit) -> Result<Vec<u8>, OutOfMemory> {
     let (before, rest) = text.split_at(line_start(text, unit.first).min(text.len()));
     let mut known = known_conditions(alloc, before)?;
-    let mut declaration = Vec::new(alloc);
     let words = words(alloc, first_line(rest))?;
-    for (place, word) in words.iter().copied().enumerate().take(MOST_NAMES) {
-        if place == 0 {
-            declaration.extend_from_slice(word)?;
-        } else if !known.contains(&word) {
-            known.push(word)?;
-            declaration.push(b' ')?;
-            declaration.extend_from_slice(word)?;
-        }
+    let mut declaration = Vec::from_slice(alloc, words.first().copied().unwrap_or(b""))?;
+    for word in words.iter().take(MOST_NAMES).skip(1) {
+        push_new(&mut declaration, &mut known, word)?;
     }
     if !declaration.contains(&b' ') {
         declaration.clear();
     }
     Ok(declaration)
+}
+
+/// Adds the name of a condition, a space before it, if it isn't known yet; then it is.
+fn push_new<'t>(
+    declaration: &mut Vec<u8>,
+    known: &mut Vec<&'t [u8]>,
+    name: &'t [u8],
+) -> Result<(), OutOfMemory> {
+    if !known.contains(&name) {
+        known.push(name)?;
+        declaration.push(b' ')?;
+        declaration.extend_from_slice(name)?;
+    }
+    Ok(())
 }
 
 /// The number of the last line before the next one that begins with `%%`, from a line on; of the last line where none

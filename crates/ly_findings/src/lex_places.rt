@@ -105,17 +105,23 @@ fn pattern_column(
 
 /// The names that the lines of a text define, each as an expression that is none of its own.
 fn known_names(alloc: Global, text: &[u8], limits: &Limits) -> Result<Names, OutOfMemory> {
-    let mut definitions = Vec::new(alloc);
-    for name in defined_names(alloc, text)? {
-        definitions.extend_from_slice(name)?;
-        definitions.extend_from_slice(b" x\n")?;
-    }
-    definitions.extend_from_slice(b"%%\n")?;
+    let definitions = plain_definitions(alloc, &defined_names(alloc, text)?)?;
     match read_lex(alloc, &definitions, limits) {
         Ok(file) => Ok(file.names),
         Err(LexFault::OutOfMemory) => Err(OutOfMemory),
         Err(_) => Ok(Names::new(alloc)),
     }
+}
+
+/// A lex file that defines names, each as one byte.
+fn plain_definitions(alloc: Global, names: &[&[u8]]) -> Result<Vec<u8>, OutOfMemory> {
+    let mut definitions = Vec::new(alloc);
+    for name in names {
+        definitions.extend_from_slice(name)?;
+        definitions.extend_from_slice(b" x\n")?;
+    }
+    definitions.extend_from_slice(b"%%\n")?;
+    Ok(definitions)
 }
 
 /// The names in front of the lines before the rules, each once, as far as there are not too many.

@@ -1,4 +1,5 @@
 use crate::advice::Advice;
+use crate::edit::if_changed;
 use crate::finding::{Finding, Findings, MOST};
 use crate::location::{Location, from_place};
 use crate::text_marks::{has_byte_order_mark, without_marks};
@@ -25,25 +26,33 @@ pub(crate) fn find_yacc_faults(
     findings: &mut Findings,
     bytes: &[u8],
 ) -> Result<Option<MendedYacc>, OutOfMemory> {
-    let mut text = match without_marks(alloc, bytes, b"   ")? {
-        Some(plain) => {
-            find_mark_fault(alloc, findings, bytes, &plain)?;
-            plain
-        }
-        None => Vec::from_slice(alloc, bytes)?,
-    };
+    let mut text = plain_text(alloc, findings, bytes)?;
     for mended in 0..MOST {
-        let fault = match read_yacc(alloc, &text) {
+        match read_yacc(alloc, &text) {
             Ok(file) => return Ok(Some(MendedYacc { text, file })),
             Err(YaccFault::OutOfMemory) => return Err(OutOfMemory),
-            Err(fault) => fault,
-        };
-        let Some(next) = mend_fault(alloc, findings, &text, fault, mended)? else {
-            return Ok(None);
-        };
-        text = next;
+            Err(fault) => match mend_fault(alloc, findings, &text, fault, mended)? {
+                Some(next) => text = next,
+                None => break,
+            },
+        }
     }
     Ok(None)
+}
+
+/// The text without its marks, of which a fault is added if they are at fault.
+fn plain_text(
+    alloc: Global,
+    findings: &mut Findings,
+    bytes: &[u8],
+) -> Result<Vec<u8>, OutOfMemory> {
+    match without_marks(alloc, bytes, b"   ")? {
+        Some(plain) => {
+            find_mark_fault(alloc, findings, bytes, &plain)?;
+            Ok(plain)
+        }
+        None => Ok(Vec::from_slice(alloc, bytes)?),
+    }
 }
 
 /// Where a fault stands; in front of the file where it has no place.
@@ -73,12 +82,7 @@ fn mend_fault(
     let Some(edit) = mending(text, &before, &fault, place, mended) else {
         return Ok(None);
     };
-    let next = edit.applied(alloc, text)?;
-    Ok(if next.as_slice() == text {
-        None
-    } else {
-        Some(next)
-    })
+    Ok(if_changed(text, edit.applied(alloc, text)?))
 }
 
 /// Adds the fault of a file that it hasn't without its marks.
