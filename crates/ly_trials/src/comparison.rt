@@ -69,15 +69,19 @@ fn is_as_defined(alloc: Global, lex: &[u8], expressions: &[Re], number: u32) -> 
     Ok(lines.as_slice() == wanted.as_slice() && end == wanted_end)
 }
 
+/// Adds the rule of a pattern.
+fn push_rule(lex: &mut Vec<u8>, rule: usize, pattern: &str) -> Result<(), AllocError> {
+    lex.extend_from_slice(pattern.as_bytes())?;
+    lex.extend_from_slice(b" return ")?;
+    lex.push(name(rule))?;
+    lex.extend_from_slice(b";\n")
+}
+
 /// The lex file of patterns.
 fn lex_file(alloc: Global, patterns: &[&str]) -> Result<Vec<u8>, AllocError> {
-    let mut lex = Vec::new(alloc);
-    lex.extend_from_slice(b"%%\n")?;
+    let mut lex = Vec::from_slice(alloc, b"%%\n")?;
     for (rule, pattern) in patterns.iter().enumerate() {
-        lex.extend_from_slice(pattern.as_bytes())?;
-        lex.extend_from_slice(b" return ")?;
-        lex.push(name(rule))?;
-        lex.extend_from_slice(b";\n")?;
+        push_rule(&mut lex, rule, pattern)?;
     }
     Ok(lex)
 }

@@ -2,6 +2,7 @@
 //! string of terminals they answer alike.
 
 ghost use Rattle.ly_pack.specs.Steady.{IsSteady};
+ghost use Rattle.std.specs.Prelude.{◌≤◌};
 
 use crate::parses::call;
 use ly_base::{Limits, StateNo};
@@ -76,25 +77,46 @@ fn are_same(one: &Result<Step, ParseFault>, other: &Result<Step, ParseFault>) ->
     }
 }
 
-/// Whether parsers over both kinds of rows answer alike to a string of terminals: the digits of its number.
+/// A parser over tables whose rows stand apart.
+type ApartParser<'a> = Parser<'a, Dense<TableAction>, Dense<StateNo>>;
+
+/// One over tables whose rows are laid over one another.
+type LaidParser<'a> = Parser<'a, Packed<TableAction>, Packed<StateNo>>;
+
+/// Whether parsers whose tables have so many terminals at least answer alike to a string of terminals: the digits of
+/// its number.
+fn answer_alike(
+    one: &mut ApartParser<'_>,
+    other: &mut LaidParser<'_>,
+    terminals: usize,
+    number: u32,
+) -> bool
+    requires one { terminals ≤ one.old.machine.terminals }
+    requires other { terminals ≤ other.old.machine.terminals }
+{
+    let mut left = number;
+    for _place in 0..LENGTH {
+        let terminal = left % TERMINALS;
+        left /= TERMINALS;
+        if terminals <= terminal as usize {
+            break;
+        }
+        if !are_same(&call(one, terminal), &call(other, terminal)) {
+            return false;
+        }
+    }
+    true
+}
+
+/// Whether parsers over both kinds of rows answer alike to such a string.
 fn are_alike(alloc: Global, apart: &Apart, laid: &Laid, number: u32) -> bool
     requires apart { IsSteady apart.now }
     requires laid { IsSteady laid.now }
 {
     let mut one = Parser::new(alloc, apart.view());
     let mut other = Parser::new(alloc, laid.view());
-    let mut left = number;
-    for _place in 0..LENGTH {
-        let terminal = left % TERMINALS;
-        left /= TERMINALS;
-        if apart.terminals() <= terminal as usize || laid.terminals() <= terminal as usize {
-            break;
-        }
-        if !are_same(&call(&mut one, terminal), &call(&mut other, terminal)) {
-            return false;
-        }
-    }
-    true
+    let terminals = apart.terminals().min(laid.terminals());
+    answer_alike(&mut one, &mut other, terminals, number)
 }
 
 /// Whether they do so to every string.

@@ -99,11 +99,22 @@ fn answers_so<A: Rows<TableAction> + Drop, G: Rows<StateNo> + Drop>(
         return Err(Fail::from("tables were refused that are steady"));
     };
     let mut parser = Parser::new(alloc, machine.view());
+    is_answered_so(&mut parser, machine.terminals(), calls)
+}
+
+/// Whether a parser over tables of so many terminals answers to calls as is wanted.
+fn is_answered_so<A: Rows<TableAction> + Drop, G: Rows<StateNo> + Drop>(
+    parser: &mut Parser<'_, A, G>,
+    terminals: usize,
+    calls: Calls<'_>,
+) -> Result<bool, Fail>
+    requires { terminals ≡ parser.old.machine.terminals }
+{
     for (terminal, wanted) in calls {
-        if machine.terminals() <= *terminal as usize {
+        if terminals <= *terminal as usize {
             return Err(Fail::from("there is no such terminal"));
         }
-        if !is_wanted(&call(&mut parser, *terminal), *wanted) {
+        if !is_wanted(&call(parser, *terminal), *wanted) {
             return Ok(false);
         }
     }

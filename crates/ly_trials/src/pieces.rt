@@ -71,9 +71,16 @@ fn are_same(one: &Answer, other: &Answer) -> bool {
     same_outcome && one.1.as_slice() == other.1.as_slice()
 }
 
-/// A feed to which nothing has come.
-fn new_feed<'a>(alloc: Global, set: &'a TableSet) -> Result<Feed<'a>, OutOfMemory> {
-    Feed::new(alloc, set)
+/// What is answered by a feed to which nothing has come.
+fn by_new_feed<T, F: FnOnce(&mut Feed<'_>) -> T>(
+    alloc: Global,
+    set: &TableSet,
+    ask: F,
+) -> Result<T, OutOfMemory>
+    requires { F.IsAlwaysCallable ask }
+{
+    let mut feed = Feed::new(alloc, set)?;
+    Ok(ask(&mut feed))
 }
 
 /// The answer to a piece that settles the text, if it does.
@@ -101,8 +108,7 @@ fn fed_on(feed: &mut Feed<'_>, pieces: &[&[u8]]) -> Result<Answer, FeedFault> {
 
 /// The same of a new feed.
 fn fed(alloc: Global, set: &TableSet, pieces: &[&[u8]]) -> Result<Answer, FeedFault> {
-    let mut feed = new_feed(alloc, set)?;
-    fed_on(&mut feed, pieces)
+    by_new_feed(alloc, set, |feed| fed_on(feed, pieces))?
 }
 
 /// A text in pieces of one byte.
@@ -238,8 +244,7 @@ fn holds_what_is_not_decided(feed: &mut Feed<'_>) -> Result<bool, Fail> {
 
 /// The same of a new feed.
 fn is_held(alloc: Global, set: &TableSet) -> Result<bool, Fail> {
-    let mut feed = new_feed(alloc, set)?;
-    holds_what_is_not_decided(&mut feed)
+    by_new_feed(alloc, set, holds_what_is_not_decided)?
 }
 
 /// The same of the set of both files.
@@ -281,10 +286,14 @@ fn is_over(feed: &mut Feed<'_>) -> bool {
         && feed.held() == 0
 }
 
-/// Whether a new feed is over once it has told of the refusal.
+/// Whether a feed tells of the refusal, and is over then.
+fn is_over_once_told(feed: &mut Feed<'_>) -> bool {
+    tells_of_the_refusal(feed) && is_over(feed)
+}
+
+/// The same of a new feed.
 fn is_over_behind_the_refusal(alloc: Global, set: &TableSet) -> Result<bool, Fail> {
-    let mut feed = new_feed(alloc, set)?;
-    Ok(tells_of_the_refusal(&mut feed) && is_over(&mut feed))
+    Ok(by_new_feed(alloc, set, is_over_once_told)?)
 }
 
 /// The same of the set of `WORDS` and `SUMS`.
@@ -339,8 +348,8 @@ fn taken(feed: &mut Feed<'_>, blanks: &[u8]) -> Result<Option<u32>, Fail> {
 
 /// How many a new feed takes; none where it isn't even made.
 fn taken_by_new(alloc: Global, set: &TableSet, blanks: &[u8]) -> Result<Option<u32>, Fail> {
-    match new_feed(alloc, set) {
-        Ok(mut feed) => taken(&mut feed, blanks),
+    match by_new_feed(alloc, set, |feed| taken(feed, blanks)) {
+        Ok(taken) => taken,
         Err(_) => Ok(None),
     }
 }
@@ -431,8 +440,7 @@ fn takes_a_long_token(feed: &mut Feed<'_>) -> bool {
 
 /// The same of a new feed.
 fn is_long_token_taken(alloc: Global, set: &TableSet) -> Result<bool, Fail> {
-    let mut feed = new_feed(alloc, set)?;
-    Ok(takes_a_long_token(&mut feed))
+    Ok(by_new_feed(alloc, set, takes_a_long_token)?)
 }
 
 /// The same of the set of `WORDS` and `SUMS`.

@@ -2,25 +2,38 @@
 //! met on the way.
 
 use ly_base::{Limits, OutOfMemory};
-use ly_lexread::read_lex;
+use ly_lexread::{LexFile, read_lex};
 use ly_minim::minimise;
-use ly_position::positions;
+use ly_position::{PosNfa, positions};
 use ly_subset::{Dfa, subsets};
 use std::alloc::{AllocError, Global};
 use std::test::Fail;
 
-/// The automaton of a lex file, or the number of the fault.
-fn automaton(alloc: Global, lex: &[u8], limits: &Limits) -> Result<Dfa, u8> {
-    let file = match read_lex(alloc, lex, limits) {
-        Ok(file) => file,
-        Err(fault) => return Err(fault.number().unwrap_or(0)),
-    };
-    let nfa = match positions(alloc, &file.rules, &file.names, file.conditions, limits) {
-        Ok(nfa) => nfa,
-        Err(fault) => return Err(fault.number().unwrap_or(0)),
-    };
-    match subsets(alloc, &nfa, file.conditions, limits) {
+/// The automaton of the positions of patterns, or the number of the fault.
+fn automaton_of(
+    alloc: Global,
+    positions: &PosNfa,
+    conditions: u32,
+    limits: &Limits,
+) -> Result<Dfa, u8> {
+    match subsets(alloc, positions, conditions, limits) {
         Ok(dfa) => Ok(dfa),
+        Err(fault) => Err(fault.number().unwrap_or(0)),
+    }
+}
+
+/// The same of what a lex file says.
+fn automaton_of_file(alloc: Global, file: &LexFile, limits: &Limits) -> Result<Dfa, u8> {
+    match positions(alloc, &file.rules, &file.names, file.conditions, limits) {
+        Ok(positions) => automaton_of(alloc, &positions, file.conditions, limits),
+        Err(fault) => Err(fault.number().unwrap_or(0)),
+    }
+}
+
+/// The same of a lex file.
+fn automaton(alloc: Global, lex: &[u8], limits: &Limits) -> Result<Dfa, u8> {
+    match read_lex(alloc, lex, limits) {
+        Ok(file) => automaton_of_file(alloc, &file, limits),
         Err(fault) => Err(fault.number().unwrap_or(0)),
     }
 }
@@ -100,19 +113,25 @@ fn step(dfa: &Dfa, state: u32, byte: u8) -> u8 {
     }
 }
 
+/// Adds where the bytes lead from a state that there is, and the rule that it accepts.
+fn push_row(text: &mut Vec<u8>, dfa: &Dfa, state: u32) -> Result<(), AllocError> {
+    if (state as usize) < dfa.len() {
+        for byte in b"abcdez" {
+            text.push(step(dfa, state, *byte))?;
+        }
+        if let Some(rule) = dfa.rule(state) {
+            text.push(digit(rule.0))?;
+        }
+        text.push(b' ')?;
+    }
+    Ok(())
+}
+
 /// An automaton of few states as `AUTOMATA` write it.
 fn rows_text(alloc: Global, dfa: &Dfa) -> Result<Vec<u8>, AllocError> {
     let mut text = Vec::new(alloc);
     for state in 0..9u32 {
-        if (state as usize) < dfa.len() {
-            for byte in b"abcdez" {
-                text.push(step(dfa, state, *byte))?;
-            }
-            if let Some(rule) = dfa.rule(state) {
-                text.push(digit(rule.0))?;
-            }
-            text.push(b' ')?;
-        }
+        push_row(&mut text, dfa, state)?;
     }
     Ok(text)
 }

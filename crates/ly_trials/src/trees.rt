@@ -4,7 +4,7 @@ use crate::answers::{outcome, set_of, table_file};
 use ly_base::{MemSink, MemSource};
 use ly_drive::Outcome;
 use ly_engine::{AnswerFault, FormatFault, TableSet, Version, answer, write_tables};
-use std::alloc::Global;
+use std::alloc::{AllocError, Global};
 use std::test::Fail;
 
 const LEX: &[u8] = b"%%\nif return IF;\n[a-z]+ return X;\n\" \" ;\n";
@@ -51,12 +51,17 @@ fn a_generated_file_of_each_version_is_driven(rt: HostRuntime) -> Result<(), Fai
     Ok(())
 }
 
+/// Adds the name of a token.
+fn push_token(alloc: Global, yacc: &mut Vec<u8>, number: u32) -> Result<(), AllocError> {
+    let name = format!(in alloc; " T{number}")?;
+    yacc.extend_from_slice(name.as_bytes())
+}
+
 /// A yacc file that declares so many tokens.
-fn with_tokens(alloc: Global, count: u32) -> Result<Vec<u8>, Fail> {
-    let mut yacc = Vec::new(alloc);
-    yacc.extend_from_slice(b"%token")?;
+fn with_tokens(alloc: Global, count: u32) -> Result<Vec<u8>, AllocError> {
+    let mut yacc = Vec::from_slice(alloc, b"%token")?;
     for number in 0..count {
-        yacc.extend_from_slice(format!(in alloc; " T{number}")?.as_bytes())?;
+        push_token(alloc, &mut yacc, number)?;
     }
     yacc.extend_from_slice(b"\n%%s : ;")?;
     Ok(yacc)

@@ -1,11 +1,13 @@
 //! The report of a specification, and whether it is free of conflicts, which no run shows. cases/reports has more.
 
+ghost use Rattle.ly_grammar.specs.Reduction.{KeepsUseful};
+
 use crate::specifications::specification;
 use ly_base::{Limits, MemSink};
-use ly_grammar::reduce;
+use ly_grammar::{Reduced, reduce};
 use ly_join::Spec;
 use ly_lookahead::lookaheads;
-use ly_lr0::automaton;
+use ly_lr0::{Lr0, automaton};
 use ly_report::report;
 use ly_resolve::{Resolved, resolve};
 use std::alloc::Global;
@@ -23,17 +25,41 @@ fn write_resolved(
     }
 }
 
+/// The same of the automaton of a specification's grammar.
+fn write_settled(
+    alloc: Global,
+    spec: &Spec,
+    lr0: &Lr0<'_>,
+    writer: &mut MemSink,
+) -> Result<bool, Fail>
+    requires { KeepsUseful spec.now.grammar lr0.now.grammar }
+{
+    let lookaheads = lookaheads(alloc, lr0)?;
+    let resolved = resolve(alloc, spec, lr0, &lookaheads)?;
+    write_resolved(alloc, &resolved, writer)
+}
+
+/// The same of a specification's grammar reduced.
+fn write_reduced(
+    alloc: Global,
+    spec: &Spec,
+    reduced: &Reduced<'_>,
+    writer: &mut MemSink,
+) -> Result<bool, Fail>
+    requires { KeepsUseful spec.now.grammar reduced.now.grammar }
+{
+    match automaton(alloc, reduced, &Limits::V1) {
+        Ok(lr0) => write_settled(alloc, spec, &lr0, writer),
+        Err(_) => Err(Fail::from("a grammar was refused that has an automaton")),
+    }
+}
+
 /// The same of a specification.
 fn write_report(alloc: Global, spec: &Spec, writer: &mut MemSink) -> Result<bool, Fail> {
-    let Ok(reduced) = reduce(alloc, spec.grammar()) else {
-        return Err(Fail::from("a grammar was refused that is to be reduced"));
-    };
-    let Ok(lr0) = automaton(alloc, &reduced, &Limits::V1) else {
-        return Err(Fail::from("a grammar was refused that has an automaton"));
-    };
-    let lookaheads = lookaheads(alloc, &lr0)?;
-    let resolved = resolve(alloc, spec, &lr0, &lookaheads)?;
-    write_resolved(alloc, &resolved, writer)
+    match reduce(alloc, spec.grammar()) {
+        Ok(reduced) => write_reduced(alloc, spec, &reduced, writer),
+        Err(_) => Err(Fail::from("a grammar was refused that is to be reduced")),
+    }
 }
 
 const NO_CONFLICTS: &[u8] = b"removed rules: 0\nconflicts: 0 shift/reduce, 0 reduce/reduce\n";

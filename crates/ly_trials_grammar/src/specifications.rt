@@ -32,9 +32,16 @@ fn joined(alloc: Global, lex: &LexFile, yacc: &YaccFile) -> Result<Spec, Fail> {
     }
 }
 
+/// The specification of a lex file that is read, and of a yacc file.
+fn specification_under(alloc: Global, lex: &LexFile, yacc: &[u8]) -> Result<Spec, Fail> {
+    let yacc = yacc_file(alloc, yacc)?;
+    joined(alloc, lex, &yacc)
+}
+
 /// The specification of a yacc file, and of a lex file with one rule.
 pub(crate) fn specification(alloc: Global, yacc: &[u8]) -> Result<Spec, Fail> {
-    joined(alloc, &lex_file(alloc)?, &yacc_file(alloc, yacc)?)
+    let lex = lex_file(alloc)?;
+    specification_under(alloc, &lex, yacc)
 }
 
 /// Whether a specification has all parts of `%left '+'` and `e : e '+' e | 'n'`.
