@@ -102,10 +102,10 @@ struct Teller<'a> {
 }
 
 /// The tree that has these rules, each in front of those below it, a space before each symbol.
-fn tree_of(
+fn tree_of<'a>(
     alloc: Global,
-    spec: &Spec,
-    rules: &[usize],
+    spec: &'a Spec,
+    rules: &'a [usize],
     style: Style,
 ) -> Result<Vec<u8>, OutOfMemory> {
     let mut teller = Teller {
