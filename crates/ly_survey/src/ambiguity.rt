@@ -129,7 +129,7 @@ impl<'a> Finder<'a> {
         Ok(half)
     }
 
-    /// Goes on to an item of a way: the inmost open rule has passed a symbol, which is derived, or another one is opened.
+    /// Goes on to an item of a way: the inmost open rule has passed a symbol, which is derived, or another is opened.
     fn pass(
         &self,
         alloc: Global,

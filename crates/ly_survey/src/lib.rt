@@ -1,7 +1,7 @@
 //! From two files that are accepted, and what is known of them, to what is said of them to people: `survey`.
 //!
-//! It says the doubts, the conflicts with an example each, and the rules by their numbers; and if they are asked for, the
-//! states of the scanner and of the parser, and their picture.
+//! It says the doubts, the conflicts with an example each, and the rules by their numbers; and if they are asked for,
+//! the states of the scanner and of the parser, and their picture.
 //!
 //! What is said is found by `ly_explain`, whose contracts it has: which rules and tokens are of no use, and at which
 //! strings both actions of a conflict are possible. How things are worded is tested alone.

@@ -57,9 +57,9 @@ pub struct Accepted<'a> {
     pub indented: &'a [u64],
 }
 
-/// Says of two files that are accepted what is doubtful, where their conflicts are, and which rule has which number; and
-/// the states and their picture, where they are asked for. Start conditions are named by their numbers, as far as names
-/// are given.
+/// Says of two files that are accepted what is doubtful, where their conflicts are, and which rule has which number;
+/// and the states and their picture, where they are asked for. Start conditions are named by their numbers, as far as
+/// names are given.
 ///
 /// `OutOfMemory` comes where a growth was refused.
 pub fn survey(
