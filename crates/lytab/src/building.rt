@@ -1,10 +1,10 @@
 //! The command `build`.
-use crate::command::Paths;
 use crate::failure::Failure;
 use crate::files::{STANDARD, read_file, write_file, write_to};
 use ly_base::{Limits, Version};
 use ly_engine::{Report, build};
 use ly_report::push_counts;
+use ly_words::Paths;
 use std::alloc::Global;
 use std::io::Write;
 use std::rt::Files;

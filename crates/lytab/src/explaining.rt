@@ -1,9 +1,9 @@
 //! The command `explain`.
-use crate::command::ExplainPaths;
 use crate::failure::Failure;
 use crate::files::{STANDARD, read_file, write_file, write_to};
 use ly_base::Limits;
 use ly_explanation::{Named, Wish, explain};
+use ly_words::ExplainPaths;
 use std::alloc::Global;
 use std::fs;
 use std::io::{self, Read, Write};

@@ -1,19 +1,15 @@
 //! The program: reads its words, and does what they ask for.
 //!
-//! `command_line` finds the command in the words (`AskFor`), by the line as `clap` has it; `perform` carries it out:
-//! `answering` has the commands with a text, `building`, `checking` and `explaining` the others. `failure` tells why
-//! there is no answer.
+//! `ly_words` finds the command in the words; `perform` carries it out: `answering` has the commands with a text,
+//! `building`, `checking` and `explaining` the others. `failure` tells why there is no answer.
 #![tactic(auto)]
 
 mod answering;
 mod building;
 mod checking;
-mod command;
-mod command_line;
 mod explaining;
 mod failure;
 mod files;
-mod line;
 mod perform;
 
 use std::env;

@@ -1,16 +1,15 @@
 ghost use Rattle.std.specs.Prelude.{◌≡◌, ◌≤◌, IfOk, IsSome, map, string_bytes, true};
-ghost use Rattle.lytab.specs.CommandLine.{line_takes, request_of};
-ghost use Rattle.lytab.specs.Paths.{AskFor};
-ghost use Rattle.lytab.specs.Request.{Request};
+ghost use Rattle.ly_words.specs.CommandLine.{line_takes, request_of};
+ghost use Rattle.ly_words.specs.Paths.{AskFor};
+ghost use Rattle.ly_words.specs.Request.{Request};
 
 use crate::answering::{Rules, answer_text};
 use crate::building::build_tables;
 use crate::checking::check_tables;
-use crate::command::{Command, CommandFault};
-use crate::command_line::command;
 use crate::explaining::explain_files;
 use crate::failure::{Failure, told};
 use crate::files::{STANDARD, read_file};
+use ly_words::{Command, CommandFault, read_command};
 use std::alloc::Global;
 use std::io::{Read, Write};
 use std::rt::Files;
@@ -40,7 +39,7 @@ pub fn perform<F: Files, I: Read, O: Write, E: Write>(
         → result ≤ 3 }
     ensures taken { (request : Request) → AskFor (map string_bytes words.now) request → result ≤ 3 }
 {
-    match command(alloc, words) {
+    match read_command(alloc, words) {
         Ok(command) => match carry_out(files, alloc, command, input, output) {
             Ok(end) => end.status(),
             Err(failure) => told(alloc, failure, faults),

@@ -1,5 +1,5 @@
 use Rattle.std.proofs.Common.{◌≡◌}
-use Rattle.lytab.specs.declared.command.CommandFault.TheVariants.{Bad, OutOfMemory}
+use Rattle.ly_words.specs.declared.command.CommandFault.TheVariants.{Bad, OutOfMemory}
 use Rattle.lytab.proofs.perform.perform.Goals as goal
 
 pub returns-in-Err-Bad-clause-taken : goal.returns-in-Err-Bad-clause-taken

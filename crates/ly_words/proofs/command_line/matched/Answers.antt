@@ -1,6 +1,6 @@
 use Rattle.std.proofs.Common.{◌∙◌, sym}
-use Rattle.lytab.proofs.CommandLineLemmas.{faults_in, found_in, line_is_free, line_is_simple, taken_in}
-use Rattle.lytab.proofs.command_line.matched.Goals as goal
+use Rattle.ly_words.proofs.CommandLineLemmas.{faults_in, found_in, line_is_free, line_is_simple, taken_in}
+use Rattle.ly_words.proofs.command_line.matched.Goals as goal
 
 pub returns-in-Ok-clause-found : goal.returns-in-Ok-clause-found
 returns-in-Ok-clause-found c =

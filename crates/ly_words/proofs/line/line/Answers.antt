@@ -2,8 +2,8 @@ use Rattle.std.proofs.Common.{◌≡◌, ◌∙◌, ap, true}
 use Rattle.std.proofs.lemmas.Result.{IfOk-weaker}
 use Rattle.clap.specs.Simple.{app_of_fields}
 use Rattle.clap.specs.Words.{App, app_of}
-use Rattle.lytab.proofs.CommandLineLemmas.{added}
-use Rattle.lytab.proofs.line.line.Goals as goal
+use Rattle.ly_words.proofs.CommandLineLemmas.{added}
+use Rattle.ly_words.proofs.line.line.Goals as goal
 
 pub returns : goal.returns
 returns c =

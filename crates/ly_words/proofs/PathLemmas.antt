@@ -13,7 +13,7 @@ use Rattle.clap.specs.Takes.{default_passes, is_valid, level_passes, long_passes
 use Rattle.clap.specs.Takes.{turn_passes, walk_passes, word_passes}
 use Rattle.std.specs.List.{list_all}
 use Rattle.std.specs.Prelude.{◌||◌, is_some, if◌then◌else◌}
-use Rattle.lytab.specs.Paths.{IsPathWord}
+use Rattle.ly_words.specs.Paths.{IsPathWord}
 
 -- `clap` sees no flag in the word
 record IsNoFlag (word : Text) : Type 0 where

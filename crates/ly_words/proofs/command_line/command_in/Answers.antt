@@ -1,6 +1,6 @@
 use Rattle.std.proofs.Common.{◌∙◌}
-use Rattle.lytab.proofs.CommandLineLemmas.{request_is}
-use Rattle.lytab.proofs.command_line.command_in.Goals as goal
+use Rattle.ly_words.proofs.CommandLineLemmas.{request_is}
+use Rattle.ly_words.proofs.command_line.command_in.Goals as goal
 
 pub returns-in-tokens : goal.returns-in-tokens
 returns-in-tokens c = c.tokens_in.ensures ∙ request_is _ _ c.in_ok-name.name.now c.in_ok-name.values.now

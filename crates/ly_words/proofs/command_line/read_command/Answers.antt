@@ -1,7 +1,7 @@
 use Rattle.std.proofs.Common.{◌∙◌, ap, is_some, option_and_then, sym, true≢false, unwrap_or}
-use Rattle.lytab.specs.CommandLine.{request_by}
-use Rattle.lytab.proofs.RequestLemmas.{asked, refused_up}
-use Rattle.lytab.proofs.command_line.command.Goals as goal
+use Rattle.ly_words.specs.CommandLine.{request_by}
+use Rattle.ly_words.proofs.RequestLemmas.{asked, refused_up}
+use Rattle.ly_words.proofs.command_line.read_command.Goals as goal
 
 pub returns-in_err-matches-clause-taken : goal.returns-in_err-matches-clause-taken
 returns-in_err-matches-clause-taken c =

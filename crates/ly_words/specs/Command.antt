@@ -1,8 +1,8 @@
 -- What a command asks for.
 use Rattle.std.specs.Prelude.{option_map}
-use Rattle.lytab.specs.Request.{Request, build, check, explain, run, tokens, try}
-use Rattle.lytab.specs.declared.command.Command.{Command}
-use Rattle.lytab.specs.declared.command.Command.TheVariants.{Build, Check, Explain, Run, Tokens, Try}
+use Rattle.ly_words.specs.Request.{Request, build, check, explain, run, tokens, try}
+use Rattle.ly_words.specs.declared.command.Command.{Command}
+use Rattle.ly_words.specs.declared.command.Command.TheVariants.{Build, Check, Explain, Run, Tokens, Try}
 
 abbrev pub said : Command → Request
 said (Tokens lex text) = tokens lex.now (option_map (λ s. s.now) text)

@@ -8,13 +8,13 @@ use Rattle.clap.specs.Simple.{Shape, built, help_shape, label_of}
 use Rattle.clap.proofs.OnLiterals.{clap_on_literals}
 use Rattle.ly_base.specs.declared.version.Version.{Version}
 use Rattle.ly_base.specs.declared.version.Version.TheVariants.{V1, V2}
-use Rattle.lytab.specs.CommandLine.{line_app, line_takes, request_by, request_of, subcommand_in, version_by}
-use Rattle.lytab.specs.Paths.{ArePathWords, AskFor, IsMeant, IsPathWord, as_list, name_of, number_of, operands_of}
-use Rattle.lytab.specs.Paths.{words_at, written_of}
-use Rattle.lytab.specs.Request.{Request, build, check, explain, run, tokens, try}
-use Rattle.lytab.proofs.PathLemmas.{AreWords, IsLongName, Word, all_taken, held_after, level_taken, long, path}
-use Rattle.lytab.proofs.PathLemmas.{rest_passes, rows_are, text_of}
-use Rattle.lytab.proofs.SubcommandLemmas.{Enters, line_passes, subcommand_rows_are}
+use Rattle.ly_words.specs.CommandLine.{line_app, line_takes, request_by, request_of, subcommand_in, version_by}
+use Rattle.ly_words.specs.Paths.{ArePathWords, AskFor, IsMeant, IsPathWord, as_list, name_of, number_of, operands_of}
+use Rattle.ly_words.specs.Paths.{words_at, written_of}
+use Rattle.ly_words.specs.Request.{Request, build, check, explain, run, tokens, try}
+use Rattle.ly_words.proofs.PathLemmas.{AreWords, IsLongName, Word, all_taken, held_after, level_taken, long, path}
+use Rattle.ly_words.proofs.PathLemmas.{rest_passes, rows_are, text_of}
+use Rattle.ly_words.proofs.SubcommandLemmas.{Enters, line_passes, subcommand_rows_are}
 
 -- the subcommand of this name once it is built
 abbrev shape_at : Text → Shape

@@ -1,11 +1,11 @@
 ghost use Rattle.std.specs.Prelude.{◌≡◌, IfErr, IfOk, IsSome, OnOk, Some, [], map, option_and_then, option_map};
 ghost use Rattle.std.specs.Prelude.{MatchResult, string_bytes, true};
 ghost use Rattle.clap.specs.Words.{first_value, found_of, kind_of, subcommand_rows_of};
-ghost use Rattle.lytab.specs.CommandLine.{build_by, check_by, explain_by, line_faults, line_takes, request_by};
-ghost use Rattle.lytab.specs.CommandLine.{request_of, run_by, subcommand_in, tokens_by, try_by, version_by};
-ghost use Rattle.lytab.specs.Command.{said};
-ghost use Rattle.lytab.specs.Paths.{AskFor};
-ghost use Rattle.lytab.specs.Request.{Request};
+ghost use Rattle.ly_words.specs.CommandLine.{build_by, check_by, explain_by, line_faults, line_takes, request_by};
+ghost use Rattle.ly_words.specs.CommandLine.{request_of, run_by, subcommand_in, tokens_by, try_by, version_by};
+ghost use Rattle.ly_words.specs.Command.{said};
+ghost use Rattle.ly_words.specs.Paths.{AskFor};
+ghost use Rattle.ly_words.specs.Request.{Request};
 
 use crate::command::{Command, CommandFault, ExplainPaths, Paths};
 use crate::line::line;
@@ -23,7 +23,7 @@ const NO_VERSION: &str = "error: invalid value for '--format <VERSION>': it must
 ///
 /// `Help` comes where a help text or the version is asked for, `Bad` where `clap` refuses the words for another reason
 /// or they ask for another version of a table file, `OutOfMemory` where a growth was refused.
-pub fn command<'a>(alloc: Global, words: &'a [String]) -> Result<Command<'a>, CommandFault>
+pub fn read_command<'a>(alloc: Global, words: &'a [String]) -> Result<Command<'a>, CommandFault>
     ensures said { IfOk result (λ c. request_of (map string_bytes words.entry.now) ≡ Some (said c)) }
     ensures faultless { OnOk result (line_faults (map string_bytes words.entry.now) ≡ []) }
     ensures refused { IfErr result (λ e. line_takes (map string_bytes words.entry.now) ≡ true

@@ -1,4 +1,4 @@
-ghost use Rattle.lytab.specs.declared.command.CommandFault.TheVariants.{OutOfMemory};
+ghost use Rattle.ly_words.specs.declared.command.CommandFault.TheVariants.{OutOfMemory};
 ghost use Rattle.std.specs.Prelude.{◌≡◌};
 
 use ly_base::Version;

@@ -4,7 +4,7 @@ use Rattle.std.specs.List.{flat_map, insert}
 use Rattle.clap.specs.Words.{Text}
 use Rattle.ly_base.specs.declared.version.Version.{Version}
 use Rattle.ly_base.specs.declared.version.Version.TheVariants.{V1, V2}
-use Rattle.lytab.specs.Request.{Request, build, check, explain, run, tokens, try}
+use Rattle.ly_words.specs.Request.{Request, build, check, explain, run, tokens, try}
 
 -- a word that is no option: a minus sign alone, or one that doesn't begin with it
 abbrev pub IsPathWord : Text → Type 0

@@ -5,7 +5,7 @@ use Rattle.std.specs.Option.{option_map_or}
 use Rattle.clap.specs.Walk.{Names, Rule, Text, Walk, answers_to, nothing_held, walk, walk_from, walked}
 use Rattle.clap.specs.Simple.{App, Shape, built, entered, is_simple, label_of, names_of, rows_at, subcommand_of}
 use Rattle.clap.specs.Takes.{built_takes, entered_passes, level_passes, takes, turn_passes, walk_passes}
-use Rattle.lytab.proofs.PathLemmas.{and_true, rest_passes}
+use Rattle.ly_words.proofs.PathLemmas.{and_true, rest_passes}
 
 -- the walk that has met a subcommand, with the words behind it
 abbrev at_subcommand : Text → List Text → Walk
