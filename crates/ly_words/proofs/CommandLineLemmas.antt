@@ -10,7 +10,8 @@ use Rattle.clap.proofs.WalkLemmas.{first_value-rows}
 use Rattle.clap.specs.declared.parser.matches.Found.{Found}
 use Rattle.clap.specs.declared.parser.matches.ArgMatches.{ArgMatches}
 use Rattle.clap.proofs.OnLiterals.{clap_on_literals}
-use Rattle.ly_words.specs.CommandLine.{IsApp, line_app, line_faults, line_takes, request_by, request_named, subcommand_in}
+use Rattle.ly_words.specs.CommandLine.{IsApp, line_app, line_faults, line_takes, request_by, request_named}
+use Rattle.ly_words.specs.CommandLine.{subcommand_in}
 
 -- the line is one of which the words give the matches
 pub line_is_simple : (a : App) → a ≡ line_app → is_simple a ≡ true

@@ -1,6 +1,7 @@
 ghost use Rattle.std.specs.Prelude.{◌≡◌, IfOk, false};
 ghost use Rattle.clap.specs.Words.{app_of, rule_of};
-ghost use Rattle.ly_words.specs.CommandLine.{IsApp, build_app, build_paths_app, check_app, explain_app, explain_paths_app};
+ghost use Rattle.ly_words.specs.CommandLine.{IsApp, build_app, build_paths_app, check_app, explain_app};
+ghost use Rattle.ly_words.specs.CommandLine.{explain_paths_app};
 ghost use Rattle.ly_words.specs.CommandLine.{format_rule, graph_rule, line_app, states_rule};
 ghost use Rattle.ly_words.specs.CommandLine.{path_rule, report_rule, run_app, text_rule, tokens_app, try_app};
 
