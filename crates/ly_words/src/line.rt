@@ -1,9 +1,9 @@
 ghost use Rattle.std.specs.Prelude.{◌≡◌, IfOk, false};
-ghost use Rattle.clap.specs.Words.{app_of, rule_of};
+ghost use Rattle.clap.specs.Words.{App, app_of, rule_of, with_subcommand};
 ghost use Rattle.ly_words.specs.CommandLine.{IsApp, build_app, build_paths_app, check_app, explain_app};
 ghost use Rattle.ly_words.specs.CommandLine.{explain_paths_app};
 ghost use Rattle.ly_words.specs.CommandLine.{format_rule, graph_rule, line_app, states_rule};
-ghost use Rattle.ly_words.specs.CommandLine.{path_rule, report_rule, run_app, text_rule, tokens_app, try_app};
+ghost use Rattle.ly_words.specs.CommandLine.{path_rule, report_rule, run_app, text_rule, tokens_app, top_app, try_app};
 
 use clap::{Arg, Command};
 use std::alloc::{AllocError, Global};
@@ -15,16 +15,33 @@ const VERSION: &str = "1.0";
 pub fn line<'a>(alloc: Global) -> Result<Command<'a>, AllocError>
     ensures { IfOk result (λ c. app_of c ≡ line_app) }
 {
-    let top = Command::new(alloc, "lytab")
+    let line = with(top(alloc), tokens_line(alloc))?;
+    let line = with(line, build_line(alloc))?;
+    let line = with(line, run_line(alloc))?;
+    let line = with(line, try_line(alloc))?;
+    let line = with(line, check_line(alloc))?;
+    with(line, explain_line(alloc))
+}
+
+/// The line without its subcommands.
+fn top<'a>(alloc: Global) -> Command<'a>
+    ensures { app_of result ≡ top_app }
+{
+    Command::new(alloc, "lytab")
         .about("Lexical analysis and parsing by POSIX lex and yacc files, proved correct")
         .version(VERSION)
-        .subcommand_required(true);
-    top.subcommand(tokens_line(alloc)?)?
-        .subcommand(build_line(alloc)?)?
-        .subcommand(run_line(alloc)?)?
-        .subcommand(try_line(alloc)?)?
-        .subcommand(check_line(alloc)?)?
-        .subcommand(explain_line(alloc)?)
+        .subcommand_required(true)
+}
+
+/// A command with one more subcommand, if memory sufficed for that.
+fn with<'a>(
+    command: Command<'a>,
+    sub: Result<Command<'a>, AllocError>,
+) -> Result<Command<'a>, AllocError>
+    ensures { IfOk result (λ c. (app : App) → IfOk sub.entry (IsApp app)
+        → app_of c ≡ with_subcommand (app_of command.entry) app.top) }
+{
+    command.subcommand(sub?)
 }
 
 /// The subcommand `tokens`.
