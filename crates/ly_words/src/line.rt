@@ -1,8 +1,7 @@
 ghost use Rattle.std.specs.Prelude.{◌≡◌, IfOk, false};
 ghost use Rattle.clap.specs.Words.{App, app_of, rule_of, with_subcommand};
 ghost use Rattle.ly_words.specs.CommandLine.{IsApp, build_app, build_paths_app, check_app, explain_app};
-ghost use Rattle.ly_words.specs.CommandLine.{explain_paths_app};
-ghost use Rattle.ly_words.specs.CommandLine.{format_rule, graph_rule, line_app, states_rule};
+ghost use Rattle.ly_words.specs.CommandLine.{files_app, format_rule, graph_rule, line_app, states_rule};
 ghost use Rattle.ly_words.specs.CommandLine.{path_rule, report_rule, run_app, text_rule, tokens_app, top_app, try_app};
 
 use clap::{Arg, Command};
@@ -65,11 +64,11 @@ fn build_line<'a>(alloc: Global) -> Result<Command<'a>, AllocError>
 fn build_paths<'a>(alloc: Global) -> Result<Command<'a>, AllocError>
     ensures { IfOk result (IsApp build_paths_app) }
 {
-    Command::new(alloc, "build")
-        .about("Writes the table file of a grammar")
-        .arg(path(alloc, "LEX", LEX))?
-        .arg(path(alloc, "YACC", YACC))?
-        .arg(path(alloc, "TABLES", "The table file, which is written"))
+    files(alloc, "build", "Writes the table file of a grammar")?.arg(path(
+        alloc,
+        "TABLES",
+        "The table file, which is written",
+    ))
 }
 
 /// The subcommand `run`.
@@ -86,11 +85,8 @@ fn run_line<'a>(alloc: Global) -> Result<Command<'a>, AllocError>
 fn try_line<'a>(alloc: Global) -> Result<Command<'a>, AllocError>
     ensures { IfOk result (IsApp try_app) }
 {
-    Command::new(alloc, "try")
-        .about("Writes the tree of a text by a grammar, at once")
-        .arg(path(alloc, "LEX", LEX))?
-        .arg(path(alloc, "YACC", YACC))?
-        .arg(text(alloc))
+    let about = "Writes the tree of a text by a grammar, at once";
+    files(alloc, "try", about)?.arg(text(alloc))
 }
 
 /// The subcommand `check`.
@@ -106,17 +102,19 @@ fn check_line<'a>(alloc: Global) -> Result<Command<'a>, AllocError>
 fn explain_line<'a>(alloc: Global) -> Result<Command<'a>, AllocError>
     ensures { IfOk result (IsApp explain_app) }
 {
-    explain_paths(alloc)?.arg(states(alloc))?.arg(graph(alloc))
+    let about =
+        "Says what is wrong with both files, or doubtful in them, and where their conflicts are";
+    files(alloc, "explain", about)?
+        .arg(states(alloc))?
+        .arg(graph(alloc))
 }
 
-/// The subcommand `explain` with its paths alone.
-fn explain_paths<'a>(alloc: Global) -> Result<Command<'a>, AllocError>
-    ensures { IfOk result (IsApp explain_paths_app) }
+/// A subcommand with the paths of a lex file and a yacc file.
+fn files<'a>(alloc: Global, name: &'a str, about: &'a str) -> Result<Command<'a>, AllocError>
+    ensures { IfOk result (IsApp (files_app name.entry.now)) }
 {
-    Command::new(alloc, "explain")
-        .about(
-            "Says what is wrong with both files, or doubtful in them, and where their conflicts are",
-        )
+    Command::new(alloc, name)
+        .about(about)
         .arg(path(alloc, "LEX", LEX))?
         .arg(path(alloc, "YACC", YACC))
 }
