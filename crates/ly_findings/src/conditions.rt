@@ -11,13 +11,20 @@ pub fn known_conditions(alloc: Global, text: &[u8]) -> Result<Vec<&[u8]>, OutOfM
     known.push(b"INITIAL")?;
     for line in text.split(|byte| *byte == b'\n') {
         if matches!(line, [b'%', b's' | b'S' | b'x' | b'X', ..]) {
-            let room = MOST.saturating_sub(known.len());
-            for word in words(alloc, line)?.iter().skip(1).take(room) {
-                known.push(*word)?;
-            }
+            push_declared(&mut known, line)?;
         }
     }
     Ok(known)
+}
+
+/// Adds the names behind the first word of a line that begins with it, as far as there are not too many.
+fn push_declared<'t>(known: &mut Vec<&'t [u8]>, line: &'t [u8]) -> Result<(), OutOfMemory> {
+    for name in line.split(|byte| is_blank(*byte)).skip(1) {
+        if !name.is_empty() && known.len() < MOST {
+            known.push(name)?;
+        }
+    }
+    Ok(())
 }
 
 /// The words of a line, with blanks between them.

@@ -46,6 +46,14 @@ impl Edit {
     }
 }
 
+/// Adds texts, one behind another.
+pub(crate) fn push_all(text: &mut Vec<u8>, parts: &[&[u8]]) -> Result<(), OutOfMemory> {
+    for part in parts {
+        text.extend_from_slice(part)?;
+    }
+    Ok(())
+}
+
 /// A text that another one became; none where it is the same.
 pub(crate) fn if_changed(text: &[u8], next: Vec<u8>) -> Option<Vec<u8>> {
     if next.as_slice() == text {

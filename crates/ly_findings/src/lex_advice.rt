@@ -75,16 +75,10 @@ fn near_name(alloc: Global, text: &[u8], rest: &[u8]) -> Result<Option<Advice>, 
         return Ok(None);
     };
     let names = defined_names(alloc, text)?;
-    match nearest(alloc, name, &names)? {
-        Some(near) => {
-            let mut braced = Vec::new(alloc);
-            braced.push(b'{')?;
-            braced.extend_from_slice(near)?;
-            braced.push(b'}')?;
-            Ok(Some(Advice::Near(braced)))
-        }
-        None => Ok(None),
-    }
+    Ok(match nearest(alloc, name, &names)? {
+        Some(near) => Some(Advice::Near([b"{", near, b"}"].concat(alloc)?)),
+        None => None,
+    })
 }
 
 /// The name of a condition that is near to one in front of a rule, or behind BEGIN.
@@ -96,20 +90,20 @@ fn near_condition(
 ) -> Result<Option<Advice>, OutOfMemory> {
     let known = known_conditions(alloc, text)?;
     let list = if line.starts_with(b"<") { line } else { rest };
-    for word in list.split(|byte| !Language::Lex.continues_name(*byte)) {
-        if word.is_empty()
-            || word == b"BEGIN".as_slice()
-            || word == b"0".as_slice()
-            || known.contains(&word)
-        {
-            continue;
-        }
-        return match nearest(alloc, word, &known)? {
-            Some(near) => Ok(Some(Advice::Near(Vec::from_slice(alloc, near)?))),
-            None => Ok(None),
-        };
+    let unknown = list
+        .split(|byte| !Language::Lex.continues_name(*byte))
+        .find(|word| is_unknown(word, &known));
+    // No name is near to an empty one.
+    match nearest(alloc, unknown.unwrap_or(b""), &known)? {
+        Some(near) => Ok(Some(Advice::Near(Vec::from_slice(alloc, near)?))),
+        None => Ok(None),
     }
-    Ok(None)
+}
+
+/// Whether a word is the name of a condition that isn't known.
+fn is_unknown(word: &[u8], known: &[&[u8]]) -> bool {
+    let is_name = !word.is_empty() && word != b"BEGIN".as_slice() && word != b"0".as_slice();
+    is_name && !known.contains(&word)
 }
 
 /// The advice for a fault of POSIX's forms.

@@ -1,5 +1,6 @@
 //! How a fault of a lex file is mended, so that what stands behind it can be read.
 use crate::conditions::{known_conditions, words};
+use crate::edit::push_all;
 use crate::lex_places::defined_names;
 use crate::lex_units::{Kind, Unit, first_line};
 use crate::location::{from_place, line_start};
@@ -35,14 +36,12 @@ pub(crate) fn mended(
 /// A line that defines the name of a line as one byte; nothing where it has none, or an earlier line defines it.
 fn plain_definition(alloc: Global, text: &[u8], unit: Unit) -> Result<Vec<u8>, OutOfMemory> {
     let (before, rest) = text.split_at(line_start(text, unit.first).min(text.len()));
-    let mut definition = Vec::new(alloc);
-    if let Some((name, _)) = leading_name(first_line(rest), Language::Lex)
-        && !defined_names(alloc, before)?.contains(&name)
-    {
-        definition.extend_from_slice(name)?;
-        definition.extend_from_slice(b" x")?;
+    match leading_name(first_line(rest), Language::Lex) {
+        Some((name, _)) if !defined_names(alloc, before)?.contains(&name) => {
+            Ok([name, b" x"].concat(alloc)?)
+        }
+        _ => Ok(Vec::new(alloc)),
     }
-    Ok(definition)
 }
 
 /// A line that declares the conditions of a line that are new ones; nothing where it has none.
@@ -68,8 +67,7 @@ fn push_new<'t>(
 ) -> Result<(), OutOfMemory> {
     if !known.contains(&name) {
         known.push(name)?;
-        declaration.push(b' ')?;
-        declaration.extend_from_slice(name)?;
+        push_all(declaration, &[b" ", name])?;
     }
     Ok(())
 }
@@ -101,10 +99,8 @@ fn with_lines(
             edited.extend_from_slice(line)?;
             continue;
         }
-        if number == first {
-            edited.extend_from_slice(by)?;
-        }
-        edited.push(b'\n')?;
+        let by = if number == first { by } else { b"" };
+        push_all(&mut edited, &[by, b"\n"])?;
     }
     Ok(edited)
 }

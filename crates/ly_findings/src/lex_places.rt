@@ -1,4 +1,5 @@
 //! The columns of the faults of a lex file, of which its reader says the lines.
+use crate::edit::push_all;
 use crate::lex_units::{Kind, Unit, action_start, first_line, pattern_start};
 use crate::location::{Location, from_place, line_start};
 use crate::nearest::MOST_NAMES;
@@ -88,19 +89,41 @@ fn pattern_column(
         return Ok(0);
     }
     let names = known_names(alloc, text, limits)?;
-    let mut longest = 0;
-    for length in 1..=pattern.len() {
-        let front = pattern.get(..length).unwrap_or(pattern);
-        match read_pattern(alloc, front, &names, limits) {
-            Ok(_) => longest = length,
-            Err(EreFault::OutOfMemory) => return Err(OutOfMemory),
-            Err(_) => {}
-        }
-    }
+    let longest = longest_pattern(alloc, pattern, &names, limits)?;
     let whole = from_place(pattern, longest)
         .first()
         .is_none_or(|byte| is_blank(*byte));
     Ok(if whole { 0 } else { longest })
+}
+
+/// How many bytes the longest beginning has that is a pattern by itself.
+fn longest_pattern(
+    alloc: Global,
+    text: &[u8],
+    names: &Names,
+    limits: &Limits,
+) -> Result<usize, OutOfMemory> {
+    let mut longest = 0;
+    for length in 1..=text.len() {
+        if is_pattern(alloc, text.get(..length).unwrap_or(text), names, limits)? {
+            longest = length;
+        }
+    }
+    Ok(longest)
+}
+
+/// Whether a text is a pattern.
+fn is_pattern(
+    alloc: Global,
+    text: &[u8],
+    names: &Names,
+    limits: &Limits,
+) -> Result<bool, OutOfMemory> {
+    match read_pattern(alloc, text, names, limits) {
+        Ok(_) => Ok(true),
+        Err(EreFault::OutOfMemory) => Err(OutOfMemory),
+        Err(_) => Ok(false),
+    }
 }
 
 /// The names that the lines of a text define, each as an expression that is none of its own.
@@ -117,8 +140,7 @@ fn known_names(alloc: Global, text: &[u8], limits: &Limits) -> Result<Names, Out
 fn plain_definitions(alloc: Global, names: &[&[u8]]) -> Result<Vec<u8>, OutOfMemory> {
     let mut definitions = Vec::new(alloc);
     for name in names {
-        definitions.extend_from_slice(name)?;
-        definitions.extend_from_slice(b" x\n")?;
+        push_all(&mut definitions, &[name, b" x\n"])?;
     }
     definitions.extend_from_slice(b"%%\n")?;
     Ok(definitions)
@@ -131,14 +153,20 @@ pub(crate) fn defined_names(alloc: Global, text: &[u8]) -> Result<Vec<&[u8]>, Ou
         if line.starts_with(b"%%") {
             break;
         }
-        match leading_name(line, Language::Lex) {
-            Some((name, _)) if names.len() < MOST_NAMES && !names.contains(&name) => {
-                names.push(name)?;
-            }
-            _ => {}
-        }
+        push_defined(&mut names, line)?;
     }
     Ok(names)
+}
+
+/// Adds the name in front of a line, if there is one that is new.
+fn push_defined<'t>(names: &mut Vec<&'t [u8]>, line: &'t [u8]) -> Result<(), OutOfMemory> {
+    if let Some((name, _)) = leading_name(line, Language::Lex)
+        && names.len() < MOST_NAMES
+        && !names.contains(&name)
+    {
+        names.push(name)?;
+    }
+    Ok(())
 }
 
 /// The place where bytes stand in a line first.

@@ -1,4 +1,5 @@
 //! What editors of other systems leave in a text: a byte-order mark in front, and a CR before each newline.
+use crate::edit::push_all;
 use ly_base::OutOfMemory;
 use std::alloc::Global;
 
@@ -26,13 +27,11 @@ pub(crate) fn without_marks(
         .unwrap_or(text)
         .split_inclusive(|byte| *byte == b'\n')
     {
-        match line.strip_suffix(b"\r\n") {
-            Some(line) => {
-                plain.extend_from_slice(line)?;
-                plain.push(b'\n')?;
-            }
-            None => plain.extend_from_slice(line)?,
-        }
+        let parts: [&[u8]; 2] = match line.strip_suffix(b"\r\n") {
+            Some(line) => [line, b"\n"],
+            None => [line, b""],
+        };
+        push_all(&mut plain, &parts)?;
     }
     Ok(Some(plain))
 }
