@@ -124,7 +124,22 @@ fn place_of<E: Copy>(cells: &[Cell<E>], column: usize) -> usize
     ensures within { result ≤ length cells.now }
     ensures parted { IsPartitionPoint (λ c. c.column < column) (λ c. column ≤ c.column) cells.now result }
 {
+    // rows are mostly filled in the order of their columns
+    if are_before(cells, column) {
+        return cells.len();
+    }
     cells.partition_point(|cell| (cell.column as usize) < column)
+}
+
+/// Whether all cells stand before a column.
+fn are_before<E: Copy>(cells: &[Cell<E>], column: usize) -> bool
+    requires { AreRising cells.now }
+    ensures { IsTrue result ↔ All (λ c. c.column < column) cells.now }
+{
+    match cells.len() {
+        0 => true,
+        count => (cells[count - 1].column as usize) < column,
+    }
 }
 
 /// Whether the cell of a column stands at a place.

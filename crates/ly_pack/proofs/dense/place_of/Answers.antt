@@ -1,8 +1,14 @@
-use Rattle.std.proofs.Common.{rules, get_or, nat_lt}
+use Rattle.std.proofs.Common.{arith, refl, rules, get_or, nat_lt}
 use Rattle.std.proofs.lemmas.Bool.{ltb-false, ltb-true}
 use Rattle.std.proofs.lemmas.List.Sorted.{IsPartitionPoint-from_clause}
 use Rattle.ly_pack.proofs.CellLemmas.{rising_parts}
 use Rattle.ly_pack.proofs.dense.place_of.Goals as goal
+
+pub returns-then-are_before-clause-parted : goal.returns-then-are_before-clause-parted
+returns-then-are_before-clause-parted g c = (
+  λ k d from lt. c.if-are_before.ensures.0 refl k d lt,
+  λ k d from lt. absurd (omega (arith, from, lt)),
+)
 
 pub returns-clause-parted : goal.returns-clause-parted
 returns-clause-parted g c =
