@@ -1,5 +1,7 @@
+pub mod AlikeLemmas
 pub mod DirectLemmas
 pub mod GotoLemmas
+pub mod GroupLemmas
 pub mod IncludeLemmas
 pub mod LeaveLemmas
 pub mod ReachLemmas

@@ -53,17 +53,17 @@ own_passed n m rule from body count path s w long passed =
     (subst (λ k. IsPassed n.automaton from body k path s) long passed))
 
 -- what was included is what includes by the rule
-pub included_by : (n : Numbering) → IsNumbering n → (m rule from : ℕ) (body : List Symbol) (count : ℕ) (path : List ℕ)
-    (s : ℕ) (old new : Digraph) → IsWalked n m rule body from → count ≡ length body
+pub included_by : (n : Numbering) → IsNumbering n → (m o rule from : ℕ) (body : List Symbol) (count : ℕ)
+    (path : List ℕ) (s : ℕ) (old new : Digraph) → IsWalked n m rule body from → count ≡ length body
     → IsPassed n.automaton from body count path s
-    → AreEdgesTo old new m (Included n.automaton.grammar n.gotos body path)
-    → AreEdgesTo old new m (λ i. IsIncludingBy n.automaton n.gotos rule i m)
-included_by n law m rule from body count path s old new w long passed are =
-    edges_same old new m (Included n.automaton.grammar n.gotos w.own.body path)
+    → AreEdgesTo old new o (Included n.automaton.grammar n.gotos body path)
+    → AreEdgesTo old new o (λ i. IsIncludingBy n.automaton n.gotos rule i m)
+included_by n law m o rule from body count path s old new w long passed are =
+    edges_same old new o (Included n.automaton.grammar n.gotos w.own.body path)
     (λ i. IsIncludingBy n.automaton n.gotos rule i m)
     (includes_by n law m rule w.goto w.own w.at w.is_rule w.is_left path s
     (own_passed n m rule from body count path s w long passed))
-    (subst (λ b. AreEdgesTo old new m (Included n.automaton.grammar n.gotos b path)) w.is_body are)
+    (subst (λ b. AreEdgesTo old new o (Included n.automaton.grammar n.gotos b path)) w.is_body are)
 
 -- one more lookback
 back_more : (old new : List Lookback) (m rule s : ℕ) (P : ℕ → ℕ → Type 0)
@@ -99,13 +99,13 @@ back_more old new m rule s P one e q p k = (to, back) where
 
 -- the lookback of the rule
 pub back_by : (n : Numbering) → IsNumbering n
-    → (m rule from : ℕ) (body : List Symbol) (count : ℕ) (path : List ℕ) (s : ℕ)
+    → (m o rule from : ℕ) (body : List Symbol) (count : ℕ) (path : List ℕ) (s : ℕ)
     (old new : List Lookback) → IsWalked n m rule body from → count ≡ length body
     → IsPassed n.automaton from body count path s
-    → new ≡ old ++ record { state = s; rule = rule; goto = m } ∷ []
-    → AreBack old new m (λ q p. (p ≡ rule) × IsLookingBack n.automaton n.gotos m q p)
-back_by n law m rule from body count path s old new w long passed e =
-    back_more old new m rule s (λ q p. (p ≡ rule) × IsLookingBack n.automaton n.gotos m q p) one e
+    → new ≡ old ++ record { state = s; rule = rule; goto = o } ∷ []
+    → AreBack old new o (λ q p. (p ≡ rule) × IsLookingBack n.automaton n.gotos m q p)
+back_by n law m o rule from body count path s old new w long passed e =
+    back_more old new o rule s (λ q p. (p ≡ rule) × IsLookingBack n.automaton n.gotos m q p) one e
   where
     one : (q p : ℕ) → ((p ≡ rule) × IsLookingBack n.automaton n.gotos m q p) ↔ ((q ≡ s) × (p ≡ rule))
     one q p =

@@ -1,4 +1,5 @@
 pub mod Direct
 pub mod Gotos
+pub mod Groups
 pub mod Reads
 pub mod Walks

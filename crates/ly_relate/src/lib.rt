@@ -10,8 +10,10 @@
 
 mod direct;
 mod gotos;
+mod groups;
 mod includes;
 mod pairs;
+mod parted_rules;
 mod reads;
 mod relate;
 mod walks;

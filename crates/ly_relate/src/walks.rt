@@ -1,28 +1,32 @@
 //! Includes and lookback in one walk for each transition and each rule of its nonterminal: forth over the body, from
 //! state to state, and back from its end, as long as what was passed is nullable.
-ghost use Rattle.std.specs.Prelude.{◌≡◌, ◌<◌, ◌≤◌, ℕ, length, map, slice_get, slice_index_or, All, IfOk, MatchOption};
-ghost use Rattle.std.specs.Prelude.{OnOk, Some};
+ghost use Rattle.std.specs.Prelude.{◌≡◌, ◌<◌, ◌≤◌, ℕ, [], length, map, slice_get, slice_index_or, All, IfOk, MatchOption};
+ghost use Rattle.std.specs.Prelude.{Contains, OnOk, Some};
 ghost use Rattle.ly_join.specs.Grammar.{symbol_of, IsRule, GrammarRule, Symbol as symbols};
 ghost use Rattle.ly_relate.specs.Private.Walks.{AreBack, AreEdgesTo, IsIncludedAt, IsIncludingBy, IsLookingBack};
 ghost use Rattle.ly_relate.specs.Private.Walks.{IsPassed, IsStopped, HasNumberTo};
 ghost use Rattle.ly_relate.specs.Related as spec;
-ghost use Rattle.ly_relate.specs.Related.{AreEdges, AreLookbacks, IsIncluding};
+ghost use Rattle.ly_relate.specs.Related.{AreGathered, AreLookbacks, IsIncluding};
+ghost use Rattle.ly_relate.specs.Private.Groups.{AreAllParted, AreGroups, IsRuleOf, solid_of};
+ghost use Rattle.ly_relate.specs.Private.Walks.{AreBackBy, AreEdgesBy, BackFrom, EdgeFrom, IncludesByOne, LooksBackByOne};
 ghost use Rattle.ly_relate.specs.Values.{lookback_from};
 
 use crate::gotos::Gotos;
+use crate::groups::Groups;
 use crate::includes::Includes;
+use crate::parted_rules::PartedRules;
 use ly_base::{OutOfMemory, StateNo};
 use ly_join::Symbol;
 use std::alloc::Global;
 
-/// A rule that is complete in a state looks back to a transition.
+/// A rule that is complete in a state looks back to transitions.
 #[derive(Clone, Copy, Debug, PartialEq, Eq)]
 pub struct Lookback {
     /// The state.
     pub state: StateNo,
     /// The rule's number.
     pub rule: usize,
-    /// The transition's number.
+    /// The node that stands for them: a transition's number, or past these one from which edges lead to each.
     pub goto: usize,
 }
 
@@ -40,55 +44,126 @@ pub(crate) struct Walks {
 impl Walks {
     /// Walks the rules of all transitions.
     pub(crate) fn new(alloc: Global, gotos: &Gotos<'_>) -> Result<Walks, OutOfMemory>
-        ensures includes { IfOk result (λ w. AreEdges gotos.now.gotos
+        ensures includes { IfOk result (λ w. AreGathered gotos.now.gotos
             (IsIncluding gotos.now.automaton gotos.now.gotos) w.includes) }
-        ensures lookbacks { IfOk result (λ w. AreLookbacks gotos.now.automaton gotos.now.gotos
+        ensures lookbacks { IfOk result (λ w. AreLookbacks gotos.now.automaton gotos.now.gotos w.includes
             (map lookback_from w.lookbacks.items)) }
     {
+        let rules = PartedRules::new(alloc, gotos.lr0())?;
+        let groups = Groups::new(alloc, gotos, &rules)?;
         let mut walks = Walks {
-            includes: Includes::new(alloc, gotos.len())?,
+            includes: Includes::new(alloc, groups.len())?,
             lookbacks: Vec::new(alloc),
             path: Vec::new(alloc),
         };
-        for goto in 0..gotos.len() {
-            walks.walk_rules(gotos, goto)?;
-        }
+        walks.walk_all(gotos, &rules, &groups)?;
         Ok(walks)
     }
 
-    /// Walks the rules of a transition's nonterminal.
-    fn walk_rules(&mut self, gotos: &Gotos<'_>, goto: usize) -> Result<(), OutOfMemory>
-        requires goto { goto < length gotos.now.gotos }
-        requires nodes { self.old.includes.nodes ≡ length gotos.now.gotos }
-        ensures nodes { OnOk result (self.new.includes.nodes ≡ self.old.includes.nodes) }
-        ensures includes { OnOk result (AreEdgesTo self.old.includes self.new.includes goto
-            (λ i. IsIncluding gotos.now.automaton gotos.now.gotos i goto)) }
-        ensures lookbacks { OnOk result (AreBack (map lookback_from self.old.lookbacks.items)
-            (map lookback_from self.new.lookbacks.items) goto
-            (IsLookingBack gotos.now.automaton gotos.now.gotos goto)) }
+    /// Walks from all transitions.
+    fn walk_all(
+        &mut self,
+        gotos: &Gotos<'_>,
+        rules: &PartedRules,
+        groups: &Groups,
+    ) -> Result<(), OutOfMemory>
+        requires rules { AreAllParted gotos.now.automaton rules.now }
+        requires groups { AreGroups gotos.now (solid_of rules.now) (length gotos.now.gotos) groups.now }
+        requires fresh { self.old.includes ≡ record { nodes = groups.now.end; edges = [] } }
+        requires none { self.old.lookbacks.items ≡ [] }
+        ensures includes { OnOk result (AreGathered gotos.now.gotos
+            (IsIncluding gotos.now.automaton gotos.now.gotos) self.new.includes) }
+        ensures lookbacks { OnOk result (AreLookbacks gotos.now.automaton gotos.now.gotos self.new.includes
+            (map lookback_from self.new.lookbacks.items)) }
     {
-        for &rule in gotos.lr0().rules_of(gotos.get(goto).symbol) {
-            self.walk(gotos, goto, rule)?;
+        for goto in 0..gotos.len() {
+            self.walk_from(gotos, rules, groups, goto)?;
+        }
+        Ok(())
+    }
+
+    /// Walks the rules of a transition's nonterminal. Those that begin with a terminal are walked from the first
+    /// transition for which a node stands, for all of them.
+    fn walk_from(
+        &mut self,
+        gotos: &Gotos<'_>,
+        rules: &PartedRules,
+        groups: &Groups,
+        goto: usize,
+    ) -> Result<(), OutOfMemory>
+        requires goto { goto < length gotos.now.gotos }
+        requires rules { AreAllParted gotos.now.automaton rules.now }
+        requires groups { AreGroups gotos.now (solid_of rules.now) (length gotos.now.gotos) groups.now }
+        requires nodes { self.old.includes.nodes ≡ groups.now.end }
+        ensures nodes { OnOk result (self.new.includes.nodes ≡ self.old.includes.nodes) }
+        ensures includes { OnOk result (AreEdgesBy (EdgeFrom gotos.now rules.now groups.now goto)
+            self.old.includes self.new.includes) }
+        ensures lookbacks { OnOk result (AreBackBy (BackFrom gotos.now rules.now groups.now goto)
+            (map lookback_from self.old.lookbacks.items) (map lookback_from self.new.lookbacks.items)) }
+    {
+        let symbol = gotos.get(goto).symbol;
+        self.walk_rules(gotos, goto, rules.others(symbol), goto)?;
+        let node = groups.node(goto);
+        if groups.leads(goto) {
+            self.walk_rules(gotos, goto, rules.solid(symbol), node)?;
+        }
+        if node != goto {
+            self.includes.add(node, goto)?;
+        }
+        Ok(())
+    }
+
+    /// Walks rules of a transition's nonterminal. What they say of it is said of a node.
+    fn walk_rules(
+        &mut self,
+        gotos: &Gotos<'_>,
+        goto: usize,
+        rules: &[usize],
+        node: usize,
+    ) -> Result<(), OutOfMemory>
+        requires rules { (x : spec.Goto) × (slice_get gotos.now.gotos goto ≡ Some x)
+            × ((q : ℕ) → Contains rules.now q → IsRuleOf gotos.now.automaton x.symbol q) }
+        requires node { node < self.old.includes.nodes }
+        requires nodes { length gotos.now.gotos ≤ self.old.includes.nodes }
+        ensures nodes { OnOk result (self.new.includes.nodes ≡ self.old.includes.nodes) }
+        ensures includes { OnOk result (AreEdgesTo self.old.includes self.new.includes node
+            (IncludesByOne gotos.now rules.now goto)) }
+        ensures lookbacks { OnOk result (AreBack (map lookback_from self.old.lookbacks.items)
+            (map lookback_from self.new.lookbacks.items) node (LooksBackByOne gotos.now rules.now goto)) }
+    {
+        for &rule in rules {
+            self.walk(gotos, goto, rule, node)?;
         }
         Ok(())
     }
 
     /// Walks a rule from where a transition begins.
-    fn walk(&mut self, gotos: &Gotos<'_>, goto: usize, rule: usize) -> Result<(), OutOfMemory>
+    fn walk(
+        &mut self,
+        gotos: &Gotos<'_>,
+        goto: usize,
+        rule: usize,
+        node: usize,
+    ) -> Result<(), OutOfMemory>
         requires rule { (x : spec.Goto) × (slice_get gotos.now.gotos goto ≡ Some x)
             × (r : GrammarRule) × IsRule gotos.now.automaton.grammar rule r × (r.left ≡ x.symbol) }
-        requires nodes { self.old.includes.nodes ≡ length gotos.now.gotos }
+        requires node { node < self.old.includes.nodes }
+        requires nodes { length gotos.now.gotos ≤ self.old.includes.nodes }
         ensures nodes { OnOk result (self.new.includes.nodes ≡ self.old.includes.nodes) }
-        ensures includes { OnOk result (AreEdgesTo self.old.includes self.new.includes goto
+        ensures includes { OnOk result (AreEdgesTo self.old.includes self.new.includes node
             (λ i. IsIncludingBy gotos.now.automaton gotos.now.gotos rule i goto)) }
         ensures lookbacks { OnOk result (AreBack (map lookback_from self.old.lookbacks.items)
-            (map lookback_from self.new.lookbacks.items) goto
+            (map lookback_from self.new.lookbacks.items) node
             (λ s p. (p ≡ rule) × IsLookingBack gotos.now.automaton gotos.now.gotos goto s p)) }
     {
         let body = gotos.lr0().reduced().grammar().rule(rule).body();
         if let Some(state) = self.pass(gotos, gotos.get(goto).from, body)? {
-            self.lookbacks.push(Lookback { state, rule, goto })?;
-            self.include(gotos, goto, body)?;
+            self.lookbacks.push(Lookback {
+                state,
+                rule,
+                goto: node,
+            })?;
+            self.include(gotos, node, body)?;
         }
         Ok(())
     }
@@ -122,20 +197,20 @@ impl Walks {
     }
 
     /// Goes back over a body, as long as what was passed is nullable: a transition over a nonterminal there includes
-    /// the one from which the walk began.
+    /// the one from which the walk began, for which a node stands.
     fn include(
         &mut self,
         gotos: &Gotos<'_>,
-        goto: usize,
+        node: usize,
         body: &[Symbol],
     ) -> Result<(), OutOfMemory>
-        requires goto { goto < length gotos.now.gotos }
-        requires nodes { self.old.includes.nodes ≡ length gotos.now.gotos }
+        requires node { node < self.old.includes.nodes }
+        requires nodes { length gotos.now.gotos ≤ self.old.includes.nodes }
         requires count { length self.old.path.items ≡ length body.now }
         requires states { All (λ q. q.0 < length gotos.now.automaton.states) self.old.path.items }
         requires symbols { All (HasNumberTo gotos.now.automaton.grammar.accept) (map symbol_of body.now) }
         ensures nodes { OnOk result (self.new.includes.nodes ≡ self.old.includes.nodes) }
-        ensures includes { OnOk result (AreEdgesTo self.old.includes self.new.includes goto (λ i. (place : ℕ)
+        ensures includes { OnOk result (AreEdgesTo self.old.includes self.new.includes node (λ i. (place : ℕ)
             × IsIncludedAt gotos.now.automaton.grammar gotos.now.gotos (map symbol_of body.now)
             (map (λ q. q.0) self.old.path.items) place i)) }
         ensures lookbacks { self.new.lookbacks ≡ self.old.lookbacks }
@@ -147,7 +222,7 @@ impl Walks {
                 return Ok(());
             };
             if let Some(inner) = gotos.find(self.path[at], part) {
-                self.includes.add(inner, goto)?;
+                self.includes.add(inner, node)?;
             }
             if !gotos.lr0().reduced().is_nullable(part) {
                 return Ok(());

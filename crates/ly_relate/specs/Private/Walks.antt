@@ -1,10 +1,12 @@
 -- Walks over the bodies of rules.
-use Rattle.std.specs.Prelude.{◌≡◌, ◌↔◌, ◌⊎◌, ◌<◌, ◌≤◌, ◌+◌, ℕ, List, length, Option, Some, None, drop, take, reverse}
+use Rattle.std.specs.Prelude.{◌≡◌, ◌≢◌, ◌↔◌, ◌⊎◌, ◌<◌, ◌≤◌, ◌+◌, ℕ, List, length, Option, Some, None, drop, take, reverse}
 use Rattle.std.specs.Prelude.{slice_get, slice_index_or, Contains}
 use Rattle.ly_join.specs.Grammar.{Grammar, Symbol, nonterminal, terminal}
 use Rattle.ly_digraph.specs.Digraph.{Digraph, IsEdge}
 use Rattle.ly_grammar.specs.Derivations.{IsNullable}
 use Rattle.ly_lr0.specs.Automaton.{Lr0Automaton, Reaches, goto_of}
+use Rattle.ly_relate.specs.Private.Gotos.{Numbering}
+use Rattle.ly_relate.specs.Private.Groups.{Grouping, RuleLists, Leads, node_of, others_of, solid_of}
 use Rattle.ly_relate.specs.Relations.{Includes, LooksBack}
 use Rattle.ly_relate.specs.Related.{Goto, Lookback}
 
@@ -21,7 +23,7 @@ pub record AreLast (g : Digraph) (last : List (Option ℕ)) : Type 0 where
   pub long : length last ≡ g.nodes
   pub edges : (i j : ℕ) → slice_get last i ≡ Some (Some j) → IsEdge g i j
 
--- lookbacks to a transition were added, of those states and rules that meet a test
+-- lookbacks to a node were added, of those states and rules that meet a test
 abbrev pub AreBack : List Lookback → List Lookback → ℕ → (ℕ → ℕ → Type 0) → Type 0
 AreBack old new n P = (s p m : ℕ) → Contains new (record { state = s; rule = p; goto = m })
     ↔ (Contains old (record { state = s; rule = p; goto = m }) ⊎ ((m ≡ n) × P s p))
@@ -63,6 +65,46 @@ IsIncludingBy M gotos p i j = (x : Goto) × (y : Goto) × (slice_get gotos i ≡
 abbrev pub IsLookingBack : Lr0Automaton → List Goto → ℕ → ℕ → ℕ → Type 0
 IsLookingBack M gotos n s p =
     (x : Goto) × (slice_get gotos n ≡ Some x) × LooksBack M.grammar (goto_of M) s p x.from x.symbol
+
+-- by one of some rules
+abbrev pub IncludesByOne : Numbering → List ℕ → ℕ → ℕ → Type 0
+IncludesByOne n rules m i = (p : ℕ) × Contains rules p × IsIncludingBy n.automaton n.gotos p i m
+
+abbrev pub LooksBackByOne : Numbering → List ℕ → ℕ → ℕ → ℕ → Type 0
+LooksBackByOne n rules m s p = Contains rules p × IsLookingBack n.automaton n.gotos m s p
+
+-- edges were added
+abbrev pub AreEdgesBy : (ℕ → ℕ → Type 0) → Digraph → Digraph → Type 0
+AreEdgesBy P old new = (i o : ℕ) → IsEdge new i o ↔ (IsEdge old i o ⊎ P i o)
+
+-- lookbacks were added
+abbrev pub AreBackBy : (ℕ → ℕ → ℕ → Type 0) → List Lookback → List Lookback → Type 0
+AreBackBy P old new = (s p o : ℕ) → Contains new (record { state = s; rule = p; goto = o })
+    ↔ (Contains old (record { state = s; rule = p; goto = o }) ⊎ P s p o)
+
+-- where there is none
+abbrev pub no_goto : Goto
+no_goto = record { from = 0; symbol = 0; target = 0 }
+
+-- of the rules of a transition's nonterminal those that are in a list
+abbrev pub rules_at : Numbering → (ℕ → List ℕ) → ℕ → List ℕ
+rules_at n rules j = rules (slice_index_or n.gotos j no_goto).symbol
+
+-- What is said of transition j is said of a node: what is said by rules that begin with terminals of the one that stands
+-- for it, if it is the first there, and the rest of itself.
+abbrev pub IsSaidOf : Grouping → ℕ → Type 0 → Type 0 → ℕ → Type 0
+IsSaidOf w j other solid o = (other × (o ≡ j)) ⊎ (solid × Leads w j × (o ≡ node_of w j))
+
+-- the edges that come with transition j: those to it or its node, and one from its node to it
+abbrev pub EdgeFrom : Numbering → RuleLists → Grouping → ℕ → ℕ → ℕ → Type 0
+EdgeFrom n r w j i o =
+    IsSaidOf w j (IncludesByOne n (rules_at n (others_of r) j) j i) (IncludesByOne n (rules_at n (solid_of r) j) j i) o
+    ⊎ ((i ≡ node_of w j) × (i ≢ j) × (o ≡ j))
+
+-- the lookbacks that come with transition j
+abbrev pub BackFrom : Numbering → RuleLists → Grouping → ℕ → ℕ → ℕ → ℕ → Type 0
+BackFrom n r w j s p o = IsSaidOf w j (LooksBackByOne n (rules_at n (others_of r) j) j s p)
+    (LooksBackByOne n (rules_at n (solid_of r) j) j s p) o
 
 -- a nonterminal has a number up to this
 abbrev pub HasNumberTo : ℕ → Symbol → Type 0

@@ -2,8 +2,8 @@ use Rattle.std.proofs.Common.{◌≡◌, List, map, sym, subst}
 use Rattle.ly_digraph.specs.Digraph.{Digraph}
 use Rattle.ly_lr0.specs.Automaton.{Lr0Automaton}
 use Rattle.ly_relate.specs.Private.Gotos.{IsNumbering, Numbering}
-use Rattle.ly_relate.specs.Related.{AreDirect, AreEdges, AreLookbacks, AreRelations, DirectRead, Goto, IsIncluding}
-use Rattle.ly_relate.specs.Related.{IsRead}
+use Rattle.ly_relate.specs.Related.{AreDirect, AreEdges, AreGathered, AreLookbacks, AreRelations, DirectRead, Goto}
+use Rattle.ly_relate.specs.Related.{IsIncluding, IsRead}
 use Rattle.ly_relate.specs.Related.{Lookback}
 use Rattle.ly_relate.specs.Values.{direct_from, goto_from, lookback_from}
 use Rattle.ly_relate.proofs.GotoLemmas.{numbered_are}
@@ -14,7 +14,8 @@ are_relations : (M : Lr0Automaton) (gotos : List Goto) (n : Numbering) (direct :
     (reads includes : Digraph)
     (lookbacks : List Lookback) → IsNumbering n → n.automaton ≡ M → gotos ≡ n.gotos
     → AreDirect n.automaton n.gotos direct → AreEdges n.gotos (IsRead n.automaton n.gotos) reads
-    → AreEdges n.gotos (IsIncluding n.automaton n.gotos) includes → AreLookbacks n.automaton n.gotos lookbacks
+    → AreGathered n.gotos (IsIncluding n.automaton n.gotos) includes
+    → AreLookbacks n.automaton n.gotos includes lookbacks
     → AreRelations M
     (record { gotos = gotos; direct = direct; reads = reads; includes = includes; lookbacks = lookbacks })
 are_relations M gotos n direct reads includes lookbacks law same listed d r i l =
@@ -30,6 +31,8 @@ returns c =
     (map direct_from c.in_ok-direct.direct.items) c.in_ok-reads.reads c.into_graph.result
     (map lookback_from c.in_ok-walks.walks.lookbacks.items) (subst IsNumbering c.gotos.view_is c.gotos.invariant)
     c.in_ok-gotos.ensures c.into_list.ensures c.in_ok-direct.ensures c.in_ok-reads.ensures
-    (subst (AreEdges c.in_ok-gotos.gotos.gotos (IsIncluding c.in_ok-gotos.gotos.automaton c.in_ok-gotos.gotos.gotos))
-    (sym c.into_graph.ensures) c.in_ok-walks.ensures.includes)
-    c.in_ok-walks.ensures.lookbacks
+    (subst (AreGathered c.in_ok-gotos.gotos.gotos
+    (IsIncluding c.in_ok-gotos.gotos.automaton c.in_ok-gotos.gotos.gotos)) (sym c.into_graph.ensures)
+    c.in_ok-walks.ensures.includes)
+    (subst (λ g. AreLookbacks c.in_ok-gotos.gotos.automaton c.in_ok-gotos.gotos.gotos g
+    (map lookback_from c.in_ok-walks.walks.lookbacks.items)) (sym c.into_graph.ensures) c.in_ok-walks.ensures.lookbacks)

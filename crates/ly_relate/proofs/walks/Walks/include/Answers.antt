@@ -50,7 +50,7 @@ loop-at-init c =
       nodes = refl;
       nullable = subst (IsNullable G) (sym (drop_all (length c.args.body.now) body (omega (arith, long))))
           (none, tt, refl);
-      edges = edges_none c.args.self.now.includes c.args.goto (IncludedFrom G gotos body path (length c.args.body.now))
+      edges = edges_none c.args.self.now.includes c.args.node (IncludedFrom G gotos body path (length c.args.body.now))
           (λ i. subst (λ m. IncludedFrom G gotos body path m i → ⊥) long (included_past G gotos body path i));
     }
 
@@ -67,10 +67,10 @@ returns-in_default-clause-includes c =
     let le = c.loop-at.invariant.within in
     let is : slice_get body k ≡ Some (symbol_of (Terminal c.in_default.field-0))
     = shown_symbol c.args.body.now k (omega (arith, some, le)) ∙ ap (λ Y. Some (symbol_of Y)) c.in_default.is in
-    let behind = subst (λ m. AreEdgesTo first c.loop-at.self.includes c.args.goto
+    let behind = subst (λ m. AreEdgesTo first c.loop-at.self.includes c.args.node
     (IncludedFrom M.grammar gotos body path m))
     (let e : at ≡ k + 1 = omega (arith, some) in e) c.loop-at.invariant.edges in
-    edges_same first c.loop-at.self.includes c.args.goto (IncludedFrom M.grammar gotos body path (k + 1))
+    edges_same first c.loop-at.self.includes c.args.node (IncludedFrom M.grammar gotos body path (k + 1))
     (Included M.grammar gotos body path)
     (included_behind M.grammar gotos body path k c.in_default.field-0.0 is) behind
 
@@ -78,10 +78,10 @@ pub add-requires : goal.add-requires
 add-requires c =
     let nodes = c.loop-at.invariant.nodes in
     let count = c.requires.nodes in
-    let goto = c.requires.goto in
+    let node = c.requires.node in
     let found = c.in-Some.ensures in
     let lt = slice_get_within c.args.gotos.now.gotos c.in-Some.inner found.0 found.1 in
-    (omega (arith, nodes, count, lt), omega (arith, nodes, count, goto))
+    (omega (arith, nodes, count, lt), omega (arith, nodes, node))
 
 pub is_nullable-requires : goal.is_nullable-requires
 is_nullable-requires c =
@@ -114,22 +114,22 @@ returns-then-not-is_nullable-clause-includes c =
     (Nonterminal c.in-Nonterminal.part) c.in-Nonterminal.part.0 some c.loop-at.invariant.within
     (ap (λ v. v.items) c.loop-at.invariant.path) c.requires.count c.index.ensures c.in-Nonterminal.is refl
     c.loop-at.invariant.nullable in
-    let behind = subst (λ m. AreEdgesTo first c.loop-at.self.includes c.args.goto
+    let behind = subst (λ m. AreEdgesTo first c.loop-at.self.includes c.args.node
     (IncludedFrom M.grammar gotos body path m))
     (let e : at ≡ k + 1 = omega (arith, some) in e) c.loop-at.invariant.edges in
     let are = numbered_are c.args.gotos.now c.lr0.ensures.lawful in
-    let edges : AreEdgesTo first c.match-find.self.includes c.args.goto (IncludedFrom M.grammar gotos body path k)
+    let edges : AreEdgesTo first c.match-find.self.includes c.args.node (IncludedFrom M.grammar gotos body path k)
     = elim c.match-find.branch [
       | in-Some+in_ok-add w ↦
           let found = w.in-Some.ensures in
-          edges_found M gotos body path first c.loop-at.self.includes c.match-find.self.includes c.args.goto k
+          edges_found M gotos body path first c.loop-at.self.includes c.match-find.self.includes c.args.node k
           c.in-Nonterminal.part.0 c.index.result.now.0 w.in-Some.inner found.0 are place found.1 found.2 found.3
-          (subst (λ v. AreEdgesTo c.loop-at.self.includes v.includes c.args.goto (λ i. i ≡ w.in-Some.inner))
+          (subst (λ v. AreEdgesTo c.loop-at.self.includes v.includes c.args.node (λ i. i ≡ w.in-Some.inner))
           (sym w.self-is) w.in_ok-add.ensures.edges) behind
       | in_default-find w ↦
-          subst (λ v. AreEdgesTo first v.includes c.args.goto (IncludedFrom M.grammar gotos body path k))
+          subst (λ v. AreEdgesTo first v.includes c.args.node (IncludedFrom M.grammar gotos body path k))
           (sym w.self-is)
-          (edges_lacking M gotos body path first c.loop-at.self.includes c.args.goto k c.in-Nonterminal.part.0
+          (edges_lacking M gotos body path first c.loop-at.self.includes c.args.node k c.in-Nonterminal.part.0
           c.index.result.now.0 are place w.in_default-find.ensures behind)
     ] in
     let same = c.reduced.ensures ∙ ap (λ A. A.grammar) c.lr0.ensures.automaton in
@@ -137,7 +137,7 @@ returns-then-not-is_nullable-clause-includes c =
     = λ null. let on = c.is_nullable.ensures.1 (subst (λ g. IsNullable g (nonterminal c.in-Nonterminal.part.0 ∷ []))
     (sym same) null) in
     let off : true ≡ false = sym on ∙ c.if-not-is_nullable.true in cc in
-    edges_same first c.match-find.self.includes c.args.goto (IncludedFrom M.grammar gotos body path k)
+    edges_same first c.match-find.self.includes c.args.node (IncludedFrom M.grammar gotos body path k)
     (Included M.grammar gotos body path)
     (included_all M.grammar gotos body path k (nonterminal c.in-Nonterminal.part.0) place.symbol lacks) edges
 
@@ -156,22 +156,22 @@ loop-at-preserved c =
     (Nonterminal c.in-Nonterminal.part) c.in-Nonterminal.part.0 some c.loop-at.invariant.within
     (ap (λ v. v.items) c.loop-at.invariant.path) c.requires.count c.index.ensures c.in-Nonterminal.is refl
     c.loop-at.invariant.nullable in
-    let behind = subst (λ m. AreEdgesTo first c.loop-at.self.includes c.args.goto
+    let behind = subst (λ m. AreEdgesTo first c.loop-at.self.includes c.args.node
     (IncludedFrom M.grammar gotos body path m))
     (let e : at ≡ k + 1 = omega (arith, some) in e) c.loop-at.invariant.edges in
     let are = numbered_are c.args.gotos.now c.lr0.ensures.lawful in
-    let edges : AreEdgesTo first c.match-find.self.includes c.args.goto (IncludedFrom M.grammar gotos body path k)
+    let edges : AreEdgesTo first c.match-find.self.includes c.args.node (IncludedFrom M.grammar gotos body path k)
     = elim c.match-find.branch [
       | in-Some+in_ok-add w ↦
           let found = w.in-Some.ensures in
-          edges_found M gotos body path first c.loop-at.self.includes c.match-find.self.includes c.args.goto k
+          edges_found M gotos body path first c.loop-at.self.includes c.match-find.self.includes c.args.node k
           c.in-Nonterminal.part.0 c.index.result.now.0 w.in-Some.inner found.0 are place found.1 found.2 found.3
-          (subst (λ v. AreEdgesTo c.loop-at.self.includes v.includes c.args.goto (λ i. i ≡ w.in-Some.inner))
+          (subst (λ v. AreEdgesTo c.loop-at.self.includes v.includes c.args.node (λ i. i ≡ w.in-Some.inner))
           (sym w.self-is) w.in_ok-add.ensures.edges) behind
       | in_default-find w ↦
-          subst (λ v. AreEdgesTo first v.includes c.args.goto (IncludedFrom M.grammar gotos body path k))
+          subst (λ v. AreEdgesTo first v.includes c.args.node (IncludedFrom M.grammar gotos body path k))
           (sym w.self-is)
-          (edges_lacking M gotos body path first c.loop-at.self.includes c.args.goto k c.in-Nonterminal.part.0
+          (edges_lacking M gotos body path first c.loop-at.self.includes c.args.node k c.in-Nonterminal.part.0
           c.index.result.now.0 are place w.in_default-find.ensures behind)
     ] in
     let same = c.reduced.ensures ∙ ap (λ A. A.grammar) c.lr0.ensures.automaton in
@@ -211,5 +211,5 @@ returns-clause-includes c =
     let body = map symbol_of c.args.body.now in
     let path = map (λ q. q.0) c.args.self.now.path.items in
     let zero : c.loop-at.at ≡ 0 = (let e = c.loop-at-test.false in omega (arith, e)) in
-    edges_same first c.loop-at.self.includes c.args.goto (IncludedFrom G gotos body path c.loop-at.at)
+    edges_same first c.loop-at.self.includes c.args.node (IncludedFrom G gotos body path c.loop-at.at)
     (Included G gotos body path) (included_whole G gotos body path c.loop-at.at zero) c.loop-at.invariant.edges

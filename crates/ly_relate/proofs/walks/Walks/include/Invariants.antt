@@ -12,7 +12,7 @@ invariant-loop-at l = record {
   lookbacks : l.self.lookbacks ≡ l.initial.self.lookbacks;
   nodes : l.self.includes.nodes ≡ l.initial.self.includes.nodes;
   nullable : IsNullable l.gotos.automaton.grammar (drop l.at (map symbol_of l.body));
-  edges : AreEdgesTo l.initial.self.includes l.self.includes l.goto (λ i. (place : ℕ) × (l.at ≤ place)
+  edges : AreEdgesTo l.initial.self.includes l.self.includes l.node (λ i. (place : ℕ) × (l.at ≤ place)
       × IsIncludedAt l.gotos.automaton.grammar l.gotos.gotos (map symbol_of l.body)
       (map (λ q. q.0) l.initial.self.path.items) place i);
 }

@@ -14,10 +14,6 @@ pub pass-requires : goal.pass-requires
 pass-requires c =
     (numbered_states c.args.gotos.now c.get.ensures.lawful c.args.goto (goto_from c.get.result) c.get.ensures.there).0
 
-pub include-requires-clause-goto : goal.include-requires-clause-goto
-include-requires-clause-goto c = slice_get_within c.args.gotos.now.gotos c.args.goto
-    (goto_from c.get.result) c.get.ensures.there
-
 pub returns-in_ok-include-clause-includes : goal.returns-in_ok-include-clause-includes
 returns-in_ok-include-clause-includes c =
     let n = c.args.gotos.now in
@@ -29,10 +25,10 @@ returns-in_ok-include-clause-includes c =
     let passed : IsPassed n.automaton c.get.result.from.0 body (length c.body-body.result.now) path c.in-Some.state.0
     = subst (λ o. MatchOption o (IsStopped n.automaton c.get.result.from.0 body) (λ s. IsPassed n.automaton
     c.get.result.from.0 body (length c.body-body.result.now) path s.0)) c.in-Some.is c.in_ok-state.ensures.passed in
-    subst (λ g. AreEdgesTo g c.include.new.self.includes c.args.goto
+    subst (λ g. AreEdgesTo g c.include.new.self.includes c.args.node
     (λ i. IsIncludingBy n.automaton n.gotos c.args.rule i c.args.goto))
     c.in_ok-state.ensures.includes
-    (included_by n c.get.ensures.lawful c.args.goto c.args.rule c.get.result.from.0 body
+    (included_by n c.get.ensures.lawful c.args.goto c.args.node c.args.rule c.get.result.from.0 body
     (length c.body-body.result.now) path
     c.in-Some.state.0 c.pass.new.self.includes c.include.new.self.includes is
     (sym (length-map c.body-body.result.now symbol_of)) passed c.in_ok-include.ensures.includes)
@@ -48,9 +44,9 @@ returns-in_ok-include-clause-lookbacks c =
     let passed : IsPassed n.automaton c.get.result.from.0 body (length c.body-body.result.now) path c.in-Some.state.0
     = subst (λ o. MatchOption o (IsStopped n.automaton c.get.result.from.0 body) (λ s. IsPassed n.automaton
     c.get.result.from.0 body (length c.body-body.result.now) path s.0)) c.in-Some.is c.in_ok-state.ensures.passed in
-    let v : code.Lookback = record { state = c.in-Some.state; rule = c.args.rule; goto = c.args.goto } in
+    let v : code.Lookback = record { state = c.in-Some.state; rule = c.args.rule; goto = c.args.node } in
     let before = ap (λ l. map lookback_from l.items) c.in_ok-state.ensures.lookbacks in
-    back_by n c.get.ensures.lawful c.args.goto c.args.rule c.get.result.from.0 body (length c.body-body.result.now) path
+    back_by n c.get.ensures.lawful c.args.goto c.args.node c.args.rule c.get.result.from.0 body (length c.body-body.result.now) path
     c.in-Some.state.0 (map lookback_from c.args.self.now.lookbacks.items)
     (map lookback_from c.include.new.self.lookbacks.items) is
     (sym (length-map c.body-body.result.now symbol_of)) passed

@@ -1,0 +1,170 @@
+//! Transitions over the same nonterminal from which rules lead alike: what such a rule says of one it says of each. So
+//! one node stands for all of them, and these rules are walked from the first one alone.
+ghost use Rattle.std.specs.Prelude.{◌≡◌, ◌<◌, ◌+◌, ◌↔◌, ℕ, Contains, IfOk, IfSome, IsTrue, OnOk, length};
+ghost use Rattle.ly_join.specs.Grammar.{IsRule, GrammarRule};
+ghost use Rattle.ly_relate.specs.Private.Groups.{AreAlike, AreAllParted, AreGroups, IsNodeBeside, IsNodeFor, LeadAlike, LeadsAlike};
+ghost use Rattle.ly_relate.specs.Private.Groups.{Leads, node_of, solid_of};
+
+use crate::gotos::Gotos;
+use crate::parted_rules::PartedRules;
+use ly_base::{OutOfMemory, StateNo};
+use ly_lr0::Lr0;
+use std::alloc::Global;
+use std::marker::Model;
+
+/// Where fewer rules lead alike, it takes as long to see this as to walk them.
+const FEWEST: usize = 8;
+
+/// The nodes that stand for transitions.
+#[derive(Drop)]
+pub(crate) struct Groups {
+    /// The node of each transition: its own number, or one past all transitions.
+    nodes: Vec<usize>,
+    /// For each node past all transitions the first that it stands for.
+    leaders: Vec<usize>,
+    /// How many nodes there are.
+    end: usize,
+}
+
+impl Model for Groups {
+    ghost use Rattle.ly_relate.specs.Private.Groups.{Grouping};
+
+    ghost Value = { Grouping };
+
+    ghost view = { λ g. record { nodes = g.nodes.items; leaders = g.leaders.items; end = g.end } };
+}
+
+impl Groups {
+    /// The nodes of all transitions. Each is compared with the last one over the same nonterminal that wasn't joined to
+    /// another.
+    pub(crate) fn new(
+        alloc: Global,
+        gotos: &Gotos<'_>,
+        rules: &PartedRules,
+    ) -> Result<Groups, OutOfMemory>
+        requires { AreAllParted gotos.now.automaton rules.now }
+        ensures { IfOk result (AreGroups gotos.now (solid_of rules.now) (length gotos.now.gotos)) }
+    {
+        let mut groups = Groups {
+            nodes: Vec::with_capacity(alloc, gotos.len())?,
+            leaders: Vec::new(alloc),
+            end: gotos.len(),
+        };
+        let mut last = vec![in alloc; None; rules.len()]?;
+        for goto in 0..gotos.len() {
+            let symbol = gotos.get(goto).symbol.0 as usize;
+            let node = groups.node_for(gotos, rules, goto, last[symbol])?;
+            if node == goto {
+                last[symbol] = Some(goto);
+            }
+            groups.nodes.push(node)?;
+        }
+        Ok(groups)
+    }
+
+    /// The node of the next transition: that of an earlier one, if it leads alike, and else its own.
+    fn node_for(
+        &mut self,
+        gotos: &Gotos<'_>,
+        rules: &PartedRules,
+        goto: usize,
+        earlier: Option<usize>,
+    ) -> Result<usize, OutOfMemory>
+        requires rules { AreAllParted gotos.now.automaton rules.now }
+        requires goto { goto < length gotos.now.gotos }
+        requires earlier { IfSome earlier (λ e. e < goto) }
+        requires before { AreGroups gotos.now (solid_of rules.now) goto self.old }
+        ensures after { OnOk result (AreGroups gotos.now (solid_of rules.now) goto self.new) }
+        ensures node { IfOk result (IsNodeFor gotos.now (solid_of rules.now) self.new goto) }
+    {
+        if let Some(leader) = earlier {
+            if lead_alike(gotos, rules, leader, goto) {
+                return self.node_beside(leader);
+            }
+        }
+        Ok(goto)
+    }
+
+    /// The node of a transition, which is to stand for others too.
+    fn node_beside(&mut self, goto: usize) -> Result<usize, OutOfMemory>
+        requires { goto < length self.old.nodes }
+        ensures { IfOk result (IsNodeBeside self.old self.new goto) }
+    {
+        if self.nodes[goto] == goto {
+            self.nodes[goto] = self.end;
+            self.end = self.end.checked_add(1).ok_or(OutOfMemory)?;
+            self.leaders.push(goto)?;
+        }
+        Ok(self.nodes[goto])
+    }
+
+    /// How many nodes there are.
+    pub(crate) fn len(&self) -> usize
+        ensures { result ≡ self.now.end }
+    {
+        self.end
+    }
+
+    /// The node of a transition.
+    pub(crate) fn node(&self, goto: usize) -> usize
+        requires { goto < length self.now.nodes }
+        ensures { result ≡ node_of self.now goto }
+    {
+        self.nodes[goto]
+    }
+
+    /// Whether a transition is the first that its node stands for.
+    pub(crate) fn leads(&self, goto: usize) -> bool
+        requires here { goto < length self.now.nodes }
+        requires within { node_of self.now goto < length self.now.nodes + length self.now.leaders }
+        ensures { IsTrue result ↔ Leads self.now goto }
+    {
+        let node = self.nodes[goto];
+        let transitions = self.nodes.len();
+        node < transitions || self.leaders[node - transitions] == goto
+    }
+}
+
+/// Whether two transitions are over one nonterminal, and its rules that begin with terminals lead alike.
+fn lead_alike(gotos: &Gotos<'_>, rules: &PartedRules, one: usize, other: usize) -> bool
+    requires rules { AreAllParted gotos.now.automaton rules.now }
+    requires one { one < length gotos.now.gotos }
+    requires other { other < length gotos.now.gotos }
+    ensures { IsTrue result → AreAlike gotos.now (solid_of rules.now) one other }
+{
+    let one = gotos.get(one);
+    let other = gotos.get(other);
+    if one.symbol != other.symbol {
+        return false;
+    }
+    let solid = rules.solid(one.symbol);
+    solid.len() >= FEWEST && all_lead_alike(gotos.lr0(), solid, one.from, other.from)
+}
+
+/// Whether the first symbols of rules lead from two states to the same ones.
+fn all_lead_alike(lr0: &Lr0<'_>, rules: &[usize], one: StateNo, other: StateNo) -> bool
+    requires one { one.0 < length lr0.now.states }
+    requires other { other.0 < length lr0.now.states }
+    requires rules { (k : ℕ) → Contains rules.now k → (r : GrammarRule) × IsRule lr0.now.grammar k r }
+    ensures { IsTrue result → LeadAlike lr0.now rules.now one.0 other.0 }
+{
+    for &rule in rules {
+        if !leads_alike(lr0, rule, one, other) {
+            return false;
+        }
+    }
+    true
+}
+
+/// Whether the first symbol of a rule leads from two states to the same one.
+fn leads_alike(lr0: &Lr0<'_>, rule: usize, one: StateNo, other: StateNo) -> bool
+    requires one { one.0 < length lr0.now.states }
+    requires other { other.0 < length lr0.now.states }
+    requires rule { (r : GrammarRule) × IsRule lr0.now.grammar rule r }
+    ensures { IsTrue result → LeadsAlike lr0.now rule one.0 other.0 }
+{
+    match lr0.reduced().grammar().rule(rule).body().first() {
+        Some(symbol) => lr0.goto(one, *symbol) == lr0.goto(other, *symbol),
+        None => false,
+    }
+}
