@@ -1,5 +1,5 @@
 -- Where symbols lead by transitions in the order of their symbols.
-use Rattle.std.proofs.Common.{◌≡◌, inl, inr, ℕ, ◌+◌, ◌<◌, ◌≤◌, List, [], ◌∷◌, Option, Some, None}
+use Rattle.std.proofs.Common.{◌≡◌, inl, inr, ℕ, ◌+◌, ◌-◌, ◌<◌, ◌≤◌, List, [], ◌∷◌, Option, Some, None}
 use Rattle.std.proofs.Common.{refl, sym, ◌∙◌, ap, subst, arith, length, map}
 use Rattle.std.specs.Prelude.{slice_get, slice_index_or}
 use Rattle.std.proofs.lemmas.Bool.{cases_order}
@@ -12,12 +12,10 @@ use Rattle.ly_lr0.specs.declared.transition.Transition as code
 use Rattle.ly_lr0.specs.declared.transition.Link as link
 use Rattle.ly_lr0.specs.declared.transition.Row.{Row}
 use Rattle.ly_lr0.specs.Private.Built.{AreInOrder, IsBuilt, automaton_from, link_of, prefixes_of, transitions_of}
+use Rattle.ly_lr0.specs.Private.Places.{IsPlace, symbol_at}
 use Rattle.ly_lr0.specs.Transitions.{transition_of}
 use Rattle.ly_lr0.proofs.OrderLemmas.{less_off, less_trans}
 use Rattle.ly_lr0.proofs.StateLemmas.{count_of, goto_of-rows, length-fold, state_of, target_at, target_some}
-
-abbrev pub symbol_at : List code.Transition → ℕ → code.Transition → Symbol
-symbol_at ts k d = symbol_of (slice_index_or ts k d).symbol
 
 module _ (ts : List code.Transition) (ordered : AreInOrder (map transition_of ts)) where
   shown : (k : ℕ) (d : code.Transition) → slice_index_or (map transition_of ts) k (transition_of d)
@@ -63,18 +61,32 @@ module _ (ts : List code.Transition) (ordered : AreInOrder (map transition_of ts
     shown k t ∙ ap transition_of (get_or_from_slice_get ts k t t is),
   )
 
-  -- where the symbols before a place are before the symbol, and those from it on are behind it, it leads nowhere
-  pub leads_nowhere : (X : Symbol) (low : ℕ) (e : code.Transition)
-      → ((k : ℕ) (d : code.Transition) → k < low → IsLess (symbol_at ts k d) X)
-      → ((k : ℕ) (d : code.Transition) → low ≤ k → k < length ts → IsLess (symbol_at ts k d) X → ⊥)
-      → (low < length ts → symbol_at ts low e ≡ X → ⊥) → target_of (map transition_of ts) X ≡ None
-  leads_nowhere X low e before behind other = at (target_of (map transition_of ts) X) refl where
+  -- what a list has past its end says nothing of a transition that is there
+  pub less_any : (X : Symbol) (k : ℕ) (d e : code.Transition) → k < length ts → IsLess (symbol_at ts k e) X
+      → IsLess (symbol_at ts k d) X
+  less_any X k d e inside less = subst (λ Y. IsLess Y X) (same_at k e d inside) less
+
+  -- a place is the symbol's by the transitions on both sides of it
+  pub place_between : (X : Symbol) (place : ℕ) → place ≤ length ts
+      → (0 < place → (d : code.Transition) → IsLess (symbol_at ts (place - 1) d) X)
+      → (place < length ts → (d : code.Transition) → IsLess (symbol_at ts place d) X → ⊥) → IsPlace ts X place
+  place_between X place within before behind = record {
+    within = within;
+    before = λ k d l. before_to X (place - 1) d (omega (arith, l, within)) (before (omega (arith, l)) d) k d
+        (omega (arith, l));
+    behind = λ k d l m. behind_from X place d (omega (arith, l, m)) (behind (omega (arith, l, m)) d) k d l m;
+  }
+
+  -- where another symbol's transition or none stands at a symbol's place, the symbol leads nowhere
+  pub leads_nowhere : (X : Symbol) (place : ℕ) (e : code.Transition) → IsPlace ts X place
+      → (place < length ts → symbol_at ts place e ≡ X → ⊥) → target_of (map transition_of ts) X ≡ None
+  leads_nowhere X place e is_place other = at (target_of (map transition_of ts) X) refl where
     off : (n k : ℕ) → k < length ts → symbol_at ts k e ≡ X → ⊥
-    off n k l is = elim (cases_order k low) [
+    off n k l is = elim (cases_order k place) [
       | inl same ↦ other (omega (arith, same, l)) (subst (λ m. symbol_at ts m e ≡ X) same is)
-      | inr (inl less) ↦ less_off X (subst (λ Y. IsLess Y X) is (before k e less))
-      | inr (inr past) ↦ behind low e (omega arith) (omega (arith, past, l))
-          (subst (IsLess (symbol_at ts low e)) is (less_at low k e past l))
+      | inr (inl less) ↦ less_off X (subst (λ Y. IsLess Y X) is (is_place.before k e less))
+      | inr (inr past) ↦ is_place.behind place e (omega arith) (omega (arith, past, l))
+          (subst (IsLess (symbol_at ts place e)) is (less_at place k e past l))
     ]
 
     at : (o : Option ℕ) → target_of (map transition_of ts) X ≡ o → target_of (map transition_of ts) X ≡ None

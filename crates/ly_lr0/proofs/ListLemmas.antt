@@ -10,8 +10,10 @@ use Rattle.std.specs.declared.cmp.Ordering.{Ordering}
 use Rattle.std.specs.declared.cmp.Ordering.TheVariants.{Less, Equal, Greater}
 use Rattle.std.proofs.lemmas.Bool.{and_parts, eqb-true}
 use Rattle.std.proofs.lemmas.Cmp.{ranked}
-use Rattle.std.proofs.lemmas.List.Elements.{Contains-append_left, Contains-push, Contains-push_cases}
+use Rattle.std.proofs.lemmas.List.Elements.{Contains-append_cases, Contains-append_left, Contains-append_right}
+use Rattle.std.proofs.lemmas.List.Elements.{Contains-push, Contains-push_cases}
 use Rattle.std.proofs.lemmas.List.Kept.{AllPairs-cons}
+use Rattle.ly_base.proofs.MemberLemmas.{Contains-none}
 use Rattle.ly_join.specs.Grammar.{Grammar, symbol_of, terminal}
 use Rattle.ly_join.specs.declared.symbol.Symbol as code
 use Rattle.ly_join.specs.declared.symbol.Symbol.TheVariants.{Terminal, Nonterminal}
@@ -54,6 +56,24 @@ listed_rule P items items' rs rs' q are grown more i = (
   where
     one : (i : Item) → q ≡ i.rule → i.dot ≡ 0 → record { rule = q; dot = 0 } ≡ i
     one i a b = ap (λ n. record { rule = n; dot = 0 }) a ∙ ap (λ n. record { rule = i.rule; dot = n }) (sym b)
+
+-- the kernel's own items behind the rules
+pub listed_kernel : (lists : List (List ℕ)) (kernel items items' : List Item) (es : List ℕ)
+    → ((i : Item) → Contains items i ↔ IsListed lists [] es i) → items' ≡ items ++ kernel
+    → (i : Item) → Contains items' i ↔ IsListed lists kernel es i
+listed_kernel lists kernel items items' es are more i = (
+  λ c. elim (Contains-append_cases items kernel i (subst (λ xs. Contains xs i) more c)) [
+    | inl old ↦ elim ((are i).0 old) [
+      | inl none ↦ Contains-none i none
+      | inr x ↦ inr x
+    ]
+    | inr k ↦ inl k
+  ],
+  λ h. subst (λ xs. Contains xs i) (sym more) (elim h [
+    | inl k ↦ Contains-append_right items kernel i k
+    | inr x ↦ Contains-append_left items kernel i ((are i).1 (inr x))
+  ]),
+)
 
 pub listed_left : (lists : List (List ℕ)) (kernel items : List Item) (es es' rs : List ℕ) (A : ℕ)
     → ((i : Item) → Contains items i ↔ (IsListed lists kernel es i ⊎ (Contains rs i.rule × (i.dot ≡ 0))))

@@ -3,3 +3,4 @@ pub mod Closing
 pub mod Found
 pub mod Items
 pub mod Kernels
+pub mod Places

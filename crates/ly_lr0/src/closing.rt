@@ -94,12 +94,13 @@ pub(crate) fn list_items(
         → Contains items.new.items i ↔ IsListed by_left.now kernel.now entered.now i) }
 {
     items.clear();
-    items.extend_from_slice(kernel)?;
     for left in entered {
         for &rule in by_left.of(Sym(*left)) {
             items.push(Item { rule, dot: 0 })?;
         }
     }
+    // Dots of the kernel mostly stand before nonterminals, which come behind terminals: so moves are nearly sorted.
+    items.extend_from_slice(kernel)?;
     Ok(())
 }
 

@@ -89,12 +89,13 @@ impl<'a> Found<'a> {
     {
         let from = self.rows.len();
         let mut transitions = Vec::new(self.alloc);
+        let mut kernel = Vec::new(self.alloc);
         let mut at = 0;
         while at < moves.len() {
             let symbol = moves[at].symbol;
             let end = group_end(moves, at);
-            let kernel = items_of(self.alloc, &moves[at..end])?;
-            let target = self.number(kernel, Link { from, symbol })?;
+            items_of(&moves[at..end], &mut kernel)?;
+            let target = self.number(&kernel, Link { from, symbol })?;
             transitions.push(Transition { symbol, target })?;
             at = end;
         }
@@ -102,26 +103,26 @@ impl<'a> Found<'a> {
     }
 
     /// The number of a kernel, which gets the next one where it is new.
-    fn number(&mut self, kernel: Vec<Item>, link: Link) -> Result<StateNo, Lr0Fault>
+    fn number(&mut self, kernel: &[Item], link: Link) -> Result<StateNo, Lr0Fault>
         requires { length self.old.kernels ≤ self.old.limit }
-        ensures numbered { IfOk result (λ s. IsNumbered self.old.kernels (links_of self.old) kernel.items (link_of link)
+        ensures numbered { IfOk result (λ s. IsNumbered self.old.kernels (links_of self.old) kernel.now (link_of link)
             self.new.kernels (links_of self.new) s.0) }
         ensures few { OnOk result (length self.new.kernels ≤ self.new.limit) }
         ensures rows { self.new.rows ≡ self.old.rows }
         ensures reduced { self.new.reduced ≡ self.old.reduced }
         ensures limit { self.new.limit ≡ self.old.limit }
         ensures full { IsErrOf result Lr0Fault.TooManyStates →
-            (length self.old.kernels ≡ self.old.limit) × IsAbsent self.old.kernels kernel.items }
+            (length self.old.kernels ≡ self.old.limit) × IsAbsent self.old.kernels kernel.now }
     {
         let limit = self.limit as usize;
-        if let Some(known) = self.kernels.find(&kernel) {
+        if let Some(known) = self.kernels.find(kernel) {
             return Ok(StateNo(known as u32));
         }
         let count = self.kernels.len();
         if count >= limit {
             return Err(Lr0Fault::TooManyStates);
         }
-        self.kernels.push(kernel)?;
+        self.kernels.push(Vec::from_slice(self.alloc, kernel)?)?;
         self.links.push(link)?;
         Ok(StateNo(count as u32))
     }
@@ -140,13 +141,13 @@ fn group_end(moves: &[Move], at: usize) -> usize
     end
 }
 
-/// The items of moves.
-fn items_of(alloc: Global, moves: &[Move]) -> Result<Vec<Item>, AllocError>
-    ensures { IfOk result (λ items. items.items ≡ map (λ m. m.item) moves.now) }
+/// Fills a list with the items of moves.
+fn items_of(moves: &[Move], items: &mut Vec<Item>) -> Result<(), AllocError>
+    ensures { OnOk result (items.new.items ≡ map (λ m. m.item) moves.now) }
 {
-    let mut items = Vec::new(alloc);
+    items.clear();
     for step in moves {
         items.push(step.item)?;
     }
-    Ok(items)
+    Ok(())
 }

@@ -1,7 +1,8 @@
-ghost use Rattle.std.specs.Prelude.{◌≡◌, ◌<◌, ◌≤◌, ◌↔◌, ℕ, Contains, IfOk, IsTrue, length, map, option_map};
+ghost use Rattle.std.specs.Prelude.{◌≡◌, ◌<◌, ◌≤◌, ◌↔◌, ℕ, Contains, IfOk, IsSome, IsTrue, length, map, option_map};
 ghost use Rattle.ly_join.specs.Grammar.{symbol_of};
 ghost use Rattle.ly_lr0.specs.Automaton.{target_of, IsLess};
 ghost use Rattle.ly_lr0.specs.Private.Built.{AreInOrder};
+ghost use Rattle.ly_lr0.specs.Private.Places.{IsPlace};
 ghost use Rattle.ly_lr0.specs.Transitions.{transition_of};
 
 use crate::by_left::RulesByLeft;
@@ -70,7 +71,25 @@ impl<'a> Lr0<'a> {
         requires { state.0 < length self.now.states }
         ensures { option_map (λ s. s.0) result ≡ goto_of self.now state.0 (symbol_of symbol) }
     {
-        target(&self.rows[state.0 as usize].transitions, symbol)
+        let transitions: &[Transition] = &self.rows[state.0 as usize].transitions;
+        target_at(transitions, place_of(transitions, symbol), symbol)
+    }
+
+    /// Where a symbol leads from a state. Its transition is looked for at a place among those of the state, and by a
+    /// search if it isn't that; then the place is the one behind it. So symbols that rise are found without a search.
+    pub fn goto_near(&self, state: StateNo, symbol: Symbol, place: &mut usize) -> Option<StateNo>
+        requires { state.0 < length self.now.states }
+        ensures { option_map (λ s. s.0) result ≡ goto_of self.now state.0 (symbol_of symbol) }
+    {
+        let transitions: &[Transition] = &self.rows[state.0 as usize].transitions;
+        if !is_place_of(transitions, *place, symbol) {
+            *place = place_of(transitions, symbol);
+        }
+        let found = target_at(transitions, *place, symbol);
+        if found.is_some() {
+            *place += 1;
+        }
+        found
     }
 
     /// The numbers of the rules that are complete in a state, rising.
@@ -106,10 +125,10 @@ impl<'a> Lr0<'a> {
     }
 }
 
-/// Where the transition over a symbol leads, of transitions in the order of their symbols.
-fn target(transitions: &[Transition], symbol: Symbol) -> Option<StateNo>
+/// The place of a symbol's transition among others in the order of their symbols, or where it would stand.
+fn place_of(transitions: &[Transition], symbol: Symbol) -> usize
     requires { AreInOrder (map transition_of transitions.now) }
-    ensures { option_map (λ s. s.0) result ≡ target_of (map transition_of transitions.now) (symbol_of symbol) }
+    ensures { IsPlace transitions.now (symbol_of symbol) result }
 {
     let mut low = 0;
     let mut high = transitions.len();
@@ -121,7 +140,36 @@ fn target(transitions: &[Transition], symbol: Symbol) -> Option<StateNo>
             high = middle;
         }
     }
-    let transition = transitions.get(low)?;
+    low
+}
+
+/// Whether a place is that of a symbol's transition, or the one where it would stand.
+fn is_place_of(transitions: &[Transition], place: usize, symbol: Symbol) -> bool
+    requires { AreInOrder (map transition_of transitions.now) }
+    ensures { IsTrue result ↔ IsPlace transitions.now (symbol_of symbol) place }
+{
+    if place > transitions.len() {
+        return false;
+    }
+    if place > 0 {
+        if !comes_before(transitions[place - 1].symbol, symbol) {
+            return false;
+        }
+    }
+    if place == transitions.len() {
+        return true;
+    }
+    !comes_before(transitions[place].symbol, symbol)
+}
+
+/// Where a symbol's transition leads, by its place.
+fn target_at(transitions: &[Transition], place: usize, symbol: Symbol) -> Option<StateNo>
+    requires ordered { AreInOrder (map transition_of transitions.now) }
+    requires place { IsPlace transitions.now (symbol_of symbol) place }
+    ensures target { option_map (λ s. s.0) result ≡ target_of (map transition_of transitions.now) (symbol_of symbol) }
+    ensures inside { IsSome result → place < length transitions.now }
+{
+    let transition = transitions.get(place)?;
     if transition.symbol == symbol {
         Some(transition.target)
     } else {

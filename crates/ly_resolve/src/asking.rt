@@ -10,8 +10,9 @@ use ly_lookahead::Lookaheads;
 use ly_lr0::Lr0;
 use std::alloc::AllocError;
 
-/// Whether a shift is asked for in a state before a terminal. Behind the start symbol that of the end is.
-pub(crate) fn asks_shift(lr0: &Lr0<'_>, state: StateNo, terminal: Sym) -> bool
+/// Whether a shift is asked for in a state before a terminal. Behind the start symbol that of the end is. The terminal's
+/// transition is looked for at a place first, which gets to be the one behind it.
+pub(crate) fn asks_shift(lr0: &Lr0<'_>, state: StateNo, terminal: Sym, place: &mut usize) -> bool
     requires lawful { IsLr0Automaton lr0.now }
     requires state { state.0 < length lr0.now.states }
     ensures { IsTrue result ↔ IsRaw lr0.now.grammar (prefix_of lr0.now state.0) terminal.0 shift }
@@ -23,7 +24,8 @@ pub(crate) fn asks_shift(lr0: &Lr0<'_>, state: StateNo, terminal: Sym) -> bool
             None => false,
         }
     } else {
-        lr0.goto(state, Symbol::Terminal(terminal)).is_some()
+        lr0.goto_near(state, Symbol::Terminal(terminal), place)
+            .is_some()
     }
 }
 

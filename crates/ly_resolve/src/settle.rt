@@ -95,8 +95,9 @@ fn resolve_state(
         (map (conflict_from sources.now.lr0.now) told.new.conflicts.items) told.new.conflict_free) }
     ensures inside { OnOk result (All (IsInside sources.now.lr0.now) told.new.conflicts.items) }
 {
-    let mut row = Vec::new(alloc);
+    let mut row = Vec::with_capacity(alloc, sources.lr0.transitions(state).len())?;
     let mut reductions = Vec::new(alloc);
+    let mut place = 0;
     for terminal in 0..sources.lr0.reduced().grammar().terminals() {
         let terminal = Sym(terminal);
         find_reductions(
@@ -109,7 +110,7 @@ fn resolve_state(
         let meeting = Meeting {
             spec: sources.spec,
             terminal,
-            shift: asks_shift(sources.lr0, state, terminal),
+            shift: asks_shift(sources.lr0, state, terminal, &mut place),
             reductions: &reductions,
         };
         if let Some(action) = meeting.action() {

@@ -19,5 +19,5 @@ returns-in-None c = (
 
 pub returns-else-terminal-eq0 : goal.returns-else-terminal-eq0
 returns-else-terminal-eq0 c = asks_terminal c.args.lr0.now c.requires.lawful c.args.state.0 c.args.terminal.0
-    c.goto-else-terminal-eq0.result c.is_some.result c.requires.state c.if-terminal-eq0.false
-    c.goto-else-terminal-eq0.ensures c.is_some.ensures
+    c.goto_near.result c.is_some.result c.requires.state c.if-terminal-eq0.false
+    c.goto_near.ensures c.is_some.ensures

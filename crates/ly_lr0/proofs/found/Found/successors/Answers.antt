@@ -55,7 +55,7 @@ returns-in_err-target-clause-many c = λ failed.
     c.len-from.result c.args.moves.now c.loop-at.at was.entered c.group_end-end.result c.group_end-end.ensures
     (subst (λ r. IsAugmented r.now.grammar) (sym was.reduced) is.augmented)
     (subst (λ r. IsReduced r.now.grammar) (sym was.reduced) is.reduced)
-    f.limit full.0 (subst (IsAbsent f.kernels) c.in_ok-kernel.ensures full.1)))
+    f.limit full.0 (subst (IsAbsent f.kernels) (c.deref.ensures.value ∙ c.in_ok-items_of.ensures) full.1)))
 
 pub loop-at-preserved : goal.loop-at-preserved
 loop-at-preserved c =
@@ -76,8 +76,8 @@ loop-at-preserved c =
     let kernel = map (λ m. m.item) (slice_range c.args.moves.now c.loop-at.at end) in
     let more = entered_more G f.kernels (links_of f) (rows_of f) (map transition_of c.loop-at.transitions.items)
     c.len-from.result c.args.moves.now c.loop-at.at was.entered end c.group_end-end.ensures t.kernels (links_of t) n
-    (subst (λ k. IsNumbered f.kernels (links_of f) k link t.kernels (links_of t) n) c.in_ok-kernel.ensures
-    ens.numbered) in
+    (subst (λ k. IsNumbered f.kernels (links_of f) k link t.kernels (links_of t) n)
+    (c.deref.ensures.value ∙ c.in_ok-items_of.ensures) ens.numbered) in
     let pushed = ap (map transition_of) c.in_ok-push.ensures.items
     ∙ map_push transition_of c.loop-at.transitions.items _ in
     record {

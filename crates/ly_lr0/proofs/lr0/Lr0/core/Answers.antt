@@ -2,8 +2,8 @@ use Rattle.std.proofs.Common.{◌≡◌, ◌∙◌, ◌<◌, ◌-◌, ◌∷◌,
 use Rattle.std.specs.Prelude.{◌↔◌, Contains}
 use Rattle.std.proofs.lemmas.List.{get_or-map, length-map}
 use Rattle.std.proofs.Math.Seq.{drop-cons}
-use Rattle.ly_join.specs.Grammar.{Grammar, symbol_of}
-use Rattle.ly_lr0.specs.Automaton.{Lr0Automaton, HasInCore, prefix_of}
+use Rattle.ly_join.specs.Grammar.{symbol_of}
+use Rattle.ly_lr0.specs.Automaton.{Lr0Automaton, HasInCore}
 use Rattle.ly_lr0.specs.Private.Closing.{AreKept}
 use Rattle.ly_lr0.specs.Private.Items.{IsClosed, IsKernel, IsMovedOver}
 use Rattle.ly_lr0.specs.declared.item.Item.{Item}

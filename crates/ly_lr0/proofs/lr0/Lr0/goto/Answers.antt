@@ -15,15 +15,27 @@ index-requires c =
     let less = c.requires in
     omega arith
 
-pub target-requires : goal.target-requires
-target-requires c =
+pub place_of-requires : goal.place_of-requires
+place_of-requires c =
     let view = ap (λ (M : Lr0Automaton). length M.states) c.self.view_is in
     let links = c.self.inside.links.items in
     let rows = c.self.inside.rows.items in
     let s = c.args.state.0 in
     let many = count_of links rows c.self.invariant.count in
     let less : s < length rows = let l = c.requires in omega arith in
-    subst (λ ts. AreInOrder (map transition_of ts)) (sym c.deref.ensures.value)
+    subst (λ ts. AreInOrder (map transition_of ts)) (sym c.deref-transitions.ensures.value)
+    (row_ordered c.self.inside.reduced.now.grammar links rows s c.index.result.now c.self.invariant less
+    c.index.ensures)
+
+pub target_at-requires-clause-ordered : goal.target_at-requires-clause-ordered
+target_at-requires-clause-ordered c =
+    let view = ap (λ (M : Lr0Automaton). length M.states) c.self.view_is in
+    let links = c.self.inside.links.items in
+    let rows = c.self.inside.rows.items in
+    let s = c.args.state.0 in
+    let many = count_of links rows c.self.invariant.count in
+    let less : s < length rows = let l = c.requires in omega arith in
+    subst (λ ts. AreInOrder (map transition_of ts)) (sym c.deref-transitions.ensures.value)
     (row_ordered c.self.inside.reduced.now.grammar links rows s c.index.result.now c.self.invariant less
     c.index.ensures)
 
@@ -36,7 +48,7 @@ returns c =
     let X = symbol_of c.args.symbol in
     let many = count_of links rows c.self.invariant.count in
     let less : s < length rows = let l = c.requires in omega arith in
-    c.target.ensures ∙ ap (λ ts. target_of (map transition_of ts) X) c.deref.ensures.value
-    ∙ row_leads c.self.inside.reduced.now.grammar links rows s c.index.result.now c.self.invariant less c.index.ensures
-    X
+    c.target_at.ensures.target ∙ ap (λ ts. target_of (map transition_of ts) X) c.deref-transitions.ensures.value
+    ∙ row_leads c.self.inside.reduced.now.grammar links rows s c.index.result.now c.self.invariant less
+    c.index.ensures X
     ∙ ap (λ M. goto_of M s X) c.self.view_is

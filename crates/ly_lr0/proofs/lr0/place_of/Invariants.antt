@@ -2,7 +2,7 @@ use Rattle.std.proofs.Common.{◌<◌, ◌≤◌, ◌-◌, ℕ, length, slice_in
 use Rattle.ly_join.specs.Grammar.{symbol_of}
 use Rattle.ly_lr0.specs.Automaton.{IsLess}
 use Rattle.ly_lr0.specs.declared.transition.Transition.{Transition}
-use Rattle.ly_lr0.proofs.lr0.target.Given as goal
+use Rattle.ly_lr0.proofs.lr0.place_of.Given as goal
 
 -- transitions before the low end come before the symbol, and those from the high end on don't
 abbrev pub invariant-loop-low : goal.invariant-loop-low
