@@ -1,10 +1,12 @@
 -- A rule that is walked from where a transition begins.
-use Rattle.std.proofs.Common.{◌≡◌, ◌∙◌, ◌⊎◌, ◌↔◌, inl, inr, ℕ, List, [], ◌∷◌, ◌++◌, Some}
-use Rattle.std.proofs.Common.{sym, ap, subst, length, slice_get, Contains}
+use Rattle.std.proofs.Common.{◌≡◌, ◌∙◌, ◌⊎◌, ◌↔◌, ◌<◌, inl, inr, ℕ, List, [], ◌∷◌, ◌++◌, Some}
+use Rattle.std.proofs.Common.{map, sym, ap, subst, length, slice_get, Contains}
+use Rattle.std.proofs.lemmas.Option.{slice_get_within}
 use Rattle.std.proofs.lemmas.List.Elements.{Contains-append_cases, Contains-append_left, Contains-append_right}
 use Rattle.ly_base.proofs.MemberLemmas.{Contains-first, Contains-one}
 use Rattle.ly_digraph.specs.Digraph.{Digraph}
-use Rattle.ly_join.specs.Grammar.{Grammar, IsRule, GrammarRule, Symbol}
+use Rattle.ly_join.specs.Grammar.{Grammar, IsRule, GrammarRule, Symbol, symbol_of}
+use Rattle.ly_join.specs.declared.symbol.Symbol as symbol
 use Rattle.ly_grammar.specs.Reduction.{KeepsUseful}
 use Rattle.ly_grammar.proofs.SearchLemmas.{rule_is_one}
 use Rattle.ly_relate.specs.Private.Gotos.{IsNumbering, Numbering}
@@ -42,6 +44,25 @@ walked n m rule g G R q body here (x, at, r, is_rule, is_left) keeps same is e =
       is_body = e ∙ ap (λ w. w.body) (rule_is_one G rule q r is kept);
       begins = ap (λ w. w.from) begins;
     }
+
+-- the body of a rule of a reduced grammar, read from the grammar that was reduced
+pub body_is : (rule : ℕ) (G R K : Grammar) (q r : GrammarRule) (body : List Symbol) → KeepsUseful G R → R ≡ K
+    → IsRule G rule q → body ≡ q.body → IsRule K rule r → r.body ≡ body
+body_is rule G R K q r body keeps same is e is_rule =
+    let kept = ((keeps.rules rule r).0 (subst (λ A. IsRule A rule r) (sym same) is_rule)).0 in
+    ap (λ w. w.body) (rule_is_one G rule r q kept is) ∙ sym e
+
+-- a rule of a reduced grammar has its number in the grammar that was reduced
+pub rule_within : (rule : ℕ) (G R K : Grammar) → KeepsUseful G R → R ≡ K → (r : GrammarRule) × IsRule K rule r
+    → rule < length G.rules
+rule_within rule G R K keeps same (r, is_rule) =
+    slice_get_within G.rules rule (Some r) ((keeps.rules rule r).0 (subst (λ A. IsRule A rule r) (sym same) is_rule)).0
+
+-- what stands first in a body, as contracts see it
+pub first_seen : (body : List symbol.Symbol) (X : symbol.Symbol) → slice_get body 0 ≡ Some X
+    → (rest : List Symbol) × (map symbol_of body ≡ symbol_of X ∷ rest)
+first_seen [] X is = absurd (cc)
+first_seen (Y ∷ body) X is = (map symbol_of body, (let e : Y ≡ X = cc in ap (λ Z. symbol_of Z ∷ map symbol_of body) e))
 
 -- what was passed of the body, as that of the rule
 own_passed : (n : Numbering) (m rule from : ℕ) (body : List Symbol) (count : ℕ) (path : List ℕ) (s : ℕ)

@@ -72,7 +72,7 @@ back_same old new n P Q same are s p m = (to, back) where
   back (inr (e, is)) = (are s p m).1 (inr (e, (same s p).1 is))
 
 -- one more of the first of a list
-take_Contains : (rules : List ℕ) (k : ℕ) (d p : ℕ) → k < length rules
+pub take_Contains : (rules : List ℕ) (k : ℕ) (d p : ℕ) → k < length rules
     → Contains (take (k + 1) rules) p ↔ (Contains (take k rules) p ⊎ (slice_index_or rules k d ≡ p))
 take_Contains rules k d p lt = (to, back) where
   to : Contains (take (k + 1) rules) p → Contains (take k rules) p ⊎ (slice_index_or rules k d ≡ p)

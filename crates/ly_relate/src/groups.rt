@@ -1,6 +1,6 @@
 //! Transitions over the same nonterminal from which rules lead alike: what such a rule says of one it says of each. So
 //! one node stands for all of them, and these rules are walked from the first one alone.
-ghost use Rattle.std.specs.Prelude.{◌≡◌, ◌<◌, ◌+◌, ◌↔◌, ℕ, Contains, IfOk, IfSome, IsTrue, OnOk, length};
+ghost use Rattle.std.specs.Prelude.{◌≡◌, ◌<◌, ◌+◌, ◌++◌, ◌↔◌, ℕ, [], ◌∷◌, Contains, IfOk, IfSome, IsTrue, OnOk, length, option_map};
 ghost use Rattle.ly_join.specs.Grammar.{IsRule, GrammarRule};
 ghost use Rattle.ly_relate.specs.Private.Groups.{AreAlike, AreAllParted, AreGroups, IsNodeBeside, IsNodeFor, LeadAlike, LeadsAlike};
 ghost use Rattle.ly_relate.specs.Private.Groups.{Leads, node_of, solid_of};
@@ -57,7 +57,7 @@ impl Groups {
             if node == goto {
                 last[symbol] = Some(goto);
             }
-            groups.nodes.push(node)?;
+            groups.push(node)?;
         }
         Ok(groups)
     }
@@ -79,7 +79,7 @@ impl Groups {
     {
         if let Some(leader) = earlier {
             if lead_alike(gotos, rules, leader, goto) {
-                return self.node_beside(leader);
+                return Ok(self.node_beside(leader)?);
             }
         }
         Ok(goto)
@@ -96,6 +96,14 @@ impl Groups {
             self.leaders.push(goto)?;
         }
         Ok(self.nodes[goto])
+    }
+
+    /// Adds the node of the next transition.
+    fn push(&mut self, node: usize) -> Result<(), OutOfMemory>
+        ensures { OnOk result (self.new ≡ record self.old { nodes = self.old.nodes ++ node ∷ [] }) }
+    {
+        self.nodes.push(node)?;
+        Ok(())
     }
 
     /// How many nodes there are.
@@ -134,7 +142,7 @@ fn lead_alike(gotos: &Gotos<'_>, rules: &PartedRules, one: usize, other: usize) 
 {
     let one = gotos.get(one);
     let other = gotos.get(other);
-    if one.symbol != other.symbol {
+    if one.symbol.0 != other.symbol.0 {
         return false;
     }
     let solid = rules.solid(one.symbol);
@@ -148,23 +156,27 @@ fn all_lead_alike(lr0: &Lr0<'_>, rules: &[usize], one: StateNo, other: StateNo) 
     requires rules { (k : ℕ) → Contains rules.now k → (r : GrammarRule) × IsRule lr0.now.grammar k r }
     ensures { IsTrue result → LeadAlike lr0.now rules.now one.0 other.0 }
 {
+    let mut place = 0;
+    let mut beside = 0;
     for &rule in rules {
-        if !leads_alike(lr0, rule, one, other) {
+        let Some(symbol) = lr0.reduced().grammar().rule(rule).body().first() else {
+            return false;
+        };
+        let target = lr0.goto_near(one, *symbol, &mut place);
+        let found = lr0.goto_near(other, *symbol, &mut beside);
+        if !are_same(target, found) {
             return false;
         }
     }
     true
 }
 
-/// Whether the first symbol of a rule leads from two states to the same one.
-fn leads_alike(lr0: &Lr0<'_>, rule: usize, one: StateNo, other: StateNo) -> bool
-    requires one { one.0 < length lr0.now.states }
-    requires other { other.0 < length lr0.now.states }
-    requires rule { (r : GrammarRule) × IsRule lr0.now.grammar rule r }
-    ensures { IsTrue result → LeadsAlike lr0.now rule one.0 other.0 }
+/// Whether there are two states, and they are the same.
+fn are_same(one: Option<StateNo>, other: Option<StateNo>) -> bool
+    ensures { IsTrue result → option_map (λ s. s.0) one ≡ option_map (λ s. s.0) other }
 {
-    match lr0.reduced().grammar().rule(rule).body().first() {
-        Some(symbol) => lr0.goto(one, *symbol) == lr0.goto(other, *symbol),
-        None => false,
+    match (one, other) {
+        (Some(one), Some(other)) => one.0 == other.0,
+        _ => false,
     }
 }

@@ -1,7 +1,6 @@
 use Rattle.std.proofs.Common.{◌∙◌, ◌++◌, ◌∷◌, [], length, map, sym, ap, subst}
 use Rattle.std.specs.Prelude.{MatchOption}
 use Rattle.std.proofs.lemmas.List.{length-map, map-append}
-use Rattle.std.proofs.lemmas.Option.{slice_get_within}
 use Rattle.ly_join.specs.Grammar.{symbol_of}
 use Rattle.ly_relate.specs.Private.Walks.{AreEdgesTo, IsIncludingBy, IsPassed, IsStopped}
 use Rattle.ly_relate.specs.Values.{goto_from, lookback_from}

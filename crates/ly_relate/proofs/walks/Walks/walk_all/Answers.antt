@@ -1,7 +1,6 @@
-use Rattle.std.proofs.Common.{◌≡◌, ◌∙◌, ◌<◌, ◌↔◌, ◌⊎◌, inl, inr, ℕ, [], arith, length, map, subst, sym, ap, Contains}
+use Rattle.std.proofs.Common.{◌≡◌, ◌∙◌, ◌<◌, ◌↔◌, ℕ, arith, length, map, subst, ap, Contains}
 use Rattle.ly_base.proofs.MemberLemmas.{Contains-none}
 use Rattle.ly_digraph.specs.Digraph.{IsEdge}
-use Rattle.ly_relate.specs.Private.Gotos.{IsNumbering}
 use Rattle.ly_relate.specs.Private.Walks.{BackFrom, EdgeFrom}
 use Rattle.ly_relate.specs.Values.{lookback_from}
 use Rattle.ly_relate.proofs.GroupLemmas.{are_gathered, are_lookbacks, below_more}
