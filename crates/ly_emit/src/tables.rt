@@ -88,18 +88,21 @@ fn fill_actions(
     ensures filled { OnOk result (AreActionsTo resolved.now.automaton (judge_of resolved.now.spec) (state.0 + 1)
         (dense_entry actions.new)) }
 {
+    let mut place = 0;
     for entry in row {
-        let action = table_action(resolved.lr0(), state, *entry)?;
+        let action = table_action(resolved.lr0(), state, *entry, &mut place)?;
         actions.set(state, entry.terminal.0 as usize, Some(action))?;
     }
     Ok(())
 }
 
-/// What the table has where this is done.
+/// What the table has where this is done. A shift's transition is looked for at a place first, which gets to be the one
+/// behind it.
 fn table_action(
     lr0: &Lr0<'_>,
     state: StateNo,
     entry: TerminalAction,
+    place: &mut usize,
 ) -> Result<TableAction, OutOfMemory>
     requires lawful { IsLr0Automaton lr0.now }
     requires state { state.0 < length lr0.now.states }
@@ -109,7 +112,7 @@ fn table_action(
         (entry_action a)) }
 {
     match entry.action {
-        Action::Shift => Ok(shift_action(lr0, state, entry.terminal)),
+        Action::Shift => Ok(shift_action(lr0, state, entry.terminal, place)),
         Action::Reduce(rule) => match u32::try_from(rule) {
             Ok(number) => Ok(TableAction::Reduce(RuleNo(number))),
             Err(_) => Err(OutOfMemory),
@@ -119,7 +122,7 @@ fn table_action(
 }
 
 /// Where a terminal is shifted to; the end is accepted.
-fn shift_action(lr0: &Lr0<'_>, state: StateNo, terminal: Sym) -> TableAction
+fn shift_action(lr0: &Lr0<'_>, state: StateNo, terminal: Sym, place: &mut usize) -> TableAction
     requires lawful { IsLr0Automaton lr0.now }
     requires state { state.0 < length lr0.now.states }
     requires shifted { IsRaw lr0.now.grammar (prefix_of lr0.now state.0) terminal.0 shift }
@@ -128,7 +131,10 @@ fn shift_action(lr0: &Lr0<'_>, state: StateNo, terminal: Sym) -> TableAction
     if terminal.0 == 0 {
         return TableAction::Accept;
     }
-    TableAction::Shift(lr0.goto(state, Symbol::Terminal(terminal)).unwrap())
+    TableAction::Shift(
+        lr0.goto_near(state, Symbol::Terminal(terminal), place)
+            .unwrap(),
+    )
 }
 
 /// Where each state goes by each nonterminal.

@@ -10,7 +10,7 @@ use ly_lookahead::Lookaheads;
 use ly_lr0::Lr0;
 use std::alloc::AllocError;
 
-/// Whether a shift is asked for in a state before a terminal. Behind the start symbol that of the end is. The terminal's
+/// Whether a shift is asked for in a state before a terminal. Behind the start symbol that of the end is. A terminal's
 /// transition is looked for at a place first, which gets to be the one behind it.
 pub(crate) fn asks_shift(lr0: &Lr0<'_>, state: StateNo, terminal: Sym, place: &mut usize) -> bool
     requires lawful { IsLr0Automaton lr0.now }

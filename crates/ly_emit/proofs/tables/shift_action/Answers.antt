@@ -8,5 +8,5 @@ pub unwrap-requires : goal.unwrap-requires
 unwrap-requires c =
     let leads = (terminal_shifted c.args.lr0.now c.requires.lawful c.args.state.0 c.args.terminal.0 c.requires.state
     c.if-terminal-eq0.false).1 c.requires.shifted in
-    let is = option_map-some (λ s. s.0) c.goto.result leads.0 (c.goto.ensures ∙ leads.1) in
+    let is = option_map-some (λ s. s.0) c.goto_near.result leads.0 (c.goto_near.ensures ∙ leads.1) in
     subst IsSome (sym is.1) refl

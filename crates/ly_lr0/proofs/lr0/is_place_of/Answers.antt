@@ -23,7 +23,8 @@ returns-then-place-transitions-2 c =
       λ _. place_between ts c.requires X place within
           (λ l d. elim c.if-place-gt0.branch [
             | then-place-gt0+else-not-comes_before w ↦ less_any ts c.requires X (place - 1) d _
-                (omega (arith, l, within)) (w.comes_before.ensures.0 (let off = w.if-not-comes_before.false in search rules))
+                (omega (arith, l, within))
+                (w.comes_before.ensures.0 (let off = w.if-not-comes_before.false in search rules))
             | else-place-gt0 w ↦ absurd (let low = w.if-place-gt0.false in omega (arith, l, low))
           ])
           (λ l d less. omega (arith, l, end)),
@@ -41,7 +42,8 @@ returns c =
       λ held. place_between ts c.requires X place within
           (λ l d. elim c.if-place-gt0.branch [
             | then-place-gt0+else-not-comes_before w ↦ less_any ts c.requires X (place - 1) d _
-                (omega (arith, l, within)) (w.comes_before.ensures.0 (let off = w.if-not-comes_before.false in search rules))
+                (omega (arith, l, within))
+                (w.comes_before.ensures.0 (let off = w.if-not-comes_before.false in search rules))
             | else-place-gt0 w ↦ absurd (let low = w.if-place-gt0.false in omega (arith, l, low))
           ])
           (λ l d less. not_both c.comes_before-2.result held
