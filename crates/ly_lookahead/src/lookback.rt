@@ -1,7 +1,7 @@
 ghost use Rattle.std.specs.Prelude.{◌≡◌, ◌<◌, ◌^◌, length, slice_get, slice_index_or, AllPairs, Contains};
 ghost use Rattle.std.specs.Prelude.{MatchOption, Some};
 ghost use Rattle.ly_lr0.specs.Automaton.{IsLr0Automaton};
-ghost use Rattle.ly_relate.specs.Related.{AreRelations};
+ghost use Rattle.ly_lookahead.specs.Private.Next.{AreRelations};
 ghost use Rattle.ly_lookahead.specs.Private.Rows.{AreRows};
 ghost use Rattle.ly_lookahead.specs.Private.Sets.{AreLookedBack};
 
@@ -9,11 +9,11 @@ use ly_lr0::Lr0;
 use ly_relate::Relations;
 use ly_sets::SetMatrix;
 
-/// Puts what follows transitions into the rows of the rules that look back to them.
+/// Puts what follows transitions into the rows of the rules that look back to them, or to nodes that gather them.
 pub(crate) fn look_back(lr0: &Lr0<'_>, relations: &Relations, first: &[usize], sets: &mut SetMatrix)
     requires lawful { IsLr0Automaton lr0.now }
     requires relations { AreRelations lr0.now relations.now }
-    requires rows { AreRows lr0.now (length relations.now.gotos) (length lr0.now.states) first.now }
+    requires rows { AreRows lr0.now relations.now.includes.nodes (length lr0.now.states) first.now }
     requires long { length sets.old.sets ≡ slice_index_or first.now (length lr0.now.states) 0 }
     requires few { length sets.old.sets < 2 ^ 64 }
     ensures rows { length sets.new.sets ≡ length sets.old.sets }
