@@ -1,5 +1,5 @@
 -- The least sets along reads are Read, and those along includes Follow.
-use Rattle.std.proofs.Common.{◌≡◌, ◌∙◌, ◌⊎◌, inl, inr, ◌<◌, ◌≤◌, ◌↔◌, ℕ, List, Contains, Some, arith, length, refl}
+use Rattle.std.proofs.Common.{◌≡◌, ◌∙◌, inl, inr, ◌<◌, ◌≤◌, ◌↔◌, ℕ, List, Contains, Some, arith, length, refl}
 use Rattle.std.proofs.Common.{slice_get, slice_index_or, subst, sym}
 use Rattle.std.proofs.lemmas.Bool.{cases_lt}
 use Rattle.std.proofs.lemmas.Option.{slice_get-get_or, slice_get_within}
