@@ -1,6 +1,5 @@
 pub mod FromRelations
 pub mod LookaheadLemmas
-pub mod NextLemmas
 pub mod ReadLemmas
 pub mod RowLemmas
 pub mod SetLemmas

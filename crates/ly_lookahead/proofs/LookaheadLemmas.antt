@@ -16,13 +16,12 @@ use Rattle.ly_sets.specs.NumberSet.{NumberSet, Member}
 use Rattle.ly_sets.specs.SetMatrix.{row}
 use Rattle.ly_lr0.specs.Automaton.{Lr0Automaton, IsLr0Automaton, Reaches, State, goto_of, state_at}
 use Rattle.ly_lr0.proofs.StateLemmas.{target_some}
-use Rattle.ly_relate.specs.Related.{DirectRead, Goto, Lookback, Relations}
+use Rattle.ly_relate.specs.Related.{AreRelations, DirectRead, Goto, Lookback, Relations, StandsFor}
 use Rattle.ly_relate.specs.Relations.{DirectlyReads, Follow, LookaheadBy, LooksBack}
 use Rattle.ly_relate.proofs.GotoLemmas.{leads_from}
 use Rattle.ly_relate.proofs.LeaveLemmas.{symbol_within}
 use Rattle.ly_relate.proofs.ReachLemmas.{apart}
 use Rattle.ly_lookahead.specs.Lookaheads.{AreLookaheads}
-use Rattle.ly_lookahead.specs.Private.Next.{AreRelations, StandsFor}
 use Rattle.ly_lookahead.specs.Private.Rows.{AreRows}
 use Rattle.ly_lookahead.specs.Private.Sets.{AreFollowSets, AreLookedBack, IsInside}
 use Rattle.ly_lookahead.proofs.FromRelations.{lookahead_from}

@@ -10,11 +10,10 @@ use Rattle.ly_digraph.specs.Digraph.Reaches.{here, along}
 use Rattle.ly_digraph.specs.Least.{IsBetween, IsLeast}
 use Rattle.ly_digraph.proofs.LeastLemmas.{along_way}
 use Rattle.ly_lr0.specs.Automaton.{Lr0Automaton, goto_of}
-use Rattle.ly_relate.specs.Related.{AreEdges, AreRelated, Goto, Relations}
+use Rattle.ly_relate.specs.Related.{AreEdges, AreRelated, AreRelations, Goto, Relations, StandsFor}
 use Rattle.ly_relate.specs.Relations.{DirectlyReads, Follow, Includes, Read, Reads, along_includes, along_reads}
 use Rattle.ly_relate.specs.Relations.{by_read}
 use Rattle.ly_relate.specs.Relations.{directly}
-use Rattle.ly_lookahead.specs.Private.Next.{AreRelations, StandsFor}
 use Rattle.ly_lookahead.specs.Private.Sets.{AreDirectSets, AreFollowSets, FollowsGathered}
 
 -- what the least rows hold was in a row that they reach

@@ -1,3 +1,2 @@
-pub mod Next
 pub mod Rows
 pub mod Sets

@@ -2,7 +2,7 @@
 //! includes that gathers transitions begins with an empty row, and gets what follows them.
 ghost use Rattle.std.specs.Prelude.{◌≡◌, ◌≤◌, length, map, All, IfOk};
 ghost use Rattle.ly_lr0.specs.Automaton.{IsLr0Automaton};
-ghost use Rattle.ly_lookahead.specs.Private.Next.{AreRelations};
+ghost use Rattle.ly_relate.specs.Related.{AreRelations};
 ghost use Rattle.ly_relate.specs.Values.{direct_from};
 ghost use Rattle.ly_lookahead.specs.Private.Sets.{AreDirectSets, AreFollowSets, IsInside};
 

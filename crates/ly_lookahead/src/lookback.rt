@@ -1,7 +1,7 @@
 ghost use Rattle.std.specs.Prelude.{◌≡◌, ◌<◌, ◌^◌, length, slice_get, slice_index_or, AllPairs, Contains};
 ghost use Rattle.std.specs.Prelude.{MatchOption, Some};
 ghost use Rattle.ly_lr0.specs.Automaton.{IsLr0Automaton};
-ghost use Rattle.ly_lookahead.specs.Private.Next.{AreRelations};
+ghost use Rattle.ly_relate.specs.Related.{AreRelations};
 ghost use Rattle.ly_lookahead.specs.Private.Rows.{AreRows};
 ghost use Rattle.ly_lookahead.specs.Private.Sets.{AreLookedBack};
 

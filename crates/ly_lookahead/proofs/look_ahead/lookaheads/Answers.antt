@@ -6,7 +6,6 @@ use Rattle.ly_relate.specs.Related.{Relations}
 use Rattle.ly_lookahead.specs.Private.Rows.{AreRows}
 use Rattle.ly_lookahead.specs.Private.Sets.{AreLookedBack}
 use Rattle.ly_lookahead.proofs.LookaheadLemmas.{are_lookaheads, rows_count}
-use Rattle.ly_lookahead.proofs.NextLemmas.{next_relations}
 use Rattle.ly_lookahead.proofs.look_ahead.lookaheads.Goals as goal
 
 -- the rows behind those of the nodes as they are counted
@@ -27,14 +26,6 @@ last_is M nodes n first i x rows e is =
     let long = rows.long in
     ap (λ k. slice_index_or first k 0) (sym e) ∙ read_is first i x 0 (omega (arith, long, e)) is
 
-pub follow_sets-requires-clause-relations : goal.follow_sets-requires-clause-relations
-follow_sets-requires-clause-relations c =
-    next_relations c.args.lr0.now c.in_ok-relations.relations c.in_ok-relations.ensures
-
-pub look_back-requires-clause-relations : goal.look_back-requires-clause-relations
-look_back-requires-clause-relations c =
-    next_relations c.args.lr0.now c.in_ok-relations.relations c.in_ok-relations.ensures
-
 pub follow_sets-requires-clause-room : goal.follow_sets-requires-clause-room
 follow_sets-requires-clause-room c =
     let M = c.args.lr0.now in
@@ -44,7 +35,7 @@ follow_sets-requires-clause-room c =
     c.nodes.ensures.count c.in_ok-first.ensures in
     let last = last_is M R.includes.nodes (length M.states) first c.states.result c.index.result.now rows
     c.states.ensures.count c.index.ensures in
-    let le = rows_count M c.states.ensures.lawful R (next_relations M R c.in_ok-relations.ensures) first rows in
+    let le = rows_count M c.states.ensures.lawful R c.in_ok-relations.ensures first rows in
     omega (arith, last, le)
 
 pub returns : goal.returns
@@ -60,7 +51,7 @@ returns c =
     c.states.ensures.count c.index.ensures in
     let old = c.in_ok-sets.sets.sets in
     let new = c.look_back.new.sets.sets in
-    are_lookaheads M c.states.ensures.lawful R (next_relations M R c.in_ok-relations.ensures) first rows inside old new
+    are_lookaheads M c.states.ensures.lawful R c.in_ok-relations.ensures first rows inside old new
     c.in_ok-sets.ensures.follows
     (subst (λ f. AreLookedBack M f R.lookbacks old new) c.deref.ensures.value c.look_back.ensures.united)
     (c.look_back.ensures.rows ∙ (c.in_ok-sets.ensures.rows ∙ sym last))

@@ -7,10 +7,9 @@ use Rattle.std.specs.FinSet as set
 use Rattle.ly_join.proofs.ListLemmas.{member_at}
 use Rattle.ly_sets.specs.SetMatrix.{row}
 use Rattle.ly_lr0.specs.Automaton.{Lr0Automaton, IsLr0Automaton}
-use Rattle.ly_relate.specs.Related.{Relations}
+use Rattle.ly_relate.specs.Related.{AreRelations, Relations}
 use Rattle.ly_relate.specs.declared.walks.Lookback as lookback
 use Rattle.ly_relate.specs.Values.{lookback_from}
-use Rattle.ly_lookahead.specs.Private.Next.{AreRelations}
 use Rattle.ly_lookahead.specs.Private.Sets.{AreLookedBack}
 use Rattle.ly_lookahead.proofs.LookaheadLemmas.{complete_once, complete_rising, lookback_within, place_within}
 use Rattle.ly_lookahead.proofs.LookaheadLemmas.{rows_apart, rows_count}
