@@ -3,20 +3,21 @@ use Rattle.std.proofs.Common.{◌≡◌, ◌∙◌, ◌⊎◌, inl, inr, ◌↔�
 use Rattle.std.proofs.Common.{None, Option, Some}
 use Rattle.std.proofs.Common.{All, ap, arith, length, map, refl, slice_get, slice_index_or, subst, sym}
 use Rattle.std.specs.List.{AllPairs}
-use Rattle.std.proofs.lemmas.Bool.{cases_order}
-use Rattle.std.proofs.lemmas.List.Elements.{All-weaker, All-contains_itself}
+use Rattle.std.proofs.lemmas.Bool.{cases_lt, cases_order}
+use Rattle.std.proofs.lemmas.List.Elements.{All-contains, All-weaker, All-contains_itself}
 use Rattle.std.proofs.lemmas.Option.{get_or_from_slice_get, slice_get_within}
 use Rattle.ly_join.specs.Grammar.{Grammar, IsAugmented, IsRule, GrammarRule, Symbol, accept_rule, nonterminal, terminal}
 use Rattle.ly_join.proofs.ListLemmas.{member_at}
 use Rattle.ly_grammar.specs.Items.{HasNoEnd, Valid, at_start, closed, moved}
 use Rattle.ly_grammar.proofs.ItemLemmas.{body_of, zero_item, zero_split}
 use Rattle.ly_grammar.proofs.SearchLemmas.{rule_is_one}
+use Rattle.ly_digraph.specs.Digraph.{IsInside as JoinsNodes}
 use Rattle.ly_sets.specs.NumberSet.{NumberSet, Member}
 use Rattle.ly_sets.specs.SetMatrix.{row}
 use Rattle.ly_lr0.specs.Automaton.{Lr0Automaton, IsLr0Automaton, Reaches, State, goto_of, state_at}
 use Rattle.ly_lr0.proofs.StateLemmas.{target_some}
-use Rattle.ly_relate.specs.Related.{AreRelations, DirectRead, Goto, Lookback, Relations}
-use Rattle.ly_relate.specs.Relations.{DirectlyReads, LookaheadBy, LooksBack}
+use Rattle.ly_relate.specs.Related.{AreRelations, DirectRead, Goto, Lookback, Relations, StandsFor}
+use Rattle.ly_relate.specs.Relations.{DirectlyReads, Follow, LookaheadBy, LooksBack}
 use Rattle.ly_relate.proofs.GotoLemmas.{leads_from}
 use Rattle.ly_relate.proofs.LeaveLemmas.{symbol_within}
 use Rattle.ly_relate.proofs.ReachLemmas.{apart}
@@ -24,7 +25,8 @@ use Rattle.ly_lookahead.specs.Lookaheads.{AreLookaheads}
 use Rattle.ly_lookahead.specs.Private.Rows.{AreRows}
 use Rattle.ly_lookahead.specs.Private.Sets.{AreFollowSets, AreLookedBack, IsInside}
 use Rattle.ly_lookahead.proofs.FromRelations.{lookahead_from}
-use Rattle.ly_lookahead.proofs.RowLemmas.{past_gotos, rises, row_once}
+use Rattle.ly_lookahead.proofs.ReadLemmas.{goto_at, one_goto}
+use Rattle.ly_lookahead.proofs.RowLemmas.{past_nodes, rises, row_once}
 use Rattle.ly_lookahead.proofs.ToRelations.{lookahead_to}
 
 -- the body of rule 0
@@ -133,15 +135,16 @@ module _ (M : Lr0Automaton) (is : IsLr0Automaton M) where
   complete_once s i j p lt a b = rising_once (state_at M s).complete i j p (complete_rising s lt) a b
 
   module _ (R : Relations) (are : AreRelations M R) where
-    -- a lookback is of a state and of a transition
+    -- a lookback is of a state and of a node
     pub lookback_within : (l : Lookback) → Contains R.lookbacks l
-        → (l.state < length M.states) × (l.goto < length R.gotos)
+        → (l.state < length M.states) × (l.goto < R.includes.nodes)
     lookback_within l has =
-        let at = (are.lookbacks l.state l.rule l.goto).0 has in
+        let node = are.lookbacks.stands l has in
+        let at = (are.lookbacks.back l.state l.rule node.1 node.2).0 (l.goto, has, node.3) in
         let b = at.2 in
         let from = b.from in
         let start = leads_within at.0.from from.0 (nonterminal at.0.symbol) from.1 in
-        (reaches_within at.0.from b.before l.state start.0 b.leads, slice_get_within R.gotos l.goto at.0 at.1)
+        (reaches_within at.0.from b.before l.state start.0 b.leads, node.0)
 
     -- a direct read is of a transition, and of a terminal
     pub direct_within : (d : DirectRead) → Contains R.direct d
@@ -153,15 +156,16 @@ module _ (M : Lr0Automaton) (is : IsLr0Automaton M) where
         below : (s A t : ℕ) → DirectlyReads M.grammar (goto_of M) s A t → t < M.grammar.terminals
         below s A t (r, e, l) = leaves_within l.2.0 l.2.1 l.2.2 l.2.3.0 is.augmented l.2.3.1
 
-    pub direct_inside : (rows width : ℕ) → length R.gotos ≤ rows → M.grammar.terminals ≡ width
+    pub direct_inside : (rows width : ℕ) → R.includes.nodes ≤ rows → M.grammar.terminals ≡ width
         → All (IsInside rows width) R.direct
     direct_inside rows width le same = All-weaker (Contains R.direct) (IsInside rows width) (λ d has.
         let both = direct_within d has in
+        let most = are.includes.nodes in
         let lt = both.0 in
         let below = both.1 in
-        (omega (arith, lt, le), omega (arith, below, same))) R.direct (All-contains_itself R.direct)
+        (omega (arith, lt, most, le), omega (arith, below, same))) R.direct (All-contains_itself R.direct)
 
-    module _ (first : List ℕ) (rows : AreRows M (length R.gotos) (length M.states) first) where
+    module _ (first : List ℕ) (rows : AreRows M R.includes.nodes (length M.states) first) where
       -- the row of a complete rule is one of them
       pub place_within : (s k p : ℕ) → s < length M.states → slice_get (state_at M s).complete k ≡ Some p
           → slice_index_or first s 0 + k < slice_index_or first (length M.states) 0
@@ -170,44 +174,75 @@ module _ (M : Lr0Automaton) (is : IsLr0Automaton M) where
           let inside = slice_get_within (state_at M s).complete k p at in
           omega (arith, end, inside)
 
-      -- the rows are at least as many as the transitions
-      pub rows_count : length R.gotos ≤ slice_index_or first (length M.states) 0
-      rows_count = past_gotos rows (length M.states) (omega arith)
+      -- the rows are at least as many as the nodes
+      pub rows_count : R.includes.nodes ≤ slice_index_or first (length M.states) 0
+      rows_count = past_nodes rows (length M.states) (omega arith)
 
-      -- and none of a transition
+      -- and none of a node
       pub rows_apart : (l m : Lookback) (k : ℕ) → Contains R.lookbacks l → Contains R.lookbacks m
           → l.goto ≡ slice_index_or first m.state 0 + k → ⊥
       rows_apart l m k has other e =
           let lt = (lookback_within l has).1 in
-          let le = past_gotos rows m.state (let less = (lookback_within m other).0 in omega (arith, less)) in
+          let le = past_nodes rows m.state (let less = (lookback_within m other).0 in omega (arith, less)) in
           omega (arith, lt, le, e)
 
-      module _ (old new : List NumberSet) (follows : AreFollowSets M R.gotos old)
+      module _ (inside : All (JoinsNodes R.includes.nodes) R.includes.edges) (old new : List NumberSet)
+          (follows : AreFollowSets M R.gotos R.includes old)
           (back : AreLookedBack M first R.lookbacks old new)
           (long : length new ≡ slice_index_or first (length M.states) 0) where
+        -- the rows of complete rules are empty at first
+        fresh : (i t : ℕ) → R.includes.nodes ≤ i → Member (row old i) t → ⊥
+        fresh i t past m =
+            let most = are.includes.nodes in
+            let came = (follows.gathered i t (omega (arith, past, most))).0 m in
+            let lt = (All-contains (JoinsNodes R.includes.nodes) R.includes.edges (i, came.0) inside came.2).0 in
+            omega (arith, lt, past)
+
+        -- the row of a node has what follows a transition for which it stands
+        stands_from : (k t : ℕ) → k < R.includes.nodes → Member (row old k) t
+            → (j : ℕ) × (x : Goto) × StandsFor R.gotos R.includes k j × (slice_get R.gotos j ≡ Some x)
+            × Follow M.grammar (goto_of M) x.from x.symbol t
+        stands_from k t lt m = elim (cases_lt k (length R.gotos)) [
+          | inl below ↦
+              let x = goto_at R.gotos k below in
+              (k, x.0, inl refl, x.1, (follows.follows k t x.0 x.1).0 m)
+          | inr past ↦
+              let f = (follows.gathered k t past).0 m in
+              (f.0, f.1, inr (past, f.2), f.3, f.4)
+        ]
+
+        stands_to : (k j t : ℕ) (x : Goto) → StandsFor R.gotos R.includes k j → slice_get R.gotos j ≡ Some x
+            → Follow M.grammar (goto_of M) x.from x.symbol t → Member (row old k) t
+        stands_to k j t x (inl e) at f = subst (λ n. Member (row old n) t) (sym e) ((follows.follows j t x at).1 f)
+        stands_to k j t x (inr (past, e)) at f = (follows.gathered k t past).1 (j, x, e, at, f)
+
         by_relations : (s k p t : ℕ) → s < length M.states → slice_get (state_at M s).complete k ≡ Some p
             → Member (row new (slice_index_or first s 0 + k)) t ↔ LookaheadBy M.grammar (goto_of M) s p t
         by_relations s k p t lt at = (to, from) where
           to : Member (row new (slice_index_or first s 0 + k)) t → LookaheadBy M.grammar (goto_of M) s p t
           to m = elim ((back (slice_index_or first s 0 + k) t).0 m) [
             | inl was ↦
-                let le = past_gotos rows s (omega (arith, lt)) in
-                absurd (follows.fresh (slice_index_or first s 0 + k) t (omega (arith, le)) was)
+                let le = past_nodes rows s (omega (arith, lt)) in
+                absurd (fresh (slice_index_or first s 0 + k) t (omega (arith, le)) was)
             | inr (l, has, place, came) ↦
-                let below = (lookback_within l has).0 in
+                let within = lookback_within l has in
+                let below = within.0 in
                 let same = row_once rows s l.state k place.0 lt below (slice_get_within (state_at M s).complete k p at)
                 (slice_get_within (state_at M l.state).complete place.0 l.rule place.1) place.2 in
                 let there = subst (λ j. slice_get (state_at M l.state).complete j ≡ Some l.rule) (sym same.1) place.1 in
                 let here = subst (λ q. slice_get (state_at M q).complete k ≡ Some l.rule) (sym same.0) there in
                 let one : Some l.rule ≡ Some p = sym here ∙ at in
                 let rule : l.rule ≡ p = cc in
-                let b = (are.lookbacks l.state l.rule l.goto).0 has in
+                let f = stands_from l.goto t within.1 came in
+                let b = (are.lookbacks.back l.state l.rule f.0 (slice_get_within R.gotos f.0 f.1 f.3)).0
+                (l.goto, has, f.2) in
                 let looks = subst (λ q. LooksBack M.grammar (goto_of M) q l.rule b.0.from b.0.symbol) (sym same.0)
                 b.2 in (
                   b.0.from,
                   b.0.symbol,
                   subst (λ r. LooksBack M.grammar (goto_of M) s r b.0.from b.0.symbol) rule looks,
-                  (follows.follows l.goto t b.0 b.1).0 came,
+                  subst (λ x. Follow M.grammar (goto_of M) x.from x.symbol t)
+                      (one_goto R.gotos f.0 f.1 b.0 f.3 b.1) f.4,
                 )
           ]
 
@@ -216,13 +251,14 @@ module _ (M : Lr0Automaton) (is : IsLr0Automaton M) where
               let leads = looks.from in
               let there = are.gotos.all q A leads.0 leads.1 in
               let x : Goto = record { from = q; symbol = A; target = leads.0 } in
-              let has = (are.lookbacks s p there.0).1 (x, there.1, looks) in
-              let l : Lookback = record { state = s; rule = p; goto = there.0 } in
+              let node = (are.lookbacks.back s p there.0 (slice_get_within R.gotos there.0 x there.1)).1
+              (x, there.1, looks) in
+              let l : Lookback = record { state = s; rule = p; goto = node.0 } in
               (back (slice_index_or first s 0 + k) t).1 (inr (
                 l,
-                has,
+                node.1,
                 (k, at, refl),
-                (follows.follows there.0 t x there.1).1 follow,
+                stands_to node.0 there.0 t x node.2 there.1 follow,
               ))
 
         -- the rows of complete rules are their lookaheads

@@ -6,7 +6,7 @@ use Rattle.std.proofs.lemmas.Bool.{cases_order}
 use Rattle.ly_lr0.specs.Automaton.{Lr0Automaton, state_at}
 use Rattle.ly_lookahead.specs.Private.Rows.{AreRows}
 
-module _ {M : Lr0Automaton} {gotos n : ℕ} {first : List ℕ} (are : AreRows M gotos n first) where
+module _ {M : Lr0Automaton} {nodes n : ℕ} {first : List ℕ} (are : AreRows M nodes n first) where
   -- the rows of a state end before those of a later one begin
   pub rises : (s m : ℕ) → s < m → m ≤ n
       → slice_index_or first s 0 + length (state_at M s).complete ≤ slice_index_or first m 0
@@ -23,11 +23,11 @@ module _ {M : Lr0Automaton} {gotos n : ℕ} {first : List ℕ} (are : AreRows M 
     | inr (inr more) ↦ absurd (omega (arith, more, lt))
   ]
 
-  -- and come behind those of the transitions
-  pub past_gotos : (s : ℕ) → s ≤ n → gotos ≤ slice_index_or first s 0
-  past_gotos zero le = let start = are.start in omega (arith, start)
-  past_gotos (suc s) le =
-      let before = past_gotos s (omega (arith, le)) in
+  -- and come behind those of the nodes
+  pub past_nodes : (s : ℕ) → s ≤ n → nodes ≤ slice_index_or first s 0
+  past_nodes zero le = let start = are.start in omega (arith, start)
+  past_nodes (suc s) le =
+      let before = past_nodes s (omega (arith, le)) in
       let next = are.next s (omega (arith, le)) in
       omega (arith, before, next)
 

@@ -201,7 +201,7 @@ module _ (M : Lr0Automaton) (first : List ℕ) (ls : List Lookback) (i : ℕ) (l
       | inr last ↦ let is = last.0 in absurd (lacks (member_at (state_at M l.state).complete is.0 l.rule is.1))
     ]
 
-  -- the row of a transition stays
+  -- the row of a node stays
   pub stays : (old new : List NumberSet)
       → ((m : Lookback) (k : ℕ) → Contains ls m → l.goto ≡ slice_index_or first m.state 0 + k → ⊥)
       → AreLookedBack M first (take i ls) old new → (t : ℕ) → Member (row new l.goto) t ↔ Member (row old l.goto) t

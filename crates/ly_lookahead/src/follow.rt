@@ -1,4 +1,5 @@
-//! Read and Follow: the least sets that hold the direct reads and grow along reads, and then along includes.
+//! Read and Follow: the least sets that hold the direct reads and grow along reads, and then along includes. A node of
+//! includes that gathers transitions begins with an empty row, and gets what follows them.
 ghost use Rattle.std.specs.Prelude.{◌≡◌, ◌≤◌, length, map, All, IfOk};
 ghost use Rattle.ly_lr0.specs.Automaton.{IsLr0Automaton};
 ghost use Rattle.ly_relate.specs.Related.{AreRelations};
@@ -12,7 +13,7 @@ use ly_relate::{DirectRead, Relations};
 use ly_sets::SetMatrix;
 use std::alloc::Global;
 
-/// What follows each transition, in rows of their numbers, and empty rows past them.
+/// What follows each transition, and those that a node gathers, in rows of their numbers, and empty rows past them.
 pub(crate) fn follow_sets(
     alloc: Global,
     lr0: &Lr0<'_>,
@@ -21,9 +22,10 @@ pub(crate) fn follow_sets(
 ) -> Result<SetMatrix, OutOfMemory>
     requires lawful { IsLr0Automaton lr0.now }
     requires relations { AreRelations lr0.now relations.now }
-    requires room { length relations.now.gotos ≤ rows }
+    requires room { relations.now.includes.nodes ≤ rows }
     ensures rows { IfOk result (λ m. length m.sets ≡ rows) }
-    ensures follows { IfOk result (λ m. AreFollowSets lr0.now relations.now.gotos m.sets) }
+    ensures follows { IfOk result (λ m. AreFollowSets lr0.now relations.now.gotos relations.now.includes
+        m.sets) }
 {
     let width = lr0.reduced().grammar().terminals() as usize;
     let mut sets = direct_sets(alloc, relations.direct(), rows, width)?;

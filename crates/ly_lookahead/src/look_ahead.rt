@@ -11,14 +11,15 @@ use ly_relate::relations;
 use std::alloc::Global;
 
 /// Finds the lookaheads of the rules that are complete in the states of an automaton: what follows the transitions to
-/// which they look back. It takes one union at most for each pair of the relations and two for each transition.
+/// which they look back. It takes one union at most for each edge and node of reads and of includes, and for each
+/// lookback.
 ///
 /// `OutOfMemory` comes where a growth was refused.
 pub fn lookaheads(alloc: Global, lr0: &Lr0<'_>) -> Result<Lookaheads, OutOfMemory>
     ensures { IfOk result (AreLookaheads lr0.now) }
 {
     let relations = relations(alloc, lr0)?;
-    let first = first_rows(alloc, lr0, relations.gotos().len())?;
+    let first = first_rows(alloc, lr0, relations.includes().nodes())?;
     let mut sets = follow_sets(alloc, lr0, &relations, first[lr0.states()])?;
     look_back(lr0, &relations, &first, &mut sets);
     Ok(Lookaheads { first, sets })

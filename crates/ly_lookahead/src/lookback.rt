@@ -9,11 +9,11 @@ use ly_lr0::Lr0;
 use ly_relate::Relations;
 use ly_sets::SetMatrix;
 
-/// Puts what follows transitions into the rows of the rules that look back to them.
+/// Puts what follows transitions into the rows of the rules that look back to them, or to nodes that gather them.
 pub(crate) fn look_back(lr0: &Lr0<'_>, relations: &Relations, first: &[usize], sets: &mut SetMatrix)
     requires lawful { IsLr0Automaton lr0.now }
     requires relations { AreRelations lr0.now relations.now }
-    requires rows { AreRows lr0.now (length relations.now.gotos) (length lr0.now.states) first.now }
+    requires rows { AreRows lr0.now relations.now.includes.nodes (length lr0.now.states) first.now }
     requires long { length sets.old.sets ≡ slice_index_or first.now (length lr0.now.states) 0 }
     requires few { length sets.old.sets < 2 ^ 64 }
     ensures rows { length sets.new.sets ≡ length sets.old.sets }

@@ -5,17 +5,17 @@ use ly_base::{OutOfMemory, StateNo};
 use ly_lr0::Lr0;
 use std::alloc::Global;
 
-/// For each state the row of the first rule that is complete in it, past the rows of the transitions, and at last how
-/// many rows there are.
+/// For each state the row of the first rule that is complete in it, past the rows of the nodes of includes, and at last
+/// how many rows there are.
 pub(crate) fn first_rows(
     alloc: Global,
     lr0: &Lr0<'_>,
-    gotos: usize,
+    nodes: usize,
 ) -> Result<Vec<usize>, OutOfMemory>
-    ensures { IfOk result (λ first. AreRows lr0.now gotos (length lr0.now.states) first.items) }
+    ensures { IfOk result (λ first. AreRows lr0.now nodes (length lr0.now.states) first.items) }
 {
     let mut first = Vec::new(alloc);
-    let mut rows = gotos;
+    let mut rows = nodes;
     first.push(rows)?;
     for state in 0..lr0.states() {
         let complete = lr0.complete(StateNo(state as u32)).len();

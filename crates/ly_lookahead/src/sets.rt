@@ -11,7 +11,8 @@ use std::marker::Model;
 pub struct Lookaheads {
     /// For each state the row of the first rule that is complete in it, and at last how many rows there are.
     pub(crate) first: Vec<usize>,
-    /// A row for each transition over a nonterminal, with what follows it, and then one for each complete rule.
+    /// A row for each node of includes, with what follows the transitions for which it stands, and then one for each
+    /// complete rule.
     pub(crate) sets: SetMatrix,
 }
 

@@ -2,6 +2,7 @@
 use Rattle.std.specs.Prelude.{◌≡◌, ◌↔◌, ◌⊎◌, ◌<◌, ◌≤◌, ◌+◌, ℕ, List, Contains, Some, length, slice_get, slice_index_or}
 use Rattle.ly_sets.specs.NumberSet.{NumberSet, Member}
 use Rattle.ly_sets.specs.SetMatrix.{row}
+use Rattle.ly_digraph.specs.Digraph.{Digraph, IsEdge}
 use Rattle.ly_lr0.specs.Automaton.{Lr0Automaton, goto_of, state_at}
 use Rattle.ly_relate.specs.Related.{DirectRead, Goto, Lookback}
 use Rattle.ly_relate.specs.Relations.{Follow}
@@ -14,18 +15,25 @@ IsInside rows width d = (d.goto < rows) × (d.terminal < width)
 abbrev pub AreDirectSets : List DirectRead → List NumberSet → Type 0
 AreDirectSets direct sets = (i t : ℕ) → Member (row sets i) t ↔ Contains direct (record { goto = i; terminal = t })
 
--- Each transition's row has what follows the transition, and the rows past them are empty.
-pub record AreFollowSets (M : Lr0Automaton) (gotos : List Goto) (sets : List NumberSet) : Type 0 where
+-- a number follows a transition to which an edge leads from a node
+abbrev pub FollowsGathered : Lr0Automaton → List Goto → Digraph → ℕ → ℕ → Type 0
+FollowsGathered M gotos includes k t = (j : ℕ) × (x : Goto) × IsEdge includes k j × (slice_get gotos j ≡ Some x)
+    × Follow M.grammar (goto_of M) x.from x.symbol t
+
+-- Each transition's row has what follows the transition. A row past them has what follows those to which edges lead
+-- from its number, and so nothing where it is past the nodes.
+pub record AreFollowSets (M : Lr0Automaton) (gotos : List Goto) (includes : Digraph) (sets : List NumberSet)
+    : Type 0 where
   pub follows : (n t : ℕ) (x : Goto) → slice_get gotos n ≡ Some x
       → Member (row sets n) t ↔ Follow M.grammar (goto_of M) x.from x.symbol t
-  pub fresh : (i t : ℕ) → length gotos ≤ i → Member (row sets i) t → ⊥
+  pub gathered : (k t : ℕ) → length gotos ≤ k → Member (row sets k) t ↔ FollowsGathered M gotos includes k t
 
 -- the row is that of the rule that looks back, in the state where it is complete
 abbrev pub IsRowOf : Lr0Automaton → List ℕ → Lookback → ℕ → Type 0
 IsRowOf M first l r = (k : ℕ) × (slice_get (state_at M l.state).complete k ≡ Some l.rule)
     × (r ≡ slice_index_or first l.state 0 + k)
 
--- a number comes to a row from one of the transitions to which its rule looks back
+-- a number comes to a row from one of the nodes to which its rule looks back
 abbrev pub ComesBack : Lr0Automaton → List ℕ → List Lookback → List NumberSet → ℕ → ℕ → Type 0
 ComesBack M first lookbacks sets r t =
     (l : Lookback) × Contains lookbacks l × IsRowOf M first l r × Member (row sets l.goto) t

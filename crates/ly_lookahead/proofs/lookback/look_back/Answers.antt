@@ -17,11 +17,11 @@ use Rattle.ly_lookahead.proofs.SetLemmas.{lookback_seen, looked_more, looked_pas
 use Rattle.ly_lookahead.proofs.lookback.look_back.Goals as goal
 use Rattle.ly_lookahead.proofs.lookback.look_back.Goals.{in-Some, in_default}
 
--- the lookback of a number is of a state and of a transition
+-- the lookback of a number is of a state and of a node
 seen_within : (M : Lr0Automaton) → IsLr0Automaton M → (R : Relations) → AreRelations M R
     → (items : List lookback.Lookback) (i : ℕ) → map lookback_from items ≡ R.lookbacks → i < length items
     → ((slice_index_or items i no_lookback).state.0 < length M.states)
-    × ((slice_index_or items i no_lookback).goto < length R.gotos)
+    × ((slice_index_or items i no_lookback).goto < R.includes.nodes)
 seen_within M law R are items i shown lt =
     let l = lookback_from (slice_index_or items i no_lookback) in
     lookback_within M law R are l (member_at R.lookbacks i l (lookback_seen R.lookbacks items i shown lt))
