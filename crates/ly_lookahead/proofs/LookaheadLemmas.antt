@@ -137,10 +137,10 @@ module _ (M : Lr0Automaton) (is : IsLr0Automaton M) where
   module _ (R : Relations) (are : AreRelations M R) where
     -- a lookback is of a state and of a node
     pub lookback_within : (l : Lookback) → Contains R.lookbacks l
-        → (l.state < length M.states) × (l.goto < R.includes.nodes)
+        → (l.state < length M.states) × (l.node < R.includes.nodes)
     lookback_within l has =
         let node = are.lookbacks.stands l has in
-        let at = (are.lookbacks.back l.state l.rule node.1 node.2).0 (l.goto, has, node.3) in
+        let at = (are.lookbacks.back l.state l.rule node.1 node.2).0 (l.node, has, node.3) in
         let b = at.2 in
         let from = b.from in
         let start = leads_within at.0.from from.0 (nonterminal at.0.symbol) from.1 in
@@ -180,7 +180,7 @@ module _ (M : Lr0Automaton) (is : IsLr0Automaton M) where
 
       -- and none of a node
       pub rows_apart : (l m : Lookback) (k : ℕ) → Contains R.lookbacks l → Contains R.lookbacks m
-          → l.goto ≡ slice_index_or first m.state 0 + k → ⊥
+          → l.node ≡ slice_index_or first m.state 0 + k → ⊥
       rows_apart l m k has other e =
           let lt = (lookback_within l has).1 in
           let le = past_nodes rows m.state (let less = (lookback_within m other).0 in omega (arith, less)) in
@@ -233,9 +233,9 @@ module _ (M : Lr0Automaton) (is : IsLr0Automaton M) where
                 let here = subst (λ q. slice_get (state_at M q).complete k ≡ Some l.rule) (sym same.0) there in
                 let one : Some l.rule ≡ Some p = sym here ∙ at in
                 let rule : l.rule ≡ p = cc in
-                let f = stands_from l.goto t within.1 came in
+                let f = stands_from l.node t within.1 came in
                 let b = (are.lookbacks.back l.state l.rule f.0 (slice_get_within R.gotos f.0 f.1 f.3)).0
-                (l.goto, has, f.2) in
+                (l.node, has, f.2) in
                 let looks = subst (λ q. LooksBack M.grammar (goto_of M) q l.rule b.0.from b.0.symbol) (sym same.0)
                 b.2 in (
                   b.0.from,
@@ -253,7 +253,7 @@ module _ (M : Lr0Automaton) (is : IsLr0Automaton M) where
               let x : Goto = record { from = q; symbol = A; target = leads.0 } in
               let node = (are.lookbacks.back s p there.0 (slice_get_within R.gotos there.0 x there.1)).1
               (x, there.1, looks) in
-              let l : Lookback = record { state = s; rule = p; goto = node.0 } in
+              let l : Lookback = record { state = s; rule = p; node = node.0 } in
               (back (slice_index_or first s 0 + k) t).1 (inr (
                 l,
                 node.1,

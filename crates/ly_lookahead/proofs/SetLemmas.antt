@@ -156,7 +156,7 @@ inside_at rows width items i lt all = All-contains (IsInside rows width) (map di
 
 -- a lookback as contracts see it
 abbrev pub no_lookback : lookback.Lookback
-no_lookback = record { state = record { 0 = 0 }; rule = 0; goto = 0 }
+no_lookback = record { state = record { 0 = 0 }; rule = 0; node = 0 }
 
 pub lookback_seen : (ls : List Lookback) (items : List lookback.Lookback) (i : ℕ) → map lookback_from items ≡ ls
     → i < length items → slice_get ls i ≡ Some (lookback_from (slice_index_or items i no_lookback))
@@ -170,19 +170,19 @@ module _ (M : Lr0Automaton) (first : List ℕ) (ls : List Lookback) (i : ℕ) (l
     (at : slice_get ls i ≡ Some l) where
   -- what comes along one more lookback
   come_more : (sets : List NumberSet) (r t : ℕ) → ComesBack M first (take (i + 1) ls) sets r t
-      ↔ (ComesBack M first (take i ls) sets r t ⊎ (IsRowOf M first l r × Member (row sets l.goto) t))
+      ↔ (ComesBack M first (take i ls) sets r t ⊎ (IsRowOf M first l r × Member (row sets l.node) t))
   come_more sets r t = (to, back) where
     to : ComesBack M first (take (i + 1) ls) sets r t
-        → ComesBack M first (take i ls) sets r t ⊎ (IsRowOf M first l r × Member (row sets l.goto) t)
+        → ComesBack M first (take i ls) sets r t ⊎ (IsRowOf M first l r × Member (row sets l.node) t)
     to (k, has, is, m) = elim ((take_more ls i l k at).0 has) [
       | inl was ↦ inl (k, was, is, m)
       | inr same ↦ inr (
         subst (λ y. IsRowOf M first y r) (sym same) is,
-        subst (λ y. Member (row sets y.goto) t) (sym same) m,
+        subst (λ y. Member (row sets y.node) t) (sym same) m,
       )
     ]
 
-    back : ComesBack M first (take i ls) sets r t ⊎ (IsRowOf M first l r × Member (row sets l.goto) t)
+    back : ComesBack M first (take i ls) sets r t ⊎ (IsRowOf M first l r × Member (row sets l.node) t)
         → ComesBack M first (take (i + 1) ls) sets r t
     back (inl (k, has, is, m)) = (k, (take_more ls i l k at).1 (inl has), is, m)
     back (inr (is, m)) = (l, (take_more ls i l l at).1 (inr refl), is, m)
@@ -203,11 +203,11 @@ module _ (M : Lr0Automaton) (first : List ℕ) (ls : List Lookback) (i : ℕ) (l
 
   -- the row of a node stays
   pub stays : (old new : List NumberSet)
-      → ((m : Lookback) (k : ℕ) → Contains ls m → l.goto ≡ slice_index_or first m.state 0 + k → ⊥)
-      → AreLookedBack M first (take i ls) old new → (t : ℕ) → Member (row new l.goto) t ↔ Member (row old l.goto) t
-  stays old new apart before t = (to, λ m. (before l.goto t).1 (inl m)) where
-    to : Member (row new l.goto) t → Member (row old l.goto) t
-    to m = elim ((before l.goto t).0 m) [
+      → ((m : Lookback) (k : ℕ) → Contains ls m → l.node ≡ slice_index_or first m.state 0 + k → ⊥)
+      → AreLookedBack M first (take i ls) old new → (t : ℕ) → Member (row new l.node) t ↔ Member (row old l.node) t
+  stays old new apart before t = (to, λ m. (before l.node t).1 (inl m)) where
+    to : Member (row new l.node) t → Member (row old l.node) t
+    to m = elim ((before l.node t).0 m) [
       | inl was ↦ was
       | inr (k, has, is, n) ↦ absurd (apart k is.0 (take_within ls i l k at has) is.2)
     ]
@@ -219,12 +219,12 @@ module _ (M : Lr0Automaton) (first : List ℕ) (ls : List Lookback) (i : ℕ) (l
 
     -- one more lookback, of the rule at a place
     pub looked_more : (old now new : List NumberSet) → to_row < length now
-        → new ≡ slice_set now to_row (set.union (row now to_row) (row now l.goto))
-        → ((t : ℕ) → Member (row now l.goto) t ↔ Member (row old l.goto) t)
+        → new ≡ slice_set now to_row (set.union (row now to_row) (row now l.node))
+        → ((t : ℕ) → Member (row now l.node) t ↔ Member (row old l.node) t)
         → AreLookedBack M first (take i ls) old now → AreLookedBack M first (take (i + 1) ls) old new
     looked_more old now new lt is same before r t = (to, back) where
       s : NumberSet
-      s = set.union (row now to_row) (row now l.goto)
+      s = set.union (row now to_row) (row now l.node)
 
       earlier : Member (row now r) t → Member (row old r) t ⊎ ComesBack M first (take (i + 1) ls) old r t
       earlier m = elim ((before r t).0 m) [ inl was ↦ inl was | inr comes ↦ inr ((come_more old r t).1 (inl comes)) ]
@@ -234,7 +234,7 @@ module _ (M : Lr0Automaton) (first : List ℕ) (ls : List Lookback) (i : ℕ) (l
         | inl e ↦
             let own : Member s t
             = subst (λ w. Member w t) (row_same now new to_row s is lt) (subst (λ q. Member (row new q) t) e m) in
-            elim (Member-union_cases (row now to_row) (row now l.goto) t own) [
+            elim (Member-union_cases (row now to_row) (row now l.node) t own) [
               | inl was ↦ earlier (subst (λ q. Member (row now q) t) (sym e) was)
               | inr came ↦ inr ((come_more old r t).1 (inr ((k, there, e), (same t).0 came)))
             ]
@@ -246,7 +246,7 @@ module _ (M : Lr0Automaton) (first : List ℕ) (ls : List Lookback) (i : ℕ) (l
         | inl e ↦
             let was = subst (λ q. Member (row now q) t) e m in
             subst (λ q. Member (row new q) t) (sym e) (subst (λ w. Member w t) (sym (row_same now new to_row s is lt))
-            (Member-union_left (row now to_row) (row now l.goto) t was))
+            (Member-union_left (row now to_row) (row now l.node) t was))
         | inr ne ↦ subst (λ w. Member w t) (sym (row_other now new to_row r s is ne)) m
       ]
 
@@ -258,5 +258,5 @@ module _ (M : Lr0Automaton) (first : List ℕ) (ls : List Lookback) (i : ℕ) (l
             let place = last.0 in
             let e : r ≡ to_row = place.2 ∙ ap (λ j. slice_index_or first l.state 0 + j) (one place.0 place.1) in
             subst (λ q. Member (row new q) t) (sym e) (subst (λ w. Member w t) (sym (row_same now new to_row s is lt))
-            (Member-union_right (row now to_row) (row now l.goto) t ((same t).1 last.1)))
+            (Member-union_right (row now to_row) (row now l.node) t ((same t).1 last.1)))
       ]

@@ -22,7 +22,7 @@ pub(crate) fn look_back(lr0: &Lr0<'_>, relations: &Relations, first: &[usize], s
     for lookback in relations.lookbacks() {
         if let Some(place) = place_of(lr0.complete(lookback.state), lookback.rule) {
             let row = first[lookback.state.0 as usize] + place;
-            sets.union_row(row, lookback.goto);
+            sets.union_row(row, lookback.node);
         }
     }
 }

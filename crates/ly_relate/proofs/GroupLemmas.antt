@@ -261,16 +261,16 @@ module _ (n : Numbering) (law : IsNumbering n) (r : RuleLists) (parted : AreAllP
     }
 
     pub are_lookbacks : (lookbacks : List Lookback)
-        → ((s p o : ℕ) → Contains lookbacks (record { state = s; rule = p; goto = o })
+        → ((s p o : ℕ) → Contains lookbacks (record { state = s; rule = p; node = o })
         ↔ ((j : ℕ) × (j < length n.gotos) × BackFrom n r w j s p o))
         → AreLookbacks n.automaton n.gotos g lookbacks
     are_lookbacks lookbacks back = record {
-      stands = λ l has. let m = (back l.state l.rule l.goto).0 has in node_is l.state l.rule l.goto m.0 m.1 m.2;
+      stands = λ l has. let m = (back l.state l.rule l.node).0 has in node_is l.state l.rule l.node m.0 m.1 m.2;
       back = λ s p j lt. said_all n (solid_of r) w are g
           (λ m. LooksBackByOne n (rules_at n (others_of r) m) m s p)
           (λ m. LooksBackByOne n (rules_at n (solid_of r) m) m s p)
           (λ m. IsLookingBack n.automaton n.gotos m s p)
-          (λ o. Contains lookbacks (record { state = s; rule = p; goto = o })) (λ m in_list. looks_total s p m)
+          (λ o. Contains lookbacks (record { state = s; rule = p; node = o })) (λ m in_list. looks_total s p m)
           (λ a b alike. looks_moves s p a b alike) (back s p) gather j lt;
     } where
       node_is : (s p o m : ℕ) → m < length n.gotos → BackFrom n r w m s p o

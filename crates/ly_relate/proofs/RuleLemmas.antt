@@ -89,41 +89,41 @@ included_by n law m o rule from body count path s old new w long passed are =
 -- one more lookback
 back_more : (old new : List Lookback) (m rule s : ℕ) (P : ℕ → ℕ → Type 0)
     → ((q p : ℕ) → P q p ↔ ((q ≡ s) × (p ≡ rule)))
-    → new ≡ old ++ record { state = s; rule = rule; goto = m } ∷ [] → AreBack old new m P
+    → new ≡ old ++ record { state = s; rule = rule; node = m } ∷ [] → AreBack old new m P
 back_more old new m rule s P one e q p k = (to, back) where
-  to : Contains new (record { state = q; rule = p; goto = k })
-      → Contains old (record { state = q; rule = p; goto = k }) ⊎ ((k ≡ m) × P q p)
-  to has = elim (Contains-append_cases old (record { state = s; rule = rule; goto = m } ∷ [])
-      (record { state = q; rule = p; goto = k })
-      (subst (λ w. Contains w (record { state = q; rule = p; goto = k })) e has)) [
+  to : Contains new (record { state = q; rule = p; node = k })
+      → Contains old (record { state = q; rule = p; node = k }) ⊎ ((k ≡ m) × P q p)
+  to has = elim (Contains-append_cases old (record { state = s; rule = rule; node = m } ∷ [])
+      (record { state = q; rule = p; node = k })
+      (subst (λ w. Contains w (record { state = q; rule = p; node = k })) e has)) [
         | inl was ↦ inl was
         | inr last ↦
-            let same = Contains-one (record { state = s; rule = rule; goto = m })
-            (record { state = q; rule = p; goto = k }) last in
-            inr (sym (ap (λ l. l.goto) same), (one q p).1 (sym (ap (λ l. l.state) same), sym (ap (λ l. l.rule) same)))
+            let same = Contains-one (record { state = s; rule = rule; node = m })
+            (record { state = q; rule = p; node = k }) last in
+            inr (sym (ap (λ l. l.node) same), (one q p).1 (sym (ap (λ l. l.state) same), sym (ap (λ l. l.rule) same)))
       ]
 
-  back : Contains old (record { state = q; rule = p; goto = k }) ⊎ ((k ≡ m) × P q p)
-      → Contains new (record { state = q; rule = p; goto = k })
-  back (inl was) = subst (λ w. Contains w (record { state = q; rule = p; goto = k })) (sym e)
-      (Contains-append_left old (record { state = s; rule = rule; goto = m } ∷ [])
-      (record { state = q; rule = p; goto = k }) was)
+  back : Contains old (record { state = q; rule = p; node = k }) ⊎ ((k ≡ m) × P q p)
+      → Contains new (record { state = q; rule = p; node = k })
+  back (inl was) = subst (λ w. Contains w (record { state = q; rule = p; node = k })) (sym e)
+      (Contains-append_left old (record { state = s; rule = rule; node = m } ∷ [])
+      (record { state = q; rule = p; node = k }) was)
   back (inr (place, is)) =
       let both = (one q p).0 is in
-      let at : ℕ → ℕ → ℕ → Lookback = λ a b c. record { state = a; rule = b; goto = c } in
+      let at : ℕ → ℕ → ℕ → Lookback = λ a b c. record { state = a; rule = b; node = c } in
       let same : at s rule m ≡ at q p k
       = ap (λ a. at a rule m) (sym both.0) ∙ (ap (λ b. at q b m) (sym both.1) ∙ ap (at q p) (sym place)) in
-      subst (λ w. Contains w (record { state = q; rule = p; goto = k })) (sym e)
-      (subst (Contains (old ++ record { state = s; rule = rule; goto = m } ∷ [])) same
-      (Contains-append_right old (record { state = s; rule = rule; goto = m } ∷ [])
-      (record { state = s; rule = rule; goto = m }) (Contains-first (record { state = s; rule = rule; goto = m }) [])))
+      subst (λ w. Contains w (record { state = q; rule = p; node = k })) (sym e)
+      (subst (Contains (old ++ record { state = s; rule = rule; node = m } ∷ [])) same
+      (Contains-append_right old (record { state = s; rule = rule; node = m } ∷ [])
+      (record { state = s; rule = rule; node = m }) (Contains-first (record { state = s; rule = rule; node = m }) [])))
 
 -- the lookback of the rule
 pub back_by : (n : Numbering) → IsNumbering n
     → (m o rule from : ℕ) (body : List Symbol) (count : ℕ) (path : List ℕ) (s : ℕ)
     (old new : List Lookback) → IsWalked n m rule body from → count ≡ length body
     → IsPassed n.automaton from body count path s
-    → new ≡ old ++ record { state = s; rule = rule; goto = o } ∷ []
+    → new ≡ old ++ record { state = s; rule = rule; node = o } ∷ []
     → AreBack old new o (λ q p. (p ≡ rule) × IsLookingBack n.automaton n.gotos m q p)
 back_by n law m o rule from body count path s old new w long passed e =
     back_more old new o rule s (λ q p. (p ≡ rule) × IsLookingBack n.automaton n.gotos m q p) one e

@@ -37,8 +37,8 @@ edges_union old g new n P R Q both before after i j = (to, back) where
 pub back_union : (old mid new : List Lookback) (n : ℕ) (P R Q : ℕ → ℕ → Type 0) → ((s p : ℕ) → Q s p ↔ (P s p ⊎ R s p))
     → AreBack old mid n P → AreBack mid new n R → AreBack old new n Q
 back_union old mid new n P R Q both before after s p m = (to, back) where
-  to : Contains new (record { state = s; rule = p; goto = m })
-      → Contains old (record { state = s; rule = p; goto = m }) ⊎ ((m ≡ n) × Q s p)
+  to : Contains new (record { state = s; rule = p; node = m })
+      → Contains old (record { state = s; rule = p; node = m }) ⊎ ((m ≡ n) × Q s p)
   to has = elim ((after s p m).0 has) [
     | inl was ↦ elim ((before s p m).0 was) [
       | inl old ↦ inl old
@@ -47,8 +47,8 @@ back_union old mid new n P R Q both before after s p m = (to, back) where
     | inr (e, is) ↦ inr (e, (both s p).1 (inr is))
   ]
 
-  back : Contains old (record { state = s; rule = p; goto = m }) ⊎ ((m ≡ n) × Q s p)
-      → Contains new (record { state = s; rule = p; goto = m })
+  back : Contains old (record { state = s; rule = p; node = m }) ⊎ ((m ≡ n) × Q s p)
+      → Contains new (record { state = s; rule = p; node = m })
   back (inl was) = (after s p m).1 (inl ((before s p m).1 (inl was)))
   back (inr (e, is)) = elim ((both s p).0 is) [
     | inl q ↦ (after s p m).1 (inl ((before s p m).1 (inr (e, q))))
@@ -59,15 +59,15 @@ back_union old mid new n P R Q both before after s p m = (to, back) where
 pub back_same : (old new : List Lookback) (n : ℕ) (P Q : ℕ → ℕ → Type 0) → ((s p : ℕ) → P s p ↔ Q s p)
     → AreBack old new n P → AreBack old new n Q
 back_same old new n P Q same are s p m = (to, back) where
-  to : Contains new (record { state = s; rule = p; goto = m })
-      → Contains old (record { state = s; rule = p; goto = m }) ⊎ ((m ≡ n) × Q s p)
+  to : Contains new (record { state = s; rule = p; node = m })
+      → Contains old (record { state = s; rule = p; node = m }) ⊎ ((m ≡ n) × Q s p)
   to has = elim ((are s p m).0 has) [
     | inl was ↦ inl was
     | inr (e, is) ↦ inr (e, (same s p).0 is)
   ]
 
-  back : Contains old (record { state = s; rule = p; goto = m }) ⊎ ((m ≡ n) × Q s p)
-      → Contains new (record { state = s; rule = p; goto = m })
+  back : Contains old (record { state = s; rule = p; node = m }) ⊎ ((m ≡ n) × Q s p)
+      → Contains new (record { state = s; rule = p; node = m })
   back (inl was) = (are s p m).1 (inl was)
   back (inr (e, is)) = (are s p m).1 (inr (e, (same s p).1 is))
 

@@ -20,7 +20,7 @@ pub record DirectRead : Type 0 where
 pub record Lookback : Type 0 where
   pub state : ℕ
   pub rule : ℕ
-  pub goto : ℕ
+  pub node : ℕ
 
 -- Nonterminal transitions by number, and the pairs of the four relations.
 pub record Relations : Type 0 where
@@ -74,9 +74,9 @@ pub record AreGathered (gotos : List Goto) (R : ℕ → ℕ → Type 0) (g : Dig
 -- Complete rules look back to nodes that stand for the transitions, and for no others, to which they look back.
 pub record AreLookbacks (M : Lr0Automaton) (gotos : List Goto) (g : Digraph) (lookbacks : List Lookback) : Type 0 where
   pub stands : (l : Lookback) → Contains lookbacks l
-      → (l.goto < g.nodes) × (j : ℕ) × (j < length gotos) × StandsFor gotos g l.goto j
+      → (l.node < g.nodes) × (j : ℕ) × (j < length gotos) × StandsFor gotos g l.node j
   pub back : (s p j : ℕ) → j < length gotos
-      → ((k : ℕ) × Contains lookbacks (record { state = s; rule = p; goto = k }) × StandsFor gotos g k j)
+      → ((k : ℕ) × Contains lookbacks (record { state = s; rule = p; node = k }) × StandsFor gotos g k j)
       ↔ ((x : Goto) × (slice_get gotos j ≡ Some x) × LooksBack M.grammar (goto_of M) s p x.from x.symbol)
 
 -- The pairs are exactly those of the relations of the automaton.

@@ -11,4 +11,4 @@ abbrev pub direct_from : direct.DirectRead → DirectRead
 direct_from d = record { goto = d.goto; terminal = d.terminal.0 }
 
 abbrev pub lookback_from : lookback.Lookback → Lookback
-lookback_from l = record { state = l.state.0; rule = l.rule; goto = l.goto }
+lookback_from l = record { state = l.state.0; rule = l.rule; node = l.node }

@@ -16,9 +16,9 @@ pub struct Relations {
     pub(crate) direct: Vec<DirectRead>,
     /// An edge `i -> j` where transition `i` reads transition `j`.
     pub(crate) reads: Graph,
-    /// An edge `i -> j` where transition `i` includes transition `j`.
+    /// An edge from transition `i` to a node that stands for each transition that it includes.
     pub(crate) includes: Graph,
-    /// The transitions to which complete rules look back.
+    /// The nodes that stand for the transitions to which complete rules look back.
     pub(crate) lookbacks: Vec<Lookback>,
 }
 
@@ -60,14 +60,15 @@ impl Relations {
         &self.reads
     }
 
-    /// Which transitions include which.
+    /// Which transitions include which. A node stands for the transition of its number; one past all transitions
+    /// stands for each of those to which its edges lead.
     pub fn includes(&self) -> &Graph
         ensures { result.now ≡ self.now.includes }
     {
         &self.includes
     }
 
-    /// The transitions to which complete rules look back.
+    /// To which transitions complete rules look back, by the nodes of `includes` that stand for them.
     pub fn lookbacks(&self) -> &[Lookback]
         ensures { map lookback_from result.now ≡ self.now.lookbacks }
     {

@@ -27,7 +27,7 @@ pub struct Lookback {
     /// The rule's number.
     pub rule: usize,
     /// The node that stands for them: a transition's number, or past these one from which edges lead to each.
-    pub goto: usize,
+    pub node: usize,
 }
 
 /// What walks found.
@@ -158,11 +158,7 @@ impl Walks {
     {
         let body = gotos.lr0().reduced().grammar().rule(rule).body();
         if let Some(state) = self.pass(gotos, gotos.get(goto).from, body)? {
-            self.lookbacks.push(Lookback {
-                state,
-                rule,
-                goto: node,
-            })?;
+            self.lookbacks.push(Lookback { state, rule, node })?;
             self.include(gotos, node, body)?;
         }
         Ok(())

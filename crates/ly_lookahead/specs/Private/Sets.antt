@@ -36,7 +36,7 @@ IsRowOf M first l r = (k : ℕ) × (slice_get (state_at M l.state).complete k �
 -- a number comes to a row from one of the nodes to which its rule looks back
 abbrev pub ComesBack : Lr0Automaton → List ℕ → List Lookback → List NumberSet → ℕ → ℕ → Type 0
 ComesBack M first lookbacks sets r t =
-    (l : Lookback) × Contains lookbacks l × IsRowOf M first l r × Member (row sets l.goto) t
+    (l : Lookback) × Contains lookbacks l × IsRowOf M first l r × Member (row sets l.node) t
 
 -- the rows after what comes to them along lookbacks
 abbrev pub AreLookedBack : Lr0Automaton → List ℕ → List Lookback → List NumberSet → List NumberSet → Type 0

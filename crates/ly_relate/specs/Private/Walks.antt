@@ -25,8 +25,8 @@ pub record AreLast (g : Digraph) (last : List (Option ℕ)) : Type 0 where
 
 -- lookbacks to a node were added, of those states and rules that meet a test
 abbrev pub AreBack : List Lookback → List Lookback → ℕ → (ℕ → ℕ → Type 0) → Type 0
-AreBack old new n P = (s p m : ℕ) → Contains new (record { state = s; rule = p; goto = m })
-    ↔ (Contains old (record { state = s; rule = p; goto = m }) ⊎ ((m ≡ n) × P s p))
+AreBack old new n P = (s p m : ℕ) → Contains new (record { state = s; rule = p; node = m })
+    ↔ (Contains old (record { state = s; rule = p; node = m }) ⊎ ((m ≡ n) × P s p))
 
 -- From a state the first symbols of a body lead to another, over these states, one before each of them.
 pub record IsPassed (M : Lr0Automaton) (from : ℕ) (body : List Symbol) (count : ℕ) (path : List ℕ) (s : ℕ) : Type 0
@@ -79,8 +79,8 @@ AreEdgesBy P old new = (i o : ℕ) → IsEdge new i o ↔ (IsEdge old i o ⊎ P 
 
 -- lookbacks were added
 abbrev pub AreBackBy : (ℕ → ℕ → ℕ → Type 0) → List Lookback → List Lookback → Type 0
-AreBackBy P old new = (s p o : ℕ) → Contains new (record { state = s; rule = p; goto = o })
-    ↔ (Contains old (record { state = s; rule = p; goto = o }) ⊎ P s p o)
+AreBackBy P old new = (s p o : ℕ) → Contains new (record { state = s; rule = p; node = o })
+    ↔ (Contains old (record { state = s; rule = p; node = o }) ⊎ P s p o)
 
 -- where there is none
 abbrev pub no_goto : Goto

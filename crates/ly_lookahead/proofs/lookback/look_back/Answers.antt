@@ -21,7 +21,7 @@ use Rattle.ly_lookahead.proofs.lookback.look_back.Goals.{in-Some, in_default}
 seen_within : (M : Lr0Automaton) → IsLr0Automaton M → (R : Relations) → AreRelations M R
     → (items : List lookback.Lookback) (i : ℕ) → map lookback_from items ≡ R.lookbacks → i < length items
     → ((slice_index_or items i no_lookback).state.0 < length M.states)
-    × ((slice_index_or items i no_lookback).goto < R.includes.nodes)
+    × ((slice_index_or items i no_lookback).node < R.includes.nodes)
 seen_within M law R are items i shown lt =
     let l = lookback_from (slice_index_or items i no_lookback) in
     lookback_within M law R are l (member_at R.lookbacks i l (lookback_seen R.lookbacks items i shown lt))
@@ -108,7 +108,7 @@ loop-lookback-preserved c =
           let to = slice_index_or first l.state 0 + k in
           let is = ap (λ m. m.sets) (w.sets-is ∙ w.union_row.ensures.united) in
           record {
-            long = ap length is ∙ (length-set now to (set.union (row now to) (row now l.goto)) ∙ kept);
+            long = ap length is ∙ (length-set now to (set.union (row now to) (row now l.node)) ∙ kept);
             united = looked_more M first R.lookbacks i l at k place
                 (λ j there. complete_once M c.requires.lawful l.state j k l.rule in_state there place) old now
                 c.match-place_of.sets.sets (omega (arith, lt, long, kept)) is

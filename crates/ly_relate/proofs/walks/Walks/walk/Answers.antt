@@ -43,7 +43,7 @@ returns-in_ok-include-clause-lookbacks c =
     let passed : IsPassed n.automaton c.get.result.from.0 body (length c.body-body.result.now) path c.in-Some.state.0
     = subst (λ o. MatchOption o (IsStopped n.automaton c.get.result.from.0 body) (λ s. IsPassed n.automaton
     c.get.result.from.0 body (length c.body-body.result.now) path s.0)) c.in-Some.is c.in_ok-state.ensures.passed in
-    let v : code.Lookback = record { state = c.in-Some.state; rule = c.args.rule; goto = c.args.node } in
+    let v : code.Lookback = record { state = c.in-Some.state; rule = c.args.rule; node = c.args.node } in
     let before = ap (λ l. map lookback_from l.items) c.in_ok-state.ensures.lookbacks in
     back_by n c.get.ensures.lawful c.args.goto c.args.node c.args.rule c.get.result.from.0 body (length c.body-body.result.now) path
     c.in-Some.state.0 (map lookback_from c.args.self.now.lookbacks.items)

@@ -15,8 +15,8 @@ loop-goto-init c = record {
     (λ b. absurd (let lt = b.1 in omega (arith, lt))),
   );
   lookbacks = λ s p o. (
-    (λ has. absurd (Contains-none (record { state = s; rule = p; goto = o })
-        (subst (λ xs. Contains (map lookback_from xs) (record { state = s; rule = p; goto = o })) c.requires.none has))),
+    (λ has. absurd (Contains-none (record { state = s; rule = p; node = o })
+        (subst (λ xs. Contains (map lookback_from xs) (record { state = s; rule = p; node = o })) c.requires.none has))),
     (λ b. absurd (let lt = b.1 in omega (arith, lt))),
   );
 }
@@ -62,5 +62,5 @@ returns-clause-lookbacks c =
     are_lookbacks n c.len-goto-end.ensures.lawful r c.requires.rules w c.requires.groups g c.loop-goto.invariant.nodes
     (subst (λ k. (i o : ℕ) → IsEdge g i o ↔ ((j : ℕ) × (j < k) × EdgeFrom n r w j i o)) all
     c.loop-goto.invariant.includes) lookbacks
-    (subst (λ k. (s p o : ℕ) → Contains lookbacks (record { state = s; rule = p; goto = o })
+    (subst (λ k. (s p o : ℕ) → Contains lookbacks (record { state = s; rule = p; node = o })
     ↔ ((j : ℕ) × (j < k) × BackFrom n r w j s p o)) all c.loop-goto.invariant.lookbacks)

@@ -12,5 +12,5 @@ invariant-loop-goto l = record {
   includes : (i o : ℕ) → IsEdge l.self.includes i o
       ↔ ((j : ℕ) × (j < l.goto) × EdgeFrom l.gotos l.rules l.groups j i o);
   lookbacks : (s p o : ℕ) → Contains (map lookback_from l.self.lookbacks.items)
-      (record { state = s; rule = p; goto = o }) ↔ ((j : ℕ) × (j < l.goto) × BackFrom l.gotos l.rules l.groups j s p o);
+      (record { state = s; rule = p; node = o }) ↔ ((j : ℕ) × (j < l.goto) × BackFrom l.gotos l.rules l.groups j s p o);
 }
