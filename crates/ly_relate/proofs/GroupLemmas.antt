@@ -71,7 +71,7 @@ module _ (n : Numbering) (solid : ℕ → List ℕ) (w : Grouping) (are : AreGro
       (moves : (a b : ℕ) → AreAlike n solid a b → S a → S b)
       (found : (o : ℕ) → F o ↔ ((m : ℕ) × (m < length n.gotos) × IsSaidOf w m (O m) (S m) o))
       (gather : (k j : ℕ) → length n.gotos ≤ k
-          → IsEdge g k j ↔ ((m : ℕ) × (m < length n.gotos) × (k ≡ node_of w m) × (k ≢ m) × (j ≡ m))) where
+      → IsEdge g k j ↔ ((m : ℕ) × (m < length n.gotos) × (k ≡ node_of w m) × (k ≢ m) × (j ≡ m))) where
     said_to : (j : ℕ) → j < length n.gotos → ((k : ℕ) × F k × StandsFor n.gotos g k j) → T j
     said_to j lt (k, f, stands) = let m = (found k).0 f in at m.0 m.1 m.2 stands where
       at : (m : ℕ) → m < length n.gotos → IsSaidOf w m (O m) (S m) k → StandsFor n.gotos g k j → T j
@@ -84,7 +84,7 @@ module _ (n : Numbering) (solid : ℕ → List ℕ) (w : Grouping) (are : AreGro
       at m in_list (inr (s, leads, node)) (inr (past, edge)) =
           let to = (gather k j past).0 edge in
           let joined = joined_node j lt (let is : k ≡ node_of w j = to.2 ∙ ap (node_of w) (sym to.4) in
-              omega (arith, is, past)) in
+          omega (arith, is, past)) in
           let same_node : node_of w m ≡ length n.gotos + joined.0
           = sym node ∙ (to.2 ∙ (ap (node_of w) (sym to.4) ∙ joined.1.node)) in
           let leader = leads_there m joined.0 leads same_node in
@@ -301,7 +301,7 @@ module _ {E₀ E₁ : Type 0} (w : Grouping) (j o : ℕ) (O S : Type 0) (first :
   said_both {E₂} second leads = (to, back) where
     to : E₂ → E₀ ⊎ IsSaidOf w j O S o
     to e = elim (second.0 e) [
-      | inl was ↦ elim (first.0 was) [ | inl old ↦ inl old | inr (same, is) ↦ inr (inl (is, same)) ]
+      | inl was ↦ elim (first.0 was) [ inl old ↦ inl old | inr (same, is) ↦ inr (inl (is, same)) ]
       | inr (same, is) ↦ inr (inr (is, leads, same))
     ]
 
@@ -314,7 +314,7 @@ module _ {E₀ E₁ : Type 0} (w : Grouping) (j o : ℕ) (O S : Type 0) (first :
   pub said_first : (Leads w j → ⊥) → E₁ ↔ (E₀ ⊎ IsSaidOf w j O S o)
   said_first lacks = (to, back) where
     to : E₁ → E₀ ⊎ IsSaidOf w j O S o
-    to e = elim (first.0 e) [ | inl old ↦ inl old | inr (same, is) ↦ inr (inl (is, same)) ]
+    to e = elim (first.0 e) [ inl old ↦ inl old | inr (same, is) ↦ inr (inl (is, same)) ]
 
     back : E₀ ⊎ IsSaidOf w j O S o → E₁
     back (inl old) = first.1 (inl old)
@@ -328,7 +328,7 @@ module _ {E₀ E₂ Said : Type 0} (i node j o : ℕ) (said : E₂ ↔ (E₀ ⊎
   edge_more {E₃} last other = (to, back) where
     to : E₃ → E₀ ⊎ (Said ⊎ ((i ≡ node) × (i ≢ j) × (o ≡ j)))
     to e = elim (last.0 e) [
-      | inl was ↦ elim (said.0 was) [ | inl old ↦ inl old | inr is ↦ inr (inl is) ]
+      | inl was ↦ elim (said.0 was) [ inl old ↦ inl old | inr is ↦ inr (inl is) ]
       | inr (same, from) ↦ inr (inr (from, (λ own. other (sym from ∙ own)), same))
     ]
 
@@ -340,7 +340,7 @@ module _ {E₀ E₂ Said : Type 0} (i node j o : ℕ) (said : E₂ ↔ (E₀ ⊎
   pub edge_same : node ≡ j → E₂ ↔ (E₀ ⊎ (Said ⊎ ((i ≡ node) × (i ≢ j) × (o ≡ j))))
   edge_same own = (to, back) where
     to : E₂ → E₀ ⊎ (Said ⊎ ((i ≡ node) × (i ≢ j) × (o ≡ j)))
-    to e = elim (said.0 e) [ | inl old ↦ inl old | inr is ↦ inr (inl is) ]
+    to e = elim (said.0 e) [ inl old ↦ inl old | inr is ↦ inr (inl is) ]
 
     back : E₀ ⊎ (Said ⊎ ((i ≡ node) × (i ≢ j) × (o ≡ j))) → E₂
     back (inl old) = said.1 (inl old)

@@ -83,8 +83,12 @@ module _ (n : Numbering) (solid : ℕ → List ℕ) (k : ℕ) (few : k ≤ lengt
   pub joined_beside : (old new : Grouping) (l node : ℕ) → AreGroups n solid k old → l < k → IsNodeBeside old new l node
       → AreGroups n solid k new × (g : ℕ) × IsJoined n solid k new l g × (node ≡ length n.gotos + g)
   joined_beside old new l node are lt beside = at beside.how where
-    at : ((node_of old l ≢ l) × (new ≡ old)) ⊎ ((node_of old l ≡ l) × (new ≡ record { nodes = slice_set old.nodes l
-        old.end; leaders = old.leaders ++ l ∷ []; end = old.end + 1 }))
+    at : ((node_of old l ≢ l) × (new ≡ old)) ⊎ ((node_of old l ≡ l) × (new ≡ record {
+      nodes = slice_set old.nodes l
+          old.end;
+      leaders = old.leaders ++ l ∷ [];
+      end = old.end + 1;
+    }))
         → AreGroups n solid k new × (g : ℕ) × IsJoined n solid k new l g × (node ≡ length n.gotos + g)
     at (inl (ne, e)) = elim (are.each l lt) [
       | inl own ↦ absurd (ne own)

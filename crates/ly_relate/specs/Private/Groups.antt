@@ -88,8 +88,12 @@ IsNodeFor n solid w j node = (node ≡ j) ⊎ ((g : ℕ) × (g < length w.leader
 -- node now.
 pub record IsNodeBeside (old new : Grouping) (j node : ℕ) : Type 0 where
   pub is : node_of new j ≡ node
-  pub how : ((node_of old j ≢ j) × (new ≡ old)) ⊎ ((node_of old j ≡ j) × (new ≡ record { nodes = slice_set old.nodes j
-      old.end; leaders = old.leaders ++ j ∷ []; end = old.end + 1 }))
+  pub how : ((node_of old j ≢ j) × (new ≡ old)) ⊎ ((node_of old j ≡ j) × (new ≡ record {
+    nodes = slice_set old.nodes j
+        old.end;
+    leaders = old.leaders ++ j ∷ [];
+    end = old.end + 1;
+  }))
 
 -- the transition is the first that its node stands for
 abbrev pub Leads : Grouping → ℕ → Type 0

@@ -22,16 +22,16 @@ loop-rule-preserved c = λ k has r X rest is_rule begins.
     let i = c.loop-rule.rule-index in
     let here : slice_index_or rules i 0 ≡ k → goto_of M c.args.one.0 X ≡ goto_of M c.args.other.0 X
     = λ same.
-        let seen = first_seen c.body.result.now c.in-Some.symbol.now (sym c.in-Some.ensures.value) in
-        let body = body_is (slice_index_or rules i 0) c.grammar.result.now c.reduced.result.now.grammar M.grammar
-        c.rule.result.now r (map symbol_of c.body.result.now) c.grammar.ensures.keeps c.reduced.ensures
-        c.rule.ensures.there c.body.ensures (subst (λ p. IsRule M.grammar p r) (sym same) is_rule) in
-        let whole : X ∷ rest ≡ symbol_of c.in-Some.symbol.now ∷ seen.0 = sym begins ∙ (body ∙ seen.1) in
-        let first : X ≡ symbol_of c.in-Some.symbol.now = cc in
-        let lead : goto_of M c.args.one.0 (symbol_of c.in-Some.symbol.now)
-        ≡ goto_of M c.args.other.0 (symbol_of c.in-Some.symbol.now)
-        = sym c.goto_near-target.ensures ∙ (c.if-not-are_same.ensures refl ∙ c.goto_near-found.ensures) in
-        subst (λ Y. goto_of M c.args.one.0 Y ≡ goto_of M c.args.other.0 Y) (sym first) lead in
+    let seen = first_seen c.body.result.now c.in-Some.symbol.now (sym c.in-Some.ensures.value) in
+    let body = body_is (slice_index_or rules i 0) c.grammar.result.now c.reduced.result.now.grammar M.grammar
+    c.rule.result.now r (map symbol_of c.body.result.now) c.grammar.ensures.keeps c.reduced.ensures
+    c.rule.ensures.there c.body.ensures (subst (λ p. IsRule M.grammar p r) (sym same) is_rule) in
+    let whole : X ∷ rest ≡ symbol_of c.in-Some.symbol.now ∷ seen.0 = sym begins ∙ (body ∙ seen.1) in
+    let first : X ≡ symbol_of c.in-Some.symbol.now = cc in
+    let lead : goto_of M c.args.one.0 (symbol_of c.in-Some.symbol.now)
+    ≡ goto_of M c.args.other.0 (symbol_of c.in-Some.symbol.now)
+    = sym c.goto_near-target.ensures ∙ (c.if-not-are_same.ensures refl ∙ c.goto_near-found.ensures) in
+    subst (λ Y. goto_of M c.args.one.0 Y ≡ goto_of M c.args.other.0 Y) (sym first) lead in
     elim ((take_Contains rules i 0 k c.loop-rule-test.true).0 has) [
       | inl before ↦ c.loop-rule.invariant k before r X rest is_rule begins
       | inr same ↦ here same

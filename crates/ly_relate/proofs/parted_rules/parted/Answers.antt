@@ -21,12 +21,12 @@ pushed xs new x q e = (
 one_more : {A B T New More E : Type 0} → (A ⊎ B) ↔ T → New ↔ (A ⊎ E) → More ↔ (T ⊎ E) → (New ⊎ B) ↔ More
 one_more {A} {B} {T} {New} {More} {E} before new more = (to, back) where
   to : New ⊎ B → More
-  to (inl n) = elim (new.0 n) [ | inl a ↦ more.1 (inl (before.0 (inl a))) | inr e ↦ more.1 (inr e) ]
+  to (inl n) = elim (new.0 n) [ inl a ↦ more.1 (inl (before.0 (inl a))) | inr e ↦ more.1 (inr e) ]
   to (inr b) = more.1 (inl (before.0 (inr b)))
 
   back : More → New ⊎ B
   back m = elim (more.0 m) [
-    | inl t ↦ elim (before.1 t) [ | inl a ↦ inl (new.1 (inl a)) | inr b ↦ inr b ]
+    | inl t ↦ elim (before.1 t) [ inl a ↦ inl (new.1 (inl a)) | inr b ↦ inr b ]
     | inr e ↦ inl (new.1 (inr e))
   ]
 
@@ -34,11 +34,11 @@ one_behind : {A B T New More E : Type 0} → (A ⊎ B) ↔ T → New ↔ (B ⊎ 
 one_behind {A} {B} {T} {New} {More} {E} before new more = (to, back) where
   to : A ⊎ New → More
   to (inl a) = more.1 (inl (before.0 (inl a)))
-  to (inr n) = elim (new.0 n) [ | inl b ↦ more.1 (inl (before.0 (inr b))) | inr e ↦ more.1 (inr e) ]
+  to (inr n) = elim (new.0 n) [ inl b ↦ more.1 (inl (before.0 (inr b))) | inr e ↦ more.1 (inr e) ]
 
   back : More → A ⊎ New
   back m = elim (more.0 m) [
-    | inl t ↦ elim (before.1 t) [ | inl a ↦ inl a | inr b ↦ inr (new.1 (inl b)) ]
+    | inl t ↦ elim (before.1 t) [ inl a ↦ inl a | inr b ↦ inr (new.1 (inl b)) ]
     | inr e ↦ inr (new.1 (inr e))
   ]
 

@@ -51,16 +51,16 @@ returns-in_ok-add-clause-includes c = λ i o.
     let x = goto_from c.get.result in
     let there = c.get.ensures.there in
     let said : IsEdge c.if-leads.self.includes i o ↔ (IsEdge c.args.self.now.includes i o ⊎ IsSaidOf w j
-        (IncludesByOne n (rules_at n (others_of r) j) j i) (IncludesByOne n (rules_at n (solid_of r) j) j i) o)
+    (IncludesByOne n (rules_at n (others_of r) j) j i) (IncludesByOne n (rules_at n (solid_of r) j) j i) o)
     = elim c.if-leads.branch [
       | then-leads+in_ok-walk_rules-2 b ↦ subst (λ v. IsEdge v.includes i o ↔ (IsEdge c.args.self.now.includes i o ⊎ IsSaidOf w j
-        (IncludesByOne n (rules_at n (others_of r) j) j i) (IncludesByOne n (rules_at n (solid_of r) j) j i) o)) (sym b.self-is)
+          (IncludesByOne n (rules_at n (others_of r) j) j i) (IncludesByOne n (rules_at n (solid_of r) j) j i) o)) (sym b.self-is)
           (edges_both n r w j c.node-node.result x there c.others.result.now b.solid.result.now c.others.ensures
           b.solid.ensures c.node-node.ensures c.args.self.now.includes c.walk_rules.new.self.includes
           b.walk_rules-then-leads.new.self.includes c.in_ok-walk_rules.ensures.includes
           b.in_ok-walk_rules-2.ensures.includes (b.if-leads.ensures.0 refl) i o)
       | else-leads b ↦ subst (λ v. IsEdge v.includes i o ↔ (IsEdge c.args.self.now.includes i o ⊎ IsSaidOf w j
-        (IncludesByOne n (rules_at n (others_of r) j) j i) (IncludesByOne n (rules_at n (solid_of r) j) j i) o)) (sym b.self-is)
+          (IncludesByOne n (rules_at n (others_of r) j) j i) (IncludesByOne n (rules_at n (solid_of r) j) j i) o)) (sym b.self-is)
           (edges_first n r w j x there c.others.result.now c.others.ensures
           (λ l. let off : false ≡ true = b.if-leads.ensures.1 l in cc)
           c.args.self.now.includes c.walk_rules.new.self.includes c.in_ok-walk_rules.ensures.includes i o)
@@ -79,13 +79,13 @@ returns-in_ok-add-clause-lookbacks c =
     let there = c.get.ensures.there in
     elim c.if-leads.branch [
       | then-leads+in_ok-walk_rules-2 b ↦ subst (λ v. AreBackBy (BackFrom n r w j) (map lookback_from c.args.self.now.lookbacks.items)
-        (map lookback_from v.lookbacks.items)) (sym b.self-is)
+          (map lookback_from v.lookbacks.items)) (sym b.self-is)
           (back_both n r w j c.node-node.result x there c.others.result.now b.solid.result.now c.others.ensures
           b.solid.ensures c.node-node.ensures (map lookback_from c.args.self.now.lookbacks.items) (map lookback_from c.walk_rules.new.self.lookbacks.items)
           (map lookback_from b.walk_rules-then-leads.new.self.lookbacks.items) c.in_ok-walk_rules.ensures.lookbacks
           b.in_ok-walk_rules-2.ensures.lookbacks (b.if-leads.ensures.0 refl))
       | else-leads b ↦ subst (λ v. AreBackBy (BackFrom n r w j) (map lookback_from c.args.self.now.lookbacks.items)
-        (map lookback_from v.lookbacks.items)) (sym b.self-is)
+          (map lookback_from v.lookbacks.items)) (sym b.self-is)
           (back_first n r w j x there c.others.result.now c.others.ensures
           (λ l. let off : false ≡ true = b.if-leads.ensures.1 l in cc)
           (map lookback_from c.args.self.now.lookbacks.items) (map lookback_from c.walk_rules.new.self.lookbacks.items) c.in_ok-walk_rules.ensures.lookbacks)
@@ -100,16 +100,16 @@ returns-else-node-goto-clause-includes c = λ i o.
     let x = goto_from c.get.result in
     let there = c.get.ensures.there in
     let said : IsEdge c.if-leads.self.includes i o ↔ (IsEdge c.args.self.now.includes i o ⊎ IsSaidOf w j
-        (IncludesByOne n (rules_at n (others_of r) j) j i) (IncludesByOne n (rules_at n (solid_of r) j) j i) o)
+    (IncludesByOne n (rules_at n (others_of r) j) j i) (IncludesByOne n (rules_at n (solid_of r) j) j i) o)
     = elim c.if-leads.branch [
       | then-leads+in_ok-walk_rules-2 b ↦ subst (λ v. IsEdge v.includes i o ↔ (IsEdge c.args.self.now.includes i o ⊎ IsSaidOf w j
-        (IncludesByOne n (rules_at n (others_of r) j) j i) (IncludesByOne n (rules_at n (solid_of r) j) j i) o)) (sym b.self-is)
+          (IncludesByOne n (rules_at n (others_of r) j) j i) (IncludesByOne n (rules_at n (solid_of r) j) j i) o)) (sym b.self-is)
           (edges_both n r w j c.node-node.result x there c.others.result.now b.solid.result.now c.others.ensures
           b.solid.ensures c.node-node.ensures c.args.self.now.includes c.walk_rules.new.self.includes
           b.walk_rules-then-leads.new.self.includes c.in_ok-walk_rules.ensures.includes
           b.in_ok-walk_rules-2.ensures.includes (b.if-leads.ensures.0 refl) i o)
       | else-leads b ↦ subst (λ v. IsEdge v.includes i o ↔ (IsEdge c.args.self.now.includes i o ⊎ IsSaidOf w j
-        (IncludesByOne n (rules_at n (others_of r) j) j i) (IncludesByOne n (rules_at n (solid_of r) j) j i) o)) (sym b.self-is)
+          (IncludesByOne n (rules_at n (others_of r) j) j i) (IncludesByOne n (rules_at n (solid_of r) j) j i) o)) (sym b.self-is)
           (edges_first n r w j x there c.others.result.now c.others.ensures
           (λ l. let off : false ≡ true = b.if-leads.ensures.1 l in cc)
           c.args.self.now.includes c.walk_rules.new.self.includes c.in_ok-walk_rules.ensures.includes i o)
@@ -126,13 +126,13 @@ returns-else-node-goto-clause-lookbacks c =
     let there = c.get.ensures.there in
     elim c.if-leads.branch [
       | then-leads+in_ok-walk_rules-2 b ↦ subst (λ v. AreBackBy (BackFrom n r w j) (map lookback_from c.args.self.now.lookbacks.items)
-        (map lookback_from v.lookbacks.items)) (sym b.self-is)
+          (map lookback_from v.lookbacks.items)) (sym b.self-is)
           (back_both n r w j c.node-node.result x there c.others.result.now b.solid.result.now c.others.ensures
           b.solid.ensures c.node-node.ensures (map lookback_from c.args.self.now.lookbacks.items) (map lookback_from c.walk_rules.new.self.lookbacks.items)
           (map lookback_from b.walk_rules-then-leads.new.self.lookbacks.items) c.in_ok-walk_rules.ensures.lookbacks
           b.in_ok-walk_rules-2.ensures.lookbacks (b.if-leads.ensures.0 refl))
       | else-leads b ↦ subst (λ v. AreBackBy (BackFrom n r w j) (map lookback_from c.args.self.now.lookbacks.items)
-        (map lookback_from v.lookbacks.items)) (sym b.self-is)
+          (map lookback_from v.lookbacks.items)) (sym b.self-is)
           (back_first n r w j x there c.others.result.now c.others.ensures
           (λ l. let off : false ≡ true = b.if-leads.ensures.1 l in cc)
           (map lookback_from c.args.self.now.lookbacks.items) (map lookback_from c.walk_rules.new.self.lookbacks.items) c.in_ok-walk_rules.ensures.lookbacks)
