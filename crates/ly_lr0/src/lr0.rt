@@ -178,7 +178,7 @@ fn target_at(transitions: &[Transition], place: usize, symbol: Symbol) -> Option
 }
 
 /// Whether a symbol's number comes before another's, terminals before nonterminals.
-fn comes_before(left: Symbol, right: Symbol) -> bool
+pub(crate) fn comes_before(left: Symbol, right: Symbol) -> bool
     ensures { IsTrue result ↔ IsLess (symbol_of left) (symbol_of right) }
 {
     match (left, right) {
