@@ -122,7 +122,12 @@ impl<'a> Found<'a> {
     }
 
     /// The number of a kernel, which gets the next one where it is new. It is first compared with that of the hint.
-    fn number(&mut self, kernel: &[Item], link: Link, hint: Option<StateNo>) -> Result<StateNo, Lr0Fault>
+    fn number(
+        &mut self,
+        kernel: &[Item],
+        link: Link,
+        hint: Option<StateNo>,
+    ) -> Result<StateNo, Lr0Fault>
         requires { length self.old.kernels ≤ self.old.limit }
         ensures numbered { IfOk result (λ s. IsNumbered self.old.kernels (links_of self.old) kernel.now (link_of link)
             self.new.kernels (links_of self.new) s.0) }
