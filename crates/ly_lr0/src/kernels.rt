@@ -59,7 +59,7 @@ impl Kernels {
         self.kernels.get_index_of(kernel)
     }
 
-    /// The same, but the kernel is first compared with the one of a number that it may well have: no hash is asked then.
+    /// The same, but the kernel is first compared with that of a hint: where it is that, no hash is asked.
     pub(crate) fn find_near(&self, kernel: &[Item], hint: Option<StateNo>) -> Option<usize>
         ensures { MatchOption result (IsAbsent self.now kernel.now)
             (λ n. (n < length self.now) × (slice_index_or self.now n [] ≡ kernel.now)) }
