@@ -14,9 +14,11 @@ ghost use Rattle.ly_lr0.specs.Transitions.{transition_of};
 use crate::fault::Lr0Fault;
 use crate::item::{Item, Move};
 use crate::kernels::Kernels;
+use crate::lr0::comes_before;
 use crate::transition::{Link, Row, Transition};
 use ly_base::StateNo;
 use ly_grammar::Reduced;
+use ly_join::Symbol;
 use std::alloc::{AllocError, Global};
 
 /// The kernels that were found, and the rows of the first of them.
@@ -91,19 +93,41 @@ impl<'a> Found<'a> {
         let mut transitions = Vec::new(self.alloc);
         let mut kernel = Vec::new(self.alloc);
         let mut at = 0;
+        let mut place = 0;
         while at < moves.len() {
             let symbol = moves[at].symbol;
             let end = group_end(moves, at);
             items_of(&moves[at..end], &mut kernel)?;
-            let target = self.number(&kernel, Link { from, symbol })?;
+            let hint = self.hint(symbol, &mut place);
+            let target = self.number(&kernel, Link { from, symbol }, hint)?;
             transitions.push(Transition { symbol, target })?;
             at = end;
         }
         Ok(transitions)
     }
 
-    /// The number of a kernel, which gets the next one where it is new.
-    fn number(&mut self, kernel: &[Item], link: Link) -> Result<StateNo, Lr0Fault>
+    /// Where a symbol led from the state before, since it mostly leads there again. Its transition is looked for from a
+    /// place on, so symbols that rise are found in one walk. Nothing rests on the answer: the kernel is compared.
+    fn hint(&self, symbol: Symbol, place: &mut usize) -> Option<StateNo> {
+        let transitions: &[Transition] = &self.rows.last()?.transitions;
+        while *place < transitions.len() && comes_before(transitions[*place].symbol, symbol) {
+            *place += 1;
+        }
+        let near = transitions.get(*place)?;
+        if near.symbol == symbol {
+            Some(near.target)
+        } else {
+            None
+        }
+    }
+
+    /// The number of a kernel, which gets the next one where it is new. It is first compared with that of the hint.
+    fn number(
+        &mut self,
+        kernel: &[Item],
+        link: Link,
+        hint: Option<StateNo>,
+    ) -> Result<StateNo, Lr0Fault>
         requires { length self.old.kernels ≤ self.old.limit }
         ensures numbered { IfOk result (λ s. IsNumbered self.old.kernels (links_of self.old) kernel.now (link_of link)
             self.new.kernels (links_of self.new) s.0) }
@@ -115,7 +139,7 @@ impl<'a> Found<'a> {
             (length self.old.kernels ≡ self.old.limit) × IsAbsent self.old.kernels kernel.now }
     {
         let limit = self.limit as usize;
-        if let Some(known) = self.kernels.find(kernel) {
+        if let Some(known) = self.kernels.find_near(kernel, hint) {
             return Ok(StateNo(known as u32));
         }
         let count = self.kernels.len();

@@ -77,6 +77,7 @@ impl<'a> Lr0<'a> {
 
     /// Where a symbol leads from a state. Its transition is looked for at a place among those of the state, and by a
     /// search if it isn't that; then the place is the one behind it. So symbols that rise are found without a search.
+    #[inline(always)] // it is asked for each state and symbol
     pub fn goto_near(&self, state: StateNo, symbol: Symbol, place: &mut usize) -> Option<StateNo>
         requires { state.0 < length self.now.states }
         ensures { option_map (λ s. s.0) result ≡ goto_of self.now state.0 (symbol_of symbol) }
@@ -178,7 +179,7 @@ fn target_at(transitions: &[Transition], place: usize, symbol: Symbol) -> Option
 }
 
 /// Whether a symbol's number comes before another's, terminals before nonterminals.
-fn comes_before(left: Symbol, right: Symbol) -> bool
+pub(crate) fn comes_before(left: Symbol, right: Symbol) -> bool
     ensures { IsTrue result ↔ IsLess (symbol_of left) (symbol_of right) }
 {
     match (left, right) {
