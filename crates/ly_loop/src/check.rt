@@ -29,9 +29,12 @@ pub fn steady<A: Rows<TableAction> + Drop, G: Rows<StateNo> + Drop>(
     if !is_countable(machine) {
         return Err(LoopFault::OutOfMemory);
     }
-    let entries = all_entries(alloc, machine)?;
-    let gotos = all_gotos(alloc, machine)?;
-    let reductions = all_reductions(alloc, machine, &entries)?;
+    let entry_lists = all_entries(alloc, machine)?;
+    let goto_lists = all_gotos(alloc, machine)?;
+    // as slices they stay the same in the loop
+    let entries = entry_lists.as_slice();
+    let gotos = goto_lists.as_slice();
+    let reductions = all_reductions(alloc, machine, entries)?;
     let mut work = Work {
         known: Known::new(alloc),
         path: Path::new(alloc, machine.terminals())?,
@@ -41,8 +44,8 @@ pub fn steady<A: Rows<TableAction> + Drop, G: Rows<StateNo> + Drop>(
         let below = StateNo(number as u32);
         let first = first_from(
             machine,
-            &entries,
-            &gotos,
+            entries,
+            gotos,
             &reductions,
             below,
             &mut tops,
