@@ -29,11 +29,24 @@ pub fn steady<A: Rows<TableAction> + Drop, G: Rows<StateNo> + Drop>(
     if !is_countable(machine) {
         return Err(LoopFault::OutOfMemory);
     }
-    let entry_lists = all_entries(alloc, machine)?;
-    let goto_lists = all_gotos(alloc, machine)?;
-    // as slices they stay the same in the loop
-    let entries = entry_lists.as_slice();
-    let gotos = goto_lists.as_slice();
+    let entries = all_entries(alloc, machine)?;
+    let gotos = all_gotos(alloc, machine)?;
+    all_steady(alloc, machine, &entries, &gotos)
+}
+
+/// Whether all states are steady: what they do and where they go are listed.
+fn all_steady<A: Rows<TableAction> + Drop, G: Rows<StateNo> + Drop>(
+    alloc: Global,
+    machine: &Machine<A, G>,
+    entries: &[Vec<Cell<TableAction>>],
+    gotos: &[Vec<Cell<StateNo>>],
+) -> Result<(), LoopFault>
+    requires countable { IsCountable machine.now }
+    requires entries { AreAllEntries machine.now entries.now }
+    requires gotos { AreAllGotos machine.now gotos.now }
+    ensures ok { OnOk result (IsSteady machine.now) }
+    ensures fault { IfErr result (AreTablesRefused machine.now) }
+{
     let reductions = all_reductions(alloc, machine, entries)?;
     let mut work = Work {
         known: Known::new(alloc),
