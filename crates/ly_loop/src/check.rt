@@ -31,7 +31,23 @@ pub fn steady<A: Rows<TableAction> + Drop, G: Rows<StateNo> + Drop>(
     }
     let entries = all_entries(alloc, machine)?;
     let gotos = all_gotos(alloc, machine)?;
-    let reductions = all_reductions(alloc, machine, &entries)?;
+    all_steady(alloc, machine, &entries, &gotos)
+}
+
+/// Whether all states are steady: what they do and where they go are listed.
+fn all_steady<A: Rows<TableAction> + Drop, G: Rows<StateNo> + Drop>(
+    alloc: Global,
+    machine: &Machine<A, G>,
+    entries: &[Vec<Cell<TableAction>>],
+    gotos: &[Vec<Cell<StateNo>>],
+) -> Result<(), LoopFault>
+    requires countable { IsCountable machine.now }
+    requires entries { AreAllEntries machine.now entries.now }
+    requires gotos { AreAllGotos machine.now gotos.now }
+    ensures ok { OnOk result (IsSteady machine.now) }
+    ensures fault { IfErr result (AreTablesRefused machine.now) }
+{
+    let reductions = all_reductions(alloc, machine, entries)?;
     let mut work = Work {
         known: Known::new(alloc),
         path: Path::new(alloc, machine.terminals())?,
@@ -41,8 +57,8 @@ pub fn steady<A: Rows<TableAction> + Drop, G: Rows<StateNo> + Drop>(
         let below = StateNo(number as u32);
         let first = first_from(
             machine,
-            &entries,
-            &gotos,
+            entries,
+            gotos,
             &reductions,
             below,
             &mut tops,

@@ -1,18 +1,20 @@
 ghost use Rattle.std.specs.Prelude.{IfOk};
+ghost use Rattle.std.specs.Cow.{cow_slice_items};
 ghost use Rattle.ly_loop.specs.Private.Entries.{AreAllEntries, AreAllGotos};
 ghost use Rattle.ly_loop.specs.Private.Run.{IsCountable};
 
 use ly_base::{OutOfMemory, StateNo};
 use ly_pack::{Cell, Machine, Rows, TableAction};
 use std::alloc::Global;
+use std::borrow::CowSlice;
 
 /// What each state does where it isn't its default, in the order of terminals.
 pub(crate) fn all_entries<A: Rows<TableAction> + Drop, G: Rows<StateNo> + Drop>(
     alloc: Global,
     machine: &Machine<A, G>,
-) -> Result<Vec<Vec<Cell<TableAction>>>, OutOfMemory>
+) -> Result<CowSlice<'_, Vec<Cell<TableAction>>>, OutOfMemory>
     requires { IsCountable machine.now }
-    ensures { IfOk result (λ rows. AreAllEntries machine.now rows.items) }
+    ensures { IfOk result (λ rows. AreAllEntries machine.now (cow_slice_items rows)) }
 {
     machine.actions().cells(alloc)
 }
@@ -21,9 +23,9 @@ pub(crate) fn all_entries<A: Rows<TableAction> + Drop, G: Rows<StateNo> + Drop>(
 pub(crate) fn all_gotos<A: Rows<TableAction> + Drop, G: Rows<StateNo> + Drop>(
     alloc: Global,
     machine: &Machine<A, G>,
-) -> Result<Vec<Vec<Cell<StateNo>>>, OutOfMemory>
+) -> Result<CowSlice<'_, Vec<Cell<StateNo>>>, OutOfMemory>
     requires { IsCountable machine.now }
-    ensures { IfOk result (λ rows. AreAllGotos machine.now rows.items) }
+    ensures { IfOk result (λ rows. AreAllGotos machine.now (cow_slice_items rows)) }
 {
     machine.gotos().cells(alloc)
 }

@@ -178,14 +178,11 @@ module _ {E : Type 0} (width : ℕ) (lists : List (Vec (Cell E))) (row : ℕ) (o
         ∙ dense_entry-set (dense_of width lists) row old.items new.items at many column entry is r c
         ∙ ap (λ (x : Dense E). if nat_eq r row && nat_eq c column then entry else dense_entry x r c) view
 
--- copies of all lists
+-- all lists
 pub all_cells : {E : Type 0} (width : ℕ) (lists : List (Vec (Cell E))) (d : Dense E) → dense_of width lists ≡ d
-    → IsDense (dense_of width lists) → (copies : List (Vec (Cell E)))
-    → map (λ (v : Vec (Cell E)). v.items) copies ≡ map (λ (v : Vec (Cell E)). v.items) lists
-    → AreAllCellsOf (dense_entry d) d.rows d.width copies
-all_cells {E} width lists d view so copies same = record {
-  count = sym (length-map copies (λ (v : Vec (Cell E)). v.items)) ∙ ap length same
-      ∙ length-map lists (λ (v : Vec (Cell E)). v.items) ∙ ap (λ (x : Dense E). x.rows) view;
+    → IsDense (dense_of width lists) → AreAllCellsOf (dense_entry d) d.rows d.width lists
+all_cells {E} width lists d view so = record {
+  count = ap (λ (x : Dense E). x.rows) view;
   each = λ row cells at. subst (λ (x : Dense E). AreCellsOf (dense_entry x row) cells.items) view
       (row_are (dense_of width lists) so row cells.items (there row cells at));
   within = λ row cells at. subst (λ (x : Dense E). All (λ (c : Cell E). c.column < x.width) cells.items) view
@@ -193,10 +190,9 @@ all_cells {E} width lists d view so copies same = record {
       (there row cells at));
 }
   where
-    there : (row : ℕ) (cells : Vec (Cell E)) → slice_get copies row ≡ Some cells
+    there : (row : ℕ) (cells : Vec (Cell E)) → slice_get lists row ≡ Some cells
         → slice_get (dense_of width lists).lists row ≡ Some cells.items
-    there row cells at = ap (λ ls. slice_get ls row) (sym same)
-        ∙ slice_get-map (λ (v : Vec (Cell E)). v.items) copies row
+    there row cells at = slice_get-map (λ (v : Vec (Cell E)). v.items) lists row
         ∙ ap (option_map (λ (v : Vec (Cell E)). v.items)) at
 
 -- a list that is there, and one that isn't

@@ -7,6 +7,7 @@ use crate::dense::no_cells;
 use crate::rows::Rows;
 use ly_base::{OutOfMemory, StateNo};
 use std::alloc::Global;
+use std::borrow::CowSlice;
 use std::marker::Model;
 
 /// A slot that is used.
@@ -100,7 +101,7 @@ impl<E: Copy> Rows<E> for Comb<E> {
         }
     }
 
-    fn cells(&self, alloc: Global) -> Result<Vec<Vec<Cell<E>>>, OutOfMemory> {
+    fn cells(&self, alloc: Global) -> Result<CowSlice<'_, Vec<Cell<E>>>, OutOfMemory> {
         let mut lists = no_cells(alloc, self.bases.len())?;
         for (place, slot) in self.slots.iter().enumerate() {
             if let Some(slot) = slot {
@@ -112,6 +113,6 @@ impl<E: Copy> Rows<E> for Comb<E> {
                 lists[row].push(Cell { column, entry })?;
             }
         }
-        Ok(lists)
+        Ok(CowSlice::Owned(lists))
     }
 }

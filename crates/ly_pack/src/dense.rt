@@ -13,6 +13,7 @@ use crate::cell::Cell;
 use crate::rows::Rows;
 use ly_base::{OutOfMemory, RuleNo, StateNo};
 use std::alloc::{AllocError, Global};
+use std::borrow::CowSlice;
 use std::marker::Model;
 
 /// Rows as lists: for each of them its entries, with their columns, which rise.
@@ -202,11 +203,7 @@ impl<E: Copy> Rows<E> for Dense<E> {
         }
     }
 
-    fn cells(&self, alloc: Global) -> Result<Vec<Vec<Cell<E>>>, OutOfMemory> {
-        let mut lists = Vec::with_capacity(alloc, self.lists.len())?;
-        for cells in &self.lists {
-            lists.push(Vec::from_slice(alloc, cells)?)?;
-        }
-        Ok(lists)
+    fn cells(&self, _alloc: Global) -> Result<CowSlice<'_, Vec<Cell<E>>>, OutOfMemory> {
+        Ok(CowSlice::Borrowed(&self.lists))
     }
 }

@@ -6,6 +6,7 @@ use crate::comb_rows::Comb;
 use crate::rows::Rows;
 use ly_base::{OutOfMemory, StateNo};
 use std::alloc::Global;
+use std::borrow::CowSlice;
 use std::marker::Model;
 
 /// A comb whose rows are placed by first fit.
@@ -66,7 +67,7 @@ impl<E: Copy> Rows<E> for Packed<E> {
         self.comb.entry(row, column)
     }
 
-    fn cells(&self, alloc: Global) -> Result<Vec<Vec<Cell<E>>>, OutOfMemory> {
+    fn cells(&self, alloc: Global) -> Result<CowSlice<'_, Vec<Cell<E>>>, OutOfMemory> {
         self.comb.cells(alloc)
     }
 }

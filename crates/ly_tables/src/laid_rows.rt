@@ -3,6 +3,7 @@ ghost use Rattle.std.specs.Prelude.{◌≡◌};
 use ly_base::{OutOfMemory, StateNo};
 use ly_pack::{Cell, Comb, Rows};
 use std::alloc::Global;
+use std::borrow::CowSlice;
 
 /// Rows laid over one another that stay with their owner.
 #[derive(Clone, Copy)]
@@ -22,7 +23,7 @@ impl<'a, E: Copy> Rows<E> for LaidRows<'a, E> {
         self.0.entry(row, column)
     }
 
-    fn cells(&self, alloc: Global) -> Result<Vec<Vec<Cell<E>>>, OutOfMemory> {
+    fn cells(&self, alloc: Global) -> Result<CowSlice<'_, Vec<Cell<E>>>, OutOfMemory> {
         self.0.cells(alloc)
     }
 }

@@ -2,7 +2,7 @@ use Rattle.std.proofs.Common.{ℕ, ◌<◌}
 use Rattle.ly_pack.specs.Steady.{IsTableEdge}
 use Rattle.ly_loop.specs.Private.Edges.{IsWork}
 use Rattle.ly_loop.specs.Private.Path.{AllEnd}
-use Rattle.ly_loop.proofs.check.steady.Given as goal
+use Rattle.ly_loop.proofs.check.all_steady.Given as goal
 
 -- the runs above the states so far end
 abbrev pub invariant-loop-number : goal.invariant-loop-number

@@ -1,10 +1,10 @@
-use Rattle.std.proofs.Common.{◌≡◌, ℕ, refl, arith, inl, inr, subst}
+use Rattle.std.proofs.Common.{◌≡◌, ℕ, arith, inl, inr, subst}
 use Rattle.std.proofs.lemmas.Bool.{cases_lt}
 use Rattle.ly_pack.specs.Steady.{IsTableEdge}
 use Rattle.ly_loop.specs.Private.Edges.{IsFirstAbove}
 use Rattle.ly_loop.specs.Private.Path.{AllEnd}
 use Rattle.ly_loop.proofs.EdgeLemmas.{edge_below, ends_above, first_endless}
-use Rattle.ly_loop.proofs.check.steady.Goals as goal
+use Rattle.ly_loop.proofs.check.all_steady.Goals as goal
 
 pub returns-in-Some-clause-fault : goal.returns-in-Some-clause-fault
 returns-in-Some-clause-fault g c =
@@ -33,5 +33,5 @@ loop-number-preserved g c =
 
 pub returns-clause-ok : goal.returns-clause-ok
 returns-clause-ok g c below top t known edge =
-    let lt = edge_below c.args.machine.now below top (c.if-not-is_countable.ensures refl).within edge in
+    let lt = edge_below c.args.machine.now below top c.requires.countable.within edge in
     c.loop-number.invariant.ended below top (omega (arith, lt)) edge t known
