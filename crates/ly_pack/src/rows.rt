@@ -22,8 +22,8 @@ pub trait Rows<E> {
     fn entry(&self, row: StateNo, column: usize) -> Option<E>
         ensures { result ≡ entries self.now row.0 column };
 
-    /// The entries of each row, with their columns, which rise: the rows' own lists where they have them. It fails where
-    /// memory runs out, and where a column has no `u32`.
+    /// The entries of each row, with their columns, which rise: the rows' own lists where they have them. It fails
+    /// where memory runs out, and where a column has no `u32`.
     fn cells(&self, alloc: Global) -> Result<CowSlice<'_, Vec<Cell<E>>>, OutOfMemory>
         ensures { IfOk result (λ lists. AreAllCellsOf (entries self.now) (rows self.now) (width self.now)
             (cow_slice_items lists)) };

@@ -7,7 +7,7 @@ use Rattle.ly_join.specs.Grammar.{IsRule, Symbol, nonterminal, terminal}
 use Rattle.ly_grammar.specs.Items.{onto}
 use Rattle.ly_lr0.specs.Automaton.{Gotos, Reaches, goto_of}
 use Rattle.ly_relate.specs.Private.Gotos.{IsNumbering, Numbering}
-use Rattle.ly_relate.specs.Private.Groups.{AreAlike, BeginsSolid, LeadAlike}
+use Rattle.ly_relate.specs.Private.Groups.{AreAlike, BeginsSolid}
 use Rattle.ly_relate.specs.Private.Walks.{IsIncludingBy, IsLookingBack}
 use Rattle.ly_relate.specs.Related.{Goto}
 use Rattle.ly_relate.proofs.GotoLemmas.{numbered_are}
@@ -31,7 +31,8 @@ first_last (Y ∷ before) w body rest X e is =
     let parts = parted (Y ∷ before) w body e in
     inr (
       reverse (take (length before) rest),
-      parts.0 ∙ (ap (λ u. reverse (take (suc (length before)) u)) is ∙ reverse-append (X ∷ []) (take (length before) rest)),
+      parts.0 ∙ (ap (λ u. reverse (take (suc (length before)) u)) is
+          ∙ reverse-append (X ∷ []) (take (length before) rest)),
     )
 
 -- two transitions of one number

@@ -7,7 +7,7 @@ use Rattle.ly_digraph.specs.Digraph.{Digraph, IsEdge}
 use Rattle.ly_relate.specs.Private.Gotos.{IsNumbering, Numbering}
 use Rattle.ly_relate.specs.Private.Groups.{AreAlike, AreAllParted, AreGroups, Grouping, IsJoined, IsRuleOf, Leads}
 use Rattle.ly_relate.specs.Private.Groups.{RuleLists, leader_of, node_of, others_of, solid_of}
-use Rattle.ly_relate.specs.Private.Walks.{AreBack, AreBackBy, AreEdgesTo, BackFrom, EdgeFrom, IncludesByOne}
+use Rattle.ly_relate.specs.Private.Walks.{AreBack, AreBackBy, AreEdgesBy, AreEdgesTo, BackFrom, EdgeFrom, EdgeTo, IncludesByOne}
 use Rattle.ly_relate.specs.Private.Walks.{IsIncludingBy, IsLookingBack, IsSaidOf}
 use Rattle.ly_relate.specs.Private.Walks.{LooksBackByOne, no_goto, rules_at}
 use Rattle.ly_relate.specs.Related.{AreGathered, AreLookbacks, Goto, IsIncluding, Lookback, StandsFor}
@@ -64,8 +64,8 @@ module _ (n : Numbering) (solid : ℕ → List ℕ) (w : Grouping) (are : AreGro
     | inr joined ↦ let is = joined.1.node in let in_list = joined.1.within in omega (arith, is, in_list, end)
   ]
 
-  -- What is said of transitions, by others of themselves and by solid rules of all that lead alike, is said of the nodes
-  -- that stand for them.
+  -- What is said of transitions, by others of themselves and by solid rules of all that lead alike, is said of the
+  -- nodes that stand for them.
   module _ (g : Digraph) (O S T : ℕ → Type 0) (F : ℕ → Type 0)
       (total : (j : ℕ) → j < length n.gotos → (O j ⊎ S j) ↔ T j)
       (moves : (a b : ℕ) → AreAlike n solid a b → S a → S b)
@@ -230,23 +230,19 @@ module _ (n : Numbering) (law : IsNumbering n) (r : RuleLists) (parted : AreAllP
       back (m, lt, node, other, same) = (edges k j).1 (m, lt, inr (node, other, same))
 
     edge_found : (i : ℕ) → i < length n.gotos → (o : ℕ) → IsEdge g i o ↔ ((m : ℕ) × (m < length n.gotos)
-        × IsSaidOf w m (IncludesByOne n (rules_at n (others_of r) m) m i)
-        (IncludesByOne n (rules_at n (solid_of r) m) m i) o)
+        × EdgeTo n r w m i o)
     edge_found i lt o = (to, back) where
       at : (m : ℕ) → m < length n.gotos → EdgeFrom n r w m i o → (m : ℕ) × (m < length n.gotos)
-          × IsSaidOf w m (IncludesByOne n (rules_at n (others_of r) m) m i)
-          (IncludesByOne n (rules_at n (solid_of r) m) m i) o
+          × EdgeTo n r w m i o
       at m in_list (inl said) = (m, in_list, said)
       at m in_list (inr (node, other, same)) =
           absurd (other (node ∙ own_node n (solid_of r) w are m in_list (omega (arith, node, lt))))
 
       to : IsEdge g i o → (m : ℕ) × (m < length n.gotos)
-          × IsSaidOf w m (IncludesByOne n (rules_at n (others_of r) m) m i)
-          (IncludesByOne n (rules_at n (solid_of r) m) m i) o
+          × EdgeTo n r w m i o
       to edge = let m = (edges i o).0 edge in at m.0 m.1 m.2
 
-      back : ((m : ℕ) × (m < length n.gotos) × IsSaidOf w m (IncludesByOne n (rules_at n (others_of r) m) m i)
-          (IncludesByOne n (rules_at n (solid_of r) m) m i) o) → IsEdge g i o
+      back : ((m : ℕ) × (m < length n.gotos) × EdgeTo n r w m i o) → IsEdge g i o
       back (m, in_list, said) = (edges i o).1 (m, in_list, inl said)
 
     pub are_gathered : AreGathered n.gotos (IsIncluding n.automaton n.gotos) g
@@ -364,9 +360,8 @@ module _ (n : Numbering) (r : RuleLists) (w : Grouping) (j node : ℕ) (x : Goto
 
   -- the edges of a transition that leads, but that from its node
   pub edges_both : (g₀ g₁ g₂ : Digraph) → AreEdgesTo g₀ g₁ j (IncludesByOne n others j)
-      → AreEdgesTo g₁ g₂ node (IncludesByOne n solid j) → Leads w j → (i o : ℕ)
-      → IsEdge g₂ i o ↔ (IsEdge g₀ i o ⊎ IsSaidOf w j (IncludesByOne n (rules_at n (others_of r) j) j i)
-      (IncludesByOne n (rules_at n (solid_of r) j) j i) o)
+      → AreEdgesTo g₁ g₂ node (IncludesByOne n solid j) → Leads w j
+      → AreEdgesBy (EdgeTo n r w j) g₀ g₂
   edges_both g₀ g₁ g₂ first second leads i o =
       said_both w j o (IncludesByOne n (rules_at n (others_of r) j) j i)
       (IncludesByOne n (rules_at n (solid_of r) j) j i)
@@ -388,9 +383,8 @@ module _ (n : Numbering) (r : RuleLists) (w : Grouping) (j node : ℕ) (x : Goto
 -- those of one that doesn't lead
 module _ (n : Numbering) (r : RuleLists) (w : Grouping) (j : ℕ) (x : Goto) (at : slice_get n.gotos j ≡ Some x)
     (others : List ℕ) (are_others : others ≡ others_of r x.symbol) (lacks : Leads w j → ⊥) where
-  pub edges_first : (g₀ g₁ : Digraph) → AreEdgesTo g₀ g₁ j (IncludesByOne n others j) → (i o : ℕ)
-      → IsEdge g₁ i o ↔ (IsEdge g₀ i o ⊎ IsSaidOf w j (IncludesByOne n (rules_at n (others_of r) j) j i)
-      (IncludesByOne n (rules_at n (solid_of r) j) j i) o)
+  pub edges_first : (g₀ g₁ : Digraph) → AreEdgesTo g₀ g₁ j (IncludesByOne n others j)
+      → AreEdgesBy (EdgeTo n r w j) g₀ g₁
   edges_first g₀ g₁ first i o =
       said_first w j o (IncludesByOne n (rules_at n (others_of r) j) j i)
       (IncludesByOne n (rules_at n (solid_of r) j) j i)

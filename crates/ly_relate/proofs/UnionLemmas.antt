@@ -1,17 +1,13 @@
 -- Pairs that are found one rule and one transition after another.
-use Rattle.std.proofs.Common.{◌≡◌, ◌∙◌, ◌⊎◌, ◌↔◌, inl, inr, ℕ, ◌+◌, ◌<◌, ◌≤◌, List, [], ◌∷◌, ◌++◌, Some, arith}
-use Rattle.std.proofs.Common.{refl, sym, ap, subst, length, slice_get, take, slice_index_or, Contains}
-use Rattle.std.proofs.lemmas.Bool.{cases_order}
-use Rattle.std.proofs.lemmas.List.{take_all, take_more}
+use Rattle.std.proofs.Common.{◌≡◌, ◌⊎◌, ◌↔◌, inl, inr, ℕ, ◌+◌, ◌<◌, List, [], ◌∷◌, ◌++◌}
+use Rattle.std.proofs.Common.{refl, sym, subst, length, take, slice_index_or, Contains}
+use Rattle.std.proofs.lemmas.List.{take_more}
 use Rattle.std.proofs.lemmas.List.Elements.{Contains-append_left, Contains-push, Contains-push_cases}
-use Rattle.std.proofs.lemmas.Option.{slice_get_within}
-use Rattle.ly_base.proofs.MemberLemmas.{Contains-none}
 use Rattle.ly_digraph.specs.Digraph.{Digraph, IsEdge}
-use Rattle.ly_join.specs.Grammar.{IsRule, GrammarRule}
 use Rattle.ly_relate.specs.Private.Gotos.{Numbering}
 use Rattle.ly_relate.specs.Private.Walks.{AreBack, AreEdgesTo, IncludesByOne, IsIncludingBy, IsLookingBack}
 use Rattle.ly_relate.specs.Private.Walks.{LooksBackByOne}
-use Rattle.ly_relate.specs.Related.{AreLookbacks, Goto, IsIncluding, Lookback}
+use Rattle.ly_relate.specs.Related.{Lookback}
 
 -- edges that were added twice
 pub edges_union : (old g new : Digraph) (n : ℕ) (P R Q : ℕ → Type 0) → ((i : ℕ) → Q i ↔ (P i ⊎ R i))

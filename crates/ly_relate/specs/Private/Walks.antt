@@ -90,16 +90,19 @@ no_goto = record { from = 0; symbol = 0; target = 0 }
 abbrev pub rules_at : Numbering → (ℕ → List ℕ) → ℕ → List ℕ
 rules_at n rules j = rules (slice_index_or n.gotos j no_goto).symbol
 
--- What is said of transition j is said of a node: what is said by rules that begin with terminals of the one that stands
--- for it, if it is the first there, and the rest of itself.
+-- What is said of transition j is said of a node: what is said by rules that begin with terminals of the one that
+-- stands for it, if it is the first there, and the rest of itself.
 abbrev pub IsSaidOf : Grouping → ℕ → Type 0 → Type 0 → ℕ → Type 0
 IsSaidOf w j other solid o = (other × (o ≡ j)) ⊎ (solid × Leads w j × (o ≡ node_of w j))
 
--- the edges that come with transition j: those to it or its node, and one from its node to it
+-- an edge from what includes transition j
+abbrev pub EdgeTo : Numbering → RuleLists → Grouping → ℕ → ℕ → ℕ → Type 0
+EdgeTo n r w j i o = IsSaidOf w j (IncludesByOne n (rules_at n (others_of r) j) j i)
+    (IncludesByOne n (rules_at n (solid_of r) j) j i) o
+
+-- the edges that come with transition j: those, and one from its node to it
 abbrev pub EdgeFrom : Numbering → RuleLists → Grouping → ℕ → ℕ → ℕ → Type 0
-EdgeFrom n r w j i o =
-    IsSaidOf w j (IncludesByOne n (rules_at n (others_of r) j) j i) (IncludesByOne n (rules_at n (solid_of r) j) j i) o
-    ⊎ ((i ≡ node_of w j) × (i ≢ j) × (o ≡ j))
+EdgeFrom n r w j i o = EdgeTo n r w j i o ⊎ ((i ≡ node_of w j) × (i ≢ j) × (o ≡ j))
 
 -- the lookbacks that come with transition j
 abbrev pub BackFrom : Numbering → RuleLists → Grouping → ℕ → ℕ → ℕ → ℕ → Type 0

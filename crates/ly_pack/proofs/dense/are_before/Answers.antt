@@ -14,7 +14,8 @@ all_below {E} cells column d rising last k e lt = at (cases_order k (length cell
   ends = subst (λ c. c.column < column)
       (get_or_default cells (length cells - 1) d e (omega (arith, lt))) last
 
-  at : (k ≡ length cells - 1) ⊎ ((k < length cells - 1) ⊎ (length cells - 1 < k)) → (slice_index_or cells k e).column < column
+  at : (k ≡ length cells - 1) ⊎ ((k < length cells - 1) ⊎ (length cells - 1 < k))
+      → (slice_index_or cells k e).column < column
   at (inl same) = subst (λ j. (slice_index_or cells j e).column < column) (sym same) ends
   at (inr (inl before)) =
       let less = rising k (length cells - 1) e before (omega (arith, lt)) in

@@ -13,7 +13,8 @@ rule-requires c =
     let k = c.loop-rule.rule-index in
     rule_within (slice_index_or c.args.rules.now k 0) c.grammar.result.now c.reduced.result.now.grammar
     c.args.lr0.now.grammar c.grammar.ensures.keeps c.reduced.ensures
-    (c.requires.rules (slice_index_or c.args.rules.now k 0) (Contains-get_or c.args.rules.now k 0 c.loop-rule-test.true))
+    (c.requires.rules (slice_index_or c.args.rules.now k 0)
+    (Contains-get_or c.args.rules.now k 0 c.loop-rule-test.true))
 
 pub loop-rule-preserved : goal.loop-rule-preserved
 loop-rule-preserved c = λ k has r X rest is_rule begins.

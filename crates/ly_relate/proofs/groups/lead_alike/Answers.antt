@@ -42,5 +42,6 @@ returns-then-solid-ge-FEWEST c = λ yes.
       c.get-other.ensures.there,
       c.if-one-other.false,
       subst (λ M. LeadAlike M (solid_of c.args.rules.now x.symbol) x.from y.from) c.lr0.ensures.automaton
-          (subst (λ l. LeadAlike c.lr0.result.now l x.from y.from) c.solid-solid.ensures (c.all_lead_alike.ensures yes)),
+          (subst (λ l. LeadAlike c.lr0.result.now l x.from y.from) c.solid-solid.ensures
+          (c.all_lead_alike.ensures yes)),
     )

@@ -1,9 +1,8 @@
 use Rattle.std.proofs.Common.{◌≡◌, ◌<◌, ◌≤◌, ◌+◌, ◌∙◌, ℕ, Option, Some, None, All, ap, arith, length, refl, slice_index_or, subst, sym}
-use Rattle.std.proofs.Common.{List}
 use Rattle.std.specs.Prelude.{IfSome}
 use Rattle.std.proofs.lemmas.List.Elements.{All-get_or, All-set}
 use Rattle.std.proofs.Math.ListN.{length-set}
-use Rattle.ly_relate.specs.Private.Groups.{AreGroups, IsNodeFor, solid_of}
+use Rattle.ly_relate.specs.Private.Groups.{AreGroups, solid_of}
 use Rattle.ly_relate.specs.Values.{goto_from}
 use Rattle.ly_relate.proofs.GotoLemmas.{numbered_named}
 use Rattle.ly_relate.proofs.NodeLemmas.{groups_more}
@@ -58,8 +57,8 @@ loop-goto-preserved c =
       within = omega (arith, in_list);
       last = elim c.if-node-goto.branch [
         | then-node-goto w ↦ subst (λ v. All (λ o. IfSome o (λ e. e < k + 1)) v.items) (sym w.last-is)
-            (All-set (λ o. IfSome o (λ e. e < k + 1)) c.loop-goto.last.items c.get.result.symbol.0 (Some k) (omega arith)
-            more)
+            (All-set (λ o. IfSome o (λ e. e < k + 1)) c.loop-goto.last.items c.get.result.symbol.0 (Some k)
+            (omega arith) more)
         | else-node-goto w ↦ subst (λ v. All (λ o. IfSome o (λ e. e < k + 1)) v.items) (sym w.last-is) more
       ];
       room = elim c.if-node-goto.branch [

@@ -1,4 +1,4 @@
-use Rattle.std.proofs.Common.{◌≡◌, ◌∙◌, ◌⊎◌, ◌<◌, ◌≤◌, ◌+◌, ◌++◌, ◌∷◌, [], inl, inr, ℕ, List, ap, arith, length, map}
+use Rattle.std.proofs.Common.{◌≡◌, ◌∙◌, ◌⊎◌, ◌<◌, ◌+◌, ◌++◌, ◌∷◌, [], inl, inr, ℕ, List, ap, arith, length, map}
 use Rattle.std.proofs.Common.{Global, Vec, slice_index_or, subst, sym}
 use Rattle.std.proofs.lemmas.Bool.{cases_order}
 use Rattle.std.proofs.lemmas.List.{get_or_append_left, length-append, length-map, map-append}
@@ -42,12 +42,14 @@ loop-symbol-preserved c =
     let O = c.loop-symbol.others.items in
     let inv = c.loop-symbol.invariant in
     let lt = c.loop-symbol-test.true in
-    let accept : c.accept.result.0 ≡ M.grammar.accept = c.accept.ensures ∙ (sym c.grammar.ensures.keeps.accept ∙ ap (λ g. g.accept) c.reduced.ensures) in
+    let accept : c.accept.result.0 ≡ M.grammar.accept
+    = c.accept.ensures ∙ (sym c.grammar.ensures.keeps.accept ∙ ap (λ g. g.accept) c.reduced.ensures) in
     let long_s = inv.solid in
     let long_o = inv.others in
     record {
       within = omega (arith, lt, accept);
-      solid = ap length c.in_ok-push.ensures.items ∙ (length-append S (c.in_ok-first.first ∷ []) ∙ ap (λ i. i + 1) long_s);
+      solid = ap length c.in_ok-push.ensures.items
+          ∙ (length-append S (c.in_ok-first.first ∷ []) ∙ ap (λ i. i + 1) long_s);
       others = ap length c.in_ok-push-2.ensures.items
           ∙ (length-append O (c.in_ok-first.second ∷ []) ∙ ap (λ i. i + 1) long_o);
       each = λ A less.
@@ -68,7 +70,8 @@ returns c =
     let inv = c.loop-symbol.invariant in
     let past = c.loop-symbol-test.false in
     let within = inv.within in
-    let accept : c.accept.result.0 ≡ M.grammar.accept = c.accept.ensures ∙ (sym c.grammar.ensures.keeps.accept ∙ ap (λ g. g.accept) c.reduced.ensures) in
+    let accept : c.accept.result.0 ≡ M.grammar.accept
+    = c.accept.ensures ∙ (sym c.grammar.ensures.keeps.accept ∙ ap (λ g. g.accept) c.reduced.ensures) in
     let long_s = length-map c.loop-symbol.solid.items (λ v. v.items) ∙ inv.solid in
     let long_o = length-map c.loop-symbol.others.items (λ v. v.items) ∙ inv.others in
     record {

@@ -45,7 +45,8 @@ returns-in_ok-include-clause-lookbacks c =
     c.get.result.from.0 body (length c.body-body.result.now) path s.0)) c.in-Some.is c.in_ok-state.ensures.passed in
     let v : code.Lookback = record { state = c.in-Some.state; rule = c.args.rule; node = c.args.node } in
     let before = ap (λ l. map lookback_from l.items) c.in_ok-state.ensures.lookbacks in
-    back_by n c.get.ensures.lawful c.args.goto c.args.node c.args.rule c.get.result.from.0 body (length c.body-body.result.now) path
+    back_by n c.get.ensures.lawful c.args.goto c.args.node c.args.rule c.get.result.from.0 body
+    (length c.body-body.result.now) path
     c.in-Some.state.0 (map lookback_from c.args.self.now.lookbacks.items)
     (map lookback_from c.include.new.self.lookbacks.items) is
     (sym (length-map c.body-body.result.now symbol_of)) passed

@@ -16,7 +16,8 @@ loop-goto-init c = record {
   );
   lookbacks = λ s p o. (
     (λ has. absurd (Contains-none (record { state = s; rule = p; node = o })
-        (subst (λ xs. Contains (map lookback_from xs) (record { state = s; rule = p; node = o })) c.requires.none has))),
+        (subst (λ xs. Contains (map lookback_from xs) (record { state = s; rule = p; node = o })) c.requires.none
+        has))),
     (λ b. absurd (let lt = b.1 in omega (arith, lt))),
   );
 }

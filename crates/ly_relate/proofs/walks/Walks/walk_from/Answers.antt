@@ -1,7 +1,7 @@
 use Rattle.std.proofs.Common.{◌≡◌, ◌∙◌, ◌↔◌, ◌⊎◌, inl, inr, arith, map, subst, sym, Contains, refl, true, false}
 use Rattle.ly_digraph.specs.Digraph.{IsEdge}
-use Rattle.ly_relate.specs.Private.Groups.{node_of, others_of, solid_of}
-use Rattle.ly_relate.specs.Private.Walks.{AreBackBy, BackFrom, IncludesByOne, IsSaidOf, rules_at}
+use Rattle.ly_relate.specs.Private.Groups.{node_of}
+use Rattle.ly_relate.specs.Private.Walks.{AreBackBy, AreEdgesBy, BackFrom, EdgeTo}
 use Rattle.ly_relate.specs.Values.{goto_from, lookback_from}
 use Rattle.ly_relate.proofs.GotoLemmas.{numbered_named}
 use Rattle.ly_relate.proofs.GroupLemmas.{back_both, back_first, edge_more, edge_same, edges_both, edges_first}
@@ -50,22 +50,21 @@ returns-in_ok-add-clause-includes c = λ i o.
     let j = c.args.goto in
     let x = goto_from c.get.result in
     let there = c.get.ensures.there in
-    let said : IsEdge c.if-leads.self.includes i o ↔ (IsEdge c.args.self.now.includes i o ⊎ IsSaidOf w j
-    (IncludesByOne n (rules_at n (others_of r) j) j i) (IncludesByOne n (rules_at n (solid_of r) j) j i) o)
+    let old = c.args.self.now.includes in
+    let first = c.walk_rules.new.self.includes in
+    let said : AreEdgesBy (EdgeTo n r w j) old c.if-leads.self.includes
     = elim c.if-leads.branch [
-      | then-leads+in_ok-walk_rules-2 b ↦ subst (λ v. IsEdge v.includes i o ↔ (IsEdge c.args.self.now.includes i o ⊎ IsSaidOf w j
-          (IncludesByOne n (rules_at n (others_of r) j) j i) (IncludesByOne n (rules_at n (solid_of r) j) j i) o)) (sym b.self-is)
+      | then-leads+in_ok-walk_rules-2 b ↦ subst (λ v. AreEdgesBy (EdgeTo n r w j) old v.includes) (sym b.self-is)
           (edges_both n r w j c.node-node.result x there c.others.result.now b.solid.result.now c.others.ensures
-          b.solid.ensures c.node-node.ensures c.args.self.now.includes c.walk_rules.new.self.includes
+          b.solid.ensures c.node-node.ensures old first
           b.walk_rules-then-leads.new.self.includes c.in_ok-walk_rules.ensures.includes
-          b.in_ok-walk_rules-2.ensures.includes (b.if-leads.ensures.0 refl) i o)
-      | else-leads b ↦ subst (λ v. IsEdge v.includes i o ↔ (IsEdge c.args.self.now.includes i o ⊎ IsSaidOf w j
-          (IncludesByOne n (rules_at n (others_of r) j) j i) (IncludesByOne n (rules_at n (solid_of r) j) j i) o)) (sym b.self-is)
+          b.in_ok-walk_rules-2.ensures.includes (b.if-leads.ensures.0 refl))
+      | else-leads b ↦ subst (λ v. AreEdgesBy (EdgeTo n r w j) old v.includes) (sym b.self-is)
           (edges_first n r w j x there c.others.result.now c.others.ensures
           (λ l. let off : false ≡ true = b.if-leads.ensures.1 l in cc)
-          c.args.self.now.includes c.walk_rules.new.self.includes c.in_ok-walk_rules.ensures.includes i o)
+          old first c.in_ok-walk_rules.ensures.includes)
     ] in
-    edge_more i (node_of w j) j o said
+    edge_more i (node_of w j) j o (said i o)
     (subst (λ k. IsEdge c.add.new.self i o ↔ (IsEdge c.if-leads.self.includes i o ⊎ ((o ≡ j) × (i ≡ k))))
     c.node-node.ensures (c.in_ok-add.ensures.edges i o)) (λ e. c.if-node-goto.true (c.node-node.ensures ∙ e))
 
@@ -77,18 +76,20 @@ returns-in_ok-add-clause-lookbacks c =
     let j = c.args.goto in
     let x = goto_from c.get.result in
     let there = c.get.ensures.there in
+    let old = map lookback_from c.args.self.now.lookbacks.items in
+    let first = map lookback_from c.walk_rules.new.self.lookbacks.items in
     elim c.if-leads.branch [
-      | then-leads+in_ok-walk_rules-2 b ↦ subst (λ v. AreBackBy (BackFrom n r w j) (map lookback_from c.args.self.now.lookbacks.items)
-          (map lookback_from v.lookbacks.items)) (sym b.self-is)
+      | then-leads+in_ok-walk_rules-2 b ↦ subst (λ v. AreBackBy (BackFrom n r w j) old (map lookback_from v.lookbacks.items))
+          (sym b.self-is)
           (back_both n r w j c.node-node.result x there c.others.result.now b.solid.result.now c.others.ensures
-          b.solid.ensures c.node-node.ensures (map lookback_from c.args.self.now.lookbacks.items) (map lookback_from c.walk_rules.new.self.lookbacks.items)
+          b.solid.ensures c.node-node.ensures old first
           (map lookback_from b.walk_rules-then-leads.new.self.lookbacks.items) c.in_ok-walk_rules.ensures.lookbacks
           b.in_ok-walk_rules-2.ensures.lookbacks (b.if-leads.ensures.0 refl))
-      | else-leads b ↦ subst (λ v. AreBackBy (BackFrom n r w j) (map lookback_from c.args.self.now.lookbacks.items)
-          (map lookback_from v.lookbacks.items)) (sym b.self-is)
+      | else-leads b ↦ subst (λ v. AreBackBy (BackFrom n r w j) old (map lookback_from v.lookbacks.items))
+          (sym b.self-is)
           (back_first n r w j x there c.others.result.now c.others.ensures
           (λ l. let off : false ≡ true = b.if-leads.ensures.1 l in cc)
-          (map lookback_from c.args.self.now.lookbacks.items) (map lookback_from c.walk_rules.new.self.lookbacks.items) c.in_ok-walk_rules.ensures.lookbacks)
+          old first c.in_ok-walk_rules.ensures.lookbacks)
     ]
 
 pub returns-else-node-goto-clause-includes : goal.returns-else-node-goto-clause-includes
@@ -99,22 +100,21 @@ returns-else-node-goto-clause-includes c = λ i o.
     let j = c.args.goto in
     let x = goto_from c.get.result in
     let there = c.get.ensures.there in
-    let said : IsEdge c.if-leads.self.includes i o ↔ (IsEdge c.args.self.now.includes i o ⊎ IsSaidOf w j
-    (IncludesByOne n (rules_at n (others_of r) j) j i) (IncludesByOne n (rules_at n (solid_of r) j) j i) o)
+    let old = c.args.self.now.includes in
+    let first = c.walk_rules.new.self.includes in
+    let said : AreEdgesBy (EdgeTo n r w j) old c.if-leads.self.includes
     = elim c.if-leads.branch [
-      | then-leads+in_ok-walk_rules-2 b ↦ subst (λ v. IsEdge v.includes i o ↔ (IsEdge c.args.self.now.includes i o ⊎ IsSaidOf w j
-          (IncludesByOne n (rules_at n (others_of r) j) j i) (IncludesByOne n (rules_at n (solid_of r) j) j i) o)) (sym b.self-is)
+      | then-leads+in_ok-walk_rules-2 b ↦ subst (λ v. AreEdgesBy (EdgeTo n r w j) old v.includes) (sym b.self-is)
           (edges_both n r w j c.node-node.result x there c.others.result.now b.solid.result.now c.others.ensures
-          b.solid.ensures c.node-node.ensures c.args.self.now.includes c.walk_rules.new.self.includes
+          b.solid.ensures c.node-node.ensures old first
           b.walk_rules-then-leads.new.self.includes c.in_ok-walk_rules.ensures.includes
-          b.in_ok-walk_rules-2.ensures.includes (b.if-leads.ensures.0 refl) i o)
-      | else-leads b ↦ subst (λ v. IsEdge v.includes i o ↔ (IsEdge c.args.self.now.includes i o ⊎ IsSaidOf w j
-          (IncludesByOne n (rules_at n (others_of r) j) j i) (IncludesByOne n (rules_at n (solid_of r) j) j i) o)) (sym b.self-is)
+          b.in_ok-walk_rules-2.ensures.includes (b.if-leads.ensures.0 refl))
+      | else-leads b ↦ subst (λ v. AreEdgesBy (EdgeTo n r w j) old v.includes) (sym b.self-is)
           (edges_first n r w j x there c.others.result.now c.others.ensures
           (λ l. let off : false ≡ true = b.if-leads.ensures.1 l in cc)
-          c.args.self.now.includes c.walk_rules.new.self.includes c.in_ok-walk_rules.ensures.includes i o)
+          old first c.in_ok-walk_rules.ensures.includes)
     ] in
-    edge_same i (node_of w j) j o said (sym c.node-node.ensures ∙ c.if-node-goto.false)
+    edge_same i (node_of w j) j o (said i o) (sym c.node-node.ensures ∙ c.if-node-goto.false)
 
 pub returns-else-node-goto-clause-lookbacks : goal.returns-else-node-goto-clause-lookbacks
 returns-else-node-goto-clause-lookbacks c =
@@ -124,16 +124,18 @@ returns-else-node-goto-clause-lookbacks c =
     let j = c.args.goto in
     let x = goto_from c.get.result in
     let there = c.get.ensures.there in
+    let old = map lookback_from c.args.self.now.lookbacks.items in
+    let first = map lookback_from c.walk_rules.new.self.lookbacks.items in
     elim c.if-leads.branch [
-      | then-leads+in_ok-walk_rules-2 b ↦ subst (λ v. AreBackBy (BackFrom n r w j) (map lookback_from c.args.self.now.lookbacks.items)
-          (map lookback_from v.lookbacks.items)) (sym b.self-is)
+      | then-leads+in_ok-walk_rules-2 b ↦ subst (λ v. AreBackBy (BackFrom n r w j) old (map lookback_from v.lookbacks.items))
+          (sym b.self-is)
           (back_both n r w j c.node-node.result x there c.others.result.now b.solid.result.now c.others.ensures
-          b.solid.ensures c.node-node.ensures (map lookback_from c.args.self.now.lookbacks.items) (map lookback_from c.walk_rules.new.self.lookbacks.items)
+          b.solid.ensures c.node-node.ensures old first
           (map lookback_from b.walk_rules-then-leads.new.self.lookbacks.items) c.in_ok-walk_rules.ensures.lookbacks
           b.in_ok-walk_rules-2.ensures.lookbacks (b.if-leads.ensures.0 refl))
-      | else-leads b ↦ subst (λ v. AreBackBy (BackFrom n r w j) (map lookback_from c.args.self.now.lookbacks.items)
-          (map lookback_from v.lookbacks.items)) (sym b.self-is)
+      | else-leads b ↦ subst (λ v. AreBackBy (BackFrom n r w j) old (map lookback_from v.lookbacks.items))
+          (sym b.self-is)
           (back_first n r w j x there c.others.result.now c.others.ensures
           (λ l. let off : false ≡ true = b.if-leads.ensures.1 l in cc)
-          (map lookback_from c.args.self.now.lookbacks.items) (map lookback_from c.walk_rules.new.self.lookbacks.items) c.in_ok-walk_rules.ensures.lookbacks)
+          old first c.in_ok-walk_rules.ensures.lookbacks)
     ]
