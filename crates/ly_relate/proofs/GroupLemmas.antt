@@ -1,5 +1,6 @@
 -- What is said of transitions by way of nodes that stand for them.
-use Rattle.std.proofs.Common.{◌≡◌, ◌≢◌, ◌∙◌, ◌⊎◌, ◌↔◌, inl, inr, ℕ, ◌+◌, ◌-◌, ◌<◌, ◌≤◌, List, Some, arith, refl, sym, ap}
+use Rattle.std.proofs.Common.{◌≡◌, ◌≢◌, ◌∙◌, ◌⊎◌, ◌↔◌, inl, inr, ℕ, ◌+◌, ◌-◌, ◌<◌, ◌≤◌, List, Some, arith, refl, sym}
+use Rattle.std.proofs.Common.{ap}
 use Rattle.std.proofs.Common.{subst, length, slice_get, slice_index_or, Contains}
 use Rattle.std.proofs.lemmas.Bool.{cases_order}
 use Rattle.std.proofs.lemmas.Option.{get_or_from_slice_get, slice_get-get_or, slice_get_within}
@@ -7,7 +8,8 @@ use Rattle.ly_digraph.specs.Digraph.{Digraph, IsEdge}
 use Rattle.ly_relate.specs.Private.Gotos.{IsNumbering, Numbering}
 use Rattle.ly_relate.specs.Private.Groups.{AreAlike, AreAllParted, AreGroups, Grouping, IsJoined, IsRuleOf, Leads}
 use Rattle.ly_relate.specs.Private.Groups.{RuleLists, leader_of, node_of, others_of, solid_of}
-use Rattle.ly_relate.specs.Private.Walks.{AreBack, AreBackBy, AreEdgesBy, AreEdgesTo, BackFrom, EdgeFrom, EdgeTo, IncludesByOne}
+use Rattle.ly_relate.specs.Private.Walks.{AreBack, AreBackBy, AreEdgesBy, AreEdgesTo, BackFrom, EdgeFrom, EdgeTo}
+use Rattle.ly_relate.specs.Private.Walks.{IncludesByOne}
 use Rattle.ly_relate.specs.Private.Walks.{IsIncludingBy, IsLookingBack, IsSaidOf}
 use Rattle.ly_relate.specs.Private.Walks.{LooksBackByOne, no_goto, rules_at}
 use Rattle.ly_relate.specs.Related.{AreGathered, AreLookbacks, Goto, IsIncluding, Lookback, StandsFor}

@@ -1,8 +1,10 @@
 //! Transitions over the same nonterminal from which rules lead alike: what such a rule says of one it says of each. So
 //! one node stands for all of them, and these rules are walked from the first one alone.
-ghost use Rattle.std.specs.Prelude.{◌≡◌, ◌<◌, ◌+◌, ◌++◌, ◌↔◌, ℕ, [], ◌∷◌, Contains, IfOk, IfSome, IsTrue, OnOk, length, option_map};
+ghost use Rattle.std.specs.Prelude.{◌≡◌, ◌<◌, ◌+◌, ◌++◌, ◌↔◌, ℕ, [], ◌∷◌, Contains, IfOk, IfSome, IsTrue, OnOk, length};
+ghost use Rattle.std.specs.Prelude.{option_map};
 ghost use Rattle.ly_join.specs.Grammar.{IsRule, GrammarRule};
-ghost use Rattle.ly_relate.specs.Private.Groups.{AreAlike, AreAllParted, AreGroups, IsNodeBeside, IsNodeFor, LeadAlike, LeadsAlike};
+ghost use Rattle.ly_relate.specs.Private.Groups.{AreAlike, AreAllParted, AreGroups, IsNodeBeside, IsNodeFor, LeadAlike};
+ghost use Rattle.ly_relate.specs.Private.Groups.{LeadsAlike};
 ghost use Rattle.ly_relate.specs.Private.Groups.{Leads, node_of, solid_of};
 
 use crate::gotos::Gotos;

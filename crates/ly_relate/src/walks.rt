@@ -1,6 +1,7 @@
 //! Includes and lookback in one walk for each transition and each rule of its nonterminal: forth over the body, from
 //! state to state, and back from its end, as long as what was passed is nullable.
-ghost use Rattle.std.specs.Prelude.{◌≡◌, ◌<◌, ◌≤◌, ℕ, [], length, map, slice_get, slice_index_or, All, IfOk, MatchOption};
+ghost use Rattle.std.specs.Prelude.{◌≡◌, ◌<◌, ◌≤◌, ℕ, [], length, map, slice_get, slice_index_or, All, IfOk};
+ghost use Rattle.std.specs.Prelude.{MatchOption};
 ghost use Rattle.std.specs.Prelude.{Contains, OnOk, Some};
 ghost use Rattle.ly_join.specs.Grammar.{symbol_of, IsRule, GrammarRule, Symbol as symbols};
 ghost use Rattle.ly_relate.specs.Private.Walks.{AreBack, AreEdgesTo, IsIncludedAt, IsIncludingBy, IsLookingBack};
@@ -8,7 +9,8 @@ ghost use Rattle.ly_relate.specs.Private.Walks.{IsPassed, IsStopped, HasNumberTo
 ghost use Rattle.ly_relate.specs.Related as spec;
 ghost use Rattle.ly_relate.specs.Related.{AreGathered, AreLookbacks, IsIncluding};
 ghost use Rattle.ly_relate.specs.Private.Groups.{AreAllParted, AreGroups, IsRuleOf, solid_of};
-ghost use Rattle.ly_relate.specs.Private.Walks.{AreBackBy, AreEdgesBy, BackFrom, EdgeFrom, IncludesByOne, LooksBackByOne};
+ghost use Rattle.ly_relate.specs.Private.Walks.{AreBackBy, AreEdgesBy, BackFrom, EdgeFrom, IncludesByOne};
+ghost use Rattle.ly_relate.specs.Private.Walks.{LooksBackByOne};
 ghost use Rattle.ly_relate.specs.Values.{lookback_from};
 
 use crate::gotos::Gotos;

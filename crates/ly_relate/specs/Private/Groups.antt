@@ -1,5 +1,6 @@
 -- Transitions over the same nonterminal that lead alike, and the nodes that stand for them.
-use Rattle.std.specs.Prelude.{◌≡◌, ◌≢◌, ◌↔◌, ◌++◌, ◌⊎◌, ◌<◌, ◌≤◌, ◌+◌, ◌-◌, ℕ, List, [], ◌∷◌, Contains, Some, length, slice_get}
+use Rattle.std.specs.Prelude.{◌≡◌, ◌≢◌, ◌↔◌, ◌++◌, ◌⊎◌, ◌<◌, ◌≤◌, ◌+◌, ◌-◌, ℕ, List, [], ◌∷◌, Contains, Some, length}
+use Rattle.std.specs.Prelude.{slice_get}
 use Rattle.std.specs.Prelude.{slice_index_or, slice_set}
 use Rattle.ly_join.specs.Grammar.{Grammar, IsRule, GrammarRule, Symbol, terminal}
 use Rattle.ly_lr0.specs.Automaton.{Lr0Automaton, goto_of}

@@ -1,5 +1,6 @@
 -- Walks over the bodies of rules.
-use Rattle.std.specs.Prelude.{◌≡◌, ◌≢◌, ◌↔◌, ◌⊎◌, ◌<◌, ◌≤◌, ◌+◌, ℕ, List, length, Option, Some, None, drop, take, reverse}
+use Rattle.std.specs.Prelude.{◌≡◌, ◌≢◌, ◌↔◌, ◌⊎◌, ◌<◌, ◌≤◌, ◌+◌, ℕ, List, length, Option, Some, None, drop, take}
+use Rattle.std.specs.Prelude.{reverse}
 use Rattle.std.specs.Prelude.{slice_get, slice_index_or, Contains}
 use Rattle.ly_join.specs.Grammar.{Grammar, Symbol, nonterminal, terminal}
 use Rattle.ly_digraph.specs.Digraph.{Digraph, IsEdge}

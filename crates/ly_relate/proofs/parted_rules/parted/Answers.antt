@@ -1,4 +1,5 @@
-use Rattle.std.proofs.Common.{◌≡◌, ◌∙◌, ◌⊎◌, ◌↔◌, ◌+◌, ◌++◌, ◌∷◌, [], inl, inr, ℕ, List, ap, refl, slice_index_or, subst, sym}
+use Rattle.std.proofs.Common.{◌≡◌, ◌∙◌, ◌⊎◌, ◌↔◌, ◌+◌, ◌++◌, ◌∷◌, [], inl, inr, ℕ, List, ap, refl, slice_index_or}
+use Rattle.std.proofs.Common.{subst, sym}
 use Rattle.std.proofs.Common.{take, Contains}
 use Rattle.std.proofs.lemmas.List.{take_all}
 use Rattle.std.proofs.lemmas.List.Elements.{Contains-append_left, Contains-get_or, Contains-push, Contains-push_cases}
