@@ -1,4 +1,4 @@
-use Rattle.std.proofs.Common.{◌≡◌, ◌∙◌, ◌↔◌, ◌⊎◌, inl, inr, arith, map, subst, sym, Contains, refl, true, false}
+use Rattle.std.proofs.Common.{ℕ, ◌≡◌, ◌∙◌, ◌↔◌, ◌⊎◌, inl, inr, arith, map, subst, sym, Contains, refl, true, false}
 use Rattle.ly_digraph.specs.Digraph.{IsEdge}
 use Rattle.ly_relate.specs.Private.Groups.{node_of}
 use Rattle.ly_relate.specs.Private.Walks.{AreBackBy, AreEdgesBy, BackFrom, EdgeTo}
