@@ -37,7 +37,7 @@ impl Lr0<'_> {
     }
 }
 
-/// The items that a kernel closes to.
+/// The items that a kernel closes to, its own first.
 fn closed(
     alloc: Global,
     reduced: &Reduced<'_>,
@@ -51,8 +51,10 @@ fn closed(
 {
     let mut entered = SparseSet::new(alloc, reduced.grammar().accept().0 as usize + 1)?;
     close(reduced, by_left, kernel, &mut entered);
-    let mut items = Vec::new(alloc);
-    list_items(by_left, kernel, entered.members(), &mut items)?;
+    let mut others = Vec::new(alloc);
+    list_items(by_left, &[], entered.members(), &mut others)?;
+    let mut items = Vec::from_slice(alloc, kernel)?;
+    items.extend_from_slice(&others)?;
     Ok(items)
 }
 
