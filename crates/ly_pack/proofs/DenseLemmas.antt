@@ -7,6 +7,7 @@ use Rattle.std.specs.Global.{Vec}
 use Rattle.std.proofs.lemmas.Bool.{and_left, cases_Bool, cases_lt, cond-false, eqb-false, eqb-true}
 use Rattle.std.proofs.lemmas.Bool.{ne_eqb}
 use Rattle.std.proofs.lemmas.List.{get_or-replicate, length-map, length-replicate, length-set, map-set}
+use Rattle.std.proofs.Math.Seq.{map-set_same}
 use Rattle.std.proofs.lemmas.List.Elements.{All-set, All-replicate}
 use Rattle.std.proofs.lemmas.Option.{slice_get-get_or, slice_get-map, slice_get_past, slice_get_read}
 use Rattle.ly_base.proofs.CellLemmas.{slice_get-set_other, slice_get-set_same}
@@ -157,6 +158,17 @@ module _ {E : Type 0} (width : ℕ) (lists : List (Vec (Cell E))) (row : ℕ) (o
       width = width;
       lists = ls;
     } in x) (length-set lists row new) (map-set (λ (v : Vec (Cell E)). v.items) lists row new)
+
+    -- the same cells, with more room
+    pub dense_still : new.items ≡ old.items → written ≡ d
+    dense_still is =
+        let same = map-set_same (λ (v : Vec (Cell E)). v.items) lists row new old
+        (is ∙ ap (λ (v : Vec (Cell E)). v.items) read) in
+        ap₂ (λ (n : ℕ) (ls : List (List (Cell E))). let x : Dense E = record {
+          rows = n;
+          width = width;
+          lists = ls;
+        } in x) (length-set lists row new) same ∙ view
 
     pub is_dense-written : AreRising new.items → All (λ c. c.column < width) new.items → IsDense written
     is_dense-written rising within = subst IsDense (sym written_is)

@@ -74,6 +74,14 @@ impl<E: Copy> Dense<E> {
         &self.lists[row.0 as usize]
     }
 
+    /// Makes room for so many more entries of a row. It fails where memory runs out.
+    pub fn reserve(&mut self, row: StateNo, more: usize) -> Result<(), OutOfMemory>
+        requires { row.0 < self.old.rows }
+        ensures { self.new ≡ self.old }
+    {
+        Ok(self.lists[row.0 as usize].reserve(more)?)
+    }
+
     /// Puts an entry, or none, into a row and a column. It fails where memory runs out, and where the column has no
     /// `u32`.
     pub fn set(&mut self, row: StateNo, column: usize, entry: Option<E>) -> Result<(), OutOfMemory>
@@ -109,12 +117,33 @@ fn put<E: Copy>(cells: &mut Vec<Cell<E>>, column: u32, entry: Option<E>) -> Resu
     ensures entries { OnOk result ((t : ℕ) → entry_in cells.new.items t
         ≡ (if nat_eq t column then entry else entry_in cells.old.items t)) }
 {
+    // rows are mostly filled in the order of their columns
+    if are_before(cells, column as usize) {
+        return append(cells, column, entry);
+    }
     let place = place_of(cells, column as usize);
     if is_at(cells, place, column as usize) {
         cells.remove(place);
     }
     if let Some(entry) = entry {
         cells.insert(place, Cell { column, entry })?;
+    }
+    Ok(())
+}
+
+/// Puts an entry, or none, into a column behind all others of a row.
+fn append<E: Copy>(
+    cells: &mut Vec<Cell<E>>,
+    column: u32,
+    entry: Option<E>,
+) -> Result<(), AllocError>
+    requires { All (λ c. c.column < column) cells.old.items }
+    ensures kept { AreCellsStill column cells.old.items cells.new.items }
+    ensures entries { OnOk result ((t : ℕ) → entry_in cells.new.items t
+        ≡ (if nat_eq t column then entry else entry_in cells.old.items t)) }
+{
+    if let Some(entry) = entry {
+        cells.push(Cell { column, entry })?;
     }
     Ok(())
 }

@@ -14,7 +14,7 @@ returns-in_ok-insert g c =
     let old = c.args.cells.now.items in
     let column = c.args.column in
     let place = c.place_of-place.result in
-    let slice = c.deref.ensures.value in
+    let slice = c.deref-2.ensures.value in
     let small : place ≤ length old = subst (λ cs. place ≤ length cs) slice c.place_of-place.ensures.within in
     let parted = subst (λ (cs : List (Cell g.row.E.Denot)). IsPartitionPoint (λ x. x.column < column) (λ x. column
     ≤ x.column) cs place) slice c.place_of-place.ensures.parted in
@@ -22,12 +22,12 @@ returns-in_ok-insert g c =
     = elim c.if-is_at.branch [
       | then-is_at w ↦
           let found = c.is_at.ensures.0 w.if-is_at.true in
-          let at = ap (λ cs. slice_get cs place) (sym c.deref-2.ensures.value) ∙ found.1 in
+          let at = ap (λ cs. slice_get cs place) (sym c.deref-3.ensures.value) ∙ found.1 in
           subst (IsCleared column place old) (sym (ap (λ v. v.items) w.cells-is ∙ w.remove.ensures.items))
           (cleared_removed old column place c.requires small parted found.0 at found.2)
       | else-is_at w ↦ subst (IsCleared column place old) (sym (ap (λ v. v.items) w.cells-is))
           (cleared_same old column place c.requires small parted (λ x at same.
-          true≢false (sym (c.is_at.ensures.1 (x, ap (λ cs. slice_get cs place) c.deref-2.ensures.value ∙ at, same))
+          true≢false (sym (c.is_at.ensures.1 (x, ap (λ cs. slice_get cs place) c.deref-3.ensures.value ∙ at, same))
           ∙ w.if-is_at.false)))
     ] in
     let x : Cell g.row.E.Denot = record { column = column; entry = c.in-Some.entry } in
@@ -43,7 +43,7 @@ returns-in_default g c =
     let old = c.args.cells.now.items in
     let column = c.args.column in
     let place = c.place_of-place.result in
-    let slice = c.deref.ensures.value in
+    let slice = c.deref-2.ensures.value in
     let small : place ≤ length old = subst (λ cs. place ≤ length cs) slice c.place_of-place.ensures.within in
     let parted = subst (λ (cs : List (Cell g.row.E.Denot)). IsPartitionPoint (λ x. x.column < column) (λ x. column
     ≤ x.column) cs place) slice c.place_of-place.ensures.parted in
@@ -51,12 +51,12 @@ returns-in_default g c =
     = elim c.if-is_at.branch [
       | then-is_at w ↦
           let found = c.is_at.ensures.0 w.if-is_at.true in
-          let at = ap (λ cs. slice_get cs place) (sym c.deref-2.ensures.value) ∙ found.1 in
+          let at = ap (λ cs. slice_get cs place) (sym c.deref-3.ensures.value) ∙ found.1 in
           subst (IsCleared column place old) (sym (ap (λ v. v.items) w.cells-is ∙ w.remove.ensures.items))
           (cleared_removed old column place c.requires small parted found.0 at found.2)
       | else-is_at w ↦ subst (IsCleared column place old) (sym (ap (λ v. v.items) w.cells-is))
           (cleared_same old column place c.requires small parted (λ x at same.
-          true≢false (sym (c.is_at.ensures.1 (x, ap (λ cs. slice_get cs place) c.deref-2.ensures.value ∙ at, same))
+          true≢false (sym (c.is_at.ensures.1 (x, ap (λ cs. slice_get cs place) c.deref-3.ensures.value ∙ at, same))
           ∙ w.if-is_at.false)))
     ] in
     record {
