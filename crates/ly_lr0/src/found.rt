@@ -90,7 +90,7 @@ impl<'a> Found<'a> {
             HasMoreCores self.old.reduced.now.grammar self.old.limit }
     {
         let from = self.rows.len();
-        let mut transitions = Vec::new(self.alloc);
+        let mut transitions = Vec::with_capacity(self.alloc, moves.len())?;
         let mut kernel = Vec::new(self.alloc);
         let mut at = 0;
         let mut place = 0;
@@ -103,6 +103,7 @@ impl<'a> Found<'a> {
             transitions.push(Transition { symbol, target })?;
             at = end;
         }
+        transitions.shrink_to_fit();
         Ok(transitions)
     }
 

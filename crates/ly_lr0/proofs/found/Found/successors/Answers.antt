@@ -8,7 +8,7 @@ use Rattle.ly_join.specs.Grammar.{IsAugmented, symbol_of}
 use Rattle.ly_grammar.specs.Derivations.{IsReduced}
 use Rattle.ly_lr0.specs.declared.fault.Lr0Fault.TheVariants.{TooManyStates}
 use Rattle.ly_lr0.specs.Automaton.{Transition}
-use Rattle.ly_lr0.specs.Private.Built.{IsNumbered, Link, transitions_of}
+use Rattle.ly_lr0.specs.Private.Built.{AreFound, IsNumbered, IsWholeRow, Link, transitions_of}
 use Rattle.ly_lr0.specs.Transitions.{transition_of}
 use Rattle.ly_lr0.specs.Private.Closing.{AreMoves}
 use Rattle.ly_lr0.specs.Private.Found.{links_of, rows_of}
@@ -32,7 +32,7 @@ loop-at-init c =
       few = c.requires.found.few;
       kept = λ s l. (l, refl);
       entered = subst (λ ts. HasEntered f.reduced.now.grammar f.kernels (links_of f) (rows_of f) (map transition_of ts)
-          c.len-from.result c.args.moves.now 0) (sym c.new-transitions.ensures.items)
+          c.len-from.result c.args.moves.now 0) (sym c.in_ok-transitions.ensures.items)
           (entered_start f.reduced.now.grammar f.kernels (links_of f) (rows_of f) c.len-from.result c.args.moves.now
           (count ∙ sym (length-map f.rows.items transitions_of)) (omega (arith, count, next))
           (subst (λ n. AreMoves f.reduced.now.grammar (kernel_at f.kernels n) c.args.moves.now) (sym count)
@@ -100,15 +100,20 @@ loop-at-preserved c =
     }
 
 pub returns-clause-found : goal.returns-clause-found
-returns-clause-found c = c.loop-at.invariant.entered.found
+returns-clause-found c =
+    let f = c.loop-at.self in
+    subst (λ ts. AreFound f.reduced.now.grammar f.kernels (links_of f) (rows_of f ++ map transition_of ts ∷ []))
+    (sym c.shrink_to_fit.ensures.items) c.loop-at.invariant.entered.found
 
 pub returns-clause-whole : goal.returns-clause-whole
 returns-clause-whole c =
     let f = c.loop-at.self in
     let was = c.loop-at.invariant in
-    entered_whole f.reduced.now.grammar f.kernels (links_of f) (rows_of f)
+    subst (λ ts. IsWholeRow f.reduced.now.grammar (kernel_at f.kernels (length f.rows.items)) (map transition_of ts))
+    (sym c.shrink_to_fit.ensures.items)
+    (entered_whole f.reduced.now.grammar f.kernels (links_of f) (rows_of f)
     (map transition_of c.loop-at.transitions.items)
     (length f.rows.items) c.args.moves.now c.loop-at.at
     (subst (λ n. HasEntered f.reduced.now.grammar f.kernels (links_of f)
     (rows_of f) (map transition_of c.loop-at.transitions.items) n c.args.moves.now c.loop-at.at) was.from was.entered)
-    (let end = c.loop-at-test.false in omega arith)
+    (let end = c.loop-at-test.false in omega arith))
