@@ -22,12 +22,8 @@ use Rattle.ly_join.specs.Joined.{Spec}
 use Rattle.ly_lr0.proofs.LawLemmas.{reached_within}
 use Rattle.ly_resolve.specs.Precedence.{judge_of}
 use Rattle.ly_resolve.specs.Resolved.{AreResolved, TerminalAction, IsRow}
-use Rattle.ly_resolve.specs.Values.{conflict_from, terminal_action_from, resolved_from}
-use Rattle.ly_resolve.specs.declared.action.TerminalAction as code
+use Rattle.ly_resolve.specs.Values.{conflict_from, resolved_from}
 use Rattle.ly_resolve.specs.declared.conflict.Conflict as conflict
-use Rattle.std.specs.declared.alloc.Global.{Global}
-use Rattle.std.specs.declared.vec.Vec.{Vec}
-use Rattle.std.proofs.lemmas.List.{length-map}
 use Rattle.ly_resolve.proofs.MeetingLemmas.{IsToldAt, counts_too, done_once, done_too, not_single}
 use Rattle.ly_resolve.proofs.MeetingLemmas.{single}
 use Rattle.ly_resolve.proofs.MeetingLemmas.{told_are, told_ordered}
@@ -71,7 +67,7 @@ none_past : (k u : ℕ) → IsPast 0 0 k u → ⊥
 none_past k u (inl lt) = omega (arith, lt)
 none_past k u (inr (e, lt)) = omega (arith, lt)
 
-later_state : (s t k u : ℕ) → IsPast s t k u → IsPast (s + 1) 0 k u
+pub later_state : (s t k u : ℕ) → IsPast s t k u → IsPast (s + 1) 0 k u
 later_state s t k u (inl lt) = inl (omega (arith, lt))
 later_state s t k u (inr (e, lt)) = inl (omega (arith, e))
 
@@ -424,20 +420,17 @@ module _ (M : Lr0Automaton) (is : IsLr0Automaton M) (judge : Judge) where
 -- ROW BY ROW
 
 -- what holds of rows and of one more holds of them all
-pub rows_more : {X Y : Type 0} (f : X → Y) (P : ℕ → Y → Type 0) (xs : List X) (x : X)
-    → ((k : ℕ) (y : Y) → slice_get (map f xs) k ≡ Some y → P k y) → P (length xs) (f x)
-    → (k : ℕ) (y : Y) → slice_get (map f (xs ++ x ∷ [])) k ≡ Some y → P k y
-rows_more f P [] x all last zero y at = let same : f x ≡ y = cc in subst (P 0) same last
-rows_more f P [] x all last (suc k) y at = absurd (cc)
-rows_more f P (z ∷ xs) x all last zero y at = all 0 y at
-rows_more f P (z ∷ xs) x all last (suc k) y at
-    = rows_more f (λ n. P (suc n)) xs x (λ n w e. all (suc n) w e) last k y at
+pub rows_more : {Y : Type 0} (P : ℕ → Y → Type 0) (ys : List Y) (x : Y) → ((k : ℕ) (y : Y) → slice_get ys k ≡ Some y
+    → P k y) → P (length ys) x → (k : ℕ) (y : Y) → slice_get (ys ++ x ∷ []) k ≡ Some y → P k y
+rows_more P [] x all last zero y at = let same : x ≡ y = cc in subst (P 0) same last
+rows_more P [] x all last (suc k) y at = absurd (cc)
+rows_more P (z ∷ ys) x all last zero y at = all 0 y at
+rows_more P (z ∷ ys) x all last (suc k) y at = rows_more (λ n. P (suc n)) ys x (λ n w e. all (suc n) w e) last k y at
 
 -- once all states are gone through, all is resolved
-pub all_resolved : (s : Spec) (M : Lr0Automaton) (n : ℕ) (rows : List (Vec code.TerminalAction Global))
-    (cs : List conflict.Conflict)
-    (free : Bool) → IsLr0Automaton M → n ≡ length M.states → length rows ≡ n
-    → ((k : ℕ) (row : List TerminalAction) → slice_get (map (λ r. map terminal_action_from r.items) rows) k ≡ Some row
+pub all_resolved : (s : Spec) (M : Lr0Automaton) (n : ℕ) (rows : List (List TerminalAction))
+    (cs : List conflict.Conflict) (free : Bool) → IsLr0Automaton M → n ≡ length M.states → length rows ≡ n
+    → ((k : ℕ) (row : List TerminalAction) → slice_get rows k ≡ Some row
     → IsRow M.grammar (judge_of s) (prefix_of M k) row)
     → AreTold M (judge_of s) n 0 (map (conflict_from M) cs) free → AreResolved s M (resolved_from s M rows cs free)
 all_resolved s M n rows cs free is count long each told =
@@ -446,7 +439,7 @@ all_resolved s M n rows cs free is count long each told =
     record {
       spec = refl;
       automaton = refl;
-      states = length-map rows (λ r. map terminal_action_from r.items) ∙ (long ∙ count);
+      states = long ∙ count;
       rows = λ k q row at there. subst (λ g. IsRow M.grammar (judge_of s) g row) (prefix_at M k q at)
           (each k row there);
       conflicts = all.0;

@@ -3,9 +3,11 @@ pub mod AcceptedLemmas
 pub mod DefaultLemmas
 pub mod ExactLemmas
 pub mod FoundLemmas
+pub mod KeptLemmas
 pub mod MeetingLemmas
 pub mod NextLemmas
 pub mod RawLemmas
 pub mod RefuseLemmas
 pub mod RunLemmas
+pub mod ShiftLemmas
 pub mod StackLemmas

@@ -233,6 +233,16 @@ module _ (M : Lr0Automaton) (is : IsLr0Automaton M) where
     λ raw. absurd (let w = (terminal_shifted s t lt some).1 raw in let no : None ≡ Some w.0 = goes ∙ w.1 in cc),
   )
 
+  -- a rule by which a reduction is asked for is complete
+  pub reduction_complete : (s t p : ℕ) → s < length M.states → IsRaw M.grammar (prefix_of M s) t (reduce p)
+      → Contains (state_at M s).complete p
+  reduction_complete s t p lt (some, la) =
+      let there = state_there M s lt in
+      let complete : IsComplete M.grammar (prefix_of M s) p
+      = (la.before, (la.merges.cores p la.before []).1 (t, la.valid)) in
+      ((is.each s (state_at M s) there).complete p).1
+      (subst (λ g. IsComplete M.grammar g p) (prefix_at M s (state_at M s) there) complete)
+
   -- A reduction is asked for by the rules that are complete and have the terminal among their lookaheads.
   module _ (L : Lookaheads) (are : AreLookaheads M L) (s : ℕ) (lt : s < length M.states) (t : ℕ) where
     pub reduced_at : (k p : ℕ) → slice_get (state_at M s).complete k ≡ Some p → Member (set_at L s k) t
@@ -249,15 +259,14 @@ module _ (M : Lr0Automaton) (is : IsLr0Automaton M) where
 
     pub reduction_at : (p : ℕ) → IsRaw M.grammar (prefix_of M s) t (reduce p)
         → (k : ℕ) × (slice_get (state_at M s).complete k ≡ Some p) × Member (set_at L s k) t
-    reduction_at p (some, la) =
+    reduction_at p raw =
         let there = state_there M s lt in
         let same = prefix_at M s (state_at M s) there in
-        let complete : IsComplete M.grammar (prefix_of M s) p
-        = (la.before, (la.merges.cores p la.before []).1 (t, la.valid)) in
-        let has = ((is.each s (state_at M s) there).complete p).1
-        (subst (λ g. IsComplete M.grammar g p) same complete) in
-        let k = placed (state_at M s).complete p has in
-        (k.0, k.1, (are.are s k.0 p t (state_at M s) there k.1).1 (subst (λ g. InLookahead M.grammar g p t) same la))
+        let k = placed (state_at M s).complete p (reduction_complete s t p lt raw) in (
+          k.0,
+          k.1,
+          (are.are s k.0 p t (state_at M s) there k.1).1 (subst (λ g. InLookahead M.grammar g p t) same raw.1),
+        )
 
 -- RULE BY RULE
 

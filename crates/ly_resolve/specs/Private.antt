@@ -1,3 +1,5 @@
+pub mod ActionRows
 pub mod Found
 pub mod Meetings
+pub mod Shifts
 pub mod Verdicts

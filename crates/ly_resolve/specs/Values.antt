@@ -1,7 +1,5 @@
 -- What contracts see of actions, entries and conflicts.
 use Rattle.std.specs.Prelude.{◌<◌, List, Bool, length, map}
-use Rattle.std.specs.declared.alloc.Global.{Global}
-use Rattle.std.specs.declared.vec.Vec.{Vec}
 use Rattle.ly_join.specs.Joined.{Spec}
 use Rattle.ly_lr0.specs.Automaton.{Lr0Automaton, prefix_of}
 use Rattle.ly_resolve.specs.Actions.{Action, error, reduce, shift}
@@ -41,12 +39,11 @@ pub record IsInside (M : Lr0Automaton) (c : conflict.Conflict) : Type 0 where
   pub state : c.state.0 < length M.states
   pub terminal : c.terminal.0 < M.grammar.terminals
 
-abbrev pub resolved_from : Spec → Lr0Automaton → List (Vec entry.TerminalAction Global) → List conflict.Conflict → Bool
-    → Resolved
+abbrev pub resolved_from : Spec → Lr0Automaton → List (List TerminalAction) → List conflict.Conflict → Bool → Resolved
 resolved_from s M rows conflicts free = record {
   spec = s;
   automaton = M;
-  rows = map (λ row. map terminal_action_from row.items) rows;
+  rows = rows;
   conflicts = map (conflict_from M) conflicts;
   conflict_free = free;
 }

@@ -11,12 +11,14 @@
 #![tactic(auto)]
 
 mod action;
+mod action_rows;
 mod asking;
 mod conflict;
 mod laws;
 mod meeting;
 mod resolved;
 mod settle;
+mod shifting;
 mod verdict;
 
 pub use action::{Action, TerminalAction};

@@ -4,6 +4,7 @@ ghost use Rattle.ly_resolve.specs.Resolved.{AreResolved};
 ghost use Rattle.ly_resolve.specs.Values.{conflict_from, terminal_action_from, IsInside};
 
 use crate::action::TerminalAction;
+use crate::action_rows::ActionRows;
 use crate::conflict::Conflict;
 use ly_base::StateNo;
 use ly_join::Spec;
@@ -18,7 +19,7 @@ pub struct Resolved<'a> {
     /// Its automaton.
     pub(crate) lr0: &'a Lr0<'a>,
     /// For each state what is done in it, in the order of the terminals.
-    pub(crate) rows: Vec<Vec<TerminalAction>>,
+    pub(crate) rows: ActionRows,
     /// The conflicts, in their order.
     pub(crate) conflicts: Vec<Conflict>,
     /// Whether no two actions are asked for anywhere.
@@ -28,17 +29,20 @@ pub struct Resolved<'a> {
 impl<'a> Model for Resolved<'a> {
     ghost use Rattle.std.specs.Prelude.{map, All};
     ghost use Rattle.ly_grammar.specs.Reduction.{KeepsUseful};
+    ghost use Rattle.ly_resolve.specs.Private.ActionRows.{rows_from};
     ghost use Rattle.ly_resolve.specs.Resolved as value;
     ghost use Rattle.ly_resolve.specs.Resolved.{AreResolved};
     ghost use Rattle.ly_resolve.specs.Values.{conflict_from, terminal_action_from, resolved_from, IsInside};
 
     ghost Value = { value.Resolved };
 
-    ghost view = { λ r. resolved_from r.spec.now r.lr0.now r.rows.items r.conflicts.items r.conflict_free };
+    ghost view = { λ r. resolved_from r.spec.now r.lr0.now
+        (rows_from r.rows.places.items r.rows.kept.items) r.conflicts.items r.conflict_free };
 
     ghost invariant = { λ r. KeepsUseful r.spec.now.grammar r.lr0.now.grammar
         × AreResolved r.spec.now r.lr0.now
-        (resolved_from r.spec.now r.lr0.now r.rows.items r.conflicts.items r.conflict_free)
+        (resolved_from r.spec.now r.lr0.now
+        (rows_from r.rows.places.items r.rows.kept.items) r.conflicts.items r.conflict_free)
         × All (IsInside r.lr0.now) r.conflicts.items };
 }
 
@@ -64,7 +68,7 @@ impl<'a> Resolved<'a> {
         requires { state.0 < length self.now.rows }
         ensures { slice_get self.now.rows state.0 ≡ Some (map terminal_action_from result.now) }
     {
-        &self.rows[state.0 as usize]
+        self.rows.row(state.0 as usize)
     }
 
     /// The conflicts, by state, terminal, kind and rule.

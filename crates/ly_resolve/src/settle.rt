@@ -10,10 +10,12 @@ ghost use Rattle.ly_resolve.specs.Resolved.{AreResolved, IsRow};
 ghost use Rattle.ly_resolve.specs.Values.{action_from, conflict_from, terminal_action_from, IsInside};
 
 use crate::action::{Action, TerminalAction};
+use crate::action_rows::ActionRows;
 use crate::asking::{asks_shift, find_reductions};
 use crate::conflict::Conflict;
 use crate::meeting::Meeting;
 use crate::resolved::Resolved;
+use crate::shifting::list_shifts;
 use ly_base::{OutOfMemory, StateNo, Sym};
 use ly_join::Spec;
 use ly_lookahead::Lookaheads;
@@ -39,13 +41,15 @@ pub fn resolve<'a>(
         lr0,
         lookaheads,
     };
-    let mut rows = Vec::with_capacity(alloc, lr0.states())?;
+    let mut rows = ActionRows::with_capacity(alloc, lr0.states())?;
+    let mut row = Vec::new(alloc);
     let mut told = Told {
         conflicts: Vec::new(alloc),
         conflict_free: true,
     };
     for state in 0..lr0.states() {
-        rows.push(resolve_state(alloc, &sources, StateNo(state as u32), &mut told)?)?;
+        resolve_state(alloc, &sources, StateNo(state as u32), &mut row, &mut told)?;
+        rows.push(&row)?;
     }
     Ok(Resolved {
         spec,
@@ -58,13 +62,13 @@ pub fn resolve<'a>(
 
 /// From what actions are settled.
 #[derive(Clone, Copy)]
-struct Sources<'a> {
+struct Sources<'a, 'b> {
     /// Where precedences stand.
     spec: &'a Spec,
     /// The automaton.
     lr0: &'a Lr0<'a>,
     /// The lookaheads of its complete rules.
-    lookaheads: &'a Lookaheads,
+    lookaheads: &'b Lookaheads,
 }
 
 /// What is told of entries that are settled.
@@ -76,26 +80,30 @@ struct Told {
     conflict_free: bool,
 }
 
-/// What is done in a state, in the order of the terminals.
+/// Fills a row with what is done in a state, in the order of the terminals.
 fn resolve_state(
     alloc: Global,
-    sources: &Sources<'_>,
+    sources: &Sources<'_, '_>,
     state: StateNo,
+    row: &mut Vec<TerminalAction>,
     told: &mut Told,
-) -> Result<Vec<TerminalAction>, OutOfMemory>
+) -> Result<(), OutOfMemory>
     requires lawful { IsLr0Automaton sources.now.lr0.now }
     requires state { state.0 < length sources.now.lr0.now.states }
     requires lookaheads { AreLookaheads sources.now.lr0.now sources.now.lookaheads.now }
     requires told { AreTold sources.now.lr0.now (judge_of sources.now.spec.now) state.0 0
         (map (conflict_from sources.now.lr0.now) told.old.conflicts.items) told.old.conflict_free }
     requires inside { All (IsInside sources.now.lr0.now) told.old.conflicts.items }
-    ensures row { IfOk result (λ row. IsRow sources.now.lr0.now.grammar (judge_of sources.now.spec.now)
-        (prefix_of sources.now.lr0.now state.0) (map terminal_action_from row.items)) }
+    ensures row { OnOk result (IsRow sources.now.lr0.now.grammar (judge_of sources.now.spec.now)
+        (prefix_of sources.now.lr0.now state.0) (map terminal_action_from row.new.items)) }
     ensures told { OnOk result (AreTold sources.now.lr0.now (judge_of sources.now.spec.now) (state.0 + 1) 0
         (map (conflict_from sources.now.lr0.now) told.new.conflicts.items) told.new.conflict_free) }
     ensures inside { OnOk result (All (IsInside sources.now.lr0.now) told.new.conflicts.items) }
 {
-    let mut row = Vec::with_capacity(alloc, sources.lr0.transitions(state).len())?;
+    if sources.lr0.complete(state).is_empty() {
+        return Ok(list_shifts(sources.lr0, state, row)?);
+    }
+    row.clear();
     let mut reductions = Vec::new(alloc);
     let mut place = 0;
     for terminal in 0..sources.lr0.reduced().grammar().terminals() {
@@ -118,7 +126,7 @@ fn resolve_state(
             told.tell(&meeting, state, action)?;
         }
     }
-    Ok(row)
+    Ok(())
 }
 
 impl Told {

@@ -1,3 +1,4 @@
+use Rattle.std.proofs.Common.{◌≡◌, length}
 use Rattle.std.proofs.Common.{◌∙◌, ◌+◌, ◌<◌, ◌≤◌, ◌↔◌, ◌∷◌, [], Contains, All, ap, map, subst, sym}
 use Rattle.std.specs.List.{AllPairs}
 use Rattle.std.proofs.lemmas.List.{map-append}
@@ -13,6 +14,11 @@ use Rattle.ly_resolve.proofs.FoundLemmas.{told_nothing, told_row}
 use Rattle.ly_resolve.proofs.MeetingLemmas.{done_too}
 use Rattle.ly_resolve.proofs.settle.resolve_state.Goals as goal
 use Rattle.ly_resolve.proofs.settle.resolve_state.Goals.{in-Some+in_ok-push+in_ok-tell, in_default}
+use Rattle.std.proofs.lemmas.Bool.{eqb-true}
+use Rattle.std.proofs.lemmas.List.{nil_from_length}
+use Rattle.ly_lr0.specs.Automaton.{state_at}
+use Rattle.ly_resolve.specs.Values.{conflict_from}
+use Rattle.ly_resolve.proofs.ShiftLemmas.{told_shifts}
 
 pub loop-terminal-preserved : goal.loop-terminal-preserved
 loop-terminal-preserved c =
@@ -87,3 +93,12 @@ returns-clause-told c =
     (subst (λ n. n ≤ c.loop-terminal.terminal)
     (c.terminals-terminal-end.ensures ∙ sym c.grammar.ensures.keeps.terminals ∙ ap (λ g. g.terminals) c.reduced.ensures)
     c.loop-terminal-test.false) c.loop-terminal.invariant.told
+
+pub returns-then-is_empty-clause-told : goal.returns-then-is_empty-clause-told
+returns-then-is_empty-clause-told c =
+    let M = c.args.sources.now.lr0.now in
+    let none : (state_at M c.args.state.0).complete ≡ [] = sym c.complete.ensures
+    ∙ nil_from_length c.complete.result.now
+    (eqb-true (length c.complete.result.now) 0 (sym c.is_empty.ensures ∙ c.if-is_empty.true)) in
+    told_shifts M c.requires.lawful c.args.state.0 c.requires.state none (judge_of c.args.sources.now.spec.now)
+    (map (conflict_from M) c.args.told.now.conflicts.items) c.args.told.now.conflict_free c.requires.told
