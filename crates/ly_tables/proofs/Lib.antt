@@ -1,4 +1,5 @@
 pub mod BeginningLemmas
+pub mod BlockLemmas
 pub mod ChainLemmas
 pub mod EntryLemmas
 pub mod ExactLemmas

@@ -10,7 +10,7 @@ ghost use Rattle.ly_tables.specs.Ranges.{width_of};
 ghost use Rattle.ly_tables.specs.RawSet.{Fits};
 ghost use Rattle.ly_tables.specs.Spelling.{check_of, comb, next_of, number};
 
-use crate::numbers::{none, push_number, push_wide, reduction, shift};
+use crate::numbers::{Numbering, none, push_numbers, push_wide, reduction, shift};
 use ly_base::{RuleNo, StateNo, Version};
 use ly_pack::{Comb, Slot, TableAction};
 use std::alloc::AllocError;
@@ -97,14 +97,56 @@ pub(crate) fn push_comb<E: CombEntry>(
     push_checks(out, version, slots)
 }
 
+/// The numbering of numbers themselves.
+struct Itself;
+
+/// That of slots by their entries.
+struct Entries;
+
+/// That of slots by their rows.
+struct Rows;
+
+impl Numbering<u32> for Itself {
+    ghost has = { λ v n. Fits (width_of v) n };
+
+    ghost code = { λ v n. n };
+
+    fn number(_version: Version, number: u32) -> u32 {
+        number
+    }
+}
+
+impl<E: CombEntry> Numbering<Option<Slot<E>>> for Entries {
+    ghost has = { λ v s. IsSlotShort (width_of v) (E.code v) (option_map used_from s) };
+
+    ghost code = { λ v s. next_of (E.code v) (option_map used_from s) };
+
+    fn number(version: Version, slot: Option<Slot<E>>) -> u32 {
+        match slot {
+            Some(slot) => slot.entry.number(version),
+            None => 0,
+        }
+    }
+}
+
+impl<E: CombEntry> Numbering<Option<Slot<E>>> for Rows {
+    ghost has = { λ v s. IsSlotShort (width_of v) (E.code v) (option_map used_from s) };
+
+    ghost code = { λ v s. check_of (width_of v) (option_map used_from s) };
+
+    fn number(version: Version, slot: Option<Slot<E>>) -> u32 {
+        match slot {
+            Some(slot) => slot.row.0,
+            None => none(version),
+        }
+    }
+}
+
 /// The bases of rows.
 fn push_bases(out: &mut Vec<u8>, bases: &[u32]) -> Result<(), AllocError>
     ensures { OnOk result (out.new.items ≡ out.old.items ++ flat_map (to_be_bytes w32) bases.now) }
 {
-    for base in bases {
-        push_wide(out, *base)?;
-    }
-    Ok(())
+    push_numbers::<u32, Itself>(out, Version::V2, bases)
 }
 
 /// The entries of slots, 0 where one is free.
@@ -117,21 +159,7 @@ fn push_entries<E: CombEntry>(
     ensures { OnOk result (out.new.items ≡ out.old.items
         ++ flat_map (λ u. number (width_of version) (next_of (E.code version) u)) (slots_from slots.now)) }
 {
-    for slot in slots {
-        push_number(out, version, entry_number(version, *slot))?;
-    }
-    Ok(())
-}
-
-/// The entry of a slot as a number.
-fn entry_number<E: CombEntry>(version: Version, slot: Option<Slot<E>>) -> u32
-    requires { IsSlotShort (width_of version) (E.code version) (option_map used_from slot) }
-    ensures { result ≡ next_of (E.code version) (option_map used_from slot) }
-{
-    match slot {
-        Some(slot) => slot.entry.number(version),
-        None => 0,
-    }
+    push_numbers::<Option<Slot<E>>, Entries>(out, version, slots)
 }
 
 /// The rows of slots.
@@ -144,18 +172,5 @@ fn push_checks<E: CombEntry>(
     ensures { OnOk result (out.new.items ≡ out.old.items
         ++ flat_map (λ u. number (width_of version) (check_of (width_of version) u)) (slots_from slots.now)) }
 {
-    for slot in slots {
-        push_number(out, version, row_number(version, *slot))?;
-    }
-    Ok(())
-}
-
-/// The row of a slot as a number.
-fn row_number<E: Copy>(version: Version, slot: Option<Slot<E>>) -> u32
-    ensures { result ≡ check_of (width_of version) (option_map used_from slot) }
-{
-    match slot {
-        Some(slot) => slot.row.0,
-        None => none(version),
-    }
+    push_numbers::<Option<Slot<E>>, Rows>(out, version, slots)
 }

@@ -1,6 +1,8 @@
 //! The numbers of a version, and numbers at the end of bytes, their greatest byte first.
-ghost use Rattle.std.specs.Prelude.{◌≡◌, ◌++◌, ◌∷◌, [], ◌<◌, ◌≤◌, OnOk, length};
+ghost use Rattle.std.specs.Prelude.{◌≡◌, ◌++◌, ◌∷◌, [], ◌<◌, ◌≤◌, ◌*◌, ℕ, All, OnOk, drop, length};
+ghost use Rattle.std.specs.List.{flat_map};
 ghost use Rattle.std.specs.Int.{w16, w32, byte_len, to_be_bytes};
+ghost use Rattle.ly_base.specs.declared.version.Version.{Version as AnyVersion};
 ghost use Rattle.ly_tables.specs.Private.Short.{OptionFits};
 ghost use Rattle.ly_tables.specs.Ranges.{number_of, width_of};
 ghost use Rattle.ly_tables.specs.RawSet.{Fits};
@@ -9,6 +11,24 @@ ghost use Rattle.ly_tables.specs.Spelling.{least_reduction, least_shift, none_of
 use byteorder::{BigEndian, ByteOrder};
 use ly_base::Version;
 use std::alloc::AllocError;
+
+/// How many items' numbers are put in one step: few enough that their bytes stay in the nearest cache.
+const BLOCK: usize = 1024;
+
+/// Which number is put for an item.
+pub(crate) trait Numbering<T> {
+    /// Which items have one in a version.
+    ghost has: { AnyVersion → T → Type 0 };
+
+    /// What it is.
+    ghost code: { AnyVersion → T → ℕ };
+
+    /// The number of an item in a version.
+    fn number(version: Version, item: T) -> u32
+        requires { has version item }
+        ensures number { result ≡ code version item }
+        ensures fits { Fits (width_of version) result };
+}
 
 /// The number that a file has of its version.
 pub(crate) fn version_number(version: Version) -> u16
@@ -104,6 +124,67 @@ pub(crate) fn push_wide(out: &mut Vec<u8>, number: u32) -> Result<(), AllocError
     let mut bytes = [0; 4];
     BigEndian::write_u32(&mut bytes, number);
     out.extend_from_slice(&bytes)
+}
+
+/// Puts the number of each item at the end, a block of them at a time: room that is made for each alone costs more than
+/// its bytes.
+pub(crate) fn push_numbers<T: Copy, N: Numbering<T>>(
+    out: &mut Vec<u8>,
+    version: Version,
+    items: &[T],
+) -> Result<(), AllocError>
+    requires { All (N.has version) items.now }
+    ensures { OnOk result (out.new.items
+        ≡ out.old.items ++ flat_map (λ x. number (width_of version) (N.code version x)) items.now) }
+{
+    let mut left = items;
+    while !left.is_empty() {
+        let (block, behind) = left.split_at(left.len().min(BLOCK));
+        push_block::<T, N>(out, version, block)?;
+        left = behind;
+    }
+    Ok(())
+}
+
+/// Puts the numbers of a block at the end.
+fn push_block<T: Copy, N: Numbering<T>>(
+    out: &mut Vec<u8>,
+    version: Version,
+    items: &[T],
+) -> Result<(), AllocError>
+    requires few { length items.now ≤ 1024 }
+    requires each { All (N.has version) items.now }
+    ensures { OnOk result (out.new.items
+        ≡ out.old.items ++ flat_map (λ x. number (width_of version) (N.code version x)) items.now) }
+{
+    let start = out.len();
+    out.resize(start + number_size(version) * items.len(), 0)?;
+    write_block::<T, N>(&mut out[start..], version, items);
+    Ok(())
+}
+
+/// Writes the numbers of a block over bytes, which have room for exactly these.
+fn write_block<T: Copy, N: Numbering<T>>(bytes: &mut [u8], version: Version, items: &[T])
+    requires room { length bytes.old ≡ byte_len (width_of version) * length items.now }
+    requires each { All (N.has version) items.now }
+    ensures { bytes.new ≡ flat_map (λ x. number (width_of version) (N.code version x)) items.now }
+{
+    let size = number_size(version);
+    for (i, item) in items.iter().enumerate() {
+        write_number(&mut bytes[size * i..], version, N::number(version, *item));
+    }
+}
+
+/// Writes a number of a version over the first bytes.
+fn write_number(bytes: &mut [u8], version: Version, number: u32)
+    requires room { byte_len (width_of version) ≤ length bytes.old }
+    requires fits { Fits (width_of version) number }
+    ensures { bytes.new ≡ to_be_bytes (width_of version) number ++ drop (byte_len (width_of version)) bytes.old }
+{
+    match version {
+        Version::V1 => BigEndian::write_u16(bytes, number as u16),
+        Version::V2 => BigEndian::write_u32(bytes, number),
+    }
 }
 
 /// Puts a number of a version, or what stands for none, at the end.
