@@ -89,6 +89,7 @@ fn fill_actions(
         (dense_entry actions.new)) }
 {
     let mut place = 0;
+    actions.reserve(state, row.len())?;
     for entry in row {
         let action = table_action(resolved.lr0(), state, *entry, &mut place)?;
         actions.set(state, entry.terminal.0 as usize, Some(action))?;

@@ -11,11 +11,20 @@ use Rattle.ly_resolve.specs.Actions.{IsRaw, shift}
 use Rattle.ly_resolve.specs.Precedence.{judge_of}
 use Rattle.ly_resolve.specs.Values.{action_from, terminal_action_from}
 use Rattle.ly_resolve.specs.declared.action.Action.TheVariants.{Shift}
-use Rattle.ly_emit.specs.Private.Filling.{IsActionAt, IsAskedAt}
+use Rattle.ly_emit.specs.Private.Filling.{AreActionsTo, IsActionAt, IsAskedAt}
 use Rattle.ly_emit.specs.Tables.{IsEntryFor}
 use Rattle.ly_emit.proofs.FillLemmas.{filled_more, put_filled, put_none}
 use Rattle.ly_emit.proofs.RowLemmas.{done_there, done_within, entry_there, shifted}
 use Rattle.ly_emit.proofs.tables.fill_actions.Goals as goal
+
+pub loop-entry-init : goal.loop-entry-init
+loop-entry-init c = record {
+  rows = ap (λ d. d.rows) c.reserve.ensures;
+  width = ap (λ d. d.width) c.reserve.ensures;
+  filled = subst (λ d. AreActionsTo c.args.resolved.now.automaton (judge_of c.args.resolved.now.spec) c.args.state.0
+      (dense_entry d)) (sym c.reserve.ensures) c.requires.before;
+  seen = λ j x lt. absurd (omega (arith, lt));
+}
 
 pub table_action-requires-clause-shifted : goal.table_action-requires-clause-shifted
 table_action-requires-clause-shifted c =
