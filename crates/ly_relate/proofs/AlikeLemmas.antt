@@ -7,7 +7,7 @@ use Rattle.ly_join.specs.Grammar.{IsRule, Symbol, nonterminal, terminal}
 use Rattle.ly_grammar.specs.Items.{onto}
 use Rattle.ly_lr0.specs.Automaton.{Gotos, Reaches, goto_of}
 use Rattle.ly_relate.specs.Private.Gotos.{IsNumbering, Numbering}
-use Rattle.ly_relate.specs.Private.Groups.{AreAlike, BeginsSolid}
+use Rattle.ly_relate.specs.Private.Groups.{AreGroupable, BeginsSolid}
 use Rattle.ly_relate.specs.Private.Walks.{IsIncludingBy, IsLookingBack}
 use Rattle.ly_relate.specs.Related.{Goto}
 use Rattle.ly_relate.proofs.GotoLemmas.{numbered_are}
@@ -40,7 +40,7 @@ one_number : (gotos : List Goto) (k : ℕ) (x y : Goto) → slice_get gotos k �
 one_number gotos k x y a b = let e : Some x ≡ Some y = sym a ∙ b in cc
 
 -- the other way round
-pub alike_back : (n : Numbering) (solid : ℕ → List ℕ) (a b : ℕ) → AreAlike n solid a b → AreAlike n solid b a
+pub alike_back : (n : Numbering) (solid : ℕ → List ℕ) (a b : ℕ) → AreGroupable n solid a b → AreGroupable n solid b a
 alike_back n solid a b (x, y, at, there, same, lead) = (
   y,
   x,
@@ -51,8 +51,8 @@ alike_back n solid a b (x, y, at, there, same, lead) = (
 )
 
 -- and one more
-pub alike_more : (n : Numbering) (solid : ℕ → List ℕ) (a b c : ℕ) → AreAlike n solid a b → AreAlike n solid b c
-    → AreAlike n solid a c
+pub alike_more : (n : Numbering) (solid : ℕ → List ℕ) (a b c : ℕ) → AreGroupable n solid a b → AreGroupable n solid b c
+    → AreGroupable n solid a c
 alike_more n solid a b c (x, y, at, there, same, lead) (z, w, here, last, alike, on) =
     let one : y ≡ z = one_number n.gotos b y z there here in (
       x,
@@ -66,7 +66,7 @@ alike_more n solid a b c (x, y, at, there, same, lead) (z, w, here, last, alike,
           first ∙ (ap (λ g. goto_of n.automaton g.from X) one ∙ second),
     )
 
-module _ (n : Numbering) (law : IsNumbering n) (solid : ℕ → List ℕ) (a b p : ℕ) (alike : AreAlike n solid a b)
+module _ (n : Numbering) (law : IsNumbering n) (solid : ℕ → List ℕ) (a b p : ℕ) (alike : AreGroupable n solid a b)
     (has : Contains (solid alike.0.symbol) p) (begins : BeginsSolid n.automaton.grammar p) where
   -- what a rule includes in one it includes in the other
   pub moved_includes : (i : ℕ) → IsIncludingBy n.automaton n.gotos p i a → IsIncludingBy n.automaton n.gotos p i b

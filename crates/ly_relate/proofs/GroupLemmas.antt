@@ -6,7 +6,7 @@ use Rattle.std.proofs.lemmas.Bool.{cases_order}
 use Rattle.std.proofs.lemmas.Option.{get_or_from_slice_get, slice_get-get_or, slice_get_within}
 use Rattle.ly_digraph.specs.Digraph.{Digraph, IsEdge}
 use Rattle.ly_relate.specs.Private.Gotos.{IsNumbering, Numbering}
-use Rattle.ly_relate.specs.Private.Groups.{AreAlike, AreAllParted, AreGroups, Grouping, IsJoined, IsRuleOf, Leads}
+use Rattle.ly_relate.specs.Private.Groups.{AreGroupable, AreAllParted, AreGroups, Grouping, IsJoined, IsRuleOf, Leads}
 use Rattle.ly_relate.specs.Private.Groups.{RuleLists, leader_of, node_of, others_of, solid_of}
 use Rattle.ly_relate.specs.Private.Walks.{AreBack, AreBackBy, AreEdgesBy, AreEdgesTo, BackFrom, EdgeFrom, EdgeTo}
 use Rattle.ly_relate.specs.Private.Walks.{IncludesByOne}
@@ -70,7 +70,7 @@ module _ (n : Numbering) (solid : ℕ → List ℕ) (w : Grouping) (are : AreGro
   -- nodes that stand for them.
   module _ (g : Digraph) (O S T : ℕ → Type 0) (F : ℕ → Type 0)
       (total : (j : ℕ) → j < length n.gotos → (O j ⊎ S j) ↔ T j)
-      (moves : (a b : ℕ) → AreAlike n solid a b → S a → S b)
+      (moves : (a b : ℕ) → AreGroupable n solid a b → S a → S b)
       (found : (o : ℕ) → F o ↔ ((m : ℕ) × (m < length n.gotos) × IsSaidOf w m (O m) (S m) o))
       (gather : (k j : ℕ) → length n.gotos ≤ k
       → IsEdge g k j ↔ ((m : ℕ) × (m < length n.gotos) × (k ≡ node_of w m) × (k ≢ m) × (j ≡ m))) where
@@ -90,7 +90,7 @@ module _ (n : Numbering) (solid : ℕ → List ℕ) (w : Grouping) (are : AreGro
           let same_node : node_of w m ≡ length n.gotos + joined.0
           = sym node ∙ (to.2 ∙ (ap (node_of w) (sym to.4) ∙ joined.1.node)) in
           let leader = leads_there m joined.0 leads same_node in
-          let alike : AreAlike n solid m j = subst (λ l. AreAlike n solid l j) leader joined.1.alike in
+          let alike : AreGroupable n solid m j = subst (λ l. AreGroupable n solid l j) leader joined.1.alike in
           (total j lt).0 (inr (moves m j alike s))
 
     said_back : (j : ℕ) → j < length n.gotos → T j → (k : ℕ) × F k × StandsFor n.gotos g k j
@@ -181,13 +181,13 @@ module _ (n : Numbering) (law : IsNumbering n) (r : RuleLists) (parted : AreAllP
   solid_there a p x at has =
       subst (λ y. Contains (solid_of r y.symbol) p) (get_or_from_slice_get n.gotos a x no_goto at) has
 
-  solid_moved : (a b p : ℕ) → AreAlike n (solid_of r) a b → Contains (rules_at n (solid_of r) a) p
+  solid_moved : (a b p : ℕ) → AreGroupable n (solid_of r) a b → Contains (rules_at n (solid_of r) a) p
       → Contains (rules_at n (solid_of r) b) p
   solid_moved a b p (x, y, at, there, same, lead) has =
       subst (λ z. Contains (solid_of r z.symbol) p) (sym (get_or_from_slice_get n.gotos b y no_goto there))
       (subst (λ A. Contains (solid_of r A) p) same (solid_there a p x at has))
 
-  pub includes_moves : (i a b : ℕ) → AreAlike n (solid_of r) a b
+  pub includes_moves : (i a b : ℕ) → AreGroupable n (solid_of r) a b
       → IncludesByOne n (rules_at n (solid_of r) a) a i → IncludesByOne n (rules_at n (solid_of r) b) b i
   includes_moves i a b alike (p, has, is) =
       let own = solid_there a p alike.0 alike.2 has in
@@ -197,7 +197,7 @@ module _ (n : Numbering) (law : IsNumbering n) (r : RuleLists) (parted : AreAllP
         moved_includes n law (solid_of r) a b p alike own (lists.begin p own) i is,
       )
 
-  pub looks_moves : (s p a b : ℕ) → AreAlike n (solid_of r) a b
+  pub looks_moves : (s p a b : ℕ) → AreGroupable n (solid_of r) a b
       → LooksBackByOne n (rules_at n (solid_of r) a) a s p → LooksBackByOne n (rules_at n (solid_of r) b) b s p
   looks_moves s p a b alike (has, is) =
       let own = solid_there a p alike.0 alike.2 has in

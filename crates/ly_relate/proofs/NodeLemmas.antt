@@ -7,14 +7,14 @@ use Rattle.std.proofs.lemmas.Option.{slice_get-get_or}
 use Rattle.std.proofs.Math.ListN.{length-set}
 use Rattle.std.proofs.Math.Seq.{get_or-append_seam}
 use Rattle.ly_relate.specs.Private.Gotos.{Numbering}
-use Rattle.ly_relate.specs.Private.Groups.{AreAlike, AreGroups, Grouping, IsJoined, IsNodeBeside, IsNodeFor, leader_of}
-use Rattle.ly_relate.specs.Private.Groups.{node_of}
+use Rattle.ly_relate.specs.Private.Groups.{AreGroupable, AreGroups, Grouping, IsJoined, IsNodeBeside, IsNodeFor}
+use Rattle.ly_relate.specs.Private.Groups.{leader_of, node_of}
 use Rattle.ly_relate.specs.Private.Walks.{no_goto}
 use Rattle.ly_relate.proofs.AlikeLemmas.{alike_more}
 
 module _ (n : Numbering) (solid : ℕ → List ℕ) (k : ℕ) (few : k ≤ length n.gotos) where
   -- a transition leads as itself
-  alike_same : (j : ℕ) → j < length n.gotos → AreAlike n solid j j
+  alike_same : (j : ℕ) → j < length n.gotos → AreGroupable n solid j j
   alike_same j lt =
       let x = slice_index_or n.gotos j no_goto in
       let at = slice_get-get_or n.gotos j no_goto lt in
@@ -50,7 +50,7 @@ module _ (n : Numbering) (solid : ℕ → List ℕ) (k : ℕ) (few : k ≤ lengt
       node = changed;
       leader = subst (λ i. i < k) (sym first) lt;
       leads = ap (node_of next) first ∙ changed;
-      alike = subst (λ i. AreAlike n solid i l) (sym first) (alike_same l (omega (arith, lt, few)));
+      alike = subst (λ i. AreGroupable n solid i l) (sym first) (alike_same l (omega (arith, lt, few)));
     }
 
     still_joined : (j g : ℕ) → j ≢ l → IsJoined n solid k old j g → IsJoined n solid k next j g
@@ -59,7 +59,7 @@ module _ (n : Numbering) (solid : ℕ → List ℕ) (k : ℕ) (few : k ≤ lengt
       node = same j ne ∙ is.node;
       leader = subst (λ i. i < k) (sym (kept g is.within)) is.leader;
       leads = ap (node_of next) (kept g is.within) ∙ (same (leader_of old g) other ∙ is.leads);
-      alike = subst (λ i. AreAlike n solid i j) (sym (kept g is.within)) is.alike;
+      alike = subst (λ i. AreGroupable n solid i j) (sym (kept g is.within)) is.alike;
     } where
       other : leader_of old g ≢ l
       other e =
@@ -110,7 +110,7 @@ module _ (n : Numbering) (solid : ℕ → List ℕ) (k : ℕ) (few : k ≤ lengt
 
   -- and that of the next transition, if it leads as one that stands for others
   pub node_joined : (w : Grouping) (l node : ℕ)
-      → (g : ℕ) × IsJoined n solid k w l g × (node ≡ length n.gotos + g) → AreAlike n solid l k
+      → (g : ℕ) × IsJoined n solid k w l g × (node ≡ length n.gotos + g) → AreGroupable n solid l k
       → IsNodeFor n solid w k node
   node_joined w l node (g, is, e) alike = inr (
     g,

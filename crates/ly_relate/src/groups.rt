@@ -3,8 +3,8 @@
 ghost use Rattle.std.specs.Prelude.{◌≡◌, ◌<◌, ◌+◌, ◌++◌, ◌↔◌, ℕ, [], ◌∷◌, Contains, IfOk, IfSome, IsTrue, OnOk, length};
 ghost use Rattle.std.specs.Prelude.{option_map};
 ghost use Rattle.ly_join.specs.Grammar.{IsRule, GrammarRule};
-ghost use Rattle.ly_relate.specs.Private.Groups.{AreAlike, AreAllParted, AreGroups, IsNodeBeside, IsNodeFor, LeadAlike};
-ghost use Rattle.ly_relate.specs.Private.Groups.{LeadsAlike};
+ghost use Rattle.ly_relate.specs.Private.Groups.{AreAllParted, AreGroupable, AreGroups, IsNodeBeside, IsNodeFor};
+ghost use Rattle.ly_relate.specs.Private.Groups.{LeadAlike, LeadsAlike};
 ghost use Rattle.ly_relate.specs.Private.Groups.{Leads, node_of, solid_of};
 
 use crate::gotos::Gotos;
@@ -140,7 +140,7 @@ fn lead_alike(gotos: &Gotos<'_>, rules: &PartedRules, one: usize, other: usize) 
     requires rules { AreAllParted gotos.now.automaton rules.now }
     requires one { one < length gotos.now.gotos }
     requires other { other < length gotos.now.gotos }
-    ensures { IsTrue result → AreAlike gotos.now (solid_of rules.now) one other }
+    ensures { IsTrue result → AreGroupable gotos.now (solid_of rules.now) one other }
 {
     let one = gotos.get(one);
     let other = gotos.get(other);

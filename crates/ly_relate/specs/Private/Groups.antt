@@ -47,8 +47,8 @@ abbrev pub LeadAlike : Lr0Automaton → List ℕ → ℕ → ℕ → Type 0
 LeadAlike M rules p q = (k : ℕ) → Contains rules k → LeadsAlike M k p q
 
 -- two transitions are over one nonterminal, and these of its rules lead alike from where they begin
-abbrev pub AreAlike : Numbering → (ℕ → List ℕ) → ℕ → ℕ → Type 0
-AreAlike n solid i j = (x : Goto) × (y : Goto) × (slice_get n.gotos i ≡ Some x) × (slice_get n.gotos j ≡ Some y)
+abbrev pub AreGroupable : Numbering → (ℕ → List ℕ) → ℕ → ℕ → Type 0
+AreGroupable n solid i j = (x : Goto) × (y : Goto) × (slice_get n.gotos i ≡ Some x) × (slice_get n.gotos j ≡ Some y)
     × (x.symbol ≡ y.symbol) × LeadAlike n.automaton (solid x.symbol) x.from y.from
 
 -- The node of each transition, for each node past all of them the first that it stands for, and how many nodes there
@@ -72,7 +72,7 @@ pub record IsJoined (n : Numbering) (solid : ℕ → List ℕ) (count : ℕ) (w 
   pub node : node_of w j ≡ length n.gotos + g
   pub leader : leader_of w g < count
   pub leads : node_of w (leader_of w g) ≡ length n.gotos + g
-  pub alike : AreAlike n solid (leader_of w g) j
+  pub alike : AreGroupable n solid (leader_of w g) j
 
 -- each of the first transitions stands for itself, or is joined to one that leads alike
 pub record AreGroups (n : Numbering) (solid : ℕ → List ℕ) (count : ℕ) (w : Grouping) : Type 0 where
@@ -83,7 +83,7 @@ pub record AreGroups (n : Numbering) (solid : ℕ → List ℕ) (count : ℕ) (w
 -- the number is the transition's own, or a node for which it is joined to an earlier one
 abbrev pub IsNodeFor : Numbering → (ℕ → List ℕ) → Grouping → ℕ → ℕ → Type 0
 IsNodeFor n solid w j node = (node ≡ j) ⊎ ((g : ℕ) × (g < length w.leaders) × (node ≡ length n.gotos + g)
-    × (leader_of w g < j) × (node_of w (leader_of w g) ≡ node) × AreAlike n solid (leader_of w g) j)
+    × (leader_of w g < j) × (node_of w (leader_of w g) ≡ node) × AreGroupable n solid (leader_of w g) j)
 
 -- The number is the node of transition j, which is past it: it was so before, or it stood for itself, and has the next
 -- node now.
