@@ -1,3 +1,4 @@
+pub mod DirectLemmas
 pub mod FromRelations
 pub mod LookaheadLemmas
 pub mod ReadLemmas

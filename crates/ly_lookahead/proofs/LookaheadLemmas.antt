@@ -4,26 +4,24 @@ use Rattle.std.proofs.Common.{None, Option, Some}
 use Rattle.std.proofs.Common.{All, ap, arith, length, map, refl, slice_get, slice_index_or, subst, sym}
 use Rattle.std.specs.List.{AllPairs}
 use Rattle.std.proofs.lemmas.Bool.{cases_lt, cases_order}
-use Rattle.std.proofs.lemmas.List.Elements.{All-contains, All-weaker, All-contains_itself}
+use Rattle.std.proofs.lemmas.List.Elements.{All-contains}
 use Rattle.std.proofs.lemmas.Option.{get_or_from_slice_get, slice_get_within}
 use Rattle.ly_join.specs.Grammar.{Grammar, IsAugmented, IsRule, GrammarRule, Symbol, accept_rule, nonterminal, terminal}
 use Rattle.ly_join.proofs.ListLemmas.{member_at}
 use Rattle.ly_grammar.specs.Items.{HasNoEnd, Valid, at_start, closed, moved}
-use Rattle.ly_grammar.proofs.ItemLemmas.{body_of, zero_item, zero_split}
+use Rattle.ly_grammar.proofs.ItemLemmas.{body_of, zero_split}
 use Rattle.ly_grammar.proofs.SearchLemmas.{rule_is_one}
 use Rattle.ly_digraph.specs.Digraph.{IsInside as JoinsNodes}
 use Rattle.ly_sets.specs.NumberSet.{NumberSet, Member}
 use Rattle.ly_sets.specs.SetMatrix.{row}
 use Rattle.ly_lr0.specs.Automaton.{Lr0Automaton, IsLr0Automaton, Reaches, State, goto_of, state_at}
 use Rattle.ly_lr0.proofs.StateLemmas.{target_some}
-use Rattle.ly_relate.specs.Related.{AreRelations, DirectRead, Goto, Lookback, Relations, StandsFor}
-use Rattle.ly_relate.specs.Relations.{DirectlyReads, Follow, LookaheadBy, LooksBack}
+use Rattle.ly_relate.specs.Related.{AreRelations, Goto, Lookback, Relations, StandsFor}
+use Rattle.ly_relate.specs.Relations.{Follow, LookaheadBy, LooksBack}
 use Rattle.ly_relate.proofs.GotoLemmas.{leads_from}
-use Rattle.ly_relate.proofs.LeaveLemmas.{symbol_within}
-use Rattle.ly_relate.proofs.ReachLemmas.{apart}
 use Rattle.ly_lookahead.specs.Lookaheads.{AreLookaheads}
 use Rattle.ly_lookahead.specs.Private.Rows.{AreRows}
-use Rattle.ly_lookahead.specs.Private.Sets.{AreFollowSets, AreLookedBack, IsInside}
+use Rattle.ly_lookahead.specs.Private.Sets.{AreFollowSets, AreLookedBack}
 use Rattle.ly_lookahead.proofs.FromRelations.{lookahead_from}
 use Rattle.ly_lookahead.proofs.ReadLemmas.{goto_at, one_goto}
 use Rattle.ly_lookahead.proofs.RowLemmas.{past_nodes, rises, row_once}
@@ -48,21 +46,6 @@ no_zero {G} augmented z ends (moved {before = before} {X = X} v) =
       | inl x ↦ (let no : [] ≡ terminal 0 ∷ [] = x.2 in cc)
       | inr x ↦ ends.0 x.1
     ]
-
--- a terminal that leaves a state has a number below their count
-leaves_within : {G : Grammar} {t : ℕ} (p : ℕ) (before after : List Symbol) (u : ℕ) {g : List Symbol} → IsAugmented G
-    → Valid G g p before (terminal t ∷ after) u → t < G.terminals
-leaves_within {t = t} zero before after u augmented v = elim (zero_item augmented v) [
-  | inl x ↦ absurd (apart (sym x.1))
-  | inr x ↦
-      let e : terminal t ≡ terminal 0 = x.1 in
-      let none : t ≡ 0 = cc in
-      let some = augmented.end_within in
-      omega (arith, none, some)
-]
-leaves_within {t = t} (suc p) before after u augmented v =
-    let body = body_of v in
-    (symbol_within before after (terminal t) augmented body.1 (omega arith) body.2).1
 
 -- places of a rising list hold different numbers
 rising_once : (xs : List ℕ) (i j x : ℕ) → AllPairs (λ p q. p < q) xs → slice_get xs i ≡ Some x → slice_get xs j ≡ Some x
@@ -98,7 +81,8 @@ module _ (M : Lr0Automaton) (is : IsLr0Automaton M) where
   pub state_is : (s : ℕ) (q : State) → slice_get M.states s ≡ Some q → state_at M s ≡ q
   state_is s q at = get_or_from_slice_get M.states s q (record { prefix = []; transitions = []; complete = [] }) at
 
-  leads_within : (s r : ℕ) (X : Symbol) → goto_of M s X ≡ Some r → (s < length M.states) × (r < length M.states)
+  -- a symbol leads from a state to a state
+  pub leads_within : (s r : ℕ) (X : Symbol) → goto_of M s X ≡ Some r → (s < length M.states) × (r < length M.states)
   leads_within s r X e =
       let of = leads_from M s X r e in (
         slice_get_within M.states s of.0 of.1,
@@ -145,25 +129,6 @@ module _ (M : Lr0Automaton) (is : IsLr0Automaton M) where
         let from = b.from in
         let start = leads_within at.0.from from.0 (nonterminal at.0.symbol) from.1 in
         (reaches_within at.0.from b.before l.state start.0 b.leads, node.0)
-
-    -- a direct read is of a transition, and of a terminal
-    pub direct_within : (d : DirectRead) → Contains R.direct d
-        → (d.goto < length R.gotos) × (d.terminal < M.grammar.terminals)
-    direct_within d has =
-        let at = (are.direct d.goto d.terminal).0 has in
-        (slice_get_within R.gotos d.goto at.0 at.1, below at.0.from at.0.symbol d.terminal at.2)
-      where
-        below : (s A t : ℕ) → DirectlyReads M.grammar (goto_of M) s A t → t < M.grammar.terminals
-        below s A t (r, e, l) = leaves_within l.2.0 l.2.1 l.2.2 l.2.3.0 is.augmented l.2.3.1
-
-    pub direct_inside : (rows width : ℕ) → R.includes.nodes ≤ rows → M.grammar.terminals ≡ width
-        → All (IsInside rows width) R.direct
-    direct_inside rows width le same = All-weaker (Contains R.direct) (IsInside rows width) (λ d has.
-        let both = direct_within d has in
-        let most = are.includes.nodes in
-        let lt = both.0 in
-        let below = both.1 in
-        (omega (arith, lt, most, le), omega (arith, below, same))) R.direct (All-contains_itself R.direct)
 
     module _ (first : List ℕ) (rows : AreRows M R.includes.nodes (length M.states) first) where
       -- the row of a complete rule is one of them

@@ -1,5 +1,5 @@
 -- The least sets along reads are Read, and those along includes Follow.
-use Rattle.std.proofs.Common.{◌≡◌, ◌∙◌, inl, inr, ◌<◌, ◌≤◌, ◌↔◌, ℕ, List, Contains, Some, arith, length, refl}
+use Rattle.std.proofs.Common.{◌≡◌, ◌∙◌, inl, inr, ◌<◌, ◌≤◌, ◌↔◌, ℕ, List, Some, arith, length, refl}
 use Rattle.std.proofs.Common.{slice_get, slice_index_or, subst, sym}
 use Rattle.std.proofs.lemmas.Bool.{cases_lt}
 use Rattle.std.proofs.lemmas.Option.{slice_get-get_or, slice_get_within}
@@ -48,10 +48,13 @@ stands_reaches gotos g k j i (inl e) way = subst (λ n. Reaches g n i) (sym e) w
 stands_reaches gotos g k j i (inr (past, e)) way = along k j i e way
 
 module _ (M : Lr0Automaton) (R : Relations) (are : AreRelations M R) where
+  -- a transition of this number directly reads the terminal
+  abbrev IsDirect : ℕ → ℕ → Type 0
+  IsDirect j t = (x : Goto) × (slice_get R.gotos j ≡ Some x) × DirectlyReads M.grammar (goto_of M) x.from x.symbol t
+
   read_from : {i j t : ℕ} → Reaches R.reads i j → (x : Goto) → slice_get R.gotos i ≡ Some x
-      → Contains R.direct (record { goto = j; terminal = t }) → Read M.grammar (goto_of M) x.from x.symbol t
-  read_from {t = t} (here i) x at has =
-      let d = (are.direct i t).0 has in
+      → IsDirect j t → Read M.grammar (goto_of M) x.from x.symbol t
+  read_from {t = t} (here i) x at d =
       directly (subst (λ z. DirectlyReads M.grammar (goto_of M) z.from z.symbol t)
       (one_goto R.gotos i d.0 x d.1 at) d.2)
   read_from {t = t} (along i j k e way) x at has =
@@ -62,9 +65,9 @@ module _ (M : Lr0Automaton) (R : Relations) (are : AreRelations M R) where
 
   read_to : {p A t : ℕ} → Read M.grammar (goto_of M) p A t → (n s : ℕ)
       → slice_get R.gotos n ≡ Some (record { from = p; symbol = A; target = s })
-      → (j : ℕ) × Reaches R.reads n j × Contains R.direct (record { goto = j; terminal = t })
+      → (j : ℕ) × Reaches R.reads n j × IsDirect j t
   read_to {p} {A} {t} (directly d) n s at =
-      (n, here n, (are.direct n t).1 (record { from = p; symbol = A; target = s }, at, d))
+      (n, here n, (record { from = p; symbol = A; target = s }, at, d))
   read_to {p} {A} {t} (along_reads {r = r} {C = C} x rd) n s at =
       let there = are.gotos.all r C x.1.0 x.1.1 in
       let rest = read_to rd there.0 x.1.0 there.1 in
@@ -72,7 +75,7 @@ module _ (M : Lr0Automaton) (R : Relations) (are : AreRelations M R) where
       let e = (are.reads.edges n there.0).1 (record { from = p; symbol = A; target = s }, y, at, there.1, x) in
       (rest.0, along n there.0 rest.0 e rest.1, rest.2)
 
-  module _ (direct reads follows : List NumberSet) (are_direct : AreDirectSets R.direct direct)
+  module _ (direct reads follows : List NumberSet) (are_direct : AreDirectSets M R.gotos direct)
       (least_reads : IsLeast R.reads direct reads) (between_reads : IsBetween R.reads direct reads)
       (least_follows : IsLeast R.includes reads follows) (between_follows : IsBetween R.includes reads follows) where
     -- Read
@@ -94,7 +97,7 @@ module _ (M : Lr0Automaton) (R : Relations) (are : AreRelations M R) where
     read_past i t past m =
         let d = (least_reached least_reads between_reads i t).0 m in
         let here = edge_within (Reads M.grammar (goto_of M)) are.reads d.1 past in
-        let has = (are.direct i t).0 ((are_direct i t).0 (subst (λ k. Member (row direct k) t) (sym here) d.2)) in
+        let has = (are_direct i t).0 (subst (λ k. Member (row direct k) t) (sym here) d.2) in
         let lt = slice_get_within R.gotos i has.0 has.1 in
         omega (arith, lt, past)
 

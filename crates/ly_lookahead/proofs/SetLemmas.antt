@@ -1,18 +1,18 @@
--- What one more direct read and one more lookback does to sets in rows.
+-- What one more number and one more lookback does to sets in rows.
 use Rattle.std.proofs.Common.{◌≡◌, ◌≢◌, ◌∙◌, ◌⊎◌, inl, inr, ◌↔◌, ◌++◌, [], ◌∷◌, ℕ, suc, ◌+◌, ◌<◌, List, true, false}
 use Rattle.std.proofs.Common.{Contains, Some, ap, arith, drop, length, refl, slice_get, slice_index_or, slice_set}
 use Rattle.std.proofs.Common.{subst, sym, take}
-use Rattle.std.proofs.Common.{All, map, replicate}
+use Rattle.std.proofs.Common.{map, replicate}
+use Rattle.std.specs.Prelude.{option_map}
 use Rattle.std.specs.FinSet as set
 use Rattle.std.specs.FinSet.{contains-empty}
 use Rattle.std.specs.Ordering.{nat_cmp}
 use Rattle.std.proofs.lemmas.Bool.{cases_eq}
-use Rattle.std.proofs.lemmas.List.{get_or-set_same, get_or-set_other, length-map}
-use Rattle.std.proofs.lemmas.Option.{slice_get-get_or}
-use Rattle.std.proofs.Math.ListN.{get_or-map}
-use Rattle.std.proofs.lemmas.List.Elements.{All-contains, Contains-append_cases, Contains-append_left}
+use Rattle.std.proofs.lemmas.List.{get_or-set_same, get_or-set_other}
+use Rattle.std.proofs.lemmas.Option.{slice_get-get_or, slice_get-map}
+use Rattle.std.proofs.lemmas.List.Elements.{Contains-append_cases, Contains-append_left}
 use Rattle.std.proofs.lemmas.List.Elements.{Contains-append_right}
-use Rattle.ly_base.proofs.MemberLemmas.{Contains-first, Contains-none, Contains-one}
+use Rattle.ly_base.proofs.MemberLemmas.{Contains-first, Contains-one}
 use Rattle.ly_join.proofs.ListLemmas.{member_at}
 use Rattle.ly_sets.specs.NumberSet.{NumberSet, Member}
 use Rattle.ly_sets.specs.SetMatrix.{row}
@@ -20,12 +20,11 @@ use Rattle.ly_sets.proofs.NumberSetLemmas.{contains-insert_nat}
 use Rattle.ly_sets.proofs.MatrixLemmas.{row-empty}
 use Rattle.ly_digraph.proofs.UnionLemmas.{Member-union_cases, Member-union_left, Member-union_right}
 use Rattle.ly_lr0.specs.Automaton.{Lr0Automaton, state_at}
-use Rattle.ly_relate.specs.Related.{DirectRead, Lookback}
-use Rattle.ly_relate.specs.Values.{direct_from, lookback_from}
-use Rattle.ly_relate.specs.declared.direct.DirectRead as code
+use Rattle.ly_relate.specs.Related.{Lookback}
+use Rattle.ly_relate.specs.Values.{lookback_from}
 use Rattle.ly_relate.specs.declared.walks.Lookback as lookback
 use Rattle.ly_relate.proofs.GotoLemmas.{split_at}
-use Rattle.ly_lookahead.specs.Private.Sets.{AreDirectSets, AreLookedBack, ComesBack, IsInside, IsRowOf}
+use Rattle.ly_lookahead.specs.Private.Sets.{AreLookedBack, ComesBack, IsRowOf}
 
 -- ONE MORE MEMBER OF A LIST
 
@@ -53,7 +52,12 @@ take_within : {X : Type 0} (xs : List X) (i : ℕ) (x y : X) → slice_get xs i 
 take_within xs i x y at has = subst (λ w. Contains w y) (sym (split_at xs i x at).0)
     (Contains-append_left (take i xs) (x ∷ drop (suc i) xs) y has)
 
--- DIRECT READS
+-- what stands in a list that was gone over
+pub shown_at : {X Y : Type 0} (f : X → Y) (d : X) (xs : List X) (i : ℕ) → i < length xs
+    → slice_get (map f xs) i ≡ Some (f (slice_index_or xs i d))
+shown_at f d xs i lt = slice_get-map f xs i ∙ ap (option_map f) (slice_get-get_or xs i d lt)
+
+-- NUMBERS IN ROWS
 
 insert_cases : (s : NumberSet) (n q : ℕ) → Member (set.insert s n) q → (q ≡ n) ⊎ Member s q
 insert_cases s n q m = elim (cases_eq q n) [
@@ -78,79 +82,44 @@ row_other : (old new : List NumberSet) (i r : ℕ) (s : NumberSet) → new ≡ s
     → row new r ≡ row old r
 row_other old new i r s is ne = ap (λ w. row w r) is ∙ get_or-set_other old i r s set.empty ne
 
--- one more direct read
-pub direct_more : (direct : List DirectRead) (i : ℕ) (d : DirectRead) (old new : List NumberSet)
-    → slice_get direct i ≡ Some d → d.goto < length old
-    → new ≡ slice_set old d.goto (set.insert (row old d.goto) d.terminal)
-    → AreDirectSets (take i direct) old → AreDirectSets (take (i + 1) direct) new
-direct_more direct i d old new at lt is before r t = (to, back) where
-  x : DirectRead
-  x = record { goto = r; terminal = t }
-
+-- one more number in a row
+pub inserted_one : (old new : List NumberSet) (n q : ℕ) → n < length old
+    → new ≡ slice_set old n (set.insert (row old n) q) → (i t : ℕ)
+    → Member (row new i) t ↔ (Member (row old i) t ⊎ ((i ≡ n) × (t ≡ q)))
+inserted_one old new n q lt is i t = (to, back) where
   s : NumberSet
-  s = set.insert (row old d.goto) d.terminal
+  s = set.insert (row old n) q
 
-  to : Member (row new r) t → Contains (take (i + 1) direct) x
-  to m = (take_more direct i d x at).1 (elim (cases_eq r d.goto) [
+  to : Member (row new i) t → Member (row old i) t ⊎ ((i ≡ n) × (t ≡ q))
+  to m = elim (cases_eq i n) [
     | inl e ↦
-        let here = row_same old new d.goto s is lt in
-        let own : Member s t = subst (λ w. Member w t) here (subst (λ k. Member (row new k) t) e m) in
-        elim (insert_cases (row old d.goto) d.terminal t own) [
-          | inl same ↦ inr (subst (λ k. d ≡ record { goto = k; terminal = t }) (sym e)
-              (subst (λ k. d ≡ record { goto = d.goto; terminal = k }) (sym same) refl))
-          | inr was ↦ inl ((before r t).0 (subst (λ k. Member (row old k) t) (sym e) was))
+        let own : Member s t
+        = subst (λ w. Member w t) (row_same old new n s is lt) (subst (λ k. Member (row new k) t) e m) in
+        elim (insert_cases (row old n) q t own) [
+          | inl same ↦ inr (e, same)
+          | inr was ↦ inl (subst (λ k. Member (row old k) t) (sym e) was)
         ]
-    | inr ne ↦ inl ((before r t).0 (subst (λ w. Member w t) (row_other old new d.goto r s is ne) m))
-  ])
-
-  kept : Member (row old r) t → Member (row new r) t
-  kept m = elim (cases_eq r d.goto) [
-    | inl e ↦
-        let was = subst (λ k. Member (row old k) t) e m in
-        subst (λ k. Member (row new k) t) (sym e)
-        (subst (λ w. Member w t) (sym (row_same old new d.goto s is lt))
-        (insert_kept (row old d.goto) d.terminal t was))
-    | inr ne ↦ subst (λ w. Member w t) (sym (row_other old new d.goto r s is ne)) m
+    | inr ne ↦ inl (subst (λ w. Member w t) (row_other old new n i s is ne) m)
   ]
 
-  back : Contains (take (i + 1) direct) x → Member (row new r) t
-  back has = elim ((take_more direct i d x at).0 has) [
-    | inl was ↦ kept ((before r t).1 was)
-    | inr same ↦
-        let own : Member (row new d.goto) d.terminal
-        = subst (λ w. Member w d.terminal) (sym (row_same old new d.goto s is lt))
-        (insert_same (row old d.goto) d.terminal) in
-        subst (λ y. Member (row new y.goto) y.terminal) same own
+  in_row : Member s t → i ≡ n → Member (row new i) t
+  in_row m e = subst (λ k. Member (row new k) t) (sym e)
+      (subst (λ w. Member w t) (sym (row_same old new n s is lt)) m)
+
+  back : Member (row old i) t ⊎ ((i ≡ n) × (t ≡ q)) → Member (row new i) t
+  back (inl was) = elim (cases_eq i n) [
+    | inl e ↦ in_row (insert_kept (row old n) q t (subst (λ k. Member (row old k) t) e was)) e
+    | inr ne ↦ subst (λ w. Member w t) (sym (row_other old new n i s is ne)) was
   ]
+  back (inr (e, same)) = in_row (subst (Member s) (sym same) (insert_same (row old n) q)) e
 
--- before the first direct read
-pub direct_none : (rows : ℕ) (sets : List NumberSet) → sets ≡ replicate rows set.empty → AreDirectSets [] sets
-direct_none rows sets is r t = (
-  (λ m. let lacks : false ≡ true = sym (contains-empty nat_cmp t) ∙ subst (λ s. Member s t) (row-empty rows r)
-      (subst (λ w. Member (row w r) t) is m) in cc),
-  Contains-none (record { goto = r; terminal = t }),
-)
-
--- a direct read as contracts see it
-abbrev pub no_read : code.DirectRead
-no_read = record { goto = 0; terminal = record { 0 = 0 } }
-
-pub direct_seen : (direct : List DirectRead) (items : List code.DirectRead) (i : ℕ) → map direct_from items ≡ direct
-    → i < length items → slice_get direct i ≡ Some (direct_from (slice_index_or items i no_read))
-direct_seen direct items i e lt =
-    subst (λ w. slice_get w i ≡ Some (direct_from (slice_index_or items i no_read))) e
-    (slice_get-get_or (map direct_from items) i (direct_from no_read)
-    (subst (λ m. i < m) (sym (length-map items direct_from)) lt)
-    ∙ ap (λ x. Some x) (get_or-map direct_from items i no_read))
-
--- one of those that are inside
-pub inside_at : (rows width : ℕ) (items : List code.DirectRead) (i : ℕ) → i < length items
-    → All (IsInside rows width) (map direct_from items)
-    → IsInside rows width (direct_from (slice_index_or items i no_read))
-inside_at rows width items i lt all = All-contains (IsInside rows width) (map direct_from items)
-    (direct_from (slice_index_or items i no_read)) all
-    (member_at (map direct_from items) i (direct_from (slice_index_or items i no_read))
-    (direct_seen (map direct_from items) items i refl lt))
+-- nothing is in rows at first
+pub rows_empty : (rows : ℕ) (sets : List NumberSet) → sets ≡ replicate rows set.empty → (i t : ℕ)
+    → Member (row sets i) t → ⊥
+rows_empty rows sets is i t m =
+    let lacks : false ≡ true = sym (contains-empty nat_cmp t) ∙ subst (λ s. Member s t) (row-empty rows i)
+    (subst (λ w. Member (row w i) t) is m) in
+    cc
 
 -- LOOKBACKS
 
@@ -162,9 +131,7 @@ pub lookback_seen : (ls : List Lookback) (items : List lookback.Lookback) (i : �
     → i < length items → slice_get ls i ≡ Some (lookback_from (slice_index_or items i no_lookback))
 lookback_seen ls items i e lt =
     subst (λ w. slice_get w i ≡ Some (lookback_from (slice_index_or items i no_lookback))) e
-    (slice_get-get_or (map lookback_from items) i (lookback_from no_lookback)
-    (subst (λ m. i < m) (sym (length-map items lookback_from)) lt)
-    ∙ ap (λ x. Some x) (get_or-map lookback_from items i no_lookback))
+    (shown_at lookback_from no_lookback items i lt)
 
 module _ (M : Lr0Automaton) (first : List ℕ) (ls : List Lookback) (i : ℕ) (l : Lookback)
     (at : slice_get ls i ≡ Some l) where

@@ -1,15 +1,15 @@
 //! Read and Follow: the least sets that hold the direct reads and grow along reads, and then along includes. A node of
 //! includes that gathers transitions begins with an empty row, and gets what follows them.
-ghost use Rattle.std.specs.Prelude.{◌≡◌, ◌≤◌, length, map, All, IfOk};
+ghost use Rattle.std.specs.Prelude.{◌≡◌, ◌≤◌, length, IfOk};
 ghost use Rattle.ly_lr0.specs.Automaton.{IsLr0Automaton};
 ghost use Rattle.ly_relate.specs.Related.{AreRelations};
-ghost use Rattle.ly_relate.specs.Values.{direct_from};
-ghost use Rattle.ly_lookahead.specs.Private.Sets.{AreDirectSets, AreFollowSets, IsInside};
+ghost use Rattle.ly_lookahead.specs.Private.Sets.{AreFollowSets};
 
+use crate::direct::direct_sets;
 use ly_base::OutOfMemory;
 use ly_digraph::least;
 use ly_lr0::Lr0;
-use ly_relate::{DirectRead, Relations};
+use ly_relate::Relations;
 use ly_sets::SetMatrix;
 use std::alloc::Global;
 
@@ -27,27 +27,8 @@ pub(crate) fn follow_sets(
     ensures follows { IfOk result (λ m. AreFollowSets lr0.now relations.now.gotos relations.now.includes
         m.sets) }
 {
-    let width = lr0.reduced().grammar().terminals() as usize;
-    let mut sets = direct_sets(alloc, relations.direct(), rows, width)?;
+    let mut sets = direct_sets(alloc, lr0, relations.gotos(), rows)?;
     least(alloc, relations.reads(), &mut sets)?;
     least(alloc, relations.includes(), &mut sets)?;
-    Ok(sets)
-}
-
-/// What each transition directly reads.
-fn direct_sets(
-    alloc: Global,
-    direct: &[DirectRead],
-    rows: usize,
-    width: usize,
-) -> Result<SetMatrix, OutOfMemory>
-    requires { All (IsInside rows width) (map direct_from direct.now) }
-    ensures rows { IfOk result (λ m. length m.sets ≡ rows) }
-    ensures direct { IfOk result (λ m. AreDirectSets (map direct_from direct.now) m.sets) }
-{
-    let mut sets = SetMatrix::new(alloc, rows, width)?;
-    for read in direct {
-        sets.insert(read.goto, read.terminal);
-    }
     Ok(sets)
 }

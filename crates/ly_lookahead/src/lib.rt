@@ -8,6 +8,7 @@
 //! Left out: what a state does where lookaheads meet.
 #![tactic(auto)]
 
+mod direct;
 mod follow;
 mod laws;
 mod look_ahead;

@@ -43,6 +43,12 @@ transition_is t X r a b =
     let at : Symbol → ℕ → Transition = λ Y n. record { symbol = Y; target = n } in
     ap (λ Y. at Y t.target) a ∙ ap (at X) b
 
+-- and so is one over a nonterminal
+pub goto_is : (x y : Goto) → x.from ≡ y.from → x.symbol ≡ y.symbol → x.target ≡ y.target → x ≡ y
+goto_is x y a b c =
+    let at : ℕ → ℕ → ℕ → Goto = λ p A r. record { from = p; symbol = A; target = r } in
+    ap (λ p. at p x.symbol x.target) a ∙ ap (λ A. at y.from A x.target) b ∙ ap (at y.from y.symbol) c
+
 -- where symbols rise, each transition says where its symbol leads
 pub has_target : (ts : List Transition) (t : Transition) → AllPairs (λ t u. IsLess t.symbol u.symbol) ts → Contains ts t
     → target_of ts t.symbol ≡ Some t.target

@@ -10,7 +10,6 @@ use Rattle.ly_grammar.specs.Derivations.{IsNullable}
 use Rattle.ly_lr0.specs.Automaton.{Lr0Automaton, goto_of}
 use Rattle.ly_relate.specs.Private.Walks.{AreEdgesTo, IsIncludedAt}
 use Rattle.ly_relate.specs.Related.{AreGotos, Goto}
-use Rattle.ly_relate.proofs.DirectLemmas.{goto_is}
 use Rattle.ly_relate.proofs.ReachLemmas.{apart}
 use Rattle.ly_relate.proofs.WalkLemmas.{drop_at, nullable_behind, onto_is, onto_take, parted, slice_at_drop}
 use Rattle.ly_relate.proofs.WalkLemmas.{terminal_not_nullable}
@@ -25,7 +24,7 @@ use Rattle.ly_grammar.proofs.SearchLemmas.{rule_is_one}
 use Rattle.ly_lr0.specs.Automaton.{Reaches}
 use Rattle.ly_relate.specs.Private.Gotos.{IsNumbering, Numbering}
 use Rattle.ly_relate.specs.Private.Walks.{IsIncludingBy, IsLookingBack, IsPassed, IsStopped}
-use Rattle.ly_relate.proofs.GotoLemmas.{numbered_are}
+use Rattle.ly_relate.proofs.GotoLemmas.{goto_is, numbered_are}
 use Rattle.ly_relate.proofs.LeaveLemmas.{body_leads}
 use Rattle.ly_relate.proofs.ReachLemmas.{Reaches_one}
 

@@ -1,5 +1,4 @@
 pub mod AlikeLemmas
-pub mod DirectLemmas
 pub mod GotoLemmas
 pub mod GroupLemmas
 pub mod IncludeLemmas

@@ -8,8 +8,7 @@ use Rattle.std.proofs.Math.ListN.{length-set}
 use Rattle.std.proofs.Math.Seq.{get_or-append_seam}
 use Rattle.ly_relate.specs.Private.Gotos.{Numbering}
 use Rattle.ly_relate.specs.Private.Groups.{AreGroupable, AreGroups, Grouping, IsJoined, IsNodeBeside, IsNodeFor}
-use Rattle.ly_relate.specs.Private.Groups.{leader_of}
-use Rattle.ly_relate.specs.Private.Groups.{node_of}
+use Rattle.ly_relate.specs.Private.Groups.{leader_of, node_of}
 use Rattle.ly_relate.specs.Private.Walks.{no_goto}
 use Rattle.ly_relate.proofs.AlikeLemmas.{alike_more}
 

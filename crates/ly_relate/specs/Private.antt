@@ -1,4 +1,3 @@
-pub mod Direct
 pub mod Gotos
 pub mod Groups
 pub mod Reads

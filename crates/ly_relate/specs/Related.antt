@@ -3,7 +3,7 @@ use Rattle.std.specs.Prelude.{◌≡◌, ◌↔◌, ◌⊎◌, ◌<◌, ◌≤�
 use Rattle.ly_join.specs.Grammar.{nonterminal}
 use Rattle.ly_digraph.specs.Digraph.{Digraph, IsEdge}
 use Rattle.ly_lr0.specs.Automaton.{Lr0Automaton, goto_of}
-use Rattle.ly_relate.specs.Relations.{DirectlyReads, Includes, LooksBack, Reads}
+use Rattle.ly_relate.specs.Relations.{Includes, LooksBack, Reads}
 
 -- A nonterminal transition: from a state by a nonterminal to a state.
 pub record Goto : Type 0 where
@@ -11,21 +11,15 @@ pub record Goto : Type 0 where
   pub symbol : ℕ
   pub target : ℕ
 
--- A terminal that a transition directly reads.
-pub record DirectRead : Type 0 where
-  pub goto : ℕ
-  pub terminal : ℕ
-
 -- A rule that is complete in a state looks back to the transitions that a node stands for.
 pub record Lookback : Type 0 where
   pub state : ℕ
   pub rule : ℕ
   pub node : ℕ
 
--- Nonterminal transitions by number, and the pairs of the four relations.
+-- Nonterminal transitions by number, and the pairs of reads, includes and lookback.
 pub record Relations : Type 0 where
   pub gotos : List Goto
-  pub direct : List DirectRead
   pub reads : Digraph
   pub includes : Digraph
   pub lookbacks : List Lookback
@@ -49,11 +43,6 @@ IsRead M gotos = AreRelated gotos (Reads M.grammar (goto_of M))
 -- transition i includes transition j
 abbrev pub IsIncluding : Lr0Automaton → List Goto → ℕ → ℕ → Type 0
 IsIncluding M gotos = AreRelated gotos (Includes M.grammar (goto_of M))
-
--- exactly the terminals that each transition directly reads
-abbrev pub AreDirect : Lr0Automaton → List Goto → List DirectRead → Type 0
-AreDirect M gotos direct = (n t : ℕ) → Contains direct (record { goto = n; terminal = t })
-    ↔ ((x : Goto) × (slice_get gotos n ≡ Some x) × DirectlyReads M.grammar (goto_of M) x.from x.symbol t)
 
 -- an edge from each transition to those, and to no others, to which it stands in the relation
 pub record AreEdges (gotos : List Goto) (R : ℕ → ℕ → Type 0) (g : Digraph) : Type 0 where
@@ -82,7 +71,6 @@ pub record AreLookbacks (M : Lr0Automaton) (gotos : List Goto) (g : Digraph) (lo
 -- The pairs are exactly those of the relations of the automaton.
 pub record AreRelations (M : Lr0Automaton) (R : Relations) : Type 0 where
   pub gotos : AreGotos M R.gotos
-  pub direct : AreDirect M R.gotos R.direct
   pub reads : AreEdges R.gotos (IsRead M R.gotos) R.reads
   pub includes : AreGathered R.gotos (IsIncluding M R.gotos) R.includes
   pub lookbacks : AreLookbacks M R.gotos R.includes R.lookbacks

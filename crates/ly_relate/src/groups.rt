@@ -4,8 +4,7 @@ ghost use Rattle.std.specs.Prelude.{◌≡◌, ◌<◌, ◌+◌, ◌++◌, ◌�
 ghost use Rattle.std.specs.Prelude.{option_map};
 ghost use Rattle.ly_join.specs.Grammar.{IsRule, GrammarRule};
 ghost use Rattle.ly_relate.specs.Private.Groups.{AreAllParted, AreGroupable, AreGroups, IsNodeBeside, IsNodeFor};
-ghost use Rattle.ly_relate.specs.Private.Groups.{LeadAlike};
-ghost use Rattle.ly_relate.specs.Private.Groups.{LeadsAlike};
+ghost use Rattle.ly_relate.specs.Private.Groups.{LeadAlike, LeadsAlike};
 ghost use Rattle.ly_relate.specs.Private.Groups.{Leads, node_of, solid_of};
 
 use crate::gotos::Gotos;

@@ -1,7 +1,6 @@
 ghost use Rattle.std.specs.Prelude.{◌≡◌, map};
-ghost use Rattle.ly_relate.specs.Values.{direct_from, goto_from, lookback_from};
+ghost use Rattle.ly_relate.specs.Values.{goto_from, lookback_from};
 
-use crate::direct::DirectRead;
 use crate::gotos::Goto;
 use crate::walks::Lookback;
 use ly_digraph::Graph;
@@ -12,8 +11,6 @@ use std::marker::Model;
 pub struct Relations {
     /// The transitions, by number.
     pub(crate) gotos: Vec<Goto>,
-    /// The terminals that they directly read.
-    pub(crate) direct: Vec<DirectRead>,
     /// An edge `i -> j` where transition `i` reads transition `j`.
     pub(crate) reads: Graph,
     /// An edge from transition `i` to a node that stands for each transition that it includes.
@@ -25,13 +22,12 @@ pub struct Relations {
 impl Model for Relations {
     ghost use Rattle.std.specs.Prelude.{map};
     ghost use Rattle.ly_relate.specs.Related as spec;
-    ghost use Rattle.ly_relate.specs.Values.{direct_from, goto_from, lookback_from};
+    ghost use Rattle.ly_relate.specs.Values.{goto_from, lookback_from};
 
     ghost Value = { spec.Relations };
 
     ghost view = { λ r. record {
       gotos = map goto_from r.gotos.items;
-      direct = map direct_from r.direct.items;
       reads = r.reads;
       includes = r.includes;
       lookbacks = map lookback_from r.lookbacks.items;
@@ -44,13 +40,6 @@ impl Relations {
         ensures { map goto_from result.now ≡ self.now.gotos }
     {
         &self.gotos
-    }
-
-    /// The terminals that transitions directly read.
-    pub fn direct(&self) -> &[DirectRead]
-        ensures { map direct_from result.now ≡ self.now.direct }
-    {
-        &self.direct
     }
 
     /// Which transitions read which.

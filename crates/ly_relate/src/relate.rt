@@ -1,7 +1,6 @@
 ghost use Rattle.std.specs.Prelude.{IfOk};
 ghost use Rattle.ly_relate.specs.Related.{AreRelations};
 
-use crate::direct::direct_reads;
 use crate::gotos::Gotos;
 use crate::pairs::Relations;
 use crate::reads::reads;
@@ -18,12 +17,10 @@ pub fn relations(alloc: Global, lr0: &Lr0<'_>) -> Result<Relations, OutOfMemory>
     ensures { IfOk result (AreRelations lr0.now) }
 {
     let gotos = Gotos::new(alloc, lr0)?;
-    let direct = direct_reads(alloc, &gotos)?;
     let reads = reads(alloc, &gotos)?;
     let walks = Walks::new(alloc, &gotos)?;
     Ok(Relations {
         gotos: gotos.into_list(),
-        direct,
         reads,
         includes: walks.includes.into_graph(),
         lookbacks: walks.lookbacks,

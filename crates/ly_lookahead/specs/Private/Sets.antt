@@ -1,19 +1,22 @@
 -- Sets by rows, as they are found.
-use Rattle.std.specs.Prelude.{◌≡◌, ◌↔◌, ◌⊎◌, ◌<◌, ◌≤◌, ◌+◌, ℕ, List, Contains, Some, length, slice_get, slice_index_or}
+use Rattle.std.specs.Prelude.{◌≡◌, ◌↔◌, ◌⊎◌, ◌≤◌, ◌+◌, ℕ, List, Contains, Some, length, slice_get, slice_index_or}
+use Rattle.ly_join.specs.Grammar.{terminal}
 use Rattle.ly_sets.specs.NumberSet.{NumberSet, Member}
 use Rattle.ly_sets.specs.SetMatrix.{row}
 use Rattle.ly_digraph.specs.Digraph.{Digraph, IsEdge}
-use Rattle.ly_lr0.specs.Automaton.{Lr0Automaton, goto_of, state_at}
-use Rattle.ly_relate.specs.Related.{DirectRead, Goto, Lookback}
-use Rattle.ly_relate.specs.Relations.{Follow}
-
--- a direct read is of a row, and of a number below the width
-abbrev pub IsInside : ℕ → ℕ → DirectRead → Type 0
-IsInside rows width d = (d.goto < rows) × (d.terminal < width)
+use Rattle.ly_lr0.specs.Automaton.{Lr0Automaton, Transition, goto_of, state_at}
+use Rattle.ly_relate.specs.Related.{Goto, Lookback}
+use Rattle.ly_relate.specs.Relations.{DirectlyReads, Follow}
 
 -- each row has what its transition directly reads
-abbrev pub AreDirectSets : List DirectRead → List NumberSet → Type 0
-AreDirectSets direct sets = (i t : ℕ) → Member (row sets i) t ↔ Contains direct (record { goto = i; terminal = t })
+abbrev pub AreDirectSets : Lr0Automaton → List Goto → List NumberSet → Type 0
+AreDirectSets M gotos sets = (i t : ℕ) → Member (row sets i) t
+    ↔ ((x : Goto) × (slice_get gotos i ≡ Some x) × DirectlyReads M.grammar (goto_of M) x.from x.symbol t)
+
+-- the terminals of transitions came to one row, and nothing else to any
+abbrev pub AreInserted : List Transition → ℕ → List NumberSet → List NumberSet → Type 0
+AreInserted transitions n old new = (i t : ℕ) → Member (row new i) t
+    ↔ (Member (row old i) t ⊎ ((i ≡ n) × (r : ℕ) × Contains transitions (record { symbol = terminal t; target = r })))
 
 -- a number follows a transition to which an edge leads from a node
 abbrev pub FollowsGathered : Lr0Automaton → List Goto → Digraph → ℕ → ℕ → Type 0

@@ -1,18 +1,8 @@
-use Rattle.std.proofs.Common.{All, ap, subst, sym, ◌≡◌, ◌∙◌}
+use Rattle.std.proofs.Common.{subst}
 use Rattle.ly_digraph.specs.Least.{IsBetween, IsLeast}
-use Rattle.ly_lookahead.specs.Private.Sets.{AreDirectSets, IsInside}
-use Rattle.ly_lookahead.proofs.LookaheadLemmas.{direct_inside}
+use Rattle.ly_lookahead.specs.Private.Sets.{AreDirectSets}
 use Rattle.ly_lookahead.proofs.ReadLemmas.{are_follows}
 use Rattle.ly_lookahead.proofs.follow.follow_sets.Goals as goal
-
-pub direct_sets-requires : goal.direct_sets-requires
-direct_sets-requires c =
-    let width : c.args.lr0.now.grammar.terminals ≡ c.terminals-width.result
-    = sym (c.terminals-width.ensures ∙ sym c.grammar.ensures.keeps.terminals
-    ∙ ap (λ g. g.terminals) c.reduced.ensures) in
-    subst (All (IsInside c.args.rows c.terminals-width.result)) (sym c.direct.ensures)
-    (direct_inside c.args.lr0.now c.requires.lawful c.args.relations.now c.requires.relations c.args.rows
-    c.terminals-width.result c.requires.room width)
 
 pub returns-clause-follows : goal.returns-clause-follows
 returns-clause-follows c =
@@ -21,7 +11,7 @@ returns-clause-follows c =
     let read = c.least.new.sets.sets in
     let follow = c.least-2.new.sets.sets in
     are_follows c.args.lr0.now R c.requires.relations direct read follow
-    (subst (λ d. AreDirectSets d direct) c.direct.ensures c.in_ok-sets.ensures.direct)
+    (subst (λ g. AreDirectSets c.args.lr0.now g direct) c.gotos.ensures c.in_ok-sets.ensures.direct)
     (subst (λ g. IsLeast g direct read) c.reads.ensures c.in_ok-least.ensures.least)
     (subst (λ g. IsBetween g direct read) c.reads.ensures c.in_ok-least.ensures.reached)
     (subst (λ g. IsLeast g read follow) c.includes.ensures c.in_ok-least-2.ensures.least)
