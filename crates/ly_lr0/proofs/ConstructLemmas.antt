@@ -1,11 +1,11 @@
 -- What the lists of a kernel say of what it closes to.
-use Rattle.std.proofs.Common.{◌≡◌, inl, inr, ℕ, ◌<◌, ◌≤◌, List, [], ◌∷◌, ◌++◌, Some, refl, sym, ◌∙◌, ap, subst, arith}
+use Rattle.std.proofs.Common.{◌≡◌, ◌⊎◌, inl, inr, ℕ, ◌<◌, ◌≤◌, List, [], ◌∷◌, ◌++◌, Some, refl, sym, ◌∙◌, ap, subst, arith}
 use Rattle.std.proofs.Common.{length, map}
-use Rattle.std.specs.Prelude.{◌↔◌, AllPairs, Contains, slice_get}
+use Rattle.std.specs.Prelude.{◌↔◌, AllPairs, Contains, slice_get, slice_index_or}
 use Rattle.std.proofs.lemmas.Bool.{cases_lt}
 use Rattle.std.proofs.lemmas.List.{get_or_append_left, get_or_push, length-map, length_push}
 use Rattle.std.proofs.lemmas.Option.{get_or_from_slice_get, slice_get-get_or, slice_get_within}
-use Rattle.ly_join.specs.Grammar.{Grammar, IsAugmented, IsRule, symbol_of}
+use Rattle.ly_join.specs.Grammar.{Grammar, GrammarRule, IsAugmented, IsRule, symbol_of}
 use Rattle.ly_grammar.specs.Derivations.{IsReduced}
 use Rattle.ly_lr0.specs.declared.transition.Row.{Row}
 use Rattle.ly_lr0.specs.declared.transition.Link as link
@@ -14,9 +14,14 @@ use Rattle.ly_lr0.specs.Private.Kernels.{kernel_at}
 use Rattle.ly_lr0.proofs.FinalLemmas.{is_automaton}
 use Rattle.ly_lr0.specs.declared.item.Item.{Item}
 use Rattle.ly_lr0.specs.declared.item.Move.{Move}
-use Rattle.ly_lr0.specs.Private.Closing.{AreByLeft, AreComplete, AreKept, AreMoves, IsKept, IsMoveOfOne, IsRuleAtEnd}
-use Rattle.ly_lr0.specs.Private.Closing.{MoveIsLess}
-use Rattle.ly_lr0.specs.Private.Items.{IsBehind, IsClosed, added, given}
+use Rattle.ly_base.proofs.MemberLemmas.{Contains-none}
+use Rattle.ly_lr0.specs.Private.Closing.{AreByLeft, AreComplete, AreKept, AreMoves, IsKept, IsListed, IsMoveOfOne}
+use Rattle.ly_lr0.specs.Private.Closing.{IsRuleAtEnd, MoveIsLess}
+use Rattle.ly_lr0.specs.Private.Items.{IsBehind, IsClosed, IsEntered, added, given}
+use Rattle.ly_lr0.specs.Private.Nonkernel.{AreNonkernel, IsNonkernel}
+use Rattle.ly_lr0.specs.declared.nonkernel.Nonkernel.{Nonkernel}
+use Rattle.ly_lr0.proofs.ClosingLemmas.{entered_within, listed_closed}
+use Rattle.ly_lr0.proofs.ListLemmas.{listed_kernel, moves_of_both, rules_of_both}
 
 module _ (G : Grammar) (kernel items : List Item)
     (are : (i : Item) → Contains items i ↔ IsClosed G kernel i.rule i.dot) where
@@ -70,6 +75,58 @@ module _ (G : Grammar) (kernel items : List Item)
     );
     rising = rising;
   }
+
+-- the rules that are listed by their left sides are the nonkernel items
+pub nonkernel_listed : (G : Grammar) (lists : List (List ℕ)) (entered : List ℕ) → AreByLeft G lists
+    → ((A : ℕ) → Contains entered A → A < length lists) → (i : Item) → IsListed lists [] entered i
+    ↔ IsNonkernel G entered i
+nonkernel_listed G lists entered by within i = (
+  λ h. elim h [
+    | inl none ↦ absurd (Contains-none i none)
+    | inr x ↦ let rule = (rules x.0 x.1).0 x.2 in (x.0, x.1, rule.0, rule.1, rule.2, x.3)
+  ],
+  λ x. inr (x.0, x.1, (rules x.0 x.1).1 (x.2, x.3, x.4), x.5),
+)
+  where
+    rules : (A : ℕ) → Contains entered A → Contains (slice_index_or lists A []) i.rule
+        ↔ ((r : GrammarRule) × IsRule G i.rule r × (r.left ≡ A))
+    rules A c = by.rules A i.rule (let w = within A c in let n = by.count in omega arith)
+
+-- the rules of nonkernel items are kept
+pub nonkernel_kept : (G : Grammar) (entered : List ℕ) (items : List Item)
+    → ((i : Item) → Contains items i ↔ IsNonkernel G entered i) → AreKept G items
+nonkernel_kept G entered items are i h = let x = (are i).0 h in (x.2, x.3)
+
+-- what the lists of a kernel and of its nonkernel items say together
+module _ (G : Grammar) (lists : List (List ℕ)) (kernel : List Item) (entered : List ℕ) (n : Nonkernel)
+    (by : AreByLeft G lists) (are : AreNonkernel G entered n)
+    (is : (A : ℕ) → Contains entered A ↔ IsEntered G kernel A) where
+  within_lists : (A : ℕ) → Contains entered A → A < length lists
+  within_lists A c = let w = entered_within G lists kernel by A ((is A).0 c) in let n = by.count in omega arith
+
+  all_closed : (i : Item) → Contains (n.items.items ++ kernel) i ↔ IsClosed G kernel i.rule i.dot
+  all_closed i =
+      let listed = listed_kernel lists kernel n.items.items (n.items.items ++ kernel) entered
+      (λ j. let s = nonkernel_listed G lists entered by within_lists j in (
+        λ h. s.1 ((are.items j).0 h),
+        λ h. (are.items j).1 (s.0 h),
+      )) refl i in
+      let closed = listed_closed G lists kernel by entered is i in (
+        λ h. closed.0 (listed.0 h),
+        λ h. listed.1 (closed.1 h),
+      )
+
+  pub kernel_moves : (moves : List Move)
+      → ((m : Move) → Contains moves m ↔ (Contains n.moves.items m ⊎ IsMoveOfOne G kernel m))
+      → AllPairs MoveIsLess moves → AreMoves G kernel moves
+  kernel_moves moves each rising = are_moves G kernel (n.items.items ++ kernel) all_closed moves
+      (moves_of_both G n.items.items kernel n.moves.items moves are.moves each) rising
+
+  pub kernel_complete : (rules : List ℕ)
+      → ((p : ℕ) → Contains rules p ↔ (Contains n.complete.items p ⊎ IsRuleAtEnd G kernel p))
+      → AllPairs (λ p q. p < q) rules → AreComplete G kernel rules
+  kernel_complete rules each rising = are_complete G kernel (n.items.items ++ kernel) all_closed rules
+      (rules_of_both G n.items.items kernel n.complete.items rules are.complete each) rising
 
 -- what holds of each row and of one more
 pub rows_more : (rows rows' : List Row) (row : Row) (P : ℕ → Row → Type 0) → rows' ≡ rows ++ row ∷ []

@@ -77,6 +77,16 @@ module _ (ts : List code.Transition) (ordered : AreInOrder (map transition_of ts
     behind = λ k d l m. behind_from X place d (omega (arith, l, m)) (behind (omega (arith, l, m)) d) k d l m;
   }
 
+  -- a symbol's transition stands at its place
+  pub place_at : (k : ℕ) (t : code.Transition) → slice_get ts k ≡ Some t → IsPlace ts (symbol_of t.symbol) k
+  place_at k t is =
+      let inside = slice_get_within ts k t is in
+      let here : (d : code.Transition) → symbol_at ts k d ≡ symbol_of t.symbol
+      = λ d. ap (λ u. symbol_of u.symbol) (get_or_from_slice_get ts k t d is) in
+      place_between (symbol_of t.symbol) k (omega (arith, inside))
+      (λ some d. subst (IsLess (symbol_at ts (k - 1) d)) (here d) (less_at (k - 1) k d (omega (arith, some)) inside))
+      (λ l d less. less_off (symbol_of t.symbol) (subst (λ Y. IsLess Y (symbol_of t.symbol)) (here d) less))
+
   -- where another symbol's transition or none stands at a symbol's place, the symbol leads nowhere
   pub leads_nowhere : (X : Symbol) (place : ℕ) (e : code.Transition) → IsPlace ts X place
       → (place < length ts → symbol_at ts place e ≡ X → ⊥) → target_of (map transition_of ts) X ≡ None

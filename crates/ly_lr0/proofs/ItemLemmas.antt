@@ -1,8 +1,7 @@
--- Items that pass the test are one, and so are lists of items that pass it place by place.
-use Rattle.std.proofs.Common.{◌≡◌, ◌∙◌, Bool, true, List, [], ◌∷◌, refl, ap}
+-- Items that pass the test are one.
+use Rattle.std.proofs.Common.{◌≡◌, ◌∙◌, Bool, true, refl, ap}
 use Rattle.std.specs.Prelude.{nat_eq, ◌&&◌}
 use Rattle.std.proofs.lemmas.Bool.{and_parts, eq-eqb, eqb-true}
-use lib.Pointwise.{pointwise}
 use Rattle.ly_lr0.specs.declared.item.Item.{Item}
 
 abbrev pub same_item : Item → Item → Bool
@@ -16,11 +15,3 @@ item_same i j e =
 
 pub item_self : (i : Item) → same_item i i ≡ true
 item_self i = rw (eq-eqb i.rule i.rule refl, eq-eqb i.dot i.dot refl) refl
-
-pub items_same : (s t : List Item) → pointwise same_item s t ≡ true → s ≡ t
-items_same [] [] h = refl
-items_same [] (j ∷ t) h = absurd (cc)
-items_same (i ∷ s) [] h = absurd (cc)
-items_same (i ∷ s) (j ∷ t) h =
-    let p = and_parts (same_item i j) (pointwise same_item s t) h in
-    ap (λ x. x ∷ s) (item_same i j p.0) ∙ ap (λ r. j ∷ r) (items_same s t p.1)

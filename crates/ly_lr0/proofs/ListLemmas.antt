@@ -117,8 +117,8 @@ move_one G i m n a b =
     ∙ ap (λ r. record { symbol = n.symbol; item = record { rule = r; dot = m.item.dot } }) rule
     ∙ ap (λ r. record { symbol = n.symbol; item = record { rule = n.item.rule; dot = r } }) dot
 
-module _ (G : Grammar) (is is' : List Item) (i : Item) (ms ms' : List Move)
-    (are : (m : Move) → Contains ms m ↔ IsMoveOfOne G is m) (more : is' ≡ is ++ i ∷ []) where
+module _ (G : Grammar) (known : List Move) (is is' : List Item) (i : Item) (ms ms' : List Move)
+    (are : (m : Move) → Contains ms m ↔ (Contains known m ⊎ IsMoveOfOne G is m)) (more : is' ≡ is ++ i ∷ []) where
   older : (m : Move) → IsMoveOfOne G is m → IsMoveOfOne G is' m
   older m h = (
     h.0,
@@ -136,58 +136,138 @@ module _ (G : Grammar) (is is' : List Item) (i : Item) (ms ms' : List Move)
   ]
 
   pub moves_more : (n : Move) → IsMove G i n → symbol_of n.symbol ≢ terminal 0 → ms' ≡ ms ++ n ∷ []
-      → (m : Move) → Contains ms' m ↔ IsMoveOfOne G is' m
+      → (m : Move) → Contains ms' m ↔ (Contains known m ⊎ IsMoveOfOne G is' m)
   moves_more n here other grown m = (
     λ c. elim (Contains-push_cases ms n m (subst (λ xs. Contains xs m) grown c)) [
-      | inl old ↦ older m ((are m).0 old)
-      | inr same ↦ (
+      | inl old ↦ elim ((are m).0 old) [
+        | inl k ↦ inl k
+        | inr o ↦ inr (older m o)
+      ]
+      | inr same ↦ inr (
         subst (λ x. symbol_of x.symbol ≢ terminal 0) same other,
         (i, subst (λ xs. Contains xs i) (sym more) (Contains-push is i), subst (IsMove G i) same here),
       )
     ],
-    λ h. subst (λ xs. Contains xs m) (sym grown) (elim (split m h) [
-      | inl old ↦ Contains-append_left ms (n ∷ []) m ((are m).1 old)
-      | inr x ↦ subst (Contains (ms ++ n ∷ [])) (move_one G i n m here x.1) (Contains-push ms n)
+    λ h. subst (λ xs. Contains xs m) (sym grown) (elim h [
+      | inl k ↦ Contains-append_left ms (n ∷ []) m ((are m).1 (inl k))
+      | inr o ↦ elim (split m o) [
+        | inl old ↦ Contains-append_left ms (n ∷ []) m ((are m).1 (inr old))
+        | inr x ↦ subst (Contains (ms ++ n ∷ [])) (move_one G i n m here x.1) (Contains-push ms n)
+      ]
     ]),
   )
 
   pub moves_same : ((m : Move) → IsMove G i m → symbol_of m.symbol ≢ terminal 0 → ⊥) → ms' ≡ ms
-      → (m : Move) → Contains ms' m ↔ IsMoveOfOne G is' m
+      → (m : Move) → Contains ms' m ↔ (Contains known m ⊎ IsMoveOfOne G is' m)
   moves_same none same m = (
-    λ c. older m ((are m).0 (subst (λ xs. Contains xs m) same c)),
-    λ h. subst (λ xs. Contains xs m) (sym same) (elim (split m h) [
-      | inl old ↦ (are m).1 old
-      | inr x ↦ absurd (none m x.1 x.0)
+    λ c. elim ((are m).0 (subst (λ xs. Contains xs m) same c)) [
+      | inl k ↦ inl k
+      | inr o ↦ inr (older m o)
+    ],
+    λ h. subst (λ xs. Contains xs m) (sym same) (elim h [
+      | inl k ↦ (are m).1 (inl k)
+      | inr o ↦ elim (split m o) [
+        | inl old ↦ (are m).1 (inr old)
+        | inr x ↦ absurd (none m x.1 x.0)
+      ]
     ]),
   )
 
-module _ (G : Grammar) (is is' : List Item) (i : Item) (ps ps' : List ℕ)
-    (are : (p : ℕ) → Contains ps p ↔ IsRuleAtEnd G is p) (more : is' ≡ is ++ i ∷ []) where
+module _ (G : Grammar) (known : List ℕ) (is is' : List Item) (i : Item) (ps ps' : List ℕ)
+    (are : (p : ℕ) → Contains ps p ↔ (Contains known p ⊎ IsRuleAtEnd G is p)) (more : is' ≡ is ++ i ∷ []) where
   older_rule : (p : ℕ) → IsRuleAtEnd G is p → IsRuleAtEnd G is' p
   older_rule p h = (h.0, subst (λ xs. Contains xs h.0) (sym more) (Contains-append_left is (i ∷ []) h.0 h.1), h.2, h.3)
 
-  pub rules_more : IsAtEnd G i → ps' ≡ ps ++ i.rule ∷ [] → (p : ℕ) → Contains ps' p ↔ IsRuleAtEnd G is' p
+  pub rules_more : IsAtEnd G i → ps' ≡ ps ++ i.rule ∷ []
+      → (p : ℕ) → Contains ps' p ↔ (Contains known p ⊎ IsRuleAtEnd G is' p)
   rules_more here grown p = (
     λ c. elim (Contains-push_cases ps i.rule p (subst (λ xs. Contains xs p) grown c)) [
-      | inl old ↦ older_rule p ((are p).0 old)
-      | inr same ↦ (i, subst (λ xs. Contains xs i) (sym more) (Contains-push is i), same, here)
+      | inl old ↦ elim ((are p).0 old) [
+        | inl k ↦ inl k
+        | inr o ↦ inr (older_rule p o)
+      ]
+      | inr same ↦ inr (i, subst (λ xs. Contains xs i) (sym more) (Contains-push is i), same, here)
     ],
-    λ h. subst (λ xs. Contains xs p) (sym grown)
-        (elim (Contains-push_cases is i h.0 (subst (λ xs. Contains xs h.0) more h.1)) [
-          | inl old ↦ Contains-append_left ps (i.rule ∷ []) p ((are p).1 (h.0, old, h.2, h.3))
-          | inr same ↦ subst (Contains (ps ++ i.rule ∷ [])) (ap (λ j. j.rule) same ∙ h.2) (Contains-push ps i.rule)
-        ]),
+    λ h. subst (λ xs. Contains xs p) (sym grown) (elim h [
+      | inl k ↦ Contains-append_left ps (i.rule ∷ []) p ((are p).1 (inl k))
+      | inr o ↦ elim (Contains-push_cases is i o.0 (subst (λ xs. Contains xs o.0) more o.1)) [
+        | inl old ↦ Contains-append_left ps (i.rule ∷ []) p ((are p).1 (inr (o.0, old, o.2, o.3)))
+        | inr same ↦ subst (Contains (ps ++ i.rule ∷ [])) (ap (λ j. j.rule) same ∙ o.2) (Contains-push ps i.rule)
+      ]
+    ]),
   )
 
-  pub rules_same : (IsAtEnd G i → ⊥) → ps' ≡ ps → (p : ℕ) → Contains ps' p ↔ IsRuleAtEnd G is' p
+  pub rules_same : (IsAtEnd G i → ⊥) → ps' ≡ ps → (p : ℕ) → Contains ps' p ↔ (Contains known p ⊎ IsRuleAtEnd G is' p)
   rules_same none same p = (
-    λ c. older_rule p ((are p).0 (subst (λ xs. Contains xs p) same c)),
-    λ h. subst (λ xs. Contains xs p) (sym same)
-        (elim (Contains-push_cases is i h.0 (subst (λ xs. Contains xs h.0) more h.1)) [
-          | inl old ↦ (are p).1 (h.0, old, h.2, h.3)
-          | inr last ↦ absurd (none (subst (IsAtEnd G) (sym last) h.3))
-        ]),
+    λ c. elim ((are p).0 (subst (λ xs. Contains xs p) same c)) [
+      | inl k ↦ inl k
+      | inr o ↦ inr (older_rule p o)
+    ],
+    λ h. subst (λ xs. Contains xs p) (sym same) (elim h [
+      | inl k ↦ (are p).1 (inl k)
+      | inr o ↦ elim (Contains-push_cases is i o.0 (subst (λ xs. Contains xs o.0) more o.1)) [
+        | inl old ↦ (are p).1 (inr (o.0, old, o.2, o.3))
+        | inr last ↦ absurd (none (subst (IsAtEnd G) (sym last) o.3))
+      ]
+    ]),
   )
+
+-- known moves are those of some items, so those that are listed are of these items and of the others
+pub moves_of_both : (G : Grammar) (others items : List Item) (known ms : List Move)
+    → ((m : Move) → Contains known m ↔ IsMoveOfOne G others m)
+    → ((m : Move) → Contains ms m ↔ (Contains known m ⊎ IsMoveOfOne G items m))
+    → (m : Move) → Contains ms m ↔ IsMoveOfOne G (others ++ items) m
+moves_of_both G others items known ms of_others are m = (
+  λ c. elim ((are m).0 c) [
+    | inl k ↦ let o = (of_others m).0 k in
+        (o.0, (o.1.0, Contains-append_left others items o.1.0 o.1.1, o.1.2))
+    | inr o ↦ (o.0, (o.1.0, Contains-append_right others items o.1.0 o.1.1, o.1.2))
+  ],
+  λ h. (are m).1 (elim (Contains-append_cases others items h.1.0 h.1.1) [
+    | inl o ↦ inl ((of_others m).1 (h.0, (h.1.0, o, h.1.2)))
+    | inr k ↦ inr (h.0, (h.1.0, k, h.1.2))
+  ]),
+)
+
+-- and so are the complete rules
+pub rules_of_both : (G : Grammar) (others items : List Item) (known ps : List ℕ)
+    → ((p : ℕ) → Contains known p ↔ IsRuleAtEnd G others p)
+    → ((p : ℕ) → Contains ps p ↔ (Contains known p ⊎ IsRuleAtEnd G items p))
+    → (p : ℕ) → Contains ps p ↔ IsRuleAtEnd G (others ++ items) p
+rules_of_both G others items known ps of_others are p = (
+  λ c. elim ((are p).0 c) [
+    | inl k ↦ let o = (of_others p).0 k in
+        (o.0, Contains-append_left others items o.0 o.1, o.2, o.3)
+    | inr o ↦ (o.0, Contains-append_right others items o.0 o.1, o.2, o.3)
+  ],
+  λ h. (are p).1 (elim (Contains-append_cases others items h.0 h.1) [
+    | inl o ↦ inl ((of_others p).1 (h.0, o, h.2, h.3))
+    | inr k ↦ inr (h.0, k, h.2, h.3)
+  ]),
+)
+
+-- where nothing is known, what is listed is of the items alone
+pub moves_of_none : (G : Grammar) (items items' : List Item) (ms : List Move)
+    → ((m : Move) → Contains ms m ↔ (Contains [] m ⊎ IsMoveOfOne G items m)) → items ≡ items'
+    → (m : Move) → Contains ms m ↔ IsMoveOfOne G items' m
+moves_of_none G items items' ms are same m = subst (λ is. Contains ms m ↔ IsMoveOfOne G is m) same (
+  λ c. elim ((are m).0 c) [
+    | inl none ↦ Contains-none m none
+    | inr o ↦ o
+  ],
+  λ o. (are m).1 (inr o),
+)
+
+pub rules_of_none : (G : Grammar) (items items' : List Item) (ps : List ℕ)
+    → ((p : ℕ) → Contains ps p ↔ (Contains [] p ⊎ IsRuleAtEnd G items p)) → items ≡ items'
+    → (p : ℕ) → Contains ps p ↔ IsRuleAtEnd G items' p
+rules_of_none G items items' ps are same p = subst (λ is. Contains ps p ↔ IsRuleAtEnd G is p) same (
+  λ c. elim ((are p).0 c) [
+    | inl none ↦ Contains-none p none
+    | inr o ↦ o
+  ],
+  λ o. (are p).1 (inr o),
+)
 
 -- strictly sorted lists, as pairs
 pub strictly_pairs : {X : Type 0} (c : X → X → Ordering) (xs : List X) → IsStrictlySortedBy c xs

@@ -1,6 +1,6 @@
 -- The LR(0) automaton of a grammar: states for the cores of viable strings (Knuth 1965; DeRemer 1971). Strings of
 -- symbols have their last symbol first.
-use Rattle.std.specs.Prelude.{◌≡◌, ◌↔◌, ◌⊎◌, ℕ, ◌<◌, List, [], ◌∷◌, Bool, false, Option, Some, None, option_and_then}
+use Rattle.std.specs.Prelude.{◌≡◌, ◌↔◌, ◌⊎◌, ℕ, ◌<◌, List, [], ◌∷◌, Bool, false, true, Option, Some, None, option_and_then}
 use Rattle.std.specs.Prelude.{length, map, nat_eq, slice_get, slice_index_or, AllPairs, Contains, if◌then◌else◌}
 use Rattle.ly_join.specs.Grammar.{Grammar, IsAugmented, Symbol, nonterminal, terminal}
 use Rattle.ly_grammar.specs.Derivations.{IsReduced}
@@ -26,11 +26,20 @@ pub record Lr0Automaton : Type 0 where
 abbrev pub Gotos : Type 0
 Gotos = ℕ → Symbol → Option ℕ
 
+-- whether a symbol is a terminal
+abbrev pub is_terminal : Symbol → Bool
+is_terminal (terminal t) = true
+is_terminal (nonterminal A) = false
+
 -- whether two symbols are the same
 abbrev pub symbol_eq : Symbol → Symbol → Bool
 symbol_eq (terminal t) (terminal u) = nat_eq t u
 symbol_eq (nonterminal A) (nonterminal B) = nat_eq A B
 symbol_eq _ _ = false
+
+-- whether a transition is over a terminal
+abbrev pub is_shift : Transition → Bool
+is_shift t = is_terminal t.symbol
 
 -- where the first of the transitions over a symbol leads
 abbrev pub target_of : List Transition → Symbol → Option ℕ

@@ -3,4 +3,5 @@ pub mod Closing
 pub mod Found
 pub mod Items
 pub mod Kernels
+pub mod Nonkernel
 pub mod Places

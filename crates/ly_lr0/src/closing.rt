@@ -1,4 +1,4 @@
-ghost use Rattle.std.specs.Prelude.{◌≡◌, ◌↔◌, ◌<◌, ◌≤◌, ◌+◌, ◌^◌, ℕ, suc, [], length, slice_index_or, Contains};
+ghost use Rattle.std.specs.Prelude.{◌≡◌, ◌↔◌, ◌⊎◌, ◌<◌, ◌≤◌, ◌+◌, ◌^◌, ℕ, suc, [], length, slice_index_or, Contains};
 ghost use Rattle.std.specs.Prelude.{AllPairs, IfOk, IsTrue, MatchOption, OnOk};
 ghost use Rattle.ly_join.specs.Grammar.{IsAugmented, symbol_of, terminal};
 ghost use Rattle.ly_lr0.specs.Private.Closing.{AreAdded, AreByLeft, AreKept, IsAdded, IsAtEnd};
@@ -82,16 +82,14 @@ pub(crate) fn close(
     }
 }
 
-/// Lists the items that a kernel closes to: its own, and the rules of the nonterminals that were entered.
+/// Lists the rules of the nonterminals that were entered, with nothing before their dots.
 pub(crate) fn list_items(
     by_left: &RulesByLeft,
-    kernel: &[Item],
     entered: &[u32],
     items: &mut Vec<Item>,
 ) -> Result<(), AllocError>
     requires { (A : ℕ) → Contains entered.now A → A < length by_left.now }
-    ensures { OnOk result ((i : spec.Item)
-        → Contains items.new.items i ↔ IsListed by_left.now kernel.now entered.now i) }
+    ensures { OnOk result ((i : spec.Item) → Contains items.new.items i ↔ IsListed by_left.now [] entered.now i) }
 {
     items.clear();
     for left in entered {
@@ -99,23 +97,24 @@ pub(crate) fn list_items(
             items.push(Item { rule, dot: 0 })?;
         }
     }
-    // Dots of the kernel mostly stand before nonterminals, which come behind terminals: so moves are nearly sorted.
-    items.extend_from_slice(kernel)?;
     Ok(())
 }
 
-/// Lists what items move to, but over the end, in the order of symbols, rules and dots.
+/// Lists what items move to, but over the end, and other moves that are known, in the order of symbols, rules and dots.
 pub(crate) fn list_moves(
     reduced: &Reduced<'_>,
     items: &[Item],
+    known: &[Move],
     moves: &mut Vec<Move>,
 ) -> Result<(), AllocError>
     requires { AreKept reduced.now.grammar items.now }
     ensures each { OnOk result ((m : moved.Move) → Contains moves.new.items m
-        ↔ IsMoveOfOne reduced.now.grammar items.now m) }
+        ↔ (Contains known.now m ⊎ IsMoveOfOne reduced.now.grammar items.now m)) }
     ensures rising { OnOk result (AllPairs MoveIsLess moves.new.items) }
 {
     moves.clear();
+    // Dots of a kernel mostly stand before nonterminals, which come behind terminals: so moves are nearly sorted.
+    moves.extend_from_slice(known)?;
     for item in items {
         if let Some(step) = move_of(reduced, *item) {
             if !is_end(step.symbol) {
@@ -138,18 +137,19 @@ fn is_end(symbol: Symbol) -> bool
     }
 }
 
-/// Lists the rules of the items whose dots are at the end, rising.
+/// Lists the rules of the items whose dots are at the end, and others that are known, rising.
 pub(crate) fn complete_rules(
     alloc: Global,
     reduced: &Reduced<'_>,
     items: &[Item],
+    known: &[usize],
 ) -> Result<Vec<usize>, AllocError>
     requires { AreKept reduced.now.grammar items.now }
     ensures each { IfOk result (λ rules. (p : ℕ) → Contains rules.items p
-        ↔ IsRuleAtEnd reduced.now.grammar items.now p) }
+        ↔ (Contains known.now p ⊎ IsRuleAtEnd reduced.now.grammar items.now p)) }
     ensures rising { IfOk result (λ rules. AllPairs (λ p q. p < q) rules.items) }
 {
-    let mut rules = Vec::new(alloc);
+    let mut rules = Vec::from_slice(alloc, known)?;
     for item in items {
         if move_of(reduced, *item).is_none() {
             rules.push(item.rule)?;

@@ -3,10 +3,11 @@ ghost use Rattle.ly_grammar.specs.Items.{HasMoreCores};
 ghost use Rattle.ly_lr0.specs.Automaton.{IsLr0Automaton};
 
 use crate::by_left::rules_by_left;
-use crate::closing::{close, complete_rules, list_items, list_moves};
+use crate::closing::{close, complete_rules, list_moves};
 use crate::fault::Lr0Fault;
 use crate::found::Found;
 use crate::lr0::Lr0;
+use crate::nonkernel::Nonkernel;
 use crate::transition::Row;
 use ly_base::{Limits, SparseSet};
 use ly_grammar::Reduced;
@@ -29,15 +30,15 @@ pub fn automaton<'a>(
 {
     let by_left = rules_by_left(alloc, reduced)?;
     let mut entered = SparseSet::new(alloc, reduced.grammar().accept().0 as usize + 1)?;
-    let mut items = Vec::new(alloc);
+    let mut nonkernel = Nonkernel::new(alloc);
     let mut moves = Vec::new(alloc);
     let mut found = Found::start(alloc, reduced, limits.parser_states())?;
     while found.rows.len() < found.kernels.len() {
         let kernel = found.kernels.kernel(found.rows.len());
         close(reduced, &by_left, kernel, &mut entered);
-        list_items(&by_left, kernel, entered.members(), &mut items)?;
-        list_moves(reduced, &items, &mut moves)?;
-        let complete = complete_rules(alloc, reduced, &items)?;
+        nonkernel.enter(reduced, &by_left, entered.members())?;
+        list_moves(reduced, kernel, &nonkernel.moves, &mut moves)?;
+        let complete = complete_rules(alloc, reduced, kernel, &nonkernel.complete)?;
         let transitions = found.successors(&moves)?;
         found.rows.push(Row {
             transitions,

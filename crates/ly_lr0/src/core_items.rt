@@ -52,7 +52,7 @@ fn closed(
     let mut entered = SparseSet::new(alloc, reduced.grammar().accept().0 as usize + 1)?;
     close(reduced, by_left, kernel, &mut entered);
     let mut others = Vec::new(alloc);
-    list_items(by_left, &[], entered.members(), &mut others)?;
+    list_items(by_left, entered.members(), &mut others)?;
     let mut items = Vec::from_slice(alloc, kernel)?;
     items.extend_from_slice(&others)?;
     Ok(items)

@@ -1,5 +1,5 @@
 ghost use Rattle.std.specs.Prelude.{◌≡◌, ◌<◌, ◌≤◌, ◌++◌, ℕ, [], ◌∷◌, length, map, slice_index_or, AllPairs};
-ghost use Rattle.std.specs.Prelude.{IfOk, IsErrOf, OnOk};
+ghost use Rattle.std.specs.Prelude.{IfOk, IsErrOf, IsTrue, OnOk};
 ghost use Rattle.ly_base.specs.Keys.{IsAbsent};
 ghost use Rattle.ly_join.specs.Grammar.{IsAugmented};
 ghost use Rattle.ly_grammar.specs.Derivations.{IsReduced};
@@ -97,9 +97,8 @@ impl<'a> Found<'a> {
         while at < moves.len() {
             let symbol = moves[at].symbol;
             let end = group_end(moves, at);
-            items_of(&moves[at..end], &mut kernel)?;
             let hint = self.hint(symbol, &mut place);
-            let target = self.number(&kernel, Link { from, symbol }, hint)?;
+            let target = self.target(&moves[at..end], Link { from, symbol }, hint, &mut kernel)?;
             transitions.push(Transition { symbol, target })?;
             at = end;
         }
@@ -122,13 +121,45 @@ impl<'a> Found<'a> {
         }
     }
 
-    /// The number of a kernel, which gets the next one where it is new. It is first compared with that of the hint.
-    fn number(
+    /// The state of a kernel, by the moves that lead to its items. It is first compared with that of the hint; else the
+    /// items are listed.
+    fn target(
         &mut self,
-        kernel: &[Item],
+        moves: &[Move],
         link: Link,
         hint: Option<StateNo>,
+        kernel: &mut Vec<Item>,
     ) -> Result<StateNo, Lr0Fault>
+        requires { length self.old.kernels ≤ self.old.limit }
+        ensures numbered { IfOk result (λ s. IsNumbered self.old.kernels (links_of self.old)
+            (map (λ m. m.item) moves.now) (link_of link) self.new.kernels (links_of self.new) s.0) }
+        ensures few { OnOk result (length self.new.kernels ≤ self.new.limit) }
+        ensures rows { self.new.rows ≡ self.old.rows }
+        ensures reduced { self.new.reduced ≡ self.old.reduced }
+        ensures limit { self.new.limit ≡ self.old.limit }
+        ensures full { IsErrOf result Lr0Fault.TooManyStates → (length self.old.kernels ≡ self.old.limit)
+            × IsAbsent self.old.kernels (map (λ m. m.item) moves.now) }
+    {
+        if let Some(state) = hint {
+            if self.has_kernel(state, moves) {
+                return Ok(state);
+            }
+        }
+        items_of(moves, kernel)?;
+        self.number(kernel, link)
+    }
+
+    /// Whether a state was found whose kernel has the items of these moves.
+    fn has_kernel(&self, state: StateNo, moves: &[Move]) -> bool
+        ensures { IsTrue result → (state.0 < length self.now.kernels)
+            × (kernel_at self.now.kernels state.0 ≡ map (λ m. m.item) moves.now) }
+    {
+        let number = state.0 as usize;
+        number < self.kernels.len() && are_items_of(self.kernels.kernel(number), moves)
+    }
+
+    /// The number of a kernel, which gets the next one where it is new.
+    fn number(&mut self, kernel: &[Item], link: Link) -> Result<StateNo, Lr0Fault>
         requires { length self.old.kernels ≤ self.old.limit }
         ensures numbered { IfOk result (λ s. IsNumbered self.old.kernels (links_of self.old) kernel.now (link_of link)
             self.new.kernels (links_of self.new) s.0) }
@@ -140,7 +171,7 @@ impl<'a> Found<'a> {
             (length self.old.kernels ≡ self.old.limit) × IsAbsent self.old.kernels kernel.now }
     {
         let limit = self.limit as usize;
-        if let Some(known) = self.kernels.find_near(kernel, hint) {
+        if let Some(known) = self.kernels.find(kernel) {
             return Ok(StateNo(known as u32));
         }
         let count = self.kernels.len();
@@ -175,4 +206,19 @@ fn items_of(moves: &[Move], items: &mut Vec<Item>) -> Result<(), AllocError>
         items.push(step.item)?;
     }
     Ok(())
+}
+
+/// Whether a kernel has the items of moves, in their order.
+fn are_items_of(kernel: &[Item], moves: &[Move]) -> bool
+    ensures { IsTrue result → kernel.now ≡ map (λ m. m.item) moves.now }
+{
+    if kernel.len() != moves.len() {
+        return false;
+    }
+    for at in 0..moves.len() {
+        if kernel[at] != moves[at].item {
+            return false;
+        }
+    }
+    true
 }

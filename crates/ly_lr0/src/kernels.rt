@@ -3,7 +3,6 @@ ghost use Rattle.ly_base.specs.Keys.{IsAbsent};
 
 use crate::item::Item;
 use indexmap::IndexSet;
-use ly_base::StateNo;
 use std::alloc::{AllocError, Global};
 use std::marker::Model;
 
@@ -57,20 +56,6 @@ impl Kernels {
             (λ n. (n < length self.now) × (slice_index_or self.now n [] ≡ kernel.now)) }
     {
         self.kernels.get_index_of(kernel)
-    }
-
-    /// The same, but the kernel is first compared with that of a hint: where it is that, no hash is asked.
-    pub(crate) fn find_near(&self, kernel: &[Item], hint: Option<StateNo>) -> Option<usize>
-        ensures { MatchOption result (IsAbsent self.now kernel.now)
-            (λ n. (n < length self.now) × (slice_index_or self.now n [] ≡ kernel.now)) }
-    {
-        if let Some(hint) = hint {
-            let number = hint.0 as usize;
-            if number < self.len() && self.kernel(number) == kernel {
-                return Some(number);
-            }
-        }
-        self.find(kernel)
     }
 
     /// Adds a kernel that isn't there, with the next number.

@@ -18,6 +18,7 @@ mod item;
 mod kernels;
 mod laws;
 mod lr0;
+mod nonkernel;
 mod transition;
 
 pub use construct::automaton;

@@ -1,9 +1,11 @@
-ghost use Rattle.std.specs.Prelude.{◌≡◌, ◌<◌, ◌≤◌, ◌↔◌, ℕ, Contains, IfOk, IsSome, IsTrue, length, map, option_map};
+ghost use Rattle.std.specs.Prelude.{◌≡◌, ◌<◌, ◌≤◌, ◌↔◌, ℕ, Contains, IfOk, IsSome, IsTrue, filter, length};
+ghost use Rattle.std.specs.Prelude.{Some, map, option_map, slice_get};
 ghost use Rattle.ly_join.specs.Grammar.{symbol_of};
-ghost use Rattle.ly_lr0.specs.Automaton.{target_of, IsLess};
+ghost use Rattle.ly_lr0.specs.Automaton.{is_shift, target_of, IsLess};
 ghost use Rattle.ly_lr0.specs.Private.Built.{AreInOrder};
 ghost use Rattle.ly_lr0.specs.Private.Places.{IsPlace};
 ghost use Rattle.ly_lr0.specs.Transitions.{transition_of};
+ghost use Rattle.ly_lr0.specs.declared.transition.Transition as spec;
 
 use crate::by_left::RulesByLeft;
 use crate::transition::{Link, Row, Transition};
@@ -64,6 +66,16 @@ impl<'a> Lr0<'a> {
         ensures { map transition_of result.now ≡ (state_at self.now state.0).transitions }
     {
         &self.rows[state.0 as usize].transitions
+    }
+
+    /// The transitions of a state over terminals, in their order.
+    pub fn shifts(&self, state: StateNo) -> &[Transition]
+        requires { state.0 < length self.now.states }
+        ensures { map transition_of result.now ≡ filter is_shift (state_at self.now state.0).transitions }
+    {
+        let transitions: &[Transition] = &self.rows[state.0 as usize].transitions;
+        // terminals come before nonterminals
+        &transitions[..place_of(transitions, Symbol::Nonterminal(Sym(0)))]
     }
 
     /// Where a symbol leads from a state.
@@ -149,6 +161,10 @@ fn is_place_of(transitions: &[Transition], place: usize, symbol: Symbol) -> bool
     requires { AreInOrder (map transition_of transitions.now) }
     ensures { IsTrue result ↔ IsPlace transitions.now (symbol_of symbol) place }
 {
+    // it is mostly there
+    if has_symbol_at(transitions, place, symbol) {
+        return true;
+    }
     if place > transitions.len() {
         return false;
     }
@@ -161,6 +177,16 @@ fn is_place_of(transitions: &[Transition], place: usize, symbol: Symbol) -> bool
         return true;
     }
     !comes_before(transitions[place].symbol, symbol)
+}
+
+/// Whether the transition at a place is over a symbol.
+fn has_symbol_at(transitions: &[Transition], place: usize, symbol: Symbol) -> bool
+    ensures { IsTrue result → (t : spec.Transition) × (slice_get transitions.now place ≡ Some t) × (t.symbol ≡ symbol) }
+{
+    match transitions.get(place) {
+        Some(transition) => transition.symbol == symbol,
+        None => false,
+    }
 }
 
 /// Where a symbol's transition leads, by its place.

@@ -33,6 +33,7 @@ impl BitRow {
     }
 
     /// Takes a place.
+    #[inline(always)] // it is called for each entry
     pub(crate) fn insert(&mut self, place: usize) -> Result<(), AllocError>
         requires { place < 2 ^ 33 }
         ensures same { OnOk result (taken self.new.words.items place ≡ 1) }

@@ -2,7 +2,8 @@
 //! one node stands for all of them, and these rules are walked from the first one alone.
 ghost use Rattle.std.specs.Prelude.{◌≡◌, ◌<◌, ◌+◌, ◌++◌, ◌↔◌, ℕ, [], ◌∷◌, Contains, IfOk, IfSome, IsTrue, OnOk, length};
 ghost use Rattle.std.specs.Prelude.{option_map};
-ghost use Rattle.ly_join.specs.Grammar.{IsRule, GrammarRule};
+ghost use Rattle.ly_join.specs.Grammar.{IsRule, GrammarRule, terminal};
+ghost use Rattle.ly_lr0.specs.Automaton.{goto_of};
 ghost use Rattle.ly_relate.specs.Private.Groups.{AreAllParted, AreGroupable, AreGroups, IsNodeBeside, IsNodeFor};
 ghost use Rattle.ly_relate.specs.Private.Groups.{LeadAlike, LeadsAlike};
 ghost use Rattle.ly_relate.specs.Private.Groups.{Leads, node_of, solid_of};
@@ -148,7 +149,18 @@ fn lead_alike(gotos: &Gotos<'_>, rules: &PartedRules, one: usize, other: usize) 
         return false;
     }
     let solid = rules.solid(one.symbol);
-    solid.len() >= FEWEST && all_lead_alike(gotos.lr0(), solid, one.from, other.from)
+    solid.len() >= FEWEST
+        && (shift_alike(gotos.lr0(), one.from, other.from)
+            || all_lead_alike(gotos.lr0(), solid, one.from, other.from))
+}
+
+/// Whether the same terminals are shifted in two states, and lead to the same ones.
+fn shift_alike(lr0: &Lr0<'_>, one: StateNo, other: StateNo) -> bool
+    requires one { one.0 < length lr0.now.states }
+    requires other { other.0 < length lr0.now.states }
+    ensures { IsTrue result → (t : ℕ) → goto_of lr0.now one.0 (terminal t) ≡ goto_of lr0.now other.0 (terminal t) }
+{
+    lr0.shifts(one) == lr0.shifts(other)
 }
 
 /// Whether the first symbols of rules lead from two states to the same ones.

@@ -1,4 +1,4 @@
-use Rattle.std.proofs.Common.{◌∙◌, ℕ, ap, arith, subst, take}
+use Rattle.std.proofs.Common.{◌⊎◌, ◌∙◌, ℕ, ap, arith, subst, take}
 use Rattle.std.specs.Prelude.{Contains, ◌↔◌}
 use Rattle.std.proofs.lemmas.List.{take_all, take_more}
 use Rattle.std.proofs.lemmas.List.Elements.{Contains-get_or}
@@ -23,10 +23,10 @@ loop-item-preserved c =
     let k = c.loop-item.item-index in
     let more = take_more items k (record { rule = 0; dot = 0 }) c.loop-item-test.true in
     elim c.if-is_none.branch [
-      | then-is_none+in_ok-push w ↦ rules_more G (take k items) _ _ c.loop-item.rules.items c.if-is_none.rules.items
+      | then-is_none+in_ok-push w ↦ rules_more G c.args.known.now (take k items) _ _ c.loop-item.rules.items c.if-is_none.rules.items
           c.loop-item.invariant more (end_of G _ c.move_of.result c.move_of.ensures.behind c.is_none.result
           c.is_none.ensures w.if-is_none.true) (ap (λ v. v.items) w.rules-is ∙ w.in_ok-push.ensures.items)
-      | else-is_none w ↦ rules_same G (take k items) _ _ c.loop-item.rules.items c.if-is_none.rules.items
+      | else-is_none w ↦ rules_same G c.args.known.now (take k items) _ _ c.loop-item.rules.items c.if-is_none.rules.items
           c.loop-item.invariant more (not_end G _ c.move_of.result c.move_of.ensures.behind c.is_none.result
           c.is_none.ensures w.if-is_none.false) (ap (λ v. v.items) w.rules-is)
     ]
@@ -35,7 +35,8 @@ pub returns-clause-each : goal.returns-clause-each
 returns-clause-each c p =
     let is = dedup_is _ _ _ c.dedup.ensures.filtered in
     let moved = c.sort_unstable.ensures.permutation in
-    let all = subst (λ is. (p : ℕ) → Contains c.loop-item.rules.items p ↔ IsRuleAtEnd c.args.reduced.now.grammar is p)
+    let all = subst (λ is. (p : ℕ) → Contains c.loop-item.rules.items p
+    ↔ (Contains c.args.known.now p ⊎ IsRuleAtEnd c.args.reduced.now.grammar is p))
     (take_all c.loop-item.item-index c.args.items.now (omega (arith, c.loop-item-test.false)))
     c.loop-item.invariant in (
       λ h. (all p).0 (Contains-permutation _ _ p (IsPermutation-sym _ _ moved)

@@ -5,7 +5,7 @@ use Rattle.std.proofs.lemmas.List.Elements.{Contains-get_or}
 use Rattle.ly_base.proofs.MemberLemmas.{Contains-none}
 use Rattle.ly_lr0.specs.declared.item.Item.{Item}
 use Rattle.ly_lr0.specs.Private.Closing.{IsListed}
-use Rattle.ly_lr0.proofs.ListLemmas.{listed_kernel, listed_left, listed_rule}
+use Rattle.ly_lr0.proofs.ListLemmas.{listed_left, listed_rule}
 use Rattle.ly_lr0.proofs.closing.list_items.Goals as goal
 
 pub of-rule-items-requires : goal.of-rule-items-requires
@@ -34,7 +34,5 @@ loop-left-preserved c = listed_left c.args.by_left.now [] c.loop-rule.items.item
     (take_more c.args.entered.now c.loop-left.left-index 0 c.loop-left-test.true)
 
 pub returns : goal.returns
-returns c = listed_kernel c.args.by_left.now c.args.kernel.now c.loop-left.items.items _ c.args.entered.now
-    (subst (λ es. (i : Item) → Contains c.loop-left.items.items i ↔ IsListed c.args.by_left.now [] es i)
-    (take_all c.loop-left.left-index c.args.entered.now (omega (arith, c.loop-left-test.false))) c.loop-left.invariant)
-    c.in_ok-extend_from_slice.ensures.items
+returns c = subst (λ es. (i : Item) → Contains c.loop-left.items.items i ↔ IsListed c.args.by_left.now [] es i)
+    (take_all c.loop-left.left-index c.args.entered.now (omega (arith, c.loop-left-test.false))) c.loop-left.invariant

@@ -1,4 +1,4 @@
-use Rattle.std.proofs.Common.{◌≡◌, ◌∙◌, ap, arith, subst, take, true}
+use Rattle.std.proofs.Common.{◌≡◌, ◌⊎◌, ◌∙◌, ap, arith, subst, take, true}
 use Rattle.std.specs.Prelude.{Contains, ◌↔◌}
 use Rattle.std.proofs.lemmas.List.{take_all, take_more}
 use Rattle.std.proofs.lemmas.List.Elements.{Contains-get_or}
@@ -27,16 +27,16 @@ loop-item-preserved c =
     let k = c.loop-item.item-index in
     let more = take_more items k (record { rule = 0; dot = 0 }) c.loop-item-test.true in
     elim c.match-move_of.branch [
-      | in-Some+then-not-is_end+in_ok-push w ↦ moves_more G (take k items) _ _ c.loop-item.moves.items
+      | in-Some+then-not-is_end+in_ok-push w ↦ moves_more G c.args.known.now (take k items) _ _ c.loop-item.moves.items
           c.match-move_of.moves.items c.loop-item.invariant more w.in-Some.step w.in-Some.ensures.behind
           (λ e. let on : w.is_end.result ≡ true = w.is_end.ensures.1 e in let off = w.if-not-is_end.true in absurd (cc))
           (ap (λ v. v.items) w.moves-is ∙ w.in_ok-push.ensures.items)
-      | in-Some+else-not-is_end w ↦ moves_same G (take k items) _ _ c.loop-item.moves.items c.match-move_of.moves.items
+      | in-Some+else-not-is_end w ↦ moves_same G c.args.known.now (take k items) _ _ c.loop-item.moves.items c.match-move_of.moves.items
           c.loop-item.invariant more
           (λ m h o. o (behind_one G _ _ _ _ h.behind w.in-Some.ensures.behind.behind
           ∙ w.is_end.ensures.0 (let off = w.if-not-is_end.false in cc)))
           (ap (λ v. v.items) w.moves-is)
-      | in_default w ↦ moves_same G (take k items) _ _ c.loop-item.moves.items c.match-move_of.moves.items
+      | in_default w ↦ moves_same G c.args.known.now (take k items) _ _ c.loop-item.moves.items c.match-move_of.moves.items
           c.loop-item.invariant more (λ m h o. end_off G _ _ w.in_default.ensures.behind h.behind)
           (ap (λ v. v.items) w.moves-is)
     ]
@@ -46,7 +46,7 @@ returns-clause-each c m =
     let is = dedup_is _ _ _ c.dedup.ensures.filtered in
     let moved = c.sort_unstable.ensures.permutation in
     let all = subst (λ is. (m : Move) → Contains c.loop-item.moves.items m
-    ↔ IsMoveOfOne c.args.reduced.now.grammar is m)
+    ↔ (Contains c.args.known.now m ⊎ IsMoveOfOne c.args.reduced.now.grammar is m))
     (take_all c.loop-item.item-index c.args.items.now (omega (arith, c.loop-item-test.false)))
     c.loop-item.invariant in (
       λ h. (all m).0 (Contains-permutation _ _ m (IsPermutation-sym _ _ moved)

@@ -1,6 +1,5 @@
-use Rattle.std.proofs.Common.{◌≡◌, ◌<◌, ◌≤◌, ◌∙◌, ◌++◌, ◌∷◌, [], ℕ, ap, arith, length, map, subst, sym}
+use Rattle.std.proofs.Common.{rules, ◌≡◌, ◌⊎◌, ◌<◌, ◌≤◌, ◌∙◌, ◌++◌, ◌∷◌, [], ℕ, ap, arith, length, map, subst, sym}
 use Rattle.std.specs.Prelude.{◌↔◌, Contains}
-use Rattle.ly_lr0.specs.declared.item.Item.{Item}
 use Rattle.std.proofs.lemmas.List.{length-map, map_push}
 use Rattle.std.proofs.lemmas.Option.{slice_get_within}
 use Rattle.ly_join.specs.Grammar.{IsAugmented}
@@ -8,15 +7,29 @@ use Rattle.ly_grammar.specs.Derivations.{IsReduced}
 use Rattle.ly_lr0.specs.declared.transition.Row.{Row}
 use Rattle.ly_lr0.specs.Private.Found.{links_of}
 use Rattle.ly_lr0.specs.Private.Built.{automaton_from, AreFound, IsBuilt, IsRowOf, IsWholeRow, link_of, transitions_of}
-use Rattle.ly_lr0.specs.Private.Closing.{AreByLeft, AreComplete, AreKept, AreMoves}
-use Rattle.ly_lr0.specs.Private.Items.{IsClosed, IsEntered}
+use Rattle.ly_lr0.specs.Private.Closing.{AreByLeft, AreComplete, AreKept, AreMoves, IsMoveOfOne, IsRuleAtEnd}
+use Rattle.ly_lr0.specs.Private.Items.{IsEntered}
+use Rattle.ly_lr0.specs.Private.Nonkernel.{AreNonkernel}
+use Rattle.ly_lr0.specs.declared.item.Move.{Move}
 use Rattle.ly_lr0.specs.Private.Kernels.{kernel_at}
-use Rattle.ly_lr0.proofs.ClosingLemmas.{entered_within, listed_closed}
-use Rattle.ly_lr0.proofs.ConstructLemmas.{are_complete, are_moves, built_of, items_kept, rows_more}
+use Rattle.ly_lr0.proofs.ClosingLemmas.{entered_within}
+use Rattle.ly_lr0.proofs.ConstructLemmas.{built_of, kernel_complete, kernel_moves, rows_more}
 use Rattle.ly_lr0.specs.Automaton.{IsLr0Automaton}
 use Rattle.ly_lr0.proofs.FinalLemmas.{is_automaton}
 use Rattle.ly_lr0.proofs.StateLemmas.{count_of}
 use Rattle.ly_lr0.proofs.construct.automaton.Goals as goal
+
+pub loop-alloc-init : goal.loop-alloc-init
+loop-alloc-init c =
+    let R = c.args.reduced.now in
+    let none = c.new-nonkernel.ensures R.grammar in
+    record {
+      found = c.in_ok-found.ensures.found;
+      reduced = c.in_ok-found.ensures.reduced;
+      limit = c.in_ok-found.ensures.limit ∙ c.parser_states.ensures;
+      room = search rules;
+      nonkernel = subst (λ es. AreNonkernel R.grammar es c.new-nonkernel.result) (sym none.of_these) none;
+    }
 
 pub close-requires-clause-kept : goal.close-requires-clause-kept
 close-requires-clause-kept c =
@@ -31,8 +44,8 @@ close-requires-clause-kept c =
     (subst (AreKept f.reduced.now.grammar) (sym c.kernel-kernel.ensures) (inv.found.found.kept number less)) in
     kept
 
-pub list_items-requires : goal.list_items-requires
-list_items-requires c A h =
+pub enter-requires-clause-within : goal.enter-requires-clause-within
+enter-requires-clause-within c A h =
     let R = c.args.reduced.now in
     let inv = c.loop-alloc.invariant in
     let f = c.loop-alloc.found in
@@ -50,46 +63,24 @@ list_moves-requires c =
     let R = c.args.reduced.now in
     let inv = c.loop-alloc.invariant in
     let f = c.loop-alloc.found in
-    let by = c.in_ok-by_left.ensures in
     let kernel = c.kernel-kernel.result.now in
-    let entered : (A : ℕ) → Contains c.members.result.now A ↔ IsEntered R.grammar kernel A
-    = subst (λ ms. (A : ℕ) → Contains ms A ↔ IsEntered R.grammar kernel A) (sym c.members.ensures.these)
-    c.close.ensures.entered in
     let number = c.len-in-loop-alloc-2.result in
     let less : number < length f.kernels = let t = c.loop-alloc-test.true in let a = c.len.ensures in
     let b = c.len-in-loop-alloc.ensures in let d = c.len-in-loop-alloc-2.ensures in omega arith in
-    let kept : AreKept R.grammar kernel = subst (λ r. AreKept r.grammar kernel) inv.reduced
-    (subst (AreKept f.reduced.now.grammar) (sym c.kernel-kernel.ensures) (inv.found.found.kept number less)) in
-    let are : (i : Item) → Contains c.deref.result.now i ↔ IsClosed R.grammar kernel i.rule i.dot = λ i.
-    let l = listed_closed R.grammar c.in_ok-by_left.by_left kernel by c.members.result.now entered i in
-    let n = c.in_ok-list_items.ensures i in (
-      λ h. l.0 (n.0 (subst (λ is. Contains is i) c.deref.ensures.value h)),
-      λ h. subst (λ is. Contains is i) (sym c.deref.ensures.value) (n.1 (l.1 h)),
-    ) in
-    items_kept R.grammar kernel c.deref.result.now are kept
+    subst (λ r. AreKept r.grammar kernel) inv.reduced
+    (subst (AreKept f.reduced.now.grammar) (sym c.kernel-kernel.ensures) (inv.found.found.kept number less))
 
 pub complete_rules-requires : goal.complete_rules-requires
 complete_rules-requires c =
     let R = c.args.reduced.now in
     let inv = c.loop-alloc.invariant in
     let f = c.loop-alloc.found in
-    let by = c.in_ok-by_left.ensures in
     let kernel = c.kernel-kernel.result.now in
-    let entered : (A : ℕ) → Contains c.members.result.now A ↔ IsEntered R.grammar kernel A
-    = subst (λ ms. (A : ℕ) → Contains ms A ↔ IsEntered R.grammar kernel A) (sym c.members.ensures.these)
-    c.close.ensures.entered in
     let number = c.len-in-loop-alloc-2.result in
     let less : number < length f.kernels = let t = c.loop-alloc-test.true in let a = c.len.ensures in
     let b = c.len-in-loop-alloc.ensures in let d = c.len-in-loop-alloc-2.ensures in omega arith in
-    let kept : AreKept R.grammar kernel = subst (λ r. AreKept r.grammar kernel) inv.reduced
-    (subst (AreKept f.reduced.now.grammar) (sym c.kernel-kernel.ensures) (inv.found.found.kept number less)) in
-    let are : (i : Item) → Contains c.deref-in-loop-alloc.result.now i ↔ IsClosed R.grammar kernel i.rule i.dot = λ i.
-    let l = listed_closed R.grammar c.in_ok-by_left.by_left kernel by c.members.result.now entered i in
-    let n = c.in_ok-list_items.ensures i in (
-      λ h. l.0 (n.0 (subst (λ is. Contains is i) c.deref-in-loop-alloc.ensures.value h)),
-      λ h. subst (λ is. Contains is i) (sym c.deref-in-loop-alloc.ensures.value) (n.1 (l.1 h)),
-    ) in
-    items_kept R.grammar kernel c.deref-in-loop-alloc.result.now are kept
+    subst (λ r. AreKept r.grammar kernel) inv.reduced
+    (subst (AreKept f.reduced.now.grammar) (sym c.kernel-kernel.ensures) (inv.found.found.kept number less))
 
 pub successors-requires-clause-moves : goal.successors-requires-clause-moves
 successors-requires-clause-moves c =
@@ -101,16 +92,12 @@ successors-requires-clause-moves c =
     let entered : (A : ℕ) → Contains c.members.result.now A ↔ IsEntered R.grammar kernel A
     = subst (λ ms. (A : ℕ) → Contains ms A ↔ IsEntered R.grammar kernel A) (sym c.members.ensures.these)
     c.close.ensures.entered in
-    let are : (i : Item) → Contains c.deref.result.now i ↔ IsClosed R.grammar kernel i.rule i.dot = λ i.
-    let l = listed_closed R.grammar c.in_ok-by_left.by_left kernel by c.members.result.now entered i in
-    let n = c.in_ok-list_items.ensures i in (
-      λ h. l.0 (n.0 (subst (λ is. Contains is i) c.deref.ensures.value h)),
-      λ h. subst (λ is. Contains is i) (sym c.deref.ensures.value) (n.1 (l.1 h)),
-    ) in
     let f_rows : c.len-in-loop-alloc-2.result ≡ length f.rows.items = let d = c.len-in-loop-alloc-2.ensures in
     let ok = f.rows.ok.0 in omega arith in
-    let each = c.in_ok-list_moves.ensures.each in
-    let moves = are_moves R.grammar kernel c.deref.result.now are c.list_moves.new.moves.items each
+    let moves = kernel_moves R.grammar c.in_ok-by_left.by_left kernel c.members.result.now c.enter.new.self by
+    c.in_ok-enter.ensures entered c.list_moves.new.moves.items
+    (subst (λ ks. (m : Move) → Contains c.list_moves.new.moves.items m
+    ↔ (Contains ks m ⊎ IsMoveOfOne R.grammar kernel m)) c.deref.ensures.value c.in_ok-list_moves.ensures.each)
     c.in_ok-list_moves.ensures.rising in
     subst (λ ms. AreMoves f.reduced.now.grammar (kernel_at f.kernels (length f.rows.items)) ms)
     (sym c.deref-in-loop-alloc-2.ensures.value)
@@ -128,12 +115,6 @@ loop-alloc-preserved c =
     let entered : (A : ℕ) → Contains c.members.result.now A ↔ IsEntered R.grammar kernel A
     = subst (λ ms. (A : ℕ) → Contains ms A ↔ IsEntered R.grammar kernel A) (sym c.members.ensures.these)
     c.close.ensures.entered in
-    let are : (i : Item) → Contains c.deref-in-loop-alloc.result.now i ↔ IsClosed R.grammar kernel i.rule i.dot = λ i.
-    let l = listed_closed R.grammar c.in_ok-by_left.by_left kernel by c.members.result.now entered i in
-    let n = c.in_ok-list_items.ensures i in (
-      λ h. l.0 (n.0 (subst (λ is. Contains is i) c.deref-in-loop-alloc.ensures.value h)),
-      λ h. subst (λ is. Contains is i) (sym c.deref-in-loop-alloc.ensures.value) (n.1 (l.1 h)),
-    ) in
     let ens = c.in_ok-transitions.ensures in
     let t = c.successors.new.self in
     let n = length f.rows.items in
@@ -146,8 +127,11 @@ loop-alloc-preserved c =
     let row : Row = record { transitions = c.in_ok-transitions.transitions; complete = c.in_ok-complete.complete } in
     let kept : (s : ℕ) → s < length f.kernels → kernel_at t.kernels s ≡ kernel_at f.kernels s =
     λ s l. (ens.kept s l).1 in
-    let complete = are_complete R.grammar kernel c.deref-in-loop-alloc.result.now are c.in_ok-complete.complete.items
-    c.in_ok-complete.ensures.each c.in_ok-complete.ensures.rising in
+    let complete = kernel_complete R.grammar c.in_ok-by_left.by_left kernel c.members.result.now c.enter.new.self by
+    c.in_ok-enter.ensures entered c.in_ok-complete.complete.items
+    (subst (λ ks. (p : ℕ) → Contains c.in_ok-complete.complete.items p
+    ↔ (Contains ks p ⊎ IsRuleAtEnd R.grammar kernel p)) c.deref-in-loop-alloc.ensures.value
+    c.in_ok-complete.ensures.each) c.in_ok-complete.ensures.rising in
     let here : kernel ≡ kernel_at t.kernels n = c.kernel-kernel.ensures ∙ ap (kernel_at f.kernels) count
     ∙ sym (kept n next) in
     let rows : f.rows.items ≡ t.rows.items = ap (λ v. v.items) (sym ens.rows) in
@@ -174,6 +158,8 @@ loop-alloc-preserved c =
       reduced = same;
       limit = ens.limit ∙ inv.limit;
       room = subst (λ m. R.grammar.accept < m) (sym c.close.ensures.below) inv.room;
+      nonkernel = subst (λ es. AreNonkernel R.grammar es c.enter.new.self)
+          (sym c.in_ok-enter.ensures.of_these) c.in_ok-enter.ensures;
     }
 
 pub invariant_of-result : goal.invariant_of-result

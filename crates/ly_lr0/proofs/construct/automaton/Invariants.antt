@@ -1,5 +1,6 @@
 use Rattle.std.proofs.Common.{◌≡◌, ◌<◌, ◌-◌, length}
 use Rattle.ly_lr0.specs.Private.Found.{IsFound}
+use Rattle.ly_lr0.specs.Private.Nonkernel.{AreNonkernel}
 use Rattle.ly_lr0.proofs.construct.automaton.Given as goal
 
 -- the rows before this one are done
@@ -9,6 +10,7 @@ invariant-loop-alloc l = record {
   reduced : l.found.reduced.now ≡ l.reduced;
   limit : l.found.limit ≡ l.limits.parser_states;
   room : l.reduced.grammar.accept < l.entered.below;
+  nonkernel : AreNonkernel l.reduced.grammar l.nonkernel.entered.items l.nonkernel;
 }
 
 abbrev pub decreases-loop-alloc : goal.decreases-loop-alloc

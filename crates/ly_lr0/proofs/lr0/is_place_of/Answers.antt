@@ -1,7 +1,8 @@
-use Rattle.std.proofs.Common.{rules, ◌≡◌, ◌<◌, ◌-◌, Bool, true, false, arith, length, refl}
+use Rattle.std.proofs.Common.{rules, ◌≡◌, ◌<◌, ◌-◌, Bool, true, false, arith, length, refl, subst}
 use Rattle.std.specs.Prelude.{not}
 use Rattle.ly_join.specs.Grammar.{symbol_of}
-use Rattle.ly_lr0.proofs.GotoLemmas.{less_any, place_between}
+use Rattle.ly_lr0.specs.Private.Places.{IsPlace}
+use Rattle.ly_lr0.proofs.GotoLemmas.{less_any, place_at, place_between}
 use Rattle.ly_lr0.proofs.lr0.is_place_of.Goals as goal
 use Rattle.ly_lr0.proofs.lr0.is_place_of.Goals.{then-place-gt0+else-not-comes_before, else-place-gt0}
 
@@ -51,3 +52,12 @@ returns c =
       λ is. true_not c.comes_before-2.result
           (λ held. is.behind place _ (omega arith) inside (c.comes_before-2.ensures.0 held)),
     )
+
+pub returns-then-has_symbol_at : goal.returns-then-has_symbol_at
+returns-then-has_symbol_at c = (
+  λ _.
+      let there = c.has_symbol_at.ensures c.if-has_symbol_at.true in
+      subst (λ X. IsPlace c.args.transitions.now (symbol_of X) c.args.place) there.2
+      (place_at c.args.transitions.now c.requires c.args.place there.0 there.1),
+  λ _. refl,
+)

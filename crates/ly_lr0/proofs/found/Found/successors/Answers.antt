@@ -2,13 +2,12 @@ use Rattle.std.proofs.Common.{◌≡◌, ◌∙◌, Err, List, [], ◌∷◌, �
 use Rattle.std.specs.Prelude.{slice_range}
 use Rattle.std.proofs.lemmas.List.{length-map, map_push}
 use Rattle.std.proofs.lemmas.Result.{err_from_is_err_and}
-use Rattle.ly_base.specs.Keys.{IsAbsent}
 use Rattle.ly_grammar.specs.Items.{HasMoreCores}
 use Rattle.ly_join.specs.Grammar.{IsAugmented, symbol_of}
 use Rattle.ly_grammar.specs.Derivations.{IsReduced}
 use Rattle.ly_lr0.specs.declared.fault.Lr0Fault.TheVariants.{TooManyStates}
 use Rattle.ly_lr0.specs.Automaton.{Transition}
-use Rattle.ly_lr0.specs.Private.Built.{AreFound, IsNumbered, IsWholeRow, Link, transitions_of}
+use Rattle.ly_lr0.specs.Private.Built.{AreFound, IsWholeRow, Link, transitions_of}
 use Rattle.ly_lr0.specs.Transitions.{transition_of}
 use Rattle.ly_lr0.specs.Private.Closing.{AreMoves}
 use Rattle.ly_lr0.specs.Private.Found.{links_of, rows_of}
@@ -55,12 +54,12 @@ returns-in_err-target-clause-many c = λ failed.
     c.len-from.result c.args.moves.now c.loop-at.at was.entered c.group_end-end.result c.group_end-end.ensures
     (subst (λ r. IsAugmented r.now.grammar) (sym was.reduced) is.augmented)
     (subst (λ r. IsReduced r.now.grammar) (sym was.reduced) is.reduced)
-    f.limit full.0 (subst (IsAbsent f.kernels) (c.deref.ensures.value ∙ c.in_ok-items_of.ensures) full.1)))
+    f.limit full.0 full.1))
 
 pub loop-at-preserved : goal.loop-at-preserved
 loop-at-preserved c =
     let f = c.loop-at.self in
-    let t = c.number.new.self in
+    let t = c.target.new.self in
     let G = f.reduced.now.grammar in
     let was = c.loop-at.invariant in
     let ens = c.in_ok-target.ensures in
@@ -76,8 +75,7 @@ loop-at-preserved c =
     let kernel = map (λ m. m.item) (slice_range c.args.moves.now c.loop-at.at end) in
     let more = entered_more G f.kernels (links_of f) (rows_of f) (map transition_of c.loop-at.transitions.items)
     c.len-from.result c.args.moves.now c.loop-at.at was.entered end c.group_end-end.ensures t.kernels (links_of t) n
-    (subst (λ k. IsNumbered f.kernels (links_of f) k link t.kernels (links_of t) n)
-    (c.deref.ensures.value ∙ c.in_ok-items_of.ensures) ens.numbered) in
+    ens.numbered in
     let pushed = ap (map transition_of) c.in_ok-push.ensures.items
     ∙ map_push transition_of c.loop-at.transitions.items _ in
     record {

@@ -1,0 +1,44 @@
+use Rattle.std.proofs.Common.{◌<◌, ◌∙◌, ap, arith, length, map, subst, sym}
+use Rattle.std.specs.Prelude.{filter}
+use Rattle.ly_lr0.specs.Automaton.{Lr0Automaton, is_shift, state_at}
+use Rattle.ly_lr0.specs.Private.Built.{AreInOrder}
+use Rattle.ly_lr0.specs.Transitions.{transition_of}
+use Rattle.ly_lr0.proofs.GotoLemmas.{row_ordered}
+use Rattle.ly_lr0.proofs.ShiftLemmas.{shifts_before}
+use Rattle.ly_lr0.proofs.StateLemmas.{count_of, state_of}
+use Rattle.ly_lr0.proofs.lr0.Lr0.shifts.Goals as goal
+
+pub index-requires : goal.index-requires
+index-requires c =
+    let view = ap (λ (M : Lr0Automaton). length M.states) c.self.view_is in
+    let many = count_of c.self.inside.links.items c.self.inside.rows.items c.self.invariant.count in
+    let ok = c.self.inside.rows.ok.0 in
+    let less = c.requires in
+    omega arith
+
+pub place_of-requires : goal.place_of-requires
+place_of-requires c =
+    let view = ap (λ (M : Lr0Automaton). length M.states) c.self.view_is in
+    let links = c.self.inside.links.items in
+    let rows = c.self.inside.rows.items in
+    let s = c.args.state.0 in
+    let many = count_of links rows c.self.invariant.count in
+    let less : s < length rows = let l = c.requires in omega arith in
+    subst (λ ts. AreInOrder (map transition_of ts)) (sym c.deref-transitions.ensures.value)
+    (row_ordered c.self.inside.reduced.now.grammar links rows s c.index.result.now c.self.invariant less
+    c.index.ensures)
+
+pub returns : goal.returns
+returns c =
+    let view = ap (λ (M : Lr0Automaton). length M.states) c.self.view_is in
+    let links = c.self.inside.links.items in
+    let rows = c.self.inside.rows.items in
+    let s = c.args.state.0 in
+    let many = count_of links rows c.self.invariant.count in
+    let less : s < length rows = let l = c.requires in omega arith in
+    shifts_before c.deref-transitions.result.now c.place_of.result c.place_of.ensures
+    ∙ ap (λ ts. filter is_shift (map transition_of ts)) c.deref-transitions.ensures.value
+    ∙ ap (filter is_shift) (sym (ap (λ q. q.transitions)
+    (state_of c.self.inside.reduced.now.grammar links rows s c.index.result.now c.self.invariant.count less
+    c.index.ensures))
+    ∙ ap (λ M. (state_at M s).transitions) c.self.view_is)
