@@ -1,13 +1,15 @@
 -- What is said of transitions by way of nodes that stand for them.
 use Rattle.std.proofs.Common.{◌≡◌, ◌≢◌, ◌∙◌, ◌⊎◌, ◌↔◌, inl, inr, ℕ, ◌+◌, ◌-◌, ◌<◌, ◌≤◌, List, Some, arith, refl, sym}
-use Rattle.std.proofs.Common.{ap}
+use Rattle.std.proofs.Common.{◌∷◌, ap}
 use Rattle.std.proofs.Common.{subst, length, slice_get, slice_index_or, Contains}
 use Rattle.std.proofs.lemmas.Bool.{cases_order}
 use Rattle.std.proofs.lemmas.Option.{get_or_from_slice_get, slice_get-get_or, slice_get_within}
 use Rattle.ly_digraph.specs.Digraph.{Digraph, IsEdge}
+use Rattle.ly_join.specs.Grammar.{terminal}
+use Rattle.ly_lr0.specs.Automaton.{Lr0Automaton, goto_of}
 use Rattle.ly_relate.specs.Private.Gotos.{IsNumbering, Numbering}
 use Rattle.ly_relate.specs.Private.Groups.{AreGroupable, AreAllParted, AreGroups, Grouping, IsJoined, IsRuleOf, Leads}
-use Rattle.ly_relate.specs.Private.Groups.{RuleLists, leader_of, node_of, others_of, solid_of}
+use Rattle.ly_relate.specs.Private.Groups.{BeginsSolid, LeadAlike, RuleLists, leader_of, node_of, others_of, solid_of}
 use Rattle.ly_relate.specs.Private.Walks.{AreBack, AreBackBy, AreEdgesBy, AreEdgesTo, BackFrom, EdgeFrom, EdgeTo}
 use Rattle.ly_relate.specs.Private.Walks.{IncludesByOne}
 use Rattle.ly_relate.specs.Private.Walks.{IsIncludingBy, IsLookingBack, IsSaidOf}
@@ -400,3 +402,13 @@ module _ (n : Numbering) (r : RuleLists) (w : Grouping) (j : ℕ) (x : Goto) (at
       (LooksBackByOne n (rules_at n (solid_of r) j) j s p)
       (subst (λ l. AreBack ls₀ ls₁ j (LooksBackByOne n l j)) (listed_at n (others_of r) j x others at are_others)
       first s p o) lacks
+
+-- where the same terminals lead from two states to the same ones, rules that begin with terminals lead alike
+pub shifts_alike : (M : Lr0Automaton) (rules : List ℕ) (p q : ℕ)
+    → ((k : ℕ) → Contains rules k → BeginsSolid M.grammar k)
+    → ((t : ℕ) → goto_of M p (terminal t) ≡ goto_of M q (terminal t)) → LeadAlike M rules p q
+shifts_alike M rules p q solid same k has r X rest is_rule begins =
+    let first = solid k has r is_rule in
+    let whole : X ∷ rest ≡ terminal first.0 ∷ first.1 = sym begins ∙ first.2 in
+    let here : X ≡ terminal first.0 = cc in
+    subst (λ Y. goto_of M p Y ≡ goto_of M q Y) (sym here) (same first.0)

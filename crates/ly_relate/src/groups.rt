@@ -148,10 +148,12 @@ fn lead_alike(gotos: &Gotos<'_>, rules: &PartedRules, one: usize, other: usize) 
     if one.symbol.0 != other.symbol.0 {
         return false;
     }
+    let lr0 = gotos.lr0();
     let solid = rules.solid(one.symbol);
-    solid.len() >= FEWEST
-        && (shift_alike(gotos.lr0(), one.from, other.from)
-            || all_lead_alike(gotos.lr0(), solid, one.from, other.from))
+    if solid.len() < FEWEST {
+        return false;
+    }
+    shift_alike(lr0, one.from, other.from) || all_lead_alike(lr0, solid, one.from, other.from)
 }
 
 /// Whether the same terminals are shifted in two states, and lead to the same ones.
