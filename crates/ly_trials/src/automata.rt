@@ -1,12 +1,11 @@
 //! Automata with their lookaheads: worked examples, and small grammars, all of them beside Knuth's item sets.
-ghost use Rattle.std.specs.Prelude.{◌<◌, length};
 
 use crate::facts::Facts;
 use crate::knuth::merged;
 use crate::specifications::specification;
-use ly_base::{Limits, OutOfMemory, StateNo};
+use ly_base::{Limits, OutOfMemory};
 use ly_grammar::{Reduced, reduce};
-use ly_join::{Grammar, Symbol};
+use ly_join::Grammar;
 use ly_lr0::{Lr0, automaton};
 use ly_relate::{Goto, relations};
 use std::alloc::Global;
@@ -31,26 +30,13 @@ const EXAMPLES: [(&[u8], [usize; 5]); 4] = [
     (MERGED, [5, 5, 0, 0, 8]),
 ];
 
-/// How many terminals leave a state by transitions.
-fn terminals_from(lr0: &Lr0<'_>, state: StateNo) -> usize
-    requires { state.0 < length lr0.now.states }
-{
-    let mut count: usize = 0;
-    for transition in lr0.transitions(state) {
-        if let Symbol::Terminal(_) = transition.symbol {
-            count = count.saturating_add(1);
-        }
-    }
-    count
-}
-
 /// How many terminals transitions directly read: those that leave the states to which they lead, and the end behind the
 /// start symbol.
 fn direct_reads(lr0: &Lr0<'_>, gotos: &[Goto]) -> usize {
     let mut count: usize = 1;
     for goto in gotos {
         if (goto.target.0 as usize) < lr0.states() {
-            count = count.saturating_add(terminals_from(lr0, goto.target));
+            count = count.saturating_add(lr0.shifts(goto.target).len());
         }
     }
     count
