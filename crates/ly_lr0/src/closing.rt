@@ -114,7 +114,9 @@ pub(crate) fn list_moves(
 {
     moves.clear();
     // Dots of a kernel mostly stand before nonterminals, which come behind terminals: so moves are nearly sorted.
-    moves.extend_from_slice(known)?;
+    for step in known {
+        moves.push(*step)?;
+    }
     for item in items {
         if let Some(step) = move_of(reduced, *item) {
             if !is_end(step.symbol) {

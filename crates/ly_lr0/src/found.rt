@@ -114,11 +114,11 @@ impl<'a> Found<'a> {
             *place += 1;
         }
         let near = transitions.get(*place)?;
-        if near.symbol == symbol {
-            Some(near.target)
-        } else {
-            None
+        if near.symbol != symbol {
+            return None;
         }
+        *place += 1;
+        Some(near.target)
     }
 
     /// The state of a kernel, by the moves that lead to its items. It is first compared with that of the hint; else the
