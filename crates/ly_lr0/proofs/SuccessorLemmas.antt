@@ -1,5 +1,5 @@
 -- A row as its transitions are entered.
-use Rattle.std.proofs.Common.{◌≡◌, inl, inr, ℕ, suc, ◌<◌, ◌≤◌, List, [], ◌∷◌, ◌++◌}
+use Rattle.std.proofs.Common.{◌≡◌, ◌⊎◌, inl, inr, ℕ, suc, ◌<◌, ◌≤◌, List, [], ◌∷◌, ◌++◌}
 use Rattle.std.proofs.Common.{refl, sym, ◌∙◌, ap, subst, arith, length, map}
 use Rattle.std.specs.Prelude.{◌↔◌, Contains, slice_index_or, slice_range}
 use Rattle.std.proofs.lemmas.Bool.{cases_lt}
@@ -14,22 +14,16 @@ use Rattle.ly_grammar.specs.Items.{HasMoreCores}
 use Rattle.ly_lr0.specs.Automaton.{Transition}
 use Rattle.ly_lr0.specs.declared.item.Item.{Item}
 use Rattle.ly_lr0.specs.declared.item.Move.{Move}
-use Rattle.ly_lr0.specs.Private.Built.{AreFound, AreInOrder, IsNumbered, IsWholeRow, HasTransition, Link, link_at}
+use Rattle.ly_lr0.specs.Private.Built.{AreFound, AreInOrder, HasTransition, IsLed, IsNumbered, IsWholeRow, Link}
+use Rattle.ly_lr0.specs.Private.Built.{LinkIsLess, link_at}
 use Rattle.ly_lr0.specs.Private.Closing.{AreMoves, IsGroupEnd}
 use Rattle.ly_lr0.specs.Private.Items.{IsBehind, IsMoved}
 use Rattle.ly_lr0.specs.Private.Kernels.{kernel_at}
+use Rattle.ly_lr0.specs.Private.Shared.{move_at, no_move}
 use Rattle.ly_lr0.proofs.BuiltLemmas.{found_more}
 use Rattle.ly_lr0.proofs.FinalLemmas.{more_cores}
 use Rattle.ly_lr0.proofs.GroupLemmas as group
 use Rattle.ly_lr0.proofs.GroupLemmas.{IsBoundary}
-
--- the move that a list has past its end
-abbrev pub no_move : Move
-no_move = record { symbol = Terminal (record { 0 = 0 }); item = record { rule = 0; dot = 0 } }
-
--- the move at a place
-abbrev pub move_at : List Move → ℕ → Move
-move_at moves k = slice_index_or moves k no_move
 
 -- The transitions over the symbols before a place of a kernel's moves are entered.
 pub record HasEntered (G : Grammar) (kernels : List (List Item)) (links : List Link) (rows : List (List Transition))
@@ -44,39 +38,51 @@ pub record HasEntered (G : Grammar) (kernels : List (List Item)) (links : List L
   pub done : (k : ℕ) (d : Move) → k < at → (t : Transition) × Contains part t
       × (t.symbol ≡ symbol_of (slice_index_or moves k d).symbol)
 
--- an empty row more
-found_row : (G : Grammar) (kernels : List (List Item)) (links : List Link) (rows : List (List Transition))
-    → length rows < length kernels → AreFound G kernels links rows → AreFound G kernels links (rows ++ [] ∷ [])
-found_row G kernels links rows less found = record {
+-- one more row, of which there may be the first transitions only
+pub found_part : (G : Grammar) (kernels : List (List Item)) (links : List Link) (rows : List (List Transition))
+    (part : List Transition) → length rows < length kernels → AreFound G kernels links rows → AreInOrder part
+    → ((t : Transition) → Contains part t → IsLed G kernels (length rows) t)
+    → ((t : Transition) (k : ℕ) → Contains part t → t.target ≡ suc k
+    → LinkIsLess (link_at links k) (record { from = length rows; symbol = t.symbol }))
+    → AreFound G kernels links (rows ++ part ∷ [])
+found_part G kernels links rows part less found ordered part_led part_first = record {
   start = found.start;
   count = found.count;
   rising = found.rising;
   kept = found.kept;
   apart = found.apart;
-  within = omega (arith, less, length_push rows []);
+  within = omega (arith, less, length_push rows part);
   sorted = λ s l. elim (cases_lt s (length rows)) [
-    | inl low ↦ subst AreInOrder (sym (get_or_append_left rows ([] ∷ []) [] s low)) (found.sorted s low)
+    | inl low ↦ subst AreInOrder (sym (get_or_append_left rows (part ∷ []) [] s low)) (found.sorted s low)
     | inr past ↦
-        let last : length rows ≡ s = omega (arith, l, past, length_push rows []) in
-        subst AreInOrder (sym (get_or_push rows [] [] s last)) (λ i j d a b. absurd (omega (arith, b)))
+        let last : length rows ≡ s = omega (arith, l, past, length_push rows part) in
+        subst AreInOrder (sym (get_or_push rows part [] s last)) ordered
   ];
-  led = λ s t h. found.led s t (old s t h);
+  led = λ s t h. elim (old s t h) [
+    | inl was ↦ found.led s t was
+    | inr new ↦ subst (λ m. IsLed G kernels m t) (sym new.0) (part_led t new.1)
+  ];
   linked = λ k l. let h = found.linked k l in (
-    omega (arith, h.0, length_push rows []),
+    omega (arith, h.0, length_push rows part),
     subst (λ r. Contains r (record { symbol = (link_at links k).symbol; target = suc k }))
-        (sym (get_or_append_left rows ([] ∷ []) [] (link_at links k).from h.0)) h.1,
+        (sym (get_or_append_left rows (part ∷ []) [] (link_at links k).from h.0)) h.1,
   );
   back = found.back;
   ordered = found.ordered;
-  first = λ s t k h e. found.first s t k (old s t h) e;
+  first = λ s t k h e. elim (old s t h) [
+    | inl was ↦ found.first s t k was e
+    | inr new ↦ inr (subst (λ m. LinkIsLess (link_at links k) (record { from = m; symbol = t.symbol })) (sym new.0)
+        (part_first t k new.1 e))
+  ];
 }
   where
-    old : (s : ℕ) (t : Transition) → HasTransition (rows ++ [] ∷ []) s t → HasTransition rows s t
+    old : (s : ℕ) (t : Transition) → HasTransition (rows ++ part ∷ []) s t
+        → HasTransition rows s t ⊎ ((s ≡ length rows) × Contains part t)
     old s t h = elim (cases_lt s (length rows)) [
-      | inl low ↦ (low, subst (λ r. Contains r t) (get_or_append_left rows ([] ∷ []) [] s low) h.1)
+      | inl low ↦ inl (low, subst (λ r. Contains r t) (get_or_append_left rows (part ∷ []) [] s low) h.1)
       | inr past ↦
-          let last : length rows ≡ s = omega (arith, h.0, past, length_push rows []) in
-          Contains-none t (subst (λ r. Contains r t) (get_or_push rows [] [] s last) h.1)
+          let last : length rows ≡ s = omega (arith, h.0, past, length_push rows part) in
+          inr (sym last, subst (λ r. Contains r t) (get_or_push rows part [] s last) h.1)
     ]
 
 pub entered_start : (G : Grammar) (kernels : List (List Item)) (links : List Link) (rows : List (List Transition))
@@ -87,7 +93,8 @@ entered_start G kernels links rows s moves state next are found = record {
   state = state;
   next = next;
   are = are;
-  found = found_row G kernels links rows (omega (arith, state, next)) found;
+  found = found_part G kernels links rows [] (omega (arith, state, next)) found (λ i j d a b. absurd (omega (arith, b)))
+      (λ t c. Contains-none t c) (λ t k c. Contains-none t c);
   boundary = λ j k d l. absurd (omega (arith, l));
   each = λ t c. Contains-none t c;
   done = λ k d l. absurd (omega (arith, l));

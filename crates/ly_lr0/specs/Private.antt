@@ -5,3 +5,4 @@ pub mod Items
 pub mod Kernels
 pub mod Nonkernel
 pub mod Places
+pub mod Shared

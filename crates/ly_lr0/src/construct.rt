@@ -12,6 +12,7 @@ use crate::transition::Row;
 use ly_base::{Limits, SparseSet};
 use ly_grammar::Reduced;
 use std::alloc::Global;
+use std::mem::swap;
 
 /// The LR(0) automaton of a reduced grammar.
 ///
@@ -32,6 +33,7 @@ pub fn automaton<'a>(
     let mut entered = SparseSet::new(alloc, reduced.grammar().accept().0 as usize + 1)?;
     let mut nonkernel = Nonkernel::new(alloc);
     let mut moves = Vec::new(alloc);
+    let mut before = Vec::new(alloc);
     let mut found = Found::start(alloc, reduced, limits.parser_states())?;
     while found.rows.len() < found.kernels.len() {
         let kernel = found.kernels.kernel(found.rows.len());
@@ -39,7 +41,8 @@ pub fn automaton<'a>(
         nonkernel.enter(reduced, &by_left, entered.members())?;
         list_moves(reduced, kernel, &nonkernel.moves, &mut moves)?;
         let complete = complete_rules(alloc, reduced, kernel, &nonkernel.complete)?;
-        let transitions = found.successors(&moves)?;
+        let transitions = found.successors(&moves, &before)?;
+        swap(&mut moves, &mut before);
         found.rows.push(Row {
             transitions,
             complete,

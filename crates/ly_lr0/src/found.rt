@@ -1,7 +1,7 @@
 ghost use Rattle.std.specs.Prelude.{◌≡◌, ◌<◌, ◌≤◌, ◌++◌, ℕ, [], ◌∷◌, length, map, slice_index_or, AllPairs};
 ghost use Rattle.std.specs.Prelude.{IfOk, IsErrOf, IsTrue, OnOk};
 ghost use Rattle.ly_base.specs.Keys.{IsAbsent};
-ghost use Rattle.ly_join.specs.Grammar.{IsAugmented};
+ghost use Rattle.ly_join.specs.Grammar.{IsAugmented, symbol_of};
 ghost use Rattle.ly_grammar.specs.Derivations.{IsReduced};
 ghost use Rattle.ly_grammar.specs.Items.{HasMoreCores};
 ghost use Rattle.ly_lr0.specs.Private.Built.{AreFound, IsNumbered, IsWholeRow, link_of};
@@ -9,17 +9,19 @@ ghost use Rattle.ly_lr0.specs.Private.Found.{IsFound, links_of, with_row};
 ghost use Rattle.ly_lr0.specs.Private.Closing.{AreMoves, IsGroupEnd};
 ghost use Rattle.ly_lr0.specs.Private.Items.{AreRising};
 ghost use Rattle.ly_lr0.specs.Private.Kernels.{KeepsKernels, kernel_at};
+ghost use Rattle.ly_lr0.specs.Private.Shared.{AreMovesBefore, IsLastFront, IsShared, move_at};
 ghost use Rattle.ly_lr0.specs.Transitions.{transition_of};
 
 use crate::fault::Lr0Fault;
 use crate::item::{Item, Move};
 use crate::kernels::Kernels;
-use crate::lr0::comes_before;
+use crate::lr0::{comes_before, place_of};
 use crate::transition::{Link, Row, Transition};
 use ly_base::StateNo;
 use ly_grammar::Reduced;
 use ly_join::Symbol;
 use std::alloc::{AllocError, Global};
+use std::cmp::min;
 
 /// The kernels that were found, and the rows of the first of them.
 #[derive(Drop)]
@@ -70,13 +72,18 @@ impl<'a> Found<'a> {
         })
     }
 
-    /// The transitions of the next row, by the moves of its kernel. Kernels that weren't found before get the next
-    /// numbers.
-    pub(crate) fn successors(&mut self, moves: &[Move]) -> Result<Vec<Transition>, Lr0Fault>
+    /// The transitions of the next row, by the moves of its kernel and those of the state before. Kernels that weren't
+    /// found before get the next numbers. Where both states begin with the same moves, these lead to the same states.
+    pub(crate) fn successors(
+        &mut self,
+        moves: &[Move],
+        before: &[Move],
+    ) -> Result<Vec<Transition>, Lr0Fault>
         requires found { IsFound self.old }
         requires next { length self.old.rows.items < length self.old.kernels }
         requires moves { AreMoves self.old.reduced.now.grammar
             (kernel_at self.old.kernels (length self.old.rows.items)) moves.now }
+        requires before { AreMovesBefore self.old before.now }
         ensures found { IfOk result (λ ts. AreFound self.new.reduced.now.grammar self.new.kernels (links_of self.new)
             (with_row self.new (map transition_of ts.items))) }
         ensures whole { IfOk result (λ ts. IsWholeRow self.new.reduced.now.grammar
@@ -90,10 +97,10 @@ impl<'a> Found<'a> {
             HasMoreCores self.old.reduced.now.grammar self.old.limit }
     {
         let from = self.rows.len();
-        let mut transitions = Vec::with_capacity(self.alloc, moves.len())?;
+        let mut at = shared_moves(moves, before);
+        let mut transitions = self.begun_row(moves, at)?;
         let mut kernel = Vec::new(self.alloc);
-        let mut at = 0;
-        let mut place = 0;
+        let mut place = transitions.len();
         while at < moves.len() {
             let symbol = moves[at].symbol;
             let end = group_end(moves, at);
@@ -104,6 +111,38 @@ impl<'a> Found<'a> {
         }
         transitions.shrink_to_fit();
         Ok(transitions)
+    }
+
+    /// The next row as far as it is the last one's: the transitions over the symbols before that of the move at a place,
+    /// and none before the first.
+    fn begun_row(&self, moves: &[Move], at: usize) -> Result<Vec<Transition>, AllocError>
+        requires found { IsFound self.now }
+        requires at { 0 < at → at < length moves.now }
+        ensures none { IfOk result (λ ts. at ≡ 0 → ts.items ≡ []) }
+        ensures front { IfOk result (λ ts. 0 < at
+            → IsLastFront self.now (symbol_of (move_at moves.now at).symbol) (map transition_of ts.items)) }
+    {
+        let mut transitions = Vec::with_capacity(self.alloc, moves.len())?;
+        if at > 0 {
+            for transition in self.last_before(moves[at].symbol) {
+                transitions.push(*transition)?;
+            }
+        }
+        Ok(transitions)
+    }
+
+    /// The transitions of the last row over the symbols before one.
+    fn last_before(&self, symbol: Symbol) -> &[Transition]
+        requires { IsFound self.now }
+        ensures { IsLastFront self.now (symbol_of symbol) (map transition_of result.now) }
+    {
+        match self.rows.last() {
+            Some(row) => {
+                let transitions: &[Transition] = &row.transitions;
+                &transitions[..place_of(transitions, symbol)]
+            }
+            None => &[],
+        }
     }
 
     /// Where a symbol led from the state before, since it mostly leads there again. Its transition is looked for from a
@@ -182,6 +221,23 @@ impl<'a> Found<'a> {
         self.links.push(link)?;
         Ok(StateNo(count as u32))
     }
+}
+
+/// Where the moves over the last of the symbols begin over which two lists begin with the same moves. All moves before
+/// it are the same, and the one there.
+fn shared_moves(moves: &[Move], before: &[Move]) -> usize
+    ensures { 0 < result → IsShared moves.now before.now result }
+{
+    let mut at = 0;
+    for end in 0..min(moves.len(), before.len()) {
+        if moves[end] != before[end] {
+            return at;
+        }
+        if end > 0 && moves[end - 1].symbol != moves[end].symbol {
+            at = end;
+        }
+    }
+    at
 }
 
 /// Where the moves over the symbol of the one at a place end.

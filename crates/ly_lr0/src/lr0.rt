@@ -139,7 +139,7 @@ impl<'a> Lr0<'a> {
 }
 
 /// The place of a symbol's transition among others in the order of their symbols, or where it would stand.
-fn place_of(transitions: &[Transition], symbol: Symbol) -> usize
+pub(crate) fn place_of(transitions: &[Transition], symbol: Symbol) -> usize
     requires { AreInOrder (map transition_of transitions.now) }
     ensures { IsPlace transitions.now (symbol_of symbol) result }
 {

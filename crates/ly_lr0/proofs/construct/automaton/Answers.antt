@@ -1,6 +1,6 @@
-use Rattle.std.proofs.Common.{rules, ◌≡◌, ◌⊎◌, ◌<◌, ◌≤◌, ◌∙◌, ◌++◌, ◌∷◌, [], ℕ, ap, arith, length, map, subst, sym}
+use Rattle.std.proofs.Common.{rules, ◌+◌, ◌≡◌, ◌⊎◌, ◌<◌, ◌≤◌, ◌∙◌, ◌++◌, ◌∷◌, [], ℕ, ap, arith, length, map, subst, sym}
 use Rattle.std.specs.Prelude.{◌↔◌, Contains}
-use Rattle.std.proofs.lemmas.List.{length-map, map_push}
+use Rattle.std.proofs.lemmas.List.{length-map, length_push, map_push}
 use Rattle.std.proofs.lemmas.Option.{slice_get_within}
 use Rattle.ly_join.specs.Grammar.{IsAugmented}
 use Rattle.ly_grammar.specs.Derivations.{IsReduced}
@@ -29,6 +29,10 @@ loop-alloc-init c =
       limit = c.in_ok-found.ensures.limit ∙ c.parser_states.ensures;
       room = search rules;
       nonkernel = subst (λ es. AreNonkernel R.grammar es c.new-nonkernel.result) (sym none.of_these) none;
+      before = record {
+        none = λ _. c.new-before.ensures.items;
+        last = λ s e. absurd (omega (arith, e, ap length c.in_ok-found.ensures.rows));
+      };
     }
 
 pub close-requires-clause-kept : goal.close-requires-clause-kept
@@ -135,6 +139,14 @@ loop-alloc-preserved c =
     let here : kernel ≡ kernel_at t.kernels n = c.kernel-kernel.ensures ∙ ap (kernel_at f.kernels) count
     ∙ sym (kept n next) in
     let rows : f.rows.items ≡ t.rows.items = ap (λ v. v.items) (sym ens.rows) in
+    let moves = kernel_moves R.grammar c.in_ok-by_left.by_left kernel c.members.result.now c.enter.new.self by
+    c.in_ok-enter.ensures entered c.list_moves.new.moves.items
+    (subst (λ ks. (m : Move) → Contains c.list_moves.new.moves.items m
+    ↔ (Contains ks m ⊎ IsMoveOfOne R.grammar kernel m)) c.deref.ensures.value c.in_ok-list_moves.ensures.each)
+    c.in_ok-list_moves.ensures.rising in
+    let longer : length c.push.new.self.items ≡ n + 1
+    = ap length (c.in_ok-push.ensures.items ∙ ap (λ xs. xs ++ row ∷ []) (sym rows))
+    ∙ length_push f.rows.items row in
     record {
       found = record {
         augmented = subst (λ r. IsAugmented r.now.grammar) (sym ens.reduced) inv.found.augmented;
@@ -160,6 +172,15 @@ loop-alloc-preserved c =
       room = subst (λ m. R.grammar.accept < m) (sym c.close.ensures.below) inv.room;
       nonkernel = subst (λ es. AreNonkernel R.grammar es c.enter.new.self)
           (sym c.in_ok-enter.ensures.of_these) c.in_ok-enter.ensures;
+      before = record {
+        none = λ e. absurd (omega (arith, e, longer));
+        last = λ s e. subst (λ v. AreMoves t.reduced.now.grammar (kernel_at t.kernels s) v.items)
+            (sym c.swap.ensures.y_after)
+            (subst (λ k. AreMoves t.reduced.now.grammar (kernel_at t.kernels k) c.list_moves.new.moves.items)
+            (let l : n ≡ s = omega (arith, e, longer) in l)
+            (subst (λ k. AreMoves t.reduced.now.grammar k c.list_moves.new.moves.items) here
+            (subst (λ m. AreMoves m.grammar kernel c.list_moves.new.moves.items) (sym same) moves)));
+      };
     }
 
 pub invariant_of-result : goal.invariant_of-result

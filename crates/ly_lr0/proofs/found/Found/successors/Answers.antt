@@ -9,34 +9,40 @@ use Rattle.ly_lr0.specs.declared.fault.Lr0Fault.TheVariants.{TooManyStates}
 use Rattle.ly_lr0.specs.Automaton.{Transition}
 use Rattle.ly_lr0.specs.Private.Built.{AreFound, IsWholeRow, Link, transitions_of}
 use Rattle.ly_lr0.specs.Transitions.{transition_of}
-use Rattle.ly_lr0.specs.Private.Closing.{AreMoves}
 use Rattle.ly_lr0.specs.Private.Found.{links_of, rows_of}
 use Rattle.ly_lr0.specs.Private.Kernels.{kernel_at}
-use Rattle.ly_lr0.proofs.SuccessorLemmas.{HasEntered, entered_more, entered_past, entered_start, entered_whole}
-use Rattle.ly_lr0.proofs.SuccessorLemmas.{kernel_kept, move_at}
+use Rattle.std.proofs.Common.{inl, inr}
+use Rattle.std.proofs.lemmas.Bool.{cases_lt}
+use Rattle.ly_lr0.proofs.SharedLemmas.{begun_entered}
+use Rattle.ly_lr0.proofs.SuccessorLemmas.{HasEntered, entered_more, entered_past, entered_whole}
+use Rattle.ly_lr0.proofs.SuccessorLemmas.{kernel_kept}
+use Rattle.ly_lr0.specs.Private.Shared.{move_at}
 use Rattle.ly_lr0.proofs.found.Found.successors.Goals as goal
 
 pub loop-at-init : goal.loop-at-init
 loop-at-init c =
     let f = c.args.self.now in
+    let G = f.reduced.now.grammar in
     let count : c.len-from.result ≡ length f.rows.items = let e = c.len-from.ensures in let ok = f.rows.ok.0 in
     omega arith in
+    let rows : length f.rows.items ≡ length (rows_of f) = sym (length-map f.rows.items transitions_of) in
     let next = c.requires.next in
+    let at = c.shared_moves-at.result in
+    let begun = c.in_ok-transitions.transitions.items in
+    let ens = c.in_ok-transitions.ensures in
     record {
-      at = omega arith;
+      at = elim (cases_lt 0 at) [
+        | inl some ↦ let long = (c.shared_moves-at.ensures some).long in omega (arith, long)
+        | inr none ↦ omega (arith, none)
+      ];
       from = count;
       rows = refl;
       reduced = refl;
       limit = refl;
       few = c.requires.found.few;
       kept = λ s l. (l, refl);
-      entered = subst (λ ts. HasEntered f.reduced.now.grammar f.kernels (links_of f) (rows_of f) (map transition_of ts)
-          c.len-from.result c.args.moves.now 0) (sym c.in_ok-transitions.ensures.items)
-          (entered_start f.reduced.now.grammar f.kernels (links_of f) (rows_of f) c.len-from.result c.args.moves.now
-          (count ∙ sym (length-map f.rows.items transitions_of)) (omega (arith, count, next))
-          (subst (λ n. AreMoves f.reduced.now.grammar (kernel_at f.kernels n) c.args.moves.now) (sym count)
-          c.requires.moves)
-          c.requires.found.found);
+      entered = begun_entered f c.args.moves.now c.args.before.now at begun c.requires.found next c.requires.moves
+          c.requires.before c.shared_moves-at.ensures ens.none ens.front c.len-from.result count;
     }
 
 pub returns-in_err-target-clause-many : goal.returns-in_err-target-clause-many
