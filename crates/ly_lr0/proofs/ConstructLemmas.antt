@@ -1,5 +1,6 @@
 -- What the lists of a kernel say of what it closes to.
-use Rattle.std.proofs.Common.{◌≡◌, ◌⊎◌, inl, inr, ℕ, ◌<◌, ◌≤◌, List, [], ◌∷◌, ◌++◌, Some, refl, sym, ◌∙◌, ap, subst, arith}
+use Rattle.std.proofs.Common.{◌≡◌, ◌⊎◌, inl, inr, ℕ, ◌<◌, ◌≤◌, List, [], ◌∷◌, ◌++◌, Some, refl, sym, ◌∙◌, ap}
+use Rattle.std.proofs.Common.{arith, subst}
 use Rattle.std.proofs.Common.{length, map}
 use Rattle.std.specs.Prelude.{◌↔◌, AllPairs, Contains, slice_get, slice_index_or}
 use Rattle.std.proofs.lemmas.Bool.{cases_lt}

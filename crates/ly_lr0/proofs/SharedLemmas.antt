@@ -1,5 +1,6 @@
 -- What the row of a state has of the one before, where the moves of both begin alike.
-use Rattle.std.proofs.Common.{◌≡◌, ◌≢◌, ◌⊎◌, inl, inr, ℕ, suc, ◌-◌, ◌<◌, ◌≤◌, List, [], refl, sym, ◌∙◌, ap, subst, arith, length}
+use Rattle.std.proofs.Common.{◌≡◌, ◌≢◌, ◌⊎◌, inl, inr, ℕ, suc, ◌-◌, ◌<◌, ◌≤◌, List, [], refl, sym, ◌∙◌, ap}
+use Rattle.std.proofs.Common.{arith, length, subst}
 use Rattle.std.proofs.Common.{Some, map, slice_get, take}
 use Rattle.std.specs.Prelude.{AllPairs, Contains, slice_index_or}
 use Rattle.std.proofs.lemmas.Bool.{cases_lt}
@@ -126,8 +127,8 @@ module _ (G : Grammar) (kernels : List (List Item)) (links : List Link) (rows : 
 
   to : (X : Symbol) (i : Item) → X ≢ terminal 0 → IsLess X (over moves at) → IsMoved G (kernel_at kernels s) X i
       → IsMoved G (kernel_at kernels (length rows)) X i
-  to X i not_end less moved = carried G (kernel_at kernels s) (kernel_at kernels (length rows)) before moves at are_before
-      are shared.before_long shared.long (λ j l. sym (shared.same j l)) begins_before X i not_end
+  to X i not_end less moved = carried G (kernel_at kernels s) (kernel_at kernels (length rows)) before moves at
+      are_before are shared.before_long shared.long (λ j l. sym (shared.same j l)) begins_before X i not_end
       (subst (IsLess X) same_at less) moved
 
   from : (X : Symbol) (i : Item) → X ≢ terminal 0 → IsLess X (over moves at)
@@ -261,8 +262,10 @@ front_taken ts X q ordered is = record {
 module _ (rows : List row.Row) (last : row.Row) (ts : List code.Transition) (same : ts ≡ last.transitions.items)
     (is : slice_get rows (length rows - 1) ≡ Some last) where
   shown_last : slice_index_or (map transitions_of rows) (length rows - 1) [] ≡ map transition_of ts
-  shown_last = get_or-map transitions_of rows (length rows - 1) last [] (slice_get_within rows (length rows - 1) last is)
-      ∙ ap transitions_of (get_or_from_slice_get rows (length rows - 1) last last is) ∙ ap (map transition_of) (sym same)
+  shown_last = get_or-map transitions_of rows (length rows - 1) last []
+      (slice_get_within rows (length rows - 1) last is)
+      ∙ ap transitions_of (get_or_from_slice_get rows (length rows - 1) last last is)
+      ∙ ap (map transition_of) (sym same)
 
   pub last_ordered : ((s : ℕ) → s < length (map transitions_of rows)
       → AreInOrder (slice_index_or (map transitions_of rows) s [])) → AreInOrder (map transition_of ts)
@@ -310,8 +313,8 @@ begun_entered f moves before at begun is next are_moves earlier shared none fron
       ]
       | inr zero ↦
           let start : at ≡ 0 = omega (arith, zero) in
-          subst (λ n. HasEntered G f.kernels (links_of f) (rows_of f) (map transition_of begun) from moves n) (sym start)
-          (subst (λ ts. HasEntered G f.kernels (links_of f) (rows_of f) (map transition_of ts) from moves 0)
+          subst (λ n. HasEntered G f.kernels (links_of f) (rows_of f) (map transition_of begun) from moves n)
+          (sym start) (subst (λ ts. HasEntered G f.kernels (links_of f) (rows_of f) (map transition_of ts) from moves 0)
           (sym (none start))
           (entered_start G f.kernels (links_of f) (rows_of f) from moves same (omega (arith, count, next))
           (subst (λ n. AreMoves G (kernel_at f.kernels n) moves) (sym same) are) is.found))

@@ -10,7 +10,8 @@ use lib.Pointwise.{pointwise}
 use Rattle.ly_join.specs.Grammar.{Symbol, nonterminal, symbol_of, terminal}
 use Rattle.ly_join.specs.declared.symbol.Symbol as symbol
 use Rattle.ly_join.specs.declared.symbol.Symbol.TheVariants.{Nonterminal, Terminal}
-use Rattle.ly_lr0.specs.Automaton.{IsLess, Lr0Automaton, Transition, goto_of, is_shift, is_terminal, state_at, symbol_eq}
+use Rattle.ly_lr0.specs.Automaton.{IsLess, Lr0Automaton, Transition, goto_of, is_shift, is_terminal, state_at}
+use Rattle.ly_lr0.specs.Automaton.{symbol_eq}
 use Rattle.ly_lr0.specs.Automaton.{target_of}
 use Rattle.ly_lr0.specs.contracts.transition.TransitionPartialEq.TheImpl as test
 use Rattle.ly_lr0.specs.declared.transition.Transition as code
@@ -53,7 +54,8 @@ shifts_before ts n is = front ts n
     (λ k d l m. terminal_not_behind (symbol_at ts k d) (is.behind k d l m))
 
 -- they say where terminals lead
-pub shifts_lead : (ts : List Transition) (t : ℕ) → target_of (filter is_shift ts) (terminal t) ≡ target_of ts (terminal t)
+pub shifts_lead : (ts : List Transition) (t : ℕ)
+    → target_of (filter is_shift ts) (terminal t) ≡ target_of ts (terminal t)
 shifts_lead [] t = refl
 shifts_lead (u ∷ ts) t = one u ts t u.symbol refl (shifts_lead ts t)
   where

@@ -1,6 +1,7 @@
 -- The LR(0) automaton of a grammar: states for the cores of viable strings (Knuth 1965; DeRemer 1971). Strings of
 -- symbols have their last symbol first.
-use Rattle.std.specs.Prelude.{◌≡◌, ◌↔◌, ◌⊎◌, ℕ, ◌<◌, List, [], ◌∷◌, Bool, false, true, Option, Some, None, option_and_then}
+use Rattle.std.specs.Prelude.{◌≡◌, ◌↔◌, ◌⊎◌, ℕ, ◌<◌, List, [], ◌∷◌, Bool, false, true, Option, Some, None}
+use Rattle.std.specs.Prelude.{option_and_then}
 use Rattle.std.specs.Prelude.{length, map, nat_eq, slice_get, slice_index_or, AllPairs, Contains, if◌then◌else◌}
 use Rattle.ly_join.specs.Grammar.{Grammar, IsAugmented, Symbol, nonterminal, terminal}
 use Rattle.ly_grammar.specs.Derivations.{IsReduced}

@@ -113,8 +113,8 @@ impl<'a> Found<'a> {
         Ok(transitions)
     }
 
-    /// The next row as far as it is the last one's: the transitions over the symbols before that of the move at a place,
-    /// and none before the first.
+    /// The next row as far as it is the last one's: the transitions over the symbols before that of the move at a
+    /// place, and none before the first.
     fn begun_row(&self, moves: &[Move], at: usize) -> Result<Vec<Transition>, AllocError>
         requires found { IsFound self.now }
         requires at { 0 < at → at < length moves.now }

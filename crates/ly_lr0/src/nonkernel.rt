@@ -1,5 +1,5 @@
-//! The items that a kernel closes to but its own, the nonkernel items (Aho, Sethi and Ullman 1986, 4.7). States that come
-//! one behind the other often have the same, so what these move to is listed once.
+//! The items that a kernel closes to but its own, the nonkernel items (Aho, Sethi and Ullman 1986, 4.7). States that
+//! come one behind the other often have the same, so what these move to is listed once.
 ghost use Rattle.std.specs.Prelude.{◌<◌, ℕ, [], Contains, length, OnOk};
 ghost use Rattle.ly_join.specs.Grammar.{Grammar};
 ghost use Rattle.ly_lr0.specs.Private.Closing.{AreByLeft};

@@ -23,10 +23,12 @@ loop-item-preserved c =
     let k = c.loop-item.item-index in
     let more = take_more items k (record { rule = 0; dot = 0 }) c.loop-item-test.true in
     elim c.if-is_none.branch [
-      | then-is_none+in_ok-push w ↦ rules_more G c.args.known.now (take k items) _ _ c.loop-item.rules.items c.if-is_none.rules.items
+      | then-is_none+in_ok-push w ↦ rules_more G c.args.known.now (take k items) _ _ c.loop-item.rules.items
+          c.if-is_none.rules.items
           c.loop-item.invariant more (end_of G _ c.move_of.result c.move_of.ensures.behind c.is_none.result
           c.is_none.ensures w.if-is_none.true) (ap (λ v. v.items) w.rules-is ∙ w.in_ok-push.ensures.items)
-      | else-is_none w ↦ rules_same G c.args.known.now (take k items) _ _ c.loop-item.rules.items c.if-is_none.rules.items
+      | else-is_none w ↦ rules_same G c.args.known.now (take k items) _ _ c.loop-item.rules.items
+          c.if-is_none.rules.items
           c.loop-item.invariant more (not_end G _ c.move_of.result c.move_of.ensures.behind c.is_none.result
           c.is_none.ensures w.if-is_none.false) (ap (λ v. v.items) w.rules-is)
     ]

@@ -27,16 +27,19 @@ loop-item-preserved c =
     let k = c.loop-item.item-index in
     let more = take_more items k (record { rule = 0; dot = 0 }) c.loop-item-test.true in
     elim c.match-move_of.branch [
-      | in-Some+then-not-is_end+in_ok-push-2 w ↦ moves_more G c.args.known.now (take k items) _ _ c.loop-item.moves.items
-          c.match-move_of.moves.items c.loop-item.invariant more w.in-Some.step w.in-Some.ensures.behind
+      | in-Some+then-not-is_end+in_ok-push-2 w ↦ moves_more G c.args.known.now (take k items) _ _
+          c.loop-item.moves.items c.match-move_of.moves.items c.loop-item.invariant more w.in-Some.step
+          w.in-Some.ensures.behind
           (λ e. let on : w.is_end.result ≡ true = w.is_end.ensures.1 e in let off = w.if-not-is_end.true in absurd (cc))
           (ap (λ v. v.items) w.moves-is ∙ w.in_ok-push-2.ensures.items)
-      | in-Some+else-not-is_end w ↦ moves_same G c.args.known.now (take k items) _ _ c.loop-item.moves.items c.match-move_of.moves.items
+      | in-Some+else-not-is_end w ↦ moves_same G c.args.known.now (take k items) _ _ c.loop-item.moves.items
+          c.match-move_of.moves.items
           c.loop-item.invariant more
           (λ m h o. o (behind_one G _ _ _ _ h.behind w.in-Some.ensures.behind.behind
           ∙ w.is_end.ensures.0 (let off = w.if-not-is_end.false in cc)))
           (ap (λ v. v.items) w.moves-is)
-      | in_default w ↦ moves_same G c.args.known.now (take k items) _ _ c.loop-item.moves.items c.match-move_of.moves.items
+      | in_default w ↦ moves_same G c.args.known.now (take k items) _ _ c.loop-item.moves.items
+          c.match-move_of.moves.items
           c.loop-item.invariant more (λ m h o. end_off G _ _ w.in_default.ensures.behind h.behind)
           (ap (λ v. v.items) w.moves-is)
     ]

@@ -38,7 +38,8 @@ returns c =
       of_these = c.in_ok-extend_from_slice.ensures.items ∙ ap (λ es. es ++ c.args.entered.now) c.clear.ensures.items;
       items = λ i.
           let listed = c.in_ok-list_items.ensures i in
-          let same = nonkernel_listed G c.args.by_left.now c.args.entered.now c.requires.by_left c.requires.within i in (
+          let same = nonkernel_listed G c.args.by_left.now c.args.entered.now c.requires.by_left c.requires.within i
+          in (
             λ h. same.0 (listed.0 h),
             λ h. listed.1 (same.1 h),
           );
