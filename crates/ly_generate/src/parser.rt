@@ -1,4 +1,4 @@
-ghost use Rattle.std.specs.Prelude.{IfErr, IfOk};
+ghost use Rattle.std.specs.Prelude.{◌↔◌, IfErr, IfOk, IsTrue};
 ghost use Rattle.ly_base.specs.Limits.{least_of, sizes_in, Sizes};
 ghost use Rattle.ly_base.specs.declared.version.Version.TheVariants.{V2};
 ghost use Rattle.ly_emit.specs.Tables.{AreShapesWithin, IsMachineOf};
@@ -6,9 +6,11 @@ ghost use Rattle.ly_grammar.specs.Reduction.{KeepsUseful};
 ghost use Rattle.ly_join.specs.Joined as joined;
 ghost use Rattle.ly_lr0.specs.Automaton as parser;
 ghost use Rattle.ly_pack.specs.Steady.{IsSteady};
+ghost use Rattle.ly_resolve.specs.Actions.{IsConflictFree};
 ghost use Rattle.ly_resolve.specs.Resolved.{AreResolved};
 ghost use Rattle.ly_generate.specs.Accepted.{IsRefusedFor, IsUnfitFor, Specifies};
 ghost use Rattle.ly_generate.specs.Parser.{IsParserOf, IsReportIf};
+ghost use Rattle.ly_generate.specs.Private.Settled.{IsParserOver};
 
 use crate::gen_fault::GenFault;
 use crate::report::Report;
@@ -53,12 +55,44 @@ pub fn parser_of(
 {
     let reduced = reduce(alloc, spec.grammar())?;
     let lr0 = automaton(alloc, &reduced, limits)?;
-    let resolved = settle(alloc, spec, &lr0)?;
-    let machine = steady_tables(alloc, &resolved)?;
-    let report = report_if(alloc, &resolved, report)?;
+    parser_over(alloc, spec, &lr0, report)
+}
+
+/// The parser of a specification over its automaton.
+fn parser_over(
+    alloc: Global,
+    spec: &Spec,
+    lr0: &Lr0<'_>,
+    report: Report,
+) -> Result<SpecParser, GenFault>
+    requires shapes { AreShapesWithin spec.now }
+    requires lawful { parser.IsLr0Automaton lr0.now }
+    requires useful { KeepsUseful spec.now.grammar lr0.now.grammar }
+    ensures parser { IfOk result (IsParserOver spec.now lr0.now report) }
+    ensures unfit { IfErr result (λ fault. (limits : Sizes) → IsUnfitFor limits spec.now fault) }
+{
+    let resolved = settle(alloc, spec, lr0)?;
+    parser_by(alloc, &resolved, report)
+}
+
+/// The parser that does what is settled.
+fn parser_by(
+    alloc: Global,
+    resolved: &Resolved<'_>,
+    report: Report,
+) -> Result<SpecParser, GenFault>
+    requires shapes { AreShapesWithin resolved.now.spec }
+    requires lawful { parser.IsLr0Automaton resolved.now.automaton }
+    requires useful { KeepsUseful resolved.now.spec.grammar resolved.now.automaton.grammar }
+    requires free { IsTrue resolved.now.conflict_free ↔ IsConflictFree resolved.now.automaton.grammar }
+    ensures parser { IfOk result (IsParserOver resolved.now.spec resolved.now.automaton report) }
+    ensures unfit { IfErr result (λ fault. (limits : Sizes) → IsUnfitFor limits resolved.now.spec fault) }
+{
+    let machine = steady_tables(alloc, resolved)?;
+    let report = report_if(alloc, resolved, report)?;
     Ok(SpecParser {
         machine,
-        conflicts: ConflictCounts::of(&resolved),
+        conflicts: ConflictCounts::of(resolved),
         conflict_free: resolved.conflict_free(),
         report,
     })
