@@ -49,7 +49,9 @@ pub fn answer<R: Source, W: Sink>(
     ensures untouched { IfErr result (λ e. IsBeforeWriting e → writer.new ≡ writer.old) }
 {
     let generated = generated(alloc, lex, yacc, &Limits::V2, Version::V2, Report::Unwanted)?;
-    match run(alloc, &generated.set, reader, writer) {
+    let answered = run(alloc, &generated.set, reader, writer);
+    drop(generated);
+    match answered {
         Ok(outcome) => Ok(outcome),
         Err(DriveFault::TooLong) => Err(AnswerFault::TooLong),
         Err(DriveFault::Read) => Err(AnswerFault::Read),

@@ -42,7 +42,9 @@ pub fn generate(
     ensures refused { IfErr result (IsRefusedFor (least_of limits.now (sizes_in version)) lex.now yacc.now) }
 {
     let generated = generated(alloc, lex, yacc, limits, version, Report::Unwanted)?;
-    Ok(written(alloc, &generated.set, version)?)
+    let tables = written(alloc, &generated.set, version);
+    drop(generated);
+    Ok(tables?)
 }
 
 /// The table file of a lex file and a yacc file, as `generate` gives it; how many conflicts there are; and their
@@ -64,8 +66,10 @@ pub fn build(
     ensures refused { IfErr result (IsRefusedFor (least_of limits.now (sizes_in version)) lex.now yacc.now) }
 {
     let generated = generated(alloc, lex, yacc, limits, version, report)?;
+    let tables = written(alloc, &generated.set, version);
+    drop(generated.set);
     Ok(Built {
-        tables: written(alloc, &generated.set, version)?,
+        tables: tables?,
         conflicts: generated.conflicts,
         report: generated.report,
     })
