@@ -48,7 +48,9 @@ pub fn drive<R: Source, W: Sink>(
 {
     a_file_has_one_set();
     let (set, _version) = read_tables(alloc, tables)?;
-    run(alloc, &set, reader, writer)
+    let answered = run(alloc, &set, reader, writer);
+    drop(set);
+    answered
 }
 
 /// How many bytes are asked for at a time.
@@ -80,9 +82,11 @@ pub fn run<R: Source, W: Sink>(
     ensures writer_held { OnOk result (W.failures writer.new ≡ W.failures writer.old) }
     ensures untouched { IfErr result (λ e. IsBeforeWriting e → writer.new ≡ writer.old) }
 {
-    let mut feed = Feed::new(alloc, set)?;
     let mut room = vec![in alloc; 0u8; PIECE]?;
-    feed_all(&mut feed, &mut room, reader, writer)
+    let mut feed = Feed::new(alloc, set)?;
+    let answered = feed_all(&mut feed, &mut room, reader, writer);
+    drop(feed);
+    answered
 }
 
 /// Feeds a feed to which nothing has come with what a reader gives, so much at a time as there is room for, until the

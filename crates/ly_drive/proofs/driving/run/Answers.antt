@@ -6,12 +6,12 @@ use Rattle.ly_drive.proofs.driving.run.Goals as goal
 pub returns-clause-beginning : goal.returns-clause-beginning
 returns-clause-beginning g c written is =
     subst (λ s. IsBegunBy s (g.R.Source.remaining c.args.reader.now) (g.W.Sink.contents c.args.writer.now)
-    (g.W.Sink.contents c.feed_all.new.writer) written) (ap (λ f. f.set) c.in_ok-feed.ensures)
-    (c.feed_all.ensures.beginning written is)
+    (g.W.Sink.contents c.feed_all-answered.new.writer) written) (ap (λ f. f.set) c.in_ok-feed.ensures)
+    (c.feed_all-answered.ensures.beginning written is)
 
 pub returns-clause-faulty : goal.returns-clause-faulty
 returns-clause-faulty g c is = subst (λ s. IsFaultyOn s (g.R.Source.remaining c.args.reader.now))
-    (ap (λ f. f.set) c.in_ok-feed.ensures) (c.feed_all.ensures.faulty is)
+    (ap (λ f. f.set) c.in_ok-feed.ensures) (c.feed_all-answered.ensures.faulty is)
 
 pub returns-in_err-feed-clause-needed : goal.returns-in_err-feed-clause-needed
 returns-in_err-feed-clause-needed g c not =
@@ -24,9 +24,9 @@ returns-in_err-room-clause-needed g c not =
 pub returns-clause-needed : goal.returns-clause-needed
 returns-clause-needed g c not =
     let before = g.R.Source.remaining c.args.reader.now in
-    let after = g.R.Source.remaining c.feed_all.new.reader in
+    let after = g.R.Source.remaining c.feed_all-answered.new.reader in
     let room = length c.deref_mut.result.now in
     let size : room ≡ 4096 = omega (arith, c.deref_mut.ensures.len, c.in_ok-room.ensures.len) in
     subst (λ n. IsReadAsNeeded n c.args.set.now before after) size
     (subst (λ s. IsReadAsNeeded room s before after) (ap (λ f. f.set) c.in_ok-feed.ensures)
-    (c.feed_all.ensures.needed not))
+    (c.feed_all-answered.ensures.needed not))
