@@ -56,7 +56,11 @@ pub fn generated(
     let dfa = minimise(alloc, given.subsets)?;
     // by its contract each state has a row
     let _states = dfa.len();
-    made_of(alloc, &given.file, &given.spec, &dfa, &limits, report)
+    let made = made_of(alloc, &given.file, &given.spec, &dfa, &limits, report);
+    drop(dfa);
+    drop(given.spec);
+    drop(given.file);
+    made
 }
 
 /// What is made of a specification and of the smallest automaton of its scanner.

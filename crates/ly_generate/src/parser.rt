@@ -76,11 +76,7 @@ fn parser_over(
 }
 
 /// The parser that does what is settled.
-fn parser_by(
-    alloc: Global,
-    resolved: &Resolved<'_>,
-    report: Report,
-) -> Result<SpecParser, GenFault>
+fn parser_by(alloc: Global, resolved: &Resolved<'_>, report: Report) -> Result<SpecParser, GenFault>
     requires shapes { AreShapesWithin resolved.now.spec }
     requires lawful { parser.IsLr0Automaton resolved.now.automaton }
     requires useful { KeepsUseful resolved.now.spec.grammar resolved.now.automaton.grammar }

@@ -40,7 +40,9 @@ pub fn read_specification(
 {
     let file = read_lex(alloc, lex, limits)?;
     let yacc = read_yacc(alloc, yacc)?;
-    let spec = join(alloc, &file, &yacc, limits)?;
+    let joined = join(alloc, &file, &yacc, limits);
+    drop(yacc);
+    let spec = joined?;
     let subsets = subset_scanner(alloc, &file, limits)?;
     Ok(Specification {
         file,
