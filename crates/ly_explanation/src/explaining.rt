@@ -1,9 +1,11 @@
 ghost use Rattle.std.specs.Prelude.{◌≡◌, IfErr, IfOk, true};
-ghost use Rattle.ly_base.specs.Limits.{least_of, sizes_in};
+ghost use Rattle.ly_base.specs.Limits.{least_of, sizes_in, Sizes};
 ghost use Rattle.ly_base.specs.declared.version.Version.TheVariants.{V2};
 ghost use Rattle.ly_emit.specs.Tables.{AreShapesWithin};
-ghost use Rattle.ly_generate.specs.Accepted.{IsFit, IsRefusedFor, IsUnfitFor};
+ghost use Rattle.ly_generate.specs.Accepted.{HasSteadyTables, IsFit, IsRefusedFor, IsUnfitFor};
+ghost use Rattle.ly_grammar.specs.Reduction.{KeepsUseful};
 ghost use Rattle.ly_join.specs.Grammar.{Grammar};
+ghost use Rattle.ly_lr0.specs.Automaton as parser;
 ghost use Rattle.ly_subset.specs.Automaton.{IsBreadthFirst};
 ghost use Rattle.ly_explanation.specs.Explained.{IsExplained, IsWellFormed};
 
@@ -13,7 +15,7 @@ use ly_generate::{GenFault, Specification, read_specification, settle, steady_ta
 use ly_grammar::reduce;
 use ly_join::Spec;
 use ly_lexread::LexFile;
-use ly_lr0::automaton;
+use ly_lr0::{Lr0, automaton};
 use ly_minim::minimise;
 use ly_page::{Named, Page};
 use ly_resolve::Resolved;
@@ -92,7 +94,11 @@ fn of_accepted(
         spec: &spec,
         dfa: &dfa,
     };
-    of_read(alloc, read, limits, wish)
+    let said = of_read(alloc, read, limits, wish);
+    drop(dfa);
+    drop(spec);
+    drop(file);
+    said
 }
 
 /// What is said of two files that say a specification; a fault where no tables are made of it.
@@ -110,9 +116,30 @@ fn of_read(
 {
     let reduced = reduce(alloc, read.spec.grammar())?;
     let lr0 = automaton(alloc, &reduced, limits)?;
-    let resolved = settle(alloc, read.spec, &lr0)?;
+    of_automaton(alloc, read, &lr0, wish)
+}
+
+/// What is said of two files that have an automaton; a fault where no tables are made of it.
+fn of_automaton(
+    alloc: Global,
+    read: Read<'_>,
+    lr0: &Lr0<'_>,
+    wish: Wish,
+) -> Result<Explanation, GenFault>
+    requires shapes { AreShapesWithin read.spec.now }
+    requires order { IsBreadthFirst read.dfa.now }
+    requires lawful { parser.IsLr0Automaton lr0.now }
+    requires useful { KeepsUseful read.spec.now.grammar lr0.now.grammar }
+    ensures accepted { IfOk result (λ e. e.accepted ≡ true) }
+    ensures steady { IfOk result (λ _. HasSteadyTables read.entry.spec.now lr0.now.grammar) }
+    ensures unfit { IfErr result (λ fault. (limits : Sizes) → IsUnfitFor limits read.entry.spec.now fault) }
+{
+    let resolved = settle(alloc, read.spec, lr0)?;
     let tables = steady_tables(alloc, &resolved)?;
-    Ok(told(alloc, read, &resolved, &tables, wish)?)
+    let told = told(alloc, read, &resolved, &tables, wish);
+    drop(tables);
+    drop(resolved);
+    Ok(told?)
 }
 
 /// What is said of two files that are accepted.

@@ -5,8 +5,8 @@ use Rattle.ly_generate.proofs.GenFaultLemmas.{err_weaker, ok_weaker, unfit_refus
 use Rattle.ly_generate.specs.declared.gen_fault.GenFault.TheVariants.{OutOfMemory}
 use Rattle.ly_explanation.proofs.explaining.of_accepted.Goals as goal
 
-pub of_read-requires-clause-shapes : goal.of_read-requires-clause-shapes
-of_read-requires-clause-shapes c =
+pub of_read-said-requires-clause-shapes : goal.of_read-said-requires-clause-shapes
+of_read-said-requires-clause-shapes c =
     let says = c.in_ok-given.ensures.says.specifies in
     shapes_are_within c.args.yacc.bytes.now (scanning_of says.file) says.written c.in_ok-given.given.spec says.yacc_text
     says.joined
@@ -16,20 +16,20 @@ returns-in_err-dfa-clause-refused c = when_same c.from_residual-in_err-dfa.resul
     (IsRefusedFor _ c.args.lex.bytes.now c.args.yacc.bytes.now) c.from_residual-in_err-dfa.ensures.1 tt
 
 pub returns-clause-formed : goal.returns-clause-formed
-returns-clause-formed c = ok_weaker c.of_read.result _ _
+returns-clause-formed c = ok_weaker c.of_read-said.result _ _
     (λ e fit. record {
       spec = c.in_ok-given.given.spec;
       specifies = c.in_ok-given.ensures.says.specifies;
       useful = fit.0;
       fit = fit.1;
     })
-    c.of_read.ensures.fit
+    c.of_read-said.ensures.fit
 
 pub returns-clause-refused : goal.returns-clause-refused
 returns-clause-refused c =
     let limits = c.args.limits.now in
     let spec = c.in_ok-given.given.spec in
-    err_weaker c.of_read.result (IsUnfitFor limits spec)
+    err_weaker c.of_read-said.result (IsUnfitFor limits spec)
     (IsRefusedFor limits c.args.lex.bytes.now c.args.yacc.bytes.now)
     (λ fault unfit. unfit_refused limits c.args.lex.bytes.now c.args.yacc.bytes.now spec
-    c.in_ok-given.ensures.says.specifies fault unfit) c.of_read.ensures.unfit
+    c.in_ok-given.ensures.says.specifies fault unfit) c.of_read-said.ensures.unfit
