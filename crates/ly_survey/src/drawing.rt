@@ -62,15 +62,7 @@ impl<'a> Drawing<'a> {
         terminal: Sym,
     ) -> Result<Drawing<'a>, OutOfMemory> {
         let mut cores = Vec::new(alloc);
-        let mut state = StateNo(0);
-        cores.push(core_of(alloc, lr0, state)?)?;
-        for symbol in string {
-            let Some(next) = goto_of(lr0, state, *symbol) else {
-                break;
-            };
-            state = next;
-            cores.push(core_of(alloc, lr0, state)?)?;
-        }
+        push_cores(alloc, lr0, string, &mut cores)?;
         Ok(Drawing {
             lr0,
             string,
@@ -255,6 +247,25 @@ impl Claimed {
     }
 }
 
+/// Adds the cores of the states to which the beginnings of a string lead, up to where it leads nowhere.
+fn push_cores(
+    alloc: Global,
+    lr0: &Lr0<'_>,
+    string: &[Symbol],
+    cores: &mut Vec<Vec<Item>>,
+) -> Result<(), OutOfMemory> {
+    let mut state = StateNo(0);
+    cores.push(core_of(alloc, lr0, state)?)?;
+    for symbol in string {
+        let Some(next) = goto_of(lr0, state, *symbol) else {
+            break;
+        };
+        state = next;
+        cores.push(core_of(alloc, lr0, state)?)?;
+    }
+    Ok(())
+}
+
 /// The items of a state; none of a number that no state has.
 pub(crate) fn core_of(
     alloc: Global,
@@ -375,24 +386,22 @@ pub(crate) fn say_way(
 /// Says what stands behind the dots of the rules under way, the inmost one first. In each but that one the symbol
 /// behind the dot is the rule within. Of rule 0 nothing is said.
 fn say_rests(page: &mut Page, spec: &Spec, open: &[Item]) {
-    let mut inmost = true;
-    for (place, item) in open.iter().enumerate().rev() {
-        let passed = if inmost {
-            item.dot
-        } else {
-            item.dot.saturating_add(1)
-        };
-        inmost = false;
-        if let (Some(rule), true) = (spec.grammar().rules().get(item.rule), item.rule > 0) {
-            for symbol in rule.body().iter().skip(passed) {
-                page.say(b" ");
-                page.say_symbol(spec, *symbol);
-            }
-        }
-        let around = place.checked_sub(1).and_then(|around| open.get(around));
-        if around.is_some_and(|around| is_bracketed_in(spec, *around)) {
+    let Some((inmost, outer)) = open.split_last() else {
+        return;
+    };
+    say_rest(page, spec, inmost.rule, inmost.dot);
+    for item in outer.iter().rev() {
+        if is_bracketed_in(spec, *item) {
             page.say(b"]");
         }
+        say_rest(page, spec, item.rule, item.dot.saturating_add(1));
+    }
+}
+
+/// Says what stands behind so many symbols of a rule's body. Of rule 0 nothing is said.
+fn say_rest(page: &mut Page, spec: &Spec, rule: usize, passed: usize) {
+    if let (Some(it), true) = (spec.grammar().rules().get(rule), rule > 0) {
+        page.say_symbols(spec, it.body().get(passed..).unwrap_or_default());
     }
 }
 

@@ -46,21 +46,25 @@ fn bytes_of_class(alloc: Global, dfa: &Dfa, class: usize) -> Result<Vec<bool>, A
 
 /// Says the bytes that are marked, those that follow one another together.
 fn say_bytes(page: &mut Page, marks: &[bool]) {
-    let is_marked = |byte: Option<u8>| {
-        byte.is_some_and(|byte| marks.get(usize::from(byte)) == Some(&true))
-    };
     for byte in 0..=255u8 {
-        if !is_marked(Some(byte)) {
+        if !is_marked(marks, Some(byte)) {
             continue;
         }
-        let goes_on = is_marked(byte.checked_sub(1));
-        if !goes_on {
+        if !is_marked(marks, byte.checked_sub(1)) {
             page.say(b" ");
             page.say_byte(byte);
-        } else if !is_marked(byte.checked_add(1)) {
+        } else if !is_marked(marks, byte.checked_add(1)) {
             page.say(b"-");
             page.say_byte(byte);
         }
+    }
+}
+
+/// Whether a byte is marked, if there is one.
+fn is_marked(marks: &[bool], byte: Option<u8>) -> bool {
+    match byte {
+        Some(byte) => marks.get(usize::from(byte)) == Some(&true),
+        None => false,
     }
 }
 
@@ -88,17 +92,19 @@ pub(crate) fn say_other_bytes(
 fn other_bytes(alloc: Global, dfa: &Dfa, condition: u32) -> Result<Vec<bool>, AllocError> {
     let mut others = Vec::new(alloc);
     for byte in 0..=255u8 {
-        others.push(!begins(dfa, condition, byte))?;
+        let begins = begins(dfa, condition, false, byte) || begins(dfa, condition, true, byte);
+        others.push(!begins)?;
     }
     Ok(others)
 }
 
 /// Whether a match may begin with a byte in a condition, where a line begins or elsewhere.
-fn begins(dfa: &Dfa, condition: u32, byte: u8) -> bool {
+fn begins(dfa: &Dfa, condition: u32, line: bool, byte: u8) -> bool {
     let class = usize::from(dfa.class(byte));
-    [false, true].iter().any(|line| dfa
-        .start(condition, *line)
-        .is_some_and(|state| dfa.next(state, class).is_some()))
+    match dfa.start(condition, line) {
+        Some(state) => dfa.next(state, class).is_some(),
+        None => false,
+    }
 }
 
 /// Says the name of a condition, or its number where that isn't known.
