@@ -4,7 +4,7 @@ ghost use Rattle.std.specs.Prelude.{◌≡◌};
 use crate::ambiguity::{Ambiguity, Finder};
 use crate::decided::precedence_of;
 use crate::drawing::{Drawing, behind_dot, core_of, say_way};
-use crate::surveying::Accepted;
+use crate::surveying::{Accepted, say_numbered};
 use crate::trees::say_ambiguity;
 use crate::yields::Yields;
 use ly_base::{OutOfMemory, Sym};
@@ -164,9 +164,7 @@ impl<'a> Teller<'a> {
             }
         }
         if group.len() > NAMED {
-            page.say(b" and ");
-            page.say_number((group.len() - NAMED) as u64);
-            page.say(b" more");
+            say_numbered(page, b" and ", (group.len() - NAMED) as u64, b" more");
         }
     }
 
@@ -175,15 +173,11 @@ impl<'a> Teller<'a> {
         match conflict.choice {
             Action::Shift => page.say(b": the shift is taken"),
             Action::Reduce(rule) => {
-                page.say(b": rule ");
-                page.say_number(rule as u64);
-                page.say(b" is taken");
+                say_numbered(page, b": rule ", rule as u64, b" is taken");
             }
             Action::Error => page.say(b": nothing is taken"),
         }
-        page.say(b", rule ");
-        page.say_number(conflict.rule as u64);
-        page.say(b" is not.\n");
+        say_numbered(page, b", rule ", conflict.rule as u64, b" is not.\n");
     }
 
     /// Says why precedence doesn't settle a shift against a reduction, of which there are so many that are alike.
@@ -364,9 +358,7 @@ fn say_label(page: &mut Page, rule: usize) {
 fn say_unranked(page: &mut Page, spec: &Spec, conflict: &Conflict, alike: usize) {
     let of_terminal = spec.precedences().get(conflict.terminal.0 as usize);
     if alike == 1 && !matches!(of_terminal, Some(Some(_))) {
-        page.say(b"    Neither rule ");
-        page.say_number(conflict.rule as u64);
-        page.say(b" nor ");
+        say_numbered(page, b"    Neither rule ", conflict.rule as u64, b" nor ");
         page.say_terminal(spec, conflict.terminal);
         page.say(b" has a precedence.\n");
     } else {

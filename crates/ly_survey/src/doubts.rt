@@ -5,7 +5,7 @@ use crate::decided::Decided;
 use crate::patterns::{Surprise, surprises};
 use crate::places::Places;
 use crate::scanner::say_other_bytes;
-use crate::surveying::Accepted;
+use crate::surveying::{Accepted, say_numbered};
 use ly_base::{OutOfMemory, Sym};
 use ly_explain::{unmatched_rules, unreduced_rules, unreturned_terminals, unused_terminals};
 use ly_join::Spec;
@@ -191,6 +191,13 @@ impl Teller<'_> {
     /// Says which precedences decide nothing: those of terminals, and those that a `%prec` gives.
     fn say_undecided(&self, alloc: Global, page: &mut Page) -> Result<(), OutOfMemory> {
         let decided = Decided::of(alloc, self.files.resolved)?;
+        self.say_undecided_terminals(page, &decided);
+        self.say_undecided_rules(page, &decided);
+        Ok(())
+    }
+
+    /// Says which precedences of terminals decide nothing.
+    fn say_undecided_terminals(&self, page: &mut Page, decided: &Decided) {
         let spec = self.spec();
         let mut said = 0;
         for number in 0..spec.grammar().terminals() {
@@ -203,6 +210,10 @@ impl Teller<'_> {
                 said = said.saturating_add(1);
             }
         }
+    }
+
+    /// Says which rules have a `%prec` that decides nothing.
+    fn say_undecided_rules(&self, page: &mut Page, decided: &Decided) {
         for rule in self.places.ranked_rules().iter().take(MOST) {
             if !decided.by_rule(*rule) {
                 page.say_line_of(self.files.yacc, self.places.line_of_rule(*rule));
@@ -211,7 +222,6 @@ impl Teller<'_> {
                 page.say(b" decides nothing\n");
             }
         }
-        Ok(())
     }
 
     /// Whether a terminal stands behind a `%prec`.
@@ -224,9 +234,7 @@ impl Teller<'_> {
     fn say_more(&self, page: &mut Page, count: usize, so: &[u8]) {
         if count > MOST {
             page.say(self.files.yacc.name.as_bytes());
-            page.say(b": ");
-            page.say_number((count - MOST) as u64);
-            page.say(b" terminals more ");
+            say_numbered(page, b": ", (count - MOST) as u64, b" terminals more ");
             page.say(so);
         }
     }

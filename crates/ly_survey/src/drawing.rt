@@ -78,16 +78,26 @@ impl<'a> Drawing<'a> {
             found: IndexMap::new(alloc),
             opened: IndexSet::new(alloc),
         };
-        let first = Claimed {
+        let last = Claimed {
             length: self.string.len(),
             claim: last,
         };
-        search.found.insert(first, 0)?;
+        self.way_to(alloc, &mut search, last)
+    }
+
+    /// The way to a claim, found by a search that has looked at nothing.
+    fn way_to(
+        &self,
+        alloc: Global,
+        search: &mut Search,
+        last: Claimed,
+    ) -> Result<Vec<Item>, OutOfMemory> {
+        search.found.insert(last, 0)?;
         for place in 0..MOST {
             let Some(claimed) = search.claimed(place) else {
                 break;
             };
-            if self.reaches_start(alloc, &mut search, claimed, place)? {
+            if self.reaches_start(alloc, search, claimed, place)? {
                 return search.way_back(alloc);
             }
         }
@@ -361,17 +371,12 @@ pub(crate) fn say_way(
     for item in way {
         match open.last_mut() {
             Some(top) if item.dot > 0 => {
-                if let Some(symbol) = symbol_at(spec, *top) {
-                    page.say(if opened { b"" } else { b" " });
-                    page.say_symbol(spec, symbol);
-                    opened = false;
-                }
+                opened = say_passed(page, spec, *top, opened);
                 *top = *item;
             }
             top => {
-                if top.is_some_and(|top| is_bracketed_in(spec, *top)) {
-                    page.say(if opened { b"[" } else { b" [" });
-                    opened = true;
+                if let Some(top) = top {
+                    opened = say_bracket(page, spec, *top, opened);
                 }
                 open.push(*item)?;
             }
@@ -381,6 +386,27 @@ pub(crate) fn say_way(
     say_rests(page, spec, &open);
     page.say(b"\n");
     Ok(())
+}
+
+/// Says the symbol behind an item's dot, if there is one. Answers whether a bracket was said last, as it is told.
+fn say_passed(page: &mut Page, spec: &Spec, item: Item, opened: bool) -> bool {
+    match symbol_at(spec, item) {
+        Some(symbol) => {
+            page.say(if opened { b"" } else { b" " });
+            page.say_symbol(spec, symbol);
+            false
+        }
+        None => opened,
+    }
+}
+
+/// Says the bracket around what stands behind an item's dot, if it gets one. Answers whether a bracket was said last.
+fn say_bracket(page: &mut Page, spec: &Spec, item: Item, opened: bool) -> bool {
+    if is_bracketed_in(spec, item) {
+        page.say(if opened { b"[" } else { b" [" });
+        return true;
+    }
+    opened
 }
 
 /// Says what stands behind the dots of the rules under way, the inmost one first. In each but that one the symbol

@@ -1,7 +1,7 @@
 //! The states of the scanner: which bytes it tells apart, where each condition begins, and where each state leads.
 ghost use Rattle.std.specs.Prelude.{◌<◌, length};
 
-use crate::surveying::Accepted;
+use crate::surveying::{Accepted, say_numbered};
 use ly_base::OutOfMemory;
 use ly_page::Page;
 use ly_subset::Dfa;
@@ -16,9 +16,7 @@ pub(crate) fn say_scanner(
     let dfa = files.dfa;
     page.say(b"Classes of bytes of the scanner:\n");
     for class in 0..dfa.classes() {
-        page.say(b"    ");
-        page.say_number(class as u64);
-        page.say(b" ");
+        say_numbered(page, b"    ", class as u64, b" ");
         say_bytes(page, &bytes_of_class(alloc, dfa, class)?);
         page.say(b"\n");
     }
@@ -144,22 +142,16 @@ fn say_state(page: &mut Page, files: Accepted<'_>, state: u32)
     requires { state < length files.dfa.now.rules }
 {
     let dfa = files.dfa;
-    page.say(b"\nScanner state ");
-    page.say_number(u64::from(state));
-    page.say(b"\n");
+    say_numbered(page, b"\nScanner state ", u64::from(state), b"\n");
     if let Some(rule) = dfa.rule(state) {
         let line = files.file.lines.get(rule.0 as usize).copied().unwrap_or(1);
         page.say(b"    rule of ");
         page.say(files.lex.name.as_bytes());
-        page.say(b":");
-        page.say_number(line);
-        page.say(b"\n");
+        say_numbered(page, b":", line, b"\n");
     }
     for class in 0..dfa.classes() {
         if let Some(next) = dfa.next(state, class) {
-            page.say(b"    class ");
-            page.say_number(class as u64);
-            page.say(b" to state ");
+            say_numbered(page, b"    class ", class as u64, b" to state ");
             page.say_number(u64::from(next));
             page.say(b"\n");
         }
