@@ -7,6 +7,7 @@ use ly_explain::ambiguous_sentence;
 use ly_join::{Grammar, Symbol};
 use ly_lr0::{Item, Lr0};
 use std::alloc::{AllocError, Global};
+use std::mem::swap;
 
 /// How many pairs of derivations are looked at, at most.
 const MOST: usize = 2_000;
@@ -137,22 +138,30 @@ impl<'a> Finder<'a> {
         open: &mut Vec<Item>,
         rules: &mut Vec<usize>,
     ) -> Result<(), AllocError> {
-        match open.last_mut() {
-            Some(top) if item.dot > 0 => {
-                if let Some(symbol) = behind_dot(self.lr0.reduced(), *top) {
-                    let passed = self.yields.derive(alloc, self.grammar(), &[symbol])?;
-                    rules.extend_from_slice(&passed.rules)?;
-                }
-                *top = item;
-            }
-            _ => {
-                if item.rule > 0 {
-                    rules.push(item.rule)?;
-                }
-                open.push(item)?;
-            }
+        if let (Some(top), true) = (open.last_mut(), item.dot > 0) {
+            let passed = *top;
+            *top = item;
+            return self.derive_behind(alloc, passed, rules);
         }
+        if item.rule > 0 {
+            rules.push(item.rule)?;
+        }
+        open.push(item)?;
         Ok(())
+    }
+
+    /// Adds the rules of the shortest yield of the symbol behind an item's dot.
+    fn derive_behind(
+        &self,
+        alloc: Global,
+        item: Item,
+        rules: &mut Vec<usize>,
+    ) -> Result<(), AllocError> {
+        let Some(symbol) = behind_dot(self.lr0.reduced(), item) else {
+            return Ok(());
+        };
+        let passed = self.yields.derive(alloc, self.grammar(), &[symbol])?;
+        rules.extend_from_slice(&passed.rules)
     }
 
     /// Adds what is ahead in open rules, the outmost first: of the inmost what stands behind its dot, and of each other
@@ -184,17 +193,24 @@ impl<'a> Finder<'a> {
                     _ => Course::Open,
                 });
             }
-            pair.one.ahead.pop();
-            pair.other.ahead.pop();
-            let passed = self.yielded(alloc, &[symbol])?;
-            pair.one.rules.extend_from_slice(&passed.rules)?;
-            pair.other.rules.extend_from_slice(&passed.rules)?;
+            self.pass_both(alloc, pair, symbol)?;
         }
-        Ok(if self.end(alloc, &mut pair.one)? && self.end(alloc, &mut pair.other)? {
-            Course::Ended
-        } else {
-            Course::Parted
-        })
+        let ended = self.end(alloc, &mut pair.one)? && self.end(alloc, &mut pair.other)?;
+        Ok(if ended { Course::Ended } else { Course::Parted })
+    }
+
+    /// Goes on with two derivations behind the symbol that both have ahead.
+    fn pass_both(
+        &mut self,
+        alloc: Global,
+        pair: &mut Pair,
+        symbol: Symbol,
+    ) -> Result<(), AllocError> {
+        pair.one.ahead.pop();
+        pair.other.ahead.pop();
+        let passed = self.yielded(alloc, &[symbol])?;
+        pair.one.rules.extend_from_slice(&passed.rules)?;
+        pair.other.rules.extend_from_slice(&passed.rules)
     }
 
     /// Ends a derivation without further tokens, and answers whether it can end so.
@@ -224,42 +240,41 @@ impl<'a> Finder<'a> {
         let (Some(pair), true) = (pairs.get(place), pairs.len() < MOST) else {
             return Ok(());
         };
-        let ones = self.replaced(alloc, &pair.one, &pair.other)?;
-        let others = self.replaced(alloc, &pair.other, &pair.one)?;
-        for (one, other) in ones {
-            pairs.push(Pair { one, other })?;
+        let (mut ones, mut others) = (Vec::new(alloc), Vec::new(alloc));
+        self.push_replaced(alloc, &pair.one, &pair.other, &mut ones)?;
+        self.push_replaced(alloc, &pair.other, &pair.one, &mut others)?;
+        for pair in &mut others {
+            swap(&mut pair.one, &mut pair.other);
         }
-        for (other, one) in others {
-            pairs.push(Pair { one, other })?;
-        }
-        Ok(())
+        pairs.append(&mut ones)?;
+        pairs.append(&mut others)
     }
 
-    /// What a derivation becomes where it replaces the nonterminal that is ahead, each with the one beside it.
-    fn replaced(
+    /// Adds what a derivation becomes where it replaces the nonterminal that is ahead, each with the one beside it.
+    fn push_replaced(
         &self,
         alloc: Global,
         half: &Half,
         beside: &Half,
-    ) -> Result<Vec<(Half, Half)>, AllocError> {
-        let mut found = Vec::new(alloc);
+        pairs: &mut Vec<Pair>,
+    ) -> Result<(), AllocError> {
         let Some(Symbol::Nonterminal(left)) = half.next() else {
-            return Ok(found);
+            return Ok(());
         };
         let reduced = self.lr0.reduced();
-        if left.0 > reduced.grammar().accept().0 {
-            return Ok(found);
+        if left.0 > reduced.grammar().accept().0 || half.is_long() || beside.is_long() {
+            return Ok(());
         }
         for number in self.lr0.rules_of(left) {
-            let Some(rule) = reduced.grammar().rules().get(*number) else {
-                continue;
-            };
-            if self.may_meet(rule.body(), beside) && !half.is_long() && !beside.is_long() {
-                let next = half.with_rule(alloc, *number, rule.body())?;
-                found.push((next, beside.copy(alloc)?))?;
+            if let Some(rule) = reduced.grammar().rules().get(*number) {
+                if self.may_meet(rule.body(), beside) {
+                    let one = half.with_rule(alloc, *number, rule.body())?;
+                    let other = beside.copy(alloc)?;
+                    pairs.push(Pair { one, other })?;
+                }
             }
         }
-        Ok(found)
+        Ok(())
     }
 
     /// Whether symbols may begin with the terminal that is ahead beside them, if one is.
@@ -275,13 +290,14 @@ impl<'a> Finder<'a> {
 
     /// What was found, if it is a sentence with two trees.
     fn checked(&self, alloc: Global, pair: &Pair) -> Result<Option<Ambiguity>, OutOfMemory> {
-        let one = pair.one.copy(alloc)?.rules;
-        let other = pair.other.copy(alloc)?.rules;
-        let found = ambiguous_sentence(alloc, self.grammar(), &one, &other)?;
-        Ok(found.map(|sentence| Ambiguity {
+        let (one, other) = (&pair.one.rules, &pair.other.rules);
+        let Some(sentence) = ambiguous_sentence(alloc, self.grammar(), one, other)? else {
+            return Ok(None);
+        };
+        Ok(Some(Ambiguity {
             sentence,
-            one,
-            other,
+            one: Vec::from_slice(alloc, one)?,
+            other: Vec::from_slice(alloc, other)?,
         }))
     }
 }
@@ -316,9 +332,9 @@ impl Half {
 
     /// The same derivation once more.
     fn copy(&self, alloc: Global) -> Result<Half, AllocError> {
-        let mut half = Half::new(alloc);
-        half.rules.extend_from_slice(&self.rules)?;
-        half.ahead.extend_from_slice(&self.ahead)?;
-        Ok(half)
+        Ok(Half {
+            rules: Vec::from_slice(alloc, &self.rules)?,
+            ahead: Vec::from_slice(alloc, &self.ahead)?,
+        })
     }
 }

@@ -2,12 +2,14 @@
 ghost use Rattle.std.specs.Prelude.{◌≡◌};
 
 use crate::ambiguity::{Ambiguity, Finder};
+use crate::decided::precedence_of;
 use crate::drawing::{Drawing, behind_dot, core_of, say_way};
-use crate::surveying::Accepted;
+use crate::surveying::{Accepted, say_numbered};
 use crate::trees::say_ambiguity;
 use crate::yields::Yields;
 use ly_base::{OutOfMemory, Sym};
 use ly_explain::{Claim, Example, Examples};
+use ly_grammar::Reduced;
 use ly_join::{Spec, Symbol};
 use ly_lr0::Item;
 use ly_page::Page;
@@ -162,9 +164,7 @@ impl<'a> Teller<'a> {
             }
         }
         if group.len() > NAMED {
-            page.say(b" and ");
-            page.say_number((group.len() - NAMED) as u64);
-            page.say(b" more");
+            say_numbered(page, b" and ", (group.len() - NAMED) as u64, b" more");
         }
     }
 
@@ -173,15 +173,11 @@ impl<'a> Teller<'a> {
         match conflict.choice {
             Action::Shift => page.say(b": the shift is taken"),
             Action::Reduce(rule) => {
-                page.say(b": rule ");
-                page.say_number(rule as u64);
-                page.say(b" is taken");
+                say_numbered(page, b": rule ", rule as u64, b" is taken");
             }
             Action::Error => page.say(b": nothing is taken"),
         }
-        page.say(b", rule ");
-        page.say_number(conflict.rule as u64);
-        page.say(b" is not.\n");
+        say_numbered(page, b", rule ", conflict.rule as u64, b" is not.\n");
     }
 
     /// Says why precedence doesn't settle a shift against a reduction, of which there are so many that are alike.
@@ -190,35 +186,15 @@ impl<'a> Teller<'a> {
             return;
         }
         let spec = self.spec();
-        let ranked = spec
-            .notes()
-            .get(conflict.rule)
-            .is_some_and(|note| note.precedence.is_some());
-        let of_terminal = spec.precedences().get(conflict.terminal.0 as usize);
-        if ranked && alike > 1 {
+        if precedence_of(spec, conflict.rule).is_none() {
+            say_unranked(page, spec, conflict, alike);
+        } else if alike > 1 {
             page.say(b"    These terminals have no precedence.\n");
-            return;
-        }
-        if ranked {
+        } else {
             page.say(b"    ");
             page.say_terminal(spec, conflict.terminal);
             page.say(b" has no precedence.\n");
-            return;
         }
-        let neither = alike == 1 && !matches!(of_terminal, Some(Some(_)));
-        page.say(if neither {
-            b"    Neither rule "
-        } else {
-            b"    Rule "
-        });
-        page.say_number(conflict.rule as u64);
-        if neither {
-            page.say(b" nor ");
-            page.say_terminal(spec, conflict.terminal);
-            page.say(b" has a precedence.\n");
-            return;
-        }
-        page.say(b" has no precedence.\n");
     }
 
     /// Says an example of the first of the conflicts at these places, or that there is none.
@@ -267,8 +243,7 @@ impl<'a> Teller<'a> {
         page.say(b" . ");
         page.say_terminal(spec, conflict.terminal);
         page.say(b"\n");
-        let mut symbols = string.iter();
-        if symbols.any(|symbol| matches!(symbol, Symbol::Nonterminal(_))) {
+        if has_nonterminal(string) {
             page.say(b"    tokens: ");
             self.yields.say(alloc, page, spec, string)?;
             page.say(b" . ");
@@ -348,13 +323,28 @@ impl<'a> Teller<'a> {
         }
         let lr0 = self.resolved().lr0();
         let core = core_of(alloc, lr0, conflict.state)?;
-        let shifted = core.iter().find(|item| behind_dot(lr0.reduced(), **item)
-            == Some(Symbol::Terminal(conflict.terminal)));
-        Ok(match shifted {
-            Some(item) => Claim::InCore(*item),
-            None => Claim::Settled,
-        })
+        Ok(shift(lr0.reduced(), &core, conflict.terminal))
     }
+}
+
+/// What is claimed where a terminal is shifted: the first of these items that has it behind its dot.
+fn shift(reduced: &Reduced<'_>, core: &[Item], terminal: Sym) -> Claim {
+    for item in core {
+        if behind_dot(reduced, *item) == Some(Symbol::Terminal(terminal)) {
+            return Claim::InCore(*item);
+        }
+    }
+    Claim::Settled
+}
+
+/// Whether a nonterminal is among symbols.
+fn has_nonterminal(symbols: &[Symbol]) -> bool {
+    for symbol in symbols {
+        if let Symbol::Nonterminal(_) = symbol {
+            return true;
+        }
+    }
+    false
 }
 
 /// Says which rule it is that a reduction is drawn of.
@@ -362,6 +352,20 @@ fn say_label(page: &mut Page, rule: usize) {
     page.say(b"    rule ");
     page.say_number(rule as u64);
     page.say(if rule < 10 { b": " } else { b":" });
+}
+
+/// Says that the rule of a conflict has no precedence, and whether the terminal has one, if it is alone.
+fn say_unranked(page: &mut Page, spec: &Spec, conflict: &Conflict, alike: usize) {
+    let of_terminal = spec.precedences().get(conflict.terminal.0 as usize);
+    if alike == 1 && !matches!(of_terminal, Some(Some(_))) {
+        say_numbered(page, b"    Neither rule ", conflict.rule as u64, b" nor ");
+        page.say_terminal(spec, conflict.terminal);
+        page.say(b" has a precedence.\n");
+    } else {
+        page.say(b"    Rule ");
+        page.say_number(conflict.rule as u64);
+        page.say(b" has no precedence.\n");
+    }
 }
 
 /// Whether the conflicts at two places belong to one group.

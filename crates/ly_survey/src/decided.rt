@@ -4,7 +4,7 @@ ghost use Rattle.ly_lookahead.specs.Lookaheads.{AreLookaheads};
 
 use crate::states::place_of;
 use ly_base::{OutOfMemory, StateNo, Sym};
-use ly_join::{Spec, Symbol};
+use ly_join::{Precedence, Spec, Symbol};
 use ly_lookahead::{Lookaheads, lookaheads};
 use ly_lr0::{Item, Lr0};
 use ly_resolve::Resolved;
@@ -25,20 +25,22 @@ impl Decided {
     /// What the precedences of a specification decide.
     pub(crate) fn of(alloc: Global, resolved: &Resolved<'_>) -> Result<Decided, OutOfMemory> {
         let (lr0, spec) = (resolved.lr0(), resolved.spec());
-        let mut levels = 0;
-        for ranked in spec.precedences() {
-            levels = ranked.map_or(levels, |it| it.level.saturating_add(1).max(levels));
-        }
         let mut decided = Decided {
             terminals: vec![in alloc; false; spec.precedences().len()]?,
             rules: vec![in alloc; false; spec.notes().len()]?,
-            levels: vec![in alloc; false; levels]?,
+            levels: vec![in alloc; false; levels_of(spec)]?,
         };
-        let sets = lookaheads(alloc, lr0)?;
-        for state in 0..lr0.states() {
-            decided.mark_state(spec, lr0, &sets, StateNo(state as u32));
-        }
+        decided.mark_all(spec, lr0, &lookaheads(alloc, lr0)?);
         Ok(decided)
+    }
+
+    /// Marks what meets in the states.
+    fn mark_all(&mut self, spec: &Spec, lr0: &Lr0<'_>, sets: &Lookaheads)
+        requires { AreLookaheads lr0.now sets.now }
+    {
+        for state in 0..lr0.states() {
+            self.mark_state(spec, lr0, sets, StateNo(state as u32));
+        }
     }
 
     /// Whether the precedence of a terminal decides something, or that of a rule that has it from the same declaration.
@@ -67,13 +69,12 @@ impl Decided {
                 None => 0,
             };
             let item = Item { rule: *rule, dot };
-            let Some(place) = place_of(lr0, sets, state, item) else {
-                continue;
-            };
-            for transition in lr0.transitions(state) {
-                if let Symbol::Terminal(terminal) = transition.symbol {
-                    if sets.contains(state, place, terminal) {
-                        self.mark_meeting(spec, terminal, *rule);
+            if let Some(place) = place_of(lr0, sets, state, item) {
+                for transition in lr0.transitions(state) {
+                    if let Symbol::Terminal(terminal) = transition.symbol {
+                        if sets.contains(state, place, terminal) {
+                            self.mark_meeting(spec, terminal, *rule);
+                        }
                     }
                 }
             }
@@ -82,14 +83,29 @@ impl Decided {
 
     /// Marks a terminal and a rule that meet, if both have a precedence.
     fn mark_meeting(&mut self, spec: &Spec, terminal: Sym, rule: usize) {
-        let of_rule = spec.notes().get(rule).and_then(|note| note.precedence);
         let of_terminal = spec.precedences().get(terminal.0 as usize);
-        if let (Some(ranked), Some(Some(_))) = (of_rule, of_terminal) {
+        if let (Some(ranked), Some(Some(_))) = (precedence_of(spec, rule), of_terminal) {
             mark(&mut self.terminals, terminal.0 as usize);
             mark(&mut self.rules, rule);
             mark(&mut self.levels, ranked.level);
         }
     }
+}
+
+/// The precedence of a rule, if it has one.
+pub(crate) fn precedence_of(spec: &Spec, rule: usize) -> Option<Precedence> {
+    spec.notes().get(rule)?.precedence
+}
+
+/// How many places the declarations of a specification's precedences have.
+fn levels_of(spec: &Spec) -> usize {
+    let mut levels = 0;
+    for ranked in spec.precedences() {
+        if let Some(ranked) = ranked {
+            levels = ranked.level.saturating_add(1).max(levels);
+        }
+    }
+    levels
 }
 
 /// Marks a number. One that has no mark is passed over.

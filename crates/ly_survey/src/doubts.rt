@@ -2,14 +2,14 @@
 ghost use Rattle.ly_subset.specs.Automaton.{IsBreadthFirst};
 
 use crate::decided::Decided;
-use crate::patterns::surprises;
+use crate::patterns::{Surprise, surprises};
 use crate::places::Places;
 use crate::scanner::say_other_bytes;
-use crate::surveying::Accepted;
+use crate::surveying::{Accepted, say_numbered};
 use ly_base::{OutOfMemory, Sym};
 use ly_explain::{unmatched_rules, unreduced_rules, unreturned_terminals, unused_terminals};
 use ly_join::Spec;
-use ly_page::Page;
+use ly_page::{Named, Page};
 use std::alloc::Global;
 
 /// How many terminals of a kind are told, at most.
@@ -86,24 +86,8 @@ impl Teller<'_> {
     /// Says what in the patterns of the lex file means something else than it may seem to.
     fn say_surprises(&self, alloc: Global, page: &mut Page) -> Result<(), OutOfMemory> {
         for line in &self.files.file.lines {
-            let Some(bytes) = self.files.lex.line(*line) else {
-                continue;
-            };
-            let found = surprises(alloc, bytes)?;
-            if let Some(letter) = found.letter {
-                page.say_line_of(self.files.lex, *line);
-                page.say(b"\\");
-                page.say(&[letter]);
-                page.say(b" is the letter ");
-                page.say(&[letter]);
-                page.say(b" in a pattern; a class of bytes is written as [[:digit:]] or [0-9]\n");
-            }
-            if found.interval {
-                page.say_line_of(self.files.lex, *line);
-                page.say(
-                    b"the interval repeats all that stands before it, not its last piece alone, as POSIX has it; ",
-                );
-                page.say(b"write parentheses around what is to be repeated\n");
+            if let Some(bytes) = self.files.lex.line(*line) {
+                say_surprise(page, self.files.lex, *line, surprises(alloc, bytes)?);
             }
         }
         Ok(())
@@ -144,24 +128,45 @@ impl Teller<'_> {
     fn say_terminals(&self, alloc: Global, page: &mut Page) -> Result<(), OutOfMemory>
         requires { IsBreadthFirst self.now.files.dfa.now }
     {
-        let mut unused = unused_terminals(alloc, self.spec())?;
-        unused.retain(|terminal| !self.gives_precedence(*terminal));
-        for terminal in unused.iter().take(MOST) {
-            self.say_terminal(page, *terminal);
-            page.say(b" stands in no rule\n");
-        }
-        self.say_more(page, unused.len(), b"stand in no rule\n");
-        let mut unreturned = unreturned_terminals(alloc, self.spec(), self.files.dfa)?;
-        unreturned.retain(|terminal| !unused.contains(terminal)
-            && !self.gives_precedence(*terminal));
-        for terminal in unreturned.iter().take(MOST) {
-            self.say_terminal(page, *terminal);
-            page.say(b" is returned by no rule of ");
-            page.say(self.files.lex.name.as_bytes());
-            page.say(b"\n");
-        }
-        self.say_more(page, unreturned.len(), b"are returned by no rule\n");
+        let unused = unused_terminals(alloc, self.spec())?;
+        self.say_unused(page, &unused);
+        let unreturned = unreturned_terminals(alloc, self.spec(), self.files.dfa)?;
+        self.say_unreturned(page, &unused, &unreturned);
         Ok(())
+    }
+
+    /// Says which of the terminals that stand in no rule's body give no rule its precedence either.
+    fn say_unused(&self, page: &mut Page, unused: &[Sym]) {
+        let mut said = 0;
+        for terminal in unused {
+            if self.gives_precedence(*terminal) {
+                continue;
+            }
+            if said < MOST {
+                self.say_terminal(page, *terminal);
+                page.say(b" stands in no rule\n");
+            }
+            said = said.saturating_add(1);
+        }
+        self.say_more(page, said, b"stand in no rule\n");
+    }
+
+    /// Says which of the terminals that no rule of the lex file returns stand in a rule.
+    fn say_unreturned(&self, page: &mut Page, unused: &[Sym], unreturned: &[Sym]) {
+        let mut said = 0;
+        for terminal in unreturned {
+            if unused.contains(terminal) || self.gives_precedence(*terminal) {
+                continue;
+            }
+            if said < MOST {
+                self.say_terminal(page, *terminal);
+                page.say(b" is returned by no rule of ");
+                page.say(self.files.lex.name.as_bytes());
+                page.say(b"\n");
+            }
+            said = said.saturating_add(1);
+        }
+        self.say_more(page, said, b"are returned by no rule\n");
     }
 
     /// Says which lines among the rules of the lex file aren't used.
@@ -186,6 +191,13 @@ impl Teller<'_> {
     /// Says which precedences decide nothing: those of terminals, and those that a `%prec` gives.
     fn say_undecided(&self, alloc: Global, page: &mut Page) -> Result<(), OutOfMemory> {
         let decided = Decided::of(alloc, self.files.resolved)?;
+        self.say_undecided_terminals(page, &decided);
+        self.say_undecided_rules(page, &decided);
+        Ok(())
+    }
+
+    /// Says which precedences of terminals decide nothing.
+    fn say_undecided_terminals(&self, page: &mut Page, decided: &Decided) {
         let spec = self.spec();
         let mut said = 0;
         for number in 0..spec.grammar().terminals() {
@@ -198,6 +210,10 @@ impl Teller<'_> {
                 said = said.saturating_add(1);
             }
         }
+    }
+
+    /// Says which rules have a `%prec` that decides nothing.
+    fn say_undecided_rules(&self, page: &mut Page, decided: &Decided) {
         for rule in self.places.ranked_rules().iter().take(MOST) {
             if !decided.by_rule(*rule) {
                 page.say_line_of(self.files.yacc, self.places.line_of_rule(*rule));
@@ -206,7 +222,6 @@ impl Teller<'_> {
                 page.say(b" decides nothing\n");
             }
         }
-        Ok(())
     }
 
     /// Whether a terminal stands behind a `%prec`.
@@ -219,10 +234,27 @@ impl Teller<'_> {
     fn say_more(&self, page: &mut Page, count: usize, so: &[u8]) {
         if count > MOST {
             page.say(self.files.yacc.name.as_bytes());
-            page.say(b": ");
-            page.say_number((count - MOST) as u64);
-            page.say(b" terminals more ");
+            say_numbered(page, b": ", (count - MOST) as u64, b" terminals more ");
             page.say(so);
         }
+    }
+}
+
+/// Says what is surprising in the pattern on a line of the lex file.
+fn say_surprise(page: &mut Page, lex: Named<'_>, line: u64, found: Surprise) {
+    if let Some(letter) = found.letter {
+        page.say_line_of(lex, line);
+        page.say(b"\\");
+        page.say(&[letter]);
+        page.say(b" is the letter ");
+        page.say(&[letter]);
+        page.say(b" in a pattern; a class of bytes is written as [[:digit:]] or [0-9]\n");
+    }
+    if found.interval {
+        page.say_line_of(lex, line);
+        page.say(
+            b"the interval repeats all that stands before it, not its last piece alone, as POSIX has it; ",
+        );
+        page.say(b"write parentheses around what is to be repeated\n");
     }
 }

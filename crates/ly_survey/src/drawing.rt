@@ -62,15 +62,7 @@ impl<'a> Drawing<'a> {
         terminal: Sym,
     ) -> Result<Drawing<'a>, OutOfMemory> {
         let mut cores = Vec::new(alloc);
-        let mut state = StateNo(0);
-        cores.push(core_of(alloc, lr0, state)?)?;
-        for symbol in string {
-            let Some(next) = goto_of(lr0, state, *symbol) else {
-                break;
-            };
-            state = next;
-            cores.push(core_of(alloc, lr0, state)?)?;
-        }
+        push_cores(alloc, lr0, string, &mut cores)?;
         Ok(Drawing {
             lr0,
             string,
@@ -86,16 +78,26 @@ impl<'a> Drawing<'a> {
             found: IndexMap::new(alloc),
             opened: IndexSet::new(alloc),
         };
-        let first = Claimed {
+        let last = Claimed {
             length: self.string.len(),
             claim: last,
         };
-        search.found.insert(first, 0)?;
+        self.way_to(alloc, &mut search, last)
+    }
+
+    /// The way to a claim, found by a search that has looked at nothing.
+    fn way_to(
+        &self,
+        alloc: Global,
+        search: &mut Search,
+        last: Claimed,
+    ) -> Result<Vec<Item>, OutOfMemory> {
+        search.found.insert(last, 0)?;
         for place in 0..MOST {
             let Some(claimed) = search.claimed(place) else {
                 break;
             };
-            if self.reaches_start(alloc, &mut search, claimed, place)? {
+            if self.reaches_start(alloc, search, claimed, place)? {
                 return search.way_back(alloc);
             }
         }
@@ -255,6 +257,25 @@ impl Claimed {
     }
 }
 
+/// Adds the cores of the states to which the beginnings of a string lead, up to where it leads nowhere.
+fn push_cores(
+    alloc: Global,
+    lr0: &Lr0<'_>,
+    string: &[Symbol],
+    cores: &mut Vec<Vec<Item>>,
+) -> Result<(), OutOfMemory> {
+    let mut state = StateNo(0);
+    cores.push(core_of(alloc, lr0, state)?)?;
+    for symbol in string {
+        let Some(next) = goto_of(lr0, state, *symbol) else {
+            break;
+        };
+        state = next;
+        cores.push(core_of(alloc, lr0, state)?)?;
+    }
+    Ok(())
+}
+
 /// The items of a state; none of a number that no state has.
 pub(crate) fn core_of(
     alloc: Global,
@@ -350,17 +371,12 @@ pub(crate) fn say_way(
     for item in way {
         match open.last_mut() {
             Some(top) if item.dot > 0 => {
-                if let Some(symbol) = symbol_at(spec, *top) {
-                    page.say(if opened { b"" } else { b" " });
-                    page.say_symbol(spec, symbol);
-                    opened = false;
-                }
+                opened = say_passed(page, spec, *top, opened);
                 *top = *item;
             }
             top => {
-                if top.is_some_and(|top| is_bracketed_in(spec, *top)) {
-                    page.say(if opened { b"[" } else { b" [" });
-                    opened = true;
+                if let Some(top) = top {
+                    opened = say_bracket(page, spec, *top, opened);
                 }
                 open.push(*item)?;
             }
@@ -372,27 +388,46 @@ pub(crate) fn say_way(
     Ok(())
 }
 
+/// Says the symbol behind an item's dot, if there is one. Answers whether a bracket was said last, as it is told.
+fn say_passed(page: &mut Page, spec: &Spec, item: Item, opened: bool) -> bool {
+    match symbol_at(spec, item) {
+        Some(symbol) => {
+            page.say(if opened { b"" } else { b" " });
+            page.say_symbol(spec, symbol);
+            false
+        }
+        None => opened,
+    }
+}
+
+/// Says the bracket around what stands behind an item's dot, if it gets one. Answers whether a bracket was said last.
+fn say_bracket(page: &mut Page, spec: &Spec, item: Item, opened: bool) -> bool {
+    if is_bracketed_in(spec, item) {
+        page.say(if opened { b"[" } else { b" [" });
+        return true;
+    }
+    opened
+}
+
 /// Says what stands behind the dots of the rules under way, the inmost one first. In each but that one the symbol
 /// behind the dot is the rule within. Of rule 0 nothing is said.
 fn say_rests(page: &mut Page, spec: &Spec, open: &[Item]) {
-    let mut inmost = true;
-    for (place, item) in open.iter().enumerate().rev() {
-        let passed = if inmost {
-            item.dot
-        } else {
-            item.dot.saturating_add(1)
-        };
-        inmost = false;
-        if let (Some(rule), true) = (spec.grammar().rules().get(item.rule), item.rule > 0) {
-            for symbol in rule.body().iter().skip(passed) {
-                page.say(b" ");
-                page.say_symbol(spec, *symbol);
-            }
-        }
-        let around = place.checked_sub(1).and_then(|around| open.get(around));
-        if around.is_some_and(|around| is_bracketed_in(spec, *around)) {
+    let Some((inmost, outer)) = open.split_last() else {
+        return;
+    };
+    say_rest(page, spec, inmost.rule, inmost.dot);
+    for item in outer.iter().rev() {
+        if is_bracketed_in(spec, *item) {
             page.say(b"]");
         }
+        say_rest(page, spec, item.rule, item.dot.saturating_add(1));
+    }
+}
+
+/// Says what stands behind so many symbols of a rule's body. Of rule 0 nothing is said.
+fn say_rest(page: &mut Page, spec: &Spec, rule: usize, passed: usize) {
+    if let (Some(it), true) = (spec.grammar().rules().get(rule), rule > 0) {
+        page.say_symbols(spec, it.body().get(passed..).unwrap_or_default());
     }
 }
 

@@ -45,17 +45,7 @@ pub(crate) fn surprises(alloc: Global, line: &[u8]) -> Result<Surprise, AllocErr
         pieces: 0,
         outer: Vec::new(alloc),
     };
-    let mut bytes = behind_conditions(line).iter().copied().peekable();
-    while let Some(byte) = bytes.next() {
-        if sketch.ends_at(byte) {
-            break;
-        }
-        if byte == b'\\' && sketch.inside != Inside::Braces {
-            sketch.escape(bytes.next());
-        } else {
-            sketch.take(byte, bytes.peek().copied())?;
-        }
-    }
+    sketch.take_pattern(behind_conditions(line))?;
     Ok(sketch.found)
 }
 
@@ -71,21 +61,39 @@ fn behind_conditions(line: &[u8]) -> &[u8] {
 }
 
 impl Sketch {
+    /// Takes the pattern at the front of bytes.
+    fn take_pattern(&mut self, bytes: &[u8]) -> Result<(), AllocError> {
+        let mut escaped = false;
+        for (place, byte) in bytes.iter().enumerate() {
+            if escaped {
+                self.escape(*byte);
+                escaped = false;
+            } else if self.ends_at(*byte) {
+                break;
+            } else if *byte == b'\\' && self.inside != Inside::Braces {
+                escaped = true;
+            } else {
+                self.take(*byte, bytes.get(place.saturating_add(1)).copied())?;
+            }
+        }
+        Ok(())
+    }
+
     /// Whether the pattern ends at a byte.
     fn ends_at(&self, byte: u8) -> bool {
         self.inside == Inside::Pattern && (byte == b' ' || byte == b'\t')
     }
 
     /// Takes what stands behind a backslash.
-    fn escape(&mut self, escaped: Option<u8>) {
+    fn escape(&mut self, escaped: u8) {
         if self.inside == Inside::Pattern {
             self.pieces = self.pieces.saturating_add(1);
         }
-        if let (Some(b'd' | b'w' | b's' | b'D' | b'W' | b'S'), true) = (
+        if let (b'd' | b'w' | b's' | b'D' | b'W' | b'S', true) = (
             escaped,
             self.inside != Inside::Quotes,
         ) {
-            self.found.letter = self.found.letter.or(escaped);
+            self.found.letter = self.found.letter.or(Some(escaped));
         }
     }
 

@@ -1,7 +1,7 @@
 //! The parser's automaton as a picture, in the language of Graphviz's `dot`.
 ghost use Rattle.std.specs.Prelude.{◌<◌, length};
 
-use crate::surveying::Accepted;
+use crate::surveying::{Accepted, say_numbered};
 use ly_base::{OutOfMemory, StateNo};
 use ly_join::{Spec, Symbol};
 use ly_lr0::{Item, Lr0};
@@ -38,9 +38,7 @@ fn say_box(
 ) -> Result<(), OutOfMemory>
     requires { state.0 < length lr0.now.states }
 {
-    page.say(b"    ");
-    page.say_number(u64::from(state.0));
-    page.say(b" [label=\"");
+    say_numbered(page, b"    ", u64::from(state.0), b" [label=\"");
     page.say_number(u64::from(state.0));
     page.say(b"\\n");
     for item in &lr0.core(alloc, state)? {
@@ -73,9 +71,7 @@ fn say_arrows(
     for transition in lr0.transitions(state) {
         let mut text = Page::new(alloc);
         text.say_symbol(spec, transition.symbol);
-        page.say(b"    ");
-        page.say_number(u64::from(state.0));
-        page.say(b" -> ");
+        say_numbered(page, b"    ", u64::from(state.0), b" -> ");
         page.say_number(u64::from(transition.target.0));
         page.say(b" [label=\"");
         say_escaped(page, &text.finish()?);

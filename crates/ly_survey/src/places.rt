@@ -47,8 +47,10 @@ impl Places {
 
     /// The line of the rule of a number, counted from 1.
     pub(crate) fn line_of_rule(&self, rule: usize) -> u64 {
-        let place = rule.checked_sub(1).and_then(|place| self.rules.get(place));
-        place.copied().unwrap_or(1)
+        match rule.checked_sub(1) {
+            Some(place) => self.rules.get(place).copied().unwrap_or(1),
+            None => 1,
+        }
     }
 
     /// The rules that have a `%prec`, rising.
@@ -63,6 +65,16 @@ impl Places {
         text: &'t [u8],
     ) -> Result<Vec<(u64, &'t [u8])>, OutOfMemory> {
         let mut known = IndexSet::new(alloc);
+        self.again(alloc, text, &mut known)
+    }
+
+    /// The words that a `%token` declares and that are known, with their lines. The others are known from now on.
+    fn again<'t>(
+        &self,
+        alloc: Global,
+        text: &'t [u8],
+        known: &mut IndexSet<Vec<u8>>,
+    ) -> Result<Vec<(u64, &'t [u8])>, OutOfMemory> {
         let mut found = Vec::new(alloc);
         let mut in_tokens = false;
         for word in &self.words {
@@ -72,7 +84,7 @@ impl Places {
             }
             if bytes.starts_with(b"%") {
                 in_tokens = bytes == b"%token".as_slice();
-            } else if in_tokens && is_symbol(bytes) && !is_new(alloc, &mut known, bytes)? {
+            } else if in_tokens && is_symbol(bytes) && !is_new(alloc, known, bytes)? {
                 found.push((word.line, bytes))?;
             }
         }
@@ -81,10 +93,15 @@ impl Places {
 
     /// Whether a terminal stands behind a `%prec`, and so is there to give a rule its precedence.
     pub(crate) fn gives_precedence(&self, spec: &Spec, text: &[u8], terminal: Sym) -> bool {
-        match spec.terminals().get(terminal.0 as usize) {
-            Some(name) => self.ranks.iter().any(|span| names(span.word(text), name)),
-            None => false,
+        let Some(name) = spec.terminals().get(terminal.0 as usize) else {
+            return false;
+        };
+        for span in &self.ranks {
+            if names(span.word(text), name) {
+                return true;
+            }
         }
+        false
     }
 
     /// The line on which a terminal is named first.
@@ -92,9 +109,12 @@ impl Places {
         let Some(name) = spec.terminals().get(terminal.0 as usize) else {
             return 1;
         };
-        let mut words = self.words.iter();
-        let first = words.find(|word| names(word.span.word(text), name));
-        first.map_or(1, |word| word.line)
+        for word in &self.words {
+            if names(word.span.word(text), name) {
+                return word.line;
+            }
+        }
+        1
     }
 }
 
@@ -147,12 +167,22 @@ fn placed_words(alloc: Global, text: &[u8]) -> Result<Vec<PlacedWord>, OutOfMemo
     let mut at = 0;
     for span in &word_spans(alloc, text)? {
         let passed = text.get(at..span.start).unwrap_or_default();
-        let newlines = passed.iter().filter(|byte| **byte == b'\n').count();
-        line = line.saturating_add(newlines as u64);
+        line = line.saturating_add(newlines(passed));
         at = span.start;
         words.push(PlacedWord { span: *span, line })?;
     }
     Ok(words)
+}
+
+/// How many lines end in bytes.
+fn newlines(bytes: &[u8]) -> u64 {
+    let mut count: u64 = 0;
+    for byte in bytes {
+        if *byte == b'\n' {
+            count = count.saturating_add(1);
+        }
+    }
+    count
 }
 
 /// The lines of the rules.
@@ -189,21 +219,23 @@ fn ranked_rules(
 
 /// The words behind the first mark, which are those of the rules and of what stands behind them.
 fn behind_mark<'w>(text: &[u8], words: &'w [PlacedWord]) -> &'w [PlacedWord] {
-    let mark = words
-        .iter()
-        .position(|word| word.span.word(text) == b"%%".as_slice());
-    match mark {
-        Some(place) => words.get(place.saturating_add(1)..).unwrap_or_default(),
-        None => &[],
+    for (place, word) in words.iter().enumerate() {
+        if word.span.word(text) == b"%%".as_slice() {
+            return words.get(place.saturating_add(1)..).unwrap_or_default();
+        }
     }
+    &[]
 }
 
 /// Whether a rule begins at a word: a name before a colon, or a bar.
 fn begins_rule(text: &[u8], words: &[PlacedWord], place: usize) -> bool {
-    let is = |place: usize, sought: &[u8]| {
-        words
-            .get(place)
-            .is_some_and(|word| word.span.word(text) == sought)
-    };
-    is(place.saturating_add(1), b":") || is(place, b"|")
+    is_word(text, words, place.saturating_add(1), b":") || is_word(text, words, place, b"|")
+}
+
+/// Whether a word stands at a place.
+fn is_word(text: &[u8], words: &[PlacedWord], place: usize, sought: &[u8]) -> bool {
+    match words.get(place) {
+        Some(word) => word.span.word(text) == sought,
+        None => false,
+    }
 }

@@ -1,6 +1,6 @@
 //! The rules of the grammar, by the numbers that reports have for them.
 use crate::places::Places;
-use crate::surveying::Accepted;
+use crate::surveying::{Accepted, say_numbered};
 use ly_base::OutOfMemory;
 use ly_page::Page;
 
@@ -9,9 +9,7 @@ pub(crate) fn say_rules(page: &mut Page, files: Accepted<'_>, places: &Places) {
     let spec = files.spec;
     page.say(b"\nRules:\n");
     for rule in 1..spec.grammar().rules().len() {
-        page.say(b"    ");
-        page.say_number(rule as u64);
-        page.say(b"  ");
+        say_numbered(page, b"    ", rule as u64, b"  ");
         page.say_line_of(files.yacc, places.line_of_rule(rule));
         page.say_rule(spec, rule, None);
         page.say(b"\n");

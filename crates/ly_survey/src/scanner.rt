@@ -1,7 +1,7 @@
 //! The states of the scanner: which bytes it tells apart, where each condition begins, and where each state leads.
 ghost use Rattle.std.specs.Prelude.{◌<◌, length};
 
-use crate::surveying::Accepted;
+use crate::surveying::{Accepted, say_numbered};
 use ly_base::OutOfMemory;
 use ly_page::Page;
 use ly_subset::Dfa;
@@ -16,9 +16,7 @@ pub(crate) fn say_scanner(
     let dfa = files.dfa;
     page.say(b"Classes of bytes of the scanner:\n");
     for class in 0..dfa.classes() {
-        page.say(b"    ");
-        page.say_number(class as u64);
-        page.say(b" ");
+        say_numbered(page, b"    ", class as u64, b" ");
         say_bytes(page, &bytes_of_class(alloc, dfa, class)?);
         page.say(b"\n");
     }
@@ -46,21 +44,25 @@ fn bytes_of_class(alloc: Global, dfa: &Dfa, class: usize) -> Result<Vec<bool>, A
 
 /// Says the bytes that are marked, those that follow one another together.
 fn say_bytes(page: &mut Page, marks: &[bool]) {
-    let is_marked = |byte: Option<u8>| {
-        byte.is_some_and(|byte| marks.get(usize::from(byte)) == Some(&true))
-    };
     for byte in 0..=255u8 {
-        if !is_marked(Some(byte)) {
+        if !is_marked(marks, Some(byte)) {
             continue;
         }
-        let goes_on = is_marked(byte.checked_sub(1));
-        if !goes_on {
+        if !is_marked(marks, byte.checked_sub(1)) {
             page.say(b" ");
             page.say_byte(byte);
-        } else if !is_marked(byte.checked_add(1)) {
+        } else if !is_marked(marks, byte.checked_add(1)) {
             page.say(b"-");
             page.say_byte(byte);
         }
+    }
+}
+
+/// Whether a byte is marked, if there is one.
+fn is_marked(marks: &[bool], byte: Option<u8>) -> bool {
+    match byte {
+        Some(byte) => marks.get(usize::from(byte)) == Some(&true),
+        None => false,
     }
 }
 
@@ -88,17 +90,19 @@ pub(crate) fn say_other_bytes(
 fn other_bytes(alloc: Global, dfa: &Dfa, condition: u32) -> Result<Vec<bool>, AllocError> {
     let mut others = Vec::new(alloc);
     for byte in 0..=255u8 {
-        others.push(!begins(dfa, condition, byte))?;
+        let begins = begins(dfa, condition, false, byte) || begins(dfa, condition, true, byte);
+        others.push(!begins)?;
     }
     Ok(others)
 }
 
 /// Whether a match may begin with a byte in a condition, where a line begins or elsewhere.
-fn begins(dfa: &Dfa, condition: u32, byte: u8) -> bool {
+fn begins(dfa: &Dfa, condition: u32, line: bool, byte: u8) -> bool {
     let class = usize::from(dfa.class(byte));
-    [false, true].iter().any(|line| dfa
-        .start(condition, *line)
-        .is_some_and(|state| dfa.next(state, class).is_some()))
+    match dfa.start(condition, line) {
+        Some(state) => dfa.next(state, class).is_some(),
+        None => false,
+    }
 }
 
 /// Says the name of a condition, or its number where that isn't known.
@@ -138,22 +142,16 @@ fn say_state(page: &mut Page, files: Accepted<'_>, state: u32)
     requires { state < length files.dfa.now.rules }
 {
     let dfa = files.dfa;
-    page.say(b"\nScanner state ");
-    page.say_number(u64::from(state));
-    page.say(b"\n");
+    say_numbered(page, b"\nScanner state ", u64::from(state), b"\n");
     if let Some(rule) = dfa.rule(state) {
         let line = files.file.lines.get(rule.0 as usize).copied().unwrap_or(1);
         page.say(b"    rule of ");
         page.say(files.lex.name.as_bytes());
-        page.say(b":");
-        page.say_number(line);
-        page.say(b"\n");
+        say_numbered(page, b":", line, b"\n");
     }
     for class in 0..dfa.classes() {
         if let Some(next) = dfa.next(state, class) {
-            page.say(b"    class ");
-            page.say_number(class as u64);
-            page.say(b" to state ");
+            say_numbered(page, b"    class ", class as u64, b" to state ");
             page.say_number(u64::from(next));
             page.say(b"\n");
         }

@@ -2,7 +2,7 @@
 ghost use Rattle.std.specs.Prelude.{◌≡◌, ◌<◌, IfSome, length};
 ghost use Rattle.ly_lookahead.specs.Lookaheads.{AreLookaheads, HasSet};
 
-use crate::surveying::Accepted;
+use crate::surveying::{Accepted, say_numbered};
 use ly_base::{OutOfMemory, RuleNo, StateNo, Sym};
 use ly_join::{Spec, Symbol};
 use ly_lookahead::{Lookaheads, lookaheads};
@@ -87,16 +87,15 @@ impl<'a> Teller<'a> {
         requires state { state.0 < length self.now.resolved.now.automaton.states }
         requires sets { AreLookaheads self.now.resolved.now.automaton self.now.lookaheads.now }
     {
-        page.say(b"    ");
-        page.say_number(item.rule as u64);
-        page.say(b"  ");
-        page.say_rule(self.spec(), item.rule, Some(item.dot));
+        let spec = self.spec();
+        say_numbered(page, b"    ", item.rule as u64, b"  ");
+        page.say_rule(spec, item.rule, Some(item.dot));
         if let Some(place) = place_of(self.lr0(), self.lookaheads, state, item) {
             page.say(b"   with");
-            for terminal in 0..self.spec().grammar().terminals() {
+            for terminal in 0..spec.grammar().terminals() {
                 if self.lookaheads.contains(state, place, Sym(terminal)) {
                     page.say(b" ");
-                    page.say_terminal(self.spec(), Sym(terminal));
+                    page.say_terminal(spec, Sym(terminal));
                 }
             }
         }
@@ -118,9 +117,7 @@ impl<'a> Teller<'a> {
             }
         }
         if let Some(rule) = default {
-            page.say(b"    else rule ");
-            page.say_number(u64::from(rule.0));
-            page.say(b"\n");
+            say_numbered(page, b"    else rule ", u64::from(rule.0), b"\n");
         }
     }
 
@@ -155,9 +152,7 @@ impl<'a> Teller<'a> {
             if let Symbol::Nonterminal(_) = transition.symbol {
                 page.say(b"    ");
                 page.say_symbol(self.spec(), transition.symbol);
-                page.say(b" to state ");
-                page.say_number(u64::from(transition.target.0));
-                page.say(b"\n");
+                say_numbered(page, b" to state ", u64::from(transition.target.0), b"\n");
             }
         }
     }

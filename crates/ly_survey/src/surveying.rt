@@ -124,12 +124,19 @@ fn say_sizes(page: &mut Page, files: Accepted<'_>) {
     page.say(b" and ");
     page.say(files.yacc.name.as_bytes());
     page.say(b" are accepted: ");
-    page.say_count(rules, b"rule", b"rules");
-    page.say(b", ");
-    page.say_count(grammar.terminals() as usize, b"terminal", b"terminals");
-    page.say(b", ");
-    page.say_count(grammar.accept().0 as usize, b"nonterminal", b"nonterminals");
-    page.say(b", ");
-    page.say_count(files.resolved.lr0().states(), b"state", b"states");
-    page.say(b".\n");
+    page.say_count(rules, b"rule, ", b"rules, ");
+    page.say_count(grammar.terminals() as usize, b"terminal, ", b"terminals, ");
+    page.say_count(
+        grammar.accept().0 as usize,
+        b"nonterminal, ",
+        b"nonterminals, ",
+    );
+    page.say_count(files.resolved.lr0().states(), b"state.\n", b"states.\n");
+}
+
+/// Says a number, and what stands before it and behind it.
+pub(crate) fn say_numbered(page: &mut Page, before: &[u8], number: u64, behind: &[u8]) {
+    page.say(before);
+    page.say_number(number);
+    page.say(behind);
 }

@@ -169,23 +169,28 @@ impl<'a> Teller<'a> {
     /// Says how a rule begins, and notes what is below it.
     fn say_rule(&mut self, left: Sym, body: &[Symbol], beside: bool) -> Result<(), OutOfMemory> {
         let one_of_many = body.len() > 1;
-        let named = self.style == Style::Names;
-        if named || beside && one_of_many {
-            self.say_space();
-            if named {
-                self.page.say_symbol(self.spec, Symbol::Nonterminal(left));
-            }
-            self.page.say(b"[");
-            self.opened = true;
+        if self.style == Style::Names || beside && one_of_many {
+            self.open(left);
             self.parts.push(Part::Close)?;
         }
+        let beside = beside || one_of_many;
         for symbol in body.iter().rev() {
             self.parts.push(Part::Symbol(Below {
                 symbol: *symbol,
-                beside: beside || one_of_many,
+                beside,
             }))?;
         }
         Ok(())
+    }
+
+    /// Says the beginning of a rule.
+    fn open(&mut self, left: Sym) {
+        self.say_space();
+        if self.style == Style::Names {
+            self.page.say_symbol(self.spec, Symbol::Nonterminal(left));
+        }
+        self.page.say(b"[");
+        self.opened = true;
     }
 
     /// Says the end of a rule.

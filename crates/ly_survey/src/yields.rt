@@ -57,11 +57,10 @@ impl Yields {
     fn shorten(&mut self, reduced: &Reduced<'_>) -> bool {
         let rules = reduced.grammar().rules();
         let mut shortened = false;
-        for rule in 0..rules.len() {
-            if reduced.is_kept(rule) {
-                let length = self.length(rules[rule].body());
-                let left = rules[rule].left().0 as usize;
-                shortened |= self.take(left, rule, length);
+        for (number, rule) in rules.iter().enumerate() {
+            if reduced.is_kept(number) {
+                let length = self.length(rule.body());
+                shortened |= self.take(rule.left().0 as usize, number, length);
             }
         }
         shortened
@@ -152,7 +151,10 @@ impl Derived {
         match symbol {
             Symbol::Terminal(number) => self.tokens.push(number)?,
             Symbol::Nonterminal(number) => {
-                let rule = yields.shortest_of(number).map_or(0, |it| it.rule);
+                let rule = match yields.shortest_of(number) {
+                    Some(shortest) => shortest.rule,
+                    None => 0,
+                };
                 self.rules.push(rule)?;
                 if let Some(rule) = grammar.rules().get(rule) {
                     push_reversed(ahead, rule.body())?;
