@@ -72,18 +72,41 @@ pub fn survey(
     requires { IsBreadthFirst files.dfa.now }
     ensures { IfOk result (λ e. e.accepted ≡ true) }
 {
-    let mut text = Page::new(alloc);
-    let places = Places::of(alloc, files.yacc.bytes)?;
-    say_sizes(&mut text, files);
-    say_doubts(alloc, &mut text, files, conditions, &places)?;
-    say_conflicts(alloc, &mut text, files)?;
-    say_rules(&mut text, files, &places);
     Ok(Explanation {
-        text: text.finish()?,
+        text: text_of(alloc, files, conditions)?,
         states: states_if(alloc, files, tables, wish.states)?,
         picture: picture_if(alloc, files, wish.picture)?,
         accepted: true,
     })
+}
+
+/// What is doubtful, where the conflicts are, and which rule has which number.
+fn text_of(alloc: Global, files: Accepted<'_>, conditions: &[&[u8]]) -> Result<Vec<u8>, OutOfMemory>
+    requires { IsBreadthFirst files.dfa.now }
+{
+    let places = Places::of(alloc, files.yacc.bytes)?;
+    let mut page = Page::new(alloc);
+    let said = say_all(alloc, &mut page, files, conditions, &places);
+    drop(places);
+    said?;
+    page.finish()
+}
+
+/// Says all that, by where symbols and rules stand.
+fn say_all(
+    alloc: Global,
+    page: &mut Page,
+    files: Accepted<'_>,
+    conditions: &[&[u8]],
+    places: &Places,
+) -> Result<(), OutOfMemory>
+    requires { IsBreadthFirst files.dfa.now }
+{
+    say_sizes(page, files);
+    say_doubts(alloc, page, files, conditions, places)?;
+    say_conflicts(alloc, page, files)?;
+    say_rules(page, files, places);
+    Ok(())
 }
 
 /// The states of the scanner and of the parser, where they are asked for.
