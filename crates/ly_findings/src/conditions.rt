@@ -10,16 +10,15 @@ pub fn known_conditions(alloc: Global, text: &[u8]) -> Result<Vec<&[u8]>, OutOfM
     let mut known: Vec<&[u8]> = Vec::new(alloc);
     known.push(b"INITIAL")?;
     for line in text.split(|byte| *byte == b'\n') {
-        push_declared(&mut known, line)?;
+        if matches!(line, [b'%', b's' | b'S' | b'x' | b'X', ..]) {
+            push_declared(&mut known, line)?;
+        }
     }
     Ok(known)
 }
 
-/// Adds the names that a line declares, if it declares conditions, as far as there are not too many.
+/// Adds the names behind the first word of a line that begins with it, as far as there are not too many.
 fn push_declared<'t>(known: &mut Vec<&'t [u8]>, line: &'t [u8]) -> Result<(), OutOfMemory> {
-    if !matches!(line, [b'%', b's' | b'S' | b'x' | b'X', ..]) {
-        return Ok(());
-    }
     for name in line.split(|byte| is_blank(*byte)).skip(1) {
         if !name.is_empty() && known.len() < MOST {
             known.push(name)?;
