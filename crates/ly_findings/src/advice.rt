@@ -1,7 +1,7 @@
 use ly_generate::GenFault;
 
 /// What to write instead.
-#[derive(Debug, Drop)]
+#[derive(Drop)]
 pub(crate) enum Advice {
     /// Nothing is said.
     Nothing,

@@ -26,14 +26,3 @@ fn push_declared<'t>(known: &mut Vec<&'t [u8]>, line: &'t [u8]) -> Result<(), Ou
     }
     Ok(())
 }
-
-/// The words of a line, with blanks between them.
-pub(crate) fn words(alloc: Global, line: &[u8]) -> Result<Vec<&[u8]>, OutOfMemory> {
-    let mut words: Vec<&[u8]> = Vec::new(alloc);
-    for word in line.split(|byte| is_blank(*byte)) {
-        if !word.is_empty() {
-            words.push(word)?;
-        }
-    }
-    Ok(words)
-}

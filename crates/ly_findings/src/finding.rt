@@ -50,11 +50,20 @@ impl Findings {
 
     /// Adds a fault, but none for which the same has been said on its line, and none behind the most.
     pub(crate) fn add(&mut self, finding: Finding) -> Result<(), OutOfMemory> {
-        let known = self.list.iter().any(|found| found.is_like(&finding));
-        if !known && !self.is_full() {
-            self.list.push(finding)?;
+        if self.is_full() || self.has(&finding) {
+            return Ok(());
         }
-        Ok(())
+        Ok(self.list.push(finding)?)
+    }
+
+    /// Whether the same has been said on its line.
+    fn has(&self, finding: &Finding) -> bool {
+        for found in &self.list {
+            if found.is_like(finding) {
+                return true;
+            }
+        }
+        false
     }
 }
 

@@ -42,16 +42,26 @@ pub(crate) fn find_join_faults(
         file,
         said: Vec::new(alloc),
     };
-    for _ in 0..MOST {
-        match joining.next_fault(alloc, limits, findings.is_empty())? {
-            Some(fault) => joining.take(alloc, findings, fault)?,
-            None => break,
-        }
-    }
-    Ok(())
+    joining.find_faults(alloc, findings, limits)
 }
 
 impl Joining<'_> {
+    /// Finds the faults that are left, and mends them.
+    fn find_faults(
+        &mut self,
+        alloc: Global,
+        findings: &mut Findings,
+        limits: &Limits,
+    ) -> Result<(), OutOfMemory> {
+        for _ in 0..MOST {
+            match self.next_fault(alloc, limits, findings.is_empty())? {
+                Some(fault) => self.take(alloc, findings, fault)?,
+                None => break,
+            }
+        }
+        Ok(())
+    }
+
     /// The first fault that is left. That there are no rules is one only where no other was found.
     fn next_fault(
         &self,
@@ -59,11 +69,11 @@ impl Joining<'_> {
         limits: &Limits,
         alone: bool,
     ) -> Result<Option<JoinFault>, OutOfMemory> {
-        match join(alloc, &self.lex.file, &self.file, limits) {
-            Ok(_) | Err(JoinFault::LimitPassed { .. }) => Ok(None),
-            Err(JoinFault::OutOfMemory) => Err(OutOfMemory),
-            Err(JoinFault::NoRules) if !alone => Ok(None),
-            Err(fault) => Ok(Some(fault)),
+        match join(alloc, &self.lex.file, &self.file, limits).err() {
+            Some(JoinFault::LimitPassed { .. }) => Ok(None),
+            Some(JoinFault::OutOfMemory) => Err(OutOfMemory),
+            Some(JoinFault::NoRules) if !alone => Ok(None),
+            fault => Ok(fault),
         }
     }
 
@@ -74,27 +84,25 @@ impl Joining<'_> {
         findings: &mut Findings,
         fault: JoinFault,
     ) -> Result<(), OutOfMemory> {
-        let name = Vec::from_slice(alloc, name_of(&fault))?;
-        let advice = join_advice(alloc, &fault, &self.file, &self.said)?;
-        mend(alloc, &mut self.file, &fault)?;
-        if !self.said.contains(&name) {
-            self.add(alloc, findings, fault, advice)?;
+        let at = join_location(alloc, self.lex, &self.text, &fault)?;
+        match self.mend(alloc, &fault)? {
+            Some(advice) => findings.add(Finding {
+                fault: GenFault::Join(fault),
+                at,
+                advice,
+            }),
+            None => Ok(()),
         }
-        self.said.push(name)?;
-        Ok(())
     }
 
-    /// Adds a fault to what is found.
-    fn add(
-        &self,
-        alloc: Global,
-        findings: &mut Findings,
-        fault: JoinFault,
-        advice: Advice,
-    ) -> Result<(), OutOfMemory> {
-        let at = join_location(alloc, self.lex, &self.text, &fault)?;
-        let fault = GenFault::Join(fault);
-        findings.add(Finding { fault, at, advice })
+    /// Mends a fault, and answers the advice behind it; none where a fault of its name was said.
+    fn mend(&mut self, alloc: Global, fault: &JoinFault) -> Result<Option<Advice>, OutOfMemory> {
+        let name = Vec::from_slice(alloc, name_of(fault))?;
+        let is_new = !self.said.contains(&name);
+        self.said.push(name)?;
+        let advice = join_advice(alloc, fault, &self.file, &self.said)?;
+        mend(alloc, &mut self.file, fault)?;
+        Ok(is_new.then_some(advice))
     }
 }
 
@@ -156,11 +164,21 @@ fn join_advice(
     said: &[Vec<u8>],
 ) -> Result<Advice, OutOfMemory> {
     let mut names = names_for(alloc, fault, file)?;
-    names.retain(|name| !said.iter().any(|other| other.as_slice() == *name));
+    names.retain(|name| !is_said(said, name));
     match nearest(alloc, name_of(fault), &names)? {
         Some(near) => Ok(Advice::Near(Vec::from_slice(alloc, near)?)),
         None => Ok(words_for(fault)),
     }
+}
+
+/// Whether a name is one of which a fault was said.
+fn is_said(said: &[Vec<u8>], name: &[u8]) -> bool {
+    for other in said {
+        if other.as_slice() == name {
+            return true;
+        }
+    }
+    false
 }
 
 /// The names of which one may be meant where a fault names another.

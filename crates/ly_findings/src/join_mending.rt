@@ -45,10 +45,8 @@ fn undeclare(file: &mut YaccFile, name: &[u8]) {
 /// Leaves out each `%prec` that names a name.
 fn leave_out_precedence(file: &mut YaccFile, name: &[u8]) {
     for rule in &mut file.rules {
-        if rule
-            .precedence
-            .as_ref()
-            .is_some_and(|symbol| is_name(symbol, name))
+        if let Some(symbol) = &rule.precedence
+            && is_name(symbol, name)
         {
             rule.precedence = None;
         }

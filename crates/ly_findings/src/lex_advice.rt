@@ -66,7 +66,13 @@ fn form_of_flex(unit: Unit, line: &[u8]) -> Option<&'static str> {
 
 /// Whether a brace that opens is the last of a line but for blanks.
 fn ends_with_brace(line: &[u8]) -> bool {
-    line.iter().rev().find(|byte| !is_blank(**byte)) == Some(&b'{')
+    let mut ends = false;
+    for byte in line {
+        if !is_blank(*byte) {
+            ends = *byte == b'{';
+        }
+    }
+    ends
 }
 
 /// The name of a definition that is near to one in braces.

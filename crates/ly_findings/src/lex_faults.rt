@@ -48,13 +48,11 @@ fn plain_text(
     bytes: &[u8],
     limits: &Limits,
 ) -> Result<Vec<u8>, OutOfMemory> {
-    match without_marks(alloc, bytes, b"")? {
-        Some(plain) => {
-            find_mark_fault(alloc, findings, bytes, &plain, limits)?;
-            Ok(plain)
-        }
-        None => Ok(Vec::from_slice(alloc, bytes)?),
+    let plain = without_marks(alloc, bytes, b"")?;
+    if plain.as_slice() != bytes {
+        find_mark_fault(alloc, findings, bytes, &plain, limits)?;
     }
+    Ok(plain)
 }
 
 /// Adds a fault, and answers the text in which it is mended; none where nothing mends it.
@@ -120,9 +118,8 @@ fn find_mark_fault(
 
 /// Why a text is refused, if it is.
 fn refusal(alloc: Global, text: &[u8], limits: &Limits) -> Result<Option<LexFault>, OutOfMemory> {
-    match read_lex(alloc, text, limits) {
-        Ok(_) => Ok(None),
-        Err(LexFault::OutOfMemory) => Err(OutOfMemory),
-        Err(fault) => Ok(Some(fault)),
+    match read_lex(alloc, text, limits).err() {
+        Some(LexFault::OutOfMemory) => Err(OutOfMemory),
+        fault => Ok(fault),
     }
 }

@@ -1,11 +1,11 @@
 //! How a fault of a lex file is mended, so that what stands behind it can be read.
-use crate::conditions::{known_conditions, words};
+use crate::conditions::known_conditions;
 use crate::edit::push_all;
 use crate::lex_places::defined_names;
 use crate::lex_units::{Kind, Unit, first_line};
 use crate::location::{from_place, line_start};
 use crate::nearest::MOST_NAMES;
-use ly_base::{Language, OutOfMemory, leading_name};
+use ly_base::{Language, OutOfMemory, is_blank, leading_name};
 use ly_lexread::LexFault;
 use std::alloc::Global;
 
@@ -48,15 +48,28 @@ fn plain_definition(alloc: Global, text: &[u8], unit: Unit) -> Result<Vec<u8>, O
 fn new_conditions(alloc: Global, text: &[u8], unit: Unit) -> Result<Vec<u8>, OutOfMemory> {
     let (before, rest) = text.split_at(line_start(text, unit.first).min(text.len()));
     let mut known = known_conditions(alloc, before)?;
-    let words = words(alloc, first_line(rest))?;
-    let mut declaration = Vec::from_slice(alloc, words.first().copied().unwrap_or(b""))?;
-    for word in words.iter().take(MOST_NAMES).skip(1) {
-        push_new(&mut declaration, &mut known, word)?;
-    }
+    let mut declaration = Vec::new(alloc);
+    push_declaration(&mut declaration, &mut known, first_line(rest))?;
     if !declaration.contains(&b' ') {
         declaration.clear();
     }
     Ok(declaration)
+}
+
+/// Adds the first word of a line, and those behind it that are names of conditions that aren't known yet.
+fn push_declaration<'t>(
+    declaration: &mut Vec<u8>,
+    known: &mut Vec<&'t [u8]>,
+    line: &'t [u8],
+) -> Result<(), OutOfMemory> {
+    let mut words = line
+        .split(|byte| is_blank(*byte))
+        .filter(|word| !word.is_empty());
+    declaration.extend_from_slice(words.next().unwrap_or(b""))?;
+    for word in words.take(MOST_NAMES - 1) {
+        push_new(declaration, known, word)?;
+    }
+    Ok(())
 }
 
 /// Adds the name of a condition, a space before it, if it isn't known yet; then it is.
@@ -65,11 +78,11 @@ fn push_new<'t>(
     known: &mut Vec<&'t [u8]>,
     name: &'t [u8],
 ) -> Result<(), OutOfMemory> {
-    if !known.contains(&name) {
-        known.push(name)?;
-        push_all(declaration, &[b" ", name])?;
+    if known.contains(&name) {
+        return Ok(());
     }
-    Ok(())
+    known.push(name)?;
+    push_all(declaration, &[b" ", name])
 }
 
 /// The number of the last line before the next one that begins with `%%`, from a line on; of the last line where none

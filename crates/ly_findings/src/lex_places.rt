@@ -1,6 +1,6 @@
 //! The columns of the faults of a lex file, of which its reader says the lines.
 use crate::edit::push_all;
-use crate::lex_units::{Kind, Unit, action_start, first_line, pattern_start};
+use crate::lex_units::{Kind, Unit, action_start, first_line, leading_blanks, pattern_start};
 use crate::location::{Location, from_place, line_start};
 use crate::nearest::MOST_NAMES;
 use ly_base::{Language, Limits, OutOfMemory, is_blank, leading_name};
@@ -50,12 +50,10 @@ fn expression_start(line: &[u8], kind: Kind) -> usize {
 
 /// How many bytes at the front are a name.
 fn name_length(line: &[u8]) -> usize {
-    leading_name(line, Language::Lex).map_or(0, |(name, _)| name.len())
-}
-
-/// How many blanks stand in front.
-fn leading_blanks(line: &[u8]) -> usize {
-    line.iter().take_while(|byte| is_blank(**byte)).count()
+    match leading_name(line, Language::Lex) {
+        Some((name, _)) => name.len(),
+        None => 0,
+    }
 }
 
 /// How many bytes of the line of a definition stand before what is at fault: all up to what stands behind its
@@ -68,12 +66,11 @@ fn definition_column(line: &[u8]) -> usize {
     }
     let length = expression_length(expression);
     let behind = from_place(expression, length);
-    if behind.iter().all(|byte| is_blank(*byte)) {
+    let blanks = leading_blanks(behind);
+    if blanks == behind.len() {
         return 0;
     }
-    start
-        .saturating_add(length)
-        .saturating_add(leading_blanks(behind))
+    start.saturating_add(length).saturating_add(blanks)
 }
 
 /// How many bytes of a pattern stand before what is at fault: the longest beginning that is a pattern by itself, where
@@ -119,10 +116,9 @@ fn is_pattern(
     names: &Names,
     limits: &Limits,
 ) -> Result<bool, OutOfMemory> {
-    match read_pattern(alloc, text, names, limits) {
-        Ok(_) => Ok(true),
-        Err(EreFault::OutOfMemory) => Err(OutOfMemory),
-        Err(_) => Ok(false),
+    match read_pattern(alloc, text, names, limits).err() {
+        Some(EreFault::OutOfMemory) => Err(OutOfMemory),
+        fault => Ok(fault.is_none()),
     }
 }
 

@@ -1,5 +1,5 @@
 //! What a line of a lex file belongs to, where it is refused: so it needn't have a form of a lex file.
-use crate::location::{from_place, line_length};
+use crate::location::{from_place, length_to_blank, line_length};
 use crate::pieces::braces_length;
 use ly_base::{after_comment, is_blank};
 use std::alloc::{AllocError, Global};
@@ -203,11 +203,13 @@ pub(crate) fn action_start(line: &[u8]) -> usize {
     let start = pattern_start(line);
     let body = from_place(line, start);
     let behind = pattern_length(body);
-    let blanks = from_place(body, behind)
-        .iter()
-        .take_while(|byte| is_blank(**byte))
-        .count();
+    let blanks = leading_blanks(from_place(body, behind));
     start.saturating_add(behind).saturating_add(blanks)
+}
+
+/// How many blanks stand in front.
+pub(crate) fn leading_blanks(line: &[u8]) -> usize {
+    line.iter().take_while(|byte| is_blank(**byte)).count()
 }
 
 /// What a byte of a pattern stands in.
@@ -242,7 +244,5 @@ fn pattern_length(text: &[u8]) -> usize {
     if inside == Inside::Nothing {
         return text.len();
     }
-    text.iter()
-        .position(|byte| is_blank(*byte))
-        .unwrap_or(text.len())
+    length_to_blank(text)
 }

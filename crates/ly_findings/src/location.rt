@@ -1,3 +1,5 @@
+use ly_base::is_blank;
+
 /// Where something stands in a file. Lines and columns are counted from 1, columns by bytes.
 #[derive(Clone, Copy)]
 pub(crate) struct Location {
@@ -56,6 +58,14 @@ pub(crate) fn line_length(text: &[u8]) -> usize {
     text.iter()
         .position(|byte| *byte == b'\n')
         .unwrap_or(text.len())
+}
+
+/// How many bytes stand before the first blank of the first line.
+pub(crate) fn length_to_blank(text: &[u8]) -> usize {
+    let line = text.get(..line_length(text)).unwrap_or(text);
+    line.iter()
+        .position(|byte| is_blank(*byte))
+        .unwrap_or(line.len())
 }
 
 /// What stands from a place on; nothing where the text ends before it.

@@ -11,17 +11,14 @@ pub(crate) fn has_byte_order_mark(text: &[u8]) -> bool {
     text.starts_with(BYTE_ORDER_MARK)
 }
 
-/// The text with these bytes in place of a byte-order mark in front, and without each CR before a newline; none where
-/// it has neither.
+/// The text with these bytes in place of a byte-order mark in front, and without each CR before a newline: the same
+/// where it has neither.
 pub(crate) fn without_marks(
     alloc: Global,
     text: &[u8],
     front: &[u8],
-) -> Result<Option<Vec<u8>>, OutOfMemory> {
+) -> Result<Vec<u8>, OutOfMemory> {
     let marked = text.strip_prefix(BYTE_ORDER_MARK);
-    if marked.is_none() && !text.windows(2).any(|pair| pair == b"\r\n".as_slice()) {
-        return Ok(None);
-    }
     let mut plain = Vec::from_slice(alloc, if marked.is_some() { front } else { b"" })?;
     for line in marked
         .unwrap_or(text)
@@ -33,5 +30,5 @@ pub(crate) fn without_marks(
         };
         push_all(&mut plain, &parts)?;
     }
-    Ok(Some(plain))
+    Ok(plain)
 }

@@ -46,13 +46,11 @@ fn plain_text(
     findings: &mut Findings,
     bytes: &[u8],
 ) -> Result<Vec<u8>, OutOfMemory> {
-    match without_marks(alloc, bytes, b"   ")? {
-        Some(plain) => {
-            find_mark_fault(alloc, findings, bytes, &plain)?;
-            Ok(plain)
-        }
-        None => Ok(Vec::from_slice(alloc, bytes)?),
+    let plain = without_marks(alloc, bytes, b"   ")?;
+    if plain.as_slice() != bytes {
+        find_mark_fault(alloc, findings, bytes, &plain)?;
     }
+    Ok(plain)
 }
 
 /// Where a fault stands; in front of the file where it has no place.
@@ -107,9 +105,8 @@ fn find_mark_fault(
 
 /// Why a text is refused, if it is.
 fn refusal(alloc: Global, text: &[u8]) -> Result<Option<YaccFault>, OutOfMemory> {
-    match read_yacc(alloc, text) {
-        Ok(_) => Ok(None),
-        Err(YaccFault::OutOfMemory) => Err(OutOfMemory),
-        Err(fault) => Ok(Some(fault)),
+    match read_yacc(alloc, text).err() {
+        Some(YaccFault::OutOfMemory) => Err(OutOfMemory),
+        fault => Ok(fault),
     }
 }

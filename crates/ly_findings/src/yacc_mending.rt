@@ -1,12 +1,10 @@
 //! How a fault of a yacc file is mended, so that what stands behind it can be read.
 use crate::edit::Edit;
 use crate::finding::MOST;
-use crate::location::{from_place, line_length};
+use crate::location::{from_place, length_to_blank, line_length};
 use crate::pieces::quoted_length;
 use crate::yacc_before::Before;
-use crate::yacc_units::{
-    Unit, begins_rule, declaration_length, length_to_blank, length_to_percent, word_length,
-};
+use crate::yacc_units::{Unit, begins_rule, declaration_length, length_to_percent, word_length};
 use ly_base::{Language, after_gap, is_blank, leading_name};
 use ly_yaccread::YaccFault;
 

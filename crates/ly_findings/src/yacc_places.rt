@@ -5,6 +5,9 @@ use ly_join::{JoinFault, TerminalName};
 use ly_yaccread::{YaccFault, read_yacc, word_spans};
 use std::alloc::Global;
 
+/// The directives whose declarations give a precedence.
+const GIVING_PRECEDENCE: [&[u8]; 3] = [b"%left", b"%right", b"%nonassoc"];
+
 /// A word of a yacc file, and what stands round it.
 #[derive(Clone, Copy)]
 struct Seen<'t> {
@@ -51,12 +54,16 @@ impl<'t> Seen<'t> {
                 self.word == name.as_slice() && self.previous == b"%start".as_slice()
             }
             JoinFault::PrecedenceTwice(terminal) => {
-                let gives = matches!(self.directive, b"%left" | b"%right" | b"%nonassoc");
-                !self.in_rules && gives && is_terminal(self.word, terminal)
+                self.gives_precedence() && is_terminal(self.word, terminal)
             }
             JoinFault::NoRules => self.word == b"%%".as_slice(),
             _ => false,
         }
+    }
+
+    /// Whether it stands in a declaration that gives a precedence.
+    fn gives_precedence(&self) -> bool {
+        !self.in_rules && GIVING_PRECEDENCE.contains(&self.directive)
     }
 
     /// Whether it is this name and stands in the rules.

@@ -1,5 +1,4 @@
 //! What a word of a yacc file stands in, where it is refused: so its words needn't be those of a yacc file.
-use crate::location::line_length;
 use crate::pieces::behind_piece;
 use ly_base::{Language, after_gap, is_blank, leading_name};
 
@@ -104,17 +103,8 @@ pub(crate) fn length_to_percent(text: &[u8]) -> usize {
 
 /// How many bytes the word at the front has: a name, digits, or one byte.
 pub(crate) fn word_length(text: &[u8]) -> usize {
-    let plain = |byte: &u8| Language::Yacc.continues_name(*byte);
     text.iter()
-        .position(|byte| !plain(byte))
+        .position(|byte| !Language::Yacc.continues_name(*byte))
         .unwrap_or(text.len())
         .max(1)
-}
-
-/// How many bytes stand before the first blank of the line at the front.
-pub(crate) fn length_to_blank(text: &[u8]) -> usize {
-    let line = text.get(..line_length(text)).unwrap_or(text);
-    line.iter()
-        .position(|byte| is_blank(*byte))
-        .unwrap_or(line.len())
 }
