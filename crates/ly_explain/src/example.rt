@@ -56,10 +56,8 @@ impl<'a> Examples<'a> {
     pub fn new(alloc: Global, resolved: &'a Resolved<'a>) -> Result<Examples<'a>, OutOfMemory>
         ensures { IfOk result (λ e. e ≡ resolved.now) }
     {
-        Ok(Examples {
-            resolved,
-            ground: ground_of(alloc, resolved.lr0())?,
-        })
+        let ground = ground_of(alloc, resolved.lr0())?;
+        Ok(Examples { resolved, ground })
     }
 
     /// The conflicts.

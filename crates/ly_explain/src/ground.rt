@@ -31,11 +31,14 @@ pub(crate) fn ground_of<'a>(alloc: Global, lr0: &'a Lr0<'a>) -> Result<Ground<'a
     ensures automaton { IfOk result (λ g. g.lr0.now ≡ lr0.now) }
     ensures ground { IfOk result IsGround }
 {
+    let lengths = lengths_of(alloc, lr0)?;
+    let uses = uses_of(alloc, lr0)?;
+    let incoming = incoming_of(alloc, lr0)?;
     Ok(Ground {
         lr0,
-        incoming: incoming_of(alloc, lr0)?,
-        uses: uses_of(alloc, lr0)?,
-        lengths: lengths_of(alloc, lr0)?,
+        incoming,
+        uses,
+        lengths,
     })
 }
 
@@ -108,7 +111,8 @@ fn lengths_of(alloc: Global, lr0: &Lr0<'_>) -> Result<Vec<usize>, OutOfMemory>
 {
     let mut lengths = Vec::with_capacity(alloc, lr0.states())?;
     for state in 0..lr0.states() {
-        lengths.push(lr0.prefix(alloc, StateNo(state as u32))?.len())?;
+        let length = lr0.prefix(alloc, StateNo(state as u32))?.len();
+        lengths.push(length)?;
     }
     Ok(lengths)
 }
