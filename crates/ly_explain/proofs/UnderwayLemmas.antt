@@ -367,6 +367,13 @@ pub state_within : (w : Sought) (found : List Demand) (links : List Link) → Ar
     (d : Demand) → slice_get found k ≡ Some d → d.state.0 < length (automaton_of w).states
 state_within w found links are k d at = (are.kept d (member_at found k d at)).state
 
+-- a result has one fault
+pub one_err : {T E : Type 0} (r : Result T E) (e f : E) → IsErrOf r e → IsErrAnd r (λ x. x ≡ f) → e ≡ f
+one_err (Ok x) e f is on = absurd on
+one_err (Err x) e f is on =
+    let same : x ≡ e = cc in
+    sym same ∙ on
+
 -- a fault that is handed on is the same
 pub still_err : {T U E : Type 0} (r : Result T E) (e f : E) → IsErrOf r e → IsErrAnd r (λ x. x ≡ f)
     → IsErrOf {T = U} {E = E} (Err f) e

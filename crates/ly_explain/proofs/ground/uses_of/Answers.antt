@@ -55,3 +55,16 @@ returns c =
     = sym (length-map c.rules-rule-end.result.now (λ r. Some r)) ∙ ap length c.rules-rule-end.ensures.these in
     uses_all c.args.lr0.now.grammar c.loop-rule.uses c.loop-rule.rule (omega (arith, numbers, same, these))
     c.loop-rule.invariant
+
+pub rule-requires : goal.rule-requires
+rule-requires c =
+    let these : length c.rules-rule-end.result.now ≡ length c.grammar-grammar.result.now.rules
+    = sym (length-map c.rules-rule-end.result.now (λ r. Some r)) ∙ ap length c.rules-rule-end.ensures.these in
+    omega (arith, c.loop-rule-test.true, these)
+
+pub is_kept-requires : goal.is_kept-requires
+is_kept-requires c =
+    let numbers = c.grammar-grammar.ensures.keeps.numbers in
+    let these : length c.rules-rule-end.result.now ≡ length c.grammar-grammar.result.now.rules
+    = sym (length-map c.rules-rule-end.result.now (λ r. Some r)) ∙ ap length c.rules-rule-end.ensures.these in
+    omega (arith, c.loop-rule-test.true, numbers, these)

@@ -1,5 +1,8 @@
-use Rattle.std.proofs.Common.{arith}
+use Rattle.std.proofs.Common.{arith, subst, sym, Contains}
+use Rattle.std.proofs.lemmas.List.Elements.{Contains-push}
+use Rattle.ly_explain.specs.declared.halt.Halt.TheVariants.{OutOfMemory, TooMany}
 use Rattle.ly_explain.proofs.SearchLemmas.{found_more, found_same, more_than_allowed}
+use Rattle.ly_explain.proofs.UnderwayLemmas.{one_err}
 use Rattle.ly_explain.proofs.search.Search.add.Goals as goal
 
 pub returns-then-contains-clause-on : goal.returns-then-contains-clause-on
@@ -17,3 +20,11 @@ returns-then-len-sought-clause-many c = λ _. more_than_allowed c.args.sought.no
     c.args.self.now.links.items c.requires.search c.args.demand c.requires.step.0 c.args.link c.len.ensures.apart
     (λ is. let on = c.contains.ensures.1 is in let off = c.if-contains.false in cc)
     (omega (arith, c.len.ensures.count)) c.requires.step.1 c.requires.step.2
+
+pub returns-clause-there : goal.returns-clause-there
+returns-clause-there c = subst (λ ds. Contains ds c.args.demand) (sym c.in_ok-push.ensures.found)
+    (Contains-push c.args.self.now.found c.args.demand)
+
+pub returns-in_err-push-clause-many : goal.returns-in_err-push-clause-many
+returns-in_err-push-clause-many c = λ is.
+    let same = one_err c.from_residual.result TooMany OutOfMemory is c.from_residual.ensures.1 in absurd (cc)
