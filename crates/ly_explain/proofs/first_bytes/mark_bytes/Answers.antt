@@ -1,4 +1,5 @@
 use Rattle.std.proofs.Common.{◌≡◌}
+use Rattle.std.proofs.lemmas.Bool.{iff_false}
 use Rattle.ly_explain.specs.Private.FirstBytes.{BeginsWith}
 use Rattle.ly_explain.proofs.FirstByteLemmas.{bytes_marked}
 use Rattle.ly_explain.proofs.MarkLemmas.{added_as, step_added, step_nothing}
@@ -19,10 +20,8 @@ loop-byte-preserved c =
           (added_as (λ n. n ≡ k) (P k) old w.set.new.self (λ n. (λ same. (same, begins), λ both. both.0))
           w.set.ensures))
       | else-leads w ↦ rw w.bytes-is
-          (step_nothing P k first old (λ n both.
-          let on = c.leads.ensures.1 both.1 in
-          let off = w.if-leads.false in
-          cc) c.loop-byte.invariant)
+          (step_nothing P k first old (λ n both. iff_false c.leads.ensures w.if-leads.false both.1)
+          c.loop-byte.invariant)
     ]
 
 pub returns : goal.returns

@@ -1,4 +1,5 @@
-use Rattle.std.proofs.Common.{arith, subst, refl, sym}
+use Rattle.std.proofs.Common.{false, arith, subst, refl, sym}
+use Rattle.std.proofs.lemmas.Bool.{both_ways, iff_false}
 use Rattle.ly_base.specs.Trees.{none}
 use Rattle.ly_grammar.specs.Derivations.{IsNullable}
 use Rattle.ly_relate.specs.Private.Walks.{HasNumberTo}
@@ -11,10 +12,10 @@ passes-requires c = symbol_within (HasNumberTo c.args.reduced.now.grammar.accept
 
 pub returns-then-not-passes : goal.returns-then-not-passes
 returns-then-not-passes c = (
-  λ yes. absurd (cc),
+  λ yes. absurd (both_ways false refl yes),
   λ null. absurd (nullable_no_more c.args.reduced.now.grammar c.args.symbols.now c.loop-symbol.symbol-index
       c.loop-symbol-test.true
-      c.loop-symbol.invariant (λ one. let on = c.passes.ensures.1 one in let off = c.if-not-passes.true in cc) null),
+      c.loop-symbol.invariant (iff_false c.passes.ensures c.if-not-passes.true) null),
 )
 
 pub loop-symbol-preserved : goal.loop-symbol-preserved

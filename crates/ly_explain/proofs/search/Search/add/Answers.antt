@@ -1,4 +1,5 @@
 use Rattle.std.proofs.Common.{arith, subst, sym, Contains}
+use Rattle.std.proofs.lemmas.Bool.{iff_false}
 use Rattle.std.proofs.lemmas.List.Elements.{Contains-push}
 use Rattle.ly_explain.specs.declared.halt.Halt.TheVariants.{OutOfMemory, TooMany}
 use Rattle.ly_explain.proofs.SearchLemmas.{found_more, found_same, more_than_allowed}
@@ -18,7 +19,7 @@ returns-clause-on c = found_more c.args.sought.now c.args.self.now.found c.args.
 pub returns-then-len-sought-clause-many : goal.returns-then-len-sought-clause-many
 returns-then-len-sought-clause-many c = λ _. more_than_allowed c.args.sought.now c.args.self.now.found
     c.args.self.now.links.items c.requires.search c.args.demand c.requires.step.0 c.args.link c.len.ensures.apart
-    (λ is. let on = c.contains.ensures.1 is in let off = c.if-contains.false in cc)
+    (iff_false c.contains.ensures c.if-contains.false)
     (omega (arith, c.len.ensures.count)) c.requires.step.1 c.requires.step.2
 
 pub returns-clause-there : goal.returns-clause-there
