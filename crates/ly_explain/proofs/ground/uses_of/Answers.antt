@@ -1,4 +1,5 @@
 use Rattle.std.proofs.Common.{◌≡◌, ◌∙◌, ◌+◌, Some, ap, arith, subst, sym, length, map, All}
+use Rattle.std.proofs.lemmas.Bool.{iff_false}
 use Rattle.std.proofs.lemmas.List.{length-map}
 use Rattle.ly_join.specs.Grammar.{IsAugmented, IsRule, symbol_of}
 use Rattle.ly_grammar.specs.Private.Search.{HasNumberBelow}
@@ -42,9 +43,8 @@ loop-rule-preserved c =
           (subst (λ b. AreUsesAdded old new b rule (length w.body.result.now)) shown w.in_ok-push_uses.ensures)))
       | else-is_kept w ↦ subst (λ u. AreUsesOf G u (rule + 1)) (sym w.uses-is)
           (rule_removed G rule old c.loop-rule.invariant (λ (r, is).
-          let on = c.is_kept.ensures.1 (r, subst (λ A. IsRule A rule r) (sym c.reduced-reduced.ensures) is) in
-          let off = w.if-is_kept.false in
-          cc))
+          iff_false c.is_kept.ensures w.if-is_kept.false
+          (r, subst (λ A. IsRule A rule r) (sym c.reduced-reduced.ensures) is)))
     ]
 
 pub returns : goal.returns

@@ -41,9 +41,7 @@ loop-number-preserved c =
           (elim w.else-is_named.branch [
             | else-is_named-via-then-is_named+else-not-has v ↦ λ un. un.1 (v.has.ensures.0 v.if-not-has.false)
             | else-is_named-via-else-is_named v ↦ λ un.
-                let is = c.is_named.ensures.1 (named.1 un.0) in
-                let off = v.if-is_named.false in
-                cc
+                iff_false c.is_named.ensures v.if-is_named.false (named.1 un.0)
           ]))
     ]
 
