@@ -18,4 +18,4 @@ returns-in-None-clause-found c =
     let underway = c.loop-self.invariant.underway in
     let all : length s.found ≤ s.popped = omega (arith, c.loop-self-test.false, c.len.ensures.count) in
     λ d is. none_meets c.args.sought.now s.found s.links.items s.climbed s.popped underway.search
-        (underway.done c.in-None.is) all underway.popped d (c.loop-self.invariant.first ∙ is)
+    (underway.done c.in-None.is) all underway.popped d (c.loop-self.invariant.first ∙ is)
