@@ -92,8 +92,8 @@ impl Search {
     /// The shortest string that meets the first demand, which is sought to the end.
     fn finish(&mut self, alloc: Global, sought: &Sought<'_>) -> Result<Option<Vec<Symbol>>, Halt>
         requires underway { IsUnderway sought.now self.old }
-        ensures found { (d : demands.Demand) → slice_get self.old.found 0 ≡ Some d → IsProper d.first → IsProper d.second
-            → IfOk result (IsFoundBy sought.now d) }
+        ensures found { (d : demands.Demand) → slice_get self.old.found 0 ≡ Some d → IsProper d.first
+            → IsProper d.second → IfOk result (IsFoundBy sought.now d) }
         ensures many { IsErrOf result Halt.TooMany → HasMoreThanAllowed sought.now self.old }
     {
         while self.popped < self.found.len() {

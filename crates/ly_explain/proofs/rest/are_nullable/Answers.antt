@@ -1,4 +1,4 @@
-use Rattle.std.proofs.Common.{false, arith, subst, refl, sym}
+use Rattle.std.proofs.Common.{false, subst, refl, sym}
 use Rattle.std.proofs.lemmas.Bool.{both_ways, iff_false}
 use Rattle.ly_base.specs.Trees.{none}
 use Rattle.ly_grammar.specs.Derivations.{IsNullable}

@@ -1,4 +1,4 @@
-use Rattle.std.proofs.Common.{false, arith, subst, refl}
+use Rattle.std.proofs.Common.{false, subst, refl}
 use Rattle.std.proofs.lemmas.Bool.{both_ways, iff_false}
 use Rattle.ly_grammar.specs.Derivations.{BeginsYield}
 use Rattle.ly_relate.specs.Private.Walks.{HasNumberTo}
@@ -43,5 +43,6 @@ returns c = (
   λ yes. absurd (both_ways false refl yes),
   λ begins. absurd (begins_none c.args.reduced.now.grammar c.args.terminal.0
       (subst (λ w. BeginsYield c.args.reduced.now.grammar w c.args.terminal.0)
-      (rest_none c.args.symbols.now c.loop-symbol.symbol-index c.loop-symbol-test.false) (c.loop-symbol.invariant.0 begins))),
+      (rest_none c.args.symbols.now c.loop-symbol.symbol-index c.loop-symbol-test.false)
+      (c.loop-symbol.invariant.0 begins))),
 )

@@ -1,4 +1,4 @@
-use Rattle.std.proofs.Common.{◌↔◌, inl, inr, arith, subst, sym}
+use Rattle.std.proofs.Common.{◌↔◌, inl, inr, subst, sym}
 use Rattle.std.proofs.Common.{slice_index_or, Contains}
 use Rattle.ly_explain.specs.Demands.{ClimbsTo}
 use Rattle.ly_explain.specs.declared.claim.Claim.{Claim}
