@@ -1,9 +1,8 @@
 use Rattle.std.proofs.Common.{arith, subst, sym, Contains}
 use Rattle.std.proofs.lemmas.Bool.{iff_false}
 use Rattle.std.proofs.lemmas.List.Elements.{Contains-push}
-use Rattle.ly_explain.specs.declared.halt.Halt.TheVariants.{OutOfMemory, TooMany}
 use Rattle.ly_explain.proofs.SearchLemmas.{found_more, found_same, more_than_allowed}
-use Rattle.ly_explain.proofs.UnderwayLemmas.{one_err}
+use Rattle.ly_explain.proofs.UnderwayLemmas.{not_too_many}
 use Rattle.ly_explain.proofs.search.Search.add.Goals as goal
 
 pub returns-then-contains-clause-on : goal.returns-then-contains-clause-on
@@ -28,4 +27,4 @@ returns-clause-there c = subst (λ ds. Contains ds c.args.demand) (sym c.in_ok-p
 
 pub returns-in_err-push-clause-many : goal.returns-in_err-push-clause-many
 returns-in_err-push-clause-many c = λ is.
-    let same = one_err c.from_residual.result TooMany OutOfMemory is c.from_residual.ensures.1 in absurd (cc)
+    absurd (not_too_many c.from_residual.result is c.from_residual.ensures.1)

@@ -5,12 +5,12 @@ use Rattle.ly_join.proofs.ListLemmas.{member_at}
 use Rattle.ly_explain.specs.Demands.{IsClimb}
 use Rattle.ly_explain.specs.declared.claim.Claim.TheVariants.{Settled}
 use Rattle.ly_explain.specs.declared.claim.Demand.{Demand}
-use Rattle.ly_explain.specs.declared.halt.Halt.TheVariants.{OutOfMemory, TooMany}
+use Rattle.ly_explain.specs.declared.halt.Halt.TheVariants.{TooMany}
 use Rattle.ly_explain.specs.Private.Searches.{automaton_of}
 use Rattle.ly_explain.proofs.FoundLemmas.{same_claim}
 use Rattle.ly_explain.proofs.SearchLemmas.{allowed_before, found_on, stays_among}
-use Rattle.ly_explain.proofs.UnderwayLemmas.{climb_next, climb_next_kept, climbed_all, each_more, no_demand, one_err}
-use Rattle.ly_explain.proofs.UnderwayLemmas.{still_err}
+use Rattle.ly_explain.proofs.UnderwayLemmas.{climb_next, climb_next_kept, climbed_all, each_more, no_demand}
+use Rattle.ly_explain.proofs.UnderwayLemmas.{not_too_many, still_err}
 use Rattle.ly_explain.proofs.search.Search.climb.Goals.{else-eq-via-then-eq+else-eq-2, else-eq-via-else-eq}
 use Rattle.ly_explain.proofs.search.Search.climb.Goals as goal
 
@@ -79,4 +79,4 @@ returns-clause-climbs c =
 
 pub returns-in_err-demands-clause-many : goal.returns-in_err-demands-clause-many
 returns-in_err-demands-clause-many c = λ is.
-    let same = one_err c.from_residual.result TooMany OutOfMemory is c.from_residual.ensures.1 in absurd (cc)
+    absurd (not_too_many c.from_residual.result is c.from_residual.ensures.1)

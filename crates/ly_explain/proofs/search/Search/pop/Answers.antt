@@ -4,10 +4,11 @@ use Rattle.ly_join.specs.Grammar.{symbol_of}
 use Rattle.ly_join.proofs.ListLemmas.{member_at}
 use Rattle.ly_explain.specs.Demands.{IsPop}
 use Rattle.ly_explain.specs.declared.steps.Pop.{Pop}
-use Rattle.ly_explain.specs.declared.halt.Halt.TheVariants.{OutOfMemory, TooMany}
+use Rattle.ly_explain.specs.declared.halt.Halt.TheVariants.{TooMany}
 use Rattle.ly_explain.specs.Private.Searches.{automaton_of}
 use Rattle.ly_explain.proofs.SearchLemmas.{allowed_before, found_on, stays_among}
-use Rattle.ly_explain.proofs.UnderwayLemmas.{each_more, no_pop, one_err, pop_next, pop_next_kept, popped_all, still_err}
+use Rattle.ly_explain.proofs.UnderwayLemmas.{each_more, no_pop, not_too_many, pop_next, pop_next_kept, popped_all}
+use Rattle.ly_explain.proofs.UnderwayLemmas.{still_err}
 use Rattle.ly_explain.proofs.search.Search.pop.Goals as goal
 
 pub pops-requires-clause-kept : goal.pops-requires-clause-kept
@@ -66,4 +67,4 @@ returns-clause-pops c = popped_all c.args.sought.now c.args.self.now c.loop-next
 
 pub returns-in_err-demands-clause-many : goal.returns-in_err-demands-clause-many
 returns-in_err-demands-clause-many c = λ is.
-    let same = one_err c.from_residual.result TooMany OutOfMemory is c.from_residual.ensures.1 in absurd (cc)
+    absurd (not_too_many c.from_residual.result is c.from_residual.ensures.1)
