@@ -20,6 +20,8 @@ use Rattle.ly_explain.specs.declared.claim.Claim.{Claim}
 use Rattle.ly_explain.specs.declared.claim.Claim.TheVariants.{Settled}
 use Rattle.ly_explain.specs.declared.claim.Demand.{Demand}
 use Rattle.ly_explain.specs.declared.found.Link.{Link}
+use Rattle.ly_explain.specs.declared.halt.Halt.{Halt}
+use Rattle.ly_explain.specs.declared.halt.Halt.TheVariants.{OutOfMemory, TooMany}
 use Rattle.ly_explain.specs.declared.search.Search.{Search}
 use Rattle.ly_explain.specs.declared.search.Sought.{Sought}
 use Rattle.ly_explain.specs.declared.steps.Pop.{Pop}
@@ -366,6 +368,13 @@ module _ (w : Sought) (old mid : Search) (was : IsSearch w old) (on : GoesOn w o
 pub state_within : (w : Sought) (found : List Demand) (links : List Link) → AreFound w found links → (k : ℕ)
     (d : Demand) → slice_get found k ≡ Some d → d.state.0 < length (automaton_of w).states
 state_within w found links are k d at = (are.kept d (member_at found k d at)).state
+
+-- a growth that was refused isn't one demand too many
+pub not_too_many : {T : Type 0} (r : Result T Halt) → IsErrOf r TooMany → IsErrAnd r (λ x. x ≡ OutOfMemory) → ⊥
+not_too_many (Ok x) is on = absurd on
+not_too_many (Err x) is on =
+    let same : x ≡ TooMany = cc in
+    let other : TooMany ≡ OutOfMemory = sym same ∙ on in cc
 
 -- a fault that is handed on is the same
 pub still_err : {T U E : Type 0} (r : Result T E) (e f : E) → IsErrOf r e → IsErrAnd r (λ x. x ≡ f)

@@ -56,10 +56,8 @@ impl<'a> Examples<'a> {
     pub fn new(alloc: Global, resolved: &'a Resolved<'a>) -> Result<Examples<'a>, OutOfMemory>
         ensures { IfOk result (λ e. e ≡ resolved.now) }
     {
-        Ok(Examples {
-            resolved,
-            ground: ground_of(alloc, resolved.lr0())?,
-        })
+        let ground = ground_of(alloc, resolved.lr0())?;
+        Ok(Examples { resolved, ground })
     }
 
     /// The conflicts.
@@ -97,16 +95,6 @@ impl<'a> Examples<'a> {
         }
     }
 
-    /// The item of the rule of a conflict, with its dot at the end.
-    fn reduced(&self, conflict: &Conflict) -> Item
-        requires { (r : GrammarRule) × IsRule self.now.automaton.grammar conflict.now.rule r }
-        ensures rule { result.rule ≡ conflict.now.rule }
-        ensures end { (r : GrammarRule) × IsRule self.now.automaton.grammar conflict.now.rule r
-            × (result.dot ≡ length r.body) }
-    {
-        self.whole(conflict.rule)
-    }
-
     /// The specification.
     fn spec(&self) -> &'a Spec
         ensures these { result.now ≡ self.now.spec }
@@ -126,7 +114,7 @@ impl<'a> Examples<'a> {
         let _spec = self.spec();
         Demand {
             state: conflict.state,
-            first: Claim::With(self.reduced(conflict)),
+            first: Claim::With(self.whole(conflict.rule)),
             second: self.rival(conflict),
         }
     }

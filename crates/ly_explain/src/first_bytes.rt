@@ -11,7 +11,7 @@ use ly_base::{Emitted, OutOfMemory, RuleNo, ScanAction, Sym};
 use ly_digraph::{Graph, least};
 use ly_sets::SetMatrix;
 use ly_subset::Dfa;
-use std::alloc::{AllocError, Global};
+use std::alloc::Global;
 
 /// Of all bytes those that stand first in a match of a rule that returns its first byte.
 pub(crate) fn first_bytes(
@@ -64,11 +64,11 @@ fn leading_states(alloc: Global, actions: &[ScanAction], dfa: &Dfa) -> Result<Ma
     let moves = moves(alloc, dfa)?;
     let mut sets = first_states(alloc, actions, dfa)?;
     least(alloc, &moves, &mut sets)?;
-    Ok(rows_with_zero(alloc, states, &sets)?)
+    rows_with_zero(alloc, states, &sets)
 }
 
 /// The numbers of the rows that have 0.
-fn rows_with_zero(alloc: Global, rows: usize, sets: &SetMatrix) -> Result<Marks, AllocError>
+fn rows_with_zero(alloc: Global, rows: usize, sets: &SetMatrix) -> Result<Marks, OutOfMemory>
     requires rows { rows ≡ length sets.now.sets }
     requires width { sets.now.width ≡ 1 }
     ensures { IfOk result (AreMarked rows (HasZero sets.now.sets)) }

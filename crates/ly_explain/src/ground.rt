@@ -7,7 +7,7 @@ ghost use Rattle.ly_explain.specs.Private.Grounds.{AreIncoming, AreUses};
 ghost use Rattle.ly_explain.specs.Private.Lists.{AreIncomingOf, AreUsesAdded, IsGround};
 
 use crate::incoming::Incoming;
-use crate::lists::{IncomingLists, UseLists};
+use crate::lists::Lists;
 use ly_base::{OutOfMemory, StateNo};
 use ly_join::Symbol;
 use ly_lr0::{Item, Lr0};
@@ -19,9 +19,9 @@ pub(crate) struct Ground<'a> {
     /// The automaton.
     pub(crate) lr0: &'a Lr0<'a>,
     /// For each state the transitions that lead to it.
-    pub(crate) incoming: IncomingLists,
+    pub(crate) incoming: Lists<Incoming>,
     /// For each nonterminal the items that have it behind the dot.
-    pub(crate) uses: UseLists,
+    pub(crate) uses: Lists<Item>,
     /// For each state how long its prefix is.
     pub(crate) lengths: Vec<usize>,
 }
@@ -31,20 +31,23 @@ pub(crate) fn ground_of<'a>(alloc: Global, lr0: &'a Lr0<'a>) -> Result<Ground<'a
     ensures automaton { IfOk result (λ g. g.lr0.now ≡ lr0.now) }
     ensures ground { IfOk result IsGround }
 {
+    let lengths = lengths_of(alloc, lr0)?;
+    let uses = uses_of(alloc, lr0)?;
+    let incoming = incoming_of(alloc, lr0)?;
     Ok(Ground {
         lr0,
-        incoming: incoming_of(alloc, lr0)?,
-        uses: uses_of(alloc, lr0)?,
-        lengths: lengths_of(alloc, lr0)?,
+        incoming,
+        uses,
+        lengths,
     })
 }
 
 /// For each state the transitions that lead to it.
-fn incoming_of(alloc: Global, lr0: &Lr0<'_>) -> Result<IncomingLists, OutOfMemory>
+fn incoming_of(alloc: Global, lr0: &Lr0<'_>) -> Result<Lists<Incoming>, OutOfMemory>
     ensures incoming { IfOk result (AreIncoming lr0.now) }
     ensures lawful { IsLr0Automaton lr0.now }
 {
-    let mut incoming = IncomingLists::new(alloc, lr0.states())?;
+    let mut incoming = Lists::new(alloc, lr0.states())?;
     for state in 0..lr0.states() {
         push_leaving(&mut incoming, lr0, StateNo(state as u32))?;
     }
@@ -53,7 +56,7 @@ fn incoming_of(alloc: Global, lr0: &Lr0<'_>) -> Result<IncomingLists, OutOfMemor
 
 /// Adds the transitions that leave a state.
 fn push_leaving(
-    incoming: &mut IncomingLists,
+    incoming: &mut Lists<Incoming>,
     lr0: &Lr0<'_>,
     from: StateNo,
 ) -> Result<(), OutOfMemory>
@@ -75,12 +78,12 @@ fn push_leaving(
 }
 
 /// For each nonterminal the items that have it behind the dot, of the rules that are kept.
-fn uses_of(alloc: Global, lr0: &Lr0<'_>) -> Result<UseLists, OutOfMemory>
+fn uses_of(alloc: Global, lr0: &Lr0<'_>) -> Result<Lists<Item>, OutOfMemory>
     ensures { IfOk result (AreUses lr0.now.grammar) }
 {
     let reduced = lr0.reduced();
     let grammar = reduced.grammar();
-    let mut uses = UseLists::new(alloc, grammar.accept().0 as usize + 1)?;
+    let mut uses = Lists::new(alloc, grammar.accept().0 as usize + 1)?;
     for rule in 0..grammar.rules().len() {
         if reduced.is_kept(rule) {
             push_uses(&mut uses, grammar.rule(rule).body(), rule)?;
@@ -90,7 +93,7 @@ fn uses_of(alloc: Global, lr0: &Lr0<'_>) -> Result<UseLists, OutOfMemory>
 }
 
 /// Adds the items of a rule that have a nonterminal behind the dot.
-fn push_uses(uses: &mut UseLists, body: &[Symbol], rule: usize) -> Result<(), OutOfMemory>
+fn push_uses(uses: &mut Lists<Item>, body: &[Symbol], rule: usize) -> Result<(), OutOfMemory>
     requires { All (HasNumberBelow (length uses.old)) (map symbol_of body.now) }
     ensures { OnOk result (AreUsesAdded uses.old uses.new (map symbol_of body.now) rule (length body.now)) }
 {
@@ -108,7 +111,8 @@ fn lengths_of(alloc: Global, lr0: &Lr0<'_>) -> Result<Vec<usize>, OutOfMemory>
 {
     let mut lengths = Vec::with_capacity(alloc, lr0.states())?;
     for state in 0..lr0.states() {
-        lengths.push(lr0.prefix(alloc, StateNo(state as u32))?.len())?;
+        let length = lr0.prefix(alloc, StateNo(state as u32))?.len();
+        lengths.push(length)?;
     }
     Ok(lengths)
 }

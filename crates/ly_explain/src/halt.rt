@@ -5,7 +5,7 @@ use ly_base::OutOfMemory as NoMemory;
 use std::alloc::AllocError;
 
 /// Why a search ends without an answer.
-#[derive(Debug, Drop)]
+#[derive(Drop)]
 pub(crate) enum Halt {
     /// There are more demands than were allowed.
     TooMany,

@@ -1,40 +1,37 @@
 ghost use Rattle.std.specs.Prelude.{◌≡◌, ◌<◌, ◌++◌, [], ◌∷◌, length, replicate, slice_index_or, slice_set, IfOk, OnOk};
 
-use crate::incoming::Incoming;
-use ly_lr0::Item;
 use std::alloc::{AllocError, Global};
 use std::marker::Model;
 
-/// For each state the transitions that lead to it.
+/// For each number below a count a list.
 #[derive(Drop)]
-pub(crate) struct IncomingLists {
+pub(crate) struct Lists<T> {
     /// The lists.
-    lists: Vec<Vec<Incoming>>,
+    lists: Vec<Vec<T>>,
 }
 
-impl Model for IncomingLists {
+impl<T> Model for Lists<T> {
     ghost use Rattle.std.specs.Prelude.{List, map};
-    ghost use Rattle.ly_explain.specs.declared.incoming.Incoming as element;
 
-    ghost Value = { List (List element.Incoming) };
+    ghost Value = { List (List T) };
 
     ghost view = { λ w. map (λ list. list.items) w.lists.items };
 }
 
-impl IncomingLists {
+impl<T: Copy> Lists<T> {
     /// So many empty lists.
-    pub(crate) fn new(alloc: Global, count: usize) -> Result<Self, AllocError>
+    pub(crate) fn new(alloc: Global, count: usize) -> Result<Lists<T>, AllocError>
         ensures { IfOk result (λ w. w ≡ replicate count []) }
     {
         let mut lists = Vec::with_capacity(alloc, count)?;
         for _ in 0..count {
             lists.push(Vec::new(alloc))?;
         }
-        Ok(IncomingLists { lists })
+        Ok(Lists { lists })
     }
 
     /// Adds to the list of a number.
-    pub(crate) fn push(&mut self, number: usize, value: Incoming) -> Result<(), AllocError>
+    pub(crate) fn push(&mut self, number: usize, value: T) -> Result<(), AllocError>
         requires { number < length self.old }
         ensures { OnOk result (self.new ≡
             slice_set self.old number (slice_index_or self.old number [] ++ value ∷ [])) }
@@ -44,54 +41,7 @@ impl IncomingLists {
     }
 
     /// The list of a number.
-    pub(crate) fn of(&self, number: usize) -> &[Incoming]
-        requires { number < length self.now }
-        ensures { result.now ≡ slice_index_or self.now number [] }
-    {
-        &self.lists[number]
-    }
-}
-
-/// For each nonterminal the items that have it behind the dot.
-#[derive(Drop)]
-pub(crate) struct UseLists {
-    /// The lists.
-    lists: Vec<Vec<Item>>,
-}
-
-impl Model for UseLists {
-    ghost use Rattle.std.specs.Prelude.{List, map};
-    ghost use Rattle.ly_lr0.specs.declared.item.Item as element;
-
-    ghost Value = { List (List element.Item) };
-
-    ghost view = { λ w. map (λ list. list.items) w.lists.items };
-}
-
-impl UseLists {
-    /// So many empty lists.
-    pub(crate) fn new(alloc: Global, count: usize) -> Result<Self, AllocError>
-        ensures { IfOk result (λ w. w ≡ replicate count []) }
-    {
-        let mut lists = Vec::with_capacity(alloc, count)?;
-        for _ in 0..count {
-            lists.push(Vec::new(alloc))?;
-        }
-        Ok(UseLists { lists })
-    }
-
-    /// Adds to the list of a number.
-    pub(crate) fn push(&mut self, number: usize, value: Item) -> Result<(), AllocError>
-        requires { number < length self.old }
-        ensures { OnOk result (self.new ≡
-            slice_set self.old number (slice_index_or self.old number [] ++ value ∷ [])) }
-    {
-        self.lists[number].push(value)?;
-        Ok(())
-    }
-
-    /// The list of a number.
-    pub(crate) fn of(&self, number: usize) -> &[Item]
+    pub(crate) fn of(&self, number: usize) -> &[T]
         requires { number < length self.now }
         ensures { result.now ≡ slice_index_or self.now number [] }
     {

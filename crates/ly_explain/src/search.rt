@@ -1,14 +1,13 @@
 //! The search for a string that meets a demand: breadth first over demands, by how many symbols were popped.
 ghost use Rattle.std.specs.Prelude.{◌≡◌, ◌<◌, ◌≤◌, ◌++◌, ◌∷◌, [], ℕ, None, Some, Contains, IfOk, IsErrOf, OnOk, length};
-ghost use Rattle.std.specs.Prelude.{map, MatchOption, option_map, reverse, slice_get, true};
-ghost use Rattle.ly_join.specs.Grammar.{symbol_of, Symbol as symbols};
-ghost use Rattle.std.specs.Prelude.{List};
+ghost use Rattle.std.specs.Prelude.{map, option_map, reverse, slice_get, true};
+ghost use Rattle.ly_join.specs.Grammar.{symbol_of};
 ghost use Rattle.ly_explain.specs.Demands.{IsStep};
 ghost use Rattle.ly_explain.specs.Private.Kept.{IsKeptDemand};
 ghost use Rattle.ly_explain.specs.Private.Lists.{IsGround};
 ghost use Rattle.ly_explain.specs.Private.Met.{IsMet, IsProper};
 ghost use Rattle.ly_explain.specs.Private.Searches.{automaton_of, measure_of, GoesOn, HasMore, HasMoreThanAllowed};
-ghost use Rattle.ly_explain.specs.Private.Searches.{IsClimbed, IsPopped, IsSearch, IsUnderway};
+ghost use Rattle.ly_explain.specs.Private.Searches.{IsClimbed, IsFoundBy, IsPopped, IsSearch, IsUnderway};
 ghost use Rattle.ly_explain.specs.declared.claim.Demand as demands;
 
 use crate::claim::{Claim, Demand};
@@ -57,21 +56,12 @@ pub(crate) fn shortest(
     requires kept { IsKeptDemand (automaton_of sought.now) demand }
     requires first { IsProper demand.first }
     requires second { IsProper demand.second }
-    ensures found { IfOk result (λ s. MatchOption s
-        ((g : List symbols) → IsMet (automaton_of sought.now) sought.now.terminal.0 g demand → ⊥)
-        (λ string. IsMet (automaton_of sought.now) sought.now.terminal.0
-        (reverse (map symbol_of string.items)) demand)) }
+    ensures found { IfOk result (IsFoundBy sought.now demand) }
     ensures many { IsErrOf result Halt.TooMany
         → HasMore (automaton_of sought.now) sought.now.terminal.0 sought.now.bound demand }
 {
     let mut search = Search::new(alloc, sought, demand)?;
-    while search.popped < search.found.len() {
-        search.advance(alloc, sought)?;
-    }
-    match search.best {
-        Some(place) => Ok(Some(search.string(alloc, sought, place)?)),
-        None => Ok(None),
-    }
+    search.finish(alloc, sought)
 }
 
 impl Search {
@@ -97,6 +87,22 @@ impl Search {
             popped: 0,
             best: None,
         })
+    }
+
+    /// The shortest string that meets the first demand, which is sought to the end.
+    fn finish(&mut self, alloc: Global, sought: &Sought<'_>) -> Result<Option<Vec<Symbol>>, Halt>
+        requires underway { IsUnderway sought.now self.old }
+        ensures found { (d : demands.Demand) → slice_get self.old.found 0 ≡ Some d → IsProper d.first
+            → IsProper d.second → IfOk result (IsFoundBy sought.now d) }
+        ensures many { IsErrOf result Halt.TooMany → HasMoreThanAllowed sought.now self.old }
+    {
+        while self.popped < self.found.len() {
+            self.advance(alloc, sought)?;
+        }
+        match self.best {
+            Some(place) => Ok(Some(self.string(alloc, sought, place)?)),
+            None => Ok(None),
+        }
     }
 
     /// Climbs from the next demand from which that wasn't done, or pops where there is none.

@@ -23,7 +23,7 @@ use ly_lr0::Item;
 use std::alloc::{AllocError, Global};
 
 /// A demand on a string without its last symbol.
-#[derive(Clone, Copy, Debug, PartialEq, Eq)]
+#[derive(Clone, Copy)]
 pub(crate) struct Pop {
     /// The symbol.
     pub(crate) symbol: Symbol,

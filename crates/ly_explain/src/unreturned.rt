@@ -29,7 +29,7 @@ pub fn unreturned_terminals(alloc: Global, spec: &Spec, dfa: &Dfa) -> Result<Vec
     let mut returned = Marks::new(alloc, spec.terminals().len())?;
     mark_own(&mut returned, actions, &matched);
     mark_literals(&mut returned, spec.terminals(), &bytes);
-    Ok(unmarked_terminals(alloc, spec, &returned)?)
+    unmarked_terminals(alloc, spec, &returned)
 }
 
 /// Marks the terminals that marked rules return themselves.

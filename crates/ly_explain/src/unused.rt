@@ -9,7 +9,7 @@ ghost use Rattle.ly_explain.specs.Private.Unmarked.{IsUnmarked};
 use crate::marks::Marks;
 use ly_base::{OutOfMemory, Sym};
 use ly_join::{Spec, Symbol, TerminalName};
-use std::alloc::{AllocError, Global};
+use std::alloc::Global;
 
 /// The tokens and literals that stand in no body of a rule, rising.
 ///
@@ -21,7 +21,7 @@ pub fn unused_terminals(alloc: Global, spec: &Spec) -> Result<Vec<Sym>, OutOfMem
     for rule in spec.grammar().rules() {
         mark_body(&mut used, rule.body());
     }
-    Ok(unmarked_terminals(alloc, spec, &used)?)
+    unmarked_terminals(alloc, spec, &used)
 }
 
 /// Marks the terminals of a body.
@@ -40,7 +40,7 @@ pub(crate) fn unmarked_terminals(
     alloc: Global,
     spec: &Spec,
     marks: &Marks,
-) -> Result<Vec<Sym>, AllocError>
+) -> Result<Vec<Sym>, OutOfMemory>
     ensures { IfOk result (λ found. AreRising (IsUnmarked spec.now marks.now) (map (λ t. t.0) found.items)) }
 {
     let names = spec.terminals();

@@ -1,7 +1,8 @@
 -- Searches under way.
 use Rattle.std.specs.Prelude.{◌≡◌, ◌≢◌, ◌⊎◌, ◌<◌, ◌≤◌, ◌+◌, ◌-◌, ◌++◌, ℕ, suc, List, Some, None, length, slice_get}
-use Rattle.std.specs.Prelude.{AllPairs, Contains, option_map}
-use Rattle.ly_join.specs.Grammar.{symbol_of}
+use Rattle.std.specs.Prelude.{AllPairs, Contains, map, MatchOption, Option, option_map, reverse}
+use Rattle.std.specs.Global.{Vec}
+use Rattle.ly_join.specs.Grammar.{Symbol, symbol_of}
 use Rattle.ly_join.specs.declared.symbol.Symbol as code
 use Rattle.ly_lr0.specs.Automaton.{Lr0Automaton}
 use Rattle.ly_explain.specs.Demands.{Follows, IsClimb, IsPop, IsStep}
@@ -12,6 +13,7 @@ use Rattle.ly_explain.specs.declared.search.Search.{Search}
 use Rattle.ly_explain.specs.declared.search.Sought.{Sought}
 use Rattle.ly_explain.specs.Private.Kept.{IsKeptDemand}
 use Rattle.ly_explain.specs.Private.Lists.{IsGround}
+use Rattle.ly_explain.specs.Private.Met.{IsMet}
 
 abbrev pub automaton_of : Sought → Lr0Automaton
 automaton_of w = w.ground.now.lr0.now
@@ -77,6 +79,11 @@ IsClimbed w old new place = (d : Demand) → slice_get old.found place ≡ Some 
 abbrev pub IsPopped : Sought → Search → Search → ℕ → Type 0
 IsPopped w old new place = (d : Demand) (X : code.Symbol) (e : Demand) → slice_get old.found place ≡ Some d
     → IsPop (automaton_of w) (symbol_of X) d e → Contains new.found e
+
+-- the answer to a demand: a string, its first symbol first, that meets it, or none where no string does
+abbrev pub IsFoundBy : Sought → Demand → Option (Vec code.Symbol) → Type 0
+IsFoundBy w d found = MatchOption found ((g : List Symbol) → IsMet (automaton_of w) w.terminal.0 g d → ⊥)
+    (λ string. IsMet (automaton_of w) w.terminal.0 (reverse (map symbol_of string.items)) d)
 
 -- how much is still to be gone through, at most
 abbrev pub measure_of : Sought → Search → ℕ

@@ -1,4 +1,5 @@
 use Rattle.std.proofs.Common.{arith, sym, subst}
+use Rattle.std.proofs.lemmas.Bool.{iff_false}
 use Rattle.ly_explain.specs.Private.FirstBytes.{AreFirstBefore, HasFirst}
 use Rattle.ly_explain.proofs.FirstByteLemmas.{first_row_more, first_row_same, no_first_rows}
 use Rattle.ly_explain.proofs.first_bytes.first_states.Goals as goal
@@ -22,10 +23,8 @@ loop-state-preserved c =
           w.insert.ensures)
       | else-returns_first w ↦ rw w.sets-is
           (first_row_same acts A n c.loop-state.sets c.loop-state.invariant
-          (λ has.
-          let on = c.returns_first.ensures.1 (subst (HasFirst acts) (sym c.rule.ensures) has) in
-          let off = w.if-returns_first.false in
-          cc))
+          (λ has. iff_false c.returns_first.ensures w.if-returns_first.false
+          (subst (HasFirst acts) (sym c.rule.ensures) has)))
     ]
 
 pub returns : goal.returns

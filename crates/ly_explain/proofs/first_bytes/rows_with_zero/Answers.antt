@@ -1,4 +1,5 @@
 use Rattle.std.proofs.Common.{◌≡◌, ◌∙◌, sym}
+use Rattle.std.proofs.lemmas.Bool.{both_ways}
 use Rattle.ly_explain.specs.Private.FirstBytes.{IsRowWithZero}
 use Rattle.ly_explain.proofs.FirstByteLemmas.{zeros_marked}
 use Rattle.ly_explain.proofs.MarkLemmas.{added_as, step_added, step_nothing}
@@ -19,10 +20,7 @@ loop-row-preserved c =
           (added_as (λ n. n ≡ k) (P k) old w.set.new.self (λ n. (λ same. (same, has), λ both. both.0)) w.set.ensures))
       | else-contains w ↦ rw w.marks-is
           (step_nothing P k first old (λ n both.
-          let on = both.1 in
-          let is = c.contains.ensures in
-          let off = w.if-contains.false in
-          cc) c.loop-row.invariant)
+          both_ways c.contains.result w.if-contains.false (c.contains.ensures ∙ both.1)) c.loop-row.invariant)
     ]
 
 pub returns : goal.returns

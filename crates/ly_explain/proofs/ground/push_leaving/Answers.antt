@@ -37,5 +37,6 @@ returns c = leaving_done c.args.lr0.now c.requires.lawful c.args.from c.requires
     c.transitions-transition-items.result.now
     c.transitions-transition-items.ensures c.args.incoming.now c.loop-transition.incoming c.requires.before
     (subst (AreLeavingAdded c.args.incoming.now c.loop-transition.incoming c.args.from)
-    (take_all c.loop-transition.transition-index c.transitions-transition-items.result.now (omega arith))
+    (take_all c.loop-transition.transition-index c.transitions-transition-items.result.now
+    c.loop-transition-test.false)
     c.loop-transition.invariant)

@@ -1,4 +1,5 @@
 use Rattle.std.proofs.Common.{◌≡◌, ◌∙◌, ◌+◌, Some, ap, arith, subst, sym, length, map, All}
+use Rattle.std.proofs.lemmas.Bool.{iff_false}
 use Rattle.std.proofs.lemmas.List.{length-map}
 use Rattle.ly_join.specs.Grammar.{IsAugmented, IsRule, symbol_of}
 use Rattle.ly_grammar.specs.Private.Search.{HasNumberBelow}
@@ -42,9 +43,8 @@ loop-rule-preserved c =
           (subst (λ b. AreUsesAdded old new b rule (length w.body.result.now)) shown w.in_ok-push_uses.ensures)))
       | else-is_kept w ↦ subst (λ u. AreUsesOf G u (rule + 1)) (sym w.uses-is)
           (rule_removed G rule old c.loop-rule.invariant (λ (r, is).
-          let on = c.is_kept.ensures.1 (r, subst (λ A. IsRule A rule r) (sym c.reduced-reduced.ensures) is) in
-          let off = w.if-is_kept.false in
-          cc))
+          iff_false c.is_kept.ensures w.if-is_kept.false
+          (r, subst (λ A. IsRule A rule r) (sym c.reduced-reduced.ensures) is)))
     ]
 
 pub returns : goal.returns
@@ -55,3 +55,16 @@ returns c =
     = sym (length-map c.rules-rule-end.result.now (λ r. Some r)) ∙ ap length c.rules-rule-end.ensures.these in
     uses_all c.args.lr0.now.grammar c.loop-rule.uses c.loop-rule.rule (omega (arith, numbers, same, these))
     c.loop-rule.invariant
+
+pub rule-requires : goal.rule-requires
+rule-requires c =
+    let these : length c.rules-rule-end.result.now ≡ length c.grammar-grammar.result.now.rules
+    = sym (length-map c.rules-rule-end.result.now (λ r. Some r)) ∙ ap length c.rules-rule-end.ensures.these in
+    omega (arith, c.loop-rule-test.true, these)
+
+pub is_kept-requires : goal.is_kept-requires
+is_kept-requires c =
+    let numbers = c.grammar-grammar.ensures.keeps.numbers in
+    let these : length c.rules-rule-end.result.now ≡ length c.grammar-grammar.result.now.rules
+    = sym (length-map c.rules-rule-end.result.now (λ r. Some r)) ∙ ap length c.rules-rule-end.ensures.these in
+    omega (arith, c.loop-rule-test.true, numbers, these)

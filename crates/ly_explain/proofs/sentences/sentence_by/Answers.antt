@@ -28,7 +28,7 @@ returns-in_default c =
     let rules = c.args.rules.now in
     let l = c.loop-number in
     let on = subst (IsUnderWay G rules (numbers_of l.sentence.items) (ahead_of l.ahead.items))
-    (next_rule rules l.number-index (omega arith)) l.invariant in
+    (next_rule rules l.number-index c.loop-number-test.true) l.invariant in
     way_over G rules (numbers_of c.next_left.new.sentence.items) (slice_index_or rules l.number-index 0)
     (drop (l.number-index + 1) rules)
     (way_out G rules (ahead_of l.ahead.items) (ahead_of c.next_left.new.ahead.items) (numbers_of l.sentence.items)
@@ -47,7 +47,7 @@ returns-in_default-get c =
     (λ r is same. no_rule_kept G c.rules.result.now c.rules.ensures.these p
     (omega (arith, c.in_default-get.ensures.lookup)) r is)
     (way_next G rules l.number-index (ahead_of l.ahead.items) new (numbers_of l.sentence.items) behind
-    c.in_ok-left.field-0 c.in-Some.left (omega arith) l.invariant c.in_ok-left.ensures c.in-Some.is)
+    c.in_ok-left.field-0 c.in-Some.left c.loop-number-test.true l.invariant c.in_ok-left.ensures c.in-Some.is)
 
 pub returns-then-ne : goal.returns-then-ne
 returns-then-ne c =
@@ -66,7 +66,7 @@ returns-then-ne c =
     way_other G rules behind c.in-Some.left.0 new p (drop (l.number-index + 1) rules)
     (λ q is_q same. apart (rule_left_same G p q r is_q is same))
     (way_next G rules l.number-index (ahead_of l.ahead.items) new (numbers_of l.sentence.items) behind
-    c.in_ok-left.field-0 c.in-Some.left (omega arith) l.invariant c.in_ok-left.ensures c.in-Some.is)
+    c.in_ok-left.field-0 c.in-Some.left c.loop-number-test.true l.invariant c.in_ok-left.ensures c.in-Some.is)
 
 pub loop-number-preserved : goal.loop-number-preserved
 loop-number-preserved c =
@@ -79,7 +79,7 @@ loop-number-preserved c =
     let behind = numbers_of c.next_left.new.sentence.items in
     let new = ahead_of c.next_left.new.ahead.items in
     let way = way_next G rules l.number-index (ahead_of l.ahead.items) new (numbers_of l.sentence.items) behind
-    c.in_ok-left.field-0 c.in-Some.left (omega arith) l.invariant c.in_ok-left.ensures c.in-Some.is in
+    c.in_ok-left.field-0 c.in-Some.left c.loop-number-test.true l.invariant c.in_ok-left.ensures c.in-Some.is in
     let is = rule_kept G c.rules.result.now c.rules.ensures.these p r c.in-Some-get.ensures.lookup.3.0
     c.in-Some-get.ensures.lookup.1 in
     let same : r.left ≡ c.in-Some.left.0
@@ -98,7 +98,7 @@ returns-in-None c =
     let way = way_out G rules (ahead_of l.ahead.items) (ahead_of c.next_left-2.new.ahead.items)
     (numbers_of l.sentence.items) done c.in_ok-next_left.field-0 [] (subst
     (IsUnderWay G rules (numbers_of l.sentence.items) (ahead_of l.ahead.items))
-    (drop_all l.number-index rules (omega arith)) l.invariant) c.in_ok-next_left.ensures c.in-None.is in
+    (drop_all l.number-index rules c.loop-number-test.false) l.invariant) c.in_ok-next_left.ensures c.in-None.is in
     (way_end G rules done way, one_sentence G rules done way)
 
 pub returns : goal.returns
@@ -111,4 +111,4 @@ returns c =
     way_short G rules done c.in-Some-2.field-0.0 new (way_on G rules (ahead_of l.ahead.items) new
     (numbers_of l.sentence.items) done c.in_ok-next_left.field-0 c.in-Some-2.field-0 [] (subst
     (IsUnderWay G rules (numbers_of l.sentence.items) (ahead_of l.ahead.items))
-    (drop_all l.number-index rules (omega arith)) l.invariant) c.in_ok-next_left.ensures c.in-Some-2.is)
+    (drop_all l.number-index rules c.loop-number-test.false) l.invariant) c.in_ok-next_left.ensures c.in-Some-2.is)

@@ -1,4 +1,5 @@
 use Rattle.std.proofs.Common.{◌∙◌, ◌↔◌, ◌⊎◌, ap, subst, sym, Contains}
+use Rattle.std.proofs.lemmas.Bool.{iff_false}
 use Rattle.ly_explain.specs.Demands.{ClimbsTo}
 use Rattle.ly_explain.specs.declared.claim.Claim.{Claim}
 use Rattle.ly_explain.specs.declared.claim.Claim.TheVariants.{InCore, Settled, With}
@@ -45,8 +46,7 @@ returns c =
           let i = w.in-InCore.item in
           subst (λ x. (e : Claim) → Contains new e ↔ ClimbsTo M t s x e) (sym w.in-InCore.is)
           (only_none (ClimbsTo M t s (InCore i)) old new empty (ap (λ v. v.items) w.claims-is)
-          (climb_not_begun M t s i (λ dot begun. let on = w.is_begun.ensures.1 begun in
-          let off = w.if-is_begun.false in cc)))
+          (climb_not_begun M t s i (λ dot. iff_false w.is_begun.ensures w.if-is_begun.false)))
       | in-InCore+else-item-eq0-2 w ↦
           let i = w.in-InCore.item in
           subst (λ x. (e : Claim) → Contains new e ↔ ClimbsTo M t s x e) (sym w.in-InCore.is)

@@ -1,4 +1,4 @@
-use Rattle.std.proofs.Common.{◌↔◌, inl, inr, arith, subst, sym}
+use Rattle.std.proofs.Common.{◌↔◌, inl, inr, subst, sym}
 use Rattle.std.proofs.Common.{slice_index_or, Contains}
 use Rattle.ly_explain.specs.Demands.{ClimbsTo}
 use Rattle.ly_explain.specs.declared.claim.Claim.{Claim}
@@ -24,7 +24,7 @@ loop-second-init c e =
     let d = c.args.demand in
     let xs = c.deref-first-items.result.now in
     let inv = c.loop-first.invariant e in
-    let all = all_sources (IsWithFirst d) xs c.loop-first.first-index (omega arith) e in
+    let all = all_sources (IsWithFirst d) xs c.loop-first.first-index c.loop-first-test.false e in
     let are = firsts_are M t d xs (subst (λ w. (a : Claim) → Contains w a ↔ ClimbsTo M t d.state.0 d.first a)
     (sym c.deref-first-items.ensures.value) c.in_ok-claims_above.ensures) e in (
       λ has. inl (are.0 (all.0 (inv.0 has))),
@@ -52,7 +52,7 @@ returns c e =
     let d = c.args.demand in
     let xs = c.deref-second-items.result.now in
     let inv = c.loop-second.invariant e in
-    let all = all_sources (IsWithSecond d) xs c.loop-second.second-index (omega arith) e in
+    let all = all_sources (IsWithSecond d) xs c.loop-second.second-index c.loop-second-test.false e in
     let are = climbs_are M t d xs (subst (λ w. (a : Claim) → Contains w a ↔ ClimbsTo M t d.state.0 d.second a)
     (sym c.deref-second-items.ensures.value) c.in_ok-claims_above-2.ensures) e in (
       λ has. are.0 (elim (inv.0 has) [ inl first ↦ inl first | inr some ↦ inr (all.0 some) ]),

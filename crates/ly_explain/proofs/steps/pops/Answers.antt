@@ -1,4 +1,4 @@
-use Rattle.std.proofs.Common.{◌≡◌, ◌∙◌, ap, take, ◌<◌, ◌↔◌, arith, subst, sym, length, slice_index_or, Contains, Some}
+use Rattle.std.proofs.Common.{◌≡◌, ◌∙◌, ap, take, ◌<◌, ◌↔◌, subst, sym, length, slice_index_or, Contains, Some}
 use Rattle.ly_join.specs.Grammar.{symbol_of}
 use Rattle.ly_lr0.specs.Automaton.{goto_of}
 use Rattle.ly_explain.specs.Private.Uses.{HasSource, IsPopBy}
@@ -38,7 +38,8 @@ pub returns : goal.returns
 returns c p =
     let M = c.args.ground.now.lr0.now in
     let xs = c.of-incoming-items.result.now in
-    let all = all_sources (IsPopBy M.grammar c.args.demand) xs c.loop-incoming.incoming-index (omega arith) p in
+    let all = all_sources (IsPopBy M.grammar c.args.demand) xs c.loop-incoming.incoming-index
+    c.loop-incoming-test.false p in
     let are = pops_are M c.args.demand xs (λ x. subst (λ w. Contains w x
     ↔ (goto_of M x.from.0 (symbol_of x.symbol) ≡ Some c.args.demand.state.0)) (sym c.of-incoming-items.ensures)
     (c.requires.ground.incoming.exact c.args.demand.state.0 x c.requires.kept.state)) p in

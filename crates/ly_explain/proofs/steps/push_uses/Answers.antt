@@ -1,4 +1,4 @@
-use Rattle.std.proofs.Common.{◌∙◌, ◌↔◌, inl, inr, arith, ap, subst, sym, slice_index_or}
+use Rattle.std.proofs.Common.{◌∙◌, ◌↔◌, inl, inr, ap, subst, sym, slice_index_or}
 use Rattle.std.proofs.Common.{Contains}
 use Rattle.std.proofs.lemmas.List.Elements.{Contains-get_or}
 use Rattle.ly_join.specs.Grammar.{nonterminal}
@@ -42,7 +42,8 @@ returns c e =
     (uses_climb M t c.args.rule k.0 xs k.1 (uses_exact M.grammar c.args.ground.now.uses c.args.rule c.left-left.result.0
     k.0 xs c.requires.ground.lawful.augmented c.requires.ground.uses k.1 (c.left-left.ensures ∙ ap (λ r. r.left) same)
     c.of-item-items.ensures) e) in
-    let all = all_sources (IsUseBy c.reduced-reduced.result.now.grammar t) xs c.loop-item.item-index (omega arith) e in
+    let all = all_sources (IsUseBy c.reduced-reduced.result.now.grammar t) xs c.loop-item.item-index
+    c.loop-item-test.false e in
     let inv = c.loop-item.invariant e in (
       λ has. elim (inv.0 has) [ inl was ↦ inl was | inr some ↦ inr (are.0 (all.0 some)) ],
       λ either. inv.1 (elim either [ inl was ↦ inl was | inr climbs ↦ inr (all.1 (are.1 climbs)) ]),

@@ -1,4 +1,5 @@
 use Rattle.std.proofs.Common.{arith}
+use Rattle.std.proofs.lemmas.Bool.{iff_false}
 use Rattle.ly_explain.specs.Doubts.{NeverMatches}
 use Rattle.ly_explain.proofs.MatchedLemmas.{matched_other}
 use Rattle.ly_explain.proofs.RisingLemmas.{rising_all, rising_more, rising_same}
@@ -14,10 +15,7 @@ loop-rule-preserved c =
       | then-not-has+in_ok-push w ↦ rw w.found-is
           (rising_more P i c.loop-rule.found.items w.push.new.self.items c.loop-rule.invariant (
             c.loop-rule-test.true,
-            λ is.
-                let on = c.has.ensures.1 (marked.1 (c.loop-rule-test.true, is)) in
-                let off = w.if-not-has.true in
-                cc,
+            λ is. iff_false c.has.ensures w.if-not-has.true (marked.1 (c.loop-rule-test.true, is)),
           )
           w.in_ok-push.ensures.items)
       | else-not-has w ↦ rw w.found-is

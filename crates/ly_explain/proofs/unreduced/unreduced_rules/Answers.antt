@@ -1,4 +1,5 @@
 use Rattle.std.proofs.Common.{◌≡◌, ◌∙◌, Some, ap, arith, length, subst, sym}
+use Rattle.std.proofs.lemmas.Bool.{iff_false}
 use Rattle.std.proofs.lemmas.List.{length-map}
 use Rattle.std.proofs.lemmas.Option.{slice_get_within}
 use Rattle.ly_join.specs.Grammar.{IsRule}
@@ -32,10 +33,8 @@ loop-rule-preserved c =
             u.0,
             u.1,
             u.2,
-            λ by.
-                let on = w.has.ensures.1 (marked.1 (slice_get_within r.spec.grammar.rules p (Some u.0) u.1, by)) in
-                let off = w.if-not-has.true in
-                cc,
+            λ by. iff_false w.has.ensures w.if-not-has.true
+                (marked.1 (slice_get_within r.spec.grammar.rules p (Some u.0) u.1, by)),
           ) w.in_ok-push.ensures.items)
       | else-is_kept w ↦ rw w.found-is
           (rising_same P p found c.loop-rule.invariant
@@ -44,9 +43,7 @@ loop-rule-preserved c =
                 never.4 (marked.0 (v.has.ensures.0 v.if-not-has.false)).1
             | else-is_kept-via-else-is_kept v ↦ λ never.
                 let k = useful.1 (never.1, never.2, never.3) in
-                let on = c.is_kept.ensures.1 (k.0, subst (λ G. IsRule G p k.0) (sym same) k.1) in
-                let off = v.if-is_kept.false in
-                cc
+                iff_false c.is_kept.ensures v.if-is_kept.false (k.0, subst (λ G. IsRule G p k.0) (sym same) k.1)
           ]))
     ]
 

@@ -1,4 +1,5 @@
 use Rattle.std.proofs.Common.{◌≡◌, ◌∙◌, ap, map, subst, sym}
+use Rattle.std.proofs.lemmas.Bool.{iff_false}
 use Rattle.ly_join.specs.Terminals.{byte, terminal_from}
 use Rattle.ly_explain.specs.Private.Marks.{IsMarked}
 use Rattle.ly_explain.specs.Private.Unmarked.{IsLiteralAt}
@@ -28,9 +29,8 @@ loop-number-preserved c =
           (no_literal_step names marks k x c.loop-number-test.true (λ b named on.
           let is : byte w.in-Literal.byte ≡ byte b = sym (ap terminal_from (at ∙ w.in-Literal.is)) ∙ named in
           let same : w.in-Literal.byte ≡ b = cc in
-          let marked = w.has.ensures.1 (subst (IsMarked marks) (sym (w.from.ensures ∙ same)) on) in
-          let off = w.if-has.false in
-          cc)) c.loop-number.invariant)
+          iff_false w.has.ensures w.if-has.false (subst (IsMarked marks) (sym (w.from.ensures ∙ same)) on)))
+          c.loop-number.invariant)
       | in_default w ↦ rw w.returned-is
           (step_nothing P k first old
           (no_literal_step names marks k x c.loop-number-test.true (λ b named on.

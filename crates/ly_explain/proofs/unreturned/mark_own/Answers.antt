@@ -1,4 +1,5 @@
 use Rattle.std.proofs.Common.{◌≡◌, None}
+use Rattle.std.proofs.lemmas.Bool.{iff_false}
 use Rattle.ly_base.specs.declared.scan_action.Emitted.TheVariants.{Nothing}
 use Rattle.ly_base.specs.declared.scan_action.ScanAction.{ScanAction}
 use Rattle.ly_explain.specs.Private.Unmarked.{ReturnsItself}
@@ -28,9 +29,7 @@ loop-rule-preserved c =
       | in-Terminal+else-has w ↦ rw w.returned-is
           (step_nothing P k first old
           (no_own_step acts marks k no_action c.loop-rule-test.true (λ on own e.
-          let is = w.has.ensures.1 on in
-          let off = w.if-has.false in
-          cc)) c.loop-rule.invariant)
+          iff_false w.has.ensures w.if-has.false on)) c.loop-rule.invariant)
       | in_default w ↦ rw w.returned-is (step_nothing P k first old
           (no_own_step acts marks k no_action c.loop-rule-test.true (λ on own e. w.in_default.not-Terminal own e))
           c.loop-rule.invariant)

@@ -1,8 +1,9 @@
 use Rattle.std.proofs.Common.{◌≡◌, ◌∙◌, ◌<◌, ◌⊎◌, ℕ, ap, length, map, subst, sym}
 use Rattle.std.proofs.lemmas.List.{length-map}
+use Rattle.std.proofs.lemmas.Result.{IfOk-weaker}
 use Rattle.ly_base.specs.declared.numbers.Sym.{Sym}
 use Rattle.ly_join.specs.Terminals.{terminal_from}
-use Rattle.ly_explain.specs.Doubts.{IsMatched, IsUnreturned, Returns}
+use Rattle.ly_explain.specs.Doubts.{AreRising, IsMatched, IsUnreturned, Returns}
 use Rattle.ly_explain.specs.Private.FirstBytes.{StandsFirst}
 use Rattle.ly_explain.specs.Private.Marks.{AreAdded, AreMarked}
 use Rattle.ly_explain.specs.Private.Unmarked.{IsLiteralOf, IsUnmarked, ReturnsItself}
@@ -42,5 +43,7 @@ returns c =
     let returned : AreMarked (length s.terminals) (Returns s A) last
     = marked_as (λ t. Own t ⊎ First t) (Returns s A) (length s.terminals) last
     (λ t lt. returns_by s A c.matched_rules.ensures.whole matched bytes own first t) marked in
-    rising_as (IsUnmarked s last) (IsUnreturned s A) (map (λ (t : Sym). t.0) c.in_ok-unmarked_terminals.field-0.items)
-    (unmarked_as s (Returns s A) last returned) c.in_ok-unmarked_terminals.ensures
+    IfOk-weaker c.unmarked_terminals.result (λ found. AreRising (IsUnmarked s last) (map (λ t. t.0) found.items))
+    (λ found. AreRising (IsUnreturned s A) (map (λ t. t.0) found.items))
+    (λ found. rising_as (IsUnmarked s last) (IsUnreturned s A) (map (λ (t : Sym). t.0) found.items)
+    (unmarked_as s (Returns s A) last returned)) c.unmarked_terminals.ensures

@@ -1,5 +1,6 @@
 use Rattle.std.proofs.Common.{◌∙◌}
 use Rattle.std.proofs.Common.{◌≡◌, ◌<◌, ap, arith, length, map, sym}
+use Rattle.std.proofs.lemmas.Bool.{iff_false}
 use Rattle.std.proofs.lemmas.List.{length-map, map-append}
 use Rattle.ly_base.specs.declared.numbers.Sym.{Sym}
 use Rattle.ly_join.specs.Terminals.{terminal_from}
@@ -32,10 +33,7 @@ loop-number-preserved c =
       | then-is_named+then-not-has+in_ok-push w ↦ rw w.found-is
           (rising_more P t numbers (map (λ x. x.0) w.push.new.self.items) c.loop-number.invariant (
             named.0 (c.is_named.ensures.0 w.if-is_named.true),
-            λ on.
-                let is = w.has.ensures.1 on in
-                let off = w.if-not-has.true in
-                cc,
+            iff_false w.has.ensures w.if-not-has.true,
           )
           (ap (map (λ x. x.0)) w.in_ok-push.ensures.items ∙ map-append (λ (x : Sym). x.0) old _))
       | else-is_named w ↦ rw w.found-is
@@ -43,9 +41,7 @@ loop-number-preserved c =
           (elim w.else-is_named.branch [
             | else-is_named-via-then-is_named+else-not-has v ↦ λ un. un.1 (v.has.ensures.0 v.if-not-has.false)
             | else-is_named-via-else-is_named v ↦ λ un.
-                let is = c.is_named.ensures.1 (named.1 un.0) in
-                let off = v.if-is_named.false in
-                cc
+                iff_false c.is_named.ensures v.if-is_named.false (named.1 un.0)
           ]))
     ]
 

@@ -1,9 +1,10 @@
 use Rattle.std.proofs.Common.{◌≡◌, ◌∙◌, Contains, Some, ap, length, map, subst, sym}
 use Rattle.std.proofs.lemmas.List.{length-map}
+use Rattle.std.proofs.lemmas.Result.{IfOk-weaker}
 use Rattle.ly_base.specs.declared.numbers.Sym.{Sym}
 use Rattle.ly_join.specs.Grammar.{symbol_of, terminal}
 use Rattle.ly_join.specs.Terminals.{terminal_from}
-use Rattle.ly_explain.specs.Doubts.{IsUnused, IsUsed}
+use Rattle.ly_explain.specs.Doubts.{AreRising, IsUnused, IsUsed}
 use Rattle.ly_explain.specs.Private.Marks.{AreMarked}
 use Rattle.ly_explain.specs.Private.Unmarked.{IsUnmarked, StandsIn}
 use Rattle.ly_explain.proofs.MarkLemmas.{added_as, step_added}
@@ -40,5 +41,7 @@ returns c =
     = subst (λ n. AreMarked n (λ t. ⊥) c.in_ok-used.used) long c.in_ok-used.ensures in
     let marked = used_marked s c.loop-rule.rule-index (length rules) c.loop-rule-test.false all c.in_ok-used.used used
     empty c.loop-rule.invariant in
-    rising_as (IsUnmarked s used) (IsUnused s) (map (λ (t : Sym). t.0) c.in_ok-unmarked_terminals.field-0.items)
-    (unmarked_as s (IsUsed s) used marked) c.in_ok-unmarked_terminals.ensures
+    IfOk-weaker c.unmarked_terminals.result (λ found. AreRising (IsUnmarked s used) (map (λ t. t.0) found.items))
+    (λ found. AreRising (IsUnused s) (map (λ t. t.0) found.items))
+    (λ found. rising_as (IsUnmarked s used) (IsUnused s) (map (λ (t : Sym). t.0) found.items)
+    (unmarked_as s (IsUsed s) used marked)) c.unmarked_terminals.ensures

@@ -1,4 +1,5 @@
 use Rattle.std.proofs.Common.{◌≡◌, ◌<◌, ◌≤◌, ◌+◌, arith, length, subst, sym, refl, slice_get}
+use Rattle.std.proofs.lemmas.Bool.{both_ways}
 use Rattle.ly_explain.specs.declared.search.Search.{Search}
 use Rattle.ly_explain.specs.Private.Searches.{IsUnderway}
 use Rattle.ly_explain.proofs.SearchLemmas.{same_first}
@@ -18,7 +19,7 @@ returns-after-may_serve-clause-underway c =
           (climbs_on c.args.sought.now c.args.self.now c.requires.underway w.climb.new.self w.in_ok-climb.ensures.on
           w.in_ok-climb.ensures.climbs less w.climb.ensures.popped)
       | else-may_serve w ↦ subst P (sym w.self-is) (climbs_none c.args.sought.now c.args.self.now c.requires.underway
-          (λ none. let on = c.may_serve.ensures none in let off = w.if-may_serve.false in cc) less)
+          (λ none. both_ways c.may_serve.result w.if-may_serve.false (c.may_serve.ensures none)) less)
     ]
 
 pub returns-after-may_serve-clause-first : goal.returns-after-may_serve-clause-first
@@ -42,7 +43,8 @@ returns-after-may_serve-2-clause-underway c =
           (pops_on c.args.sought.now c.args.self.now c.requires.underway w.pop.new.self w.in_ok-pop.ensures.on
           w.in_ok-pop.ensures.pops w.pop.ensures.climbed w.pop.ensures.best past c.requires.left)
       | else-may_serve-2 w ↦ subst P (sym w.self-is) (pops_none c.args.sought.now c.args.self.now c.requires.underway
-          (λ none. let on = c.may_serve-else-self-len.ensures none in let off = w.if-may_serve-2.false in cc) past
+          (λ none. both_ways c.may_serve-else-self-len.result w.if-may_serve-2.false
+          (c.may_serve-else-self-len.ensures none)) past
           c.requires.left)
     ]
 

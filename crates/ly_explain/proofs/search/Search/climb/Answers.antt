@@ -1,4 +1,5 @@
-use Rattle.std.proofs.Common.{◌≡◌, ◌∙◌, ap, arith, subst, sym, true, Contains}
+use Rattle.std.proofs.Common.{◌∙◌, ap, arith, subst, sym, true, Contains}
+use Rattle.std.proofs.lemmas.Bool.{both_ways}
 use Rattle.std.specs.Prelude.{◌↔◌}
 use Rattle.ly_join.proofs.ListLemmas.{member_at}
 use Rattle.ly_explain.specs.Demands.{IsClimb}
@@ -8,7 +9,8 @@ use Rattle.ly_explain.specs.declared.halt.Halt.TheVariants.{TooMany}
 use Rattle.ly_explain.specs.Private.Searches.{automaton_of}
 use Rattle.ly_explain.proofs.FoundLemmas.{same_claim}
 use Rattle.ly_explain.proofs.SearchLemmas.{allowed_before, found_on, stays_among}
-use Rattle.ly_explain.proofs.UnderwayLemmas.{climb_next, climb_next_kept, climbed_all, each_more, no_demand, still_err}
+use Rattle.ly_explain.proofs.UnderwayLemmas.{climb_next, climb_next_kept, climbed_all, each_more, no_demand}
+use Rattle.ly_explain.proofs.UnderwayLemmas.{not_too_many, still_err}
 use Rattle.ly_explain.proofs.search.Search.climb.Goals.{else-eq-via-then-eq+else-eq-2, else-eq-via-else-eq}
 use Rattle.ly_explain.proofs.search.Search.climb.Goals as goal
 
@@ -69,11 +71,12 @@ returns-clause-climbs c =
     (omega (arith, lt, c.loop-next-test.false, c.loop-next.auto.next-index-end)) at)
     c.loop-next.invariant.best
     (λ first second. elim c.else-eq.branch [
-      | else-eq-via-then-eq+else-eq-2 w ↦
-          let on : w.eq-then-eq.result ≡ true
-          = w.eq-then-eq.ensures ∙ ap (λ x. same_claim x Settled) second in
-          let off = w.if-eq-2.false in cc
-      | else-eq-via-else-eq w ↦
-          let on : c.eq.result ≡ true = c.eq.ensures ∙ ap (λ x. same_claim x Settled) first in
-          let off = w.if-eq.false in cc
+      | else-eq-via-then-eq+else-eq-2 w ↦ both_ways w.eq-then-eq.result w.if-eq-2.false
+          (w.eq-then-eq.ensures ∙ ap (λ x. same_claim x Settled) second)
+      | else-eq-via-else-eq w ↦ both_ways c.eq.result w.if-eq.false
+          (c.eq.ensures ∙ ap (λ x. same_claim x Settled) first)
     ])
+
+pub returns-in_err-demands-clause-many : goal.returns-in_err-demands-clause-many
+returns-in_err-demands-clause-many c = λ is.
+    absurd (not_too_many c.from_residual.result is c.from_residual.ensures.1)

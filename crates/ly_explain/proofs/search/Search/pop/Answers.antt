@@ -7,7 +7,8 @@ use Rattle.ly_explain.specs.declared.steps.Pop.{Pop}
 use Rattle.ly_explain.specs.declared.halt.Halt.TheVariants.{TooMany}
 use Rattle.ly_explain.specs.Private.Searches.{automaton_of}
 use Rattle.ly_explain.proofs.SearchLemmas.{allowed_before, found_on, stays_among}
-use Rattle.ly_explain.proofs.UnderwayLemmas.{each_more, no_pop, pop_next, pop_next_kept, popped_all, still_err}
+use Rattle.ly_explain.proofs.UnderwayLemmas.{each_more, no_pop, not_too_many, pop_next, pop_next_kept, popped_all}
+use Rattle.ly_explain.proofs.UnderwayLemmas.{still_err}
 use Rattle.ly_explain.proofs.search.Search.pop.Goals as goal
 
 pub pops-requires-clause-kept : goal.pops-requires-clause-kept
@@ -63,3 +64,7 @@ returns-clause-pops c = popped_all c.args.sought.now c.args.self.now c.loop-next
     (sym c.deref-next-items.ensures.value) c.in_ok-demands.ensures)
     (λ k p lt at. c.loop-next.invariant.there k p
     (omega (arith, lt, c.loop-next-test.false, c.loop-next.auto.next-index-end)) at)
+
+pub returns-in_err-demands-clause-many : goal.returns-in_err-demands-clause-many
+returns-in_err-demands-clause-many c = λ is.
+    absurd (not_too_many c.from_residual.result is c.from_residual.ensures.1)

@@ -2,12 +2,11 @@ use Rattle.std.proofs.Common.{◌≡◌, ◌<◌, ◌∙◌, sym, ap, subst, len
 use Rattle.std.proofs.Common.{slice_index_or, Vec}
 use Rattle.std.proofs.lemmas.List.{get_or-map, map-set, length-map}
 use Rattle.std.specs.declared.alloc.Global.{Global}
-use Rattle.ly_lr0.specs.declared.item.Item.{Item}
-use Rattle.ly_explain.proofs.lists.UseLists.push.Goals as goal
+use Rattle.ly_explain.proofs.lists.Lists.push.Goals as goal
 
 pub returns : goal.returns
-returns c =
-    let items : Vec Item Global → List Item = λ w. w.items in
+returns g c =
+    let items : Vec g.row.T.Denot Global → List g.row.T.Denot = λ w. w.items in
     let lists = c.self.inside.lists.items in
     let n = c.args.number in
     let view = c.self.view_is in
