@@ -11,5 +11,6 @@ returns-clause-needed g c s driven not =
     let read = c.in_ok-set in
     let same = (c.a_file_has_one_set.ensures c.args.tables.now read._version driven.0 read.set s read.ensures.spelled
     driven.1).1 in
-    subst (λ x. IsReadAsNeeded 4096 x (g.R.Source.remaining c.args.reader.now) (g.R.Source.remaining c.run-answered.new.reader))
-    same (c.run-answered.ensures.needed not)
+    let before = g.R.Source.remaining c.args.reader.now in
+    let after = g.R.Source.remaining c.run-answered.new.reader in
+    subst (λ x. IsReadAsNeeded 4096 x before after) same (c.run-answered.ensures.needed not)

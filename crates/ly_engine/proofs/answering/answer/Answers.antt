@@ -1,4 +1,4 @@
-use Rattle.std.proofs.Common.{◌≡◌, ◌∙◌, inl, inr, refl, rules}
+use Rattle.std.proofs.Common.{inl, inr, refl, rules}
 use Rattle.ly_engine.proofs.answering.answer.Goals as goal
 
 pub unreachable-requires-in-Err-TableFault : goal.unreachable-requires-in-Err-TableFault

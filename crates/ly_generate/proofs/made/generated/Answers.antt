@@ -55,8 +55,9 @@ returns-clause-generated c =
     let fits = fits_given c.args.version limits c.args.lex.now c.args.yacc.now file spec c.in_ok-given.given.subsets
     dfa.dfa c.in_ok-given.ensures.says dfa.ensures.same dfa.ensures.reduced dfa.ensures.starts
     c.within-limits.ensures.bounded in
-    subst (λ (l : Sizes). IfOk c.made_of-made.result (λ m. (g : IsGenerated c.args.version l c.args.lex.now c.args.yacc.now
-    m.set) × AreCounts g.spec m.conflicts × IsReportIf c.args.report g.spec m.report)) c.within-limits.ensures.least
+    subst (λ (l : Sizes). IfOk c.made_of-made.result
+    (λ m. (g : IsGenerated c.args.version l c.args.lex.now c.args.yacc.now m.set) × AreCounts g.spec m.conflicts
+    × IsReportIf c.args.report g.spec m.report)) c.within-limits.ensures.least
     (ok_both c.made_of-made.result
     (λ m. (v : Version) → FitsWith v limits spec file.rules.items dfa.dfa → IsMadeOf v limits file spec dfa.dfa m.set)
     (λ m. AreCounts spec m.conflicts × IsReportIf c.args.report spec m.report) _
