@@ -67,12 +67,51 @@ fn specify(
     ensures within { OnOk result (IsWithin limits.now (scanning_of lex.now) (written_of yacc.now)) }
     ensures fault { IfErr result (IsAtFault limits.now (scanning_of lex.now) (written_of yacc.now)) }
 {
-    let start = start_symbol(alloc, &table, yacc)?;
-    let joined = join_rules(alloc, &table, &yacc.rules, limits.yacc_rules() as usize)?;
-    let scanner = scan_actions(alloc, &table.terminals, &lex.actions)?;
+    let contents = contents_of(alloc, lex, yacc, limits, &table)?;
+    Ok(specification(alloc, table, contents)?)
+}
+
+/// What two files say over their numbered symbols.
+#[derive(Drop)]
+struct Contents {
+    /// The start symbol.
+    start: Sym,
+    /// The rules but rule 0.
+    rules: Vec<GrammarRule>,
+    /// What each rule says beside its symbols, rule 0 among them.
+    notes: Vec<RuleNote>,
+    /// What the scanner does at each rule of the lex file.
+    scanner: Vec<ScanAction>,
+}
+
+/// What two files say, whose symbols are numbered.
+fn contents_of(
+    alloc: Global,
+    lex: &LexFile,
+    yacc: &YaccFile,
+    limits: &Limits,
+    table: &SymbolTable,
+) -> Result<Contents, JoinFault>
+    requires numbered { AreNumbered (written_of yacc.now) (table_from table.now) }
+    requires some { 0 < length yacc.now.rules.items }
+    ensures ready { IfOk result (λ c. IsReady (table_from table.now) c.start.0 c.rules.items
+        (map note_of c.notes.items)) }
+    ensures ok { IfOk result (λ c. Joined (scanning_of lex.now) (written_of yacc.now)
+        (spec_from (table_from table.now) c.start.0 c.rules.items (map note_of c.notes.items) c.scanner.items)) }
+    ensures within { OnOk result (IsWithin limits.now (scanning_of lex.now) (written_of yacc.now)) }
+    ensures fault { IfErr result (IsAtFault limits.now (scanning_of lex.now) (written_of yacc.now)) }
+{
+    let start = start_symbol(alloc, table, yacc)?;
     let symbols = table.terminals.count() as usize + table.nonterminals.count() as usize + 1;
+    let (rules, notes) = join_rules(alloc, table, &yacc.rules, limits.yacc_rules() as usize)?;
+    let scanner = scan_actions(alloc, &table.terminals, &lex.actions)?;
     check_limits(limits, lex, yacc, symbols)?;
-    Ok(specification(alloc, table, start, joined, scanner)?)
+    Ok(Contents {
+        start,
+        rules,
+        notes,
+        scanner,
+    })
 }
 
 /// Numbers the symbols, and finds the precedence of each terminal.
@@ -106,19 +145,18 @@ fn start_symbol(alloc: Global, table: &SymbolTable, yacc: &YaccFile) -> Result<S
     }
 }
 
-/// The specification of joined rules and actions.
-fn specification(
-    alloc: Global,
-    table: SymbolTable,
-    start: Sym,
-    joined: (Vec<GrammarRule>, Vec<RuleNote>),
-    scanner: Vec<ScanAction>,
-) -> Result<Spec, OutOfMemory>
-    requires { IsReady (table_from table) start.0 joined.0.items (map note_of joined.1.items) }
-    ensures { IfOk result (λ s. s ≡ spec_from (table_from table) start.0 joined.0.items (map note_of joined.1.items)
-        scanner.items) }
+/// The specification of what two files say over their symbols.
+fn specification(alloc: Global, table: SymbolTable, contents: Contents) -> Result<Spec, OutOfMemory>
+    requires { IsReady (table_from table) contents.start.0 contents.rules.items (map note_of contents.notes.items) }
+    ensures { IfOk result (λ s. s ≡ spec_from (table_from table) contents.start.0 contents.rules.items
+        (map note_of contents.notes.items) contents.scanner.items) }
 {
-    let (rules, notes) = joined;
+    let Contents {
+        start,
+        rules,
+        notes,
+        scanner,
+    } = contents;
     let SymbolTable {
         terminals,
         nonterminals,

@@ -23,7 +23,7 @@ use Rattle.ly_lr0.specs.Private.Places.{IsPlace}
 use Rattle.ly_lr0.specs.Transitions.{transition_of}
 use Rattle.ly_lr0.specs.declared.found.Found.{Found}
 use Rattle.ly_lr0.specs.Private.Found.{IsFound, links_of, rows_of}
-use Rattle.ly_lr0.specs.Private.Shared.{AreMovesBefore, IsFront, IsLastFront, IsShared, move_at, no_move}
+use Rattle.ly_lr0.specs.Private.Shared.{AreMovesBefore, IsRowBefore, IsLastRowBefore, IsShared, move_at, no_move}
 use Rattle.ly_lr0.proofs.GroupLemmas.{IsBoundary}
 use Rattle.ly_lr0.proofs.OrderLemmas.{less_off, less_trans}
 use Rattle.ly_lr0.proofs.SuccessorLemmas.{HasEntered, entered_start, found_part, kept_symbol}
@@ -111,7 +111,7 @@ module _ (G : Grammar) (kernels : List (List Item)) (links : List Link) (rows : 
     (next : length rows < length kernels) (are : AreMoves G (kernel_at kernels (length rows)) moves)
     (are_before : AreMoves G (kernel_at kernels s) before) (found : AreFound G kernels links rows)
     (whole : IsWholeRow G (kernel_at kernels s) (slice_index_or rows s [])) (shared : IsShared moves before at)
-    (front : IsFront (slice_index_or rows s []) (over moves at) part) where
+    (part_is : IsRowBefore (slice_index_or rows s []) (over moves at) part) where
   begins_before : (j : ℕ) → suc j ≡ at → (move_at before j).symbol ≢ (move_at before at).symbol
   begins_before j e f = shared.begins j e (ap (λ m. m.symbol) (shared.same j (omega (arith, e))) ∙ f
       ∙ ap (λ m. m.symbol) (sym (shared.same at (omega arith))))
@@ -120,10 +120,10 @@ module _ (G : Grammar) (kernels : List (List Item)) (links : List Link) (rows : 
   same_at = ap (λ m. symbol_of m.symbol) (shared.same at (omega arith))
 
   here : (t : Transition) → Contains part t → HasTransition rows s t
-  here t c = (omega (arith, last), ((front.each t).0 c).0)
+  here t c = (omega (arith, last), ((part_is.each t).0 c).0)
 
   lower : (t : Transition) → Contains part t → IsLess t.symbol (over moves at)
-  lower t c = ((front.each t).0 c).1
+  lower t c = ((part_is.each t).0 c).1
 
   to : (X : Symbol) (i : Item) → X ≢ terminal 0 → IsLess X (over moves at) → IsMoved G (kernel_at kernels s) X i
       → IsMoved G (kernel_at kernels (length rows)) X i
@@ -177,7 +177,7 @@ module _ (G : Grammar) (kernels : List (List Item)) (links : List Link) (rows : 
       → (t : Transition) × Contains part t × (t.symbol ≡ symbol_of (slice_index_or moves k d).symbol)
   done_by k d l t c e = let long = shared.long in (
     t,
-    (front.each t).1 (
+    (part_is.each t).1 (
       c,
       subst (λ X. IsLess X (over moves at)) (sym e)
           (below moves are.rising at shared.long shared.begins k l),
@@ -197,13 +197,13 @@ module _ (G : Grammar) (kernels : List (List Item)) (links : List Link) (rows : 
       let t = whole (symbol_of m.symbol) asked.0 m.item.rule moved.0 moved.2 moved.3 in
       done_by k d l t.0 t.1 t.2
 
-  -- the front of the last row is the beginning of the next one
+  -- the part of the last row is the beginning of the next one
   pub entered_shared : HasEntered G kernels links rows part (length rows) moves at
   entered_shared = record {
     state = refl;
     next = next;
     are = are;
-    found = found_part G kernels links rows part next found front.sorted part_led part_first;
+    found = found_part G kernels links rows part next found part_is.sorted part_led part_first;
     boundary = boundary moves are.rising at shared.long shared.begins;
     each = part_each;
     done = part_done;
@@ -213,13 +213,13 @@ no_transition : code.Transition
 no_transition = record { symbol = Terminal (record { 0 = 0 }); target = record { 0 = 0 } }
 
 -- the transitions before the place of a symbol are those over the symbols before it
-pub front_taken : (ts : List code.Transition) (X : Symbol) (q : ℕ) → AreInOrder (map transition_of ts) → IsPlace ts X q
-    → IsFront (map transition_of ts) X (map transition_of (take q ts))
-front_taken ts X q ordered is = record {
+pub row_before_taken : (ts : List code.Transition) (X : Symbol) (q : ℕ) → AreInOrder (map transition_of ts) → IsPlace ts X q
+    → IsRowBefore (map transition_of ts) X (map transition_of (take q ts))
+row_before_taken ts X q ordered is = record {
   sorted = subst AreInOrder (take-map transition_of q ts) taken;
   each = λ t. (
-    λ c. to_front t (subst (λ r. Contains r t) (sym (take-map transition_of q ts)) c),
-    λ h. subst (λ r. Contains r t) (take-map transition_of q ts) (from_front t h.0 h.1),
+    λ c. to_part t (subst (λ r. Contains r t) (sym (take-map transition_of q ts)) c),
+    λ h. subst (λ r. Contains r t) (take-map transition_of q ts) (from_part t h.0 h.1),
   );
 }
   where
@@ -239,9 +239,9 @@ front_taken ts X q ordered is = record {
         → slice_index_or (map transition_of ts) k t ≡ transition_of (slice_index_or ts k no_transition)
     shown t k l = get_or-map transition_of ts k no_transition t (omega (arith, l, length-map ts transition_of))
 
-    to_front : (t : Transition) → Contains (take q (map transition_of ts)) t
+    to_part : (t : Transition) → Contains (take q (map transition_of ts)) t
         → Contains (map transition_of ts) t × IsLess t.symbol X
-    to_front t c =
+    to_part t c =
         let r = map transition_of ts in
         let h : c.0 < q = omega (arith, c.1, length-take-le q r long) in
         let l : c.0 < length r = omega (arith, h, long) in
@@ -250,9 +250,9 @@ front_taken ts X q ordered is = record {
           subst (λ x. IsLess x.symbol X) (sym (shown t c.0 l) ∙ at) (is.before c.0 no_transition h),
         )
 
-    from_front : (t : Transition) → Contains (map transition_of ts) t → IsLess t.symbol X
+    from_part : (t : Transition) → Contains (map transition_of ts) t → IsLess t.symbol X
         → Contains (take q (map transition_of ts)) t
-    from_front t c less = let r = map transition_of ts in elim (cases_lt c.0 q) [
+    from_part t c less = let r = map transition_of ts in elim (cases_lt c.0 q) [
       | inl low ↦ (c.0, omega (arith, low, length-take-le q r long), get_or-take q r c.0 t low ∙ c.2)
       | inr past ↦ absurd (is.behind c.0 no_transition past (omega (arith, c.1, length-map ts transition_of))
           (subst (λ x. IsLess x.symbol X) (sym (sym (shown t c.0 c.1) ∙ c.2)) less))
@@ -272,21 +272,21 @@ module _ (rows : List row.Row) (last : row.Row) (ts : List code.Transition) (sam
   last_ordered sorted = subst AreInOrder shown_last (sorted (length rows - 1)
       (omega (arith, slice_get_within rows (length rows - 1) last is, length-map rows transitions_of)))
 
-  pub last_front : (X : Symbol) (q : ℕ) → AreInOrder (map transition_of ts) → IsPlace ts X q → (s : ℕ)
-      → suc s ≡ length rows → IsFront (slice_index_or (map transitions_of rows) s []) X (map transition_of (take q ts))
-  last_front X q ordered at s e =
+  pub last_row_before : (X : Symbol) (q : ℕ) → AreInOrder (map transition_of ts) → IsPlace ts X q → (s : ℕ)
+      → suc s ≡ length rows → IsRowBefore (slice_index_or (map transitions_of rows) s []) X (map transition_of (take q ts))
+  last_row_before X q ordered at s e =
       let here : length rows - 1 ≡ s = omega (arith, e) in
-      subst (λ k. IsFront (slice_index_or (map transitions_of rows) k []) X (map transition_of (take q ts))) here
-      (subst (λ r. IsFront r X (map transition_of (take q ts))) (sym shown_last) (front_taken ts X q ordered at))
+      subst (λ k. IsRowBefore (slice_index_or (map transitions_of rows) k []) X (map transition_of (take q ts))) here
+      (subst (λ r. IsRowBefore r X (map transition_of (take q ts))) (sym shown_last) (row_before_taken ts X q ordered at))
 
 -- a row that begins as the last one does, or with nothing
 pub begun_entered : (f : Found) (moves before : List Move) (at : ℕ) (begun : List code.Transition) → IsFound f
     → length f.rows.items < length f.kernels
     → AreMoves f.reduced.now.grammar (kernel_at f.kernels (length f.rows.items)) moves → AreMovesBefore f before
     → (0 < at → IsShared moves before at) → (at ≡ 0 → begun ≡ [])
-    → (0 < at → IsLastFront f (over moves at) (map transition_of begun)) → (from : ℕ) → from ≡ length f.rows.items
+    → (0 < at → IsLastRowBefore f (over moves at) (map transition_of begun)) → (from : ℕ) → from ≡ length f.rows.items
     → HasEntered f.reduced.now.grammar f.kernels (links_of f) (rows_of f) (map transition_of begun) from moves at
-begun_entered f moves before at begun is next are_moves earlier shared none front from count =
+begun_entered f moves before at begun is next are_moves earlier shared none part_is from count =
     let G = f.reduced.now.grammar in
     let rows : length f.rows.items ≡ length (rows_of f) = sym (length-map f.rows.items transitions_of) in
     let less : length (rows_of f) < length f.kernels = omega (arith, next, rows) in
@@ -306,7 +306,7 @@ begun_entered f moves before at begun is next are_moves earlier shared none fron
             (is.rows s row.0 row.1).whole in
             subst (λ n. HasEntered G f.kernels (links_of f) (rows_of f) (map transition_of begun) n moves at) (sym same)
             (entered_shared G f.kernels (links_of f) (rows_of f) (map transition_of begun) s moves before at
-            (last ∙ rows) less are (earlier.last s last) is.found whole (shared some) (front some s last))
+            (last ∙ rows) less are (earlier.last s last) is.found whole (shared some) (part_is some s last))
         | inr empty ↦
             let long = (shared some).before_long in
             absurd (omega (arith, long, ap length (earlier.none (omega (arith, empty)))))

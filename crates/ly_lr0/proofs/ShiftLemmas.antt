@@ -29,27 +29,27 @@ terminal_not_behind (terminal t) off = absurd (off tt)
 terminal_not_behind (nonterminal A) off = refl
 
 -- the first transitions are those over terminals, if these are and the others aren't
-front : (ts : List code.Transition) (n : ℕ)
+beginning : (ts : List code.Transition) (n : ℕ)
     → ((k : ℕ) (d : code.Transition) → k < n → k < length ts → is_terminal (symbol_at ts k d) ≡ true)
     → ((k : ℕ) (d : code.Transition) → n ≤ k → k < length ts → is_terminal (symbol_at ts k d) ≡ false)
     → map transition_of (take n ts) ≡ filter is_shift (map transition_of ts)
-front [] zero before behind = refl
-front [] (suc n) before behind = refl
-front (t ∷ ts) zero before behind =
+beginning [] zero before behind = refl
+beginning [] (suc n) before behind = refl
+beginning (t ∷ ts) zero before behind =
     let off : is_terminal (symbol_of t.symbol) ≡ false = behind 0 t (omega arith) (omega arith) in
-    let rest = front ts zero (λ k d l. absurd (omega (arith, l)))
+    let rest = beginning ts zero (λ k d l. absurd (omega (arith, l)))
     (λ k d l m. behind (suc k) d (omega arith) (omega (arith, m))) in
     rw off rest
-front (t ∷ ts) (suc n) before behind =
+beginning (t ∷ ts) (suc n) before behind =
     let on : is_terminal (symbol_of t.symbol) ≡ true = before 0 t (omega arith) (omega arith) in
-    let rest = front ts n (λ k d l m. before (suc k) d (omega (arith, l)) (omega (arith, m)))
+    let rest = beginning ts n (λ k d l m. before (suc k) d (omega (arith, l)) (omega (arith, m)))
     (λ k d l m. behind (suc k) d (omega (arith, l)) (omega (arith, m))) in
     rw on (ap (λ us. transition_of t ∷ us) rest)
 
 -- those before the place of nonterminal 0 are those over terminals
 pub shifts_before : (ts : List code.Transition) (n : ℕ) → IsPlace ts (nonterminal 0) n
     → map transition_of (take n ts) ≡ filter is_shift (map transition_of ts)
-shifts_before ts n is = front ts n
+shifts_before ts n is = beginning ts n
     (λ k d l m. terminal_before (symbol_at ts k d) (is.before k d l))
     (λ k d l m. terminal_not_behind (symbol_at ts k d) (is.behind k d l m))
 

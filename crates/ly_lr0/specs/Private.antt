@@ -1,5 +1,6 @@
 pub mod Built
 pub mod Closing
+pub mod Construction
 pub mod Found
 pub mod Items
 pub mod Kernels

@@ -1,11 +1,15 @@
-ghost use Rattle.std.specs.Prelude.{◌≡◌, ◌≤◌, length, IfOk, IsErrOf};
+ghost use Rattle.std.specs.Prelude.{◌≡◌, ◌<◌, ◌≤◌, suc, length, IfOk, IsErrOf, OnOk};
+ghost use Rattle.ly_join.specs.Grammar.{IsAugmented};
+ghost use Rattle.ly_grammar.specs.Derivations.{IsReduced};
 ghost use Rattle.ly_grammar.specs.Items.{HasMoreCores};
 ghost use Rattle.ly_lr0.specs.Automaton.{IsLr0Automaton};
+ghost use Rattle.ly_lr0.specs.Private.Construction.{IsConstruction};
 
-use crate::by_left::rules_by_left;
+use crate::by_left::{RulesByLeft, rules_by_left};
 use crate::closing::{close, complete_rules, list_moves};
 use crate::fault::Lr0Fault;
 use crate::found::Found;
+use crate::item::Move;
 use crate::lr0::Lr0;
 use crate::nonkernel::Nonkernel;
 use crate::transition::Row;
@@ -29,29 +33,81 @@ pub fn automaton<'a>(
     ensures many { IsErrOf result Lr0Fault.TooManyStates
         → HasMoreCores reduced.now.grammar limits.now.parser_states }
 {
-    let by_left = rules_by_left(alloc, reduced)?;
-    let mut entered = SparseSet::new(alloc, reduced.grammar().accept().0 as usize + 1)?;
-    let mut nonkernel = Nonkernel::new(alloc);
-    let mut moves = Vec::new(alloc);
-    let mut before = Vec::new(alloc);
-    let mut found = Found::start(alloc, reduced, limits.parser_states())?;
-    while found.rows.len() < found.kernels.len() {
-        let kernel = found.kernels.kernel(found.rows.len());
-        close(reduced, &by_left, kernel, &mut entered);
-        nonkernel.enter(reduced, &by_left, entered.members())?;
-        list_moves(reduced, kernel, &nonkernel.moves, &mut moves)?;
-        let complete = complete_rules(alloc, reduced, kernel, &nonkernel.complete)?;
-        let transitions = found.successors(&moves, &before)?;
-        swap(&mut moves, &mut before);
-        found.rows.push(Row {
-            transitions,
-            complete,
-        })?;
+    let mut construction = Construction::start(alloc, reduced, limits.parser_states())?;
+    while construction.found.rows.len() < construction.found.kernels.len() {
+        construction.push_row()?;
     }
+    let Construction { found, by_left, .. } = construction;
     Ok(Lr0 {
         reduced,
         links: found.links,
         rows: found.rows,
         by_left,
     })
+}
+
+/// The automaton as far as it is made, and the room in which its next row is.
+#[derive(Drop)]
+pub(crate) struct Construction<'a> {
+    /// The kernels that were found, and the rows of the first of them.
+    pub(crate) found: Found<'a>,
+    /// The rules by their left sides.
+    pub(crate) by_left: RulesByLeft,
+    /// Room for the nonterminals that a row's kernel closes to.
+    pub(crate) entered: SparseSet,
+    /// The nonkernel items of the last row.
+    pub(crate) nonkernel: Nonkernel,
+    /// Room for the moves of the next row.
+    pub(crate) moves: Vec<Move>,
+    /// The moves of the last row.
+    pub(crate) before: Vec<Move>,
+}
+
+impl<'a> Construction<'a> {
+    /// The kernel of the start and no row.
+    fn start(alloc: Global, reduced: &'a Reduced<'a>, limit: u32) -> Result<Self, Lr0Fault>
+        ensures made { IfOk result IsConstruction }
+        ensures reduced { IfOk result (λ c. c.found.reduced.now ≡ reduced.now) }
+        ensures limit { IfOk result (λ c. c.found.limit ≡ limit) }
+        ensures many { IsErrOf result Lr0Fault.TooManyStates → HasMoreCores reduced.now.grammar limit }
+    {
+        let entered = SparseSet::new(alloc, reduced.grammar().accept().0 as usize + 1)?;
+        let by_left = rules_by_left(alloc, reduced)?;
+        Ok(Construction {
+            found: Found::start(alloc, reduced, limit)?,
+            by_left,
+            entered,
+            nonkernel: Nonkernel::new(alloc),
+            moves: Vec::new(alloc),
+            before: Vec::new(alloc),
+        })
+    }
+
+    /// Makes the row of the first kernel that has none.
+    fn push_row(&mut self) -> Result<(), Lr0Fault>
+        requires made { IsConstruction self.old }
+        requires next { length self.old.found.rows.items < length self.old.found.kernels }
+        ensures made { OnOk result (IsConstruction self.new) }
+        ensures longer { OnOk result (length self.new.found.rows.items ≡ suc (length self.old.found.rows.items)) }
+        ensures reduced { OnOk result (self.new.found.reduced ≡ self.old.found.reduced) }
+        ensures limit { OnOk result (self.new.found.limit ≡ self.old.found.limit) }
+        ensures many { IsErrOf result Lr0Fault.TooManyStates →
+            HasMoreCores self.old.found.reduced.now.grammar self.old.found.limit }
+    {
+        let (alloc, reduced) = (self.found.alloc, self.found.reduced);
+        let row = self.found.rows.len();
+        let kernel = self.found.kernels.kernel(row);
+        close(reduced, &self.by_left, kernel, &mut self.entered);
+        self.nonkernel
+            .enter(reduced, &self.by_left, self.entered.members())?;
+        list_moves(reduced, kernel, &self.nonkernel.moves, &mut self.moves)?;
+        let complete = complete_rules(alloc, reduced, kernel, &self.nonkernel.complete)?;
+        let transitions = self.found.successors(&self.moves, &self.before)?;
+        swap(&mut self.moves, &mut self.before);
+        self.found.rows.push(Row {
+            transitions,
+            complete,
+        })?;
+        Ok(())
+    }
 }

@@ -9,7 +9,7 @@ ghost use Rattle.ly_lr0.specs.Private.Found.{IsFound, links_of, with_row};
 ghost use Rattle.ly_lr0.specs.Private.Closing.{AreMoves, IsGroupEnd};
 ghost use Rattle.ly_lr0.specs.Private.Items.{AreRising};
 ghost use Rattle.ly_lr0.specs.Private.Kernels.{KeepsKernels, kernel_at};
-ghost use Rattle.ly_lr0.specs.Private.Shared.{AreMovesBefore, IsLastFront, IsShared, move_at};
+ghost use Rattle.ly_lr0.specs.Private.Shared.{AreMovesBefore, IsLastRowBefore, IsShared, move_at};
 ghost use Rattle.ly_lr0.specs.Transitions.{transition_of};
 
 use crate::fault::Lr0Fault;
@@ -119,8 +119,8 @@ impl<'a> Found<'a> {
         requires found { IsFound self.now }
         requires at { 0 < at → at < length moves.now }
         ensures none { IfOk result (λ ts. at ≡ 0 → ts.items ≡ []) }
-        ensures front { IfOk result (λ ts. 0 < at
-            → IsLastFront self.now (symbol_of (move_at moves.now at).symbol) (map transition_of ts.items)) }
+        ensures before { IfOk result (λ ts. 0 < at
+            → IsLastRowBefore self.now (symbol_of (move_at moves.now at).symbol) (map transition_of ts.items)) }
     {
         let mut transitions = Vec::with_capacity(self.alloc, moves.len())?;
         if at > 0 {
@@ -134,7 +134,7 @@ impl<'a> Found<'a> {
     /// The transitions of the last row over the symbols before one.
     fn last_before(&self, symbol: Symbol) -> &[Transition]
         requires { IsFound self.now }
-        ensures { IsLastFront self.now (symbol_of symbol) (map transition_of result.now) }
+        ensures { IsLastRowBefore self.now (symbol_of symbol) (map transition_of result.now) }
     {
         match self.rows.last() {
             Some(row) => {

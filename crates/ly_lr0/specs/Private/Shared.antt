@@ -26,7 +26,7 @@ pub record IsShared (moves before : List Move) (at : ℕ) : Type 0 where
   pub begins : (j : ℕ) → suc j ≡ at → (move_at moves j).symbol ≢ (move_at moves at).symbol
 
 -- The transitions of a row over the symbols before one, in their order.
-pub record IsFront (row : List Transition) (X : Symbol) (part : List Transition) : Type 0 where
+pub record IsRowBefore (row : List Transition) (X : Symbol) (part : List Transition) : Type 0 where
   pub sorted : AreInOrder part
   pub each : (t : Transition) → Contains part t ↔ (Contains row t × IsLess t.symbol X)
 
@@ -37,5 +37,5 @@ pub record AreMovesBefore (f : Found) (before : List Move) : Type 0 where
       → AreMoves f.reduced.now.grammar (kernel_at f.kernels s) before
 
 -- these are the transitions over symbols before one of that state
-abbrev pub IsLastFront : Found → Symbol → List Transition → Type 0
-IsLastFront f X part = (s : ℕ) → suc s ≡ length f.rows.items → IsFront (slice_index_or (rows_of f) s []) X part
+abbrev pub IsLastRowBefore : Found → Symbol → List Transition → Type 0
+IsLastRowBefore f X part = (s : ℕ) → suc s ≡ length f.rows.items → IsRowBefore (slice_index_or (rows_of f) s []) X part

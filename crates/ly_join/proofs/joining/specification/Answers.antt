@@ -18,22 +18,22 @@ new-requires-clause-some c =
 pub new-requires-clause-within : goal.new-requires-clause-within
 new-requires-clause-within c =
     rw (c.count.ensures, c.count-2.ensures)
-    (rules_within (table_from c.args.table) c.requires.rulings c.args.joined.0.items c.requires.joined.rest
+    (rules_within (table_from c.args.table) c.requires.rulings c.args.contents.rules.items c.requires.joined.rest
     c.requires.first c.requires.joined.joined)
 
 -- the grammar that is made
 made : (c : goal.In_ok-grammar) → c.in_ok-grammar.grammar ≡ grammar_from (length c.args.table.terminals)
-    (length c.args.table.nonterminals) c.args.start.0
-    (accept_rule (length c.args.table.nonterminals) c.args.start.0 ∷ c.args.joined.0.items)
+    (length c.args.table.nonterminals) c.args.contents.start.0
+    (accept_rule (length c.args.table.nonterminals) c.args.contents.start.0 ∷ c.args.contents.rules.items)
 made c = c.in_ok-grammar.ensures
-    ∙ ap₂ (λ t n. grammar_from t n c.args.start.0 (accept_rule n c.args.start.0 ∷ c.args.joined.0.items))
+    ∙ ap₂ (λ t n. grammar_from t n c.args.contents.start.0 (accept_rule n c.args.contents.start.0 ∷ c.args.contents.rules.items))
     c.count.ensures c.count-2.ensures
 
 pub invariant_of-result : goal.invariant_of-result
 invariant_of-result c =
-    let rules = c.args.joined.0.items in
+    let rules = c.args.contents.rules.items in
     let ready = c.requires.joined in
-    let notes : length (map note_of c.args.joined.1.items) ≡ length rules + 1
+    let notes : length (map note_of c.args.contents.notes.items) ≡ length rules + 1
     = omega (
       arith,
       ap length ready.all_notes,
@@ -52,6 +52,6 @@ returns c = ap (λ g. let s : Spec = record {
   terminals = c.args.table.terminals;
   nonterminals = c.args.table.nonterminals;
   precedences = c.args.table.precedences.items;
-  notes = map note_of c.args.joined.1.items;
-  scanner = c.args.scanner.items;
+  notes = map note_of c.args.contents.notes.items;
+  scanner = c.args.contents.scanner.items;
 } in s) (made c)

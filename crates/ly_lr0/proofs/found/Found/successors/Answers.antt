@@ -42,7 +42,7 @@ loop-at-init c =
       few = c.requires.found.few;
       kept = λ s l. (l, refl);
       entered = begun_entered f c.args.moves.now c.args.before.now at begun c.requires.found next c.requires.moves
-          c.requires.before c.shared_moves-at.ensures ens.none ens.front c.len-from.result count;
+          c.requires.before c.shared_moves-at.ensures ens.none ens.before c.len-from.result count;
     }
 
 pub returns-in_err-target-clause-many : goal.returns-in_err-target-clause-many
