@@ -213,8 +213,8 @@ no_transition : code.Transition
 no_transition = record { symbol = Terminal (record { 0 = 0 }); target = record { 0 = 0 } }
 
 -- the transitions before the place of a symbol are those over the symbols before it
-pub row_before_taken : (ts : List code.Transition) (X : Symbol) (q : ℕ) → AreInOrder (map transition_of ts) → IsPlace ts X q
-    → IsRowBefore (map transition_of ts) X (map transition_of (take q ts))
+pub row_before_taken : (ts : List code.Transition) (X : Symbol) (q : ℕ) → AreInOrder (map transition_of ts)
+    → IsPlace ts X q → IsRowBefore (map transition_of ts) X (map transition_of (take q ts))
 row_before_taken ts X q ordered is = record {
   sorted = subst AreInOrder (take-map transition_of q ts) taken;
   each = λ t. (
@@ -273,11 +273,13 @@ module _ (rows : List row.Row) (last : row.Row) (ts : List code.Transition) (sam
       (omega (arith, slice_get_within rows (length rows - 1) last is, length-map rows transitions_of)))
 
   pub last_row_before : (X : Symbol) (q : ℕ) → AreInOrder (map transition_of ts) → IsPlace ts X q → (s : ℕ)
-      → suc s ≡ length rows → IsRowBefore (slice_index_or (map transitions_of rows) s []) X (map transition_of (take q ts))
+      → suc s ≡ length rows
+      → IsRowBefore (slice_index_or (map transitions_of rows) s []) X (map transition_of (take q ts))
   last_row_before X q ordered at s e =
       let here : length rows - 1 ≡ s = omega (arith, e) in
       subst (λ k. IsRowBefore (slice_index_or (map transitions_of rows) k []) X (map transition_of (take q ts))) here
-      (subst (λ r. IsRowBefore r X (map transition_of (take q ts))) (sym shown_last) (row_before_taken ts X q ordered at))
+      (subst (λ r. IsRowBefore r X (map transition_of (take q ts))) (sym shown_last)
+      (row_before_taken ts X q ordered at))
 
 -- a row that begins as the last one does, or with nothing
 pub begun_entered : (f : Found) (moves before : List Move) (at : ℕ) (begun : List code.Transition) → IsFound f

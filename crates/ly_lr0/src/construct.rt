@@ -1,6 +1,4 @@
 ghost use Rattle.std.specs.Prelude.{◌≡◌, ◌<◌, ◌≤◌, suc, length, IfOk, IsErrOf, OnOk};
-ghost use Rattle.ly_join.specs.Grammar.{IsAugmented};
-ghost use Rattle.ly_grammar.specs.Derivations.{IsReduced};
 ghost use Rattle.ly_grammar.specs.Items.{HasMoreCores};
 ghost use Rattle.ly_lr0.specs.Automaton.{IsLr0Automaton};
 ghost use Rattle.ly_lr0.specs.Private.Construction.{IsConstruction};

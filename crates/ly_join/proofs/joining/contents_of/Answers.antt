@@ -17,7 +17,8 @@ returns-in_err-start-clause-fault c =
 
 pub join_rules-requires : goal.join_rules-requires
 join_rules-requires c =
-    rw c.deref.ensures.value (all_covered (written_of c.args.yacc.now) (table_from c.args.table.now) c.requires.numbered)
+    rw c.deref.ensures.value
+    (all_covered (written_of c.args.yacc.now) (table_from c.args.table.now) c.requires.numbered)
 
 pub returns-in_err-rules-clause-fault : goal.returns-in_err-rules-clause-fault
 returns-in_err-rules-clause-fault c =

@@ -26,7 +26,8 @@ made : (c : goal.In_ok-grammar) → c.in_ok-grammar.grammar ≡ grammar_from (le
     (length c.args.table.nonterminals) c.args.contents.start.0
     (accept_rule (length c.args.table.nonterminals) c.args.contents.start.0 ∷ c.args.contents.rules.items)
 made c = c.in_ok-grammar.ensures
-    ∙ ap₂ (λ t n. grammar_from t n c.args.contents.start.0 (accept_rule n c.args.contents.start.0 ∷ c.args.contents.rules.items))
+    ∙ ap₂ (λ t n. grammar_from t n c.args.contents.start.0
+    (accept_rule n c.args.contents.start.0 ∷ c.args.contents.rules.items))
     c.count.ensures c.count-2.ensures
 
 pub invariant_of-result : goal.invariant_of-result

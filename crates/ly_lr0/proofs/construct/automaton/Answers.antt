@@ -43,8 +43,8 @@ invariant_of-result c =
     let few : length f.kernels ≤ 4294967295 = let fits = c.parser_states.type_inv in let b = c.parser_states.ensures in
     let limit = inv.limit in let few = is.few in omega arith in
     subst (λ r. IsBuilt r.grammar f.links.items f.rows.items made.by_left) inv.reduced
-    (built_of f.reduced.now.grammar is.augmented is.reduced f.kernels f.links.items f.rows.items is.found full is.rows few
-    made.by_left inv.made.by_left)
+    (built_of f.reduced.now.grammar is.augmented is.reduced f.kernels f.links.items f.rows.items is.found full is.rows
+    few made.by_left inv.made.by_left)
 
 pub returns-clause-automaton : goal.returns-clause-automaton
 returns-clause-automaton c =
