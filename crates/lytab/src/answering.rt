@@ -1,4 +1,5 @@
 //! The commands that answer a text.
+use crate::end::End;
 use crate::failure::Failure;
 use crate::files::{STANDARD, open};
 use ly_base::Counted;
@@ -9,31 +10,30 @@ use std::io::{Read, Write};
 use std::rt::Files;
 
 /// What a text is answered by: the bytes of the files that are asked for.
-#[derive(Drop)]
-pub enum Rules {
+#[derive(Clone, Copy)]
+pub enum Rules<'a> {
     /// A lex file, for the tokens.
-    Tokens(Vec<u8>),
+    Tokens(&'a [u8]),
     /// A table file.
-    Tables(Vec<u8>),
+    Tables(&'a [u8]),
     /// A lex file and a yacc file.
     Both {
         /// The lex file.
-        lex: Vec<u8>,
+        lex: &'a [u8],
         /// The yacc file.
-        yacc: Vec<u8>,
+        yacc: &'a [u8],
     },
 }
 
-/// Answers a text, standard input if there is no path. It is opened before anything is judged. It is true where the
-/// text isn't refused.
+/// Answers a text, standard input if there is no path. It is opened before anything is judged.
 pub fn answer_text<'a, F: Files, I: Read, O: Write>(
     files: &F,
     alloc: Global,
-    rules: &Rules,
+    rules: Rules<'_>,
     text: Option<&'a str>,
     input: &mut I,
     output: &mut O,
-) -> Result<bool, Failure<'a>> {
+) -> Result<End, Failure<'a>> {
     match text {
         Some(path) => {
             let mut file = open(files, path)?;
@@ -46,24 +46,24 @@ pub fn answer_text<'a, F: Files, I: Read, O: Write>(
 /// Answers all that a reader of this name gives.
 fn answer_by<'a, I: Read, O: Write>(
     alloc: Global,
-    rules: &Rules,
+    rules: Rules<'_>,
     path: &'a str,
     text: &mut I,
     output: &mut O,
-) -> Result<bool, Failure<'a>> {
+) -> Result<End, Failure<'a>> {
     let mut reader = Counted::new(text);
     let mut writer = Counted::new(output);
     match rules {
         Rules::Tokens(lex) => match tokens(alloc, lex, &mut reader, &mut writer) {
-            Ok(end) => Ok(end == TokenEnd::Clean),
+            Ok(end) => Ok(End::of_text(end == TokenEnd::Clean)),
             Err(fault) => Err(of_tokens(fault, path)),
         },
         Rules::Tables(tables) => match drive(alloc, tables, &mut reader, &mut writer) {
-            Ok(outcome) => Ok(matches!(outcome, Outcome::Tree)),
+            Ok(outcome) => Ok(End::of_text(matches!(outcome, Outcome::Tree))),
             Err(fault) => Err(of_drive(fault, path)),
         },
         Rules::Both { lex, yacc } => match answer(alloc, lex, yacc, &mut reader, &mut writer) {
-            Ok(outcome) => Ok(matches!(outcome, Outcome::Tree)),
+            Ok(outcome) => Ok(End::of_text(matches!(outcome, Outcome::Tree))),
             Err(fault) => Err(of_answer(fault, path)),
         },
     }

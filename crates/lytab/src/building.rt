@@ -1,4 +1,5 @@
 //! The command `build`.
+use crate::end::End;
 use crate::failure::Failure;
 use crate::files::{STANDARD, read_file, write_file, write_to};
 use ly_base::{Limits, Version};
@@ -18,7 +19,7 @@ pub fn build_tables<'a, F: Files, O: Write>(
     paths: Paths<'a>,
     version: Version,
     output: &mut O,
-) -> Result<(), Failure<'a>> {
+) -> Result<End, Failure<'a>> {
     let lex = read_file(files, alloc, paths.lex)?;
     let yacc = read_file(files, alloc, paths.yacc)?;
     let report = match paths.report {
@@ -32,5 +33,6 @@ pub fn build_tables<'a, F: Files, O: Write>(
     if let (Some(path), Some(report)) = (paths.report, &built.report) {
         write_file(files, path, report)?;
     }
-    write_to(output, STANDARD, &line)
+    write_to(output, STANDARD, &line)?;
+    Ok(End::Done)
 }

@@ -1,7 +1,8 @@
 //! The command `check`.
+use crate::end::End;
 use crate::failure::Failure;
 use crate::files::{STANDARD, read_file, write_to};
-use ly_tables::{SetCounts, counts, read_tables};
+use ly_tables::{SetCounts, TableFault, counts, read_tables};
 use std::alloc::{AllocError, Global};
 use std::io::Write;
 use std::rt::Files;
@@ -12,11 +13,19 @@ pub fn check_tables<'a, F: Files, O: Write>(
     alloc: Global,
     path: &'a str,
     output: &mut O,
-) -> Result<(), Failure<'a>> {
+) -> Result<End, Failure<'a>> {
     let bytes = read_file(files, alloc, path)?;
-    let (set, _version) = read_tables(alloc, &bytes)?;
-    let line = line_of(alloc, counts(&set))?;
-    write_to(output, STANDARD, line.as_bytes())
+    let line = line_of(alloc, counts_of(alloc, &bytes)?)?;
+    write_to(output, STANDARD, line.as_bytes())?;
+    Ok(End::Done)
+}
+
+/// How many there are of what the table file of these bytes is made of.
+fn counts_of(alloc: Global, bytes: &[u8]) -> Result<SetCounts, TableFault> {
+    let (set, _version) = read_tables(alloc, bytes)?;
+    let counted = counts(&set);
+    drop(set);
+    Ok(counted)
 }
 
 /// The line that says how many there are.

@@ -1,4 +1,5 @@
 //! The command `explain`.
+use crate::end::End;
 use crate::failure::Failure;
 use crate::files::{STANDARD, read_file, write_file, write_to};
 use ly_base::Limits;
@@ -11,13 +12,12 @@ use std::rt::Files;
 
 /// Writes to standard output what there is to say of a lex file and a yacc file, and, where they are accepted, the
 /// states of their parser and a picture of them if they are asked for. Both files are read before anything is judged.
-/// It is true where they are accepted.
 pub fn explain_files<'a, F: Files, O: Write>(
     files: &F,
     alloc: Global,
     paths: ExplainPaths<'a>,
     output: &mut O,
-) -> Result<bool, Failure<'a>> {
+) -> Result<End, Failure<'a>> {
     let lex = read_or_say_why(files, alloc, paths.lex)?;
     let yacc = read_or_say_why(files, alloc, paths.yacc)?;
     let wish = Wish {
@@ -40,7 +40,7 @@ pub fn explain_files<'a, F: Files, O: Write>(
         write_file(files, path, picture)?;
     }
     write_to(output, STANDARD, &explanation.text)?;
-    Ok(explanation.accepted)
+    Ok(End::of_files(explanation.accepted))
 }
 
 /// Reads a file whole. A failure has the system's reason, where a second look at the file finds one.

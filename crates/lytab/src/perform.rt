@@ -6,6 +6,7 @@ ghost use Rattle.ly_words.specs.Request.{Request};
 use crate::answering::{Rules, answer_text};
 use crate::building::build_tables;
 use crate::checking::check_tables;
+use crate::end::End;
 use crate::explaining::explain_files;
 use crate::failure::{Failure, told};
 use crate::files::{STANDARD, read_file};
@@ -56,35 +57,6 @@ pub fn perform<F: Files, I: Read, O: Write, E: Write>(
     }
 }
 
-/// How a command ends where nothing fails.
-#[derive(Clone, Copy)]
-enum End {
-    /// What was asked for is done.
-    Done,
-    /// The text is refused.
-    TextRefused,
-    /// The files that are explained are refused.
-    FilesRefused,
-}
-
-impl End {
-    /// The end of a command that answers a text.
-    fn of_text(taken: bool) -> End {
-        if taken { End::Done } else { End::TextRefused }
-    }
-
-    /// The exit status.
-    fn status(self) -> u8
-        ensures { result ≤ 2 }
-    {
-        match self {
-            End::Done => 0,
-            End::TextRefused => 1,
-            End::FilesRefused => 2,
-        }
-    }
-}
-
 /// Does what a command says. The files that it reads are opened in the order of the words, all but the text read
 /// whole, before anything is judged.
 fn carry_out<'a, F: Files, I: Read, O: Write>(
@@ -94,37 +66,26 @@ fn carry_out<'a, F: Files, I: Read, O: Write>(
     input: &mut I,
     output: &mut O,
 ) -> Result<End, Failure<'a>> {
-    let taken = match command {
+    match command {
         Command::Tokens { lex, text } => {
-            let rules = Rules::Tokens(read_file(files, alloc, lex)?);
-            answer_text(files, alloc, &rules, text, input, output)?
+            let lex = read_file(files, alloc, lex)?;
+            answer_text(files, alloc, Rules::Tokens(&lex), text, input, output)
         }
         Command::Run { tables, text } => {
-            let rules = Rules::Tables(read_file(files, alloc, tables)?);
-            answer_text(files, alloc, &rules, text, input, output)?
+            let tables = read_file(files, alloc, tables)?;
+            answer_text(files, alloc, Rules::Tables(&tables), text, input, output)
         }
         Command::Try { lex, yacc, text } => {
             let lex = read_file(files, alloc, lex)?;
             let yacc = read_file(files, alloc, yacc)?;
-            let rules = Rules::Both { lex, yacc };
-            answer_text(files, alloc, &rules, text, input, output)?
+            let rules = Rules::Both {
+                lex: &lex,
+                yacc: &yacc,
+            };
+            answer_text(files, alloc, rules, text, input, output)
         }
-        Command::Build { paths, version } => {
-            build_tables(files, alloc, paths, version, output)?;
-            return Ok(End::Done);
-        }
-        Command::Check { tables } => {
-            check_tables(files, alloc, tables, output)?;
-            return Ok(End::Done);
-        }
-        Command::Explain(paths) => {
-            let accepted = explain_files(files, alloc, paths, output)?;
-            return Ok(if accepted {
-                End::Done
-            } else {
-                End::FilesRefused
-            });
-        }
-    };
-    Ok(End::of_text(taken))
+        Command::Build { paths, version } => build_tables(files, alloc, paths, version, output),
+        Command::Check { tables } => check_tables(files, alloc, tables, output),
+        Command::Explain(paths) => explain_files(files, alloc, paths, output),
+    }
 }
