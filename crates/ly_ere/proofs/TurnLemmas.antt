@@ -498,6 +498,10 @@ nothing_taken U P W T R all ps ws ts p w t r = record {
     two : true ≡ false → ⊥
     two e = absurd (cc)
 
+-- all numbers from the first on
+pub numbers_all : (n : ℕ) → numbers_from 0 n ≡ numbers_from 0 (n - 0)
+numbers_all n = ap (numbers_from 0) (omega arith)
+
 pub numbers_more : (n m : ℕ) → n < m → numbers_from n (m - n) ≡ n ∷ numbers_from (n + 1) (m - (n + 1))
 numbers_more n m l = ap (numbers_from n) (one_more n m l)
   where

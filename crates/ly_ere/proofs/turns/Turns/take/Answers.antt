@@ -47,3 +47,26 @@ returns-clause-fewer c =
     let there : c.args.number < length c.args.self.now.taken.items = omega (arith, free.0, a.taken_counted) in
     rw c.loop-sleeper.invariant.taken (fewer_untaken c.args.self.now.taken.items c.args.number there
     (false_from_ne_true _ (λ is. free.1 ((a.is_taken c.args.number free.0).0 is))))
+
+pub settle-requires : goal.settle-requires
+settle-requires c = (
+  _,
+  subst (AreTurns c.loop-sleeper.self)
+      (drop_more c.deref-sleeper-items.result.now c.loop-sleeper.sleeper-index 0 c.loop-sleeper-test.true)
+      c.loop-sleeper.invariant.turns,
+)
+
+pub index_mut-requires : goal.index_mut-requires
+index_mut-requires c =
+    let a = c.requires.turns in
+    omega (arith, (a.are_open 0 0 (omega arith)).0, a.taken_counted)
+
+pub index_mut-requires-2 : goal.index_mut-requires-2
+index_mut-requires-2 c =
+    let a = c.requires.turns in
+    omega (
+      arith,
+      (a.are_open 0 0 (omega arith)).0,
+      a.waiting_counted,
+      length-map c.args.self.now.waiting.items (λ v. v.items),
+    )
