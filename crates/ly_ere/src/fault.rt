@@ -5,48 +5,65 @@ ghost use Rattle.ly_ere.specs.declared.fault.ReadFault.TheVariants as read;
 
 use ly_base::EscapeFault;
 use std::alloc::{AllocError, AllocFailed};
-use std::error::Error;
-use std::fmt::{self, Display, Formatter, Write};
+use thiserror::Error;
 
 /// Why an expression is refused. Nothing is handed out then.
-#[derive(Clone, Copy, Debug, PartialEq, Eq)]
+#[derive(Clone, Copy, Debug, PartialEq, Eq, Error)]
 pub enum EreFault {
     /// An empty pattern, branch, group, head or tail.
+    #[error("something is empty that has to hold an expression")]
     Empty,
     /// A string is open where the line ends.
+    #[error("the closing quote is missing")]
     UnclosedQuote,
     /// A bracket expression is open where the line ends.
+    #[error("the closing bracket is missing")]
     UnclosedBracket,
     /// A group is open where the line ends.
+    #[error("the closing parenthesis is missing")]
     UnclosedGroup,
     /// An operator without operand, `*`, `+` or `?` after an interval, `)` without `(`, a backslash at
     /// the end, or `/` where no trailing context may stand.
+    #[error("an operator where none may stand")]
     StrayOperator,
     /// A range that runs backwards, ends in a class or `[=c=]`, or follows a range or class at once.
+    #[error("not a range")]
     BadRange,
     /// A bracket expression that leaves no byte.
+    #[error("a bracket expression without a byte")]
     EmptySet,
     /// No such class, or not one character in `[. .]` or `[= =]`.
+    #[error("not a character class")]
     UnknownClass,
     /// An interval that is none of the three forms, above 255, or with its bounds the wrong way round.
+    #[error("not an interval")]
     BadInterval,
     /// An escape above 255.
+    #[error("an escape above 255")]
     EscapeTooLarge,
     /// A name in braces that isn't defined, or isn't closed by `}`.
+    #[error("a name that isn't defined")]
     UnknownName,
     /// A definition that leads into a cycle of names.
+    #[error("a cycle of names")]
     NameCycle,
     /// `^` that isn't at the start, or `$` that isn't at the end.
+    #[error("an anchor inside the pattern")]
     AnchorInside,
     /// A second `/`, or `/` with `$`.
+    #[error("a second trailing context")]
     TrailingTwice,
     /// A `/` or `$` where neither the head nor the tail has one length.
+    #[error("neither side of the trailing context has one length")]
     TrailingBothVary,
     /// A `/` or `$` behind a head that has the empty string.
+    #[error("the trailing context follows what may be empty")]
     TrailingHeadEmpty,
     /// The weight is above the limit.
+    #[error("too heavy")]
     TooHeavy,
     /// A growth was refused.
+    #[error("out of memory")]
     OutOfMemory,
 }
 
@@ -104,39 +121,7 @@ impl EreFault {
             EreFault::OutOfMemory => "OutOfMemory",
         }
     }
-
-    /// What is wrong, in words.
-    fn message(&self) -> &'static str {
-        match self {
-            EreFault::Empty => "something is empty that has to hold an expression",
-            EreFault::UnclosedQuote => "the closing quote is missing",
-            EreFault::UnclosedBracket => "the closing bracket is missing",
-            EreFault::UnclosedGroup => "the closing parenthesis is missing",
-            EreFault::StrayOperator => "an operator where none may stand",
-            EreFault::BadRange => "not a range",
-            EreFault::EmptySet => "a bracket expression without a byte",
-            EreFault::UnknownClass => "not a character class",
-            EreFault::BadInterval => "not an interval",
-            EreFault::EscapeTooLarge => "an escape above 255",
-            EreFault::UnknownName => "a name that isn't defined",
-            EreFault::NameCycle => "a cycle of names",
-            EreFault::AnchorInside => "an anchor inside the pattern",
-            EreFault::TrailingTwice => "a second trailing context",
-            EreFault::TrailingBothVary => "neither side of the trailing context has one length",
-            EreFault::TrailingHeadEmpty => "the trailing context follows what may be empty",
-            EreFault::TooHeavy => "too heavy",
-            EreFault::OutOfMemory => "out of memory",
-        }
-    }
 }
-
-impl Display for EreFault {
-    fn fmt<W: Write>(&self, f: &mut Formatter<W>) -> fmt::Result {
-        f.write_str(self.message())
-    }
-}
-
-impl Error for EreFault {}
 
 impl From<AllocError> for EreFault {
     ghost from_gives = { λ _ e. e ≡ OutOfMemory };
