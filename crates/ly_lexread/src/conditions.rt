@@ -51,6 +51,7 @@ impl Conditions {
         ensures { IfOk result (λ conditions. conditions ≡ self ++ (name.now, exclusive) ∷ []) }
     {
         if self.exclusive.len() >= u32::MAX as usize {
+            drop(self);
             return Err(AllocError);
         }
         self.names.insert(Vec::from_slice(alloc, name)?)?;

@@ -71,9 +71,11 @@ impl<'t> Preamble<'t> {
     {
         let fault = LexFault::BadDefinition { line: number };
         let Some(defined) = definition_on(line) else {
+            drop(self);
             return Err(fault);
         };
         if self.definitions.defines(defined.name) {
+            drop(self);
             return Err(fault);
         }
         let definitions = self
@@ -119,10 +121,12 @@ fn read_definition_line<'t>(
 {
     let fault = LexFault::BadDefinition { line: text.line };
     let Some((line, behind)) = text.first_line() else {
+        drop(preamble);
         return Err(fault);
     };
     let kind = kind_of(line);
     let Some(rest) = behind_definition(kind, text, behind) else {
+        drop(preamble);
         return Err(fault);
     };
     Ok((preamble.with_line(alloc, kind, line, text.line)?, rest))
@@ -141,10 +145,17 @@ pub(crate) fn first_fault(
     ensures light { (IsTooHeavy fault → ⊥) → IsTooHeavy result → ⊥ }
 {
     match named_lines(alloc, text) {
-        Ok(definitions) => match read_definition_texts(alloc, &definitions, limits) {
-            Ok(_) => fault,
-            Err(earlier) => earlier.or_earlier(fault),
-        },
+        Ok(definitions) => {
+            let read = read_definition_texts(alloc, &definitions, limits);
+            drop(definitions);
+            match read {
+                Ok(names) => {
+                    drop(names);
+                    fault
+                }
+                Err(earlier) => earlier.or_earlier(fault),
+            }
+        }
         Err(_) => LexFault::OutOfMemory,
     }
 }

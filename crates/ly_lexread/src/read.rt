@@ -30,7 +30,11 @@ pub fn read_lex(alloc: Global, bytes: &[u8], limits: &Limits) -> Result<LexFile,
 {
     let text = Rest::of(bytes);
     match read_definitions(alloc, text) {
-        Ok((preamble, behind)) => read_behind(alloc, &preamble, behind, limits),
+        Ok((preamble, behind)) => {
+            let read = read_behind(alloc, &preamble, behind, limits);
+            drop(preamble);
+            read
+        }
         Err(fault) => Err(first_fault(alloc, text, fault, limits)),
     }
 }

@@ -1,5 +1,5 @@
-ghost use Rattle.std.specs.Prelude.{◌∷◌, [], ◌≤◌, ◌<◌, ◌⊎◌, ℕ, List, length, map, IfErr, IfOk, IfSome};
-ghost use Rattle.std.specs.Prelude.{MatchBool, MatchOption};
+ghost use Rattle.std.specs.Prelude.{◌≡◌, ◌∷◌, ◌++◌, [], ◌≤◌, ◌<◌, ◌⊎◌, ℕ, List, length, map};
+ghost use Rattle.std.specs.Prelude.{IfErr, IfOk, IfSome, MatchBool, MatchOption, OnOk};
 ghost use Rattle.ly_ere.specs.declared.pattern.Rule.{Rule};
 ghost use Rattle.ly_ere.specs.Names.{Definition};
 ghost use Rattle.ly_lexread.specs.Action.{Saying};
@@ -19,7 +19,7 @@ use crate::rest::Rest;
 use crate::skipped::behind_block;
 use ly_base::Limits;
 use ly_ere::{Names, Rule, read_front};
-use std::alloc::Global;
+use std::alloc::{AllocError, Global};
 
 /// What the rules say.
 #[derive(Drop)]
@@ -30,6 +30,19 @@ pub(crate) struct Section {
     pub(crate) said: Vec<Said>,
     /// The line on which each begins.
     pub(crate) lines: Vec<u64>,
+}
+
+impl Section {
+    /// Adds a rule, with what it says of its action and the line on which it begins.
+    fn push(&mut self, rule: Rule, said: Said, line: u64) -> Result<(), AllocError>
+        ensures rules { OnOk result (self.new.rules.items ≡ self.old.rules.items ++ rule ∷ []) }
+        ensures said { OnOk result (self.new.said.items ≡ self.old.said.items ++ said ∷ []) }
+    {
+        self.rules.push(rule)?;
+        self.said.push(said)?;
+        self.lines.push(line)?;
+        Ok(())
+    }
 }
 
 /// Reads the rules, up to a mark or the end.
@@ -45,18 +58,18 @@ pub(crate) fn read_rules(
         (λ x. AreLight limits.now.pattern_weight names.now x.0)
         (HasHeavyRule limits.now.pattern_weight conditions.now names.now text.entry.bytes.now) result }
 {
-    let mut rules = Vec::new(alloc);
-    let mut said = Vec::new(alloc);
-    let mut lines = Vec::new(alloc);
     let mut left = skip_unused(text)?;
+    let mut section = Section {
+        rules: Vec::new(alloc),
+        said: Vec::new(alloc),
+        lines: Vec::new(alloc),
+    };
     while begins_with_rule(left) {
         let (rule, saying, behind) = read_rule(alloc, left, conditions, names, limits)?;
-        rules.push(rule)?;
-        said.push(saying)?;
-        lines.push(left.line)?;
+        section.push(rule, saying, left.line)?;
         left = skip_unused(behind)?;
     }
-    Ok(Section { rules, said, lines })
+    Ok(section)
 }
 
 /// What is left behind the lines and blocks at the front that aren't used.

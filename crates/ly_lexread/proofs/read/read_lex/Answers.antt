@@ -25,7 +25,7 @@ returns-in-Ok c =
     let read_so : Definitions at_first bytes all behind
     = subst (λ b. Definitions at_first b all behind) (ap (λ b. b.now) c.of-text.ensures) c.in-Ok.ensures in
     answer_as (λ file. file) (LexText bytes) (IsBehind all behind) (IsLight most) (IsHeavyText most bytes)
-    (IsHeavyBehind most all behind) c.read_behind.result
+    (IsHeavyBehind most all behind) c.read_behind-read.result
     (λ file is. record {
       all = all;
       behind = behind;
@@ -38,4 +38,4 @@ returns-in-Ok c =
     })
     (λ file text. text_behind bytes all behind read_so file text)
     (λ h. (all, behind, read_so, h))
-    c.read_behind.ensures
+    c.read_behind-read.ensures

@@ -14,7 +14,7 @@ loop-left-init c =
     let names = c.args.names.now in
     let text = c.args.text.bytes.now in
     let left = c.in_ok-left.left.bytes.now in
-    rw (c.new-rules.ensures.items, c.new-said.ensures.items) (record {
+    rw (c.new.ensures.items, c.new-2.ensures.items) (record {
       sound = λ rs ss d. rules_on cs names text left rs ss c.in_ok-left.ensures.ok d;
       complete = λ rs ss d. (rs, (ss, rules_back cs names text left rs ss c.in_ok-left.ensures.ok d, λ light. light));
       heavy = heavy_on c.args.limits.now.pattern_weight cs names text left c.in_ok-left.ensures.ok;
@@ -34,11 +34,11 @@ loop-left-preserved c =
     let r = c.in_ok-rule.rule in
     let s = saying_of c.in_ok-rule.saying in
     record {
-      sound = λ rs ss d. rules_push cs names text c.loop-left.rules.items c.push.new.self.items rs
-          (map saying_of c.loop-left.said.items) (map saying_of c.push-in-loop-left.new.self.items) ss r s
-          c.in_ok-push.ensures.items
-          (ap (map saying_of) c.in_ok-push-2.ensures.items
-          ∙ map-append saying_of c.loop-left.said.items (c.in_ok-rule.saying ∷ []))
+      sound = λ rs ss d. rules_push cs names text c.loop-left.section.rules.items c.push.new.self.rules.items rs
+          (map saying_of c.loop-left.section.said.items) (map saying_of c.push.new.self.said.items) ss r s
+          c.in_ok-push.ensures.rules
+          (ap (map saying_of) c.in_ok-push.ensures.said
+          ∙ map-append saying_of c.loop-left.section.said.items (c.in_ok-rule.saying ∷ []))
           (c.loop-left.invariant.sound (r ∷ rs) (s ∷ ss) (rule left behind r s rs ss c.in_ok-rule.ensures.ok
           (rules_on cs names behind next rs ss c.in_ok-left-2.ensures.ok d)));
       complete = λ rs ss d.
@@ -55,8 +55,8 @@ loop-left-preserved c =
           );
       heavy = λ h. c.loop-left.invariant.heavy (heavy_rule most cs names left behind r s c.in_ok-rule.ensures.ok
           (heavy_on most cs names behind next c.in_ok-left-2.ensures.ok h));
-      light = subst (AreLight most names) (sym c.in_ok-push.ensures.items)
-          (light_push most names c.loop-left.rules.items r c.loop-left.invariant.light c.in_ok-rule.ensures.light);
+      light = subst (AreLight most names) (sym c.in_ok-push.ensures.rules)
+          (light_push most names c.loop-left.section.rules.items r c.loop-left.invariant.light c.in_ok-rule.ensures.light);
       settled = c.in_ok-left-2.ensures.settled;
     }
 
@@ -112,7 +112,7 @@ returns c =
     let cs = c.args.conditions.now in
     let names = c.args.names.now in
     let left = c.loop-left.left.bytes.now in
-    answer_ok _ _ _ _ _ (rules_whole cs names c.args.text.bytes.now c.loop-left.rules.items
-    (map saying_of c.loop-left.said.items) (c.loop-left.invariant.sound [] []
+    answer_ok _ _ _ _ _ (rules_whole cs names c.args.text.bytes.now c.loop-left.section.rules.items
+    (map saying_of c.loop-left.section.said.items) (c.loop-left.invariant.sound [] []
     (rules_over cs names left (over_of left c.loop-left.invariant.settled c.loop-left-test.ensures))))
     c.loop-left.invariant.light
