@@ -56,7 +56,8 @@ loop-left-preserved c =
       heavy = λ h. c.loop-left.invariant.heavy (heavy_rule most cs names left behind r s c.in_ok-rule.ensures.ok
           (heavy_on most cs names behind next c.in_ok-left-2.ensures.ok h));
       light = subst (AreLight most names) (sym c.in_ok-push.ensures.rules)
-          (light_push most names c.loop-left.section.rules.items r c.loop-left.invariant.light c.in_ok-rule.ensures.light);
+          (light_push most names c.loop-left.section.rules.items r c.loop-left.invariant.light
+          c.in_ok-rule.ensures.light);
       settled = c.in_ok-left-2.ensures.settled;
     }
 

@@ -10,7 +10,8 @@ use Rattle.ly_lexread.proofs.rules.read_rules.Given as goal
 abbrev pub invariant-loop-left : goal.invariant-loop-left
 invariant-loop-left l = record {
   sound : (rules : List Rule) (sayings : List Saying) → Rules l.conditions l.names l.left.bytes.now rules sayings
-      → Rules l.conditions l.names l.text.bytes.now (l.section.rules.items ++ rules) (map saying_of l.section.said.items ++ sayings);
+      → Rules l.conditions l.names l.text.bytes.now (l.section.rules.items ++ rules)
+      (map saying_of l.section.said.items ++ sayings);
   complete : (rules : List Rule) (sayings : List Saying)
       → Rules l.conditions l.names l.text.bytes.now rules sayings → (rs : List Rule) × ((ss : List Saying)
       × Rules l.conditions l.names l.left.bytes.now rs ss
