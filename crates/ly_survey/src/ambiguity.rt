@@ -1,6 +1,7 @@
 //! A sentence with two trees, sought behind a string of symbols at which two actions are possible: both derivations
 //! go on at once, until they have come to the same tokens. What is found is asked of `ly_explain` before it is said.
-use crate::drawing::{begin, behind_dot};
+use crate::bodies::{behind_dot, body_of, rest_of};
+use crate::drawing::begin;
 use crate::yields::{Derived, Yields, push_reversed};
 use ly_base::{OutOfMemory, Sym};
 use ly_explain::ambiguous_sentence;
@@ -63,6 +64,8 @@ enum Course {
 pub(crate) struct Finder<'a> {
     /// The automaton, which knows the rules of each nonterminal.
     lr0: &'a Lr0<'a>,
+    /// Its grammar.
+    grammar: &'a Grammar,
     /// The shortest yields of nonterminals.
     yields: &'a Yields,
     /// How many symbols may still be derived.
@@ -74,14 +77,10 @@ impl<'a> Finder<'a> {
     pub(crate) fn new(lr0: &'a Lr0<'a>, yields: &'a Yields) -> Finder<'a> {
         Finder {
             lr0,
+            grammar: lr0.reduced().grammar(),
             yields,
             steps: STEPS,
         }
-    }
-
-    /// The grammar.
-    fn grammar(&self) -> &'a Grammar {
-        self.lr0.reduced().grammar()
     }
 
     /// A sentence with two trees, which begin as two ways to the same string do.
@@ -157,10 +156,10 @@ impl<'a> Finder<'a> {
         item: Item,
         rules: &mut Vec<usize>,
     ) -> Result<(), AllocError> {
-        let Some(symbol) = behind_dot(self.lr0.reduced(), item) else {
+        let Some(symbol) = behind_dot(self.grammar, item) else {
             return Ok(());
         };
-        let passed = self.yields.derive(alloc, self.grammar(), &[symbol])?;
+        let passed = self.yields.derive(alloc, self.grammar, &[symbol])?;
         rules.extend_from_slice(&passed.rules)
     }
 
@@ -174,9 +173,7 @@ impl<'a> Finder<'a> {
             } else {
                 item.dot.saturating_add(1)
             };
-            if let Some(rule) = self.grammar().rules().get(item.rule) {
-                push_reversed(ahead, rule.body().get(passed..).unwrap_or_default())?;
-            }
+            push_reversed(ahead, rest_of(self.grammar, item.rule, passed))?;
         }
         Ok(())
     }
@@ -224,7 +221,7 @@ impl<'a> Finder<'a> {
 
     /// The trees of symbols that have the fewest tokens.
     fn yielded(&mut self, alloc: Global, symbols: &[Symbol]) -> Result<Derived, AllocError> {
-        let derived = self.yields.derive(alloc, self.grammar(), symbols)?;
+        let derived = self.yields.derive(alloc, self.grammar, symbols)?;
         let steps = derived.rules.len().saturating_add(derived.tokens.len());
         self.steps = self.steps.saturating_sub(steps);
         Ok(derived)
@@ -261,17 +258,15 @@ impl<'a> Finder<'a> {
         let Some(Symbol::Nonterminal(left)) = half.next() else {
             return Ok(());
         };
-        let reduced = self.lr0.reduced();
-        if left.0 > reduced.grammar().accept().0 || half.is_long() || beside.is_long() {
+        if left.0 > self.lr0.reduced().grammar().accept().0 || half.is_long() || beside.is_long() {
             return Ok(());
         }
-        for number in self.lr0.rules_of(left) {
-            if let Some(rule) = reduced.grammar().rules().get(*number) {
-                if self.may_meet(rule.body(), beside) {
-                    let one = half.with_rule(alloc, *number, rule.body())?;
-                    let other = beside.copy(alloc)?;
-                    pairs.push(Pair { one, other })?;
-                }
+        for rule in self.lr0.rules_of(left) {
+            let body = body_of(self.grammar, *rule);
+            if self.may_meet(body, beside) {
+                let one = half.with_rule(alloc, *rule, body)?;
+                let other = beside.copy(alloc)?;
+                pairs.push(Pair { one, other })?;
             }
         }
         Ok(())
@@ -291,7 +286,7 @@ impl<'a> Finder<'a> {
     /// What was found, if it is a sentence with two trees.
     fn checked(&self, alloc: Global, pair: &Pair) -> Result<Option<Ambiguity>, OutOfMemory> {
         let (one, other) = (&pair.one.rules, &pair.other.rules);
-        let Some(sentence) = ambiguous_sentence(alloc, self.grammar(), one, other)? else {
+        let Some(sentence) = ambiguous_sentence(alloc, self.grammar, one, other)? else {
             return Ok(None);
         };
         Ok(Some(Ambiguity {

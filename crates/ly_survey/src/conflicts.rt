@@ -1,20 +1,18 @@
 //! The conflicts: what is done, why precedence doesn't settle it, and an example at which both actions are possible.
-ghost use Rattle.std.specs.Prelude.{◌≡◌};
-
 use crate::ambiguity::{Ambiguity, Finder};
+use crate::bodies::{behind_dot, body_of};
 use crate::decided::precedence_of;
-use crate::drawing::{Drawing, behind_dot, core_of, say_way};
-use crate::surveying::{Accepted, say_numbered};
+use crate::drawing::{Drawing, core_of, say_way};
+use crate::surveying::{Accepted, first_of, say_numbered};
 use crate::trees::say_ambiguity;
 use crate::yields::Yields;
 use ly_base::{OutOfMemory, Sym};
 use ly_explain::{Claim, Example, Examples};
-use ly_grammar::Reduced;
-use ly_join::{Spec, Symbol};
+use ly_join::{Grammar, Spec, Symbol};
 use ly_lr0::Item;
 use ly_page::Page;
 use ly_report::ConflictCounts;
-use ly_resolve::{Action, Conflict, ConflictKind, Resolved};
+use ly_resolve::{Action, Conflict, ConflictKind};
 use std::alloc::Global;
 
 /// How many demands a search for an example looks at, at most.
@@ -33,6 +31,8 @@ struct Teller<'a> {
     examples: &'a Examples<'a>,
     /// The shortest yields of nonterminals.
     yields: &'a Yields,
+    /// The specification.
+    spec: &'a Spec,
 }
 
 /// Says how many conflicts there are, and each with an example. Those of one state that differ in the terminal alone
@@ -44,11 +44,13 @@ pub(crate) fn say_conflicts(
 ) -> Result<(), OutOfMemory> {
     let resolved = files.resolved;
     let counts = ConflictCounts::of(resolved);
-    page.say(b"\nConflicts: ");
-    page.say_number(counts.shift_reduce as u64);
-    page.say(b" shift/reduce, ");
-    page.say_number(counts.reduce_reduce as u64);
-    page.say(b" reduce/reduce.\n");
+    say_numbered(
+        page,
+        b"\nConflicts: ",
+        counts.shift_reduce as u64,
+        b" shift/reduce, ",
+    );
+    say_numbered(page, b"", counts.reduce_reduce as u64, b" reduce/reduce.\n");
     if resolved.conflicts().is_empty() {
         return Ok(());
     }
@@ -57,6 +59,7 @@ pub(crate) fn say_conflicts(
     let teller = Teller {
         examples: &Examples::new(alloc, resolved)?,
         yields: &yields,
+        spec: files.spec,
     };
     teller.say_all(alloc, page, &mut Finder::new(lr0, &yields))
 }
@@ -77,19 +80,7 @@ fn are_alike(one: &Conflict, other: &Conflict) -> bool {
         && one.choice == other.choice
 }
 
-impl<'a> Teller<'a> {
-    /// The conflicts, and what is done.
-    fn resolved(&self) -> &'a Resolved<'a>
-        ensures { result.now ≡ self.now.examples.now }
-    {
-        self.examples.resolved()
-    }
-
-    /// The specification.
-    fn spec(&self) -> &'a Spec {
-        self.resolved().spec()
-    }
-
+impl Teller<'_> {
     /// Says all conflicts, group by group.
     fn say_all(
         &self,
@@ -97,7 +88,7 @@ impl<'a> Teller<'a> {
         page: &mut Page,
         finder: &mut Finder<'_>,
     ) -> Result<(), OutOfMemory> {
-        let conflicts = self.resolved().conflicts();
+        let conflicts = self.examples.resolved().conflicts();
         let mut order = Vec::with_capacity(alloc, conflicts.len())?;
         for place in 0..conflicts.len() {
             order.push(place)?;
@@ -120,7 +111,7 @@ impl<'a> Teller<'a> {
         page: &mut Page,
         group: &[usize],
     ) -> Result<(), OutOfMemory> {
-        let conflicts = self.resolved().conflicts();
+        let conflicts = self.examples.resolved().conflicts();
         let Some(first) = group.first() else {
             return Ok(());
         };
@@ -141,14 +132,13 @@ impl<'a> Teller<'a> {
         page: &mut Page,
         conflict: &Conflict,
     ) -> Result<(), OutOfMemory> {
-        let lr0 = self.resolved().lr0();
-        page.say(b"\nIn state ");
-        page.say_number(u64::from(conflict.state.0));
+        let lr0 = self.examples.resolved().lr0();
+        say_numbered(page, b"\nIn state ", conflict.state.0 as u64, b"");
         if (conflict.state.0 as usize) < lr0.states() {
             let mut prefix = lr0.prefix(alloc, conflict.state)?;
             prefix.reverse();
             page.say(b", after");
-            page.say_symbols(self.spec(), &prefix);
+            page.say_symbols(self.spec, &prefix);
         }
         page.say(b", before");
         Ok(())
@@ -156,11 +146,11 @@ impl<'a> Teller<'a> {
 
     /// Says the terminals of a group.
     fn say_terminals(&self, page: &mut Page, group: &[usize]) {
-        let conflicts = self.resolved().conflicts();
-        for place in group.iter().take(NAMED) {
+        let conflicts = self.examples.resolved().conflicts();
+        for place in first_of(group, NAMED) {
             if let Some(conflict) = conflicts.get(*place) {
                 page.say(b" ");
-                page.say_terminal(self.spec(), conflict.terminal);
+                page.say_terminal(self.spec, conflict.terminal);
             }
         }
         if group.len() > NAMED {
@@ -185,7 +175,7 @@ impl<'a> Teller<'a> {
         if conflict.kind == ConflictKind::ReduceReduce || conflict.terminal.0 == 0 {
             return;
         }
-        let spec = self.spec();
+        let spec = self.spec;
         if precedence_of(spec, conflict.rule).is_none() {
             say_unranked(page, spec, conflict, alike);
         } else if alike > 1 {
@@ -205,7 +195,7 @@ impl<'a> Teller<'a> {
         group: &[usize],
         finder: &mut Finder<'_>,
     ) -> Result<(), OutOfMemory> {
-        let conflicts = self.resolved().conflicts();
+        let conflicts = self.examples.resolved().conflicts();
         let Some(place) = group.first() else {
             return Ok(());
         };
@@ -237,7 +227,7 @@ impl<'a> Teller<'a> {
         conflict: &Conflict,
         string: &[Symbol],
     ) -> Result<(), OutOfMemory> {
-        let spec = self.spec();
+        let spec = self.spec;
         page.say(b"    example:");
         page.say_symbols(spec, string);
         page.say(b" . ");
@@ -267,9 +257,9 @@ impl<'a> Teller<'a> {
             (ConflictKind::ReduceReduce, Action::Reduce(rule)) => say_label(page, rule),
             _ => page.say(b"    shift:  "),
         }
-        say_way(alloc, page, self.spec(), &one)?;
+        say_way(alloc, page, self.spec, &one)?;
         say_label(page, conflict.rule);
-        say_way(alloc, page, self.spec(), &other)?;
+        say_way(alloc, page, self.spec, &other)?;
         self.say_sentence(alloc, page, &finder.find(alloc, &one, &other)?)
     }
 
@@ -281,7 +271,12 @@ impl<'a> Teller<'a> {
         string: &[Symbol],
     ) -> Result<(Vec<Item>, Vec<Item>), OutOfMemory> {
         let rival = self.rival(alloc, conflict)?;
-        let drawing = Drawing::new(alloc, self.resolved().lr0(), string, conflict.terminal)?;
+        let drawing = Drawing::new(
+            alloc,
+            self.examples.resolved().lr0(),
+            string,
+            conflict.terminal,
+        )?;
         let one = drawing.way(alloc, rival)?;
         let other = drawing.way(alloc, self.reduction(conflict.rule))?;
         Ok((one, other))
@@ -295,7 +290,7 @@ impl<'a> Teller<'a> {
         ambiguity: &Option<Ambiguity>,
     ) -> Result<(), OutOfMemory> {
         match ambiguity {
-            Some(ambiguity) => say_ambiguity(alloc, page, self.spec(), ambiguity)?,
+            Some(ambiguity) => return say_ambiguity(alloc, page, self.spec, ambiguity),
             None => page.say(
                 b"    No sentence with two trees was found within the bound of the search.\n",
             ),
@@ -305,10 +300,7 @@ impl<'a> Teller<'a> {
 
     /// What is claimed where a reduction by a rule is possible.
     fn reduction(&self, rule: usize) -> Claim {
-        let dot = match self.spec().grammar().rules().get(rule) {
-            Some(rule) => rule.body().len(),
-            None => 0,
-        };
+        let dot = body_of(self.spec.grammar(), rule).len();
         Claim::With(Item { rule, dot })
     }
 
@@ -321,16 +313,16 @@ impl<'a> Teller<'a> {
         ) {
             return Ok(self.reduction(rule));
         }
-        let lr0 = self.resolved().lr0();
+        let lr0 = self.examples.resolved().lr0();
         let core = core_of(alloc, lr0, conflict.state)?;
-        Ok(shift(lr0.reduced(), &core, conflict.terminal))
+        Ok(shift(lr0.reduced().grammar(), &core, conflict.terminal))
     }
 }
 
 /// What is claimed where a terminal is shifted: the first of these items that has it behind its dot.
-fn shift(reduced: &Reduced<'_>, core: &[Item], terminal: Sym) -> Claim {
+fn shift(grammar: &Grammar, core: &[Item], terminal: Sym) -> Claim {
     for item in core {
-        if behind_dot(reduced, *item) == Some(Symbol::Terminal(terminal)) {
+        if behind_dot(grammar, *item) == Some(Symbol::Terminal(terminal)) {
             return Claim::InCore(*item);
         }
     }
@@ -349,9 +341,8 @@ fn has_nonterminal(symbols: &[Symbol]) -> bool {
 
 /// Says which rule it is that a reduction is drawn of.
 fn say_label(page: &mut Page, rule: usize) {
-    page.say(b"    rule ");
-    page.say_number(rule as u64);
-    page.say(if rule < 10 { b": " } else { b":" });
+    let behind = if rule < 10 { b": ".as_slice() } else { b":" };
+    say_numbered(page, b"    rule ", rule as u64, behind);
 }
 
 /// Says that the rule of a conflict has no precedence, and whether the terminal has one, if it is alone.
@@ -362,9 +353,12 @@ fn say_unranked(page: &mut Page, spec: &Spec, conflict: &Conflict, alike: usize)
         page.say_terminal(spec, conflict.terminal);
         page.say(b" has a precedence.\n");
     } else {
-        page.say(b"    Rule ");
-        page.say_number(conflict.rule as u64);
-        page.say(b" has no precedence.\n");
+        say_numbered(
+            page,
+            b"    Rule ",
+            conflict.rule as u64,
+            b" has no precedence.\n",
+        );
     }
 }
 

@@ -2,6 +2,7 @@
 ghost use Rattle.std.specs.Prelude.{◌<◌, length};
 ghost use Rattle.ly_lookahead.specs.Lookaheads.{AreLookaheads};
 
+use crate::bodies::body_of;
 use crate::states::place_of;
 use ly_base::{OutOfMemory, StateNo, Sym};
 use ly_join::{Precedence, Spec, Symbol};
@@ -46,16 +47,18 @@ impl Decided {
     /// Whether the precedence of a terminal decides something, or that of a rule that has it from the same declaration.
     pub(crate) fn by_terminal(&self, spec: &Spec, terminal: Sym) -> bool {
         let number = terminal.0 as usize;
-        let level = match spec.precedences().get(number) {
-            Some(Some(ranked)) => self.levels.get(ranked.level),
-            _ => None,
-        };
-        self.terminals.get(number) == Some(&true) || level == Some(&true)
+        if is_marked(&self.terminals, number) {
+            return true;
+        }
+        match spec.precedences().get(number) {
+            Some(Some(ranked)) => is_marked(&self.levels, ranked.level),
+            _ => false,
+        }
     }
 
     /// Whether the precedence of a rule decides something.
     pub(crate) fn by_rule(&self, rule: usize) -> bool {
-        self.rules.get(rule) == Some(&true)
+        is_marked(&self.rules, rule)
     }
 
     /// Marks what meets in a state.
@@ -64,10 +67,7 @@ impl Decided {
         requires sets { AreLookaheads lr0.now sets.now }
     {
         for rule in lr0.complete(state) {
-            let dot = match spec.grammar().rules().get(*rule) {
-                Some(rule) => rule.body().len(),
-                None => 0,
-            };
+            let dot = body_of(spec.grammar(), *rule).len();
             let item = Item { rule: *rule, dot };
             if let Some(place) = place_of(lr0, sets, state, item) {
                 for transition in lr0.transitions(state) {
@@ -106,6 +106,11 @@ fn levels_of(spec: &Spec) -> usize {
         }
     }
     levels
+}
+
+/// Whether a number is marked.
+pub(crate) fn is_marked(marks: &[bool], number: usize) -> bool {
+    marks.get(number) == Some(&true)
 }
 
 /// Marks a number. One that has no mark is passed over.

@@ -5,10 +5,9 @@ use crate::decided::Decided;
 use crate::patterns::{Surprise, surprises};
 use crate::places::Places;
 use crate::scanner::say_other_bytes;
-use crate::surveying::{Accepted, say_numbered};
+use crate::surveying::{Accepted, first_of, say_numbered};
 use ly_base::{OutOfMemory, Sym};
 use ly_explain::{unmatched_rules, unreduced_rules, unreturned_terminals, unused_terminals};
-use ly_join::Spec;
 use ly_page::{Named, Page};
 use std::alloc::Global;
 
@@ -23,6 +22,24 @@ struct Teller<'a> {
     /// Where symbols and rules stand.
     places: &'a Places,
 }
+
+/// What is said of terminals.
+#[derive(Clone, Copy)]
+struct Said<'a> {
+    /// Of one.
+    one: &'a [u8],
+    /// What stands behind that.
+    of: &'a [u8],
+    /// Of more than are told.
+    more: &'a [u8],
+}
+
+/// Of those that stand in no rule's body.
+const STANDS_NOWHERE: Said<'static> = Said {
+    one: b" stands in no rule",
+    of: b"",
+    more: b"stand in no rule\n",
+};
 
 /// Says what is doubtful, a line each: first of the lex file, and then of the yacc file.
 pub(crate) fn say_doubts(
@@ -51,11 +68,6 @@ pub(crate) fn say_doubts(
 }
 
 impl Teller<'_> {
-    /// The specification.
-    fn spec(&self) -> &Spec {
-        self.files.spec
-    }
-
     /// Says the place of a rule of the lex file.
     fn say_lex_rule(&self, page: &mut Page, rule: usize) {
         let line = self.files.file.lines.get(rule).copied().unwrap_or(1);
@@ -65,21 +77,14 @@ impl Teller<'_> {
     /// Says the place of a rule of the yacc file, and its number.
     fn say_rule(&self, page: &mut Page, rule: usize) {
         page.say_line_of(self.files.yacc, self.places.line_of_rule(rule));
-        page.say(b"rule ");
-        page.say_number(rule as u64);
-    }
-
-    /// Says the place where a terminal is named first, and the terminal.
-    fn say_terminal(&self, page: &mut Page, terminal: Sym) {
-        self.say_terminal_line(page, terminal);
-        page.say_terminal(self.spec(), terminal);
+        say_numbered(page, b"rule ", rule as u64, b"");
     }
 
     /// Says the place where a terminal is named first.
     fn say_terminal_line(&self, page: &mut Page, terminal: Sym) {
         let line = self
             .places
-            .line_of_terminal(self.spec(), self.files.yacc.bytes, terminal);
+            .line_of_terminal(self.files.spec, self.files.yacc.bytes, terminal);
         page.say_line_of(self.files.yacc, line);
     }
 
@@ -128,50 +133,41 @@ impl Teller<'_> {
     fn say_terminals(&self, alloc: Global, page: &mut Page) -> Result<(), OutOfMemory>
         requires { IsBreadthFirst self.now.files.dfa.now }
     {
-        let unused = unused_terminals(alloc, self.spec())?;
-        self.say_unused(page, &unused);
-        let unreturned = unreturned_terminals(alloc, self.spec(), self.files.dfa)?;
-        self.say_unreturned(page, &unused, &unreturned);
+        let unused = unused_terminals(alloc, self.files.spec)?;
+        self.say_all_so(page, &unused, &[], STANDS_NOWHERE);
+        let unreturned = unreturned_terminals(alloc, self.files.spec, self.files.dfa)?;
+        let is_unreturned = Said {
+            one: b" is returned by no rule of ",
+            of: self.files.lex.name.as_bytes(),
+            more: b"are returned by no rule\n",
+        };
+        self.say_all_so(page, &unreturned, &unused, is_unreturned);
         Ok(())
     }
 
-    /// Says which of the terminals that stand in no rule's body give no rule its precedence either.
-    fn say_unused(&self, page: &mut Page, unused: &[Sym]) {
+    /// Says what is so of terminals, but of those that were told before, and of those that give a rule its precedence.
+    fn say_all_so(&self, page: &mut Page, terminals: &[Sym], told: &[Sym], so: Said<'_>) {
+        let (spec, text) = (self.files.spec, self.files.yacc.bytes);
         let mut said = 0;
-        for terminal in unused {
-            if self.gives_precedence(*terminal) {
+        for terminal in terminals {
+            if told.contains(terminal) || self.places.gives_precedence(spec, text, *terminal) {
                 continue;
             }
             if said < MOST {
-                self.say_terminal(page, *terminal);
-                page.say(b" stands in no rule\n");
-            }
-            said = said.saturating_add(1);
-        }
-        self.say_more(page, said, b"stand in no rule\n");
-    }
-
-    /// Says which of the terminals that no rule of the lex file returns stand in a rule.
-    fn say_unreturned(&self, page: &mut Page, unused: &[Sym], unreturned: &[Sym]) {
-        let mut said = 0;
-        for terminal in unreturned {
-            if unused.contains(terminal) || self.gives_precedence(*terminal) {
-                continue;
-            }
-            if said < MOST {
-                self.say_terminal(page, *terminal);
-                page.say(b" is returned by no rule of ");
-                page.say(self.files.lex.name.as_bytes());
+                self.say_terminal_line(page, *terminal);
+                page.say_terminal(spec, *terminal);
+                page.say(so.one);
+                page.say(so.of);
                 page.say(b"\n");
             }
             said = said.saturating_add(1);
         }
-        self.say_more(page, said, b"are returned by no rule\n");
+        self.say_more(page, said, so.more);
     }
 
     /// Says which lines among the rules of the lex file aren't used.
     fn say_indented(&self, page: &mut Page) {
-        for line in self.files.indented.iter().take(MOST) {
+        for line in first_of(self.files.indented, MOST) {
             page.say_line_of(self.files.lex, *line);
             page.say(b"this line begins with a blank, and so is no rule: it is not used\n");
         }
@@ -180,7 +176,7 @@ impl Teller<'_> {
     /// Says which tokens are declared more than once.
     fn say_declared_again(&self, alloc: Global, page: &mut Page) -> Result<(), OutOfMemory> {
         let again = self.places.declared_again(alloc, self.files.yacc.bytes)?;
-        for (line, word) in again.iter().take(MOST) {
+        for (line, word) in first_of(&again, MOST) {
             page.say_line_of(self.files.yacc, *line);
             page.say(word);
             page.say(b" is declared before\n");
@@ -198,7 +194,7 @@ impl Teller<'_> {
 
     /// Says which precedences of terminals decide nothing.
     fn say_undecided_terminals(&self, page: &mut Page, decided: &Decided) {
-        let spec = self.spec();
+        let spec = self.files.spec;
         let mut said = 0;
         for number in 0..spec.grammar().terminals() {
             let ranked = matches!(spec.precedences().get(number as usize), Some(Some(_)));
@@ -214,20 +210,17 @@ impl Teller<'_> {
 
     /// Says which rules have a `%prec` that decides nothing.
     fn say_undecided_rules(&self, page: &mut Page, decided: &Decided) {
-        for rule in self.places.ranked_rules().iter().take(MOST) {
+        for rule in first_of(self.places.ranked_rules(), MOST) {
             if !decided.by_rule(*rule) {
                 page.say_line_of(self.files.yacc, self.places.line_of_rule(*rule));
-                page.say(b"the %prec of rule ");
-                page.say_number(*rule as u64);
-                page.say(b" decides nothing\n");
+                say_numbered(
+                    page,
+                    b"the %prec of rule ",
+                    *rule as u64,
+                    b" decides nothing\n",
+                );
             }
         }
-    }
-
-    /// Whether a terminal stands behind a `%prec`.
-    fn gives_precedence(&self, terminal: Sym) -> bool {
-        let text = self.files.yacc.bytes;
-        self.places.gives_precedence(self.spec(), text, terminal)
     }
 
     /// Says of how many terminals more the same is so.
@@ -253,8 +246,8 @@ fn say_surprise(page: &mut Page, lex: Named<'_>, line: u64, found: Surprise) {
     if found.interval {
         page.say_line_of(lex, line);
         page.say(
-            b"the interval repeats all that stands before it, not its last piece alone, as POSIX has it; ",
+            b"the interval repeats all that stands before it, not its last piece alone, as POSIX has it; \
+            write parentheses around what is to be repeated\n",
         );
-        page.say(b"write parentheses around what is to be repeated\n");
     }
 }

@@ -1,9 +1,10 @@
 //! How an action comes about behind a string of symbols: the rules that are under way there, drawn with brackets.
+use crate::bodies::{behind_dot, body_of, rest_of};
 use indexmap::{IndexMap, IndexSet};
 use ly_base::{OutOfMemory, StateNo, Sym};
 use ly_explain::Claim;
 use ly_grammar::Reduced;
-use ly_join::{Spec, Symbol};
+use ly_join::{Grammar, Spec, Symbol};
 use ly_lr0::{Item, Lr0};
 use ly_page::Page;
 use std::alloc::{AllocError, Global};
@@ -14,8 +15,10 @@ const MOST: usize = 50_000;
 /// A string of symbols behind which an action is drawn.
 #[derive(Drop)]
 pub(crate) struct Drawing<'a> {
-    /// The automaton.
-    lr0: &'a Lr0<'a>,
+    /// What is known of the grammar.
+    reduced: &'a Reduced<'a>,
+    /// The grammar.
+    grammar: &'a Grammar,
     /// The string, its first symbol first.
     string: &'a [Symbol],
     /// What stands next.
@@ -63,8 +66,10 @@ impl<'a> Drawing<'a> {
     ) -> Result<Drawing<'a>, OutOfMemory> {
         let mut cores = Vec::new(alloc);
         push_cores(alloc, lr0, string, &mut cores)?;
+        let reduced = lr0.reduced();
         Ok(Drawing {
-            lr0,
+            reduced,
+            grammar: reduced.grammar(),
             string,
             terminal,
             cores,
@@ -124,7 +129,7 @@ impl<'a> Drawing<'a> {
         if item.dot > 0 {
             return None;
         }
-        let rule = self.lr0.reduced().grammar().rules().get(item.rule)?;
+        let rule = self.grammar.rules().get(item.rule)?;
         Some(Opening {
             length: claimed.length,
             left: rule.left(),
@@ -143,7 +148,7 @@ impl<'a> Drawing<'a> {
             claimed.length.checked_sub(1),
         ) {
             let item = Item { dot, ..item };
-            if self.string.get(length).copied() == behind_dot(self.lr0.reduced(), item) {
+            if self.string.get(length).copied() == behind_dot(self.grammar, item) {
                 let claim = with_item(claimed.claim, item);
                 found.push(Claimed { length, claim })?;
             }
@@ -161,28 +166,22 @@ impl<'a> Drawing<'a> {
         claimed: Claimed,
         item: Item,
     ) -> Result<(), OutOfMemory> {
-        let reduced = self.lr0.reduced();
-        let Some(rule) = reduced.grammar().rules().get(item.rule) else {
+        let Some(rule) = self.grammar.rules().get(item.rule) else {
             return Ok(());
         };
         let left = Symbol::Nonterminal(rule.left());
         for waiting in core {
-            if behind_dot(reduced, *waiting) != Some(left) {
+            if behind_dot(self.grammar, *waiting) != Some(left) {
                 continue;
             }
-            let in_core = Claimed {
-                claim: Claim::InCore(*waiting),
-                ..claimed
-            };
-            if let Claim::InCore(_) = claimed.claim {
-                found.push(in_core)?;
-                continue;
+            let (in_core, with) = self.is_true_by(claimed.claim, *waiting);
+            if in_core {
+                found.push(Claimed {
+                    claim: Claim::InCore(*waiting),
+                    ..claimed
+                })?;
             }
-            let (begins, nullable) = begin(reduced, rest_of(reduced, *waiting), self.terminal);
-            if begins {
-                found.push(in_core)?;
-            }
-            if nullable {
+            if with {
                 found.push(Claimed {
                     claim: Claim::With(*waiting),
                     ..claimed
@@ -190,6 +189,16 @@ impl<'a> Drawing<'a> {
             }
         }
         Ok(())
+    }
+
+    /// Whether a claim is true by the item that waits for its rule in the core, with any terminal, and whether by that
+    /// item with the terminal that stands next.
+    fn is_true_by(&self, claim: Claim, waiting: Item) -> (bool, bool) {
+        if let Claim::InCore(_) = claim {
+            return (true, false);
+        }
+        let rest = rest_of(self.grammar, waiting.rule, waiting.dot.saturating_add(1));
+        begin(self.reduced, rest, self.terminal)
     }
 }
 
@@ -315,12 +324,6 @@ fn with_item(claim: Claim, item: Item) -> Claim {
     }
 }
 
-/// The symbol behind the dot of an item, if there is one.
-pub(crate) fn behind_dot(reduced: &Reduced<'_>, item: Item) -> Option<Symbol> {
-    let rule = reduced.grammar().rules().get(item.rule)?;
-    rule.body().get(item.dot).copied()
-}
-
 /// Whether a terminal begins what symbols yield, and whether that may be empty.
 pub(crate) fn begin(reduced: &Reduced<'_>, symbols: &[Symbol], terminal: Sym) -> (bool, bool) {
     let grammar = reduced.grammar();
@@ -341,17 +344,6 @@ pub(crate) fn begin(reduced: &Reduced<'_>, symbols: &[Symbol], terminal: Sym) ->
         }
     }
     (false, true)
-}
-
-/// What stands behind the symbol behind an item's dot.
-fn rest_of<'a>(reduced: &Reduced<'a>, item: Item) -> &'a [Symbol] {
-    match reduced.grammar().rules().get(item.rule) {
-        Some(rule) => rule
-            .body()
-            .get(item.dot.saturating_add(1)..)
-            .unwrap_or_default(),
-        None => &[],
-    }
 }
 
 /// Draws the rules of a way: a bracket where one begins below another, the symbols before the dots, and at the end a
@@ -390,14 +382,14 @@ pub(crate) fn say_way(
 
 /// Says the symbol behind an item's dot, if there is one. Answers whether a bracket was said last, as it is told.
 fn say_passed(page: &mut Page, spec: &Spec, item: Item, opened: bool) -> bool {
-    match symbol_at(spec, item) {
-        Some(symbol) => {
-            page.say(if opened { b"" } else { b" " });
-            page.say_symbol(spec, symbol);
-            false
-        }
-        None => opened,
+    let Some(symbol) = behind_dot(spec.grammar(), item) else {
+        return opened;
+    };
+    if !opened {
+        page.say(b" ");
     }
+    page.say_symbol(spec, symbol);
+    false
 }
 
 /// Says the bracket around what stands behind an item's dot, if it gets one. Answers whether a bracket was said last.
@@ -426,22 +418,13 @@ fn say_rests(page: &mut Page, spec: &Spec, open: &[Item]) {
 
 /// Says what stands behind so many symbols of a rule's body. Of rule 0 nothing is said.
 fn say_rest(page: &mut Page, spec: &Spec, rule: usize, passed: usize) {
-    if let (Some(it), true) = (spec.grammar().rules().get(rule), rule > 0) {
-        page.say_symbols(spec, it.body().get(passed..).unwrap_or_default());
+    if rule > 0 {
+        page.say_symbols(spec, rest_of(spec.grammar(), rule, passed));
     }
 }
 
 /// Whether what stands behind the dot of an item gets brackets: it is a part of another rule than rule 0, and not all
 /// of it.
 fn is_bracketed_in(spec: &Spec, item: Item) -> bool {
-    match spec.grammar().rules().get(item.rule) {
-        Some(rule) => item.rule > 0 && rule.body().len() > 1,
-        None => false,
-    }
-}
-
-/// The symbol behind the dot of an item, if there is one.
-fn symbol_at(spec: &Spec, item: Item) -> Option<Symbol> {
-    let rule = spec.grammar().rules().get(item.rule)?;
-    rule.body().get(item.dot).copied()
+    item.rule > 0 && body_of(spec.grammar(), item.rule).len() > 1
 }

@@ -10,6 +10,7 @@
 #![tactic(auto)]
 
 mod ambiguity;
+mod bodies;
 mod conflicts;
 mod decided;
 mod doubts;

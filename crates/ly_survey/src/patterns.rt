@@ -100,7 +100,7 @@ impl Sketch {
     /// Takes a byte, in front of another one.
     fn take(&mut self, byte: u8, next: Option<u8>) -> Result<(), AllocError> {
         match (self.inside, byte) {
-            (Inside::Pattern, _) => self.take_in_pattern(byte, next)?,
+            (Inside::Pattern, _) => return self.take_in_pattern(byte, next),
             (Inside::Quotes, b'"') | (Inside::Brackets, b']') | (Inside::Braces, b'}') => {
                 self.inside = Inside::Pattern;
                 self.pieces = self.pieces.saturating_add(1);
@@ -116,8 +116,7 @@ impl Sketch {
             b'"' => self.inside = Inside::Quotes,
             b'[' => self.inside = Inside::Brackets,
             b'{' => {
-                self.found.interval |= self.pieces > 1
-                    && next.is_some_and(|next| next.is_ascii_digit());
+                self.found.interval |= self.pieces > 1 && matches!(next, Some(b'0'..=b'9'));
                 self.inside = Inside::Braces;
             }
             b'(' => {

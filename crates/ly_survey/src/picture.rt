@@ -38,9 +38,8 @@ fn say_box(
 ) -> Result<(), OutOfMemory>
     requires { state.0 < length lr0.now.states }
 {
-    say_numbered(page, b"    ", u64::from(state.0), b" [label=\"");
-    page.say_number(u64::from(state.0));
-    page.say(b"\\n");
+    say_numbered(page, b"    ", state.0 as u64, b" [label=\"");
+    say_numbered(page, b"", state.0 as u64, b"\\n");
     for item in &lr0.core(alloc, state)? {
         if is_kernel(*item) {
             let mut text = Page::new(alloc);
@@ -71,9 +70,8 @@ fn say_arrows(
     for transition in lr0.transitions(state) {
         let mut text = Page::new(alloc);
         text.say_symbol(spec, transition.symbol);
-        say_numbered(page, b"    ", u64::from(state.0), b" -> ");
-        page.say_number(u64::from(transition.target.0));
-        page.say(b" [label=\"");
+        say_numbered(page, b"    ", state.0 as u64, b" -> ");
+        say_numbered(page, b"", transition.target.0 as u64, b" [label=\"");
         say_escaped(page, &text.finish()?);
         page.say(match transition.symbol {
             Symbol::Terminal(_) => b"\"];\n",

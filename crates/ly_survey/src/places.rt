@@ -84,8 +84,8 @@ impl Places {
             }
             if bytes.starts_with(b"%") {
                 in_tokens = bytes == b"%token".as_slice();
-            } else if in_tokens && is_symbol(bytes) && !is_new(alloc, known, bytes)? {
-                found.push((word.line, bytes))?;
+            } else if in_tokens && is_symbol(bytes) {
+                push_known(alloc, known, word.line, bytes, &mut found)?;
             }
         }
         Ok(found)
@@ -118,13 +118,20 @@ impl Places {
     }
 }
 
-/// Whether a word isn't known yet. Then it is from now on.
-fn is_new(alloc: Global, known: &mut IndexSet<Vec<u8>>, word: &[u8]) -> Result<bool, OutOfMemory> {
-    let new = !known.contains(word);
-    if new {
+/// Adds a word that is known, with its line. Another one is known from now on.
+fn push_known<'t>(
+    alloc: Global,
+    known: &mut IndexSet<Vec<u8>>,
+    line: u64,
+    word: &'t [u8],
+    found: &mut Vec<(u64, &'t [u8])>,
+) -> Result<(), OutOfMemory> {
+    if known.contains(word) {
+        found.push((line, word))?;
+    } else {
         known.insert(Vec::from_slice(alloc, word)?)?;
     }
-    Ok(new)
+    Ok(())
 }
 
 /// The first of the words behind a `%prec`.
@@ -155,7 +162,10 @@ fn is_symbol(word: &[u8]) -> bool {
 fn names(word: &[u8], terminal: &TerminalName) -> bool {
     match terminal {
         TerminalName::Token(name) => word == name.as_slice(),
-        TerminalName::Literal(byte) => literal(word).is_some_and(|(found, _)| found == *byte),
+        TerminalName::Literal(byte) => match literal(word) {
+            Some((found, _)) => found == *byte,
+            None => false,
+        },
         TerminalName::End | TerminalName::Undefined => false,
     }
 }

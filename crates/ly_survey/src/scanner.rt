@@ -1,6 +1,7 @@
 //! The states of the scanner: which bytes it tells apart, where each condition begins, and where each state leads.
 ghost use Rattle.std.specs.Prelude.{◌<◌, length};
 
+use crate::decided::is_marked;
 use crate::surveying::{Accepted, say_numbered};
 use ly_base::OutOfMemory;
 use ly_page::Page;
@@ -37,7 +38,7 @@ pub(crate) fn say_scanner(
 fn bytes_of_class(alloc: Global, dfa: &Dfa, class: usize) -> Result<Vec<bool>, AllocError> {
     let mut bytes = Vec::new(alloc);
     for byte in 0..=255u8 {
-        bytes.push(usize::from(dfa.class(byte)) == class)?;
+        bytes.push(dfa.class(byte) as usize == class)?;
     }
     Ok(bytes)
 }
@@ -45,13 +46,13 @@ fn bytes_of_class(alloc: Global, dfa: &Dfa, class: usize) -> Result<Vec<bool>, A
 /// Says the bytes that are marked, those that follow one another together.
 fn say_bytes(page: &mut Page, marks: &[bool]) {
     for byte in 0..=255u8 {
-        if !is_marked(marks, Some(byte)) {
+        if !has_byte(marks, Some(byte)) {
             continue;
         }
-        if !is_marked(marks, byte.checked_sub(1)) {
+        if !has_byte(marks, byte.checked_sub(1)) {
             page.say(b" ");
             page.say_byte(byte);
-        } else if !is_marked(marks, byte.checked_add(1)) {
+        } else if !has_byte(marks, byte.checked_add(1)) {
             page.say(b"-");
             page.say_byte(byte);
         }
@@ -59,9 +60,9 @@ fn say_bytes(page: &mut Page, marks: &[bool]) {
 }
 
 /// Whether a byte is marked, if there is one.
-fn is_marked(marks: &[bool], byte: Option<u8>) -> bool {
+fn has_byte(marks: &[bool], byte: Option<u8>) -> bool {
     match byte {
-        Some(byte) => marks.get(usize::from(byte)) == Some(&true),
+        Some(byte) => is_marked(marks, byte as usize),
         None => false,
     }
 }
@@ -98,7 +99,7 @@ fn other_bytes(alloc: Global, dfa: &Dfa, condition: u32) -> Result<Vec<bool>, Al
 
 /// Whether a match may begin with a byte in a condition, where a line begins or elsewhere.
 fn begins(dfa: &Dfa, condition: u32, line: bool, byte: u8) -> bool {
-    let class = usize::from(dfa.class(byte));
+    let class = dfa.class(byte) as usize;
     match dfa.start(condition, line) {
         Some(state) => dfa.next(state, class).is_some(),
         None => false,
@@ -109,17 +110,13 @@ fn begins(dfa: &Dfa, condition: u32, line: bool, byte: u8) -> bool {
 fn say_name(page: &mut Page, names: &[&[u8]], condition: u32) {
     match names.get(condition as usize) {
         Some(name) => page.say(name),
-        None => {
-            page.say(b"condition ");
-            page.say_number(u64::from(condition));
-        }
+        None => say_numbered(page, b"condition ", condition as u64, b""),
     }
 }
 
 /// Says where a condition begins.
 fn say_condition(page: &mut Page, dfa: &Dfa, condition: u32) {
-    page.say(b"    ");
-    page.say_number(u64::from(condition));
+    say_numbered(page, b"    ", condition as u64, b"");
     say_start(page, b"  begins", dfa.start(condition, false));
     say_start(page, b", where a line begins", dfa.start(condition, true));
     page.say(b"\n");
@@ -129,10 +126,7 @@ fn say_condition(page: &mut Page, dfa: &Dfa, condition: u32) {
 fn say_start(page: &mut Page, where_it_is: &[u8], start: Option<u32>) {
     page.say(where_it_is);
     match start {
-        Some(state) => {
-            page.say(b" in state ");
-            page.say_number(u64::from(state));
-        }
+        Some(state) => say_numbered(page, b" in state ", state as u64, b""),
         None => page.say(b" nowhere"),
     }
 }
@@ -142,7 +136,7 @@ fn say_state(page: &mut Page, files: Accepted<'_>, state: u32)
     requires { state < length files.dfa.now.rules }
 {
     let dfa = files.dfa;
-    say_numbered(page, b"\nScanner state ", u64::from(state), b"\n");
+    say_numbered(page, b"\nScanner state ", state as u64, b"\n");
     if let Some(rule) = dfa.rule(state) {
         let line = files.file.lines.get(rule.0 as usize).copied().unwrap_or(1);
         page.say(b"    rule of ");
@@ -151,9 +145,8 @@ fn say_state(page: &mut Page, files: Accepted<'_>, state: u32)
     }
     for class in 0..dfa.classes() {
         if let Some(next) = dfa.next(state, class) {
-            say_numbered(page, b"    class ", class as u64, b" to state ");
-            page.say_number(u64::from(next));
-            page.say(b"\n");
+            say_numbered(page, b"    class ", class as u64, b"");
+            say_numbered(page, b" to state ", next as u64, b"\n");
         }
     }
 }

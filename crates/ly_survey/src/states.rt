@@ -1,7 +1,8 @@
 //! The states of the parser, as users of yacc read them: the items, what is done before each terminal, and gotos.
-ghost use Rattle.std.specs.Prelude.{◌≡◌, ◌<◌, IfSome, length};
+ghost use Rattle.std.specs.Prelude.{◌<◌, IfSome, length};
 ghost use Rattle.ly_lookahead.specs.Lookaheads.{AreLookaheads, HasSet};
 
+use crate::bodies::body_of;
 use crate::surveying::{Accepted, say_numbered};
 use ly_base::{OutOfMemory, RuleNo, StateNo, Sym};
 use ly_join::{Spec, Symbol};
@@ -18,6 +19,8 @@ pub type Tables = Machine<Dense<TableAction>, Dense<StateNo>>;
 /// What states are told by.
 #[derive(Clone, Copy)]
 struct Teller<'a> {
+    /// The specification.
+    spec: &'a Spec,
     /// What is done in each state.
     resolved: &'a Resolved<'a>,
     /// The lookaheads of complete rules.
@@ -35,6 +38,7 @@ pub(crate) fn say_states(
 ) -> Result<(), OutOfMemory> {
     let lr0 = files.resolved.lr0();
     let teller = Teller {
+        spec: files.spec,
         resolved: files.resolved,
         lookaheads: &lookaheads(alloc, lr0)?,
         tables,
@@ -45,32 +49,19 @@ pub(crate) fn say_states(
     Ok(())
 }
 
-impl<'a> Teller<'a> {
-    /// The automaton.
-    fn lr0(&self) -> &'a Lr0<'a>
-        ensures { result.now ≡ self.now.resolved.now.automaton }
-    {
-        self.resolved.lr0()
-    }
-
-    /// The specification.
-    fn spec(&self) -> &'a Spec {
-        self.resolved.spec()
-    }
-
+impl Teller<'_> {
     /// Says a state.
     fn say_state(&self, alloc: Global, page: &mut Page, state: StateNo) -> Result<(), OutOfMemory>
         requires state { state.0 < length self.now.resolved.now.automaton.states }
         requires sets { AreLookaheads self.now.resolved.now.automaton self.now.lookaheads.now }
     {
-        let lr0 = self.lr0();
+        let lr0 = self.resolved.lr0();
         let mut prefix = lr0.prefix(alloc, state)?;
         prefix.reverse();
-        page.say(b"State ");
-        page.say_number(u64::from(state.0));
+        say_numbered(page, b"State ", state.0 as u64, b"");
         if !prefix.is_empty() {
             page.say(b", after");
-            page.say_symbols(self.spec(), &prefix);
+            page.say_symbols(self.spec, &prefix);
         }
         page.say(b"\n");
         for item in &lr0.core(alloc, state)? {
@@ -87,10 +78,10 @@ impl<'a> Teller<'a> {
         requires state { state.0 < length self.now.resolved.now.automaton.states }
         requires sets { AreLookaheads self.now.resolved.now.automaton self.now.lookaheads.now }
     {
-        let spec = self.spec();
+        let spec = self.spec;
         say_numbered(page, b"    ", item.rule as u64, b"  ");
         page.say_rule(spec, item.rule, Some(item.dot));
-        if let Some(place) = place_of(self.lr0(), self.lookaheads, state, item) {
+        if let Some(place) = place_of(self.resolved.lr0(), self.lookaheads, state, item) {
             page.say(b"   with");
             for terminal in 0..spec.grammar().terminals() {
                 if self.lookaheads.contains(state, place, Sym(terminal)) {
@@ -117,7 +108,7 @@ impl<'a> Teller<'a> {
             }
         }
         if let Some(rule) = default {
-            say_numbered(page, b"    else rule ", u64::from(rule.0), b"\n");
+            say_numbered(page, b"    else rule ", rule.0 as u64, b"\n");
         }
     }
 
@@ -126,33 +117,32 @@ impl<'a> Teller<'a> {
         requires { state.0 < length self.now.resolved.now.automaton.states }
     {
         page.say(b"    before ");
-        page.say_terminal(self.spec(), entry.terminal);
+        page.say_terminal(self.spec, entry.terminal);
         match entry.action {
-            Action::Shift => match self.lr0().goto(state, Symbol::Terminal(entry.terminal)) {
+            Action::Shift => match self
+                .resolved
+                .lr0()
+                .goto(state, Symbol::Terminal(entry.terminal))
+            {
                 Some(target) => {
-                    page.say(b" shift, to state ");
-                    page.say_number(u64::from(target.0));
+                    say_numbered(page, b" shift, to state ", target.0 as u64, b"\n");
                 }
-                None => page.say(b" accept"),
+                None => page.say(b" accept\n"),
             },
-            Action::Reduce(rule) => {
-                page.say(b" rule ");
-                page.say_number(rule as u64);
-            }
-            Action::Error => page.say(b" error, since it doesn't associate"),
+            Action::Reduce(rule) => say_numbered(page, b" rule ", rule as u64, b"\n"),
+            Action::Error => page.say(b" error, since it doesn't associate\n"),
         }
-        page.say(b"\n");
     }
 
     /// Says where a state goes by nonterminals.
     fn say_gotos(&self, page: &mut Page, state: StateNo)
         requires { state.0 < length self.now.resolved.now.automaton.states }
     {
-        for transition in self.lr0().transitions(state) {
+        for transition in self.resolved.lr0().transitions(state) {
             if let Symbol::Nonterminal(_) = transition.symbol {
                 page.say(b"    ");
-                page.say_symbol(self.spec(), transition.symbol);
-                say_numbered(page, b" to state ", u64::from(transition.target.0), b"\n");
+                page.say_symbol(self.spec, transition.symbol);
+                say_numbered(page, b" to state ", transition.target.0 as u64, b"\n");
             }
         }
     }
@@ -169,8 +159,7 @@ pub(crate) fn place_of(
     requires sets { AreLookaheads lr0.now lookaheads.now }
     ensures { IfSome result (λ place. HasSet lookaheads.now state.0 place) }
 {
-    let rule = lr0.reduced().grammar().rules().get(item.rule)?;
-    if rule.body().len() != item.dot {
+    if body_of(lr0.reduced().grammar(), item.rule).len() != item.dot {
         return None;
     }
     let complete = lr0.complete(state);

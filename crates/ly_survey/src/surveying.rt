@@ -163,3 +163,8 @@ pub(crate) fn say_numbered(page: &mut Page, before: &[u8], number: u64, behind: 
     page.say_number(number);
     page.say(behind);
 }
+
+/// The first of things, so many at most.
+pub(crate) fn first_of<T>(things: &[T], most: usize) -> &[T] {
+    things.get(..most).unwrap_or(things)
+}

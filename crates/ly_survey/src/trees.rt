@@ -1,5 +1,6 @@
 //! A sentence with two trees, as it is said.
 use crate::ambiguity::Ambiguity;
+use crate::bodies::body_of;
 use ly_base::{OutOfMemory, Sym};
 use ly_join::{Spec, Symbol};
 use ly_page::Page;
@@ -140,7 +141,7 @@ impl<'a> Teller<'a> {
             Symbol::Terminal(number) => self.say_terminal(number),
             Symbol::Nonterminal(left) => {
                 if let Some(body) = self.next_body() {
-                    self.say_rule(left, body, below.beside)?;
+                    return self.say_rule(left, body, below.beside);
                 }
             }
         }
@@ -151,12 +152,14 @@ impl<'a> Teller<'a> {
     fn next_body(&mut self) -> Option<&'a [Symbol]> {
         let (rule, rest) = self.rules.split_first()?;
         self.rules = rest;
-        Some(self.spec.grammar().rules().get(*rule)?.body())
+        Some(body_of(self.spec.grammar(), *rule))
     }
 
     /// Says the space before a symbol, if it needs one.
     fn say_space(&mut self) {
-        self.page.say(if self.opened { b"" } else { b" " });
+        if !self.opened {
+            self.page.say(b" ");
+        }
         self.opened = false;
     }
 

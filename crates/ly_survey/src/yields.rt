@@ -1,4 +1,5 @@
 //! The shortest tokens that symbols yield.
+use crate::bodies::body_of;
 use ly_base::{OutOfMemory, Sym};
 use ly_grammar::Reduced;
 use ly_join::{Grammar, Spec, Symbol};
@@ -71,7 +72,10 @@ impl Yields {
         let (Some(length), Some(shortest)) = (length, self.shortest.get_mut(left)) else {
             return false;
         };
-        let shorter = shortest.is_none_or(|known| length < known.length);
+        let shorter = match shortest {
+            Some(known) => length < known.length,
+            None => true,
+        };
         if shorter {
             *shortest = Some(Shortest { rule, length });
         }
@@ -149,19 +153,16 @@ impl Derived {
         ahead: &mut Vec<Symbol>,
     ) -> Result<(), AllocError> {
         match symbol {
-            Symbol::Terminal(number) => self.tokens.push(number)?,
+            Symbol::Terminal(number) => Ok(self.tokens.push(number)?),
             Symbol::Nonterminal(number) => {
                 let rule = match yields.shortest_of(number) {
                     Some(shortest) => shortest.rule,
                     None => 0,
                 };
                 self.rules.push(rule)?;
-                if let Some(rule) = grammar.rules().get(rule) {
-                    push_reversed(ahead, rule.body())?;
-                }
+                push_reversed(ahead, body_of(grammar, rule))
             }
         }
-        Ok(())
     }
 }
 
