@@ -56,26 +56,43 @@ fn counts(alloc: Global, lr0: &Lr0<'_>) -> Result<[usize; 5], OutOfMemory> {
 
 /// Whether an automaton is that of Knuth's item sets.
 fn is_knuths(alloc: Global, reduced: &Reduced<'_>, lr0: &Lr0<'_>) -> Result<bool, OutOfMemory> {
-    let facts = Facts::found(alloc, lr0)?;
-    Ok(facts.are(&merged(alloc, reduced)?))
+    let found = Facts::found(alloc, lr0)?;
+    let merged = merged(alloc, reduced)?;
+    let same = found.are(&merged);
+    drop(found);
+    drop(merged);
+    Ok(same)
 }
 
-/// How many transitions over nonterminals there are, and how they are related, if the automaton of a reduced grammar is
-/// that of Knuth's item sets.
-fn knuths_automaton(alloc: Global, reduced: &Reduced<'_>) -> Result<[usize; 5], Fail> {
-    let Ok(lr0) = automaton(alloc, reduced, &Limits::V1) else {
-        return Err(Fail::from("a grammar was refused that has an automaton"));
-    };
-    if !is_knuths(alloc, reduced, &lr0)? {
+/// How many transitions over nonterminals there are, and how they are related, if an automaton is that of Knuth's item
+/// sets.
+fn knuths_counts(alloc: Global, reduced: &Reduced<'_>, lr0: &Lr0<'_>) -> Result<[usize; 5], Fail> {
+    if !is_knuths(alloc, reduced, lr0)? {
         return Err(Fail::from("an automaton isn't that of Knuth's item sets"));
     }
-    Ok(counts(alloc, &lr0)?)
+    Ok(counts(alloc, lr0)?)
+}
+
+/// The same of the automaton of a reduced grammar.
+fn knuths_automaton(alloc: Global, reduced: &Reduced<'_>) -> Result<[usize; 5], Fail> {
+    match automaton(alloc, reduced, &Limits::V1) {
+        Ok(lr0) => {
+            let counts = knuths_counts(alloc, reduced, &lr0);
+            drop(lr0);
+            counts
+        }
+        Err(_) => Err(Fail::from("a grammar was refused that has an automaton")),
+    }
 }
 
 /// The same of a grammar.
 fn automaton_of(alloc: Global, grammar: &Grammar) -> Result<[usize; 5], Fail> {
     match reduce(alloc, grammar) {
-        Ok(reduced) => knuths_automaton(alloc, &reduced),
+        Ok(reduced) => {
+            let counts = knuths_automaton(alloc, &reduced);
+            drop(reduced);
+            counts
+        }
         Err(_) => Err(Fail::from("a grammar was refused that is to be reduced")),
     }
 }
@@ -83,7 +100,9 @@ fn automaton_of(alloc: Global, grammar: &Grammar) -> Result<[usize; 5], Fail> {
 /// The same of the grammar of a yacc file.
 fn automaton_of_file(alloc: Global, yacc: &[u8]) -> Result<[usize; 5], Fail> {
     let spec = specification(alloc, yacc)?;
-    automaton_of(alloc, spec.grammar())
+    let counts = automaton_of(alloc, spec.grammar());
+    drop(spec);
+    counts
 }
 
 /// The number of the first of `EXAMPLES` for which it is otherwise.

@@ -35,8 +35,12 @@ fn write_settled(
     requires { KeepsUseful spec.now.grammar lr0.now.grammar }
 {
     let lookaheads = lookaheads(alloc, lr0)?;
-    let resolved = resolve(alloc, spec, lr0, &lookaheads)?;
-    write_resolved(alloc, &resolved, writer)
+    let resolved = resolve(alloc, spec, lr0, &lookaheads);
+    drop(lookaheads);
+    let resolved = resolved?;
+    let free = write_resolved(alloc, &resolved, writer);
+    drop(resolved);
+    free
 }
 
 /// The same of a specification's grammar reduced.
@@ -49,7 +53,11 @@ fn write_reduced(
     requires { KeepsUseful spec.now.grammar reduced.now.grammar }
 {
     match automaton(alloc, reduced, &Limits::V1) {
-        Ok(lr0) => write_settled(alloc, spec, &lr0, writer),
+        Ok(lr0) => {
+            let free = write_settled(alloc, spec, &lr0, writer);
+            drop(lr0);
+            free
+        }
         Err(_) => Err(Fail::from("a grammar was refused that has an automaton")),
     }
 }
@@ -57,7 +65,11 @@ fn write_reduced(
 /// The same of a specification.
 fn write_report(alloc: Global, spec: &Spec, writer: &mut MemSink) -> Result<bool, Fail> {
     match reduce(alloc, spec.grammar()) {
-        Ok(reduced) => write_reduced(alloc, spec, &reduced, writer),
+        Ok(reduced) => {
+            let free = write_reduced(alloc, spec, &reduced, writer);
+            drop(reduced);
+            free
+        }
         Err(_) => Err(Fail::from("a grammar was refused that is to be reduced")),
     }
 }
@@ -110,7 +122,9 @@ fn is_report(alloc: Global, spec: &Spec, free: bool, wanted: &[u8]) -> Result<bo
 /// The same of a yacc file.
 fn is_reported_so(alloc: Global, yacc: &[u8], free: bool, wanted: &[u8]) -> Result<bool, Fail> {
     let spec = specification(alloc, yacc)?;
-    is_report(alloc, &spec, free, wanted)
+    let reported = is_report(alloc, &spec, free, wanted);
+    drop(spec);
+    reported
 }
 
 /// The number of the first of `REPORTS` for which it is otherwise.

@@ -1,6 +1,6 @@
 //! The smallest walk that a scanner can have: dense rows, made by hand.
 
-ghost use Rattle.ly_trials.specs.Dense.{dense_ahead, dense_cut, dense_ends, dense_walk, start_entry};
+ghost use Rattle.ly_trials.specs.Dense.{dense_ahead, dense_cut, dense_ends, dense_walk, led, next_state, start_entry};
 ghost use Rattle.std.specs.Prelude.{◌≡◌, ⊤};
 
 use ly_base::{Cut, RuleNo};
@@ -40,7 +40,7 @@ impl Steps for Dense<'_> {
     ghost cut_of = { λ d. dense_cut d.cuts.now };
 
     fn start(&self, condition: u32, at_line_start: bool) -> Option<u16> {
-        start_entry(self.starts, condition, at_line_start).checked_sub(1)
+        led(start_entry(self.starts, condition, at_line_start))
     }
 
     fn minds_lines(&self) -> bool {
@@ -48,7 +48,7 @@ impl Steps for Dense<'_> {
     }
 
     fn step(&self, at: u16, byte: u8) -> Option<u16> {
-        self.rows.get(usize::from(at))?.next[usize::from(byte)].checked_sub(1)
+        next_state(self.rows, at, byte)
     }
 
     fn number(&self, at: u16) -> usize {
@@ -78,5 +78,22 @@ fn start_entry(starts: &[[u16; 2]], condition: u32, at_line_start: bool) -> u16
         Some(pair) if at_line_start => pair[1],
         Some(pair) => pair[0],
         None => 0,
+    }
+}
+
+/// The state that an entry leads to.
+fn led(entry: u16) -> Option<u16>
+    ensures { result ≡ led entry }
+{
+    entry.checked_sub(1)
+}
+
+/// The state after a byte.
+fn next_state(rows: &[Row], state: u16, byte: u8) -> Option<u16>
+    ensures { result ≡ next_state rows.now state byte }
+{
+    match rows.get(usize::from(state)) {
+        Some(row) => led(row.next[usize::from(byte)]),
+        None => None,
     }
 }

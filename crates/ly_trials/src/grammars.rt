@@ -2,9 +2,9 @@
 //! string of terminals they answer alike.
 
 ghost use Rattle.ly_pack.specs.Steady.{IsSteady};
-ghost use Rattle.std.specs.Prelude.{◌≤◌};
+ghost use Rattle.std.specs.Prelude.{◌≡◌, ◌<◌, ◌≤◌};
 
-use crate::parses::call;
+use crate::parses::{call, is_refused};
 use ly_base::{Limits, StateNo};
 use ly_engine::Report;
 use ly_generate::parser_of_files;
@@ -53,27 +53,18 @@ fn tables_of(alloc: Global, yacc: &[u8]) -> Result<Apart, Fail> {
 
 /// Whether two answers are the same.
 fn are_same(one: &Result<Step, ParseFault>, other: &Result<Step, ParseFault>) -> bool {
-    match (one, other) {
-        (Ok(Step::More), Ok(Step::More)) => true,
-        (Ok(Step::Done(root)), Ok(Step::Done(other))) => root == other,
-        (
-            Ok(
-                Step::Refused {
-                    token,
-                    byte,
-                    expected,
-                },
-            ),
-            Ok(
-                Step::Refused {
-                    token: number,
-                    byte: at,
-                    expected: listed,
-                },
-            ),
-        ) => token == number && byte == at && expected.as_slice() == listed.as_slice(),
-        (Err(ParseFault::Over), Err(ParseFault::Over)) => true,
-        _ => false,
+    match one {
+        Ok(Step::More) => matches!(other, Ok(Step::More)),
+        Ok(Step::Done(root)) => matches!(other, Ok(Step::Done(found)) if found == root),
+        Ok(
+            Step::Refused {
+                token,
+                byte,
+                expected,
+            },
+        ) => is_refused(other, *token, *byte, expected),
+        Err(ParseFault::Over) => matches!(other, Err(ParseFault::Over)),
+        Err(_) => false,
     }
 }
 
@@ -82,6 +73,21 @@ type ApartParser<'a> = Parser<'a, Dense<TableAction>, Dense<StateNo>>;
 
 /// One over tables whose rows are laid over one another.
 type LaidParser<'a> = Parser<'a, Packed<TableAction>, Packed<StateNo>>;
+
+/// Whether parsers answer alike to a terminal.
+fn is_answered_alike(one: &mut ApartParser<'_>, other: &mut LaidParser<'_>, terminal: u32) -> bool
+    requires one { terminal < one.old.machine.terminals }
+    requires other { terminal < other.old.machine.terminals }
+    ensures one { one.new.machine ≡ one.old.machine }
+    ensures other { other.new.machine ≡ other.old.machine }
+{
+    let answer = call(one, terminal);
+    let second = call(other, terminal);
+    let same = are_same(&answer, &second);
+    drop(answer);
+    drop(second);
+    same
+}
 
 /// Whether parsers whose tables have so many terminals at least answer alike to a string of terminals: the digits of
 /// its number.
@@ -101,7 +107,7 @@ fn answer_alike(
         if terminals <= terminal as usize {
             break;
         }
-        if !are_same(&call(one, terminal), &call(other, terminal)) {
+        if !is_answered_alike(one, other, terminal) {
             return false;
         }
     }
@@ -116,7 +122,10 @@ fn are_alike(alloc: Global, apart: &Apart, laid: &Laid, number: u32) -> bool
     let mut one = Parser::new(alloc, apart.view());
     let mut other = Parser::new(alloc, laid.view());
     let terminals = apart.terminals().min(laid.terminals());
-    answer_alike(&mut one, &mut other, terminals, number)
+    let alike = answer_alike(&mut one, &mut other, terminals, number);
+    drop(one);
+    drop(other);
+    alike
 }
 
 /// Whether they do so to every string.
@@ -143,13 +152,17 @@ fn laid_tables_of(alloc: Global, yacc: &[u8]) -> Result<Laid, Fail> {
 /// Whether the tables of a yacc file, and these, are parsed alike.
 fn are_laid_alike(alloc: Global, apart: &Apart, yacc: &[u8]) -> Result<bool, Fail> {
     let laid = laid_tables_of(alloc, yacc)?;
-    all_are_alike(alloc, apart, &laid)
+    let alike = all_are_alike(alloc, apart, &laid);
+    drop(laid);
+    alike
 }
 
 /// Whether the tables of a yacc file are parsed alike over both kinds of rows.
 fn is_parsed_alike(alloc: Global, yacc: &[u8]) -> Result<bool, Fail> {
     let apart = tables_of(alloc, yacc)?;
-    are_laid_alike(alloc, &apart, yacc)
+    let alike = are_laid_alike(alloc, &apart, yacc);
+    drop(apart);
+    alike
 }
 
 /// The number of the first of `GRAMMARS` that isn't.

@@ -50,12 +50,20 @@ fn add(graph: &mut Graph, from: u32, to: u32) -> Result<(), OutOfMemory> {
     Ok(())
 }
 
-/// The one pass, and by how much `changes` rose.
-fn solve(alloc: Global, graph: &Graph, sets: &mut SetMatrix) -> Result<u64, OutOfMemory> {
-    let before = sets.changes();
-    if sets.rows() >= graph.nodes() {
-        least(alloc, graph, sets)?;
+/// The one pass, if there is a set for each node.
+fn pass(alloc: Global, graph: &Graph, sets: &mut SetMatrix) -> Result<(), OutOfMemory> {
+    if sets.rows() < graph.nodes() {
+        return Ok(());
     }
+    least(alloc, graph, sets)
+}
+
+/// By how much `changes` rose in the one pass.
+fn solve(alloc: Global, graph: Graph, sets: &mut SetMatrix) -> Result<u64, OutOfMemory> {
+    let before = sets.changes();
+    let passed = pass(alloc, &graph, sets);
+    drop(graph);
+    passed?;
     Ok(sets.changes().saturating_sub(before))
 }
 
@@ -66,25 +74,32 @@ fn grow(rows: &mut [u16; 12], node: u32, more: u16) {
     }
 }
 
+/// Adds the bits of the digits that nodes are given.
+fn grow_by_digits(rows: &mut [u16; 12], given: &[u8]) {
+    for pair in given.chunks_exact(2) {
+        if let [node, digit] = pair {
+            let bit = 1u16.wrapping_shl(place(*digit, b'0'));
+            grow(rows, place(*node, b'a'), bit);
+        }
+    }
+}
+
+/// Adds to those of each node, edge by edge, those of the node to which it leads.
+fn grow_by_edges(rows: &mut [u16; 12], edges: &[u8]) {
+    for pair in edges.chunks_exact(2) {
+        if let [from, to] = pair {
+            let more = rows.get(place(*to, b'a') as usize).copied().unwrap_or(0);
+            grow(rows, place(*from, b'a'), more);
+        }
+    }
+}
+
 /// The bits of each node by going round, as often as there are nodes at most.
 fn by_rounds(edges: &[u8], given: &[u8]) -> [u16; 12] {
     let mut rows = [0u16; 12];
-    for pair in given.chunks_exact(2) {
-        if let [node, digit] = pair {
-            grow(
-                &mut rows,
-                place(*node, b'a'),
-                1u16.wrapping_shl(place(*digit, b'0')),
-            );
-        }
-    }
+    grow_by_digits(&mut rows, given);
     for _ in 0..12u32 {
-        for pair in edges.chunks_exact(2) {
-            if let [from, to] = pair {
-                let more = rows.get(place(*to, b'a') as usize).copied().unwrap_or(0);
-                grow(&mut rows, place(*from, b'a'), more);
-            }
-        }
+        grow_by_edges(&mut rows, edges);
     }
     rows
 }
@@ -101,14 +116,20 @@ fn are_rows(sets: &SetMatrix, rows: &[u16]) -> bool {
     same
 }
 
+/// Adds edges between nodes that there are.
+fn add_all(graph: &mut Graph, edges: &[u8]) -> Result<(), OutOfMemory> {
+    for pair in edges.chunks_exact(2) {
+        if let [from, to] = pair {
+            add(graph, place(*from, b'a'), place(*to, b'a'))?;
+        }
+    }
+    Ok(())
+}
+
 /// The graph of edges.
 fn graph_of(alloc: Global, nodes: usize, edges: &[u8]) -> Result<Graph, OutOfMemory> {
     let mut graph = Graph::new(alloc, nodes)?;
-    for pair in edges.chunks_exact(2) {
-        if let [from, to] = pair {
-            add(&mut graph, place(*from, b'a'), place(*to, b'a'))?;
-        }
-    }
+    add_all(&mut graph, edges)?;
     Ok(graph)
 }
 
@@ -125,9 +146,8 @@ fn sets_of(alloc: Global, nodes: usize, given: &[u8]) -> Result<SetMatrix, OutOf
 
 /// Whether the least sets of a graph are those by going round, found by few changes.
 fn is_solved(alloc: Global, nodes: usize, edges: &[u8], given: &[u8]) -> Result<bool, OutOfMemory> {
-    let graph = graph_of(alloc, nodes, edges)?;
     let mut sets = sets_of(alloc, nodes, given)?;
-    let rise = solve(alloc, &graph, &mut sets)?;
+    let rise = solve(alloc, graph_of(alloc, nodes, edges)?, &mut sets)?;
     let most = nodes.saturating_add(edges.len() / 2) as u64;
     Ok(rise <= most && are_rows(&sets, &by_rounds(edges, given)))
 }
@@ -142,58 +162,102 @@ fn solved_otherwise(alloc: Global) -> Result<Option<usize>, OutOfMemory> {
     Ok(None)
 }
 
-/// Each node leads to the next, and the last one of a ring to the first.
-fn chain(alloc: Global, nodes: u32, is_ring: bool) -> Result<Graph, OutOfMemory> {
-    let mut graph = Graph::new(alloc, nodes as usize)?;
+/// Adds an edge from each node to the next.
+fn add_steps(graph: &mut Graph, nodes: u32) -> Result<(), OutOfMemory> {
     for node in 1..nodes {
-        add(&mut graph, node - 1, node)?;
+        add(graph, node - 1, node)?;
     }
-    if is_ring {
-        add(&mut graph, nodes.saturating_sub(1), 0)?;
-    }
+    Ok(())
+}
+
+/// Each node leads to the next.
+fn chain(alloc: Global, nodes: u32) -> Result<Graph, OutOfMemory> {
+    let mut graph = Graph::new(alloc, nodes as usize)?;
+    add_steps(&mut graph, nodes)?;
+    Ok(graph)
+}
+
+/// Each node leads to the next, and the last one to the first.
+fn ring(alloc: Global, nodes: u32) -> Result<Graph, OutOfMemory> {
+    let mut graph = chain(alloc, nodes)?;
+    add(&mut graph, nodes.saturating_sub(1), 0)?;
     Ok(graph)
 }
 
 /// Whether each node of a chain gets the number of the last one, by few changes.
 fn is_chain_solved(alloc: Global, nodes: u32) -> Result<bool, OutOfMemory> {
-    let graph = chain(alloc, nodes, false)?;
     let mut sets = SetMatrix::new(alloc, nodes as usize, 1)?;
     insert(&mut sets, nodes.saturating_sub(1) as usize, 0);
-    let mut solved = solve(alloc, &graph, &mut sets)? <= u64::from(nodes).saturating_mul(2);
+    let rise = solve(alloc, chain(alloc, nodes)?, &mut sets)?;
+    Ok(rise <= u64::from(nodes).saturating_mul(2) && all_hold_first(&sets))
+}
+
+/// Whether each set has its first number.
+fn all_hold_first(sets: &SetMatrix) -> bool {
+    let mut held = true;
     for node in 0..sets.rows() {
-        solved &= holds(&sets, node, 0);
+        held &= holds(sets, node, 0);
     }
-    Ok(solved)
+    held
 }
 
 /// Whether each node of a ring gets the numbers of all, by few changes.
 fn is_ring_solved(alloc: Global, nodes: u32) -> Result<bool, OutOfMemory> {
-    let graph = chain(alloc, nodes, true)?;
+    let mut sets = own_numbers(alloc, nodes)?;
+    let rise = solve(alloc, ring(alloc, nodes)?, &mut sets)?;
+    Ok(rise <= u64::from(nodes).saturating_mul(2) && all_have(&sets, nodes as usize))
+}
+
+/// The sets of so many nodes of which each has its own number.
+fn own_numbers(alloc: Global, nodes: u32) -> Result<SetMatrix, OutOfMemory> {
     let mut sets = SetMatrix::new(alloc, nodes as usize, nodes as usize)?;
     for number in 0..nodes {
         insert(&mut sets, number as usize, number);
     }
-    let mut solved = solve(alloc, &graph, &mut sets)? <= u64::from(nodes).saturating_mul(2);
+    Ok(sets)
+}
+
+/// Whether each set has so many numbers.
+fn all_have(sets: &SetMatrix, wanted: usize) -> bool {
+    let mut have = true;
     for node in 0..sets.rows() {
-        solved &= count(&sets, node) == nodes as usize;
+        have &= count(sets, node) == wanted;
     }
-    Ok(solved)
+    have
 }
 
 /// Whether each node of a ring whose edges are listed gets the number of one.
 fn is_listed_ring_solved(alloc: Global) -> Result<bool, OutOfMemory> {
-    let graph = Graph::from_edges(alloc, 3, &[(0, 1), (1, 2), (2, 0)])?;
     let mut sets = SetMatrix::new(alloc, 3, 1)?;
     insert(&mut sets, 1, 0);
-    let solved = solve(alloc, &graph, &mut sets)? <= 6 && graph.edges() == 3;
-    Ok(solved && holds(&sets, 0, 0) && holds(&sets, 1, 0) && holds(&sets, 2, 0))
+    let graph = listed_ring(alloc)?;
+    let edges = graph.edges();
+    let rise = solve(alloc, graph, &mut sets)?;
+    Ok(rise <= 6 && edges == 3 && all_hold_first(&sets))
+}
+
+/// A ring of three nodes whose edges are listed.
+fn listed_ring(alloc: Global) -> Result<Graph, OutOfMemory> {
+    Graph::from_edges(alloc, 3, &[(0, 1), (1, 2), (2, 0)])
 }
 
 #[test]
 fn least_sets_are_found(rt: HostRuntime) -> Result<(), Fail> {
     assert_eq!(rt; solved_otherwise(rt.alloc())?, None);
-    assert!(rt; is_listed_ring_solved(rt.alloc())?);
-    assert!(rt; is_chain_solved(rt.alloc(), 200_000)?);
-    assert!(rt; is_ring_solved(rt.alloc(), 1_000)?);
+    Ok(())
+}
+
+/// Whether both rings and a long chain are solved.
+fn are_rings_and_a_chain_solved(alloc: Global) -> Result<bool, OutOfMemory> {
+    Ok(
+        is_listed_ring_solved(alloc)?
+            && is_chain_solved(alloc, 200_000)?
+            && is_ring_solved(alloc, 1_000)?,
+    )
+}
+
+#[test]
+fn least_sets_of_rings_and_of_a_long_chain_are_found(rt: HostRuntime) -> Result<(), Fail> {
+    assert!(rt; are_rings_and_a_chain_solved(rt.alloc())?);
     Ok(())
 }

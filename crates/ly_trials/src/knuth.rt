@@ -16,14 +16,33 @@ type Item = (usize, usize, u32);
 
 /// What the automaton of Knuth's item sets is where sets of equal cores are one state, numbered as they first come.
 pub(crate) fn merged(alloc: Global, reduced: &Reduced<'_>) -> Result<Facts, AllocError> {
-    let mut moves = Vec::new(alloc);
-    let sets = sets(alloc, reduced, &mut moves)?;
-    let numbers = numbers(alloc, &sets)?;
     let mut facts = Facts::new(alloc);
-    push_moves(&mut facts, &moves, &numbers)?;
-    push_all_aheads(&mut facts, reduced, &sets, &numbers)?;
+    push_merged(alloc, &mut facts, reduced)?;
     facts.sort();
     Ok(facts)
+}
+
+/// Adds what that automaton is.
+fn push_merged(alloc: Global, facts: &mut Facts, reduced: &Reduced<'_>) -> Result<(), AllocError> {
+    let mut moves = Vec::new(alloc);
+    let sets = sets(alloc, reduced, &mut moves)?;
+    let pushed = push_sets(alloc, facts, reduced, &sets, &moves);
+    drop(sets);
+    drop(moves);
+    pushed
+}
+
+/// Adds what sets and the moves between them are, by the numbers of their cores.
+fn push_sets(
+    alloc: Global,
+    facts: &mut Facts,
+    reduced: &Reduced<'_>,
+    sets: &[Vec<Item>],
+    moves: &[(usize, Symbol, usize)],
+) -> Result<(), AllocError> {
+    let numbers = numbers(alloc, sets)?;
+    push_moves(facts, moves, &numbers)?;
+    push_all_aheads(facts, reduced, sets, &numbers)
 }
 
 /// Adds moves between sets, by the numbers of their cores.
@@ -61,16 +80,33 @@ fn sets(
 ) -> Result<Vec<Vec<Item>>, AllocError> {
     let symbols = symbols(alloc, reduced.grammar())?;
     let mut sets = Vec::new(alloc);
+    sets.push(start(alloc, reduced)?)?;
+    leave_all(alloc, reduced, &mut sets, &symbols, moves)?;
+    Ok(sets)
+}
+
+/// The set of the start.
+fn start(alloc: Global, reduced: &Reduced<'_>) -> Result<Vec<Item>, AllocError> {
     let mut start = Vec::new(alloc);
     start.push((0, 0, 0))?;
     close(reduced, &mut start)?;
-    sets.push(start)?;
+    Ok(start)
+}
+
+/// Finds the sets to which symbols lead from sets, those that are added among them.
+fn leave_all(
+    alloc: Global,
+    reduced: &Reduced<'_>,
+    sets: &mut Vec<Vec<Item>>,
+    symbols: &[Symbol],
+    moves: &mut Vec<(usize, Symbol, usize)>,
+) -> Result<(), AllocError> {
     for number in 0..MOST {
-        for symbol in &symbols {
-            leave(alloc, reduced, &mut sets, (number, *symbol), moves)?;
+        for symbol in symbols {
+            leave(alloc, reduced, sets, (number, *symbol), moves)?;
         }
     }
-    Ok(sets)
+    Ok(())
 }
 
 /// Finds the set to which a symbol leads from a set, if there is one.
@@ -82,14 +118,30 @@ fn leave(
     moves: &mut Vec<(usize, Symbol, usize)>,
 ) -> Result<(), AllocError> {
     let (number, symbol) = from;
-    let items = match sets.get(number) {
-        Some(set) => behind(alloc, reduced, set, symbol)?,
-        None => return Ok(()),
-    };
-    if !items.is_empty() {
-        let target = number_of(sets, items)?;
-        moves.push((number, symbol, target))?;
+    let items = behind(alloc, reduced, items_of(sets, number), symbol)?;
+    push_move(sets, from, items, moves)
+}
+
+/// The items of a set; none where it isn't there.
+fn items_of(sets: &[Vec<Item>], number: usize) -> &[Item] {
+    match sets.get(number) {
+        Some(set) => set.as_slice(),
+        None => &[],
     }
+}
+
+/// Adds the move to a set, if it has items.
+fn push_move(
+    sets: &mut Vec<Vec<Item>>,
+    from: (usize, Symbol),
+    items: Vec<Item>,
+    moves: &mut Vec<(usize, Symbol, usize)>,
+) -> Result<(), AllocError> {
+    if items.is_empty() {
+        return Ok(());
+    }
+    let target = number_of(sets, items)?;
+    moves.push((from.0, from.1, target))?;
     Ok(())
 }
 
@@ -113,6 +165,21 @@ fn body<'a>(reduced: &Reduced<'a>, rule: usize) -> &'a [Symbol] {
     }
 }
 
+/// Adds the items to which a symbol leads.
+fn push_moved(
+    moved: &mut Vec<Item>,
+    reduced: &Reduced<'_>,
+    items: &[Item],
+    symbol: Symbol,
+) -> Result<(), AllocError> {
+    for (rule, dot, ahead) in items {
+        if body(reduced, *rule).get(*dot) == Some(&symbol) {
+            moved.push((*rule, dot.saturating_add(1), *ahead))?;
+        }
+    }
+    Ok(())
+}
+
 /// The items to which a symbol leads, closed; none where it leads nowhere.
 fn behind(
     alloc: Global,
@@ -121,11 +188,7 @@ fn behind(
     symbol: Symbol,
 ) -> Result<Vec<Item>, AllocError> {
     let mut moved = Vec::new(alloc);
-    for (rule, dot, ahead) in items {
-        if body(reduced, *rule).get(*dot) == Some(&symbol) {
-            moved.push((*rule, dot.saturating_add(1), *ahead))?;
-        }
-    }
+    push_moved(&mut moved, reduced, items, symbol)?;
     close(reduced, &mut moved)?;
     Ok(moved)
 }
@@ -208,14 +271,19 @@ fn numbers(alloc: Global, sets: &[Vec<Item>]) -> Result<Vec<usize>, AllocError> 
     let mut cores = Vec::new(alloc);
     let mut numbers = Vec::new(alloc);
     for set in sets {
-        let mut core = Vec::new(alloc);
-        for (rule, dot, _) in set {
-            core.push((*rule, *dot, 0))?;
-        }
-        core.dedup();
-        numbers.push(number_of(&mut cores, core)?)?;
+        numbers.push(number_of(&mut cores, core(alloc, set)?)?)?;
     }
     Ok(numbers)
+}
+
+/// The core of a set.
+fn core(alloc: Global, set: &[Item]) -> Result<Vec<Item>, AllocError> {
+    let mut core = Vec::new(alloc);
+    for (rule, dot, _) in set {
+        core.push((*rule, *dot, 0))?;
+    }
+    core.dedup();
+    Ok(core)
 }
 
 /// Adds the terminals that may follow the rules that are complete in a set.

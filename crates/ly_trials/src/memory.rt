@@ -23,6 +23,11 @@ pub(crate) fn small_blocks(alloc: Global) -> Result<Vec<Vec<u8>>, AllocError> {
     Ok(blocks)
 }
 
+/// Gives back the last block.
+pub(crate) fn give_back(blocks: &mut Vec<Vec<u8>>) {
+    let _ = blocks.pop();
+}
+
 /// Takes all the room that there is, the smallest blocks last.
 pub(crate) fn hog(alloc: Global) -> Vec<Vec<u8>> {
     let mut held = Vec::new(alloc);
@@ -88,7 +93,7 @@ fn trials(alloc: Global, blocks: &mut Vec<Vec<u8>>) -> Result<(u32, u32), Fail> 
             Trial::Refused => refused = refused.wrapping_add(1),
             Trial::Wrong => return Err(Fail::from("neither the lines nor a want of memory")),
         }
-        let _ = blocks.pop();
+        give_back(blocks);
     }
     Ok((refused, answered))
 }

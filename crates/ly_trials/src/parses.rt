@@ -5,10 +5,11 @@
 //! state 2, state 1 reduces before whatever comes, and state 2 accepts the end. So `x` alone is accepted, and its term
 //! is the leaf of that token.
 
+ghost use Rattle.ly_pack.specs.Steady.{IsSteady};
 ghost use Rattle.std.specs.Prelude.{◌≡◌, ◌<◌};
 
 use crate::rows::{by_hand, laid_by_hand};
-use ly_base::{Front, StateNo, Sym};
+use ly_base::{Front, OutOfMemory, StateNo, Sym};
 use ly_loop::steady;
 use ly_pack::{Machine, Rows, TableAction};
 use ly_parse::{ParseFault, Parser, Step, Token};
@@ -89,17 +90,18 @@ const BEHIND: [Calls<'static>; 3] = [
     ],
 ];
 
-/// Whether a parser over tables answers to calls as is wanted.
+/// Whether a parser over steady tables answers to calls as is wanted.
 fn answers_so<A: Rows<TableAction> + Drop, G: Rows<StateNo> + Drop>(
     alloc: Global,
     machine: &Machine<A, G>,
     calls: Calls<'_>,
-) -> Result<bool, Fail> {
-    let Ok(()) = steady(alloc, machine) else {
-        return Err(Fail::from("tables were refused that are steady"));
-    };
+) -> bool
+    requires { IsSteady machine.now }
+{
     let mut parser = Parser::new(alloc, machine.view());
-    is_answered_so(&mut parser, machine.terminals(), calls)
+    let answered = is_answered_so(&mut parser, machine.terminals(), calls);
+    drop(parser);
+    answered
 }
 
 /// Whether a parser over tables of so many terminals answers to calls as is wanted.
@@ -107,18 +109,15 @@ fn is_answered_so<A: Rows<TableAction> + Drop, G: Rows<StateNo> + Drop>(
     parser: &mut Parser<'_, A, G>,
     terminals: usize,
     calls: Calls<'_>,
-) -> Result<bool, Fail>
+) -> bool
     requires { terminals ≡ parser.old.machine.terminals }
 {
     for (terminal, wanted) in calls {
-        if terminals <= *terminal as usize {
-            return Err(Fail::from("there is no such terminal"));
-        }
-        if !is_wanted(&call(parser, *terminal), *wanted) {
-            return Ok(false);
+        if terminals <= *terminal as usize || !is_wanted(&call(parser, *terminal), *wanted) {
+            return false;
         }
     }
-    Ok(true)
+    true
 }
 
 /// Whether a parser answered as is wanted.
@@ -126,17 +125,27 @@ fn is_wanted(answer: &Result<Step, ParseFault>, wanted: Wanted) -> bool {
     match wanted {
         Wanted::More => matches!(answer, Ok(Step::More)),
         Wanted::Leaf => matches!(answer, Ok(Step::Done(root)) if *root == FIRST_LEAF),
-        Wanted::Refused(number, terminals) => match answer {
-            Ok(
-                Step::Refused {
-                    token,
-                    byte,
-                    expected,
-                },
-            ) => *token == number && *byte == 5 && expected.as_slice() == terminals,
-            _ => false,
-        },
+        Wanted::Refused(number, terminals) => is_refused(answer, number, 5, terminals),
         Wanted::Over => matches!(answer, Err(ParseFault::Over)),
+    }
+}
+
+/// Whether a parser refused the token of this number, which stands at this byte, and expects these terminals.
+pub(crate) fn is_refused(
+    answer: &Result<Step, ParseFault>,
+    number: u64,
+    at: u64,
+    terminals: &[Sym],
+) -> bool {
+    match answer {
+        Ok(
+            Step::Refused {
+                token,
+                byte,
+                expected,
+            },
+        ) => *token == number && *byte == at && expected.as_slice() == terminals,
+        _ => false,
     }
 }
 
@@ -158,43 +167,63 @@ pub(crate) fn call<A: Rows<TableAction> + Drop, G: Rows<StateNo> + Drop>(
     })
 }
 
-/// Whether a parser over tables does so at each of many runs of calls.
+/// Whether a parser over steady tables does so at each of many runs of calls.
 fn answers_all_so<A: Rows<TableAction> + Drop, G: Rows<StateNo> + Drop>(
     alloc: Global,
     machine: &Machine<A, G>,
     runs: &[Calls<'_>],
-) -> Result<bool, Fail> {
+) -> bool
+    requires { IsSteady machine.now }
+{
     for calls in runs {
-        if !answers_so(alloc, machine, calls)? {
-            return Ok(false);
+        if !answers_so(alloc, machine, calls) {
+            return false;
         }
     }
-    Ok(true)
+    true
+}
+
+/// Whether tables are steady, and a parser over them does so.
+fn is_steady_and_answers<A: Rows<TableAction> + Drop, G: Rows<StateNo> + Drop>(
+    alloc: Global,
+    machine: &Machine<A, G>,
+    runs: &[Calls<'_>],
+) -> bool {
+    match steady(alloc, machine) {
+        Ok(()) => answers_all_so(alloc, machine, runs),
+        Err(_) => false,
+    }
 }
 
 /// Whether it does so over rows that stand apart.
-fn apart_so(alloc: Global, runs: &[Calls<'_>]) -> Result<bool, Fail> {
+fn apart_so(alloc: Global, runs: &[Calls<'_>]) -> Result<bool, OutOfMemory> {
     let machine = by_hand(alloc)?;
-    answers_all_so(alloc, &machine, runs)
+    let answered = is_steady_and_answers(alloc, &machine, runs);
+    drop(machine);
+    Ok(answered)
 }
 
 /// Whether it does so over rows that are laid over one another.
-fn laid_so(alloc: Global, runs: &[Calls<'_>]) -> Result<bool, Fail> {
+fn laid_so(alloc: Global, runs: &[Calls<'_>]) -> Result<bool, OutOfMemory> {
     let machine = laid_by_hand(alloc)?;
-    answers_all_so(alloc, &machine, runs)
+    let answered = is_steady_and_answers(alloc, &machine, runs);
+    drop(machine);
+    Ok(answered)
+}
+
+/// Whether it does so over both.
+fn both_so(alloc: Global, runs: &[Calls<'_>]) -> Result<bool, OutOfMemory> {
+    Ok(apart_so(alloc, runs)? && laid_so(alloc, runs)?)
 }
 
 #[test]
 fn rows_apart_and_laid_are_answered_alike(rt: HostRuntime) -> Result<(), Fail> {
-    assert!(rt; apart_so(rt.alloc(), &TEXTS)?);
-    assert!(rt; laid_so(rt.alloc(), &TEXTS)?);
+    assert!(rt; both_so(rt.alloc(), &TEXTS)?);
     Ok(())
 }
 
 #[test]
 fn a_parse_is_over_behind_a_refusal(rt: HostRuntime) -> Result<(), Fail> {
-    assert!(rt; apart_so(rt.alloc(), &BEHIND)?);
-    assert!(rt; laid_so(rt.alloc(), &BEHIND)?);
-    assert!(rt; ParseFault::Over.number() == Some(91));
+    assert!(rt; both_so(rt.alloc(), &BEHIND)? && ParseFault::Over.number() == Some(91));
     Ok(())
 }

@@ -1,9 +1,11 @@
 //! Texts in pieces: how they are cut changes no answer, what is held is the match that isn't decided, and nothing is
 //! read once the answer is known.
 
+ghost use Rattle.std.specs.Prelude.{◌<◌};
+
 use crate::answers::{outcome, set_of, table_file, table_set};
-use crate::memory::{TRIES, hog, small_blocks};
-use ly_base::{Counted, MemSink, MemSource, OutOfMemory, Source, read_whole};
+use crate::memory::{TRIES, give_back, hog, small_blocks};
+use ly_base::{Counted, MemSink, MemSource, OutOfMemory, ReadFault, Source, read_whole};
 use ly_engine::{DriveFault, Feed, FeedFault, Need, Outcome, TableSet, Version};
 use std::alloc::{AllocError, Global};
 use std::io::{self, ErrorKind, Read};
@@ -22,8 +24,11 @@ const SUMS: &[u8] = b"%token NUM\n%left '+'\n%left '*'\n%%\n\
 /// The word `x`, and blanks.
 const X: &[u8] = b"%%\n\" \" ;\nx return 'x';\n";
 
-/// Lex files and yacc files, and texts of both.
-const TEXTS: [(&[u8], &[u8], &[&[u8]]); 3] = [
+/// A lex file and a yacc file, and texts of both.
+type Files<'a> = (&'a [u8], &'a [u8], &'a [&'a [u8]]);
+
+/// Files and texts.
+const TEXTS: [Files<'static>; 3] = [
     (
         WORDS,
         SUMS,
@@ -71,16 +76,9 @@ fn are_same(one: &Answer, other: &Answer) -> bool {
     same_outcome && one.1.as_slice() == other.1.as_slice()
 }
 
-/// What is answered by a feed to which nothing has come.
-fn by_new_feed<T, F: FnOnce(&mut Feed<'_>) -> T>(
-    alloc: Global,
-    set: &TableSet,
-    ask: F,
-) -> Result<T, OutOfMemory>
-    requires { F.IsAlwaysCallable ask }
-{
-    let mut feed = Feed::new(alloc, set)?;
-    Ok(ask(&mut feed))
+/// A feed to which nothing has come.
+fn new_feed(alloc: Global, set: &TableSet) -> Result<Feed<'_>, OutOfMemory> {
+    Feed::new(alloc, set)
 }
 
 /// The answer to a piece that settles the text, if it does.
@@ -108,7 +106,10 @@ fn fed_on(feed: &mut Feed<'_>, pieces: &[&[u8]]) -> Result<Answer, FeedFault> {
 
 /// The same of a new feed.
 fn fed(alloc: Global, set: &TableSet, pieces: &[&[u8]]) -> Result<Answer, FeedFault> {
-    by_new_feed(alloc, set, |feed| fed_on(feed, pieces))?
+    let mut feed = new_feed(alloc, set)?;
+    let answer = fed_on(&mut feed, pieces);
+    drop(feed);
+    answer
 }
 
 /// A text in pieces of one byte.
@@ -185,7 +186,9 @@ fn is_answered_in_pieces(
     wanted: &Answer,
 ) -> Result<bool, Fail> {
     let set = set_of(alloc, tables)?;
-    pieces_change_nothing(alloc, &set, text, wanted)
+    let answered = pieces_change_nothing(alloc, &set, text, wanted);
+    drop(set);
+    answered
 }
 
 /// Whether a text in pieces is answered by a table file as it is whole.
@@ -204,21 +207,33 @@ fn are_one_answer(alloc: Global, tables: &[u8], texts: &[&[u8]]) -> Result<bool,
     Ok(true)
 }
 
+/// The same by the table file in a version of two files.
+fn are_one_answer_by(alloc: Global, files: &Files<'_>, version: Version) -> Result<bool, Fail> {
+    let (lex, yacc, texts) = files;
+    let tables = table_file(alloc, lex, yacc, version)?;
+    let answered = are_one_answer(alloc, &tables, texts);
+    drop(tables);
+    answered
+}
+
 /// Whether each of `TEXTS` is, by the table file in a version of its files.
 fn all_are_one_answer(alloc: Global, version: Version) -> Result<bool, Fail> {
-    for (lex, yacc, texts) in &TEXTS {
-        let tables = table_file(alloc, lex, yacc, version)?;
-        if !are_one_answer(alloc, &tables, texts)? {
+    for files in &TEXTS {
+        if !are_one_answer_by(alloc, files, version)? {
             return Ok(false);
         }
     }
     Ok(true)
 }
 
+/// The same in both versions.
+fn all_are_one_answer_in_both(alloc: Global) -> Result<bool, Fail> {
+    Ok(all_are_one_answer(alloc, Version::V1)? && all_are_one_answer(alloc, Version::V2)?)
+}
+
 #[test]
 fn a_text_is_answered_however_it_is_cut(rt: HostRuntime) -> Result<(), Fail> {
-    assert!(rt; all_are_one_answer(rt.alloc(), Version::V1)?);
-    assert!(rt; all_are_one_answer(rt.alloc(), Version::V2)?);
+    assert!(rt; all_are_one_answer_in_both(rt.alloc())?);
     Ok(())
 }
 
@@ -244,13 +259,18 @@ fn holds_what_is_not_decided(feed: &mut Feed<'_>) -> Result<bool, Fail> {
 
 /// The same of a new feed.
 fn is_held(alloc: Global, set: &TableSet) -> Result<bool, Fail> {
-    by_new_feed(alloc, set, holds_what_is_not_decided)?
+    let mut feed = new_feed(alloc, set)?;
+    let held = holds_what_is_not_decided(&mut feed);
+    drop(feed);
+    held
 }
 
 /// The same of the set of both files.
 fn sums_are_held(alloc: Global) -> Result<bool, Fail> {
     let set = table_set(alloc, WORDS, SUMS)?;
-    is_held(alloc, &set)
+    let held = is_held(alloc, &set);
+    drop(set);
+    held
 }
 
 #[test]
@@ -292,20 +312,24 @@ fn is_over_once_told(feed: &mut Feed<'_>) -> bool {
 }
 
 /// The same of a new feed.
-fn is_over_behind_the_refusal(alloc: Global, set: &TableSet) -> Result<bool, Fail> {
-    Ok(by_new_feed(alloc, set, is_over_once_told)?)
+fn is_over_behind_the_refusal(alloc: Global, set: &TableSet) -> Result<bool, OutOfMemory> {
+    let mut feed = new_feed(alloc, set)?;
+    let over = is_over_once_told(&mut feed);
+    drop(feed);
+    Ok(over)
 }
 
 /// The same of the set of `WORDS` and `SUMS`.
 fn sums_are_over(alloc: Global) -> Result<bool, Fail> {
     let set = table_set(alloc, WORDS, SUMS)?;
-    is_over_behind_the_refusal(alloc, &set)
+    let over = is_over_behind_the_refusal(alloc, &set);
+    drop(set);
+    Ok(over?)
 }
 
 #[test]
 fn a_settled_feed_is_over(rt: HostRuntime) -> Result<(), Fail> {
-    assert!(rt; sums_are_over(rt.alloc())?);
-    assert!(rt; FeedFault::Over.number() == Some(91));
+    assert!(rt; sums_are_over(rt.alloc())? && FeedFault::Over.number() == Some(91));
     Ok(())
 }
 
@@ -348,10 +372,12 @@ fn taken(feed: &mut Feed<'_>, blanks: &[u8]) -> Result<Option<u32>, Fail> {
 
 /// How many a new feed takes; none where it isn't even made.
 fn taken_by_new(alloc: Global, set: &TableSet, blanks: &[u8]) -> Result<Option<u32>, Fail> {
-    match by_new_feed(alloc, set, |feed| taken(feed, blanks)) {
-        Ok(taken) => taken,
-        Err(_) => Ok(None),
-    }
+    let Ok(mut feed) = new_feed(alloc, set) else {
+        return Ok(None);
+    };
+    let count = taken(&mut feed, blanks);
+    drop(feed);
+    count
 }
 
 /// How many pieces a new feed takes, the first time that it takes more than one, with a block given back at each try;
@@ -365,14 +391,23 @@ fn first_taken(
     let mut refused = [false; 3];
     for _ in 0..TRIES {
         match taken_by_new(alloc, set, blanks)? {
-            None => refused[0] = true,
-            Some(0) => refused[1] = true,
-            Some(1) => refused[2] = true,
-            Some(count) => return Ok((count, refused)),
+            Some(count) if count > 1 => return Ok((count, refused)),
+            taken => refused[refusal(taken)] = true,
         }
-        let _ = blocks.pop();
+        give_back(blocks);
     }
     Err(Fail::from("no room was enough"))
+}
+
+/// Where memory ran out before a feed had taken two pieces: before it was made, at its first piece, or at its second.
+fn refusal(taken: Option<u32>) -> usize
+    ensures { result < 3 }
+{
+    match taken {
+        None => 0,
+        Some(0) => 1,
+        Some(_) => 2,
+    }
 }
 
 /// The same, with no room at first.
@@ -395,16 +430,16 @@ fn pieces_taken(alloc: Global, set: &TableSet) -> Result<(u32, [bool; 3]), Fail>
 /// The same by a set that passes over blanks.
 fn blanks_taken(alloc: Global) -> Result<(u32, [bool; 3]), Fail> {
     let set = table_set(alloc, X, b"%%s : 'x' ;")?;
-    pieces_taken(alloc, &set)
+    let taken = pieces_taken(alloc, &set);
+    drop(set);
+    taken
 }
 
 /// With no room at first, and a small block more at each try: a feed that has taken two pieces has all the room that
 /// it needs, as what it gave up is used again.
 #[test]
 fn room_for_pieces_is_used_again(rt: HostRuntime) -> Result<(), Fail> {
-    let (count, refused) = blanks_taken(rt.alloc())?;
-    assert!(rt; count == PIECES, "piece {count} found no room");
-    assert!(rt; refused == [true; 3], "{refused:?}");
+    assert_eq!(rt; blanks_taken(rt.alloc())?, (PIECES, [true; 3]));
     Ok(())
 }
 
@@ -439,14 +474,19 @@ fn takes_a_long_token(feed: &mut Feed<'_>) -> bool {
 }
 
 /// The same of a new feed.
-fn is_long_token_taken(alloc: Global, set: &TableSet) -> Result<bool, Fail> {
-    Ok(by_new_feed(alloc, set, takes_a_long_token)?)
+fn is_long_token_taken(alloc: Global, set: &TableSet) -> Result<bool, OutOfMemory> {
+    let mut feed = new_feed(alloc, set)?;
+    let taken = takes_a_long_token(&mut feed);
+    drop(feed);
+    Ok(taken)
 }
 
 /// The same of the set of `WORDS` and `SUMS`.
 fn sums_take_a_long_token(alloc: Global) -> Result<bool, Fail> {
     let set = table_set(alloc, WORDS, SUMS)?;
-    is_long_token_taken(alloc, &set)
+    let taken = is_long_token_taken(alloc, &set);
+    drop(set);
+    Ok(taken?)
 }
 
 #[test]
@@ -524,27 +564,36 @@ fn nothing_is_read_once_the_answer_is_known(rt: HostRuntime) -> Result<(), Fail>
     Ok(())
 }
 
-/// The answer to a text of three pieces, of which the first one has a byte that no rule matches, and how much of it is
-/// left.
-fn answered_at_once(alloc: Global, tables: &[u8]) -> Result<(Vec<u8>, usize), Fail> {
-    let text = vec![in alloc; b'#'; 3 * SIZE]?;
-    let mut source = MemSource::new(&text);
-    let mut sink = MemSink::new(alloc);
-    outcome(alloc, tables, &mut source, &mut sink)?;
-    let left = read_whole(alloc, &mut source)?;
-    Ok((sink.into_bytes(), left.len()))
+/// How many bytes of a source are left.
+fn left(alloc: Global, source: &mut MemSource<'_>) -> Result<usize, ReadFault> {
+    let read = read_whole(alloc, source)?;
+    Ok(read.len())
 }
 
-/// The same by the table file of `FEWER_WORDS` and `SUMS`.
+/// The answer to a text, and how much of it is left.
+fn answered_at_once(alloc: Global, tables: &[u8], text: &[u8]) -> Result<(Vec<u8>, usize), Fail> {
+    let mut source = MemSource::new(text);
+    let mut sink = MemSink::new(alloc);
+    outcome(alloc, tables, &mut source, &mut sink)?;
+    let count = left(alloc, &mut source)?;
+    Ok((sink.into_bytes(), count))
+}
+
+/// The same of a text of three pieces, of which the first one has a byte that no rule of `FEWER_WORDS` matches.
 fn sums_at_once(alloc: Global) -> Result<(Vec<u8>, usize), Fail> {
+    let text = vec![in alloc; b'#'; 3 * SIZE]?;
     let tables = table_file(alloc, FEWER_WORDS, SUMS, Version::V2)?;
-    answered_at_once(alloc, &tables)
+    answered_at_once(alloc, &tables, &text)
+}
+
+/// Whether it is that answer, and two pieces are left.
+fn are_two_pieces_left(alloc: Global) -> Result<bool, Fail> {
+    let (lines, count) = sums_at_once(alloc)?;
+    Ok(lines.as_slice() == b"no rule matches at byte 0\n".as_slice() && count == 2 * SIZE)
 }
 
 #[test]
 fn at_most_one_piece_is_read_ahead(rt: HostRuntime) -> Result<(), Fail> {
-    let (lines, left) = sums_at_once(rt.alloc())?;
-    assert!(rt; lines.as_slice() == b"no rule matches at byte 0\n".as_slice());
-    assert!(rt; left == 2 * SIZE);
+    assert!(rt; are_two_pieces_left(rt.alloc())?);
     Ok(())
 }

@@ -135,12 +135,28 @@ fn limited_otherwise(alloc: Global) -> Option<usize> {
 }
 
 #[test]
-fn limits_are_met_exactly(rt: HostRuntime) {
+fn limits_of_states_are_met_exactly(rt: HostRuntime) {
     assert_eq!(rt; limited_otherwise(rt.alloc()), None);
-    let light = Limits::V2.with_total_weight(0);
-    assert_eq!(rt; refusal(rt.alloc(), LITERAL, SMALL, &light), b'p');
-    let five = Limits::V2.with_symbols(5);
-    assert_eq!(rt; refusal(rt.alloc(), LITERAL, SMALL, &five), b'-');
-    let four = Limits::V2.with_symbols(4);
-    assert_eq!(rt; refusal(rt.alloc(), LITERAL, SMALL, &four), b'j');
+}
+
+/// What refuses `SMALL` under a limit of the weight of all patterns.
+fn refusal_by_weight(alloc: Global, weight: u32) -> u8 {
+    refusal(alloc, LITERAL, SMALL, &Limits::V2.with_total_weight(weight))
+}
+
+/// What refuses it under a limit of the symbols.
+fn refusal_by_symbols(alloc: Global, symbols: u32) -> u8 {
+    refusal(alloc, LITERAL, SMALL, &Limits::V2.with_symbols(symbols))
+}
+
+/// Whether no weight, five symbols and four are met exactly.
+fn are_met_exactly(alloc: Global) -> bool {
+    refusal_by_weight(alloc, 0) == b'p'
+        && refusal_by_symbols(alloc, 5) == b'-'
+        && refusal_by_symbols(alloc, 4) == b'j'
+}
+
+#[test]
+fn limits_of_weight_and_of_symbols_are_met_exactly(rt: HostRuntime) {
+    assert!(rt; are_met_exactly(rt.alloc()));
 }

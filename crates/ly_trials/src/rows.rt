@@ -53,7 +53,10 @@ fn are_kept(alloc: Global) -> Result<bool, OutOfMemory> {
     let dense = dense_rows(alloc)?;
     let laid = laid_rows(alloc, &dense)?;
     let sizes = laid.width() == 4 && laid.bases().len() == 6;
-    Ok(sizes && have_entries(&dense) && have_entries(&laid))
+    let kept = sizes && have_entries(&dense) && have_entries(&laid);
+    drop(dense);
+    drop(laid);
+    Ok(kept)
 }
 
 #[test]
@@ -67,17 +70,17 @@ pub(crate) fn by_hand(
     alloc: Global,
 ) -> Result<Machine<Dense<TableAction>, Dense<StateNo>>, OutOfMemory> {
     let defaults = Vec::from_slice(alloc, &[None, Some(RuleNo(1)), None])?;
-    let mut actions = Dense::new(alloc, 3, 3)?;
-    actions.set(StateNo(0), 2, Some(TableAction::Shift(StateNo(1))))?;
-    actions.set(StateNo(2), 0, Some(TableAction::Accept))?;
-    let mut gotos = Dense::new(alloc, 3, 1)?;
-    gotos.set(StateNo(0), 0, Some(StateNo(2)))?;
     let mut rules = Vec::new(alloc);
     rules.push(TableRule {
         left: Sym(0),
         body_length: 1,
         tree: RuleTree::Pass(1),
     })?;
+    let mut actions = Dense::new(alloc, 3, 3)?;
+    actions.set(StateNo(0), 2, Some(TableAction::Shift(StateNo(1))))?;
+    actions.set(StateNo(2), 0, Some(TableAction::Accept))?;
+    let mut gotos = Dense::new(alloc, 3, 1)?;
+    gotos.set(StateNo(0), 0, Some(StateNo(2)))?;
     Ok(Machine::new(MachineParts {
         terminals: 3,
         nonterminals: 1,
@@ -106,13 +109,17 @@ fn is_steady<A: Rows<TableAction> + Drop, G: Rows<StateNo> + Drop>(
 /// Whether those over rows that stand apart are.
 fn apart_are_steady(alloc: Global) -> Result<bool, OutOfMemory> {
     let machine = by_hand(alloc)?;
-    Ok(is_steady(alloc, &machine))
+    let steady = is_steady(alloc, &machine);
+    drop(machine);
+    Ok(steady)
 }
 
 /// Whether those over rows that are laid over one another are.
 fn laid_are_steady(alloc: Global) -> Result<bool, OutOfMemory> {
     let machine = laid_by_hand(alloc)?;
-    Ok(is_steady(alloc, &machine))
+    let steady = is_steady(alloc, &machine);
+    drop(machine);
+    Ok(steady)
 }
 
 #[test]

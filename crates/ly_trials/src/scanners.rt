@@ -127,12 +127,20 @@ fn push_row(text: &mut Vec<u8>, dfa: &Dfa, state: u32) -> Result<(), AllocError>
     Ok(())
 }
 
-/// An automaton of few states as `AUTOMATA` write it.
-fn rows_text(alloc: Global, dfa: &Dfa) -> Result<Vec<u8>, AllocError> {
-    let mut text = Vec::new(alloc);
+/// Adds that of the states of an automaton that has few.
+fn push_rows(text: &mut Vec<u8>, dfa: &Dfa) -> Result<(), AllocError> {
     for state in 0..9u32 {
-        push_row(&mut text, dfa, state)?;
+        push_row(text, dfa, state)?;
     }
+    Ok(())
+}
+
+/// An automaton of few states as `AUTOMATA` write it.
+fn rows_text(alloc: Global, dfa: Dfa) -> Result<Vec<u8>, AllocError> {
+    let mut text = Vec::new(alloc);
+    let pushed = push_rows(&mut text, &dfa);
+    drop(dfa);
+    pushed?;
     Ok(text)
 }
 
@@ -151,14 +159,13 @@ fn smallest(alloc: Global, dfa: Dfa) -> Result<Dfa, OutOfMemory> {
 
 /// The automaton of a lex file as it is found.
 fn found_text(alloc: Global, lex: &[u8]) -> Result<Vec<u8>, Fail> {
-    let dfa = accepted(alloc, lex)?;
-    Ok(rows_text(alloc, &dfa)?)
+    Ok(rows_text(alloc, accepted(alloc, lex)?)?)
 }
 
 /// The same once it is made smallest.
 fn smallest_text(alloc: Global, lex: &[u8]) -> Result<Vec<u8>, Fail> {
     let dfa = smallest(alloc, accepted(alloc, lex)?)?;
-    Ok(rows_text(alloc, &dfa)?)
+    Ok(rows_text(alloc, dfa)?)
 }
 
 /// Whether the automaton of a lex file is so before it is made smallest, and afterwards.
@@ -213,7 +220,9 @@ fn has_sizes(dfa: &Dfa) -> bool {
 /// Whether all that is so in the first of `AUTOMATA`.
 fn has_classes(alloc: Global) -> Result<bool, Fail> {
     let dfa = accepted(alloc, AUTOMATA[0].0)?;
-    Ok(has_sizes(&dfa) && are_classes(&dfa))
+    let has = has_sizes(&dfa) && are_classes(&dfa);
+    drop(dfa);
+    Ok(has)
 }
 
 #[test]

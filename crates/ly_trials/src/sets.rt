@@ -99,21 +99,31 @@ fn has(set: &TermSet, number: u32) -> bool {
     (number as usize) < set.width() && set.contains(Sym(number))
 }
 
-/// Whether a set of a width is the plain one.
-fn is_set(alloc: Global, width: u32) -> Result<bool, OutOfMemory> {
-    let mut set = TermSet::new(alloc, width as usize)?;
+/// Adds the numbers below a width that `BOTH` has, where there is room for them.
+fn fill(set: &mut TermSet, width: u32) {
     for number in 0..width {
         if is_in(BOTH, number) && (number as usize) < set.width() {
             set.insert(Sym(number));
         }
     }
+}
+
+/// Whether a set has the numbers below a width that `BOTH` has.
+fn is_filled(set: &TermSet, width: u32) -> bool {
     let mut same = set.width() == width as usize;
     let mut members = 0usize;
     for number in 0..width {
-        same &= has(&set, number) == is_in(BOTH, number);
+        same &= has(set, number) == is_in(BOTH, number);
         members = members.wrapping_add(usize::from(is_in(BOTH, number)));
     }
-    Ok(same && set.count() == members)
+    same && set.count() == members
+}
+
+/// Whether a set of a width is the plain one.
+fn is_set(alloc: Global, width: u32) -> Result<bool, OutOfMemory> {
+    let mut set = TermSet::new(alloc, width as usize)?;
+    fill(&mut set, width);
+    Ok(is_filled(&set, width))
 }
 
 /// The first of `WIDTHS` at which a set or rows are otherwise.

@@ -51,10 +51,17 @@ fn has_parts(spec: &Spec) -> bool {
     grammar && beside && spec.scanner().len() == 1 && spec.of_byte(b'n') == Sym(3)
 }
 
+/// Whether the specification of that yacc file has them.
+fn is_joined_so(alloc: Global) -> Result<bool, Fail> {
+    let spec = specification(alloc, b"%left '+'\n%%e : e '+' e | 'n' ;")?;
+    let joined = has_parts(&spec);
+    drop(spec);
+    Ok(joined)
+}
+
 #[test]
 fn a_yacc_file_is_joined(rt: HostRuntime) -> Result<(), Fail> {
-    let spec = specification(rt.alloc(), b"%left '+'\n%%e : e '+' e | 'n' ;")?;
-    assert!(rt; has_parts(&spec));
+    assert!(rt; is_joined_so(rt.alloc())?);
     Ok(())
 }
 
@@ -144,7 +151,9 @@ fn is_reduction(alloc: Global, grammar: &Grammar, wanted: &[u8]) -> Result<bool,
 /// Whether this is said of the grammar of a yacc file.
 fn is_reduced_so(alloc: Global, yacc: &[u8], wanted: &[u8]) -> Result<bool, Fail> {
     let spec = specification(alloc, yacc)?;
-    is_reduction(alloc, spec.grammar(), wanted)
+    let reduced = is_reduction(alloc, spec.grammar(), wanted);
+    drop(spec);
+    reduced
 }
 
 /// The number of the first of `REDUCED` of which something else is said.
