@@ -40,7 +40,7 @@ struct Teller<'a> {
 pub(crate) fn say_conflicts(
     alloc: Global,
     page: &mut Page,
-    files: Accepted<'_>,
+    files: &Accepted<'_>,
 ) -> Result<(), OutOfMemory> {
     let resolved = files.resolved;
     let counts = ConflictCounts::of(resolved);

@@ -18,7 +18,7 @@ const MOST: usize = 50;
 #[derive(Clone, Copy)]
 struct Teller<'a> {
     /// The files.
-    files: Accepted<'a>,
+    files: &'a Accepted<'a>,
     /// Where symbols and rules stand.
     places: &'a Places,
 }
@@ -45,22 +45,16 @@ const STANDS_NOWHERE: Said<'static> = Said {
 pub(crate) fn say_doubts(
     alloc: Global,
     page: &mut Page,
-    files: Accepted<'_>,
+    files: &Accepted<'_>,
     conditions: &[&[u8]],
     places: &Places,
 ) -> Result<(), OutOfMemory>
-    requires { IsBreadthFirst files.dfa.now }
+    requires { IsBreadthFirst files.now.dfa.now }
 {
     let teller = Teller { files, places };
     let before = page.len();
-    teller.say_surprises(alloc, page)?;
-    teller.say_indented(page);
-    teller.say_unmatched(alloc, page)?;
-    teller.say_removed(page);
-    teller.say_unreduced(alloc, page)?;
-    teller.say_terminals(alloc, page)?;
-    teller.say_declared_again(alloc, page)?;
-    teller.say_undecided(alloc, page)?;
+    teller.say_of_lex(alloc, page)?;
+    teller.say_of_yacc(alloc, page)?;
     if page.len() == before {
         page.say(b"No doubts.\n");
     }
@@ -68,6 +62,26 @@ pub(crate) fn say_doubts(
 }
 
 impl Teller<'_> {
+    /// Says what is doubtful in the lex file.
+    fn say_of_lex(&self, alloc: Global, page: &mut Page) -> Result<(), OutOfMemory>
+        requires { IsBreadthFirst self.now.files.now.dfa.now }
+    {
+        self.say_surprises(alloc, page)?;
+        self.say_indented(page);
+        self.say_unmatched(alloc, page)
+    }
+
+    /// Says what is doubtful in the yacc file.
+    fn say_of_yacc(&self, alloc: Global, page: &mut Page) -> Result<(), OutOfMemory>
+        requires { IsBreadthFirst self.now.files.now.dfa.now }
+    {
+        self.say_removed(page);
+        self.say_unreduced(alloc, page)?;
+        self.say_terminals(alloc, page)?;
+        self.say_declared_again(alloc, page)?;
+        self.say_undecided(alloc, page)
+    }
+
     /// Says the place of a rule of the lex file.
     fn say_lex_rule(&self, page: &mut Page, rule: usize) {
         let line = self.files.file.lines.get(rule).copied().unwrap_or(1);
@@ -100,7 +114,7 @@ impl Teller<'_> {
 
     /// Says which rules of the lex file never match.
     fn say_unmatched(&self, alloc: Global, page: &mut Page) -> Result<(), OutOfMemory>
-        requires { IsBreadthFirst self.now.files.dfa.now }
+        requires { IsBreadthFirst self.now.files.now.dfa.now }
     {
         for rule in &unmatched_rules(alloc, self.files.file.rules.len(), self.files.dfa)? {
             self.say_lex_rule(page, *rule);
@@ -131,7 +145,7 @@ impl Teller<'_> {
 
     /// Says which terminals stand in no rule, and which of the others no rule of the lex file returns.
     fn say_terminals(&self, alloc: Global, page: &mut Page) -> Result<(), OutOfMemory>
-        requires { IsBreadthFirst self.now.files.dfa.now }
+        requires { IsBreadthFirst self.now.files.now.dfa.now }
     {
         let unused = unused_terminals(alloc, self.files.spec)?;
         self.say_all_so(page, &unused, &[], STANDS_NOWHERE);

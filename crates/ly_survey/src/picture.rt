@@ -13,7 +13,7 @@ use std::alloc::Global;
 pub(crate) fn say_picture(
     alloc: Global,
     page: &mut Page,
-    files: Accepted<'_>,
+    files: &Accepted<'_>,
 ) -> Result<(), OutOfMemory> {
     let spec = files.spec;
     let lr0 = files.resolved.lr0();

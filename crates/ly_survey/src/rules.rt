@@ -5,7 +5,7 @@ use ly_base::OutOfMemory;
 use ly_page::Page;
 
 /// Says each rule with its number and its line.
-pub(crate) fn say_rules(page: &mut Page, files: Accepted<'_>, places: &Places) {
+pub(crate) fn say_rules(page: &mut Page, files: &Accepted<'_>, places: &Places) {
     let spec = files.spec;
     page.say(b"\nRules:\n");
     for rule in 1..spec.grammar().rules().len() {

@@ -12,7 +12,7 @@ use std::alloc::{AllocError, Global};
 pub(crate) fn say_scanner(
     alloc: Global,
     page: &mut Page,
-    files: Accepted<'_>,
+    files: &Accepted<'_>,
 ) -> Result<(), OutOfMemory> {
     let dfa = files.dfa;
     page.say(b"Classes of bytes of the scanner:\n");
@@ -71,7 +71,7 @@ fn has_byte(marks: &[bool], byte: Option<u8>) -> bool {
 pub(crate) fn say_other_bytes(
     alloc: Global,
     page: &mut Page,
-    files: Accepted<'_>,
+    files: &Accepted<'_>,
     names: &[&[u8]],
 ) -> Result<(), OutOfMemory> {
     for condition in 0..files.file.conditions {
@@ -132,8 +132,8 @@ fn say_start(page: &mut Page, where_it_is: &[u8], start: Option<u32>) {
 }
 
 /// Says a state: its rule, and where classes of bytes lead from it.
-fn say_state(page: &mut Page, files: Accepted<'_>, state: u32)
-    requires { state < length files.dfa.now.rules }
+fn say_state(page: &mut Page, files: &Accepted<'_>, state: u32)
+    requires { state < length files.now.dfa.now.rules }
 {
     let dfa = files.dfa;
     say_numbered(page, b"\nScanner state ", state as u64, b"\n");

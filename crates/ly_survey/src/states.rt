@@ -33,7 +33,7 @@ struct Teller<'a> {
 pub(crate) fn say_states(
     alloc: Global,
     page: &mut Page,
-    files: Accepted<'_>,
+    files: &Accepted<'_>,
     tables: &Tables,
 ) -> Result<(), OutOfMemory> {
     let lr0 = files.resolved.lr0();

@@ -73,16 +73,20 @@ pub fn survey(
     ensures { IfOk result (λ e. e.accepted ≡ true) }
 {
     Ok(Explanation {
-        text: text_of(alloc, files, conditions)?,
-        states: states_if(alloc, files, tables, wish.states)?,
-        picture: picture_if(alloc, files, wish.picture)?,
+        text: text_of(alloc, &files, conditions)?,
+        states: states_if(alloc, &files, tables, wish.states)?,
+        picture: picture_if(alloc, &files, wish.picture)?,
         accepted: true,
     })
 }
 
 /// What is doubtful, where the conflicts are, and which rule has which number.
-fn text_of(alloc: Global, files: Accepted<'_>, conditions: &[&[u8]]) -> Result<Vec<u8>, OutOfMemory>
-    requires { IsBreadthFirst files.dfa.now }
+fn text_of(
+    alloc: Global,
+    files: &Accepted<'_>,
+    conditions: &[&[u8]],
+) -> Result<Vec<u8>, OutOfMemory>
+    requires { IsBreadthFirst files.now.dfa.now }
 {
     let places = Places::of(alloc, files.yacc.bytes)?;
     let mut page = Page::new(alloc);
@@ -96,11 +100,11 @@ fn text_of(alloc: Global, files: Accepted<'_>, conditions: &[&[u8]]) -> Result<V
 fn say_all(
     alloc: Global,
     page: &mut Page,
-    files: Accepted<'_>,
+    files: &Accepted<'_>,
     conditions: &[&[u8]],
     places: &Places,
 ) -> Result<(), OutOfMemory>
-    requires { IsBreadthFirst files.dfa.now }
+    requires { IsBreadthFirst files.now.dfa.now }
 {
     say_sizes(page, files);
     say_doubts(alloc, page, files, conditions, places)?;
@@ -112,7 +116,7 @@ fn say_all(
 /// The states of the scanner and of the parser, where they are asked for.
 fn states_if(
     alloc: Global,
-    files: Accepted<'_>,
+    files: &Accepted<'_>,
     tables: &Tables,
     asked: bool,
 ) -> Result<Option<Vec<u8>>, OutOfMemory> {
@@ -128,7 +132,7 @@ fn states_if(
 /// The picture of the parser's states, where it is asked for.
 fn picture_if(
     alloc: Global,
-    files: Accepted<'_>,
+    files: &Accepted<'_>,
     asked: bool,
 ) -> Result<Option<Vec<u8>>, OutOfMemory> {
     if !asked {
@@ -140,7 +144,7 @@ fn picture_if(
 }
 
 /// Says that two files are accepted, and how large their parser is.
-fn say_sizes(page: &mut Page, files: Accepted<'_>) {
+fn say_sizes(page: &mut Page, files: &Accepted<'_>) {
     let grammar = files.spec.grammar();
     let rules = grammar.rules().len().saturating_sub(1);
     page.say(files.lex.name.as_bytes());
