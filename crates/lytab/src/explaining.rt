@@ -1,7 +1,7 @@
 //! The command `explain`.
 use crate::end::End;
 use crate::failure::Failure;
-use crate::files::{STANDARD, read_file, write_file, write_to};
+use crate::files::{FileFault, STANDARD, read_file, write_file, write_to};
 use ly_base::Limits;
 use ly_explanation::{Named, Wish, explain};
 use ly_words::ExplainPaths;
@@ -50,11 +50,12 @@ fn read_or_say_why<'a, F: Files>(
     path: &'a str,
 ) -> Result<Vec<u8>, Failure<'a>> {
     match read_file(files, alloc, path) {
-        Err(Failure::CannotRead(path)) => Err(match reason(files, path) {
+        Ok(bytes) => Ok(bytes),
+        Err(FileFault::CannotRead(path)) => Err(match reason(files, path) {
             Some(reason) => Failure::Unreadable(path, reason),
             None => Failure::CannotRead(path),
         }),
-        read => read,
+        Err(fault) => Err(Failure::from(fault)),
     }
 }
 

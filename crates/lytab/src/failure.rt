@@ -1,7 +1,7 @@
 //! Why there is no answer, and the line that says so.
 ghost use Rattle.std.specs.Prelude.{◌≡◌, ◌≤◌};
 
-use crate::files::STANDARD;
+use crate::files::{FileFault, STANDARD};
 use ly_base::OutOfMemory;
 use ly_engine::GenFault;
 use ly_join::JoinFault;
@@ -35,6 +35,16 @@ pub enum Failure<'a> {
     TooLong,
     /// A growth was refused.
     OutOfMemory,
+}
+
+impl<'a> From<FileFault<'a>> for Failure<'a> {
+    fn from(fault: FileFault<'a>) -> Self {
+        match fault {
+            FileFault::CannotRead(path) => Failure::CannotRead(path),
+            FileFault::CannotWrite(path) => Failure::CannotWrite(path),
+            FileFault::OutOfMemory => Failure::OutOfMemory,
+        }
+    }
 }
 
 impl From<GenFault> for Failure<'_> {

@@ -1,5 +1,4 @@
 //! Files, read and written whole.
-use crate::failure::Failure;
 use ly_base::{Counted, ReadFault, read_whole, write_whole};
 use std::alloc::Global;
 use std::fs;
@@ -9,11 +8,22 @@ use std::rt::Files;
 /// How standard input and output are named.
 pub const STANDARD: &str = "-";
 
+/// Why a file, or a device of that name, isn't read or written.
+#[derive(Clone, Copy)]
+pub enum FileFault<'a> {
+    /// That of this path can't be read.
+    CannotRead(&'a str),
+    /// That of this path can't be written.
+    CannotWrite(&'a str),
+    /// A growth was refused.
+    OutOfMemory,
+}
+
 /// Opens a file to read it.
-pub fn open<'a, F: Files>(files: &F, path: &'a str) -> Result<F::File, Failure<'a>> {
+pub fn open<'a, F: Files>(files: &F, path: &'a str) -> Result<F::File, FileFault<'a>> {
     match fs::open(files, path) {
         Ok(file) => Ok(file),
-        Err(_) => Err(Failure::CannotRead(path)),
+        Err(_) => Err(FileFault::CannotRead(path)),
     }
 }
 
@@ -22,20 +32,24 @@ pub fn read_file<'a, F: Files>(
     files: &F,
     alloc: Global,
     path: &'a str,
-) -> Result<Vec<u8>, Failure<'a>> {
+) -> Result<Vec<u8>, FileFault<'a>> {
     let mut file = Counted::new(open(files, path)?);
     match read_whole(alloc, &mut file) {
         Ok(bytes) => Ok(bytes),
-        Err(ReadFault::Read) => Err(Failure::CannotRead(path)),
-        Err(ReadFault::OutOfMemory) => Err(Failure::OutOfMemory),
+        Err(ReadFault::Read) => Err(FileFault::CannotRead(path)),
+        Err(ReadFault::OutOfMemory) => Err(FileFault::OutOfMemory),
     }
 }
 
 /// Makes a file of these bytes, in place of an older one.
-pub fn write_file<'a, F: Files>(files: &F, path: &'a str, bytes: &[u8]) -> Result<(), Failure<'a>> {
+pub fn write_file<'a, F: Files>(
+    files: &F,
+    path: &'a str,
+    bytes: &[u8],
+) -> Result<(), FileFault<'a>> {
     match fs::create(files, path) {
         Ok(mut file) => write_to(&mut file, path, bytes),
-        Err(_) => Err(Failure::CannotWrite(path)),
+        Err(_) => Err(FileFault::CannotWrite(path)),
     }
 }
 
@@ -44,9 +58,9 @@ pub fn write_to<'a, W: Write>(
     writer: &mut W,
     path: &'a str,
     bytes: &[u8],
-) -> Result<(), Failure<'a>> {
+) -> Result<(), FileFault<'a>> {
     match write_whole(&mut Counted::new(writer), bytes) {
         Ok(()) => Ok(()),
-        Err(_) => Err(Failure::CannotWrite(path)),
+        Err(_) => Err(FileFault::CannotWrite(path)),
     }
 }
