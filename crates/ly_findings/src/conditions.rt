@@ -1,5 +1,6 @@
 //! The names of a lex file's start conditions.
-use ly_base::{OutOfMemory, is_blank};
+use crate::location::{is_gap, is_newline};
+use ly_base::OutOfMemory;
 use std::alloc::Global;
 
 /// How many names are known, at most.
@@ -9,7 +10,7 @@ const MOST: usize = 2_000;
 pub fn known_conditions(alloc: Global, text: &[u8]) -> Result<Vec<&[u8]>, OutOfMemory> {
     let mut known: Vec<&[u8]> = Vec::new(alloc);
     known.push(b"INITIAL")?;
-    for line in text.split(|byte| *byte == b'\n') {
+    for line in text.split(is_newline) {
         if matches!(line, [b'%', b's' | b'S' | b'x' | b'X', ..]) {
             push_declared(&mut known, line)?;
         }
@@ -19,7 +20,7 @@ pub fn known_conditions(alloc: Global, text: &[u8]) -> Result<Vec<&[u8]>, OutOfM
 
 /// Adds the names behind the first word of a line that begins with it, as far as there are not too many.
 fn push_declared<'t>(known: &mut Vec<&'t [u8]>, line: &'t [u8]) -> Result<(), OutOfMemory> {
-    for name in line.split(|byte| is_blank(*byte)).skip(1) {
+    for name in line.split(is_gap).skip(1) {
         if !name.is_empty() && known.len() < MOST {
             known.push(name)?;
         }

@@ -146,14 +146,31 @@ fn returned_location(lex: &MendedLex, name: &[u8]) -> Option<Location> {
 
 /// Where a name stands first in a text by itself.
 fn word_place(text: &[u8], name: &[u8]) -> Option<usize> {
-    let goes_on = |byte: &u8| Language::Lex.continues_name(*byte);
-    (0..text.len()).find(|place| {
-        let before = place.checked_sub(1).and_then(|before| text.get(before));
-        match from_place(text, *place).strip_prefix(name) {
-            Some(behind) => !before.is_some_and(goes_on) && !behind.first().is_some_and(goes_on),
-            None => false,
+    let mut in_word = false;
+    for place in 0..text.len() {
+        let rest = from_place(text, place);
+        if !in_word && ends_behind(rest, name) {
+            return Some(place);
         }
-    })
+        in_word = goes_on(rest);
+    }
+    None
+}
+
+/// Whether a text begins with a name that ends there.
+fn ends_behind(text: &[u8], name: &[u8]) -> bool {
+    match text.strip_prefix(name) {
+        Some(behind) => !goes_on(behind),
+        None => false,
+    }
+}
+
+/// Whether a text goes on with a byte of a name.
+fn goes_on(text: &[u8]) -> bool {
+    match text.first() {
+        Some(byte) => Language::Lex.continues_name(*byte),
+        None => false,
+    }
 }
 
 /// The advice behind a fault of both files.

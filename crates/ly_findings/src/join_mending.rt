@@ -13,7 +13,7 @@ pub(crate) fn mend(
 ) -> Result<(), OutOfMemory> {
     match fault {
         JoinFault::UndefinedSymbol(name) | JoinFault::ReturnUndeclared(name) => {
-            declare(alloc, file, name)?
+            return declare(alloc, file, name);
         }
         JoinFault::TokenOnLeft(name) => undeclare(file, name),
         JoinFault::PrecedenceTwice(terminal) => give_once(file, terminal),

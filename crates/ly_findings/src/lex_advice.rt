@@ -96,14 +96,21 @@ fn near_condition(
 ) -> Result<Option<Advice>, OutOfMemory> {
     let known = known_conditions(alloc, text)?;
     let list = if line.starts_with(b"<") { line } else { rest };
-    let unknown = list
-        .split(|byte| !Language::Lex.continues_name(*byte))
-        .find(|word| is_unknown(word, &known));
-    // No name is near to an empty one.
-    match nearest(alloc, unknown.unwrap_or(b""), &known)? {
+    match nearest(alloc, unknown_in(list, &known), &known)? {
         Some(near) => Ok(Some(Advice::Near(Vec::from_slice(alloc, near)?))),
         None => Ok(None),
     }
+}
+
+/// The first name in a list that is no condition that is known; an empty one, to which no name is near, where there is
+/// none.
+fn unknown_in<'t>(list: &'t [u8], known: &[&[u8]]) -> &'t [u8] {
+    for word in list.split(|byte| !Language::Lex.continues_name(*byte)) {
+        if is_unknown(word, known) {
+            return word;
+        }
+    }
+    b""
 }
 
 /// Whether a word is the name of a condition that isn't known.

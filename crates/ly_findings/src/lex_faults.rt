@@ -5,6 +5,7 @@ use crate::lex_advice::lex_advice;
 use crate::lex_mending::mended;
 use crate::lex_places::lex_location;
 use crate::lex_units::unit_at;
+use crate::location::is_newline;
 use crate::text_marks::{has_byte_order_mark, without_marks};
 use ly_base::{Limits, OutOfMemory};
 use ly_generate::GenFault;
@@ -84,8 +85,7 @@ fn mend_fault(
 
 /// Whether a line begins with `%%`.
 fn has_rules(text: &[u8]) -> bool {
-    text.split(|byte| *byte == b'\n')
-        .any(|line| line.starts_with(b"%%"))
+    text.split(is_newline).any(|line| line.starts_with(b"%%"))
 }
 
 /// Adds the fault of a file that it hasn't without its marks.

@@ -3,9 +3,9 @@ use crate::conditions::known_conditions;
 use crate::edit::push_all;
 use crate::lex_places::defined_names;
 use crate::lex_units::{Kind, Unit, first_line};
-use crate::location::{from_place, line_start};
+use crate::location::{from_place, is_gap, is_newline, line_start};
 use crate::nearest::MOST_NAMES;
-use ly_base::{Language, OutOfMemory, is_blank, leading_name};
+use ly_base::{Language, OutOfMemory, leading_name};
 use ly_lexread::LexFault;
 use std::alloc::Global;
 
@@ -62,9 +62,7 @@ fn push_declaration<'t>(
     known: &mut Vec<&'t [u8]>,
     line: &'t [u8],
 ) -> Result<(), OutOfMemory> {
-    let mut words = line
-        .split(|byte| is_blank(*byte))
-        .filter(|word| !word.is_empty());
+    let mut words = line.split(is_gap).filter(|word| !word.is_empty());
     declaration.extend_from_slice(words.next().unwrap_or(b""))?;
     for word in words.take(MOST_NAMES - 1) {
         push_new(declaration, known, word)?;
@@ -90,7 +88,7 @@ fn push_new<'t>(
 fn last_before_mark(text: &[u8], first: u64) -> u64 {
     let behind = from_place(text, line_start(text, first));
     let lines = behind
-        .split(|byte| *byte == b'\n')
+        .split(is_newline)
         .take_while(|line| !line.starts_with(b"%%"))
         .count() as u64;
     first.saturating_add(lines.saturating_sub(1))
@@ -106,7 +104,7 @@ fn with_lines(
 ) -> Result<Vec<u8>, OutOfMemory> {
     let mut edited = Vec::new(alloc);
     let mut number: u64 = 0;
-    for line in text.split_inclusive(|byte| *byte == b'\n') {
+    for line in text.split_inclusive(is_newline) {
         number = number.saturating_add(1);
         if number < first || number > last {
             edited.extend_from_slice(line)?;

@@ -1,9 +1,9 @@
 //! The columns of the faults of a lex file, of which its reader says the lines.
 use crate::edit::push_all;
 use crate::lex_units::{Kind, Unit, action_start, first_line, leading_blanks, pattern_start};
-use crate::location::{Location, from_place, line_start};
+use crate::location::{Location, from_place, is_gap, is_newline, line_start};
 use crate::nearest::MOST_NAMES;
-use ly_base::{Language, Limits, OutOfMemory, is_blank, leading_name};
+use ly_base::{Language, Limits, OutOfMemory, leading_name};
 use ly_ere::{EreFault, Names, expression_length, read_pattern};
 use ly_lexread::{LexFault, read_lex};
 use std::alloc::Global;
@@ -87,9 +87,7 @@ fn pattern_column(
     }
     let names = known_names(alloc, text, limits)?;
     let longest = longest_pattern(alloc, pattern, &names, limits)?;
-    let whole = from_place(pattern, longest)
-        .first()
-        .is_none_or(|byte| is_blank(*byte));
+    let whole = from_place(pattern, longest).first().is_none_or(is_gap);
     Ok(if whole { 0 } else { longest })
 }
 
@@ -145,7 +143,7 @@ fn plain_definitions(alloc: Global, names: &[&[u8]]) -> Result<Vec<u8>, OutOfMem
 /// The names in front of the lines before the rules, each once, as far as there are not too many.
 pub(crate) fn defined_names(alloc: Global, text: &[u8]) -> Result<Vec<&[u8]>, OutOfMemory> {
     let mut names: Vec<&[u8]> = Vec::new(alloc);
-    for line in text.split(|byte| *byte == b'\n') {
+    for line in text.split(is_newline) {
         if line.starts_with(b"%%") {
             break;
         }
@@ -167,5 +165,10 @@ fn push_defined<'t>(names: &mut Vec<&'t [u8]>, line: &'t [u8]) -> Result<(), Out
 
 /// The place where bytes stand in a line first.
 pub(crate) fn place_of(line: &[u8], bytes: &[u8]) -> Option<usize> {
-    (0..line.len()).find(|place| from_place(line, *place).starts_with(bytes))
+    for place in 0..line.len() {
+        if from_place(line, place).starts_with(bytes) {
+            return Some(place);
+        }
+    }
+    None
 }

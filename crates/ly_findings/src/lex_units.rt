@@ -1,5 +1,5 @@
 //! What a line of a lex file belongs to, where it is refused: so it needn't have a form of a lex file.
-use crate::location::{from_place, length_to_blank, line_length};
+use crate::location::{from_place, is_newline, length_to_blank, line_length};
 use crate::pieces::braces_length;
 use ly_base::{after_comment, is_blank};
 use std::alloc::{AllocError, Global};
@@ -141,7 +141,7 @@ fn behind_lines(text: &[u8], lines: u64) -> &[u8] {
 
 /// How many lines behind the first one it takes to the end of a block; none where it isn't closed.
 fn lines_to_block_end(text: &[u8]) -> u64 {
-    text.split(|byte| *byte == b'\n')
+    text.split(is_newline)
         .position(|line| line.starts_with(b"%}"))
         .unwrap_or(0) as u64
 }
@@ -177,7 +177,7 @@ fn lines_to_rule_end(text: &[u8]) -> (u64, bool) {
 fn lines_that_go_on(text: &[u8]) -> u64 {
     let behind = from_place(text, line_length(text).saturating_add(1));
     behind
-        .split(|byte| *byte == b'\n')
+        .split(is_newline)
         .take_while(|line| matches!(line.first(), Some(b' ' | b'\t' | b'}')))
         .count() as u64
 }

@@ -47,7 +47,7 @@ impl Location {
 pub(crate) fn line_start(text: &[u8], line: u64) -> usize {
     let before = usize::try_from(line.saturating_sub(1)).unwrap_or(usize::MAX);
     let mut start: usize = 0;
-    for line in text.split(|byte| *byte == b'\n').take(before) {
+    for line in text.split(is_newline).take(before) {
         start = start.saturating_add(line.len()).saturating_add(1);
     }
     start
@@ -55,17 +55,23 @@ pub(crate) fn line_start(text: &[u8], line: u64) -> usize {
 
 /// How many bytes stand before the newline at the end of the first line.
 pub(crate) fn line_length(text: &[u8]) -> usize {
-    text.iter()
-        .position(|byte| *byte == b'\n')
-        .unwrap_or(text.len())
+    text.iter().position(is_newline).unwrap_or(text.len())
 }
 
 /// How many bytes stand before the first blank of the first line.
 pub(crate) fn length_to_blank(text: &[u8]) -> usize {
     let line = text.get(..line_length(text)).unwrap_or(text);
-    line.iter()
-        .position(|byte| is_blank(*byte))
-        .unwrap_or(line.len())
+    line.iter().position(is_gap).unwrap_or(line.len())
+}
+
+/// Whether a byte ends a line.
+pub(crate) fn is_newline(byte: &u8) -> bool {
+    *byte == b'\n'
+}
+
+/// Whether a byte is a blank.
+pub(crate) fn is_gap(byte: &u8) -> bool {
+    is_blank(*byte)
 }
 
 /// What stands from a place on; nothing where the text ends before it.

@@ -1,5 +1,6 @@
 //! What editors of other systems leave in a text: a byte-order mark in front, and a CR before each newline.
 use crate::edit::push_all;
+use crate::location::is_newline;
 use ly_base::OutOfMemory;
 use std::alloc::Global;
 
@@ -20,10 +21,7 @@ pub(crate) fn without_marks(
 ) -> Result<Vec<u8>, OutOfMemory> {
     let marked = text.strip_prefix(BYTE_ORDER_MARK);
     let mut plain = Vec::from_slice(alloc, if marked.is_some() { front } else { b"" })?;
-    for line in marked
-        .unwrap_or(text)
-        .split_inclusive(|byte| *byte == b'\n')
-    {
+    for line in marked.unwrap_or(text).split_inclusive(is_newline) {
         let parts: [&[u8]; 2] = match line.strip_suffix(b"\r\n") {
             Some(line) => [line, b"\n"],
             None => [line, b""],

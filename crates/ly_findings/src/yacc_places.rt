@@ -76,9 +76,10 @@ impl<'t> Seen<'t> {
 fn is_terminal(word: &[u8], terminal: &TerminalName) -> bool {
     match terminal {
         TerminalName::Token(name) => word == name.as_slice(),
-        TerminalName::Literal(byte) => {
-            literal(word).is_some_and(|(found, _length)| found == *byte)
-        }
+        TerminalName::Literal(byte) => match literal(word) {
+            Some((found, _length)) => found == *byte,
+            None => false,
+        },
         TerminalName::End | TerminalName::Undefined => false,
     }
 }
@@ -103,7 +104,11 @@ pub(crate) fn symbol_location(
     let spans = word_spans(alloc, text)?;
     for (place, span) in spans.iter().enumerate() {
         let next = spans.get(place.saturating_add(1));
-        seen = seen.behind(span.word(text), next.map_or(b"", |span| span.word(text)));
+        let next: &[u8] = match next {
+            Some(span) => span.word(text),
+            None => b"",
+        };
+        seen = seen.behind(span.word(text), next);
         if !seen.is_at_fault(fault) {
             continue;
         }

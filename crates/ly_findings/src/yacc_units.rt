@@ -1,4 +1,5 @@
 //! What a word of a yacc file stands in, where it is refused: so its words needn't be those of a yacc file.
+use crate::location::is_newline;
 use crate::pieces::behind_piece;
 use ly_base::{Language, after_gap, is_blank, leading_name};
 
@@ -92,7 +93,7 @@ pub(crate) fn declaration_length(text: &[u8]) -> usize {
 /// does.
 pub(crate) fn length_to_percent(text: &[u8]) -> usize {
     let mut length: usize = 0;
-    for (place, line) in text.split(|byte| *byte == b'\n').enumerate() {
+    for (place, line) in text.split(is_newline).enumerate() {
         if place > 0 && line.starts_with(b"%") && !line.starts_with(b"%}") {
             return length.saturating_sub(1);
         }
