@@ -1,5 +1,5 @@
 //! The names of a lex file's start conditions.
-use crate::location::{is_gap, is_newline};
+use crate::location::{is_blank_byte, is_newline};
 use ly_base::OutOfMemory;
 use std::alloc::Global;
 
@@ -20,7 +20,7 @@ pub fn known_conditions(alloc: Global, text: &[u8]) -> Result<Vec<&[u8]>, OutOfM
 
 /// Adds the names behind the first word of a line that begins with it, as far as there are not too many.
 fn push_declared<'t>(known: &mut Vec<&'t [u8]>, line: &'t [u8]) -> Result<(), OutOfMemory> {
-    for name in line.split(is_gap).skip(1) {
+    for name in line.split(is_blank_byte).skip(1) {
         if !name.is_empty() && known.len() < MOST {
             known.push(name)?;
         }

@@ -3,7 +3,7 @@ use crate::conditions::known_conditions;
 use crate::edit::push_all;
 use crate::lex_places::defined_names;
 use crate::lex_units::{Kind, Unit, first_line};
-use crate::location::{from_place, is_gap, is_newline, line_start};
+use crate::location::{from_place, is_blank_byte, is_newline, line_start};
 use crate::nearest::MOST_NAMES;
 use ly_base::{Language, OutOfMemory, leading_name};
 use ly_lexread::LexFault;
@@ -62,7 +62,7 @@ fn push_declaration<'t>(
     known: &mut Vec<&'t [u8]>,
     line: &'t [u8],
 ) -> Result<(), OutOfMemory> {
-    let mut words = line.split(is_gap).filter(|word| !word.is_empty());
+    let mut words = line.split(is_blank_byte).filter(|word| !word.is_empty());
     declaration.extend_from_slice(words.next().unwrap_or(b""))?;
     for word in words.take(MOST_NAMES - 1) {
         push_new(declaration, known, word)?;

@@ -1,7 +1,7 @@
 //! The columns of the faults of a lex file, of which its reader says the lines.
 use crate::edit::push_all;
 use crate::lex_units::{Kind, Unit, action_start, first_line, leading_blanks, pattern_start};
-use crate::location::{Location, from_place, is_gap, is_newline, line_start};
+use crate::location::{Location, from_place, is_blank_byte, is_newline, line_start};
 use crate::nearest::MOST_NAMES;
 use ly_base::{Language, Limits, OutOfMemory, leading_name};
 use ly_ere::{EreFault, Names, expression_length, read_pattern};
@@ -87,7 +87,9 @@ fn pattern_column(
     }
     let names = known_names(alloc, text, limits)?;
     let longest = longest_pattern(alloc, pattern, &names, limits)?;
-    let whole = from_place(pattern, longest).first().is_none_or(is_gap);
+    let whole = from_place(pattern, longest)
+        .first()
+        .is_none_or(is_blank_byte);
     Ok(if whole { 0 } else { longest })
 }
 

@@ -61,7 +61,7 @@ pub(crate) fn line_length(text: &[u8]) -> usize {
 /// How many bytes stand before the first blank of the first line.
 pub(crate) fn length_to_blank(text: &[u8]) -> usize {
     let line = text.get(..line_length(text)).unwrap_or(text);
-    line.iter().position(is_gap).unwrap_or(line.len())
+    line.iter().position(is_blank_byte).unwrap_or(line.len())
 }
 
 /// Whether a byte ends a line.
@@ -70,7 +70,7 @@ pub(crate) fn is_newline(byte: &u8) -> bool {
 }
 
 /// Whether a byte is a blank.
-pub(crate) fn is_gap(byte: &u8) -> bool {
+pub(crate) fn is_blank_byte(byte: &u8) -> bool {
     is_blank(*byte)
 }
 
