@@ -18,7 +18,7 @@ const MOST: usize = 50;
 #[derive(Clone, Copy)]
 struct Teller<'a> {
     /// The files.
-    files: &'a Accepted<'a>,
+    files: Accepted<'a>,
     /// Where symbols and rules stand.
     places: &'a Places,
 }
@@ -51,7 +51,7 @@ pub(crate) fn say_doubts(
 ) -> Result<(), OutOfMemory>
     requires { IsBreadthFirst files.now.dfa.now }
 {
-    let teller = Teller { files, places };
+    let teller = Teller { files: *files, places };
     let before = page.len();
     teller.say_of_lex(alloc, page)?;
     teller.say_of_yacc(alloc, page)?;
@@ -64,7 +64,7 @@ pub(crate) fn say_doubts(
 impl Teller<'_> {
     /// Says what is doubtful in the lex file.
     fn say_of_lex(&self, alloc: Global, page: &mut Page) -> Result<(), OutOfMemory>
-        requires { IsBreadthFirst self.now.files.now.dfa.now }
+        requires { IsBreadthFirst self.now.files.dfa.now }
     {
         self.say_surprises(alloc, page)?;
         self.say_indented(page);
@@ -73,7 +73,7 @@ impl Teller<'_> {
 
     /// Says what is doubtful in the yacc file.
     fn say_of_yacc(&self, alloc: Global, page: &mut Page) -> Result<(), OutOfMemory>
-        requires { IsBreadthFirst self.now.files.now.dfa.now }
+        requires { IsBreadthFirst self.now.files.dfa.now }
     {
         self.say_removed(page);
         self.say_unreduced(alloc, page)?;
@@ -114,7 +114,7 @@ impl Teller<'_> {
 
     /// Says which rules of the lex file never match.
     fn say_unmatched(&self, alloc: Global, page: &mut Page) -> Result<(), OutOfMemory>
-        requires { IsBreadthFirst self.now.files.now.dfa.now }
+        requires { IsBreadthFirst self.now.files.dfa.now }
     {
         for rule in &unmatched_rules(alloc, self.files.file.rules.len(), self.files.dfa)? {
             self.say_lex_rule(page, *rule);
@@ -145,7 +145,7 @@ impl Teller<'_> {
 
     /// Says which terminals stand in no rule, and which of the others no rule of the lex file returns.
     fn say_terminals(&self, alloc: Global, page: &mut Page) -> Result<(), OutOfMemory>
-        requires { IsBreadthFirst self.now.files.now.dfa.now }
+        requires { IsBreadthFirst self.now.files.dfa.now }
     {
         let unused = unused_terminals(alloc, self.files.spec)?;
         self.say_all_so(page, &unused, &[], STANDS_NOWHERE);
