@@ -51,7 +51,10 @@ pub(crate) fn say_doubts(
 ) -> Result<(), OutOfMemory>
     requires { IsBreadthFirst files.now.dfa.now }
 {
-    let teller = Teller { files: *files, places };
+    let teller = Teller {
+        files: *files,
+        places,
+    };
     let before = page.len();
     teller.say_of_lex(alloc, page)?;
     teller.say_of_yacc(alloc, page)?;
