@@ -1,5 +1,5 @@
 //! The commands that answer a text.
-use crate::end::End;
+use crate::completion::Completion;
 use crate::failure::Failure;
 use crate::files::{STANDARD, open};
 use ly_base::Counted;
@@ -33,7 +33,7 @@ pub fn answer_text<'a, F: Files, I: Read, O: Write>(
     text: Option<&'a str>,
     input: &mut I,
     output: &mut O,
-) -> Result<End, Failure<'a>> {
+) -> Result<Completion, Failure<'a>> {
     match text {
         Some(path) => {
             let mut file = open(files, path)?;
@@ -50,20 +50,20 @@ fn answer_by<'a, I: Read, O: Write>(
     path: &'a str,
     text: &mut I,
     output: &mut O,
-) -> Result<End, Failure<'a>> {
+) -> Result<Completion, Failure<'a>> {
     let mut reader = Counted::new(text);
     let mut writer = Counted::new(output);
     match rules {
         Rules::Tokens(lex) => match tokens(alloc, lex, &mut reader, &mut writer) {
-            Ok(end) => Ok(End::of_text(end == TokenEnd::Clean)),
+            Ok(end) => Ok(Completion::of_text(end == TokenEnd::Clean)),
             Err(fault) => Err(of_tokens(fault, path)),
         },
         Rules::Tables(tables) => match drive(alloc, tables, &mut reader, &mut writer) {
-            Ok(outcome) => Ok(End::of_text(matches!(outcome, Outcome::Tree))),
+            Ok(outcome) => Ok(Completion::of_text(matches!(outcome, Outcome::Tree))),
             Err(fault) => Err(of_drive(fault, path)),
         },
         Rules::Both { lex, yacc } => match answer(alloc, lex, yacc, &mut reader, &mut writer) {
-            Ok(outcome) => Ok(End::of_text(matches!(outcome, Outcome::Tree))),
+            Ok(outcome) => Ok(Completion::of_text(matches!(outcome, Outcome::Tree))),
             Err(fault) => Err(of_answer(fault, path)),
         },
     }

@@ -1,5 +1,5 @@
 //! The command `build`.
-use crate::end::End;
+use crate::completion::Completion;
 use crate::failure::Failure;
 use crate::files::{STANDARD, read_file, write_file, write_to};
 use ly_base::{Limits, Version};
@@ -19,7 +19,7 @@ pub fn build_tables<'a, F: Files, O: Write>(
     paths: Paths<'a>,
     version: Version,
     output: &mut O,
-) -> Result<End, Failure<'a>> {
+) -> Result<Completion, Failure<'a>> {
     let lex = read_file(files, alloc, paths.lex)?;
     let yacc = read_file(files, alloc, paths.yacc)?;
     let report = match paths.report {
@@ -34,5 +34,5 @@ pub fn build_tables<'a, F: Files, O: Write>(
         write_file(files, path, report)?;
     }
     write_to(output, STANDARD, &line)?;
-    Ok(End::Done)
+    Ok(Completion::Done)
 }

@@ -1,5 +1,5 @@
 //! The command `check`.
-use crate::end::End;
+use crate::completion::Completion;
 use crate::failure::Failure;
 use crate::files::{STANDARD, read_file, write_to};
 use ly_tables::{SetCounts, TableFault, counts, read_tables};
@@ -13,11 +13,11 @@ pub fn check_tables<'a, F: Files, O: Write>(
     alloc: Global,
     path: &'a str,
     output: &mut O,
-) -> Result<End, Failure<'a>> {
+) -> Result<Completion, Failure<'a>> {
     let bytes = read_file(files, alloc, path)?;
     let line = line_of(alloc, counts_of(alloc, &bytes)?)?;
     write_to(output, STANDARD, line.as_bytes())?;
-    Ok(End::Done)
+    Ok(Completion::Done)
 }
 
 /// How many there are of what the table file of these bytes is made of.

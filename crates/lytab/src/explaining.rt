@@ -1,5 +1,5 @@
 //! The command `explain`.
-use crate::end::End;
+use crate::completion::Completion;
 use crate::failure::Failure;
 use crate::files::{FileFault, STANDARD, read_file, write_file, write_to};
 use ly_base::Limits;
@@ -17,7 +17,7 @@ pub fn explain_files<'a, F: Files, O: Write>(
     alloc: Global,
     paths: ExplainPaths<'a>,
     output: &mut O,
-) -> Result<End, Failure<'a>> {
+) -> Result<Completion, Failure<'a>> {
     let lex = read_or_say_why(files, alloc, paths.lex)?;
     let yacc = read_or_say_why(files, alloc, paths.yacc)?;
     let wish = Wish {
@@ -40,7 +40,7 @@ pub fn explain_files<'a, F: Files, O: Write>(
         write_file(files, path, picture)?;
     }
     write_to(output, STANDARD, &explanation.text)?;
-    Ok(End::of_files(explanation.accepted))
+    Ok(Completion::of_files(explanation.accepted))
 }
 
 /// Reads a file whole. A failure has the system's reason, where a second look at the file finds one.

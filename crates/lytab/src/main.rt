@@ -1,13 +1,14 @@
 //! The program: reads its words, and does what they ask for.
 //!
 //! `ly_words` finds the command in the words; `perform` carries it out: `answering` has the commands with a text,
-//! `building`, `checking` and `explaining` the others. `end` says how they end, `failure` tells why there is no answer.
+//! `building`, `checking` and `explaining` the others. `completion` says how they are completed, `failure` why there is
+//! no answer.
 #![tactic(auto)]
 
 mod answering;
 mod building;
 mod checking;
-mod end;
+mod completion;
 mod explaining;
 mod failure;
 mod files;

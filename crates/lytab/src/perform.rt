@@ -6,7 +6,7 @@ ghost use Rattle.ly_words.specs.Request.{Request};
 use crate::answering::{Rules, answer_text};
 use crate::building::build_tables;
 use crate::checking::check_tables;
-use crate::end::End;
+use crate::completion::Completion;
 use crate::explaining::explain_files;
 use crate::failure::{Failure, told};
 use crate::files::{STANDARD, read_file};
@@ -42,7 +42,7 @@ pub fn perform<F: Files, I: Read, O: Write, E: Write>(
 {
     match read_command(alloc, words) {
         Ok(command) => match carry_out(files, alloc, command, input, output) {
-            Ok(end) => end.status(),
+            Ok(completion) => completion.status(),
             Err(failure) => told(alloc, failure, faults),
         },
         Err(CommandFault::Help(text)) => match write!(output, "{text}") {
@@ -65,7 +65,7 @@ fn carry_out<'a, F: Files, I: Read, O: Write>(
     command: Command<'a>,
     input: &mut I,
     output: &mut O,
-) -> Result<End, Failure<'a>> {
+) -> Result<Completion, Failure<'a>> {
     match command {
         Command::Tokens { lex, text } => {
             let lex = read_file(files, alloc, lex)?;
