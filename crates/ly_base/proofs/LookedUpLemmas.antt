@@ -9,17 +9,18 @@ use Rattle.std.proofs.lemmas.List.{get_or-map, length-map, map_push}
 use Rattle.std.proofs.lemmas.List.Quantifiers.{position-Some}
 use Rattle.ly_base.specs.Keys.{IsAbsent}
 
+-- lists whose elements are equal, by a test, are equal
+pub lists_same : {X : Type 0} (test : X → X → Bool) → ((x y : X) → test x y ≡ true → x ≡ y) → (s t : List X)
+    → pointwise test s t ≡ true → s ≡ t
+lists_same test one [] [] h = refl
+lists_same test one [] (y ∷ t) h = absurd (cc)
+lists_same test one (x ∷ s) [] h = absurd (cc)
+lists_same test one (x ∷ s) (y ∷ t) h =
+    let p = and_parts (test x y) (pointwise test s t) h in
+    ap (λ z. z ∷ s) (one x y p.0) ∙ ap (λ r. y ∷ r) (lists_same test one s t p.1)
+
 module _ {X : Type 0} (test : X → X → Bool) (one : (x y : X) → test x y ≡ true → x ≡ y)
     (itself : (x : X) → test x x ≡ true) where
-  -- keys that pass the test are one
-  same_key : (s t : List X) → pointwise test s t ≡ true → s ≡ t
-  same_key [] [] h = refl
-  same_key [] (y ∷ t) h = absurd (cc)
-  same_key (x ∷ s) [] h = absurd (cc)
-  same_key (x ∷ s) (y ∷ t) h =
-      let p = and_parts (test x y) (pointwise test s t) h in
-      ap (λ z. z ∷ s) (one x y p.0) ∙ ap (λ r. y ∷ r) (same_key s t p.1)
-
   key_same : (s : List X) → pointwise test s s ≡ true
   key_same [] = refl
   key_same (x ∷ s) = rw (itself x, key_same s) refl
@@ -41,7 +42,7 @@ module _ {X : Type 0} (test : X → X → Bool) (one : (x y : X) → test x y �
     none_from_absent : (ks : List K) → IsAbsent (map f ks) key → list_any (λ k. pointwise test key (f k)) ks ≡ false
     none_from_absent [] h = refl
     none_from_absent (k ∷ ks) h = elim (cases_Bool (pointwise test key (f k))) [
-      | inl passes ↦ absurd (h 0 (omega arith) (sym (same_key key (f k) passes)))
+      | inl passes ↦ absurd (h 0 (omega arith) (sym (lists_same test one key (f k) passes)))
       | inr not ↦ rw not (none_from_absent ks (λ n l e. h (suc n) (omega (arith, l)) e))
     ]
 
@@ -50,7 +51,7 @@ module _ {X : Type 0} (test : X → X → Bool) (one : (x y : X) → test x y �
     found_at [] n e = absurd (cc)
     found_at (k ∷ ks) n e = let h = position-Some (λ k. pointwise test key (f k)) (k ∷ ks) n k e in (
       rw (length-map (k ∷ ks) f) h.0,
-      get_or-map f (k ∷ ks) n k [] h.0 ∙ sym (same_key key (f (get_or (k ∷ ks) n k)) h.1),
+      get_or-map f (k ∷ ks) n k [] h.0 ∙ sym (lists_same test one key (f (get_or (k ∷ ks) n k)) h.1),
     )
 
     -- what a look-up answers

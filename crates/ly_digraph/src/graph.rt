@@ -52,22 +52,6 @@ impl Graph {
         })
     }
 
-    /// The graph of so many nodes with the listed edges.
-    pub fn from_edges(
-        alloc: Global,
-        nodes: usize,
-        edges: &[(usize, usize)],
-    ) -> Result<Graph, OutOfMemory>
-        requires { All (IsInside nodes) edges.now }
-        ensures { IfOk result (λ g. g ≡ record { nodes = nodes; edges = edges.now }) }
-    {
-        let mut graph = Graph::new(alloc, nodes)?;
-        for &(from, to) in edges {
-            graph.add(from, to)?;
-        }
-        Ok(graph)
-    }
-
     /// Adds the edge `from -> to` behind the others. After the fault the graph is as it was.
     pub fn add(&mut self, from: usize, to: usize) -> Result<(), OutOfMemory>
         requires { IsInside self.old.nodes (from, to) }

@@ -51,7 +51,6 @@ impl Conditions {
         ensures { IfOk result (λ conditions. conditions ≡ self ++ (name.now, exclusive) ∷ []) }
     {
         if self.exclusive.len() >= u32::MAX as usize {
-            drop(self);
             return Err(AllocError);
         }
         self.names.insert(Vec::from_slice(alloc, name)?)?;

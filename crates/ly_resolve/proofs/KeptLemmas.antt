@@ -9,7 +9,6 @@ use Rattle.std.proofs.lemmas.List.{length-map, map-append}
 use Rattle.std.proofs.lemmas.List.Elements.{All-head, All-tail}
 use Rattle.std.specs.declared.alloc.Global.{Global}
 use Rattle.std.specs.declared.vec.Vec.{Vec}
-use lib.Pointwise.{pointwise}
 use Rattle.ly_resolve.specs.Private.ActionRows.{kept_row, last_row, rows_from}
 use Rattle.ly_resolve.specs.Resolved.{TerminalAction}
 use Rattle.ly_resolve.specs.Values.{terminal_action_from}
@@ -18,16 +17,6 @@ use Rattle.ly_resolve.specs.contracts.action.TerminalActionPartialEq.TheImpl as 
 use Rattle.ly_resolve.specs.declared.action.Action as code
 use Rattle.ly_resolve.specs.declared.action.Action.TheVariants.{Error, Reduce, Shift}
 use Rattle.ly_resolve.specs.declared.action.TerminalAction as entry
-
--- lists whose elements are equal, by a test, are equal
-pub lists_same : {X : Type 0} (E : X → X → Bool) → ((x y : X) → E x y ≡ true → x ≡ y) → (s t : List X)
-    → pointwise E s t ≡ true → s ≡ t
-lists_same E same [] [] h = refl
-lists_same E same [] (y ∷ t) h = absurd (cc)
-lists_same E same (x ∷ s) [] h = absurd (cc)
-lists_same E same (x ∷ s) (y ∷ t) h =
-    let p = and_parts (E x y) (pointwise E s t) h in
-    ap (λ z. z ∷ s) (same x y p.0) ∙ ap (λ r. y ∷ r) (lists_same E same s t p.1)
 
 -- actions that pass the test are the same
 abbrev pub same_action : code.Action → code.Action → Bool

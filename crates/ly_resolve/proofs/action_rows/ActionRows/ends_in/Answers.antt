@@ -1,7 +1,8 @@
 use Rattle.std.proofs.Common.{◌≡◌, ◌<◌, ◌-◌, ◌∙◌, ap, arith, length, map, subst, sym}
 use Rattle.ly_resolve.specs.Private.ActionRows.{last_row}
 use Rattle.ly_resolve.specs.Values.{terminal_action_from}
-use Rattle.ly_resolve.proofs.KeptLemmas.{entry_same, kept_at, lists_same}
+use Rattle.ly_base.proofs.LookedUpLemmas.{lists_same}
+use Rattle.ly_resolve.proofs.KeptLemmas.{entry_same, kept_at}
 use Rattle.ly_resolve.proofs.action_rows.ActionRows.ends_in.Goals as goal
 
 pub returns-in-Some : goal.returns-in-Some
