@@ -1,8 +1,7 @@
-//! Reading all of a source and writing all of an answer, with devices that fail, that are slow and that don't.
+//! Reading all of a source and writing all of an answer, with devices that fail and that don't.
 
-use ly_base::{Counted, MemSink, MemSource, ReadFault, WriteFault, read_whole, write_whole};
+use ly_base::{MemSink, MemSource, ReadFault, WriteFault, read_whole, write_whole};
 use std::alloc::{AllocError, Global};
-use std::io::{self, Read};
 use std::test::Fail;
 
 const BYTES: &[u8] = b"1+2*3";
@@ -62,33 +61,4 @@ fn devices_to_their_end(rt: HostRuntime) -> Result<(), Fail> {
 #[test]
 fn devices_to_their_failure(rt: HostRuntime) {
     assert_eq!(rt; untold(rt.alloc()), None);
-}
-
-/// Gives one byte a read, as a pipe may.
-#[derive(Drop)]
-struct Slow {
-    left: usize,
-}
-
-impl Read for Slow {
-    fn read(&mut self, buf: &mut [u8]) -> io::Result<usize> {
-        if self.left == 0 || buf.is_empty() {
-            return Ok(0);
-        }
-        self.left -= 1;
-        buf[0] = b'a';
-        Ok(1)
-    }
-}
-
-/// Whether so many bytes are read, one a read.
-fn are_read(alloc: Global, count: usize) -> Result<bool, ReadFault> {
-    let read = read_whole(alloc, &mut Counted::new(Slow { left: count }))?;
-    Ok(read.len() == count && read.iter().all(|byte| *byte == b'a'))
-}
-
-#[test]
-fn five_thousand_reads_of_one_byte(rt: HostRuntime) -> Result<(), Fail> {
-    assert!(rt; are_read(rt.alloc(), 5_000)?);
-    Ok(())
 }

@@ -52,18 +52,14 @@ const FIRST_LEAF: TermRef = TermRef::ShortLeaf {
 /// Calls of one parser, each a terminal, of which 0 is the end, and the answer to it.
 type Calls<'a> = &'a [(u32, Wanted)];
 
-/// Texts of no token, of one and of two: accepted, or refused at each place.
-const TEXTS: [Calls<'static>; 6] = [
+/// Texts of no token, of one and of two: accepted, or refused at each place; and calls behind an answer.
+const RUNS: [Calls<'static>; 9] = [
     &[(0, FIRST)],
     &[(1, FIRST)],
     &[(2, MORE), (0, LEAF)],
     &[(2, MORE), (1, SECOND)],
     &[(2, MORE), (2, SECOND)],
     &[(2, MORE), (0, LEAF), (2, OVER), (0, OVER)],
-];
-
-/// Calls behind a refusal.
-const BEHIND: [Calls<'static>; 3] = [
     &[
         (0, FIRST),
         (0, OVER),
@@ -131,12 +127,7 @@ fn is_wanted(answer: &Result<Step, ParseFault>, wanted: Wanted) -> bool {
 }
 
 /// Whether a parser refused the token of this number, which stands at this byte, and expects these terminals.
-pub(crate) fn is_refused(
-    answer: &Result<Step, ParseFault>,
-    number: u64,
-    at: u64,
-    terminals: &[Sym],
-) -> bool {
+fn is_refused(answer: &Result<Step, ParseFault>, number: u64, at: u64, terminals: &[Sym]) -> bool {
     match answer {
         Ok(
             Step::Refused {
@@ -150,7 +141,7 @@ pub(crate) fn is_refused(
 }
 
 /// Feeds a parser with a token of one byte, or with the end, which is terminal 0; both stand at byte 5.
-pub(crate) fn call<A: Rows<TableAction> + Drop, G: Rows<StateNo> + Drop>(
+fn call<A: Rows<TableAction> + Drop, G: Rows<StateNo> + Drop>(
     parser: &mut Parser<'_, A, G>,
     terminal: u32,
 ) -> Result<Step, ParseFault>
@@ -218,12 +209,6 @@ fn both_so(alloc: Global, runs: &[Calls<'_>]) -> Result<bool, OutOfMemory> {
 
 #[test]
 fn rows_apart_and_laid_are_answered_alike(rt: HostRuntime) -> Result<(), Fail> {
-    assert!(rt; both_so(rt.alloc(), &TEXTS)?);
-    Ok(())
-}
-
-#[test]
-fn a_parse_is_over_behind_a_refusal(rt: HostRuntime) -> Result<(), Fail> {
-    assert!(rt; both_so(rt.alloc(), &BEHIND)? && ParseFault::Over.number() == Some(91));
+    assert!(rt; both_so(rt.alloc(), &RUNS)? && ParseFault::Over.number() == Some(91));
     Ok(())
 }

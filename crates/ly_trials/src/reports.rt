@@ -1,17 +1,13 @@
-//! Reports of two files: what is written, what is answered, and which part refuses them.
+//! Reports of two files: what is written, what is answered, which part refuses them, and limits that are met exactly.
 
 use ly_base::{Limits, MemSink};
 use ly_engine::{GenFault, generate_report};
 use std::alloc::Global;
 
-const LEX: &[u8] = b"%%\n[a-z]+ return X;\n";
+/// Each byte returns its literal.
+const BYTES: &[u8] = b"%%\n. return yytext[0];\n";
 
-const YACC: &[u8] = b"%token IF ELSE X\n%%s : IF s | IF s ELSE s | X ;";
-
-const REPORT: &[u8] = b"removed rules: 0\nconflicts: 1 shift/reduce, 0 reduce/reduce\n\
-    shift/reduce after [IF s] before ELSE: shift, not rule 1\n";
-
-/// Writes the report of two files, and answers whether they are free of conflicts.
+/// Writes the report of two files, and answers whether no two actions are asked for anywhere.
 fn report_into(
     alloc: Global,
     lex: &[u8],
@@ -20,6 +16,87 @@ fn report_into(
     sink: &mut MemSink,
 ) -> Result<bool, GenFault> {
     generate_report(alloc, lex, yacc, limits, sink)
+}
+
+const NO_CONFLICTS: &[u8] = b"removed rules: 0\nconflicts: 0 shift/reduce, 0 reduce/reduce\n";
+
+const DANGLING_ELSE: &[u8] = b"%token IF ELSE X\n%%s : IF s | IF s ELSE s | X ;";
+
+/// Yacc files, whether no two actions are asked for anywhere, which no run shows, and their reports.
+const REPORTS: [(&[u8], bool, &[u8]); 8] = [
+    (b"%%s : ;", true, NO_CONFLICTS),
+    (
+        b"%token ID\n%%s : l '=' r | r ; l : '*' r | ID ; r : l ;",
+        true,
+        NO_CONFLICTS,
+    ),
+    (
+        b"%left '+'\n%left '*'\n%%e : e '+' e | e '*' e | 'n' ;",
+        false,
+        NO_CONFLICTS,
+    ),
+    (
+        b"%token ID\n%nonassoc '<'\n%%e : e '<' e | ID ;",
+        false,
+        NO_CONFLICTS,
+    ),
+    (
+        b"%left LO\n%left 't'\n%left HI\n\
+          %%s : a 't' | b 't' | 'x' 't' ; a : 'x' %prec HI ; b : 'x' %prec LO ;",
+        false,
+        NO_CONFLICTS,
+    ),
+    (
+        b"%%s : 'x' ; t : 'y' ;",
+        true,
+        b"removed rules: 1\nremoved rule 2: t : 'y'\nconflicts: 0 shift/reduce, 0 reduce/reduce\n",
+    ),
+    (
+        b"%%s : a | b ; a : 'x' ; b : 'x' ;",
+        false,
+        b"removed rules: 0\nconflicts: 0 shift/reduce, 1 reduce/reduce\n\
+          reduce/reduce after ['x'] before $end: rule 3, not rule 4\n",
+    ),
+    (
+        DANGLING_ELSE,
+        false,
+        b"removed rules: 0\nconflicts: 1 shift/reduce, 0 reduce/reduce\n\
+          shift/reduce after [IF s] before ELSE: shift, not rule 1\n",
+    ),
+];
+
+/// Whether it is so of a yacc file.
+fn is_reported_so(alloc: Global, yacc: &[u8], free: bool, wanted: &[u8]) -> bool {
+    let mut sink = MemSink::new(alloc);
+    let found = report_into(alloc, BYTES, yacc, &Limits::V2, &mut sink);
+    matches!(found, Ok(found) if found == free) && sink.bytes() == wanted
+}
+
+/// The number of the first of `REPORTS` for which it is otherwise.
+fn reported_otherwise(alloc: Global) -> Option<usize> {
+    for (number, (yacc, free, wanted)) in REPORTS.iter().enumerate() {
+        if !is_reported_so(alloc, yacc, *free, wanted) {
+            return Some(number);
+        }
+    }
+    None
+}
+
+#[test]
+fn reports_are_written_whole(rt: HostRuntime) {
+    assert_eq!(rt; reported_otherwise(rt.alloc()), None);
+}
+
+/// Whether a failed write is told, with how much of the report went out.
+fn tells_of_a_failed_write(alloc: Global) -> bool {
+    let mut sink = MemSink::failing_after(alloc, 9);
+    let free = report_into(alloc, BYTES, DANGLING_ELSE, &Limits::V2, &mut sink);
+    matches!(free, Err(GenFault::Write { written: 9 })) && sink.bytes() == b"removed r".as_slice()
+}
+
+#[test]
+fn a_report_stops_where_its_writer_fails(rt: HostRuntime) {
+    assert!(rt; tells_of_a_failed_write(rt.alloc()));
 }
 
 /// What refuses two files, by a letter; `-` where nothing does.
@@ -47,87 +124,62 @@ fn letter(fault: &GenFault) -> u8 {
     }
 }
 
-/// Whether the report of files with a conflict is written.
-fn is_written_whole(alloc: Global) -> bool {
-    let mut sink = MemSink::new(alloc);
-    let free = report_into(alloc, LEX, YACC, &Limits::V2, &mut sink);
-    matches!(free, Ok(false)) && sink.bytes() == REPORT
-}
-
-#[test]
-fn a_report_is_written_whole(rt: HostRuntime) {
-    assert!(rt; is_written_whole(rt.alloc()));
-}
-
-/// Whether a failed write is told, with how much of the report went out.
-fn tells_of_a_failed_write(alloc: Global) -> bool {
-    let mut sink = MemSink::failing_after(alloc, 9);
-    let free = report_into(alloc, LEX, YACC, &Limits::V2, &mut sink);
-    matches!(free, Err(GenFault::Write { written: 9 })) && sink.bytes() == b"removed r".as_slice()
-}
-
-#[test]
-fn a_report_stops_where_its_writer_fails(rt: HostRuntime) {
-    assert!(rt; tells_of_a_failed_write(rt.alloc()));
-}
-
-/// Lex files and yacc files, and what refuses them. Where several would, it is the first of this order.
-const REFUSED: [(&[u8], &[u8], u8); 7] = [
-    (b"a", b"a", b'l'),
-    (LEX, b"a", b'y'),
-    (LEX, b"%%s : q ;", b'j'),
-    (b"%%\na return Y;\n", YACC, b'j'),
-    (LEX, b"%token X\n%%s : s X ;", b'g'),
-    (LEX, b"%token X\n%start s\n%%a : a | X ; s : a ;", b'e'),
-    (LEX, YACC, b'-'),
-];
-
-/// The number of the first of `REFUSED` that something else refuses.
-fn refused_otherwise(alloc: Global) -> Option<usize> {
-    for (number, (lex, yacc, wanted)) in REFUSED.iter().enumerate() {
-        if refusal(alloc, lex, yacc, &Limits::V2) != *wanted {
-            return Some(number);
-        }
-    }
-    None
-}
-
-#[test]
-fn each_part_refuses_in_its_turn(rt: HostRuntime) {
-    assert_eq!(rt; refused_otherwise(rt.alloc()), None);
-}
-
 const SMALL: &[u8] = b"%%s : 'x' ;";
 
 const CALC: &[u8] =
     b"%token NUM\n%left '+'\n%left '*'\n%%e : e '+' e | e '*' e | '(' e ')' | NUM ;";
 
-/// Yacc files, limits of the scanner's and of the parser's states, and what refuses them.
-const LIMITED: [(&[u8], u32, u32, u8); 7] = [
-    (SMALL, 2, 3, b'-'),
-    (SMALL, 2, 2, b'a'),
-    (SMALL, 1, 3, b's'),
-    (CALC, 2, 10, b'-'),
-    (CALC, 2, 9, b'a'),
-    (b"%%s : ;", 2, 1, b'a'),
-    (b"%%s : ;", 2, 0, b'a'),
-];
-
-/// A lex file with the literal of `SMALL`.
 const LITERAL: &[u8] = b"%%\nx return 'x';\n";
 
-/// What refuses a yacc file under limits of the scanner's and of the parser's states.
-fn refusal_by_states(alloc: Global, yacc: &[u8], scanner: u32, parser: u32) -> u8 {
-    let limits = Limits::V2
+const ABB: &[u8] = b"%%\n(a|b)*abb return 'x';\n";
+
+const OVERLAPPING: &[u8] = b"%%\n[a-c] return 'x';\n[c-e] return 'y';\n";
+
+/// A lex file and a yacc file; limits of weight, of the scanner's states, of the parser's states and of symbols; and what
+/// refuses the files.
+type Limited<'a> = (&'a [u8], &'a [u8], [u32; 4], u8);
+
+/// Each limit met exactly, and passed by one; and of several parts that would refuse files the first one.
+const LIMITED: [Limited<'static>; 22] = [
+    (b"a", b"a", [9, 9, 9, 9], b'l'),
+    (BYTES, b"a", [9, 9, 9, 9], b'y'),
+    (BYTES, b"%%s : q ;", [9, 9, 9, 9], b'j'),
+    (b"%%\na return Y;\n", SMALL, [9, 9, 9, 9], b'j'),
+    (BYTES, b"%%s : s 'x' ;", [9, 9, 9, 9], b'g'),
+    (BYTES, b"%start s\n%%a : a | 'x' ; s : a ;", [9; 4], b'e'),
+    (b"%%\na{8} return 'x';\n", SMALL, [8, 9, 9, 9], b'-'),
+    (b"%%\na{9} return 'x';\n", SMALL, [8, 9, 9, 9], b'l'),
+    (b"%%\na{4} ;\nb{4} ;\n", SMALL, [8, 9, 9, 9], b'-'),
+    (b"%%\na{4} ;\nb{5} ;\n", SMALL, [8, 9, 9, 9], b'p'),
+    (ABB, SMALL, [9, 4, 9, 9], b'-'),
+    (ABB, SMALL, [9, 3, 9, 9], b's'),
+    (OVERLAPPING, SMALL, [9, 4, 9, 9], b'-'),
+    (OVERLAPPING, SMALL, [9, 3, 9, 9], b's'),
+    (LITERAL, SMALL, [9, 2, 3, 9], b'-'),
+    (LITERAL, SMALL, [9, 2, 2, 9], b'a'),
+    (LITERAL, SMALL, [9, 1, 3, 9], b's'),
+    (LITERAL, CALC, [9, 2, 10, 9], b'-'),
+    (LITERAL, CALC, [9, 2, 9, 9], b'a'),
+    (LITERAL, b"%%s : ;", [9, 2, 0, 9], b'a'),
+    (LITERAL, SMALL, [9, 9, 9, 5], b'-'),
+    (LITERAL, SMALL, [9, 9, 9, 4], b'j'),
+];
+
+/// These limits.
+fn limits_of(limits: [u32; 4]) -> Limits {
+    let [weight, scanner, parser, symbols] = limits;
+    Limits::V2
+        .with_pattern_weight(weight)
+        .with_total_weight(weight)
         .with_scanner_states(scanner)
-        .with_parser_states(parser);
-    refusal(alloc, LITERAL, yacc, &limits)
+        .with_parser_states(parser)
+        .with_symbols(symbols)
 }
 
 /// The number of the first of `LIMITED` that something else refuses.
-fn limited_otherwise(alloc: Global) -> Option<usize> {
-    for (number, (yacc, scanner, parser, wanted)) in LIMITED.iter().enumerate() {
-        if refusal_by_states(alloc, yacc, *scanner, *parser) != *wanted {
+fn refused_otherwise(alloc: Global) -> Option<usize> {
+    for (number, (lex, yacc, limits, wanted)) in LIMITED.iter().enumerate() {
+        if refusal(alloc, lex, yacc, &limits_of(*limits)) != *wanted {
             return Some(number);
         }
     }
@@ -135,28 +187,6 @@ fn limited_otherwise(alloc: Global) -> Option<usize> {
 }
 
 #[test]
-fn limits_of_states_are_met_exactly(rt: HostRuntime) {
-    assert_eq!(rt; limited_otherwise(rt.alloc()), None);
-}
-
-/// What refuses `SMALL` under a limit of the weight of all patterns.
-fn refusal_by_weight(alloc: Global, weight: u32) -> u8 {
-    refusal(alloc, LITERAL, SMALL, &Limits::V2.with_total_weight(weight))
-}
-
-/// What refuses it under a limit of the symbols.
-fn refusal_by_symbols(alloc: Global, symbols: u32) -> u8 {
-    refusal(alloc, LITERAL, SMALL, &Limits::V2.with_symbols(symbols))
-}
-
-/// Whether no weight, five symbols and four are met exactly.
-fn are_met_exactly(alloc: Global) -> bool {
-    refusal_by_weight(alloc, 0) == b'p'
-        && refusal_by_symbols(alloc, 5) == b'-'
-        && refusal_by_symbols(alloc, 4) == b'j'
-}
-
-#[test]
-fn limits_of_weight_and_of_symbols_are_met_exactly(rt: HostRuntime) {
-    assert!(rt; are_met_exactly(rt.alloc()));
+fn each_limit_is_met_exactly(rt: HostRuntime) {
+    assert_eq!(rt; refused_otherwise(rt.alloc()), None);
 }

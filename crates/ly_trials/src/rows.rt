@@ -1,7 +1,6 @@
 //! Rows of entries that stand apart and that are laid over one another, and tables of both kinds.
 
 use ly_base::{OutOfMemory, RuleNo, RuleTree, StateNo, Sym};
-use ly_loop::steady;
 use ly_pack::{
     Comb, Dense, Machine, MachineParts, Packed, Rows, TableAction, TableRule, comb, pack,
 };
@@ -96,35 +95,4 @@ pub(crate) fn laid_by_hand(
     alloc: Global,
 ) -> Result<Machine<Packed<TableAction>, Packed<StateNo>>, OutOfMemory> {
     pack(alloc, by_hand(alloc)?)
-}
-
-/// Whether tables are accepted as steady.
-fn is_steady<A: Rows<TableAction> + Drop, G: Rows<StateNo> + Drop>(
-    alloc: Global,
-    machine: &Machine<A, G>,
-) -> bool {
-    steady(alloc, machine).is_ok()
-}
-
-/// Whether those over rows that stand apart are.
-fn apart_are_steady(alloc: Global) -> Result<bool, OutOfMemory> {
-    let machine = by_hand(alloc)?;
-    let steady = is_steady(alloc, &machine);
-    drop(machine);
-    Ok(steady)
-}
-
-/// Whether those over rows that are laid over one another are.
-fn laid_are_steady(alloc: Global) -> Result<bool, OutOfMemory> {
-    let machine = laid_by_hand(alloc)?;
-    let steady = is_steady(alloc, &machine);
-    drop(machine);
-    Ok(steady)
-}
-
-#[test]
-fn machines_are_steady(rt: HostRuntime) -> Result<(), Fail> {
-    assert!(rt; apart_are_steady(rt.alloc())?);
-    assert!(rt; laid_are_steady(rt.alloc())?);
-    Ok(())
 }

@@ -1,6 +1,6 @@
 //! Sets by lanes beside plain sums, at widths round the ends of words and blocks.
 
-use ly_base::{OutOfMemory, SparseSet, Sym};
+use ly_base::{OutOfMemory, Sym};
 use ly_sets::{SetMatrix, TermSet};
 use std::alloc::Global;
 use std::test::Fail;
@@ -139,16 +139,5 @@ fn otherwise(alloc: Global) -> Result<Option<u32>, OutOfMemory> {
 #[test]
 fn sets_of_each_width(rt: HostRuntime) -> Result<(), Fail> {
     assert_eq!(rt; otherwise(rt.alloc())?, None);
-    Ok(())
-}
-
-#[test]
-fn a_sparse_set_of_seventy_thousand(rt: HostRuntime) -> Result<(), Fail> {
-    let mut set = SparseSet::new(rt.alloc(), 70_000)?;
-    let mut new = true;
-    for number in 0..70_000u32 {
-        new &= set.insert(number);
-    }
-    assert!(rt; new && set.members().len() == 70_000);
     Ok(())
 }
