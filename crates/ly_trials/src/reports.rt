@@ -135,8 +135,8 @@ const ABB: &[u8] = b"%%\n(a|b)*abb return 'x';\n";
 
 const OVERLAPPING: &[u8] = b"%%\n[a-c] return 'x';\n[c-e] return 'y';\n";
 
-/// A lex file and a yacc file; limits of weight, of the scanner's states, of the parser's states and of symbols; and what
-/// refuses the files.
+/// A lex file and a yacc file; limits of weight, of the scanner's states, of the parser's states and of symbols; and
+/// what refuses the files.
 type Limited<'a> = (&'a [u8], &'a [u8], [u32; 4], u8);
 
 /// Each limit met exactly, and passed by one; and of several parts that would refuse files the first one.

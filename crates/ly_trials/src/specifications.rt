@@ -44,8 +44,8 @@ fn specification(alloc: Global, yacc: &[u8]) -> Result<Spec, Fail> {
     specification_under(alloc, &lex, yacc)
 }
 
-/// Rules that derive the empty string, of which those of `a` and `b` may begin with `'x'`, and those of `a` and `c` with
-/// `'y'`.
+/// Rules that derive the empty string, of which those of `a` and `b` may begin with `'x'`, and those of `a` and `c`
+/// with `'y'`.
 const NULLABLE: &[u8] = b"%left 'y'\n%%a : b c ; b : | 'x' ; c : | 'y' ;";
 
 /// Whether a specification has all parts of `NULLABLE`, where `'x'` is the last terminal.
