@@ -1,11 +1,11 @@
 //! Tests over the crates: what no run of the program shows, and public functions that no run calls.
 //!
-//! `Dense` is the smallest walk that a scanner can have. `docs/testing.md` says what is tested where.
+//! `RowWalk` is the smallest walk that a scanner can have. `docs/testing.md` says what is tested where.
 #![tactic(auto)]
 
-mod dense;
+mod row_walk;
 
-pub use dense::{Dense, Row};
+pub use row_walk::{Row, RowWalk};
 
 #[cfg(test)]
 mod answers;

@@ -1,6 +1,6 @@
 //! The longest match over rows that were made by hand.
 
-use crate::dense::{Dense, Row};
+use crate::row_walk::{Row, RowWalk};
 use ly_base::{Cut, RuleNo};
 use ly_scan::{Match, next_match};
 use std::alloc::{AllocError, Global};
@@ -140,12 +140,12 @@ fn rows(alloc: Global) -> Result<Vec<Row>, AllocError> {
 
 /// Whether the match at the front of a text is so over rows, and none is found from a condition that there isn't.
 fn is_matched_so(rows: &[Row], text: &[u8], line: bool, cut: Cut, wanted: Match) -> bool {
-    let dense = Dense {
+    let walk = RowWalk {
         rows,
         starts: &[[1, 0]],
         cuts: &[Cut::Whole, cut],
     };
-    next_match(&dense, 0, line, text) == wanted && next_match(&dense, 1, line, text) == Match::Stuck
+    next_match(&walk, 0, line, text) == wanted && next_match(&walk, 1, line, text) == Match::Stuck
 }
 
 /// The number of the first of `MATCHES` that isn't so.

@@ -1,6 +1,6 @@
 //! The smallest walk that a scanner can have: dense rows, made by hand.
 
-ghost use Rattle.ly_trials.specs.Dense.{dense_ahead, dense_cut, dense_ends, dense_walk, led, next_state, start_entry};
+ghost use Rattle.ly_trials.specs.RowWalk.{rows_ahead, rows_cut, rows_ends, rows_walk, led, next_state, start_entry};
 ghost use Rattle.std.specs.Prelude.{◌≡◌, ⊤};
 
 use ly_base::{Cut, RuleNo};
@@ -17,7 +17,7 @@ pub struct Row {
 
 /// A walk over dense rows.
 #[derive(Clone, Copy)]
-pub struct Dense<'a> {
+pub struct RowWalk<'a> {
     /// The states.
     pub rows: &'a [Row],
     /// Of each condition one more than the state where it starts, off and on a line start, or 0.
@@ -26,18 +26,18 @@ pub struct Dense<'a> {
     pub cuts: &'a [Cut],
 }
 
-impl Steps for Dense<'_> {
+impl Steps for RowWalk<'_> {
     type At = u16;
 
-    ghost walk = { λ d. dense_walk d.rows.now d.starts.now };
+    ghost walk = { λ d. rows_walk d.rows.now d.starts.now };
 
-    ghost ahead = { λ d at. dense_ahead d.rows.now at };
+    ghost ahead = { λ d at. rows_ahead d.rows.now at };
 
     ghost stands = { λ d at. ⊤ };
 
-    ghost ahead_by = { λ d. dense_ahead d.rows.now };
+    ghost ahead_by = { λ d. rows_ahead d.rows.now };
 
-    ghost cut_of = { λ d. dense_cut d.cuts.now };
+    ghost cut_of = { λ d. rows_cut d.cuts.now };
 
     fn start(&self, condition: u32, at_line_start: bool) -> Option<u16> {
         led(start_entry(self.starts, condition, at_line_start))
@@ -66,7 +66,7 @@ impl Steps for Dense<'_> {
         }
     }
 
-    ghost stays_ended = { λ d condition line text more h. dense_ends d.rows.now d.starts.now condition line text
+    ghost stays_ended = { λ d condition line text more h. rows_ends d.rows.now d.starts.now condition line text
         more h };
 }
 

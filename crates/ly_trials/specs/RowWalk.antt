@@ -4,7 +4,7 @@ use Rattle.std.specs.Prelude.{slice_get, slice_index, refl, option_map, option_a
 use Rattle.std.proofs.Common.{◌∙◌, ap, rules}
 use Rattle.ly_base.specs.declared.cut.Cut.{Cut}
 use Rattle.ly_base.specs.declared.cut.Cut.TheVariants.{Whole}
-use Rattle.ly_trials.specs.declared.dense.Row.{Row}
+use Rattle.ly_trials.specs.declared.row_walk.Row.{Row}
 
 -- the state that an entry leads to
 abbrev pub led : ℕ → Option ℕ
@@ -25,8 +25,8 @@ abbrev pub rule_in : List Row → ℕ → Option ℕ
 rule_in rows state = option_map (λ r. r.0) (option_and_then (λ row. row.rule) (slice_get rows state))
 
 -- what the rows say of bytes, from a state
-abbrev pub dense_ahead : List Row → ℕ → List ℕ → Option (Option ℕ)
-dense_ahead rows state text = option_map (rule_in rows) (run rows (Some state) text)
+abbrev pub rows_ahead : List Row → ℕ → List ℕ → Option (Option ℕ)
+rows_ahead rows state text = option_map (rule_in rows) (run rows (Some state) text)
 
 -- the entry of a start, or 0
 abbrev pub start_entry : List (List ℕ) → ℕ → Bool → ℕ
@@ -38,13 +38,13 @@ abbrev pub first_state : List (List ℕ) → ℕ → Bool → Option ℕ
 first_state starts condition line = led (start_entry starts condition line)
 
 -- what the rows say of bytes, from the start of a condition
-abbrev pub dense_walk : List Row → List (List ℕ) → ℕ → Bool → List ℕ → Option (Option ℕ)
-dense_walk rows starts condition line text
+abbrev pub rows_walk : List Row → List (List ℕ) → ℕ → Bool → List ℕ → Option (Option ℕ)
+rows_walk rows starts condition line text
     = option_map (rule_in rows) (run rows (first_state starts condition line) text)
 
 -- the cut of a rule
-abbrev pub dense_cut : List Cut → ℕ → Cut
-dense_cut cuts rule = unwrap_or (slice_get cuts rule) Whole
+abbrev pub rows_cut : List Cut → ℕ → Cut
+rows_cut cuts rule = unwrap_or (slice_get cuts rule) Whole
 
 run-append : (rows : List Row) (o : Option ℕ) (t u : List ℕ) → run rows o (t ++ u) ≡ run rows (run rows o t) u
 run-append rows None [] u = refl
@@ -57,8 +57,8 @@ no_map f None h = refl
 no_map f (Some a) h = search rules
 
 -- a walk that has ended stays so
-pub dense_ends : (rows : List Row) (starts : List (List ℕ)) (c : ℕ) (l : Bool) (t u : List ℕ)
-    → dense_walk rows starts c l t ≡ None → dense_walk rows starts c l (t ++ u) ≡ None
-dense_ends rows starts c l t u h =
+pub rows_ends : (rows : List Row) (starts : List (List ℕ)) (c : ℕ) (l : Bool) (t u : List ℕ)
+    → rows_walk rows starts c l t ≡ None → rows_walk rows starts c l (t ++ u) ≡ None
+rows_ends rows starts c l t u h =
     ap (option_map (rule_in rows)) (run-append rows (first_state starts c l) t u
     ∙ ap (λ o. run rows o u) (no_map (rule_in rows) _ h))
