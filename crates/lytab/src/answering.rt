@@ -1,12 +1,18 @@
 //! The commands that answer a text.
+ghost use Rattle.std.specs.Prelude.{◌≡◌, IfErr, IfOk, IsSome, None};
+ghost use Rattle.lytab.specs.Answering.{IsAnswered, IsAnsweredByFiles, IsAnsweredByTables, IsBegun, IsBegunByFiles};
+ghost use Rattle.lytab.specs.Answering.{IsBegunByTables, IsPrinted, IsPrintedInPart, text_from};
+ghost use Rattle.lytab.specs.Devices.{AreTold, AreWritesTold};
+ghost use Rattle.lytab.specs.Failure.{IsOfWriter};
+ghost use Rattle.lytab.specs.Refusal.{IsRefusal, IsRefusalOfFiles, IsRefusalOfLex, IsRefusalOfTables};
+
 use crate::completion::Completion;
 use crate::failure::Failure;
 use crate::files::{STANDARD, open};
-use ly_base::Counted;
-use ly_drive::{DriveFault, Outcome, drive};
-use ly_engine::{AnswerFault, GenFault, TokenEnd, TokensFault, answer, tokens};
+use ly_base::{Counted, Sink, Source};
+use ly_drive::{DriveFault, drive};
+use ly_engine::{AnswerFault, GenFault, TokensFault, answer, tokens};
 use std::alloc::Global;
-use std::io::{Read, Write};
 use std::rt::Files;
 
 /// What a text is answered by: the bytes of the files that are asked for.
@@ -25,18 +31,29 @@ pub enum Rules<'a> {
     },
 }
 
-/// Answers a text, standard input if there is no path. It is opened before anything is judged.
-pub fn answer_text<'a, F: Files, I: Read, O: Write>(
+/// Answers a text, standard input if there is no path. A file is opened before anything is judged.
+pub fn answer_text<'a, F: Files, R: Source, W: Sink>(
     files: &F,
     alloc: Global,
     rules: Rules<'_>,
     text: Option<&'a str>,
-    input: &mut I,
-    output: &mut O,
-) -> Result<Completion, Failure<'a>> {
+    input: &mut R,
+    output: &mut W,
+) -> Result<Completion, Failure<'a>>
+    ensures answered { IfOk result (IsAnswered rules.entry (text_from text.entry (R.remaining input.old))
+        (W.contents output.old) (W.contents output.new)) }
+    ensures refused { IfErr result (IsRefusal rules.entry (text_from text.entry (R.remaining input.old))) }
+    ensures told { text.entry ≡ None → AreTold result (R.failures input.old) (R.failures input.new)
+        (W.failures output.old) (W.failures output.new) }
+    ensures unread { IsSome text.entry → input.new ≡ input.old }
+    ensures written { AreWritesTold result (W.failures output.old) (W.failures output.new) }
+    ensures beginning { IfErr result (λ f. IsOfWriter f → IsBegun rules.entry
+        (text_from text.entry (R.remaining input.old)) (W.contents output.old) (W.contents output.new)) }
+    ensures untouched { IfErr result (λ f. (IsOfWriter f → ⊥) → output.new ≡ output.old) }
+{
     match text {
         Some(path) => {
-            let mut file = open(files, path)?;
+            let mut file = Counted::new(open(files, path)?);
             answer_by(alloc, rules, path, &mut file, output)
         }
         None => answer_by(alloc, rules, STANDARD, input, output),
@@ -44,62 +61,109 @@ pub fn answer_text<'a, F: Files, I: Read, O: Write>(
 }
 
 /// Answers all that a reader of this name gives.
-fn answer_by<'a, I: Read, O: Write>(
+fn answer_by<'a, R: Source, W: Sink>(
     alloc: Global,
     rules: Rules<'_>,
     path: &'a str,
-    text: &mut I,
-    output: &mut O,
-) -> Result<Completion, Failure<'a>> {
-    let mut reader = Counted::new(text);
-    let mut writer = Counted::new(output);
+    reader: &mut R,
+    writer: &mut W,
+) -> Result<Completion, Failure<'a>>
+    ensures answered { IfOk result (IsAnswered rules.entry (R.remaining reader.old) (W.contents writer.old)
+        (W.contents writer.new)) }
+    ensures refused { IfErr result (IsRefusal rules.entry (R.remaining reader.old)) }
+    ensures told { AreTold result (R.failures reader.old) (R.failures reader.new) (W.failures writer.old)
+        (W.failures writer.new) }
+    ensures beginning { IfErr result (λ f. IsOfWriter f → IsBegun rules.entry (R.remaining reader.old)
+        (W.contents writer.old) (W.contents writer.new)) }
+    ensures untouched { IfErr result (λ f. (IsOfWriter f → ⊥) → writer.new ≡ writer.old) }
+{
     match rules {
-        Rules::Tokens(lex) => match tokens(alloc, lex, &mut reader, &mut writer) {
-            Ok(end) => Ok(Completion::of_text(end == TokenEnd::Clean)),
-            Err(fault) => Err(of_tokens(fault, path)),
-        },
-        Rules::Tables(tables) => match drive(alloc, tables, &mut reader, &mut writer) {
-            Ok(outcome) => Ok(Completion::of_text(matches!(outcome, Outcome::Tree))),
-            Err(fault) => Err(of_drive(fault, path)),
-        },
-        Rules::Both { lex, yacc } => match answer(alloc, lex, yacc, &mut reader, &mut writer) {
-            Ok(outcome) => Ok(Completion::of_text(matches!(outcome, Outcome::Tree))),
-            Err(fault) => Err(of_answer(fault, path)),
-        },
+        Rules::Tokens(lex) => print_tokens(alloc, lex, path, reader, writer),
+        Rules::Tables(tables) => answer_by_tables(alloc, tables, path, reader, writer),
+        Rules::Both { lex, yacc } => answer_by_files(alloc, lex, yacc, path, reader, writer),
     }
 }
 
-/// Why a text of this name has no tokens.
-fn of_tokens<'a>(fault: TokensFault, path: &'a str) -> Failure<'a> {
-    match fault {
-        TokensFault::Lex(fault) => Failure::Refused(GenFault::Lex(fault)),
-        TokensFault::Positions(fault) => Failure::Refused(GenFault::Positions(fault)),
-        TokensFault::States(fault) => Failure::Refused(GenFault::States(fault)),
-        TokensFault::Read => Failure::CannotRead(path),
-        TokensFault::Write { .. } => Failure::CannotWrite(STANDARD),
-        TokensFault::OutOfMemory => Failure::OutOfMemory,
+/// Prints the tokens of all that a reader of this name gives.
+fn print_tokens<'a, R: Source, W: Sink>(
+    alloc: Global,
+    lex: &[u8],
+    path: &'a str,
+    reader: &mut R,
+    writer: &mut W,
+) -> Result<Completion, Failure<'a>>
+    ensures answered { IfOk result (IsPrinted lex.now (R.remaining reader.old) (W.contents writer.old)
+        (W.contents writer.new)) }
+    ensures refused { IfErr result (IsRefusalOfLex lex.now) }
+    ensures told { AreTold result (R.failures reader.old) (R.failures reader.new) (W.failures writer.old)
+        (W.failures writer.new) }
+    ensures beginning { IfErr result (λ f. IsOfWriter f → IsPrintedInPart lex.now (R.remaining reader.old)
+        (W.contents writer.old) (W.contents writer.new)) }
+    ensures untouched { IfErr result (λ f. (IsOfWriter f → ⊥) → writer.new ≡ writer.old) }
+{
+    match tokens(alloc, lex, reader, writer) {
+        Ok(end) => Ok(Completion::of_tokens(end)),
+        Err(TokensFault::Lex(fault)) => Err(Failure::Refused(GenFault::Lex(fault))),
+        Err(TokensFault::Positions(fault)) => Err(Failure::Refused(GenFault::Positions(fault))),
+        Err(TokensFault::States(fault)) => Err(Failure::Refused(GenFault::States(fault))),
+        Err(TokensFault::Read) => Err(Failure::CannotRead(path)),
+        Err(TokensFault::Write { .. }) => Err(Failure::CannotWrite(STANDARD)),
+        Err(TokensFault::OutOfMemory) => Err(Failure::OutOfMemory),
     }
 }
 
-/// Why a text of this name has no answer by a table file.
-fn of_drive<'a>(fault: DriveFault, path: &'a str) -> Failure<'a> {
-    match fault {
-        DriveFault::Tables(fault) => Failure::Tables(fault),
-        DriveFault::TableFault => Failure::FaultyTables,
-        DriveFault::TooLong => Failure::TooLong,
-        DriveFault::Read => Failure::CannotRead(path),
-        DriveFault::Write { .. } => Failure::CannotWrite(STANDARD),
-        DriveFault::OutOfMemory => Failure::OutOfMemory,
+/// Answers all that a reader of this name gives, by a table file.
+fn answer_by_tables<'a, R: Source, W: Sink>(
+    alloc: Global,
+    tables: &[u8],
+    path: &'a str,
+    reader: &mut R,
+    writer: &mut W,
+) -> Result<Completion, Failure<'a>>
+    ensures answered { IfOk result (IsAnsweredByTables tables.now (R.remaining reader.old) (W.contents writer.old)
+        (W.contents writer.new)) }
+    ensures refused { IfErr result (IsRefusalOfTables tables.now (R.remaining reader.old)) }
+    ensures told { AreTold result (R.failures reader.old) (R.failures reader.new) (W.failures writer.old)
+        (W.failures writer.new) }
+    ensures beginning { IfErr result (λ f. IsOfWriter f → IsBegunByTables tables.now (R.remaining reader.old)
+        (W.contents writer.old) (W.contents writer.new)) }
+    ensures untouched { IfErr result (λ f. (IsOfWriter f → ⊥) → writer.new ≡ writer.old) }
+{
+    match drive(alloc, tables, reader, writer) {
+        Ok(outcome) => Ok(Completion::of_outcome(&outcome)),
+        Err(DriveFault::Tables(fault)) => Err(Failure::Tables(fault)),
+        Err(DriveFault::TableFault) => Err(Failure::FaultyTables),
+        Err(DriveFault::TooLong) => Err(Failure::TooLong),
+        Err(DriveFault::Read) => Err(Failure::CannotRead(path)),
+        Err(DriveFault::Write { .. }) => Err(Failure::CannotWrite(STANDARD)),
+        Err(DriveFault::OutOfMemory) => Err(Failure::OutOfMemory),
     }
 }
 
-/// Why a text of this name has no answer by a lex file and a yacc file.
-fn of_answer<'a>(fault: AnswerFault, path: &'a str) -> Failure<'a> {
-    match fault {
-        AnswerFault::Refused(fault) => Failure::Refused(fault),
-        AnswerFault::TooLong => Failure::TooLong,
-        AnswerFault::Read => Failure::CannotRead(path),
-        AnswerFault::Write { .. } => Failure::CannotWrite(STANDARD),
-        AnswerFault::OutOfMemory => Failure::OutOfMemory,
+/// Answers all that a reader of this name gives, by a lex file and a yacc file.
+fn answer_by_files<'a, R: Source, W: Sink>(
+    alloc: Global,
+    lex: &[u8],
+    yacc: &[u8],
+    path: &'a str,
+    reader: &mut R,
+    writer: &mut W,
+) -> Result<Completion, Failure<'a>>
+    ensures answered { IfOk result (IsAnsweredByFiles lex.now yacc.now (R.remaining reader.old)
+        (W.contents writer.old) (W.contents writer.new)) }
+    ensures refused { IfErr result (IsRefusalOfFiles lex.now yacc.now (R.remaining reader.old)) }
+    ensures told { AreTold result (R.failures reader.old) (R.failures reader.new) (W.failures writer.old)
+        (W.failures writer.new) }
+    ensures beginning { IfErr result (λ f. IsOfWriter f → IsBegunByFiles lex.now yacc.now (R.remaining reader.old)
+        (W.contents writer.old) (W.contents writer.new)) }
+    ensures untouched { IfErr result (λ f. (IsOfWriter f → ⊥) → writer.new ≡ writer.old) }
+{
+    match answer(alloc, lex, yacc, reader, writer) {
+        Ok(outcome) => Ok(Completion::of_outcome(&outcome)),
+        Err(AnswerFault::Refused(fault)) => Err(Failure::Refused(fault)),
+        Err(AnswerFault::TooLong) => Err(Failure::TooLong),
+        Err(AnswerFault::Read) => Err(Failure::CannotRead(path)),
+        Err(AnswerFault::Write { .. }) => Err(Failure::CannotWrite(STANDARD)),
+        Err(AnswerFault::OutOfMemory) => Err(Failure::OutOfMemory),
     }
 }

@@ -1,38 +1,64 @@
 //! The command `build`.
+ghost use Rattle.std.specs.Prelude.{◌≡◌, IfErr, IfOk};
+ghost use Rattle.ly_base.specs.Limits.{version_2};
+ghost use Rattle.ly_report.specs.Report.{counts_line};
+ghost use Rattle.lytab.specs.CarriedOut.{IsBuilt};
+ghost use Rattle.lytab.specs.Failure.{IsOfWriter};
+
 use crate::completion::Completion;
 use crate::failure::Failure;
-use crate::files::{STANDARD, read_file, write_file, write_to};
-use ly_base::{Limits, Version};
-use ly_engine::{Report, build};
+use crate::files::{FileFault, read_file, write_file};
+use ly_base::{Limits, Sink, Version};
+use ly_engine::{Built, ConflictCounts, Report, build};
 use ly_report::push_counts;
 use ly_words::Paths;
-use std::alloc::Global;
-use std::io::Write;
+use std::alloc::{AllocError, Global};
 use std::rt::Files;
 
 /// Writes the table file of a lex file and a yacc file in a version, their report if it is asked for, and to standard
 /// output how many conflicts there are. Both files are read before anything is judged, and nothing is written before it
 /// is known.
-pub fn build_tables<'a, F: Files, O: Write>(
+pub fn build_tables<'a, F: Files, W: Sink>(
     files: &F,
     alloc: Global,
     paths: Paths<'a>,
     version: Version,
-    output: &mut O,
-) -> Result<Completion, Failure<'a>> {
+    output: &mut W,
+) -> Result<Completion, Failure<'a>>
+    ensures built { IfOk result (IsBuilt version_2 version (W.contents output.old) (W.contents output.new)) }
+    ensures untouched { IfErr result (λ f. (IsOfWriter f → ⊥) → output.new ≡ output.old) }
+{
     let lex = read_file(files, alloc, paths.lex)?;
     let yacc = read_file(files, alloc, paths.yacc)?;
     let report = match paths.report {
         Some(_) => Report::Wanted,
         None => Report::Unwanted,
     };
-    let built = build(alloc, &lex, &yacc, &Limits::V2, version, report)?;
+    let limits = Limits::version_2();
+    let built = build(alloc, &lex, &yacc, &limits, version, report)?;
+    let line = conflicts_line(alloc, &built.conflicts)?;
+    write_files(files, paths, &built)?;
+    Completion::Done.said(output, &line)
+}
+
+/// The line that says how many conflicts there are.
+fn conflicts_line(alloc: Global, conflicts: &ConflictCounts) -> Result<Vec<u8>, AllocError>
+    ensures { IfOk result (λ line. line.items ≡ counts_line conflicts.now.shift_reduce conflicts.now.reduce_reduce) }
+{
     let mut line = Vec::new(alloc);
-    push_counts(&mut line, &built.conflicts)?;
+    push_counts(&mut line, conflicts)?;
+    Ok(line)
+}
+
+/// Writes the table file, and the report if it is asked for.
+fn write_files<'a, F: Files>(
+    files: &F,
+    paths: Paths<'a>,
+    built: &Built,
+) -> Result<(), FileFault<'a>> {
     write_file(files, paths.tables, &built.tables)?;
-    if let (Some(path), Some(report)) = (paths.report, &built.report) {
-        write_file(files, path, report)?;
+    match (paths.report, &built.report) {
+        (Some(path), Some(report)) => write_file(files, path, report),
+        _ => Ok(()),
     }
-    write_to(output, STANDARD, &line)?;
-    Ok(Completion::Done)
 }

@@ -1,6 +1,14 @@
 //! How a command is completed.
-ghost use Rattle.std.specs.Prelude.{◌≡◌, ◌≤◌, MatchBool};
+ghost use Rattle.std.specs.Prelude.{◌≡◌, IfErr, IfOk, MatchBool};
+ghost use Rattle.std.specs.Io.KnownBytes.{Appends};
+ghost use Rattle.lytab.specs.Completion.{completion_of_outcome, completion_of_tokens, completion_status};
+ghost use Rattle.lytab.specs.Failure.{IsOfWriter};
 ghost use Rattle.lytab.specs.declared.completion.Completion.TheVariants as completion;
+
+use crate::failure::Failure;
+use crate::files::{STANDARD, write_to};
+use ly_base::Sink;
+use ly_engine::{Outcome, TokenEnd};
 
 /// How a command is completed where nothing fails.
 #[derive(Clone, Copy)]
@@ -14,14 +22,23 @@ pub enum Completion {
 }
 
 impl Completion {
-    /// That of a command that answers a text, which is taken or refused.
-    pub fn of_text(is_taken: bool) -> Completion
-        ensures { MatchBool is_taken (result ≡ completion.Done) (result ≡ completion.TextRefused) }
+    /// That of a command that prints tokens, which end so.
+    pub fn of_tokens(end: TokenEnd) -> Completion
+        ensures { result ≡ completion_of_tokens end }
     {
-        if is_taken {
-            Completion::Done
-        } else {
-            Completion::TextRefused
+        match end {
+            TokenEnd::Clean => Completion::Done,
+            TokenEnd::Stuck { .. } => Completion::TextRefused,
+        }
+    }
+
+    /// That of a command that answers a text so.
+    pub fn of_outcome(outcome: &Outcome) -> Completion
+        ensures { result ≡ completion_of_outcome outcome.now }
+    {
+        match outcome {
+            Outcome::Tree => Completion::Done,
+            Outcome::Syntax { .. } | Outcome::NoRule { .. } => Completion::TextRefused,
         }
     }
 
@@ -36,12 +53,21 @@ impl Completion {
         }
     }
 
+    /// Writes what a command says to standard output, which completes it so.
+    pub fn said<'a, W: Sink>(self, output: &mut W, text: &[u8]) -> Result<Completion, Failure<'a>>
+        ensures said { IfOk result (λ c. (c ≡ self)
+            × Appends (W.contents output.old) (W.contents output.new) text.now) }
+        ensures untouched { IfErr result (λ f. (IsOfWriter f → ⊥) → output.new ≡ output.old) }
+    {
+        match write_to(output, STANDARD, text) {
+            Ok(()) => Ok(self),
+            Err(fault) => Err(Failure::from(fault)),
+        }
+    }
+
     /// The exit status.
     pub fn status(self) -> u8
-        ensures few { result ≤ 2 }
-        ensures done { self ≡ completion.Done → result ≡ 0 }
-        ensures text { self ≡ completion.TextRefused → result ≡ 1 }
-        ensures files { self ≡ completion.FilesRefused → result ≡ 2 }
+        ensures { result ≡ completion_status self }
     {
         match self {
             Completion::Done => 0,

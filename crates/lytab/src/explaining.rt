@@ -1,23 +1,30 @@
 //! The command `explain`.
+ghost use Rattle.std.specs.Prelude.{◌≡◌, IfErr, IfOk};
+ghost use Rattle.lytab.specs.CarriedOut.{IsSaid};
+ghost use Rattle.lytab.specs.Failure.{IsOfWriter};
+
 use crate::completion::Completion;
 use crate::failure::Failure;
-use crate::files::{FileFault, STANDARD, read_file, write_file, write_to};
-use ly_base::Limits;
-use ly_explanation::{Named, Wish, explain};
+use crate::files::{FileFault, read_file, write_file};
+use ly_base::{Limits, Sink};
+use ly_explanation::{Explanation, Named, Wish, explain};
 use ly_words::ExplainPaths;
 use std::alloc::Global;
 use std::fs;
-use std::io::{self, Read, Write};
+use std::io::{self, Read};
 use std::rt::Files;
 
 /// Writes to standard output what there is to say of a lex file and a yacc file, and, where they are accepted, the
 /// states of their parser and a picture of them if they are asked for. Both files are read before anything is judged.
-pub fn explain_files<'a, F: Files, O: Write>(
+pub fn explain_files<'a, F: Files, W: Sink>(
     files: &F,
     alloc: Global,
     paths: ExplainPaths<'a>,
-    output: &mut O,
-) -> Result<Completion, Failure<'a>> {
+    output: &mut W,
+) -> Result<Completion, Failure<'a>>
+    ensures said { IfOk result (IsSaid (W.contents output.old) (W.contents output.new)) }
+    ensures untouched { IfErr result (λ f. (IsOfWriter f → ⊥) → output.new ≡ output.old) }
+{
     let lex = read_or_say_why(files, alloc, paths.lex)?;
     let yacc = read_or_say_why(files, alloc, paths.yacc)?;
     let wish = Wish {
@@ -33,14 +40,23 @@ pub fn explain_files<'a, F: Files, O: Write>(
         bytes: &yacc,
     };
     let explanation = explain(alloc, lex, yacc, &Limits::V2, wish)?;
+    write_files(files, paths, &explanation)?;
+    Completion::of_files(explanation.accepted).said(output, &explanation.text)
+}
+
+/// Writes the states of the parser and a picture of them, if they are there and asked for.
+fn write_files<'a, F: Files>(
+    files: &F,
+    paths: ExplainPaths<'a>,
+    explanation: &Explanation,
+) -> Result<(), FileFault<'a>> {
     if let (Some(path), Some(states)) = (paths.states, &explanation.states) {
         write_file(files, path, states)?;
     }
-    if let (Some(path), Some(picture)) = (paths.graph, &explanation.picture) {
-        write_file(files, path, picture)?;
+    match (paths.graph, &explanation.picture) {
+        (Some(path), Some(picture)) => write_file(files, path, picture),
+        _ => Ok(()),
     }
-    write_to(output, STANDARD, &explanation.text)?;
-    Ok(Completion::of_files(explanation.accepted))
 }
 
 /// Reads a file whole. A failure has the system's reason, where a second look at the file finds one.

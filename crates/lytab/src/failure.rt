@@ -1,5 +1,7 @@
 //! Why there is no answer, and the line that says so.
-ghost use Rattle.std.specs.Prelude.{◌≡◌, ◌≤◌};
+ghost use Rattle.std.specs.Prelude.{◌≡◌, ◌⊎◌, ◌≤◌};
+ghost use Rattle.lytab.specs.Failure.{failure_of_file, failure_status};
+ghost use Rattle.lytab.specs.declared.failure.Failure.TheVariants as failure;
 
 use crate::files::{FileFault, STANDARD};
 use ly_base::OutOfMemory;
@@ -38,6 +40,8 @@ pub enum Failure<'a> {
 }
 
 impl<'a> From<FileFault<'a>> for Failure<'a> {
+    ghost from_gives = { λ fault f. f ≡ failure_of_file fault };
+
     fn from(fault: FileFault<'a>) -> Self {
         match fault {
             FileFault::CannotRead(path) => Failure::CannotRead(path),
@@ -48,32 +52,41 @@ impl<'a> From<FileFault<'a>> for Failure<'a> {
 }
 
 impl From<GenFault> for Failure<'_> {
+    ghost from_gives = { λ fault f. f ≡ failure.Refused fault };
+
     fn from(fault: GenFault) -> Self {
         Failure::Refused(fault)
     }
 }
 
 impl From<TableFault> for Failure<'_> {
+    ghost from_gives = { λ fault f. f ≡ failure.Tables fault };
+
     fn from(fault: TableFault) -> Self {
         Failure::Tables(fault)
     }
 }
 
 impl From<OutOfMemory> for Failure<'_> {
+    ghost from_gives = { λ _ f. f ≡ failure.OutOfMemory };
+
     fn from(_error: OutOfMemory) -> Self {
         Failure::OutOfMemory
     }
 }
 
 impl From<AllocError> for Failure<'_> {
+    ghost from_gives = { λ _ f. f ≡ failure.OutOfMemory };
+
     fn from(_error: AllocError) -> Self {
         Failure::OutOfMemory
     }
 }
 
-/// Writes the line of a failure, and answers the exit status.
+/// Writes the line of a failure, and answers the exit status: that of want of memory where there is none for the line.
 pub fn told<E: Write>(alloc: Global, failure: Failure<'_>, faults: &mut E) -> u8
-    ensures { (1 ≤ result) × (result ≤ 3) }
+    ensures range { (1 ≤ result) × (result ≤ 3) }
+    ensures status { (result ≡ failure_status failure.entry) ⊎ (result ≡ 3) }
 {
     let mut line = Vec::new(alloc);
     if push_line(&mut line, &failure).is_err() {
@@ -87,7 +100,8 @@ pub fn told<E: Write>(alloc: Global, failure: Failure<'_>, faults: &mut E) -> u8
 /// The exit status of a failure: 1 where the text is too long, 2 where a file is refused, 3 where a device fails or
 /// memory runs out.
 fn status_of(failure: &Failure<'_>) -> u8
-    ensures { (1 ≤ result) × (result ≤ 3) }
+    ensures range { (1 ≤ result) × (result ≤ 3) }
+    ensures status { result ≡ failure_status failure.entry.now }
 {
     match failure {
         Failure::CannotRead(_)

@@ -1,8 +1,10 @@
 //! Files, read and written whole.
-use ly_base::{Counted, ReadFault, read_whole, write_whole};
+ghost use Rattle.std.specs.Prelude.{◌≡◌, ◌<◌, ℕ, IfErr, length, OnErr, OnOk, take};
+ghost use Rattle.std.specs.Io.KnownBytes.{Appends};
+
+use ly_base::{Counted, ReadFault, Sink, read_whole, write_whole};
 use std::alloc::Global;
 use std::fs;
-use std::io::Write;
 use std::rt::Files;
 
 /// How standard input and output are named.
@@ -20,7 +22,9 @@ pub enum FileFault<'a> {
 }
 
 /// Opens a file to read it.
-pub fn open<'a, F: Files>(files: &F, path: &'a str) -> Result<F::File, FileFault<'a>> {
+pub fn open<'a, F: Files>(files: &F, path: &'a str) -> Result<F::File, FileFault<'a>>
+    ensures { IfErr result (λ fault. fault ≡ FileFault.CannotRead path.entry) }
+{
     match fs::open(files, path) {
         Ok(file) => Ok(file),
         Err(_) => Err(FileFault::CannotRead(path)),
@@ -48,18 +52,23 @@ pub fn write_file<'a, F: Files>(
     bytes: &[u8],
 ) -> Result<(), FileFault<'a>> {
     match fs::create(files, path) {
-        Ok(mut file) => write_to(&mut file, path, bytes),
+        Ok(file) => write_to(&mut Counted::new(file), path, bytes),
         Err(_) => Err(FileFault::CannotWrite(path)),
     }
 }
 
 /// Writes the bytes to a device of this name.
-pub fn write_to<'a, W: Write>(
+pub fn write_to<'a, W: Sink>(
     writer: &mut W,
     path: &'a str,
     bytes: &[u8],
-) -> Result<(), FileFault<'a>> {
-    match write_whole(&mut Counted::new(writer), bytes) {
+) -> Result<(), FileFault<'a>>
+    ensures written { OnOk result (Appends (W.contents writer.old) (W.contents writer.new) bytes.now) }
+    ensures beginning { OnErr result ((written : ℕ) × (written < length bytes.now)
+        × Appends (W.contents writer.old) (W.contents writer.new) (take written bytes.now)) }
+    ensures failed { IfErr result (λ fault. fault ≡ FileFault.CannotWrite path.entry) }
+{
+    match write_whole(writer, bytes) {
         Ok(()) => Ok(()),
         Err(_) => Err(FileFault::CannotWrite(path)),
     }

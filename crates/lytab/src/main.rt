@@ -14,6 +14,7 @@ mod failure;
 mod files;
 mod perform;
 
+use ly_base::Counted;
 use std::env;
 use std::process::ExitCode;
 
@@ -27,8 +28,8 @@ fn main(rt: HostRuntime) -> ExitCode {
         &rt,
         alloc,
         words.as_slice(),
-        &mut rt.stdin(),
-        &mut rt.stdout(),
+        &mut Counted::new(rt.stdin()),
+        &mut Counted::new(rt.stdout()),
         &mut rt.stderr(),
     );
     ExitCode::from(status)

@@ -1,7 +1,9 @@
-ghost use Rattle.std.specs.Prelude.{◌≡◌, ◌≤◌, IfOk, IsSome, map, string_bytes, true};
+ghost use Rattle.std.specs.Prelude.{◌≡◌, ◌≤◌, IfErr, IfOk, IsSome, map, string_bytes, true};
 ghost use Rattle.ly_words.specs.CommandLine.{line_takes, request_of};
 ghost use Rattle.ly_words.specs.Paths.{AskFor};
 ghost use Rattle.ly_words.specs.Request.{Request};
+ghost use Rattle.lytab.specs.CarriedOut.{HasPerformed, IsCarriedOut};
+ghost use Rattle.lytab.specs.Failure.{IsOfWriter};
 
 use crate::answering::{Rules, answer_text};
 use crate::building::build_tables;
@@ -9,13 +11,12 @@ use crate::checking::check_tables;
 use crate::completion::Completion;
 use crate::explaining::explain_files;
 use crate::failure::{Failure, told};
-use crate::files::{STANDARD, read_file};
+use crate::files::read_file;
+use ly_base::{Sink, Source};
 use ly_words::{Command, CommandFault, read_command};
 use std::alloc::Global;
-use std::io::{Read, Write};
+use std::io::Write;
 use std::rt::Files;
-
-const DONE: u8 = 0;
 
 const BAD_WORDS: u8 = 4;
 
@@ -25,29 +26,32 @@ const BAD_WORDS: u8 = 4;
 /// a line that says what failed to `faults`. What is said of files that are explained is the answer, also where they
 /// are refused.
 ///
-/// Tests alone show which status below 4 comes, what is written, and that the engine gets the bytes of the files
-/// that the words name.
-pub fn perform<F: Files, I: Read, O: Write, E: Write>(
+/// What files hold is known to no contract, so what the answer says of them is said for some bytes. Tests alone show
+/// that these are the bytes of the files that the words name, what is written to files and to `faults`, and which
+/// failure comes where there is one.
+pub fn perform<F: Files, R: Source, W: Sink, E: Write>(
     files: &F,
     alloc: Global,
     words: &[String],
-    input: &mut I,
-    output: &mut O,
+    input: &mut R,
+    output: &mut W,
     faults: &mut E,
 ) -> u8
     ensures status { result ≤ 4 }
     ensures words { line_takes (map string_bytes words.now) ≡ true → IsSome (request_of (map string_bytes words.now))
         → result ≤ 3 }
     ensures taken { (request : Request) → AskFor (map string_bytes words.now) request → result ≤ 3 }
+    ensures performed { (request : Request) → AskFor (map string_bytes words.now) request
+        → HasPerformed request (R.remaining input.old) (W.contents output.old) (W.contents output.new) result }
 {
     match read_command(alloc, words) {
         Ok(command) => match carry_out(files, alloc, command, input, output) {
             Ok(completion) => completion.status(),
             Err(failure) => told(alloc, failure, faults),
         },
-        Err(CommandFault::Help(text)) => match write!(output, "{text}") {
-            Ok(()) => DONE,
-            Err(_) => told(alloc, Failure::CannotWrite(STANDARD), faults),
+        Err(CommandFault::Help(text)) => match Completion::Done.said(output, text.as_bytes()) {
+            Ok(completion) => completion.status(),
+            Err(failure) => told(alloc, failure, faults),
         },
         Err(CommandFault::Bad(text)) => {
             let _ = write!(faults, "{text}");
@@ -59,13 +63,17 @@ pub fn perform<F: Files, I: Read, O: Write, E: Write>(
 
 /// Does what a command says. The files that it reads are opened in the order of the words, all but the text read
 /// whole, before anything is judged.
-fn carry_out<'a, F: Files, I: Read, O: Write>(
+fn carry_out<'a, F: Files, R: Source, W: Sink>(
     files: &F,
     alloc: Global,
     command: Command<'a>,
-    input: &mut I,
-    output: &mut O,
-) -> Result<Completion, Failure<'a>> {
+    input: &mut R,
+    output: &mut W,
+) -> Result<Completion, Failure<'a>>
+    ensures completed { IfOk result (IsCarriedOut command.entry (R.remaining input.old) (W.contents output.old)
+        (W.contents output.new)) }
+    ensures untouched { IfErr result (λ f. (IsOfWriter f → ⊥) → output.new ≡ output.old) }
+{
     match command {
         Command::Tokens { lex, text } => {
             let lex = read_file(files, alloc, lex)?;

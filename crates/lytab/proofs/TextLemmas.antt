@@ -1,0 +1,63 @@
+-- What is written for a text that is known is written for some text.
+use Rattle.std.proofs.Common.{IfErr, IfOk, List, None, Option, Result, ℕ}
+use Rattle.ly_generate.proofs.GenFaultLemmas.{err_weaker, ok_weaker}
+use Rattle.ly_drive.specs.Answering.{IsAnsweredBy, IsBegunBy}
+use Rattle.ly_base.specs.Limits.{Sizes}
+use Rattle.ly_base.specs.declared.lexeme.End.{End}
+use Rattle.ly_feed.specs.declared.outcome.Outcome.{Outcome}
+use Rattle.ly_tables.specs.TableSet.{TableSet}
+use Rattle.ly_tokens.specs.Answers.{Answers}
+use Rattle.lytab.specs.Answering.{IsAnswered, IsBegun}
+use Rattle.lytab.specs.Failure.{IsOfWriter}
+use Rattle.lytab.specs.declared.answering.Rules.{Rules}
+use Rattle.lytab.specs.declared.answering.Rules.TheVariants as rules
+use Rattle.lytab.specs.declared.completion.Completion.{Completion}
+use Rattle.lytab.specs.declared.failure.Failure.{Failure}
+
+answers_of_some : {limits : Sizes} {lex : List ℕ} {given : Option (List ℕ)} {e : End} {answer : List ℕ}
+    → Answers limits lex given e answer → Answers limits lex None e answer
+answers_of_some a = record {
+  file = a.file;
+  spelled = a.spelled;
+  light = a.light;
+  within = a.within;
+  few = a.few;
+  text = a.text;
+  is_text = tt;
+  is_answer = a.is_answer;
+}
+
+answered_of_some : (s : TableSet) (given before after : Option (List ℕ)) (o : Outcome)
+    → IsAnsweredBy s given before after o → IsAnsweredBy s None before after o
+answered_of_some s given before after o h = (h.0, h.1, tt, h.3, h.4)
+
+begun_of_some : (s : TableSet) (given before after : Option (List ℕ)) (written : ℕ)
+    → IsBegunBy s given before after written → IsBegunBy s None before after written
+begun_of_some s given before after written h = (h.0, h.1, h.2, tt, h.4, h.5, h.6)
+
+some_answered : (r : Rules) (given before after : Option (List ℕ)) (c : Completion)
+    → IsAnswered r given before after c → IsAnswered r None before after c
+some_answered (rules.Tokens lex) given before after c h = (h.0, h.1, answers_of_some h.2, h.3, h.4)
+some_answered (rules.Tables tables) given before after c h =
+    (h.0, h.1, h.2, answered_of_some h.1 given before after h.0 h.3, h.4)
+some_answered (rules.Both lex yacc) given before after c h =
+    (h.0, h.1, h.2, answered_of_some h.1 given before after h.0 h.3, h.4)
+
+some_begun : (r : Rules) (given before after : Option (List ℕ)) → IsBegun r given before after
+    → IsBegun r None before after
+some_begun (rules.Tokens lex) given before after h = (h.0, h.1, h.2, answers_of_some h.3, h.4, h.5)
+some_begun (rules.Tables tables) given before after h =
+    (h.0, h.1, h.2, begun_of_some h.1 given before after h.0 h.3)
+some_begun (rules.Both lex yacc) given before after h =
+    (h.0, h.1, h.2, begun_of_some h.1 given before after h.0 h.3)
+
+pub if_answered : (r : Rules) (given before after : Option (List ℕ)) (result : Result Completion Failure)
+    → IfOk result (IsAnswered r given before after) → IfOk result (IsAnswered r None before after)
+if_answered r given before after result answered =
+    ok_weaker result _ _ (some_answered r given before after) answered
+
+pub if_begun : (r : Rules) (given before after : Option (List ℕ)) (result : Result Completion Failure)
+    → IfErr result (λ f. IsOfWriter f → IsBegun r given before after)
+    → IfErr result (λ f. IsOfWriter f → IsBegun r None before after)
+if_begun r given before after result begun =
+    err_weaker result _ _ (λ f h is. some_begun r given before after (h is)) begun

@@ -1,0 +1,27 @@
+use Rattle.std.proofs.Common.{◌≡◌, IfOk, rules, subst, sym}
+use Rattle.std.specs.Io.KnownBytes.{Appends}
+use Rattle.ly_generate.proofs.GenFaultLemmas.{ok_weaker}
+use Rattle.lytab.specs.CarriedOut.{IsBuilt}
+use Rattle.lytab.specs.declared.completion.Completion.TheVariants.{Done}
+use Rattle.lytab.proofs.building.build_tables.Goals as goal
+
+pub returns-clause-built : goal.returns-clause-built
+returns-clause-built g c =
+    let built = c.in_ok-built.ensures.built in
+    let before = g.W.Sink.contents c.args.output.now in
+    let after = g.W.Sink.contents c.said.new.output in
+    let is_said : IfOk c.said.result (λ done. (done ≡ Done) × Appends before after c.in_ok-line.line.items) =
+    search rules in
+    subst (λ limits. IfOk c.said.result (IsBuilt limits c.args.version before after)) c.version_2-limits.ensures
+    (ok_weaker c.said.result _ _
+    (λ done said. record {
+      lex = _;
+      yacc = _;
+      set = built.0;
+      generated = built.1;
+      counts = c.in_ok-built.built.conflicts;
+      are_counts = built.3;
+      line = rw (sym c.in_ok-line.ensures) said.1;
+      done = said.0;
+    })
+    is_said)

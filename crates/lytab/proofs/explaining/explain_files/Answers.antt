@@ -1,0 +1,22 @@
+use Rattle.std.proofs.Common.{◌≡◌, IfOk, rules}
+use Rattle.std.specs.Io.KnownBytes.{Appends}
+use Rattle.ly_generate.proofs.GenFaultLemmas.{ok_weaker}
+use Rattle.lytab.proofs.explaining.explain_files.Goals as goal
+
+pub returns-clause-said : goal.returns-clause-said
+returns-clause-said g c =
+    let explanation = c.in_ok-explanation.explanation in
+    let before = g.W.Sink.contents c.args.output.now in
+    let after = g.W.Sink.contents c.said.new.output in
+    let is_said : IfOk c.said.result (λ done. (done ≡ c.of_files.result)
+    × Appends before after explanation.text.items) = search rules in
+    ok_weaker c.said.result _ _
+    (λ done said. record {
+      lex = _;
+      yacc = _;
+      explanation = explanation;
+      explained = c.in_ok-explanation.ensures;
+      text = said.1;
+      completed = rw said.0 c.of_files.ensures;
+    })
+    is_said

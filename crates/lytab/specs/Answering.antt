@@ -1,0 +1,63 @@
+-- What the commands that answer a text have written.
+use Rattle.std.specs.Prelude.{◌≡◌, ◌<◌, ℕ, List, None, Option, Some, length, take}
+use Rattle.std.specs.Io.KnownBytes.{Appends}
+use Rattle.ly_base.specs.Limits.{version_2}
+use Rattle.ly_base.specs.declared.lexeme.End.{End}
+use Rattle.ly_base.specs.declared.version.Version.TheVariants.{V2}
+use Rattle.ly_drive.specs.Answering.{IsAnsweredBy, IsBegunBy, IsDriven}
+use Rattle.ly_feed.specs.declared.outcome.Outcome.{Outcome}
+use Rattle.ly_generate.specs.Generated.{IsGenerated}
+use Rattle.ly_tables.specs.TableSet.{TableSet}
+use Rattle.ly_tokens.specs.Answers.{Answers}
+use Rattle.ly_tokens.specs.Printing.{end_of}
+use Rattle.ly_tokens.specs.declared.outcome.TokenEnd.{TokenEnd}
+use Rattle.lytab.specs.Completion.{completion_of_outcome, completion_of_tokens}
+use Rattle.lytab.specs.declared.answering.Rules.{Rules}
+use Rattle.lytab.specs.declared.answering.Rules.TheVariants as rules
+use Rattle.lytab.specs.declared.completion.Completion.{Completion}
+
+-- The text that is answered, as far as it is known: without a path what standard input had, and that of a file is not.
+abbrev pub text_from : {A : Type 0} → Option A → Option (List ℕ) → Option (List ℕ)
+text_from None given = given
+text_from (Some path) given = None
+
+-- The tokens of the text that a reader gave were written, by a lex file.
+abbrev pub IsPrinted : List ℕ → Option (List ℕ) → Option (List ℕ) → Option (List ℕ) → Completion → Type 0
+IsPrinted lex given before after c = (end : TokenEnd) × (answer : List ℕ)
+    × Answers version_2 lex given (end_of end) answer × Appends before after answer × (c ≡ completion_of_tokens end)
+
+-- so many bytes of them were written, and these are not all
+abbrev pub IsPrintedInPart : List ℕ → Option (List ℕ) → Option (List ℕ) → Option (List ℕ) → Type 0
+IsPrintedInPart lex given before after = (written : ℕ) × (end : End) × (answer : List ℕ)
+    × Answers version_2 lex given end answer × (written < length answer) × Appends before after (take written answer)
+
+-- The answer to the text was written that the set of a table file gives.
+abbrev pub IsAnsweredByTables : List ℕ → Option (List ℕ) → Option (List ℕ) → Option (List ℕ) → Completion → Type 0
+IsAnsweredByTables tables given before after c = (o : Outcome) × (s : TableSet) × IsDriven tables s
+    × IsAnsweredBy s given before after o × (c ≡ completion_of_outcome o)
+
+abbrev pub IsBegunByTables : List ℕ → Option (List ℕ) → Option (List ℕ) → Option (List ℕ) → Type 0
+IsBegunByTables tables given before after = (written : ℕ) × (s : TableSet) × IsDriven tables s
+    × IsBegunBy s given before after written
+
+-- The answer to the text was written that a lex file and a yacc file say.
+abbrev pub IsAnsweredByFiles : List ℕ → List ℕ → Option (List ℕ) → Option (List ℕ) → Option (List ℕ) → Completion
+    → Type 0
+IsAnsweredByFiles lex yacc given before after c = (o : Outcome) × (s : TableSet)
+    × IsGenerated V2 version_2 lex yacc s × IsAnsweredBy s given before after o × (c ≡ completion_of_outcome o)
+
+abbrev pub IsBegunByFiles : List ℕ → List ℕ → Option (List ℕ) → Option (List ℕ) → Option (List ℕ) → Type 0
+IsBegunByFiles lex yacc given before after = (written : ℕ) × (s : TableSet) × IsGenerated V2 version_2 lex yacc s
+    × IsBegunBy s given before after written
+
+-- The whole answer was written that these rules give to the text, and the command is completed so.
+abbrev pub IsAnswered : Rules → Option (List ℕ) → Option (List ℕ) → Option (List ℕ) → Completion → Type 0
+IsAnswered (rules.Tokens lex) given before after c = IsPrinted lex.now given before after c
+IsAnswered (rules.Tables tables) given before after c = IsAnsweredByTables tables.now given before after c
+IsAnswered (rules.Both lex yacc) given before after c = IsAnsweredByFiles lex.now yacc.now given before after c
+
+-- so many bytes of it were written, and these are not all
+abbrev pub IsBegun : Rules → Option (List ℕ) → Option (List ℕ) → Option (List ℕ) → Type 0
+IsBegun (rules.Tokens lex) given before after = IsPrintedInPart lex.now given before after
+IsBegun (rules.Tables tables) given before after = IsBegunByTables tables.now given before after
+IsBegun (rules.Both lex yacc) given before after = IsBegunByFiles lex.now yacc.now given before after

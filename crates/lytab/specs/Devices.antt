@@ -1,0 +1,21 @@
+-- Which failures of devices are told: by how often they had failed before a call and after it.
+use Rattle.std.specs.Prelude.{◌≡◌, ℕ, IfErr, MatchResult, OnOk, Result}
+use Rattle.ly_base.specs.Device.{next_count}
+use Rattle.lytab.specs.Failure.{IsOfReader, IsOfWriter}
+use Rattle.lytab.specs.declared.completion.Completion.{Completion}
+use Rattle.lytab.specs.declared.failure.Failure.{Failure}
+
+-- that a write failed is told only where one did, and a command is completed only where none did
+pub record AreWritesTold (result : Result Completion Failure) (before after : ℕ) : Type 0 where
+  pub failed : IfErr result (λ f. IsOfWriter f → after ≡ next_count before)
+  pub held : OnOk result (after ≡ before)
+
+-- that a read failed is told exactly where one did
+pub record AreReadsTold (result : Result Completion Failure) (before after : ℕ) : Type 0 where
+  pub failed : IfErr result (λ f. IsOfReader f → after ≡ next_count before)
+  pub held : MatchResult result (λ _. after ≡ before) (λ f. (IsOfReader f → ⊥) → after ≡ before)
+
+-- of a reader and of a writer
+abbrev pub AreTold : Result Completion Failure → ℕ → ℕ → ℕ → ℕ → Type 0
+AreTold result reads_before reads_after writes_before writes_after =
+    AreReadsTold result reads_before reads_after × AreWritesTold result writes_before writes_after

@@ -1,0 +1,49 @@
+-- Which device a failure is of, and its exit status.
+use Rattle.std.specs.Prelude.{ℕ}
+use Rattle.ly_generate.specs.declared.gen_fault.GenFault.{GenFault}
+use Rattle.ly_generate.specs.declared.gen_fault.GenFault.TheVariants as gen
+use Rattle.ly_tables.specs.declared.fault.TableFault.{TableFault}
+use Rattle.ly_tables.specs.declared.fault.TableFault.TheVariants as file
+use Rattle.lytab.specs.declared.failure.Failure.{Failure}
+use Rattle.lytab.specs.declared.failure.Failure.TheVariants.{CannotRead, CannotWrite, FaultyTables, OutOfMemory}
+use Rattle.lytab.specs.declared.failure.Failure.TheVariants.{Refused, Tables, TooLong, Unreadable}
+use Rattle.lytab.specs.declared.files.FileFault.{FileFault}
+use Rattle.lytab.specs.declared.files.FileFault.TheVariants as of_file
+
+-- why a file isn't read or written, as why there is no answer
+abbrev pub failure_of_file : FileFault → Failure
+failure_of_file (of_file.CannotRead path) = CannotRead path
+failure_of_file (of_file.CannotWrite path) = CannotWrite path
+failure_of_file of_file.OutOfMemory = OutOfMemory
+
+-- a file, or standard input, can't be read
+abbrev pub IsOfReader : Failure → Type 0
+IsOfReader (CannotRead path) = Unit {0}
+IsOfReader _ = ⊥
+
+-- a file, or standard output, can't be written
+abbrev pub IsOfWriter : Failure → Type 0
+IsOfWriter (CannotWrite path) = Unit {0}
+IsOfWriter _ = ⊥
+
+-- where a lex file and a yacc file aren't accepted: 2, and 3 where a write fails or memory runs out
+abbrev pub refusal_status : GenFault → ℕ
+refusal_status (gen.Write written) = 3
+refusal_status gen.OutOfMemory = 3
+refusal_status _ = 2
+
+-- where a table file isn't read: 2, and 3 where memory runs out
+abbrev pub table_fault_status : TableFault → ℕ
+table_fault_status file.OutOfMemory = 3
+table_fault_status _ = 2
+
+-- 1 where the text is too long, 2 where a file is refused, 3 where a device fails or memory runs out
+abbrev pub failure_status : Failure → ℕ
+failure_status (CannotRead path) = 3
+failure_status (Unreadable path reason) = 3
+failure_status (CannotWrite path) = 3
+failure_status (Refused fault) = refusal_status fault
+failure_status (Tables fault) = table_fault_status fault
+failure_status FaultyTables = 2
+failure_status TooLong = 1
+failure_status OutOfMemory = 3

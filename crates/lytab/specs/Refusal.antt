@@ -1,0 +1,64 @@
+-- What a failure says of the files that a text is answered by, and of the text.
+use Rattle.std.specs.Prelude.{◌≡◌, ◌≢◌, ℕ, List, Option}
+use Rattle.ly_base.specs.Limits.{version_2}
+use Rattle.ly_drive.specs.Answering.{IsDriven, IsFaultyOn, IsTooLong}
+use Rattle.ly_generate.specs.Accepted.{IsRefusedFor}
+use Rattle.ly_generate.specs.declared.gen_fault.GenFault.{GenFault}
+use Rattle.ly_generate.specs.declared.gen_fault.GenFault.TheVariants as gen
+use Rattle.ly_lexread.specs.Faults.{IsOfText, IsTooHeavy}
+use Rattle.ly_lexread.specs.LexText.{IsHeavyText, LexText}
+use Rattle.ly_lexread.specs.declared.fault.LexFault.{LexFault}
+use Rattle.ly_lexread.specs.declared.file.LexFile.{LexFile}
+use Rattle.ly_position.specs.declared.fault.PosFault.TheVariants.{TooManyPositions}
+use Rattle.ly_subset.specs.declared.fault.SubsetFault.TheVariants.{TooManyStates}
+use Rattle.ly_tables.specs.Refusal.{IsRefusedAs}
+use Rattle.ly_tables.specs.TableSet.{TableSet}
+use Rattle.ly_tables.specs.declared.fault.TableFault.TheVariants as file
+use Rattle.ly_tokens.specs.Answers.{AreTooHeavy, HaveTooManyStates}
+use Rattle.lytab.specs.declared.answering.Rules.{Rules}
+use Rattle.lytab.specs.declared.answering.Rules.TheVariants as rules
+use Rattle.lytab.specs.declared.failure.Failure.{Failure}
+use Rattle.lytab.specs.declared.failure.Failure.TheVariants.{CannotRead, CannotWrite, FaultyTables, OutOfMemory}
+use Rattle.lytab.specs.declared.failure.Failure.TheVariants.{Refused, Tables, TooLong}
+
+-- The bytes are those of no lex file, or of one that is past the limits.
+abbrev pub IsRefusedLex : List ℕ → GenFault → Type 0
+IsRefusedLex lex (gen.Lex fault) = IsOfText fault
+    × ((IsTooHeavy fault → ⊥) → (f : LexFile) → LexText lex f → ⊥)
+    × (IsTooHeavy fault → IsHeavyText version_2.pattern_weight lex)
+IsRefusedLex lex (gen.Positions fault) = (fault ≡ TooManyPositions) × AreTooHeavy version_2 lex
+IsRefusedLex lex (gen.States fault) = (fault ≡ TooManyStates) × HaveTooManyStates version_2 lex
+IsRefusedLex lex _ = ⊥
+
+-- where tokens are printed
+abbrev pub IsRefusalOfLex : List ℕ → Failure → Type 0
+IsRefusalOfLex lex (Refused fault) = IsRefusedLex lex fault
+IsRefusalOfLex lex (CannotRead path) = Unit {0}
+IsRefusalOfLex lex (CannotWrite path) = Unit {0}
+IsRefusalOfLex lex OutOfMemory = Unit {0}
+IsRefusalOfLex lex _ = ⊥
+
+-- where a table file answers what a reader gave
+abbrev pub IsRefusalOfTables : List ℕ → Option (List ℕ) → Failure → Type 0
+IsRefusalOfTables tables given (Tables fault) = (fault ≢ file.OutOfMemory) × IsRefusedAs tables fault
+IsRefusalOfTables tables given FaultyTables = (s : TableSet) × IsDriven tables s × IsFaultyOn s given
+IsRefusalOfTables tables given TooLong = IsTooLong given
+IsRefusalOfTables tables given (CannotRead path) = Unit {0}
+IsRefusalOfTables tables given (CannotWrite path) = Unit {0}
+IsRefusalOfTables tables given OutOfMemory = Unit {0}
+IsRefusalOfTables tables given _ = ⊥
+
+-- where a lex file and a yacc file answer it
+abbrev pub IsRefusalOfFiles : List ℕ → List ℕ → Option (List ℕ) → Failure → Type 0
+IsRefusalOfFiles lex yacc given (Refused fault) = (fault ≢ gen.OutOfMemory) × IsRefusedFor version_2 lex yacc fault
+IsRefusalOfFiles lex yacc given TooLong = IsTooLong given
+IsRefusalOfFiles lex yacc given (CannotRead path) = Unit {0}
+IsRefusalOfFiles lex yacc given (CannotWrite path) = Unit {0}
+IsRefusalOfFiles lex yacc given OutOfMemory = Unit {0}
+IsRefusalOfFiles lex yacc given _ = ⊥
+
+-- what a failure says of these rules, and of what a reader gave; that a device fails or memory runs out says nothing
+abbrev pub IsRefusal : Rules → Option (List ℕ) → Failure → Type 0
+IsRefusal (rules.Tokens lex) given f = IsRefusalOfLex lex.now f
+IsRefusal (rules.Tables tables) given f = IsRefusalOfTables tables.now given f
+IsRefusal (rules.Both lex yacc) given f = IsRefusalOfFiles lex.now yacc.now given f
